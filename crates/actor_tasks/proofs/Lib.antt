@@ -1,2 +1,3 @@
+mod Imports
 pub mod NextLaws
 pub mod Touched

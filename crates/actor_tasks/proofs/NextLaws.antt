@@ -1,10 +1,5 @@
 -- The first byte of some pieces, and of one piece more.
-use Rattle.std.proofs.Common.{◌≡◌, ℕ, zero, suc, ◌+◌, ◌<◌, ◌≤◌, List, [], ◌∷◌, length, get_or, take, Option, Some, None, sym, subst, ⊎_elim, inl, inr, arith}
-use Rattle.std.specs.Prelude.{◌⊎◌}
-use Rattle.places.specs.declared.piece.Piece.{Piece}
-use Rattle.actor_steps.specs.declared.place.Place.{Place}
-use Rattle.actor_tasks.specs.Places.{ComesFrom}
-use Rattle.actor_tasks.specs.Nexts.{Touches, AnyTouches, IsFound, IsNext, IsEarlier}
+use Rattle.actor_tasks.proofs.Imports.{◌≡◌, ℕ, zero, suc, ◌+◌, ◌<◌, ◌≤◌, List, [], ◌∷◌, length, get_or, take, Option, Some, None, sym, subst, ⊎_elim, inl, inr, arith, ◌⊎◌, Piece, Place, ComesFrom, Touches, AnyTouches, IsFound, IsNext, IsEarlier}
 
 comes_through : (one two three : Place) → ComesFrom one two → ComesFrom two three → ComesFrom one three
 comes_through one two three first second =

@@ -1,21 +1,5 @@
 -- The bytes that the pieces of a leaf in a row touch are those that hold a bit of it, so the first of the ones is the first of the others.
-use Rattle.std.proofs.Common.{◌≡◌, ℕ, ◌+◌, ◌*◌, ◌<◌, ◌≤◌, max, Bool, true, false, List, [], ◌∷◌, length, filter, get_or, Option, Some, None, refl, sym, ap, ◌∙◌, ⊎_elim, inl, inr, arith}
-use Rattle.std.specs.Prelude.{◌⊎◌, IfSome, ◌==◌, ◌&&◌, ◌||◌, not, nat_lt, min, if◌then◌else◌}
-use Rattle.std.proofs.lemmas.Bool.{true≢false, cases_Bool, cases_lt, and_from, and_parts, or_left, or_right, eq-eqb, lt-ltb}
-use Rattle.std.proofs.lemmas.Bool.Decides.{nat_tests}
-use Rattle.places.specs.declared.piece.Piece.{Piece}
-use Rattle.places.specs.Layout.{Owner}
-use Rattle.places.specs.Laws.{IsLaidOut, IsLocated}
-use Rattle.places.specs.ExactLaws.{within}
-use Rattle.places.specs.ComposeLaws.{within_blobs}
-use Rattle.places.specs.Touched.{is_in_granule, is_touched}
-use Rattle.places.specs.TouchedLaws.{hot_place, in_granule, touched_hot}
-use Rattle.actor_steps.specs.declared.place.Place.{Place}
-use Rattle.actor_steps.specs.BytesOfLaws.{IsByte}
-use Rattle.actor_steps.specs.Micro.{all_bytes}
-use Rattle.actor_tasks.specs.Places.{is_before, ComesFrom, holds_bit, IsHead}
-use Rattle.actor_tasks.specs.Nexts.{Touches, AnyTouches, IsNext}
-use Rattle.actor_tasks.specs.PlacesLaws.{occurs-all, places_from-first}
+use Rattle.actor_tasks.proofs.Imports.{◌≡◌, ℕ, ◌+◌, ◌*◌, ◌<◌, ◌≤◌, max, Bool, true, false, List, [], ◌∷◌, length, filter, get_or, Option, Some, None, refl, sym, ap, ◌∙◌, ⊎_elim, inl, inr, arith, ◌⊎◌, IfSome, ◌==◌, ◌&&◌, ◌||◌, not, nat_lt, min, if◌then◌else◌, true≢false, cases_Bool, cases_lt, and_from, and_parts, or_left, or_right, eq-eqb, lt-ltb, nat_tests, Piece, Owner, IsLaidOut, IsLocated, within, within_blobs, is_in_granule, is_touched, hot_place, in_granule, touched_hot, Place, IsByte, all_bytes, is_before, ComesFrom, holds_bit, IsHead, Touches, AnyTouches, IsNext, occurs-all, places_from-first}
 
 -- a byte is a granule of one byte
 any-touched : (pieces : List Piece) (place : Place) → AnyTouches pieces place → is_touched 1 pieces place.blob place.byte ≡ true

@@ -1,33 +1,6 @@
 -- The rows of the plain update, stored leaf by leaf.
-use Rattle.std.proofs.Common.{◌≡◌, ℕ, ◌+◌, ◌-◌, ◌<◌, ◌≤◌, All, Bool, true, false, ℤ, pos, List, [], ◌∷◌, ◌++◌, length, map, get_or, set, take, drop, Option, Some, None, Result, Ok, Err, refl, sym, ap, ◌∙◌, subst, ⊎_elim, arith, append_assoc, length-append}
-use Rattle.std.specs.Prelude.{◌==◌, ◌||◌, if◌then◌else◌}
-use Rattle.std.proofs.lemmas.Bool.{cases_eq, eq-eqb, eqb-true}
-use Rattle.std.proofs.lemmas.List.{append-nil, get_or-map, get_or-set_same, get_or-set_other, get_or-append_right, get_or-drop, length-map, length-set, length-take, length-drop, take_more, take_all, drop_all, drop_more, ext_get_or, map-append, set-get_or, set-set}
-use Rattle.std.proofs.lemmas.List.Elements.{filter-append}
-use Rattle.expr_lang.specs.Terms.{Term}
-use Rattle.expr_lang.specs.Values.{outcome_of, is_true}
-use Rattle.expr_lang.specs.declared.fault.EvalFault.{EvalFault}
-use Rattle.linearize.specs.Slots.{index_at}
-use Rattle.places.specs.Image.{entry}
-use Rattle.piece_bits.specs.Tables.{AreSized, hold_at, table_in, with_entry}
-use Rattle.piece_bits.specs.Modes.{declared_table}
-use Rattle.views.specs.AnswerLaws.{stays_answer}
-use Rattle.actor_steps.specs.Agree.{IsLawful}
-use Rattle.actor_steps.specs.AgreeLaws.{memory_is, rows_read}
+use Rattle.actors.proofs.Imports.{◌≡◌, ℕ, ◌+◌, ◌-◌, ◌<◌, ◌≤◌, All, Bool, true, false, ℤ, pos, List, [], ◌∷◌, ◌++◌, length, map, get_or, set, take, drop, Option, Some, None, Result, Ok, Err, refl, sym, ap, ◌∙◌, subst, ⊎_elim, arith, append_assoc, length-append, ◌==◌, ◌||◌, if◌then◌else◌, cases_eq, eq-eqb, eqb-true, append-nil, get_or-map, get_or-set_same, get_or-set_other, get_or-append_right, get_or-drop, length-map, length-set, length-take, length-drop, take_more, take_all, drop_all, drop_more, ext_get_or, map-append, set-get_or, set-set, filter-append, Term, outcome_of, is_true, EvalFault, index_at, entry, AreSized, hold_at, table_in, with_entry, declared_table, stays_answer, IsLawful, memory_is, rows_read, UpdateFault, Assign, stores_log, if_given, row_log, update_log, Setting, setting_of, each, ◌>>=◌, in_row, eval_kind, passes, new_value, with_values, tried_row, given_row, updated_row, updated_of, IsSetOf, updated_as_tried, Answer, Keeping, Table, owners_of, leaf_types_of, leaf_type_of, leaf_count_of, table_holds, answer_of, kept_of, after_stores, Access, Write, is_write, writes_in, after_stores-append, after_log-none, logs_more, job_of, memory_of, Job, is_in, number_in, row_of, test_of, lets_through, length-with_values, updated_at, row_held, with_held}
 use Rattle.actors.proofs.Laws.{leaf_count}
-use Rattle.row_updates.specs.declared.fault.UpdateFault.{UpdateFault}
-use Rattle.row_updates.specs.declared.update.Assign.{Assign}
-use Rattle.row_updates.specs.Logs.{stores_log, if_given, row_log, update_log}
-use Rattle.row_updates.specs.Rows.{Setting, setting_of, each, ◌>>=◌, in_row, eval_kind, passes, new_value, with_values, tried_row, given_row, updated_row, updated_of, IsSetOf}
-use Rattle.row_updates.specs.TriedLaws.{updated_as_tried}
-use Rattle.views.specs.Stores.{Answer, Keeping}
-use Rattle.views.specs.Tables.{Table, owners_of, leaf_types_of, leaf_type_of, leaf_count_of, table_holds, answer_of, kept_of, after_stores}
-use Rattle.views.specs.Tallies.{Access, Write, is_write, writes_in}
-use Rattle.views.specs.TallyLaws.{after_stores-append, after_log-none, logs_more}
-use Rattle.actor_steps.specs.Jobs.{job_of, memory_of}
-use Rattle.actor_steps.specs.Micro.{Job, is_in, number_in, row_of, test_of, lets_through}
-use Rattle.actor_steps.specs.UpdateLaws.{length-with_values, updated_at}
-use Rattle.actors.specs.Rows.{row_held, with_held}
 use Rattle.actors.proofs.Tried.{row_writes}
 
 -- one leaf more

@@ -1,31 +1,5 @@
 -- A run before its first micro-step.
-use Rattle.std.proofs.Common.{◌≡◌, ℕ, ◌≤◌, All, ℤ, List, [], length, map, get_or, Option, None, sym, ap, ◌∙◌, subst, arith}
-use Rattle.std.proofs.lemmas.List.{length-map}
-use Rattle.record_dim.specs.Trees.{Fields}
-use Rattle.expr_lang.specs.Terms.{Term}
-use Rattle.extents.specs.Indices.{indices}
-use Rattle.map_expr.specs.Terms.{Term as Shape}
-use Rattle.piece_bits.specs.Tables.{AreSized, table_in}
-use Rattle.piece_bits.specs.Modes.{declared_table}
-use Rattle.piece_bits.specs.declared.mode.StoreMode.{StoreMode}
-use Rattle.row_updates.specs.declared.update.Assign.{Assign}
-use Rattle.row_updates.specs.Rows.{setting_of, updated_of, IsSetOf}
-use Rattle.views.specs.Tables.{Table, owners_of, leaf_types_of, table_holds}
-use Rattle.actor_steps.specs.Agree.{IsLawful}
-use Rattle.actor_steps.specs.AgreeLaws.{memory_is, rows_read}
-use Rattle.actor_steps.specs.Confluence.{Actor}
-use Rattle.actor_steps.specs.Cuts.{AreCuts, actor_of}
-use Rattle.actor_steps.specs.Jobs.{job_of, memory_of, fresh_of}
-use Rattle.actor_steps.specs.MemoryLaws.{zeros-sized}
-use Rattle.actor_steps.specs.Micro.{Micro, Registers}
-use Rattle.actor_steps.specs.Shared.{shared_byte}
-use Rattle.actor_tasks.specs.declared.rows.Asks.{Asks}
-use Rattle.actors.specs.declared.actor.Actor.{Actor as Standing}
-use Rattle.actors.specs.Kept.{table_at, run_of, IsRun}
-use Rattle.actors.specs.Rows.{ArePlans}
-use Rattle.actors.specs.Runs.{Run, uncounted, started_run}
-use Rattle.actors.specs.Standing.{actor_shown}
-use Rattle.actors.specs.Updates.{IsUpdated}
+use Rattle.actors.proofs.Imports.{◌≡◌, ℕ, ◌≤◌, All, ℤ, List, [], length, map, get_or, Option, None, sym, ap, ◌∙◌, subst, arith, length-map, Fields, Term, indices, Shape, AreSized, table_in, declared_table, StoreMode, Assign, setting_of, updated_of, IsSetOf, Table, owners_of, leaf_types_of, table_holds, IsLawful, memory_is, rows_read, Actor, AreCuts, actor_of, job_of, memory_of, fresh_of, zeros-sized, Micro, Registers, shared_byte, Asks, Standing, table_at, run_of, IsRun, ArePlans, Run, uncounted, started_run, actor_shown, IsUpdated}
 use Rattle.actors.proofs.Teams.{IsTeam}
 use Rattle.actors.proofs.Turns.{stands_alone, set_alone, lawful_alone}
 

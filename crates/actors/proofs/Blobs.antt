@@ -1,14 +1,5 @@
 -- Copies of the blobs of a table.
-use Rattle.std.proofs.Common.{◌≡◌, ℕ, ◌+◌, ◌*◌, ◌/◌, ◌<◌, ◌≤◌, List, [], ◌∷◌, ◌++◌, length, map, get_or, take, replicate, sym, ap, ◌∙◌, arith}
-use Rattle.std.proofs.lemmas.List.{length-map, get_or-map, take_more, take_all}
-use Rattle.places.specs.Layout.{Owner}
-use Rattle.places.specs.Image.{bit_held, image}
-use Rattle.blobs.specs.Bits.{bits_of, AreBytes}
-use Rattle.instrument.specs.BlobTexts.{bytes_of}
-use Rattle.instrument.specs.BlobTextsLaws.{bytes_of_bits}
-use Rattle.views.specs.Tables.{Table, owners_of, blob_bits_of}
-use Rattle.views.specs.Tallies.{blob_lengths}
-use Rattle.actor_steps.specs.Jobs.{memory_of, fresh_of}
+use Rattle.actors.proofs.Imports.{◌≡◌, ℕ, ◌+◌, ◌*◌, ◌/◌, ◌<◌, ◌≤◌, List, [], ◌∷◌, ◌++◌, length, map, get_or, take, replicate, sym, ap, ◌∙◌, arith, length-map, get_or-map, take_more, take_all, Owner, bit_held, image, bits_of, AreBytes, bytes_of, bytes_of_bits, Table, owners_of, blob_bits_of, blob_lengths, memory_of, fresh_of}
 
 module _ (table : Table) where
   pub blob_count : length (memory_of table) ≡ length (owners_of table)

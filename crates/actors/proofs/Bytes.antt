@@ -1,26 +1,5 @@
 -- The bits of a leaf in a row are written, and a byte of them is read again.
-use Rattle.std.proofs.Common.{◌≡◌, ℕ, ◌+◌, ◌*◌, ◌%◌, ◌^◌, ◌<◌, Bool, true, false, ℤ, List, [], length, get_or, map, refl, sym, ap, ◌∙◌, arith}
-use Rattle.std.specs.Prelude.{◌==◌, ◌&&◌, if◌then◌else◌, slice_index, slice_set}
-use Rattle.std.specs.Int.{bit_at}
-use Rattle.std.proofs.lemmas.Bool.{and_from, and_parts, eq-eqb, eqb-true}
-use Rattle.std.proofs.lemmas.List.{get_or-set_same, get_or-map, length-map, length-set, map-set, set-get_or}
-use Rattle.places.specs.declared.piece.Hold.{Hold}
-use Rattle.places.specs.declared.piece.Piece.{Piece}
-use Rattle.places.specs.Layout.{Owner, Pad, Bit, owner_at}
-use Rattle.places.specs.Image.{number, digit}
-use Rattle.places.specs.Laws.{IsBitOf}
-use Rattle.places.specs.NumbersLaws.{number_same, number_bits, bit_number, digit_lt}
-use Rattle.places.specs.Writes.{written, IsWrite}
-use Rattle.blobs.specs.Bits.{bit_in}
-use Rattle.blobs.specs.BytesLaws.{bit_of_byte}
-use Rattle.piece_bits.specs.CellsLaws.{IsCell, bit_count}
-use Rattle.piece_bits.specs.LocatedLaws.{spot_count, spot_owned}
-use Rattle.piece_bits.specs.Spots.{spots_of, spot_at, bit_at_spot, IsOutside}
-use Rattle.piece_bits.specs.Kept.{held}
-use Rattle.piece_bits.specs.KeptLaws.{held_digit}
-use Rattle.actor_steps.specs.declared.place.Place.{Place}
-use Rattle.actor_steps.specs.Micro.{byte_at, with_byte, with_bits_of}
-use Rattle.actors.specs.Rows.{HasByte}
+use Rattle.actors.proofs.Imports.{◌≡◌, ℕ, ◌+◌, ◌*◌, ◌%◌, ◌^◌, ◌<◌, Bool, true, false, ℤ, List, [], length, get_or, map, refl, sym, ap, ◌∙◌, arith, ◌==◌, ◌&&◌, if◌then◌else◌, slice_index, slice_set, bit_at, and_from, and_parts, eq-eqb, eqb-true, get_or-set_same, get_or-map, length-map, length-set, map-set, set-get_or, Hold, Piece, Owner, Pad, Bit, owner_at, number, digit, IsBitOf, number_same, number_bits, bit_number, digit_lt, written, IsWrite, bit_in, bit_of_byte, IsCell, bit_count, spot_count, spot_owned, spots_of, spot_at, bit_at_spot, IsOutside, held, held_digit, Place, byte_at, with_byte, with_bits_of, HasByte}
 
 module _ {layout : List (List Owner)} {slots : ℕ} {holds : List Hold} {slot cell : ℕ} {hold : Hold} {pieces : List Piece} (at : IsCell layout slots holds slot cell hold pieces)
     (old new : List (List ℕ)) (value : ℤ) (code : ℕ) (code_is : code ≡ number (digit (held hold value)) hold.width)

@@ -1,13 +1,5 @@
 -- What is left of a run, and the memory behind it.
-use Rattle.std.proofs.Common.{◌≡◌, ℕ, suc, ◌+◌, ◌<◌, ◌≤◌, true, false, ℤ, List, [], ◌∷◌, ◌++◌, length, get_or, set, drop, replicate, refl, sym, ap, ◌∙◌, subst, arith}
-use Rattle.std.proofs.lemmas.List.{drop-set, drop_more, drop_all, length-set}
-use Rattle.actor_steps.specs.Agree.{IsParted, SchedulesAgree}
-use Rattle.actor_steps.specs.Confluence.{Actor, State, moved}
-use Rattle.actor_steps.specs.Jobs.{memory_of, fresh_of, start_of}
-use Rattle.actor_steps.specs.Micro.{Job, Micro, Registers, stored, loaded}
-use Rattle.actor_steps.specs.Schedules.{idle_with, run_by, turns_from, turns_left, finished}
-use Rattle.actors.specs.Kept.{IsReached}
-use Rattle.actors.specs.Runs.{Run, IsDone, IsPlain, after_turns, finished_from, rest_in, job_in, has_any}
+use Rattle.actors.proofs.Imports.{◌≡◌, ℕ, suc, ◌+◌, ◌<◌, ◌≤◌, true, false, ℤ, List, [], ◌∷◌, ◌++◌, length, get_or, set, drop, replicate, refl, sym, ap, ◌∙◌, subst, arith, drop-set, drop_more, drop_all, length-set, IsParted, SchedulesAgree, Actor, State, moved, memory_of, fresh_of, start_of, Job, Micro, Registers, stored, loaded, idle_with, run_by, turns_from, turns_left, finished, IsReached, Run, IsDone, IsPlain, after_turns, finished_from, rest_in, job_in, has_any}
 
 module _ (job : Job) (fresh : Registers) where
   abbrev Here : Type 0

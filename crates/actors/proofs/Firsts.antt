@@ -1,9 +1,5 @@
 -- The first of a list that meets a test, and the first of a range.
-use Rattle.std.proofs.Common.{◌≡◌, ℕ, suc, ◌+◌, ◌-◌, ◌<◌, Bool, true, false, List, [], ◌∷◌, ◌++◌, map, Option, Some, None, refl, ap, ◌∙◌, arith}
-use Rattle.std.specs.Prelude.{option_map, if◌then◌else◌}
-use Rattle.std.specs.List.{range_with_len}
-use Rattle.std.proofs.lemmas.Bool.{cond-true, cond-false}
-use Rattle.actor_steps.specs.Shared.{first_of_all}
+use Rattle.actors.proofs.Imports.{◌≡◌, ℕ, suc, ◌+◌, ◌-◌, ◌<◌, Bool, true, false, List, [], ◌∷◌, ◌++◌, map, Option, Some, None, refl, ap, ◌∙◌, arith, option_map, if◌then◌else◌, range_with_len, cond-true, cond-false, first_of_all}
 
 -- the first of a list made of another, and of two lists
 pub first-map : {X Y : Type 0} (test : Y → Bool) (f : X → Y) (xs : List X) → first_of_all test (map f xs) ≡ option_map f (first_of_all (λ x. test (f x)) xs)

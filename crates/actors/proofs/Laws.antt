@@ -1,21 +1,5 @@
 -- The laws of a view's table, and a row that blobs hold.
-use Rattle.std.proofs.Common.{◌≡◌, ℕ, ◌+◌, ◌<◌, ◌≤◌, ℤ, pos, List, [], length, map, get_or, set, None, sym, ap, ◌∙◌, subst, ⊎_elim, arith}
-use Rattle.std.proofs.lemmas.List.{length-map, ext_get_or, get_or-set_same, get_or-set_other}
-use Rattle.std.proofs.lemmas.Bool.{cases_eq}
-use Rattle.extents.specs.Indices.{indices}
-use Rattle.record_dim.specs.Leaves.{Leaf, leaves}
-use Rattle.places.specs.Image.{entry}
-use Rattle.places.specs.Laws.{IsLaidOut}
-use Rattle.places.specs.Layout.{Owner}
-use Rattle.places.specs.declared.piece.Hold.{Hold}
-use Rattle.piece_bits.specs.Tables.{table_in}
-use Rattle.piece_bits.specs.Kept.{declared}
-use Rattle.piece_bits.specs.Modes.{kind_at}
-use Rattle.views.specs.Tables.{Table, IsTable, owners_of, leaf_types_of, table_holds, leaf_count_of}
-use Rattle.actor_steps.specs.Agree.{IsLawful}
-use Rattle.actor_steps.specs.HeldLaws.{row_in-at, length-row_in}
-use Rattle.actor_steps.specs.Jobs.{job_of}
-use Rattle.actors.specs.Rows.{row_held}
+use Rattle.actors.proofs.Imports.{◌≡◌, ℕ, ◌+◌, ◌<◌, ◌≤◌, ℤ, pos, List, [], length, map, get_or, set, None, sym, ap, ◌∙◌, subst, ⊎_elim, arith, length-map, ext_get_or, get_or-set_same, get_or-set_other, cases_eq, indices, Leaf, leaves, entry, IsLaidOut, Owner, Hold, table_in, declared, kind_at, Table, IsTable, owners_of, leaf_types_of, table_holds, leaf_count_of, IsLawful, row_in-at, length-row_in, job_of, row_held}
 
 pub lawful_from : (table : Table) (layout : List (List Owner)) (slots : ℕ) (holds : List Hold) → IsTable table → length (table_holds table) ≡ length (leaf_types_of table)
     → layout ≡ owners_of table → slots ≡ length (indices table.extents) → holds ≡ table_holds table → IsLaidOut layout slots (map (λ h. h.width) holds) → IsLawful table

@@ -1,18 +1,5 @@
 -- Marks of the leaves that are read.
-use Rattle.std.proofs.Common.{◌≡◌, ℕ, zero, suc, ◌+◌, ◌<◌, ◌≤◌, Bool, true, false, List, [], ◌∷◌, ◌++◌, length, map, get_or, set, take, fold, replicate, refl, sym, ap, ◌∙◌, subst, ⊎_elim, arith, length-append}
-use Rattle.std.specs.Prelude.{◌==◌, ◌||◌, if◌then◌else◌}
-use Rattle.std.specs.List.{flat_map}
-use Rattle.std.proofs.Math.ListN.{get_or-append}
-use Rattle.std.proofs.Math.Seq.{get_or-append_seam}
-use Rattle.std.proofs.lemmas.Bool.{cases_eq, cases_lt, eq-eqb, eqb-true}
-use Rattle.std.proofs.lemmas.List.{get_or-map, get_or-set_same, get_or-set_other, length-set, length-map, length-replicate, append-nil, take_more}
-use Rattle.std.proofs.lemmas.List.Concat.{flat_map-append}
-use Rattle.std.proofs.lemmas.List.Sums.{fold-append}
-use Rattle.row_updates.specs.declared.update.Assign.{Assign}
-use Rattle.row_updates.specs.Rows.{Setting, setting_of}
-use Rattle.actor_steps.specs.Micro.{Job, is_in, filter_reads, set_reads, reads_of, lets_through}
-use Rattle.actor_tasks.specs.declared.rows.Asks.{Asks}
-use Rattle.actors.specs.Rows.{marked, IsPlanOf, ArePlans}
+use Rattle.actors.proofs.Imports.{◌≡◌, ℕ, zero, suc, ◌+◌, ◌<◌, ◌≤◌, Bool, true, false, List, [], ◌∷◌, ◌++◌, length, map, get_or, set, take, fold, replicate, refl, sym, ap, ◌∙◌, subst, ⊎_elim, arith, length-append, ◌==◌, ◌||◌, if◌then◌else◌, flat_map, get_or-append, get_or-append_seam, cases_eq, cases_lt, eq-eqb, eqb-true, get_or-map, get_or-set_same, get_or-set_other, length-set, length-map, length-replicate, append-nil, take_more, flat_map-append, fold-append, Assign, Setting, setting_of, Job, is_in, filter_reads, set_reads, reads_of, lets_through, Asks, marked, IsPlanOf, ArePlans}
 
 -- a leaf is marked where it was, or is among those that are read
 marks_are : (reads : List ℕ) (asked : List Bool) (leaf : ℕ) → leaf < length asked → get_or (fold marked asked reads) leaf false ≡ (get_or asked leaf false || is_in reads leaf)

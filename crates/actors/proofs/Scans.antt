@@ -1,13 +1,5 @@
 -- Bits that are looked at one after another: whether two are those of rows of two actors.
-use Rattle.std.proofs.Common.{◌≡◌, ℕ, Bool, true, false, List, [], ◌∷◌, Option, Some, None, refl, sym, ap, ◌∙◌, arith}
-use Rattle.std.specs.Prelude.{◌==◌, ◌||◌, not, if◌then◌else◌}
-use Rattle.std.specs.List.{list_any}
-use Rattle.std.proofs.Math.Path.{fun_ext}
-use Rattle.std.proofs.lemmas.Bool.{or_parts, eq-eqb}
-use Rattle.std.proofs.lemmas.Bool.Decides.{nat_tests}
-use Rattle.std.proofs.lemmas.List.Folds.{list_any_none}
-use Rattle.places.specs.Layout.{Owner, Pad, Bit}
-use Rattle.actor_steps.specs.Shared.{are_of_two, is_shared}
+use Rattle.actors.proofs.Imports.{◌≡◌, ℕ, Bool, true, false, List, [], ◌∷◌, Option, Some, None, refl, sym, ap, ◌∙◌, arith, ◌==◌, ◌||◌, not, if◌then◌else◌, list_any, fun_ext, or_parts, eq-eqb, nat_tests, list_any_none, Owner, Pad, Bit, are_of_two, is_shared}
 
 module _ (actor : ℕ → ℕ) where
   -- whether one of some bits is of another actor than the first before it

@@ -1,16 +1,5 @@
 -- The first shared byte of a layout, blob after blob.
-use Rattle.std.proofs.Common.{◌≡◌, ℕ, ◌+◌, ◌-◌, ◌*◌, ◌/◌, ◌<◌, Bool, List, [], ◌∷◌, length, map, get_or, take, drop, Option, Some, None, refl, sym, ap, ◌∙◌}
-use Rattle.std.specs.Prelude.{option_map}
-use Rattle.std.specs.List.{flat_map, range_with_len}
-use Rattle.std.proofs.Math.Path.{fun_ext}
-use Rattle.std.proofs.lemmas.List.{length-map, drop-map, take-map}
-use Rattle.places.specs.Layout.{Owner, Pad, Bit}
-use Rattle.places.specs.declared.piece.RunOwner.{RunOwner}
-use Rattle.map_any.specs.Runs.{run_owner}
-use Rattle.actor_steps.specs.declared.place.Place.{Place}
-use Rattle.actor_steps.specs.Micro.{bytes_in, owners_of_byte}
-use Rattle.actor_steps.specs.Shared.{is_shared, first_of_all}
-use Rattle.actors.specs.Cuts.{owner_shown, shown_in_byte}
+use Rattle.actors.proofs.Imports.{◌≡◌, ℕ, ◌+◌, ◌-◌, ◌*◌, ◌/◌, ◌<◌, Bool, List, [], ◌∷◌, length, map, get_or, take, drop, Option, Some, None, refl, sym, ap, ◌∙◌, option_map, flat_map, range_with_len, fun_ext, length-map, drop-map, take-map, Owner, Pad, Bit, RunOwner, run_owner, Place, bytes_in, owners_of_byte, is_shared, first_of_all, owner_shown, shown_in_byte}
 use Rattle.actors.proofs.Firsts.{first-map, first-front, first-back, range_at}
 
 -- the owners of bits, as the code has them, are told apart as they are

@@ -1,20 +1,5 @@
 -- The next micro-step of a cursor.
-use Rattle.std.proofs.Common.{◌≡◌, ℕ, ◌+◌, ◌-◌, ◌<◌, ◌≤◌, Bool, true, false, pos, List, ◌∷◌, ◌++◌, length, map, get_or, refl, sym, ap, ◌∙◌, arith}
-use Rattle.std.specs.List.{range_with_len}
-use Rattle.std.proofs.Math.ListN.{get_or-append}
-use Rattle.std.proofs.lemmas.List.{length-map, get_or-map, get_or-append_right}
-use Rattle.std.proofs.lemmas.List.FromFn.{length-map-range_with_len, get_or-map-range_with_len}
-use Rattle.expr_lang.specs.Terms.{Number}
-use Rattle.places.specs.Layout.{Owner}
-use Rattle.row_updates.specs.Rows.{Setting}
-use Rattle.actor_steps.specs.declared.place.Place.{Place}
-use Rattle.actor_steps.specs.Micro.{Job, Fetch, Load, Store}
-use Rattle.actor_tasks.specs.declared.rows.NextByte.{NextByte}
-use Rattle.actor_tasks.specs.Marks.{IsRowOf, task_at}
-use Rattle.actor_tasks.specs.Places.{behind}
-use Rattle.actor_tasks.specs.Tasks.{Task, Reads, Sets, place_steps, left_in}
-use Rattle.actors.specs.declared.step.Cursor.{Cursor}
-use Rattle.actors.specs.Standing.{store_of, steps_at, cursor_steps, set_at}
+use Rattle.actors.proofs.Imports.{◌≡◌, ℕ, ◌+◌, ◌-◌, ◌<◌, ◌≤◌, Bool, true, false, pos, List, ◌∷◌, ◌++◌, length, map, get_or, refl, sym, ap, ◌∙◌, arith, range_with_len, get_or-append, length-map, get_or-map, get_or-append_right, length-map-range_with_len, get_or-map-range_with_len, Number, Owner, Setting, Place, Job, Fetch, Load, Store, NextByte, IsRowOf, task_at, behind, Task, Reads, Sets, place_steps, left_in, Cursor, store_of, steps_at, cursor_steps, set_at}
 
 module _ (job : Job) {layout : List (List Owner)} {leaves : ℕ} {sets : List ℕ} {asked : List Bool} {through : Bool} {row : ℕ} (is : IsRowOf job layout leaves sets asked through row) where
   -- the tasks are the leaves, and then the sets

@@ -1,24 +1,5 @@
 -- The actors of a run before their first micro-step.
-use Rattle.std.proofs.Common.{◌≡◌, ℕ, zero, suc, ◌+◌, ◌-◌, ◌<◌, ◌≤◌, true, false, List, [], ◌∷◌, ◌++◌, length, map, get_or, drop, refl, sym, ap, ◌∙◌, subst, ⊎_elim, arith, append_assoc, length-append}
-use Rattle.std.proofs.Math.ListN.{get_or-append}
-use Rattle.std.proofs.Math.Seq.{get_or-append_seam}
-use Rattle.std.proofs.lemmas.Bool.{cases_lt}
-use Rattle.std.proofs.lemmas.List.{map-append, drop_more}
-use Rattle.piece_bits.specs.Tables.{AreSized}
-use Rattle.views.specs.Tables.{Table, owners_of, leaf_count_of}
-use Rattle.actor_steps.specs.Agree.{IsLawful}
-use Rattle.actor_steps.specs.Confluence.{Actor}
-use Rattle.actor_steps.specs.Cuts.{AreCuts, parts_from, team_of}
-use Rattle.actor_steps.specs.Jobs.{fresh_of}
-use Rattle.actor_steps.specs.MemoryLaws.{zeros-sized}
-use Rattle.actor_steps.specs.Micro.{Job, Micro, Registers, steps_of}
-use Rattle.actor_tasks.specs.Places.{origin}
-use Rattle.actor_tasks.specs.Tasks.{left_in}
-use Rattle.actor_tasks.specs.TasksLaws.{rows_left}
-use Rattle.actors.specs.declared.actor.Actor.{Actor as Standing}
-use Rattle.actors.specs.declared.step.Cursor.{Cursor}
-use Rattle.actors.specs.Kept.{AreStanding}
-use Rattle.actors.specs.Standing.{IsFresh, IsStanding, IsCursor, actor_shown, cursor_steps}
+use Rattle.actors.proofs.Imports.{◌≡◌, ℕ, zero, suc, ◌+◌, ◌-◌, ◌<◌, ◌≤◌, true, false, List, [], ◌∷◌, ◌++◌, length, map, get_or, drop, refl, sym, ap, ◌∙◌, subst, ⊎_elim, arith, append_assoc, length-append, get_or-append, get_or-append_seam, cases_lt, map-append, drop_more, AreSized, Table, owners_of, leaf_count_of, IsLawful, Actor, AreCuts, parts_from, team_of, fresh_of, zeros-sized, Job, Micro, Registers, steps_of, origin, left_in, rows_left, Standing, Cursor, AreStanding, IsFresh, IsStanding, IsCursor, actor_shown, cursor_steps}
 
 -- all rows are left
 all_left : (job : Job) (row n : ℕ) → left_in job row n 0 origin ≡ steps_of job row n

@@ -1,20 +1,5 @@
 -- Rows that are tried one after another, as an update tries them, and what was read of them.
-use Rattle.std.proofs.Common.{◌≡◌, ℕ, zero, suc, ◌+◌, ◌-◌, ◌<◌, Bool, true, false, ℤ, List, [], ◌∷◌, ◌++◌, map, get_or, Option, Some, None, Result, Ok, Err, refl, sym, ap, ◌∙◌, arith}
-use Rattle.std.specs.List.{range_with_len}
-use Rattle.std.proofs.lemmas.List.{append-nil}
-use Rattle.std.proofs.lemmas.List.Elements.{filter-append}
-use Rattle.expr_lang.specs.Terms.{Term}
-use Rattle.expr_lang.specs.Values.{outcome_of}
-use Rattle.linearize.specs.Slots.{index_at}
-use Rattle.views.specs.Stores.{Answer, Keeping}
-use Rattle.views.specs.Tables.{Table, answer_of, kept_of, after_log}
-use Rattle.views.specs.Tallies.{Access, Read, Write, is_read, is_write, reads_in, writes_in}
-use Rattle.views.specs.TallyLaws.{after_log-append, after_log-none, logs_more}
-use Rattle.row_updates.specs.declared.fault.UpdateFault.{UpdateFault}
-use Rattle.row_updates.specs.Logs.{value_log, filter_log, if_ok, if_passes, sides_log, stores_log, tried_log, if_given, row_log, update_log}
-use Rattle.row_updates.specs.Rows.{Setting, each, ◌>>=◌, passes, new_value, tried_row, given_row, updated_row, updated_of}
-use Rattle.row_updates.specs.TriedLaws.{updated_as_tried, log_as_tried}
-use Rattle.actors.specs.Updates.{IsUpdated, IsUpdatedRow}
+use Rattle.actors.proofs.Imports.{◌≡◌, ℕ, zero, suc, ◌+◌, ◌-◌, ◌<◌, Bool, true, false, ℤ, List, [], ◌∷◌, ◌++◌, map, get_or, Option, Some, None, Result, Ok, Err, refl, sym, ap, ◌∙◌, arith, range_with_len, append-nil, filter-append, Term, outcome_of, index_at, Answer, Keeping, Table, answer_of, kept_of, after_log, Access, Read, Write, is_read, is_write, reads_in, writes_in, after_log-append, after_log-none, logs_more, UpdateFault, value_log, filter_log, if_ok, if_passes, sides_log, stores_log, tried_log, if_given, row_log, update_log, Setting, each, ◌>>=◌, passes, new_value, tried_row, given_row, updated_row, updated_of, updated_as_tried, log_as_tried, IsUpdated, IsUpdatedRow}
 
 -- one list of things after another
 unit_right : {B : Type 0} (found : Result (List B) UpdateFault) → found ≡ (found >>= (λ ys. Ok ys))

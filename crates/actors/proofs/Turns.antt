@@ -1,31 +1,6 @@
 -- A turn of one actor.
-use Rattle.std.proofs.Common.{◌≡◌, ℕ, ◌+◌, ◌<◌, ◌≤◌, Bool, true, false, All, ℤ, pos, List, [], ◌∷◌, ◌++◌, length, map, get_or, set, take, Option, None, refl, sym, ap, ◌∙◌, subst, ⊎_elim, arith}
-use Rattle.std.proofs.lemmas.Bool.{cases_eq}
-use Rattle.std.proofs.lemmas.List.{length-map, length-set, get_or-map, get_or-set_same, get_or-set_other, map-set, set-get_or, take_more}
-use Rattle.expr_lang.specs.Terms.{Term, Number}
-use Rattle.places.specs.Layout.{Owner}
-use Rattle.row_updates.specs.declared.update.Assign.{Assign}
-use Rattle.row_updates.specs.Rows.{Setting, setting_of, IsSetOf}
-use Rattle.views.specs.Tables.{Table, owners_of, leaf_count_of}
-use Rattle.views.specs.Tallies.{Tally}
-use Rattle.actor_steps.specs.declared.place.Place.{Place}
-use Rattle.actor_steps.specs.Agree.{IsLawful}
-use Rattle.actor_steps.specs.Jobs.{job_of}
-use Rattle.actor_steps.specs.Micro.{Job, Micro, Registers, row_in, value_on, with_byte, with_bits_of, stored, loaded}
-use Rattle.actor_steps.specs.Confluence.{Actor, State, moved}
-use Rattle.actor_steps.specs.Schedules.{idle_with, run_by}
-use Rattle.actor_tasks.specs.declared.rows.Asks.{Asks}
-use Rattle.actor_tasks.specs.Marks.{AreRowsOf}
-use Rattle.actors.specs.declared.actor.Actor.{Actor as Standing}
-use Rattle.actors.specs.declared.actor.Bytes.{Bytes}
-use Rattle.actors.specs.declared.step.Cursor.{Cursor}
-use Rattle.actors.specs.declared.step.Step.{Step}
+use Rattle.actors.proofs.Imports.{◌≡◌, ℕ, ◌+◌, ◌<◌, ◌≤◌, Bool, true, false, All, ℤ, pos, List, [], ◌∷◌, ◌++◌, length, map, get_or, set, take, Option, None, refl, sym, ap, ◌∙◌, subst, ⊎_elim, arith, cases_eq, length-map, length-set, get_or-map, get_or-set_same, get_or-set_other, map-set, set-get_or, take_more, Term, Number, Owner, Assign, Setting, setting_of, IsSetOf, Table, owners_of, leaf_count_of, Tally, Place, IsLawful, job_of, Job, Micro, Registers, row_in, value_on, with_byte, with_bits_of, stored, loaded, Actor, State, moved, idle_with, run_by, Asks, AreRowsOf, Standing, Bytes, Cursor, Step, ArePlans, asks_at, AreStanding, IsReached, after_both, Run, uncounted, started_run, after_turns, has_any, IsCursor, IsStanding, IsTurn, set_at, cursor_steps, step_shown, bytes_shown, actor_shown, state_shown}
 use Rattle.actors.specs.declared.step.Step.TheVariants as step
-use Rattle.actors.specs.Rows.{ArePlans, asks_at}
-use Rattle.actors.specs.Kept.{AreStanding, IsReached}
-use Rattle.actors.specs.RunLaws.{after_both}
-use Rattle.actors.specs.Runs.{Run, uncounted, started_run, after_turns, has_any}
-use Rattle.actors.specs.Standing.{IsCursor, IsStanding, IsTurn, set_at, cursor_steps, step_shown, bytes_shown, actor_shown, state_shown}
 use Rattle.actors.proofs.Laws.{leaf_count}
 
 -- the set of a number, by the assignment of the code

@@ -1,16 +1,5 @@
 -- The advice by candidates that are at hand.
-use Rattle.std.proofs.Common.{◌≡◌, ℕ, ◌≤◌, Bool, true, false, List, All, length, map, take, Ok, Err, Some, None, sym, ap, ◌∙◌, arith, length-append}
-use Rattle.std.specs.Prelude.{filter, is_ok}
-use Rattle.std.proofs.lemmas.List.{take-append-le, take_all, length-map}
-use Rattle.map_expr.specs.Terms.{Term, term_of, uncounted}
-use Rattle.views.specs.Tables.{Table}
-use Rattle.advisor.specs.declared.advice.AdviseFault.{AdviseFault}
-use Rattle.advisor.specs.declared.candidate.Candidate.{Candidate}
-use Rattle.advisor.specs.declared.pass.Pass.{Pass}
-use Rattle.advisor.specs.Advice.{Advised, judge, cost_of, candidates, split_terms, advised, unless, advice}
-use Rattle.advisor.specs.Judged.{first_fault}
-use Rattle.advisor.specs.Pools.{IsPriced, IsStored, terms_in}
-use Rattle.advisor.specs.Suits.{suits}
+use Rattle.advisor.proofs.Imports.{◌≡◌, ℕ, ◌≤◌, Bool, true, false, List, All, length, map, take, Ok, Err, Some, None, sym, ap, ◌∙◌, arith, length-append, filter, is_ok, take-append-le, take_all, length-map, Term, term_of, uncounted, Table, AdviseFault, Candidate, Pass, Advised, judge, cost_of, candidates, split_terms, advised, unless, advice, first_fault, IsPriced, IsStored, terms_in, suits}
 
 -- the listed candidates come first
 pub listed_first : (table : Table) (granule : ℕ) (listed : List Term) (splits : Bool) → take (length listed) (candidates table granule listed splits) ≡ listed

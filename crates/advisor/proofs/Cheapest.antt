@@ -1,20 +1,5 @@
 -- The cheapest candidate, one after another, and that it is the best.
-use Rattle.std.proofs.Common.{◌≡◌, ℕ, suc, ◌<◌, ◌≤◌, Bool, true, false, List, [], ◌∷◌, All, length, map, get_or, Option, Some, None, refl, sym, ap, ◌∙◌, arith}
-use Rattle.std.specs.Prelude.{◌&&◌, ◌||◌, not, nat_le, if◌then◌else◌, slice_get}
-use Rattle.std.specs.Bool.{then_some}
-use Rattle.std.specs.List.{find, list_all, position_or_len}
-use Rattle.std.proofs.lemmas.Bool.{true≢false, and_from, le-leb, lt-leb}
-use Rattle.std.proofs.lemmas.List.{length-map, get_or-map, get_or_default}
-use Rattle.std.proofs.lemmas.Option.{slice_get-get_or, slice_get_past}
-use Rattle.std.proofs.lemmas.Simd.{map-map}
-use Rattle.std.proofs.lemmas.List.Folds.{find_at, list_all_at}
-use Rattle.std.proofs.lemmas.List.Sums.{position_or_len_is, list_all-from_AllPass}
-use Rattle.map_expr.specs.Terms.{Term, Named, term_of}
-use Rattle.advisor.specs.declared.candidate.Candidate.{Candidate}
-use Rattle.advisor.specs.Advice.{is_best, Advised}
-use Rattle.advisor.specs.Choices.{costs_in, cost_at, is_marked, AreMarked, IsLeast, IsCheapest}
-use Rattle.advisor.specs.Pools.{terms_in}
-use Rattle.advisor.specs.Sides.{term_at}
+use Rattle.advisor.proofs.Imports.{◌≡◌, ℕ, suc, ◌<◌, ◌≤◌, Bool, true, false, List, [], ◌∷◌, All, length, map, get_or, Option, Some, None, refl, sym, ap, ◌∙◌, arith, ◌&&◌, ◌||◌, not, nat_le, if◌then◌else◌, slice_get, then_some, find, list_all, position_or_len, true≢false, and_from, le-leb, lt-leb, length-map, get_or-map, get_or_default, slice_get-get_or, slice_get_past, map-map, find_at, list_all_at, position_or_len_is, list_all-from_AllPass, Term, Named, term_of, Candidate, is_best, Advised, costs_in, cost_at, is_marked, AreMarked, IsLeast, IsCheapest, terms_in, term_at}
 
 -- images by functions that agree on each item
 pub same_images : {X Y : Type 0} (f g : X → Y) (xs : List X) → All (λ x. f x ≡ g x) xs → map f xs ≡ map g xs

@@ -1,10 +1,6 @@
 -- Cells that are chosen one after another.
-use Rattle.std.proofs.Common.{◌≡◌, ℕ, ◌+◌, ◌<◌, ◌==◌, Bool, true, false, List, [], ◌∷◌, ◌++◌, All, get_or, refl, sym, ap, ◌∙◌, ⊎_elim, arith}
-use Rattle.std.specs.Prelude.{◌||◌}
-use Rattle.std.specs.List.{list_any}
-use Rattle.std.proofs.lemmas.Bool.{ne_eqb, eq-eqb, cases_eq}
-use Rattle.std.proofs.lemmas.List.Elements.{All-push}
-use Rattle.std.proofs.lemmas.List.Folds.{list_any-append, list_any_none}
+use Rattle.advisor.proofs.Imports.{◌≡◌, ℕ, ◌+◌, ◌<◌, Bool, true, false, List, [], ◌∷◌, ◌++◌, All, get_or, refl, sym, ap, ◌∙◌, ⊎_elim, arith, ◌||◌, list_any, ne_eqb, eq-eqb, cases_eq, All-push, list_any-append, list_any_none}
+use Rattle.std.proofs.Common.{◌==◌}
 
 -- of the first so many cells those are in the list that are wanted
 pub record AreChosen (wanted : ℕ → Bool) (count : ℕ) (chosen : List ℕ) : Type 0 where

@@ -1,19 +1,5 @@
 -- What passes cost where cells are the leaves.
-use Rattle.std.proofs.Common.{◌≡◌, ℕ, ◌+◌, ◌*◌, ◌<◌, List, length, get_or, ap, ◌∙◌, arith}
-use Rattle.std.specs.Prelude.{sum_by}
-use Rattle.std.specs.List.{enumerate_from}
-use Rattle.std.proofs.Math.Path.{fun_ext}
-use Rattle.std.proofs.lemmas.List.{get_or-map, length-map}
-use Rattle.std.proofs.lemmas.List.FromFn.{get_or-enumerate_from, length-enumerate_from}
-use Rattle.record_dim.specs.declared.leaf_type.LeafType.{LeafType}
-use Rattle.record_dim.specs.declared.leaf_type.LeafType.TheVariants.{Bool as Truth}
-use Rattle.places.specs.Layout.{Owner}
-use Rattle.places.specs.Laws.{IsLaidOut}
-use Rattle.places.specs.declared.piece.Cell.{Cell}
-use Rattle.map_checks.specs.Mappings.{leaf_cells}
-use Rattle.advisor.specs.declared.pass.Pass.{Pass}
-use Rattle.advisor.specs.TouchedLaws.{touched_alike}
-use Rattle.advisor.specs.Passes.{reads, cost, part_cost, leaves_in}
+use Rattle.advisor.proofs.Imports.{◌≡◌, ℕ, ◌+◌, ◌*◌, ◌<◌, List, length, get_or, ap, ◌∙◌, arith, sum_by, enumerate_from, fun_ext, get_or-map, length-map, get_or-enumerate_from, length-enumerate_from, LeafType, Truth, Owner, IsLaidOut, Cell, leaf_cells, Pass, touched_alike, reads, cost, part_cost, leaves_in}
 
 -- the leaf of a cell is its number
 leaf_is : (kinds : List LeafType) (cell : ℕ) → cell < length kinds → get_or (leaves_in (leaf_cells kinds)) cell 0 ≡ cell

@@ -1,25 +1,6 @@
 -- Cubes of slots on the Morton curve: their indices lie together, so all of them are of rows or none is.
-use Rattle.std.proofs.Common.{◌≡◌, ℕ, zero, suc, ◌+◌, ◌-◌, ◌*◌, ◌/◌, ◌%◌, ◌^◌, ◌<◌, ◌≤◌, ◌⊎◌, true, false, List, [], ◌∷◌, map, length, get_or, Option, Some, None, refl, sym, ap, ◌∙◌, subst, ⊎_elim, arith, lit<, min, w64, pow-suc}
-use Rattle.std.specs.Prelude.{bit_and, is_some}
-use Rattle.std.specs.Int.{bit_at, trailing_zeros}
-use Rattle.std.specs.List.{range_with_len}
-use Rattle.std.proofs.lemmas.Bool.{cases_lt}
-use Rattle.std.proofs.lemmas.List.{length-map, get_or-map}
-use Rattle.std.proofs.lemmas.List.Elements.{length_all_zip, AllZip-get_or}
-use Rattle.std.proofs.lemmas.List.FromFn.{get_or-range_with_len, length-range_with_len}
-use Rattle.std.proofs.lemmas.Nat.{shr_split, pow_pos, mul-le, mod_below, div-add-mod'}
-use Rattle.std.proofs.lemmas.Nat.Bits.{bit_at-zero, bit_at-lt, bit_at_lowest, bit_at_above, bit_at_cat_low, bit_at_cat_high, shr_and_one, same_from_bits}
-use Rattle.std.proofs.Math.Nat.{div-le_self, mod-eq_of_lt, mul_comm, mul-div-le, pow-le-pow_right}
+use Rattle.advisor.proofs.Imports.{◌≡◌, ℕ, zero, suc, ◌+◌, ◌-◌, ◌*◌, ◌/◌, ◌%◌, ◌^◌, ◌<◌, ◌≤◌, ◌⊎◌, true, false, List, [], ◌∷◌, map, length, get_or, Option, Some, None, refl, sym, ap, ◌∙◌, subst, ⊎_elim, arith, lit<, min, w64, pow-suc, bit_and, is_some, bit_at, trailing_zeros, range_with_len, cases_lt, length-map, get_or-map, length_all_zip, AllZip-get_or, get_or-range_with_len, length-range_with_len, shr_split, pow_pos, mul-le, mod_below, div-add-mod', bit_at-zero, bit_at-lt, bit_at_lowest, bit_at_above, bit_at_cat_low, bit_at_cat_high, shr_and_one, same_from_bits, div-le_self, mod-eq_of_lt, mul_comm, mul-div-le, pow-le-pow_right, row_of_inside, Order, Row, Col, Morton, bit_at-interleaved, bit_at-component, interleaved, row_at, slot_count, index_at, index_at_inside, row_at-slot_at, row_at-slot_of, slot_at-row_at, has_rows, twos_divide, component, gathered, has_row, HasRoom, IsOutside}
 use Rattle.extents.specs.Indices.{IsInside}
-use Rattle.extents.specs.IndicesLaws.{row_of_inside}
-use Rattle.extents.specs.declared.order.Order.{Order}
-use Rattle.extents.specs.declared.order.Order.TheVariants.{Row, Col, Morton}
-use Rattle.linearize.specs.MortonLaws.{bit_at-interleaved, bit_at-component}
-use Rattle.linearize.specs.Slots.{interleaved, row_at, slot_count, index_at}
-use Rattle.linearize.specs.SlotsLaws.{index_at_inside, row_at-slot_at, row_at-slot_of, slot_at-row_at}
-use Rattle.map_any.proofs.SlotRows.{has_rows}
-use Rattle.piece_bits.proofs.StretchLaws.{twos_divide}
-use Rattle.advisor.specs.Curve.{component, gathered, has_row, HasRoom, IsOutside}
 
 -- ---- the digits of a component
 

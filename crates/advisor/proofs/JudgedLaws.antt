@@ -1,20 +1,5 @@
 -- What the answers of a mapping's constructor say of an expression with the limits of granules.
-use Rattle.std.proofs.Common.{◌≡◌, ℕ, ◌*◌, ◌^◌, ◌<◌, ◌≤◌, ◌⊎◌, ⊎_elim, inl, inr, Bool, true, false, List, length, Ok, Err, refl, sym, ap, ◌∙◌, subst}
-use Rattle.std.specs.Prelude.{nat_lt, nat_le, sum_by, Result}
-use Rattle.std.proofs.lemmas.Bool.{true≢false, or_left, or_right, or_from, lt-ltb, le-ltb, leb-false, cases_lt}
-use Rattle.record_dim.specs.Trees.{Fields}
-use Rattle.places.specs.Layout.{Owner}
-use Rattle.places.specs.declared.piece.Cell.{Cell}
-use Rattle.map_expr.specs.Terms.{Term}
-use Rattle.map_expr.specs.declared.check.BadMapping.{BadMapping}
-use Rattle.map_expr.specs.declared.check.BadMapping.TheVariants.{NotFull}
-use Rattle.map_any.proofs.Built.{good_parts}
-use Rattle.map_checks.specs.Mappings.{layout_of, most_slots, accepted, not_full, IsTooBigFor, IsRefusal}
-use Rattle.map_checks.specs.declared.fault.MakeMap.{MakeMap}
-use Rattle.map_checks.specs.declared.fault.MakeMap.TheVariants.{Bad, TooBig, NoMemory}
-use Rattle.instrument.specs.Counters.{granules_in}
-use Rattle.views.specs.Tallies.{blob_lengths}
-use Rattle.advisor.specs.Judged.{is_over, limited, judged}
+use Rattle.advisor.proofs.Imports.{◌≡◌, ℕ, ◌*◌, ◌^◌, ◌<◌, ◌≤◌, ◌⊎◌, ⊎_elim, inl, inr, Bool, true, false, List, length, Ok, Err, refl, sym, ap, ◌∙◌, subst, nat_lt, nat_le, sum_by, Result, true≢false, or_left, or_right, or_from, lt-ltb, le-ltb, leb-false, cases_lt, Fields, Owner, Cell, Term, BadMapping, NotFull, good_parts, layout_of, most_slots, accepted, not_full, IsTooBigFor, IsRefusal, MakeMap, Bad, TooBig, NoMemory, granules_in, blob_lengths, is_over, limited, judged}
 
 limited_bad : (over : Bool) (bad : BadMapping) → limited over (Err bad) ≡ Err (Bad bad)
 limited_bad true bad = refl

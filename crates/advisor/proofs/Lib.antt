@@ -1,15 +1,16 @@
-pub mod WarmLaws
-pub mod SteadyLaws
-pub mod CurveLaws
-pub mod SweepLaws
-pub mod RuledLaws
+mod Imports
+pub mod Advising
+pub mod Cheapest
 pub mod Chosen
-pub mod JudgedLaws
-pub mod SplitLaws
 pub mod CostLaws
+pub mod CurveLaws
+pub mod JudgedLaws
 pub mod Listing
 pub mod PoolLaws
-pub mod Cheapest
+pub mod RuledLaws
+pub mod SplitLaws
+pub mod SteadyLaws
+pub mod SweepLaws
 pub mod Tried
 pub mod TriedRuns
-pub mod Advising
+pub mod WarmLaws

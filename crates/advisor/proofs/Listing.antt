@@ -1,14 +1,7 @@
 -- Listed expressions, one after another.
-use Rattle.std.proofs.Common.{◌≡◌, ℕ, ◌+◌, ◌<◌, ◌≤◌, ◌⊎◌, ⊎_elim, inl, inr, List, length, map, get_or, drop, add-one, drop-cons, Option, Some, None, Ok, Err, sym, ap, ◌∙◌}
-use Rattle.std.specs.Prelude.{Result}
-use Rattle.std.proofs.lemmas.List.{drop_all}
-use Rattle.map_expr.specs.Terms.{Term, Aos, Soa, Aosoa, BitAos, BitSoa, Split, Byteswap, Bytesplit, Change, Count, Heat, Named, uncounted}
-use Rattle.map_checks.specs.Mappings.{IsBuiltTerm}
-use Rattle.map_checks.specs.declared.fault.MakeMap.{MakeMap}
+use Rattle.advisor.proofs.Imports.{◌≡◌, ℕ, ◌+◌, ◌<◌, ◌≤◌, ◌⊎◌, ⊎_elim, inl, inr, List, length, map, get_or, drop, add-one, drop-cons, Option, Some, None, Ok, Err, sym, ap, ◌∙◌, Result, drop_all, Term, Aos, Soa, Aosoa, BitAos, BitSoa, Split, Byteswap, Bytesplit, Change, Count, Heat, Named, uncounted, IsBuiltTerm, MakeMap, AdviseFault, fault_at, fault_or, first_fault}
 use Rattle.map_checks.specs.declared.fault.MakeMap.TheVariants as made
-use Rattle.advisor.specs.declared.advice.AdviseFault.{AdviseFault}
 use Rattle.advisor.specs.declared.advice.AdviseFault.TheVariants.{NoMemory}
-use Rattle.advisor.specs.Judged.{fault_at, fault_or, first_fault}
 
 -- an expression that is built is so without its counters
 pub built_uncounted : (term : Term) → IsBuiltTerm term → IsBuiltTerm (uncounted term)

@@ -1,28 +1,5 @@
 -- Splits that are put behind other candidates.
-use Rattle.std.proofs.Common.{◌≡◌, ℕ, ◌+◌, ◌<◌, ◌≤◌, ◌++◌, Bool, false, All, List, [], ◌∷◌, length, get_or, take, cond, Some, None, Ok, Err, refl, sym, ap, ◌∙◌, subst}
-use Rattle.std.specs.Prelude.{filter, is_ok, Result}
-use Rattle.std.specs.List.{flat_map}
-use Rattle.std.proofs.lemmas.List.{append_assoc, append-nil, take_more, take_all, map_push, length-map}
-use Rattle.std.proofs.lemmas.List.Elements.{filter-append}
-use Rattle.std.proofs.lemmas.Grind.{flat_map-append}
-use Rattle.record_dim.specs.declared.path.PathStep.{PathStep}
-use Rattle.record_dim.specs.Leaves.{Leaf, leaves}
-use Rattle.places.specs.declared.piece.Cell.{Cell}
-use Rattle.places.specs.declared.piece.Hold.{Hold}
-use Rattle.map_expr.specs.Terms.{Term, Split, term_of}
-use Rattle.map_checks.specs.Mappings.{leaf_cells, layout_of, holds_by}
-use Rattle.map_checks.specs.Sides.{cells_under, cells_beside}
-use Rattle.map_checks.specs.TermLaws.{length-holds}
-use Rattle.map_checks.specs.declared.fault.MakeMap.{MakeMap}
-use Rattle.map_any.specs.AnyLaws.{length-leaf_cells}
-use Rattle.views.specs.Tables.{Table, leaf_types_of}
-use Rattle.advisor.specs.declared.candidate.Candidate.{Candidate}
-use Rattle.advisor.specs.declared.pass.Pass.{Pass}
-use Rattle.advisor.specs.Advice.{judge, cost_of}
-use Rattle.advisor.specs.Judged.{judged}
-use Rattle.advisor.specs.Passes.{part_cost, leaves_in}
-use Rattle.advisor.specs.Pools.{IsPriced, terms_in}
-use Rattle.advisor.specs.Sides.{IsHold, IsSideCost}
+use Rattle.advisor.proofs.Imports.{◌≡◌, ℕ, ◌+◌, ◌<◌, ◌≤◌, ◌++◌, Bool, false, All, List, [], ◌∷◌, length, get_or, take, cond, Some, None, Ok, Err, refl, sym, ap, ◌∙◌, subst, filter, is_ok, Result, flat_map, append_assoc, append-nil, take_more, take_all, map_push, length-map, filter-append, flat_map-append, PathStep, Leaf, leaves, Cell, Hold, Term, Split, term_of, leaf_cells, layout_of, holds_by, cells_under, cells_beside, length-holds, MakeMap, length-leaf_cells, Table, leaf_types_of, Candidate, Pass, judge, cost_of, judged, part_cost, leaves_in, IsPriced, terms_in, IsHold, IsSideCost}
 use Rattle.advisor.proofs.SplitLaws.{sides_judged, split_cost}
 
 -- ---- what passes a test, of lists one after another

@@ -1,14 +1,5 @@
 -- What a mapping with its rules lays out, and the rule of each of its cells.
-use Rattle.std.proofs.Common.{◌≡◌, ℕ, ◌<◌, List, length, map, get_or, subst, sym, arith}
-use Rattle.std.proofs.lemmas.List.{length-map}
-use Rattle.record_dim.specs.Schemas.{schema_fields}
-use Rattle.places.specs.Layout.{Owner}
-use Rattle.places.specs.declared.piece.Hold.{Hold}
-use Rattle.map_expr.specs.Terms.{term_of}
-use Rattle.map_checks.specs.Mappings.{layout_of}
-use Rattle.map_checks.specs.Ruled.{IsRuleOf}
-use Rattle.map_checks.specs.declared.rule.Rule.{Rule}
-use Rattle.advisor.specs.declared.mapped.RuledMap.{RuledMap}
+use Rattle.advisor.proofs.Imports.{◌≡◌, ℕ, ◌<◌, List, length, map, get_or, subst, sym, arith, length-map, schema_fields, Owner, Hold, term_of, layout_of, IsRuleOf, Rule, RuledMap}
 
 abbrev pub layout_in : RuledMap → List (List Owner)
 layout_in m = let c = m.mapping in layout_of (term_of c.expr) c.extents (schema_fields c.schema) c.cells.items

@@ -1,35 +1,6 @@
 -- What a split is where its sides are known: whether it is accepted, its limits and what it costs.
-use Rattle.std.proofs.Common.{◌≡◌, ℕ, ◌+◌, ◌*◌, ◌/◌, ◌^◌, ◌≤◌, Bool, true, false, List, [], ◌∷◌, length, map, get_or, max, None, Some, Ok, Err, refl, ap, ◌∙◌, arith, cond}
-use Rattle.std.specs.Prelude.{◌||◌, not, nat_lt, sum_by, filter, Option, Result, if◌then◌else◌}
-use Rattle.std.specs.List.{enumerate_from}
-use Rattle.std.specs.Option.{option_or}
-use Rattle.std.proofs.lemmas.Bool.{ltb-false, le-ltb, or_from}
-use Rattle.std.proofs.lemmas.List.{length-map}
-use Rattle.std.proofs.lemmas.Simd.{map-map}
-use Rattle.std.proofs.lemmas.List.Sums.{sum_by-cons, sum_by-append}
-use Rattle.std.proofs.lemmas.List.Folds.{fold-map}
-use Rattle.std.proofs.Math.Nat.{mul-add}
-use Rattle.record_dim.specs.declared.leaf_type.LeafType.{LeafType}
-use Rattle.record_dim.specs.declared.path.PathStep.{PathStep}
-use Rattle.record_dim.specs.Trees.{Fields}
-use Rattle.record_dim.specs.Nodes.{is_under}
-use Rattle.places.specs.Layout.{Owner, Bit}
-use Rattle.places.specs.Rules.{renamed, recelled, numbers_of, split}
-use Rattle.places.specs.declared.piece.Cell.{Cell}
-use Rattle.map_expr.specs.Terms.{Term, Aos, Soa, Aosoa, BitAos, BitSoa, Split, Byteswap, Bytesplit, Change, Count, Heat, Named, depth_of}
-use Rattle.map_expr.specs.Checks.{has_counter, counts_once, bad_number, answered, checked}
-use Rattle.map_expr.specs.declared.check.BadMapping.{BadMapping}
-use Rattle.map_expr.specs.declared.check.BadMapping.TheVariants.{TooDeep, Counter, Side, Field, NotFull}
-use Rattle.map_checks.specs.Mappings.{layout_of, most_slots, bad_side, bad_field, not_full, else_for, accepted, leaf_cells}
-use Rattle.map_checks.specs.Sides.{side_of, cells_under, cells_beside}
-use Rattle.map_checks.specs.TermLaws.{neither_of}
-use Rattle.instrument.specs.Counters.{granules_of, granules_in}
-use Rattle.views.specs.Tallies.{blob_lengths}
-use Rattle.advisor.specs.declared.pass.Pass.{Pass}
-use Rattle.advisor.specs.Touched.{touched}
-use Rattle.advisor.specs.TouchedLaws.{touched_split}
-use Rattle.advisor.specs.Passes.{reads, cost, part_cost, leaves_in}
-use Rattle.advisor.specs.Judged.{is_over, limited, judged}
+use Rattle.advisor.proofs.Imports.{◌≡◌, ℕ, ◌+◌, ◌*◌, ◌/◌, ◌^◌, ◌≤◌, Bool, true, false, List, [], ◌∷◌, length, map, get_or, max, None, Some, Ok, Err, refl, ap, ◌∙◌, arith, cond, ◌||◌, not, nat_lt, sum_by, filter, Result, if◌then◌else◌, enumerate_from, option_or, ltb-false, le-ltb, or_from, length-map, map-map, sum_by-cons, sum_by-append, fold-map, mul-add, LeafType, PathStep, Fields, is_under, Owner, Bit, renamed, recelled, numbers_of, split, Cell, Term, Aos, Soa, Aosoa, BitAos, BitSoa, Split, Byteswap, Bytesplit, Change, Count, Heat, Named, depth_of, has_counter, counts_once, bad_number, answered, checked, BadMapping, TooDeep, Counter, Side, Field, NotFull, layout_of, most_slots, bad_side, bad_field, not_full, else_for, accepted, leaf_cells, side_of, cells_under, cells_beside, neither_of, granules_of, granules_in, blob_lengths, Pass, touched, touched_split, reads, cost, part_cost, leaves_in, is_over, limited, judged}
+use Rattle.std.specs.Prelude.{Option}
 
 -- ---- what is accepted has none of the causes
 

@@ -1,21 +1,6 @@
 -- Slots whose pieces follow each other by at most a granule touch the granules of one long piece.
-use Rattle.std.proofs.Common.{◌≡◌, ℕ, zero, suc, ◌+◌, ◌-◌, ◌*◌, ◌/◌, ◌%◌, ◌<◌, ◌≤◌, ◌^◌, max, Bool, true, false, List, ◌∷◌, ◌++◌, refl, sym, ap, ◌∙◌, ⊎_elim, get_or, arith}
-use Rattle.std.specs.Prelude.{◌==◌, ◌&&◌, ◌||◌, min, nat_lt}
-use Rattle.std.specs.List.{list_any, range_with_len}
-use Rattle.std.proofs.Math.Nat.{mod-lt}
-use Rattle.std.proofs.lemmas.Bool.{cases_lt, and_from, and_parts, eq-eqb, eqb-true, lt-ltb, ltb-true}
-use Rattle.std.proofs.lemmas.List.FromFn.{get_or-range_with_len, length-range_with_len}
-use Rattle.std.proofs.lemmas.List.Folds.{Any-from_list_any, list_any_at, list_any-append}
-use Rattle.std.proofs.lemmas.Nat.{div-mul-add, mod-mul-add, div-add-mod'}
-use Rattle.extents.specs.declared.order.Order.{Order}
-use Rattle.places.specs.Touched.{is_in_granule}
-use Rattle.places.specs.declared.piece.Piece.{Piece}
-use Rattle.instrument.specs.Counters.{HeatCounts, IsInside}
-use Rattle.places.specs.PieceRules.{begin_in, piece_in}
-use Rattle.places.specs.declared.rule.PieceRule.{PieceRule}
-use Rattle.advisor.specs.Curve.{has_row}
-use Rattle.advisor.specs.Steady.{IsSteady, HasSteps, is_run_touched, are_rows_touched, long_piece}
-use Rattle.advisor.specs.TouchedLaws.{same_tests}
+use Rattle.advisor.proofs.Imports.{◌≡◌, ℕ, zero, suc, ◌+◌, ◌-◌, ◌*◌, ◌/◌, ◌%◌, ◌<◌, ◌≤◌, ◌^◌, max, Bool, true, false, List, ◌∷◌, ◌++◌, refl, sym, ap, ◌∙◌, ⊎_elim, get_or, arith, ◌==◌, ◌&&◌, ◌||◌, nat_lt, list_any, range_with_len, mod-lt, cases_lt, and_from, and_parts, eq-eqb, eqb-true, lt-ltb, ltb-true, get_or-range_with_len, length-range_with_len, Any-from_list_any, list_any_at, list_any-append, div-mul-add, mod-mul-add, div-add-mod', Order, is_in_granule, Piece, HeatCounts, IsInside, begin_in, piece_in, PieceRule, has_row, IsSteady, HasSteps, is_run_touched, are_rows_touched, long_piece, same_tests}
+use Rattle.std.specs.Prelude.{min}
 
 -- ---- which slots are
 

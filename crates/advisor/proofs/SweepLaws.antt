@@ -1,30 +1,6 @@
 -- The granules that hold a bit of a cell are those that its rule touches in the slots of all rows.
-use Rattle.std.proofs.Common.{◌≡◌, ℕ, zero, suc, ◌+◌, ◌<◌, ◌≤◌, ◌==◌, Bool, true, false, List, All, Option, Some, None, length, get_or, refl, sym, ap, ◌∙◌, subst, arith}
-use Rattle.std.specs.Prelude.{◌&&◌, ◌||◌, is_some}
-use Rattle.std.specs.List.{list_any, range_with_len}
-use Rattle.std.proofs.lemmas.Bool.{true≢false, eq-eqb, eqb-true, and_parts, and_from}
-use Rattle.std.proofs.lemmas.List.{length-map, get_or-map}
-use Rattle.std.proofs.lemmas.List.FromFn.{get_or-range_with_len, length-range_with_len}
-use Rattle.std.proofs.lemmas.List.Folds.{Any-from_list_any, list_any_at}
-use Rattle.extents.specs.Indices.{indices}
-use Rattle.extents.specs.declared.order.Order.{Order}
-use Rattle.linearize.specs.Slots.{row_at, slot_at, slot_count}
-use Rattle.linearize.specs.SlotsLaws.{row_at-slot_at, slot_at-row_at, slot_at_below}
-use Rattle.places.specs.Layout.{Owner}
-use Rattle.places.specs.Laws.{IsLaidOut, IsLocated, IsPiece}
-use Rattle.places.specs.Touched.{is_in_granule, is_hot}
-use Rattle.places.specs.TouchedLaws.{touched_hot as pieces_hot}
-use Rattle.places.specs.PieceRules.{piece_in, pieces_in}
-use Rattle.places.specs.declared.rule.PieceRule.{PieceRule}
-use Rattle.map_checks.specs.Ruled.{IsRuleOf}
-use Rattle.map_checks.specs.declared.rule.Rule.{Rule}
-use Rattle.instrument.specs.Counters.{HeatCounts, IsInside}
-use Rattle.views.specs.Kept.{HasGranules}
-use Rattle.views.specs.CountLaws.{piece_inside}
-use Rattle.advisor.specs.Curve.{has_row}
-use Rattle.advisor.specs.Touched.{holds_cell}
-use Rattle.advisor.specs.TouchedLaws.{IsTouchedBy, same_tests, any_map, touched_hot}
-use Rattle.advisor.specs.Steady.{are_rows_touched, are_slots_touched}
+use Rattle.advisor.proofs.Imports.{◌≡◌, ℕ, zero, suc, ◌+◌, ◌<◌, ◌≤◌, Bool, true, false, List, All, Option, Some, None, length, get_or, refl, sym, ap, ◌∙◌, subst, arith, ◌&&◌, ◌||◌, is_some, list_any, range_with_len, true≢false, eq-eqb, eqb-true, and_parts, and_from, length-map, get_or-map, get_or-range_with_len, length-range_with_len, Any-from_list_any, list_any_at, indices, Order, row_at, slot_at, slot_count, row_at-slot_at, slot_at-row_at, slot_at_below, Owner, IsLaidOut, IsLocated, IsPiece, is_in_granule, is_hot, pieces_hot, piece_in, pieces_in, PieceRule, IsRuleOf, Rule, HeatCounts, IsInside, HasGranules, piece_inside, has_row, holds_cell, IsTouchedBy, same_tests, any_map, touched_hot, are_rows_touched, are_slots_touched}
+use Rattle.std.proofs.Common.{◌==◌}
 use Rattle.advisor.proofs.WarmLaws.{any_swap}
 
 -- one of the first numbers passes a test

@@ -1,32 +1,6 @@
 -- Ways of storing leaves that are tried, and what they say of candidates.
-use Rattle.std.proofs.Common.{◌≡◌, ℕ, ◌+◌, ◌<◌, Bool, true, false, ℤ, List, [], ◌∷◌, ◌++◌, All, length, map, get_or, refl, sym, ap, ◌∙◌, ⊎_elim, subst, arith}
-use Rattle.std.specs.Prelude.{◌==◌, ◌&&◌, ◌||◌, not, Ok, Err, if◌then◌else◌}
-use Rattle.std.specs.List.{list_all, range_with_len}
-use Rattle.std.proofs.lemmas.Cmp.{int_eq_equiv}
-use Rattle.std.proofs.lemmas.Bool.{true≢false, cases_eq, eq-eqb, eqb-true, and_parts, and_from}
-use Rattle.std.proofs.lemmas.List.Folds.{list_any-append, list_all-map, Any-from_list_any}
-use Rattle.std.proofs.lemmas.List.Sums.{AllPass-from_list_all, list_all-from_AllPass}
-use Rattle.std.proofs.lemmas.List.FromFn.{get_or-range_with_len, length-range_with_len}
-use Rattle.std.proofs.lemmas.List.Elements.{All-push, All-map}
-use Rattle.record_dim.specs.Trees.{Fields}
-use Rattle.record_dim.specs.declared.leaf_type.LeafType.{LeafType}
-use Rattle.record_dim.specs.LeafTypes.{least_of, greatest_of, least_in, greatest_in}
-use Rattle.places.specs.declared.piece.Hold.{Hold}
-use Rattle.piece_bits.specs.declared.mode.StoreMode.TheVariants.{Strict}
-use Rattle.views.specs.Stores.{is_between}
-use Rattle.views.specs.declared.fault.StoreFault.{StoreFault}
-use Rattle.views.specs.declared.fault.StoreFault.TheVariants.{Range, Narrow}
-use Rattle.views.specs.Columns.{in_leaf}
-use Rattle.views.specs.Tables.{Table, leaf_count_of, leaf_type_of}
-use Rattle.advisor.specs.Suits.{keeps, stays, leaf_stays, all_stay, suits}
-use Rattle.piece_bits.specs.declared.mode.StoreMode.{StoreMode}
-use Rattle.piece_bits.specs.Tables.{hold_at}
-use Rattle.map_expr.specs.Terms.{term_of}
-use Rattle.advisor.specs.declared.candidate.Candidate.{Candidate}
-use Rattle.advisor.specs.declared.trials.Trial.{Trial}
-use Rattle.advisor.specs.Pools.{IsStored}
-use Rattle.advisor.specs.Trials.{IsTrial, IsFresh, HasTrials, same_hold, is_for, has_trial, takes, tried_all, has_not_failed, none_failed}
-use Rattle.advisor.specs.TouchedLaws.{same_tests}
+use Rattle.advisor.proofs.Imports.{◌≡◌, ℕ, ◌+◌, ◌<◌, Bool, true, false, ℤ, List, [], ◌∷◌, ◌++◌, All, length, map, get_or, refl, sym, ap, ◌∙◌, ⊎_elim, subst, arith, ◌==◌, ◌&&◌, ◌||◌, not, if◌then◌else◌, list_all, range_with_len, int_eq_equiv, true≢false, cases_eq, eq-eqb, eqb-true, and_parts, and_from, list_any-append, list_all-map, Any-from_list_any, AllPass-from_list_all, list_all-from_AllPass, get_or-range_with_len, length-range_with_len, All-push, All-map, Fields, LeafType, least_of, greatest_of, least_in, greatest_in, Hold, Strict, is_between, StoreFault, Range, Narrow, in_leaf, Table, leaf_count_of, leaf_type_of, keeps, stays, leaf_stays, all_stay, suits, StoreMode, hold_at, term_of, Candidate, Trial, IsStored, IsTrial, IsFresh, HasTrials, same_hold, is_for, has_trial, takes, tried_all, has_not_failed, none_failed, same_tests}
+use Rattle.std.specs.Prelude.{Ok, Err}
 use Rattle.advisor.proofs.Cheapest.{same_images}
 
 -- a store in a strict view

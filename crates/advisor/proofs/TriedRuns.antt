@@ -1,36 +1,5 @@
 -- Runs of rows whose values are read and tried leaf by leaf.
-use Rattle.std.proofs.Common.{◌≡◌, ℕ, ◌+◌, ◌<◌, ◌≤◌, Bool, true, false, ℤ, pos, List, [], ◌∷◌, ◌++◌, All, length, map, get_or, take, drop, refl, sym, ap, ◌∙◌, ⊎_elim, subst, arith}
-use Rattle.std.specs.Prelude.{◌==◌, ◌&&◌, ◌||◌, not, nat_lt, if◌then◌else◌}
-use Rattle.std.specs.List.{list_all, flat_map, range_with_len}
-use Rattle.std.proofs.Math.Path.{fun_ext}
-use Rattle.std.proofs.Math.Seq.{take-add}
-use Rattle.std.proofs.lemmas.Bool.{cases_lt, lt-ltb, le-ltb, eq-eqb, ne_eqb}
-use Rattle.std.proofs.lemmas.Grind.{flat_map-append}
-use Rattle.std.proofs.lemmas.List.{length-map, length-take, get_or-map, get_or-take, get_or-drop, take-map, drop-map}
-use Rattle.std.proofs.lemmas.List.Elements.{All-map}
-use Rattle.std.proofs.lemmas.List.Concat.{flat_map-cons, flat_map_single}
-use Rattle.std.proofs.lemmas.List.Folds.{list_all-append, list_all-map}
-use Rattle.std.proofs.lemmas.Simd.{map-map}
-use Rattle.record_dim.specs.LeafTypes.{IsDeclared}
-use Rattle.record_dim.specs.Leaves.{Leaf, leaves}
-use Rattle.record_dim.specs.Trees.{Fields}
-use Rattle.record_dim.specs.declared.leaf_type.LeafType.{LeafType}
-use Rattle.places.specs.Image.{entry}
-use Rattle.places.specs.Layout.{Owner}
-use Rattle.piece_bits.specs.Tables.{hold_at}
-use Rattle.piece_bits.specs.EntryLaws.{stays_declared}
-use Rattle.piece_bits.specs.declared.mode.StoreMode.{StoreMode}
-use Rattle.piece_bits.specs.Lows.{low_64}
-use Rattle.views.specs.Columns.{in_leaf, column_reads}
-use Rattle.views.specs.OrderLaws.{tallied-kinds}
-use Rattle.views.specs.Runs.{raised, run_of}
-use Rattle.views.specs.RunsLaws.{raised_all}
-use Rattle.views.specs.Tables.{Table, IsTable, owners_of, leaf_count_of, leaf_type_of, leaf_types_of, table_holds, after_log}
-use Rattle.views.specs.Tallies.{Access, Read, Tally, tallied, row_accesses, all_accesses}
-use Rattle.views.specs.TallyLaws.{after_log-none, after_log-append, accesses_more}
-use Rattle.advisor.specs.Suits.{stays}
-use Rattle.advisor.specs.Trials.{IsTrial, rows_accesses, takes, tried_all, all_lows_stay, tried_leaf}
-use Rattle.advisor.specs.declared.trials.Trial.{Trial}
+use Rattle.advisor.proofs.Imports.{◌≡◌, ℕ, ◌+◌, ◌<◌, ◌≤◌, Bool, true, false, ℤ, pos, List, [], ◌∷◌, ◌++◌, All, length, map, get_or, take, drop, refl, sym, ap, ◌∙◌, ⊎_elim, subst, arith, ◌==◌, ◌&&◌, ◌||◌, not, nat_lt, if◌then◌else◌, list_all, flat_map, range_with_len, fun_ext, take-add, cases_lt, lt-ltb, le-ltb, eq-eqb, ne_eqb, flat_map-append, length-map, length-take, get_or-map, get_or-take, get_or-drop, take-map, drop-map, All-map, flat_map-cons, flat_map_single, list_all-append, list_all-map, map-map, IsDeclared, Leaf, leaves, Fields, LeafType, entry, Owner, hold_at, stays_declared, StoreMode, low_64, in_leaf, column_reads, tallied-kinds, raised, run_of, raised_all, Table, IsTable, owners_of, leaf_count_of, leaf_type_of, leaf_types_of, table_holds, after_log, Access, Read, Tally, tallied, row_accesses, all_accesses, after_log-none, after_log-append, accesses_more, stays, IsTrial, rows_accesses, takes, tried_all, all_lows_stay, tried_leaf, Trial}
 use Rattle.advisor.proofs.Cheapest.{same_images}
 use Rattle.advisor.proofs.SteadyLaws.{range_cut}
 

@@ -1,26 +1,9 @@
 -- Granules that were accessed, after accesses of which each touches some.
-use Rattle.std.proofs.Common.{◌≡◌, ℕ, suc, ◌+◌, ◌/◌, ◌^◌, ◌<◌, ◌≤◌, ◌-◌, ◌*◌, ◌==◌, Bool, true, false, List, [], ◌∷◌, map, length, get_or, replicate, min, refl, sym, ap, ◌∙◌, subst, cond, take, drop, arith}
-use Rattle.std.specs.Prelude.{◌||◌, not, count_by, if◌then◌else◌}
-use Rattle.std.specs.List.{list_any, range_with_len, sum_by}
-use Rattle.std.proofs.Math.Path.{fun_ext}
-use Rattle.std.proofs.lemmas.Bool.{ne_eqb}
-use Rattle.std.proofs.lemmas.Grind.{same_number_lists}
-use Rattle.std.proofs.lemmas.List.{length-map, length-replicate, get_or-map, get_or-replicate}
-use Rattle.std.proofs.lemmas.List.FromFn.{get_or-range_with_len, length-range_with_len}
-use Rattle.std.proofs.lemmas.List.Folds.{Any-from_list_any, list_any_at, list_any_none}
-use Rattle.std.proofs.lemmas.List.Sums.{sum_by-cons, sum-map, sum_by-le-sum_by, count_by-le-length}
-use Rattle.places.specs.Layout.{Owner, Pad, Bit}
-use Rattle.places.specs.Touched.{is_touched}
-use Rattle.places.specs.declared.piece.Piece.{Piece}
-use Rattle.instrument.specs.Counters.{HeatCounts, IsInside, raised, granules_of, granules_in, heated_by, no_heat}
-use Rattle.instrument.specs.WarmingLaws.{length-warmed, length-heated, get-warmed, get-warmed_blob}
-use Rattle.views.specs.Kept.{HasGranules}
-use Rattle.views.specs.Tallies.{blob_lengths}
-use Rattle.views.specs.CountLaws.{blob_granules}
-use Rattle.advisor.specs.Touched.{is_bit_in, holds_bit, holds_cell, touched_blob, touched}
-use Rattle.advisor.specs.TouchedLaws.{same_tests}
+use Rattle.advisor.proofs.Imports.{◌≡◌, ℕ, suc, ◌+◌, ◌/◌, ◌^◌, ◌<◌, ◌≤◌, ◌-◌, ◌*◌, Bool, true, false, List, [], ◌∷◌, map, length, get_or, replicate, min, refl, sym, ap, ◌∙◌, subst, cond, take, drop, arith, ◌||◌, not, count_by, if◌then◌else◌, list_any, range_with_len, fun_ext, ne_eqb, same_number_lists, length-map, length-replicate, get_or-map, get_or-replicate, get_or-range_with_len, length-range_with_len, Any-from_list_any, list_any_at, list_any_none, sum_by-cons, sum-map, sum_by-le-sum_by, count_by-le-length, Owner, Pad, Bit, is_touched, Piece, HeatCounts, IsInside, granules_of, granules_in, heated_by, no_heat, length-warmed, length-heated, get-warmed, get-warmed_blob, HasGranules, blob_lengths, blob_granules, is_bit_in, holds_bit, holds_cell, touched_blob, touched, same_tests, is_warm, IsCounted, warm_at, IsWarmed}
+use Rattle.std.proofs.Common.{◌==◌}
+use Rattle.std.specs.List.{sum_by}
+use Rattle.instrument.specs.Counters.{raised}
 use Rattle.advisor.proofs.SteadyLaws.{or_false}
-use Rattle.advisor.specs.Warm.{is_warm, IsCounted, warm_at, IsWarmed}
 
 -- ---- steps
 

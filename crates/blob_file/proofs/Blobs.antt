@@ -1,11 +1,5 @@
 -- Bytes that are cut into blobs of a layout.
-use Rattle.std.proofs.Common.{◌≡◌, ℕ, ◌+◌, ◌*◌, ◌/◌, ◌%◌, ◌<◌, ◌≤◌, List, [], ◌∷◌, ◌++◌, length, map, get_or, drop, take, All, refl, sym, ap, ◌∙◌, subst, arith}
-use Rattle.std.specs.Prelude.{sum_by}
-use Rattle.std.proofs.lemmas.List.{length-map, length-drop, get_or-map, append-nil, drop_all}
-use Rattle.places.specs.Layout.{Owner}
-use Rattle.piece_bits.specs.Tables.{AreSized}
-use Rattle.views.specs.Tallies.{blob_lengths}
-use Rattle.blob_file.specs.Opened.{cut}
+use Rattle.blob_file.proofs.Imports.{◌≡◌, ℕ, ◌+◌, ◌*◌, ◌/◌, ◌%◌, ◌<◌, ◌≤◌, List, [], ◌∷◌, ◌++◌, length, map, get_or, drop, take, All, refl, sym, ap, ◌∙◌, subst, arith, sum_by, length-map, length-drop, get_or-map, append-nil, drop_all, Owner, AreSized, blob_lengths, cut}
 use Rattle.blob_file.proofs.Cuts.{total, total_bits, total_more, cut_more, cut_lengths}
 
 -- so many blobs were cut

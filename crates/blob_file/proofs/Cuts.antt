@@ -1,15 +1,5 @@
 -- Bytes that are cut: into lines, and into blobs.
-use Rattle.std.proofs.Common.{◌≡◌, ℕ, zero, suc, ◌+◌, ◌-◌, ◌*◌, ◌/◌, ◌%◌, ◌<◌, true, false, List, [], ◌∷◌, ◌++◌, length, map, take, drop, get_or, All, Option, Some, None, refl, sym, ap, ◌∙◌, ⊎_elim, arith, append_assoc, length-append}
-use Rattle.std.specs.Prelude.{◌==◌, option_map, sum_by}
-use Rattle.std.proofs.lemmas.Bool.{cases_eq, eq-eqb, ne_eqb}
-use Rattle.std.proofs.lemmas.List.{take_at, drop_at, take-append-drop, length-take-le, length-drop, drop_more, take_rest, nil_from_length}
-use Rattle.std.proofs.lemmas.List.Sums.{sum_by-cons}
-use Rattle.line_tokens.specs.Ends.{NoEnd}
-use Rattle.layout_io.specs.Writing.{joined}
-use Rattle.places.specs.Layout.{Owner}
-use Rattle.views.specs.Tallies.{blob_lengths}
-use Rattle.blob_file.specs.Files.{two_lines}
-use Rattle.blob_file.specs.Opened.{line_at, cut}
+use Rattle.blob_file.proofs.Imports.{◌≡◌, ℕ, zero, suc, ◌+◌, ◌-◌, ◌*◌, ◌/◌, ◌%◌, ◌<◌, true, false, List, [], ◌∷◌, ◌++◌, length, map, take, drop, get_or, All, Option, Some, None, refl, sym, ap, ◌∙◌, ⊎_elim, arith, append_assoc, length-append, ◌==◌, option_map, sum_by, cases_eq, eq-eqb, ne_eqb, take_at, drop_at, take-append-drop, length-take-le, length-drop, drop_more, take_rest, nil_from_length, sum_by-cons, NoEnd, joined, Owner, blob_lengths, two_lines, line_at, cut}
 
 -- ---- lines
 

@@ -1,40 +1,8 @@
 -- The rows of a view that are stored run by run, and each run leaf by leaf.
-use Rattle.std.proofs.Common.{◌≡◌, ℕ, zero, suc, ◌+◌, ◌-◌, ◌*◌, ◌<◌, ◌≤◌, ℤ, pos, negsuc, ◌≤ℤ◌, true, false, Bool, List, [], ◌∷◌, ◌++◌, length, map, get_or, is_ok, Ok, ◌^◌, ltb, refl, sym, ap, ◌∙◌, subst, ⊎_elim, arith, w64, FitsSigned}
-use Rattle.std.specs.Prelude.{◌⊎◌, Result}
-use Rattle.std.specs.List.{flat_map, range_with_len}
-use Rattle.std.proofs.lemmas.Bool.{cases_lt, le-ltb}
-use Rattle.std.proofs.Math.Pow.{pow_mono}
-use Rattle.std.proofs.lemmas.Int.{ints, to_z_pos}
-use Rattle.std.proofs.lemmas.List.{length-map, get_or-map, ext_get_or}
-use Rattle.std.proofs.lemmas.List.Concat.{flat_map-cons}
-use Rattle.extents.specs.Indices.{indices}
-use Rattle.record_dim.specs.LeafTypes.{is_signed, least_of, greatest_of, least_in, greatest_in, IsDeclared, IsIn}
-use Rattle.record_dim.specs.Leaves.{Leaf, leaves}
-use Rattle.record_dim.specs.declared.leaf_type.LeafType.{LeafType}
-use Rattle.places.specs.Image.{entry}
-use Rattle.places.specs.Layout.{Owner}
-use Rattle.places.specs.declared.piece.Hold.{Hold}
-use Rattle.map_any.specs.AnyLaws.{length-leaf_cells}
-use Rattle.map_checks.specs.Mappings.{holds_by, leaf_cells}
-use Rattle.blobs.specs.Bits.{bit_in}
-use Rattle.piece_bits.specs.TableLaws.{table_shape, tables_same}
-use Rattle.piece_bits.specs.Tables.{HasShape, hold_at, table_in}
-use Rattle.piece_bits.specs.EntryLaws.{fitting_stays}
-use Rattle.piece_bits.specs.Lows.{low_64}
+use Rattle.blob_file.proofs.Imports.{◌≡◌, ℕ, zero, suc, ◌+◌, ◌-◌, ◌*◌, ◌<◌, ◌≤◌, ℤ, pos, negsuc, ◌≤ℤ◌, true, false, Bool, List, [], ◌∷◌, ◌++◌, length, map, get_or, is_ok, Ok, ◌^◌, ltb, refl, sym, ap, ◌∙◌, subst, ⊎_elim, arith, w64, FitsSigned, ◌⊎◌, flat_map, range_with_len, cases_lt, le-ltb, pow_mono, ints, to_z_pos, length-map, get_or-map, ext_get_or, flat_map-cons, indices, is_signed, least_of, greatest_of, least_in, greatest_in, IsDeclared, IsIn, Leaf, leaves, LeafType, entry, Owner, Hold, length-leaf_cells, holds_by, leaf_cells, bit_in, table_shape, tables_same, HasShape, hold_at, table_in, fitting_stays, low_64, stays_answer, column_writes, with_column, raised, AreRowsMoved, CountsNothing, run_entry, run_length, AreBefore, kept_or, kept_row, kept_rows, Table, IsTable, answer_of, kept_of, leaf_count_of, leaf_type_of, leaf_types_of, owners_of, table_holds, after_stores, Access, Write, row_accesses, all_accesses, after_stores-append, logs_more, StoreFault, Header, owners_by, kept_run, run_writes, AreFitting, AreTaken, IsTaken, IsTakenLeaf, raw_in, row_count, header_of}
+use Rattle.std.specs.Prelude.{Result}
 use Rattle.piece_bits.specs.LowsLaws.{low_same}
-use Rattle.views.specs.AnswerLaws.{stays_answer}
-use Rattle.views.specs.Columns.{column_writes, with_column}
-use Rattle.views.specs.Runs.{raised, AreRowsMoved, CountsNothing}
-use Rattle.views.specs.RunsLaws.{run_entry, run_length, AreBefore}
-use Rattle.views.specs.Stores.{Fits, kept_or, kept_row, kept_rows}
-use Rattle.views.specs.Tables.{Table, IsTable, answer_of, kept_of, leaf_count_of, leaf_type_of, leaf_types_of, owners_of, table_holds, after_stores}
-use Rattle.views.specs.Tallies.{Access, Write, row_accesses, all_accesses}
-use Rattle.views.specs.TallyLaws.{after_stores-append, logs_more}
-use Rattle.views.specs.declared.fault.StoreFault.{StoreFault}
-use Rattle.blob_file.specs.Files.{Header, owners_by}
-use Rattle.blob_file.specs.Filling.{kept_run, run_writes, AreFitting, AreTaken, IsTaken, IsTakenLeaf}
-use Rattle.blob_file.specs.Opened.{raw_in, row_count}
-use Rattle.blob_file.specs.Saving.{header_of}
+use Rattle.views.specs.Stores.{Fits}
 use Rattle.blob_file.proofs.Fills.{kept_entry, kept_shape}
 
 -- ---- the raw rows

@@ -1,35 +1,5 @@
 -- A view of zeros that was filled by what blobs hold: what is opened of the bytes behind a header.
-use Rattle.std.proofs.Common.{◌≡◌, true, false, ℕ, ◌+◌, ◌*◌, ◌<◌, ◌≤◌, ℤ, pos, List, [], length, get_or, map, Ok, Err, is_ok, refl, sym, ap, ◌∙◌, arith}
-use Rattle.std.specs.Prelude.{◌==◌, nat_eq, sum_by}
-use Rattle.std.specs.List.{enumerate_from}
-use Rattle.std.specs.Cmp.Lexicographic.{pointwise}
-use Rattle.std.proofs.lemmas.Bool.{eq-eqb, and_parts, and_from, false_from_ne_true}
-use Rattle.std.proofs.lemmas.List.{length-map, get_or-map, length-replicate}
-use Rattle.std.proofs.lemmas.List.FromFn.{length-enumerate_from, get_or-enumerate_from}
-use Rattle.record_dim.specs.declared.leaf_type.LeafType.{LeafType}
-use Rattle.record_dim.specs.LeafTypes.{least_of, greatest_of, least_in, greatest_in, IsIn}
-use Rattle.record_dim.specs.Leaves.{kinds_of}
-use Rattle.places.specs.declared.piece.Hold.{Hold}
-use Rattle.places.specs.Layout.{Owner}
-use Rattle.places.specs.Laws.{IsLaidOut}
-use Rattle.places.specs.Image.{entry}
-use Rattle.extents.specs.Indices.{indices}
-use Rattle.piece_bits.specs.Tables.{HasShape, hold_at}
-use Rattle.piece_bits.specs.TableLaws.{tables_same}
-use Rattle.piece_bits.specs.Kept.{declared}
-use Rattle.piece_bits.specs.KeptLaws.{low_same, declared_same}
-use Rattle.piece_bits.specs.declared.mode.StoreMode.{StoreMode}
-use Rattle.piece_bits.specs.declared.mode.StoreMode.TheVariants.{Strict, Wrap}
-use Rattle.piece_bits.specs.Modes.{kind_at, Fits}
-use Rattle.piece_bits.specs.KeptTableLaws.{declared_shape, declared_entry}
-use Rattle.views.specs.StrictLaws.{stored_fits}
-use Rattle.views.specs.Stores.{Keeping, is_between, store_answer, kept_or, kept_row, kept_rows}
-use Rattle.views.specs.Tables.{Table, owners_of, table_holds, leaf_count_of, kept_of, after_stores}
-use Rattle.views.specs.Tallies.{Tally, Write, all_accesses, tallied, no_tally, blob_lengths}
-use Rattle.blob_file.specs.Files.{Header, owners_by, image_bytes}
-use Rattle.blob_file.specs.Filling.{IsTaken}
-use Rattle.blob_file.specs.Opened.{raw_in, rows_in, answer_by, all_taken, are_contents, cut, with_blobs, with_body, empty_table, table_of, leaf_count, row_count, IsRead}
-use Rattle.blob_file.specs.Saving.{header_of, blobs_of}
+use Rattle.blob_file.proofs.Imports.{◌≡◌, true, false, ℕ, ◌+◌, ◌*◌, ◌<◌, ◌≤◌, ℤ, pos, List, [], length, get_or, map, Ok, Err, is_ok, refl, sym, ap, ◌∙◌, arith, ◌==◌, nat_eq, sum_by, enumerate_from, pointwise, eq-eqb, and_parts, and_from, false_from_ne_true, length-map, get_or-map, length-replicate, length-enumerate_from, get_or-enumerate_from, LeafType, least_of, greatest_of, least_in, greatest_in, IsIn, kinds_of, Hold, Owner, IsLaidOut, entry, indices, HasShape, hold_at, tables_same, declared, low_same, declared_same, StoreMode, Strict, Wrap, kind_at, Fits, declared_shape, declared_entry, stored_fits, Keeping, is_between, store_answer, kept_or, kept_row, kept_rows, Table, owners_of, table_holds, leaf_count_of, kept_of, after_stores, Tally, Write, all_accesses, tallied, no_tally, blob_lengths, Header, owners_by, image_bytes, IsTaken, raw_in, rows_in, answer_by, all_taken, are_contents, cut, with_blobs, with_body, empty_table, table_of, leaf_count, row_count, IsRead, header_of, blobs_of}
 use Rattle.blob_file.specs.declared.fault.FileFault.TheVariants as fault
 use Rattle.blob_file.proofs.Contents.{ok_itself, each_taken, taken_each, raw_shape, raw_range, some_bits, same_count, same_blobs-Decides}
 

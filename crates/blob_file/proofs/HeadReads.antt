@@ -1,10 +1,5 @@
 -- The header in front of bytes, by what a reader finds one after another.
-use Rattle.std.proofs.Common.{◌≡◌, ℕ, ◌<◌, Bool, true, false, List, length, take, drop, Option, Some, None, refl, ap, ◌∙◌, arith}
-use Rattle.std.specs.Prelude.{option_map, if◌then◌else◌}
-use Rattle.record_dim.specs.Trees.{Fields}
-use Rattle.line_grammar.specs.Sentences.{New}
-use Rattle.blob_file.specs.Files.{Header, four_bytes, two_lines}
-use Rattle.blob_file.specs.Opened.{same_bytes, line_at, line_told, fields_told, new_told, with_record, header_told, behind_first, behind_size, header_at}
+use Rattle.blob_file.proofs.Imports.{◌≡◌, ℕ, ◌<◌, Bool, true, false, List, length, take, drop, Option, Some, None, refl, ap, ◌∙◌, arith, option_map, if◌then◌else◌, Fields, New, Header, four_bytes, two_lines, same_bytes, line_at, line_told, fields_told, new_told, with_record, header_told, behind_first, behind_size, header_at}
 use Rattle.blob_file.proofs.Heads.{front_is, header_with}
 
 none_from : {A : Type 0} (o : Option A) → ((x : A) → o ≡ Some x → ⊥) → o ≡ None

@@ -1,17 +1,7 @@
 -- What is told of a text, by the line that it is.
-use Rattle.std.proofs.Common.{◌≡◌, ℕ, Bool, true, false, List, Some, None, refl, ap, ◌∙◌}
-use Rattle.std.specs.Prelude.{codes}
-use Rattle.extents.specs.declared.words.ExtentWord.{ExtentWord}
-use Rattle.record_dim.specs.declared.dim.Dim.{Dim}
+use Rattle.blob_file.proofs.Imports.{◌≡◌, ℕ, Bool, true, false, List, Some, None, refl, ap, ◌∙◌, codes, ExtentWord, Dim, Tree, Single, Record, Array, tree_of, IsRecord, MapExpr, Line, New, Define, View, sentence_of, same_bytes, line_told, fields_told, is_plain, new_told, fields_in, new_in, ShownView}
 use Rattle.record_dim.specs.declared.dim.Dim.TheVariants as dims
-use Rattle.record_dim.specs.Trees.{Tree, Single, Record, Array, tree_of, IsRecord}
-use Rattle.map_expr.specs.declared.expr.MapExpr.{MapExpr}
-use Rattle.line_grammar.specs.declared.line.Line.{Line}
 use Rattle.line_grammar.specs.declared.line.Line.TheVariants as lines
-use Rattle.line_grammar.specs.Sentences.{New, Define, View, sentence_of}
-use Rattle.blob_file.specs.Opened.{same_bytes, line_told, fields_told, is_plain, new_told}
-use Rattle.blob_file.specs.Parts.{fields_in, new_in}
-use Rattle.blob_file.specs.declared.header.ShownView.{ShownView}
 use Rattle.blob_file.proofs.Heads.{plain_parts}
 
 module _ (text : List ℕ) where

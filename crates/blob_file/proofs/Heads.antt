@@ -1,26 +1,5 @@
 -- The header in front of bytes: which there is, and that it is the only one.
-use Rattle.std.proofs.Common.{◌≡◌, ℕ, ◌≤◌, Bool, true, false, List, [], ◌∷◌, ◌++◌, length, map, take, drop, Ok, Option, Some, None, refl, sym, ap, ◌∙◌, subst, arith}
-use Rattle.std.specs.Prelude.{MatchResult, codes, option_map, not, ◌&&◌}
-use Rattle.std.specs.List.{list_any}
-use Rattle.std.proofs.lemmas.Bool.{and_parts, not-true}
-use Rattle.std.proofs.lemmas.List.{take-append-drop}
-use Rattle.std.proofs.lemmas.Slice.Eq.{bytes_eq-Decides}
-use Rattle.line_tokens.specs.Ends.{NoEnd}
-use Rattle.line_grammar.specs.Reads.{Reads, StopsAt}
-use Rattle.line_grammar.specs.Sentences.{Sentence, New, Blank, Define, Mapping, View, Load, Assign, Update, Actors, Kernel, Reduce, Count, Copy, Relayout, Show, Drop, Bytes, Save, Open, Advise, PrintWindow, Stencil, deepest}
-use Rattle.line_grammar.specs.declared.version.Version.{Version}
-use Rattle.line_grammar.specs.declared.version.Version.TheVariants.{Two}
-use Rattle.line_writer.specs.Texts.{canonical}
-use Rattle.schema_lang.specs.LineOf.{line_of}
-use Rattle.extents.specs.declared.words.ExtentWord.{ExtentWord}
-use Rattle.extents.specs.declared.words.ExtentWord.TheVariants.{Fixed, Rows}
-use Rattle.extents.specs.Shapes.{extent_of, is_rows}
-use Rattle.record_dim.specs.Trees.{Fields, Single, Record, Array}
-use Rattle.piece_bits.specs.declared.mode.StoreMode.{StoreMode}
-use Rattle.piece_bits.specs.declared.mode.StoreMode.TheVariants.{Strict, Wrap}
-use Rattle.blob_file.specs.Files.{Header, four_bytes, two_lines, is_wrap, record_line, view_line, record_text, view_text, header_text, IsShort}
-use Rattle.blob_file.specs.Headers.{is_nameless, HasLine, HasLines}
-use Rattle.blob_file.specs.Opened.{same_bytes, line_at, line_told, fields_told, is_plain, new_told, mode_by, with_record, header_told, behind_first, behind_size, header_at}
+use Rattle.blob_file.proofs.Imports.{◌≡◌, ℕ, ◌≤◌, Bool, true, false, List, [], ◌∷◌, ◌++◌, length, map, take, drop, Ok, Option, Some, None, refl, sym, ap, ◌∙◌, subst, arith, MatchResult, codes, option_map, not, ◌&&◌, list_any, and_parts, not-true, take-append-drop, bytes_eq-Decides, NoEnd, Reads, StopsAt, Sentence, New, Blank, Define, Mapping, View, Load, Assign, Update, Actors, Kernel, Reduce, Count, Copy, Relayout, Show, Drop, Bytes, Save, Open, Advise, PrintWindow, Stencil, deepest, Version, Two, canonical, line_of, ExtentWord, Fixed, Rows, extent_of, is_rows, Fields, Single, Record, Array, StoreMode, Strict, Wrap, Header, four_bytes, two_lines, is_wrap, record_line, view_line, record_text, view_text, header_text, IsShort, is_nameless, HasLine, HasLines, same_bytes, line_at, line_told, fields_told, is_plain, new_told, mode_by, with_record, header_told, behind_first, behind_size, header_at}
 use Rattle.blob_file.proofs.Told.{some_if, if_some, told_some, told_parts, line_is, reads_told}
 use Rattle.blob_file.proofs.Cuts.{line_cut, line_parts, lines_behind}
 

@@ -1,17 +1,5 @@
 -- The bytes of bits, and the bits of the bytes of an image.
-use Rattle.std.proofs.Common.{◌≡◌, ℕ, ◌+◌, ◌*◌, ◌/◌, ◌%◌, ◌<◌, ◌≤◌, ℤ, List, [], length, get_or, map, All, sym, ap, ◌∙◌, ⊎_elim, arith}
-use Rattle.std.specs.Int.{bit_at}
-use Rattle.std.proofs.lemmas.Bool.{cases_lt}
-use Rattle.std.proofs.lemmas.List.{length-map, get_or-map, get_or_past}
-use Rattle.std.proofs.lemmas.List.FromFn.{get_or-map-range_with_len}
-use Rattle.places.specs.Layout.{Owner, Pad, Bit, owner_at}
-use Rattle.places.specs.Image.{entry, bit_held, image, IsImage}
-use Rattle.places.specs.NumbersLaws.{bit_number, digit_lt}
-use Rattle.blobs.specs.Bits.{bit_of, bits_of, bit_in, AreBytes}
-use Rattle.instrument.specs.BlobTexts.{byte_at, bytes_of}
-use Rattle.instrument.specs.BlobTextsLaws.{length-bytes_of, bytes_of_bits}
-use Rattle.views.specs.Tables.{Table, owners_of, blob_bits_of}
-use Rattle.blob_file.specs.Saving.{blobs_of}
+use Rattle.blob_file.proofs.Imports.{◌≡◌, ℕ, ◌+◌, ◌*◌, ◌/◌, ◌%◌, ◌<◌, ◌≤◌, ℤ, List, [], length, get_or, map, All, sym, ap, ◌∙◌, ⊎_elim, arith, bit_at, cases_lt, length-map, get_or-map, get_or_past, get_or-map-range_with_len, Owner, Pad, Bit, owner_at, entry, bit_held, image, IsImage, bit_number, digit_lt, bit_of, bits_of, bit_in, AreBytes, byte_at, bytes_of, length-bytes_of, bytes_of_bits, Table, owners_of, blob_bits_of, blobs_of}
 
 -- a blob of a table, by its bits
 pub blob_saved : (table : Table) (b : ℕ) (bytes : List ℕ) → b < length (owners_of table) → AreBytes bytes → bits_of bytes ≡ blob_bits_of table b → bytes ≡ get_or (blobs_of table) b []

@@ -1,29 +1,6 @@
 -- Headers with which a view can be made: the test of them, and the laws of their layouts.
-use Rattle.std.proofs.Common.{◌≡◌, ◌*◌, ◌<◌, ◌^◌, Bool, true, false, not, List, length, map, nat_lt, Option, None, Some, Result, Ok, Err, is_ok, is_none, inl, inr, refl, ◌∙◌, ⊎_elim}
-use Rattle.std.specs.Prelude.{◌⊎◌, ◌&&◌, ◌||◌, if◌then◌else◌, sum_by}
-use Rattle.std.specs.Bool.{Decides}
-use Rattle.std.proofs.lemmas.Bool.Decides.{Decides-and, Decides-or, Decides-not, Decides-like, Decides-ltb}
-use Rattle.std.proofs.lemmas.Bool.{false_from_ne_true}
-use Rattle.extents.specs.Shapes.{bad_shape, bad_extents}
-use Rattle.record_dim.specs.Trees.{Fields, Record}
-use Rattle.record_dim.specs.Leaves.{kinds_of, first_fault}
-use Rattle.places.specs.Layout.{Owner}
-use Rattle.places.specs.Laws.{IsLaidOut}
-use Rattle.places.specs.declared.piece.Cell.{Cell}
-use Rattle.places.specs.declared.piece.Hold.{Hold}
-use Rattle.map_expr.specs.declared.check.BadMapping.{BadMapping}
-use Rattle.map_expr.specs.declared.check.BadMapping.TheVariants.{TooDeep, Counter, Side, Field, NotFull}
-use Rattle.map_expr.specs.Terms.{Term}
-use Rattle.map_expr.specs.Checks.{checked, answered, bad_number}
-use Rattle.map_any.specs.AnyLaws.{length-leaf_cells}
-use Rattle.map_checks.specs.Mappings.{leaf_cells, accepted, bad_field, bad_side, else_for, holds_by, most_slots, not_full}
-use Rattle.map_checks.specs.TermLaws.{term_laws, good_numbers, length-holds}
-use Rattle.views.specs.Tallies.{granules_for}
-use Rattle.views.specs.Refusals.{IsOver}
-use Rattle.blob_file.specs.Files.{Header, owners_by}
-use Rattle.blob_file.specs.Headers.{is_nameless, words_of, CanLie, is_over, can_lie}
-use Rattle.blob_file.specs.HeaderLaws.{nameless_built}
-use Rattle.blob_file.specs.Opened.{row_count}
+use Rattle.blob_file.proofs.Imports.{◌≡◌, ◌*◌, ◌<◌, ◌^◌, Bool, true, false, List, length, map, nat_lt, Option, None, Some, Result, Ok, Err, is_ok, is_none, inl, inr, refl, ◌∙◌, ⊎_elim, ◌⊎◌, ◌&&◌, ◌||◌, if◌then◌else◌, sum_by, Decides, Decides-and, Decides-or, Decides-not, Decides-like, Decides-ltb, false_from_ne_true, bad_shape, bad_extents, Fields, Record, kinds_of, first_fault, Owner, IsLaidOut, Cell, Hold, BadMapping, TooDeep, Counter, Side, Field, NotFull, Term, checked, answered, bad_number, length-leaf_cells, leaf_cells, accepted, bad_field, bad_side, else_for, holds_by, most_slots, not_full, term_laws, good_numbers, length-holds, granules_for, IsOver, Header, owners_by, is_nameless, words_of, CanLie, is_over, can_lie, nameless_built, row_count}
+use Rattle.std.proofs.Common.{not}
 
 -- ---- the test
 

@@ -1,19 +1,6 @@
 -- A header with which a view was made, and one with which none was.
-use Rattle.std.proofs.Common.{◌≡◌, ℕ, false, List, map, None, Ok, sym, ap, ◌∙◌, subst}
-use Rattle.std.specs.List.{list_any}
-use Rattle.extents.specs.declared.words.ExtentWord.{ExtentWord}
-use Rattle.extents.specs.Shapes.{bad_shape, bad_extents, extent_of, is_rows}
-use Rattle.map_expr.specs.Terms.{term_of}
-use Rattle.map_checks.specs.Mappings.{accepted, layout_by, leaf_cells}
-use Rattle.record_dim.specs.Leaves.{first_fault, kinds_of}
-use Rattle.record_dim.specs.Trees.{Fields, Record, tree_of, IsRecord}
-use Rattle.record_dim.specs.declared.dim.Dim.{Dim}
+use Rattle.blob_file.proofs.Imports.{◌≡◌, ℕ, false, List, map, None, Ok, sym, ap, ◌∙◌, subst, list_any, ExtentWord, bad_shape, bad_extents, extent_of, is_rows, term_of, accepted, layout_by, leaf_cells, first_fault, kinds_of, Fields, Record, tree_of, IsRecord, Dim, IsOver, owners_by, CanLie, fields_in, header_in, FileHeader}
 use Rattle.record_dim.specs.declared.dim.Dim.TheVariants as dims
-use Rattle.views.specs.Refusals.{IsOver}
-use Rattle.blob_file.specs.Files.{owners_by}
-use Rattle.blob_file.specs.Headers.{CanLie}
-use Rattle.blob_file.specs.Parts.{fields_in, header_in}
-use Rattle.blob_file.specs.declared.header.FileHeader.{FileHeader}
 use Rattle.blob_file.proofs.Heads.{words_back}
 
 -- the record of a header is that of its tree

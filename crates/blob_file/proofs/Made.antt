@@ -1,23 +1,5 @@
 -- Views of zeros, and the words of their extents.
-use Rattle.std.proofs.Common.{◌≡◌, ℕ, ◌+◌, false, List, [], ◌∷◌, length, map, None, Some, refl, sym, ap, ◌∙◌, arith}
-use Rattle.std.specs.Prelude.{count_by, cond, sum_by}
-use Rattle.std.specs.List.{list_any}
-use Rattle.std.proofs.lemmas.List.Sums.{sum_by-cons}
-use Rattle.extents.specs.declared.words.BadExtents.{BadExtents as Bad}
-use Rattle.extents.specs.declared.words.ExtentWord.{ExtentWord}
-use Rattle.extents.specs.declared.words.ExtentWord.TheVariants.{Fixed, Rows}
-use Rattle.extents.specs.Indices.{indices}
-use Rattle.extents.specs.Shapes.{is_rows, extent_of, extents_for, bad_shape, bad_extents, HasRows}
-use Rattle.record_dim.specs.Trees.{Fields}
-use Rattle.record_dim.specs.Leaves.{leaves}
-use Rattle.map_expr.specs.Terms.{Term}
-use Rattle.map_checks.specs.Mappings.{layout_by}
-use Rattle.piece_bits.specs.Tables.{zeros}
-use Rattle.piece_bits.specs.declared.mode.StoreMode.{StoreMode}
-use Rattle.views.specs.Tables.{Table, owners_of, leaf_count_of}
-use Rattle.views.specs.Tallies.{no_tally}
-use Rattle.blob_file.specs.Opened.{empty_table}
-use Rattle.blob_file.specs.Parts.{header_by}
+use Rattle.blob_file.proofs.Imports.{◌≡◌, ℕ, ◌+◌, false, List, [], ◌∷◌, length, map, None, Some, refl, sym, ap, ◌∙◌, arith, count_by, cond, sum_by, list_any, sum_by-cons, Bad, ExtentWord, Fixed, Rows, indices, is_rows, extent_of, extents_for, bad_shape, bad_extents, HasRows, Fields, leaves, Term, layout_by, zeros, StoreMode, Table, owners_of, leaf_count_of, no_tally, empty_table, header_by}
 use Rattle.blob_file.proofs.Heads.{same_extents}
 
 -- the table that a new view is

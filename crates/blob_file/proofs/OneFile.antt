@@ -1,26 +1,5 @@
 -- No bytes are the files of two headers, nor of one with two lists of blobs.
-use Rattle.std.proofs.Common.{◌≡◌, ℕ, ◌/◌, ◌<◌, ◌≤◌, ◌^◌, ℤ, List, [], ◌∷◌, ◌++◌, length, map, refl, sym, ap, ◌∙◌, arith, length-append}
-use Rattle.std.specs.Prelude.{codes}
-use Rattle.std.proofs.lemmas.List.{length-map}
-use Rattle.line_tokens.specs.Ends.{NoEnd}
-use Rattle.line_grammar.specs.Sentences.{Sentence, New, Define, View, deepest}
-use Rattle.line_grammar.specs.Reads.{Reads}
-use Rattle.line_grammar.specs.declared.version.Version.{Version}
-use Rattle.line_grammar.specs.declared.version.Version.TheVariants.{Two}
-use Rattle.line_writer.specs.Texts.{canonical}
-use Rattle.extents.specs.declared.words.ExtentWord.TheVariants.{Fixed}
-use Rattle.piece_bits.specs.declared.mode.StoreMode.{StoreMode}
-use Rattle.piece_bits.specs.declared.mode.StoreMode.TheVariants.{Strict, Wrap}
-use Rattle.places.specs.Layout.{Owner}
-use Rattle.places.specs.Image.{bit_held, image}
-use Rattle.record_dim.specs.Trees.{Fields, Record}
-use Rattle.instrument.specs.BlobTexts.{bytes_of}
-use Rattle.instrument.specs.BlobTextsLaws.{length-bytes_of}
-use Rattle.layout_io.specs.Writing.{joined}
-use Rattle.views.specs.Tallies.{blob_lengths}
-use Rattle.blob_file.specs.Files.{Header, magic, four_bytes, is_wrap, record_line, view_line, record_text, view_text, header_text, file_of, IsShort, owners_by, image_bytes}
-use Rattle.blob_file.specs.Headers.{HasLine}
-use Rattle.blob_file.specs.Statements.{OneFile}
+use Rattle.blob_file.proofs.Imports.{◌≡◌, ℕ, ◌/◌, ◌<◌, ◌≤◌, ◌^◌, ℤ, List, [], ◌∷◌, ◌++◌, length, map, refl, sym, ap, ◌∙◌, arith, length-append, codes, length-map, NoEnd, Sentence, New, Define, View, deepest, Reads, Version, Two, canonical, Fixed, StoreMode, Strict, Wrap, Owner, bit_held, image, Fields, Record, bytes_of, length-bytes_of, joined, blob_lengths, Header, magic, four_bytes, is_wrap, record_line, view_line, record_text, view_text, header_text, file_of, IsShort, owners_by, image_bytes, HasLine, OneFile}
 use Rattle.blob_file.proofs.Parts.{same_fronts, same_lines, same_numbers, same_blobs}
 
 -- ---- the bytes of an image have the lengths of the layout

@@ -1,28 +1,5 @@
 -- What is opened of bytes is that of which they are the file.
-use Rattle.std.proofs.Common.{◌≡◌, ℕ, ◌*◌, ◌≤◌, Bool, true, false, List, ◌++◌, length, map, take, drop, Result, Ok, Err, Option, Some, None, refl, sym, ap, ◌∙◌, subst, arith}
-use Rattle.std.specs.Prelude.{MatchResult, IfOk, ◌==◌, if◌then◌else◌, sum_by}
-use Rattle.std.proofs.lemmas.Bool.{eqb-true, eq-eqb}
-use Rattle.std.proofs.lemmas.List.{take-append-drop}
-use Rattle.std.proofs.lemmas.Slice.Eq.{bytes_eq-Decides}
-use Rattle.line_tokens.specs.Ends.{NoEnd}
-use Rattle.line_grammar.specs.Reads.{Reads, StopsAt}
-use Rattle.line_grammar.specs.Sentences.{Sentence, deepest}
-use Rattle.line_grammar.specs.declared.version.Version.{Version}
-use Rattle.line_writer.specs.Texts.{canonical}
-use Rattle.schema_lang.specs.LineOf.{line_of}
-use Rattle.layout_io.specs.Writing.{joined}
-use Rattle.places.specs.Layout.{Owner}
-use Rattle.views.specs.Tallies.{blob_lengths}
-use Rattle.map_checks.specs.Mappings.{holds_by}
-use Rattle.places.specs.Laws.{IsLaidOut}
-use Rattle.places.specs.declared.piece.Hold.{Hold}
-use Rattle.views.specs.Tables.{Table}
-use Rattle.blob_file.specs.Saving.{header_of, blobs_of}
-use Rattle.blob_file.specs.Files.{Header, magic, four_bytes, two_lines, record_text, header_text, file_of, owners_by, image_bytes, IsFile}
-use Rattle.blob_file.specs.Headers.{HasLines, CanLie, can_lie}
-use Rattle.blob_file.specs.Opened.{Saved, same_bytes, header_at, cut, are_contents, rows_in, with_blobs, with_body, with_header, opened, row_count, IsRead}
-use Rattle.blob_file.specs.Statements.{OpensFiles}
-use Rattle.blob_file.specs.declared.fault.FileFault.{FileFault}
+use Rattle.blob_file.proofs.Imports.{◌≡◌, ℕ, ◌*◌, ◌≤◌, Bool, true, false, List, ◌++◌, length, map, take, drop, Result, Ok, Err, Option, Some, None, refl, sym, ap, ◌∙◌, subst, arith, MatchResult, IfOk, ◌==◌, if◌then◌else◌, sum_by, eqb-true, eq-eqb, take-append-drop, bytes_eq-Decides, NoEnd, Reads, StopsAt, Sentence, deepest, Version, canonical, line_of, joined, Owner, blob_lengths, holds_by, IsLaidOut, Hold, Table, header_of, blobs_of, Header, magic, four_bytes, two_lines, record_text, header_text, file_of, owners_by, image_bytes, IsFile, HasLines, CanLie, can_lie, Saved, same_bytes, header_at, cut, are_contents, rows_in, with_blobs, with_body, with_header, opened, row_count, IsRead, OpensFiles, FileFault}
 use Rattle.blob_file.proofs.OneFile.{lengths_of_image}
 use Rattle.blob_file.proofs.Cuts.{total, total_bits, length-joined, cut_joined, joined_cut}
 use Rattle.blob_file.proofs.Heads.{AreTexts, front_is, texts_are, lines_are, front_back}

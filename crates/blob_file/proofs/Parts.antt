@@ -1,8 +1,5 @@
 -- Lists told apart: fronts, lines that end at their first LF, numbers in four bytes, and blobs of the same lengths.
-use Rattle.std.proofs.Common.{◌≡◌, ℕ, ◌/◌, ◌%◌, ◌<◌, ◌^◌, List, [], ◌∷◌, ◌++◌, length, map, refl, ap, ◌∙◌, arith}
-use Rattle.line_tokens.specs.Ends.{NoEnd}
-use Rattle.layout_io.specs.Writing.{joined}
-use Rattle.blob_file.specs.Files.{four_bytes}
+use Rattle.blob_file.proofs.Imports.{◌≡◌, ℕ, ◌/◌, ◌%◌, ◌<◌, ◌^◌, List, [], ◌∷◌, ◌++◌, length, map, refl, ap, ◌∙◌, arith, NoEnd, joined, four_bytes}
 
 -- lists that are equal when others stand behind them
 pub same_fronts : {A : Type 0} (xs ys more others : List A) → length xs ≡ length ys → xs ++ more ≡ ys ++ others → (xs ≡ ys) × (more ≡ others)

@@ -1,12 +1,6 @@
 -- Blobs that are put one after another, and blocks of one that go to the sink.
-use Rattle.std.proofs.Common.{◌≡◌, ℕ, ◌+◌, ◌<◌, List, [], ◌++◌, length, take, drop, get_or, refl, sym, ap, subst, Option, Result, Ok, Err, IsErr, arith}
+use Rattle.blob_file.proofs.Imports.{◌≡◌, ℕ, ◌+◌, ◌<◌, List, [], ◌++◌, length, take, drop, get_or, refl, sym, ap, subst, Option, Result, Ok, Err, IsErr, arith, take-add, take-append-drop, Gathers, Puts, HasPut, Gathers-written, Puts-append, Wrote, Stopped, Writes, flat_map_push, Wrote-append, Stopped-first, Stopped-second}
 use Rattle.std.specs.Prelude.{flat_map}
-use Rattle.std.proofs.Math.Seq.{take-add}
-use Rattle.std.proofs.lemmas.List.{take-append-drop}
-use Rattle.layout_io.specs.Gathering.{Gathers, Puts, HasPut}
-use Rattle.layout_io.specs.GatheringLaws.{Gathers-written, Puts-append}
-use Rattle.layout_io.specs.Writing.{Wrote, Stopped, Writes}
-use Rattle.layout_io.specs.WritingLaws.{flat_map_push, Wrote-append, Stopped-first, Stopped-second}
 
 -- what a call that ended well put, whatever its answer is made of
 as_put : {K T E : Type 0} {taken : K → Option (List ℕ)} {faults : K → ℕ} {old new : K} {was held text : List ℕ} {value : T} → Puts {E = E} taken faults old new was held (Ok value) text → HasPut taken faults old new was held text

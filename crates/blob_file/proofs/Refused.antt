@@ -1,12 +1,5 @@
 -- What is opened of bytes, by what a reader finds in them.
-use Rattle.std.proofs.Common.{◌≡◌, ℕ, ◌*◌, true, false, List, length, take, drop, Result, Ok, Err, Some, None, refl, sym, ap, ◌∙◌, inl, inr, ⊎_elim}
-use Rattle.std.specs.Prelude.{◌⊎◌, ◌==◌, IfErr, OnOk, sum_by}
-use Rattle.std.proofs.lemmas.Bool.{ne_eqb}
-use Rattle.places.specs.Layout.{Owner}
-use Rattle.blob_file.specs.Files.{Header, magic, owners_by}
-use Rattle.blob_file.specs.Headers.{CanLie, can_lie}
-use Rattle.blob_file.specs.Opened.{Saved, same_bytes, header_at, with_body, with_header, opened, IsRead}
-use Rattle.blob_file.specs.declared.fault.FileFault.{FileFault}
+use Rattle.blob_file.proofs.Imports.{◌≡◌, ℕ, ◌*◌, true, false, List, length, take, drop, Result, Ok, Err, Some, None, refl, sym, ap, ◌∙◌, inl, inr, ⊎_elim, ◌⊎◌, ◌==◌, IfErr, OnOk, sum_by, ne_eqb, Owner, Header, magic, owners_by, CanLie, can_lie, Saved, same_bytes, header_at, with_body, with_header, opened, IsRead, FileFault}
 use Rattle.blob_file.specs.declared.fault.FileFault.TheVariants as fault
 use Rattle.blob_file.proofs.Lawful.{lies, cannot_lie}
 

@@ -1,14 +1,5 @@
 -- What a view saves as is a file.
-use Rattle.std.proofs.Common.{◌≡◌, ℕ, ◌+◌, ◌*◌, ◌%◌, List, [], ◌∷◌, ◌++◌, All, length, refl, ap, ◌∙◌, subst, append_assoc, length-append, arith}
-use Rattle.std.specs.Prelude.{sum_by}
-use Rattle.places.specs.Layout.{Owner}
-use Rattle.piece_bits.specs.Tables.{HasShape}
-use Rattle.layout_io.specs.Writing.{joined}
-use Rattle.views.specs.Stores.{AllStay}
-use Rattle.views.specs.Tables.{Table, IsTable, leaf_count_of, leaf_types_of, owners_of, table_holds}
-use Rattle.views.specs.Tallies.{blob_lengths}
-use Rattle.blob_file.specs.Files.{magic, four_bytes, record_text, view_text, header_text, file_of, IsShort, IsFile}
-use Rattle.blob_file.specs.Saving.{header_of, blobs_of, head_of}
+use Rattle.blob_file.proofs.Imports.{◌≡◌, ℕ, ◌+◌, ◌*◌, ◌%◌, List, [], ◌∷◌, ◌++◌, All, length, refl, ap, ◌∙◌, subst, append_assoc, length-append, arith, sum_by, Owner, HasShape, joined, AllStay, Table, IsTable, leaf_count_of, leaf_types_of, owners_of, table_holds, blob_lengths, magic, four_bytes, record_text, view_text, header_text, file_of, IsShort, IsFile, header_of, blobs_of, head_of}
 use Rattle.blob_file.proofs.Cuts.{total, total_bits, length-joined}
 use Rattle.blob_file.proofs.OneFile.{lengths_of_image}
 

@@ -1,25 +1,7 @@
 -- The lines of a header: what is told of a text is what the grammar says.
-use Rattle.std.proofs.Common.{◌≡◌, ℕ, ◌<◌, ◌≤◌, Bool, true, false, List, length, Result, Ok, Err, Option, Some, None, inl, inr, refl, sym, ap, ◌∙◌, subst, ⊎_elim}
-use Rattle.std.specs.Prelude.{MatchResult, IfOk, IfErr, OnOk, ◌⊎◌, nat_le, ◌&&◌, if◌then◌else◌}
-use Rattle.std.proofs.lemmas.Bool.{and_parts, and_left, and_right, leb-true, le-leb, lt-leb}
-use Rattle.std.proofs.lemmas.Slice.Eq.{bytes_eq-Decides}
-use Rattle.line_tokens.specs.declared.spots.Spot.{Spot}
-use Rattle.line_tokens.specs.SpotLaws.{same_spots}
-use Rattle.line_grammar.specs.Grammar.{IsSentence}
-use Rattle.line_grammar.specs.Reads.{Reads, StopsAt, tokens_of}
-use Rattle.line_grammar.specs.Sentences.{Sentence, sentence_of, deepest}
-use Rattle.line_grammar.specs.declared.line.Line.{Line}
-use Rattle.line_grammar.specs.declared.version.Version.{Version}
-use Rattle.line_grammar.specs.declared.version.Version.TheVariants.{Two}
-use Rattle.line_writer.specs.Texts.{canonical}
-use Rattle.schema_lang.specs.LineOf.{line_of, IsTold}
-use Rattle.schema_lang.specs.Parsing.{IsWhole}
-use Rattle.schema_lang.specs.declared.fault.LineFault.{LineFault}
-use Rattle.schema_lang.specs.declared.fault.LineFault.TheVariants.{Syntax, TooDeep, NoMemory}
-use Rattle.blob_file.specs.Refusals.{refusal}
-use Rattle.blob_file.specs.declared.fault.FileFault.{FileFault}
+use Rattle.blob_file.proofs.Imports.{◌≡◌, ℕ, ◌<◌, ◌≤◌, Bool, true, false, List, length, Result, Ok, Err, Option, Some, None, inl, inr, refl, sym, ap, ◌∙◌, subst, ⊎_elim, MatchResult, IfOk, IfErr, OnOk, ◌⊎◌, nat_le, ◌&&◌, if◌then◌else◌, and_parts, and_left, and_right, leb-true, le-leb, lt-leb, bytes_eq-Decides, Spot, same_spots, IsSentence, Reads, StopsAt, tokens_of, Sentence, sentence_of, deepest, Line, Version, Two, canonical, line_of, IsTold, IsWhole, LineFault, Syntax, NoMemory, refusal, FileFault, same_bytes, canonical_by, line_told}
+use Rattle.schema_lang.specs.declared.fault.LineFault.TheVariants.{TooDeep}
 use Rattle.blob_file.specs.declared.fault.FileFault.TheVariants as fault
-use Rattle.blob_file.specs.Opened.{same_bytes, canonical_by, line_told}
 
 -- a test in front of an answer
 pub some_if : {A : Type 0} (test : Bool) (x y : A) → (if test then Some x else None) ≡ Some y → (test ≡ true) × (x ≡ y)

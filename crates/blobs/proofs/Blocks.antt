@@ -1,6 +1,5 @@
 -- A block of bytes that is copied through an array.
-use Rattle.std.proofs.Common.{◌≡◌, ℕ, ◌+◌, ◌<◌, ◌≤◌, List, length, get_or, take, drop, sym, ◌∙◌, arith}
-use Rattle.std.proofs.lemmas.List.{same_lists, get_or-take, get_or-drop, get_or_default, length-take, length-drop}
+use Rattle.blobs.proofs.Imports.{◌≡◌, ℕ, ◌+◌, ◌<◌, ◌≤◌, List, length, get_or, take, drop, sym, ◌∙◌, arith, same_lists, get_or-take, get_or-drop, get_or_default, length-take, length-drop}
 
 pub copied : (block source : List ℕ) (from len : ℕ) → len ≤ length block → from + len ≤ length source
     → ((j : ℕ) → j < len → get_or block j 0 ≡ get_or source (from + j) 0) → take len block ≡ take len (drop from source)

@@ -1,4 +1,5 @@
-pub mod Numbers
-pub mod Splices
+mod Imports
 pub mod Blocks
+pub mod Numbers
 pub mod Rows
+pub mod Splices

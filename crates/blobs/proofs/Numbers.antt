@@ -1,17 +1,5 @@
 -- Some bytes as one number, the least significant first or last.
-use Rattle.std.proofs.Common.{◌≡◌, ℕ, zero, suc, ◌+◌, ◌*◌, ◌-◌, ◌/◌, ◌%◌, ◌^◌, ◌<◌, ◌≤◌, List, length, get_or, mod-eq_of_lt, refl, sym, ap, ◌∙◌, subst, ⊎_elim, arith}
-use Rattle.std.specs.Int.{bit_at}
-use Rattle.std.proofs.lemmas.Bool.{cases_lt}
-use Rattle.std.proofs.lemmas.Nat.{pow-add}
-use Rattle.std.proofs.lemmas.Nat.Bits.{bit_at-lt, bit_at_above, bit_at_cat_low, bit_at_cat_high}
-use Rattle.std.proofs.Math.Nat.{pow-suc}
-use Rattle.byteorder.specs.Endian.{little_from}
-use Rattle.places.specs.Image.{number}
-use Rattle.places.specs.NumbersLaws.{number_same, number_bits, number_lt, bit_number}
-use Rattle.blobs.specs.Bits.{bit_of, AreBytes}
-use Rattle.blobs.specs.Turned.{turned_from, turned_place}
-use Rattle.blobs.specs.BytesLaws.{bit_of_byte}
-use Rattle.blobs.specs.FieldsLaws.{past_end}
+use Rattle.blobs.proofs.Imports.{◌≡◌, ℕ, zero, suc, ◌+◌, ◌*◌, ◌-◌, ◌/◌, ◌%◌, ◌^◌, ◌<◌, ◌≤◌, List, length, get_or, mod-eq_of_lt, refl, sym, ap, ◌∙◌, subst, ⊎_elim, arith, bit_at, cases_lt, pow-add, bit_at-lt, bit_at_above, bit_at_cat_low, bit_at_cat_high, pow-suc, little_from, number, number_same, number_bits, number_lt, bit_number, bit_of, AreBytes, turned_from, turned_place, bit_of_byte, past_end}
 
 -- a bit of a byte and of the number above it
 low_bit : (byte above k : ℕ) → k < 8 → bit_at (byte + 256 * above) k ≡ bit_at byte k

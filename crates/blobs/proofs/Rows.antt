@@ -1,42 +1,13 @@
 -- The raw calls that make a row of places and take it apart, and what a lease owns. Assumes `Logic`.
+use Rattle.blobs.proofs.Imports.{Bool, [], ◌∷◌, ◌++◌, T, Ura, w64, Val, vint, vptr, vstruct, vnil, of_list, has_ty, WT, SProp, ent, sep, ex, guard, emp, id⊢, Lft, Share, ftrue, fsep, flft, Memory, Routine, Logic, sem, ◌⊑◌, Fun, fact, fact_i, Goal, Step, step, Seq, Item, ‵, raw, ◌⊛◌, some, later, ◌$◌, ◌∵◌, !, qed, move, keep, use0, use1, split, join, pick, rewrite, fsplit, fjoin, fjoin3, fpick, feq_i, feq_l, flt_i, flt_l, check, show, await, updating, now, done, RattleType, layout, Ptr, RawPtr, block_ptr, usize, pure_i, only, heard, nothing, Struct, shape, Tuple, triple_of, Contract, slots, owned, slots_items, slots_filled, slots_ptr, slots_len, Al, token, lease_val, block_ty, P, El, el_x, R, sz, Sr, words_val, row_val, row_had, row_made}
 use mathlib.Core.Path.{◌≡◌, refl, sym, subst, ap, ◌∙◌}
-use mathlib.Core.Bool.{Bool}
 use Prim.Native.Nat.{ℕ, ◌*◌, ◌<◌, ◌^◌}
-use mathlib.Core.List.{List, [], ◌∷◌, ◌++◌}
-use lib.Dec.{T}
+use mathlib.Core.List.{List}
 use lib.ListN.{length}
-use seplogic.Ra.Ura.{Ura}
-use mir.Syntax.{w64}
-use mir.Val.{Val, vint, vptr, vstruct, vnil, of_list, has_ty, WT}
-use base.Logic.{SProp, ent, sep, ex, guard, emp, id⊢}
-use base.Fml.{Lft, Share, ftrue, fsep, flft}
-use prog.Memory.{Memory}
-use prog.Routine.{Routine}
-use types.Logic.{Logic, sem}
-use contract.BorrowLft.{◌⊑◌}
-use contract.Monad.{Fun, fact, fact_i}
-use types.Kit.{Goal, Step, step, Seq, Item, ‵, raw, ◌⊛◌, some, later, ◌$◌, ◌∵◌, !, qed, move, keep, drop, use0, use1, split, join, pick, rewrite, fsplit, fjoin, fjoin3, fpick, feq_i, feq_l, flt_i, flt_l, check, show, await, updating, now, done}
-use denote.RattleType.{RattleType}
-use denote.Param.{layout}
-use denote.RawPtr.{Ptr, RawPtr, block_ptr}
-use denote.Builtin.{usize}
-use denote.Shadow.{pure_i}
-use denote.Steps.{only, heard, nothing}
-use denote.Struct.Struct.{Struct}
-use denote.Struct.Owning.{shape}
-use denote.Struct.Tuple.{Tuple}
-use denote.Triple.Spec.{triple_of}
-use denote.Triple.Statement.{Contract}
-use Rattle.core.specs.Mem.Slots.Ownership.{slots, owned}
-use Rattle.core.specs.Mem.Slots.{slots_items, slots_filled, slots_ptr, slots_len}
+use types.Kit.{drop}
 use Rattle.core.specs.contracts.slots.Slots.from_raw_parts as FR
 use Rattle.core.specs.contracts.slots.Slots.into_raw_parts as IR
-use Rattle.core.proofs.alloc.Calls.{Al, token}
-use Rattle.core.proofs.slots.Leases.{lease_val, block_ty, P}
 use Rattle.blobs.specs.contracts.lease.Lease as L
-use Rattle.core.proofs.mem.Param.{El, el_x, R}
-use Rattle.core.proofs.slots.Places.{sz}
-use Rattle.core.proofs.slots.Opens.{Sr, words_val, row_val, row_had, row_made}
 
 module _ (E : El) where
   abbrev pub Row : RattleType

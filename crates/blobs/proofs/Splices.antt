@@ -1,11 +1,6 @@
 -- Some bytes in the place of others, which are those of a number.
-use Rattle.std.proofs.Common.{◌≡◌, ℕ, zero, suc, ◌+◌, ◌*◌, ◌-◌, ◌/◌, ◌%◌, ◌^◌, ◌<◌, ◌≤◌, List, ◌++◌, length, get_or, take, drop, refl, sym, ap, ◌∙◌, subst, arith}
-use Rattle.std.specs.Int.{bit_at, byte_at, bytes_low_first, bytes_high_first}
-use Rattle.std.proofs.lemmas.List.{get_or-drop, get_or-take, get_or_append_left, get_or-append_right, length-append, length-take, length-drop}
-use Rattle.std.proofs.Math.Nat.{div-one}
-use Rattle.blobs.specs.Bits.{bit_of}
-use Rattle.blobs.specs.Turned.{turned_place}
-use Rattle.blobs.specs.BytesLaws.{bit_of_byte, bit_of_part, IsPut}
+use Rattle.blobs.proofs.Imports.{◌≡◌, ℕ, zero, suc, ◌+◌, ◌*◌, ◌-◌, ◌/◌, ◌%◌, ◌^◌, ◌<◌, ◌≤◌, List, length, get_or, take, drop, refl, sym, ap, ◌∙◌, subst, arith, bit_at, byte_at, bytes_low_first, bytes_high_first, get_or-drop, get_or-take, get_or_append_left, get_or-append_right, length-append, length-take, length-drop, div-one, bit_of, turned_place, bit_of_byte, bit_of_part, IsPut}
+use Rattle.std.proofs.Common.{◌++◌}
 use Rattle.blobs.proofs.Numbers.{bytes_power}
 
 -- byte j of the bytes of a number, the least significant first

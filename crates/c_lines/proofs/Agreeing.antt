@@ -1,14 +1,6 @@
 -- Outcomes of the model and answers of calls that agree.
-use Rattle.std.proofs.Common.{◌≡◌, Bool, true, false, [], Option, Some, None, Result, Ok, Err, refl, ap}
-use Rattle.record_dim.specs.Trees.{Fields}
-use Rattle.views.specs.Tables.{Table}
-use Rattle.worlds.specs.Outcomes.{Outcome, Goes, Faults, CannotRead, ◌>>=◌, quiet, refused_if, refused_by, ok_or, some_or}
-use Rattle.worlds.specs.Worlds.{World}
-use Rattle.worlds.specs.declared.fault.CommandFault.{CommandFault}
+use Rattle.c_lines.proofs.Imports.{◌≡◌, Bool, true, false, [], Option, Some, None, Result, Ok, Err, refl, ap, Fields, Table, Outcome, Goes, Faults, CannotRead, ◌>>=◌, quiet, refused_if, refused_by, ok_or, some_or, World, CommandFault, Answer, Agrees, IsCause, IsLeft, told, refusal_of}
 use Rattle.c_lines.specs.Answers as answer
-use Rattle.c_lines.specs.Answers.{Answer}
-use Rattle.c_lines.specs.Agreement.{Agrees, IsCause, IsLeft}
-use Rattle.c_lines.specs.Told.{told, refusal_of}
 
 -- a fault is told by its cause, and names no leaf
 abbrev pub IsPlainFault : CommandFault → Type 0

@@ -1,35 +1,8 @@
 -- A table under the mapping of a line, a kernel of a line, and a copy do what the commands of these lines do.
-use Rattle.std.proofs.Common.{◌≡◌, ⊎_elim, ℕ, ◌+◌, ◌*◌, ◌^◌, ◌≤◌, ℤ, Bool, true, false, List, [], ◌∷◌, Option, Some, None, Ok, Err, refl, ap, ◌∙◌}
-use Rattle.std.proofs.lemmas.Bool.{cases_Bool}
-use Rattle.lane_kernels.specs.Kernels.{kernel_fault, number_of}
-use Rattle.lane_kernels.specs.declared.fault.KernelFault.{KernelFault}
+use Rattle.c_lines.proofs.Imports.{◌≡◌, ⊎_elim, ℕ, ◌+◌, ◌*◌, ◌^◌, ◌≤◌, ℤ, Bool, true, false, List, [], ◌∷◌, Option, Some, None, Ok, Err, refl, ap, ◌∙◌, cases_Bool, kernel_fault, number_of, KernelFault, Kernel, Spot, refused_at, File, Relayout, Term, same_text, Fields, Table, answer_of, all_read, are_alike, copied, copy, laid_anew, relayout, with_rows, fit_kernel, kernel_run, number_text, run, run_fault, nameless, text_of_leaf, Done, done_to, on_view, with_table, Outcome, Goes, Faults, CannotRead, ◌>>=◌, Left, quiet, shows, step, live_bits, made, World, Entry, found, replaced, same_name, Answer, First, Agrees, CopiesAgree, IsCause, IsLeft, KernelsAgree, LayoutsAgree, both_left, target_after, told_rows, was_copied, Fitted, left_by, number_told, run_left, line_told, after_relaid, relaid, told, done_of, kernel_refusal}
 use Rattle.lane_kernels.specs.declared.fault.KernelFault.TheVariants as kernel
-use Rattle.lane_kernels.specs.declared.kernel.Kernel.{Kernel}
-use Rattle.layout_copy.specs.Copies.{Spot, refused_at}
-use Rattle.layout_io.specs.Files.{File}
-use Rattle.line_grammar.specs.Sentences.{Relayout}
-use Rattle.map_expr.specs.Terms.{Term}
-use Rattle.record_dim.specs.NameBytesLaws.{same_text}
-use Rattle.record_dim.specs.Trees.{Fields}
-use Rattle.views.specs.Tables.{Table, answer_of}
-use Rattle.worlds.specs.Copy.{all_read, are_alike, copied, copy, laid_anew, relayout, with_rows}
-use Rattle.worlds.specs.Kernel.{fit_kernel, kernel_run, number_text, run, run_fault}
-use Rattle.worlds.specs.Names.{nameless, text_of_leaf}
-use Rattle.worlds.specs.OnView.{Done, done_to, on_view, with_table}
-use Rattle.worlds.specs.Outcomes.{Outcome, Goes, Faults, CannotRead, ◌>>=◌, Left, quiet, shows}
-use Rattle.worlds.specs.Step.{step}
-use Rattle.worlds.specs.Tables.{live_bits, made}
-use Rattle.worlds.specs.Worlds.{World, Entry, found, replaced, same_name}
 use Rattle.worlds.specs.declared.fault.CommandFault.TheVariants.{Narrow}
 use Rattle.c_lines.specs.Answers as answer
-use Rattle.c_lines.specs.Answers.{Answer}
-use Rattle.c_lines.specs.declared.refusal.TextOf.TheVariants.{First}
-use Rattle.c_lines.specs.Agreement.{Agrees, CopiesAgree, IsCause, IsLeft, KernelsAgree, LayoutsAgree, both_left}
-use Rattle.c_lines.specs.Copies.{target_after, told_rows, was_copied}
-use Rattle.c_lines.specs.KernelLines.{Fitted, left_by, number_told, run_left}
-use Rattle.c_lines.specs.Lines.{line_told}
-use Rattle.c_lines.specs.Relaid.{after_relaid, relaid}
-use Rattle.c_lines.specs.Told.{told, done_of, kernel_refusal}
 use Rattle.c_lines.proofs.Agreeing.{Any, IsPlain, agrees_then, agrees_left}
 use Rattle.c_lines.proofs.PlainTests.{plain_kernel, plain_made, plain_nameless, same_made}
 

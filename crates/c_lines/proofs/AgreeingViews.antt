@@ -1,29 +1,7 @@
 -- A view that two lines describe, with or without a dataset, is that of the commands of these lines.
-use Rattle.std.specs.Prelude.{if◌then◌else◌, unwrap_or}
-use Rattle.std.proofs.Common.{◌≡◌, ℕ, ◌^◌, ℤ, nat_lt, Bool, true, false, List, [], length, Option, Some, None, Result, Ok, Err, refl, sym, ap, ◌∙◌}
-use Rattle.csv_rows.specs.Datasets.{records_of, rows_of}
-use Rattle.csv_rows.specs.Loads.{dataset_of}
-use Rattle.csv_rows.specs.declared.fault.RowFault.{RowFault}
+use Rattle.c_lines.proofs.Imports.{if◌then◌else◌, unwrap_or, ◌≡◌, ℕ, ◌^◌, ℤ, nat_lt, Bool, true, false, List, [], length, Option, Some, None, Result, Ok, Err, refl, sym, ap, ◌∙◌, records_of, rows_of, dataset_of, RowFault, File, file_of, New, Define, View, Load, first_fault, Tree, Fields, End, BadRecord, Table, define, fields_in, filled, load, loaded, loaded_table, row_fault, refused_if, step, made, resolved, named, new_table, view, with_view, World, added, found, same_name, TooBig, First, Second, Agrees, IsCause, IsLeft, DatasetsAgree, LoadsAgree, ViewsAgree, both_steps, fields_for, world_with, described, line_told, with_dataset, told, row_refusal}
 use Rattle.csv_rows.specs.declared.fault.RowFault.TheVariants as row
-use Rattle.layout_io.specs.Files.{File, file_of}
-use Rattle.line_grammar.specs.Sentences.{New, Define, View, Load}
-use Rattle.record_dim.specs.Leaves.{first_fault}
-use Rattle.record_dim.specs.Trees.{Tree, Fields, End}
-use Rattle.record_dim.specs.declared.fault.BadRecord.{BadRecord}
-use Rattle.views.specs.Tables.{Table}
-use Rattle.worlds.specs.Define.{define, fields_in}
-use Rattle.worlds.specs.Load.{filled, load, loaded, loaded_table, row_fault}
-use Rattle.worlds.specs.Outcomes.{refused_if}
-use Rattle.worlds.specs.Step.{step}
-use Rattle.worlds.specs.Tables.{made, resolved}
-use Rattle.worlds.specs.View.{named, new_table, view, with_view}
-use Rattle.worlds.specs.Worlds.{World, added, found, same_name}
-use Rattle.worlds.specs.declared.fault.CommandFault.TheVariants.{TooBig}
-use Rattle.c_lines.specs.declared.refusal.TextOf.TheVariants.{First, Second}
-use Rattle.c_lines.specs.Agreement.{Agrees, IsCause, IsLeft, DatasetsAgree, LoadsAgree, ViewsAgree, both_steps, fields_for, world_with}
 use Rattle.c_lines.specs.Lines as lines
-use Rattle.c_lines.specs.Lines.{described, line_told, with_dataset}
-use Rattle.c_lines.specs.Told.{told, row_refusal}
 use Rattle.c_lines.proofs.Agreeing.{Any, plain_any, plain_then, plain_if, agrees_told, agrees_then, agrees_behind, agrees_left}
 use Rattle.c_lines.proofs.Datasets.{IsOwn, own_rows}
 use Rattle.c_lines.proofs.PlainTests.{plain_made, plain_named, plain_resolved}

@@ -1,15 +1,7 @@
 -- What is told of a test of the model, and of one thing after another.
-use Rattle.std.specs.Prelude.{IfOk}
-use Rattle.std.proofs.Common.{◌≡◌, ◌⊎◌, Bool, true, false, not, inl, inr, ⊎_elim, Result, Ok, Err, refl, ap, ◌∙◌}
-use Rattle.worlds.specs.Outcomes.{Outcome, Goes, Faults, CannotRead}
-use Rattle.command_checks.specs.Gives.{Gives}
-use Rattle.command_checks.specs.declared.fault.StepFault.{StepFault}
+use Rattle.c_lines.proofs.Imports.{IfOk, ◌≡◌, ◌⊎◌, Bool, true, false, not, inl, inr, ⊎_elim, Result, Ok, Err, refl, ap, ◌∙◌, Outcome, Goes, Faults, CannotRead, Gives, StepFault, Answer, Tells, Refusal, NoMemory, told, answered}
 use Rattle.command_checks.specs.declared.fault.StepFault.TheVariants as step
-use Rattle.c_lines.specs.Answers.{Answer, Tells, ◌>>=◌}
-use Rattle.c_lines.specs.declared.refusal.Refusal.{Refusal}
-use Rattle.c_lines.specs.declared.refusal.Refusal.TheVariants.{NoMemory}
-use Rattle.c_lines.specs.Told.{told}
-use Rattle.c_lines.specs.Steps.{answered}
+use Rattle.c_lines.specs.Answers.{◌>>=◌}
 
 -- a refusal, or want of memory
 abbrev pub Refuses : {A : Type 0} → Answer A → Refusal → Type 0

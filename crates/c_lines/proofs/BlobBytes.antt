@@ -1,14 +1,5 @@
 -- A blob of a table, by its bits.
-use Rattle.std.proofs.Common.{◌≡◌, ℕ, ◌<◌, nat_lt, true, List, [], length, get_or, map, Ok, sym, ap, ◌∙◌, arith}
-use Rattle.std.proofs.lemmas.Bool.Decides.{nat_tests}
-use Rattle.std.proofs.lemmas.List.{length-map, get_or-map}
-use Rattle.places.specs.Image.{bit_held, image}
-use Rattle.blobs.specs.Bits.{bits_of, AreBytes}
-use Rattle.instrument.specs.BlobTexts.{bytes_of}
-use Rattle.instrument.specs.BlobTextsLaws.{bytes_of_bits}
-use Rattle.views.specs.Tables.{Table, owners_of, blob_bits_of}
-use Rattle.blob_file.specs.Saving.{blobs_of}
-use Rattle.c_lines.specs.Buffers.{blob_told}
+use Rattle.c_lines.proofs.Imports.{◌≡◌, ℕ, ◌<◌, nat_lt, true, List, [], length, get_or, map, Ok, sym, ap, ◌∙◌, arith, nat_tests, length-map, get_or-map, bit_held, image, bits_of, AreBytes, bytes_of, bytes_of_bits, Table, owners_of, blob_bits_of, blobs_of, blob_told}
 
 is_below : (a b : ℕ) → a < b → nat_lt a b ≡ true
 is_below a b below = grind (arith, nat_tests)

@@ -1,13 +1,6 @@
 -- What a copy answers, in the words of its contract.
-use Rattle.std.proofs.Common.{◌≡◌, ◌∙◌, ℕ, length, Result, [], None, Some, Ok, Err, refl}
-use Rattle.layout_copy.specs.Copies.{IsCopied, refused_at, source_log}
-use Rattle.layout_copy.specs.declared.fault.CopyFault.{CopyFault}
+use Rattle.c_lines.proofs.Imports.{◌≡◌, ◌∙◌, ℕ, length, Result, [], None, Some, Ok, Err, refl, IsCopied, refused_at, source_log, CopyFault, Table, answer_of, leaf_count_of, after_log, after_log-none, alike, not_alike, Mismatch, Narrow, was_copied}
 use Rattle.layout_copy.specs.declared.fault.CopyFault.TheVariants as copy
-use Rattle.views.specs.Tables.{Table, answer_of, leaf_count_of, after_log}
-use Rattle.views.specs.TallyLaws.{after_log-none}
-use Rattle.command_checks.specs.AlikeLaws.{alike, not_alike}
-use Rattle.c_lines.specs.declared.refusal.Refusal.TheVariants.{Mismatch, Narrow}
-use Rattle.c_lines.specs.Copies.{was_copied}
 
 pub was_done : (source old new : Table) → IsCopied source old new (Ok tt) → Ok tt ≡ was_copied source old
 was_done source old new is =

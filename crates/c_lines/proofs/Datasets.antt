@@ -1,17 +1,7 @@
 -- A dataset is a table, or is refused by a fault of its own: want of memory is none.
-use Rattle.std.proofs.Common.{ℕ, ◌+◌, ℤ, List, [], ◌∷◌, Option, Some, None, Result, Ok, Err}
-use Rattle.std.specs.List.{slice_get, enumerate_from}
-use Rattle.record_dim.specs.Leaves.{texts_of}
-use Rattle.csv_rows.specs.Datasets.{◌>>=◌, Leaf, Place, columns_named, columns_of, dataset_table, header_of, number_of, one_column, row_values, rows_of, table_from, taken, the_field, the_number, unspaced, value_at, with_columns}
-use Rattle.csv_rows.specs.Loads.{dataset_of}
-use Rattle.csv_rows.specs.declared.fault.RowFault.{RowFault}
+use Rattle.c_lines.proofs.Imports.{ℕ, ◌+◌, ℤ, List, [], ◌∷◌, Option, Some, None, Result, Ok, Err, slice_get, enumerate_from, texts_of, Leaf, Place, columns_named, columns_of, dataset_table, header_of, one_column, row_values, rows_of, table_from, taken, the_field, the_number, unspaced, value_at, with_columns, dataset_of, RowFault, StoreMode, Hold, LeafType, store_answer, Table, leaf_types_of, table_holds, StoreFault}
+use Rattle.csv_rows.specs.Datasets.{◌>>=◌, number_of}
 use Rattle.csv_rows.specs.declared.fault.RowFault.TheVariants.{NoMemory}
-use Rattle.piece_bits.specs.declared.mode.StoreMode.{StoreMode}
-use Rattle.places.specs.declared.piece.Hold.{Hold}
-use Rattle.record_dim.specs.declared.leaf_type.LeafType.{LeafType}
-use Rattle.views.specs.Stores.{store_answer}
-use Rattle.views.specs.Tables.{Table, leaf_types_of, table_holds}
-use Rattle.views.specs.declared.fault.StoreFault.{StoreFault}
 use Rattle.views.specs.declared.fault.StoreFault.TheVariants as store
 
 -- a result that is not want of memory

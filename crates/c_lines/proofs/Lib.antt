@@ -1,11 +1,12 @@
-pub mod Copied
-pub mod Answering
-pub mod Making
-pub mod Relaying
+mod Imports
 pub mod Agreeing
-pub mod Datasets
-pub mod PlainTests
-pub mod AgreeingViews
 pub mod AgreeingChanges
+pub mod AgreeingViews
+pub mod Answering
 pub mod BlobBytes
+pub mod Copied
+pub mod Datasets
+pub mod Making
 pub mod Parts
+pub mod PlainTests
+pub mod Relaying

@@ -1,26 +1,7 @@
 -- Views of the words of two lines, by the tests that refuse them.
-use Rattle.std.proofs.Common.{◌≡◌, inl, inr, ℕ, ◌^◌, ◌≤◌, true, false, nat_eq, nat_lt, List, [], length, Option, Some, None, Ok, Err, refl, sym, ap, subst, arith}
-use Rattle.std.proofs.lemmas.Bool.Decides.{nat_tests}
-use Rattle.std.specs.Cmp.Lexicographic.{pointwise}
-use Rattle.record_dim.specs.NameBytesLaws.{text_self}
-use Rattle.record_dim.specs.Trees.{Fields}
-use Rattle.csv_rows.specs.Datasets.{records_of, rows_of}
-use Rattle.csv_rows.specs.Loads.{dataset_of}
-use Rattle.extents.specs.declared.words.ExtentWord.{ExtentWord}
-use Rattle.line_grammar.specs.Sentences.{New}
-use Rattle.map_expr.specs.Terms.{Term}
-use Rattle.views.specs.Tables.{Table}
-use Rattle.worlds.specs.Names.{nameless}
-use Rattle.worlds.specs.Outcomes.{Outcome, Goes, Faults, CannotRead, ◌>>=◌}
-use Rattle.worlds.specs.Tables.{made, resolved, shaped, mode_by}
-use Rattle.worlds.specs.View.{Named, named, new_table}
-use Rattle.worlds.specs.Worlds.{World, empty, added}
+use Rattle.c_lines.proofs.Imports.{◌≡◌, inl, inr, ℕ, ◌^◌, ◌≤◌, true, false, nat_eq, nat_lt, List, [], length, Option, Some, None, Ok, Err, refl, sym, ap, subst, arith, nat_tests, pointwise, text_self, Fields, records_of, rows_of, dataset_of, ExtentWord, New, Term, Table, nameless, Outcome, Goes, Faults, CannotRead, ◌>>=◌, made, resolved, shaped, mode_by, Named, named, new_table, World, empty, added, Answer, Tells, Refusal, filled_as, with_dataset, zeros_for, told, refusal_of}
 use Rattle.c_lines.specs.Answers as answer
-use Rattle.c_lines.specs.Answers.{Answer, Tells}
-use Rattle.c_lines.specs.declared.refusal.Refusal.{Refusal}
 use Rattle.c_lines.specs.declared.refusal.Refusal.TheVariants.{TooBig}
-use Rattle.c_lines.specs.Lines.{filled_as, with_dataset, zeros_for}
-use Rattle.c_lines.specs.Told.{told, refusal_of}
 use Rattle.c_lines.proofs.Answering.{Refuses, refused_then, told_goes}
 
 -- a world of one record

@@ -1,40 +1,10 @@
 -- Runs that are read and stored part by part.
-use Rattle.std.proofs.Common.{◌≡◌, ℕ, suc, ◌+◌, ◌-◌, ◌^◌, ◌<◌, ◌≤◌, Bool, true, false, not, List, [], ◌∷◌, ◌++◌, length, map, take, drop, get_or, ℤ, pos, negsuc, ◌≤ℤ◌, Some, None, Result, Ok, Err, refl, sym, ap, subst, ◌∙◌, arith, length-drop, take_all, w64}
-use Rattle.std.specs.Int.{cast_signed, cast_unsigned}
-use Rattle.std.specs.List.{range_with_len}
-use Rattle.std.specs.Option.{option_or}
+use Rattle.c_lines.proofs.Imports.{◌≡◌, ℕ, suc, ◌+◌, ◌-◌, ◌^◌, ◌<◌, ◌≤◌, Bool, true, false, not, List, [], ◌∷◌, ◌++◌, length, map, take, drop, get_or, ℤ, pos, negsuc, ◌≤ℤ◌, Some, None, Result, Ok, Err, refl, sym, ap, subst, ◌∙◌, arith, length-drop, take_all, w64, cast_signed, cast_unsigned, range_with_len, option_or, take-add, ints, of_z-to_z, drop-drop, drop-map, get_or-map, get_or-take, length-map, length-take-le, take-append-drop, take-map, take-take, IsDeclared, is_signed, least_in, width_of, LeafType, range_split, hold_at, low_64, lane_inside, told_some, column, column_reads, column_writes, with_column, lane_fault, first_lane_fault, length-with_column, no_column, raised, run_of, stored_count, told_lane, with_run, TakesAll, declared_within, raised_all, run_length, Fits, Table, IsTable, answer_of, kept_of, leaf_count_of, leaf_type_of, table_holds, after_log, after_stores, after_write, Read, Write, after_log-none, after_log-append, after_stores-append, LaneFault, StoreFault, none_refused, kind_count, column_then, run_declared, run_stored, value_more, fault_here, first_taken, nothing_stored, fit_answer, fit_kept, map_same, store_refusal, after_run, told_run, IsFrontStored, IsSet, reads_signed, reads_unsigned}
 use Rattle.std.specs.Prelude.{Option}
-use Rattle.std.proofs.Math.Seq.{take-add}
-use Rattle.std.proofs.lemmas.Int.{ints, of_z-to_z}
-use Rattle.std.proofs.lemmas.List.{drop-drop, drop-map, get_or-map, get_or-take, length-map, length-take-le, take-append-drop, take-map, take-take}
-use Rattle.record_dim.specs.LeafTypes.{IsDeclared, is_signed, least_in, width_of}
-use Rattle.record_dim.specs.declared.leaf_type.LeafType.{LeafType}
 use Rattle.record_dim.specs.declared.leaf_type.LeafType.TheVariants as kinds
-use Rattle.places.specs.PlacesLaws.{range_split}
-use Rattle.piece_bits.specs.Tables.{hold_at}
-use Rattle.piece_bits.specs.Lows.{low_64}
-use Rattle.lane_kernels.proofs.Faults.{lane_inside, told_some}
-use Rattle.views.specs.Columns.{column, column_reads, column_writes, with_column, lane_fault, first_lane_fault}
-use Rattle.views.specs.ColumnsLaws.{length-with_column, no_column}
-use Rattle.views.specs.Runs.{raised, run_of, run_fault, stored_count, told_lane, with_run, TakesAll}
-use Rattle.views.specs.RunsLaws.{declared_within, raised_all, run_length}
-use Rattle.views.specs.Stores.{Answer, Fits, told}
-use Rattle.views.specs.Tables.{Table, IsTable, answer_of, kept_of, leaf_count_of, leaf_type_of, table_holds, after_log, after_stores, after_write}
-use Rattle.views.specs.Tallies.{Read, Write}
-use Rattle.views.specs.TallyLaws.{after_log-none, after_log-append, after_stores-append}
-use Rattle.views.specs.declared.fault.LaneFault.{LaneFault}
-use Rattle.views.specs.declared.fault.StoreFault.{StoreFault}
-use Rattle.views.proofs.KeptColumns.{none_refused}
-use Rattle.views.proofs.KeptLaws.{kind_count}
-use Rattle.views.proofs.RunLaws.{column_then}
-use Rattle.views.proofs.RunSeenLaws.{run_declared}
-use Rattle.views.proofs.RunStoreLaws.{run_stored, value_more}
-use Rattle.views.proofs.StoredLaws.{fault_here, first_taken, nothing_stored}
-use Rattle.views.proofs.StoreLaws.{fit_answer, fit_kept, map_same}
+use Rattle.views.specs.Runs.{run_fault}
+use Rattle.views.specs.Stores.{Answer, told}
 use Rattle.c_lines.specs.Answers as calls
-use Rattle.c_lines.specs.Refusals.{store_refusal}
-use Rattle.c_lines.specs.Runs.{after_run, told_run, IsFrontStored, IsSet}
-use Rattle.c_lines.specs.Values.{reads_signed, reads_unsigned}
 
 -- what is said of rows one after another, of those behind them too
 both_parts : {A : Type 0} (f : ℕ → A) (first done count : ℕ) → map f (range_with_len first done) ++ map f (range_with_len (first + done) count) ≡ map f (range_with_len first (done + count))

@@ -1,35 +1,7 @@
 -- The tests of the model that make a view or fit a kernel tell their faults by their causes alone, and read no file.
-use Rattle.std.proofs.Common.{◌≡◌, ◌||◌, ℕ, ◌+◌, ◌*◌, ◌^◌, ◌≤◌, nat_lt, Bool, true, false, not, List, [], Option, Some, refl, ⊎_elim, arith}
-use Rattle.std.proofs.lemmas.Bool.{cases_Bool}
-use Rattle.std.proofs.lemmas.Bool.Decides.{nat_tests}
-use Rattle.extents.specs.Shapes.{bad_shape, bad_extents, extents_for}
-use Rattle.extents.specs.declared.words.BadExtents.{BadExtents}
-use Rattle.extents.specs.declared.words.ExtentWord.{ExtentWord}
-use Rattle.expr_lang.specs.Binding.{leaf_number}
-use Rattle.piece_bits.specs.declared.mode.StoreMode.{StoreMode}
-use Rattle.line_grammar.specs.Sentences.{New}
-use Rattle.line_grammar.specs.declared.line.KernelText.{KernelText}
+use Rattle.c_lines.proofs.Imports.{◌≡◌, ◌||◌, ℕ, ◌+◌, ◌*◌, ◌^◌, ◌≤◌, nat_lt, Bool, true, false, not, List, [], Option, Some, refl, ⊎_elim, arith, cases_Bool, nat_tests, bad_shape, bad_extents, extents_for, BadExtents, ExtentWord, leaf_number, StoreMode, New, KernelText, accepted, leaf_cells, most_slots, Term, Split, Byteswap, Bytesplit, Change, Count, Heat, Name, BadMapping, kinds_of, paths_of, Fields, PathStep, Table, owners_of, granules_for, are_lanes, fits, fit_kernel, fit_leaf, is_wide, is_factor, is_constant, are_bounds, nameless, leaf_of, Outcome, Goes, ◌>>=◌, known, refused_if, refused_by, ok_or, made, resolved, shaped, zeros_of, blob_bits, live_bits, named, World, Entry, found, Lanes, Wide, Constant, CommandFault, Unknown, OfExtents, OfMapping, BadKernel, TooBig, UnknownName, TablesLeaveRoom}
 use Rattle.line_grammar.specs.declared.line.KernelText.TheVariants as text
-use Rattle.map_checks.specs.Mappings.{accepted, leaf_cells, most_slots}
-use Rattle.map_expr.specs.Terms.{Term, Split, Byteswap, Bytesplit, Change, Count, Heat, Named as Name}
-use Rattle.map_expr.specs.declared.check.BadMapping.{BadMapping}
-use Rattle.record_dim.specs.Leaves.{kinds_of, paths_of}
-use Rattle.record_dim.specs.Trees.{Fields}
-use Rattle.record_dim.specs.declared.path.PathStep.{PathStep}
-use Rattle.views.specs.Tables.{Table, owners_of}
-use Rattle.views.specs.Tallies.{granules_for}
-use Rattle.worlds.specs.Kernel.{are_lanes, fits, fit_kernel, fit_leaf, is_wide, is_factor, is_constant, are_bounds}
-use Rattle.worlds.specs.Names.{nameless, leaf_of}
-use Rattle.worlds.specs.Outcomes.{Outcome, Goes, ◌>>=◌, known, refused_if, refused_by, ok_or}
-use Rattle.worlds.specs.Tables.{made, resolved, shaped, zeros_of, blob_bits, live_bits}
-use Rattle.worlds.specs.View.{named}
-use Rattle.worlds.specs.Worlds.{World, Entry, found}
-use Rattle.worlds.specs.declared.fault.BadKernel.TheVariants.{Lanes, Wide, Constant}
-use Rattle.worlds.specs.declared.fault.CommandFault.{CommandFault}
-use Rattle.worlds.specs.declared.fault.CommandFault.TheVariants.{Unknown, BadExtents as OfExtents, BadMapping as OfMapping, BadKernel, TooBig}
-use Rattle.worlds.specs.declared.fault.UnknownName.{UnknownName}
 use Rattle.worlds.specs.declared.fault.UnknownName.TheVariants as unknown
-use Rattle.c_lines.specs.Agreement.{TablesLeaveRoom}
 use Rattle.c_lines.proofs.Agreeing.{Any, IsPlain, IsPlainFault, plain_any, plain_as, plain_goes, plain_then, plain_if, plain_by, plain_ok, plain_some}
 
 unknown_name : (name : UnknownName) → IsPlainFault (Unknown name)

@@ -1,31 +1,8 @@
 -- Tables that are laid out anew, by the tests that refuse them and by the copy.
-use Rattle.std.specs.Prelude.{IfOk}
-use Rattle.std.proofs.Common.{◌≡◌, inl, inr, ⊎_elim, ℕ, true, false, nat_lt, List, [], length, Option, Some, None, Result, Ok, Err, refl, sym, ap, subst, ◌∙◌}
-use Rattle.std.proofs.lemmas.Bool.{cases_Bool}
-use Rattle.layout_copy.specs.Copies.{AreAlike, Spot, refused_at}
+use Rattle.c_lines.proofs.Imports.{IfOk, ◌≡◌, inl, inr, ⊎_elim, ℕ, true, false, nat_lt, List, [], length, Option, Some, None, Result, Ok, Err, refl, sym, ap, subst, ◌∙◌, cases_Bool, AreAlike, Spot, refused_at, Sentence, deepest, Two, line_of, Term, StoreMode, Table, answer_of, nameless, Outcome, Goes, Faults, CannotRead, made, zeros_of, CommandFault, alike, StepFault, Answer, Tells, TellsLeft, Refusal, Narrow, TextOf, First, was_copied, source_after, target_after, told_rows, line_told, shallow, after_relaid, mapping_told, relaid, whole_told, zeros_told, told, done_of, refusal_of}
 use Rattle.line_grammar.specs.Sentences as line
-use Rattle.line_grammar.specs.Sentences.{Sentence, deepest}
-use Rattle.line_grammar.specs.declared.version.Version.TheVariants.{Two}
-use Rattle.schema_lang.specs.LineOf.{line_of}
-use Rattle.map_expr.specs.Terms.{Term}
-use Rattle.piece_bits.specs.declared.mode.StoreMode.{StoreMode}
-use Rattle.views.specs.Tables.{Table, answer_of}
-use Rattle.worlds.specs.Names.{nameless}
-use Rattle.worlds.specs.Outcomes.{Outcome, Goes, Faults, CannotRead}
-use Rattle.worlds.specs.Tables.{made, zeros_of}
-use Rattle.worlds.specs.declared.fault.CommandFault.{CommandFault}
 use Rattle.worlds.specs.declared.fault.CommandFault.TheVariants as fault
-use Rattle.command_checks.specs.AlikeLaws.{alike}
-use Rattle.command_checks.specs.declared.fault.StepFault.{StepFault}
-use Rattle.c_lines.specs.Answers.{Answer, Tells, TellsLeft, ◌>>=◌}
-use Rattle.c_lines.specs.declared.refusal.Refusal.{Refusal}
-use Rattle.c_lines.specs.declared.refusal.Refusal.TheVariants.{Narrow}
-use Rattle.c_lines.specs.declared.refusal.TextOf.{TextOf}
-use Rattle.c_lines.specs.declared.refusal.TextOf.TheVariants.{First}
-use Rattle.c_lines.specs.Copies.{was_copied, source_after, target_after, told_rows}
-use Rattle.c_lines.specs.Lines.{line_told, shallow}
-use Rattle.c_lines.specs.Relaid.{after_relaid, mapping_told, relaid, whole_told, zeros_told}
-use Rattle.c_lines.specs.Told.{told, done_of, refusal_of}
+use Rattle.c_lines.specs.Answers.{◌>>=◌}
 use Rattle.c_lines.proofs.Answering.{Refuses}
 
 -- the mapping of a line

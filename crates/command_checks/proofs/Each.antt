@@ -1,11 +1,5 @@
 -- Outcomes of a list, one after another.
-use Rattle.std.proofs.Common.{◌≡◌, ℕ, suc, ◌+◌, ◌<◌, List, [], ◌∷◌, ◌++◌, take, drop, get_or, length, refl, sym, ap, ◌∙◌}
-use Rattle.std.proofs.lemmas.List.{take-append-drop, take_more}
-use Rattle.std.proofs.Math.Seq.{drop-cons}
-use Rattle.worlds.specs.Outcomes.{Outcome, Goes, Faults, CannotRead, ◌>>=◌, each}
-use Rattle.command_checks.specs.Gives.{GivesUp}
-use Rattle.command_checks.specs.GivesLaws.{GivesUp-then}
-use Rattle.command_checks.specs.declared.fault.StepFault.{StepFault}
+use Rattle.command_checks.proofs.Imports.{◌≡◌, ℕ, suc, ◌+◌, ◌<◌, List, [], ◌∷◌, ◌++◌, take, drop, get_or, length, refl, sym, ap, ◌∙◌, take-append-drop, take_more, drop-cons, Outcome, Goes, Faults, CannotRead, ◌>>=◌, each, GivesUp, GivesUp-then, StepFault}
 
 -- a list at one of its places
 pub parts_at : {X : Type 0} (xs : List X) (i : ℕ) (d : X) → i < length xs → take i xs ++ get_or xs i d ∷ drop (suc i) xs ≡ xs

@@ -1,11 +1,5 @@
 -- Spans that are a window.
-use Rattle.std.proofs.Common.{◌≡◌, ℕ, true, false, nat_le, List, [], ◌∷◌, refl}
-use Rattle.std.specs.Prelude.{◌&&◌}
-use Rattle.std.proofs.lemmas.Bool.{and_parts, le-leb, leb-true, false≢true}
-use Rattle.extents.specs.declared.window.Span.{Span}
-use Rattle.extents.specs.Windows.{IsWindow}
-use Rattle.worlds.specs.Outcomes.{Goes}
-use Rattle.worlds.specs.Windows.{are_inside, windowed}
+use Rattle.command_checks.proofs.Imports.{◌≡◌, ℕ, true, false, nat_le, List, [], ◌∷◌, refl, ◌&&◌, and_parts, le-leb, leb-true, false≢true, Span, IsWindow, Goes, are_inside, windowed}
 
 inside_true : (extents : List ℕ) (spans : List Span) → IsWindow extents spans → are_inside extents spans ≡ true
 inside_true [] [] is = refl

@@ -1,3 +1,4 @@
+mod Imports
 pub mod Each
 pub mod Inside
 pub mod Limits

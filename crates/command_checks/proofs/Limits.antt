@@ -1,26 +1,7 @@
 -- New tables and their limits.
-use Rattle.std.proofs.Common.{◌≡◌, ℕ, ◌+◌, ◌-◌, ◌*◌, ◌<◌, ◌≤◌, ◌^◌, Bool, true, false, List, length, nat_lt, take, map, get_or, Ok, refl, sym, ap, ◌∙◌, arith, inl, inr}
-use Rattle.std.specs.Prelude.{◌||◌}
-use Rattle.std.proofs.lemmas.Bool.{false≢true, lt-ltb, or_right}
-use Rattle.std.proofs.lemmas.Bool.Decides.{nat_tests}
-use Rattle.std.proofs.lemmas.List.{get_or-map, length-map}
-use Rattle.std.proofs.lemmas.List.Sums.{sum_by_more}
-use Rattle.extents.specs.Indices.{indices}
-use Rattle.record_dim.specs.Trees.{Fields}
-use Rattle.record_dim.specs.Leaves.{leaves, kinds_of}
-use Rattle.map_expr.specs.Terms.{Term as MapTerm}
-use Rattle.map_checks.specs.Mappings.{leaf_cells, layout_by, accepted, most_slots}
-use Rattle.piece_bits.specs.Tables.{zeros}
-use Rattle.piece_bits.specs.declared.mode.StoreMode.{StoreMode}
-use Rattle.views.specs.Tables.{Table, owners_of, leaf_count_of}
-use Rattle.views.specs.Tallies.{no_tally, granules_for}
-use Rattle.views.specs.Refusals.{IsOver}
-use Rattle.worlds.specs.Worlds.{Entry}
-use Rattle.worlds.specs.Outcomes.{Outcome, Goes, Faults, ◌>>=◌, refused_if}
-use Rattle.worlds.specs.Tables.{made, zeros_of, blob_bits, live_bits}
+use Rattle.command_checks.proofs.Imports.{◌≡◌, ℕ, ◌+◌, ◌-◌, ◌*◌, ◌<◌, ◌≤◌, ◌^◌, Bool, true, false, List, length, take, map, get_or, Ok, refl, sym, ap, ◌∙◌, arith, inl, inr, ◌||◌, false≢true, lt-ltb, or_right, nat_tests, get_or-map, length-map, sum_by_more, indices, Fields, leaves, kinds_of, MapTerm, leaf_cells, layout_by, accepted, most_slots, zeros, StoreMode, Table, owners_of, leaf_count_of, no_tally, granules_for, IsOver, Entry, Outcome, Goes, Faults, ◌>>=◌, refused_if, made, zeros_of, blob_bits, live_bits, view_of, ViewEntry}
+use Rattle.std.proofs.Common.{nat_lt}
 use Rattle.worlds.specs.declared.fault.CommandFault.TheVariants as fault
-use Rattle.command_checks.specs.Entries.{view_of}
-use Rattle.command_checks.specs.declared.entries.ViewEntry.{ViewEntry}
 
 -- the table that a new view is
 pub table_new : (seen : Table) (mode : StoreMode) (fields : Fields) (extents : List ℕ) (term : MapTerm) → seen.mode ≡ mode → seen.fields ≡ fields → seen.extents ≡ extents → seen.mapping ≡ term

@@ -1,13 +1,5 @@
 -- Tables of names, and lists that grow at their end.
-use Rattle.std.proofs.Common.{◌≡◌, ◌∙◌, ℕ, suc, ◌+◌, Bool, true, false, cond, List, [], ◌∷◌, ◌++◌, length, Option, Some, None, refl, sym, ap, subst, arith, ⊎_elim}
-use Rattle.std.proofs.lemmas.Bool.{cases_Bool}
-use Rattle.std.specs.BTreeMap.{BTreeMap, Updates}
-use Rattle.std.specs.Cmp.Lexicographic.{slice_cmp, bytes_decides, texts_ties}
-use Rattle.std.specs.List.{position_from}
-use Rattle.std.specs.Option.{option_or}
-use Rattle.std.specs.Ordering.{nat_cmp}
-use Rattle.worlds.specs.Worlds.{Entry, same_name}
-use Rattle.command_checks.specs.Indexed.{place_in, IsIndex}
+use Rattle.command_checks.proofs.Imports.{◌≡◌, ◌∙◌, ℕ, suc, ◌+◌, Bool, true, false, cond, List, [], ◌∷◌, ◌++◌, length, Option, Some, None, refl, sym, ap, subst, arith, ⊎_elim, cases_Bool, BTreeMap, Updates, slice_cmp, bytes_decides, texts_ties, position_from, option_or, nat_cmp, Entry, same_name, place_in, IsIndex}
 
 -- the last element is looked at last
 position_behind : {K : Type 0} (test : K → Bool) (low : ℕ) (xs : List K) (x : K) →

@@ -1,16 +1,5 @@
 -- The leaves of a pass, path by path.
-use Rattle.std.proofs.Common.{◌≡◌, ℕ, zero, suc, ◌+◌, ◌-◌, ◌<◌, ◌≤◌, List, [], ◌∷◌, ◌++◌, length, take, get_or, append_assoc, refl, sym, ap, ◌∙◌, arith}
-use Rattle.std.specs.List.{range_with_len}
-use Rattle.std.proofs.lemmas.List.{append-nil}
-use Rattle.std.proofs.lemmas.List.Concat.{flat_map-append}
-use Rattle.layout_io.specs.Writing.{joined}
-use Rattle.record_dim.specs.Trees.{Fields}
-use Rattle.record_dim.specs.declared.path.PathStep.{PathStep}
-use Rattle.worlds.specs.Advise.{leaves_at, leaves_under}
-use Rattle.worlds.specs.Outcomes.{Outcome, Goes, Faults, CannotRead, ◌>>=◌, each}
-use Rattle.command_checks.specs.Gives.{GivesUp}
-use Rattle.command_checks.specs.GivesLaws.{GivesUp-then}
-use Rattle.command_checks.specs.declared.fault.StepFault.{StepFault}
+use Rattle.command_checks.proofs.Imports.{◌≡◌, ℕ, zero, suc, ◌+◌, ◌-◌, ◌<◌, ◌≤◌, List, [], ◌∷◌, ◌++◌, length, take, get_or, append_assoc, refl, sym, ap, ◌∙◌, arith, range_with_len, append-nil, flat_map-append, joined, Fields, PathStep, leaves_at, leaves_under, Outcome, Goes, Faults, CannotRead, ◌>>=◌, each, GivesUp, GivesUp-then, StepFault}
 use Rattle.command_checks.proofs.Each.{each_more, each_ends}
 
 -- a number more of a range

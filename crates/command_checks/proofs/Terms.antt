@@ -1,27 +1,6 @@
 -- The terms of a stencil, one after another.
-use Rattle.std.proofs.Common.{◌≡◌, ℕ, zero, suc, ◌+◌, ◌<◌, ◌≤◌, Bool, true, false, not, pos, List, [], ◌∷◌, ◌++◌, length, map, take, get_or, refl, sym, ap, subst, ◌∙◌, arith}
-use Rattle.std.specs.Prelude.{All, ◌&&◌, ◌^◌, nat_lt, int_le}
-use Rattle.std.proofs.lemmas.Bool.{and_parts}
-use Rattle.std.proofs.lemmas.Bool.Decides.{nat_tests}
-use Rattle.std.proofs.lemmas.Int.{ints}
-use Rattle.std.proofs.lemmas.List.{take_more, map-append}
-use Rattle.std.proofs.lemmas.Grind.{common_steps}
-use Rattle.std.proofs.lemmas.List.Sums.{AllPass-from_list_all}
-use Rattle.line_grammar.specs.declared.line.TermText.{TermText}
-use Rattle.record_dim.specs.Trees.{Fields}
-use Rattle.subviews.specs.Plans.{IsTermOf}
-use Rattle.subviews.specs.Stencils.{Weighted, weighted, is_divisor, is_weight, reaches}
-use Rattle.subviews.specs.SubViews.{WindowOf}
-use Rattle.subviews.specs.declared.term.Term.{Term}
-use Rattle.worlds.specs.Names.{leaf_of}
-use Rattle.worlds.specs.Outcomes.{Goes, ◌>>=◌, refused_if}
-use Rattle.worlds.specs.Stencil.{all_reach, all_weigh, bound_term, fit_terms}
-use Rattle.worlds.specs.declared.fault.BadStencil.TheVariants.{Reach, Weight, Terms, Rounds}
-use Rattle.worlds.specs.declared.fault.CommandFault.TheVariants.{BadStencil}
-use Rattle.command_checks.specs.Gives.{GivesUp}
-use Rattle.command_checks.specs.GivesLaws.{GivesUp-then}
-use Rattle.command_checks.specs.Stencils.{placed_term, weighted_at}
-use Rattle.command_checks.specs.declared.fault.StepFault.{StepFault}
+use Rattle.command_checks.proofs.Imports.{◌≡◌, ℕ, zero, suc, ◌+◌, ◌<◌, ◌≤◌, Bool, true, false, not, pos, List, [], ◌∷◌, ◌++◌, length, map, take, get_or, refl, sym, ap, subst, ◌∙◌, arith, All, ◌&&◌, nat_lt, int_le, and_parts, nat_tests, ints, take_more, map-append, common_steps, AllPass-from_list_all, TermText, Fields, IsTermOf, Weighted, weighted, is_divisor, is_weight, reaches, WindowOf, Term, leaf_of, Goes, ◌>>=◌, refused_if, all_reach, all_weigh, bound_term, fit_terms, Reach, Weight, Terms, Rounds, BadStencil, GivesUp, GivesUp-then, placed_term, weighted_at, StepFault}
+use Rattle.std.specs.Prelude.{◌^◌}
 
 -- ---- the leaves of terms
 

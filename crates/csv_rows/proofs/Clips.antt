@@ -1,21 +1,6 @@
 -- A number that is further from 0 than any leaf reaches, and the one that is answered in its place.
-use Rattle.std.proofs.Common.{◌≡◌, ◌⊎◌, inl, inr, ℕ, suc, ◌^◌, ◌-◌, ◌<◌, List, ◌≤◌, Bool, true, false, ◌&&◌, ℤ, pos, negsuc, neg_ℤ, ◌<ℤ◌, Result, Ok, Err, Option, Some, None, refl, sym, ap, ◌∙◌, arith, ⊎_elim}
-use Rattle.std.specs.Prelude.{int_le, option_map}
-use Rattle.std.specs.List.{slice_get}
-use Rattle.std.proofs.lemmas.Int.{ints}
-use Rattle.std.proofs.lemmas.Bool.{cases_lt}
-use Rattle.record_dim.specs.declared.leaf_type.LeafType.{LeafType}
-use Rattle.record_dim.specs.declared.leaf_type.LeafType.TheVariants.{Bool as Truth, U8, U16, U32, U64, I8, I16, I32, I64}
-use Rattle.record_dim.specs.LeafTypes.{least_of, greatest_of}
-use Rattle.places.specs.declared.piece.Hold.{Hold}
-use Rattle.piece_bits.specs.declared.mode.StoreMode.{StoreMode}
-use Rattle.piece_bits.specs.declared.mode.StoreMode.TheVariants.{Strict, Wrap}
-use Rattle.views.specs.Stores.{store_answer}
-use Rattle.views.specs.declared.fault.StoreFault.TheVariants.{Range}
-use Rattle.piece_bits.specs.Far.{folded, shortened}
-use Rattle.piece_bits.specs.FarLaws.{folded_near, folded_far, shortened_kept}
-use Rattle.csv_rows.specs.Datasets.{◌>>=◌, Place, unspaced, number_of, the_field, the_number, taken, value_at}
-use Rattle.csv_rows.specs.declared.fault.RowFault.{RowFault}
+use Rattle.csv_rows.proofs.Imports.{◌≡◌, ◌⊎◌, inl, inr, ℕ, suc, ◌^◌, ◌-◌, ◌<◌, List, ◌≤◌, Bool, true, false, ◌&&◌, ℤ, pos, negsuc, neg_ℤ, ◌<ℤ◌, Result, Ok, Err, Option, Some, None, refl, sym, ap, ◌∙◌, arith, ⊎_elim, int_le, slice_get, ints, cases_lt, LeafType, Truth, U8, U16, U32, U64, I8, I16, I32, I64, least_of, greatest_of, Hold, StoreMode, Strict, Wrap, store_answer, Range, folded, shortened, folded_near, folded_far, shortened_kept, ◌>>=◌, Place, unspaced, number_of, the_field, the_number, taken, value_at, RowFault}
+use Rattle.std.specs.Prelude.{option_map}
 use Rattle.csv_rows.proofs.CsvReads.{some_is}
 
 int_le-false : (a b : ℤ) → b <ℤ a → int_le a b ≡ false

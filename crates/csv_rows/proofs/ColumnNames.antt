@@ -1,20 +1,6 @@
 -- The path texts of a record that is fit are names that a header can have.
-use Rattle.std.proofs.Common.{◌≡◌, ℕ, zero, suc, ◌*◌, ◌<◌, ◌≤◌, ◌^◌, Bool, true, false, nat_eq, None, Some, List, [], ◌∷◌, length, map, refl, sym, ap, subst, ◌∙◌, arith}
-use Rattle.std.specs.List.{list_all, list_any, slice_get}
-use Rattle.std.specs.Cmp.Lexicographic.{pointwise}
-use Rattle.std.proofs.lemmas.List.{length-map}
-use Rattle.std.proofs.lemmas.List.Folds.{list_all-append}
-use Rattle.std.proofs.lemmas.Option.{slice_get_within}
-use Rattle.record_dim.specs.declared.path.PathStep.{PathStep}
-use Rattle.record_dim.specs.declared.path.PathStep.TheVariants.{Name}
-use Rattle.record_dim.specs.Trees.{Tree, Single, Record, Array, Fields, End, Field}
-use Rattle.record_dim.specs.Leaves.{Leaf, leaves_of, leaves, paths_of, texts_of, names_of, has_names, has_twice, records_of, records_below, first_fault}
-use Rattle.record_dim.specs.Names.{is_name}
-use Rattle.record_dim.specs.NameBytesLaws.{both, same_text}
-use Rattle.record_dim.specs.Paths.{BeginsWithName, path_text_of}
-use Rattle.record_dim.proofs.Apart.{paths_at, IsApart, InEither, in_front, in_back, in_either, in_map, paths_field, in_field, InElement, in_element, apart_tree}
-use Rattle.record_dim.proofs.Fit.{fit_from, fit_few}
-use Rattle.record_dim.proofs.Walks.{length-leaves, length-leaves_of_array}
+use Rattle.csv_rows.proofs.Imports.{◌≡◌, ℕ, zero, suc, ◌*◌, ◌<◌, ◌≤◌, ◌^◌, Bool, true, false, nat_eq, None, Some, List, [], ◌∷◌, length, map, refl, sym, ap, subst, ◌∙◌, arith, list_all, list_any, slice_get, pointwise, length-map, list_all-append, slice_get_within, PathStep, Name, Tree, Single, Record, Array, Fields, End, Field, leaves_of, leaves, paths_of, texts_of, names_of, has_names, has_twice, records_below, first_fault, is_name, both, same_text, BeginsWithName, path_text_of, paths_at, IsApart, InEither, in_front, in_back, in_either, in_map, paths_field, in_field, InElement, in_element, apart_tree, fit_from, fit_few, length-leaves, length-leaves_of_array}
+use Rattle.record_dim.specs.Leaves.{Leaf, records_of}
 use Rattle.csv_rows.proofs.PlainTexts.{is_plain_text, AreColumnNames}
 use Rattle.csv_rows.proofs.PathTexts.{IsPlainPath, path_plain, same_paths}
 use Rattle.csv_rows.proofs.PrintedBytes.{and_both}

@@ -1,19 +1,7 @@
 -- The records of a text, counted from quote to quote.
-use Rattle.std.proofs.Common.{◌≡◌, ℕ, suc, ◌+◌, ◌-◌, ◌<◌, ◌≤◌, Bool, true, false, nat_eq, List, [], ◌∷◌, ◌++◌, Option, Some, None, length, take, drop, get_or, refl, sym, ap, subst, ◌∙◌, arith, append-nil}
-use Rattle.std.specs.Prelude.{All, ◌||◌, if◌then◌else◌}
-use Rattle.std.specs.List.{slice_get}
-use Rattle.std.proofs.lemmas.Bool.{false_from_ne_true}
-use Rattle.std.proofs.lemmas.List.{take-append-drop, take_all, drop_all, drop_more, length-take-le, get_or-take, get_or_default}
-use Rattle.std.proofs.lemmas.List.Elements.{All-head, All-tail}
-use Rattle.memchr.specs.Find.{IsFirstByte, is_byte, is_byte3}
-use Rattle.csv.specs.Machine.{next_record, Read, step, is_end, ends_at_end, fields_after, field_after}
-use Rattle.csv.specs.Reading.{default_config}
-use Rattle.csv.specs.declared.parser.State.{State}
+use Rattle.csv_rows.proofs.Imports.{◌≡◌, ℕ, suc, ◌+◌, ◌-◌, ◌<◌, ◌≤◌, Bool, true, false, nat_eq, List, [], ◌∷◌, ◌++◌, Option, Some, None, length, take, drop, get_or, refl, sym, ap, subst, ◌∙◌, arith, append-nil, All, ◌||◌, if◌then◌else◌, slice_get, false_from_ne_true, take-append-drop, take_all, drop_all, drop_more, length-take-le, get_or-take, get_or_default, All-head, All-tail, IsFirstByte, is_byte, is_byte3, next_record, Read, step, is_end, ends_at_end, fields_after, field_after, default_config, State, Action, is_comma, opens_behind, HasNoQuote, IsPlain, record_count, field_state, quote_state}
 use Rattle.csv.specs.declared.parser.State.TheVariants as st
-use Rattle.csv.specs.declared.parser.Action.{Action}
 use Rattle.csv.specs.declared.parser.Action.TheVariants as act
-use Rattle.csv_rows.specs.Plain.{is_comma, opens_behind, HasNoQuote, IsPlain}
-use Rattle.csv_rows.specs.Readers.{record_count, field_state, quote_state}
 use Rattle.csv_rows.proofs.CsvReads.{one_record, no_record, some_is}
 use Rattle.csv_rows.proofs.FirstLines.{byte_before}
 use Rattle.csv_rows.proofs.PlainLines.{stepped, same_rows, number_is, record_here, is_line, EndsHere}

@@ -1,10 +1,5 @@
 -- The fields of a line, one after another.
-use Rattle.std.proofs.Common.{◌≡◌, ℕ, zero, suc, ◌+◌, ◌-◌, ◌<◌, ◌≤◌, List, [], ◌∷◌, ◌++◌, length, take, drop, get_or, Some, sym, ap, ◌∙◌, ⊎_elim, arith}
-use Rattle.std.specs.List.{slice_get, slice_split}
-use Rattle.std.proofs.lemmas.Bool.{cases_lt}
-use Rattle.std.proofs.lemmas.List.{take-append-drop, drop-drop, drop_more, take_all, length-drop}
-use Rattle.std.proofs.lemmas.List.Splits.{slice_split_none, slice_split_at}
-use Rattle.csv_rows.specs.Plain.{is_comma, IsFirstField, IsField}
+use Rattle.csv_rows.proofs.Imports.{◌≡◌, ℕ, zero, suc, ◌+◌, ◌-◌, ◌<◌, ◌≤◌, List, [], ◌∷◌, ◌++◌, length, take, drop, get_or, Some, sym, ap, ◌∙◌, ⊎_elim, arith, slice_get, slice_split, cases_lt, take-append-drop, drop-drop, drop_more, take_all, length-drop, slice_split_none, slice_split_at, is_comma, IsFirstField, IsField}
 
 -- the first field, and those behind its comma
 field_split : (xs : List ℕ) (n : ℕ) → IsFirstField xs n → n < length xs → slice_split is_comma xs ≡ take n xs ∷ slice_split is_comma (drop (n + 1) xs)

@@ -1,17 +1,5 @@
 -- The first fault of a dataset: what holds of each that a value or a name may have holds of it.
-use Rattle.std.proofs.Common.{◌≡◌, ◌⊎◌, inl, inr, ℕ, ◌+◌, ℤ, List, [], ◌∷◌, Option, Some, None, Result, Ok, Err, IfErr, refl, sym, ap, subst, ◌∙◌}
-use Rattle.std.specs.List.{slice_get, enumerate_from}
-use Rattle.record_dim.specs.Leaves.{texts_of}
-use Rattle.record_dim.specs.declared.leaf_type.LeafType.{LeafType}
-use Rattle.places.specs.declared.piece.Hold.{Hold}
-use Rattle.piece_bits.specs.declared.mode.StoreMode.{StoreMode}
-use Rattle.piece_bits.specs.declared.mode.StoreMode.TheVariants.{Wrap}
-use Rattle.views.specs.Stores.{store_answer}
-use Rattle.views.specs.Tables.{Table, leaf_types_of, table_holds}
-use Rattle.csv_rows.specs.Datasets.{◌>>=◌, Place, unspaced, number_of, the_field, the_number, taken, value_at, row_values, table_from, with_columns, columns_named, one_column, columns_of, header_of, rows_of, dataset_table}
-use Rattle.csv_rows.specs.Loads.{dataset_of, IsNoRefusal}
-use Rattle.csv_rows.specs.declared.fault.RowFault.{RowFault}
-use Rattle.csv_rows.specs.declared.fault.RowFault.TheVariants.{MissingColumn, ColumnTwice, NoMemory}
+use Rattle.csv_rows.proofs.Imports.{◌≡◌, ◌⊎◌, inl, inr, ℕ, ◌+◌, ℤ, List, [], ◌∷◌, Option, Some, None, Result, Ok, Err, IfErr, refl, sym, ap, subst, ◌∙◌, slice_get, enumerate_from, texts_of, LeafType, Hold, StoreMode, Wrap, store_answer, Table, leaf_types_of, table_holds, ◌>>=◌, Place, unspaced, number_of, the_field, the_number, taken, value_at, row_values, table_from, with_columns, columns_named, one_column, columns_of, header_of, rows_of, dataset_table, dataset_of, IsNoRefusal, RowFault, MissingColumn, ColumnTwice, NoMemory}
 
 abbrev err_or : {A : Type 0} → RowFault → Result A RowFault → RowFault
 err_or d (Ok x) = d

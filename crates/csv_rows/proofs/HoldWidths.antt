@@ -1,19 +1,5 @@
 -- No leaf is stored in more than 64 bits, whatever the mapping.
-use Rattle.std.proofs.Common.{ℕ, zero, suc, ◌≤◌, Bool, true, false, List, [], ◌∷◌, min, arith}
-use Rattle.record_dim.specs.LeafTypes.{width_of}
-use Rattle.record_dim.specs.Trees.{Fields}
-use Rattle.places.specs.Holds.{hold_of, hold_within, full_holds, narrow_holds}
-use Rattle.places.specs.WidthsLaws.{width_narrow}
-use Rattle.places.specs.declared.piece.Cell.{Cell}
-use Rattle.places.specs.declared.piece.Hold.{Hold}
-use Rattle.piece_bits.specs.Tables.{hold_at}
-use Rattle.map_expr.specs.Terms.{Term, Aos, Soa, Aosoa, BitAos, BitSoa, Split, Byteswap, Bytesplit, Change, Count, Heat, Named}
-use Rattle.map_bytes.specs.Cells.{changed}
-use Rattle.map_split.specs.Sides.{merged}
-use Rattle.map_checks.specs.Sides.{side_of, cells_under, cells_beside}
-use Rattle.map_checks.specs.Mappings.{leaf_cells, holds_of}
-use Rattle.map_checks.specs.Widths.{cell_widths}
-use Rattle.views.specs.Tables.{Table, leaf_types_of, table_holds}
+use Rattle.csv_rows.proofs.Imports.{ℕ, zero, suc, ◌≤◌, Bool, true, false, List, [], ◌∷◌, min, arith, width_of, Fields, hold_of, hold_within, full_holds, narrow_holds, width_narrow, Cell, Hold, hold_at, Term, Aos, Soa, Aosoa, BitAos, BitSoa, Split, Byteswap, Bytesplit, Change, Count, Heat, Named, changed, merged, side_of, cells_under, cells_beside, leaf_cells, holds_of, cell_widths, Table, leaf_types_of, table_holds}
 
 -- no hold of a list has more
 abbrev AreFew : List Hold → Type 0

@@ -1,9 +1,5 @@
 -- What is kept of the values of a row, one value more.
-use Rattle.std.proofs.Common.{◌≡◌, ℕ, zero, suc, ◌+◌, ℤ, List, [], ◌∷◌, length, map, set, refl, ap, ◌∙◌, arith}
-use Rattle.std.specs.List.{enumerate_from}
-use Rattle.std.proofs.lemmas.List.{length-map}
-use Rattle.std.proofs.lemmas.List.FromFn.{length-enumerate_from}
-use Rattle.views.specs.Stores.{Keeping, kept_row}
+use Rattle.csv_rows.proofs.Imports.{◌≡◌, ℕ, zero, suc, ◌+◌, ℤ, List, [], ◌∷◌, length, map, set, refl, ap, ◌∙◌, arith, enumerate_from, length-map, length-enumerate_from, Keeping, kept_row}
 
 -- the same of leaves from this one on
 abbrev kept_from : Keeping → ℕ → List ℤ → List ℤ

@@ -1,18 +1,5 @@
 -- The leaves of a view, read from a row's fields one after another.
-use Rattle.std.proofs.Common.{◌≡◌, ℕ, zero, suc, ◌+◌, ◌<◌, ◌≤◌, false, ℤ, List, [], ◌∷◌, length, take, drop, get_or, set, Result, Ok, Err, refl, sym, ap, ◌∙◌, arith, append-nil}
-use Rattle.std.proofs.lemmas.List.{at_drop_more, drop_all, take_all, take_more_set, length-map}
-use Rattle.record_dim.specs.Leaves.{leaves}
-use Rattle.record_dim.specs.declared.leaf_type.LeafType.{LeafType}
-use Rattle.record_dim.specs.declared.leaf_type.LeafType.TheVariants.{Bool as Truth}
-use Rattle.places.specs.declared.piece.Hold.{Hold}
-use Rattle.piece_bits.specs.Tables.{hold_at}
-use Rattle.piece_bits.specs.declared.mode.StoreMode.{StoreMode}
-use Rattle.piece_bits.specs.declared.mode.StoreMode.TheVariants.{Strict}
-use Rattle.views.specs.Stores.{kind_at, kept_row}
-use Rattle.views.specs.Tables.{Table, leaf_count_of, leaf_types_of, table_holds, kept_of}
-use Rattle.csv_rows.specs.Datasets.{◌>>=◌, Leaf, with_columns, value_at, row_values}
-use Rattle.csv_rows.specs.Loads.{place_of, leaves_in}
-use Rattle.csv_rows.specs.declared.fault.RowFault.{RowFault}
+use Rattle.csv_rows.proofs.Imports.{◌≡◌, ℕ, zero, suc, ◌+◌, ◌<◌, ◌≤◌, false, ℤ, List, [], ◌∷◌, length, take, drop, get_or, set, Result, Ok, Err, refl, sym, ap, ◌∙◌, arith, append-nil, at_drop_more, drop_all, take_all, take_more_set, length-map, leaves, LeafType, Truth, Hold, hold_at, StoreMode, Strict, kind_at, kept_row, Table, leaf_count_of, leaf_types_of, table_holds, kept_of, ◌>>=◌, Leaf, with_columns, value_at, row_values, place_of, leaves_in, RowFault}
 use Rattle.csv_rows.proofs.KeptRows.{kept_set, length-kept_row}
 use Rattle.csv_rows.proofs.Sequences.{behind, behind-behind, one_behind}
 

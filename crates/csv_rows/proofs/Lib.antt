@@ -1,3 +1,4 @@
+mod Imports
 pub mod Accesses
 pub mod Asked
 pub mod Clips

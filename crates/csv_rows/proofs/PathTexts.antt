@@ -1,15 +1,6 @@
 -- The text of a path of names and small numbers is plain, and no other path has it.
-use Rattle.std.proofs.Common.{◌≡◌, ℕ, ◌<◌, ◌^◌, Bool, true, false, List, [], ◌∷◌, ◌++◌, refl, ap, ◌∙◌, append_assoc, arith}
-use Rattle.std.specs.List.{list_all, flat_map}
-use Rattle.std.specs.Char.{is_ascii_digit}
-use Rattle.std.specs.Fmt.{decimal}
-use Rattle.std.proofs.lemmas.Bool.Decides.{nat_tests}
-use Rattle.std.proofs.lemmas.Fmt.{decimal_injective}
-use Rattle.record_dim.specs.declared.path.PathStep.{PathStep}
-use Rattle.record_dim.specs.declared.path.PathStep.TheVariants.{Name, At}
-use Rattle.record_dim.specs.Names.{begins_name, continues_name, is_word, is_name}
-use Rattle.record_dim.specs.NameBytesLaws.{both}
-use Rattle.record_dim.specs.Paths.{BeginsWithName, step_text, path_text_of}
+use Rattle.csv_rows.proofs.Imports.{◌≡◌, ℕ, ◌<◌, ◌^◌, Bool, true, false, List, [], ◌∷◌, ◌++◌, refl, ap, ◌∙◌, append_assoc, arith, list_all, is_ascii_digit, decimal, nat_tests, decimal_injective, PathStep, Name, At, begins_name, continues_name, is_word, is_name, both, BeginsWithName, step_text, path_text_of}
+use Rattle.std.specs.List.{flat_map}
 use Rattle.csv_rows.proofs.PlainTexts.{is_plain_byte, is_plain_text}
 use Rattle.csv_rows.proofs.PrintedBytes.{and_both, all_joined, plain_letters, plain_digits, decimal_are}
 

@@ -1,18 +1,7 @@
 -- Records that are lines in which no byte is a quote.
-use Rattle.std.proofs.Common.{◌≡◌, ℕ, suc, ◌<◌, Bool, true, false, cond, nat_eq, List, [], ◌∷◌, ◌++◌, Option, Some, None, length, take, drop, get_or, refl, sym, ap, subst, ◌∙◌, arith, append_assoc, append-nil}
-use Rattle.std.specs.Prelude.{All, ⊤, if◌then◌else◌}
-use Rattle.std.specs.List.{slice_split, onto_first}
-use Rattle.std.proofs.lemmas.Bool.Decides.{nat_tests}
-use Rattle.std.proofs.lemmas.List.{take-append-drop}
-use Rattle.std.proofs.lemmas.List.Elements.{All-nil, All-cons, All-drop}
-use Rattle.csv.specs.Machine.{next_record, Read, step, start_field, is_end, fields_after, field_after}
-use Rattle.csv.specs.Reading.{default_config}
-use Rattle.csv.specs.declared.parser.State.{State}
+use Rattle.csv_rows.proofs.Imports.{◌≡◌, ℕ, suc, ◌<◌, Bool, true, false, cond, nat_eq, List, [], ◌∷◌, ◌++◌, Option, Some, None, length, take, drop, get_or, refl, sym, ap, subst, ◌∙◌, arith, append_assoc, append-nil, All, ⊤, if◌then◌else◌, slice_split, onto_first, nat_tests, take-append-drop, All-nil, All-cons, All-drop, next_record, Read, step, start_field, is_end, fields_after, field_after, default_config, State, Action, rows_from, text_behind, is_comma, is_line_end, line_start, line_length, first_line, behind_line, HasNoQuote, IsPlain}
 use Rattle.csv.specs.declared.parser.State.TheVariants as st
-use Rattle.csv.specs.declared.parser.Action.{Action}
 use Rattle.csv.specs.declared.parser.Action.TheVariants as act
-use Rattle.csv_rows.specs.Readers.{rows_from, text_behind}
-use Rattle.csv_rows.specs.Plain.{is_comma, is_line_end, line_start, line_length, first_line, behind_line, HasNoQuote, IsPlain}
 use Rattle.csv_rows.proofs.CsvReads.{one_record, no_record}
 
 -- one byte is read

@@ -1,15 +1,6 @@
 -- Numbers as most are written: digits, behind a minus or not.
-use Rattle.std.proofs.Common.{◌≡◌, ℕ, zero, suc, ◌+◌, ◌<◌, ◌≤◌, Bool, true, false, ℤ, pos, neg_ℤ, ◌-ℤ◌, FitsSigned, Option, List, [], ◌∷◌, length, take, drop, get_or, Some, None, refl, sym, ap, subst, ◌∙◌, arith}
-use Rattle.std.specs.Prelude.{if◌then◌else◌, option_map, ◌^◌}
-use Rattle.std.specs.Int.{w128}
-use Rattle.std.specs.Char.{is_ascii_digit}
-use Rattle.std.specs.List.{list_all}
-use Rattle.std.specs.Str.Parse.{digits_value}
-use Rattle.std.proofs.lemmas.Int.{ints}
-use Rattle.csv_rows.specs.Datasets.{unspaced, all_digits, digits_number, number_of}
-use Rattle.piece_bits.specs.Far.{folded, shortened}
-use Rattle.piece_bits.specs.FarLaws.{folded_near}
-use Rattle.csv_rows.specs.Plain.{is_comma, is_line_end, IsFieldHere}
+use Rattle.csv_rows.proofs.Imports.{◌≡◌, ℕ, zero, suc, ◌+◌, ◌<◌, ◌≤◌, Bool, true, false, ℤ, pos, neg_ℤ, ◌-ℤ◌, FitsSigned, Option, List, [], ◌∷◌, length, take, drop, get_or, Some, None, refl, sym, ap, subst, ◌∙◌, arith, if◌then◌else◌, w128, is_ascii_digit, list_all, digits_value, ints, unspaced, all_digits, digits_number, number_of, folded, shortened, folded_near, is_comma, is_line_end, IsFieldHere}
+use Rattle.std.specs.Prelude.{option_map, ◌^◌}
 use Rattle.csv_rows.proofs.CsvReads.{some_is}
 use Rattle.csv_rows.proofs.PrintedBytes.{AreDigits, unspaced_same, digits_write, minus_writes}
 

@@ -1,20 +1,6 @@
 -- What is printed of a table is the dataset of the same table.
-use Rattle.std.proofs.Common.{◌≡◌, ℕ, ◌<◌, true, List, [], ◌∷◌, length, get_or, map, ℤ, Result, Ok, refl, sym, ap, ◌∙◌, arith}
-use Rattle.std.specs.List.{list_all, range_with_len}
-use Rattle.record_dim.specs.declared.leaf_type.LeafType.{LeafType}
-use Rattle.places.specs.declared.piece.Hold.{Hold}
-use Rattle.std.proofs.lemmas.List.{length-map}
-use Rattle.record_dim.specs.Leaves.{leaves, texts_of}
-use Rattle.record_dim.specs.Paths.{path_text_of}
-use Rattle.views.specs.Tables.{Table, IsTable, leaf_types_of, table_holds}
-use Rattle.piece_bits.specs.declared.mode.StoreMode.{StoreMode}
-use Rattle.views.specs.Stores.{AllStay}
-use Rattle.csv_rows.specs.Loads.{dataset_of}
-use Rattle.layout_io.specs.Decimal.{decimal_text}
-use Rattle.csv_rows.specs.Datasets.{◌>>=◌, records_of, with_columns, table_from, dataset_table}
+use Rattle.csv_rows.proofs.Imports.{◌≡◌, ℕ, ◌<◌, true, List, [], ◌∷◌, length, get_or, map, ℤ, Result, Ok, refl, sym, ap, ◌∙◌, arith, list_all, range_with_len, LeafType, Hold, length-map, leaves, texts_of, path_text_of, Table, IsTable, leaf_types_of, table_holds, StoreMode, AllStay, dataset_of, decimal_text, ◌>>=◌, records_of, with_columns, table_from, dataset_table, print_text, RowFault}
 use Rattle.csv_rows.proofs.PlainTexts.{AreColumnNames, is_plain_text}
-use Rattle.csv_rows.specs.Texts.{print_text}
-use Rattle.csv_rows.specs.declared.fault.RowFault.{RowFault}
 use Rattle.csv_rows.proofs.PrintedBytes.{and_both}
 use Rattle.csv_rows.proofs.PrintedLines.{is_plain_row, rows_read, print_rows_text}
 use Rattle.csv_rows.proofs.PrintedColumns.{own_columns}

@@ -1,15 +1,6 @@
 -- In a header of names each leaf has the column of its own number.
-use Rattle.std.proofs.Common.{◌≡◌, ℕ, suc, ◌+◌, Bool, true, false, nat_eq, List, [], ◌∷◌, ◌++◌, length, Ok, Result, refl, sym, ap, subst, ◌∙◌, arith, append_assoc}
-use Rattle.std.specs.Prelude.{if◌then◌else◌}
-use Rattle.std.specs.List.{list_all, list_any, enumerate_from, range_with_len}
-use Rattle.std.specs.Cmp.Lexicographic.{pointwise}
-use Rattle.std.proofs.lemmas.List.{length_push}
-use Rattle.record_dim.specs.Leaves.{has_twice}
-use Rattle.record_dim.specs.NameBytesLaws.{both, same_text, text_self}
-use Rattle.record_dim.proofs.Fit.{neither}
-use Rattle.csv_rows.specs.Datasets.{◌>>=◌, columns_named, one_column, columns_of}
+use Rattle.csv_rows.proofs.Imports.{◌≡◌, ℕ, suc, ◌+◌, Bool, true, false, nat_eq, List, [], ◌∷◌, ◌++◌, length, Ok, Result, refl, sym, ap, subst, ◌∙◌, arith, append_assoc, if◌then◌else◌, list_all, list_any, enumerate_from, range_with_len, pointwise, length_push, has_twice, both, same_text, text_self, neither, ◌>>=◌, columns_named, one_column, columns_of, RowFault}
 use Rattle.csv_rows.proofs.PlainTexts.{is_plain_text}
-use Rattle.csv_rows.specs.declared.fault.RowFault.{RowFault}
 use Rattle.csv_rows.proofs.PrintedBytes.{unspaced_same}
 use Rattle.csv_rows.proofs.PrintedLines.{plain_part}
 

@@ -1,19 +1,7 @@
 -- The records of lines of plain parts are these parts.
-use Rattle.std.proofs.Common.{◌≡◌, ℕ, ◌+◌, ◌<◌, Bool, true, false, ◌&&◌, nat_eq, List, [], ◌∷◌, ◌++◌, map, flat_map, refl, ap, ◌∙◌, arith, append_assoc, append-nil, ℤ}
-use Rattle.std.specs.Prelude.{All, if◌then◌else◌}
-use Rattle.std.specs.List.{slice_split, list_all, enumerate_from}
-use Rattle.std.proofs.lemmas.List.Elements.{All-append, All-cons}
-use Rattle.std.proofs.lemmas.List.Splits.{slice_split_none, slice_split_at}
-use Rattle.csv.specs.Machine.{next_record}
-use Rattle.csv.specs.Reading.{strip_bom}
+use Rattle.csv_rows.proofs.Imports.{◌≡◌, ℕ, ◌+◌, ◌<◌, Bool, true, false, ◌&&◌, nat_eq, List, [], ◌∷◌, ◌++◌, map, flat_map, refl, ap, ◌∙◌, arith, append_assoc, append-nil, ℤ, All, if◌then◌else◌, slice_split, list_all, enumerate_from, All-append, All-cons, slice_split_none, slice_split_at, next_record, strip_bom, both, decimal_text, rows_from, records_of, is_comma, IsPlain, with_comma, comma_joined, comma_line, print_text}
 use Rattle.csv.specs.declared.parser.State.TheVariants as st
-use Rattle.record_dim.specs.NameBytesLaws.{both}
-use Rattle.layout_io.specs.Decimal.{decimal_text}
-use Rattle.csv_rows.specs.Readers.{rows_from}
-use Rattle.csv_rows.specs.Datasets.{records_of}
-use Rattle.csv_rows.specs.Plain.{is_comma, IsPlain}
 use Rattle.csv_rows.proofs.PlainTexts.{is_plain_byte, is_plain_text}
-use Rattle.csv_rows.specs.Texts.{with_comma, comma_joined, comma_line, print_text}
 use Rattle.csv_rows.proofs.Commas.{comma_behind}
 use Rattle.csv_rows.proofs.CsvReads.{no_record}
 use Rattle.csv_rows.proofs.PlainLines.{skipped, begun, line_rows}

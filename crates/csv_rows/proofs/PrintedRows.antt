@@ -1,21 +1,6 @@
 -- The values that are printed are read again, by a view that can hold them.
-use Rattle.std.proofs.Common.{◌≡◌, ℕ, zero, suc, ◌+◌, ◌^◌, ◌<◌, true, List, [], ◌∷◌, ◌++◌, length, get_or, map, ℤ, pos, negsuc, Some, Result, Ok, refl, sym, ap, subst, ◌∙◌, arith, append_assoc}
-use Rattle.std.specs.List.{slice_get, list_all, range_with_len}
-use Rattle.std.proofs.lemmas.Int.{ints}
-use Rattle.std.proofs.lemmas.List.{length_push}
-use Rattle.record_dim.specs.declared.leaf_type.LeafType.{LeafType}
-use Rattle.record_dim.specs.declared.leaf_type.LeafType.TheVariants.{Bool as Truth, U8, U16, U32, U64, I8, I16, I32, I64}
-use Rattle.record_dim.specs.LeafTypes.{IsDeclared}
-use Rattle.places.specs.declared.piece.Hold.{Hold}
-use Rattle.piece_bits.specs.EntryLaws.{stays_declared}
-use Rattle.piece_bits.specs.declared.mode.StoreMode.{StoreMode}
-use Rattle.views.specs.Stores.{store_answer, Stays, kind_at}
-use Rattle.views.specs.AnswerLaws.{stays_answer}
-use Rattle.piece_bits.specs.Tables.{hold_at}
-use Rattle.layout_io.specs.Decimal.{decimal_text}
-use Rattle.csv_rows.specs.Datasets.{◌>>=◌, Place, the_field, the_number, taken, unspaced, number_of, value_at, row_values, table_from, with_columns}
+use Rattle.csv_rows.proofs.Imports.{◌≡◌, ℕ, zero, suc, ◌+◌, ◌^◌, ◌<◌, true, List, [], ◌∷◌, ◌++◌, length, get_or, map, ℤ, pos, negsuc, Some, Result, Ok, refl, sym, ap, subst, ◌∙◌, arith, append_assoc, slice_get, list_all, range_with_len, ints, length_push, LeafType, Truth, U8, U16, U32, U64, I8, I16, I32, I64, IsDeclared, Hold, stays_declared, StoreMode, store_answer, Stays, kind_at, stays_answer, hold_at, decimal_text, ◌>>=◌, Place, the_field, the_number, taken, unspaced, number_of, value_at, row_values, table_from, with_columns, RowFault}
 use Rattle.csv_rows.proofs.PlainTexts.{is_plain_text}
-use Rattle.csv_rows.specs.declared.fault.RowFault.{RowFault}
 use Rattle.csv_rows.proofs.PrintedBytes.{IsNumberText, number_text, unspaced_same, and_both}
 use Rattle.csv_rows.proofs.PrintedLines.{is_plain_row}
 

@@ -1,8 +1,5 @@
 -- Outcomes that agree, or of which one is refused by a fault of how tables lie.
-use Rattle.std.proofs.Common.{◌≡◌, ℕ, Bool, true, false, List, Option, Some, None, Result, Ok, Err, subst}
-use Rattle.worlds.specs.Outcomes.{Outcome, Goes, Faults, CannotRead, ◌>>=◌, refused_if, refused_by, ok_or}
-use Rattle.worlds.specs.declared.fault.CommandFault.{CommandFault}
-use Rattle.equal_runs.specs.Endings.{is_refused, is_of_layout}
+use Rattle.equal_runs.proofs.Imports.{◌≡◌, ℕ, Bool, true, false, List, Option, Some, None, Result, Ok, Err, subst, Outcome, Goes, Faults, CannotRead, ◌>>=◌, refused_if, refused_by, ok_or, CommandFault, is_refused, is_of_layout}
 
 -- both go to things that are related so, or end alike, or one ends with a fault of how tables lie
 pub data Agree {A : Type 0} (m o : Bool) (R : A → A → Type 0) : Outcome A → Outcome A → Type 0 where

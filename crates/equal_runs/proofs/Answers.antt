@@ -1,18 +1,5 @@
 -- Answers to stores by two holds: both keep a number, the same where both have room for all bits, or one of them says that the value is not held.
-use Rattle.std.proofs.Common.{◌≡◌, Bool, true, false, ℤ, Option, Some, None, Result, Ok, Err, refl}
-use Rattle.std.specs.Prelude.{if◌then◌else◌}
-use Rattle.record_dim.specs.declared.leaf_type.LeafType.{LeafType}
-use Rattle.record_dim.specs.LeafTypes.{least_of, greatest_of, least_in, greatest_in}
-use Rattle.places.specs.declared.piece.Hold.{Hold}
-use Rattle.piece_bits.specs.Kept.{kept}
-use Rattle.piece_bits.specs.declared.mode.StoreMode.{StoreMode}
-use Rattle.piece_bits.specs.declared.mode.StoreMode.TheVariants.{Strict, Wrap}
-use Rattle.views.specs.Stores.{store_answer, kept_or, is_between}
-use Rattle.views.specs.declared.fault.StoreFault.{StoreFault}
-use Rattle.views.specs.declared.fault.StoreFault.TheVariants.{Range, Narrow}
-use Rattle.worlds.specs.Outcomes.{refused_by, ok_or}
-use Rattle.worlds.specs.declared.fault.CommandFault.{CommandFault}
-use Rattle.equal_runs.specs.Endings.{is_of_layout}
+use Rattle.equal_runs.proofs.Imports.{◌≡◌, Bool, true, false, ℤ, Option, Some, None, Result, Ok, Err, refl, if◌then◌else◌, LeafType, least_of, greatest_of, least_in, greatest_in, Hold, kept, StoreMode, Strict, Wrap, store_answer, kept_or, is_between, StoreFault, Range, Narrow, refused_by, ok_or, CommandFault, is_of_layout}
 use Rattle.equal_runs.proofs.Agreeing.{Agree, go, fault, first as first_told, second as second_told, Both}
 
 -- both answers are things, one thing where `Alike` holds, or both are one error, or one is an error of which the test holds

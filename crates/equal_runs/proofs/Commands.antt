@@ -1,58 +1,11 @@
 -- The commands that change or read a table, done to alike worlds.
-use Rattle.std.proofs.Common.{◌≡◌, ℕ, Bool, true, false, ℤ, List, [], ◌∷◌, ◌++◌, length, Option, Some, None, Result, Ok, refl, sym, ap, subst, ◌∙◌}
-use Rattle.std.specs.Prelude.{◌+◌, ◌*◌, ◌^◌, not, nat_lt}
-use Rattle.std.specs.List.{slice_index_or}
-use Rattle.extents.specs.Indices.{indices}
-use Rattle.extents.specs.declared.window.Span.{Span}
-use Rattle.linearize.specs.Slots.{place_in}
-use Rattle.record_dim.specs.declared.path.PathStep.{PathStep}
-use Rattle.record_dim.specs.Leaves.{kinds_of, texts_of}
-use Rattle.map_expr.specs.Terms.{Term as MapTerm}
-use Rattle.map_checks.specs.Mappings.{holds_by}
-use Rattle.piece_bits.specs.Tables.{hold_at, with_entry}
-use Rattle.views.specs.Stores.{Keeping, kind_at}
-use Rattle.views.specs.Tallies.{Access, Write, Tally, all_accesses, Read}
-use Rattle.instrument.specs.Counters.{LeafCounts}
-use Rattle.instrument.specs.CounterTexts.{counts_text}
-use Rattle.views.specs.declared.fault.StoreFault.{StoreFault}
+use Rattle.equal_runs.proofs.Imports.{◌≡◌, ℕ, Bool, true, false, ℤ, List, [], ◌∷◌, ◌++◌, length, Option, Some, None, Result, Ok, refl, sym, ap, subst, ◌∙◌, ◌+◌, ◌*◌, ◌^◌, not, nat_lt, slice_index_or, indices, Span, place_in, PathStep, kinds_of, texts_of, MapTerm, holds_by, hold_at, with_entry, Keeping, kind_at, Access, Write, Tally, all_accesses, Read, LeafCounts, counts_text, StoreFault, Term, Value, Assignment, Show, KernelText, ReduceKind, ShowKind, TermText, Table, leaf_count_of, answer_of, kept_of, after_stores, Setting, updated_rows, counted, value_log, rows_log, UpdateFault, UpdateKind, KernelFault, Kernel, Stencil, stenciled, rounds_log, StencilFault, World, found, Done, stores, tells, done_to, with_table, on_view, Outcome, Goes, ◌>>=◌, LeftOf, Left, known, some_or, refused_if, refused_by, ok_or, leaf_of, bound, bound_filter, bound_sets, each_once, leaves_of, text_of_leaf, storable, store_fault, value_on, inside, assigned, updated, update_fault, kind_fault, reduction, reduced, column, counting, are_alike, all_read, copied, copy, run, fit_kernel, kernel_run, number_text, run_fault, print, counts, showing, drop_view, fit_stencil, room_beside, stencil_fault, stencil_rounds, stencil_run, windowed, print_window, blob_bits, Mismatch, NotCounted, TooBig, is_of_layout, shows_layout}
 use Rattle.views.specs.declared.fault.StoreFault.TheVariants as store
-use Rattle.expr_lang.specs.Terms.{Term}
-use Rattle.line_grammar.specs.Sentences.{Value, Assignment, Show}
-use Rattle.line_grammar.specs.declared.line.KernelText.{KernelText}
-use Rattle.line_grammar.specs.declared.line.ReduceKind.{ReduceKind}
-use Rattle.line_grammar.specs.declared.line.ShowKind.{ShowKind}
 use Rattle.line_grammar.specs.declared.line.ShowKind.TheVariants as show
-use Rattle.line_grammar.specs.declared.line.TermText.{TermText}
-use Rattle.views.specs.Tables.{Table, leaf_count_of, answer_of, kept_of, after_stores}
-use Rattle.row_updates.specs.Rows.{Setting, updated_rows, counted}
-use Rattle.row_updates.specs.Logs.{value_log, rows_log}
-use Rattle.row_updates.specs.declared.fault.UpdateFault.{UpdateFault}
-use Rattle.row_updates.specs.declared.fault.UpdateKind.{UpdateKind}
 use Rattle.row_updates.specs.declared.fault.UpdateKind.TheVariants as update_kind
-use Rattle.lane_kernels.specs.declared.fault.KernelFault.{KernelFault}
 use Rattle.lane_kernels.specs.declared.fault.KernelFault.TheVariants as kernel_fault
-use Rattle.lane_kernels.specs.declared.kernel.Kernel.{Kernel}
 use Rattle.lane_kernels.specs.Kernels as kernels
 use Rattle.lane_kernels.specs.Logs as kernel_logs
-use Rattle.subviews.specs.Stencils.{Stencil, stenciled, rounds_log}
-use Rattle.subviews.specs.declared.fault.StencilFault.{StencilFault}
-use Rattle.worlds.specs.Worlds.{World, found}
-use Rattle.worlds.specs.OnView.{Done, stores, tells, done_to, with_table, on_view}
-use Rattle.worlds.specs.Outcomes.{Outcome, Goes, ◌>>=◌, LeftOf, Left, known, some_or, refused_if, refused_by, ok_or}
-use Rattle.worlds.specs.Names.{leaf_of, bound, bound_filter, bound_sets, each_once, leaves_of, text_of_leaf}
-use Rattle.worlds.specs.Values.{storable, store_fault, value_on}
-use Rattle.worlds.specs.Assign.{inside, assigned}
-use Rattle.worlds.specs.Update.{updated, update_fault, kind_fault}
-use Rattle.worlds.specs.Reduce.{reduction, reduced, column, counting}
-use Rattle.worlds.specs.Copy.{are_alike, all_read, copied, copy}
-use Rattle.worlds.specs.Kernel.{run, fit_kernel, kernel_run, number_text, run_fault}
-use Rattle.worlds.specs.Show.{print, counts, showing, drop_view}
-use Rattle.worlds.specs.Stencil.{fit_stencil, room_beside, stencil_fault, stencil_rounds, stencil_run}
-use Rattle.worlds.specs.Windows.{windowed, print_window}
-use Rattle.worlds.specs.Tables.{blob_bits}
-use Rattle.worlds.specs.declared.fault.CommandFault.TheVariants.{Mismatch, NotCounted, TooBig}
-use Rattle.equal_runs.specs.Endings.{is_of_layout}
-use Rattle.equal_runs.specs.Lines.{shows_layout}
 use Rattle.equal_runs.proofs.Agreeing.{Agree, go, first, second, bind, before, both_told, told_if, Any, Both}
 use Rattle.equal_runs.proofs.Answers.{Answers, is_narrow, store_answers, Given, ok_agree, by_agree}
 use Rattle.equal_runs.proofs.Entries.{At, known_agree, entries_replaced, entries_removed}

@@ -1,11 +1,5 @@
 -- Entries of the same names, and what is looked up among them.
-use Rattle.std.proofs.Common.{◌≡◌, ℕ, suc, Bool, true, false, List, [], ◌∷◌, length, Option, Some, None, refl, ap}
-use Rattle.std.specs.Prelude.{if◌then◌else◌, is_some}
-use Rattle.worlds.specs.Worlds.{Entry, same_name, found, added, replaced, removed}
-use Rattle.worlds.specs.Outcomes.{known, free, some_or, refused_if}
-use Rattle.worlds.specs.declared.fault.CommandFault.{CommandFault}
-use Rattle.worlds.specs.declared.fault.CommandFault.TheVariants.{Unknown, Taken}
-use Rattle.worlds.specs.declared.fault.UnknownName.TheVariants.{Name}
+use Rattle.equal_runs.proofs.Imports.{◌≡◌, ℕ, suc, Bool, true, false, List, [], ◌∷◌, length, Option, Some, None, refl, ap, if◌then◌else◌, is_some, Entry, same_name, found, added, replaced, removed, known, free, some_or, refused_if, CommandFault, Unknown, Taken, Name}
 use Rattle.equal_runs.proofs.Agreeing.{Agree, go, fault}
 
 -- the same names in the same order, and for each things that are related so

@@ -1,13 +1,9 @@
 -- Which fault ends a kernel, by the answers to its stores.
-use Rattle.std.proofs.Common.{◌≡◌, ℕ, ◌+◌, Bool, true, false, ℤ, List, [], ◌∷◌, Option, Some, None, Result, Err, refl}
-use Rattle.std.specs.Option.{option_or}
-use Rattle.views.specs.Stores.{Answer}
-use Rattle.views.specs.declared.fault.StoreFault.{StoreFault}
+use Rattle.equal_runs.proofs.Imports.{◌≡◌, ℕ, Bool, true, false, ℤ, List, [], ◌∷◌, Option, Some, None, Result, Err, refl, option_or, Answer, StoreFault, Store, stored, answer_fault, first_fault, empty_fault, kernel_fault, KernelFault, Kernel}
+use Rattle.std.proofs.Common.{◌+◌}
 use Rattle.views.specs.declared.fault.StoreFault.TheVariants as stored_fault
-use Rattle.lane_kernels.specs.Kernels.{Store, stored, answer_fault, store_fault, first_fault, empty_fault, kernel_fault}
-use Rattle.lane_kernels.specs.declared.fault.KernelFault.{KernelFault}
+use Rattle.lane_kernels.specs.Kernels.{store_fault}
 use Rattle.lane_kernels.specs.declared.fault.KernelFault.TheVariants.{Narrow}
-use Rattle.lane_kernels.specs.declared.kernel.Kernel.{Kernel}
 use Rattle.equal_runs.proofs.Answers.{Answers, both, fails, first, second, Causes, same, one, other as another, is_narrow}
 
 abbrev pub is_narrow_kernel : KernelFault → Bool

@@ -1,16 +1,9 @@
 -- What a dataset answers, by how its leaves are held: one table where `Alike` says that their holds keep the same numbers.
-use Rattle.std.proofs.Common.{◌≡◌, ℕ, suc, ◌+◌, Bool, true, false, ℤ, List, [], ◌∷◌, length, Option, Some, None, Result, Ok, Err, refl, ap, ◌∙◌, arith}
-use Rattle.std.specs.List.{slice_get}
-use Rattle.record_dim.specs.declared.leaf_type.LeafType.{LeafType}
-use Rattle.places.specs.declared.piece.Hold.{Hold}
-use Rattle.piece_bits.specs.Tables.{hold_at}
-use Rattle.piece_bits.specs.declared.mode.StoreMode.{StoreMode}
-use Rattle.views.specs.Stores.{kind_at, kept_or, store_answer}
-use Rattle.views.specs.declared.fault.StoreFault.{StoreFault}
+use Rattle.equal_runs.proofs.Imports.{◌≡◌, ℕ, suc, Bool, true, false, ℤ, List, [], ◌∷◌, length, Option, Some, None, Result, Ok, Err, refl, ap, ◌∙◌, arith, slice_get, LeafType, Hold, hold_at, StoreMode, kind_at, kept_or, store_answer, StoreFault, Place, Leaf, the_field, the_number, number_of, unspaced, refusal, taken, value_at, row_values, table_from, with_columns, columns_of, header_of, rows_of, dataset_table, RowFault, ShortRow, Number}
+use Rattle.std.proofs.Common.{◌+◌}
 use Rattle.views.specs.declared.fault.StoreFault.TheVariants as store
-use Rattle.csv_rows.specs.Datasets.{◌>>=◌, Place, Leaf, the_field, the_number, number_of, unspaced, refusal, taken, value_at, row_values, table_from, with_columns, columns_of, header_of, rows_of, dataset_table}
-use Rattle.csv_rows.specs.declared.fault.RowFault.{RowFault}
-use Rattle.csv_rows.specs.declared.fault.RowFault.TheVariants.{ShortRow, Number, Narrow}
+use Rattle.csv_rows.specs.Datasets.{◌>>=◌}
+use Rattle.csv_rows.specs.declared.fault.RowFault.TheVariants.{Narrow}
 use Rattle.equal_runs.proofs.Answers.{Answers, both, fails, equal, first, second, is_narrow, store_answers}
 
 abbrev pub is_narrow_row : RowFault → Bool

@@ -1,42 +1,7 @@
 -- What is counted of a view are the accesses to it, line after line.
-use Rattle.std.proofs.Common.{◌≡◌, ℕ, Bool, false, List, [], ◌++◌, length, Option, Some, None, refl, sym, ap, subst, ◌∙◌}
-use Rattle.std.specs.Prelude.{◌+◌, ◌*◌, ◌^◌, nat_lt, not, ℤ}
-use Rattle.std.proofs.lemmas.List.{length-map}
-use Rattle.layout_io.specs.Files.{File}
-use Rattle.extents.specs.Indices.{indices}
-use Rattle.record_dim.specs.Leaves.{leaves}
-use Rattle.record_dim.specs.Trees.{Tree, Fields}
-use Rattle.map_expr.specs.Terms.{Term as MapTerm}
-use Rattle.piece_bits.specs.Tables.{zeros}
-use Rattle.piece_bits.specs.TableLaws.{zeros_shape}
-use Rattle.piece_bits.specs.declared.mode.StoreMode.{StoreMode}
-use Rattle.line_grammar.specs.Sentences.{Sentence, New}
+use Rattle.equal_runs.proofs.Imports.{◌≡◌, ℕ, Bool, false, List, [], ◌++◌, length, Option, Some, None, refl, sym, ap, subst, ◌∙◌, ◌+◌, ◌*◌, ◌^◌, nat_lt, not, length-map, File, indices, leaves, Tree, Fields, MapTerm, zeros, zeros_shape, StoreMode, Sentence, New, Access, Tally, tallied, no_tally, all_accesses, Read, Write, tallied-none, tallied-append, kept_row, kept_rows, Table, owners_of, leaf_count_of, kept_of, after_stores, World, Entry, found, added, replaced, removed, Saved, opened, rows_in, table_of, records_of, rows_of, dataset_of, checked, copy, copied, relayout, all_read, laid_anew, are_alike, define, fit, bad_file, open_view, opened_beside, opened_table, load, loaded_table, loaded, filled, read, row_fault, mapping, Done, Work, done_to, on_view, worked, Outcome, Goes, ◌>>=◌, LeftOf, Left, quiet, known, free, refused_if, ok_or, drop_view, step, work_of, made, resolved, room, shaped, zeros_of, blob_bits, live_bits, nameless, view, new_table, with_view, named, Named, BadMapping, TooBig, Mismatch, found_added, found_replaced, IfGoes, to, refused, unread, bind, behind, known_found, free_found, log_in, logged, reads_of, writes_of, fills_of, done_log, work_logs, logs_after}
+use Rattle.std.specs.Prelude.{ℤ}
 use Rattle.line_grammar.specs.Sentences as line
-use Rattle.views.specs.Tallies.{Access, Tally, tallied, no_tally, all_accesses, Read, Write}
-use Rattle.views.specs.TallyLaws.{tallied-none, tallied-append}
-use Rattle.views.specs.Stores.{kept_row, kept_rows}
-use Rattle.views.specs.Tables.{Table, owners_of, leaf_count_of, kept_of, after_stores}
-use Rattle.worlds.specs.Worlds.{World, Entry, found, added, replaced, removed}
-use Rattle.blob_file.specs.Opened.{Saved, opened, rows_in, table_of}
-use Rattle.csv_rows.specs.Datasets.{records_of, rows_of}
-use Rattle.csv_rows.specs.Loads.{dataset_of}
-use Rattle.map_expr.specs.Checks.{checked}
-use Rattle.worlds.specs.Copy.{copy, copied, relayout, all_read, laid_anew, are_alike}
-use Rattle.worlds.specs.Define.{define, fit}
-use Rattle.worlds.specs.Files.{bad_file, open_view, opened_beside, opened_table}
-use Rattle.worlds.specs.Load.{load, loaded_table, loaded, filled, read, row_fault}
-use Rattle.worlds.specs.Mapping.{mapping}
-use Rattle.worlds.specs.OnView.{Done, Work, done_to, on_view, worked}
-use Rattle.worlds.specs.Outcomes.{Outcome, Goes, ◌>>=◌, LeftOf, Left, quiet, known, free, refused_if, ok_or}
-use Rattle.worlds.specs.Show.{drop_view}
-use Rattle.worlds.specs.Step.{step, work_of}
-use Rattle.worlds.specs.Tables.{made, resolved, room, shaped, zeros_of, blob_bits, live_bits}
-use Rattle.worlds.specs.Names.{nameless}
-use Rattle.worlds.specs.View.{view, new_table, with_view, named, Named}
-use Rattle.worlds.specs.declared.fault.CommandFault.TheVariants.{BadMapping, TooBig, Mismatch}
-use Rattle.equal_runs.specs.EntryLaws.{found_added, found_replaced}
-use Rattle.equal_runs.specs.GoesLaws.{IfGoes, to, refused, unread, bind, behind, known_found, free_found}
-use Rattle.equal_runs.specs.Logs.{log_in, logged, reads_of, writes_of, fills_of, done_log, work_logs, logs_after}
 use Rattle.equal_runs.proofs.Agreeing.{Told, goes, told}
 use Rattle.equal_runs.proofs.Entries.{Entries, Finds, some, nothing, finds, entries_added, entries_replaced, entries_removed}
 use Rattle.equal_runs.proofs.Tables.{with_written, anew_of, made_told, rows_told, anew_told}

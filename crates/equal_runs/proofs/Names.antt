@@ -1,11 +1,6 @@
 -- A mapping expression is refused for a name alone.
-use Rattle.std.proofs.Common.{ℕ, true, List, Option, Some, None, refl}
-use Rattle.map_expr.specs.Terms.{Term as MapTerm, Aos, Soa, Aosoa, BitAos, BitSoa, Split, Byteswap, Bytesplit, Change, Count, Heat, Named}
-use Rattle.worlds.specs.Worlds.{Entry, found}
-use Rattle.worlds.specs.Outcomes.{some_or}
-use Rattle.worlds.specs.Names.{nameless}
-use Rattle.worlds.specs.declared.fault.CommandFault.TheVariants.{Unknown}
-use Rattle.worlds.specs.declared.fault.UnknownName.TheVariants.{Name}
+use Rattle.equal_runs.proofs.Imports.{ℕ, true, List, Option, Some, None, refl, MapTerm, Aos, Soa, Aosoa, BitAos, BitSoa, Split, Byteswap, Bytesplit, Change, Count, Heat, Entry, found, some_or, nameless, Unknown, Name}
+use Rattle.map_expr.specs.Terms.{Named}
 use Rattle.equal_runs.proofs.Agreeing.{Told, goes, told, Any, told_bind}
 
 known_told : {A : Type 0} (name : List ℕ) (x : Option A) → Told true Any (some_or (Unknown (Name name)) x)

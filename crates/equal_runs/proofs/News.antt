@@ -1,36 +1,6 @@
 -- The commands with names and mapping expressions, done to alike worlds.
-use Rattle.std.proofs.Common.{◌≡◌, ℕ, Bool, true, ℤ, List, length, Option, Some, None, refl, sym, ap, subst, ◌∙◌}
-use Rattle.std.specs.Prelude.{◌+◌, ◌*◌, ◌^◌, ◌&&◌, is_some, IfSome, nat_lt, nat_le}
-use Rattle.extents.specs.declared.words.ExtentWord.{ExtentWord}
-use Rattle.layout_io.specs.Files.{File}
-use Rattle.record_dim.specs.Trees.{Tree, Fields}
-use Rattle.record_dim.specs.Leaves.{kinds_of, texts_of}
-use Rattle.line_grammar.specs.Sentences.{New, View, Relayout}
-use Rattle.map_expr.specs.Terms.{Term as MapTerm}
-use Rattle.map_expr.specs.Checks.{checked}
-use Rattle.map_checks.specs.Mappings.{holds_by}
-use Rattle.map_any.specs.AnyLaws.{holds_cells, length-leaf_cells}
-use Rattle.blob_file.specs.Opened.{opened, table_of}
-use Rattle.csv_rows.specs.Datasets.{records_of, rows_of, dataset_table}
-use Rattle.csv_rows.specs.declared.fault.RowFault.{RowFault}
+use Rattle.equal_runs.proofs.Imports.{◌≡◌, ℕ, Bool, true, ℤ, List, length, Option, Some, None, refl, sym, ap, subst, ◌∙◌, ◌+◌, ◌*◌, ◌^◌, ◌&&◌, is_some, IfSome, nat_lt, nat_le, ExtentWord, File, Tree, Fields, kinds_of, texts_of, New, View, Relayout, MapTerm, checked, holds_by, holds_cells, length-leaf_cells, opened, table_of, records_of, rows_of, dataset_table, RowFault, Keeping, Table, IsWide, leaf_count_of, after_stores, World, Entry, found, Tally, all_accesses, Write, Outcome, Left, quiet, known, free, refused_if, ok_or, nameless, room, shaped, resolved, made, zeros_of, blob_bits, live_bits, fit, define, mapping, Named, named, new_table, with_view, view, read, filled, loaded, loaded_table, load, fault_of, laid_anew, relayout, bad_file, opened_beside, opened_table, open_view, BadMapping, TooBig, TooManyViews, is_refused, is_of_layout, found_added, found_replaced, MakesWide}
 use Rattle.csv_rows.specs.declared.fault.RowFault.TheVariants as row_fault
-use Rattle.views.specs.Stores.{Keeping}
-use Rattle.views.specs.Tables.{Table, IsWide, leaf_count_of, after_stores}
-use Rattle.worlds.specs.Worlds.{World, Entry, found}
-use Rattle.views.specs.Tallies.{Tally, all_accesses, Write}
-use Rattle.worlds.specs.Outcomes.{Outcome, Left, quiet, known, free, refused_if, ok_or}
-use Rattle.worlds.specs.Names.{nameless}
-use Rattle.worlds.specs.Tables.{room, shaped, resolved, made, zeros_of, blob_bits, live_bits}
-use Rattle.worlds.specs.Define.{fit, define}
-use Rattle.worlds.specs.Mapping.{mapping}
-use Rattle.worlds.specs.View.{Named, named, new_table, with_view, view}
-use Rattle.worlds.specs.Load.{read, filled, loaded, loaded_table, load, row_fault as fault_of}
-use Rattle.worlds.specs.Copy.{laid_anew, relayout}
-use Rattle.worlds.specs.Files.{bad_file, opened_beside, opened_table, open_view}
-use Rattle.worlds.specs.declared.fault.CommandFault.TheVariants.{BadMapping, TooBig, TooManyViews}
-use Rattle.equal_runs.specs.Endings.{is_refused, is_of_layout}
-use Rattle.equal_runs.specs.EntryLaws.{found_added, found_replaced}
-use Rattle.equal_runs.specs.Widths.{MakesWide}
 use Rattle.equal_runs.proofs.Agreeing.{Agree, go, bind, before, alone, weaker, both_told, Any, Both, told_if, told_ok, told_misses}
 use Rattle.equal_runs.proofs.Answers.{Given, ok_agree}
 use Rattle.equal_runs.proofs.Entries.{At, known_agree, Neither, free_agree, entries_added, entries_replaced, length-entries}

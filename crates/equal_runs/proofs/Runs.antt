@@ -1,20 +1,6 @@
 -- The runs of scripts that differ in their mapping expressions alone.
-use Rattle.std.proofs.Common.{◌≡◌, ℕ, ◌+◌, Bool, false, List, [], ◌∷◌, Option, refl, sym, ap, subst, ◌∙◌}
-use Rattle.std.specs.List.{list_any}
-use Rattle.std.proofs.lemmas.Bool.{or_parts}
-use Rattle.layout_io.specs.Files.{File}
-use Rattle.map_expr.specs.Terms.{Term as MapTerm}
-use Rattle.line_grammar.specs.Sentences.{Sentence}
-use Rattle.line_grammar.specs.declared.version.Version.{Version}
-use Rattle.worlds.specs.Worlds.{World, empty}
-use Rattle.worlds.specs.Outcomes.{Outcome, Left}
-use Rattle.worlds.specs.Step.{step}
-use Rattle.worlds.specs.Outcome.{Output}
-use Rattle.worlds.specs.Fold.{run_from, after, fails_at, prepend}
-use Rattle.equal_runs.specs.Lines.{with_term, AgreeButTerms, shows_layout, IsLine, AreLines}
-use Rattle.equal_runs.specs.Endings.{misses_mapping, ends_after, ends_by_layout}
-use Rattle.equal_runs.specs.Widths.{MakesWide, HoldsOf, StaysWide}
-use Rattle.equal_runs.specs.EqualRuns.{DoesLines, EqualRuns}
+use Rattle.equal_runs.proofs.Imports.{◌≡◌, ℕ, Bool, false, List, [], ◌∷◌, Option, refl, sym, ap, subst, ◌∙◌, list_any, or_parts, File, MapTerm, Sentence, Version, World, empty, Outcome, Left, step, Output, run_from, after, fails_at, prepend, with_term, AgreeButTerms, shows_layout, IsLine, AreLines, misses_mapping, ends_after, ends_by_layout, MakesWide, HoldsOf, StaysWide, DoesLines, EqualRuns}
+use Rattle.std.proofs.Common.{◌+◌}
 use Rattle.equal_runs.proofs.Agreeing.{Agree, go, fault, unread as not_read, first, second}
 use Rattle.equal_runs.proofs.Entries.{none as no_entries}
 use Rattle.equal_runs.proofs.Steps.{step_agree}

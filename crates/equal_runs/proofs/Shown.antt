@@ -1,31 +1,8 @@
 -- What a run shows of its accesses.
-use Rattle.std.proofs.Common.{◌≡◌, ℕ, ◌+◌, Bool, List, [], ◌∷◌, ◌++◌, length, Option, Some, None, refl, sym, ap, subst, ◌∙◌, arith, append_assoc}
-use Rattle.std.specs.Prelude.{IfSome}
-use Rattle.layout_io.specs.Files.{File}
+use Rattle.equal_runs.proofs.Imports.{◌≡◌, ℕ, Bool, List, [], ◌∷◌, ◌++◌, length, Option, Some, None, refl, sym, ap, subst, ◌∙◌, arith, append_assoc, IfSome, File, Owner, texts_of, Sentence, Version, LeafCounts, HeatCounts, counts_text, heat_text, AreEntries, AreCounts, AreHeat, Access, Tally, tallied, no_tally, Table, owners_of, leaf_count_of, World, found, Done, done_to, on_view, Outcome, LeftOf, Left, known, some_or, counts, heat, step, NotCounted, run_from, after, prepend, fails_at, Output, AreLines, DoesLines, SoFar, at_first, one_more, logs_after, Comes, there, further, log_of, ShowsCounts, ShowsHeat, ShowsEntries, tally_since, IfGoes, to, bind, behind, gone, known_found}
+use Rattle.std.proofs.Common.{◌+◌}
 use Rattle.map_expr.specs.Terms.{Term}
-use Rattle.places.specs.Layout.{Owner}
-use Rattle.record_dim.specs.Leaves.{texts_of}
-use Rattle.line_grammar.specs.Sentences.{Sentence}
-use Rattle.line_grammar.specs.declared.version.Version.{Version}
-use Rattle.instrument.specs.Counters.{LeafCounts, HeatCounts}
-use Rattle.instrument.specs.CounterTexts.{counts_text, heat_text}
-use Rattle.views.specs.Entries.{AreEntries, AreCounts, AreHeat}
-use Rattle.views.specs.Tallies.{Access, Tally, tallied, no_tally}
-use Rattle.views.specs.Tables.{Table, owners_of, leaf_count_of}
-use Rattle.worlds.specs.Worlds.{World, found}
-use Rattle.worlds.specs.OnView.{Done, done_to, on_view}
-use Rattle.worlds.specs.Outcomes.{Outcome, LeftOf, Left, known, some_or}
-use Rattle.worlds.specs.Show.{counts, heat}
-use Rattle.worlds.specs.Step.{step}
-use Rattle.worlds.specs.declared.fault.CommandFault.TheVariants.{NotCounted}
-use Rattle.worlds.specs.Fold.{run_from, after, prepend, fails_at}
-use Rattle.worlds.specs.Outcome.{Output}
-use Rattle.equal_runs.specs.Lines.{AreLines}
-use Rattle.equal_runs.specs.EqualRuns.{DoesLines}
-use Rattle.equal_runs.specs.Logs.{SoFar, at_first, one_more, logs_after, Comes, there, further, log_of}
-use Rattle.equal_runs.specs.Entries.{ShowsCounts, ShowsHeat, ShowsEntries, tally_since}
 use Rattle.equal_runs.proofs.Entries.{none}
-use Rattle.equal_runs.specs.GoesLaws.{IfGoes, to, bind, behind, gone, known_found}
 use Rattle.equal_runs.proofs.Logs.{AreCounted, counted_at, step_keeps}
 
 -- the accesses are those that the tables have counted, as far as a run comes

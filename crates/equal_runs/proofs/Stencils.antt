@@ -1,10 +1,7 @@
 -- What a stencil answers, by the answers to its stores.
-use Rattle.std.proofs.Common.{◌≡◌, ℕ, zero, suc, Bool, ℤ, List, [], ◌∷◌, Result, Ok, sym, ap, subst}
-use Rattle.views.specs.Stores.{Answer, Keeping, kept_by}
-use Rattle.views.specs.declared.fault.StoreFault.{StoreFault}
+use Rattle.equal_runs.proofs.Imports.{◌≡◌, ℕ, zero, suc, Bool, ℤ, List, [], ◌∷◌, Result, Ok, sym, ap, subst, Answer, Keeping, kept_by, StoreFault, Stencil, stencil_value, at_row, values_fault, with_column, new_entry, if_fits, round, next_round, after_rounds, StencilFault}
 use Rattle.subviews.specs.SubViews.{rows_of}
-use Rattle.subviews.specs.Stencils.{Stencil, stencil_value, at_row, first_fault, values_fault, with_column, new_entry, if_fits, round, next_round, after_rounds}
-use Rattle.subviews.specs.declared.fault.StencilFault.{StencilFault}
+use Rattle.subviews.specs.Stencils.{first_fault}
 use Rattle.equal_runs.proofs.Answers.{Answers, both, fails, equal, first, second, is_narrow}
 
 abbrev pub is_narrow_stencil : StencilFault → Bool

@@ -1,14 +1,6 @@
 -- One line and another that differs in its mapping expression, done to alike worlds.
-use Rattle.std.proofs.Common.{◌≡◌, Bool, false, List, refl}
-use Rattle.layout_io.specs.Files.{File}
-use Rattle.map_expr.specs.Terms.{Term as MapTerm}
+use Rattle.equal_runs.proofs.Imports.{◌≡◌, Bool, false, List, refl, File, MapTerm, World, step, live_bits, with_term, shows_layout, misses_mapping, MakesWide}
 use Rattle.line_grammar.specs.Sentences as line
-use Rattle.worlds.specs.Worlds.{World}
-use Rattle.worlds.specs.Step.{step}
-use Rattle.worlds.specs.Tables.{live_bits}
-use Rattle.equal_runs.specs.Lines.{with_term, shows_layout}
-use Rattle.equal_runs.specs.Endings.{misses_mapping}
-use Rattle.equal_runs.specs.Widths.{MakesWide}
 use Rattle.equal_runs.proofs.Agreeing.{Agree, go}
 use Rattle.equal_runs.proofs.Commands.{view_agree, assigned_agree, updated_agree, reduction_agree, counting_agree, ran_agree, copy_agree, showing_agree, print_window_agree, stencil_agree, drop_agree}
 use Rattle.equal_runs.proofs.News.{define_agree, mapping_agree, view_agree as new_agree, load_agree, open_agree, relayout_agree}

@@ -1,21 +1,6 @@
 -- Worlds of the same records and tables, under other mappings.
-use Rattle.std.proofs.Common.{◌≡◌, ℕ, Bool, List, length, refl, sym, subst}
-use Rattle.record_dim.specs.Trees.{Fields}
-use Rattle.record_dim.specs.Leaves.{leaves, kinds_of}
-use Rattle.map_expr.specs.Terms.{Term as MapTerm}
-use Rattle.map_checks.specs.Mappings.{leaf_cells, layout_by, most_slots, accepted}
-use Rattle.views.specs.Tallies.{Access, Tally, all_accesses, granules_for, Write}
-use Rattle.layout_copy.specs.Copies.{refused_at}
-use Rattle.piece_bits.specs.declared.mode.StoreMode.{StoreMode}
-use Rattle.std.specs.Prelude.{ℤ, ◌+◌, ◌*◌, ◌^◌, nat_lt, ⊤}
-use Rattle.views.specs.AnswerLaws.{kept_alike}
-use Rattle.views.specs.Stores.{Keeping, kept_rows}
-use Rattle.views.specs.Tables.{Table, IsWide, owners_of, leaf_count_of, answer_of, kept_of, after_stores}
-use Rattle.worlds.specs.Worlds.{World, Entry}
-use Rattle.worlds.specs.Outcomes.{Left, refused_by, refused_if, ok_or}
-use Rattle.worlds.specs.Tables.{made, zeros_of, blob_bits, live_bits}
-use Rattle.worlds.specs.Copy.{with_rows, laid_anew, narrow_fault}
-use Rattle.worlds.specs.declared.fault.CommandFault.TheVariants.{BadMapping, TooBig}
+use Rattle.equal_runs.proofs.Imports.{◌≡◌, ℕ, Bool, List, length, refl, sym, subst, Fields, leaves, kinds_of, MapTerm, leaf_cells, layout_by, most_slots, accepted, Access, Tally, all_accesses, granules_for, Write, refused_at, StoreMode, ◌+◌, ◌*◌, ◌^◌, nat_lt, ⊤, kept_alike, Keeping, kept_rows, Table, IsWide, owners_of, leaf_count_of, answer_of, kept_of, after_stores, World, Entry, Left, refused_by, refused_if, ok_or, made, zeros_of, blob_bits, live_bits, with_rows, laid_anew, narrow_fault, BadMapping, TooBig}
+use Rattle.std.specs.Prelude.{ℤ}
 use Rattle.equal_runs.proofs.Agreeing.{Told, goes, Any, Both, told_bind, told_if, told_ok, told_by}
 use Rattle.equal_runs.proofs.Entries.{Entries}
 use Rattle.equal_runs.proofs.TallyCounts.{SameCounts, own_counts, tallied_alike, no_tally_alike}

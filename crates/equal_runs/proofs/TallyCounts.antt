@@ -1,13 +1,5 @@
 -- The counts by leaf after some accesses, which are the same however a table lies.
-use Rattle.std.proofs.Common.{◌≡◌, ℕ, Bool, true, false, List, Option, Some, None, option_map, refl, sym, ap, subst}
-use Rattle.std.specs.Prelude.{⊤, if◌then◌else◌}
-use Rattle.std.specs.List.{fold}
-use Rattle.instrument.specs.Counters.{LeafCounts, no_counts}
-use Rattle.map_any.specs.Counters.{has_count}
-use Rattle.map_expr.specs.Terms.{Term as MapTerm}
-use Rattle.places.specs.Layout.{Owner}
-use Rattle.views.specs.Tallies.{Access, Tally, counts_touched, tallied, no_tally}
-use Rattle.views.specs.TallyLaws.{tallied-counts}
+use Rattle.equal_runs.proofs.Imports.{◌≡◌, ℕ, Bool, true, false, List, Option, Some, None, option_map, refl, sym, ap, subst, ⊤, if◌then◌else◌, fold, LeafCounts, no_counts, has_count, MapTerm, Owner, Access, Tally, counts_touched, tallied, no_tally, tallied-counts}
 
 -- some counts after accesses
 abbrev counts_after : List Access → LeafCounts → LeafCounts

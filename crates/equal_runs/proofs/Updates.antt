@@ -1,17 +1,8 @@
 -- What an update answers, by the answers to its stores.
-use Rattle.std.proofs.Common.{◌≡◌, ℕ, Bool, true, false, ℤ, List, [], ◌∷◌, Option, Result, Ok, Err, refl, ap, ◌∙◌}
-use Rattle.std.specs.Prelude.{◌++◌, if◌then◌else◌, slice_index_or}
-use Rattle.std.specs.List.{flat_map, range_with_len}
-use Rattle.expr_lang.specs.Terms.{Term}
-use Rattle.linearize.specs.Slots.{index_at}
-use Rattle.views.specs.Stores.{Answer, Keeping}
-use Rattle.views.specs.Tallies.{Access}
-use Rattle.views.specs.declared.fault.StoreFault.{StoreFault}
+use Rattle.equal_runs.proofs.Imports.{◌≡◌, ℕ, Bool, true, false, ℤ, List, [], ◌∷◌, Option, Result, Ok, Err, refl, ap, ◌∙◌, if◌then◌else◌, flat_map, range_with_len, Term, index_at, Answer, Keeping, Access, StoreFault, Setting, each, in_row, store_kind, value_of, passes, new_value, with_values, updated_row, updated_rows, value_log, filter_log, if_ok, if_passes, sides_log, stores_log, row_log, rows_log, UpdateFault, UpdateKind}
+use Rattle.std.specs.Prelude.{◌++◌, slice_index_or}
 use Rattle.views.specs.declared.fault.StoreFault.TheVariants as store
-use Rattle.row_updates.specs.Rows.{Setting, ◌>>=◌, each, in_row, store_kind, value_of, passes, new_value, with_values, updated_row, updated_rows}
-use Rattle.row_updates.specs.Logs.{value_log, filter_log, if_ok, if_passes, sides_log, stores_log, row_log, rows_log}
-use Rattle.row_updates.specs.declared.fault.UpdateFault.{UpdateFault}
-use Rattle.row_updates.specs.declared.fault.UpdateKind.{UpdateKind}
+use Rattle.row_updates.specs.Rows.{◌>>=◌}
 use Rattle.row_updates.specs.declared.fault.UpdateKind.TheVariants.{Narrow}
 use Rattle.equal_runs.proofs.Answers.{Answers, both, fails, equal, first, second, is_narrow}
 

@@ -1,14 +1,7 @@
 -- Along the links of a chain: its outcome, and the bounds of its leaves and dimensions.
-use Rattle.std.proofs.Common.{◌≡◌, ℕ, ℤ, List, ◌++◌, Result, Ok, Err, refl, sym, ap, ◌∙◌, append_assoc}
-use Rattle.std.proofs.lemmas.List.{append-nil}
-use Rattle.expr_lang.specs.declared.fault.EvalFault.{EvalFault}
-use Rattle.expr_lang.specs.declared.bound.Links.{Links}
+use Rattle.expr_lang.proofs.Imports.{◌≡◌, ℕ, ℤ, List, ◌++◌, Result, Ok, Err, refl, sym, ap, ◌∙◌, append_assoc, append-nil, EvalFault, Links, Step, Term, IsWithin, Outcome, no_read, after_reads, then_from, ◌>>=◌, outcome_of, step_term, links_term, step_outcome, links_outcome, IsStepWithin, AreWithin}
 use Rattle.expr_lang.specs.declared.bound.Links.TheVariants as links
-use Rattle.expr_lang.specs.declared.bound.Step.{Step}
 use Rattle.expr_lang.specs.declared.bound.Step.TheVariants as step
-use Rattle.expr_lang.specs.Terms.{Term, IsWithin}
-use Rattle.expr_lang.specs.Values.{Outcome, no_read, after_reads, then_from, ◌>>=◌, outcome_of}
-use Rattle.expr_lang.specs.Chains.{step_term, links_term, step_outcome, links_outcome, IsStepWithin, AreWithin}
 
 then-same : (o : Outcome) → o >>= (λ x. no_read (Ok x)) ≡ o
 then-same o = same o.answer o.reads

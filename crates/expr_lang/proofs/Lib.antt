@@ -1,4 +1,5 @@
+mod Imports
+mod MostSoFar
 pub mod Along
 pub mod Unknown
 pub mod Within
-mod MostSoFar

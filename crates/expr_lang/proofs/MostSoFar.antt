@@ -1,12 +1,6 @@
 -- How far from 0 the value of a chain may lie, as far as its links have been walked.
-use Rattle.std.proofs.Common.{◌≡◌, ◌∙◌, ℕ, List, sym, ap, subst, arith}
-use Rattle.expr_lang.specs.declared.bound.Links.{Links}
+use Rattle.expr_lang.proofs.Imports.{◌≡◌, ◌∙◌, ℕ, List, sym, ap, subst, arith, Links, Step, Term, step_term, links_term, IsMost, IsStepMost, one_more}
 use Rattle.expr_lang.specs.declared.bound.Links.TheVariants as links
-use Rattle.expr_lang.specs.declared.bound.Step.{Step}
-use Rattle.expr_lang.specs.Terms.{Term}
-use Rattle.expr_lang.specs.Chains.{step_term, links_term}
-use Rattle.expr_lang.specs.Mosts.{IsMost, IsStepMost}
-use Rattle.expr_lang.specs.ChainLaws.{one_more}
 
 module _ (leaves places : List ℕ) (levels : ℕ) (whole : Term ℕ) where
   -- the number is that of a front of the whole term, behind which these links stand

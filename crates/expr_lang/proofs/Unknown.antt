@@ -1,17 +1,7 @@
 -- The first of the unknown names of a term.
-use Rattle.std.proofs.Common.{◌≡◌, ℕ, ◌≤◌, cond, Option, Some, None, List, [], ◌∷◌, ◌++◌, is_some, refl, sym, ap, ◌∙◌, arith}
-use Rattle.std.specs.List.{slice_get}
-use Rattle.std.specs.Option.{option_or}
-use Rattle.record_dim.specs.declared.path.PathStep.{PathStep}
-use Rattle.expr_lang.specs.declared.expr.BinOp.{BinOp}
-use Rattle.expr_lang.specs.declared.expr.Expr.{Expr, size-Expr}
+use Rattle.expr_lang.proofs.Imports.{◌≡◌, ℕ, ◌≤◌, cond, Option, Some, None, List, [], ◌∷◌, ◌++◌, is_some, refl, sym, ap, ◌∙◌, arith, slice_get, option_or, PathStep, BinOp, Expr, size-Expr, deep-Binary', BindFault, Unknown, leaf_number, unknown_path, told}
 use Rattle.expr_lang.specs.declared.expr.Expr.TheVariants as expr
-use Rattle.expr_lang.specs.declared.expr.Expr.TheViews.{deep-Binary'}
-use Rattle.expr_lang.specs.declared.fault.BindFault.{BindFault}
 use Rattle.expr_lang.specs.declared.fault.BindFault.TheVariants as fault
-use Rattle.expr_lang.specs.declared.binding.Unknown.{Unknown}
-use Rattle.expr_lang.specs.Binding.{leaf_number, unknown_path}
-use Rattle.expr_lang.specs.Unknowns.{told}
 
 pub first-unknown_path : (paths : List (List PathStep)) (path : List PathStep) (number : Option ℕ) → leaf_number paths path ≡ number →
     slice_get (unknown_path paths path) 0 ≡ cond (is_some number) None (Some (fault.UnknownPath path))

@@ -1,12 +1,6 @@
 -- Where nothing is unknown, the numbers of leaves and dimensions are within their bounds.
-use Rattle.std.proofs.Common.{◌≡◌, ℕ, ◌<◌, Bool, true, false, cond, nat_lt, Option, Some, None, List, [], ◌∷◌, ◌++◌, length, MatchOption, unwrap_or, is_some, refl, sym, arith}
-use Rattle.std.proofs.lemmas.Bool.{ltb-true}
-use Rattle.std.proofs.lemmas.Option.{slice_get_within}
-use Rattle.record_dim.specs.declared.path.PathStep.{PathStep}
+use Rattle.expr_lang.proofs.Imports.{◌≡◌, ℕ, ◌<◌, Bool, true, false, cond, nat_lt, Option, Some, None, List, [], ◌∷◌, ◌++◌, length, MatchOption, unwrap_or, is_some, refl, sym, arith, ltb-true, slice_get_within, PathStep, Term, Number, Entry, Index, Neg, Not, Binary, IsWithin, leaf_number, numbered, unknowns, IsAbsent, IsAt, found}
 use Rattle.expr_lang.specs.declared.fault.BindFault.TheVariants as fault
-use Rattle.expr_lang.specs.Terms.{Term, Number, Entry, Index, Neg, Not, Binary, IsWithin}
-use Rattle.expr_lang.specs.Binding.{leaf_number, numbered, unknowns}
-use Rattle.expr_lang.specs.BindingLaws.{IsAbsent, IsAt, found}
 
 both_empty : {A : Type 0} (xs ys : List A) → xs ++ ys ≡ [] → (xs ≡ []) × (ys ≡ [])
 both_empty [] ys h = (refl, h)

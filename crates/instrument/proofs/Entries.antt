@@ -1,10 +1,5 @@
 -- Bytes, their bits and their numbers.
-use Rattle.std.proofs.Common.{◌≡◌, ℕ, ◌+◌, ◌<◌, ◌≤◌, List, [], ◌∷◌, length, get_or, sym, ap, refl, ◌∙◌, arith}
-use Rattle.std.specs.List.{enumerate_from}
-use Rattle.std.proofs.lemmas.List.FromFn.{get_or-enumerate_from, length-enumerate_from}
-use Rattle.blobs.specs.Bits.{bits_of}
-use Rattle.instrument.specs.BlobTexts.{bytes_of, line_end}
-use Rattle.instrument.specs.BlobTextsLaws.{bytes_long, byte_is}
+use Rattle.instrument.proofs.Imports.{◌≡◌, ℕ, ◌+◌, ◌<◌, ◌≤◌, List, [], ◌∷◌, length, get_or, sym, ap, refl, ◌∙◌, arith, enumerate_from, get_or-enumerate_from, length-enumerate_from, bits_of, bytes_of, line_end, bytes_long, byte_is}
 
 -- the byte of a number
 pub byte_entry : (bytes : List ℕ) (at byte : ℕ) → at < length bytes → byte < 256 → byte ≡ get_or bytes at 0 →

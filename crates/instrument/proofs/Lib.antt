@@ -1,5 +1,6 @@
+mod Imports
 pub mod Entries
-pub mod Warming
-pub mod Touches
-pub mod Numbered
 pub mod Lines
+pub mod Numbered
+pub mod Touches
+pub mod Warming

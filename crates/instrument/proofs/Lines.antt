@@ -1,11 +1,5 @@
 -- The line of a run by its parts.
-use Rattle.std.proofs.Common.{◌≡◌, ℕ, List, [], ◌∷◌, ◌++◌, refl, ap, sym, ◌∙◌}
-use Rattle.std.proofs.lemmas.List.{append_assoc}
-use Rattle.layout_io.specs.Decimal.{digits_text}
-use Rattle.places.specs.declared.piece.Run.{Run}
-use Rattle.places.specs.declared.piece.RunOwner.{RunOwner}
-use Rattle.places.specs.declared.piece.RunOwner.TheVariants.{Pad, Leaf}
-use Rattle.instrument.specs.CounterTexts.{line_of, owner_fields, run_line}
+use Rattle.instrument.proofs.Imports.{◌≡◌, ℕ, List, [], ◌∷◌, ◌++◌, refl, ap, sym, ◌∙◌, append_assoc, digits_text, Run, RunOwner, Pad, Leaf, line_of, owner_fields, run_line}
 
 -- what stands before the owner of a run
 abbrev pub run_front : Run → List ℕ

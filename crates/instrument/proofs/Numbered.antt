@@ -1,10 +1,5 @@
 -- Items with their numbers, whose texts are put one after another.
-use Rattle.std.proofs.Common.{◌≡◌, ℕ, ◌+◌, ◌<◌, ◌≤◌, List, ◌++◌, length, take, get_or, flat_map, refl, sym, ap, subst, ◌∙◌, arith, Option, Result, Ok, Err, IsErr}
-use Rattle.std.specs.List.{enumerate_from}
-use Rattle.std.proofs.lemmas.List.FromFn.{get_or-enumerate_from, length-enumerate_from}
-use Rattle.layout_io.specs.Gathering.{Puts, HasPut}
-use Rattle.layout_io.specs.GatheringLaws.{Puts-append, Puts-loop_err, Puts-loop_ok}
-use Rattle.layout_io.specs.WritingLaws.{flat_map_push}
+use Rattle.instrument.proofs.Imports.{◌≡◌, ℕ, ◌+◌, ◌<◌, ◌≤◌, List, ◌++◌, length, take, get_or, flat_map, refl, sym, ap, subst, ◌∙◌, arith, Option, Result, Ok, Err, IsErr, enumerate_from, get_or-enumerate_from, length-enumerate_from, Puts, HasPut, Puts-append, Puts-loop_err, Puts-loop_ok, flat_map_push}
 
 -- what a call that ended well put, whatever its answer is made of
 as_put : {K T E : Type 0} {taken : K → Option (List ℕ)} {faults : K → ℕ} {old new : K} {was held text : List ℕ} {value : T} → Puts {E = E} taken faults old new was held (Ok value) text

@@ -1,16 +1,5 @@
 -- Accesses to pieces, step by step.
-use Rattle.std.proofs.Common.{◌≡◌, ℕ, ◌+◌, ◌-◌, ◌*◌, ◌/◌, ◌%◌, ◌<◌, ◌≤◌, Bool, true, false, nat_eq, nat_lt, nat_le, List, [], length, get_or, set, map, take, sym, ap, refl, ◌∙◌, arith, ⊎_elim}
-use Rattle.std.specs.Prelude.{◌&&◌, ◌||◌, not, min, max}
-use Rattle.std.proofs.lemmas.Bool.{eq-eqb, ne_eqb, le-leb, lt-leb, lt-ltb, le-ltb, and_left, and_right, cases_eq, cases_lt}
-use Rattle.std.proofs.lemmas.List.{length-map, get_or-map, get_or_read, map-set}
-use Rattle.std.proofs.lemmas.List.Folds.{list_any_more}
-use Rattle.std.proofs.lemmas.Nat.{div-add-mod'}
-use Rattle.std.proofs.Math.Nat.{mul-add-div, mul-lt-mul_of_pos_left, div-lt_iff_lt-mul, mul_comm}
-use Rattle.places.specs.declared.piece.Piece.{Piece}
-use Rattle.places.specs.Touched.{is_in_granule, is_touched}
-use Rattle.instrument.specs.Counters.{HeatCounts, raised, counted_times, warmed_times, heated_times}
-use Rattle.instrument.specs.RoundingLaws.{reaches, row_begin}
-use Rattle.instrument.specs.Touching.{AreGranulesOf, warmed_at, heated_besides}
+use Rattle.instrument.proofs.Imports.{◌≡◌, ℕ, ◌+◌, ◌-◌, ◌*◌, ◌/◌, ◌%◌, ◌<◌, ◌≤◌, Bool, true, false, nat_eq, nat_lt, nat_le, List, [], length, get_or, set, map, take, sym, ap, refl, ◌∙◌, arith, ⊎_elim, ◌&&◌, ◌||◌, not, min, max, eq-eqb, ne_eqb, le-leb, lt-leb, lt-ltb, le-ltb, and_left, and_right, cases_eq, cases_lt, length-map, get_or-map, get_or_read, map-set, list_any_more, div-add-mod', mul-add-div, mul-lt-mul_of_pos_left, div-lt_iff_lt-mul, mul_comm, Piece, is_in_granule, is_touched, HeatCounts, raised, counted_times, warmed_times, heated_times, reaches, row_begin, AreGranulesOf, warmed_at, heated_besides}
 use Rattle.instrument.proofs.Warming.{warmed-same, warmed-none, warmed-besides, warmed-more}
 
 -- a count that is written back into its list

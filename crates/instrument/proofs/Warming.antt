@@ -1,12 +1,5 @@
 -- Counts by granule: what more in some of them is, and more in some and then in others.
-use Rattle.std.proofs.Common.{◌≡◌, ℕ, ◌+◌, ◌<◌, Bool, true, false, List, [], ◌∷◌, ◌++◌, length, get_or, set, map, take, replicate, sym, ap, refl, ◌∙◌, arith, ⊎_elim}
-use Rattle.std.specs.Prelude.{◌&&◌, ◌||◌, not, if◌then◌else◌}
-use Rattle.std.specs.List.{enumerate_from}
-use Rattle.std.proofs.Math.Path.{fun_ext}
-use Rattle.std.proofs.lemmas.Bool.{cases_eq}
-use Rattle.std.proofs.lemmas.List.{length-set, get_or-set_same, get_or-set_other, ext_get_or, map_push, map_more}
-use Rattle.instrument.specs.WarmingLaws.{length-warmed_blob, length-warmed, get-warmed_blob, get-warmed}
-use Rattle.instrument.specs.Counters.{raised, counted_times, granules_of, warmed_blob, warmed_times}
+use Rattle.instrument.proofs.Imports.{◌≡◌, ℕ, ◌+◌, ◌<◌, Bool, true, false, List, [], ◌∷◌, ◌++◌, length, get_or, set, map, take, replicate, sym, ap, refl, ◌∙◌, arith, ⊎_elim, ◌&&◌, ◌||◌, not, if◌then◌else◌, enumerate_from, fun_ext, cases_eq, length-set, get_or-set_same, get_or-set_other, ext_get_or, map_push, map_more, length-warmed_blob, length-warmed, get-warmed_blob, get-warmed, raised, counted_times, granules_of, warmed_blob, warmed_times}
 
 -- tests that agree
 pub warmed-same : (times : ℕ) (hot hot' : ℕ → ℕ → Bool) (blobs : List (List ℕ)) → ((blob at : ℕ) → hot blob at ≡ hot' blob at) → warmed_times times hot blobs ≡ warmed_times times hot' blobs

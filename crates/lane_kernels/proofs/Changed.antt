@@ -1,10 +1,5 @@
 -- The rows of a table, of which some in line were changed by a kernel.
-use Rattle.std.proofs.Common.{◌≡◌, ℕ, zero, suc, ◌+◌, ◌≤◌, List, [], ◌∷◌, ◌++◌, length, take, drop, map, set, ℤ, Option, Some, None, refl, sym, ap, ◌∙◌, arith}
-use Rattle.std.proofs.lemmas.List.{take-append-drop}
-use Rattle.views.specs.Stores.{Keeping}
-use Rattle.views.specs.Columns.{with_column}
-use Rattle.lane_kernels.specs.Kernels.{Store, stored, with_store, run_rows}
-use Rattle.lane_kernels.specs.declared.kernel.Kernel.{Kernel}
+use Rattle.lane_kernels.proofs.Imports.{◌≡◌, ℕ, zero, suc, ◌+◌, ◌≤◌, List, [], ◌∷◌, ◌++◌, length, take, drop, map, set, ℤ, Option, Some, None, refl, sym, ap, ◌∙◌, arith, take-append-drop, Keeping, with_column, Store, stored, with_store, run_rows, Kernel}
 
 -- as many rows as before
 pub rows_count : (keep : Keeping) (kernel : Kernel) (row : ℕ) (rows : List (List ℤ)) → length (run_rows keep kernel row rows) ≡ length rows

@@ -1,17 +1,6 @@
 -- The fault of the first row that does not take what a kernel stores.
-use Rattle.std.proofs.Common.{◌≡◌, ℕ, zero, suc, ◌+◌, ◌<◌, ◌≤◌, List, [], ◌∷◌, ◌++◌, length, map, take, ℤ, Option, Some, None, Result, Ok, Err, refl, ap, ◌∙◌, arith}
-use Rattle.std.specs.Prelude.{option_map}
-use Rattle.std.specs.Option.{option_or}
-use Rattle.views.specs.Columns.{lane_fault, first_lane_fault}
-use Rattle.views.specs.Stores.{Answer}
-use Rattle.views.specs.declared.fault.LaneFault.{LaneFault}
-use Rattle.views.specs.declared.fault.StoreFault.{StoreFault}
+use Rattle.lane_kernels.proofs.Imports.{◌≡◌, ℕ, zero, suc, ◌+◌, ◌<◌, ◌≤◌, List, [], ◌∷◌, ◌++◌, length, map, take, ℤ, Option, Some, None, Result, Ok, Err, refl, ap, ◌∙◌, arith, option_map, option_or, lane_fault, first_lane_fault, Answer, LaneFault, StoreFault, Store, stored, fault_named, answer_fault, store_fault, first_fault, rows_before, named_row, rows_done, stored_count, told_lane, KernelFault, Kernel}
 use Rattle.views.specs.declared.fault.StoreFault.TheVariants as store
-use Rattle.lane_kernels.specs.Kernels.{Store, stored, fault_named, answer_fault, store_fault, first_fault, rows_before}
-use Rattle.lane_kernels.specs.Runs.{named_row, rows_done}
-use Rattle.views.specs.Runs.{stored_count, told_lane}
-use Rattle.lane_kernels.specs.declared.fault.KernelFault.{KernelFault}
-use Rattle.lane_kernels.specs.declared.kernel.Kernel.{Kernel}
 use Rattle.lane_kernels.proofs.Changed.{DoesStore}
 
 -- the fault of rows is that of the values that are stored in them

@@ -1,25 +1,5 @@
 -- A leaf that is reduced run after run.
-use Rattle.std.proofs.Common.{◌≡◌, ℕ, ◌+◌, ◌-◌, ◌<◌, ◌≤◌, ◌^◌, Bool, true, false, List, [], ◌++◌, length, take, map, fold, min, FitsSigned, ℤ, pos, ◌+ℤ◌, Option, sym, ap, subst, ◌∙◌, arith, length-take}
-use Rattle.std.specs.Prelude.{nat_le, if◌then◌else◌}
-use Rattle.std.specs.Int.{w128, div_ceil}
-use Rattle.std.specs.List.{range_with_len}
-use Rattle.std.specs.Simd.Lanes.{Each1}
-use Rattle.std.proofs.Math.Seq.{take-add}
-use Rattle.std.proofs.lemmas.List.{length-map, map-append, map-id}
-use Rattle.std.proofs.lemmas.Simd.{Each1-chunk, Each1-get_or, Each1-weaker}
-use Rattle.record_dim.specs.declared.leaf_type.LeafType.{LeafType}
-use Rattle.record_dim.specs.declared.leaf_type.LeafType.TheVariants.{U64}
-use Rattle.record_dim.specs.LeafTypes.{width_of, IsDeclared}
-use Rattle.piece_bits.specs.Lows.{low_64, IsWithin64}
-use Rattle.views.specs.Columns.{in_leaf, column, column_reads, IsNarrowLeaf}
-use Rattle.views.specs.Runs.{raised, run_of, run_steps}
-use Rattle.views.specs.RunsLaws.{declared_within, raised_all}
-use Rattle.views.specs.Tables.{Table, IsTable, leaf_count_of, leaf_type_of, after_log}
-use Rattle.views.specs.TallyLaws.{after_log-append, after_log-none}
-use Rattle.views.specs.Tallies.{Access, Read}
-use Rattle.lane_kernels.specs.Kernels.{IsNarrow}
-use Rattle.lane_kernels.specs.Reductions.{reduced_by, with_more}
-use Rattle.lane_kernels.specs.declared.reduce.Reduction.{Reduction}
+use Rattle.lane_kernels.proofs.Imports.{◌≡◌, ℕ, ◌+◌, ◌-◌, ◌<◌, ◌≤◌, ◌^◌, Bool, true, false, List, [], ◌++◌, length, take, map, fold, min, FitsSigned, ℤ, pos, ◌+ℤ◌, Option, sym, ap, subst, ◌∙◌, arith, length-take, nat_le, if◌then◌else◌, w128, div_ceil, range_with_len, Each1, take-add, length-map, map-append, map-id, Each1-chunk, Each1-get_or, Each1-weaker, LeafType, U64, width_of, IsDeclared, low_64, IsWithin64, in_leaf, column, column_reads, IsNarrowLeaf, raised, run_of, run_steps, declared_within, raised_all, Table, IsTable, leaf_count_of, leaf_type_of, after_log, after_log-append, after_log-none, Access, Read, IsNarrow, reduced_by, with_more, Reduction}
 use Rattle.lane_kernels.proofs.Logs.{ranges}
 use Rattle.lane_kernels.proofs.Numbers.{declared_column, narrow_column, narrow_rows, read_whole}
 use Rattle.lane_kernels.proofs.Reductions.{more_of, wide_sum_fits}

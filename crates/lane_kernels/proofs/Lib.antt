@@ -1,9 +1,10 @@
-pub mod Stepping
-pub mod Logs
+mod Imports
 pub mod Changed
 pub mod Faults
-pub mod Reductions
-pub mod Numbers
 pub mod LeafRuns
+pub mod Logs
+pub mod Numbers
+pub mod Reductions
+pub mod Stepping
 pub mod Stores
 pub mod Whole

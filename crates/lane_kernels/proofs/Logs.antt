@@ -1,7 +1,5 @@
 -- Logs of rows from one on.
-use Rattle.std.proofs.Common.{◌≡◌, ℕ, zero, suc, ◌+◌, List, ◌∷◌, ◌++◌, ap, ◌∙◌, arith}
-use Rattle.std.specs.List.{flat_map, range_with_len}
-use Rattle.std.proofs.lemmas.List.Concat.{flat_map-append}
+use Rattle.lane_kernels.proofs.Imports.{◌≡◌, ℕ, zero, suc, ◌+◌, List, ◌∷◌, ◌++◌, ap, ◌∙◌, arith, flat_map, range_with_len, flat_map-append}
 
 -- numbers from one on, after those before
 pub ranges : (first row step : ℕ) → range_with_len first (row + step) ≡ range_with_len first row ++ range_with_len (first + row) step

@@ -1,34 +1,6 @@
 -- The number of the values of a leaf, and of more of them.
-use Rattle.std.proofs.Common.{◌≡◌, ℕ, zero, suc, ◌+◌, ◌<◌, ◌≤◌, ◌^◌, Bool, cond, List, [], ◌∷◌, ◌++◌, length, get_or, take, drop, map, fold, FitsSigned, to_z, ℤ, pos, ◌+ℤ◌, w64, Option, Some, None, refl, sym, ap, subst, ◌∙◌, arith, length-take, length-drop}
-use Rattle.std.specs.Prelude.{option_map}
-use Rattle.std.specs.List.{count_by, sum_by}
-use Rattle.std.specs.Option.{unwrap_or}
-use Rattle.std.proofs.Math.Seq.{take-add}
-use Rattle.std.proofs.lemmas.Int.{ints, to_z_pos}
-use Rattle.std.proofs.lemmas.List.{length-map, map-append, take-map}
-use Rattle.std.proofs.lemmas.List.Sums.{sum_by-append, count_by-le-length}
-use Rattle.std.specs.Simd.Lanes.{Each1}
-use Rattle.std.proofs.lemmas.Simd.{Each1-chunk, Each1-weaker}
-use Rattle.piece_bits.specs.Plain.{SumsFit}
-use Rattle.piece_bits.specs.NarrowLaws.{narrow_sum_fits}
-use Rattle.piece_bits.specs.BlockLaws.{narrow_fits}
-use Rattle.places.specs.Image.{entry}
-use Rattle.record_dim.specs.declared.leaf_type.LeafType.{LeafType}
-use Rattle.record_dim.specs.declared.leaf_type.LeafType.TheVariants.{Bool as Truth, U8, U16, U32, U64, I8, I16, I32, I64}
-use Rattle.record_dim.specs.LeafTypes.{width_of, IsDeclared}
-use Rattle.record_dim.specs.Leaves.{leaves}
-use Rattle.piece_bits.specs.Tables.{hold_at}
-use Rattle.piece_bits.specs.EntryLaws.{stays_declared}
-use Rattle.views.specs.Tables.{Table, IsTable, leaf_types_of, leaf_type_of, leaf_count_of, table_holds}
-use Rattle.views.specs.Stores.{Keeping}
-use Rattle.lane_kernels.specs.Kernels.{Compare, compares, column, in_leaf, number_of, run_rows, IsNarrow, IsNarrowLeaf}
-use Rattle.lane_kernels.specs.Reductions.{reduced_by, with_more}
-use Rattle.lane_kernels.specs.Runs.{number_so_far, AreNext}
-use Rattle.lane_kernels.specs.declared.reduce.Reduction.{Reduction}
-use Rattle.piece_bits.specs.Lows.{low_64}
-use Rattle.piece_bits.specs.LowsLaws.{low_same}
-use Rattle.lane_kernels.specs.declared.kernel.Kernel.{Kernel}
-use Rattle.lane_kernels.specs.declared.kernel.Kernel.TheVariants.{Axpy, Clamp, Sum, Least, Greatest, CountWhere}
+use Rattle.lane_kernels.proofs.Imports.{◌≡◌, ℕ, zero, suc, ◌+◌, ◌<◌, ◌≤◌, ◌^◌, Bool, cond, List, [], ◌∷◌, ◌++◌, length, get_or, take, drop, map, fold, FitsSigned, to_z, ℤ, pos, ◌+ℤ◌, w64, Option, Some, None, refl, sym, ap, subst, ◌∙◌, arith, length-take, length-drop, option_map, count_by, sum_by, unwrap_or, take-add, ints, to_z_pos, length-map, map-append, take-map, sum_by-append, count_by-le-length, Each1, Each1-chunk, Each1-weaker, SumsFit, narrow_sum_fits, narrow_fits, entry, LeafType, Truth, U8, U16, U32, U64, I8, I16, I32, I64, width_of, IsDeclared, leaves, hold_at, stays_declared, Table, IsTable, leaf_types_of, leaf_type_of, leaf_count_of, table_holds, Keeping, Compare, compares, number_of, run_rows, IsNarrow, reduced_by, with_more, number_so_far, AreNext, Reduction, low_64, low_same, Kernel, Axpy, Clamp, Sum, Least, Greatest, CountWhere}
+use Rattle.lane_kernels.specs.Kernels.{column, in_leaf, IsNarrowLeaf}
 use Rattle.lane_kernels.proofs.Changed.{rows_stand}
 use Rattle.lane_kernels.proofs.Reductions.{none_before, more_of, plain_more, run_sums_fit}
 

@@ -1,22 +1,6 @@
 -- What a reduction gives of some numbers and of more of them.
-use Rattle.std.proofs.Common.{◌≡◌, ℕ, zero, suc, ◌+◌, ◌*◌, ◌-◌, ◌^◌, ◌≤◌, List, [], ◌∷◌, ◌++◌, length, take, drop, map, fold, FitsSigned, ℤ, pos, negsuc, neg_ℤ, ◌+ℤ◌, ◌≤ℤ◌, w64, Option, Some, None, refl, sym, ap, subst, ◌∙◌, arith, length-take}
-use Rattle.std.specs.Prelude.{option_map}
-use Rattle.std.specs.Int.{int_min, int_max, w128}
-use Rattle.std.specs.List.{slice_get}
-use Rattle.std.specs.Option.{unwrap_or, option_or}
-use Rattle.std.specs.Simd.Lanes.{Each1}
-use Rattle.std.proofs.lemmas.Int.{ints, int_min_is, int_max_is}
-use Rattle.std.proofs.Math.Seq.{take-add}
-use Rattle.std.proofs.lemmas.List.{map-id, take-take, take_all}
-use Rattle.std.proofs.lemmas.List.Folds.{fold-map}
-use Rattle.std.proofs.lemmas.List.Sums.{fold-append}
-use Rattle.std.proofs.lemmas.Simd.{Each1-chunk}
+use Rattle.lane_kernels.proofs.Imports.{◌≡◌, ℕ, zero, suc, ◌+◌, ◌*◌, ◌-◌, ◌^◌, ◌≤◌, List, [], ◌∷◌, ◌++◌, length, take, drop, map, fold, FitsSigned, ℤ, pos, negsuc, neg_ℤ, ◌+ℤ◌, ◌≤ℤ◌, w64, Option, Some, None, refl, sym, ap, subst, ◌∙◌, arith, length-take, option_map, int_min, int_max, w128, slice_get, unwrap_or, option_or, Each1, ints, int_min_is, int_max_is, take-add, map-id, take-take, take_all, fold-map, fold-append, Each1-chunk, narrow_sum_fits, SumsFit, IsWithin64, reduced_by, extreme_with, with_more, CanAdd, Reduction}
 use Rattle.piece_bits.specs.Blocks.{IsNarrow}
-use Rattle.piece_bits.specs.NarrowLaws.{narrow_sum_fits}
-use Rattle.piece_bits.specs.Plain.{SumsFit}
-use Rattle.piece_bits.specs.Lows.{IsWithin64}
-use Rattle.lane_kernels.specs.Reductions.{reduced_by, extreme_with, with_more, CanAdd}
-use Rattle.lane_kernels.specs.declared.reduce.Reduction.{Reduction}
 use Rattle.lane_kernels.specs.declared.reduce.Reduction.TheVariants.{Sum, Least, Greatest}
 
 -- where there are none before, and where it is known of those

@@ -1,9 +1,5 @@
 -- Rows that go together, in blocks of so many lanes and the rest one by one, or as many as may.
-use Rattle.std.proofs.Common.{◌≡◌, ℕ, zero, suc, ◌+◌, ◌-◌, ◌*◌, ◌/◌, ◌%◌, ◌<◌, ◌≤◌, ◌⊎◌, Bool, true, false, min, inl, inr, refl, sym, ap, ◌∙◌, arith}
-use Rattle.std.proofs.Math.Nat.{add-div_right, add-mod_right, add-mul-div_right, div-eq_of_lt, mod-eq_of_lt, mul_comm, mul-add, mul-le-mul_left, mul-le-mul_right}
-use Rattle.std.proofs.lemmas.Bool.Decides.{nat_tests}
-use Rattle.lane_kernels.specs.Blocks.{step_of, IsAt, sixteens, cost}
-use Rattle.lane_kernels.specs.Logs.{rows_read}
+use Rattle.lane_kernels.proofs.Imports.{◌≡◌, ℕ, zero, suc, ◌+◌, ◌-◌, ◌*◌, ◌/◌, ◌%◌, ◌<◌, ◌≤◌, ◌⊎◌, Bool, true, false, min, inl, inr, refl, sym, ap, ◌∙◌, arith, add-div_right, add-mod_right, add-mul-div_right, div-eq_of_lt, mod-eq_of_lt, mul_comm, mul-add, mul-le-mul_left, mul-le-mul_right, nat_tests, step_of, IsAt, sixteens, cost, rows_read}
 
 pub at_start : (lanes count : ℕ) → 0 < lanes → IsAt lanes count 0
 at_start lanes count some = record { inside = omega arith; even = inl (omega arith) }

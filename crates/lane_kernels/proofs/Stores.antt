@@ -1,25 +1,5 @@
 -- The table after the rows that a kernel goes through together.
-use Rattle.std.proofs.Common.{◌≡◌, ℕ, ◌+◌, ◌≤◌, List, [], ◌∷◌, ◌++◌, length, map, take, drop, ℤ, ◌+ℤ◌, ◌*ℤ◌, Option, None, refl, sym, ap, subst, ◌∙◌, arith, length-take, length-drop}
-use Rattle.std.specs.Prelude.{option_map}
-use Rattle.std.specs.Int.{int_min, int_max}
-use Rattle.std.specs.List.{flat_map, range_with_len}
-use Rattle.std.specs.Simd.Lanes.{zip2}
-use Rattle.std.proofs.lemmas.Simd.{map-map, zip2-map}
-use Rattle.std.proofs.lemmas.List.{append-nil, length-map, take-map, take-take}
-use Rattle.std.proofs.lemmas.List.Concat.{flat_map-cons}
-use Rattle.places.specs.Layout.{Owner}
-use Rattle.views.specs.Columns.{in_leaf, column, column_reads, column_writes, with_column}
-use Rattle.views.specs.Tables.{Table, owners_of, answer_of, kept_of, after_log, after_stores}
-use Rattle.views.specs.TallyLaws.{after_log-append, after_stores-append, tallied-append}
-use Rattle.views.specs.OrderLaws.{tallied-kinds}
-use Rattle.views.specs.Tallies.{Access, Read, Write, Tally, tallied}
-use Rattle.lane_kernels.specs.Kernels.{stored, first_fault, run_rows}
-use Rattle.lane_kernels.specs.Logs.{reads_on, writes_on}
-use Rattle.lane_kernels.specs.Runs.{named_row, rows_done, AreTaken}
-use Rattle.views.specs.Runs.{run_fault, stored_count, with_run}
-use Rattle.lane_kernels.specs.declared.fault.KernelFault.{KernelFault}
-use Rattle.lane_kernels.specs.declared.kernel.Kernel.{Kernel}
-use Rattle.lane_kernels.specs.declared.kernel.Kernel.TheVariants.{Axpy, Clamp}
+use Rattle.lane_kernels.proofs.Imports.{◌≡◌, ℕ, ◌+◌, ◌≤◌, List, [], ◌∷◌, ◌++◌, length, map, take, drop, ℤ, ◌+ℤ◌, ◌*ℤ◌, Option, None, refl, sym, ap, subst, ◌∙◌, arith, length-take, length-drop, option_map, int_min, int_max, flat_map, range_with_len, zip2, map-map, zip2-map, append-nil, length-map, take-map, take-take, flat_map-cons, Owner, in_leaf, column, column_reads, column_writes, with_column, Table, owners_of, answer_of, kept_of, after_log, after_stores, after_log-append, after_stores-append, tallied-append, tallied-kinds, Access, Read, Write, Tally, tallied, stored, first_fault, run_rows, reads_on, writes_on, named_row, rows_done, AreTaken, run_fault, stored_count, with_run, KernelFault, Kernel, Axpy, Clamp}
 use Rattle.lane_kernels.proofs.Changed.{DoesStore, rows_stored, rows_passed}
 use Rattle.lane_kernels.proofs.Faults.{faults_alike, no_fault, done_inside, done_stored}
 

@@ -1,22 +1,6 @@
 -- A kernel over all rows.
-use Rattle.std.proofs.Common.{◌≡◌, ℕ, ◌+◌, ◌-◌, ◌<◌, ◌≤◌, Bool, true, false, List, [], ◌∷◌, ◌++◌, length, take, drop, ℤ, Option, Some, None, Result, Ok, Err, refl, sym, ap, ◌∙◌, arith, length-take}
-use Rattle.std.specs.List.{flat_map, range_with_len}
-use Rattle.std.proofs.Math.Seq.{take-add}
-use Rattle.std.proofs.lemmas.List.{take_all}
-use Rattle.places.specs.Layout.{Owner}
-use Rattle.views.specs.Tables.{Table, owners_of, answer_of, kept_of, after_log, after_stores}
-use Rattle.views.specs.TallyLaws.{after_log-none, tallied-append}
-use Rattle.views.specs.OrderLaws.{tallied-kinds, swapped, apart}
-use Rattle.views.specs.Tallies.{Access, Tally, tallied}
-use Rattle.views.specs.declared.fault.StoreFault.{StoreFault}
+use Rattle.lane_kernels.proofs.Imports.{◌≡◌, ℕ, ◌+◌, ◌-◌, ◌<◌, ◌≤◌, Bool, true, false, List, [], ◌∷◌, ◌++◌, length, take, drop, ℤ, Option, Some, None, Result, Ok, Err, refl, sym, ap, ◌∙◌, arith, length-take, flat_map, range_with_len, take-add, take_all, Owner, Table, owners_of, answer_of, kept_of, after_log, after_stores, after_log-none, tallied-append, tallied-kinds, swapped, apart, Access, Tally, tallied, StoreFault, fault_named, first_fault, empty_fault, kernel_fault, run_rows, number_of, rows_before, IsRun, reads_on, writes_on, rows_log, rows_read, stopped_log, fault_log, number_so_far, after_rows, IsOfNoRow, AreTaken, AreDone, KernelFault, Empty, Kernel, Axpy, Clamp, Sum, Least, Greatest, CountWhere}
 use Rattle.views.specs.declared.fault.StoreFault.TheVariants as store
-use Rattle.lane_kernels.specs.Kernels.{fault_named, first_fault, empty_fault, kernel_fault, run_rows, number_of, rows_before, IsRun}
-use Rattle.lane_kernels.specs.Logs.{reads_on, writes_on, rows_log, rows_read, stopped_log, fault_log}
-use Rattle.lane_kernels.specs.Runs.{number_so_far, after_rows, IsOfNoRow, AreTaken, AreDone}
-use Rattle.lane_kernels.specs.declared.fault.KernelFault.{KernelFault}
-use Rattle.lane_kernels.specs.declared.fault.KernelFault.TheVariants.{Empty}
-use Rattle.lane_kernels.specs.declared.kernel.Kernel.{Kernel}
-use Rattle.lane_kernels.specs.declared.kernel.Kernel.TheVariants.{Axpy, Clamp, Sum, Least, Greatest, CountWhere}
 use Rattle.lane_kernels.proofs.Logs.{logs_from}
 use Rattle.lane_kernels.proofs.Changed.{rows_count, rows_from, rows_more}
 use Rattle.lane_kernels.proofs.Faults.{fault_append, fault_is_named, fault_stays, before_named}

@@ -1,22 +1,6 @@
 -- The runs of scripts that are within the limits are those over their lines.
-use Rattle.std.proofs.Common.{◌≡◌, ℕ, ◌≤◌, ◌^◌, Bool, false, ltb, List, length, Option, None, Some, sym, ap, ◌∙◌, arith}
-use Rattle.std.specs.Prelude.{if◌then◌else◌, Result}
-use Rattle.std.proofs.lemmas.Bool.Decides.{nat_tests}
-use Rattle.layout_io.specs.Files.{File, file_of}
-use Rattle.line_grammar.specs.Sentences.{Sentence, deepest}
-use Rattle.line_grammar.specs.declared.version.Version.{Version}
-use Rattle.schema_lang.specs.LineOf.{line_of}
-use Rattle.worlds.specs.Worlds.{World, empty}
-use Rattle.worlds.specs.Outcomes.{Outcome, Faults, Left}
-use Rattle.worlds.specs.Step.{step}
-use Rattle.worlds.specs.declared.fault.CommandFault.TheVariants.{LineTooLong, TooDeep, ScriptTooLong}
-use Rattle.worlds.specs.Fold.{run_from, fails_at}
-use Rattle.equal_runs.specs.EqualRuns.{DoesLines, EqualRuns}
-use Rattle.session_runs.specs.Steps.{step_text, step_line}
-use Rattle.session_runs.specs.Scripts.{run_form, run_headed, run_versioned, faulted, script_lines, version_line, version_said, without_version}
-use Rattle.layout_cli.specs.Run.{run_file, run_script}
-use Rattle.layout_cli.specs.EqualScripts.{IsScript, EqualScripts}
-use Rattle.session_runs.specs.Heads.{RunsUnversioned}
+use Rattle.layout_cli.proofs.Imports.{◌≡◌, ℕ, ◌≤◌, ◌^◌, Bool, false, ltb, List, length, Option, None, Some, sym, ap, ◌∙◌, arith, if◌then◌else◌, nat_tests, File, file_of, Sentence, deepest, Version, line_of, World, empty, Outcome, Faults, Left, step, LineTooLong, TooDeep, ScriptTooLong, run_from, fails_at, DoesLines, EqualRuns, step_text, step_line, run_form, run_headed, run_versioned, faulted, script_lines, version_line, version_said, without_version, run_file, run_script, IsScript, EqualScripts, RunsUnversioned}
+use Rattle.std.specs.Prelude.{Result}
 
 -- a text that is a line within the limits does what the line does
 pub text_does : (version : Version) (files : List File) → DoesLines version files (step_text version files)

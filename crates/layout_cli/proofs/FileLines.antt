@@ -1,30 +1,7 @@
 -- Which of the generated lines read a file, and which.
-use Rattle.std.proofs.Common.{◌≡◌, ℕ, suc, ◌+◌, Bool, false, List, [], ◌∷◌, ◌++◌, length, Some, None, Result, Ok, Err, codes, nat_eq, refl, sym, ap, subst, ◌∙◌, arith}
-use Rattle.std.specs.Prelude.{◌||◌, if◌then◌else◌, IfSome}
-use Rattle.std.specs.List.{AllByRecursion}
-use Rattle.std.proofs.lemmas.Bool.Decides.{nat_tests}
-use Rattle.line_tokens.specs.Bytes.{is_hash}
-use Rattle.line_tokens.specs.Next.{token_at, placed}
+use Rattle.layout_cli.proofs.Imports.{◌≡◌, ℕ, suc, ◌+◌, Bool, false, List, [], ◌∷◌, ◌++◌, length, Some, None, Result, Ok, Err, codes, nat_eq, refl, sym, ap, subst, ◌∙◌, arith, ◌||◌, if◌then◌else◌, IfSome, AllByRecursion, nat_tests, is_hash, token_at, placed, tokens_of, New, Sentence, Load, Blank, bracket_list_at, listed_at, rest_at, extent_at, fixed_at, map_at, form_or_name_at, form_at, aos_at, steps_at, Aos, Count, Rows, Row, Packed, line_at, command_at, body_at, new_at, flag_at, load_at, One, line_of, told, spots_in, spots_within, spots_behind, generated_lines, generated_files, file_of, Spot, Token, digits_text, file_in}
 use Rattle.line_tokens.specs.declared.token.Next.TheVariants.{End}
-use Rattle.line_grammar.specs.Reads.{tokens_of}
-use Rattle.line_grammar.specs.Sentences.{New, Sentence, Load, Blank}
-use Rattle.line_phrases.specs.Lists.{bracket_list_at, listed_at, rest_at, extent_at, fixed_at}
-use Rattle.line_phrases.specs.Maps.{map_at, form_or_name_at, form_at, aos_at}
-use Rattle.phrases.specs.Reading.{steps_at}
-use Rattle.map_expr.specs.Terms.{Aos, Count}
-use Rattle.extents.specs.declared.words.ExtentWord.TheVariants.{Rows}
-use Rattle.extents.specs.declared.order.Order.TheVariants.{Row}
-use Rattle.places.specs.declared.forms.AosForm.TheVariants.{Packed}
-use Rattle.schema_lang.specs.Bodies.{line_at, command_at, body_at, new_at, flag_at, load_at}
-use Rattle.line_grammar.specs.declared.version.Version.TheVariants.{One}
-use Rattle.schema_lang.specs.LineOf.{line_of, told, spots_in, spots_within, spots_behind}
-use Rattle.layout_cli.specs.Generated.{generated_lines, generated_files}
-use Rattle.layout_io.specs.Files.{file_of}
-use Rattle.line_tokens.specs.declared.spots.Spot.{Spot}
-use Rattle.line_grammar.specs.declared.token.Token.{Token}
-use Rattle.layout_io.specs.Decimal.{digits_text}
 use Rattle.layout_cli.proofs.NoFile.{reads_file, ReadsNone, gives, stops, line_none}
-use Rattle.line_grammar.specs.Sentences.{file_of as file_in}
 
 abbrev sentence_in : Result Sentence ℕ → Sentence
 sentence_in (Ok sentence) = sentence

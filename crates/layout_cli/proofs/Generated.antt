@@ -1,27 +1,8 @@
 -- The run over the generated script reads no file that is not there, so it ends as a run that reads nothing.
-use Rattle.std.proofs.Common.{◌≡◌, ℕ, ◌+◌, ◌≤◌, Bool, true, false, inl, ⊎_elim, List, [], ◌∷◌, get_or, drop, length, Option, None, Some, Result, Ok, Err, refl, sym, ap, subst, ◌∙◌, arith, lit≤}
-use Rattle.std.specs.Prelude.{if◌then◌else◌, nat_lt}
-use Rattle.std.specs.List.{AllByRecursion}
-use Rattle.layout_io.specs.Faults.{Rose}
-use Rattle.layout_io.specs.Files.{File}
-use Rattle.line_grammar.specs.Sentences.{Sentence, deepest}
-use Rattle.schema_lang.specs.LineOf.{line_of}
-use Rattle.worlds.specs.Worlds.{World, empty}
-use Rattle.worlds.specs.Outcomes.{Outcome, Goes, Faults, CannotRead, Left}
-use Rattle.worlds.specs.declared.fault.CommandFault.TheVariants.{LineTooLong, TooDeep, ScriptTooLong}
-use Rattle.worlds.specs.Outcome.{Output, End, Unread, Gives, IsText}
-use Rattle.worlds.specs.Fold.{run_from, after}
-use Rattle.worlds.specs.RunAnswers.{Answers, IsRun, HasCause, HasSinkCause}
-use Rattle.worlds.specs.declared.status.Status.{Status}
-use Rattle.worlds.specs.declared.status.Status.TheVariants.{Done, CommandFault, Usage, SourceFault, SinkFault, NoMemory}
-use Rattle.layout_cli.specs.Generated.{script_text, dataset_text, generated_lines, generated_files}
-use Rattle.line_grammar.specs.declared.version.Version.TheVariants.{One}
-use Rattle.session_runs.specs.Steps.{step_text, step_line}
-use Rattle.session_runs.specs.Scripts.{run_form, run_headed, script_lines, version_line, faulted}
-use Rattle.layout_cli.specs.Run.{run, run_file, run_words, run_generated, script_name, gen_words}
+use Rattle.layout_cli.proofs.Imports.{◌≡◌, ℕ, ◌+◌, ◌≤◌, Bool, true, false, inl, ⊎_elim, List, [], ◌∷◌, get_or, drop, length, Option, None, Some, Result, Ok, Err, refl, sym, ap, subst, ◌∙◌, arith, lit≤, if◌then◌else◌, AllByRecursion, Rose, File, Sentence, deepest, line_of, World, empty, Outcome, Goes, Faults, CannotRead, Left, LineTooLong, TooDeep, ScriptTooLong, Output, End, Unread, Gives, IsText, run_from, after, Answers, IsRun, HasCause, HasSinkCause, Status, Done, CommandFault, Usage, SourceFault, SinkFault, NoMemory, script_text, dataset_text, generated_lines, generated_files, One, step_text, step_line, run_form, run_headed, script_lines, version_line, faulted, run, run_file, run_words, run_generated, script_name, gen_words, said_first}
+use Rattle.std.specs.Prelude.{nat_lt}
 use Rattle.layout_cli.proofs.ScriptLines.{script_lines_are}
 use Rattle.layout_cli.proofs.FileLines.{ReadsDataset, lines_read}
-use Rattle.session_runs.specs.HeadLaws.{said_first}
 use Rattle.layout_cli.proofs.Readable.{IsReadable, goes, faults, refused_or, step_reads}
 
 abbrev IsUnread : End → Type 0

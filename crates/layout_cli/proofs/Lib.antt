@@ -1,10 +1,11 @@
-pub mod Runs
-pub mod Equals
-pub mod Readable
-pub mod ScriptLines
-pub mod NoFile
-pub mod FileLines
-pub mod Generated
-mod Words
+mod Imports
 mod Negated
 mod Texts
+mod Words
+pub mod Equals
+pub mod FileLines
+pub mod Generated
+pub mod NoFile
+pub mod Readable
+pub mod Runs
+pub mod ScriptLines

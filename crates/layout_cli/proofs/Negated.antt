@@ -1,11 +1,5 @@
 -- The decimal text of a negated number of 32 bits, as it is computed in 64.
-use Rattle.std.proofs.Common.{◌≡◌, ℕ, ◌^◌, ◌<◌, ℤ, pos, neg_ℤ, ◌-ℤ◌, FitsSigned, ap, ◌∙◌, arith}
-use Rattle.std.specs.Int.{w64}
-use Rattle.std.specs.Fmt.{signed_decimal}
-use Rattle.std.proofs.lemmas.Int.{ints, to_z-of_z}
-use mir.Val.{to_z, of_z}
-use Rattle.layout_io.specs.Decimal.{decimal_text}
-use Rattle.layout_io.specs.DecimalLaws.{signed_decimal-decimal_text}
+use Rattle.layout_cli.proofs.Imports.{◌≡◌, ℕ, ◌^◌, ◌<◌, ℤ, pos, neg_ℤ, ◌-ℤ◌, FitsSigned, ap, ◌∙◌, arith, w64, signed_decimal, ints, to_z-of_z, to_z, of_z, decimal_text, signed_decimal-decimal_text}
 
 pub negated : (n : ℕ) (z : ℤ) → n < 2 ^ 32 → z ≡ pos n → signed_decimal (to_z w64 (of_z w64 (pos 0 -ℤ to_z w64 (of_z w64 z)))) ≡ decimal_text (neg_ℤ (pos n))
 negated n z small is =

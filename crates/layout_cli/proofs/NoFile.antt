@@ -1,30 +1,8 @@
 -- Which lines read no file, by their first token.
-use Rattle.std.proofs.Common.{◌≡◌, ℕ, Bool, true, false, List, [], ◌∷◌, length, Option, Some, None, Result, Ok, Err, codes, refl}
-use Rattle.std.specs.Prelude.{if◌then◌else◌}
-use Rattle.phrases.specs.Reading.{◌>>=◌, item_at, past, starts, item_or, then_at, give_at, behind_at, either_at, which_at}
+use Rattle.layout_cli.proofs.Imports.{◌≡◌, ℕ, Bool, true, false, List, [], ◌∷◌, length, Option, Some, None, Result, Ok, Err, codes, refl, if◌then◌else◌, ◌>>=◌, item_at, past, starts, item_or, then_at, give_at, behind_at, either_at, which_at, Sentence, Value, Assignment, is_sign, is_word, name_of, count_of, reduction_of, command_of, Token, Command, ShowKind, Version, One, Two, may_have_window, line_at, command_at, body_at, define_at, mapping_at, new_at, view_at, assign_at, update_at, kernel_line_at, reduce_at, copy_at, relayout_at, flag_at, show_at, bytes_at, advise_at, stencil_at, Dot, Equals, Slash, expr_at, fields_at, bracket_list_at, cuts_at, fixed_at, listed_at, map_at, passes_at, path_at, terms_at, window_at, kernel_at, actors_at, assignment_at, filter_at, update_end_at, file_in}
 use Rattle.phrases.specs.Ended.{ended}
-use Rattle.line_grammar.specs.Sentences.{Sentence, Value, Assignment}
 use Rattle.line_grammar.specs.Sentences as line
-use Rattle.line_grammar.specs.Tokens.{is_sign, is_word, name_of, count_of, reduction_of, command_of}
-use Rattle.line_grammar.specs.declared.token.Token.{Token}
-use Rattle.line_grammar.specs.declared.line.Command.{Command}
 use Rattle.line_grammar.specs.declared.line.Command.TheVariants as command
-use Rattle.line_grammar.specs.declared.line.ShowKind.{ShowKind}
-use Rattle.line_grammar.specs.declared.version.Version.{Version}
-use Rattle.line_grammar.specs.declared.version.Version.TheVariants.{One, Two}
-use Rattle.line_grammar.specs.Versions.{may_have_window}
-use Rattle.schema_lang.specs.Bodies.{line_at, command_at, body_at, define_at, mapping_at, new_at, view_at, assign_at, update_at, kernel_line_at, reduce_at, copy_at, relayout_at, flag_at, show_at, bytes_at, advise_at, stencil_at}
-use Rattle.line_tokens.specs.declared.sign.Sign.TheVariants.{Dot, Equals, Slash}
-use Rattle.line_phrases.specs.Exprs.{expr_at}
-use Rattle.line_phrases.specs.Fields.{fields_at}
-use Rattle.line_phrases.specs.Lists.{bracket_list_at, cuts_at, fixed_at, listed_at}
-use Rattle.line_phrases.specs.Maps.{map_at}
-use Rattle.line_phrases.specs.Passes.{passes_at}
-use Rattle.line_phrases.specs.Paths.{path_at}
-use Rattle.line_phrases.specs.Stencils.{terms_at, window_at}
-use Rattle.schema_lang.specs.Kernels.{kernel_at}
-use Rattle.schema_lang.specs.Updates.{actors_at, assignment_at, filter_at, update_end_at}
-use Rattle.line_grammar.specs.Sentences.{file_of as file_in}
 
 -- whether the first of these tokens is the word of a command that reads a file
 abbrev pub is_reader : Option Command → Bool

@@ -1,71 +1,13 @@
 -- Lines that can read what they read.
-use Rattle.std.proofs.Common.{◌≡◌, ℕ, ◌+◌, ◌*◌, ◌^◌, not, nat_lt, Bool, true, false, pos, List, [], ◌∷◌, ◌++◌, length, Option, Some, None, is_some, nat_eq, ◌||◌, Result, Ok, Err, ℤ, sym, subst}
-use Rattle.std.specs.Prelude.{IfSome, if◌then◌else◌, ◌&&◌}
-use Rattle.std.specs.List.{list_any, slice_index_or}
-use Rattle.extents.specs.Indices.{indices}
-use Rattle.linearize.specs.Slots.{place_in}
-use Rattle.layout_io.specs.Files.{File, file_of}
-use Rattle.extents.specs.declared.window.Span.{Span}
-use Rattle.extents.specs.declared.words.ExtentWord.{ExtentWord}
-use Rattle.record_dim.specs.Trees.{Tree, Fields}
-use Rattle.map_expr.specs.Terms.{Term as MapTerm, Aos, Soa, Aosoa, BitAos, BitSoa, Split, Byteswap, Bytesplit, Change, Count, Heat, Named as NamedTerm}
+use Rattle.layout_cli.proofs.Imports.{◌≡◌, ℕ, ◌+◌, ◌*◌, ◌^◌, not, nat_lt, Bool, true, false, pos, List, [], ◌∷◌, ◌++◌, length, Option, Some, None, is_some, nat_eq, Result, Ok, Err, ℤ, sym, subst, IfSome, if◌then◌else◌, ◌&&◌, list_any, slice_index_or, indices, place_in, File, file_of, Span, ExtentWord, Tree, Fields, MapTerm, Aos, Soa, Aosoa, BitAos, BitSoa, Split, Byteswap, Bytesplit, Change, Count, Heat, NamedTerm, New, file_in, StoreMode, Table, owners_of, World, Entry, found, Outcome, Goes, Faults, each, refused_if, refused_by, ok_or, some_or, known, free, BadMapping, BadKernel, BadActors, BadWindow, BadStencil, BadAdvice, TooBig, Taken, Unknown, Cuts, Turns, Granule, Passes, Candidates, Lanes, Wide, Constant, Reach, Weight, Terms, Rounds, Name, records_of, rows_of, PathStep, Value, PassText, ShowKind, ReduceKind, Sum, Min, Max, KernelText, TermText, Kernel, advice, stenciled, is_divisor, WindowOf, actor_of, shared_byte, updated_of, Term, kinds_of, bad_granule, accepted, leaf_cells, most_slots, granules_for, define, fit, mapping, view, new_table, named, Named, load, loaded_table, loaded, filled, read, there, with_table, on_view, assigned, inside, updated_by_actors, fit_cuts, shared, leaves_at, leaves_under, bound_pass, fit_advice, advise_fault, asked, advise, bound_term, all_reach, all_weigh, fit_terms, fit_stencil, stencil_fault, stencil_run, are_inside, windowed, print_window, updated, update_fault, reduction, reduced, counting, column, copy, relayout, with_rows, copied, laid_anew, all_read, kernel_run, fit_kernel, fits, fit_leaf, is_wide, is_factor, is_constant, are_bounds, are_lanes, opened, table_of, save, bad_file, opened_beside, opened_table, open_view, print, counts, heat, layout, showing, bytes, drop_view, small, made, resolved, room, shaped, zeros_of, blob_bits, live_bits, nameless, leaf_of, bound, bound_filter, bound_set, bound_sets, each_once, leaves_of, value_on, storable, step}
+use Rattle.std.proofs.Common.{◌||◌}
 use Rattle.line_grammar.specs.Sentences as line
-use Rattle.line_grammar.specs.Sentences.{New, file_of as file_in}
-use Rattle.piece_bits.specs.declared.mode.StoreMode.{StoreMode}
-use Rattle.views.specs.Tables.{Table, owners_of}
-use Rattle.worlds.specs.Worlds.{World, Entry, found}
 use Rattle.worlds.specs.declared.fault.CommandFault.{CommandFault}
-use Rattle.worlds.specs.Outcomes.{Outcome, Goes, Faults, ◌>>=◌, each, refused_if, refused_by, ok_or, some_or, known, free}
-use Rattle.worlds.specs.declared.fault.CommandFault.TheVariants.{BadMapping, BadKernel, BadActors, BadWindow, BadStencil, BadAdvice, TooBig, Taken, Unknown}
-use Rattle.worlds.specs.declared.fault.BadActors.TheVariants.{Cuts, Turns}
-use Rattle.worlds.specs.declared.fault.BadAdvice.TheVariants.{Granule, Passes, Candidates}
-use Rattle.worlds.specs.declared.fault.BadKernel.TheVariants.{Lanes, Wide, Constant}
-use Rattle.worlds.specs.declared.fault.BadStencil.TheVariants.{Reach, Weight, Terms, Rounds}
-use Rattle.worlds.specs.declared.fault.UnknownName.TheVariants.{Name}
-use Rattle.csv_rows.specs.Datasets.{records_of, rows_of}
-use Rattle.record_dim.specs.declared.path.PathStep.{PathStep}
-use Rattle.line_grammar.specs.Sentences.{Value}
-use Rattle.line_grammar.specs.declared.line.PassText.{PassText}
-use Rattle.line_grammar.specs.declared.line.ShowKind.{ShowKind}
+use Rattle.worlds.specs.Outcomes.{◌>>=◌}
 use Rattle.line_grammar.specs.declared.line.ShowKind.TheVariants as show
-use Rattle.line_grammar.specs.declared.line.ReduceKind.{ReduceKind}
-use Rattle.line_grammar.specs.declared.line.ReduceKind.TheVariants.{Sum, Min, Max}
-use Rattle.line_grammar.specs.declared.line.KernelText.{KernelText}
 use Rattle.line_grammar.specs.declared.line.KernelText.TheVariants as text
-use Rattle.line_grammar.specs.declared.line.TermText.{TermText}
-use Rattle.lane_kernels.specs.declared.kernel.Kernel.{Kernel}
-use Rattle.advisor.specs.Advice.{advice}
-use Rattle.subviews.specs.Stencils.{stenciled, is_divisor}
-use Rattle.subviews.specs.SubViews.{WindowOf}
-use Rattle.actor_steps.specs.Cuts.{actor_of}
-use Rattle.actor_steps.specs.Shared.{shared_byte}
-use Rattle.row_updates.specs.Rows.{updated_of}
-use Rattle.expr_lang.specs.Terms.{Term}
-use Rattle.record_dim.specs.Leaves.{kinds_of}
-use Rattle.map_expr.specs.Checks.{bad_granule}
-use Rattle.map_checks.specs.Mappings.{accepted, leaf_cells, most_slots}
-use Rattle.views.specs.Tallies.{granules_for}
-use Rattle.worlds.specs.Define.{define, fit}
-use Rattle.worlds.specs.Mapping.{mapping}
-use Rattle.worlds.specs.View.{view, new_table, named, Named}
-use Rattle.worlds.specs.Load.{load, loaded_table, loaded, filled, read, there}
-use Rattle.worlds.specs.OnView.{Done, with_table, on_view}
-use Rattle.worlds.specs.Assign.{assigned, inside}
-use Rattle.worlds.specs.Actors.{updated_by_actors, fit_cuts, shared}
-use Rattle.worlds.specs.Advise.{leaves_at, leaves_under, bound_pass, fit_advice, advise_fault, asked, advise}
-use Rattle.worlds.specs.Stencil.{bound_term, all_reach, all_weigh, fit_terms, fit_stencil, stencil_fault, stencil_run}
-use Rattle.worlds.specs.Windows.{are_inside, windowed, print_window}
-use Rattle.worlds.specs.Update.{updated, update_fault}
-use Rattle.worlds.specs.Reduce.{reduction, reduced, counting, column}
-use Rattle.worlds.specs.Copy.{copy, relayout, with_rows, copied, laid_anew, all_read}
-use Rattle.worlds.specs.Kernel.{kernel_run, fit_kernel, fits, fit_leaf, run, is_wide, is_factor, is_constant, are_bounds, are_lanes}
-use Rattle.blob_file.specs.Opened.{opened, table_of}
-use Rattle.worlds.specs.Files.{save, bad_file, opened_beside, opened_table, open_view}
-use Rattle.worlds.specs.Show.{print, counts, heat, layout, showing, bytes, drop_view, small}
-use Rattle.worlds.specs.Tables.{made, resolved, room, shaped, zeros_of, blob_bits, live_bits}
-use Rattle.worlds.specs.Names.{nameless, leaf_of, bound, bound_filter, bound_set, bound_sets, each_once, leaves_of}
-use Rattle.worlds.specs.Values.{value_on, storable}
-use Rattle.worlds.specs.Step.{step}
+use Rattle.worlds.specs.OnView.{Done}
+use Rattle.worlds.specs.Kernel.{run}
 
 -- it goes on or is refused, and is not that a file can't be read
 pub data IsReadable {A : Type 0} : Outcome A → Type 0 where

@@ -1,22 +1,5 @@
 -- From the run of a script that was read to the run of the words that name it.
-use Rattle.std.proofs.Common.{◌≡◌, ℕ, ◌+◌, ◌≤◌, ◌^◌, inl, Bool, true, false, ltb, List, [], ◌∷◌, length, Option, None, Some, refl, sym, ap, subst, ◌∙◌, arith, rules, tests}
-use Rattle.std.specs.Prelude.{if◌then◌else◌, IsSomeAnd}
-use Rattle.std.proofs.lemmas.Bool.Decides.{nat_tests}
-use Rattle.layout_io.specs.Files.{File, file_of, HasFile}
-use Rattle.layout_io.specs.WritingLaws.{with_bytes-nil}
-use Rattle.worlds.specs.Worlds.{World, empty}
-use Rattle.worlds.specs.Outcomes.{Outcome, Goes, Faults, CannotRead, Left}
-use Rattle.worlds.specs.declared.fault.CommandFault.TheVariants.{ScriptTooLong}
-use Rattle.worlds.specs.Outcome.{Output, End, Unread, Gives}
-use Rattle.worlds.specs.RunAnswers.{IsRun, HasCause}
-use Rattle.worlds.specs.Fold.{run_from, after, fails_at}
-use Rattle.worlds.specs.declared.status.Status.{Status}
-use Rattle.worlds.specs.declared.status.Status.TheVariants.{Done, CommandFault, Usage, SourceFault, SinkFault, NoMemory}
-use Rattle.line_grammar.specs.declared.version.Version.{Version}
-use Rattle.session_runs.specs.Steps.{step_text}
-use Rattle.session_runs.specs.Scripts.{run_form, run_headed, run_versioned, faulted, script_lines, version_line, version_said, without_version}
-use Rattle.layout_cli.specs.Run.{run_file, run_script}
-use Rattle.session_runs.specs.RunLaws.{IsSame, run_of_same}
+use Rattle.layout_cli.proofs.Imports.{◌≡◌, ℕ, ◌+◌, ◌≤◌, ◌^◌, inl, Bool, true, false, ltb, List, [], ◌∷◌, length, Option, None, Some, refl, sym, ap, subst, ◌∙◌, arith, rules, tests, if◌then◌else◌, IsSomeAnd, nat_tests, File, file_of, HasFile, with_bytes-nil, World, empty, Outcome, Goes, Faults, CannotRead, Left, ScriptTooLong, Output, End, Unread, Gives, IsRun, HasCause, run_from, after, fails_at, Status, Done, CommandFault, Usage, SourceFault, SinkFault, NoMemory, Version, step_text, run_form, run_headed, run_versioned, faulted, script_lines, version_line, version_said, without_version, run_file, run_script, IsSame, run_of_same}
 
 -- nothing was taken, and there was no memory
 pub run_starved : {K : Type 0} (taken : K → Option (List ℕ)) (old : K) (run : Option ℕ → Output) (read_failed : Type 0) → IsRun taken old old run read_failed NoMemory

@@ -1,18 +1,6 @@
 -- The lines of the generated script are those that it is made of.
-use Rattle.std.proofs.Common.{◌≡◌, ℕ, ◌+◌, ◌-◌, ◌%◌, ◌^◌, ◌<◌, ◌≤◌, Bool, true, false, nat_lt, ◌==◌, List, [], ◌∷◌, ◌++◌, map, length, take, codes, flat_map, refl, ap, ◌∙◌, append_assoc, arith}
-use Rattle.std.specs.Prelude.{slice_index_or, if◌then◌else◌}
-use Rattle.std.specs.List.{list_all, slice_split, AllByRecursion, AllPass}
-use Rattle.std.specs.Fmt.{decimal}
-use Rattle.std.proofs.lemmas.Bool.Decides.{nat_tests}
-use Rattle.std.proofs.lemmas.Fmt.{decimal_by_steps_wide}
-use Rattle.std.proofs.lemmas.List.Folds.{list_all-append}
-use Rattle.std.proofs.lemmas.List.Splits.{slice_split_at}
-use Rattle.std.proofs.lemmas.List.Sums.{AllPass-from_list_all}
-use Rattle.csv.specs.Reading.{strip_bom}
-use Rattle.layout_io.specs.Decimal.{digits_text}
-use Rattle.layout_io.specs.DecimalLaws.{decimal-digits_text}
-use Rattle.worlds.specs.Lines.{is_line_end, without_cr, ended_lines, lines_in}
-use Rattle.layout_cli.specs.Generated.{ended, generated_lines, script_text}
+use Rattle.layout_cli.proofs.Imports.{◌≡◌, ℕ, ◌+◌, ◌-◌, ◌%◌, ◌^◌, ◌<◌, ◌≤◌, Bool, true, false, nat_lt, ◌==◌, List, [], ◌∷◌, ◌++◌, map, length, take, codes, flat_map, refl, ap, ◌∙◌, append_assoc, arith, if◌then◌else◌, list_all, slice_split, AllByRecursion, AllPass, decimal, nat_tests, decimal_by_steps_wide, list_all-append, slice_split_at, AllPass-from_list_all, strip_bom, digits_text, decimal-digits_text, is_line_end, without_cr, ended_lines, lines_in, ended, generated_lines, script_text}
+use Rattle.std.specs.Prelude.{slice_index_or}
 
 -- no byte that could be a part of the end of a line
 abbrev pub is_plain : List ℕ → Bool

@@ -1,8 +1,6 @@
 -- Texts that grow at their end.
-use Rattle.std.proofs.Common.{◌≡◌, ℕ, suc, ◌+◌, ◌-◌, ◌<◌, ℤ, List, [], ◌∷◌, ◌++◌, codes, sym, ap, ◌∙◌, append_assoc, append-nil, arith}
-use Rattle.std.specs.List.{flat_map, range_with_len}
-use Rattle.layout_io.specs.Decimal.{decimal_text}
-use Rattle.layout_cli.specs.Generated.{ended, with_commas, row_text}
+use Rattle.layout_cli.proofs.Imports.{◌≡◌, ℕ, suc, ◌+◌, ◌-◌, ◌<◌, ℤ, List, [], ◌∷◌, ◌++◌, codes, sym, ap, ◌∙◌, append_assoc, append-nil, arith, range_with_len, decimal_text, ended, with_commas, row_text}
+use Rattle.std.specs.List.{flat_map}
 
 -- one piece more was put
 pub more : (piece was now old : List ℕ) → now ≡ was ++ piece → was ≡ old → now ≡ old ++ piece

@@ -1,15 +1,6 @@
 -- What parsing a word tells of the number that it names.
-use Rattle.std.proofs.Common.{◌≡◌, ℕ, Bool, true, false, ◌&&◌, nat_le, if◌then◌else◌, List, Option, Some, None, Result, bytes_eq, refl, sym, ap, ◌∙◌, arith}
-use Rattle.std.specs.Prelude.{IfSome}
-use Rattle.std.specs.Result.{result_unwrap_or}
-use Rattle.std.specs.Str.Parse.{ParsesUnsigned, AllDigits, digits_value}
-use Rattle.std.proofs.lemmas.Bool.Decides.{nat_tests}
-use Rattle.std.proofs.lemmas.Slice.Eq.{bytes_eq-Decides}
-use Rattle.std.proofs.lemmas.Str.Parse.{numerals_by_value, tells_digits}
-use Rattle.std.proofs.lemmas.Fmt.{parse-decimal, digits_value-decimal}
-use Rattle.layout_io.specs.Decimal.{digits_text}
-use Rattle.layout_io.specs.DecimalLaws.{decimal-digits_text}
-use Rattle.layout_cli.specs.Numbers.{is_number_word, number_of, IsNumberWord}
+use Rattle.layout_cli.proofs.Imports.{◌≡◌, ℕ, Bool, true, false, nat_le, List, Option, Some, None, Result, bytes_eq, refl, sym, ap, ◌∙◌, arith, IfSome, result_unwrap_or, ParsesUnsigned, AllDigits, digits_value, nat_tests, bytes_eq-Decides, numerals_by_value, tells_digits, parse-decimal, digits_value-decimal, digits_text, decimal-digits_text, is_number_word, number_of, IsNumberWord}
+use Rattle.std.proofs.Common.{◌&&◌, if◌then◌else◌}
 
 tested : (a b c : Bool) → ((a && b) && c) ≡ true → (a ≡ true) × (b ≡ true) × (c ≡ true)
 tested true true true is = (refl, refl, refl)

@@ -1,21 +1,5 @@
 -- Rounds of slots one after another.
-use Rattle.std.proofs.Common.{◌≡◌, ⊎_elim, ℕ, ◌+◌, ◌*◌, ◌/◌, ◌%◌, ◌<◌, ◌≤◌, Bool, true, false, ◌||◌, List, [], ◌∷◌, map, take, length, get_or, sum_by, refl, sym, ap, ◌∙◌, arith}
-use Rattle.std.specs.Prelude.{◌==◌, min, if◌then◌else◌}
-use Rattle.std.specs.List.{range_with_len}
-use Rattle.std.proofs.Math.Nat.{mul-mod_left}
-use Rattle.std.proofs.lemmas.Nat.{div-add-mod', mul-le}
-use Rattle.std.proofs.lemmas.Bool.{cases_lt, eqb-true, or_right}
-use Rattle.std.proofs.lemmas.List.{length-map, get_or-map}
-use Rattle.std.proofs.lemmas.List.Sums.{sum_by-cons, sum_by_more, sum_by-le-sum_by}
-use Rattle.record_dim.specs.declared.leaf_type.LeafType.{LeafType}
-use Rattle.record_dim.specs.declared.leaf_type.LeafType.TheVariants.{Bool as Truth}
-use Rattle.blobs.specs.Moves.{blocks}
-use Rattle.views.specs.CutLaws.{all_pieces}
-use Rattle.views.specs.Moves.{size_of}
-use Rattle.views.specs.Pieces.{is_cut, piece_count, piece_at, slot_steps}
-use Rattle.views.specs.SpanLaws.{span_join, sum_both}
-use Rattle.views.specs.Stores.{kind_at}
-use Rattle.layout_copy.specs.Costs.{piece_steps, steps_at, steps_before}
+use Rattle.layout_copy.proofs.Imports.{◌≡◌, ⊎_elim, ℕ, ◌+◌, ◌*◌, ◌/◌, ◌%◌, ◌<◌, ◌≤◌, Bool, true, false, ◌||◌, List, [], ◌∷◌, map, take, length, get_or, sum_by, refl, sym, ap, ◌∙◌, arith, ◌==◌, min, if◌then◌else◌, range_with_len, mul-mod_left, div-add-mod', mul-le, cases_lt, eqb-true, or_right, length-map, get_or-map, sum_by-cons, sum_by_more, sum_by-le-sum_by, LeafType, Truth, blocks, all_pieces, size_of, is_cut, piece_count, piece_at, slot_steps, span_join, sum_both, kind_at, piece_steps, steps_at, steps_before}
 
 -- slots are cut at the multiples of the lesser of two numbers
 pub cut_at : (one two slot : ℕ) → slot % min one two ≡ 0 → is_cut one two slot ≡ true

@@ -1,28 +1,5 @@
 -- Tables that are copied leaf after leaf of a piece of slots, and piece after piece.
-use Rattle.std.proofs.Common.{◌≡◌, ⊎_elim, ℕ, ◌+◌, ◌<◌, ◌≤◌, ℤ, List, [], ◌∷◌, length, sum_by, Option, Some, None, option_map, refl, sym, ap, ◌∙◌, subst, arith}
-use Rattle.std.specs.Prelude.{IfSome, IsSomeAnd}
-use Rattle.std.proofs.lemmas.Bool.{cases_lt}
-use Rattle.std.proofs.lemmas.List.Sums.{sum_by-cons}
-use Rattle.extents.specs.Indices.{indices}
-use Rattle.extents.specs.declared.order.Order.{Order}
-use Rattle.linearize.specs.Slots.{slot_at, slot_count}
-use Rattle.linearize.specs.SlotsLaws.{slot_at_below}
-use Rattle.places.specs.Image.{entry}
-use Rattle.piece_bits.specs.TableLaws.{tables_same}
-use Rattle.piece_bits.specs.Tables.{HasShape}
-use Rattle.map_expr.specs.Terms.{Term}
-use Rattle.map_checks.specs.Arrays.{array_of, lanes_in}
-use Rattle.map_any.specs.ArraySlots.{slots_in}
-use Rattle.map_any.specs.Strategies.{AreRuns}
-use Rattle.map_any.specs.declared.arrays.ArraySlots.{ArraySlots}
-use Rattle.views.specs.CutLaws.{same_steps}
-use Rattle.views.specs.Moves.{IsRunMoved}
-use Rattle.views.specs.MovesLaws.{with_rows}
-use Rattle.views.specs.Pieces.{slot_steps, move_steps, HasSlots}
-use Rattle.views.specs.Tables.{Table, IsTable, leaf_count_of}
-use Rattle.layout_copy.specs.Copies.{AreAlike}
-use Rattle.layout_copy.specs.Costs.{round_steps, run_steps, steps_before}
-use Rattle.layout_copy.specs.Runs.{order_in, order_by, IsPieceMoved}
+use Rattle.layout_copy.proofs.Imports.{◌≡◌, ⊎_elim, ℕ, ◌+◌, ◌<◌, ◌≤◌, ℤ, List, [], ◌∷◌, length, sum_by, Option, Some, None, option_map, refl, sym, ap, ◌∙◌, subst, arith, IfSome, IsSomeAnd, cases_lt, sum_by-cons, indices, Order, slot_at, slot_count, slot_at_below, entry, tables_same, HasShape, Term, array_of, lanes_in, slots_in, AreRuns, ArraySlots, same_steps, IsRunMoved, with_rows, slot_steps, move_steps, HasSlots, Table, IsTable, leaf_count_of, AreAlike, round_steps, run_steps, steps_before, order_in, order_by, IsPieceMoved}
 
 -- what is said of the order of an array's slots
 in_order : (o : Option (Order × Option ℕ)) (P : Order → Type 0) (Q : Order × Option ℕ → Type 0) → IsSomeAnd o Q → IfSome o (λ array. P array.0) → P (order_in o)

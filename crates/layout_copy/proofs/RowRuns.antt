@@ -1,12 +1,5 @@
 -- Tables that are copied leaf after leaf of a run of rows, and run after run.
-use Rattle.std.proofs.Common.{◌≡◌, ℕ, ◌+◌, ◌*◌, ◌<◌, ◌≤◌, List, length, sym, ap, ◌∙◌, arith}
-use Rattle.extents.specs.Indices.{indices}
-use Rattle.linearize.specs.Slots.{slot_count}
-use Rattle.views.specs.MovesLaws.{with_rows}
-use Rattle.views.specs.RunsLaws.{AreBefore}
-use Rattle.views.specs.Tables.{Table, IsTable, leaf_count_of}
-use Rattle.layout_copy.specs.Copies.{AreAlike}
-use Rattle.layout_copy.specs.Runs.{order_by}
+use Rattle.layout_copy.proofs.Imports.{◌≡◌, ℕ, ◌+◌, ◌*◌, ◌<◌, ◌≤◌, List, length, sym, ap, ◌∙◌, arith, indices, slot_count, with_rows, AreBefore, Table, IsTable, leaf_count_of, AreAlike, order_by}
 use Rattle.layout_copy.proofs.Pieces.{all_below}
 
 -- ---- tables that are alike

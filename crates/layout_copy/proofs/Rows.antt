@@ -1,12 +1,6 @@
 -- Rows that are read, stored and copied, one leaf or one row more.
-use Rattle.std.proofs.Common.{◌≡◌, Bool, true, false, ℕ, zero, suc, ◌+◌, ◌*◌, ◌<◌, ◌≤◌, ℤ, pos, List, [], ◌∷◌, ◌++◌, length, take, drop, get_or, set, Option, Some, None, if◌then◌else◌, is_ok, refl, sym, ap, ◌∙◌, arith}
-use Rattle.std.proofs.lemmas.List.{length-map, get_or-map, at_drop_more, take_more, get_or-set_same, length-set, take-set-le}
-use Rattle.views.specs.Tables.{Table, answer_of, kept_of, leaf_count_of, after_log, after_stores, after_read}
-use Rattle.views.specs.Stores.{Answer, kept_row, kept_rows}
-use Rattle.views.specs.HalfLaws.{half, half_more}
-use Rattle.views.specs.TallyLaws.{after_log-none, after_log-append, logs_more, accesses_more}
-use Rattle.views.specs.Tallies.{Access, Read, Write, row_accesses, all_accesses}
-use Rattle.layout_copy.specs.Copies.{refusing, refused_at, spot_or}
+use Rattle.layout_copy.proofs.Imports.{◌≡◌, Bool, true, false, ℕ, zero, suc, ◌+◌, ◌*◌, ◌<◌, ◌≤◌, ℤ, pos, List, [], ◌∷◌, ◌++◌, length, take, drop, get_or, set, Option, Some, None, is_ok, refl, sym, ap, ◌∙◌, arith, length-map, get_or-map, at_drop_more, take_more, get_or-set_same, length-set, take-set-le, Table, answer_of, kept_of, leaf_count_of, after_log, after_stores, after_read, Answer, kept_row, kept_rows, half, half_more, after_log-none, after_log-append, logs_more, accesses_more, Access, Read, Write, row_accesses, all_accesses, refusing, refused_at, spot_or}
+use Rattle.std.proofs.Common.{if◌then◌else◌}
 
 -- the leaves from one on are the one and those behind it
 leaf_at : (answer : Answer) (values : List ℤ) (leaf : ℕ) → leaf < length values → refusing answer leaf (drop leaf values) ≡ refusing answer leaf (get_or values leaf (pos 0) ∷ drop (leaf + 1) values)

@@ -1,20 +1,6 @@
 -- By which way a copy goes.
-use Rattle.std.proofs.Common.{◌≡◌, inl, inr, ℕ, false, List, Some, refl, sym, ap, subst, ◌∙◌}
-use Rattle.std.specs.Prelude.{slice_get}
-use Rattle.std.proofs.lemmas.Option.{get_or_from_slice_get}
-use Rattle.record_dim.specs.declared.leaf_type.LeafType.{LeafType}
-use Rattle.record_dim.specs.declared.leaf_type.LeafType.TheVariants.{Bool as Truth}
-use Rattle.places.specs.Holds.{hold_of}
-use Rattle.places.specs.declared.piece.Hold.{Hold}
-use Rattle.piece_bits.specs.Tables.{hold_at}
-use Rattle.map_expr.specs.Terms.{Term}
-use Rattle.map_any.specs.Strategies.{IsStrategy}
-use Rattle.map_any.specs.declared.strategy.Strategy.{Strategy}
+use Rattle.layout_copy.proofs.Imports.{◌≡◌, inl, inr, ℕ, false, List, Some, refl, sym, ap, subst, ◌∙◌, slice_get, get_or_from_slice_get, LeafType, Truth, hold_of, Hold, hold_at, Term, IsStrategy, Strategy, IsOwn, kind_at, Table, IsWay, MayMoveTo}
 use Rattle.map_any.specs.declared.strategy.Strategy.TheVariants as way
-use Rattle.views.specs.Moves.{IsOwn}
-use Rattle.views.specs.Stores.{kind_at}
-use Rattle.views.specs.Tables.{Table}
-use Rattle.layout_copy.specs.Costs.{IsWay, MayMoveTo}
 
 -- there is one strategy of two expressions
 one_strategy : (one two : Term) (a b : Strategy) → IsStrategy one two a → IsStrategy one two b → a ≡ b

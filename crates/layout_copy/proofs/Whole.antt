@@ -1,32 +1,6 @@
 -- Tables that are copied whole: what they hold, what is counted, and the steps.
-use Rattle.std.proofs.Common.{◌≡◌, ◌+◌, ◌*◌, ◌<◌, ◌≤◌, ℕ, ℤ, List, [], ◌++◌, append-nil, length, Option, Some, None, Ok, Err, refl, sym, ap, ◌∙◌, subst, arith}
-use Rattle.std.specs.Prelude.{Result, IsErrOf, IsSomeAnd}
-use Rattle.extents.specs.Indices.{indices}
-use Rattle.std.proofs.lemmas.List.{length-map}
-use Rattle.record_dim.specs.Leaves.{Leaf, leaves, kinds_of}
-use Rattle.record_dim.specs.Trees.{Fields}
-use Rattle.places.specs.Image.{entry}
-use Rattle.places.specs.declared.piece.Hold.{Hold}
-use Rattle.piece_bits.specs.Tables.{HasShape, hold_at}
-use Rattle.map_expr.specs.Terms.{Term, uncounted}
-use Rattle.map_checks.specs.Mappings.{leaf_cells, holds_by}
-use Rattle.map_checks.specs.Arrays.{array_of}
-use Rattle.map_any.specs.Strategies.{AreRuns}
-use Rattle.map_any.specs.declared.strategy.Strategy.{Strategy}
+use Rattle.layout_copy.proofs.Imports.{◌≡◌, ◌+◌, ◌*◌, ◌<◌, ◌≤◌, ℕ, ℤ, List, [], ◌++◌, append-nil, length, Option, Some, None, Ok, Err, refl, sym, ap, ◌∙◌, subst, arith, Result, IsErrOf, IsSomeAnd, indices, length-map, Leaf, leaves, kinds_of, Fields, entry, Hold, HasShape, hold_at, Term, uncounted, leaf_cells, holds_by, array_of, AreRuns, Strategy, fitting_stays, stays_declared, with_rows, stays_moves, may_move, runs_full, CountsNothing, AllStay, Table, IsTable, table_holds, leaf_count_of, leaf_type_of, leaf_types_of, after_log, after_stores, Read, Write, all_accesses, all_touches, holds_uncounted, AreAlike, IsCopied, cost, IsWay, MayMoveTo, staying_held, staying_kept, AllTake, CopyFault, Mismatch, Narrow}
 use Rattle.map_any.specs.declared.strategy.Strategy.TheVariants as way
-use Rattle.piece_bits.specs.EntryLaws.{fitting_stays, stays_declared}
-use Rattle.views.specs.MovesLaws.{with_rows, stays_moves, may_move, runs_full}
-use Rattle.views.specs.Runs.{CountsNothing}
-use Rattle.views.specs.Stores.{AllStay}
-use Rattle.views.specs.Tables.{Table, IsTable, table_holds, leaf_count_of, leaf_type_of, leaf_types_of, after_log, after_stores}
-use Rattle.views.specs.Tallies.{Read, Write, all_accesses, all_touches}
-use Rattle.views.specs.UncountedLaws.{holds_uncounted}
-use Rattle.layout_copy.specs.Copies.{AreAlike, IsCopied}
-use Rattle.layout_copy.specs.Costs.{cost, IsWay, MayMoveTo}
-use Rattle.layout_copy.specs.OwnLaws.{staying_held, staying_kept}
-use Rattle.layout_copy.specs.RowRuns.{AllTake}
-use Rattle.layout_copy.specs.declared.fault.CopyFault.{CopyFault}
-use Rattle.layout_copy.specs.declared.fault.CopyFault.TheVariants.{Mismatch, Narrow}
 use Rattle.layout_copy.proofs.WayLaws.{one_way}
 
 -- the steps of a copy field by field

@@ -1,2 +1,3 @@
+mod Imports
 pub mod Links
 pub mod Steps

@@ -1,18 +1,5 @@
 -- How the reading of a chain goes on, and of what stands in front of a value.
-use Rattle.std.proofs.Common.{◌≡◌, ℕ, suc, ◌+◌, true, false, List, Option, Some, Result, Ok, Err, codes, refl, sym, ap, ◌∙◌, add-one}
-use Rattle.phrases.specs.Reading.{◌>>=◌, starts, past, item_at, give_at}
-use Rattle.phrases.specs.RepeatedLaws.{Steps, steps_end, steps_shrink, steps_stepped, steps_stop}
-use Rattle.line_tokens.specs.declared.sign.Sign.TheVariants.{Minus}
-use Rattle.expr_lang.specs.declared.expr.BinOp.{BinOp}
-use Rattle.expr_lang.specs.Terms.{Binary}
-use Rattle.line_grammar.specs.declared.token.Token.{Token}
-use Rattle.line_grammar.specs.declared.token.Token.TheVariants.{Word, Sign as Signed}
-use Rattle.line_grammar.specs.Tokens.{is_sign, is_word, or_of, and_of, sum_of, product_of}
-use Rattle.line_grammar.specs.Sentences.{Value}
-use Rattle.line_grammar.specs.Grammar.{IsLink, wrapped}
-use Rattle.line_phrases.specs.Exprs.{means, link_at, links_at, next_at, count_at, unary_over, product_over, negation_over, conjunction_over, atom_at}
-use Rattle.line_phrases.specs.BasicsLaws.{exact_sign, exact_word}
-use Rattle.line_phrases.specs.LevelsLaws.{and_operator, atoms, conjunction_parses, link_steps, negation_parses, or_operator, prefix_steps, product_operator, product_parses, sum_operator, unary_parses}
+use Rattle.line_phrases.proofs.Imports.{◌≡◌, ℕ, suc, ◌+◌, true, false, List, Option, Some, Result, Ok, Err, codes, refl, sym, ap, ◌∙◌, add-one, ◌>>=◌, starts, past, item_at, give_at, Steps, steps_end, steps_shrink, steps_stepped, steps_stop, Minus, BinOp, Binary, Token, Word, Signed, is_sign, is_word, or_of, and_of, sum_of, product_of, Value, IsLink, wrapped, means, link_at, links_at, next_at, count_at, unary_over, product_over, negation_over, conjunction_over, atom_at, exact_sign, exact_word, and_operator, atoms, conjunction_parses, link_steps, negation_parses, or_operator, prefix_steps, product_operator, product_parses, sum_operator, unary_parses}
 
 -- an operator and an operand more, an operator that is none, and no operator
 

@@ -1,25 +1,5 @@
 -- How the reading of lists behind commas goes on: of spans, constants, terms, paths and maps; and of passes.
-use Rattle.std.proofs.Common.{◌≡◌, ℕ, true, false, List, [], ◌∷◌, ◌++◌, map, codes, Result, Ok, Err, refl, sym, ap, ◌∙◌, arith}
-use Rattle.phrases.specs.Reading.{starts, past, behind_at}
-use Rattle.phrases.specs.MoreLaws.{Takes, behind_bare, behind_stepped, behind_stop, listed_takes, more_end, more_stepped, more_stop}
-use Rattle.line_tokens.specs.declared.sign.Sign.TheVariants.{Comma}
-use Rattle.map_expr.specs.declared.expr.MapExpr.{MapExpr}
-use Rattle.map_expr.specs.Terms.{Term as MapTerm, term_of as map_of}
-use Rattle.line_grammar.specs.declared.line.PassText.{PassText}
-use Rattle.line_grammar.specs.declared.token.Token.{Token}
-use Rattle.line_grammar.specs.declared.version.Version.{Version}
-use Rattle.line_grammar.specs.Tokens.{is_sign, is_word}
-use Rattle.line_phrases.specs.Constants.{const_at}
-use Rattle.line_phrases.specs.Lists.{rest_at}
-use Rattle.line_phrases.specs.Maps.{map_at}
-use Rattle.line_phrases.specs.Passes.{later_passes_at, pass_at}
-use Rattle.line_phrases.specs.Paths.{path_at}
-use Rattle.line_phrases.specs.Stencils.{span_at, term_at}
-use Rattle.line_phrases.specs.ListLaws.{comma_listed}
-use Rattle.line_phrases.specs.MapLaws.{map_parses}
-use Rattle.line_phrases.specs.PassLaws.{passes_listed}
-use Rattle.line_phrases.specs.PathsLaws.{path_parses}
-use Rattle.line_phrases.specs.StencilLaws.{const_parses, span_parses, term_parses}
+use Rattle.line_phrases.proofs.Imports.{◌≡◌, ℕ, true, false, List, [], ◌∷◌, ◌++◌, map, codes, Result, Ok, Err, refl, sym, ap, ◌∙◌, arith, starts, past, behind_at, Takes, behind_bare, behind_stepped, behind_stop, listed_takes, more_end, more_stepped, more_stop, Comma, MapExpr, MapTerm, map_of, PassText, Token, Version, is_sign, is_word, const_at, rest_at, map_at, later_passes_at, pass_at, path_at, span_at, term_at, comma_listed, map_parses, passes_listed, path_parses, const_parses, span_parses, term_parses}
 
 -- how reading goes on behind a comma and a phrase, where such a phrase stops, where the comma does, and where there is none
 abbrev pub Stepped : {A : Type 0} → (List Token → Result (A × List Token) ℕ) → Type 0

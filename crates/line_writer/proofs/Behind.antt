@@ -1,16 +1,5 @@
 -- Tokens put at the end of a text one after another.
-use Rattle.std.proofs.Common.{◌≡◌, ℕ, suc, ◌+◌, ◌<◌, ◌≤◌, ◌-◌, List, [], ◌∷◌, ◌++◌, map, length, get_or, take, drop, codes, refl, sym, ap, ◌∙◌, add-one, drop-cons, append-nil, append_assoc, arith}
-use Rattle.std.specs.List.{flat_map}
-use Rattle.std.proofs.Math.Seq.{take-length}
-use Rattle.line_tokens.specs.Spelled.{spaced, joined}
-use Rattle.line_tokens.specs.declared.sign.Sign.TheVariants.{OpenBrace, CloseBrace, Comma}
-use Rattle.record_dim.specs.Trees.{Tree, Fields, Field}
-use Rattle.map_expr.specs.declared.widths.FieldWidth.{FieldWidth}
-use Rattle.line_grammar.specs.declared.token.Token.{Token}
-use Rattle.line_grammar.specs.declared.token.Token.TheVariants.{Word, Sign}
-use Rattle.line_grammar.specs.Sentences.{Sentence}
-use Rattle.line_writer.specs.Canonical.{with_commas, width_tokens, widths_tokens, fields_tokens, later_tokens, held_tokens, line_tokens}
-use Rattle.line_writer.specs.Texts.{written, canonical, behind}
+use Rattle.line_writer.proofs.Imports.{◌≡◌, ℕ, suc, ◌+◌, ◌<◌, ◌≤◌, ◌-◌, List, [], ◌∷◌, ◌++◌, map, length, get_or, take, drop, codes, refl, sym, ap, ◌∙◌, add-one, drop-cons, append-nil, append_assoc, arith, flat_map, take-length, spaced, joined, OpenBrace, CloseBrace, Comma, Tree, Fields, Field, FieldWidth, Token, Word, Sign, Sentence, with_commas, width_tokens, widths_tokens, fields_tokens, later_tokens, held_tokens, line_tokens, written, canonical, behind}
 
 pub behind_append : (text : List ℕ) (xs ys : List Token) → behind text (xs ++ ys) ≡ behind (behind text xs) ys
 behind_append text [] ys = refl

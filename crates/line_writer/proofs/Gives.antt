@@ -1,10 +1,5 @@
 -- What holds of each phrase whose tokens are spelled, composed as the phrases are.
-use Rattle.std.proofs.Common.{◌≡◌, ℕ, zero, suc, inl, inr, List, [], ◌∷◌, ◌++◌, Option, Some, None, subst, append-nil, append_assoc}
-use Rattle.phrases.specs.Phrases.{IsItem, Behind, Joined, IsEither, IsNothing, Chain, Repeats}
-use Rattle.line_tokens.specs.Spelled.{Spells}
-use Rattle.line_grammar.specs.declared.token.Token.{Token}
-use Rattle.line_grammar.specs.declared.token.Token.TheVariants.{Word, Number, Text, Sign, Bad}
-use Rattle.line_writer.specs.Texts.{written}
+use Rattle.line_writer.proofs.Imports.{◌≡◌, ℕ, zero, suc, inl, inr, List, [], ◌∷◌, ◌++◌, Option, Some, None, subst, append-nil, append_assoc, IsItem, Behind, Joined, IsEither, IsNothing, Chain, Repeats, Spells, Token, Word, Number, Text, Sign, Bad, written}
 
 -- the canonical bytes of a token spell it
 abbrev pub IsSpelled : Token → Type 0

@@ -1,28 +1,9 @@
 -- The phrases that may have other tokens than the canonical ones: lines with expressions and kernels. Their canonical tokens are
 -- read as the same line, and open few brackets at once.
-use Rattle.std.proofs.Common.{◌≡◌, ℕ, zero, suc, ◌+◌, ◌≤◌, max, List, [], ◌∷◌, ◌++◌, map, length, Option, Some, None, codes, ℤ, pos, negsuc, neg_ℤ, inl, inr, refl, sym, add-one, append-nil, append_assoc, arith}
-use Rattle.std.specs.List.{flat_map}
-use Rattle.phrases.specs.Phrases.{Behind, Joined, IsNothing, Chain}
-use Rattle.line_tokens.specs.declared.sign.Sign.TheVariants.{CloseBracket, OpenParen, CloseParen, Comma, Dot, Equals, Minus, EqualEqual, NotEqual, LessThan, LessEqual, GreaterThan, GreaterEqual}
-use Rattle.record_dim.specs.declared.path.PathStep.{PathStep}
-use Rattle.expr_lang.specs.declared.expr.BinOp.{BinOp}
-use Rattle.expr_lang.specs.declared.expr.BinOp.TheVariants.{Eq, Ne, Lt, Le, Gt, Ge}
-use Rattle.expr_lang.specs.Terms.{depth_of}
-use Rattle.line_grammar.specs.declared.token.Token.{Token}
-use Rattle.line_grammar.specs.declared.token.Token.TheVariants.{Word, Number, Text, Sign, Bad}
-use Rattle.line_grammar.specs.declared.version.Version.{Version}
-use Rattle.line_grammar.specs.declared.version.Version.TheVariants.{One, Two}
-use Rattle.line_grammar.specs.declared.line.Command.{Command}
+use Rattle.line_writer.proofs.Imports.{◌≡◌, ℕ, zero, suc, ◌+◌, ◌≤◌, max, List, [], ◌∷◌, ◌++◌, map, length, Option, Some, None, codes, ℤ, pos, negsuc, neg_ℤ, inl, inr, refl, sym, add-one, append-nil, append_assoc, arith, flat_map, Behind, Joined, IsNothing, Chain, CloseBracket, OpenParen, CloseParen, Comma, Dot, Equals, Minus, EqualEqual, NotEqual, LessThan, LessEqual, GreaterThan, GreaterEqual, PathStep, BinOp, Eq, Ne, Lt, Le, Gt, Ge, depth_of, Token, Word, Number, Text, Sign, Bad, Version, One, Two, Command, KernelText, KernelWord, number_of, kernel_word_of, comparison_of, command_of, Assignment, Sentence, Value, Assign, Update, Actors, Kernel, Count, filter_depth, deepest_set, deepest, Phrase, IsName, IsCount, IsNumber, IsPath, IsMore, IsListed, IsConst, IsExpr, IsBracketList, IsAssignment, IsCuts, IsFilter, IsUpdateEnd, IsKernelInside, IsKernel, IsBody, IsLine, operator, kernel_word, count_token, number_tokens, path_tokens, with_commas, form_tokens, value_tokens, assignment_tokens, filter_tokens, update_tokens, index_tokens, actors_tokens, kernel_tokens, line_tokens}
 use Rattle.line_grammar.specs.declared.line.Command.TheVariants as command
-use Rattle.line_grammar.specs.declared.line.KernelText.{KernelText}
 use Rattle.line_grammar.specs.declared.line.KernelText.TheVariants as kernel
-use Rattle.line_grammar.specs.declared.line.KernelWord.{KernelWord}
 use Rattle.line_grammar.specs.declared.line.KernelWord.TheVariants as word
-use Rattle.line_grammar.specs.Tokens.{number_of, kernel_word_of, comparison_of, command_of}
-use Rattle.line_grammar.specs.Sentences.{Assignment, Sentence, Value, Assign, Update, Actors, Kernel, Count, filter_depth, deepest_set, deepest}
-use Rattle.line_grammar.specs.Grammar.{Phrase, IsName, IsCount, IsNumber, IsPath, IsMore, IsListed, IsConst, IsExpr, IsBracketList, IsAssignment, IsCuts, IsFilter, IsUpdateEnd, IsKernelInside, IsKernel, IsBody, IsLine}
-use Rattle.line_grammar.specs.Words.{operator, kernel_word}
-use Rattle.line_writer.specs.Canonical.{count_token, number_tokens, path_tokens, with_commas, form_tokens, value_tokens, assignment_tokens, filter_tokens, update_tokens, index_tokens, actors_tokens, kernel_tokens, line_tokens}
 use Rattle.line_writer.proofs.Gives.{IsSpelled, Each, each_front, each_back, Gives, nothing_gives, item_gives, behind_gives, joined_gives, either_gives, gives_also}
 use Rattle.line_writer.proofs.Phrases.{IsWritten, sound, path_gives}
 use Rattle.line_writer.proofs.Leaves.{IsGood}

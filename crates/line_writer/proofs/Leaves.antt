@@ -1,17 +1,5 @@
 -- What is read of an expression has leaves that are read back.
-use Rattle.std.proofs.Common.{◌≡◌, ℕ, zero, suc, List, [], ◌∷◌, ◌++◌, Option, Some, None, codes, ℤ, pos, negsuc, refl, sym, ap, ◌∙◌, append-nil, arith}
-use Rattle.std.specs.Fmt.{decimal}
-use Rattle.std.proofs.lemmas.Fmt.{decimal_digit}
-use Rattle.line_tokens.specs.declared.sign.Sign.TheVariants.{OpenParen, CloseParen, Comma, Minus}
-use Rattle.expr_lang.specs.declared.expr.BinOp.{BinOp}
-use Rattle.expr_lang.specs.Terms.{Number as Constant, Entry, Index, Neg, Not, Binary}
-use Rattle.line_grammar.specs.declared.token.Token.{Token}
-use Rattle.line_grammar.specs.declared.token.Token.TheVariants.{Word, Number, Text, Sign, Bad}
-use Rattle.line_grammar.specs.Tokens.{number_of, dimensions, index_of, choice_of, or_of, and_of, comparison_of, sum_of, product_of}
-use Rattle.line_grammar.specs.Words.{index_word}
-use Rattle.line_grammar.specs.Sentences.{Value}
-use Rattle.line_grammar.specs.Grammar.{Phrase, IsNumber, IsLink, IsChain, wrapped, IsPrefix, IsPrefixed, IsSum, IsComparison, IsExprOver, IsLeaf, IsChoice, IsBracketed, IsAtom, IsExpr}
-use Rattle.line_writer.specs.Canonical.{number_tokens, value_tokens}
+use Rattle.line_writer.proofs.Imports.{◌≡◌, ℕ, zero, suc, List, [], ◌∷◌, ◌++◌, Option, Some, None, codes, ℤ, pos, negsuc, refl, sym, ap, ◌∙◌, append-nil, arith, decimal, decimal_digit, OpenParen, CloseParen, Comma, Minus, BinOp, Constant, Entry, Index, Neg, Not, Binary, Token, Word, Number, Text, Sign, Bad, number_of, dimensions, index_of, choice_of, or_of, and_of, comparison_of, sum_of, product_of, index_word, Value, Phrase, IsNumber, IsLink, IsChain, wrapped, IsPrefix, IsPrefixed, IsSum, IsComparison, IsExprOver, IsLeaf, IsChoice, IsBracketed, IsAtom, IsExpr, number_tokens, value_tokens}
 use Rattle.line_writer.proofs.Gives.{IsClean, IsSpelled, Each, Gives, nothing_gives, item_gives, behind_gives, joined_gives, either_gives, repeats_gives, gives_also}
 use Rattle.line_writer.proofs.Words.{listed_as}
 use Rattle.line_writer.proofs.Phrases.{path_gives, sound}

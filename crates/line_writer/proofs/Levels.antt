@@ -1,16 +1,5 @@
 -- The canonical tokens of an expression are read as this expression.
-use Rattle.std.proofs.Common.{◌≡◌, ℕ, zero, suc, ◌≤◌, true, false, List, [], ◌∷◌, ◌++◌, Option, Some, codes, inl, inr, refl, sym, append-nil, arith}
-use Rattle.line_tokens.specs.declared.sign.Sign.TheVariants.{OpenParen, CloseParen, Comma, Minus}
-use Rattle.expr_lang.specs.declared.expr.BinOp.{BinOp}
-use Rattle.expr_lang.specs.declared.expr.BinOp.TheVariants.{Add, Sub, Mul, Div, Rem, Min, Max, Eq, Ne, Lt, Le, Gt, Ge, And, Or}
-use Rattle.expr_lang.specs.Terms.{Number as Constant, Entry, Index, Neg, Not, Binary, depth_of}
-use Rattle.line_grammar.specs.declared.token.Token.{Token}
-use Rattle.line_grammar.specs.declared.token.Token.TheVariants.{Word, Sign}
-use Rattle.line_grammar.specs.Tokens.{choice_of, or_of, and_of, comparison_of, sum_of, product_of}
-use Rattle.line_grammar.specs.Sentences.{Value}
-use Rattle.line_grammar.specs.Grammar.{Phrase, IsLink, IsChain, IsPrefixed, IsUnary, IsProduct, IsSum, IsComparison, IsNegation, IsConjunction, IsExprOver, IsLeaf, IsAtom, IsExpr}
-use Rattle.line_grammar.specs.Words.{operator}
-use Rattle.line_writer.specs.Canonical.{is_choice, operand, value_tokens}
+use Rattle.line_writer.proofs.Imports.{◌≡◌, ℕ, zero, suc, ◌≤◌, true, false, List, [], ◌∷◌, ◌++◌, Option, Some, codes, inl, inr, refl, sym, append-nil, arith, OpenParen, CloseParen, Comma, Minus, BinOp, Add, Sub, Mul, Div, Rem, Min, Max, Eq, Ne, Lt, Le, Gt, Ge, And, Or, Constant, Entry, Index, Neg, Not, Binary, depth_of, Token, Word, Sign, choice_of, or_of, and_of, comparison_of, sum_of, product_of, Value, Phrase, IsLink, IsChain, IsPrefixed, IsUnary, IsProduct, IsSum, IsComparison, IsNegation, IsConjunction, IsExprOver, IsLeaf, IsAtom, IsExpr, operator, is_choice, operand, value_tokens}
 use Rattle.line_writer.proofs.Leaves.{IsGood}
 
 -- each level has the phrases of the next one

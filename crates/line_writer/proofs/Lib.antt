@@ -1,11 +1,12 @@
+mod Imports
+pub mod Behind
 pub mod Gives
-pub mod Words
-pub mod Phrases
+pub mod Kept
 pub mod Leaves
 pub mod Levels
-pub mod Rooms
-pub mod Kept
-pub mod Stencils
 pub mod Lines
+pub mod Phrases
 pub mod ReadsBack
-pub mod Behind
+pub mod Rooms
+pub mod Stencils
+pub mod Words

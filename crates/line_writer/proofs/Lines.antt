@@ -1,24 +1,7 @@
 -- A line has its canonical tokens alone, or one with expressions or a kernel, and then its canonical tokens are kept.
-use Rattle.std.proofs.Common.{◌≡◌, ℕ, ◌⊎◌, List, [], ◌∷◌, ◌++◌, map, Option, Some, None, codes, inl, inr, refl, sym, ap, ◌∙◌, append-nil}
-use Rattle.std.specs.List.{flat_map}
-use Rattle.phrases.specs.Phrases.{IsItem, Joined, IsNothing}
-use Rattle.line_tokens.specs.declared.sign.Sign.TheVariants.{OpenParen, CloseParen, Colon, Dot, Equals}
-use Rattle.record_dim.specs.Trees.{Record}
-use Rattle.extents.specs.declared.words.ExtentWord.{ExtentWord}
-use Rattle.line_grammar.specs.declared.token.Token.{Token}
-use Rattle.line_grammar.specs.declared.token.Token.TheVariants.{Word, Text, Sign}
-use Rattle.line_grammar.specs.declared.version.Version.{Version}
-use Rattle.line_grammar.specs.declared.version.Version.TheVariants.{One, Two}
-use Rattle.line_grammar.specs.declared.line.Command.{Command}
+use Rattle.line_writer.proofs.Imports.{◌≡◌, ℕ, ◌⊎◌, List, [], ◌∷◌, ◌++◌, map, Option, Some, None, codes, inl, inr, refl, sym, ap, ◌∙◌, append-nil, flat_map, IsItem, Joined, IsNothing, OpenParen, CloseParen, Colon, Dot, Equals, Record, ExtentWord, Token, Word, Text, Sign, Version, One, Two, Command, KernelWord, ShowKind, command_of, Assignment, Sentence, Value, Blank, Define, Mapping, View, Load, Assign, Update, Actors, Kernel, Reduce, Count, Copy, Relayout, Show, Drop, Bytes, Save, Open, Advise, PrintWindow, Phrase, IsName, IsAssignment, IsFilter, IsUpdateEnd, IsKernel, IsNew, IsBody, IsLine, reduction_word, show_word, command_word, count_token, bracket_list, extent_tokens, index_tokens, path_tokens, flag_tokens, map_tokens, pass_tokens, with_commas, new_tokens, line_tokens}
 use Rattle.line_grammar.specs.declared.line.Command.TheVariants as command
-use Rattle.line_grammar.specs.declared.line.KernelWord.{KernelWord}
-use Rattle.line_grammar.specs.declared.line.ShowKind.{ShowKind}
 use Rattle.line_grammar.specs.declared.line.ShowKind.TheVariants as show
-use Rattle.line_grammar.specs.Tokens.{command_of}
-use Rattle.line_grammar.specs.Sentences.{Assignment, Sentence, Value, Blank, Define, Mapping, View, Load, Assign, Update, Actors, Kernel, Reduce, Count, Copy, Relayout, Show, Drop, Bytes, Save, Open, Advise, PrintWindow}
-use Rattle.line_grammar.specs.Grammar.{Phrase, IsName, IsAssignment, IsFilter, IsUpdateEnd, IsKernel, IsNew, IsBody, IsLine}
-use Rattle.line_grammar.specs.Words.{reduction_word, show_word, command_word}
-use Rattle.line_writer.specs.Canonical.{count_token, bracket_list, extent_tokens, index_tokens, path_tokens, flag_tokens, map_tokens, pass_tokens, with_commas, new_tokens, line_tokens}
 use Rattle.line_writer.proofs.Gives.{Gives, nothing_gives, behind_gives, joined_gives, either_gives, gives_also}
 use Rattle.line_writer.proofs.Words.{name_gives, count_gives, string_gives, reduction_gives, command_gives, kernel_word_gives}
 use Rattle.line_writer.proofs.Phrases.{IsWritten, sound, path_gives, fields_give, map_gives, listed_gives, bracket_list_gives, cuts_give, fixed_gives, extent_gives, flag_gives, passes_give, window_gives}

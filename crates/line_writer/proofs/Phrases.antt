@@ -1,25 +1,8 @@
 -- A path, a record and a mapping have one list of tokens each: the canonical one.
-use Rattle.std.proofs.Common.{◌≡◌, ℕ, zero, suc, ◌≤◌, true, false, List, [], ◌∷◌, ◌++◌, length, Option, Some, None, map, codes, refl, sym, ap, ◌∙◌, append-nil, append_assoc, arith}
-use Rattle.std.specs.List.{flat_map}
-use Rattle.std.proofs.lemmas.Grind.{flat_map-append}
-use Rattle.phrases.specs.Phrases.{IsItem, Behind, Joined, IsNothing, Repeats}
-use Rattle.line_tokens.specs.declared.sign.Sign.TheVariants.{OpenBrace, CloseBrace, OpenBracket, CloseBracket, OpenParen, CloseParen, Colon, Comma, Dot, Arrow, Question}
+use Rattle.line_writer.proofs.Imports.{◌≡◌, ℕ, zero, suc, ◌≤◌, true, false, List, [], ◌∷◌, ◌++◌, length, Option, Some, None, map, codes, refl, sym, ap, ◌∙◌, append-nil, append_assoc, arith, flat_map, flat_map-append, IsItem, Behind, Joined, IsNothing, Repeats, OpenBrace, CloseBrace, OpenBracket, CloseBracket, OpenParen, CloseParen, Colon, Comma, Dot, Arrow, Question, Tree, Single, Record, Fields, Order, FieldWidth, MapTerm, Aos, Soa, Aosoa, BitAos, BitSoa, Split, Byteswap, Bytesplit, Change, Counted, Heated, Named, Token, Word, Sign, Version, One, Two, MapWord, map_word, order_of, Phrase, IsName, IsCount, IsMore, IsListed, IsPart, IsPath, IsDims, arrays, fields_of_list, IsTyped, IsNested, IsBraced, IsField, IsFields, IsFieldWidth, IsBracedWidths, IsFieldWidths, IsBits, IsForm, IsFormOrName, IsMap, IsExtent, IsBracketList, IsCuts, IsFlag, IsOneOrMore, IsPass, IsSpan, IsWindowText, type_word, order_word, aos_word, soa_word, form_word, count_token, bracketed_count, with_commas, bracket_list, step_tokens, path_tokens, dims_tokens, core_tokens, fields_tokens, later_tokens, held_tokens, form_tokens, ordered_tokens, width_tokens, widths_tokens, bits_tokens, map_tokens, extent_tokens, index_tokens, flag_tokens, pass_tokens, span_tokens, window_tokens}
 use Rattle.record_dim.specs.declared.path.PathStep.TheVariants as step
-use Rattle.record_dim.specs.Trees.{Tree, Single, Record, Fields}
 use Rattle.extents.specs.declared.words.ExtentWord.TheVariants as extent
-use Rattle.extents.specs.declared.order.Order.{Order}
-use Rattle.map_expr.specs.declared.widths.FieldWidth.{FieldWidth}
-use Rattle.map_expr.specs.Terms.{Term as MapTerm, Aos, Soa, Aosoa, BitAos, BitSoa, Split, Byteswap, Bytesplit, Change, Count as Counted, Heat as Heated, Named}
-use Rattle.line_grammar.specs.declared.token.Token.{Token}
-use Rattle.line_grammar.specs.declared.token.Token.TheVariants.{Word, Sign}
-use Rattle.line_grammar.specs.declared.version.Version.{Version}
-use Rattle.line_grammar.specs.declared.version.Version.TheVariants.{One, Two}
-use Rattle.line_grammar.specs.declared.line.MapWord.{MapWord}
 use Rattle.line_grammar.specs.declared.line.MapWord.TheVariants as form
-use Rattle.line_grammar.specs.Tokens.{map_word, order_of}
-use Rattle.line_grammar.specs.Grammar.{Phrase, IsName, IsCount, IsMore, IsListed, IsPart, IsPath, IsDims, arrays, fields_of_list, IsTyped, IsNested, IsBraced, IsField, IsFields, IsFieldWidth, IsBracedWidths, IsFieldWidths, IsBits, IsForm, IsFormOrName, IsMap, IsExtent, IsBracketList, IsCuts, IsFlag, IsOneOrMore, IsPass, IsSpan, IsWindowText}
-use Rattle.line_grammar.specs.Words.{type_word, order_word, aos_word, soa_word, form_word}
-use Rattle.line_writer.specs.Canonical.{count_token, bracketed_count, with_commas, bracket_list, step_tokens, path_tokens, dims_tokens, core_tokens, fields_tokens, later_tokens, held_tokens, form_tokens, ordered_tokens, width_tokens, widths_tokens, bits_tokens, map_tokens, extent_tokens, index_tokens, flag_tokens, pass_tokens, span_tokens, window_tokens}
 use Rattle.line_writer.proofs.Gives.{Gives, nothing_gives, behind_gives, joined_gives, either_gives, repeats_gives, gives_also}
 use Rattle.line_writer.proofs.Behind.{some_widths}
 use Rattle.line_writer.proofs.Words.{name_gives, count_gives, type_gives, integer_type_gives, order_gives, aos_form_gives, soa_form_gives, map_word_is}

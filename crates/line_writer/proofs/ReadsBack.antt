@@ -1,38 +1,6 @@
 -- The canonical text of a line that is read has its canonical tokens, and is read as the same line.
-use Rattle.std.proofs.Common.{◌≡◌, ℕ, suc, ◌+◌, ◌-◌, ◌^◌, ◌<◌, ◌≤◌, true, List, [], ◌∷◌, ◌++◌, map, length, take, drop, slice_range, Option, Some, None, pos, inl, inr, refl, sym, ap, ◌∙◌, append_assoc, arith, subst}
-use Rattle.std.proofs.lemmas.Bool.Decides.{nat_tests}
-use Rattle.std.proofs.lemmas.Fmt.{decimal_is_IsNumeral_wide}
-use Rattle.std.proofs.lemmas.Str.Parse.{digit_from_value}
-use Rattle.std.proofs.lemmas.List.{append_cancel_right, drop-drop, length-append, take_at}
-use Rattle.std.proofs.lemmas.List.Sums.{AllPass-from_list_all}
-use Rattle.std.specs.Char.{is_ascii_digit}
-use Rattle.std.specs.Fmt.{decimal}
-use Rattle.std.specs.List.{list_all, AllPass}
-use Rattle.std.specs.Str.Parse.{AllDigits}
-use Rattle.line_tokens.specs.Bytes.{is_text_byte}
-use Rattle.line_tokens.specs.EndLaws.{joined_no_end}
-use Rattle.line_tokens.specs.Ends.{NoEnd}
-use Rattle.line_tokens.specs.Next.{next_of}
-use Rattle.line_tokens.specs.Spelled.{Spells, HasRoom, AreSpelled, joined}
-use Rattle.line_tokens.specs.Spots.{brackets_after, Spots}
-use Rattle.line_tokens.specs.Tokens.{Begins}
-use Rattle.line_tokens.specs.declared.spots.Spot.{Spot}
-use Rattle.line_tokens.specs.declared.token.Next.TheVariants.{Token as Found}
-use Rattle.line_tokens.specs.declared.token.TokenKind.{TokenKind}
+use Rattle.line_writer.proofs.Imports.{◌≡◌, ℕ, suc, ◌+◌, ◌-◌, ◌^◌, ◌<◌, ◌≤◌, true, List, [], ◌∷◌, ◌++◌, map, length, take, drop, slice_range, Option, Some, None, pos, inl, inr, refl, sym, ap, ◌∙◌, append_assoc, arith, subst, nat_tests, decimal_is_IsNumeral_wide, digit_from_value, append_cancel_right, drop-drop, length-append, take_at, AllPass-from_list_all, is_ascii_digit, decimal, list_all, AllPass, AllDigits, is_text_byte, joined_no_end, NoEnd, next_of, Spells, HasRoom, AreSpelled, joined, brackets_after, Spots, Begins, Spot, Found, TokenKind, token_exactly, next_spells, joined_read, spot_at, both, Token, Word, Number, Text, Sign, Bad, Version, kind_token, Sentence, deepest, IsLine, IsSentence, tokens_of, Reads, line_tokens, written, canonical}
 use Rattle.line_tokens.specs.declared.token.TokenKind.TheVariants as kind
-use Rattle.line_tokens.specs.NextTokenLaws.{token_exactly}
-use Rattle.line_tokens.specs.SpelledLaws.{next_spells, joined_read}
-use Rattle.line_tokens.specs.SpotLaws.{spot_at}
-use Rattle.record_dim.specs.NameBytesLaws.{both}
-use Rattle.line_grammar.specs.declared.token.Token.{Token}
-use Rattle.line_grammar.specs.declared.token.Token.TheVariants.{Word, Number, Text, Sign, Bad}
-use Rattle.line_grammar.specs.declared.version.Version.{Version}
-use Rattle.line_grammar.specs.Tokens.{kind_token}
-use Rattle.line_grammar.specs.Sentences.{Sentence, deepest}
-use Rattle.line_grammar.specs.Grammar.{IsLine, IsSentence}
-use Rattle.line_grammar.specs.Reads.{tokens_of, Reads}
-use Rattle.line_writer.specs.Canonical.{line_tokens}
-use Rattle.line_writer.specs.Texts.{written, canonical}
 use Rattle.line_writer.proofs.Gives.{IsClean, IsSpelled, Each}
 use Rattle.line_writer.proofs.Rooms.{fits_alone}
 use Rattle.line_writer.proofs.Lines.{IsDone, line_gives}

@@ -1,27 +1,6 @@
 -- The canonical tokens of expressions and kernels are spelled, and open few brackets at once.
-use Rattle.std.proofs.Common.{◌≡◌, ℕ, ◌+◌, ◌-◌, ◌<◌, ◌≤◌, max, Bool, true, false, not, ◌&&◌, if◌then◌else◌, List, [], ◌∷◌, ◌++◌, map, length, codes, ℤ, pos, negsuc, refl, sym, ◌∙◌, append-nil, append_assoc, arith}
-use Rattle.std.proofs.lemmas.List.{map-append}
-use Rattle.std.proofs.lemmas.List.Sums.{AllPass-from_list_all}
-use Rattle.std.proofs.Math.Nat.{le-max_left, le-max_right}
-use Rattle.std.specs.List.{list_all, flat_map}
-use Rattle.line_tokens.specs.Bytes.{is_letter, is_word_byte}
-use Rattle.line_tokens.specs.Signs.{opens, closes}
-use Rattle.line_tokens.specs.Tokens.{Begins}
-use Rattle.line_tokens.specs.Spots.{brackets_after}
-use Rattle.line_tokens.specs.Spelled.{Written, HasRoom, AreSpelled}
-use Rattle.line_tokens.specs.declared.sign.Sign.{Sign as SignName}
-use Rattle.line_tokens.specs.declared.sign.Sign.TheVariants.{OpenBracket, CloseBracket, OpenParen, CloseParen, Comma, Dot, Minus}
-use Rattle.record_dim.specs.declared.path.PathStep.{PathStep}
+use Rattle.line_writer.proofs.Imports.{◌≡◌, ℕ, ◌+◌, ◌-◌, ◌<◌, ◌≤◌, max, Bool, true, false, not, ◌&&◌, if◌then◌else◌, List, [], ◌∷◌, ◌++◌, map, length, codes, ℤ, pos, negsuc, refl, sym, ◌∙◌, append-nil, append_assoc, arith, map-append, AllPass-from_list_all, le-max_left, le-max_right, list_all, flat_map, is_letter, is_word_byte, opens, closes, Begins, brackets_after, Written, HasRoom, AreSpelled, SignName, OpenBracket, CloseBracket, OpenParen, CloseParen, Comma, Dot, Minus, PathStep, BinOp, Add, Sub, Mul, Div, Rem, Min, Max, Eq, Ne, Lt, Le, Gt, Ge, And, Or, Constant, Entry, Index, Neg, Not, Binary, depth_of, Token, Word, Number, Text, Sign, Bad, Value, operator, is_choice, needs_brackets, operand, number_tokens, bracketed_count, count_token, with_commas, bracket_list, first_tokens, step_tokens, path_tokens, form_tokens, value_tokens, written}
 use Rattle.record_dim.specs.declared.path.PathStep.TheVariants as step
-use Rattle.expr_lang.specs.declared.expr.BinOp.{BinOp}
-use Rattle.expr_lang.specs.declared.expr.BinOp.TheVariants.{Add, Sub, Mul, Div, Rem, Min, Max, Eq, Ne, Lt, Le, Gt, Ge, And, Or}
-use Rattle.expr_lang.specs.Terms.{Number as Constant, Entry, Index, Neg, Not, Binary, depth_of}
-use Rattle.line_grammar.specs.declared.token.Token.{Token}
-use Rattle.line_grammar.specs.declared.token.Token.TheVariants.{Word, Number, Text, Sign, Bad}
-use Rattle.line_grammar.specs.Sentences.{Value}
-use Rattle.line_grammar.specs.Words.{operator}
-use Rattle.line_writer.specs.Canonical.{is_choice, needs_brackets, operand, number_tokens, bracketed_count, count_token, with_commas, bracket_list, first_tokens, step_tokens, path_tokens, form_tokens, value_tokens}
-use Rattle.line_writer.specs.Texts.{written}
 use Rattle.line_writer.proofs.Gives.{IsSpelled, Each, each_front, each_back}
 use Rattle.line_writer.proofs.Leaves.{IsGood}
 

@@ -1,17 +1,6 @@
 -- A stencil may have other tokens than the canonical ones, since a number may have a sign before a zero: its canonical tokens are kept.
-use Rattle.std.proofs.Common.{◌≡◌, ℕ, List, [], ◌∷◌, ◌++◌, map, Some, codes, ℤ, refl, arith}
-use Rattle.phrases.specs.Phrases.{Behind}
-use Rattle.line_tokens.specs.declared.sign.Sign.TheVariants.{OpenBracket, CloseBracket, OpenParen, CloseParen, Colon, Comma, Equals, Star, Slash}
-use Rattle.record_dim.specs.declared.path.PathStep.{PathStep}
-use Rattle.extents.specs.declared.window.Span.{Span}
+use Rattle.line_writer.proofs.Imports.{◌≡◌, ℕ, List, [], ◌∷◌, ◌++◌, map, Some, codes, ℤ, refl, arith, Behind, OpenBracket, CloseBracket, OpenParen, CloseParen, Colon, Comma, Equals, Star, Slash, PathStep, Span, TermText, Word, Sign, Version, command_of, Stencil, Phrase, IsBody, IsBracketList, IsConst, IsListed, IsMore, IsTerm, IsTerms, IsWindowText, bracket_list, count_token, number_tokens, path_tokens, span_tokens, term_tokens, terms_tokens, window_tokens, with_commas}
 use Rattle.line_grammar.specs.declared.line.Command.TheVariants as command
-use Rattle.line_grammar.specs.declared.line.TermText.{TermText}
-use Rattle.line_grammar.specs.declared.token.Token.TheVariants.{Word, Sign}
-use Rattle.line_grammar.specs.declared.version.Version.{Version}
-use Rattle.line_grammar.specs.Tokens.{command_of}
-use Rattle.line_grammar.specs.Sentences.{Stencil}
-use Rattle.line_grammar.specs.Grammar.{Phrase, IsBody, IsBracketList, IsConst, IsListed, IsMore, IsTerm, IsTerms, IsWindowText}
-use Rattle.line_writer.specs.Canonical.{bracket_list, count_token, number_tokens, path_tokens, span_tokens, term_tokens, terms_tokens, window_tokens, with_commas}
 use Rattle.line_writer.proofs.Gives.{IsSpelled, Each, each_append, each_front, Gives, nothing_gives, behind_gives, joined_gives, repeats_gives}
 use Rattle.line_writer.proofs.Words.{name_gives, count_gives}
 use Rattle.line_writer.proofs.Phrases.{sound, path_gives, window_gives}

@@ -1,16 +1,5 @@
 -- The one token that each word, name, number and string of a phrase has.
-use Rattle.std.proofs.Common.{◌≡◌, ℕ, ◌^◌, Bool, true, false, if◌then◌else◌, List, [], ◌∷◌, Option, Some, None, map, bytes_eq, nat_lt, pos, negsuc, refl, sym, ap, ◌∙◌}
-use Rattle.std.proofs.lemmas.Slice.Eq.{bytes_eq-Decides}
-use Rattle.std.specs.List.{list_any}
-use Rattle.line_grammar.specs.declared.token.Token.{Token}
-use Rattle.line_grammar.specs.declared.token.Token.TheVariants.{Word, Number, Text, Sign, Bad}
-use Rattle.line_grammar.specs.declared.version.Version.{Version}
-use Rattle.line_grammar.specs.declared.line.MapWord.{MapWord}
-use Rattle.line_grammar.specs.Tokens.{listed, meaning, reserved, name_of, count_of, string_of, type_of, integer_type_of, integer_types, leaf_types, orders, order_of, aos_forms, aos_form_of, soa_forms, soa_form_of, map_words, map_word, kernel_word_of, kernel_words, reduction_of, reductions, command_of, commands}
-use Rattle.line_grammar.specs.Words.{type_word, order_word, aos_word, soa_word, form_word, kernel_word, reduction_word, command_word}
-use Rattle.line_grammar.specs.Grammar.{IsName, IsCount, IsString}
-use Rattle.phrases.specs.Phrases.{IsItem}
-use Rattle.line_writer.specs.Canonical.{count_token}
+use Rattle.line_writer.proofs.Imports.{◌≡◌, ℕ, ◌^◌, Bool, true, false, if◌then◌else◌, List, [], ◌∷◌, Option, Some, None, map, bytes_eq, nat_lt, pos, negsuc, refl, sym, ap, ◌∙◌, bytes_eq-Decides, list_any, Token, Word, Number, Text, Sign, Bad, Version, MapWord, listed, meaning, reserved, name_of, count_of, string_of, type_of, integer_type_of, integer_types, leaf_types, orders, order_of, aos_forms, aos_form_of, soa_forms, soa_form_of, map_words, map_word, kernel_word_of, kernel_words, reduction_of, reductions, command_of, commands, type_word, order_word, aos_word, soa_word, form_word, kernel_word, reduction_word, command_word, IsName, IsCount, IsString, IsItem, count_token}
 use Rattle.line_writer.proofs.Gives.{Gives, item_gives}
 
 listed_step : {A : Type 0} (word_of own : A → List ℕ) (word : List ℕ) (value v : A) (rest : Option A) (b : Bool) → (b ≡ true → word ≡ word_of value) → word_of value ≡ own value →

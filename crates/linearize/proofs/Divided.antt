@@ -1,7 +1,5 @@
 -- A quotient as a product and a shift.
-use Rattle.std.proofs.Common.{◌≡◌, ℕ, ◌+◌, ◌*◌, ◌/◌, ◌%◌, ◌<◌, sym, ap, ◌∙◌, arith}
-use Rattle.std.proofs.Math.Nat.{mul_comm, mul_assoc, mul-add, mod-lt, mul-div-mul_right, mod-eq-sub-div-mul, div-mul-le_self}
-use Rattle.std.proofs.lemmas.Nat.{div-mul-add, mul-add-lt}
+use Rattle.linearize.proofs.Imports.{◌≡◌, ℕ, ◌+◌, ◌*◌, ◌/◌, ◌%◌, ◌<◌, sym, ap, ◌∙◌, arith, mul_comm, mul_assoc, mul-add, mod-lt, mul-div-mul_right, mod-eq-sub-div-mul, div-mul-le_self, div-mul-add, mul-add-lt}
 
 -- p is the power by which is shifted, and factor * columns is e more than it
 pub divided : (row columns factor e p : ℕ) → 0 < columns → factor * columns ≡ p + e → row * e < p → row * factor / p ≡ row / columns

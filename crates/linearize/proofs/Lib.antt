@@ -1,5 +1,6 @@
-pub mod SlotLemmas
-pub mod MortonLemmas
-pub mod SpreadLemmas
+mod Imports
 pub mod Divided
+pub mod MortonLemmas
 pub mod PairLemmas
+pub mod SlotLemmas
+pub mod SpreadLemmas

@@ -1,21 +1,5 @@
 -- How many binary digits there are, and what the loop over components keeps of them.
-use Rattle.std.proofs.Common.{◌≡◌, ◌≢◌, ℕ, zero, suc, ◌+◌, ◌-◌, ◌*◌, ◌/◌, ◌%◌, ◌^◌, ◌<◌, ◌≤◌, max, cond, eqb, ltb, List, [], ◌∷◌, length, get_or, sym, ap, ◌∙◌, ⊎_elim, arith, lit<}
-use Rattle.std.specs.Prelude.{fold, nat_le, bit_or}
-use Rattle.std.specs.Int.{bit_at}
-use Rattle.std.specs.Int.Bits.{or_zero_l}
-use Rattle.std.specs.List.{position_or_len, range_with_len}
-use Rattle.std.proofs.lemmas.Bool.{cases_lt, cases_eq, cond-true, cond-false, lt-leb, le-leb, lt-ltb, le-ltb, eq-eqb, ne_eqb}
-use Rattle.std.proofs.lemmas.List.Elements.{length_all_zip}
-use Rattle.std.proofs.lemmas.List.FromFn.{length-range_with_len}
-use Rattle.std.proofs.lemmas.List.Sums.{position_or_len_is}
-use Rattle.std.proofs.lemmas.Nat.{div-add-mod', div-mul-add, mod-mul-add, mod_below, mul-le, le-div, pow_pos, pow_below}
-use Rattle.std.proofs.lemmas.Nat.Bits.{bit_at-zero, bit_at_or, same_from_bits}
-use Rattle.std.proofs.lemmas.Grind.{pow_more}
-use Rattle.std.proofs.Math.Nat.{pow-le-pow_right, mod-eq_of_lt}
-use Rattle.extents.specs.Indices.{IsInside}
-use Rattle.linearize.specs.Slots.{interleaved, digits_for}
-use Rattle.linearize.specs.Spreads.{IsSpread}
-use Rattle.linearize.specs.MortonLaws.{self_lt_pow, at_own_place, component_fits, digits_enough, digit_of, bit_at-interleaved}
+use Rattle.linearize.proofs.Imports.{◌≡◌, ◌≢◌, ℕ, zero, suc, ◌+◌, ◌-◌, ◌*◌, ◌/◌, ◌%◌, ◌^◌, ◌<◌, ◌≤◌, max, cond, eqb, ltb, List, [], ◌∷◌, length, get_or, sym, ap, ◌∙◌, ⊎_elim, arith, lit<, fold, nat_le, bit_or, bit_at, or_zero_l, position_or_len, range_with_len, cases_lt, cases_eq, cond-true, cond-false, lt-leb, le-leb, lt-ltb, le-ltb, eq-eqb, ne_eqb, length_all_zip, length-range_with_len, position_or_len_is, div-add-mod', div-mul-add, mod-mul-add, mod_below, mul-le, le-div, pow_pos, pow_below, bit_at-zero, bit_at_or, same_from_bits, pow_more, pow-le-pow_right, mod-eq_of_lt, IsInside, interleaved, digits_for, IsSpread, self_lt_pow, at_own_place, component_fits, digits_enough, digit_of, bit_at-interleaved}
 use Rattle.linearize.proofs.SpreadLemmas.{shifted_low, shifted_high}
 
 -- ---- how many digits

@@ -1,16 +1,6 @@
 -- Two components in one word, the first in its upper half: a mask and a shift move the digits of both apart.
-use Rattle.std.proofs.Common.{◌≡◌, ℕ, ◌+◌, ◌-◌, ◌*◌, ◌/◌, ◌%◌, ◌^◌, ◌<◌, ◌≤◌, max, min, true, eqb, [], ◌∷◌, refl, sym, ap, ◌∙◌, ⊎_elim, arith, lit<}
-use Rattle.std.specs.Prelude.{bit_and, bit_or}
-use Rattle.std.specs.Int.{bit_at}
-use Rattle.std.specs.List.{list_all, range_with_len}
-use Rattle.std.proofs.lemmas.Bool.{cases_lt, cond_both, eqb-true}
-use Rattle.std.proofs.lemmas.Nat.{mul-le, and_le_r, and_mask, mod_below, shr_split}
-use Rattle.std.proofs.lemmas.Nat.Bits.{bit_at_and, bit_at_or, bit_at_above, bit_at_cat_low, bit_at_cat_high, same_from_bits}
-use Rattle.std.proofs.Math.Nat.{mod-eq_of_lt, pow-le-pow_right}
-use Rattle.linearize.specs.Slots.{interleaved}
-use Rattle.linearize.specs.Spreads.{IsSpread}
+use Rattle.linearize.proofs.Imports.{◌≡◌, ℕ, ◌+◌, ◌-◌, ◌*◌, ◌/◌, ◌%◌, ◌^◌, ◌<◌, ◌≤◌, max, min, true, eqb, [], ◌∷◌, refl, sym, ap, ◌∙◌, ⊎_elim, arith, lit<, bit_and, bit_or, bit_at, list_all, range_with_len, cases_lt, cond_both, eqb-true, mul-le, and_le_r, and_mask, mod_below, shr_split, bit_at_and, bit_at_or, bit_at_above, bit_at_cat_low, bit_at_cat_high, same_from_bits, mod-eq_of_lt, pow-le-pow_right, interleaved, IsSpread, below_from_digits}
 use Rattle.linearize.proofs.SpreadLemmas.{moved, is_apart, is_there, IsStage, stage_more, stage_last}
-use Rattle.linearize.specs.MortonLaws.{below_from_digits}
 use Rattle.linearize.proofs.MortonLemmas.{two_in_turn}
 
 -- one mask and shift

@@ -1,19 +1,5 @@
 -- What the loops over extents keep.
-use Rattle.std.proofs.Common.{◌≡◌, ℕ, zero, suc, ◌+◌, ◌*◌, ◌^◌, ◌<◌, ◌≤◌, min, List, [], ◌∷◌, length, get_or, take, Option, refl, sym, ap, subst, ◌∙◌, ◌⊎◌, ⊎_elim, arith}
-use Rattle.std.specs.Prelude.{reverse, IsSomeAnd, Some, slice_get}
-use Rattle.std.proofs.lemmas.List.Elements.{length_all_zip}
-use Rattle.extents.specs.RowLaws.{IsRowSoFar, row_turn}
-use Rattle.std.proofs.lemmas.List.{take_more, reverse-append}
-use Rattle.std.proofs.lemmas.Bool.{cases_lt}
-use Rattle.std.proofs.lemmas.Grind.{reverse_onto}
-use Rattle.std.proofs.lemmas.Nat.{mul-le}
-use Rattle.extents.specs.Indices.{indices, product, IsInside}
-use Rattle.extents.specs.IndicesLaws.{place, place_below, slice_get-place, length-indices, row_of_inside}
-use Rattle.extents.specs.ShapeLaws.{product-push}
-use Rattle.linearize.specs.Slots.{place_in, slot_of, slot_count, row_at}
-use Rattle.linearize.specs.SlotsLaws.{place_in_is, row_at-slot_of}
-use Rattle.extents.specs.declared.order.Order.{Order}
-use Rattle.extents.specs.declared.order.Order.TheVariants.{Row, Col}
+use Rattle.linearize.proofs.Imports.{◌≡◌, ℕ, zero, suc, ◌+◌, ◌*◌, ◌^◌, ◌<◌, ◌≤◌, min, List, [], ◌∷◌, length, get_or, take, Option, refl, sym, ap, subst, ◌∙◌, ◌⊎◌, ⊎_elim, arith, reverse, IsSomeAnd, Some, slice_get, length_all_zip, IsRowSoFar, row_turn, take_more, reverse-append, cases_lt, reverse_onto, mul-le, indices, product, IsInside, place, place_below, slice_get-place, length-indices, row_of_inside, product-push, place_in, slot_of, slot_count, row_at, place_in_is, row_at-slot_of, Order, Row, Col}
 
 -- an index inside stands where its components lead
 pub place_is : (e i : List ℕ) → IsInside e i → place e i ≡ place_in (indices e) i

@@ -1,17 +1,5 @@
 -- What masks and shifts do to binary digits.
-use Rattle.std.proofs.Common.{◌≡◌, ℕ, ◌+◌, ◌-◌, ◌*◌, ◌/◌, ◌%◌, ◌^◌, ◌<◌, ◌≤◌, max, min, Bool, true, cond, eqb, ltb, refl, sym, ap, ◌∙◌, ⊎_elim, arith, lit<}
-use Rattle.std.specs.Prelude.{bit_and, bit_or, nat_le}
-use Rattle.std.specs.Int.{bit_at}
-use Rattle.std.specs.List.{list_all, range_with_len}
-use Rattle.std.proofs.lemmas.Bool.{cases_lt, cond-true, cond-false, cond_both, eqb-true, eqb-false, ltb-true, ltb-false, leb-true, le-ltb, eq-eqb}
-use Rattle.std.proofs.lemmas.List.Elements.{All-get_or}
-use Rattle.std.proofs.lemmas.List.FromFn.{length-range_with_len}
-use Rattle.std.proofs.lemmas.List.Sums.{AllPass-from_list_all}
-use Rattle.std.proofs.lemmas.Nat.{le-div, pow_pos, mul-le, and_le_r}
-use Rattle.std.proofs.lemmas.Nat.Bits.{bit_at-zero, bit_at-lt, bit_at_and, bit_at_or, bit_at_above, bit_at_cat_low, bit_at_cat_high}
-use Rattle.std.proofs.Math.Nat.{mod-eq_of_lt, pow-le-pow_right}
-use Rattle.linearize.specs.MortonLaws.{at_own_place}
-use Rattle.linearize.specs.Spreads.{IsSpread}
+use Rattle.linearize.proofs.Imports.{◌≡◌, ℕ, ◌+◌, ◌-◌, ◌*◌, ◌/◌, ◌%◌, ◌^◌, ◌<◌, ◌≤◌, max, min, Bool, true, cond, eqb, ltb, refl, sym, ap, ◌∙◌, ⊎_elim, arith, lit<, bit_and, bit_or, nat_le, bit_at, list_all, range_with_len, cases_lt, cond-true, cond-false, cond_both, eqb-true, eqb-false, ltb-true, ltb-false, leb-true, le-ltb, eq-eqb, All-get_or, length-range_with_len, AllPass-from_list_all, le-div, pow_pos, mul-le, and_le_r, bit_at-zero, bit_at-lt, bit_at_and, bit_at_or, bit_at_above, bit_at_cat_low, bit_at_cat_high, mod-eq_of_lt, pow-le-pow_right, at_own_place, IsSpread}
 
 -- ---- one mask and shift
 

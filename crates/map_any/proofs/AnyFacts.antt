@@ -1,15 +1,5 @@
 -- What a mapping keeps, as its calls use it.
-use Rattle.std.proofs.Common.{◌≡◌, ℕ, ◌*◌, ◌<◌, ◌≤◌, List, [], length, get_or, ⊎_elim, sym, ap, ◌∙◌, arith}
-use Rattle.std.proofs.lemmas.Bool.{cases_lt}
-use Rattle.std.proofs.lemmas.List.{get_or-map, get_or_past, length-map}
-use Rattle.record_dim.specs.Trees.{Fields}
-use Rattle.record_dim.specs.Leaves.{kinds_of}
-use Rattle.places.specs.Layout.{Owner}
-use Rattle.places.specs.declared.piece.Hold.{Hold}
-use Rattle.map_expr.specs.Terms.{Term}
-use Rattle.map_any.specs.AnyLaws.{holds_cells}
-use Rattle.map_checks.specs.Mappings.{leaf_cells, holds_by}
-use Rattle.map_checks.specs.Ruled.{HasLengths}
+use Rattle.map_any.proofs.Imports.{◌≡◌, ℕ, ◌*◌, ◌<◌, ◌≤◌, List, [], length, get_or, ⊎_elim, sym, ap, ◌∙◌, arith, cases_lt, get_or-map, get_or_past, length-map, Fields, kinds_of, Owner, Hold, Term, holds_cells, leaf_cells, holds_by, HasLengths}
 
 -- the number of blobs, and the bytes of each
 pub length-sized : (layout : List (List Owner)) (lengths : List ℕ) → HasLengths layout lengths → length lengths ≡ length layout

@@ -1,28 +1,6 @@
 -- Leaves that lie in arrays.
-use Rattle.std.proofs.Common.{◌≡◌, ℕ, ◌+◌, ◌*◌, ◌/◌, ◌%◌, ◌^◌, ◌<◌, ◌≤◌, List, [], ◌∷◌, length, get_or, map, slice_index, refl, sym, ap, ◌∙◌, subst, arith}
-use Rattle.std.specs.Prelude.{Option, Some, None, IfSome, IsSomeAnd}
-use Rattle.extents.specs.declared.order.Order.{Order}
-use Rattle.linearize.specs.Slots.{row_at, slot_count}
-use Rattle.record_dim.specs.Trees.{Fields}
-use Rattle.record_dim.specs.declared.leaf_type.LeafType.{LeafType}
-use Rattle.places.specs.Holds.{widths_of, full_holds}
-use Rattle.places.specs.Rules.{in_rows}
-use Rattle.places.specs.Layout.{Owner}
-use Rattle.places.specs.declared.piece.Cell.{Cell}
-use Rattle.places.specs.declared.piece.Hold.{Hold}
-use Rattle.places.specs.BeginsLaws.{begins_fit}
-use Rattle.places.specs.PieceRules.{begin_in, AreRulesOf, IsDense}
-use Rattle.places.specs.declared.rule.PieceRule.{PieceRule}
-use Rattle.map_expr.specs.Terms.{Term, Aos, Soa, Aosoa, BitAos, BitSoa, Split, Byteswap, Bytesplit, Change, Count, Heat, Named}
-use Rattle.map_checks.specs.Mappings.{layout_of, holds_of}
-use Rattle.map_checks.specs.Arrays.{array_of, array_layout, lanes_in, IsArray, IsArrayOf, HasArrays}
-use Rattle.map_checks.specs.Ruled.{IsSameRule}
-use Rattle.map_checks.specs.declared.rule.Rule.{Rule}
-use Rattle.map_any.specs.ArrayRuns.{IsArrayRun}
-use Rattle.map_any.specs.ArrayRunLaws.{array_run, array_holds}
-use Rattle.map_any.specs.LeafArrays.{HaveArrays}
-use Rattle.map_any.specs.LeafRules.{AreLeafRules}
-use Rattle.map_any.specs.declared.leaf_rule.LeafRule.{LeafRule}
+use Rattle.map_any.proofs.Imports.{◌≡◌, ℕ, ◌+◌, ◌*◌, ◌/◌, ◌%◌, ◌^◌, ◌<◌, ◌≤◌, List, [], ◌∷◌, length, get_or, map, slice_index, refl, sym, ap, ◌∙◌, subst, arith, Option, None, IfSome, IsSomeAnd, Order, row_at, slot_count, Fields, LeafType, widths_of, full_holds, in_rows, Owner, Cell, Hold, begins_fit, begin_in, AreRulesOf, IsDense, PieceRule, Term, Aos, Soa, Aosoa, BitAos, BitSoa, Split, Byteswap, Bytesplit, Change, Count, Heat, Named, layout_of, holds_of, array_of, array_layout, lanes_in, IsArray, IsArrayOf, HasArrays, IsSameRule, Rule, IsArrayRun, array_run, array_holds, HaveArrays, AreLeafRules, LeafRule}
+use Rattle.std.specs.Prelude.{Some}
 
 -- what is said of a value says another thing of it
 if_some : {X : Type 0} (o : Option X) (P Q : X → Type 0) → ((x : X) → P x → Q x) → IfSome o P → IfSome o Q

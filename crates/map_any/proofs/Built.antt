@@ -1,13 +1,7 @@
 -- What being built, and being accepted, say of an expression.
-use Rattle.std.proofs.Common.{◌≡◌, Bool, true, false, Option, None, Some, Ok, Err, refl}
-use Rattle.std.specs.Prelude.{if◌then◌else◌, not, nat_lt, List, Result}
-use Rattle.map_expr.specs.declared.check.BadMapping.{BadMapping}
-use Rattle.map_expr.specs.declared.check.BadMapping.TheVariants.{TooDeep, Counter, Side, Field, NotFull}
-use Rattle.map_expr.specs.Terms.{Term, Aos, Soa, Aosoa, BitAos, BitSoa, Split, Byteswap, Bytesplit, Change, Count, Heat, Named, depth_of}
-use Rattle.map_expr.specs.Checks.{IsNameless, checked, answered, bad_number, counts_once}
-use Rattle.map_checks.specs.Mappings.{IsBuiltTerm, accepted, bad_field, bad_side, else_for, not_full}
-use Rattle.places.specs.declared.piece.Cell.{Cell}
-use Rattle.record_dim.specs.Trees.{Fields}
+use Rattle.map_any.proofs.Imports.{◌≡◌, Bool, true, false, Some, Ok, Err, refl, if◌then◌else◌, not, nat_lt, Result, BadMapping, TooDeep, Counter, Side, Field, NotFull, Term, Aos, Soa, Aosoa, BitAos, BitSoa, Split, Byteswap, Bytesplit, Change, Count, Heat, Named, depth_of, IsNameless, checked, answered, bad_number, counts_once, IsBuiltTerm, accepted, bad_field, bad_side, else_for, not_full, Cell, Fields}
+use Rattle.std.proofs.Common.{Option, None}
+use Rattle.std.specs.Prelude.{List}
 
 -- no name stands in it
 pub built_nameless : (term : Term) → IsBuiltTerm term → IsNameless term

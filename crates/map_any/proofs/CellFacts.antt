@@ -1,22 +1,5 @@
 -- What a rule says of a cell in a row, and a plan of each of its cells.
-use Rattle.std.proofs.Common.{◌≡◌, ℕ, ◌^◌, ◌<◌, List, All, map, length, get_or, slice_index, sym, subst, arith}
-use Rattle.extents.specs.Indices.{indices}
-use Rattle.linearize.specs.Slots.{slot_at}
-use Rattle.record_dim.specs.Trees.{Fields}
-use Rattle.places.specs.Layout.{Owner}
-use Rattle.places.specs.Laws.{IsLocated}
-use Rattle.places.specs.declared.piece.Cell.{Cell}
-use Rattle.places.specs.declared.piece.Hold.{Hold}
-use Rattle.places.specs.BeginsLaws.{begins_fit}
-use Rattle.places.specs.PieceRules.{begin_in, pieces_in}
-use Rattle.places.specs.declared.rule.PieceRule.{PieceRule}
-use Rattle.map_expr.specs.Terms.{Term}
-use Rattle.map_checks.specs.Mappings.{layout_of}
-use Rattle.map_checks.specs.Plans.{IsPlanOf}
-use Rattle.map_checks.specs.Ruled.{IsRuleOf}
-use Rattle.map_checks.specs.declared.plan.Plan.{Plan}
-use Rattle.map_checks.specs.declared.rule.Rule.{Rule}
-use Rattle.map_any.specs.AnyLaws.{cell_rules}
+use Rattle.map_any.proofs.Imports.{◌≡◌, ℕ, ◌^◌, ◌<◌, List, All, map, length, get_or, slice_index, sym, subst, arith, indices, slot_at, Fields, Owner, IsLocated, Cell, Hold, begins_fit, begin_in, pieces_in, PieceRule, Term, layout_of, IsPlanOf, IsRuleOf, Plan, Rule, cell_rules}
 
 -- the pieces of a rule in the slot of a row are the places of its cell, and begin within 64 bits
 module _ (layout : List (List Owner)) (extents : List ℕ) (row cell width slot : ℕ) (rule : Rule) (h : IsRuleOf layout extents cell width rule)

@@ -1,27 +1,7 @@
 -- Slots of an array that lie evenly: each so many bits behind the one that is so many slots before it.
-use Rattle.std.proofs.Common.{◌≡◌, ℕ, zero, suc, ◌+◌, ◌*◌, ◌/◌, ◌%◌, ◌<◌, ◌≤◌, List, get_or, map, slice_index, Bool, refl, sym, ap, ◌∙◌, subst, arith}
-use Rattle.std.specs.Prelude.{Option, Some, None, IfSome, unwrap_or}
-use Rattle.std.proofs.lemmas.Nat.{div-add-mod', div-mul-add, mod-mul-add, mod_below}
-use Rattle.extents.specs.declared.order.Order.{Order}
-use Rattle.linearize.specs.Slots.{row_at, slot_count}
-use Rattle.record_dim.specs.Trees.{Fields}
-use Rattle.places.specs.Holds.{widths_of, full_holds}
-use Rattle.places.specs.Rules.{in_rows}
-use Rattle.places.specs.Layout.{Owner}
-use Rattle.places.specs.declared.piece.Cell.{Cell}
-use Rattle.places.specs.declared.piece.Hold.{Hold}
-use Rattle.places.specs.PieceRules.{begin_in, IsDense}
-use Rattle.places.specs.declared.rule.PieceRule.{PieceRule}
-use Rattle.map_expr.specs.Terms.{Term, Aos, Soa, Aosoa, BitAos, BitSoa, Split, Byteswap, Bytesplit, Change, Count, Heat, Named}
-use Rattle.map_expr.specs.Checks.{bad_number, bad_granule}
-use Rattle.map_expr.specs.declared.check.BadMapping.{BadMapping}
-use Rattle.map_checks.specs.Mappings.{layout_of, holds_of}
-use Rattle.map_checks.specs.Arrays.{array_of, array_layout, lanes_in, IsArrayOf}
-use Rattle.map_checks.specs.declared.rule.Rule.{Rule}
-use Rattle.map_any.specs.ArrayRuns.{IsArrayRun}
-use Rattle.map_any.specs.ArrayRunLaws.{array_run, array_holds}
+use Rattle.map_any.proofs.Imports.{◌≡◌, ℕ, zero, suc, ◌+◌, ◌*◌, ◌/◌, ◌%◌, ◌<◌, ◌≤◌, List, get_or, map, slice_index, Bool, refl, sym, ap, ◌∙◌, subst, arith, Option, None, IfSome, unwrap_or, div-add-mod', div-mul-add, mod-mul-add, mod_below, Order, row_at, slot_count, Fields, widths_of, full_holds, in_rows, Owner, Cell, Hold, begin_in, IsDense, PieceRule, Term, Aos, Soa, Aosoa, BitAos, BitSoa, Split, Byteswap, Bytesplit, Change, Count, Heat, Named, bad_number, bad_granule, BadMapping, layout_of, holds_of, array_of, array_layout, lanes_in, IsArrayOf, Rule, IsArrayRun, array_run, array_holds, option_or}
+use Rattle.std.specs.Prelude.{Some}
 use Rattle.map_any.proofs.ArrayLaws.{if_three, array_rows}
-use Rattle.std.specs.Option.{option_or}
 
 -- the blocks of an expression whose numbers are in their ranges have slots, where there are any
 second_none : (o p : Option BadMapping) → option_or o p ≡ None → p ≡ None

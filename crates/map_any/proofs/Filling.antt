@@ -1,27 +1,7 @@
 -- What filling in keeps, and what it comes to.
-use Rattle.std.proofs.Common.{◌≡◌, ℕ, ◌+◌, ◌-◌, ◌<◌, ◌≤◌, ◌⊎◌, inl, inr, ⊎_elim, List, [], ◌∷◌, map, length, get_or, replicate, All, refl, sym, ap, ◌∙◌, subst, arith}
+use Rattle.map_any.proofs.Imports.{◌≡◌, ℕ, ◌+◌, ◌-◌, ◌<◌, ◌≤◌, ◌⊎◌, inl, inr, ⊎_elim, List, [], ◌∷◌, map, length, get_or, replicate, All, refl, sym, ap, ◌∙◌, subst, arith, flat_map, range_with_len, cases_lt, get_or-map, get_or-replicate, get_or_default, length-map, length-replicate, same_lists, All-head, All-tail, indices, kinds_of, schema_fields, Owner, Bit, owner_at, NoOwner, owners_in, IsBitOf, IsLaidOut, Splits, spells_split, bits_located, Piece, RunOwner, Pad, Hold, term_of, AnyMap, any_laws, holds_cells, layout_by, leaf_cells, shown_at, IsShown, IsFilled, ShowBelow, Show, run_owner}
 use Rattle.std.specs.Prelude.{slice_index}
-use Rattle.std.specs.List.{flat_map, range_with_len}
-use Rattle.std.proofs.lemmas.Bool.{cases_lt}
-use Rattle.std.proofs.lemmas.List.{get_or-map, get_or-replicate, get_or_default, length-map, length-replicate, same_lists}
-use Rattle.std.proofs.lemmas.List.Elements.{All-head, All-tail}
-use Rattle.extents.specs.Indices.{indices}
-use Rattle.record_dim.specs.Leaves.{kinds_of}
-use Rattle.record_dim.specs.Schemas.{schema_fields}
-use Rattle.places.specs.Layout.{Owner, Bit, owner_at}
-use Rattle.places.specs.Layout.{Pad as NoOwner}
-use Rattle.places.specs.Laws.{owners_in, IsBitOf, IsLaidOut}
-use Rattle.places.specs.PlacesLaws.{Splits, spells_split, bits_located}
-use Rattle.places.specs.declared.piece.Piece.{Piece}
-use Rattle.places.specs.declared.piece.RunOwner.{RunOwner}
-use Rattle.places.specs.declared.piece.RunOwner.TheVariants.{Pad, Leaf}
-use Rattle.places.specs.declared.piece.Hold.{Hold}
-use Rattle.map_expr.specs.Terms.{term_of}
-use Rattle.map_any.specs.declared.any.AnyMap.{AnyMap}
-use Rattle.map_any.specs.AnyLaws.{any_laws, holds_cells}
-use Rattle.map_checks.specs.Mappings.{layout_by, leaf_cells}
-use Rattle.map_any.specs.Filling.{shown_at, IsShown, IsFilled, ShowBelow, Show}
-use Rattle.map_any.specs.Runs.{run_owner}
+use Rattle.places.specs.declared.piece.RunOwner.TheVariants.{Leaf}
 
 -- the layout of a mapping, the width of a leaf, and the law
 abbrev pub layout_in : AnyMap → List (List Owner)

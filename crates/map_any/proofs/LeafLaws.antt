@@ -1,31 +1,5 @@
 -- What accesses to leaves go by: rules that are copied, and the short form of a rule by rows.
-use Rattle.std.proofs.Common.{◌≡◌, ℕ, ◌+◌, ◌%◌, ◌^◌, ◌<◌, ◌≤◌, List, All, Bool, true, false, map, length, get_or, slice_index, sum_by, refl, sym, ap, ◌∙◌, subst, arith}
-use Rattle.std.proofs.lemmas.List.{length-map}
-use Rattle.extents.specs.Indices.{indices}
-use Rattle.extents.specs.declared.order.Order.{Order}
-use Rattle.linearize.specs.Slots.{slot_at, slot_count}
-use Rattle.record_dim.specs.declared.leaf_type.LeafType.{LeafType}
-use Rattle.places.specs.Layout.{Owner}
-use Rattle.places.specs.Laws.{IsLocated}
-use Rattle.places.specs.declared.piece.Hold.{Hold}
-use Rattle.places.specs.PieceRules.{pieces_in}
-use Rattle.places.specs.declared.rule.PieceRule.{PieceRule}
-use Rattle.record_dim.specs.Trees.{Fields}
-use Rattle.record_dim.specs.Leaves.{kinds_of}
-use Rattle.places.specs.declared.piece.Cell.{Cell}
-use Rattle.map_expr.specs.Terms.{Term}
-use Rattle.map_any.specs.AnyLaws.{length-leaf_cells, cell_holds, cell_rules}
-use Rattle.map_checks.specs.Mappings.{leaf_cells}
-use Rattle.map_checks.specs.Plans.{IsPlanOf}
-use Rattle.map_checks.specs.declared.plan.Plan.{Plan}
-use Rattle.map_any.specs.LeafRules.{kind_in, hold_in, IsLeafRule, AreLeafRules, AreRuled}
-use Rattle.map_checks.specs.Ruled.{IsRuleOf, IsRuled, IsSameRule}
-use Rattle.piece_bits.specs.Shorts.{IsShortOf, IsShortIn}
-use Rattle.piece_bits.specs.ShortsLaws.{short_in}
-use Rattle.piece_bits.specs.Walks.{leads}
-use Rattle.piece_bits.specs.declared.short.ShortRule.{ShortRule}
-use Rattle.map_any.specs.declared.leaf_rule.LeafRule.{LeafRule}
-use Rattle.map_checks.specs.declared.rule.Rule.{Rule}
+use Rattle.map_any.proofs.Imports.{◌≡◌, ℕ, ◌+◌, ◌%◌, ◌^◌, ◌<◌, ◌≤◌, List, All, Bool, true, false, map, length, get_or, slice_index, sum_by, refl, sym, ap, ◌∙◌, subst, arith, length-map, indices, Order, slot_at, slot_count, LeafType, Owner, IsLocated, Hold, pieces_in, PieceRule, Fields, kinds_of, Cell, Term, length-leaf_cells, cell_holds, cell_rules, leaf_cells, IsPlanOf, Plan, kind_in, hold_in, IsLeafRule, AreLeafRules, AreRuled, IsRuleOf, IsRuled, IsSameRule, IsShortOf, IsShortIn, short_in, leads, ShortRule, LeafRule, Rule}
 
 -- a rule that says the same is a rule of the same cell
 pub rule_same : (layout : List (List Owner)) (extents : List ℕ) (cell width : ℕ) (old new : Rule) → IsSameRule old new

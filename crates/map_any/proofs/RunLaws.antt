@@ -1,13 +1,6 @@
 -- How a run is made one with the bits behind it.
-use Rattle.std.proofs.Common.{◌≡◌, ℕ, ◌+◌, true, false, ⊎_elim, List, [], ◌∷◌, map, refl, sym, ap, ◌∙◌, arith}
-use Rattle.std.specs.Prelude.{◌==◌, ◌&&◌}
-use Rattle.std.proofs.lemmas.Bool.{cases_Bool, cond-true, cond-false, and_parts, eqb-true}
-use Rattle.places.specs.Layout.{Owner}
-use Rattle.places.specs.declared.piece.Run.{Run}
-use Rattle.places.specs.declared.piece.RunOwner.{RunOwner}
-use Rattle.places.specs.declared.piece.RunOwner.TheVariants.{Pad, Leaf}
-use Rattle.map_any.specs.Filling.{runs_along}
-use Rattle.map_any.specs.Runs.{run_owner, goes_on, joined, runs_from}
+use Rattle.map_any.proofs.Imports.{◌≡◌, ℕ, ◌+◌, true, false, ⊎_elim, List, [], ◌∷◌, map, refl, sym, ap, ◌∙◌, arith, ◌==◌, ◌&&◌, cases_Bool, cond-true, cond-false, and_parts, eqb-true, Owner, Run, RunOwner, Pad, runs_along, run_owner, goes_on, joined, runs_from}
+use Rattle.places.specs.declared.piece.RunOwner.TheVariants.{Leaf}
 
 -- the run of one bit
 abbrev pub bit_run : ℕ → ℕ → RunOwner → Run

@@ -1,15 +1,6 @@
 -- By rows and by columns each slot is that of a row.
-use Rattle.std.proofs.Common.{◌≡◌, ◌⊎◌, ⊎_elim, ℕ, ◌<◌, List, [], length, Some, inl, inr, refl, sym, ap, ◌∙◌, subst, arith}
-use Rattle.std.specs.Prelude.{reverse, slice_get}
-use Rattle.std.proofs.lemmas.List.{reverse-reverse}
-use Rattle.std.proofs.lemmas.Option.{get_or_from_slice_get}
-use Rattle.extents.specs.Indices.{indices, IsInside}
-use Rattle.extents.specs.IndicesLaws.{inside_of_entry, row_of_inside}
-use Rattle.extents.specs.declared.order.Order.{Order}
-use Rattle.extents.specs.declared.order.Order.TheVariants.{Row, Col}
-use Rattle.linearize.proofs.SlotLemmas.{product_count}
-use Rattle.linearize.specs.Slots.{slot_at, slot_count, index_at}
-use Rattle.linearize.specs.SlotsLaws.{place_in_is, slot_at_below, slot_at_by_rows, entry_of_row, IsInside-reverse}
+use Rattle.map_any.proofs.Imports.{◌≡◌, ◌⊎◌, ⊎_elim, ℕ, ◌<◌, List, [], length, Some, inl, inr, refl, sym, ap, ◌∙◌, subst, arith, reverse, reverse-reverse, get_or_from_slice_get, indices, IsInside, inside_of_entry, row_of_inside, Order, Row, Col, product_count, slot_at, slot_count, index_at, place_in_is, slot_at_below, slot_at_by_rows, entry_of_row, IsInside-reverse}
+use Rattle.std.specs.Prelude.{slice_get}
 
 -- there are as many slots as rows, and each is that of a row
 pub record HasRows (order : Order) (extents : List ℕ) : Type 0 where

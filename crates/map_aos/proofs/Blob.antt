@@ -1,24 +1,5 @@
 -- The blob of all slots: its length, and the places of a cell.
-use Rattle.std.proofs.Common.{◌≡◌, ℕ, zero, suc, ◌+◌, ◌-◌, ◌*◌, ◌/◌, ◌%◌, ◌^◌, ◌<◌, ◌≤◌, inr, ⊎_elim, List, [], ◌∷◌, ◌++◌, map, length, sum_by, get_or, slice_index, refl, sym, ap, ◌∙◌, subst, arith, length-append}
-use Rattle.std.specs.List.{flat_map, range_with_len}
-use Rattle.std.proofs.lemmas.Bool.{cases_lt}
-use Rattle.std.proofs.lemmas.Nat.{row_fits}
-use Rattle.std.proofs.lemmas.List.{get_or_read, length-map}
-use Rattle.record_dim.specs.LeafTypes.{width_of}
-use Rattle.places.specs.Layout.{Owner, Pad, Bit, owner_at}
-use Rattle.places.specs.Laws.{IsLocated}
-use Rattle.places.specs.Holds.{widths_of, full_holds, IsTooBig}
-use Rattle.places.specs.declared.piece.Cell.{Cell}
-use Rattle.places.specs.declared.piece.Hold.{Hold}
-use Rattle.places.specs.declared.piece.Piece.{Piece}
-use Rattle.places.specs.ExactLaws.{within}
-use Rattle.places.specs.SlotsLaws.{length-parts, slot_at}
-use Rattle.places.specs.PlacesLaws.{one_piece}
-use Rattle.places.specs.CellWidthsLaws.{cell_width}
-use Rattle.places.specs.Forms.{aos_layout}
-use Rattle.map_aos.specs.Aos.{IsStored, part_of}
-use Rattle.map_aos.specs.AosLaws.{aos_laws, layout_parts}
-use Rattle.places.specs.declared.forms.AosForm.{AosForm}
+use Rattle.map_aos.proofs.Imports.{◌≡◌, ℕ, zero, suc, ◌+◌, ◌-◌, ◌*◌, ◌/◌, ◌%◌, ◌^◌, ◌<◌, ◌≤◌, inr, ⊎_elim, List, [], ◌∷◌, ◌++◌, map, length, sum_by, get_or, slice_index, refl, sym, ap, ◌∙◌, subst, arith, length-append, flat_map, range_with_len, cases_lt, row_fits, get_or_read, length-map, width_of, Owner, Pad, Bit, owner_at, IsLocated, widths_of, full_holds, IsTooBig, Cell, Hold, Piece, within, length-parts, slot_at, one_piece, cell_width, aos_layout, IsStored, part_of, aos_laws, layout_parts, AosForm}
 
 abbrev blob_of : AosForm → ℕ → List ℕ → List Owner
 blob_of form slots widths = flat_map (part_of form widths) (range_with_len 0 slots)

@@ -1,2 +1,3 @@
-pub mod Parts
+mod Imports
 pub mod Blob
+pub mod Parts

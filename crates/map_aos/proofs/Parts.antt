@@ -1,20 +1,5 @@
 -- How the part of one slot is filled, cell after cell.
-use Rattle.std.proofs.Common.{◌≡◌, ℕ, ◌+◌, ◌-◌, ◌%◌, ◌<◌, ◌≤◌, ◌==◌, List, [], ◌∷◌, ◌++◌, map, filter, length, max, fold, replicate, get_or, set, take, slice_index, All, refl, sym, ap, ◌∙◌, subst, arith, lit≤}
-use Rattle.std.proofs.lemmas.List.{append-nil, append_assoc, take_more, take_all, get_or-map, length-map, get_or_append_left}
-use Rattle.std.proofs.lemmas.List.FromFn.{length-enumerate_from, get_or-enumerate_from}
-use Rattle.record_dim.specs.LeafTypes.{width_of}
-use Rattle.places.specs.Layout.{Owner, Pad, Bit, cells_of, field, falling}
-use Rattle.places.specs.Holds.{widths_of}
-use Rattle.places.specs.declared.piece.Cell.{Cell}
-use Rattle.places.specs.ExactLaws.{Member, length-field, field_at, within}
-use Rattle.places.specs.CellWidthsLaws.{member_width}
-use Rattle.places.specs.CellsLaws.{member_at, member_cells, cells_member, fresh_at}
-use Rattle.places.specs.StackedLaws.{stacked, up, IsFilled, filled_more, length-padded, stacked_take}
-use Rattle.places.specs.WidthsLaws.{IsWidth, by_width, widths_are}
-use Rattle.map_aos.specs.Aos.{IsStored, part_of, order_of, alignment}
-use Rattle.map_aos.specs.AosLaws.{laid_fields, widest, part_is, apart_order, order_member, member_order}
-use Rattle.places.specs.declared.forms.AosForm.{AosForm}
-use Rattle.places.specs.declared.forms.AosForm.TheVariants.{Packed, Aligned, Min}
+use Rattle.map_aos.proofs.Imports.{◌≡◌, ℕ, ◌+◌, ◌-◌, ◌%◌, ◌<◌, ◌≤◌, ◌==◌, List, [], ◌∷◌, ◌++◌, map, filter, length, max, fold, replicate, get_or, set, take, slice_index, All, refl, sym, ap, ◌∙◌, subst, arith, lit≤, append-nil, append_assoc, take_more, take_all, get_or-map, length-map, get_or_append_left, length-enumerate_from, get_or-enumerate_from, width_of, Owner, Pad, Bit, cells_of, field, falling, widths_of, Cell, Member, length-field, field_at, within, member_width, member_at, member_cells, cells_member, fresh_at, stacked, up, IsFilled, filled_more, length-padded, stacked_take, IsWidth, by_width, widths_are, IsStored, part_of, order_of, alignment, laid_fields, widest, part_is, apart_order, order_member, member_order, AosForm, Packed, Aligned, Min}
 
 -- the numbered cells, one by one
 pub length-cells : (cells : List Cell) → length (cells_of (widths_of cells)) ≡ length cells

@@ -1,22 +1,5 @@
 -- The blob of all blocks: its length, and the places of a cell.
-use Rattle.std.proofs.Common.{◌≡◌, ℕ, zero, suc, ◌+◌, ◌-◌, ◌*◌, ◌/◌, ◌%◌, ◌^◌, ◌<◌, ◌≤◌, inr, ⊎_elim, List, [], ◌∷◌, ◌++◌, map, length, sum_by, get_or, slice_index, take, refl, sym, ap, ◌∙◌, subst, arith, length-append}
-use Rattle.std.specs.List.{flat_map, range_with_len, enumerate_from, sum}
-use Rattle.std.proofs.lemmas.Bool.{cases_lt}
-use Rattle.std.proofs.lemmas.Nat.{row_fits, div-add-mod', mul-le}
-use Rattle.std.proofs.lemmas.List.{get_or_read, get_or_append_left, get_or-append-add}
-use Rattle.std.proofs.lemmas.List.Sums.{sum_by-cons}
-use Rattle.places.specs.Layout.{Owner, Pad, Bit, owner_at, cells_of, lane, block_of, aosoa}
-use Rattle.places.specs.Laws.{IsLocated}
-use Rattle.places.specs.Holds.{widths_of, full_holds, IsTooBig}
-use Rattle.places.specs.declared.piece.Cell.{Cell}
-use Rattle.places.specs.declared.piece.Hold.{Hold}
-use Rattle.places.specs.declared.piece.Piece.{Piece}
-use Rattle.places.specs.ExactLaws.{within, field_at}
-use Rattle.places.specs.SlotsLaws.{length-parts, slot_at}
-use Rattle.places.specs.PlacesLaws.{one_piece}
-use Rattle.places.specs.CellWidthsLaws.{cell_width, length-widths}
-use Rattle.map_aosoa.specs.Aosoa.{IsStored, block_count}
-use Rattle.map_aosoa.specs.AosoaLaws.{lanes_of, lane_is, length-lane, in_blocks, aosoa_laws}
+use Rattle.map_aosoa.proofs.Imports.{◌≡◌, ℕ, zero, suc, ◌+◌, ◌-◌, ◌*◌, ◌/◌, ◌%◌, ◌^◌, ◌<◌, ◌≤◌, inr, ⊎_elim, List, [], ◌∷◌, ◌++◌, map, length, sum_by, get_or, slice_index, take, refl, sym, ap, ◌∙◌, subst, arith, length-append, flat_map, range_with_len, enumerate_from, sum, cases_lt, row_fits, div-add-mod', mul-le, get_or_read, get_or_append_left, get_or-append-add, sum_by-cons, Owner, Pad, Bit, owner_at, cells_of, lane, block_of, aosoa, IsLocated, widths_of, full_holds, IsTooBig, Cell, Hold, Piece, within, field_at, length-parts, slot_at, one_piece, cell_width, length-widths, IsStored, block_count, lanes_of, lane_is, length-lane, in_blocks, aosoa_laws}
 
 length-lanes : (lanes slots block c w : ℕ) → length (lanes_of lanes slots block (c, w)) ≡ lanes * w
 length-lanes lanes slots block c w = length-parts (λ l. lane slots (c, w) (block * lanes + l)) w (λ l. length-lane slots c w (block * lanes + l)) 0 lanes

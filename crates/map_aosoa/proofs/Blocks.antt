@@ -1,18 +1,5 @@
 -- How many blocks there are, and how one block is filled, cell after cell.
-use Rattle.std.proofs.Common.{◌≡◌, ℕ, zero, suc, All, refl, ◌+◌, ◌-◌, ◌*◌, ◌/◌, ◌%◌, ◌<◌, ◌≤◌, min, ⊎_elim, List, [], ◌∷◌, ◌++◌, length, get_or, take, sym, ap, ◌∙◌, arith, below_more}
-use Rattle.std.specs.List.{sum}
-use Rattle.std.specs.Int.{div_ceil}
-use Rattle.std.proofs.lemmas.Bool.{cases_lt}
-use Rattle.std.proofs.lemmas.Nat.{div-mul-add, div-add-mod', mul-le}
-use Rattle.std.proofs.lemmas.List.{get_or-map, get_or_push, get_or_append_left}
-use Rattle.std.proofs.lemmas.List.Sums.{sum_by_more, sum_by-take-le, sum_by-cons}
-use Rattle.record_dim.specs.LeafTypes.{width_of}
-use Rattle.places.specs.Holds.{widths_of}
-use Rattle.places.specs.declared.piece.Cell.{Cell}
-use Rattle.places.specs.CellWidthsLaws.{length-widths}
-use Rattle.places.specs.WidthsLaws.{widths_whole}
-use Rattle.places.specs.SlotsLaws.{times_bytes}
-use Rattle.map_aosoa.specs.Aosoa.{block_count}
+use Rattle.map_aosoa.proofs.Imports.{◌≡◌, ℕ, zero, suc, All, refl, ◌+◌, ◌-◌, ◌*◌, ◌/◌, ◌%◌, ◌<◌, ◌≤◌, min, ⊎_elim, List, [], ◌∷◌, ◌++◌, length, get_or, take, sym, ap, ◌∙◌, arith, below_more, sum, div_ceil, cases_lt, div-mul-add, div-add-mod', mul-le, get_or-map, get_or_push, get_or_append_left, sum_by_more, sum_by-take-le, sum_by-cons, width_of, widths_of, Cell, length-widths, widths_whole, times_bytes, block_count}
 
 -- a quotient that is rounded up
 pub blocks_are : (slots lanes : ℕ) → 0 < lanes → div_ceil slots lanes ≡ block_count lanes slots

@@ -1,2 +1,3 @@
-pub mod Blocks
+mod Imports
 pub mod Blob
+pub mod Blocks

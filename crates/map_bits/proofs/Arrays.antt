@@ -1,19 +1,5 @@
 -- A struct of arrays packed to the bit: the lengths of its blobs, and the places of a cell.
-use Rattle.std.proofs.Common.{◌≡◌, ℕ, ◌+◌, ◌-◌, ◌*◌, ◌/◌, ◌%◌, ◌^◌, ◌<◌, ◌≤◌, List, [], ◌∷◌, length, sum_by, replicate, get_or, slice_index, take, refl, sym, ap, ◌∙◌, subst, arith}
-use Rattle.std.proofs.lemmas.Nat.{mul-le}
-use Rattle.std.proofs.lemmas.List.{get_or-map, get_or_append_left, length-map, take_all}
-use Rattle.std.proofs.lemmas.List.FromFn.{length-enumerate_from, get_or-enumerate_from}
-use Rattle.std.proofs.lemmas.List.Sums.{sum_by_more, sum_by-take-le}
-use Rattle.places.specs.Layout.{Owner, Pad, Bit, owner_at, cells_of, field, array, bit_soa}
-use Rattle.places.specs.Laws.{IsLocated, IsLaidOut}
-use Rattle.places.specs.declared.piece.Hold.{Hold}
-use Rattle.places.specs.declared.piece.Piece.{Piece}
-use Rattle.places.specs.ExactLaws.{within, field_at, length-field}
-use Rattle.places.specs.SlotsLaws.{length-parts, slot_at}
-use Rattle.places.specs.StackedLaws.{up, length-padded}
-use Rattle.places.specs.PlacesLaws.{one_piece}
-use Rattle.places.specs.Holds.{widths_in}
-use Rattle.map_bits.specs.Bits.{padded_array}
+use Rattle.map_bits.proofs.Imports.{◌≡◌, ℕ, ◌+◌, ◌-◌, ◌*◌, ◌/◌, ◌%◌, ◌^◌, ◌<◌, ◌≤◌, List, [], ◌∷◌, length, sum_by, replicate, get_or, slice_index, take, refl, sym, ap, ◌∙◌, subst, arith, mul-le, get_or-map, get_or_append_left, length-map, take_all, length-enumerate_from, get_or-enumerate_from, sum_by_more, sum_by-take-le, Owner, Pad, Bit, owner_at, cells_of, field, array, bit_soa, IsLocated, IsLaidOut, Hold, Piece, within, field_at, length-field, length-parts, slot_at, up, length-padded, one_piece, widths_in, padded_array}
 use Rattle.map_bits.proofs.Widths.{IsTaken, taken_at}
 
 -- one blob: its length in bits, and its places

@@ -1,21 +1,5 @@
 -- An array of structs packed to the bit: its length, and the places of a cell.
-use Rattle.std.proofs.Common.{◌≡◌, ℕ, zero, suc, ◌+◌, ◌-◌, ◌*◌, ◌/◌, ◌%◌, ◌^◌, ◌<◌, ◌≤◌, inr, ⊎_elim, List, [], ◌∷◌, ◌++◌, map, length, sum_by, replicate, get_or, slice_index, take, refl, sym, ap, ◌∙◌, subst, arith, length-append}
-use Rattle.std.specs.List.{flat_map, range_with_len, enumerate_from, sum}
-use Rattle.std.proofs.lemmas.Bool.{cases_lt}
-use Rattle.std.proofs.lemmas.Nat.{mul-le}
-use Rattle.std.proofs.lemmas.List.{take_all, length-map, get_or_append_left, get_or-append-add}
-use Rattle.std.proofs.lemmas.List.FromFn.{length-map-range_with_len, get_or-map-range_with_len, map-range_with_len_more}
-use Rattle.std.proofs.lemmas.List.Sums.{sum_by-cons, sum_by_more, sum_by-take-le}
-use Rattle.places.specs.Layout.{Owner, Pad, Bit, owner_at, cells_of, field, fields, padded_to, bit_aos}
-use Rattle.places.specs.Laws.{IsLocated, IsLaidOut}
-use Rattle.places.specs.Holds.{IsTooBig, widths_in}
-use Rattle.places.specs.declared.piece.Hold.{Hold}
-use Rattle.places.specs.declared.piece.Piece.{Piece}
-use Rattle.places.specs.ExactLaws.{within, field_at, length-field}
-use Rattle.places.specs.SlotsLaws.{length-parts, slot_at}
-use Rattle.places.specs.StackedLaws.{up, length-padded}
-use Rattle.places.specs.PlacesLaws.{one_piece}
-use Rattle.map_bits.specs.Bits.{IsStored, packed_slots}
+use Rattle.map_bits.proofs.Imports.{◌≡◌, ℕ, zero, suc, ◌+◌, ◌-◌, ◌*◌, ◌/◌, ◌%◌, ◌^◌, ◌<◌, ◌≤◌, inr, ⊎_elim, List, [], ◌∷◌, ◌++◌, map, length, sum_by, replicate, get_or, slice_index, take, refl, sym, ap, ◌∙◌, subst, arith, length-append, flat_map, range_with_len, enumerate_from, sum, cases_lt, mul-le, take_all, length-map, get_or_append_left, get_or-append-add, length-map-range_with_len, get_or-map-range_with_len, map-range_with_len_more, sum_by-cons, sum_by_more, sum_by-take-le, Owner, Pad, Bit, owner_at, cells_of, field, fields, padded_to, bit_aos, IsLocated, IsLaidOut, IsTooBig, widths_in, Hold, Piece, within, field_at, length-field, length-parts, slot_at, up, length-padded, one_piece, IsStored, packed_slots}
 use Rattle.map_bits.proofs.Widths.{IsTaken, taken_at}
 
 -- the length of the cells that are numbered from n on

@@ -1,10 +1,5 @@
 -- What one cell takes, as the code reads it and as the laws say it.
-use Rattle.std.proofs.Common.{◌≡◌, ℕ, ◌<◌, ◌≤◌, List, length, get_or, slice_index, sym, ap, ◌∙◌, arith}
-use Rattle.std.proofs.lemmas.List.{get_or-map, length-map}
-use Rattle.places.specs.declared.piece.Cell.{Cell}
-use Rattle.places.specs.declared.piece.Hold.{Hold}
-use Rattle.places.specs.Holds.{widths_in}
-use Rattle.map_bits.specs.Bits.{AreHolds}
+use Rattle.map_bits.proofs.Imports.{◌≡◌, ℕ, ◌<◌, ◌≤◌, List, length, get_or, slice_index, sym, ap, ◌∙◌, arith, get_or-map, length-map, Cell, Hold, widths_in, AreHolds}
 
 -- a cell takes so many bits
 pub record IsTaken (widths : List ℕ) (cell bits : ℕ) : Type 0 where

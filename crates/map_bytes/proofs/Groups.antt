@@ -1,13 +1,5 @@
 -- The places of pieces whose bytes are in reverse order are the places before, their groups of 8 in reverse order.
-use Rattle.std.proofs.Common.{◌≡◌, ℕ, zero, suc, ◌+◌, ◌-◌, ◌*◌, ◌/◌, ◌%◌, ◌≤◌, List, [], ◌∷◌, ◌++◌, map, length, take, drop, All, reverse, refl, sym, ap, ◌∙◌, arith, length-append, append_assoc}
-use Rattle.std.specs.List.{flat_map, range_with_len}
-use Rattle.std.proofs.lemmas.List.{append-nil, reverse-append, nil_from_length, length-drop, drop-append-le, take-append-le, take_all}
-use Rattle.std.proofs.lemmas.List.Concat.{flat_map-append}
-use Rattle.std.proofs.lemmas.List.FromFn.{length-map-range_with_len, map-range_with_len_more}
-use Rattle.std.proofs.lemmas.List.Elements.{All-head, All-tail}
-use Rattle.places.specs.declared.piece.Piece.{Piece}
-use Rattle.places.specs.PlacesLaws.{range_split}
-use Rattle.map_bytes.specs.Cuts.{byte_of, piece_bytes, swapped, places_in, groups_back}
+use Rattle.map_bytes.proofs.Imports.{◌≡◌, ℕ, zero, suc, ◌+◌, ◌-◌, ◌*◌, ◌/◌, ◌%◌, ◌≤◌, List, [], ◌∷◌, ◌++◌, map, length, take, drop, All, reverse, refl, sym, ap, ◌∙◌, arith, length-append, append_assoc, flat_map, range_with_len, append-nil, reverse-append, nil_from_length, length-drop, drop-append-le, take-append-le, take_all, flat_map-append, length-map-range_with_len, map-range_with_len_more, All-head, All-tail, Piece, range_split, byte_of, piece_bytes, swapped, places_in, groups_back}
 
 -- so many whole groups before others
 groups_append : {X : Type 0} (n m : ℕ) (xs ys : List X) → length xs ≡ 8 * n → groups_back (n + m) (xs ++ ys) ≡ groups_back m ys ++ groups_back n xs

@@ -1,23 +1,5 @@
 -- What the inner mapping says of a cell, in the words of the outer one.
-use Rattle.std.proofs.Common.{◌≡◌, ℕ, ◌+◌, ◌*◌, ◌/◌, ◌%◌, ◌<◌, ◌≤◌, List, ◌++◌, map, length, get_or, slice_index, take, All, sym, ap, ◌∙◌, subst, arith}
-use Rattle.std.specs.List.{sum_by}
-use Rattle.std.proofs.lemmas.List.{get_or-map, length-map}
-use Rattle.std.proofs.lemmas.List.Sums.{sum_by_more_le}
-use Rattle.places.specs.Layout.{Owner, Bit}
-use Rattle.places.specs.Rules.{byte_cells, bytesplit}
-use Rattle.places.specs.Laws.{IsLocated}
-use Rattle.places.specs.Holds.{widths_of, full_holds}
-use Rattle.places.specs.WidthsLaws.{widths_full, widths_whole, widths_narrow}
-use Rattle.places.specs.CellWidthsLaws.{length-widths, length-full}
-use Rattle.places.specs.PlacesLaws.{bits_located}
-use Rattle.places.specs.declared.piece.Cell.{Cell}
-use Rattle.places.specs.declared.piece.Hold.{Hold}
-use Rattle.places.specs.declared.piece.Piece.{Piece}
-use Rattle.places.specs.PieceRules.{piece_in, pieces_in}
-use Rattle.places.specs.declared.rule.PieceRule.{PieceRule}
-use Rattle.map_bytes.specs.Cells.{bytes_of, byte_count}
-use Rattle.map_bytes.specs.ByteCellsLaws.{bytes_before, byte_cell_at, byte_within, byte_count_is, byte_count_before, length-bytes, widths_of_bytes}
-use Rattle.map_bytes.specs.JoinLaws.{byte_joined, byte_alone}
+use Rattle.map_bytes.proofs.Imports.{◌≡◌, ℕ, ◌+◌, ◌*◌, ◌/◌, ◌%◌, ◌<◌, ◌≤◌, List, ◌++◌, map, length, get_or, slice_index, take, All, sym, ap, ◌∙◌, subst, arith, sum_by, get_or-map, length-map, sum_by_more_le, Owner, Bit, byte_cells, bytesplit, IsLocated, widths_of, full_holds, widths_full, widths_whole, widths_narrow, length-widths, length-full, bits_located, Cell, Hold, Piece, piece_in, pieces_in, PieceRule, bytes_of, byte_count, bytes_before, byte_cell_at, byte_within, byte_count_is, byte_count_before, length-bytes, widths_of_bytes, byte_joined, byte_alone}
 
 -- what holds of the pieces that rules give in slot 0 holds of the rules
 pub all_in : (Q : PieceRule → Type 0) (P : Piece → Type 0) (rules : List PieceRule) (pieces : List Piece) → pieces_in rules 0 ≡ pieces

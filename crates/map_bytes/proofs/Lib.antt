@@ -1,2 +1,3 @@
+mod Imports
 pub mod Groups
 pub mod Inner

@@ -1,11 +1,5 @@
 -- Rules of cells that lie in arrays.
-use Rattle.std.proofs.Common.{◌≡◌, ℕ, ◌^◌, ◌≤◌, List, [], ◌∷◌, length, get_or, map, sym, ap, ◌∙◌, subst}
-use Rattle.places.specs.Layout.{Owner}
-use Rattle.places.specs.declared.piece.Hold.{Hold}
-use Rattle.places.specs.PieceRules.{AreRulesOf, IsDense}
-use Rattle.places.specs.declared.rule.PieceRule.{PieceRule}
-use Rattle.map_checks.specs.Arrays.{IsArray, AreArrays}
-use Rattle.map_checks.specs.declared.rule.Rule.{Rule}
+use Rattle.map_checks.proofs.Imports.{◌≡◌, ℕ, ◌^◌, ◌≤◌, List, [], ◌∷◌, length, get_or, map, sym, ap, ◌∙◌, subst, Owner, Hold, AreRulesOf, IsDense, PieceRule, IsArray, AreArrays, Rule}
 
 -- the rule of one piece
 pub array_rule : (layout : List (List Owner)) (slots lanes cell width : ℕ) (piece : PieceRule) (rule : Rule) → slots ≤ 2 ^ 24 → rule.pieces.items ≡ piece ∷ [] → piece.bits ≡ width

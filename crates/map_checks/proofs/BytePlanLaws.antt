@@ -1,28 +1,6 @@
 -- Plans of mappings of bytes, from those of their inner mappings.
-use Rattle.std.proofs.Common.{Bool, true, false, ◌≡◌, ℕ, ◌+◌, ◌-◌, ◌*◌, ◌/◌, ◌%◌, ◌^◌, ◌<◌, ◌⊎◌, get_or, List, [], ◌∷◌, map, length, All, refl, sym, ap, ◌∙◌, subst}
-use Rattle.std.specs.Prelude.{◌||◌}
-use Rattle.std.specs.List.{sum, sum_by}
-use Rattle.record_dim.specs.declared.path.PathStep.{PathStep}
-use Rattle.std.proofs.lemmas.List.{length-map}
-use Rattle.std.proofs.lemmas.List.Sums.{sum-map}
-use Rattle.record_dim.specs.Trees.{Fields}
-use Rattle.places.specs.Layout.{Owner, Bit}
-use Rattle.places.specs.Rules.{renamed, relabel, byte_cells, byteswap, bytesplit}
-use Rattle.places.specs.Holds.{widths_of, full_holds, IsTooBig}
-use Rattle.places.specs.WidthsLaws.{widths_whole, widths_narrow, widths_full}
-use Rattle.places.specs.declared.piece.Cell.{Cell}
-use Rattle.places.specs.declared.piece.Hold.{Hold}
-use Rattle.map_expr.specs.Terms.{Term, Split, Byteswap, Bytesplit}
-use Rattle.map_bytes.specs.Cells.{bytes_of, byte_count}
-use Rattle.map_bytes.specs.ByteCellsLaws.{length-bytes, widths_of_bytes}
-use Rattle.map_checks.specs.ByteRules.{HasWholeBytes, HasOnePiece, AreSwapped, AreJoined}
-use Rattle.map_checks.specs.LeafOrders.{order_of, orders_of}
-use Rattle.map_checks.specs.Mappings.{layout_of, holds_of, not_full, most_slots, IsTooBigFor}
-use Rattle.map_checks.specs.Sides.{cells_under, cells_beside}
-use Rattle.map_checks.specs.Plans.{IsPlanOf}
-use Rattle.map_checks.specs.Ruled.{IsRuled}
-use Rattle.map_checks.specs.TermLaws.{length-holds}
-use Rattle.map_checks.specs.declared.plan.Plan.{Plan}
+use Rattle.map_checks.proofs.Imports.{Bool, true, false, ◌≡◌, ℕ, ◌+◌, ◌-◌, ◌*◌, ◌/◌, ◌%◌, ◌^◌, ◌<◌, ◌⊎◌, get_or, List, [], ◌∷◌, map, length, All, refl, sym, ap, ◌∙◌, subst, ◌||◌, sum, PathStep, length-map, sum-map, Fields, Owner, Bit, renamed, relabel, byte_cells, byteswap, bytesplit, widths_of, full_holds, IsTooBig, widths_whole, widths_narrow, widths_full, Cell, Hold, Term, Split, Byteswap, Bytesplit, bytes_of, byte_count, length-bytes, widths_of_bytes, HasWholeBytes, HasOnePiece, AreSwapped, AreJoined, order_of, orders_of, layout_of, holds_of, not_full, most_slots, IsTooBigFor, cells_under, cells_beside, IsPlanOf, IsRuled, length-holds, Plan}
+use Rattle.std.specs.List.{sum_by}
 use Rattle.map_checks.proofs.JoinRuleLaws.{alone_ruled, join_ruled, join_orders}
 use Rattle.map_checks.proofs.OrderLaws.{order_in}
 use Rattle.map_checks.proofs.SwapRuleLaws.{whole_ruled, swap_ruled, swap_orders}

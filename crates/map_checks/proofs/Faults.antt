@@ -1,15 +1,6 @@
 -- What the answers of the constructors say of an expression.
-use Rattle.std.proofs.Common.{◌≡◌, ◌⊎◌, inl, inr, ⊎_elim, ℕ, List, Result, Ok, Err, refl, sym, ap, ◌∙◌, subst}
-use Rattle.std.specs.Result.{IsErrAnd, IsErrOf, IfErr}
-use Rattle.map_expr.specs.Terms.{Term}
-use Rattle.record_dim.specs.Trees.{Fields}
-use Rattle.places.specs.declared.piece.Cell.{Cell}
-use Rattle.map_checks.specs.Mappings.{accepted, IsTooBigFor, IsRefusal}
-use Rattle.places.specs.declared.mapping.NewMapping.{NewMapping}
+use Rattle.map_checks.proofs.Imports.{◌≡◌, ◌⊎◌, inl, inr, ⊎_elim, ℕ, List, Result, Ok, Err, refl, sym, ap, ◌∙◌, subst, IsErrAnd, IsErrOf, IfErr, Term, Fields, Cell, accepted, IsTooBigFor, IsRefusal, NewMapping, MakeMap, TooBig, NoMemory, fault_of}
 use Rattle.places.specs.declared.mapping.NewMapping.TheVariants as new
-use Rattle.map_checks.specs.declared.fault.MakeMap.{MakeMap}
-use Rattle.map_checks.specs.declared.fault.MakeMap.TheVariants.{TooBig, NoMemory}
-use Rattle.map_checks.specs.Faults.{fault_of}
 
 too_big_is : (why : NewMapping) → fault_of why ≡ TooBig → why ≡ new.TooBig
 too_big_is new.TooBig e = refl

@@ -1,32 +1,5 @@
 -- The joined rules of the bytes of cells are rules of the cells.
-use Rattle.std.proofs.Common.{◌≡◌, ℕ, zero, suc, ◌+◌, ◌-◌, ◌*◌, ◌/◌, ◌%◌, ◌^◌, ◌<◌, ◌≤◌, List, [], ◌∷◌, ◌++◌, map, length, get_or, slice_index, take, drop, replicate, sum_by, All, refl, sym, ap, ◌∙◌, subst, arith}
-use Rattle.std.specs.List.{flat_map}
-use Rattle.std.proofs.lemmas.List.{length-map, get_or-map, same_lists, get_or-take, get_or-drop, length-take-le, length-drop, take_more, take_all, map-append, append-nil, get_or_append_left, get_or-append-add, get_or-replicate, length-replicate}
-use Rattle.std.proofs.lemmas.List.Concat.{flat_map-append}
-use Rattle.std.proofs.lemmas.List.Elements.{All-append, All-nil, All-head, All-tail}
-use Rattle.std.proofs.lemmas.List.Sums.{sum_by-cons, sum_by-append, sum_by_more}
-use Rattle.extents.specs.Indices.{indices}
-use Rattle.extents.specs.declared.order.Order.{Order}
-use Rattle.linearize.specs.Slots.{slot_at, slot_count}
-use Rattle.record_dim.specs.LeafTypes.{width_of}
-use Rattle.record_dim.specs.declared.leaf_type.LeafType.TheVariants.{U8}
-use Rattle.places.specs.Layout.{Owner}
-use Rattle.places.specs.Rules.{byte_cells, bytesplit}
-use Rattle.places.specs.Laws.{IsLocated}
-use Rattle.places.specs.Holds.{widths_of}
-use Rattle.places.specs.WidthsLaws.{widths_whole, widths_narrow, widths_wide}
-use Rattle.places.specs.CellWidthsLaws.{length-widths}
-use Rattle.places.specs.declared.piece.Cell.{Cell}
-use Rattle.places.specs.declared.piece.Piece.{Piece}
-use Rattle.places.specs.PieceRules.{piece_in, pieces_in}
-use Rattle.places.specs.declared.rule.PieceRule.{PieceRule}
-use Rattle.map_bytes.specs.Cells.{bytes_of, byte_count}
-use Rattle.map_bytes.specs.ByteCellsLaws.{bytes_before, byte_cell_at, byte_within, byte_count_is, byte_count_before, length-bytes}
-use Rattle.map_bytes.specs.CutLaws.{one_of_eight}
-use Rattle.map_bytes.specs.JoinLaws.{byte_joined, none_located}
-use Rattle.map_checks.specs.ByteRules.{HasOnePiece, IsJoined, AreJoined, bytes_at}
-use Rattle.map_checks.specs.Ruled.{IsRuleOf, IsRuled}
-use Rattle.map_checks.specs.declared.rule.Rule.{Rule}
+use Rattle.map_checks.proofs.Imports.{◌≡◌, ℕ, zero, suc, ◌+◌, ◌-◌, ◌*◌, ◌/◌, ◌%◌, ◌^◌, ◌<◌, ◌≤◌, List, [], ◌∷◌, ◌++◌, map, length, get_or, slice_index, take, drop, replicate, sum_by, All, refl, sym, ap, ◌∙◌, subst, arith, flat_map, length-map, get_or-map, same_lists, get_or-take, get_or-drop, length-take-le, length-drop, take_more, take_all, map-append, append-nil, get_or_append_left, get_or-append-add, get_or-replicate, length-replicate, flat_map-append, All-append, All-nil, All-head, All-tail, sum_by-cons, sum_by-append, sum_by_more, indices, Order, slot_at, slot_count, width_of, U8, Owner, byte_cells, bytesplit, IsLocated, widths_of, widths_whole, widths_narrow, widths_wide, length-widths, Cell, Piece, piece_in, pieces_in, PieceRule, bytes_of, byte_count, bytes_before, byte_cell_at, byte_within, byte_count_is, byte_count_before, length-bytes, one_of_eight, byte_joined, none_located, HasOnePiece, IsJoined, AreJoined, bytes_at, IsRuleOf, IsRuled, Rule}
 use Rattle.map_checks.proofs.OrderLaws.{order_in, with_item}
 
 -- a byte has one piece

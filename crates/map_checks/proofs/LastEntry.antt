@@ -1,13 +1,6 @@
 -- The last entry that a leaf is under says its width.
-use Rattle.std.proofs.Common.{◌≡◌, ℕ, Bool, true, false, ◌||◌, List, [], ◌∷◌, refl, sym, ap, ◌∙◌}
-use Rattle.std.specs.Prelude.{if◌then◌else◌}
-use Rattle.std.specs.List.{fold}
-use Rattle.std.proofs.lemmas.Bool.{false≢true}
-use Rattle.std.proofs.lemmas.List.Sums.{fold-append}
-use Rattle.record_dim.specs.Trees.{Fields}
-use Rattle.record_dim.specs.Nodes.{is_under}
-use Rattle.map_expr.specs.declared.widths.FieldWidth.{FieldWidth}
-use Rattle.map_checks.specs.Widths.{width_by, width_at, is_said, LastCounts}
+use Rattle.map_checks.proofs.Imports.{◌≡◌, ℕ, Bool, true, false, List, [], ◌∷◌, refl, sym, ap, ◌∙◌, if◌then◌else◌, fold, false≢true, fold-append, Fields, is_under, FieldWidth, width_by, width_at, is_said, LastCounts}
+use Rattle.std.proofs.Common.{◌||◌}
 
 -- entries that say nothing of a leaf leave its width
 stays : (fields : Fields) (leaf width : ℕ) (entries : List FieldWidth) → is_said fields leaf entries ≡ false → width_at fields width entries leaf ≡ width

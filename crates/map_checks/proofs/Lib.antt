@@ -1,11 +1,12 @@
+mod Imports
 mod LastEntry
-pub mod Faults
-pub mod RuleLaws
-pub mod Limits
-pub mod SplitRules
-pub mod PlanLaws
-pub mod OrderLaws
-pub mod SwapRuleLaws
-pub mod JoinRuleLaws
-pub mod BytePlanLaws
 pub mod ArrayLaws
+pub mod BytePlanLaws
+pub mod Faults
+pub mod JoinRuleLaws
+pub mod Limits
+pub mod OrderLaws
+pub mod PlanLaws
+pub mod RuleLaws
+pub mod SplitRules
+pub mod SwapRuleLaws

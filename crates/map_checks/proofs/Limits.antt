@@ -1,13 +1,5 @@
 -- A layout by rows over the slots of an order: which it is, and its limits.
-use Rattle.std.proofs.Common.{◌≡◌, ℕ, ◌*◌, ◌^◌, ◌<◌, inl, inr, ⊎_elim, List, length, sum_by, sym, ap, ◌∙◌, arith}
-use Rattle.places.specs.Layout.{Owner}
-use Rattle.places.specs.Rules.{in_rows}
-use Rattle.places.specs.Holds.{widths_of, IsTooBig}
-use Rattle.places.specs.declared.piece.Cell.{Cell}
-use Rattle.linearize.specs.Slots.{row_at, slot_count}
-use Rattle.extents.specs.declared.order.Order.{Order}
-use Rattle.map_checks.specs.Mappings.{ordered}
-use Rattle.map_checks.specs.RowsLaws.{sum-blobs}
+use Rattle.map_checks.proofs.Imports.{◌≡◌, ℕ, ◌*◌, ◌^◌, ◌<◌, inl, inr, ⊎_elim, List, length, sum_by, sym, ap, ◌∙◌, arith, Owner, in_rows, widths_of, IsTooBig, Cell, row_at, slot_count, Order, ordered, sum-blobs}
 
 module _ (layout : ℕ → List ℕ → List (List Owner)) (order : Order) (extents : List ℕ) (cells : List Cell) (slots : ℕ) (counted : slots ≡ slot_count order extents) where
   abbrev wanted : List (List Owner)

@@ -1,23 +1,5 @@
 -- The orders of rules: those of a base mapping, and of a split.
-use Rattle.std.proofs.Common.{◌≡◌, ℕ, ◌<◌, ⊎_elim, Bool, true, false, List, [], ◌∷◌, map, length, get_or, replicate, refl, sym, ap, ◌∙◌, arith}
-use Rattle.std.specs.Prelude.{not, if◌then◌else◌, filter}
-use Rattle.std.specs.List.{count_by}
-use Rattle.std.proofs.lemmas.Bool.{cases_Bool}
-use Rattle.std.proofs.lemmas.List.{length-map, get_or-map, same_lists}
-use Rattle.record_dim.specs.declared.leaf_type.LeafType.{LeafType}
-use Rattle.record_dim.specs.declared.path.PathStep.{PathStep}
-use Rattle.record_dim.specs.Trees.{Fields}
-use Rattle.record_dim.specs.Nodes.{is_under}
-use Rattle.extents.specs.declared.order.Order.{Order}
-use Rattle.places.specs.declared.piece.Cell.{Cell}
-use Rattle.map_expr.specs.Terms.{Term, Split, Change}
-use Rattle.map_bytes.specs.Cells.{changed}
-use Rattle.map_split.specs.Sides.{merged, rank_first, rank_rest}
-use Rattle.map_split.specs.SidesLaws.{merged_first, merged_rest, rank_first_in, rank_rest_in, length-merged}
-use Rattle.map_checks.specs.Sides.{side_of, cells_under, cells_beside}
-use Rattle.map_checks.specs.LeafOrders.{order_of, orders_of}
-use Rattle.map_checks.specs.Splits.{IsSplitRule, AreSplitRules}
-use Rattle.map_checks.specs.declared.rule.Rule.{Rule}
+use Rattle.map_checks.proofs.Imports.{◌≡◌, ℕ, ◌<◌, ⊎_elim, Bool, true, false, List, [], ◌∷◌, map, length, get_or, replicate, refl, sym, ap, ◌∙◌, arith, not, if◌then◌else◌, filter, count_by, cases_Bool, length-map, get_or-map, same_lists, LeafType, PathStep, Fields, is_under, Order, Cell, Term, Split, Change, changed, merged, rank_first, rank_rest, merged_first, merged_rest, rank_first_in, rank_rest_in, length-merged, side_of, cells_under, cells_beside, order_of, orders_of, IsSplitRule, AreSplitRules, Rule}
 
 -- one item for each
 pub map_constant : {X Y : Type 0} (y : Y) (xs : List X) → map (λ (x : X). y) xs ≡ replicate (length xs) y

@@ -1,31 +1,6 @@
 -- Plans of base mappings and of splits.
-use Rattle.std.proofs.Common.{◌≡◌, ℕ, ◌+◌, ◌*◌, ◌^◌, ◌<◌, ◌≤◌, inl, inr, ⊎_elim, Bool, List, [], ◌∷◌, ◌++◌, map, length, get_or, All, refl, sym, ap, ◌∙◌, subst, arith}
-use Rattle.std.specs.Prelude.{not, max, sum_by}
-use Rattle.std.specs.List.{count_by, sum}
-use Rattle.std.proofs.lemmas.Bool.{cases_lt}
-use Rattle.std.proofs.lemmas.List.{length-map, map-append}
-use Rattle.std.proofs.lemmas.List.Sums.{sum-map, sum_by-cons}
-use Rattle.extents.specs.declared.order.Order.{Order}
-use Rattle.linearize.specs.Slots.{row_at, slot_count}
-use Rattle.places.specs.Layout.{Owner}
-use Rattle.places.specs.Rules.{in_rows, split}
-use Rattle.places.specs.Holds.{widths_of, IsTooBig}
-use Rattle.places.specs.declared.piece.Cell.{Cell}
-use Rattle.places.specs.declared.piece.Hold.{Hold}
-use Rattle.map_checks.specs.PlansLaws.{plan_holds, plan_rules}
-use Rattle.map_checks.specs.declared.plan.Plan.{Plan}
-use Rattle.record_dim.specs.declared.path.PathStep.{PathStep}
-use Rattle.record_dim.specs.Trees.{Fields}
-use Rattle.map_expr.specs.Terms.{Term, Split}
-use Rattle.map_checks.specs.Sides.{side_of, cells_under, cells_beside}
-use Rattle.map_checks.specs.TermLaws.{length-holds, cells_first, cells_rest}
-use Rattle.map_split.specs.Sides.{merged}
-use Rattle.map_split.specs.SidesLaws.{map-merged}
-use Rattle.map_split.specs.SizesLaws.{lengths-split, bits-split}
-use Rattle.map_checks.specs.Splits.{AreSplitRules, LieWithin}
-use Rattle.map_checks.specs.Mappings.{ordered, layout_of, holds_of, most_slots, IsTooBigFor}
-use Rattle.map_checks.specs.Ruled.{HasLengths, IsRuled}
-use Rattle.map_checks.specs.Plans.{IsPlanFor, IsPlanOf}
+use Rattle.map_checks.proofs.Imports.{◌≡◌, ℕ, ◌+◌, ◌*◌, ◌^◌, ◌<◌, ◌≤◌, inl, inr, ⊎_elim, Bool, List, [], ◌∷◌, ◌++◌, map, length, get_or, All, refl, sym, ap, ◌∙◌, subst, arith, not, max, count_by, sum, cases_lt, length-map, map-append, sum-map, sum_by-cons, Order, row_at, slot_count, Owner, in_rows, split, widths_of, IsTooBig, Cell, Hold, plan_holds, plan_rules, Plan, PathStep, Fields, Term, Split, side_of, cells_under, cells_beside, length-holds, cells_first, cells_rest, merged, map-merged, lengths-split, bits-split, AreSplitRules, LieWithin, ordered, layout_of, holds_of, most_slots, IsTooBigFor, HasLengths, IsRuled, IsPlanFor, IsPlanOf}
+use Rattle.std.specs.Prelude.{sum_by}
 use Rattle.map_checks.proofs.Limits.{by_rows, within}
 use Rattle.map_checks.proofs.SplitRules.{split_ruled}
 

@@ -1,16 +1,5 @@
 -- Rules for cells: one more, and by rows.
-use Rattle.std.proofs.Common.{◌≡◌, ℕ, ◌+◌, ◌%◌, ◌^◌, ◌<◌, ◌≤◌, All, List, length, sum_by, sym, ap, ◌∙◌, subst, arith}
-use Rattle.extents.specs.declared.order.Order.{Order}
-use Rattle.linearize.specs.Slots.{slot_at, slot_count, row_at}
-use Rattle.linearize.specs.SlotsLaws.{slot_at_below}
-use Rattle.places.specs.Layout.{Owner}
-use Rattle.places.specs.Rules.{in_rows}
-use Rattle.places.specs.Laws.{IsLocated}
-use Rattle.places.specs.PieceRules.{pieces_in, AreRulesOf}
-use Rattle.places.specs.declared.rule.PieceRule.{PieceRule}
-use Rattle.map_checks.specs.RowsLaws.{row_located, length-in_rows}
-use Rattle.map_checks.specs.Ruled.{IsRuleOf}
-use Rattle.map_checks.specs.declared.rule.Rule.{Rule}
+use Rattle.map_checks.proofs.Imports.{◌≡◌, ℕ, ◌+◌, ◌%◌, ◌^◌, ◌<◌, ◌≤◌, All, List, length, sum_by, sym, ap, ◌∙◌, subst, arith, Order, slot_at, slot_count, row_at, slot_at_below, Owner, in_rows, IsLocated, pieces_in, AreRulesOf, PieceRule, row_located, length-in_rows, IsRuleOf, Rule}
 
 -- rules by slots are rules by rows
 pub rule_by_rows : (order : Order) (extents : List ℕ) (layout : List (List Owner)) (slots cell width : ℕ) (pieces : List PieceRule) (rule : Rule)

@@ -1,28 +1,6 @@
 -- The rules of a split are those of its sides.
-use Rattle.std.proofs.Common.{◌≡◌, ℕ, ◌+◌, ◌%◌, ◌^◌, ◌<◌, ◌≤◌, ⊎_elim, Bool, true, false, List, [], ◌∷◌, ◌++◌, length, get_or, map, slice_index, refl, sym, ap, ◌∙◌, subst, arith, All, length-append}
-use Rattle.std.specs.Prelude.{not}
-use Rattle.std.specs.List.{count_by, sum, sum_by}
-use Rattle.std.proofs.lemmas.Bool.{cases_Bool}
-use Rattle.std.proofs.lemmas.Simd.{map-map}
-use Rattle.std.proofs.lemmas.List.{length-map, append-nil, get_or_default}
-use Rattle.std.proofs.lemmas.List.Elements.{All-map}
-use Rattle.std.proofs.lemmas.List.Sums.{sum-map}
-use Rattle.extents.specs.declared.order.Order.{Order}
-use Rattle.linearize.specs.Slots.{slot_at, slot_count}
-use Rattle.places.specs.Layout.{Owner, Bit}
-use Rattle.places.specs.Rules.{recelled, numbers_of, split}
-use Rattle.places.specs.Laws.{IsLocated, shifted}
-use Rattle.places.specs.declared.piece.Piece.{Piece}
-use Rattle.places.specs.PlacesLaws.{relabel_located, left_located, right_located}
-use Rattle.places.specs.PieceRules.{piece_in, pieces_in}
-use Rattle.places.specs.declared.rule.PieceRule.{PieceRule}
-use Rattle.map_checks.specs.Ruled.{EachWith, IsRuleOf, IsRuled, pieces_of}
-use Rattle.map_checks.specs.Splits.{IsShifted, IsSplitRule, AreSplitRules}
-use Rattle.map_split.specs.Shifts.{shifted_rule}
-use Rattle.map_split.specs.Sides.{merged, rank_first, rank_rest}
-use Rattle.map_checks.specs.declared.rule.Rule.{Rule}
-use Rattle.map_checks.specs.RuledLaws.{each_push}
-use Rattle.map_split.specs.SidesLaws.{number_first, number_rest, rank_first_in, rank_rest_in, merged_first, merged_rest, length-merged}
+use Rattle.map_checks.proofs.Imports.{◌≡◌, ℕ, ◌+◌, ◌%◌, ◌^◌, ◌<◌, ◌≤◌, ⊎_elim, Bool, true, false, List, [], ◌∷◌, ◌++◌, length, get_or, map, slice_index, refl, sym, ap, ◌∙◌, subst, arith, All, length-append, not, count_by, sum, cases_Bool, map-map, length-map, append-nil, get_or_default, All-map, sum-map, Order, slot_at, slot_count, Owner, Bit, recelled, numbers_of, split, IsLocated, shifted, Piece, relabel_located, left_located, right_located, piece_in, pieces_in, PieceRule, EachWith, IsRuleOf, IsRuled, pieces_of, IsShifted, IsSplitRule, AreSplitRules, shifted_rule, merged, rank_first, rank_rest, Rule, each_push, number_first, number_rest, rank_first_in, rank_rest_in, merged_first, merged_rest, length-merged}
+use Rattle.std.specs.List.{sum_by}
 
 -- the pieces of a shifted rule
 pieces_shifted : (by : ℕ) (rule later : Rule) (extents : List ℕ) (row : ℕ) → IsShifted by rule later

@@ -1,21 +1,5 @@
 -- Rules with their bytes in reverse order are rules of cells whose bytes are in reverse order.
-use Rattle.std.proofs.Common.{◌≡◌, ℕ, ◌+◌, ◌%◌, ◌^◌, ◌<◌, ◌≤◌, List, map, length, get_or, slice_index, sum_by, All, sym, ap, ◌∙◌, subst, arith}
-use Rattle.std.proofs.lemmas.List.{length-map, get_or-map, same_lists}
-use Rattle.std.proofs.lemmas.List.Elements.{All-weaker}
-use Rattle.extents.specs.declared.order.Order.{Order}
-use Rattle.linearize.specs.Slots.{slot_at, slot_count}
-use Rattle.places.specs.Layout.{Owner}
-use Rattle.places.specs.Rules.{byteswap}
-use Rattle.places.specs.Laws.{IsLocated}
-use Rattle.places.specs.declared.piece.Piece.{Piece}
-use Rattle.places.specs.PieceRules.{pieces_in}
-use Rattle.places.specs.declared.rule.PieceRule.{PieceRule}
-use Rattle.map_bytes.specs.Cuts.{swapped, swapped_rules}
-use Rattle.map_bytes.specs.CutLaws.{swapped_in, swapped_blobs, swapped_eights, swapped_bounds, swapped_bits}
-use Rattle.map_bytes.specs.SwapPiecesLaws.{swap_located}
-use Rattle.map_checks.specs.ByteRules.{HasWholeBytes, IsSwapped, AreSwapped}
-use Rattle.map_checks.specs.Ruled.{IsRuleOf, IsRuled, pieces_of}
-use Rattle.map_checks.specs.declared.rule.Rule.{Rule}
+use Rattle.map_checks.proofs.Imports.{◌≡◌, ℕ, ◌+◌, ◌%◌, ◌^◌, ◌<◌, ◌≤◌, List, map, length, get_or, slice_index, sum_by, All, sym, ap, ◌∙◌, subst, arith, length-map, get_or-map, same_lists, All-weaker, Order, slot_at, slot_count, Owner, byteswap, IsLocated, Piece, pieces_in, PieceRule, swapped, swapped_rules, swapped_in, swapped_blobs, swapped_eights, swapped_bounds, swapped_bits, swap_located, HasWholeBytes, IsSwapped, AreSwapped, IsRuleOf, IsRuled, pieces_of, Rule}
 use Rattle.map_checks.proofs.OrderLaws.{order_in, with_item}
 
 -- the rules of cells of whole bytes

@@ -1,22 +1,5 @@
 -- The blobs: their lengths, and the places of a cell.
-use Rattle.std.proofs.Common.{◌≡◌, ℕ, ◌+◌, ◌-◌, ◌*◌, ◌/◌, ◌%◌, ◌^◌, ◌<◌, ◌≤◌, ◌⊎◌, ⊎_elim, List, [], ◌∷◌, map, length, sum_by, get_or, slice_index, refl, sym, ap, ◌∙◌, subst, arith}
-use Rattle.std.proofs.lemmas.List.{get_or_read, get_or-map, length-map}
-use Rattle.std.proofs.lemmas.List.Sums.{get_or-le-sum_by}
-use Rattle.record_dim.specs.LeafTypes.{width_of}
-use Rattle.places.specs.Layout.{Owner, Bit, owner_at, cells_of, array}
-use Rattle.places.specs.Laws.{IsLocated}
-use Rattle.places.specs.Holds.{widths_of, full_holds}
-use Rattle.places.specs.declared.piece.Cell.{Cell}
-use Rattle.places.specs.declared.piece.Hold.{Hold}
-use Rattle.places.specs.declared.piece.Piece.{Piece}
-use Rattle.places.specs.CellWidthsLaws.{cell_width, width_read}
-use Rattle.places.specs.ComposeLaws.{within_blobs, within_blob}
-use Rattle.places.specs.PlacesLaws.{one_piece}
-use Rattle.places.specs.Forms.{soa_layout}
-use Rattle.map_soa.specs.Soa.{IsStored, blob_of}
-use Rattle.map_soa.specs.SoaLaws.{soa_laws}
-use Rattle.places.specs.declared.forms.SoaForm.{SoaForm}
-use Rattle.places.specs.declared.forms.SoaForm.TheVariants.{Single, Aligned, Multi}
+use Rattle.map_soa.proofs.Imports.{◌≡◌, ℕ, ◌+◌, ◌-◌, ◌*◌, ◌/◌, ◌%◌, ◌^◌, ◌<◌, ◌≤◌, ◌⊎◌, ⊎_elim, List, [], ◌∷◌, map, length, sum_by, get_or, slice_index, refl, sym, ap, ◌∙◌, subst, arith, get_or_read, get_or-map, length-map, get_or-le-sum_by, width_of, Owner, Bit, owner_at, cells_of, array, IsLocated, widths_of, full_holds, Cell, Hold, Piece, cell_width, width_read, within_blobs, within_blob, one_piece, soa_layout, IsStored, blob_of, soa_laws, SoaForm, Single, Aligned, Multi}
 use Rattle.map_soa.proofs.Placed.{length-array, cell_at, length-cells}
 
 -- a blob has no more bits than all blobs

@@ -1,2 +1,3 @@
-pub mod Placed
+mod Imports
 pub mod Blobs
+pub mod Placed

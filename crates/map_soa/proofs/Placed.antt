@@ -1,24 +1,5 @@
 -- How the arrays are laid out, cell after cell.
-use Rattle.std.proofs.Common.{◌≡◌, ℕ, zero, suc, inl, inr, All, ◌+◌, ◌-◌, ◌*◌, ◌%◌, ◌<◌, ◌≤◌, ⊎_elim, List, [], ◌∷◌, ◌++◌, map, length, sum_by, replicate, get_or, take, drop, slice_index, refl, sym, ap, ◌∙◌, subst, arith, length-append}
-use Rattle.std.specs.List.{flat_map}
-use Rattle.std.proofs.lemmas.Bool.{cases_lt}
-use Rattle.std.proofs.lemmas.List.{take_more, take_all, take-append-drop, get_or_append_left, get_or-append-add, get_or_push, get_or_default, get_or-map, length-map}
-use Rattle.std.proofs.lemmas.List.FromFn.{length-enumerate_from, get_or-enumerate_from}
-use Rattle.std.proofs.lemmas.List.Sums.{sum_by-cons}
-use Rattle.record_dim.specs.LeafTypes.{width_of}
-use Rattle.places.specs.Layout.{Owner, Pad, Bit, owner_at, cells_of, field, array, padded_to}
-use Rattle.places.specs.Holds.{widths_of}
-use Rattle.places.specs.declared.piece.Cell.{Cell}
-use Rattle.places.specs.ExactLaws.{length-field, field_at, within, Member}
-use Rattle.places.specs.WidthsLaws.{IsWidth, widths_are}
-use Rattle.places.specs.CellWidthsLaws.{member_width}
-use Rattle.places.specs.SlotsLaws.{length-parts, slot_at}
-use Rattle.places.specs.StackedLaws.{stacked, up, stacked_push, stacked_append, stacked_take, stacked_bytes, length-padded, flat_stacked}
-use Rattle.places.specs.Forms.{soa_layout}
-use Rattle.map_soa.specs.Soa.{IsStored, blob_of, alignment, in_blob}
-use Rattle.map_soa.specs.SoaLaws.{laid_arrays, single_blob, aligned_blob, array_bytes, keeps_alignment}
-use Rattle.places.specs.declared.forms.SoaForm.{SoaForm}
-use Rattle.places.specs.declared.forms.SoaForm.TheVariants.{Single, Aligned, Multi}
+use Rattle.map_soa.proofs.Imports.{◌≡◌, ℕ, zero, suc, inl, inr, All, ◌+◌, ◌-◌, ◌*◌, ◌%◌, ◌<◌, ◌≤◌, ⊎_elim, List, [], ◌∷◌, ◌++◌, map, length, sum_by, replicate, get_or, take, drop, slice_index, refl, sym, ap, ◌∙◌, subst, arith, length-append, flat_map, cases_lt, take_more, take_all, take-append-drop, get_or_append_left, get_or-append-add, get_or_push, get_or_default, get_or-map, length-map, length-enumerate_from, get_or-enumerate_from, sum_by-cons, width_of, Owner, Pad, Bit, owner_at, cells_of, field, array, padded_to, widths_of, Cell, length-field, field_at, within, Member, IsWidth, widths_are, member_width, length-parts, slot_at, stacked, up, stacked_push, stacked_append, stacked_take, stacked_bytes, length-padded, flat_stacked, soa_layout, IsStored, blob_of, alignment, in_blob, laid_arrays, single_blob, aligned_blob, array_bytes, keeps_alignment, SoaForm, Single, Aligned, Multi}
 
 -- the array of one cell: its length, and its places
 pub length-array : (slots c w : ℕ) → length (array slots (c, w)) ≡ slots * w

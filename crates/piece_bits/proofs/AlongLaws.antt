@@ -1,20 +1,5 @@
 -- A short form that is put together of a path and what stands at its places.
-use Rattle.std.proofs.Common.{◌≡◌, ℕ, ◌≤◌, ◌^◌, List, length, sym, ap, subst}
-use Rattle.extents.specs.declared.order.Order.{Order}
-use Rattle.extents.specs.Indices.{indices}
-use Rattle.linearize.specs.declared.columns.Columns.{Columns}
-use Rattle.places.specs.declared.piece.Hold.{Hold}
-use Rattle.places.specs.declared.rule.PieceRule.{PieceRule}
-use Rattle.piece_bits.specs.declared.field.Field.{Field}
-use Rattle.piece_bits.specs.declared.word.Word.{Word}
-use Rattle.piece_bits.specs.Alongs.{IsAlong}
-use Rattle.piece_bits.specs.Paths.{IsPath}
-use Rattle.piece_bits.specs.Shorts.{Stands, IsHeldBy, IsShortOf}
-use Rattle.piece_bits.specs.Stands.{IsStandOf, IsStandFor}
-use Rattle.piece_bits.specs.declared.path.Path.{Path}
-use Rattle.piece_bits.specs.declared.short.ShortRule.{ShortRule}
-use Rattle.piece_bits.specs.declared.stand.Stand.{Stand}
-use Rattle.piece_bits.specs.declared.walk.Walk.{Walk}
+use Rattle.piece_bits.proofs.Imports.{◌≡◌, ℕ, ◌≤◌, ◌^◌, List, length, sym, ap, subst, Order, indices, Columns, Hold, PieceRule, Field, Word, IsAlong, IsPath, Stands, IsHeldBy, IsShortOf, IsStandOf, IsStandFor, Path, ShortRule, Stand, Walk}
 
 stands_along : (rules : List PieceRule) (field : Field) (word word' : Word) (blob blob' base base' block block' lane lane' power power' : ℕ) → word' ≡ word
     → blob' ≡ blob → base' ≡ base → block' ≡ block → lane' ≡ lane → power' ≡ power → Stands rules word field blob base block lane power

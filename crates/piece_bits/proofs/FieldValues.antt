@@ -1,13 +1,5 @@
 -- The number that a field of bits says, as the code works it out.
-use Rattle.std.proofs.Common.{◌≡◌, ℕ, ◌+◌, ◌-◌, ◌%◌, ◌^◌, ◌<◌, ◌≤◌, ◌*◌, Bool, true, false, bit_xor, pos, ◌-ℤ◌, sym, ap, ◌∙◌, ⊎_elim, arith}
-use Rattle.std.proofs.lemmas.Grind.{common_steps}
-use Rattle.std.proofs.lemmas.Int.{ints}
-use Rattle.std.proofs.lemmas.Nat.{pow_pos, xor_block}
-use Rattle.std.proofs.lemmas.Bool.{cases_lt}
-use Rattle.std.proofs.Math.Nat.{mod-eq_of_lt, mod-eq-sub-mod}
-use Rattle.places.specs.Image.{decoded}
-use Rattle.places.specs.NumbersLaws.{decoded_low, decoded_high, half_of}
-use Rattle.piece_bits.specs.Words.{half_range}
+use Rattle.piece_bits.proofs.Imports.{◌≡◌, ℕ, ◌+◌, ◌-◌, ◌%◌, ◌^◌, ◌<◌, ◌≤◌, ◌*◌, Bool, true, false, bit_xor, pos, ◌-ℤ◌, sym, ap, ◌∙◌, ⊎_elim, arith, common_steps, ints, pow_pos, xor_block, cases_lt, mod-eq_of_lt, mod-eq-sub-mod, decoded, decoded_low, decoded_high, half_of, half_range}
 
 -- half of the range is added within the width, and taken off again
 pub moved_field : (signed : Bool) (width bits : ℕ) → 1 ≤ width → bits < 2 ^ width

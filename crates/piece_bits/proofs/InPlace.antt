@@ -1,8 +1,5 @@
 -- A loop that replaces each value of a slice in its turn.
-use Rattle.std.proofs.Common.{◌≡◌, ◌≢◌, ℕ, zero, suc, ◌+◌, ◌<◌, ◌≤◌, List, [], ◌∷◌, ◌++◌, length, get_or, set, map, take, ℤ, pos, refl, ap, sym, ◌∙◌, arith}
-use Rattle.std.specs.Simd.Lanes.{zip2, Each2}
-use Rattle.std.proofs.lemmas.List.{map-append, length-map, get_or-map, get_or-set_other, take_more, take_more_set, take_all}
-use Rattle.std.proofs.lemmas.Simd.{length-zip2, get_or-zip2}
+use Rattle.piece_bits.proofs.Imports.{◌≡◌, ◌≢◌, ℕ, zero, suc, ◌+◌, ◌<◌, ◌≤◌, List, [], ◌∷◌, ◌++◌, length, get_or, set, map, take, ℤ, pos, refl, ap, sym, ◌∙◌, arith, zip2, Each2, map-append, length-map, get_or-map, get_or-set_other, take_more, take_more_set, take_all, length-zip2, get_or-zip2}
 
 -- the first so many values are those that are wanted, and the others stand
 pub record IsReplaced {X : Type 0} (value : X → ℤ) (wanted : List ℤ) (old now : List X) (count : ℕ) : Type 0 where

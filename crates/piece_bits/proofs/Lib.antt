@@ -1,17 +1,18 @@
-pub mod Values
-pub mod Wholes
-pub mod FieldValues
-pub mod PieceBytes
-pub mod WideLaws
-pub mod Places
-pub mod Together
-pub mod Ways
-pub mod WordLaws
-pub mod StandLaws
-pub mod AlongLaws
-pub mod StretchLaws
-pub mod Numbers
-pub mod Puts
-mod Rows
+mod Imports
 mod Remainders
+mod Rows
+pub mod AlongLaws
+pub mod FieldValues
 pub mod InPlace
+pub mod Numbers
+pub mod PieceBytes
+pub mod Places
+pub mod Puts
+pub mod StandLaws
+pub mod StretchLaws
+pub mod Together
+pub mod Values
+pub mod Ways
+pub mod Wholes
+pub mod WideLaws
+pub mod WordLaws

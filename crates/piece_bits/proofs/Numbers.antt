@@ -1,23 +1,6 @@
 -- Numbers that are read are of 64 bits.
-use Rattle.std.proofs.Common.{◌≡◌, ℕ, ◌+◌, ◌-◌, ◌*◌, ◌/◌, ◌%◌, ◌^◌, ◌<◌, ◌≤◌, Bool, true, false, List, length, get_or, set, ℤ, pos, refl, sym, ap, ◌∙◌, subst, ⊎_elim, arith}
-use Rattle.std.proofs.Math.Nat.{pow-le-pow_right}
-use Rattle.std.proofs.lemmas.Bool.{cases_eq}
-use Rattle.std.proofs.lemmas.Int.{ints}
-use Rattle.std.proofs.lemmas.List.{length-set, get_or-set_same, get_or-set_other}
-use Rattle.std.proofs.lemmas.Nat.Bits.{bit_at-lt}
-use Rattle.record_dim.specs.LeafTypes.{IsIn}
-use Rattle.places.specs.Image.{number}
-use Rattle.places.specs.NumbersLaws.{number_lt, decoded_in}
-use Rattle.blobs.specs.Bits.{bit_of}
-use Rattle.piece_bits.specs.Words.{word_place, word_signed, word_width, IsWord}
-use Rattle.piece_bits.specs.declared.field.Field.{Field}
-use Rattle.piece_bits.specs.declared.word.Word.{Word}
+use Rattle.piece_bits.proofs.Imports.{◌≡◌, ℕ, ◌+◌, ◌-◌, ◌*◌, ◌/◌, ◌%◌, ◌^◌, ◌<◌, ◌≤◌, Bool, true, false, List, length, get_or, set, ℤ, pos, refl, sym, ap, ◌∙◌, subst, ⊎_elim, arith, pow-le-pow_right, cases_eq, ints, length-set, get_or-set_same, get_or-set_other, bit_at-lt, IsIn, number, number_lt, decoded_in, bit_of, word_place, word_signed, word_width, IsWord, Field, Word, stretch_place, ShortRule, Stretch, low_64, IsWithin64, number_at, stretched_at, HaveRead}
 use Rattle.piece_bits.specs.declared.word.Word.TheVariants as stored
-use Rattle.piece_bits.specs.Stretches.{stretch_place}
-use Rattle.piece_bits.specs.declared.short.ShortRule.{ShortRule}
-use Rattle.piece_bits.specs.declared.stretch.Stretch.{Stretch}
-use Rattle.piece_bits.specs.Lows.{low_64, IsWithin64}
-use Rattle.piece_bits.specs.Stretched.{number_at, stretched_at, HaveRead}
 
 within_of : (signed : Bool) (width : ℕ) (value : ℤ) → 1 ≤ width → width ≤ 64 → IsIn signed width value → IsWithin64 value
 within_of true width value some narrow inside =

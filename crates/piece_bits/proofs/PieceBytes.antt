@@ -1,11 +1,5 @@
 -- One of the bytes that stand each by itself, as a piece.
-use Rattle.std.proofs.Common.{◌≡◌, ℕ, ◌+◌, ◌*◌, ◌/◌, ◌^◌, ◌<◌, List, length, get_or, take, All, sym, ap, ◌∙◌, subst, arith}
-use Rattle.std.proofs.lemmas.List.{length-map, get_or-map}
-use Rattle.places.specs.declared.piece.Piece.{Piece}
-use Rattle.places.specs.declared.rule.PieceRule.{PieceRule}
-use Rattle.piece_bits.specs.Scattered.{byte_of, scattered_pieces}
-use Rattle.piece_bits.specs.Spots.{spots_of, IsWithin}
-use Rattle.piece_bits.specs.SpotsOfLaws.{IsNext, nowhere, next_piece}
+use Rattle.piece_bits.proofs.Imports.{◌≡◌, ℕ, ◌+◌, ◌*◌, ◌/◌, ◌^◌, ◌<◌, List, length, get_or, take, All, sym, ap, ◌∙◌, subst, arith, length-map, get_or-map, Piece, PieceRule, byte_of, scattered_pieces, spots_of, IsWithin, IsNext, nowhere, next_piece}
 
 module _ (rules : List PieceRule) (place i : ℕ) (rule : PieceRule) (in_rules : i < length rules) (is : rule ≡ get_or rules i rule) where
   in_bytes : i < length (scattered_pieces rules place)

@@ -1,8 +1,5 @@
 -- Where pieces begin, by slots.
-use Rattle.std.proofs.Common.{◌≡◌, ℕ, ◌+◌, ◌-◌, ◌*◌, ◌/◌, ◌%◌, ◌^◌, ◌<◌, ◌≤◌, bit_and, ap, ◌∙◌, subst, arith}
-use Rattle.std.proofs.lemmas.Nat.{and_mask, pow_pos}
-use Rattle.std.proofs.Math.Nat.{div-lt_iff_lt-mul, div-mul-le_self, mod-lt, mul-le-mul_right}
-use Rattle.places.specs.declared.piece.Piece.{Piece}
+use Rattle.piece_bits.proofs.Imports.{◌≡◌, ℕ, ◌+◌, ◌-◌, ◌*◌, ◌/◌, ◌%◌, ◌^◌, ◌<◌, ◌≤◌, bit_and, ap, ◌∙◌, subst, arith, and_mask, pow_pos, div-lt_iff_lt-mul, div-mul-le_self, mod-lt, mul-le-mul_right, Piece}
 
 -- the place in a block of a power of two is what a mask leaves
 pub masked_slot : (slot power mask lane : ℕ) → mask ≡ 2 ^ power - 1 → bit_and slot mask * lane ≡ slot % 2 ^ power * lane

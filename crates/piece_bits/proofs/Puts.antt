@@ -1,14 +1,5 @@
 -- Numbers that are put, one after another.
-use Rattle.std.proofs.Common.{◌≡◌, ℕ, zero, suc, ◌+◌, ◌*◌, ◌≤◌, ◌<◌, ◌^◌, List, length, get_or, ℤ, pos, refl, sym, ap, ◌∙◌, subst, arith}
-use Rattle.piece_bits.specs.Words.{word_bit, word_width}
-use Rattle.piece_bits.specs.declared.field.Field.{Field}
-use Rattle.piece_bits.specs.declared.word.Word.{Word}
-use Rattle.piece_bits.specs.Stretches.{spread_by, stretch_place}
-use Rattle.piece_bits.specs.declared.short.ShortRule.{ShortRule}
-use Rattle.piece_bits.specs.declared.stretch.Spread.{Spread}
-use Rattle.piece_bits.specs.declared.stretch.Spread.TheVariants.{Even}
-use Rattle.piece_bits.specs.declared.stretch.Stretch.{Stretch}
-use Rattle.piece_bits.specs.Stretched.{HasRoom, IsPut, ArePut}
+use Rattle.piece_bits.proofs.Imports.{◌≡◌, ℕ, zero, suc, ◌+◌, ◌*◌, ◌≤◌, ◌<◌, ◌^◌, List, length, get_or, ℤ, pos, refl, sym, ap, ◌∙◌, subst, arith, word_bit, word_width, Field, Word, spread_by, stretch_place, ShortRule, Spread, Even, Stretch, HasRoom, IsPut, ArePut}
 
 -- the place of a row of an even stretch
 pub even_place : (stretch : Stretch) (apart k place : ℕ) → stretch.spread ≡ Even → place ≡ stretch.start + k * apart → apart ≡ stretch.apart → place ≡ stretch_place stretch k

@@ -1,9 +1,5 @@
 -- The remainder by a power of two.
-use Rattle.std.proofs.Common.{◌≡◌, ℕ, ◌+◌, ◌-◌, ◌%◌, ◌^◌, ℤ, pos, negsuc, sym, ap, ◌∙◌, arith}
-use Rattle.std.proofs.lemmas.Int.{ints}
-use Rattle.places.specs.Image.{number, digit}
-use Rattle.places.specs.NumbersLaws.{number_bits}
-use Rattle.piece_bits.specs.CongruenceLaws.{digits_negsuc}
+use Rattle.piece_bits.proofs.Imports.{◌≡◌, ℕ, ◌+◌, ◌-◌, ◌%◌, ◌^◌, ℤ, pos, negsuc, sym, ap, ◌∙◌, arith, ints, number, digit, number_bits, digits_negsuc}
 
 -- the low bits of a number from 0 on are the remainder
 pub low_of : (value : ℤ) (n width : ℕ) → value ≡ pos n → n % 2 ^ width ≡ number (digit value) width

@@ -1,8 +1,6 @@
 -- Worked values.
-use Rattle.std.proofs.Common.{◌≡◌, true, false, pos, negsuc, refl}
-use Rattle.record_dim.specs.declared.leaf_type.LeafType.TheVariants.{Bool as Truth, U8, U16, I8, I32, I64}
-use Rattle.piece_bits.specs.Kept.{kept, held}
-use Rattle.piece_bits.specs.Far.{shortened}
+use Rattle.piece_bits.proofs.Imports.{◌≡◌, true, false, pos, negsuc, refl, Truth, U8, U16, I8, I32, kept, held, shortened}
+use Rattle.record_dim.specs.declared.leaf_type.LeafType.TheVariants.{I64}
 
 nine : kept I8 (record { signed = true; width = 4 }) (pos 9) ≡ negsuc 6
 nine = refl

@@ -1,21 +1,6 @@
 -- What stands at the places of rules: that it is where the rules say.
-use Rattle.std.proofs.Common.{◌≡◌, ◌≢◌, ℕ, ◌+◌, ◌-◌, ◌*◌, ◌/◌, ◌%◌, ◌^◌, ◌<◌, ◌≤◌, All, List, [], ◌∷◌, map, length, get_or, refl, sym, ap, ◌∙◌, subst, arith}
-use Rattle.std.proofs.lemmas.List.{same_lists, length-map, get_or-map}
-use Rattle.std.proofs.lemmas.List.Elements.{All-head}
-use Rattle.places.specs.Laws.{IsLocated}
-use Rattle.places.specs.declared.piece.Hold.{Hold}
-use Rattle.places.specs.declared.piece.Piece.{Piece}
-use Rattle.places.specs.BeginsLaws.{begins_fit}
-use Rattle.places.specs.PieceRules.{begin_in, piece_in, pieces_in}
-use Rattle.places.specs.declared.rule.PieceRule.{PieceRule}
-use Rattle.piece_bits.specs.Words.{turned_pieces}
-use Rattle.piece_bits.specs.declared.field.Field.{Field}
-use Rattle.piece_bits.specs.declared.word.Word.{Word}
+use Rattle.piece_bits.proofs.Imports.{◌≡◌, ◌≢◌, ℕ, ◌+◌, ◌-◌, ◌*◌, ◌/◌, ◌%◌, ◌^◌, ◌<◌, ◌≤◌, All, List, [], ◌∷◌, map, length, get_or, refl, sym, ap, ◌∙◌, subst, arith, same_lists, length-map, get_or-map, All-head, IsLocated, Hold, Piece, begins_fit, begin_in, piece_in, pieces_in, PieceRule, turned_pieces, Field, Word, Carries, place_by, pieces_by, Stands, IsHeldBy, IsWhole, IsTurned, IsByteAlong, IsTurnedByte, AreTurned, IsScatteredByte, AreScattered, IsInBytes, IsInBits, IsStandFor, Stand}
 use Rattle.piece_bits.specs.declared.word.Word.TheVariants as stored
-use Rattle.piece_bits.specs.Joins.{Carries}
-use Rattle.piece_bits.specs.Shorts.{place_by, pieces_by, Stands, IsHeldBy}
-use Rattle.piece_bits.specs.Stands.{IsWhole, IsTurned, IsByteAlong, IsTurnedByte, AreTurned, IsScatteredByte, AreScattered, IsInBytes, IsInBits, IsStandFor}
-use Rattle.piece_bits.specs.declared.stand.Stand.{Stand}
 use Rattle.piece_bits.proofs.Places.{same_steps, same_piece}
 use Rattle.piece_bits.proofs.Together.{piece}
 use Rattle.piece_bits.proofs.WordLaws.{whole_held, whole_pieces, turned_held, turned_by, turned_some, length-turned, get_or-turned, same_together}

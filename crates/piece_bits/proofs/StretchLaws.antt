@@ -1,20 +1,5 @@
 -- Where the rows of a stretch lie.
-use Rattle.std.proofs.Common.{◌≡◌, ◌≢◌, ℕ, ◌+◌, ◌*◌, ◌/◌, ◌%◌, ◌^◌, ◌<◌, ◌≤◌, w64, true, false, min, refl, sym, ap, ◌∙◌, subst, ⊎_elim, arith, lit<}
-use Rattle.std.specs.Int.{bit_at, trailing_zeros}
-use Rattle.std.proofs.Math.Nat.{div-one, mod-one, mod-eq_of_lt, mul_assoc, pow-le-pow_right}
-use Rattle.std.proofs.lemmas.Bool.{cases_lt}
-use Rattle.std.proofs.lemmas.Nat.{mod_below, pow_pos, shr_split}
-use Rattle.std.proofs.lemmas.Nat.Bits.{bit_at-zero, bit_at_above, bit_at_cat_low, bit_at-trailing_zeros, same_from_bits}
-use Rattle.linearize.specs.ApartLaws.{line_same, column_on, columns_apart}
-use Rattle.piece_bits.specs.declared.word.Word.TheVariants.{Scattered}
-use Rattle.piece_bits.specs.Shorts.{place_by, slot_in, start_in}
-use Rattle.piece_bits.specs.Stretches.{spread_by, IsStretch}
-use Rattle.piece_bits.specs.Walks.{leads, walks_in_blocks, slot_by}
-use Rattle.piece_bits.specs.declared.short.ShortRule.{ShortRule}
-use Rattle.piece_bits.specs.declared.stretch.Spread.{Spread}
-use Rattle.piece_bits.specs.declared.stretch.Spread.TheVariants.{Even, Digits}
-use Rattle.piece_bits.specs.declared.stretch.Stretch.{Stretch}
-use Rattle.piece_bits.specs.declared.walk.Walk.{Walk}
+use Rattle.piece_bits.proofs.Imports.{◌≡◌, ◌≢◌, ℕ, ◌+◌, ◌*◌, ◌/◌, ◌%◌, ◌^◌, ◌<◌, ◌≤◌, w64, true, false, min, refl, sym, ap, ◌∙◌, subst, ⊎_elim, arith, lit<, bit_at, trailing_zeros, div-one, mod-one, mod-eq_of_lt, mul_assoc, pow-le-pow_right, cases_lt, mod_below, pow_pos, shr_split, bit_at-zero, bit_at_above, bit_at_cat_low, bit_at-trailing_zeros, same_from_bits, line_same, column_on, columns_apart, Scattered, place_by, slot_in, start_in, spread_by, IsStretch, leads, walks_in_blocks, slot_by, ShortRule, Spread, Even, Digits, Stretch, Walk}
 use Rattle.piece_bits.specs.declared.walk.Walk.TheVariants as walk
 
 -- ---- the place of a slot so many further on

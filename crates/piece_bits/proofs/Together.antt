@@ -1,14 +1,5 @@
 -- Pieces that follow each other make one.
-use Rattle.std.proofs.Common.{◌≡◌, ℕ, ◌+◌, ◌-◌, ◌%◌, ◌^◌, ◌<◌, All, List, ◌∷◌, ◌++◌, map, append_assoc, refl, sym, ap, ◌∙◌, subst, arith}
-use Rattle.std.specs.List.{flat_map, range_with_len}
-use Rattle.std.proofs.lemmas.List.Elements.{All-cons, All-head, All-tail}
-use Rattle.places.specs.Layout.{Owner, owner_at, field}
-use Rattle.places.specs.Laws.{IsPiece, IsLocated, owners_in}
-use Rattle.places.specs.PlacesLaws.{range_split, located, pieces_weaker}
-use Rattle.places.specs.declared.piece.Piece.{Piece}
-use Rattle.places.specs.PieceRules.{begin_in, pieces_in}
-use Rattle.places.specs.declared.rule.PieceRule.{PieceRule}
-use Rattle.piece_bits.specs.Joins.{AreJoined, Carries}
+use Rattle.piece_bits.proofs.Imports.{◌≡◌, ℕ, ◌+◌, ◌-◌, ◌%◌, ◌^◌, ◌<◌, All, List, ◌∷◌, ◌++◌, map, append_assoc, refl, sym, ap, ◌∙◌, subst, arith, flat_map, range_with_len, All-cons, All-head, All-tail, Owner, owner_at, field, IsPiece, IsLocated, owners_in, range_split, located, pieces_weaker, Piece, begin_in, pieces_in, PieceRule, AreJoined, Carries}
 use Rattle.piece_bits.proofs.Places.{same_steps, same_piece}
 
 abbrev pub piece : ℕ → ℕ → ℕ → Piece

@@ -1,12 +1,5 @@
 -- Values and their bits, as the code computes them.
-use Rattle.std.proofs.Common.{◌≡◌, ℕ, ◌-◌, ◌/◌, ◌^◌, ◌<◌, ◌≤◌, ◌≢◌, Bool, true, false, ℤ, pos, negsuc, ◌-ℤ◌, refl, sym, ◌∙◌, ⊎_elim, arith}
-use Rattle.std.proofs.lemmas.Nat.{pow_pos}
-use Rattle.std.proofs.lemmas.Bool.{cases_lt}
-use Rattle.std.proofs.lemmas.Int.{ints}
-use Rattle.std.proofs.Math.Nat.{div-eq_of_lt}
-use Rattle.record_dim.specs.LeafTypes.{IsIn}
-use Rattle.places.specs.Image.{number, digit, decoded}
-use Rattle.places.specs.NumbersLaws.{half_of, decoded_high, number_pos, number_negsuc}
+use Rattle.piece_bits.proofs.Imports.{◌≡◌, ℕ, ◌-◌, ◌/◌, ◌^◌, ◌<◌, ◌≤◌, ◌≢◌, Bool, true, false, ℤ, pos, negsuc, ◌-ℤ◌, refl, sym, ◌∙◌, ⊎_elim, arith, pow_pos, cases_lt, ints, div-eq_of_lt, IsIn, number, digit, decoded, half_of, decoded_high, number_pos, number_negsuc}
 
 -- what bits say where the top bit is 1
 pub decoded_top : (width n : ℕ) → n / 2 ^ (width - 1) ≢ 0 → decoded true width n ≡ pos n -ℤ pos (2 ^ width)

@@ -1,12 +1,5 @@
 -- How rows become slots: by rows, and over lines and columns.
-use Rattle.std.proofs.Common.{◌≡◌, ◌≢◌, ℕ, ◌<◌, ◌⊎◌, ⊎_elim, List, [], ◌∷◌, length, get_or, refl, sym, ap, ◌∙◌, subst, arith}
-use Rattle.extents.specs.declared.order.Order.{Order}
-use Rattle.extents.specs.declared.order.Order.TheVariants.{Row, Col, Morton}
-use Rattle.extents.specs.Indices.{indices}
-use Rattle.linearize.specs.Slots.{slot_at}
-use Rattle.linearize.specs.SlotsLaws.{slot_at_by_rows}
-use Rattle.linearize.specs.LinesLaws.{slot_in_line, slot_by_columns, slot_by_digits}
-use Rattle.piece_bits.specs.Paths.{IsPath}
+use Rattle.piece_bits.proofs.Imports.{◌≡◌, ◌≢◌, ℕ, ◌<◌, ◌⊎◌, ⊎_elim, List, [], ◌∷◌, length, get_or, refl, sym, ap, ◌∙◌, subst, arith, Order, Row, Col, Morton, indices, slot_at, slot_at_by_rows, slot_in_line, slot_by_columns, slot_by_digits, IsPath}
 use Rattle.piece_bits.specs.declared.walk.Walk.TheVariants as walk
 
 -- a list of one or of two numbers

@@ -1,5 +1,5 @@
 -- One, two, four or eight bytes are 1 to 64 bits.
-use Rattle.std.proofs.Common.{◌≡◌, ℕ, ◌≤◌, ◌⊎◌, ⊎_elim, arith}
+use Rattle.piece_bits.proofs.Imports.{◌≡◌, ℕ, ◌≤◌, ◌⊎◌, ⊎_elim, arith}
 use Rattle.blobs.specs.Bits.{IsWhole}
 
 pub whole_some : (n : ℕ) → IsWhole n → 1 ≤ n

@@ -1,14 +1,6 @@
 -- The number that the low bits of eight bytes say, and the high ones of eight bytes in reverse order.
-use Rattle.std.proofs.Common.{◌≡◌, ℕ, ◌+◌, ◌-◌, ◌*◌, ◌/◌, ◌%◌, ◌^◌, ◌<◌, ◌≤◌, List, get_or, bit_and, ⊎_elim, sym, ap, ◌∙◌, subst, arith}
-use Rattle.std.proofs.lemmas.Nat.{and_mask, shr-shr}
-use Rattle.std.proofs.lemmas.Nat.Bits.{bit_at-lt}
-use Rattle.std.proofs.Math.Nat.{mod-eq_of_lt}
-use Rattle.places.specs.Image.{number}
-use Rattle.places.specs.NumbersLaws.{number_same, number_bits, number_lt, bit_number}
-use Rattle.blobs.specs.Bits.{bit_of}
-use Rattle.blobs.specs.BytesLaws.{bit_read}
-use Rattle.blobs.specs.FieldsLaws.{field_read}
-use Rattle.blobs.specs.Turned.{turned_place, IsTurned}
+use Rattle.piece_bits.proofs.Imports.{◌≡◌, ℕ, ◌+◌, ◌-◌, ◌*◌, ◌/◌, ◌%◌, ◌^◌, ◌<◌, ◌≤◌, List, get_or, bit_and, ⊎_elim, sym, ap, ◌∙◌, subst, arith, and_mask, shr-shr, bit_at-lt, mod-eq_of_lt, number, number_same, number_bits, number_lt, bit_number, bit_of, bit_read, field_read, turned_place}
+use Rattle.blobs.specs.Turned.{IsTurned}
 
 -- a field is read off the eight bytes from that of its first bit on
 pub low_field : (bytes : List ℕ) (at first low n ones word : ℕ) → at ≡ 8 * first + low → low + n ≤ 64 → ones ≡ 2 ^ n - 1

@@ -1,14 +1,6 @@
 -- Words of whole bytes, in their order or in reverse.
-use Rattle.std.proofs.Common.{◌≡◌, ◌≢◌, ℕ, zero, suc, ◌+◌, ◌-◌, ◌*◌, ◌<◌, Bool, List, [], ◌∷◌, length, get_or, refl, sym, ap, ◌∙◌, arith}
-use Rattle.places.specs.declared.piece.Hold.{Hold}
-use Rattle.places.specs.declared.piece.Piece.{Piece}
-use Rattle.places.specs.declared.rule.PieceRule.{PieceRule}
-use Rattle.piece_bits.specs.Words.{turned_pieces}
-use Rattle.piece_bits.specs.declared.field.Field.{Field}
-use Rattle.piece_bits.specs.declared.word.Word.{Word}
+use Rattle.piece_bits.proofs.Imports.{◌≡◌, ◌≢◌, ℕ, zero, suc, ◌+◌, ◌-◌, ◌*◌, ◌<◌, Bool, List, [], ◌∷◌, length, get_or, refl, sym, ap, ◌∙◌, arith, Hold, Piece, PieceRule, turned_pieces, Field, Word, pieces_by, IsHeldBy, IsWhole, IsTurned}
 use Rattle.piece_bits.specs.declared.word.Word.TheVariants as stored
-use Rattle.piece_bits.specs.Shorts.{pieces_by, IsHeldBy}
-use Rattle.piece_bits.specs.Stands.{IsWhole, IsTurned}
 use Rattle.piece_bits.proofs.Together.{piece}
 
 -- ---- whole bytes

@@ -1,18 +1,5 @@
 -- Lists that grow behind one another.
-use Rattle.std.proofs.Common.{◌≡◌, ℕ, ◌+◌, ◌-◌, ◌*◌, ◌/◌, ◌^◌, ◌<◌, ◌≤◌, List, [], ◌∷◌, ◌++◌, map, length, get_or, take, replicate, fold, max, Result, Ok, Err, IfOk, ℤ, All, lit<, refl, sym, ap, ◌∙◌, arith}
-use Rattle.std.specs.List.{flat_map, range_with_len}
-use Rattle.std.proofs.Math.Nat.{div-eq_of_lt}
-use Rattle.std.proofs.lemmas.Nat.{pow_pos, pow-add, mul-le}
-use Rattle.std.proofs.lemmas.List.{append-nil, append_assoc, map-id, map_push, take_more, replicate_more}
-use Rattle.std.proofs.lemmas.List.Concat.{flat_map-append}
-use Rattle.std.proofs.lemmas.List.FromFn.{map-range_with_len_more}
-use Rattle.std.proofs.lemmas.List.FromFn.{length-enumerate_from, get_or-enumerate_from}
-use Rattle.std.proofs.lemmas.List.Elements.{All-map, All-same}
-use Rattle.places.specs.Image.{bit_held, entry}
-use Rattle.places.specs.NumbersLaws.{digit_lt}
-use Rattle.places.specs.Layout.{Pad as Nobody, Bit as Owned, Owner, field, array, padded_to, greatest, aligned_fields, aligned_arrays, cells_of}
-use Rattle.plain_layouts.specs.Plain.{owner_of, owners_of}
-use Rattle.plain_layouts.specs.declared.owner.PlainOwner.{PlainOwner}
+use Rattle.plain_layouts.proofs.Imports.{◌≡◌, ℕ, ◌+◌, ◌-◌, ◌*◌, ◌/◌, ◌^◌, ◌<◌, ◌≤◌, List, [], ◌∷◌, ◌++◌, map, length, get_or, take, replicate, fold, max, Result, Ok, Err, IfOk, ℤ, All, lit<, refl, sym, ap, ◌∙◌, arith, flat_map, range_with_len, div-eq_of_lt, pow_pos, pow-add, mul-le, append-nil, append_assoc, map-id, map_push, take_more, replicate_more, flat_map-append, map-range_with_len_more, length-enumerate_from, get_or-enumerate_from, All-map, All-same, bit_held, entry, digit_lt, Nobody, Owned, Owner, field, array, padded_to, greatest, aligned_fields, aligned_arrays, cells_of, owner_of, owners_of, PlainOwner}
 
 -- one part more behind parts
 pub grown : {X Y : Type 0} (f : X → List Y) (old now new : List Y) (xs : List X) (i : ℕ) (d : X) → i < length xs

@@ -1,18 +1,7 @@
 -- In a record without a name twice the paths of the leaves differ, and each leads to its leaf.
-use Rattle.std.proofs.Common.{◌≡◌, ℕ, suc, zero, ◌+◌, ◌<◌, Bool, true, false, cond, ◌||◌, nat_eq, nat_lt, Some, None, List, [], ◌∷◌, ◌++◌, length, map, refl, sym, ap, ◌∙◌, subst, inl, inr, ◌⊎◌, append-nil, arith}
-use Rattle.std.specs.Cmp.Lexicographic.{pointwise}
-use Rattle.std.specs.List.{list_any, slice_get}
-use Rattle.std.proofs.lemmas.List.{map-append, length-map}
-use Rattle.std.proofs.lemmas.Bool.Decides.{nat_tests}
-use Rattle.record_dim.specs.declared.leaf_type.LeafType.{LeafType}
-use Rattle.record_dim.specs.declared.path.PathStep.{PathStep}
-use Rattle.record_dim.specs.declared.path.PathStep.TheVariants.{Name, At}
-use Rattle.record_dim.specs.declared.dim.Dim.{Dim}
+use Rattle.record_dim.proofs.Imports.{◌≡◌, ℕ, suc, zero, ◌+◌, ◌<◌, Bool, true, false, cond, ◌||◌, nat_eq, nat_lt, Some, None, List, [], ◌∷◌, ◌++◌, length, map, refl, sym, ap, ◌∙◌, subst, inl, inr, ◌⊎◌, arith, pointwise, list_any, slice_get, map-append, length-map, nat_tests, LeafType, PathStep, Name, At, Dim, Tree, Single, Record, Array, Fields, End, Field, tree_of, Leaf, under, leaves_of, leaves, paths_of, names_of, has_twice, shares_name, records_of, records_below, first_fault, node_at, node_in, LeadsTo, same_text, text_self}
+use Rattle.std.proofs.Common.{append-nil}
 use Rattle.record_dim.specs.declared.dim.Dim.TheVariants as dim
-use Rattle.record_dim.specs.Trees.{Tree, Single, Record, Array, Fields, End, Field, tree_of}
-use Rattle.record_dim.specs.Leaves.{Leaf, under, leaves_of, leaves, paths_of, names_of, has_twice, shares_name, records_of, records_below, first_fault}
-use Rattle.record_dim.specs.Nodes.{node_at, node_in, LeadsTo}
-use Rattle.record_dim.specs.NameBytesLaws.{same_text, text_self}
 use Rattle.record_dim.proofs.Lookup.{leaves-suc}
 use Rattle.record_dim.proofs.Fit.{neither, none_of_both, fit_from}
 

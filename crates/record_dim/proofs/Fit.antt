@@ -1,10 +1,5 @@
 -- A record that is fit has a leaf, and not too many.
-use Rattle.std.proofs.Common.{◌≡◌, ℕ, ◌*◌, ◌≤◌, Bool, true, false, cond, ◌||◌, nat_eq, nat_lt, Option, Some, None, List, ◌++◌, length, refl, sym, ◌∙◌, arith}
-use Rattle.std.specs.List.{list_any}
-use Rattle.std.proofs.lemmas.Bool.Decides.{nat_tests}
-use Rattle.std.proofs.lemmas.List.Folds.{list_any-append}
-use Rattle.record_dim.specs.Trees.{Tree, Single, Record, Array, Fields, End, Field}
-use Rattle.record_dim.specs.Leaves.{leaves_of, leaves, depth_of, records_of, records_below, lengths_of, lengths_below, is_empty_record, shares_name, first_fault}
+use Rattle.record_dim.proofs.Imports.{◌≡◌, ℕ, ◌*◌, ◌≤◌, Bool, true, false, cond, ◌||◌, nat_eq, nat_lt, Option, Some, None, List, ◌++◌, length, refl, sym, ◌∙◌, arith, list_any, nat_tests, list_any-append, Tree, Single, Record, Array, Fields, End, Field, leaves_of, leaves, depth_of, records_of, records_below, lengths_of, lengths_below, is_empty_record, shares_name, first_fault}
 use Rattle.record_dim.proofs.Walks.{length-leaves, length-leaves_of_array}
 
 pub neither : (a b : Bool) → (a || b) ≡ false → (a ≡ false) × (b ≡ false)

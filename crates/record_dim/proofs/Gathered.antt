@@ -1,16 +1,5 @@
 -- Gathering leaves: what one more field and one more element add.
-use Rattle.std.proofs.Common.{◌≡◌, ℕ, ◌+◌, List, [], ◌∷◌, ◌++◌, map, codes, refl, sym, ap, ◌∙◌, append_assoc, arith}
-use Rattle.std.specs.List.{flat_map, range_with_len}
-use Rattle.std.proofs.lemmas.List.{map-append, map-id, append-nil}
-use Rattle.std.proofs.lemmas.List.FromFn.{map-range_with_len_more}
-use Rattle.std.proofs.lemmas.Grind.{flat_map-append}
-use Rattle.record_dim.specs.declared.leaf_type.LeafType.{LeafType}
-use Rattle.record_dim.specs.declared.path.PathStep.{PathStep}
-use Rattle.record_dim.specs.declared.path.PathStep.TheVariants.{Name, At}
-use Rattle.record_dim.specs.Paths.{step_text, path_text_of}
-use Rattle.record_dim.specs.Trees.{Tree, Single, Record, Array, Fields, End, Field}
-use Rattle.record_dim.specs.Leaves.{Leaf, under, leaves_of, leaves, kinds_of, texts_of}
-use Rattle.record_dim.specs.Gathering.{node_kinds, node_texts, record_kinds, record_texts}
+use Rattle.record_dim.proofs.Imports.{◌≡◌, ℕ, ◌+◌, List, [], ◌∷◌, ◌++◌, map, codes, refl, sym, ap, ◌∙◌, append_assoc, arith, flat_map, range_with_len, map-append, map-id, append-nil, map-range_with_len_more, flat_map-append, LeafType, PathStep, Name, At, step_text, path_text_of, Tree, Single, Record, Array, Fields, End, Field, Leaf, under, leaves_of, leaves, kinds_of, texts_of, node_kinds, node_texts, record_kinds, record_texts}
 
 map_same : {X Y : Type 0} (f g : X → Y) → ((x : X) → f x ≡ g x) → (xs : List X) → map f xs ≡ map g xs
 map_same f g same [] = refl

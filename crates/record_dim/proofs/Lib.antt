@@ -1,6 +1,7 @@
-pub mod Walks
-pub mod Twice
-pub mod Gathered
-pub mod Fit
-pub mod Lookup
+mod Imports
 pub mod Apart
+pub mod Fit
+pub mod Gathered
+pub mod Lookup
+pub mod Twice
+pub mod Walks

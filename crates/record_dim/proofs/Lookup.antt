@@ -1,17 +1,7 @@
 -- Where the leaves of a node stand among those of the whole.
-use Rattle.std.proofs.Common.{◌≡◌, ℕ, suc, zero, ◌+◌, ◌*◌, ◌≤◌, ◌<◌, min, true, false, cond, nat_eq, nat_lt, None, List, [], ◌∷◌, ◌++◌, length, map, refl, sym, ap, ◌∙◌, ⊎_elim, append_assoc, add-one, mul-le-mul_right, arith}
-use Rattle.std.specs.Cmp.Lexicographic.{pointwise}
-use Rattle.std.proofs.lemmas.Bool.{cases_lt}
-use Rattle.std.proofs.lemmas.Bool.Decides.{nat_tests}
-use Rattle.std.proofs.lemmas.List.{length-append, length-map, map-append, append-nil}
-use Rattle.record_dim.specs.declared.path.PathStep.{PathStep}
-use Rattle.record_dim.specs.declared.path.PathStep.TheVariants.{Name, At}
-use Rattle.record_dim.specs.Trees.{Tree, Record, Array, Fields, Field}
-use Rattle.record_dim.specs.Leaves.{Leaf, under, leaves_of, leaves}
-use Rattle.record_dim.specs.Nodes.{node_at, node_in, leaves_before, leaves_before_in, behind, IsStretch, HasChild, HasField, LeadsTo}
+use Rattle.record_dim.proofs.Imports.{◌≡◌, ℕ, suc, zero, ◌+◌, ◌*◌, ◌≤◌, ◌<◌, min, true, false, cond, nat_eq, nat_lt, None, List, [], ◌∷◌, ◌++◌, length, map, refl, sym, ap, ◌∙◌, ⊎_elim, append_assoc, add-one, mul-le-mul_right, arith, pointwise, cases_lt, nat_tests, length-append, length-map, map-append, append-nil, PathStep, Name, At, Tree, Record, Array, Fields, Field, Leaf, under, leaves_of, leaves, node_at, node_in, leaves_before, leaves_before_in, behind, IsStretch, HasChild, HasField, LeadsTo, same_text}
 use Rattle.record_dim.proofs.Walks.{length-leaves_of_array}
 use Rattle.record_dim.proofs.Gathered.{leaves-more}
-use Rattle.record_dim.specs.NameBytesLaws.{same_text}
 
 behind_none : (xs : List Leaf) → map (behind []) xs ≡ xs
 behind_none [] = refl

@@ -1,10 +1,5 @@
 -- The search for a name that stands twice: what the set of the names so far and the names that are left say together.
-use Rattle.std.proofs.Common.{◌≡◌, ℕ, Bool, true, false, cond, not, ◌||◌, nat_eq, List, [], ◌∷◌, refl, sym, ap, ◌∙◌}
-use Rattle.std.specs.List.{list_any}
-use Rattle.std.specs.Ordering.{nat_cmp}
-use Rattle.std.specs.BTreeMap.{is_at}
-use Rattle.std.specs.Cmp.Lexicographic.{pointwise, slice_cmp, texts_ties}
-use Rattle.record_dim.specs.Leaves.{has_twice}
+use Rattle.record_dim.proofs.Imports.{◌≡◌, ℕ, Bool, true, false, cond, not, ◌||◌, nat_eq, List, [], ◌∷◌, refl, sym, ap, ◌∙◌, list_any, nat_cmp, is_at, pointwise, slice_cmp, texts_ties, has_twice}
 
 or_of_cond : (b x : Bool) → cond b true x ≡ (b || x)
 or_of_cond true x = refl

@@ -1,16 +1,5 @@
 -- Steps of the walks over trees: one more field, one more level.
-use Rattle.std.proofs.Common.{◌≡◌, ℕ, ◌+◌, ◌*◌, ◌-◌, ◌≤◌, ◌<◌, min, max, suc, zero, Bool, true, false, nat_le, List, [], ◌∷◌, ◌++◌, length, map, refl, ap, ◌∙◌, ⊎_elim, arith}
-use Rattle.std.proofs.Math.Nat.{mul_comm, zero-mul}
-use Rattle.std.proofs.lemmas.Bool.{cases_lt}
-use Rattle.std.proofs.lemmas.List.FromFn.{length-range_with_len}
-use Rattle.std.proofs.lemmas.Bool.Decides.{nat_tests}
-use Rattle.std.proofs.lemmas.List.{length-append, length-map}
-use Rattle.std.proofs.lemmas.List.Folds.{list_any-append}
-use Rattle.std.proofs.lemmas.List.Concat.{flat_map-cons}
-use Rattle.std.specs.List.{list_any, flat_map, range_with_len}
-use Rattle.record_dim.specs.declared.path.PathStep.TheVariants.{At}
-use Rattle.record_dim.specs.Trees.{Tree, Array, Fields, Field}
-use Rattle.record_dim.specs.Leaves.{leaves, leaves_of, under}
+use Rattle.record_dim.proofs.Imports.{◌≡◌, ℕ, ◌+◌, ◌*◌, ◌-◌, ◌≤◌, ◌<◌, min, max, suc, zero, Bool, true, false, nat_le, List, [], ◌∷◌, ◌++◌, length, map, refl, ap, ◌∙◌, ⊎_elim, arith, mul_comm, zero-mul, cases_lt, length-range_with_len, nat_tests, length-append, length-map, list_any-append, flat_map-cons, list_any, flat_map, range_with_len, At, Tree, Array, Fields, Field, leaves, leaves_of, under}
 
 -- where the front has none, the whole has what the rest has
 pub any_rest : {X : Type 0} (p : X → Bool) (xs ys : List X) → list_any p xs ≡ false → list_any p (xs ++ ys) ≡ list_any p ys

@@ -1,11 +1,5 @@
 -- Things done in their turn, and what they give so far.
-use Rattle.std.proofs.Common.{◌≡◌, ℕ, zero, suc, ◌+◌, ◌<◌, ◌≤◌, List, [], ◌∷◌, ◌++◌, length, get_or, take, ℤ, Result, Ok, Err, refl, sym, ap, ◌∙◌, arith}
-use Rattle.std.specs.List.{range_with_len}
-use Rattle.std.specs.Prelude.{slice_set}
-use Rattle.std.proofs.lemmas.List.FromFn.{get_or-range_with_len, length-range_with_len}
-use Rattle.row_updates.specs.declared.fault.UpdateFault.{UpdateFault}
-use Rattle.views.specs.Stores.{Keeping}
-use Rattle.row_updates.specs.Rows.{each, ◌>>=◌, Setting, with_values}
+use Rattle.row_updates.proofs.Imports.{◌≡◌, ℕ, zero, suc, ◌+◌, ◌<◌, ◌≤◌, List, [], ◌∷◌, ◌++◌, length, get_or, take, ℤ, Result, Ok, Err, refl, sym, ap, ◌∙◌, arith, range_with_len, slice_set, get_or-range_with_len, length-range_with_len, UpdateFault, Keeping, each, ◌>>=◌, Setting, with_values}
 
 -- the first thing gave something, and so did the others
 pub record IsFirst {A : Type 0} (first : Result A UpdateFault) (rest : Result (List A) UpdateFault) (all : List A) : Type 0 where

@@ -1,11 +1,5 @@
 -- The index of a row of one extent, and an index that is put into numbers.
-use Rattle.std.proofs.Common.{◌≡◌, ℕ, ◌*◌, ◌<◌, ◌≤◌, List, [], ◌∷◌, length, length-take, set, take, Some, sym, ap, ◌∙◌, arith}
-use Rattle.std.specs.List.{slice_get}
-use Rattle.std.proofs.lemmas.Option.{get_or_from_slice_get}
-use Rattle.std.proofs.lemmas.Slice.Zip.{AllZip-long}
-use Rattle.extents.specs.Indices.{indices, IsInside}
-use Rattle.extents.specs.IndicesLaws.{length-indices, place, slice_get-place}
-use Rattle.linearize.specs.Slots.{index_at}
+use Rattle.row_updates.proofs.Imports.{◌≡◌, ℕ, ◌*◌, ◌<◌, ◌≤◌, List, [], ◌∷◌, length, length-take, set, take, Some, sym, ap, ◌∙◌, arith, slice_get, get_or_from_slice_get, AllZip-long, indices, IsInside, length-indices, place, slice_get-place, index_at}
 
 line_place : (n row : ℕ) → place (n ∷ []) (row ∷ []) ≡ row
 line_place n row = omega arith

@@ -1,11 +1,12 @@
+mod Imports
 pub mod Each
 pub mod Indexed
 pub mod Logs
+pub mod Low
 pub mod Rows
-pub mod WorthSoFar
+pub mod RunReads
 pub mod RunRows
+pub mod RunSets
 pub mod RunTests
 pub mod Taken
-pub mod Low
-pub mod RunReads
-pub mod RunSets
+pub mod WorthSoFar

@@ -1,17 +1,5 @@
 -- Accesses one after another: of an expression, of the right sides of a row, and of its stores.
-use Rattle.std.proofs.Common.{◌≡◌, ℕ, zero, suc, ◌+◌, ◌<◌, List, [], ◌∷◌, ◌++◌, length, map, take, get_or, ℤ, Bool, true, false, Option, Some, None, Result, Ok, Err, MutBor, refl, ap, sym, ◌∙◌, arith}
-use Rattle.std.specs.List.{fold}
-use Rattle.std.proofs.lemmas.List.{append-nil, append_assoc, map-append, take_more}
-use Rattle.expr_lang.specs.Terms.{Term}
-use Rattle.linearize.specs.Slots.{index_at}
-use Rattle.views.specs.Stores.{Answer}
-use Rattle.views.specs.Tallies.{Access, Read, Write}
-use Rattle.views.specs.TallyLaws.{after_log-append, after_reads, logs_more}
-use Rattle.views.specs.Tables.{Table, answer_of, after_log, after_read}
-use Rattle.row_updates.specs.declared.fault.UpdateFault.{UpdateFault}
-use Rattle.row_updates.specs.Rows.{Setting, each, passes, new_value, tried_row}
-use Rattle.row_updates.specs.Logs.{value_log, filter_log, if_ok, if_passes, sides_log, stores_log, tried_log, if_given, row_log, count_log}
-use Rattle.row_updates.specs.TriedLaws.{log_as_tried}
+use Rattle.row_updates.proofs.Imports.{◌≡◌, ℕ, zero, suc, ◌+◌, ◌<◌, List, [], ◌∷◌, ◌++◌, length, map, take, get_or, ℤ, Bool, true, false, Option, Some, None, Result, Ok, Err, MutBor, refl, ap, sym, ◌∙◌, arith, fold, append-nil, append_assoc, map-append, take_more, Term, index_at, Answer, Access, Read, Write, after_log-append, after_reads, logs_more, Table, answer_of, after_log, after_read, UpdateFault, Setting, each, passes, new_value, tried_row, value_log, filter_log, if_ok, if_passes, sides_log, stores_log, tried_log, if_given, row_log, count_log, log_as_tried}
 use Rattle.row_updates.proofs.Each.{parted}
 
 -- reads through a row that is borrowed

@@ -1,12 +1,5 @@
 -- Values of a leaf as 64 bits with a sign.
-use Rattle.std.proofs.Common.{◌≡◌, ◌∙◌, ℕ, ◌≤◌, ◌≤ℤ◌, ℤ, pos, negsuc, neg_ℤ, Bool, true, false, FitsSigned, to_z, of_z, w64, refl, ap, arith}
-use Rattle.std.specs.Int.{w128}
-use Rattle.std.specs.Prelude.{unsigned_abs, if◌then◌else◌}
-use Rattle.std.proofs.lemmas.Int.{ints, to_z-of_z}
-use Rattle.record_dim.specs.declared.leaf_type.LeafType.{LeafType}
-use Rattle.record_dim.specs.declared.leaf_type.LeafType.TheVariants.{U64}
-use Rattle.record_dim.specs.LeafTypes.{is_signed}
-use Rattle.views.specs.Runs.{raised}
+use Rattle.row_updates.proofs.Imports.{◌≡◌, ◌∙◌, ℕ, ◌≤◌, ◌≤ℤ◌, ℤ, pos, negsuc, neg_ℤ, Bool, true, false, FitsSigned, to_z, of_z, w64, refl, ap, arith, w128, unsigned_abs, if◌then◌else◌, ints, to_z-of_z, LeafType, U64, is_signed, raised}
 
 -- low bits that lie no lower than a type's values do are the value
 pub low_is : (kind : LeafType) (low : ℤ) (limit : ℕ) → (if is_signed kind then neg_ℤ (pos limit) else pos 0) ≤ℤ low → raised kind low ≡ low

@@ -1,27 +1,8 @@
 -- Updates of rows, step by step.
-use Rattle.std.proofs.Common.{◌≡◌, ℕ, suc, ◌+◌, ◌<◌, ◌≤◌, List, [], ◌∷◌, ◌++◌, length, map, get_or, take, take_all, drop, set, ℤ, pos, Bool, true, false, Option, Some, None, Result, Ok, Err, is_ok, refl, sym, ap, subst, ◌∙◌, arith, count_by, cond}
-use Rattle.std.specs.List.{range_with_len}
-use Rattle.std.specs.Prelude.{slice_set, OnOk, IfOk, IfErr}
-use Rattle.std.proofs.lemmas.List.{take_more, take_more_set, drop-set-lt, drop_more, get_or-drop, get_or-set_same, set-set, get_or-map, length-set, length-map, get_or-take}
-use Rattle.std.proofs.lemmas.List.Sums.{sum_by-append}
-use Rattle.expr_lang.specs.Terms.{Term}
-use Rattle.linearize.specs.Slots.{index_at}
-use Rattle.piece_bits.specs.Tables.{with_entry}
-use Rattle.views.specs.Tallies.{Access, Write}
-use Rattle.views.specs.TallyLaws.{after_log-none, logs_more}
-use Rattle.views.specs.Tables.{Table, answer_of, kept_of, after_log, after_stores, after_write}
-use Rattle.views.specs.declared.fault.StoreFault.{StoreFault}
-use Rattle.row_updates.specs.declared.fault.UpdateFault.{UpdateFault}
-use Rattle.row_updates.specs.declared.update.Assign.{Assign}
-use Rattle.views.specs.Stores.{Answer, Keeping, told}
-use Rattle.row_updates.specs.Rows.{Setting, setting_of, each, in_row, store_kind, value_of, passes, new_value, with_values, tried_row, updated_row, updated_rows, updated_of, counted, ◌>>=◌}
-use Rattle.row_updates.specs.TriedLaws.{updated_as_tried}
-use Rattle.row_updates.specs.Updated.{AreUpdated, IsStopped, AreCounted, row_test, IsCounted, IsCountStopped}
-use Rattle.row_updates.specs.Logs.{value_log, sides_log, stores_log, row_log, update_log, count_log}
-use Rattle.views.specs.TallyLaws.{after_stores-append}
+use Rattle.row_updates.proofs.Imports.{◌≡◌, ℕ, suc, ◌+◌, ◌<◌, ◌≤◌, List, [], ◌∷◌, ◌++◌, length, map, get_or, take, take_all, drop, set, ℤ, pos, Bool, true, false, Option, Some, None, Result, Ok, Err, is_ok, refl, sym, ap, subst, ◌∙◌, arith, count_by, cond, range_with_len, slice_set, OnOk, IfOk, IfErr, take_more, take_more_set, drop-set-lt, drop_more, get_or-set_same, set-set, get_or-map, length-set, length-map, get_or-take, sum_by-append, Term, index_at, with_entry, Access, Write, after_log-none, logs_more, Table, answer_of, kept_of, after_log, after_stores, after_write, StoreFault, UpdateFault, Assign, Answer, Keeping, told, Setting, setting_of, each, in_row, store_kind, value_of, passes, new_value, with_values, tried_row, updated_row, updated_rows, updated_of, counted, ◌>>=◌, updated_as_tried, AreUpdated, IsStopped, AreCounted, row_test, IsCounted, IsCountStopped, value_log, sides_log, stores_log, row_log, update_log, count_log, after_stores-append, bool_byte}
+use Rattle.std.proofs.lemmas.List.{get_or-drop}
 use Rattle.row_updates.proofs.Logs.{sides_push, sides_stop, stores_push, count_push}
 use Rattle.row_updates.proofs.Each.{each_push, each_stop, each_at, rows_push, rows_stop, with_values_push}
-use mir.Val.{bool_byte}
 
 -- the setting of an assignment in a list
 pub setting_at : (sets : List Assign) (place : ℕ) (set : Assign) (d : Setting) → place < length sets → set ≡ get_or sets place set → get_or (map setting_of sets) place d ≡ setting_of set

@@ -1,18 +1,5 @@
 -- The values of a leaf that are read in rows one after another.
-use Rattle.std.proofs.Common.{◌≡◌, ◌∙◌, ℕ, ◌+◌, ◌<◌, ◌≤◌, ◌^◌, ◌≤ℤ◌, List, [], length, map, take, drop, get_or, ℤ, pos, neg_ℤ, w64, sym, ap, subst, arith, length-drop, get_or-drop}
-use Rattle.std.specs.Prelude.{unsigned_abs, if◌then◌else◌}
-use Rattle.std.proofs.lemmas.Int.{fits_signed_from_abs}
-use Rattle.std.proofs.lemmas.List.{get_or-map, length-map, get_or-take, length-take-le}
-use Rattle.piece_bits.specs.Lows.{low_64}
-use Rattle.piece_bits.specs.LowsLaws.{low_same}
-use Rattle.piece_bits.specs.EntryLaws.{stays_declared}
-use Rattle.piece_bits.specs.Tables.{hold_at}
-use Rattle.record_dim.specs.Leaves.{Leaf, leaves}
-use Rattle.record_dim.specs.LeafTypes.{IsDeclared, is_signed}
-use Rattle.views.specs.Columns.{in_leaf, column}
-use Rattle.views.specs.RunsLaws.{raised_low}
-use Rattle.views.specs.Tables.{Table, IsTable, leaf_count_of, leaf_type_of, leaf_types_of, table_holds}
-use Rattle.row_updates.specs.Runs.{row_of, AreNear}
+use Rattle.row_updates.proofs.Imports.{◌≡◌, ◌∙◌, ℕ, ◌+◌, ◌<◌, ◌≤◌, ◌^◌, ◌≤ℤ◌, List, [], length, map, take, drop, get_or, ℤ, pos, neg_ℤ, w64, sym, ap, subst, arith, length-drop, get_or-drop, unsigned_abs, if◌then◌else◌, fits_signed_from_abs, get_or-map, length-map, get_or-take, length-take-le, low_64, low_same, stays_declared, hold_at, Leaf, leaves, IsDeclared, is_signed, in_leaf, column, raised_low, Table, IsTable, leaf_count_of, leaf_type_of, leaf_types_of, table_holds, row_of, AreNear}
 use Rattle.row_updates.proofs.Low.{low_is, low_near}
 
 module _ (table : Table) (leaf first limit : ℕ) (values : List ℤ) (count : ℕ) (is : IsTable table) (inside : leaf < leaf_count_of table) (rows_in : first + count ≤ length table.rows)

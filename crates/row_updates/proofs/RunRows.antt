@@ -1,27 +1,5 @@
 -- Rows of a run that are updated at once, as if each were updated after the one before.
-use Rattle.std.proofs.Common.{◌≡◌, ◌∙◌, ℕ, zero, suc, ◌+◌, ◌<◌, ◌≤◌, List, [], ◌∷◌, ◌++◌, length, map, take, drop, set, get_or, ℤ, pos, Bool, true, false, Option, Result, Ok, Err, is_ok, refl, sym, ap, subst, arith, get_or-drop}
-use Rattle.std.specs.Prelude.{slice_set}
-use Rattle.std.proofs.lemmas.List.{get_or-map, length-map, get_or-take, length-take-le, set-get_or, take_more, drop-drop}
-use Rattle.expr_lang.specs.Terms.{Term}
-use Rattle.expr_lang.specs.Values.{outcome_of}
-use Rattle.expr_lang.specs.Exacts.{IsSafe}
-use Rattle.expr_lang.specs.ExactsLaws.{worth}
-use Rattle.linearize.specs.Slots.{index_at}
-use Rattle.piece_bits.specs.Tables.{hold_at}
-use Rattle.record_dim.specs.Leaves.{Leaf, leaves}
-use Rattle.views.specs.AnswerLaws.{stays_answer}
-use Rattle.views.specs.Columns.{in_leaf, with_column}
-use Rattle.views.specs.ColumnsLaws.{no_column, length-with_column}
-use Rattle.views.specs.Stores.{Answer, Keeping, kept_or}
-use Rattle.views.specs.Tables.{Table, IsTable, leaf_count_of, leaf_type_of, leaf_types_of, table_holds, answer_of, kept_of, after_stores}
-use Rattle.views.specs.Tallies.{Access, Tally}
-use Rattle.views.specs.declared.fault.StoreFault.{StoreFault}
-use Rattle.row_updates.specs.declared.fault.UpdateFault.{UpdateFault}
-use Rattle.row_updates.specs.declared.runs.Run.{Run}
-use Rattle.row_updates.specs.Rows.{Setting, each, in_row, store_kind, passes, new_value, with_values, updated_row, updated_of, ◌>>=◌}
-use Rattle.row_updates.specs.Logs.{update_log}
-use Rattle.row_updates.specs.Runs.{IsIdle, row_of, IsGiven}
-use Rattle.row_updates.specs.Updated.{AreUpdated, IsStill, IsRunUpdated, AreTested}
+use Rattle.row_updates.proofs.Imports.{◌≡◌, ◌∙◌, ℕ, zero, suc, ◌+◌, ◌<◌, ◌≤◌, List, [], ◌∷◌, ◌++◌, length, map, take, drop, set, get_or, ℤ, pos, Bool, true, false, Option, Result, Ok, Err, is_ok, refl, sym, ap, subst, arith, get_or-drop, slice_set, get_or-map, length-map, get_or-take, length-take-le, set-get_or, take_more, drop-drop, Term, outcome_of, IsSafe, worth, index_at, hold_at, Leaf, leaves, stays_answer, in_leaf, with_column, no_column, length-with_column, Answer, Keeping, kept_or, Table, IsTable, leaf_count_of, leaf_type_of, leaf_types_of, table_holds, answer_of, kept_of, after_stores, Access, Tally, StoreFault, UpdateFault, Run, Setting, each, in_row, store_kind, passes, new_value, with_values, updated_row, updated_of, ◌>>=◌, update_log, IsIdle, row_of, IsGiven, AreUpdated, IsStill, IsRunUpdated, AreTested}
 use Rattle.row_updates.proofs.Each.{parted, each_push, rows_push}
 
 -- ---- the rows in which a leaf has other values: those before, those behind, and each of them

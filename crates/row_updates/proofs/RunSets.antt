@@ -1,16 +1,5 @@
 -- Right sides whose values are stored in the rows of a run.
-use Rattle.std.proofs.Common.{◌≡◌, ◌∙◌, ℕ, ◌+◌, ◌<◌, ◌≤◌, List, [], ◌∷◌, ◌++◌, length, map, take, get_or, ℤ, Bool, Option, None, refl, sym, ap, subst, arith, take_all}
-use Rattle.std.proofs.lemmas.List.{take-map, length-map}
-use Rattle.expr_lang.specs.Terms.{Term}
-use Rattle.expr_lang.specs.Exacts.{IsSafe}
-use Rattle.views.specs.Columns.{column_writes, with_column, first_lane_fault}
-use Rattle.views.specs.Runs.{stored_count}
-use Rattle.views.specs.Tables.{Table, IsTable, leaf_count_of, answer_of, kept_of, after_stores}
-use Rattle.row_updates.specs.declared.runs.Run.{Run}
-use Rattle.row_updates.specs.declared.update.Assign.{Assign}
-use Rattle.row_updates.specs.Rows.{Setting, setting_of}
-use Rattle.row_updates.specs.Runs.{IsIdle, AreGiven, AreTaken}
-use Rattle.row_updates.specs.Updated.{IsRunUpdated, AreTested}
+use Rattle.row_updates.proofs.Imports.{◌≡◌, ◌∙◌, ℕ, ◌+◌, ◌<◌, ◌≤◌, List, [], ◌∷◌, ◌++◌, length, map, take, get_or, ℤ, Bool, Option, None, refl, sym, ap, subst, arith, take_all, take-map, length-map, Term, IsSafe, column_writes, with_column, first_lane_fault, stored_count, Table, IsTable, leaf_count_of, answer_of, kept_of, after_stores, Run, Assign, Setting, setting_of, IsIdle, AreGiven, AreTaken, IsRunUpdated, AreTested}
 use Rattle.row_updates.proofs.Rows.{settings_more}
 use Rattle.row_updates.proofs.RunRows.{run_stored, no_sides}
 use Rattle.row_updates.proofs.Taken.{stored_front, none_faulty}

@@ -1,20 +1,6 @@
 -- The rows of a run that pass, by the values of the filter.
-use Rattle.std.proofs.Common.{◌≡◌, ◌∙◌, ℕ, zero, suc, ◌+◌, ◌<◌, ◌≤◌, List, [], ◌∷◌, length, get_or, ℤ, pos, Bool, true, false, cond, count_by, Some, Result, Ok, refl, sym, ap, subst, arith}
-use Rattle.std.proofs.lemmas.List.Sums.{count_by-le-length, sum_by-cons}
-use Rattle.expr_lang.specs.declared.fault.EvalFault.{EvalFault}
-use Rattle.expr_lang.specs.Terms.{Term}
-use Rattle.expr_lang.specs.Values.{is_true}
-use Rattle.expr_lang.specs.Exacts.{IsSafe}
-use Rattle.expr_lang.specs.ExactsLaws.{worth}
-use Rattle.linearize.specs.Slots.{index_at}
-use Rattle.views.specs.Tables.{Table}
-use Rattle.row_updates.specs.declared.fault.UpdateFault.{UpdateFault}
-use Rattle.row_updates.specs.declared.runs.Run.{Run}
-use Rattle.row_updates.specs.Rows.{in_row, eval_kind, ◌>>=◌}
-use Rattle.row_updates.specs.Runs.{row_of, AreWorth}
-use Rattle.row_updates.specs.Updated.{AreTested, AreCounted}
+use Rattle.row_updates.proofs.Imports.{◌≡◌, ◌∙◌, ℕ, zero, suc, ◌+◌, ◌<◌, ◌≤◌, List, [], ◌∷◌, length, get_or, ℤ, pos, Bool, true, false, cond, count_by, Some, Result, Ok, refl, sym, ap, subst, arith, count_by-le-length, sum_by-cons, EvalFault, Term, is_true, IsSafe, worth, index_at, Table, UpdateFault, Run, in_row, eval_kind, ◌>>=◌, row_of, AreWorth, AreTested, AreCounted, bool_byte}
 use Rattle.row_updates.proofs.Rows.{one_counted}
-use mir.Val.{bool_byte}
 
 -- a row passes where the value of the filter is not 0
 pub tested : (table : Table) (run : Run) (term : Term ℕ) (values : List ℤ) → IsSafe run.leaves.now run.places.now term → AreWorth table run term values

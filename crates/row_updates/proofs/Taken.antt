@@ -1,21 +1,5 @@
 -- Values that a leaf takes.
-use Rattle.std.proofs.Common.{◌≡◌, ◌∙◌, ℕ, zero, suc, ◌+◌, ◌<◌, ◌≤◌, ◌≤ℤ◌, List, [], ◌∷◌, length, get_or, ℤ, pos, Bool, true, false, Option, Some, None, Result, Ok, Err, is_ok, refl, sym, ap, arith}
-use Rattle.std.specs.Prelude.{if◌then◌else◌}
-use Rattle.std.specs.Option.{option_or}
-use Rattle.std.proofs.lemmas.Int.{ints}
-use Rattle.places.specs.declared.piece.Hold.{Hold}
-use Rattle.record_dim.specs.declared.leaf_type.LeafType.{LeafType}
-use Rattle.record_dim.specs.LeafTypes.{least_of, greatest_of, least_in, greatest_in}
-use Rattle.piece_bits.specs.declared.mode.StoreMode.{StoreMode}
-use Rattle.piece_bits.specs.declared.mode.StoreMode.TheVariants.{Strict, Wrap}
-use Rattle.views.specs.Columns.{lane_fault, first_lane_fault}
-use Rattle.views.specs.Stores.{Answer, is_between, store_answer, told}
-use Rattle.views.specs.Runs.{told_lane, stored_count}
-use Rattle.views.specs.declared.fault.LaneFault.{LaneFault}
-use Rattle.views.specs.AnswerLaws.{told_same}
-use Rattle.views.specs.StrictLaws.{between_true, fitting_stored}
-use Rattle.views.specs.declared.fault.StoreFault.{StoreFault}
-use Rattle.views.specs.declared.fault.StoreFault.TheVariants.{Range, Narrow}
+use Rattle.row_updates.proofs.Imports.{◌≡◌, ◌∙◌, ℕ, zero, suc, ◌+◌, ◌<◌, ◌≤◌, ◌≤ℤ◌, List, [], ◌∷◌, length, get_or, ℤ, pos, Bool, true, false, Option, Some, None, Result, Ok, Err, is_ok, refl, sym, ap, arith, if◌then◌else◌, option_or, ints, Hold, LeafType, least_of, greatest_of, least_in, greatest_in, StoreMode, Strict, Wrap, lane_fault, first_lane_fault, Answer, is_between, store_answer, told, told_lane, stored_count, LaneFault, told_same, between_true, fitting_stored, StoreFault, Range, Narrow}
 
 module _ (answer : Answer) (leaf : ℕ) where
   -- a value without a fault in front of others

@@ -1,18 +1,6 @@
 -- The values of a chain in the rows of a run, as far as its links have been walked.
-use Rattle.std.proofs.Common.{◌≡◌, ◌∙◌, ℕ, ◌+◌, ◌<◌, List, ℤ, length, get_or, pos, sym, ap, subst}
-use Rattle.expr_lang.specs.declared.bound.Links.{Links}
+use Rattle.row_updates.proofs.Imports.{◌≡◌, ◌∙◌, ℕ, ◌+◌, ◌<◌, List, ℤ, length, get_or, pos, sym, ap, subst, Links, Step, Term, step_term, links_term, one_more, safe_front, IsSafe, stepped, IsStepFit, IsWorthIn, IsRight, step_worth, step_fits, index_at, Table, Run, IsRunOf, row_of, AreWorth, AreRights}
 use Rattle.expr_lang.specs.declared.bound.Links.TheVariants as links
-use Rattle.expr_lang.specs.declared.bound.Step.{Step}
-use Rattle.expr_lang.specs.Terms.{Term}
-use Rattle.expr_lang.specs.Chains.{step_term, links_term}
-use Rattle.expr_lang.specs.ChainLaws.{one_more, safe_front}
-use Rattle.expr_lang.specs.Exacts.{IsSafe}
-use Rattle.expr_lang.specs.Steps.{stepped, IsStepFit, IsWorthIn, IsRight}
-use Rattle.expr_lang.specs.StepLaws.{step_worth, step_fits}
-use Rattle.linearize.specs.Slots.{index_at}
-use Rattle.views.specs.Tables.{Table}
-use Rattle.row_updates.specs.declared.runs.Run.{Run}
-use Rattle.row_updates.specs.Runs.{IsRunOf, row_of, AreWorth, AreRights}
 
 -- the same rows, so many as well
 pub run_rows : (table old : Table) (run : Run) (n m : ℕ) → table ≡ old → m ≡ n → IsRunOf old run n → IsRunOf table run m

@@ -1,25 +1,6 @@
 -- The rows that updates, kernels and datasets leave.
-use Rattle.std.proofs.Common.{◌≡◌, ℕ, zero, suc, ◌+◌, ◌<◌, ◌≤◌, Bool, true, false, ℤ, List, [], ◌∷◌, ◌++◌, length, map, get_or, drop, Option, Some, None, Result, Ok, Err, is_ok, if◌then◌else◌, refl, sym, ap, ◌∙◌, subst, arith, append-nil}
-use Rattle.std.specs.List.{range_with_len}
-use Rattle.std.specs.Option.{option_or}
-use Rattle.std.proofs.lemmas.List.{length-map, drop_all}
-use Rattle.std.proofs.Math.Seq.{take-length}
-use Rattle.expr_lang.specs.Terms.{Term}
-use Rattle.linearize.specs.Slots.{index_at}
-use Rattle.record_dim.specs.Leaves.{kinds_of}
-use Rattle.map_checks.specs.Mappings.{holds_by}
-use Rattle.piece_bits.specs.Tables.{hold_at}
-use Rattle.views.specs.Stores.{kept_by}
-use Rattle.views.specs.declared.fault.StoreFault.{StoreFault}
-use Rattle.row_updates.specs.Rows.{Setting, ◌>>=◌, each, in_row, store_kind, value_of, passes, new_value, updated_row, with_values}
-use Rattle.row_updates.specs.declared.fault.UpdateFault.{UpdateFault}
-use Rattle.row_updates.specs.declared.fault.UpdateKind.{UpdateKind}
-use Rattle.lane_kernels.specs.Kernels.{Store, stored, with_store, run_rows, answer_fault, store_fault, first_fault, empty_fault, kernel_fault}
-use Rattle.lane_kernels.specs.declared.fault.KernelFault.{KernelFault}
-use Rattle.lane_kernels.specs.declared.kernel.Kernel.{Kernel}
-use Rattle.line_writer.proofs.Gives.{Each}
-use Rattle.blob_file.specs.Files.{Header, AreRows}
-use Rattle.blob_file.specs.Opened.{answer_by}
+use Rattle.saved_runs.proofs.Imports.{◌≡◌, ℕ, zero, suc, ◌+◌, ◌<◌, ◌≤◌, Bool, true, false, ℤ, List, [], ◌∷◌, ◌++◌, length, map, get_or, drop, Option, Some, None, Result, Ok, Err, is_ok, if◌then◌else◌, refl, sym, ap, ◌∙◌, subst, arith, append-nil, range_with_len, option_or, length-map, drop_all, take-length, Term, index_at, kinds_of, holds_by, hold_at, kept_by, StoreFault, Setting, each, in_row, store_kind, value_of, passes, new_value, updated_row, with_values, UpdateFault, UpdateKind, Store, stored, with_store, run_rows, answer_fault, store_fault, first_fault, empty_fault, kernel_fault, KernelFault, Kernel, Each, Header, AreRows, answer_by}
+use Rattle.row_updates.specs.Rows.{◌>>=◌}
 use Rattle.saved_runs.proofs.Rows.{IsRow, each_at, each_row, are_rows, set_row, taken_stays}
 
 -- an answer that is given was given at each of its steps

@@ -1,19 +1,6 @@
 -- The extents of a view that is made are those that the words of a line say in numbers.
-use Rattle.std.proofs.Common.{◌≡◌, ◌⊎◌, ℕ, zero, suc, ◌*◌, ◌/◌, ◌%◌, ◌^◌, ◌<◌, ◌≤◌, Bool, true, false, not, ◌&&◌, nat_lt, List, [], ◌∷◌, map, length, Option, Some, None, if◌then◌else◌, inl, inr, ⊎_elim, refl, sym, ap, subst, arith}
-use Rattle.std.specs.Prelude.{◌||◌, ◌==◌, count_by, unwrap_or}
-use Rattle.std.specs.List.{list_any}
-use Rattle.std.specs.Option.{option_map_or}
-use Rattle.std.proofs.lemmas.Bool.{le-ltb, ltb-false}
-use Rattle.std.proofs.lemmas.Bool.Decides.{nat_tests}
-use Rattle.std.proofs.lemmas.List.{length-map}
-use Rattle.std.proofs.Math.Nat.{mul-le-mul_left}
-use Rattle.extents.specs.Indices.{product}
-use Rattle.extents.specs.Shapes.{is_rows, is_zero, extent_of, fixed_product, extents_for, bad_shape, bad_extents}
-use Rattle.extents.specs.ShapeLaws.{same_fixed, product_filled, fixed_positive, product_fixed, product_divided}
+use Rattle.saved_runs.proofs.Imports.{◌≡◌, ◌⊎◌, ℕ, zero, suc, ◌*◌, ◌/◌, ◌%◌, ◌^◌, ◌<◌, ◌≤◌, Bool, true, false, not, ◌&&◌, nat_lt, List, [], ◌∷◌, map, length, Option, Some, None, if◌then◌else◌, inl, inr, ⊎_elim, refl, sym, ap, subst, arith, ◌||◌, ◌==◌, count_by, unwrap_or, list_any, option_map_or, le-ltb, ltb-false, nat_tests, length-map, mul-le-mul_left, product, is_rows, is_zero, extent_of, fixed_product, extents_for, bad_shape, bad_extents, same_fixed, product_filled, fixed_positive, product_fixed, product_divided, ExtentWord, Fixed, Rows, Each}
 use Rattle.extents.specs.declared.words.BadExtents.TheVariants as bad
-use Rattle.extents.specs.declared.words.ExtentWord.{ExtentWord}
-use Rattle.extents.specs.declared.words.ExtentWord.TheVariants.{Fixed, Rows}
-use Rattle.line_writer.proofs.Gives.{Each}
 use Rattle.saved_runs.proofs.Lines.{IsLow}
 
 -- extents that a line says in numbers, and that are those of an array

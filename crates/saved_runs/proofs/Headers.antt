@@ -1,32 +1,9 @@
 -- Lines that say the header of a table.
-use Rattle.std.proofs.Common.{◌≡◌, ℕ, zero, suc, ◌+◌, ◌^◌, ◌<◌, ◌≤◌, Bool, true, false, not, ◌&&◌, List, [], ◌∷◌, ◌++◌, length, map, codes, nat_lt, Some, Result, Ok, Err, inr, refl, sym, ap, subst, append-nil, append_assoc, arith}
-use Rattle.std.specs.Prelude.{if◌then◌else◌, ◌||◌}
-use Rattle.std.proofs.lemmas.Bool.{lt-ltb, ltb-false}
-use Rattle.phrases.specs.Phrases.{Behind, IsNothing, Chain, Repeats}
-use Rattle.line_tokens.specs.Spelled.{AreSpelled, joined}
-use Rattle.line_tokens.specs.declared.sign.Sign.TheVariants.{OpenBracket, CloseBracket, Colon, Comma}
-use Rattle.record_dim.specs.Trees.{Fields, Record}
-use Rattle.extents.specs.declared.words.ExtentWord.TheVariants.{Fixed}
-use Rattle.map_expr.specs.Terms.{Term as MapTerm, Aos, Soa, Aosoa, BitAos, BitSoa, Split, Byteswap, Bytesplit, Change, Count as Counted, Heat as Heated, Named, depth_of}
-use Rattle.map_expr.specs.Checks.{checked, has_counter, counts_once, bad_number, answered}
+use Rattle.saved_runs.proofs.Imports.{◌≡◌, ℕ, zero, suc, ◌+◌, ◌^◌, ◌<◌, ◌≤◌, Bool, true, false, not, ◌&&◌, List, [], ◌∷◌, ◌++◌, length, map, codes, nat_lt, Some, Result, Ok, Err, inr, refl, sym, ap, subst, append-nil, append_assoc, arith, ◌||◌, lt-ltb, ltb-false, Behind, IsNothing, Chain, Repeats, AreSpelled, joined, OpenBracket, CloseBracket, Colon, Comma, Fields, Record, Fixed, MapTerm, Aos, Soa, Aosoa, BitAos, BitSoa, Split, Byteswap, Bytesplit, Change, Counted, Heated, Named, depth_of, checked, has_counter, counts_once, bad_number, answered, accepted, else_for, bad_side, bad_field, not_full, Cell, Token, Word, Sign, Two, name_of, count_of, command_of, Sentence, New, Define, View, Phrase, IsName, IsCount, IsMore, IsListed, IsFixed, IsMode, IsNew, IsBody, IsCommand, IsLine, IsBracketList, count_token, written, IsSpelled, Each, fits_more, fits_flat, one_fits, word_spelled, fits_alone, decimal_spells, joined_reads, Header, is_wrap, view_line, HasLine}
+use Rattle.std.specs.Prelude.{if◌then◌else◌}
 use Rattle.map_expr.specs.declared.check.BadMapping.{BadMapping}
 use Rattle.map_expr.specs.declared.check.BadMapping.TheVariants as bad
-use Rattle.map_checks.specs.Mappings.{accepted, else_for, bad_side, bad_field, not_full}
-use Rattle.places.specs.declared.piece.Cell.{Cell}
-use Rattle.line_grammar.specs.declared.token.Token.{Token}
-use Rattle.line_grammar.specs.declared.token.Token.TheVariants.{Word, Sign}
-use Rattle.line_grammar.specs.declared.version.Version.TheVariants.{Two}
 use Rattle.line_grammar.specs.declared.line.Command.TheVariants as command
-use Rattle.line_grammar.specs.Tokens.{name_of, count_of, command_of}
-use Rattle.line_grammar.specs.Sentences.{Sentence, New, Define, View}
-use Rattle.line_grammar.specs.Grammar.{Phrase, IsName, IsCount, IsMore, IsListed, IsFixed, IsMode, IsNew, IsBody, IsCommand, IsLine, IsBracketList}
-use Rattle.line_writer.specs.Canonical.{count_token}
-use Rattle.line_writer.specs.Texts.{written}
-use Rattle.line_writer.proofs.Gives.{IsSpelled, Each}
-use Rattle.line_writer.proofs.Rooms.{fits_more, fits_flat, one_fits, word_spelled, fits_alone}
-use Rattle.line_writer.proofs.ReadsBack.{decimal_spells, joined_reads}
-use Rattle.blob_file.specs.Files.{Header, is_wrap, view_line}
-use Rattle.blob_file.specs.Headers.{HasLine}
 use Rattle.saved_runs.proofs.Told.{Told, told_nothing, told_item, told_behind, told_joined, told_first, told_second, told_inside}
 use Rattle.saved_runs.proofs.Maps.{HasTokens, height, told_map}
 use Rattle.saved_runs.proofs.Lines.{AreFields}

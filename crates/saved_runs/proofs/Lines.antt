@@ -1,27 +1,9 @@
 -- What the lines of the language say of the records, mapping expressions and extents in them.
-use Rattle.std.proofs.Common.{◌≡◌, ℕ, ◌+◌, ◌-◌, ◌^◌, ◌<◌, ◌≤◌, Bool, true, false, List, [], ◌∷◌, ◌++◌, map, codes, nat_lt, pos, negsuc, Some, None, if◌then◌else◌, refl, arith}
-use Rattle.std.proofs.lemmas.Bool.{ltb-true}
-use Rattle.line_tokens.specs.Signs.{opens, closes}
-use Rattle.line_tokens.specs.Spots.{brackets_after}
-use Rattle.line_tokens.specs.Spelled.{HasRoom, AreSpelled}
-use Rattle.line_tokens.specs.declared.sign.Sign.TheVariants.{OpenBracket, CloseBracket, Colon, Comma, Dot, Equals, Slash}
-use Rattle.line_tokens.specs.declared.token.TokenKind.{TokenKind}
+use Rattle.saved_runs.proofs.Imports.{◌≡◌, ℕ, ◌+◌, ◌-◌, ◌^◌, ◌<◌, ◌≤◌, Bool, true, false, List, [], ◌∷◌, ◌++◌, map, codes, nat_lt, pos, negsuc, Some, None, if◌then◌else◌, refl, arith, ltb-true, opens, closes, brackets_after, HasRoom, AreSpelled, OpenBracket, CloseBracket, Colon, Comma, Dot, Equals, Slash, TokenKind, Tree, Fields, Record, ExtentWord, Fixed, Rows, Token, Word, Number, Text, Sign, Bad, Two, Command, ShowKind, count_of, Sentence, New, Blank, Define, Mapping, View, Load, Assign, Update, Actors, Reduce, Count, Copy, Relayout, Show, Drop, Bytes, Save, Open, Advise, PrintWindow, Stencil, Phrase, IsCount, IsListed, IsFixed, IsExtent, IsBracketList, IsFields, IsNew, IsShowEnd, IsBody, IsLine, IsSentence, written, Each, each_append}
 use Rattle.line_tokens.specs.declared.token.TokenKind.TheVariants as kind
-use Rattle.record_dim.specs.Trees.{Tree, Fields, Record}
-use Rattle.extents.specs.declared.words.ExtentWord.{ExtentWord}
-use Rattle.extents.specs.declared.words.ExtentWord.TheVariants.{Fixed, Rows}
-use Rattle.line_grammar.specs.declared.token.Token.{Token}
-use Rattle.line_grammar.specs.declared.token.Token.TheVariants.{Word, Number, Text, Sign, Bad}
-use Rattle.line_grammar.specs.declared.version.Version.TheVariants.{Two}
-use Rattle.line_grammar.specs.declared.line.Command.{Command}
 use Rattle.line_grammar.specs.declared.line.Command.TheVariants as command
-use Rattle.line_grammar.specs.declared.line.ShowKind.{ShowKind}
 use Rattle.line_grammar.specs.declared.line.ShowKind.TheVariants as show
-use Rattle.line_grammar.specs.Tokens.{count_of}
-use Rattle.line_grammar.specs.Sentences.{Sentence, New, Blank, Define, Mapping, View, Load, Assign, Update, Actors, Kernel, Reduce, Count, Copy, Relayout, Show, Drop, Bytes, Save, Open, Advise, PrintWindow, Stencil}
-use Rattle.line_grammar.specs.Grammar.{Phrase, IsCount, IsListed, IsFixed, IsExtent, IsBracketList, IsFields, IsNew, IsShowEnd, IsBody, IsLine, IsSentence}
-use Rattle.line_writer.specs.Texts.{written}
-use Rattle.line_writer.proofs.Gives.{Each, each_append}
+use Rattle.line_grammar.specs.Sentences.{Kernel}
 use Rattle.saved_runs.proofs.Maps.{HasTokens, map_says}
 use Rattle.saved_runs.proofs.Says.{Says, says_nothing, says_behind, says_joined, says_either, says_repeats, says_any}
 

@@ -1,25 +1,6 @@
 -- The rows that a dataset leaves in a table.
-use Rattle.std.proofs.Common.{◌≡◌, ℕ, zero, suc, ◌+◌, ◌<◌, ◌≤◌, ℤ, pos, List, [], ◌∷◌, length, get_or, Result, Ok, Err, refl, sym, ap, ◌∙◌, subst, arith}
-use Rattle.std.specs.List.{slice_get, enumerate_from}
-use Rattle.std.proofs.lemmas.List.{length-map}
-use Rattle.extents.specs.Indices.{indices}
-use Rattle.record_dim.specs.declared.leaf_type.LeafType.{LeafType}
-use Rattle.record_dim.specs.Leaves.{Leaf, leaves, kinds_of, texts_of}
-use Rattle.record_dim.specs.Paths.{path_text_of}
-use Rattle.places.specs.declared.piece.Hold.{Hold}
-use Rattle.map_checks.specs.Mappings.{holds_by, leaf_cells}
-use Rattle.map_checks.specs.TermLaws.{length-holds}
-use Rattle.map_any.specs.AnyLaws.{length-leaf_cells}
-use Rattle.piece_bits.specs.Tables.{hold_at}
-use Rattle.piece_bits.specs.Modes.{kind_at, Stays}
-use Rattle.piece_bits.specs.declared.mode.StoreMode.{StoreMode}
-use Rattle.views.specs.AnswerLaws.{answer_stays}
-use Rattle.views.specs.Stores.{store_answer}
-use Rattle.views.specs.declared.fault.StoreFault.{StoreFault}
-use Rattle.csv_rows.specs.Datasets.{◌>>=◌, Place, header_of, rows_of, one_column, columns_named, columns_of, unspaced, number_of, the_field, the_number, taken, value_at, row_values, table_from, with_columns, dataset_table}
-use Rattle.csv_rows.specs.declared.fault.RowFault.{RowFault}
-use Rattle.line_writer.proofs.Gives.{Each}
-use Rattle.blob_file.specs.Files.{Header, AreRows}
+use Rattle.saved_runs.proofs.Imports.{◌≡◌, ℕ, zero, suc, ◌+◌, ◌<◌, ◌≤◌, ℤ, pos, List, [], ◌∷◌, length, get_or, Result, Ok, Err, refl, sym, ap, ◌∙◌, subst, arith, slice_get, enumerate_from, length-map, indices, LeafType, Leaf, leaves, kinds_of, texts_of, path_text_of, Hold, holds_by, leaf_cells, length-holds, length-leaf_cells, hold_at, kind_at, Stays, StoreMode, answer_stays, store_answer, StoreFault, Place, rows_of, one_column, columns_named, columns_of, unspaced, number_of, the_field, the_number, taken, value_at, row_values, table_from, with_columns, dataset_table, RowFault, Each, Header, AreRows}
+use Rattle.csv_rows.specs.Datasets.{◌>>=◌, header_of}
 use Rattle.saved_runs.proofs.Rows.{IsRow, are_rows}
 
 -- an answer that is given was given at each of its steps

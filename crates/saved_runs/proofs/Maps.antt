@@ -1,21 +1,7 @@
 -- The mapping expressions that lines say: their parts, and the tokens of such an expression.
-use Rattle.std.proofs.Common.{◌≡◌, ℕ, zero, suc, ◌+◌, ◌≤◌, max, List, [], ◌∷◌, codes, Option, Some, None, refl, sym, subst, arith}
-use Rattle.std.proofs.Math.Nat.{le-max_left, le-max_right}
-use Rattle.phrases.specs.Phrases.{IsItem, Behind}
-use Rattle.line_tokens.specs.declared.sign.Sign.TheVariants.{OpenBrace, CloseBrace, OpenBracket, CloseBracket, OpenParen, CloseParen, Colon, Comma, Dot, Arrow}
+use Rattle.saved_runs.proofs.Imports.{◌≡◌, ℕ, zero, suc, ◌+◌, ◌≤◌, max, List, [], ◌∷◌, codes, Option, Some, None, refl, sym, subst, arith, le-max_left, le-max_right, IsItem, Behind, OpenBrace, CloseBrace, OpenBracket, CloseBracket, OpenParen, CloseParen, Colon, Comma, Dot, Arrow, Order, FieldWidth, MapTerm, Aos, Soa, Aosoa, BitAos, BitSoa, Split, Byteswap, Bytesplit, Change, Counted, Heated, Named, Word, Sign, Two, MapWord, name_of, count_of, type_of, integer_type_of, order_of, aos_form_of, soa_form_of, map_word, form_word, Phrase, IsName, IsCount, IsPart, IsPath, IsFieldWidth, IsFieldWidths, IsBits, IsForm, IsFormOrName, IsMap, IsSpelled, fits_flat, one_fits, word_spelled}
 use Rattle.record_dim.specs.declared.path.PathStep.TheVariants as step
-use Rattle.extents.specs.declared.order.Order.{Order}
-use Rattle.map_expr.specs.declared.widths.FieldWidth.{FieldWidth}
-use Rattle.map_expr.specs.Terms.{Term as MapTerm, Aos, Soa, Aosoa, BitAos, BitSoa, Split, Byteswap, Bytesplit, Change, Count as Counted, Heat as Heated, Named}
-use Rattle.line_grammar.specs.declared.token.Token.TheVariants.{Word, Sign}
-use Rattle.line_grammar.specs.declared.version.Version.TheVariants.{Two}
-use Rattle.line_grammar.specs.declared.line.MapWord.{MapWord}
 use Rattle.line_grammar.specs.declared.line.MapWord.TheVariants as form
-use Rattle.line_grammar.specs.Tokens.{name_of, count_of, type_of, integer_type_of, order_of, aos_form_of, soa_form_of, map_word}
-use Rattle.line_grammar.specs.Words.{form_word}
-use Rattle.line_grammar.specs.Grammar.{Phrase, IsName, IsCount, IsPart, IsPath, IsFieldWidth, IsFieldWidths, IsBits, IsForm, IsFormOrName, IsMap}
-use Rattle.line_writer.proofs.Gives.{IsSpelled}
-use Rattle.line_writer.proofs.Rooms.{fits_flat, one_fits, word_spelled}
 use Rattle.saved_runs.proofs.Told.{Told, told_more, told_nothing, told_item, told_behind, told_joined, told_first, told_second, told_inside, Keeps, keeps_nothing, keeps_item, keeps_behind, keeps_joined, keeps_either, keeps_each, keeps_inside, keeps_listed}
 use Rattle.saved_runs.proofs.Says.{Says, says_nothing, says_behind, says_joined, says_either, says_told, says_item}
 

@@ -1,37 +1,8 @@
 -- What a savable table saves is opened as the table.
-use Rattle.std.proofs.Common.{◌≡◌, ℕ, ◌+◌, ◌*◌, ◌/◌, ◌^◌, ◌<◌, ◌≤◌, Bool, true, false, ℤ, List, [], ◌∷◌, ◌++◌, length, map, nat_lt, Option, Some, Result, Ok, inl, inr, refl, sym, ap, ◌∙◌, subst, length-append, arith}
-use Rattle.std.specs.Prelude.{◌||◌, is_some, sum_by}
-use Rattle.std.proofs.lemmas.Bool.{le-ltb, lt-leb, ltb-false}
-use Rattle.std.proofs.lemmas.List.{length-map}
-use Rattle.std.proofs.lemmas.List.Sums.{sum_by-cons}
-use Rattle.layout_io.specs.Files.{File, file_of}
+use Rattle.saved_runs.proofs.Imports.{◌≡◌, ℕ, ◌+◌, ◌*◌, ◌/◌, ◌^◌, ◌<◌, ◌≤◌, Bool, true, false, ℤ, List, [], ◌∷◌, ◌++◌, length, map, nat_lt, Option, Some, Result, Ok, inl, inr, refl, sym, ap, ◌∙◌, subst, length-append, arith, ◌||◌, is_some, sum_by, le-ltb, lt-leb, ltb-false, length-map, sum_by-cons, File, file_of, Owner, bit_held, image, bytes_of, length-bytes_of, indices, Open, Table, owners_of, leaf_count_of, Tally, Write, all_accesses, no_tally, tallied, Header, magic, four_bytes, record_text, view_text, header_text, IsShort, CanLie, Saved, opened, table_of, rows_in, header_of, blobs_of, OpensFiles, HoldsRows, FileFault, World, found, Goes, free, quiet, refused_if, ok_or, Done, tells, room, live_bits, blob_bits, with_view, there, read, is_long, save, open_view, opened_table, opened_beside, bad_file, step, CommandFault, Taken, TooBig, TooManyViews, IsSavable, once_written, OpensAs}
 use Rattle.layout_io.specs.Writing.{joined}
-use Rattle.places.specs.Layout.{Owner}
-use Rattle.places.specs.Image.{bit_held, image}
-use Rattle.instrument.specs.BlobTexts.{bytes_of}
-use Rattle.instrument.specs.BlobTextsLaws.{length-bytes_of}
-use Rattle.extents.specs.Indices.{indices}
-use Rattle.line_grammar.specs.Sentences.{Open}
-use Rattle.views.specs.Tables.{Table, owners_of, leaf_count_of}
-use Rattle.views.specs.Tallies.{Tally, Write, all_accesses, no_tally, tallied}
-use Rattle.blob_file.specs.Files.{Header, magic, four_bytes, record_text, view_text, header_text, IsShort}
 use Rattle.blob_file.specs.Files as saved_file
-use Rattle.blob_file.specs.Headers.{CanLie}
-use Rattle.blob_file.specs.Opened.{Saved, opened, table_of, rows_in}
-use Rattle.blob_file.specs.Saving.{header_of, blobs_of}
-use Rattle.blob_file.specs.Statements.{OpensFiles, HoldsRows}
-use Rattle.blob_file.specs.declared.fault.FileFault.{FileFault}
-use Rattle.worlds.specs.Worlds.{World, found}
-use Rattle.worlds.specs.Outcomes.{Goes, free, quiet, refused_if, ok_or}
-use Rattle.worlds.specs.OnView.{Done, tells}
-use Rattle.worlds.specs.Tables.{room, live_bits, blob_bits}
-use Rattle.worlds.specs.View.{with_view}
-use Rattle.worlds.specs.Load.{there, read}
-use Rattle.worlds.specs.Files.{is_long, save, open_view, opened_table, opened_beside, bad_file}
-use Rattle.worlds.specs.Step.{step}
-use Rattle.worlds.specs.declared.fault.CommandFault.{CommandFault}
-use Rattle.worlds.specs.declared.fault.CommandFault.TheVariants.{Taken, TooBig, TooManyViews}
-use Rattle.saved_runs.specs.SavedRuns.{IsSavable, HasRoom, once_written, OpensAs}
+use Rattle.saved_runs.specs.SavedRuns.{HasRoom}
 use Rattle.saved_runs.proofs.Went.{went, leads, same_things, unrefused}
 
 -- ---- the file of a table

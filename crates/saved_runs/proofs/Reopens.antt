@@ -1,14 +1,5 @@
 -- What a save writes is opened as the table that it saves.
-use Rattle.std.proofs.Common.{◌≡◌, ℕ, List, Some, sym, ap, ◌∙◌, subst}
-use Rattle.views.specs.Tables.{Table, after_stores}
-use Rattle.worlds.specs.Worlds.{World, found}
-use Rattle.worlds.specs.Files.{save}
-use Rattle.worlds.specs.OnView.{Done, done_to, on_view, with_table}
-use Rattle.worlds.specs.Outcomes.{Goes, LeftOf, Left, known}
-use Rattle.worlds.specs.Step.{step}
-use Rattle.equal_runs.specs.GoesLaws.{known_found}
-use Rattle.saved_runs.specs.Runs.{RunsSavable, RunsReopen}
-use Rattle.saved_runs.specs.SavedRuns.{once_written, OpensAs, SavedOpens}
+use Rattle.saved_runs.proofs.Imports.{◌≡◌, ℕ, List, Some, sym, ap, ◌∙◌, subst, Table, after_stores, World, found, save, Done, done_to, on_view, with_table, Goes, LeftOf, Left, known, step, known_found, RunsSavable, RunsReopen, once_written, OpensAs, SavedOpens}
 use Rattle.saved_runs.proofs.Went.{went, same_things}
 
 -- the table that was saved, and what was done to it

@@ -1,30 +1,5 @@
 -- Rows that a view of a header may hold, and those that commands make of them.
-use Rattle.std.proofs.Common.{◌≡◌, ℕ, zero, suc, ◌+◌, ◌-◌, ◌<◌, ◌≤◌, ⊎_elim, Bool, true, false, ℤ, pos, List, [], ◌∷◌, length, map, get_or, set, Option, Some, None, Result, Ok, Err, is_ok, if◌then◌else◌, refl, sym, ◌∙◌, subst, arith, get_or-set_other, get_or-set_same}
-use Rattle.std.specs.List.{enumerate_from}
-use Rattle.std.proofs.lemmas.Bool.{cases_eq}
-use Rattle.std.proofs.lemmas.Int.{ints}
-use Rattle.std.proofs.lemmas.List.{length-map}
-use Rattle.std.proofs.lemmas.Nat.{pow_pos}
-use Rattle.std.proofs.lemmas.List.FromFn.{length-enumerate_from}
-use Rattle.std.proofs.Math.ListN.{length-set}
-use Rattle.extents.specs.Indices.{indices}
-use Rattle.record_dim.specs.declared.leaf_type.LeafType.{LeafType}
-use Rattle.record_dim.specs.declared.leaf_type.LeafType.TheVariants.{Bool as Truth}
-use Rattle.record_dim.specs.Leaves.{Leaf, leaves, kinds_of}
-use Rattle.record_dim.specs.LeafTypes.{IsIn, IsDeclared, is_signed, width_of}
-use Rattle.map_checks.specs.Mappings.{holds_by}
-use Rattle.places.specs.Image.{entry}
-use Rattle.piece_bits.specs.Tables.{HasShape, hold_at, with_entry, zeros}
-use Rattle.piece_bits.specs.TableLaws.{zeros_shape, zeros_entry}
-use Rattle.piece_bits.specs.EntryLaws.{fitting_stays}
-use Rattle.piece_bits.specs.Modes.{kind_at, Stays}
-use Rattle.views.specs.AnswerLaws.{answer_stays}
-use Rattle.views.specs.Stores.{Answer, Keeping, kept_or, kept_by, kept_row, kept_rows}
-use Rattle.views.specs.declared.fault.StoreFault.{StoreFault}
-use Rattle.layout_copy.specs.Copies.{refusing, refused_at, spot_or, Spot}
-use Rattle.line_writer.proofs.Gives.{Each}
-use Rattle.blob_file.specs.Files.{Header, AreRows}
-use Rattle.blob_file.specs.Opened.{answer_by}
+use Rattle.saved_runs.proofs.Imports.{◌≡◌, ℕ, zero, suc, ◌+◌, ◌-◌, ◌<◌, ◌≤◌, ⊎_elim, Bool, true, false, ℤ, pos, List, [], ◌∷◌, length, map, get_or, set, Option, Some, None, Result, Ok, Err, is_ok, if◌then◌else◌, refl, sym, ◌∙◌, subst, arith, get_or-set_other, get_or-set_same, enumerate_from, cases_eq, ints, length-map, pow_pos, length-enumerate_from, length-set, indices, LeafType, Truth, Leaf, leaves, kinds_of, IsIn, IsDeclared, is_signed, width_of, holds_by, entry, HasShape, hold_at, with_entry, zeros, zeros_shape, zeros_entry, fitting_stays, kind_at, Stays, answer_stays, Answer, Keeping, kept_or, kept_by, kept_row, kept_rows, StoreFault, refusing, refused_at, spot_or, Spot, Each, Header, AreRows, answer_by}
 
 -- ---- rows one by one
 

@@ -1,23 +1,7 @@
 -- Each table of a run can be said by a file.
-use Rattle.std.proofs.Common.{ℕ, ◌+◌, List, [], ◌∷◌, Option, Result, subst}
-use Rattle.std.specs.Prelude.{MatchResult}
-use Rattle.layout_io.specs.Files.{File}
-use Rattle.line_grammar.specs.Reads.{Reads, StopsAt}
-use Rattle.line_grammar.specs.Sentences.{Sentence}
-use Rattle.line_grammar.specs.declared.version.Version.{Version}
-use Rattle.line_grammar.specs.declared.version.Version.TheVariants.{Two}
-use Rattle.schema_lang.specs.LineOf.{line_of}
-use Rattle.line_writer.specs.Canonical.{line_tokens}
-use Rattle.line_writer.proofs.ReadsBack.{tokens_read}
-use Rattle.blob_file.specs.Statements.{OpensFiles, HoldsBits, HoldsRows}
-use Rattle.worlds.specs.Outcomes.{Left}
-use Rattle.worlds.specs.Step.{step}
-use Rattle.worlds.specs.Fold.{fails_at}
-use Rattle.equal_runs.specs.Lines.{IsLine, AreLines}
-use Rattle.equal_runs.specs.Logs.{SoFar, at_first, one_more, Comes, there, further}
-use Rattle.equal_runs.specs.GoesLaws.{gone}
-use Rattle.saved_runs.specs.Runs.{RunsSavable}
-use Rattle.saved_runs.specs.SavedRuns.{IsSavable}
+use Rattle.saved_runs.proofs.Imports.{ℕ, ◌+◌, List, [], ◌∷◌, Option, Result, subst, MatchResult, File, Reads, StopsAt, Sentence, Version, Two, line_of, line_tokens, tokens_read, OpensFiles, HoldsBits, HoldsRows, Left, step, fails_at, AreLines, SoFar, at_first, one_more, Comes, further, gone, RunsSavable, IsSavable}
+use Rattle.equal_runs.specs.Lines.{IsLine}
+use Rattle.equal_runs.specs.Logs.{there}
 use Rattle.saved_runs.proofs.Lines.{IsSaid, sentence_said}
 use Rattle.saved_runs.proofs.Worlds.{IsGoodWorld, of_found}
 use Rattle.saved_runs.proofs.Steps.{step_good}

@@ -1,29 +1,6 @@
 -- What is opened of a file saves as its bytes.
-use Rattle.std.proofs.Common.{◌≡◌, ℕ, ◌+◌, ◌*◌, ◌^◌, Bool, false, List, [], length, nat_lt, Option, Some, None, Ok, sym, ap, ◌∙◌, subst}
-use Rattle.std.specs.Prelude.{◌||◌}
-use Rattle.std.proofs.lemmas.Bool.{le-ltb}
-use Rattle.layout_io.specs.Files.{File, file_of}
-use Rattle.views.specs.Tables.{Table}
-use Rattle.views.specs.TallyLaws.{after_log-none}
-use Rattle.blob_file.specs.Files.{record_text, view_text, AreRows, IsFile, IsShort, image_bytes}
+use Rattle.saved_runs.proofs.Imports.{◌≡◌, ℕ, ◌+◌, ◌*◌, ◌^◌, Bool, false, List, [], length, nat_lt, Option, Some, None, Ok, sym, ap, ◌∙◌, subst, ◌||◌, le-ltb, File, file_of, Table, after_log-none, record_text, view_text, AreRows, IsFile, IsShort, image_bytes, HasLines, CanLie, Saved, opened, table_of, rows_in, header_of, blobs_of, OpensFiles, HoldsRows, World, Entry, found, Outcome, Goes, ◌>>=◌, Left, free, shows, some_or, refused_if, ok_or, Done, done_to, on_view, tells, with_table, room, live_bits, blob_bits, with_view, read, is_long, save, open_view, opened_table, opened_beside, bad_file, step, Taken, TooBig, Unknown, Name, found_added, free_found, IsSavable, SavesBack, OpenedSaves}
 use Rattle.blob_file.specs.Files as saved_file
-use Rattle.blob_file.specs.Headers.{HasLines, CanLie}
-use Rattle.blob_file.specs.Opened.{Saved, opened, table_of, rows_in}
-use Rattle.blob_file.specs.Saving.{header_of, blobs_of}
-use Rattle.blob_file.specs.Statements.{OpensFiles, HoldsRows}
-use Rattle.worlds.specs.Worlds.{World, Entry, found}
-use Rattle.worlds.specs.Outcomes.{Outcome, Goes, ◌>>=◌, Left, free, shows, some_or, refused_if, ok_or}
-use Rattle.worlds.specs.OnView.{Done, done_to, on_view, tells, with_table}
-use Rattle.worlds.specs.Tables.{room, live_bits, blob_bits}
-use Rattle.worlds.specs.View.{with_view}
-use Rattle.worlds.specs.Load.{read}
-use Rattle.worlds.specs.Files.{is_long, save, open_view, opened_table, opened_beside, bad_file}
-use Rattle.worlds.specs.Step.{step}
-use Rattle.worlds.specs.declared.fault.CommandFault.TheVariants.{Taken, TooBig, Unknown}
-use Rattle.worlds.specs.declared.fault.UnknownName.TheVariants.{Name}
-use Rattle.equal_runs.specs.EntryLaws.{found_added}
-use Rattle.equal_runs.specs.GoesLaws.{free_found}
-use Rattle.saved_runs.specs.SavedRuns.{IsSavable, SavesBack, OpenedSaves}
 use Rattle.saved_runs.proofs.Went.{went, same_things, answered, was_read, replaced_same}
 
 -- what was opened of a file: its table stands under the name, where there was none

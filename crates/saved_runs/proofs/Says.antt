@@ -1,14 +1,5 @@
 -- What holds of the value of each phrase whose tokens are spelled, taken apart as the phrases are.
-use Rattle.std.proofs.Common.{◌≡◌, ℕ, zero, suc, List, [], ◌∷◌, ◌++◌, Option, None, map, inl, inr}
-use Rattle.phrases.specs.Phrases.{IsItem, Behind, Joined, IsEither, IsNothing, Chain, Repeats}
-use Rattle.line_tokens.specs.Spots.{brackets_after}
-use Rattle.line_tokens.specs.Spelled.{AreSpelled}
-use Rattle.line_tokens.specs.declared.sign.Sign.{Sign as SignName}
-use Rattle.line_grammar.specs.declared.token.Token.{Token}
-use Rattle.line_grammar.specs.declared.token.Token.TheVariants.{Sign}
-use Rattle.line_grammar.specs.Grammar.{Phrase}
-use Rattle.line_writer.specs.Texts.{written}
-use Rattle.line_writer.proofs.Gives.{IsSpelled, Each}
+use Rattle.saved_runs.proofs.Imports.{◌≡◌, ℕ, zero, suc, List, [], ◌∷◌, ◌++◌, Option, None, map, inl, inr, IsItem, Behind, Joined, IsEither, IsNothing, Chain, Repeats, brackets_after, AreSpelled, SignName, Token, Sign, Phrase, written, IsSpelled, Each}
 use Rattle.saved_runs.proofs.Told.{Told, Keeps, keeps_item}
 
 -- where tokens are spelled and a phrase, wherever they stand, `P` holds of the value

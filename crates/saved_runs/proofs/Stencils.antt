@@ -1,14 +1,7 @@
 -- The rows that stencils leave.
-use Rattle.std.proofs.Common.{◌≡◌, ℕ, zero, suc, ◌<◌, ◌≤◌, true, ℤ, List, [], ◌∷◌, length, Result, Ok, Err, is_ok, refl, subst}
-use Rattle.record_dim.specs.Leaves.{kinds_of}
-use Rattle.map_checks.specs.Mappings.{holds_by}
-use Rattle.piece_bits.specs.Tables.{hold_at, with_entry}
-use Rattle.views.specs.declared.fault.StoreFault.{StoreFault}
+use Rattle.saved_runs.proofs.Imports.{◌≡◌, ℕ, zero, suc, ◌<◌, ◌≤◌, true, ℤ, List, [], ◌∷◌, length, Result, Ok, Err, is_ok, refl, subst, kinds_of, holds_by, hold_at, with_entry, StoreFault, stencil_value, at_row, values_fault, with_column, new_entry, if_fits, round, next_round, after_rounds, StencilFault, Header, AreRows, answer_by}
 use Rattle.subviews.specs.SubViews.{rows_of}
-use Rattle.subviews.specs.Stencils.{Stencil, stencil_value, at_row, values_fault, with_column, new_entry, if_fits, round, next_round, after_rounds}
-use Rattle.subviews.specs.declared.fault.StencilFault.{StencilFault}
-use Rattle.blob_file.specs.Files.{Header, AreRows}
-use Rattle.blob_file.specs.Opened.{answer_by}
+use Rattle.subviews.specs.Stencils.{Stencil}
 use Rattle.saved_runs.proofs.Rows.{entry_rows, taken_stays}
 
 -- rows that are given, and whether values fit

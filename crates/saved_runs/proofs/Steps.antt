@@ -1,43 +1,6 @@
 -- Each line of a run leaves a world whose tables files can say.
-use Rattle.std.proofs.Common.{◌≡◌, ℕ, ◌^◌, ◌<◌, ◌≤◌, Bool, true, false, ℤ, nat_lt, not, List, length, Option, Some, None, ⊎_elim, refl, sym, ap, ◌∙◌, subst, arith}
-use Rattle.std.proofs.lemmas.Bool.{false≢true, cases_eq}
-use Rattle.extents.specs.Indices.{indices}
-use Rattle.extents.specs.IndicesLaws.{length-indices}
-use Rattle.layout_io.specs.Files.{File}
-use Rattle.line_grammar.specs.Sentences.{Sentence, New}
+use Rattle.saved_runs.proofs.Imports.{◌≡◌, ℕ, ◌^◌, ◌<◌, ◌≤◌, Bool, true, false, ℤ, nat_lt, not, List, length, Option, Some, None, ⊎_elim, refl, sym, ap, ◌∙◌, subst, arith, false≢true, cases_eq, indices, length-indices, File, Sentence, New, Two, MapTerm, holds_by, HasShape, hold_at, leaves, kinds_of, Fields, records_of, rows_of, dataset_of, AreAlike, refused_at, kept_rows, Table, answer_of, kept_of, leaf_count_of, after_stores, Access, Read, all_accesses, line_tokens, tokens_read, AreRows, view_line, header_of, OpensFiles, HoldsBits, HoldsRows, World, Entry, found, replaced, copy, copied, with_rows, all_read, laid_anew, relayout, are_alike, narrow_fault, open_view, opened_table, load, loaded_table, loaded, filled, read, row_fault, nameless, Done, Work, done_to, on_view, worked, Outcome, Goes, LeftOf, Left, known, refused_if, refused_by, ok_or, drop_view, step, work_of, resolved, made, zeros_of, named, new_table, view, with_view, Mismatch, TooBig, not_alike, IfGoes, to, refused, unread, bind, behind, known_found, IsSavable}
 use Rattle.line_grammar.specs.Sentences as line
-use Rattle.line_grammar.specs.declared.version.Version.TheVariants.{Two}
-use Rattle.map_expr.specs.Terms.{Term as MapTerm}
-use Rattle.map_checks.specs.Mappings.{holds_by}
-use Rattle.piece_bits.specs.Tables.{HasShape, hold_at}
-use Rattle.record_dim.specs.Leaves.{leaves, kinds_of}
-use Rattle.record_dim.specs.Trees.{Fields}
-use Rattle.csv_rows.specs.Datasets.{records_of, rows_of}
-use Rattle.csv_rows.specs.Loads.{dataset_of}
-use Rattle.layout_copy.specs.Copies.{AreAlike, refused_at}
-use Rattle.views.specs.Stores.{kept_rows}
-use Rattle.views.specs.Tables.{Table, answer_of, kept_of, leaf_count_of, after_stores}
-use Rattle.views.specs.Tallies.{Access, Read, all_accesses}
-use Rattle.line_writer.specs.Canonical.{line_tokens}
-use Rattle.line_writer.proofs.ReadsBack.{tokens_read}
-use Rattle.blob_file.specs.Files.{AreRows, view_line}
-use Rattle.blob_file.specs.Saving.{header_of}
-use Rattle.blob_file.specs.Statements.{OpensFiles, HoldsBits, HoldsRows}
-use Rattle.worlds.specs.Worlds.{World, Entry, found, replaced}
-use Rattle.worlds.specs.Copy.{copy, copied, with_rows, all_read, laid_anew, relayout, are_alike, narrow_fault}
-use Rattle.worlds.specs.Files.{open_view, opened_table}
-use Rattle.worlds.specs.Load.{load, loaded_table, loaded, filled, read, row_fault}
-use Rattle.worlds.specs.Names.{nameless}
-use Rattle.worlds.specs.OnView.{Done, Work, done_to, on_view, worked}
-use Rattle.worlds.specs.Outcomes.{Outcome, Goes, LeftOf, Left, known, refused_if, refused_by, ok_or}
-use Rattle.worlds.specs.Show.{drop_view}
-use Rattle.worlds.specs.Step.{step, work_of}
-use Rattle.worlds.specs.Tables.{resolved, made, zeros_of}
-use Rattle.worlds.specs.View.{named, new_table, view, with_view}
-use Rattle.worlds.specs.declared.fault.CommandFault.TheVariants.{Mismatch, TooBig}
-use Rattle.command_checks.specs.AlikeLaws.{not_alike}
-use Rattle.equal_runs.specs.GoesLaws.{IfGoes, to, refused, unread, bind, behind, known_found}
-use Rattle.saved_runs.specs.SavedRuns.{IsSavable}
 use Rattle.saved_runs.proofs.Went.{unrefused, answered}
 use Rattle.saved_runs.proofs.Saves.{table_opened, table_savable}
 use Rattle.saved_runs.proofs.Maps.{HasTokens}

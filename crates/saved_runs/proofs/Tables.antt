@@ -1,32 +1,6 @@
 -- New tables of a run can be said by a file.
-use Rattle.std.proofs.Common.{◌≡◌, ◌⊎◌, ℕ, ◌+◌, ◌*◌, ◌^◌, ◌<◌, false, nat_lt, List, length, Option, Some, None, Ok, ⊎_elim, refl, arith}
-use Rattle.std.specs.Prelude.{sum_by, IfSome}
-use Rattle.std.proofs.lemmas.Bool.{ltb-false}
-use Rattle.extents.specs.Indices.{product}
-use Rattle.extents.specs.Shapes.{bad_shape, bad_extents, extents_for}
-use Rattle.extents.specs.declared.words.ExtentWord.{ExtentWord}
-use Rattle.record_dim.specs.Leaves.{kinds_of}
-use Rattle.record_dim.specs.Trees.{Fields}
-use Rattle.places.specs.Layout.{Owner}
-use Rattle.map_expr.specs.Terms.{Term as MapTerm}
-use Rattle.map_checks.specs.Mappings.{accepted, leaf_cells, layout_by, most_slots}
-use Rattle.piece_bits.specs.declared.mode.StoreMode.{StoreMode}
-use Rattle.line_grammar.specs.Sentences.{New}
-use Rattle.views.specs.Refusals.{IsOver}
-use Rattle.views.specs.Tallies.{granules_for}
-use Rattle.views.specs.Tables.{Table, owners_of}
-use Rattle.line_writer.proofs.Gives.{Each}
-use Rattle.blob_file.specs.Headers.{HasLines, CanLie}
-use Rattle.blob_file.specs.Saving.{header_of}
-use Rattle.blob_file.specs.Statements.{HoldsBits}
-use Rattle.worlds.specs.Worlds.{World, Entry, found}
-use Rattle.worlds.specs.Names.{nameless}
-use Rattle.worlds.specs.Outcomes.{free, known, refused_if, refused_by, ok_or}
-use Rattle.worlds.specs.Tables.{room, shaped, resolved, made, zeros_of, blob_bits, live_bits}
-use Rattle.worlds.specs.View.{Named, named}
-use Rattle.worlds.specs.declared.fault.CommandFault.TheVariants.{BadExtents, BadMapping, TooBig}
-use Rattle.equal_runs.specs.GoesLaws.{IfGoes, to, bind, behind, known_found}
-use Rattle.saved_runs.specs.SavedRuns.{IsSavable}
+use Rattle.saved_runs.proofs.Imports.{◌≡◌, ◌⊎◌, ℕ, ◌+◌, ◌*◌, ◌^◌, ◌<◌, false, nat_lt, List, length, Option, Some, None, Ok, ⊎_elim, refl, arith, sum_by, IfSome, ltb-false, product, bad_shape, bad_extents, extents_for, ExtentWord, kinds_of, Fields, Owner, MapTerm, accepted, leaf_cells, layout_by, most_slots, StoreMode, New, IsOver, granules_for, Table, owners_of, Each, HasLines, CanLie, header_of, HoldsBits, World, Entry, found, nameless, free, known, refused_if, refused_by, ok_or, room, shaped, resolved, made, zeros_of, blob_bits, live_bits, named, BadExtents, BadMapping, TooBig, IfGoes, to, bind, behind, known_found, IsSavable}
+use Rattle.worlds.specs.View.{Named}
 use Rattle.saved_runs.proofs.Went.{unrefused, answered}
 use Rattle.saved_runs.proofs.Maps.{HasTokens}
 use Rattle.saved_runs.proofs.Lines.{IsLow}

@@ -1,14 +1,5 @@
 -- Spelled tokens that are a phrase, put together as the phrases are.
-use Rattle.std.proofs.Common.{◌≡◌, ℕ, zero, suc, ◌+◌, ◌≤◌, true, false, List, [], ◌∷◌, ◌++◌, Option, Some, None, inl, inr, refl, arith}
-use Rattle.phrases.specs.Phrases.{IsItem, Behind, Joined, IsEither, IsNothing, Chain, Repeats}
-use Rattle.line_tokens.specs.Signs.{opens, closes}
-use Rattle.line_tokens.specs.declared.sign.Sign.{Sign as SignName}
-use Rattle.line_tokens.specs.declared.sign.Sign.TheVariants.{Comma}
-use Rattle.line_grammar.specs.declared.token.Token.{Token}
-use Rattle.line_grammar.specs.declared.token.Token.TheVariants.{Word, Number, Text, Sign, Bad}
-use Rattle.line_grammar.specs.Grammar.{Phrase, IsMore, IsListed}
-use Rattle.line_writer.proofs.Gives.{IsSpelled, Each, each_front, each_back}
-use Rattle.line_writer.proofs.Rooms.{Fits, no_tokens_fit, fits_more, fits_append, fits_flat, fits_inside, one_fits}
+use Rattle.saved_runs.proofs.Imports.{◌≡◌, ℕ, zero, suc, ◌+◌, ◌≤◌, true, false, List, [], ◌∷◌, ◌++◌, Option, Some, None, inl, inr, refl, arith, IsItem, Behind, Joined, IsEither, IsNothing, Chain, Repeats, opens, closes, SignName, Comma, Token, Word, Number, Text, Sign, Bad, Phrase, IsMore, IsListed, IsSpelled, Each, each_front, each_back, Fits, no_tokens_fit, fits_more, fits_append, fits_flat, fits_inside, one_fits}
 
 -- some spelled tokens are a phrase with this value: they close all brackets that they open, and have at most k of them open at once
 pub record Told {A : Type 0} (k : ℕ) (Is : Phrase A) (v : A) : Type 0 where

@@ -1,11 +1,6 @@
 -- What goes went at each of its steps, and a step that goes leads to the next.
-use Rattle.std.proofs.Common.{◌≡◌, ℕ, Bool, true, false, List, [], ◌∷◌, Option, Some, None, Result, Ok, Err, refl, ap, ◌∙◌}
+use Rattle.saved_runs.proofs.Imports.{◌≡◌, ℕ, Bool, true, false, List, [], ◌∷◌, Option, Some, None, Result, Ok, Err, refl, ap, ◌∙◌, File, file_of, Entry, same_name, found, replaced, Outcome, Goes, Faults, CannotRead, ◌>>=◌, refused_if, ok_or, there, read, CommandFault}
 use Rattle.std.specs.Prelude.{if◌then◌else◌}
-use Rattle.layout_io.specs.Files.{File, file_of}
-use Rattle.worlds.specs.Worlds.{Entry, same_name, found, replaced}
-use Rattle.worlds.specs.Outcomes.{Outcome, Goes, Faults, CannotRead, ◌>>=◌, refused_if, ok_or}
-use Rattle.worlds.specs.Load.{there, read}
-use Rattle.worlds.specs.declared.fault.CommandFault.{CommandFault}
 
 -- a step that went, and what it led to
 pub record Went {A B : Type 0} (x : Outcome A) (f : A → Outcome B) (b : B) : Type 0 where

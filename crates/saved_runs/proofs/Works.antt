@@ -1,53 +1,9 @@
 -- A command on one view leaves rows that the view may hold.
-use Rattle.std.proofs.Common.{ℕ, ◌<◌, ◌≤◌, Bool, List, [], length, get_or, Option, Some, None}
-use Rattle.std.specs.Prelude.{◌^◌, not, nat_le, nat_lt}
-use Rattle.extents.specs.Indices.{indices}
-use Rattle.extents.specs.declared.window.Span.{Span}
-use Rattle.record_dim.specs.declared.path.PathStep.{PathStep}
-use Rattle.record_dim.specs.Leaves.{kinds_of}
-use Rattle.map_expr.specs.Terms.{Term as MapTerm}
-use Rattle.map_checks.specs.Mappings.{holds_by}
-use Rattle.piece_bits.specs.Tables.{hold_at}
-use Rattle.linearize.specs.Slots.{place_in}
-use Rattle.line_grammar.specs.Sentences.{Sentence, Value, Assignment}
+use Rattle.saved_runs.proofs.Imports.{ℕ, ◌<◌, ◌≤◌, Bool, List, [], length, get_or, Option, Some, None, nat_le, indices, Span, PathStep, kinds_of, MapTerm, holds_by, hold_at, place_in, Sentence, Value, Assignment, KernelText, PassText, ReduceKind, ShowKind, TermText, advice, stenciled, kernel_fault, actor_of, shared_byte, updated_rows, updated_of, counted, Table, owners_of, answer_of, kept_of, AreRows, header_of, HoldsBits, World, Entry, updated_by_actors, fit_cuts, shared, advise, asked, advise_fault, assigned, inside, save, is_long, kernel_run, fit_kernel, run_fault, leaf_of, bound, bound_filter, bound_sets, each_once, leaves_of, text_of_leaf, Done, Work, some_or, refused_if, refused_by, ok_or, reduction, reduced, column, counting, print, counts, heat, layout, bytes, showing, small, image_of, stencil_run, fit_stencil, room_beside, stencil_fault, work_of, live_bits, updated, update_fault, value_on, storable, windowed, print_window, Cuts, Turns, BadActors, BadIndex, NotCounted, TooBig, IfGoes, to, bind, IsSavable}
+use Rattle.std.specs.Prelude.{◌^◌, not, nat_lt}
 use Rattle.line_grammar.specs.Sentences as line
-use Rattle.line_grammar.specs.declared.line.KernelText.{KernelText}
-use Rattle.line_grammar.specs.declared.line.PassText.{PassText}
-use Rattle.line_grammar.specs.declared.line.ReduceKind.{ReduceKind}
-use Rattle.line_grammar.specs.declared.line.ShowKind.{ShowKind}
 use Rattle.line_grammar.specs.declared.line.ShowKind.TheVariants as show
-use Rattle.line_grammar.specs.declared.line.TermText.{TermText}
-use Rattle.advisor.specs.Advice.{advice}
-use Rattle.subviews.specs.Stencils.{stenciled}
-use Rattle.lane_kernels.specs.Kernels.{kernel_fault}
-use Rattle.actor_steps.specs.Cuts.{actor_of}
-use Rattle.actor_steps.specs.Shared.{shared_byte}
-use Rattle.row_updates.specs.Rows.{updated_rows, updated_of, counted}
-use Rattle.views.specs.Tables.{Table, owners_of, answer_of, kept_of}
-use Rattle.blob_file.specs.Files.{AreRows}
-use Rattle.blob_file.specs.Saving.{header_of}
-use Rattle.blob_file.specs.Statements.{HoldsBits}
-use Rattle.worlds.specs.Worlds.{World, Entry}
-use Rattle.worlds.specs.Actors.{updated_by_actors, fit_cuts, shared}
-use Rattle.worlds.specs.Advise.{advise, asked, advise_fault}
-use Rattle.worlds.specs.Assign.{assigned, inside}
-use Rattle.worlds.specs.Files.{save, is_long}
-use Rattle.worlds.specs.Kernel.{kernel_run, fit_kernel, run_fault}
-use Rattle.worlds.specs.Names.{leaf_of, bound, bound_filter, bound_sets, each_once, leaves_of, text_of_leaf}
-use Rattle.worlds.specs.OnView.{Done, Work}
-use Rattle.worlds.specs.Outcomes.{some_or, refused_if, refused_by, ok_or}
-use Rattle.worlds.specs.Reduce.{reduction, reduced, column, counting}
-use Rattle.worlds.specs.Show.{print, counts, heat, layout, bytes, showing, small, image_of}
-use Rattle.worlds.specs.Stencil.{stencil_run, fit_stencil, room_beside, stencil_fault}
-use Rattle.worlds.specs.Step.{work_of}
-use Rattle.worlds.specs.Tables.{live_bits}
-use Rattle.worlds.specs.Update.{updated, update_fault}
-use Rattle.worlds.specs.Values.{value_on, storable, store_fault}
-use Rattle.worlds.specs.Windows.{windowed, print_window}
-use Rattle.worlds.specs.declared.fault.BadActors.TheVariants.{Cuts, Turns}
-use Rattle.worlds.specs.declared.fault.CommandFault.TheVariants.{BadActors, BadIndex, NotCounted, TooBig}
-use Rattle.equal_runs.specs.GoesLaws.{IfGoes, to, bind}
-use Rattle.saved_runs.specs.SavedRuns.{IsSavable}
+use Rattle.worlds.specs.Values.{store_fault}
 use Rattle.saved_runs.proofs.Went.{answered}
 use Rattle.saved_runs.proofs.Rows.{entry_rows, answered_stays}
 use Rattle.saved_runs.proofs.Changes.{update_stays, kernel_stays}

@@ -1,23 +1,8 @@
 -- What a run over lines of the language has in its world, line after line.
-use Rattle.std.proofs.Common.{◌≡◌, ℕ, Bool, true, false, List, [], ◌∷◌, codes, Option, Some, None, refl, sym, subst}
+use Rattle.saved_runs.proofs.Imports.{◌≡◌, ℕ, Bool, true, false, List, [], ◌∷◌, codes, Option, Some, None, refl, sym, subst, and_from, Tree, Fields, Record, MapTerm, Aos, Soa, Aosoa, BitAos, BitSoa, Split, Byteswap, Bytesplit, Change, Counted, Heated, NamedTerm, checked, Each, is_nameless, HasLine, World, Entry, same_name, found, added, replaced, removed, define, fit, fields_in, mapping, nameless, Outcome, Goes, Faults, CannotRead, ◌>>=◌, Left, known, free, refused_by, ok_or, CommandFault, BadRecord, BadMapping, IfGoes, to, refused, unread, bind, behind, known_found, IsSavable}
 use Rattle.std.specs.Prelude.{if◌then◌else◌}
-use Rattle.std.proofs.lemmas.Bool.{and_from}
 use Rattle.record_dim.specs.Leaves.{first_fault}
-use Rattle.record_dim.specs.Trees.{Tree, Fields, Record}
-use Rattle.map_expr.specs.Terms.{Term as MapTerm, Aos, Soa, Aosoa, BitAos, BitSoa, Split, Byteswap, Bytesplit, Change, Count as Counted, Heat as Heated, Named as NamedTerm}
-use Rattle.map_expr.specs.Checks.{checked}
 use Rattle.line_grammar.specs.Sentences as line
-use Rattle.line_writer.proofs.Gives.{Each}
-use Rattle.blob_file.specs.Headers.{is_nameless, HasLine}
-use Rattle.worlds.specs.Worlds.{World, Entry, same_name, found, added, replaced, removed}
-use Rattle.worlds.specs.Define.{define, fit, fields_in}
-use Rattle.worlds.specs.Mapping.{mapping}
-use Rattle.worlds.specs.Names.{nameless}
-use Rattle.worlds.specs.Outcomes.{Outcome, Goes, Faults, CannotRead, ◌>>=◌, Left, known, free, refused_by, ok_or}
-use Rattle.worlds.specs.declared.fault.CommandFault.{CommandFault}
-use Rattle.worlds.specs.declared.fault.CommandFault.TheVariants.{BadRecord, BadMapping}
-use Rattle.equal_runs.specs.GoesLaws.{IfGoes, to, refused, unread, bind, behind, known_found}
-use Rattle.saved_runs.specs.SavedRuns.{IsSavable}
 use Rattle.saved_runs.proofs.Maps.{HasTokens}
 use Rattle.saved_runs.proofs.Lines.{IsRecord}
 use Rattle.saved_runs.proofs.Headers.{record_has_line}

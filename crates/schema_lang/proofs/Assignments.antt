@@ -1,21 +1,5 @@
 -- How the assignments of an update are read, and how their reading goes on.
-use Rattle.std.proofs.Common.{◌≡◌, ℕ, true, false, List, [], ◌∷◌, ◌++◌, map, codes, Some, None, Ok, Err, refl, sym, ap, ◌∙◌, arith}
-use Rattle.phrases.specs.Reading.{starts, past, behind_at}
-use Rattle.phrases.specs.ParsesLaws.{Parses, behind_parses, either_parses, give_parses, then_parses}
-use Rattle.phrases.specs.MoreLaws.{Takes, behind_bare, behind_starts, behind_stepped, behind_stop, listed_takes, more_end}
-use Rattle.line_tokens.specs.declared.sign.Sign.TheVariants.{Comma, Equals}
-use Rattle.line_grammar.specs.declared.line.SetText.{SetText}
-use Rattle.line_grammar.specs.declared.token.Token.{Token}
-use Rattle.line_grammar.specs.declared.token.Token.TheVariants.{Word, Sign as Signed}
-use Rattle.line_grammar.specs.Sentences.{Assignment, assignment_of}
-use Rattle.line_grammar.specs.Tokens.{is_sign, is_word}
-use Rattle.line_grammar.specs.Grammar.{IsAssignment, IsFilter}
-use Rattle.line_phrases.specs.Lists.{rest_at}
-use Rattle.line_phrases.specs.BasicsLaws.{AfterLevel, behind_after, exact_sign, exact_word}
-use Rattle.line_phrases.specs.LevelsLaws.{expr_parses}
-use Rattle.line_phrases.specs.ListLaws.{comma_listed}
-use Rattle.line_phrases.specs.PathsLaws.{path_parses}
-use Rattle.schema_lang.specs.Updates.{assignment_at, filter_at}
+use Rattle.schema_lang.proofs.Imports.{◌≡◌, ℕ, true, false, List, [], ◌∷◌, ◌++◌, map, codes, Some, None, Ok, Err, refl, sym, ap, ◌∙◌, arith, starts, past, behind_at, Parses, behind_parses, either_parses, give_parses, then_parses, Takes, behind_bare, behind_starts, behind_stepped, behind_stop, listed_takes, more_end, Comma, Equals, SetText, Token, Word, Signed, Assignment, assignment_of, is_sign, is_word, IsAssignment, IsFilter, rest_at, AfterLevel, behind_after, exact_sign, exact_word, expr_parses, comma_listed, path_parses, assignment_at, filter_at}
 
 pub assignment_parses : (n : ℕ) → Parses (IsAssignment n) (assignment_at n) (AfterLevel 1)
 unfolding assignment_at

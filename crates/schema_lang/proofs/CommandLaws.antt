@@ -1,49 +1,9 @@
 -- How each command is read, and a whole line.
-use Rattle.std.proofs.Common.{◌≡◌, ℕ, ◌≤◌, Bool, true, false, inl, inr, List, [], ◌++◌, codes, Option, None, Result, is_some, refl, ap, append_assoc, arith}
-use Rattle.phrases.specs.Phrases.{Behind, IsItem, IsNothing, Joined}
-use Rattle.phrases.specs.Reading.{starts, item_at, give_at}
-use Rattle.phrases.specs.ParsesLaws.{Always, Parses, behind_parses, either_parses, give_parses, item_parses, said_otherwise, then_parses, which_parses}
-use Rattle.phrases.specs.MoreLaws.{behind_starts, item_starts, joined_starts}
-use Rattle.phrases.specs.WholeLaws.{AtEnd}
-use Rattle.phrases.specs.EndedLaws.{ended_alike, ended_parses}
-use Rattle.phrases.specs.WiderLaws.{Wider, behind_wider, either_wider, joined_wider, same_wider}
-use Rattle.phrases.specs.AlikeLaws.{Alike, either_alike, no_longer, same_alike, then_alike}
-use Rattle.phrases.specs.UnboundedLaws.{Nests}
-use Rattle.line_tokens.specs.declared.sign.Sign.TheVariants.{OpenParen, CloseParen, Colon, Comma, Dot, Equals, EqualEqual, Slash}
-use Rattle.record_dim.specs.Trees.{Record}
-use Rattle.extents.specs.declared.words.ExtentWord.{ExtentWord}
-use Rattle.expr_lang.specs.declared.expr.BinOp.TheVariants.{Eq}
-use Rattle.line_grammar.specs.declared.line.Command.{Command}
+use Rattle.schema_lang.proofs.Imports.{◌≡◌, ℕ, ◌≤◌, Bool, true, false, inl, inr, List, [], ◌++◌, codes, Option, None, Result, is_some, refl, ap, append_assoc, arith, Behind, IsItem, IsNothing, Joined, starts, item_at, give_at, Always, Parses, behind_parses, either_parses, give_parses, item_parses, said_otherwise, then_parses, which_parses, behind_starts, item_starts, joined_starts, AtEnd, ended_alike, ended_parses, Wider, behind_wider, either_wider, joined_wider, same_wider, Alike, either_alike, no_longer, same_alike, then_alike, Nests, OpenParen, CloseParen, Colon, Comma, Dot, Equals, EqualEqual, Slash, Record, ExtentWord, Eq, Command, KernelWord, ShowKind, Token, Word, Text, Signed, Version, One, Two, is_two, may_have_window, word_self, Assignment, Sentence, Value, Blank, Define, Mapping, View, Load, Assign, Update, Actors, Kernel, Reduce, Count, Copy, Relayout, Show, Drop, Bytes, Save, Open, Advise, PrintWindow, Stencil, is_word, string_of, comparison_of, kernel_word_of, reduction_of, command_of, IsAssignment, IsBody, IsCommand, IsFilter, IsKernel, IsKernelInside, IsFlag, IsLine, IsListed, IsMap, IsName, IsNew, IsShowEnd, IsUpdateEnd, AfterLevel, Not, anything, apart, behind_after, behind_not, count_parses, exact_sign, exact_word, name_parses, starts_level, fields_parses, comparison_levels, expr_parses, means, listed_at, map_at, AfterList, bracket_list_parses, cuts_parses, extent_parses, fixed_parses, listed_parses, map_parses, behind_kept, expr_alike, expr_wider, fields_alike, fields_wider, listed_alike, listed_wider, map_alike, map_wider, AfterPasses, passes_parses, path_parses, const_parses, terms_parses, window_parses, axpy_at, clamp_at, count_where_at, inside_at, kernel_at, actors_at, assignment_at, filter_at, update_end_at, advise_at, any_token, assign_at, body_at, bytes_at, command_at, copy_at, define_at, flag_at, kernel_line_at, line_at, load_at, mapping_at, new_at, open_at, reduce_at, relayout_at, show_at, stencil_at, update_at, view_at}
 use Rattle.line_grammar.specs.declared.line.Command.TheVariants as command
 use Rattle.line_grammar.specs.declared.line.KernelText.TheVariants as kernel
-use Rattle.line_grammar.specs.declared.line.KernelWord.{KernelWord}
 use Rattle.line_grammar.specs.declared.line.KernelWord.TheVariants as word
 use Rattle.line_grammar.specs.declared.line.ReduceKind.TheVariants as reduce
-use Rattle.line_grammar.specs.declared.line.ShowKind.{ShowKind}
-use Rattle.line_grammar.specs.declared.token.Token.{Token}
-use Rattle.line_grammar.specs.declared.token.Token.TheVariants.{Word, Text, Sign as Signed}
-use Rattle.line_grammar.specs.declared.version.Version.{Version}
-use Rattle.line_grammar.specs.declared.version.Version.TheVariants.{One, Two}
-use Rattle.line_grammar.specs.Versions.{is_two, may_have_window}
-use Rattle.line_grammar.specs.SignsLaws.{word_self}
-use Rattle.line_grammar.specs.Sentences.{Assignment, Sentence, Value, Blank, Define, Mapping, View, Load, Assign, Update, Actors, Kernel, Reduce, Count, Copy, Relayout, Show, Drop, Bytes, Save, Open, Advise, PrintWindow, Stencil}
-use Rattle.line_grammar.specs.Tokens.{is_word, string_of, comparison_of, kernel_word_of, reduction_of, command_of}
-use Rattle.line_grammar.specs.Grammar.{IsAssignment, IsBody, IsCommand, IsFilter, IsKernel, IsKernelInside, IsFlag, IsLine, IsListed, IsMap, IsName, IsNew, IsShowEnd, IsUpdateEnd}
-use Rattle.line_phrases.specs.BasicsLaws.{AfterLevel, Not, anything, apart, behind_after, behind_not, count_parses, exact_sign, exact_word, name_parses, starts_level}
-use Rattle.line_phrases.specs.FieldLaws.{fields_parses}
-use Rattle.line_phrases.specs.LevelsLaws.{comparison_levels, expr_parses}
-use Rattle.line_phrases.specs.Exprs.{means}
-use Rattle.line_phrases.specs.Lists.{listed_at}
-use Rattle.line_phrases.specs.Maps.{map_at}
-use Rattle.line_phrases.specs.ListLaws.{AfterList, bracket_list_parses, cuts_parses, extent_parses, fixed_parses, listed_parses}
-use Rattle.line_phrases.specs.MapLaws.{map_parses}
-use Rattle.line_phrases.specs.NestingLaws.{behind_kept, expr_alike, expr_wider, fields_alike, fields_wider, listed_alike, listed_wider, map_alike, map_wider}
-use Rattle.line_phrases.specs.PassLaws.{AfterPasses, passes_parses}
-use Rattle.line_phrases.specs.PathsLaws.{path_parses}
-use Rattle.line_phrases.specs.StencilLaws.{const_parses, terms_parses, window_parses}
-use Rattle.schema_lang.specs.Kernels.{axpy_at, clamp_at, count_where_at, inside_at, kernel_at}
-use Rattle.schema_lang.specs.Updates.{actors_at, assignment_at, filter_at, update_end_at}
-use Rattle.schema_lang.specs.Bodies.{advise_at, any_token, assign_at, body_at, bytes_at, command_at, copy_at, define_at, flag_at, kernel_line_at, line_at, load_at, mapping_at, new_at, open_at, reduce_at, relayout_at, show_at, stencil_at, update_at, view_at}
 use Rattle.schema_lang.proofs.Assignments.{AfterFilter, assignment_parses, filter_parses}
 
 -- kernels

@@ -1,9 +1,5 @@
 -- The deepest of several expressions.
-use Rattle.std.proofs.Common.{◌≡◌, ℕ, max, ◌&&◌, nat_le, List, ◌∷◌, map, arith}
-use Rattle.std.proofs.lemmas.Bool.Decides.{nat_tests}
-use Rattle.expr_lang.specs.Terms.{depth_of, term_of}
-use Rattle.line_grammar.specs.declared.line.SetText.{SetText}
-use Rattle.line_grammar.specs.Sentences.{assignment_of, deepest_set}
+use Rattle.schema_lang.proofs.Imports.{◌≡◌, ℕ, max, ◌&&◌, nat_le, List, ◌∷◌, map, arith, nat_tests, depth_of, term_of, SetText, assignment_of, deepest_set}
 
 pub le-max : (a b k : ℕ) → nat_le (max a b) k ≡ (nat_le a k && nat_le b k)
 le-max a b k = grind (arith, nat_tests)

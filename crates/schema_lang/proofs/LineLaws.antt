@@ -1,16 +1,5 @@
 -- A text is one line at most, and reading its tokens tells which, or where they stop.
-use Rattle.std.proofs.Common.{◌≡◌, ℕ, ◌-◌, List, [], length, Ok, Err, refl, sym, ap, ◌∙◌}
-use Rattle.phrases.specs.ParsesLaws.{ok_parts}
-use Rattle.phrases.specs.UnboundedLaws.{any_found, any_full, any_stop}
-use Rattle.line_tokens.specs.declared.spots.Spot.{Spot}
-use Rattle.line_tokens.specs.Spots.{Spots}
-use Rattle.line_tokens.specs.SpotLaws.{same_spots}
-use Rattle.line_grammar.specs.declared.token.Token.{Token}
-use Rattle.line_grammar.specs.declared.version.Version.{Version}
-use Rattle.line_grammar.specs.Sentences.{Sentence}
-use Rattle.line_grammar.specs.Grammar.{IsSentence}
-use Rattle.line_grammar.specs.Reads.{Reads, StopsAt, column_behind, tokens_of}
-use Rattle.schema_lang.specs.Bodies.{line_at}
+use Rattle.schema_lang.proofs.Imports.{◌≡◌, ℕ, ◌-◌, List, [], length, Ok, Err, refl, sym, ap, ◌∙◌, ok_parts, any_found, any_full, any_stop, Spot, Spots, same_spots, Token, Version, Sentence, IsSentence, Reads, StopsAt, column_behind, tokens_of, line_at}
 use Rattle.schema_lang.proofs.CommandLaws.{lines}
 
 pub found_line : (version : Version) (text : List ℕ) (spots : List Spot) (tokens : List Token) (sentence : Sentence) → Spots text 0 0 spots → tokens ≡ tokens_of text spots → line_at version (length tokens) tokens ≡ Ok (sentence, []) → Reads version text sentence

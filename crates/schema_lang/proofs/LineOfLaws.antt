@@ -1,22 +1,7 @@
 -- The line that a function of the text tells is the grammar's answer.
-use Rattle.std.proofs.Common.{◌≡◌, ℕ, zero, suc, ◌+◌, ◌-◌, ◌<◌, ◌≤◌, List, [], ◌∷◌, length, Result, Ok, Err, refl, sym, ap, ◌∙◌, arith}
-use Rattle.std.specs.Prelude.{MatchResult}
-use Rattle.line_tokens.specs.Next.{next_of}
-use Rattle.line_tokens.specs.Spots.{Spots, brackets_after}
-use Rattle.line_tokens.specs.declared.spots.Spot.{Spot}
-use Rattle.line_tokens.specs.declared.token.Next.{Next}
-use Rattle.line_tokens.specs.declared.token.Next.TheVariants.{End, Bad, Token}
-use Rattle.line_tokens.specs.NextTokenLaws.{next_inside}
-use Rattle.line_tokens.specs.SpotLaws.{same_spots}
-use Rattle.line_grammar.specs.Reads.{Reads, StopsAt, tokens_of}
-use Rattle.line_grammar.specs.Sentences.{Sentence, Blank}
+use Rattle.schema_lang.proofs.Imports.{◌≡◌, ℕ, zero, suc, ◌+◌, ◌-◌, ◌<◌, ◌≤◌, List, [], ◌∷◌, length, Result, Ok, Err, refl, sym, ap, ◌∙◌, arith, MatchResult, next_of, Spots, brackets_after, Spot, Next, End, Bad, next_inside, same_spots, Reads, StopsAt, tokens_of, Sentence, Blank, Version, ended_at, ended, ◌>>=◌, either_at, give_at, ok_parts, line_at, command_at, any_token, line_of, told, spots_in, spots_within, spots_behind}
+use Rattle.line_tokens.specs.declared.token.Next.TheVariants.{Token}
 use Rattle.line_grammar.specs.declared.token.Token as token
-use Rattle.line_grammar.specs.declared.version.Version.{Version}
-use Rattle.phrases.specs.Ended.{ended_at, ended}
-use Rattle.phrases.specs.Reading.{◌>>=◌, either_at, give_at}
-use Rattle.phrases.specs.ParsesLaws.{ok_parts}
-use Rattle.schema_lang.specs.Bodies.{line_at, command_at, any_token}
-use Rattle.schema_lang.specs.LineOf.{line_of, told, spots_in, spots_within, spots_behind}
 use Rattle.schema_lang.proofs.LineLaws.{found_line, stopped_line}
 
 -- one spot more

@@ -1,25 +1,7 @@
 -- The spots of a text have the bytes of their kinds, and where the columns of spots are.
-use Rattle.std.proofs.Common.{◌≡◌, ℕ, zero, suc, ◌+◌, ◌-◌, ◌<◌, ◌≤◌, Bool, true, false, ◌&&◌, nat_le, List, [], ◌∷◌, ◌++◌, length, take, drop, get_or, slice_range, All, Option, Some, None, refl, sym, ap, ◌∙◌, arith, length-append}
-use Rattle.std.proofs.Math.Seq.{take-append_seam}
-use Rattle.std.proofs.lemmas.Bool.Decides.{nat_tests}
-use Rattle.std.proofs.lemmas.List.{length-take, length-drop, take-take, drop-drop}
-use Rattle.std.proofs.lemmas.List.Elements.{All-cons}
-use Rattle.std.proofs.lemmas.List.Sums.{list_all-from_AllPass}
-use Rattle.std.specs.List.{list_all}
-use Rattle.std.specs.Str.{byte}
-use Rattle.record_dim.specs.Names.{begins_name, continues_name, is_name}
-use Rattle.line_tokens.specs.Bytes.{is_letter, is_word_byte, is_text_byte}
-use Rattle.line_tokens.specs.Next.{next_of}
-use Rattle.line_tokens.specs.Spelled.{Spells}
-use Rattle.line_tokens.specs.Spots.{brackets_after, Spots}
-use Rattle.line_tokens.specs.declared.spots.Spot.{Spot}
+use Rattle.schema_lang.proofs.Imports.{◌≡◌, ℕ, zero, suc, ◌+◌, ◌-◌, ◌<◌, ◌≤◌, Bool, true, false, ◌&&◌, nat_le, List, [], ◌∷◌, ◌++◌, length, take, drop, get_or, slice_range, All, Option, Some, None, refl, sym, ap, ◌∙◌, arith, length-append, take-append_seam, nat_tests, length-take, length-drop, take-take, drop-drop, All-cons, list_all-from_AllPass, list_all, byte, begins_name, continues_name, is_name, is_letter, is_word_byte, is_text_byte, next_of, Spells, brackets_after, Spots, Spot, TokenKind, Number, SignKind, next_inside, next_spells, column_behind, IsSpelled, IsSpelledAs}
 use Rattle.line_tokens.specs.declared.token.Next.TheVariants.{Token}
-use Rattle.line_tokens.specs.declared.token.TokenKind.{TokenKind}
-use Rattle.line_tokens.specs.declared.token.TokenKind.TheVariants.{Word, Number, Text, Sign as SignKind}
-use Rattle.line_tokens.specs.NextTokenLaws.{next_inside}
-use Rattle.line_tokens.specs.SpelledLaws.{next_spells}
-use Rattle.line_grammar.specs.Reads.{column_behind}
-use Rattle.schema_lang.specs.Spelled.{IsSpelled, IsSpelledAs}
+use Rattle.line_tokens.specs.declared.token.TokenKind.TheVariants.{Word, Text}
 
 letter_begins : (b : ℕ) → is_letter b ≡ true → begins_name b ≡ true
 letter_begins b h = h

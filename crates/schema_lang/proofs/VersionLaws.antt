@@ -1,21 +1,8 @@
 -- The tokens of a text by those that stand next, and what they say of its version.
-use Rattle.std.proofs.Common.{◌≡◌, ◌==◌, ◌⊎◌, ℕ, ◌+◌, ◌-◌, Bool, true, false, if◌then◌else◌, List, [], ◌∷◌, length, slice_range, Option, Some, None, codes, inl, inr, refl, sym, ap, ◌∙◌, subst, arith}
-use Rattle.std.proofs.lemmas.Bool.Decides.{nat_tests}
-use Rattle.line_tokens.specs.Next.{next_of}
-use Rattle.line_tokens.specs.Spots.{Spots, brackets_after}
-use Rattle.line_tokens.specs.SpotLaws.{spot_at}
-use Rattle.line_tokens.specs.declared.spots.Spot.{Spot}
-use Rattle.line_tokens.specs.declared.token.Next.{Next}
+use Rattle.schema_lang.proofs.Imports.{◌≡◌, ◌==◌, ◌⊎◌, ℕ, ◌+◌, ◌-◌, Bool, true, false, if◌then◌else◌, List, [], ◌∷◌, length, slice_range, Option, Some, None, codes, inl, inr, refl, sym, ap, ◌∙◌, subst, arith, nat_tests, next_of, Spots, brackets_after, spot_at, Spot, Next, TokenKind, tokens_of, kind_token, token_of, is_word, count_of, Token, Word, Text, Sign, spots_in, found_token, is_end, token_next, is_blank, version_number, version_of}
 use Rattle.line_tokens.specs.declared.token.Next.TheVariants as next
-use Rattle.line_tokens.specs.declared.token.TokenKind.{TokenKind}
 use Rattle.line_tokens.specs.declared.token.TokenKind.TheVariants as kind
-use Rattle.line_grammar.specs.Reads.{tokens_of}
-use Rattle.line_grammar.specs.Tokens.{kind_token, token_of, is_word, count_of}
-use Rattle.line_grammar.specs.declared.token.Token.{Token}
-use Rattle.line_grammar.specs.declared.token.Token.TheVariants.{Word, Number, Text, Sign, Bad}
-use Rattle.schema_lang.specs.LineOf.{spots_in}
-use Rattle.schema_lang.specs.NextTokens.{found_token, is_end, token_next}
-use Rattle.schema_lang.specs.VersionOf.{is_blank, version_number, version_of}
+use Rattle.line_grammar.specs.declared.token.Token.TheVariants.{Number, Bad}
 use Rattle.schema_lang.proofs.LineOfLaws.{spots_are}
 
 -- what stands next begins the spots

@@ -1,33 +1,8 @@
 -- A line that is read as the definition of a record has a record with fields.
-use Rattle.std.proofs.Common.{◌≡◌, ℕ, Bool, true, false, if◌then◌else◌, List, [], ◌∷◌, codes, Option, Result, Ok, Err, refl, subst}
-use Rattle.phrases.specs.Ended.{ended, ended_at}
-use Rattle.phrases.specs.ParsesLaws.{ok_parts}
-use Rattle.phrases.specs.Reading.{◌>>=◌, behind_at, either_at, give_at, item_at, past, starts, then_at, which_at}
-use Rattle.line_tokens.specs.declared.sign.Sign.TheVariants.{Dot, Equals, Slash}
-use Rattle.record_dim.specs.declared.dim.Dim.{Dim}
+use Rattle.schema_lang.proofs.Imports.{◌≡◌, ℕ, Bool, true, false, if◌then◌else◌, List, [], ◌∷◌, codes, Option, Result, Ok, Err, refl, subst, ended, ended_at, ok_parts, ◌>>=◌, behind_at, either_at, give_at, item_at, past, starts, then_at, which_at, Dot, Equals, Slash, Dim, IsRecord, Record, Single, Array, Tree, tree_of, Command, Line, ShowKind, Token, Version, is_two, may_have_window, Assignment, Sentence, Value, sentence_of, Blank, Define, Mapping, View, Load, Assign, Update, Actors, Kernel, Reduce, Count, Copy, Relayout, Show, Drop, Bytes, Save, Open, Advise, PrintWindow, Stencil, is_sign, is_word, name_of, count_of, string_of, reduction_of, command_of, expr_at, fields_at, bracket_list_at, cuts_at, extent_at, fixed_at, listed_at, map_at, passes_at, path_at, terms_at, window_at, kernel_at, actors_at, assignment_at, filter_at, update_end_at, advise_at, any_token, assign_at, body_at, bytes_at, command_at, copy_at, define_at, flag_at, kernel_line_at, line_at, load_at, mapping_at, new_at, open_at, reduce_at, relayout_at, show_at, stencil_at, update_at, view_at, IsWhole}
 use Rattle.record_dim.specs.declared.dim.Dim.TheVariants as dim
-use Rattle.record_dim.specs.Trees.{IsRecord, Record, Single, Array, Tree, tree_of}
-use Rattle.line_grammar.specs.declared.line.Command.{Command}
 use Rattle.line_grammar.specs.declared.line.Command.TheVariants as command
-use Rattle.line_grammar.specs.declared.line.Line.{Line}
 use Rattle.line_grammar.specs.declared.line.Line.TheVariants as line
-use Rattle.line_grammar.specs.declared.line.ShowKind.{ShowKind}
-use Rattle.line_grammar.specs.declared.token.Token.{Token}
-use Rattle.line_grammar.specs.declared.version.Version.{Version}
-use Rattle.line_grammar.specs.Versions.{is_two, may_have_window}
-use Rattle.line_grammar.specs.Sentences.{Assignment, Sentence, Value, sentence_of, Blank, Define, Mapping, View, Load, Assign, Update, Actors, Kernel, Reduce, Count, Copy, Relayout, Show, Drop, Bytes, Save, Open, Advise, PrintWindow, Stencil}
-use Rattle.line_grammar.specs.Tokens.{is_sign, is_word, name_of, count_of, string_of, reduction_of, command_of}
-use Rattle.line_phrases.specs.Exprs.{expr_at}
-use Rattle.line_phrases.specs.Fields.{fields_at}
-use Rattle.line_phrases.specs.Lists.{bracket_list_at, cuts_at, extent_at, fixed_at, listed_at}
-use Rattle.line_phrases.specs.Maps.{map_at}
-use Rattle.line_phrases.specs.Passes.{passes_at}
-use Rattle.line_phrases.specs.Paths.{path_at}
-use Rattle.line_phrases.specs.Stencils.{terms_at, window_at}
-use Rattle.schema_lang.specs.Kernels.{kernel_at}
-use Rattle.schema_lang.specs.Updates.{actors_at, assignment_at, filter_at, update_end_at}
-use Rattle.schema_lang.specs.Bodies.{advise_at, any_token, assign_at, body_at, bytes_at, command_at, copy_at, define_at, flag_at, kernel_line_at, line_at, load_at, mapping_at, new_at, open_at, reduce_at, relayout_at, show_at, stencil_at, update_at, view_at}
-use Rattle.schema_lang.specs.Parsing.{IsWhole}
 
 -- the record that a line defines has fields
 abbrev IsTreeOfFields : Tree → Type 0

@@ -1,38 +1,8 @@
 -- The parts of an update by actors, and what is done by it.
-use Rattle.std.proofs.Common.{◌≡◌, ℕ, suc, ◌+◌, ◌/◌, ◌%◌, ◌^◌, ◌≤◌, Bool, true, false, ℤ, nat_le, List, [], ◌∷◌, length, get_or, set, map, Result, Ok, Err, refl, sym, ap, ◌∙◌, arith}
-use Rattle.std.specs.Result.{IsErrAnd}
-use Rattle.std.specs.Prelude.{◌*◌, not, nat_lt, sum_by, slice_set, filter, Option, Some, None}
-use Rattle.std.proofs.lemmas.Bool.{and_parts, leb-true}
-use Rattle.std.proofs.lemmas.Bool.Decides.{nat_tests}
-use Rattle.std.proofs.lemmas.List.{length-map, length-set}
-use Rattle.actors.specs.Runs.{Run, uncounted, started_run, after_turns}
-use Rattle.actor_steps.specs.Confluence.{State, moved, turned}
-use Rattle.actor_steps.specs.Cuts.{AreCuts, actor_of, are_cuts}
-use Rattle.actor_steps.specs.CutsLaws.{are_cuts-are}
-use Rattle.actor_steps.specs.declared.place.Place.{Place}
-use Rattle.actor_steps.specs.Jobs.{memory_of, written_by, start_of, job_of, fresh_of}
-use Rattle.actor_steps.specs.Micro.{Job, Micro, Fetch, Load, Store, Registers, stored, loaded, with_bits_of, value_on, row_in}
-use Rattle.actor_steps.specs.Schedules.{next, entries, schedule_of, idle_with, run_by}
-use Rattle.actor_steps.specs.Shared.{shared_byte}
-use Rattle.line_grammar.specs.Sentences.{Value, Assignment}
-use Rattle.places.specs.Image.{image, bit_held}
-use Rattle.instrument.specs.BlobTexts.{bytes_of}
-use Rattle.row_updates.specs.Rows.{Setting, updated_of}
-use Rattle.expr_lang.specs.Terms.{Term}
-use Rattle.row_updates.specs.Logs.{update_log}
-use Rattle.views.specs.Tables.{Table, owners_of, after_log, after_stores}
-use Rattle.views.specs.Tallies.{reads_in, writes_in, reads_first}
-use Rattle.worlds.specs.Actors.{updated_by_actors, fit_cuts, shared, memory_text}
-use Rattle.worlds.specs.Names.{bound_filter, bound_sets, each_once, leaves_of}
-use Rattle.worlds.specs.OnView.{Done, done_to}
-use Rattle.worlds.specs.Outcomes.{Outcome, Goes, Faults, CannotRead, ◌>>=◌, refused_if, refused_by}
-use Rattle.worlds.specs.Show.{small}
-use Rattle.worlds.specs.declared.fault.BadActors.TheVariants.{Cuts, Turns}
-use Rattle.worlds.specs.declared.fault.CommandFault.TheVariants.{BadActors, TooBig}
-use Rattle.command_checks.specs.declared.fault.StepFault.{StepFault}
+use Rattle.session.proofs.Imports.{◌≡◌, ℕ, suc, ◌+◌, ◌/◌, ◌%◌, ◌^◌, ◌≤◌, Bool, true, false, ℤ, nat_le, List, [], ◌∷◌, length, get_or, set, map, Result, Ok, Err, refl, sym, ap, ◌∙◌, arith, IsErrAnd, not, sum_by, slice_set, filter, and_parts, leb-true, nat_tests, length-map, length-set, Run, started_run, after_turns, State, moved, turned, AreCuts, actor_of, are_cuts, are_cuts-are, Place, memory_of, written_by, start_of, job_of, fresh_of, Job, Micro, Fetch, Load, Store, Registers, stored, loaded, with_bits_of, value_on, row_in, next, entries, schedule_of, idle_with, run_by, shared_byte, Value, Assignment, image, bit_held, bytes_of, Setting, updated_of, Term, update_log, Table, owners_of, after_log, after_stores, reads_in, writes_in, reads_first, updated_by_actors, fit_cuts, shared, memory_text, bound_filter, bound_sets, each_once, leaves_of, Done, done_to, Outcome, Goes, Faults, CannotRead, ◌>>=◌, refused_if, refused_by, small, Cuts, Turns, BadActors, TooBig, StepFault, left_with, Bindings, shared_out, acted}
+use Rattle.std.specs.Prelude.{◌*◌, nat_lt, Option, Some, None}
+use Rattle.actors.specs.Runs.{uncounted}
 use Rattle.command_checks.specs.declared.fault.StepFault.TheVariants as step
-use Rattle.session.specs.Changes.{left_with}
-use Rattle.session.specs.Teams.{Bindings, shared_out, acted}
 use Rattle.session.proofs.Indexing.{read_stored}
 
 -- cuts that pass

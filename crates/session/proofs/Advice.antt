@@ -1,27 +1,6 @@
 -- The text of an advice, and what asks for it.
-use Rattle.std.proofs.Common.{◌≡◌, ℕ, ◌+◌, ◌-◌, ◌<◌, ◌≤◌, List, [], ◌∷◌, ◌++◌, map, Bool, length, take, get_or, drop, flat_map, codes, Option, Some, option_map, refl, sym, ap, ◌∙◌, arith, append-nil, append_assoc}
-use Rattle.std.specs.List.{enumerate_from}
-use Rattle.std.proofs.lemmas.List.{take_all, length-drop}
-use Rattle.std.proofs.lemmas.List.FromFn.{get_or-enumerate_from, length-enumerate_from}
-use Rattle.advisor.specs.Advice.{Advised, advice}
-use Rattle.advisor.specs.declared.advice.Best.{Best}
-use Rattle.layout_io.specs.Decimal.{digits_text}
-use Rattle.layout_io.specs.WritingLaws.{flat_map_push}
-use Rattle.line_grammar.specs.declared.line.PassText.{PassText}
-use Rattle.line_tokens.specs.Spelled.{spaced}
-use Rattle.line_grammar.specs.declared.token.Token.{Token}
-use Rattle.line_grammar.specs.Sentences.{Mapping}
-use Rattle.line_writer.specs.Canonical.{map_tokens}
-use Rattle.line_writer.specs.Texts.{written, canonical, behind}
-use Rattle.map_expr.specs.Terms.{Term, term_of}
-use Rattle.views.specs.Tables.{Table, leaf_count_of}
-use Rattle.views.specs.Tallies.{Read, all_accesses}
-use Rattle.worlds.specs.Advise.{Question, asked, advise, advise_fault, advice_text, best_words, cost_line}
-use Rattle.worlds.specs.Outcomes.{Goes, ok_or}
-use Rattle.worlds.specs.Worlds.{Entry}
-use Rattle.command_checks.specs.Gives.{GivesUp}
-use Rattle.command_checks.specs.GivesLaws.{GivesUp-then}
-use Rattle.command_checks.specs.declared.fault.StepFault.{StepFault}
+use Rattle.session.proofs.Imports.{◌≡◌, ℕ, ◌+◌, ◌-◌, ◌<◌, ◌≤◌, List, [], ◌∷◌, ◌++◌, map, Bool, length, take, get_or, drop, flat_map, codes, Option, Some, option_map, refl, sym, ap, ◌∙◌, arith, append-nil, append_assoc, enumerate_from, take_all, length-drop, get_or-enumerate_from, length-enumerate_from, Advised, advice, Best, digits_text, flat_map_push, PassText, spaced, Token, Mapping, map_tokens, written, canonical, behind, term_of, Table, leaf_count_of, Read, all_accesses, Question, asked, advise, advise_fault, advice_text, best_words, cost_line, Goes, ok_or, Entry, GivesUp, GivesUp-then, StepFault}
+use Rattle.map_expr.specs.Terms.{Term}
 
 -- tokens behind a text, each behind a space
 pub behind_spaced : (text : List ℕ) (tokens : List Token) → behind text tokens ≡ text ++ spaced (map written tokens)

@@ -1,37 +1,8 @@
 -- Tables that are copied from one place of a list to another.
-use Rattle.std.proofs.Common.{◌≡◌, ◌⊎◌, ⊎_elim, inl, inr, ◌<◌, ◌≤◌, ◌+◌, ℕ, zero, suc, List, [], ◌∷◌, ◌++◌, length, map, get_or, Some, None, Ok, Err, refl, sym, ap, subst, ◌∙◌, arith}
-use Rattle.std.specs.Prelude.{slice_set}
-use Rattle.std.specs.List.{insert, remove}
-use Rattle.std.proofs.lemmas.List.{append-nil, length-map, length-set, get_or_default, get_or-set_same, get_or-set_other, set-set, map-set}
-use Rattle.std.proofs.Math.ListN.{get_or-map}
-use Rattle.std.proofs.lemmas.List.Edits.{get_or-remove_below, get_or-remove_above, length-remove}
-use Rattle.record_dim.specs.Trees.{Fields}
-use Rattle.layout_copy.specs.Copies.{AreAlike, IsCopied, refused_at}
-use Rattle.layout_copy.specs.OwnLaws.{own_held}
-use Rattle.layout_copy.specs.declared.fault.CopyFault.{CopyFault}
+use Rattle.session.proofs.Imports.{◌≡◌, ◌⊎◌, ⊎_elim, inl, inr, ◌<◌, ◌≤◌, ◌+◌, ℕ, zero, suc, List, [], ◌∷◌, ◌++◌, length, map, get_or, Some, None, Ok, Err, refl, sym, ap, subst, ◌∙◌, arith, slice_set, insert, remove, length-map, length-set, get_or_default, get_or-set_same, get_or-set_other, set-set, map-set, get_or-map, get_or-remove_below, get_or-remove_above, length-remove, Fields, AreAlike, IsCopied, refused_at, own_held, CopyFault, Table, IsTable, leaf_count_of, answer_of, kept_of, after_log, Access, all_accesses, all_touches, Read, Write, after_log-append, kept_rows, own_rows, copy, copied, with_rows, all_read, laid_anew, narrow_fault, made, zeros_of, MapTerm, CommandFault, Unknown, Name, IsFirst, Outcome, Goes, Faults, CannotRead, ◌>>=◌, quiet, known, some_or, World, Entry, replaced, alike, not_alike, view_of, GivesUp, GivesUp-then, goes_then, ViewEntry, StepFault, copied_at, made_like, zeros_like, TellsCopy}
+use Rattle.std.proofs.lemmas.List.{append-nil}
 use Rattle.layout_copy.specs.declared.fault.CopyFault.TheVariants as copy
-use Rattle.views.specs.Tables.{Table, IsTable, leaf_count_of, answer_of, kept_of, after_log}
-use Rattle.views.specs.Tallies.{Access, all_accesses, all_touches, Read, Write}
-use Rattle.views.specs.TallyLaws.{after_log-append}
-use Rattle.views.specs.Stores.{kept_rows}
-use Rattle.views.specs.AnswerLaws.{own_rows}
-use Rattle.worlds.specs.Copy.{copy, copied, with_rows, all_read, laid_anew, narrow_fault}
-use Rattle.worlds.specs.Tables.{made, zeros_of}
-use Rattle.map_expr.specs.Terms.{Term as MapTerm}
-use Rattle.worlds.specs.declared.fault.CommandFault.{CommandFault}
 use Rattle.worlds.specs.declared.fault.CommandFault.TheVariants as refusal
-use Rattle.worlds.specs.declared.fault.CommandFault.TheVariants.{Unknown}
-use Rattle.worlds.specs.declared.fault.UnknownName.TheVariants.{Name}
-use Rattle.command_checks.specs.Places.{IsFirst}
-use Rattle.worlds.specs.Outcomes.{Outcome, Goes, Faults, CannotRead, ◌>>=◌, quiet, known, some_or}
-use Rattle.worlds.specs.Worlds.{World, Entry, replaced}
-use Rattle.command_checks.specs.AlikeLaws.{alike, not_alike}
-use Rattle.command_checks.specs.Entries.{view_of}
-use Rattle.command_checks.specs.Gives.{GivesUp}
-use Rattle.command_checks.specs.GivesLaws.{GivesUp-then, goes_then}
-use Rattle.command_checks.specs.declared.entries.ViewEntry.{ViewEntry}
-use Rattle.command_checks.specs.declared.fault.StepFault.{StepFault}
-use Rattle.session.specs.Changes.{copied_at, made_like, zeros_like, TellsCopy}
 use Rattle.session.proofs.Exits.{tells_gives}
 use Rattle.session.proofs.Named.{first_found, first_replaced, first_still}
 

@@ -1,28 +1,7 @@
 -- The steps of copies, refused or not.
-use Rattle.std.proofs.Common.{◌≡◌, ◌∙◌, ◌≤◌, ◌+◌, ⊎_elim, ℕ, zero, suc, true, false, List, [], ◌∷◌, map, get_or, Ok, Err, refl, sym, ap, subst, arith}
-use Rattle.std.specs.Prelude.{Result, IsErrOf}
-use Rattle.std.specs.List.{remove}
-use Rattle.std.proofs.lemmas.Bool.{false≢true, cases_Bool, cases_eq}
-use Rattle.std.proofs.lemmas.List.{get_or_default}
-use Rattle.record_dim.specs.NameBytesLaws.{same_text}
-use Rattle.map_expr.specs.Terms.{Term as MapTerm}
-use Rattle.map_any.specs.declared.strategy.Strategy.{Strategy}
-use Rattle.views.specs.Tables.{Table}
-use Rattle.layout_copy.specs.Copies.{AreAlike, IsCopied}
-use Rattle.layout_copy.specs.Costs.{cost, IsWay}
-use Rattle.layout_copy.specs.declared.fault.CopyFault.{CopyFault}
+use Rattle.session.proofs.Imports.{◌≡◌, ◌∙◌, ◌≤◌, ◌+◌, ⊎_elim, ℕ, zero, suc, true, false, List, [], ◌∷◌, map, get_or, Ok, Err, refl, sym, ap, subst, arith, IsErrOf, remove, false≢true, cases_Bool, cases_eq, get_or_default, same_text, MapTerm, Strategy, Table, AreAlike, IsCopied, cost, IsWay, CopyFault, nameless, Outcome, Goes, Faults, CannotRead, known, made, zeros_of, World, Entry, same_name, alike, view_of, goes_then, IsAt, IsFirst, known_place, ViewEntry, Pair, IsWithin, WithinCopy, WithinCost, WithinRelayout, copied_pair, laid_pair, paired}
+use Rattle.std.specs.Prelude.{Result}
 use Rattle.layout_copy.specs.declared.fault.CopyFault.TheVariants as copy
-use Rattle.worlds.specs.Names.{nameless}
-use Rattle.worlds.specs.Outcomes.{Outcome, Goes, Faults, CannotRead, known}
-use Rattle.worlds.specs.Tables.{made, zeros_of}
-use Rattle.worlds.specs.Worlds.{World, Entry, same_name}
-use Rattle.command_checks.specs.AlikeLaws.{alike}
-use Rattle.command_checks.specs.Entries.{view_of}
-use Rattle.command_checks.specs.GivesLaws.{goes_then}
-use Rattle.command_checks.specs.Places.{IsAt, IsFirst}
-use Rattle.command_checks.specs.PlacesLaws.{known_place}
-use Rattle.command_checks.specs.declared.entries.ViewEntry.{ViewEntry}
-use Rattle.session.specs.Bounds.{Pair, IsWithin, WithinCopy, WithinCost, WithinRelayout, copied_pair, laid_pair, paired}
 use Rattle.session.proofs.Copies.{AreApart, still_there}
 
 -- no step is within every bound

@@ -1,18 +1,6 @@
 -- How a command ends, and its answer.
-use Rattle.std.proofs.Common.{◌≡◌, ℕ, List, [], map, get_or, Option, Result, Ok, Err, refl, sym, ap, ◌∙◌, arith}
-use Rattle.std.specs.Prelude.{slice_set}
-use Rattle.layout_io.specs.WritingLaws.{Wrote-nil, with_bytes-nil}
-use Rattle.worlds.specs.Worlds.{replaced}
-use Rattle.worlds.specs.Answers.{Refused, Fronted, text_of}
-use Rattle.worlds.specs.Outcomes.{Outcome, Goes, Faults, LeftOf, ◌>>=◌}
-use Rattle.worlds.specs.declared.fault.CommandFault.{CommandFault}
-use Rattle.command_checks.specs.Entries.{view_of}
-use Rattle.command_checks.specs.Places.{IsAt}
-use Rattle.command_checks.specs.declared.entries.ViewEntry.{ViewEntry}
-use Rattle.command_checks.specs.Gives.{Gives, GivesUp}
-use Rattle.command_checks.specs.declared.fault.StepFault.{StepFault}
+use Rattle.session.proofs.Imports.{◌≡◌, ℕ, List, [], map, get_or, Option, Result, Ok, Err, refl, sym, ap, ◌∙◌, arith, slice_set, Wrote-nil, with_bytes-nil, replaced, Refused, Fronted, text_of, Outcome, Goes, Faults, LeftOf, ◌>>=◌, CommandFault, view_of, IsAt, ViewEntry, Gives, GivesUp, StepFault, Answers}
 use Rattle.command_checks.specs.declared.fault.StepFault.TheVariants as step
-use Rattle.session.specs.Answers.{Answers}
 
 -- a refusal, with nothing written
 pub refused : {K A : Type 0} (taken : K → Option (List ℕ)) (faults : K → ℕ) (old : K) (outcome : Outcome (LeftOf A)) (fault : CommandFault) → outcome ≡ Faults fault → Refused taken faults old old outcome (Faults fault)

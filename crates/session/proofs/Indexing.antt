@@ -1,29 +1,6 @@
 -- Indices inside extents.
-use Rattle.std.proofs.Common.{◌≡◌, ℕ, zero, suc, ◌<◌, true, false, nat_eq, List, [], ◌∷◌, ◌++◌, ℤ, length, get_or, Some, refl, sym, ap, ◌∙◌, ⊎_elim}
-use Rattle.std.specs.Cmp.Lexicographic.{pointwise}
-use Rattle.std.specs.List.{list_any, slice_get}
-use Rattle.std.proofs.lemmas.Bool.{cases_Bool, false≢true}
-use Rattle.std.proofs.lemmas.Cmp.{nat_list_eq_equiv}
-use Rattle.std.proofs.lemmas.List.Elements.{length_all_zip}
-use Rattle.expr_lang.specs.Terms.{Term}
-use Rattle.extents.specs.Indices.{indices, IsInside}
-use Rattle.extents.specs.IndicesLaws.{inside_of_entry, row_of_inside}
-use Rattle.line_grammar.specs.Sentences.{Value}
-use Rattle.linearize.specs.Slots.{place_in}
-use Rattle.piece_bits.specs.Tables.{with_entry}
-use Rattle.record_dim.specs.NameBytesLaws.{same_text}
-use Rattle.record_dim.specs.declared.path.PathStep.{PathStep}
-use Rattle.views.specs.Tables.{Table, owners_of, after_log, after_stores}
-use Rattle.row_updates.specs.Logs.{value_log}
-use Rattle.views.specs.Tallies.{Access, Write, Tally}
-use Rattle.views.specs.TallyLaws.{tallied-append}
-use Rattle.worlds.specs.Assign.{inside, assigned}
-use Rattle.worlds.specs.Names.{leaf_of, bound}
-use Rattle.worlds.specs.OnView.{done_to}
-use Rattle.worlds.specs.Outcomes.{Outcome, Goes, Faults, CannotRead, ◌>>=◌}
-use Rattle.worlds.specs.Values.{value_on, storable}
-use Rattle.worlds.specs.declared.fault.CommandFault.TheVariants.{BadIndex}
-use Rattle.session.specs.Changes.{set_row, left_with}
+use Rattle.session.proofs.Imports.{◌≡◌, ℕ, zero, suc, ◌<◌, true, false, nat_eq, List, [], ◌∷◌, ◌++◌, ℤ, length, get_or, Some, refl, sym, ap, ◌∙◌, ⊎_elim, pointwise, list_any, slice_get, cases_Bool, false≢true, nat_list_eq_equiv, length_all_zip, Term, indices, IsInside, inside_of_entry, row_of_inside, Value, place_in, with_entry, same_text, PathStep, Table, owners_of, after_log, after_stores, value_log, Access, Write, Tally, tallied-append, inside, assigned, leaf_of, bound, done_to, Outcome, Goes, Faults, CannotRead, ◌>>=◌, storable, BadIndex, set_row, left_with}
+use Rattle.worlds.specs.Values.{value_on}
 
 any_at : (index : List ℕ) (lists : List (List ℕ)) (k : ℕ) → slice_get lists k ≡ Some index → list_any (λ other. pointwise nat_eq other index) lists ≡ true
 any_at index [] k there = absurd (cc)

@@ -1,16 +1,17 @@
+mod Imports
 pub mod Acting
 pub mod Advice
-pub mod Exits
-pub mod Views
-pub mod Named
 pub mod Copies
 pub mod CopySteps
+pub mod Exits
 pub mod Indexing
+pub mod Named
 pub mod Opening
 pub mod Reading
 pub mod Runs
 pub mod Saving
 pub mod Sets
-pub mod Steps
-pub mod Windows
 pub mod Stencils
+pub mod Steps
+pub mod Views
+pub mod Windows

@@ -1,13 +1,5 @@
 -- The first table of a name, by its place among the others.
-use Rattle.std.proofs.Common.{◌≡◌, true, false, ℕ, zero, suc, List, [], ◌∷◌, get_or, Option, Some, None, refl, ap, ⊎_elim}
-use Rattle.std.specs.Prelude.{slice_set}
-use Rattle.std.proofs.lemmas.Bool.{cases_Bool}
-use Rattle.views.specs.Tables.{Table}
-use Rattle.worlds.specs.Worlds.{Entry, same_name, found, replaced}
-use Rattle.worlds.specs.Outcomes.{Faults, known}
-use Rattle.command_checks.specs.Gives.{GivesUp}
-use Rattle.command_checks.specs.Places.{IsFirst}
-use Rattle.command_checks.specs.declared.fault.StepFault.{StepFault}
+use Rattle.session.proofs.Imports.{◌≡◌, true, false, ℕ, zero, suc, List, [], ◌∷◌, get_or, Option, Some, None, refl, ap, ⊎_elim, slice_set, cases_Bool, Table, Entry, same_name, found, replaced, Faults, known, GivesUp, IsFirst, StepFault}
 use Rattle.command_checks.specs.declared.fault.StepFault.TheVariants as step
 
 -- the first table of a name is found

@@ -1,16 +1,7 @@
 -- A table that is opened beside others.
-use Rattle.std.proofs.Common.{◌≡◌, ℕ, List, Result, Ok, Err, refl, sym, ap, subst, ⊎_elim}
-use Rattle.blob_file.specs.Opened.{IsRead, opened}
-use Rattle.blob_file.specs.declared.fault.FileFault.{FileFault}
+use Rattle.session.proofs.Imports.{◌≡◌, ℕ, List, Result, Ok, Err, refl, sym, ap, subst, ⊎_elim, IsRead, opened, FileFault, Table, bad_file, Outcome, Entry, Gives, GivesUp, StepFault, file_fault, placed_table, with_room}
 use Rattle.blob_file.specs.declared.fault.FileFault.TheVariants as cause
-use Rattle.views.specs.Tables.{Table}
-use Rattle.worlds.specs.Files.{bad_file}
-use Rattle.worlds.specs.Outcomes.{Outcome}
-use Rattle.worlds.specs.Worlds.{Entry}
-use Rattle.command_checks.specs.Gives.{Gives, GivesUp}
-use Rattle.command_checks.specs.declared.fault.StepFault.{StepFault}
 use Rattle.command_checks.specs.declared.fault.StepFault.TheVariants as step
-use Rattle.session.specs.Opens.{file_fault, placed_table, with_room}
 
 -- a table that was read
 pub placed_gives : {A : Type 0} (views : List (Entry Table)) (bytes : List ℕ) (table : Table) (view : A → Table) (result : Result A StepFault) → IsRead (opened bytes) (Ok table) → Gives view result (with_room views table)

@@ -1,15 +1,6 @@
 -- A file that is read, or not, on the way to a table.
-use Rattle.std.proofs.Common.{◌≡◌, ◌∙◌, ◌⊎◌, ◌<◌, ◌≤◌, ℕ, Bool, true, false, nat_lt, List, length, Option, Some, None, Result, Ok, Err, inl, inr, ⊎_elim, refl, subst, arith}
-use Rattle.std.proofs.lemmas.Bool.Decides.{nat_tests}
-use Rattle.std.specs.Prelude.{IsSomeAnd}
-use Rattle.layout_io.specs.Files.{File, file_of, IsMissing, HasFile}
-use Rattle.worlds.specs.Outcomes.{Outcome, Goes, Faults, CannotRead, ◌>>=◌, refused_if}
-use Rattle.worlds.specs.declared.fault.CommandFault.TheVariants.{TooBig}
-use Rattle.command_checks.specs.Gives.{Gives, GivesUp}
-use Rattle.command_checks.specs.GivesLaws.{goes_then}
-use Rattle.command_checks.specs.declared.fault.StepFault.{StepFault}
+use Rattle.session.proofs.Imports.{◌≡◌, ◌∙◌, ◌⊎◌, ◌<◌, ◌≤◌, ℕ, Bool, true, false, nat_lt, List, length, Option, Some, None, Result, Ok, Err, inl, inr, ⊎_elim, refl, subst, arith, nat_tests, IsSomeAnd, File, file_of, IsMissing, HasFile, Outcome, Goes, Faults, CannotRead, ◌>>=◌, refused_if, TooBig, Gives, GivesUp, goes_then, StepFault, Loads, IsUnread, UnreadOnly, ToldFor, read_within}
 use Rattle.command_checks.specs.declared.fault.StepFault.TheVariants as step
-use Rattle.session.specs.Loads.{Loads, IsUnread, UnreadOnly, ToldFor, read_within}
 
 -- a file of this name is there
 pub file_there : (told : Option (List File)) (files : List File) (name : List ℕ) (P : List ℕ → Type 0) → told ≡ Some files → HasFile told name P → (bytes : List ℕ) × (file_of files name ≡ Some bytes) × P bytes

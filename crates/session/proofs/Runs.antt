@@ -1,19 +1,7 @@
 -- Whose the runs of a layout are.
-use Rattle.std.proofs.Common.{◌≡◌, ◌+◌, ◌<◌, ℕ, suc, true, false, List, [], ◌∷◌, length, map, get_or, All, refl, ap, subst, ◌∙◌, ⊎_elim}
+use Rattle.session.proofs.Imports.{◌≡◌, ◌+◌, ◌<◌, ℕ, suc, true, false, List, [], ◌∷◌, length, map, get_or, All, refl, ap, subst, ◌∙◌, ⊎_elim, cases_Bool, All-nil, All-cons, All-tail, All-append, length-map, IsLaidOut, Owner, Pad, Bit, owner_at, Cell, Hold, LeafType, length-leaf_cells, leaf_cells, goes_on, joined, run_owner, runs_from, runs_of, IsOwnerBelow}
 use Rattle.std.specs.List.{flat_map}
-use Rattle.std.proofs.lemmas.Bool.{cases_Bool}
-use Rattle.std.proofs.lemmas.List.Elements.{All-nil, All-cons, All-tail, All-append}
-use Rattle.std.proofs.lemmas.List.{length-map}
-use Rattle.places.specs.Laws.{IsLaidOut}
-use Rattle.places.specs.Layout.{Owner, Pad, Bit, owner_at}
 use Rattle.places.specs.declared.piece.Run.{Run}
-use Rattle.places.specs.declared.piece.Cell.{Cell}
-use Rattle.places.specs.declared.piece.Hold.{Hold}
-use Rattle.record_dim.specs.declared.leaf_type.LeafType.{LeafType}
-use Rattle.map_any.specs.AnyLaws.{length-leaf_cells}
-use Rattle.map_checks.specs.Mappings.{leaf_cells}
-use Rattle.map_any.specs.Runs.{goes_on, joined, run_owner, runs_from, runs_of}
-use Rattle.places.specs.Runs.{IsOwnerBelow}
 
 -- a run of one of so many leaves, or of none
 abbrev pub IsRunBelow : ℕ → Run → Type 0

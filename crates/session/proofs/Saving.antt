@@ -1,19 +1,6 @@
 -- A table that is saved.
-use Rattle.std.proofs.Common.{◌≡◌, ◌∙◌, ◌≤◌, ℕ, Bool, true, false, nat_lt, length, List, Option, Err, refl, sym, ap, subst, arith, ⊎_elim}
-use Rattle.std.specs.Prelude.{◌||◌}
-use Rattle.std.proofs.lemmas.Bool.{cases_Bool}
-use Rattle.std.proofs.lemmas.Bool.Decides.{nat_tests}
-use Rattle.blob_file.specs.Files.{IsShort, file_of, record_text, view_text}
-use Rattle.blob_file.specs.Saving.{header_of, blobs_of}
-use Rattle.views.specs.Tables.{Table}
-use Rattle.worlds.specs.Files.{save}
-use Rattle.worlds.specs.OnView.{done_to, tells}
-use Rattle.worlds.specs.Outcomes.{Outcome, LeftOf, Goes, Faults, ◌>>=◌, refused_if}
-use Rattle.worlds.specs.declared.fault.CommandFault.TheVariants.{TooBig}
-use Rattle.command_checks.specs.Gives.{GivesUp}
-use Rattle.command_checks.specs.declared.fault.StepFault.{StepFault}
-use Rattle.session.specs.Answers.{Answers}
-use Rattle.session.specs.Changes.{IsLeft, left_with}
+use Rattle.session.proofs.Imports.{◌≡◌, ◌∙◌, ◌≤◌, ℕ, Bool, true, false, nat_lt, length, List, Option, Err, refl, sym, ap, subst, arith, ⊎_elim, ◌||◌, cases_Bool, nat_tests, IsShort, record_text, view_text, header_of, blobs_of, Table, save, done_to, tells, Outcome, LeftOf, Goes, Faults, ◌>>=◌, refused_if, TooBig, GivesUp, StepFault, Answers, IsLeft, left_with}
+use Rattle.blob_file.specs.Files.{file_of}
 use Rattle.session.proofs.Exits.{gave_up}
 use Rattle.session.proofs.Views.{tells_left}
 

@@ -1,34 +1,7 @@
 -- The leaves that are set, one after another.
-use Rattle.std.proofs.Common.{◌≡◌, ℕ, suc, ◌+◌, ◌<◌, ◌≤◌, Bool, true, false, nat_eq, List, [], ◌∷◌, ◌++◌, length, get_or, take, drop, map, refl, sym, ap, subst, ◌∙◌, arith, add-one, ⊎_elim}
-use Rattle.std.specs.Prelude.{◌||◌, All, Option, Some, None, option_map}
-use Rattle.std.specs.Option.{option_copied}
-use Rattle.std.specs.Borrow.{Bor}
-use Rattle.expr_lang.specs.declared.bound.Bound.{Bound}
-use Rattle.expr_lang.specs.Bounds.{bound_term}
-use Rattle.expr_lang.specs.Terms.{Term}
-use Rattle.std.proofs.lemmas.List.Elements.{All-get_or}
-use Rattle.views.specs.Tables.{Table, leaf_count_of}
-use Rattle.std.specs.List.{list_any, IsDistinct}
-use Rattle.std.proofs.lemmas.Bool.{cases_Bool, false≢true}
-use Rattle.std.proofs.lemmas.Bool.Decides.{nat_tests}
-use Rattle.std.proofs.lemmas.Cmp.{nat_eq_equiv}
-use Rattle.std.proofs.lemmas.List.{take-append-drop, map-append, length-map, take_more, take_all, take-map, get_or-map}
-use Rattle.std.proofs.lemmas.Map.Keys.{IsDistinct-push}
-use Rattle.std.proofs.lemmas.Map.Steps.{length-le_from_distinct_below}
-use Rattle.std.proofs.Math.ListN.{drop_of_length-le}
-use Rattle.std.proofs.Math.Seq.{drop-cons}
-use Rattle.record_dim.specs.Trees.{Fields}
-use Rattle.line_grammar.specs.Sentences.{Assignment, Value}
-use Rattle.row_updates.specs.Rows.{Setting, setting_of, filter_term, IsSetOf}
-use Rattle.row_updates.specs.declared.update.Assign.{Assign}
-use Rattle.worlds.specs.Outcomes.{Outcome, Goes, Faults, CannotRead, ◌>>=◌}
-use Rattle.worlds.specs.Names.{bound_filter, bound_set, bound_sets, each_once, leaves_of, text_of_leaf}
-use Rattle.worlds.specs.Update.{updated}
-use Rattle.worlds.specs.declared.fault.CommandFault.TheVariants.{Twice}
-use Rattle.command_checks.specs.Gives.{GivesUp}
-use Rattle.command_checks.specs.GivesLaws.{GivesUp-then}
-use Rattle.command_checks.specs.declared.fault.StepFault.{StepFault}
-use Rattle.session.specs.Changes.{rows_updated}
+use Rattle.session.proofs.Imports.{◌≡◌, ℕ, suc, ◌+◌, ◌<◌, ◌≤◌, Bool, true, false, nat_eq, List, [], ◌∷◌, ◌++◌, length, get_or, take, drop, map, refl, sym, ap, subst, ◌∙◌, arith, add-one, ⊎_elim, ◌||◌, option_copied, Bor, Bound, bound_term, Term, All-get_or, Table, leaf_count_of, list_any, IsDistinct, cases_Bool, false≢true, nat_tests, nat_eq_equiv, take-append-drop, map-append, length-map, take_more, take_all, take-map, IsDistinct-push, length-le_from_distinct_below, drop_of_length-le, drop-cons, Fields, Assignment, Value, Setting, setting_of, filter_term, IsSetOf, Assign, Outcome, Goes, Faults, CannotRead, ◌>>=◌, bound_filter, bound_set, bound_sets, each_once, leaves_of, text_of_leaf, updated, Twice, GivesUp, GivesUp-then, StepFault, rows_updated}
+use Rattle.std.specs.Prelude.{All, Option, Some, None, option_map}
+use Rattle.std.proofs.lemmas.List.{get_or-map}
 
 -- a list at one of its places
 pub map_at : {X Y : Type 0} (f : X → Y) (xs : List X) (i : ℕ) (d : X) → i < length xs → map f (take i xs) ++ f (get_or xs i d) ∷ map f (drop (suc i) xs) ≡ map f xs

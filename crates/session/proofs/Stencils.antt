@@ -1,18 +1,6 @@
 -- What stencils do, and the buffer of their rounds.
-use Rattle.std.proofs.Common.{◌≡◌, ◌∙◌, ℕ, List}
-use Rattle.extents.specs.declared.window.Span.{Span}
-use Rattle.line_grammar.specs.declared.line.TermText.{TermText}
-use Rattle.map_checks.specs.Mappings.{IsBuiltTerm}
-use Rattle.map_expr.specs.Terms.{Term, Count, Heat, uncounted}
-use Rattle.record_dim.specs.declared.path.PathStep.{PathStep}
-use Rattle.subviews.specs.Stencils.{Stencil}
-use Rattle.views.specs.Tables.{Table}
-use Rattle.worlds.specs.OnView.{done_to}
-use Rattle.worlds.specs.Outcomes.{Goes}
-use Rattle.worlds.specs.Stencil.{fit_stencil, room_beside, stencil_rounds, stencil_run}
-use Rattle.command_checks.specs.Gives.{GivesUp}
-use Rattle.command_checks.specs.GivesLaws.{GivesUp-then, goes_then}
-use Rattle.command_checks.specs.declared.fault.StepFault.{StepFault}
+use Rattle.session.proofs.Imports.{◌≡◌, ◌∙◌, ℕ, List, Span, TermText, IsBuiltTerm, Count, Heat, uncounted, PathStep, Stencil, Table, done_to, Goes, fit_stencil, room_beside, stencil_rounds, stencil_run, GivesUp, GivesUp-then, goes_then, StepFault}
+use Rattle.map_expr.specs.Terms.{Term}
 use Rattle.session.proofs.Exits.{goes_gives}
 
 -- ---- the parts of the command

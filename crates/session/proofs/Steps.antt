@@ -1,24 +1,7 @@
 -- What the commands answer is what their lines answer.
-use Rattle.std.proofs.Common.{◌≡◌, ℕ, Bool, true, false, List, Option, Some, Result, Ok, Err, refl, sym, subst, ◌∙◌, arith}
-use Rattle.layout_io.specs.Files.{File}
-use Rattle.layout_io.specs.WritingLaws.{Wrote-nil, with_bytes-nil}
-use Rattle.line_grammar.specs.Sentences.{Sentence, file_of, sentence_of}
-use Rattle.line_grammar.specs.declared.line.Line.{Line}
-use Rattle.worlds.specs.Worlds.{World}
-use Rattle.worlds.specs.Answers.{Did, text_of, StepsTo, StepCause}
-use Rattle.worlds.specs.AnswersLaws.{steps_same}
-use Rattle.worlds.specs.Outcomes.{Outcome, Left}
-use Rattle.worlds.specs.Step.{step, command}
-use Rattle.command_checks.specs.Gives.{Gives}
-use Rattle.command_checks.specs.declared.entries.RecordEntry.{RecordEntry}
-use Rattle.command_checks.specs.declared.entries.ViewEntry.{ViewEntry}
-use Rattle.command_checks.specs.declared.fault.StepFault.{StepFault}
+use Rattle.session.proofs.Imports.{◌≡◌, ℕ, Bool, true, false, List, Option, Some, Result, Ok, Err, refl, sym, subst, ◌∙◌, arith, File, Wrote-nil, with_bytes-nil, Sentence, sentence_of, Line, World, Did, text_of, StepsTo, StepCause, steps_same, Outcome, Left, step, command, Gives, RecordEntry, ViewEntry, StepFault, MappingEntry, Answers, TookNone, ending_of, Loads, ToldFor, UnreadOnly, AreLeft, Stands, left_of, world_in, world_of, Session}
+use Rattle.line_grammar.specs.Sentences.{file_of}
 use Rattle.command_checks.specs.declared.fault.StepFault.TheVariants as fault
-use Rattle.command_checks.specs.declared.mapping_entry.MappingEntry.{MappingEntry}
-use Rattle.session.specs.Answers.{Answers, TookNone, ending_of}
-use Rattle.session.specs.Loads.{Loads, ToldFor, UnreadOnly}
-use Rattle.session.specs.Stands.{AreLeft, Stands, left_of, world_in, world_of}
-use Rattle.session.specs.declared.session.Session.{Session}
 use Rattle.session.proofs.Exits.{refused, starved, answers_quiet}
 use Rattle.session.proofs.Views.{session_left}
 

@@ -1,31 +1,6 @@
 -- What a work on a view answers is what the command on the view of a name answers.
-use Rattle.std.proofs.Common.{◌≡◌, ℕ, List, map, get_or, Option, Some, None, Result, Ok, Err, refl, sym, ap, subst, ◌∙◌}
-use Rattle.std.specs.Prelude.{slice_set}
-use Rattle.layout_io.specs.Writing.{Wrote, Stopped}
-use Rattle.instrument.specs.Counters.{LeafCounts, HeatCounts}
-use Rattle.instrument.specs.CounterTexts.{counts_text, heat_text, runs_text}
-use Rattle.record_dim.specs.Leaves.{texts_of}
-use Rattle.views.specs.Tables.{Table, owners_of}
-use Rattle.views.specs.Tallies.{Tally}
-use Rattle.views.specs.TallyLaws.{tallied-none}
-use Rattle.worlds.specs.Answers.{Did, Fronted, text_of}
-use Rattle.worlds.specs.OnView.{Done, tells, done_to, on_view, with_table}
-use Rattle.worlds.specs.Outcomes.{Outcome, Goes, Faults, CannotRead, LeftOf, Left, ◌>>=◌, known, some_or, shows}
-use Rattle.worlds.specs.Show.{counts, heat, layout, small, all_runs}
-use Rattle.worlds.specs.Worlds.{World, Entry}
-use Rattle.worlds.specs.declared.fault.CommandFault.TheVariants.{NotCounted}
-use Rattle.command_checks.specs.Entries.{view_of}
-use Rattle.command_checks.specs.Places.{IsAt}
-use Rattle.command_checks.specs.PlacesLaws.{known_at}
-use Rattle.command_checks.specs.declared.entries.RecordEntry.{RecordEntry}
-use Rattle.command_checks.specs.declared.entries.ViewEntry.{ViewEntry}
-use Rattle.command_checks.specs.declared.mapping_entry.MappingEntry.{MappingEntry}
-use Rattle.command_checks.specs.declared.fault.StepFault.{StepFault}
+use Rattle.session.proofs.Imports.{◌≡◌, ℕ, List, map, get_or, Option, Some, None, Result, Ok, Err, refl, sym, ap, subst, ◌∙◌, slice_set, Wrote, Stopped, LeafCounts, HeatCounts, counts_text, heat_text, runs_text, texts_of, Table, owners_of, Tally, tallied-none, Did, Fronted, text_of, Done, tells, done_to, on_view, with_table, Outcome, Goes, Faults, CannotRead, LeftOf, Left, ◌>>=◌, known, some_or, shows, counts, heat, layout, small, all_runs, World, Entry, NotCounted, view_of, IsAt, known_at, RecordEntry, ViewEntry, MappingEntry, StepFault, Answers, IsLeft, left_with, AreLeft, Stands, world_in, world_of, Session}
 use Rattle.command_checks.specs.declared.fault.StepFault.TheVariants as step
-use Rattle.session.specs.Answers.{Answers}
-use Rattle.session.specs.Changes.{IsLeft, left_with}
-use Rattle.session.specs.Stands.{AreLeft, Stands, world_in, world_of}
-use Rattle.session.specs.declared.session.Session.{Session}
 use Rattle.session.proofs.Exits.{table_changed}
 
 -- the outcome of a command on the view of a name, by what it leaves of the table

@@ -1,17 +1,5 @@
 -- What a print of a window does.
-use Rattle.std.proofs.Common.{◌≡◌, List, refl}
-use Rattle.csv_rows.specs.Texts.{print_text}
-use Rattle.extents.specs.declared.window.Span.{Span}
-use Rattle.record_dim.specs.Leaves.{texts_of}
-use Rattle.subviews.specs.SubViews.{WindowOf, sub_table, sub_reads}
-use Rattle.views.specs.Tables.{Table, leaf_count_of, after_log}
-use Rattle.worlds.specs.OnView.{done_to}
-use Rattle.worlds.specs.Outcomes.{Goes}
-use Rattle.worlds.specs.Windows.{windowed, print_window}
-use Rattle.command_checks.specs.Gives.{GivesUp}
-use Rattle.command_checks.specs.GivesLaws.{GivesUp-then}
-use Rattle.command_checks.specs.declared.fault.StepFault.{StepFault}
-use Rattle.session.specs.Changes.{left_with}
+use Rattle.session.proofs.Imports.{◌≡◌, List, refl, print_text, Span, texts_of, WindowOf, sub_table, sub_reads, Table, leaf_count_of, after_log, done_to, Goes, windowed, print_window, GivesUp, GivesUp-then, StepFault, left_with}
 
 pub no_window : (table : Table) (spans : List Span) (fault : StepFault) → GivesUp (windowed table.extents spans) fault → GivesUp (done_to table (print_window table spans)) fault
 unfolding print_window

@@ -1,16 +1,5 @@
 -- The version line of lines, by their first: what it says of the lines before it and behind it.
-use Rattle.std.proofs.Common.{◌≡◌, ℕ, suc, ◌+◌, ◌≤◌, ltb, Bool, true, false, List, [], ◌∷◌, length, drop, Option, None, Some, option_map, refl, sym, ap, subst, ◌∙◌, arith, add-one, zero-add, drop-drop}
-use Rattle.std.specs.Prelude.{if◌then◌else◌, slice_set}
-use Rattle.std.proofs.lemmas.Bool.Decides.{nat_tests}
-use Rattle.layout_io.specs.Files.{File}
-use Rattle.line_grammar.specs.declared.version.Version.{Version}
-use Rattle.schema_lang.specs.VersionOf.{version_of, is_blank}
-use Rattle.worlds.specs.Worlds.{World}
-use Rattle.worlds.specs.Fold.{run_from}
-use Rattle.session_runs.specs.Steps.{step_text}
-use Rattle.session_runs.specs.Scripts.{version_line}
-use Rattle.session_runs.specs.BlankLaws.{passes_blanks}
-use Rattle.session_runs.specs.HeadLaws.{one_later, by_first}
+use Rattle.session_runs.proofs.Imports.{◌≡◌, ℕ, suc, ◌+◌, ◌≤◌, ltb, Bool, true, false, List, [], ◌∷◌, length, drop, Option, None, Some, option_map, refl, sym, ap, subst, ◌∙◌, arith, add-one, zero-add, drop-drop, if◌then◌else◌, slice_set, nat_tests, File, Version, version_of, is_blank, World, run_from, step_text, version_line, passes_blanks, one_later, by_first}
 
 -- where lines have a version line, the first of them is it, or is blank
 data Head (line : List ℕ) (lines : List (List ℕ)) : Option (ℕ × ℕ) → Type 0 where

@@ -1,3 +1,4 @@
+mod Imports
 pub mod Heads
 pub mod Runs
 pub mod Texts

@@ -1,25 +1,6 @@
 -- From the run over the lines of a script to the run of the script.
-use Rattle.std.proofs.Common.{◌≡◌, ℕ, ◌+◌, ◌≤◌, ◌<◌, inl, Bool, true, false, ltb, List, length, take, drop, Option, None, Some, Result, Ok, Err, refl, ap, ◌∙◌, arith}
-use Rattle.std.specs.Prelude.{if◌then◌else◌}
-use Rattle.std.proofs.lemmas.Bool.Decides.{nat_tests}
-use Rattle.layout_io.specs.Files.{File}
-use Rattle.layout_io.specs.Writing.{Writes}
-use Rattle.worlds.specs.Worlds.{empty}
-use Rattle.worlds.specs.FaultTexts.{fault_text}
-use Rattle.worlds.specs.declared.fault.CommandFault.{CommandFault as Fault}
-use Rattle.worlds.specs.declared.fault.CommandFault.TheVariants.{ScriptTooLong, BadVersion}
-use Rattle.worlds.specs.Outcome.{Output}
-use Rattle.worlds.specs.RunAnswers.{IsRun, ended}
-use Rattle.worlds.specs.Fold.{run_from}
-use Rattle.worlds.specs.declared.status.Status.{Status}
-use Rattle.worlds.specs.declared.status.Status.TheVariants.{CommandFault}
-use Rattle.line_grammar.specs.Versions.{version_numbered}
-use Rattle.line_grammar.specs.declared.version.Version.{Version}
-use Rattle.line_grammar.specs.declared.version.Version.TheVariants.{One}
-use Rattle.session_runs.specs.Steps.{step_text}
-use Rattle.session_runs.specs.Scripts.{run_form, run_headed, run_versioned, faulted, script_lines, version_line}
+use Rattle.session_runs.proofs.Imports.{◌≡◌, ℕ, ◌+◌, ◌≤◌, ◌<◌, inl, Bool, true, false, ltb, List, length, take, drop, Option, None, Some, Result, Ok, Err, refl, ap, ◌∙◌, arith, if◌then◌else◌, nat_tests, File, Writes, empty, fault_text, Fault, ScriptTooLong, BadVersion, Output, IsRun, ended, run_from, Status, CommandFault, version_numbered, Version, One, step_text, run_form, run_headed, run_versioned, faulted, script_lines, version_line, run_of_same, same_runs}
 use Rattle.session_runs.proofs.Heads.{skips}
-use Rattle.session_runs.specs.RunLaws.{run_of_same, same_runs}
 
 -- a run that is a fault alone
 run_faulted : {K T E : Type 0} (taken : K → Option (List ℕ)) (faults : K → ℕ) (old new : K) (run : Option ℕ → Output) (read_failed : Type 0) (line : ℕ) (fault : Fault) (written : Result T E) → run None ≡ faulted line fault → Writes taken faults old new written (fault_text line fault) → IsRun taken old new run read_failed (ended written CommandFault)

@@ -1,28 +1,8 @@
 -- From the line that a text is to the text.
-use Rattle.std.proofs.Common.{◌≡◌, ℕ, ◌≤◌, ltb, Bool, false, List, length, Option, None, Some, Result, Ok, Err, refl, sym, ap, subst, ◌∙◌, arith}
-use Rattle.std.specs.Prelude.{◌⊎◌, if◌then◌else◌, IsSome}
-use Rattle.std.proofs.lemmas.Bool.Decides.{nat_tests}
-use Rattle.layout_io.specs.Faults.{Rose}
-use Rattle.layout_io.specs.Files.{File}
-use Rattle.line_grammar.specs.Sentences.{Sentence, deepest}
-use Rattle.line_grammar.specs.declared.line.Line.{Line}
+use Rattle.session_runs.proofs.Imports.{◌≡◌, ℕ, ◌≤◌, ltb, Bool, false, List, length, Option, None, Some, Result, Ok, Err, refl, sym, ap, subst, ◌∙◌, arith, ◌⊎◌, if◌then◌else◌, IsSome, nat_tests, Rose, File, Sentence, deepest, Line, Version, line_of, IsWhole, StepFault, ending_of, LineEnd, IsFit, fault_ending, UnreadOnly, World, Unread, Unreadable, EndsBy, EndCause, Outcome, Faults, Left, step, LineTooLong, TooDeep, step_text, step_line, EndsAs, TellsFile}
 use Rattle.line_grammar.specs.declared.line.Line.TheVariants as line
-use Rattle.line_grammar.specs.declared.version.Version.{Version}
-use Rattle.schema_lang.specs.LineOf.{line_of}
-use Rattle.schema_lang.specs.Parsing.{IsWhole}
-use Rattle.command_checks.specs.declared.fault.StepFault.{StepFault}
 use Rattle.command_checks.specs.declared.fault.StepFault.TheVariants as fault
-use Rattle.worlds.specs.Steps.{ending_of}
-use Rattle.worlds.specs.declared.fold.LineEnd.{LineEnd}
 use Rattle.worlds.specs.declared.fold.LineEnd.TheVariants as end
-use Rattle.session.specs.Answers.{IsFit, ending_of as fault_ending}
-use Rattle.session.specs.Loads.{UnreadOnly}
-use Rattle.worlds.specs.Worlds.{World}
-use Rattle.worlds.specs.Answers.{Unread, Unreadable, EndsBy, EndCause}
-use Rattle.worlds.specs.Outcomes.{Outcome, Faults, Left}
-use Rattle.worlds.specs.Step.{step}
-use Rattle.worlds.specs.declared.fault.CommandFault.TheVariants.{LineTooLong, TooDeep}
-use Rattle.session_runs.specs.Steps.{step_text, step_line, EndsAs, TellsFile}
 
 -- a text that is a line does what the line does
 pub text_steps : (version : Version) (files : List File) (world : World) (text : List ℕ) (sentence : Sentence) (unread : Bool) → length text ≤ 4096 → line_of version text ≡ Ok sentence → deepest sentence ≤ 32 → step_text version files world text unread ≡ step world sentence files unread

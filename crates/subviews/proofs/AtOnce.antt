@@ -1,20 +1,6 @@
 -- Rows of a leaf that are read or stored at once.
-use Rattle.std.proofs.Common.{◌≡◌, ℕ, zero, suc, ◌+◌, ◌<◌, ◌≤◌, true, ℤ, pos, List, [], ◌∷◌, ◌++◌, length, map, take, drop, get_or, Option, Some, None, Result, Ok, Err, is_ok, refl, ap, sym, ◌∙◌, arith}
-use Rattle.std.specs.Option.{option_or}
-use Rattle.std.proofs.lemmas.List.{length-map, length-take-le, length-drop, get_or-map, get_or-take, get_or-drop}
-use Rattle.std.proofs.lemmas.List.FromFn.{map-range_with_len_more}
-use Rattle.piece_bits.specs.Lows.{low_64}
-use Rattle.places.specs.Image.{entry}
-use Rattle.piece_bits.specs.Tables.{with_entry}
-use Rattle.views.specs.Columns.{column, column_writes, in_leaf, with_column, lane_fault, first_lane_fault}
-use Rattle.views.specs.ColumnsLaws.{no_column, entry_more}
-use Rattle.views.specs.Runs.{run_of, told_lane, stored_count}
-use Rattle.views.specs.Stores.{Answer}
-use Rattle.views.specs.Tallies.{Write}
-use Rattle.views.specs.TallyLaws.{after_log-none, after_stores-append}
-use Rattle.views.specs.Tables.{Table, after_stores}
-use Rattle.views.specs.declared.fault.LaneFault.{LaneFault}
-use Rattle.views.specs.declared.fault.StoreFault.{StoreFault}
+use Rattle.subviews.proofs.Imports.{◌≡◌, ℕ, zero, suc, ◌+◌, ◌<◌, ◌≤◌, true, ℤ, pos, List, [], ◌∷◌, ◌++◌, length, map, take, drop, get_or, Option, Some, None, Result, Ok, Err, is_ok, refl, ap, sym, ◌∙◌, arith, option_or, length-map, length-take-le, length-drop, get_or-map, get_or-take, get_or-drop, map-range_with_len_more, low_64, entry, with_entry, column, column_writes, in_leaf, lane_fault, first_lane_fault, no_column, entry_more, run_of, told_lane, stored_count, Answer, Write, after_log-none, after_stores-append, Table, after_stores, LaneFault, StoreFault}
+use Rattle.views.specs.Columns.{with_column}
 
 -- ---- values that are read
 

@@ -1,32 +1,6 @@
 -- Values of a buffer that are stored in its view.
-use Rattle.std.proofs.Common.{◌≡◌, ℕ, zero, suc, ◌+◌, ◌%◌, ◌^◌, ◌<◌, ◌≤◌, ℤ, pos, negsuc, List, [], ◌∷◌, length, map, take, get_or, Option, Some, None, FitsSigned, to_z, of_z, w64, refl, ap, sym, subst, ◌∙◌, arith}
-use Rattle.std.proofs.lemmas.Int.{ints, of_z-to_z}
-use Rattle.std.proofs.Math.Nat.{mod-eq_of_lt}
-use borrow.Author.Gap.{read_sfits}
-use Rattle.std.proofs.lemmas.List.{length-map, take_all}
-use Rattle.extents.specs.Indices.{indices}
-use Rattle.piece_bits.specs.Lows.{low_64, IsWithin64}
-use Rattle.piece_bits.specs.LowsLaws.{code_low}
-use Rattle.piece_bits.specs.Kept.{declared, kept}
-use Rattle.piece_bits.specs.KeptLaws.{declared_same, kept_declared}
-use Rattle.piece_bits.specs.declared.mode.StoreMode.{StoreMode}
-use Rattle.piece_bits.specs.declared.mode.StoreMode.TheVariants.{Strict, Wrap}
-use Rattle.piece_bits.specs.EntryLaws.{stays_declared}
-use Rattle.piece_bits.specs.Tables.{hold_at}
-use Rattle.places.specs.Image.{entry}
-use Rattle.places.specs.declared.piece.Hold.{Hold}
-use Rattle.record_dim.specs.declared.leaf_type.LeafType.{LeafType}
+use Rattle.subviews.proofs.Imports.{◌≡◌, ℕ, zero, suc, ◌+◌, ◌%◌, ◌^◌, ◌<◌, ◌≤◌, ℤ, pos, negsuc, List, [], ◌∷◌, length, map, take, get_or, Option, Some, None, FitsSigned, to_z, of_z, w64, refl, ap, sym, subst, ◌∙◌, arith, ints, of_z-to_z, mod-eq_of_lt, read_sfits, length-map, take_all, indices, low_64, IsWithin64, code_low, declared, kept, declared_same, kept_declared, StoreMode, Strict, Wrap, stays_declared, hold_at, entry, Hold, LeafType, Leaf, leaves, IsDeclared, Fields, column_writes, lane_fault, first_lane_fault, with_values, raised, run_of, run_fault, stored_count, with_run, low_declared, raised_low, raised_all, Fits, Stays, store_answer, kept_or, Table, IsTable, leaf_count_of, leaf_types_of, leaf_type_of, table_holds, answer_of, kept_of, after_stores, LaneFault, IsBufferOf}
 use Rattle.record_dim.specs.declared.leaf_type.LeafType.TheVariants as kinds
-use Rattle.record_dim.specs.Leaves.{Leaf, leaves}
-use Rattle.record_dim.specs.LeafTypes.{IsDeclared}
-use Rattle.record_dim.specs.Trees.{Fields}
-use Rattle.views.specs.Columns.{column_writes, lane_fault, first_lane_fault, with_column as with_values}
-use Rattle.views.specs.Runs.{raised, run_of, run_fault, stored_count, with_run}
-use Rattle.views.specs.RunsLaws.{low_declared, raised_low, raised_all}
-use Rattle.views.specs.Stores.{Fits, Stays, store_answer, kept_or}
-use Rattle.views.specs.Tables.{Table, IsTable, leaf_count_of, leaf_types_of, leaf_type_of, table_holds, answer_of, kept_of, after_stores}
-use Rattle.views.specs.declared.fault.LaneFault.{LaneFault}
-use Rattle.subviews.specs.Plans.{IsBufferOf}
 use Rattle.subviews.proofs.Passes.{same_stays}
 use Rattle.subviews.proofs.AtOnce.{run_count, run_value, low_value}
 

@@ -1,11 +1,5 @@
 -- What a loop over the rows of a window has done so far.
-use Rattle.std.proofs.Common.{◌≡◌, ℕ, zero, suc, ◌+◌, ◌<◌, ℤ, List, [], ◌∷◌, ◌++◌, length, map, take, get_or, flat_map, Contains, Result, Ok, Err, is_err, cond, not, refl, ap, sym, ◌∙◌, arith}
-use Rattle.std.specs.List.{position_or_len}
-use Rattle.std.proofs.lemmas.List.{append-nil, take_more, map-append}
-use Rattle.std.proofs.lemmas.List.Concat.{flat_map-append}
-use Rattle.piece_bits.specs.Tables.{with_entry}
-use Rattle.views.specs.declared.fault.StoreFault.{StoreFault}
-use Rattle.subviews.specs.Stencils.{at_row, first_fault, with_column}
+use Rattle.subviews.proofs.Imports.{◌≡◌, ℕ, zero, suc, ◌+◌, ◌<◌, ℤ, List, [], ◌∷◌, ◌++◌, length, map, take, get_or, flat_map, Contains, Result, Ok, Err, is_err, cond, not, refl, ap, sym, ◌∙◌, arith, position_or_len, append-nil, take_more, map-append, flat_map-append, with_entry, StoreFault, at_row, first_fault, with_column}
 
 -- the logs of a row more
 pub logs_front : {A : Type 0} (logs : ℕ → List A) (rows : List ℕ) (k d : ℕ) → k < length rows → flat_map logs (take k rows) ++ logs (get_or rows k d) ≡ flat_map logs (take (k + 1) rows)

@@ -1,14 +1,5 @@
 -- The rows of a window grow, so those between two that lie as far apart as their places lie one behind another.
-use Rattle.std.proofs.Common.{◌≡◌, ℕ, zero, suc, ◌+◌, ◌-◌, ◌<◌, ◌≤◌, Bool, true, false, List, [], ◌∷◌, length, map, get_or, filter, Some, ap, subst, ◌∙◌, arith}
-use Rattle.std.specs.Prelude.{slice_get, if◌then◌else◌}
-use Rattle.std.specs.List.{enumerate_from}
-use Rattle.std.proofs.lemmas.Option.{slice_get-get_or, slice_get_within}
-use Rattle.extents.specs.Indices.{indices}
-use Rattle.extents.specs.Windows.{holds}
-use Rattle.extents.specs.WindowLaws.{numbers_of}
-use Rattle.subviews.specs.SubViews.{WindowOf, rows_of}
-use Rattle.subviews.specs.Plans.{IsRun, IsRunOf}
-use Rattle.subviews.specs.declared.runs.Run.{Run}
+use Rattle.subviews.proofs.Imports.{◌≡◌, ℕ, zero, suc, ◌+◌, ◌-◌, ◌<◌, ◌≤◌, Bool, true, false, List, [], ◌∷◌, length, map, get_or, filter, Some, ap, subst, ◌∙◌, arith, slice_get, if◌then◌else◌, enumerate_from, slice_get-get_or, slice_get_within, indices, holds, numbers_of, WindowOf, rows_of, IsRun, IsRunOf, Run}
 use Rattle.subviews.proofs.Ways.{row_held, row_inside}
 
 -- none is below the first number

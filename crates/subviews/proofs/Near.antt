@@ -1,27 +1,5 @@
 -- Sums of terms, in rows one behind another, that stay within 64 bits.
-use Rattle.std.proofs.Common.{◌≡◌, ℕ, ◌+◌, ◌*◌, ◌-◌, ◌/◌, ◌^◌, ◌<◌, ◌≤◌, true, ℤ, pos, ◌+ℤ◌, ◌*ℤ◌, List, [], length, map, take, get_or, fold, sum_by, Contains, FitsSigned, w64, ap, sym, subst, ◌∙◌, arith}
-use Rattle.std.specs.Prelude.{max, unsigned_abs, slice_get}
-use Rattle.std.proofs.Math.Nat.{mul-div-le, div-le_self, mul-le-mul_right}
-use Rattle.std.proofs.lemmas.Int.{ints, unsigned_abs-mul, fits_signed_from_abs}
-use Rattle.std.proofs.lemmas.List.{length-map}
-use Rattle.std.proofs.lemmas.List.Sums.{sum_by_more, sum_by_more_le}
-use Rattle.std.proofs.lemmas.Nat.{mul-le}
-use Rattle.extents.specs.Indices.{indices}
-use Rattle.piece_bits.specs.EntryLaws.{stays_declared}
-use Rattle.piece_bits.specs.Lows.{low_64}
-use Rattle.piece_bits.specs.LowsLaws.{low_same}
-use Rattle.piece_bits.specs.Tables.{hold_at}
-use Rattle.places.specs.Image.{entry}
-use Rattle.record_dim.specs.Leaves.{Leaf, leaves}
-use Rattle.record_dim.specs.LeafTypes.{IsDeclared}
-use Rattle.views.specs.Runs.{run_of}
-use Rattle.views.specs.Tables.{Table, IsTable, leaf_count_of, leaf_type_of, table_holds}
-use Rattle.subviews.specs.SubViews.{rows_of}
-use Rattle.subviews.specs.Stencils.{weighted, row_from}
-use Rattle.subviews.specs.declared.plan.Plan.{Plan}
-use Rattle.subviews.specs.declared.runs.Run.{Run}
-use Rattle.subviews.specs.declared.term.Term.{Term}
-use Rattle.subviews.specs.Plans.{IsPlanOf, IsRunOf, all_weights, limit_of}
+use Rattle.subviews.proofs.Imports.{◌≡◌, ℕ, ◌+◌, ◌*◌, ◌-◌, ◌/◌, ◌^◌, ◌<◌, ◌≤◌, true, ℤ, pos, ◌+ℤ◌, ◌*ℤ◌, List, [], length, map, take, get_or, fold, sum_by, Contains, FitsSigned, w64, ap, sym, subst, ◌∙◌, arith, max, unsigned_abs, slice_get, mul-div-le, div-le_self, mul-le-mul_right, ints, unsigned_abs-mul, fits_signed_from_abs, length-map, sum_by_more, sum_by_more_le, mul-le, indices, stays_declared, low_64, low_same, hold_at, entry, Leaf, leaves, IsDeclared, run_of, Table, IsTable, leaf_count_of, leaf_type_of, table_holds, rows_of, weighted, row_from, Plan, Run, Term, IsPlanOf, IsRunOf, all_weights, limit_of}
 use Rattle.subviews.proofs.AtOnce.{low_value}
 use Rattle.subviews.proofs.Values.{added, abs_sum, sum_more, plan_term, reached}
 use Rattle.subviews.proofs.Ways.{row_held}

@@ -1,35 +1,6 @@
 -- The two passes of a round, run by run, and rounds one after another.
-use Rattle.std.proofs.Common.{◌≡◌, ℕ, zero, suc, ◌+◌, ◌<◌, ◌≤◌, true, ℤ, pos, List, [], ◌∷◌, ◌++◌, length, map, take, get_or, Contains, Result, Ok, Err, is_ok, Some, refl, ap, sym, subst, ◌∙◌, ⊎_elim, arith}
-use Rattle.std.specs.Prelude.{slice_get}
-use Rattle.std.proofs.lemmas.Bool.{cases_eq, cases_lt}
-use Rattle.std.proofs.lemmas.List.{length-map, get_or-map, take-map, take_all}
-use Rattle.std.proofs.lemmas.List.Sums.{fold_more}
-use Rattle.std.proofs.lemmas.Option.{slice_get-get_or, slice_get_within, get_or_from_slice_get}
-use Rattle.extents.specs.Indices.{indices}
-use Rattle.places.specs.Image.{entry}
-use Rattle.places.specs.declared.piece.Hold.{Hold}
-use Rattle.record_dim.specs.declared.leaf_type.LeafType.{LeafType}
-use Rattle.record_dim.specs.Trees.{Fields}
-use Rattle.record_dim.specs.Leaves.{leaves, kinds_of}
+use Rattle.subviews.proofs.Imports.{◌≡◌, ℕ, zero, suc, ◌+◌, ◌<◌, ◌≤◌, true, ℤ, pos, List, [], ◌∷◌, ◌++◌, length, map, take, get_or, Contains, Result, Ok, Err, is_ok, Some, refl, ap, sym, subst, ◌∙◌, ⊎_elim, arith, slice_get, cases_eq, cases_lt, length-map, get_or-map, take-map, take_all, fold_more, slice_get-get_or, slice_get_within, get_or_from_slice_get, indices, entry, Hold, LeafType, Fields, leaves, kinds_of, leaf_cells, holds_by, StoreMode, HasShape, hold_at, with_entry, with_entry_shape, with_entry_same, with_entry_other, told_err, told_kept, told_ok, column_writes, with_values, run_of, run_fault, stored_count, with_run, holds_uncounted, Stays, kind_at, store_answer, told, kept_or, Write, Tally, tallied, after_log-none, after_log-append, after_stores-append, tallied-none, logs_more, Table, IsTable, owners_of, leaf_count_of, leaf_type_of, table_holds, answer_of, kept_of, after_log, after_stores, after_write, StoreFault, rows_of, Stencil, values_fault, stencil_value, new_entry, with_column, if_fits, round, next_round, stenciled, term_reads, round_reads, round_writes, round_log, tried_rows, rounds_log, refused_log, StencilFault, Plan, IsBufferOf, IsPlanOf, IsIdle, IsRun, IsFilled, planned}
 use Rattle.map_expr.specs.Terms.{Term}
-use Rattle.map_checks.specs.Mappings.{leaf_cells, holds_by}
-use Rattle.piece_bits.specs.declared.mode.StoreMode.{StoreMode}
-use Rattle.piece_bits.specs.Tables.{HasShape, hold_at, with_entry}
-use Rattle.piece_bits.specs.TableLaws.{with_entry_shape, with_entry_same, with_entry_other}
-use Rattle.views.specs.AnswerLaws.{told_err, told_kept, told_ok}
-use Rattle.views.specs.Columns.{column_writes, with_column as with_values}
-use Rattle.views.specs.Runs.{run_of, run_fault, stored_count, with_run}
-use Rattle.views.specs.UncountedLaws.{holds_uncounted}
-use Rattle.views.specs.Stores.{Stays, kind_at, store_answer, told, kept_or}
-use Rattle.views.specs.Tallies.{Write, Tally, tallied}
-use Rattle.views.specs.TallyLaws.{after_log-none, after_log-append, after_stores-append, tallied-none, logs_more}
-use Rattle.views.specs.Tables.{Table, IsTable, owners_of, leaf_count_of, leaf_type_of, table_holds, answer_of, kept_of, after_log, after_stores, after_write}
-use Rattle.views.specs.declared.fault.StoreFault.{StoreFault}
-use Rattle.subviews.specs.SubViews.{rows_of}
-use Rattle.subviews.specs.Stencils.{Stencil, values_fault, stencil_value, new_entry, with_column, if_fits, round, next_round, stenciled, term_reads, round_reads, round_writes, round_log, tried_rows, rounds_log, refused_log}
-use Rattle.subviews.specs.declared.fault.StencilFault.{StencilFault}
-use Rattle.subviews.specs.declared.plan.Plan.{Plan}
-use Rattle.subviews.specs.Plans.{IsBufferOf, IsPlanOf, IsIdle, IsRun, IsFilled, planned}
 use Rattle.subviews.proofs.Fronts.{logs_front, map_front, fits_more, fault_here, column_same}
 use Rattle.subviews.proofs.AtOnce.{AreTaken, are_taken, run_count, run_value, stored_to, none_of_run, one_of_run}
 

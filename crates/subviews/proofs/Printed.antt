@@ -1,13 +1,5 @@
 -- The text of a subview, row by row.
-use Rattle.std.proofs.Common.{◌≡◌, ℕ, ◌+◌, ◌<◌, ℤ, List, [], length, take, get_or, flat_map, Option, Ok, Contains, arith, refl, ap, subst}
-use Rattle.std.proofs.lemmas.List.{length-map, get_or-map}
-use Rattle.extents.specs.Indices.{indices}
-use Rattle.layout_io.specs.Gathering.{Puts, HasPut}
-use Rattle.layout_io.specs.GatheringLaws.{Puts-append}
-use Rattle.layout_io.specs.WritingLaws.{flat_map_push}
-use Rattle.views.specs.Tallies.{Access}
-use Rattle.views.specs.Tables.{Table, IsTable, after_log}
-use Rattle.subviews.specs.SubViews.{WindowOf, rows_of, outer_row, sub_table}
+use Rattle.subviews.proofs.Imports.{◌≡◌, ℕ, ◌+◌, ◌<◌, ℤ, List, [], length, take, get_or, flat_map, Option, Ok, Contains, arith, refl, ap, subst, length-map, get_or-map, indices, Puts, HasPut, Puts-append, flat_map_push, Access, Table, IsTable, after_log, WindowOf, rows_of, outer_row, sub_table}
 use Rattle.subviews.proofs.Ways.{row_inside}
 
 -- a row of the subview

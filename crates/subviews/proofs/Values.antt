@@ -1,26 +1,5 @@
 -- The sum of the terms at a row.
-use Rattle.std.proofs.Common.{◌≡◌, ℕ, ◌+◌, ◌*◌, ◌^◌, ◌<◌, ◌≤◌, true, ℤ, pos, negsuc, neg_ℤ, ◌+ℤ◌, ◌-ℤ◌, ◌*ℤ◌, ◌≤ℤ◌, List, [], ◌∷◌, ◌++◌, length, map, take, get_or, fold, Contains, FitsSigned, to_z, of_z, ap, sym, subst, ◌∙◌, arith}
-use Rattle.std.specs.Prelude.{unsigned_abs}
-use Rattle.std.specs.Int.{w128}
-use Rattle.std.proofs.lemmas.Int.{ints, unsigned_abs-mul, to_z-of_z, fits_signed_from_abs}
-use Rattle.std.proofs.lemmas.Nat.{mul-le}
-use Rattle.std.proofs.lemmas.List.{length-map, get_or-map, take_more, map-append}
-use Rattle.std.proofs.lemmas.List.Sums.{fold_more}
-use Rattle.extents.specs.Indices.{indices}
-use Rattle.places.specs.Image.{entry}
-use Rattle.record_dim.specs.declared.leaf_type.LeafType.{LeafType}
-use Rattle.record_dim.specs.declared.leaf_type.LeafType.TheVariants.{Bool as Truth, U8, U16, U32, U64, I8, I16, I32, I64}
-use Rattle.record_dim.specs.Leaves.{leaves}
-use Rattle.record_dim.specs.LeafTypes.{IsDeclared}
-use Rattle.record_dim.specs.Trees.{Fields}
-use Rattle.views.specs.StrictLaws.{between_true}
-use Rattle.views.specs.TallyLaws.{after_log-append}
-use Rattle.views.specs.Tables.{Table, after_log, after_read}
-use Rattle.subviews.specs.SubViews.{rows_of}
-use Rattle.subviews.specs.Stencils.{Weighted, weighted, row_from, term_value, term_read, is_weight}
-use Rattle.subviews.specs.declared.term.Term.{Term}
-use Rattle.subviews.specs.declared.plan.Plan.{Plan}
-use Rattle.subviews.specs.Plans.{IsPlanOf, IsTermOf}
+use Rattle.subviews.proofs.Imports.{◌≡◌, ℕ, ◌+◌, ◌*◌, ◌^◌, ◌<◌, ◌≤◌, true, ℤ, pos, negsuc, neg_ℤ, ◌+ℤ◌, ◌-ℤ◌, ◌*ℤ◌, ◌≤ℤ◌, List, [], ◌∷◌, ◌++◌, length, map, take, get_or, fold, Contains, FitsSigned, to_z, of_z, ap, sym, subst, ◌∙◌, arith, unsigned_abs, w128, ints, unsigned_abs-mul, to_z-of_z, fits_signed_from_abs, mul-le, length-map, get_or-map, take_more, map-append, fold_more, indices, entry, LeafType, Truth, U8, U16, U32, U64, I8, I16, I32, I64, leaves, IsDeclared, Fields, between_true, after_log-append, Table, after_log, after_read, rows_of, Weighted, weighted, row_from, term_value, term_read, is_weight, Term, Plan, IsPlanOf, IsTermOf}
 use Rattle.subviews.proofs.Ways.{row_inside, reach_inside}
 
 -- ---- how great numbers are

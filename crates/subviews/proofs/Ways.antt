@@ -1,23 +1,5 @@
 -- From each row of a window a term reads as far away.
-use Rattle.std.proofs.Common.{◌≡◌, ℕ, zero, suc, ◌+◌, ◌*◌, ◌<◌, ◌≤◌, Bool, true, false, ℤ, pos, ◌+ℤ◌, ◌-ℤ◌, List, [], ◌∷◌, ◌++◌, length, map, take, get_or, filter, ◌^◌, All, Contains, Some, slice_set, ⊎_elim, refl, ap, sym, subst, ◌∙◌, arith}
-use Rattle.std.specs.Prelude.{◌&&◌, ◌==◌, nat_lt, slice_get, if◌then◌else◌}
-use Rattle.std.specs.List.{list_all, enumerate_from}
-use Rattle.std.specs.Cmp.Rules.{signed_items}
-use Rattle.std.proofs.lemmas.Bool.{and_parts, ltb-true, cases_eq}
-use Rattle.std.proofs.lemmas.Int.{ints}
-use Rattle.std.proofs.lemmas.List.{take_all, take_more, get_or-set_same, get_or-set_other}
-use Rattle.std.proofs.lemmas.List.Sums.{AllPass-from_list_all, passes_at_first}
-use Rattle.std.proofs.lemmas.Option.{slice_get-get_or, slice_get_within, get_or_from_slice_get}
-use Rattle.extents.specs.Indices.{indices, product, IsInside, IsExtents}
-use Rattle.extents.specs.IndicesLaws.{place, entry_at, same_row}
-use Rattle.extents.specs.Windows.{holds}
-use Rattle.extents.specs.WindowLaws.{numbers_of, inside_length}
-use Rattle.linearize.specs.Slots.{index_at}
-use Rattle.linearize.specs.SlotsLaws.{entry_of_row, index_at_inside}
-use Rattle.subviews.specs.SubViews.{WindowOf, rows_of}
-use Rattle.subviews.specs.Stencils.{away, is_index, row_from, is_offset, reaches}
-use Rattle.subviews.specs.declared.term.Term.{Term}
-use Rattle.subviews.specs.Plans.{IsFar}
+use Rattle.subviews.proofs.Imports.{◌≡◌, ℕ, zero, suc, ◌+◌, ◌*◌, ◌<◌, ◌≤◌, Bool, true, false, ℤ, pos, ◌+ℤ◌, ◌-ℤ◌, List, [], ◌∷◌, ◌++◌, length, map, take, get_or, filter, ◌^◌, All, Contains, Some, slice_set, ⊎_elim, refl, ap, sym, subst, ◌∙◌, arith, ◌&&◌, ◌==◌, nat_lt, slice_get, if◌then◌else◌, list_all, enumerate_from, signed_items, and_parts, ltb-true, cases_eq, ints, take_all, take_more, get_or-set_same, get_or-set_other, AllPass-from_list_all, passes_at_first, slice_get-get_or, slice_get_within, get_or_from_slice_get, indices, product, IsInside, IsExtents, place, entry_at, same_row, holds, numbers_of, inside_length, index_at, entry_of_row, index_at_inside, WindowOf, rows_of, away, is_index, row_from, is_offset, reaches, Term, IsFar}
 
 -- ---- the rows of a window are rows of the array
 

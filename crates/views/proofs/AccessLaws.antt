@@ -1,27 +1,6 @@
 -- A leaf in a row, as the short form of its rule places it.
-use Rattle.std.proofs.Common.{◌≡◌, ℕ, ℤ, ◌+◌, ◌*◌, ◌<◌, ◌≤◌, Bool, false, List, [], length, map, get_or, set, slice_index, refl, sym, ap, ◌∙◌, subst, arith}
-use Rattle.std.specs.Int.{bit_at}
-use Rattle.std.proofs.lemmas.Option.{slice_get-get_or}
-use Rattle.record_dim.specs.LeafTypes.{IsIn}
-use Rattle.places.specs.Image.{number, digit, decoded, entry}
-use Rattle.places.specs.Layout.{Owner}
-use Rattle.places.specs.Laws.{IsLaidOut}
-use Rattle.places.specs.declared.piece.Hold.{Hold}
-use Rattle.places.specs.declared.piece.Piece.{Piece}
-use Rattle.places.specs.declared.rule.PieceRule.{PieceRule}
-use Rattle.blobs.specs.Bits.{bit_of, bit_in}
-use Rattle.piece_bits.specs.CellsLaws.{IsCell, bit_count, apart, read_entry_is, written_table, written_padding, still_laid}
-use Rattle.piece_bits.specs.Scattered.{scattered_pieces}
-use Rattle.piece_bits.specs.Spots.{spots_of, bit_at_spot, AreApart}
-use Rattle.piece_bits.specs.Tables.{AreSized, AreLaid, hold_at, table_in, with_entry}
-use Rattle.piece_bits.specs.Words.{IsField, IsWord, word_bit, word_place, word_pieces, word_signed, word_width}
-use Rattle.piece_bits.specs.WordsLaws.{word_blob, word_room, word_entry, word_held, word_table, word_laid}
-use Rattle.piece_bits.specs.WritesLaws.{AreWritten}
-use Rattle.piece_bits.specs.declared.field.Field.{Field}
-use Rattle.piece_bits.specs.declared.word.Word.{Word}
+use Rattle.views.proofs.Imports.{◌≡◌, ℕ, ℤ, ◌+◌, ◌*◌, ◌<◌, ◌≤◌, Bool, false, List, [], length, map, get_or, set, slice_index, refl, sym, ap, ◌∙◌, subst, arith, bit_at, slice_get-get_or, IsIn, number, digit, decoded, entry, Owner, IsLaidOut, Hold, Piece, PieceRule, bit_of, bit_in, IsCell, bit_count, apart, read_entry_is, written_table, written_padding, still_laid, scattered_pieces, spots_of, bit_at_spot, AreApart, AreSized, AreLaid, hold_at, table_in, with_entry, IsField, IsWord, word_bit, word_place, word_pieces, word_signed, word_width, word_blob, word_room, word_entry, word_held, word_table, word_laid, AreWritten, Field, Word, pieces_by, short_pieces, start_in, IsShortIn, ShortRule}
 use Rattle.piece_bits.specs.declared.word.Word.TheVariants as stored
-use Rattle.piece_bits.specs.Shorts.{pieces_by, short_pieces, start_in, IsShortIn}
-use Rattle.piece_bits.specs.declared.short.ShortRule.{ShortRule}
 
 -- what is not scattered stands at one place
 word_form : (word : Word) (field : Field) → IsField field → (word ≡ stored.Field → field.width ≤ 57) → (word ≡ stored.Scattered → ⊥) → IsWord word field

@@ -1,17 +1,6 @@
 -- Counts from 0 on are numbers of entries.
-use Rattle.std.proofs.Common.{◌≡◌, ℕ, ◌+◌, ◌-◌, ◌/◌, ◌^◌, ◌<◌, min, Bool, true, false, cond, Option, Some, None, List, [], ◌∷◌, length, map, get_or, fold, refl, ap, sym, ◌∙◌, subst, arith}
-use Rattle.std.specs.Prelude.{option_map, IfSome, count_by, if◌then◌else◌, ◌==◌}
-use Rattle.std.proofs.lemmas.List.{length-map, get_or-map}
-use Rattle.std.proofs.lemmas.List.Sums.{sum_by-cons}
-use Rattle.std.proofs.lemmas.List.Folds.{fold-map}
-use Rattle.map_expr.specs.Terms.{Term}
-use Rattle.map_any.specs.Counters.{has_count, granule_of}
-use Rattle.places.specs.Layout.{Owner}
-use Rattle.instrument.specs.Counters.{LeafCounts, HeatCounts, counted, warmed, no_counts, no_heat, granules_of}
-use Rattle.instrument.specs.CounterLaws.{count-from_zero, heat-from_zero}
-use Rattle.views.specs.Tallies.{Access, Read, Write, counts_touched, heat_touched, tallied, no_tally, blob_lengths}
-use Rattle.views.specs.TallyLaws.{tallied-counts, tallied-heat}
-use Rattle.views.specs.Entries.{reads_leaf, writes_leaf, touches, AreCounts, AreHeat, AreEntries}
+use Rattle.views.proofs.Imports.{◌≡◌, ℕ, ◌+◌, ◌-◌, ◌/◌, ◌^◌, ◌<◌, min, Bool, true, false, cond, Option, Some, None, List, [], ◌∷◌, length, map, get_or, fold, refl, ap, sym, ◌∙◌, subst, arith, IfSome, count_by, if◌then◌else◌, ◌==◌, length-map, get_or-map, sum_by-cons, fold-map, Term, has_count, granule_of, Owner, LeafCounts, HeatCounts, counted, warmed, no_counts, no_heat, granules_of, count-from_zero, heat-from_zero, Access, Read, Write, counts_touched, heat_touched, tallied, no_tally, blob_lengths, tallied-counts, tallied-heat, reads_leaf, writes_leaf, touches, AreCounts, AreHeat, AreEntries}
+use Rattle.std.specs.Prelude.{option_map}
 
 -- the leaves that are read, and those that are written
 abbrev leaves_read : List Access → List ℕ

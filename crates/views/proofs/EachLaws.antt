@@ -1,25 +1,5 @@
 -- Pieces of slots that are moved between the blobs of two views, as far behind each other on either side.
-use Rattle.std.proofs.Common.{◌≡◌, ℕ, zero, suc, ◌+◌, ◌*◌, ◌%◌, ◌<◌, ◌≤◌, List, [], length, get_or, set, Option, Some, None, sym, ap, ◌∙◌, subst, arith}
-use Rattle.std.specs.Prelude.{IfSome}
-use Rattle.std.proofs.lemmas.List.{get_or-set_same, length-set, set-set, set-get_or}
-use Rattle.extents.specs.Indices.{indices}
-use Rattle.extents.specs.declared.order.Order.{Order}
-use Rattle.linearize.specs.Slots.{slot_count}
-use Rattle.record_dim.specs.Trees.{Fields}
-use Rattle.record_dim.specs.Leaves.{kinds_of}
-use Rattle.places.specs.Layout.{Owner}
-use Rattle.blobs.specs.Moves.{IsMoved}
-use Rattle.piece_bits.specs.MovedLaws.{AreMoved}
-use Rattle.piece_bits.specs.MovedBytesLaws.{moved_bits}
-use Rattle.map_expr.specs.Terms.{Term}
-use Rattle.map_checks.specs.Arrays.{array_of, lanes_in}
-use Rattle.map_any.specs.ArrayRuns.{IsArrayRun}
-use Rattle.map_any.specs.Strategies.{AreRuns}
-use Rattle.piece_bits.specs.declared.mode.StoreMode.{StoreMode}
-use Rattle.views.specs.Kept.{IsKept, raw_under}
-use Rattle.views.specs.Moves.{size_of, IsRunMoved}
-use Rattle.views.specs.Pieces.{IsMovedEach}
-use Rattle.views.specs.Stores.{kind_at}
+use Rattle.views.proofs.Imports.{◌≡◌, ℕ, zero, suc, ◌+◌, ◌*◌, ◌%◌, ◌<◌, ◌≤◌, List, [], length, get_or, set, Option, Some, None, sym, ap, ◌∙◌, subst, arith, IfSome, get_or-set_same, length-set, set-set, set-get_or, indices, Order, slot_count, Fields, kinds_of, Owner, IsMoved, AreMoved, moved_bits, Term, array_of, lanes_in, IsArrayRun, AreRuns, StoreMode, IsKept, raw_under, size_of, IsRunMoved, IsMovedEach, kind_at}
 use Rattle.views.proofs.RunMoveLaws.{IsRunOf, HasRun, none_moved, target_in, target_room, source_in, source_room, run_kept, run_raw}
 use Rattle.views.proofs.SlotMoveLaws.{runs_joined}
 

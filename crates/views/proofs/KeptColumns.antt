@@ -1,27 +1,5 @@
 -- A view in which a column is stored.
-use Rattle.std.proofs.Common.{◌≡◌, ℕ, zero, suc, ◌+◌, ◌<◌, List, [], ◌∷◌, length, map, get_or, set, ℤ, pos, None, Ok, refl, sym, ap, ◌∙◌, subst, ⊎_elim, arith}
-use Rattle.std.proofs.lemmas.Bool.{cases_eq}
-use Rattle.std.proofs.lemmas.List.{get_or-set_same, get_or-set_other}
-use Rattle.record_dim.specs.declared.leaf_type.LeafType.{LeafType}
-use Rattle.record_dim.specs.Leaves.{kinds_of}
-use Rattle.record_dim.specs.Trees.{Fields}
-use Rattle.record_dim.specs.Schemas.{schema_fields}
-use Rattle.record_dim.specs.declared.schema.Schema.{Schema}
-use Rattle.places.specs.Image.{entry}
-use Rattle.map_expr.specs.declared.expr.MapExpr.{MapExpr}
-use Rattle.map_expr.specs.Terms.{Term, term_of}
-use Rattle.map_checks.specs.Mappings.{layout_by, holds_by}
-use Rattle.piece_bits.specs.Tables.{AreLaid, hold_at}
-use Rattle.views.specs.Columns.{with_column, column_writes, first_lane_fault}
-use Rattle.piece_bits.specs.Kept.{declared}
-use Rattle.piece_bits.specs.KeptLaws.{declared_same}
-use Rattle.piece_bits.specs.declared.mode.StoreMode.{StoreMode}
-use Rattle.piece_bits.specs.Modes.{declared_row, declared_table, IsSettled}
-use Rattle.piece_bits.specs.EntryLaws.{fitting_settled}
-use Rattle.views.specs.Kept.{IsKept, raw_under, table_under}
-use Rattle.views.specs.Stores.{Answer, Fits, kind_at, told}
-use Rattle.views.specs.Tables.{Table, kept_of, after_stores}
-use Rattle.views.specs.Tallies.{Tally, tallied}
+use Rattle.views.proofs.Imports.{◌≡◌, ℕ, zero, suc, ◌+◌, ◌<◌, List, [], ◌∷◌, length, map, get_or, set, ℤ, pos, None, Ok, refl, sym, ap, ◌∙◌, subst, ⊎_elim, arith, cases_eq, get_or-set_same, get_or-set_other, LeafType, kinds_of, Fields, schema_fields, Schema, entry, MapExpr, Term, term_of, layout_by, holds_by, AreLaid, hold_at, with_column, column_writes, first_lane_fault, declared, declared_same, StoreMode, declared_row, declared_table, IsSettled, fitting_settled, IsKept, raw_under, table_under, Answer, Fits, kind_at, told, Table, kept_of, after_stores, Tally, tallied}
 use Rattle.views.proofs.KeptLaws.{raw_shape, hold_some}
 use Rattle.views.proofs.Opened.{seen_from}
 use Rattle.views.proofs.StoreLaws.{map_same}

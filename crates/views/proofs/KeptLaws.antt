@@ -1,38 +1,5 @@
 -- What follows from what a view keeps, over plain layouts, holds and bits.
-use Rattle.std.proofs.Common.{◌≡◌, ℕ, suc, ◌*◌, ◌^◌, ◌∷◌, inr, ◌-◌, ◌<◌, ◌≤◌, Bool, true, false, ℤ, pos, List, [], length, get_or, map, refl, sym, ap, ◌∙◌, subst, ⊎_elim, arith}
-use Rattle.std.specs.List.{sum_by}
-use Rattle.std.proofs.lemmas.List.{length-map}
-use Rattle.std.proofs.lemmas.List.Sums.{sum_by-cons}
-use Rattle.std.proofs.lemmas.Option.{slice_get-get_or}
-use Rattle.std.proofs.lemmas.Nat.{pow_pos}
-use Rattle.std.proofs.lemmas.Int.{ints}
-use Rattle.std.proofs.lemmas.Bool.{cases_lt, cases_Bool}
-use Rattle.record_dim.specs.declared.leaf_type.LeafType.{LeafType}
-use Rattle.record_dim.specs.declared.leaf_type.LeafType.TheVariants.{Bool as Truth, U8, U16, U32, U64, I8, I16, I32, I64}
-use Rattle.record_dim.specs.LeafTypes.{is_signed, IsIn, IsDeclared}
-use Rattle.record_dim.specs.Trees.{Fields}
-use Rattle.record_dim.specs.Leaves.{Leaf, leaves, kinds_of}
-use Rattle.places.specs.declared.piece.Hold.{Hold}
-use Rattle.places.specs.Layout.{Owner}
-use Rattle.places.specs.Image.{entry, image}
-use Rattle.places.specs.Laws.{IsLaidOut}
-use Rattle.extents.specs.Indices.{indices}
-use Rattle.map_expr.specs.Terms.{Term}
-use Rattle.map_checks.specs.Mappings.{leaf_cells, layout_by, holds_by, IsTooBigFor}
-use Rattle.blobs.specs.Bits.{bits_of, bit_in}
-use Rattle.piece_bits.specs.Tables.{AreLaid, HasShape, hold_at, with_entry, zeros}
-use Rattle.piece_bits.specs.TableLaws.{table_shape, tables_same, zeros_shape, zeros_entry}
-use Rattle.piece_bits.specs.EntriesLaws.{blob_is, zeros_read}
-use Rattle.piece_bits.specs.CellsLaws.{bit_in_lt, hold_widths}
-use Rattle.piece_bits.specs.Kept.{declared}
-use Rattle.piece_bits.specs.KeptLaws.{declared_same}
-use Rattle.piece_bits.specs.declared.mode.StoreMode.{StoreMode}
-use Rattle.piece_bits.specs.declared.mode.StoreMode.TheVariants.{Strict}
-use Rattle.piece_bits.specs.Modes.{declared_table, Stays, IsSettled}
-use Rattle.piece_bits.specs.KeptTableLaws.{declared_shape, declared_entry, declared_with_entry}
-use Rattle.piece_bits.specs.EntryLaws.{fitting_settled, same_sign, strict_entry, image_of_table, settled_after}
-use Rattle.views.specs.Stores.{kind_at, Fits, AllStay}
-use Rattle.views.specs.Kept.{IsKept, raw_under, table_under}
+use Rattle.views.proofs.Imports.{◌≡◌, ℕ, suc, ◌*◌, ◌^◌, ◌∷◌, inr, ◌-◌, ◌<◌, ◌≤◌, Bool, true, false, ℤ, pos, List, [], length, get_or, map, refl, sym, ap, ◌∙◌, subst, ⊎_elim, arith, sum_by, length-map, sum_by-cons, slice_get-get_or, pow_pos, ints, cases_lt, cases_Bool, LeafType, Truth, U8, U16, U32, U64, I8, I16, I32, I64, is_signed, IsIn, IsDeclared, Fields, Leaf, leaves, kinds_of, Hold, Owner, entry, image, IsLaidOut, indices, Term, leaf_cells, layout_by, holds_by, IsTooBigFor, bits_of, bit_in, AreLaid, HasShape, hold_at, with_entry, zeros, table_shape, tables_same, zeros_shape, zeros_entry, blob_is, zeros_read, bit_in_lt, hold_widths, declared, declared_same, StoreMode, Strict, declared_table, Stays, IsSettled, declared_shape, declared_entry, declared_with_entry, fitting_settled, same_sign, strict_entry, image_of_table, settled_after, kind_at, Fits, AllStay, IsKept, raw_under, table_under}
 
 -- as many types as leaves
 pub kind_count : (fields : Fields) → length (kinds_of fields) ≡ length (leaves fields)

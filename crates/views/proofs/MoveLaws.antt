@@ -1,32 +1,7 @@
 -- What blobs hold under one expression they hold under another that lays them out the same.
-use Rattle.std.proofs.Common.{◌≡◌, ℕ, suc, ◌*◌, ◌/◌, ◌+◌, ◌<◌, ℤ, List, [], ◌∷◌, map, length, get_or, refl, sym, ap, ◌∙◌, subst, arith}
+use Rattle.views.proofs.Imports.{◌≡◌, ℕ, suc, ◌*◌, ◌/◌, ◌+◌, ◌<◌, ℤ, List, [], ◌∷◌, map, length, get_or, refl, sym, ap, ◌∙◌, subst, arith, sum_by-cons, indices, Fields, kinds_of, IsTooBig, IsLaidOut, Owner, Hold, blocks, entry, AreLaid, AreSized, hold_at, table_in, Term, uncounted, term_of, leaf_cells, layout_by, holds_by, most_slots, MapExpr, schema_fields, Schema, StoreMode, declared_table, AllSettled, IsKept, raw_under, table_under, Table, leaf_types_of, table_holds, layout_uncounted, holds_uncounted, slots_uncounted, Tally, blob_steps, MayMove, settled_moves, may_move, kind_at}
 use Rattle.std.specs.Prelude.{sum_by}
-use Rattle.std.proofs.lemmas.List.Sums.{sum_by-cons}
-use Rattle.extents.specs.Indices.{indices}
-use Rattle.record_dim.specs.Trees.{Fields}
-use Rattle.record_dim.specs.Leaves.{kinds_of}
-use Rattle.places.specs.Holds.{IsTooBig}
-use Rattle.places.specs.Laws.{IsLaidOut}
-use Rattle.places.specs.Layout.{Owner}
-use Rattle.places.specs.declared.piece.Hold.{Hold}
-use Rattle.blobs.specs.Moves.{blocks}
-use Rattle.places.specs.Image.{entry}
-use Rattle.piece_bits.specs.Tables.{AreLaid, AreSized, hold_at, table_in}
-use Rattle.map_expr.specs.Terms.{Term, uncounted, term_of}
-use Rattle.map_checks.specs.Mappings.{leaf_cells, layout_by, holds_by, most_slots}
-use Rattle.map_expr.specs.declared.expr.MapExpr.{MapExpr}
-use Rattle.record_dim.specs.Schemas.{schema_fields}
-use Rattle.record_dim.specs.declared.schema.Schema.{Schema}
 use Rattle.views.proofs.Opened.{seen_from}
-use Rattle.piece_bits.specs.declared.mode.StoreMode.{StoreMode}
-use Rattle.piece_bits.specs.Modes.{declared_table, AllSettled}
-use Rattle.views.specs.Kept.{IsKept, raw_under, table_under}
-use Rattle.views.specs.Tables.{Table, leaf_types_of, table_holds}
-use Rattle.views.specs.UncountedLaws.{layout_uncounted, holds_uncounted, slots_uncounted}
-use Rattle.views.specs.Tallies.{Tally}
-use Rattle.views.specs.Moves.{blob_steps, MayMove}
-use Rattle.views.specs.MovesLaws.{settled_moves, may_move}
-use Rattle.views.specs.Stores.{kind_at}
 use Rattle.views.proofs.KeptLaws.{some_width}
 
 -- the bytes of blobs of a layout's lengths, and the blocks that they are

@@ -1,11 +1,6 @@
 -- Slots that are cut into pieces.
-use Rattle.std.proofs.Common.{◌≡◌, ◌⊎◌, ⊎_elim, inl, inr, ℕ, ◌+◌, ◌-◌, ◌*◌, ◌/◌, ◌%◌, ◌<◌, ◌≤◌, true, ◌||◌, div-mul-le_self, refl, sym, ap, ◌∙◌, subst, arith}
-use Rattle.std.specs.Prelude.{◌==◌, min}
-use Rattle.std.proofs.Math.Nat.{mul-mod_left}
-use Rattle.std.proofs.lemmas.Nat.{div-add-mod', mod-mul-add, mod_below, row_fits, le-div}
-use Rattle.std.proofs.lemmas.Bool.{cases_lt, or_right}
-use Rattle.blobs.specs.Moves.{blocks}
-use Rattle.views.specs.Pieces.{is_cut, piece_count, piece_at, ArePieces}
+use Rattle.views.proofs.Imports.{◌≡◌, ◌⊎◌, ⊎_elim, inl, inr, ℕ, ◌+◌, ◌-◌, ◌*◌, ◌/◌, ◌%◌, ◌<◌, ◌≤◌, true, ◌||◌, div-mul-le_self, refl, sym, ap, ◌∙◌, subst, arith, ◌==◌, mul-mod_left, div-add-mod', mod-mul-add, mod_below, row_fits, le-div, cases_lt, or_right, blocks, is_cut, piece_count, piece_at, ArePieces}
+use Rattle.std.specs.Prelude.{min}
 
 -- a rest that stays below its divisor
 mod_more : (slot more n : ℕ) → slot % n + more < n → (slot + more) % n ≡ slot % n + more

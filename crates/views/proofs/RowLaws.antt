@@ -1,17 +1,5 @@
 -- The values of a row, one leaf more.
-use Rattle.std.proofs.Common.{◌≡◌, true, ℕ, ◌+◌, ◌<◌, ◌≤◌, ℤ, pos, List, [], ◌∷◌, length, take, get_or, set, Result, Ok, is_ok, refl, sym, ap, ◌∙◌, arith}
-use Rattle.std.specs.Prelude.{OnOk}
-use Rattle.std.specs.List.{enumerate_from}
-use Rattle.std.proofs.lemmas.List.{take_more, take_all, length-map, length-set, set-set, set-get_or, get_or-set_same, take-set-le, get_or-map}
-use Rattle.std.proofs.lemmas.List.FromFn.{length-enumerate_from, get_or-enumerate_from}
-use Rattle.piece_bits.specs.Tables.{with_entry}
-use Rattle.views.specs.Tables.{Table, answer_of, kept_of, leaf_count_of, after_log, after_stores, after_read, after_write}
-use Rattle.views.specs.Stores.{kept_row, told}
-use Rattle.views.specs.AnswerLaws.{told_ok}
-use Rattle.views.specs.TallyLaws.{after_log-none, after_log-append, accesses_more}
-use Rattle.views.specs.HalfLaws.{half, half_more, half_whole}
-use Rattle.views.specs.Tallies.{Access, Read, Write, row_accesses}
-use Rattle.views.specs.declared.fault.StoreFault.{StoreFault}
+use Rattle.views.proofs.Imports.{◌≡◌, true, ℕ, ◌+◌, ◌<◌, ◌≤◌, ℤ, pos, List, [], ◌∷◌, length, take, get_or, set, Result, Ok, is_ok, refl, sym, ap, ◌∙◌, arith, OnOk, enumerate_from, take_more, take_all, length-map, length-set, set-set, set-get_or, get_or-set_same, take-set-le, get_or-map, length-enumerate_from, get_or-enumerate_from, with_entry, Table, answer_of, kept_of, leaf_count_of, after_log, after_stores, after_read, after_write, kept_row, told, told_ok, after_log-none, after_log-append, accesses_more, half, half_more, half_whole, Access, Read, Write, row_accesses, StoreFault}
 
 -- the values before a leaf were read
 pub record AreRead (old now : Table) (row : ℕ) (values : List ℤ) (leaf : ℕ) : Type 0 where

@@ -1,35 +1,6 @@
 -- Rows of a leaf that lie in a stretch.
-use Rattle.std.proofs.Common.{◌≡◌, ℕ, zero, suc, ◌+◌, ◌^◌, ◌<◌, ◌≤◌, Bool, true, false, ◌&&◌, List, [], ◌∷◌, length, map, take, drop, get_or, set, slice_index, ℤ, pos, ◌≤ℤ◌, FitsSigned, of_z, w64, refl, sym, ap, ◌∙◌, subst, arith}
-use Rattle.std.specs.Int.{bit_at}
-use Rattle.std.specs.List.{range_with_len}
-use Rattle.std.proofs.Math.Facts.{Fits-of_z}
-use Rattle.std.proofs.lemmas.Int.{ints}
-use Rattle.std.proofs.lemmas.List.{length-map, get_or-map, get_or-set_same, set-set, length-take, length-drop, get_or-drop, get_or-take, get_or_default, same_lists}
-use Rattle.std.proofs.lemmas.List.FromFn.{length-range_with_len}
-use Rattle.record_dim.specs.LeafTypes.{IsIn, IsDeclared, least_of, greatest_of, least_in, greatest_in}
-use Rattle.record_dim.specs.declared.leaf_type.LeafType.{LeafType}
+use Rattle.views.proofs.Imports.{◌≡◌, ℕ, zero, suc, ◌+◌, ◌^◌, ◌<◌, ◌≤◌, Bool, true, false, ◌&&◌, List, [], ◌∷◌, length, map, take, drop, get_or, set, slice_index, ℤ, pos, ◌≤ℤ◌, FitsSigned, of_z, w64, refl, sym, ap, ◌∙◌, subst, arith, bit_at, range_with_len, Fits-of_z, ints, length-map, get_or-map, get_or-set_same, set-set, length-take, length-drop, get_or-drop, get_or-take, get_or_default, same_lists, length-range_with_len, IsIn, IsDeclared, least_of, greatest_of, least_in, greatest_in, LeafType, number, digit, entry, Owner, IsLaidOut, Hold, bit_of, PieceRule, AreSized, AreLaid, hold_at, table_in, with_entry, word_place, word_width, start_in, IsShortIn, stretch_place, IsStretch, stretch_fits, ShortRule, Stretch, low_64, code_low, stretched_at, HasRoom, ArePut, word_narrow, in_leaf, column, with_column, no_column, entry_more, raised, Fits}
 use Rattle.record_dim.specs.declared.leaf_type.LeafType.TheVariants as kinds
-use Rattle.places.specs.Image.{number, digit, entry}
-use Rattle.places.specs.Layout.{Owner}
-use Rattle.places.specs.Laws.{IsLaidOut}
-use Rattle.places.specs.declared.piece.Hold.{Hold}
-use Rattle.blobs.specs.Bits.{bit_of}
-use Rattle.places.specs.declared.rule.PieceRule.{PieceRule}
-use Rattle.piece_bits.specs.Tables.{AreSized, AreLaid, hold_at, table_in, with_entry}
-use Rattle.piece_bits.specs.Words.{word_place, word_width}
-use Rattle.piece_bits.specs.Shorts.{start_in, IsShortIn}
-use Rattle.piece_bits.specs.Stretches.{stretch_place, IsStretch}
-use Rattle.piece_bits.specs.StretchesLaws.{stretch_fits}
-use Rattle.piece_bits.specs.declared.short.ShortRule.{ShortRule}
-use Rattle.piece_bits.specs.declared.stretch.Stretch.{Stretch}
-use Rattle.piece_bits.specs.Lows.{low_64}
-use Rattle.piece_bits.specs.LowsLaws.{code_low}
-use Rattle.piece_bits.specs.Stretched.{stretched_at, HasRoom, ArePut}
-use Rattle.piece_bits.proofs.Numbers.{word_narrow}
-use Rattle.views.specs.Columns.{in_leaf, column, with_column}
-use Rattle.views.specs.ColumnsLaws.{no_column, entry_more}
-use Rattle.views.specs.Runs.{raised}
-use Rattle.views.specs.Stores.{Fits}
 use Rattle.views.proofs.AccessLaws.{is_word, blob_there, word_there, word_read, word_put, word_lies}
 
 -- ---- low bits

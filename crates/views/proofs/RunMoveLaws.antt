@@ -1,41 +1,7 @@
 -- Runs of slots that are moved between the blobs of two views.
-use Rattle.std.proofs.Common.{◌≡◌, ⊎_elim, inl, ℕ, ◌+◌, ◌*◌, ◌%◌, ◌^◌, ◌<◌, ◌≤◌, ℤ, List, [], false, map, length, get_or, slice_index, Option, Some, None, refl, sym, ap, ◌∙◌, subst, arith}
-use Rattle.std.specs.Prelude.{⊤, IfSome, IsSomeAnd}
-use Rattle.std.proofs.lemmas.Bool.{cases_lt, cases_eq}
-use Rattle.std.proofs.lemmas.List.{get_or-map, length-map}
-use Rattle.extents.specs.Indices.{indices}
-use Rattle.extents.specs.declared.order.Order.{Order}
-use Rattle.linearize.specs.Slots.{slot_at, slot_count}
-use Rattle.record_dim.specs.declared.leaf_type.LeafType.{LeafType}
-use Rattle.record_dim.specs.declared.leaf_type.LeafType.TheVariants.{Bool as Truth, U8, U16, U32, U64, I8, I16, I32, I64}
-use Rattle.record_dim.specs.LeafTypes.{width_of}
-use Rattle.record_dim.specs.Trees.{Fields}
-use Rattle.record_dim.specs.Leaves.{kinds_of}
-use Rattle.places.specs.Holds.{full_holds, hold_of}
-use Rattle.places.specs.Image.{entry}
-use Rattle.places.specs.Laws.{IsLaidOut}
-use Rattle.places.specs.Layout.{Owner}
-use Rattle.places.specs.declared.piece.Cell.{Cell}
-use Rattle.places.specs.declared.piece.Hold.{Hold}
-use Rattle.piece_bits.specs.MovedLaws.{AreMoved}
-use Rattle.piece_bits.specs.Tables.{HasShape, table_in, hold_at}
-use Rattle.map_expr.specs.Terms.{Term, Aos, Soa, Aosoa, BitAos, BitSoa, Split, Byteswap, Bytesplit, Change, Count, Heat, Named}
-use Rattle.map_checks.specs.LeafCells.{leaf_cells_kinds, holds_by_kind}
-use Rattle.map_checks.specs.Mappings.{leaf_cells, layout_by, holds_by, most_slots, IsTooBigFor}
-use Rattle.map_checks.specs.Arrays.{array_of, lanes_in}
-use Rattle.map_any.specs.ArrayRuns.{IsArrayRun}
-use Rattle.map_any.specs.ArrayRunLaws.{array_holds}
-use Rattle.map_any.specs.Strategies.{AreRuns}
-use Rattle.piece_bits.specs.declared.mode.StoreMode.{StoreMode}
-use Rattle.piece_bits.specs.Modes.{declared_table, IsSettled, AllSettled}
-use Rattle.piece_bits.specs.KeptTableLaws.{declared_entry}
-use Rattle.piece_bits.specs.Kept.{declared}
-use Rattle.views.specs.Kept.{IsKept, IsMappingOf, raw_under, table_under}
+use Rattle.views.proofs.Imports.{◌≡◌, ⊎_elim, inl, ℕ, ◌+◌, ◌*◌, ◌%◌, ◌^◌, ◌<◌, ◌≤◌, ℤ, List, [], false, map, length, get_or, slice_index, Option, Some, None, refl, sym, ap, ◌∙◌, subst, arith, ⊤, IfSome, IsSomeAnd, cases_lt, cases_eq, get_or-map, length-map, indices, Order, slot_at, slot_count, LeafType, Truth, U8, U16, U32, U64, I8, I16, I32, I64, width_of, Fields, kinds_of, full_holds, hold_of, entry, IsLaidOut, Owner, Cell, Hold, AreMoved, HasShape, table_in, hold_at, Term, Aos, Soa, Aosoa, BitAos, BitSoa, Split, Byteswap, Bytesplit, Change, Count, Named, leaf_cells_kinds, holds_by_kind, leaf_cells, layout_by, holds_by, most_slots, IsTooBigFor, array_of, lanes_in, IsArrayRun, array_holds, AreRuns, StoreMode, declared_table, IsSettled, AllSettled, declared_entry, declared, IsKept, IsMappingOf, raw_under, table_under, size_of, IsInBlock, IsInRun, IsRunMoved, Table, leaf_count_of, settled_moves, full_hold, full_own, run_laid, run_moved, kind_at}
+use Rattle.map_expr.specs.Terms.{Heat}
 use Rattle.views.proofs.KeptLaws.{raw_shape, hold_some}
-use Rattle.views.specs.Moves.{size_of, IsInBlock, IsInRun, IsRunMoved}
-use Rattle.views.specs.Tables.{Table, leaf_count_of}
-use Rattle.views.specs.MovesLaws.{settled_moves, full_hold, full_own, run_laid, run_moved}
-use Rattle.views.specs.Stores.{kind_at}
 
 -- what is said of a value three times says another thing of it
 if_three : {X : Type 0} (o : Option X) (P Q R S : X → Type 0) → ((x : X) → P x → Q x → R x → S x) → IfSome o P → IfSome o Q → IfSome o R → IfSome o S

@@ -1,33 +1,5 @@
 -- A view in which a run is put.
-use Rattle.std.proofs.Common.{◌≡◌, ℕ, ◌+◌, ◌<◌, ◌≤◌, false, List, length, map, take, get_or, ℤ, pos, sym, ap, ◌∙◌, subst, ⊎_elim, arith}
-use Rattle.std.proofs.lemmas.Bool.{cases_lt}
-use Rattle.std.proofs.lemmas.List.{length-map, length-take, get_or-map, get_or-take}
-use Rattle.record_dim.specs.Leaves.{kinds_of}
-use Rattle.record_dim.specs.LeafTypes.{IsDeclared}
-use Rattle.record_dim.specs.Schemas.{schema_fields}
-use Rattle.record_dim.specs.declared.leaf_type.LeafType.{LeafType}
-use Rattle.record_dim.specs.declared.schema.Schema.{Schema}
-use Rattle.places.specs.Image.{entry}
-use Rattle.places.specs.Layout.{Owner}
-use Rattle.places.specs.declared.piece.Cell.{Cell}
-use Rattle.places.specs.declared.piece.Hold.{Hold}
-use Rattle.map_expr.specs.Terms.{Term, term_of}
-use Rattle.map_expr.specs.declared.expr.MapExpr.{MapExpr}
-use Rattle.map_checks.specs.LeafCells.{kinds_are}
-use Rattle.map_checks.specs.Mappings.{layout_by, holds_by}
-use Rattle.map_any.specs.Counters.{is_counted}
-use Rattle.piece_bits.specs.Tables.{AreLaid, hold_at, table_in}
-use Rattle.piece_bits.specs.EntryLaws.{stays_declared}
-use Rattle.piece_bits.specs.declared.mode.StoreMode.{StoreMode}
-use Rattle.piece_bits.specs.Lows.{low_64}
-use Rattle.views.specs.Columns.{column_writes, with_column}
-use Rattle.views.specs.Kept.{IsKept, IsMappingOf, IsTallied, raw_under}
-use Rattle.views.specs.Runs.{raised, run_of, TakesAll}
-use Rattle.views.specs.RunsLaws.{raised_low, raised_all, run_entry, run_length}
-use Rattle.views.specs.Stores.{Fits, kind_at}
-use Rattle.views.specs.Tables.{Table, IsTable, leaf_count_of, leaf_type_of, table_holds, kept_of, after_log, after_stores}
-use Rattle.views.specs.Tallies.{Tally, tallied}
-use Rattle.views.specs.TallyLaws.{after_log-none}
+use Rattle.views.proofs.Imports.{◌≡◌, ℕ, ◌+◌, ◌<◌, ◌≤◌, false, List, length, map, take, get_or, ℤ, pos, sym, ap, ◌∙◌, subst, ⊎_elim, arith, cases_lt, length-map, length-take, get_or-map, get_or-take, kinds_of, IsDeclared, schema_fields, LeafType, Schema, entry, Owner, Cell, Hold, Term, term_of, MapExpr, kinds_are, layout_by, holds_by, is_counted, AreLaid, hold_at, table_in, stays_declared, StoreMode, low_64, column_writes, with_column, IsKept, IsMappingOf, IsTallied, raw_under, raised, run_of, TakesAll, raised_low, raised_all, run_entry, run_length, Fits, kind_at, Table, IsTable, leaf_count_of, leaf_type_of, table_holds, kept_of, after_log, after_stores, Tally, tallied, after_log-none}
 use Rattle.views.proofs.KeptLaws.{kind_count}
 use Rattle.views.proofs.ShownLaws.{shown_here}
 use Rattle.views.proofs.KeptColumns.{kept_column, table_column, seen_column}

@@ -1,20 +1,6 @@
 -- A run that is read or stored row by row.
-use Rattle.std.proofs.Common.{◌≡◌, ℕ, suc, ◌+◌, ◌<◌, List, [], ◌∷◌, ◌++◌, length, map, take, drop, get_or, set, ℤ, pos, Some, None, sym, ap, ◌∙◌, ⊎_elim, arith}
+use Rattle.views.proofs.Imports.{◌≡◌, ℕ, suc, ◌+◌, ◌<◌, List, [], ◌∷◌, ◌++◌, length, map, take, drop, get_or, set, ℤ, pos, Some, None, sym, ap, ◌∙◌, ⊎_elim, arith, cases_eq, length-set, get_or-set_same, get_or-set_other, take-map, drop-length, map-range_with_len_more, entry, with_entry, low_64, column_reads, column_writes, with_column, first_lane_fault, entry_more, run_fault, stored_count, with_run, Table, answer_of, kept_of, after_log, after_read, after_stores, Write, after_log-none, after_stores-append, LaneFault}
 use Rattle.std.specs.Prelude.{Option}
-use Rattle.std.proofs.lemmas.Bool.{cases_eq}
-use Rattle.std.proofs.lemmas.List.{length-set, get_or-set_same, get_or-set_other, take-map}
-use Rattle.std.proofs.Math.Seq.{drop-length}
-use Rattle.std.proofs.lemmas.List.FromFn.{map-range_with_len_more}
-use Rattle.places.specs.Image.{entry}
-use Rattle.piece_bits.specs.Tables.{with_entry}
-use Rattle.piece_bits.specs.Lows.{low_64}
-use Rattle.views.specs.Columns.{column_reads, column_writes, with_column, first_lane_fault}
-use Rattle.views.specs.ColumnsLaws.{entry_more}
-use Rattle.views.specs.Runs.{run_fault, stored_count, with_run}
-use Rattle.views.specs.Tables.{Table, answer_of, kept_of, after_log, after_read, after_stores}
-use Rattle.views.specs.Tallies.{Write}
-use Rattle.views.specs.TallyLaws.{after_log-none, after_stores-append}
-use Rattle.views.specs.declared.fault.LaneFault.{LaneFault}
 use Rattle.views.proofs.ColumnLaws.{column_read_more}
 use Rattle.views.proofs.StoredLaws.{HasStored}
 

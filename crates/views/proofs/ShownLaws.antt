@@ -1,19 +1,5 @@
 -- What a view and its mapping say of the same layout.
-use Rattle.std.proofs.Common.{◌≡◌, ℕ, List, length, map, sym, ap, ◌∙◌, subst}
-use Rattle.record_dim.specs.Leaves.{kinds_of}
-use Rattle.record_dim.specs.Schemas.{schema_fields}
-use Rattle.record_dim.specs.declared.schema.Schema.{Schema}
-use Rattle.record_dim.specs.declared.leaf_type.LeafType.{LeafType}
-use Rattle.places.specs.Layout.{Owner}
-use Rattle.places.specs.declared.piece.Cell.{Cell}
-use Rattle.places.specs.declared.piece.Hold.{Hold}
-use Rattle.map_expr.specs.Terms.{Term, term_of}
-use Rattle.map_expr.specs.declared.expr.MapExpr.{MapExpr}
-use Rattle.map_checks.specs.LeafCells.{kinds_are}
-use Rattle.piece_bits.specs.declared.mode.StoreMode.{StoreMode}
-use Rattle.views.specs.Kept.{IsKept, IsMappingOf}
-use Rattle.views.specs.Tables.{Table, leaf_types_of, owners_of, table_holds}
-use Rattle.views.specs.Tallies.{Tally}
+use Rattle.views.proofs.Imports.{◌≡◌, ℕ, List, length, map, sym, ap, ◌∙◌, subst, kinds_of, schema_fields, Schema, LeafType, Owner, Cell, Hold, Term, term_of, MapExpr, kinds_are, StoreMode, IsKept, IsMappingOf, Table, leaf_types_of, owners_of, table_holds, Tally}
 use Rattle.views.proofs.Opened.{seen_from, rows_seen}
 
 same_place : (P : List (List Owner) → ℕ → List LeafType → List Hold → Type 0) {layout there : List (List Owner)} {slots rows : ℕ} {kinds types : List LeafType} {holds stored : List Hold}

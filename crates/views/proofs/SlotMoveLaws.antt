@@ -1,14 +1,5 @@
 -- Slots of a leaf that are moved one run after another.
-use Rattle.std.proofs.Common.{◌≡◌, ⊎_elim, ℕ, ◌+◌, ◌<◌, ◌≤◌, ℤ, List, length, Option, Some, None, sym, ap, ◌∙◌, subst, arith}
-use Rattle.std.specs.Prelude.{IfSome}
-use Rattle.std.proofs.lemmas.Bool.{cases_lt}
-use Rattle.extents.specs.Indices.{indices}
-use Rattle.extents.specs.declared.order.Order.{Order}
-use Rattle.linearize.specs.Slots.{slot_at}
-use Rattle.map_checks.specs.Arrays.{array_of}
-use Rattle.views.specs.Moves.{IsInBlock, IsRunMoved}
-use Rattle.views.specs.MovesLaws.{with_rows}
-use Rattle.views.specs.Tables.{Table, IsTable, leaf_count_of}
+use Rattle.views.proofs.Imports.{◌≡◌, ⊎_elim, ℕ, ◌+◌, ◌<◌, ◌≤◌, ℤ, List, length, Option, Some, None, sym, ap, ◌∙◌, subst, arith, IfSome, cases_lt, indices, Order, slot_at, array_of, IsInBlock, IsRunMoved, with_rows, Table, IsTable, leaf_count_of}
 
 -- a run behind another
 run_joined : (order : Order) (extents : List ℕ) (rows leaves leaf slot first count : ℕ) (source old mid new : List (List ℤ)) → leaf < leaves

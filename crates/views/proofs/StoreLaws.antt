@@ -1,17 +1,6 @@
 -- What is written for a value that is stored.
-use Rattle.std.proofs.Common.{◌≡◌, ℕ, ◌<◌, ◌≤◌, List, [], ◌∷◌, length, map, get_or, ℤ, pos, zero, suc, Ok, refl, sym, ap, ◌∙◌, subst, arith}
-use Rattle.record_dim.specs.declared.leaf_type.LeafType.{LeafType}
-use Rattle.places.specs.declared.piece.Hold.{Hold}
-use Rattle.piece_bits.specs.Tables.{hold_at, with_entry}
-use Rattle.piece_bits.specs.Kept.{declared, held}
-use Rattle.piece_bits.specs.KeptLaws.{declared_same}
-use Rattle.piece_bits.specs.EntryLaws.{fitting_held, fitting_settled, fitting_stays, stays_settled}
-use Rattle.piece_bits.specs.declared.mode.StoreMode.{StoreMode}
-use Rattle.piece_bits.specs.declared.mode.StoreMode.TheVariants.{Strict}
-use Rattle.views.specs.AnswerLaws.{answer_stays, stays_answer, strict_kept, told_kept}
-use Rattle.views.specs.Stores.{Fits, Stays, kept_or, told}
-use Rattle.views.specs.Tables.{Table, answer_of, kept_of, leaf_type_of, table_holds, after_raw, after_stores, after_write, IsSettledIn}
-use Rattle.views.specs.Tallies.{Write}
+use Rattle.views.proofs.Imports.{◌≡◌, ℕ, ◌<◌, ◌≤◌, List, [], ◌∷◌, length, map, get_or, ℤ, pos, zero, suc, Ok, refl, sym, ap, ◌∙◌, subst, arith, LeafType, Hold, hold_at, with_entry, declared, held, declared_same, fitting_held, fitting_settled, fitting_stays, stays_settled, StoreMode, Strict, answer_stays, stays_answer, strict_kept, told_kept, Fits, kept_or, told, Table, answer_of, kept_of, leaf_type_of, table_holds, after_raw, after_stores, after_write, IsSettledIn, Write}
+use Rattle.views.specs.Stores.{Stays}
 
 -- ---- a value that fits
 

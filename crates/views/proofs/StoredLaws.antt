@@ -1,21 +1,7 @@
 -- The values of one leaf that are stored, a lane at a time.
-use Rattle.std.proofs.Common.{◌≡◌, ℕ, zero, suc, ◌+◌, ◌<◌, ◌≤◌, List, [], ◌∷◌, ◌++◌, length, take, drop, get_or, ℤ, pos, Some, None, Ok, Err, refl, sym, ap, ◌∙◌, arith, subst, drop-cons, length-take, take_all, FitsSigned, to_z, of_z, w64}
+use Rattle.views.proofs.Imports.{◌≡◌, ℕ, zero, suc, ◌+◌, ◌<◌, ◌≤◌, List, [], ◌∷◌, ◌++◌, length, take, drop, get_or, ℤ, pos, Some, None, Ok, Err, refl, sym, ap, ◌∙◌, arith, subst, drop-cons, FitsSigned, to_z, of_z, w64, w128, to_z-of_z, option_or, map-range_with_len_more, declared, with_entry, Answer, told, told_err, Table, leaf_type_of, after_raw, after_stores, Write, after_log-none, after_stores-append, column_writes, with_column, lane_fault, first_lane_fault, no_column, entry_more, StoreFault, LaneFault}
+use Rattle.std.proofs.Common.{length-take, take_all}
 use Rattle.std.specs.Prelude.{Option, Result}
-use Rattle.std.specs.Int.{w128}
-use Rattle.std.proofs.lemmas.Int.{to_z-of_z}
-use Rattle.std.specs.Option.{option_or}
-use Rattle.std.proofs.lemmas.List.FromFn.{map-range_with_len_more}
-use Rattle.piece_bits.specs.Kept.{declared}
-use Rattle.piece_bits.specs.Tables.{with_entry}
-use Rattle.views.specs.Stores.{Answer, told}
-use Rattle.views.specs.AnswerLaws.{told_err}
-use Rattle.views.specs.Tables.{Table, leaf_type_of, after_raw, after_stores}
-use Rattle.views.specs.Tallies.{Write}
-use Rattle.views.specs.TallyLaws.{after_log-none, after_stores-append}
-use Rattle.views.specs.Columns.{column_writes, with_column, lane_fault, first_lane_fault}
-use Rattle.views.specs.ColumnsLaws.{no_column, entry_more}
-use Rattle.views.specs.declared.fault.StoreFault.{StoreFault}
-use Rattle.views.specs.declared.fault.LaneFault.{LaneFault}
 
 -- a lane whose value is taken
 no_lane_fault : (lane : ℕ) (result : Result ℤ StoreFault) → lane_fault lane result ≡ None → told result ≡ Ok tt

@@ -1,19 +1,7 @@
 -- One access, and the same accesses again and again.
-use Rattle.std.proofs.Common.{◌≡◌, ℕ, zero, suc, ◌+◌, ◌*◌, ◌-◌, ◌^◌, ◌<◌, min, List, ◌++◌, length, map, Bool, true, false, Option, Some, None, refl, ap, sym, ◌∙◌, arith}
-use Rattle.std.specs.Prelude.{option_map, IfSome, if◌then◌else◌, slice_index, slice_set}
-use Rattle.std.specs.List.{enumerate_from, fold, range_with_len}
-use Rattle.std.proofs.Math.Path.{fun_ext}
-use Rattle.std.proofs.lemmas.List.Folds.{fold-map}
-use Rattle.std.proofs.lemmas.List.Sums.{fold-append}
-use Rattle.places.specs.Layout.{Owner}
-use Rattle.places.specs.Touched.{is_hot}
-use Rattle.instrument.specs.Counters.{LeafCounts, HeatCounts, HasLeaves, counted_times, warmed_times}
-use Rattle.instrument.specs.TimesLaws.{counted-counted, warmed-warmed, raised-capped}
-use Rattle.views.specs.Tallies.{Access, Read, Write, Tally, counts_touched, heat_touched, touched, tallied, leaf_touched, granules_touched, access_to, row_accesses, all_accesses, times_accesses, all_touches}
-use Rattle.views.specs.Repeated.{counts_after, heat_after, leaf_raised, leaves_raised, granules_raised, row_raised, rows_raised}
-use Rattle.views.specs.TallyLaws.{tallied-counts, tallied-heat}
-use Rattle.views.specs.OrderLaws.{leaves_both, heated_both}
-use Rattle.views.specs.RepeatLaws.{copies, copies_add, copies_copies, fold-same, fold-flat_map, many, fold-copies}
+use Rattle.views.proofs.Imports.{◌≡◌, ℕ, zero, suc, ◌+◌, ◌*◌, ◌-◌, ◌^◌, ◌<◌, min, List, ◌++◌, length, map, Bool, true, false, Option, Some, None, refl, ap, sym, ◌∙◌, arith, IfSome, if◌then◌else◌, slice_set, enumerate_from, range_with_len, fun_ext, fold-map, fold-append, Owner, is_hot, LeafCounts, HeatCounts, HasLeaves, counted_times, warmed_times, counted-counted, warmed-warmed, raised-capped, Access, Read, Write, Tally, counts_touched, heat_touched, touched, tallied, leaf_touched, granules_touched, access_to, row_accesses, all_accesses, times_accesses, all_touches, counts_after, heat_after, leaf_raised, leaves_raised, granules_raised, row_raised, rows_raised, tallied-counts, tallied-heat, leaves_both, heated_both, copies, copies_add, copies_copies, fold-same, fold-flat_map, many, fold-copies}
+use Rattle.std.specs.Prelude.{option_map, slice_index}
+use Rattle.std.specs.List.{fold}
 
 -- the counters after one access
 pub touched_both : (layout : List (List Owner)) (write : Bool) (row leaf : ℕ) (tally : Tally) (counts : Option LeafCounts) (heat : Option HeatCounts)

@@ -1,23 +1,7 @@
 -- A leaf in a row that is read by one load of eight bytes.
-use Rattle.std.proofs.Common.{◌≡◌, ℕ, ◌+◌, ◌*◌, ◌/◌, ◌<◌, ◌≤◌, Bool, true, false, ◌||◌, nat_eq, ◌⊎◌, inl, inr, ⊎_elim, List, [], length, get_or, refl, sym, ap, ◌∙◌, arith}
-use Rattle.std.proofs.lemmas.Bool.{cases_lt}
-use Rattle.std.proofs.lemmas.List.{get_or_past}
-use Rattle.places.specs.Image.{number, decoded}
-use Rattle.places.specs.NumbersLaws.{number_same}
-use Rattle.places.specs.Layout.{Owner}
-use Rattle.blobs.specs.Bits.{bit_of}
-use Rattle.blobs.specs.Turned.{turned_place, IsTurned}
-use Rattle.piece_bits.specs.Tables.{AreLaid}
-use Rattle.piece_bits.specs.Words.{word_place, word_signed, word_width}
-use Rattle.piece_bits.specs.declared.field.Field.{Field}
-use Rattle.piece_bits.specs.declared.word.Word.{Word}
+use Rattle.views.proofs.Imports.{◌≡◌, ℕ, ◌+◌, ◌*◌, ◌/◌, ◌<◌, ◌≤◌, Bool, true, false, ◌||◌, nat_eq, ◌⊎◌, inl, inr, ⊎_elim, List, [], length, get_or, refl, sym, ap, ◌∙◌, arith, cases_lt, get_or_past, number, decoded, number_same, Owner, bit_of, turned_place, IsTurned, AreLaid, word_place, word_signed, word_width, Field, Word, leads, walks_plain, walks_in_blocks, is_turned_width, IsAsWhole, IsAsTurned, IsWide, ShortRule, Walk, Wide}
 use Rattle.piece_bits.specs.declared.word.Word.TheVariants as stored
-use Rattle.piece_bits.specs.Walks.{leads, walks_plain, walks_in_blocks}
-use Rattle.piece_bits.specs.Wides.{is_turned_width, IsAsWhole, IsAsTurned, IsWide}
-use Rattle.piece_bits.specs.declared.short.ShortRule.{ShortRule}
-use Rattle.piece_bits.specs.declared.walk.Walk.{Walk}
 use Rattle.piece_bits.specs.declared.walk.Walk.TheVariants as walk
-use Rattle.piece_bits.specs.declared.wide_rules.Wide.{Wide}
 
 -- rows that go in one array, or in blocks, have places
 pub plain_leads : (way : Walk) → walks_plain way ≡ true → leads way ≡ true

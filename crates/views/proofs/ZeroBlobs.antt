@@ -1,7 +1,5 @@
 -- Blobs of zeros, made one after another.
-use Rattle.std.proofs.Common.{◌≡◌, ℕ, ◌*◌, ◌<◌, List, [], length, get_or}
-use Rattle.places.specs.Layout.{Owner}
-use Rattle.blobs.specs.Bits.{bit_in}
+use Rattle.views.proofs.Imports.{◌≡◌, ℕ, ◌*◌, ◌<◌, List, [], length, get_or, Owner, bit_in}
 
 -- the first blobs of a layout, all zeros
 pub record AreFresh (layout : List (List Owner)) (count : ℕ) (blobs : List (List ℕ)) : Type 0 where

@@ -1,10 +1,5 @@
 -- The first line of a script, and what stands behind it.
-use Rattle.std.proofs.Common.{◌≡◌, ℕ, ◌+◌, ◌-◌, ◌<◌, ⊎_elim, Bool, true, false, not, cond, List, [], ◌∷◌, length, take, drop, map, ap, ◌∙◌, sym, refl, arith}
-use Rattle.std.specs.List.{slice_split, onto_first, position_or_len}
-use Rattle.std.proofs.lemmas.Bool.{cases_Bool}
-use Rattle.std.proofs.lemmas.List.{take_rest}
-use Rattle.std.proofs.lemmas.List.Splits.{slice_split_first, slice_split-cons_no, slice_split-cons_yes}
-use Rattle.worlds.specs.Lines.{lines_in, ended_lines, without_cr, is_line_end}
+use Rattle.worlds.proofs.Imports.{◌≡◌, ℕ, ◌+◌, ◌-◌, ◌<◌, ⊎_elim, Bool, true, false, not, cond, List, [], ◌∷◌, length, take, drop, map, ap, ◌∙◌, sym, refl, arith, slice_split, onto_first, position_or_len, cases_Bool, take_rest, slice_split_first, slice_split-cons_no, slice_split-cons_yes, lines_in, ended_lines, without_cr, is_line_end}
 
 -- a text in which no byte passes is one part
 pub split_none : (p : ℕ → Bool) (xs : List ℕ) → position_or_len p xs ≡ length xs → slice_split p xs ≡ xs ∷ []

@@ -1,20 +1,5 @@
 -- How the lines that were done make a run of all lines.
-use Rattle.std.proofs.Common.{◌≡◌, ℕ, ◌+◌, ◌≤◌, inl, inr, ⊎_elim, Bool, true, false, List, [], ◌∷◌, ◌++◌, length, take, Option, None, Some, Result, Ok, Err, refl, sym, ap, subst, ◌∙◌, arith, append_assoc, length-append}
-use Rattle.std.proofs.lemmas.Bool.Decides.{nat_tests}
-use Rattle.std.proofs.lemmas.List.{append-nil, take-append-le}
-use Rattle.std.specs.Prelude.{⊤, ◌⊎◌}
-use Rattle.layout_io.specs.Writing.{with_bytes, Wrote, Writes}
-use Rattle.layout_io.specs.WritingLaws.{Wrote-append, Stopped-second, with_bytes-append, Writes-last, take_past, Stopped-front}
-use Rattle.worlds.specs.Worlds.{World}
-use Rattle.worlds.specs.Outcomes.{Outcome, Goes, Faults, CannotRead, Left}
-use Rattle.worlds.specs.FaultTexts.{fault_text, unread_text}
-use Rattle.worlds.specs.declared.fault.CommandFault.{CommandFault as Fault}
-use Rattle.worlds.specs.Outcome.{Output, IsText, Gives, Unread, Finished}
-use Rattle.worlds.specs.RunAnswers.{Answers, IsRun, ended}
-use Rattle.worlds.specs.Fold.{run_from, after, prepend, fails_at}
-use Rattle.worlds.specs.Answers.{Did, Refused, Unreadable, Broke, Fronted, text_of}
-use Rattle.worlds.specs.declared.status.Status.{Status}
-use Rattle.worlds.specs.declared.status.Status.TheVariants.{Done, CommandFault, SourceFault, SinkFault, NoMemory}
+use Rattle.worlds.proofs.Imports.{◌≡◌, ℕ, ◌+◌, ◌≤◌, inl, inr, ⊎_elim, Bool, true, false, List, [], ◌∷◌, ◌++◌, length, take, Option, None, Some, Result, Ok, Err, refl, sym, ap, subst, ◌∙◌, arith, append_assoc, length-append, nat_tests, append-nil, take-append-le, ⊤, ◌⊎◌, with_bytes, Wrote, Writes, Wrote-append, Stopped-second, with_bytes-append, Writes-last, take_past, Stopped-front, World, Outcome, Goes, Faults, CannotRead, Left, fault_text, unread_text, Fault, Output, IsText, Gives, Unread, Finished, Answers, IsRun, ended, run_from, after, prepend, fails_at, Did, Refused, Unreadable, Broke, Fronted, text_of, Status, Done, CommandFault, SourceFault, SinkFault, NoMemory}
 
 -- reading fails nowhere, or at this line or a later one
 abbrev pub IsAhead : ℕ → Option ℕ → Type 0

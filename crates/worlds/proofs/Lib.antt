@@ -1,4 +1,5 @@
-pub mod Steps
-pub mod Whole
+mod Imports
 pub mod Cuts
 pub mod Folding
+pub mod Steps
+pub mod Whole

@@ -1,11 +1,5 @@
 -- The texts of the steps of a path.
-use Rattle.std.proofs.Common.{◌≡◌, ℕ, ◌^◌, ◌-◌, ◌<◌, ◌≤◌, List, [], ◌∷◌, ◌++◌, length, take, drop, get_or, flat_map, ap, arith}
-use Rattle.std.proofs.lemmas.List.{take_rest}
-use Rattle.layout_io.specs.Decimal.{digits_text}
-use Rattle.layout_io.specs.DecimalLaws.{decimal-digits_text}
-use Rattle.record_dim.specs.Paths.{first_text, step_text, path_text_of}
-use Rattle.record_dim.specs.declared.path.PathStep.{PathStep}
-use Rattle.record_dim.specs.declared.path.PathStep.TheVariants.{At}
+use Rattle.worlds.proofs.Imports.{◌≡◌, ℕ, ◌^◌, ◌-◌, ◌<◌, ◌≤◌, List, [], ◌∷◌, ◌++◌, length, take, drop, get_or, flat_map, ap, arith, take_rest, digits_text, decimal-digits_text, first_text, step_text, path_text_of, PathStep, At}
 
 -- the number of an element in brackets
 pub number_step : (number : ℕ) → number < 2 ^ 32 → step_text (At number) ≡ 91 ∷ (digits_text number ++ 93 ∷ [])

@@ -1,10 +1,5 @@
 -- The line of a fault.
-use Rattle.std.proofs.Common.{◌≡◌, ℕ, List, [], ◌∷◌, ◌++◌, append_assoc}
-use Rattle.std.specs.Prelude.{codes}
-use Rattle.std.proofs.lemmas.List.{append-nil}
-use Rattle.layout_io.specs.Decimal.{digits_text}
-use Rattle.layout_io.specs.Writing.{joined}
-use Rattle.worlds.specs.FaultTexts.{fault_text, fault_words}
+use Rattle.worlds.proofs.Imports.{◌≡◌, ℕ, List, [], ◌∷◌, ◌++◌, append_assoc, codes, append-nil, digits_text, joined, fault_text, fault_words}
 use Rattle.worlds.specs.declared.fault.CommandFault.{CommandFault}
 
 -- what stands in front of the detail

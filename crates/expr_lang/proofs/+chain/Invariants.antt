@@ -1,6 +1,5 @@
 -- what is left of a value is no deeper than the value
-use Rattle.std.proofs.Common.{◌≤◌}
-use Rattle.expr_lang.specs.declared.bound.Links.{size-Links}
+use Rattle.expr_lang.proofs.Imports.{◌≤◌, size-Links}
 use Rattle.expr_lang.proofs.+chain.Given as goal
 
 abbrev pub invariant-bound::Links::drop-loop-self : goal.invariant-bound::Links::drop-loop-self

@@ -1,4 +1,4 @@
-use Rattle.std.proofs.Common.{arith}
+use Rattle.linearize.proofs.Imports.{arith}
 use Rattle.linearize.proofs.MortonLemmas.{digits_for_is, digits_from_log}
 use Rattle.linearize.proofs.digits_for.Goals as goal
 

@@ -1,4 +1,5 @@
-use Rattle.std.proofs.Common.{◌≡◌, fold, max, take}
+use Rattle.linearize.proofs.Imports.{◌≡◌, max, take}
+use Rattle.std.proofs.Common.{fold}
 use Rattle.linearize.proofs.greatest.Given as goal
 
 abbrev pub invariant-loop-extent : goal.invariant-loop-extent

@@ -1,9 +1,4 @@
-use Rattle.std.proofs.Common.{◌≡◌, ◌-◌, ◌+◌, ◌<◌, length, take, ◌∙◌, subst, arith, ℕ, inl, refl}
-use Rattle.std.specs.Prelude.{reverse}
-use Rattle.std.proofs.lemmas.List.{take_all}
-use Rattle.extents.specs.RowLaws.{IsRowSoFar, IsRowSoFar-none, row_end, row_so_far_le}
-use Rattle.extents.specs.IndicesLaws.{place}
-use Rattle.linearize.specs.SlotsLaws.{IsInside-reverse}
+use Rattle.linearize.proofs.Imports.{◌≡◌, ◌-◌, ◌+◌, ◌<◌, length, take, ◌∙◌, subst, arith, ℕ, inl, refl, reverse, take_all, IsRowSoFar, IsRowSoFar-none, row_end, row_so_far_le, place, IsInside-reverse}
 use Rattle.linearize.proofs.SlotLemmas.{place_is, place_fits, column_turn, same_length}
 use Rattle.linearize.proofs.place_by_columns.Goals as goal
 

@@ -1,7 +1,4 @@
-use Rattle.std.proofs.Common.{take}
-use Rattle.std.specs.Prelude.{reverse}
-use Rattle.extents.specs.IndicesLaws.{place}
-use Rattle.extents.specs.RowLaws.{IsRowSoFar}
+use Rattle.linearize.proofs.Imports.{take, reverse, place, IsRowSoFar}
 use Rattle.linearize.proofs.place_by_columns.Given as goal
 
 abbrev pub invariant-loop-d : goal.invariant-loop-d

@@ -1,4 +1,4 @@
-use Rattle.std.proofs.Common.{arith}
+use Rattle.linearize.proofs.Imports.{arith}
 use Rattle.linearize.proofs.SlotLemmas.{same_length}
 use Rattle.linearize.proofs.MortonLemmas.{component_narrow, front_more, front_all}
 use Rattle.linearize.proofs.place_by_digits.Goals as goal

@@ -1,7 +1,4 @@
-use Rattle.std.proofs.Common.{◌≡◌, ℕ, length, inl, inr, ⊎_elim, ◌∙◌, arith, Iter}
-use Rattle.std.specs.Iterator.Adapters.{zip_first, zip_second}
-use Rattle.std.specs.Slice.Iter.{iter_rest}
-use Rattle.extents.specs.RowLaws.{row_turn, row_end, row_so_far_le}
+use Rattle.linearize.proofs.Imports.{◌≡◌, ℕ, length, inl, inr, ⊎_elim, ◌∙◌, arith, Iter, zip_first, zip_second, iter_rest, row_turn, row_end, row_so_far_le}
 use Rattle.linearize.proofs.SlotLemmas.{place_is, place_fits}
 use Rattle.linearize.proofs.place_by_rows.Goals as goal
 

@@ -1,7 +1,4 @@
-use Rattle.std.specs.Iterator.Adapters.{zip_first, zip_second}
-use Rattle.std.specs.Slice.Iter.{iter_rest}
-use Rattle.extents.specs.IndicesLaws.{place}
-use Rattle.extents.specs.RowLaws.{IsRowSoFar}
+use Rattle.linearize.proofs.Imports.{zip_first, zip_second, iter_rest, place, IsRowSoFar}
 use Rattle.linearize.proofs.place_by_rows.Given as goal
 
 abbrev pub invariant-loop-component : goal.invariant-loop-component

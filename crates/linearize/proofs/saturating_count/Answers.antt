@@ -1,4 +1,4 @@
-use Rattle.std.proofs.Common.{◌-◌, ◌^◌, min, ap, sym, ◌∙◌}
+use Rattle.linearize.proofs.Imports.{◌-◌, ◌^◌, min, ap, sym, ◌∙◌}
 use Rattle.linearize.proofs.SlotLemmas.{product_count}
 use Rattle.linearize.proofs.saturating_count.Goals as goal
 

@@ -1,5 +1,4 @@
-use Rattle.std.proofs.Common.{◌^◌, ◌≤◌, lit<, arith}
-use Rattle.std.proofs.Math.Nat.{pow-le-pow_right}
+use Rattle.linearize.proofs.Imports.{◌^◌, ◌≤◌, lit<, arith, pow-le-pow_right}
 use Rattle.linearize.proofs.saturating_power.Goals as goal
 
 pub returns-else-exponent-lt64 : goal.returns-else-exponent-lt64

@@ -1,5 +1,4 @@
-use Rattle.std.proofs.Common.{◌*◌, ◌<◌, ◌-◌, ◌^◌, min, take, get_or, length, ap, sym, ◌∙◌, arith}
-use Rattle.extents.specs.Indices.{product}
+use Rattle.linearize.proofs.Imports.{◌*◌, ◌<◌, ◌-◌, ◌^◌, min, take, get_or, length, ap, sym, ◌∙◌, arith, product}
 use Rattle.linearize.proofs.SlotLemmas.{stops_at, product_take_more}
 use Rattle.linearize.proofs.saturating_product.Goals as goal
 

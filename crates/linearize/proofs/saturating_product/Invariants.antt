@@ -1,5 +1,4 @@
-use Rattle.std.proofs.Common.{◌≡◌, ◌-◌, ◌^◌, min, take}
-use Rattle.extents.specs.Indices.{product}
+use Rattle.linearize.proofs.Imports.{◌≡◌, ◌-◌, ◌^◌, min, take, product}
 use Rattle.linearize.proofs.saturating_product.Given as goal
 
 abbrev pub invariant-loop-extent : goal.invariant-loop-extent

@@ -1,5 +1,4 @@
-use Rattle.std.proofs.Common.{◌∙◌}
-use Rattle.linearize.specs.SlotsLaws.{slot_below, same_index}
+use Rattle.linearize.proofs.Imports.{◌∙◌, slot_below, same_index}
 use Rattle.linearize.proofs.SlotLemmas.{row_of_slot}
 use Rattle.linearize.proofs.slot.Goals as goal
 

@@ -1,5 +1,4 @@
-use Rattle.std.proofs.Common.{refl, sym, arith}
-use Rattle.std.proofs.lemmas.Bool.{false≢true}
+use Rattle.linearize.proofs.Imports.{refl, sym, arith, false≢true}
 use Rattle.linearize.proofs.slots.Goals as goal
 
 pub returns-then-count-gt-MAX_SLOTS-clause-too_many : goal.returns-then-count-gt-MAX_SLOTS-clause-too_many

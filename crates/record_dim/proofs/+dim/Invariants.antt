@@ -1,5 +1,5 @@
 -- what is left of a value is no deeper than the value
-use Rattle.std.proofs.Common.{◌≤◌}
+use Rattle.record_dim.proofs.Imports.{◌≤◌}
 use Rattle.record_dim.proofs.+dim.Given as goal
 
 abbrev pub decreases-dim::Dim::drop : goal.decreases-dim::Dim::drop

@@ -1,7 +1,4 @@
-use Rattle.std.proofs.Common.{List, map, subst}
-use Rattle.places.specs.declared.piece.Hold.{Hold}
-use Rattle.places.specs.declared.piece.Piece.{Piece}
-use Rattle.actor_tasks.specs.Nexts.{AnyTouches, IsNext}
+use Rattle.actor_tasks.proofs.Imports.{List, map, subst, Hold, Piece, AnyTouches, IsNext}
 use Rattle.actor_tasks.proofs.Touched.{head_found, found_inside}
 use Rattle.actor_tasks.proofs.heads.leaf_byte.Goals as goal
 

@@ -1,5 +1,4 @@
-use Rattle.std.proofs.Common.{take}
-use Rattle.actor_tasks.specs.Nexts.{AnyTouches, IsNext}
+use Rattle.actor_tasks.proofs.Imports.{take, AnyTouches, IsNext}
 use Rattle.actor_tasks.proofs.next.next_byte.Given as goal
 
 abbrev pub invariant-loop-piece : goal.invariant-loop-piece

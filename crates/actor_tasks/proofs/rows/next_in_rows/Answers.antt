@@ -1,7 +1,4 @@
-use Rattle.std.proofs.Common.{◌-◌, arith}
-use Rattle.actor_tasks.specs.Tasks.{left_in}
-use Rattle.actor_tasks.specs.MarksLaws.{row_told}
-use Rattle.actor_tasks.specs.RowsLaws.{rows_found, rows_over, rows_none}
+use Rattle.actor_tasks.proofs.Imports.{◌-◌, arith, left_in, row_told, rows_found, rows_over, rows_none}
 use Rattle.actor_tasks.proofs.rows.next_in_rows.Goals as goal
 
 pub returns-in-Some-clause-next : goal.returns-in-Some-clause-next

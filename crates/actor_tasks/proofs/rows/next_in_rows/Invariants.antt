@@ -1,8 +1,5 @@
 -- no row so far has a next byte
-use Rattle.std.proofs.Common.{◌≡◌, ◌+◌, ◌-◌, ◌≤◌, length}
-use Rattle.actor_steps.specs.Micro.{Job}
-use Rattle.actor_tasks.specs.Marks.{AreRowsOf}
-use Rattle.actor_tasks.specs.Tasks.{left_in}
+use Rattle.actor_tasks.proofs.Imports.{◌≡◌, ◌+◌, ◌-◌, ◌≤◌, length, Job, AreRowsOf, left_in}
 use Rattle.actor_tasks.proofs.rows.next_in_rows.Given as goal
 
 abbrev pub invariant-loop-at : goal.invariant-loop-at

@@ -1,6 +1,4 @@
-use Rattle.std.proofs.Common.{drop, arith}
-use Rattle.actor_tasks.specs.Tasks.{all_tasks, tasks_steps}
-use Rattle.actor_tasks.specs.MarksLaws.{task_count, task_found, task_done, none_left}
+use Rattle.actor_tasks.proofs.Imports.{drop, arith, all_tasks, tasks_steps, task_count, task_found, task_done, none_left}
 use Rattle.actor_tasks.proofs.tasks.next_in_row.Goals as goal
 
 pub returns-in-Some-clause-next : goal.returns-in-Some-clause-next

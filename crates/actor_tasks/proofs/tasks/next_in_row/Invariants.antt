@@ -1,7 +1,4 @@
-use Rattle.std.proofs.Common.{◌≡◌, length, drop}
-use Rattle.actor_steps.specs.Micro.{Job}
-use Rattle.actor_tasks.specs.Tasks.{all_tasks, tasks_steps}
-use Rattle.actor_tasks.specs.Marks.{IsRowOf}
+use Rattle.actor_tasks.proofs.Imports.{◌≡◌, length, drop, Job, all_tasks, tasks_steps, IsRowOf}
 use Rattle.actor_tasks.proofs.tasks.next_in_row.Given as goal
 
 abbrev pub invariant-loop-task : goal.invariant-loop-task

@@ -1,7 +1,4 @@
-use Rattle.std.proofs.Common.{◌≡◌, ℕ, ◌+◌, ◌-◌, length, get_or, None, ap, subst, arith}
-use Rattle.actor_tasks.specs.Places.{IsHead}
-use Rattle.actor_tasks.specs.Marks.{IsTaskNext, task_at}
-use Rattle.actor_tasks.specs.MarksLaws.{read_task, no_read, set_task, no_set}
+use Rattle.actor_tasks.proofs.Imports.{◌≡◌, ℕ, ◌+◌, ◌-◌, length, get_or, None, ap, subst, arith, IsHead, IsTaskNext, task_at, read_task, no_read, set_task, no_set}
 use Rattle.actor_tasks.proofs.tasks.task_byte.Goals as goal
 
 pub returns-then-not-asked-task-clause-next : goal.returns-then-not-asked-task-clause-next

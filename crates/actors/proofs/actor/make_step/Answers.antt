@@ -1,15 +1,4 @@
-use Rattle.std.proofs.Common.{◌∙◌, ℕ, [], None, List, length, rules, arith, SFits, subst, sym, ap}
-use Rattle.std.specs.Int.{w128}
-use Rattle.std.proofs.lemmas.Int.{to_z-of_z}
-use Rattle.places.specs.declared.piece.Cell.{Cell}
-use Rattle.piece_bits.specs.Tables.{AreSized}
-use Rattle.map_any.specs.AnyLaws.{length-leaf_cells}
-use Rattle.row_updates.specs.Rows.{IsSetOf, setting_of}
-use Rattle.views.specs.Tables.{owners_of, leaf_types_of}
-use Rattle.actor_steps.specs.BytesOfLaws.{with_byte-sized}
-use Rattle.actor_steps.specs.Jobs.{job_of}
-use Rattle.actor_steps.specs.Micro.{row_in, value_on}
-use Rattle.actors.specs.Standing.{IsStepOf}
+use Rattle.actors.proofs.Imports.{◌∙◌, ℕ, [], None, List, length, rules, arith, SFits, subst, sym, ap, w128, to_z-of_z, Cell, AreSized, length-leaf_cells, IsSetOf, setting_of, owners_of, leaf_types_of, with_byte-sized, job_of, row_in, value_on, IsStepOf}
 use Rattle.actors.proofs.Laws.{leaf_count}
 use Rattle.actors.proofs.Turns.{store_made}
 use Rattle.actors.proofs.actor.make_step.Goals as goal

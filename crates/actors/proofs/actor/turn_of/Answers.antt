@@ -1,11 +1,4 @@
-use Rattle.std.proofs.Common.{◌∙◌, List, length, map, refl, arith, sym, ap}
-use Rattle.places.specs.declared.piece.Cell.{Cell}
-use Rattle.map_any.specs.AnyLaws.{length-leaf_cells}
-use Rattle.row_updates.specs.Rows.{setting_of}
-use Rattle.views.specs.Tables.{owners_of, leaf_types_of, leaf_count_of}
-use Rattle.actor_steps.specs.Jobs.{job_of}
-use Rattle.actor_steps.specs.Micro.{Micro}
-use Rattle.actors.specs.Standing.{step_shown, bytes_shown}
+use Rattle.actors.proofs.Imports.{◌∙◌, List, length, map, refl, arith, sym, ap, Cell, length-leaf_cells, setting_of, owners_of, leaf_types_of, leaf_count_of, job_of, Micro, step_shown, bytes_shown}
 use Rattle.actors.proofs.Laws.{leaf_count}
 use Rattle.actors.proofs.Turns.{cursor_over, targets_inside, plans_told}
 use Rattle.actors.proofs.actor.turn_of.Goals as goal

@@ -1,13 +1,4 @@
-use Rattle.std.proofs.Common.{rules, ◌≡◌, ◌∙◌, ◌∷◌, [], ℤ, List, pos, get_or, FitsSigned, Result, Ok, sym, ap, subst}
-use Rattle.std.specs.Int.{w128}
-use Rattle.std.proofs.lemmas.Int.{to_z-of_z}
-use Rattle.piece_bits.specs.Tables.{with_entry}
-use Rattle.row_updates.specs.Rows.{IsSetOf}
-use Rattle.views.specs.Stores.{told, kept_or}
-use Rattle.views.specs.Tables.{Table, answer_of, after_stores}
-use Rattle.views.specs.Tallies.{Write}
-use Rattle.views.specs.declared.fault.StoreFault.{StoreFault}
-use Rattle.actors.specs.Rows.{row_held}
+use Rattle.actors.proofs.Imports.{rules, ◌≡◌, ◌∙◌, ◌∷◌, [], ℤ, List, pos, get_or, FitsSigned, Result, Ok, sym, ap, subst, w128, to_z-of_z, with_entry, IsSetOf, told, kept_or, Table, answer_of, after_stores, Write, StoreFault, row_held}
 use Rattle.actors.proofs.Backs.{none_stored, one_stored}
 use Rattle.actors.proofs.back.store_row.Goals as goal
 

@@ -1,8 +1,4 @@
-use Rattle.std.proofs.Common.{◌≡◌, [], map, take, get_or, set}
-use Rattle.row_updates.specs.Logs.{stores_log}
-use Rattle.row_updates.specs.Rows.{setting_of}
-use Rattle.views.specs.Tables.{after_stores}
-use Rattle.actors.specs.Rows.{row_held, with_held}
+use Rattle.actors.proofs.Imports.{◌≡◌, [], map, take, get_or, set, stores_log, setting_of, after_stores, row_held, with_held}
 use Rattle.actors.proofs.back.store_row.Given as goal
 
 abbrev pub invariant-loop-set : goal.invariant-loop-set

@@ -1,12 +1,4 @@
-use Rattle.std.proofs.Common.{◌≡◌, ◌<◌, ◌≤◌, ◌∙◌, false, ℕ, [], List, ℤ, length, map, sym, ap, arith}
-use Rattle.extents.specs.Indices.{indices}
-use Rattle.row_updates.specs.Rows.{filter_term, setting_of}
-use Rattle.views.specs.Tables.{answer_of, kept_of}
-use Rattle.actor_steps.specs.Jobs.{job_of, memory_of}
-use Rattle.actor_steps.specs.Micro.{lets_through}
-use Rattle.actor_tasks.specs.declared.rows.Asks.{Asks}
-use Rattle.actor_steps.specs.UpdateLaws.{updated_length}
-use Rattle.actors.specs.Rows.{row_held}
+use Rattle.actors.proofs.Imports.{◌≡◌, ◌<◌, ◌≤◌, ◌∙◌, false, ℕ, [], List, ℤ, length, map, sym, ap, arith, indices, filter_term, setting_of, answer_of, kept_of, job_of, memory_of, lets_through, Asks, updated_length, row_held}
 use Rattle.actors.proofs.Backs.{none_back, one_back, all_back, back_sized, back_held, back_takes, back_sets, back_count}
 use Rattle.actors.proofs.back.store_rows.Goals as goal
 

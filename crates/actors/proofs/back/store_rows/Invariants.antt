@@ -1,5 +1,4 @@
-use Rattle.std.proofs.Common.{◌≡◌, List, ℤ, Ok, length, map}
-use Rattle.row_updates.specs.Rows.{filter_term, setting_of, updated_of}
+use Rattle.actors.proofs.Imports.{◌≡◌, List, ℤ, Ok, length, map, filter_term, setting_of, updated_of}
 use Rattle.actors.proofs.Backs.{AreBack}
 use Rattle.actors.proofs.back.store_rows.Given as goal
 

@@ -1,5 +1,4 @@
-use Rattle.std.proofs.Common.{◌≡◌, ◌+◌, drop}
-use Rattle.actor_steps.specs.Cuts.{actor_of}
+use Rattle.actors.proofs.Imports.{◌≡◌, ◌+◌, drop, actor_of}
 use Rattle.actors.proofs.cuts.actor_of.Given as goal
 
 abbrev pub invariant-loop-actor : goal.invariant-loop-actor

@@ -1,9 +1,4 @@
-use Rattle.std.proofs.Common.{◌≡◌, ℕ, List, [], length, map, get_or, ap, ◌∙◌, arith}
-use Rattle.std.specs.Prelude.{option_map}
-use Rattle.places.specs.Layout.{Owner}
-use Rattle.map_any.specs.Runs.{run_owner}
-use Rattle.views.specs.Tables.{owners_of}
-use Rattle.actor_steps.specs.Cuts.{actor_of}
+use Rattle.actors.proofs.Imports.{◌≡◌, ℕ, List, [], length, map, get_or, ap, ◌∙◌, arith, option_map, Owner, run_owner, owners_of, actor_of}
 use Rattle.actors.proofs.SharedBytes.{blob_first, blob_here, blob_later}
 use Rattle.actors.proofs.cuts.check_cuts.Goals as goal
 

@@ -1,8 +1,5 @@
 -- no byte of a blob so far is shared
-use Rattle.std.proofs.Common.{◌≡◌}
-use Rattle.views.specs.Tables.{owners_of}
-use Rattle.actor_steps.specs.Cuts.{actor_of}
-use Rattle.actor_steps.specs.Shared.{shared_byte}
+use Rattle.actors.proofs.Imports.{◌≡◌, owners_of, actor_of, shared_byte}
 use Rattle.actors.proofs.SharedBytes.{first_from}
 use Rattle.actors.proofs.cuts.check_cuts.Given as goal
 

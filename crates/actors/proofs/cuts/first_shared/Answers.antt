@@ -1,7 +1,4 @@
-use Rattle.std.proofs.Common.{◌/◌, ℕ, Bool, length, sym, ◌∙◌, arith}
-use Rattle.actor_steps.specs.Cuts.{actor_of}
-use Rattle.actor_steps.specs.Shared.{is_shared}
-use Rattle.actors.specs.Cuts.{shown_in_byte}
+use Rattle.actors.proofs.Imports.{◌/◌, ℕ, Bool, length, sym, ◌∙◌, arith, actor_of, is_shared, shown_in_byte}
 use Rattle.actors.proofs.Firsts.{first_here, first_later}
 use Rattle.actors.proofs.cuts.first_shared.Goals as goal
 

@@ -1,9 +1,5 @@
 -- no byte so far is shared
-use Rattle.std.proofs.Common.{◌≡◌, ◌-◌, ◌/◌, length}
-use Rattle.std.specs.List.{range_with_len}
-use Rattle.actor_steps.specs.Cuts.{actor_of}
-use Rattle.actor_steps.specs.Shared.{is_shared, first_of_all}
-use Rattle.actors.specs.Cuts.{shown_in_byte}
+use Rattle.actors.proofs.Imports.{◌≡◌, ◌-◌, ◌/◌, length, range_with_len, actor_of, is_shared, first_of_all, shown_in_byte}
 use Rattle.actors.proofs.cuts.first_shared.Given as goal
 
 abbrev pub invariant-loop-byte : goal.invariant-loop-byte

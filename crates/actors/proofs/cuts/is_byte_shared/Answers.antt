@@ -1,7 +1,4 @@
-use Rattle.std.proofs.Common.{◌≡◌, ℕ, ◌+◌, ◌-◌, ◌*◌, map, take, drop, ap, ◌∙◌, arith}
-use Rattle.actor_steps.specs.Cuts.{actor_of}
-use Rattle.actor_steps.specs.Shared.{is_shared}
-use Rattle.actors.specs.Cuts.{owner_shown}
+use Rattle.actors.proofs.Imports.{◌≡◌, ℕ, ◌+◌, ◌-◌, ◌*◌, map, take, drop, ap, ◌∙◌, arith, actor_of, is_shared, owner_shown}
 use Rattle.actors.proofs.cuts.is_byte_shared.Goals as goal
 
 pub returns : goal.returns

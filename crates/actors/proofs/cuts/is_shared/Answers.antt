@@ -1,6 +1,4 @@
-use Rattle.std.proofs.Common.{map}
-use Rattle.actor_steps.specs.Cuts.{actor_of}
-use Rattle.actors.specs.Cuts.{owner_shown}
+use Rattle.actors.proofs.Imports.{map, actor_of, owner_shown}
 use Rattle.actors.proofs.Scans.{shared_is}
 use Rattle.actors.proofs.cuts.is_shared.Goals as goal
 

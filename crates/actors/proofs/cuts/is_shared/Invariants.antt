@@ -1,7 +1,4 @@
-use Rattle.std.proofs.Common.{◌≡◌, map, drop}
-use Rattle.actor_steps.specs.Cuts.{actor_of}
-use Rattle.actors.specs.Cuts.{owner_shown}
-use Rattle.actor_steps.specs.Shared.{is_shared}
+use Rattle.actors.proofs.Imports.{◌≡◌, map, drop, actor_of, owner_shown, is_shared}
 use Rattle.actors.proofs.Scans.{differs}
 use Rattle.actors.proofs.cuts.is_shared.Given as goal
 

@@ -1,11 +1,4 @@
-use Rattle.std.proofs.Common.{◌≡◌, ◌<◌, ◌∙◌, ℕ, ℤ, List, length, map, SFits, rules, subst, sym, ap}
-use Rattle.std.specs.Int.{w128}
-use Rattle.std.proofs.lemmas.Int.{to_z-of_z}
-use Rattle.places.specs.Writes.{IsWrite}
-use Rattle.blobs.specs.Bits.{bit_in}
-use Rattle.piece_bits.specs.CellsLaws.{still_sized}
-use Rattle.actor_steps.specs.Micro.{byte_at, with_byte}
-use Rattle.actors.specs.Rows.{HasByte}
+use Rattle.actors.proofs.Imports.{◌≡◌, ◌<◌, ◌∙◌, ℕ, ℤ, List, length, map, SFits, rules, subst, sym, ap, w128, to_z-of_z, IsWrite, bit_in, still_sized, byte_at, with_byte, HasByte}
 use Rattle.actors.proofs.Bytes.{byte_changed, there_still, put_lengths}
 use Rattle.actors.proofs.memory.changed_byte.Goals as goal
 

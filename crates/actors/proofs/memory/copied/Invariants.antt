@@ -1,4 +1,4 @@
-use Rattle.std.proofs.Common.{◌≡◌, ◌<◌, ℕ, length, get_or}
+use Rattle.actors.proofs.Imports.{◌≡◌, ◌<◌, ℕ, length, get_or}
 use Rattle.actors.proofs.memory.copied.Given as goal
 
 abbrev pub invariant-loop-at : goal.invariant-loop-at

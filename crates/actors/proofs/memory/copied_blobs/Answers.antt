@@ -1,6 +1,4 @@
-use Rattle.std.proofs.Common.{◌<◌, ◌≤◌, List, length, ap, arith}
-use Rattle.places.specs.Layout.{Owner}
-use Rattle.views.specs.Tables.{owners_of}
+use Rattle.actors.proofs.Imports.{◌<◌, ◌≤◌, List, length, ap, arith, Owner, owners_of}
 use Rattle.actors.proofs.Blobs.{one_copied, all_copied}
 use Rattle.actors.proofs.memory.copied_blobs.Goals as goal
 

@@ -1,5 +1,4 @@
-use Rattle.std.proofs.Common.{◌≡◌, take}
-use Rattle.actor_steps.specs.Jobs.{memory_of}
+use Rattle.actors.proofs.Imports.{◌≡◌, take, memory_of}
 use Rattle.actors.proofs.memory.copied_blobs.Given as goal
 
 abbrev pub invariant-loop-b : goal.invariant-loop-b

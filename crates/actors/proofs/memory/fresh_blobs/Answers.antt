@@ -1,6 +1,4 @@
-use Rattle.std.proofs.Common.{◌≡◌, ◌<◌, ◌≤◌, ◌*◌, [], List, length, get_or, ap, ◌∙◌, arith}
-use Rattle.places.specs.Layout.{Owner}
-use Rattle.views.specs.Tables.{owners_of}
+use Rattle.actors.proofs.Imports.{◌≡◌, ◌<◌, ◌≤◌, ◌*◌, [], List, length, get_or, ap, ◌∙◌, arith, Owner, owners_of}
 use Rattle.actors.proofs.Blobs.{one_fresh, all_fresh}
 use Rattle.actors.proofs.memory.fresh_blobs.Goals as goal
 

@@ -1,5 +1,4 @@
-use Rattle.std.proofs.Common.{◌≡◌, take}
-use Rattle.actor_steps.specs.Jobs.{fresh_of}
+use Rattle.actors.proofs.Imports.{◌≡◌, take, fresh_of}
 use Rattle.actors.proofs.memory.fresh_blobs.Given as goal
 
 abbrev pub invariant-loop-b : goal.invariant-loop-b

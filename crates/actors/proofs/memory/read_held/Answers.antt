@@ -1,19 +1,4 @@
-use Rattle.std.proofs.Common.{◌≡◌, ◌<◌, ◌∙◌, ℤ, List, length, sym, ap, arith, rules, SFits}
-use Rattle.std.specs.Int.{w128}
-use Rattle.std.proofs.lemmas.Int.{to_z-of_z}
-use Rattle.std.proofs.lemmas.List.{length-set}
-use Rattle.std.proofs.lemmas.Option.{get_or_from_slice_get}
-use Rattle.record_dim.specs.declared.leaf_type.LeafType.{LeafType}
-use Rattle.record_dim.specs.declared.leaf_type.LeafType.TheVariants.{Bool as Truth}
-use Rattle.record_dim.specs.Leaves.{kinds_of}
-use Rattle.record_dim.specs.Trees.{Fields}
-use Rattle.places.specs.declared.piece.Cell.{Cell}
-use Rattle.places.specs.Image.{entry}
-use Rattle.piece_bits.specs.Tables.{table_in}
-use Rattle.map_any.specs.AnyLaws.{length-leaf_cells}
-use Rattle.piece_bits.specs.Kept.{declared}
-use Rattle.piece_bits.specs.Modes.{kind_at}
-use Rattle.views.specs.Tables.{owners_of, leaf_types_of, table_holds, leaf_count_of}
+use Rattle.actors.proofs.Imports.{◌≡◌, ◌<◌, ◌∙◌, ℤ, List, length, sym, ap, arith, rules, SFits, w128, to_z-of_z, length-set, get_or_from_slice_get, LeafType, Truth, kinds_of, Fields, Cell, entry, table_in, length-leaf_cells, declared, kind_at, owners_of, leaf_types_of, table_holds, leaf_count_of}
 use Rattle.actors.proofs.Laws.{leaf_count, raw_here, one_held, all_held}
 use Rattle.actors.proofs.memory.read_held.Goals as goal
 

@@ -1,5 +1,4 @@
-use Rattle.std.proofs.Common.{◌≡◌, ◌<◌, ℕ, pos, length, get_or}
-use Rattle.actors.specs.Rows.{row_held}
+use Rattle.actors.proofs.Imports.{◌≡◌, ◌<◌, ℕ, pos, length, get_or, row_held}
 use Rattle.actors.proofs.memory.read_held.Given as goal
 
 abbrev pub invariant-loop-leaf : goal.invariant-loop-leaf

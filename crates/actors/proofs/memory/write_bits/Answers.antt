@@ -1,15 +1,5 @@
-use Rattle.std.proofs.Common.{ℤ, ◌≡◌, ◌∙◌, List, map, slice_index, subst, sym, ap, arith, rules, SFits}
-use Rattle.std.specs.Int.{w128}
-use Rattle.std.proofs.lemmas.Int.{to_z-of_z}
-use Rattle.record_dim.specs.LeafTypes.{IsIn}
-use Rattle.places.specs.declared.piece.Piece.{Piece}
-use Rattle.places.specs.declared.piece.Hold.{Hold}
-use Rattle.places.specs.Laws.{IsLocated}
-use Rattle.places.specs.Image.{number, digit}
-use Rattle.piece_bits.specs.CellsLaws.{IsCell, some_bits, few_bits, bit_count, apart}
-use Rattle.piece_bits.specs.LocatedLaws.{pieces_within}
-use Rattle.piece_bits.specs.Kept.{held}
-use Rattle.piece_bits.specs.KeptLaws.{low_in}
+use Rattle.actors.proofs.Imports.{ℤ, ◌≡◌, ◌∙◌, List, map, subst, sym, ap, arith, rules, SFits, w128, to_z-of_z, IsIn, Piece, Hold, IsLocated, number, digit, IsCell, some_bits, few_bits, bit_count, apart, pieces_within, held, low_in}
+use Rattle.std.proofs.Common.{slice_index}
 use Rattle.actors.proofs.Bytes.{is_write}
 use Rattle.actors.proofs.memory.write_bits.Given as given
 use Rattle.actors.proofs.memory.write_bits.Goals as goal

@@ -1,11 +1,4 @@
-use Rattle.std.proofs.Common.{◌∙◌, [], None, Bool, List, ℤ, fold, ap}
-use Rattle.expr_lang.specs.Bounds.{bound_term}
-use Rattle.expr_lang.specs.Values.{outcome_of}
-use Rattle.linearize.specs.Slots.{index_at}
-use Rattle.row_updates.specs.Rows.{setting_of}
-use Rattle.actor_steps.specs.Jobs.{job_of}
-use Rattle.actor_steps.specs.Micro.{set_reads}
-use Rattle.actors.specs.Rows.{marked}
+use Rattle.actors.proofs.Imports.{◌∙◌, [], None, Bool, List, ℤ, fold, ap, bound_term, outcome_of, index_at, setting_of, job_of, set_reads, marked}
 use Rattle.actors.proofs.Marks.{one_set}
 use Rattle.actors.proofs.plan.mark_sets.Goals as goal
 

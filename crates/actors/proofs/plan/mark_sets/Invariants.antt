@@ -1,9 +1,4 @@
-use Rattle.std.proofs.Common.{◌≡◌, [], None, map, take, fold}
-use Rattle.std.specs.List.{flat_map}
-use Rattle.row_updates.specs.Rows.{setting_of}
-use Rattle.actor_steps.specs.Jobs.{job_of}
-use Rattle.actor_steps.specs.Micro.{set_reads}
-use Rattle.actors.specs.Rows.{marked}
+use Rattle.actors.proofs.Imports.{◌≡◌, [], None, map, take, fold, flat_map, setting_of, job_of, set_reads, marked}
 use Rattle.actors.proofs.plan.mark_sets.Given as goal
 
 abbrev pub invariant-loop-set : goal.invariant-loop-set

@@ -1,7 +1,4 @@
-use Rattle.std.proofs.Common.{◌≡◌, ◌∙◌, true, false, map, sym}
-use Rattle.row_updates.specs.Rows.{filter_term, setting_of}
-use Rattle.actor_steps.specs.Jobs.{job_of}
-use Rattle.actor_steps.specs.Micro.{lets_through}
+use Rattle.actors.proofs.Imports.{◌≡◌, ◌∙◌, true, false, map, sym, filter_term, setting_of, job_of, lets_through}
 use Rattle.actors.proofs.Marks.{plan_left, plan_through}
 use Rattle.actors.proofs.plan.plan_of.Goals as goal
 

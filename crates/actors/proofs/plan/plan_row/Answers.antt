@@ -1,9 +1,4 @@
-use Rattle.std.proofs.Common.{◌∙◌, [], map, get_or, subst, sym, ap}
-use Rattle.linearize.specs.Slots.{index_at}
-use Rattle.row_updates.specs.Rows.{filter_term, setting_of, given_row}
-use Rattle.views.specs.Tables.{Table, answer_of, kept_of, after_log}
-use Rattle.actor_steps.specs.Jobs.{job_of}
-use Rattle.actors.specs.Rows.{IsPlanOf}
+use Rattle.actors.proofs.Imports.{◌∙◌, [], map, get_or, subst, sym, ap, index_at, filter_term, setting_of, given_row, Table, answer_of, kept_of, after_log, job_of, IsPlanOf}
 use Rattle.actors.proofs.Tried.{row_reads, row_updated}
 use Rattle.actors.proofs.plan.plan_row.Goals as goal
 

@@ -1,14 +1,4 @@
-use Rattle.std.proofs.Common.{rules, arith, ◌≡◌, ◌<◌, ◌+◌, ◌∙◌, [], ℕ, List, Err, length, map, get_or, subst, sym, ap}
-use Rattle.extents.specs.Indices.{indices}
-use Rattle.linearize.specs.Slots.{index_at}
-use Rattle.row_updates.specs.Logs.{update_log}
-use Rattle.row_updates.specs.Rows.{filter_term, setting_of, updated_row}
-use Rattle.views.specs.Tables.{Table, answer_of, kept_of, after_log}
-use Rattle.actor_steps.specs.Jobs.{job_of}
-use Rattle.actors.specs.declared.fault.ActorFault.TheVariants.{Update, NoMemory}
-use Rattle.actors.specs.Rows.{IsPlanOf, ArePlans}
-use Rattle.actors.specs.Updates.{IsUpdatedRow}
-use Rattle.views.specs.Tallies.{reads_in}
+use Rattle.actors.proofs.Imports.{rules, arith, ◌≡◌, ◌<◌, ◌+◌, ◌∙◌, [], ℕ, List, Err, length, map, get_or, subst, sym, ap, indices, index_at, update_log, filter_term, setting_of, updated_row, Table, answer_of, kept_of, after_log, job_of, Update, NoMemory, IsPlanOf, ArePlans, IsUpdatedRow, reads_in}
 use Rattle.actors.proofs.Marks.{no_plans, one_plan}
 use Rattle.actors.proofs.Tried.{none_tried, one_read, one_tried, stop_tried}
 use Rattle.actors.proofs.plan.plan_rows.Given as given

@@ -1,7 +1,4 @@
-use Rattle.std.proofs.Common.{map}
-use Rattle.row_updates.specs.Rows.{filter_term, setting_of}
-use Rattle.actor_steps.specs.Jobs.{job_of}
-use Rattle.actors.specs.Rows.{ArePlans}
+use Rattle.actors.proofs.Imports.{map, filter_term, setting_of, job_of, ArePlans}
 use Rattle.actors.proofs.Tried.{AreTried}
 use Rattle.actors.proofs.plan.plan_rows.Given as goal
 

@@ -1,8 +1,4 @@
-use Rattle.std.proofs.Common.{◌∙◌, ℕ, List, get_or, [], ℤ, sym, ap, subst}
-use Rattle.piece_bits.specs.Tables.{AreSized}
-use Rattle.views.specs.Tables.{owners_of}
-use Rattle.actor_steps.specs.AgreeLaws.{memory_is, rows_read}
-use Rattle.actors.specs.Rows.{row_held}
+use Rattle.actors.proofs.Imports.{◌∙◌, ℕ, List, get_or, [], ℤ, sym, ap, subst, AreSized, owners_of, memory_is, rows_read, row_held}
 use Rattle.actors.proofs.plan.read_found.Goals as goal
 
 pub read_held-requires-clause-sized : goal.read_held-requires-clause-sized

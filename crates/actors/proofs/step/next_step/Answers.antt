@@ -1,4 +1,4 @@
-use Rattle.std.proofs.Common.{refl, arith}
+use Rattle.actors.proofs.Imports.{refl, arith}
 use Rattle.actors.proofs.Steps.{store_next, fetch_next, load_next}
 use Rattle.actors.proofs.step.next_step.Goals as goal
 

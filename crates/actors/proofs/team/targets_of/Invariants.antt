@@ -1,5 +1,4 @@
-use Rattle.std.proofs.Common.{◌≡◌, map, take}
-use Rattle.row_updates.specs.declared.update.Assign.{Assign}
+use Rattle.actors.proofs.Imports.{◌≡◌, map, take, Assign}
 use Rattle.actors.proofs.team.targets_of.Given as goal
 
 abbrev pub invariant-loop-set : goal.invariant-loop-set

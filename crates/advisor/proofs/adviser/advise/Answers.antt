@@ -1,13 +1,5 @@
-use Rattle.std.proofs.Common.{rules, ◌≡◌, ◌⊎◌, ⊎_elim, inl, inr, List, All, Some, Ok, Err, length, map, sym, ap, ◌∙◌, subst, arith}
-use Rattle.std.proofs.lemmas.List.{length-map}
-use Rattle.map_expr.specs.declared.expr.MapExpr.{MapExpr}
-use Rattle.map_expr.specs.Terms.{term_of, uncounted}
+use Rattle.advisor.proofs.Imports.{rules, ◌≡◌, ◌⊎◌, ⊎_elim, inl, inr, List, All, Some, Ok, Err, length, map, sym, ap, ◌∙◌, subst, arith, length-map, MapExpr, term_of, uncounted, Candidate, Pass, judge, cost_of, advice, told_by, first_fault, IsStored, terms_in}
 use Rattle.advisor.specs.declared.advice.AdviseFault.TheVariants.{NoMemory}
-use Rattle.advisor.specs.declared.candidate.Candidate.{Candidate}
-use Rattle.advisor.specs.declared.pass.Pass.{Pass}
-use Rattle.advisor.specs.Advice.{judge, cost_of, advice, told_by}
-use Rattle.advisor.specs.Judged.{first_fault}
-use Rattle.advisor.specs.Pools.{IsStored, terms_in}
 use Rattle.advisor.proofs.Advising.{advice_given, advice_faulty, costs_known, holds_known, pool_holds}
 use Rattle.advisor.proofs.adviser.advise.Goals as goal
 

@@ -1,8 +1,4 @@
-use Rattle.std.proofs.Common.{◌≡◌, ◌<◌, ◌++◌, ◌∷◌, [], false, All, List, get_or, take, map, length, sym, ap, ◌∙◌, arith, subst}
-use Rattle.std.proofs.lemmas.List.{take_more, take_all, length-map, get_or-map}
-use Rattle.std.proofs.lemmas.Option.{get_or_from_slice_get}
-use Rattle.places.specs.declared.piece.Hold.{Hold}
-use Rattle.advisor.specs.Sides.{IsHold}
+use Rattle.advisor.proofs.Imports.{◌≡◌, ◌<◌, ◌++◌, ◌∷◌, [], false, All, List, get_or, take, map, length, sym, ap, ◌∙◌, arith, subst, take_more, take_all, length-map, get_or-map, get_or_from_slice_get, Hold, IsHold}
 use Rattle.advisor.proofs.candidate.holds_in.Goals as goal
 
 abbrev none : Hold

@@ -1,4 +1,4 @@
-use Rattle.std.proofs.Common.{◌≡◌, take}
+use Rattle.advisor.proofs.Imports.{◌≡◌, take}
 use Rattle.advisor.proofs.candidate.holds_in.Given as goal
 
 abbrev pub invariant-loop-cell : goal.invariant-loop-cell

@@ -1,7 +1,4 @@
-use Rattle.std.proofs.Common.{Option, sym, ap, ◌∙◌}
-use Rattle.std.specs.Prelude.{option_map}
-use Rattle.map_expr.specs.Terms.{Term, term_of}
-use Rattle.advisor.specs.declared.advice.Best.{Best}
+use Rattle.advisor.proofs.Imports.{Option, sym, ap, ◌∙◌, option_map, Term, term_of, Best}
 use Rattle.advisor.proofs.Cheapest.{found, none_found, chosen_is, same_advice}
 use Rattle.advisor.proofs.choice.advice_of.Goals as goal
 use Rattle.advisor.proofs.choice.advice_of.Goals.{in-Some+in_ok-best_of-in-Some, in-None}

@@ -1,4 +1,4 @@
-use Rattle.advisor.specs.Choices.{costs_in, IsCheapest}
+use Rattle.advisor.proofs.Imports.{costs_in, IsCheapest}
 use Rattle.advisor.proofs.choice.cheapest.Given as goal
 
 abbrev pub invariant-loop-at : goal.invariant-loop-at

@@ -1,10 +1,4 @@
-use Rattle.std.proofs.Common.{rules, ◌≡◌, ◌<◌, ◌++◌, ◌∷◌, [], ℕ, List, Option, Some, None, length, map, take, sym, ap, ◌∙◌, arith}
-use Rattle.std.specs.Prelude.{if◌then◌else◌}
-use Rattle.std.proofs.lemmas.List.{take_more, map_push, length-map}
-use Rattle.map_expr.specs.Terms.{Term, Named, term_of}
-use Rattle.advisor.specs.declared.candidate.Candidate.{Candidate}
-use Rattle.advisor.specs.Pools.{terms_in}
-use Rattle.advisor.specs.Sides.{term_at}
+use Rattle.advisor.proofs.Imports.{rules, ◌≡◌, ◌<◌, ◌++◌, ◌∷◌, [], ℕ, List, Option, Some, None, length, map, take, sym, ap, ◌∙◌, arith, if◌then◌else◌, take_more, map_push, length-map, Term, Named, term_of, Candidate, terms_in, term_at}
 use Rattle.advisor.proofs.Cheapest.{shown}
 use Rattle.advisor.proofs.choice.marked_costs.Goals as goal
 

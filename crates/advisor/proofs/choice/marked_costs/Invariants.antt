@@ -1,8 +1,4 @@
-use Rattle.std.proofs.Common.{ℕ, ◌≡◌, Bool, Some, None, map, take}
-use Rattle.std.specs.Prelude.{if◌then◌else◌}
-use Rattle.map_expr.specs.Terms.{Term}
-use Rattle.advisor.specs.Choices.{AreMarked}
-use Rattle.advisor.specs.Pools.{terms_in}
+use Rattle.advisor.proofs.Imports.{ℕ, ◌≡◌, Bool, Some, None, map, take, if◌then◌else◌, Term, AreMarked, terms_in}
 use Rattle.advisor.proofs.choice.marked_costs.Given as goal
 
 abbrev pub invariant-loop-at : goal.invariant-loop-at

@@ -1,8 +1,4 @@
-use Rattle.std.proofs.Common.{◌≡◌, ◌+◌, ℕ, List, get_or, sym, ap, ◌∙◌, subst, arith}
-use Rattle.std.proofs.lemmas.List.{get_or-map}
-use Rattle.places.specs.declared.piece.Cell.{Cell}
-use Rattle.record_dim.specs.declared.leaf_type.LeafType.TheVariants.{Bool as Truth}
-use Rattle.advisor.specs.Passes.{reads, leaves_in}
+use Rattle.advisor.proofs.Imports.{◌≡◌, ◌+◌, ℕ, List, get_or, sym, ap, ◌∙◌, subst, arith, get_or-map, Cell, Truth, reads, leaves_in}
 use Rattle.advisor.proofs.Chosen.{AreChosen, one_left, one_taken}
 use Rattle.advisor.proofs.costs.cells_read.Goals as goal
 use Rattle.advisor.proofs.costs.cells_read.Goals.{then-is_read+in_ok-push, else-is_read}

@@ -1,5 +1,4 @@
-use Rattle.std.proofs.Common.{get_or}
-use Rattle.advisor.specs.Passes.{reads, leaves_in}
+use Rattle.advisor.proofs.Imports.{get_or, reads, leaves_in}
 use Rattle.advisor.proofs.Chosen.{AreChosen}
 use Rattle.advisor.proofs.costs.cells_read.Given as goal
 

@@ -1,14 +1,6 @@
-use Rattle.std.proofs.Common.{◌≡◌, ◌+◌, ◌*◌, ℕ, List, length, get_or, take, sum_by, sym, ap, ◌∙◌, arith}
-use Rattle.std.specs.List.{list_any}
-use Rattle.std.specs.Prelude.{◌==◌, []}
-use Rattle.std.proofs.lemmas.List.{length-map, get_or_read}
-use Rattle.std.proofs.lemmas.List.Sums.{sum_by_more}
-use Rattle.extents.specs.Indices.{indices}
-use Rattle.places.specs.declared.piece.Hold.{Hold}
-use Rattle.advisor.specs.declared.pass.Pass.{Pass}
-use Rattle.advisor.specs.Touched.{touched}
-use Rattle.advisor.specs.TouchedLaws.{touched_alike}
-use Rattle.advisor.specs.Passes.{reads, leaves_in}
+use Rattle.advisor.proofs.Imports.{◌≡◌, ◌+◌, ◌*◌, ℕ, List, length, get_or, take, sym, ap, ◌∙◌, arith, list_any, ◌==◌, length-map, get_or_read, sum_by_more, indices, Hold, Pass, touched, touched_alike, reads, leaves_in}
+use Rattle.std.proofs.Common.{sum_by}
+use Rattle.std.specs.Prelude.{[]}
 use Rattle.advisor.proofs.RuledLaws.{layout_in, widths_in}
 use Rattle.advisor.proofs.costs.part_cost.Goals as goal
 

@@ -1,5 +1,4 @@
-use Rattle.std.proofs.Common.{◌≡◌, ◌≤◌, ◌*◌, ◌^◌, take}
-use Rattle.advisor.specs.Passes.{part_cost, leaves_in}
+use Rattle.advisor.proofs.Imports.{◌≡◌, ◌≤◌, ◌*◌, ◌^◌, take, part_cost, leaves_in}
 use Rattle.advisor.proofs.RuledLaws.{layout_in}
 use Rattle.advisor.proofs.costs.part_cost.Given as goal
 

@@ -1,4 +1,4 @@
-use Rattle.std.proofs.Common.{◌-◌, ◌<◌, arith}
+use Rattle.advisor.proofs.Imports.{◌-◌, ◌<◌, arith}
 use Rattle.advisor.proofs.CurveLaws.{few_digits, digit_more, digit_fits}
 use Rattle.advisor.proofs.curve.component.Goals as goal
 

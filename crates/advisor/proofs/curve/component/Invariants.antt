@@ -1,5 +1,4 @@
-use Rattle.std.proofs.Common.{◌≡◌, ◌-◌}
-use Rattle.advisor.specs.Curve.{gathered}
+use Rattle.advisor.proofs.Imports.{◌≡◌, ◌-◌, gathered}
 use Rattle.advisor.proofs.curve.component.Given as goal
 
 abbrev pub invariant-loop-digit : goal.invariant-loop-digit

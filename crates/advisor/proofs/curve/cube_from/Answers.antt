@@ -1,6 +1,4 @@
-use Rattle.std.proofs.Common.{◌≡◌, ℕ, ◌*◌, ◌/◌, ◌%◌, ◌^◌, ◌≤◌, min, w64, length, refl, ap, ◌∙◌, arith, lit<}
-use Rattle.std.specs.Int.{trailing_zeros}
-use Rattle.std.proofs.Math.Nat.{pow-le-pow_right}
+use Rattle.advisor.proofs.Imports.{◌≡◌, ℕ, ◌*◌, ◌/◌, ◌%◌, ◌^◌, ◌≤◌, min, w64, length, refl, ap, ◌∙◌, arith, lit<, trailing_zeros, pow-le-pow_right}
 use Rattle.advisor.proofs.CurveLaws.{cube_begins, cube_slots, cube_has_rows, cube_has_none}
 use Rattle.advisor.proofs.curve.cube_from.Goals as goal
 

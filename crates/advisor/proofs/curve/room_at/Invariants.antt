@@ -1,5 +1,4 @@
-use Rattle.std.proofs.Common.{ℕ, ◌+◌, ◌<◌, ◌≤◌, length, get_or}
-use Rattle.advisor.specs.Curve.{component}
+use Rattle.advisor.proofs.Imports.{ℕ, ◌+◌, ◌<◌, ◌≤◌, length, get_or, component}
 use Rattle.advisor.proofs.curve.room_at.Given as goal
 
 abbrev pub invariant-loop-d : goal.invariant-loop-d

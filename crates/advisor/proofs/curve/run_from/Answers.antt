@@ -1,4 +1,4 @@
-use Rattle.std.proofs.Common.{◌+◌, arith}
+use Rattle.advisor.proofs.Imports.{◌+◌, arith}
 use Rattle.advisor.proofs.CurveLaws.{all_have_rows}
 use Rattle.advisor.proofs.curve.run_from.Goals as goal
 

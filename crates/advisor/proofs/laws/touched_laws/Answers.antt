@@ -1,4 +1,4 @@
-use Rattle.advisor.specs.TouchedLaws.{touched_split, touched_hot}
+use Rattle.advisor.proofs.Imports.{touched_split, touched_hot}
 use Rattle.advisor.proofs.laws.touched_laws.Goals as goal
 
 pub returns-clause-split : goal.returns-clause-split

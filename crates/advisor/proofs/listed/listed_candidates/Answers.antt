@@ -1,12 +1,4 @@
-use Rattle.std.proofs.Common.{◌≡◌, ◌+◌, ◌++◌, ◌∷◌, [], List, All, map, take, sym, ap, ◌∙◌, subst, arith}
-use Rattle.std.proofs.lemmas.List.{take_more, map_push, take_all}
-use Rattle.std.proofs.lemmas.List.Elements.{All-push}
-use Rattle.map_expr.specs.Terms.{Term, term_of}
-use Rattle.map_expr.specs.declared.expr.MapExpr.{MapExpr}
-use Rattle.map_checks.specs.Mappings.{IsBuiltTerm}
-use Rattle.advisor.specs.declared.candidate.Candidate.{Candidate}
-use Rattle.advisor.specs.Advice.{judge}
-use Rattle.advisor.specs.Pools.{IsPriced, terms_in}
+use Rattle.advisor.proofs.Imports.{◌≡◌, ◌+◌, ◌++◌, ◌∷◌, [], List, All, map, take, sym, ap, ◌∙◌, subst, arith, take_more, map_push, take_all, All-push, Term, term_of, MapExpr, IsBuiltTerm, Candidate, judge, IsPriced, terms_in}
 use Rattle.advisor.proofs.Listing.{good_passed, none_behind}
 use Rattle.advisor.proofs.listed.listed_candidates.Goals as goal
 

@@ -1,8 +1,4 @@
-use Rattle.std.proofs.Common.{◌≡◌, All, map, take, drop}
-use Rattle.map_expr.specs.Terms.{term_of}
-use Rattle.advisor.specs.Advice.{judge}
-use Rattle.advisor.specs.Judged.{first_fault}
-use Rattle.advisor.specs.Pools.{IsPriced, terms_in}
+use Rattle.advisor.proofs.Imports.{◌≡◌, All, map, take, drop, term_of, judge, first_fault, IsPriced, terms_in}
 use Rattle.advisor.proofs.listed.listed_candidates.Given as goal
 
 abbrev pub invariant-loop-at : goal.invariant-loop-at

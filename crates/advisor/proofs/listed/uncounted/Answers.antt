@@ -1,9 +1,4 @@
-use Rattle.std.proofs.Common.{◌≡◌, ◌+◌, ◌++◌, ◌∷◌, [], List, All, map, take, sym, ap, ◌∙◌, subst, arith}
-use Rattle.std.proofs.lemmas.List.{take_more, map_push}
-use Rattle.std.proofs.lemmas.List.Elements.{All-push}
-use Rattle.map_expr.specs.Terms.{Term, term_of, uncounted}
-use Rattle.map_expr.specs.declared.expr.MapExpr.{MapExpr}
-use Rattle.map_checks.specs.Mappings.{IsBuiltTerm}
+use Rattle.advisor.proofs.Imports.{◌≡◌, ◌+◌, ◌++◌, ◌∷◌, [], List, All, map, take, sym, ap, ◌∙◌, subst, arith, take_more, map_push, All-push, Term, term_of, uncounted, MapExpr, IsBuiltTerm}
 use Rattle.advisor.proofs.Listing.{built_uncounted}
 use Rattle.advisor.proofs.listed.uncounted.Goals as goal
 

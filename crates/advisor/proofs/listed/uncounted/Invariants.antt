@@ -1,6 +1,4 @@
-use Rattle.std.proofs.Common.{◌≡◌, All, map, take}
-use Rattle.map_expr.specs.Terms.{term_of, uncounted}
-use Rattle.map_checks.specs.Mappings.{IsBuiltTerm}
+use Rattle.advisor.proofs.Imports.{◌≡◌, All, map, take, term_of, uncounted, IsBuiltTerm}
 use Rattle.advisor.proofs.listed.uncounted.Given as goal
 
 abbrev pub invariant-loop-at : goal.invariant-loop-at

@@ -1,17 +1,4 @@
-use Rattle.std.proofs.Common.{◌≡◌, ℕ, List, length, map, sym, ap, ◌∙◌}
-use Rattle.std.proofs.lemmas.List.{length-map}
-use Rattle.extents.specs.Indices.{indices}
-use Rattle.record_dim.specs.Leaves.{Leaf, leaves}
-use Rattle.record_dim.specs.Schemas.{schema_fields}
-use Rattle.places.specs.Layout.{Owner}
-use Rattle.places.specs.declared.piece.Cell.{Cell}
-use Rattle.places.specs.declared.piece.Hold.{Hold}
-use Rattle.map_expr.specs.Terms.{Term, term_of}
-use Rattle.map_any.specs.AnyLaws.{length-leaf_cells}
-use Rattle.map_checks.specs.Mappings.{layout_of, holds_of, leaf_cells}
-use Rattle.map_checks.specs.TermLaws.{length-holds}
-use Rattle.views.specs.Tables.{leaf_types_of}
-use Rattle.advisor.specs.Passes.{cost, part_cost, leaves_in}
+use Rattle.advisor.proofs.Imports.{◌≡◌, ℕ, List, length, map, sym, ap, ◌∙◌, length-map, indices, Leaf, leaves, schema_fields, Owner, Cell, Hold, Term, term_of, length-leaf_cells, layout_of, holds_of, leaf_cells, length-holds, leaf_types_of, cost, part_cost, leaves_in}
 use Rattle.advisor.proofs.CostLaws.{whole_cost}
 use Rattle.advisor.proofs.listed.whole_candidate.Goals as goal
 

@@ -1,18 +1,4 @@
-use Rattle.std.proofs.Common.{rules, ◌≡◌, ◌^◌, ◌⊎◌, inr, Err, sym, ap, ◌∙◌, subst}
-use Rattle.std.specs.Prelude.{IfErr, Result}
-use Rattle.std.proofs.lemmas.Bool.{leb-true}
-use Rattle.map_expr.specs.Terms.{term_of}
-use Rattle.map_any.proofs.Built.{good_number}
-use Rattle.map_checks.specs.TermLaws.{good_numbers}
-use Rattle.map_checks.specs.declared.fault.MakeMap.{MakeMap}
-use Rattle.map_checks.specs.declared.fault.MakeMap.TheVariants.{NoMemory}
-use Rattle.instrument.specs.Counters.{granules_in}
-use Rattle.views.specs.Tallies.{blob_lengths}
-use Rattle.map_checks.specs.Mappings.{layout_of}
-use Rattle.map_checks.specs.declared.plan.Plan.{Plan}
-use Rattle.record_dim.specs.Schemas.{schema_fields}
-use Rattle.advisor.specs.Judged.{judged}
-use Rattle.advisor.specs.declared.mapped.RuledMap.{RuledMap}
+use Rattle.advisor.proofs.Imports.{rules, ◌≡◌, ◌^◌, ◌⊎◌, inr, Err, sym, ap, ◌∙◌, subst, IfErr, Result, leb-true, term_of, good_number, good_numbers, MakeMap, NoMemory, granules_in, blob_lengths, layout_of, Plan, schema_fields, judged, RuledMap}
 use Rattle.advisor.proofs.JudgedLaws.{plan_refused, told_good, told_many, told_refused}
 use Rattle.advisor.proofs.mapped.mapped.Goals as goal
 

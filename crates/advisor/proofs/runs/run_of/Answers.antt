@@ -1,5 +1,4 @@
-use Rattle.std.proofs.Common.{ℕ, ◌*◌, subst}
-use Rattle.advisor.specs.Steady.{HasSteps}
+use Rattle.advisor.proofs.Imports.{ℕ, ◌*◌, subst, HasSteps}
 use Rattle.advisor.proofs.SteadyLaws.{all_steady}
 use Rattle.advisor.proofs.runs.run_of.Goals as goal
 

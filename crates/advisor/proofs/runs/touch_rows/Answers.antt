@@ -1,12 +1,5 @@
-use Rattle.std.proofs.Common.{◌≡◌, ◌+◌, ◌≤◌, true, Bool, ℕ, List, All, sym, ap, ◌∙◌, subst, arith}
-use Rattle.std.specs.Prelude.{◌||◌}
-use Rattle.instrument.specs.Counters.{heat_counts, IsInside}
+use Rattle.advisor.proofs.Imports.{◌≡◌, ◌+◌, ◌≤◌, true, Bool, ℕ, List, All, sym, ap, ◌∙◌, subst, arith, ◌||◌, heat_counts, IsInside, piece_in, PieceRule, has_row, are_slots_touched, are_rows_touched, IsWarmed}
 use Rattle.instrument.specs.declared.heat.Heat.{Heat}
-use Rattle.places.specs.PieceRules.{piece_in}
-use Rattle.places.specs.declared.rule.PieceRule.{PieceRule}
-use Rattle.advisor.specs.Curve.{has_row}
-use Rattle.advisor.specs.Steady.{are_slots_touched, are_rows_touched}
-use Rattle.advisor.specs.Warm.{IsWarmed}
 use Rattle.advisor.proofs.SteadyLaws.{rows_more, or_false}
 use Rattle.advisor.proofs.SweepLaws.{run_of_rows, run_of_none}
 use Rattle.advisor.proofs.WarmLaws.{warmed_inside, warmed_more, warmed_alike}

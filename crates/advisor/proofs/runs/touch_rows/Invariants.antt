@@ -1,7 +1,4 @@
-use Rattle.std.proofs.Common.{◌≤◌, ◌-◌}
-use Rattle.instrument.specs.Counters.{heat_counts}
-use Rattle.advisor.specs.Steady.{are_rows_touched}
-use Rattle.advisor.specs.Warm.{IsWarmed}
+use Rattle.advisor.proofs.Imports.{◌≤◌, ◌-◌, heat_counts, are_rows_touched, IsWarmed}
 use Rattle.advisor.proofs.runs.touch_rows.Given as goal
 
 abbrev pub invariant-loop-slot : goal.invariant-loop-slot

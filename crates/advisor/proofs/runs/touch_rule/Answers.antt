@@ -1,9 +1,4 @@
-use Rattle.std.proofs.Common.{◌≡◌, ◌+◌, ◌*◌, ◌%◌, ◌/◌, ◌<◌, ℕ, sym, ap, ◌∙◌, subst, arith}
-use Rattle.std.specs.Prelude.{◌||◌}
-use Rattle.std.proofs.lemmas.Nat.{div-add-mod', mod_below}
-use Rattle.instrument.specs.Counters.{heat_counts, IsInside}
-use Rattle.places.specs.PieceRules.{piece_in}
-use Rattle.advisor.specs.Steady.{IsSteady, is_run_touched}
+use Rattle.advisor.proofs.Imports.{◌≡◌, ◌+◌, ◌*◌, ◌%◌, ◌/◌, ◌<◌, ℕ, sym, ap, ◌∙◌, subst, arith, ◌||◌, div-add-mod', mod_below, heat_counts, IsInside, piece_in, IsSteady, is_run_touched}
 use Rattle.advisor.proofs.SteadyLaws.{part_steady, touched_more}
 use Rattle.advisor.proofs.WarmLaws.{warmed_inside, warmed_more}
 use Rattle.advisor.proofs.runs.touch_rule.Goals as goal

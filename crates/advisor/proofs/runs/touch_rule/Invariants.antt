@@ -1,7 +1,4 @@
-use Rattle.std.proofs.Common.{◌≤◌, ◌-◌}
-use Rattle.instrument.specs.Counters.{heat_counts}
-use Rattle.advisor.specs.Steady.{is_run_touched}
-use Rattle.advisor.specs.Warm.{IsWarmed}
+use Rattle.advisor.proofs.Imports.{◌≤◌, ◌-◌, heat_counts, is_run_touched, IsWarmed}
 use Rattle.advisor.proofs.runs.touch_rule.Given as goal
 
 abbrev pub invariant-loop-done : goal.invariant-loop-done

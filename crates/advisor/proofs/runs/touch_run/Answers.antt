@@ -1,10 +1,5 @@
-use Rattle.std.proofs.Common.{◌≡◌, ◌+◌, ◌-◌, ◌∷◌, ◌++◌, [], ℕ, List, slice_index_or, All, sym, ap, ◌∙◌, subst, arith}
-use Rattle.places.specs.declared.piece.Piece.{Piece}
-use Rattle.places.specs.Touched.{is_in_granule}
-use Rattle.instrument.specs.Counters.{HeatCounts, heat_counts, heated_by, IsCounted}
-use Rattle.instrument.specs.WarmingLaws.{inside-counted}
-use Rattle.advisor.specs.Steady.{is_run_touched, long_piece}
-use Rattle.advisor.specs.Warm.{IsWarmed}
+use Rattle.advisor.proofs.Imports.{◌≡◌, ◌+◌, ◌-◌, ◌∷◌, ◌++◌, [], ℕ, List, slice_index_or, All, sym, ap, ◌∙◌, subst, arith, Piece, is_in_granule, HeatCounts, heat_counts, heated_by, inside-counted, is_run_touched, long_piece, IsWarmed}
+use Rattle.instrument.specs.Counters.{IsCounted}
 use Rattle.advisor.proofs.SteadyLaws.{long_ends, long_fits, long_is, long_inside, long_touches, or_false}
 use Rattle.advisor.proofs.WarmLaws.{heated_warmed, warmed_alike}
 use Rattle.advisor.proofs.runs.touch_run.Goals as goal

@@ -1,11 +1,4 @@
-use Rattle.std.proofs.Common.{◌+◌, take, sym, ap, ◌∙◌, subst}
-use Rattle.std.specs.Prelude.{◌||◌}
-use Rattle.std.specs.List.{list_any}
-use Rattle.std.proofs.lemmas.List.Folds.{list_any_more}
-use Rattle.instrument.specs.Counters.{heat_counts, IsInside}
-use Rattle.places.specs.PieceRules.{piece_in}
-use Rattle.places.specs.declared.rule.PieceRule.{PieceRule}
-use Rattle.advisor.specs.Steady.{is_run_touched}
+use Rattle.advisor.proofs.Imports.{◌+◌, take, sym, ap, ◌∙◌, subst, ◌||◌, list_any, list_any_more, heat_counts, IsInside, piece_in, PieceRule, is_run_touched}
 use Rattle.advisor.proofs.WarmLaws.{warmed_inside, warmed_more}
 use Rattle.advisor.proofs.runs.touch_slots.Goals as goal
 

@@ -1,7 +1,4 @@
-use Rattle.std.proofs.Common.{take}
-use Rattle.instrument.specs.Counters.{heat_counts}
-use Rattle.advisor.specs.Steady.{are_slots_touched}
-use Rattle.advisor.specs.Warm.{IsWarmed}
+use Rattle.advisor.proofs.Imports.{take, heat_counts, are_slots_touched, IsWarmed}
 use Rattle.advisor.proofs.runs.touch_slots.Given as goal
 
 abbrev pub invariant-loop-rule : goal.invariant-loop-rule

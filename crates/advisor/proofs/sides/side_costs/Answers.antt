@@ -1,10 +1,4 @@
-use Rattle.std.proofs.Common.{◌≡◌, ◌+◌, ◌++◌, ◌∷◌, ◌<◌, [], ℕ, None, Option, List, get_or, length, map, sym, ap, ◌∙◌, subst, ⊎_elim, arith}
-use Rattle.std.proofs.lemmas.Bool.{cases_eq}
-use Rattle.std.proofs.lemmas.List.{get_or-map, get_or_push, get_or_append_left, length_push}
-use Rattle.map_expr.specs.Terms.{Term, Named, term_of}
-use Rattle.map_expr.specs.declared.expr.MapExpr.{MapExpr}
-use Rattle.map_checks.specs.Mappings.{IsBuiltTerm}
-use Rattle.advisor.specs.Sides.{IsSideCost, term_at}
+use Rattle.advisor.proofs.Imports.{◌≡◌, ◌+◌, ◌++◌, ◌∷◌, ◌<◌, [], ℕ, None, Option, List, get_or, length, map, sym, ap, ◌∙◌, subst, ⊎_elim, arith, cases_eq, get_or-map, get_or_push, get_or_append_left, length_push, Term, Named, term_of, MapExpr, IsBuiltTerm, IsSideCost, term_at}
 use Rattle.advisor.proofs.sides.side_costs.Goals as goal
 
 pub side_cost-requires-clause-built : goal.side_cost-requires-clause-built

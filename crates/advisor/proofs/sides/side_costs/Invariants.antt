@@ -1,6 +1,4 @@
-use Rattle.std.proofs.Common.{◌≡◌, ◌<◌, ℕ, None, length, map, get_or}
-use Rattle.map_expr.specs.Terms.{term_of}
-use Rattle.advisor.specs.Sides.{IsSideCost, term_at}
+use Rattle.advisor.proofs.Imports.{◌≡◌, ◌<◌, ℕ, None, length, map, get_or, term_of, IsSideCost, term_at}
 use Rattle.advisor.proofs.sides.side_costs.Given as goal
 
 abbrev pub invariant-loop-at : goal.invariant-loop-at

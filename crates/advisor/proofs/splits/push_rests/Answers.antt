@@ -1,15 +1,4 @@
-use Rattle.std.proofs.Common.{◌≡◌, List, [], ◌∷◌, ◌++◌, None, get_or, map, sym, ap, ◌∙◌, subst, arith}
-use Rattle.std.specs.Prelude.{filter, is_ok}
-use Rattle.std.proofs.lemmas.List.{get_or-map}
-use Rattle.std.proofs.lemmas.List.Concat.{flat_map_single}
-use Rattle.std.proofs.lemmas.Simd.{map-map}
-use Rattle.map_expr.specs.Terms.{Term, Named, Split, term_of}
-use Rattle.map_expr.specs.declared.expr.MapExpr.{MapExpr}
-use Rattle.map_checks.specs.Mappings.{IsBuiltTerm}
-use Rattle.map_checks.specs.Sides.{cells_beside}
-use Rattle.advisor.specs.Advice.{judge}
-use Rattle.advisor.specs.Pools.{terms_in}
-use Rattle.advisor.specs.Sides.{IsSideCost, term_at}
+use Rattle.advisor.proofs.Imports.{◌≡◌, List, [], ◌∷◌, ◌++◌, None, get_or, map, sym, ap, ◌∙◌, subst, arith, filter, is_ok, get_or-map, flat_map_single, map-map, Term, Named, Split, term_of, MapExpr, IsBuiltTerm, cells_beside, judge, terms_in, IsSideCost, term_at}
 use Rattle.advisor.proofs.PoolLaws.{more_behind, all_behind}
 use Rattle.advisor.proofs.splits.push_rests.Goals as goal
 

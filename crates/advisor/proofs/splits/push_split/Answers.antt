@@ -1,12 +1,4 @@
-use Rattle.std.proofs.Common.{◌≡◌, ◌+◌, List, All, Some, Option, sym, subst}
-use Rattle.std.specs.Prelude.{IfSome}
-use Rattle.std.proofs.lemmas.List.Elements.{All-push}
-use Rattle.map_expr.specs.Terms.{term_of}
-use Rattle.map_checks.specs.Mappings.{holds_by}
-use Rattle.map_checks.specs.Sides.{cells_under, cells_beside}
-use Rattle.advisor.specs.declared.candidate.Candidate.{Candidate}
-use Rattle.advisor.specs.Pools.{IsPriced}
-use Rattle.advisor.specs.Sides.{IsHold, IsSideCost}
+use Rattle.advisor.proofs.Imports.{◌≡◌, ◌+◌, List, All, Some, Option, sym, subst, IfSome, All-push, term_of, holds_by, cells_under, cells_beside, Candidate, IsPriced, IsHold, IsSideCost}
 use Rattle.advisor.proofs.PoolLaws.{split_priced, first_lacks, rest_lacks, none_more}
 use Rattle.advisor.proofs.splits.push_split.Goals as goal
 

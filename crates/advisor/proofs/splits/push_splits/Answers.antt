@@ -1,11 +1,4 @@
-use Rattle.std.proofs.Common.{◌≡◌, List, ◌++◌, map, ap, ◌∙◌, arith}
-use Rattle.std.specs.Prelude.{filter, is_ok}
-use Rattle.std.specs.List.{flat_map}
-use Rattle.record_dim.specs.declared.path.PathStep.{PathStep}
-use Rattle.record_dim.specs.Trees.{Record}
-use Rattle.map_expr.specs.Terms.{Term, term_of}
-use Rattle.advisor.specs.Advice.{judge, own_paths, splits_at}
-use Rattle.advisor.specs.Pools.{terms_in}
+use Rattle.advisor.proofs.Imports.{◌≡◌, List, ◌++◌, map, ap, ◌∙◌, arith, filter, is_ok, flat_map, PathStep, Record, Term, term_of, judge, own_paths, splits_at, terms_in}
 use Rattle.advisor.proofs.PoolLaws.{more_behind, all_behind}
 use Rattle.advisor.proofs.splits.push_splits.Goals as goal
 

@@ -1,8 +1,4 @@
-use Rattle.std.proofs.Common.{All, map}
-use Rattle.std.specs.Prelude.{is_ok}
-use Rattle.map_expr.specs.Terms.{term_of}
-use Rattle.advisor.specs.Advice.{judge, splits_at}
-use Rattle.advisor.specs.Pools.{IsPriced, terms_in}
+use Rattle.advisor.proofs.Imports.{All, map, is_ok, term_of, judge, splits_at, IsPriced, terms_in}
 use Rattle.advisor.proofs.PoolLaws.{AreBehind}
 use Rattle.advisor.proofs.splits.push_splits.Given as goal
 

@@ -1,16 +1,4 @@
-use Rattle.std.proofs.Common.{◌≡◌, ◌<◌, ℕ, List, [], ◌++◌, None, Option, get_or, map, length, sym, ap, ◌∙◌, subst, arith}
-use Rattle.std.specs.Prelude.{filter, is_ok}
-use Rattle.std.proofs.lemmas.List.{get_or-map, get_or_default}
-use Rattle.std.proofs.lemmas.List.Folds.{flat_map-map}
-use Rattle.record_dim.specs.Trees.{Fields}
-use Rattle.places.specs.declared.piece.Cell.{Cell}
-use Rattle.map_expr.specs.Terms.{Term, Named, Split, term_of}
-use Rattle.map_expr.specs.declared.expr.MapExpr.{MapExpr}
-use Rattle.map_checks.specs.Mappings.{IsBuiltTerm}
-use Rattle.map_checks.specs.Sides.{cells_under, cells_beside}
-use Rattle.advisor.specs.Advice.{judge}
-use Rattle.advisor.specs.Pools.{terms_in}
-use Rattle.advisor.specs.Sides.{IsSideCost, term_at}
+use Rattle.advisor.proofs.Imports.{◌≡◌, ◌<◌, ℕ, List, [], ◌++◌, None, Option, get_or, map, length, sym, ap, ◌∙◌, subst, arith, filter, is_ok, get_or-map, get_or_default, flat_map-map, Fields, Cell, Term, Named, Split, term_of, MapExpr, IsBuiltTerm, cells_under, cells_beside, judge, terms_in, IsSideCost, term_at}
 use Rattle.advisor.proofs.PoolLaws.{more_behind, all_behind}
 use Rattle.advisor.proofs.splits.push_splits_at.Goals as goal
 

@@ -1,9 +1,4 @@
-use Rattle.std.proofs.Common.{All, map}
-use Rattle.std.specs.Prelude.{is_ok}
-use Rattle.map_expr.specs.Terms.{Split, term_of}
-use Rattle.map_expr.specs.declared.expr.MapExpr.{MapExpr}
-use Rattle.advisor.specs.Advice.{judge}
-use Rattle.advisor.specs.Pools.{IsPriced, terms_in}
+use Rattle.advisor.proofs.Imports.{All, map, is_ok, Split, term_of, MapExpr, judge, IsPriced, terms_in}
 use Rattle.advisor.proofs.PoolLaws.{AreBehind}
 use Rattle.advisor.proofs.splits.push_splits_at.Given as goal
 

@@ -1,8 +1,4 @@
-use Rattle.std.proofs.Common.{◌++◌, ◌∷◌, [], Bool, List, take, map, sym, ap, ◌∙◌, arith}
-use Rattle.std.proofs.lemmas.List.{take_more_set, take_all, map_more}
-use Rattle.places.specs.declared.piece.Hold.{Hold}
-use Rattle.advisor.specs.declared.candidate.Candidate.{Candidate}
-use Rattle.advisor.specs.Trials.{none_failed}
+use Rattle.advisor.proofs.Imports.{◌++◌, ◌∷◌, [], Bool, List, take, map, sym, ap, ◌∙◌, arith, take_more_set, take_all, map_more, Hold, Candidate, none_failed}
 use Rattle.advisor.proofs.suits.mark.Goals as goal
 
 pub loop-at-preserved : goal.loop-at-preserved

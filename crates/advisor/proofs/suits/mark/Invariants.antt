@@ -1,5 +1,4 @@
-use Rattle.std.proofs.Common.{◌≡◌, map, take}
-use Rattle.advisor.specs.Trials.{none_failed}
+use Rattle.advisor.proofs.Imports.{◌≡◌, map, take, none_failed}
 use Rattle.advisor.proofs.suits.mark.Given as goal
 
 abbrev pub invariant-loop-at : goal.invariant-loop-at

@@ -1,7 +1,4 @@
-use Rattle.std.proofs.Common.{List, map, ap, ◌∙◌, arith}
-use Rattle.advisor.specs.declared.candidate.Candidate.{Candidate}
-use Rattle.advisor.specs.declared.trials.Trial.{Trial}
-use Rattle.advisor.specs.Trials.{none_failed}
+use Rattle.advisor.proofs.Imports.{List, map, ap, ◌∙◌, arith, Candidate, Trial, none_failed}
 use Rattle.advisor.proofs.Tried.{trials_now, marks_right}
 use Rattle.advisor.proofs.suits.mark_suiting.Goals as goal
 

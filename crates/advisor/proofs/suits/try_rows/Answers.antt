@@ -1,9 +1,4 @@
-use Rattle.std.proofs.Common.{◌≡◌, ℕ, All, length, map, take, drop, sym, ap, ◌∙◌, subst, refl, arith, length-append, length-drop}
-use Rattle.std.proofs.lemmas.List.{length-take-le}
-use Rattle.views.specs.Tables.{Table, leaf_count_of, after_log}
-use Rattle.views.specs.Tallies.{Read}
-use Rattle.views.specs.TallyLaws.{after_log-none}
-use Rattle.advisor.specs.Trials.{IsTrial, rows_accesses, tried_all}
+use Rattle.advisor.proofs.Imports.{◌≡◌, ℕ, All, length, map, take, drop, sym, ap, ◌∙◌, subst, refl, arith, length-append, length-drop, length-take-le, Table, leaf_count_of, after_log, Read, after_log-none, IsTrial, rows_accesses, tried_all}
 use Rattle.advisor.proofs.Tried.{trials_now}
 use Rattle.advisor.proofs.TriedRuns.{none_tried, run_read, run_tried}
 use Rattle.advisor.proofs.suits.try_rows.Goals as goal

@@ -1,7 +1,4 @@
-use Rattle.std.proofs.Common.{◌≡◌, ◌≤◌, ◌-◌, length, map, take}
-use Rattle.views.specs.Tables.{leaf_count_of, after_log}
-use Rattle.views.specs.Tallies.{Read, all_accesses}
-use Rattle.advisor.specs.Trials.{tried_all}
+use Rattle.advisor.proofs.Imports.{◌≡◌, ◌≤◌, ◌-◌, length, map, take, leaf_count_of, after_log, Read, all_accesses, tried_all}
 use Rattle.advisor.proofs.suits.try_rows.Given as goal
 
 abbrev pub invariant-loop-first : goal.invariant-loop-first

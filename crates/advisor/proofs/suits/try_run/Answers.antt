@@ -1,12 +1,4 @@
-use Rattle.std.proofs.Common.{◌≡◌, ◌<◌, ℕ, length, map, take, drop, ap, ◌∙◌, refl, arith}
-use Rattle.record_dim.specs.Leaves.{leaves}
-use Rattle.record_dim.specs.Trees.{Fields}
-use Rattle.piece_bits.specs.Lows.{low_64}
-use Rattle.piece_bits.specs.declared.mode.StoreMode.{StoreMode}
-use Rattle.views.specs.Columns.{column_reads}
-use Rattle.views.specs.Runs.{run_of}
-use Rattle.views.specs.Tables.{Table, leaf_count_of, after_log}
-use Rattle.advisor.specs.Trials.{tried_leaf}
+use Rattle.advisor.proofs.Imports.{◌≡◌, ◌<◌, ℕ, length, map, take, drop, ap, ◌∙◌, refl, arith, leaves, Fields, low_64, StoreMode, column_reads, run_of, Table, leaf_count_of, after_log, tried_leaf}
 use Rattle.advisor.proofs.TriedRuns.{none_read, leaf_read, none_to, all_to, trials_to, leaf_tried}
 use Rattle.advisor.proofs.suits.try_run.Goals as goal
 

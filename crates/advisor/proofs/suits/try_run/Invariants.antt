@@ -1,7 +1,4 @@
-use Rattle.std.proofs.Common.{◌≡◌, length, map, take, drop}
-use Rattle.views.specs.Tables.{after_log}
-use Rattle.views.specs.Tallies.{Read}
-use Rattle.advisor.specs.Trials.{rows_accesses}
+use Rattle.advisor.proofs.Imports.{◌≡◌, length, map, take, drop, after_log, Read, rows_accesses}
 use Rattle.advisor.proofs.TriedRuns.{tried_to}
 use Rattle.advisor.proofs.suits.try_run.Given as goal
 

@@ -1,12 +1,4 @@
-use Rattle.std.proofs.Common.{◌≡◌, ◌+◌, ◌*◌, ◌/◌, ◌^◌, ◌<◌, ◌≤◌, ℕ, List, [], length, get_or, sym, ap, ◌∙◌, arith}
-use Rattle.std.specs.Int.{div_ceil}
-use Rattle.std.proofs.lemmas.Bool.{lt-leb, le-leb}
-use Rattle.std.proofs.lemmas.List.{get_or-map, length-map, take_all}
-use Rattle.std.proofs.lemmas.List.Sums.{sum_by_more, sum_by-take-le}
-use Rattle.places.specs.Layout.{Owner}
-use Rattle.instrument.specs.Counters.{granules_in, granules_of}
-use Rattle.instrument.specs.RoundingLaws.{rounded}
-use Rattle.views.specs.Tallies.{blob_lengths}
+use Rattle.advisor.proofs.Imports.{◌≡◌, ◌+◌, ◌*◌, ◌/◌, ◌^◌, ◌<◌, ◌≤◌, ℕ, List, [], length, get_or, sym, ap, ◌∙◌, arith, div_ceil, lt-leb, le-leb, get_or-map, length-map, take_all, sum_by_more, sum_by-take-le, Owner, granules_in, granules_of, rounded, blob_lengths}
 use Rattle.advisor.proofs.touched.has_few_granules.Goals as goal
 
 -- the granules of a blob

@@ -1,6 +1,4 @@
-use Rattle.std.proofs.Common.{◌≡◌, ◌+◌, ◌^◌, take}
-use Rattle.instrument.specs.Counters.{granules_in}
-use Rattle.views.specs.Tallies.{blob_lengths}
+use Rattle.advisor.proofs.Imports.{◌≡◌, ◌+◌, ◌^◌, take, granules_in, blob_lengths}
 use Rattle.advisor.proofs.touched.has_few_granules.Given as goal
 
 abbrev pub invariant-loop-blob : goal.invariant-loop-blob

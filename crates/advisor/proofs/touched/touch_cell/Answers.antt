@@ -1,11 +1,7 @@
-use Rattle.std.proofs.Common.{ℕ, length, subst}
-use Rattle.extents.specs.Indices.{indices}
-use Rattle.places.specs.Laws.{IsLaidOut}
-use Rattle.instrument.specs.Counters.{heat_counts}
+use Rattle.advisor.proofs.Imports.{ℕ, length, subst, indices, IsLaidOut, heat_counts, RuledMap}
 use Rattle.advisor.proofs.RuledLaws.{layout_in, widths_in}
 use Rattle.advisor.proofs.SweepLaws.{rows_hold, rows_inside}
 use Rattle.advisor.proofs.WarmLaws.{warmed_alike, warmed_granules}
-use Rattle.advisor.specs.declared.mapped.RuledMap.{RuledMap}
 use Rattle.advisor.proofs.touched.touch_cell.Goals as goal
 
 -- its slots are the rows

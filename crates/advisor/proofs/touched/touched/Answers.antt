@@ -1,14 +1,4 @@
-use Rattle.std.proofs.Common.{◌≡◌, ◌≤◌, ◌^◌, Bool, ℕ, List, [], ◌∷◌, length, refl, sym, ap, ◌∙◌, subst, arith}
-use Rattle.std.specs.Prelude.{◌==◌}
-use Rattle.std.specs.List.{list_any}
-use Rattle.std.proofs.lemmas.Bool.{eqb-true}
-use Rattle.std.proofs.lemmas.List.{take_all}
-use Rattle.std.proofs.lemmas.List.Folds.{list_any_more}
-use Rattle.instrument.specs.Counters.{HeatCounts, heat_counts, no_heat, granules_in}
-use Rattle.views.specs.Kept.{HasGranules}
-use Rattle.views.specs.Tallies.{blob_lengths}
-use Rattle.advisor.specs.Touched.{holds_cell, touched}
-use Rattle.advisor.specs.Warm.{IsWarmed}
+use Rattle.advisor.proofs.Imports.{◌≡◌, ◌≤◌, ◌^◌, Bool, ℕ, List, [], ◌∷◌, length, refl, sym, ap, ◌∙◌, subst, arith, ◌==◌, list_any, eqb-true, take_all, list_any_more, HeatCounts, heat_counts, no_heat, granules_in, HasGranules, blob_lengths, holds_cell, touched, IsWarmed}
 use Rattle.advisor.proofs.RuledLaws.{layout_in}
 use Rattle.advisor.proofs.WarmLaws.{cold_granules, none_touched, warmed_none, warmed_more, warm_touched}
 use Rattle.advisor.proofs.touched.touched.Goals as goal

@@ -1,10 +1,4 @@
-use Rattle.std.proofs.Common.{take}
-use Rattle.std.specs.List.{list_any}
-use Rattle.instrument.specs.Counters.{heat_counts, no_heat}
-use Rattle.views.specs.Kept.{HasGranules}
-use Rattle.views.specs.Tallies.{blob_lengths}
-use Rattle.advisor.specs.Touched.{holds_cell}
-use Rattle.advisor.specs.Warm.{IsWarmed}
+use Rattle.advisor.proofs.Imports.{take, list_any, heat_counts, no_heat, HasGranules, blob_lengths, holds_cell, IsWarmed}
 use Rattle.advisor.proofs.RuledLaws.{layout_in}
 use Rattle.advisor.proofs.touched.touched.Given as goal
 

@@ -1,10 +1,4 @@
-use Rattle.std.proofs.Common.{[], ap, ◌∙◌, arith}
-use Rattle.std.specs.Prelude.{count_by, sum_by}
-use Rattle.std.proofs.lemmas.List.{take_all}
-use Rattle.std.proofs.lemmas.List.Sums.{sum_by_more_le, sum_by-take-le}
-use Rattle.instrument.specs.Counters.{heat_counts}
-use Rattle.views.specs.CountLaws.{blob_granules}
-use Rattle.advisor.specs.Warm.{is_warm}
+use Rattle.advisor.proofs.Imports.{[], ap, ◌∙◌, arith, count_by, sum_by, take_all, sum_by_more_le, sum_by-take-le, heat_counts, blob_granules, is_warm}
 use Rattle.advisor.proofs.WarmLaws.{warm_few}
 use Rattle.advisor.proofs.touched.warm_granules.Goals as goal
 

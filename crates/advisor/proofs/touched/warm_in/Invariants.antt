@@ -1,7 +1,4 @@
-use Rattle.std.proofs.Common.{◌≡◌, [], get_or, take}
-use Rattle.std.specs.Prelude.{count_by}
-use Rattle.instrument.specs.Counters.{heat_counts}
-use Rattle.advisor.specs.Warm.{is_warm}
+use Rattle.advisor.proofs.Imports.{◌≡◌, [], get_or, take, count_by, heat_counts, is_warm}
 use Rattle.advisor.proofs.touched.warm_in.Given as goal
 
 abbrev pub invariant-loop-at : goal.invariant-loop-at

@@ -1,8 +1,4 @@
-use Rattle.std.proofs.Common.{rules, ◌≡◌, Bool, pos, get_or, SFits, w64, sym, ap, ◌∙◌}
-use Rattle.std.specs.Prelude.{◌&&◌}
-use Rattle.std.proofs.lemmas.Int.{to_z-of_z}
-use Rattle.std.proofs.lemmas.List.Folds.{list_all_at, list_all_more}
-use Rattle.advisor.specs.Trials.{low_stays}
+use Rattle.advisor.proofs.Imports.{rules, ◌≡◌, Bool, pos, get_or, SFits, w64, sym, ap, ◌∙◌, ◌&&◌, to_z-of_z, list_all_at, list_all_more, low_stays}
 use Rattle.advisor.proofs.trials.all_stay.Goals as goal
 use Rattle.advisor.proofs.trials.all_stay.Goals.{After-low_stays}
 

@@ -1,5 +1,4 @@
-use Rattle.std.proofs.Common.{◌≡◌, true, take}
-use Rattle.advisor.specs.Trials.{all_lows_stay}
+use Rattle.advisor.proofs.Imports.{◌≡◌, true, take, all_lows_stay}
 use Rattle.advisor.proofs.trials.all_stay.Given as goal
 
 abbrev pub invariant-loop-low : goal.invariant-loop-low

@@ -1,5 +1,4 @@
-use Rattle.std.proofs.Common.{◌≡◌, true, take}
-use Rattle.advisor.specs.Trials.{none_failed}
+use Rattle.advisor.proofs.Imports.{◌≡◌, true, take, none_failed}
 use Rattle.advisor.proofs.trials.none_failed.Given as goal
 
 abbrev pub invariant-loop-trial : goal.invariant-loop-trial

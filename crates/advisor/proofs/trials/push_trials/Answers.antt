@@ -1,12 +1,4 @@
-use Rattle.std.proofs.Common.{◌≡◌, ◌+◌, List, sym, ap, ◌∙◌, refl, subst, arith}
-use Rattle.std.proofs.lemmas.Option.{get_or_from_slice_get}
-use Rattle.record_dim.specs.Leaves.{kinds_of}
-use Rattle.record_dim.specs.Schemas.{schema_fields}
-use Rattle.piece_bits.specs.Tables.{hold_at}
-use Rattle.places.specs.declared.piece.Hold.{Hold}
-use Rattle.advisor.specs.declared.trials.Trial.{Trial}
-use Rattle.advisor.specs.Sides.{IsHold}
-use Rattle.advisor.specs.Trials.{has_trial}
+use Rattle.advisor.proofs.Imports.{◌≡◌, ◌+◌, List, sym, ap, ◌∙◌, refl, subst, arith, get_or_from_slice_get, kinds_of, schema_fields, hold_at, Hold, Trial, IsHold, has_trial}
 use Rattle.advisor.proofs.Tried.{ArePushed, one_there, one_pushed}
 use Rattle.advisor.proofs.trials.push_trials.Goals as goal
 use Rattle.advisor.proofs.trials.push_trials.Goals.{then-not-has_trial+in_ok-push, else-not-has_trial}

@@ -1,4 +1,4 @@
-use Rattle.record_dim.specs.Schemas.{schema_fields}
+use Rattle.advisor.proofs.Imports.{schema_fields}
 use Rattle.advisor.proofs.Tried.{ArePushed}
 use Rattle.advisor.proofs.trials.push_trials.Given as goal
 

@@ -1,6 +1,4 @@
-use Rattle.std.proofs.Common.{rules, ◌≡◌, ◌∙◌, true}
-use Rattle.record_dim.specs.LeafTypes.{least_of, greatest_of, least_in, greatest_in}
-use Rattle.views.specs.Stores.{is_between}
+use Rattle.advisor.proofs.Imports.{rules, ◌≡◌, ◌∙◌, true, least_of, greatest_of, least_in, greatest_in, is_between}
 use Rattle.advisor.proofs.Tried.{strict_stays}
 use Rattle.advisor.proofs.trials.stays.Goals as goal
 

@@ -1,10 +1,4 @@
-use Rattle.std.proofs.Common.{◌≡◌, ◌+◌, ◌++◌, ◌∷◌, [], List, All, get_or, take, length, sym, subst, arith}
-use Rattle.std.proofs.lemmas.List.{take_more, take_all}
-use Rattle.std.proofs.lemmas.List.Elements.{All-push}
-use Rattle.places.specs.declared.piece.Hold.{Hold}
-use Rattle.piece_bits.specs.Tables.{hold_at}
-use Rattle.advisor.specs.declared.candidate.Candidate.{Candidate}
-use Rattle.advisor.specs.Trials.{HasTrials}
+use Rattle.advisor.proofs.Imports.{◌≡◌, ◌+◌, ◌++◌, ◌∷◌, [], List, All, get_or, take, length, sym, subst, arith, take_more, take_all, All-push, Hold, hold_at, Candidate, HasTrials}
 use Rattle.advisor.proofs.trials.trials_of.Goals as goal
 
 pub loop-at-preserved : goal.loop-at-preserved

@@ -1,6 +1,4 @@
-use Rattle.std.proofs.Common.{All, take, length}
-use Rattle.record_dim.specs.Schemas.{schema_fields}
-use Rattle.advisor.specs.Trials.{IsTrial, IsFresh, HasTrials}
+use Rattle.advisor.proofs.Imports.{All, take, length, schema_fields, IsTrial, IsFresh, HasTrials}
 use Rattle.advisor.proofs.trials.trials_of.Given as goal
 
 abbrev pub invariant-loop-at : goal.invariant-loop-at

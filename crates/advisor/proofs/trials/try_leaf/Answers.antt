@@ -1,9 +1,4 @@
-use Rattle.std.proofs.Common.{◌<◌, Bool, false, length, get_or, set, ap, ◌∙◌, arith}
-use Rattle.std.proofs.lemmas.List.{get_or_default}
-use Rattle.std.proofs.lemmas.List.Edits.{map_over_more}
-use Rattle.record_dim.specs.declared.leaf_type.LeafType.TheVariants.{Bool as Truth}
-use Rattle.advisor.specs.declared.trials.Trial.{Trial}
-use Rattle.advisor.specs.Trials.{tried_leaf}
+use Rattle.advisor.proofs.Imports.{◌<◌, Bool, false, length, get_or, set, ap, ◌∙◌, arith, get_or_default, map_over_more, Truth, Trial, tried_leaf}
 use Rattle.advisor.proofs.trials.try_leaf.Goals as goal
 
 -- what an index gives behind the end

@@ -1,5 +1,4 @@
-use Rattle.std.proofs.Common.{◌≡◌, ◌++◌, take, drop, map}
-use Rattle.advisor.specs.Trials.{tried_leaf}
+use Rattle.advisor.proofs.Imports.{◌≡◌, ◌++◌, take, drop, map, tried_leaf}
 use Rattle.advisor.proofs.trials.try_leaf.Given as goal
 
 abbrev pub invariant-loop-trial : goal.invariant-loop-trial

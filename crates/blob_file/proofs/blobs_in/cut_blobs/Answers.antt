@@ -1,5 +1,4 @@
-use Rattle.std.proofs.Common.{arith, ◌<◌, length, sym, subst}
-use Rattle.piece_bits.specs.Tables.{AreSized}
+use Rattle.blob_file.proofs.Imports.{arith, ◌<◌, length, sym, subst, AreSized}
 use Rattle.blob_file.proofs.Blobs.{none_cut, room, one_cut, all_cut, cut_sized}
 use Rattle.blob_file.proofs.blobs_in.cut_blobs.Goals as goal
 

@@ -1,4 +1,4 @@
-use Rattle.views.specs.Tallies.{blob_lengths}
+use Rattle.blob_file.proofs.Imports.{blob_lengths}
 use Rattle.blob_file.proofs.Blobs.{AreCut}
 use Rattle.blob_file.proofs.blobs_in.cut_blobs.Given as goal
 

@@ -1,8 +1,4 @@
-use Rattle.std.proofs.Common.{rules, arith, ◌≡◌, ◌<◌, ◌≤◌, ◌∙◌, ℕ, List, [], true, false, length, get_or, sym, ap, subst, ⊎_elim}
-use Rattle.std.proofs.lemmas.Bool.{cases_lt}
-use Rattle.std.proofs.lemmas.List.{ext_get_or, get_or_default}
-use Rattle.views.specs.Tables.{owners_of}
-use Rattle.blob_file.specs.Saving.{blobs_of}
+use Rattle.blob_file.proofs.Imports.{rules, arith, ◌≡◌, ◌<◌, ◌≤◌, ◌∙◌, ℕ, List, [], true, false, length, get_or, sym, ap, subst, ⊎_elim, cases_lt, ext_get_or, get_or_default, owners_of, blobs_of}
 use Rattle.blob_file.proofs.ImageBits.{blob_saved, blob_count}
 use Rattle.blob_file.proofs.blobs_in.has_blobs.Goals as goal
 

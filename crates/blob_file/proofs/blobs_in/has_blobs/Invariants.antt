@@ -1,5 +1,4 @@
-use Rattle.std.proofs.Common.{◌≡◌, ◌<◌, ℕ, [], get_or}
-use Rattle.blob_file.specs.Saving.{blobs_of}
+use Rattle.blob_file.proofs.Imports.{◌≡◌, ◌<◌, ℕ, [], get_or, blobs_of}
 use Rattle.blob_file.proofs.blobs_in.has_blobs.Given as goal
 
 abbrev pub invariant-loop-b : goal.invariant-loop-b

@@ -1,4 +1,4 @@
-use Rattle.std.proofs.Common.{◌≡◌, ◌<◌, ℕ, true, false, get_or}
+use Rattle.blob_file.proofs.Imports.{◌≡◌, ◌<◌, ℕ, true, false, get_or}
 use Rattle.blob_file.proofs.blobs_in.is_same.Given as goal
 
 abbrev pub invariant-loop-at : goal.invariant-loop-at

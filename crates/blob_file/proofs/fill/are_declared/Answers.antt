@@ -1,11 +1,4 @@
-use Rattle.std.proofs.Common.{rules, ◌≡◌, ◌<◌, ◌≤◌, ◌∙◌, ⊎_elim, ℕ, ℤ, pos, get_or, length, SFits, to_z, of_z, w64, subst, arith}
-use Rattle.std.specs.Int.{w128}
-use Rattle.std.specs.Prelude.{◌&&◌, int_le}
-use Rattle.std.proofs.lemmas.Bool.{cases_lt, and_parts, and_from}
-use Rattle.std.proofs.lemmas.Int.{to_z-of_z}
-use Rattle.record_dim.specs.LeafTypes.{IsDeclared, least_of, greatest_of}
-use Rattle.views.specs.StrictLaws.{between_true}
-use Rattle.views.proofs.StoredLaws.{passed}
+use Rattle.blob_file.proofs.Imports.{rules, ◌≡◌, ◌<◌, ◌≤◌, ◌∙◌, ⊎_elim, ℕ, ℤ, pos, get_or, length, SFits, to_z, of_z, w64, subst, arith, w128, ◌&&◌, int_le, cases_lt, and_parts, and_from, to_z-of_z, IsDeclared, least_of, greatest_of, between_true, passed}
 use Rattle.blob_file.proofs.Filled.{low_declares}
 use Rattle.blob_file.proofs.fill.are_declared.Goals as goal
 

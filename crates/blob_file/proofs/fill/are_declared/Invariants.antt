@@ -1,5 +1,4 @@
-use Rattle.std.proofs.Common.{◌≡◌, ◌<◌, ℕ, true, get_or, pos}
-use Rattle.record_dim.specs.LeafTypes.{IsDeclared}
+use Rattle.blob_file.proofs.Imports.{◌≡◌, ◌<◌, ℕ, true, get_or, pos, IsDeclared}
 use Rattle.blob_file.proofs.fill.are_declared.Given as goal
 
 abbrev pub invariant-loop-low : goal.invariant-loop-low

@@ -1,5 +1,4 @@
-use Rattle.std.proofs.Common.{◌≡◌, ◌+◌}
-use Rattle.views.specs.Runs.{run_steps}
+use Rattle.blob_file.proofs.Imports.{◌≡◌, ◌+◌, run_steps}
 use Rattle.blob_file.proofs.fill.count_rest.Given as goal
 
 abbrev pub invariant-loop-row : goal.invariant-loop-row

@@ -1,23 +1,4 @@
-use Rattle.std.proofs.Common.{rules, ◌≡◌, ◌+◌, ◌-◌, ◌<◌, ◌≤◌, ◌∙◌, ⊎_elim, ℕ, ℤ, List, pos, get_or, length, take, take_all, is_ok, true, Ok, Err, Result, FitsSigned, to_z, of_z, refl, sym, ap, subst, arith}
-use Rattle.std.specs.Int.{w128}
-use Rattle.std.proofs.lemmas.Bool.{cases_lt}
-use Rattle.std.proofs.lemmas.Int.{to_z-of_z}
-use Rattle.extents.specs.Indices.{indices}
-use Rattle.places.specs.Image.{entry}
-use Rattle.places.specs.declared.piece.Cell.{Cell}
-use Rattle.views.specs.AnswerLaws.{told_same}
-use Rattle.views.specs.Columns.{column_writes, with_column}
-use Rattle.views.specs.ColumnsLaws.{length-with_column}
-use Rattle.views.specs.RunsLaws.{run_length}
-use Rattle.views.specs.Stores.{kept_rows, told}
-use Rattle.views.specs.Tables.{Table, answer_of, kept_of, leaf_count_of, after_stores}
-use Rattle.views.specs.declared.fault.StoreFault.{StoreFault}
-use Rattle.views.proofs.RunStoreLaws.{value_more}
-use Rattle.views.proofs.StoredLaws.{nothing_stored}
-use Rattle.blob_file.specs.Filling.{kept_run}
-use Rattle.blob_file.specs.Opened.{raw_in}
-use Rattle.blob_file.specs.Saving.{header_of}
-use Rattle.blob_file.specs.declared.fault.FileFault.TheVariants.{Contents}
+use Rattle.blob_file.proofs.Imports.{rules, ◌≡◌, ◌+◌, ◌-◌, ◌<◌, ◌≤◌, ◌∙◌, ⊎_elim, ℕ, ℤ, List, pos, get_or, length, take, take_all, is_ok, true, Ok, Err, Result, FitsSigned, to_z, of_z, refl, sym, ap, subst, arith, w128, cases_lt, to_z-of_z, indices, entry, Cell, told_same, column_writes, with_column, length-with_column, run_length, kept_rows, told, Table, answer_of, kept_of, leaf_count_of, after_stores, StoreFault, value_more, nothing_stored, kept_run, raw_in, header_of, Contents}
 use Rattle.blob_file.proofs.Filled.{raw_is, cell_count, run_kept, kept_long}
 use Rattle.blob_file.proofs.fill.fill_far.Goals as goal
 use Rattle.blob_file.proofs.fill.fill_far.Goals.{In-loop-k, After-set}

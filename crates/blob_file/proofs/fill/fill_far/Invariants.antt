@@ -1,9 +1,5 @@
 -- the rows so far have their numbers
-use Rattle.std.proofs.Common.{◌≡◌, ◌+◌}
-use Rattle.views.proofs.StoredLaws.{HasStored}
-use Rattle.blob_file.specs.Filling.{kept_run, IsTakenLeaf}
-use Rattle.blob_file.specs.Opened.{raw_in}
-use Rattle.blob_file.specs.Saving.{header_of}
+use Rattle.blob_file.proofs.Imports.{◌≡◌, ◌+◌, HasStored, kept_run, IsTakenLeaf, raw_in, header_of}
 use Rattle.blob_file.proofs.fill.fill_far.Given as goal
 
 abbrev pub invariant-loop-k : goal.invariant-loop-k

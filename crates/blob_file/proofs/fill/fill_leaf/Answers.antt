@@ -1,15 +1,5 @@
-use Rattle.std.proofs.Common.{rules, ◌≡◌, ◌+◌, ◌<◌, ◌∙◌, ℕ, ℤ, List, true, length, map, get_or, pos, refl, sym, ap, subst, arith}
-use Rattle.std.proofs.lemmas.Option.{get_or_from_slice_get}
-use Rattle.record_dim.specs.declared.leaf_type.LeafType.{LeafType}
-use Rattle.record_dim.specs.declared.leaf_type.LeafType.TheVariants.{Bool as Truth}
-use Rattle.piece_bits.specs.Tables.{hold_at}
-use Rattle.views.specs.Columns.{column_writes, with_column}
-use Rattle.views.specs.Runs.{raised, run_steps}
+use Rattle.blob_file.proofs.Imports.{rules, ◌≡◌, ◌+◌, ◌<◌, ◌∙◌, ℕ, ℤ, List, true, length, map, get_or, pos, refl, sym, ap, subst, arith, get_or_from_slice_get, LeafType, Truth, hold_at, column_writes, with_column, raised, run_steps, Table, leaf_type_of, leaf_types_of, table_holds, after_stores, kept_run, AreFitting, IsTakenLeaf, raw_in, header_of}
 use Rattle.views.specs.Stores.{Fits}
-use Rattle.views.specs.Tables.{Table, leaf_type_of, leaf_types_of, table_holds, after_stores}
-use Rattle.blob_file.specs.Filling.{kept_run, AreFitting, IsTakenLeaf}
-use Rattle.blob_file.specs.Opened.{raw_in}
-use Rattle.blob_file.specs.Saving.{header_of}
 use Rattle.blob_file.proofs.Filled.{fitting_taken, fitting_kept}
 use Rattle.blob_file.proofs.fill.fill_leaf.Goals as goal
 

@@ -1,18 +1,5 @@
-use Rattle.std.proofs.Common.{rules, ◌≡◌, ◌+◌, ◌-◌, ◌*◌, ◌<◌, ◌≤◌, ◌∙◌, ⊎_elim, inl, inr, ℕ, ℤ, List, length, take, drop, Err, refl, sym, ap, subst, arith}
-use Rattle.std.specs.Prelude.{◌⊎◌}
-use Rattle.std.proofs.lemmas.Bool.{cases_lt}
-use Rattle.std.proofs.lemmas.List.{length-append, length-drop, length-take-le}
-use Rattle.extents.specs.Indices.{indices}
-use Rattle.views.specs.Runs.{AreRowsMoved, CountsNothing}
-use Rattle.views.specs.RunsLaws.{run_more}
-use Rattle.views.specs.Stores.{kept_rows}
-use Rattle.piece_bits.specs.Tables.{HasShape}
-use Rattle.views.specs.Tables.{Table, kept_of, leaf_count_of, leaf_types_of, table_holds, after_stores}
-use Rattle.views.specs.Tallies.{Write, all_accesses}
-use Rattle.views.specs.TallyLaws.{after_log-none}
-use Rattle.blob_file.specs.Filling.{run_writes, AreTaken}
-use Rattle.blob_file.specs.Opened.{raw_in}
-use Rattle.blob_file.specs.Saving.{header_of}
+use Rattle.blob_file.proofs.Imports.{rules, ◌≡◌, ◌+◌, ◌-◌, ◌*◌, ◌<◌, ◌≤◌, ◌∙◌, ⊎_elim, inl, inr, ℕ, ℤ, List, length, take, drop, Err, refl, sym, ap, subst, arith, ◌⊎◌, cases_lt, length-drop, length-take-le, indices, AreRowsMoved, CountsNothing, run_more, kept_rows, HasShape, Table, kept_of, leaf_count_of, leaf_types_of, table_holds, after_stores, Write, all_accesses, after_log-none, run_writes, AreTaken, raw_in, header_of}
+use Rattle.std.proofs.lemmas.List.{length-append}
 use Rattle.blob_file.proofs.Filled.{all_kept, run_logged, run_steps_more}
 use Rattle.blob_file.proofs.fill.fill_rows.Goals as goal
 

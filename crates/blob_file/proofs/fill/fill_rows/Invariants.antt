@@ -1,12 +1,5 @@
 -- the rows so far have their numbers
-use Rattle.std.proofs.Common.{◌≡◌, ◌+◌, ◌-◌, ◌*◌, ◌≤◌, length}
-use Rattle.views.specs.RunsLaws.{AreBefore}
-use Rattle.views.specs.Stores.{kept_rows}
-use Rattle.views.specs.Tables.{kept_of, leaf_count_of, after_stores}
-use Rattle.views.specs.Tallies.{Write, all_accesses}
-use Rattle.blob_file.specs.Filling.{AreTaken}
-use Rattle.blob_file.specs.Opened.{raw_in}
-use Rattle.blob_file.specs.Saving.{header_of}
+use Rattle.blob_file.proofs.Imports.{◌≡◌, ◌+◌, ◌-◌, ◌*◌, ◌≤◌, length, AreBefore, kept_rows, kept_of, leaf_count_of, after_stores, Write, all_accesses, AreTaken, raw_in, header_of}
 use Rattle.blob_file.proofs.fill.fill_rows.Given as goal
 
 abbrev pub invariant-loop-first : goal.invariant-loop-first

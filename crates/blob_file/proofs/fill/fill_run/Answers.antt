@@ -1,15 +1,4 @@
-use Rattle.std.proofs.Common.{rules, ◌≡◌, ◌+◌, ◌*◌, ◌<◌, ◌≤◌, ◌∙◌, ⊎_elim, ℕ, ℤ, List, [], get_or, length, Err, refl, sym, ap, subst, arith}
-use Rattle.std.proofs.lemmas.Bool.{cases_lt}
-use Rattle.extents.specs.Indices.{indices}
-use Rattle.views.specs.Columns.{column_writes, with_column}
-use Rattle.views.specs.Runs.{AreRowsMoved}
-use Rattle.views.specs.RunsLaws.{no_leaf_moved, leaf_moved}
-use Rattle.views.specs.Stores.{kept_rows}
-use Rattle.views.specs.Tables.{Table, kept_of, leaf_count_of, after_stores}
-use Rattle.views.specs.TallyLaws.{after_log-none}
-use Rattle.blob_file.specs.Filling.{kept_run, run_writes, IsTakenLeaf}
-use Rattle.blob_file.specs.Opened.{raw_in}
-use Rattle.blob_file.specs.Saving.{header_of}
+use Rattle.blob_file.proofs.Imports.{rules, ◌≡◌, ◌+◌, ◌*◌, ◌<◌, ◌≤◌, ◌∙◌, ⊎_elim, ℕ, ℤ, List, [], get_or, length, Err, refl, sym, ap, subst, arith, cases_lt, indices, column_writes, with_column, AreRowsMoved, no_leaf_moved, leaf_moved, kept_rows, Table, kept_of, leaf_count_of, after_stores, after_log-none, kept_run, run_writes, IsTakenLeaf, raw_in, header_of}
 use Rattle.blob_file.proofs.Filled.{kept_long, leaf_logged, leaf_steps}
 use Rattle.blob_file.proofs.fill.fill_run.Goals as goal
 

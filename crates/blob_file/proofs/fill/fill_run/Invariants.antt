@@ -1,11 +1,5 @@
 -- the leaves so far have their numbers
-use Rattle.std.proofs.Common.{◌≡◌, ◌+◌, ◌*◌, length}
-use Rattle.views.specs.Runs.{AreRowsMoved}
-use Rattle.views.specs.Stores.{kept_rows}
-use Rattle.views.specs.Tables.{kept_of, after_stores}
-use Rattle.blob_file.specs.Filling.{run_writes, AreTaken}
-use Rattle.blob_file.specs.Opened.{raw_in}
-use Rattle.blob_file.specs.Saving.{header_of}
+use Rattle.blob_file.proofs.Imports.{◌≡◌, ◌+◌, ◌*◌, length, AreRowsMoved, kept_rows, kept_of, after_stores, run_writes, AreTaken, raw_in, header_of}
 use Rattle.blob_file.proofs.fill.fill_run.Given as goal
 
 abbrev pub invariant-loop-leaf : goal.invariant-loop-leaf

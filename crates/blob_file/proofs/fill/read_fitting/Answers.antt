@@ -1,25 +1,5 @@
-use Rattle.std.proofs.Common.{rules, ◌≡◌, ◌+◌, ◌<◌, ◌≤◌, ◌∙◌, ℕ, ℤ, List, true, false, pos, get_or, length, map, refl, sym, ap, subst, arith}
-use Rattle.std.proofs.lemmas.List.{length-map}
-use Rattle.std.proofs.lemmas.Option.{get_or_from_slice_get}
-use Rattle.record_dim.specs.LeafTypes.{is_signed, IsDeclared, IsIn}
-use Rattle.record_dim.specs.Leaves.{Leaf, leaves}
-use Rattle.record_dim.specs.declared.leaf_type.LeafType.{LeafType}
-use Rattle.record_dim.specs.declared.leaf_type.LeafType.TheVariants.{Bool as Truth}
-use Rattle.extents.specs.Indices.{indices}
-use Rattle.places.specs.Image.{entry}
-use Rattle.places.specs.Laws.{IsLaidOut}
-use Rattle.places.specs.declared.piece.Cell.{Cell}
-use Rattle.places.specs.declared.piece.Hold.{Hold}
-use Rattle.map_checks.specs.LeafCells.{kinds_are}
-use Rattle.piece_bits.specs.CellsLaws.{hold_widths}
-use Rattle.piece_bits.specs.Tables.{hold_at}
-use Rattle.piece_bits.specs.Lows.{low_64}
-use Rattle.views.specs.Runs.{raised}
-use Rattle.views.specs.RunsLaws.{raised_low}
+use Rattle.blob_file.proofs.Imports.{rules, ◌≡◌, ◌+◌, ◌<◌, ◌≤◌, ◌∙◌, ℕ, ℤ, List, true, false, pos, get_or, length, map, refl, sym, ap, subst, arith, length-map, get_or_from_slice_get, is_signed, IsDeclared, IsIn, Leaf, leaves, LeafType, Truth, indices, entry, IsLaidOut, Cell, Hold, kinds_are, hold_widths, hold_at, low_64, raised, raised_low, leaf_count_of, leaf_type_of, leaf_types_of, owners_of, table_holds, raw_in, header_of}
 use Rattle.views.specs.Stores.{kind_at}
-use Rattle.views.specs.Tables.{leaf_count_of, leaf_type_of, leaf_types_of, owners_of, table_holds}
-use Rattle.blob_file.specs.Opened.{raw_in}
-use Rattle.blob_file.specs.Saving.{header_of}
 use Rattle.blob_file.proofs.Contents.{raw_range}
 use Rattle.blob_file.proofs.Filled.{raw_is, cell_count}
 use Rattle.blob_file.proofs.fill.read_fitting.Goals as goal

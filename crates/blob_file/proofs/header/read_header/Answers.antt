@@ -1,8 +1,4 @@
-use Rattle.std.proofs.Common.{rules, ◌≡◌, ◌∙◌, true, false, take, drop, length, Some, Err, inr, refl, sym}
-use Rattle.record_dim.specs.Trees.{tree_of}
-use Rattle.blob_file.specs.Files.{four_bytes, two_lines}
-use Rattle.blob_file.specs.Opened.{line_at, same_bytes}
-use Rattle.blob_file.specs.Parts.{fields_in, new_in}
+use Rattle.blob_file.proofs.Imports.{rules, ◌≡◌, ◌∙◌, true, false, take, drop, length, Some, Err, inr, refl, sym, tree_of, four_bytes, two_lines, line_at, same_bytes, fields_in, new_in}
 use Rattle.blob_file.specs.declared.fault.FileFault.TheVariants as fault
 use Rattle.blob_file.proofs.HeadReads.{short_none, no_first, no_second, no_record, no_view, other_size, header_found}
 use Rattle.blob_file.proofs.Refused.{refused_on}

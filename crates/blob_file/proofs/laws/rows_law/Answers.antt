@@ -1,5 +1,4 @@
-use Rattle.std.proofs.Common.{refl}
-use Rattle.blob_file.specs.Files.{image_bytes}
+use Rattle.blob_file.proofs.Imports.{refl, image_bytes}
 use Rattle.blob_file.proofs.Contents.{same_rows}
 use Rattle.blob_file.proofs.Lawful.{lawful, paired}
 use Rattle.blob_file.proofs.laws.rows_law.Goals as goal

@@ -1,4 +1,4 @@
-use Rattle.std.proofs.Common.{◌≡◌, ◌<◌, ℕ, get_or}
+use Rattle.blob_file.proofs.Imports.{◌≡◌, ◌<◌, ℕ, get_or}
 use Rattle.blob_file.proofs.lines.line_end.Given as goal
 
 abbrev pub invariant-loop-at : goal.invariant-loop-at

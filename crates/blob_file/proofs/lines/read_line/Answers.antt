@@ -1,4 +1,4 @@
-use Rattle.std.proofs.Common.{inr, refl}
+use Rattle.blob_file.proofs.Imports.{inr, refl}
 use Rattle.blob_file.proofs.Told.{told_long, refused_line, spelled_told, spelled_whole, spelled_short, spelled_other}
 use Rattle.blob_file.proofs.lines.read_line.Goals as goal
 

@@ -1,15 +1,4 @@
-use Rattle.std.proofs.Common.{rules, ◌≡◌, ◌*◌, ◌∙◌, ℕ, List, None, Some, Err, inr, length, map, sym, ap, arith}
-use Rattle.std.specs.Prelude.{sum_by}
-use Rattle.extents.specs.declared.words.ExtentWord.{ExtentWord}
-use Rattle.extents.specs.Shapes.{bad_shape, bad_extents, extent_of}
-use Rattle.places.specs.Layout.{Owner}
-use Rattle.record_dim.specs.Leaves.{first_fault}
-use Rattle.record_dim.specs.Schemas.{schema_fields}
-use Rattle.record_dim.specs.Trees.{tree_of, Record}
-use Rattle.blob_file.specs.Files.{owners_by}
-use Rattle.blob_file.specs.Headers.{CanLie}
-use Rattle.blob_file.specs.Opened.{with_header}
-use Rattle.blob_file.specs.Parts.{header_in}
+use Rattle.blob_file.proofs.Imports.{rules, ◌≡◌, ◌*◌, ◌∙◌, ℕ, List, None, Some, Err, inr, length, map, sym, ap, arith, sum_by, ExtentWord, bad_shape, bad_extents, extent_of, Owner, first_fault, schema_fields, tree_of, Record, owners_by, CanLie, with_header, header_in}
 use Rattle.blob_file.specs.declared.fault.FileFault.TheVariants as fault
 use Rattle.blob_file.proofs.Lies.{fit_by, shaped_by, ranged_by, can_by, none_by, same_owners}
 use Rattle.blob_file.proofs.Refused.{no_layout, no_length, refused, starved, on_ok}

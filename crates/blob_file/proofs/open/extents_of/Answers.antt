@@ -1,6 +1,4 @@
-use Rattle.std.proofs.Common.{◌∙◌, List, None, refl, sym, ap, subst}
-use Rattle.extents.specs.declared.words.ExtentWord.{ExtentWord}
-use Rattle.extents.specs.Shapes.{HasRows, bad_extents}
+use Rattle.blob_file.proofs.Imports.{◌∙◌, List, None, refl, sym, ap, subst, ExtentWord, HasRows, bad_extents}
 use Rattle.blob_file.proofs.Made.{no_open, refused_extents}
 use Rattle.blob_file.proofs.open.extents_of.Goals as goal
 

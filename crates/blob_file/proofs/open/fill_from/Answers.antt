@@ -1,9 +1,4 @@
-use Rattle.std.proofs.Common.{rules, ◌≡◌, ◌∙◌, Err, inr, length, map, sym, ap}
-use Rattle.extents.specs.Indices.{indices}
-use Rattle.places.specs.Laws.{IsLaidOut}
-use Rattle.places.specs.declared.piece.Hold.{Hold}
-use Rattle.views.specs.Tables.{owners_of, table_holds}
-use Rattle.blob_file.specs.declared.fault.FileFault.{FileFault}
+use Rattle.blob_file.proofs.Imports.{rules, ◌≡◌, ◌∙◌, Err, inr, length, map, sym, ap, indices, IsLaidOut, Hold, owners_of, table_holds, FileFault}
 use Rattle.blob_file.proofs.Fills.{refused_number, opened_view, other_view, steps_taken}
 use Rattle.blob_file.proofs.open.fill_from.Goals as goal
 

@@ -1,9 +1,4 @@
-use Rattle.std.proofs.Common.{rules, ◌≡◌, ◌∙◌, sym, ap, subst, Result}
-use Rattle.views.specs.Tables.{owners_of}
-use Rattle.views.specs.Tallies.{blob_lengths}
-use Rattle.blob_file.specs.Opened.{cut, with_body, with_blobs, IsReadInto, Saved}
-use Rattle.blob_file.specs.Saving.{header_of}
-use Rattle.blob_file.specs.declared.fault.FileFault.{FileFault}
+use Rattle.blob_file.proofs.Imports.{rules, ◌≡◌, ◌∙◌, sym, ap, subst, Result, owners_of, blob_lengths, cut, with_body, with_blobs, IsReadInto, Saved, header_of, FileFault}
 use Rattle.blob_file.proofs.Fills.{body_is}
 use Rattle.blob_file.proofs.open.fill_view.Goals as goal
 

@@ -1,11 +1,4 @@
-use Rattle.std.proofs.Common.{rules, ◌≡◌, ◌∙◌, drop, length, Some, Ok, Err, Result, inr, sym, ap, subst}
-use Rattle.std.specs.Prelude.{sum_by}
-use Rattle.places.specs.Layout.{Owner}
-use Rattle.views.specs.Tables.{Table, owners_of}
-use Rattle.blob_file.specs.Opened.{Saved, header_at, with_body, opened, empty_table, IsRead}
-use Rattle.blob_file.specs.Parts.{header_in}
-use Rattle.blob_file.specs.Saving.{header_of}
-use Rattle.blob_file.specs.declared.fault.FileFault.{FileFault}
+use Rattle.blob_file.proofs.Imports.{rules, ◌≡◌, ◌∙◌, drop, length, Some, Ok, Err, Result, inr, sym, ap, subst, sum_by, Owner, Table, owners_of, Saved, header_at, with_body, opened, empty_table, IsRead, header_in, header_of, FileFault}
 use Rattle.blob_file.specs.declared.fault.FileFault.TheVariants as fault
 use Rattle.blob_file.proofs.Opens.{read_is_file}
 use Rattle.blob_file.proofs.Refused.{no_magic, no_header, header_told, body_told, refused}

@@ -1,5 +1,4 @@
-use Rattle.map_expr.specs.Terms.{term_of}
-use Rattle.record_dim.specs.Schemas.{schema_fields}
+use Rattle.blob_file.proofs.Imports.{term_of, schema_fields}
 use Rattle.blob_file.proofs.Made.{table_new}
 use Rattle.blob_file.proofs.open.zeros.Goals as goal
 

@@ -1,4 +1,4 @@
-use Rattle.std.proofs.Common.{◌≡◌, ◌+◌, ◌<◌, ℕ, length, get_or}
+use Rattle.blob_file.proofs.Imports.{◌≡◌, ◌+◌, ◌<◌, ℕ, length, get_or}
 use Rattle.blob_file.proofs.save.copy_out.Given as goal
 
 abbrev pub invariant-loop-at : goal.invariant-loop-at

@@ -1,9 +1,4 @@
-use Rattle.std.proofs.Common.{rules, ◌≡◌, ◌*◌, ◌∙◌, ℕ, List, length, sym, ap, arith}
-use Rattle.std.specs.Prelude.{sum_by}
-use Rattle.places.specs.Layout.{Owner}
-use Rattle.views.specs.Tables.{owners_of}
-use Rattle.blob_file.specs.Files.{record_text, two_lines, view_text}
-use Rattle.blob_file.specs.Saving.{header_of}
+use Rattle.blob_file.proofs.Imports.{rules, ◌≡◌, ◌*◌, ◌∙◌, ℕ, List, length, sym, ap, arith, sum_by, Owner, owners_of, record_text, two_lines, view_text, header_of}
 use Rattle.blob_file.proofs.SavedFile.{file_length}
 use Rattle.blob_file.proofs.save.file_len.Goals as goal
 

@@ -1,4 +1,4 @@
-use Rattle.std.proofs.Common.{rules, arith, IsErr}
+use Rattle.blob_file.proofs.Imports.{rules, arith, IsErr}
 use Rattle.blob_file.proofs.Puts.{large_put, large_stopped}
 use Rattle.blob_file.proofs.save.put_blob.Goals as goal
 

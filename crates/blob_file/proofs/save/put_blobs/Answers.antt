@@ -1,8 +1,4 @@
-use Rattle.std.proofs.Common.{rules, arith, ◌<◌, ◌≤◌, ℕ, List, [], IsErr, length, ap}
-use Rattle.layout_io.specs.GatheringLaws.{Puts-loop_err, Puts-loop_ok}
-use Rattle.places.specs.Layout.{Owner}
-use Rattle.views.specs.Tables.{owners_of}
-use Rattle.blob_file.specs.Saving.{blobs_of}
+use Rattle.blob_file.proofs.Imports.{rules, arith, ◌<◌, ◌≤◌, ℕ, List, [], IsErr, length, ap, Puts-loop_err, Puts-loop_ok, Owner, owners_of, blobs_of}
 use Rattle.blob_file.proofs.ImageBits.{blob_saved, blob_count}
 use Rattle.blob_file.proofs.Puts.{part_more, has_put}
 use Rattle.blob_file.proofs.save.put_blobs.Goals as goal

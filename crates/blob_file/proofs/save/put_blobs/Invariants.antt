@@ -1,7 +1,4 @@
-use Rattle.std.proofs.Common.{take}
-use Rattle.layout_io.specs.Gathering.{HasPut}
-use Rattle.layout_io.specs.Writing.{joined}
-use Rattle.blob_file.specs.Saving.{blobs_of}
+use Rattle.blob_file.proofs.Imports.{take, HasPut, joined, blobs_of}
 use Rattle.blob_file.proofs.save.put_blobs.Given as goal
 
 abbrev pub invariant-loop-b : goal.invariant-loop-b

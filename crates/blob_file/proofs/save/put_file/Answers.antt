@@ -1,8 +1,5 @@
-use Rattle.std.proofs.Common.{rules, ◌≡◌, IsErr, Err, refl}
-use Rattle.layout_io.specs.GatheringLaws.{Writes-puts_err, Writes-puts, Puts-stop, Puts-append}
-use Rattle.layout_io.specs.Writing.{joined}
+use Rattle.blob_file.proofs.Imports.{rules, ◌≡◌, IsErr, Err, refl, Writes-puts_err, Writes-puts, Puts-stop, Puts-append, joined, blobs_of}
 use Rattle.layout_io.specs.declared.ends.Failed.{Failed}
-use Rattle.blob_file.specs.Saving.{blobs_of}
 use Rattle.blob_file.proofs.save.put_file.Goals as goal
 
 pub returns-in_err-put_header : goal.returns-in_err-put_header

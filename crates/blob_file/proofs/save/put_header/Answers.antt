@@ -1,6 +1,4 @@
-use Rattle.std.proofs.Common.{rules, ◌++◌, ◌∷◌, [], IsErr, length}
-use Rattle.layout_io.specs.GatheringLaws.{Puts-stop, Puts-stopped, Puts-append}
-use Rattle.blob_file.specs.Files.{four_bytes, two_lines}
+use Rattle.blob_file.proofs.Imports.{rules, ◌++◌, ◌∷◌, [], IsErr, length, Puts-stop, Puts-stopped, Puts-append, four_bytes, two_lines}
 use Rattle.blob_file.proofs.save.put_header.Goals as goal
 
 pub returns-in_err-put : goal.returns-in_err-put

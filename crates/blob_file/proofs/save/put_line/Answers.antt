@@ -1,5 +1,4 @@
-use Rattle.std.proofs.Common.{rules, ◌∷◌, [], IsErr}
-use Rattle.layout_io.specs.GatheringLaws.{Puts-stop, Puts-append}
+use Rattle.blob_file.proofs.Imports.{rules, ◌∷◌, [], IsErr, Puts-stop, Puts-append}
 use Rattle.blob_file.proofs.save.put_line.Goals as goal
 
 pub returns-in_err-put : goal.returns-in_err-put

@@ -1,5 +1,5 @@
-use Rattle.std.proofs.Common.{rules, arith, ◌≡◌, ◌∙◌, ◌++◌, ℕ, IsErr, length, take, drop, ap}
-use Rattle.std.proofs.lemmas.List.{length-take-le, length-append, length-drop}
+use Rattle.blob_file.proofs.Imports.{rules, arith, ◌≡◌, ◌∙◌, ◌++◌, ℕ, IsErr, length, take, drop, ap, length-take-le, length-drop}
+use Rattle.std.proofs.lemmas.List.{length-append}
 use Rattle.blob_file.proofs.Puts.{block_written, block_stopped}
 use Rattle.blob_file.proofs.save.write_blob.Goals as goal
 

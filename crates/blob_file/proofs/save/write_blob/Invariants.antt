@@ -1,5 +1,4 @@
-use Rattle.std.proofs.Common.{◌≡◌, ◌-◌, ◌≤◌, length, take}
-use Rattle.layout_io.specs.Writing.{Wrote}
+use Rattle.blob_file.proofs.Imports.{◌≡◌, ◌-◌, ◌≤◌, length, take, Wrote}
 use Rattle.blob_file.proofs.save.write_blob.Given as goal
 
 abbrev pub invariant-loop-done : goal.invariant-loop-done

@@ -1,8 +1,4 @@
-use Rattle.std.proofs.Common.{rules, ◌≡◌, ◌≤◌, ℕ, List, Err, length, subst}
-use Rattle.layout_io.specs.Writing.{Wrote, Stopped}
-use Rattle.blob_file.specs.Files.{record_text, view_text}
-use Rattle.blob_file.specs.Saving.{header_of}
-use Rattle.blob_file.specs.declared.fault.SaveEnd.TheVariants.{Failed}
+use Rattle.blob_file.proofs.Imports.{rules, ◌≡◌, ◌≤◌, ℕ, List, Err, length, subst, Wrote, Stopped, record_text, view_text, header_of, Failed}
 use Rattle.blob_file.proofs.SavedFile.{file_text}
 use Rattle.blob_file.proofs.save.write_file.Goals as goal
 

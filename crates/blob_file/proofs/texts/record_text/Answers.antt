@@ -1,10 +1,4 @@
-use Rattle.std.proofs.Common.{◌≡◌, ◌∙◌, ℕ, List, ap}
-use Rattle.std.specs.Prelude.{codes}
-use Rattle.line_grammar.specs.Sentences.{Define}
-use Rattle.line_writer.specs.Texts.{canonical}
-use Rattle.record_dim.specs.Trees.{Record, tree_of}
-use Rattle.blob_file.specs.Files.{record_line}
-use Rattle.blob_file.specs.Saving.{header_of}
+use Rattle.blob_file.proofs.Imports.{◌≡◌, ◌∙◌, ℕ, List, ap, codes, Define, canonical, Record, tree_of, record_line, header_of}
 use Rattle.blob_file.proofs.texts.record_text.Goals as goal
 
 pub returns : goal.returns

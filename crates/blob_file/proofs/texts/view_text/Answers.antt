@@ -1,10 +1,4 @@
-use Rattle.std.proofs.Common.{◌≡◌, ◌∙◌, ap, map}
-use Rattle.extents.specs.declared.words.ExtentWord.TheVariants.{Fixed}
-use Rattle.line_grammar.specs.Sentences.{New, View}
-use Rattle.line_writer.specs.Texts.{canonical}
-use Rattle.map_expr.specs.Terms.{term_of}
-use Rattle.blob_file.specs.Files.{is_wrap, view_line}
-use Rattle.blob_file.specs.Saving.{header_of}
+use Rattle.blob_file.proofs.Imports.{◌≡◌, ◌∙◌, ap, map, Fixed, New, View, canonical, term_of, is_wrap, view_line, header_of}
 use Rattle.blob_file.proofs.texts.view_text.Goals as goal
 
 pub returns : goal.returns

@@ -1,5 +1,4 @@
-use Rattle.std.proofs.Common.{◌≡◌, take, map}
-use Rattle.extents.specs.declared.words.ExtentWord.TheVariants.{Fixed}
+use Rattle.blob_file.proofs.Imports.{◌≡◌, take, map, Fixed}
 use Rattle.blob_file.proofs.texts.words_of.Given as goal
 
 abbrev pub invariant-loop-d : goal.invariant-loop-d

@@ -1,55 +1,15 @@
 -- `release` makes room of the places and hands the block back with the lease.
+use Rattle.blobs.proofs.Imports.{[], ◌∷◌, ◌++◌, T, Fn, w64, ty_unit, ty_array, Val, vunit, vint, vptr, has_ty, WT, id⊢, SProp, ent, ftrue, froom, flft, Incl-trans, align, capped, Memory, capped_fits, Ura, inst_fn, Routine, Env, WpFn, Tables, Logic, ◌⊑◌, Fun, fact, tables, tables_of, owns, plain, types_at, heard, nothing, Clauses, Ended, closing, Meets, triple_of, entered, fm_of, WpFn-mono, ‵, raw, ◌⊛◌, later, given, at_ret, ◌$◌, ◌∵◌, !, qed, move, keep, use1, use2, use3, learn, split, join, rewrite, fsplit, fsplit3, fjoin, fjoin3, feq_i, feq_l, flt_l, suffices, await, done, whole, sub, stop, fld, size_word, align_word, unit_lit, no_more, and_then, of_opd, bin, first, blocks, exec, returns, enter, alloc_all, pass_all, free_all, look_at, get, get_in, is, sets, lands_last, env, yes, no, RefOf, Ptr, block_ptr, in_block, calls_at_last, Triple, Stays, stay_dropped, walk_of, ends_at, Goes-dropped, walk_Meets, El, R, elτ, Al, token, gives_key, Gives, at_gives, Gives-goes, Gives-Gives, after, sz, to_room, row_val, uncapped, lease_val, block_ty, block_size, block_align, args, P, slots, owned, IsLeaseOf, #self}
 use mathlib.Core.Path.{◌≡◌, refl, sym, subst, ap, ◌∙◌}
 use Prim.Native.Nat.{ℕ, ◌*◌, ◌<◌, ◌^◌}
 use native.Mathlib.Omega.{arith}
-use mathlib.Core.List.{List, [], ◌∷◌, ◌++◌}
-use lib.Dec.{T}
+use mathlib.Core.List.{List}
 use lib.ListN.{length}
-use mir.Syntax.{Fn, w64, ty_unit, ty_array}
-use mir.Val.{Val, vunit, vint, vptr, has_ty, WT}
-use base.Logic.{id⊢, SProp, ent}
-use base.Fml.{ftrue, froom, flft, Incl-trans}
-use prog.Memory.{align, capped, Memory}
-use prog.Capped.{capped_fits}
-use seplogic.Ra.Ura.{Ura}
-use mir.MapTy.{inst_fn}
-use prog.Routine.{Routine}
-use prog.Wp.{Env, WpFn, Tables}
-use types.Logic.{Logic}
-use contract.BorrowLft.{◌⊑◌}
-use contract.Monad.{Fun, fact}
-use contract.Running.{tables, tables_of}
-use denote.RattleType.{owns}
-use denote.Signature.{plain, types_at}
-use denote.Steps.{heard, nothing}
-use denote.Triple.Clauses.{Clauses, Ended, closing}
-use denote.Triple.Spec.{Meets, triple_of}
-use denote.Triple.Table.{entered}
-use sound.WpLaws.{fm_of, WpFn-mono}
-use types.Kit.{‵, raw, ◌⊛◌, later, given, at_ret, ◌$◌, ◌∵◌, !, qed, move, keep, use1, use2, use3, learn, split, join, rewrite, fsplit, fsplit3, fjoin, fjoin3, feq_i, feq_l, flt_l, suffices, await, done}
-use types.Part.{whole, sub}
-use types.Run.{stop, fld, size_word, align_word, unit_lit, no_more, and_then, of_opd, bin, first, blocks, exec, returns, enter}
-use types.ByLocal.{alloc_all, pass_all, free_all, look_at, get, get_in, is, sets, lands_last, env}
-use denote.Exit.{yes, no}
-use denote.Builtin.{RefOf}
-use denote.RawPtr.{Ptr, block_ptr, in_block}
-use denote.Triple.Call.{calls_at_last}
-use denote.Triple.Statement.{Triple}
-use denote.Triple.Walked.{Stays, stay_dropped, walk_of, ends_at, Goes-dropped, walk_Meets}
-use Rattle.core.proofs.mem.Param.{El, R, elτ}
 use Rattle.core.proofs.mem.Param as of_el
-use Rattle.core.proofs.alloc.Calls.{Al, token, gives_key, Gives, at_gives, Gives-goes, Gives-Gives}
-use Rattle.core.proofs.slots.Bodies.{after}
-use Rattle.core.proofs.slots.Places.{sz, to_room}
-use Rattle.core.proofs.slots.Opens.{row_val}
-use Rattle.core.proofs.slots.Leases.{uncapped, lease_val, block_ty, block_size, block_align, args, P}
 use Rattle.core.proofs.slots.Slots.into_raw_parts.Met as into_raw_parts
 use Rattle.core.specs.contracts.slots.Slots.into_raw_parts.Key as into_key
-use Rattle.core.specs.Mem.Slots.Ownership.{slots, owned}
 use Rattle.blobs.proofs.Rows.{Row, row_seen, words_Typed, Into, at_into, into_goes, into_gives, Lr, lease_had}
-use Rattle.blobs.specs.Held.{IsLeaseOf}
 use Rattle.blobs.specs.contracts.memory.release as F
-use Rattle.blobs.specs.contracts.memory.release.Key.{name as #self}
 use Rattle.blobs.proofs.memory.release.Statement as stated
 use Rattle.blobs.proofs.memory.release.Code as code
 

@@ -1,70 +1,19 @@
 -- `reserve` asks the allocator for an array, and makes empty places of its room and a lease of the right to free it.
+use Rattle.blobs.proofs.Imports.{true, false, [], ◌∷◌, lit<, replicate, length-replicate, Bool, Fn, Body, w64, named, ty_array, Val, vint, vptr, vstruct, vcons, vnil, of_list, WT, sep, emp, SProp, ent, ftrue, froom, flft, Incl-trans, align, capped, Memory, capped_fits, Wp, after_seq, at_return, Env, WpFn, Tables, Logic, sem, Ura, inst_fn, Routine, ◌⊑◌, Fun, fact, tables, tables_of, RattleType, Valss, owns, plain, types_at, heard, nothing, Clauses, Ended, closing, Meets, triple_of, entered, fm_of, WpFn-mono, After, any_q, ‵, raw, ◌⊛◌, some, given, later, at_ret, ◌$◌, ◌∵◌, !, qed, by, move, keep, use0, use1, use2, split, join, pick, learn, rewrite, fsplit, fjoin, fjoin3, fpack, feq_i, suffices, await, done, whole, agg, live, vrt, in_variant, stop, fld, lit, size_word, align_word, no_more, and_then, of_opd, bin, first, blocks, switches_on, exec, returns, enter, alloc_all, pass_all, free_all, look_at, get, get_in, get_tag, is, sets, sets_last, lands_as, lands_last, env, yes, Is, RefOf, usize, uint_vals, uint_Tells, block_ptr, shr_vals, shr_Tells, Struct, Struct-Makes, within, Tuple, tuple_type, tagged_with, form_of, in_a_row, calls_at, calls_at_last, alive, Triple, says, Stays, stay_dropped, walk_of, ends_at, walked, Goes-dropped, walk_Meets, IfOk, Ok, Err, slots, El, R, el_x, elτ, Al, Answer-typed, takes_key, Takes, at_takes, Answered, Takes-goes, Takes-gives, answers, after, head, arm_body, sz, of_room, row_val, uncapped, lease_val, block_ty, block_size, block_align, args, P, IsLeaseOf}
 use mathlib.Core.Path.{◌≡◌, refl, sym, subst, ap, ◌∙◌}
-use mathlib.Core.Bool.{true, false}
 use Prim.Native.Nat.{ℕ, ◌*◌, ◌<◌, ◌^◌}
 use native.Mathlib.Omega.{arith}
-use mathlib.Core.List.{List, [], ◌∷◌}
-use lib.Dec.{lit<}
-use lib.ListN.{length, replicate, length-replicate}
-use mathlib.Core.Bool.{Bool}
-use mir.Syntax.{Fn, Body, w64, named, ty_array}
-use mir.Val.{Val, vint, vptr, vstruct, vcons, vnil, of_list, WT}
-use base.Logic.{sep, emp, SProp, ent}
-use base.Fml.{ftrue, froom, flft, Incl-trans}
-use prog.Memory.{align, capped, Memory}
-use prog.Capped.{capped_fits}
-use prog.Wp.{Wp, after_seq, at_return, Env, WpFn, Tables}
-use types.Logic.{Logic, sem}
-use seplogic.Ra.Ura.{Ura}
-use mir.MapTy.{inst_fn}
-use prog.Routine.{Routine}
-use contract.BorrowLft.{◌⊑◌}
-use contract.Monad.{Fun, fact}
-use contract.Running.{tables, tables_of}
-use denote.RattleType.{RattleType, Valss, owns}
-use denote.Signature.{plain, types_at}
-use denote.Steps.{heard, nothing, owned}
-use denote.Triple.Clauses.{Clauses, Ended, closing}
-use denote.Triple.Spec.{Meets, triple_of}
-use denote.Triple.Table.{entered}
-use sound.WpLaws.{fm_of, WpFn-mono}
-use types.Kit.{Post as After, any_q, ‵, raw, ◌⊛◌, some, given, later, at_ret, ◌$◌, ◌∵◌, !, qed, by, move, keep, use0, use1, use2, split, join, pick, learn, rewrite, fsplit, fjoin, fjoin3, fpack, feq_i, suffices, await, done}
-use types.Part.{whole, agg}
-use types.Match.{live, vrt, in_variant}
-use types.Run.{stop, fld, lit, size_word, align_word, no_more, and_then, of_opd, bin, first, blocks, switches_on, exec, returns, enter}
-use types.ByLocal.{alloc_all, pass_all, free_all, look_at, get, get_in, get_tag, is, sets, sets_last, lands_as, lands_last, env}
-use denote.Exit.{yes}
-use denote.Laws.{Is}
-use denote.Builtin.{RefOf, usize}
-use denote.Plain.{uint_vals, uint_Tells}
-use denote.RawPtr.{block_ptr}
-use denote.Ref.{shr_vals, shr_Tells}
-use denote.Struct.Struct.{Struct, Struct-Makes, within}
+use mathlib.Core.List.{List}
+use lib.ListN.{length}
+use denote.Steps.{owned}
 use denote.Struct.Declared as Declared
-use denote.Struct.Tuple.{Tuple, tuple_type}
-use denote.Enum.Row.{tagged_with}
-use denote.Enum.Enum.{form_of, in_a_row}
 use denote.Enum.Declared.{shape}
-use denote.Triple.Call.{calls_at, calls_at_last}
-use denote.Triple.Entry.{alive}
-use denote.Triple.Statement.{Triple}
-use denote.Triple.Walked.{says, Stays, stay_dropped, walk_of, ends_at, walked, Goes-dropped, walk_Meets}
-use Rattle.core.specs.Result.{IfOk}
-use Rattle.core.specs.declared.result.Result.TheVariants.{Ok, Err}
-use Rattle.core.specs.Mem.Slots.Ownership.{slots}
 use Rattle.core.specs.contracts.result.Result as RS
 use Rattle.core.specs.contracts.alloc.AllocError as AE
-use Rattle.core.proofs.mem.Param.{El, R, el_x, elτ}
 use Rattle.core.proofs.mem.Param as of_el
-use Rattle.core.proofs.alloc.Calls.{Al, Answer-typed, takes_key, Takes, at_takes, Answered, Takes-goes, Takes-gives, answers}
-use Rattle.core.proofs.slots.Bodies.{after, head, arm_body}
-use Rattle.core.proofs.slots.Places.{sz, of_room}
-use Rattle.core.proofs.slots.Opens.{row_val}
-use Rattle.core.proofs.slots.Leases.{uncapped, lease_val, block_ty, block_size, block_align, args, P}
 use Rattle.core.proofs.slots.Slots.from_raw_parts.Met as from_raw_parts
 use Rattle.core.specs.contracts.slots.Slots.from_raw_parts.Key as from_key
 use Rattle.blobs.proofs.Rows.{Row, row_Typed, From, at_from, Made, from_goes, from_gives, Lr, made, lease_made}
-use Rattle.blobs.specs.Held.{IsLeaseOf}
 use Rattle.blobs.specs.contracts.memory.reserve as F
 use Rattle.blobs.specs.contracts.memory.reserve.Key.{name as #self}
 use Rattle.blobs.proofs.memory.reserve.Statement as stated

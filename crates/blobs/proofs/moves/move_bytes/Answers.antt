@@ -1,6 +1,4 @@
-use Rattle.std.proofs.Common.{◌≡◌, ◌+◌, ◌*◌, ◌/◌, ◌%◌, ◌≤◌, ℕ, length, refl, sym, ap, subst, arith}
-use Rattle.blobs.specs.Moves.{IsMoved}
-use Rattle.blobs.specs.MovesLaws.{moved_bytes, moved_more}
+use Rattle.blobs.proofs.Imports.{◌≡◌, ◌+◌, ◌*◌, ◌/◌, ◌%◌, ◌≤◌, ℕ, length, refl, sym, ap, subst, arith, IsMoved, moved_bytes, moved_more}
 use Rattle.blobs.proofs.moves.move_bytes.Goals as goal
 
 pub loop-block-preserved : goal.loop-block-preserved

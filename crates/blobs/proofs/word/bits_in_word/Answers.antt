@@ -1,5 +1,4 @@
-use Rattle.std.proofs.Common.{arith}
-use Rattle.blobs.specs.WordsLaws.{read_field}
+use Rattle.blobs.proofs.Imports.{arith, read_field}
 use Rattle.blobs.proofs.word.bits_in_word.Goals as goal
 
 pub returns : goal.returns

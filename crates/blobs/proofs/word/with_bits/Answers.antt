@@ -1,4 +1,4 @@
-use Rattle.blobs.specs.WordsLaws.{field_inside, field_before, field_after, field_small}
+use Rattle.blobs.proofs.Imports.{field_inside, field_before, field_after, field_small}
 use Rattle.blobs.proofs.word.with_bits.Goals as goal
 
 pub returns : goal.returns

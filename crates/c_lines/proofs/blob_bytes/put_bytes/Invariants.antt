@@ -1,4 +1,4 @@
-use Rattle.std.proofs.Common.{◌≡◌, ◌++◌, drop, take}
+use Rattle.c_lines.proofs.Imports.{◌≡◌, ◌++◌, drop, take}
 use Rattle.c_lines.proofs.blob_bytes.put_bytes.Given as goal
 
 abbrev pub invariant-loop-at : goal.invariant-loop-at

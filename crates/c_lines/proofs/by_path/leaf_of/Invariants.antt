@@ -1,5 +1,5 @@
-use Rattle.std.proofs.Common.{◌≡◌, ◌<◌, ℕ, Some, slice_get}
-use Rattle.record_dim.specs.Leaves.{texts_of}
+use Rattle.c_lines.proofs.Imports.{◌≡◌, ◌<◌, ℕ, Some, texts_of}
+use Rattle.std.proofs.Common.{slice_get}
 use Rattle.c_lines.proofs.by_path.leaf_of.Given as goal
 
 abbrev pub invariant-loop-leaf : goal.invariant-loop-leaf

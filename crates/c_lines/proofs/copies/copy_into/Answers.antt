@@ -1,4 +1,4 @@
-use Rattle.std.proofs.Common.{rules}
+use Rattle.c_lines.proofs.Imports.{rules}
 use Rattle.c_lines.proofs.Copied.{other_source, was_done, was_narrow, was_other}
 use Rattle.c_lines.proofs.copies.copy_into.Goals as goal
 

@@ -1,5 +1,4 @@
-use Rattle.std.proofs.Common.{rules, arith}
-use Rattle.c_lines.specs.Makes.{named_of}
+use Rattle.c_lines.proofs.Imports.{rules, arith, named_of}
 use Rattle.c_lines.proofs.Making.{filled_refused, filled_made}
 use Rattle.c_lines.proofs.make.filled_as.Goals as goal
 

@@ -1,10 +1,4 @@
-use Rattle.std.proofs.Common.{rules, []}
-use Rattle.map_expr.specs.Terms.{term_of}
-use Rattle.record_dim.specs.NameBytesLaws.{same_text}
-use Rattle.record_dim.specs.Schemas.{schema_fields}
-use Rattle.worlds.specs.Names.{nameless}
-use Rattle.command_checks.specs.Gives.{Gives}
-use Rattle.c_lines.specs.Makes.{named_of, new_of}
+use Rattle.c_lines.proofs.Imports.{rules, [], term_of, same_text, schema_fields, nameless, Gives, named_of, new_of}
 use Rattle.c_lines.proofs.Answering.{goes_ok, ne_false, refused_test, tells_refused}
 use Rattle.c_lines.proofs.Making.{shape_refused}
 use Rattle.c_lines.proofs.make.find.Goals as goal

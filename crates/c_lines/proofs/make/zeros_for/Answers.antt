@@ -1,9 +1,4 @@
-use Rattle.std.proofs.Common.{rules, ◌≡◌, ◌∙◌, ℕ, List, length, IfSome, Ok, sym, ap, subst}
-use Rattle.extents.specs.Indices.{indices}
-use Rattle.views.specs.Tables.{Table}
-use Rattle.worlds.specs.Outcomes.{Goes}
-use Rattle.worlds.specs.Tables.{resolved}
-use Rattle.c_lines.specs.Makes.{named_of}
+use Rattle.c_lines.proofs.Imports.{rules, ◌≡◌, ◌∙◌, ℕ, List, length, IfSome, Ok, sym, ap, subst, indices, Table, Goes, resolved, named_of}
 use Rattle.c_lines.proofs.Answering.{goes_ok, if_answered, refused_test, tells_as, tells_answered, tells_refused}
 use Rattle.c_lines.proofs.Making.{zeros_refused, zeros_made}
 use Rattle.c_lines.proofs.make.zeros_for.Goals as goal

@@ -1,6 +1,4 @@
-use Rattle.std.proofs.Common.{rules, refl}
-use Rattle.views.specs.Tables.{Table}
-use Rattle.c_lines.specs.Makes.{named_of, new_of, world_of}
+use Rattle.c_lines.proofs.Imports.{rules, refl, Table, named_of, new_of, world_of}
 use Rattle.c_lines.proofs.Answering.{tells_refused}
 use Rattle.c_lines.proofs.Making.{new_refused, table_made}
 use Rattle.c_lines.proofs.make.zeros_of.Goals as goal

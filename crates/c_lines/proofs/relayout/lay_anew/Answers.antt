@@ -1,4 +1,4 @@
-use Rattle.std.proofs.Common.{rules, ◌∙◌}
+use Rattle.c_lines.proofs.Imports.{rules, ◌∙◌}
 use Rattle.c_lines.proofs.Relaying.{anew_refused, laid_done, laid_refused}
 use Rattle.c_lines.proofs.relayout.lay_anew.Goals as goal
 

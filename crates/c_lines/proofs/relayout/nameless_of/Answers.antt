@@ -1,8 +1,4 @@
-use Rattle.std.proofs.Common.{rules, []}
-use Rattle.line_grammar.specs.Sentences.{sentence_of}
-use Rattle.map_expr.specs.Terms.{term_of}
-use Rattle.worlds.specs.Names.{nameless}
-use Rattle.command_checks.specs.Gives.{Gives}
+use Rattle.c_lines.proofs.Imports.{rules, [], sentence_of, term_of, nameless, Gives}
 use Rattle.c_lines.proofs.Answering.{tells_as, tells_answered}
 use Rattle.c_lines.proofs.Relaying.{whole_as}
 use Rattle.c_lines.proofs.relayout.nameless_of.Goals as goal

@@ -1,6 +1,4 @@
-use Rattle.layout_copy.specs.Copies.{AreAlike}
-use Rattle.map_expr.specs.Terms.{term_of}
-use Rattle.views.specs.Tables.{Table}
+use Rattle.c_lines.proofs.Imports.{AreAlike, term_of, Table}
 use Rattle.c_lines.proofs.Answering.{if_answered, tells_as, tells_answered}
 use Rattle.c_lines.proofs.Relaying.{zeros_as, zeros_alike}
 use Rattle.c_lines.proofs.relayout.zeros_like.Goals as goal

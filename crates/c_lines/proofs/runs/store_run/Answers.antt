@@ -1,9 +1,4 @@
-use Rattle.std.proofs.Common.{rules, ◌≡◌, ◌+◌, ◌-◌, ℕ, ℤ, List, length, map, take, drop, Ok, Err, refl, sym, ap, subst, ◌∙◌, arith, length-drop, take_all}
-use Rattle.std.proofs.lemmas.List.{drop-map, length-map, length-take}
-use Rattle.extents.specs.Indices.{indices}
-use Rattle.lane_kernels.proofs.Faults.{lane_inside}
-use Rattle.views.specs.Tables.{answer_of}
-use Rattle.c_lines.specs.Runs.{IsSet}
+use Rattle.c_lines.proofs.Imports.{rules, ◌≡◌, ◌+◌, ◌-◌, ℕ, ℤ, List, length, map, take, drop, Ok, Err, refl, sym, ap, subst, ◌∙◌, arith, length-drop, take_all, drop-map, length-map, length-take, indices, lane_inside, answer_of, IsSet}
 use Rattle.c_lines.proofs.Parts.{nothing_set, refused_set, set_behind, still_rows}
 use Rattle.c_lines.proofs.runs.store_run.Goals as goal
 

@@ -1,7 +1,4 @@
-use Rattle.std.proofs.Common.{◌≡◌, ◌+◌, ◌≤◌, length, map}
-use Rattle.views.specs.Tables.{Table}
-use Rattle.c_lines.specs.Answers.{Answer}
-use Rattle.c_lines.specs.Runs.{IsSet}
+use Rattle.c_lines.proofs.Imports.{◌≡◌, ◌+◌, ◌≤◌, length, map, Table, Answer, IsSet}
 use Rattle.c_lines.proofs.runs.store_run.Given as goal
 
 abbrev pub invariant-loop-rest : goal.invariant-loop-rest

@@ -1,7 +1,4 @@
-use Rattle.std.proofs.Common.{rules, ◌≡◌, ◌<◌, ◌^◌, true, false, ℕ, ℤ, pos, ◌≤ℤ◌, List, [], ◌∷◌, ◌++◌, get_or, length, map, take, w64, FitsSigned, to_z, of_z, sym, ap, ◌∙◌, arith}
-use Rattle.std.proofs.lemmas.Int.{ints, to_z-of_z}
-use Rattle.std.proofs.lemmas.List.{get_or-map, length-map, length-set, map-append, take_more, take_more_set}
-use Rattle.piece_bits.specs.Lows.{low_64}
+use Rattle.c_lines.proofs.Imports.{rules, ◌≡◌, ◌<◌, ◌^◌, true, false, ℕ, ℤ, pos, ◌≤ℤ◌, List, [], ◌∷◌, ◌++◌, get_or, length, map, take, w64, FitsSigned, to_z, of_z, sym, ap, ◌∙◌, arith, ints, to_z-of_z, get_or-map, length-map, length-set, map-append, take_more, take_more_set, low_64}
 use Rattle.c_lines.proofs.Parts.{own_low}
 use Rattle.c_lines.proofs.unsigned.put_lows.Goals as goal
 use Rattle.c_lines.proofs.unsigned.put_lows.Goals.{else-low-lt0-via-then-low-lt0+else-not-any, else-low-lt0-via-else-low-lt0}

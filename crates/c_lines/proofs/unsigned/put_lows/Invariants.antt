@@ -1,5 +1,4 @@
-use Rattle.std.proofs.Common.{◌≡◌, false, length, map, pos, take}
-use Rattle.piece_bits.specs.Lows.{low_64}
+use Rattle.c_lines.proofs.Imports.{◌≡◌, false, length, map, pos, take, low_64}
 use Rattle.c_lines.proofs.unsigned.put_lows.Given as goal
 
 abbrev pub invariant-loop-k : goal.invariant-loop-k

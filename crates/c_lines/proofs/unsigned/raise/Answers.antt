@@ -1,9 +1,4 @@
-use Rattle.std.proofs.Common.{rules, ◌≡◌, ℤ, pos, get_or, map, w64, FitsSigned, of_z, sym, ap, ◌∙◌, arith}
-use Rattle.std.proofs.lemmas.Int.{to_z-of_z}
-use Rattle.std.proofs.lemmas.List.{get_or-map, length-map}
-use Rattle.record_dim.specs.declared.leaf_type.LeafType.TheVariants.{U64}
-use Rattle.piece_bits.proofs.InPlace.{one_more}
-use Rattle.views.specs.Runs.{raised}
+use Rattle.c_lines.proofs.Imports.{rules, ◌≡◌, ℤ, pos, get_or, map, w64, FitsSigned, of_z, sym, ap, ◌∙◌, arith, to_z-of_z, get_or-map, length-map, U64, one_more, raised}
 use Rattle.c_lines.proofs.unsigned.raise.Goals as goal
 
 pub loop-k-preserved : goal.loop-k-preserved

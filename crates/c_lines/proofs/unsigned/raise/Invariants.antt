@@ -1,7 +1,4 @@
-use Rattle.std.proofs.Common.{map, pos}
-use Rattle.record_dim.specs.declared.leaf_type.LeafType.TheVariants.{U64}
-use Rattle.piece_bits.proofs.InPlace.{IsReplaced}
-use Rattle.views.specs.Runs.{raised}
+use Rattle.c_lines.proofs.Imports.{map, pos, U64, IsReplaced, raised}
 use Rattle.c_lines.proofs.unsigned.raise.Given as goal
 
 abbrev pub invariant-loop-k : goal.invariant-loop-k

@@ -1,12 +1,4 @@
-use Rattle.std.proofs.Common.{rules, ◌≡◌, ◌++◌, ◌∷◌, [], List, Err, true, map, ◌<◌, length, get_or, length-append, subst, sym, ap, ◌∙◌}
-use Rattle.std.proofs.lemmas.List.{get_or-map, length-map, map-append}
-use Rattle.std.proofs.lemmas.List.Elements.{All-push}
-use Rattle.map_expr.specs.Terms.{Term as MapTerm, term_of}
-use Rattle.worlds.specs.Names.{nameless}
-use Rattle.worlds.specs.Outcomes.{Goes}
-use Rattle.command_checks.specs.Bases.{is_nameless}
-use Rattle.command_checks.specs.Entries.{mapping_of}
-use Rattle.command_checks.specs.Gives.{GivesUp}
+use Rattle.command_checks.proofs.Imports.{rules, ◌≡◌, ◌++◌, ◌∷◌, [], List, Err, true, map, ◌<◌, length, get_or, length-append, subst, sym, ap, ◌∙◌, get_or-map, length-map, map-append, All-push, MapTerm, term_of, nameless, Goes, is_nameless, mapping_of, GivesUp}
 use Rattle.command_checks.proofs.Each.{each_more, each_ends}
 use Rattle.command_checks.proofs.advices.all_nameless.Goals as goal
 

@@ -1,10 +1,4 @@
-use Rattle.std.proofs.Common.{◌≡◌, true, length, map, take}
-use Rattle.std.specs.Prelude.{All}
-use Rattle.map_expr.specs.Terms.{term_of}
-use Rattle.worlds.specs.Names.{nameless}
-use Rattle.worlds.specs.Outcomes.{Goes, each}
-use Rattle.command_checks.specs.Bases.{is_nameless}
-use Rattle.command_checks.specs.Entries.{mapping_of}
+use Rattle.command_checks.proofs.Imports.{◌≡◌, true, length, map, take, All, term_of, nameless, Goes, each, is_nameless, mapping_of}
 use Rattle.command_checks.proofs.advices.all_nameless.Given as goal
 
 abbrev pub invariant-loop-expr : goal.invariant-loop-expr

@@ -1,7 +1,4 @@
-use Rattle.std.proofs.Common.{rules, ◌≡◌, ◌++◌, ◌∷◌, [], List, Err, length-append, sym, ap, ◌∙◌}
-use Rattle.advisor.specs.declared.pass.Pass.{Pass}
-use Rattle.worlds.specs.Advise.{bound_pass}
-use Rattle.worlds.specs.Outcomes.{Goes}
+use Rattle.command_checks.proofs.Imports.{rules, ◌≡◌, ◌++◌, ◌∷◌, [], List, Err, length-append, sym, ap, ◌∙◌, Pass, bound_pass, Goes}
 use Rattle.command_checks.proofs.Each.{each_more, each_ends}
 use Rattle.command_checks.proofs.advices.bound_passes.Goals as goal
 

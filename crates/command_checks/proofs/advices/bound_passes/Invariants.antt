@@ -1,6 +1,4 @@
-use Rattle.std.proofs.Common.{◌≡◌, length, take}
-use Rattle.worlds.specs.Advise.{bound_pass}
-use Rattle.worlds.specs.Outcomes.{Goes, each}
+use Rattle.command_checks.proofs.Imports.{◌≡◌, length, take, bound_pass, Goes, each}
 use Rattle.command_checks.proofs.advices.bound_passes.Given as goal
 
 abbrev pub invariant-loop-text : goal.invariant-loop-text

@@ -1,5 +1,4 @@
-use Rattle.std.proofs.Common.{rules, ◌≡◌, ◌++◌, Err}
-use Rattle.std.specs.List.{range_with_len}
+use Rattle.command_checks.proofs.Imports.{rules, ◌≡◌, ◌++◌, Err, range_with_len}
 use Rattle.command_checks.proofs.Passes.{under_more, under_ends}
 use Rattle.command_checks.proofs.advices.leaves_under.Goals as goal
 

@@ -1,6 +1,4 @@
-use Rattle.std.proofs.Common.{◌≡◌, take}
-use Rattle.worlds.specs.Advise.{leaves_under}
-use Rattle.worlds.specs.Outcomes.{Goes}
+use Rattle.command_checks.proofs.Imports.{◌≡◌, take, leaves_under, Goes}
 use Rattle.command_checks.proofs.advices.leaves_under.Given as goal
 
 abbrev pub invariant-loop-path : goal.invariant-loop-path

@@ -1,4 +1,4 @@
-use Rattle.std.proofs.Common.{arith, rules, ◌≡◌, ◌++◌, ◌∷◌, ◌≤◌, []}
+use Rattle.command_checks.proofs.Imports.{arith, rules, ◌≡◌, ◌++◌, ◌∷◌, ◌≤◌, []}
 use Rattle.command_checks.proofs.Passes.{range_push}
 use Rattle.command_checks.proofs.advices.push_range.Goals as goal
 

@@ -1,5 +1,4 @@
-use Rattle.std.proofs.Common.{◌≡◌, ◌++◌, ◌-◌}
-use Rattle.std.specs.List.{range_with_len}
+use Rattle.command_checks.proofs.Imports.{◌≡◌, ◌++◌, ◌-◌, range_with_len}
 use Rattle.command_checks.proofs.advices.push_range.Given as goal
 
 abbrev pub invariant-loop-number : goal.invariant-loop-number

@@ -1,4 +1,4 @@
-use Rattle.std.proofs.Common.{sym, ◌∙◌}
+use Rattle.command_checks.proofs.Imports.{sym, ◌∙◌}
 use Rattle.command_checks.proofs.NameTables.{place_kept, place_added}
 use Rattle.command_checks.proofs.index.with_place.Goals as goal
 

@@ -1,11 +1,4 @@
-use Rattle.std.proofs.Common.{◌<◌, ◌∙◌, ap, length}
-use Rattle.std.proofs.lemmas.List.{length-map}
-use Rattle.std.proofs.lemmas.Option.{slice_get_within}
-use Rattle.record_dim.specs.Leaves.{paths_of}
-use Rattle.expr_lang.specs.BindingLaws.{leaf_number_is}
-use Rattle.worlds.specs.Outcomes.{some_or}
-use Rattle.worlds.specs.declared.fault.CommandFault.TheVariants.{Unknown}
-use Rattle.worlds.specs.declared.fault.UnknownName.TheVariants.{Path}
+use Rattle.command_checks.proofs.Imports.{◌<◌, ◌∙◌, ap, length, length-map, slice_get_within, paths_of, leaf_number_is, some_or, Unknown, Path}
 use Rattle.command_checks.proofs.leaves.leaf_of.Goals as goal
 
 pub returns-in-Some-clause-leaf : goal.returns-in-Some-clause-leaf

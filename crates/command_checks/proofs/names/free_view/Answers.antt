@@ -1,5 +1,4 @@
-use Rattle.command_checks.specs.Entries.{view_of}
-use Rattle.command_checks.specs.PlacesLaws.{free_by_place}
+use Rattle.command_checks.proofs.Imports.{view_of, free_by_place}
 use Rattle.command_checks.proofs.names.free_view.Goals as goal
 
 pub returns : goal.returns

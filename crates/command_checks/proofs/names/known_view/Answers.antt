@@ -1,6 +1,4 @@
-use Rattle.std.proofs.Common.{sym, ◌∙◌}
-use Rattle.command_checks.specs.Entries.{view_of}
-use Rattle.command_checks.specs.PlacesLaws.{placed_at, unknown_name}
+use Rattle.command_checks.proofs.Imports.{sym, ◌∙◌, view_of, placed_at, unknown_name}
 use Rattle.command_checks.proofs.names.known_view.Goals as goal
 
 pub returns-in-Some-clause-at : goal.returns-in-Some-clause-at

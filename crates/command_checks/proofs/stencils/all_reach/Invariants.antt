@@ -1,5 +1,4 @@
-use Rattle.std.proofs.Common.{◌≡◌, true, take}
-use Rattle.worlds.specs.Stencil.{all_reach}
+use Rattle.command_checks.proofs.Imports.{◌≡◌, true, take, all_reach}
 use Rattle.command_checks.proofs.stencils.all_reach.Given as goal
 
 abbrev pub invariant-loop-text : goal.invariant-loop-text

@@ -1,5 +1,4 @@
-use Rattle.std.proofs.Common.{◌≡◌, drop}
-use Rattle.command_checks.specs.Reach.{all_stay}
+use Rattle.command_checks.proofs.Imports.{◌≡◌, drop, all_stay}
 use Rattle.command_checks.proofs.stencils.all_stay.Given as goal
 
 abbrev pub invariant-loop-dimension : goal.invariant-loop-dimension

@@ -1,8 +1,4 @@
-use Rattle.std.proofs.Common.{arith, ◌≡◌, ℕ, List, map, ap}
-use Rattle.extents.specs.declared.window.Span.{Span}
-use Rattle.subviews.specs.Stencils.{weighted}
-use Rattle.views.specs.Tables.{leaf_count_of}
-use Rattle.command_checks.specs.Stencils.{weighted_at}
+use Rattle.command_checks.proofs.Imports.{arith, ◌≡◌, ℕ, List, map, ap, Span, weighted, leaf_count_of, weighted_at}
 use Rattle.command_checks.proofs.Terms.{are_fit, divides_some, terms_able, terms_few}
 use Rattle.command_checks.proofs.stencils.fit_stencil.Goals as goal
 

@@ -1,11 +1,5 @@
-use Rattle.std.proofs.Common.{rules, ◌≡◌, ◌++◌, ◌∷◌, [], List, Err, ◌+◌, take, get_or, length-append, sym, ap, ◌∙◌}
-use Rattle.std.proofs.lemmas.List.Elements.{All-push}
+use Rattle.command_checks.proofs.Imports.{rules, ◌≡◌, ◌++◌, ◌∷◌, [], List, Err, ◌+◌, take, get_or, length-append, sym, ap, ◌∙◌, All-push, Weighted, leaf_count_of, Goes, bound_term, placed_term, weighted_at}
 use Rattle.std.specs.Prelude.{◌<◌}
-use Rattle.subviews.specs.Stencils.{Weighted}
-use Rattle.views.specs.Tables.{leaf_count_of}
-use Rattle.worlds.specs.Outcomes.{Goes}
-use Rattle.worlds.specs.Stencil.{bound_term}
-use Rattle.command_checks.specs.Stencils.{placed_term, weighted_at}
 use Rattle.command_checks.proofs.Each.{each_more, each_ends}
 use Rattle.command_checks.proofs.Terms.{term_goes, term_ends, weighted_more}
 use Rattle.command_checks.proofs.stencils.leaves_of.Goals as goal

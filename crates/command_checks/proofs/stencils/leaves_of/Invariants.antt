@@ -1,9 +1,4 @@
-use Rattle.std.proofs.Common.{◌≡◌, ◌<◌, length, take}
-use Rattle.std.specs.Prelude.{All}
-use Rattle.views.specs.Tables.{leaf_count_of}
-use Rattle.worlds.specs.Outcomes.{Goes, each}
-use Rattle.worlds.specs.Stencil.{bound_term}
-use Rattle.command_checks.specs.Stencils.{weighted_at}
+use Rattle.command_checks.proofs.Imports.{◌≡◌, ◌<◌, length, take, All, leaf_count_of, Goes, each, bound_term, weighted_at}
 use Rattle.command_checks.proofs.stencils.leaves_of.Given as goal
 
 abbrev pub invariant-loop-text : goal.invariant-loop-text

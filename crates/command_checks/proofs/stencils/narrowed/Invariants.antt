@@ -1,4 +1,4 @@
-use Rattle.std.proofs.Common.{◌≡◌, take}
+use Rattle.command_checks.proofs.Imports.{◌≡◌, take}
 use Rattle.command_checks.proofs.stencils.narrowed.Given as goal
 
 abbrev pub invariant-loop-offset : goal.invariant-loop-offset

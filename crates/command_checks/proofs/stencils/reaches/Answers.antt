@@ -1,10 +1,4 @@
-use Rattle.std.proofs.Common.{arith, ◌≡◌, length, ℕ, Bool, false, List, ap, sym, ◌∙◌}
-use Rattle.std.specs.Prelude.{◌==◌, ◌||◌}
-use Rattle.std.proofs.lemmas.Bool.Decides.{nat_tests}
-use Rattle.extents.specs.declared.window.Span.{Span}
-use Rattle.extents.specs.WindowLaws.{same_rank}
-use Rattle.subviews.specs.SubViews.{rows_of}
-use Rattle.command_checks.specs.Reach.{all_stay}
+use Rattle.command_checks.proofs.Imports.{arith, ◌≡◌, length, ℕ, Bool, false, List, ap, sym, ◌∙◌, ◌==◌, ◌||◌, nat_tests, Span, same_rank, rows_of, all_stay}
 use Rattle.command_checks.proofs.Reaches.{reaches_rest}
 use Rattle.command_checks.proofs.stencils.reaches.Goals as goal
 

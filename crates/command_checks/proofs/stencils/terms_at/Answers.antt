@@ -1,4 +1,4 @@
-use Rattle.std.proofs.Common.{arith, rules, ◌≡◌, ◌<◌, ◌++◌, ◌∷◌, [], length}
+use Rattle.command_checks.proofs.Imports.{arith, rules, ◌≡◌, ◌<◌, ◌++◌, ◌∷◌, [], length}
 use Rattle.command_checks.proofs.Terms.{terms_more}
 use Rattle.command_checks.proofs.stencils.terms_at.Goals as goal
 

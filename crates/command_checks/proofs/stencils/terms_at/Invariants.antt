@@ -1,6 +1,4 @@
-use Rattle.std.proofs.Common.{◌≡◌, map, take}
-use Rattle.subviews.specs.Stencils.{weighted}
-use Rattle.command_checks.specs.Stencils.{weighted_at}
+use Rattle.command_checks.proofs.Imports.{◌≡◌, map, take, weighted, weighted_at}
 use Rattle.command_checks.proofs.stencils.terms_at.Given as goal
 
 abbrev pub invariant-loop-place : goal.invariant-loop-place

@@ -1,4 +1,4 @@
-use Rattle.std.proofs.Common.{arith, rules, ◌≡◌}
+use Rattle.command_checks.proofs.Imports.{arith, rules, ◌≡◌}
 use Rattle.command_checks.proofs.Limits.{live_more}
 use Rattle.command_checks.proofs.tables.live_bytes.Goals as goal
 

@@ -1,6 +1,4 @@
-use Rattle.std.proofs.Common.{◌≡◌, ◌*◌, ◌≤◌, ◌^◌, take, map}
-use Rattle.worlds.specs.Tables.{live_bits}
-use Rattle.command_checks.specs.Entries.{view_of}
+use Rattle.command_checks.proofs.Imports.{◌≡◌, ◌*◌, ◌≤◌, ◌^◌, take, map, live_bits, view_of}
 use Rattle.command_checks.proofs.tables.live_bytes.Given as goal
 
 abbrev pub invariant-loop-entry : goal.invariant-loop-entry

@@ -1,8 +1,4 @@
-use Rattle.std.proofs.Common.{◌∙◌, sym, ap, map}
-use Rattle.map_expr.specs.Terms.{term_of}
-use Rattle.record_dim.specs.Schemas.{schema_fields}
-use Rattle.worlds.specs.Outcomes.{Goes}
-use Rattle.command_checks.specs.Entries.{view_of}
+use Rattle.command_checks.proofs.Imports.{◌∙◌, sym, ap, map, term_of, schema_fields, Goes, view_of}
 use Rattle.command_checks.proofs.Limits.{table_new, made_goes, made_full, bits_over, bits_within}
 use Rattle.command_checks.proofs.tables.made.Goals as goal
 

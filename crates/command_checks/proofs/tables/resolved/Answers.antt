@@ -1,7 +1,4 @@
-use Rattle.std.proofs.Common.{◌∙◌, sym, subst, List}
-use Rattle.extents.specs.declared.words.ExtentWord.{ExtentWord}
-use Rattle.extents.specs.Shapes.{HasRows}
-use Rattle.command_checks.specs.BasesLaws.{rows_for_some, rows_for_same, resolves, resolves_not, rows_are}
+use Rattle.command_checks.proofs.Imports.{◌∙◌, sym, subst, List, ExtentWord, HasRows, rows_for_some, rows_for_same, resolves, resolves_not, rows_are}
 use Rattle.command_checks.proofs.tables.resolved.Goals as goal
 
 pub resolve-requires : goal.resolve-requires

@@ -1,7 +1,4 @@
-use Rattle.std.proofs.Common.{ℕ, List, refl, sym, ap, subst, ◌∙◌}
-use Rattle.extents.specs.declared.window.Span.{Span}
-use Rattle.extents.specs.Windows.{IsWindow}
-use Rattle.worlds.specs.Outcomes.{Goes}
+use Rattle.command_checks.proofs.Imports.{ℕ, List, refl, sym, ap, subst, ◌∙◌, Span, IsWindow, Goes}
 use Rattle.command_checks.proofs.Inside.{windowed_goes}
 use Rattle.command_checks.proofs.windows.windowed.Goals as goal
 

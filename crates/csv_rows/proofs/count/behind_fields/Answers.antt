@@ -1,8 +1,5 @@
-use Rattle.std.proofs.Common.{rules, arith, ◌≡◌, ◌+◌, ◌∙◌, Bool, true, false, None, List, ℕ, nat_eq, length, drop, get_or, ap, sym}
-use Rattle.std.proofs.lemmas.Bool.Decides.{nat_tests}
-use Rattle.std.proofs.lemmas.List.{length-drop}
+use Rattle.csv_rows.proofs.Imports.{rules, arith, ◌≡◌, ◌+◌, ◌∙◌, Bool, true, false, None, List, ℕ, nat_eq, length, drop, get_or, ap, sym, nat_tests, length-drop, record_count, quote_state}
 use Rattle.csv.specs.declared.parser.State.TheVariants as st
-use Rattle.csv_rows.specs.Readers.{record_count, quote_state}
 use Rattle.csv_rows.proofs.Counts.{quote_found, end_found, no_end_found}
 use Rattle.csv_rows.proofs.count.behind_fields.Goals as goal
 

@@ -1,6 +1,5 @@
-use Rattle.std.proofs.Common.{◌≡◌, ◌≤◌, length}
+use Rattle.csv_rows.proofs.Imports.{◌≡◌, ◌≤◌, length, record_count, field_state}
 use Rattle.csv.specs.declared.parser.State.TheVariants as st
-use Rattle.csv_rows.specs.Readers.{record_count, field_state}
 use Rattle.csv_rows.proofs.count.behind_fields.Given as goal
 
 abbrev pub invariant-loop-end : goal.invariant-loop-end

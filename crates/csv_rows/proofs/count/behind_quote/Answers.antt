@@ -1,4 +1,4 @@
-use Rattle.std.proofs.Common.{rules, ◌≡◌, true}
+use Rattle.csv_rows.proofs.Imports.{rules, ◌≡◌, true}
 use Rattle.csv_rows.proofs.Counts.{quotes_closed, never_closed}
 use Rattle.csv_rows.proofs.count.behind_quote.Goals as goal
 

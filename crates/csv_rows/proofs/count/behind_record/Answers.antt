@@ -1,5 +1,4 @@
-use Rattle.std.proofs.Common.{arith, ◌≡◌, ◌<◌, ◌∙◌, length, ap}
-use Rattle.std.proofs.lemmas.Bool.Decides.{nat_tests}
+use Rattle.csv_rows.proofs.Imports.{arith, ◌≡◌, ◌<◌, ◌∙◌, length, ap, nat_tests}
 use Rattle.csv_rows.proofs.PlainLines.{no_rows, record_rows}
 use Rattle.csv_rows.proofs.count.behind_record.Goals as goal
 

@@ -1,4 +1,4 @@
-use Rattle.std.proofs.Common.{arith}
+use Rattle.csv_rows.proofs.Imports.{arith}
 use Rattle.csv_rows.proofs.CsvReads.{few_rows}
 use Rattle.csv_rows.proofs.count.count_rows.Goals as goal
 

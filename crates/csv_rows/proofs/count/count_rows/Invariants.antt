@@ -1,7 +1,5 @@
-use Rattle.std.proofs.Common.{◌≡◌, ◌+◌, length}
+use Rattle.csv_rows.proofs.Imports.{◌≡◌, ◌+◌, length, records_of, record_count}
 use Rattle.csv.specs.declared.parser.State.TheVariants as st
-use Rattle.csv_rows.specs.Datasets.{records_of}
-use Rattle.csv_rows.specs.Readers.{record_count}
 use Rattle.csv_rows.proofs.count.count_rows.Given as goal
 
 abbrev pub invariant-loop-rest : goal.invariant-loop-rest

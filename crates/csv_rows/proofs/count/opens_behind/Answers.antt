@@ -1,4 +1,4 @@
-use Rattle.std.proofs.Common.{sym}
+use Rattle.csv_rows.proofs.Imports.{sym}
 use Rattle.csv_rows.proofs.Counts.{opens_last}
 use Rattle.csv_rows.proofs.count.opens_behind.Goals as goal
 

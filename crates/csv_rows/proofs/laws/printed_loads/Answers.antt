@@ -1,7 +1,4 @@
-use Rattle.std.proofs.Common.{arith, ◌≡◌, ◌<◌, length, subst}
-use Rattle.record_dim.specs.Trees.{Fields}
-use Rattle.record_dim.specs.Schemas.{schema_fields}
-use Rattle.record_dim.specs.Leaves.{leaves, texts_of}
+use Rattle.csv_rows.proofs.Imports.{arith, ◌≡◌, ◌<◌, length, subst, Fields, schema_fields, leaves, texts_of}
 use Rattle.csv_rows.proofs.ColumnNames.{column_names}
 use Rattle.csv_rows.proofs.PlainTexts.{AreColumnNames}
 use Rattle.csv_rows.proofs.PrintedAgain.{view_again}

@@ -1,5 +1,4 @@
-use Rattle.std.proofs.Common.{◌≡◌, drop}
-use Rattle.csv_rows.specs.Plain.{line_start}
+use Rattle.csv_rows.proofs.Imports.{◌≡◌, drop, line_start}
 use Rattle.csv_rows.proofs.lines.behind_all_ends.Given as goal
 
 abbrev pub invariant-loop-start : goal.invariant-loop-start

@@ -1,4 +1,4 @@
-use Rattle.std.proofs.Common.{◌∙◌}
+use Rattle.csv_rows.proofs.Imports.{◌∙◌}
 use Rattle.csv_rows.proofs.PlainLines.{one_end}
 use Rattle.csv_rows.proofs.lines.behind_ends.Goals as goal
 

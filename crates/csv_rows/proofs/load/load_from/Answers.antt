@@ -1,8 +1,4 @@
-use Rattle.std.proofs.Common.{rules, ◌≡◌, ◌<◌, ◌∙◌, List, ℕ, [], ◌∷◌, ap, sym, length, arith, true, false, inr, Err}
-use Rattle.std.proofs.lemmas.List.{length-map}
-use Rattle.record_dim.specs.Leaves.{texts_of}
-use Rattle.csv_rows.specs.Datasets.{header_of}
-use Rattle.csv_rows.specs.declared.fault.RowFault.TheVariants.{MissingColumn}
+use Rattle.csv_rows.proofs.Imports.{rules, ◌≡◌, ◌<◌, ◌∙◌, List, ℕ, [], ◌∷◌, ap, sym, length, arith, true, false, inr, Err, length-map, texts_of, header_of, MissingColumn}
 use Rattle.csv_rows.proofs.Tables.{IsKnown, header_refused, no_header, dataset_loaded, dataset_refused, dataset_keeps}
 use Rattle.csv_rows.proofs.load.load_from.Goals as goal
 

@@ -1,6 +1,4 @@
-use Rattle.std.proofs.Common.{rules, ◌≡◌, ◌∙◌, refl, sym, arith, true, false, Err, inr}
-use Rattle.views.specs.Stores.{kept_row}
-use Rattle.views.specs.Tables.{kept_of}
+use Rattle.csv_rows.proofs.Imports.{rules, ◌≡◌, ◌∙◌, refl, sym, arith, true, false, Err, inr, kept_row, kept_of}
 use Rattle.csv_rows.proofs.Accesses.{no_row_stored}
 use Rattle.csv_rows.proofs.Tables.{Loading, next_left, row_loaded, rows_loaded, rows_written, row_refused}
 use Rattle.csv_rows.proofs.load.load_records.Goals as goal

@@ -1,4 +1,4 @@
-use Rattle.std.proofs.Common.{◌≡◌, drop, length}
+use Rattle.csv_rows.proofs.Imports.{◌≡◌, drop, length}
 use Rattle.csv_rows.proofs.Tables.{Loading}
 use Rattle.csv_rows.proofs.load.load_records.Given as goal
 

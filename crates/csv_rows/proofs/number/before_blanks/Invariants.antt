@@ -1,5 +1,4 @@
-use Rattle.std.proofs.Common.{◌≡◌, ◌-◌, take, length}
-use Rattle.csv_rows.specs.Datasets.{before_blanks}
+use Rattle.csv_rows.proofs.Imports.{◌≡◌, ◌-◌, take, length, before_blanks}
 use Rattle.csv_rows.proofs.number.before_blanks.Given as goal
 
 abbrev pub invariant-loop-blanks : goal.invariant-loop-blanks

@@ -1,5 +1,4 @@
-use Rattle.std.proofs.Common.{◌≡◌, drop}
-use Rattle.csv_rows.specs.Datasets.{behind_blanks}
+use Rattle.csv_rows.proofs.Imports.{◌≡◌, drop, behind_blanks}
 use Rattle.csv_rows.proofs.number.behind_blanks.Given as goal
 
 abbrev pub invariant-loop-start : goal.invariant-loop-start

@@ -1,5 +1,4 @@
-use Rattle.std.proofs.Common.{rules, arith, ◌≡◌, ◌<◌, true, get_or, length}
-use Rattle.std.specs.Char.{is_ascii_digit}
+use Rattle.csv_rows.proofs.Imports.{rules, arith, ◌≡◌, ◌<◌, true, get_or, length, is_ascii_digit}
 use Rattle.csv_rows.proofs.Numbers.{one_digit, power_next, low_power}
 use Rattle.csv_rows.proofs.number.first_digits.Goals as goal
 

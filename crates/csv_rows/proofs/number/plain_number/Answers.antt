@@ -1,10 +1,4 @@
-use Rattle.std.proofs.Common.{rules, arith, ◌≡◌, ◌<◌, ◌^◌, ◌∙◌, pos, neg_ℤ, Some, ℤ, FitsSigned, take, drop, length, get_or, sym, ap}
-use Rattle.std.specs.Int.{w128}
-use Rattle.std.proofs.lemmas.Bool.Decides.{nat_tests}
-use Rattle.std.proofs.lemmas.Int.{to_z-of_z}
-use Rattle.std.proofs.lemmas.List.{take_rest}
-use Rattle.csv_rows.specs.Datasets.{digits_number}
-use Rattle.csv_rows.specs.Plain.{IsFieldHere}
+use Rattle.csv_rows.proofs.Imports.{rules, arith, ◌≡◌, ◌<◌, ◌^◌, ◌∙◌, pos, neg_ℤ, Some, ℤ, FitsSigned, take, drop, length, get_or, sym, ap, w128, nat_tests, to_z-of_z, take_rest, digits_number, IsFieldHere}
 use Rattle.csv_rows.proofs.PlainNumbers.{plain_read, minus_field, minus_read}
 use Rattle.csv_rows.proofs.number.plain_number.Goals as goal
 

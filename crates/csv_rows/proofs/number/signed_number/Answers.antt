@@ -1,10 +1,4 @@
-use Rattle.std.proofs.Common.{rules, arith, ◌≡◌, ◌<◌, ◌∙◌, pos, ◌-ℤ◌, Some, FitsSigned, drop, length, get_or, option_map, sym}
-use Rattle.std.specs.Int.{w128}
-use Rattle.std.proofs.lemmas.Bool.Decides.{nat_tests}
-use Rattle.std.proofs.lemmas.Int.{to_z-of_z}
-use Rattle.std.proofs.lemmas.List.{take_rest}
-use Rattle.piece_bits.specs.Far.{folded}
-use Rattle.csv_rows.specs.Datasets.{digits_number}
+use Rattle.csv_rows.proofs.Imports.{rules, arith, ◌≡◌, ◌<◌, ◌∙◌, pos, ◌-ℤ◌, Some, FitsSigned, drop, length, get_or, option_map, sym, w128, nat_tests, to_z-of_z, take_rest, folded, digits_number}
 use Rattle.csv_rows.proofs.PlainNumbers.{given_fits, minus_number}
 use Rattle.csv_rows.proofs.number.signed_number.Goals as goal
 

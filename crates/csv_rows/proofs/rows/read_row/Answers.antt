@@ -1,12 +1,4 @@
-use Rattle.std.proofs.Common.{rules, arith, ◌≡◌, ◌<◌, ◌∙◌, ⊎_elim, pos, refl, true, is_ok, Ok, Err, FitsSigned, take, get_or, length}
-use Rattle.std.specs.Int.{w128}
-use Rattle.std.proofs.lemmas.Int.{to_z-of_z}
-use Rattle.std.proofs.lemmas.Bool.{cases_eq}
-use Rattle.std.proofs.lemmas.List.{length-set, get_or-set_same, get_or-set_other}
-use Rattle.views.specs.Stores.{kept_row}
-use Rattle.views.specs.Tables.{answer_of, kept_of}
-use Rattle.csv_rows.specs.Datasets.{value_at}
-use Rattle.csv_rows.specs.Loads.{place_of}
+use Rattle.csv_rows.proofs.Imports.{rules, arith, ◌≡◌, ◌<◌, ◌∙◌, ⊎_elim, pos, refl, true, is_ok, Ok, Err, FitsSigned, take, get_or, length, w128, to_z-of_z, cases_eq, length-set, get_or-set_same, get_or-set_other, kept_row, answer_of, kept_of, value_at, place_of}
 use Rattle.csv_rows.proofs.Asked.{asked_again}
 use Rattle.csv_rows.proofs.Leaves.{leaf_read, leaf_refused, leaves_read}
 use Rattle.csv_rows.proofs.rows.read_row.Goals as goal

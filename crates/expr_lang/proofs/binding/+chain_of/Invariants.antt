@@ -1,11 +1,5 @@
 -- the links so far, behind what is left, make the whole
-use Rattle.std.proofs.Common.{◌≡◌, ◌≤◌}
-use Rattle.record_dim.specs.Leaves.{paths_of}
-use Rattle.record_dim.specs.Schemas.{schema_fields}
-use Rattle.expr_lang.specs.declared.expr.Expr.{size-Expr}
-use Rattle.expr_lang.specs.Terms.{term_of}
-use Rattle.expr_lang.specs.Binding.{numbered}
-use Rattle.expr_lang.specs.Chains.{links_term}
+use Rattle.expr_lang.proofs.Imports.{◌≡◌, ◌≤◌, paths_of, schema_fields, size-Expr, term_of, numbered, links_term}
 use Rattle.expr_lang.proofs.binding.+chain_of.Given as goal
 
 abbrev pub decreases-chain_of : goal.decreases-chain_of

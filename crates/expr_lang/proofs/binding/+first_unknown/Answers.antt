@@ -1,12 +1,4 @@
-use Rattle.std.proofs.Common.{◌∙◌, ap, sym}
-use Rattle.std.specs.List.{slice_get}
-use Rattle.std.specs.Option.{option_or}
-use Rattle.record_dim.specs.Leaves.{paths_of}
-use Rattle.record_dim.specs.Schemas.{schema_fields}
-use Rattle.expr_lang.specs.declared.expr.Expr.{Expr}
-use Rattle.expr_lang.specs.Terms.{term_of}
-use Rattle.expr_lang.specs.Binding.{unknowns}
-use Rattle.expr_lang.specs.Unknowns.{told}
+use Rattle.expr_lang.proofs.Imports.{◌∙◌, ap, sym, slice_get, option_or, paths_of, schema_fields, Expr, term_of, unknowns, told}
 use Rattle.expr_lang.proofs.Unknown.{first_or, smaller_left}
 use Rattle.expr_lang.proofs.binding.+first_unknown.Goals as goal
 

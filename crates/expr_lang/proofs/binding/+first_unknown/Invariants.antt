@@ -1,13 +1,5 @@
 -- the first unknown name of what is left, or else what is found already, is the first of all
-use Rattle.std.proofs.Common.{◌≡◌, ◌≤◌}
-use Rattle.std.specs.List.{slice_get}
-use Rattle.std.specs.Option.{option_or}
-use Rattle.record_dim.specs.Leaves.{paths_of}
-use Rattle.record_dim.specs.Schemas.{schema_fields}
-use Rattle.expr_lang.specs.declared.expr.Expr.{size-Expr}
-use Rattle.expr_lang.specs.Terms.{term_of}
-use Rattle.expr_lang.specs.Binding.{unknowns}
-use Rattle.expr_lang.specs.Unknowns.{told}
+use Rattle.expr_lang.proofs.Imports.{◌≡◌, ◌≤◌, slice_get, option_or, paths_of, schema_fields, size-Expr, term_of, unknowns, told}
 use Rattle.expr_lang.proofs.binding.+first_unknown.Given as goal
 
 abbrev pub decreases-first_unknown : goal.decreases-first_unknown

@@ -1,7 +1,4 @@
-use Rattle.std.proofs.Common.{◌∙◌, sym}
-use Rattle.std.proofs.lemmas.List.{length-map}
-use Rattle.record_dim.specs.Leaves.{leaves}
-use Rattle.record_dim.specs.Schemas.{schema_fields}
+use Rattle.expr_lang.proofs.Imports.{◌∙◌, sym, length-map, leaves, schema_fields}
 use Rattle.expr_lang.proofs.Unknown.{none_first}
 use Rattle.expr_lang.proofs.Within.{bound_within}
 use Rattle.expr_lang.proofs.binding.bind.Goals as goal

@@ -1,5 +1,4 @@
-use Rattle.std.proofs.Common.{◌∙◌, sym, ap, unwrap_or}
-use Rattle.expr_lang.specs.BindingLaws.{leaf_number_is}
+use Rattle.expr_lang.proofs.Imports.{◌∙◌, sym, ap, unwrap_or, leaf_number_is}
 use Rattle.expr_lang.proofs.binding.leaf_or_first.Goals as goal
 
 pub returns : goal.returns

@@ -1,7 +1,4 @@
-use Rattle.std.proofs.Common.{◌∙◌, sym}
-use Rattle.record_dim.specs.Leaves.{paths_of}
-use Rattle.record_dim.specs.Schemas.{schema_fields}
-use Rattle.expr_lang.specs.BindingLaws.{leaf_number_is}
+use Rattle.expr_lang.proofs.Imports.{◌∙◌, sym, paths_of, schema_fields, leaf_number_is}
 use Rattle.expr_lang.proofs.Unknown.{first-unknown_path}
 use Rattle.expr_lang.proofs.binding.unknown_path.Goals as goal
 

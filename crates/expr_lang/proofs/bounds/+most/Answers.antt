@@ -1,7 +1,4 @@
-use Rattle.std.proofs.Common.{arith, length, refl, ap}
-use Rattle.expr_lang.specs.declared.bound.Link.{Link}
-use Rattle.expr_lang.specs.Chains.{operand_term}
-use Rattle.expr_lang.specs.ChainLaws.{within_front, within_links, within_rest, no_deeper}
+use Rattle.expr_lang.proofs.Imports.{arith, length, refl, ap, Link, operand_term, within_front, within_links, within_rest, no_deeper}
 use Rattle.expr_lang.proofs.MostSoFar.{begun, more, ended}
 use Rattle.expr_lang.proofs.bounds.+most.Goals as goal
 

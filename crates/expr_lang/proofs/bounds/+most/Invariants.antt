@@ -1,6 +1,4 @@
-use Rattle.std.proofs.Common.{◌≤◌, ◌<◌, ◌^◌, length}
-use Rattle.expr_lang.specs.declared.bound.Links.{size-Links}
-use Rattle.expr_lang.specs.Chains.{chain_term, AreWithin}
+use Rattle.expr_lang.proofs.Imports.{◌≤◌, ◌<◌, ◌^◌, length, size-Links, chain_term, AreWithin}
 use Rattle.expr_lang.proofs.MostSoFar.{IsMostSoFar}
 use Rattle.expr_lang.proofs.bounds.+most.Given as goal
 

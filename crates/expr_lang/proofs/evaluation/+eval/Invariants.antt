@@ -1,8 +1,5 @@
 -- what the links that are left make of the value so far is the outcome of the chain
-use Rattle.std.proofs.Common.{◌≡◌, ◌≤◌, length, fold}
-use Rattle.expr_lang.specs.declared.bound.Links.{size-Links}
-use Rattle.expr_lang.specs.Values.{outcome_of}
-use Rattle.expr_lang.specs.Chains.{chain_term, links_outcome, AreWithin}
+use Rattle.expr_lang.proofs.Imports.{◌≡◌, ◌≤◌, length, fold, size-Links, outcome_of, chain_term, links_outcome, AreWithin}
 use Rattle.expr_lang.proofs.evaluation.+eval.Given as goal
 
 abbrev pub invariant-chain_value-loop-links : goal.invariant-chain_value-loop-links

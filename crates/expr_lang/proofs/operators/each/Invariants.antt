@@ -1,5 +1,4 @@
-use Rattle.std.proofs.Common.{◌≡◌, ℕ, ◌<◌, ◌≤◌, length, get_or, pos}
-use Rattle.expr_lang.specs.Exacts.{exact_by}
+use Rattle.expr_lang.proofs.Imports.{◌≡◌, ℕ, ◌<◌, ◌≤◌, length, get_or, pos, exact_by}
 use Rattle.expr_lang.proofs.operators.each.Given as goal
 
 abbrev pub invariant-loop-k : goal.invariant-loop-k

@@ -1,5 +1,4 @@
-use Rattle.std.proofs.Common.{◌≡◌, ℕ, ◌<◌, ◌≤◌, length, get_or, pos, not}
-use Rattle.expr_lang.specs.Values.{truth, is_true}
+use Rattle.expr_lang.proofs.Imports.{◌≡◌, ℕ, ◌<◌, ◌≤◌, length, get_or, pos, not, truth, is_true}
 use Rattle.expr_lang.proofs.operators.invert.Given as goal
 
 abbrev pub invariant-loop-k : goal.invariant-loop-k

@@ -1,4 +1,4 @@
-use Rattle.std.proofs.Common.{◌≡◌, ℕ, ◌<◌, ◌≤◌, length, get_or, pos, neg_ℤ}
+use Rattle.expr_lang.proofs.Imports.{◌≡◌, ℕ, ◌<◌, ◌≤◌, length, get_or, pos, neg_ℤ}
 use Rattle.expr_lang.proofs.operators.negate.Given as goal
 
 abbrev pub invariant-loop-k : goal.invariant-loop-k

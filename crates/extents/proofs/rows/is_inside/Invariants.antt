@@ -1,8 +1,4 @@
-use Rattle.std.proofs.Common.{◌≡◌, length}
-use Rattle.std.specs.Iterator.Adapters.{zip_first, zip_second}
-use Rattle.std.specs.Slice.Iter.{iter_rest}
-use Rattle.std.specs.Prelude.{◌↔◌}
-use Rattle.extents.specs.Indices.{IsInside}
+use Rattle.extents.proofs.Imports.{◌≡◌, length, zip_first, zip_second, iter_rest, ◌↔◌, IsInside}
 use Rattle.extents.proofs.rows.is_inside.Given as goal
 
 abbrev pub invariant-loop-component : goal.invariant-loop-component

@@ -1,5 +1,4 @@
-use Rattle.std.proofs.Common.{arith}
-use Rattle.extents.specs.WindowLaws.{same_rank}
+use Rattle.extents.proofs.Imports.{arith, same_rank}
 use Rattle.extents.proofs.window.is_window.Goals as goal
 
 pub returns-then-extents-spans : goal.returns-then-extents-spans

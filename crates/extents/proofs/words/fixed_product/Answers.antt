@@ -1,7 +1,4 @@
-use Rattle.std.proofs.Common.{◌<◌, ◌≤◌, ◌∙◌, ◌+◌, ◌*◌, length, arith}
-use Rattle.extents.specs.declared.words.ExtentWord.TheVariants.{Fixed}
-use Rattle.extents.specs.Shapes.{extent_of}
-use Rattle.extents.specs.ShapeLaws.{product_more, power_more, power_fits}
+use Rattle.extents.proofs.Imports.{◌<◌, ◌≤◌, ◌∙◌, ◌+◌, ◌*◌, length, arith, Fixed, extent_of, product_more, power_more, power_fits}
 use Rattle.extents.proofs.words.fixed_product.Goals as goal
 
 pub overflow_mul-product : goal.overflow_mul-product

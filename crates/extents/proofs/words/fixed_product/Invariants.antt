@@ -1,6 +1,4 @@
-use Rattle.std.proofs.Common.{◌≡◌, ◌≤◌, ◌^◌, map, take}
-use Rattle.extents.specs.Indices.{product}
-use Rattle.extents.specs.Shapes.{extent_of}
+use Rattle.extents.proofs.Imports.{◌≡◌, ◌≤◌, ◌^◌, map, take, product, extent_of}
 use Rattle.extents.proofs.words.fixed_product.Given as goal
 
 abbrev pub invariant-loop-word : goal.invariant-loop-word

@@ -1,11 +1,4 @@
-use Rattle.std.proofs.Common.{rules, arith, ◌≡◌, ◌<◌, ◌∙◌, ℕ, IsErr, length, sym, ap, subst, List, flat_map, take, ◌++◌, ◌+◌, Err, refl}
-use Rattle.std.specs.List.{enumerate_from}
-use Rattle.layout_io.specs.GatheringLaws.{Puts-loop_err, Puts-loop_ok, Puts-append}
-use Rattle.blobs.specs.Bits.{bits_of}
-use Rattle.layout_io.specs.Gathering.{Puts, HasPut}
-use Rattle.layout_io.specs.WritingLaws.{flat_map_push}
-use Rattle.layout_io.specs.declared.ends.Failed.{Failed}
-use Rattle.instrument.specs.BlobTexts.{bytes_of, byte_text}
+use Rattle.instrument.proofs.Imports.{rules, arith, ◌≡◌, ◌<◌, ◌∙◌, ℕ, IsErr, length, sym, ap, subst, List, flat_map, take, ◌++◌, ◌+◌, Err, refl, enumerate_from, Puts-loop_err, Puts-loop_ok, Puts-append, bits_of, Puts, HasPut, flat_map_push, Failed, bytes_of, byte_text}
 use Rattle.instrument.proofs.Entries.{byte_entry, entry_within, entries_over}
 use Rattle.instrument.proofs.bytes.put_bytes.Goals as goal
 

@@ -1,8 +1,4 @@
-use Rattle.std.proofs.Common.{take, flat_map}
-use Rattle.std.specs.List.{enumerate_from}
-use Rattle.blobs.specs.Bits.{bits_of}
-use Rattle.layout_io.specs.Gathering.{HasPut}
-use Rattle.instrument.specs.BlobTexts.{bytes_of, byte_text}
+use Rattle.instrument.proofs.Imports.{take, flat_map, enumerate_from, bits_of, HasPut, bytes_of, byte_text}
 use Rattle.instrument.proofs.bytes.put_bytes.Given as goal
 
 abbrev pub invariant-loop-at : goal.invariant-loop-at

@@ -1,4 +1,4 @@
-use Rattle.std.proofs.Common.{rules, tests, ◌≡◌, length}
+use Rattle.instrument.proofs.Imports.{rules, tests, ◌≡◌, length}
 use Rattle.instrument.proofs.Entries.{one_end}
 use Rattle.instrument.proofs.bytes.put_line_end.Goals as goal
 

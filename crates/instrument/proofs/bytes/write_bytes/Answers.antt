@@ -1,7 +1,4 @@
-use Rattle.std.proofs.Common.{rules, ◌≡◌, IsErr, Err, refl}
-use Rattle.layout_io.specs.GatheringLaws.{Writes-puts_err, Writes-puts, Puts-stop, Puts-append}
-use Rattle.layout_io.specs.declared.ends.Failed.{Failed}
-use Rattle.instrument.specs.BlobTexts.{bytes_text}
+use Rattle.instrument.proofs.Imports.{rules, ◌≡◌, IsErr, Err, refl, Writes-puts_err, Writes-puts, Puts-stop, Puts-append, Failed, bytes_text}
 use Rattle.instrument.proofs.bytes.write_bytes.Goals as goal
 
 pub returns-in_err-put_bytes : goal.returns-in_err-put_bytes

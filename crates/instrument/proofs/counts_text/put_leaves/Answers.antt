@@ -1,10 +1,4 @@
-use Rattle.std.proofs.Common.{rules, arith, ◌≡◌, ◌<◌, ◌≤◌, [], IsErr, length, get_or}
-use Rattle.std.proofs.lemmas.List.{length-map}
-use Rattle.std.proofs.lemmas.Option.{get_or_from_slice_get}
-use Rattle.record_dim.specs.Schemas.{schema_fields}
-use Rattle.record_dim.specs.Leaves.{texts_of}
-use Rattle.instrument.specs.Counters.{leaf_counts}
-use Rattle.instrument.specs.CounterTexts.{leaf_line}
+use Rattle.instrument.proofs.Imports.{rules, arith, ◌≡◌, ◌<◌, ◌≤◌, [], IsErr, length, get_or, length-map, get_or_from_slice_get, schema_fields, texts_of, leaf_counts, leaf_line}
 use Rattle.instrument.proofs.Numbered.{numbered-more, numbered-err, numbered-all}
 use Rattle.instrument.proofs.counts_text.put_leaves.Goals as goal
 

@@ -1,10 +1,4 @@
-use Rattle.std.proofs.Common.{take, flat_map}
-use Rattle.std.specs.List.{enumerate_from}
-use Rattle.record_dim.specs.Schemas.{schema_fields}
-use Rattle.record_dim.specs.Leaves.{texts_of}
-use Rattle.layout_io.specs.Gathering.{HasPut}
-use Rattle.instrument.specs.Counters.{leaf_counts}
-use Rattle.instrument.specs.CounterTexts.{leaf_line}
+use Rattle.instrument.proofs.Imports.{take, flat_map, enumerate_from, schema_fields, texts_of, HasPut, leaf_counts, leaf_line}
 use Rattle.instrument.proofs.counts_text.put_leaves.Given as goal
 
 abbrev pub invariant-loop-leaf : goal.invariant-loop-leaf

@@ -1,7 +1,4 @@
-use Rattle.std.proofs.Common.{rules, ◌≡◌, Err, refl}
-use Rattle.layout_io.specs.GatheringLaws.{Writes-puts_err, Writes-puts, Puts-append}
-use Rattle.layout_io.specs.declared.ends.Failed.{Failed}
-use Rattle.instrument.specs.CounterTexts.{counts_text}
+use Rattle.instrument.proofs.Imports.{rules, ◌≡◌, Err, refl, Writes-puts_err, Writes-puts, Puts-append, Failed, counts_text}
 use Rattle.instrument.proofs.counts_text.write_counts.Goals as goal
 
 pub returns-in_err-put_leaves : goal.returns-in_err-put_leaves

@@ -1,9 +1,4 @@
-use Rattle.std.proofs.Common.{arith, ◌≡◌, ◌+◌, ◌^◌, get_or, sym, ap, ◌∙◌}
-use Rattle.std.specs.Int.{div_ceil}
-use Rattle.std.proofs.lemmas.Bool.{lt-leb}
-use Rattle.std.proofs.lemmas.List.Sums.{sum_by_more, sum_by-take-le}
-use Rattle.instrument.specs.Counters.{granules_in, granules_of}
-use Rattle.instrument.specs.RoundingLaws.{rounded}
+use Rattle.instrument.proofs.Imports.{arith, ◌≡◌, ◌+◌, ◌^◌, get_or, sym, ap, ◌∙◌, div_ceil, lt-leb, sum_by_more, sum_by-take-le, granules_in, granules_of, rounded}
 use Rattle.instrument.proofs.granules.are_few.Goals as goal
 
 pub returns-then-granules-left : goal.returns-then-granules-left

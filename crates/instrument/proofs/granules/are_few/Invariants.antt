@@ -1,5 +1,4 @@
-use Rattle.std.proofs.Common.{◌≡◌, ◌+◌, ◌^◌, take}
-use Rattle.instrument.specs.Counters.{granules_in}
+use Rattle.instrument.proofs.Imports.{◌≡◌, ◌+◌, ◌^◌, take, granules_in}
 use Rattle.instrument.proofs.granules.are_few.Given as goal
 
 abbrev pub invariant-loop-bytes : goal.invariant-loop-bytes

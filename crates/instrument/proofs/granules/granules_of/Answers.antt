@@ -1,5 +1,4 @@
-use Rattle.std.proofs.Common.{arith, ◌+◌, ◌-◌, ◌*◌, ◌/◌, ◌%◌, ℕ, sym, subst}
-use Rattle.instrument.specs.Touching.{AreGranulesOf}
+use Rattle.instrument.proofs.Imports.{arith, ◌+◌, ◌-◌, ◌*◌, ◌/◌, ◌%◌, ℕ, sym, subst, AreGranulesOf}
 use Rattle.instrument.proofs.Touches.{granules_are, no_granules}
 use Rattle.instrument.proofs.granules.granules_of.Goals as goal
 

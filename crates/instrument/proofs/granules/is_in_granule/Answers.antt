@@ -1,6 +1,4 @@
-use Rattle.std.proofs.Common.{arith, ◌≡◌, ◌+◌, ◌*◌, Bool, true, nat_eq, nat_lt, nat_le, sym, ap, ◌∙◌}
-use Rattle.std.specs.Prelude.{min, max, ◌&&◌}
-use Rattle.std.proofs.lemmas.Bool.{le-leb, eq-eqb}
+use Rattle.instrument.proofs.Imports.{arith, ◌≡◌, ◌+◌, ◌*◌, Bool, true, nat_eq, nat_lt, nat_le, sym, ap, ◌∙◌, min, max, ◌&&◌, le-leb, eq-eqb}
 use Rattle.instrument.proofs.granules.is_in_granule.Goals as goal
 
 pub returns-then-first-number : goal.returns-then-first-number

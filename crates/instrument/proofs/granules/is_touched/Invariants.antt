@@ -1,5 +1,4 @@
-use Rattle.std.proofs.Common.{◌≡◌, false, take}
-use Rattle.places.specs.Touched.{is_touched}
+use Rattle.instrument.proofs.Imports.{◌≡◌, false, take, is_touched}
 use Rattle.instrument.proofs.granules.is_touched.Given as goal
 
 abbrev pub invariant-loop-piece : goal.invariant-loop-piece

@@ -1,6 +1,4 @@
-use Rattle.std.proofs.Common.{rules, arith, ◌<◌, ◌≤◌, [], IsErr, length, sym}
-use Rattle.instrument.specs.Counters.{heat_counts}
-use Rattle.instrument.specs.CounterTexts.{blob_lines}
+use Rattle.instrument.proofs.Imports.{rules, arith, ◌<◌, ◌≤◌, [], IsErr, length, sym, heat_counts, blob_lines}
 use Rattle.instrument.proofs.Numbered.{numbered-more, numbered-err, numbered-all}
 use Rattle.instrument.proofs.heat_text.put_blobs.Goals as goal
 

@@ -1,8 +1,4 @@
-use Rattle.std.proofs.Common.{take, flat_map}
-use Rattle.std.specs.List.{enumerate_from}
-use Rattle.layout_io.specs.Gathering.{HasPut}
-use Rattle.instrument.specs.Counters.{heat_counts}
-use Rattle.instrument.specs.CounterTexts.{blob_lines}
+use Rattle.instrument.proofs.Imports.{take, flat_map, enumerate_from, HasPut, heat_counts, blob_lines}
 use Rattle.instrument.proofs.heat_text.put_blobs.Given as goal
 
 abbrev pub invariant-loop-blob : goal.invariant-loop-blob

@@ -1,5 +1,4 @@
-use Rattle.std.proofs.Common.{rules, arith, IsErr, get_or, refl}
-use Rattle.instrument.specs.CounterTexts.{granule_line}
+use Rattle.instrument.proofs.Imports.{rules, arith, IsErr, get_or, refl, granule_line}
 use Rattle.instrument.proofs.Numbered.{numbered-more, numbered-err, numbered-all}
 use Rattle.instrument.proofs.heat_text.put_granules.Goals as goal
 

@@ -1,7 +1,4 @@
-use Rattle.std.proofs.Common.{take, flat_map}
-use Rattle.std.specs.List.{enumerate_from}
-use Rattle.layout_io.specs.Gathering.{HasPut}
-use Rattle.instrument.specs.CounterTexts.{granule_line}
+use Rattle.instrument.proofs.Imports.{take, flat_map, enumerate_from, HasPut, granule_line}
 use Rattle.instrument.proofs.heat_text.put_granules.Given as goal
 
 abbrev pub invariant-loop-granule : goal.invariant-loop-granule

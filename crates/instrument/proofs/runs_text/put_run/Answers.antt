@@ -1,10 +1,4 @@
-use Rattle.std.proofs.Common.{rules, ℕ, List, IsErr, subst}
-use Rattle.record_dim.specs.Schemas.{schema_fields}
-use Rattle.record_dim.specs.Leaves.{texts_of}
-use Rattle.layout_io.specs.Gathering.{Puts}
-use Rattle.layout_io.specs.GatheringLaws.{Puts-stop, Puts-append}
-use Rattle.layout_io.specs.declared.ends.Failed.{Failed}
-use Rattle.instrument.specs.CounterTexts.{line_of, owner_fields}
+use Rattle.instrument.proofs.Imports.{rules, ℕ, List, IsErr, subst, schema_fields, texts_of, Puts, Puts-stop, Puts-append, Failed, line_of, owner_fields}
 use Rattle.instrument.proofs.Lines.{run_parts}
 use Rattle.instrument.proofs.runs_text.put_run.Goals as goal
 

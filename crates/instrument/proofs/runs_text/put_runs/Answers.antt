@@ -1,10 +1,4 @@
-use Rattle.std.proofs.Common.{rules, IsErr}
-use Rattle.record_dim.specs.Schemas.{schema_fields}
-use Rattle.record_dim.specs.Leaves.{texts_of}
-use Rattle.layout_io.specs.GatheringLaws.{Puts-loop_err}
-use Rattle.instrument.specs.CounterTexts.{run_line}
-use Rattle.places.specs.declared.piece.Run.{Run}
-use Rattle.places.specs.declared.piece.RunOwner.TheVariants.{Pad}
+use Rattle.instrument.proofs.Imports.{rules, IsErr, schema_fields, texts_of, Puts-loop_err, run_line, Run, Pad}
 use Rattle.instrument.proofs.runs_text.put_runs.Goals as goal
 
 pub returns-in_err-put_run : goal.returns-in_err-put_run

@@ -1,8 +1,4 @@
-use Rattle.std.proofs.Common.{take, flat_map}
-use Rattle.record_dim.specs.Schemas.{schema_fields}
-use Rattle.record_dim.specs.Leaves.{texts_of}
-use Rattle.layout_io.specs.Gathering.{HasPut}
-use Rattle.instrument.specs.CounterTexts.{run_line}
+use Rattle.instrument.proofs.Imports.{take, flat_map, schema_fields, texts_of, HasPut, run_line}
 use Rattle.instrument.proofs.runs_text.put_runs.Given as goal
 
 abbrev pub invariant-loop-run : goal.invariant-loop-run

@@ -1,7 +1,4 @@
-use Rattle.std.proofs.Common.{rules, ◌≡◌, Err, refl}
-use Rattle.layout_io.specs.GatheringLaws.{Writes-puts_err, Writes-puts, Puts-append}
-use Rattle.layout_io.specs.declared.ends.Failed.{Failed}
-use Rattle.instrument.specs.CounterTexts.{runs_text}
+use Rattle.instrument.proofs.Imports.{rules, ◌≡◌, Err, refl, Writes-puts_err, Writes-puts, Puts-append, Failed, runs_text}
 use Rattle.instrument.proofs.runs_text.write_runs.Goals as goal
 
 pub returns-in_err-put_runs : goal.returns-in_err-put_runs

@@ -1,7 +1,4 @@
-use Rattle.std.proofs.Common.{rules, ◌≡◌, ◌+◌, ◌-◌, ◌*◌, Err, length, take, ℕ, List, ap, sym, ◌∙◌, arith, length-take}
-use Rattle.extents.specs.Indices.{indices}
-use Rattle.lane_kernels.specs.Blocks.{step_of, cost}
-use Rattle.lane_kernels.specs.Kernels.{row_cost}
+use Rattle.lane_kernels.proofs.Imports.{rules, ◌≡◌, ◌+◌, ◌-◌, ◌*◌, Err, length, take, ℕ, List, ap, sym, ◌∙◌, arith, length-take, indices, step_of, cost, row_cost}
 use Rattle.lane_kernels.proofs.Stepping.{IsStep, at_start, step_next, spent_more, spent_most}
 use Rattle.lane_kernels.proofs.Whole.{none_done, none_run, seen_number, seen_rows, more_done, stops, ends}
 use Rattle.lane_kernels.proofs.plain.run_rows.Given as given

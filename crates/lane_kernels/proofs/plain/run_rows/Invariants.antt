@@ -1,7 +1,4 @@
-use Rattle.std.proofs.Common.{◌≡◌, ◌+◌, ◌-◌, ◌*◌, ◌≤◌, false, length}
-use Rattle.lane_kernels.specs.Blocks.{IsAt, cost}
-use Rattle.lane_kernels.specs.Kernels.{row_cost}
-use Rattle.lane_kernels.specs.Runs.{AreDone}
+use Rattle.lane_kernels.proofs.Imports.{◌≡◌, ◌+◌, ◌-◌, ◌*◌, ◌≤◌, false, length, IsAt, cost, row_cost, AreDone}
 use Rattle.lane_kernels.proofs.plain.run_rows.Given as goal
 
 abbrev pub invariant-loop-row : goal.invariant-loop-row

@@ -1,5 +1,4 @@
-use Rattle.std.proofs.Common.{◌≡◌, map, take}
-use Rattle.views.specs.Runs.{raised}
+use Rattle.lane_kernels.proofs.Imports.{◌≡◌, map, take, raised}
 use Rattle.lane_kernels.proofs.reduce.raise.Given as goal
 
 abbrev pub invariant-loop-at : goal.invariant-loop-at

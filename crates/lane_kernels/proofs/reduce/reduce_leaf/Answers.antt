@@ -1,19 +1,4 @@
-use Rattle.std.proofs.Common.{◌≡◌, ℕ, ℤ, List, [], Some, None, FitsSigned, length, take, map, min, ◌+◌, ◌-◌, refl, sym, ap, subst, ◌∙◌, arith, length-take}
-use Rattle.std.specs.Int.{w128}
-use Rattle.std.specs.List.{slice_get}
-use Rattle.std.proofs.lemmas.Grind.{common_steps}
-use Rattle.std.proofs.lemmas.Option.{get_or_from_slice_get}
-use Rattle.extents.specs.Indices.{indices}
-use Rattle.record_dim.specs.declared.leaf_type.LeafType.{LeafType}
-use Rattle.record_dim.specs.declared.leaf_type.LeafType.TheVariants.{Bool as Truth}
-use Rattle.record_dim.specs.Leaves.{kinds_of}
-use Rattle.record_dim.specs.LeafTypes.{width_of}
-use Rattle.record_dim.specs.Trees.{Fields}
-use Rattle.piece_bits.specs.Lows.{low_64}
-use Rattle.views.specs.Columns.{column, column_reads}
-use Rattle.views.specs.Runs.{raised, run_of, run_steps}
-use Rattle.views.specs.Tables.{Table, leaf_type_of, leaf_types_of, after_log}
-use Rattle.lane_kernels.specs.Reductions.{with_more, CanAdd}
+use Rattle.lane_kernels.proofs.Imports.{◌≡◌, ℕ, ℤ, List, [], Some, None, FitsSigned, length, take, map, min, ◌+◌, ◌-◌, refl, sym, ap, subst, ◌∙◌, arith, length-take, w128, slice_get, common_steps, get_or_from_slice_get, indices, LeafType, Truth, kinds_of, width_of, Fields, low_64, column, column_reads, raised, run_of, run_steps, Table, leaf_type_of, leaf_types_of, after_log, with_more, CanAdd}
 use Rattle.lane_kernels.proofs.LeafRuns.{run_raised, run_narrow, column_sum_fits, none_reduced, more_reduced, spent_more}
 use Rattle.lane_kernels.proofs.Reductions.{none_before, plain_more, run_can_add}
 use Rattle.lane_kernels.proofs.reduce.reduce_leaf.Given as given

@@ -1,6 +1,4 @@
-use Rattle.std.proofs.Common.{◌≡◌, ◌+◌, ◌-◌, ◌≤◌, length}
-use Rattle.views.specs.Runs.{run_steps}
-use Rattle.views.specs.Tables.{leaf_type_of}
+use Rattle.lane_kernels.proofs.Imports.{◌≡◌, ◌+◌, ◌-◌, ◌≤◌, length, run_steps, leaf_type_of}
 use Rattle.lane_kernels.proofs.LeafRuns.{AreReduced}
 use Rattle.lane_kernels.proofs.reduce.reduce_leaf.Given as goal
 

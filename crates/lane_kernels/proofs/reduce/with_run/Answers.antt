@@ -1,8 +1,4 @@
-use Rattle.std.proofs.Common.{rules, ◌≡◌, ℤ, [], ◌∷◌, Some, None, FitsSigned, to_z, of_z, w64, map, sym, ap, subst, ◌∙◌, arith}
-use Rattle.std.specs.Int.{w128}
-use Rattle.std.proofs.lemmas.Int.{to_z-of_z}
-use Rattle.views.specs.Runs.{raised}
-use Rattle.lane_kernels.specs.Reductions.{reduced_by, with_more, CanAdd}
+use Rattle.lane_kernels.proofs.Imports.{rules, ◌≡◌, ℤ, [], ◌∷◌, Some, None, FitsSigned, to_z, of_z, w64, map, sym, ap, subst, ◌∙◌, arith, w128, to_z-of_z, raised, reduced_by, with_more, CanAdd}
 use Rattle.lane_kernels.proofs.LeafRuns.{narrow_raised}
 use Rattle.lane_kernels.proofs.Reductions.{none_before, plain_more, joined, narrow_can_add, joined_can_add}
 use Rattle.lane_kernels.proofs.reduce.with_run.Goals as goal

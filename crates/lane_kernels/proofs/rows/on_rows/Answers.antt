@@ -1,15 +1,4 @@
-use Rattle.std.proofs.Common.{rules, ◌≡◌, ◌*ℤ◌, ◌+ℤ◌, ℤ, pos, Some, length, take, drop, map, to_z, of_z, w64, SFits, refl, sym, ap, subst, ◌∙◌}
-use Rattle.std.specs.Int.{int_min, int_max}
-use Rattle.std.specs.List.{count_by}
-use Rattle.std.specs.Option.{unwrap_or}
-use Rattle.std.specs.Simd.Lanes.{Each1, zip2}
-use Rattle.std.proofs.lemmas.Int.{to_z-of_z}
-use Rattle.std.proofs.lemmas.List.{map-id}
-use Rattle.piece_bits.specs.NarrowLaws.{products_fit}
-use Rattle.views.specs.Columns.{column}
-use Rattle.lane_kernels.specs.Kernels.{IsNarrow, compares}
-use Rattle.lane_kernels.specs.Runs.{fault_in, AreNext}
-use Rattle.lane_kernels.specs.declared.kernel.Kernel.TheVariants.{Sum, Least, Greatest, CountWhere}
+use Rattle.lane_kernels.proofs.Imports.{rules, ◌≡◌, ◌*ℤ◌, ◌+ℤ◌, ℤ, pos, Some, length, take, drop, map, to_z, of_z, w64, SFits, refl, sym, ap, subst, ◌∙◌, int_min, int_max, count_by, unwrap_or, Each1, zip2, to_z-of_z, map-id, products_fit, column, IsNarrow, compares, fault_in, AreNext, Sum, Least, Greatest, CountWhere}
 use Rattle.lane_kernels.specs.declared.reduce.Reduction.TheVariants as form
 use Rattle.lane_kernels.proofs.Numbers.{narrow_rows, reduced_more, narrow_sums_fit, count_more, count_fits, count_whole}
 use Rattle.lane_kernels.proofs.Stores.{axpy_taken, clamp_taken, rows_read_alone}

@@ -1,6 +1,4 @@
-use Rattle.std.proofs.Common.{sym, arith}
-use Rattle.views.specs.Columns.{first_lane_fault}
-use Rattle.views.specs.Tables.{answer_of}
+use Rattle.lane_kernels.proofs.Imports.{sym, arith, first_lane_fault, answer_of}
 use Rattle.lane_kernels.proofs.Faults.{lane_inside, told_some}
 use Rattle.lane_kernels.proofs.rows.store_rows.Goals as goal
 

@@ -1,5 +1,4 @@
-use Rattle.std.proofs.Common.{◌∙◌, rules, arith}
-use Rattle.layout_cli.specs.Generated.{dataset_text}
+use Rattle.layout_cli.proofs.Imports.{◌∙◌, rules, arith, dataset_text}
 use Rattle.layout_cli.proofs.Texts.{row_put}
 use Rattle.layout_cli.proofs.dataset.gen_dataset.Goals as goal
 

@@ -1,5 +1,4 @@
-use Rattle.std.proofs.Common.{◌≡◌, ◌∙◌, pos, neg_ℤ, rules, arith}
-use Rattle.layout_io.specs.Decimal.{decimal_text}
+use Rattle.layout_cli.proofs.Imports.{◌≡◌, ◌∙◌, pos, neg_ℤ, rules, arith, decimal_text}
 use Rattle.layout_cli.proofs.Negated.{negated}
 use Rattle.layout_cli.proofs.dataset.push_negated.Goals as goal
 

@@ -1,6 +1,4 @@
-use Rattle.std.proofs.Common.{◌≡◌, ◌++◌, ◌*◌, List, ℕ, pos, neg_ℤ, drop, codes, ap, ◌∙◌, refl, ◌%◌, ◌-◌}
-use Rattle.layout_io.specs.Decimal.{decimal_text}
-use Rattle.layout_cli.specs.Generated.{row_values, row_text}
+use Rattle.layout_cli.proofs.Imports.{◌≡◌, ◌++◌, ◌*◌, List, ℕ, pos, neg_ℤ, drop, codes, ap, ◌∙◌, refl, ◌%◌, ◌-◌, decimal_text, row_values, row_text}
 use Rattle.layout_cli.proofs.Texts.{value_more, grown_row_is}
 use Rattle.layout_cli.proofs.dataset.push_row.Goals as goal
 

@@ -1,4 +1,4 @@
-use Rattle.session_runs.specs.Steps.{step_text}
+use Rattle.layout_cli.proofs.Imports.{step_text}
 use Rattle.layout_cli.proofs.Equals.{text_does}
 use Rattle.layout_cli.proofs.laws.printed_entries.Goals as goal
 

@@ -1,5 +1,4 @@
-use Rattle.std.proofs.Common.{◌≡◌, Some, map, string_bytes, option_map, ⊎_elim, ap, sym, ◌∙◌}
-use Rattle.layout_cli.specs.Run.{script_name}
+use Rattle.layout_cli.proofs.Imports.{◌≡◌, Some, map, string_bytes, option_map, ⊎_elim, ap, sym, ◌∙◌, script_name}
 use Rattle.layout_cli.proofs.Generated.{file_run}
 use Rattle.layout_cli.proofs.Runs.{cause_of_form}
 use Rattle.layout_cli.proofs.llama.llama.Goals as goal

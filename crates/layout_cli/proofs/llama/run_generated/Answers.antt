@@ -1,5 +1,4 @@
-use Rattle.std.proofs.Common.{◌≡◌, Some, ap, ◌∙◌, arith}
-use Rattle.layout_cli.specs.Generated.{script_text, dataset_text, generated_files}
+use Rattle.layout_cli.proofs.Imports.{◌≡◌, Some, ap, ◌∙◌, arith, script_text, dataset_text, generated_files}
 use Rattle.layout_cli.proofs.Runs.{run_starved}
 use Rattle.layout_cli.proofs.Generated.{generated_run, generated_cause}
 use Rattle.layout_cli.proofs.llama.run_generated.Goals as goal

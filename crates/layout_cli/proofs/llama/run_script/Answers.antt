@@ -1,7 +1,4 @@
-use Rattle.std.proofs.Common.{ℕ, ◌∙◌, subst}
-use Rattle.layout_io.specs.Faults.{Rose}
-use Rattle.layout_cli.specs.Run.{run_file}
-use Rattle.worlds.specs.RunAnswers.{IsRun}
+use Rattle.layout_cli.proofs.Imports.{ℕ, ◌∙◌, subst, Rose, run_file, IsRun}
 use Rattle.layout_cli.proofs.Runs.{run_starved, file_read, run_read}
 use Rattle.layout_cli.proofs.llama.run_script.Goals as goal
 

@@ -1,5 +1,4 @@
-use Rattle.std.proofs.Common.{◌≡◌, ◌∙◌, sym, true, ap}
-use Rattle.layout_cli.specs.Numbers.{is_number_word}
+use Rattle.layout_cli.proofs.Imports.{◌≡◌, ◌∙◌, sym, true, ap, is_number_word}
 use Rattle.layout_cli.proofs.Words.{word_is, number_is, number_none}
 use Rattle.layout_cli.proofs.number.gen_number.Goals as goal
 

@@ -1,6 +1,4 @@
-use Rattle.std.proofs.Common.{◌≡◌, ◌∙◌, arith, rules, tests}
-use Rattle.layout_io.specs.Decimal.{digits_text}
-use Rattle.layout_io.specs.DecimalLaws.{decimal-digits_text}
+use Rattle.layout_cli.proofs.Imports.{◌≡◌, ◌∙◌, arith, rules, tests, digits_text, decimal-digits_text}
 use Rattle.layout_cli.proofs.number.is_number_word.Goals as goal
 
 pub returns-then-n-le-MAX_ROWS : goal.returns-then-n-le-MAX_ROWS

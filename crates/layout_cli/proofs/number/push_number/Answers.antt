@@ -1,6 +1,4 @@
-use Rattle.std.proofs.Common.{◌≡◌, ◌∙◌, arith, rules}
-use Rattle.layout_io.specs.Decimal.{digits_text}
-use Rattle.layout_io.specs.DecimalLaws.{decimal-digits_text}
+use Rattle.layout_cli.proofs.Imports.{◌≡◌, ◌∙◌, arith, rules, digits_text, decimal-digits_text}
 use Rattle.layout_cli.proofs.number.push_number.Goals as goal
 
 pub returns : goal.returns

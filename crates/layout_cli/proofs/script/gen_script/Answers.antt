@@ -1,5 +1,4 @@
-use Rattle.std.proofs.Common.{◌++◌, map, flat_map, [], ◌∷◌, take, drop, ◌∙◌}
-use Rattle.layout_cli.specs.Generated.{script_text, ended, generated_lines}
+use Rattle.layout_cli.proofs.Imports.{◌++◌, map, flat_map, [], ◌∷◌, take, drop, ◌∙◌, script_text, ended, generated_lines}
 use Rattle.layout_cli.proofs.Texts.{more, grown_is}
 use Rattle.layout_cli.proofs.script.gen_script.Goals as goal
 

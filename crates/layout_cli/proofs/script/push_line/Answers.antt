@@ -1,5 +1,4 @@
-use Rattle.std.proofs.Common.{rules}
-use Rattle.layout_io.specs.Decimal.{digits_text}
+use Rattle.layout_cli.proofs.Imports.{rules, digits_text}
 use Rattle.layout_cli.proofs.Texts.{line_put}
 use Rattle.layout_cli.proofs.script.push_line.Goals as goal
 

@@ -1,10 +1,5 @@
-use Rattle.std.proofs.Common.{rules, ◌∙◌, sym, subst}
-use Rattle.map_any.specs.declared.strategy.Strategy.{Strategy}
+use Rattle.layout_copy.proofs.Imports.{rules, ◌∙◌, sym, subst, Strategy, Table, after_log-none, AreAlike, IsWay}
 use Rattle.map_any.specs.declared.strategy.Strategy.TheVariants as way
-use Rattle.views.specs.Tables.{Table}
-use Rattle.views.specs.TallyLaws.{after_log-none}
-use Rattle.layout_copy.specs.Copies.{AreAlike}
-use Rattle.layout_copy.specs.Costs.{IsWay}
 use Rattle.layout_copy.proofs.WayLaws.{moved_way}
 use Rattle.layout_copy.proofs.Whole.{fields_steps, blobs_copied, runs_copied, runs_back}
 use Rattle.layout_copy.proofs.copies.copy.Goals as goal

@@ -1,8 +1,4 @@
-use Rattle.std.proofs.Common.{rules, arith, ◌≡◌, ◌<◌, ◌∙◌, ◌+◌, ℕ, List, length, refl, ap, sym}
-use Rattle.extents.specs.Indices.{indices}
-use Rattle.views.specs.Tables.{leaf_count_of}
-use Rattle.views.specs.TallyLaws.{after_log-none}
-use Rattle.views.specs.Tallies.{Read, row_accesses}
+use Rattle.layout_copy.proofs.Imports.{rules, arith, ◌≡◌, ◌<◌, ◌∙◌, ◌+◌, ℕ, List, length, refl, ap, sym, indices, leaf_count_of, after_log-none, Read, row_accesses}
 use Rattle.layout_copy.proofs.Rows.{reads_after, row_read, none_copied, row_copied, row_refused, steps_more}
 use Rattle.layout_copy.proofs.Whole.{rows_copied}
 use Rattle.layout_copy.proofs.fieldwise.copy_fields.Goals as goal

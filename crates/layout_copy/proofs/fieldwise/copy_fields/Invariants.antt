@@ -1,6 +1,4 @@
-use Rattle.std.proofs.Common.{◌≡◌, ◌+◌, ◌*◌, ◌≤◌, length}
-use Rattle.views.specs.Tables.{leaf_count_of, after_log}
-use Rattle.views.specs.Tallies.{Read, all_accesses}
+use Rattle.layout_copy.proofs.Imports.{◌≡◌, ◌+◌, ◌*◌, ◌≤◌, length, leaf_count_of, after_log, Read, all_accesses}
 use Rattle.layout_copy.proofs.Rows.{AreCopied}
 use Rattle.layout_copy.proofs.fieldwise.copy_fields.Given as goal
 

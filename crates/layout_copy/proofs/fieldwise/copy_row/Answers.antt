@@ -1,6 +1,4 @@
-use Rattle.std.proofs.Common.{◌≡◌, ◌+◌, ◌<◌, ◌∙◌, ℕ, ℤ, pos, true, List, [], None, is_ok, length, get_or, subst, sym, ap, arith}
-use Rattle.views.specs.Tables.{answer_of}
-use Rattle.layout_copy.specs.Copies.{refusing}
+use Rattle.layout_copy.proofs.Imports.{◌≡◌, ◌+◌, ◌<◌, ◌∙◌, ℕ, ℤ, pos, true, List, [], None, is_ok, length, get_or, subst, sym, ap, arith, answer_of, refusing}
 use Rattle.layout_copy.proofs.Rows.{each_taken}
 use Rattle.layout_copy.proofs.fieldwise.copy_row.Goals as goal
 

@@ -1,11 +1,5 @@
-use Rattle.std.proofs.Common.{rules, arith, ◌≡◌, ◌∙◌, [], get_or, pos, is_ok, true, false, Result, FitsSigned, refl, sym, ap}
-use Rattle.std.specs.Int.{w128}
-use Rattle.std.proofs.lemmas.Int.{to_z-of_z}
-use Rattle.views.specs.AnswerLaws.{told_same}
-use Rattle.views.specs.Stores.{told}
-use Rattle.views.specs.declared.fault.StoreFault.{StoreFault}
-use Rattle.views.specs.Tables.{answer_of}
-use Rattle.views.specs.TallyLaws.{after_log-none}
+use Rattle.layout_copy.proofs.Imports.{rules, arith, ◌≡◌, ◌∙◌, [], get_or, pos, is_ok, true, false, FitsSigned, refl, sym, ap, w128, to_z-of_z, told_same, told, StoreFault, answer_of, after_log-none}
+use Rattle.std.proofs.Common.{Result}
 use Rattle.layout_copy.proofs.Rows.{leaf_read, leaf_refused, read_more}
 use Rattle.layout_copy.proofs.fieldwise.read_row.Goals as goal
 

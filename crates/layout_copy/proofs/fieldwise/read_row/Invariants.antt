@@ -1,6 +1,4 @@
-use Rattle.std.proofs.Common.{◌≡◌, ◌+◌, ◌≤◌, [], get_or}
-use Rattle.views.specs.Tables.{answer_of, after_log}
-use Rattle.views.specs.Tallies.{Read, row_accesses}
+use Rattle.layout_copy.proofs.Imports.{◌≡◌, ◌+◌, ◌≤◌, [], get_or, answer_of, after_log, Read, row_accesses}
 use Rattle.layout_copy.proofs.Rows.{AreRead}
 use Rattle.layout_copy.proofs.fieldwise.read_row.Given as goal
 

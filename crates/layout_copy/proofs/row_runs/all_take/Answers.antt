@@ -1,6 +1,4 @@
-use Rattle.std.proofs.Common.{arith, ◌≡◌, ◌<◌, ◌≤◌, ⊎_elim, ℕ, refl, subst}
-use Rattle.std.proofs.lemmas.Bool.{cases_lt}
-use Rattle.views.specs.Runs.{TakesAll}
+use Rattle.layout_copy.proofs.Imports.{arith, ◌≡◌, ◌<◌, ◌≤◌, ⊎_elim, ℕ, refl, subst, cases_lt, TakesAll}
 use Rattle.layout_copy.proofs.row_runs.all_take.Goals as goal
 
 pub loop-leaf-preserved : goal.loop-leaf-preserved

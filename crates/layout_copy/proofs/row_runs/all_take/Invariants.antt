@@ -1,6 +1,5 @@
 -- the leaves so far take each value of their types
-use Rattle.std.proofs.Common.{ℕ, ◌<◌}
-use Rattle.views.specs.Runs.{TakesAll}
+use Rattle.layout_copy.proofs.Imports.{ℕ, ◌<◌, TakesAll}
 use Rattle.layout_copy.proofs.row_runs.all_take.Given as goal
 
 abbrev pub invariant-loop-leaf : goal.invariant-loop-leaf

@@ -1,13 +1,5 @@
-use Rattle.std.proofs.Common.{rules, ◌≡◌, ◌+◌, ◌<◌, ◌∙◌, ℕ, ℤ, List, length, get_or, [], take, drop, refl, sym, ap, subst, arith}
-use Rattle.record_dim.specs.Leaves.{kinds_of}
-use Rattle.record_dim.specs.Trees.{Fields}
-use Rattle.views.specs.Columns.{column, column_reads, column_writes, with_column}
-use Rattle.views.specs.MovesLaws.{with_rows}
-use Rattle.views.specs.Runs.{run_of, run_steps, AreRowsMoved, TakesAll}
-use Rattle.views.specs.RunsLaws.{no_leaf_moved, leaf_moved, stores_quiet, steps_few}
-use Rattle.views.specs.Stores.{kind_at}
-use Rattle.views.specs.Tables.{Table, leaf_count_of, leaf_type_of, after_log}
-use Rattle.layout_copy.specs.Copies.{AreAlike}
+use Rattle.layout_copy.proofs.Imports.{rules, ◌≡◌, ◌+◌, ◌<◌, ◌∙◌, ℕ, ℤ, List, length, get_or, [], take, drop, refl, sym, ap, subst, arith, kinds_of, Fields, column, column_reads, column_writes, with_column, with_rows, run_of, AreRowsMoved, TakesAll, no_leaf_moved, leaf_moved, stores_quiet, steps_few, kind_at, Table, leaf_count_of, leaf_type_of, after_log, AreAlike}
+use Rattle.views.specs.Runs.{run_steps}
 use Rattle.layout_copy.proofs.RowRuns.{alike_after, same_rows, leaf_steps}
 use Rattle.layout_copy.proofs.row_runs.copy_leaves.Goals as goal
 use Rattle.layout_copy.proofs.row_runs.copy_leaves.Goals.{After-laws_of_table-in-loop-leaf}

@@ -1,7 +1,5 @@
 -- the leaves so far are copied
-use Rattle.std.proofs.Common.{◌≡◌, ◌+◌, ◌*◌, ◌≤◌, length}
-use Rattle.views.specs.MovesLaws.{with_rows}
-use Rattle.views.specs.Runs.{AreRowsMoved}
+use Rattle.layout_copy.proofs.Imports.{◌≡◌, ◌+◌, ◌*◌, ◌≤◌, length, with_rows, AreRowsMoved}
 use Rattle.layout_copy.proofs.row_runs.copy_leaves.Given as goal
 
 abbrev pub invariant-loop-leaf : goal.invariant-loop-leaf

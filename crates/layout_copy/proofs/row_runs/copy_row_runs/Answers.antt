@@ -1,8 +1,4 @@
-use Rattle.std.proofs.Common.{◌≡◌, ◌∙◌, ℕ, List, length, sym, ap, subst, arith}
-use Rattle.extents.specs.Indices.{indices}
-use Rattle.views.specs.Runs.{CountsNothing}
-use Rattle.views.specs.RunsLaws.{nothing_after}
-use Rattle.layout_copy.specs.RowRuns.{AllTake}
+use Rattle.layout_copy.proofs.Imports.{◌≡◌, ◌∙◌, ℕ, List, length, sym, ap, subst, arith, indices, CountsNothing, nothing_after, AllTake}
 use Rattle.layout_copy.proofs.RowRuns.{alike_after, all_before}
 use Rattle.layout_copy.proofs.row_runs.copy_row_runs.Goals as goal
 

@@ -1,8 +1,5 @@
 -- the rows so far are copied
-use Rattle.std.proofs.Common.{◌≡◌, ◌+◌, ◌-◌, ◌*◌, ◌≤◌, length}
-use Rattle.views.specs.MovesLaws.{with_rows}
-use Rattle.views.specs.Tables.{leaf_count_of}
-use Rattle.views.specs.RunsLaws.{AreBefore}
+use Rattle.layout_copy.proofs.Imports.{◌≡◌, ◌+◌, ◌-◌, ◌*◌, ◌≤◌, length, with_rows, leaf_count_of, AreBefore}
 use Rattle.layout_copy.proofs.row_runs.copy_row_runs.Given as goal
 
 abbrev pub invariant-loop-first : goal.invariant-loop-first

@@ -1,11 +1,4 @@
-use Rattle.std.proofs.Common.{rules, ◌≡◌, ◌<◌, ℕ, length, ap, arith}
-use Rattle.std.proofs.lemmas.List.{length-map}
-use Rattle.record_dim.specs.Leaves.{leaves}
-use Rattle.map_checks.specs.Arrays.{array_of}
-use Rattle.views.specs.Moves.{size_of}
-use Rattle.views.specs.MovesLaws.{rows_after}
-use Rattle.views.specs.Pieces.{move_steps}
-use Rattle.views.specs.Tables.{Table, leaf_count_of, leaf_types_of, leaf_type_of}
+use Rattle.layout_copy.proofs.Imports.{rules, ◌≡◌, ◌<◌, ℕ, length, ap, arith, length-map, leaves, array_of, size_of, rows_after, move_steps, Table, leaf_count_of, leaf_types_of, leaf_type_of}
 use Rattle.layout_copy.proofs.CostLaws.{leaf_sum}
 use Rattle.layout_copy.proofs.Pieces.{leaf_moved}
 use Rattle.layout_copy.proofs.runs.copy_round.Goals as goal

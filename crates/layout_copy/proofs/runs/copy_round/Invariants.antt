@@ -1,9 +1,4 @@
-use Rattle.std.proofs.Common.{◌≡◌, ◌+◌, ◌≤◌, take}
-use Rattle.map_checks.specs.Arrays.{array_of}
-use Rattle.views.specs.MovesLaws.{with_rows}
-use Rattle.views.specs.Tables.{leaf_count_of}
-use Rattle.layout_copy.specs.Costs.{leaf_sizes, round_steps}
-use Rattle.layout_copy.specs.Runs.{order_by, IsPieceMoved}
+use Rattle.layout_copy.proofs.Imports.{◌≡◌, ◌+◌, ◌≤◌, take, array_of, with_rows, leaf_count_of, leaf_sizes, round_steps, order_by, IsPieceMoved}
 use Rattle.layout_copy.proofs.runs.copy_round.Given as goal
 
 -- the leaves so far were moved

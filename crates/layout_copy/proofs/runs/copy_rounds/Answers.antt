@@ -1,12 +1,4 @@
-use Rattle.std.proofs.Common.{◌≡◌, ◌≤◌, ℕ, List, ap, sym, subst, arith}
-use Rattle.linearize.specs.Slots.{slot_count}
-use Rattle.views.specs.CutLaws.{same_slots}
-use Rattle.views.specs.MovesLaws.{rows_after}
-use Rattle.views.specs.Pieces.{HasSlots}
-use Rattle.views.specs.Tables.{Table}
-use Rattle.layout_copy.specs.Costs.{leaf_sizes, round_steps, steps_before}
-use Rattle.layout_copy.specs.Runs.{order_by}
-use Rattle.map_checks.specs.Arrays.{array_of}
+use Rattle.layout_copy.proofs.Imports.{◌≡◌, ◌≤◌, ℕ, List, ap, sym, subst, arith, slot_count, same_slots, rows_after, HasSlots, Table, leaf_sizes, round_steps, steps_before, order_by, array_of}
 use Rattle.layout_copy.proofs.CostLaws.{cut_at, round_counted}
 use Rattle.layout_copy.proofs.Pieces.{piece_moved, all_below, order_slots, has_slots, all_steps, steps_of_round}
 use Rattle.layout_copy.proofs.runs.copy_rounds.Goals as goal

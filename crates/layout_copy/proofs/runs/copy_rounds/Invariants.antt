@@ -1,9 +1,4 @@
-use Rattle.std.proofs.Common.{◌≡◌, ◌+◌, ◌-◌, ◌%◌, ◌<◌, ◌≤◌}
-use Rattle.std.specs.Prelude.{min}
-use Rattle.views.specs.MovesLaws.{with_rows}
-use Rattle.views.specs.Tables.{leaf_count_of}
-use Rattle.layout_copy.specs.Costs.{leaf_sizes, steps_before}
-use Rattle.layout_copy.specs.Runs.{order_by}
+use Rattle.layout_copy.proofs.Imports.{◌≡◌, ◌+◌, ◌-◌, ◌%◌, ◌<◌, ◌≤◌, min, with_rows, leaf_count_of, leaf_sizes, steps_before, order_by}
 use Rattle.layout_copy.proofs.Pieces.{AreBelow}
 use Rattle.layout_copy.proofs.runs.copy_rounds.Given as goal
 

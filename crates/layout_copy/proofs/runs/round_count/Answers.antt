@@ -1,5 +1,4 @@
-use Rattle.std.proofs.Common.{◌≡◌, ◌∙◌, ◌+◌, ◌*◌, ◌%◌, ℕ, ap, arith}
-use Rattle.std.specs.Prelude.{min}
+use Rattle.layout_copy.proofs.Imports.{◌≡◌, ◌∙◌, ◌+◌, ◌*◌, ◌%◌, ℕ, ap, arith, min}
 use Rattle.layout_copy.proofs.CostLaws.{multiple_on}
 use Rattle.layout_copy.proofs.runs.round_count.Goals as goal
 

@@ -1,16 +1,4 @@
-use Rattle.std.proofs.Common.{rules, arith, ◌≡◌, ◌<◌, ◌≤◌, ◌∙◌, ⊎_elim, ℕ, List, length, Some, sym, ap, subst}
-use Rattle.std.specs.Prelude.{slice_get}
-use Rattle.std.proofs.lemmas.Bool.{cases_lt}
-use Rattle.std.proofs.lemmas.List.{length-map}
-use Rattle.record_dim.specs.Leaves.{Leaf, leaves, kinds_of}
-use Rattle.record_dim.specs.Trees.{Fields}
-use Rattle.places.specs.declared.piece.Cell.{Cell}
-use Rattle.places.specs.declared.piece.Hold.{Hold}
-use Rattle.piece_bits.specs.Tables.{hold_at}
-use Rattle.map_any.specs.AnyLaws.{length-leaf_cells}
-use Rattle.views.specs.Moves.{IsOwn}
-use Rattle.views.specs.Stores.{kind_at}
-use Rattle.views.specs.Tables.{leaf_types_of, table_holds}
+use Rattle.layout_copy.proofs.Imports.{rules, arith, ◌≡◌, ◌<◌, ◌≤◌, ◌∙◌, ⊎_elim, ℕ, List, length, Some, sym, ap, subst, slice_get, cases_lt, length-map, Leaf, leaves, kinds_of, Fields, Cell, Hold, hold_at, length-leaf_cells, IsOwn, kind_at, leaf_types_of, table_holds}
 use Rattle.layout_copy.proofs.WayLaws.{own_read, read_own}
 use Rattle.layout_copy.proofs.ways.has_own_holds.Goals as goal
 use Rattle.layout_copy.proofs.ways.has_own_holds.Goals.{After-of}

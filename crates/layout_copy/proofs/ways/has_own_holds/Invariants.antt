@@ -1,9 +1,5 @@
 -- the leaves so far are stored as their types are
-use Rattle.std.proofs.Common.{ℕ, ◌<◌}
-use Rattle.piece_bits.specs.Tables.{hold_at}
-use Rattle.views.specs.Moves.{IsOwn}
-use Rattle.views.specs.Stores.{kind_at}
-use Rattle.views.specs.Tables.{leaf_types_of, table_holds}
+use Rattle.layout_copy.proofs.Imports.{ℕ, ◌<◌, hold_at, IsOwn, kind_at, leaf_types_of, table_holds}
 use Rattle.layout_copy.proofs.ways.has_own_holds.Given as goal
 
 abbrev pub invariant-loop-leaf : goal.invariant-loop-leaf

@@ -1,8 +1,5 @@
 -- what is read on gives the whole list
-use Rattle.std.proofs.Common.{◌≡◌, ◌<◌, length}
-use Rattle.phrases.specs.Reading.{item_at}
-use Rattle.line_grammar.specs.Tokens.{count_of}
-use Rattle.line_phrases.specs.Lists.{rest_at, listed_at}
+use Rattle.line_phrases.proofs.Imports.{◌≡◌, ◌<◌, length, item_at, count_of, rest_at, listed_at}
 use Rattle.line_phrases.proofs.brackets.read_counts.Given as goal
 
 abbrev pub invariant-loop-tokens : goal.invariant-loop-tokens

@@ -1,6 +1,5 @@
 -- what is read on gives the whole list
-use Rattle.std.proofs.Common.{◌≡◌, ◌<◌, length}
-use Rattle.line_phrases.specs.Lists.{rest_at, listed_at, extent_at}
+use Rattle.line_phrases.proofs.Imports.{◌≡◌, ◌<◌, length, rest_at, listed_at, extent_at}
 use Rattle.line_phrases.proofs.brackets.read_extent_list.Given as goal
 
 abbrev pub invariant-loop-tokens : goal.invariant-loop-tokens

@@ -1,8 +1,5 @@
 -- what is counted on gives the whole count, which is no more than the tokens taken
-use Rattle.std.proofs.Common.{◌≡◌, ◌≤◌, ◌+◌, zero, length}
-use Rattle.line_tokens.specs.declared.sign.Sign.TheVariants.{Minus}
-use Rattle.line_grammar.specs.Tokens.{is_sign}
-use Rattle.line_phrases.specs.Exprs.{count_at}
+use Rattle.line_phrases.proofs.Imports.{◌≡◌, ◌≤◌, ◌+◌, zero, length, Minus, is_sign, count_at}
 use Rattle.line_phrases.proofs.exprs.count_signs.Given as goal
 
 abbrev pub invariant-loop-tokens : goal.invariant-loop-tokens

@@ -1,8 +1,6 @@
 -- what is counted on gives the whole count, which is no more than the tokens taken
-use Rattle.std.proofs.Common.{◌≡◌, ◌≤◌, ◌+◌, zero, length}
+use Rattle.line_phrases.proofs.Imports.{◌≡◌, ◌≤◌, ◌+◌, zero, length, is_word, count_at}
 use Rattle.std.specs.Prelude.{codes}
-use Rattle.line_grammar.specs.Tokens.{is_word}
-use Rattle.line_phrases.specs.Exprs.{count_at}
 use Rattle.line_phrases.proofs.exprs.count_words.Given as goal
 
 abbrev pub invariant-loop-tokens : goal.invariant-loop-tokens

@@ -1,8 +1,5 @@
 -- the value so far
-use Rattle.std.proofs.Common.{◌≡◌}
-use Rattle.expr_lang.specs.Terms.{Not}
-use Rattle.line_grammar.specs.Grammar.{wrapped}
-use Rattle.line_phrases.specs.Exprs.{boxed_term}
+use Rattle.line_phrases.proofs.Imports.{◌≡◌, Not, wrapped, boxed_term}
 use Rattle.line_phrases.proofs.exprs.negated.Given as goal
 
 abbrev pub invariant-loop : goal.invariant-loop

@@ -1,8 +1,5 @@
 -- what is read on gives the whole list of fields; a field's braces have less room
-use Rattle.std.proofs.Common.{◌≡◌, ◌<◌, ◌+◌, ◌*◌, map, length}
-use Rattle.record_dim.specs.Trees.{tree_of}
-use Rattle.line_phrases.specs.Lists.{rest_at, listed_at}
-use Rattle.line_phrases.specs.Fields.{field_at}
+use Rattle.line_phrases.proofs.Imports.{◌≡◌, ◌<◌, ◌+◌, ◌*◌, map, length, tree_of, rest_at, listed_at, field_at}
 use Rattle.line_phrases.proofs.fields.+fields.Given as goal
 
 abbrev pub decreases-read_fields : goal.decreases-read_fields

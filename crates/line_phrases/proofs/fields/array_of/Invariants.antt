@@ -1,7 +1,5 @@
 -- the counts that are left, around what is built
-use Rattle.std.proofs.Common.{◌≡◌, vec_len}
-use Rattle.record_dim.specs.Trees.{tree_of}
-use Rattle.line_grammar.specs.Grammar.{arrays}
+use Rattle.line_phrases.proofs.Imports.{◌≡◌, vec_len, tree_of, arrays}
 use Rattle.line_phrases.proofs.fields.array_of.Given as goal
 
 abbrev pub invariant-loop-len : goal.invariant-loop-len

@@ -1,8 +1,5 @@
 -- the fields that are left, in front of what is built
-use Rattle.std.proofs.Common.{◌≡◌, map, vec_len}
-use Rattle.record_dim.specs.Trees.{tree_of, fields_of}
-use Rattle.line_grammar.specs.Grammar.{fields_of_list}
-use Rattle.line_phrases.specs.FieldLaws.{onto}
+use Rattle.line_phrases.proofs.Imports.{◌≡◌, map, vec_len, tree_of, fields_of, fields_of_list, onto}
 use Rattle.line_phrases.proofs.fields.field_list.Given as goal
 
 abbrev pub invariant-loop-field : goal.invariant-loop-field

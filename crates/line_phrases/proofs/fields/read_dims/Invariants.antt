@@ -1,6 +1,5 @@
 -- what is read on gives all counts
-use Rattle.std.proofs.Common.{◌≡◌, ◌≤◌, length}
-use Rattle.line_phrases.specs.Fields.{more_dims_at, dims_at}
+use Rattle.line_phrases.proofs.Imports.{◌≡◌, ◌≤◌, length, more_dims_at, dims_at}
 use Rattle.line_phrases.proofs.fields.read_dims.Given as goal
 
 abbrev pub invariant-loop-counts : goal.invariant-loop-counts

@@ -1,5 +1,5 @@
 -- a form is read by what reads a mapping, and its maps with less room
-use Rattle.std.proofs.Common.{◌+◌, ◌*◌}
+use Rattle.line_phrases.proofs.Imports.{◌+◌, ◌*◌}
 use Rattle.line_phrases.proofs.maps.+map.Given as goal
 
 abbrev pub decreases-read_map : goal.decreases-read_map

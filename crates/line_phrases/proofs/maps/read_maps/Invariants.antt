@@ -1,8 +1,5 @@
 -- what is read on gives the whole list
-use Rattle.std.proofs.Common.{◌≡◌, length, map}
-use Rattle.map_expr.specs.Terms.{term_of}
-use Rattle.line_phrases.specs.Lists.{rest_at, listed_at}
-use Rattle.line_phrases.specs.Maps.{map_at}
+use Rattle.line_phrases.proofs.Imports.{◌≡◌, length, map, term_of, rest_at, listed_at, map_at}
 use Rattle.line_phrases.proofs.maps.read_maps.Given as goal
 
 abbrev pub invariant-loop-alloc : goal.invariant-loop-alloc

@@ -1,6 +1,5 @@
 -- what is read on gives the whole list
-use Rattle.std.proofs.Common.{◌≡◌, length}
-use Rattle.line_phrases.specs.Passes.{later_passes_at, passes_at}
+use Rattle.line_phrases.proofs.Imports.{◌≡◌, length, later_passes_at, passes_at}
 use Rattle.line_phrases.proofs.passes.read_passes.Given as goal
 
 abbrev pub invariant-loop-alloc : goal.invariant-loop-alloc

@@ -1,5 +1,4 @@
-use Rattle.std.proofs.Common.{◌≡◌, ◌<◌, length}
-use Rattle.line_phrases.specs.Paths.{parts_at, path_at}
+use Rattle.line_phrases.proofs.Imports.{◌≡◌, ◌<◌, length, parts_at, path_at}
 use Rattle.line_phrases.proofs.path.read_path.Given as goal
 
 -- what is read on gives the whole path

@@ -1,7 +1,5 @@
 -- what is read on gives the whole list
-use Rattle.std.proofs.Common.{◌≡◌, ◌<◌, length}
-use Rattle.line_phrases.specs.Constants.{const_at}
-use Rattle.line_phrases.specs.Lists.{rest_at, listed_at}
+use Rattle.line_phrases.proofs.Imports.{◌≡◌, ◌<◌, length, const_at, rest_at, listed_at}
 use Rattle.line_phrases.proofs.stencils.read_offsets.Given as goal
 
 abbrev pub invariant-loop-tokens : goal.invariant-loop-tokens

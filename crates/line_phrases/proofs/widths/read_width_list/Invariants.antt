@@ -1,7 +1,5 @@
 -- what is read on gives the whole list
-use Rattle.std.proofs.Common.{◌≡◌, ◌<◌, length}
-use Rattle.line_phrases.specs.Lists.{rest_at, listed_at}
-use Rattle.line_phrases.specs.Widths.{field_width_at}
+use Rattle.line_phrases.proofs.Imports.{◌≡◌, ◌<◌, length, rest_at, listed_at, field_width_at}
 use Rattle.line_phrases.proofs.widths.read_width_list.Given as goal
 
 abbrev pub invariant-loop-alloc : goal.invariant-loop-alloc

@@ -1,4 +1,4 @@
-use Rattle.std.proofs.Common.{◌∙◌, arith}
+use Rattle.line_writer.proofs.Imports.{◌∙◌, arith}
 use Rattle.line_writer.proofs.Behind.{each_more}
 use Rattle.line_writer.proofs.later.write_each.Goals as goal
 

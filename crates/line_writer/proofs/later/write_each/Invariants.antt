@@ -1,7 +1,5 @@
 -- what is written so far, and the items that are left, are all
-use Rattle.std.proofs.Common.{◌≡◌, drop}
-use Rattle.std.specs.List.{flat_map}
-use Rattle.line_writer.specs.Texts.{behind}
+use Rattle.line_writer.proofs.Imports.{◌≡◌, drop, flat_map, behind}
 use Rattle.line_writer.proofs.later.write_each.Given as goal
 
 abbrev pub invariant-loop-part : goal.invariant-loop-part

@@ -1,7 +1,5 @@
 -- the mappings are those of the expressions
-use Rattle.std.proofs.lemmas.Simd.{map-map}
-use Rattle.map_expr.specs.Terms.{term_of}
-use Rattle.line_writer.specs.Canonical.{map_tokens}
+use Rattle.line_writer.proofs.Imports.{map-map, term_of, map_tokens}
 use Rattle.line_writer.proofs.later.write_maps.Goals as goal
 
 pub returns : goal.returns

@@ -1,5 +1,5 @@
 -- the inner mapping of a form is below the form
-use Rattle.std.proofs.Common.{◌+◌, ◌*◌}
+use Rattle.line_writer.proofs.Imports.{◌+◌, ◌*◌}
 use Rattle.line_writer.proofs.mapping.+mapping.Given as goal
 
 abbrev pub decreases-write_map : goal.decreases-write_map

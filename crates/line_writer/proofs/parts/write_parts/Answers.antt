@@ -1,4 +1,4 @@
-use Rattle.std.proofs.Common.{◌∙◌, arith}
+use Rattle.line_writer.proofs.Imports.{◌∙◌, arith}
 use Rattle.line_writer.proofs.Behind.{parts_begun, parts_more}
 use Rattle.line_writer.proofs.parts.write_parts.Goals as goal
 

@@ -1,7 +1,5 @@
 -- the assignments are those of the texts
-use Rattle.std.proofs.lemmas.Simd.{map-map}
-use Rattle.line_grammar.specs.Sentences.{assignment_of}
-use Rattle.line_writer.specs.Canonical.{assignment_tokens}
+use Rattle.line_writer.proofs.Imports.{map-map, assignment_of, assignment_tokens}
 use Rattle.line_writer.proofs.parts.write_sets.Goals as goal
 
 pub returns : goal.returns

@@ -1,12 +1,5 @@
 -- what is left is no deeper than all, and what is written so far with it is all
-use Rattle.std.proofs.Common.{◌≡◌, ◌≤◌, ◌+◌, ◌*◌, ◌∷◌}
-use Rattle.record_dim.specs.declared.dim.Dim.{size-Dim}
-use Rattle.record_dim.specs.declared.dim.FieldList.{size-FieldList}
-use Rattle.record_dim.specs.Trees.{tree_of, fields_of}
-use Rattle.line_tokens.specs.declared.sign.Sign.TheVariants.{OpenBrace}
-use Rattle.line_grammar.specs.declared.token.Token.TheVariants.{Sign}
-use Rattle.line_writer.specs.Canonical.{core_tokens, fields_tokens, later_tokens}
-use Rattle.line_writer.specs.Texts.{behind}
+use Rattle.line_writer.proofs.Imports.{◌≡◌, ◌≤◌, ◌+◌, ◌*◌, ◌∷◌, size-Dim, size-FieldList, tree_of, fields_of, OpenBrace, Sign, core_tokens, fields_tokens, later_tokens, behind}
 use Rattle.line_writer.proofs.record.+record.Given as goal
 
 abbrev pub decreases-write_held : goal.decreases-write_held

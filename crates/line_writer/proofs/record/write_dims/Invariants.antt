@@ -1,8 +1,5 @@
 -- what is written so far, and the numbers that are left, are all
-use Rattle.std.proofs.Common.{◌≡◌}
-use Rattle.record_dim.specs.Trees.{tree_of}
-use Rattle.line_writer.specs.Canonical.{dims_tokens}
-use Rattle.line_writer.specs.Texts.{behind}
+use Rattle.line_writer.proofs.Imports.{◌≡◌, tree_of, dims_tokens, behind}
 use Rattle.line_writer.proofs.record.write_dims.Given as goal
 
 abbrev pub invariant-loop-node : goal.invariant-loop-node

@@ -1,4 +1,4 @@
-use Rattle.std.proofs.Common.{ℕ, ◌+◌, ◌*◌, ◌%◌, ◌^◌, refl, arith}
+use Rattle.linearize.proofs.Imports.{ℕ, ◌+◌, ◌*◌, ◌%◌, ◌^◌, refl, arith}
 use Rattle.linearize.proofs.SpreadLemmas.{stage_none}
 use Rattle.linearize.proofs.PairLemmas.{ArePaired, pair_more, pair_last}
 use Rattle.linearize.proofs.digits.in_turn.Goals as goal

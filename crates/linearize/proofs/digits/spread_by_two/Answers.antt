@@ -1,4 +1,4 @@
-use Rattle.std.proofs.Common.{refl, arith}
+use Rattle.linearize.proofs.Imports.{refl, arith}
 use Rattle.linearize.proofs.SpreadLemmas.{stage_none, stage_more, stage_last}
 use Rattle.linearize.proofs.digits.spread_by_two.Goals as goal
 

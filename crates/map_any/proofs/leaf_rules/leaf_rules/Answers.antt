@@ -1,18 +1,4 @@
-use Rattle.std.proofs.Common.{◌≡◌, ◌+◌, ◌<◌, ℕ, false, ◌++◌, ◌∷◌, [], ◌∙◌, List, length, get_or, sym, ap, subst, arith, length-append}
-use Rattle.std.proofs.lemmas.List.{length-map, get_or_default}
-use Rattle.std.proofs.lemmas.Option.{get_or_from_slice_get}
-use Rattle.record_dim.specs.Schemas.{schema_fields}
-use Rattle.record_dim.specs.Leaves.{Leaf, leaves, kinds_of}
-use Rattle.record_dim.specs.Trees.{Fields}
-use Rattle.record_dim.specs.declared.leaf_type.LeafType.{LeafType}
-use Rattle.record_dim.specs.declared.leaf_type.LeafType.TheVariants.{Bool as Truth}
-use Rattle.places.specs.declared.piece.Hold.{Hold}
-use Rattle.map_any.specs.declared.leaf_rule.LeafRule.{LeafRule}
-use Rattle.map_checks.specs.declared.rule.Rule.{Rule}
-use Rattle.map_any.specs.LeafRules.{kind_in, hold_in, IsLeafRule, IsWideIn}
-use Rattle.map_checks.specs.Ruled.{IsSameRule}
-use Rattle.piece_bits.specs.Walks.{leads}
-use Rattle.map_checks.specs.RuledLaws.{each_push}
+use Rattle.map_any.proofs.Imports.{◌≡◌, ◌+◌, ◌<◌, ℕ, false, ◌++◌, ◌∷◌, [], ◌∙◌, List, length, get_or, sym, ap, subst, arith, length-append, length-map, get_or_default, get_or_from_slice_get, schema_fields, Leaf, leaves, kinds_of, Fields, LeafType, Truth, Hold, LeafRule, Rule, kind_in, hold_in, IsLeafRule, IsWideIn, IsSameRule, leads, each_push}
 use Rattle.map_any.proofs.leaf_rules.leaf_rules.Goals as goal
 
 -- as many types as leaves

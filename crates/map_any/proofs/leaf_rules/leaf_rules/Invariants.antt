@@ -1,10 +1,5 @@
 -- the rules so far
-use Rattle.std.proofs.Common.{◌≡◌, true, false, length, get_or}
-use Rattle.record_dim.specs.Schemas.{schema_fields}
-use Rattle.record_dim.specs.Leaves.{kinds_of}
-use Rattle.map_any.specs.LeafRules.{kind_in, hold_in, IsLeafRule, IsWideIn}
-use Rattle.map_checks.specs.Ruled.{EachWith, IsSameRule}
-use Rattle.piece_bits.specs.Walks.{leads}
+use Rattle.map_any.proofs.Imports.{◌≡◌, true, false, length, get_or, schema_fields, kinds_of, kind_in, hold_in, IsLeafRule, IsWideIn, EachWith, IsSameRule, leads}
 use Rattle.map_any.proofs.leaf_rules.leaf_rules.Given as goal
 
 abbrev pub invariant-loop-leaf : goal.invariant-loop-leaf

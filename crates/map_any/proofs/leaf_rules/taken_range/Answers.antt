@@ -1,6 +1,4 @@
-use Rattle.std.proofs.Common.{ℤ, ◌≤ℤ◌, subst, rules, SFits}
-use Rattle.std.specs.Int.{w128}
-use Rattle.std.proofs.lemmas.Int.{to_z-of_z}
+use Rattle.map_any.proofs.Imports.{ℤ, ◌≤ℤ◌, subst, rules, SFits, w128, to_z-of_z}
 use Rattle.map_any.proofs.leaf_rules.taken_range.Goals as goal
 
 pub returns : goal.returns

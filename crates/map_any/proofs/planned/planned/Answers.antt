@@ -1,7 +1,4 @@
-use Rattle.std.proofs.Common.{◌≡◌, Ok, rules}
-use Rattle.map_expr.specs.Terms.{term_of}
-use Rattle.map_expr.specs.Checks.{checked}
-use Rattle.map_checks.specs.TermLaws.{good_numbers}
+use Rattle.map_any.proofs.Imports.{◌≡◌, Ok, rules, term_of, checked, good_numbers}
 use Rattle.map_any.proofs.Built.{accepted_numbers, built_nameless}
 use Rattle.map_any.proofs.planned.planned.Goals as goal
 

@@ -1,10 +1,4 @@
-use Rattle.std.proofs.Common.{◌≡◌, ℕ, ◌+◌, ◌≤◌, true, false, List, [], ◌∷◌, ◌++◌, get_or, drop, sym, ap, ◌∙◌, append_assoc, arith}
-use Rattle.std.proofs.lemmas.List.{drop_more}
-use Rattle.places.specs.declared.piece.Run.{Run}
-use Rattle.places.specs.declared.piece.RunOwner.{RunOwner}
-use Rattle.places.specs.declared.piece.RunOwner.TheVariants.{Pad}
-use Rattle.map_any.specs.Filling.{runs_along}
-use Rattle.map_any.specs.Runs.{goes_on, joined}
+use Rattle.map_any.proofs.Imports.{◌≡◌, ℕ, ◌+◌, ◌≤◌, true, false, List, [], ◌∷◌, ◌++◌, get_or, drop, sym, ap, ◌∙◌, append_assoc, arith, drop_more, Run, RunOwner, Pad, runs_along, goes_on, joined}
 use Rattle.map_any.proofs.RunLaws.{bit_run, run_longer, run_ends}
 use Rattle.map_any.proofs.runs.join_bits.Goals as goal
 use Rattle.map_any.proofs.runs.join_bits.Goals.{then-is_next, else-is_next+in_ok-push}

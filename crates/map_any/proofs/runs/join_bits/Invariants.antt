@@ -1,7 +1,5 @@
 -- the runs so far, with the last one before the runs of the bits that are left, are the runs of all bits
-use Rattle.std.proofs.Common.{◌≡◌, ◌≤◌, ◌++◌, drop}
-use Rattle.map_any.specs.Filling.{runs_along}
-use Rattle.map_any.specs.Runs.{joined}
+use Rattle.map_any.proofs.Imports.{◌≡◌, ◌≤◌, ◌++◌, drop, runs_along, joined}
 use Rattle.map_any.proofs.runs.join_bits.Given as goal
 
 abbrev pub invariant-loop-bit : goal.invariant-loop-bit

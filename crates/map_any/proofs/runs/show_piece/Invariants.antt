@@ -1,7 +1,6 @@
 -- the bits of the piece so far
-use Rattle.std.proofs.Common.{◌≡◌, ℕ, ◌+◌, ◌<◌, ◌≤◌, length}
+use Rattle.map_any.proofs.Imports.{◌≡◌, ℕ, ◌+◌, ◌<◌, ◌≤◌, length, shown_at}
 use Rattle.places.specs.declared.piece.RunOwner.TheVariants.{Leaf}
-use Rattle.map_any.specs.Filling.{shown_at}
 use Rattle.map_any.proofs.runs.show_piece.Given as goal
 
 abbrev pub invariant-loop-k : goal.invariant-loop-k

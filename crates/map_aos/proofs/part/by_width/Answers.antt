@@ -1,4 +1,4 @@
-use Rattle.std.proofs.Common.{ℕ, ◌++◌, ◌==◌, filter, List, ap, ◌∙◌}
+use Rattle.map_aos.proofs.Imports.{ℕ, ◌++◌, ◌==◌, filter, List, ap, ◌∙◌}
 use Rattle.map_aos.proofs.Parts.{falling_is}
 use Rattle.map_aos.proofs.part.by_width.Goals as goal
 

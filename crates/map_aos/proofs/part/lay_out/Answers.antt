@@ -1,5 +1,4 @@
-use Rattle.std.proofs.Common.{◌≡◌, ◌+◌, ℕ, ◌∙◌, arith}
-use Rattle.std.proofs.lemmas.List.{length-set}
+use Rattle.map_aos.proofs.Imports.{◌≡◌, ◌+◌, ℕ, ◌∙◌, arith, length-set}
 use Rattle.map_aos.proofs.Parts.{next_at, placed_next, widest_more, stored_all, placed_below}
 use Rattle.map_aos.proofs.part.lay_out.Goals as goal
 

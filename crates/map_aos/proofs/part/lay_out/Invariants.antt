@@ -1,5 +1,4 @@
-use Rattle.std.proofs.Common.{◌≡◌, ◌^◌, ◌≤◌, length, take}
-use Rattle.map_aos.specs.AosLaws.{widest}
+use Rattle.map_aos.proofs.Imports.{◌≡◌, ◌^◌, ◌≤◌, length, take, widest}
 use Rattle.map_aos.proofs.Parts.{IsPlaced}
 use Rattle.map_aos.proofs.part.lay_out.Given as goal
 

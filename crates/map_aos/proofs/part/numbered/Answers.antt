@@ -1,7 +1,4 @@
-use Rattle.std.proofs.Common.{◌∙◌, arith}
-use Rattle.std.proofs.lemmas.List.{take_all}
-use Rattle.places.specs.Layout.{cells_of}
-use Rattle.places.specs.Holds.{widths_of}
+use Rattle.map_aos.proofs.Imports.{◌∙◌, arith, take_all, cells_of, widths_of}
 use Rattle.map_aos.proofs.Parts.{numbered_more, length-cells}
 use Rattle.map_aos.proofs.part.numbered.Goals as goal
 

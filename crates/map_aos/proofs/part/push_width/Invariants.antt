@@ -1,4 +1,4 @@
-use Rattle.std.proofs.Common.{◌≡◌, ◌++◌, ◌==◌, filter, take}
+use Rattle.map_aos.proofs.Imports.{◌≡◌, ◌++◌, ◌==◌, filter, take}
 use Rattle.map_aos.proofs.part.push_width.Given as goal
 
 abbrev pub invariant-loop-cell : goal.invariant-loop-cell

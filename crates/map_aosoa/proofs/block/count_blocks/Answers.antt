@@ -1,5 +1,4 @@
-use Rattle.std.proofs.Common.{◌≡◌, ◌∙◌, ap}
-use Rattle.std.specs.Int.{div_ceil}
+use Rattle.map_aosoa.proofs.Imports.{◌≡◌, ◌∙◌, ap, div_ceil}
 use Rattle.map_aosoa.proofs.Blocks.{blocks_are}
 use Rattle.map_aosoa.proofs.block.count_blocks.Goals as goal
 

@@ -1,7 +1,4 @@
-use Rattle.std.proofs.Common.{ℕ, ◌+◌, ◌*◌, ◌%◌, List, length, take, arith, ap, ◌∙◌}
-use Rattle.std.specs.List.{sum}
-use Rattle.std.proofs.lemmas.List.{length_push}
-use Rattle.places.specs.Holds.{widths_of}
+use Rattle.map_aosoa.proofs.Imports.{ℕ, ◌+◌, ◌*◌, ◌%◌, List, length, take, arith, ap, ◌∙◌, sum, length_push, widths_of}
 use Rattle.map_aosoa.proofs.Blocks.{end_next, end_below, offsets_more, lanes_bytes}
 use Rattle.map_aosoa.proofs.block.lay_out.Goals as goal
 

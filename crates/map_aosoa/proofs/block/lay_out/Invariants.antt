@@ -1,6 +1,4 @@
-use Rattle.std.proofs.Common.{◌≡◌, ℕ, ◌*◌, ◌^◌, ◌<◌, ◌≤◌, length, get_or, take}
-use Rattle.std.specs.List.{sum}
-use Rattle.places.specs.Holds.{widths_of}
+use Rattle.map_aosoa.proofs.Imports.{◌≡◌, ℕ, ◌*◌, ◌^◌, ◌<◌, ◌≤◌, length, get_or, take, sum, widths_of}
 use Rattle.map_aosoa.proofs.block.lay_out.Given as goal
 
 abbrev pub invariant-loop-cell : goal.invariant-loop-cell

@@ -1,7 +1,4 @@
-use Rattle.std.proofs.Common.{◌≡◌, ◌+◌, ◌≤◌, ◌<◌, List, length, sum_by, true, false, ◌∙◌, ap, arith, rules}
-use Rattle.std.specs.Prelude.{IsTrue}
-use Rattle.places.specs.Layout.{Owner, bit_soa}
-use Rattle.places.specs.Holds.{widths_in}
+use Rattle.map_bits.proofs.Imports.{◌≡◌, ◌+◌, ◌≤◌, ◌<◌, List, length, sum_by, true, false, ◌∙◌, ap, arith, rules, IsTrue, Owner, bit_soa, widths_in}
 use Rattle.map_bits.proofs.Arrays.{bits_next, bits_below, bits_all}
 use Rattle.map_bits.proofs.bit_soa.fit.Goals as goal
 

@@ -1,6 +1,4 @@
-use Rattle.std.proofs.Common.{◌≡◌, ◌^◌, ◌≤◌, length, sum_by, take}
-use Rattle.places.specs.Holds.{widths_in}
-use Rattle.places.specs.Layout.{bit_soa}
+use Rattle.map_bits.proofs.Imports.{◌≡◌, ◌^◌, ◌≤◌, length, sum_by, take, widths_in, bit_soa}
 use Rattle.map_bits.proofs.bit_soa.fit.Given as goal
 
 abbrev pub invariant-loop-hold : goal.invariant-loop-hold

@@ -1,7 +1,4 @@
-use Rattle.std.proofs.Common.{◌<◌, ◌∙◌, List, ap, sym, arith, take, length, ◌++◌, ◌∷◌, []}
-use Rattle.places.specs.Holds.{narrow_holds}
-use Rattle.places.specs.declared.piece.Hold.{Hold}
-use Rattle.map_bits.specs.NarrowLaws.{narrow_more}
+use Rattle.map_bits.proofs.Imports.{◌<◌, ◌∙◌, List, ap, sym, arith, take, length, ◌++◌, ◌∷◌, [], narrow_holds, Hold, narrow_more}
 use Rattle.map_bits.proofs.narrow.narrow_holds.Goals as goal
 
 pub loop-i-preserved : goal.loop-i-preserved

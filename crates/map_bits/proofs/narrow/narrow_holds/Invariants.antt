@@ -1,5 +1,4 @@
-use Rattle.std.proofs.Common.{◌≡◌, take}
-use Rattle.places.specs.Holds.{narrow_holds}
+use Rattle.map_bits.proofs.Imports.{◌≡◌, take, narrow_holds}
 use Rattle.map_bits.proofs.narrow.narrow_holds.Given as goal
 
 abbrev pub invariant-loop-i : goal.invariant-loop-i

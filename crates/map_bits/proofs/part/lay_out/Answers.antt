@@ -1,5 +1,4 @@
-use Rattle.std.proofs.Common.{◌+◌, ◌<◌, length, arith}
-use Rattle.places.specs.Holds.{widths_in}
+use Rattle.map_bits.proofs.Imports.{◌+◌, ◌<◌, length, arith, widths_in}
 use Rattle.map_bits.proofs.Slots.{end_next, end_below, begins_more, stored_all}
 use Rattle.map_bits.proofs.part.lay_out.Goals as goal
 

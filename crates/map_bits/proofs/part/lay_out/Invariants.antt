@@ -1,6 +1,4 @@
-use Rattle.std.proofs.Common.{◌≡◌, ◌^◌, ◌≤◌, map, take}
-use Rattle.std.specs.List.{range_with_len, sum}
-use Rattle.places.specs.Holds.{widths_in}
+use Rattle.map_bits.proofs.Imports.{◌≡◌, ◌^◌, ◌≤◌, map, take, range_with_len, sum, widths_in}
 use Rattle.map_bits.proofs.part.lay_out.Given as goal
 
 abbrev pub invariant-loop-hold : goal.invariant-loop-hold

@@ -1,10 +1,4 @@
-use Rattle.std.proofs.Common.{◌≡◌, ℕ, List, true, false, sym, ◌∙◌, rules}
-use Rattle.std.proofs.lemmas.Option.{get_or_from_slice_get, slice_get_within}
-use Rattle.places.specs.Holds.{full_holds}
-use Rattle.places.specs.declared.piece.Cell.{Cell}
-use Rattle.places.specs.declared.piece.Hold.{Hold}
-use Rattle.map_bytes.specs.Cells.{same_hold}
-use Rattle.map_bytes.specs.FullLaws.{full_at, full_within, differ_more, differ_here}
+use Rattle.map_bytes.proofs.Imports.{◌≡◌, ℕ, List, true, false, sym, ◌∙◌, rules, get_or_from_slice_get, slice_get_within, full_holds, Cell, Hold, same_hold, full_at, full_within, differ_more, differ_here}
 use Rattle.map_bytes.proofs.full.has_other_hold.Goals as goal
 
 pub returns-then-not-is_same_hold : goal.returns-then-not-is_same_hold

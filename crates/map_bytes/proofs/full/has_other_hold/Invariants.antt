@@ -1,7 +1,5 @@
 -- none so far is stored in another way
-use Rattle.std.proofs.Common.{◌≡◌, drop}
-use Rattle.places.specs.Holds.{full_holds}
-use Rattle.map_bytes.specs.Cells.{differ}
+use Rattle.map_bytes.proofs.Imports.{◌≡◌, drop, full_holds, differ}
 use Rattle.map_bytes.proofs.full.has_other_hold.Given as goal
 
 abbrev pub invariant-loop-cell : goal.invariant-loop-cell

@@ -1,5 +1,5 @@
 -- those of the next so far
-use Rattle.std.proofs.Common.{◌≡◌, ◌++◌, take}
+use Rattle.map_bytes.proofs.Imports.{◌≡◌, ◌++◌, take}
 use Rattle.map_bytes.proofs.join.join_pieces.Given as goal
 
 abbrev pub invariant-loop-piece : goal.invariant-loop-piece

@@ -1,6 +1,5 @@
 -- the pieces so far
-use Rattle.std.proofs.Common.{◌≡◌, take}
-use Rattle.places.specs.PieceRules.{pieces_in}
+use Rattle.map_bytes.proofs.Imports.{◌≡◌, take, pieces_in}
 use Rattle.map_bytes.proofs.swap.fix_pieces.Given as goal
 
 abbrev pub invariant-loop-piece : goal.invariant-loop-piece

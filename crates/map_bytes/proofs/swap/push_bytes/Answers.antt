@@ -1,8 +1,4 @@
-use Rattle.std.proofs.Common.{◌≡◌, ℕ, ◌+◌, ◌/◌, ◌^◌, ◌<◌, ◌≤◌, List, [], ◌∷◌, ◌++◌, map, length, sym, ap, ◌∙◌, arith, length-append, append_assoc}
-use Rattle.std.specs.List.{range_with_len}
-use Rattle.std.proofs.lemmas.List.FromFn.{length-map-range_with_len, map-range_with_len_more}
-use Rattle.places.specs.declared.rule.PieceRule.{PieceRule}
-use Rattle.map_bytes.specs.Cuts.{rule_byte}
+use Rattle.map_bytes.proofs.Imports.{◌≡◌, ℕ, ◌+◌, ◌/◌, ◌^◌, ◌<◌, ◌≤◌, List, [], ◌∷◌, ◌++◌, map, length, sym, ap, ◌∙◌, arith, length-append, append_assoc, range_with_len, length-map-range_with_len, map-range_with_len_more, PieceRule, rule_byte}
 use Rattle.map_bytes.proofs.swap.push_bytes.Goals as goal
 
 pub push-requires : goal.push-requires

@@ -1,7 +1,5 @@
 -- the bytes so far
-use Rattle.std.proofs.Common.{◌≡◌, ◌++◌, map}
-use Rattle.std.specs.List.{range_with_len}
-use Rattle.map_bytes.specs.Cuts.{rule_byte}
+use Rattle.map_bytes.proofs.Imports.{◌≡◌, ◌++◌, map, range_with_len, rule_byte}
 use Rattle.map_bytes.proofs.swap.push_bytes.Given as goal
 
 abbrev pub invariant-loop-byte : goal.invariant-loop-byte

@@ -1,11 +1,4 @@
-use Rattle.std.proofs.Common.{◌≡◌, ◌+◌, ◌%◌, ◌^◌, ◌<◌, List, All, sym, ap, ◌∙◌, subst, arith}
-use Rattle.places.specs.PlacesLaws.{pieces_weaker}
-use Rattle.places.specs.declared.piece.Piece.{Piece}
-use Rattle.places.specs.PieceRules.{begin_in, pieces_in}
-use Rattle.places.specs.declared.rule.PieceRule.{PieceRule}
-use Rattle.map_bytes.specs.Cuts.{places_in, swapped}
-use Rattle.map_bytes.specs.CutLaws.{swapped_in, swapped_begins}
-use Rattle.map_bytes.specs.SwapPiecesLaws.{swapped_eights}
+use Rattle.map_bytes.proofs.Imports.{◌≡◌, ◌+◌, ◌%◌, ◌^◌, ◌<◌, List, All, sym, ap, ◌∙◌, subst, arith, pieces_weaker, Piece, begin_in, pieces_in, PieceRule, places_in, swapped, swapped_in, swapped_begins, swapped_eights}
 use Rattle.map_bytes.proofs.Groups.{places_back}
 use Rattle.map_bytes.proofs.Inner.{all_in}
 use Rattle.map_bytes.proofs.swap.swap_pieces.Goals as goal

@@ -1,9 +1,4 @@
-use Rattle.std.proofs.Common.{◌≡◌, ℕ, ◌+◌, ◌*◌, ◌/◌, ◌≤◌, List, length, get_or, take, ap, ◌∙◌, arith}
-use Rattle.std.specs.List.{flat_map, sum_by}
-use Rattle.std.proofs.lemmas.List.Sums.{sum_by_more_le}
-use Rattle.places.specs.declared.rule.PieceRule.{PieceRule}
-use Rattle.map_bytes.specs.Cuts.{rule_byte, rule_bytes}
-use Rattle.map_bytes.specs.CutLaws.{length-parts, sum_of_bytes}
+use Rattle.map_bytes.proofs.Imports.{◌≡◌, ℕ, ◌+◌, ◌*◌, ◌/◌, ◌≤◌, List, length, get_or, take, ap, ◌∙◌, arith, flat_map, sum_by, sum_by_more_le, PieceRule, rule_byte, rule_bytes, length-parts, sum_of_bytes}
 use Rattle.map_bytes.proofs.swap.swap_rules.Goals as goal
 
 pub push_bytes-requires-clause-room : goal.push_bytes-requires-clause-room

@@ -1,7 +1,5 @@
 -- the bytes so far, and those of them in reverse order
-use Rattle.std.proofs.Common.{◌≡◌, take, drop, reverse}
-use Rattle.std.specs.List.{flat_map}
-use Rattle.map_bytes.specs.Cuts.{rule_bytes}
+use Rattle.map_bytes.proofs.Imports.{◌≡◌, take, drop, reverse, flat_map, rule_bytes}
 use Rattle.map_bytes.proofs.swap.swap_rules.Given as goal
 
 abbrev pub invariant-loop-rule : goal.invariant-loop-rule

@@ -1,6 +1,4 @@
-use Rattle.std.proofs.Common.{◌∙◌, sym}
-use Rattle.linearize.specs.Slots.{row_at}
-use Rattle.map_checks.specs.RowsLaws.{lengths-rows}
+use Rattle.map_checks.proofs.Imports.{◌∙◌, sym, row_at, lengths-rows}
 use Rattle.map_checks.proofs.base_plan.base_plan.Goals as goal
 
 pub returns-clause-lengths : goal.returns-clause-lengths

@@ -1,7 +1,4 @@
-use Rattle.std.proofs.Common.{◌≡◌, ◌<◌, ◌++◌, ◌∷◌, [], ◌∙◌, List, length, get_or, take, sym, ap}
-use Rattle.std.proofs.lemmas.List.{take_more}
-use Rattle.std.proofs.lemmas.Option.{get_or_from_slice_get, slice_get_within}
-use Rattle.places.specs.declared.piece.Hold.{Hold}
+use Rattle.map_checks.proofs.Imports.{◌≡◌, ◌<◌, ◌++◌, ◌∷◌, [], ◌∙◌, List, length, get_or, take, sym, ap, take_more, get_or_from_slice_get, slice_get_within, Hold}
 use Rattle.map_checks.proofs.base_plan.holds_of.Goals as goal
 
 pub loop-cell-preserved : goal.loop-cell-preserved

@@ -1,5 +1,5 @@
 -- the holds so far
-use Rattle.std.proofs.Common.{◌≡◌, take}
+use Rattle.map_checks.proofs.Imports.{◌≡◌, take}
 use Rattle.map_checks.proofs.base_plan.holds_of.Given as goal
 
 abbrev pub invariant-loop-cell : goal.invariant-loop-cell

@@ -1,6 +1,5 @@
 -- the lengths so far
-use Rattle.std.proofs.Common.{take}
-use Rattle.map_checks.specs.Ruled.{HasLengths}
+use Rattle.map_checks.proofs.Imports.{take, HasLengths}
 use Rattle.map_checks.proofs.base_plan.lengths_of.Given as goal
 
 abbrev pub invariant-loop-blob : goal.invariant-loop-blob

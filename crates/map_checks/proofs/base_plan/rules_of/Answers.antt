@@ -1,19 +1,5 @@
-use Rattle.std.proofs.Common.{◌≡◌, ◌+◌, ◌%◌, ◌^◌, ◌<◌, ◌≤◌, ℕ, ◌++◌, ◌∷◌, [], ◌∙◌, List, length, map, replicate, slice_index, sym, ap, subst, arith, length-append}
-use Rattle.std.proofs.lemmas.List.{length-map, map_push, replicate_more}
-use Rattle.std.proofs.lemmas.List.Elements.{All-cons, All-nil}
-use Rattle.std.proofs.lemmas.List.Sums.{sum_by-cons}
-use Rattle.linearize.specs.Slots.{row_at}
-use Rattle.extents.specs.declared.order.Order.{Order}
-use Rattle.places.specs.declared.rule.PieceRule.{PieceRule}
-use Rattle.places.specs.Layout.{Owner}
-use Rattle.places.specs.Rules.{in_rows}
-use Rattle.places.specs.declared.piece.Cell.{Cell}
-use Rattle.places.specs.declared.piece.Hold.{Hold}
-use Rattle.map_checks.specs.declared.rule.Rule.{Rule}
-use Rattle.map_checks.specs.Arrays.{IsArray}
-use Rattle.map_checks.specs.Ruled.{IsRuleOf}
+use Rattle.map_checks.proofs.Imports.{◌≡◌, ◌+◌, ◌%◌, ◌^◌, ◌<◌, ◌≤◌, ℕ, ◌++◌, ◌∷◌, [], ◌∙◌, List, length, map, replicate, slice_index, sym, ap, subst, arith, length-append, length-map, map_push, replicate_more, All-cons, All-nil, sum_by-cons, row_at, Order, PieceRule, Owner, in_rows, Cell, Hold, Rule, IsArray, IsRuleOf, each_push}
 use Rattle.map_checks.proofs.RuleLaws.{rule_by_rows}
-use Rattle.map_checks.specs.RuledLaws.{each_push}
 use Rattle.map_checks.proofs.OrderLaws.{map_constant}
 use Rattle.map_checks.proofs.ArrayLaws.{array_rule}
 use Rattle.map_checks.proofs.base_plan.rules_of.Goals as goal

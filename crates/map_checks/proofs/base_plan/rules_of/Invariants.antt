@@ -1,9 +1,5 @@
 -- the rules so far, all in one order
-use Rattle.std.proofs.Common.{◌≡◌, length, map, slice_index, replicate}
-use Rattle.linearize.specs.Slots.{row_at}
-use Rattle.places.specs.Rules.{in_rows}
-use Rattle.map_checks.specs.Arrays.{AreArrays}
-use Rattle.map_checks.specs.Ruled.{EachWith, IsRuleOf}
+use Rattle.map_checks.proofs.Imports.{◌≡◌, length, map, slice_index, replicate, row_at, in_rows, AreArrays, EachWith, IsRuleOf}
 use Rattle.map_checks.proofs.base_plan.rules_of.Given as goal
 
 abbrev pub invariant-loop-cell : goal.invariant-loop-cell

@@ -1,12 +1,4 @@
-use Rattle.std.proofs.Common.{◌≡◌, ℕ, List, sym, ap, ◌∙◌, subst, Err}
-use Rattle.places.specs.Layout.{Owner, bit_aos}
-use Rattle.places.specs.Holds.{widths_in, narrow_holds, IsTooBig}
-use Rattle.places.specs.declared.piece.Cell.{Cell}
-use Rattle.std.proofs.lemmas.Bool.{true≢false}
-use Rattle.map_bits.specs.Bits.{has_bad_width}
-use Rattle.record_dim.specs.Schemas.{schema_fields}
-use Rattle.map_checks.specs.Widths.{cell_widths}
-use Rattle.map_checks.specs.TermLaws.{good_widths}
+use Rattle.map_checks.proofs.Imports.{◌≡◌, ℕ, List, sym, ap, ◌∙◌, subst, Err, Owner, bit_aos, widths_in, narrow_holds, IsTooBig, Cell, true≢false, has_bad_width, schema_fields, cell_widths, good_widths}
 use Rattle.map_checks.proofs.Faults.{too_big_of, no_width}
 use Rattle.map_checks.proofs.Limits.{over}
 use Rattle.map_checks.proofs.PlanLaws.{base_planned}

@@ -1,9 +1,4 @@
-use Rattle.std.proofs.Common.{◌++◌, ◌∷◌, [], ◌∙◌, ◌<◌, List, length, sym, ap, arith}
-use Rattle.std.proofs.lemmas.List.{length-map}
-use Rattle.record_dim.specs.Schemas.{schema_fields}
-use Rattle.record_dim.specs.Leaves.{Leaf, leaves, kinds_of}
-use Rattle.places.specs.declared.piece.Cell.{Cell}
-use Rattle.map_checks.specs.LeafCells.{leaf_cells_more}
+use Rattle.map_checks.proofs.Imports.{◌++◌, ◌∷◌, [], ◌∙◌, ◌<◌, List, length, sym, ap, arith, length-map, schema_fields, Leaf, leaves, kinds_of, Cell, leaf_cells_more}
 use Rattle.map_checks.proofs.cells.cells_of.Goals as goal
 
 pub loop-leaf-preserved : goal.loop-leaf-preserved

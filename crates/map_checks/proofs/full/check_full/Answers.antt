@@ -1,9 +1,4 @@
-use Rattle.std.proofs.Common.{◌≡◌, List, length, sym, ap, ◌∙◌}
-use Rattle.places.specs.Holds.{full_holds}
-use Rattle.places.specs.CellWidthsLaws.{length-full}
-use Rattle.places.specs.declared.piece.Hold.{Hold}
-use Rattle.map_bytes.specs.Cells.{differ}
-use Rattle.map_bytes.specs.FullLaws.{differ_none}
+use Rattle.map_checks.proofs.Imports.{◌≡◌, List, length, sym, ap, ◌∙◌, full_holds, length-full, Hold, differ, differ_none}
 use Rattle.map_checks.proofs.full.check_full.Goals as goal
 
 pub returns-clause-full : goal.returns-clause-full

@@ -1,11 +1,4 @@
-use Rattle.std.proofs.Common.{◌∙◌, Bool, List, length, sym, ap}
-use Rattle.std.specs.Prelude.{not}
-use Rattle.std.specs.List.{count_by}
-use Rattle.record_dim.specs.Schemas.{schema_fields}
-use Rattle.places.specs.declared.piece.Cell.{Cell}
-use Rattle.places.specs.declared.piece.Hold.{Hold}
-use Rattle.map_expr.specs.Terms.{term_of}
-use Rattle.map_checks.specs.TermLaws.{length-holds, cells_first, cells_rest}
+use Rattle.map_checks.proofs.Imports.{◌∙◌, Bool, List, length, sym, ap, not, count_by, schema_fields, Cell, Hold, term_of, length-holds, cells_first, cells_rest}
 use Rattle.map_checks.proofs.holds.+holds_of.Goals as goal
 
 pub merge_holds-requires-clause-first : goal.merge_holds-requires-clause-first

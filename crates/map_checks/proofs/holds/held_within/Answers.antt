@@ -1,11 +1,4 @@
-use Rattle.std.proofs.Common.{◌≡◌, ℕ, ◌≤◌, List, map, length, take, ap, ◌∙◌, sym, arith}
-use Rattle.std.proofs.lemmas.List.{take_all}
-use Rattle.record_dim.specs.Schemas.{schema_fields}
-use Rattle.places.specs.Holds.{hold_within, narrow_holds}
-use Rattle.places.specs.declared.piece.Cell.{Cell}
-use Rattle.places.specs.declared.piece.Hold.{Hold}
-use Rattle.map_bits.specs.NarrowLaws.{narrow_each}
-use Rattle.map_checks.specs.Widths.{width_at}
+use Rattle.map_checks.proofs.Imports.{◌≡◌, ℕ, ◌≤◌, List, map, length, take, ap, ◌∙◌, sym, arith, take_all, schema_fields, hold_within, narrow_holds, Cell, Hold, narrow_each, width_at}
 use Rattle.map_checks.proofs.holds.held_within.Goals as goal
 
 all_held : (width : Cell → ℕ) (cells items : List Cell) (i : ℕ) (holds : List Hold) → items ≡ cells → length items ≤ i

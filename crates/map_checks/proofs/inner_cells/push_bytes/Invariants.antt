@@ -1,5 +1,5 @@
 -- the bytes so far
-use Rattle.std.proofs.Common.{◌≡◌, ◌++◌, replicate}
+use Rattle.map_checks.proofs.Imports.{◌≡◌, ◌++◌, replicate}
 use Rattle.map_checks.proofs.inner_cells.push_bytes.Given as goal
 
 abbrev pub invariant-loop : goal.invariant-loop

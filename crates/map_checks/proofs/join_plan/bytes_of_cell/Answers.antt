@@ -1,11 +1,4 @@
-use Rattle.std.proofs.Common.{◌≡◌, ℕ, ◌/◌, List, map, slice_index, sym, ap, ◌∙◌}
-use Rattle.std.proofs.lemmas.Simd.{map-map}
-use Rattle.std.proofs.lemmas.List.{get_or-map}
-use Rattle.std.proofs.lemmas.Option.{get_or_from_slice_get, slice_get_within}
-use Rattle.record_dim.specs.LeafTypes.{width_of}
-use Rattle.record_dim.specs.declared.leaf_type.LeafType.{LeafType}
-use Rattle.places.specs.Holds.{widths_of}
-use Rattle.places.specs.declared.piece.Cell.{Cell}
+use Rattle.map_checks.proofs.Imports.{◌≡◌, ℕ, ◌/◌, List, map, slice_index, sym, ap, ◌∙◌, map-map, get_or-map, get_or_from_slice_get, slice_get_within, width_of, LeafType, widths_of, Cell}
 use Rattle.map_checks.proofs.join_plan.bytes_of_cell.Goals as goal
 
 pub returns : goal.returns

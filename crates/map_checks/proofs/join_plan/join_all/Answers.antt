@@ -1,9 +1,4 @@
-use Rattle.std.proofs.Common.{◌≡◌, ℕ, ◌+◌, ◌<◌, ◌≤◌, List, [], ◌∷◌, length, take, All, sym, ap, ◌∙◌, subst, arith, rules, length-append}
-use Rattle.places.specs.declared.piece.Cell.{Cell}
-use Rattle.map_bytes.specs.Cells.{byte_count}
-use Rattle.map_checks.specs.ByteRules.{HasOnePiece, IsJoined, bytes_at}
-use Rattle.map_checks.specs.declared.rule.Rule.{Rule}
-use Rattle.map_checks.specs.RuledLaws.{each_push}
+use Rattle.map_checks.proofs.Imports.{◌≡◌, ℕ, ◌+◌, ◌<◌, ◌≤◌, List, [], ◌∷◌, length, take, All, sym, ap, ◌∙◌, subst, arith, rules, length-append, Cell, byte_count, HasOnePiece, IsJoined, bytes_at, Rule, each_push}
 use Rattle.map_checks.proofs.JoinRuleLaws.{next_is, within, some_bytes, few_bytes, length-those, all_those, slice_is}
 use Rattle.map_checks.proofs.join_plan.join_all.Goals as goal
 

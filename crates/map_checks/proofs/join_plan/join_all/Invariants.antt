@@ -1,8 +1,5 @@
 -- the rules so far, and the bytes that they have
-use Rattle.std.proofs.Common.{◌≡◌, length, take}
-use Rattle.map_bytes.specs.Cells.{byte_count}
-use Rattle.map_checks.specs.Ruled.{EachWith}
-use Rattle.map_checks.specs.ByteRules.{IsJoined, bytes_at}
+use Rattle.map_checks.proofs.Imports.{◌≡◌, length, take, byte_count, EachWith, IsJoined, bytes_at}
 use Rattle.map_checks.proofs.join_plan.join_all.Given as goal
 
 abbrev pub invariant-loop-cell : goal.invariant-loop-cell

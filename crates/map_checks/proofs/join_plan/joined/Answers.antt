@@ -1,10 +1,4 @@
-use Rattle.std.proofs.Common.{◌≡◌, ℕ, ◌+◌, ◌<◌, ◌≤◌, List, [], ◌∷◌, ◌++◌, length, get_or, take, sym, ap, ◌∙◌, subst, arith, length-append}
-use Rattle.std.specs.List.{flat_map}
-use Rattle.std.proofs.lemmas.List.{take_more, append-nil}
-use Rattle.std.proofs.lemmas.List.Concat.{flat_map-append}
-use Rattle.places.specs.declared.rule.PieceRule.{PieceRule}
-use Rattle.map_checks.specs.ByteRules.{HasOnePiece}
-use Rattle.map_checks.specs.declared.rule.Rule.{Rule}
+use Rattle.map_checks.proofs.Imports.{◌≡◌, ℕ, ◌+◌, ◌<◌, ◌≤◌, List, [], ◌∷◌, ◌++◌, length, get_or, take, sym, ap, ◌∙◌, subst, arith, length-append, flat_map, take_more, append-nil, flat_map-append, PieceRule, HasOnePiece, Rule}
 use Rattle.map_checks.proofs.join_plan.joined.Goals as goal
 
 pub join_rules-requires : goal.join_rules-requires

@@ -1,6 +1,5 @@
 -- the pieces so far, one of each byte
-use Rattle.std.proofs.Common.{◌≡◌, length, take}
-use Rattle.std.specs.List.{flat_map}
+use Rattle.map_checks.proofs.Imports.{◌≡◌, length, take, flat_map}
 use Rattle.map_checks.proofs.join_plan.joined.Given as goal
 
 abbrev pub invariant-loop-byte : goal.invariant-loop-byte

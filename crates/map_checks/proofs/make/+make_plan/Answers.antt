@@ -1,22 +1,4 @@
-use Rattle.std.proofs.Common.{◌≡◌, ◌∙◌, ℕ, List, Bool, true, Err, map, length, sym, ap, subst}
-use Rattle.record_dim.specs.Trees.{Fields}
-use Rattle.record_dim.specs.Schemas.{schema_fields}
-use Rattle.std.specs.Prelude.{IfOk}
-use Rattle.extents.specs.declared.order.Order.{Order}
-use Rattle.linearize.specs.Slots.{slot_count}
-use Rattle.places.specs.Holds.{full_holds, widths_of}
-use Rattle.places.specs.declared.piece.Cell.{Cell}
-use Rattle.places.specs.Layout.{aosoa}
-use Rattle.places.specs.Forms.{aos_layout, soa_layout}
-use Rattle.map_expr.specs.Terms.{Term, term_of}
-use Rattle.map_expr.specs.declared.expr.MapExpr.{MapExpr}
-use Rattle.map_checks.specs.Mappings.{IsTooBigFor, not_full}
-use Rattle.map_checks.specs.declared.fault.MakeMap.TheVariants.{Bad}
-use Rattle.map_expr.specs.declared.check.BadMapping.TheVariants.{NotFull}
-use Rattle.map_checks.specs.Arrays.{HasArrays}
-use Rattle.map_checks.specs.LeafOrders.{orders_of}
-use Rattle.map_checks.specs.Plans.{IsPlanOf}
-use Rattle.map_checks.specs.declared.rule.Rule.{Rule}
+use Rattle.map_checks.proofs.Imports.{◌≡◌, ◌∙◌, ℕ, List, Bool, true, Err, map, length, sym, ap, subst, Fields, schema_fields, IfOk, Order, slot_count, full_holds, widths_of, Cell, aosoa, aos_layout, soa_layout, Term, term_of, MapExpr, IsTooBigFor, not_full, Bad, NotFull, HasArrays, orders_of, IsPlanOf, Rule}
 use Rattle.map_checks.proofs.ArrayLaws.{base_arrays}
 use Rattle.map_checks.proofs.OrderLaws.{planned_orders, orders_changed}
 use Rattle.map_checks.proofs.BytePlanLaws.{narrow_under, narrow_beside, over_swap, swap_held, swap_bytes, swap_planned, swap_ordered, over_join, join_each, join_alone, join_planned, join_ordered}

@@ -1,12 +1,4 @@
-use Rattle.std.proofs.Common.{◌≡◌, ◌+◌, ◌<◌, ◌∙◌, ◌∷◌, [], ◌++◌, ℕ, Bool, true, false, List, suc, length, get_or, take, sym, ap, arith}
-use Rattle.std.specs.Prelude.{not}
-use Rattle.std.specs.List.{count_by}
-use Rattle.std.proofs.lemmas.Option.{get_or_from_slice_get}
-use Rattle.std.proofs.lemmas.List.Sums.{count_by_more_yes, count_by_more_no}
-use Rattle.places.specs.declared.piece.Hold.{Hold}
-use Rattle.map_split.specs.Sides.{merged, rank_first, rank_rest}
-use Rattle.map_split.specs.SidesLaws.{rank_first_in, rank_rest_in}
-use Rattle.map_split.specs.MoreLaws.{merged_more_first, merged_more_rest}
+use Rattle.map_checks.proofs.Imports.{◌≡◌, ◌+◌, ◌<◌, ◌∙◌, ◌∷◌, [], ◌++◌, ℕ, Bool, true, false, List, suc, length, get_or, take, sym, ap, arith, not, count_by, get_or_from_slice_get, count_by_more_yes, count_by_more_no, Hold, merged, rank_first, rank_rest, rank_first_in, rank_rest_in, merged_more_first, merged_more_rest}
 use Rattle.map_checks.proofs.merge.merge_holds.Goals as goal
 use Rattle.map_checks.proofs.merge.merge_holds.Goals.{then-is_first+in_ok-push, else-is_first+in_ok-push-2}
 

@@ -1,6 +1,5 @@
 -- the holds so far, and how many of each side
-use Rattle.std.proofs.Common.{◌≡◌, take}
-use Rattle.map_split.specs.Sides.{merged, rank_first, rank_rest}
+use Rattle.map_checks.proofs.Imports.{◌≡◌, take, merged, rank_first, rank_rest}
 use Rattle.map_checks.proofs.merge.merge_holds.Given as goal
 
 abbrev pub invariant-loop-is_first : goal.invariant-loop-is_first

@@ -1,9 +1,4 @@
-use Rattle.std.proofs.Common.{◌∙◌, List, length, sym, ap}
-use Rattle.record_dim.specs.Schemas.{schema_fields}
-use Rattle.places.specs.CellWidthsLaws.{length-full}
-use Rattle.places.specs.declared.piece.Hold.{Hold}
-use Rattle.map_expr.specs.Terms.{term_of}
-use Rattle.map_checks.specs.TermLaws.{length-holds}
+use Rattle.map_checks.proofs.Imports.{◌∙◌, List, length, sym, ap, schema_fields, length-full, Hold, term_of, length-holds}
 use Rattle.map_checks.proofs.not_full.has_narrow_cell.Goals as goal
 
 pub has_other_hold-requires : goal.has_other_hold-requires

@@ -1,8 +1,5 @@
 -- none so far is stored in another way
-use Rattle.std.proofs.Common.{◌≡◌, length}
-use Rattle.std.specs.Iterator.Adapters.{zip_first, zip_second}
-use Rattle.std.specs.Slice.Iter.{iter_rest}
-use Rattle.map_bytes.specs.Cells.{differ}
+use Rattle.map_checks.proofs.Imports.{◌≡◌, length, zip_first, zip_second, iter_rest, differ}
 use Rattle.map_checks.proofs.not_full.has_other_hold.Given as goal
 
 abbrev pub invariant-loop-hold : goal.invariant-loop-hold

@@ -1,5 +1,4 @@
-use Rattle.std.proofs.Common.{◌≡◌, ◌≢◌, ◌∙◌, ◌<◌, length, arith, below_more, get_or-set_other, get_or-set_same}
-use Rattle.std.proofs.lemmas.List.{same_lists, get_or_default, length-set}
+use Rattle.map_checks.proofs.Imports.{◌≡◌, ◌≢◌, ◌∙◌, ◌<◌, length, arith, below_more, get_or-set_other, get_or-set_same, same_lists, get_or_default, length-set}
 use Rattle.map_checks.proofs.orders.sizes.Goals as goal
 
 pub loop-d-preserved : goal.loop-d-preserved

@@ -1,5 +1,5 @@
 -- the extents so far are written
-use Rattle.std.proofs.Common.{◌≡◌, ℕ, ◌<◌, get_or, length}
+use Rattle.map_checks.proofs.Imports.{◌≡◌, ℕ, ◌<◌, get_or, length}
 use Rattle.map_checks.proofs.orders.sizes.Given as goal
 
 abbrev pub invariant-loop-d : goal.invariant-loop-d

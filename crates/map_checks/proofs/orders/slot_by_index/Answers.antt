@@ -1,8 +1,4 @@
-use Rattle.std.proofs.Common.{◌≡◌, ◌<◌, ◌∙◌, ℕ, List, [], sym, ap, subst}
-use Rattle.std.proofs.lemmas.Option.{get_or_from_slice_get}
-use Rattle.extents.specs.Indices.{indices}
-use Rattle.linearize.specs.Slots.{index_at, slot_at, slot_count, slot_of}
-use Rattle.linearize.specs.SlotsLaws.{slot_at_below}
+use Rattle.map_checks.proofs.Imports.{◌≡◌, ◌<◌, ◌∙◌, ℕ, List, [], sym, ap, subst, get_or_from_slice_get, indices, index_at, slot_at, slot_count, slot_of, slot_at_below}
 use Rattle.map_checks.proofs.orders.slot_by_index.Goals as goal
 
 pub returns : goal.returns

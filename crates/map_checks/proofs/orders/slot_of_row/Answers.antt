@@ -1,7 +1,4 @@
-use Rattle.std.proofs.Common.{◌∙◌, sym, ap}
-use Rattle.extents.specs.declared.order.Order.{Order}
-use Rattle.linearize.specs.Slots.{slot_at}
-use Rattle.linearize.specs.SlotsLaws.{slot_at_by_rows}
+use Rattle.map_checks.proofs.Imports.{◌∙◌, sym, ap, Order, slot_at, slot_at_by_rows}
 use Rattle.map_checks.proofs.orders.slot_of_row.Goals as goal
 
 pub returns-in-Row-clause-slot : goal.returns-in-Row-clause-slot

@@ -1,11 +1,4 @@
-use Rattle.std.proofs.Common.{ℕ, ◌≡◌, ◌-◌, ◌∙◌, Bool, true, false, nat_lt, List, length, Option, sym, ap, arith}
-use Rattle.std.specs.Prelude.{nat_le, ◌&&◌}
-use Rattle.std.proofs.lemmas.Bool.Decides.{nat_tests}
-use Rattle.record_dim.specs.declared.path.PathStep.{PathStep}
-use Rattle.record_dim.specs.Schemas.{schema_fields}
-use Rattle.record_dim.specs.Trees.{Tree, Fields, Record}
-use Rattle.record_dim.specs.Leaves.{leaves_of}
-use Rattle.record_dim.specs.Nodes.{IsUnder, is_under, is_from, leaves_before}
+use Rattle.map_checks.proofs.Imports.{ℕ, ◌≡◌, ◌-◌, ◌∙◌, Bool, true, false, nat_lt, List, length, Option, sym, ap, arith, nat_le, ◌&&◌, nat_tests, PathStep, schema_fields, Tree, Fields, Record, leaves_of, IsUnder, is_under, is_from, leaves_before}
 use Rattle.map_checks.proofs.sides.is_under.Goals as goal
 
 -- the leaves of a node follow one another

@@ -1,7 +1,5 @@
 -- the cells so far
-use Rattle.std.proofs.Common.{◌≡◌, take}
-use Rattle.record_dim.specs.Schemas.{schema_fields}
-use Rattle.map_checks.specs.Sides.{side_of, cells_under, cells_beside}
+use Rattle.map_checks.proofs.Imports.{◌≡◌, take, schema_fields, side_of, cells_under, cells_beside}
 use Rattle.map_checks.proofs.sides.split_cells.Given as goal
 
 abbrev pub invariant-loop-cell : goal.invariant-loop-cell

@@ -1,6 +1,5 @@
 -- what is left of the limit
-use Rattle.std.proofs.Common.{◌≡◌, ◌+◌, ◌^◌, take}
-use Rattle.std.specs.List.{sum}
+use Rattle.map_checks.proofs.Imports.{◌≡◌, ◌+◌, ◌^◌, take, sum}
 use Rattle.map_checks.proofs.split_plan.is_over.Given as goal
 
 abbrev pub invariant-loop-bytes : goal.invariant-loop-bytes

@@ -1,5 +1,5 @@
 -- the lengths so far
-use Rattle.std.proofs.Common.{◌≡◌, ◌++◌, take}
+use Rattle.map_checks.proofs.Imports.{◌≡◌, ◌++◌, take}
 use Rattle.map_checks.proofs.split_plan.join_lengths.Given as goal
 
 abbrev pub invariant-loop-bytes : goal.invariant-loop-bytes

@@ -1,10 +1,4 @@
-use Rattle.std.proofs.Common.{◌≡◌, ◌+◌, ◌<◌, ◌∙◌, ◌∷◌, [], ◌++◌, ℕ, Bool, true, false, List, length, get_or, sym, ap, arith, length-append}
-use Rattle.std.specs.Prelude.{not}
-use Rattle.std.specs.List.{count_by}
-use Rattle.std.proofs.lemmas.List.Sums.{count_by_more_yes, count_by_more_no}
-use Rattle.map_checks.specs.declared.rule.Rule.{Rule}
-use Rattle.map_split.specs.Sides.{rank_first, rank_rest}
-use Rattle.map_split.specs.SidesLaws.{rank_first_in, rank_rest_in}
+use Rattle.map_checks.proofs.Imports.{◌≡◌, ◌+◌, ◌<◌, ◌∙◌, ◌∷◌, [], ◌++◌, ℕ, Bool, true, false, List, length, get_or, sym, ap, arith, length-append, not, count_by, count_by_more_yes, count_by_more_no, Rule, rank_first, rank_rest, rank_first_in, rank_rest_in}
 use Rattle.map_checks.proofs.SplitRules.{more_first, more_rest}
 use Rattle.map_checks.proofs.split_rules.split_rules.Goals as goal
 use Rattle.map_checks.proofs.split_rules.split_rules.Goals.{then-is_first+in_ok-push, else-is_first+in_ok-push-2}

@@ -1,8 +1,5 @@
 -- the rules so far, and how many of each side
-use Rattle.std.proofs.Common.{◌≡◌, length}
-use Rattle.map_checks.specs.Ruled.{EachWith}
-use Rattle.map_checks.specs.Splits.{IsSplitRule}
-use Rattle.map_split.specs.Sides.{rank_first, rank_rest}
+use Rattle.map_checks.proofs.Imports.{◌≡◌, length, EachWith, IsSplitRule, rank_first, rank_rest}
 use Rattle.map_checks.proofs.split_rules.split_rules.Given as goal
 
 abbrev pub invariant-loop-is_first : goal.invariant-loop-is_first

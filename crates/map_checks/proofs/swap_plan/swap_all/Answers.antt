@@ -1,8 +1,4 @@
-use Rattle.std.proofs.Common.{◌≡◌, ℕ, ◌+◌, ◌<◌, List, [], ◌∷◌, length, get_or, sym, ap, ◌∙◌, subst, arith, length-append}
-use Rattle.std.proofs.lemmas.List.{get_or_default}
-use Rattle.map_checks.specs.ByteRules.{HasWholeBytes, IsSwapped}
-use Rattle.map_checks.specs.declared.rule.Rule.{Rule}
-use Rattle.map_checks.specs.RuledLaws.{each_push}
+use Rattle.map_checks.proofs.Imports.{◌≡◌, ℕ, ◌+◌, ◌<◌, List, [], ◌∷◌, length, get_or, sym, ap, ◌∙◌, subst, arith, length-append, get_or_default, HasWholeBytes, IsSwapped, Rule, each_push}
 use Rattle.map_checks.proofs.swap_plan.swap_all.Goals as goal
 
 pub swapped-requires : goal.swapped-requires

@@ -1,7 +1,5 @@
 -- the widths so far
-use Rattle.std.proofs.Common.{◌≡◌, take}
-use Rattle.record_dim.specs.Schemas.{schema_fields}
-use Rattle.map_checks.specs.Widths.{cell_widths}
+use Rattle.map_checks.proofs.Imports.{◌≡◌, take, schema_fields, cell_widths}
 use Rattle.map_checks.proofs.widths.cell_widths.Given as goal
 
 abbrev pub invariant-loop-cell : goal.invariant-loop-cell

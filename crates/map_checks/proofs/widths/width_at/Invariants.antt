@@ -1,8 +1,5 @@
 -- what the entries so far say
-use Rattle.std.proofs.Common.{◌≡◌, take}
-use Rattle.std.specs.List.{fold}
-use Rattle.record_dim.specs.Schemas.{schema_fields}
-use Rattle.map_checks.specs.Widths.{width_by}
+use Rattle.map_checks.proofs.Imports.{◌≡◌, take, fold, schema_fields, width_by}
 use Rattle.map_checks.proofs.widths.width_at.Given as goal
 
 abbrev pub invariant-loop-entry : goal.invariant-loop-entry

@@ -1,6 +1,4 @@
-use Rattle.std.proofs.Common.{◌+◌, ◌*◌, ℕ, List, sym, ap, ◌∙◌, subst, arith}
-use Rattle.places.specs.Holds.{widths_of}
-use Rattle.map_soa.specs.Soa.{alignment}
+use Rattle.map_soa.proofs.Imports.{◌+◌, ◌*◌, ℕ, List, sym, ap, ◌∙◌, subst, arith, widths_of, alignment}
 use Rattle.map_soa.proofs.Placed.{IsPlaced, placed_next, placed_le, stored_cells}
 use Rattle.map_soa.proofs.arrays.lay_out.Goals as goal
 

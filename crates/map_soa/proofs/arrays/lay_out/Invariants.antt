@@ -1,5 +1,4 @@
-use Rattle.std.proofs.Common.{◌^◌, ◌≤◌}
-use Rattle.places.specs.Holds.{widths_of}
+use Rattle.map_soa.proofs.Imports.{◌^◌, ◌≤◌, widths_of}
 use Rattle.map_soa.proofs.Placed.{IsPlaced}
 use Rattle.map_soa.proofs.arrays.lay_out.Given as goal
 

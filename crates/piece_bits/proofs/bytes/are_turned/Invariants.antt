@@ -1,7 +1,5 @@
 -- the pieces so far
-use Rattle.std.proofs.Common.{ℕ, ◌-◌, ◌<◌, length, get_or}
-use Rattle.places.specs.declared.rule.PieceRule.{PieceRule}
-use Rattle.piece_bits.specs.Stands.{IsTurnedByte}
+use Rattle.piece_bits.proofs.Imports.{ℕ, ◌-◌, ◌<◌, length, get_or, PieceRule, IsTurnedByte}
 use Rattle.piece_bits.proofs.bytes.are_turned.Given as goal
 
 abbrev pub invariant-loop-k : goal.invariant-loop-k

@@ -1,10 +1,4 @@
-use Rattle.std.proofs.Common.{◌∙◌, List, map, slice_index, subst, sym, SFits, rules, arith}
-use Rattle.std.specs.Int.{w128}
-use Rattle.std.proofs.lemmas.Int.{to_z-of_z}
-use Rattle.places.specs.declared.piece.Piece.{Piece}
-use Rattle.places.specs.declared.piece.Hold.{Hold}
-use Rattle.places.specs.Laws.{IsLocated}
-use Rattle.piece_bits.specs.CellsLaws.{IsCell, some_bits, few_bits, bit_count, within, read_small, read_entry_is}
+use Rattle.piece_bits.proofs.Imports.{◌∙◌, List, map, slice_index, subst, sym, SFits, rules, arith, w128, to_z-of_z, Piece, Hold, IsLocated, IsCell, some_bits, few_bits, bit_count, within, read_small, read_entry_is}
 use Rattle.piece_bits.proofs.entry.read_entry.Given as given
 use Rattle.piece_bits.proofs.entry.read_entry.Goals as goal
 use Rattle.piece_bits.proofs.entry.read_entry.Goals.{After-as_slice, After-read_pieces}

@@ -1,13 +1,4 @@
-use Rattle.std.proofs.Common.{◌≡◌, ◌+◌, ◌*◌, ◌/◌, ◌%◌, ◌≤◌, ◌∙◌, ◌∷◌, [], ℕ, List, length, get_or, sym, ap, subst, ◌<◌, ◌^◌, SFits, rules, arith}
-use Rattle.std.specs.Int.{w128}
-use Rattle.std.proofs.lemmas.Int.{to_z-of_z}
-use Rattle.std.proofs.lemmas.List.{get_or_read}
-use Rattle.std.proofs.lemmas.Nat.Bits.{bit_at-lt}
-use Rattle.places.specs.Image.{decoded}
-use Rattle.places.specs.NumbersLaws.{number_lt}
-use Rattle.blobs.specs.Bits.{bit_of}
-use Rattle.piece_bits.specs.CellsLaws.{IsCell, some_bits, few_bits}
-use Rattle.piece_bits.specs.OnePieceLaws.{one_width, one_within, one_entry}
+use Rattle.piece_bits.proofs.Imports.{◌≡◌, ◌+◌, ◌*◌, ◌/◌, ◌%◌, ◌≤◌, ◌∙◌, ◌∷◌, [], ℕ, List, length, get_or, sym, ap, subst, ◌<◌, ◌^◌, SFits, rules, arith, w128, to_z-of_z, get_or_read, bit_at-lt, decoded, number_lt, bit_of, IsCell, some_bits, few_bits, one_width, one_within, one_entry}
 use Rattle.piece_bits.proofs.entry.read_piece.Given as given
 use Rattle.piece_bits.proofs.entry.read_piece.Goals as goal
 use Rattle.piece_bits.proofs.entry.read_piece.Goals.{After-hold-hold}

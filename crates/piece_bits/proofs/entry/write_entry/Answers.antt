@@ -1,12 +1,4 @@
-use Rattle.std.proofs.Common.{ℤ, ◌≡◌, ◌∙◌, List, map, slice_index, subst, sym, ap, arith, rules, SFits}
-use Rattle.std.specs.Int.{w128}
-use Rattle.std.proofs.lemmas.Int.{to_z-of_z}
-use Rattle.record_dim.specs.LeafTypes.{IsIn}
-use Rattle.places.specs.declared.piece.Piece.{Piece}
-use Rattle.places.specs.declared.piece.Hold.{Hold}
-use Rattle.places.specs.Laws.{IsLocated}
-use Rattle.places.specs.Image.{number, digit}
-use Rattle.piece_bits.specs.CellsLaws.{IsCell, hold_is, some_bits, few_bits, bit_count, apart, written_table, written_padding, still_laid}
+use Rattle.piece_bits.proofs.Imports.{ℤ, ◌≡◌, ◌∙◌, List, map, slice_index, subst, sym, ap, arith, rules, SFits, w128, to_z-of_z, IsIn, Piece, Hold, IsLocated, number, digit, IsCell, hold_is, some_bits, few_bits, bit_count, apart, written_table, written_padding, still_laid}
 use Rattle.piece_bits.proofs.entry.write_entry.Given as given
 use Rattle.piece_bits.proofs.entry.write_entry.Goals as goal
 use Rattle.piece_bits.proofs.entry.write_entry.Goals.{After-as_slice}

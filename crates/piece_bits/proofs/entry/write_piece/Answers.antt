@@ -1,13 +1,4 @@
-use Rattle.std.proofs.Common.{ℤ, ℕ, ◌≡◌, ◌<◌, ◌^◌, ◌∙◌, ◌∷◌, [], get_or, subst, sym, ap, arith, rules, SFits}
-use Rattle.std.specs.Int.{w128}
-use Rattle.std.proofs.lemmas.Int.{to_z-of_z}
-use Rattle.std.proofs.lemmas.List.{get_or_default}
-use Rattle.record_dim.specs.LeafTypes.{IsIn}
-use Rattle.places.specs.declared.piece.Hold.{Hold}
-use Rattle.places.specs.Image.{number, digit}
-use Rattle.places.specs.NumbersLaws.{number_lt, digit_lt}
-use Rattle.piece_bits.specs.CellsLaws.{IsCell, hold_is, some_bits, few_bits, bit_count}
-use Rattle.piece_bits.specs.OnePieceLaws.{one_count, one_within, one_table, one_laid}
+use Rattle.piece_bits.proofs.Imports.{ℤ, ℕ, ◌≡◌, ◌<◌, ◌^◌, ◌∙◌, ◌∷◌, [], get_or, subst, sym, ap, arith, rules, SFits, w128, to_z-of_z, get_or_default, IsIn, Hold, number, digit, number_lt, digit_lt, IsCell, hold_is, some_bits, few_bits, bit_count, one_count, one_within, one_table, one_laid}
 use Rattle.piece_bits.proofs.entry.write_piece.Given as given
 use Rattle.piece_bits.proofs.entry.write_piece.Goals as goal
 use Rattle.piece_bits.proofs.entry.write_piece.Goals.{After-hold-hold, After-encode, After-put_bits}

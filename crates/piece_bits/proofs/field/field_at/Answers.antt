@@ -1,11 +1,4 @@
-use Rattle.std.proofs.Common.{◌≡◌, ℕ, ◌+◌, ◌/◌, ◌%◌, ◌^◌, bit_and, ap, ◌∙◌, arith, rules, SFits}
-use Rattle.std.specs.Int.{w128}
-use Rattle.std.proofs.lemmas.Int.{to_z-of_z}
-use Rattle.std.proofs.lemmas.Nat.{and_mask}
-use Rattle.places.specs.Image.{number, decoded}
-use Rattle.blobs.specs.Bits.{bit_of}
-use Rattle.blobs.specs.BytesLaws.{byte_and_bit}
-use Rattle.blobs.specs.FieldsLaws.{field_read}
+use Rattle.piece_bits.proofs.Imports.{◌≡◌, ℕ, ◌+◌, ◌/◌, ◌%◌, ◌^◌, bit_and, ap, ◌∙◌, arith, rules, SFits, w128, to_z-of_z, and_mask, number, decoded, bit_of, byte_and_bit, field_read}
 use Rattle.piece_bits.proofs.field.field_at.Goals as goal
 use Rattle.piece_bits.proofs.field.field_at.Goals.{After-window-word}
 

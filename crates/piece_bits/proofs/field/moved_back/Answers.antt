@@ -1,7 +1,4 @@
-use Rattle.std.proofs.Common.{◌≡◌, ℕ, bit_xor, pos, ◌-ℤ◌, sym, ap, ◌∙◌, subst, arith}
-use Rattle.std.proofs.lemmas.Int.{ints}
-use Rattle.places.specs.Image.{decoded}
-use Rattle.piece_bits.specs.Words.{half_range}
+use Rattle.piece_bits.proofs.Imports.{◌≡◌, ℕ, bit_xor, pos, ◌-ℤ◌, sym, ap, ◌∙◌, subst, arith, ints, decoded, half_range}
 use Rattle.piece_bits.proofs.FieldValues.{moved_field, xored_half}
 use Rattle.piece_bits.proofs.field.moved_back.Goals as goal
 

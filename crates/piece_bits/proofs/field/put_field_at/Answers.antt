@@ -1,10 +1,5 @@
-use Rattle.std.proofs.Common.{◌≡◌, ℕ, ℤ, ◌+◌, ◌/◌, ◌%◌, ◌^◌, ◌<◌, ◌≤◌, sym, ap, ◌∙◌, subst, arith, rules, SFits}
-use Rattle.std.specs.Int.{w128, bit_at}
-use Rattle.std.proofs.lemmas.Int.{to_z-of_z}
-use Rattle.places.specs.Image.{number, digit}
-use Rattle.places.specs.NumbersLaws.{number_lt, digit_lt}
-use Rattle.blobs.specs.BytesLaws.{IsPut, byte_and_bit}
-use Rattle.blobs.specs.FieldsLaws.{field_put, window_written}
+use Rattle.piece_bits.proofs.Imports.{◌≡◌, ℕ, ℤ, ◌+◌, ◌/◌, ◌%◌, ◌^◌, ◌<◌, ◌≤◌, sym, ap, ◌∙◌, subst, arith, rules, SFits, w128, bit_at, to_z-of_z, number, digit, number_lt, digit_lt, byte_and_bit, field_put, window_written}
+use Rattle.blobs.specs.BytesLaws.{IsPut}
 use Rattle.piece_bits.proofs.field.put_field_at.Goals as goal
 use Rattle.piece_bits.proofs.field.put_field_at.Goals.{After-encode-code, After-put_window}
 

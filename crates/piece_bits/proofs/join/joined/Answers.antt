@@ -1,7 +1,4 @@
-use Rattle.std.proofs.Common.{◌≡◌, ℕ, ◌+◌, suc, List, ◌∷◌, drop, drop-cons, sym, ap, ◌∙◌, subst, arith}
-use Rattle.std.proofs.lemmas.List.{drop_all}
-use Rattle.places.specs.declared.rule.PieceRule.{PieceRule}
-use Rattle.piece_bits.specs.Joins.{Carries}
+use Rattle.piece_bits.proofs.Imports.{◌≡◌, ℕ, ◌+◌, suc, List, ◌∷◌, drop, drop-cons, sym, ap, ◌∙◌, subst, arith, drop_all, PieceRule, Carries}
 use Rattle.piece_bits.proofs.Together.{rules_join}
 use Rattle.piece_bits.proofs.join.joined.Goals as goal
 

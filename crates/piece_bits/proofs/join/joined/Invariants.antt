@@ -1,6 +1,5 @@
 -- the pieces so far as one
-use Rattle.std.proofs.Common.{◌∷◌, drop}
-use Rattle.piece_bits.specs.Joins.{Carries}
+use Rattle.piece_bits.proofs.Imports.{◌∷◌, drop, Carries}
 use Rattle.piece_bits.proofs.join.joined.Given as goal
 
 abbrev pub invariant-loop-next : goal.invariant-loop-next

@@ -1,6 +1,5 @@
 use Rattle.piece_bits.specs.KeptLaws as laws
-use Rattle.piece_bits.specs.CongruenceLaws.{low_congruent, congruent_same}
-use Rattle.piece_bits.specs.FarLaws.{fold_next, folded_far, shortened_kept}
+use Rattle.piece_bits.proofs.Imports.{low_congruent, congruent_same, fold_next, folded_far, shortened_kept}
 use Rattle.piece_bits.proofs.laws.kept_laws.Goals as goal
 
 pub returns-clause-congruent : goal.returns-clause-congruent

@@ -1,8 +1,4 @@
-use Rattle.std.proofs.Common.{◌≡◌, ◌≤◌, ◌-◌, ◌*◌, ◌%◌, ◌^◌, ◌+ℤ◌, ◌-ℤ◌, ℕ, pos, negsuc, ap, ◌∙◌, arith, rules, SFits, to_z, of_z}
-use Rattle.std.specs.Int.{w128}
-use Rattle.std.proofs.Math.IntN.{nat_abs}
-use Rattle.std.proofs.lemmas.Int.{ints, to_z-of_z}
-use Rattle.std.proofs.Math.Pow.{pow_mono}
+use Rattle.piece_bits.proofs.Imports.{◌≡◌, ◌≤◌, ◌-◌, ◌*◌, ◌%◌, ◌^◌, ◌+ℤ◌, ◌-ℤ◌, ℕ, pos, negsuc, ap, ◌∙◌, arith, rules, SFits, to_z, of_z, w128, nat_abs, ints, to_z-of_z, pow_mono}
 use Rattle.piece_bits.proofs.Remainders.{low_of, above_of}
 use Rattle.piece_bits.proofs.low.low_part.Goals as goal
 

@@ -1,7 +1,4 @@
-use Rattle.std.proofs.Common.{◌≡◌, ℕ, ℤ, ◌+◌, ◌/◌, ◌%◌, ◌^◌, ◌∙◌, sym, ap, rules, FitsSigned, w64, to_z, of_z, arith}
-use Rattle.std.proofs.lemmas.Int.{ints, to_z-of_z}
-use Rattle.piece_bits.specs.Lows.{IsWithin64}
-use Rattle.piece_bits.specs.LowsLaws.{code_low}
+use Rattle.piece_bits.proofs.Imports.{◌≡◌, ℕ, ℤ, ◌+◌, ◌/◌, ◌%◌, ◌^◌, ◌∙◌, sym, ap, rules, FitsSigned, w64, to_z, of_z, arith, ints, to_z-of_z, IsWithin64, code_low}
 use Rattle.piece_bits.proofs.low_numbers.low_bits.Goals as goal
 
 pub returns-clause-bits : goal.returns-clause-bits

@@ -1,6 +1,4 @@
-use Rattle.std.proofs.Common.{◌≡◌, ℕ, List, [], ◌∷◌, get_or, sym, ap, ◌∙◌, subst}
-use Rattle.piece_bits.specs.Paths.{IsPath}
-use Rattle.piece_bits.specs.declared.walk.Walk.{Walk}
+use Rattle.piece_bits.proofs.Imports.{◌≡◌, ℕ, List, [], ◌∷◌, get_or, sym, ap, ◌∙◌, subst, IsPath, Walk}
 use Rattle.piece_bits.proofs.Ways.{list_of_two, column_path, digit_path}
 use Rattle.piece_bits.proofs.path.by_lines.Goals as goal
 use Rattle.piece_bits.proofs.path.by_lines.Goals.{After-of, in-Morton, in_default}

@@ -1,6 +1,4 @@
-use Rattle.std.proofs.Common.{sym, subst}
-use Rattle.piece_bits.specs.Paths.{IsPath}
-use Rattle.piece_bits.specs.declared.walk.Walk.{Walk}
+use Rattle.piece_bits.proofs.Imports.{sym, subst, IsPath, Walk}
 use Rattle.piece_bits.proofs.Ways.{plain_path, block_path}
 use Rattle.piece_bits.proofs.path.by_rows.Goals as goal
 use Rattle.piece_bits.proofs.path.by_rows.Goals.{then-power-eq0, else-power-eq0}

@@ -1,11 +1,4 @@
-use Rattle.std.proofs.Common.{◌+◌, ◌*◌, ◌/◌, ◌%◌, ◌^◌, ◌≡◌, ◌<◌, ℕ, List, [], get_or, ap, ◌∙◌, arith}
-use Rattle.std.proofs.lemmas.List.{get_or_read}
-use Rattle.std.proofs.lemmas.Nat.Bits.{bit_at-lt}
-use Rattle.places.specs.Image.{number}
-use Rattle.places.specs.declared.piece.Piece.{Piece}
-use Rattle.blobs.specs.Bits.{bit_of, bit_in}
-use Rattle.piece_bits.specs.Spots.{spots_of, bit_at_spot, IsWithin}
-use Rattle.piece_bits.specs.SpotsOfLaws.{IsNext, nowhere, next_piece, read_next}
+use Rattle.piece_bits.proofs.Imports.{◌+◌, ◌*◌, ◌/◌, ◌%◌, ◌^◌, ◌≡◌, ◌<◌, ℕ, List, [], get_or, ap, ◌∙◌, arith, get_or_read, bit_at-lt, number, Piece, bit_of, bit_in, spots_of, bit_at_spot, IsWithin, IsNext, nowhere, next_piece, read_next}
 use Rattle.piece_bits.proofs.pieces.read_pieces.Goals as goal
 
 pub bits-requires-clause-few : goal.bits-requires-clause-few

@@ -1,7 +1,4 @@
-use Rattle.std.proofs.Common.{◌≡◌, length, take}
-use Rattle.places.specs.Image.{number}
-use Rattle.blobs.specs.Bits.{bit_in}
-use Rattle.piece_bits.specs.Spots.{spots_of, bit_at_spot}
+use Rattle.piece_bits.proofs.Imports.{◌≡◌, length, take, number, bit_in, spots_of, bit_at_spot}
 use Rattle.piece_bits.proofs.pieces.read_pieces.Given as goal
 
 abbrev pub invariant-loop-piece : goal.invariant-loop-piece

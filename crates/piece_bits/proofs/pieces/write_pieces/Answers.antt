@@ -1,10 +1,4 @@
-use Rattle.std.proofs.Common.{◌≡◌, ◌∙◌, ℕ, List, [], get_or, length, ap, arith}
-use Rattle.std.proofs.lemmas.List.{get_or_default}
-use Rattle.places.specs.declared.piece.Piece.{Piece}
-use Rattle.blobs.specs.Bits.{bit_of}
-use Rattle.piece_bits.specs.Spots.{spots_of, IsWithin}
-use Rattle.piece_bits.specs.SpotsOfLaws.{IsNext, nowhere, next_piece}
-use Rattle.piece_bits.specs.WritesLaws.{AreWritten, within_same, write_next}
+use Rattle.piece_bits.proofs.Imports.{◌≡◌, ◌∙◌, ℕ, List, [], get_or, length, ap, arith, get_or_default, Piece, bit_of, spots_of, IsWithin, IsNext, nowhere, next_piece, AreWritten, within_same, write_next}
 use Rattle.piece_bits.proofs.pieces.write_pieces.Goals as goal
 use Rattle.piece_bits.proofs.pieces.write_pieces.Goals.{In-loop-piece}
 

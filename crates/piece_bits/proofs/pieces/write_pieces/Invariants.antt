@@ -1,7 +1,4 @@
-use Rattle.std.proofs.Common.{ℕ, ◌≡◌, ◌<◌, length, map, take}
-use Rattle.std.specs.Int.{bit_at}
-use Rattle.blobs.specs.Bits.{bit_in}
-use Rattle.piece_bits.specs.Spots.{spots_of, spot_at, bit_at_spot}
+use Rattle.piece_bits.proofs.Imports.{ℕ, ◌≡◌, ◌<◌, length, map, take, bit_at, bit_in, spots_of, spot_at, bit_at_spot}
 use Rattle.piece_bits.proofs.pieces.write_pieces.Given as goal
 
 abbrev pub invariant-loop-piece : goal.invariant-loop-piece

@@ -1,5 +1,4 @@
-use Rattle.std.proofs.Common.{ap, ◌∙◌, arith}
-use Rattle.std.specs.Int.{int_min, int_max}
+use Rattle.piece_bits.proofs.Imports.{ap, ◌∙◌, arith, int_min, int_max}
 use Rattle.piece_bits.proofs.InPlace.{mapped}
 use Rattle.piece_bits.proofs.plain.clamp.Goals as goal
 

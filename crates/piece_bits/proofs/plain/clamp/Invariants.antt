@@ -1,5 +1,4 @@
-use Rattle.std.proofs.Common.{map}
-use Rattle.std.specs.Int.{int_min, int_max}
+use Rattle.piece_bits.proofs.Imports.{map, int_min, int_max}
 use Rattle.piece_bits.proofs.InPlace.{IsReplaced}
 use Rattle.piece_bits.proofs.plain.clamp.Given as goal
 

@@ -1,6 +1,4 @@
-use Rattle.std.proofs.Common.{◌≡◌, take}
-use Rattle.std.specs.List.{count_by}
-use Rattle.piece_bits.specs.Plain.{compares}
+use Rattle.piece_bits.proofs.Imports.{◌≡◌, take, count_by, compares}
 use Rattle.piece_bits.proofs.plain.count_by.Given as goal
 
 abbrev pub invariant-loop-value : goal.invariant-loop-value

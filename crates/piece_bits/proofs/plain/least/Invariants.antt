@@ -1,5 +1,4 @@
-use Rattle.std.proofs.Common.{◌≡◌, take, fold}
-use Rattle.std.specs.Int.{int_min}
+use Rattle.piece_bits.proofs.Imports.{◌≡◌, take, fold, int_min}
 use Rattle.piece_bits.proofs.plain.least.Given as goal
 
 abbrev pub invariant-loop-value : goal.invariant-loop-value

@@ -1,4 +1,4 @@
-use Rattle.std.proofs.Common.{◌≡◌, ◌+ℤ◌, take, fold}
+use Rattle.piece_bits.proofs.Imports.{◌≡◌, ◌+ℤ◌, take, fold}
 use Rattle.piece_bits.proofs.plain.sum.Given as goal
 
 abbrev pub invariant-loop-value : goal.invariant-loop-value

@@ -1,6 +1,4 @@
-use Rattle.std.proofs.Common.{◌≡◌, ◌+ℤ◌, ◌*ℤ◌, get_or, ap, ◌∙◌, arith}
-use Rattle.std.specs.Simd.Lanes.{zip2}
-use Rattle.std.proofs.lemmas.Simd.{length-zip2}
+use Rattle.piece_bits.proofs.Imports.{◌≡◌, ◌+ℤ◌, ◌*ℤ◌, get_or, ap, ◌∙◌, arith, zip2, length-zip2}
 use Rattle.piece_bits.proofs.InPlace.{all, beside, zipped}
 use Rattle.piece_bits.proofs.plain.times_plus.Goals as goal
 

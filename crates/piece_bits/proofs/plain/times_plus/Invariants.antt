@@ -1,5 +1,4 @@
-use Rattle.std.proofs.Common.{◌+ℤ◌, ◌*ℤ◌}
-use Rattle.std.specs.Simd.Lanes.{zip2}
+use Rattle.piece_bits.proofs.Imports.{◌+ℤ◌, ◌*ℤ◌, zip2}
 use Rattle.piece_bits.proofs.InPlace.{IsReplaced}
 use Rattle.piece_bits.proofs.plain.times_plus.Given as goal
 

@@ -1,5 +1,4 @@
-use Rattle.std.proofs.Common.{◌≡◌, ◌<◌, ◌+◌, ◌∙◌, length, get_or, pos, refl, rules, FitsSigned, w64, arith}
-use Rattle.std.proofs.lemmas.Int.{to_z-of_z}
+use Rattle.piece_bits.proofs.Imports.{◌≡◌, ◌<◌, ◌+◌, ◌∙◌, length, get_or, pos, refl, rules, FitsSigned, w64, arith, to_z-of_z}
 use Rattle.piece_bits.proofs.Puts.{put_more, room_left}
 use Rattle.piece_bits.proofs.put.put_digits.Goals as goal
 

@@ -1,5 +1,4 @@
-use Rattle.std.proofs.Common.{◌≡◌, ◌<◌, ◌+◌, ◌*◌, ◌∙◌, List, ℤ, length, get_or, pos, refl, rules, FitsSigned, w64, arith}
-use Rattle.std.proofs.lemmas.Int.{to_z-of_z}
+use Rattle.piece_bits.proofs.Imports.{◌≡◌, ◌<◌, ◌+◌, ◌*◌, ◌∙◌, List, ℤ, length, get_or, pos, refl, rules, FitsSigned, w64, arith, to_z-of_z}
 use Rattle.piece_bits.proofs.Puts.{even_place, put_more, room_left}
 use Rattle.piece_bits.proofs.put.put_each.Goals as goal
 

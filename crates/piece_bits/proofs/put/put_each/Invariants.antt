@@ -1,4 +1,4 @@
-use Rattle.piece_bits.specs.Stretched.{ArePut}
+use Rattle.piece_bits.proofs.Imports.{ArePut}
 use Rattle.piece_bits.proofs.put.put_each.Given as goal
 
 abbrev pub invariant-loop-k : goal.invariant-loop-k

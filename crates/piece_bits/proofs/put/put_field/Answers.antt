@@ -1,9 +1,5 @@
-use Rattle.std.proofs.Common.{◌≡◌, ℕ, ℤ, ◌+◌, ◌/◌, ◌%◌, ◌≤◌, ap, ◌∙◌, rules, FitsSigned, w64, arith}
-use Rattle.std.specs.Int.{bit_at}
-use Rattle.std.proofs.lemmas.Int.{to_z-of_z}
-use Rattle.places.specs.Image.{number, digit}
-use Rattle.blobs.specs.BytesLaws.{IsPut, byte_and_bit}
-use Rattle.blobs.specs.FieldsLaws.{field_put, window_written}
+use Rattle.piece_bits.proofs.Imports.{◌≡◌, ℕ, ℤ, ◌+◌, ◌/◌, ◌%◌, ◌≤◌, ap, ◌∙◌, rules, FitsSigned, w64, arith, bit_at, to_z-of_z, number, digit, byte_and_bit, field_put, window_written}
+use Rattle.blobs.specs.BytesLaws.{IsPut}
 use Rattle.piece_bits.proofs.put.put_field.Goals as goal
 use Rattle.piece_bits.proofs.put.put_field.Goals.{After-put_window}
 

@@ -1,10 +1,4 @@
-use Rattle.std.proofs.Common.{◌≡◌, ℤ, ℕ, sym, ap, ◌∙◌, subst, ⊎_elim, rules, FitsSigned, w64}
-use Rattle.std.specs.Int.{bit_at}
-use Rattle.std.proofs.lemmas.Int.{to_z-of_z}
-use Rattle.places.specs.Image.{number, digit}
-use Rattle.piece_bits.specs.declared.word.Word.{Word}
-use Rattle.piece_bits.specs.declared.word.Word.TheVariants.{U64, I64, TurnedU32, TurnedU64, TurnedI32, TurnedI64}
-use Rattle.piece_bits.specs.Stretched.{IsPut}
+use Rattle.piece_bits.proofs.Imports.{◌≡◌, ℤ, ℕ, sym, ap, ◌∙◌, subst, ⊎_elim, rules, FitsSigned, w64, bit_at, to_z-of_z, number, digit, Word, U64, I64, TurnedU32, TurnedU64, TurnedI32, TurnedI64, IsPut}
 use Rattle.piece_bits.proofs.put.put_number.Goals as goal
 
 pub returns-in-U64 : goal.returns-in-U64

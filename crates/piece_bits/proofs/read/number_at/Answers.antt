@@ -1,7 +1,4 @@
-use Rattle.std.proofs.Common.{◌≡◌, ◌∙◌, ℤ, sym, subst, rules, SFits}
-use Rattle.std.specs.Int.{w128}
-use Rattle.std.proofs.lemmas.Int.{to_z-of_z}
-use Rattle.piece_bits.specs.Lows.{IsWithin64}
+use Rattle.piece_bits.proofs.Imports.{◌≡◌, ◌∙◌, ℤ, sym, subst, rules, SFits, w128, to_z-of_z, IsWithin64}
 use Rattle.piece_bits.proofs.Numbers.{number_within}
 use Rattle.piece_bits.proofs.read.number_at.Goals as goal
 

@@ -1,5 +1,4 @@
-use Rattle.std.proofs.Common.{◌≡◌, ◌<◌, ◌+◌, ◌*◌, ◌∙◌, length, pos, refl, rules, FitsSigned, w64, arith}
-use Rattle.std.proofs.lemmas.Int.{to_z-of_z}
+use Rattle.piece_bits.proofs.Imports.{◌≡◌, ◌<◌, ◌+◌, ◌*◌, ◌∙◌, length, pos, refl, rules, FitsSigned, w64, arith, to_z-of_z}
 use Rattle.piece_bits.proofs.Numbers.{one_more, same_number}
 use Rattle.piece_bits.proofs.read.read_digits.Goals as goal
 

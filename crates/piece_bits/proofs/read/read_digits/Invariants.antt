@@ -1,4 +1,4 @@
-use Rattle.piece_bits.specs.Stretched.{HaveRead}
+use Rattle.piece_bits.proofs.Imports.{HaveRead}
 use Rattle.piece_bits.proofs.read.read_digits.Given as goal
 
 abbrev pub invariant-loop-k : goal.invariant-loop-k

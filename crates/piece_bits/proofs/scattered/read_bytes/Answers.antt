@@ -1,11 +1,4 @@
-use Rattle.std.proofs.Common.{◌+◌, ◌*◌, ◌/◌, ◌%◌, ◌^◌, ◌≡◌, ◌<◌, ℕ, List, [], length, get_or, ap, ◌∙◌, arith}
-use Rattle.std.proofs.lemmas.List.{get_or_read}
-use Rattle.std.proofs.lemmas.Nat.Bits.{bit_at-lt}
-use Rattle.places.specs.Image.{number}
-use Rattle.blobs.specs.Bits.{bit_of, bit_in}
-use Rattle.piece_bits.specs.Scattered.{byte_of, scattered_pieces}
-use Rattle.piece_bits.specs.Spots.{spots_of, bit_at_spot}
-use Rattle.piece_bits.specs.SpotsOfLaws.{IsNext, read_next}
+use Rattle.piece_bits.proofs.Imports.{◌+◌, ◌*◌, ◌/◌, ◌%◌, ◌^◌, ◌≡◌, ◌<◌, ℕ, List, [], length, get_or, ap, ◌∙◌, arith, get_or_read, bit_at-lt, number, bit_of, bit_in, byte_of, scattered_pieces, spots_of, bit_at_spot, IsNext, read_next}
 use Rattle.piece_bits.proofs.PieceBytes.{byte_next, byte_within, byte_bound}
 use Rattle.piece_bits.proofs.scattered.read_bytes.Goals as goal
 

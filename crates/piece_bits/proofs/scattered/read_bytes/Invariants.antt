@@ -1,8 +1,4 @@
-use Rattle.std.proofs.Common.{◌≡◌, length, take}
-use Rattle.places.specs.Image.{number}
-use Rattle.blobs.specs.Bits.{bit_in}
-use Rattle.piece_bits.specs.Scattered.{scattered_pieces}
-use Rattle.piece_bits.specs.Spots.{spots_of, bit_at_spot}
+use Rattle.piece_bits.proofs.Imports.{◌≡◌, length, take, number, bit_in, scattered_pieces, spots_of, bit_at_spot}
 use Rattle.piece_bits.proofs.scattered.read_bytes.Given as goal
 
 abbrev pub invariant-loop-rule : goal.invariant-loop-rule

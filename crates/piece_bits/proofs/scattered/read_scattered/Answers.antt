@@ -1,12 +1,4 @@
-use Rattle.std.proofs.Common.{◌^◌, ◌<◌, ◌∙◌, ℕ, length, ap, sym, subst, arith, SFits, rules}
-use Rattle.std.specs.Int.{w128}
-use Rattle.std.proofs.lemmas.Int.{to_z-of_z}
-use Rattle.places.specs.Image.{number, decoded}
-use Rattle.places.specs.NumbersLaws.{number_lt}
-use Rattle.blobs.specs.Bits.{bit_in}
-use Rattle.piece_bits.specs.CellsLaws.{bit_in_lt}
-use Rattle.piece_bits.specs.Scattered.{scattered_pieces}
-use Rattle.piece_bits.specs.Spots.{spots_of, spot_at, bit_at_spot}
+use Rattle.piece_bits.proofs.Imports.{◌^◌, ◌<◌, ◌∙◌, ℕ, length, ap, sym, subst, arith, SFits, rules, w128, to_z-of_z, number, decoded, number_lt, bit_in, bit_in_lt, scattered_pieces, spots_of, spot_at, bit_at_spot}
 use Rattle.piece_bits.proofs.scattered.read_scattered.Goals as goal
 
 pub read_bytes-requires-clause-few : goal.read_bytes-requires-clause-few

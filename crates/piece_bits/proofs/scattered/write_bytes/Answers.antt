@@ -1,11 +1,4 @@
-use Rattle.std.proofs.Common.{◌≡◌, ◌+◌, ◌/◌, ◌^◌, ◌<◌, ◌∙◌, ℕ, List, [], get_or, length, ap, arith}
-use Rattle.std.proofs.lemmas.Grind.{common_steps}
-use Rattle.std.proofs.lemmas.List.{get_or_default}
-use Rattle.blobs.specs.Bits.{bit_of}
-use Rattle.piece_bits.specs.Scattered.{byte_of, scattered_pieces}
-use Rattle.piece_bits.specs.Spots.{spots_of, IsWithin}
-use Rattle.piece_bits.specs.SpotsOfLaws.{IsNext}
-use Rattle.piece_bits.specs.WritesLaws.{AreWritten, within_same, write_next}
+use Rattle.piece_bits.proofs.Imports.{◌≡◌, ◌+◌, ◌/◌, ◌^◌, ◌<◌, ◌∙◌, ℕ, List, [], get_or, length, ap, arith, common_steps, get_or_default, bit_of, byte_of, scattered_pieces, spots_of, IsWithin, IsNext, AreWritten, within_same, write_next}
 use Rattle.piece_bits.proofs.PieceBytes.{byte_next, byte_within, byte_bound}
 use Rattle.piece_bits.proofs.scattered.write_bytes.Goals as goal
 use Rattle.piece_bits.proofs.scattered.write_bytes.Goals.{After-bits_in_word-byte}

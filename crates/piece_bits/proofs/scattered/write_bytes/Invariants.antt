@@ -1,8 +1,4 @@
-use Rattle.std.proofs.Common.{ℕ, ◌≡◌, ◌<◌, length, map, take}
-use Rattle.std.specs.Int.{bit_at}
-use Rattle.blobs.specs.Bits.{bit_in}
-use Rattle.piece_bits.specs.Scattered.{scattered_pieces}
-use Rattle.piece_bits.specs.Spots.{spots_of, spot_at, bit_at_spot}
+use Rattle.piece_bits.proofs.Imports.{ℕ, ◌≡◌, ◌<◌, length, map, take, bit_at, bit_in, scattered_pieces, spots_of, spot_at, bit_at_spot}
 use Rattle.piece_bits.proofs.scattered.write_bytes.Given as goal
 
 abbrev pub invariant-loop-rule : goal.invariant-loop-rule

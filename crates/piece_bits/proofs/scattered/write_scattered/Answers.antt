@@ -1,10 +1,4 @@
-use Rattle.std.proofs.Common.{◌≡◌, ◌∙◌, ℕ, ℤ, length, ap, subst, arith, SFits, rules}
-use Rattle.std.specs.Int.{w128}
-use Rattle.std.proofs.lemmas.Int.{to_z-of_z}
-use Rattle.places.specs.Image.{number, digit}
-use Rattle.piece_bits.specs.Scattered.{scattered_pieces}
-use Rattle.piece_bits.specs.Spots.{spots_of}
-use Rattle.piece_bits.specs.WritesLaws.{AreWritten}
+use Rattle.piece_bits.proofs.Imports.{◌≡◌, ◌∙◌, ℕ, ℤ, length, ap, subst, arith, SFits, rules, w128, to_z-of_z, number, digit, scattered_pieces, spots_of, AreWritten}
 use Rattle.piece_bits.proofs.scattered.write_scattered.Goals as goal
 
 pub write_bytes-requires-clause-few : goal.write_bytes-requires-clause-few

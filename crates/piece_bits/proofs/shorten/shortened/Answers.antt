@@ -1,5 +1,4 @@
-use Rattle.std.proofs.Common.{refl}
-use Rattle.piece_bits.specs.declared.field.Field.{Field}
+use Rattle.piece_bits.proofs.Imports.{refl, Field}
 use Rattle.piece_bits.proofs.AlongLaws.{short_of}
 use Rattle.piece_bits.proofs.shorten.shortened.Goals as goal
 

@@ -1,5 +1,4 @@
-use Rattle.std.proofs.Common.{◌≡◌, arith}
-use Rattle.std.proofs.lemmas.Option.{IfSome_then}
+use Rattle.piece_bits.proofs.Imports.{◌≡◌, arith, IfSome_then}
 use Rattle.piece_bits.proofs.StandLaws.{field_stand, field_together}
 use Rattle.piece_bits.proofs.stand.alone.Goals as goal
 

@@ -1,5 +1,4 @@
-use Rattle.std.proofs.Common.{refl, sym}
-use Rattle.std.proofs.lemmas.Option.{slice_get_within}
+use Rattle.piece_bits.proofs.Imports.{refl, sym, slice_get_within}
 use Rattle.piece_bits.proofs.StandLaws.{scattered_stand}
 use Rattle.piece_bits.proofs.stand.scattered.Goals as goal
 

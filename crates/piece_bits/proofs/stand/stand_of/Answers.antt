@@ -1,4 +1,4 @@
-use Rattle.std.proofs.lemmas.Option.{IfSome_then}
+use Rattle.piece_bits.proofs.Imports.{IfSome_then}
 use Rattle.piece_bits.proofs.StandLaws.{carried_stand}
 use Rattle.piece_bits.proofs.stand.stand_of.Goals as goal
 

@@ -1,5 +1,4 @@
-use Rattle.std.proofs.Common.{refl, arith}
-use Rattle.std.proofs.lemmas.Option.{IfSome_then}
+use Rattle.piece_bits.proofs.Imports.{refl, arith, IfSome_then}
 use Rattle.piece_bits.proofs.StandLaws.{turned_stand}
 use Rattle.piece_bits.proofs.stand.turned.Goals as goal
 

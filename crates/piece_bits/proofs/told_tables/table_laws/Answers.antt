@@ -1,6 +1,4 @@
-use Rattle.piece_bits.specs.EntryLaws.{image_of_table, settled_after, same_sign}
-use Rattle.piece_bits.specs.ImageLaws.{image_table}
-use Rattle.piece_bits.specs.KeptTableLaws.{declared_with_entry}
+use Rattle.piece_bits.proofs.Imports.{image_of_table, settled_after, same_sign, image_table, declared_with_entry}
 use Rattle.piece_bits.proofs.told_tables.table_laws.Goals as goal
 
 pub returns-clause-image : goal.returns-clause-image

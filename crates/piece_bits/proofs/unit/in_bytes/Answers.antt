@@ -1,4 +1,4 @@
-use Rattle.std.proofs.Common.{refl, arith}
+use Rattle.piece_bits.proofs.Imports.{refl, arith}
 use Rattle.piece_bits.proofs.Places.{byte_steps}
 use Rattle.piece_bits.proofs.unit.in_bytes.Goals as goal
 

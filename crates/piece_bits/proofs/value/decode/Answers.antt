@@ -1,9 +1,4 @@
-use Rattle.std.proofs.Common.{◌≡◌, ℕ, ℤ, ◌-◌, ◌^◌, Bool, true, false, refl, pos, ◌-ℤ◌, ◌<◌, ◌≤◌, ⊎_elim, sym, ap, ◌∙◌, arith}
-use Rattle.std.specs.Prelude.{not}
-use Rattle.std.proofs.lemmas.Bool.{cases_lt}
-use Rattle.std.proofs.lemmas.Int.{ints}
-use Rattle.places.specs.Image.{decoded}
-use Rattle.places.specs.NumbersLaws.{decoded_low, decoded_high}
+use Rattle.piece_bits.proofs.Imports.{◌≡◌, ℕ, ℤ, ◌-◌, ◌^◌, Bool, true, false, refl, pos, ◌-ℤ◌, ◌<◌, ◌≤◌, ⊎_elim, sym, ap, ◌∙◌, arith, not, cases_lt, ints, decoded, decoded_low, decoded_high}
 use Rattle.piece_bits.proofs.value.decode.Goals as goal
 
 is_true : (b : Bool) → not b ≡ false → b ≡ true

@@ -1,7 +1,4 @@
-use Rattle.std.proofs.Common.{◌^◌, ◌<◌, ℤ, subst, arith}
-use Rattle.record_dim.specs.LeafTypes.{IsIn}
-use Rattle.std.proofs.lemmas.Int.{ints}
-use Rattle.places.specs.NumbersLaws.{ones_of}
+use Rattle.piece_bits.proofs.Imports.{◌^◌, ◌<◌, ℤ, subst, arith, IsIn, ints, ones_of}
 use Rattle.piece_bits.proofs.Values.{encoded, held_negsuc, by_sign}
 use Rattle.piece_bits.proofs.value.encode.Goals as goal
 

@@ -1,9 +1,4 @@
-use Rattle.std.proofs.Common.{◌≡◌, ◌-◌, ◌*◌, ◌%◌, ◌^◌, true, pos, ◌-ℤ◌, ◌<◌, ◌≤◌, arith}
-use Rattle.std.proofs.lemmas.Int.{ints}
-use Rattle.std.proofs.lemmas.Nat.{pow_pos}
-use Rattle.std.proofs.Math.Pow.{pow_mono}
-use Rattle.places.specs.Image.{decoded}
-use Rattle.places.specs.NumbersLaws.{decoded_low, decoded_high, half_of}
+use Rattle.piece_bits.proofs.Imports.{◌≡◌, ◌-◌, ◌*◌, ◌%◌, ◌^◌, true, pos, ◌-ℤ◌, ◌<◌, ◌≤◌, arith, ints, pow_pos, pow_mono, decoded, decoded_low, decoded_high, half_of}
 use Rattle.piece_bits.proofs.value.from_bits.Goals as goal
 use Rattle.piece_bits.proofs.value.from_bits.Goals.{then-bits-half, else-bits-half}
 

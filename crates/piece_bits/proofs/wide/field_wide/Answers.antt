@@ -1,8 +1,4 @@
-use Rattle.std.proofs.Common.{ℕ, ◌/◌, ◌%◌, ap, ◌∙◌, arith, rules, SFits}
-use Rattle.std.specs.Int.{w128}
-use Rattle.std.proofs.lemmas.Int.{to_z-of_z}
-use Rattle.places.specs.Image.{decoded}
-use Rattle.blobs.specs.BytesLaws.{byte_and_bit}
+use Rattle.piece_bits.proofs.Imports.{ℕ, ◌/◌, ◌%◌, ap, ◌∙◌, arith, rules, SFits, w128, to_z-of_z, decoded, byte_and_bit}
 use Rattle.piece_bits.proofs.WideLaws.{low_field}
 use Rattle.piece_bits.proofs.wide.field_wide.Goals as goal
 

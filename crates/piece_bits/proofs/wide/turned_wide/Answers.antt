@@ -1,7 +1,4 @@
-use Rattle.std.proofs.Common.{ℕ, ap, ◌∙◌, rules, SFits}
-use Rattle.std.specs.Int.{w128}
-use Rattle.std.proofs.lemmas.Int.{to_z-of_z}
-use Rattle.places.specs.Image.{decoded}
+use Rattle.piece_bits.proofs.Imports.{ℕ, ap, ◌∙◌, rules, SFits, w128, to_z-of_z, decoded}
 use Rattle.piece_bits.proofs.WideLaws.{high_fits, high_bytes}
 use Rattle.piece_bits.proofs.wide.turned_wide.Goals as goal
 

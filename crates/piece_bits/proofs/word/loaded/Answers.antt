@@ -1,7 +1,4 @@
-use Rattle.std.proofs.Common.{◌+◌, ◌*◌, ◌/◌, ◌%◌, ◌^◌, ◌<◌, ℕ, get_or, sym, subst}
-use Rattle.std.proofs.lemmas.Nat.Bits.{bit_at-lt}
-use Rattle.places.specs.NumbersLaws.{number_lt}
-use Rattle.blobs.specs.Bits.{bit_of}
+use Rattle.piece_bits.proofs.Imports.{◌+◌, ◌*◌, ◌/◌, ◌%◌, ◌^◌, ◌<◌, ℕ, get_or, sym, subst, bit_at-lt, number_lt, bit_of}
 use Rattle.piece_bits.proofs.Wholes.{whole_some, whole_few}
 use Rattle.piece_bits.proofs.word.loaded.Goals as goal
 

@@ -1,9 +1,4 @@
-use Rattle.std.proofs.Common.{◌≡◌, ◌^◌, ◌<◌, ◌∙◌, ℤ, ℕ, ap, sym, subst, SFits, rules}
-use Rattle.std.specs.Int.{w128, bit_at}
-use Rattle.std.proofs.lemmas.Int.{to_z-of_z}
-use Rattle.record_dim.specs.LeafTypes.{IsIn}
-use Rattle.places.specs.Image.{number, digit}
-use Rattle.places.specs.NumbersLaws.{number_lt, digit_lt}
+use Rattle.piece_bits.proofs.Imports.{◌≡◌, ◌^◌, ◌<◌, ◌∙◌, ℤ, ℕ, ap, sym, subst, SFits, rules, w128, bit_at, to_z-of_z, IsIn, number, digit, number_lt, digit_lt}
 use Rattle.piece_bits.proofs.Wholes.{whole_some, whole_few}
 use Rattle.piece_bits.proofs.word.stored.Goals as goal
 use Rattle.piece_bits.proofs.word.stored.Goals.{After-encode}

@@ -1,8 +1,4 @@
-use Rattle.std.proofs.Common.{◌≡◌, ◌^◌, ◌<◌, ◌∙◌, ℤ, ℕ, ap, sym, subst, SFits, rules}
-use Rattle.std.specs.Int.{w128}
-use Rattle.std.proofs.lemmas.Int.{to_z-of_z}
-use Rattle.places.specs.Image.{number, digit}
-use Rattle.places.specs.NumbersLaws.{number_lt, digit_lt}
+use Rattle.piece_bits.proofs.Imports.{◌≡◌, ◌^◌, ◌<◌, ◌∙◌, ℤ, ℕ, ap, sym, subst, SFits, rules, w128, to_z-of_z, number, digit, number_lt, digit_lt}
 use Rattle.piece_bits.proofs.word.turned_stored.Goals as goal
 
 pub put_turned-requires-clause-fits : goal.put_turned-requires-clause-fits

@@ -1,12 +1,5 @@
-use Rattle.std.proofs.Common.{◌≡◌, ◌<◌, ℤ, ℕ, List, sym, subst, SFits, rules}
-use Rattle.std.specs.Int.{w128, bit_at}
-use Rattle.std.proofs.lemmas.Int.{to_z-of_z}
-use Rattle.places.specs.Image.{number, digit}
-use Rattle.blobs.specs.Bits.{bit_of}
-use Rattle.piece_bits.specs.Words.{word_place, word_width}
-use Rattle.piece_bits.specs.declared.field.Field.{Field}
-use Rattle.piece_bits.specs.declared.word.Word.{Word}
-use Rattle.piece_bits.specs.declared.word.Word.TheVariants.{I8, I16, I32, I64, TurnedU16, TurnedU32, TurnedU64, TurnedI16, TurnedI32, TurnedI64, Field as FieldWord}
+use Rattle.piece_bits.proofs.Imports.{◌≡◌, ◌<◌, ℤ, ℕ, List, sym, subst, SFits, rules, w128, bit_at, to_z-of_z, number, digit, bit_of, word_place, word_width, Field, Word, I16, I64, TurnedU16, TurnedU32, TurnedU64, TurnedI16, TurnedI32, TurnedI64, FieldWord}
+use Rattle.piece_bits.specs.declared.word.Word.TheVariants.{I8, I32}
 use Rattle.piece_bits.proofs.word.write_word.Goals as goal
 
 -- the bits of a word are those of a value that was handed on

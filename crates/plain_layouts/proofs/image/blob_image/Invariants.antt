@@ -1,6 +1,4 @@
-use Rattle.std.proofs.Common.{◌≡◌, map, take}
-use Rattle.places.specs.Image.{bit_held}
-use Rattle.plain_layouts.specs.Plain.{owners_of}
+use Rattle.plain_layouts.proofs.Imports.{◌≡◌, map, take, bit_held, owners_of}
 use Rattle.plain_layouts.proofs.image.blob_image.Given as goal
 
 abbrev pub invariant-loop-owner : goal.invariant-loop-owner

@@ -1,5 +1,4 @@
-use Rattle.std.proofs.Common.{◌+◌, ◌*◌, slice_index}
-use Rattle.places.specs.Image.{number}
+use Rattle.plain_layouts.proofs.Imports.{◌+◌, ◌*◌, slice_index, number}
 use Rattle.plain_layouts.proofs.Growth.{values_grown}
 use Rattle.plain_layouts.proofs.image.in_bytes.Goals as goal
 

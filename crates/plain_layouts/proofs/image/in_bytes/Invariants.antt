@@ -1,6 +1,4 @@
-use Rattle.std.proofs.Common.{◌≡◌, ◌+◌, ◌*◌, map, slice_index}
-use Rattle.std.specs.List.{range_with_len}
-use Rattle.places.specs.Image.{number}
+use Rattle.plain_layouts.proofs.Imports.{◌≡◌, ◌+◌, ◌*◌, map, slice_index, range_with_len, number}
 use Rattle.plain_layouts.proofs.image.in_bytes.Given as goal
 
 abbrev pub invariant-loop-byte : goal.invariant-loop-byte

@@ -1,5 +1,4 @@
-use Rattle.std.proofs.Common.{◌∙◌}
-use Rattle.plain_layouts.specs.Plain.{owners_of}
+use Rattle.plain_layouts.proofs.Imports.{◌∙◌, owners_of}
 use Rattle.plain_layouts.proofs.Growth.{bits_small}
 use Rattle.plain_layouts.proofs.image.plain_bytes.Goals as goal
 

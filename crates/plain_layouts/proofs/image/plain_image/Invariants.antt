@@ -1,6 +1,4 @@
-use Rattle.std.proofs.Common.{◌≡◌, map, take}
-use Rattle.places.specs.Image.{image}
-use Rattle.plain_layouts.specs.Plain.{owners_of}
+use Rattle.plain_layouts.proofs.Imports.{◌≡◌, map, take, image, owners_of}
 use Rattle.plain_layouts.proofs.image.plain_image.Given as goal
 
 abbrev pub invariant-loop-blob : goal.invariant-loop-blob

@@ -1,4 +1,4 @@
-use Rattle.std.proofs.Common.{arith}
+use Rattle.plain_layouts.proofs.Imports.{arith}
 use Rattle.plain_layouts.proofs.Growth.{no_digits}
 use Rattle.plain_layouts.proofs.image.without_last.Goals as goal
 

@@ -1,5 +1,4 @@
-use Rattle.std.proofs.Common.{arith}
-use Rattle.plain_layouts.specs.Plain.{owners_of}
+use Rattle.plain_layouts.proofs.Imports.{arith, owners_of}
 use Rattle.plain_layouts.proofs.Growth.{aligned_more, greatest_more}
 use Rattle.plain_layouts.proofs.parts.aligned.Goals as goal
 

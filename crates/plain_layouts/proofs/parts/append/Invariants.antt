@@ -1,5 +1,4 @@
-use Rattle.std.proofs.Common.{◌≡◌, ◌++◌, take}
-use Rattle.plain_layouts.specs.Plain.{owners_of}
+use Rattle.plain_layouts.proofs.Imports.{◌≡◌, ◌++◌, take, owners_of}
 use Rattle.plain_layouts.proofs.parts.append.Given as goal
 
 abbrev pub invariant-loop-owner : goal.invariant-loop-owner

@@ -1,4 +1,4 @@
-use Rattle.std.proofs.Common.{◌==◌, filter, [], ◌∷◌}
+use Rattle.plain_layouts.proofs.Imports.{◌==◌, filter, [], ◌∷◌}
 use Rattle.plain_layouts.proofs.Growth.{grown}
 use Rattle.plain_layouts.proofs.parts.by_width.Goals as goal
 

@@ -1,5 +1,4 @@
-use Rattle.std.proofs.Common.{◌≡◌, ◌==◌, filter, take}
-use Rattle.std.specs.List.{flat_map}
+use Rattle.plain_layouts.proofs.Imports.{◌≡◌, ◌==◌, filter, take, flat_map}
 use Rattle.plain_layouts.proofs.parts.by_width.Given as goal
 
 abbrev pub invariant-loop-width : goal.invariant-loop-width

@@ -1,7 +1,4 @@
-use Rattle.std.proofs.Common.{◌∙◌, arith}
-use Rattle.std.proofs.lemmas.List.{take_all}
-use Rattle.std.proofs.lemmas.List.FromFn.{length-enumerate_from}
-use Rattle.places.specs.Layout.{cells_of}
+use Rattle.plain_layouts.proofs.Imports.{◌∙◌, arith, take_all, length-enumerate_from, cells_of}
 use Rattle.plain_layouts.proofs.Growth.{cells_more}
 use Rattle.plain_layouts.proofs.parts.numbered.Goals as goal
 

@@ -1,5 +1,4 @@
-use Rattle.std.proofs.Common.{◌≡◌, take}
-use Rattle.places.specs.Layout.{cells_of}
+use Rattle.plain_layouts.proofs.Imports.{◌≡◌, take, cells_of}
 use Rattle.plain_layouts.proofs.parts.numbered.Given as goal
 
 abbrev pub invariant-loop-number : goal.invariant-loop-number

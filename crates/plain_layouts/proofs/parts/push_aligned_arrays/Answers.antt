@@ -1,4 +1,4 @@
-use Rattle.plain_layouts.specs.Plain.{owners_of}
+use Rattle.plain_layouts.proofs.Imports.{owners_of}
 use Rattle.plain_layouts.proofs.Growth.{arrays_more}
 use Rattle.plain_layouts.proofs.parts.push_aligned_arrays.Goals as goal
 

@@ -1,6 +1,4 @@
-use Rattle.std.proofs.Common.{◌≡◌, take}
-use Rattle.places.specs.Layout.{aligned_arrays}
-use Rattle.plain_layouts.specs.Plain.{owners_of}
+use Rattle.plain_layouts.proofs.Imports.{◌≡◌, take, aligned_arrays, owners_of}
 use Rattle.plain_layouts.proofs.parts.push_aligned_arrays.Given as goal
 
 abbrev pub invariant-loop-cell : goal.invariant-loop-cell

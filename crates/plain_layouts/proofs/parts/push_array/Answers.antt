@@ -1,5 +1,4 @@
-use Rattle.places.specs.Layout.{field}
-use Rattle.plain_layouts.specs.Plain.{owners_of}
+use Rattle.plain_layouts.proofs.Imports.{field, owners_of}
 use Rattle.plain_layouts.proofs.Growth.{grown_range}
 use Rattle.plain_layouts.proofs.parts.push_array.Goals as goal
 

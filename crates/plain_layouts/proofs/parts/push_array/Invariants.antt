@@ -1,6 +1,4 @@
-use Rattle.std.proofs.Common.{◌≡◌, ◌++◌}
-use Rattle.places.specs.Layout.{array}
-use Rattle.plain_layouts.specs.Plain.{owners_of}
+use Rattle.plain_layouts.proofs.Imports.{◌≡◌, ◌++◌, array, owners_of}
 use Rattle.plain_layouts.proofs.parts.push_array.Given as goal
 
 abbrev pub invariant-loop-slot : goal.invariant-loop-slot

@@ -1,6 +1,4 @@
-use Rattle.std.proofs.Common.{◌≡◌, ◌++◌, take}
-use Rattle.places.specs.Layout.{block_of}
-use Rattle.plain_layouts.specs.Plain.{owners_of}
+use Rattle.plain_layouts.proofs.Imports.{◌≡◌, ◌++◌, take, block_of, owners_of}
 use Rattle.plain_layouts.proofs.parts.push_block.Given as goal
 
 abbrev pub invariant-loop-cell : goal.invariant-loop-cell

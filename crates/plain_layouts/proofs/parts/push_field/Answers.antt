@@ -1,6 +1,4 @@
-use Rattle.std.proofs.Common.{refl}
-use Rattle.places.specs.Layout.{Bit}
-use Rattle.plain_layouts.specs.Plain.{owners_of}
+use Rattle.plain_layouts.proofs.Imports.{refl, Bit, owners_of}
 use Rattle.plain_layouts.proofs.Growth.{owners_grown}
 use Rattle.plain_layouts.proofs.parts.push_field.Goals as goal
 

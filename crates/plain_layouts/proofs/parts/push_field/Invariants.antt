@@ -1,7 +1,4 @@
-use Rattle.std.proofs.Common.{◌≡◌, ◌++◌, map}
-use Rattle.std.specs.List.{range_with_len}
-use Rattle.places.specs.Layout.{Bit}
-use Rattle.plain_layouts.specs.Plain.{owners_of}
+use Rattle.plain_layouts.proofs.Imports.{◌≡◌, ◌++◌, map, range_with_len, Bit, owners_of}
 use Rattle.plain_layouts.proofs.parts.push_field.Given as goal
 
 abbrev pub invariant-loop-bit : goal.invariant-loop-bit

@@ -1,6 +1,4 @@
-use Rattle.std.proofs.Common.{◌≡◌, ◌++◌, take}
-use Rattle.places.specs.Layout.{fields}
-use Rattle.plain_layouts.specs.Plain.{owners_of}
+use Rattle.plain_layouts.proofs.Imports.{◌≡◌, ◌++◌, take, fields, owners_of}
 use Rattle.plain_layouts.proofs.parts.push_fields.Given as goal
 
 abbrev pub invariant-loop-cell : goal.invariant-loop-cell

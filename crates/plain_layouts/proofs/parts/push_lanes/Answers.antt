@@ -1,6 +1,4 @@
-use Rattle.std.proofs.Common.{ℕ, ◌+◌, ◌++◌, ap, ◌∙◌}
-use Rattle.places.specs.Layout.{lane}
-use Rattle.plain_layouts.specs.Plain.{owners_of}
+use Rattle.plain_layouts.proofs.Imports.{ℕ, ◌+◌, ◌++◌, ap, ◌∙◌, lane, owners_of}
 use Rattle.plain_layouts.proofs.Growth.{grown_range}
 use Rattle.plain_layouts.proofs.parts.push_lanes.Goals as goal
 

@@ -1,7 +1,4 @@
-use Rattle.std.proofs.Common.{◌≡◌, ◌+◌, ◌++◌}
-use Rattle.std.specs.List.{flat_map, range_with_len}
-use Rattle.places.specs.Layout.{lane}
-use Rattle.plain_layouts.specs.Plain.{owners_of}
+use Rattle.plain_layouts.proofs.Imports.{◌≡◌, ◌+◌, ◌++◌, flat_map, range_with_len, lane, owners_of}
 use Rattle.plain_layouts.proofs.parts.push_lanes.Given as goal
 
 abbrev pub invariant-loop-l : goal.invariant-loop-l

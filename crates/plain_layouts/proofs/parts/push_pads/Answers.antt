@@ -1,6 +1,4 @@
-use Rattle.std.proofs.Common.{refl}
-use Rattle.places.specs.Layout.{Pad}
-use Rattle.plain_layouts.specs.Plain.{owners_of}
+use Rattle.plain_layouts.proofs.Imports.{refl, Pad, owners_of}
 use Rattle.plain_layouts.proofs.Growth.{pads_grown}
 use Rattle.plain_layouts.proofs.parts.push_pads.Goals as goal
 

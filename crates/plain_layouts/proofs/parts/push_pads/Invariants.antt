@@ -1,6 +1,4 @@
-use Rattle.std.proofs.Common.{◌≡◌, ◌++◌, replicate}
-use Rattle.places.specs.Layout.{Pad}
-use Rattle.plain_layouts.specs.Plain.{owners_of}
+use Rattle.plain_layouts.proofs.Imports.{◌≡◌, ◌++◌, replicate, Pad, owners_of}
 use Rattle.plain_layouts.proofs.parts.push_pads.Given as goal
 
 abbrev pub invariant-loop : goal.invariant-loop

@@ -1,4 +1,4 @@
-use Rattle.std.proofs.Common.{◌≡◌, ◌++◌, ◌==◌, filter, take}
+use Rattle.plain_layouts.proofs.Imports.{◌≡◌, ◌++◌, ◌==◌, filter, take}
 use Rattle.plain_layouts.proofs.parts.push_width.Given as goal
 
 abbrev pub invariant-loop-cell : goal.invariant-loop-cell

@@ -1,6 +1,4 @@
-use Rattle.std.proofs.Common.{[]}
-use Rattle.places.specs.Layout.{aligned_part}
-use Rattle.plain_layouts.specs.Plain.{owners_of}
+use Rattle.plain_layouts.proofs.Imports.{[], aligned_part, owners_of}
 use Rattle.plain_layouts.proofs.Growth.{grown_range}
 use Rattle.plain_layouts.proofs.plain.aligned.Goals as goal
 

@@ -1,6 +1,4 @@
-use Rattle.std.proofs.Common.{◌≡◌, map, take, if◌then◌else◌}
-use Rattle.places.specs.Layout.{array, padded_to}
-use Rattle.plain_layouts.specs.Plain.{owners_of}
+use Rattle.plain_layouts.proofs.Imports.{◌≡◌, map, take, if◌then◌else◌, array, padded_to, owners_of}
 use Rattle.plain_layouts.proofs.plain.arrays.Given as goal
 
 abbrev pub invariant-loop-cell : goal.invariant-loop-cell

@@ -1,5 +1,4 @@
-use Rattle.std.proofs.Common.{◌∙◌, ap}
-use Rattle.places.specs.Layout.{padded_to}
+use Rattle.plain_layouts.proofs.Imports.{◌∙◌, ap, padded_to}
 use Rattle.plain_layouts.proofs.plain.bits.Goals as goal
 
 pub returns : goal.returns

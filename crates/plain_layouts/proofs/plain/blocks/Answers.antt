@@ -1,6 +1,4 @@
-use Rattle.std.proofs.Common.{[]}
-use Rattle.places.specs.Layout.{block_of}
-use Rattle.plain_layouts.specs.Plain.{owners_of}
+use Rattle.plain_layouts.proofs.Imports.{[], block_of, owners_of}
 use Rattle.plain_layouts.proofs.Growth.{grown_range}
 use Rattle.plain_layouts.proofs.plain.blocks.Goals as goal
 

@@ -1,7 +1,4 @@
-use Rattle.std.proofs.Common.{◌≡◌}
-use Rattle.std.specs.List.{flat_map, range_with_len}
-use Rattle.places.specs.Layout.{block_of}
-use Rattle.plain_layouts.specs.Plain.{owners_of}
+use Rattle.plain_layouts.proofs.Imports.{◌≡◌, flat_map, range_with_len, block_of, owners_of}
 use Rattle.plain_layouts.proofs.plain.blocks.Given as goal
 
 abbrev pub invariant-loop-block : goal.invariant-loop-block

@@ -1,6 +1,4 @@
-use Rattle.std.proofs.Common.{[]}
-use Rattle.places.specs.Layout.{fields}
-use Rattle.plain_layouts.specs.Plain.{owners_of}
+use Rattle.plain_layouts.proofs.Imports.{[], fields, owners_of}
 use Rattle.plain_layouts.proofs.Growth.{grown_range}
 use Rattle.plain_layouts.proofs.plain.packed.Goals as goal
 

@@ -1,7 +1,4 @@
-use Rattle.std.proofs.Common.{◌≡◌, ℕ, List, ◌∙◌, ap}
-use Rattle.std.specs.List.{flat_map, range_with_len}
-use Rattle.places.specs.Layout.{fields, cells_of, padded_to}
-use Rattle.plain_layouts.specs.Plain.{layout_of}
+use Rattle.plain_layouts.proofs.Imports.{◌≡◌, ℕ, List, ◌∙◌, ap, flat_map, range_with_len, fields, cells_of, padded_to, layout_of}
 use Rattle.plain_layouts.proofs.Growth.{layout_is, alone_is}
 use Rattle.plain_layouts.proofs.plain.plain_layout.Goals as goal
 

@@ -1,8 +1,5 @@
 -- what the fields that are left say is what all fields say
-use Rattle.std.proofs.Common.{◌≡◌, ◌≤◌, ◌+◌, min, length}
-use Rattle.record_dim.specs.declared.dim.FieldList.{size-FieldList}
-use Rattle.record_dim.specs.Trees.{fields_of}
-use Rattle.record_dim.specs.Leaves.{leaves}
+use Rattle.record_dim.proofs.Imports.{◌≡◌, ◌≤◌, ◌+◌, min, length, size-FieldList, fields_of, leaves}
 use Rattle.record_dim.proofs.checks.+count.Given as goal
 
 abbrev pub decreases-count_leaves : goal.decreases-count_leaves

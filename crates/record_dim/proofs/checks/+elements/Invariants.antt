@@ -1,9 +1,5 @@
 -- what the fields that are left say is what all fields say
-use Rattle.std.proofs.Common.{◌≡◌, ◌≤◌, nat_eq}
-use Rattle.std.specs.List.{list_any}
-use Rattle.record_dim.specs.declared.dim.FieldList.{size-FieldList}
-use Rattle.record_dim.specs.Trees.{fields_of}
-use Rattle.record_dim.specs.Leaves.{lengths_below}
+use Rattle.record_dim.proofs.Imports.{◌≡◌, ◌≤◌, nat_eq, list_any, size-FieldList, fields_of, lengths_below}
 use Rattle.record_dim.proofs.checks.+elements.Given as goal
 
 abbrev pub decreases-any_without_elements : goal.decreases-any_without_elements

@@ -1,9 +1,5 @@
 -- what the fields that are left say is what all fields say
-use Rattle.std.proofs.Common.{◌≡◌, ◌≤◌}
-use Rattle.std.specs.List.{list_any}
-use Rattle.record_dim.specs.declared.dim.FieldList.{size-FieldList}
-use Rattle.record_dim.specs.Trees.{fields_of}
-use Rattle.record_dim.specs.Leaves.{records_below, is_empty_record}
+use Rattle.record_dim.proofs.Imports.{◌≡◌, ◌≤◌, list_any, size-FieldList, fields_of, records_below, is_empty_record}
 use Rattle.record_dim.proofs.checks.+empty.Given as goal
 
 abbrev pub decreases-any_empty : goal.decreases-any_empty

@@ -1,8 +1,5 @@
 -- what the fields that are left say is what all fields say
-use Rattle.std.proofs.Common.{◌≡◌, ◌≤◌, nat_le}
-use Rattle.record_dim.specs.declared.dim.FieldList.{size-FieldList}
-use Rattle.record_dim.specs.Trees.{fields_of}
-use Rattle.record_dim.specs.Leaves.{greatest_depth}
+use Rattle.record_dim.proofs.Imports.{◌≡◌, ◌≤◌, nat_le, size-FieldList, fields_of, greatest_depth}
 use Rattle.record_dim.proofs.checks.+within.Given as goal
 
 abbrev pub decreases-is_within : goal.decreases-is_within

@@ -1,8 +1,4 @@
-use Rattle.std.proofs.Common.{ap, ◌∙◌}
-use Rattle.std.specs.List.{list_any}
-use Rattle.std.specs.Ordering.{nat_cmp}
-use Rattle.std.specs.BTreeMap.{is_at}
-use Rattle.std.specs.Cmp.Lexicographic.{slice_cmp}
+use Rattle.record_dim.proofs.Imports.{ap, ◌∙◌, list_any, nat_cmp, is_at, slice_cmp}
 use Rattle.record_dim.proofs.Twice.{twice_start, twice_step, absent_from}
 use Rattle.record_dim.proofs.checks.shares_name.Goals as goal
 

@@ -1,5 +1,5 @@
 -- each call takes a step off
-use Rattle.std.proofs.Common.{length}
+use Rattle.record_dim.proofs.Imports.{length}
 use Rattle.record_dim.proofs.nodes.+find_below.Given as goal
 
 abbrev pub decreases-find_below : goal.decreases-find_below

@@ -1,8 +1,4 @@
-use Rattle.std.proofs.Common.{sym, subst}
-use Rattle.record_dim.specs.Trees.{tree_of, fields_of, Record}
-use Rattle.record_dim.specs.Nodes.{HasChild}
-use Rattle.record_dim.specs.declared.dim.Dim.{Dim}
-use Rattle.record_dim.specs.declared.path.PathStep.{PathStep}
+use Rattle.record_dim.proofs.Imports.{sym, subst, tree_of, fields_of, Record, HasChild, Dim, PathStep}
 use Rattle.record_dim.proofs.Lookup.{array_place, child_of_array, child_of_field}
 use Rattle.record_dim.proofs.nodes.find_child.Goals as goal
 

@@ -1,10 +1,5 @@
-use Rattle.std.proofs.Common.{ℕ, ◌≡◌, ◌+◌, ◌≤◌, length, min, false, nat_eq, sym, subst, arith}
-use Rattle.std.specs.Cmp.Lexicographic.{pointwise}
-use Rattle.record_dim.specs.declared.dim.FieldList.{FieldList}
-use Rattle.record_dim.specs.Trees.{Field}
-use Rattle.record_dim.specs.Leaves.{leaves, leaves_of}
+use Rattle.record_dim.proofs.Imports.{ℕ, ◌≡◌, ◌+◌, ◌≤◌, length, min, false, nat_eq, sym, subst, arith, pointwise, FieldList, Field, leaves, leaves_of, tree_of, fields_of}
 use Rattle.record_dim.proofs.Walks.{length-leaves}
-use Rattle.record_dim.specs.Trees.{tree_of, fields_of}
 use Rattle.record_dim.proofs.Lookup.{IsLeft, left_found, left_few, left_more}
 use Rattle.record_dim.proofs.nodes.find_field.Goals as goal
 

@@ -1,4 +1,4 @@
-use Rattle.record_dim.specs.Trees.{fields_of}
+use Rattle.record_dim.proofs.Imports.{fields_of}
 use Rattle.record_dim.proofs.Lookup.{IsLeft}
 use Rattle.record_dim.proofs.nodes.find_field.Given as goal
 

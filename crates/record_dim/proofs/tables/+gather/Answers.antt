@@ -1,6 +1,4 @@
-use Rattle.std.proofs.Common.{◌≡◌, refl, rules}
-use Rattle.record_dim.specs.declared.dim.FieldList.{the_lemmas}
-use Rattle.record_dim.specs.Trees.{Field, tree_of, fields_of}
+use Rattle.record_dim.proofs.Imports.{◌≡◌, refl, rules, the_lemmas, Field, tree_of, fields_of}
 use Rattle.record_dim.proofs.Gathered.{kinds-step, texts-step}
 use Rattle.record_dim.proofs.tables.+gather.Goals as goal
 

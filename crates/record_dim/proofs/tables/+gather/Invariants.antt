@@ -1,8 +1,5 @@
 -- what is gathered so far, and what is left, is all
-use Rattle.std.proofs.Common.{◌≡◌, ◌≤◌, ◌++◌, ◌+◌, ◌*◌}
-use Rattle.record_dim.specs.declared.dim.FieldList.{size-FieldList}
-use Rattle.record_dim.specs.Trees.{fields_of, tree_of, Array}
-use Rattle.record_dim.specs.Gathering.{node_kinds, node_texts, record_kinds, record_texts}
+use Rattle.record_dim.proofs.Imports.{◌≡◌, ◌≤◌, ◌++◌, ◌+◌, ◌*◌, size-FieldList, fields_of, tree_of, Array, node_kinds, node_texts, record_kinds, record_texts}
 use Rattle.record_dim.proofs.tables.+gather.Given as goal
 
 abbrev pub decreases-gather : goal.decreases-gather

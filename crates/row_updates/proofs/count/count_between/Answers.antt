@@ -1,7 +1,4 @@
-use Rattle.std.proofs.Common.{rules, arith, ◌≡◌, ◌<◌, ◌+◌, ◌∙◌, Err, length, ℕ, ap, sym, refl, subst}
-use Rattle.expr_lang.specs.Bounds.{bound_term}
-use Rattle.views.specs.Tables.{Table}
-use Rattle.row_updates.specs.Updated.{IsCounted}
+use Rattle.row_updates.proofs.Imports.{rules, arith, ◌≡◌, ◌<◌, ◌+◌, ◌∙◌, Err, length, ℕ, ap, sym, refl, subst, bound_term, Table, IsCounted}
 use Rattle.row_updates.proofs.Indexed.{index_read}
 use Rattle.row_updates.proofs.Rows.{row_counted, count_ended, one_at_most}
 use Rattle.row_updates.proofs.count.count_between.Goals as goal

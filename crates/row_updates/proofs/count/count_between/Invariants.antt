@@ -1,7 +1,4 @@
-use Rattle.std.proofs.Common.{◌≡◌, ℕ, ◌+◌, ◌≤◌}
-use Rattle.expr_lang.specs.Bounds.{bound_term}
-use Rattle.views.specs.Tables.{Table}
-use Rattle.row_updates.specs.Updated.{IsCounted}
+use Rattle.row_updates.proofs.Imports.{◌≡◌, ℕ, ◌+◌, ◌≤◌, bound_term, Table, IsCounted}
 use Rattle.row_updates.proofs.count.count_between.Given as goal
 
 abbrev pub invariant-loop-row : goal.invariant-loop-row

@@ -1,8 +1,4 @@
-use Rattle.std.proofs.Common.{rules, ◌≡◌, ◌∙◌, ℕ, List, length, Err, sym, ap, subst, arith}
-use Rattle.expr_lang.specs.Bounds.{bound_term}
-use Rattle.extents.specs.Indices.{indices}
-use Rattle.row_updates.specs.Logs.{count_log}
-use Rattle.row_updates.specs.Runs.{IsIdle}
+use Rattle.row_updates.proofs.Imports.{rules, ◌≡◌, ◌∙◌, ℕ, List, length, Err, sym, ap, subst, arith, bound_term, indices, count_log, IsIdle}
 use Rattle.row_updates.proofs.Rows.{none_rows}
 use Rattle.row_updates.proofs.count.count_by_runs.Goals as goal
 

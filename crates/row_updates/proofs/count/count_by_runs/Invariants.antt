@@ -1,7 +1,4 @@
-use Rattle.std.proofs.Common.{◌≡◌, ◌≤◌, ◌-◌, length}
-use Rattle.expr_lang.specs.Bounds.{bound_term}
-use Rattle.row_updates.specs.Runs.{IsIdle}
-use Rattle.row_updates.specs.Updated.{IsCounted}
+use Rattle.row_updates.proofs.Imports.{◌≡◌, ◌≤◌, ◌-◌, length, bound_term, IsIdle, IsCounted}
 use Rattle.row_updates.proofs.count.count_by_runs.Given as goal
 
 abbrev pub decreases-loop-first : goal.decreases-loop-first

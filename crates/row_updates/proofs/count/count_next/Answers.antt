@@ -1,12 +1,4 @@
-use Rattle.std.proofs.Common.{rules, ◌≡◌, ◌∙◌, ◌+◌, ◌-◌, ℕ, count_by, length, sym, ap, subst, arith}
-use Rattle.std.proofs.lemmas.List.Sums.{count_by-le-length}
-use Rattle.expr_lang.specs.Bounds.{bound_term}
-use Rattle.expr_lang.specs.Terms.{Term}
-use Rattle.expr_lang.specs.Values.{is_true}
-use Rattle.views.specs.Tables.{Table}
-use Rattle.row_updates.specs.Logs.{count_log}
-use Rattle.row_updates.specs.Runs.{AreWorth}
-use Rattle.row_updates.specs.Updated.{AreCounted, IsCounted, row_test}
+use Rattle.row_updates.proofs.Imports.{rules, ◌≡◌, ◌∙◌, ◌+◌, ◌-◌, ℕ, count_by, length, sym, ap, subst, arith, count_by-le-length, bound_term, Term, is_true, Table, count_log, AreWorth, AreCounted, IsCounted, row_test}
 use Rattle.row_updates.proofs.RunTests.{tested, run_counted}
 use Rattle.row_updates.proofs.count.count_next.Goals as goal
 

@@ -1,6 +1,4 @@
-use Rattle.std.proofs.Common.{◌≡◌, ◌∙◌, ℕ, List, length, refl, sym, ap}
-use Rattle.expr_lang.specs.Bounds.{bound_term}
-use Rattle.extents.specs.Indices.{indices}
+use Rattle.row_updates.proofs.Imports.{◌≡◌, ◌∙◌, ℕ, List, length, refl, sym, ap, bound_term, indices}
 use Rattle.row_updates.proofs.Rows.{none_rows, from_none, whole_count}
 use Rattle.row_updates.proofs.count.count_where.Goals as goal
 

@@ -1,5 +1,5 @@
-use Rattle.std.proofs.Common.{arith, ◌≡◌, ◌<◌, ◌≤◌, ◌++◌, ◌∷◌, [], length, get_or, take, List, ℕ, ap, sym, ◌∙◌}
-use Rattle.std.proofs.lemmas.List.{take_more, take_more_set, take_all, length-set}
+use Rattle.row_updates.proofs.Imports.{arith, ◌≡◌, ◌<◌, ◌≤◌, ◌++◌, ◌∷◌, [], length, get_or, take, List, ℕ, ap, sym, ◌∙◌, take_more, take_more_set, length-set}
+use Rattle.std.proofs.lemmas.List.{take_all}
 use Rattle.row_updates.proofs.index.put_all.Goals as goal
 
 pub loop-d-preserved : goal.loop-d-preserved

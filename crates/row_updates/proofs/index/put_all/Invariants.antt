@@ -1,4 +1,4 @@
-use Rattle.std.proofs.Common.{◌≡◌, length, take}
+use Rattle.row_updates.proofs.Imports.{◌≡◌, length, take}
 use Rattle.row_updates.proofs.index.put_all.Given as goal
 
 abbrev pub invariant-loop-d : goal.invariant-loop-d

@@ -1,4 +1,4 @@
-use Rattle.std.proofs.Common.{arith, ◌≡◌, ◌<◌, length}
+use Rattle.row_updates.proofs.Imports.{arith, ◌≡◌, ◌<◌, length}
 use Rattle.row_updates.proofs.Indexed.{line_put}
 use Rattle.row_updates.proofs.index.put_index.Goals as goal
 

@@ -1,6 +1,4 @@
-use Rattle.std.proofs.Common.{All, take}
-use Rattle.expr_lang.specs.Bounds.{bound_term}
-use Rattle.expr_lang.specs.Exacts.{IsSafe}
+use Rattle.row_updates.proofs.Imports.{All, take, bound_term, IsSafe}
 use Rattle.row_updates.proofs.limits.are_safe.Given as goal
 
 abbrev pub invariant-loop-set : goal.invariant-loop-set

@@ -1,13 +1,4 @@
-use Rattle.std.proofs.Common.{rules, ◌≡◌, ◌-◌, ◌<◌, ℕ, List, length, map, take, sym, ap, subst, arith}
-use Rattle.std.proofs.lemmas.List.Elements.{All-get_or}
-use Rattle.expr_lang.specs.Bounds.{bound_term}
-use Rattle.expr_lang.specs.Exacts.{IsSafe}
-use Rattle.views.specs.Columns.{column_writes}
-use Rattle.views.specs.Tables.{Table, leaf_count_of, kept_of}
-use Rattle.row_updates.specs.declared.update.Assign.{Assign}
-use Rattle.row_updates.specs.Rows.{Setting, setting_of, IsSetOf}
-use Rattle.row_updates.specs.Runs.{AreTaken}
-use Rattle.row_updates.specs.Updated.{IsRunUpdated, IsStill, lane_test}
+use Rattle.row_updates.proofs.Imports.{rules, ◌≡◌, ◌-◌, ◌<◌, ℕ, List, length, map, take, sym, ap, subst, arith, All-get_or, bound_term, IsSafe, column_writes, Table, leaf_count_of, kept_of, Assign, Setting, setting_of, IsSetOf, AreTaken, IsRunUpdated, IsStill, lane_test}
 use Rattle.row_updates.proofs.RunRows.{stored_still}
 use Rattle.row_updates.proofs.RunSets.{stored_of, last_stored, all_settings}
 use Rattle.row_updates.proofs.run_updates.+sets_run.Goals as goal

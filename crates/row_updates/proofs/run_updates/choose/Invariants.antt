@@ -1,5 +1,4 @@
-use Rattle.std.proofs.Common.{◌≡◌, ℕ, ◌<◌, ◌≤◌, cond, get_or, length, pos}
-use Rattle.expr_lang.specs.Values.{is_true}
+use Rattle.row_updates.proofs.Imports.{◌≡◌, ℕ, ◌<◌, ◌≤◌, cond, get_or, length, pos, is_true}
 use Rattle.row_updates.proofs.run_updates.choose.Given as goal
 
 abbrev pub invariant-loop-k : goal.invariant-loop-k

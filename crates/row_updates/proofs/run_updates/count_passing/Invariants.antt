@@ -1,5 +1,4 @@
-use Rattle.std.proofs.Common.{◌≡◌, ◌≤◌, count_by, take}
-use Rattle.expr_lang.specs.Values.{is_true}
+use Rattle.row_updates.proofs.Imports.{◌≡◌, ◌≤◌, count_by, take, is_true}
 use Rattle.row_updates.proofs.run_updates.count_passing.Given as goal
 
 abbrev pub invariant-loop-value : goal.invariant-loop-value

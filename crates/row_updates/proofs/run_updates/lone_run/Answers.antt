@@ -1,9 +1,4 @@
-use Rattle.std.proofs.Common.{rules, ◌≡◌, ◌∙◌, ℕ, ◌∷◌, [], Some, length, sym, ap, subst, arith}
-use Rattle.views.specs.Columns.{first_lane_fault}
-use Rattle.views.specs.Runs.{stored_count}
-use Rattle.views.specs.Tables.{answer_of}
-use Rattle.row_updates.specs.Rows.{setting_of}
-use Rattle.row_updates.specs.Updated.{IsRunUpdated, lane_test}
+use Rattle.row_updates.proofs.Imports.{rules, ◌≡◌, ◌∙◌, ℕ, ◌∷◌, [], Some, length, sym, ap, subst, arith, first_lane_fault, stored_count, answer_of, setting_of, IsRunUpdated, lane_test}
 use Rattle.row_updates.proofs.RunSets.{lone_stored}
 use Rattle.row_updates.proofs.Taken.{stored_front, told_none, told_some}
 use Rattle.row_updates.proofs.run_updates.lone_run.Goals as goal

@@ -1,10 +1,4 @@
-use Rattle.std.proofs.Common.{rules, ◌≡◌, ◌∙◌, ℕ, Bool, false, Some, Ok, length, map, sym, ap, subst, arith}
-use Rattle.expr_lang.specs.Bounds.{bound_term}
-use Rattle.expr_lang.specs.Terms.{Term}
-use Rattle.views.specs.Tables.{Table}
-use Rattle.row_updates.specs.Rows.{setting_of}
-use Rattle.row_updates.specs.Runs.{AreWorth}
-use Rattle.row_updates.specs.Updated.{IsRunUpdated, AreTested}
+use Rattle.row_updates.proofs.Imports.{rules, ◌≡◌, ◌∙◌, ℕ, Bool, false, Some, Ok, length, map, sym, ap, subst, arith, bound_term, Term, Table, setting_of, AreWorth, IsRunUpdated, AreTested}
 use Rattle.row_updates.proofs.RunRows.{none_pass}
 use Rattle.row_updates.proofs.RunTests.{tested, none_true, all_true}
 use Rattle.row_updates.proofs.run_updates.passed_run.Goals as goal

@@ -1,7 +1,4 @@
-use Rattle.std.proofs.Common.{rules, FitsSigned, to_z, subst, ◌≤ℤ◌, w64, ◌≡◌, ◌∙◌, ℤ, get_or, pos, ap, arith}
-use Rattle.piece_bits.specs.Tables.{hold_at}
-use Rattle.views.specs.Stores.{told}
-use Rattle.views.specs.Tables.{answer_of, leaf_type_of, table_holds}
+use Rattle.row_updates.proofs.Imports.{rules, FitsSigned, to_z, subst, ◌≤ℤ◌, w64, ◌≡◌, ◌∙◌, ℤ, get_or, pos, ap, arith, hold_at, told, answer_of, leaf_type_of, table_holds}
 use Rattle.row_updates.proofs.Low.{passed}
 use Rattle.row_updates.proofs.Taken.{between_taken, fits_taken}
 use Rattle.row_updates.proofs.run_updates.takes_all.Goals as goal

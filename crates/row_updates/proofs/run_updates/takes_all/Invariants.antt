@@ -1,4 +1,4 @@
-use Rattle.std.proofs.Common.{ℕ, ◌<◌, ◌≤ℤ◌, get_or, pos}
+use Rattle.row_updates.proofs.Imports.{ℕ, ◌<◌, ◌≤ℤ◌, get_or, pos}
 use Rattle.row_updates.proofs.run_updates.takes_all.Given as goal
 
 abbrev pub invariant-loop-value : goal.invariant-loop-value

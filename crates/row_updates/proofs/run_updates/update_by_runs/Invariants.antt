@@ -1,7 +1,4 @@
-use Rattle.std.proofs.Common.{◌≡◌, ◌≤◌, ◌-◌, length, map}
-use Rattle.row_updates.specs.Rows.{filter_term, setting_of}
-use Rattle.row_updates.specs.Runs.{IsIdle}
-use Rattle.row_updates.specs.Updated.{AreUpdated}
+use Rattle.row_updates.proofs.Imports.{◌≡◌, ◌≤◌, ◌-◌, length, map, filter_term, setting_of, IsIdle, AreUpdated}
 use Rattle.row_updates.proofs.run_updates.update_by_runs.Given as goal
 
 abbrev pub decreases-loop-first : goal.decreases-loop-first

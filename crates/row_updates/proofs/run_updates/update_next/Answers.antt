@@ -1,5 +1,4 @@
-use Rattle.std.proofs.Common.{◌+◌, ◌≤◌, length, map, arith}
-use Rattle.row_updates.specs.Rows.{filter_term, setting_of}
+use Rattle.row_updates.proofs.Imports.{◌+◌, ◌≤◌, length, map, arith, filter_term, setting_of}
 use Rattle.row_updates.proofs.RunRows.{run_more}
 use Rattle.row_updates.proofs.run_updates.update_next.Goals as goal
 

@@ -1,4 +1,4 @@
-use Rattle.std.proofs.Common.{None, refl}
+use Rattle.row_updates.proofs.Imports.{None, refl}
 use Rattle.row_updates.proofs.run_updates.update_run.Goals as goal
 
 pub returns-in-None-clause-updated : goal.returns-in-None-clause-updated

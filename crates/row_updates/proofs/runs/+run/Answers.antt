@@ -1,10 +1,4 @@
-use Rattle.std.proofs.Common.{rules, ◌≡◌, ◌∙◌, length, refl, sym, ap, subst, arith}
-use Rattle.expr_lang.specs.declared.bound.Link.{Link}
-use Rattle.expr_lang.specs.declared.bound.Step.{Step}
-use Rattle.expr_lang.specs.Chains.{operand_term, chain_term, AreWithin}
-use Rattle.expr_lang.specs.ChainLaws.{within_front, within_links, within_rest, safe_front, safe_steps, safe_rest, no_deeper}
-use Rattle.views.specs.Tables.{Table, leaf_count_of}
-use Rattle.row_updates.specs.Runs.{IsIdle, AreRights}
+use Rattle.row_updates.proofs.Imports.{rules, ◌≡◌, ◌∙◌, length, refl, sym, ap, subst, arith, Link, Step, operand_term, chain_term, AreWithin, within_front, within_links, within_rest, safe_front, safe_steps, safe_rest, no_deeper, Table, leaf_count_of, IsIdle, AreRights}
 use Rattle.row_updates.proofs.WorthSoFar.{run_rows, ended, fits, more}
 use Rattle.row_updates.proofs.runs.+run.Goals as goal
 

@@ -1,9 +1,4 @@
-use Rattle.std.proofs.Common.{◌≡◌, ◌≤◌, length}
-use Rattle.expr_lang.specs.declared.bound.Links.{size-Links}
-use Rattle.expr_lang.specs.Chains.{chain_term, AreWithin}
-use Rattle.expr_lang.specs.Steps.{AreStepsSafe}
-use Rattle.views.specs.Tables.{leaf_count_of}
-use Rattle.row_updates.specs.Runs.{IsIdle, IsRunOf}
+use Rattle.row_updates.proofs.Imports.{◌≡◌, ◌≤◌, length, size-Links, chain_term, AreWithin, AreStepsSafe, leaf_count_of, IsIdle, IsRunOf}
 use Rattle.row_updates.proofs.WorthSoFar.{IsWorthSoFar}
 use Rattle.row_updates.proofs.runs.+run.Given as goal
 

@@ -1,4 +1,4 @@
-use Rattle.std.proofs.Common.{◌≡◌, ℕ, ◌<◌, ◌≤ℤ◌, true, get_or, pos}
+use Rattle.row_updates.proofs.Imports.{◌≡◌, ℕ, ◌<◌, ◌≤ℤ◌, true, get_or, pos}
 use Rattle.row_updates.proofs.runs.are_near.Given as goal
 
 abbrev pub invariant-loop-value : goal.invariant-loop-value

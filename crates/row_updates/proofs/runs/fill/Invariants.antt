@@ -1,4 +1,4 @@
-use Rattle.std.proofs.Common.{◌≡◌, ℕ, ◌<◌, get_or, pos}
+use Rattle.row_updates.proofs.Imports.{◌≡◌, ℕ, ◌<◌, get_or, pos}
 use Rattle.row_updates.proofs.runs.fill.Given as goal
 
 abbrev pub invariant-loop-k : goal.invariant-loop-k

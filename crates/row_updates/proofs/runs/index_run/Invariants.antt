@@ -1,5 +1,4 @@
-use Rattle.std.proofs.Common.{◌≡◌, ℕ, ◌+◌, ◌<◌, ◌≤◌, get_or, slice_index, pos}
-use Rattle.linearize.specs.Slots.{index_at}
+use Rattle.row_updates.proofs.Imports.{◌≡◌, ℕ, ◌+◌, ◌<◌, ◌≤◌, get_or, slice_index, pos, index_at}
 use Rattle.row_updates.proofs.runs.index_run.Given as goal
 
 abbrev pub invariant-loop-k : goal.invariant-loop-k

@@ -1,13 +1,4 @@
-use Rattle.std.proofs.Common.{◌≡◌, ◌∙◌, ◌≤◌, ◌≤ℤ◌, ℤ, pos, neg_ℤ, Bool, get_or, length, Some, sym, ap, subst}
-use Rattle.std.specs.Prelude.{unsigned_abs, if◌then◌else◌}
-use Rattle.std.specs.List.{slice_get}
-use Rattle.std.proofs.lemmas.Option.{get_or_from_slice_get}
-use Rattle.record_dim.specs.declared.leaf_type.LeafType.{LeafType}
-use Rattle.record_dim.specs.declared.leaf_type.LeafType.TheVariants.{Bool as Truth}
-use Rattle.record_dim.specs.Leaves.{kinds_of}
-use Rattle.record_dim.specs.LeafTypes.{IsDeclared, is_signed}
-use Rattle.record_dim.specs.Trees.{Fields}
-use Rattle.views.specs.Tables.{leaf_type_of, leaf_types_of}
+use Rattle.row_updates.proofs.Imports.{◌≡◌, ◌∙◌, ◌≤◌, ◌≤ℤ◌, ℤ, pos, neg_ℤ, Bool, get_or, length, Some, sym, ap, subst, unsigned_abs, if◌then◌else◌, slice_get, get_or_from_slice_get, LeafType, Truth, kinds_of, IsDeclared, is_signed, Fields, leaf_type_of, leaf_types_of}
 use Rattle.row_updates.proofs.RunReads.{near_by_type, near_by_test}
 use Rattle.row_updates.proofs.runs.leaf_run.Goals as goal
 

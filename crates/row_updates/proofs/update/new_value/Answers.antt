@@ -1,11 +1,4 @@
-use Rattle.std.proofs.Common.{◌≡◌, ◌∙◌, [], ℤ, Result, Ok, Err, get_or, sym, ap, rules, FitsSigned}
-use Rattle.std.specs.Int.{w128}
-use Rattle.std.proofs.lemmas.Int.{to_z-of_z}
-use Rattle.views.specs.declared.fault.StoreFault.{StoreFault}
-use Rattle.row_updates.specs.declared.fault.UpdateFault.{UpdateFault}
-use Rattle.row_updates.specs.declared.fault.UpdateKind.{UpdateKind}
-use Rattle.row_updates.specs.Logs.{value_log}
-use Rattle.row_updates.specs.Rows.{setting_of, in_row, store_kind, ◌>>=◌}
+use Rattle.row_updates.proofs.Imports.{◌≡◌, ◌∙◌, [], ℤ, Result, Ok, Err, get_or, sym, ap, rules, FitsSigned, w128, to_z-of_z, StoreFault, UpdateFault, UpdateKind, value_log, setting_of, in_row, store_kind, ◌>>=◌}
 use Rattle.row_updates.proofs.Rows.{value_tested}
 use Rattle.row_updates.proofs.update.new_value.Goals as goal
 

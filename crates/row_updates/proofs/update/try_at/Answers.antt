@@ -1,7 +1,4 @@
-use Rattle.std.proofs.Common.{rules, ◌≡◌, ◌∙◌, Err, length, map, get_or, [], ap, sym}
-use Rattle.views.specs.Tables.{Table, answer_of, after_log}
-use Rattle.row_updates.specs.Rows.{filter_term, setting_of}
-use Rattle.row_updates.specs.Logs.{filter_log, sides_log}
+use Rattle.row_updates.proofs.Imports.{rules, ◌≡◌, ◌∙◌, Err, length, map, get_or, [], ap, sym, Table, answer_of, after_log, filter_term, setting_of, filter_log, sides_log}
 use Rattle.row_updates.proofs.Logs.{log_more, tried_log_left, tried_log_fault, tried_log_done}
 use Rattle.row_updates.proofs.Rows.{tried_left, tried_stop, tried_done}
 use Rattle.row_updates.proofs.update.try_at.Goals as goal

@@ -1,7 +1,4 @@
-use Rattle.std.proofs.Common.{map, rules, arith, ◌≡◌, ◌<◌, ◌∙◌, Err, length, ap, sym, refl}
-use Rattle.std.proofs.lemmas.List.{length-set}
-use Rattle.row_updates.specs.Rows.{filter_term, setting_of}
-use Rattle.views.specs.Tables.{Table}
+use Rattle.row_updates.proofs.Imports.{map, rules, arith, ◌≡◌, ◌<◌, ◌∙◌, Err, length, ap, sym, refl, length-set, filter_term, setting_of, Table}
 use Rattle.row_updates.proofs.Indexed.{index_read}
 use Rattle.row_updates.proofs.Rows.{rows_ended, rows_more}
 use Rattle.row_updates.proofs.update.update_between.Goals as goal

@@ -1,7 +1,4 @@
-use Rattle.std.proofs.Common.{◌≡◌, map, length}
-use Rattle.row_updates.specs.Rows.{filter_term, setting_of}
-use Rattle.row_updates.specs.Updated.{AreUpdated}
-use Rattle.views.specs.Tables.{Table}
+use Rattle.row_updates.proofs.Imports.{◌≡◌, map, length, filter_term, setting_of, AreUpdated, Table}
 use Rattle.row_updates.proofs.update.update_between.Given as goal
 
 abbrev pub invariant-loop-row : goal.invariant-loop-row

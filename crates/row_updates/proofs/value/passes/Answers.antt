@@ -1,5 +1,4 @@
-use Rattle.std.proofs.Common.{sym}
-use Rattle.views.specs.TallyLaws.{after_log-none}
+use Rattle.row_updates.proofs.Imports.{sym, after_log-none}
 use Rattle.row_updates.proofs.value.passes.Goals as goal
 
 pub returns-in-None-clause-same : goal.returns-in-None-clause-same

@@ -1,8 +1,4 @@
-use Rattle.std.proofs.Common.{ℕ, [], ap, sym, ◌∙◌, MutBor, get_or}
-use Rattle.expr_lang.specs.Bounds.{bound_term}
-use Rattle.expr_lang.specs.Values.{outcome_of}
-use Rattle.views.specs.Tables.{Table, after_log}
-use Rattle.row_updates.specs.Logs.{value_log}
+use Rattle.row_updates.proofs.Imports.{ℕ, [], ap, sym, ◌∙◌, MutBor, get_or, bound_term, outcome_of, Table, after_log, value_log}
 use Rattle.row_updates.proofs.Logs.{lent_log}
 use Rattle.row_updates.proofs.value.value_on.Goals as goal
 

@@ -1,5 +1,5 @@
 -- the rest is shorter
-use Rattle.std.proofs.Common.{length}
+use Rattle.schema_lang.proofs.Imports.{length}
 use Rattle.schema_lang.proofs.depth.+are_low.Given as goal
 
 abbrev pub decreases-are_low : goal.decreases-are_low

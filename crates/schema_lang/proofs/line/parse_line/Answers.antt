@@ -1,9 +1,4 @@
-use Rattle.std.proofs.Common.{◌≡◌, ◌<◌, ◌≤◌, ◌-◌, [], length, sym, ap, ◌∙◌, arith}
-use Rattle.std.proofs.lemmas.Bool.Decides.{nat_tests}
-use Rattle.phrases.specs.ParsesLaws.{ok_parts}
-use Rattle.line_tokens.specs.Spots.{Spots}
-use Rattle.line_grammar.specs.Sentences.{deepest, sentence_of}
-use Rattle.line_grammar.specs.Reads.{column_behind}
+use Rattle.schema_lang.proofs.Imports.{◌≡◌, ◌<◌, ◌≤◌, ◌-◌, [], length, sym, ap, ◌∙◌, arith, nat_tests, ok_parts, Spots, deepest, sentence_of, column_behind}
 use Rattle.schema_lang.proofs.LineLaws.{found_line, full_line, one_line, stopped_line}
 use Rattle.schema_lang.proofs.LineOfLaws.{told_by}
 use Rattle.schema_lang.proofs.SpellingLaws.{spots_spelled}

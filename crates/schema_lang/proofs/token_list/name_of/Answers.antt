@@ -1,7 +1,4 @@
-use Rattle.std.proofs.Common.{◌≡◌, true, false, ⊎_elim}
-use Rattle.std.proofs.lemmas.Bool.{cases_Bool}
-use Rattle.record_dim.specs.Names.{is_name}
-use Rattle.record_dim.specs.NameBytesLaws.{name_utf8}
+use Rattle.schema_lang.proofs.Imports.{◌≡◌, true, false, ⊎_elim, cases_Bool, is_name, name_utf8}
 use Rattle.schema_lang.proofs.token_list.name_of.Goals as goal
 
 pub returns-in-Err : goal.returns-in-Err

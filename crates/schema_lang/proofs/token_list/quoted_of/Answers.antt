@@ -1,7 +1,4 @@
-use Rattle.std.proofs.Common.{◌≡◌, true, false, ⊎_elim}
-use Rattle.std.proofs.lemmas.Bool.{cases_Bool}
-use Rattle.line_grammar.specs.FileNames.{is_file_name}
-use Rattle.line_grammar.specs.FileBytesLaws.{file_name_utf8}
+use Rattle.schema_lang.proofs.Imports.{◌≡◌, true, false, ⊎_elim, cases_Bool, is_file_name, file_name_utf8}
 use Rattle.schema_lang.proofs.token_list.quoted_of.Goals as goal
 
 pub returns-in-Err : goal.returns-in-Err

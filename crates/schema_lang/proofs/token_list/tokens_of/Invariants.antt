@@ -1,6 +1,5 @@
 -- the tokens of the spots so far
-use Rattle.std.proofs.Common.{◌≡◌, take}
-use Rattle.line_grammar.specs.Reads.{tokens_of}
+use Rattle.schema_lang.proofs.Imports.{◌≡◌, take, tokens_of}
 use Rattle.schema_lang.proofs.token_list.tokens_of.Given as goal
 
 abbrev pub invariant-loop-spot : goal.invariant-loop-spot

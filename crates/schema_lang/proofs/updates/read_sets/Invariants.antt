@@ -1,8 +1,5 @@
 -- what is read on gives the whole list
-use Rattle.std.proofs.Common.{◌≡◌, map, length}
-use Rattle.line_grammar.specs.Sentences.{assignment_of}
-use Rattle.line_phrases.specs.Lists.{rest_at, listed_at}
-use Rattle.schema_lang.specs.Updates.{assignment_at}
+use Rattle.schema_lang.proofs.Imports.{◌≡◌, map, length, assignment_of, rest_at, listed_at, assignment_at}
 use Rattle.schema_lang.proofs.updates.read_sets.Given as goal
 
 abbrev pub invariant-loop-alloc : goal.invariant-loop-alloc

@@ -1,4 +1,4 @@
-use Rattle.std.proofs.Common.{◌∙◌}
+use Rattle.schema_lang.proofs.Imports.{◌∙◌}
 use Rattle.schema_lang.proofs.VersionLaws.{blank_is}
 use Rattle.schema_lang.proofs.version.is_blank.Goals as goal
 

@@ -1,4 +1,4 @@
-use Rattle.std.proofs.Common.{sym, arith}
+use Rattle.schema_lang.proofs.Imports.{sym, arith}
 use Rattle.schema_lang.proofs.SpellingLaws.{token_spelled}
 use Rattle.schema_lang.proofs.version.token_next.Goals as goal
 

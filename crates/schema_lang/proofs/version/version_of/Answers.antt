@@ -1,5 +1,4 @@
-use Rattle.std.proofs.Common.{◌≡◌, true, false, codes, sym, ◌∙◌}
-use Rattle.line_grammar.specs.Tokens.{is_word}
+use Rattle.schema_lang.proofs.Imports.{◌≡◌, true, false, codes, sym, ◌∙◌, is_word}
 use Rattle.schema_lang.proofs.VersionLaws.{no_first, no_version, no_second, no_number, no_third, numbered}
 use Rattle.schema_lang.proofs.version.version_of.Goals as goal
 

@@ -1,6 +1,4 @@
-use Rattle.std.specs.Prelude.{slice_index_or}
-use Rattle.blob_file.specs.HeaderLaws.{nameless_built}
-use Rattle.map_expr.specs.Terms.{term_of}
+use Rattle.session.proofs.Imports.{slice_index_or, nameless_built, term_of}
 use Rattle.session.proofs.advise.advised.Goals as goal
 
 pub advise-requires-clause-built : goal.advise-requires-clause-built

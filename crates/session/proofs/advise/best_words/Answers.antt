@@ -1,8 +1,4 @@
-use Rattle.std.proofs.Common.{◌≡◌, ◌∙◌, ℕ, List, ◌++◌, drop, codes, ap}
-use Rattle.layout_io.specs.Decimal.{digits_text}
-use Rattle.line_writer.specs.Canonical.{map_tokens}
-use Rattle.line_writer.specs.Texts.{behind}
-use Rattle.map_expr.specs.Terms.{term_of}
+use Rattle.session.proofs.Imports.{◌≡◌, ◌∙◌, ℕ, List, ◌++◌, drop, codes, ap, digits_text, map_tokens, behind, term_of}
 use Rattle.session.proofs.Advice.{best_goes, rest_from}
 use Rattle.session.proofs.advise.best_words.Goals as goal
 

@@ -1,8 +1,5 @@
-use Rattle.std.proofs.Common.{◌≡◌, ℕ, List, ap}
+use Rattle.session.proofs.Imports.{◌≡◌, ℕ, List, ap, Mapping, canonical, term_of}
 use Rattle.std.specs.Prelude.{codes}
-use Rattle.line_grammar.specs.Sentences.{Mapping}
-use Rattle.line_writer.specs.Texts.{canonical}
-use Rattle.map_expr.specs.Terms.{term_of}
 use Rattle.session.proofs.Advice.{mapping_text}
 use Rattle.session.proofs.advise.mapping_line.Goals as goal
 

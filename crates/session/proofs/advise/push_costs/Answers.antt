@@ -1,4 +1,4 @@
-use Rattle.std.proofs.Common.{◌∙◌, ◌<◌, ◌≤◌, length, arith}
+use Rattle.session.proofs.Imports.{◌∙◌, ◌<◌, ◌≤◌, length, arith}
 use Rattle.session.proofs.Advice.{costs_more, costs_all}
 use Rattle.session.proofs.advise.push_costs.Goals as goal
 

@@ -1,6 +1,4 @@
-use Rattle.std.proofs.Common.{◌≡◌, ◌++◌, take, flat_map}
-use Rattle.std.specs.List.{enumerate_from}
-use Rattle.worlds.specs.Advise.{cost_line}
+use Rattle.session.proofs.Imports.{◌≡◌, ◌++◌, take, flat_map, enumerate_from, cost_line}
 use Rattle.session.proofs.advise.push_costs.Given as goal
 
 abbrev pub invariant-loop-at : goal.invariant-loop-at

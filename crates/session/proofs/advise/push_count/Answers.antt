@@ -1,6 +1,4 @@
-use Rattle.std.proofs.Common.{◌≡◌, ◌∙◌, arith}
-use Rattle.layout_io.specs.Decimal.{digits_text}
-use Rattle.layout_io.specs.DecimalLaws.{decimal-digits_text}
+use Rattle.session.proofs.Imports.{◌≡◌, ◌∙◌, arith, digits_text, decimal-digits_text}
 use Rattle.session.proofs.advise.push_count.Goals as goal
 
 pub returns : goal.returns

@@ -1,8 +1,4 @@
-use Rattle.std.proofs.Common.{rules, ◌≡◌, Err, map}
-use Rattle.map_expr.specs.Terms.{term_of}
-use Rattle.advisor.specs.Advice.{told_by}
-use Rattle.command_checks.specs.Entries.{mapping_of}
-use Rattle.command_checks.specs.Questions.{question_of}
+use Rattle.session.proofs.Imports.{rules, ◌≡◌, Err, map, term_of, told_by, mapping_of, question_of}
 use Rattle.session.proofs.Advice.{none_told, told_goes}
 use Rattle.session.proofs.advise.told.Goals as goal
 

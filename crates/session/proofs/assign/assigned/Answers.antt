@@ -1,7 +1,5 @@
-use Rattle.std.proofs.Common.{rules, ◌≡◌, ◌∙◌, Err}
-use Rattle.expr_lang.specs.Bounds.{bound_term}
+use Rattle.session.proofs.Imports.{rules, ◌≡◌, ◌∙◌, Err, bound_term, GivesUp-then, goes_then}
 use Rattle.expr_lang.specs.Terms.{term_of}
-use Rattle.command_checks.specs.GivesLaws.{GivesUp-then, goes_then}
 use Rattle.session.proofs.Indexing.{assigned_is}
 use Rattle.session.proofs.assign.assigned.Goals as goal
 

@@ -1,5 +1,4 @@
-use Rattle.std.proofs.Common.{rules, tests, ◌≡◌, ◌∙◌, true, false, sym}
-use Rattle.std.proofs.lemmas.Bool.{false≢true}
+use Rattle.session.proofs.Imports.{rules, tests, ◌≡◌, ◌∙◌, true, false, sym, false≢true}
 use Rattle.session.proofs.Indexing.{inside_goes, inside_not, other_rank}
 use Rattle.session.proofs.assign.inside.Goals as goal
 

@@ -1,5 +1,4 @@
-use Rattle.std.proofs.Common.{sym}
-use Rattle.linearize.specs.SlotsLaws.{place_in_is}
+use Rattle.session.proofs.Imports.{sym, place_in_is}
 use Rattle.session.proofs.assign.row_of.Goals as goal
 
 pub returns-clause-row : goal.returns-clause-row

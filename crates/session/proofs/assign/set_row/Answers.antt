@@ -1,7 +1,4 @@
-use Rattle.std.proofs.Common.{rules, ◌≡◌, ◌∙◌, Err, FitsSigned}
-use Rattle.std.specs.Int.{w128}
-use Rattle.std.proofs.lemmas.Int.{to_z-of_z}
-use Rattle.command_checks.specs.GivesLaws.{goes_then}
+use Rattle.session.proofs.Imports.{rules, ◌≡◌, ◌∙◌, Err, FitsSigned, w128, to_z-of_z, goes_then}
 use Rattle.session.proofs.Exits.{goes_gives}
 use Rattle.session.proofs.assign.set_row.Goals as goal
 

@@ -1,4 +1,4 @@
-use Rattle.std.proofs.Common.{◌≡◌, take}
+use Rattle.session.proofs.Imports.{◌≡◌, take}
 use Rattle.session.proofs.assign.widened.Given as goal
 
 abbrev pub invariant-loop-number : goal.invariant-loop-number

@@ -1,12 +1,4 @@
-use Rattle.std.proofs.Common.{arith, ◌≡◌, ◌∙◌, ◌+◌, List, length, ap}
-use Rattle.actors.specs.Runs.{Run}
-use Rattle.places.specs.Layout.{Owner}
-use Rattle.row_updates.specs.Logs.{update_log}
-use Rattle.views.specs.Tables.{Table, owners_of, after_stores}
-use Rattle.worlds.specs.Actors.{memory_text}
-use Rattle.views.specs.Tallies.{reads_first}
-use Rattle.session.specs.Changes.{left_with}
-use Rattle.session.specs.Teams.{bindings_of}
+use Rattle.session.proofs.Imports.{arith, ◌≡◌, ◌∙◌, ◌+◌, List, length, ap, Run, Owner, update_log, Table, owners_of, after_stores, memory_text, reads_first, left_with, bindings_of}
 use Rattle.session.proofs.Acting.{acted_goes, sink_is, has_turned, turned_count, stored_back}
 use Rattle.session.proofs.Views.{then_broke, then_wrote}
 use Rattle.session.proofs.by_actors.act.Goals as goal

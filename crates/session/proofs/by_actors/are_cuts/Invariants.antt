@@ -1,5 +1,4 @@
-use Rattle.std.proofs.Common.{◌≡◌, drop}
-use Rattle.actor_steps.specs.Cuts.{are_cuts}
+use Rattle.session.proofs.Imports.{◌≡◌, drop, are_cuts}
 use Rattle.session.proofs.by_actors.are_cuts.Given as goal
 
 abbrev pub invariant-loop-cut : goal.invariant-loop-cut

@@ -1,6 +1,4 @@
-use Rattle.std.proofs.Common.{◌≡◌, ◌∙◌, ◌+◌, ◌-◌, ◌/◌, ◌%◌, ℕ, suc, [], ◌∷◌, sym, ap, arith}
-use Rattle.actor_steps.specs.Schedules.{next, entries}
-use Rattle.actors.specs.Runs.{Run, after_turns}
+use Rattle.session.proofs.Imports.{◌≡◌, ◌∙◌, ◌+◌, ◌-◌, ◌/◌, ◌%◌, ℕ, suc, [], ◌∷◌, sym, ap, arith, next, entries, Run, after_turns}
 use Rattle.session.proofs.Acting.{turn_more}
 use Rattle.session.proofs.by_actors.take_turns.Goals as goal
 

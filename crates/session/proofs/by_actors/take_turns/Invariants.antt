@@ -1,6 +1,4 @@
-use Rattle.std.proofs.Common.{◌≡◌, ◌-◌, ◌<◌, ◌^◌}
-use Rattle.actor_steps.specs.Schedules.{entries, schedule_of}
-use Rattle.actors.specs.Runs.{after_turns}
+use Rattle.session.proofs.Imports.{◌≡◌, ◌-◌, ◌<◌, ◌^◌, entries, schedule_of, after_turns}
 use Rattle.session.proofs.by_actors.take_turns.Given as goal
 
 abbrev pub invariant-loop-turn : goal.invariant-loop-turn

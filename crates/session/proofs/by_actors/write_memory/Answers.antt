@@ -1,8 +1,4 @@
-use Rattle.std.proofs.Common.{rules, arith, ◌≡◌, ◌<◌, ℕ, IsErr, List, [], length, get_or, ap, ◌∙◌, subst}
-use Rattle.layout_io.specs.Writing.{Wrote}
-use Rattle.layout_io.specs.WritingLaws.{Stopped-flat_map, Stopped-second, Writes-err, Wrote-append, flat_map_push}
-use Rattle.instrument.specs.BlobTexts.{bytes_text}
-use Rattle.instrument.specs.BlobTextsLaws.{bytes_of_bits}
+use Rattle.session.proofs.Imports.{rules, arith, ◌≡◌, ◌<◌, ℕ, IsErr, List, [], length, get_or, ap, ◌∙◌, subst, Wrote, Stopped-flat_map, Stopped-second, Writes-err, Wrote-append, flat_map_push, bytes_text, bytes_of_bits}
 use Rattle.session.proofs.by_actors.write_memory.Goals as goal
 
 pub returns-in_err-write_bytes : goal.returns-in_err-write_bytes

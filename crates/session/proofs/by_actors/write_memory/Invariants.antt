@@ -1,6 +1,4 @@
-use Rattle.std.proofs.Common.{take}
-use Rattle.layout_io.specs.Writing.{Wrote}
-use Rattle.worlds.specs.Actors.{memory_text}
+use Rattle.session.proofs.Imports.{take, Wrote, memory_text}
 use Rattle.session.proofs.by_actors.write_memory.Given as goal
 
 abbrev pub invariant-loop-blob : goal.invariant-loop-blob

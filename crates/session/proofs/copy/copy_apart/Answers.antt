@@ -1,4 +1,4 @@
-use Rattle.std.proofs.Common.{rules, ◌≡◌, Err}
+use Rattle.session.proofs.Imports.{rules, ◌≡◌, Err}
 use Rattle.session.proofs.Copies.{AreApart, apart_not, apart_to, are_apart}
 use Rattle.session.proofs.CopySteps.{apart_within}
 use Rattle.session.proofs.copy.copy_apart.Goals as goal

@@ -1,4 +1,4 @@
-use Rattle.std.proofs.Common.{rules, ◌≡◌}
+use Rattle.session.proofs.Imports.{rules, ◌≡◌}
 use Rattle.command_checks.specs.declared.fault.StepFault.TheVariants as step
 use Rattle.session.proofs.Copies.{copied_goes, copy_refused}
 use Rattle.session.proofs.CopySteps.{copy_steps}

@@ -1,6 +1,4 @@
-use Rattle.std.proofs.Common.{◌≡◌, ◌⊎◌, ◌<◌, ◌∙◌, length, Some, None, inl, inr, ⊎_elim, sym, ap}
-use Rattle.layout_io.specs.Faults.{Rose}
-use Rattle.layout_io.specs.Files.{file_of, IsMissing}
+use Rattle.session.proofs.Imports.{◌≡◌, ◌⊎◌, ◌<◌, ◌∙◌, length, Some, None, inl, inr, ⊎_elim, sym, ap, Rose, file_of, IsMissing}
 use Rattle.session.proofs.Reading.{file_there, file_missing, was_read, was_unread, was_long}
 use Rattle.session.proofs.files.file_bytes.Goals as goal
 

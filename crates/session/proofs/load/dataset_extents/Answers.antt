@@ -1,4 +1,4 @@
-use Rattle.std.proofs.Common.{rules, ◌≡◌, Err}
+use Rattle.session.proofs.Imports.{rules, ◌≡◌, Err}
 use Rattle.session.proofs.load.dataset_extents.Goals as goal
 
 pub returns-in_err-extents-clause-extents : goal.returns-in_err-extents-clause-extents

@@ -1,13 +1,5 @@
-use Rattle.std.proofs.Common.{rules, ◌≡◌, ◌∙◌, ◌^◌, ℕ, false, List, Some}
-use Rattle.line_grammar.specs.Sentences.{New}
-use Rattle.views.specs.Tables.{Table}
-use Rattle.worlds.specs.Load.{loaded_table, loaded, read}
-use Rattle.worlds.specs.Outcomes.{Goes, ◌>>=◌}
-use Rattle.worlds.specs.View.{Named, named}
-use Rattle.worlds.specs.Worlds.{World}
-use Rattle.command_checks.specs.GivesLaws.{GivesUp-then, goes_then}
-use Rattle.session.specs.Loads.{named_of, new_of, filled_table}
-use Rattle.session.specs.Stands.{world_in}
+use Rattle.session.proofs.Imports.{rules, ◌≡◌, ◌∙◌, ◌^◌, ℕ, false, List, Some, New, Table, loaded_table, read, Goes, ◌>>=◌, Named, named, World, GivesUp-then, goes_then, named_of, new_of, filled_table, world_in}
+use Rattle.worlds.specs.Load.{loaded}
 use Rattle.session.proofs.Reading.{IsOf, within_first, before_reading, told_of, loads_of, unloads_of, unread_of, unread_test, unread_gives}
 use Rattle.session.proofs.load.loaded_view.Goals as goal
 

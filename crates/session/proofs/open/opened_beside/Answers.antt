@@ -1,6 +1,4 @@
-use Rattle.std.proofs.Common.{map}
-use Rattle.views.specs.Tables.{Table}
-use Rattle.command_checks.specs.Entries.{view_of}
+use Rattle.session.proofs.Imports.{map, Table, view_of}
 use Rattle.session.proofs.Opening.{placed_gives, placed_refused}
 use Rattle.session.proofs.open.opened_beside.Goals as goal
 

@@ -1,9 +1,4 @@
-use Rattle.std.proofs.Common.{◌≡◌, subst}
-use Rattle.std.specs.Prelude.{IfOk}
-use Rattle.std.proofs.lemmas.List.{get_or_default}
-use Rattle.map_expr.specs.Terms.{term_of}
-use Rattle.command_checks.specs.declared.entries.ViewEntry.{ViewEntry}
-use Rattle.session.specs.Changes.{zeros_like}
+use Rattle.session.proofs.Imports.{◌≡◌, subst, IfOk, get_or_default, term_of, ViewEntry, zeros_like}
 use Rattle.session.proofs.relayout.zeros_beside.Goals as goal
 
 pub returns-clause-zeros : goal.returns-clause-zeros

@@ -1,4 +1,4 @@
-use Rattle.std.proofs.Common.{◌≡◌, ◌++◌, take}
+use Rattle.session.proofs.Imports.{◌≡◌, ◌++◌, take}
 use Rattle.session.proofs.show.add_runs.Given as goal
 
 abbrev pub invariant-loop-run : goal.invariant-loop-run

@@ -1,11 +1,5 @@
-use Rattle.std.proofs.Common.{◌≡◌, ◌∙◌, ◌++◌, List, All, length, sym, ap, subst}
-use Rattle.std.proofs.lemmas.List.{length-map}
-use Rattle.places.specs.Layout.{Owner}
+use Rattle.session.proofs.Imports.{◌≡◌, ◌∙◌, ◌++◌, List, All, length, sym, ap, subst, length-map, Owner, runs_of, leaves, owners_of, leaf_types_of, logs_more}
 use Rattle.places.specs.declared.piece.Run.{Run}
-use Rattle.map_any.specs.Runs.{runs_of}
-use Rattle.record_dim.specs.Leaves.{leaves}
-use Rattle.views.specs.Tables.{owners_of, leaf_types_of}
-use Rattle.views.specs.TallyLaws.{logs_more}
 use Rattle.session.proofs.Runs.{IsRunBelow, runs_below}
 use Rattle.session.proofs.show.all_runs.Goals as goal
 

@@ -1,7 +1,5 @@
-use Rattle.std.proofs.Common.{◌≡◌}
-use Rattle.std.specs.List.{flat_map, range_with_len}
-use Rattle.map_any.specs.Runs.{runs_of}
-use Rattle.views.specs.Tables.{owners_of}
+use Rattle.session.proofs.Imports.{◌≡◌, range_with_len, runs_of, owners_of}
+use Rattle.std.specs.List.{flat_map}
 use Rattle.session.proofs.show.all_runs.Given as goal
 
 abbrev pub invariant-loop-blob : goal.invariant-loop-blob

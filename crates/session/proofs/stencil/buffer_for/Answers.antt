@@ -1,6 +1,4 @@
-use Rattle.std.proofs.Common.{◌≡◌, ◌∙◌, sym, ap, subst}
-use Rattle.map_checks.specs.Mappings.{IsBuiltTerm}
-use Rattle.map_expr.specs.Terms.{term_of, uncounted}
+use Rattle.session.proofs.Imports.{◌≡◌, ◌∙◌, sym, ap, subst, IsBuiltTerm, term_of, uncounted}
 use Rattle.session.proofs.Stencils.{built_uncounted}
 use Rattle.session.proofs.stencil.buffer_for.Goals as goal
 

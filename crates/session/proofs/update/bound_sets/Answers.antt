@@ -1,11 +1,4 @@
-use Rattle.std.proofs.Common.{rules, ◌≡◌, ◌++◌, ◌∷◌, [], List, Err, map, get_or, drop, take, suc, subst, sym, ap, ◌∙◌, length}
-use Rattle.std.proofs.lemmas.List.Elements.{All-push}
-use Rattle.line_grammar.specs.Sentences.{Assignment, assignment_of}
-use Rattle.row_updates.specs.Rows.{Setting, setting_of, IsSetOf}
-use Rattle.std.proofs.lemmas.List.{map-append}
-use Rattle.worlds.specs.Names.{bound_sets}
-use Rattle.worlds.specs.Outcomes.{Goes}
-use Rattle.command_checks.specs.Gives.{GivesUp}
+use Rattle.session.proofs.Imports.{rules, ◌≡◌, ◌++◌, ◌∷◌, [], List, Err, map, get_or, drop, take, suc, subst, sym, ap, ◌∙◌, length, All-push, Assignment, assignment_of, Setting, setting_of, IsSetOf, map-append, bound_sets, Goes, GivesUp}
 use Rattle.session.proofs.Sets.{map_at, map_more, sets_push, sets_stop}
 use Rattle.session.proofs.update.bound_sets.Goals as goal
 

@@ -1,9 +1,5 @@
-use Rattle.std.proofs.Common.{◌≡◌, length, map, take}
+use Rattle.session.proofs.Imports.{◌≡◌, length, map, take, assignment_of, IsSetOf, setting_of, bound_sets, Goes}
 use Rattle.std.specs.Prelude.{All}
-use Rattle.line_grammar.specs.Sentences.{assignment_of}
-use Rattle.row_updates.specs.Rows.{IsSetOf, setting_of}
-use Rattle.worlds.specs.Names.{bound_sets}
-use Rattle.worlds.specs.Outcomes.{Goes}
 use Rattle.session.proofs.update.bound_sets.Given as goal
 
 abbrev pub invariant-loop-set : goal.invariant-loop-set

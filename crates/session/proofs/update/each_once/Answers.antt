@@ -1,9 +1,4 @@
-use Rattle.std.proofs.Common.{arith, ◌<◌, ◌∙◌, ◌≤◌, ℕ, length, map, refl, ap}
-use Rattle.row_updates.specs.Rows.{setting_of}
-use Rattle.views.specs.Tables.{leaf_count_of}
-use Rattle.worlds.specs.Names.{leaves_of, text_of_leaf}
-use Rattle.worlds.specs.Outcomes.{Faults}
-use Rattle.worlds.specs.declared.fault.CommandFault.TheVariants.{Twice}
+use Rattle.session.proofs.Imports.{arith, ◌<◌, ◌∙◌, ◌≤◌, ℕ, length, map, refl, ap, setting_of, leaf_count_of, leaves_of, text_of_leaf, Faults, Twice}
 use Rattle.session.proofs.Sets.{once_none, once_more, once_stop, once_all, once_few, leaf_at, leaves_below, leaves_long, test_at}
 use Rattle.session.proofs.update.each_once.Goals as goal
 

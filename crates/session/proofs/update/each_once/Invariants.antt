@@ -1,6 +1,4 @@
-use Rattle.std.proofs.Common.{map}
-use Rattle.row_updates.specs.Rows.{setting_of}
-use Rattle.worlds.specs.Names.{leaves_of}
+use Rattle.session.proofs.Imports.{map, setting_of, leaves_of}
 use Rattle.session.proofs.Sets.{IsOnce}
 use Rattle.session.proofs.update.each_once.Given as goal
 

@@ -1,9 +1,5 @@
-use Rattle.std.proofs.Common.{rules, ◌≡◌, ◌∙◌, Err, ap, map, option_map}
-use Rattle.expr_lang.specs.Bounds.{bound_term}
+use Rattle.session.proofs.Imports.{rules, ◌≡◌, ◌∙◌, Err, ap, map, option_map, bound_term, assignment_of, setting_of, done_to}
 use Rattle.expr_lang.specs.Terms.{term_of}
-use Rattle.line_grammar.specs.Sentences.{assignment_of}
-use Rattle.row_updates.specs.Rows.{setting_of}
-use Rattle.worlds.specs.OnView.{done_to}
 use Rattle.session.proofs.Sets.{filter_is, updated_is}
 use Rattle.session.proofs.update.updated.Goals as goal
 

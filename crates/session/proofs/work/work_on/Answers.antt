@@ -1,11 +1,4 @@
-use Rattle.std.proofs.Common.{rules, map, refl}
-use Rattle.command_checks.specs.Entries.{view_of}
-use Rattle.command_checks.specs.Places.{IsAt}
-use Rattle.command_checks.specs.declared.entries.ViewEntry.{ViewEntry}
-use Rattle.command_checks.specs.GivesLaws.{GivesUp-then}
-use Rattle.worlds.specs.OnView.{on_view}
-use Rattle.worlds.specs.Outcomes.{known}
-use Rattle.session.specs.Stands.{AreLeft, world_in}
+use Rattle.session.proofs.Imports.{rules, map, refl, view_of, IsAt, ViewEntry, GivesUp-then, on_view, known, AreLeft, world_in}
 use Rattle.session.proofs.Exits.{gave_up}
 use Rattle.session.proofs.Views.{view_worked}
 use Rattle.session.proofs.work.work_on.Goals as goal

@@ -1,10 +1,4 @@
-use Rattle.std.proofs.Common.{true}
-use Rattle.layout_io.specs.Faults.{Rose}
-use Rattle.line_grammar.specs.Sentences.{sentence_of, file_of}
-use Rattle.session.specs.LoadsLaws.{told_any}
-use Rattle.session.specs.Stands.{world_of}
-use Rattle.session.specs.declared.session.Session.{Session}
-use Rattle.worlds.specs.Step.{step}
+use Rattle.session_runs.proofs.Imports.{true, Rose, sentence_of, file_of, told_any, world_of, Session, step}
 use Rattle.session_runs.proofs.Texts.{ends_as, cause_as, reads_some}
 use Rattle.session_runs.proofs.lines.do_command.Goals as goal
 

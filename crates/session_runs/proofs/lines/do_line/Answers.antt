@@ -1,7 +1,4 @@
-use Rattle.std.proofs.Common.{◌≤◌, length, arith}
-use Rattle.worlds.specs.Steps.{ending_of}
-use Rattle.session.specs.Stands.{Stands}
-use Rattle.worlds.specs.AnswersLaws.{steps_same}
+use Rattle.session_runs.proofs.Imports.{◌≤◌, length, arith, ending_of, Stands, steps_same}
 use Rattle.session_runs.proofs.Texts.{text_steps}
 use Rattle.session_runs.proofs.lines.do_line.Goals as goal
 

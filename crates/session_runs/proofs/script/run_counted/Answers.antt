@@ -1,7 +1,4 @@
-use Rattle.std.proofs.Common.{◌≡◌, ◌<◌, ◌≤◌, ℕ, List, length, ap, ◌∙◌, arith}
-use Rattle.layout_io.specs.Faults.{Rose}
-use Rattle.worlds.specs.Lines.{lines_in}
-use Rattle.session_runs.specs.Scripts.{script_lines}
+use Rattle.session_runs.proofs.Imports.{◌≡◌, ◌<◌, ◌≤◌, ℕ, List, length, ap, ◌∙◌, arith, Rose, lines_in, script_lines}
 use Rattle.session_runs.proofs.Runs.{run_long, run_short}
 use Rattle.session_runs.proofs.script.run_counted.Goals as goal
 

@@ -1,7 +1,4 @@
-use Rattle.std.proofs.Common.{◌≡◌, None, Some, option_map, ap, sym, ◌∙◌}
-use Rattle.layout_io.specs.Faults.{Rose}
-use Rattle.worlds.specs.Lines.{lines_in}
-use Rattle.session_runs.specs.Scripts.{version_line}
+use Rattle.session_runs.proofs.Imports.{◌≡◌, None, Some, option_map, ap, sym, ◌∙◌, Rose, lines_in, version_line}
 use Rattle.session_runs.proofs.Runs.{run_plain, run_behind_head, run_unknown}
 use Rattle.session_runs.proofs.script.run_headed.Goals as goal
 

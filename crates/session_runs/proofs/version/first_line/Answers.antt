@@ -1,5 +1,4 @@
-use Rattle.std.proofs.Common.{sym, ◌∙◌, arith}
-use Rattle.session_runs.specs.HeadLaws.{long_first, blank_first, said_first}
+use Rattle.session_runs.proofs.Imports.{sym, ◌∙◌, arith, long_first, blank_first, said_first}
 use Rattle.session_runs.proofs.version.first_line.Goals as goal
 
 pub returns-then-line-gt-MAX_LINE_BYTES : goal.returns-then-line-gt-MAX_LINE_BYTES

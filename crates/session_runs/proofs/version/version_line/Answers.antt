@@ -1,5 +1,4 @@
-use Rattle.std.proofs.Common.{◌≡◌, [], ℕ, List, length, refl, sym, ap, arith}
-use Rattle.worlds.specs.Lines.{lines_in}
+use Rattle.session_runs.proofs.Imports.{◌≡◌, [], ℕ, List, length, refl, sym, ap, arith, lines_in}
 use Rattle.session_runs.proofs.Heads.{none_passed, one_passed, rest_behind, headless, headed}
 use Rattle.session_runs.proofs.version.version_line.Goals as goal
 

@@ -1,5 +1,4 @@
-use Rattle.std.proofs.Common.{◌+◌, ◌≤◌, length}
-use Rattle.worlds.specs.Lines.{lines_in}
+use Rattle.session_runs.proofs.Imports.{◌+◌, ◌≤◌, length, lines_in}
 use Rattle.session_runs.proofs.Heads.{IsPassed}
 use Rattle.session_runs.proofs.version.version_line.Given as goal
 

@@ -1,5 +1,4 @@
-use Rattle.std.proofs.Common.{rules, ◌+◌, ℤ, FitsSigned, w64, slice_set, sym, subst, arith}
-use Rattle.std.proofs.lemmas.Int.{to_z-of_z}
+use Rattle.subviews.proofs.Imports.{rules, ◌+◌, ℤ, FitsSigned, w64, slice_set, sym, subst, arith, to_z-of_z}
 use Rattle.subviews.proofs.Ways.{AreFar, far_more}
 use Rattle.subviews.proofs.far.all_far.Goals as goal
 

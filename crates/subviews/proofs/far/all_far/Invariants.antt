@@ -1,4 +1,4 @@
-use Rattle.std.proofs.Common.{◌≡◌, length}
+use Rattle.subviews.proofs.Imports.{◌≡◌, length}
 use Rattle.subviews.proofs.Ways.{AreFar}
 use Rattle.subviews.proofs.far.all_far.Given as goal
 

@@ -1,8 +1,4 @@
-use Rattle.std.proofs.Common.{◌<◌, ◌≤◌, ◌∙◌, ℕ, ℤ, pos, List, FitsSigned, w64, length, get_or, ap, arith}
-use Rattle.std.proofs.lemmas.Int.{ints}
-use Rattle.extents.specs.Indices.{indices}
-use Rattle.linearize.specs.SlotsLaws.{index_at_inside}
-use Rattle.subviews.specs.Stencils.{row_from}
+use Rattle.subviews.proofs.Imports.{◌<◌, ◌≤◌, ◌∙◌, ℕ, ℤ, pos, List, FitsSigned, w64, length, get_or, ap, arith, ints, indices, index_at_inside, row_from}
 use Rattle.subviews.proofs.Ways.{row_held, row_inside, reach_inside, step_at, step_more, whole_target, landed, far_from_one}
 use Rattle.subviews.proofs.far.far_of.Goals as goal
 

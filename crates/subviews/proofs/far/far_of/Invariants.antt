@@ -1,6 +1,4 @@
-use Rattle.std.proofs.Common.{◌≡◌, take}
-use Rattle.linearize.specs.Slots.{index_at}
-use Rattle.subviews.specs.Stencils.{row_from}
+use Rattle.subviews.proofs.Imports.{◌≡◌, take, index_at, row_from}
 use Rattle.subviews.proofs.far.far_of.Given as goal
 
 -- the components so far are those of the index that is so far away from the first row's

@@ -1,14 +1,4 @@
-use Rattle.std.proofs.Common.{arith, ◌≡◌, ◌<◌, ◌≤◌, ◌∙◌, ℕ, ℤ, Some, get_or, subst, sym, ⊎_elim, ap}
-use Rattle.std.specs.Prelude.{unsigned_abs, slice_get}
-use Rattle.std.proofs.lemmas.Bool.{cases_eq}
-use Rattle.std.proofs.lemmas.Option.{slice_get-get_or, get_or_from_slice_get}
-use Rattle.record_dim.specs.declared.leaf_type.LeafType.{LeafType}
-use Rattle.record_dim.specs.declared.leaf_type.LeafType.TheVariants.{Bool as Truth}
-use Rattle.record_dim.specs.Leaves.{kinds_of}
-use Rattle.record_dim.specs.LeafTypes.{IsDeclared}
-use Rattle.record_dim.specs.Trees.{Fields}
-use Rattle.views.specs.Tables.{leaf_type_of, leaf_types_of}
-use Rattle.subviews.specs.declared.term.Term.{Term}
+use Rattle.subviews.proofs.Imports.{arith, ◌≡◌, ◌<◌, ◌≤◌, ◌∙◌, ℕ, ℤ, Some, get_or, subst, sym, ⊎_elim, ap, unsigned_abs, slice_get, cases_eq, slice_get-get_or, get_or_from_slice_get, LeafType, Truth, kinds_of, IsDeclared, Fields, leaf_type_of, leaf_types_of, Term}
 use Rattle.subviews.proofs.limits.are_near.Goals as goal
 
 pub loop-term-preserved : goal.loop-term-preserved

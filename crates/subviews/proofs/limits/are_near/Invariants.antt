@@ -1,8 +1,4 @@
-use Rattle.std.proofs.Common.{ℕ, ◌<◌, ◌≤◌, ℤ, get_or}
-use Rattle.std.specs.Prelude.{unsigned_abs}
-use Rattle.record_dim.specs.LeafTypes.{IsDeclared}
-use Rattle.views.specs.Tables.{leaf_type_of}
-use Rattle.subviews.specs.declared.term.Term.{Term}
+use Rattle.subviews.proofs.Imports.{ℕ, ◌<◌, ◌≤◌, ℤ, get_or, unsigned_abs, IsDeclared, leaf_type_of, Term}
 use Rattle.subviews.proofs.limits.are_near.Given as goal
 
 abbrev pub invariant-loop-term : goal.invariant-loop-term

@@ -1,5 +1,4 @@
-use Rattle.std.proofs.Common.{◌≡◌, ◌*◌, ◌≤◌, ◌^◌, take}
-use Rattle.subviews.specs.Plans.{all_weights}
+use Rattle.subviews.proofs.Imports.{◌≡◌, ◌*◌, ◌≤◌, ◌^◌, take, all_weights}
 use Rattle.subviews.proofs.limits.total_weight.Given as goal
 
 abbrev pub invariant-loop-term : goal.invariant-loop-term

@@ -1,6 +1,4 @@
-use Rattle.std.proofs.Common.{rules, IsErr}
-use Rattle.layout_io.specs.GatheringLaws.{Writes-puts_err, Puts-stop}
-use Rattle.csv_rows.specs.Texts.{print_text}
+use Rattle.subviews.proofs.Imports.{rules, IsErr, Writes-puts_err, Puts-stop, print_text}
 use Rattle.subviews.proofs.print.print_window.Goals as goal
 
 pub returns-in_err-put_names-clause-writes : goal.returns-in_err-put_names-clause-writes

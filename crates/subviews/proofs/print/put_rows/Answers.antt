@@ -1,12 +1,4 @@
-use Rattle.std.proofs.Common.{rules, arith, ◌≡◌, ◌<◌, ◌∙◌, ℤ, List, [], IsErr, length, map, flat_map, take, ap, sym, refl}
-use Rattle.std.proofs.lemmas.List.Elements.{Contains-get_or}
-use Rattle.layout_io.specs.Decimal.{decimal_text}
-use Rattle.layout_io.specs.GatheringLaws.{Puts-loop_err}
-use Rattle.csv_rows.specs.Texts.{comma_line}
-use Rattle.views.specs.Tallies.{Read, row_accesses}
-use Rattle.views.specs.TallyLaws.{after_log-none, after_log-append}
-use Rattle.views.specs.Tables.{leaf_count_of, after_log}
-use Rattle.subviews.specs.SubViews.{rows_of, outer_row, sub_table}
+use Rattle.subviews.proofs.Imports.{rules, arith, ◌≡◌, ◌<◌, ◌∙◌, ℤ, List, [], IsErr, length, map, flat_map, take, ap, sym, refl, Contains-get_or, decimal_text, Puts-loop_err, comma_line, Read, row_accesses, after_log-none, after_log-append, leaf_count_of, after_log, rows_of, outer_row, sub_table}
 use Rattle.subviews.proofs.Fronts.{logs_front}
 use Rattle.subviews.proofs.Printed.{sub_row, sub_count, row_put, row_below}
 use Rattle.subviews.proofs.print.put_rows.Goals as goal

@@ -1,10 +1,4 @@
-use Rattle.std.proofs.Common.{◌≡◌, take, flat_map, map}
-use Rattle.layout_io.specs.Decimal.{decimal_text}
-use Rattle.layout_io.specs.Gathering.{HasPut}
-use Rattle.csv_rows.specs.Texts.{comma_line}
-use Rattle.views.specs.Tallies.{Read, row_accesses}
-use Rattle.views.specs.Tables.{leaf_count_of, after_log}
-use Rattle.subviews.specs.SubViews.{rows_of, sub_table}
+use Rattle.subviews.proofs.Imports.{◌≡◌, take, flat_map, map, decimal_text, HasPut, comma_line, Read, row_accesses, leaf_count_of, after_log, rows_of, sub_table}
 use Rattle.subviews.proofs.print.put_rows.Given as goal
 
 abbrev pub invariant-loop-row : goal.invariant-loop-row

@@ -1,4 +1,4 @@
-use Rattle.std.proofs.Common.{rules, ◌≡◌, ◌∙◌, length, take, sym}
+use Rattle.subviews.proofs.Imports.{rules, ◌≡◌, ◌∙◌, length, take, sym}
 use Rattle.subviews.proofs.Back.{all_raised, all_fit, all_kept}
 use Rattle.subviews.proofs.rounds.copy_back.Goals as goal
 

@@ -1,8 +1,4 @@
-use Rattle.std.proofs.Common.{rules, arith, ◌≡◌, ◌+◌, ◌-◌, ◌<◌, ◌≤◌, ℕ, length, FitsSigned, ap, sym, subst}
-use Rattle.std.specs.Int.{w128}
-use Rattle.std.proofs.lemmas.Int.{to_z-of_z}
-use Rattle.views.specs.Tables.{Table, answer_of, kept_of}
-use Rattle.subviews.specs.Plans.{IsFilled}
+use Rattle.subviews.proofs.Imports.{rules, arith, ◌≡◌, ◌+◌, ◌-◌, ◌<◌, ◌≤◌, ℕ, length, FitsSigned, ap, sym, subst, w128, to_z-of_z, Table, answer_of, kept_of, IsFilled}
 use Rattle.subviews.proofs.Growth.{run_at, run_inside}
 use Rattle.subviews.proofs.Passes.{none_filled, refused_here, taken_here, fill_stopped, filled_more, filled_all, buffer_row, buffer_leaf}
 use Rattle.subviews.proofs.Ways.{row_held, row_inside}

@@ -1,5 +1,4 @@
-use Rattle.std.proofs.Common.{◌+◌, ◌-◌, ◌≤◌}
-use Rattle.subviews.specs.Plans.{IsFilled, IsWalk}
+use Rattle.subviews.proofs.Imports.{◌+◌, ◌-◌, ◌≤◌, IsFilled, IsWalk}
 use Rattle.subviews.proofs.rounds.fill.Given as goal
 
 abbrev pub invariant-loop-row : goal.invariant-loop-row

@@ -1,10 +1,4 @@
-use Rattle.std.proofs.Common.{◌≡◌, ◌+◌, ◌≤◌, ◌∙◌, ℕ, List, length, refl, ap, subst, sym, arith}
-use Rattle.extents.specs.Indices.{indices}
-use Rattle.views.specs.Runs.{run_fault, stored_count, with_run}
-use Rattle.views.specs.Tables.{Table, IsTable, answer_of}
-use Rattle.subviews.specs.Plans.{IsBufferOf, IsPlanOf, IsRunOf, IsFilled}
-use Rattle.subviews.specs.declared.plan.Plan.{Plan}
-use Rattle.subviews.specs.declared.runs.Run.{Run}
+use Rattle.subviews.proofs.Imports.{◌≡◌, ◌+◌, ◌≤◌, ◌∙◌, ℕ, List, length, refl, ap, subst, sym, arith, indices, run_fault, stored_count, with_run, Table, IsTable, answer_of, IsBufferOf, IsPlanOf, IsRunOf, IsFilled, Plan, Run}
 use Rattle.subviews.proofs.AtOnce.{are_taken, count_told, count_refused}
 use Rattle.subviews.proofs.Growth.{run_inside}
 use Rattle.subviews.proofs.Passes.{run_filled, buffer_leaf}

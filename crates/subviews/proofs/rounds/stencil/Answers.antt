@@ -1,9 +1,4 @@
-use Rattle.std.proofs.Common.{rules, arith, ◌≡◌, ◌-◌, ◌∙◌, ℤ, Err, FitsSigned, ap, subst, to_z, of_z, w64}
-use Rattle.std.proofs.lemmas.Int.{to_z-of_z}
-use Rattle.subviews.specs.Stencils.{stenciled}
-use Rattle.views.specs.Tables.{Table}
-use Rattle.subviews.specs.Plans.{stencil_by, planned}
-use Rattle.subviews.specs.declared.plan.Plan.{Plan}
+use Rattle.subviews.proofs.Imports.{rules, arith, ◌≡◌, ◌-◌, ◌∙◌, ℤ, Err, FitsSigned, ap, subst, to_z, of_z, w64, to_z-of_z, stenciled, Table, stencil_by, planned, Plan}
 use Rattle.subviews.proofs.Passes.{plan_still, no_round, same_after, buffer_same, round_done, round_stopped, after_more, IsRefused, is_refused, stopped}
 use Rattle.subviews.proofs.rounds.stencil.Goals as goal
 

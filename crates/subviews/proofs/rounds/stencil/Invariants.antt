@@ -1,4 +1,4 @@
-use Rattle.subviews.specs.Plans.{IsPlanOf, planned}
+use Rattle.subviews.proofs.Imports.{IsPlanOf, planned}
 use Rattle.subviews.proofs.Passes.{IsAfter}
 use Rattle.subviews.proofs.rounds.stencil.Given as goal
 

@@ -1,9 +1,4 @@
-use Rattle.std.proofs.Common.{◌≡◌, ◌+◌, ◌≤◌, ◌∙◌, ℕ, List, length, ap, subst, sym, arith}
-use Rattle.extents.specs.Indices.{indices}
-use Rattle.views.specs.Tables.{Table, IsTable}
-use Rattle.subviews.specs.SubViews.{rows_of}
-use Rattle.subviews.specs.Plans.{IsBufferOf, IsPlanOf, IsRun}
-use Rattle.subviews.specs.declared.plan.Plan.{Plan}
+use Rattle.subviews.proofs.Imports.{◌≡◌, ◌+◌, ◌≤◌, ◌∙◌, ℕ, List, length, ap, subst, sym, arith, indices, Table, IsTable, rows_of, IsBufferOf, IsPlanOf, IsRun, Plan}
 use Rattle.subviews.proofs.Growth.{run_inside}
 use Rattle.subviews.proofs.Passes.{IsStored, none_stored, run_stored}
 use Rattle.subviews.proofs.rounds.store_back.Goals as goal

@@ -1,5 +1,4 @@
-use Rattle.std.proofs.Common.{◌-◌}
-use Rattle.subviews.specs.Plans.{IsWalk}
+use Rattle.subviews.proofs.Imports.{◌-◌, IsWalk}
 use Rattle.subviews.proofs.Passes.{IsStored}
 use Rattle.subviews.proofs.rounds.store_back.Given as goal
 

@@ -1,9 +1,4 @@
-use Rattle.std.proofs.Common.{rules, arith, ◌≡◌, ◌∙◌, ℕ, ℤ, pos, List, FitsSigned, length, get_or, ap, sym, subst, refl, to_z, of_z, ◌+◌, ◌+ℤ◌, ◌*ℤ◌, w64}
-use Rattle.std.specs.Int.{w128}
-use Rattle.std.proofs.lemmas.Int.{ints, to_z-of_z}
-use Rattle.extents.specs.Indices.{indices}
-use Rattle.views.specs.TallyLaws.{after_log-none}
-use Rattle.views.specs.Tables.{Table, leaf_type_of}
+use Rattle.subviews.proofs.Imports.{rules, arith, ◌≡◌, ◌∙◌, ℕ, ℤ, pos, List, FitsSigned, length, get_or, ap, sym, subst, refl, to_z, of_z, ◌+◌, ◌+ℤ◌, ◌*ℤ◌, w64, w128, ints, to_z-of_z, indices, after_log-none, Table, leaf_type_of}
 use Rattle.subviews.proofs.Values.{IsSummed, weight_small, entry_small, product_fits, sum_fits, summed_more, plan_term, reached}
 use Rattle.subviews.proofs.Ways.{row_inside}
 use Rattle.subviews.proofs.rounds.value_at.Goals as goal

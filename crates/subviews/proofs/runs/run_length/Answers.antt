@@ -1,6 +1,5 @@
-use Rattle.std.proofs.Common.{arith, ◌≡◌, ◌+◌, ◌-◌, ◌≤◌, Some, slice_get, subst}
-use Rattle.std.proofs.lemmas.Nat.{mod_below}
-use Rattle.subviews.specs.SubViews.{rows_of}
+use Rattle.subviews.proofs.Imports.{arith, ◌≡◌, ◌+◌, ◌-◌, ◌≤◌, Some, subst, mod_below, rows_of}
+use Rattle.std.proofs.Common.{slice_get}
 use Rattle.subviews.proofs.Growth.{rows_grow, run_between}
 use Rattle.subviews.proofs.runs.run_length.Goals as goal
 

@@ -1,8 +1,5 @@
-use Rattle.std.proofs.Common.{rules, arith, ◌≡◌, ◌+ℤ◌, ◌*ℤ◌, ◌<◌, ◌∙◌, ℕ, ℤ, pos, FitsSigned, to_z, of_z, w64, length, get_or, ⊎_elim, ap, sym}
+use Rattle.subviews.proofs.Imports.{rules, arith, ◌≡◌, ◌+ℤ◌, ◌*ℤ◌, ◌<◌, ◌∙◌, ℕ, ℤ, pos, FitsSigned, to_z, of_z, w64, length, get_or, ⊎_elim, ap, sym, cases_eq, to_z-of_z, length-set, get_or-set_same, get_or-set_other}
 use Rattle.std.specs.Prelude.{slice_set}
-use Rattle.std.proofs.lemmas.Bool.{cases_eq}
-use Rattle.std.proofs.lemmas.Int.{to_z-of_z}
-use Rattle.std.proofs.lemmas.List.{length-set, get_or-set_same, get_or-set_other}
 use Rattle.subviews.proofs.sums.add_times.Goals as goal
 
 pub loop-k-preserved : goal.loop-k-preserved

@@ -1,4 +1,4 @@
-use Rattle.std.proofs.Common.{◌≡◌, ℕ, ◌<◌, ◌≤◌, ◌+ℤ◌, ◌*ℤ◌, length, get_or, pos}
+use Rattle.subviews.proofs.Imports.{◌≡◌, ℕ, ◌<◌, ◌≤◌, ◌+ℤ◌, ◌*ℤ◌, length, get_or, pos}
 use Rattle.subviews.proofs.sums.add_times.Given as goal
 
 abbrev pub invariant-loop-k : goal.invariant-loop-k

@@ -1,4 +1,4 @@
-use Rattle.std.proofs.Common.{◌≡◌, ℕ, ◌<◌, length, get_or, pos}
+use Rattle.subviews.proofs.Imports.{◌≡◌, ℕ, ◌<◌, length, get_or, pos}
 use Rattle.subviews.proofs.sums.clear.Given as goal
 
 abbrev pub invariant-loop-k : goal.invariant-loop-k

@@ -1,5 +1,4 @@
-use Rattle.std.proofs.Common.{◌≡◌, ℕ, ◌<◌, ◌≤◌, length, get_or, pos}
-use Rattle.std.specs.Prelude.{int_div}
+use Rattle.subviews.proofs.Imports.{◌≡◌, ℕ, ◌<◌, ◌≤◌, length, get_or, pos, int_div}
 use Rattle.subviews.proofs.sums.divide.Given as goal
 
 abbrev pub invariant-loop-k : goal.invariant-loop-k

@@ -1,8 +1,4 @@
-use Rattle.std.proofs.Common.{rules, arith, pos, FitsSigned, w64, get_or, length, ap, ◌∙◌}
-use Rattle.std.proofs.lemmas.Int.{ints, to_z-of_z}
-use Rattle.views.specs.Columns.{column_reads}
-use Rattle.views.specs.Tables.{Table, after_log}
-use Rattle.subviews.specs.SubViews.{rows_of}
+use Rattle.subviews.proofs.Imports.{rules, arith, pos, FitsSigned, w64, get_or, length, ap, ◌∙◌, ints, to_z-of_z, column_reads, Table, after_log, rows_of}
 use Rattle.subviews.proofs.Growth.{run_first, run_inside}
 use Rattle.subviews.proofs.Near.{read_inside, values_read, products_fit, sums_fit, summed_run}
 use Rattle.subviews.proofs.Values.{reached}

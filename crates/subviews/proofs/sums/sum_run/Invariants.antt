@@ -1,4 +1,4 @@
-use Rattle.std.proofs.Common.{◌≡◌, length}
+use Rattle.subviews.proofs.Imports.{◌≡◌, length}
 use Rattle.subviews.proofs.Near.{AreSummed}
 use Rattle.subviews.proofs.sums.sum_run.Given as goal
 

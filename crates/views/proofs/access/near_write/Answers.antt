@@ -1,8 +1,4 @@
-use Rattle.std.proofs.Common.{◌≡◌, ◌<◌, ◌∙◌, [], length, get_or, SFits, rules, arith}
-use Rattle.std.specs.Int.{w128}
-use Rattle.std.proofs.lemmas.Grind.{common_steps}
-use Rattle.std.proofs.lemmas.Int.{to_z-of_z}
-use Rattle.std.proofs.lemmas.List.{get_or_default}
+use Rattle.views.proofs.Imports.{◌≡◌, ◌<◌, ◌∙◌, [], length, get_or, SFits, rules, arith, w128, common_steps, to_z-of_z, get_or_default}
 use Rattle.views.proofs.AccessLaws.{is_word, blob_there, word_there, word_holds, word_put, word_lies}
 use Rattle.views.proofs.access.near_write.Goals as goal
 use Rattle.views.proofs.access.near_write.Goals.{After-index_mut}

@@ -1,7 +1,4 @@
-use Rattle.std.proofs.Common.{◌≡◌, ◌<◌, ◌∙◌, [], length, get_or, SFits, rules, arith}
-use Rattle.std.specs.Int.{w128}
-use Rattle.std.proofs.lemmas.Int.{to_z-of_z}
-use Rattle.std.proofs.lemmas.List.{get_or_read}
+use Rattle.views.proofs.Imports.{◌≡◌, ◌<◌, ◌∙◌, [], length, get_or, SFits, rules, arith, w128, to_z-of_z, get_or_read}
 use Rattle.views.proofs.AccessLaws.{with_rules, is_word, blob_there, word_there, word_read, bytes_wide, bytes_read}
 use Rattle.views.proofs.access.short_read.Goals as goal
 

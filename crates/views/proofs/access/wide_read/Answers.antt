@@ -1,7 +1,4 @@
-use Rattle.std.proofs.Common.{◌≡◌, ◌<◌, ◌∙◌, [], length, get_or, SFits, rules, arith}
-use Rattle.std.specs.Int.{w128}
-use Rattle.std.proofs.lemmas.Int.{to_z-of_z}
-use Rattle.std.proofs.lemmas.List.{get_or_read}
+use Rattle.views.proofs.Imports.{◌≡◌, ◌<◌, ◌∙◌, [], length, get_or, SFits, rules, arith, w128, to_z-of_z, get_or_read}
 use Rattle.views.proofs.AccessLaws.{blob_there, word_read}
 use Rattle.views.proofs.WideLaws.{plain_leads, blocks_lead, wide_seen, room_at, room_by_bit, said_whole, said_field, said_turned, field_alone, turned_is}
 use Rattle.views.proofs.access.wide_read.Goals as goal

@@ -1,5 +1,4 @@
-use Rattle.std.proofs.Common.{◌≡◌, take}
-use Rattle.views.specs.Tallies.{blob_lengths}
+use Rattle.views.proofs.Imports.{◌≡◌, take, blob_lengths}
 use Rattle.views.proofs.fresh.blob_lengths.Given as goal
 
 abbrev pub invariant-loop-blob : goal.invariant-loop-blob

@@ -1,9 +1,4 @@
-use Rattle.std.proofs.Common.{◌+◌, ◌*◌, [], length, sym, ap, arith}
-use Rattle.std.specs.List.{sum_by}
-use Rattle.std.proofs.lemmas.Bool.{lt-leb, le-leb}
-use Rattle.std.proofs.lemmas.List.{take_all}
-use Rattle.std.proofs.lemmas.List.Sums.{sum_by_more, sum_by-take-le}
-use Rattle.places.specs.Layout.{Owner}
+use Rattle.views.proofs.Imports.{◌+◌, ◌*◌, [], length, sym, ap, arith, sum_by, lt-leb, le-leb, take_all, sum_by_more, sum_by-take-le, Owner}
 use Rattle.views.proofs.fresh.is_within.Goals as goal
 
 pub returns-then-bytes-left : goal.returns-then-bytes-left

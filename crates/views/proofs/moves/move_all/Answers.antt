@@ -1,7 +1,4 @@
-use Rattle.std.proofs.Common.{◌≡◌, ◌∙◌, ◌+◌, ◌<◌, ℕ, List, [], length, take, get_or, set, sym, ap, subst, arith}
-use Rattle.std.proofs.lemmas.List.{get_or_default}
-use Rattle.blobs.specs.Moves.{IsMoved, blocks}
-use Rattle.views.specs.HalfLaws.{half, half_more}
+use Rattle.views.proofs.Imports.{◌≡◌, ◌∙◌, ◌+◌, ◌<◌, ℕ, List, [], length, take, get_or, set, sym, ap, subst, arith, get_or_default, IsMoved, blocks, half, half_more}
 use Rattle.views.proofs.AllLaws.{blocks_of, still_old, same_count, same_length, all_moved, blocks_more}
 use Rattle.views.proofs.moves.move_all.Goals as goal
 

@@ -1,5 +1,4 @@
-use Rattle.std.proofs.Common.{◌≡◌, ◌+◌, take}
-use Rattle.views.specs.HalfLaws.{half}
+use Rattle.views.proofs.Imports.{◌≡◌, ◌+◌, take, half}
 use Rattle.views.proofs.AllLaws.{blocks_of}
 use Rattle.views.proofs.moves.move_all.Given as goal
 

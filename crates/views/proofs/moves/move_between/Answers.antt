@@ -1,7 +1,4 @@
-use Rattle.std.proofs.Common.{◌≡◌, ◌∙◌, ℕ, List, [], get_or, subst}
-use Rattle.std.proofs.lemmas.List.{get_or_default}
-use Rattle.blobs.specs.Moves.{IsMoved}
-use Rattle.piece_bits.specs.MovedBytesLaws.{moved_bits}
+use Rattle.views.proofs.Imports.{◌≡◌, ◌∙◌, ℕ, List, [], get_or, subst, get_or_default, IsMoved, moved_bits}
 use Rattle.views.proofs.moves.move_between.Goals as goal
 
 pub returns-clause-moved : goal.returns-clause-moved

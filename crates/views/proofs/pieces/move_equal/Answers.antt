@@ -1,6 +1,4 @@
-use Rattle.std.proofs.Common.{◌≡◌, ◌+◌, ◌*◌, ◌∙◌, ℕ, suc, subst, arith}
-use Rattle.blobs.specs.Moves.{blocks}
-use Rattle.views.specs.Pieces.{IsMovedEach}
+use Rattle.views.proofs.Imports.{◌≡◌, ◌+◌, ◌*◌, ◌∙◌, ℕ, suc, subst, arith, blocks, IsMovedEach}
 use Rattle.views.proofs.pieces.move_equal.Goals as goal
 
 pub loop-k-preserved : goal.loop-k-preserved

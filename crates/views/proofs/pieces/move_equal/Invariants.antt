@@ -1,6 +1,4 @@
-use Rattle.std.proofs.Common.{◌≡◌, ◌+◌, ◌*◌, length}
-use Rattle.blobs.specs.Moves.{blocks}
-use Rattle.views.specs.Pieces.{IsMovedEach}
+use Rattle.views.proofs.Imports.{◌≡◌, ◌+◌, ◌*◌, length, blocks, IsMovedEach}
 use Rattle.views.proofs.pieces.move_equal.Given as goal
 
 -- the pieces so far

@@ -1,6 +1,4 @@
-use Rattle.std.proofs.Common.{◌≡◌, ◌∙◌, ◌+◌, ◌*◌, ◌≤◌, ℕ, List, [], length, get_or, set, sym, ap, subst}
-use Rattle.std.proofs.lemmas.List.{get_or_default, get_or-set_same}
-use Rattle.views.specs.Pieces.{IsMovedEach}
+use Rattle.views.proofs.Imports.{◌≡◌, ◌∙◌, ◌+◌, ◌*◌, ◌≤◌, ℕ, List, [], length, get_or, set, sym, ap, subst, get_or_default, get_or-set_same, IsMovedEach}
 use Rattle.views.proofs.pieces.move_pieces.Goals as goal
 
 pub move_each-requires-clause-room : goal.move_each-requires-clause-room

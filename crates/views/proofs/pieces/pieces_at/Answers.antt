@@ -1,5 +1,4 @@
-use Rattle.std.proofs.Common.{◌≡◌, ◌/◌, ℕ, subst, sym, arith}
-use Rattle.views.specs.Pieces.{piece_count, ArePieces}
+use Rattle.views.proofs.Imports.{◌≡◌, ◌/◌, ℕ, subst, sym, arith, piece_count, ArePieces}
 use Rattle.views.proofs.PieceLaws.{one_piece, first_whole, second_whole}
 use Rattle.views.proofs.pieces.pieces_at.Goals as goal
 

@@ -1,10 +1,4 @@
-use Rattle.std.proofs.Common.{◌≡◌, ℕ, ℤ, ◌<◌, ◌≤◌, map, get_or, pos, SFits, w64, subst, ⊎_elim, rules, arith}
-use Rattle.std.proofs.lemmas.Bool.{cases_lt}
-use Rattle.record_dim.specs.Schemas.{schema_fields}
-use Rattle.record_dim.specs.Leaves.{kinds_of}
-use Rattle.map_checks.specs.Mappings.{leaf_cells}
-use Rattle.piece_bits.specs.Tables.{hold_at}
-use Rattle.views.specs.Stores.{Fits, kind_at}
+use Rattle.views.proofs.Imports.{◌≡◌, ℕ, ℤ, ◌<◌, ◌≤◌, map, get_or, pos, SFits, w64, subst, ⊎_elim, rules, arith, cases_lt, schema_fields, kinds_of, leaf_cells, hold_at, Fits, kind_at}
 use Rattle.views.proofs.RunLaws.{and_parts}
 use Rattle.views.proofs.StoredLaws.{passed}
 use Rattle.views.proofs.runs.are_taken.Goals as goal

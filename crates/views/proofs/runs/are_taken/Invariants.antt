@@ -1,9 +1,4 @@
-use Rattle.std.proofs.Common.{◌≡◌, ℕ, ◌<◌, true, map, get_or, pos}
-use Rattle.record_dim.specs.Schemas.{schema_fields}
-use Rattle.record_dim.specs.Leaves.{kinds_of}
-use Rattle.map_checks.specs.Mappings.{leaf_cells}
-use Rattle.piece_bits.specs.Tables.{hold_at}
-use Rattle.views.specs.Stores.{Fits, kind_at}
+use Rattle.views.proofs.Imports.{◌≡◌, ℕ, ◌<◌, true, map, get_or, pos, schema_fields, kinds_of, leaf_cells, hold_at, Fits, kind_at}
 use Rattle.views.proofs.runs.are_taken.Given as goal
 
 abbrev pub invariant-loop-value : goal.invariant-loop-value

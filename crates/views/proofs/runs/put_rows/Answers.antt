@@ -1,14 +1,5 @@
-use Rattle.std.proofs.Common.{◌≡◌, ◌+◌, ◌-◌, ◌<◌, ◌≤◌, [], length, map, take, drop, get_or, Fits, w64, refl, sym, ap, ◌∙◌, ⊎_elim, arith}
-use Rattle.std.proofs.lemmas.Bool.{cases_lt}
-use Rattle.std.proofs.lemmas.Grind.{common_steps}
-use Rattle.std.proofs.lemmas.List.{get_or_default, length-map}
-use Rattle.record_dim.specs.Leaves.{kinds_of}
-use Rattle.record_dim.specs.Schemas.{schema_fields}
-use Rattle.map_checks.specs.Mappings.{leaf_cells}
-use Rattle.views.specs.Columns.{with_column}
-use Rattle.views.specs.ColumnsLaws.{no_column}
-use Rattle.views.specs.Runs.{raised}
-use Rattle.views.specs.Stores.{kind_at}
+use Rattle.views.proofs.Imports.{◌≡◌, ◌+◌, ◌-◌, ◌<◌, ◌≤◌, [], length, map, take, drop, get_or, w64, refl, sym, ap, ◌∙◌, ⊎_elim, arith, cases_lt, common_steps, get_or_default, length-map, kinds_of, schema_fields, leaf_cells, with_column, no_column, raised, kind_at}
+use Rattle.std.proofs.Common.{Fits}
 use Rattle.views.proofs.RunLaws.{stretch_blob, has_room, are_put, column_then}
 use Rattle.views.proofs.runs.put_rows.Goals as goal
 use Rattle.views.proofs.runs.put_rows.Goals.{After-index_mut}

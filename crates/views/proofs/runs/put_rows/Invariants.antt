@@ -1,14 +1,4 @@
-use Rattle.std.proofs.Common.{◌≡◌, ◌-◌, ◌<◌, ◌≤◌, true, length, map, take}
-use Rattle.extents.specs.Indices.{indices}
-use Rattle.record_dim.specs.Schemas.{schema_fields}
-use Rattle.record_dim.specs.Leaves.{kinds_of}
-use Rattle.map_expr.specs.Terms.{term_of}
-use Rattle.map_checks.specs.Mappings.{leaf_cells, layout_by}
-use Rattle.piece_bits.specs.Tables.{AreLaid, table_in}
-use Rattle.piece_bits.specs.Walks.{leads}
-use Rattle.views.specs.Columns.{with_column}
-use Rattle.views.specs.Runs.{raised}
-use Rattle.views.specs.Stores.{kind_at}
+use Rattle.views.proofs.Imports.{◌≡◌, ◌-◌, ◌<◌, ◌≤◌, true, length, map, take, indices, schema_fields, kinds_of, term_of, leaf_cells, layout_by, AreLaid, table_in, leads, with_column, raised, kind_at}
 use Rattle.views.proofs.runs.put_rows.Given as goal
 
 abbrev pub invariant-loop-done : goal.invariant-loop-done

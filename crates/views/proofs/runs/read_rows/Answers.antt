@@ -1,7 +1,5 @@
-use Rattle.std.proofs.Common.{◌≡◌, ℕ, ◌+◌, ◌-◌, ◌<◌, ◌≤◌, [], length, get_or, pos, Fits, w64, ap, ◌∙◌, ⊎_elim, arith}
-use Rattle.std.proofs.lemmas.Bool.{cases_lt}
-use Rattle.std.proofs.lemmas.List.{get_or_read}
-use Rattle.piece_bits.specs.Lows.{low_64}
+use Rattle.views.proofs.Imports.{◌≡◌, ℕ, ◌+◌, ◌-◌, ◌<◌, ◌≤◌, [], length, get_or, pos, w64, ap, ◌∙◌, ⊎_elim, arith, cases_lt, get_or_read, low_64}
+use Rattle.std.proofs.Common.{Fits}
 use Rattle.views.proofs.RunLaws.{stretch_blob, has_room, stretch_read}
 use Rattle.views.proofs.runs.read_rows.Goals as goal
 use Rattle.views.proofs.runs.read_rows.Goals.{After-index-blobs-short}

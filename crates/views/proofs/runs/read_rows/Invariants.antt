@@ -1,12 +1,4 @@
-use Rattle.std.proofs.Common.{◌≡◌, ℕ, ◌+◌, ◌-◌, ◌<◌, ◌≤◌, true, length, get_or, pos}
-use Rattle.extents.specs.Indices.{indices}
-use Rattle.record_dim.specs.Schemas.{schema_fields}
-use Rattle.map_expr.specs.Terms.{term_of}
-use Rattle.map_checks.specs.Mappings.{layout_by}
-use Rattle.places.specs.Image.{entry}
-use Rattle.piece_bits.specs.Tables.{table_in}
-use Rattle.piece_bits.specs.Walks.{leads}
-use Rattle.piece_bits.specs.Lows.{low_64}
+use Rattle.views.proofs.Imports.{◌≡◌, ℕ, ◌+◌, ◌-◌, ◌<◌, ◌≤◌, true, length, get_or, pos, indices, schema_fields, term_of, layout_by, entry, table_in, leads, low_64}
 use Rattle.views.proofs.runs.read_rows.Given as goal
 
 abbrev pub invariant-loop-done : goal.invariant-loop-done

@@ -1,8 +1,4 @@
-use Rattle.std.proofs.Common.{◌+◌, ◌*◌, [], length, ap, arith}
-use Rattle.std.specs.List.{sum_by}
-use Rattle.std.proofs.lemmas.List.{take_all}
-use Rattle.std.proofs.lemmas.List.Sums.{sum_by_more, sum_by-take-le}
-use Rattle.places.specs.Layout.{Owner}
+use Rattle.views.proofs.Imports.{◌+◌, ◌*◌, [], length, ap, arith, sum_by, take_all, sum_by_more, sum_by-take-le, Owner}
 use Rattle.views.proofs.size.bytes_of.Goals as goal
 
 pub overflow_add-bytes : goal.overflow_add-bytes

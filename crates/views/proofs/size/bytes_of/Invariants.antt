@@ -1,6 +1,4 @@
-use Rattle.std.proofs.Common.{◌≡◌, ◌*◌, length, take}
-use Rattle.std.specs.List.{sum_by}
-use Rattle.places.specs.Layout.{Owner}
+use Rattle.views.proofs.Imports.{◌≡◌, ◌*◌, length, take, sum_by, Owner}
 use Rattle.views.proofs.size.bytes_of.Given as goal
 
 abbrev pub invariant-loop-blob : goal.invariant-loop-blob

@@ -1,5 +1,4 @@
-use Rattle.std.proofs.Common.{◌≡◌, ◌∷◌, ℕ, List, length, ap, ◌∙◌, arith, []}
-use Rattle.worlds.specs.Lines.{lines_in}
+use Rattle.worlds.proofs.Imports.{◌≡◌, ◌∷◌, ℕ, List, length, ap, ◌∙◌, arith, [], lines_in}
 use Rattle.worlds.proofs.Folding.{one_more, at_end, at_fault, at_unread, at_break, at_starved, cut_off}
 use Rattle.worlds.proofs.fold.run_lines.Goals as goal
 

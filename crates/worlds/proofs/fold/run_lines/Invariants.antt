@@ -1,8 +1,4 @@
-use Rattle.std.proofs.Common.{◌≡◌, ◌+◌, List, length, Some}
-use Rattle.layout_io.specs.Files.{File}
-use Rattle.worlds.specs.Worlds.{World}
-use Rattle.worlds.specs.Lines.{lines_in}
-use Rattle.worlds.specs.Fold.{run_from}
+use Rattle.worlds.proofs.Imports.{◌≡◌, ◌+◌, List, length, Some, File, World, lines_in, run_from}
 use Rattle.worlds.proofs.Folding.{SoFar}
 use Rattle.worlds.proofs.fold.run_lines.Given as goal
 

@@ -1,9 +1,4 @@
-use Rattle.std.proofs.Common.{rules, List, ℕ, IsErr, subst}
-use Rattle.std.specs.Prelude.{codes}
-use Rattle.layout_io.specs.Gathering.{Puts}
-use Rattle.layout_io.specs.GatheringLaws.{Puts-stop, Puts-stopped, Puts-append, Puts-second}
-use Rattle.layout_io.specs.declared.ends.Failed.{Failed}
-use Rattle.worlds.specs.Details.{detail_text}
+use Rattle.worlds.proofs.Imports.{rules, List, ℕ, IsErr, subst, codes, Puts, Puts-stop, Puts-stopped, Puts-append, Puts-second, Failed, detail_text}
 use Rattle.worlds.proofs.Whole.{line_parts}
 use Rattle.worlds.proofs.lines.put_fault.Goals as goal
 

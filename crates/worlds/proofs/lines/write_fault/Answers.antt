@@ -1,6 +1,4 @@
-use Rattle.std.proofs.Common.{rules, ◌≡◌, Err, refl}
-use Rattle.layout_io.specs.GatheringLaws.{Writes-puts_err}
-use Rattle.layout_io.specs.declared.ends.Failed.{Failed}
+use Rattle.worlds.proofs.Imports.{rules, ◌≡◌, Err, refl, Writes-puts_err, Failed}
 use Rattle.worlds.proofs.lines.write_fault.Goals as goal
 
 pub returns-in_err-put_fault : goal.returns-in_err-put_fault

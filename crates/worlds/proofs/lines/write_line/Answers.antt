@@ -1,7 +1,4 @@
-use Rattle.std.proofs.Common.{rules, IsErr, []}
-use Rattle.layout_io.specs.WritingLaws.{Writes-err}
-use Rattle.layout_io.specs.Gathering.{Gathers}
-use Rattle.layout_io.specs.GatheringLaws.{Gathers-start}
+use Rattle.worlds.proofs.Imports.{rules, IsErr, [], Writes-err, Gathers, Gathers-start}
 use Rattle.worlds.proofs.lines.write_line.Goals as goal
 
 pub returns-in_err-put_parts : goal.returns-in_err-put_parts

@@ -1,8 +1,4 @@
-use Rattle.std.proofs.Common.{rules, ◌-◌, List, ℕ, length, take, drop, flat_map, IsErr, subst, ap, ◌∙◌}
-use Rattle.layout_io.specs.Gathering.{Puts}
-use Rattle.layout_io.specs.GatheringLaws.{Puts-stop, Puts-append}
-use Rattle.layout_io.specs.declared.ends.Failed.{Failed}
-use Rattle.record_dim.specs.Paths.{step_text, path_text_of}
+use Rattle.worlds.proofs.Imports.{rules, ◌-◌, List, ℕ, length, take, drop, flat_map, IsErr, subst, ap, ◌∙◌, Puts, Puts-stop, Puts-append, Failed, step_text, path_text_of}
 use Rattle.worlds.proofs.Steps.{path_parts}
 use Rattle.worlds.proofs.paths.put_path.Goals as goal
 

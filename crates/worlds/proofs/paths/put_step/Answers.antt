@@ -1,4 +1,4 @@
-use Rattle.std.proofs.Common.{rules, ◌<◌, ◌^◌}
+use Rattle.worlds.proofs.Imports.{rules, ◌<◌, ◌^◌}
 use Rattle.worlds.proofs.Steps.{number_step}
 use Rattle.worlds.proofs.paths.put_step.Goals as goal
 

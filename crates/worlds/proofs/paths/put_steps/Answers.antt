@@ -1,6 +1,4 @@
-use Rattle.std.proofs.Common.{rules, IsErr}
-use Rattle.layout_io.specs.GatheringLaws.{Puts-loop_err}
-use Rattle.record_dim.specs.Paths.{step_text}
+use Rattle.worlds.proofs.Imports.{rules, IsErr, Puts-loop_err, step_text}
 use Rattle.worlds.proofs.paths.put_steps.Goals as goal
 
 pub returns-in_err-put_step : goal.returns-in_err-put_step

@@ -1,6 +1,4 @@
-use Rattle.std.proofs.Common.{take, flat_map}
-use Rattle.layout_io.specs.Gathering.{HasPut}
-use Rattle.record_dim.specs.Paths.{step_text}
+use Rattle.worlds.proofs.Imports.{take, flat_map, HasPut, step_text}
 use Rattle.worlds.proofs.paths.put_steps.Given as goal
 
 abbrev pub invariant-loop-step : goal.invariant-loop-step

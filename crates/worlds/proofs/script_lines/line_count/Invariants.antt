@@ -1,5 +1,4 @@
-use Rattle.std.proofs.Common.{◌≡◌, ◌≤◌, ◌+◌, length}
-use Rattle.worlds.specs.Lines.{lines_in}
+use Rattle.worlds.proofs.Imports.{◌≡◌, ◌≤◌, ◌+◌, length, lines_in}
 use Rattle.worlds.proofs.script_lines.line_count.Given as goal
 
 abbrev pub invariant-loop-line : goal.invariant-loop-line

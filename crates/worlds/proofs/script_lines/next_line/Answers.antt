@@ -1,5 +1,4 @@
-use Rattle.std.proofs.Common.{◌≡◌, ◌∷◌, length, ap, sym, ◌∙◌, arith, rules, tests}
-use Rattle.worlds.specs.Lines.{lines_in, without_cr}
+use Rattle.worlds.proofs.Imports.{◌≡◌, ◌∷◌, length, ap, sym, ◌∙◌, arith, rules, tests, lines_in, without_cr}
 use Rattle.worlds.proofs.Cuts.{line_first, line_last, nothing_left}
 use Rattle.worlds.proofs.script_lines.next_line.Goals as goal
 

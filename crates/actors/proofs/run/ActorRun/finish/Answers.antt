@@ -1,6 +1,4 @@
-use Rattle.std.proofs.Common.{◌≤◌, ◌∙◌, length, ap, arith}
-use Rattle.actor_steps.specs.Jobs.{fresh_of}
-use Rattle.actors.specs.Runs.{Run, job_in, rest_in}
+use Rattle.actors.proofs.Imports.{◌≤◌, ◌∙◌, length, ap, arith, fresh_of, Run, job_in, rest_in}
 use Rattle.actors.proofs.Finishes.{all_done, finished_plain}
 use Rattle.actors.proofs.run.ActorRun.finish.Goals as goal
 

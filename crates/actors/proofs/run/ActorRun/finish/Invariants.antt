@@ -1,5 +1,4 @@
-use Rattle.std.proofs.Common.{◌≡◌, length}
-use Rattle.actors.specs.Runs.{finished_from}
+use Rattle.actors.proofs.Imports.{◌≡◌, length, finished_from}
 use Rattle.actors.proofs.run.ActorRun.finish.Given as goal
 
 abbrev pub invariant-loop-actor : goal.invariant-loop-actor

@@ -1,5 +1,4 @@
-use Rattle.std.proofs.Common.{◌≡◌, ◌<◌, ◌+◌, ◌∙◌, false, length, sym, ap, arith}
-use Rattle.actors.specs.Runs.{finished_from, rest_in, has_any}
+use Rattle.actors.proofs.Imports.{◌≡◌, ◌<◌, ◌+◌, ◌∙◌, false, length, sym, ap, arith, finished_from, rest_in, has_any}
 use Rattle.actors.proofs.Finishes.{turn_made, actor_done}
 use Rattle.actors.proofs.run.ActorRun.finish_actor.Goals as goal
 

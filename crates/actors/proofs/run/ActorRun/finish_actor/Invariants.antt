@@ -1,5 +1,4 @@
-use Rattle.std.proofs.Common.{length}
-use Rattle.actors.specs.Runs.{rest_in}
+use Rattle.actors.proofs.Imports.{length, rest_in}
 use Rattle.actors.proofs.Finishes.{IsLeft}
 use Rattle.actors.proofs.run.ActorRun.finish_actor.Given as goal
 

@@ -1,5 +1,4 @@
-use Rattle.std.proofs.Common.{subst}
-use Rattle.actors.specs.Kept.{IsReached}
+use Rattle.actors.proofs.Imports.{subst, IsReached}
 use Rattle.actors.proofs.run.ActorRun.law.Goals as goal
 
 pub returns-clause-reached : goal.returns-clause-reached

@@ -1,13 +1,4 @@
-use Rattle.std.proofs.Common.{◌≡◌, ◌∙◌, ℕ, List, Err, length, get_or, sym, ap, subst, rules, arith}
-use Rattle.record_dim.specs.Schemas.{schema_fields}
-use Rattle.map_expr.specs.Terms.{term_of}
-use Rattle.row_updates.specs.Rows.{filter_term}
-use Rattle.views.specs.Tables.{Table}
-use Rattle.views.specs.TallyLaws.{after_log-none}
-use Rattle.actor_steps.specs.Jobs.{memory_of, fresh_of}
-use Rattle.actors.specs.declared.fault.ActorFault.TheVariants.{NoMemory}
-use Rattle.actors.specs.Kept.{table_at, run_of, IsRun}
-use Rattle.actors.specs.Runs.{uncounted}
+use Rattle.actors.proofs.Imports.{◌≡◌, ◌∙◌, ℕ, List, Err, length, get_or, sym, ap, subst, rules, arith, schema_fields, term_of, filter_term, Table, after_log-none, memory_of, fresh_of, NoMemory, table_at, run_of, IsRun, uncounted}
 use Rattle.actors.proofs.Begins.{table_same, run_begun, run_kept}
 use Rattle.actors.proofs.Teams.{IsTeam}
 use Rattle.actors.proofs.Turns.{stands_counted}

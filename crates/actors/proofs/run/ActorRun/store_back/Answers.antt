@@ -1,9 +1,4 @@
-use Rattle.std.proofs.Common.{◌∙◌, ℕ, List, length, map, sym, ap, subst}
-use Rattle.row_updates.specs.Rows.{filter_term, setting_of}
-use Rattle.views.specs.Tables.{Table}
-use Rattle.actor_steps.specs.Jobs.{job_of}
-use Rattle.actors.specs.Rows.{ArePlans}
-use Rattle.actors.specs.Runs.{Run, IsPlain, IsPlainMemory, IsStoredBack}
+use Rattle.actors.proofs.Imports.{◌∙◌, ℕ, List, length, map, sym, ap, subst, filter_term, setting_of, Table, job_of, ArePlans, Run, IsPlain, IsPlainMemory, IsStoredBack}
 use Rattle.actors.proofs.Finishes.{done_plain}
 use Rattle.actors.proofs.run.ActorRun.store_back.Goals as goal
 

@@ -1,17 +1,4 @@
-use Rattle.std.proofs.Common.{◌≡◌, ◌∙◌, ◌<◌, Bool, ℕ, List, [], ◌∷◌, length, map, get_or, set, sym, ap, subst, arith}
-use Rattle.std.proofs.lemmas.List.{get_or_default, length-set}
-use Rattle.record_dim.specs.Schemas.{schema_fields}
-use Rattle.map_expr.specs.Terms.{term_of}
-use Rattle.piece_bits.specs.Tables.{AreSized}
-use Rattle.row_updates.specs.Rows.{filter_term, setting_of}
-use Rattle.views.specs.Tables.{Table, owners_of}
-use Rattle.actor_steps.specs.Confluence.{State}
-use Rattle.actor_steps.specs.Jobs.{job_of, fresh_of}
-use Rattle.actor_steps.specs.Micro.{Micro, Registers}
-use Rattle.actors.specs.Kept.{table_at, run_of}
-use Rattle.actors.specs.Rows.{ArePlans}
-use Rattle.actors.specs.Runs.{Run, uncounted, after_turns, rest_in, has_any}
-use Rattle.actors.specs.Standing.{IsTurn, IsStanding}
+use Rattle.actors.proofs.Imports.{◌≡◌, ◌∙◌, ◌<◌, Bool, ℕ, List, [], ◌∷◌, length, map, get_or, set, sym, ap, subst, arith, get_or_default, length-set, schema_fields, term_of, AreSized, filter_term, setting_of, Table, owners_of, State, job_of, fresh_of, Micro, Registers, table_at, run_of, ArePlans, Run, uncounted, after_turns, rest_in, has_any, IsTurn, IsStanding}
 use Rattle.actors.proofs.Turns.{turned_state, made_any, not_made, stands_alone, stands_among, reached_more}
 use Rattle.actors.proofs.run.ActorRun.turn.Goals as goal
 use Rattle.actors.proofs.run.ActorRun.turn.Goals.{After-turn_of}

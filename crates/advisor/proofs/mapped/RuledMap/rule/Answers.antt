@@ -1,5 +1,4 @@
-use Rattle.std.proofs.Common.{◌∙◌, List, length, get_or, ap, arith}
-use Rattle.map_checks.specs.declared.rule.Rule.{Rule}
+use Rattle.advisor.proofs.Imports.{◌∙◌, List, length, get_or, ap, arith, Rule}
 use Rattle.advisor.proofs.RuledLaws.{has_rule, rule_in}
 use Rattle.advisor.proofs.mapped.RuledMap.rule.Goals as goal
 

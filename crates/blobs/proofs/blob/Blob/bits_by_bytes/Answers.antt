@@ -1,7 +1,4 @@
-use Rattle.std.proofs.Common.{◌≡◌, ◌+◌, ◌*◌, ◌%◌, ◌^◌, arith}
-use Rattle.places.specs.Image.{number}
-use Rattle.blobs.specs.Bits.{bit_of}
-use Rattle.blobs.specs.BytesLaws.{place_is, read_step, read_fits}
+use Rattle.blobs.proofs.Imports.{◌≡◌, ◌+◌, ◌*◌, ◌%◌, ◌^◌, arith, number, bit_of, place_is, read_step, read_fits}
 use Rattle.blobs.proofs.blob.Blob.bits_by_bytes.Goals as goal
 
 read_more : (c : goal.After-bits_in_word) → c.loop-done.value + c.bits_in_word.result * 2 ^ c.loop-done.done % 2 ^ 64 ≡ number (λ k. bit_of c.args.self.now (c.args.at + k)) (c.loop-done.done + c.min-part.result)

@@ -1,6 +1,4 @@
-use Rattle.std.proofs.Common.{◌≡◌, ◌+◌, ◌-◌, ◌≤◌}
-use Rattle.places.specs.Image.{number}
-use Rattle.blobs.specs.Bits.{bit_of}
+use Rattle.blobs.proofs.Imports.{◌≡◌, ◌+◌, ◌-◌, ◌≤◌, number, bit_of}
 use Rattle.blobs.proofs.blob.Blob.bits_by_bytes.Given as goal
 
 abbrev pub invariant-loop-done : goal.invariant-loop-done

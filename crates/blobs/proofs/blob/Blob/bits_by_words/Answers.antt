@@ -1,7 +1,5 @@
-use Rattle.std.proofs.Common.{◌/◌, ◌∙◌}
-use Rattle.blobs.specs.FieldsLaws.{field_read}
+use Rattle.blobs.proofs.Imports.{◌/◌, ◌∙◌, field_read, byte_and_bit}
 use Rattle.blobs.proofs.Numbers.{word_bit}
-use Rattle.blobs.specs.BytesLaws.{byte_and_bit}
 use Rattle.blobs.proofs.blob.Blob.bits_by_words.Goals as goal
 
 pub returns-then-len-first-ge8 : goal.returns-then-len-first-ge8

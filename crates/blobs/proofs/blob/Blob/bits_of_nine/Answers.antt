@@ -1,8 +1,4 @@
-use Rattle.std.proofs.Common.{◌≡◌, ℕ, ◌+◌, ◌-◌, ◌*◌, ◌/◌, ◌%◌, ◌^◌, ap, ◌∙◌, arith}
-use Rattle.places.specs.Image.{number}
-use Rattle.blobs.specs.Bits.{bit_of}
-use Rattle.blobs.specs.BytesLaws.{byte_and_bit, read_step, read_fits}
-use Rattle.blobs.specs.FieldsLaws.{field_read}
+use Rattle.blobs.proofs.Imports.{◌≡◌, ℕ, ◌+◌, ◌-◌, ◌*◌, ◌/◌, ◌%◌, ◌^◌, ap, ◌∙◌, arith, number, bit_of, byte_and_bit, read_step, read_fits, field_read}
 use Rattle.blobs.proofs.Numbers.{word_bit}
 use Rattle.blobs.proofs.blob.Blob.bits_of_nine.Goals as goal
 

@@ -1,5 +1,5 @@
-use Rattle.std.proofs.Common.{◌≡◌, ℕ, ◌+◌, ◌++◌, List, length, take, drop, ap, ◌∙◌, arith}
-use Rattle.std.proofs.lemmas.List.{length-take, length-drop}
+use Rattle.blobs.proofs.Imports.{◌≡◌, ℕ, ◌+◌, List, length, take, drop, ap, ◌∙◌, arith, length-take, length-drop}
+use Rattle.std.proofs.Common.{◌++◌}
 use Rattle.blobs.proofs.Blocks.{copied}
 use Rattle.blobs.proofs.blob.Blob.copy_block.Goals as goal
 

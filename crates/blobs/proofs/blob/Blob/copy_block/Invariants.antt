@@ -1,5 +1,5 @@
 -- the bytes so far are copied
-use Rattle.std.proofs.Common.{◌≡◌, ℕ, ◌+◌, ◌<◌, length, get_or}
+use Rattle.blobs.proofs.Imports.{◌≡◌, ℕ, ◌+◌, ◌<◌, length, get_or}
 use Rattle.blobs.proofs.blob.Blob.copy_block.Given as goal
 
 abbrev pub invariant-loop-k : goal.invariant-loop-k

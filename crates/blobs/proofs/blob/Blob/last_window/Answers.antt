@@ -1,4 +1,4 @@
-use Rattle.std.proofs.Common.{◌-◌, ◌*◌, arith}
+use Rattle.blobs.proofs.Imports.{◌-◌, ◌*◌, arith}
 use Rattle.blobs.proofs.Numbers.{last_bit}
 use Rattle.blobs.proofs.blob.Blob.last_window.Goals as goal
 

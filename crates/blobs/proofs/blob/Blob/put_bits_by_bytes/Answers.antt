@@ -1,5 +1,4 @@
-use Rattle.std.proofs.Common.{◌+◌, ◌/◌, ◌%◌, ◌^◌, ◌<◌, List, ℕ, length, length-set, set, sym, ap, ◌∙◌, subst, arith}
-use Rattle.blobs.specs.BytesLaws.{IsPut, place_is, put_more}
+use Rattle.blobs.proofs.Imports.{◌+◌, ◌/◌, ◌%◌, ◌^◌, ◌<◌, List, ℕ, length, length-set, set, sym, ap, ◌∙◌, subst, arith, IsPut, place_is, put_more}
 use Rattle.blobs.proofs.blob.Blob.put_bits_by_bytes.Goals as goal
 
 pub overflow_cast-with_bits : goal.overflow_cast-with_bits

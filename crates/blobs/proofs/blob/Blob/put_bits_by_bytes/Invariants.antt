@@ -1,6 +1,4 @@
-use Rattle.std.proofs.Common.{ℕ, ◌≡◌, ◌+◌, ◌-◌, ◌<◌, ◌≤◌, length}
-use Rattle.std.specs.Int.{bit_at}
-use Rattle.blobs.specs.Bits.{bit_of}
+use Rattle.blobs.proofs.Imports.{ℕ, ◌≡◌, ◌+◌, ◌-◌, ◌<◌, ◌≤◌, length, bit_at, bit_of}
 use Rattle.blobs.proofs.blob.Blob.put_bits_by_bytes.Given as goal
 
 abbrev pub invariant-loop-done : goal.invariant-loop-done

@@ -1,6 +1,4 @@
-use Rattle.std.proofs.Common.{◌≡◌, ◌+◌, ◌*◌, ◌/◌, ◌%◌, ◌≤◌, length, arith}
-use Rattle.blobs.specs.BytesLaws.{IsPut, byte_and_bit}
-use Rattle.blobs.specs.FieldsLaws.{field_put}
+use Rattle.blobs.proofs.Imports.{◌≡◌, ◌+◌, ◌*◌, ◌/◌, ◌%◌, ◌≤◌, length, arith, IsPut, byte_and_bit, field_put}
 use Rattle.blobs.proofs.Numbers.{word_bit}
 use Rattle.blobs.proofs.Splices.{whole_put}
 use Rattle.blobs.proofs.blob.Blob.put_bits_by_words.Goals as goal

@@ -1,7 +1,4 @@
-use Rattle.std.proofs.Common.{◌≡◌, ℕ, ◌+◌, ◌-◌, ◌*◌, ◌/◌, ◌%◌, ◌^◌, ◌<◌, ◌≤◌, List, length, set, sym, ap, ◌∙◌, subst, arith}
-use Rattle.std.specs.Int.{bit_at}
-use Rattle.blobs.specs.BytesLaws.{IsPut, byte_and_bit, bit_of_part, put_more}
-use Rattle.blobs.specs.FieldsLaws.{field_put}
+use Rattle.blobs.proofs.Imports.{◌≡◌, ℕ, ◌+◌, ◌-◌, ◌*◌, ◌/◌, ◌%◌, ◌^◌, ◌<◌, ◌≤◌, List, length, set, sym, ap, ◌∙◌, subst, arith, bit_at, IsPut, byte_and_bit, bit_of_part, put_more, field_put}
 use Rattle.blobs.proofs.Numbers.{word_bit}
 use Rattle.blobs.proofs.Splices.{whole_put, whole_long}
 use Rattle.blobs.proofs.blob.Blob.put_bits_of_nine.Goals as goal

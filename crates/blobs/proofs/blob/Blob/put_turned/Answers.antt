@@ -1,4 +1,4 @@
-use Rattle.std.proofs.Common.{arith}
+use Rattle.blobs.proofs.Imports.{arith}
 use Rattle.blobs.proofs.Splices.{IsTurnedPut, turned_put}
 use Rattle.blobs.proofs.blob.Blob.put_turned.Goals as goal
 

@@ -1,5 +1,4 @@
-use Rattle.std.proofs.Common.{◌*◌, arith}
-use Rattle.blobs.specs.BytesLaws.{IsPut}
+use Rattle.blobs.proofs.Imports.{◌*◌, arith, IsPut}
 use Rattle.blobs.proofs.Splices.{whole_put}
 use Rattle.blobs.proofs.blob.Blob.put_whole.Goals as goal
 

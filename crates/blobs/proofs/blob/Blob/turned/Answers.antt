@@ -1,4 +1,4 @@
-use Rattle.std.proofs.Common.{◌∙◌, arith}
+use Rattle.blobs.proofs.Imports.{◌∙◌, arith}
 use Rattle.blobs.proofs.Numbers.{turned_read}
 use Rattle.blobs.proofs.blob.Blob.turned.Goals as goal
 

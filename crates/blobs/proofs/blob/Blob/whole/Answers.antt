@@ -1,4 +1,4 @@
-use Rattle.std.proofs.Common.{◌∙◌, arith}
+use Rattle.blobs.proofs.Imports.{◌∙◌, arith}
 use Rattle.blobs.proofs.Numbers.{whole_read}
 use Rattle.blobs.proofs.blob.Blob.whole.Goals as goal
 

@@ -1,6 +1,4 @@
-use Rattle.std.proofs.Common.{◌≡◌, ℕ, ◌<◌, get_or}
-use Rattle.core.specs.Mem.Slots.{slots_items, slots_filled, SamePlaces}
-use Rattle.core.specs.Mem.Slots.Ownership.{Filled}
+use Rattle.blobs.proofs.Imports.{◌≡◌, ℕ, ◌<◌, get_or, slots_items, slots_filled, SamePlaces, Filled}
 use Rattle.blobs.proofs.blob.Blob.zeroed.Given as goal
 
 -- the zeros so far

@@ -1,6 +1,4 @@
-use Rattle.std.proofs.Common.{length, map, ap, ◌∙◌}
-use Rattle.lane_kernels.proofs.LeafRuns.{run_raised}
-use Rattle.views.specs.Tables.{leaf_type_of}
+use Rattle.c_lines.proofs.Imports.{length, map, ap, ◌∙◌, run_raised, leaf_type_of}
 use Rattle.c_lines.proofs.Parts.{signed_raised}
 use Rattle.c_lines.proofs.number.I64Number64.read_run.Goals as goal
 

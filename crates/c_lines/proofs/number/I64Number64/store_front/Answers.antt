@@ -1,7 +1,4 @@
-use Rattle.std.proofs.Common.{rules, ◌≡◌, List, ℤ, map, take, refl, sym, subst, Err, Result, ℕ, arith}
-use Rattle.std.proofs.lemmas.List.{map-id}
-use Rattle.views.specs.declared.fault.LaneFault.{LaneFault}
-use Rattle.c_lines.specs.Runs.{IsFrontStored}
+use Rattle.c_lines.proofs.Imports.{rules, ◌≡◌, List, ℤ, map, take, refl, sym, subst, Err, Result, ℕ, arith, map-id, LaneFault, IsFrontStored}
 use Rattle.c_lines.proofs.Parts.{front_refused}
 use Rattle.c_lines.proofs.number.I64Number64.store_front.Goals as goal
 

@@ -1,12 +1,4 @@
-use Rattle.std.proofs.Common.{rules, ◌≡◌, ◌+◌, ◌-◌, ◌++◌, ℕ, ℤ, pos, List, length, map, take, refl, sym, ap, ◌∙◌, arith}
-use Rattle.std.proofs.lemmas.List.{length-take-le, map-append}
-use Rattle.std.proofs.lemmas.Slice.{take-put_mid}
-use Rattle.record_dim.specs.declared.leaf_type.LeafType.TheVariants.{U64}
-use Rattle.piece_bits.specs.Lows.{low_64}
-use Rattle.views.specs.Columns.{column_reads}
-use Rattle.views.specs.Runs.{raised, run_of}
-use Rattle.views.specs.Tables.{Table, after_log}
-use Rattle.views.specs.TallyLaws.{after_log-none}
+use Rattle.c_lines.proofs.Imports.{rules, ◌≡◌, ◌+◌, ◌-◌, ◌++◌, ℕ, ℤ, pos, List, length, map, take, refl, sym, ap, ◌∙◌, arith, length-take-le, map-append, take-put_mid, U64, low_64, column_reads, raised, run_of, Table, after_log, after_log-none}
 use Rattle.c_lines.proofs.Parts.{unsigned_run, run_more, log_more}
 use Rattle.c_lines.proofs.unsigned.U64Number64.read_run.Goals as goal
 

@@ -1,6 +1,4 @@
-use Rattle.std.proofs.Common.{◌≡◌, ◌-◌, ◌≤◌, length, map, pos, take}
-use Rattle.views.specs.Runs.{run_of}
-use Rattle.c_lines.specs.Runs.{after_run}
+use Rattle.c_lines.proofs.Imports.{◌≡◌, ◌-◌, ◌≤◌, length, map, pos, take, run_of, after_run}
 use Rattle.c_lines.proofs.unsigned.U64Number64.read_run.Given as goal
 
 abbrev pub invariant-loop-done : goal.invariant-loop-done

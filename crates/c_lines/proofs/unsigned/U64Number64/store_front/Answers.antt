@@ -1,11 +1,5 @@
-use Rattle.std.proofs.Common.{rules, ◌≡◌, ℕ, ℤ, pos, get_or, map, take, SFits, to_z, of_z, sym, ap, subst, ◌∙◌, Err, Result, arith}
-use Rattle.std.specs.Int.{w128}
-use Rattle.std.proofs.lemmas.Int.{to_z-of_z}
-use Rattle.std.proofs.lemmas.List.{length-map}
+use Rattle.c_lines.proofs.Imports.{rules, ◌≡◌, ℕ, ℤ, pos, get_or, map, take, SFits, to_z, of_z, sym, ap, subst, ◌∙◌, Err, Result, arith, w128, to_z-of_z, length-map, answer_of, after_write, LaneFault, IsFrontStored}
 use Rattle.views.specs.Stores.{told}
-use Rattle.views.specs.Tables.{answer_of, after_write}
-use Rattle.views.specs.declared.fault.LaneFault.{LaneFault}
-use Rattle.c_lines.specs.Runs.{IsFrontStored}
 use Rattle.c_lines.proofs.Parts.{front_refused, lows_fit, all_stored, one_stored, one_refused}
 use Rattle.c_lines.proofs.unsigned.U64Number64.store_front.Goals as goal
 

@@ -1,4 +1,4 @@
-use Rattle.command_checks.specs.PlacesLaws.{free_by_place}
+use Rattle.command_checks.proofs.Imports.{free_by_place}
 use Rattle.command_checks.proofs.entry_list.EntryList.free.Goals as goal
 
 pub returns : goal.returns

@@ -1,5 +1,4 @@
-use Rattle.std.proofs.Common.{rules, sym, ◌∙◌}
-use Rattle.command_checks.specs.PlacesLaws.{placed_at, known_at, unknown_name}
+use Rattle.command_checks.proofs.Imports.{rules, sym, ◌∙◌, placed_at, known_at, unknown_name}
 use Rattle.command_checks.proofs.entry_list.EntryList.known.Goals as goal
 
 pub index-requires : goal.index-requires

@@ -1,7 +1,4 @@
-use Rattle.std.proofs.Common.{rules, ◌≡◌, ◌∙◌, ap, sym, nat_eq, List, ℕ, Bool, Some, None, option_map}
-use Rattle.std.specs.Cmp.Lexicographic.{pointwise}
-use Rattle.csv.specs.Records.{fields_of}
-use Rattle.csv_rows.specs.Datasets.{unspaced}
+use Rattle.csv_rows.proofs.Imports.{rules, ◌≡◌, ◌∙◌, ap, sym, nat_eq, List, ℕ, Bool, Some, None, option_map, pointwise, fields_of, unspaced}
 use Rattle.csv_rows.proofs.CsvReads.{same_at}
 use Rattle.csv_rows.proofs.copies.CopiesRecords.is_named.Goals as goal
 

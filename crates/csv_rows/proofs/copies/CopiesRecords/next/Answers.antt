@@ -1,4 +1,4 @@
-use Rattle.csv.specs.Records.{fields_of}
+use Rattle.csv_rows.proofs.Imports.{fields_of}
 use Rattle.csv_rows.proofs.CsvReads.{read_one}
 use Rattle.csv_rows.proofs.copies.CopiesRecords.next.Goals as goal
 

@@ -1,7 +1,4 @@
-use Rattle.std.proofs.Common.{rules, ◌≡◌, ◌∙◌, ap, sym, List, ℕ, ℤ, Option, Some, None, option_map}
-use Rattle.csv.specs.Records.{fields_of}
-use Rattle.csv_rows.specs.Datasets.{unspaced, number_of}
-use Rattle.piece_bits.specs.Far.{shortened}
+use Rattle.csv_rows.proofs.Imports.{rules, ◌≡◌, ◌∙◌, ap, sym, List, ℕ, ℤ, Option, Some, None, option_map, fields_of, unspaced, number_of, shortened}
 use Rattle.csv_rows.proofs.CsvReads.{same_at}
 use Rattle.csv_rows.proofs.copies.CopiesRecords.number.Goals as goal
 

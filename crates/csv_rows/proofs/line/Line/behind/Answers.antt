@@ -1,5 +1,4 @@
-use Rattle.std.proofs.Common.{rules, arith, ◌≡◌}
-use Rattle.csv_rows.specs.Plain.{line_length}
+use Rattle.csv_rows.proofs.Imports.{rules, arith, ◌≡◌, line_length}
 use Rattle.csv_rows.proofs.FirstLines.{line_within}
 use Rattle.csv_rows.proofs.line.Line.behind.Goals as goal
 

@@ -1,5 +1,4 @@
-use Rattle.std.proofs.Common.{◌≡◌, ◌≤◌, ◌∙◌, List, ℕ, length, drop, ap}
-use Rattle.csv_rows.specs.Plain.{line_length}
+use Rattle.csv_rows.proofs.Imports.{◌≡◌, ◌≤◌, ◌∙◌, List, ℕ, length, drop, ap, line_length}
 use Rattle.csv_rows.proofs.FirstLines.{start_within, behind_found, end_some, end_none}
 use Rattle.csv_rows.proofs.line.Line.behind_far.Goals as goal
 

@@ -1,6 +1,4 @@
-use Rattle.std.proofs.Common.{◌∙◌, List, ℕ, Some, take, drop, sym, ap}
-use Rattle.std.specs.List.{slice_get, slice_split}
-use Rattle.csv_rows.specs.Plain.{is_comma, first_line, IsFieldHere}
+use Rattle.csv_rows.proofs.Imports.{◌∙◌, List, ℕ, Some, take, drop, sym, ap, slice_get, slice_split, is_comma, first_line, IsFieldHere}
 use Rattle.csv_rows.proofs.FirstLines.{here_found}
 use Rattle.csv_rows.proofs.line.Line.field.Goals as goal
 

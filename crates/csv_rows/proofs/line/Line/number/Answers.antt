@@ -1,10 +1,4 @@
-use Rattle.std.proofs.Common.{rules, ◌∙◌, List, ℕ, ℤ, Option, Some, FitsSigned, take, drop, sym, ap, option_map}
-use Rattle.std.specs.Int.{w128}
-use Rattle.std.specs.List.{slice_get, slice_split}
-use Rattle.std.proofs.lemmas.Int.{to_z-of_z}
-use Rattle.csv_rows.specs.Datasets.{unspaced, number_of}
-use Rattle.piece_bits.specs.Far.{shortened}
-use Rattle.csv_rows.specs.Plain.{is_comma, first_line, IsFieldHere}
+use Rattle.csv_rows.proofs.Imports.{rules, ◌∙◌, List, ℕ, ℤ, Option, Some, FitsSigned, take, drop, sym, ap, option_map, w128, slice_get, slice_split, to_z-of_z, unspaced, number_of, shortened, is_comma, first_line, IsFieldHere}
 use Rattle.csv_rows.proofs.FirstLines.{here_found}
 use Rattle.csv_rows.proofs.line.Line.number.Goals as goal
 

@@ -1,5 +1,4 @@
-use Rattle.std.proofs.Common.{◌≡◌, ◌≤◌, ◌-◌}
-use Rattle.csv_rows.specs.Plain.{IsAt}
+use Rattle.csv_rows.proofs.Imports.{◌≡◌, ◌≤◌, ◌-◌, IsAt}
 use Rattle.csv_rows.proofs.line.Line.seek_far.Given as goal
 
 abbrev pub invariant-loop-self : goal.invariant-loop-self

@@ -1,6 +1,4 @@
-use Rattle.std.proofs.Common.{arith, ◌≡◌, ◌<◌, ◌+◌, ◌∙◌, true, length, drop, get_or, subst, ap}
-use Rattle.std.proofs.lemmas.List.{length-drop, get_or-drop}
-use Rattle.csv_rows.specs.Plain.{is_comma, first_line, IsField}
+use Rattle.csv_rows.proofs.Imports.{arith, ◌≡◌, ◌<◌, ◌+◌, ◌∙◌, true, length, drop, get_or, subst, ap, length-drop, get_or-drop, is_comma, first_line, IsField}
 use Rattle.csv_rows.proofs.FirstLines.{here_behind, here_end, here_last}
 use Rattle.csv_rows.proofs.line.Line.step.Goals as goal
 

@@ -1,7 +1,4 @@
-use Rattle.std.proofs.Common.{arith, ◌≡◌, ◌<◌, length, ap, ◌∙◌}
-use Rattle.std.proofs.lemmas.Bool.Decides.{nat_tests}
-use Rattle.csv_rows.specs.Plain.{line_start, HasNoQuote}
-use Rattle.csv_rows.specs.Readers.{text_behind}
+use Rattle.csv_rows.proofs.Imports.{arith, ◌≡◌, ◌<◌, length, ap, ◌∙◌, nat_tests, line_start, HasNoQuote, text_behind}
 use Rattle.csv_rows.proofs.PlainLines.{no_rows, record_rows, line_record, left_plain, start_plain}
 use Rattle.csv_rows.proofs.lines.LinesRecords.next.Goals as goal
 

@@ -1,7 +1,5 @@
 -- the deepest operand so far, or what is left below its level, gives the depth; what is left is no deeper than the value
-use Rattle.std.proofs.Common.{◌≡◌, ◌≤◌, ◌<◌, ◌+◌, ◌-◌, ◌^◌, min, max}
-use Rattle.expr_lang.specs.declared.expr.Expr.{size-Expr}
-use Rattle.expr_lang.specs.Terms.{term_of, depth_of}
+use Rattle.expr_lang.proofs.Imports.{◌≡◌, ◌≤◌, ◌<◌, ◌+◌, ◌-◌, ◌^◌, min, max, size-Expr, term_of, depth_of}
 use Rattle.expr_lang.proofs.expr.Expr.+depth.Given as goal
 
 abbrev pub decreases-depth : goal.decreases-depth

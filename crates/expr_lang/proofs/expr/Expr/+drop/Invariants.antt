@@ -1,5 +1,5 @@
 -- what is left of a value is no deeper than the value
-use Rattle.std.proofs.Common.{◌≤◌}
+use Rattle.expr_lang.proofs.Imports.{◌≤◌}
 use Rattle.expr_lang.proofs.expr.Expr.+drop.Given as goal
 
 abbrev pub invariant-loop-self : goal.invariant-loop-self

@@ -1,5 +1,4 @@
-use Rattle.std.proofs.Common.{take, arith}
-use Rattle.extents.specs.IndicesLaws.{length-indices}
+use Rattle.extents.proofs.Imports.{take, arith, length-indices}
 use Rattle.extents.proofs.rows.Extents.count.Goals as goal
 
 pub returns-clause-rows : goal.returns-clause-rows

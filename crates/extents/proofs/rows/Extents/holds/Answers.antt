@@ -1,4 +1,4 @@
-use Rattle.extents.specs.IndicesLaws.{decides_member}
+use Rattle.extents.proofs.Imports.{decides_member}
 use Rattle.extents.proofs.rows.Extents.holds.Goals as goal
 
 pub returns-clause-member : goal.returns-clause-member

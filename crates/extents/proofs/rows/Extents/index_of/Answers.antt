@@ -1,6 +1,4 @@
-use Rattle.std.proofs.Common.{◌≡◌, ◌<◌, ◌≤◌, length, get_or, ap, ◌∙◌, arith}
-use Rattle.extents.specs.IndicesLaws.{inside_of_entry, same_row}
-use Rattle.extents.specs.RowLaws.{IsIndexSoFar-more, index_all}
+use Rattle.extents.proofs.Imports.{◌≡◌, ◌<◌, ◌≤◌, length, get_or, ap, ◌∙◌, arith, inside_of_entry, same_row, IsIndexSoFar-more, index_all}
 use Rattle.extents.proofs.rows.Extents.index_of.Goals as goal
 
 pub loop-size-preserved : goal.loop-size-preserved

@@ -1,4 +1,4 @@
-use Rattle.extents.specs.RowLaws.{IsIndexSoFar}
+use Rattle.extents.proofs.Imports.{IsIndexSoFar}
 use Rattle.extents.proofs.rows.Extents.index_of.Given as goal
 
 abbrev pub invariant-loop-size : goal.invariant-loop-size

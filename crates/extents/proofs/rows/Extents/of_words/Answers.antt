@@ -1,10 +1,4 @@
-use Rattle.std.proofs.Common.{◌≡◌, ◌<◌, ◌≤◌, ◌^◌, ◌∙◌, ap, sym, length, map, take, set, arith, ◌++◌, ◌∷◌, [], length-take}
-use Rattle.std.proofs.lemmas.List.{length-map, map_more, take_all}
-use Rattle.std.proofs.lemmas.List.Elements.{All-set}
-use Rattle.extents.specs.declared.words.ExtentWord.TheVariants.{Fixed}
-use Rattle.extents.specs.Shapes.{extent_of}
-use Rattle.extents.specs.Stored.{padded}
-use Rattle.extents.specs.ShapeLaws.{padded_more, IsStored_from}
+use Rattle.extents.proofs.Imports.{◌≡◌, ◌<◌, ◌≤◌, ◌^◌, ◌∙◌, ap, sym, length, map, take, set, arith, ◌++◌, ◌∷◌, [], length-take, length-map, map_more, take_all, All-set, Fixed, extent_of, padded, padded_more, IsStored_from}
 use Rattle.extents.proofs.rows.Extents.of_words.Goals as goal
 
 pub loop-d-preserved : goal.loop-d-preserved

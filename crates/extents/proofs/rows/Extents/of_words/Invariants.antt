@@ -1,6 +1,4 @@
-use Rattle.std.proofs.Common.{◌≡◌, ◌<◌, ◌^◌, map, take, All}
-use Rattle.extents.specs.Shapes.{extent_of}
-use Rattle.extents.specs.Stored.{padded}
+use Rattle.extents.proofs.Imports.{◌≡◌, ◌<◌, ◌^◌, map, take, All, extent_of, padded}
 use Rattle.extents.proofs.rows.Extents.of_words.Given as goal
 
 abbrev pub invariant-loop-d : goal.invariant-loop-d

@@ -1,9 +1,4 @@
-use Rattle.std.proofs.Common.{◌≡◌, ℕ, length, inl, inr, ⊎_elim, arith, rules, Iter}
-use Rattle.std.specs.Iterator.Adapters.{zip_first, zip_second}
-use Rattle.std.specs.Slice.Iter.{iter_rest}
-use Rattle.std.proofs.lemmas.Option.{slice_get_within}
-use Rattle.extents.specs.IndicesLaws.{place, same_row}
-use Rattle.extents.specs.RowLaws.{IsRowSoFar-none, row_turn, row_end, row_so_far_le, place_fits, place_is_row}
+use Rattle.extents.proofs.Imports.{◌≡◌, ℕ, length, inl, inr, ⊎_elim, arith, rules, Iter, zip_first, zip_second, iter_rest, slice_get_within, place, same_row, IsRowSoFar-none, row_turn, row_end, row_so_far_le, place_fits, place_is_row}
 use Rattle.extents.proofs.rows.Extents.row_of.Goals as goal
 
 pub loop-component-init : goal.loop-component-init

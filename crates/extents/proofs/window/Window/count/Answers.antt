@@ -1,7 +1,4 @@
-use Rattle.std.proofs.Common.{length, sym, ap, ◌∙◌, List, ℕ}
-use Rattle.extents.specs.Indices.{indices}
-use Rattle.extents.specs.Windows.{Span, rows_in}
-use Rattle.extents.specs.WindowLaws.{window_count}
+use Rattle.extents.proofs.Imports.{length, sym, ap, ◌∙◌, List, ℕ, indices, Span, rows_in, window_count}
 use Rattle.extents.proofs.window.Window.count.Goals as goal
 
 pub returns-clause-rows : goal.returns-clause-rows

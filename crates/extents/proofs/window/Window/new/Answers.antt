@@ -1,11 +1,4 @@
-use Rattle.std.proofs.Common.{◌≡◌, ◌≤◌, length, ap, ◌∙◌, sym, subst, arith, rules, List, ℕ, map, take, length-take}
-use Rattle.std.proofs.lemmas.List.{length-map, take_all}
-use Rattle.extents.specs.Indices.{product}
-use Rattle.extents.specs.IndicesLaws.{length-indices}
-use Rattle.extents.specs.Shapes.{extent_of}
-use Rattle.extents.specs.declared.words.ExtentWord.{ExtentWord}
-use Rattle.extents.specs.Windows.{Span, IsWindow, sizes}
-use Rattle.extents.specs.WindowLaws.{fixed_size, same_rank, product_le, span_ordered, fixed_extents}
+use Rattle.extents.proofs.Imports.{◌≡◌, ◌≤◌, length, ap, ◌∙◌, sym, subst, arith, rules, List, ℕ, map, take, length-take, length-map, take_all, product, length-indices, extent_of, ExtentWord, Span, IsWindow, sizes, fixed_size, same_rank, product_le, span_ordered, fixed_extents}
 use Rattle.extents.proofs.window.Window.new.Goals as goal
 
 pub push-requires : goal.push-requires

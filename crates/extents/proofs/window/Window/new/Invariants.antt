@@ -1,5 +1,4 @@
-use Rattle.std.proofs.Common.{◌≡◌, take, map}
-use Rattle.extents.specs.WindowLaws.{fixed_size}
+use Rattle.extents.proofs.Imports.{◌≡◌, take, map, fixed_size}
 use Rattle.extents.proofs.window.Window.new.Given as goal
 
 abbrev pub invariant-loop-span : goal.invariant-loop-span

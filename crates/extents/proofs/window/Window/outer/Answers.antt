@@ -1,10 +1,4 @@
-use Rattle.std.proofs.Common.{◌≡◌, length, ap, ◌∙◌, sym, subst, arith, rules, List, ℕ, Iter, inl, inr, ⊎_elim}
-use Rattle.std.specs.Prelude.{slice_get, Some}
-use Rattle.std.specs.Iterator.Adapters.{zip_first, zip_second}
-use Rattle.std.specs.Slice.Iter.{iter_rest}
-use Rattle.extents.specs.Indices.{indices, IsInside}
-use Rattle.extents.specs.Windows.{Span, rows_in, moved}
-use Rattle.extents.specs.WindowLaws.{window_count, window_row, window_once, moved_inside, inside_narrow, inside_length, moved_step, moved_whole, narrow_step, push_room}
+use Rattle.extents.proofs.Imports.{◌≡◌, length, ap, ◌∙◌, sym, subst, arith, rules, List, ℕ, Iter, inl, inr, ⊎_elim, slice_get, Some, zip_first, zip_second, iter_rest, indices, IsInside, Span, rows_in, moved, window_count, window_row, window_once, moved_inside, inside_narrow, inside_length, moved_step, moved_whole, narrow_step, push_room}
 use Rattle.extents.proofs.window.Window.outer.Goals as goal
 
 pub index_of-inner-requires : goal.index_of-inner-requires

@@ -1,8 +1,4 @@
-use Rattle.std.proofs.Common.{◌≡◌, ◌++◌}
-use Rattle.std.specs.Iterator.Adapters.{zip_first, zip_second}
-use Rattle.std.specs.Slice.Iter.{iter_rest}
-use Rattle.extents.specs.Windows.{moved}
-use Rattle.extents.specs.WindowLaws.{AreNarrow}
+use Rattle.extents.proofs.Imports.{◌≡◌, ◌++◌, zip_first, zip_second, iter_rest, moved, AreNarrow}
 use Rattle.extents.proofs.window.Window.outer.Given as goal
 
 abbrev pub invariant-loop-component : goal.invariant-loop-component

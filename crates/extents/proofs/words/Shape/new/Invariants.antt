@@ -1,4 +1,4 @@
-use Rattle.std.proofs.Common.{◌≡◌, take}
+use Rattle.extents.proofs.Imports.{◌≡◌, take}
 use Rattle.extents.proofs.words.Shape.new.Given as goal
 
 abbrev pub invariant-loop-word : goal.invariant-loop-word

@@ -1,10 +1,4 @@
-use Rattle.std.proofs.Common.{◌≡◌, ◌≢◌, ℕ, refl, ◌%◌, ◌/◌, map, sym, ap, ◌∙◌, arith, Option}
-use Rattle.std.specs.Prelude.{count_by, unwrap_or, Some, IsSomeAnd}
-use Rattle.std.specs.List.{list_any}
-use Rattle.std.proofs.lemmas.Bool.{false_from_ne_true, false≢true}
-use Rattle.extents.specs.Shapes.{is_rows, is_zero, extent_of, extents_for, fixed_product, HasRows, IsUneven, IsUnequal}
-use Rattle.extents.specs.Indices.{product}
-use Rattle.extents.specs.ShapeLaws.{same_fixed, product_fixed, product_divided, fixed_positive, settled, settled_too_many, settled_first}
+use Rattle.extents.proofs.Imports.{◌≡◌, ◌≢◌, ℕ, refl, ◌%◌, ◌/◌, map, sym, ap, ◌∙◌, arith, Option, count_by, unwrap_or, Some, IsSomeAnd, list_any, false_from_ne_true, false≢true, is_rows, is_zero, extent_of, extents_for, fixed_product, HasRows, IsUneven, IsUnequal, product, same_fixed, product_fixed, product_divided, fixed_positive, settled, settled_too_many, settled_first}
 use Rattle.extents.proofs.words.Shape.resolve.Goals as goal
 
 pub bounded-requires-clause-counted : goal.bounded-requires-clause-counted

@@ -1,7 +1,4 @@
-use Rattle.std.proofs.Common.{rules, arith, ◌≡◌, get_or, replicate, sym, ap, ◌∙◌}
-use Rattle.std.specs.Int.{div_ceil}
-use Rattle.instrument.specs.Counters.{granules_of}
-use Rattle.instrument.specs.RoundingLaws.{rounded}
+use Rattle.instrument.proofs.Imports.{rules, arith, ◌≡◌, get_or, replicate, sym, ap, ◌∙◌, div_ceil, granules_of, rounded}
 use Rattle.instrument.proofs.Warming.{made-more}
 use Rattle.instrument.proofs.heat.Heat.new.Goals as goal
 

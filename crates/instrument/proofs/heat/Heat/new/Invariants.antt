@@ -1,5 +1,4 @@
-use Rattle.std.proofs.Common.{◌≡◌, map, take, replicate}
-use Rattle.instrument.specs.Counters.{granules_of}
+use Rattle.instrument.proofs.Imports.{◌≡◌, map, take, replicate, granules_of}
 use Rattle.instrument.proofs.heat.Heat.new.Given as goal
 
 abbrev pub invariant-loop-bytes : goal.invariant-loop-bytes

@@ -1,8 +1,4 @@
-use Rattle.std.proofs.Common.{arith, ◌≡◌, ◌<◌, ℕ, true, false, [], length, get_or, sym, ap, ◌∙◌}
-use Rattle.places.specs.Touched.{is_touched}
-use Rattle.instrument.specs.Counters.{HeatCounts, heat_counts}
-use Rattle.instrument.specs.Touching.{warmed_at}
-use Rattle.instrument.specs.WarmingLaws.{length-warmed, length-heated}
+use Rattle.instrument.proofs.Imports.{arith, ◌≡◌, ◌<◌, ℕ, true, false, [], length, get_or, sym, ap, ◌∙◌, is_touched, HeatCounts, heat_counts, warmed_at, length-warmed, length-heated}
 use Rattle.instrument.proofs.Touches.{is_anew, heated_until, until-start, until-touched, until-more, until-end}
 use Rattle.instrument.proofs.heat.Heat.touch_piece.Goals as goal
 use Rattle.instrument.proofs.heat.Heat.touch_piece.Goals.{then-not-is_touched, else-not-is_touched}

@@ -1,5 +1,4 @@
-use Rattle.std.proofs.Common.{◌≡◌}
-use Rattle.instrument.specs.Counters.{heat_counts}
+use Rattle.instrument.proofs.Imports.{◌≡◌, heat_counts}
 use Rattle.instrument.proofs.Touches.{heated_until}
 use Rattle.instrument.proofs.heat.Heat.touch_piece.Given as goal
 

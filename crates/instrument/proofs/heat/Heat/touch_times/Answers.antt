@@ -1,11 +1,5 @@
-use Rattle.std.proofs.Common.{arith, ◌<◌, List, length, get_or, take, sym, ap, subst, ◌∙◌}
-use Rattle.std.proofs.lemmas.List.{take_all, get_or_default}
-use Rattle.std.proofs.lemmas.List.Elements.{All-get_or}
-use Rattle.instrument.specs.Counters.{HeatCounts, heat_counts, heated_times, IsCounted}
-use Rattle.instrument.specs.Touching.{heated_besides}
-use Rattle.places.specs.declared.piece.Piece.{Piece}
+use Rattle.instrument.proofs.Imports.{arith, ◌<◌, List, length, get_or, take, sym, ap, subst, ◌∙◌, take_all, get_or_default, All-get_or, HeatCounts, heat_counts, heated_times, IsCounted, heated_besides, Piece, counted_kept}
 use Rattle.instrument.proofs.Touches.{heated-none, heated-more}
-use Rattle.instrument.specs.WarmingLaws.{counted_kept}
 use Rattle.instrument.proofs.heat.Heat.touch_times.Goals as goal
 
 pub loop-at-init : goal.loop-at-init

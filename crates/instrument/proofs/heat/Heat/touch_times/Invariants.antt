@@ -1,5 +1,4 @@
-use Rattle.std.proofs.Common.{◌≡◌, take}
-use Rattle.instrument.specs.Counters.{heat_counts, heated_times}
+use Rattle.instrument.proofs.Imports.{◌≡◌, take, heat_counts, heated_times}
 use Rattle.instrument.proofs.heat.Heat.touch_times.Given as goal
 
 abbrev pub invariant-loop-at : goal.invariant-loop-at

@@ -1,5 +1,4 @@
-use Rattle.std.proofs.Common.{ℕ, List, ap, refl}
-use Rattle.instrument.specs.Counters.{heat_counts}
+use Rattle.instrument.proofs.Imports.{ℕ, List, ap, refl, heat_counts}
 use Rattle.instrument.proofs.Touches.{written}
 use Rattle.instrument.proofs.heat.Heat.warm.Goals as goal
 

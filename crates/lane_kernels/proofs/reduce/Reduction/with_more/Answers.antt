@@ -1,7 +1,4 @@
-use Rattle.std.proofs.Common.{◌≡◌, Some}
-use Rattle.std.specs.Int.{int_min, int_max}
-use Rattle.std.specs.List.{slice_get}
-use Rattle.std.specs.Option.{option_or}
+use Rattle.lane_kernels.proofs.Imports.{◌≡◌, Some, int_min, int_max, slice_get, option_or}
 use Rattle.lane_kernels.proofs.Reductions.{extreme_given, same_min, same_max}
 use Rattle.lane_kernels.proofs.reduce.Reduction.with_more.Goals as goal
 

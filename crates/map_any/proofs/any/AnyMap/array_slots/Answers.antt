@@ -1,12 +1,4 @@
-use Rattle.std.proofs.Common.{◌≡◌, ◌<◌, ℕ, length, Some, ◌∙◌, subst, sym, arith, rules}
-use Rattle.std.specs.Prelude.{Option, IfSome}
-use Rattle.extents.specs.declared.order.Order.{Order}
-use Rattle.record_dim.specs.Leaves.{kinds_of, leaves, Leaf}
-use Rattle.record_dim.specs.Schemas.{schema_fields}
-use Rattle.std.proofs.lemmas.List.{length-map}
-use Rattle.map_expr.specs.Terms.{term_of}
-use Rattle.map_checks.specs.Mappings.{leaf_cells}
-use Rattle.map_checks.specs.Arrays.{array_of, lanes_in}
+use Rattle.map_any.proofs.Imports.{◌≡◌, ◌<◌, ℕ, length, Some, ◌∙◌, subst, sym, arith, rules, Option, IfSome, Order, kinds_of, leaves, Leaf, schema_fields, length-map, term_of, leaf_cells, array_of, lanes_in}
 use Rattle.map_any.proofs.ArrayLaws.{few_slots}
 use Rattle.map_any.proofs.EvenLaws.{blocks_have_lanes, lanes_or}
 use Rattle.map_any.proofs.any.AnyMap.array_slots.Goals as goal

@@ -1,12 +1,4 @@
-use Rattle.std.proofs.Common.{◌≡◌, ℕ, ◌+◌, ◌*◌, ◌<◌, ◌∙◌, List, [], length, get_or, replicate, sym, ap, subst, arith}
-use Rattle.std.proofs.lemmas.List.{with_items_is}
-use Rattle.places.specs.Layout.{Owner}
-use Rattle.places.specs.declared.piece.RunOwner.{RunOwner}
-use Rattle.places.specs.declared.piece.RunOwner.TheVariants.{Pad}
-use Rattle.record_dim.specs.Leaves.{kinds_of}
-use Rattle.record_dim.specs.Schemas.{schema_fields}
-use Rattle.map_any.specs.Filling.{IsFilled, Show}
-use Rattle.map_checks.specs.Mappings.{leaf_cells}
+use Rattle.map_any.proofs.Imports.{◌≡◌, ℕ, ◌+◌, ◌*◌, ◌<◌, ◌∙◌, List, [], length, get_or, replicate, sym, ap, subst, arith, with_items_is, Owner, RunOwner, Pad, kinds_of, schema_fields, IsFilled, Show, leaf_cells}
 use Rattle.map_any.proofs.Filling.{layout_in, laid_in, leaf_in, filled_self, filled_twice, filled_all, shows_more}
 use Rattle.map_any.proofs.any.AnyMap.bit_owners.Goals as goal
 use Rattle.map_any.proofs.any.AnyMap.bit_owners.Goals.{then-lies_in, else-lies_in}

@@ -1,6 +1,5 @@
 -- the leaves so far are shown
-use Rattle.std.proofs.Common.{ℕ, ◌<◌}
-use Rattle.map_any.specs.Filling.{IsFilled, Show}
+use Rattle.map_any.proofs.Imports.{ℕ, ◌<◌, IsFilled, Show}
 use Rattle.map_any.proofs.Filling.{layout_in}
 use Rattle.map_any.proofs.any.AnyMap.bit_owners.Given as goal
 

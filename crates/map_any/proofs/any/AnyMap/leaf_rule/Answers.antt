@@ -1,13 +1,4 @@
-use Rattle.std.proofs.Common.{◌≡◌, ◌<◌, ◌∙◌, ℕ, List, length, get_or, refl, sym, ap, subst, arith}
-use Rattle.record_dim.specs.Schemas.{schema_fields}
-use Rattle.record_dim.specs.Leaves.{kinds_of}
-use Rattle.map_expr.specs.Terms.{term_of}
-use Rattle.map_any.specs.declared.any.AnyMap.{AnyMap}
-use Rattle.map_any.specs.declared.leaf_rule.LeafRule.{LeafRule}
-use Rattle.map_any.specs.AnyLaws.{length-leaf_cells}
-use Rattle.map_any.specs.LeafRules.{IsWideIn}
-use Rattle.map_checks.specs.Mappings.{leaf_cells, layout_by}
-use Rattle.piece_bits.specs.Walks.{leads}
+use Rattle.map_any.proofs.Imports.{◌≡◌, ◌<◌, ◌∙◌, ℕ, List, length, get_or, refl, sym, ap, subst, arith, schema_fields, kinds_of, term_of, AnyMap, LeafRule, length-leaf_cells, IsWideIn, leaf_cells, layout_by, leads}
 use Rattle.map_any.proofs.ArrayLaws.{leaf_array}
 use Rattle.map_any.proofs.LeafLaws.{leaf_placed, leaf_whole}
 use Rattle.map_any.proofs.any.AnyMap.leaf_rule.Goals as goal

@@ -1,12 +1,4 @@
-use Rattle.std.proofs.Common.{ℕ, ◌≡◌, ◌<◌, List, map, length, All, subst, arith}
-use Rattle.std.proofs.lemmas.List.Elements.{All-map}
-use Rattle.extents.specs.Indices.{indices}
-use Rattle.linearize.specs.Slots.{slot_at}
-use Rattle.places.specs.declared.piece.Hold.{Hold}
-use Rattle.places.specs.declared.piece.Piece.{Piece}
-use Rattle.places.specs.PieceRules.{piece_in}
-use Rattle.places.specs.declared.rule.PieceRule.{PieceRule}
-use Rattle.map_checks.specs.Ruled.{pieces_of}
+use Rattle.map_any.proofs.Imports.{ℕ, ◌≡◌, ◌<◌, List, map, length, All, subst, arith, All-map, indices, slot_at, Hold, Piece, piece_in, PieceRule, pieces_of}
 use Rattle.map_any.proofs.Filling.{layout_in, width_in, laid_in, not_here}
 use Rattle.map_any.proofs.any.AnyMap.lies_in.Goals as goal
 

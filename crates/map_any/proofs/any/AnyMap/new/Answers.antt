@@ -1,18 +1,4 @@
-use Rattle.std.proofs.Common.{◌≡◌, ◌∙◌, ℕ, List, Ok, false, map, length, refl, ap, subst, sym}
-use Rattle.record_dim.specs.Schemas.{schema_fields}
-use Rattle.record_dim.specs.Leaves.{kinds_of}
-use Rattle.record_dim.specs.Trees.{Fields}
-use Rattle.places.specs.declared.piece.Cell.{Cell}
-use Rattle.places.specs.declared.piece.Hold.{Hold}
-use Rattle.map_expr.specs.Terms.{Term, term_of}
-use Rattle.map_expr.specs.Checks.{bad_number}
-use Rattle.map_checks.specs.Mappings.{leaf_cells, layout_by, accepted, not_full, IsBuiltTerm}
-use Rattle.map_any.specs.Counters.{is_counted}
-use Rattle.map_any.specs.LeafRules.{AreLeafRules, IsWideIn}
-use Rattle.map_checks.specs.Arrays.{HasArrays}
-use Rattle.map_checks.specs.Ruled.{EachWith, IsRuled}
-use Rattle.map_checks.specs.declared.rule.Rule.{Rule}
-use Rattle.map_checks.specs.Plans.{IsPlanOf}
+use Rattle.map_any.proofs.Imports.{◌≡◌, ◌∙◌, ℕ, List, Ok, false, map, length, refl, ap, subst, sym, schema_fields, kinds_of, Fields, Cell, Hold, Term, term_of, bad_number, leaf_cells, layout_by, accepted, not_full, IsBuiltTerm, is_counted, AreLeafRules, IsWideIn, HasArrays, EachWith, IsRuled, Rule, IsPlanOf}
 use Rattle.map_any.proofs.ArrayLaws.{leaves_arrays}
 use Rattle.map_any.proofs.LeafLaws.{leaves_ruled, whole_holds, whole_rules}
 use Rattle.map_any.proofs.Built.{good_parts, good_number}

@@ -1,15 +1,4 @@
-use Rattle.std.proofs.Common.{ℕ, ◌≡◌, ◌<◌, ◌≤◌, ◌∙◌, List, [], ◌∷◌, length, map, get_or, slice_index, sym, ap, subst, arith}
-use Rattle.record_dim.specs.Schemas.{schema_fields}
-use Rattle.places.specs.Layout.{Owner}
-use Rattle.places.specs.Laws.{IsLocated}
-use Rattle.places.specs.declared.piece.Hold.{Hold}
-use Rattle.places.specs.declared.piece.Piece.{Piece}
-use Rattle.places.specs.BeginsLaws.{begins_fit}
-use Rattle.places.specs.declared.rule.PieceRule.{PieceRule}
-use Rattle.places.specs.PieceRules.{pieces_in}
-use Rattle.map_expr.specs.Terms.{term_of}
-use Rattle.map_any.specs.declared.any.AnyMap.{AnyMap}
-use Rattle.map_checks.specs.Mappings.{layout_by}
+use Rattle.map_any.proofs.Imports.{ℕ, ◌≡◌, ◌<◌, ◌≤◌, ◌∙◌, List, [], ◌∷◌, length, map, get_or, slice_index, sym, ap, subst, arith, schema_fields, Owner, IsLocated, Hold, Piece, begins_fit, PieceRule, pieces_in, term_of, AnyMap, layout_by}
 use Rattle.map_any.proofs.CellFacts.{rule_located}
 use Rattle.map_any.proofs.any.AnyMap.piece.Goals as goal
 use Rattle.map_any.proofs.any.AnyMap.piece.Goals.{After-slot_of_row}

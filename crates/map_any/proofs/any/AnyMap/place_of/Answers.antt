@@ -1,11 +1,4 @@
-use Rattle.std.proofs.Common.{◌≡◌, ◌<◌, ◌∙◌, ◌^◌, ◌/◌, List, get_or, sym, ap, subst}
-use Rattle.record_dim.specs.Leaves.{kinds_of}
-use Rattle.record_dim.specs.Schemas.{schema_fields}
-use Rattle.places.specs.declared.piece.Piece.{Piece}
-use Rattle.places.specs.PieceRules.{begin_in}
-use Rattle.places.specs.declared.rule.PieceRule.{PieceRule}
-use Rattle.map_expr.specs.Terms.{term_of}
-use Rattle.map_checks.specs.Mappings.{leaf_cells}
+use Rattle.map_any.proofs.Imports.{◌≡◌, ◌<◌, ◌∙◌, ◌^◌, ◌/◌, List, get_or, sym, ap, subst, kinds_of, schema_fields, Piece, begin_in, PieceRule, term_of, leaf_cells}
 use Rattle.map_any.proofs.ArrayLaws.{piece_fits, array_place}
 use Rattle.map_any.proofs.any.AnyMap.place_of.Goals as goal
 use Rattle.map_any.proofs.any.AnyMap.place_of.Goals.{After-index-as_slice-0}

@@ -1,11 +1,4 @@
-use Rattle.std.proofs.Common.{rules, ◌≡◌, ◌<◌, ◌∙◌, ◌*◌, ◌^◌, ◌/◌, ◌%◌, ℕ, get_or, sym, ap, subst, arith}
-use Rattle.record_dim.specs.Leaves.{kinds_of}
-use Rattle.record_dim.specs.Schemas.{schema_fields}
-use Rattle.places.specs.declared.piece.Piece.{Piece}
-use Rattle.places.specs.PieceRules.{begin_in}
-use Rattle.places.specs.declared.rule.PieceRule.{PieceRule}
-use Rattle.map_expr.specs.Terms.{term_of}
-use Rattle.map_checks.specs.Mappings.{leaf_cells}
+use Rattle.map_any.proofs.Imports.{rules, ◌≡◌, ◌<◌, ◌∙◌, ◌*◌, ◌^◌, ◌/◌, ◌%◌, ℕ, get_or, sym, ap, subst, arith, kinds_of, schema_fields, Piece, begin_in, PieceRule, term_of, leaf_cells}
 use Rattle.map_any.proofs.ArrayLaws.{piece_fits}
 use Rattle.map_any.proofs.EvenLaws.{array_places}
 use Rattle.map_any.proofs.any.AnyMap.places_of.Goals as goal

@@ -1,9 +1,4 @@
-use Rattle.std.proofs.Common.{◌≡◌, List, get_or, [], ap, ◌∙◌, subst}
-use Rattle.std.specs.Prelude.{IfOk}
-use Rattle.places.specs.declared.piece.Run.{Run}
-use Rattle.places.specs.declared.piece.RunOwner.{RunOwner}
-use Rattle.map_any.specs.Filling.{runs_along}
-use Rattle.map_any.specs.Runs.{runs_of}
+use Rattle.map_any.proofs.Imports.{◌≡◌, List, get_or, [], ap, ◌∙◌, subst, IfOk, Run, RunOwner, runs_along, runs_of}
 use Rattle.map_any.proofs.Filling.{layout_in}
 use Rattle.map_any.proofs.RunLaws.{runs_shown}
 use Rattle.map_any.proofs.any.AnyMap.runs.Goals as goal

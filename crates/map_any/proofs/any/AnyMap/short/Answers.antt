@@ -1,11 +1,4 @@
-use Rattle.std.proofs.Common.{ℕ, sym, subst}
-use Rattle.record_dim.specs.Schemas.{schema_fields}
-use Rattle.record_dim.specs.Leaves.{kinds_of}
-use Rattle.map_expr.specs.Terms.{term_of}
-use Rattle.map_checks.specs.LeafCells.{leaf_cells_kinds}
-use Rattle.map_checks.specs.Mappings.{layout_by}
-use Rattle.piece_bits.specs.Wides.{IsWide}
-use Rattle.map_any.specs.declared.leaf_rule.LeafRule.{LeafRule}
+use Rattle.map_any.proofs.Imports.{ℕ, sym, subst, schema_fields, kinds_of, term_of, leaf_cells_kinds, layout_by, IsWide, LeafRule}
 use Rattle.map_any.proofs.AnyFacts.{bytes_of}
 use Rattle.map_any.proofs.LeafLaws.{leaf_short, short_uncounted}
 use Rattle.map_any.proofs.any.AnyMap.short.Goals as goal

@@ -1,14 +1,4 @@
-use Rattle.std.proofs.Common.{◌≡◌, ℕ, ◌+◌, ◌-◌, ◌<◌, ◌≤◌, List, [], ◌∷◌, map, length, get_or, drop, sym, ap, ◌∙◌, subst, arith}
-use Rattle.std.specs.List.{flat_map, range_with_len}
-use Rattle.std.proofs.lemmas.List.{drop_more, drop_all}
-use Rattle.extents.specs.Indices.{indices}
-use Rattle.places.specs.Layout.{Owner, Bit}
-use Rattle.places.specs.Laws.{owners_in, IsLaidOut}
-use Rattle.places.specs.PlacesLaws.{spells_split, bits_located}
-use Rattle.places.specs.declared.piece.Hold.{Hold}
-use Rattle.places.specs.declared.piece.Piece.{Piece}
-use Rattle.places.specs.declared.piece.RunOwner.{RunOwner}
-use Rattle.map_any.specs.Filling.{IsFilled, IsShown, ShowBelow}
+use Rattle.map_any.proofs.Imports.{◌≡◌, ℕ, ◌+◌, ◌-◌, ◌<◌, ◌≤◌, List, [], ◌∷◌, map, length, get_or, drop, sym, ap, ◌∙◌, subst, arith, flat_map, range_with_len, drop_more, drop_all, indices, Owner, Bit, owners_in, IsLaidOut, spells_split, bits_located, Hold, Piece, RunOwner, IsFilled, IsShown, ShowBelow}
 use Rattle.map_any.proofs.Filling.{layout_in, width_in, laid_in, narrow_in, filled_self, filled_twice, piece_filled, shows_piece, shows_other, shows_all}
 use Rattle.map_any.proofs.any.AnyMap.show_cell.Goals as goal
 use Rattle.map_any.proofs.any.AnyMap.show_cell.Goals.{then-piece-blob, else-piece-blob}

@@ -1,9 +1,5 @@
 -- the pieces that are left spell the bits that are left, and the bits before them are shown
-use Rattle.std.proofs.Common.{◌≡◌, ◌-◌, ◌≤◌, drop, map}
-use Rattle.std.specs.List.{flat_map, range_with_len}
-use Rattle.places.specs.Layout.{Bit}
-use Rattle.places.specs.Laws.{owners_in}
-use Rattle.map_any.specs.Filling.{IsFilled, ShowBelow}
+use Rattle.map_any.proofs.Imports.{◌≡◌, ◌-◌, ◌≤◌, drop, map, flat_map, range_with_len, Bit, owners_in, IsFilled, ShowBelow}
 use Rattle.map_any.proofs.Filling.{layout_in, width_in}
 use Rattle.map_any.proofs.any.AnyMap.show_cell.Given as goal
 

@@ -1,5 +1,4 @@
-use Rattle.std.proofs.Common.{◌<◌, length, arith}
-use Rattle.extents.specs.Indices.{indices}
+use Rattle.map_any.proofs.Imports.{◌<◌, length, arith, indices}
 use Rattle.map_any.proofs.Filling.{laid_in}
 use Rattle.map_any.proofs.any.AnyMap.show_leaf.Goals as goal
 

@@ -1,6 +1,5 @@
 -- the rows so far are shown
-use Rattle.std.proofs.Common.{ℕ, ◌<◌}
-use Rattle.map_any.specs.Filling.{IsFilled, Show}
+use Rattle.map_any.proofs.Imports.{ℕ, ◌<◌, IsFilled, Show}
 use Rattle.map_any.proofs.Filling.{layout_in}
 use Rattle.map_any.proofs.any.AnyMap.show_leaf.Given as goal
 

@@ -1,7 +1,4 @@
-use Rattle.std.proofs.Common.{rules}
-use Rattle.record_dim.specs.Schemas.{schema_fields}
-use Rattle.record_dim.specs.Leaves.{kinds_of}
-use Rattle.map_checks.specs.LeafCells.{leaf_cells_kinds}
+use Rattle.map_any.proofs.Imports.{rules, schema_fields, kinds_of, leaf_cells_kinds}
 use Rattle.map_any.proofs.any.AnyMap.takes.Goals as goal
 
 pub returns-then-rule-near-clause-declared : goal.returns-then-rule-near-clause-declared

@@ -1,8 +1,4 @@
-use Rattle.std.proofs.Common.{◌∙◌, sym}
-use Rattle.std.proofs.lemmas.List.{length-map}
-use Rattle.record_dim.specs.Schemas.{schema_fields}
-use Rattle.record_dim.specs.Leaves.{Leaf, leaves, kinds_of}
-use Rattle.map_any.specs.AnyLaws.{length-leaf_cells}
+use Rattle.map_any.proofs.Imports.{◌∙◌, sym, length-map, schema_fields, Leaf, leaves, kinds_of, length-leaf_cells}
 use Rattle.map_any.proofs.any_map.AnyMapMapping.cells.Goals as goal
 
 pub returns : goal.returns

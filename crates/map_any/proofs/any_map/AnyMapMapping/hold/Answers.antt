@@ -1,12 +1,5 @@
-use Rattle.std.proofs.Common.{ℕ, ◌≡◌, ◌<◌, ◌∙◌, List, length, slice_get, sym, ap, subst, arith}
-use Rattle.std.proofs.lemmas.Option.{slice_get-get_or}
-use Rattle.record_dim.specs.Schemas.{schema_fields}
-use Rattle.record_dim.specs.Leaves.{kinds_of}
-use Rattle.places.specs.declared.piece.Hold.{Hold}
-use Rattle.map_expr.specs.Terms.{term_of}
+use Rattle.map_any.proofs.Imports.{ℕ, ◌≡◌, ◌<◌, ◌∙◌, List, length, slice_get, sym, ap, subst, arith, slice_get-get_or, schema_fields, kinds_of, Hold, term_of, AnyMap, leaf_cells}
 use Rattle.map_any.proofs.AnyFacts.{hold_in}
-use Rattle.map_any.specs.declared.any.AnyMap.{AnyMap}
-use Rattle.map_checks.specs.Mappings.{leaf_cells}
 use Rattle.map_any.proofs.any_map.AnyMapMapping.hold.Goals as goal
 
 inside : (m : AnyMap) (holds : List Hold) (cell : ℕ) → holds ≡ m.holds → cell < length (leaf_cells (kinds_of (schema_fields m.schema))) → cell < length holds

@@ -1,11 +1,4 @@
-use Rattle.std.proofs.Common.{◌≡◌, ◌∙◌, ◌<◌, List, length, slice_get, ap, arith}
-use Rattle.std.proofs.lemmas.List.{length-map}
-use Rattle.record_dim.specs.Schemas.{schema_fields}
-use Rattle.record_dim.specs.Leaves.{Leaf, leaves, kinds_of}
-use Rattle.record_dim.specs.declared.leaf_type.LeafType.{LeafType}
-use Rattle.map_checks.specs.Mappings.{leaf_cells}
-use Rattle.map_any.specs.AnyLaws.{length-leaf_cells}
-use Rattle.map_checks.specs.LeafCells.{leaf_cells_kinds}
+use Rattle.map_any.proofs.Imports.{◌≡◌, ◌∙◌, ◌<◌, List, length, slice_get, ap, arith, length-map, schema_fields, Leaf, leaves, kinds_of, LeafType, leaf_cells, length-leaf_cells, leaf_cells_kinds}
 use Rattle.map_any.proofs.any_map.AnyMapMapping.kind.Goals as goal
 
 pub leaf_type-requires : goal.leaf_type-requires

@@ -1,11 +1,4 @@
-use Rattle.std.proofs.Common.{◌≡◌, ◌∙◌, List, Ok, false, sym, ap, subst}
-use Rattle.record_dim.specs.Schemas.{schema_fields}
-use Rattle.record_dim.specs.Trees.{Fields}
-use Rattle.places.specs.declared.piece.Cell.{Cell}
-use Rattle.map_expr.specs.Terms.{Term, term_of}
-use Rattle.map_expr.specs.Checks.{bad_number}
-use Rattle.map_checks.specs.Mappings.{accepted, not_full, IsBuiltTerm}
-use Rattle.map_checks.specs.Plans.{IsPlanOf}
+use Rattle.map_any.proofs.Imports.{◌≡◌, ◌∙◌, List, Ok, false, sym, ap, subst, schema_fields, Fields, Cell, Term, term_of, bad_number, accepted, not_full, IsBuiltTerm, IsPlanOf}
 use Rattle.map_any.proofs.Built.{good_parts, good_number}
 use Rattle.map_any.proofs.cell_map.CellMap.new.Goals as goal
 

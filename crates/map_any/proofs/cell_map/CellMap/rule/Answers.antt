@@ -1,8 +1,4 @@
-use Rattle.std.proofs.Common.{◌≡◌, ◌<◌, ◌∙◌, ℕ, List, length, get_or, ap, arith}
-use Rattle.record_dim.specs.Schemas.{schema_fields}
-use Rattle.map_expr.specs.Terms.{term_of}
-use Rattle.map_checks.specs.declared.rule.Rule.{Rule}
-use Rattle.map_any.specs.declared.cell_map.CellMap.{CellMap}
+use Rattle.map_any.proofs.Imports.{◌≡◌, ◌<◌, ◌∙◌, ℕ, List, length, get_or, ap, arith, schema_fields, term_of, Rule, CellMap}
 use Rattle.map_any.proofs.CellFacts.{has_rule, rule_in}
 use Rattle.map_any.proofs.cell_map.CellMap.rule.Goals as goal
 

@@ -1,7 +1,4 @@
-use Rattle.std.proofs.Common.{◌*◌, ◌∙◌, ℕ, List, get_or, ap}
-use Rattle.record_dim.specs.Schemas.{schema_fields}
-use Rattle.map_expr.specs.Terms.{term_of}
-use Rattle.map_checks.specs.Mappings.{layout_of}
+use Rattle.map_any.proofs.Imports.{◌*◌, ◌∙◌, ℕ, List, get_or, ap, schema_fields, term_of, layout_of}
 use Rattle.map_any.proofs.AnyFacts.{bytes_at}
 use Rattle.map_any.proofs.cell_map.CellMapMapping.blob_bytes.Goals as goal
 

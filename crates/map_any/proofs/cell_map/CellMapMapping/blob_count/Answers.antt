@@ -1,7 +1,4 @@
-use Rattle.std.proofs.Common.{◌∙◌}
-use Rattle.record_dim.specs.Schemas.{schema_fields}
-use Rattle.map_expr.specs.Terms.{term_of}
-use Rattle.map_checks.specs.Mappings.{layout_of}
+use Rattle.map_any.proofs.Imports.{◌∙◌, schema_fields, term_of, layout_of}
 use Rattle.map_any.proofs.AnyFacts.{length-sized}
 use Rattle.map_any.proofs.cell_map.CellMapMapping.blob_count.Goals as goal
 

@@ -1,8 +1,4 @@
-use Rattle.std.proofs.Common.{◌≡◌, ◌<◌, ◌∙◌, List, length, slice_get, sym, ap, arith}
-use Rattle.record_dim.specs.Schemas.{schema_fields}
-use Rattle.places.specs.declared.piece.Hold.{Hold}
-use Rattle.map_expr.specs.Terms.{term_of}
-use Rattle.map_any.specs.AnyLaws.{cell_holds}
+use Rattle.map_any.proofs.Imports.{◌≡◌, ◌<◌, ◌∙◌, List, length, slice_get, sym, ap, arith, schema_fields, Hold, term_of, cell_holds}
 use Rattle.map_any.proofs.cell_map.CellMapMapping.hold.Goals as goal
 
 pub hold_at-requires : goal.hold_at-requires

@@ -1,11 +1,4 @@
-use Rattle.std.proofs.Common.{List, map, slice_index, sym, subst}
-use Rattle.record_dim.specs.Schemas.{schema_fields}
-use Rattle.places.specs.Layout.{Owner}
-use Rattle.places.specs.Laws.{IsLocated}
-use Rattle.places.specs.declared.piece.Hold.{Hold}
-use Rattle.places.specs.declared.piece.Piece.{Piece}
-use Rattle.map_expr.specs.Terms.{term_of}
-use Rattle.map_checks.specs.Mappings.{layout_of}
+use Rattle.map_any.proofs.Imports.{List, map, slice_index, sym, subst, schema_fields, Owner, IsLocated, Hold, Piece, term_of, layout_of}
 use Rattle.map_any.proofs.CellFacts.{rule_located, rule_begins}
 use Rattle.map_any.proofs.cell_map.CellMapMapping.locate.Goals as goal
 

@@ -1,10 +1,4 @@
-use Rattle.std.proofs.Common.{◌≡◌, ◌<◌, ◌^◌, ℕ, List, length, Err, subst, ◌∙◌, rules}
-use Rattle.std.specs.Result.{IsErrOf}
-use Rattle.places.specs.Holds.{widths_of}
-use Rattle.places.specs.declared.piece.Cell.{Cell}
-use Rattle.places.specs.declared.mapping.NewMapping.TheVariants.{TooBig}
-use Rattle.map_aos.specs.declared.part.Part.{Part}
-use Rattle.map_aos.specs.Aos.{IsStored, part_of}
+use Rattle.map_aos.proofs.Imports.{◌≡◌, ◌<◌, ◌^◌, ℕ, List, length, Err, subst, ◌∙◌, rules, IsErrOf, widths_of, Cell, TooBig, Part, IsStored, part_of}
 use Rattle.map_aos.proofs.Blob.{big_part, big_blob, not_too_big}
 use Rattle.map_aos.proofs.aos.Aos.new.Goals as goal
 

@@ -1,4 +1,4 @@
-use Rattle.std.proofs.Common.{◌<◌, arith}
+use Rattle.map_aos.proofs.Imports.{◌<◌, arith}
 use Rattle.map_aos.proofs.Blob.{offset_fits}
 use Rattle.map_aos.proofs.aos.Aos.offset.Goals as goal
 

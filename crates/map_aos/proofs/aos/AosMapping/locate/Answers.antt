@@ -1,10 +1,4 @@
-use Rattle.std.proofs.Common.{ℕ, ◌<◌, List, [], ◌∷◌, map, slice_index, sym, subst, arith}
-use Rattle.places.specs.Holds.{widths_of, full_holds}
-use Rattle.places.specs.Laws.{IsLocated}
-use Rattle.places.specs.declared.piece.Hold.{Hold}
-use Rattle.places.specs.declared.piece.Piece.{Piece}
-use Rattle.places.specs.Forms.{aos_layout}
-use Rattle.places.specs.BeginsLaws.{begins_fit}
+use Rattle.map_aos.proofs.Imports.{ℕ, ◌<◌, List, [], ◌∷◌, map, slice_index, sym, subst, arith, widths_of, full_holds, IsLocated, Hold, Piece, aos_layout, begins_fit}
 use Rattle.map_aos.proofs.aos.AosMapping.locate.Goals as goal
 
 pub pieces-requires : goal.pieces-requires

@@ -1,8 +1,5 @@
-use Rattle.std.proofs.Common.{◌≡◌, ℕ, ◌+◌, ◌*◌, ◌<◌, refl, sym, ap, ◌∙◌, arith}
-use Rattle.places.specs.CellWidthsLaws.{cell_width, width_read}
-use Rattle.places.specs.BeginsLaws.{one_lane}
+use Rattle.map_aos.proofs.Imports.{◌≡◌, ℕ, ◌+◌, ◌*◌, ◌<◌, refl, sym, ap, ◌∙◌, arith, cell_width, width_read, one_lane, not_dense}
 use Rattle.map_aos.proofs.Blob.{located_is}
-use Rattle.places.specs.DenseLaws.{not_dense}
 use Rattle.map_aos.proofs.aos.AosRuled.rule.Goals as goal
 
 pub returns-clause-places : goal.returns-clause-places

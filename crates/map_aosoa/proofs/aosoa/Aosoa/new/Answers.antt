@@ -1,11 +1,4 @@
-use Rattle.std.proofs.Common.{◌≡◌, ℕ, ◌*◌, ◌^◌, ◌<◌, ◌≤◌, List, Err, subst, ◌∙◌, rules}
-use Rattle.std.specs.Result.{IsErrOf}
-use Rattle.std.specs.List.{sum}
-use Rattle.places.specs.Holds.{widths_of}
-use Rattle.places.specs.declared.piece.Cell.{Cell}
-use Rattle.places.specs.declared.mapping.NewMapping.TheVariants.{TooBig}
-use Rattle.map_aosoa.specs.declared.block.Block.{Block}
-use Rattle.map_aosoa.specs.Aosoa.{IsStored, block_count}
+use Rattle.map_aosoa.proofs.Imports.{◌≡◌, ℕ, ◌*◌, ◌^◌, ◌<◌, ◌≤◌, List, Err, subst, ◌∙◌, rules, IsErrOf, sum, widths_of, Cell, TooBig, Block, IsStored, block_count}
 use Rattle.map_aosoa.proofs.Blob.{big_block, big_blob, not_too_big, none_fits}
 use Rattle.map_aosoa.proofs.aosoa.Aosoa.new.Goals as goal
 

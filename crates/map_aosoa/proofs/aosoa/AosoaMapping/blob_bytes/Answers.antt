@@ -1,4 +1,4 @@
-use Rattle.std.proofs.Common.{ℕ, ◌*◌, ◌/◌, ap, ◌∙◌}
+use Rattle.map_aosoa.proofs.Imports.{ℕ, ◌*◌, ◌/◌, ap, ◌∙◌}
 use Rattle.map_aosoa.proofs.Blob.{blob_bytes_is}
 use Rattle.map_aosoa.proofs.aosoa.AosoaMapping.blob_bytes.Goals as goal
 

@@ -1,10 +1,4 @@
-use Rattle.std.proofs.Common.{ℕ, ◌<◌, List, [], ◌∷◌, map, slice_index, sym, subst, arith}
-use Rattle.places.specs.Holds.{widths_of, full_holds}
-use Rattle.places.specs.Laws.{IsLocated}
-use Rattle.places.specs.declared.piece.Hold.{Hold}
-use Rattle.places.specs.declared.piece.Piece.{Piece}
-use Rattle.places.specs.Layout.{aosoa}
-use Rattle.places.specs.BeginsLaws.{begins_fit}
+use Rattle.map_aosoa.proofs.Imports.{ℕ, ◌<◌, List, [], ◌∷◌, map, slice_index, sym, subst, arith, widths_of, full_holds, IsLocated, Hold, Piece, aosoa, begins_fit}
 use Rattle.map_aosoa.proofs.aosoa.AosoaMapping.locate.Goals as goal
 
 pub pieces-requires : goal.pieces-requires

@@ -1,9 +1,4 @@
-use Rattle.std.proofs.Common.{◌≡◌, ℕ, ◌+◌, ◌*◌, ◌/◌, ◌%◌, ◌<◌, length, get_or, refl, sym, ap, ◌∙◌, arith}
-use Rattle.std.proofs.lemmas.List.{get_or_default}
-use Rattle.places.specs.Holds.{widths_of}
-use Rattle.places.specs.CellWidthsLaws.{length-widths, cell_width, width_read}
-use Rattle.places.specs.WidthsLaws.{width_whole}
-use Rattle.places.specs.DenseLaws.{dense_lanes}
+use Rattle.map_aosoa.proofs.Imports.{◌≡◌, ℕ, ◌+◌, ◌*◌, ◌/◌, ◌%◌, ◌<◌, length, get_or, refl, sym, ap, ◌∙◌, arith, get_or_default, widths_of, length-widths, cell_width, width_read, width_whole, dense_lanes}
 use Rattle.map_aosoa.proofs.Blob.{located_is}
 use Rattle.map_aosoa.proofs.aosoa.AosoaRuled.rule.Goals as goal
 

@@ -1,13 +1,4 @@
-use Rattle.std.proofs.Common.{◌≡◌, ℕ, ◌*◌, ◌^◌, ◌<◌, ◌≤◌, List, Err, false, ap, subst, ◌∙◌, arith, rules}
-use Rattle.std.specs.Result.{IsErrOf}
-use Rattle.std.specs.List.{sum}
-use Rattle.places.specs.StackedLaws.{up}
-use Rattle.places.specs.declared.piece.Hold.{Hold}
-use Rattle.places.specs.declared.mapping.NewMapping.TheVariants.{TooBig}
-use Rattle.places.specs.Holds.{narrow_holds, widths_in}
-use Rattle.map_bits.specs.declared.part.Part.{Part}
-use Rattle.map_bits.specs.Bits.{IsStored, has_bad_width}
-use Rattle.map_bits.specs.NarrowLaws.{kept_are}
+use Rattle.map_bits.proofs.Imports.{◌≡◌, ℕ, ◌*◌, ◌^◌, ◌<◌, ◌≤◌, List, Err, false, ap, subst, ◌∙◌, arith, rules, IsErrOf, sum, up, Hold, TooBig, narrow_holds, widths_in, Part, IsStored, has_bad_width, kept_are}
 use Rattle.map_bits.proofs.Slots.{big_slot, big_blob, not_too_big, bound_is}
 use Rattle.map_bits.proofs.bit_aos.BitAos.new.Goals as goal
 

@@ -1,5 +1,4 @@
-use Rattle.std.proofs.Common.{ℕ, ◌<◌, List, ◌∙◌, arith}
-use Rattle.places.specs.Holds.{widths_in}
+use Rattle.map_bits.proofs.Imports.{ℕ, ◌<◌, List, ◌∙◌, arith, widths_in}
 use Rattle.map_bits.proofs.Widths.{count}
 use Rattle.map_bits.proofs.Slots.{begin_at, begin_fits, begins_each}
 use Rattle.map_bits.proofs.bit_aos.BitAos.offset.Goals as goal

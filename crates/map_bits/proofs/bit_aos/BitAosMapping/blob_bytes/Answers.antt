@@ -1,5 +1,4 @@
-use Rattle.places.specs.Holds.{widths_in}
-use Rattle.map_bits.specs.BitLaws.{bit_aos_laws}
+use Rattle.map_bits.proofs.Imports.{widths_in, bit_aos_laws}
 use Rattle.map_bits.proofs.Slots.{blob_bytes_is}
 use Rattle.map_bits.proofs.bit_aos.BitAosMapping.blob_bytes.Goals as goal
 

@@ -1,9 +1,6 @@
-use Rattle.std.proofs.Common.{ℕ, ◌+◌, ◌*◌, ◌<◌, refl, ap, ◌∙◌, arith}
-use Rattle.places.specs.BeginsLaws.{one_lane}
-use Rattle.places.specs.Holds.{widths_in}
+use Rattle.map_bits.proofs.Imports.{ℕ, ◌+◌, ◌*◌, ◌<◌, refl, ap, ◌∙◌, arith, one_lane, widths_in, not_dense}
 use Rattle.map_bits.proofs.Widths.{taken_is}
 use Rattle.map_bits.proofs.Slots.{located_is}
-use Rattle.places.specs.DenseLaws.{not_dense}
 use Rattle.map_bits.proofs.bit_aos.BitAosRuled.rule.Goals as goal
 
 pub returns-clause-places : goal.returns-clause-places

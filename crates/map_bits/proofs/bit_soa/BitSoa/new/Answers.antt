@@ -1,6 +1,4 @@
-use Rattle.std.proofs.Common.{◌≡◌, ◌∙◌, false, arith, rules}
-use Rattle.map_bits.specs.Bits.{has_bad_width}
-use Rattle.map_bits.specs.NarrowLaws.{kept_are}
+use Rattle.map_bits.proofs.Imports.{◌≡◌, ◌∙◌, false, arith, rules, has_bad_width, kept_are}
 use Rattle.map_bits.proofs.bit_soa.BitSoa.new.Goals as goal
 
 pub invariant_of-result : goal.invariant_of-result

@@ -1,4 +1,4 @@
-use Rattle.std.proofs.Common.{arith}
+use Rattle.map_bits.proofs.Imports.{arith}
 use Rattle.map_bits.proofs.Arrays.{blob_count_is}
 use Rattle.map_bits.proofs.bit_soa.BitSoaMapping.blob_count.Goals as goal
 

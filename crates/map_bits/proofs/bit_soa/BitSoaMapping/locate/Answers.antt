@@ -1,9 +1,4 @@
-use Rattle.std.proofs.Common.{ℕ, ◌<◌, List, [], ◌∷◌, slice_index, sym, subst, arith}
-use Rattle.places.specs.Laws.{IsLocated}
-use Rattle.places.specs.declared.piece.Piece.{Piece}
-use Rattle.places.specs.BeginsLaws.{begins_fit}
-use Rattle.places.specs.Holds.{widths_in}
-use Rattle.places.specs.Layout.{bit_soa}
+use Rattle.map_bits.proofs.Imports.{ℕ, ◌<◌, List, [], ◌∷◌, slice_index, sym, subst, arith, IsLocated, Piece, begins_fit, widths_in, bit_soa}
 use Rattle.map_bits.proofs.bit_soa.BitSoaMapping.locate.Goals as goal
 
 pub pieces-requires : goal.pieces-requires

@@ -1,9 +1,4 @@
-use Rattle.std.proofs.Common.{◌≡◌, ◌+◌, ◌/◌, ◌^◌, ◌<◌, ◌≤◌, List, length, slice_index, take, ap, ◌∙◌, arith}
-use Rattle.places.specs.Holds.{widths_of}
-use Rattle.places.specs.declared.piece.Cell.{Cell}
-use Rattle.places.specs.declared.piece.Hold.{Hold}
-use Rattle.map_bytes.specs.Cells.{byte_count}
-use Rattle.map_bytes.specs.ByteCellsLaws.{byte_count_before}
+use Rattle.map_bytes.proofs.Imports.{◌≡◌, ◌+◌, ◌/◌, ◌^◌, ◌<◌, ◌≤◌, List, length, slice_index, take, ap, ◌∙◌, arith, widths_of, Cell, Hold, byte_count, byte_count_before}
 use Rattle.map_bytes.proofs.Inner.{bytes_held, bytes_within}
 use Rattle.map_bytes.proofs.bytesplit.Bytesplit.first_byte.Goals as goal
 

@@ -1,10 +1,4 @@
-use Rattle.std.proofs.Common.{◌≡◌, List, length, false, sym, ap, ◌∙◌}
-use Rattle.places.specs.Holds.{full_holds}
-use Rattle.places.specs.CellWidthsLaws.{length-full}
-use Rattle.places.specs.declared.piece.Cell.{Cell}
-use Rattle.places.specs.declared.piece.Hold.{Hold}
-use Rattle.map_bytes.specs.Cells.{differ, bytes_of}
-use Rattle.map_bytes.specs.FullLaws.{differ_none}
+use Rattle.map_bytes.proofs.Imports.{◌≡◌, List, length, false, sym, ap, ◌∙◌, full_holds, length-full, Cell, Hold, differ, bytes_of, differ_none}
 use Rattle.map_bytes.proofs.bytesplit.Bytesplit.new.Goals as goal
 
 pub invariant_of-result : goal.invariant_of-result

@@ -1,13 +1,4 @@
-use Rattle.std.proofs.Common.{◌≡◌, ℕ, ◌+◌, ◌*◌, ◌/◌, ◌%◌, ◌<◌, ◌≤◌, List, ◌++◌, length, slice_index, sym, ap, ◌∙◌, subst, arith, length-append}
-use Rattle.places.specs.Layout.{Owner}
-use Rattle.places.specs.Laws.{IsLocated}
-use Rattle.places.specs.Rules.{bytesplit}
-use Rattle.places.specs.Holds.{widths_of}
-use Rattle.places.specs.WidthsLaws.{widths_full, widths_whole, widths_narrow}
-use Rattle.places.specs.CellWidthsLaws.{length-widths, width_read}
-use Rattle.places.specs.declared.piece.Cell.{Cell}
-use Rattle.places.specs.declared.piece.Hold.{Hold}
-use Rattle.places.specs.declared.piece.Piece.{Piece}
+use Rattle.map_bytes.proofs.Imports.{◌≡◌, ℕ, ◌+◌, ◌*◌, ◌/◌, ◌%◌, ◌<◌, ◌≤◌, List, ◌++◌, length, slice_index, sym, ap, ◌∙◌, subst, arith, length-append, Owner, IsLocated, bytesplit, widths_of, widths_full, widths_whole, widths_narrow, length-widths, width_read, Cell, Hold, Piece}
 use Rattle.map_bytes.proofs.Inner.{byte_one, byte_more}
 use Rattle.map_bytes.proofs.bytesplit.BytesplitMapping.locate.Goals as goal
 

@@ -1,8 +1,5 @@
 -- the pieces of the bytes so far, one for each
-use Rattle.std.proofs.Common.{◌≡◌, ◌*◌, length}
-use Rattle.places.specs.Holds.{widths_of}
-use Rattle.places.specs.Laws.{IsLocated}
-use Rattle.places.specs.Rules.{bytesplit}
+use Rattle.map_bytes.proofs.Imports.{◌≡◌, ◌*◌, length, widths_of, IsLocated, bytesplit}
 use Rattle.map_bytes.proofs.bytesplit.BytesplitMapping.locate.Given as goal
 
 abbrev pub invariant-loop-byte : goal.invariant-loop-byte

@@ -1,10 +1,4 @@
-use Rattle.std.proofs.Common.{◌≡◌, List, length, true, false, sym, ap, ◌∙◌, rules}
-use Rattle.places.specs.Holds.{full_holds}
-use Rattle.places.specs.CellWidthsLaws.{length-full}
-use Rattle.places.specs.declared.piece.Cell.{Cell}
-use Rattle.places.specs.declared.piece.Hold.{Hold}
-use Rattle.map_bytes.specs.Cells.{differ}
-use Rattle.map_bytes.specs.FullLaws.{differ_none, full_kinds}
+use Rattle.map_bytes.proofs.Imports.{◌≡◌, List, length, true, false, sym, ap, ◌∙◌, rules, full_holds, length-full, Cell, Hold, differ, differ_none, full_kinds}
 use Rattle.map_bytes.proofs.byteswap.Byteswap.new.Goals as goal
 
 pub invariant_of-result : goal.invariant_of-result

@@ -1,13 +1,4 @@
-use Rattle.std.proofs.Common.{ℕ, List, map, slice_index, sym, subst}
-use Rattle.places.specs.Layout.{Owner}
-use Rattle.places.specs.Laws.{IsLocated}
-use Rattle.places.specs.Rules.{byteswap}
-use Rattle.places.specs.Holds.{widths_of, full_holds}
-use Rattle.places.specs.WidthsLaws.{widths_full, widths_whole}
-use Rattle.places.specs.declared.piece.Hold.{Hold}
-use Rattle.places.specs.declared.piece.Piece.{Piece}
-use Rattle.map_bytes.specs.Cuts.{swapped}
-use Rattle.map_bytes.specs.SwapPiecesLaws.{swap_located}
+use Rattle.map_bytes.proofs.Imports.{ℕ, List, map, slice_index, sym, subst, Owner, IsLocated, byteswap, widths_of, full_holds, widths_full, widths_whole, Hold, Piece, swapped, swap_located}
 use Rattle.map_bytes.proofs.Inner.{inner_located, inner_whole, inner_few, cell_in}
 use Rattle.map_bytes.proofs.byteswap.ByteswapMapping.locate.Goals as goal
 

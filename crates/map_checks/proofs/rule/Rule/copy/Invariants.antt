@@ -1,5 +1,5 @@
 -- the pieces so far
-use Rattle.std.proofs.Common.{◌≡◌, take}
+use Rattle.map_checks.proofs.Imports.{◌≡◌, take}
 use Rattle.map_checks.proofs.rule.Rule.copy.Given as goal
 
 abbrev pub invariant-loop-piece : goal.invariant-loop-piece

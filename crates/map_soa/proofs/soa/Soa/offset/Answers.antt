@@ -1,7 +1,4 @@
-use Rattle.std.proofs.Common.{ℕ, ◌≡◌, ◌%◌, ◌<◌, length, ap, ◌∙◌, arith}
-use Rattle.std.proofs.lemmas.List.{get_or_default}
-use Rattle.places.specs.Holds.{widths_of}
-use Rattle.places.specs.CellWidthsLaws.{length-widths}
+use Rattle.map_soa.proofs.Imports.{ℕ, ◌≡◌, ◌%◌, ◌<◌, length, ap, ◌∙◌, arith, get_or_default, widths_of, length-widths}
 use Rattle.map_soa.proofs.Blobs.{offset_fits}
 use Rattle.map_soa.proofs.soa.Soa.offset.Goals as goal
 

@@ -1,4 +1,4 @@
-use Rattle.std.proofs.Common.{◌∙◌, arith}
+use Rattle.map_soa.proofs.Imports.{◌∙◌, arith}
 use Rattle.map_soa.proofs.Blobs.{one_blob_bytes, own_blob, own_blob_bytes, blob_each, blob_le}
 use Rattle.map_soa.proofs.soa.SoaMapping.blob_bytes.Goals as goal
 

@@ -1,4 +1,4 @@
-use Rattle.std.proofs.Common.{arith}
+use Rattle.map_soa.proofs.Imports.{arith}
 use Rattle.map_soa.proofs.Blobs.{blob_each}
 use Rattle.map_soa.proofs.soa.SoaMapping.blob_count.Goals as goal
 

@@ -1,16 +1,4 @@
-use Rattle.std.proofs.Common.{ℕ, ◌≡◌, ◌+◌, ◌*◌, ◌%◌, ◌<◌, List, length, slice_index, refl, sym, ◌∙◌, ap, subst, arith}
-use Rattle.std.proofs.lemmas.List.{length-map}
-use Rattle.std.proofs.lemmas.List.FromFn.{length-enumerate_from}
-use Rattle.places.specs.Layout.{array, cells_of}
-use Rattle.places.specs.Holds.{widths_of}
-use Rattle.places.specs.CellWidthsLaws.{length-widths, cell_width, width_read}
-use Rattle.places.specs.Forms.{soa_layout}
-use Rattle.map_soa.specs.Soa.{blob_of}
-use Rattle.places.specs.declared.forms.SoaForm.{SoaForm}
-use Rattle.places.specs.declared.forms.SoaForm.TheVariants.{Single, Aligned, Multi}
-use Rattle.places.specs.BeginsLaws.{one_lane}
-use Rattle.places.specs.DenseLaws.{dense_array}
-use Rattle.places.specs.WidthsLaws.{width_whole}
+use Rattle.map_soa.proofs.Imports.{ℕ, ◌≡◌, ◌+◌, ◌*◌, ◌%◌, ◌<◌, List, length, slice_index, refl, sym, ◌∙◌, ap, subst, arith, length-map, length-enumerate_from, array, cells_of, widths_of, length-widths, cell_width, width_read, soa_layout, blob_of, SoaForm, Single, Aligned, Multi, one_lane, dense_array, width_whole}
 use Rattle.map_soa.proofs.Blobs.{located_is}
 use Rattle.map_soa.proofs.soa.SoaRuled.rule.Goals as goal
 

@@ -1,6 +1,4 @@
-use Rattle.std.proofs.Common.{subst, sym}
-use Rattle.piece_bits.specs.Blocks.{IsBlock}
-use Rattle.piece_bits.specs.BlockLaws.{same}
+use Rattle.piece_bits.proofs.Imports.{subst, sym, IsBlock, same}
 use Rattle.piece_bits.proofs.block.Block.of.Goals as goal
 
 pub invariant_of-result : goal.invariant_of-result

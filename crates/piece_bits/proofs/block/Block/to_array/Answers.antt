@@ -1,5 +1,4 @@
-use Rattle.std.proofs.Common.{◌∙◌}
-use Rattle.piece_bits.specs.BlockLaws.{same}
+use Rattle.piece_bits.proofs.Imports.{◌∙◌, same}
 use Rattle.piece_bits.proofs.block.Block.to_array.Goals as goal
 
 pub returns-clause-numbers : goal.returns-clause-numbers

@@ -1,8 +1,4 @@
-use Rattle.std.proofs.Common.{◌≡◌, ℤ, Some, ap, sym, ◌∙◌, arith}
-use Rattle.std.specs.Prelude.{int_le}
-use Rattle.std.specs.Ordering.{int_cmp, is_le, is_some_and}
-use Rattle.std.proofs.lemmas.Int.{ints}
-use Rattle.piece_bits.specs.Plain.{compares}
+use Rattle.piece_bits.proofs.Imports.{◌≡◌, ℤ, Some, ap, sym, ◌∙◌, arith, int_le, int_cmp, is_le, is_some_and, ints, compares}
 use Rattle.piece_bits.proofs.compare.Compare.holds.Goals as goal
 
 at_most : (x y : ℤ) → is_some_and is_le (Some (int_cmp x y)) ≡ int_le x y

@@ -1,8 +1,4 @@
-use Rattle.std.proofs.Common.{◌≡◌, ℕ, ◌-◌, ◌*◌, ◌%◌, ◌^◌, ◌<◌, Bool, sym, ap, ◌∙◌, arith}
-use Rattle.std.proofs.Math.Nat.{mod-eq_of_lt}
-use Rattle.std.proofs.Math.Pow.{pow-lt}
-use Rattle.places.specs.NumbersLaws.{ones_of}
-use Rattle.piece_bits.specs.Words.{half_range}
+use Rattle.piece_bits.proofs.Imports.{◌≡◌, ℕ, ◌-◌, ◌*◌, ◌%◌, ◌^◌, ◌<◌, Bool, sym, ap, ◌∙◌, arith, mod-eq_of_lt, pow-lt, ones_of, half_range}
 use Rattle.piece_bits.proofs.field.Field.of.Goals as goal
 
 pub returns-then-hold-clause-form : goal.returns-then-hold-clause-form

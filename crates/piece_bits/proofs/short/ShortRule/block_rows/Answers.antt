@@ -1,5 +1,4 @@
-use Rattle.std.proofs.Common.{arith}
-use Rattle.std.proofs.lemmas.Nat.{pow_pos}
+use Rattle.piece_bits.proofs.Imports.{arith, pow_pos}
 use Rattle.piece_bits.proofs.Places.{masked_slot}
 use Rattle.piece_bits.proofs.short.ShortRule.block_rows.Goals as goal
 

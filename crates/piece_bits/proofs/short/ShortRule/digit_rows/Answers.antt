@@ -1,5 +1,4 @@
-use Rattle.std.proofs.Common.{ℕ, ◌≡◌, ◌+◌, ◌%◌, ◌^◌, ◌<◌, ◌≤◌, subst, arith}
-use Rattle.linearize.specs.ApartLaws.{morton_line}
+use Rattle.piece_bits.proofs.Imports.{ℕ, ◌≡◌, ◌+◌, ◌%◌, ◌^◌, ◌<◌, ◌≤◌, subst, arith, morton_line}
 use Rattle.piece_bits.proofs.StretchLaws.{twos_divide, shifted, sixteen}
 use Rattle.piece_bits.proofs.short.ShortRule.digit_rows.Goals as goal
 

@@ -1,4 +1,4 @@
-use Rattle.std.proofs.Common.{arith}
+use Rattle.piece_bits.proofs.Imports.{arith}
 use Rattle.piece_bits.proofs.Places.{masked_slot}
 use Rattle.piece_bits.proofs.short.ShortRule.lane_start.Goals as goal
 

@@ -1,6 +1,4 @@
-use Rattle.std.proofs.Common.{ℕ, ◌≡◌, ◌+◌, ◌*◌, ◌^◌, ◌%◌, ◌<◌, ap, ◌∙◌, arith}
-use Rattle.std.proofs.Math.Nat.{mod-eq_of_lt}
-use Rattle.std.proofs.Math.Pow.{pow-lt}
+use Rattle.piece_bits.proofs.Imports.{ℕ, ◌≡◌, ◌+◌, ◌*◌, ◌^◌, ◌%◌, ◌<◌, ap, ◌∙◌, arith, mod-eq_of_lt, pow-lt}
 use Rattle.piece_bits.proofs.Places.{slots_before}
 use Rattle.piece_bits.proofs.short.ShortRule.slots_up_to.Goals as goal
 

@@ -1,8 +1,4 @@
-use Rattle.std.proofs.Common.{ℕ, ◌≡◌, ◌≢◌, ◌+◌, sym, subst, arith}
-use Rattle.piece_bits.specs.declared.word.Word.TheVariants.{Scattered}
-use Rattle.piece_bits.specs.Shorts.{HasStart}
-use Rattle.piece_bits.specs.declared.short.ShortRule.{ShortRule}
-use Rattle.piece_bits.specs.declared.stretch.Spread.{Spread}
+use Rattle.piece_bits.proofs.Imports.{ℕ, ◌≡◌, ◌≢◌, ◌+◌, sym, subst, arith, Scattered, HasStart, ShortRule, Spread}
 use Rattle.piece_bits.proofs.StretchLaws.{AreSteps, steps_stretch, plain_steps, block_steps, column_steps, digit_steps}
 use Rattle.piece_bits.proofs.short.ShortRule.stretch.Goals as goal
 use Rattle.piece_bits.proofs.short.ShortRule.stretch.Goals.{in-Plain, in-Blocks, in-Columns+in_ok-apart-in-Columns, in-Morton, in-Scattered, in_default}

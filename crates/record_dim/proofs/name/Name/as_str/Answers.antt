@@ -1,4 +1,4 @@
-use Rattle.record_dim.specs.NameBytesLaws.{name_utf8}
+use Rattle.record_dim.proofs.Imports.{name_utf8}
 use Rattle.record_dim.proofs.name.Name.as_str.Goals as goal
 
 pub unreachable-requires : goal.unreachable-requires

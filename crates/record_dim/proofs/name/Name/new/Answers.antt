@@ -1,6 +1,4 @@
-use Rattle.std.proofs.Common.{◌≡◌, true, arith, rules}
-use Rattle.record_dim.specs.Names.{is_word}
-use Rattle.record_dim.specs.NameBytesLaws.{stored}
+use Rattle.record_dim.proofs.Imports.{◌≡◌, true, arith, rules, is_word, stored}
 use Rattle.record_dim.proofs.name.Name.new.Goals as goal
 
 pub invariant_of-result : goal.invariant_of-result

@@ -1,7 +1,4 @@
-use Rattle.std.proofs.Common.{◌≡◌, length, arith, ap, ◌∙◌}
-use Rattle.std.proofs.lemmas.List.{length-map}
-use Rattle.record_dim.specs.Trees.{fields_of}
-use Rattle.record_dim.specs.Leaves.{Leaf, leaves}
+use Rattle.record_dim.proofs.Imports.{◌≡◌, length, arith, ap, ◌∙◌, length-map, fields_of, Leaf, leaves}
 use Rattle.record_dim.proofs.Fit.{fit_some}
 use Rattle.record_dim.proofs.schema.Schema.leaf_count.Goals as goal
 

@@ -1,5 +1,4 @@
-use Rattle.std.proofs.Common.{ap, Some}
-use Rattle.record_dim.specs.Trees.{fields_of}
+use Rattle.record_dim.proofs.Imports.{ap, Some, fields_of}
 use Rattle.record_dim.proofs.Apart.{no_leaf, only_leaf, leaf_place, single_leaf}
 use Rattle.record_dim.proofs.schema.Schema.leaf_of.Goals as goal
 

@@ -1,7 +1,4 @@
-use Rattle.std.proofs.Common.{arith}
-use Rattle.record_dim.specs.Trees.{Record, fields_of}
-use Rattle.record_dim.specs.Leaves.{leaves}
-use Rattle.record_dim.specs.Nodes.{LeadsTo}
+use Rattle.record_dim.proofs.Imports.{arith, Record, fields_of, leaves, LeadsTo}
 use Rattle.record_dim.proofs.Fit.{fit_few}
 use Rattle.record_dim.proofs.Lookup.{stretch_few}
 use Rattle.record_dim.proofs.schema.Schema.leaves_under.Goals as goal

@@ -1,10 +1,4 @@
-use Rattle.std.proofs.Common.{rules, ◌∙◌, ap, sym, length, append-nil}
-use Rattle.views.specs.Tables.{Table, after_log, leaf_count_of}
-use Rattle.views.specs.Tallies.{Read, all_accesses}
-use Rattle.worlds.specs.OnView.{Done, done_to}
-use Rattle.worlds.specs.Outcomes.{Outcome, Goes}
-use Rattle.command_checks.specs.GivesLaws.{GivesUp-then}
-use Rattle.session.specs.Changes.{IsLeft, left_with}
+use Rattle.session.proofs.Imports.{rules, ◌∙◌, ap, sym, length, append-nil, Table, after_log, leaf_count_of, Read, all_accesses, Done, done_to, Outcome, Goes, GivesUp-then, IsLeft, left_with}
 use Rattle.session.proofs.Exits.{gave_up}
 use Rattle.session.proofs.Views.{then_broke, then_wrote}
 use Rattle.session.proofs.advise.AdviseWork.run.Goals as goal

@@ -1,5 +1,4 @@
-use Rattle.std.proofs.Common.{refl}
-use Rattle.session.specs.Changes.{IsLeft}
+use Rattle.session.proofs.Imports.{refl, IsLeft}
 use Rattle.session.proofs.Exits.{answers_quiet}
 use Rattle.session.proofs.assign.AssignWork.run.Goals as goal
 

@@ -1,8 +1,5 @@
-use Rattle.std.proofs.Common.{rules, map, option_map}
-use Rattle.line_grammar.specs.Sentences.{assignment_of}
+use Rattle.session.proofs.Imports.{rules, map, option_map, assignment_of, GivesUp-then, IsLeft}
 use Rattle.expr_lang.specs.Terms.{term_of}
-use Rattle.command_checks.specs.GivesLaws.{GivesUp-then}
-use Rattle.session.specs.Changes.{IsLeft}
 use Rattle.session.proofs.Acting.{by_parts}
 use Rattle.session.proofs.Exits.{gave_up}
 use Rattle.session.proofs.by_actors.UpdateByActorsWork.run.Goals as goal

@@ -1,6 +1,4 @@
-use Rattle.std.proofs.Common.{rules, pos}
-use Rattle.worlds.specs.Texts.{number_line}
-use Rattle.session.specs.Changes.{IsLeft, left_with}
+use Rattle.session.proofs.Imports.{rules, pos, number_line, IsLeft, left_with}
 use Rattle.session.proofs.Exits.{gave_up}
 use Rattle.session.proofs.Views.{then_broke, then_wrote}
 use Rattle.session.proofs.reduce.CountWork.run.Goals as goal

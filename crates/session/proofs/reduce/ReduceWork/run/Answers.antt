@@ -1,8 +1,4 @@
-use Rattle.std.proofs.Common.{rules, FitsSigned}
-use Rattle.std.specs.Int.{w128}
-use Rattle.std.proofs.lemmas.Int.{to_z-of_z}
-use Rattle.worlds.specs.Texts.{number_line}
-use Rattle.session.specs.Changes.{IsLeft, left_with}
+use Rattle.session.proofs.Imports.{rules, FitsSigned, w128, to_z-of_z, number_line, IsLeft, left_with}
 use Rattle.session.proofs.Exits.{gave_up}
 use Rattle.session.proofs.Views.{then_broke, then_wrote}
 use Rattle.session.proofs.reduce.ReduceWork.run.Goals as goal

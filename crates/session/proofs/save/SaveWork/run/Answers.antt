@@ -1,11 +1,6 @@
-use Rattle.std.proofs.Common.{refl}
+use Rattle.session.proofs.Imports.{refl, header_of, blobs_of, save, done_to, TooBig, left_with}
 use Rattle.blob_file.specs.Files.{file_of}
-use Rattle.blob_file.specs.Saving.{header_of, blobs_of}
-use Rattle.worlds.specs.Files.{save}
-use Rattle.worlds.specs.OnView.{done_to}
-use Rattle.worlds.specs.declared.fault.CommandFault.TheVariants.{TooBig}
 use Rattle.command_checks.specs.declared.fault.StepFault.TheVariants as step
-use Rattle.session.specs.Changes.{left_with}
 use Rattle.session.proofs.Saving.{gave_up_idle, save_goes, save_long}
 use Rattle.session.proofs.Views.{then_broke, then_wrote}
 use Rattle.session.proofs.save.SaveWork.run.Goals as goal

@@ -1,9 +1,4 @@
-use Rattle.std.proofs.Common.{◌≡◌, ◌*◌, ℕ, subst}
-use Rattle.worlds.specs.OnView.{on_view}
-use Rattle.worlds.specs.Stencil.{stencil_run}
-use Rattle.worlds.specs.Tables.{live_bits}
-use Rattle.session.specs.Answers.{Answers}
-use Rattle.session.specs.Stands.{Stands, world_of}
+use Rattle.session.proofs.Imports.{◌≡◌, ◌*◌, ℕ, subst, on_view, stencil_run, live_bits, Answers, Stands, world_of}
 use Rattle.session.proofs.Steps.{line_shows}
 use Rattle.session.proofs.session.Session.change.Goals as goal
 

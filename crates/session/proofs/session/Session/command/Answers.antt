@@ -1,8 +1,4 @@
-use Rattle.std.proofs.Common.{Ok, refl, subst}
-use Rattle.line_grammar.specs.Sentences.{New}
-use Rattle.worlds.specs.View.{view}
-use Rattle.command_checks.specs.Gives.{Gives}
-use Rattle.session.specs.Stands.{left_of, world_of}
+use Rattle.session.proofs.Imports.{Ok, refl, subst, New, view, Gives, left_of, world_of}
 use Rattle.session.proofs.Steps.{line_gives}
 use Rattle.session.proofs.session.Session.command.Goals as goal
 

@@ -1,12 +1,4 @@
-use Rattle.std.proofs.Common.{rules, ◌≡◌, ◌∙◌, map, Err, refl, sym, subst}
-use Rattle.worlds.specs.Copy.{copy}
-use Rattle.worlds.specs.Outcomes.{Outcome, Left}
-use Rattle.command_checks.specs.Entries.{view_of}
-use Rattle.command_checks.specs.Gives.{GivesUp}
-use Rattle.command_checks.specs.GivesLaws.{GivesUp-then, goes_then}
-use Rattle.command_checks.specs.Places.{IsAt}
-use Rattle.command_checks.specs.PlacesLaws.{known_place}
-use Rattle.session.specs.Stands.{world_of}
+use Rattle.session.proofs.Imports.{rules, ◌≡◌, ◌∙◌, map, Err, refl, sym, subst, copy, Outcome, Left, view_of, GivesUp, GivesUp-then, goes_then, IsAt, known_place, world_of}
 use Rattle.session.proofs.Exits.{goes_gives}
 use Rattle.session.proofs.Copies.{first_of, copy_in}
 use Rattle.session.proofs.CopySteps.{copy_within, no_copy}

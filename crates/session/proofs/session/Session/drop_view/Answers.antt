@@ -1,15 +1,4 @@
-use Rattle.std.proofs.Common.{ap, sym, ◌∙◌, map, List, []}
-use Rattle.views.specs.Tables.{Table}
-use Rattle.worlds.specs.Show.{drop_view}
-use Rattle.worlds.specs.Outcomes.{Goes, some_or}
-use Rattle.worlds.specs.Worlds.{Entry}
-use Rattle.worlds.specs.declared.fault.CommandFault.TheVariants.{Unknown}
-use Rattle.worlds.specs.declared.fault.UnknownName.TheVariants.{Name}
-use Rattle.command_checks.specs.Entries.{view_of}
-use Rattle.command_checks.specs.GivesLaws.{goes_then}
-use Rattle.command_checks.specs.Places.{IsAt}
-use Rattle.command_checks.specs.PlacesLaws.{without_is}
-use Rattle.session.specs.Stands.{world_of}
+use Rattle.session.proofs.Imports.{ap, sym, ◌∙◌, map, List, [], Table, drop_view, Goes, some_or, Entry, Unknown, Name, view_of, goes_then, IsAt, without_is, world_of}
 use Rattle.session.proofs.session.Session.drop_view.Goals as goal
 
 pub returns : goal.returns

@@ -1,14 +1,4 @@
-use Rattle.std.proofs.Common.{rules, ◌≡◌, ◌∙◌, Bool, List, true, false, Some, Err, refl, sym, ap, subst}
-use Rattle.layout_io.specs.Faults.{Rose}
-use Rattle.layout_io.specs.Files.{File}
-use Rattle.views.specs.Tables.{Table}
-use Rattle.worlds.specs.Load.{load, loaded_table}
-use Rattle.worlds.specs.Outcomes.{Goes, quiet}
-use Rattle.worlds.specs.View.{with_view}
-use Rattle.worlds.specs.Worlds.{World}
-use Rattle.command_checks.specs.GivesLaws.{goes_then}
-use Rattle.session.specs.Loads.{new_of, Loads, UnreadOnly, ToldFor}
-use Rattle.session.specs.Stands.{left_of, world_in, world_of}
+use Rattle.session.proofs.Imports.{rules, ◌≡◌, ◌∙◌, Bool, List, true, false, Some, Err, refl, sym, ap, subst, Rose, File, Table, load, loaded_table, Goes, quiet, with_view, World, goes_then, new_of, Loads, UnreadOnly, ToldFor, left_of, world_in, world_of}
 use Rattle.session.proofs.Reading.{after_load, unread_after, told_first}
 use Rattle.session.proofs.session.Session.load.Goals as goal
 

@@ -1,4 +1,4 @@
-use Rattle.std.proofs.Common.{rules, ◌≡◌, Err, refl}
+use Rattle.session.proofs.Imports.{rules, ◌≡◌, Err, refl}
 use Rattle.session.proofs.Views.{session_left}
 use Rattle.session.proofs.session.Session.on_view.Goals as goal
 

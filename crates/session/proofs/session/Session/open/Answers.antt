@@ -1,11 +1,4 @@
-use Rattle.std.proofs.Common.{rules, ◌∙◌, true, sym, ap}
-use Rattle.layout_io.specs.Faults.{Rose}
-use Rattle.views.specs.Tables.{Table}
-use Rattle.worlds.specs.Files.{open_view, opened_table}
-use Rattle.worlds.specs.Outcomes.{quiet}
-use Rattle.worlds.specs.View.{with_view}
-use Rattle.command_checks.specs.GivesLaws.{goes_then}
-use Rattle.session.specs.Stands.{left_of, world_of}
+use Rattle.session.proofs.Imports.{rules, ◌∙◌, true, sym, ap, Rose, Table, open_view, opened_table, quiet, with_view, goes_then, left_of, world_of}
 use Rattle.session.proofs.Reading.{after_load, unread_after, told_first}
 use Rattle.session.proofs.session.Session.open.Goals as goal
 

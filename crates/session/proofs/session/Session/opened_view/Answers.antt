@@ -1,13 +1,4 @@
-use Rattle.std.proofs.Common.{rules, ◌≡◌, ◌∙◌, ◌+◌, ◌^◌, ℕ, List, Some}
-use Rattle.views.specs.Tables.{Table}
-use Rattle.worlds.specs.Files.{opened_beside, opened_table}
-use Rattle.worlds.specs.Load.{read}
-use Rattle.worlds.specs.Outcomes.{Goes, ◌>>=◌, free}
-use Rattle.worlds.specs.Tables.{room}
-use Rattle.worlds.specs.Worlds.{World}
-use Rattle.command_checks.specs.GivesLaws.{GivesUp-then, goes_then}
-use Rattle.session.specs.Opens.{placed_table}
-use Rattle.session.specs.Stands.{world_of}
+use Rattle.session.proofs.Imports.{rules, ◌≡◌, ◌∙◌, ◌+◌, ◌^◌, ℕ, List, Some, Table, opened_beside, opened_table, read, Goes, ◌>>=◌, free, room, World, GivesUp-then, goes_then, placed_table, world_of}
 use Rattle.session.proofs.Exits.{goes_gives}
 use Rattle.session.proofs.Reading.{IsOf, within_first, before_reading, told_of, loads_of, unloads_of, unread_of, unread_test, unread_gives}
 use Rattle.session.proofs.session.Session.opened_view.Goals as goal

@@ -1,20 +1,7 @@
-use Rattle.std.proofs.Common.{rules, ◌≡◌, ◌∙◌, List, [], Err, refl, sym, ap, subst}
-use Rattle.map_expr.specs.Terms.{term_of}
-use Rattle.views.specs.Tables.{Table}
-use Rattle.worlds.specs.Copy.{relayout, laid_anew}
-use Rattle.worlds.specs.Outcomes.{Outcome, Goes}
-use Rattle.worlds.specs.Worlds.{Entry}
-use Rattle.command_checks.specs.Entries.{view_of}
-use Rattle.command_checks.specs.Gives.{GivesUp}
-use Rattle.command_checks.specs.GivesLaws.{GivesUp-then, goes_then}
-use Rattle.command_checks.specs.Places.{IsAt}
-use Rattle.command_checks.specs.PlacesLaws.{known_at, known_place}
-use Rattle.command_checks.specs.declared.entries.ViewEntry.{ViewEntry}
-use Rattle.session.specs.Stands.{world_of}
+use Rattle.session.proofs.Imports.{rules, ◌≡◌, ◌∙◌, List, [], Err, refl, sym, ap, subst, term_of, Table, relayout, laid_anew, Outcome, Goes, Entry, view_of, GivesUp, GivesUp-then, goes_then, IsAt, known_at, known_place, ViewEntry, world_of, laid_pair}
 use Rattle.session.proofs.Exits.{goes_gives, table_changed}
 use Rattle.session.proofs.Copies.{first_of, laid_at, made_at}
 use Rattle.session.proofs.CopySteps.{laid_within, none_taken}
-use Rattle.session.specs.Bounds.{laid_pair}
 use Rattle.session.proofs.session.Session.relayout.Goals as goal
 
 pub returns-in_err-expr-clause-laid : goal.returns-in_err-expr-clause-laid

@@ -1,5 +1,4 @@
-use Rattle.std.proofs.Common.{rules, ◌≡◌, Err, refl}
-use Rattle.session.specs.Stands.{world_of}
+use Rattle.session.proofs.Imports.{rules, ◌≡◌, Err, refl, world_of}
 use Rattle.session.proofs.Steps.{line_left, line_shows}
 use Rattle.session.proofs.session.Session.show.Goals as goal
 

@@ -1,11 +1,5 @@
-use Rattle.std.proofs.Common.{◌∙◌, false, [], sym, ap}
-use Rattle.line_grammar.specs.Sentences.{New, sentence_of, file_of}
-use Rattle.line_grammar.specs.declared.line.Line.{Line}
-use Rattle.worlds.specs.Files.{open_view}
-use Rattle.worlds.specs.Load.{load}
-use Rattle.worlds.specs.Step.{step, command}
-use Rattle.session.specs.Loads.{new_of}
-use Rattle.session.specs.Stands.{world_of}
+use Rattle.session.proofs.Imports.{◌∙◌, false, [], sym, ap, New, sentence_of, Line, open_view, load, step, command, new_of, world_of}
+use Rattle.line_grammar.specs.Sentences.{file_of}
 use Rattle.session.proofs.Steps.{steps_read, steps_shown, cause_shown, unread_read, unread_shown, untaken_quiet, untaken_shown}
 use Rattle.session.proofs.session.Session.step.Goals as goal
 

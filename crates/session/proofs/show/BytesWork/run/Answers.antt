@@ -1,10 +1,4 @@
-use Rattle.std.proofs.Common.{rules, ap, ◌∙◌}
-use Rattle.blobs.specs.Bits.{bits_of}
-use Rattle.instrument.specs.BlobTexts.{bytes_of, bytes_text}
-use Rattle.worlds.specs.OnView.{Done, done_to}
-use Rattle.worlds.specs.Outcomes.{Outcome}
-use Rattle.command_checks.specs.GivesLaws.{GivesUp-then}
-use Rattle.session.specs.Changes.{IsLeft, left_with}
+use Rattle.session.proofs.Imports.{rules, ap, ◌∙◌, bits_of, bytes_of, bytes_text, Done, done_to, Outcome, GivesUp-then, IsLeft, left_with}
 use Rattle.session.proofs.Exits.{gave_up}
 use Rattle.session.proofs.Views.{tells_left, then_broke, then_wrote}
 use Rattle.session.proofs.show.BytesWork.run.Goals as goal

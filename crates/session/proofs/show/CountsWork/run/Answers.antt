@@ -1,8 +1,4 @@
-use Rattle.std.proofs.Common.{rules, ◌≡◌, Some}
-use Rattle.record_dim.specs.Leaves.{texts_of}
-use Rattle.instrument.specs.Counters.{leaf_counts}
-use Rattle.instrument.specs.CounterTexts.{counts_text}
-use Rattle.session.specs.Changes.{left_with}
+use Rattle.session.proofs.Imports.{rules, ◌≡◌, Some, texts_of, leaf_counts, counts_text, left_with}
 use Rattle.session.proofs.Exits.{refused}
 use Rattle.session.proofs.Views.{counts_goes, counts_none, then_broke, then_wrote}
 use Rattle.session.proofs.show.CountsWork.run.Goals as goal

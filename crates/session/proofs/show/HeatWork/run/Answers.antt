@@ -1,7 +1,4 @@
-use Rattle.std.proofs.Common.{rules, ◌≡◌, Some}
-use Rattle.instrument.specs.Counters.{heat_counts}
-use Rattle.instrument.specs.CounterTexts.{heat_text}
-use Rattle.session.specs.Changes.{left_with}
+use Rattle.session.proofs.Imports.{rules, ◌≡◌, Some, heat_counts, heat_text, left_with}
 use Rattle.session.proofs.Exits.{refused}
 use Rattle.session.proofs.Views.{heat_goes, heat_none, then_broke, then_wrote}
 use Rattle.session.proofs.show.HeatWork.run.Goals as goal

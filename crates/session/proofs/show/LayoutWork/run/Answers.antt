@@ -1,11 +1,5 @@
-use Rattle.std.proofs.Common.{rules}
-use Rattle.instrument.specs.CounterTexts.{runs_text}
-use Rattle.record_dim.specs.Leaves.{texts_of}
-use Rattle.views.specs.Tables.{owners_of}
-use Rattle.worlds.specs.Show.{layout, all_runs}
-use Rattle.command_checks.specs.GivesLaws.{GivesUp-then}
+use Rattle.session.proofs.Imports.{rules, runs_text, texts_of, owners_of, layout, all_runs, GivesUp-then, IsLeft, left_with}
 use Rattle.command_checks.specs.declared.fault.StepFault.TheVariants as step
-use Rattle.session.specs.Changes.{IsLeft, left_with}
 use Rattle.session.proofs.Exits.{gave_up}
 use Rattle.session.proofs.Views.{layout_goes, then_broke, then_wrote}
 use Rattle.session.proofs.show.LayoutWork.run.Goals as goal

@@ -1,11 +1,4 @@
-use Rattle.std.proofs.Common.{rules, length, refl, ap, sym}
-use Rattle.csv_rows.specs.Texts.{print_text}
-use Rattle.record_dim.specs.Leaves.{texts_of}
-use Rattle.views.specs.Tables.{Table, after_log, leaf_count_of}
-use Rattle.views.specs.Tallies.{all_accesses, Read}
-use Rattle.worlds.specs.Outcomes.{Goes}
-use Rattle.worlds.specs.Show.{print}
-use Rattle.session.specs.Changes.{left_with}
+use Rattle.session.proofs.Imports.{rules, length, refl, ap, sym, print_text, texts_of, Table, after_log, leaf_count_of, all_accesses, Read, Goes, print, left_with}
 use Rattle.session.proofs.Views.{then_broke, then_wrote}
 use Rattle.session.proofs.show.PrintWork.run.Goals as goal
 

@@ -1,9 +1,4 @@
-use Rattle.std.proofs.Common.{◌*◌, [], rules, refl, sym, subst}
-use Rattle.worlds.specs.OnView.{Done, done_to}
-use Rattle.worlds.specs.Outcomes.{Outcome}
-use Rattle.command_checks.specs.Gives.{Gives}
-use Rattle.command_checks.specs.Stencils.{stencil_of}
-use Rattle.session.specs.Changes.{IsLeft, left_with}
+use Rattle.session.proofs.Imports.{◌*◌, [], rules, refl, sym, subst, Done, done_to, Outcome, Gives, stencil_of, IsLeft, left_with}
 use Rattle.session.proofs.Exits.{answers_quiet, gave_up}
 use Rattle.session.proofs.Stencils.{unfit, no_room, run_is}
 use Rattle.session.proofs.stencil.RunStencilWork.run.Goals as goal

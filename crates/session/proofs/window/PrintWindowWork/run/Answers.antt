@@ -1,10 +1,4 @@
-use Rattle.std.proofs.Common.{◌∙◌, rules, ap, sym}
-use Rattle.csv_rows.specs.Texts.{print_text}
-use Rattle.record_dim.specs.Leaves.{texts_of}
-use Rattle.subviews.specs.SubViews.{sub_table, sub_reads}
-use Rattle.views.specs.Tables.{Table, after_log, leaf_count_of}
-use Rattle.worlds.specs.Outcomes.{Goes}
-use Rattle.session.specs.Changes.{IsLeft, left_with}
+use Rattle.session.proofs.Imports.{◌∙◌, rules, ap, sym, print_text, texts_of, sub_table, sub_reads, Table, after_log, leaf_count_of, Goes, IsLeft, left_with}
 use Rattle.session.proofs.Exits.{gave_up}
 use Rattle.session.proofs.Views.{then_broke, then_wrote}
 use Rattle.session.proofs.Windows.{no_window, window_goes}

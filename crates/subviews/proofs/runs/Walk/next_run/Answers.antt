@@ -1,5 +1,4 @@
-use Rattle.std.proofs.Common.{◌+◌, ◌-◌, refl, arith}
-use Rattle.subviews.specs.SubViews.{rows_of}
+use Rattle.subviews.proofs.Imports.{◌+◌, ◌-◌, refl, arith, rows_of}
 use Rattle.subviews.proofs.Growth.{run_behind}
 use Rattle.subviews.proofs.Ways.{row_held, row_inside}
 use Rattle.subviews.proofs.runs.Walk.next_run.Goals as goal

@@ -1,10 +1,4 @@
-use Rattle.std.proofs.Common.{◌≡◌, ◌<◌, [], length, get_or, sym, ap, ◌∙◌, subst, arith}
-use Rattle.std.proofs.lemmas.List.{get_or_read}
-use Rattle.record_dim.specs.Schemas.{schema_fields}
-use Rattle.map_expr.specs.Terms.{term_of}
-use Rattle.map_checks.specs.Mappings.{layout_by}
-use Rattle.blobs.specs.Bits.{bits_of}
-use Rattle.views.specs.Tables.{Table, owners_of, blob_bits_of}
+use Rattle.views.proofs.Imports.{◌≡◌, ◌<◌, [], length, get_or, sym, ap, ◌∙◌, subst, arith, get_or_read, schema_fields, term_of, layout_by, bits_of, Table, owners_of, blob_bits_of}
 use Rattle.views.proofs.KeptLaws.{kept_blob}
 use Rattle.views.proofs.view.View.blob.Goals as goal
 

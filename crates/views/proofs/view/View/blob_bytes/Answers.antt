@@ -1,11 +1,4 @@
-use Rattle.std.proofs.Common.{ℕ, ◌≡◌, ◌+◌, ◌*◌, ◌≤◌, ◌∙◌, [], length, get_or, take, ap, arith}
-use Rattle.std.specs.List.{sum_by}
-use Rattle.std.proofs.lemmas.List.{take_all, get_or_read}
-use Rattle.std.proofs.lemmas.List.Sums.{sum_by_more_le}
-use Rattle.record_dim.specs.Schemas.{schema_fields}
-use Rattle.map_expr.specs.Terms.{term_of}
-use Rattle.places.specs.Layout.{Owner}
-use Rattle.views.specs.Tables.{Table, owners_of}
+use Rattle.views.proofs.Imports.{ℕ, ◌≡◌, ◌+◌, ◌*◌, ◌≤◌, ◌∙◌, [], length, get_or, take, ap, arith, sum_by, take_all, get_or_read, sum_by_more_le, schema_fields, term_of, Owner, Table, owners_of}
 use Rattle.views.proofs.KeptLaws.{byte_count, few_bytes}
 use Rattle.views.proofs.view.View.blob_bytes.Goals as goal
 

@@ -1,5 +1,4 @@
-use Rattle.std.proofs.Common.{ℕ, ◌≡◌, length, take}
-use Rattle.std.specs.List.{sum_by}
+use Rattle.views.proofs.Imports.{ℕ, ◌≡◌, length, take, sum_by}
 use Rattle.views.proofs.view.View.blob_bytes.Given as goal
 
 abbrev pub invariant-loop-blob : goal.invariant-loop-blob

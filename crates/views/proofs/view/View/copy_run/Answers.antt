@@ -1,11 +1,4 @@
-use Rattle.std.proofs.Common.{◌≡◌, ◌∙◌, ℤ, ℕ, List, length, ap, arith}
-use Rattle.record_dim.specs.declared.leaf_type.LeafType.{LeafType}
-use Rattle.std.proofs.lemmas.List.{length-map}
-use Rattle.piece_bits.specs.Lows.{low_64}
-use Rattle.views.specs.Columns.{column_writes, with_column}
-use Rattle.views.specs.Runs.{run_of, run_steps}
-use Rattle.views.specs.Tables.{leaf_type_of, after_stores}
-use Rattle.views.specs.RunsLaws.{run_length}
+use Rattle.views.proofs.Imports.{◌≡◌, ◌∙◌, ℤ, ℕ, List, length, ap, arith, LeafType, length-map, low_64, column_writes, with_column, run_of, run_steps, leaf_type_of, after_stores, run_length}
 use Rattle.views.proofs.RunSeenLaws.{copied_fits, copied_raised}
 use Rattle.views.proofs.view.View.copy_run.Goals as goal
 use Rattle.views.proofs.view.View.copy_run.Goals.{After-read_run}

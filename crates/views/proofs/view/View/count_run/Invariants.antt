@@ -1,4 +1,4 @@
-use Rattle.std.proofs.Common.{◌≡◌, ◌+◌}
+use Rattle.views.proofs.Imports.{◌≡◌, ◌+◌}
 use Rattle.views.proofs.view.View.count_run.Given as goal
 
 abbrev pub invariant-loop-block : goal.invariant-loop-block

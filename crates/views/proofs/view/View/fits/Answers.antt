@@ -1,8 +1,4 @@
-use Rattle.std.proofs.Common.{ℤ, ◌∙◌, sym, ap, rules, SFits}
-use Rattle.std.specs.Int.{w128}
-use Rattle.std.proofs.lemmas.Int.{to_z-of_z}
-use Rattle.views.specs.Stores.{told}
-use Rattle.views.specs.Tables.{answer_of}
+use Rattle.views.proofs.Imports.{ℤ, ◌∙◌, sym, ap, rules, SFits, w128, to_z-of_z, told, answer_of}
 use Rattle.views.proofs.view.View.fits.Goals as goal
 
 pub returns-then-takes : goal.returns-then-takes

@@ -1,5 +1,4 @@
-use Rattle.std.proofs.Common.{[], ◌∷◌, sym}
-use Rattle.views.specs.Tallies.{Read}
+use Rattle.views.proofs.Imports.{[], ◌∷◌, sym, Read}
 use Rattle.views.proofs.view.View.get_by_rule.Goals as goal
 
 pub returns-clause-same : goal.returns-clause-same

@@ -1,9 +1,4 @@
-use Rattle.std.proofs.Common.{◌∙◌, ℤ, length, ap, sym, subst, arith, rules, SFits}
-use Rattle.std.specs.Int.{w128}
-use Rattle.std.proofs.lemmas.Int.{to_z-of_z}
-use Rattle.places.specs.Image.{entry}
-use Rattle.record_dim.specs.LeafTypes.{IsDeclared}
-use Rattle.views.specs.Tables.{Table, leaf_type_of, leaf_count_of}
+use Rattle.views.proofs.Imports.{◌∙◌, ℤ, length, ap, sym, subst, arith, rules, SFits, w128, to_z-of_z, entry, IsDeclared, Table, leaf_type_of, leaf_count_of}
 use Rattle.views.proofs.view.View.get_counted.Goals as goal
 
 pub read-requires-clause-row_in : goal.read-requires-clause-row_in

@@ -1,10 +1,5 @@
-use Rattle.std.proofs.Common.{Option, Some, None, Bor, sym, subst}
-use Rattle.std.specs.Prelude.{IfSome, option_map}
-use Rattle.std.specs.Option.{option_copied}
-use Rattle.instrument.specs.Counters.{HeatCounts, heat_counts}
-use Rattle.instrument.specs.declared.heat.Heat.{Heat}
-use Rattle.views.specs.Kept.{HasGranules}
-use Rattle.views.specs.Tables.{Table, owners_of}
+use Rattle.views.proofs.Imports.{Option, Some, None, Bor, sym, subst, IfSome, option_copied, HeatCounts, heat_counts, Heat, HasGranules, Table, owners_of}
+use Rattle.std.specs.Prelude.{option_map}
 use Rattle.views.proofs.view.View.heat.Goals as goal
 
 -- what holds of the counts that are kept holds of those that are lent

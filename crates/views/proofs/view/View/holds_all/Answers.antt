@@ -1,11 +1,4 @@
-use Rattle.std.proofs.Common.{◌≤ℤ◌, sym, subst, SFits, rules, arith}
-use Rattle.std.specs.Int.{w128}
-use Rattle.std.proofs.lemmas.Int.{ints, to_z-of_z}
-use Rattle.record_dim.specs.LeafTypes.{IsDeclared, least_of, greatest_of, least_in, greatest_in}
-use Rattle.record_dim.specs.declared.leaf_type.LeafType.{LeafType}
-use Rattle.places.specs.declared.piece.Hold.{Hold}
-use Rattle.views.specs.Stores.{Fits}
-use Rattle.views.specs.Tables.{leaf_type_of}
+use Rattle.views.proofs.Imports.{◌≤ℤ◌, sym, subst, SFits, rules, arith, w128, ints, to_z-of_z, IsDeclared, least_of, greatest_of, least_in, greatest_in, LeafType, Hold, Fits, leaf_type_of}
 use Rattle.views.proofs.Opened.{cell_count, leaf_seen, kind_seen, hold_seen}
 use Rattle.views.proofs.RunLaws.{fits_within}
 use Rattle.views.proofs.view.View.holds_all.Goals as goal

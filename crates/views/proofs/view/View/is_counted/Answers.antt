@@ -1,7 +1,4 @@
-use Rattle.std.proofs.Common.{◌≡◌, false, rules, ap, sym, ◌∙◌}
-use Rattle.map_expr.specs.Terms.{term_of}
-use Rattle.map_any.specs.Counters.{is_counted}
-use Rattle.views.specs.Tables.{Table}
+use Rattle.views.proofs.Imports.{◌≡◌, false, rules, ap, sym, ◌∙◌, term_of, is_counted, Table}
 use Rattle.views.proofs.Opened.{idle_seen}
 use Rattle.views.proofs.view.View.is_counted.Goals as goal
 

@@ -1,6 +1,4 @@
-use Rattle.std.proofs.Common.{ℤ, pos, get_or, SFits, w64, sym, ap, ◌∙◌, arith, rules}
-use Rattle.views.specs.Stores.{told}
-use Rattle.views.specs.Tables.{answer_of}
+use Rattle.views.proofs.Imports.{ℤ, pos, get_or, SFits, w64, sym, ap, ◌∙◌, arith, rules, told, answer_of}
 use Rattle.views.proofs.StoredLaws.{fault_later, fault_here, passed}
 use Rattle.views.proofs.view.View.lanes_fit.Goals as goal
 

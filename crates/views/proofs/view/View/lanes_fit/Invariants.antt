@@ -1,6 +1,4 @@
-use Rattle.std.proofs.Common.{◌≡◌, drop}
-use Rattle.views.specs.Columns.{first_lane_fault}
-use Rattle.views.specs.Tables.{answer_of}
+use Rattle.views.proofs.Imports.{◌≡◌, drop, first_lane_fault, answer_of}
 use Rattle.views.proofs.view.View.lanes_fit.Given as goal
 
 abbrev pub invariant-loop-lane : goal.invariant-loop-lane

@@ -1,9 +1,4 @@
-use Rattle.std.proofs.Common.{◌≡◌, ◌-◌, ◌++◌, List, ℤ, pos, ℕ, length, take, drop, replicate, sym, ap, subst, ◌∙◌, arith}
-use Rattle.std.specs.Simd.Lanes.{Each1}
-use Rattle.piece_bits.specs.Blocks.{IsBlock, IsNarrow}
-use Rattle.piece_bits.specs.BlockLaws.{same}
-use Rattle.views.specs.Columns.{column, column_reads}
-use Rattle.views.specs.Tables.{Table, after_log}
+use Rattle.views.proofs.Imports.{◌≡◌, ◌-◌, ◌++◌, List, ℤ, pos, ℕ, length, take, drop, replicate, sym, ap, subst, ◌∙◌, arith, Each1, IsBlock, IsNarrow, same, column, column_reads, Table, after_log}
 use Rattle.views.proofs.ColumnLaws.{nothing_loaded, loaded_more, loaded_block}
 use Rattle.views.proofs.view.View.load_lanes.Goals as goal
 

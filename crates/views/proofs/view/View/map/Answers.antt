@@ -1,7 +1,4 @@
-use Rattle.std.proofs.Common.{◌∙◌, ap, length}
-use Rattle.extents.specs.Indices.{indices}
-use Rattle.map_checks.specs.Mappings.{leaf_cells}
-use Rattle.views.specs.Tables.{Table, leaf_types_of, owners_of, table_holds}
+use Rattle.views.proofs.Imports.{◌∙◌, ap, length, indices, leaf_cells, Table, leaf_types_of, owners_of, table_holds}
 use Rattle.views.proofs.view.View.map.Goals as goal
 
 pub returns : goal.returns

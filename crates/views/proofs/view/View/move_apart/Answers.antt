@@ -1,12 +1,4 @@
-use Rattle.std.proofs.Common.{◌≡◌, ◌+◌, ◌*◌, ℕ, length, refl, sym, ap, subst, arith}
-use Rattle.std.specs.Prelude.{IfSome}
-use Rattle.std.proofs.lemmas.Nat.{row_fits}
-use Rattle.blobs.specs.Moves.{blocks}
-use Rattle.map_checks.specs.Arrays.{array_of}
-use Rattle.map_any.specs.Strategies.{AreRuns}
-use Rattle.views.specs.Moves.{size_of, IsRunMoved}
-use Rattle.views.specs.MovesLaws.{rows_after}
-use Rattle.views.specs.Tables.{Table, leaf_count_of, leaf_type_of}
+use Rattle.views.proofs.Imports.{◌≡◌, ◌+◌, ◌*◌, ℕ, length, refl, sym, ap, subst, arith, IfSome, row_fits, blocks, array_of, AreRuns, size_of, IsRunMoved, rows_after, Table, leaf_count_of, leaf_type_of}
 use Rattle.views.proofs.RunMoveLaws.{nothing_moved}
 use Rattle.views.proofs.SlotMoveLaws.{runs_more, still_block}
 use Rattle.views.proofs.view.View.move_apart.Goals as goal

@@ -1,10 +1,4 @@
-use Rattle.std.proofs.Common.{◌≡◌, ◌+◌, ◌*◌, ◌≤◌, length}
-use Rattle.std.specs.Prelude.{IfSome}
-use Rattle.blobs.specs.Moves.{blocks}
-use Rattle.map_checks.specs.Arrays.{array_of}
-use Rattle.views.specs.Moves.{size_of, IsRunMoved}
-use Rattle.views.specs.MovesLaws.{with_rows}
-use Rattle.views.specs.Tables.{leaf_count_of, leaf_type_of}
+use Rattle.views.proofs.Imports.{◌≡◌, ◌+◌, ◌*◌, ◌≤◌, length, IfSome, blocks, array_of, size_of, IsRunMoved, with_rows, leaf_count_of, leaf_type_of}
 use Rattle.views.proofs.view.View.move_apart.Given as goal
 
 -- the slots of the pieces so far

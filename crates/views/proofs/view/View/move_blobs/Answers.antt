@@ -1,14 +1,5 @@
-use Rattle.std.proofs.Common.{◌≡◌, ◌∙◌, ℕ, List, length, sum_by, sym, ap, subst, arith}
-use Rattle.record_dim.specs.Leaves.{kinds_of}
-use Rattle.record_dim.specs.Schemas.{schema_fields}
-use Rattle.places.specs.Layout.{Owner}
-use Rattle.blobs.specs.Moves.{blocks}
-use Rattle.map_expr.specs.Terms.{term_of, uncounted}
-use Rattle.map_checks.specs.Mappings.{layout_by, holds_by}
-use Rattle.piece_bits.specs.Tables.{AreSized}
-use Rattle.views.specs.Kept.{IsKept, tally_of, table_under}
-use Rattle.views.specs.Moves.{blob_steps, MayMove}
-use Rattle.views.specs.Tables.{Table, owners_of}
+use Rattle.views.proofs.Imports.{◌≡◌, ◌∙◌, ℕ, List, length, sym, ap, subst, arith, kinds_of, schema_fields, Owner, blocks, term_of, uncounted, layout_by, holds_by, AreSized, IsKept, tally_of, table_under, blob_steps, MayMove, Table, owners_of}
+use Rattle.std.proofs.Common.{sum_by}
 use Rattle.views.proofs.MoveLaws.{blocks_are, same_lengths, moved_table, moved_kept, views_alike, views_one, may_seen, seen_moved}
 use Rattle.views.proofs.view.View.move_blobs.Goals as goal
 

@@ -1,17 +1,5 @@
-use Rattle.std.proofs.Common.{◌≡◌, ◌∙◌, ◌+◌, ◌*◌, ◌<◌, ◌≤◌, ◌||◌, ℕ, zero, suc, true, length, sum_by, refl, sym, ap, subst, arith}
-use Rattle.std.specs.Prelude.{◌==◌, IfSome}
-use Rattle.std.specs.List.{range_with_len}
-use Rattle.std.proofs.lemmas.Bool.{or_left, or_right, eq-eqb}
-use Rattle.std.proofs.lemmas.Nat.{row_fits}
-use Rattle.blobs.specs.Moves.{blocks}
-use Rattle.map_checks.specs.Arrays.{array_of}
-use Rattle.map_any.specs.Strategies.{AreRuns}
-use Rattle.views.specs.CutLaws.{slots_within, block_in, same_slots, same_steps, all_pieces}
-use Rattle.views.specs.Moves.{size_of, IsRunMoved}
-use Rattle.views.specs.MovesLaws.{rows_after}
-use Rattle.views.specs.Pieces.{is_cut, piece_at}
-use Rattle.views.specs.SpanLaws.{span_pieces}
-use Rattle.views.specs.Tables.{Table, leaf_count_of, leaf_type_of}
+use Rattle.views.proofs.Imports.{◌≡◌, ◌∙◌, ◌+◌, ◌*◌, ◌<◌, ◌≤◌, ◌||◌, ℕ, zero, suc, true, length, refl, sym, ap, subst, arith, ◌==◌, IfSome, range_with_len, or_left, or_right, eq-eqb, row_fits, blocks, array_of, AreRuns, slots_within, block_in, same_slots, same_steps, all_pieces, size_of, IsRunMoved, rows_after, is_cut, piece_at, span_pieces, Table, leaf_count_of, leaf_type_of}
+use Rattle.std.proofs.Common.{sum_by}
 use Rattle.views.proofs.PieceLaws.{piece_is}
 use Rattle.views.proofs.RunMoveLaws.{nothing_moved}
 use Rattle.views.proofs.SlotMoveLaws.{runs_more, still_block}

@@ -1,11 +1,5 @@
-use Rattle.std.proofs.Common.{◌≡◌, ◌+◌, ◌-◌, ◌<◌, ◌≤◌, ◌||◌, true, length, sum_by}
-use Rattle.std.specs.Prelude.{◌==◌, IfSome}
-use Rattle.std.specs.List.{range_with_len}
-use Rattle.map_checks.specs.Arrays.{array_of}
-use Rattle.views.specs.Moves.{size_of, IsRunMoved}
-use Rattle.views.specs.MovesLaws.{with_rows}
-use Rattle.views.specs.Pieces.{is_cut, piece_at}
-use Rattle.views.specs.Tables.{leaf_count_of, leaf_type_of}
+use Rattle.views.proofs.Imports.{◌≡◌, ◌+◌, ◌-◌, ◌<◌, ◌≤◌, ◌||◌, true, length, ◌==◌, IfSome, range_with_len, array_of, size_of, IsRunMoved, with_rows, is_cut, piece_at, leaf_count_of, leaf_type_of}
+use Rattle.std.proofs.Common.{sum_by}
 use Rattle.views.proofs.view.View.move_cut.Given as goal
 
 -- the slots so far were moved, and a piece begins here

@@ -1,22 +1,4 @@
-use Rattle.std.proofs.Common.{◌≡◌, ◌∙◌, ◌+◌, ◌*◌, ◌/◌, ◌^◌, ◌<◌, ◌≤◌, ℕ, List, [], map, length, get_or, slice_index, sym, ap, subst, arith}
-use Rattle.std.proofs.lemmas.Nat.{mul-le}
-use Rattle.std.proofs.lemmas.Option.{get_or_from_slice_get}
-use Rattle.record_dim.specs.LeafTypes.{width_of}
-use Rattle.record_dim.specs.Leaves.{kinds_of}
-use Rattle.record_dim.specs.Schemas.{schema_fields}
-use Rattle.record_dim.specs.Trees.{Fields}
-use Rattle.record_dim.specs.declared.leaf_type.LeafType.{LeafType}
-use Rattle.record_dim.specs.declared.leaf_type.LeafType.TheVariants.{Bool as Truth}
-use Rattle.blobs.specs.Moves.{blocks}
-use Rattle.map_expr.specs.Terms.{term_of}
-use Rattle.map_any.specs.Strategies.{AreRuns}
-use Rattle.map_any.specs.Maps.{extents_of, term_of_map}
-use Rattle.map_checks.specs.Mappings.{layout_by}
-use Rattle.places.specs.declared.piece.Hold.{Hold}
-use Rattle.views.specs.Moves.{size_of, IsInBlock}
-use Rattle.views.specs.Pieces.{IsMovedEach}
-use Rattle.views.specs.Stores.{kind_at}
-use Rattle.views.specs.Tables.{Table, leaf_type_of}
+use Rattle.views.proofs.Imports.{◌≡◌, ◌∙◌, ◌+◌, ◌*◌, ◌/◌, ◌^◌, ◌<◌, ◌≤◌, ℕ, List, [], map, length, get_or, slice_index, sym, ap, subst, arith, mul-le, get_or_from_slice_get, width_of, kinds_of, schema_fields, Fields, LeafType, Truth, blocks, term_of, AreRuns, extents_of, term_of_map, layout_by, Hold, size_of, IsInBlock, IsMovedEach, kind_at, Table, leaf_type_of}
 use Rattle.views.proofs.EachLaws.{run_at, AreEven, each_target_in, each_target_room, each_source_in, each_source_room, each_moved}
 use Rattle.views.proofs.KeptLaws.{kind_count, row_count}
 use Rattle.views.proofs.MoveLaws.{views_alike}

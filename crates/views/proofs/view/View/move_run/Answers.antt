@@ -1,20 +1,4 @@
-use Rattle.std.proofs.Common.{◌≡◌, ◌∙◌, ◌+◌, ◌*◌, ◌/◌, ◌^◌, ◌<◌, ◌≤◌, ℕ, List, [], length, get_or, refl, sym, ap, subst, arith}
-use Rattle.std.proofs.lemmas.Nat.{mul-le}
-use Rattle.std.proofs.lemmas.Option.{get_or_from_slice_get}
-use Rattle.record_dim.specs.LeafTypes.{width_of}
-use Rattle.record_dim.specs.Leaves.{kinds_of}
-use Rattle.record_dim.specs.Schemas.{schema_fields}
-use Rattle.record_dim.specs.Trees.{Fields}
-use Rattle.record_dim.specs.declared.leaf_type.LeafType.{LeafType}
-use Rattle.record_dim.specs.declared.leaf_type.LeafType.TheVariants.{Bool as Truth}
-use Rattle.blobs.specs.Moves.{blocks}
-use Rattle.piece_bits.specs.MovedLaws.{AreMoved}
-use Rattle.map_expr.specs.Terms.{term_of}
-use Rattle.map_any.specs.Strategies.{AreRuns}
-use Rattle.views.specs.Kept.{tally_of, table_under}
-use Rattle.views.specs.Moves.{size_of, IsInBlock}
-use Rattle.views.specs.Stores.{kind_at}
-use Rattle.views.specs.Tables.{Table, leaf_type_of}
+use Rattle.views.proofs.Imports.{◌≡◌, ◌∙◌, ◌+◌, ◌*◌, ◌/◌, ◌^◌, ◌<◌, ◌≤◌, ℕ, List, [], length, get_or, refl, sym, ap, subst, arith, mul-le, get_or_from_slice_get, width_of, kinds_of, schema_fields, Fields, LeafType, Truth, blocks, AreMoved, term_of, AreRuns, tally_of, table_under, size_of, IsInBlock, kind_at, Table, leaf_type_of}
 use Rattle.views.proofs.KeptLaws.{kind_count, row_count}
 use Rattle.views.proofs.MoveLaws.{views_alike, seen_moved}
 use Rattle.views.proofs.Opened.{cell_count, leaf_seen}

@@ -1,14 +1,4 @@
-use Rattle.std.proofs.Common.{◌≡◌, ◌∙◌, length, ap, sym, subst}
-use Rattle.record_dim.specs.Schemas.{schema_fields}
-use Rattle.record_dim.specs.Leaves.{leaves}
-use Rattle.record_dim.specs.Trees.{Fields}
-use Rattle.extents.specs.Indices.{indices}
-use Rattle.map_expr.specs.Terms.{term_of}
-use Rattle.piece_bits.specs.Tables.{zeros}
-use Rattle.map_checks.specs.Mappings.{layout_by}
-use Rattle.views.specs.Kept.{IsTallied, tally_of}
-use Rattle.views.specs.Tallies.{Tally, no_tally}
-use Rattle.views.specs.CountLaws.{new_tally, no_tally-tallied}
+use Rattle.views.proofs.Imports.{◌≡◌, ◌∙◌, length, ap, sym, subst, schema_fields, leaves, Fields, indices, term_of, zeros, layout_by, IsTallied, tally_of, Tally, no_tally, new_tally, no_tally-tallied}
 use Rattle.views.proofs.KeptLaws.{kind_count, kept_zeros, zero_table}
 use Rattle.views.proofs.Opened.{mapping_copied, within_copied, lawful_there, paired_there, laid_there}
 use Rattle.views.proofs.view.View.new_within.Goals as goal

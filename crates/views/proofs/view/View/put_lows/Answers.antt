@@ -1,13 +1,4 @@
-use Rattle.std.proofs.Common.{◌≡◌, ℤ, pos, get_or, length, map, take, SFits, to_z, of_z, w64, sym, ap, subst, ◌∙◌, rules, arith}
-use Rattle.std.specs.Int.{w128}
-use Rattle.std.proofs.lemmas.Int.{to_z-of_z}
-use Rattle.std.proofs.lemmas.List.{get_or-map, length-map}
-use Rattle.record_dim.specs.declared.leaf_type.LeafType.{LeafType}
-use Rattle.piece_bits.specs.Kept.{declared}
-use Rattle.piece_bits.specs.KeptLaws.{declared_same}
-use Rattle.views.specs.ColumnsLaws.{length-with_column}
-use Rattle.views.specs.Runs.{raised}
-use Rattle.views.specs.Tables.{Table, leaf_type_of, IsSettledIn}
+use Rattle.views.proofs.Imports.{◌≡◌, ℤ, pos, get_or, length, map, take, SFits, to_z, of_z, w64, sym, ap, subst, ◌∙◌, rules, arith, w128, to_z-of_z, get_or-map, length-map, LeafType, declared, declared_same, length-with_column, raised, Table, leaf_type_of, IsSettledIn}
 use Rattle.views.proofs.Opened.{kind_seen, some_seen}
 use Rattle.views.proofs.StoreLaws.{fit_settled}
 use Rattle.views.proofs.StoredLaws.{stored_more, all_stored}

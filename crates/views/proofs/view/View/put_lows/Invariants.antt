@@ -1,6 +1,4 @@
-use Rattle.std.proofs.Common.{map}
-use Rattle.views.specs.Runs.{raised}
-use Rattle.views.specs.Tables.{leaf_type_of}
+use Rattle.views.proofs.Imports.{map, raised, leaf_type_of}
 use Rattle.views.proofs.StoredLaws.{HasStored}
 use Rattle.views.proofs.view.View.put_lows.Given as goal
 

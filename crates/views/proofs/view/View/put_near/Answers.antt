@@ -1,4 +1,4 @@
-use Rattle.std.proofs.Common.{arith}
+use Rattle.views.proofs.Imports.{arith}
 use Rattle.views.proofs.Opened.{cell_count, leaf_seen, rows_seen}
 use Rattle.views.proofs.RunSeenLaws.{fits_here, put_kept, put_seen, put_uncounted}
 use Rattle.views.proofs.view.View.put_near.Goals as goal

@@ -1,11 +1,4 @@
-use Rattle.std.proofs.Common.{ℤ, ◌≡◌, ◌∙◌, sym, ap, subst, arith, rules, SFits, to_z, of_z}
-use Rattle.std.specs.Int.{w128}
-use Rattle.std.proofs.lemmas.Int.{to_z-of_z}
-use Rattle.places.specs.declared.piece.Hold.{Hold}
-use Rattle.piece_bits.specs.Tables.{hold_at}
-use Rattle.piece_bits.specs.Kept.{declared, held}
-use Rattle.piece_bits.specs.declared.mode.StoreMode.TheVariants.{Strict}
-use Rattle.views.specs.Tables.{Table, kept_of, leaf_type_of, table_holds, IsSettledIn}
+use Rattle.views.proofs.Imports.{ℤ, ◌≡◌, ◌∙◌, sym, ap, subst, arith, rules, SFits, to_z, of_z, w128, to_z-of_z, Hold, hold_at, declared, held, Strict, Table, kept_of, leaf_type_of, table_holds, IsSettledIn}
 use Rattle.views.proofs.Opened.{cell_count, leaf_seen, some_seen, hold_seen}
 use Rattle.views.proofs.StoreLaws.{taken_raw, strict_raw}
 use Rattle.views.proofs.view.View.raw.Goals as goal

@@ -1,16 +1,4 @@
-use Rattle.std.proofs.Common.{ℤ, ◌≡◌, sym, ap, ◌∙◌, subst, arith, rules, SFits, to_z, of_z}
-use Rattle.std.specs.Int.{w128}
-use Rattle.std.proofs.lemmas.Int.{to_z-of_z}
-use Rattle.std.proofs.lemmas.Option.{get_or_from_slice_get}
-use Rattle.record_dim.specs.declared.leaf_type.LeafType.{LeafType}
-use Rattle.record_dim.specs.declared.leaf_type.LeafType.TheVariants.{Bool as Truth}
-use Rattle.record_dim.specs.LeafTypes.{IsDeclared}
-use Rattle.record_dim.specs.Leaves.{kinds_of}
-use Rattle.record_dim.specs.Schemas.{schema_fields}
-use Rattle.places.specs.Image.{entry}
-use Rattle.piece_bits.specs.Kept.{declared}
-use Rattle.views.specs.Stores.{kind_at}
-use Rattle.views.specs.Tables.{leaf_type_of}
+use Rattle.views.proofs.Imports.{ℤ, ◌≡◌, sym, ap, ◌∙◌, subst, arith, rules, SFits, to_z, of_z, w128, to_z-of_z, get_or_from_slice_get, LeafType, Truth, IsDeclared, kinds_of, schema_fields, entry, declared, kind_at, leaf_type_of}
 use Rattle.views.proofs.Opened.{rows_seen, leaf_seen, cell_count, laid_here, raw_seen, strict_seen, declared_seen}
 use Rattle.views.proofs.view.View.read.Goals as goal
 use Rattle.views.proofs.view.View.read.Goals.{After-declared}

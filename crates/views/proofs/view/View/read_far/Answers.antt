@@ -1,10 +1,4 @@
-use Rattle.std.proofs.Common.{◌≡◌, ◌<◌, ◌≤◌, ◌∙◌, ℕ, length, refl, sym, ap, subst, arith, rules, SFits, FitsSigned, w64}
-use Rattle.std.specs.Int.{w128}
-use Rattle.std.proofs.lemmas.Int.{to_z-of_z}
-use Rattle.piece_bits.specs.Lows.{low_64, IsWithin64}
-use Rattle.views.specs.Columns.{column_reads}
-use Rattle.views.specs.RunsLaws.{declared_within}
-use Rattle.views.specs.Tables.{Table, leaf_type_of, after_log}
+use Rattle.views.proofs.Imports.{◌≡◌, ◌<◌, ◌≤◌, ◌∙◌, ℕ, length, refl, sym, ap, subst, arith, rules, SFits, FitsSigned, w64, w128, to_z-of_z, low_64, IsWithin64, column_reads, declared_within, Table, leaf_type_of, after_log}
 use Rattle.views.proofs.RunLaws.{run_read}
 use Rattle.views.proofs.RunStoreLaws.{no_row, row_more}
 use Rattle.views.proofs.view.View.read_far.Goals as goal

@@ -1,8 +1,4 @@
-use Rattle.std.proofs.Common.{◌≡◌, ◌+◌, false, sym, ap, ◌∙◌, arith}
-use Rattle.map_expr.specs.Terms.{term_of}
-use Rattle.map_any.specs.Counters.{is_counted}
-use Rattle.piece_bits.specs.Lows.{low_64}
-use Rattle.views.specs.Tables.{Table}
+use Rattle.views.proofs.Imports.{◌≡◌, ◌+◌, false, sym, ap, ◌∙◌, arith, term_of, is_counted, low_64, Table}
 use Rattle.views.proofs.Opened.{cell_count, leaf_seen, laid_here, rows_seen, sign_seen, idle_seen}
 use Rattle.views.proofs.RunLaws.{run_read}
 use Rattle.views.proofs.view.View.read_near.Goals as goal

@@ -1,8 +1,4 @@
-use Rattle.std.proofs.Common.{rules, arith, ℕ, ◌≡◌, ◌<◌, ◌∙◌, sym, ap, FitsSigned, length}
-use Rattle.std.specs.Int.{w128}
-use Rattle.std.proofs.lemmas.Int.{to_z-of_z}
-use Rattle.views.specs.Tables.{Table, leaf_count_of, after_log}
-use Rattle.views.specs.Tallies.{Read, row_accesses}
+use Rattle.views.proofs.Imports.{rules, arith, ℕ, ◌≡◌, ◌<◌, ◌∙◌, sym, ap, FitsSigned, length, w128, to_z-of_z, Table, leaf_count_of, after_log, Read, row_accesses}
 use Rattle.views.proofs.RowLaws.{none_read, leaf_read, row_read}
 use Rattle.views.proofs.view.View.read_row.Goals as goal
 

@@ -1,4 +1,4 @@
-use Rattle.std.proofs.Common.{◌≡◌, ◌+◌}
+use Rattle.views.proofs.Imports.{◌≡◌, ◌+◌}
 use Rattle.views.proofs.RowLaws.{AreRead}
 use Rattle.views.proofs.view.View.read_row.Given as goal
 

@@ -1,5 +1,4 @@
-use Rattle.std.proofs.Common.{◌≡◌, length, subst}
-use Rattle.views.specs.Tables.{Table, leaf_types_of, table_holds}
+use Rattle.views.proofs.Imports.{◌≡◌, length, subst, Table, leaf_types_of, table_holds}
 use Rattle.views.proofs.Opened.{table_seen}
 use Rattle.views.proofs.view.View.schema.Goals as goal
 

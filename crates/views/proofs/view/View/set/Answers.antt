@@ -1,8 +1,4 @@
-use Rattle.std.proofs.Common.{ℤ, ◌∙◌, sym, ap, rules, SFits, to_z, of_z}
-use Rattle.std.specs.Int.{w128}
-use Rattle.std.proofs.lemmas.Int.{to_z-of_z}
-use Rattle.views.specs.Stores.{told}
-use Rattle.views.specs.Tables.{answer_of, after_write}
+use Rattle.views.proofs.Imports.{ℤ, ◌∙◌, sym, ap, rules, SFits, to_z, of_z, w128, to_z-of_z, told, answer_of, after_write}
 use Rattle.views.proofs.StoreLaws.{raw_written}
 use Rattle.views.proofs.view.View.set.Goals as goal
 

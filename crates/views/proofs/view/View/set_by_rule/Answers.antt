@@ -1,10 +1,4 @@
-use Rattle.std.proofs.Common.{◌∙◌, [], ◌∷◌, ap, sym, rules, SFits, to_z, of_z}
-use Rattle.std.specs.Int.{w128}
-use Rattle.std.proofs.lemmas.Int.{to_z-of_z}
-use Rattle.piece_bits.specs.Kept.{declared}
-use Rattle.piece_bits.specs.Tables.{with_entry}
-use Rattle.views.specs.Tables.{Table, leaf_type_of, after_raw}
-use Rattle.views.specs.Tallies.{Write}
+use Rattle.views.proofs.Imports.{◌∙◌, [], ◌∷◌, ap, sym, rules, SFits, to_z, of_z, w128, to_z-of_z, declared, with_entry, Table, leaf_type_of, after_raw, Write}
 use Rattle.views.proofs.view.View.set_by_rule.Goals as goal
 
 pub returns : goal.returns

@@ -1,9 +1,4 @@
-use Rattle.std.proofs.Common.{◌∙◌, ℤ, length, ap, sym, subst, arith, rules, SFits, to_z, of_z}
-use Rattle.std.specs.Int.{w128}
-use Rattle.std.proofs.lemmas.Int.{to_z-of_z}
-use Rattle.piece_bits.specs.Kept.{declared}
-use Rattle.piece_bits.specs.Tables.{with_entry}
-use Rattle.views.specs.Tables.{Table, leaf_count_of, leaf_type_of, after_raw, IsSettledIn}
+use Rattle.views.proofs.Imports.{◌∙◌, ℤ, length, ap, sym, subst, arith, rules, SFits, to_z, of_z, w128, to_z-of_z, declared, with_entry, Table, leaf_count_of, leaf_type_of, after_raw, IsSettledIn}
 use Rattle.views.proofs.view.View.set_counted.Goals as goal
 
 pub write-requires-clause-row_in : goal.write-requires-clause-row_in

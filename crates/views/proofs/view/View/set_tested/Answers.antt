@@ -1,8 +1,4 @@
-use Rattle.std.proofs.Common.{ℤ, ◌∙◌, sym, ap, subst, rules, SFits, to_z, of_z}
-use Rattle.std.specs.Int.{w128}
-use Rattle.std.proofs.lemmas.Int.{to_z-of_z}
-use Rattle.piece_bits.specs.Kept.{declared}
-use Rattle.views.specs.Tables.{kept_of, leaf_type_of, IsSettledIn}
+use Rattle.views.proofs.Imports.{ℤ, ◌∙◌, sym, ap, subst, rules, SFits, to_z, of_z, w128, to_z-of_z, declared, kept_of, leaf_type_of, IsSettledIn}
 use Rattle.views.proofs.StoreLaws.{raw_written}
 use Rattle.views.proofs.view.View.set_tested.Goals as goal
 

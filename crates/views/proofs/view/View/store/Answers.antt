@@ -1,17 +1,4 @@
-use Rattle.std.proofs.Common.{ℤ, ◌≡◌, List, true, false, ◌∙◌, sym, ap, subst, arith, rules, SFits, to_z, of_z}
-use Rattle.std.specs.Int.{w128}
-use Rattle.std.proofs.lemmas.Int.{to_z-of_z}
-use Rattle.record_dim.specs.LeafTypes.{IsIn}
-use Rattle.record_dim.specs.Schemas.{schema_fields}
-use Rattle.places.specs.declared.piece.Hold.{Hold}
-use Rattle.map_expr.specs.Terms.{term_of}
-use Rattle.map_any.specs.Counters.{is_counted}
-use Rattle.map_checks.specs.Mappings.{holds_by}
-use Rattle.piece_bits.specs.Tables.{hold_at, with_entry}
-use Rattle.views.specs.Kept.{raw_under, tally_of}
-use Rattle.views.specs.Tables.{Table, IsSettledIn}
-use Rattle.views.specs.Tallies.{Write}
-use Rattle.views.specs.CountLaws.{idle_tallied}
+use Rattle.views.proofs.Imports.{ℤ, ◌≡◌, List, true, false, ◌∙◌, sym, ap, subst, arith, rules, SFits, to_z, of_z, w128, to_z-of_z, IsIn, schema_fields, Hold, term_of, is_counted, holds_by, hold_at, with_entry, raw_under, tally_of, Table, IsSettledIn, Write, idle_tallied}
 use Rattle.views.proofs.Opened.{rows_seen, leaf_seen, cell_count, held_seen, kept_after, table_after, raw_same, laid_there, seen_from, seen_written}
 use Rattle.views.proofs.view.View.store.Goals as goal
 use Rattle.views.proofs.view.View.store.Goals.{After-near_write}

@@ -1,10 +1,4 @@
-use Rattle.std.proofs.Common.{◌≡◌, ◌<◌, ℤ, Ok, pos, get_or, length, map, take, SFits, to_z, of_z, w64, refl, sym, ap, ◌∙◌, rules, arith}
-use Rattle.std.specs.Int.{w128}
-use Rattle.std.proofs.lemmas.List.{get_or-map, length-map}
-use Rattle.views.specs.ColumnsLaws.{length-with_column}
-use Rattle.views.specs.Runs.{told_lane}
-use Rattle.views.specs.Stores.{told}
-use Rattle.views.specs.Tables.{Table, answer_of, kept_of}
+use Rattle.views.proofs.Imports.{◌≡◌, ◌<◌, ℤ, Ok, pos, get_or, length, map, take, SFits, to_z, of_z, w64, refl, sym, ap, ◌∙◌, rules, arith, w128, get_or-map, length-map, length-with_column, told_lane, told, Table, answer_of, kept_of}
 use Rattle.views.proofs.RunStoreLaws.{value_more, run_stored, whole_run, no_fault, stopped_run}
 use Rattle.views.proofs.StoredLaws.{nothing_stored, fault_later, fault_here, passed}
 use Rattle.views.proofs.view.View.store_each.Goals as goal

@@ -1,7 +1,4 @@
-use Rattle.std.proofs.Common.{◌≡◌, drop, map}
-use Rattle.views.specs.Columns.{first_lane_fault}
-use Rattle.views.specs.Runs.{run_fault}
-use Rattle.views.specs.Tables.{answer_of, kept_of}
+use Rattle.views.proofs.Imports.{◌≡◌, drop, map, first_lane_fault, run_fault, answer_of, kept_of}
 use Rattle.views.proofs.StoredLaws.{HasStored}
 use Rattle.views.proofs.view.View.store_each.Given as goal
 

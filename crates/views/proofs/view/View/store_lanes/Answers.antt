@@ -1,8 +1,5 @@
-use Rattle.std.proofs.Common.{◌≡◌, List, ℤ, ℕ, Some, None, map, take, OnOk, IfErr, subst, sym, ◌∙◌, arith}
-use Rattle.piece_bits.specs.Blocks.{IsBlock}
-use Rattle.piece_bits.specs.BlockLaws.{same}
-use Rattle.views.specs.Columns.{first_lane_fault, with_column, column_writes}
-use Rattle.views.specs.Tables.{answer_of, kept_of, after_stores}
+use Rattle.views.proofs.Imports.{◌≡◌, List, ℤ, ℕ, Some, None, map, take, IfErr, subst, sym, ◌∙◌, arith, IsBlock, same, first_lane_fault, with_column, column_writes, answer_of, kept_of, after_stores}
+use Rattle.std.proofs.Common.{OnOk}
 use Rattle.views.proofs.StoredLaws.{first_lanes}
 use Rattle.views.proofs.view.View.store_lanes.Given as given
 use Rattle.views.proofs.view.View.store_lanes.Goals as goal

@@ -1,8 +1,4 @@
-use Rattle.std.proofs.Common.{rules, arith, ◌≡◌, ◌<◌, ◌∙◌, pos, [], sym, ap, List, ℤ, FitsSigned, get_or, length}
-use Rattle.std.specs.Int.{w128}
-use Rattle.std.proofs.lemmas.Int.{to_z-of_z}
-use Rattle.std.proofs.lemmas.List.{length-set}
-use Rattle.views.specs.Tables.{Table, leaf_count_of}
+use Rattle.views.proofs.Imports.{rules, arith, ◌≡◌, ◌<◌, ◌∙◌, pos, [], sym, ap, List, ℤ, FitsSigned, get_or, length, w128, to_z-of_z, length-set, Table, leaf_count_of}
 use Rattle.views.proofs.RowLaws.{none_stored, leaf_stored, row_stored}
 use Rattle.views.proofs.view.View.store_row.Goals as goal
 

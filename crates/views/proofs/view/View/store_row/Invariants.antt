@@ -1,4 +1,4 @@
-use Rattle.std.proofs.Common.{◌≡◌, ◌+◌}
+use Rattle.views.proofs.Imports.{◌≡◌, ◌+◌}
 use Rattle.views.proofs.RowLaws.{AreStored}
 use Rattle.views.proofs.view.View.store_row.Given as goal
 

@@ -1,12 +1,6 @@
-use Rattle.std.proofs.Common.{◌≡◌, ◌<◌, ◌∙◌, ℤ, ℕ, List, None, true, pos, get_or, length, map, sym, ap, subst, arith, take_all}
+use Rattle.views.proofs.Imports.{◌≡◌, ◌<◌, ◌∙◌, ℤ, ℕ, List, None, true, pos, get_or, length, map, sym, ap, subst, arith, hold_at, column_writes, with_column, raised, run_fault, told_lane, stored_count, with_run, raised_same, Fits, kind_at, told, answer_of, kept_of, leaf_type_of, table_holds, after_stores, LaneFault}
+use Rattle.std.proofs.Common.{take_all}
 use Rattle.std.specs.Prelude.{Option}
-use Rattle.piece_bits.specs.Tables.{hold_at}
-use Rattle.views.specs.Columns.{column_writes, with_column}
-use Rattle.views.specs.Runs.{raised, run_fault, told_lane, stored_count, with_run}
-use Rattle.views.specs.RunsLaws.{raised_same}
-use Rattle.views.specs.Stores.{Fits, kind_at, told}
-use Rattle.views.specs.Tables.{answer_of, kept_of, leaf_type_of, table_holds, after_stores}
-use Rattle.views.specs.declared.fault.LaneFault.{LaneFault}
 use Rattle.views.proofs.ShownLaws.{shown_there}
 use Rattle.views.proofs.KeptColumns.{none_refused}
 use Rattle.views.proofs.Opened.{cell_count, leaf_seen, some_seen}

@@ -1,11 +1,4 @@
-use Rattle.std.proofs.Common.{◌≡◌, ◌<◌, ℤ, pos, get_or, length, map, take, SFits, to_z, of_z, w64, sym, ap, subst, ◌∙◌, arith, rules}
-use Rattle.std.specs.Int.{w128}
-use Rattle.std.proofs.lemmas.Int.{to_z-of_z}
-use Rattle.std.proofs.lemmas.List.{get_or-map, length-map}
-use Rattle.piece_bits.specs.Kept.{declared}
-use Rattle.views.specs.Stores.{told}
-use Rattle.views.specs.Tables.{Table, answer_of, kept_of, leaf_type_of, IsSettledIn}
-use Rattle.views.specs.ColumnsLaws.{length-with_column}
+use Rattle.views.proofs.Imports.{◌≡◌, ◌<◌, ℤ, pos, get_or, length, map, take, SFits, to_z, of_z, w64, sym, ap, subst, ◌∙◌, arith, rules, w128, to_z-of_z, get_or-map, length-map, declared, told, Table, answer_of, kept_of, leaf_type_of, IsSettledIn, length-with_column}
 use Rattle.views.proofs.StoredLaws.{nothing_stored, stored_more, lane_taken, passed, all_stored}
 use Rattle.views.proofs.view.View.store_values.Goals as goal
 

@@ -1,5 +1,4 @@
-use Rattle.std.proofs.Common.{map}
-use Rattle.views.specs.Tables.{kept_of}
+use Rattle.views.proofs.Imports.{map, kept_of}
 use Rattle.views.proofs.StoredLaws.{HasStored}
 use Rattle.views.proofs.view.View.store_values.Given as goal
 

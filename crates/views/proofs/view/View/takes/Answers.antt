@@ -1,9 +1,4 @@
-use Rattle.std.proofs.Common.{ℤ, ◌≡◌, ◌≤◌, true, subst, arith, rules, SFits, to_z, of_z}
-use Rattle.std.specs.Int.{w128}
-use Rattle.std.proofs.lemmas.Int.{to_z-of_z}
-use Rattle.piece_bits.specs.Tables.{hold_at}
-use Rattle.views.specs.Stores.{Fits}
-use Rattle.views.specs.Tables.{leaf_type_of, table_holds}
+use Rattle.views.proofs.Imports.{ℤ, ◌≡◌, ◌≤◌, true, subst, arith, rules, SFits, to_z, of_z, w128, to_z-of_z, hold_at, Fits, leaf_type_of, table_holds}
 use Rattle.views.proofs.Opened.{cell_count, leaf_seen, some_seen, fit_seen}
 use Rattle.views.proofs.StoreLaws.{fit_answer, fit_settled, fit_declared}
 use Rattle.views.proofs.view.View.takes.Goals as goal

@@ -1,13 +1,4 @@
-use Rattle.std.proofs.Common.{ℤ, ◌≡◌, ◌∙◌, sym, ap, arith, rules, SFits}
-use Rattle.std.specs.Int.{w128}
-use Rattle.std.proofs.lemmas.Int.{to_z-of_z}
-use Rattle.record_dim.specs.declared.leaf_type.LeafType.{LeafType}
-use Rattle.places.specs.declared.piece.Hold.{Hold}
-use Rattle.piece_bits.specs.Tables.{hold_at}
-use Rattle.piece_bits.specs.declared.mode.StoreMode.{StoreMode}
-use Rattle.piece_bits.specs.declared.mode.StoreMode.TheVariants.{Strict}
-use Rattle.views.specs.Stores.{store_answer, told}
-use Rattle.views.specs.Tables.{Table, leaf_type_of, table_holds}
+use Rattle.views.proofs.Imports.{ℤ, ◌≡◌, ◌∙◌, sym, ap, arith, rules, SFits, w128, to_z-of_z, LeafType, Hold, hold_at, StoreMode, Strict, store_answer, told, Table, leaf_type_of, table_holds}
 use Rattle.views.proofs.Opened.{cell_count, leaf_seen, kind_seen, hold_seen}
 use Rattle.views.proofs.view.View.tested.Goals as goal
 

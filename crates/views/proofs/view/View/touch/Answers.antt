@@ -1,11 +1,4 @@
-use Rattle.std.proofs.Common.{◌≡◌, ◌∙◌, length, sym, subst, arith}
-use Rattle.record_dim.specs.Schemas.{schema_fields}
-use Rattle.record_dim.specs.Leaves.{leaves}
-use Rattle.map_expr.specs.Terms.{term_of}
-use Rattle.map_checks.specs.Mappings.{layout_by}
-use Rattle.views.specs.Kept.{IsTallied, tally_of}
-use Rattle.views.specs.Tallies.{Tally, touched, access_to}
-use Rattle.views.specs.CountLaws.{tallied_kept, tallied-one}
+use Rattle.views.proofs.Imports.{◌≡◌, ◌∙◌, length, sym, subst, arith, schema_fields, leaves, term_of, layout_by, IsTallied, tally_of, Tally, touched, access_to, tallied_kept, tallied-one}
 use Rattle.views.proofs.KeptLaws.{kind_count}
 use Rattle.views.proofs.Opened.{tallied_here, touched_there, seen_touched, rows_seen, leaf_seen, cell_count}
 use Rattle.views.proofs.TouchLaws.{touched_both, leaf_inside}

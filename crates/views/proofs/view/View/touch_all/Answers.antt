@@ -1,16 +1,4 @@
-use Rattle.std.proofs.Common.{◌≡◌, ◌∙◌, ℕ, Bool, false, true, Option, length, option_map, sym, subst, ap}
-use Rattle.std.specs.Prelude.{IfSome}
-use Rattle.record_dim.specs.Schemas.{schema_fields}
-use Rattle.record_dim.specs.Leaves.{leaves, kinds_of}
-use Rattle.map_expr.specs.Terms.{term_of}
-use Rattle.map_checks.specs.Mappings.{layout_by, leaf_cells}
-use Rattle.extents.specs.Indices.{indices}
-use Rattle.instrument.specs.Counters.{LeafCounts, HasLeaves, leaf_counts}
-use Rattle.views.specs.Kept.{IsTallied, tally_of}
-use Rattle.views.specs.Repeated.{counts_after}
-use Rattle.views.specs.Tables.{after_log, leaf_count_of}
-use Rattle.views.specs.Tallies.{Tally, tallied, access_to, times_accesses, all_touches}
-use Rattle.views.specs.CountLaws.{log_kept}
+use Rattle.views.proofs.Imports.{◌≡◌, ◌∙◌, ℕ, Bool, false, true, Option, length, option_map, sym, subst, ap, IfSome, schema_fields, leaves, kinds_of, term_of, layout_by, leaf_cells, indices, LeafCounts, HasLeaves, leaf_counts, IsTallied, tally_of, counts_after, after_log, leaf_count_of, Tally, tallied, access_to, times_accesses, all_touches, log_kept}
 use Rattle.views.proofs.KeptLaws.{kind_count}
 use Rattle.views.proofs.Opened.{cell_count, tallied_here, touches_there, rows_seen, seen_logged}
 use Rattle.views.proofs.TouchLaws.{tallied_both}

@@ -1,13 +1,4 @@
-use Rattle.std.proofs.Common.{ℤ, ◌≡◌, false, refl, sym, ap, ◌∙◌, subst, arith, rules, SFits}
-use Rattle.std.specs.Int.{w128}
-use Rattle.std.proofs.lemmas.Int.{to_z-of_z}
-use Rattle.record_dim.specs.LeafTypes.{IsDeclared}
-use Rattle.map_expr.specs.Terms.{term_of}
-use Rattle.map_any.specs.Counters.{is_counted}
-use Rattle.views.specs.Kept.{tally_of}
-use Rattle.views.specs.Tables.{leaf_type_of}
-use Rattle.views.specs.Tallies.{Read}
-use Rattle.views.specs.CountLaws.{idle_tallied}
+use Rattle.views.proofs.Imports.{ℤ, ◌≡◌, false, refl, sym, ap, ◌∙◌, subst, arith, rules, SFits, w128, to_z-of_z, IsDeclared, term_of, is_counted, tally_of, leaf_type_of, Read, idle_tallied}
 use Rattle.views.proofs.Opened.{rows_seen, leaf_seen, cell_count, laid_here, sign_seen, declared_seen, seen_touched}
 use Rattle.views.proofs.view.View.value.Goals as goal
 

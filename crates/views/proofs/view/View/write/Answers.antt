@@ -1,13 +1,4 @@
-use Rattle.std.proofs.Common.{ℤ, ◌≡◌, List, ◌∙◌, sym, ap, subst, arith, rules, SFits, to_z, of_z}
-use Rattle.std.specs.Int.{w128}
-use Rattle.std.proofs.lemmas.Int.{to_z-of_z}
-use Rattle.record_dim.specs.LeafTypes.{IsIn}
-use Rattle.record_dim.specs.Schemas.{schema_fields}
-use Rattle.places.specs.declared.piece.Hold.{Hold}
-use Rattle.map_expr.specs.Terms.{term_of}
-use Rattle.map_checks.specs.Mappings.{holds_by}
-use Rattle.piece_bits.specs.Tables.{hold_at, with_entry}
-use Rattle.views.specs.Kept.{raw_under}
+use Rattle.views.proofs.Imports.{ℤ, ◌≡◌, List, ◌∙◌, sym, ap, subst, arith, rules, SFits, to_z, of_z, w128, to_z-of_z, IsIn, schema_fields, Hold, term_of, holds_by, hold_at, with_entry, raw_under}
 use Rattle.views.proofs.Opened.{rows_seen, leaf_seen, cell_count, held_seen, kept_after, table_after, raw_same, laid_there, seen_stored}
 use Rattle.views.proofs.view.View.write.Goals as goal
 use Rattle.views.proofs.view.View.write.Goals.{After-write_by_rule}

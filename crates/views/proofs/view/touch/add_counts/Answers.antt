@@ -1,8 +1,4 @@
-use Rattle.std.proofs.Common.{◌≡◌, ◌*◌, ◌-◌, ◌^◌, ◌<◌, ℕ, min, Option, Some, option_map, ap, sym, ◌∙◌, arith}
-use Rattle.instrument.specs.Counters.{LeafCounts, leaf_counts}
-use Rattle.instrument.specs.declared.counts.Counts.{Counts}
-use Rattle.views.specs.Tallies.{access_to, times_accesses}
-use Rattle.views.specs.Repeated.{counts_after, leaves_raised}
+use Rattle.views.proofs.Imports.{◌≡◌, ◌*◌, ◌-◌, ◌^◌, ◌<◌, ℕ, min, Option, Some, option_map, ap, sym, ◌∙◌, arith, LeafCounts, leaf_counts, Counts, access_to, times_accesses, counts_after, leaves_raised}
 use Rattle.views.proofs.TouchLaws.{counts_none, counts_raised}
 use Rattle.views.proofs.view.touch.add_counts.Goals as goal
 

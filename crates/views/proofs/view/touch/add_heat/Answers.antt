@@ -1,13 +1,4 @@
-use Rattle.std.proofs.Common.{◌≡◌, ◌+◌, ◌-◌, ◌^◌, ◌<◌, ℕ, min, length, Option, Some, option_map, ap, sym, ◌∙◌, arith}
-use Rattle.map_expr.specs.Terms.{term_of}
-use Rattle.map_checks.specs.Mappings.{layout_by, leaf_cells}
-use Rattle.record_dim.specs.Schemas.{schema_fields}
-use Rattle.record_dim.specs.Leaves.{kinds_of}
-use Rattle.extents.specs.Indices.{indices}
-use Rattle.instrument.specs.Counters.{HeatCounts, heat_counts}
-use Rattle.instrument.specs.declared.heat.Heat.{Heat}
-use Rattle.views.specs.Tallies.{all_touches}
-use Rattle.views.specs.Repeated.{heat_after, rows_raised}
+use Rattle.views.proofs.Imports.{◌≡◌, ◌+◌, ◌-◌, ◌^◌, ◌<◌, ℕ, min, length, Option, Some, option_map, ap, sym, ◌∙◌, arith, term_of, layout_by, leaf_cells, schema_fields, kinds_of, indices, HeatCounts, heat_counts, Heat, all_touches, heat_after, rows_raised}
 use Rattle.views.proofs.TouchLaws.{heat_raised}
 use Rattle.views.proofs.view.touch.add_heat.Goals as goal
 

@@ -1,9 +1,4 @@
-use Rattle.std.proofs.Common.{◌≡◌, ◌+◌, ap, sym, ◌∙◌, subst, ℕ, Bool}
-use Rattle.instrument.specs.Counters.{LeafCounts, leaf_counts, HasLeaves}
-use Rattle.instrument.specs.declared.counts.Counts.{Counts}
-use Rattle.views.specs.Repeated.{leaf_raised, leaves_raised}
-use Rattle.views.specs.CountLaws.{raised_leaves}
-use Rattle.views.specs.RepeatLaws.{fold_range_more}
+use Rattle.views.proofs.Imports.{◌≡◌, ◌+◌, ap, sym, ◌∙◌, subst, ℕ, Bool, LeafCounts, leaf_counts, HasLeaves, Counts, leaf_raised, leaves_raised, raised_leaves, fold_range_more}
 use Rattle.views.proofs.view.touch.raise_leaves.Goals as goal
 use Rattle.views.proofs.view.touch.raise_leaves.Goals.{then-write, else-write}
 

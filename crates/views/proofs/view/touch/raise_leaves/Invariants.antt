@@ -1,6 +1,4 @@
-use Rattle.std.proofs.Common.{◌≡◌}
-use Rattle.instrument.specs.Counters.{leaf_counts, HasLeaves}
-use Rattle.views.specs.Repeated.{leaves_raised}
+use Rattle.views.proofs.Imports.{◌≡◌, leaf_counts, HasLeaves, leaves_raised}
 use Rattle.views.proofs.view.touch.raise_leaves.Given as goal
 
 abbrev pub invariant-loop-leaf : goal.invariant-loop-leaf

@@ -1,14 +1,4 @@
-use Rattle.std.proofs.Common.{◌≡◌, ℕ, Bool, get_or, ap, sym, ◌∙◌, subst}
-use Rattle.map_expr.specs.Terms.{term_of}
-use Rattle.map_checks.specs.Mappings.{layout_by}
-use Rattle.record_dim.specs.Schemas.{schema_fields}
-use Rattle.instrument.specs.Counters.{HeatCounts, heat_counts, warmed_times}
-use Rattle.instrument.specs.WarmingLaws.{inside-counted}
-use Rattle.places.specs.TouchedLaws.{touched_same}
-use Rattle.views.specs.Kept.{HasGranules}
-use Rattle.views.specs.Repeated.{granules_raised}
-use Rattle.views.specs.CountLaws.{piece_inside, raised_granules}
-use Rattle.views.specs.RepeatLaws.{fold_range_more}
+use Rattle.views.proofs.Imports.{◌≡◌, ℕ, Bool, get_or, ap, sym, ◌∙◌, subst, term_of, layout_by, schema_fields, HeatCounts, heat_counts, warmed_times, inside-counted, touched_same, HasGranules, granules_raised, piece_inside, raised_granules, fold_range_more}
 use Rattle.views.proofs.view.touch.raise_row.Goals as goal
 
 pub touch_times-requires : goal.touch_times-requires

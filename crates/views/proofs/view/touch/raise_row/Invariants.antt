@@ -1,10 +1,4 @@
-use Rattle.std.proofs.Common.{◌≡◌}
-use Rattle.map_expr.specs.Terms.{term_of}
-use Rattle.map_checks.specs.Mappings.{layout_by}
-use Rattle.record_dim.specs.Schemas.{schema_fields}
-use Rattle.instrument.specs.Counters.{heat_counts}
-use Rattle.views.specs.Kept.{HasGranules}
-use Rattle.views.specs.Repeated.{row_raised}
+use Rattle.views.proofs.Imports.{◌≡◌, term_of, layout_by, schema_fields, heat_counts, HasGranules, row_raised}
 use Rattle.views.proofs.view.touch.raise_row.Given as goal
 
 abbrev pub invariant-loop-leaf : goal.invariant-loop-leaf

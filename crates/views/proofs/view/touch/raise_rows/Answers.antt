@@ -1,11 +1,4 @@
-use Rattle.std.proofs.Common.{ℕ, length, ap, sym, ◌∙◌}
-use Rattle.map_expr.specs.Terms.{term_of}
-use Rattle.map_checks.specs.Mappings.{layout_by, leaf_cells}
-use Rattle.record_dim.specs.Schemas.{schema_fields}
-use Rattle.record_dim.specs.Leaves.{kinds_of}
-use Rattle.instrument.specs.Counters.{HeatCounts, heat_counts}
-use Rattle.views.specs.Repeated.{row_raised}
-use Rattle.views.specs.RepeatLaws.{fold_range_more}
+use Rattle.views.proofs.Imports.{ℕ, length, ap, sym, ◌∙◌, term_of, layout_by, leaf_cells, schema_fields, kinds_of, HeatCounts, heat_counts, row_raised, fold_range_more}
 use Rattle.views.proofs.view.touch.raise_rows.Goals as goal
 
 pub loop-row-preserved : goal.loop-row-preserved

@@ -1,11 +1,4 @@
-use Rattle.std.proofs.Common.{◌≡◌, length}
-use Rattle.map_expr.specs.Terms.{term_of}
-use Rattle.map_checks.specs.Mappings.{layout_by, leaf_cells}
-use Rattle.record_dim.specs.Schemas.{schema_fields}
-use Rattle.record_dim.specs.Leaves.{kinds_of}
-use Rattle.instrument.specs.Counters.{heat_counts}
-use Rattle.views.specs.Kept.{HasGranules}
-use Rattle.views.specs.Repeated.{rows_raised}
+use Rattle.views.proofs.Imports.{◌≡◌, length, term_of, layout_by, leaf_cells, schema_fields, kinds_of, heat_counts, HasGranules, rows_raised}
 use Rattle.views.proofs.view.touch.raise_rows.Given as goal
 
 abbrev pub invariant-loop-row : goal.invariant-loop-row

@@ -1,15 +1,4 @@
-use Rattle.std.proofs.Common.{◌≡◌, ℕ, Bool, Option, Some, get_or, option_map, sym, ap, ◌∙◌, subst}
-use Rattle.std.specs.Prelude.{IfSome}
-use Rattle.map_expr.specs.Terms.{term_of}
-use Rattle.map_checks.specs.Mappings.{layout_by}
-use Rattle.record_dim.specs.Schemas.{schema_fields}
-use Rattle.instrument.specs.Counters.{HeatCounts, heat_counts, warmed}
-use Rattle.instrument.specs.declared.heat.Heat.{Heat}
-use Rattle.views.specs.Kept.{HasGranules}
-use Rattle.views.specs.Tallies.{granules_touched}
-use Rattle.places.specs.TouchedLaws.{touched_same}
-use Rattle.instrument.specs.WarmingLaws.{inside-counted}
-use Rattle.views.specs.CountLaws.{piece_inside}
+use Rattle.views.proofs.Imports.{◌≡◌, ℕ, Bool, Option, Some, get_or, option_map, sym, ap, ◌∙◌, subst, IfSome, term_of, layout_by, schema_fields, HeatCounts, heat_counts, warmed, Heat, HasGranules, granules_touched, touched_same, inside-counted, piece_inside}
 use Rattle.views.proofs.view.touch.touch_heat.Goals as goal
 
 pub touch-requires : goal.touch-requires
