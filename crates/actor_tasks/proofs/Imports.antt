@@ -1,0 +1,23 @@
+-- What the proofs of this crate speak of.
+pub use Rattle.std.proofs.Common.{◌≡◌, ℕ, zero, suc, ◌+◌, ◌<◌, ◌≤◌, List, [], ◌∷◌, length, get_or, take, Option, Some, None, sym, subst, ⊎_elim, inl, inr, arith, ◌*◌, max, Bool, true, false, filter, refl, ap, ◌∙◌, ◌-◌, drop, map}
+pub use Rattle.std.specs.Prelude.{◌⊎◌, IfSome, ◌==◌, ◌&&◌, ◌||◌, not, nat_lt, min, if◌then◌else◌}
+pub use Rattle.std.proofs.lemmas.Bool.{true≢false, cases_Bool, cases_lt, and_from, and_parts, or_left, or_right, eq-eqb, lt-ltb}
+pub use Rattle.std.proofs.lemmas.Bool.Decides.{nat_tests}
+pub use Rattle.places.specs.declared.piece.Piece.{Piece}
+pub use Rattle.actor_steps.specs.declared.place.Place.{Place}
+pub use Rattle.places.specs.Layout.{Owner}
+pub use Rattle.places.specs.Laws.{IsLaidOut, IsLocated}
+pub use Rattle.places.specs.ExactLaws.{within}
+pub use Rattle.places.specs.ComposeLaws.{within_blobs}
+pub use Rattle.places.specs.Touched.{is_in_granule, is_touched}
+pub use Rattle.places.specs.TouchedLaws.{hot_place, in_granule, touched_hot}
+pub use Rattle.actor_steps.specs.BytesOfLaws.{IsByte}
+pub use Rattle.actor_steps.specs.Micro.{all_bytes, Job}
+pub use Rattle.places.specs.declared.piece.Hold.{Hold}
+pub use Rattle.actor_tasks.specs.Places.{ComesFrom, is_before, holds_bit, IsHead}
+pub use Rattle.actor_tasks.specs.Nexts.{Touches, AnyTouches, IsFound, IsNext, IsEarlier}
+pub use Rattle.actor_tasks.specs.PlacesLaws.{occurs-all, places_from-first}
+pub use Rattle.actor_tasks.specs.Marks.{IsTaskNext, task_at, IsRowOf, AreRowsOf}
+pub use Rattle.actor_tasks.specs.MarksLaws.{read_task, no_read, set_task, no_set, task_count, task_found, task_done, none_left, row_told}
+pub use Rattle.actor_tasks.specs.Tasks.{all_tasks, tasks_steps, left_in}
+pub use Rattle.actor_tasks.specs.RowsLaws.{rows_found, rows_over, rows_none}

@@ -1,0 +1,109 @@
+-- What the proofs of this crate speak of.
+pub use Rattle.std.proofs.Common.{◌≡◌, ℕ, ◌+◌, ◌*◌, ◌/◌, ◌%◌, ◌<◌, ◌≤◌, List, [], ◌∷◌, ◌++◌, length, map, get_or, drop, take, All, refl, sym, ap, ◌∙◌, subst, arith, Bool, true, false, zero, suc, ℤ, pos, Result, Ok, Err, is_ok, ◌-◌, Option, Some, None, ⊎_elim, append_assoc, length-append, negsuc, ◌≤ℤ◌, ◌^◌, ltb, w64, FitsSigned, nat_lt, is_none, inl, inr, IsErr, rules, take_all, to_z, of_z, SFits}
+pub use Rattle.std.specs.Prelude.{sum_by, nat_eq, if◌then◌else◌, ◌==◌, option_map, ◌⊎◌, codes, MatchResult, not, ◌&&◌, ◌||◌, count_by, cond, IfOk, IfErr, OnOk, nat_le, int_le}
+pub use Rattle.std.proofs.lemmas.List.{length-map, length-drop, get_or-map, append-nil, drop_all, take_at, drop_at, take-append-drop, length-take-le, drop_more, take_rest, nil_from_length, ext_get_or, length-replicate, get_or_past, get_or_default}
+pub use Rattle.std.specs.Bool.{Decides}
+pub use Rattle.std.specs.List.{list_all, flat_map, range_with_len, enumerate_from, list_any}
+pub use Rattle.std.specs.Cmp.Lexicographic.{pointwise}
+pub use Rattle.std.proofs.lemmas.Bool.{and_parts, and_from, cases_eq, eq-eqb, ne_eqb, cases_lt, le-ltb, false_from_ne_true, not-true, eqb-true, and_left, and_right, leb-true, le-leb, lt-leb}
+pub use Rattle.std.proofs.lemmas.Bool.Decides.{Decides-eqb, Decides-and, Decides-or, Decides-not, Decides-like, Decides-ltb}
+pub use Rattle.std.proofs.lemmas.Slice.Eq.{slice_eq-Decides, bytes_eq-Decides}
+pub use Rattle.std.proofs.lemmas.List.Sums.{sum_by-cons}
+pub use Rattle.std.proofs.Math.Pow.{pow_mono}
+pub use Rattle.std.proofs.lemmas.Int.{ints, to_z_pos, to_z-of_z}
+pub use Rattle.std.proofs.lemmas.List.Concat.{flat_map-cons}
+pub use Rattle.std.proofs.lemmas.List.FromFn.{length-enumerate_from, get_or-enumerate_from, get_or-map-range_with_len}
+pub use Rattle.std.specs.Int.{bit_at, w128}
+pub use Rattle.std.proofs.Math.Seq.{take-add}
+pub use Rattle.std.proofs.lemmas.Option.{get_or_from_slice_get}
+pub use Rattle.places.specs.Layout.{Owner, Pad, Bit, owner_at}
+pub use Rattle.piece_bits.specs.Tables.{AreSized, HasShape, hold_at, table_in, zeros}
+pub use Rattle.views.specs.Tallies.{blob_lengths, Access, Write, row_accesses, all_accesses, Tally, tallied, no_tally, granules_for}
+pub use Rattle.record_dim.specs.declared.leaf_type.LeafType.{LeafType}
+pub use Rattle.record_dim.specs.LeafTypes.{least_of, greatest_of, least_in, greatest_in, IsIn, is_signed, IsDeclared}
+pub use Rattle.record_dim.specs.Leaves.{Leaf, leaves, kinds_of, first_fault}
+pub use Rattle.places.specs.declared.piece.Hold.{Hold}
+pub use Rattle.places.specs.Laws.{IsLaidOut}
+pub use Rattle.places.specs.CellWidthsLaws.{width_at}
+pub use Rattle.places.specs.Image.{entry, IsImage, bit_held, image}
+pub use Rattle.map_checks.specs.Mappings.{holds_by, leaf_cells, accepted, bad_field, bad_side, else_for, most_slots, not_full, layout_by}
+pub use Rattle.blobs.specs.Bits.{bit_in, bit_of, bits_of, AreBytes}
+pub use Rattle.piece_bits.specs.TableLaws.{table_shape, tables_same}
+pub use Rattle.piece_bits.specs.EntriesLaws.{entry_in}
+pub use Rattle.piece_bits.specs.CellsLaws.{bit_in_lt, hold_widths}
+pub use Rattle.piece_bits.specs.Kept.{declared, held}
+pub use Rattle.piece_bits.specs.KeptLaws.{low_same, declared_same, kept_declared}
+pub use Rattle.piece_bits.specs.declared.mode.StoreMode.{StoreMode}
+pub use Rattle.piece_bits.specs.declared.mode.StoreMode.TheVariants.{Strict, Wrap}
+pub use Rattle.piece_bits.specs.Modes.{kind_at, Fits, Stays}
+pub use Rattle.piece_bits.specs.EntryLaws.{fitting_held, fitting_stays}
+pub use Rattle.piece_bits.specs.KeptTableLaws.{declared_shape, declared_entry}
+pub use Rattle.piece_bits.specs.ImageLaws.{image_raw, image_table}
+pub use Rattle.views.specs.declared.fault.StoreFault.{StoreFault}
+pub use Rattle.views.specs.declared.fault.StoreFault.TheVariants.{Range, Narrow}
+pub use Rattle.views.specs.Stores.{Answer, is_between, store_answer, kept_or, kept_row, kept_rows, Keeping, AllStay, told}
+pub use Rattle.views.specs.StrictLaws.{stored_fits, fitting_stored, between_true}
+pub use Rattle.line_tokens.specs.Ends.{NoEnd}
+pub use Rattle.layout_io.specs.Writing.{joined, Wrote, Stopped, Writes}
+pub use Rattle.extents.specs.Indices.{indices}
+pub use Rattle.map_any.specs.AnyLaws.{length-leaf_cells}
+pub use Rattle.piece_bits.specs.Lows.{low_64}
+pub use Rattle.views.specs.AnswerLaws.{stays_answer, told_same}
+pub use Rattle.views.specs.Columns.{column_writes, with_column}
+pub use Rattle.views.specs.Runs.{raised, AreRowsMoved, CountsNothing, run_steps}
+pub use Rattle.views.specs.RunsLaws.{run_entry, run_length, AreBefore, raised_low, run_more, no_leaf_moved, leaf_moved}
+pub use Rattle.views.specs.Tables.{Table, IsTable, answer_of, kept_of, leaf_count_of, leaf_type_of, leaf_types_of, owners_of, table_holds, after_stores, blob_bits_of}
+pub use Rattle.views.specs.TallyLaws.{after_stores-append, logs_more, after_log-none}
+pub use Rattle.record_dim.specs.Trees.{Fields, Tree, Single, Record, Array, tree_of, IsRecord}
+pub use Rattle.line_grammar.specs.Sentences.{New, Define, View, sentence_of, Sentence, Blank, Mapping, Load, Assign, Update, Actors, Kernel, Reduce, Count, Copy, Relayout, Show, Drop, Bytes, Save, Open, Advise, PrintWindow, Stencil, deepest}
+pub use Rattle.extents.specs.declared.words.ExtentWord.{ExtentWord}
+pub use Rattle.record_dim.specs.declared.dim.Dim.{Dim}
+pub use Rattle.map_expr.specs.declared.expr.MapExpr.{MapExpr}
+pub use Rattle.line_grammar.specs.declared.line.Line.{Line}
+pub use Rattle.line_grammar.specs.Reads.{Reads, StopsAt, tokens_of}
+pub use Rattle.line_grammar.specs.declared.version.Version.{Version}
+pub use Rattle.line_grammar.specs.declared.version.Version.TheVariants.{Two}
+pub use Rattle.line_writer.specs.Texts.{canonical}
+pub use Rattle.schema_lang.specs.LineOf.{line_of, IsTold}
+pub use Rattle.extents.specs.declared.words.ExtentWord.TheVariants.{Fixed, Rows}
+pub use Rattle.extents.specs.Shapes.{extent_of, is_rows, bad_shape, bad_extents, extents_for, HasRows}
+pub use Rattle.places.specs.NumbersLaws.{bit_number, digit_lt}
+pub use Rattle.instrument.specs.BlobTexts.{byte_at, bytes_of}
+pub use Rattle.instrument.specs.BlobTextsLaws.{length-bytes_of, bytes_of_bits}
+pub use Rattle.places.specs.declared.piece.Cell.{Cell}
+pub use Rattle.map_expr.specs.declared.check.BadMapping.{BadMapping}
+pub use Rattle.map_expr.specs.declared.check.BadMapping.TheVariants.{TooDeep, Counter, Side, Field, NotFull}
+pub use Rattle.map_expr.specs.Terms.{Term, term_of}
+pub use Rattle.map_expr.specs.Checks.{checked, answered, bad_number}
+pub use Rattle.map_checks.specs.TermLaws.{term_laws, good_numbers, length-holds}
+pub use Rattle.views.specs.Refusals.{IsOver}
+pub use Rattle.extents.specs.declared.words.BadExtents.{BadExtents as Bad}
+pub use Rattle.layout_io.specs.Gathering.{Gathers, Puts, HasPut}
+pub use Rattle.layout_io.specs.GatheringLaws.{Gathers-written, Puts-append, Puts-stop, Puts-stopped, Writes-puts_err, Writes-puts, Puts-loop_err, Puts-loop_ok}
+pub use Rattle.layout_io.specs.WritingLaws.{flat_map_push, Wrote-append, Stopped-first, Stopped-second}
+pub use Rattle.line_tokens.specs.declared.spots.Spot.{Spot}
+pub use Rattle.line_tokens.specs.SpotLaws.{same_spots}
+pub use Rattle.line_grammar.specs.Grammar.{IsSentence}
+pub use Rattle.schema_lang.specs.Parsing.{IsWhole}
+pub use Rattle.schema_lang.specs.declared.fault.LineFault.{LineFault}
+pub use Rattle.schema_lang.specs.declared.fault.LineFault.TheVariants.{Syntax, NoMemory}
+pub use Rattle.record_dim.specs.declared.leaf_type.LeafType.TheVariants.{Bool as Truth}
+pub use Rattle.map_checks.specs.LeafCells.{kinds_are}
+pub use Rattle.views.specs.ColumnsLaws.{length-with_column}
+pub use Rattle.views.proofs.RunStoreLaws.{value_more}
+pub use Rattle.views.proofs.StoredLaws.{nothing_stored, HasStored, passed}
+pub use Rattle.record_dim.specs.Schemas.{schema_fields}
+pub use Rattle.blob_file.specs.Opened.{cut, raw_in, rows_in, answer_by, are_taken, all_taken, are_contents, leaf_count, row_count, line_at, with_blobs, with_body, empty_table, table_of, IsRead, same_bytes, line_told, fields_told, new_told, with_record, header_told, behind_first, behind_size, header_at, is_plain, mode_by, Saved, with_header, opened, canonical_by, IsReadInto}
+pub use Rattle.blob_file.specs.Files.{Header, owners_by, image_bytes, AreRows, two_lines, four_bytes, is_wrap, record_line, view_line, record_text, view_text, header_text, IsShort, magic, file_of, IsFile}
+pub use Rattle.blob_file.specs.Filling.{kept_run, run_writes, AreFitting, AreTaken, IsTaken, IsTakenLeaf}
+pub use Rattle.blob_file.specs.Saving.{header_of, blobs_of, head_of}
+pub use Rattle.blob_file.specs.Parts.{fields_in, new_in, header_in, header_by}
+pub use Rattle.blob_file.specs.declared.header.ShownView.{ShownView}
+pub use Rattle.blob_file.specs.Headers.{is_nameless, HasLine, HasLines, words_of, CanLie, is_over, can_lie}
+pub use Rattle.blob_file.specs.HeaderLaws.{nameless_built}
+pub use Rattle.blob_file.specs.declared.header.FileHeader.{FileHeader}
+pub use Rattle.blob_file.specs.Statements.{OneFile, OpensFiles}
+pub use Rattle.blob_file.specs.declared.fault.FileFault.{FileFault}
+pub use Rattle.blob_file.specs.Refusals.{refusal}
+pub use Rattle.blob_file.specs.declared.fault.FileFault.TheVariants.{Contents}
+pub use Rattle.blob_file.specs.declared.fault.SaveEnd.TheVariants.{Failed}

@@ -1,0 +1,94 @@
+-- What the proofs of this crate speak of.
+pub use Rattle.std.proofs.Common.{◌≡◌, ℕ, Bool, true, false, List, Option, Some, None, Result, Ok, Err, subst, ℤ, refl, [], ◌∷◌, ◌++◌, length, sym, ap, ◌∙◌, suc, arith, append_assoc, zero, option_map}
+pub use Rattle.std.specs.Prelude.{if◌then◌else◌, ◌+◌, ◌*◌, ◌^◌, not, nat_lt, is_some, ◌&&◌, IfSome, nat_le, ⊤}
+pub use Rattle.std.specs.List.{slice_index_or, slice_get, list_any, fold, flat_map, range_with_len}
+pub use Rattle.std.specs.Option.{option_or}
+pub use Rattle.std.proofs.lemmas.List.{length-map}
+pub use Rattle.std.proofs.lemmas.Bool.{or_parts}
+pub use Rattle.worlds.specs.Outcomes.{Outcome, Goes, Faults, CannotRead, ◌>>=◌, refused_if, refused_by, ok_or, LeftOf, Left, known, some_or, free, quiet}
+pub use Rattle.worlds.specs.declared.fault.CommandFault.{CommandFault}
+pub use Rattle.record_dim.specs.declared.leaf_type.LeafType.{LeafType}
+pub use Rattle.record_dim.specs.LeafTypes.{least_of, greatest_of, least_in, greatest_in}
+pub use Rattle.places.specs.declared.piece.Hold.{Hold}
+pub use Rattle.piece_bits.specs.Kept.{kept}
+pub use Rattle.piece_bits.specs.declared.mode.StoreMode.{StoreMode}
+pub use Rattle.piece_bits.specs.declared.mode.StoreMode.TheVariants.{Strict, Wrap}
+pub use Rattle.views.specs.Stores.{store_answer, kept_or, is_between, Keeping, kind_at, Answer, kept_row, kept_rows, kept_by}
+pub use Rattle.views.specs.declared.fault.StoreFault.{StoreFault}
+pub use Rattle.views.specs.declared.fault.StoreFault.TheVariants.{Range, Narrow}
+pub use Rattle.extents.specs.Indices.{indices}
+pub use Rattle.extents.specs.declared.window.Span.{Span}
+pub use Rattle.linearize.specs.Slots.{place_in, index_at}
+pub use Rattle.record_dim.specs.declared.path.PathStep.{PathStep}
+pub use Rattle.record_dim.specs.Leaves.{kinds_of, texts_of, leaves}
+pub use Rattle.map_expr.specs.Terms.{Term as MapTerm, Aos, Soa, Aosoa, BitAos, BitSoa, Split, Byteswap, Bytesplit, Change, Count, Heat}
+pub use Rattle.map_checks.specs.Mappings.{holds_by, leaf_cells, layout_by, most_slots, accepted}
+pub use Rattle.piece_bits.specs.Tables.{hold_at, with_entry, zeros}
+pub use Rattle.views.specs.Tallies.{Access, Write, Tally, all_accesses, Read, tallied, no_tally, granules_for, counts_touched}
+pub use Rattle.instrument.specs.Counters.{LeafCounts, HeatCounts, no_counts}
+pub use Rattle.instrument.specs.CounterTexts.{counts_text, heat_text}
+pub use Rattle.expr_lang.specs.Terms.{Term}
+pub use Rattle.line_grammar.specs.Sentences.{Value, Assignment, Show, Sentence, New, View, Relayout}
+pub use Rattle.line_grammar.specs.declared.line.KernelText.{KernelText}
+pub use Rattle.line_grammar.specs.declared.line.ReduceKind.{ReduceKind}
+pub use Rattle.line_grammar.specs.declared.line.ShowKind.{ShowKind}
+pub use Rattle.line_grammar.specs.declared.line.TermText.{TermText}
+pub use Rattle.views.specs.Tables.{Table, leaf_count_of, answer_of, kept_of, after_stores, owners_of, IsWide}
+pub use Rattle.row_updates.specs.Rows.{Setting, updated_rows, counted, each, in_row, store_kind, value_of, passes, new_value, with_values, updated_row}
+pub use Rattle.row_updates.specs.Logs.{value_log, rows_log, filter_log, if_ok, if_passes, sides_log, stores_log, row_log}
+pub use Rattle.row_updates.specs.declared.fault.UpdateFault.{UpdateFault}
+pub use Rattle.row_updates.specs.declared.fault.UpdateKind.{UpdateKind}
+pub use Rattle.lane_kernels.specs.declared.fault.KernelFault.{KernelFault}
+pub use Rattle.lane_kernels.specs.declared.kernel.Kernel.{Kernel}
+pub use Rattle.subviews.specs.Stencils.{Stencil, stenciled, rounds_log, stencil_value, at_row, values_fault, with_column, new_entry, if_fits, round, next_round, after_rounds}
+pub use Rattle.subviews.specs.declared.fault.StencilFault.{StencilFault}
+pub use Rattle.worlds.specs.Worlds.{World, found, Entry, same_name, added, replaced, removed, empty}
+pub use Rattle.worlds.specs.OnView.{Done, stores, tells, done_to, with_table, on_view, Work, worked}
+pub use Rattle.worlds.specs.Names.{leaf_of, bound, bound_filter, bound_sets, each_once, leaves_of, text_of_leaf, nameless}
+pub use Rattle.worlds.specs.Values.{storable, store_fault, value_on}
+pub use Rattle.worlds.specs.Assign.{inside, assigned}
+pub use Rattle.worlds.specs.Update.{updated, update_fault, kind_fault}
+pub use Rattle.worlds.specs.Reduce.{reduction, reduced, column, counting}
+pub use Rattle.worlds.specs.Copy.{are_alike, all_read, copied, copy, relayout, laid_anew, with_rows, narrow_fault}
+pub use Rattle.worlds.specs.Kernel.{run, fit_kernel, kernel_run, number_text, run_fault}
+pub use Rattle.worlds.specs.Show.{print, counts, showing, drop_view, heat}
+pub use Rattle.worlds.specs.Stencil.{fit_stencil, room_beside, stencil_fault, stencil_rounds, stencil_run}
+pub use Rattle.worlds.specs.Windows.{windowed, print_window}
+pub use Rattle.worlds.specs.Tables.{blob_bits, made, resolved, room, shaped, zeros_of, live_bits}
+pub use Rattle.worlds.specs.declared.fault.CommandFault.TheVariants.{Mismatch, NotCounted, TooBig, Unknown, Taken, BadMapping, TooManyViews}
+pub use Rattle.worlds.specs.declared.fault.UnknownName.TheVariants.{Name}
+pub use Rattle.lane_kernels.specs.Kernels.{Store, stored, answer_fault, first_fault, empty_fault, kernel_fault}
+pub use Rattle.csv_rows.specs.Datasets.{Place, Leaf, the_field, the_number, number_of, unspaced, refusal, taken, value_at, row_values, table_from, with_columns, columns_of, header_of, rows_of, dataset_table, records_of}
+pub use Rattle.csv_rows.specs.declared.fault.RowFault.{RowFault}
+pub use Rattle.csv_rows.specs.declared.fault.RowFault.TheVariants.{ShortRow, Number}
+pub use Rattle.layout_io.specs.Files.{File}
+pub use Rattle.record_dim.specs.Trees.{Tree, Fields}
+pub use Rattle.piece_bits.specs.TableLaws.{zeros_shape}
+pub use Rattle.views.specs.TallyLaws.{tallied-none, tallied-append, tallied-counts}
+pub use Rattle.blob_file.specs.Opened.{Saved, opened, rows_in, table_of}
+pub use Rattle.csv_rows.specs.Loads.{dataset_of}
+pub use Rattle.map_expr.specs.Checks.{checked}
+pub use Rattle.worlds.specs.Define.{define, fit}
+pub use Rattle.worlds.specs.Files.{bad_file, open_view, opened_beside, opened_table}
+pub use Rattle.worlds.specs.Load.{load, loaded_table, loaded, filled, read, row_fault, row_fault as fault_of}
+pub use Rattle.worlds.specs.Mapping.{mapping}
+pub use Rattle.worlds.specs.Step.{step, work_of}
+pub use Rattle.worlds.specs.View.{view, new_table, with_view, named, Named}
+pub use Rattle.extents.specs.declared.words.ExtentWord.{ExtentWord}
+pub use Rattle.map_any.specs.AnyLaws.{holds_cells, length-leaf_cells}
+pub use Rattle.line_grammar.specs.declared.version.Version.{Version}
+pub use Rattle.worlds.specs.Outcome.{Output}
+pub use Rattle.worlds.specs.Fold.{run_from, after, fails_at, prepend}
+pub use Rattle.places.specs.Layout.{Owner}
+pub use Rattle.views.specs.Entries.{AreEntries, AreCounts, AreHeat}
+pub use Rattle.layout_copy.specs.Copies.{refused_at}
+pub use Rattle.views.specs.AnswerLaws.{kept_alike}
+pub use Rattle.map_any.specs.Counters.{has_count}
+pub use Rattle.equal_runs.specs.Endings.{is_refused, is_of_layout, misses_mapping, ends_after, ends_by_layout}
+pub use Rattle.equal_runs.specs.Lines.{shows_layout, with_term, AgreeButTerms, IsLine, AreLines}
+pub use Rattle.equal_runs.specs.EntryLaws.{found_added, found_replaced}
+pub use Rattle.equal_runs.specs.GoesLaws.{IfGoes, to, refused, unread, bind, behind, known_found, free_found, gone}
+pub use Rattle.equal_runs.specs.Logs.{log_in, logged, reads_of, writes_of, fills_of, done_log, work_logs, logs_after, SoFar, at_first, one_more, Comes, there, further, log_of}
+pub use Rattle.equal_runs.specs.Widths.{MakesWide, HoldsOf, StaysWide}
+pub use Rattle.equal_runs.specs.EqualRuns.{DoesLines, EqualRuns}
+pub use Rattle.equal_runs.specs.Entries.{ShowsCounts, ShowsHeat, ShowsEntries, tally_since}

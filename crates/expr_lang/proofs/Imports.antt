@@ -1,0 +1,28 @@
+-- What the proofs of this crate speak of.
+pub use Rattle.std.proofs.Common.{◌≡◌, ℕ, ℤ, List, ◌++◌, Result, Ok, Err, refl, sym, ap, ◌∙◌, append_assoc, subst, arith, ◌≤◌, cond, Option, Some, None, [], ◌∷◌, is_some, ◌<◌, Bool, true, false, nat_lt, length, MatchOption, unwrap_or, fold, ◌^◌, get_or, pos, neg_ℤ, not, ◌+◌, ◌-◌, min, max}
+pub use Rattle.std.proofs.lemmas.List.{append-nil, length-map}
+pub use Rattle.std.specs.List.{slice_get}
+pub use Rattle.std.specs.Option.{option_or}
+pub use Rattle.std.proofs.lemmas.Bool.{ltb-true}
+pub use Rattle.std.proofs.lemmas.Option.{slice_get_within}
+pub use Rattle.record_dim.specs.declared.path.PathStep.{PathStep}
+pub use Rattle.record_dim.specs.Leaves.{paths_of, leaves}
+pub use Rattle.record_dim.specs.Schemas.{schema_fields}
+pub use Rattle.expr_lang.specs.declared.fault.EvalFault.{EvalFault}
+pub use Rattle.expr_lang.specs.declared.bound.Links.{Links, size-Links}
+pub use Rattle.expr_lang.specs.declared.bound.Step.{Step}
+pub use Rattle.expr_lang.specs.Terms.{Term, IsWithin, Number, Entry, Index, Neg, Not, Binary, term_of, depth_of}
+pub use Rattle.expr_lang.specs.Values.{Outcome, no_read, after_reads, then_from, ◌>>=◌, outcome_of, truth, is_true}
+pub use Rattle.expr_lang.specs.Chains.{step_term, links_term, step_outcome, links_outcome, IsStepWithin, AreWithin, chain_term, operand_term}
+pub use Rattle.expr_lang.specs.Mosts.{IsMost, IsStepMost}
+pub use Rattle.expr_lang.specs.ChainLaws.{one_more, within_front, within_links, within_rest, no_deeper}
+pub use Rattle.expr_lang.specs.declared.expr.BinOp.{BinOp}
+pub use Rattle.expr_lang.specs.declared.expr.Expr.{Expr, size-Expr}
+pub use Rattle.expr_lang.specs.declared.expr.Expr.TheViews.{deep-Binary'}
+pub use Rattle.expr_lang.specs.declared.fault.BindFault.{BindFault}
+pub use Rattle.expr_lang.specs.declared.binding.Unknown.{Unknown}
+pub use Rattle.expr_lang.specs.Binding.{leaf_number, unknown_path, numbered, unknowns}
+pub use Rattle.expr_lang.specs.Unknowns.{told}
+pub use Rattle.expr_lang.specs.BindingLaws.{IsAbsent, IsAt, found, leaf_number_is}
+pub use Rattle.expr_lang.specs.declared.bound.Link.{Link}
+pub use Rattle.expr_lang.specs.Exacts.{exact_by}

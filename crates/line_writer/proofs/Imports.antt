@@ -1,0 +1,63 @@
+-- What the proofs of this crate speak of.
+pub use Rattle.std.proofs.Common.{◌≡◌, ℕ, suc, ◌+◌, ◌<◌, ◌≤◌, ◌-◌, List, [], ◌∷◌, ◌++◌, map, length, get_or, take, drop, codes, refl, sym, ap, ◌∙◌, add-one, drop-cons, append-nil, append_assoc, arith, zero, inl, inr, Option, Some, None, subst, max, ℤ, pos, negsuc, neg_ℤ, true, false, ◌⊎◌, ◌^◌, slice_range, Bool, not, ◌&&◌, if◌then◌else◌, bytes_eq, nat_lt, ◌*◌, rules}
+pub use Rattle.std.specs.List.{flat_map, list_all, AllPass, list_any}
+pub use Rattle.std.proofs.Math.Seq.{take-length}
+pub use Rattle.std.specs.Fmt.{decimal}
+pub use Rattle.std.proofs.lemmas.Fmt.{decimal_digit, decimal_is_IsNumeral_wide}
+pub use Rattle.std.proofs.lemmas.Grind.{flat_map-append}
+pub use Rattle.std.proofs.lemmas.Bool.Decides.{nat_tests}
+pub use Rattle.std.proofs.lemmas.Str.Parse.{digit_from_value}
+pub use Rattle.std.proofs.lemmas.List.{append_cancel_right, drop-drop, length-append, take_at, map-append}
+pub use Rattle.std.proofs.lemmas.List.Sums.{AllPass-from_list_all}
+pub use Rattle.std.specs.Char.{is_ascii_digit}
+pub use Rattle.std.specs.Str.Parse.{AllDigits}
+pub use Rattle.std.proofs.Math.Nat.{le-max_left, le-max_right}
+pub use Rattle.std.proofs.lemmas.Slice.Eq.{bytes_eq-Decides}
+pub use Rattle.std.proofs.lemmas.Simd.{map-map}
+pub use Rattle.line_tokens.specs.Spelled.{spaced, joined, Spells, HasRoom, AreSpelled, Written}
+pub use Rattle.line_tokens.specs.declared.sign.Sign.TheVariants.{OpenBrace, CloseBrace, Comma, CloseBracket, OpenParen, CloseParen, Dot, Equals, Minus, EqualEqual, NotEqual, LessThan, LessEqual, GreaterThan, GreaterEqual, Colon, OpenBracket, Arrow, Question, Star, Slash}
+pub use Rattle.record_dim.specs.Trees.{Tree, Fields, Field, Record, Single, tree_of, fields_of}
+pub use Rattle.map_expr.specs.declared.widths.FieldWidth.{FieldWidth}
+pub use Rattle.line_grammar.specs.declared.token.Token.{Token}
+pub use Rattle.line_grammar.specs.declared.token.Token.TheVariants.{Word, Sign, Number, Text, Bad}
+pub use Rattle.line_grammar.specs.Sentences.{Sentence, Assignment, Value, Assign, Update, Actors, Kernel, Count, filter_depth, deepest_set, deepest, Blank, Define, Mapping, View, Load, Reduce, Copy, Relayout, Show, Drop, Bytes, Save, Open, Advise, PrintWindow, Stencil, assignment_of}
+pub use Rattle.phrases.specs.Phrases.{IsItem, Behind, Joined, IsEither, IsNothing, Chain, Repeats}
+pub use Rattle.record_dim.specs.declared.path.PathStep.{PathStep}
+pub use Rattle.expr_lang.specs.declared.expr.BinOp.{BinOp}
+pub use Rattle.expr_lang.specs.declared.expr.BinOp.TheVariants.{Eq, Ne, Lt, Le, Gt, Ge, Add, Sub, Mul, Div, Rem, Min, Max, And, Or}
+pub use Rattle.expr_lang.specs.Terms.{depth_of, Number as Constant, Entry, Index, Neg, Not, Binary}
+pub use Rattle.line_grammar.specs.declared.version.Version.{Version}
+pub use Rattle.line_grammar.specs.declared.version.Version.TheVariants.{One, Two}
+pub use Rattle.line_grammar.specs.declared.line.Command.{Command}
+pub use Rattle.line_grammar.specs.declared.line.KernelText.{KernelText}
+pub use Rattle.line_grammar.specs.declared.line.KernelWord.{KernelWord}
+pub use Rattle.line_grammar.specs.Tokens.{number_of, kernel_word_of, comparison_of, command_of, dimensions, index_of, choice_of, or_of, and_of, sum_of, product_of, map_word, order_of, kind_token, listed, meaning, reserved, name_of, count_of, string_of, type_of, integer_type_of, integer_types, leaf_types, orders, aos_forms, aos_form_of, soa_forms, soa_form_of, map_words, kernel_words, reduction_of, reductions, commands}
+pub use Rattle.line_grammar.specs.Grammar.{Phrase, IsName, IsCount, IsNumber, IsPath, IsMore, IsListed, IsConst, IsExpr, IsBracketList, IsAssignment, IsCuts, IsFilter, IsUpdateEnd, IsKernelInside, IsKernel, IsBody, IsLine, IsLink, IsChain, wrapped, IsPrefix, IsPrefixed, IsSum, IsComparison, IsExprOver, IsLeaf, IsChoice, IsBracketed, IsAtom, IsUnary, IsProduct, IsNegation, IsConjunction, IsNew, IsPart, IsDims, arrays, fields_of_list, IsTyped, IsNested, IsBraced, IsField, IsFields, IsFieldWidth, IsBracedWidths, IsFieldWidths, IsBits, IsForm, IsFormOrName, IsMap, IsExtent, IsFlag, IsOneOrMore, IsPass, IsSpan, IsWindowText, IsSentence, IsTerm, IsTerms, IsString}
+pub use Rattle.line_grammar.specs.Words.{operator, kernel_word, index_word, reduction_word, show_word, command_word, type_word, order_word, aos_word, soa_word, form_word}
+pub use Rattle.extents.specs.declared.words.ExtentWord.{ExtentWord}
+pub use Rattle.line_grammar.specs.declared.line.ShowKind.{ShowKind}
+pub use Rattle.extents.specs.declared.order.Order.{Order}
+pub use Rattle.map_expr.specs.Terms.{Term as MapTerm, Aos, Soa, Aosoa, BitAos, BitSoa, Split, Byteswap, Bytesplit, Change, Count as Counted, Heat as Heated, Named, term_of}
+pub use Rattle.line_grammar.specs.declared.line.MapWord.{MapWord}
+pub use Rattle.line_tokens.specs.Bytes.{is_text_byte, is_letter, is_word_byte}
+pub use Rattle.line_tokens.specs.EndLaws.{joined_no_end}
+pub use Rattle.line_tokens.specs.Ends.{NoEnd}
+pub use Rattle.line_tokens.specs.Next.{next_of}
+pub use Rattle.line_tokens.specs.Spots.{brackets_after, Spots}
+pub use Rattle.line_tokens.specs.Tokens.{Begins}
+pub use Rattle.line_tokens.specs.declared.spots.Spot.{Spot}
+pub use Rattle.line_tokens.specs.declared.token.Next.TheVariants.{Token as Found}
+pub use Rattle.line_tokens.specs.declared.token.TokenKind.{TokenKind}
+pub use Rattle.line_tokens.specs.NextTokenLaws.{token_exactly}
+pub use Rattle.line_tokens.specs.SpelledLaws.{next_spells, joined_read}
+pub use Rattle.line_tokens.specs.SpotLaws.{spot_at}
+pub use Rattle.record_dim.specs.NameBytesLaws.{both}
+pub use Rattle.line_grammar.specs.Reads.{tokens_of, Reads}
+pub use Rattle.line_tokens.specs.Signs.{opens, closes}
+pub use Rattle.line_tokens.specs.declared.sign.Sign.{Sign as SignName}
+pub use Rattle.extents.specs.declared.window.Span.{Span}
+pub use Rattle.line_grammar.specs.declared.line.TermText.{TermText}
+pub use Rattle.record_dim.specs.declared.dim.FieldList.{the_lemmas, size-FieldList}
+pub use Rattle.record_dim.specs.declared.dim.Dim.{size-Dim}
+pub use Rattle.line_writer.specs.Canonical.{with_commas, width_tokens, widths_tokens, fields_tokens, later_tokens, held_tokens, line_tokens, count_token, number_tokens, path_tokens, form_tokens, value_tokens, assignment_tokens, filter_tokens, update_tokens, index_tokens, actors_tokens, kernel_tokens, is_choice, operand, bracket_list, extent_tokens, flag_tokens, map_tokens, pass_tokens, new_tokens, bracketed_count, step_tokens, dims_tokens, core_tokens, ordered_tokens, bits_tokens, span_tokens, window_tokens, needs_brackets, first_tokens, term_tokens, terms_tokens}
+pub use Rattle.line_writer.specs.Texts.{written, canonical, behind}

@@ -1,0 +1,80 @@
+-- What the proofs of this crate speak of.
+pub use Rattle.std.proofs.Common.{◌≡◌, ℕ, ◌≤◌, ◌^◌, List, length, sym, ap, subst, ◌+◌, ◌-◌, ◌%◌, ◌<◌, ◌*◌, Bool, true, false, bit_xor, pos, ◌-ℤ◌, ◌∙◌, ⊎_elim, arith, ◌≢◌, zero, suc, [], ◌∷◌, ◌++◌, get_or, set, map, take, ℤ, refl, ◌/◌, All, bit_and, negsuc, w64, min, lit<, append_assoc, ◌⊎◌, rules, FitsSigned, SFits, Some, slice_index, ◌+ℤ◌, to_z, of_z, ◌*ℤ◌, fold, drop, drop-cons}
+pub use Rattle.std.proofs.lemmas.Grind.{common_steps}
+pub use Rattle.std.proofs.lemmas.Int.{ints, to_z-of_z}
+pub use Rattle.std.proofs.lemmas.Nat.{pow_pos, xor_block, and_mask, mod_below, shr_split, shr-shr}
+pub use Rattle.std.proofs.lemmas.Bool.{cases_lt, cases_eq}
+pub use Rattle.std.proofs.Math.Nat.{mod-eq_of_lt, mod-eq-sub-mod, pow-le-pow_right, div-lt_iff_lt-mul, div-mul-le_self, mod-lt, mul-le-mul_right, div-one, mod-one, mul_assoc, div-eq_of_lt}
+pub use Rattle.std.specs.Simd.Lanes.{zip2, Each2}
+pub use Rattle.std.proofs.lemmas.List.{map-append, length-map, get_or-map, get_or-set_other, take_more, take_more_set, take_all, length-set, get_or-set_same, same_lists, get_or_read, get_or_default, drop_all}
+pub use Rattle.std.proofs.lemmas.Simd.{length-zip2, get_or-zip2}
+pub use Rattle.std.proofs.lemmas.Nat.Bits.{bit_at-lt, bit_at-zero, bit_at_above, bit_at_cat_low, bit_at-trailing_zeros, same_from_bits}
+pub use Rattle.std.proofs.lemmas.List.Elements.{All-head, All-cons, All-tail}
+pub use Rattle.std.specs.Int.{bit_at, trailing_zeros, w128, int_min, int_max}
+pub use Rattle.std.specs.List.{flat_map, range_with_len, count_by}
+pub use Rattle.std.proofs.Math.Pow.{pow-lt, pow_mono}
+pub use Rattle.std.specs.Prelude.{not, int_le}
+pub use Rattle.std.proofs.lemmas.Option.{IfSome_then, slice_get_within}
+pub use Rattle.std.specs.Ordering.{int_cmp, is_le, is_some_and}
+pub use Rattle.std.proofs.Math.IntN.{nat_abs}
+pub use Rattle.extents.specs.declared.order.Order.{Order}
+pub use Rattle.extents.specs.Indices.{indices}
+pub use Rattle.linearize.specs.declared.columns.Columns.{Columns}
+pub use Rattle.places.specs.declared.piece.Hold.{Hold}
+pub use Rattle.places.specs.declared.rule.PieceRule.{PieceRule}
+pub use Rattle.places.specs.Image.{decoded, number, digit}
+pub use Rattle.places.specs.NumbersLaws.{decoded_low, decoded_high, half_of, number_lt, decoded_in, number_bits, number_pos, number_negsuc, number_same, bit_number, digit_lt, ones_of}
+pub use Rattle.record_dim.specs.LeafTypes.{IsIn}
+pub use Rattle.blobs.specs.Bits.{bit_of, bit_in}
+pub use Rattle.places.specs.declared.piece.Piece.{Piece}
+pub use Rattle.record_dim.specs.declared.leaf_type.LeafType.TheVariants.{Bool as Truth, U8, U16, I8, I32}
+pub use Rattle.places.specs.Laws.{IsLocated, IsPiece, owners_in}
+pub use Rattle.places.specs.BeginsLaws.{begins_fit}
+pub use Rattle.places.specs.PieceRules.{begin_in, piece_in, pieces_in}
+pub use Rattle.linearize.specs.ApartLaws.{line_same, column_on, columns_apart, morton_line}
+pub use Rattle.places.specs.Layout.{Owner, owner_at, field}
+pub use Rattle.places.specs.PlacesLaws.{range_split, located, pieces_weaker}
+pub use Rattle.extents.specs.declared.order.Order.TheVariants.{Row, Col, Morton}
+pub use Rattle.linearize.specs.Slots.{slot_at}
+pub use Rattle.linearize.specs.SlotsLaws.{slot_at_by_rows}
+pub use Rattle.linearize.specs.LinesLaws.{slot_in_line, slot_by_columns, slot_by_digits}
+pub use Rattle.blobs.specs.BytesLaws.{bit_read, byte_and_bit}
+pub use Rattle.blobs.specs.FieldsLaws.{field_read, field_put, window_written}
+pub use Rattle.blobs.specs.Turned.{turned_place}
+pub use Rattle.piece_bits.specs.declared.field.Field.{Field}
+pub use Rattle.piece_bits.specs.declared.word.Word.{Word}
+pub use Rattle.piece_bits.specs.Alongs.{IsAlong}
+pub use Rattle.piece_bits.specs.Paths.{IsPath}
+pub use Rattle.piece_bits.specs.Shorts.{Stands, IsHeldBy, IsShortOf, place_by, pieces_by, slot_in, start_in, HasStart}
+pub use Rattle.piece_bits.specs.Stands.{IsStandOf, IsStandFor, IsWhole, IsTurned, IsByteAlong, IsTurnedByte, AreTurned, IsScatteredByte, AreScattered, IsInBytes, IsInBits}
+pub use Rattle.piece_bits.specs.declared.path.Path.{Path}
+pub use Rattle.piece_bits.specs.declared.short.ShortRule.{ShortRule}
+pub use Rattle.piece_bits.specs.declared.stand.Stand.{Stand}
+pub use Rattle.piece_bits.specs.declared.walk.Walk.{Walk}
+pub use Rattle.piece_bits.specs.Words.{half_range, word_place, word_signed, word_width, IsWord, word_bit, turned_pieces}
+pub use Rattle.piece_bits.specs.Stretches.{stretch_place, spread_by, IsStretch}
+pub use Rattle.piece_bits.specs.declared.stretch.Stretch.{Stretch}
+pub use Rattle.piece_bits.specs.Lows.{low_64, IsWithin64}
+pub use Rattle.piece_bits.specs.Stretched.{number_at, stretched_at, HaveRead, HasRoom, IsPut, ArePut}
+pub use Rattle.piece_bits.specs.Scattered.{byte_of, scattered_pieces}
+pub use Rattle.piece_bits.specs.Spots.{spots_of, IsWithin, bit_at_spot, spot_at}
+pub use Rattle.piece_bits.specs.SpotsOfLaws.{IsNext, nowhere, next_piece, read_next}
+pub use Rattle.piece_bits.specs.declared.stretch.Spread.{Spread}
+pub use Rattle.piece_bits.specs.declared.stretch.Spread.TheVariants.{Even, Digits}
+pub use Rattle.piece_bits.specs.CongruenceLaws.{digits_negsuc, low_congruent, congruent_same}
+pub use Rattle.piece_bits.specs.declared.word.Word.TheVariants.{I64, Scattered, U64, TurnedU32, TurnedU64, TurnedI32, TurnedI64, I16, TurnedU16, TurnedI16, Field as FieldWord}
+pub use Rattle.piece_bits.specs.Kept.{kept, held}
+pub use Rattle.piece_bits.specs.Far.{shortened}
+pub use Rattle.piece_bits.specs.Joins.{Carries, AreJoined}
+pub use Rattle.piece_bits.specs.Walks.{leads, walks_in_blocks, slot_by}
+pub use Rattle.piece_bits.specs.EntryLaws.{image_of_table, settled_after, same_sign}
+pub use Rattle.piece_bits.specs.ImageLaws.{image_table}
+pub use Rattle.piece_bits.specs.KeptTableLaws.{declared_with_entry}
+pub use Rattle.piece_bits.specs.FarLaws.{fold_next, folded_far, shortened_kept}
+pub use Rattle.piece_bits.specs.WritesLaws.{AreWritten, within_same, write_next}
+pub use Rattle.piece_bits.specs.Blocks.{IsBlock}
+pub use Rattle.piece_bits.specs.BlockLaws.{same}
+pub use Rattle.piece_bits.specs.Plain.{compares}
+pub use Rattle.piece_bits.specs.CellsLaws.{IsCell, hold_is, some_bits, few_bits, bit_count, apart, written_table, written_padding, still_laid, within, read_small, read_entry_is, bit_in_lt}
+pub use Rattle.piece_bits.specs.OnePieceLaws.{one_count, one_within, one_table, one_laid, one_width, one_entry}
+pub use Rattle.piece_bits.specs.LowsLaws.{code_low}

@@ -1,0 +1,27 @@
+-- What the proofs of this crate speak of.
+pub use Rattle.std.proofs.Common.{◌≡◌, ℕ, suc, zero, ◌+◌, ◌<◌, Bool, true, false, cond, ◌||◌, nat_eq, nat_lt, Some, None, List, [], ◌∷◌, ◌++◌, length, map, refl, sym, ap, ◌∙◌, subst, inl, inr, ◌⊎◌, arith, ◌*◌, ◌≤◌, Option, codes, append_assoc, min, ⊎_elim, add-one, mul-le-mul_right, not, ◌-◌, max, nat_le, rules}
+pub use Rattle.std.proofs.lemmas.List.{append-nil, map-append, length-map, map-id, length-append}
+pub use Rattle.std.specs.Cmp.Lexicographic.{pointwise, slice_cmp, texts_ties}
+pub use Rattle.std.specs.List.{list_any, slice_get, flat_map, range_with_len}
+pub use Rattle.std.proofs.lemmas.Bool.Decides.{nat_tests}
+pub use Rattle.std.proofs.lemmas.List.Folds.{list_any-append}
+pub use Rattle.std.proofs.lemmas.List.FromFn.{map-range_with_len_more, length-range_with_len}
+pub use Rattle.std.proofs.lemmas.Grind.{flat_map-append}
+pub use Rattle.std.proofs.lemmas.Bool.{cases_lt}
+pub use Rattle.std.specs.Ordering.{nat_cmp}
+pub use Rattle.std.specs.BTreeMap.{is_at}
+pub use Rattle.std.proofs.Math.Nat.{mul_comm, zero-mul}
+pub use Rattle.std.proofs.lemmas.List.Concat.{flat_map-cons}
+pub use Rattle.std.specs.BTreeSet.{contains}
+pub use Rattle.record_dim.specs.declared.leaf_type.LeafType.{LeafType}
+pub use Rattle.record_dim.specs.declared.path.PathStep.{PathStep}
+pub use Rattle.record_dim.specs.declared.path.PathStep.TheVariants.{Name, At}
+pub use Rattle.record_dim.specs.declared.dim.Dim.{Dim}
+pub use Rattle.record_dim.specs.Trees.{Tree, Single, Record, Array, Fields, End, Field, tree_of, fields_of}
+pub use Rattle.record_dim.specs.Leaves.{Leaf, under, leaves_of, leaves, paths_of, names_of, has_twice, shares_name, records_of, records_below, first_fault, depth_of, lengths_of, lengths_below, is_empty_record, kinds_of, texts_of, greatest_depth}
+pub use Rattle.record_dim.specs.Nodes.{node_at, node_in, LeadsTo, leaves_before, leaves_before_in, behind, IsStretch, HasChild, HasField}
+pub use Rattle.record_dim.specs.NameBytesLaws.{same_text, text_self, stored, name_utf8}
+pub use Rattle.record_dim.specs.Paths.{step_text, path_text_of}
+pub use Rattle.record_dim.specs.Gathering.{node_kinds, node_texts, record_kinds, record_texts}
+pub use Rattle.record_dim.specs.Names.{is_word}
+pub use Rattle.record_dim.specs.declared.dim.FieldList.{the_lemmas, size-FieldList, FieldList}

@@ -1,0 +1,120 @@
+-- What the proofs of this crate speak of.
+pub use Rattle.std.proofs.Common.{◌≡◌, ℕ, ℤ, ◌+◌, ◌*◌, ◌<◌, ◌≤◌, Bool, false, List, [], length, map, get_or, set, slice_index, refl, sym, ap, ◌∙◌, subst, arith, ◌-◌, take, drop, length-append, zero, suc, ◌∷◌, ◌++◌, replicate, pos, to_z, of_z, w64, ◌/◌, ◌^◌, min, true, cond, Option, Some, None, fold, option_map, ◌%◌, Ok, ⊎_elim, inr, slice_get, ◌⊎◌, inl, ◌||◌, div-mul-le_self, Result, is_ok, ◌&&◌, ◌≤ℤ◌, FitsSigned, Err, drop-cons, nat_eq, SFits, rules, IfErr, Bor}
+pub use Rattle.std.specs.Int.{bit_at, w128}
+pub use Rattle.std.proofs.lemmas.Option.{slice_get-get_or, get_or_from_slice_get}
+pub use Rattle.std.specs.List.{sum_by, enumerate_from, range_with_len}
+pub use Rattle.std.proofs.lemmas.List.{length-take, length-map, get_or-map, get_or-append_right, get_or-drop, get_or_default, length-drop, ext_get_or, length-replicate, get_or-set_same, length-set, set-set, set-get_or, get_or-set_other, take_more, take_all, take-set-le, get_or-take, same_lists, take-map, get_or_past, get_or_read}
+pub use Rattle.std.proofs.lemmas.List.Sums.{sum_by_more, sum_by-cons, fold-append, sum_by-take-le, sum_by_more_le}
+pub use Rattle.std.proofs.lemmas.Int.{ints, to_z-of_z}
+pub use Rattle.std.proofs.lemmas.Simd.{Each1-replicate}
+pub use Rattle.std.specs.Simd.Lanes.{Each1}
+pub use Rattle.std.proofs.lemmas.List.FromFn.{map-range_with_len_more, length-enumerate_from, get_or-enumerate_from, length-range_with_len}
+pub use Rattle.std.specs.Prelude.{IfSome, count_by, if◌then◌else◌, ◌==◌, OnOk, ⊤, IsSomeAnd, slice_set}
+pub use Rattle.std.proofs.lemmas.List.Folds.{fold-map}
+pub use Rattle.std.proofs.lemmas.Bool.{cases_eq, cases_lt, cases_Bool, or_right, lt-leb, le-leb, or_left, eq-eqb}
+pub use Rattle.std.proofs.lemmas.Nat.{pow_pos, div-add-mod', mod-mul-add, mod_below, row_fits, le-div, mul-le}
+pub use Rattle.std.proofs.Math.Nat.{mul-mod_left}
+pub use Rattle.std.proofs.Math.Facts.{Fits-of_z}
+pub use Rattle.std.proofs.Math.Seq.{drop-length}
+pub use Rattle.std.specs.Option.{option_or, option_copied}
+pub use Rattle.std.proofs.Math.Path.{fun_ext}
+pub use Rattle.std.proofs.lemmas.Grind.{common_steps}
+pub use Rattle.record_dim.specs.LeafTypes.{IsIn, is_signed, IsDeclared, least_of, greatest_of, least_in, greatest_in, width_of}
+pub use Rattle.places.specs.Image.{number, digit, decoded, entry, image}
+pub use Rattle.places.specs.Layout.{Owner}
+pub use Rattle.places.specs.Laws.{IsLaidOut}
+pub use Rattle.places.specs.declared.piece.Hold.{Hold}
+pub use Rattle.places.specs.declared.piece.Piece.{Piece}
+pub use Rattle.places.specs.declared.rule.PieceRule.{PieceRule}
+pub use Rattle.blobs.specs.Bits.{bit_of, bit_in, bits_of}
+pub use Rattle.piece_bits.specs.CellsLaws.{IsCell, bit_count, apart, read_entry_is, written_table, written_padding, still_laid, bit_in_lt, hold_widths}
+pub use Rattle.piece_bits.specs.Scattered.{scattered_pieces}
+pub use Rattle.piece_bits.specs.Spots.{spots_of, bit_at_spot, AreApart}
+pub use Rattle.piece_bits.specs.Tables.{AreSized, AreLaid, hold_at, table_in, with_entry, HasShape, zeros}
+pub use Rattle.piece_bits.specs.Words.{IsField, IsWord, word_bit, word_place, word_pieces, word_signed, word_width}
+pub use Rattle.piece_bits.specs.WordsLaws.{word_blob, word_room, word_entry, word_held, word_table, word_laid}
+pub use Rattle.piece_bits.specs.WritesLaws.{AreWritten}
+pub use Rattle.piece_bits.specs.declared.field.Field.{Field}
+pub use Rattle.piece_bits.specs.declared.word.Word.{Word}
+pub use Rattle.piece_bits.specs.Shorts.{pieces_by, short_pieces, start_in, IsShortIn}
+pub use Rattle.piece_bits.specs.declared.short.ShortRule.{ShortRule}
+pub use Rattle.blobs.specs.Moves.{IsMoved, blocks}
+pub use Rattle.piece_bits.specs.Blocks.{IsBlock, IsNarrow}
+pub use Rattle.piece_bits.specs.BlockLaws.{narrow_block, narrow_fits, same}
+pub use Rattle.map_expr.specs.Terms.{Term, term_of, uncounted, Aos, Soa, Aosoa, BitAos, BitSoa, Split, Byteswap, Bytesplit, Change, Count, Named}
+pub use Rattle.map_any.specs.Counters.{has_count, granule_of, is_counted}
+pub use Rattle.instrument.specs.Counters.{LeafCounts, HeatCounts, counted, warmed, no_counts, no_heat, granules_of, HasLeaves, counted_times, warmed_times, heat_counts, leaf_counts}
+pub use Rattle.instrument.specs.CounterLaws.{count-from_zero, heat-from_zero}
+pub use Rattle.extents.specs.Indices.{indices}
+pub use Rattle.extents.specs.declared.order.Order.{Order}
+pub use Rattle.linearize.specs.Slots.{slot_count, slot_at}
+pub use Rattle.record_dim.specs.Trees.{Fields}
+pub use Rattle.record_dim.specs.Leaves.{kinds_of, Leaf, leaves}
+pub use Rattle.piece_bits.specs.MovedLaws.{AreMoved}
+pub use Rattle.piece_bits.specs.MovedBytesLaws.{moved_bits}
+pub use Rattle.map_checks.specs.Arrays.{array_of, lanes_in}
+pub use Rattle.map_any.specs.ArrayRuns.{IsArrayRun}
+pub use Rattle.map_any.specs.Strategies.{AreRuns}
+pub use Rattle.piece_bits.specs.declared.mode.StoreMode.{StoreMode}
+pub use Rattle.record_dim.specs.declared.leaf_type.LeafType.{LeafType}
+pub use Rattle.record_dim.specs.Schemas.{schema_fields}
+pub use Rattle.record_dim.specs.declared.schema.Schema.{Schema}
+pub use Rattle.map_expr.specs.declared.expr.MapExpr.{MapExpr}
+pub use Rattle.map_checks.specs.Mappings.{layout_by, holds_by, leaf_cells, IsTooBigFor, most_slots}
+pub use Rattle.piece_bits.specs.Kept.{declared, held, kept}
+pub use Rattle.piece_bits.specs.KeptLaws.{declared_same}
+pub use Rattle.piece_bits.specs.Modes.{declared_row, declared_table, IsSettled, Stays, AllSettled}
+pub use Rattle.piece_bits.specs.EntryLaws.{fitting_settled, same_sign, strict_entry, image_of_table, settled_after, raw_held, stays_declared, fitting_held, fitting_stays, stays_settled}
+pub use Rattle.record_dim.specs.declared.leaf_type.LeafType.TheVariants.{Bool as Truth, U8, U16, U32, U64, I8, I16, I32, I64}
+pub use Rattle.piece_bits.specs.TableLaws.{table_shape, tables_same, zeros_shape, zeros_entry}
+pub use Rattle.piece_bits.specs.EntriesLaws.{blob_is, zeros_read}
+pub use Rattle.piece_bits.specs.declared.mode.StoreMode.TheVariants.{Strict, Wrap}
+pub use Rattle.piece_bits.specs.KeptTableLaws.{declared_shape, declared_entry, declared_with_entry}
+pub use Rattle.places.specs.Holds.{IsTooBig, full_holds, hold_of}
+pub use Rattle.places.specs.declared.piece.Cell.{Cell}
+pub use Rattle.map_checks.specs.LeafCells.{kinds_are, leaf_cells_kinds, holds_by_kind}
+pub use Rattle.piece_bits.specs.Stretches.{stretch_place, IsStretch}
+pub use Rattle.piece_bits.specs.StretchesLaws.{stretch_fits}
+pub use Rattle.piece_bits.specs.declared.stretch.Stretch.{Stretch}
+pub use Rattle.piece_bits.specs.Lows.{low_64, IsWithin64}
+pub use Rattle.piece_bits.specs.LowsLaws.{code_low}
+pub use Rattle.piece_bits.specs.Stretched.{stretched_at, HasRoom, ArePut}
+pub use Rattle.piece_bits.proofs.Numbers.{word_narrow}
+pub use Rattle.instrument.specs.declared.heat.Heat.{Heat}
+pub use Rattle.map_any.specs.ArrayRunLaws.{array_holds}
+pub use Rattle.places.specs.Touched.{is_hot}
+pub use Rattle.instrument.specs.TimesLaws.{counted-counted, warmed-warmed, raised-capped}
+pub use Rattle.places.specs.NumbersLaws.{number_same}
+pub use Rattle.blobs.specs.Turned.{turned_place, IsTurned}
+pub use Rattle.piece_bits.specs.Walks.{leads, walks_plain, walks_in_blocks}
+pub use Rattle.piece_bits.specs.Wides.{is_turned_width, IsAsWhole, IsAsTurned, IsWide}
+pub use Rattle.piece_bits.specs.declared.walk.Walk.{Walk}
+pub use Rattle.piece_bits.specs.declared.wide_rules.Wide.{Wide}
+pub use Rattle.instrument.specs.WarmingLaws.{inside-counted}
+pub use Rattle.places.specs.TouchedLaws.{touched_same}
+pub use Rattle.instrument.specs.declared.counts.Counts.{Counts}
+pub use Rattle.map_any.specs.Maps.{extents_of, term_of_map}
+pub use Rattle.views.specs.HalfLaws.{half, half_more, half_whole}
+pub use Rattle.views.specs.Tables.{Table, after_log, after_read, kept_of, after_stores, leaf_types_of, table_holds, leaf_count_of, leaf_type_of, after_raw, IsTable, IsSettledIn, answer_of, after_write, owners_of, blob_bits_of}
+pub use Rattle.views.specs.Tallies.{Read, Access, Write, counts_touched, heat_touched, tallied, no_tally, blob_lengths, Tally, touched, all_touches, row_accesses, leaf_touched, granules_touched, access_to, all_accesses, times_accesses}
+pub use Rattle.views.specs.TallyLaws.{after_log-none, after_log-append, tallied-counts, tallied-heat, accesses_more, after_stores-append}
+pub use Rattle.views.specs.Columns.{in_leaf, column, column_reads, with_column, column_writes, first_lane_fault, lane_fault}
+pub use Rattle.views.specs.Entries.{reads_leaf, writes_leaf, touches, AreCounts, AreHeat, AreEntries}
+pub use Rattle.views.specs.Kept.{IsKept, raw_under, table_under, IsMappingOf, IsTallied, HasSign, HasGranules, tally_of}
+pub use Rattle.views.specs.Moves.{size_of, IsRunMoved, blob_steps, MayMove, IsInBlock, IsInRun}
+pub use Rattle.views.specs.Pieces.{IsMovedEach, is_cut, piece_count, piece_at, ArePieces}
+pub use Rattle.views.specs.Stores.{kind_at, Answer, Fits, told, AllStay, kept_row, kept_or, store_answer}
+pub use Rattle.views.specs.UncountedLaws.{layout_uncounted, holds_uncounted, slots_uncounted}
+pub use Rattle.views.specs.MovesLaws.{settled_moves, may_move, full_hold, full_own, run_laid, run_moved, with_rows, rows_after}
+pub use Rattle.views.specs.CountLaws.{idle_logged, piece_inside, raised_granules, raised_leaves, new_tally, no_tally-tallied, tallied_kept, tallied-one, idle_tallied, log_kept}
+pub use Rattle.views.specs.AnswerLaws.{told_ok, answer_stays, stays_answer, strict_kept, told_kept, told_err}
+pub use Rattle.views.specs.declared.fault.StoreFault.{StoreFault}
+pub use Rattle.views.specs.ColumnsLaws.{no_column, entry_more, length-with_column}
+pub use Rattle.views.specs.Runs.{raised, run_of, TakesAll, run_fault, stored_count, with_run, told_lane, run_steps}
+pub use Rattle.views.specs.RunsLaws.{raised_low, raised_all, run_entry, run_length, raised_same, declared_within}
+pub use Rattle.views.specs.declared.fault.LaneFault.{LaneFault}
+pub use Rattle.views.specs.Repeated.{counts_after, heat_after, leaf_raised, leaves_raised, granules_raised, row_raised, rows_raised}
+pub use Rattle.views.specs.OrderLaws.{leaves_both, heated_both}
+pub use Rattle.views.specs.RepeatLaws.{copies, copies_add, copies_copies, fold-same, fold-flat_map, many, fold-copies, fold_range_more}
+pub use Rattle.views.specs.CutLaws.{slots_within, block_in, same_slots, same_steps, all_pieces}
+pub use Rattle.views.specs.SpanLaws.{span_pieces}
