@@ -14,10 +14,6 @@ are_cuts-are from (cut ∷ cuts) count e =
     let both = and_parts (nat_le from cut) (are_cuts cut cuts count) e in
     (leb-true from cut both.0, are_cuts-are cut cuts count both.1)
 
-pub are-are_cuts : (from : ℕ) (cuts : List ℕ) (count : ℕ) → AreCuts from cuts count → are_cuts from cuts count ≡ true
-are-are_cuts from [] count are = le-leb from count are
-are-are_cuts from (cut ∷ cuts) count are = and_from (nat_le from cut) (are_cuts cut cuts count) (le-leb from cut are.0) (are-are_cuts cut cuts count are.1)
-
 -- a row lies in the part of an actor
 pub record IsPart (parts : List (ℕ × ℕ)) (a row : ℕ) : Type 0 where
   pub low : a < length parts

@@ -85,13 +85,6 @@ module _ (table : Table) (blobs : List (List ℕ)) (is : IsTable table) (paired 
 
 -- ---- which numbers are those of a type
 
--- each number that a hold has is, where its type has the range of the hold
-pub covered : (kind : LeafType) (hold : Hold) (raw : ℤ) → least_of kind ≤ℤ least_in hold.signed hold.width → greatest_in hold.signed hold.width ≤ℤ greatest_of kind → IsIn hold.signed hold.width raw
-    → IsDeclared kind raw
-covered kind hold raw low high held = between (least_of kind) (least_in hold.signed hold.width) raw (greatest_in hold.signed hold.width) (greatest_of kind) low held.0 held.1 high where
-  between : (a least v greatest b : ℤ) → a ≤ℤ least → least ≤ℤ v → v ≤ℤ greatest → greatest ≤ℤ b → (a ≤ℤ v) × (v ≤ℤ b)
-  between a least v greatest b one two three four = (grind (arith, ints), grind (arith, ints))
-
 -- and so is one of 64 bits whose low bits, read with a sign, are one of the type
 unsigned_low : (n : ℕ) → pos 0 ≤ℤ low_64 (pos n) → low_64 (pos n) ≡ pos n
 unsigned_low n low =

@@ -25,19 +25,3 @@ module _ (text : List ℕ) where
 
   pub other_view : (new : New) → line_told text ≡ Some (View new) → is_plain new ≡ false → new_told (line_told text) ≡ None
   other_view new is other = ap new_told is ∙ (rw other refl)
-
--- a plain view is one of the two names
-pub plain_is : (new : New) (shown : ShownView) → is_plain new ≡ true → new.words ≡ shown.words → new.wrap ≡ shown.wrap → new.term ≡ (new_in shown).term → new ≡ new_in shown
-plain_is new shown e words wrap term =
-    let plain = plain_parts new e in
-    λ i. record { name = plain.named i; schema = plain.over i; words = words i; wrap = wrap i; term = term i }
-
--- lines that define no record
-pub no_define : (line : Line) → ((name : List ℕ) (dim : Dim) → line ≡ lines.Define name dim → ⊥) → fields_told (Some (sentence_of line)) ≡ None
-no_define (lines.Define name dim) other = absurd (other name dim refl)
-no_define rest other = refl
-
--- and lines that make no view
-pub no_shown : (line : Line) → ((name schema : List ℕ) (words : List ExtentWord) (wrap : Bool) (expr : MapExpr) → line ≡ lines.View name schema words wrap expr → ⊥) → new_told (Some (sentence_of line)) ≡ None
-no_shown (lines.View name schema words wrap expr) other = absurd (other name schema words wrap expr refl)
-no_shown rest other = refl

@@ -25,12 +25,5 @@ none_open (Rows ∷ words) none = absurd (cc none)
 pub no_open : (words : List ExtentWord) → list_any is_rows words ≡ false → HasRows words → ⊥
 no_open words none some = omega (arith, none_open words none, some)
 
-pub plain_extents : (words : List ExtentWord) (extents : List ℕ) → list_any is_rows words ≡ false → extents ≡ extents_for words None → extents ≡ map (extent_of 0) words
-plain_extents words extents none is = is ∙ same_extents _ words none
-
--- the answer of the first test that words fail
-pub refused_shape : (words : List ExtentWord) (bad : Bad) → bad_shape words ≡ Some bad → bad_shape words ≡ None → ⊥
-refused_shape words bad some none = let clash : Some bad ≡ None = sym some ∙ none in absurd (cc)
-
 pub refused_extents : (shape words : List ExtentWord) (bad : Bad) → shape ≡ words → bad_extents shape None ≡ Some bad → bad_extents words None ≡ None → ⊥
 refused_extents shape words bad same some none = let clash : Some bad ≡ None = sym some ∙ ap (λ (w : List ExtentWord). bad_extents w None) same ∙ none in absurd (cc)

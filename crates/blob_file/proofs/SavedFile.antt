@@ -3,16 +3,6 @@ use Rattle.blob_file.proofs.Imports.{◌≡◌, ℕ, ◌+◌, ◌*◌, ◌%◌, 
 use Rattle.blob_file.proofs.Cuts.{total, total_bits, length-joined}
 use Rattle.blob_file.proofs.OneFile.{lengths_of_image}
 
-pub saved_file : (table : Table) → IsTable table → IsShort (header_of table) → IsFile (file_of (header_of table) (blobs_of table)) (header_of table) (blobs_of table)
-saved_file table is short = record {
-  is = refl;
-  short = short;
-  rows = table.rows;
-  are_rows = record {
-    shape = subst (λ (n : ℕ). HasShape n (leaf_count_of table) table.rows) is.rows is.shape;
-    stays = subst (λ (n : ℕ). AllStay table.mode n (leaf_types_of table) (table_holds table) table.rows) is.rows is.stays;
-  };
-  image_is = refl;
 }
 
 -- the parts that are written are the file

@@ -42,12 +42,6 @@ moved_bytes old at others from len new room there is =
       size = ap (λ (bytes : List ℕ). length bytes) is ∙ (let e : length (front ++ (part ++ rest)) ≡ length old = omega arith in e);
     }
 
-pub none_moved : (old : List ℕ) (at : ℕ) (others : List ℕ) (from len : ℕ) → len ≡ 0 → IsMoved old at others from len old
-none_moved old at others from len none = record {
-  inside = λ k l. absurd (omega arith);
-  before = λ k l. refl;
-  behind = λ k l. refl;
-  size = refl;
 }
 
 -- a block behind what was moved

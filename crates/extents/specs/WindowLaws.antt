@@ -278,11 +278,6 @@ push_room done spans spans' index index' span i whole one two so =
     let next = moved_step spans spans' index index' span i done whole one two so in
     omega (arith, ap (λ (xs : List ℕ). length xs) next, length-append (done ++ (span.from + i) ∷ []) (moved spans' index'), length-append done ((span.from + i) ∷ []))
 
--- the words of a window are all fixed, so its rows are their product
-pub fixed_rows : (spans : List Span) (size : ℕ) → product (map (extent_of size) (map fixed_size spans)) ≡ product (sizes spans)
-fixed_rows [] size = refl
-fixed_rows (span ∷ spans) size = ap (λ (p : ℕ). (span.end - span.from) * p) (fixed_rows spans size)
-
 pub fixed_extents : (spans : List Span) (size : ℕ) → map (extent_of size) (map fixed_size spans) ≡ sizes spans
 fixed_extents [] size = refl
 fixed_extents (span ∷ spans) size = ap (λ (xs : List ℕ). (span.end - span.from) ∷ xs) (fixed_extents spans size)

@@ -113,10 +113,6 @@ lane_inside answer leaf first (value ∷ values) fault e = one (answer leaf valu
   one (Ok kept) later e there = omega (arith, there e)
   one (Err cause) later e there = let same : first ≡ fault.lane = ap lane_or e in omega (arith, same)
 
-pub told_none : (fault : Option LaneFault) → told_lane fault ≡ Ok tt → fault ≡ None
-told_none None e = refl
-told_none (Some fault) e = absurd (cc)
-
 pub told_some : (fault : Option LaneFault) (told : LaneFault) → told_lane fault ≡ Err told → fault ≡ Some told
 told_some None told e = absurd (cc)
 told_some (Some fault) told e = let same : fault ≡ told = cc in ap (λ (f : LaneFault). Some f) same

@@ -6,10 +6,6 @@ in_order : (o : Option (Order × Option ℕ)) (P : Order → Type 0) (Q : Order 
 in_order None P Q some h = absurd some
 in_order (Some array) P Q some h = h
 
--- no leaf was moved yet
-pub no_leaf : (order : Order) (extents : List ℕ) (leaves slot count : ℕ) (source old : List (List ℤ)) → IsPieceMoved order extents leaves 0 slot count source old old
-no_leaf order extents leaves slot count source old = record { moved = λ row leaf inside low run. absurd (omega (arith, low)); stands = λ row leaf inside low apart. refl }
-
 -- a leaf more
 leaf_more : (order : Order) (extents : List ℕ) (leaves done slot count : ℕ) (source old now new : List (List ℤ)) → done < leaves
     → IsPieceMoved order extents leaves done slot count source old now
@@ -42,9 +38,6 @@ leaf_moved old now leaf slot count source new other is table inside arrays so_fa
 -- the entries of all rows whose slots are below one are those of another table
 pub record AreBelow (order : Order) (extents : List ℕ) (leaves slot : ℕ) (source new : List (List ℤ)) : Type 0 where
   pub each : (row leaf : ℕ) → row < length (indices extents) → leaf < leaves → slot_at order extents row < slot → entry new row leaf ≡ entry source row leaf
-
-pub none_below : (order : Order) (extents : List ℕ) (leaves : ℕ) (source new : List (List ℤ)) → AreBelow order extents leaves 0 source new
-none_below order extents leaves source new = record { each = λ row leaf inside leaf_in low. absurd (omega (arith, low)) }
 
 -- a piece more
 piece_more : (order : Order) (extents : List ℕ) (leaves slot count : ℕ) (source now new : List (List ℤ)) → AreBelow order extents leaves slot source now

@@ -21,11 +21,6 @@ leaf_steps before now new rows leaf each so_far more few =
     let next : rows * (leaf + 1) ≡ rows * leaf + rows = grind arith in
     omega (arith, so_far, more, few, next)
 
-pub run_steps_more : (before now new first count leaves : ℕ) → now ≤ before + 2 * (first * leaves) → new ≤ now + 2 * (count * leaves) → new ≤ before + 2 * ((first + count) * leaves)
-run_steps_more before now new first count leaves so_far more =
-    let next : (first + count) * leaves ≡ first * leaves + count * leaves = grind arith in
-    omega (arith, so_far, more, next)
-
 -- once all rows are before, the tables are one
 pub all_before : (source old new : Table) (first : ℕ) → AreAlike source old → IsTable source → IsTable new → new ≡ with_rows old new.rows → length source.rows ≤ first
     → AreBefore (leaf_count_of old) first source.rows new.rows → new ≡ with_rows old source.rows

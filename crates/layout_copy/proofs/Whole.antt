@@ -34,10 +34,6 @@ only_reads leaves rows = append-nil (all_accesses Read leaves rows ++ []) ∙ ap
 only_writes : (leaves rows : ℕ) → all_touches 0 1 leaves rows ≡ all_accesses Write leaves rows
 only_writes leaves rows = append-nil (all_accesses Write leaves rows)
 
-pub whole_read : (old new : Table) → new ≡ after_log old (all_touches 1 0 (leaf_count_of old) (length old.rows))
-    → new ≡ after_log old (all_accesses Read (leaf_count_of old) (length old.rows))
-whole_read old new is = is ∙ ap (after_log old) (only_reads (leaf_count_of old) (length old.rows))
-
 -- a table that has become another one, each of its entries counted
 module _ (source old now new : Table) (is : IsTable source) (to : IsTable old) (alike : AreAlike source old)
     (moved : now ≡ with_rows old source.rows) (counted : new ≡ after_log now (all_touches 0 1 (leaf_count_of now) (length now.rows))) where
@@ -90,12 +86,6 @@ rows_copied source old new is to alike nothing takes moved =
     let log = all_touches 0 1 (leaf_count_of new) (length new.rows) in
     taken_copied source old new new is to alike moved
     (moved ∙ sym (ap (λ (t : Table). after_log t log) moved ∙ ap (λ (t : Table). with_rows t source.rows) (nothing log))) takes
-
--- views that are alike are not told apart
-pub no_mismatch : (source old new : Table) (result : Result Unit CopyFault) → IsCopied source old new result → AreAlike source old → IsErrOf result Mismatch → ⊥
-no_mismatch source old new (Ok done) is alike mismatch = absurd (cc mismatch)
-no_mismatch source old new (Err Mismatch) is alike mismatch = is.0 alike
-no_mismatch source old new (Err (Narrow row leaf)) is alike mismatch = absurd (cc mismatch)
 
 -- arrays of one order, the other way round
 runs_turned : {X Y : Type 0} (o p : Option (X × Y)) → IsSomeAnd o (λ x. IsSomeAnd p (λ y. x.0 ≡ y.0)) → IsSomeAnd p (λ y. IsSomeAnd o (λ x. y.0 ≡ x.0))

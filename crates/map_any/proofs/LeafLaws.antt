@@ -64,13 +64,6 @@ pub leaf_short : (layout : List (List Owner)) (extents : List ℕ) (cell width :
 leaf_short layout extents cell width kind hold leaf placed whole some =
     short_in layout leaf.rule.order extents cell width hold leaf.rule.pieces.items leaf.short placed.few placed.places (whole.short some)
 
--- a short form of a rule is one of a rule that says the same
-pub short_same : (extents : List ℕ) (hold : Hold) (old new : Rule) (short : ShortRule) → IsSameRule old new
-    → IsShortOf old.order extents old.pieces.items hold short → IsShortOf new.order extents new.pieces.items hold short
-short_same extents hold old new short same h =
-    subst (λ (o : Order). IsShortOf o extents new.pieces.items hold short) (sym same.order)
-    (subst (λ (ps : List PieceRule). IsShortOf old.order extents ps hold short) (sym same.pieces) h)
-
 -- where there is a short form, nothing is counted
 pub short_uncounted : (counted some : Bool) → (counted ≡ true → some ≡ false) → some ≡ true → counted ≡ false
 short_uncounted true some without is = sym is ∙ without refl

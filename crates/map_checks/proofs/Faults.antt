@@ -42,11 +42,3 @@ module _ (term : Term) (extents : List ℕ) (fields : Fields) (cells : List Cell
       (λ (e : why ≡ TooBig). subst (IsRefusal term extents fields cells) (sym e) (is_accepted, big e))
       (λ (e : why ≡ NoMemory). subst (IsRefusal term extents fields cells) (sym e) tt)
       only
-
-pub refused : {T S : Type 0} (answer : Result T MakeMap) (why : MakeMap) (term : Term) (extents : List ℕ) (fields : Fields) (cells : List Cell)
-    → IsErrAnd answer (λ e. e ≡ why) → accepted term fields cells ≡ Ok tt → (IsErrOf {T = S} (Err why) TooBig → IsTooBigFor term extents fields cells)
-    → (why ≡ TooBig) ⊎ (why ≡ NoMemory) → IfErr answer (IsRefusal term extents fields cells)
-refused (Ok x) why term extents fields cells h is_accepted big only = absurd h
-refused {T} {S} (Err e) why term extents fields cells h is_accepted big only =
-    subst (IsRefusal term extents fields cells) (sym h)
-    (refusal term extents fields cells is_accepted why (λ is. big (ap (λ (e : MakeMap). let r : Result S MakeMap = Err e in r) is)) only)

@@ -41,11 +41,6 @@ pub either_alike : {T A : Type 0} (n : ℕ) (test : T → Bool) {read read_also 
 either_alike n test {read_also = read_also} {other = other} one two tokens small =
     ap (λ k. if starts test tokens then k else other tokens) (one tokens small) ∙ ap (λ k. if starts test tokens then read_also tokens else k) (two tokens small)
 
-pub which_alike : {T A : Type 0} (n : ℕ) (holds : Bool) {read read_also other other_also : List T → Result (A × List T) ℕ} → Alike n read read_also → Alike n other other_also →
-    Alike n (which_at holds read other) (which_at holds read_also other_also)
-which_alike n true one two = one
-which_alike n false one two = two
-
 within_alike : {T A : Type 0} (n : ℕ) (test : T → Bool) {step other : A → List T → Result (A × List T) ℕ} → ((a : A) → NoLonger (step a)) → ((a : A) → Alike n (step a) (other a)) →
     (k : ℕ) (a : A) → Alike n (steps_within k test step a) (steps_within k test other a)
 within_alike n test short one zero a tokens small = refl

@@ -24,11 +24,6 @@ pub either_wider : {T A : Type 0} {Is IsAlso IsOther IsOtherAlso : List T → A 
 either_wider one two xs v (inl h) = inl (one xs v h)
 either_wider one two xs v (inr h) = inr (two xs v h)
 
-pub which_wider : {T A : Type 0} (holds : Bool) {Is IsAlso IsOther IsOtherAlso : List T → A → Type 0} → Wider Is IsAlso → Wider IsOther IsOtherAlso
-    → Wider (WhichIs holds Is IsOther) (WhichIs holds IsAlso IsOtherAlso)
-which_wider true one two = one
-which_wider false one two = two
-
 pub same_wider : {T A : Type 0} (Is : List T → A → Type 0) → Wider Is Is
 same_wider Is xs v h = h
 

@@ -6,9 +6,6 @@ pub record IsReplaced {X : Type 0} (value : X → ℤ) (wanted : List ℤ) (old 
   pub first : map value (take count now) ≡ take count wanted
   pub rest : (k : ℕ) (d : X) → count ≤ k → get_or now k d ≡ get_or old k d
 
-pub none : {X : Type 0} (value : X → ℤ) (wanted : List ℤ) (old : List X) → IsReplaced value wanted old old 0
-none value wanted old = record { first = refl; rest = λ k d h. refl }
-
 pub one_more : {X : Type 0} (value : X → ℤ) (wanted : List ℤ) (old now : List X) (i : ℕ) (x : X) → i < length now → length wanted ≡ length now
     → IsReplaced value wanted old now i → value x ≡ get_or wanted i (pos 0) → IsReplaced value wanted old (set now i x) (i + 1)
 one_more {X} value wanted old now i x inside same done is = record {

@@ -35,10 +35,6 @@ pub same_number : (short : ShortRule) (stretch : Stretch) (bytes : List ℕ) (k 
 same_number short stretch bytes k place word value same there is =
     is ∙ ap (λ (w : Word). low_64 (number_at w short.field bytes place)) same ∙ ap (λ (p : ℕ). low_64 (number_at short.word short.field bytes p)) there
 
--- no number, and one more
-pub none_read : (short : ShortRule) (stretch : Stretch) (bytes : List ℕ) (at : ℕ) (old : List ℤ) → HaveRead short stretch bytes at 0 old old
-none_read short stretch bytes at old = record { count = refl; before = λ k l. refl; each = λ k l. absurd (omega arith) }
-
 pub one_more : (short : ShortRule) (stretch : Stretch) (bytes : List ℕ) (at done : ℕ) (old values : List ℤ) (value : ℤ) → HaveRead short stretch bytes at done old values → at + done < length old
     → value ≡ low_64 (stretched_at short stretch bytes done) → HaveRead short stretch bytes at (done + 1) old (set values (at + done) value)
 one_more short stretch bytes at done old values value have inside is = record {

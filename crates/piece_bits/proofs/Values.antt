@@ -1,13 +1,6 @@
 -- Values and their bits, as the code computes them.
 use Rattle.piece_bits.proofs.Imports.{◌≡◌, ℕ, ◌-◌, ◌/◌, ◌^◌, ◌<◌, ◌≤◌, ◌≢◌, Bool, true, false, ℤ, pos, negsuc, ◌-ℤ◌, refl, sym, ◌∙◌, ⊎_elim, arith, pow_pos, cases_lt, ints, div-eq_of_lt, IsIn, number, digit, decoded, half_of, decoded_high, number_pos, number_negsuc}
 
--- what bits say where the top bit is 1
-pub decoded_top : (width n : ℕ) → n / 2 ^ (width - 1) ≢ 0 → decoded true width n ≡ pos n -ℤ pos (2 ^ width)
-decoded_top width n top =
-    ⊎_elim (λ (low : n < 2 ^ (width - 1)). absurd (top (div-eq_of_lt low)))
-    (λ (high : 2 ^ (width - 1) ≤ n). decoded_high width n high)
-    (cases_lt n (2 ^ (width - 1)))
-
 -- a value that is held is below 2^width, and so is its distance below 0
 pub held_pos : (signed : Bool) (width n : ℕ) → 1 ≤ width → IsIn signed width (pos n) → n < 2 ^ width
 held_pos false width n some fits = omega (arith, ints, fits.1, pow_pos width)

@@ -35,6 +35,3 @@ far_put extents items slice numbers row is entry inside put =
 pub index_read : (extents e numbers : List ℕ) (row rank : ℕ) → e ≡ extents → rank ≡ length e → take (length e) numbers ≡ index_at e row → take rank numbers ≡ index_at extents row
 index_read extents e numbers row rank same long put =
     ap (λ k. take k numbers) long ∙ put ∙ ap (λ x. index_at x row) same
-
-pub index_long : (extents e numbers : List ℕ) (rank : ℕ) → e ≡ extents → rank ≡ length e → rank ≤ length numbers → length (take rank numbers) ≡ length extents
-index_long extents e numbers rank same long room = omega (arith, length-take rank numbers, long, ap length same, room)

@@ -181,9 +181,6 @@ module _ (table : Table) (filter : Option (Term ℕ)) (first count : ℕ) where
   pub none_pass : (sets : List Setting) → AreTested table filter first count (λ k. false) → IsRunUpdated table filter sets first count table
   none_pass sets tested = record { still = record { same = refl; count = refl }; front = refl; back = refl; each = λ k small. (let passed = tested k small in rw passed refl) }
 
-pub no_rows : (table : Table) (filter : Option (Term ℕ)) (sets : List Setting) (first : ℕ) → IsRunUpdated table filter sets first 0 table
-no_rows table filter sets first = record { still = record { same = refl; count = refl }; front = refl; back = refl; each = λ k small. absurd (omega (arith, small)) }
-
 -- behind rows that are updated
 module _ (old view after : Table) (filter : Option (Term ℕ)) (sets : List Setting) (first count : ℕ) (idle : IsIdle old) (rows_in : first + count ≤ length old.rows)
     (so_far : AreUpdated old filter sets view first) (run : IsRunUpdated view filter sets first count after) where

@@ -46,14 +46,6 @@ run_between window row last first end ordered at there apart = λ k low.
     let same : one ≡ first + k = omega (arith, apart, before, behind, low, ordered) in
     here ∙ ap (λ (m : ℕ). Some m) same
 
--- and one row alone
-pub run_of_one : (numbers : List ℕ) (row first : ℕ) → slice_get numbers row ≡ Some first → IsRun numbers row first 1
-run_of_one numbers row first at = λ k low.
-    let none : k ≡ 0 = omega (arith, low) in
-    let place : row ≡ row + k = omega (arith, none) in
-    let same : first ≡ first + k = omega (arith, none) in
-    subst (λ (m : ℕ). slice_get numbers m ≡ Some (first + k)) place (at ∙ ap (λ (m : ℕ). Some m) same)
-
 -- behind its first rows
 pub run_behind : (numbers : List ℕ) (row first count rows : ℕ) → IsRun numbers row first count → rows ≤ count → IsRun numbers (row + rows) (first + rows) (count - rows)
 run_behind numbers row first count rows run inside = λ k low.

@@ -158,7 +158,3 @@ far_more window terms far k term value small within at here before = λ place ot
     (λ (apart : place ≡ k → ⊥).
     subst (λ (z : ℤ). IsFar window (get_or terms place other).offsets.items z) (sym (get_or-set_other far k place value (pos 0) apart)) (before place other (omega (arith, low, apart))))
     (cases_eq place k)
-
--- a window without a row has any
-pub far_of_none : (window : WindowOf) (terms : List Term) (far : List ℤ) (count : ℕ) → length (rows_of window) ≡ 0 → AreFar window terms far count
-far_of_none window terms far count none = λ place other low row held. absurd (omega (arith, none, held.1))

@@ -135,10 +135,6 @@ rows_capped layout times leaves rows heat =
     h (range_with_len 0 leaves)) heat (range_with_len 0 rows))
     (raised-capped times)
 
-pub heat_none : (layout : List (List Owner)) (reads writes leaves rows : ℕ) (heat : HeatCounts) → reads + writes ≡ 0 → heat ≡ heat_after layout (all_touches reads writes leaves rows) heat
-heat_none layout reads writes leaves rows heat none =
-    sym (read_copies layout reads writes leaves rows heat ∙ ap (λ (n : ℕ). heat_after layout (copies (all_accesses Read leaves rows) n) heat) none)
-
 pub heat_raised : (layout : List (List Owner)) (reads writes leaves rows : ℕ) (heat : HeatCounts) → 0 < reads + writes
     → rows_raised (min (reads + writes) (2 ^ 64 - 1)) layout leaves rows heat ≡ heat_after layout (all_touches reads writes leaves rows) heat
 heat_raised layout reads writes leaves rows heat some =

@@ -118,10 +118,6 @@ rows_kept keep (row ∷ rows) each =
     ap (λ (r : List ℤ). r ∷ kept_rows keep rows) (row_kept keep row (λ leaf l. each 0 leaf (omega arith) l))
     ∙ ap (λ (rest : List (List ℤ)). row ∷ rest) (rows_kept keep rows (λ r leaf l m. each (suc r) leaf (omega (arith, l)) m))
 
--- a strict table keeps rows as they are
-pub strict_rows : (table : Table) → table.mode ≡ Strict → (rows : List (List ℤ)) → kept_rows (kept_of table) rows ≡ rows
-strict_rows table strict rows = rows_kept (kept_of table) rows (λ row leaf l m. strict_kept table strict leaf (entry rows row leaf))
-
 -- each table keeps its own
 pub own_rows : (table : Table) → IsTable table → kept_rows (kept_of table) table.rows ≡ table.rows
 own_rows table is =

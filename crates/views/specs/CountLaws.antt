@@ -126,15 +126,6 @@ unfolding tallied
 log_kept tally [] has = has
 log_kept {term} {layout} {leaves} tally (access ∷ log) has = log_kept (touched layout tally access) log (tallied_kept access has)
 
--- more accesses, and one more
-pub log_more : (layout : List (List Owner)) (start now : Tally) (log more : List Access) → now ≡ tallied layout start log
-    → tallied layout now more ≡ tallied layout start (log ++ more)
-log_more layout start now log more before = ap (λ (t : Tally). tallied layout t more) before ∙ tallied-append layout start log more
-
-pub one_more : (layout : List (List Owner)) (start now : Tally) (log : List Access) (access : Access) → now ≡ tallied layout start log
-    → touched layout now access ≡ tallied layout start (log ++ access ∷ [])
-one_more layout start now log access before = sym (tallied-one layout now access) ∙ log_more layout start now log (access ∷ []) before
-
 -- the granules of a blob
 whole_bytes : (bits : ℕ) → bits % 8 ≡ 0 → 8 * (bits / 8) ≡ bits
 whole_bytes bits e = omega arith
