@@ -24,6 +24,7 @@ mod shorten;
 mod stand;
 mod start;
 mod stretch;
+mod stretches;
 mod told_tables;
 mod unit;
 mod value;
