@@ -2,7 +2,6 @@
 //! number; short forms of rules; many rows at once, and sixteen numbers side by side.
 #![tactic(auto)]
 
-mod block;
 mod bytes;
 mod compare;
 mod entry;
@@ -34,7 +33,6 @@ mod wide_rules;
 mod word;
 mod words;
 
-pub use block::Block;
 pub use compare::Compare;
 pub use entry::{read_entry, read_piece, write_entry, write_piece};
 pub use far::folded;
