@@ -89,10 +89,13 @@ pub use Rattle.instrument.specs.RoundingLaws.{rounded}
 pub use Rattle.advisor.specs.declared.advice.AdviseFault.{AdviseFault}
 pub use Rattle.advisor.specs.declared.candidate.Candidate.{Candidate}
 pub use Rattle.advisor.specs.declared.pass.Pass.{Pass}
-pub use Rattle.advisor.specs.Advice.{Advised, judge, cost_of, candidates, split_terms, advised, unless, advice, is_best, told_by, own_paths, splits_at}
-pub use Rattle.advisor.specs.Judged.{first_fault, is_over, limited, judged, fault_at, fault_or}
+pub use Rattle.advisor.specs.Advice.{Advised, judge, cost_of, candidates, split_terms, advised, unless, is_best, told_by, own_paths, splits_at}
+unfoldable pub use Rattle.advisor.specs.Advice.{advice}
+pub use Rattle.advisor.specs.Judged.{first_fault, is_over, limited, fault_at, fault_or}
+unfoldable pub use Rattle.advisor.specs.Judged.{judged}
 pub use Rattle.advisor.specs.Pools.{IsPriced, IsStored, terms_in}
-pub use Rattle.advisor.specs.Suits.{suits, keeps, stays, leaf_stays, all_stay}
+pub use Rattle.advisor.specs.Suits.{keeps, stays, leaf_stays, all_stay}
+unfoldable pub use Rattle.advisor.specs.Suits.{suits}
 pub use Rattle.advisor.specs.Choices.{costs_in, cost_at, is_marked, AreMarked, IsLeast, IsCheapest}
 pub use Rattle.advisor.specs.Sides.{term_at, IsHold, IsSideCost}
 pub use Rattle.advisor.specs.TouchedLaws.{touched_alike, touched_split, same_tests, IsTouchedBy, any_map, touched_hot}

@@ -93,13 +93,16 @@ pub use Rattle.views.specs.ColumnsLaws.{length-with_column}
 pub use Rattle.views.proofs.RunStoreLaws.{value_more}
 pub use Rattle.views.proofs.StoredLaws.{nothing_stored, HasStored, passed}
 pub use Rattle.record_dim.specs.Schemas.{schema_fields}
-pub use Rattle.blob_file.specs.Opened.{cut, raw_in, rows_in, answer_by, are_taken, all_taken, are_contents, leaf_count, row_count, line_at, with_blobs, with_body, empty_table, table_of, IsRead, same_bytes, line_told, fields_told, new_told, with_record, header_told, behind_first, behind_size, header_at, is_plain, mode_by, Saved, with_header, opened, canonical_by, IsReadInto}
-pub use Rattle.blob_file.specs.Files.{Header, owners_by, image_bytes, AreRows, two_lines, four_bytes, is_wrap, record_line, view_line, record_text, view_text, header_text, IsShort, magic, file_of, IsFile}
+pub use Rattle.blob_file.specs.Opened.{cut, raw_in, rows_in, answer_by, are_taken, all_taken, leaf_count, row_count, line_at, with_blobs, with_body, empty_table, table_of, IsRead, same_bytes, fields_told, new_told, with_record, header_told, behind_first, behind_size, is_plain, mode_by, Saved, with_header, canonical_by, IsReadInto}
+unfoldable pub use Rattle.blob_file.specs.Opened.{are_contents, line_told, header_at, opened}
+pub use Rattle.blob_file.specs.Files.{Header, owners_by, image_bytes, AreRows, two_lines, four_bytes, is_wrap, record_line, view_line, record_text, view_text, header_text, IsShort, magic, IsFile}
+unfoldable pub use Rattle.blob_file.specs.Files.{file_of}
 pub use Rattle.blob_file.specs.Filling.{kept_run, run_writes, AreFitting, AreTaken, IsTaken, IsTakenLeaf}
 pub use Rattle.blob_file.specs.Saving.{header_of, blobs_of, head_of}
 pub use Rattle.blob_file.specs.Parts.{fields_in, new_in, header_in, header_by}
 pub use Rattle.blob_file.specs.declared.header.ShownView.{ShownView}
-pub use Rattle.blob_file.specs.Headers.{is_nameless, HasLine, HasLines, words_of, CanLie, is_over, can_lie}
+pub use Rattle.blob_file.specs.Headers.{is_nameless, HasLine, HasLines, words_of, CanLie, is_over}
+unfoldable pub use Rattle.blob_file.specs.Headers.{can_lie}
 pub use Rattle.blob_file.specs.HeaderLaws.{nameless_built}
 pub use Rattle.blob_file.specs.declared.header.FileHeader.{FileHeader}
 pub use Rattle.blob_file.specs.Statements.{OneFile, OpensFiles}

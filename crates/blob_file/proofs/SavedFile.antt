@@ -3,8 +3,6 @@ use Rattle.blob_file.proofs.Imports.{◌≡◌, ℕ, ◌+◌, ◌*◌, ◌%◌, 
 use Rattle.blob_file.proofs.Cuts.{total, total_bits, length-joined}
 use Rattle.blob_file.proofs.OneFile.{lengths_of_image}
 
-}
-
 -- the parts that are written are the file
 pub file_text : (table : Table) (first second : List ℕ) → first ≡ record_text (header_of table) → second ≡ view_text (header_of table) →
     head_of first second ++ joined (blobs_of table) ≡ file_of (header_of table) (blobs_of table)

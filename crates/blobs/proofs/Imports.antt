@@ -44,7 +44,8 @@ pub use Rattle.core.proofs.slots.Opens.{Sr, words_val, row_val, row_had, row_mad
 pub use prog.Capped.{capped_fits}
 pub use mir.MapTy.{inst_fn}
 pub use prog.Wp.{Env, WpFn, Tables, Wp, after_seq, at_return}
-pub use contract.Running.{tables, tables_of}
+pub use contract.Running.{tables}
+unfoldable pub use contract.Running.{tables_of}
 pub use denote.Signature.{plain, types_at}
 pub use denote.Triple.Clauses.{Clauses, Ended, closing}
 pub use denote.Triple.Table.{entered}

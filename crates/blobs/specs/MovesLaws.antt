@@ -42,8 +42,6 @@ moved_bytes old at others from len new room there is =
       size = ap (λ (bytes : List ℕ). length bytes) is ∙ (let e : length (front ++ (part ++ rest)) ≡ length old = omega arith in e);
     }
 
-}
-
 -- a block behind what was moved
 pub moved_more : (old : List ℕ) (at : ℕ) (others : List ℕ) (from done len : ℕ) (now new : List ℕ) (place source : ℕ) → place ≡ at + done → source ≡ from + done
     → IsMoved old at others from done now → IsMoved now place others source len new → IsMoved old at others from (done + len) new

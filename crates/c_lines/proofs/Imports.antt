@@ -24,20 +24,27 @@ pub use Rattle.layout_io.specs.Files.{File, file_of}
 pub use Rattle.line_grammar.specs.Sentences.{Relayout, New, Define, View, Load, Sentence, deepest, sentence_of}
 pub use Rattle.map_expr.specs.Terms.{Term, Split, Byteswap, Bytesplit, Change, Count, Heat, Named as Name, term_of}
 pub use Rattle.record_dim.specs.NameBytesLaws.{same_text, text_self}
-pub use Rattle.worlds.specs.Copy.{all_read, are_alike, copied, copy, laid_anew, relayout, with_rows}
-pub use Rattle.worlds.specs.Kernel.{fit_kernel, kernel_run, number_text, run, run_fault, are_lanes, fits, fit_leaf, is_wide, is_factor, is_constant, are_bounds}
+pub use Rattle.worlds.specs.Copy.{all_read, are_alike}
+unfoldable pub use Rattle.worlds.specs.Copy.{copied, copy, laid_anew, relayout, with_rows}
+pub use Rattle.worlds.specs.Kernel.{fit_kernel, number_text, run, run_fault, are_lanes, fits, fit_leaf, is_wide, is_factor, is_constant, are_bounds}
+unfoldable pub use Rattle.worlds.specs.Kernel.{kernel_run}
 pub use Rattle.worlds.specs.Names.{nameless, text_of_leaf, leaf_of}
-pub use Rattle.worlds.specs.OnView.{Done, done_to, on_view, with_table}
-pub use Rattle.worlds.specs.Step.{step}
+pub use Rattle.worlds.specs.OnView.{Done, done_to, with_table}
+unfoldable pub use Rattle.worlds.specs.OnView.{on_view}
+unfoldable pub use Rattle.worlds.specs.Step.{step}
 pub use Rattle.worlds.specs.Tables.{live_bits, made, resolved, shaped, mode_by, zeros_of, blob_bits}
-pub use Rattle.csv_rows.specs.Datasets.{records_of, rows_of, Leaf, Place, columns_named, columns_of, dataset_table, header_of, one_column, row_values, table_from, taken, the_field, the_number, unspaced, value_at, with_columns}
+pub use Rattle.csv_rows.specs.Datasets.{records_of, rows_of, Leaf, Place, columns_named, columns_of, header_of, one_column, row_values, table_from, taken, the_field, the_number, unspaced, value_at, with_columns}
+unfoldable pub use Rattle.csv_rows.specs.Datasets.{dataset_table}
 pub use Rattle.csv_rows.specs.Loads.{dataset_of}
 pub use Rattle.csv_rows.specs.declared.fault.RowFault.{RowFault}
 pub use Rattle.record_dim.specs.Leaves.{first_fault, texts_of, kinds_of, paths_of}
 pub use Rattle.record_dim.specs.declared.fault.BadRecord.{BadRecord}
-pub use Rattle.worlds.specs.Define.{define, fields_in}
-pub use Rattle.worlds.specs.Load.{filled, load, loaded, loaded_table, row_fault}
-pub use Rattle.worlds.specs.View.{named, new_table, view, with_view, Named}
+pub use Rattle.worlds.specs.Define.{fields_in}
+unfoldable pub use Rattle.worlds.specs.Define.{define}
+pub use Rattle.worlds.specs.Load.{filled, row_fault}
+unfoldable pub use Rattle.worlds.specs.Load.{load, loaded, loaded_table}
+pub use Rattle.worlds.specs.View.{named, with_view, Named}
+unfoldable pub use Rattle.worlds.specs.View.{new_table, view}
 pub use Rattle.worlds.specs.declared.fault.CommandFault.TheVariants.{TooBig, Unknown, BadExtents as OfExtents, BadMapping as OfMapping, BadKernel}
 pub use Rattle.command_checks.specs.Gives.{Gives}
 pub use Rattle.command_checks.specs.declared.fault.StepFault.{StepFault}
@@ -96,7 +103,8 @@ pub use Rattle.c_lines.specs.declared.refusal.Refusal.TheVariants.{Narrow, NoMem
 pub use Rattle.c_lines.specs.declared.refusal.TextOf.TheVariants.{First, Second}
 pub use Rattle.c_lines.specs.Copies.{target_after, told_rows, was_copied, source_after}
 pub use Rattle.c_lines.specs.KernelLines.{Fitted, left_by, number_told, run_left}
-pub use Rattle.c_lines.specs.Lines.{line_told, described, with_dataset, filled_as, zeros_for, shallow}
+pub use Rattle.c_lines.specs.Lines.{described, with_dataset, filled_as, zeros_for, shallow}
+unfoldable pub use Rattle.c_lines.specs.Lines.{line_told}
 pub use Rattle.c_lines.specs.Relaid.{after_relaid, relaid, mapping_told, whole_told, zeros_told}
 pub use Rattle.c_lines.specs.declared.refusal.Refusal.{Refusal}
 pub use Rattle.c_lines.specs.Steps.{answered}

@@ -22,7 +22,8 @@ pub use Rattle.std.specs.Fmt.{decimal}
 pub use Rattle.std.proofs.lemmas.Fmt.{decimal_injective, decimal_by_steps_wide}
 pub use Rattle.std.specs.Int.{w128}
 pub use Rattle.std.proofs.lemmas.List.Sums.{AllPass-from_list_all}
-pub use Rattle.csv.specs.Machine.{Read, next_record, step, is_end, ends_at_end, fields_after, field_after, start_field}
+pub use Rattle.csv.specs.Machine.{Read, step, is_end, ends_at_end, fields_after, field_after, start_field}
+unfoldable pub use Rattle.csv.specs.Machine.{next_record}
 pub use Rattle.views.specs.Tallies.{Write, Tally, row_accesses, all_accesses}
 pub use Rattle.views.specs.TallyLaws.{tallied-none, after_log-append, after_stores-append, logs_more, after_log-none}
 pub use Rattle.views.specs.Tables.{Table, owners_of, leaf_count_of, after_log, after_stores, leaf_types_of, table_holds, kept_of, IsTable, answer_of}
@@ -51,10 +52,12 @@ pub use Rattle.layout_io.specs.Gathering.{Puts, HasPut}
 pub use Rattle.layout_io.specs.GatheringLaws.{Puts-append, Puts-stopped, Puts-loop_err, Puts-loop_ok, Puts-stop, Writes-puts_err}
 pub use Rattle.layout_io.specs.WritingLaws.{flat_map_push}
 pub use Rattle.memchr.specs.Find.{IsFirstByte, is_byte, is_byte3, is_byte2}
-pub use Rattle.csv.specs.Reading.{default_config, records_from, records_next, source_of, Reached, ReadRecord, strip_bom, is_bom}
+pub use Rattle.csv.specs.Reading.{default_config, records_next, source_of, ReadRecord, is_bom}
+unfoldable pub use Rattle.csv.specs.Reading.{records_from, Reached, strip_bom}
 pub use Rattle.csv.specs.declared.parser.State.{State}
 pub use Rattle.csv.specs.declared.parser.Action.{Action}
-pub use Rattle.csv.specs.Records.{field_at, fields_of}
+pub use Rattle.csv.specs.Records.{fields_of}
+unfoldable pub use Rattle.csv.specs.Records.{field_at}
 pub use Rattle.csv.specs.declared.parser.Config.{Config}
 pub use Rattle.csv.specs.declared.reader.Reader.{Reader}
 pub use Rattle.csv.proofs.ReadFacts.{rows-more, rows-end}
@@ -75,9 +78,11 @@ pub use Rattle.views.specs.declared.fault.StoreFault.{StoreFault}
 pub use Rattle.record_dim.specs.Schemas.{schema_fields}
 pub use Rattle.extents.specs.Indices.{indices}
 pub use Rattle.csv_rows.specs.Readers.{IsAsked, record_count, field_state, quote_state, known, text_left, rows_from, rows_left, IsReading, text_behind}
-pub use Rattle.csv_rows.specs.Datasets.{◌>>=◌, Place, unspaced, number_of, the_field, the_number, taken, value_at, Leaf, records_of, row_values, table_from, with_columns, columns_named, one_column, columns_of, header_of, rows_of, dataset_table, all_digits, digits_number, is_blank, behind_blanks, before_blanks, refusal}
+pub use Rattle.csv_rows.specs.Datasets.{◌>>=◌, Place, unspaced, number_of, the_field, the_number, taken, value_at, Leaf, records_of, row_values, table_from, with_columns, columns_named, one_column, columns_of, header_of, rows_of, all_digits, digits_number, is_blank, behind_blanks, before_blanks, refusal}
+unfoldable pub use Rattle.csv_rows.specs.Datasets.{dataset_table}
 pub use Rattle.csv_rows.specs.declared.fault.RowFault.{RowFault}
-pub use Rattle.csv_rows.specs.Texts.{with_comma, comma_line, print_text, comma_joined}
+pub use Rattle.csv_rows.specs.Texts.{with_comma, comma_line, comma_joined}
+unfoldable pub use Rattle.csv_rows.specs.Texts.{print_text}
 pub use Rattle.csv_rows.specs.Plain.{is_comma, opens_behind, HasNoQuote, IsPlain, IsFirstField, IsField, is_line_end, line_length, first_line, behind_line, IsFieldHere, line_start, IsAt}
 pub use Rattle.csv_rows.specs.Loads.{dataset_of, IsNoRefusal, place_of, leaves_in, IsFront, Keeps, IsRowsFront, KeepsRows}
 pub use Rattle.csv_rows.specs.declared.fault.RowFault.TheVariants.{MissingColumn, ColumnTwice, NoMemory, ShortRow, Number, Narrow}

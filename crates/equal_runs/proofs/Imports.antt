@@ -43,22 +43,32 @@ pub use Rattle.lane_kernels.specs.declared.kernel.Kernel.{Kernel}
 pub use Rattle.subviews.specs.Stencils.{Stencil, stenciled, rounds_log, stencil_value, at_row, values_fault, with_column, new_entry, if_fits, round, next_round, after_rounds}
 pub use Rattle.subviews.specs.declared.fault.StencilFault.{StencilFault}
 pub use Rattle.worlds.specs.Worlds.{World, found, Entry, same_name, added, replaced, removed, empty}
-pub use Rattle.worlds.specs.OnView.{Done, stores, tells, done_to, with_table, on_view, Work, worked}
+pub use Rattle.worlds.specs.OnView.{Done, stores, tells, done_to, with_table, Work, worked}
+unfoldable pub use Rattle.worlds.specs.OnView.{on_view}
 pub use Rattle.worlds.specs.Names.{leaf_of, bound, bound_filter, bound_sets, each_once, leaves_of, text_of_leaf, nameless}
 pub use Rattle.worlds.specs.Values.{storable, store_fault, value_on}
-pub use Rattle.worlds.specs.Assign.{inside, assigned}
-pub use Rattle.worlds.specs.Update.{updated, update_fault, kind_fault}
-pub use Rattle.worlds.specs.Reduce.{reduction, reduced, column, counting}
-pub use Rattle.worlds.specs.Copy.{are_alike, all_read, copied, copy, relayout, laid_anew, with_rows, narrow_fault}
-pub use Rattle.worlds.specs.Kernel.{run, fit_kernel, kernel_run, number_text, run_fault}
-pub use Rattle.worlds.specs.Show.{print, counts, showing, drop_view, heat}
-pub use Rattle.worlds.specs.Stencil.{fit_stencil, room_beside, stencil_fault, stencil_rounds, stencil_run}
-pub use Rattle.worlds.specs.Windows.{windowed, print_window}
+pub use Rattle.worlds.specs.Assign.{inside}
+unfoldable pub use Rattle.worlds.specs.Assign.{assigned}
+pub use Rattle.worlds.specs.Update.{update_fault, kind_fault}
+unfoldable pub use Rattle.worlds.specs.Update.{updated}
+pub use Rattle.worlds.specs.Reduce.{reduced, column}
+unfoldable pub use Rattle.worlds.specs.Reduce.{reduction, counting}
+pub use Rattle.worlds.specs.Copy.{are_alike, all_read, narrow_fault}
+unfoldable pub use Rattle.worlds.specs.Copy.{copied, copy, relayout, laid_anew, with_rows}
+pub use Rattle.worlds.specs.Kernel.{run, fit_kernel, number_text, run_fault}
+unfoldable pub use Rattle.worlds.specs.Kernel.{kernel_run}
+pub use Rattle.worlds.specs.Show.{showing}
+unfoldable pub use Rattle.worlds.specs.Show.{print, counts, drop_view, heat}
+pub use Rattle.worlds.specs.Stencil.{fit_stencil, room_beside, stencil_fault, stencil_rounds}
+unfoldable pub use Rattle.worlds.specs.Stencil.{stencil_run}
+pub use Rattle.worlds.specs.Windows.{windowed}
+unfoldable pub use Rattle.worlds.specs.Windows.{print_window}
 pub use Rattle.worlds.specs.Tables.{blob_bits, made, resolved, room, shaped, zeros_of, live_bits}
 pub use Rattle.worlds.specs.declared.fault.CommandFault.TheVariants.{Mismatch, NotCounted, TooBig, Unknown, Taken, BadMapping, TooManyViews}
 pub use Rattle.worlds.specs.declared.fault.UnknownName.TheVariants.{Name}
 pub use Rattle.lane_kernels.specs.Kernels.{Store, stored, answer_fault, first_fault, empty_fault, kernel_fault}
-pub use Rattle.csv_rows.specs.Datasets.{Place, Leaf, the_field, the_number, number_of, unspaced, refusal, taken, value_at, row_values, table_from, with_columns, columns_of, header_of, rows_of, dataset_table, records_of}
+pub use Rattle.csv_rows.specs.Datasets.{Place, Leaf, the_field, the_number, number_of, unspaced, refusal, taken, value_at, row_values, table_from, with_columns, columns_of, header_of, rows_of, records_of}
+unfoldable pub use Rattle.csv_rows.specs.Datasets.{dataset_table}
 pub use Rattle.csv_rows.specs.declared.fault.RowFault.{RowFault}
 pub use Rattle.csv_rows.specs.declared.fault.RowFault.TheVariants.{ShortRow, Number}
 pub use Rattle.layout_io.specs.Files.{File}
@@ -68,12 +78,17 @@ pub use Rattle.views.specs.TallyLaws.{tallied-none, tallied-append, tallied-coun
 pub use Rattle.blob_file.specs.Opened.{Saved, opened, rows_in, table_of}
 pub use Rattle.csv_rows.specs.Loads.{dataset_of}
 pub use Rattle.map_expr.specs.Checks.{checked}
-pub use Rattle.worlds.specs.Define.{define, fit}
-pub use Rattle.worlds.specs.Files.{bad_file, open_view, opened_beside, opened_table}
-pub use Rattle.worlds.specs.Load.{load, loaded_table, loaded, filled, read, row_fault, row_fault as fault_of}
-pub use Rattle.worlds.specs.Mapping.{mapping}
-pub use Rattle.worlds.specs.Step.{step, work_of}
-pub use Rattle.worlds.specs.View.{view, new_table, with_view, named, Named}
+pub use Rattle.worlds.specs.Define.{fit}
+unfoldable pub use Rattle.worlds.specs.Define.{define}
+pub use Rattle.worlds.specs.Files.{bad_file}
+unfoldable pub use Rattle.worlds.specs.Files.{open_view, opened_beside, opened_table}
+pub use Rattle.worlds.specs.Load.{filled, read, row_fault, row_fault as fault_of}
+unfoldable pub use Rattle.worlds.specs.Load.{load, loaded_table, loaded}
+unfoldable pub use Rattle.worlds.specs.Mapping.{mapping}
+pub use Rattle.worlds.specs.Step.{work_of}
+unfoldable pub use Rattle.worlds.specs.Step.{step}
+pub use Rattle.worlds.specs.View.{with_view, named, Named}
+unfoldable pub use Rattle.worlds.specs.View.{view, new_table}
 pub use Rattle.extents.specs.declared.words.ExtentWord.{ExtentWord}
 pub use Rattle.map_any.specs.AnyLaws.{holds_cells, length-leaf_cells}
 pub use Rattle.line_grammar.specs.declared.version.Version.{Version}

@@ -26,9 +26,11 @@ pub use Rattle.places.specs.Touched.{is_in_granule, is_touched}
 pub use Rattle.record_dim.specs.Schemas.{schema_fields}
 pub use Rattle.record_dim.specs.Leaves.{texts_of}
 pub use Rattle.layout_io.specs.declared.ends.Failed.{Failed}
-pub use Rattle.instrument.specs.BlobTexts.{bytes_of, line_end, bytes_text, byte_text}
+pub use Rattle.instrument.specs.BlobTexts.{bytes_of, line_end, byte_text}
+unfoldable pub use Rattle.instrument.specs.BlobTexts.{bytes_text}
 pub use Rattle.instrument.specs.BlobTextsLaws.{bytes_long, byte_is}
-pub use Rattle.instrument.specs.CounterTexts.{line_of, owner_fields, run_line, runs_text, counts_text, leaf_line, granule_line, heat_text, blob_lines}
+pub use Rattle.instrument.specs.CounterTexts.{line_of, owner_fields, run_line, leaf_line, granule_line, blob_lines}
+unfoldable pub use Rattle.instrument.specs.CounterTexts.{runs_text, counts_text, heat_text}
 pub use Rattle.instrument.specs.Counters.{HeatCounts, raised, counted_times, warmed_times, heated_times, granules_of, warmed_blob, leaf_counts, granules_in, heat_counts, IsCounted}
 pub use Rattle.instrument.specs.RoundingLaws.{reaches, row_begin, rounded}
 pub use Rattle.instrument.specs.Touching.{AreGranulesOf, warmed_at, heated_besides}

@@ -17,28 +17,32 @@ pub use Rattle.std.proofs.lemmas.Str.Parse.{numerals_by_value, tells_digits}
 pub use Rattle.layout_io.specs.Files.{File, file_of, HasFile}
 pub use Rattle.line_grammar.specs.Sentences.{Sentence, deepest, New, Load, Blank, file_of as file_in, Value, Assignment}
 pub use Rattle.line_grammar.specs.declared.version.Version.{Version}
-pub use Rattle.schema_lang.specs.LineOf.{line_of, told, spots_in, spots_within, spots_behind}
+pub use Rattle.schema_lang.specs.LineOf.{told, spots_in, spots_within, spots_behind}
+unfoldable pub use Rattle.schema_lang.specs.LineOf.{line_of}
 pub use Rattle.worlds.specs.Worlds.{World, empty, Entry, found}
 pub use Rattle.worlds.specs.Outcomes.{Outcome, Faults, Left, Goes, CannotRead, each, refused_if, refused_by, ok_or, some_or, known, free}
-pub use Rattle.worlds.specs.Step.{step}
+unfoldable pub use Rattle.worlds.specs.Step.{step}
 pub use Rattle.worlds.specs.declared.fault.CommandFault.TheVariants.{LineTooLong, TooDeep, ScriptTooLong, BadMapping, BadKernel, BadActors, BadWindow, BadStencil, BadAdvice, TooBig, Taken, Unknown}
 pub use Rattle.worlds.specs.Fold.{run_from, fails_at, after}
 pub use Rattle.equal_runs.specs.EqualRuns.{DoesLines, EqualRuns}
 pub use Rattle.session_runs.specs.Steps.{step_text, step_line}
-pub use Rattle.session_runs.specs.Scripts.{run_form, run_headed, run_versioned, faulted, script_lines, version_line, version_said, without_version}
+pub use Rattle.session_runs.specs.Scripts.{run_headed, run_versioned, faulted, script_lines, version_line, version_said, without_version}
+unfoldable pub use Rattle.session_runs.specs.Scripts.{run_form}
 pub use Rattle.session_runs.specs.Heads.{RunsUnversioned}
 pub use Rattle.line_tokens.specs.Bytes.{is_hash}
 pub use Rattle.line_tokens.specs.Next.{token_at, placed}
 pub use Rattle.worlds.specs.Outcome.{End, Output, Unread, Gives, IsText}
 pub use Rattle.line_grammar.specs.Reads.{tokens_of}
-pub use Rattle.line_phrases.specs.Lists.{bracket_list_at, listed_at, rest_at, extent_at, fixed_at, cuts_at}
-pub use Rattle.line_phrases.specs.Maps.{map_at, form_or_name_at, form_at, aos_at}
-pub use Rattle.phrases.specs.Reading.{steps_at, ◌>>=◌, item_at, past, starts, item_or, then_at, give_at, behind_at, either_at, which_at}
+pub use Rattle.line_phrases.specs.Lists.{cuts_at}
+unfoldable pub use Rattle.line_phrases.specs.Lists.{bracket_list_at, listed_at, rest_at, extent_at, fixed_at}
+unfoldable pub use Rattle.line_phrases.specs.Maps.{map_at, form_or_name_at, form_at, aos_at}
+pub use Rattle.phrases.specs.Reading.{◌>>=◌, item_at, past, starts, item_or, then_at, give_at, behind_at, either_at, which_at}
+unfoldable pub use Rattle.phrases.specs.Reading.{steps_at}
 pub use Rattle.map_expr.specs.Terms.{Aos, Count, Term as MapTerm, Soa, Aosoa, BitAos, BitSoa, Split, Byteswap, Bytesplit, Change, Heat, Named as NamedTerm}
 pub use Rattle.extents.specs.declared.words.ExtentWord.TheVariants.{Rows}
 pub use Rattle.extents.specs.declared.order.Order.TheVariants.{Row}
 pub use Rattle.places.specs.declared.forms.AosForm.TheVariants.{Packed}
-pub use Rattle.schema_lang.specs.Bodies.{line_at, command_at, body_at, new_at, flag_at, load_at, define_at, mapping_at, view_at, assign_at, update_at, kernel_line_at, reduce_at, copy_at, relayout_at, show_at, bytes_at, advise_at, stencil_at}
+unfoldable pub use Rattle.schema_lang.specs.Bodies.{line_at, command_at, body_at, new_at, flag_at, load_at, define_at, mapping_at, view_at, assign_at, update_at, kernel_line_at, reduce_at, copy_at, relayout_at, show_at, bytes_at, advise_at, stencil_at}
 pub use Rattle.line_grammar.specs.declared.version.Version.TheVariants.{One, Two}
 pub use Rattle.line_tokens.specs.declared.spots.Spot.{Spot}
 pub use Rattle.line_grammar.specs.declared.token.Token.{Token}
@@ -61,7 +65,8 @@ pub use Rattle.line_phrases.specs.Passes.{passes_at}
 pub use Rattle.line_phrases.specs.Paths.{path_at}
 pub use Rattle.line_phrases.specs.Stencils.{terms_at, window_at}
 pub use Rattle.schema_lang.specs.Kernels.{kernel_at}
-pub use Rattle.schema_lang.specs.Updates.{actors_at, assignment_at, filter_at, update_end_at}
+pub use Rattle.schema_lang.specs.Updates.{assignment_at, filter_at}
+unfoldable pub use Rattle.schema_lang.specs.Updates.{actors_at, update_end_at}
 pub use Rattle.extents.specs.Indices.{indices}
 pub use Rattle.linearize.specs.Slots.{place_in}
 pub use Rattle.extents.specs.declared.window.Span.{Span}
@@ -93,32 +98,49 @@ pub use Rattle.record_dim.specs.Leaves.{kinds_of}
 pub use Rattle.map_expr.specs.Checks.{bad_granule}
 pub use Rattle.map_checks.specs.Mappings.{accepted, leaf_cells, most_slots}
 pub use Rattle.views.specs.Tallies.{granules_for}
-pub use Rattle.worlds.specs.Define.{define, fit}
-pub use Rattle.worlds.specs.Mapping.{mapping}
-pub use Rattle.worlds.specs.View.{view, new_table, named, Named}
-pub use Rattle.worlds.specs.Load.{load, loaded_table, loaded, filled, read, there}
-pub use Rattle.worlds.specs.OnView.{with_table, on_view}
-pub use Rattle.worlds.specs.Assign.{assigned, inside}
-pub use Rattle.worlds.specs.Actors.{updated_by_actors, fit_cuts, shared}
-pub use Rattle.worlds.specs.Advise.{leaves_at, leaves_under, bound_pass, fit_advice, advise_fault, asked, advise}
-pub use Rattle.worlds.specs.Stencil.{bound_term, all_reach, all_weigh, fit_terms, fit_stencil, stencil_fault, stencil_run}
-pub use Rattle.worlds.specs.Windows.{are_inside, windowed, print_window}
-pub use Rattle.worlds.specs.Update.{updated, update_fault}
-pub use Rattle.worlds.specs.Reduce.{reduction, reduced, counting, column}
-pub use Rattle.worlds.specs.Copy.{copy, relayout, with_rows, copied, laid_anew, all_read}
-pub use Rattle.worlds.specs.Kernel.{kernel_run, fit_kernel, fits, fit_leaf, is_wide, is_factor, is_constant, are_bounds, are_lanes}
+pub use Rattle.worlds.specs.Define.{fit}
+unfoldable pub use Rattle.worlds.specs.Define.{define}
+unfoldable pub use Rattle.worlds.specs.Mapping.{mapping}
+pub use Rattle.worlds.specs.View.{named, Named}
+unfoldable pub use Rattle.worlds.specs.View.{view, new_table}
+pub use Rattle.worlds.specs.Load.{filled, read, there}
+unfoldable pub use Rattle.worlds.specs.Load.{load, loaded_table, loaded}
+pub use Rattle.worlds.specs.OnView.{with_table}
+unfoldable pub use Rattle.worlds.specs.OnView.{on_view}
+pub use Rattle.worlds.specs.Assign.{inside}
+unfoldable pub use Rattle.worlds.specs.Assign.{assigned}
+pub use Rattle.worlds.specs.Actors.{fit_cuts, shared}
+unfoldable pub use Rattle.worlds.specs.Actors.{updated_by_actors}
+pub use Rattle.worlds.specs.Advise.{leaves_at, leaves_under, bound_pass, fit_advice, advise_fault, asked}
+unfoldable pub use Rattle.worlds.specs.Advise.{advise}
+pub use Rattle.worlds.specs.Stencil.{bound_term, all_reach, all_weigh, fit_terms, fit_stencil, stencil_fault}
+unfoldable pub use Rattle.worlds.specs.Stencil.{stencil_run}
+pub use Rattle.worlds.specs.Windows.{are_inside, windowed}
+unfoldable pub use Rattle.worlds.specs.Windows.{print_window}
+pub use Rattle.worlds.specs.Update.{update_fault}
+unfoldable pub use Rattle.worlds.specs.Update.{updated}
+pub use Rattle.worlds.specs.Reduce.{reduced, column}
+unfoldable pub use Rattle.worlds.specs.Reduce.{reduction, counting}
+pub use Rattle.worlds.specs.Copy.{all_read}
+unfoldable pub use Rattle.worlds.specs.Copy.{copy, relayout, with_rows, copied, laid_anew}
+pub use Rattle.worlds.specs.Kernel.{fit_kernel, fits, fit_leaf, is_wide, is_factor, is_constant, are_bounds, are_lanes}
+unfoldable pub use Rattle.worlds.specs.Kernel.{kernel_run}
 pub use Rattle.blob_file.specs.Opened.{opened, table_of}
-pub use Rattle.worlds.specs.Files.{save, bad_file, opened_beside, opened_table, open_view}
-pub use Rattle.worlds.specs.Show.{print, counts, heat, layout, showing, bytes, drop_view, small}
+pub use Rattle.worlds.specs.Files.{bad_file}
+unfoldable pub use Rattle.worlds.specs.Files.{save, opened_beside, opened_table, open_view}
+pub use Rattle.worlds.specs.Show.{showing, small}
+unfoldable pub use Rattle.worlds.specs.Show.{print, counts, heat, layout, bytes, drop_view}
 pub use Rattle.worlds.specs.Tables.{made, resolved, room, shaped, zeros_of, blob_bits, live_bits}
 pub use Rattle.worlds.specs.Names.{nameless, leaf_of, bound, bound_filter, bound_set, bound_sets, each_once, leaves_of}
 pub use Rattle.worlds.specs.Values.{value_on, storable}
 pub use Rattle.layout_io.specs.WritingLaws.{with_bytes-nil}
 pub use Rattle.session_runs.specs.RunLaws.{IsSame, run_of_same}
-pub use Rattle.csv.specs.Reading.{strip_bom}
+unfoldable pub use Rattle.csv.specs.Reading.{strip_bom}
 pub use Rattle.worlds.specs.Lines.{is_line_end, without_cr, ended_lines, lines_in}
 pub use Rattle.session_runs.specs.BlankLaws.{passes_blanks}
 pub use Rattle.layout_cli.specs.Run.{run_file, run_script, run, run_words, run_generated, script_name, gen_words}
 pub use Rattle.layout_cli.specs.EqualScripts.{IsScript, EqualScripts}
-pub use Rattle.layout_cli.specs.Generated.{generated_lines, generated_files, script_text, dataset_text, ended, with_commas, row_text, row_values}
-pub use Rattle.layout_cli.specs.Numbers.{is_number_word, number_of, IsNumberWord}
+pub use Rattle.layout_cli.specs.Generated.{generated_lines, generated_files, ended, with_commas, row_text, row_values}
+unfoldable pub use Rattle.layout_cli.specs.Generated.{script_text, dataset_text}
+pub use Rattle.layout_cli.specs.Numbers.{is_number_word, IsNumberWord}
+unfoldable pub use Rattle.layout_cli.specs.Numbers.{number_of}

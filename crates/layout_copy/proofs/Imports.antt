@@ -50,7 +50,8 @@ pub use Rattle.places.specs.declared.piece.Cell.{Cell}
 pub use Rattle.map_any.specs.AnyLaws.{length-leaf_cells}
 pub use Rattle.views.specs.AnswerLaws.{told_same}
 pub use Rattle.views.specs.declared.fault.StoreFault.{StoreFault}
-pub use Rattle.layout_copy.specs.Costs.{piece_steps, steps_at, steps_before, round_steps, run_steps, IsWay, MayMoveTo, cost, leaf_sizes}
+pub use Rattle.layout_copy.specs.Costs.{piece_steps, steps_at, round_steps, run_steps, IsWay, MayMoveTo, cost, leaf_sizes}
+unfoldable pub use Rattle.layout_copy.specs.Costs.{steps_before}
 pub use Rattle.layout_copy.specs.Copies.{AreAlike, refusing, refused_at, spot_or, IsCopied}
 pub use Rattle.layout_copy.specs.Runs.{order_in, order_by, IsPieceMoved}
 pub use Rattle.layout_copy.specs.OwnLaws.{staying_held, staying_kept}

@@ -16,13 +16,16 @@ pub use Rattle.map_expr.specs.Terms.{Term as MapTerm, term_of as map_of, term_of
 pub use Rattle.line_grammar.specs.declared.line.PassText.{PassText}
 pub use Rattle.line_grammar.specs.declared.version.Version.{Version}
 pub use Rattle.record_dim.specs.Trees.{tree_of, fields_of}
-pub use Rattle.line_phrases.specs.Exprs.{means, link_at, links_at, next_at, count_at, unary_over, product_over, negation_over, conjunction_over, atom_at, boxed_term, left_term, sum_over, expr_over}
+pub use Rattle.line_phrases.specs.Exprs.{means, link_at, unary_over, product_over, negation_over, conjunction_over, atom_at, boxed_term, left_term, sum_over, expr_over}
+unfoldable pub use Rattle.line_phrases.specs.Exprs.{links_at, next_at, count_at}
 pub use Rattle.line_phrases.specs.BasicsLaws.{exact_sign, exact_word}
 pub use Rattle.line_phrases.specs.LevelsLaws.{and_operator, atoms, conjunction_parses, link_steps, negation_parses, or_operator, prefix_steps, product_operator, product_parses, sum_operator, unary_parses}
 pub use Rattle.line_phrases.specs.Constants.{const_at}
-pub use Rattle.line_phrases.specs.Lists.{rest_at, listed_at, fixed_at, extent_at}
+pub use Rattle.line_phrases.specs.Lists.{listed_at, fixed_at, extent_at}
+unfoldable pub use Rattle.line_phrases.specs.Lists.{rest_at}
 pub use Rattle.line_phrases.specs.Maps.{map_at}
-pub use Rattle.line_phrases.specs.Passes.{later_passes_at, pass_at, passes_at}
+pub use Rattle.line_phrases.specs.Passes.{pass_at, passes_at}
+unfoldable pub use Rattle.line_phrases.specs.Passes.{later_passes_at}
 pub use Rattle.line_phrases.specs.Paths.{path_at, parts_at}
 pub use Rattle.line_phrases.specs.Stencils.{span_at, term_at}
 pub use Rattle.line_phrases.specs.ListLaws.{comma_listed}

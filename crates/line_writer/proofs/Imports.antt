@@ -60,4 +60,5 @@ pub use Rattle.line_grammar.specs.declared.line.TermText.{TermText}
 pub use Rattle.record_dim.specs.declared.dim.FieldList.{the_lemmas, size-FieldList}
 pub use Rattle.record_dim.specs.declared.dim.Dim.{size-Dim}
 pub use Rattle.line_writer.specs.Canonical.{with_commas, width_tokens, widths_tokens, fields_tokens, later_tokens, held_tokens, line_tokens, count_token, number_tokens, path_tokens, form_tokens, value_tokens, assignment_tokens, filter_tokens, update_tokens, index_tokens, actors_tokens, kernel_tokens, is_choice, operand, bracket_list, extent_tokens, flag_tokens, map_tokens, pass_tokens, new_tokens, bracketed_count, step_tokens, dims_tokens, core_tokens, ordered_tokens, bits_tokens, span_tokens, window_tokens, needs_brackets, first_tokens, term_tokens, terms_tokens}
-pub use Rattle.line_writer.specs.Texts.{written, canonical, behind}
+pub use Rattle.line_writer.specs.Texts.{written, behind}
+unfoldable pub use Rattle.line_writer.specs.Texts.{canonical}

@@ -62,6 +62,7 @@ pub use Rattle.map_any.specs.LeafRules.{AreLeafRules, kind_in, hold_in, IsLeafRu
 pub use Rattle.map_any.specs.declared.leaf_rule.LeafRule.{LeafRule}
 pub use Rattle.map_any.specs.declared.any.AnyMap.{AnyMap}
 pub use Rattle.map_any.specs.Filling.{shown_at, IsShown, IsFilled, ShowBelow, Show, runs_along}
-pub use Rattle.map_any.specs.Runs.{run_owner, goes_on, joined, runs_from, runs_of}
+pub use Rattle.map_any.specs.Runs.{run_owner, goes_on, joined, runs_from}
+unfoldable pub use Rattle.map_any.specs.Runs.{runs_of}
 pub use Rattle.map_any.specs.Counters.{is_counted}
 pub use Rattle.map_any.specs.declared.cell_map.CellMap.{CellMap}

@@ -22,6 +22,6 @@ pub use Rattle.record_dim.specs.Leaves.{Leaf, under, leaves_of, leaves, paths_of
 pub use Rattle.record_dim.specs.Nodes.{node_at, node_in, LeadsTo, leaves_before, leaves_before_in, behind, IsStretch, HasChild, HasField}
 pub use Rattle.record_dim.specs.NameBytesLaws.{same_text, text_self, stored, name_utf8}
 pub use Rattle.record_dim.specs.Paths.{step_text, path_text_of}
-pub use Rattle.record_dim.specs.Gathering.{node_kinds, node_texts, record_kinds, record_texts}
+unfoldable pub use Rattle.record_dim.specs.Gathering.{node_kinds, node_texts, record_kinds, record_texts}
 pub use Rattle.record_dim.specs.Names.{is_word}
 pub use Rattle.record_dim.specs.declared.dim.FieldList.{the_lemmas, size-FieldList, FieldList}

@@ -67,7 +67,8 @@ pub use Rattle.map_any.specs.AnyLaws.{length-leaf_cells}
 pub use Rattle.piece_bits.specs.Modes.{kind_at, Stays}
 pub use Rattle.piece_bits.specs.declared.mode.StoreMode.{StoreMode}
 pub use Rattle.views.specs.AnswerLaws.{answer_stays}
-pub use Rattle.csv_rows.specs.Datasets.{Place, rows_of, one_column, columns_named, columns_of, unspaced, number_of, the_field, the_number, taken, value_at, row_values, table_from, with_columns, dataset_table, records_of}
+pub use Rattle.csv_rows.specs.Datasets.{Place, rows_of, one_column, columns_named, columns_of, unspaced, number_of, the_field, the_number, taken, value_at, row_values, table_from, with_columns, records_of}
+unfoldable pub use Rattle.csv_rows.specs.Datasets.{dataset_table}
 pub use Rattle.blob_file.specs.Saving.{header_of, blobs_of}
 pub use Rattle.csv_rows.specs.declared.fault.RowFault.{RowFault}
 pub use Rattle.extents.specs.declared.order.Order.{Order}
@@ -84,12 +85,17 @@ pub use Rattle.views.specs.Tallies.{Tally, Write, all_accesses, no_tally, tallie
 pub use Rattle.blob_file.specs.Statements.{OpensFiles, HoldsRows, HoldsBits}
 pub use Rattle.blob_file.specs.declared.fault.FileFault.{FileFault}
 pub use Rattle.worlds.specs.Worlds.{World, found, Entry, replaced, same_name, added, removed}
-pub use Rattle.worlds.specs.OnView.{Done, tells, done_to, on_view, with_table, Work, worked}
+pub use Rattle.worlds.specs.OnView.{Done, tells, done_to, with_table, Work, worked}
+unfoldable pub use Rattle.worlds.specs.OnView.{on_view}
 pub use Rattle.worlds.specs.Tables.{room, live_bits, blob_bits, resolved, made, zeros_of, shaped}
-pub use Rattle.worlds.specs.View.{with_view, named, new_table, view}
-pub use Rattle.worlds.specs.Load.{there, read, load, loaded_table, loaded, filled, row_fault}
-pub use Rattle.worlds.specs.Files.{is_long, save, open_view, opened_table, opened_beside, bad_file}
-pub use Rattle.worlds.specs.Step.{step, work_of}
+pub use Rattle.worlds.specs.View.{with_view, named}
+unfoldable pub use Rattle.worlds.specs.View.{new_table, view}
+pub use Rattle.worlds.specs.Load.{there, read, filled, row_fault}
+unfoldable pub use Rattle.worlds.specs.Load.{load, loaded_table, loaded}
+pub use Rattle.worlds.specs.Files.{is_long, bad_file}
+unfoldable pub use Rattle.worlds.specs.Files.{save, open_view, opened_table, opened_beside}
+pub use Rattle.worlds.specs.Step.{work_of}
+unfoldable pub use Rattle.worlds.specs.Step.{step}
 pub use Rattle.worlds.specs.declared.fault.CommandFault.{CommandFault}
 pub use Rattle.equal_runs.specs.GoesLaws.{known_found, gone, free_found, IfGoes, to, refused, unread, bind, behind}
 pub use Rattle.record_dim.specs.declared.leaf_type.LeafType.TheVariants.{Bool as Truth}
@@ -111,9 +117,11 @@ pub use Rattle.subviews.specs.Stencils.{stencil_value, at_row, values_fault, wit
 pub use Rattle.subviews.specs.declared.fault.StencilFault.{StencilFault}
 pub use Rattle.extents.specs.IndicesLaws.{length-indices}
 pub use Rattle.csv_rows.specs.Loads.{dataset_of}
-pub use Rattle.worlds.specs.Copy.{copy, copied, with_rows, all_read, laid_anew, relayout, are_alike, narrow_fault}
+pub use Rattle.worlds.specs.Copy.{all_read, are_alike, narrow_fault}
+unfoldable pub use Rattle.worlds.specs.Copy.{copy, copied, with_rows, laid_anew, relayout}
 pub use Rattle.worlds.specs.Names.{nameless, leaf_of, bound, bound_filter, bound_sets, each_once, leaves_of, text_of_leaf}
-pub use Rattle.worlds.specs.Show.{drop_view, print, counts, heat, layout, bytes, showing, small, image_of}
+pub use Rattle.worlds.specs.Show.{showing, small, image_of}
+unfoldable pub use Rattle.worlds.specs.Show.{drop_view, print, counts, heat, layout, bytes}
 pub use Rattle.command_checks.specs.AlikeLaws.{not_alike}
 pub use Rattle.views.specs.Refusals.{IsOver}
 pub use Rattle.extents.specs.declared.window.Span.{Span}
@@ -125,17 +133,26 @@ pub use Rattle.line_grammar.specs.declared.line.TermText.{TermText}
 pub use Rattle.advisor.specs.Advice.{advice}
 pub use Rattle.actor_steps.specs.Cuts.{actor_of}
 pub use Rattle.actor_steps.specs.Shared.{shared_byte}
-pub use Rattle.worlds.specs.Actors.{updated_by_actors, fit_cuts, shared}
-pub use Rattle.worlds.specs.Advise.{advise, asked, advise_fault}
-pub use Rattle.worlds.specs.Assign.{assigned, inside}
-pub use Rattle.worlds.specs.Kernel.{kernel_run, fit_kernel, run_fault}
-pub use Rattle.worlds.specs.Reduce.{reduction, reduced, column, counting}
-pub use Rattle.worlds.specs.Stencil.{stencil_run, fit_stencil, room_beside, stencil_fault}
-pub use Rattle.worlds.specs.Update.{updated, update_fault}
+pub use Rattle.worlds.specs.Actors.{fit_cuts, shared}
+unfoldable pub use Rattle.worlds.specs.Actors.{updated_by_actors}
+pub use Rattle.worlds.specs.Advise.{asked, advise_fault}
+unfoldable pub use Rattle.worlds.specs.Advise.{advise}
+pub use Rattle.worlds.specs.Assign.{inside}
+unfoldable pub use Rattle.worlds.specs.Assign.{assigned}
+pub use Rattle.worlds.specs.Kernel.{fit_kernel, run_fault}
+unfoldable pub use Rattle.worlds.specs.Kernel.{kernel_run}
+pub use Rattle.worlds.specs.Reduce.{reduced, column}
+unfoldable pub use Rattle.worlds.specs.Reduce.{reduction, counting}
+pub use Rattle.worlds.specs.Stencil.{fit_stencil, room_beside, stencil_fault}
+unfoldable pub use Rattle.worlds.specs.Stencil.{stencil_run}
+pub use Rattle.worlds.specs.Update.{update_fault}
+unfoldable pub use Rattle.worlds.specs.Update.{updated}
 pub use Rattle.worlds.specs.Values.{value_on, storable}
-pub use Rattle.worlds.specs.Windows.{windowed, print_window}
+pub use Rattle.worlds.specs.Windows.{windowed}
+unfoldable pub use Rattle.worlds.specs.Windows.{print_window}
 pub use Rattle.worlds.specs.declared.fault.BadActors.TheVariants.{Cuts, Turns}
-pub use Rattle.worlds.specs.Define.{define, fit, fields_in}
-pub use Rattle.worlds.specs.Mapping.{mapping}
+pub use Rattle.worlds.specs.Define.{fit, fields_in}
+unfoldable pub use Rattle.worlds.specs.Define.{define}
+unfoldable pub use Rattle.worlds.specs.Mapping.{mapping}
 pub use Rattle.saved_runs.specs.SavedRuns.{IsSavable, once_written, OpensAs, SavedOpens, SavesBack, OpenedSaves}
 pub use Rattle.saved_runs.specs.Runs.{RunsSavable, RunsReopen}

@@ -19,7 +19,8 @@ pub use Rattle.line_grammar.specs.declared.token.Token.TheVariants.{Word, Sign a
 pub use Rattle.line_grammar.specs.Sentences.{Assignment, assignment_of, Sentence, Value, Blank, Define, Mapping, View, Load, Assign, Update, Actors, Kernel, Reduce, Count, Copy, Relayout, Show, Drop, Bytes, Save, Open, Advise, PrintWindow, Stencil, deepest_set, sentence_of, deepest}
 pub use Rattle.line_grammar.specs.Tokens.{is_sign, is_word, string_of, comparison_of, kernel_word_of, reduction_of, command_of, kind_token, token_of, count_of, name_of}
 pub use Rattle.line_grammar.specs.Grammar.{IsAssignment, IsFilter, IsBody, IsCommand, IsKernel, IsKernelInside, IsFlag, IsLine, IsListed, IsMap, IsName, IsNew, IsShowEnd, IsUpdateEnd, IsSentence}
-pub use Rattle.line_phrases.specs.Lists.{rest_at, listed_at, bracket_list_at, cuts_at, extent_at, fixed_at}
+pub use Rattle.line_phrases.specs.Lists.{listed_at, bracket_list_at, cuts_at, extent_at, fixed_at}
+unfoldable pub use Rattle.line_phrases.specs.Lists.{rest_at}
 pub use Rattle.line_phrases.specs.BasicsLaws.{AfterLevel, behind_after, exact_sign, exact_word, Not, anything, apart, behind_not, count_parses, name_parses, starts_level}
 pub use Rattle.line_phrases.specs.LevelsLaws.{expr_parses, comparison_levels}
 pub use Rattle.line_phrases.specs.ListLaws.{comma_listed, AfterList, bracket_list_parses, cuts_parses, extent_parses, fixed_parses, listed_parses}
@@ -72,10 +73,12 @@ pub use Rattle.line_phrases.specs.Stencils.{terms_at, window_at}
 pub use Rattle.record_dim.specs.NameBytesLaws.{name_utf8}
 pub use Rattle.line_grammar.specs.FileNames.{is_file_name}
 pub use Rattle.line_grammar.specs.FileBytesLaws.{file_name_utf8}
-pub use Rattle.schema_lang.specs.Updates.{assignment_at, filter_at, actors_at, update_end_at}
-pub use Rattle.schema_lang.specs.Kernels.{axpy_at, clamp_at, count_where_at, inside_at, kernel_at}
-pub use Rattle.schema_lang.specs.Bodies.{advise_at, any_token, assign_at, body_at, bytes_at, command_at, copy_at, define_at, flag_at, kernel_line_at, line_at, load_at, mapping_at, new_at, open_at, reduce_at, relayout_at, show_at, stencil_at, update_at, view_at}
-pub use Rattle.schema_lang.specs.LineOf.{line_of, told, spots_in, spots_within, spots_behind}
+unfoldable pub use Rattle.schema_lang.specs.Updates.{assignment_at, filter_at, actors_at, update_end_at}
+unfoldable pub use Rattle.schema_lang.specs.Kernels.{axpy_at, clamp_at, count_where_at, inside_at, kernel_at}
+pub use Rattle.schema_lang.specs.Bodies.{any_token}
+unfoldable pub use Rattle.schema_lang.specs.Bodies.{advise_at, assign_at, body_at, bytes_at, command_at, copy_at, define_at, flag_at, kernel_line_at, line_at, load_at, mapping_at, new_at, open_at, reduce_at, relayout_at, show_at, stencil_at, update_at, view_at}
+pub use Rattle.schema_lang.specs.LineOf.{told, spots_in, spots_within, spots_behind}
+unfoldable pub use Rattle.schema_lang.specs.LineOf.{line_of}
 pub use Rattle.schema_lang.specs.Spelled.{IsSpelled, IsSpelledAs}
 pub use Rattle.schema_lang.specs.NextTokens.{found_token, is_end, token_next}
 pub use Rattle.schema_lang.specs.VersionOf.{is_blank, version_number, version_of}

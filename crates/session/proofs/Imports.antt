@@ -5,7 +5,8 @@ pub use Rattle.std.specs.Prelude.{not, sum_by, slice_set, filter, IsErrOf, IsSom
 pub use Rattle.std.proofs.lemmas.Bool.{and_parts, leb-true, false≢true, cases_Bool, cases_eq}
 pub use Rattle.std.proofs.lemmas.Bool.Decides.{nat_tests}
 pub use Rattle.std.proofs.lemmas.List.{length-map, length-set, take_all, length-drop, get_or_default, get_or-set_same, get_or-set_other, set-set, map-set, take-append-drop, map-append, take_more, take-map}
-pub use Rattle.std.specs.List.{enumerate_from, insert, remove, list_any, slice_get, IsDistinct, range_with_len}
+pub use Rattle.std.specs.List.{enumerate_from, insert, remove, list_any, slice_get, range_with_len}
+unfoldable pub use Rattle.std.specs.List.{IsDistinct}
 pub use Rattle.std.proofs.lemmas.List.FromFn.{get_or-enumerate_from, length-enumerate_from}
 pub use Rattle.std.proofs.Math.ListN.{get_or-map, drop_of_length-le}
 pub use Rattle.std.proofs.lemmas.List.Edits.{get_or-remove_below, get_or-remove_above, length-remove}
@@ -26,7 +27,8 @@ pub use Rattle.actor_steps.specs.Cuts.{AreCuts, actor_of, are_cuts}
 pub use Rattle.actor_steps.specs.CutsLaws.{are_cuts-are}
 pub use Rattle.actor_steps.specs.declared.place.Place.{Place}
 pub use Rattle.actor_steps.specs.Jobs.{memory_of, written_by, start_of, job_of, fresh_of}
-pub use Rattle.actor_steps.specs.Micro.{Job, Micro, Fetch, Load, Store, Registers, stored, loaded, with_bits_of, value_on, row_in}
+pub use Rattle.actor_steps.specs.Micro.{Job, Micro, Fetch, Load, Store, Registers, stored, with_bits_of, value_on, row_in}
+unfoldable pub use Rattle.actor_steps.specs.Micro.{loaded}
 pub use Rattle.actor_steps.specs.Schedules.{next, entries, schedule_of, idle_with, run_by}
 pub use Rattle.actor_steps.specs.Shared.{shared_byte}
 pub use Rattle.line_grammar.specs.Sentences.{Value, Assignment, Mapping, Sentence, sentence_of, New, assignment_of}
@@ -37,11 +39,14 @@ pub use Rattle.expr_lang.specs.Terms.{Term}
 pub use Rattle.row_updates.specs.Logs.{update_log, value_log}
 pub use Rattle.views.specs.Tables.{Table, owners_of, after_log, after_stores, leaf_count_of, IsTable, answer_of, kept_of, leaf_types_of}
 pub use Rattle.views.specs.Tallies.{reads_in, writes_in, reads_first, Read, all_accesses, Access, all_touches, Write, Tally}
-pub use Rattle.worlds.specs.Actors.{updated_by_actors, fit_cuts, shared, memory_text}
+pub use Rattle.worlds.specs.Actors.{fit_cuts, shared, memory_text}
+unfoldable pub use Rattle.worlds.specs.Actors.{updated_by_actors}
 pub use Rattle.worlds.specs.Names.{bound_filter, bound_sets, each_once, leaves_of, nameless, leaf_of, bound, bound_set, text_of_leaf}
-pub use Rattle.worlds.specs.OnView.{Done, done_to, tells, on_view, with_table}
+pub use Rattle.worlds.specs.OnView.{Done, done_to, tells, with_table}
+unfoldable pub use Rattle.worlds.specs.OnView.{on_view}
 pub use Rattle.worlds.specs.Outcomes.{Outcome, Goes, Faults, CannotRead, ◌>>=◌, refused_if, refused_by, ok_or, quiet, known, some_or, LeftOf, Left, shows, free}
-pub use Rattle.worlds.specs.Show.{small, counts, heat, layout, all_runs, drop_view, print}
+pub use Rattle.worlds.specs.Show.{small, all_runs}
+unfoldable pub use Rattle.worlds.specs.Show.{counts, heat, layout, drop_view, print}
 pub use Rattle.worlds.specs.declared.fault.BadActors.TheVariants.{Cuts, Turns}
 pub use Rattle.worlds.specs.declared.fault.CommandFault.TheVariants.{BadActors, TooBig, Unknown, BadIndex, Twice, NotCounted}
 pub use Rattle.command_checks.specs.declared.fault.StepFault.{StepFault}
@@ -53,8 +58,10 @@ pub use Rattle.line_grammar.specs.declared.line.PassText.{PassText}
 pub use Rattle.line_tokens.specs.Spelled.{spaced}
 pub use Rattle.line_grammar.specs.declared.token.Token.{Token}
 pub use Rattle.line_writer.specs.Canonical.{map_tokens}
-pub use Rattle.line_writer.specs.Texts.{written, canonical, behind}
-pub use Rattle.worlds.specs.Advise.{Question, asked, advise, advise_fault, advice_text, best_words, cost_line}
+pub use Rattle.line_writer.specs.Texts.{written, behind}
+unfoldable pub use Rattle.line_writer.specs.Texts.{canonical}
+pub use Rattle.worlds.specs.Advise.{Question, asked, advise_fault, best_words, cost_line}
+unfoldable pub use Rattle.worlds.specs.Advise.{advise, advice_text}
 pub use Rattle.worlds.specs.Worlds.{Entry, World, replaced, same_name, found}
 pub use Rattle.command_checks.specs.Gives.{GivesUp, Gives}
 pub use Rattle.command_checks.specs.GivesLaws.{GivesUp-then, goes_then}
@@ -65,7 +72,8 @@ pub use Rattle.layout_copy.specs.declared.fault.CopyFault.{CopyFault}
 pub use Rattle.views.specs.TallyLaws.{after_log-append, tallied-append, tallied-none, logs_more}
 pub use Rattle.views.specs.Stores.{kept_rows}
 pub use Rattle.views.specs.AnswerLaws.{own_rows}
-pub use Rattle.worlds.specs.Copy.{copy, copied, with_rows, all_read, laid_anew, narrow_fault, relayout}
+pub use Rattle.worlds.specs.Copy.{all_read, narrow_fault}
+unfoldable pub use Rattle.worlds.specs.Copy.{copy, copied, with_rows, laid_anew, relayout}
 pub use Rattle.worlds.specs.Tables.{made, zeros_of, room, live_bits}
 pub use Rattle.worlds.specs.declared.fault.CommandFault.{CommandFault}
 pub use Rattle.worlds.specs.declared.fault.UnknownName.TheVariants.{Name}
@@ -83,11 +91,13 @@ pub use Rattle.extents.specs.IndicesLaws.{inside_of_entry, row_of_inside}
 pub use Rattle.linearize.specs.Slots.{place_in}
 pub use Rattle.piece_bits.specs.Tables.{with_entry}
 pub use Rattle.record_dim.specs.declared.path.PathStep.{PathStep}
-pub use Rattle.worlds.specs.Assign.{inside, assigned}
+pub use Rattle.worlds.specs.Assign.{inside}
+unfoldable pub use Rattle.worlds.specs.Assign.{assigned}
 pub use Rattle.worlds.specs.Values.{storable}
 pub use Rattle.blob_file.specs.Opened.{IsRead, opened}
 pub use Rattle.blob_file.specs.declared.fault.FileFault.{FileFault}
-pub use Rattle.worlds.specs.Files.{bad_file, save, opened_beside, opened_table, open_view}
+pub use Rattle.worlds.specs.Files.{bad_file}
+unfoldable pub use Rattle.worlds.specs.Files.{save, opened_beside, opened_table, open_view}
 pub use Rattle.layout_io.specs.Files.{File, file_of, IsMissing, HasFile}
 pub use Rattle.places.specs.Laws.{IsLaidOut}
 pub use Rattle.places.specs.Layout.{Owner, Pad, Bit, owner_at}
@@ -96,21 +106,24 @@ pub use Rattle.places.specs.declared.piece.Hold.{Hold}
 pub use Rattle.record_dim.specs.declared.leaf_type.LeafType.{LeafType}
 pub use Rattle.map_any.specs.AnyLaws.{length-leaf_cells}
 pub use Rattle.map_checks.specs.Mappings.{leaf_cells, IsBuiltTerm}
-pub use Rattle.map_any.specs.Runs.{goes_on, joined, run_owner, runs_from, runs_of}
+pub use Rattle.map_any.specs.Runs.{goes_on, joined, run_owner, runs_from}
+unfoldable pub use Rattle.map_any.specs.Runs.{runs_of}
 pub use Rattle.places.specs.Runs.{IsOwnerBelow}
 pub use Rattle.blob_file.specs.Files.{IsShort, record_text, view_text}
 pub use Rattle.blob_file.specs.Saving.{header_of, blobs_of}
 pub use Rattle.expr_lang.specs.declared.bound.Bound.{Bound}
 pub use Rattle.expr_lang.specs.Bounds.{bound_term}
 pub use Rattle.row_updates.specs.declared.update.Assign.{Assign}
-pub use Rattle.worlds.specs.Update.{updated}
+unfoldable pub use Rattle.worlds.specs.Update.{updated}
 pub use Rattle.extents.specs.declared.window.Span.{Span}
 pub use Rattle.line_grammar.specs.declared.line.TermText.{TermText}
 pub use Rattle.subviews.specs.Stencils.{Stencil}
-pub use Rattle.worlds.specs.Stencil.{fit_stencil, room_beside, stencil_rounds, stencil_run}
+pub use Rattle.worlds.specs.Stencil.{fit_stencil, room_beside, stencil_rounds}
+unfoldable pub use Rattle.worlds.specs.Stencil.{stencil_run}
 pub use Rattle.line_grammar.specs.declared.line.Line.{Line}
 pub use Rattle.worlds.specs.AnswersLaws.{steps_same}
-pub use Rattle.worlds.specs.Step.{step, command}
+pub use Rattle.worlds.specs.Step.{command}
+unfoldable pub use Rattle.worlds.specs.Step.{step}
 pub use Rattle.command_checks.specs.declared.entries.RecordEntry.{RecordEntry}
 pub use Rattle.command_checks.specs.declared.mapping_entry.MappingEntry.{MappingEntry}
 pub use Rattle.layout_io.specs.Writing.{Wrote, Stopped}
@@ -119,8 +132,10 @@ pub use Rattle.instrument.specs.CounterTexts.{counts_text, heat_text, runs_text}
 pub use Rattle.record_dim.specs.Leaves.{texts_of, leaves}
 pub use Rattle.csv_rows.specs.Texts.{print_text}
 pub use Rattle.subviews.specs.SubViews.{WindowOf, sub_table, sub_reads}
-pub use Rattle.worlds.specs.Windows.{windowed, print_window}
-pub use Rattle.worlds.specs.Load.{loaded_table, read, load}
+pub use Rattle.worlds.specs.Windows.{windowed}
+unfoldable pub use Rattle.worlds.specs.Windows.{print_window}
+pub use Rattle.worlds.specs.Load.{read}
+unfoldable pub use Rattle.worlds.specs.Load.{loaded_table, load}
 pub use Rattle.worlds.specs.View.{Named, named, with_view, view}
 pub use Rattle.command_checks.specs.Stencils.{stencil_of}
 pub use Rattle.worlds.specs.Kernel.{number_text}
@@ -136,7 +151,8 @@ pub use Rattle.layout_io.specs.GatheringLaws.{Gathers-start}
 pub use Rattle.worlds.specs.Texts.{number_line}
 pub use Rattle.session.specs.Changes.{left_with, copied_at, made_like, zeros_like, TellsCopy, set_row, IsLeft, rows_updated}
 pub use Rattle.session.specs.Teams.{Bindings, shared_out, acted, bindings_of}
-pub use Rattle.session.specs.Bounds.{Pair, IsWithin, WithinCopy, WithinCost, WithinRelayout, copied_pair, laid_pair, paired}
+pub use Rattle.session.specs.Bounds.{Pair, IsWithin, WithinCopy, WithinCost, WithinRelayout, paired}
+unfoldable pub use Rattle.session.specs.Bounds.{copied_pair, laid_pair}
 pub use Rattle.session.specs.Answers.{Answers, TookNone, ending_of}
 pub use Rattle.session.specs.Opens.{file_fault, placed_table, with_room}
 pub use Rattle.session.specs.Loads.{Loads, IsUnread, UnreadOnly, ToldFor, read_within, named_of, new_of, filled_table}

@@ -36,7 +36,8 @@ pub use Rattle.session.specs.LoadsLaws.{told_any}
 pub use Rattle.session.specs.declared.session.Session.{Session}
 pub use Rattle.worlds.specs.Lines.{lines_in}
 pub use Rattle.session_runs.specs.Steps.{step_text, step_line, EndsAs, TellsFile}
-pub use Rattle.session_runs.specs.Scripts.{version_line, run_form, run_headed, run_versioned, faulted, script_lines}
+pub use Rattle.session_runs.specs.Scripts.{version_line, run_headed, run_versioned, faulted, script_lines}
+unfoldable pub use Rattle.session_runs.specs.Scripts.{run_form}
 pub use Rattle.session_runs.specs.BlankLaws.{passes_blanks}
 pub use Rattle.session_runs.specs.HeadLaws.{one_later, by_first, long_first, blank_first, said_first}
 pub use Rattle.session_runs.specs.RunLaws.{run_of_same, same_runs}

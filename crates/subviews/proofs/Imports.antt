@@ -55,7 +55,8 @@ pub use Rattle.views.specs.StrictLaws.{between_true}
 pub use Rattle.extents.specs.IndicesLaws.{place, entry_at, same_row}
 pub use Rattle.linearize.specs.Slots.{index_at}
 pub use Rattle.linearize.specs.SlotsLaws.{entry_of_row, index_at_inside}
-pub use Rattle.csv_rows.specs.Texts.{print_text, comma_line}
+pub use Rattle.csv_rows.specs.Texts.{comma_line}
+unfoldable pub use Rattle.csv_rows.specs.Texts.{print_text}
 pub use Rattle.layout_io.specs.Decimal.{decimal_text}
 pub use Rattle.subviews.specs.Stencils.{with_column, at_row, first_fault, weighted, row_from, Stencil, values_fault, stencil_value, new_entry, if_fits, round, next_round, stenciled, term_reads, round_reads, round_writes, round_log, tried_rows, rounds_log, refused_log, Weighted, term_value, term_read, is_weight, away, is_index, is_offset, reaches}
 pub use Rattle.subviews.specs.Plans.{IsBufferOf, IsRun, IsRunOf, IsPlanOf, all_weights, limit_of, IsIdle, IsFilled, planned, IsTermOf, IsFar, IsWalk, stencil_by}

@@ -96,7 +96,8 @@ pub use Rattle.instrument.specs.declared.counts.Counts.{Counts}
 pub use Rattle.map_any.specs.Maps.{extents_of, term_of_map}
 pub use Rattle.views.specs.HalfLaws.{half, half_more, half_whole}
 pub use Rattle.views.specs.Tables.{Table, after_log, after_read, kept_of, after_stores, leaf_types_of, table_holds, leaf_count_of, leaf_type_of, after_raw, IsTable, IsSettledIn, answer_of, after_write, owners_of, blob_bits_of}
-pub use Rattle.views.specs.Tallies.{Read, Access, Write, counts_touched, heat_touched, tallied, no_tally, blob_lengths, Tally, touched, all_touches, row_accesses, leaf_touched, granules_touched, access_to, all_accesses, times_accesses}
+pub use Rattle.views.specs.Tallies.{Read, Access, Write, counts_touched, heat_touched, no_tally, blob_lengths, Tally, touched, all_touches, row_accesses, leaf_touched, granules_touched, access_to, all_accesses, times_accesses}
+unfoldable pub use Rattle.views.specs.Tallies.{tallied}
 pub use Rattle.views.specs.TallyLaws.{after_log-none, after_log-append, tallied-counts, tallied-heat, accesses_more, after_stores-append}
 pub use Rattle.views.specs.Columns.{in_leaf, column, column_reads, with_column, column_writes, first_lane_fault, lane_fault}
 pub use Rattle.views.specs.Entries.{reads_leaf, writes_leaf, touches, AreCounts, AreHeat, AreEntries}

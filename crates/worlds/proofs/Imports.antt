@@ -20,7 +20,8 @@ pub use Rattle.layout_io.specs.Files.{File}
 pub use Rattle.worlds.specs.Lines.{lines_in, ended_lines, without_cr, is_line_end}
 pub use Rattle.worlds.specs.Worlds.{World}
 pub use Rattle.worlds.specs.Outcomes.{Outcome, Goes, Faults, CannotRead, Left}
-pub use Rattle.worlds.specs.FaultTexts.{fault_text, unread_text, fault_words}
+pub use Rattle.worlds.specs.FaultTexts.{unread_text, fault_words}
+unfoldable pub use Rattle.worlds.specs.FaultTexts.{fault_text}
 pub use Rattle.worlds.specs.declared.fault.CommandFault.{CommandFault as Fault}
 pub use Rattle.worlds.specs.Outcome.{Output, IsText, Gives, Unread, Finished}
 pub use Rattle.worlds.specs.RunAnswers.{Answers, IsRun, ended}
