@@ -5,7 +5,7 @@ usage: llama run script.llama | llama_picture.py [--width N] [--image FILE]
 
 What is drawn is read from standard input; lines that belong to neither table are left out. A layout is drawn by bytes, a letter for each
 leaf, and a heat by granules, as a ramp. --width says how many stand on a line, 64 where it is not given. --image writes the same as a
-picture, by the ending of its name a .png or a .ppm: there each bit of a layout has a column of its own.
+picture, by the ending of its name a .png or a .ppm: there each bit of a layout has a column of its own. All heats of one input have one scale.
 """
 import argparse
 import colorsys
@@ -94,8 +94,7 @@ def layout_text(layout, width):
     return [*lines_of(drawn, width), '  '.join(legend)]
 
 
-def heat_text(heat, width):
-    most = max(max(seen) for seen in heat.blobs.values())
+def heat_text(heat, width, most):
     drawn = {blob: ''.join(RAMP[step_of(accesses, most)] for accesses in seen) for blob, seen in heat.blobs.items()}
     return [*lines_of(drawn, width), f'{RAMP[0]} none  {RAMP[1:]} up to {most}']
 
@@ -123,9 +122,13 @@ def rows_of(colors, width, repeat):
     return rows
 
 
-def pixels_of(table, width):
+def longest_of(tables):
+    """Of all blobs, how many bytes or granules the longest has."""
+    return max(len(blob) if isinstance(table, Heat) else -(-len(blob) // 8) for table in tables for blob in table.blobs.values())
+
+
+def pixels_of(table, width, most):
     rows = []
-    most = max(max(seen) for seen in table.blobs.values()) if isinstance(table, Heat) else 0
     for blob in table.blobs.values():
         if isinstance(table, Heat):
             drawn = rows_of([heat_color(accesses, most) for accesses in blob], width, SQUARE)
@@ -160,9 +163,11 @@ def main():
     tables = [layout_of(rows) if header == LAYOUT else heat_of(rows) for header, rows in tables_of(sys.stdin.read().splitlines())]
     if not tables or asked.width < 1:
         sys.exit('llama_picture: nothing to draw: neither layout nor heat was printed')
-    print('\n\n'.join('\n'.join((layout_text if isinstance(table, Layout) else heat_text)(table, asked.width)) for table in tables))
+    most = max((accesses for table in tables if isinstance(table, Heat) for seen in table.blobs.values() for accesses in seen), default=0)
+    print('\n\n'.join('\n'.join(layout_text(table, asked.width) if isinstance(table, Layout) else heat_text(table, asked.width, most)) for table in tables))
     if asked.image:
-        rows = [row for table in tables for row in pixels_of(table, asked.width)]
+        width = min(asked.width, longest_of(tables))
+        rows = [row for table in tables for row in pixels_of(table, width, most)]
         asked.image.write_bytes((ppm_of if asked.image.suffix == '.ppm' else png_of)(rows))
 
 
