@@ -1,11 +1,11 @@
 /* The work of bench/scripts in plain C: loads a dataset with the columns id, x, y, w into packed structs, each number tested for
    its range, then prints it, or prints the sum of y, at once, after `update P where x > 0 set y = x * 3 + i0 % 7`, after ADDS times
-   `update P set x = x + 1` (add), ADDS times more (sums), or after the table went TURNS times from structs to arrays, to blocks of 8 rows and
+   `update P set x = x + 1` (add) or `update P where x > 0 set x = x - 1, y = y + 1` (pairs), ADDS times more (sums), or after the table went TURNS times from structs to arrays, to blocks of 8 rows and
    back, in memory that is made anew each time (relayout) or once (copy). Or it writes its blob file, once alone (file) or SAVES times before
    the sum (saves); or reads a blob file OPENS times, whole and into memory that is made anew, and prints the sum (open). Nothing of a file is
    tested but its length.
 
-   usage: scripts_c print|sum|update|add|sums|relayout|copy|file|saves|open FILE */
+   usage: scripts_c print|sum|update|add|pairs|sums|relayout|copy|file|saves|open FILE */
 #include <inttypes.h>
 #include <stdint.h>
 #include <stdio.h>
@@ -154,6 +154,20 @@ static void add(struct table table)
     }
 }
 
+static void add_pairs(struct table table)
+{
+    for (size_t i = 0; i < table.count; i++) {
+        struct row *row = &table.rows[i];
+        if (row->x <= 0)
+            continue;
+        int64_t x = (int64_t)row->x - 1, y;
+        if (x < INT32_MIN || x > INT32_MAX || __builtin_add_overflow(row->y, 1, &y))
+            fail("a number is out of range");
+        row->x = (int32_t)x;
+        row->y = y;
+    }
+}
+
 static void print_sum(struct table table)
 {
     int64_t sum = 0;
@@ -289,7 +303,7 @@ int main(int count, char **words)
 {
     size_t length;
     if (count != 3)
-        fail("usage: scripts_c print|sum|update|add|sums|relayout|copy|file|saves|open FILE");
+        fail("usage: scripts_c print|sum|update|add|pairs|sums|relayout|copy|file|saves|open FILE");
     if (!strcmp(words[1], "open")) {
         open_and_sum(words[2]);
         return 0;
@@ -309,6 +323,9 @@ int main(int count, char **words)
     else if (!strcmp(words[1], "add"))
         for (int turn = 0; turn < ADDS; turn++)
             add(table);
+    else if (!strcmp(words[1], "pairs"))
+        for (int turn = 0; turn < ADDS; turn++)
+            add_pairs(table);
     else if (!strcmp(words[1], "sums"))
         for (int turn = 0; turn < ADDS; turn++)
             print_sum(table);

@@ -1,7 +1,7 @@
 -- What the proofs of this crate speak of.
 pub use Rattle.std.proofs.Common.{◌≡◌, ℕ, zero, suc, ◌+◌, ◌<◌, ◌≤◌, List, [], ◌∷◌, length, get_or, take, Option, Some, None, sym, subst, ⊎_elim, inl, inr, arith, ◌*◌, max, Bool, true, false, filter, refl, ap, ◌∙◌, ◌-◌, drop, map}
 pub use Rattle.std.specs.Prelude.{◌⊎◌, IfSome, ◌==◌, ◌&&◌, ◌||◌, not, nat_lt, min, if◌then◌else◌}
-pub use Rattle.std.proofs.lemmas.Bool.{true≢false, cases_Bool, cases_lt, and_from, and_parts, or_left, or_right, eq-eqb, lt-ltb}
+pub use Rattle.std.proofs.lemmas.Bool.{true≢false, cases_Bool, cases_lt, and_from, and_parts, or_left, or_right, eq-eqb, lt-ltb, not-true}
 pub use Rattle.std.proofs.lemmas.Bool.Decides.{nat_tests}
 pub use Rattle.places.specs.declared.piece.Piece.{Piece}
 pub use Rattle.actor_steps.specs.declared.place.Place.{Place}

@@ -1,5 +1,5 @@
 -- The bytes that the pieces of a leaf in a row touch are those that hold a bit of it, so the first of the ones is the first of the others.
-use Rattle.actor_tasks.proofs.Imports.{◌≡◌, ℕ, ◌+◌, ◌*◌, ◌<◌, ◌≤◌, max, Bool, true, false, List, [], ◌∷◌, length, filter, get_or, Option, Some, None, refl, sym, ap, ◌∙◌, ⊎_elim, inl, inr, arith, ◌⊎◌, IfSome, ◌==◌, ◌&&◌, ◌||◌, not, nat_lt, min, if◌then◌else◌, true≢false, cases_Bool, cases_lt, and_from, and_parts, or_left, or_right, eq-eqb, lt-ltb, nat_tests, Piece, Owner, IsLaidOut, IsLocated, within, within_blobs, is_in_granule, is_touched, hot_place, in_granule, touched_hot, Place, IsByte, all_bytes, is_before, ComesFrom, holds_bit, IsHead, Touches, AnyTouches, IsNext, occurs-all, places_from-first}
+use Rattle.actor_tasks.proofs.Imports.{◌≡◌, ℕ, ◌+◌, ◌*◌, ◌<◌, ◌≤◌, max, Bool, true, false, List, [], ◌∷◌, length, filter, get_or, Option, Some, None, refl, sym, ap, ◌∙◌, ⊎_elim, inl, inr, arith, ◌⊎◌, IfSome, ◌==◌, ◌&&◌, ◌||◌, not, nat_lt, min, if◌then◌else◌, true≢false, cases_Bool, cases_lt, and_from, and_parts, or_left, or_right, eq-eqb, lt-ltb, nat_tests, Piece, Owner, IsLaidOut, IsLocated, within, within_blobs, is_in_granule, is_touched, hot_place, in_granule, touched_hot, Place, IsByte, all_bytes, is_before, ComesFrom, holds_bit, IsHead, Touches, AnyTouches, IsNext, occurs-all, places_from-first, not-true}
 
 -- a byte is a granule of one byte
 any-touched : (pieces : List Piece) (place : Place) → AnyTouches pieces place → is_touched 1 pieces place.blob place.byte ≡ true
@@ -46,10 +46,6 @@ same_or_before one two order = by_test (is_before one two) refl where
         byte : (one two : Place) → ComesFrom one two → is_before one two ≡ false → two.byte ≡ one.byte
         byte one two order e = grind (arith, nat_tests)
 
-not_it : (t : Bool) → not t ≡ true → t ≡ false
-not_it true e = sym e
-not_it false e = refl
-
 -- nothing is picked where nothing meets the test
 no_filter : (test : Place → Bool) (xs : List Place) → ((x : Place) → test x ≡ true → ⊥) → filter test xs ≡ []
 no_filter test [] none = refl
@@ -81,12 +77,12 @@ module _ (layout : List (List Owner)) (slots : ℕ) (widths : List ℕ) (laid : 
       no_filter (λ place. holds_bit layout row leaf place && not (is_before place from)) (all_bytes layout)
       (λ place e.
       (let both = and_parts (holds_bit layout row leaf place) (not (is_before place from)) e in
-      none place (holds-touch place both.0) (comes from place (not_it (is_before place from) both.1))))
+      none place (holds-touch place both.0) (comes from place (not-true (is_before place from) both.1))))
   head_found from (Some place) found =
       places_from-first layout row leaf from place (occurs-all layout place (is_byte place (touches-hold place found.meets))) (touches-hold place found.meets) (comes-not from place found.behind)
       (λ y e.
       (let both = and_parts (holds_bit layout row leaf y) (not (is_before y from)) e in
-      same_or_before place y (found.first y (holds-touch y both.0) (comes from y (not_it (is_before y from) both.1)))))
+      same_or_before place y (found.first y (holds-touch y both.0) (comes from y (not-true (is_before y from) both.1)))))
 
   -- and one of the layout
   pub found_inside : (from : Place) (result : Option Place) → IsNext (AnyTouches pieces) from result → IfSome result (IsByte layout)

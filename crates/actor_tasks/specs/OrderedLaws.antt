@@ -1,7 +1,7 @@
 -- What a test picks of an ordered list: its first item, and those behind it.
 use Rattle.std.proofs.Common.{◌≡◌, Bool, true, false, List, [], ◌∷◌, ◌++◌, filter, get_or, All, refl, sym, ap, ◌∙◌, subst, ⊎_elim}
 use Rattle.std.specs.Prelude.{◌⊎◌, ◌&&◌, if◌then◌else◌}
-use Rattle.std.proofs.lemmas.Bool.{cond-true, cond-false}
+use Rattle.std.proofs.lemmas.Bool.{cond-true, cond-false, and_right, false_from_ne_true}
 use Rattle.std.proofs.lemmas.List.Elements.{All-head, All-tail, All-append}
 
 -- tests that agree on each item pick the same
@@ -14,14 +14,6 @@ same_filter one two (x ∷ xs) all =
 and_true : (a b : Bool) → b ≡ true → a ≡ (a && b)
 and_true true b e = sym e
 and_true false b e = refl
-
-and_false : (a b : Bool) → b ≡ false → (a && b) ≡ false
-and_false true b e = e
-and_false false b e = refl
-
-not_so : (t : Bool) → (t ≡ true → ⊥) → t ≡ false
-not_so true none = absurd (none refl)
-not_so false none = refl
 
 module _ {X : Type 0} (before : X → X → Bool) where
   -- each item stands before all behind it
@@ -57,7 +49,7 @@ module _ {X : Type 0} (before : X → X → Bool) where
           let picked : filter test (y ∷ ys) ≡ y ∷ filter test ys = cond-true (test y) (y ∷ filter test ys) (filter test ys) (ap test e ∙ meets) in
           let left : filter (λ z. test z && before x z) (y ∷ ys) ≡ filter (λ z. test z && before x z) ys =
           cond-false (test y && before x y) (y ∷ filter (λ z. test z && before x z) ys) (filter (λ z. test z && before x z) ys)
-          (and_false (test y) (before x y) (not_so (before x y) (λ b. irreflexive x (ap (before x) (sym e) ∙ b)))) in
+          (and_right (test y) (before x y) (false_from_ne_true (before x y) (λ b. irreflexive x (ap (before x) (sym e) ∙ b)))) in
           let same : filter test ys ≡ filter (λ z. test z && before x z) ys =
           same_filter test (λ z. test z && before x z) ys
           (λ k d inside. and_true (test (get_or ys k d)) (before x (get_or ys k d)) (ap (λ (w : X). before w (get_or ys k d)) (sym e) ∙ ordered.0 k d inside)) in
@@ -67,7 +59,7 @@ module _ {X : Type 0} (before : X → X → Bool) where
       behind IH rest =
           let first : before y x ≡ true = fact_of (λ z. before y z ≡ true) x ys ordered.0 rest in
           let fails : test y ≡ false =
-          not_so (test y) (λ m. ⊎_elim (λ (e : y ≡ x). irreflexive x (ap (λ (w : X). before w x) (sym e) ∙ first)) (λ (b : before x y ≡ true). asymmetric x y b first) (least y m)) in
+          false_from_ne_true (test y) (λ m. ⊎_elim (λ (e : y ≡ x). irreflexive x (ap (λ (w : X). before w x) (sym e) ∙ first)) (λ (b : before x y ≡ true). asymmetric x y b first) (least y m)) in
           let picked : filter test (y ∷ ys) ≡ filter test ys = cond-false (test y) (y ∷ filter test ys) (filter test ys) fails in
           let left : filter (λ z. test z && before x z) (y ∷ ys) ≡ filter (λ z. test z && before x z) ys =
           cond-false (test y && before x y) (y ∷ filter (λ z. test z && before x z) ys) (filter (λ z. test z && before x z) ys) (ap (λ (t : Bool). t && before x y) fails) in

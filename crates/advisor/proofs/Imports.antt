@@ -1,10 +1,11 @@
 -- What the proofs of this crate speak of.
+pub use Rattle.std.proofs.Math.Bool.{or-false, and-true}
 pub use Rattle.std.proofs.Common.{◌≡◌, ℕ, ◌≤◌, Bool, true, false, List, All, length, map, take, Ok, Err, Some, None, sym, ap, ◌∙◌, arith, length-append, suc, ◌<◌, [], ◌∷◌, get_or, Option, refl, ◌+◌, ◌++◌, ⊎_elim, ◌*◌, zero, ◌-◌, ◌/◌, ◌%◌, ◌^◌, ◌⊎◌, subst, lit<, min, w64, pow-suc, inl, inr, drop, add-one, drop-cons, cond, max, ℤ, pos, replicate, rules, length-drop, SFits, set, slice_index_or}
 pub use Rattle.std.specs.Prelude.{filter, is_ok, ◌&&◌, ◌||◌, not, nat_le, if◌then◌else◌, slice_get, ◌==◌, sum_by, bit_and, is_some, nat_lt, Result, count_by, option_map, IfErr, IfSome}
 pub use Rattle.std.proofs.lemmas.List.{take-append-le, take_all, length-map, get_or-map, get_or_default, drop_all, append_assoc, append-nil, take_more, map_push, length-take, get_or-take, get_or-drop, take-map, drop-map, length-replicate, get_or-replicate, get_or_push, get_or_append_left, length_push, get_or_read, take_more_set, map_more, length-take-le}
 pub use Rattle.std.specs.Bool.{then_some}
 pub use Rattle.std.specs.List.{find, list_all, position_or_len, list_any, enumerate_from, range_with_len, flat_map}
-pub use Rattle.std.proofs.lemmas.Bool.{true≢false, and_from, le-leb, lt-leb, ne_eqb, eq-eqb, cases_eq, cases_lt, or_left, or_right, or_from, lt-ltb, le-ltb, leb-false, ltb-false, and_parts, eqb-true, ltb-true, leb-true}
+pub use Rattle.std.proofs.lemmas.Bool.{true≢false, and_from, le-leb, lt-leb, ne_eqb, eq-eqb, cases_eq, cases_lt, or_left, or_right, or_from, lt-ltb, le-ltb, leb-false, ltb-false, and_parts, eqb-true, ltb-true, leb-true, or_parts, not-true}
 pub use Rattle.std.proofs.lemmas.Option.{slice_get-get_or, slice_get_past, get_or_from_slice_get}
 pub use Rattle.std.proofs.lemmas.Simd.{map-map}
 pub use Rattle.std.proofs.lemmas.List.Folds.{find_at, list_all_at, list_any-append, list_any_none, fold-map, Any-from_list_any, list_any_at, list_all-map, list_all-append, list_all_more, list_any_more, flat_map-map}
@@ -51,7 +52,7 @@ pub use Rattle.record_dim.specs.declared.path.PathStep.{PathStep}
 pub use Rattle.record_dim.specs.Leaves.{Leaf, leaves, kinds_of}
 pub use Rattle.places.specs.declared.piece.Hold.{Hold}
 pub use Rattle.map_checks.specs.Sides.{cells_under, cells_beside, side_of}
-pub use Rattle.map_checks.specs.TermLaws.{length-holds, neither_of, good_numbers}
+pub use Rattle.map_checks.specs.TermLaws.{length-holds, good_numbers}
 pub use Rattle.map_any.specs.AnyLaws.{length-leaf_cells}
 pub use Rattle.record_dim.specs.Schemas.{schema_fields}
 pub use Rattle.map_checks.specs.Ruled.{IsRuleOf}

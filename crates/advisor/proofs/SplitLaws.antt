@@ -1,5 +1,5 @@
 -- What a split is where its sides are known: whether it is accepted, its limits and what it costs.
-use Rattle.advisor.proofs.Imports.{◌≡◌, ℕ, ◌+◌, ◌*◌, ◌/◌, ◌^◌, ◌≤◌, Bool, true, false, List, [], ◌∷◌, length, map, get_or, max, None, Some, Ok, Err, refl, ap, ◌∙◌, arith, cond, ◌||◌, not, nat_lt, sum_by, filter, Result, if◌then◌else◌, enumerate_from, option_or, ltb-false, le-ltb, or_from, length-map, map-map, sum_by-cons, sum_by-append, fold-map, mul-add, LeafType, PathStep, Fields, is_under, Owner, Bit, renamed, recelled, numbers_of, split, Cell, Term, Aos, Soa, Aosoa, BitAos, BitSoa, Split, Byteswap, Bytesplit, Change, Count, Heat, Named, depth_of, has_counter, counts_once, bad_number, answered, checked, BadMapping, TooDeep, Counter, Side, Field, NotFull, layout_of, most_slots, bad_side, bad_field, not_full, else_for, accepted, leaf_cells, side_of, cells_under, cells_beside, neither_of, granules_of, granules_in, blob_lengths, Pass, touched, touched_split, reads, cost, part_cost, leaves_in, is_over, limited, judged}
+use Rattle.advisor.proofs.Imports.{◌≡◌, ℕ, ◌+◌, ◌*◌, ◌/◌, ◌^◌, ◌≤◌, Bool, true, false, List, [], ◌∷◌, length, map, get_or, max, None, Some, Ok, Err, refl, ap, ◌∙◌, arith, cond, ◌||◌, not, nat_lt, sum_by, filter, Result, if◌then◌else◌, enumerate_from, option_or, ltb-false, le-ltb, or_from, length-map, map-map, sum_by-cons, sum_by-append, fold-map, mul-add, LeafType, PathStep, Fields, is_under, Owner, Bit, renamed, recelled, numbers_of, split, Cell, Term, Aos, Soa, Aosoa, BitAos, BitSoa, Split, Byteswap, Bytesplit, Change, Count, Heat, Named, depth_of, has_counter, counts_once, bad_number, answered, checked, BadMapping, TooDeep, Counter, Side, Field, NotFull, layout_of, most_slots, bad_side, bad_field, not_full, else_for, accepted, leaf_cells, side_of, cells_under, cells_beside, granules_of, granules_in, blob_lengths, Pass, touched, touched_split, reads, cost, part_cost, leaves_in, is_over, limited, judged, or_parts, not-true}
 use Rattle.std.specs.Prelude.{Option}
 
 -- ---- what is accepted has none of the causes
@@ -58,10 +58,6 @@ first_none : (one two : Option BadMapping) → option_or one two ≡ None → (o
 first_none None two e = (refl, e)
 first_none (Some bad) two e = cc
 
-not_false : (b : Bool) → not b ≡ true → b ≡ false
-not_false true e = cc
-not_false false e = refl
-
 counts_none : (term : Term) → has_counter term ≡ false → counts_once true true term ≡ true
 counts_none (Count inner) e = cc
 counts_none (Heat granule inner) e = cc
@@ -81,12 +77,12 @@ module _ (path : List PathStep) (first rest : Term) (fields : Fields) (cells : L
   sides_parts : IsAccepted (Split path first rest) fields cells → IsAccepted first fields under × IsAccepted rest fields beside
   sides_parts is =
       let deep : max (depth_of first) (depth_of rest) + 1 ≤ 8 = ltb-false 8 (depth_of (Split path first rest)) is.deep in
-      let counts = neither_of (has_counter first) (has_counter rest) (not_false (has_counter first || has_counter rest) is.counted) in
+      let counts = or_parts (has_counter first) (has_counter rest) (not-true (has_counter first || has_counter rest) is.counted) in
       let numbers = first_none (bad_number first) (bad_number rest) is.numbers in
-      let one_sided = neither_of _ (bad_side first fields under || bad_side rest fields beside) is.sides in
-      let sides = neither_of (bad_side first fields under) (bad_side rest fields beside) one_sided.1 in
-      let named = neither_of (bad_field first fields under) (bad_field rest fields beside) is.named in
-      let full = neither_of (not_full first fields under) (not_full rest fields beside) is.full in (
+      let one_sided = or_parts _ (bad_side first fields under || bad_side rest fields beside) is.sides in
+      let sides = or_parts (bad_side first fields under) (bad_side rest fields beside) one_sided.1 in
+      let named = or_parts (bad_field first fields under) (bad_field rest fields beside) is.named in
+      let full = or_parts (not_full first fields under) (not_full rest fields beside) is.full in (
         record {
           deep = le-ltb 8 (depth_of first) (omega (arith, deep));
           counted = counts_none first counts.0;
@@ -127,8 +123,8 @@ granules_by granule layout = fold-map (λ (n bytes : ℕ). n + granules_of granu
 
 over_parts : (slots bits granules : Bool) → (slots || (bits || granules)) ≡ false → (slots ≡ false) × (bits ≡ false) × (granules ≡ false)
 over_parts slots bits granules e =
-    let one = neither_of slots (bits || granules) e in
-    let two = neither_of bits granules one.1 in
+    let one = or_parts slots (bits || granules) e in
+    let two = or_parts bits granules one.1 in
     (one.0, two.0, two.1)
 
 judged_parts : (over : Bool) (answer : Result Unit BadMapping) → limited over answer ≡ Ok tt → (over ≡ false) × (answer ≡ Ok tt)

@@ -206,10 +206,6 @@ range_cut a (suc m) n =
 any_cut : (p : ℕ → Bool) (a m n : ℕ) → list_any p (range_with_len a (m + n)) ≡ (list_any p (range_with_len a m) || list_any p (range_with_len (a + m) n))
 any_cut p a m n = ap (list_any p) (range_cut a m n) ∙ list_any-append p (range_with_len a m) (range_with_len (a + m) n)
 
-pub or_false : (b : Bool) → (b || false) ≡ b
-or_false true = refl
-or_false false = refl
-
 pub touched_more : (granule : ℕ) (rule : PieceRule) (start done more : ℕ) (blob at : ℕ)
     → is_run_touched granule rule start (done + more) blob at ≡ (is_run_touched granule rule start done blob at || is_run_touched granule rule (start + done) more blob at)
 touched_more granule rule start done more blob at = any_cut (λ slot. is_in_granule granule blob at (piece_in rule slot)) start done more

@@ -1,5 +1,5 @@
 -- Runs of rows whose values are read and tried leaf by leaf.
-use Rattle.advisor.proofs.Imports.{◌≡◌, ℕ, ◌+◌, ◌<◌, ◌≤◌, Bool, true, false, ℤ, pos, List, [], ◌∷◌, ◌++◌, All, length, map, get_or, take, drop, refl, sym, ap, ◌∙◌, ⊎_elim, subst, arith, ◌==◌, ◌&&◌, ◌||◌, not, nat_lt, if◌then◌else◌, list_all, flat_map, range_with_len, fun_ext, take-add, cases_lt, lt-ltb, le-ltb, eq-eqb, ne_eqb, flat_map-append, length-map, length-take, get_or-map, get_or-take, get_or-drop, take-map, drop-map, All-map, flat_map-cons, flat_map_single, list_all-append, list_all-map, map-map, IsDeclared, Leaf, leaves, Fields, LeafType, entry, Owner, hold_at, stays_declared, StoreMode, low_64, in_leaf, column_reads, tallied-kinds, raised, run_of, raised_all, Table, IsTable, owners_of, leaf_count_of, leaf_type_of, leaf_types_of, table_holds, after_log, Access, Read, Tally, tallied, row_accesses, all_accesses, after_log-none, after_log-append, accesses_more, stays, IsTrial, rows_accesses, takes, tried_all, all_lows_stay, tried_leaf, Trial}
+use Rattle.advisor.proofs.Imports.{◌≡◌, ℕ, ◌+◌, ◌<◌, ◌≤◌, Bool, true, false, ℤ, pos, List, [], ◌∷◌, ◌++◌, All, length, map, get_or, take, drop, refl, sym, ap, ◌∙◌, ⊎_elim, subst, arith, ◌==◌, ◌&&◌, ◌||◌, not, nat_lt, if◌then◌else◌, list_all, flat_map, range_with_len, fun_ext, take-add, cases_lt, lt-ltb, le-ltb, eq-eqb, ne_eqb, flat_map-append, length-map, length-take, get_or-map, get_or-take, get_or-drop, take-map, drop-map, All-map, flat_map-cons, flat_map_single, list_all-append, list_all-map, map-map, IsDeclared, Leaf, leaves, Fields, LeafType, entry, Owner, hold_at, stays_declared, StoreMode, low_64, in_leaf, column_reads, tallied-kinds, raised, run_of, raised_all, Table, IsTable, owners_of, leaf_count_of, leaf_type_of, leaf_types_of, table_holds, after_log, Access, Read, Tally, tallied, row_accesses, all_accesses, after_log-none, after_log-append, accesses_more, stays, IsTrial, rows_accesses, takes, tried_all, all_lows_stay, tried_leaf, Trial, and-true}
 use Rattle.advisor.proofs.Cheapest.{same_images}
 use Rattle.advisor.proofs.SteadyLaws.{range_cut}
 
@@ -45,15 +45,11 @@ run_read seen now new first count so read =
 with_stays : Trial → Bool → Trial
 with_stays trial stays = record trial { stays = stays }
 
-and_all : (b : Bool) → (b && true) ≡ b
-and_all true = refl
-and_all false = refl
-
 -- no row
 pub none_tried : (mode : StoreMode) (trials : List Trial) → map (tried_all mode []) trials ≡ trials
 unfolding with_stays
 none_tried mode [] = refl
-none_tried mode (trial ∷ trials) = ap (λ (b : Bool). with_stays trial b ∷ map (tried_all mode []) trials) (and_all trial.stays) ∙ ap (λ (ts : List Trial). trial ∷ ts) (none_tried mode trials)
+none_tried mode (trial ∷ trials) = ap (λ (b : Bool). with_stays trial b ∷ map (tried_all mode []) trials) (and-true trial.stays) ∙ ap (λ (ts : List Trial). trial ∷ ts) (none_tried mode trials)
 
 and_more : (a b c : Bool) → ((a && b) && c) ≡ (a && (b && c))
 and_more true b c = refl
@@ -119,7 +115,7 @@ module _ (mode : StoreMode) (rows : List (List ℤ)) (leaf : ℕ) (lows : List �
       (λ (less : trial.leaf < leaf).
       (let other : (trial.leaf == leaf) ≡ false = ne_eqb trial.leaf leaf (λ e. omega (arith, less, e)) in
       ap (λ (b : Bool). tried_leaf mode leaf lows (either b)) (lt-ltb trial.leaf leaf less) ∙ ap (λ (b : Bool). after b (tried_all mode rows trial)) other
-      ∙ ap (with_stays trial) (and_all (tried_all mode rows trial).stays) ∙ sym (ap either (lt-ltb trial.leaf (leaf + 1) (omega (arith, less))))))
+      ∙ ap (with_stays trial) (and-true (tried_all mode rows trial).stays) ∙ sym (ap either (lt-ltb trial.leaf (leaf + 1) (omega (arith, less))))))
       (λ (more : leaf ≤ trial.leaf).
       (let now = ap (λ (b : Bool). tried_leaf mode leaf lows (either b)) (le-ltb trial.leaf leaf more) in
       ⊎_elim
@@ -129,7 +125,7 @@ module _ (mode : StoreMode) (rows : List (List ℤ)) (leaf : ℕ) (lows : List �
       ∙ sym (ap either (lt-ltb trial.leaf (leaf + 1) here))))
       (λ (later : leaf + 1 ≤ trial.leaf).
       (let other : (trial.leaf == leaf) ≡ false = ne_eqb trial.leaf leaf (λ e. omega (arith, later, e)) in
-      now ∙ ap (λ (b : Bool). after b trial) other ∙ ap (with_stays trial) (and_all trial.stays) ∙ sym (ap either (le-ltb trial.leaf (leaf + 1) later))))
+      now ∙ ap (λ (b : Bool). after b trial) other ∙ ap (with_stays trial) (and-true trial.stays) ∙ sym (ap either (le-ltb trial.leaf (leaf + 1) later))))
       (cases_lt trial.leaf (leaf + 1))))
       (cases_lt trial.leaf leaf)
 

@@ -1,9 +1,8 @@
 -- Granules that were accessed, after accesses of which each touches some.
-use Rattle.advisor.proofs.Imports.{◌≡◌, ℕ, suc, ◌+◌, ◌/◌, ◌^◌, ◌<◌, ◌≤◌, ◌-◌, ◌*◌, Bool, true, false, List, [], ◌∷◌, map, length, get_or, replicate, min, refl, sym, ap, ◌∙◌, subst, cond, take, drop, arith, ◌||◌, not, count_by, if◌then◌else◌, list_any, range_with_len, fun_ext, ne_eqb, same_number_lists, length-map, length-replicate, get_or-map, get_or-replicate, get_or-range_with_len, length-range_with_len, Any-from_list_any, list_any_at, list_any_none, sum_by-cons, sum-map, sum_by-le-sum_by, count_by-le-length, Owner, Pad, Bit, is_touched, Piece, HeatCounts, IsInside, granules_of, granules_in, heated_by, no_heat, length-warmed, length-heated, get-warmed, get-warmed_blob, HasGranules, blob_lengths, blob_granules, is_bit_in, holds_bit, holds_cell, touched_blob, touched, same_tests, is_warm, IsCounted, warm_at, IsWarmed}
+use Rattle.advisor.proofs.Imports.{◌≡◌, ℕ, suc, ◌+◌, ◌/◌, ◌^◌, ◌<◌, ◌≤◌, ◌-◌, ◌*◌, Bool, true, false, List, [], ◌∷◌, map, length, get_or, replicate, min, refl, sym, ap, ◌∙◌, subst, cond, take, drop, arith, ◌||◌, not, count_by, if◌then◌else◌, list_any, range_with_len, fun_ext, ne_eqb, same_number_lists, length-map, length-replicate, get_or-map, get_or-replicate, get_or-range_with_len, length-range_with_len, Any-from_list_any, list_any_at, list_any_none, sum_by-cons, sum-map, sum_by-le-sum_by, count_by-le-length, Owner, Pad, Bit, is_touched, Piece, HeatCounts, IsInside, granules_of, granules_in, heated_by, no_heat, length-warmed, length-heated, get-warmed, get-warmed_blob, HasGranules, blob_lengths, blob_granules, is_bit_in, holds_bit, holds_cell, touched_blob, touched, same_tests, is_warm, IsCounted, warm_at, IsWarmed, or-false}
 use Rattle.std.proofs.Common.{◌==◌}
 use Rattle.std.specs.List.{sum_by}
 use Rattle.instrument.specs.Counters.{raised}
-use Rattle.advisor.proofs.SteadyLaws.{or_false}
 
 -- ---- steps
 
@@ -172,7 +171,7 @@ warm_touched layout granule cells heat has warmed =
     counts_alike is_warm (holds_bit is_one granule (get_or layout b [])) (get_or heat.blobs b []) (λ at l.
     (let counted : IsCounted start b at = record { blob_in = omega (arith, small, first.0); at_in = omega (arith, l, long, first.1 b small) } in
     warmed.warm b at counted ∙ ap (λ (was : Bool). list_any (λ cell. holds_cell layout granule cell b at) cells || was) (cold granule (blob_lengths layout) b at counted)
-    ∙ or_false (list_any (λ cell. holds_cell layout granule cell b at) cells) ∙ cells_hold layout granule cells b at))
+    ∙ or-false (list_any (λ cell. holds_cell layout granule cell b at) cells) ∙ cells_hold layout granule cells b at))
     ∙ ap (λ n. count_by (holds_bit is_one granule (get_or layout b [])) (range_with_len 0 n)) long))
 
 -- no cell touches a granule

@@ -1,18 +1,10 @@
 -- A number that is further from 0 than any leaf reaches, and the one that is answered in its place.
-use Rattle.csv_rows.proofs.Imports.{◌≡◌, ◌⊎◌, inl, inr, ℕ, suc, ◌^◌, ◌-◌, ◌<◌, List, ◌≤◌, Bool, true, false, ◌&&◌, ℤ, pos, negsuc, neg_ℤ, ◌<ℤ◌, Result, Ok, Err, Option, Some, None, refl, sym, ap, ◌∙◌, arith, ⊎_elim, int_le, slice_get, ints, cases_lt, LeafType, Truth, U8, U16, U32, U64, I8, I16, I32, I64, least_of, greatest_of, Hold, StoreMode, Strict, Wrap, store_answer, Range, folded, shortened, folded_near, folded_far, shortened_kept, ◌>>=◌, Place, unspaced, number_of, the_field, the_number, taken, value_at, RowFault}
+use Rattle.csv_rows.proofs.Imports.{◌≡◌, ◌⊎◌, inl, inr, ℕ, suc, ◌^◌, ◌-◌, ◌<◌, List, ◌≤◌, Bool, true, false, ◌&&◌, ℤ, pos, negsuc, neg_ℤ, ◌<ℤ◌, Result, Ok, Err, Option, Some, None, refl, sym, ap, ◌∙◌, arith, ⊎_elim, int_le, slice_get, ints, cases_lt, LeafType, Truth, U8, U16, U32, U64, I8, I16, I32, I64, least_of, greatest_of, Hold, StoreMode, Strict, Wrap, store_answer, Range, folded, shortened, folded_near, folded_far, shortened_kept, ◌>>=◌, Place, unspaced, number_of, the_field, the_number, taken, value_at, RowFault, and_right, and_left}
 use Rattle.std.specs.Prelude.{option_map}
 use Rattle.csv_rows.proofs.CsvReads.{some_is}
 
 int_le-false : (a b : ℤ) → b <ℤ a → int_le a b ≡ false
 int_le-false a b e = grind (arith, ints)
-
-and_false : (a b : Bool) → b ≡ false → (a && b) ≡ false
-and_false true b e = e
-and_false false b e = refl
-
-and_first : (a b : Bool) → a ≡ false → (a && b) ≡ false
-and_first true b e = absurd (cc e)
-and_first false b e = refl
 
 -- above every range, and below
 above_all : (kind : LeafType) (n : ℕ) → 2 ^ 65 ≤ n → greatest_of kind <ℤ pos n
@@ -24,10 +16,10 @@ below_all Truth n far = grind (arith, ints)
 below_all other n far = grind (arith, ints)
 
 far_above : (kind : LeafType) (hold : Hold) (n : ℕ) → 2 ^ 65 ≤ n → store_answer Strict kind hold (pos n) ≡ Err Range
-far_above kind hold n far = rw (and_false (int_le (least_of kind) (pos n)) (int_le (pos n) (greatest_of kind)) (int_le-false (pos n) (greatest_of kind) (above_all kind n far))) refl
+far_above kind hold n far = rw (and_right (int_le (least_of kind) (pos n)) (int_le (pos n) (greatest_of kind)) (int_le-false (pos n) (greatest_of kind) (above_all kind n far))) refl
 
 far_below : (kind : LeafType) (hold : Hold) (n : ℕ) → 2 ^ 65 ≤ suc n → store_answer Strict kind hold (negsuc n) ≡ Err Range
-far_below kind hold n far = rw (and_first (int_le (least_of kind) (negsuc n)) (int_le (negsuc n) (greatest_of kind)) (int_le-false (least_of kind) (negsuc n) (below_all kind n far))) refl
+far_below kind hold n far = rw (and_left (int_le (least_of kind) (negsuc n)) (int_le (negsuc n) (greatest_of kind)) (int_le-false (least_of kind) (negsuc n) (below_all kind n far))) refl
 
 -- a strict view refuses both numbers, where they are not one
 strict_same : (kind : LeafType) (hold : Hold) (z : ℤ) → (shortened z ≡ z) ⊎ ((store_answer Strict kind hold z ≡ Err Range) × (store_answer Strict kind hold (shortened z) ≡ Err Range))

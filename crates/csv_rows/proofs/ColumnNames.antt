@@ -1,9 +1,8 @@
 -- The path texts of a record that is fit are names that a header can have.
-use Rattle.csv_rows.proofs.Imports.{◌≡◌, ℕ, zero, suc, ◌*◌, ◌<◌, ◌≤◌, ◌^◌, Bool, true, false, nat_eq, None, Some, List, [], ◌∷◌, length, map, refl, sym, ap, subst, ◌∙◌, arith, list_all, list_any, slice_get, pointwise, length-map, list_all-append, slice_get_within, PathStep, Name, Tree, Single, Record, Array, Fields, End, Field, leaves_of, leaves, paths_of, texts_of, names_of, has_names, has_twice, records_below, first_fault, is_name, both, same_text, BeginsWithName, path_text_of, paths_at, IsApart, InEither, in_front, in_back, in_either, in_map, paths_field, in_field, InElement, in_element, apart_tree, fit_from, fit_few, length-leaves, length-leaves_of_array}
+use Rattle.csv_rows.proofs.Imports.{◌≡◌, ℕ, zero, suc, ◌*◌, ◌<◌, ◌≤◌, ◌^◌, Bool, true, false, nat_eq, None, Some, List, [], ◌∷◌, length, map, refl, sym, ap, subst, ◌∙◌, arith, list_all, list_any, slice_get, pointwise, length-map, list_all-append, slice_get_within, PathStep, Name, Tree, Single, Record, Array, Fields, End, Field, leaves_of, leaves, paths_of, texts_of, names_of, has_names, has_twice, records_below, first_fault, is_name, both, same_text, BeginsWithName, path_text_of, paths_at, IsApart, InEither, in_front, in_back, in_either, in_map, paths_field, in_field, InElement, in_element, apart_tree, fit_from, fit_few, length-leaves, length-leaves_of_array, and_from}
 use Rattle.record_dim.specs.Leaves.{Leaf, records_of}
 use Rattle.csv_rows.proofs.PlainTexts.{is_plain_text, AreColumnNames}
 use Rattle.csv_rows.proofs.PathTexts.{IsPlainPath, path_plain, same_paths}
-use Rattle.csv_rows.proofs.PrintedBytes.{and_both}
 
 less_than_product : (number len each : ℕ) → number < len → 1 ≤ each → len * each ≤ 64 → number < 2 ^ 64
 less_than_product number len each below some few = grind arith
@@ -66,7 +65,7 @@ begins fields path i h = let f = in_field fields path i h in subst BeginsWithNam
 -- what holds of each element of a list
 all_at : {X : Type 0} (test : X → Bool) (xs : List X) → ((x : X) (i : ℕ) → slice_get xs i ≡ Some x → test x ≡ true) → list_all test xs ≡ true
 all_at test [] each = refl
-all_at test (x ∷ xs) each = and_both (test x) (list_all test xs) (each x zero refl) (all_at test xs (λ y i h. each y (suc i) h))
+all_at test (x ∷ xs) each = and_from (test x) (list_all test xs) (each x zero refl) (all_at test xs (λ y i h. each y (suc i) h))
 
 none_at : (text : List ℕ) (texts : List (List ℕ)) → ((i : ℕ) → slice_get texts i ≡ Some text → ⊥) → list_any (pointwise nat_eq text) texts ≡ false
 none_at text [] none = refl

@@ -3,7 +3,7 @@ pub use Rattle.std.proofs.Common.{◌≡◌, ℕ, ◌+◌, ℤ, List, [], sym, a
 pub use Rattle.std.specs.Prelude.{int_le, if◌then◌else◌, All, ◌||◌, ⊤, not}
 pub use Rattle.std.specs.List.{slice_get, list_all, list_any, enumerate_from, slice_split, onto_first, range_with_len}
 pub use Rattle.std.proofs.lemmas.Int.{ints, to_z-of_z}
-pub use Rattle.std.proofs.lemmas.Bool.{cases_lt, false_from_ne_true, cases_eq}
+pub use Rattle.std.proofs.lemmas.Bool.{cases_lt, false_from_ne_true, cases_eq, and_right, and_left, and_from, or_parts}
 pub use Rattle.std.specs.Cmp.Lexicographic.{pointwise}
 pub use Rattle.std.proofs.lemmas.List.{length-map, get_or-map, take-append-drop, take_all, drop_all, drop_more, length-take-le, get_or-take, get_or_default, drop-drop, length-drop, drop-take, take-take, at_drop_more, take_more_set, reverse-reverse, reverse-append, length_push, length-set, length-take, drop-set-lt, take_more, get_or-set_same, get_or-set_other, take_rest, get_or-drop}
 pub use Rattle.std.proofs.lemmas.List.Folds.{list_all-append, list_all_more}
@@ -45,7 +45,7 @@ pub use Rattle.record_dim.specs.Names.{is_name, begins_name, continues_name, is_
 pub use Rattle.record_dim.specs.NameBytesLaws.{both, same_text, text_self}
 pub use Rattle.record_dim.specs.Paths.{BeginsWithName, path_text_of, step_text}
 pub use Rattle.record_dim.proofs.Apart.{paths_at, IsApart, InEither, in_front, in_back, in_either, in_map, paths_field, in_field, InElement, in_element, apart_tree}
-pub use Rattle.record_dim.proofs.Fit.{fit_from, fit_few, neither}
+pub use Rattle.record_dim.proofs.Fit.{fit_from, fit_few}
 pub use Rattle.record_dim.proofs.Walks.{length-leaves, length-leaves_of_array}
 pub use Rattle.layout_io.specs.Decimal.{decimal_text, digits_text}
 pub use Rattle.layout_io.specs.Gathering.{Puts, HasPut}

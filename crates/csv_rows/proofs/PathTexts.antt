@@ -1,8 +1,8 @@
 -- The text of a path of names and small numbers is plain, and no other path has it.
-use Rattle.csv_rows.proofs.Imports.{◌≡◌, ℕ, ◌<◌, ◌^◌, Bool, true, false, List, [], ◌∷◌, ◌++◌, refl, ap, ◌∙◌, append_assoc, arith, list_all, is_ascii_digit, decimal, nat_tests, decimal_injective, PathStep, Name, At, begins_name, continues_name, is_word, is_name, both, BeginsWithName, step_text, path_text_of}
+use Rattle.csv_rows.proofs.Imports.{◌≡◌, ℕ, ◌<◌, ◌^◌, Bool, true, false, List, [], ◌∷◌, ◌++◌, refl, ap, ◌∙◌, append_assoc, arith, list_all, is_ascii_digit, decimal, nat_tests, decimal_injective, PathStep, Name, At, begins_name, continues_name, is_word, is_name, both, BeginsWithName, step_text, path_text_of, and_from}
 use Rattle.std.specs.List.{flat_map}
 use Rattle.csv_rows.proofs.PlainTexts.{is_plain_byte, is_plain_text}
-use Rattle.csv_rows.proofs.PrintedBytes.{and_both, all_joined, plain_letters, plain_digits, decimal_are}
+use Rattle.csv_rows.proofs.PrintedBytes.{all_joined, plain_letters, plain_digits, decimal_are}
 
 -- each step is a name or a small number
 abbrev pub IsPlainPath : List PathStep → Type 0
@@ -22,7 +22,7 @@ name_letters : (name : List ℕ) → is_name name ≡ true → list_all continue
 name_letters [] named = refl
 name_letters (c ∷ name) named =
     let word = both (begins_name c) (list_all continues_name name) (both _ (is_word (c ∷ name)) named).1 in
-    and_both (continues_name c) (list_all continues_name name) (first_continues c word.0) word.1
+    and_from (continues_name c) (list_all continues_name name) (first_continues c word.0) word.1
 
 -- a number in its brackets
 at_text : (number : ℕ) (steps : List PathStep) → tail_text (At number ∷ steps) ≡ 91 ∷ (decimal number ++ (93 ∷ tail_text steps))

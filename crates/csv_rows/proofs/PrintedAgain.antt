@@ -1,7 +1,6 @@
 -- What is printed of a table is the dataset of the same table.
-use Rattle.csv_rows.proofs.Imports.{◌≡◌, ℕ, ◌<◌, true, List, [], ◌∷◌, length, get_or, map, ℤ, Result, Ok, refl, sym, ap, ◌∙◌, arith, list_all, range_with_len, LeafType, Hold, length-map, leaves, texts_of, path_text_of, Table, IsTable, leaf_types_of, table_holds, StoreMode, AllStay, dataset_of, decimal_text, ◌>>=◌, records_of, with_columns, table_from, dataset_table, print_text, RowFault}
+use Rattle.csv_rows.proofs.Imports.{◌≡◌, ℕ, ◌<◌, true, List, [], ◌∷◌, length, get_or, map, ℤ, Result, Ok, refl, sym, ap, ◌∙◌, arith, list_all, range_with_len, LeafType, Hold, length-map, leaves, texts_of, path_text_of, Table, IsTable, leaf_types_of, table_holds, StoreMode, AllStay, dataset_of, decimal_text, ◌>>=◌, records_of, with_columns, table_from, dataset_table, print_text, RowFault, and_from}
 use Rattle.csv_rows.proofs.PlainTexts.{AreColumnNames, is_plain_text}
-use Rattle.csv_rows.proofs.PrintedBytes.{and_both}
 use Rattle.csv_rows.proofs.PrintedLines.{is_plain_row, rows_read, print_rows_text}
 use Rattle.csv_rows.proofs.PrintedColumns.{own_columns}
 use Rattle.csv_rows.proofs.PrintedRows.{StayTable, stay_row, stay_table, table_read, plain_table}
@@ -18,7 +17,7 @@ read_again : (mode : StoreMode) (names : List (List ℕ)) (kinds : List LeafType
 unfolding dataset_table
 read_again mode names kinds holds table are count some stay =
     let rows = map (map decimal_text) table in
-    let plain : list_all is_plain_row (names ∷ rows) ≡ true = and_both (is_plain_row names) (list_all is_plain_row rows) (header_plain names (omega arith) are.plain) (rows_are_plain mode kinds holds table some stay) in
+    let plain : list_all is_plain_row (names ∷ rows) ≡ true = and_from (is_plain_row names) (list_all is_plain_row rows) (header_plain names (omega arith) are.plain) (rows_are_plain mode kinds holds table some stay) in
     let records : records_of (print_text names table) ≡ names ∷ rows = ap records_of (print_rows_text names table) ∙ rows_read (names ∷ rows) plain in
     ap (dataset_table mode names kinds holds) records
     ∙ ap (λ (found : Result (List ℕ) RowFault). found >>= (λ columns. table_from 0 rows (with_columns mode columns kinds holds))) (own_columns [] names 0 refl are.plain are.once)

@@ -1,15 +1,12 @@
 -- The bytes of names and of decimal texts, which stand in a line as they are.
-use Rattle.csv_rows.proofs.Imports.{◌≡◌, ℕ, suc, ◌+◌, ◌*◌, ◌/◌, ◌%◌, ◌^◌, ◌<◌, ◌≤◌, Bool, true, false, ◌&&◌, nat_eq, List, [], ◌∷◌, ◌++◌, get_or, reverse, ℤ, pos, negsuc, neg_ℤ, Some, None, refl, sym, ap, subst, ◌∙◌, arith, All, if◌then◌else◌, list_all, is_ascii_digit, digit_value, decimal, digits_value, digits_value_after, nat_tests, decimal_by_steps_wide, reverse-reverse, reverse-append, list_all-append, AllPass-from_list_all, digit_value_digit, continues_name, both, digits_text, decimal_text, decimal-digits_text, is_blank, behind_blanks, before_blanks, unspaced, all_digits, digits_number, number_of, is_comma, is_line_end}
+use Rattle.csv_rows.proofs.Imports.{◌≡◌, ℕ, suc, ◌+◌, ◌*◌, ◌/◌, ◌%◌, ◌^◌, ◌<◌, ◌≤◌, Bool, true, false, ◌&&◌, nat_eq, List, [], ◌∷◌, ◌++◌, get_or, reverse, ℤ, pos, negsuc, neg_ℤ, Some, None, refl, sym, ap, subst, ◌∙◌, arith, All, if◌then◌else◌, list_all, is_ascii_digit, digit_value, decimal, digits_value, digits_value_after, nat_tests, decimal_by_steps_wide, reverse-reverse, reverse-append, list_all-append, AllPass-from_list_all, digit_value_digit, continues_name, both, digits_text, decimal_text, decimal-digits_text, is_blank, behind_blanks, before_blanks, unspaced, all_digits, digits_number, number_of, is_comma, is_line_end, and_from}
 use Rattle.std.proofs.Common.{not, ◌||◌}
 use Rattle.std.specs.Prelude.{option_map}
 use Rattle.csv_rows.proofs.PlainTexts.{is_plain_byte, is_plain_text}
 
-pub and_both : (a b : Bool) → a ≡ true → b ≡ true → (a && b) ≡ true
-and_both a b e f = rw (e, f) refl
-
 -- what each byte of two texts is, each of both together is
 pub all_joined : (test : ℕ → Bool) (xs ys : List ℕ) → list_all test xs ≡ true → list_all test ys ≡ true → list_all test (xs ++ ys) ≡ true
-all_joined test xs ys a b = list_all-append test xs ys ∙ and_both (list_all test xs) (list_all test ys) a b
+all_joined test xs ys a b = list_all-append test xs ys ∙ and_from (list_all test xs) (list_all test ys) a b
 
 -- what a plain byte is not
 pub record IsPlainByte (c : ℕ) : Type 0 where
@@ -44,7 +41,7 @@ all_reversed [] plain = refl
 all_reversed (c ∷ xs) plain =
     let (one, rest) = both (is_plain_byte c) (list_all is_plain_byte xs) plain in
     ap (list_all is_plain_byte) (reverse-append (c ∷ []) xs)
-    ∙ all_joined is_plain_byte (reverse xs) (c ∷ []) (all_reversed xs rest) (and_both (is_plain_byte c) true one refl)
+    ∙ all_joined is_plain_byte (reverse xs) (c ∷ []) (all_reversed xs rest) (and_from (is_plain_byte c) true one refl)
 
 front_same : (xs : List ℕ) → list_all is_plain_byte xs ≡ true → behind_blanks xs ≡ xs
 front_same [] plain = refl
@@ -76,7 +73,7 @@ value_push m (x ∷ xs) c = value_push (m * 10 + digit_value x) xs c
 
 digits_one : (n : ℕ) → n < 10 → AreDigits n ((48 + n) ∷ [])
 digits_one n small = record {
-  all = and_both (is_ascii_digit (48 + n)) true (digit_is n small) refl;
+  all = and_from (is_ascii_digit (48 + n)) true (digit_is n small) refl;
   value = omega (arith, digit_worth n small);
   first = 48 + n;
   rest = [];
@@ -87,7 +84,7 @@ digits_more : (n : ℕ) (text : List ℕ) → 10 ≤ n → AreDigits (n / 10) te
 digits_more n text long front =
     let low : n % 10 < 10 = omega arith in
     record {
-      all = all_joined is_ascii_digit text ((48 + n % 10) ∷ []) front.all (and_both (is_ascii_digit (48 + n % 10)) true (digit_is (n % 10) low) refl);
+      all = all_joined is_ascii_digit text ((48 + n % 10) ∷ []) front.all (and_from (is_ascii_digit (48 + n % 10)) true (digit_is (n % 10) low) refl);
       value = value_push 0 text (48 + n % 10) ∙ omega (arith, front.value, digit_worth (n % 10) low);
       first = front.first;
       rest = front.rest ++ (48 + n % 10) ∷ [];
@@ -116,7 +113,7 @@ pub plain_letters : (xs : List ℕ) → list_all continues_name xs ≡ true → 
 plain_letters [] letters = refl
 plain_letters (c ∷ xs) letters =
     let (one, rest) = both (continues_name c) (list_all continues_name xs) letters in
-    and_both (is_plain_byte c) (list_all is_plain_byte xs) (plain_letter c one) (plain_letters xs rest)
+    and_from (is_plain_byte c) (list_all is_plain_byte xs) (plain_letter c one) (plain_letters xs rest)
 
 digit_continues : (c : ℕ) → is_ascii_digit c ≡ true → continues_name c ≡ true
 digit_continues c digit = grind (arith, nat_tests)
@@ -125,7 +122,7 @@ pub plain_digits : (xs : List ℕ) → list_all is_ascii_digit xs ≡ true → l
 plain_digits [] digits = refl
 plain_digits (c ∷ xs) digits =
     let (one, rest) = both (is_ascii_digit c) (list_all is_ascii_digit xs) digits in
-    and_both (is_plain_byte c) (list_all is_plain_byte xs) (plain_letter c (digit_continues c one)) (plain_digits xs rest)
+    and_from (is_plain_byte c) (list_all is_plain_byte xs) (plain_letter c (digit_continues c one)) (plain_digits xs rest)
 
 pub plain_some : (c : ℕ) (xs text : List ℕ) → text ≡ c ∷ xs → list_all is_plain_byte text ≡ true → is_plain_text text ≡ true
 plain_some c xs text is plain = ap is_plain_text is ∙ ap (list_all is_plain_byte) (sym is) ∙ plain

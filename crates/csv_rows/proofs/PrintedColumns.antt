@@ -1,5 +1,5 @@
 -- In a header of names each leaf has the column of its own number.
-use Rattle.csv_rows.proofs.Imports.{◌≡◌, ℕ, suc, ◌+◌, Bool, true, false, nat_eq, List, [], ◌∷◌, ◌++◌, length, Ok, Result, refl, sym, ap, subst, ◌∙◌, arith, append_assoc, if◌then◌else◌, list_all, list_any, enumerate_from, range_with_len, pointwise, length_push, has_twice, both, same_text, text_self, neither, ◌>>=◌, columns_named, one_column, columns_of, RowFault}
+use Rattle.csv_rows.proofs.Imports.{◌≡◌, ℕ, suc, ◌+◌, Bool, true, false, nat_eq, List, [], ◌∷◌, ◌++◌, length, Ok, Result, refl, sym, ap, subst, ◌∙◌, arith, append_assoc, if◌then◌else◌, list_all, list_any, enumerate_from, range_with_len, pointwise, length_push, has_twice, both, same_text, text_self, ◌>>=◌, columns_named, one_column, columns_of, RowFault, or_parts}
 use Rattle.csv_rows.proofs.PlainTexts.{is_plain_text}
 use Rattle.csv_rows.proofs.PrintedBytes.{unspaced_same}
 use Rattle.csv_rows.proofs.PrintedLines.{plain_part}
@@ -21,24 +21,24 @@ none_behind : (name : List ℕ) (n : ℕ) (fields : List (List ℕ)) → list_al
 none_behind name n [] plain other = refl
 none_behind name n (field ∷ fields) plain other =
     let (one, rest) = both (is_plain_text field) (list_all is_plain_text fields) plain in
-    let (here, more) = neither (pointwise nat_eq name field) (list_any (pointwise nat_eq name) fields) other in
+    let (here, more) = or_parts (pointwise nat_eq name field) (list_any (pointwise nat_eq name) fields) other in
     field_named name field n fields false one (other_way name field (pointwise nat_eq field name) refl here) ∙ none_behind name (n + 1) fields rest more
 
 -- the fields before are other names, and then comes the name
 pub one_named : (before : List (List ℕ)) (name : List ℕ) (behind : List (List ℕ)) (n : ℕ) → list_all is_plain_text (before ++ name ∷ behind) ≡ true → has_twice (before ++ name ∷ behind) ≡ false → columns_named name (enumerate_from n (before ++ name ∷ behind)) ≡ (n + length before) ∷ []
 one_named [] name behind n plain once =
     let (one, rest) = both (is_plain_text name) (list_all is_plain_text behind) plain in
-    let (other, more) = neither (list_any (pointwise nat_eq name) behind) (has_twice behind) once in
+    let (other, more) = or_parts (list_any (pointwise nat_eq name) behind) (has_twice behind) once in
     let here : n ≡ n + 0 = omega arith in
     field_named name name n behind true one (text_self name) ∙ ap (λ (cs : List ℕ). n ∷ cs) (none_behind name (n + 1) behind rest other) ∙ ap (λ (m : ℕ). m ∷ []) here
 one_named (field ∷ before) name behind n plain once =
     let (one, rest) = both (is_plain_text field) (list_all is_plain_text (before ++ name ∷ behind)) plain in
-    let (other, more) = neither (list_any (pointwise nat_eq field) (before ++ name ∷ behind)) (has_twice (before ++ name ∷ behind)) once in
+    let (other, more) = or_parts (list_any (pointwise nat_eq field) (before ++ name ∷ behind)) (has_twice (before ++ name ∷ behind)) once in
     let next : n + 1 + length before ≡ n + suc (length before) = omega arith in
     field_named name field n (before ++ name ∷ behind) false one (not_among field name before behind other) ∙ one_named before name behind (n + 1) rest more ∙ ap (λ (m : ℕ). m ∷ []) next where
       not_among : (field name : List ℕ) (before behind : List (List ℕ)) → list_any (pointwise nat_eq field) (before ++ name ∷ behind) ≡ false → pointwise nat_eq field name ≡ false
-      not_among field name [] behind other = (neither (pointwise nat_eq field name) (list_any (pointwise nat_eq field) behind) other).0
-      not_among field name (x ∷ before) behind other = not_among field name before behind (neither (pointwise nat_eq field x) (list_any (pointwise nat_eq field) (before ++ name ∷ behind)) other).1
+      not_among field name [] behind other = (or_parts (pointwise nat_eq field name) (list_any (pointwise nat_eq field) behind) other).0
+      not_among field name (x ∷ before) behind other = not_among field name before behind (or_parts (pointwise nat_eq field x) (list_any (pointwise nat_eq field) (before ++ name ∷ behind)) other).1
 
 -- the columns of names that are the header
 pub own_columns : (before names : List (List ℕ)) (leaf : ℕ) → leaf ≡ length before → list_all is_plain_text (before ++ names) ≡ true → has_twice (before ++ names) ≡ false → columns_of (before ++ names) leaf names ≡ Ok (range_with_len leaf (length names))

@@ -1,7 +1,7 @@
 -- The values that are printed are read again, by a view that can hold them.
-use Rattle.csv_rows.proofs.Imports.{◌≡◌, ℕ, zero, suc, ◌+◌, ◌^◌, ◌<◌, true, List, [], ◌∷◌, ◌++◌, length, get_or, map, ℤ, pos, negsuc, Some, Result, Ok, refl, sym, ap, subst, ◌∙◌, arith, append_assoc, slice_get, list_all, range_with_len, ints, length_push, LeafType, Truth, U8, U16, U32, U64, I8, I16, I32, I64, IsDeclared, Hold, stays_declared, StoreMode, store_answer, Stays, kind_at, stays_answer, hold_at, decimal_text, ◌>>=◌, Place, the_field, the_number, taken, unspaced, number_of, value_at, row_values, table_from, with_columns, RowFault}
+use Rattle.csv_rows.proofs.Imports.{◌≡◌, ℕ, zero, suc, ◌+◌, ◌^◌, ◌<◌, true, List, [], ◌∷◌, ◌++◌, length, get_or, map, ℤ, pos, negsuc, Some, Result, Ok, refl, sym, ap, subst, ◌∙◌, arith, append_assoc, slice_get, list_all, range_with_len, ints, length_push, LeafType, Truth, U8, U16, U32, U64, I8, I16, I32, I64, IsDeclared, Hold, stays_declared, StoreMode, store_answer, Stays, kind_at, stays_answer, hold_at, decimal_text, ◌>>=◌, Place, the_field, the_number, taken, unspaced, number_of, value_at, row_values, table_from, with_columns, RowFault, and_from}
 use Rattle.csv_rows.proofs.PlainTexts.{is_plain_text}
-use Rattle.csv_rows.proofs.PrintedBytes.{IsNumberText, number_text, unspaced_same, and_both}
+use Rattle.csv_rows.proofs.PrintedBytes.{IsNumberText, number_text, unspaced_same}
 use Rattle.csv_rows.proofs.PrintedLines.{is_plain_row}
 
 -- a value of any leaf has few digits
@@ -94,7 +94,7 @@ plain_row mode [] [] (value ∷ values) stay = absurd stay
 plain_row mode [] (hold ∷ holds) values stay = absurd stay
 plain_row mode (kind ∷ kinds) [] values stay = absurd stay
 plain_row mode (kind ∷ kinds) (hold ∷ holds) [] stay = absurd stay
-plain_row mode (kind ∷ kinds) (hold ∷ holds) (value ∷ values) stay = and_both (is_plain_text (decimal_text value)) (list_all is_plain_text (map decimal_text values)) (declared_text kind value (stays_declared mode kind hold value stay.0)).some (plain_row mode kinds holds values stay.1)
+plain_row mode (kind ∷ kinds) (hold ∷ holds) (value ∷ values) stay = and_from (is_plain_text (decimal_text value)) (list_all is_plain_text (map decimal_text values)) (declared_text kind value (stays_declared mode kind hold value stay.0)).some (plain_row mode kinds holds values stay.1)
 
 some_plain : (mode : StoreMode) (kind : LeafType) (kinds : List LeafType) (holds : List Hold) (values : List ℤ) → StayRow mode (kind ∷ kinds) holds values → is_plain_row (map decimal_text values) ≡ true
 unfolding StayRow
@@ -105,4 +105,4 @@ some_plain mode kind kinds (hold ∷ holds) (value ∷ values) stay = plain_row 
 pub plain_table : (mode : StoreMode) (kind : LeafType) (kinds : List LeafType) (holds : List Hold) (table : List (List ℤ)) → StayTable mode (kind ∷ kinds) holds table → list_all is_plain_row (map (map decimal_text) table) ≡ true
 unfolding StayTable
 plain_table mode kind kinds holds [] stay = refl
-plain_table mode kind kinds holds (row ∷ table) stay = and_both (is_plain_row (map decimal_text row)) (list_all is_plain_row (map (map decimal_text) table)) (some_plain mode kind kinds holds row stay.1) (plain_table mode kind kinds holds table stay.2)
+plain_table mode kind kinds holds (row ∷ table) stay = and_from (is_plain_row (map decimal_text row)) (list_all is_plain_row (map (map decimal_text) table)) (some_plain mode kind kinds holds row stay.1) (plain_table mode kind kinds holds table stay.2)

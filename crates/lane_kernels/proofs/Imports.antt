@@ -1,4 +1,5 @@
 -- What the proofs of this crate speak of.
+pub use Rattle.std.proofs.lemmas.Bool.{cases_lt}
 pub use Rattle.std.proofs.Common.{◌≡◌, ℕ, zero, suc, ◌+◌, ◌≤◌, List, [], ◌∷◌, ◌++◌, length, take, drop, map, set, ℤ, Option, Some, None, refl, sym, ap, ◌∙◌, arith, ◌<◌, Result, Ok, Err, ◌-◌, ◌^◌, Bool, true, false, fold, min, FitsSigned, pos, ◌+ℤ◌, subst, length-take, cond, get_or, to_z, w64, length-drop, ◌*◌, negsuc, neg_ℤ, ◌≤ℤ◌, ◌/◌, ◌%◌, ◌⊎◌, inl, inr, ◌*ℤ◌, rules, of_z, SFits}
 pub use Rattle.std.proofs.lemmas.List.{take-append-drop, length-map, map-append, map-id, take-map, take-take, take_all, append-nil}
 pub use Rattle.std.specs.Prelude.{option_map, nat_le, if◌then◌else◌}

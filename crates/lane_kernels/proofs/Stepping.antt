@@ -1,5 +1,5 @@
 -- Rows that go together, in blocks of so many lanes and the rest one by one, or as many as may.
-use Rattle.lane_kernels.proofs.Imports.{◌≡◌, ℕ, zero, suc, ◌+◌, ◌-◌, ◌*◌, ◌/◌, ◌%◌, ◌<◌, ◌≤◌, ◌⊎◌, Bool, true, false, min, inl, inr, refl, sym, ap, ◌∙◌, arith, add-div_right, add-mod_right, add-mul-div_right, div-eq_of_lt, mod-eq_of_lt, mul_comm, mul-add, mul-le-mul_left, mul-le-mul_right, nat_tests, step_of, IsAt, sixteens, cost, rows_read}
+use Rattle.lane_kernels.proofs.Imports.{◌≡◌, ℕ, zero, suc, ◌+◌, ◌-◌, ◌*◌, ◌/◌, ◌%◌, ◌<◌, ◌≤◌, ◌⊎◌, Bool, true, false, min, inl, inr, refl, sym, ap, ◌∙◌, arith, add-div_right, add-mod_right, add-mul-div_right, div-eq_of_lt, mod-eq_of_lt, mul_comm, mul-add, mul-le-mul_left, mul-le-mul_right, nat_tests, step_of, IsAt, sixteens, cost, rows_read, cases_lt}
 
 pub at_start : (lanes count : ℕ) → 0 < lanes → IsAt lanes count 0
 at_start lanes count some = record { inside = omega arith; even = inl (omega arith) }
@@ -40,12 +40,6 @@ pub rest_next : (lanes count row : ℕ) → 0 < lanes → IsAt lanes count row �
 rest_next lanes count row some at small room =
     let same = rest_quotient lanes count row some at small room in
     record { inside = omega arith; even = inr (quotient lanes (row + 1) (count / lanes) some (omega (arith, ap (λ (n : ℕ). lanes * n) same)) (omega arith)) }
-
--- a step of either kind
-pub lt_or_le : (a b : ℕ) → (a < b) ⊎ (b ≤ a)
-lt_or_le a zero = inr (omega arith)
-lt_or_le zero (suc b) = inl (omega arith)
-lt_or_le (suc a) (suc b) = elim (lt_or_le a b) [ inl less ↦ inl (omega arith) | inr more ↦ inr (omega arith) ]
 
 -- so many rows that go together, of which no block is told from another where nothing counts accesses
 pub record IsStep (uncounted : Bool) (lanes count row step : ℕ) : Type 0 where
@@ -122,7 +116,7 @@ free_step lanes count row small = record {
 
 -- any of them
 counted_step : (lanes count row : ℕ) → 0 < lanes → lanes ≤ 16 → IsAt lanes count row → row < count → IsStep false lanes count row (step_of false lanes count row)
-counted_step lanes count row some few at small = elim (lt_or_le count (row + lanes)) [
+counted_step lanes count row some few at small = elim (cases_lt count (row + lanes)) [
   | inl room ↦ let one : step_of false lanes count row ≡ 1 = grind (arith, nat_tests) in rw one (rest_step lanes count row some at small room)
   | inr room ↦ let all : step_of false lanes count row ≡ lanes = grind (arith, nat_tests) in rw all (whole_step lanes count row some few at room)
 ]

@@ -1,8 +1,9 @@
 -- The tokens of phrases: the readers of one token, and which tokens may follow an expression.
+use Rattle.std.proofs.lemmas.Bool.{cases_Bool}
 use Rattle.std.proofs.Common.{◌≡◌, ℕ, ◌<◌, Bool, true, false, if◌then◌else◌, inl, inr, List, [], ◌∷◌, ◌++◌, Option, Some, None, codes, bytes_eq, pos, refl, ap, sym, ◌∙◌, arith}
 use Rattle.phrases.specs.Phrases.{IsItem, Behind}
 use Rattle.phrases.specs.Reading.{starts, item_at}
-use Rattle.phrases.specs.ParsesLaws.{Always, Exact, Parses, item_parses, truth_cases}
+use Rattle.phrases.specs.ParsesLaws.{Always, Exact, Parses, item_parses}
 use Rattle.phrases.specs.MoreLaws.{behind_starts}
 use Rattle.line_tokens.specs.declared.sign.Sign.{Sign}
 use Rattle.line_tokens.specs.declared.sign.Sign.TheVariants.{OpenBracket, Dot, EqualEqual, NotEqual, LessThan, LessEqual, GreaterThan, GreaterEqual, Plus, Minus, Star, Slash, Percent}
@@ -64,7 +65,7 @@ behind_after k token less Is (first ∷ ys) v rest h = rw (ap level_of h.0) less
 -- a test fails before what binds less
 pub starts_false : (test : Token → Bool) (k : ℕ) → ((token : Token) → test token ≡ true → k ≡ level_of token) → (rest : List Token) → AfterLevel k rest → starts test rest ≡ false
 starts_false test k levels [] after = refl
-starts_false test k levels (token ∷ rest) after = elim (truth_cases (test token)) [
+starts_false test k levels (token ∷ rest) after = elim (cases_Bool (test token)) [
   | inl passes ↦ absurd (let same = levels token passes in omega arith)
   | inr falls ↦ falls
 ]
@@ -81,7 +82,7 @@ sign_next sign (token ∷ us) h = (us, ap (λ (t : Token). let k : List Token = 
 
 -- what has a meaning is not a token without it
 pub apart : {A : Type 0} {test : Token → Bool} {some : Token} → Exact test some → (value : Token → Option A) → value some ≡ None → (token : Token) (v : A) → value token ≡ Some v → test token ≡ false
-apart {test = test} exact value none token v e = elim (truth_cases (test token)) [
+apart {test = test} exact value none token v e = elim (cases_Bool (test token)) [
   | inl passes ↦ absurd (let bad = sym e ∙ ap value (exact.only token passes) ∙ none in cc)
   | inr falls ↦ falls
 ]

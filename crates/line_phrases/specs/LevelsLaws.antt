@@ -1,10 +1,11 @@
 -- How an expression is read, level by level, and what may follow each level.
+use Rattle.std.proofs.lemmas.Bool.{cases_Bool}
 use Rattle.std.proofs.Common.{◌≡◌, ℕ, zero, suc, Bool, true, false, if◌then◌else◌, inl, inr, List, [], ◌∷◌, ◌++◌, Option, Some, None, is_some, bytes_eq, Result, codes, refl, sym, ap, ◌∙◌, append_assoc, arith}
 use Rattle.std.specs.List.{list_any}
 use Rattle.std.proofs.lemmas.Slice.Eq.{bytes_eq-Decides}
 use Rattle.phrases.specs.Phrases.{IsNothing, Joined, Chain}
 use Rattle.phrases.specs.Reading.{starts, behind_at, give_at}
-use Rattle.phrases.specs.ParsesLaws.{Always, Exact, Parses, behind_parses, either_parses, give_parses, item_parses, parses_before, then_parses, truth_cases}
+use Rattle.phrases.specs.ParsesLaws.{Always, Exact, Parses, behind_parses, either_parses, give_parses, item_parses, parses_before, then_parses}
 use Rattle.phrases.specs.RepeatedLaws.{Steps, chain_between, steps_parses}
 use Rattle.phrases.specs.MoreLaws.{behind_starts, item_starts, joined_starts}
 use Rattle.line_tokens.specs.declared.sign.Sign.TheVariants.{OpenBrace, CloseBrace, OpenBracket, CloseBracket, OpenParen, CloseParen, Colon, Comma, Dot, Equals, EqualEqual, NotEqual, LessThan, LessEqual, GreaterThan, GreaterEqual, Plus, Minus, Arrow, Star, Slash, Percent, Question}
@@ -268,7 +269,7 @@ AreReserved word_of (value ∷ values) = (list_any (bytes_eq (word_of value)) re
 
 unlisted : {A : Type 0} (word_of : A → List ℕ) (values : List A) (word : List ℕ) → AreReserved word_of values → list_any (bytes_eq word) reserved ≡ false → listed word_of values word ≡ None
 unlisted word_of [] word all free = refl
-unlisted word_of (value ∷ values) word all free = elim (truth_cases (bytes_eq word (word_of value))) [
+unlisted word_of (value ∷ values) word all free = elim (cases_Bool (bytes_eq word (word_of value))) [
   | inl same ↦ absurd (let e = (bytes_eq-Decides word (word_of value)).0 same in let bad = sym free ∙ ap (λ k. list_any (bytes_eq k) reserved) e ∙ all.0 in cc)
   | inr falls ↦ ap (λ b. if b then Some value else listed word_of values word) falls ∙ unlisted word_of values word all.1 free
 ]
@@ -303,9 +304,9 @@ number_no_choice (Number value) n e = refl
 number_no_choice other n e = absurd cc
 
 two_words : (word : List ℕ) (d : ℕ) → listed index_word dimensions word ≡ Some d → listed choice_word (Min ∷ Max ∷ []) word ≡ None
-two_words word d e = elim (truth_cases (bytes_eq word (codes "min"))) [
+two_words word d e = elim (cases_Bool (bytes_eq word (codes "min"))) [
   | inl least ↦ absurd (let same = (bytes_eq-Decides word (codes "min")).0 least in let bad = sym e ∙ ap (listed index_word dimensions) same in cc)
-  | inr falls ↦ elim (truth_cases (bytes_eq word (codes "max"))) [
+  | inr falls ↦ elim (cases_Bool (bytes_eq word (codes "max"))) [
     | inl most ↦ absurd (let same = (bytes_eq-Decides word (codes "max")).0 most in let bad = sym e ∙ ap (listed index_word dimensions) same in cc)
     | inr fails ↦ ap (λ b. if b then Some Min else listed choice_word (Max ∷ []) word) falls ∙ ap (λ (b : Bool). let k : Option BinOp = if b then Some Max else None in k) fails
   ]

@@ -1,4 +1,5 @@
 -- How a path is read, and how its reading goes on.
+use Rattle.std.proofs.lemmas.Bool.{or_cases}
 use Rattle.std.proofs.Common.{◌≡◌, ℕ, Bool, true, false, ◌||◌, ◌⊎◌, inl, inr, List, [], ◌∷◌, ◌++◌, Ok, Err, refl, sym, ap}
 use Rattle.phrases.specs.Reading.{starts}
 use Rattle.phrases.specs.ParsesLaws.{Always, Parses, behind_parses, either_parses, give_parses, then_parses}
@@ -22,12 +23,8 @@ part_parses = either_parses (is_sign Dot)
     (λ xs v rest h _. behind_starts (is_sign Dot) (Signed Dot) true refl _ xs v rest h)
     (λ xs v rest h _. behind_starts (is_sign Dot) (Signed OpenBracket) false refl _ xs v rest h)
 
-either_or : (a b : Bool) → (a || b) ≡ true → (a ≡ true) ⊎ (b ≡ true)
-either_or true b e = inl refl
-either_or false b e = inr e
-
 part_level : (token : Token) → begins_part token ≡ true → 6 ≡ level_of token
-part_level token h = elim (either_or (is_sign Dot token) (is_sign OpenBracket token) h) [
+part_level token h = elim (or_cases (is_sign Dot token) (is_sign OpenBracket token) h) [
   | inl dot ↦ sym (ap level_of (sign_only Dot token dot))
   | inr bracket ↦ sym (ap level_of (sign_only OpenBracket token bracket))
 ]

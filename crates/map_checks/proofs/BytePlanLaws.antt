@@ -1,5 +1,5 @@
 -- Plans of mappings of bytes, from those of their inner mappings.
-use Rattle.map_checks.proofs.Imports.{Bool, true, false, ◌≡◌, ℕ, ◌+◌, ◌-◌, ◌*◌, ◌/◌, ◌%◌, ◌^◌, ◌<◌, ◌⊎◌, get_or, List, [], ◌∷◌, map, length, All, refl, sym, ap, ◌∙◌, subst, ◌||◌, sum, PathStep, length-map, sum-map, Fields, Owner, Bit, renamed, relabel, byte_cells, byteswap, bytesplit, widths_of, full_holds, IsTooBig, widths_whole, widths_narrow, widths_full, Cell, Hold, Term, Split, Byteswap, Bytesplit, bytes_of, byte_count, length-bytes, widths_of_bytes, HasWholeBytes, HasOnePiece, AreSwapped, AreJoined, order_of, orders_of, layout_of, holds_of, not_full, most_slots, IsTooBigFor, cells_under, cells_beside, IsPlanOf, IsRuled, length-holds, Plan}
+use Rattle.map_checks.proofs.Imports.{Bool, true, false, ◌≡◌, ℕ, ◌+◌, ◌-◌, ◌*◌, ◌/◌, ◌%◌, ◌^◌, ◌<◌, ◌⊎◌, get_or, List, [], ◌∷◌, map, length, All, refl, sym, ap, ◌∙◌, subst, ◌||◌, sum, PathStep, length-map, sum-map, Fields, Owner, Bit, renamed, relabel, byte_cells, byteswap, bytesplit, widths_of, full_holds, IsTooBig, widths_whole, widths_narrow, widths_full, Cell, Hold, Term, Split, Byteswap, Bytesplit, bytes_of, byte_count, length-bytes, widths_of_bytes, HasWholeBytes, HasOnePiece, AreSwapped, AreJoined, order_of, orders_of, layout_of, holds_of, not_full, most_slots, IsTooBigFor, cells_under, cells_beside, IsPlanOf, IsRuled, length-holds, Plan, or_right}
 use Rattle.std.specs.List.{sum_by}
 use Rattle.map_checks.proofs.JoinRuleLaws.{alone_ruled, join_ruled, join_orders}
 use Rattle.map_checks.proofs.OrderLaws.{order_in}
@@ -111,11 +111,6 @@ module _ (inner : Term) (extents : List ℕ) (fields : Fields) (cells : List Cel
           join_orders cells made.rules plan.rules (layout_of inner extents fields (bytes_of cells)) extents (widths_of (bytes_of cells)) (join_widths full)
           (widths_of_bytes cells) join_each (order_of inner fields) orders join
 
--- a part of a side that is not full is a part of the whole
-or_true : (one two : Bool) → two ≡ true → (one || two) ≡ true
-or_true true two e = refl
-or_true false two e = e
-
 module _ (path : List PathStep) (one two : Term) (fields : Fields) (cells : List Cell) where
   pub narrow_under : (under : List Cell) → under ≡ cells_under fields path cells → not_full one fields under ≡ true → not_full (Split path one two) fields cells ≡ true
   narrow_under under is e =
@@ -123,4 +118,4 @@ module _ (path : List PathStep) (one two : Term) (fields : Fields) (cells : List
 
   pub narrow_beside : (beside : List Cell) → beside ≡ cells_beside fields path cells → not_full two fields beside ≡ true → not_full (Split path one two) fields cells ≡ true
   narrow_beside beside is e =
-      or_true (not_full one fields (cells_under fields path cells)) (not_full two fields (cells_beside fields path cells)) (ap (not_full two fields) (sym is) ∙ e)
+      or_right (not_full one fields (cells_under fields path cells)) (not_full two fields (cells_beside fields path cells)) (ap (not_full two fields) (sym is) ∙ e)

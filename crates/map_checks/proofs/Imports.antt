@@ -7,7 +7,7 @@ pub use Rattle.std.proofs.lemmas.List.Sums.{sum-map, sum_by-cons, sum_by-append,
 pub use Rattle.std.specs.Result.{IsErrAnd, IsErrOf, IfErr}
 pub use Rattle.std.proofs.lemmas.List.Concat.{flat_map-append}
 pub use Rattle.std.proofs.lemmas.List.Elements.{All-append, All-nil, All-head, All-tail, All-map, All-weaker, All-cons}
-pub use Rattle.std.proofs.lemmas.Bool.{false≢true, cases_Bool, cases_lt, true≢false}
+pub use Rattle.std.proofs.lemmas.Bool.{false≢true, cases_Bool, cases_lt, true≢false, or_right}
 pub use Rattle.std.proofs.lemmas.Simd.{map-map}
 pub use Rattle.std.proofs.lemmas.Option.{get_or_from_slice_get, slice_get_within}
 pub use Rattle.std.proofs.lemmas.Bool.Decides.{nat_tests}

@@ -3,7 +3,7 @@ use Rattle.std.proofs.Common.{◌≡◌, ℕ, ◌<◌, ◌≤◌, List, [], ◌�
 use Rattle.std.specs.Prelude.{◌&&◌, ◌||◌, not, nat_le, if◌then◌else◌}
 use Rattle.std.specs.List.{count_by, list_all}
 use Rattle.std.specs.Option.{option_or}
-use Rattle.std.proofs.lemmas.Bool.{and_parts, leb-true, or_from}
+use Rattle.std.proofs.lemmas.Bool.{and_parts, leb-true, or_from, or_parts}
 use Rattle.std.proofs.lemmas.List.{length-map}
 use Rattle.std.proofs.lemmas.List.Sums.{length-filter}
 use Rattle.extents.specs.Indices.{indices}
@@ -132,11 +132,6 @@ within_wide fields width entries cells e = narrow_wide (cell_widths fields width
 within_low : (fields : Fields) (width : ℕ) (entries : List FieldWidth) (cells : List Cell) → All (λ w. w ≤ 64) (widths_in (held_within fields width entries cells))
 within_low fields width entries cells = narrow_low (cell_widths fields width entries cells) cells
 
--- where neither holds
-pub neither_of : (one two : Bool) → (one || two) ≡ false → (one ≡ false) × (two ≡ false)
-neither_of true two e = cc
-neither_of false two e = (refl, e)
-
 -- holds that differ from those of the types nowhere
 held_whole : (term : Term) (fields : Fields) (cells : List Cell) → differ (holds_of term fields cells) (full_holds cells) ≡ false
     → holds_of term fields cells ≡ full_holds cells
@@ -166,18 +161,18 @@ term_laws (Split path first rest) extents fields cells built numbers full =
     let side : List Bool = side_of fields path cells in
     let under : List Cell = cells_under fields path cells in
     let beside : List Cell = cells_beside fields path cells in
-    let both = neither_of (not_full first fields under) (not_full rest fields beside) full in
+    let both = or_parts (not_full first fields under) (not_full rest fields beside) full in
     split_laws side (layout_of first extents fields under) (layout_of rest extents fields beside) (length (indices extents)) (length (indices extents))
     (holds_of first fields under) (holds_of rest fields beside) (term_laws first extents fields under built.0 numbers.0 both.0)
     (term_laws rest extents fields beside built.1 numbers.1 both.1) refl (length-holds first fields under ∙ cells_first fields path cells)
     (length-holds rest fields beside ∙ cells_rest fields path cells)
 term_laws (Byteswap inner) extents fields cells built numbers full =
-    let both = neither_of (differ (holds_of inner fields cells) (full_holds cells)) (not_full inner fields cells) full in
+    let both = or_parts (differ (holds_of inner fields cells) (full_holds cells)) (not_full inner fields cells) full in
     byteswap_laws (layout_of inner extents fields cells) (length (indices extents)) cells (holds_of inner fields cells) (held_whole inner fields cells both.0)
     (term_laws inner extents fields cells built numbers both.1)
 term_laws (Bytesplit inner) extents fields cells built numbers full =
     let bytes : List Cell = bytes_of cells in
-    let both = neither_of (differ (holds_of inner fields bytes) (full_holds bytes)) (not_full inner fields bytes) full in
+    let both = or_parts (differ (holds_of inner fields bytes) (full_holds bytes)) (not_full inner fields bytes) full in
     bytesplit_laws (layout_of inner extents fields bytes) (length (indices extents)) cells (holds_of inner fields bytes) (held_whole inner fields bytes both.0)
     (term_laws inner extents fields bytes built numbers both.1)
 term_laws (Change from to inner) extents fields cells built numbers full = term_laws inner extents fields (changed from to cells) built numbers full

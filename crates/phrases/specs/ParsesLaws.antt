@@ -1,4 +1,5 @@
 -- What a reader of a phrase keeps, and that the readers of composed phrases keep it.
+use Rattle.std.proofs.lemmas.Bool.{cases_Bool}
 use Rattle.std.proofs.Common.{◌≡◌, ℕ, suc, ◌⊎◌, inl, inr, Bool, true, false, if◌then◌else◌, List, [], ◌∷◌, ◌++◌, length, Option, Some, None, Result, Ok, Err, refl, sym, ap, ◌∙◌, append_assoc}
 use Rattle.phrases.specs.Phrases.{IsItem, Behind, Joined, IsEither, WhichIs, IsNothing}
 use Rattle.phrases.specs.Reading.{◌>>=◌, starts, item_or, item_at, behind_at, then_at, give_at, either_at, which_at}
@@ -43,11 +44,6 @@ pub ok_parts : {A B E : Type 0} {a b : A} {x y : B} → ◌≡◌ {A = Result (A
 ok_parts {A = A} {B = B} {a = a} {b = b} {x = x} {y = y} e =
     let p : ◌≡◌ {A = A × B} (a, x) (b, y) = cc in
     (ap (λ (q : A × B). q.0) p, ap (λ (q : A × B). q.1) p)
-
--- the case of a truth value, with its equation
-pub truth_cases : (b : Bool) → (b ≡ true) ⊎ (b ≡ false)
-truth_cases true = inl refl
-truth_cases false = inr refl
 
 -- the head of a list depends on what follows its front by the head of that alone
 pub same_head : {T : Type 0} (xs us vs : List T) → head_of us ≡ head_of vs → head_of (xs ++ us) ≡ head_of (xs ++ vs)
@@ -321,7 +317,7 @@ pub either_parses : {T A : Type 0} {Is IsOther : List T → A → Type 0} {read 
     ((xs : List T) (v : A) (rest : List T) → IsOther xs v → After rest → starts test (xs ++ rest) ≡ false) →
     Parses (IsEither Is IsOther) (either_at test read other) After
 either_parses {T = T} {Is = Is} {IsOther = IsOther} {read = read} {other = other} test p q passes fails = record {
-  sound = λ tokens v rest e. elim (truth_cases (starts test tokens)) [
+  sound = λ tokens v rest e. elim (cases_Bool (starts test tokens)) [
     | inl holds ↦ let f = p.sound tokens v rest (ap (λ b. if b then read tokens else other tokens) (sym holds) ∙ e) in record {
       front = f.front;
       whole = f.whole;
@@ -341,7 +337,7 @@ either_parses {T = T} {Is = Is} {IsOther = IsOther} {read = read} {other = other
     | inl is ↦ ap (λ b. if b then read (xs ++ rest) else other (xs ++ rest)) (passes xs v rest is after) ∙ p.full xs v rest is after
     | inr is ↦ ap (λ b. if b then read (xs ++ rest) else other (xs ++ rest)) (fails xs v rest is after) ∙ q.full xs v rest is after
   ];
-  stops = λ tokens left e. elim (truth_cases (starts test tokens)) [
+  stops = λ tokens left e. elim (cases_Bool (starts test tokens)) [
     | inl holds ↦ let s = p.stops tokens left (ap (λ b. if b then read tokens else other tokens) (sym holds) ∙ e) in record {
       front = s.front;
       rest = s.rest;

@@ -1,8 +1,9 @@
 -- Phrases that repeat a step: how the reader goes on, that each repetition is read, and that reading stops where it must.
+use Rattle.std.proofs.lemmas.Bool.{cases_Bool}
 use Rattle.std.proofs.Common.{◌≡◌, ℕ, zero, suc, ◌≤◌, ◌<◌, Bool, true, false, if◌then◌else◌, inl, inr, List, [], ◌∷◌, ◌++◌, length, Result, Ok, Err, refl, sym, ap, ◌∙◌, append_assoc, length-append, arith}
 use Rattle.phrases.specs.Phrases.{Joined, Chain, Repeats}
 use Rattle.phrases.specs.Reading.{◌>>=◌, starts, steps_within, steps_at}
-use Rattle.phrases.specs.ParsesLaws.{head_of, Found, Stopped, Parses, bind_cases, found_also, joined_found, joined_stops_early, joined_stops_late, ok_parts, starts_alike, stopped_also, truth_cases}
+use Rattle.phrases.specs.ParsesLaws.{head_of, Found, Stopped, Parses, bind_cases, found_also, joined_found, joined_stops_early, joined_stops_late, ok_parts, starts_alike, stopped_also}
 
 -- a step whose phrases begin with a token that passes, and behind whose repetition none stands that passes
 pub record Steps {T A : Type 0} (Step : A → List T → A → Type 0) (test : T → Bool) (step : A → List T → Result (A × List T) ℕ) (Between After : List T → Type 0) : Type 0 where
@@ -93,7 +94,7 @@ module _ {T A : Type 0} {Step : A → List T → A → Type 0} {test : T → Boo
       → Found (Repeats Step v) (steps_at test step v) tokens w rest
   steps_found zero v [] w rest small e = steps_found_none test step v [] w rest refl e
   steps_found zero v (token ∷ us) w rest small e = absurd (omega arith)
-  steps_found (suc n) v tokens w rest small e = elim (truth_cases (starts test tokens)) [
+  steps_found (suc n) v tokens w rest small e = elim (cases_Bool (starts test tokens)) [
     | inl passes ↦
         let e' : (step v tokens >>= λ x. steps_within n test step x.0 x.1) ≡ Ok (w, rest) =
         ap (λ b. let r : Result (A × List T) ℕ = if b then (step v tokens >>= λ x. steps_within n test step x.0 x.1) else Ok (v, tokens) in r) (sym passes) ∙ e in
@@ -111,7 +112,7 @@ module _ {T A : Type 0} {Step : A → List T → A → Type 0} {test : T → Boo
 
   steps_stopped : (n : ℕ) (v : A) (tokens : List T) (left : ℕ) → length tokens ≤ n → steps_within n test step v tokens ≡ Err left → Stopped (Repeats Step v) (steps_at test step v) tokens left
   steps_stopped zero v tokens left small e = absurd cc
-  steps_stopped (suc n) v tokens left small e = elim (truth_cases (starts test tokens)) [
+  steps_stopped (suc n) v tokens left small e = elim (cases_Bool (starts test tokens)) [
     | inl passes ↦
         let e' : (step v tokens >>= λ x. steps_within n test step x.0 x.1) ≡ Err left =
         ap (λ b. let r : Result (A × List T) ℕ = if b then (step v tokens >>= λ x. steps_within n test step x.0 x.1) else Ok (v, tokens) in r) (sym passes) ∙ e in

@@ -1,9 +1,9 @@
 -- In a record without a name twice the paths of the leaves differ, and each leads to its leaf.
-use Rattle.record_dim.proofs.Imports.{◌≡◌, ℕ, suc, zero, ◌+◌, ◌<◌, Bool, true, false, cond, ◌||◌, nat_eq, nat_lt, Some, None, List, [], ◌∷◌, ◌++◌, length, map, refl, sym, ap, ◌∙◌, subst, inl, inr, ◌⊎◌, arith, pointwise, list_any, slice_get, map-append, length-map, nat_tests, LeafType, PathStep, Name, At, Dim, Tree, Single, Record, Array, Fields, End, Field, tree_of, Leaf, under, leaves_of, leaves, paths_of, names_of, has_twice, shares_name, records_of, records_below, first_fault, node_at, node_in, LeadsTo, same_text, text_self}
+use Rattle.record_dim.proofs.Imports.{◌≡◌, ℕ, suc, zero, ◌+◌, ◌<◌, Bool, true, false, cond, ◌||◌, nat_eq, nat_lt, Some, None, List, [], ◌∷◌, ◌++◌, length, map, refl, sym, ap, ◌∙◌, subst, inl, inr, ◌⊎◌, arith, pointwise, list_any, slice_get, map-append, length-map, nat_tests, LeafType, PathStep, Name, At, Dim, Tree, Single, Record, Array, Fields, End, Field, tree_of, Leaf, under, leaves_of, leaves, paths_of, names_of, has_twice, shares_name, records_of, records_below, first_fault, node_at, node_in, LeadsTo, same_text, text_self, or_right, cases_Bool, or_parts}
 use Rattle.std.proofs.Common.{append-nil}
 use Rattle.record_dim.specs.declared.dim.Dim.TheVariants as dim
 use Rattle.record_dim.proofs.Lookup.{leaves-suc}
-use Rattle.record_dim.proofs.Fit.{neither, none_of_both, fit_from}
+use Rattle.record_dim.proofs.Fit.{none_of_both, fit_from}
 
 -- the paths of the leaves of a tree
 abbrev pub paths_at : Tree → List (List PathStep)
@@ -76,15 +76,11 @@ pub record InField (fields : Fields) (path : List PathStep) : Type 0 where
   pub step : path ≡ Name name ∷ rest
   pub named : list_any (pointwise nat_eq name) (names_of fields) ≡ true
 
-or_true : (a b : Bool) → b ≡ true → (a || b) ≡ true
-or_true true b h = refl
-or_true false b h = h
-
 field_first : (own : List ℕ) (held : Tree) (rest : Fields) (path q : List PathStep) → Name own ∷ q ≡ path → InField (Field own held rest) path
 field_first own held rest path q e = record { name = own; rest = q; step = sym e; named = ap (λ b. b || list_any (pointwise nat_eq own) (names_of rest)) (text_self own) }
 
 field_later : (own : List ℕ) (held : Tree) (rest : Fields) (path : List PathStep) → InField rest path → InField (Field own held rest) path
-field_later own held rest path f = record { name = f.name; rest = f.rest; step = f.step; named = or_true (pointwise nat_eq f.name own) _ f.named }
+field_later own held rest path f = record { name = f.name; rest = f.rest; step = f.step; named = or_right (pointwise nat_eq f.name own) _ f.named }
 
 field_either : (own : List ℕ) (held : Tree) (rest : Fields) (path : List PathStep) (i : ℕ) → ((k : ℕ) → slice_get (paths_of rest) k ≡ Some path → InField rest path) →
     InEither (up (Name own) (paths_at held)) (paths_of rest) i path → InField (Field own held rest) path
@@ -152,14 +148,14 @@ mutual
   pub apart_tree : (tree : Tree) → list_any shares_name (records_of tree) ≡ false → IsApart (paths_at tree)
   apart_tree (Single kind) fine = λ x i j hi hj. apart_one [] x i j hi hj
   apart_tree (Record fields) fine =
-      let both = neither (has_twice (names_of fields)) (list_any shares_name (records_below fields)) fine in
+      let both = or_parts (has_twice (names_of fields)) (list_any shares_name (records_below fields)) fine in
       apart_fields fields both.0 both.1
   apart_tree (Array len element) fine = apart_array len element (apart_tree element fine)
 
   pub apart_fields : (fields : Fields) → has_twice (names_of fields) ≡ false → list_any shares_name (records_below fields) ≡ false → IsApart (paths_of fields)
   apart_fields End own below = λ x i j hi hj. cc
   apart_fields (Field name held rest) own below =
-      let names = neither (list_any (pointwise nat_eq name) (names_of rest)) (has_twice (names_of rest)) own in
+      let names = or_parts (list_any (pointwise nat_eq name) (names_of rest)) (has_twice (names_of rest)) own in
       let records = none_of_both shares_name (records_of held) (records_below rest) below in
       apart_field name held rest names.0 (apart_tree held records.0) (apart_fields rest names.1 records.1)
 
@@ -178,10 +174,6 @@ leads_element len element inner path f =
     let below : nat_lt f.number len ≡ true = grind (arith, nat_tests, f.below) in
     (leaf.0, ap (node_at (Array len element)) f.step ∙ ap (λ b. cond b (node_at element f.rest) None) below ∙ leaf.1)
 
-true_or_false : (b : Bool) → (b ≡ true) ⊎ (b ≡ false)
-true_or_false true = inl refl
-true_or_false false = inr refl
-
 -- another field's name is another
 other_name : (own : List ℕ) (rest : Fields) (name : List ℕ) → list_any (pointwise nat_eq own) (names_of rest) ≡ false → list_any (pointwise nat_eq name) (names_of rest) ≡ true →
     (pointwise nat_eq own name ≡ true) ⊎ (pointwise nat_eq own name ≡ false) → pointwise nat_eq own name ≡ false
@@ -194,7 +186,7 @@ other_name own rest name fresh named (inr e) = e
 leads_later : (own : List ℕ) (held : Tree) (rest : Fields) (path : List PathStep) → list_any (pointwise nat_eq own) (names_of rest) ≡ false → InField rest path → IsLeafAt (Record rest) path →
     IsLeafAt (Record (Field own held rest)) path
 leads_later own held rest path fresh f leaf =
-    let other = other_name own rest f.name fresh f.named (true_or_false (pointwise nat_eq own f.name)) in
+    let other = other_name own rest f.name fresh f.named (cases_Bool (pointwise nat_eq own f.name)) in
     let there : node_in rest f.name f.rest ≡ Some (Single leaf.0) = sym (ap (node_at (Record rest)) f.step) ∙ leaf.1 in
     (leaf.0, ap (node_at (Record (Field own held rest))) f.step ∙ ap (λ b. cond b (node_at held f.rest) (node_in rest f.name f.rest)) other ∙ there)
 
@@ -213,7 +205,7 @@ mutual
   pub leads_tree : (tree : Tree) → list_any shares_name (records_of tree) ≡ false → (path : List PathStep) (i : ℕ) → slice_get (paths_at tree) i ≡ Some path → IsLeafAt tree path
   leads_tree (Single kind) fine = leads_one kind
   leads_tree (Record fields) fine =
-      let both = neither (has_twice (names_of fields)) (list_any shares_name (records_below fields)) fine in
+      let both = or_parts (has_twice (names_of fields)) (list_any shares_name (records_below fields)) fine in
       leads_fields fields both.0 both.1
   leads_tree (Array len element) fine = λ path i h. leads_element len element (leads_tree element fine) path (in_element len element path i h)
 
@@ -221,7 +213,7 @@ mutual
       (path : List PathStep) (i : ℕ) → slice_get (paths_of fields) i ≡ Some path → IsLeafAt (Record fields) path
   leads_fields End own below = λ path i h. cc
   leads_fields (Field name held rest) own below =
-      let names = neither (list_any (pointwise nat_eq name) (names_of rest)) (has_twice (names_of rest)) own in
+      let names = or_parts (list_any (pointwise nat_eq name) (names_of rest)) (has_twice (names_of rest)) own in
       let records = none_of_both shares_name (records_of held) (records_below rest) below in
       λ path i h. leads_either name held rest names.0 (leads_tree held records.0) (leads_fields rest names.1 records.1) path i (in_either _ _ i path (rw paths_field at h))
 

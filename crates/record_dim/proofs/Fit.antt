@@ -1,14 +1,10 @@
 -- A record that is fit has a leaf, and not too many.
-use Rattle.record_dim.proofs.Imports.{◌≡◌, ℕ, ◌*◌, ◌≤◌, Bool, true, false, cond, ◌||◌, nat_eq, nat_lt, Option, Some, None, List, ◌++◌, length, refl, sym, ◌∙◌, arith, list_any, nat_tests, list_any-append, Tree, Single, Record, Array, Fields, End, Field, leaves_of, leaves, depth_of, records_of, records_below, lengths_of, lengths_below, is_empty_record, shares_name, first_fault}
+use Rattle.record_dim.proofs.Imports.{◌≡◌, ℕ, ◌*◌, ◌≤◌, Bool, true, false, cond, ◌||◌, nat_eq, nat_lt, Option, Some, None, List, ◌++◌, length, refl, sym, ◌∙◌, arith, list_any, nat_tests, list_any-append, Tree, Single, Record, Array, Fields, End, Field, leaves_of, leaves, depth_of, records_of, records_below, lengths_of, lengths_below, is_empty_record, shares_name, first_fault, or_parts}
 use Rattle.record_dim.proofs.Walks.{length-leaves, length-leaves_of_array}
-
-pub neither : (a b : Bool) → (a || b) ≡ false → (a ≡ false) × (b ≡ false)
-neither true b e = cc
-neither false b e = (refl, e)
 
 -- none in the whole: none in either part
 pub none_of_both : {X : Type 0} (p : X → Bool) (xs ys : List X) → list_any p (xs ++ ys) ≡ false → (list_any p xs ≡ false) × (list_any p ys ≡ false)
-none_of_both p xs ys h = neither (list_any p xs) (list_any p ys) (sym (list_any-append p xs ys) ∙ h)
+none_of_both p xs ys h = or_parts (list_any p xs) (list_any p ys) (sym (list_any-append p xs ys) ∙ h)
 
 some_times : (n m : ℕ) → 1 ≤ n → 1 ≤ m → 1 ≤ n * m
 some_times n m hn hm = grind arith
@@ -24,7 +20,7 @@ some_leaf (Record (Field name held rest)) full filled =
     let l = length-leaves name held rest in
     omega arith
 some_leaf (Array len element) full filled =
-    let both = neither (nat_eq 0 len) (list_any (nat_eq 0) (lengths_of element)) filled in
+    let both = or_parts (nat_eq 0 len) (list_any (nat_eq 0) (lengths_of element)) filled in
     let h : 1 ≤ length (leaves_of element) = some_leaf element full both.1 in
     let l : 1 ≤ len = grind (arith, nat_tests) in
     let e = length-leaves_of_array len element in

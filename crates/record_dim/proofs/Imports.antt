@@ -7,7 +7,7 @@ pub use Rattle.std.proofs.lemmas.Bool.Decides.{nat_tests}
 pub use Rattle.std.proofs.lemmas.List.Folds.{list_any-append}
 pub use Rattle.std.proofs.lemmas.List.FromFn.{map-range_with_len_more, length-range_with_len}
 pub use Rattle.std.proofs.lemmas.Grind.{flat_map-append}
-pub use Rattle.std.proofs.lemmas.Bool.{cases_lt}
+pub use Rattle.std.proofs.lemmas.Bool.{cases_lt, or_right, cases_Bool, or_parts}
 pub use Rattle.std.specs.Ordering.{nat_cmp}
 pub use Rattle.std.specs.BTreeMap.{is_at}
 pub use Rattle.std.proofs.Math.Nat.{mul_comm, zero-mul}

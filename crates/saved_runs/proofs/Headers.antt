@@ -1,5 +1,5 @@
 -- Lines that say the header of a table.
-use Rattle.saved_runs.proofs.Imports.{◌≡◌, ℕ, zero, suc, ◌+◌, ◌^◌, ◌<◌, ◌≤◌, Bool, true, false, not, ◌&&◌, List, [], ◌∷◌, ◌++◌, length, map, codes, nat_lt, Some, Result, Ok, Err, inr, refl, sym, ap, subst, append-nil, append_assoc, arith, ◌||◌, lt-ltb, ltb-false, Behind, IsNothing, Chain, Repeats, AreSpelled, joined, OpenBracket, CloseBracket, Colon, Comma, Fields, Record, Fixed, MapTerm, Aos, Soa, Aosoa, BitAos, BitSoa, Split, Byteswap, Bytesplit, Change, Counted, Heated, Named, depth_of, checked, has_counter, counts_once, bad_number, answered, accepted, else_for, bad_side, bad_field, not_full, Cell, Token, Word, Sign, Two, name_of, count_of, command_of, Sentence, New, Define, View, Phrase, IsName, IsCount, IsMore, IsListed, IsFixed, IsMode, IsNew, IsBody, IsCommand, IsLine, IsBracketList, count_token, written, IsSpelled, Each, fits_more, fits_flat, one_fits, word_spelled, fits_alone, decimal_spells, joined_reads, Header, is_wrap, view_line, HasLine}
+use Rattle.saved_runs.proofs.Imports.{◌≡◌, ℕ, zero, suc, ◌+◌, ◌^◌, ◌<◌, ◌≤◌, Bool, true, false, not, ◌&&◌, List, [], ◌∷◌, ◌++◌, length, map, codes, nat_lt, Some, Result, Ok, Err, inr, refl, sym, ap, subst, append-nil, append_assoc, arith, ◌||◌, lt-ltb, ltb-false, Behind, IsNothing, Chain, Repeats, AreSpelled, joined, OpenBracket, CloseBracket, Colon, Comma, Fields, Record, Fixed, MapTerm, Aos, Soa, Aosoa, BitAos, BitSoa, Split, Byteswap, Bytesplit, Change, Counted, Heated, Named, depth_of, checked, has_counter, counts_once, bad_number, answered, accepted, else_for, bad_side, bad_field, not_full, Cell, Token, Word, Sign, Two, name_of, count_of, command_of, Sentence, New, Define, View, Phrase, IsName, IsCount, IsMore, IsListed, IsFixed, IsMode, IsNew, IsBody, IsCommand, IsLine, IsBracketList, count_token, written, IsSpelled, Each, fits_more, fits_flat, one_fits, word_spelled, fits_alone, decimal_spells, joined_reads, Header, is_wrap, view_line, HasLine, or_parts, not-true}
 use Rattle.std.specs.Prelude.{if◌then◌else◌}
 use Rattle.map_expr.specs.declared.check.BadMapping.{BadMapping}
 use Rattle.map_expr.specs.declared.check.BadMapping.TheVariants as bad
@@ -14,21 +14,13 @@ abbrev one_if : Bool → ℕ
 one_if true = 1
 one_if false = 0
 
-or_false : (a b : Bool) → (a || b) ≡ false → (a ≡ false) × (b ≡ false)
-or_false false b is = (refl, is)
-or_false true b is = absurd (cc is)
-
 and_true : (a b : Bool) → (a && b) ≡ true → (a ≡ true) × (b ≡ true)
 and_true true b is = (refl, is)
 and_true false b is = absurd (cc is)
 
-not_true : (a : Bool) → not a ≡ true → a ≡ false
-not_true false is = refl
-not_true true is = absurd (cc is)
-
 uncounted_low : (term : MapTerm) → has_counter term ≡ false → height term ≤ depth_of term
 uncounted_low (Split path first rest) none =
-    let parts = or_false (has_counter first) (has_counter rest) none in
+    let parts = or_parts (has_counter first) (has_counter rest) none in
     omega (arith, uncounted_low first parts.0, uncounted_low rest parts.1)
 uncounted_low (Byteswap inner) none = omega (arith, uncounted_low inner none)
 uncounted_low (Bytesplit inner) none = omega (arith, uncounted_low inner none)
@@ -49,10 +41,10 @@ counted_low count heat (Heated granule inner) once =
     let below = counted_low count false inner parts.1 in
     let one : one_if heat ≡ 1 = ap one_if parts.0 in
     omega (arith, below, one)
-counted_low count heat (Split path first rest) once = omega (arith, uncounted_low (Split path first rest) (not_true _ once))
-counted_low count heat (Byteswap inner) once = omega (arith, uncounted_low (Byteswap inner) (not_true _ once))
-counted_low count heat (Bytesplit inner) once = omega (arith, uncounted_low (Bytesplit inner) (not_true _ once))
-counted_low count heat (Change from to inner) once = omega (arith, uncounted_low (Change from to inner) (not_true _ once))
+counted_low count heat (Split path first rest) once = omega (arith, uncounted_low (Split path first rest) (not-true _ once))
+counted_low count heat (Byteswap inner) once = omega (arith, uncounted_low (Byteswap inner) (not-true _ once))
+counted_low count heat (Bytesplit inner) once = omega (arith, uncounted_low (Bytesplit inner) (not-true _ once))
+counted_low count heat (Change from to inner) once = omega (arith, uncounted_low (Change from to inner) (not-true _ once))
 counted_low count heat other once = omega arith
 
 checked_low : (term : MapTerm) → checked term ≡ Ok tt → height term ≤ 10

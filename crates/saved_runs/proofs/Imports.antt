@@ -5,7 +5,7 @@ pub use Rattle.std.specs.Option.{option_or, option_map_or}
 pub use Rattle.std.proofs.lemmas.List.{length-map, drop_all}
 pub use Rattle.std.proofs.Math.Seq.{take-length}
 pub use Rattle.std.specs.Prelude.{◌||◌, ◌==◌, count_by, unwrap_or, is_some, sum_by, MatchResult, IfSome, nat_le}
-pub use Rattle.std.proofs.lemmas.Bool.{le-ltb, ltb-false, lt-ltb, ltb-true, lt-leb, cases_eq, false≢true, and_from}
+pub use Rattle.std.proofs.lemmas.Bool.{le-ltb, ltb-false, lt-ltb, ltb-true, lt-leb, cases_eq, false≢true, and_from, or_parts, not-true}
 pub use Rattle.std.proofs.lemmas.Bool.Decides.{nat_tests}
 pub use Rattle.std.proofs.Math.Nat.{mul-le-mul_left, le-max_left, le-max_right}
 pub use Rattle.std.proofs.lemmas.List.Sums.{sum_by-cons}

@@ -11,7 +11,7 @@ pub use Rattle.std.specs.Simd.Lanes.{Each1}
 pub use Rattle.std.proofs.lemmas.List.FromFn.{map-range_with_len_more, length-enumerate_from, get_or-enumerate_from, length-range_with_len}
 pub use Rattle.std.specs.Prelude.{IfSome, count_by, if◌then◌else◌, ◌==◌, OnOk, ⊤, IsSomeAnd, slice_set}
 pub use Rattle.std.proofs.lemmas.List.Folds.{fold-map}
-pub use Rattle.std.proofs.lemmas.Bool.{cases_eq, cases_lt, cases_Bool, or_right, lt-leb, le-leb, or_left, eq-eqb}
+pub use Rattle.std.proofs.lemmas.Bool.{cases_eq, cases_lt, cases_Bool, or_right, lt-leb, le-leb, or_left, eq-eqb, or_cases}
 pub use Rattle.std.proofs.lemmas.Nat.{pow_pos, div-add-mod', mod-mul-add, mod_below, row_fits, le-div, mul-le}
 pub use Rattle.std.proofs.Math.Nat.{mul-mod_left}
 pub use Rattle.std.proofs.Math.Facts.{Fits-of_z}

@@ -1,5 +1,5 @@
 -- A leaf in a row that is read by one load of eight bytes.
-use Rattle.views.proofs.Imports.{◌≡◌, ℕ, ◌+◌, ◌*◌, ◌/◌, ◌<◌, ◌≤◌, Bool, true, false, ◌||◌, nat_eq, ◌⊎◌, inl, inr, ⊎_elim, List, [], length, get_or, refl, sym, ap, ◌∙◌, arith, cases_lt, get_or_past, number, decoded, number_same, Owner, bit_of, turned_place, IsTurned, AreLaid, word_place, word_signed, word_width, Field, Word, leads, walks_plain, walks_in_blocks, is_turned_width, IsAsWhole, IsAsTurned, IsWide, ShortRule, Walk, Wide}
+use Rattle.views.proofs.Imports.{◌≡◌, ℕ, ◌+◌, ◌*◌, ◌/◌, ◌<◌, ◌≤◌, Bool, true, false, ◌||◌, nat_eq, ◌⊎◌, inl, inr, ⊎_elim, List, [], length, get_or, refl, sym, ap, ◌∙◌, arith, cases_lt, get_or_past, number, decoded, number_same, Owner, bit_of, turned_place, IsTurned, AreLaid, word_place, word_signed, word_width, Field, Word, leads, walks_plain, walks_in_blocks, is_turned_width, IsAsWhole, IsAsTurned, IsWide, ShortRule, Walk, Wide, or_cases}
 use Rattle.piece_bits.specs.declared.word.Word.TheVariants as stored
 use Rattle.piece_bits.specs.declared.walk.Walk.TheVariants as walk
 
@@ -72,17 +72,12 @@ said_field word field bytes start is =
 pub field_alone : (word : Word) → word ≡ stored.Field → word ≡ stored.Scattered → ⊥
 field_alone word is other = let none : stored.Field ≡ stored.Scattered = sym is ∙ other in cc
 
--- a width of turned bytes
-either : (a b : Bool) → (a || b) ≡ true → (a ≡ true) ⊎ (b ≡ true)
-either true b e = inl refl
-either false b e = inr e
-
 pub turned_is : (n : ℕ) → is_turned_width n ≡ true → IsTurned n
 turned_is n e =
     ⊎_elim (λ (two : nat_eq n 16 ≡ true). inl (same n 16 two))
     (λ others. ⊎_elim (λ (four : nat_eq n 32 ≡ true). inr (inl (same n 32 four))) (λ (eight : nat_eq n 64 ≡ true). inr (inr (same n 64 eight)))
-    (either (nat_eq n 32) (nat_eq n 64) others))
-    (either (nat_eq n 16) (nat_eq n 32 || nat_eq n 64) e)
+    (or_cases (nat_eq n 32) (nat_eq n 64) others))
+    (or_cases (nat_eq n 16) (nat_eq n 32 || nat_eq n 64) e)
   where
     same : (n m : ℕ) → nat_eq n m ≡ true → n ≡ m
     same n m e = grind arith

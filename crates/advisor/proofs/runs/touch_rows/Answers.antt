@@ -1,6 +1,6 @@
-use Rattle.advisor.proofs.Imports.{◌≡◌, ◌+◌, ◌≤◌, true, Bool, ℕ, List, All, sym, ap, ◌∙◌, subst, arith, ◌||◌, heat_counts, IsInside, piece_in, PieceRule, has_row, are_slots_touched, are_rows_touched, IsWarmed}
+use Rattle.advisor.proofs.Imports.{◌≡◌, ◌+◌, ◌≤◌, true, Bool, ℕ, List, All, sym, ap, ◌∙◌, subst, arith, ◌||◌, heat_counts, IsInside, piece_in, PieceRule, has_row, are_slots_touched, are_rows_touched, IsWarmed, or-false}
 use Rattle.instrument.specs.declared.heat.Heat.{Heat}
-use Rattle.advisor.proofs.SteadyLaws.{rows_more, or_false}
+use Rattle.advisor.proofs.SteadyLaws.{rows_more}
 use Rattle.advisor.proofs.SweepLaws.{run_of_rows, run_of_none}
 use Rattle.advisor.proofs.WarmLaws.{warmed_inside, warmed_more, warmed_alike}
 use Rattle.advisor.proofs.runs.touch_rows.Goals as goal
@@ -44,6 +44,6 @@ loop-slot-preserved c =
             sym (rows_more granule rule.order extents pieces slot count blob at
             ∙ ap (λ (hot : Bool). rows 0 slot blob at || hot)
             (run_of_none granule rule.order extents pieces slot count blob at (λ k l. c.run_from-run.ensures.rows k l ∙ w.if-run.false))
-            ∙ or_false (rows 0 slot blob at))));
+            ∙ or-false (rows 0 slot blob at))));
       }
     ]

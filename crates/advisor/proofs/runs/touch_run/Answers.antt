@@ -1,6 +1,6 @@
-use Rattle.advisor.proofs.Imports.{◌≡◌, ◌+◌, ◌-◌, ◌∷◌, ◌++◌, [], ℕ, List, slice_index_or, All, sym, ap, ◌∙◌, subst, arith, Piece, is_in_granule, HeatCounts, heat_counts, heated_by, inside-counted, is_run_touched, long_piece, IsWarmed}
+use Rattle.advisor.proofs.Imports.{◌≡◌, ◌+◌, ◌-◌, ◌∷◌, ◌++◌, [], ℕ, List, slice_index_or, All, sym, ap, ◌∙◌, subst, arith, Piece, is_in_granule, HeatCounts, heat_counts, heated_by, inside-counted, is_run_touched, long_piece, IsWarmed, or-false}
 use Rattle.instrument.specs.Counters.{IsCounted}
-use Rattle.advisor.proofs.SteadyLaws.{long_ends, long_fits, long_is, long_inside, long_touches, or_false}
+use Rattle.advisor.proofs.SteadyLaws.{long_ends, long_fits, long_is, long_inside, long_touches}
 use Rattle.advisor.proofs.WarmLaws.{heated_warmed, warmed_alike}
 use Rattle.advisor.proofs.runs.touch_run.Goals as goal
 
@@ -46,4 +46,4 @@ returns c =
     let first = c.requires.inside (count - 1) (omega (arith, c.requires.some)) in
     subst (λ (h : HeatCounts). IsWarmed heat h (is_run_touched heat.granule rule start count)) (sym after)
     (warmed_alike (heated_warmed (long ∷ []) heat) (λ blob at.
-    or_false (is_in_granule heat.granule blob at long) ∙ long_touches heat.granule rule start count c.args.heat.now.some c.requires.steady c.requires.some first.some blob at))
+    or-false (is_in_granule heat.granule blob at long) ∙ long_touches heat.granule rule start count c.args.heat.now.some c.requires.steady c.requires.some first.some blob at))
