@@ -51,12 +51,11 @@ def tables_of(lines):
 
 
 def layout_of(rows):
-    leaves, blobs = [], {}
+    numbers, blobs = {}, {}
     for blob, _, bits, _, leaf, _ in rows:
-        if leaf not in (*leaves, '-'):
-            leaves.append(leaf)
-        blobs.setdefault(int(blob), []).extend([None if leaf == '-' else leaves.index(leaf)] * int(bits))
-    return Layout(leaves, blobs)
+        number = None if leaf == '-' else numbers.setdefault(leaf, len(numbers))
+        blobs.setdefault(int(blob), []).extend([number] * int(bits))
+    return Layout(list(numbers), blobs)
 
 
 def heat_of(rows):
