@@ -20,7 +20,7 @@ returns-clause-stored g c =
     OnOk c.store_values.result (c.store_values.new.self ≡ after_stores old (with_column c.args.leaf c.args.row (map (kept_of old c.args.leaf) values) old.rows) (column_writes c.args.leaf c.args.row count)) in
     let many : length c.args.values ≡ 16 = search rules in
     first_lanes P (map (to_z w64) (map (of_z w64) c.args.values)) (map low_64 c.args.values) c.args.lanes (lows c.args.values)
-    (omega (arith, many, length-map low_64 c.args.values)) c.store_values.ensures.stored
+    (omega (arith, many, length-map c.args.values low_64)) c.store_values.ensures.stored
 
 pub returns-clause-named : goal.returns-clause-named
 returns-clause-named g c =
