@@ -1,14 +1,15 @@
 -- What the proofs of this crate speak of.
 pub use Rattle.std.proofs.Common.{◌≡◌, ℕ, ◌+◌, ◌*◌, ◌/◌, ◌%◌, ◌<◌, ◌≤◌, List, [], ◌∷◌, ◌++◌, length, map, get_or, drop, take, All, refl, sym, ap, ◌∙◌, subst, arith, Bool, true, false, zero, suc, ℤ, pos, Result, Ok, Err, is_ok, ◌-◌, Option, Some, None, ⊎_elim, append_assoc, length-append, negsuc, ◌≤ℤ◌, ◌^◌, ltb, w64, FitsSigned, nat_lt, is_none, inl, inr, IsErr, rules, take_all, to_z, of_z, SFits}
-pub use Rattle.std.specs.Prelude.{sum_by, nat_eq, if◌then◌else◌, ◌==◌, option_map, ◌⊎◌, codes, MatchResult, not, ◌&&◌, ◌||◌, count_by, cond, IfOk, IfErr, OnOk, nat_le, int_le}
+pub use Rattle.std.specs.Prelude.{sum_by, nat_eq, if◌then◌else◌, ◌==◌, option_map, ◌⊎◌, codes, MatchResult, not, ◌&&◌, ◌||◌, count_by, cond, bytes_eq, IfOk, IfErr, OnOk, nat_le, int_le}
 pub use Rattle.std.proofs.lemmas.List.{length-map, length-drop, get_or-map, append-nil, drop_all, take_at, drop_at, take-append-drop, length-take-le, drop_more, take_rest, nil_from_length, ext_get_or, length-replicate, get_or_past, get_or_default}
 pub use Rattle.std.specs.Bool.{Decides}
-pub use Rattle.std.specs.List.{list_all, flat_map, range_with_len, enumerate_from, list_any}
+pub use Rattle.std.specs.List.{AllPass, list_all, flat_map, range_with_len, enumerate_from, list_any}
 pub use Rattle.std.specs.Cmp.Lexicographic.{pointwise}
 pub use Rattle.std.proofs.lemmas.Bool.{and_parts, and_from, cases_eq, eq-eqb, ne_eqb, cases_lt, le-ltb, false_from_ne_true, not-true, eqb-true, and_left, and_right, leb-true, le-leb, lt-leb}
-pub use Rattle.std.proofs.lemmas.Bool.Decides.{Decides-eqb, Decides-and, Decides-or, Decides-not, Decides-like, Decides-ltb}
+pub use Rattle.std.proofs.lemmas.Bool.Decides.{nat_tests, Decides-eqb, Decides-and, Decides-or, Decides-not, Decides-like, Decides-ltb}
 pub use Rattle.std.proofs.lemmas.Slice.Eq.{slice_eq-Decides, bytes_eq-Decides}
-pub use Rattle.std.proofs.lemmas.List.Sums.{sum_by-cons}
+pub use Rattle.std.proofs.lemmas.List.Sums.{sum_by-cons, AllPass-from_list_all}
+pub use Rattle.std.proofs.lemmas.List.Folds.{list_all-append}
 pub use Rattle.std.proofs.Math.Pow.{pow_mono}
 pub use Rattle.std.proofs.lemmas.Int.{ints, to_z_pos, to_z-of_z}
 pub use Rattle.std.proofs.lemmas.List.Concat.{flat_map-cons}
@@ -21,7 +22,9 @@ pub use Rattle.piece_bits.specs.Tables.{AreSized, HasShape, hold_at, table_in, z
 pub use Rattle.views.specs.Tallies.{blob_lengths, Access, Write, row_accesses, all_accesses, Tally, tallied, no_tally, granules_for}
 pub use Rattle.record_dim.specs.declared.leaf_type.LeafType.{LeafType}
 pub use Rattle.record_dim.specs.LeafTypes.{least_of, greatest_of, least_in, greatest_in, IsIn, is_signed, IsDeclared}
-pub use Rattle.record_dim.specs.Leaves.{Leaf, leaves, kinds_of, first_fault}
+pub use Rattle.record_dim.specs.Leaves.{Leaf, leaves, kinds_of, first_fault, records_of, records_below, lengths_of, lengths_below, names_of, has_names}
+pub use Rattle.record_dim.specs.Names.{is_word, is_name, begins_name, continues_name}
+pub use Rattle.record_dim.specs.declared.path.PathStep.{PathStep}
 pub use Rattle.places.specs.declared.piece.Hold.{Hold}
 pub use Rattle.places.specs.Laws.{IsLaidOut}
 pub use Rattle.places.specs.CellWidthsLaws.{width_at}
@@ -44,6 +47,15 @@ pub use Rattle.views.specs.declared.fault.StoreFault.TheVariants.{Range, Narrow}
 pub use Rattle.views.specs.Stores.{Answer, is_between, store_answer, kept_or, kept_row, kept_rows, Keeping, AllStay, told}
 pub use Rattle.views.specs.StrictLaws.{stored_fits, fitting_stored, between_true}
 pub use Rattle.line_tokens.specs.Ends.{NoEnd}
+pub use Rattle.line_tokens.specs.EndLaws.{no_end_append, joined_no_end}
+pub use Rattle.line_tokens.specs.Bytes.{is_blank, is_word_byte}
+pub use Rattle.line_tokens.specs.Next.{next_of}
+pub use Rattle.line_tokens.specs.Spelled.{Spells, HasRoom, spaced, joined as tokens_joined}
+pub use Rattle.line_tokens.specs.SpelledLaws.{IsParted, next_spelled}
+pub use Rattle.line_tokens.specs.declared.token.Next.TheVariants.{Token as Found}
+pub use Rattle.line_tokens.specs.declared.token.TokenKind.{TokenKind}
+pub use Rattle.line_tokens.specs.declared.sign.Sign.{Sign as SignName}
+pub use Rattle.line_tokens.specs.declared.sign.Sign.TheVariants.{OpenBrace, CloseBrace, OpenBracket, CloseBracket, CloseParen, Colon, Comma, Dot, Arrow}
 pub use Rattle.layout_io.specs.Writing.{joined, Wrote, Stopped, Writes}
 pub use Rattle.extents.specs.Indices.{indices}
 pub use Rattle.map_any.specs.AnyLaws.{length-leaf_cells}
@@ -54,7 +66,7 @@ pub use Rattle.views.specs.Runs.{raised, AreRowsMoved, CountsNothing, run_steps}
 pub use Rattle.views.specs.RunsLaws.{run_entry, run_length, AreBefore, raised_low, run_more, no_leaf_moved, leaf_moved}
 pub use Rattle.views.specs.Tables.{Table, IsTable, answer_of, kept_of, leaf_count_of, leaf_type_of, leaf_types_of, owners_of, table_holds, after_stores, blob_bits_of}
 pub use Rattle.views.specs.TallyLaws.{after_stores-append, logs_more, after_log-none}
-pub use Rattle.record_dim.specs.Trees.{Fields, Tree, Single, Record, Array, tree_of, IsRecord}
+pub use Rattle.record_dim.specs.Trees.{Fields, End, Field as More, Tree, Single, Record, Array, tree_of, IsRecord}
 pub use Rattle.line_grammar.specs.Sentences.{New, Define, View, sentence_of, Sentence, Blank, Mapping, Load, Assign, Update, Actors, Kernel, Reduce, Count, Copy, Relayout, Show, Drop, Bytes, Save, Open, Advise, PrintWindow, Stencil, deepest}
 pub use Rattle.extents.specs.declared.words.ExtentWord.{ExtentWord}
 pub use Rattle.record_dim.specs.declared.dim.Dim.{Dim}
@@ -63,7 +75,21 @@ pub use Rattle.line_grammar.specs.declared.line.Line.{Line}
 pub use Rattle.line_grammar.specs.Reads.{Reads, StopsAt, tokens_of}
 pub use Rattle.line_grammar.specs.declared.version.Version.{Version}
 pub use Rattle.line_grammar.specs.declared.version.Version.TheVariants.{Two}
-pub use Rattle.line_writer.specs.Texts.{canonical}
+unfoldable pub use Rattle.line_writer.specs.Texts.{canonical}
+pub use Rattle.line_writer.specs.Texts.{written}
+pub use Rattle.line_writer.specs.Canonical.{line_tokens, core_tokens, dims_tokens, fields_tokens, later_tokens, bracket_list, with_commas, extent_tokens, flag_tokens, count_token, path_tokens, step_tokens, form_tokens, bits_tokens, width_tokens, widths_tokens, map_tokens}
+pub use Rattle.line_writer.proofs.Gives.{Each, each_append}
+pub use Rattle.line_writer.proofs.ReadsBack.{decimal_spells}
+pub use Rattle.line_grammar.specs.declared.token.Token.{Token}
+pub use Rattle.line_grammar.specs.declared.token.Token.TheVariants.{Word, Number, Text, Sign, Bad as BadToken}
+pub use Rattle.line_grammar.specs.declared.line.MapWord.{MapWord}
+pub use Rattle.line_grammar.specs.Tokens.{kind_token, listed, leaf_types, orders, aos_forms, soa_forms, map_word}
+pub use Rattle.line_grammar.specs.Words.{type_word, order_word, aos_word, soa_word}
+pub use Rattle.extents.specs.declared.order.Order.{Order}
+pub use Rattle.extents.specs.declared.order.Order.TheVariants.{Row}
+pub use Rattle.places.specs.declared.forms.AosForm.{AosForm}
+pub use Rattle.places.specs.declared.forms.SoaForm.{SoaForm}
+pub use Rattle.map_expr.specs.declared.widths.FieldWidth.{FieldWidth}
 pub use Rattle.schema_lang.specs.LineOf.{line_of, IsTold}
 pub use Rattle.extents.specs.declared.words.ExtentWord.TheVariants.{Fixed, Rows}
 pub use Rattle.extents.specs.Shapes.{extent_of, is_rows, bad_shape, bad_extents, extents_for, HasRows}
@@ -73,7 +99,7 @@ pub use Rattle.instrument.specs.BlobTextsLaws.{length-bytes_of, bytes_of_bits}
 pub use Rattle.places.specs.declared.piece.Cell.{Cell}
 pub use Rattle.map_expr.specs.declared.check.BadMapping.{BadMapping}
 pub use Rattle.map_expr.specs.declared.check.BadMapping.TheVariants.{TooDeep, Counter, Side, Field, NotFull}
-pub use Rattle.map_expr.specs.Terms.{Term, term_of}
+pub use Rattle.map_expr.specs.Terms.{Term, term_of, Aos, Soa, Aosoa, BitAos, BitSoa, Split, Byteswap, Bytesplit, Change, Count as Counted, Heat as Heated, Named}
 pub use Rattle.map_expr.specs.Checks.{checked, answered, bad_number}
 pub use Rattle.map_checks.specs.TermLaws.{term_laws, good_numbers, length-holds}
 pub use Rattle.views.specs.Refusals.{IsOver}
@@ -101,7 +127,7 @@ pub use Rattle.blob_file.specs.Filling.{kept_run, run_writes, AreFitting, AreTak
 pub use Rattle.blob_file.specs.Saving.{header_of, blobs_of, head_of}
 pub use Rattle.blob_file.specs.Parts.{fields_in, new_in, header_in, header_by}
 pub use Rattle.blob_file.specs.declared.header.ShownView.{ShownView}
-pub use Rattle.blob_file.specs.Headers.{is_nameless, HasLine, HasLines, words_of, CanLie, is_over}
+pub use Rattle.blob_file.specs.Headers.{is_count, is_step, is_width, is_typed, IsTyped, is_nameless, HasLine, HasLines, words_of, CanLie, is_over}
 unfoldable pub use Rattle.blob_file.specs.Headers.{can_lie}
 pub use Rattle.blob_file.specs.HeaderLaws.{nameless_built}
 pub use Rattle.blob_file.specs.declared.header.FileHeader.{FileHeader}

@@ -1,6 +1,7 @@
 mod Blobs
 mod Contents
 mod Cuts
+mod Fields
 mod Filled
 mod Fills
 mod HeadReads
@@ -11,10 +12,13 @@ mod Imports
 mod Lawful
 mod Lies
 mod Made
+mod Maps
 mod OneFile
 mod Opens
 mod Parts
 mod Puts
 mod Refused
 mod SavedFile
+mod Tokens
 mod Told
+mod Typed

@@ -1,6 +1,10 @@
 -- No bytes are the files of two headers, nor of one with two lists of blobs.
-use Rattle.blob_file.proofs.Imports.{◌≡◌, ℕ, ◌/◌, ◌<◌, ◌≤◌, ◌^◌, ℤ, List, [], ◌∷◌, ◌++◌, length, map, refl, sym, ap, ◌∙◌, arith, length-append, codes, length-map, NoEnd, Sentence, New, Define, View, deepest, Reads, Version, Two, canonical, Fixed, StoreMode, Strict, Wrap, Owner, bit_held, image, Fields, Record, bytes_of, length-bytes_of, joined, blob_lengths, Header, magic, four_bytes, is_wrap, record_line, view_line, record_text, view_text, header_text, file_of, IsShort, owners_by, image_bytes, HasLine, OneFile}
+use Rattle.blob_file.proofs.Imports.{◌≡◌, ℕ, ◌/◌, ◌<◌, ◌≤◌, ◌^◌, ℤ, List, [], ◌∷◌, ◌++◌, length, map, refl, sym, ap, ◌∙◌, arith, length-append, codes, length-map, append-nil, true, NoEnd, Sentence, canonical, line_tokens, core_tokens, flag_tokens, map_tokens, bracket_list, extent_tokens, Token, Word, Each, Fixed, StoreMode, Strict, Wrap, Owner, bit_held, image, Record, bytes_of, length-bytes_of, joined, blob_lengths, Header, magic, four_bytes, is_wrap, record_line, view_line, record_text, view_text, header_text, file_of, IsShort, owners_by, image_bytes, is_nameless, IsTyped, OneFile}
 use Rattle.blob_file.proofs.Parts.{same_fronts, same_lines, same_numbers, same_blobs}
+use Rattle.blob_file.proofs.Tokens.{IsPlain, same_tokens, tokens_no_end}
+use Rattle.blob_file.proofs.Fields.{same_records}
+use Rattle.blob_file.proofs.Maps.{same_extents, same_flag, same_map}
+use Rattle.blob_file.proofs.Typed.{record_plain, view_plain}
 
 -- ---- the bytes of an image have the lengths of the layout
 
@@ -33,27 +37,23 @@ same_modes Strict Wrap e = absurd (cc)
 same_modes Wrap Strict e = absurd (cc)
 same_modes Wrap Wrap e = refl
 
--- ---- lines told apart
+-- ---- headers told apart
 
-same_define : (name : List ℕ) (fields others : Fields) → Define name (Record fields) ≡ Define name (Record others) → fields ≡ others
-same_define name fields others e = cc
-
-same_news : (new other : New) → View new ≡ View other → new ≡ other
-same_news new other e = cc
-
--- what makes the view of a header
-abbrev shown : Header → New
-shown header = record { name = codes "V"; schema = codes "R"; words = map Fixed header.extents; wrap = is_wrap header.mode; term = header.mapping }
-
--- the headers of two equal pairs of lines
-pub same_headers : (one other : Header) → record_line one ≡ record_line other → view_line one ≡ view_line other → one ≡ other
-same_headers one other records views =
-    let fields : one.fields ≡ other.fields = same_define (codes "R") one.fields other.fields records in
-    let new : shown one ≡ shown other = same_news (shown one) (shown other) views in
-    let extents : one.extents ≡ other.extents = same_words one.extents other.extents (ap (λ (n : New). n.words) new) in
-    let mode : one.mode ≡ other.mode = same_modes one.mode other.mode (ap (λ (n : New). n.wrap) new) in
-    let mapping : one.mapping ≡ other.mapping = ap (λ (n : New). n.term) new in
-    λ i. record { fields = fields i; extents = extents i; mode = mode i; mapping = mapping i }
+-- by the tokens of their lines
+pub same_headers : (one other : Header) → is_nameless one.mapping ≡ true → is_nameless other.mapping ≡ true → line_tokens (record_line one) ≡ line_tokens (record_line other)
+    → line_tokens (view_line one) ≡ line_tokens (view_line other) → one ≡ other
+same_headers one other plain bare records views =
+    let cores : core_tokens (Record one.fields) ++ [] ≡ core_tokens (Record other.fields) ++ [] = cc in
+    let fields : one.fields ≡ other.fields = same_records one.fields other.fields cores in
+    let front : List Token = flag_tokens (codes "wrap") (is_wrap one.mode) ++ Word (codes "as") ∷ map_tokens one.mapping in
+    let back : List Token = flag_tokens (codes "wrap") (is_wrap other.mode) ++ Word (codes "as") ∷ map_tokens other.mapping in
+    let lists : bracket_list (map extent_tokens (map Fixed one.extents)) ++ front ≡ bracket_list (map extent_tokens (map Fixed other.extents)) ++ back = cc in
+    let words = same_extents (map Fixed one.extents) (map Fixed other.extents) front back lists in
+    let flags = same_flag (is_wrap one.mode) (is_wrap other.mode) (map_tokens one.mapping) (map_tokens other.mapping) words.1 in
+    let maps = same_map one.mapping other.mapping [] [] plain bare (append-nil (map_tokens one.mapping) ∙ flags.1 ∙ sym (append-nil (map_tokens other.mapping))) in
+    let extents : one.extents ≡ other.extents = same_words one.extents other.extents words.0 in
+    let mode : one.mode ≡ other.mode = same_modes one.mode other.mode flags.0 in
+    λ i. record { fields = fields i; extents = extents i; mode = mode i; mapping = maps.0 i }
 
 -- ---- files told apart
 
@@ -77,29 +77,26 @@ same_files one other blobs others short low a b c d same =
     let second = same_lines (view_text one) (view_text other) [] [] b d first.1 in
     (first.0, second.0, parts.1)
 
--- by what holds of lines and their canonical texts
-module _ (reads_back : (version : Version) (text : List ℕ) (sentence : Sentence) → Reads version text sentence → deepest sentence ≤ 32 → Reads version (canonical sentence) sentence)
-    (one_line : (version : Version) (text : List ℕ) (sentence : Sentence) → Reads version text sentence → deepest sentence ≤ 32 → NoEnd (canonical sentence))
-    (one_reading : (version : Version) (text : List ℕ) (a b : Sentence) → Reads version text a → Reads version text b → a ≡ b) where
-  -- lines with one canonical text
-  same_texts : (a b : Sentence) → deepest a ≤ 32 → deepest b ≤ 32 → HasLine a → HasLine b → canonical a ≡ canonical b → a ≡ b
-  same_texts a b low few one other same =
-      let first : Reads Two (canonical a) a = reads_back Two one.0 a one.1 low in
-      let second : Reads Two (canonical b) b = reads_back Two other.0 b other.1 few in
-      one_reading Two (canonical a) a b first (rw same second)
+-- the texts of a header end no line, and tell its tokens
+no_end : (sentence : Sentence) → Each IsPlain (line_tokens sentence) → NoEnd (canonical sentence)
+unfolding canonical
+no_end sentence plain = tokens_no_end (line_tokens sentence) plain
 
-  pub one_file : OneFile
-  one_file bytes one other blobs others is that lines more =
-      let of_record : NoEnd (record_text one) = one_line Two lines.of_record.0 (record_line one) lines.of_record.1 (omega arith) in
-      let of_view : NoEnd (view_text one) = one_line Two lines.of_view.0 (view_line one) lines.of_view.1 (omega arith) in
-      let of_other : NoEnd (record_text other) = one_line Two more.of_record.0 (record_line other) more.of_record.1 (omega arith) in
-      let of_its_view : NoEnd (view_text other) = one_line Two more.of_view.0 (view_line other) more.of_view.1 (omega arith) in
-      let texts = same_files one other blobs others is.short that.short of_record of_view of_other of_its_view (sym is.is ∙ that.is) in
-      let records = same_texts (record_line one) (record_line other) (omega arith) (omega arith) lines.of_record more.of_record texts.0 in
-      let views = same_texts (view_line one) (view_line other) (omega arith) (omega arith) lines.of_view more.of_view texts.1 in
-      let header : one ≡ other = same_headers one other records views in
-      let lengths : map (length {A = ℕ}) blobs ≡ map (length {A = ℕ}) others =
-      ap (map (length {A = ℕ})) is.image_is ∙ lengths_of_image one is.rows
-      ∙ ap (λ (h : Header). blob_lengths (owners_by h)) header
-      ∙ sym (ap (map (length {A = ℕ})) that.image_is ∙ lengths_of_image other that.rows) in
-      (header, same_blobs blobs others lengths texts.2)
+record_told : (one other : Header) → IsTyped one → IsTyped other → record_text one ≡ record_text other → line_tokens (record_line one) ≡ line_tokens (record_line other)
+unfolding canonical
+record_told one other typed known same = same_tokens _ _ _ _ (record_plain one typed) (record_plain other known) same
+
+view_told : (one other : Header) → IsTyped one → IsTyped other → view_text one ≡ view_text other → line_tokens (view_line one) ≡ line_tokens (view_line other)
+unfolding canonical
+view_told one other typed known same = same_tokens _ _ _ _ (view_plain one typed) (view_plain other known) same
+
+pub one_file : OneFile
+one_file bytes one other blobs others is that typed known =
+    let texts = same_files one other blobs others is.short that.short (no_end (record_line one) (record_plain one typed)) (no_end (view_line one) (view_plain one typed))
+    (no_end (record_line other) (record_plain other known)) (no_end (view_line other) (view_plain other known)) (sym is.is ∙ that.is) in
+    let header : one ≡ other = same_headers one other typed.nameless known.nameless (record_told one other typed known texts.0) (view_told one other typed known texts.1) in
+    let lengths : map (length {A = ℕ}) blobs ≡ map (length {A = ℕ}) others =
+    ap (map (length {A = ℕ})) is.image_is ∙ lengths_of_image one is.rows
+    ∙ ap (λ (h : Header). blob_lengths (owners_by h)) header
+    ∙ sym (ap (map (length {A = ℕ})) that.image_is ∙ lengths_of_image other that.rows) in
+    (header, same_blobs blobs others lengths texts.2)

@@ -1,11 +1,16 @@
 -- Which headers a file can be opened with.
 use Rattle.std.specs.Prelude.{ℕ, ◌≡◌, ◌*◌, ◌^◌, Bool, true, false, not, ◌&&◌, ◌||◌, nat_lt, List, map, length, sum_by, is_ok, is_none, None, Ok}
+use Rattle.std.specs.List.{list_all}
 use Rattle.extents.specs.Shapes.{bad_shape, bad_extents}
 use Rattle.extents.specs.declared.words.ExtentWord.{ExtentWord}
 use Rattle.extents.specs.declared.words.ExtentWord.TheVariants.{Fixed}
 use Rattle.record_dim.specs.Trees.{Record}
-use Rattle.record_dim.specs.Leaves.{kinds_of, first_fault}
-use Rattle.map_expr.specs.Terms.{Term, Split, Byteswap, Bytesplit, Change, Count, Heat, Named}
+use Rattle.record_dim.specs.Leaves.{kinds_of, records_of, lengths_of, has_names, first_fault}
+use Rattle.record_dim.specs.Names.{is_name}
+use Rattle.record_dim.specs.declared.path.PathStep.{PathStep}
+use Rattle.record_dim.specs.declared.path.PathStep.TheVariants as step
+use Rattle.map_expr.specs.declared.widths.FieldWidth.{FieldWidth}
+use Rattle.map_expr.specs.Terms.{Term, Aosoa, BitAos, BitSoa, Split, Byteswap, Bytesplit, Change, Count, Heat, Named}
 use Rattle.map_checks.specs.Mappings.{leaf_cells, accepted, most_slots}
 use Rattle.line_grammar.specs.Sentences.{Sentence}
 use Rattle.line_grammar.specs.Reads.{Reads}
@@ -24,6 +29,40 @@ is_nameless (Count inner) = is_nameless inner
 is_nameless (Heat granule inner) = is_nameless inner
 is_nameless (Named name) = false
 is_nameless _ = true
+
+-- a number of 64 bits
+abbrev pub is_count : ℕ → Bool
+is_count number = nat_lt number (2 ^ 64)
+
+-- a step to a field by its name, or to an element by such a number
+abbrev pub is_step : PathStep → Bool
+is_step (step.Name name) = is_name name
+is_step (step.At number) = is_count number
+
+abbrev pub is_width : FieldWidth → Bool
+is_width entry = list_all is_step entry.path && is_count entry.width
+
+-- the paths in a mapping consist of such steps, and its numbers have 64 bits
+abbrev pub is_typed : Term → Bool
+is_typed (Aosoa lanes order) = is_count lanes
+is_typed (BitAos width fields order) = is_count width && list_all is_width fields
+is_typed (BitSoa width fields order) = is_count width && list_all is_width fields
+is_typed (Split path first rest) = list_all is_step path && (is_typed first && is_typed rest)
+is_typed (Byteswap inner) = is_typed inner
+is_typed (Bytesplit inner) = is_typed inner
+is_typed (Change from to inner) = is_typed inner
+is_typed (Count inner) = is_typed inner
+is_typed (Heat granule inner) = is_count granule && is_typed inner
+is_typed _ = true
+
+-- what a header of a schema, extents and a mapping without names is by their types: its names, also those that the language reserves, are
+-- names, and its numbers have 64 bits. The lists and terms of a `Header` say nothing of it, nor does the table of a view.
+pub record IsTyped (header : Header) : Type 0 where
+  pub names : list_all has_names (records_of (Record header.fields)) ≡ true
+  pub lengths : list_all is_count (lengths_of (Record header.fields)) ≡ true
+  pub extents : list_all is_count header.extents ≡ true
+  pub mapping : is_typed header.mapping ≡ true
+  pub nameless : is_nameless header.mapping ≡ true
 
 -- some text is this line in the second version of the language
 abbrev pub HasLine : Sentence → Type 0

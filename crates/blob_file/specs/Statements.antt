@@ -4,14 +4,15 @@ use Rattle.record_dim.specs.Leaves.{kinds_of}
 use Rattle.map_checks.specs.Mappings.{holds_by}
 use Rattle.piece_bits.specs.Tables.{hold_at}
 use Rattle.blob_file.specs.Files.{Header, AreRows, IsFile, image_bytes}
-use Rattle.blob_file.specs.Headers.{HasLines, CanLie}
+use Rattle.blob_file.specs.Headers.{IsTyped, HasLines, CanLie}
 use Rattle.blob_file.specs.Opened.{Saved, opened, rows_in}
 
--- no bytes are the files of two headers that lines of the language say, nor of one with two lists of blobs
+-- no bytes are the files of two headers, nor of one with two lists of blobs. A header that is not what its types say is none: a `name` of
+-- the bytes `a:u8, b` could stand for two fields.
 abbrev pub OneFile : Type 0
 OneFile =
     (bytes : List ℕ) (one other : Header) (blobs others : List (List ℕ)) → IsFile bytes one blobs → IsFile bytes other others
-    → HasLines one → HasLines other → (one ≡ other) × (blobs ≡ others)
+    → IsTyped one → IsTyped other → (one ≡ other) × (blobs ≡ others)
 
 -- what is opened of bytes is that of which they are the file, where a view can be made with its header
 abbrev pub OpensFiles : Type 0

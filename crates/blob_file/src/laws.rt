@@ -4,13 +4,10 @@ ghost use Rattle.blob_file.specs.Statements.{HoldsBits, HoldsRows, OneFile, Open
 use line_writer::canonical_law;
 use schema_lang::{line_law, one_line_law};
 
-/// No bytes are the files of two headers that lines of the language say, nor of one with two lists of blobs.
+/// No bytes are the files of two headers of schemas, extents and mappings without names, nor of one with two lists of blobs.
 pub fn file_law()
     ensures { OneFile }
-{
-    canonical_law();
-    one_line_law();
-}
+{}
 
 /// What is opened of bytes is that of which they are the file, where a view can be made with its header.
 pub fn opened_law()

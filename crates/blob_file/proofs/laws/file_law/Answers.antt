@@ -2,4 +2,4 @@ use Rattle.blob_file.proofs.OneFile.{one_file}
 use Rattle.blob_file.proofs.laws.file_law.Goals as goal
 
 pub returns : goal.returns
-returns c = one_file c.canonical_law.ensures.reads_back c.canonical_law.ensures.one_line c.one_line_law.ensures
+returns c = one_file
