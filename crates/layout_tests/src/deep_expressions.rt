@@ -1,4 +1,4 @@
-// Expressions that no line has: the negated least number, and chains that are longer than a line.
+// Expressions that are deeper than one of a line: they are made, bound, worked out and dropped without a long stack.
 ghost use Rattle.std.specs.Prelude.{◌≡◌, ◌<◌, length};
 ghost use Rattle.expr_lang.specs.Bounds.{bound_leaves, bound_rank};
 
@@ -9,27 +9,25 @@ use std::marker::Brand;
 use std::sync::ledger::{Blank, Ledger};
 use std::test::Fail;
 
-// A row of one number that counts its reads.
+// A row of one number.
 #[derive(Drop)]
-struct CountedRow {
+struct OneNumber {
     number: i128,
-    reads: u64,
 }
 
-impl Row for CountedRow {
-    ghost use Rattle.std.specs.Prelude.{ℕ, ◌+◌, ◌%◌, ◌^◌, [], ◌∷◌};
+impl Row for OneNumber {
+    ghost use Rattle.std.specs.Prelude.{ℕ, [], ◌∷◌};
 
     ghost State = { ℕ };
 
     ghost numbers = { λ r. r.number ∷ [] };
 
-    ghost state = { λ r. r.reads };
+    ghost state = { λ _. 0 };
 
-    ghost after = { λ reads leaf. (reads + 1) % 2 ^ 64 };
+    ghost after = { λ _ _. 0 };
 
     fn read<L: Ledger>(&mut self, _leaf: usize, steps: &mut Steps<L>) -> i128 {
         steps.tick();
-        self.reads = self.reads.wrapping_add(1);
         self.number
     }
 }
@@ -48,12 +46,14 @@ fn schema(alloc: Global) -> Result<Schema, Fail> {
     Ok(Schema::new(alloc, Dim::Fields(FieldList::More { field, rest }))?)
 }
 
-fn neg(alloc: Global, inner: Expr) -> Result<Expr, NoMemory> {
-    Ok(Expr::Neg(Box::new(alloc, inner)?))
-}
-
-fn not(alloc: Global, inner: Expr) -> Result<Expr, NoMemory> {
-    Ok(Expr::Not(Box::new(alloc, inner)?))
+// The expression under one sign.
+fn signed(alloc: Global, inner: Expr, is_not: bool) -> Result<Expr, NoMemory> {
+    let inner = Box::new(alloc, inner)?;
+    Ok(if is_not {
+        Expr::Not(inner)
+    } else {
+        Expr::Neg(inner)
+    })
 }
 
 fn binary(alloc: Global, op: BinOp, left: Expr, right: Expr) -> Result<Expr, NoMemory> {
@@ -62,7 +62,7 @@ fn binary(alloc: Global, op: BinOp, left: Expr, right: Expr) -> Result<Expr, NoM
     Ok(Expr::Binary { op, left, right })
 }
 
-fn value_on<L: Ledger>(bound: &Bound, row: &mut CountedRow, blank: Blank) -> Result<i128, EvalFault>
+fn value_on<L: Ledger>(bound: &Bound, row: &mut OneNumber, blank: Blank) -> Result<i128, EvalFault>
     requires name { blank.name ≡ L.name }
     requires parts { blank.parts ≡ L.parts }
     requires some { 0 < blank.parts }
@@ -73,25 +73,15 @@ fn value_on<L: Ledger>(bound: &Bound, row: &mut CountedRow, blank: Blank) -> Res
     eval(bound, row, [].as_slice(), &mut steps)
 }
 
-// The value where the leaf is this number, and how often it was read.
-fn value(alloc: Global, expr: &Expr, number: i128) -> Result<(Result<i128, EvalFault>, u64), Fail> {
+// The value where the leaf is 2.
+fn value(alloc: Global, expr: &Expr) -> Result<Result<i128, EvalFault>, Fail> {
     let schema = schema(alloc)?;
     if schema.leaf_count() != 1 {
         return Err(Fail::new("not one leaf"));
     }
     let bound = bind(alloc, expr, &schema, 0)?;
-    let mut row = CountedRow { number, reads: 0 };
-    let value = value_on::<Brand>(&bound, &mut row, Blank::new(1));
-    Ok((value, row.reads))
-}
-
-#[test]
-fn the_least_number_has_no_negative(rt: HostRuntime) -> Result<(), Fail> {
-    let least = neg(rt.alloc(), Expr::Number(i128::MIN))?;
-    let (value, reads) = value(rt.alloc(), &least, 0)?;
-    assert!(rt; value == Err(EvalFault::Overflow));
-    assert!(rt; reads == 0);
-    Ok(())
+    let mut row = OneNumber { number: 2 };
+    Ok(value_on::<Brand>(&bound, &mut row, Blank::new(1)))
 }
 
 #[test]
@@ -101,17 +91,11 @@ fn long_chains_take_little_stack(rt: HostRuntime) -> Result<(), Fail> {
     let mut signs = leaf(alloc)?;
     for operators in 1..=4000u64 {
         sum = binary(alloc, BinOp::Add, sum, leaf(alloc)?)?;
-        signs = if operators % 2 == 1 {
-            not(alloc, signs)?
-        } else {
-            neg(alloc, signs)?
-        };
+        signs = signed(alloc, signs, operators % 2 == 1)?;
         assert!(rt; operators > 40 || sum.depth() == operators + 1);
     }
-    assert!(rt; sum.depth() == 4001);
-    assert!(rt; signs.depth() == 4001);
-    assert!(rt; value(alloc, &sum, 2)?.0 == Ok(8002));
-    assert!(rt; value(alloc, &signs, 2)?.0 == Ok(-1));
+    assert!(rt; sum.depth() == 4001 && signs.depth() == 4001);
+    assert!(rt; value(alloc, &sum)? == Ok(8002) && value(alloc, &signs)? == Ok(-1));
     let right = binary(alloc, BinOp::Mul, leaf(alloc)?, sum)?;
     assert!(rt; right.depth() == 4002);
     Ok(())
