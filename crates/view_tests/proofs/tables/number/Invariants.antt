@@ -1,6 +1,6 @@
 -- the view lies as at first, in the same mode
 use Rattle.std.proofs.Common.{◌≡◌}
-use Rattle.view_tests.proofs.copies.number.Given as goal
+use Rattle.view_tests.proofs.tables.number.Given as goal
 
 abbrev pub invariant-loop-row : goal.invariant-loop-row
 invariant-loop-row l = record {

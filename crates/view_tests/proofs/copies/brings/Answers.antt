@@ -1,4 +1,4 @@
-use Rattle.view_tests.proofs.copies.runs_from.Goals as goal
+use Rattle.view_tests.proofs.copies.brings.Goals as goal
 
 -- a mapping that is dropped is one still
 pub invariant_of-target-inside : goal.invariant_of-target-inside

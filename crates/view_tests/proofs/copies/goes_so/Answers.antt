@@ -1,4 +1,4 @@
-use Rattle.view_tests.proofs.copies.fields_between.Goals as goal
+use Rattle.view_tests.proofs.copies.goes_so.Goals as goal
 
 -- a mapping that is dropped is one still
 pub invariant_of-source-inside : goal.invariant_of-source-inside
