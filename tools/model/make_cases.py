@@ -84,7 +84,7 @@ def what_is_taken(case, printed, status):
 def files_of(case):
     """The files of a case, and whether the model and the table agree."""
     files = inputs_of(case)
-    printed, status = (lines(case.due), status_of(lines(case.due))) if case.by_hand else modelled(files, case.words or ['run', 'script.llama'])
+    printed, status = (lines(case.due), status_of(lines(case.due))) if case.by_hand else modelled(files, ['run', 'script.llama'] if case.words is None else case.words)
     taken, ended = what_is_taken(case, printed, status)
     if taken:
         files['stdout'] = taken

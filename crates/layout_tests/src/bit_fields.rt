@@ -19,40 +19,38 @@ fn mixed_blob(alloc: Global, len: usize) -> Result<Blob, NoMemory> {
     Ok(blob)
 }
 
-// A bit of a blob, 0 behind its end.
-fn bit(blob: &Blob, place: u64) -> u64 {
-    let at = (place / 8) as usize;
-    if at < blob.len() {
-        return u64::from((blob.get(at) >> (place % 8) as u32) & 1);
-    }
-    0
+// A bit of these bytes.
+fn mixed_bit(place: u64) -> u64 {
+    u64::from((mixed((place / 8) as usize) >> (place % 8) as u32) & 1)
 }
 
-// The bits of a field as a number, bit by bit.
-fn plain_bits(blob: &Blob, from: u64, width: u32) -> u64 {
+// The bits of a field of these bytes as a number, bit by bit.
+fn mixed_bits(from: u64, width: u32) -> u64 {
     let mut value = 0u64;
-    for k in (0..width).rev() {
-        let place = from.wrapping_add(u64::from(k));
-        value = value.wrapping_mul(2).wrapping_add(bit(blob, place));
+    for bit in (0..width).rev() {
+        let place = from.wrapping_add(u64::from(bit));
+        value = value.wrapping_mul(2).wrapping_add(mixed_bit(place));
     }
     value
 }
 
-// Whether a blob has this value in a field, and all its other bits are those of another blob.
-fn differs_there_alone(blob: &Blob, other: &Blob, from: u64, width: u32, value: u64) -> bool {
-    let end = from.wrapping_add(u64::from(width));
-    let bits = (blob.len() as u64).wrapping_mul(8);
-    for place in 0..bits {
-        if (place < from || end <= place) && bit(blob, place) != bit(other, place) {
-            return false;
+// Whether the bits of a field are other ones than in these bytes, and no bit beside it is.
+fn is_flipped_there_alone(blob: &Blob, from: u64, width: u32) -> bool {
+    for at in 0..blob.len() {
+        for bit in 0..8u32 {
+            let place = (at as u64).wrapping_mul(8).wrapping_add(u64::from(bit));
+            let is_inside = from <= place && place.wrapping_sub(from) < u64::from(width);
+            let is_flipped = u64::from((blob.get(at) >> bit) & 1) != mixed_bit(place);
+            if is_flipped != is_inside {
+                return false;
+            }
         }
     }
-    blob.len() == other.len() && plain_bits(blob, from, width) == value
+    true
 }
 
 // Whether a field that lies within the blob is read and written as the loops say; a field past its end is left out.
 fn is_right(alloc: Global, len: usize, from: u64, width: u32) -> Result<bool, NoMemory> {
-    let before = mixed_blob(alloc, len)?;
     let mut blob = mixed_blob(alloc, len)?;
     if len > 17 || blob.len() != len || from > 136 || width < 1 || width > 64 {
         return Ok(false);
@@ -60,13 +58,13 @@ fn is_right(alloc: Global, len: usize, from: u64, width: u32) -> Result<bool, No
     if from + u64::from(width) > blob.len() as u64 * 8 {
         return Ok(true);
     }
-    let is_read = blob.bits(from, width) == plain_bits(&blob, from, width);
-    let value = !plain_bits(&blob, from, width) & (u64::MAX >> (64 - width));
+    let read = blob.bits(from, width);
+    let value = !read & (u64::MAX >> (64 - width));
     if u128::from(value) >= 1 << width {
         return Ok(false);
     }
     blob.put_bits(from, width, value);
-    Ok(is_read && differs_there_alone(&blob, &before, from, width, value))
+    Ok(read == mixed_bits(from, width) && is_flipped_there_alone(&blob, from, width))
 }
 
 #[test]

@@ -2,32 +2,12 @@
 #![tactic(auto)]
 
 #[cfg(test)]
-mod aos_places;
-#[cfg(test)]
-mod aosoa_places;
-#[cfg(test)]
 mod bit_fields;
 #[cfg(test)]
-mod composed;
+mod deep_expressions;
 #[cfg(test)]
-mod expressions;
+mod deep_records;
 #[cfg(test)]
-mod files_and_texts;
+mod edges;
 #[cfg(test)]
-mod lines;
-#[cfg(test)]
-mod mapped;
-#[cfg(test)]
-mod mapping_exprs;
-#[cfg(test)]
-mod plain_bytes;
-#[cfg(test)]
-mod played_system;
-#[cfg(test)]
-mod records;
-#[cfg(test)]
-mod rows_and_indices;
-#[cfg(test)]
-mod sequences;
-#[cfg(test)]
-mod soa_places;
+mod mappings;

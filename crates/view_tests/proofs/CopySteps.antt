@@ -25,6 +25,7 @@ use Rattle.map_any.specs.declared.strategy.Strategy.TheVariants as way
 use Rattle.views.specs.Moves.{blob_steps}
 use Rattle.views.specs.Tables.{Table}
 use Rattle.layout_copy.specs.Costs.{cost, steps_before, IsWay, MayMoveTo}
+use Rattle.view_tests.specs.Ways.{from_of, to_of, most_steps}
 
 -- from one count of steps to another no more than a copy of a table into another takes
 abbrev IsWithin : Table → Table → ℕ → ℕ → Type 0
@@ -44,7 +45,7 @@ pieces : steps_before 1000 1000 8 (4 ∷ []) 1000 ≡ 125
 unfolding steps_before
 pieces = refl
 
-pub by_runs : (source target : Table) (old new : ℕ) → AreStrict source target → source.mapping ≡ Soa Multi Row → target.mapping ≡ Aosoa 8 Row → length (indices target.extents) ≡ 1000 →
+by_runs : (source target : Table) (old new : ℕ) → AreStrict source target → source.mapping ≡ Soa Multi Row → target.mapping ≡ Aosoa 8 Row → length (indices target.extents) ≡ 1000 →
     kinds_of target.fields ≡ U32 ∷ [] → IsWithin source target old new → new ≤ old + 125
 by_runs source target old new strict from to rows kinds within =
     let is : IsStrategy source.mapping target.mapping way.Runs = rw (from, to) ((λ e. cc), refl) in
@@ -75,7 +76,7 @@ packed_steps held extents rows kinds =
     ap (λ (ks : List LeafType). sum_by length (packed_aos slots (widths_of (leaf_cells ks)))) kinds ∙ packed_bits slots ∙ ap (λ (n : ℕ). n * 32) rows in
     one_blob (layout_by (Aos Packed Row) extents held) (length-in_rows (row_at Row extents) layout) (sum-blobs (row_at Row extents) layout ∙ bits)
 
-pub by_blobs : (source target : Table) (old new : ℕ) → AreStrict source target → source.mapping ≡ Aos Packed Row → target.mapping ≡ Aos Packed Row → length (indices target.extents) ≡ 1000 →
+by_blobs : (source target : Table) (old new : ℕ) → AreStrict source target → source.mapping ≡ Aos Packed Row → target.mapping ≡ Aos Packed Row → length (indices target.extents) ≡ 1000 →
     kinds_of target.fields ≡ U32 ∷ [] → IsWithin source target old new → new ≤ old + 63
 by_blobs source target old new strict from to rows kinds within =
     let is : IsStrategy source.mapping target.mapping way.Blobs = rw (from, to) refl in
@@ -83,7 +84,7 @@ by_blobs source target old new strict from to rows kinds within =
     let sum = rw to at few in
     omega (arith, sum, packed_steps target.fields target.extents rows kinds)
 
-pub by_fields : (source target : Table) (old new : ℕ) → AreStrict source target → source.mapping ≡ Aos Packed Row → target.mapping ≡ Soa Multi Row → length (indices target.extents) ≡ 1000 →
+by_fields : (source target : Table) (old new : ℕ) → AreStrict source target → source.mapping ≡ Aos Packed Row → target.mapping ≡ Soa Multi Row → length (indices target.extents) ≡ 1000 →
     kinds_of target.fields ≡ U32 ∷ [] → IsWithin source target old new → new ≤ old + 2000
 by_fields source target old new strict from to rows kinds within =
     let leaf : length (leaves target.fields) ≡ 1 = sym (length-map (leaves target.fields) (λ leaf. leaf.kind)) ∙ ap (λ (ks : List LeafType). length ks) kinds in
@@ -91,6 +92,12 @@ by_fields source target old new strict from to rows kinds within =
     let few = within way.Fields (strict_way source target way.Fields strict is) in
     let sum = rw (rows, leaf) at few in
     omega (arith, sum)
+
+pub by_way : (strategy : Strategy) (source target : Table) (old new : ℕ) → AreStrict source target → source.mapping ≡ from_of strategy → target.mapping ≡ to_of strategy →
+    length (indices target.extents) ≡ 1000 → kinds_of target.fields ≡ U32 ∷ [] → IsWithin source target old new → new ≤ old + most_steps strategy
+by_way way.Runs = by_runs
+by_way way.Blobs = by_blobs
+by_way way.Fields = by_fields
 
 -- the types of a record with one leaf
 one_kind : (kinds : List LeafType) (kind : LeafType) → length kinds ≡ 1 → slice_get kinds 0 ≡ Some kind → kinds ≡ kind ∷ []

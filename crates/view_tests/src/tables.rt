@@ -17,7 +17,7 @@ use std::test::Fail;
 use views::{StoreFault, View};
 
 // A flat schema with a leaf of each of these types.
-pub(crate) fn schema_of(alloc: Global, kinds: &[LeafType]) -> Result<Schema, Fail> {
+fn schema_of(alloc: Global, kinds: &[LeafType]) -> Result<Schema, Fail> {
     let mut fields = FieldList::End;
     for (number, kind) in kinds.iter().enumerate().rev() {
         let text = format!(in alloc; "f{number}")?;
@@ -30,9 +30,8 @@ pub(crate) fn schema_of(alloc: Global, kinds: &[LeafType]) -> Result<Schema, Fai
     Ok(Schema::new(alloc, Dim::Fields(fields))?)
 }
 
-// The extents of these words over so many rows.
-pub(crate) fn extents_of(words: &[ExtentWord], rows: u64) -> Result<Extents, Fail> {
-    let shape = Shape::new(words).ok().ok_or("no shape")?;
+fn extents_of(rows: u64) -> Result<Extents, Fail> {
+    let shape = Shape::new(&[ExtentWord::Rows]).ok().ok_or("no shape")?;
     Ok(shape.resolve(Some(rows)).ok().ok_or("no extents")?)
 }
 
@@ -47,7 +46,7 @@ pub(crate) fn view_of(
     ensures strict { IfOk result (λ view. view.mode ≡ Strict) }
 {
     let schema = schema_of(alloc, kinds)?;
-    let view = View::new(alloc, &schema, extents_of(&[ExtentWord::Rows], rows)?, expr);
+    let view = View::new(alloc, &schema, extents_of(rows)?, expr);
     Ok(view.ok().ok_or("no view")?)
 }
 
@@ -84,7 +83,6 @@ pub(crate) fn aosoa(lanes: u32) -> MapExpr
 fn set_from<L: Ledger>(
     view: &mut View,
     row: u64,
-    leaf: usize,
     value: i128,
     blank: Blank,
 ) -> Result<(), StoreFault>
@@ -92,54 +90,61 @@ fn set_from<L: Ledger>(
     requires parts { blank.parts ≡ L.parts }
     requires some { 0 < blank.parts }
     requires row_in { row < length view.old.rows }
-    requires leaf_in { leaf < leaf_count_of view.old }
+    requires leaf_in { 0 < leaf_count_of view.old }
     ensures mapping { view.new.mapping ≡ view.old.mapping }
     ensures mode { view.new.mode ≡ view.old.mode }
 {
     let mut steps = Steps::<L>::new(blank);
-    view.set(row, leaf, value, &mut steps)
+    view.set(row, 0, value, &mut steps)
 }
 
-fn get_from<L: Ledger>(view: &mut View, row: u64, leaf: usize, blank: Blank) -> i128
+// Stores a value in the first leaf of a row.
+pub(crate) fn set(view: &mut View, row: u64, value: i128) -> Result<(), Fail>
+    ensures mapping { view.new.mapping ≡ view.old.mapping }
+    ensures mode { view.new.mode ≡ view.old.mode }
+{
+    if row < view.extents().count() && view.schema().leaf_count() > 0 {
+        return Ok(set_from::<Brand>(view, row, value, Blank::new(1))?);
+    }
+    Err(Fail::new("outside"))
+}
+
+fn get_from<L: Ledger>(view: &mut View, row: u64, blank: Blank) -> i128
     requires name { blank.name ≡ L.name }
     requires parts { blank.parts ≡ L.parts }
     requires some { 0 < blank.parts }
     requires row_in { row < length view.old.rows }
-    requires leaf_in { leaf < leaf_count_of view.old }
+    requires leaf_in { 0 < leaf_count_of view.old }
 {
     let mut steps = Steps::<L>::new(blank);
-    view.get(row, leaf, &mut steps)
+    view.get(row, 0, &mut steps)
 }
 
-// Stores a value, or tells why not.
-pub(crate) fn set(
-    view: &mut View,
-    row: u64,
-    leaf: usize,
-    value: i128,
-) -> Result<Option<StoreFault>, Fail>
+// The value in the first leaf of a row, if it has one.
+fn get(view: &mut View, row: u64) -> Option<i128> {
+    if row < view.extents().count() && view.schema().leaf_count() > 0 {
+        return Some(get_from::<Brand>(view, row, Blank::new(1)));
+    }
+    None
+}
+
+// Stores in each of 1,000 rows its number, counted from 1.
+pub(crate) fn number(view: &mut View) -> Result<(), Fail>
     ensures mapping { view.new.mapping ≡ view.old.mapping }
     ensures mode { view.new.mode ≡ view.old.mode }
 {
-    if row < view.extents().count() && leaf < view.schema().leaf_count() {
-        return Ok(set_from::<Brand>(view, row, leaf, value, Blank::new(1)).err());
+    for row in 0..1000u64 {
+        set(view, row, i128::from(row + 1))?;
     }
-    Err(Fail::new("outside"))
+    Ok(())
 }
 
-pub(crate) fn get(view: &mut View, row: u64, leaf: usize) -> Result<i128, Fail> {
-    if row < view.extents().count() && leaf < view.schema().leaf_count() {
-        return Ok(get_from::<Brand>(view, row, leaf, Blank::new(1)));
+// Whether these numbers stand there.
+pub(crate) fn is_numbered(view: &mut View) -> bool {
+    for row in 0..1000u64 {
+        if get(view, row) != Some(i128::from(row + 1)) {
+            return false;
+        }
     }
-    Err(Fail::new("outside"))
-}
-
-// Whether a leaf was read and written so often.
-pub(crate) fn has_counted(view: &View, leaf: usize, reads: u64, writes: u64) -> bool {
-    let Some(counts) = view.counts() else {
-        return false;
-    };
-    leaf < view.schema().leaf_count()
-        && counts.reads(leaf) == reads
-        && counts.writes(leaf) == writes
+    true
 }

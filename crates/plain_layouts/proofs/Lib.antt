@@ -1,2 +1,0 @@
-mod Imports
-pub mod Growth
