@@ -1,0 +1,181 @@
+"""The files of specs/: what each defines, imports and passes on."""
+import re
+
+from belief.words import binders, code_of, pattern_names, used
+
+IMPORT = re.compile(r'^((?:unfoldable )?pub )?use (\S+?)(?:\.\{(.*)\})?(?: as (\S+))?$')
+HEAD = re.compile(r'^(?:(?P<kind>abbrev pub|unfoldable pub|pub record|pub data|record|data|pub|abbrev) )?(?P<name>[^\s:(){}]+) (?=[^=]*:)')
+GROUP_HEAD = re.compile(r'(?:abbrev |unfoldable )?mutual$|module ')
+MEMBER = re.compile(r'^\s+(?:pub )?(\S+) :')
+
+
+class Definition:
+    """One definition of a file of specs/."""
+
+    def __init__(self, source, kind, name, first):
+        self.source, self.kind, self.name, self.first = source, kind, name, first
+        self.lines, self.comments, self.outer = [], [], set()
+
+    @property
+    def path(self):
+        return self.source.path
+
+    @property
+    def is_type(self):
+        return self.kind.endswith(('record', 'data'))
+
+    @property
+    def is_law(self):
+        """Whether it is a lemma: only such a one is public and neither an abbreviation, a type nor unfoldable."""
+        return self.kind in ('pub', '')
+
+    @property
+    def size(self):
+        """How many lines it has, with its comment."""
+        return len(self.lines) + len(self.comments)
+
+    @property
+    def comment(self):
+        return ' '.join(self.comments)
+
+    def members(self):
+        """The constructors or the fields of a type."""
+        return [found[1] for found in map(MEMBER.match, self.lines[1:]) if found] if self.is_type else []
+
+    def names(self):
+        return typed_names(self) if self.is_type else clause_names(self)
+
+
+def typed_names(definition):
+    """What a type's parameters, and its fields or constructors, name: each field stands in the types of those behind it."""
+    found, bound = [], set(definition.outer) | {definition.name}
+    head, *members = whole_lines(definition.lines)
+    bound |= binders(head)
+    found += used(head, bound)
+    for line in members:
+        name, _, kind = re.sub(r'^\s*(?:pub )?', '', line).partition(' : ')
+        found += used(kind, bound)
+        if 'record' in definition.kind:
+            bound.add(name)
+    return found
+
+
+def clause_names(definition):
+    """What the type of a definition and each of its clauses name."""
+    found = []
+    for place, piece in enumerate(whole_lines(definition.lines)):
+        left, equals, right = piece.partition(' = ')
+        if place == 0 or not equals:
+            found += used(piece, definition.outer | {definition.name})
+            continue
+        bound = definition.outer | pattern_names(left)
+        found += [parts for parts in used(left, bound) if parts[0] != definition.name]
+        found += used(right, bound | {definition.name})
+    return found
+
+
+def whole_lines(lines):
+    """The lines of a definition, those that go on joined to the ones that they go on from."""
+    depth = min((len(line) - len(line.lstrip()) for line in lines), default=0)
+    pieces, inner = [], 'record' in lines[0] or ' data ' in f' {lines[0]}'
+    for line in lines:
+        code = code_of(line)
+        here = len(line) - len(line.lstrip())
+        if code.strip() and (not pieces or here == depth or inner and here == depth + 2):
+            pieces.append(code)
+        elif code.strip():
+            pieces[-1] += ' ' + code.strip()
+    return pieces
+
+
+class Source:
+    """A file of specs/."""
+
+    def __init__(self, crate, path, top):
+        self.crate, self.path = crate, path
+        self.name = path.stem
+        self.text = path.read_text()
+        self.where = str(path.relative_to(top / 'crates'))
+        self.imports, self.aliases, self.passed_on = {}, {}, {}
+        self.definitions = read_definitions(self)
+        self.own = own_names(self.definitions)
+        self.read_imports()
+
+    @property
+    def is_of_laws(self):
+        return self.name.endswith('Laws')
+
+    @property
+    def head(self):
+        """The comment at the head of the file."""
+        lines = []
+        for line in self.text.split('\n'):
+            if not line.startswith('-- '):
+                break
+            lines.append(line[3:])
+        return ' '.join(lines)
+
+    def read_imports(self):
+        for line in self.text.split('\n'):
+            found = IMPORT.match(line)
+            if found:
+                is_public, module, names, alias = found.groups()
+                self.add_import(bool(is_public), re.sub(r'^Rattle\.', '', module), names, alias)
+
+    def add_import(self, is_public, module, names, alias):
+        if names is None:
+            self.aliases[alias or module.rpartition('.')[2]] = module
+            return
+        for item in names.split(', '):
+            name, _, other = item.strip().partition(' as ')
+            self.imports[other or name] = (module, name)
+            if is_public:
+                self.passed_on[other or name] = (module, name)
+
+
+def own_names(definitions):
+    """What a file defines, by name; a constructor stands for its type."""
+    own = {}
+    for definition in definitions:
+        own[definition.name] = definition
+        if 'data' in definition.kind:
+            own.update((name, definition) for name in definition.members())
+    return own
+
+
+def read_definitions(source):
+    """The definitions of a file, in order, each with the comment right above it."""
+    found, comment, group, depth, outer = [], [], [], 0, set()
+    for number, line in enumerate(source.text.split('\n'), 1):
+        body = line.strip()
+        here = len(line) - len(line.lstrip())
+        if not body:
+            comment = []
+        elif body.startswith('-- '):
+            comment.append(body[3:])
+        elif GROUP_HEAD.match(body):
+            depth, outer, group, comment = 2, binders(body), comment, []
+        elif not re.match(r'(?:unfoldable )?(?:pub )?use |infix|unfolding ', body):
+            if here == 0:
+                depth, outer = 0, set()
+            read_line(source, found, line, here == depth, number, comment or group, outer)
+            comment, group = [], []
+    return found
+
+
+def read_line(source, found, line, at_depth, number, comment, outer):
+    head = HEAD.match(line.strip()) if at_depth else None
+    is_new = head and not (found and found[-1].name == head['name'] and not head['kind'])
+    if is_new:
+        definition = Definition(source, kind_of(head['kind'] or '', line), head['name'], number)
+        definition.comments, definition.outer = comment, outer
+        found.append(definition)
+    if found:
+        found[-1].lines.append(line)
+
+
+def kind_of(kind, line):
+    """The kind of a definition; one in a mutual block of abbreviations is one itself."""
+    if kind == 'pub' and line.startswith('  '):
+        return 'abbrev pub'
+    return kind
