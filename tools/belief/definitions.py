@@ -12,9 +12,9 @@ MEMBER = re.compile(r'^\s+(?:pub )?(\S+) :')
 class Definition:
     """One definition of a file of specs/."""
 
-    def __init__(self, source, kind, name, first):
+    def __init__(self, source, kind, name, first, comments, outer):
         self.source, self.kind, self.name, self.first = source, kind, name, first
-        self.lines, self.comments, self.outer = [], [], set()
+        self.comments, self.outer, self.lines = comments, outer, []
 
     @property
     def path(self):
@@ -145,7 +145,7 @@ def own_names(definitions):
 
 def read_definitions(source):
     """The definitions of a file, in order, each with the comment right above it."""
-    found, comment, group, depth, outer = [], [], [], 0, set()
+    found, comment, group, depth, outer, is_short = [], [], [], 0, set(), False
     for number, line in enumerate(source.text.split('\n'), 1):
         body = line.strip()
         here = len(line) - len(line.lstrip())
@@ -154,28 +154,15 @@ def read_definitions(source):
         elif body.startswith('-- '):
             comment.append(body[3:])
         elif GROUP_HEAD.match(body):
-            depth, outer, group, comment = 2, binders(body), comment, []
+            depth, outer, group, comment, is_short = 2, binders(body), comment, [], not body.startswith(('mutual', 'module'))
         elif not re.match(r'(?:unfoldable )?(?:pub )?use |infix|unfolding ', body):
             if here == 0:
-                depth, outer = 0, set()
-            read_line(source, found, line, here == depth, number, comment or group, outer)
+                depth, outer, is_short = 0, set(), False
+            head = HEAD.match(body) if here == depth else None
+            if head and not (found and found[-1].name == head['name'] and not head['kind']):
+                kind = 'abbrev ' * is_short + (head['kind'] or '')
+                found.append(Definition(source, kind.strip(), head['name'], number, comment or group, outer))
+            if found:
+                found[-1].lines.append(line)
             comment, group = [], []
     return found
-
-
-def read_line(source, found, line, at_depth, number, comment, outer):
-    head = HEAD.match(line.strip()) if at_depth else None
-    is_new = head and not (found and found[-1].name == head['name'] and not head['kind'])
-    if is_new:
-        definition = Definition(source, kind_of(head['kind'] or '', line), head['name'], number)
-        definition.comments, definition.outer = comment, outer
-        found.append(definition)
-    if found:
-        found[-1].lines.append(line)
-
-
-def kind_of(kind, line):
-    """The kind of a definition; one in a mutual block of abbreviations is one itself."""
-    if kind == 'pub' and line.startswith('  '):
-        return 'abbrev pub'
-    return kind
