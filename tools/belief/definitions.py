@@ -6,6 +6,7 @@ from belief.words import binders, code_of, pattern_names, used
 IMPORT = re.compile(r'^((?:unfoldable )?pub )?use (\S+?)(?:\.\{(.*)\})?(?: as (\S+))?$')
 HEAD = re.compile(r'^(?:(?P<kind>abbrev pub|unfoldable pub|pub record|pub data|record|data|pub|abbrev) )?(?P<name>[^\s:(){}]+) (?=[^=]*:)')
 GROUP_HEAD = re.compile(r'(?:abbrev |unfoldable )?mutual$|module ')
+OTHER = re.compile(r'(?:unfoldable )?(?:pub )?use |infix|unfolding ')
 MEMBER = re.compile(r'^\s+(?:pub )?(\S+) :')
 
 
@@ -49,7 +50,7 @@ class Definition:
 def typed_names(definition):
     """What a type's parameters, and its fields or constructors, name: each field stands in the types of those behind it."""
     found, bound = [], set(definition.outer) | {definition.name}
-    head, *members = whole_lines(definition.lines)
+    head, *members = whole_lines(definition)
     bound |= binders(head)
     found += used(head, bound)
     for line in members:
@@ -63,7 +64,7 @@ def typed_names(definition):
 def clause_names(definition):
     """What the type of a definition and each of its clauses name."""
     found = []
-    for place, piece in enumerate(whole_lines(definition.lines)):
+    for place, piece in enumerate(whole_lines(definition)):
         left, equals, right = piece.partition(' = ')
         if place == 0 or not equals:
             found += used(piece, definition.outer | {definition.name})
@@ -74,14 +75,14 @@ def clause_names(definition):
     return found
 
 
-def whole_lines(lines):
-    """The lines of a definition, those that go on joined to the ones that they go on from."""
-    depth = min((len(line) - len(line.lstrip()) for line in lines), default=0)
-    pieces, inner = [], 'record' in lines[0] or ' data ' in f' {lines[0]}'
-    for line in lines:
+def whole_lines(definition):
+    """The lines of a definition, those that go on joined to the ones that they go on from; of a type each member is one."""
+    depth = min(len(line) - len(line.lstrip()) for line in definition.lines)
+    depths = {depth, depth + 2} if definition.is_type else {depth}
+    pieces = []
+    for line in definition.lines:
         code = code_of(line)
-        here = len(line) - len(line.lstrip())
-        if code.strip() and (not pieces or here == depth or inner and here == depth + 2):
+        if code.strip() and (not pieces or len(line) - len(line.lstrip()) in depths):
             pieces.append(code)
         elif code.strip():
             pieces[-1] += ' ' + code.strip()
@@ -143,26 +144,47 @@ def own_names(definitions):
     return own
 
 
-def read_definitions(source):
-    """The definitions of a file, in order, each with the comment right above it."""
-    found, comment, group, depth, outer, is_short = [], [], [], 0, set(), False
-    for number, line in enumerate(source.text.split('\n'), 1):
+class Reader:
+    """Reads the definitions of a file line by line, each with the comment right above it."""
+
+    def __init__(self, source):
+        self.source, self.found, self.comment = source, [], []
+        self.leave_group()
+
+    def leave_group(self):
+        """A group is a `mutual` block, or a module with parameters: its definitions are indented, and may share the comment above it."""
+        self.depth, self.outer, self.shared, self.short = 0, set(), [], False
+
+    def enter_group(self, body):
+        self.depth, self.outer, self.shared, self.comment = 2, binders(body), self.comment, []
+        self.short = not body.startswith(('mutual', 'module'))
+
+    def take(self, number, line):
         body = line.strip()
-        here = len(line) - len(line.lstrip())
+        indent = len(line) - len(line.lstrip())
         if not body:
-            comment = []
+            self.comment = []
         elif body.startswith('-- '):
-            comment.append(body[3:])
+            self.comment.append(body[3:])
         elif GROUP_HEAD.match(body):
-            depth, outer, group, comment, is_short = 2, binders(body), comment, [], not body.startswith(('mutual', 'module'))
-        elif not re.match(r'(?:unfoldable )?(?:pub )?use |infix|unfolding ', body):
-            if here == 0:
-                depth, outer, is_short = 0, set(), False
-            head = HEAD.match(body) if here == depth else None
-            if head and not (found and found[-1].name == head['name'] and not head['kind']):
-                kind = 'abbrev ' * is_short + (head['kind'] or '')
-                found.append(Definition(source, kind.strip(), head['name'], number, comment or group, outer))
-            if found:
-                found[-1].lines.append(line)
-            comment, group = [], []
-    return found
+            self.enter_group(body)
+        elif not OTHER.match(body):
+            if indent == 0:
+                self.leave_group()
+            self.take_code(number, line, HEAD.match(body) if indent == self.depth else None)
+
+    def take_code(self, number, line, head):
+        """A line of a definition: it begins one, or goes on with the last one."""
+        if head and not (self.found and self.found[-1].name == head['name'] and not head['kind']):
+            kind = ('abbrev ' * self.short + (head['kind'] or '')).strip()
+            self.found.append(Definition(self.source, kind, head['name'], number, self.comment or self.shared, self.outer))
+        if self.found:
+            self.found[-1].lines.append(line)
+        self.comment, self.shared = [], []
+
+
+def read_definitions(source):
+    reader = Reader(source)
+    for number, line in enumerate(source.text.split('\n'), 1):
+        reader.take(number, line)
+    return reader.found
