@@ -51,12 +51,11 @@ def tables_of(lines):
 
 
 def layout_of(rows):
-    leaves, blobs = [], {}
+    numbers, blobs = {}, {}
     for blob, _, bits, _, leaf, _ in rows:
-        if leaf not in (*leaves, '-'):
-            leaves.append(leaf)
-        blobs.setdefault(int(blob), []).extend([None if leaf == '-' else leaves.index(leaf)] * int(bits))
-    return Layout(leaves, blobs)
+        number = None if leaf == '-' else numbers.setdefault(leaf, len(numbers))
+        blobs.setdefault(int(blob), []).extend([number] * int(bits))
+    return Layout(list(numbers), blobs)
 
 
 def heat_of(rows):
@@ -138,8 +137,17 @@ def pixels_of(table, width, most):
     return rows
 
 
+def bytes_of(rows):
+    """The bytes of each row of pixels. A row that is repeated is worked out once."""
+    last = None
+    for row in rows:
+        if row is not last:
+            last, data = row, bytes(part for color in row for part in color)
+        yield data
+
+
 def ppm_of(rows):
-    return b'P6\n%d %d\n255\n' % (len(rows[0]), len(rows)) + b''.join(bytes(part for color in row for part in color) for row in rows)
+    return b'P6\n%d %d\n255\n' % (len(rows[0]), len(rows)) + b''.join(bytes_of(rows))
 
 
 def chunk(name, data):
@@ -148,7 +156,7 @@ def chunk(name, data):
 
 def png_of(rows):
     """The rows as they are, in blocks that are not compressed: so the bytes are the same on each machine."""
-    data = b''.join(b'\0' + bytes(part for color in row for part in color) for row in rows)
+    data = b''.join(b'\0' + row for row in bytes_of(rows))
     blocks = [data[at:at + 65535] for at in range(0, len(data), 65535)]
     stored = b''.join(bytes([block is blocks[-1]]) + len(block).to_bytes(2, 'little') + (65535 - len(block)).to_bytes(2, 'little') + block for block in blocks)
     head = len(rows[0]).to_bytes(4, 'big') + len(rows).to_bytes(4, 'big') + bytes([8, 2, 0, 0, 0])

@@ -2,7 +2,7 @@
 pub use Rattle.std.proofs.Common.{◌≡◌, ℕ, ◌≤◌, ◌^◌, List, length, sym, ap, subst, ◌+◌, ◌-◌, ◌%◌, ◌<◌, ◌*◌, Bool, true, false, bit_xor, pos, ◌-ℤ◌, ◌∙◌, ⊎_elim, arith, ◌≢◌, zero, suc, [], ◌∷◌, ◌++◌, get_or, set, map, take, ℤ, refl, ◌/◌, All, bit_and, negsuc, w64, min, lit<, append_assoc, ◌⊎◌, rules, FitsSigned, SFits, Some, slice_index, ◌+ℤ◌, to_z, of_z, ◌*ℤ◌, fold, drop, drop-cons}
 pub use Rattle.std.proofs.lemmas.Grind.{common_steps}
 pub use Rattle.std.proofs.lemmas.Int.{ints, to_z-of_z}
-pub use Rattle.std.proofs.lemmas.Nat.{pow_pos, xor_block, and_mask, mod_below, shr_split, shr-shr}
+pub use Rattle.std.proofs.lemmas.Nat.{pow_pos, xor_block, and_mask, mod_below, shr_split, shr-shr, pow-add, div-mul-add, mod-mul-add, div-add-mod'}
 pub use Rattle.std.proofs.lemmas.Bool.{cases_lt, cases_eq}
 pub use Rattle.std.proofs.Math.Nat.{mod-eq_of_lt, mod-eq-sub-mod, pow-le-pow_right, div-lt_iff_lt-mul, div-mul-le_self, mod-lt, mul-le-mul_right, div-one, mod-one, mul_assoc, div-eq_of_lt}
 pub use Rattle.std.specs.Simd.Lanes.{zip2, Each2}
@@ -35,7 +35,7 @@ pub use Rattle.linearize.specs.ApartLaws.{line_same, column_on, columns_apart, m
 pub use Rattle.places.specs.Layout.{Owner, owner_at, field}
 pub use Rattle.places.specs.PlacesLaws.{range_split, located, pieces_weaker}
 pub use Rattle.extents.specs.declared.order.Order.TheVariants.{Row, Col, Morton}
-pub use Rattle.linearize.specs.Slots.{slot_at}
+pub use Rattle.linearize.specs.Slots.{slot_at, interleaved}
 pub use Rattle.linearize.specs.SlotsLaws.{slot_at_by_rows}
 pub use Rattle.linearize.specs.LinesLaws.{slot_in_line, slot_by_columns, slot_by_digits}
 pub use Rattle.blobs.specs.BytesLaws.{bit_read, byte_and_bit}
@@ -52,15 +52,15 @@ pub use Rattle.piece_bits.specs.declared.short.ShortRule.{ShortRule}
 pub use Rattle.piece_bits.specs.declared.stand.Stand.{Stand}
 pub use Rattle.piece_bits.specs.declared.walk.Walk.{Walk}
 pub use Rattle.piece_bits.specs.Words.{half_range, word_place, word_signed, word_width, IsWord, word_bit, turned_pieces}
-pub use Rattle.piece_bits.specs.Stretches.{stretch_place, spread_by, IsStretch}
+pub use Rattle.piece_bits.specs.Stretches.{stretch_place, IsStretch, AreEven}
 pub use Rattle.piece_bits.specs.declared.stretch.Stretch.{Stretch}
 pub use Rattle.piece_bits.specs.Lows.{low_64, IsWithin64}
-pub use Rattle.piece_bits.specs.Stretched.{number_at, stretched_at, HaveRead, HasRoom, IsPut, ArePut}
+pub use Rattle.piece_bits.specs.Stretched.{number_at, stretched_at, HaveRead, HasRoom, IsPut, ArePut, HaveEight}
 pub use Rattle.piece_bits.specs.Scattered.{byte_of, scattered_pieces}
 pub use Rattle.piece_bits.specs.Spots.{spots_of, IsWithin, bit_at_spot, spot_at}
 pub use Rattle.piece_bits.specs.SpotsOfLaws.{IsNext, nowhere, next_piece, read_next}
 pub use Rattle.piece_bits.specs.declared.stretch.Spread.{Spread}
-pub use Rattle.piece_bits.specs.declared.stretch.Spread.TheVariants.{Even, Digits}
+pub use Rattle.piece_bits.specs.declared.stretch.Spread.TheVariants.{Even, Digits, Blocks}
 pub use Rattle.piece_bits.specs.CongruenceLaws.{digits_negsuc, low_congruent, congruent_same}
 pub use Rattle.piece_bits.specs.declared.word.Word.TheVariants.{I64, Scattered, U64, TurnedU32, TurnedU64, TurnedI32, TurnedI64, I16, TurnedU16, TurnedI16, Field as FieldWord}
 pub use Rattle.piece_bits.specs.Kept.{kept, held}
@@ -78,3 +78,4 @@ pub use Rattle.piece_bits.specs.Plain.{compares}
 pub use Rattle.piece_bits.specs.CellsLaws.{IsCell, hold_is, some_bits, few_bits, bit_count, apart, written_table, written_padding, still_laid, within, read_small, read_entry_is, bit_in_lt}
 pub use Rattle.piece_bits.specs.OnePieceLaws.{one_count, one_within, one_table, one_laid, one_width, one_entry}
 pub use Rattle.piece_bits.specs.LowsLaws.{code_low}
+pub use Rattle.piece_bits.specs.Spreads.{offset_by, spread_power}

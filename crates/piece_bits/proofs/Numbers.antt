@@ -1,5 +1,5 @@
 -- Numbers that are read are of 64 bits.
-use Rattle.piece_bits.proofs.Imports.{◌≡◌, ℕ, ◌+◌, ◌-◌, ◌*◌, ◌/◌, ◌%◌, ◌^◌, ◌<◌, ◌≤◌, Bool, true, false, List, length, get_or, set, ℤ, pos, refl, sym, ap, ◌∙◌, subst, ⊎_elim, arith, pow-le-pow_right, cases_eq, ints, length-set, get_or-set_same, get_or-set_other, bit_at-lt, IsIn, number, number_lt, decoded_in, bit_of, word_place, word_signed, word_width, IsWord, Field, Word, stretch_place, ShortRule, Stretch, low_64, IsWithin64, number_at, stretched_at, HaveRead}
+use Rattle.piece_bits.proofs.Imports.{◌≡◌, ℕ, ◌+◌, ◌-◌, ◌*◌, ◌/◌, ◌%◌, ◌^◌, ◌<◌, ◌≤◌, Bool, true, false, List, length, get_or, set, ℤ, pos, refl, sym, ap, ◌∙◌, subst, ⊎_elim, arith, pow-le-pow_right, cases_eq, ints, length-set, get_or-set_same, get_or-set_other, bit_at-lt, IsIn, number, number_lt, decoded_in, bit_of, word_place, word_signed, word_width, IsWord, Field, Word, stretch_place, ShortRule, Stretch, low_64, IsWithin64, number_at, stretched_at, HaveEight, HaveRead}
 use Rattle.piece_bits.specs.declared.word.Word.TheVariants as stored
 
 within_of : (signed : Bool) (width : ℕ) (value : ℤ) → 1 ≤ width → width ≤ 64 → IsIn signed width value → IsWithin64 value
@@ -35,6 +35,7 @@ pub same_number : (short : ShortRule) (stretch : Stretch) (bytes : List ℕ) (k 
 same_number short stretch bytes k place word value same there is =
     is ∙ ap (λ (w : Word). low_64 (number_at w short.field bytes place)) same ∙ ap (λ (p : ℕ). low_64 (number_at short.word short.field bytes p)) there
 
+-- one number more
 pub one_more : (short : ShortRule) (stretch : Stretch) (bytes : List ℕ) (at done : ℕ) (old values : List ℤ) (value : ℤ) → HaveRead short stretch bytes at done old values → at + done < length old
     → value ≡ low_64 (stretched_at short stretch bytes done) → HaveRead short stretch bytes at (done + 1) old (set values (at + done) value)
 one_more short stretch bytes at done old values value have inside is = record {
@@ -49,3 +50,28 @@ one_more short stretch bytes at done old values value have inside is = record {
       get_or-set_other values (at + done) (at + k) value (pos 0) (λ same. apart (omega (arith, same))) ∙ have.each k (omega (arith, below, apart)))
       (cases_eq k done);
 }
+
+-- one number more of eight
+pub eight_more : (word : Word) (field : Field) (bytes : List ℕ) (first apart done : ℕ) (numbers : List ℤ) (value : ℤ) → HaveEight word field bytes first apart done numbers → done < 8
+    → value ≡ low_64 (number_at word field bytes (first + done * apart)) → HaveEight word field bytes first apart (done + 1) (set numbers done value)
+eight_more word field bytes first apart done numbers value have inside is = record {
+  count = length-set numbers done value ∙ have.count;
+  each = λ j below.
+      ⊎_elim
+      (λ (here : j ≡ done).
+      ap (λ (n : ℕ). get_or (set numbers done value) n (pos 0)) here ∙ get_or-set_same numbers done value (pos 0) (omega (arith, inside, have.count)) ∙ is
+      ∙ sym (ap (λ (n : ℕ). low_64 (number_at word field bytes (first + n * apart))) here))
+      (λ (other : j ≡ done → ⊥). get_or-set_other numbers done j value (pos 0) (λ same. other (omega (arith, same))) ∙ have.each j (omega (arith, below, other)))
+      (cases_eq j done);
+}
+
+-- one number more where rows go eight at a time
+pub one_of_eight : (short : ShortRule) (stretch : Stretch) (bytes : List ℕ) (at eight j : ℕ) (old values : List ℤ) (value : ℤ) → HaveRead short stretch bytes at (8 * eight + j) old values
+    → at + (8 * eight + j) < length old → value ≡ low_64 (stretched_at short stretch bytes (8 * eight + j))
+    → HaveRead short stretch bytes at (8 * eight + (j + 1)) old (set values (at + 8 * eight + j) value)
+one_of_eight short stretch bytes at eight j old values value have inside is =
+    let next : 8 * eight + j + 1 ≡ 8 * eight + (j + 1) = omega arith in
+    let here : at + (8 * eight + j) ≡ at + 8 * eight + j = omega arith in
+    subst (λ (n : ℕ). HaveRead short stretch bytes at n old (set values (at + 8 * eight + j) value)) next
+    (subst (λ (n : ℕ). HaveRead short stretch bytes at (8 * eight + j + 1) old (set values n value)) here
+    (one_more short stretch bytes at (8 * eight + j) old values value have inside is))

@@ -1,10 +1,18 @@
 -- Numbers that are put, one after another.
-use Rattle.piece_bits.proofs.Imports.{◌≡◌, ℕ, zero, suc, ◌+◌, ◌*◌, ◌≤◌, ◌<◌, ◌^◌, List, length, get_or, ℤ, pos, refl, sym, ap, ◌∙◌, subst, arith, word_bit, word_width, Field, Word, spread_by, stretch_place, ShortRule, Spread, Even, Stretch, HasRoom, IsPut, ArePut}
+use Rattle.piece_bits.proofs.Imports.{◌≡◌, ℕ, zero, suc, ◌+◌, ◌*◌, ◌≤◌, ◌<◌, ◌^◌, List, length, get_or, ℤ, pos, refl, sym, ap, ◌∙◌, subst, arith, word_bit, word_width, Field, Word, stretch_place, AreEven, ShortRule, Stretch, HasRoom, IsPut, ArePut}
 
--- the place of a row of an even stretch
-pub even_place : (stretch : Stretch) (apart k place : ℕ) → stretch.spread ≡ Even → place ≡ stretch.start + k * apart → apart ≡ stretch.apart → place ≡ stretch_place stretch k
-even_place stretch apart k place even is same =
-    is ∙ ap (λ (n : ℕ). stretch.start + k * n) same ∙ ap (λ (s : Spread). stretch.start + spread_by s k * stretch.apart) (sym even)
+-- the place of one of eight rows that lie evenly
+pub even_place : (stretch : Stretch) (eights eight j first apart : ℕ) → AreEven stretch eights → eight < eights → j < 8 → first ≡ stretch_place stretch (8 * eight) → apart ≡ stretch.apart
+    → first + j * apart ≡ stretch_place stretch (8 * eight + j)
+even_place stretch eights eight j first apart even inside few is same =
+    ap (λ (n : ℕ). n + j * apart) is ∙ ap (λ (n : ℕ). stretch_place stretch (8 * eight) + j * n) same ∙ sym (even.place eight j inside few)
+
+-- what stands at a place of a row lies within the bytes
+pub room_at : (short : ShortRule) (stretch : Stretch) (bytes k place : ℕ) (word : Word) → HasRoom short stretch bytes → k < stretch.rows → word ≡ short.word → place ≡ stretch_place stretch k
+    → word_bit word place + word_width word short.field ≤ 8 * bytes
+room_at short stretch bytes k place word room inside same there =
+    subst (λ (w : Word). word_bit w place + word_width w short.field ≤ 8 * bytes) (sym same)
+    (subst (λ (p : ℕ). word_bit short.word p + word_width short.word short.field ≤ 8 * bytes) (sym there) (room.room k inside))
 
 -- what is put changes no length
 pub put_length : (short : ShortRule) (stretch : Stretch) (values : List ℤ) (at k : ℕ) (old new : List ℕ) → ArePut short stretch values at k old new → length new ≡ length old
@@ -27,6 +35,5 @@ pub room_left : (short : ShortRule) (stretch : Stretch) (values : List ℤ) (at 
     → ArePut short stretch values at k old now → k < stretch.rows → word ≡ short.word → place ≡ stretch_place stretch k
     → word_bit word place + word_width word short.field ≤ 8 * length now
 room_left short stretch values at k place word old now room put inside same there =
-    subst (λ (w : Word). word_bit w place + word_width w short.field ≤ 8 * length now) (sym same)
-    (subst (λ (p : ℕ). word_bit short.word p + word_width short.word short.field ≤ 8 * length now) (sym there)
-    (subst (λ (n : ℕ). word_bit short.word (stretch_place stretch k) + word_width short.word short.field ≤ 8 * n) (sym (put_length short stretch values at k old now put)) (room.room k inside)))
+    subst (λ (n : ℕ). word_bit word place + word_width word short.field ≤ 8 * n) (sym (put_length short stretch values at k old now put))
+    (room_at short stretch (length old) k place word room inside same there)

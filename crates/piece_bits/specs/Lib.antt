@@ -20,6 +20,7 @@ pub mod ShortsLaws
 pub mod Stands
 pub mod Alongs
 pub mod Wides
+pub mod Spreads
 pub mod Stretches
 pub mod StretchesLaws
 pub mod Lows

@@ -35,6 +35,11 @@ pub record HaveRead (short : ShortRule) (stretch : Stretch) (bytes : List ℕ) (
   pub before : (k : ℕ) → k < at → slice_index_or values k (pos 0) ≡ slice_index_or old k (pos 0)
   pub each : (k : ℕ) → k < done → slice_index_or values (at + k) (pos 0) ≡ low_64 (stretched_at short stretch bytes k)
 
+-- the first so many of eight numbers that lie evenly from a place on are a list
+pub record HaveEight (word : Word) (field : Field) (bytes : List ℕ) (first apart done : ℕ) (numbers : List ℤ) : Type 0 where
+  pub count : length numbers ≡ 8
+  pub each : (j : ℕ) → j < done → slice_index_or numbers j (pos 0) ≡ low_64 (number_at word field bytes (first + j * apart))
+
 -- those in all rows do
 abbrev pub AreRead : ShortRule → Stretch → List ℕ → ℕ → List ℤ → List ℤ → Type 0
 AreRead short stretch bytes at old values = HaveRead short stretch bytes at stretch.rows old values

@@ -1,22 +1,21 @@
 -- Stretches: rows one after another whose places lie alike far apart.
-use Rattle.std.specs.Prelude.{ℕ, ◌≡◌, ◌≢◌, ◌+◌, ◌*◌, ◌<◌, ◌≤◌, true, [], ◌∷◌}
-use Rattle.linearize.specs.Slots.{interleaved}
+use Rattle.std.specs.Prelude.{ℕ, ◌≡◌, ◌≢◌, ◌+◌, ◌*◌, ◌<◌, ◌≤◌, true}
 use Rattle.piece_bits.specs.declared.word.Word.TheVariants as stored
 use Rattle.piece_bits.specs.Shorts.{start_in}
+use Rattle.piece_bits.specs.Spreads.{offset_by}
 use Rattle.piece_bits.specs.Walks.{leads}
 use Rattle.piece_bits.specs.declared.short.ShortRule.{ShortRule}
-use Rattle.piece_bits.specs.declared.stretch.Spread.{Spread}
 use Rattle.piece_bits.specs.declared.stretch.Spread.TheVariants as spread
 use Rattle.piece_bits.specs.declared.stretch.Stretch.{Stretch}
 
--- how many times as far as the second from the first a row lies: its number, or its binary digits moved apart
-abbrev pub spread_by : Spread → ℕ → ℕ
-spread_by spread.Even k = k
-spread_by spread.Digits k = interleaved (0 ∷ k ∷ [])
-
 -- the place of a row of a stretch
 abbrev pub stretch_place : Stretch → ℕ → ℕ
-stretch_place s k = s.start + spread_by s.spread k * s.apart
+stretch_place s k = s.start + offset_by s.spread s.apart k
+
+-- so many times eight rows, from the first on, lie evenly
+pub record AreEven (s : Stretch) (eights : ℕ) : Type 0 where
+  pub few : 8 * eights ≤ s.rows
+  pub place : (eight j : ℕ) → eight < eights → j < 8 → stretch_place s (8 * eight + j) ≡ stretch_place s (8 * eight) + j * s.apart
 
 -- its rows are some from one on, at most so many, and lie where a short form says
 pub record IsStretch (short : ShortRule) (row most : ℕ) (s : Stretch) : Type 0 where

@@ -2,7 +2,6 @@
 //! number; short forms of rules; many rows at once, and sixteen numbers side by side.
 #![tactic(auto)]
 
-mod block;
 mod bytes;
 mod compare;
 mod entry;
@@ -24,6 +23,7 @@ mod shorten;
 mod stand;
 mod start;
 mod stretch;
+mod stretches;
 mod told_tables;
 mod unit;
 mod value;
@@ -33,7 +33,6 @@ mod wide_rules;
 mod word;
 mod words;
 
-pub use block::Block;
 pub use compare::Compare;
 pub use entry::{read_entry, read_piece, write_entry, write_piece};
 pub use far::folded;

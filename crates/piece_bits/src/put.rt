@@ -4,31 +4,32 @@ ghost use Rattle.std.specs.Int.{bit_at};
 ghost use Rattle.blobs.specs.Bits.{bit_of};
 ghost use Rattle.piece_bits.specs.Words.{word_bit, word_width, IsWord};
 ghost use Rattle.piece_bits.specs.Stretched.{HasRoom, ArePut, IsPut};
-ghost use Rattle.piece_bits.specs.declared.stretch.Spread.TheVariants.{Even as even};
 
 use crate::low_numbers::low_bits;
-use crate::{Field, ShortRule, Spread, Stretch, Word};
+use crate::{Field, ShortRule, Stretch, Word};
 use blobs::{Blob, with_bits};
 
 /// Makes the numbers that stand in the rows of a stretch those from one on, each by as many of its low bits as it is stored in. All other
-/// bits stay.
+/// bits stay. Rows that lie evenly go eight at a time.
 pub fn put_stretch(blob: &mut Blob, short: &ShortRule, stretch: &Stretch, values: &[i64], at: usize)
     requires rows { at + stretch.now.rows ≤ length values.now }
     requires room { HasRoom short.now stretch.now (length blob.old) }
     ensures { ArePut short.now stretch.now values.now at stretch.now.rows blob.old blob.new }
 {
-    match stretch.spread {
-        Spread::Even => put_even(blob, short, stretch, values, at),
-        Spread::Digits => put_digits(blob, short, stretch, values, at),
+    let done = put_even(blob, short, stretch, values, at);
+    for k in done..stretch.rows {
+        let place = stretch.place(k);
+        let value = values[at + k as usize];
+        put_number(blob, place, short.word, &short.field, value);
     }
 }
 
-// Rows that lie evenly: a loop for each way in which a number may be stored.
-fn put_even(blob: &mut Blob, short: &ShortRule, stretch: &Stretch, values: &[i64], at: usize)
-    requires even { stretch.now.spread ≡ even }
+// As many of them as go eight at a time, and how many these are: a loop for each way in which a number may be stored, which is asked once.
+fn put_even(blob: &mut Blob, short: &ShortRule, stretch: &Stretch, values: &[i64], at: usize) -> u64
     requires rows { at + stretch.now.rows ≤ length values.now }
     requires room { HasRoom short.now stretch.now (length blob.old) }
-    ensures { ArePut short.now stretch.now values.now at stretch.now.rows blob.old blob.new }
+    ensures few { result ≤ stretch.now.rows }
+    ensures put { ArePut short.now stretch.now values.now at result blob.old blob.new }
 {
     match short.word {
         Word::U8 => put_by(blob, short, stretch, Word::U8, 1, values, at),
@@ -45,7 +46,7 @@ fn put_even(blob: &mut Blob, short: &ShortRule, stretch: &Stretch, values: &[i64
         Word::TurnedI16 => put_by(blob, short, stretch, Word::TurnedI16, 2, values, at),
         Word::TurnedI32 => put_by(blob, short, stretch, Word::TurnedI32, 4, values, at),
         Word::TurnedI64 => put_by(blob, short, stretch, Word::TurnedI64, 8, values, at),
-        Word::Field => put_each(blob, short, stretch, Word::Field, stretch.apart, values, at),
+        Word::Field => put_eights(blob, short, stretch, Word::Field, stretch.apart, values, at),
         Word::Scattered => unreachable!(),
     }
 }
@@ -60,23 +61,23 @@ fn put_by(
     bytes: u64,
     values: &[i64],
     at: usize,
-)
+) -> u64
     requires word { word ≡ short.now.word }
-    requires even { stretch.now.spread ≡ even }
     requires rows { at + stretch.now.rows ≤ length values.now }
     requires room { HasRoom short.now stretch.now (length blob.old) }
-    ensures { ArePut short.now stretch.now values.now at stretch.now.rows blob.old blob.new }
+    ensures few { result ≤ stretch.now.rows }
+    ensures put { ArePut short.now stretch.now values.now at result blob.old blob.new }
 {
     if stretch.apart == bytes {
-        put_each(blob, short, stretch, word, bytes, values, at);
+        put_eights(blob, short, stretch, word, bytes, values, at)
     } else {
-        put_each(blob, short, stretch, word, stretch.apart, values, at);
+        put_eights(blob, short, stretch, word, stretch.apart, values, at)
     }
 }
 
-// The loop, in which nothing is asked.
+// The loop, in which nothing is asked but the place.
 #[inline(always)]
-fn put_each(
+fn put_eights(
     blob: &mut Blob,
     short: &ShortRule,
     stretch: &Stretch,
@@ -84,36 +85,23 @@ fn put_each(
     apart: u64,
     values: &[i64],
     at: usize,
-)
+) -> u64
     requires word { word ≡ short.now.word }
     requires apart { apart ≡ stretch.now.apart }
-    requires even { stretch.now.spread ≡ even }
     requires rows { at + stretch.now.rows ≤ length values.now }
     requires room { HasRoom short.now stretch.now (length blob.old) }
-    ensures { ArePut short.now stretch.now values.now at stretch.now.rows blob.old blob.new }
+    ensures few { result ≤ stretch.now.rows }
+    ensures put { ArePut short.now stretch.now values.now at result blob.old blob.new }
 {
-    for k in 0..stretch.rows {
-        let place = stretch.start + k * apart;
-        put_number(blob, place, word, &short.field, values[at + k as usize]);
+    let eights = stretch.eights();
+    for eight in 0..eights {
+        let first = stretch.place(8 * eight);
+        for j in 0..8 {
+            let value = values[at + (8 * eight + j) as usize];
+            put_number(blob, first + j * apart, word, &short.field, value);
+        }
     }
-}
-
-// Rows that lie as the digits of their numbers.
-fn put_digits(blob: &mut Blob, short: &ShortRule, stretch: &Stretch, values: &[i64], at: usize)
-    requires rows { at + stretch.now.rows ≤ length values.now }
-    requires room { HasRoom short.now stretch.now (length blob.old) }
-    ensures { ArePut short.now stretch.now values.now at stretch.now.rows blob.old blob.new }
-{
-    for k in 0..stretch.rows {
-        let place = stretch.place(k);
-        put_number(
-            blob,
-            place,
-            short.word,
-            &short.field,
-            values[at + k as usize],
-        );
-    }
+    8 * eights
 }
 
 // Makes the number that stands at a place the low bits of this one: a store of its size.

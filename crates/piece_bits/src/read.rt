@@ -1,16 +1,15 @@
 // Numbers that are read.
-ghost use Rattle.std.specs.Prelude.{ℕ, ◌≡◌, ◌≢◌, ◌<◌, ◌≤◌, ◌+◌, ◌*◌, ◌^◌, pos, length, slice_index_or};
+ghost use Rattle.std.specs.Prelude.{ℕ, ◌≡◌, ◌<◌, ◌≤◌, ◌+◌, ◌*◌, ◌^◌, length};
 ghost use Rattle.piece_bits.specs.Words.{word_bit, word_width, IsWord};
 ghost use Rattle.piece_bits.specs.Lows.{low_64};
-ghost use Rattle.piece_bits.specs.Stretched.{number_at, stretched_at, HasRoom, AreRead};
-ghost use Rattle.piece_bits.specs.declared.stretch.Spread.TheVariants.{Even as even};
+ghost use Rattle.piece_bits.specs.Stretched.{number_at, HasRoom, HaveEight, HaveRead, AreRead};
 
 use crate::low_numbers::low_of;
-use crate::{Field, ShortRule, Spread, Stretch, Word, read_word};
+use crate::{Field, ShortRule, Stretch, Word, read_word};
 use blobs::Blob;
 
-/// Puts the numbers that stand in the rows of a stretch into places from one on, each as 64 bits with a sign. How they are stored is asked
-/// once, and in an array the distance is a constant, so that several are loaded at once.
+/// Puts the numbers that stand in the rows of a stretch into places from one on, each as 64 bits with a sign. Rows that lie evenly go eight at
+/// a time.
 pub fn read_stretch(
     blob: &Blob,
     short: &ShortRule,
@@ -22,18 +21,25 @@ pub fn read_stretch(
     requires room { HasRoom short.now stretch.now (length blob.now) }
     ensures { AreRead short.now stretch.now blob.now at values.old values.new }
 {
-    match stretch.spread {
-        Spread::Even => read_even(blob, short, stretch, values, at),
-        Spread::Digits => read_digits(blob, short, stretch, values, at),
+    let done = read_even(blob, short, stretch, values, at);
+    for k in done..stretch.rows {
+        let place = stretch.place(k);
+        values[at + k as usize] = number_at(blob, place, short.word, &short.field);
     }
 }
 
-// Rows that lie evenly: a loop for each way in which a number may be stored.
-fn read_even(blob: &Blob, short: &ShortRule, stretch: &Stretch, values: &mut [i64], at: usize)
-    requires even { stretch.now.spread ≡ even }
+// As many of them as go eight at a time, and how many these are: a loop for each way in which a number may be stored, which is asked once.
+fn read_even(
+    blob: &Blob,
+    short: &ShortRule,
+    stretch: &Stretch,
+    values: &mut [i64],
+    at: usize,
+) -> u64
     requires rows { at + stretch.now.rows ≤ length values.old }
     requires room { HasRoom short.now stretch.now (length blob.now) }
-    ensures { AreRead short.now stretch.now blob.now at values.old values.new }
+    ensures few { result ≤ stretch.now.rows }
+    ensures read { HaveRead short.now stretch.now blob.now at result values.old values.new }
 {
     match short.word {
         Word::U8 => read_by(blob, short, stretch, Word::U8, 1, values, at),
@@ -50,12 +56,13 @@ fn read_even(blob: &Blob, short: &ShortRule, stretch: &Stretch, values: &mut [i6
         Word::TurnedI16 => read_by(blob, short, stretch, Word::TurnedI16, 2, values, at),
         Word::TurnedI32 => read_by(blob, short, stretch, Word::TurnedI32, 4, values, at),
         Word::TurnedI64 => read_by(blob, short, stretch, Word::TurnedI64, 8, values, at),
-        Word::Field => read_each(blob, short, stretch, Word::Field, stretch.apart, values, at),
+        Word::Field => read_eights(blob, short, stretch, Word::Field, stretch.apart, values, at),
         Word::Scattered => unreachable!(),
     }
 }
 
-// The same of a word that the caller knows, whose numbers have so many bytes.
+// The same of a word that the caller knows, whose numbers have so many bytes. In an array the distance is a constant, so that a load takes
+// several numbers.
 #[inline(always)]
 fn read_by(
     blob: &Blob,
@@ -65,23 +72,23 @@ fn read_by(
     bytes: u64,
     values: &mut [i64],
     at: usize,
-)
+) -> u64
     requires word { word ≡ short.now.word }
-    requires even { stretch.now.spread ≡ even }
     requires rows { at + stretch.now.rows ≤ length values.old }
     requires room { HasRoom short.now stretch.now (length blob.now) }
-    ensures { AreRead short.now stretch.now blob.now at values.old values.new }
+    ensures few { result ≤ stretch.now.rows }
+    ensures read { HaveRead short.now stretch.now blob.now at result values.old values.new }
 {
     if stretch.apart == bytes {
-        read_each(blob, short, stretch, word, bytes, values, at);
+        read_eights(blob, short, stretch, word, bytes, values, at)
     } else {
-        read_each(blob, short, stretch, word, stretch.apart, values, at);
+        read_eights(blob, short, stretch, word, stretch.apart, values, at)
     }
 }
 
-// The loop, in which nothing is asked.
+// The loop, in which nothing is asked but the place.
 #[inline(always)]
-fn read_each(
+fn read_eights(
     blob: &Blob,
     short: &ShortRule,
     stretch: &Stretch,
@@ -89,29 +96,38 @@ fn read_each(
     apart: u64,
     values: &mut [i64],
     at: usize,
-)
+) -> u64
     requires word { word ≡ short.now.word }
     requires apart { apart ≡ stretch.now.apart }
-    requires even { stretch.now.spread ≡ even }
     requires rows { at + stretch.now.rows ≤ length values.old }
     requires room { HasRoom short.now stretch.now (length blob.now) }
-    ensures { AreRead short.now stretch.now blob.now at values.old values.new }
+    ensures few { result ≤ stretch.now.rows }
+    ensures read { HaveRead short.now stretch.now blob.now at result values.old values.new }
 {
-    for k in 0..stretch.rows {
-        let place = stretch.start + k * apart;
-        values[at + k as usize] = number_at(blob, place, word, &short.field);
+    let eights = stretch.eights();
+    for eight in 0..eights {
+        let first = stretch.place(8 * eight);
+        let numbers = eight_at(blob, first, apart, word, &short.field);
+        for j in 0..8 {
+            values[at + 8 * eight as usize + j] = numbers[j];
+        }
     }
+    8 * eights
 }
 
-// Rows that lie as the digits of their numbers.
-fn read_digits(blob: &Blob, short: &ShortRule, stretch: &Stretch, values: &mut [i64], at: usize)
-    requires rows { at + stretch.now.rows ≤ length values.old }
-    requires room { HasRoom short.now stretch.now (length blob.now) }
-    ensures { AreRead short.now stretch.now blob.now at values.old values.new }
+// Eight numbers that lie evenly. All are loaded before the first is stored, since a store might change what is loaded.
+#[inline(always)]
+fn eight_at(blob: &Blob, first: u64, apart: u64, word: Word, field: &Field) -> [i64; 8]
+    requires form { IsWord word field.now }
+    requires fits { first + 7 * apart < 2 ^ 64 }
+    requires within { (j : ℕ) → j < 8 → word_bit word (first + j * apart) + word_width word field.now ≤ 8 * length blob.now }
+    ensures { HaveEight word field.now blob.now first apart 8 result }
 {
-    for k in 0..stretch.rows {
-        values[at + k as usize] = number_at(blob, stretch.place(k), short.word, &short.field);
+    let mut numbers = [0; 8];
+    for j in 0..8 {
+        numbers[j] = number_at(blob, first + j as u64 * apart, word, field);
     }
+    numbers
 }
 
 // The number that stands at a place, as 64 bits with a sign.

@@ -2,12 +2,12 @@
 ghost use Rattle.std.specs.Prelude.{◌≡◌, ◌+◌, ◌-◌, ◌<◌, ◌≤◌, ◌++◌, pos, OnOk, OnErr, IfErr, Some, None, [], length, map, take, drop, replicate, slice_index_or};
 ghost use Rattle.std.specs.Simd.Lanes.{Each1};
 ghost use Rattle.piece_bits.specs.Blocks.{IsBlock, IsNarrow};
+ghost use Rattle.piece_bits.specs.Lows.{low_64};
 ghost use Rattle.views.specs.Columns.{in_leaf, column, column_reads, column_writes, with_column, first_lane_fault, IsNarrowLeaf};
 ghost use Rattle.views.specs.Tables.{answer_of, kept_of, leaf_count_of, after_log, after_read, after_stores};
 
 use super::View;
 use crate::fault::LaneFault;
-use piece_bits::Block;
 use record_dim::Steps;
 use std::simd::Simd;
 use std::sync::ledger::Ledger;
@@ -36,7 +36,7 @@ impl View {
         for lane in 0..lanes {
             values[lane] = self.narrow_value(self.row_after(row, lane), leaf);
         }
-        Block::of_array(values).lanes()
+        Simd::from_array(values)
     }
 
     /// Stores the values of the first so many lanes in a leaf of so many rows, from this one on. It takes one step, also where one of them
@@ -52,16 +52,14 @@ impl View {
         requires few { lanes ≤ 16 }
         requires rows_in { row + lanes ≤ length self.old.rows }
         requires leaf { IsNarrowLeaf self.old leaf }
-        requires values { IsBlock values }
-        ensures taken { OnOk result (first_lane_fault (answer_of self.old) leaf 0 (take lanes values) ≡ None) }
-        ensures stored { OnOk result (self.new ≡ after_stores self.old (with_column leaf row (map (kept_of self.old leaf) (take lanes values)) self.old.rows) (column_writes leaf row lanes)) }
-        ensures named { IfErr result (λ fault. first_lane_fault (answer_of self.old) leaf 0 (take lanes values) ≡ Some fault) }
+        ensures taken { OnOk result (first_lane_fault (answer_of self.old) leaf 0 (take lanes (map low_64 values)) ≡ None) }
+        ensures stored { OnOk result (self.new ≡ after_stores self.old (with_column leaf row (map (kept_of self.old leaf) (take lanes (map low_64 values))) self.old.rows) (column_writes leaf row lanes)) }
+        ensures named { IfErr result (λ fault. first_lane_fault (answer_of self.old) leaf 0 (take lanes (map low_64 values)) ≡ Some fault) }
         ensures refused { OnErr result (self.new ≡ self.old) }
         ensures step { steps.new ≡ steps.old + 1 }
     {
         steps.tick();
-        let values = Block::of(values).to_array();
-        self.store_values(row, leaf, &values[..lanes])
+        self.store_values(row, leaf, &values.to_array()[..lanes])
     }
 
     // Stores values in a leaf of the rows from this one on.

@@ -1,7 +1,7 @@
-use Rattle.piece_bits.proofs.Imports.{ℕ, ◌≡◌, ◌≢◌, ◌+◌, sym, subst, arith, Scattered, HasStart, ShortRule, Spread}
-use Rattle.piece_bits.proofs.StretchLaws.{AreSteps, steps_stretch, plain_steps, block_steps, column_steps, digit_steps}
+use Rattle.piece_bits.proofs.Imports.{ℕ, ◌≡◌, ◌≢◌, ◌+◌, ◌∙◌, sym, ap, subst, arith, bit_and, and_mask, Scattered, HasStart, ShortRule, Spread}
+use Rattle.piece_bits.proofs.StretchLaws.{AreSteps, steps_stretch, plain_steps, block_steps, blocks_steps, column_steps, digit_steps}
 use Rattle.piece_bits.proofs.short.ShortRule.stretch.Goals as goal
-use Rattle.piece_bits.proofs.short.ShortRule.stretch.Goals.{in-Plain, in-Blocks, in-Columns+in_ok-apart-in-Columns, in-Morton, in-Scattered, in_default}
+use Rattle.piece_bits.proofs.short.ShortRule.stretch.Goals.{in-Plain, in-Blocks+then-row-self-eq0, in-Blocks+else-row-self-eq0, in-Columns+in_ok-apart-in-Columns, in-Morton, in-Scattered, in_default}
 
 pub start-requires : goal.start-requires
 start-requires c = λ some.
@@ -25,7 +25,11 @@ returns c =
     let Steps : ℕ × Spread × ℕ → Type 0 = λ t. AreSteps short row t.0 t.1 t.2 in
     let steps : Steps c.match-self.apart = elim c.match-self.branch [
       | in-Plain w ↦ subst Steps (sym w.apart-is) (plain_steps short row c.args.most w.in-Plain.is c.requires.some)
-      | in-Blocks w ↦ subst Steps (sym w.apart-is) (block_steps short row w.block_rows.result w.in-Blocks.is w.block_rows.ensures)
+      | in-Blocks+then-row-self-eq0 w ↦
+          subst Steps (sym w.apart-is)
+          (blocks_steps short row c.args.most w.in-Blocks.is
+          (omega (arith, ap (λ (n : ℕ). bit_and row n) short.masked ∙ and_mask row short.power, w.if-row-self-eq0.true)) c.requires.some)
+      | in-Blocks+else-row-self-eq0 w ↦ subst Steps (sym w.apart-is) (block_steps short row w.block_rows.result w.in-Blocks.is w.block_rows.ensures)
       | in-Columns+in_ok-apart-in-Columns w ↦
           subst Steps (sym w.apart-is)
           (column_steps short row w.in_ok-apart-in-Columns.apart w.line_rows.result w.in-Columns.is w.in_ok-apart-in-Columns.ensures.1 w.line_rows.ensures)

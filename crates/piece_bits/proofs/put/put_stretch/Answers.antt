@@ -1,6 +1,6 @@
 use Rattle.piece_bits.proofs.Imports.{◌≡◌, ◌<◌, ◌+◌, ◌∙◌, length, get_or, pos, refl, rules, FitsSigned, w64, arith, to_z-of_z}
 use Rattle.piece_bits.proofs.Puts.{put_more, room_left}
-use Rattle.piece_bits.proofs.put.put_digits.Goals as goal
+use Rattle.piece_bits.proofs.put.put_stretch.Goals as goal
 
 pub put_number-requires-clause-within : goal.put_number-requires-clause-within
 put_number-requires-clause-within c =

@@ -1,8 +1,0 @@
-use Rattle.piece_bits.proofs.Imports.{subst, sym, IsBlock, same}
-use Rattle.piece_bits.proofs.block.Block.of_array.Goals as goal
-
-pub invariant_of-result : goal.invariant_of-result
-invariant_of-result c = subst IsBlock (sym (same c.args.numbers c.requires.fit)) c.requires
-
-pub returns : goal.returns
-returns c = same c.args.numbers c.requires.fit

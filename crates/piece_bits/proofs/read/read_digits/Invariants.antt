@@ -1,5 +1,0 @@
-use Rattle.piece_bits.proofs.Imports.{HaveRead}
-use Rattle.piece_bits.proofs.read.read_digits.Given as goal
-
-abbrev pub invariant-loop-k : goal.invariant-loop-k
-invariant-loop-k l = HaveRead l.short l.stretch l.blob l.at l.k l.initial.values l.values
