@@ -1,13 +1,16 @@
-# make: proves and builds the program. demo: runs it on examples/first. install: puts it on the PATH. library: proves and builds the library
+# make: proves and builds the program. try: runs the script SCRIPT, before anything is proved too. demo: runs examples/first so. install: puts it on the PATH. library: proves and builds the library
 # for C in lib/. install-library: puts it, its header and its pkg-config file below PREFIX.
 PREFIX ?= /usr/local
 
 program = crates/layout_cli/out/layout_cli
 
-.PHONY: all demo install library install-library clean
+.PHONY: all try demo install library install-library clean
 
 all:
 	tools/build
+
+try:
+	@tools/try "$(SCRIPT)"
 
 demo:
 	@tools/demo

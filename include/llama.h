@@ -20,7 +20,7 @@
  * A text is bytes with a length, not ended by 0. Lines are those of the second version of the language, whole, of at most 4,096 bytes. Rows,
  * leaves and blobs count from 0: leaf 0 is the first of the record. Memory is taken by llama_new, llama_load, llama_open, llama_relayout,
  * llama_kernel, llama_print and llama_save alone; each may answer LLAMA_NO_MEMORY, and then changes nothing but counts of accesses. A call takes at
- * most 160 KiB of stack, whatever text it is handed: this is measured, not proved.
+ * most 64 KiB of stack, whatever text it is handed: this is measured, not proved.
  * Each call but llama_drop and llama_version answers a number below, and changes nothing but what it says.
  */
 #ifndef LLAMA_H

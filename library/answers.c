@@ -1,4 +1,4 @@
-/* Each answer of each call of llama.h, once: its number, what it tells of its fault, and what it leaves. tools/library_examples runs it; it says what
+/* Answers of the calls of llama.h: their numbers, what they report of their faults, and what they leave. Those for a lack of memory are not among them. tools/library_examples runs it; it says what
  * differs, and ends with 0 where nothing does.
  */
 #include <inttypes.h>

@@ -20,11 +20,11 @@ use views::{View, laws_of_table};
 pub const MAGIC: [u8; 8] = [b'L', b'L', b'A', b'M', b'A', b'B', b'1', b'\n'];
 
 // The most bytes of a blob that go to the sink at once.
-const BLOCK_BYTES: usize = 65_536;
+const BLOCK_BYTES: usize = 16_384;
 
 /// Writes a view as a file: a header, which says its record, its extents, how it stores and its mapping, and the bytes of its blobs. `TooBig`
 /// comes exactly where a text of the header has more than 4,096 bytes. All memory is taken before the first write. A blob of more than 4,096
-/// bytes is written in blocks of 65,536, and smaller ones are gathered.
+/// bytes is written in blocks of 16,384, and smaller ones are gathered.
 pub fn write_file<K: Sink>(alloc: Global, view: &View, sink: &mut K) -> Result<(), SaveEnd>
     ensures saved { IsSaved K.taken K.faults sink.old sink.new (header_of view.now) (blobs_of view.now) result }
     ensures file { IsShort (header_of view.now) → IsFile (file_of (header_of view.now) (blobs_of view.now)) (header_of view.now) (blobs_of view.now) }

@@ -232,7 +232,9 @@ fn filled_as<L: Ledger>(
     )
 }
 
-// A view of zeros with the values of a dataset of as many rows.
+// A view of zeros with the values of a dataset of as many rows. The readers of datasets take much of the stack, which is not to be taken
+// while the lines are read.
+#[inline(never)]
 fn with_rows<L: Ledger>(
     alloc: Global,
     csv: &[u8],

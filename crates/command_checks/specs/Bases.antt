@@ -1,8 +1,24 @@
 -- Mappings without names, and the rows that words ask for.
-use Rattle.std.specs.Prelude.{ℕ, nat_lt, count_by, List, Option, Some, unwrap_or, if◌then◌else◌}
+use Rattle.std.specs.Prelude.{Box, box_value, ℕ, nat_lt, count_by, List, Option, Some, unwrap_or, if◌then◌else◌}
+use Rattle.std.specs.Global.{Global}
 use Rattle.extents.specs.Shapes.{is_rows}
 use Rattle.extents.specs.declared.words.ExtentWord.{ExtentWord}
+use Rattle.map_expr.specs.declared.expr.MapExpr.{MapExpr}
+use Rattle.map_expr.specs.Terms.{Term as MapTerm, Byteswap, Bytesplit, Change, Count, Heat, term_of}
 pub use Rattle.blob_file.specs.Headers.{is_nameless}
+
+-- the mapping expression in a box
+abbrev pub boxed_term : Box MapExpr Global → MapTerm
+boxed_term boxed = term_of (box_value boxed)
+
+-- an expression with another one in place of the one that is in it
+abbrev pub around : MapTerm → MapTerm → MapTerm
+around (Byteswap inner) new = Byteswap new
+around (Bytesplit inner) new = Bytesplit new
+around (Change from to inner) new = Change from to new
+around (Count inner) new = Count new
+around (Heat granule inner) new = Heat granule new
+around other new = new
 
 -- the number of rows that is given to words: 0 for a `?` where none is given
 abbrev pub rows_for : List ExtentWord → Option ℕ → Option ℕ

@@ -33,6 +33,6 @@ pub use Rattle.line_phrases.specs.MapLaws.{map_parses}
 pub use Rattle.line_phrases.specs.PassLaws.{passes_listed}
 pub use Rattle.line_phrases.specs.PathsLaws.{path_parses}
 pub use Rattle.line_phrases.specs.StencilLaws.{const_parses, span_parses, term_parses}
-pub use Rattle.line_phrases.specs.Fields.{more_dims_at, dims_at, field_at}
+pub use Rattle.line_phrases.specs.Fields.{boxed_field, more_dims_at, dims_at, field_at}
 pub use Rattle.line_phrases.specs.FieldLaws.{onto}
 pub use Rattle.line_phrases.specs.Widths.{field_width_at}

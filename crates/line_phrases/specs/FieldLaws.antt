@@ -6,16 +6,17 @@ use Rattle.phrases.specs.MoreLaws.{Listed, Takes, behind_bare, behind_starts, be
 use Rattle.line_tokens.specs.declared.sign.Sign.TheVariants.{OpenBrace, CloseBrace, OpenBracket, CloseBracket, Colon, Comma}
 use Rattle.record_dim.specs.declared.leaf_type.LeafType.TheVariants.{Bool as Truth}
 use Rattle.record_dim.specs.declared.dim.Field.{Field as FieldValue}
-use Rattle.record_dim.specs.Trees.{Tree, Fields, Single, Record, Array, End, Field, tree_of}
+use Rattle.record_dim.specs.Trees.{Tree, Fields, Single, Record, Array, End, Field}
 use Rattle.line_grammar.specs.declared.token.Token.{Token}
 use Rattle.line_grammar.specs.declared.token.Token.TheVariants.{Word, Sign as Signed}
 use Rattle.line_grammar.specs.Tokens.{is_sign, type_of}
 use Rattle.line_grammar.specs.Grammar.{IsBraced, IsDim, IsDims, IsField, IsFields, IsNested, IsTyped, arrays, fields_of_list}
 use Rattle.line_phrases.specs.Lists.{rest_at}
-use Rattle.line_phrases.specs.Fields.{dim_at, more_dims_at, dims_at, typed_at, nested_at, braced_at, field_at, fields_at}
+use Rattle.line_phrases.specs.Fields.{boxed_field, dim_at, more_dims_at, dims_at, typed_at, nested_at, braced_at, field_at, fields_at}
 use Rattle.line_phrases.specs.BasicsLaws.{Not, anything, behind_not, count_parses, exact_sign, name_parses}
 use Rattle.line_phrases.specs.ListLaws.{AfterList, comma_listed, listed_parses}
-use Rattle.std.specs.Prelude.{codes}
+use Rattle.std.specs.Global.{Global}
+use Rattle.std.specs.Prelude.{Box, codes}
 
 dim_parses : Parses IsDim dim_at Always
 unfolding dim_at
@@ -94,14 +95,15 @@ onto_end [] = refl
 onto_end (first ∷ fields) = ap (Field first.0 first.1) (onto_end fields)
 
 -- the same of the code's fields
-abbrev pub entries : List FieldValue → List (List ℕ × Tree)
-entries fields = map (λ field. (field.name, tree_of field.dim)) fields
+abbrev pub entries : List (Box FieldValue Global) → List (List ℕ × Tree)
+entries fields = map boxed_field fields
 
-pub onto_pop : (fields : List FieldValue) (field : FieldValue) (rest : Fields) → onto (entries (fields ++ field ∷ [])) rest ≡ onto (entries fields) (Field field.name (tree_of field.dim) rest)
+pub onto_pop : (fields : List (Box FieldValue Global)) (field : Box FieldValue Global) (rest : Fields) → onto (entries (fields ++ field ∷ [])) rest
+    ≡ onto (entries fields) (Field (boxed_field field).0 (boxed_field field).1 rest)
 onto_pop [] field rest = refl
-onto_pop (first ∷ fields) field rest = ap (Field first.name (tree_of first.dim)) (onto_pop fields field rest)
+onto_pop (first ∷ fields) field rest = ap (Field (boxed_field first).0 (boxed_field first).1) (onto_pop fields field rest)
 
-pub onto_all : (fields : List FieldValue) → onto (entries fields) End ≡ fields_of_list (entries fields)
+pub onto_all : (fields : List (Box FieldValue Global)) → onto (entries fields) End ≡ fields_of_list (entries fields)
 onto_all fields = onto_end (entries fields)
 
 pub ruleset fields_last = (onto_pop, onto_all)
@@ -129,14 +131,14 @@ pub field_end : (n : ℕ) → (found : List (List ℕ × Tree)) (tokens : List T
 unfolding rest_at
 field_end n = more_end (is_sign Comma) (behind_at (is_sign Comma) (field_at n))
 
-entries_more : (fields : List FieldValue) (field : FieldValue) → entries (fields ++ field ∷ []) ≡ entries fields ++ (field.name, tree_of field.dim) ∷ []
+entries_more : (fields : List (Box FieldValue Global)) (field : Box FieldValue Global) → entries (fields ++ field ∷ []) ≡ entries fields ++ boxed_field field ∷ []
 entries_more [] field = refl
-entries_more (first ∷ fields) field = ap (λ (k : List (List ℕ × Tree)). (first.name, tree_of first.dim) ∷ k) (entries_more fields field)
+entries_more (first ∷ fields) field = ap (λ (k : List (List ℕ × Tree)). boxed_field first ∷ k) (entries_more fields field)
 
-pub field_pushed : (n : ℕ) (fields : List FieldValue) (tokens us : List Token) (field : FieldValue) (rest : List Token) → starts (is_sign Comma) tokens ≡ true
-    → past (is_sign Comma) tokens ≡ Ok us → field_at n us ≡ Ok ((field.name, tree_of field.dim), rest) →
+pub field_pushed : (n : ℕ) (fields : List (Box FieldValue Global)) (tokens us : List Token) (field : Box FieldValue Global) (rest : List Token) → starts (is_sign Comma) tokens ≡ true
+    → past (is_sign Comma) tokens ≡ Ok us → field_at n us ≡ Ok (boxed_field field, rest) →
     rest_at (field_at n) (entries fields) tokens ≡ rest_at (field_at n) (entries (fields ++ field ∷ [])) rest
 field_pushed n fields tokens us field rest passes is then =
-    field_stepped n (entries fields) tokens us (field.name, tree_of field.dim) rest passes is then ∙ ap (λ k. rest_at (field_at n) k rest) (sym (entries_more fields field))
+    field_stepped n (entries fields) tokens us (boxed_field field) rest passes is then ∙ ap (λ k. rest_at (field_at n) k rest) (sym (entries_more fields field))
 
 pub ruleset field_steps = (field_pushed, field_stop, field_bare, field_end)

@@ -1,12 +1,18 @@
 -- How the fields of a record are read.
-use Rattle.std.specs.Prelude.{ℕ, zero, suc, List, [], Result}
+use Rattle.std.specs.Prelude.{Box, box_value, ℕ, zero, suc, List, [], Result}
+use Rattle.std.specs.Global.{Global}
 use Rattle.phrases.specs.Reading.{item_at, behind_at, then_at, give_at, either_at, steps_at, more_at}
 use Rattle.line_tokens.specs.declared.sign.Sign.TheVariants.{OpenBrace, CloseBrace, OpenBracket, CloseBracket, Colon}
-use Rattle.record_dim.specs.Trees.{Tree, Fields, Single, Record}
+use Rattle.record_dim.specs.declared.dim.Field.{Field}
+use Rattle.record_dim.specs.Trees.{Tree, Fields, Single, Record, tree_of}
 use Rattle.line_grammar.specs.declared.token.Token.{Token}
 use Rattle.line_grammar.specs.Tokens.{is_sign, name_of, count_of, type_of}
 use Rattle.line_grammar.specs.Grammar.{arrays, fields_of_list}
 use Rattle.line_phrases.specs.Lists.{listed_at}
+
+-- the name and the tree of a field that was read
+abbrev pub boxed_field : Box Field Global → List ℕ × Tree
+boxed_field boxed = ((box_value boxed).name, tree_of (box_value boxed).dim)
 
 unfoldable pub dim_at : List Token → Result (ℕ × List Token) ℕ
 dim_at = behind_at (is_sign OpenBracket) (then_at (item_at count_of) (λ count. behind_at (is_sign CloseBracket) (give_at count)))

@@ -1,10 +1,12 @@
 -- How a mapping is read.
-use Rattle.std.specs.Prelude.{ℕ, zero, suc, List, Option, Some, None, Result}
+use Rattle.std.specs.Prelude.{Box, box_value, ℕ, zero, suc, List, Option, Some, None, Result}
+use Rattle.std.specs.Global.{Global}
 use Rattle.phrases.specs.Reading.{item_at, behind_at, then_at, give_at, either_at}
 use Rattle.line_tokens.specs.declared.sign.Sign.TheVariants.{OpenParen, CloseParen, Comma, Arrow}
 use Rattle.extents.specs.declared.order.Order.{Order}
 use Rattle.map_expr.specs.declared.widths.FieldWidth.{FieldWidth}
-use Rattle.map_expr.specs.Terms.{Term as MapTerm, Aos, Soa, Aosoa, BitAos, BitSoa, Split, Byteswap, Bytesplit, Change, Count, Heat, Named}
+use Rattle.map_expr.specs.declared.expr.MapExpr.{MapExpr}
+use Rattle.map_expr.specs.Terms.{Term as MapTerm, Aos, Soa, Aosoa, BitAos, BitSoa, Split, Byteswap, Bytesplit, Change, Count, Heat, Named, term_of}
 use Rattle.line_grammar.specs.declared.line.MapWord.{MapWord}
 use Rattle.line_grammar.specs.declared.line.MapWord.TheVariants as form
 use Rattle.line_grammar.specs.declared.token.Token.{Token}
@@ -14,6 +16,16 @@ use Rattle.line_phrases.specs.declared.maps.BitForm.{BitForm}
 use Rattle.line_phrases.specs.declared.maps.BitForm.TheVariants as bits
 use Rattle.line_phrases.specs.Paths.{path_at}
 use Rattle.line_phrases.specs.Widths.{field_widths_at}
+
+-- the mapping that was read
+abbrev pub boxed_map : Box MapExpr Global → MapTerm
+boxed_map boxed = term_of (box_value boxed)
+
+-- one of the forms that have a mapping in them and nothing else
+abbrev pub over : MapWord → MapTerm → MapTerm
+over form.Byteswap inner = Byteswap inner
+over form.Bytesplit inner = Bytesplit inner
+over other inner = Count inner
 
 -- the inside of the brackets of the forms without mappings in them
 unfoldable pub aos_at : List Token → Result (MapTerm × List Token) ℕ

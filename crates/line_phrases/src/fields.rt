@@ -1,9 +1,10 @@
 ghost use Rattle.std.specs.Prelude.{◌≡◌, ◌<◌, ◌≤◌, length, map, OnOk, IfOk, IfErr};
+ghost use Rattle.phrases.specs.Reading.{give_at, then_at};
 ghost use Rattle.record_dim.specs.Trees.{fields_of, tree_of};
 ghost use Rattle.line_grammar.specs.Grammar.{arrays, fields_of_list};
 ghost use Rattle.line_phrases.specs.Gives.{Gives, IsSyntax};
 ghost use Rattle.line_phrases.specs.Lists.{listed_at};
-ghost use Rattle.line_phrases.specs.Fields.{dim_at, dims_at, typed_at, field_at, fields_at};
+ghost use Rattle.line_phrases.specs.Fields.{boxed_field, dim_at, dims_at, typed_at, field_at, fields_at};
 
 use crate::{ReadError, Tokens};
 use line_grammar::Count;
@@ -27,8 +28,12 @@ pub fn read_fields(alloc: Global, room: usize, tokens: &mut Tokens) -> Result<Fi
 
 #[cycle(fields)]
 #[tactic(auto, unfolding(crate::specs::Lists::listed_at), using(crate::specs::FieldLaws::field_steps))]
-fn read_field_list(alloc: Global, room: usize, tokens: &mut Tokens) -> Result<Vec<Field>, ReadError>
-    ensures gives { Gives (λ x. (map (λ field. (field.name, tree_of field.dim)) x.items, tokens.new)) result (listed_at (field_at room) tokens.old) }
+fn read_field_list(
+    alloc: Global,
+    room: usize,
+    tokens: &mut Tokens,
+) -> Result<Vec<Box<Field>>, ReadError>
+    ensures gives { Gives (λ x. (map boxed_field x.items, tokens.new)) result (listed_at (field_at room) tokens.old) }
     ensures shorter { OnOk result (length tokens.new < length tokens.old) }
 {
     let mut fields = Vec::new(alloc);
@@ -40,10 +45,11 @@ fn read_field_list(alloc: Global, room: usize, tokens: &mut Tokens) -> Result<Ve
     Ok(fields)
 }
 
+// What stands around the fields of a field is read by functions of its own, so that a level of braces takes little of the stack.
 #[cycle(fields)]
 #[tactic(auto, unfolding(crate::specs::Fields::field_at, crate::specs::Fields::fields_at, crate::specs::Fields::nested_at))]
-fn read_field(alloc: Global, room: usize, tokens: &mut Tokens) -> Result<Field, ReadError>
-    ensures gives { Gives (λ x. ((x.name, tree_of x.dim), tokens.new)) result (field_at room tokens.old) }
+fn read_field(alloc: Global, room: usize, tokens: &mut Tokens) -> Result<Box<Field>, ReadError>
+    ensures gives { Gives (λ x. (boxed_field x, tokens.new)) result (field_at room tokens.old) }
     ensures shorter { OnOk result (length tokens.new < length tokens.old) }
 {
     let name = tokens.item::<Name>()?;
@@ -54,22 +60,36 @@ fn read_field(alloc: Global, room: usize, tokens: &mut Tokens) -> Result<Field, 
         return read_typed(alloc, name, tokens);
     }
     let fields = read_fields(alloc, room - 1, tokens)?;
-    let counts = read_dims(alloc, tokens)?;
-    let dim = array_of(alloc, counts, Dim::Fields(fields))?;
-    Ok(Field { name, dim })
+    read_arrays(alloc, name, Dim::Fields(fields), tokens)
 }
 
 // The type of a field, and the counts of its arrays.
+#[inline(never)]
 #[tactic(auto, unfolding(crate::specs::Fields::typed_at))]
-fn read_typed(alloc: Global, name: Name, tokens: &mut Tokens) -> Result<Field, ReadError>
-    ensures gives { Gives (λ x. ((x.name, tree_of x.dim), tokens.new)) result (typed_at name tokens.old) }
+fn read_typed(alloc: Global, name: Name, tokens: &mut Tokens) -> Result<Box<Field>, ReadError>
+    ensures gives { Gives (λ x. (boxed_field x, tokens.new)) result (typed_at name tokens.old) }
     ensures shorter { OnOk result (length tokens.new < length tokens.old) }
 {
     tokens.sign(Sign::Colon)?;
     let kind = tokens.item::<LeafType>()?;
+    read_arrays(alloc, name, Dim::Leaf(kind), tokens)
+}
+
+// The counts of the arrays in which a field has its elements.
+#[inline(never)]
+fn read_arrays(
+    alloc: Global,
+    name: Name,
+    element: Dim,
+    tokens: &mut Tokens,
+) -> Result<Box<Field>, ReadError>
+    ensures gives { Gives (λ x. (boxed_field x, tokens.new)) result (then_at dims_at (λ counts. give_at (name, arrays counts (tree_of element))) tokens.old) }
+    ensures no_longer { OnOk result (length tokens.new ≤ length tokens.old) }
+{
     let counts = read_dims(alloc, tokens)?;
-    let dim = array_of(alloc, counts, Dim::Leaf(kind))?;
-    Ok(Field { name, dim })
+    let dim = array_of(alloc, counts, element)?;
+    let field = Box::new(alloc, Field { name, dim })?;
+    Ok(field)
 }
 
 // The counts in brackets, the outermost first.
@@ -111,13 +131,13 @@ fn array_of(alloc: Global, mut counts: Vec<u32>, element: Dim) -> Result<Dim, No
 }
 
 // The fields as a list of the record's own.
+#[inline(never)]
 #[tactic(auto, using(crate::specs::FieldLaws::fields_last))]
-fn field_list(alloc: Global, mut fields: Vec<Field>) -> Result<FieldList, NoMemory>
-    ensures { IfOk result (λ list. fields_of list ≡ fields_of_list (map (λ field. (field.name, tree_of field.dim)) fields.items)) }
+fn field_list(alloc: Global, mut fields: Vec<Box<Field>>) -> Result<FieldList, NoMemory>
+    ensures { IfOk result (λ list. fields_of list ≡ fields_of_list (map boxed_field fields.items)) }
 {
     let mut list = FieldList::End;
     while let Some(field) = fields.pop() {
-        let field = Box::new(alloc, field)?;
         let rest = Box::new(alloc, list)?;
         list = FieldList::More { field, rest };
     }

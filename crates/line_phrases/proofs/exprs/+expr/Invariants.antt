@@ -1,5 +1,5 @@
 -- A level is read by the levels below it, and brackets leave less room. In a chain the operands that are left give the whole chain.
-use Rattle.line_phrases.proofs.Imports.{◌≡◌, ◌<◌, ◌≤◌, ◌+◌, ◌*◌, length, or_of, and_of, sum_of, product_of, atom_at, next_at, left_term, unary_over, product_over, sum_over, negation_over, conjunction_over, expr_over}
+use Rattle.line_phrases.proofs.Imports.{◌≡◌, ◌≤◌, ◌+◌, ◌*◌, length, or_of, and_of, sum_of, product_of, atom_at, next_at, left_term, unary_over, product_over, sum_over, negation_over, conjunction_over, expr_over}
 use Rattle.line_phrases.proofs.exprs.+expr.Given as goal
 
 abbrev pub decreases-read_atom : goal.decreases-read_atom

@@ -2,8 +2,8 @@
 use Rattle.line_phrases.proofs.Imports.{◌+◌, ◌*◌}
 use Rattle.line_phrases.proofs.maps.+map.Given as goal
 
-abbrev pub decreases-read_map : goal.decreases-read_map
-decreases-read_map l = 3 * l.room
+abbrev pub decreases-read_boxed : goal.decreases-read_boxed
+decreases-read_boxed l = 3 * l.room
 
 abbrev pub decreases-read_form : goal.decreases-read_form
 decreases-read_form l = 3 * l.room + 2

@@ -13,22 +13,25 @@ loop-lane-preserved g c =
     loaded_more c.args.leaf c.args.row c.loop-lane.lane c.row_after.result c.args.self.now c.loop-lane.self c.narrow_value.new.self c.loop-lane.values c.narrow_value.result
     c.loop-lane.invariant (omega arith) (omega arith) c.row_after.ensures c.narrow_value.ensures.value c.narrow_value.ensures.narrow c.narrow_value.ensures.same
 
-pub of_array-requires : goal.of_array-requires
-of_array-requires g c =
-    loaded_block c.args.leaf c.args.row c.loop-lane.lane c.args.self.now c.loop-lane.self c.loop-lane.values c.loop-lane.invariant (omega arith) (omega arith)
-
 pub returns-clause-lanes : goal.returns-clause-lanes
-returns-clause-lanes g c = subst IsBlock (sym (same c.lanes.result c.lanes.ensures.lanes.fit)) c.lanes.ensures.lanes
+returns-clause-lanes g c =
+    let block : IsBlock c.loop-lane.values =
+    loaded_block c.args.leaf c.args.row c.loop-lane.lane c.args.self.now c.loop-lane.self c.loop-lane.values c.loop-lane.invariant (omega arith) (omega arith) in
+    subst IsBlock (sym (same c.loop-lane.values block.fit)) block
 
 pub returns-clause-values : goal.returns-clause-values
 returns-clause-values g c =
+    let block : IsBlock c.loop-lane.values =
+    loaded_block c.args.leaf c.args.row c.loop-lane.lane c.args.self.now c.loop-lane.self c.loop-lane.values c.loop-lane.invariant (omega arith) (omega arith) in
     let end : c.loop-lane.lane ≡ c.args.lanes = omega arith in
-    same c.lanes.result c.lanes.ensures.lanes.fit ∙ c.lanes.ensures.value ∙ c.of_array.ensures ∙ c.loop-lane.invariant.filled
+    same c.loop-lane.values block.fit ∙ c.loop-lane.invariant.filled
     ∙ ap (λ (n : ℕ). take n (drop c.args.row (column c.args.leaf c.args.self.now.rows)) ++ replicate (16 - n) (pos 0)) end
 
 pub returns-clause-narrow : goal.returns-clause-narrow
 returns-clause-narrow g c =
-    subst (λ (values : List ℤ). Each1 IsNarrow values) (sym (same c.lanes.result c.lanes.ensures.lanes.fit ∙ c.lanes.ensures.value ∙ c.of_array.ensures)) c.loop-lane.invariant.narrow
+    let block : IsBlock c.loop-lane.values =
+    loaded_block c.args.leaf c.args.row c.loop-lane.lane c.args.self.now c.loop-lane.self c.loop-lane.values c.loop-lane.invariant (omega arith) (omega arith) in
+    subst (λ (values : List ℤ). Each1 IsNarrow values) (sym (same c.loop-lane.values block.fit)) c.loop-lane.invariant.narrow
 
 pub returns-clause-same : goal.returns-clause-same
 returns-clause-same g c =
