@@ -15,7 +15,7 @@ loop-done-preserved g c =
     let len = c.min-len.result in
     let is : c.copy_out.new.bytes ≡ take len (drop done blob) = search rules in
     let long : length c.copy_out.new.bytes ≡ len = ap (length {A = ℕ}) is ∙ length-take-le len (drop done blob) (omega (arith, length-drop done blob)) in
-    let room : length (c.copy_out.new.bytes ++ drop len c.loop-done.block) ≡ 65536 =
+    let room : length (c.copy_out.new.bytes ++ drop len c.loop-done.block) ≡ 16384 =
     omega (arith, length-append c.copy_out.new.bytes (drop len c.loop-done.block), length-drop len c.loop-done.block, long, c.loop-done.invariant.room) in
     record {
       within = omega arith;

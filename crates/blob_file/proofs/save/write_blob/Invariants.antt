@@ -4,7 +4,7 @@ use Rattle.blob_file.proofs.save.write_blob.Given as goal
 abbrev pub invariant-loop-done : goal.invariant-loop-done
 invariant-loop-done g l = record {
   within : l.done ≤ length l.blob;
-  room : length l.block ≡ 65536;
+  room : length l.block ≡ 16384;
   wrote : Wrote g.K.Sink.taken g.K.Sink.faults l.initial.sink l.sink (take l.done l.blob);
 }
 
