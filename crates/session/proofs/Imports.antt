@@ -28,7 +28,7 @@ pub use Rattle.actor_steps.specs.CutsLaws.{are_cuts-are}
 pub use Rattle.actor_steps.specs.declared.place.Place.{Place}
 pub use Rattle.actor_steps.specs.Jobs.{memory_of, written_by, start_of, job_of, fresh_of}
 pub use Rattle.actor_steps.specs.Micro.{Job, Micro, Fetch, Load, Store, Registers, stored, with_bits_of, value_on, row_in}
-unfoldable pub use Rattle.actor_steps.specs.Micro.{loaded}
+pub use Rattle.actor_steps.specs.Micro.{loaded}
 pub use Rattle.actor_steps.specs.Schedules.{next, entries, schedule_of, idle_with, run_by}
 pub use Rattle.actor_steps.specs.Shared.{shared_byte}
 pub use Rattle.line_grammar.specs.Sentences.{Value, Assignment, Mapping, Sentence, sentence_of, New, assignment_of}
