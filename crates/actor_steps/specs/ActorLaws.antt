@@ -11,8 +11,9 @@ use Rattle.blobs.specs.Bits.{bit_in}
 use Rattle.row_updates.specs.Rows.{Setting}
 use Rattle.actor_steps.specs.Confluence.{Actor, State, scheduled}
 use Rattle.actor_steps.specs.ConfluenceLaws.{Each, Alone, made_all, loaded_all, made_all-append, loaded_all-append, ended, IsMerged, merged-schedule, ended-schedule}
-use Rattle.actor_steps.specs.Micro.{Place, byte_at, with_byte, Job, Micro, Fetch, Load, Store, Registers, row_in, row_of, value_on, with_bits_of, stored, loaded, all_bytes, is_bit_of, owners_of_byte, places_of, lets_through, read_leaves, fetches, changes, stores_of, row_steps, steps_of}
-use Rattle.actor_steps.specs.BytesOfLaws.{IsByte, IsMemory, with_byte-sized, with_byte-bytes, byte_at-other, byte_at-same}
+use Rattle.actor_steps.specs.Micro.{Place, byte_at, with_byte, Job, Micro, Fetch, Load, Store, Registers, row_in, row_as_it_stands, value_kept_on, with_bits_of, stored, loaded, all_bytes, is_bit_of, owners_of_byte, places_of, lets_through, read_leaves, fetches, changes, stores_of, row_steps, steps_of}
+use Rattle.actor_steps.specs.Bytes.{IsByte, IsMemory}
+use Rattle.actor_steps.specs.BytesOfLaws.{with_byte-sized, with_byte-bytes, byte_at-other, byte_at-same}
 use Rattle.actor_steps.specs.SweepLaws.{is_place, is_among, with_bits_of-lt}
 use Rattle.actor_steps.specs.AmongLaws.{among-all, true_or_false, each-append, each-all, each-flat, each-weaker, each-filter, each-map, all_are_bytes, has_byte, byte_owner}
 use Rattle.actor_steps.specs.HeldLaws.{digit_held, IsHeld, with_value}
@@ -42,9 +43,9 @@ each-among P (place ∷ places) b i all e = by_test (is_place b i place) refl e 
 set-other : (job : Job) (row : ℕ) (sets : List Setting) (entries : ℕ → ℕ → ℤ) (r f : ℕ) → (r ≡ row → ⊥) → set_entries job row sets entries r f ≡ entries r f
 set-other job row [] entries r f other = refl
 set-other job row (set ∷ sets) entries r f other =
-    let value = value_on job (row_of job row) row set in
+    let value = value_kept_on job (row_as_it_stands job row) row set in
     set-other job row sets (with_value row set.leaf value entries) r f other ∙ by_test (r == row && f == set.leaf) refl where
-      by_test : (t : Bool) → (r == row && f == set.leaf) ≡ t → (if t then value_on job (row_of job row) row set else entries r f) ≡ entries r f
+      by_test : (t : Bool) → (r == row && f == set.leaf) ≡ t → (if t then value_kept_on job (row_as_it_stands job row) row set else entries r f) ≡ entries r f
       by_test true e = absurd (other (eqb-true r row (and_parts (r == row) (f == set.leaf) e).0))
       by_test false e = refl
 
@@ -52,7 +53,7 @@ set-other job row (set ∷ sets) entries r f other =
 set-same : (job : Job) (row : ℕ) (sets : List Setting) (one two : ℕ → ℕ → ℤ) → ((f : ℕ) → one row f ≡ two row f) → (f : ℕ) → set_entries job row sets one row f ≡ set_entries job row sets two row f
 set-same job row [] one two same f = same f
 set-same job row (set ∷ sets) one two same f =
-    let value = value_on job (row_of job row) row set in
+    let value = value_kept_on job (row_as_it_stands job row) row set in
     set-same job row sets (with_value row set.leaf value one) (with_value row set.leaf value two)
     (λ f. ap (λ (v : ℤ). if row == row && f == set.leaf then value else v) (same f)) f
 
@@ -186,7 +187,7 @@ module _ (job : Job) (sound : IsSound job) where
       elsewhere (Fetch place) m r p other = refl
       elsewhere (Load place) m r p other = refl
       elsewhere (Store place row set) m r p other =
-          byte_at-other m place (with_bits_of job.layout place row set.leaf (value_on job (row_in job r.loaded row) row set) r.byte) p
+          byte_at-other m place (with_bits_of job.layout place row set.leaf (value_kept_on job (row_in job r.loaded row) row set) r.byte) p
           (λ both. other (ap (λ (w : ℕ). record { blob = w; byte = p.byte }) both.0 ∙ ap (λ (w : ℕ). record { blob = place.blob; byte = w }) both.1))
 
       pub same_loaded : (s : Micro) (m n : List (List ℕ)) (r : Registers) → byte_at m (place_of s) ≡ byte_at n (place_of s) → loaded job s m r ≡ loaded job s n r
@@ -199,7 +200,7 @@ module _ (job : Job) (sound : IsSound job) where
       same_stored (Fetch place) m n r p is one two e f = f
       same_stored (Load place) m n r p is one two e f = f
       same_stored (Store place row set) m n r p is one two e f =
-          let byte = with_bits_of job.layout place row set.leaf (value_on job (row_in job r.loaded row) row set) r.byte in
+          let byte = with_bits_of job.layout place row set.leaf (value_kept_on job (row_in job r.loaded row) row set) r.byte in
           ⊎_elim (λ (blob : p.blob ≡ place.blob).
           ⊎_elim (λ (at : p.byte ≡ place.byte).
           let same : p ≡ place = ap (λ (w : ℕ). record { blob = w; byte = p.byte }) blob ∙ ap (λ (w : ℕ). record { blob = place.blob; byte = w }) at in
@@ -216,11 +217,11 @@ module _ (job : Job) (sound : IsSound job) where
       good_after (Fetch place) m r good = good
       good_after (Load place) m r good = good
       good_after (Store place row set) m r good =
-          let byte = with_bits_of job.layout place row set.leaf (value_on job (row_in job r.loaded row) row set) r.byte in
+          let byte = with_bits_of job.layout place row set.leaf (value_kept_on job (row_in job r.loaded row) row set) r.byte in
           record {
             sized = with_byte-sized job.layout m place byte good.sized;
             bytes = with_byte-bytes m place byte
-                (with_bits_of-lt job.layout place row set.leaf (value_on job (row_in job r.loaded row) row set) r.byte) good.bytes;
+                (with_bits_of-lt job.layout place row set.leaf (value_kept_on job (row_in job r.loaded row) row set) r.byte) good.bytes;
           }
 
       all-own : (a : ℕ) → Each (IsOwn a) (alone a).rest

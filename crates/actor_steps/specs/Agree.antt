@@ -1,7 +1,7 @@
 -- No schedule of the actors of an update matters.
 use Rattle.std.specs.Prelude.{ℕ, ◌≡◌, ℤ, List, [], length, map, slice_index_or, Option, None, Ok}
 use Rattle.expr_lang.specs.Terms.{Term}
-use Rattle.places.specs.Laws.{IsLaidOut}
+use Rattle.places.specs.Lawful.{IsLaidOut}
 use Rattle.piece_bits.specs.Tables.{AreLaid, table_in}
 use Rattle.piece_bits.specs.Modes.{declared_table}
 use Rattle.views.specs.Tables.{Table, IsTable, owners_of, leaf_types_of, table_holds}
@@ -11,7 +11,7 @@ use Rattle.actor_steps.specs.Micro.{Job, Micro, Registers}
 use Rattle.actor_steps.specs.Cuts.{AreCuts, actor_of}
 use Rattle.actor_steps.specs.Shared.{shared_byte}
 use Rattle.actor_steps.specs.Schedules.{idle_with, run_by, finished}
-use Rattle.actor_steps.specs.Jobs.{job_of, memory_of, fresh_of, start_of}
+use Rattle.actor_steps.specs.Jobs.{job_of, memory_of, fresh_of, team_start}
 
 -- a table under a layout with its laws
 pub record IsLawful (table : Table) : Type 0 where
@@ -28,7 +28,7 @@ pub record IsParted (table : Table) (filter : Option (Term ℕ)) (sets : List Se
 
 -- the actors of an update after a schedule
 abbrev pub state_by : Table → Option (Term ℕ) → List Setting → List ℕ → List ℕ → State (List (List ℕ)) Micro Registers
-state_by table filter sets cuts schedule = run_by (job_of table filter sets) (fresh_of table) schedule (start_of table filter sets cuts)
+state_by table filter sets cuts schedule = run_by (job_of table filter sets) (fresh_of table) schedule (team_start table filter sets cuts)
 
 -- the bytes after the micro-steps that it left, actor by actor
 abbrev pub memory_by : Table → Option (Term ℕ) → List Setting → List ℕ → List ℕ → List (List ℕ)

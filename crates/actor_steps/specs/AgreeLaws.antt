@@ -6,7 +6,7 @@ use Rattle.linearize.specs.Slots.{index_at}
 use Rattle.record_dim.specs.Leaves.{Leaf, leaves}
 use Rattle.places.specs.Layout.{Owner, Pad, Bit, owner_at}
 use Rattle.places.specs.Image.{digit, entry, bit_held, IsImage}
-use Rattle.places.specs.Laws.{IsLaidOut}
+use Rattle.places.specs.Lawful.{IsLaidOut}
 use Rattle.places.specs.declared.piece.Hold.{Hold}
 use Rattle.blobs.specs.Bits.{bit_in}
 use Rattle.piece_bits.specs.Tables.{HasShape, hold_at, table_in}
@@ -16,14 +16,14 @@ use Rattle.piece_bits.specs.ImageLaws.{image_table}
 use Rattle.views.specs.Tables.{Table, owners_of, leaf_types_of, table_holds, leaf_count_of, answer_of, kept_of}
 use Rattle.views.specs.AnswerLaws.{answer_stays}
 use Rattle.row_updates.specs.Rows.{Setting, updated_of}
-use Rattle.actor_steps.specs.BytesOfLaws.{IsMemory}
+use Rattle.actor_steps.specs.Bytes.{IsMemory}
 use Rattle.actor_steps.specs.HeldLaws.{digit_held, IsHeld}
 use Rattle.actor_steps.specs.RowLaws.{IsSound, IsWork, row_entries}
 use Rattle.actor_steps.specs.MemoryLaws.{zeros-sized, zeros-laid, image-memory, image-laid, image-bits, memory-is, image-held}
 use Rattle.actor_steps.specs.LaidLaws.{AreAllTidy, tidy_by, tidy_start}
 use Rattle.actor_steps.specs.UpdateLaws.{row_same, row_keeps, updated_at, updated_length}
 use Rattle.actor_steps.specs.ScheduleLaws.{none_left, held_after, memory_by-end}
-use Rattle.actor_steps.specs.Jobs.{job_of, memory_of, fresh_of, start_of}
+use Rattle.actor_steps.specs.Jobs.{job_of, memory_of, fresh_of, team_start}
 use Rattle.actor_steps.specs.Schedules.{run_by}
 use Rattle.actor_steps.specs.Agree.{IsLawful, memory_by, SchedulesAgree, NothingIsLeft, UpdatesAreLawful, BytesAreRead, SchedulesKeepPadding}
 
@@ -145,7 +145,7 @@ schedules_keep_padding table filter sets cuts lawful schedule =
     let job = job_of table filter sets in
     let fresh = fresh_of table in
     let whole = lawful.laid.whole_bytes in
-    let start = start_of table filter sets cuts in
+    let start = team_start table filter sets cuts in
     let all : AreAllTidy job fresh (run_by job fresh schedule start) =
     tidy_by job fresh schedule start
     (tidy_start job fresh cuts (length table.rows) (memory_of table) (image-laid (owners_of table) whole table.rows) (zeros-laid (owners_of table) whole)) in

@@ -8,7 +8,7 @@ use Rattle.std.proofs.lemmas.List.Folds.{list_any-append, list_any_at}
 use Rattle.places.specs.Layout.{Owner, Pad, Bit, owner_at}
 use Rattle.places.specs.ExactLaws.{within}
 use Rattle.actor_steps.specs.Micro.{Place, bytes_in, all_bytes, is_bit_of, owners_of_byte, places_of}
-use Rattle.actor_steps.specs.BytesOfLaws.{IsByte}
+use Rattle.actor_steps.specs.Bytes.{IsByte}
 use Rattle.actor_steps.specs.SweepLaws.{is_place, is_among, AreBytesOf}
 use Rattle.actor_steps.specs.ConfluenceLaws.{Each}
 

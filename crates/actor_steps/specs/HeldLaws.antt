@@ -5,15 +5,15 @@ use Rattle.std.proofs.lemmas.Bool.{and_parts, eqb-true}
 use Rattle.std.proofs.lemmas.List.{length-map}
 use Rattle.places.specs.Layout.{Owner, Pad, Bit, owner_at}
 use Rattle.places.specs.Image.{digit, decoded, entry, bit_owned}
-use Rattle.places.specs.Laws.{IsBitOf, IsLaidOut}
-use Rattle.places.specs.Writes.{written}
+use Rattle.places.specs.Lawful.{IsBitOf, IsLaidOut}
+use Rattle.places.specs.Writes.{written_bit}
 use Rattle.places.specs.CellWidthsLaws.{width_at}
 use Rattle.places.specs.NumbersLaws.{number_same}
 use Rattle.places.specs.OwnedLaws.{owned_is}
 use Rattle.places.specs.declared.piece.Hold.{Hold}
 use Rattle.piece_bits.specs.Tables.{HasShape, hold_at, table_in}
 use Rattle.piece_bits.specs.TableLaws.{table_shape, entry_is}
-use Rattle.piece_bits.specs.Kept.{declared, held}
+use Rattle.piece_bits.specs.LowBits.{declared, held}
 use Rattle.piece_bits.specs.Modes.{kind_at}
 use Rattle.piece_bits.specs.KeptTableLaws.{declared_shape, declared_entry}
 use Rattle.blobs.specs.Bits.{bit_in}
@@ -79,7 +79,7 @@ module _ (job : Job) (laid : IsLaidOut job.layout (length job.rows) (widths_of j
 -- what all bytes of a leaf in a row hold after it is stored
 pub held-written : (layout : List (List Owner)) (row leaf : ℕ) (value : ℤ) (entries : ℕ → ℕ → ℤ) (b p old : ℕ) (owner : Owner) (among : Bool)
     → old ≡ digit_held entries owner → ((k : ℕ) → owner ≡ Bit row leaf k → among ≡ true)
-    → (if among then written owner row leaf value old else old) ≡ digit_held (with_value row leaf value entries) owner
+    → (if among then written_bit owner row leaf value old else old) ≡ digit_held (with_value row leaf value entries) owner
 held-written layout row leaf value entries b p old Pad true is there = is
 held-written layout row leaf value entries b p old Pad false is there = is
 held-written layout row leaf value entries b p old (Bit r f k) among is there = by_test (r == row && f == leaf) refl among refl where

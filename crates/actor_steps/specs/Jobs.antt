@@ -32,10 +32,10 @@ abbrev pub fresh_of : Table → Registers
 fresh_of table = record { loaded = map (λ bytes. replicate bytes 0) (blob_lengths (owners_of table)); byte = 0 }
 
 -- the actors before their first micro-step; there is one more than there are cuts
-abbrev pub start_of : Table → Option (Term ℕ) → List Setting → List ℕ → State (List (List ℕ)) Micro Registers
-start_of table filter sets cuts = started (job_of table filter sets) cuts (length table.rows) (memory_of table) (fresh_of table)
+abbrev pub team_start : Table → Option (Term ℕ) → List Setting → List ℕ → State (List (List ℕ)) Micro Registers
+team_start table filter sets cuts = started (job_of table filter sets) cuts (length table.rows) (memory_of table) (fresh_of table)
 
 -- the bytes of the blobs after so many turns of the schedule of a seed
 abbrev pub written_by : Table → Option (Term ℕ) → List Setting → List ℕ → ℕ → ℕ → List (List ℕ)
 written_by table filter sets cuts seed turns =
-    (run_by (job_of table filter sets) (fresh_of table) (schedule_of (length cuts + 1) seed turns) (start_of table filter sets cuts)).memory
+    (run_by (job_of table filter sets) (fresh_of table) (schedule_of (length cuts + 1) seed turns) (team_start table filter sets cuts)).memory

@@ -6,14 +6,15 @@ use Rattle.std.specs.Int.{bit_at}
 use Rattle.std.proofs.lemmas.Bool.{cases_eq, cases_lt, and_parts, eqb-true}
 use Rattle.std.proofs.lemmas.List.{get_or-set_same, get_or-set_other, set_past}
 use Rattle.places.specs.Layout.{Owner, Pad, owner_at}
-use Rattle.places.specs.Writes.{written}
+use Rattle.places.specs.Writes.{written_bit}
 use Rattle.blobs.specs.Bits.{bit_in}
 use Rattle.blobs.specs.BytesLaws.{bit_of_byte}
 use Rattle.piece_bits.specs.Tables.{AreLaid}
 use Rattle.row_updates.specs.Rows.{Setting}
 use Rattle.actor_steps.specs.Confluence.{Actor, State, moved, turned}
-use Rattle.actor_steps.specs.Micro.{Place, byte_at, with_byte, Job, Micro, Fetch, Load, Store, Registers, row_in, value_on, with_bits_of, stored, loaded, places_of, lets_through, read_leaves, fetches, changes, stores_of, row_steps, steps_of}
-use Rattle.actor_steps.specs.BytesOfLaws.{IsByte, with_byte-sized}
+use Rattle.actor_steps.specs.Micro.{Place, byte_at, with_byte, Job, Micro, Fetch, Load, Store, Registers, row_in, value_kept_on, with_bits_of, stored, loaded, places_of, lets_through, read_leaves, fetches, changes, stores_of, row_steps, steps_of}
+use Rattle.actor_steps.specs.Bytes.{IsByte}
+use Rattle.actor_steps.specs.BytesOfLaws.{with_byte-sized}
 use Rattle.actor_steps.specs.SweepLaws.{is_place, AreBytesOf, bit_in-with_byte, bit_at-with_bits_of}
 use Rattle.actor_steps.specs.AmongLaws.{places-are_bytes}
 use Rattle.actor_steps.specs.Cuts.{parts_from, team_of}
@@ -32,7 +33,7 @@ loaded-padded layout memory place laid k low pad =
 pub changed-padded : (layout : List (List Owner)) (place : Place) (row leaf : ℕ) (value : ℤ) (byte : ℕ) → IsPaddedByte layout place byte
     → IsPaddedByte layout place (with_bits_of layout place row leaf value byte)
 changed-padded layout place row leaf value byte padded k low pad =
-    bit_at-with_bits_of layout place row leaf value byte k low ∙ ap (λ (o : Owner). written o row leaf value (bit_at byte k)) pad ∙ padded k low pad
+    bit_at-with_bits_of layout place row leaf value byte k low ∙ ap (λ (o : Owner). written_bit o row leaf value (bit_at byte k)) pad ∙ padded k low pad
 
 -- with such a byte stored, padding stays 0
 pub with_byte-laid : (layout : List (List Owner)) (memory : List (List ℕ)) (place : Place) (byte : ℕ) → AreLaid layout memory → IsByte layout place
@@ -132,7 +133,7 @@ module _ (job : Job) (fresh : Registers) where
         actors = with_actor state a (record { rest = rest; registers = loaded job (Load place) state.memory registers }) (record { loaded = tidy.loaded; rest = byte }) all.actors;
       }
   moved_tidy a state (Store place row set ∷ rest) registers all tidy =
-      let value = value_on job (row_in job registers.loaded row) row set in
+      let value = value_kept_on job (row_in job registers.loaded row) row set in
       record {
         memory = with_byte-laid job.layout state.memory place (with_bits_of job.layout place row set.leaf value registers.byte) all.memory tidy.rest.0
             (changed-padded job.layout place row set.leaf value registers.byte tidy.rest.1);

@@ -20,3 +20,4 @@ pub mod ScheduleLaws
 pub mod Jobs
 pub mod Agree
 pub mod AgreeLaws
+pub mod Bytes

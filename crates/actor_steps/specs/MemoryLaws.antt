@@ -11,10 +11,10 @@ use Rattle.places.specs.Image.{number, entry, bit_held, image, IsImage}
 use Rattle.places.specs.NumbersLaws.{number_same, number_lt, number_bits, bit_number, digit_lt}
 use Rattle.blobs.specs.Bits.{bit_of, bit_in, AreBytes}
 use Rattle.blobs.specs.BytesLaws.{bit_of_byte}
-use Rattle.instrument.specs.BlobTexts.{byte_at as byte_of_bits, bytes_of}
+use Rattle.instrument.specs.BlobTexts.{byte_of_bits as byte_of_bits, bytes_of}
 use Rattle.piece_bits.specs.Tables.{AreSized, AreLaid}
 use Rattle.views.specs.Tallies.{blob_lengths}
-use Rattle.actor_steps.specs.BytesOfLaws.{IsMemory}
+use Rattle.actor_steps.specs.Bytes.{IsMemory}
 use Rattle.actor_steps.specs.HeldLaws.{digit_held, IsHeld}
 
 -- blobs are whole bytes, and so is no blob

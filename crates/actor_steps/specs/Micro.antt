@@ -10,7 +10,7 @@ use Rattle.linearize.specs.Slots.{index_at}
 use Rattle.places.specs.Layout.{Owner, owner_at}
 use Rattle.places.specs.Image.{number}
 pub use Rattle.places.specs.Touched.{is_bit_of}
-use Rattle.places.specs.Writes.{written}
+use Rattle.places.specs.Writes.{written_bit}
 use Rattle.places.specs.declared.piece.Hold.{Hold}
 use Rattle.piece_bits.specs.Tables.{table_in}
 use Rattle.piece_bits.specs.Modes.{declared_table}
@@ -74,19 +74,19 @@ number_in (Ok x) = x
 number_in (Err fault) = pos 0
 
 -- the value of a right side on a row with these values, as the view keeps it
-abbrev pub value_on : Job → List ℤ → ℕ → Setting → ℤ
-value_on job values row set = job.kept set.leaf (number_in (outcome_of values (index_at job.extents row) set.value).answer)
+abbrev pub value_kept_on : Job → List ℤ → ℕ → Setting → ℤ
+value_kept_on job values row set = job.kept set.leaf (number_in (outcome_of values (index_at job.extents row) set.value).answer)
 
 -- a byte with only the bits of a leaf in a row changed
 abbrev pub with_bits_of : List (List Owner) → Place → ℕ → ℕ → ℤ → ℕ → ℕ
-with_bits_of layout place row leaf value byte = number (λ bit. written (owner_at layout place.blob (8 * place.byte + bit)) row leaf value (bit_at byte bit)) 8
+with_bits_of layout place row leaf value byte = number (λ bit. written_bit (owner_at layout place.blob (8 * place.byte + bit)) row leaf value (bit_at byte bit)) 8
 
 -- memory after a micro-step; a store works out its value from the bytes that were loaded
 abbrev pub stored : Job → Micro → List (List ℕ) → Registers → List (List ℕ)
 stored job (Fetch place) memory registers = memory
 stored job (Load place) memory registers = memory
 stored job (Store place row set) memory registers =
-    with_byte memory place (with_bits_of job.layout place row set.leaf (value_on job (row_in job registers.loaded row) row set) registers.byte)
+    with_byte memory place (with_bits_of job.layout place row set.leaf (value_kept_on job (row_in job registers.loaded row) row set) registers.byte)
 
 -- registers after it
 abbrev pub loaded : Job → Micro → List (List ℕ) → Registers → Registers
@@ -95,13 +95,13 @@ loaded job (Load place) memory registers = record registers { byte = byte_at mem
 loaded job (Store place row set) memory registers = registers
 
 -- a row of the table as it stands
-abbrev pub row_of : Job → ℕ → List ℤ
-row_of job row = slice_index_or job.rows row []
+abbrev pub row_as_it_stands : Job → ℕ → List ℤ
+row_as_it_stands job row = slice_index_or job.rows row []
 
 -- whether the filter lets a row through; each is where there is none
 abbrev pub test_of : Job → ℕ → Option (Term ℕ) → Bool
 test_of job row None = true
-test_of job row (Some filter) = is_true (number_in (outcome_of (row_of job row) (index_at job.extents row) filter).answer)
+test_of job row (Some filter) = is_true (number_in (outcome_of (row_as_it_stands job row) (index_at job.extents row) filter).answer)
 
 abbrev pub lets_through : Job → ℕ → Bool
 lets_through job row = test_of job row job.filter
@@ -109,13 +109,13 @@ lets_through job row = test_of job row job.filter
 -- the reads of the filter and of right sides on a row of the table
 abbrev pub filter_reads : Job → ℕ → Option (Term ℕ) → List ℕ
 filter_reads job row None = []
-filter_reads job row (Some filter) = (outcome_of (row_of job row) (index_at job.extents row) filter).reads
+filter_reads job row (Some filter) = (outcome_of (row_as_it_stands job row) (index_at job.extents row) filter).reads
 
 abbrev pub set_reads : Job → ℕ → Setting → List ℕ
-set_reads job row set = (outcome_of (row_of job row) (index_at job.extents row) set.value).reads
+set_reads job row set = (outcome_of (row_as_it_stands job row) (index_at job.extents row) set.value).reads
 
-abbrev pub reads_of : Job → ℕ → List ℕ
-reads_of job row = filter_reads job row job.filter ++ (if lets_through job row then flat_map (set_reads job row) job.sets else [])
+abbrev pub leaves_read : Job → ℕ → List ℕ
+leaves_read job row = filter_reads job row job.filter ++ (if lets_through job row then flat_map (set_reads job row) job.sets else [])
 
 -- whether a leaf is among these
 abbrev pub is_in : List ℕ → ℕ → Bool
@@ -123,7 +123,7 @@ is_in leaves leaf = list_any (λ other. other == leaf) leaves
 
 -- the leaves that are read on a row, each once, in leaf order
 abbrev pub read_leaves : Job → ℕ → List ℕ
-read_leaves job row = filter (is_in (reads_of job row)) (range_with_len 0 (length job.holds))
+read_leaves job row = filter (is_in (leaves_read job row)) (range_with_len 0 (length job.holds))
 
 -- the micro-steps of a row: first it loads each byte of each leaf that is read
 abbrev pub fetches : Job → ℕ → List Micro

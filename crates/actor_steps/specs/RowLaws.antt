@@ -8,16 +8,16 @@ use Rattle.expr_lang.specs.Values.{Outcome}
 use Rattle.linearize.specs.Slots.{index_at}
 use Rattle.places.specs.Layout.{Bit, owner_at}
 use Rattle.places.specs.Image.{entry, digit}
-use Rattle.places.specs.Laws.{IsLaidOut}
-use Rattle.places.specs.Writes.{written}
+use Rattle.places.specs.Lawful.{IsLaidOut}
+use Rattle.places.specs.Writes.{written_bit}
 use Rattle.blobs.specs.Bits.{bit_in}
 use Rattle.piece_bits.specs.Tables.{AreSized, HasShape, hold_at}
-use Rattle.piece_bits.specs.Kept.{declared, kept}
+use Rattle.piece_bits.specs.LowBits.{declared, kept}
 use Rattle.piece_bits.specs.Modes.{kind_at}
 use Rattle.row_updates.specs.Rows.{Setting}
 use Rattle.actor_steps.specs.ConfluenceLaws.{Each, made_all, loaded_all, made_all-append, loaded_all-append}
-use Rattle.actor_steps.specs.Micro.{Place, Job, Micro, Fetch, Registers, row_in, row_of, value_on, number_in, stored, loaded, places_of, lets_through, filter_reads, set_reads, reads_of, is_in, read_leaves, fetches, stores_of, row_steps}
-use Rattle.actor_steps.specs.BytesOfLaws.{IsByte}
+use Rattle.actor_steps.specs.Micro.{Place, Job, Micro, Fetch, Registers, row_in, row_as_it_stands, value_kept_on, number_in, stored, loaded, places_of, lets_through, filter_reads, set_reads, leaves_read, is_in, read_leaves, fetches, stores_of, row_steps}
+use Rattle.actor_steps.specs.Bytes.{IsByte}
 use Rattle.actor_steps.specs.SweepLaws.{is_among, AreBytesOf, sweep, sweep_sized, sweep_loaded, fetch, fetch_memory, fetch_sized}
 use Rattle.actor_steps.specs.AmongLaws.{true_or_false, among-lists, among-places, in_range, each-all, each-flat, each-weaker, places-are_bytes}
 use Rattle.actor_steps.specs.OutcomeLaws.{outcome_same}
@@ -40,7 +40,7 @@ pub record IsWork (job : Job) (entries : ℕ → ℕ → ℤ) (memory : List (Li
 -- entries after the sets of a row, whose values are those of the table
 abbrev pub set_entries : Job → ℕ → List Setting → (ℕ → ℕ → ℤ) → ℕ → ℕ → ℤ
 set_entries job row [] entries = entries
-set_entries job row (set ∷ sets) entries = set_entries job row sets (with_value row set.leaf (value_on job (row_of job row) row set) entries)
+set_entries job row (set ∷ sets) entries = set_entries job row sets (with_value row set.leaf (value_kept_on job (row_as_it_stands job row) row set) entries)
 
 -- after a row, where the filter lets it through
 abbrev pub row_entries : Job → ℕ → (ℕ → ℕ → ℤ) → ℕ → ℕ → ℤ
@@ -125,8 +125,8 @@ module _ (job : Job) (sound : IsSound job) where
 
   -- every leaf that is read is read as the table has it
   read_same : (row leaf : ℕ) (entries : ℕ → ℕ → ℤ) (memory : List (List ℕ)) (registers : Registers) → row < length job.rows → IsWork job entries memory registers
-      → ((f : ℕ) → entries row f ≡ entry job.rows row f) → is_in (reads_of job row) leaf ≡ true
-      → get_or (row_in job (fetched row memory registers).loaded row) leaf (pos 0) ≡ get_or (row_of job row) leaf (pos 0)
+      → ((f : ℕ) → entries row f ≡ entry job.rows row f) → is_in (leaves_read job row) leaf ≡ true
+      → get_or (row_in job (fetched row memory registers).loaded row) leaf (pos 0) ≡ get_or (row_as_it_stands job row) leaf (pos 0)
   read_same row leaf entries memory registers row_in' work stands read =
       let bytes = (fetched row memory registers).loaded in
       ⊎_elim (λ (inside : leaf < length job.kinds).
@@ -135,38 +135,38 @@ module _ (job : Job) (sound : IsSound job) where
       ∙ ap (declared (kind_at job.kinds leaf)) (reading-held job sound.laid sound.paired bytes row leaf (entry job.rows row leaf) row_in' held_in
       (λ b p k owner.
       fetched_bit row entries memory registers b p leaf k work
-      (is_in-filter (is_in (reads_of job row)) (range_with_len 0 (length job.holds)) leaf (in_range 0 (length job.holds) leaf (omega arith) (omega (arith, held_in))) read) owner
+      (is_in-filter (is_in (leaves_read job row)) (range_with_len 0 (length job.holds)) leaf (in_range 0 (length job.holds) leaf (omega arith) (omega (arith, held_in))) read) owner
       ∙ ap (λ (v : ℤ). digit v k) (stands leaf)))
       ∙ sound.stays row leaf row_in' inside)
       (λ (outside : length job.kinds ≤ leaf).
       get_or_past (row_in job bytes row) leaf (pos 0) (omega (arith, length-row_in job sound.laid sound.paired bytes row row_in', outside))
-      ∙ sym (get_or_past (row_of job row) leaf (pos 0) (omega (arith, sound.shape.leaf_count row row_in', outside))))
+      ∙ sym (get_or_past (row_as_it_stands job row) leaf (pos 0) (omega (arith, sound.shape.leaf_count row row_in', outside))))
       (cases_lt leaf (length job.kinds))
 
   -- so are the values of the right sides
   values_same : (row : ℕ) (entries : ℕ → ℕ → ℤ) (memory : List (List ℕ)) (registers : Registers) → row < length job.rows → IsWork job entries memory registers
       → ((f : ℕ) → entries row f ≡ entry job.rows row f) → lets_through job row ≡ true
-      → Each (λ (set : Setting). value_on job (row_in job (fetched row memory registers).loaded row) row set ≡ value_on job (row_of job row) row set) job.sets
+      → Each (λ (set : Setting). value_kept_on job (row_in job (fetched row memory registers).loaded row) row set ≡ value_kept_on job (row_as_it_stands job row) row set) job.sets
   values_same row entries memory registers row_in' work stands through =
       let read = row_in job (fetched row memory registers).loaded row in
-      let Same : ℕ → Type 0 = λ leaf. get_or (row_of job row) leaf (pos 0) ≡ get_or read leaf (pos 0) in
-      let all : Each Same (reads_of job row) = each-in Same (reads_of job row) (λ leaf e. sym (read_same row leaf entries memory registers row_in' work stands e)) in
+      let Same : ℕ → Type 0 = λ leaf. get_or (row_as_it_stands job row) leaf (pos 0) ≡ get_or read leaf (pos 0) in
+      let all : Each Same (leaves_read job row) = each-in Same (leaves_read job row) (λ leaf e. sym (read_same row leaf entries memory registers row_in' work stands e)) in
       let some : Each Same (filter_reads job row job.filter ++ flat_map (set_reads job row) job.sets) =
       subst (λ (t : Bool). Each Same (filter_reads job row job.filter ++ (if t then flat_map (set_reads job row) job.sets else []))) through all in
       each-weaker (λ (set : Setting). Each Same (set_reads job row set))
-      (λ (set : Setting). value_on job read row set ≡ value_on job (row_of job row) row set) job.sets
-      (λ set agree. ap (λ (o : Outcome). job.kept set.leaf (number_in o.answer)) (sym (outcome_same (row_of job row) read (index_at job.extents row) set.value agree)))
+      (λ (set : Setting). value_kept_on job read row set ≡ value_kept_on job (row_as_it_stands job row) row set) job.sets
+      (λ set agree. ap (λ (o : Outcome). job.kept set.leaf (number_in o.answer)) (sym (outcome_same (row_as_it_stands job row) read (index_at job.extents row) set.value agree)))
       (each-lists Same (set_reads job row) job.sets (each-right Same (filter_reads job row job.filter) (flat_map (set_reads job row) job.sets) some))
 
   -- the sets of a row
   sets_work : (row : ℕ) (sets : List Setting) (entries : ℕ → ℕ → ℤ) (memory : List (List ℕ)) (registers : Registers) → IsWork job entries memory registers
-      → Each (λ (set : Setting). value_on job (row_in job registers.loaded row) row set ≡ value_on job (row_of job row) row set) sets
+      → Each (λ (set : Setting). value_kept_on job (row_in job registers.loaded row) row set ≡ value_kept_on job (row_as_it_stands job row) row set) sets
       → IsWork job (set_entries job row sets entries) (made_all (stored job) (loaded job) (flat_map (stores_of job row) sets) memory registers)
       (loaded_all (stored job) (loaded job) (flat_map (stores_of job row) sets) memory registers)
   sets_work row [] entries memory registers work same = work
   sets_work row (set ∷ sets) entries memory registers work same =
       let places = places_of job.layout row set.leaf in
-      let value = value_on job (row_of job row) row set in
+      let value = value_kept_on job (row_as_it_stands job row) row set in
       let next = made_all (stored job) (loaded job) (stores_of job row set) memory registers in
       let behind = loaded_all (stored job) (loaded job) (stores_of job row set) memory registers in
       let stands : behind.loaded ≡ registers.loaded = sweep_loaded job row set places memory registers in
@@ -174,13 +174,13 @@ module _ (job : Job) (sound : IsSound job) where
       let digits : IsHeld job.layout (with_value row set.leaf value entries) next =
       λ b p.
       sweep job row set places memory registers b p work.sized (places-are_bytes job.layout row set.leaf)
-      ∙ ap (λ (v : ℤ). if is_among places b (p / 8) then written (owner_at job.layout b p) row set.leaf v (bit_in memory b p) else bit_in memory b p) same.0
+      ∙ ap (λ (v : ℤ). if is_among places b (p / 8) then written_bit (owner_at job.layout b p) row set.leaf v (bit_in memory b p) else bit_in memory b p) same.0
       ∙ held-written job.layout row set.leaf value entries b p (bit_in memory b p) (owner_at job.layout b p) (is_among places b (p / 8)) (work.holds b p)
       (λ k owner. among-places job.layout b p row set.leaf k sound.laid.whole_bytes owner) in
       let after : IsWork job (with_value row set.leaf value entries) next behind =
       record { holds = digits; sized = bytes; loaded = subst (AreSized job.layout) (sym stands) work.loaded } in
       let more = sets_work row sets (with_value row set.leaf value entries) next behind after
-      (subst (λ (l : List (List ℕ)). Each (λ (s : Setting). value_on job (row_in job l row) row s ≡ value_on job (row_of job row) row s) sets) (sym stands) same.1) in
+      (subst (λ (l : List (List ℕ)). Each (λ (s : Setting). value_kept_on job (row_in job l row) row s ≡ value_kept_on job (row_as_it_stands job row) row s) sets) (sym stands) same.1) in
       subst (λ (m : List (List ℕ)). IsWork job (set_entries job row (set ∷ sets) entries) m
       (loaded_all (stored job) (loaded job) (stores_of job row set ++ flat_map (stores_of job row) sets) memory registers))
       (sym (made_all-append (stored job) (loaded job) (stores_of job row set) (flat_map (stores_of job row) sets) memory registers))

@@ -4,7 +4,7 @@ use Rattle.std.specs.Prelude.{◌++◌, slice_index_or}
 use Rattle.places.specs.Image.{entry}
 use Rattle.actor_steps.specs.Confluence.{State, turned}
 use Rattle.actor_steps.specs.Micro.{Job, Micro, Registers, stored, loaded}
-use Rattle.actor_steps.specs.BytesOfLaws.{IsMemory}
+use Rattle.actor_steps.specs.Bytes.{IsMemory}
 use Rattle.actor_steps.specs.HeldLaws.{IsHeld}
 use Rattle.actor_steps.specs.RowLaws.{IsSound, IsWork, row_entries}
 use Rattle.actor_steps.specs.Cuts.{AreCuts, actor_of, parts_from}

@@ -7,14 +7,15 @@ use Rattle.std.proofs.lemmas.Bool.{and_from, and_parts, eq-eqb, eqb-true}
 use Rattle.std.proofs.lemmas.Nat.Bits.{bit_at-lt}
 use Rattle.places.specs.Layout.{Owner, Pad, Bit, owner_at}
 use Rattle.places.specs.Image.{digit}
-use Rattle.places.specs.Writes.{written}
+use Rattle.places.specs.Writes.{written_bit}
 use Rattle.places.specs.NumbersLaws.{number_lt, bit_number, digit_lt}
 use Rattle.blobs.specs.Bits.{bit_in}
 use Rattle.piece_bits.specs.Tables.{AreSized}
 use Rattle.actor_steps.specs.ConfluenceLaws.{Each, made_all, loaded_all}
 use Rattle.row_updates.specs.Rows.{Setting}
-use Rattle.actor_steps.specs.Micro.{Place, byte_at, with_byte, Job, Fetch, Load, Store, Registers, row_in, value_on, with_bits_of, stored, loaded, changes}
-use Rattle.actor_steps.specs.BytesOfLaws.{IsByte, with_byte-sized, byte_at-other, byte_at-same}
+use Rattle.actor_steps.specs.Micro.{Place, byte_at, with_byte, Job, Fetch, Load, Store, Registers, row_in, value_kept_on, with_bits_of, stored, loaded, changes}
+use Rattle.actor_steps.specs.Bytes.{IsByte}
+use Rattle.actor_steps.specs.BytesOfLaws.{with_byte-sized, byte_at-other, byte_at-same}
 
 -- whether a byte is this place, and whether it is one of these
 abbrev pub is_place : ℕ → ℕ → Place → Bool
@@ -47,7 +48,7 @@ bit_in-with_byte layout memory place byte b p sized is = by_test (is_place b (p 
         no_test holds fails = (let bad : true ≡ false = sym holds ∙ fails in cc)
 
 -- a bit that is written is a bit
-written_lt : (owner : Owner) (row leaf : ℕ) (value : ℤ) (old : ℕ) → old < 2 → written owner row leaf value old < 2
+written_lt : (owner : Owner) (row leaf : ℕ) (value : ℤ) (old : ℕ) → old < 2 → written_bit owner row leaf value old < 2
 written_lt Pad row leaf value old low = low
 written_lt (Bit s c k) row leaf value old low = by_test ((s == row) && (c == leaf)) where
   by_test : (test : Bool) → (if test then digit value k else old) < 2
@@ -57,17 +58,17 @@ written_lt (Bit s c k) row leaf value old low = by_test ((s == row) && (c == lea
 -- a byte in which only the bits of a leaf in a row are changed is a byte, and its bits
 pub with_bits_of-lt : (layout : List (List Owner)) (place : Place) (row leaf : ℕ) (value : ℤ) (byte : ℕ) → with_bits_of layout place row leaf value byte < 256
 with_bits_of-lt layout place row leaf value byte =
-    number_lt (λ bit. written (owner_at layout place.blob (8 * place.byte + bit)) row leaf value (bit_at byte bit)) 8
+    number_lt (λ bit. written_bit (owner_at layout place.blob (8 * place.byte + bit)) row leaf value (bit_at byte bit)) 8
     (λ j l. written_lt (owner_at layout place.blob (8 * place.byte + j)) row leaf value (bit_at byte j) (bit_at-lt byte j))
 
 pub bit_at-with_bits_of : (layout : List (List Owner)) (place : Place) (row leaf : ℕ) (value : ℤ) (byte k : ℕ) → k < 8
-    → bit_at (with_bits_of layout place row leaf value byte) k ≡ written (owner_at layout place.blob (8 * place.byte + k)) row leaf value (bit_at byte k)
+    → bit_at (with_bits_of layout place row leaf value byte) k ≡ written_bit (owner_at layout place.blob (8 * place.byte + k)) row leaf value (bit_at byte k)
 bit_at-with_bits_of layout place row leaf value byte k inside =
-    bit_number (λ bit. written (owner_at layout place.blob (8 * place.byte + bit)) row leaf value (bit_at byte bit)) 8 k
+    bit_number (λ bit. written_bit (owner_at layout place.blob (8 * place.byte + bit)) row leaf value (bit_at byte bit)) 8 k
     (λ j l. written_lt (owner_at layout place.blob (8 * place.byte + j)) row leaf value (bit_at byte j) (bit_at-lt byte j)) inside
 
 -- written twice is written once
-pub written-twice : (owner : Owner) (row leaf : ℕ) (value : ℤ) (old : ℕ) → written owner row leaf value (written owner row leaf value old) ≡ written owner row leaf value old
+pub written-twice : (owner : Owner) (row leaf : ℕ) (value : ℤ) (old : ℕ) → written_bit owner row leaf value (written_bit owner row leaf value old) ≡ written_bit owner row leaf value old
 written-twice Pad row leaf value old = refl
 written-twice (Bit s c k) row leaf value old = by_test ((s == row) && (c == leaf)) where
   by_test : (test : Bool) → (if test then digit value k else (if test then digit value k else old)) ≡ (if test then digit value k else old)
@@ -76,7 +77,7 @@ written-twice (Bit s c k) row leaf value old = by_test ((s == row) && (c == leaf
 
 module _ (job : Job) (row : ℕ) (set : Setting) where
   wrote : List Place → List (List ℕ) → ℤ → ℕ → ℕ → ℕ
-  wrote places memory value b p = if is_among places b (p / 8) then written (owner_at job.layout b p) row set.leaf value (bit_in memory b p) else bit_in memory b p
+  wrote places memory value b p = if is_among places b (p / 8) then written_bit (owner_at job.layout b p) row set.leaf value (bit_in memory b p) else bit_in memory b p
 
   -- memory after one byte is loaded and stored
   one_byte : Place → List (List ℕ) → Registers → List (List ℕ)
@@ -84,50 +85,50 @@ module _ (job : Job) (row : ℕ) (set : Setting) where
 
   one_bit : (place : Place) (memory : List (List ℕ)) (registers : Registers) (b p : ℕ) → AreSized job.layout memory → IsByte job.layout place
       → bit_in (one_byte place memory registers) b p
-      ≡ (if is_place b (p / 8) place then written (owner_at job.layout b p) row set.leaf (value_on job (row_in job registers.loaded row) row set) (bit_in memory b p) else bit_in memory b p)
+      ≡ (if is_place b (p / 8) place then written_bit (owner_at job.layout b p) row set.leaf (value_kept_on job (row_in job registers.loaded row) row set) (bit_in memory b p) else bit_in memory b p)
   unfolding one_byte
   one_bit place memory registers b p sized is =
-      let value = value_on job (row_in job registers.loaded row) row set in
+      let value = value_kept_on job (row_in job registers.loaded row) row set in
       let byte = with_bits_of job.layout place row set.leaf value (byte_at memory place) in
       bit_in-with_byte job.layout memory place byte b p sized is ∙ by_test (is_place b (p / 8) place) refl where
         by_test : (test : Bool) → is_place b (p / 8) place ≡ test
-            → (if test then bit_at (with_bits_of job.layout place row set.leaf (value_on job (row_in job registers.loaded row) row set) (byte_at memory place)) (p % 8) else bit_in memory b p)
-            ≡ (if test then written (owner_at job.layout b p) row set.leaf (value_on job (row_in job registers.loaded row) row set) (bit_in memory b p) else bit_in memory b p)
+            → (if test then bit_at (with_bits_of job.layout place row set.leaf (value_kept_on job (row_in job registers.loaded row) row set) (byte_at memory place)) (p % 8) else bit_in memory b p)
+            ≡ (if test then written_bit (owner_at job.layout b p) row set.leaf (value_kept_on job (row_in job registers.loaded row) row set) (bit_in memory b p) else bit_in memory b p)
         by_test true e =
-            let value = value_on job (row_in job registers.loaded row) row set in
+            let value = value_kept_on job (row_in job registers.loaded row) row set in
             let both = and_parts (place.blob == b) (place.byte == p / 8) e in
             let blob : place.blob ≡ b = eqb-true place.blob b both.0 in
             let at : place.byte ≡ p / 8 = eqb-true place.byte (p / 8) both.1 in
             let whole : 8 * place.byte + p % 8 ≡ p = omega arith in
             bit_at-with_bits_of job.layout place row set.leaf value (byte_at memory place) (p % 8) (omega arith)
-            ∙ ap (λ (w : ℕ). written (owner_at job.layout place.blob w) row set.leaf value (bit_at (byte_at memory place) (p % 8))) whole
-            ∙ ap (λ (w : ℕ). written (owner_at job.layout w p) row set.leaf value (bit_at (get_or (get_or memory w []) place.byte 0) (p % 8))) blob
-            ∙ ap (λ (w : ℕ). written (owner_at job.layout b p) row set.leaf value (bit_at (get_or (get_or memory b []) w 0) (p % 8))) at
+            ∙ ap (λ (w : ℕ). written_bit (owner_at job.layout place.blob w) row set.leaf value (bit_at (byte_at memory place) (p % 8))) whole
+            ∙ ap (λ (w : ℕ). written_bit (owner_at job.layout w p) row set.leaf value (bit_at (get_or (get_or memory w []) place.byte 0) (p % 8))) blob
+            ∙ ap (λ (w : ℕ). written_bit (owner_at job.layout b p) row set.leaf value (bit_at (get_or (get_or memory b []) w 0) (p % 8))) at
         by_test false e = refl
 
   one_sized : (place : Place) (memory : List (List ℕ)) (registers : Registers) → AreSized job.layout memory → AreSized job.layout (one_byte place memory registers)
   unfolding one_byte
   one_sized place memory registers sized =
-      with_byte-sized job.layout memory place (with_bits_of job.layout place row set.leaf (value_on job (row_in job registers.loaded row) row set) (byte_at memory place)) sized
+      with_byte-sized job.layout memory place (with_bits_of job.layout place row set.leaf (value_kept_on job (row_in job registers.loaded row) row set) (byte_at memory place)) sized
 
   -- memory after all bytes of a leaf are loaded and stored
   pub sweep : (places : List Place) (memory : List (List ℕ)) (registers : Registers) (b p : ℕ) → AreSized job.layout memory → AreBytesOf job.layout places
       → bit_in (made_all (stored job) (loaded job) (flat_map (changes row set) places) memory registers) b p
-      ≡ (if is_among places b (p / 8) then written (owner_at job.layout b p) row set.leaf (value_on job (row_in job registers.loaded row) row set) (bit_in memory b p) else bit_in memory b p)
+      ≡ (if is_among places b (p / 8) then written_bit (owner_at job.layout b p) row set.leaf (value_kept_on job (row_in job registers.loaded row) row set) (bit_in memory b p) else bit_in memory b p)
   unfolding one_byte
   sweep [] memory registers b p sized are = refl
   sweep (place ∷ places) memory registers b p sized are =
-      let value = value_on job (row_in job registers.loaded row) row set in
+      let value = value_kept_on job (row_in job registers.loaded row) row set in
       let next = one_byte place memory registers in
       sweep places next (record registers { byte = byte_at memory place }) b p (one_sized place memory registers sized) are.1
-      ∙ ap (λ (old : ℕ). if is_among places b (p / 8) then written (owner_at job.layout b p) row set.leaf value old else old) (one_bit place memory registers b p sized are.0)
+      ∙ ap (λ (old : ℕ). if is_among places b (p / 8) then written_bit (owner_at job.layout b p) row set.leaf value old else old) (one_bit place memory registers b p sized are.0)
       ∙ by_tests (is_place b (p / 8) place) (is_among places b (p / 8)) where
         by_tests : (here there : Bool)
-            → (if there then written (owner_at job.layout b p) row set.leaf (value_on job (row_in job registers.loaded row) row set)
-            (if here then written (owner_at job.layout b p) row set.leaf (value_on job (row_in job registers.loaded row) row set) (bit_in memory b p) else bit_in memory b p)
-            else (if here then written (owner_at job.layout b p) row set.leaf (value_on job (row_in job registers.loaded row) row set) (bit_in memory b p) else bit_in memory b p))
-            ≡ (if (here || there) then written (owner_at job.layout b p) row set.leaf (value_on job (row_in job registers.loaded row) row set) (bit_in memory b p) else bit_in memory b p)
-        by_tests true true = written-twice (owner_at job.layout b p) row set.leaf (value_on job (row_in job registers.loaded row) row set) (bit_in memory b p)
+            → (if there then written_bit (owner_at job.layout b p) row set.leaf (value_kept_on job (row_in job registers.loaded row) row set)
+            (if here then written_bit (owner_at job.layout b p) row set.leaf (value_kept_on job (row_in job registers.loaded row) row set) (bit_in memory b p) else bit_in memory b p)
+            else (if here then written_bit (owner_at job.layout b p) row set.leaf (value_kept_on job (row_in job registers.loaded row) row set) (bit_in memory b p) else bit_in memory b p))
+            ≡ (if (here || there) then written_bit (owner_at job.layout b p) row set.leaf (value_kept_on job (row_in job registers.loaded row) row set) (bit_in memory b p) else bit_in memory b p)
+        by_tests true true = written-twice (owner_at job.layout b p) row set.leaf (value_kept_on job (row_in job registers.loaded row) row set) (bit_in memory b p)
         by_tests true false = refl
         by_tests false true = refl
         by_tests false false = refl

@@ -10,11 +10,11 @@ use Rattle.expr_lang.specs.Values.{outcome_of, is_true}
 use Rattle.expr_lang.specs.declared.fault.EvalFault.{EvalFault}
 use Rattle.linearize.specs.Slots.{index_at}
 use Rattle.places.specs.Image.{entry}
-use Rattle.views.specs.Stores.{Answer, Keeping, kept_or, kept_by}
+use Rattle.views.specs.Stores.{StoreAnswer, Keeping, kept_or, kept_by}
 use Rattle.views.specs.declared.fault.StoreFault.{StoreFault}
 use Rattle.row_updates.specs.declared.fault.UpdateFault.{UpdateFault}
 use Rattle.row_updates.specs.Rows.{Setting, each, ◌>>=◌, in_row, eval_kind, store_kind, passes, new_value, with_values, updated_row, updated_rows}
-use Rattle.actor_steps.specs.Micro.{Job, row_of, number_in, value_on, test_of}
+use Rattle.actor_steps.specs.Micro.{Job, row_as_it_stands, number_in, value_kept_on, test_of}
 use Rattle.actor_steps.specs.HeldLaws.{with_value}
 use Rattle.actor_steps.specs.RowLaws.{set_entries, row_entries}
 
@@ -71,17 +71,17 @@ length-with_values keep (set ∷ sets) [] row = refl
 length-with_values keep (s ∷ sets) (value ∷ values) row =
     length-with_values keep sets values (set row s.leaf (keep s.leaf value)) ∙ length-set row s.leaf (keep s.leaf value)
 
-module _ (job : Job) (answer : Answer) (r : ℕ) where
+module _ (job : Job) (answer : StoreAnswer) (r : ℕ) where
   -- the entries after some sets are the numbers of the row after them
-  sets_same : (sets : List Setting) (values line : List ℤ) (entries : ℕ → ℕ → ℤ) → each (new_value answer r (row_of job r) (index_at job.extents r)) sets ≡ Ok values
+  sets_same : (sets : List Setting) (values line : List ℤ) (entries : ℕ → ℕ → ℤ) → each (new_value answer r (row_as_it_stands job r) (index_at job.extents r)) sets ≡ Ok values
       → ((f : ℕ) → f < length line → entries r f ≡ get_or line f (pos 0)) → (f : ℕ) → f < length line
       → set_entries job r sets entries r f ≡ get_or (with_values job.kept sets values line) f (pos 0)
   sets_same [] values line entries all same f inside = same f inside
   sets_same (s ∷ sets) values line entries all same f inside =
-      let p = parted (new_value answer r (row_of job r) (index_at job.extents r) s) (each (new_value answer r (row_of job r) (index_at job.extents r)) sets) values all in
+      let p = parted (new_value answer r (row_as_it_stands job r) (index_at job.extents r) s) (each (new_value answer r (row_as_it_stands job r) (index_at job.extents r)) sets) values all in
       let value = job.kept s.leaf p.y in
-      let is : value_on job (row_of job r) r s ≡ value =
-      ap (job.kept s.leaf) (valued (answer s.leaf) r s.leaf (outcome_of (row_of job r) (index_at job.extents r) s.value).answer p.y p.first_is).0 in
+      let is : value_kept_on job (row_as_it_stands job r) r s ≡ value =
+      ap (job.kept s.leaf) (valued (answer s.leaf) r s.leaf (outcome_of (row_as_it_stands job r) (index_at job.extents r) s.value).answer p.y p.first_is).0 in
       let next : List ℤ = set line s.leaf value in
       let long : length next ≡ length line = length-set line s.leaf value in
       ap (λ (v : ℤ). set_entries job r sets (with_value r s.leaf v entries) r f) is
@@ -102,36 +102,36 @@ module _ (job : Job) (answer : Answer) (r : ℕ) where
               apart false e other = refl
 
   -- whether the filter lets the row through
-  passed : (filter : Option (Term ℕ)) (test : Bool) → passes r (row_of job r) (index_at job.extents r) filter ≡ Ok test → test_of job r filter ≡ test
+  passed : (filter : Option (Term ℕ)) (test : Bool) → passes r (row_as_it_stands job r) (index_at job.extents r) filter ≡ Ok test → test_of job r filter ≡ test
   passed None test e = cc
-  passed (Some filter) test e = tested r (outcome_of (row_of job r) (index_at job.extents r) filter).answer test e
+  passed (Some filter) test e = tested r (outcome_of (row_as_it_stands job r) (index_at job.extents r) filter).answer test e
 
   -- a row after the plain update
-  pub row_same : (new : List ℤ) → updated_row answer job.kept job.filter job.sets r (row_of job r) (index_at job.extents r) ≡ Ok new → (f : ℕ) → f < length (row_of job r)
+  pub row_same : (new : List ℤ) → updated_row answer job.kept job.filter job.sets r (row_as_it_stands job r) (index_at job.extents r) ≡ Ok new → (f : ℕ) → f < length (row_as_it_stands job r)
       → row_entries job r (entry job.rows) r f ≡ get_or new f (pos 0)
-  row_same new plain f inside = by_test (passes r (row_of job r) (index_at job.extents r) job.filter) refl plain where
+  row_same new plain f inside = by_test (passes r (row_as_it_stands job r) (index_at job.extents r) job.filter) refl plain where
     values : Result (List ℤ) UpdateFault
-    values = each (new_value answer r (row_of job r) (index_at job.extents r)) job.sets
+    values = each (new_value answer r (row_as_it_stands job r) (index_at job.extents r)) job.sets
 
-    by_values : (found : Result (List ℤ) UpdateFault) → values ≡ found → (found >>= (λ v. Ok (with_values job.kept job.sets v (row_of job r)))) ≡ Ok new
+    by_values : (found : Result (List ℤ) UpdateFault) → values ≡ found → (found >>= (λ v. Ok (with_values job.kept job.sets v (row_as_it_stands job r)))) ≡ Ok new
         → set_entries job r job.sets (entry job.rows) r f ≡ get_or new f (pos 0)
     by_values (Ok found) e is =
-        (let same : with_values job.kept job.sets found (row_of job r) ≡ new = cc in
-        sets_same job.sets found (row_of job r) (entry job.rows) e (λ g low. refl) f inside ∙ ap (λ (w : List ℤ). get_or w f (pos 0)) same)
+        (let same : with_values job.kept job.sets found (row_as_it_stands job r) ≡ new = cc in
+        sets_same job.sets found (row_as_it_stands job r) (entry job.rows) e (λ g low. refl) f inside ∙ ap (λ (w : List ℤ). get_or w f (pos 0)) same)
     by_values (Err fault) e is = absurd (cc)
 
-    by_test : (found : Result Bool UpdateFault) → passes r (row_of job r) (index_at job.extents r) job.filter ≡ found
-        → (found >>= (λ t. if t then (values >>= (λ v. Ok (with_values job.kept job.sets v (row_of job r)))) else Ok (row_of job r))) ≡ Ok new
+    by_test : (found : Result Bool UpdateFault) → passes r (row_as_it_stands job r) (index_at job.extents r) job.filter ≡ found
+        → (found >>= (λ t. if t then (values >>= (λ v. Ok (with_values job.kept job.sets v (row_as_it_stands job r)))) else Ok (row_as_it_stands job r))) ≡ Ok new
         → row_entries job r (entry job.rows) r f ≡ get_or new f (pos 0)
     by_test (Ok true) e is =
         ap (λ (t : Bool). (if t then set_entries job r job.sets (entry job.rows) else entry job.rows) r f) (passed job.filter true e) ∙ by_values values refl is
     by_test (Ok false) e is =
-        (let same : row_of job r ≡ new = cc in
+        (let same : row_as_it_stands job r ≡ new = cc in
         ap (λ (t : Bool). (if t then set_entries job r job.sets (entry job.rows) else entry job.rows) r f) (passed job.filter false e)
         ∙ ap (λ (w : List ℤ). get_or w f (pos 0)) same)
     by_test (Err fault) e is = absurd (cc)
 
-module _ (answer : Answer) (number : ℕ) (row : List ℤ) (index : List ℕ) (P : ℕ → ℤ → Type 0)
+module _ (answer : StoreAnswer) (number : ℕ) (row : List ℤ) (index : List ℕ) (P : ℕ → ℤ → Type 0)
     (stored : (leaf : ℕ) (value left : ℤ) → leaf < length row → answer leaf value ≡ Ok left → P leaf left) where
   -- a fact of each number of a row, and of what each store leaves, is one of each number of the row after the update
   sets_keep : (sets : List Setting) (values line : List ℤ) → each (new_value answer number row index) sets ≡ Ok values → length line ≡ length row
@@ -173,7 +173,7 @@ module _ (answer : Answer) (number : ℕ) (row : List ℤ) (index : List ℕ) (P
     by_test (Err fault) is = absurd (cc)
 
 -- the rows of an update, one by one
-pub updated_at : (answer : Answer) (keep : Keeping) (filter : Option (Term ℕ)) (sets : List Setting) (extents : List ℕ) (rows new : List (List ℤ)) (count r : ℕ)
+pub updated_at : (answer : StoreAnswer) (keep : Keeping) (filter : Option (Term ℕ)) (sets : List Setting) (extents : List ℕ) (rows new : List (List ℤ)) (count r : ℕ)
     → updated_rows answer keep filter sets extents rows count ≡ Ok new → r < count
     → updated_row answer keep filter sets r (get_or rows r []) (index_at extents r) ≡ Ok (get_or new r [])
 updated_at answer keep filter sets extents rows new count r all inside =
@@ -182,7 +182,7 @@ updated_at answer keep filter sets extents rows new count r all inside =
     let low : r < length (range_with_len 0 count) = omega (arith, length-range_with_len 0 count, inside) in
     sym (ap step number) ∙ each_at step (range_with_len 0 count) new r 0 [] low all
 
-pub updated_length : (answer : Answer) (keep : Keeping) (filter : Option (Term ℕ)) (sets : List Setting) (extents : List ℕ) (rows new : List (List ℤ)) (count : ℕ)
+pub updated_length : (answer : StoreAnswer) (keep : Keeping) (filter : Option (Term ℕ)) (sets : List Setting) (extents : List ℕ) (rows new : List (List ℤ)) (count : ℕ)
     → updated_rows answer keep filter sets extents rows count ≡ Ok new → length new ≡ count
 updated_length answer keep filter sets extents rows new count all =
     let step : ℕ → Result (List ℤ) UpdateFault = λ number. updated_row answer keep filter sets number (get_or rows number []) (index_at extents number) in

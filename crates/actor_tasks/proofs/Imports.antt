@@ -6,16 +6,16 @@ pub use Rattle.std.proofs.lemmas.Bool.Decides.{nat_tests}
 pub use Rattle.places.specs.declared.piece.Piece.{Piece}
 pub use Rattle.actor_steps.specs.declared.place.Place.{Place}
 pub use Rattle.places.specs.Layout.{Owner}
-pub use Rattle.places.specs.Laws.{IsLaidOut, IsLocated}
+pub use Rattle.places.specs.Lawful.{IsLaidOut, IsLocated}
 pub use Rattle.places.specs.ExactLaws.{within}
 pub use Rattle.places.specs.ComposeLaws.{within_blobs}
 pub use Rattle.places.specs.Touched.{is_in_granule, is_touched}
 pub use Rattle.places.specs.TouchedLaws.{hot_place, in_granule, touched_hot}
-pub use Rattle.actor_steps.specs.BytesOfLaws.{IsByte}
+pub use Rattle.actor_steps.specs.Bytes.{IsByte}
 pub use Rattle.actor_steps.specs.Micro.{all_bytes, Job}
 pub use Rattle.places.specs.declared.piece.Hold.{Hold}
-pub use Rattle.actor_tasks.specs.Places.{ComesFrom, is_before, holds_bit, IsHead}
-pub use Rattle.actor_tasks.specs.Nexts.{Touches, AnyTouches, IsFound, IsNext, IsEarlier}
+pub use Rattle.actor_tasks.specs.Places.{ComesFrom, is_before, byte_holds_bit, IsHead}
+pub use Rattle.actor_tasks.specs.Inner.Nexts.{Touches, AnyTouches, IsFound, IsNext, IsEarlier}
 pub use Rattle.actor_tasks.specs.PlacesLaws.{occurs-all, places_from-first}
 pub use Rattle.actor_tasks.specs.Marks.{IsTaskNext, task_at, IsRowOf, AreRowsOf}
 pub use Rattle.actor_tasks.specs.MarksLaws.{read_task, no_read, set_task, no_set, task_count, task_found, task_done, none_left, row_told}

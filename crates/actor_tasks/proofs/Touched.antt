@@ -1,5 +1,5 @@
 -- The bytes that the pieces of a leaf in a row touch are those that hold a bit of it, so the first of the ones is the first of the others.
-use Rattle.actor_tasks.proofs.Imports.{◌≡◌, ℕ, ◌+◌, ◌*◌, ◌<◌, ◌≤◌, max, Bool, true, false, List, [], ◌∷◌, length, filter, get_or, Option, Some, None, refl, sym, ap, ◌∙◌, ⊎_elim, inl, inr, arith, ◌⊎◌, IfSome, ◌==◌, ◌&&◌, ◌||◌, not, nat_lt, min, if◌then◌else◌, true≢false, cases_Bool, cases_lt, and_from, and_parts, or_left, or_right, eq-eqb, lt-ltb, nat_tests, Piece, Owner, IsLaidOut, IsLocated, within, within_blobs, is_in_granule, is_touched, hot_place, in_granule, touched_hot, Place, IsByte, all_bytes, is_before, ComesFrom, holds_bit, IsHead, Touches, AnyTouches, IsNext, occurs-all, places_from-first, not-true}
+use Rattle.actor_tasks.proofs.Imports.{◌≡◌, ℕ, ◌+◌, ◌*◌, ◌<◌, ◌≤◌, max, Bool, true, false, List, [], ◌∷◌, length, filter, get_or, Option, Some, None, refl, sym, ap, ◌∙◌, ⊎_elim, inl, inr, arith, ◌⊎◌, IfSome, ◌==◌, ◌&&◌, ◌||◌, not, nat_lt, min, if◌then◌else◌, true≢false, cases_Bool, cases_lt, and_from, and_parts, or_left, or_right, eq-eqb, lt-ltb, nat_tests, Piece, Owner, IsLaidOut, IsLocated, within, within_blobs, is_in_granule, is_touched, hot_place, in_granule, touched_hot, Place, IsByte, all_bytes, is_before, ComesFrom, byte_holds_bit, IsHead, Touches, AnyTouches, IsNext, occurs-all, places_from-first, not-true}
 
 -- a byte is a granule of one byte
 any-touched : (pieces : List Piece) (place : Place) → AnyTouches pieces place → is_touched 1 pieces place.blob place.byte ≡ true
@@ -56,14 +56,14 @@ no_filter test (x ∷ xs) none = by_test (test x) refl (no_filter test xs none) 
 
 module _ (layout : List (List Owner)) (slots : ℕ) (widths : List ℕ) (laid : IsLaidOut layout slots widths) (row leaf : ℕ) (pieces : List Piece)
     (located : IsLocated layout row leaf (get_or widths leaf 0) pieces) where
-  touches-hold : (place : Place) → AnyTouches pieces place → holds_bit layout row leaf place ≡ true
+  touches-hold : (place : Place) → AnyTouches pieces place → byte_holds_bit layout row leaf place ≡ true
   touches-hold place any = sym (touched_hot laid located 1 place.blob place.byte) ∙ any-touched pieces place any
 
-  holds-touch : (place : Place) → holds_bit layout row leaf place ≡ true → AnyTouches pieces place
+  holds-touch : (place : Place) → byte_holds_bit layout row leaf place ≡ true → AnyTouches pieces place
   holds-touch place holds = touched-any pieces place (touched_hot laid located 1 place.blob place.byte ∙ holds)
 
   -- such a byte is one of the layout
-  pub is_byte : (place : Place) → holds_bit layout row leaf place ≡ true → IsByte layout place
+  pub is_byte : (place : Place) → byte_holds_bit layout row leaf place ≡ true → IsByte layout place
   is_byte place holds =
       let bit = hot_place layout 1 row leaf place.blob place.byte holds in
       let blob_in : place.blob < length layout = within_blobs layout place.blob bit.bit row leaf bit.number bit.owner in
@@ -74,14 +74,14 @@ module _ (layout : List (List Owner)) (slots : ℕ) (widths : List ℕ) (laid : 
   -- what the code finds is the head of the list
   pub head_found : (from : Place) (result : Option Place) → IsNext (AnyTouches pieces) from result → IsHead layout row leaf from result
   head_found from None none =
-      no_filter (λ place. holds_bit layout row leaf place && not (is_before place from)) (all_bytes layout)
+      no_filter (λ place. byte_holds_bit layout row leaf place && not (is_before place from)) (all_bytes layout)
       (λ place e.
-      (let both = and_parts (holds_bit layout row leaf place) (not (is_before place from)) e in
+      (let both = and_parts (byte_holds_bit layout row leaf place) (not (is_before place from)) e in
       none place (holds-touch place both.0) (comes from place (not-true (is_before place from) both.1))))
   head_found from (Some place) found =
       places_from-first layout row leaf from place (occurs-all layout place (is_byte place (touches-hold place found.meets))) (touches-hold place found.meets) (comes-not from place found.behind)
       (λ y e.
-      (let both = and_parts (holds_bit layout row leaf y) (not (is_before y from)) e in
+      (let both = and_parts (byte_holds_bit layout row leaf y) (not (is_before y from)) e in
       same_or_before place y (found.first y (holds-touch y both.0) (comes from y (not-true (is_before y from) both.1)))))
 
   -- and one of the layout

@@ -1,5 +1,4 @@
 pub mod Places
-pub mod Nexts
 pub mod Tasks
 pub mod Marks
 pub mod OrderedLaws
@@ -7,3 +6,4 @@ pub mod PlacesLaws
 pub mod TasksLaws
 pub mod MarksLaws
 pub mod RowsLaws
+pub mod Inner

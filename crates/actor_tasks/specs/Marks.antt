@@ -2,9 +2,9 @@
 use Rattle.std.specs.Prelude.{ℕ, ◌≡◌, ◌-◌, ◌<◌, Bool, true, false, List, [], ◌∷◌, ◌++◌, length, map, drop, slice_index_or, Option, Some, None}
 use Rattle.places.specs.Layout.{Owner}
 use Rattle.actor_steps.specs.declared.place.Place.{Place}
-use Rattle.actor_steps.specs.Micro.{Job, lets_through, reads_of, is_in}
-use Rattle.actor_tasks.specs.Places.{places_from, behind}
-use Rattle.actor_tasks.specs.Tasks.{Task, Reads, all_tasks, is_asked, leaf_of, place_steps, task_steps, tasks_steps, left_in}
+use Rattle.actor_steps.specs.Micro.{Job, lets_through, leaves_read, is_in}
+use Rattle.actor_tasks.specs.Places.{places_from, byte_behind}
+use Rattle.actor_tasks.specs.Tasks.{Task, Reads, all_tasks, is_asked, task_leaf, place_steps, task_steps, tasks_steps, left_in}
 use Rattle.actor_tasks.specs.declared.rows.Asks.{Asks}
 use Rattle.actor_tasks.specs.declared.rows.NextByte.{NextByte}
 
@@ -13,7 +13,7 @@ pub record IsRowOf (job : Job) (layout : List (List Owner)) (leaves : ℕ) (sets
   pub layout_is : job.layout ≡ layout
   pub leaves_are : length job.holds ≡ leaves
   pub sets_are : map (λ set. set.leaf) job.sets ≡ sets
-  pub asked_are : (leaf : ℕ) → leaf < leaves → slice_index_or asked leaf false ≡ is_in (reads_of job row) leaf
+  pub asked_are : (leaf : ℕ) → leaf < leaves → slice_index_or asked leaf false ≡ is_in (leaves_read job row) leaf
   pub through_is : through ≡ lets_through job row
 
 -- the task of this number
@@ -24,13 +24,13 @@ task_at job task = slice_index_or (all_tasks job) task (Reads 0)
 abbrev pub IsTaskNext : Job → ℕ → Place → Task → Option Place → Type 0
 IsTaskNext job row from task None = task_steps job row from task ≡ []
 IsTaskNext job row from task (Some place) =
-    (is_asked job row task ≡ true) × (places_from job.layout row (leaf_of task) from ≡ place ∷ places_from job.layout row (leaf_of task) (behind place))
+    (is_asked job row task ≡ true) × (places_from job.layout row (task_leaf task) from ≡ place ∷ places_from job.layout row (task_leaf task) (byte_behind place))
 
 -- the next byte of the tasks of a row from one of them on, where they have one: its task, and the byte
 abbrev pub IsRowNext : Job → ℕ → ℕ → Place → Option (ℕ × Place) → Type 0
 IsRowNext job row done from None = tasks_steps job row from (drop done (all_tasks job)) ≡ []
 IsRowNext job row done from (Some next) =
-    tasks_steps job row from (drop done (all_tasks job)) ≡ place_steps row (task_at job next.0) next.1 ++ tasks_steps job row (behind next.1) (drop next.0 (all_tasks job))
+    tasks_steps job row from (drop done (all_tasks job)) ≡ place_steps row (task_at job next.0) next.1 ++ tasks_steps job row (byte_behind next.1) (drop next.0 (all_tasks job))
 
 -- what so many rows ask for is what the job says
 pub record AreRowsOf (job : Job) (layout : List (List Owner)) (leaves : ℕ) (sets : List ℕ) (asks : ℕ → Asks) (rows : ℕ) : Type 0 where
@@ -40,4 +40,4 @@ pub record AreRowsOf (job : Job) (layout : List (List Owner)) (leaves : ℕ) (se
 abbrev pub IsRowsNext : Job → ℕ → ℕ → ℕ → Place → Option NextByte → Type 0
 IsRowsNext job row end done from None = left_in job row (end - row) done from ≡ []
 IsRowsNext job row end done from (Some next) =
-    left_in job row (end - row) done from ≡ place_steps next.row (task_at job next.task) next.place ++ left_in job next.row (end - next.row) next.task (behind next.place)
+    left_in job row (end - row) done from ≡ place_steps next.row (task_at job next.task) next.place ++ left_in job next.row (end - next.row) next.task (byte_behind next.place)

@@ -10,21 +10,21 @@ use Rattle.places.specs.Layout.{Owner}
 use Rattle.row_updates.specs.Rows.{Setting}
 use Rattle.actor_steps.specs.declared.place.Place.{Place}
 use Rattle.actor_steps.specs.Micro.{Job, Micro}
-use Rattle.actor_tasks.specs.Places.{origin, places_from, behind, IsHead}
-use Rattle.actor_tasks.specs.Tasks.{Task, Reads, Sets, all_tasks, is_asked, leaf_of, place_steps, task_steps, tasks_steps}
+use Rattle.actor_tasks.specs.Places.{origin, places_from, byte_behind, IsHead}
+use Rattle.actor_tasks.specs.Tasks.{Task, Reads, Sets, all_tasks, is_asked, task_leaf, place_steps, task_steps, tasks_steps}
 use Rattle.actor_tasks.specs.TasksLaws.{next_place, next_task}
 use Rattle.actor_tasks.specs.declared.rows.Asks.{Asks}
 use Rattle.actor_tasks.specs.Marks.{IsRowOf, AreRowsOf, task_at, IsTaskNext}
 
 -- a task that the row does not ask for has no byte
 unasked : (job : Job) (row : ℕ) (from : Place) (task : Task) → is_asked job row task ≡ false → task_steps job row from task ≡ []
-unasked job row from task e = ap (λ (t : Bool). if t then flat_map (place_steps row task) (places_from job.layout row (leaf_of task) from) else []) e
+unasked job row from task e = ap (λ (t : Bool). if t then flat_map (place_steps row task) (places_from job.layout row (task_leaf task) from) else []) e
 
 -- one that it asks for has the bytes of its leaf
-asked : (job : Job) (row : ℕ) (from : Place) (task : Task) (result : Option Place) → is_asked job row task ≡ true → IsHead job.layout row (leaf_of task) from result
+asked : (job : Job) (row : ℕ) (from : Place) (task : Task) (result : Option Place) → is_asked job row task ≡ true → IsHead job.layout row (task_leaf task) from result
     → IsTaskNext job row from task result
 asked job row from task None e head =
-    ap (λ (t : Bool). if t then flat_map (place_steps row task) (places_from job.layout row (leaf_of task) from) else []) e ∙ ap (flat_map (place_steps row task)) head
+    ap (λ (t : Bool). if t then flat_map (place_steps row task) (places_from job.layout row (task_leaf task) from) else []) e ∙ ap (flat_map (place_steps row task)) head
 asked job row from task (Some place) e head = (e, head)
 
 -- some leaf is set where one has this number
@@ -86,12 +86,12 @@ at_task (t ∷ tasks) (suc n) d low =
 -- a task with a next byte: its micro-steps there are the next ones
 pub task_found : (job : Job) (row : ℕ) (from place : Place) (task : ℕ) (before : List Micro) (result : Option Place) → task < length (all_tasks job)
     → before ≡ tasks_steps job row from (drop task (all_tasks job)) → IsTaskNext job row from (task_at job task) result → result ≡ Some place
-    → before ≡ place_steps row (task_at job task) place ++ tasks_steps job row (behind place) (drop task (all_tasks job))
+    → before ≡ place_steps row (task_at job task) place ++ tasks_steps job row (byte_behind place) (drop task (all_tasks job))
 task_found job row from place task before result low so_far found is =
     let cut = at_task (all_tasks job) task (Reads 0) low in
     let next : IsTaskNext job row from (task_at job task) (Some place) = subst (IsTaskNext job row from (task_at job task)) is found in
     so_far ∙ ap (tasks_steps job row from) cut ∙ next_place job row from place (task_at job task) (drop (task + 1) (all_tasks job)) next.0 next.1
-    ∙ ap (λ (ts : List Task). place_steps row (task_at job task) place ++ tasks_steps job row (behind place) ts) (sym cut)
+    ∙ ap (λ (ts : List Task). place_steps row (task_at job task) place ++ tasks_steps job row (byte_behind place) ts) (sym cut)
 
 -- and one without: what is left is that of the next task
 pub task_done : (job : Job) (row : ℕ) (from : Place) (task : ℕ) (before : List Micro) (result : Option Place) → task < length (all_tasks job)

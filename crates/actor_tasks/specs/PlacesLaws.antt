@@ -7,9 +7,9 @@ use Rattle.std.proofs.lemmas.Bool.Decides.{nat_tests}
 use Rattle.std.proofs.lemmas.List.Elements.{All-nil, All-cons, All-append, All-map}
 use Rattle.places.specs.Layout.{Owner}
 use Rattle.actor_steps.specs.declared.place.Place.{Place}
-use Rattle.actor_steps.specs.BytesOfLaws.{IsByte}
+use Rattle.actor_steps.specs.Bytes.{IsByte}
 use Rattle.actor_steps.specs.Micro.{bytes_in, all_bytes, places_of}
-use Rattle.actor_tasks.specs.Places.{is_before, origin, behind, holds_bit, places_from}
+use Rattle.actor_tasks.specs.Places.{is_before, origin, byte_behind, byte_holds_bit, places_from}
 use Rattle.actor_tasks.specs.OrderedLaws.{same_filter, IsOrdered, ordered-append, Occurs, split_first}
 
 -- bytes stand in one order
@@ -87,25 +87,25 @@ pub occurs-all : (layout : List (List Owner)) (place : Place) → IsByte layout 
 occurs-all layout place byte = occurs-blob layout 0 (length layout) place (omega arith) (omega (arith, byte.blob_in)) (omega (arith, byte.byte_in))
 
 -- the tests of a byte behind one that is found, and from the next byte on
-rest_test : (holds : Bool) (first from y : Place) → is_before first from ≡ false → ((holds && not (is_before y from)) && is_before first y) ≡ (holds && not (is_before y (behind first)))
+rest_test : (holds : Bool) (first from y : Place) → is_before first from ≡ false → ((holds && not (is_before y from)) && is_before first y) ≡ (holds && not (is_before y (byte_behind first)))
 rest_test holds first from y low = grind (arith, nat_tests)
 
 -- a byte of the leaf that no other such byte from a place on stands before is the first of them, and the others are those behind it
-pub places_from-first : (layout : List (List Owner)) (row leaf : ℕ) (from first : Place) → Occurs is_before first (all_bytes layout) → holds_bit layout row leaf first ≡ true
+pub places_from-first : (layout : List (List Owner)) (row leaf : ℕ) (from first : Place) → Occurs is_before first (all_bytes layout) → byte_holds_bit layout row leaf first ≡ true
     → is_before first from ≡ false
-    → ((y : Place) → (holds_bit layout row leaf y && not (is_before y from)) ≡ true → (y ≡ first) ⊎ (is_before first y ≡ true))
-    → places_from layout row leaf from ≡ first ∷ places_from layout row leaf (behind first)
+    → ((y : Place) → (byte_holds_bit layout row leaf y && not (is_before y from)) ≡ true → (y ≡ first) ⊎ (is_before first y ≡ true))
+    → places_from layout row leaf from ≡ first ∷ places_from layout row leaf (byte_behind first)
 places_from-first layout row leaf from first there holds low least =
-    split_first is_before irreflexive asymmetric (λ place. holds_bit layout row leaf place && not (is_before place from)) (all_bytes layout) first (all-ordered layout) there
-    (and_from (holds_bit layout row leaf first) (not (is_before first from)) holds (ap not low)) least
+    split_first is_before irreflexive asymmetric (λ place. byte_holds_bit layout row leaf place && not (is_before place from)) (all_bytes layout) first (all-ordered layout) there
+    (and_from (byte_holds_bit layout row leaf first) (not (is_before first from)) holds (ap not low)) least
     ∙ ap (λ rest. first ∷ rest)
-    (same_filter (λ y. (holds_bit layout row leaf y && not (is_before y from)) && is_before first y) (λ y. holds_bit layout row leaf y && not (is_before y (behind first))) (all_bytes layout)
-    (λ k d inside. rest_test (holds_bit layout row leaf (get_or (all_bytes layout) k d)) first from (get_or (all_bytes layout) k d) low))
+    (same_filter (λ y. (byte_holds_bit layout row leaf y && not (is_before y from)) && is_before first y) (λ y. byte_holds_bit layout row leaf y && not (is_before y (byte_behind first))) (all_bytes layout)
+    (λ k d inside. rest_test (byte_holds_bit layout row leaf (get_or (all_bytes layout) k d)) first from (get_or (all_bytes layout) k d) low))
 
 -- from the first byte on these are all
 pub places_from-origin : (layout : List (List Owner)) (row leaf : ℕ) → places_from layout row leaf origin ≡ places_of layout row leaf
 places_from-origin layout row leaf =
-    same_filter (λ place. holds_bit layout row leaf place && not (is_before place origin)) (holds_bit layout row leaf) (all_bytes layout)
-    (λ k d inside. first_is (holds_bit layout row leaf (get_or (all_bytes layout) k d)) (get_or (all_bytes layout) k d)) where
+    same_filter (λ place. byte_holds_bit layout row leaf place && not (is_before place origin)) (byte_holds_bit layout row leaf) (all_bytes layout)
+    (λ k d inside. first_is (byte_holds_bit layout row leaf (get_or (all_bytes layout) k d)) (get_or (all_bytes layout) k d)) where
       first_is : (holds : Bool) (place : Place) → (holds && not (is_before place origin)) ≡ holds
       first_is holds place = grind (arith, nat_tests)

@@ -3,7 +3,7 @@ use Rattle.std.specs.Prelude.{ℕ, zero, suc, ◌+◌, Bool, List, [], ◌∷◌
 use Rattle.std.specs.List.{flat_map, range_with_len}
 use Rattle.actor_steps.specs.declared.place.Place.{Place}
 use Rattle.row_updates.specs.Rows.{Setting}
-use Rattle.actor_steps.specs.Micro.{Job, Micro, Fetch, lets_through, reads_of, is_in, changes, steps_of}
+use Rattle.actor_steps.specs.Micro.{Job, Micro, Fetch, lets_through, leaves_read, is_in, changes, steps_of}
 use Rattle.actor_tasks.specs.Places.{origin, places_from}
 
 -- a leaf is loaded for values, or is set
@@ -17,13 +17,13 @@ all_tasks job = map Reads (range_with_len 0 (length job.holds)) ++ map Sets job.
 
 -- whether a row asks for a task
 abbrev pub is_asked : Job → ℕ → Task → Bool
-is_asked job row (Reads leaf) = is_in (reads_of job row) leaf
+is_asked job row (Reads leaf) = is_in (leaves_read job row) leaf
 is_asked job row (Sets set) = lets_through job row
 
 -- the leaf whose bytes it takes
-abbrev pub leaf_of : Task → ℕ
-leaf_of (Reads leaf) = leaf
-leaf_of (Sets set) = set.leaf
+abbrev pub task_leaf : Task → ℕ
+task_leaf (Reads leaf) = leaf
+task_leaf (Sets set) = set.leaf
 
 -- its micro-steps at a byte
 abbrev pub place_steps : ℕ → Task → Place → List Micro
@@ -32,7 +32,7 @@ place_steps row (Sets set) place = changes row set place
 
 -- what is left of a task from a place on
 abbrev pub task_steps : Job → ℕ → Place → Task → List Micro
-task_steps job row from task = if is_asked job row task then flat_map (place_steps row task) (places_from job.layout row (leaf_of task) from) else []
+task_steps job row from task = if is_asked job row task then flat_map (place_steps row task) (places_from job.layout row (task_leaf task) from) else []
 
 -- what is left of some tasks, of the first from a place on
 abbrev pub tasks_steps : Job → ℕ → Place → List Task → List Micro

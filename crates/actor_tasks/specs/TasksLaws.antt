@@ -5,9 +5,9 @@ use Rattle.std.specs.List.{flat_map, range_with_len}
 use Rattle.std.proofs.lemmas.List.Concat.{flat_map-append}
 use Rattle.row_updates.specs.Rows.{Setting}
 use Rattle.actor_steps.specs.declared.place.Place.{Place}
-use Rattle.actor_steps.specs.Micro.{places_of, Job, Micro, Fetch, lets_through, reads_of, is_in, fetches, changes, stores_of, row_steps, steps_of}
-use Rattle.actor_tasks.specs.Places.{origin, places_from, behind}
-use Rattle.actor_tasks.specs.Tasks.{Task, Reads, Sets, all_tasks, is_asked, leaf_of, place_steps, task_steps, tasks_steps, left_of}
+use Rattle.actor_steps.specs.Micro.{places_of, Job, Micro, Fetch, lets_through, leaves_read, is_in, fetches, changes, stores_of, row_steps, steps_of}
+use Rattle.actor_tasks.specs.Places.{origin, places_from, byte_behind}
+use Rattle.actor_tasks.specs.Tasks.{Task, Reads, Sets, all_tasks, is_asked, task_leaf, place_steps, task_steps, tasks_steps, left_of}
 use Rattle.actor_tasks.specs.PlacesLaws.{places_from-origin}
 
 -- the tasks of reads make the loads of the bytes of the leaves that are read
@@ -15,20 +15,20 @@ fetch_all : (places : List Place) (row leaf : ℕ) → flat_map (place_steps row
 fetch_all [] row leaf = refl
 fetch_all (place ∷ places) row leaf = ap (λ (w : List Micro). Fetch place ∷ w) (fetch_all places row leaf)
 
-read_steps : (job : Job) (row leaf : ℕ) → task_steps job row origin (Reads leaf) ≡ (if is_in (reads_of job row) leaf then map Fetch (places_of job.layout row leaf) else [])
+read_steps : (job : Job) (row leaf : ℕ) → task_steps job row origin (Reads leaf) ≡ (if is_in (leaves_read job row) leaf then map Fetch (places_of job.layout row leaf) else [])
 read_steps job row leaf =
-    ap (λ (w : List Micro). if is_in (reads_of job row) leaf then w else [])
+    ap (λ (w : List Micro). if is_in (leaves_read job row) leaf then w else [])
     (ap (flat_map (place_steps row (Reads leaf))) (places_from-origin job.layout row leaf) ∙ fetch_all (places_of job.layout row leaf) row leaf)
 
 reads_all : (job : Job) (row : ℕ) (leaves : List ℕ)
-    → flat_map (task_steps job row origin) (map Reads leaves) ≡ flat_map (λ leaf. map Fetch (places_of job.layout row leaf)) (filter (is_in (reads_of job row)) leaves)
+    → flat_map (task_steps job row origin) (map Reads leaves) ≡ flat_map (λ leaf. map Fetch (places_of job.layout row leaf)) (filter (is_in (leaves_read job row)) leaves)
 reads_all job row [] = refl
 reads_all job row (leaf ∷ leaves) =
     ap (λ (w : List Micro). w ++ flat_map (task_steps job row origin) (map Reads leaves)) (read_steps job row leaf)
-    ∙ ap (λ (w : List Micro). (if is_in (reads_of job row) leaf then map Fetch (places_of job.layout row leaf) else []) ++ w) (reads_all job row leaves)
-    ∙ by_test (is_in (reads_of job row) leaf) where
-      by_test : (t : Bool) → (if t then map Fetch (places_of job.layout row leaf) else []) ++ flat_map (λ leaf. map Fetch (places_of job.layout row leaf)) (filter (is_in (reads_of job row)) leaves)
-          ≡ flat_map (λ leaf. map Fetch (places_of job.layout row leaf)) (if t then leaf ∷ filter (is_in (reads_of job row)) leaves else filter (is_in (reads_of job row)) leaves)
+    ∙ ap (λ (w : List Micro). (if is_in (leaves_read job row) leaf then map Fetch (places_of job.layout row leaf) else []) ++ w) (reads_all job row leaves)
+    ∙ by_test (is_in (leaves_read job row) leaf) where
+      by_test : (t : Bool) → (if t then map Fetch (places_of job.layout row leaf) else []) ++ flat_map (λ leaf. map Fetch (places_of job.layout row leaf)) (filter (is_in (leaves_read job row)) leaves)
+          ≡ flat_map (λ leaf. map Fetch (places_of job.layout row leaf)) (if t then leaf ∷ filter (is_in (leaves_read job row)) leaves else filter (is_in (leaves_read job row)) leaves)
       by_test true = refl
       by_test false = refl
 
@@ -64,14 +64,14 @@ rows_left job first more = ap (λ (w : List Micro). w ++ steps_of job (first + 1
 
 -- a task that the row asks for has a next byte: its micro-steps there are the next ones
 pub next_place : (job : Job) (row : ℕ) (from place : Place) (task : Task) (tasks : List Task) → is_asked job row task ≡ true
-    → places_from job.layout row (leaf_of task) from ≡ place ∷ places_from job.layout row (leaf_of task) (behind place)
-    → tasks_steps job row from (task ∷ tasks) ≡ place_steps row task place ++ tasks_steps job row (behind place) (task ∷ tasks)
+    → places_from job.layout row (task_leaf task) from ≡ place ∷ places_from job.layout row (task_leaf task) (byte_behind place)
+    → tasks_steps job row from (task ∷ tasks) ≡ place_steps row task place ++ tasks_steps job row (byte_behind place) (task ∷ tasks)
 next_place job row from place task tasks asked first =
-    let steps : Place → List Micro = λ from. flat_map (place_steps row task) (places_from job.layout row (leaf_of task) from) in
+    let steps : Place → List Micro = λ from. flat_map (place_steps row task) (places_from job.layout row (task_leaf task) from) in
     let rest = flat_map (task_steps job row origin) tasks in
     let here : (from : Place) → task_steps job row from task ≡ steps from = λ f. ap (λ (t : Bool). if t then steps f else []) asked in
-    ap (λ (w : List Micro). w ++ rest) (here from ∙ ap (flat_map (place_steps row task)) first ∙ ap (λ (w : List Micro). place_steps row task place ++ w) (sym (here (behind place))))
-    ∙ append_assoc (place_steps row task place) (task_steps job row (behind place) task) rest
+    ap (λ (w : List Micro). w ++ rest) (here from ∙ ap (flat_map (place_steps row task)) first ∙ ap (λ (w : List Micro). place_steps row task place ++ w) (sym (here (byte_behind place))))
+    ∙ append_assoc (place_steps row task place) (task_steps job row (byte_behind place) task) rest
 
 -- a task that it does not ask for, or that has no byte left, is done
 pub next_task : (job : Job) (row : ℕ) (from : Place) (task : Task) (tasks : List Task) → task_steps job row from task ≡ []

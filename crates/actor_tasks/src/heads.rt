@@ -1,7 +1,7 @@
 // The bytes of a leaf in a row, one after another.
 ghost use Rattle.std.specs.Prelude.{◌≡◌, ◌+◌, ◌^◌, ◌<◌, IfSome, length};
-ghost use Rattle.actor_steps.specs.BytesOfLaws.{IsByte};
-ghost use Rattle.actor_tasks.specs.Places.{IsHead, behind};
+ghost use Rattle.actor_steps.specs.Bytes.{IsByte};
+ghost use Rattle.actor_tasks.specs.Places.{IsHead, byte_behind};
 
 use crate::next::next_byte;
 use actor_steps::Place;
@@ -22,7 +22,7 @@ pub fn leaf_byte<M: Mapping>(mapping: &M, row: u64, leaf: usize, from: Place) ->
 /// The byte behind a place.
 pub fn behind(place: Place) -> Place
     requires { place.byte + 1 < 2 ^ 64 }
-    ensures { result ≡ behind place }
+    ensures { result ≡ byte_behind place }
 {
     Place {
         byte: place.byte + 1,

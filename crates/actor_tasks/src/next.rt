@@ -1,6 +1,6 @@
 // The bytes of pieces, one after another.
 ghost use Rattle.std.specs.Prelude.{◌≡◌, ◌+◌, ◌^◌, ◌<◌, All};
-ghost use Rattle.actor_tasks.specs.Nexts.{Touches, AnyTouches, IsNext, IsEarlier};
+ghost use Rattle.actor_tasks.specs.Inner.Nexts.{Touches, AnyTouches, IsNext, IsEarlier};
 
 use actor_steps::Place;
 use places::Piece;

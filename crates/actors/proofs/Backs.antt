@@ -1,5 +1,5 @@
 -- The rows of the plain update, stored leaf by leaf.
-use Rattle.actors.proofs.Imports.{◌≡◌, ℕ, ◌+◌, ◌-◌, ◌<◌, ◌≤◌, All, Bool, true, false, ℤ, pos, List, [], ◌∷◌, ◌++◌, length, map, get_or, set, take, drop, Option, Some, None, Result, Ok, Err, refl, sym, ap, ◌∙◌, subst, ⊎_elim, arith, append_assoc, length-append, ◌==◌, ◌||◌, if◌then◌else◌, cases_eq, eq-eqb, eqb-true, append-nil, get_or-map, get_or-set_same, get_or-set_other, get_or-append_right, get_or-drop, length-map, length-set, length-take, length-drop, take_more, take_all, drop_all, drop_more, ext_get_or, map-append, set-get_or, set-set, filter-append, Term, outcome_of, is_true, EvalFault, index_at, entry, AreSized, hold_at, table_in, with_entry, declared_table, stays_answer, IsLawful, memory_is, rows_read, UpdateFault, Assign, stores_log, if_given, row_log, update_log, Setting, setting_of, each, ◌>>=◌, in_row, eval_kind, passes, new_value, with_values, tried_row, given_row, updated_row, updated_of, IsSetOf, updated_as_tried, Answer, Keeping, Table, owners_of, leaf_types_of, leaf_type_of, leaf_count_of, table_holds, answer_of, kept_of, after_stores, Access, Write, is_write, writes_in, after_stores-append, after_log-none, logs_more, job_of, memory_of, Job, is_in, number_in, row_of, test_of, lets_through, length-with_values, updated_at, row_held, with_held}
+use Rattle.actors.proofs.Imports.{◌≡◌, ℕ, ◌+◌, ◌-◌, ◌<◌, ◌≤◌, All, Bool, true, false, ℤ, pos, List, [], ◌∷◌, ◌++◌, length, map, get_or, set, take, drop, Option, Some, None, Result, Ok, Err, refl, sym, ap, ◌∙◌, subst, ⊎_elim, arith, append_assoc, length-append, ◌==◌, ◌||◌, if◌then◌else◌, cases_eq, eq-eqb, eqb-true, append-nil, get_or-map, get_or-set_same, get_or-set_other, get_or-append_right, get_or-drop, length-map, length-set, length-take, length-drop, take_more, take_all, drop_all, drop_more, ext_get_or, map-append, set-get_or, set-set, filter-append, Term, outcome_of, is_true, EvalFault, index_at, entry, AreSized, hold_at, table_in, with_entry, declared_table, stays_answer, IsLawful, memory_is, rows_read, UpdateFault, Assign, stores_log, if_given, row_log, update_log, Setting, setting_of, each, ◌>>=◌, in_row, eval_kind, passes, new_value, with_values, tried_row, given_row, updated_row, updated_of, IsSetOf, updated_as_tried, StoreAnswer, Keeping, Table, owners_of, leaf_types_of, leaf_type_of, leaf_count_of, table_holds, answer_of, kept_of, after_stores, Access, Write, is_write, writes_in, after_stores-append, after_log-none, logs_more, job_of, memory_of, Job, is_in, number_in, row_as_it_stands, test_of, lets_through, length-with_values, updated_at, row_held, with_held}
 use Rattle.actors.proofs.Laws.{leaf_count}
 use Rattle.actors.proofs.Tried.{row_writes}
 
@@ -72,9 +72,9 @@ values_other keep (s ∷ sets) (value ∷ values) row f out = by_test (s.leaf ==
       others rest
       ∙ get_or-set_other row s.leaf f (keep s.leaf value) (pos 0) (λ same. (let no : false ≡ true = sym e ∙ eq-eqb s.leaf f (sym same) in cc))
 
-module _ (job : Job) (answer : Answer) (keep : Keeping) (r : ℕ) (new : List ℤ) where
+module _ (job : Job) (answer : StoreAnswer) (keep : Keeping) (r : ℕ) (new : List ℤ) where
   abbrev row : List ℤ
-  row = row_of job r
+  row = row_as_it_stands job r
 
   abbrev index : List ℕ
   index = index_at job.extents r

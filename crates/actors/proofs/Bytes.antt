@@ -1,5 +1,5 @@
 -- The bits of a leaf in a row are written, and a byte of them is read again.
-use Rattle.actors.proofs.Imports.{◌≡◌, ℕ, ◌+◌, ◌*◌, ◌%◌, ◌^◌, ◌<◌, Bool, true, false, ℤ, List, [], length, get_or, map, refl, sym, ap, ◌∙◌, arith, ◌==◌, ◌&&◌, if◌then◌else◌, slice_index, slice_set, bit_at, and_from, and_parts, eq-eqb, eqb-true, get_or-set_same, get_or-map, length-map, length-set, map-set, set-get_or, Hold, Piece, Owner, Pad, Bit, owner_at, number, digit, IsBitOf, number_same, number_bits, bit_number, digit_lt, written, IsWrite, bit_in, bit_of_byte, IsCell, bit_count, spot_count, spot_owned, spots_of, spot_at, bit_at_spot, IsOutside, held, held_digit, Place, byte_at, with_byte, with_bits_of, HasByte}
+use Rattle.actors.proofs.Imports.{◌≡◌, ℕ, ◌+◌, ◌*◌, ◌%◌, ◌^◌, ◌<◌, Bool, true, false, ℤ, List, [], length, get_or, map, refl, sym, ap, ◌∙◌, arith, ◌==◌, ◌&&◌, if◌then◌else◌, slice_index, slice_set, bit_at, and_from, and_parts, eq-eqb, eqb-true, get_or-set_same, get_or-map, length-map, length-set, map-set, set-get_or, Hold, Piece, Owner, Pad, Bit, owner_at, number, digit, IsBitOf, number_same, number_bits, bit_number, digit_lt, written_bit, IsWrite, bit_in, bit_of_byte, IsCell, bit_count, spot_count, spot_owned, spots_of, spot_at, bit_at_spot, IsOutside, held, held_digit, Place, byte_at, with_byte, with_bits_of, HasByte}
 
 module _ {layout : List (List Owner)} {slots : ℕ} {holds : List Hold} {slot cell : ℕ} {hold : Hold} {pieces : List Piece} (at : IsCell layout slots holds slot cell hold pieces)
     (old new : List (List ℕ)) (value : ℤ) (code : ℕ) (code_is : code ≡ number (digit (held hold value)) hold.width)
@@ -32,7 +32,7 @@ module _ {layout : List (List Owner)} {slots : ℕ} {holds : List Hold} {slot ce
 
   pub is_write : IsWrite layout slot cell value (bit_in old) (bit_in new)
   is_write b p = by_owner (owner_at layout b p) refl where
-    by_owner : (owner : Owner) → owner_at layout b p ≡ owner → bit_in new b p ≡ written owner slot cell value (bit_in old b p)
+    by_owner : (owner : Owner) → owner_at layout b p ≡ owner → bit_in new b p ≡ written_bit owner slot cell value (bit_in old b p)
     by_owner Pad e = other_bit b p (λ k is. (let clash : Pad ≡ Bit slot cell k = sym e ∙ is in cc))
     by_owner (Bit s c k) e = by_test (s == slot && c == cell) refl where
       by_test : (t : Bool) → (s == slot && c == cell) ≡ t → bit_in new b p ≡ (if t then digit value k else bit_in old b p)
@@ -60,10 +60,10 @@ byte_changed layout row leaf value scratch new place byte there write small =
     ap (λ (w : List ℕ). get_or w place.byte 0) (get_or-set_same scratch place.blob (slice_set (get_or scratch place.blob []) place.byte byte) [] there.blob_in)
     ∙ get_or-set_same (get_or scratch place.blob []) place.byte byte 0 there.byte_in in
     sym (byte_bits (byte_at new place) small)
-    ∙ number_same (bit_at (byte_at new place)) (λ k. written (owner_at layout place.blob (8 * place.byte + k)) row leaf value (bit_at byte k)) 8
+    ∙ number_same (bit_at (byte_at new place)) (λ k. written_bit (owner_at layout place.blob (8 * place.byte + k)) row leaf value (bit_at byte k)) 8
     (λ k l.
     sym (bit_of_byte (get_or new place.blob []) (8 * place.byte + k) place.byte k refl l) ∙ write place.blob (8 * place.byte + k)
-    ∙ ap (λ (w : ℕ). written (owner_at layout place.blob (8 * place.byte + k)) row leaf value w)
+    ∙ ap (λ (w : ℕ). written_bit (owner_at layout place.blob (8 * place.byte + k)) row leaf value w)
     (bit_of_byte (get_or (with_byte scratch place byte) place.blob []) (8 * place.byte + k) place.byte k refl l ∙ ap (λ (w : ℕ). bit_at w k) put))
 
 -- a byte that is put changes no length

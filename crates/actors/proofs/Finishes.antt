@@ -1,5 +1,5 @@
 -- What is left of a run, and the memory behind it.
-use Rattle.actors.proofs.Imports.{◌≡◌, ℕ, suc, ◌+◌, ◌<◌, ◌≤◌, true, false, ℤ, List, [], ◌∷◌, ◌++◌, length, get_or, set, drop, replicate, refl, sym, ap, ◌∙◌, subst, arith, drop-set, drop_more, drop_all, length-set, IsParted, SchedulesAgree, Actor, State, moved, memory_of, fresh_of, start_of, Job, Micro, Registers, stored, loaded, idle_with, run_by, turns_from, turns_left, finished, IsReached, Run, IsDone, IsPlain, after_turns, finished_from, rest_in, job_in, has_any}
+use Rattle.actors.proofs.Imports.{◌≡◌, ℕ, suc, ◌+◌, ◌<◌, ◌≤◌, true, false, ℤ, List, [], ◌∷◌, ◌++◌, length, get_or, set, drop, replicate, refl, sym, ap, ◌∙◌, subst, arith, drop-set, drop_more, drop_all, length-set, IsParted, SchedulesAgree, Actor, State, moved, memory_of, fresh_of, team_start, Job, Micro, Registers, stored, loaded, idle_with, run_by, turns_from, turns_left, finished, IsReached, Run, IsDone, IsPlain, after_turns, finished_from, rest_in, job_in, has_any}
 
 module _ (job : Job) (fresh : Registers) where
   abbrev Here : Type 0
@@ -102,7 +102,7 @@ pub finished_plain : (agree : SchedulesAgree) (run new : Run) → (rows : List (
 finished_plain agree run new parted reached is =
     let job = job_in run in
     let fresh = fresh_of run.found in
-    let begin = start_of run.found run.filter run.sets run.cuts in
+    let begin = team_start run.found run.filter run.sets run.cuts in
     let state : run.state ≡ run_by job fresh reached.0 begin = ap (λ (r : Run). r.state) reached.1 in
     let memory : (after_turns run (turns_left run.state)).state.memory ≡ memory_of (record run.found { rows = parted.0 }) =
     ap (λ (s : State (List (List ℕ)) Micro Registers). (finished job fresh s).memory) state ∙ agree run.found run.filter run.sets run.cuts parted.0 parted.1 reached.0 in

@@ -31,12 +31,12 @@ pub use Rattle.row_updates.specs.declared.update.Assign.{Assign}
 pub use Rattle.row_updates.specs.Logs.{stores_log, if_given, row_log, update_log, value_log, filter_log, if_ok, if_passes, sides_log, tried_log}
 pub use Rattle.row_updates.specs.Rows.{Setting, setting_of, each, ◌>>=◌, in_row, eval_kind, passes, new_value, with_values, tried_row, given_row, updated_row, updated_of, IsSetOf, filter_term}
 pub use Rattle.row_updates.specs.TriedLaws.{updated_as_tried, log_as_tried}
-pub use Rattle.views.specs.Stores.{Answer, Keeping, told, kept_or}
+pub use Rattle.views.specs.Stores.{StoreAnswer, Keeping, without_number, kept_or}
 pub use Rattle.views.specs.Tables.{Table, owners_of, leaf_types_of, leaf_type_of, leaf_count_of, table_holds, answer_of, kept_of, after_stores, blob_bits_of, IsTable, after_log}
 pub use Rattle.views.specs.Tallies.{Access, Write, is_write, writes_in, blob_lengths, Read, is_read, reads_in, Tally}
 pub use Rattle.views.specs.TallyLaws.{after_stores-append, after_log-none, logs_more, after_log-append}
-pub use Rattle.actor_steps.specs.Jobs.{job_of, memory_of, fresh_of, start_of}
-pub use Rattle.actor_steps.specs.Micro.{Job, is_in, number_in, row_of, test_of, lets_through, Micro, Registers, byte_at, with_byte, with_bits_of, stored, loaded, filter_reads, set_reads, reads_of, bytes_in, owners_of_byte, Fetch, Load, Store, steps_of, row_in, value_on}
+pub use Rattle.actor_steps.specs.Jobs.{job_of, memory_of, fresh_of, team_start}
+pub use Rattle.actor_steps.specs.Micro.{Job, is_in, number_in, row_as_it_stands, test_of, lets_through, Micro, Registers, byte_at, with_byte, with_bits_of, stored, loaded, filter_reads, set_reads, leaves_read, bytes_in, owners_of_byte, Fetch, Load, Store, steps_of, row_in, value_kept_on}
 pub use Rattle.actor_steps.specs.UpdateLaws.{length-with_values, updated_at, updated_length}
 pub use Rattle.record_dim.specs.Trees.{Fields}
 pub use Rattle.extents.specs.Indices.{indices}
@@ -53,24 +53,24 @@ pub use Rattle.instrument.specs.BlobTexts.{bytes_of}
 pub use Rattle.instrument.specs.BlobTextsLaws.{bytes_of_bits}
 pub use Rattle.places.specs.declared.piece.Hold.{Hold}
 pub use Rattle.places.specs.declared.piece.Piece.{Piece}
-pub use Rattle.places.specs.Laws.{IsBitOf, IsLaidOut, IsLocated}
+pub use Rattle.places.specs.Lawful.{IsBitOf, IsLaidOut, IsLocated}
 pub use Rattle.places.specs.NumbersLaws.{number_same, number_bits, bit_number, digit_lt}
-pub use Rattle.places.specs.Writes.{written, IsWrite}
+pub use Rattle.places.specs.Writes.{written_bit, IsWrite}
 pub use Rattle.blobs.specs.BytesLaws.{bit_of_byte}
 pub use Rattle.piece_bits.specs.CellsLaws.{IsCell, bit_count, some_bits, few_bits, apart, still_sized}
 pub use Rattle.piece_bits.specs.LocatedLaws.{spot_count, spot_owned, pieces_within}
-pub use Rattle.piece_bits.specs.Spots.{spots_of, spot_at, bit_at_spot, IsOutside}
-pub use Rattle.piece_bits.specs.Kept.{held, declared}
+pub use Rattle.piece_bits.specs.Inner.Spots.{spots_of, spot_at, bit_at_spot, IsOutside}
+pub use Rattle.piece_bits.specs.LowBits.{held, declared}
 pub use Rattle.piece_bits.specs.KeptLaws.{held_digit, low_in}
 pub use Rattle.actor_steps.specs.declared.place.Place.{Place}
 pub use Rattle.actor_steps.specs.Schedules.{idle_with, run_by, turns_from, turns_left, finished}
 pub use Rattle.record_dim.specs.Leaves.{Leaf, leaves, kinds_of}
 pub use Rattle.actor_steps.specs.HeldLaws.{row_in-at, length-row_in}
 pub use Rattle.places.specs.declared.piece.RunOwner.{RunOwner}
-pub use Rattle.map_any.specs.Runs.{run_owner}
+pub use Rattle.map_any.specs.BitRuns.{run_owner}
 pub use Rattle.actor_tasks.specs.declared.rows.NextByte.{NextByte}
 pub use Rattle.actor_tasks.specs.Marks.{IsRowOf, task_at, AreRowsOf}
-pub use Rattle.actor_tasks.specs.Places.{behind, origin}
+pub use Rattle.actor_tasks.specs.Places.{byte_behind, origin}
 pub use Rattle.actor_tasks.specs.Tasks.{Task, Reads, Sets, place_steps, left_in}
 pub use Rattle.actor_tasks.specs.TasksLaws.{rows_left}
 pub use Rattle.expr_lang.specs.Bounds.{bound_term}
@@ -82,11 +82,11 @@ pub use Rattle.record_dim.specs.Schemas.{schema_fields}
 pub use Rattle.record_dim.specs.LeafTypes.{IsIn}
 pub use Rattle.record_dim.specs.declared.leaf_type.LeafType.{LeafType}
 pub use Rattle.record_dim.specs.declared.leaf_type.LeafType.TheVariants.{Bool as Truth}
-pub use Rattle.actors.specs.Rows.{row_held, with_held, ArePlans, HasByte, marked, IsPlanOf, asks_at}
+pub use Rattle.actors.specs.Rows.{row_held, with_held, ArePlans, HasByte, marked, IsRowPlanOf, asks_at}
 pub use Rattle.actors.specs.declared.actor.Actor.{Actor as Standing}
-pub use Rattle.actors.specs.Kept.{table_at, run_of, IsRun, IsReached, AreStanding}
-pub use Rattle.actors.specs.Runs.{Run, uncounted, started_run, IsDone, IsPlain, after_turns, finished_from, rest_in, job_in, has_any, IsPlainMemory, IsStoredBack}
-pub use Rattle.actors.specs.Standing.{actor_shown, store_of, steps_at, cursor_steps, set_at, IsFresh, IsStanding, IsCursor, IsTurn, step_shown, bytes_shown, state_shown, IsStepOf}
+pub use Rattle.actors.specs.RunFields.{table_at, actor_run_of, IsActorRun, IsReached, AreStanding}
+pub use Rattle.actors.specs.ActorRuns.{Run, without_counts, started_run, IsDone, IsPlain, after_turns, finished_from, rest_in, job_in, has_any, IsPlainMemory, IsStoredBack}
+pub use Rattle.actors.specs.Standing.{actor_shown, store_of, steps_left_at, cursor_steps, set_at, IsFresh, IsStanding, IsCursor, IsTurn, step_shown, bytes_shown, state_shown, IsStepOf}
 pub use Rattle.actors.specs.Updates.{IsUpdated, IsUpdatedRow}
 pub use Rattle.actors.specs.Cuts.{owner_shown, shown_in_byte}
 pub use Rattle.actors.specs.declared.step.Cursor.{Cursor}

@@ -1,5 +1,5 @@
 -- Rows that are tried one after another, as an update tries them, and what was read of them.
-use Rattle.actors.proofs.Imports.{◌≡◌, ℕ, zero, suc, ◌+◌, ◌-◌, ◌<◌, Bool, true, false, ℤ, List, [], ◌∷◌, ◌++◌, map, get_or, Option, Some, None, Result, Ok, Err, refl, sym, ap, ◌∙◌, arith, range_with_len, append-nil, filter-append, Term, outcome_of, index_at, Answer, Keeping, Table, answer_of, kept_of, after_log, Access, Read, Write, is_read, is_write, reads_in, writes_in, after_log-append, after_log-none, logs_more, UpdateFault, value_log, filter_log, if_ok, if_passes, sides_log, stores_log, tried_log, if_given, row_log, update_log, Setting, each, ◌>>=◌, passes, new_value, tried_row, given_row, updated_row, updated_of, updated_as_tried, log_as_tried, IsUpdated, IsUpdatedRow}
+use Rattle.actors.proofs.Imports.{◌≡◌, ℕ, zero, suc, ◌+◌, ◌-◌, ◌<◌, Bool, true, false, ℤ, List, [], ◌∷◌, ◌++◌, map, get_or, Option, Some, None, Result, Ok, Err, refl, sym, ap, ◌∙◌, arith, range_with_len, append-nil, filter-append, Term, outcome_of, index_at, StoreAnswer, Keeping, Table, answer_of, kept_of, after_log, Access, Read, Write, is_read, is_write, reads_in, writes_in, after_log-append, after_log-none, logs_more, UpdateFault, value_log, filter_log, if_ok, if_passes, sides_log, stores_log, tried_log, if_given, row_log, update_log, Setting, each, ◌>>=◌, passes, new_value, tried_row, given_row, updated_row, updated_of, updated_as_tried, log_as_tried, IsUpdated, IsUpdatedRow}
 
 -- one list of things after another
 unit_right : {B : Type 0} (found : Result (List B) UpdateFault) → found ≡ (found >>= (λ ys. Ok ys))
@@ -58,7 +58,7 @@ module _ (number : ℕ) where
   no_reads [] = refl
   no_reads (set ∷ sets) = no_reads sets
 
-module _ (answer : Answer) (number : ℕ) (row : List ℤ) (index : List ℕ) where
+module _ (answer : StoreAnswer) (number : ℕ) (row : List ℤ) (index : List ℕ) where
   -- a log of reads alone
   pub record AreReads (log : List Access) : Type 0 where
     pub reads : reads_in log ≡ log

@@ -1,5 +1,5 @@
 -- A turn of one actor.
-use Rattle.actors.proofs.Imports.{◌≡◌, ℕ, ◌+◌, ◌<◌, ◌≤◌, Bool, true, false, All, ℤ, pos, List, [], ◌∷◌, ◌++◌, length, map, get_or, set, take, Option, None, refl, sym, ap, ◌∙◌, subst, ⊎_elim, arith, cases_eq, length-map, length-set, get_or-map, get_or-set_same, get_or-set_other, map-set, set-get_or, take_more, Term, Number, Owner, Assign, Setting, setting_of, IsSetOf, Table, owners_of, leaf_count_of, Tally, Place, IsLawful, job_of, Job, Micro, Registers, row_in, value_on, with_byte, with_bits_of, stored, loaded, Actor, State, moved, idle_with, run_by, Asks, AreRowsOf, Standing, Bytes, Cursor, Step, ArePlans, asks_at, AreStanding, IsReached, after_both, Run, uncounted, started_run, after_turns, has_any, IsCursor, IsStanding, IsTurn, set_at, cursor_steps, step_shown, bytes_shown, actor_shown, state_shown}
+use Rattle.actors.proofs.Imports.{◌≡◌, ℕ, ◌+◌, ◌<◌, ◌≤◌, Bool, true, false, All, ℤ, pos, List, [], ◌∷◌, ◌++◌, length, map, get_or, set, take, Option, None, refl, sym, ap, ◌∙◌, subst, ⊎_elim, arith, cases_eq, length-map, length-set, get_or-map, get_or-set_same, get_or-set_other, map-set, set-get_or, take_more, Term, Number, Owner, Assign, Setting, setting_of, IsSetOf, Table, owners_of, leaf_count_of, Tally, Place, IsLawful, job_of, Job, Micro, Registers, row_in, value_kept_on, with_byte, with_bits_of, stored, loaded, Actor, State, moved, idle_with, run_by, Asks, AreRowsOf, Standing, Bytes, Cursor, Step, ArePlans, asks_at, AreStanding, IsReached, after_both, Run, without_counts, started_run, after_turns, has_any, IsCursor, IsStanding, IsTurn, set_at, cursor_steps, step_shown, bytes_shown, actor_shown, state_shown}
 use Rattle.actors.specs.declared.step.Step.TheVariants as step
 use Rattle.actors.proofs.Laws.{leaf_count}
 
@@ -11,13 +11,13 @@ set_is table sets n set low is =
 -- a byte that is stored with the bits of a leaf changed
 pub store_made : (table : Table) (sets : List Assign) (made : Step) (place : Place) (row n : ℕ) (set : Assign) (memory new : List (List ℕ)) (bytes : Bytes) (layout : List (List Owner)) (value : ℤ) (byte : ℕ)
     → made ≡ step.Store place row n → n < length sets → set ≡ get_or sets n set → layout ≡ owners_of table
-    → value ≡ value_on (job_of table None []) (row_in (job_of table None []) bytes.loaded.items row) row (setting_of set)
+    → value ≡ value_kept_on (job_of table None []) (row_in (job_of table None []) bytes.loaded.items row) row (setting_of set)
     → byte ≡ with_bits_of layout place row set.leaf value bytes.byte → new ≡ with_byte memory place byte
     → new ≡ stored (job_of table None (map setting_of sets)) (step_shown (job_of table None (map setting_of sets)) made) memory (bytes_shown bytes)
 store_made table sets made place row n set memory new bytes layout value byte is low set_at_is layout_is value_is byte_is new_is =
     let job = job_of table None (map setting_of sets) in
     let one : Setting = setting_of set in
-    let of_set : Setting → List (List ℕ) = λ s. with_byte memory place (with_bits_of (owners_of table) place row s.leaf (value_on job (row_in job bytes.loaded.items row) row s) bytes.byte) in
+    let of_set : Setting → List (List ℕ) = λ s. with_byte memory place (with_bits_of (owners_of table) place row s.leaf (value_kept_on job (row_in job bytes.loaded.items row) row s) bytes.byte) in
     new_is
     ∙ ap (with_byte memory place)
     (byte_is ∙ ap (λ (l : List (List Owner)). with_bits_of l place row set.leaf value bytes.byte) layout_is
@@ -118,16 +118,16 @@ module _ (job : Job) (fresh : Registers) (memory after : List (List ℕ)) (actor
     by_made true one = ap has_any (sym one.1)
 
 -- facts of a table without its counts
-pub stands_alone : (table : Table) (sets : ℕ) (actor : Standing) → IsStanding table sets actor → IsStanding (uncounted table) sets actor
+pub stands_alone : (table : Table) (sets : ℕ) (actor : Standing) → IsStanding table sets actor → IsStanding (without_counts table) sets actor
 stands_alone table sets actor is = record { cursor = is.cursor; loaded = is.loaded }
 
 pub stands_counted : (table : Table) (tally : Tally) (sets : ℕ) (actor : Standing) → IsStanding (record table { tally = tally }) sets actor → IsStanding table sets actor
 stands_counted table tally sets actor is = record { cursor = is.cursor; loaded = is.loaded }
 
-pub set_alone : (table : Table) (set : Assign) → IsSetOf table set → IsSetOf (uncounted table) set
+pub set_alone : (table : Table) (set : Assign) → IsSetOf table set → IsSetOf (without_counts table) set
 set_alone table set is = record { inside = is.inside; over = record { leaves = is.over.leaves; rank = is.over.rank } }
 
-pub lawful_alone : (table : Table) → IsLawful table → IsLawful (uncounted table)
+pub lawful_alone : (table : Table) → IsLawful table → IsLawful (without_counts table)
 lawful_alone table is = record {
   is_table = record { rows = is.is_table.rows; shape = is.is_table.shape; stays = is.is_table.stays; some = is.is_table.some };
   laid = is.laid;

@@ -1,8 +1,8 @@
-pub mod Codes
 pub mod Cuts
-pub mod Runs
+pub mod ActorRuns
 pub mod Rows
 pub mod Standing
 pub mod Updates
-pub mod Kept
+pub mod RunFields
 pub mod RunLaws
+pub mod Inner

@@ -4,7 +4,7 @@ use Rattle.piece_bits.specs.Modes.{declared_table}
 use Rattle.piece_bits.specs.Tables.{table_in}
 use Rattle.row_updates.specs.Rows.{Setting}
 use Rattle.actor_steps.specs.declared.place.Place.{Place}
-use Rattle.actor_steps.specs.Micro.{Job, is_in, reads_of, lets_through}
+use Rattle.actor_steps.specs.Micro.{Job, is_in, leaves_read, lets_through}
 use Rattle.actor_tasks.specs.declared.rows.Asks.{Asks}
 use Rattle.views.specs.Tables.{Table, owners_of, leaf_types_of, table_holds}
 
@@ -22,14 +22,14 @@ abbrev pub marked : List Bool → ℕ → List Bool
 marked asked leaf = slice_set asked leaf true
 
 -- what is known of a row of an update: which leaves it reads, and whether the filter lets it through
-pub record IsPlanOf (job : Job) (row : ℕ) (plan : Asks) : Type 0 where
-  pub asked : (leaf : ℕ) → leaf < 64 → slice_index_or plan.reads leaf false ≡ is_in (reads_of job row) leaf
+pub record IsRowPlanOf (job : Job) (row : ℕ) (plan : Asks) : Type 0 where
+  pub asked : (leaf : ℕ) → leaf < 64 → slice_index_or plan.reads leaf false ≡ is_in (leaves_read job row) leaf
   pub through : plan.through ≡ lets_through job row
 
 -- so of each of the first so many rows
 pub record ArePlans (job : Job) (count : ℕ) (plans : List Asks) : Type 0 where
   pub long : length plans ≡ count
-  pub each : (row : ℕ) (other : Asks) → row < count → IsPlanOf job row (slice_index_or plans row other)
+  pub each : (row : ℕ) (other : Asks) → row < count → IsRowPlanOf job row (slice_index_or plans row other)
 
 -- what is asked of a row, by its number
 abbrev pub asks_at : List Asks → ℕ → Asks

@@ -9,7 +9,7 @@ use Rattle.actor_steps.specs.Jobs.{fresh_of, written_by}
 use Rattle.actor_steps.specs.Micro.{Micro, Registers}
 use Rattle.actor_steps.specs.ScheduleLaws.{run_by-append}
 use Rattle.actor_steps.specs.Schedules.{schedule_of}
-use Rattle.actors.specs.Runs.{Run, uncounted, started_run, after_turns, job_in}
+use Rattle.actors.specs.ActorRuns.{Run, without_counts, started_run, after_turns, job_in}
 
 -- one schedule behind another
 pub after_both : (run : Run) (first rest : List ℕ) → after_turns (after_turns run first) rest ≡ after_turns run (first ++ rest)

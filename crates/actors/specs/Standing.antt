@@ -6,12 +6,12 @@ use Rattle.piece_bits.specs.Tables.{AreSized}
 use Rattle.views.specs.Tables.{Table, owners_of, leaf_count_of}
 use Rattle.row_updates.specs.Rows.{Setting}
 use Rattle.actor_steps.specs.declared.place.Place.{Place}
-use Rattle.actor_steps.specs.BytesOfLaws.{IsByte}
+use Rattle.actor_steps.specs.Bytes.{IsByte}
 use Rattle.actor_steps.specs.Confluence.{Actor, State}
 use Rattle.actor_steps.specs.Jobs.{fresh_of}
 use Rattle.actor_steps.specs.Micro.{Job, Micro, Fetch, Load, Store, Registers, stored, loaded}
 use Rattle.actor_tasks.specs.Marks.{task_at}
-use Rattle.actor_tasks.specs.Places.{origin, behind}
+use Rattle.actor_tasks.specs.Places.{origin, byte_behind}
 use Rattle.actor_tasks.specs.Tasks.{Task, Reads, Sets, left_in}
 use Rattle.actors.specs.declared.step.Cursor.{Cursor}
 use Rattle.actors.specs.declared.step.Step.{Step}
@@ -25,13 +25,13 @@ store_of row place (Reads leaf) = []
 store_of row place (Sets set) = Store place row set ∷ []
 
 -- what is left from a cursor on: the store comes first, where its byte is loaded
-abbrev pub steps_at : Job → Cursor → Bool → List Micro
-steps_at job cursor false = left_in job cursor.row (cursor.end - cursor.row) cursor.done cursor.from
-steps_at job cursor true =
-    store_of cursor.row cursor.from (task_at job cursor.done) ++ left_in job cursor.row (cursor.end - cursor.row) cursor.done (behind cursor.from)
+abbrev pub steps_left_at : Job → Cursor → Bool → List Micro
+steps_left_at job cursor false = left_in job cursor.row (cursor.end - cursor.row) cursor.done cursor.from
+steps_left_at job cursor true =
+    store_of cursor.row cursor.from (task_at job cursor.done) ++ left_in job cursor.row (cursor.end - cursor.row) cursor.done (byte_behind cursor.from)
 
 abbrev pub cursor_steps : Job → Cursor → List Micro
-cursor_steps job cursor = steps_at job cursor cursor.half
+cursor_steps job cursor = steps_left_at job cursor cursor.half
 
 -- where a cursor may stand, over so many rows, leaves and leaves that are set
 pub record IsCursor (layout : List (List Owner)) (rows leaves sets : ℕ) (cursor : Cursor) : Type 0 where

@@ -1,7 +1,7 @@
 // Actors, and one turn of one of them.
 ghost use Rattle.std.specs.Prelude.{◌≡◌, ◌<◌, ◌≤◌, All, None, Option, [], length, map};
 ghost use Rattle.actor_steps.specs.Jobs.{job_of};
-ghost use Rattle.actor_steps.specs.Micro.{row_in, stored, loaded, value_on};
+ghost use Rattle.actor_steps.specs.Micro.{row_in, stored, loaded, value_kept_on};
 ghost use Rattle.piece_bits.specs.Tables.{AreSized};
 ghost use Rattle.expr_lang.specs.Terms.{Term};
 ghost use Rattle.std.specs.Prelude.{ℕ};
@@ -39,7 +39,7 @@ fn value_of(view: &View, loaded: &[Blob], row: u64, set: &Assign) -> i128
     requires set { IsSetOf view.now set.now }
     requires sized { AreSized (owners_of view.now) loaded.now }
     requires row_in { row < length view.now.rows }
-    ensures { result ≡ value_on (job_of view.now None []) (row_in (job_of view.now None []) loaded.now row) row (setting_of set.now) }
+    ensures { result ≡ value_kept_on (job_of view.now None []) (row_in (job_of view.now None []) loaded.now row) row (setting_of set.now) }
 {
     laws_of_view(view);
     let mut buffer = [0; 64];

@@ -6,7 +6,7 @@ ghost use Rattle.row_updates.specs.Rows.{IsSetOf, filter_term, setting_of};
 ghost use Rattle.views.specs.Tables.{after_stores, answer_of, leaf_count_of, owners_of};
 ghost use Rattle.actor_steps.specs.Jobs.{job_of};
 ghost use Rattle.actors.specs.Rows.{ArePlans, row_held, with_held};
-ghost use Rattle.actors.specs.Runs.{IsPlainMemory, IsStoredBack};
+ghost use Rattle.actors.specs.ActorRuns.{IsPlainMemory, IsStoredBack};
 
 use crate::memory::{laws_of_view, read_held};
 use crate::plan::Plans;

@@ -3,7 +3,7 @@ ghost use Rattle.std.specs.Prelude.{◌≡◌, ◌<◌, ◌≤◌, fold, length}
 ghost use Rattle.expr_lang.specs.Bounds.{bound_term, bound_leaves, bound_rank};
 ghost use Rattle.expr_lang.specs.Values.{outcome_of};
 ghost use Rattle.linearize.specs.Slots.{index_at};
-ghost use Rattle.row_updates.specs.Rows.{IsOver};
+ghost use Rattle.row_updates.specs.Rows.{IsBoundOver};
 ghost use Rattle.views.specs.Tables.{leaf_count_of};
 ghost use Rattle.actor_steps.specs.Micro.{number_in};
 ghost use Rattle.actors.specs.Rows.{marked};
@@ -48,7 +48,7 @@ pub fn value_at(
     values: &[i128],
     asked: &mut [bool; 64],
 ) -> i128
-    requires over { IsOver view.now expr.now }
+    requires over { IsBoundOver view.now expr.now }
     requires row_in { row < length view.now.rows }
     requires long { length values.now ≡ leaf_count_of view.now }
     requires few { length values.now ≤ 64 }

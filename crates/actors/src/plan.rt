@@ -3,11 +3,11 @@ ghost use Rattle.std.specs.Prelude.{◌≡◌, ◌<◌, ◌≤◌, All, None, Er
 ghost use Rattle.std.specs.List.{flat_map};
 ghost use Rattle.linearize.specs.Slots.{index_at};
 ghost use Rattle.row_updates.specs.Logs.{row_log, update_log};
-ghost use Rattle.row_updates.specs.Rows.{IsOver, IsSetOf, filter_term, setting_of, updated_row, updated_of};
+ghost use Rattle.row_updates.specs.Rows.{IsBoundOver, IsSetOf, filter_term, setting_of, updated_row, updated_of};
 ghost use Rattle.views.specs.Tables.{answer_of, kept_of, after_log, leaf_count_of};
 ghost use Rattle.actor_steps.specs.Jobs.{job_of, memory_of};
 ghost use Rattle.actor_steps.specs.Micro.{test_of, filter_reads, set_reads};
-ghost use Rattle.actors.specs.Rows.{IsPlanOf, ArePlans, marked};
+ghost use Rattle.actors.specs.Rows.{IsRowPlanOf, ArePlans, marked};
 ghost use Rattle.actors.specs.Updates.{HasRead, IsUpdated, IsUpdatedRow, IsMet};
 ghost use Rattle.views.specs.Tallies.{reads_in};
 
@@ -52,7 +52,7 @@ pub fn plan_rows<L: Ledger>(
     sets: &[Assign],
     steps: &mut Steps<L>,
 ) -> Result<Plans, ActorFault>
-    requires filter { IfSome filter (λ bound. IsOver view.old bound.now) }
+    requires filter { IfSome filter (λ bound. IsBoundOver view.old bound.now) }
     requires sets { All (IsSetOf view.old) sets.now }
     requires few { length sets.now ≤ 64 }
     requires found { found.now ≡ memory_of view.old }
@@ -80,12 +80,12 @@ fn plan_row<L: Ledger>(
     row: u64,
     steps: &mut Steps<L>,
 ) -> Result<Asks, UpdateFault>
-    requires filter { IfSome filter (λ bound. IsOver view.old bound.now) }
+    requires filter { IfSome filter (λ bound. IsBoundOver view.old bound.now) }
     requires sets { All (IsSetOf view.old) sets.now }
     requires few { length sets.now ≤ 64 }
     requires found { found.now ≡ memory_of view.old }
     requires row_in { row < length view.old.rows }
-    ensures planned { IfOk result (IsPlanOf (job_of view.old (filter_term filter.entry) (map setting_of sets.now)) row) }
+    ensures planned { IfOk result (IsRowPlanOf (job_of view.old (filter_term filter.entry) (map setting_of sets.now)) row) }
     ensures updated { OnOk result (IsUpdatedRow (updated_row (answer_of view.old) (kept_of view.old) (filter_term filter.entry) (map setting_of sets.now)
         row (slice_index_or view.old.rows row []) (index_at view.old.extents row))) }
     ensures refused { IfErr result (λ fault. updated_row (answer_of view.old) (kept_of view.old) (filter_term filter.entry) (map setting_of sets.now)
@@ -116,13 +116,13 @@ fn read_found(view: &View, found: &[Blob], row: u64, values: &mut [i128])
 
 // The plan of a row that has these values.
 fn plan_of(view: &View, filter: Option<&Bound>, sets: &[Assign], row: u64, values: &[i128]) -> Asks
-    requires filter { IfSome filter (λ bound. IsOver view.now bound.now) }
+    requires filter { IfSome filter (λ bound. IsBoundOver view.now bound.now) }
     requires sets { All (IsSetOf view.now) sets.now }
     requires row_in { row < length view.now.rows }
     requires values { values.now ≡ slice_index_or view.now.rows row [] }
     requires long { length values.now ≡ leaf_count_of view.now }
     requires few { length values.now ≤ 64 }
-    ensures { IsPlanOf (job_of view.now (filter_term filter.entry) (map setting_of sets.now)) row result }
+    ensures { IsRowPlanOf (job_of view.now (filter_term filter.entry) (map setting_of sets.now)) row result }
 {
     let mut asked = [false; 64];
     if !lets_through(view, filter, row, values, &mut asked) {
@@ -146,7 +146,7 @@ fn lets_through(
     values: &[i128],
     asked: &mut [bool; 64],
 ) -> bool
-    requires filter { IfSome filter (λ bound. IsOver view.now bound.now) }
+    requires filter { IfSome filter (λ bound. IsBoundOver view.now bound.now) }
     requires row_in { row < length view.now.rows }
     requires values { values.now ≡ slice_index_or view.now.rows row [] }
     requires long { length values.now ≡ leaf_count_of view.now }

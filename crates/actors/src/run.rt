@@ -1,14 +1,14 @@
 // Runs of the actors of an update.
 ghost use Rattle.std.specs.Prelude.{ℤ, List, ◌≡◌, ◌<◌, ◌≤◌, ◌+◌, ◌*◌, All, None, false, [], ◌∷◌, IfOk, IfErr, OnOk, OnErr, IfSome, length, map, sum_by, slice_index_or};
 ghost use Rattle.row_updates.specs.Logs.{update_log};
-ghost use Rattle.row_updates.specs.Rows.{IsOver, IsSetOf, filter_term, setting_of, updated_of};
+ghost use Rattle.row_updates.specs.Rows.{IsBoundOver, IsSetOf, filter_term, setting_of, updated_of};
 ghost use Rattle.views.specs.Tables.{after_log, owners_of};
 ghost use Rattle.actor_steps.specs.Cuts.{AreCuts, actor_of};
 ghost use Rattle.actor_steps.specs.Agree.{IsParted};
 ghost use Rattle.actor_steps.specs.Schedules.{turns_left};
 ghost use Rattle.actor_steps.specs.Shared.{shared_byte};
-ghost use Rattle.actors.specs.Kept.{IsReached};
-ghost use Rattle.actors.specs.Runs.{IsDone, IsPlain, IsStoredBack, uncounted, started_run, after_turns, finished_from, rest_in, has_any};
+ghost use Rattle.actors.specs.RunFields.{IsReached};
+ghost use Rattle.actors.specs.ActorRuns.{IsDone, IsPlain, IsStoredBack, without_counts, started_run, after_turns, finished_from, rest_in, has_any};
 ghost use Rattle.actors.specs.Updates.{HasRead, IsMet, IsUpdated};
 ghost use Rattle.views.specs.Tallies.{reads_in};
 
@@ -55,10 +55,10 @@ pub struct ActorRun<'a> {
 
 impl<'a> Model for ActorRun<'a> {
     ghost use Rattle.std.specs.Coded.{codes};
-    ghost use Rattle.record_dim.specs.Codes.{coded_fields};
-    ghost use Rattle.map_expr.specs.Codes.{coded_term};
-    ghost use Rattle.actors.specs.Codes.{coded_value};
-    ghost use Rattle.actors.specs.Runs.{Run};
+    ghost use Rattle.record_dim.specs.Inner.Codes.{coded_fields};
+    ghost use Rattle.map_expr.specs.Inner.Codes.{coded_term};
+    ghost use Rattle.actors.specs.Inner.Codes.{coded_value};
+    ghost use Rattle.actors.specs.ActorRuns.{Run};
 
     ghost Value = { Run };
 
@@ -67,12 +67,12 @@ impl<'a> Model for ActorRun<'a> {
     ghost use Rattle.record_dim.specs.Schemas.{schema_fields};
     ghost use Rattle.map_expr.specs.Terms.{term_of};
     ghost use Rattle.row_updates.specs.Rows.{filter_term};
-    ghost use Rattle.actors.specs.Kept.{table_at, run_of, IsRun};
+    ghost use Rattle.actors.specs.RunFields.{table_at, actor_run_of, IsActorRun};
 
-    ghost view = { λ r. run_of (table_at (schema_fields r.schema) r.extents (term_of r.expr) r.mode r.found.items) (filter_term r.filter) r.sets.now r.cuts.items
+    ghost view = { λ r. actor_run_of (table_at (schema_fields r.schema) r.extents (term_of r.expr) r.mode r.found.items) (filter_term r.filter) r.sets.now r.cuts.items
         r.memory.items r.actors.items };
 
-    ghost invariant = { λ r. IsRun (table_at (schema_fields r.schema) r.extents (term_of r.expr) r.mode r.found.items) (filter_term r.filter) r.sets.now r.cuts.items
+    ghost invariant = { λ r. IsActorRun (table_at (schema_fields r.schema) r.extents (term_of r.expr) r.mode r.found.items) (filter_term r.filter) r.sets.now r.cuts.items
         r.memory.items r.scratch.items r.plans.rows.items r.targets.items r.actors.items };
 }
 
@@ -88,7 +88,7 @@ impl<'a> ActorRun<'a> {
         cuts: &[u64],
         steps: &mut Steps<L>,
     ) -> Result<ActorRun<'a>, ActorFault>
-        requires filter { IfSome filter (λ bound. IsOver view.old bound.now) }
+        requires filter { IfSome filter (λ bound. IsBoundOver view.old bound.now) }
         requires sets { All (IsSetOf view.old) sets.now }
         requires few { length sets.now ≤ 64 }
         requires cuts { AreCuts 0 cuts.now (length view.old.rows) }
@@ -134,7 +134,7 @@ impl<'a> ActorRun<'a> {
     /// found it.
     pub fn turn(&mut self, view: &View, actor: usize) -> bool
         requires actor { actor ≤ length self.old.cuts }
-        requires view { uncounted view.now ≡ self.old.found }
+        requires view { without_counts view.now ≡ self.old.found }
         ensures made { result ≡ has_any (rest_in self.old actor) }
         ensures turned { self.new ≡ after_turns self.old (actor ∷ []) }
         ensures none { result ≡ false → self.new ≡ self.old }
@@ -153,7 +153,7 @@ impl<'a> ActorRun<'a> {
     /// Makes the micro-steps that are left, actor by actor. Then no actor has one left, and the memory is that of the blobs that the plain update
     /// leaves, byte for byte. The view is as the run found it.
     pub fn finish(&mut self, view: &View)
-        requires view { uncounted view.now ≡ self.old.found }
+        requires view { without_counts view.now ≡ self.old.found }
         ensures finished { self.new ≡ after_turns self.old (turns_left self.old.state) }
         ensures done { IsDone self.new }
         ensures plain { IsPlain self.new }
@@ -176,7 +176,7 @@ impl<'a> ActorRun<'a> {
     /// Sets each leaf that is set of each row that the filter lets through to the reading of the memory, and counts one write of each. No actor has
     /// a micro-step left, and the view is as the run found it. Then its table is that of the plain update.
     pub fn store_back<L: Ledger>(&self, view: &mut View, steps: &mut Steps<L>)
-        requires view { uncounted view.old ≡ self.now.found }
+        requires view { without_counts view.old ≡ self.now.found }
         requires done { IsDone self.now }
         ensures { IsStoredBack view.old self.now.filter self.now.sets view.new }
     {
@@ -195,7 +195,7 @@ impl<'a> ActorRun<'a> {
     // Makes what one actor has left, so that all that is left is what those behind it have.
     fn finish_actor(&mut self, view: &View, actor: usize)
         requires actor { actor ≤ length self.old.cuts }
-        requires view { uncounted view.now ≡ self.old.found }
+        requires view { without_counts view.now ≡ self.old.found }
         ensures left { finished_from (actor + 1) self.new ≡ finished_from actor self.old }
         ensures same { self.new ≡ record self.old { state = self.new.state } }
         ensures count { length self.new.state.actors ≡ length self.old.state.actors }

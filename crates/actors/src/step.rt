@@ -1,9 +1,9 @@
 // Where an actor stands in its rows, and its next micro-step.
 ghost use Rattle.std.specs.Prelude.{◌≡◌, ◌<◌, ◌≤◌, All, IfSome, length};
-ghost use Rattle.actor_steps.specs.BytesOfLaws.{IsByte};
+ghost use Rattle.actor_steps.specs.Bytes.{IsByte};
 ghost use Rattle.actor_steps.specs.Micro.{Job};
 ghost use Rattle.actor_tasks.specs.Marks.{AreRowsOf};
-ghost use Rattle.actor_tasks.specs.Places.{behind};
+ghost use Rattle.actor_tasks.specs.Places.{byte_behind};
 ghost use Rattle.actors.specs.Rows.{asks_at};
 ghost use Rattle.actors.specs.Standing.{IsCursor, IsStepOf, IsStepNext};
 
@@ -91,7 +91,7 @@ pub fn next_step<M: Mapping>(
 // The place behind a byte.
 fn place_behind<M: Mapping>(mapping: &M, place: Place) -> Place
     requires { IsByte (M.layout mapping.now) place }
-    ensures { result ≡ behind place }
+    ensures { result ≡ byte_behind place }
 {
     let _bytes = mapping.blob_bytes(place.blob);
     behind(place)

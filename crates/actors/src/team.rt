@@ -3,7 +3,7 @@ ghost use Rattle.std.specs.Prelude.{ℕ, ◌≡◌, ◌+◌, IfOk, length, map};
 ghost use Rattle.actor_steps.specs.Cuts.{AreCuts, parts_from, team_of};
 ghost use Rattle.actor_steps.specs.Jobs.{fresh_of};
 ghost use Rattle.actor_steps.specs.Micro.{Job};
-ghost use Rattle.actors.specs.Kept.{AreStanding};
+ghost use Rattle.actors.specs.RunFields.{AreStanding};
 ghost use Rattle.actors.specs.Standing.{IsFresh, actor_shown};
 
 use crate::actor::{Actor, Bytes};

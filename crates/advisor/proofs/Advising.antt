@@ -1,5 +1,5 @@
 -- The advice by candidates that are at hand.
-use Rattle.advisor.proofs.Imports.{◌≡◌, ℕ, ◌≤◌, Bool, true, false, List, All, length, map, take, Ok, Err, Some, None, sym, ap, ◌∙◌, arith, length-append, filter, is_ok, take-append-le, take_all, length-map, Term, term_of, uncounted, Table, AdviseFault, Candidate, Pass, Advised, judge, cost_of, candidates, split_terms, advised, unless, advice, first_fault, IsPriced, IsStored, terms_in, suits}
+use Rattle.advisor.proofs.Imports.{◌≡◌, ℕ, ◌≤◌, Bool, true, false, List, All, length, map, take, Ok, Err, Some, None, sym, ap, ◌∙◌, arith, length-append, filter, is_ok, take-append-le, take_all, length-map, Term, term_of, uncounted, Table, AdviseFault, Candidate, Pass, Advised, judge, cost_of, candidates, split_terms, advised, unless, advice, first_judged_fault, IsPriced, HasKnownHolds, terms_in, suits}
 
 -- the listed candidates come first
 pub listed_first : (table : Table) (granule : ℕ) (listed : List Term) (splits : Bool) → take (length listed) (candidates table granule listed splits) ≡ listed
@@ -14,13 +14,13 @@ listed_within table granule listed true = omega (arith, length-append listed (fi
 
 -- an advice, and a fault
 module _ (table : Table) (granule : ℕ) (passes : List Pass) (terms : List Term) (splits : Bool) where
-  pub advice_faulty : (fault : AdviseFault) → first_fault (judge table granule) 0 (map uncounted terms) ≡ Some fault → advice table granule passes terms splits ≡ Err fault
+  pub advice_faulty : (fault : AdviseFault) → first_judged_fault (judge table granule) 0 (map uncounted terms) ≡ Some fault → advice table granule passes terms splits ≡ Err fault
   unfolding advice
   advice_faulty fault bad =
       let listed = map uncounted terms in
       ap (λ found. unless found (advised (suits table) (cost_of table granule passes) listed (candidates table granule listed splits))) bad
 
-  pub advice_given : first_fault (judge table granule) 0 (map uncounted terms) ≡ None → (all : List Term) → all ≡ candidates table granule (map uncounted terms) splits
+  pub advice_given : first_judged_fault (judge table granule) 0 (map uncounted terms) ≡ None → (all : List Term) → all ≡ candidates table granule (map uncounted terms) splits
       → (count : ℕ) → count ≡ length (map uncounted terms) → (given : Advised) → given ≡ advised (suits table) (cost_of table granule passes) (take count all) all
       → advice table granule passes terms splits ≡ Ok given
   unfolding advice
@@ -38,7 +38,7 @@ pub costs_known : (table : Table) (granule : ℕ) (passes : List Pass) (pool : L
     → All (λ candidate. candidate.cost ≡ cost_of table granule passes (term_of candidate.expr)) pool
 costs_known table granule passes pool priced = λ k d l. (priced k d l).cost_is
 
-pub holds_known : (table : Table) (granule : ℕ) (passes : List Pass) (pool : List Candidate) → All (IsPriced table granule passes) pool → All (IsStored table) pool
+pub holds_known : (table : Table) (granule : ℕ) (passes : List Pass) (pool : List Candidate) → All (IsPriced table granule passes) pool → All (HasKnownHolds table) pool
 holds_known table granule passes pool priced = λ k d l. (let is = priced k d l in record { holds_are = is.holds_are; each_leaf = is.each_leaf; holds = is.holds })
 
 -- the listed are no more than all

@@ -1,5 +1,5 @@
 -- Cubes of slots on the Morton curve: their indices lie together, so all of them are of rows or none is.
-use Rattle.advisor.proofs.Imports.{◌≡◌, ℕ, zero, suc, ◌+◌, ◌-◌, ◌*◌, ◌/◌, ◌%◌, ◌^◌, ◌<◌, ◌≤◌, ◌⊎◌, true, false, List, [], ◌∷◌, map, length, get_or, Option, Some, None, refl, sym, ap, ◌∙◌, subst, ⊎_elim, arith, lit<, min, w64, pow-suc, bit_and, is_some, bit_at, trailing_zeros, range_with_len, cases_lt, length-map, get_or-map, length_all_zip, AllZip-get_or, get_or-range_with_len, length-range_with_len, shr_split, pow_pos, mul-le, mod_below, div-add-mod', bit_at-zero, bit_at-lt, bit_at_lowest, bit_at_above, bit_at_cat_low, bit_at_cat_high, shr_and_one, same_from_bits, div-le_self, mod-eq_of_lt, mul_comm, mul-div-le, pow-le-pow_right, row_of_inside, Order, Row, Col, Morton, bit_at-interleaved, bit_at-component, interleaved, row_at, slot_count, index_at, index_at_inside, row_at-slot_at, row_at-slot_of, slot_at-row_at, has_rows, twos_divide, component, gathered, has_row, HasRoom, IsOutside}
+use Rattle.advisor.proofs.Imports.{◌≡◌, ℕ, zero, suc, ◌+◌, ◌-◌, ◌*◌, ◌/◌, ◌%◌, ◌^◌, ◌<◌, ◌≤◌, ◌⊎◌, true, false, List, [], ◌∷◌, map, length, get_or, Option, Some, None, refl, sym, ap, ◌∙◌, subst, ⊎_elim, arith, lit<, min, w64, pow-suc, bit_and, is_some, bit_at, trailing_zeros, range_with_len, cases_lt, length-map, get_or-map, length_all_zip, AllZip-get_or, get_or-range_with_len, length-range_with_len, shr_split, pow_pos, mul-le, mod_below, div-add-mod', bit_at-zero, bit_at-lt, bit_at_lowest, bit_at_above, bit_at_cat_low, bit_at_cat_high, shr_and_one, same_from_bits, div-le_self, mod-eq_of_lt, mul_comm, mul-div-le, pow-le-pow_right, row_of_inside, Order, Row, Col, Morton, bit_at-interleaved, bit_at-component, interleaved, row_at, slot_count, index_at, index_at_inside, row_at-slot_at, row_at-slot_of, slot_at-row_at, has_rows, twos_divide, component, gathered, has_row, IsFarFromEnds, IsOutside}
 use Rattle.extents.specs.Indices.{IsInside}
 
 -- ---- the digits of a component
@@ -209,7 +209,7 @@ module _ (extents : List ℕ) (ranked : (0 < length extents) × (length extents 
   rank = length extents
 
   -- a cube inside
-  pub cube_has_rows : (room : ℕ) → HasRoom extents slot room → 2 ^ digits ≤ room → has_row Morton extents (slot + more) ≡ true
+  pub cube_has_rows : (room : ℕ) → IsFarFromEnds extents slot room → 2 ^ digits ≤ room → has_row Morton extents (slot + more) ≡ true
   cube_has_rows room has wide =
       let index : List ℕ = index_of rank ranked.0 ranked.1 (slot + more) in
       let inside : IsInside extents index = inside_from extents index (length-map (range_with_len 0 rank) (component rank (slot + more)) ∙ length-range_with_len 0 rank)

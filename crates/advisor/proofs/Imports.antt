@@ -29,7 +29,7 @@ pub use Rattle.views.specs.Tables.{Table, leaf_types_of, leaf_count_of, leaf_typ
 pub use Rattle.record_dim.specs.declared.leaf_type.LeafType.{LeafType}
 pub use Rattle.record_dim.specs.declared.leaf_type.LeafType.TheVariants.{Bool as Truth}
 pub use Rattle.places.specs.Layout.{Owner, Bit, Pad}
-pub use Rattle.places.specs.Laws.{IsLaidOut, IsLocated, IsPiece}
+pub use Rattle.places.specs.Lawful.{IsLaidOut, IsLocated, IsPiece}
 pub use Rattle.places.specs.declared.piece.Cell.{Cell}
 pub use Rattle.map_checks.specs.Mappings.{leaf_cells, layout_of, most_slots, accepted, not_full, IsTooBigFor, IsRefusal, IsBuiltTerm, holds_by, bad_side, bad_field, else_for, holds_of}
 pub use Rattle.instrument.specs.Counters.{IsInside, granules_in, granules_of, HeatCounts, heated_by, no_heat, heat_counts}
@@ -66,7 +66,7 @@ pub use Rattle.places.specs.PieceRules.{begin_in, piece_in, pieces_in}
 pub use Rattle.places.specs.declared.rule.PieceRule.{PieceRule}
 pub use Rattle.extents.specs.Indices.{indices}
 pub use Rattle.places.specs.TouchedLaws.{touched_hot as pieces_hot}
-pub use Rattle.views.specs.Kept.{HasGranules}
+pub use Rattle.views.specs.ViewFields.{HasGranules}
 pub use Rattle.views.specs.CountLaws.{piece_inside, blob_granules}
 pub use Rattle.record_dim.specs.LeafTypes.{least_of, greatest_of, least_in, greatest_in, IsDeclared}
 pub use Rattle.piece_bits.specs.declared.mode.StoreMode.TheVariants.{Strict}
@@ -80,7 +80,7 @@ pub use Rattle.places.specs.Image.{entry}
 pub use Rattle.piece_bits.specs.EntryLaws.{stays_declared}
 pub use Rattle.piece_bits.specs.Lows.{low_64}
 pub use Rattle.views.specs.OrderLaws.{tallied-kinds}
-pub use Rattle.views.specs.Runs.{raised, run_of}
+pub use Rattle.views.specs.LeafRuns.{raised, run_of}
 pub use Rattle.views.specs.RunsLaws.{raised_all}
 pub use Rattle.views.specs.TallyLaws.{after_log-none, after_log-append, accesses_more}
 pub use Rattle.instrument.specs.WarmingLaws.{length-warmed, length-heated, get-warmed, get-warmed_blob, inside-counted}
@@ -92,20 +92,21 @@ pub use Rattle.advisor.specs.declared.candidate.Candidate.{Candidate}
 pub use Rattle.advisor.specs.declared.pass.Pass.{Pass}
 pub use Rattle.advisor.specs.Advice.{Advised, judge, cost_of, candidates, split_terms, advised, unless, is_best, told_by, own_paths, splits_at}
 unfoldable pub use Rattle.advisor.specs.Advice.{advice}
-pub use Rattle.advisor.specs.Judged.{first_fault, is_over, limited, fault_at, fault_or}
+pub use Rattle.advisor.specs.Judged.{first_judged_fault, is_over, limited, fault_at, fault_or}
 unfoldable pub use Rattle.advisor.specs.Judged.{judged}
-pub use Rattle.advisor.specs.Pools.{IsPriced, IsStored, terms_in}
+pub use Rattle.advisor.specs.Inner.Pools.{IsPriced, HasKnownHolds, terms_in}
 pub use Rattle.advisor.specs.Suits.{keeps, stays, leaf_stays, all_stay}
 unfoldable pub use Rattle.advisor.specs.Suits.{suits}
-pub use Rattle.advisor.specs.Choices.{costs_in, cost_at, is_marked, AreMarked, IsLeast, IsCheapest}
-pub use Rattle.advisor.specs.Sides.{term_at, IsHold, IsSideCost}
-pub use Rattle.advisor.specs.TouchedLaws.{touched_alike, touched_split, same_tests, IsTouchedBy, any_map, touched_hot}
+pub use Rattle.advisor.specs.Inner.Choices.{costs_in, cost_at, is_marked, AreMarked, IsLeast, IsCheapest}
+pub use Rattle.advisor.specs.Inner.SideCosts.{term_at, IsHold, IsSideCost}
+pub use Rattle.advisor.specs.TouchedLaws.{touched_alike, touched_split, same_tests, any_map, touched_hot}
+pub use Rattle.advisor.specs.TouchedBy.{IsTouchedBy}
 pub use Rattle.advisor.specs.Passes.{reads, cost, part_cost, leaves_in}
-pub use Rattle.advisor.specs.Curve.{component, gathered, has_row, HasRoom, IsOutside}
+pub use Rattle.advisor.specs.Inner.Curve.{component, gathered, has_row, IsFarFromEnds, IsOutside}
 pub use Rattle.advisor.specs.declared.mapped.RuledMap.{RuledMap}
 pub use Rattle.advisor.specs.Touched.{touched, holds_cell, is_bit_in, holds_bit, touched_blob}
-pub use Rattle.advisor.specs.Steady.{IsSteady, HasSteps, is_run_touched, are_rows_touched, long_piece, are_slots_touched}
+pub use Rattle.advisor.specs.Inner.Steady.{IsSteady, HasSteps, is_run_touched, are_rows_touched, long_piece, are_slots_touched}
 pub use Rattle.advisor.specs.declared.trials.Trial.{Trial}
-pub use Rattle.advisor.specs.Trials.{IsTrial, IsFresh, HasTrials, same_hold, is_for, has_trial, takes, tried_all, has_not_failed, none_failed, rows_accesses, all_lows_stay, tried_leaf, low_stays}
-pub use Rattle.advisor.specs.Warm.{is_warm, IsCounted, warm_at, IsWarmed}
+pub use Rattle.advisor.specs.Inner.Trials.{IsTrial, IsFresh, HasTrials, same_hold, is_for, has_trial, takes, tried_all, has_not_failed, none_failed, rows_accesses, all_lows_stay, tried_leaf, low_stays}
+pub use Rattle.advisor.specs.Inner.Warm.{is_warm, IsCounted, warm_at, IsWarmed}
 pub use Rattle.advisor.specs.declared.advice.Best.{Best}

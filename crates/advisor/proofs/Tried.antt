@@ -1,5 +1,5 @@
 -- Ways of storing leaves that are tried, and what they say of candidates.
-use Rattle.advisor.proofs.Imports.{◌≡◌, ℕ, ◌+◌, ◌<◌, Bool, true, false, ℤ, List, [], ◌∷◌, ◌++◌, All, length, map, get_or, refl, sym, ap, ◌∙◌, ⊎_elim, subst, arith, ◌==◌, ◌&&◌, ◌||◌, not, if◌then◌else◌, list_all, range_with_len, int_eq_equiv, true≢false, cases_eq, eq-eqb, eqb-true, and_parts, and_from, list_any-append, list_all-map, Any-from_list_any, AllPass-from_list_all, list_all-from_AllPass, get_or-range_with_len, length-range_with_len, All-push, All-map, Fields, LeafType, least_of, greatest_of, least_in, greatest_in, Hold, Strict, is_between, StoreFault, Range, Narrow, in_leaf, Table, leaf_count_of, leaf_type_of, keeps, stays, leaf_stays, all_stay, suits, StoreMode, hold_at, term_of, Candidate, Trial, IsStored, IsTrial, IsFresh, HasTrials, same_hold, is_for, has_trial, takes, tried_all, has_not_failed, none_failed, same_tests}
+use Rattle.advisor.proofs.Imports.{◌≡◌, ℕ, ◌+◌, ◌<◌, Bool, true, false, ℤ, List, [], ◌∷◌, ◌++◌, All, length, map, get_or, refl, sym, ap, ◌∙◌, ⊎_elim, subst, arith, ◌==◌, ◌&&◌, ◌||◌, not, if◌then◌else◌, list_all, range_with_len, int_eq_equiv, true≢false, cases_eq, eq-eqb, eqb-true, and_parts, and_from, list_any-append, list_all-map, Any-from_list_any, AllPass-from_list_all, list_all-from_AllPass, get_or-range_with_len, length-range_with_len, All-push, All-map, Fields, LeafType, least_of, greatest_of, least_in, greatest_in, Hold, Strict, is_between, StoreFault, Range, Narrow, in_leaf, Table, leaf_count_of, leaf_type_of, keeps, stays, leaf_stays, all_stay, suits, StoreMode, hold_at, term_of, Candidate, Trial, HasKnownHolds, IsTrial, IsFresh, HasTrials, same_hold, is_for, has_trial, takes, tried_all, has_not_failed, none_failed, same_tests}
 use Rattle.std.specs.Prelude.{Ok, Err}
 use Rattle.advisor.proofs.Cheapest.{same_images}
 
@@ -153,7 +153,7 @@ module _ (table : Table) (trials : List Trial) (each : All (IsTrial table.fields
       (λ stay. list_all-map (has_not_failed holds) seen trials ∙ list_all-from_AllPass (λ t. has_not_failed holds (seen t)) trials (trial_right stay))
 
 -- what they say of candidates
-pub marks_right : (table : Table) (trials : List Trial) → All (IsTrial table.fields) trials → All IsFresh trials → (pool : List Candidate) → All (IsStored table) pool
+pub marks_right : (table : Table) (trials : List Trial) → All (IsTrial table.fields) trials → All IsFresh trials → (pool : List Candidate) → All (HasKnownHolds table) pool
     → All (λ candidate. HasTrials trials candidate.holds (length candidate.holds)) pool
     → map (λ candidate. none_failed candidate.holds (map (tried_all table.mode table.rows) trials)) pool ≡ map (λ candidate. suits table (term_of candidate.expr)) pool
 unfolding suits
@@ -161,7 +161,7 @@ marks_right table trials each fresh pool stored all =
     same_images (λ candidate. none_failed candidate.holds (map (tried_all table.mode table.rows) trials)) (λ candidate. suits table (term_of candidate.expr)) pool
     (λ k d l.
     (let it = get_or pool k d in
-    let is : IsStored table it = stored k d l in
+    let is : HasKnownHolds table it = stored k d l in
     let have : HasTrials trials it.holds (leaf_count_of table) = subst (λ (n : ℕ). HasTrials trials it.holds n) is.each_leaf (all k d l) in
     none_failed_law table trials each fresh it.holds have ∙ ap (λ (holds : List Hold). all_stay table holds) is.holds_are))
 

@@ -12,7 +12,7 @@ use Rattle.views.specs.Tables.{Table, leaf_types_of}
 use Rattle.advisor.specs.declared.advice.Advice.{Advice}
 use Rattle.advisor.specs.declared.advice.AdviseFault.{AdviseFault}
 use Rattle.advisor.specs.declared.pass.Pass.{Pass}
-use Rattle.advisor.specs.Judged.{judged, first_fault}
+use Rattle.advisor.specs.Judged.{judged, first_judged_fault}
 use Rattle.advisor.specs.Passes.{cost}
 use Rattle.advisor.specs.Suits.{suits}
 
@@ -64,7 +64,7 @@ unless (Some fault) advice = Err fault
 unfoldable pub advice : Table → ℕ → List Pass → List Term → Bool → Result Advised AdviseFault
 advice table granule passes terms splits =
     let listed = map uncounted terms in
-    unless (first_fault (judge table granule) 0 listed)
+    unless (first_judged_fault (judge table granule) 0 listed)
     (advised (suits table) (cost_of table granule passes) listed (candidates table granule listed splits))
 
 -- what an advice of the code tells

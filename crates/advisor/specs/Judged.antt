@@ -40,6 +40,6 @@ abbrev pub fault_or : ℕ → Result Unit MakeMap → Option AdviseFault → Opt
 fault_or candidate (Err fault) later = Some (fault_at candidate fault)
 fault_or candidate (Ok x) later = later
 
-abbrev pub first_fault : (Term → Result Unit MakeMap) → ℕ → List Term → Option AdviseFault
-first_fault judge candidate [] = None
-first_fault judge candidate (term ∷ terms) = fault_or candidate (judge term) (first_fault judge (candidate + 1) terms)
+abbrev pub first_judged_fault : (Term → Result Unit MakeMap) → ℕ → List Term → Option AdviseFault
+first_judged_fault judge candidate [] = None
+first_judged_fault judge candidate (term ∷ terms) = fault_or candidate (judge term) (first_judged_fault judge (candidate + 1) terms)

@@ -1,13 +1,8 @@
 pub mod Touched
 pub mod TouchedLaws
-pub mod Warm
-pub mod Curve
-pub mod Steady
 pub mod Passes
 pub mod Judged
 pub mod Suits
 pub mod Advice
-pub mod Sides
-pub mod Pools
-pub mod Trials
-pub mod Choices
+pub mod TouchedBy
+pub mod Inner

@@ -8,11 +8,12 @@ use Rattle.std.proofs.lemmas.List.{length-map, take-map, drop-map, length-take, 
 use Rattle.std.proofs.lemmas.List.Sums.{sum_by-append, sum_by-cons}
 use Rattle.std.proofs.lemmas.List.Folds.{Any-from_list_any, list_any_at}
 use Rattle.places.specs.Layout.{Owner, Pad, Bit, owner_at}
-use Rattle.places.specs.Laws.{IsLaidOut, IsBitOf}
+use Rattle.places.specs.Lawful.{IsLaidOut, IsBitOf}
 use Rattle.places.specs.Rules.{renamed, recelled, numbers_of, split}
 use Rattle.places.specs.Touched.{is_bit_of, is_hot}
 use Rattle.instrument.specs.Counters.{granules_of}
 use Rattle.advisor.specs.Touched.{is_bit_in, holds_bit, touched_blob, touched}
+use Rattle.advisor.specs.TouchedBy.{IsHotAccess, IsTouchedBy}
 
 -- a test along renamed owners
 pub any_map : {X Y : Type 0} (test : Y → Bool) (f : X → Y) (xs : List X) → list_any test (map f xs) ≡ list_any (λ x. test (f x)) xs
@@ -74,16 +75,6 @@ bit_in row cell test Pad passes e = absurd (true≢false (sym e))
 bit_in row cell test (Bit slot other bit) passes e =
     let both = and_parts (slot == row) (other == cell) e in
     ap test (eqb-true other cell both.1) ∙ passes
-
--- an access to a cell that passes a test, and touches a granule of a blob
-pub record IsHotAccess (layout : List (List Owner)) (test : ℕ → Bool) (granule blob at row cell : ℕ) : Type 0 where
-  pub passes : test cell ≡ true
-  pub hot : is_hot layout granule row cell blob at ≡ true
-
--- a granule is touched exactly where the access to some such cell in some row touches it
-pub record IsTouchedBy (layout : List (List Owner)) (slots cells : ℕ) (test : ℕ → Bool) (granule blob at : ℕ) : Type 0 where
-  pub some : holds_bit test granule (get_or layout blob []) at ≡ true → (row : ℕ) × (cell : ℕ) × (row < slots) × (cell < cells) × IsHotAccess layout test granule blob at row cell
-  pub only : (row cell : ℕ) → IsHotAccess layout test granule blob at row cell → holds_bit test granule (get_or layout blob []) at ≡ true
 
 pub touched_hot : (layout : List (List Owner)) (slots : ℕ) (widths : List ℕ) → IsLaidOut layout slots widths → (test : ℕ → Bool) (granule blob at : ℕ) →
     IsTouchedBy layout slots (length widths) test granule blob at

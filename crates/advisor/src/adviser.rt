@@ -5,9 +5,9 @@ ghost use Rattle.map_checks.specs.Mappings.{IsBuiltTerm};
 ghost use Rattle.views.specs.Tables.{leaf_count_of, after_log};
 ghost use Rattle.views.specs.Tallies.{Read, all_accesses};
 ghost use Rattle.advisor.specs.Advice.{judge, candidates, advised, advice, told_by};
-ghost use Rattle.advisor.specs.Judged.{first_fault};
-ghost use Rattle.advisor.specs.Pools.{IsPriced, IsStored, terms_in};
-ghost use Rattle.advisor.specs.Sides.{IsPrice};
+ghost use Rattle.advisor.specs.Judged.{first_judged_fault};
+ghost use Rattle.advisor.specs.Inner.Pools.{IsPriced, HasKnownHolds, terms_in};
+ghost use Rattle.advisor.specs.Inner.SideCosts.{IsPrice};
 ghost use Rattle.advisor.specs.Suits.{suits};
 
 use crate::advice::{Advice, AdviseFault};
@@ -68,8 +68,8 @@ fn candidates(
     requires built { All (λ expr. IsBuiltTerm (term_of expr)) maps.now }
     ensures priced { IfOk result (λ pool. All (IsPriced view.now price.now.granule price.now.passes.now) pool.items) }
     ensures terms { IfOk result (λ pool. terms_in pool.items ≡ candidates view.now price.now.granule (map uncounted (map term_of maps.now)) splits) }
-    ensures good { OnOk result (first_fault (judge view.now price.now.granule) 0 (map uncounted (map term_of maps.now)) ≡ None) }
-    ensures refused { IfErr result (λ e. (e ≡ AdviseFault.NoMemory) ⊎ (first_fault (judge view.now price.now.granule) 0 (map uncounted (map term_of maps.now)) ≡ Some e)) }
+    ensures good { OnOk result (first_judged_fault (judge view.now price.now.granule) 0 (map uncounted (map term_of maps.now)) ≡ None) }
+    ensures refused { IfErr result (λ e. (e ≡ AdviseFault.NoMemory) ⊎ (first_judged_fault (judge view.now price.now.granule) 0 (map uncounted (map term_of maps.now)) ≡ Some e)) }
 {
     let listed = uncounted(alloc, maps)?;
     let pool = uncounted_candidates(alloc, view, price, listed.as_slice(), splits);
@@ -89,8 +89,8 @@ fn uncounted_candidates(
     requires built { All (λ expr. IsBuiltTerm (term_of expr)) listed.now }
     ensures priced { IfOk result (λ pool. All (IsPriced view.now price.now.granule price.now.passes.now) pool.items) }
     ensures terms { IfOk result (λ pool. terms_in pool.items ≡ candidates view.now price.now.granule (map term_of listed.now) splits) }
-    ensures good { OnOk result (first_fault (judge view.now price.now.granule) 0 (map term_of listed.now) ≡ None) }
-    ensures refused { IfErr result (λ e. (e ≡ AdviseFault.NoMemory) ⊎ (first_fault (judge view.now price.now.granule) 0 (map term_of listed.now) ≡ Some e)) }
+    ensures good { OnOk result (first_judged_fault (judge view.now price.now.granule) 0 (map term_of listed.now) ≡ None) }
+    ensures refused { IfErr result (λ e. (e ≡ AdviseFault.NoMemory) ⊎ (first_judged_fault (judge view.now price.now.granule) 0 (map term_of listed.now) ≡ Some e)) }
 {
     let mut pool = listed_candidates(alloc, view, price, listed)?;
     if splits {
@@ -107,7 +107,7 @@ fn advice_among<L: Ledger>(
     listed: usize,
     steps: &mut Steps<L>,
 ) -> Result<Advice, NoMemory>
-    requires stored { All (IsStored view.old) pool.now }
+    requires stored { All (HasKnownHolds view.old) pool.now }
     requires listed { listed ≤ length pool.now }
     ensures advice { IfOk result (λ told. (price : Term → ℕ) → All (λ candidate. candidate.cost ≡ price (term_of candidate.expr)) pool.now
         → told_by told ≡ advised (suits view.old) price (take listed (terms_in pool.now)) (terms_in pool.now)) }

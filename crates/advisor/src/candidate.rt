@@ -1,5 +1,5 @@
 ghost use Rattle.std.specs.Prelude.{◌≡◌, All, IfOk};
-ghost use Rattle.advisor.specs.Sides.{IsHold};
+ghost use Rattle.advisor.specs.Inner.SideCosts.{IsHold};
 
 use map_checks::HoldList;
 use map_expr::MapExpr;

@@ -1,7 +1,7 @@
 // Which slots rows have: all slots by rows and by columns, and on the Morton curve those of cubes that lie in the array.
 ghost use Rattle.std.specs.Prelude.{ℕ, ◌≡◌, ◌+◌, ◌<◌, ◌≤◌, ◌^◌, IfSome, IsNone, length};
 ghost use Rattle.linearize.specs.Slots.{slot_count};
-ghost use Rattle.advisor.specs.Curve.{component, has_row, HasRoom, IsOutside};
+ghost use Rattle.advisor.specs.Inner.Curve.{component, has_row, IsFarFromEnds, IsOutside};
 
 use extents::Extents;
 use linearize::Order;
@@ -60,7 +60,7 @@ fn cube_from(extents: &Extents, slot: u64, left: u64) -> SlotRun
 
 // How far the index of a slot on the curve is from the nearest end of the array. None where it lies outside.
 fn room_at(extents: &Extents, slot: u64) -> Option<u64>
-    ensures some { IfSome result (HasRoom extents.now slot) }
+    ensures some { IfSome result (IsFarFromEnds extents.now slot) }
     ensures none { IsNone result → IsOutside extents.now slot }
 {
     let mut room = MAX_SLOTS;

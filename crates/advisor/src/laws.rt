@@ -1,10 +1,10 @@
 // What holds of the granules that are touched.
 ghost use Rattle.std.specs.Prelude.{ℕ, Bool, ◌≡◌, ◌+◌, List, map, not, length, slice_index_or};
 ghost use Rattle.places.specs.Layout.{Owner};
-ghost use Rattle.places.specs.Laws.{IsLaidOut};
+ghost use Rattle.places.specs.Lawful.{IsLaidOut};
 ghost use Rattle.places.specs.Rules.{numbers_of, split};
 ghost use Rattle.advisor.specs.Touched.{touched};
-ghost use Rattle.advisor.specs.TouchedLaws.{IsTouchedBy};
+ghost use Rattle.advisor.specs.TouchedBy.{IsTouchedBy};
 
 /// The laws of touched granules. This function does nothing: its contract is the laws.
 ///

@@ -4,9 +4,9 @@ ghost use Rattle.map_expr.specs.Terms.{term_of, uncounted};
 ghost use Rattle.map_checks.specs.Mappings.{leaf_cells, IsBuiltTerm};
 ghost use Rattle.views.specs.Tables.{leaf_types_of};
 ghost use Rattle.advisor.specs.Advice.{judge};
-ghost use Rattle.advisor.specs.Judged.{fault_at, first_fault};
-ghost use Rattle.advisor.specs.Pools.{IsPriced, terms_in};
-ghost use Rattle.advisor.specs.Sides.{IsPrice};
+ghost use Rattle.advisor.specs.Judged.{fault_at, first_judged_fault};
+ghost use Rattle.advisor.specs.Inner.Pools.{IsPriced, terms_in};
+ghost use Rattle.advisor.specs.Inner.SideCosts.{IsPrice};
 
 use crate::advice::AdviseFault;
 use crate::candidate::{Candidate, holds_in};
@@ -43,8 +43,8 @@ pub fn listed_candidates(
     requires built { All (λ expr. IsBuiltTerm (term_of expr)) listed.now }
     ensures priced { IfOk result (λ pool. All (IsPriced view.now price.now.granule price.now.passes.now) pool.items) }
     ensures terms { IfOk result (λ pool. terms_in pool.items ≡ map term_of listed.now) }
-    ensures good { OnOk result (first_fault (judge view.now price.now.granule) 0 (map term_of listed.now) ≡ None) }
-    ensures refused { IfErr result (λ e. (e ≡ AdviseFault.NoMemory) ⊎ (first_fault (judge view.now price.now.granule) 0 (map term_of listed.now) ≡ Some e)) }
+    ensures good { OnOk result (first_judged_fault (judge view.now price.now.granule) 0 (map term_of listed.now) ≡ None) }
+    ensures refused { IfErr result (λ e. (e ≡ AdviseFault.NoMemory) ⊎ (first_judged_fault (judge view.now price.now.granule) 0 (map term_of listed.now) ≡ Some e)) }
 {
     let cells = cells_of(alloc, view.schema())?;
     let mut pool = Vec::new(alloc);

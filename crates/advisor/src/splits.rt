@@ -6,8 +6,8 @@ ghost use Rattle.map_checks.specs.Mappings.{leaf_cells, holds_by, IsBuiltTerm};
 ghost use Rattle.map_checks.specs.Sides.{cells_under, cells_beside};
 ghost use Rattle.views.specs.Tables.{leaf_types_of};
 ghost use Rattle.advisor.specs.Advice.{judge, own_paths, splits_at, split_terms};
-ghost use Rattle.advisor.specs.Pools.{IsPriced, terms_in};
-ghost use Rattle.advisor.specs.Sides.{IsHold, IsPrice, IsSideCost, term_at};
+ghost use Rattle.advisor.specs.Inner.Pools.{IsPriced, terms_in};
+ghost use Rattle.advisor.specs.Inner.SideCosts.{IsHold, IsPrice, IsSideCost, term_at};
 
 use crate::candidate::{Candidate, holds_in};
 use crate::mapped::mapped;

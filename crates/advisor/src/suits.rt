@@ -3,9 +3,9 @@ ghost use Rattle.std.specs.Prelude.{◌≡◌, ◌+◌, ◌<◌, ◌≤◌, All,
 ghost use Rattle.map_expr.specs.Terms.{term_of};
 ghost use Rattle.views.specs.Tables.{leaf_count_of, after_log};
 ghost use Rattle.views.specs.Tallies.{Read, all_accesses};
-ghost use Rattle.advisor.specs.Pools.{IsStored};
+ghost use Rattle.advisor.specs.Inner.Pools.{HasKnownHolds};
 ghost use Rattle.advisor.specs.Suits.{suits};
-ghost use Rattle.advisor.specs.Trials.{IsTrial, IsFresh, HasTrials, rows_accesses, tried_all, none_failed};
+ghost use Rattle.advisor.specs.Inner.Trials.{IsTrial, IsFresh, HasTrials, rows_accesses, tried_all, none_failed};
 
 use crate::candidate::Candidate;
 use crate::trials::{Trial, none_failed, trials_of, try_leaf};
@@ -24,7 +24,7 @@ pub fn suiting<L: Ledger>(
     pool: &[Candidate],
     steps: &mut Steps<L>,
 ) -> Result<Vec<bool>, NoMemory>
-    requires { All (IsStored view.old) pool.now }
+    requires { All (HasKnownHolds view.old) pool.now }
     ensures marks { IfOk result (λ marks. marks.items ≡ map (λ candidate. suits view.old (term_of candidate.expr)) pool.now) }
     ensures read { OnOk result (view.new ≡ after_log view.old (all_accesses Read (leaf_count_of view.old) (length view.old.rows))) }
     ensures unread { OnErr result (view.new ≡ view.old) }
@@ -49,7 +49,7 @@ fn mark_suiting<L: Ledger>(
     marks: &mut [bool],
     steps: &mut Steps<L>,
 )
-    requires stored { All (IsStored view.old) pool.now }
+    requires stored { All (HasKnownHolds view.old) pool.now }
     requires trials { All (IsTrial view.old.fields) trials.old }
     requires fresh { All IsFresh trials.old }
     requires all { All (λ candidate. HasTrials trials.old candidate.holds (length candidate.holds)) pool.now }

@@ -2,11 +2,11 @@
 ghost use Rattle.std.specs.Prelude.{ℕ, ◌&&◌, ◌||◌, ◌==◌, ◌≡◌, ◌<◌, All, true, not, IfOk, OnOk, length, map};
 ghost use Rattle.record_dim.specs.Leaves.{leaves};
 ghost use Rattle.record_dim.specs.Schemas.{schema_fields};
-ghost use Rattle.views.specs.Runs.{raised};
+ghost use Rattle.views.specs.LeafRuns.{raised};
 ghost use Rattle.views.specs.Stores.{is_between};
-ghost use Rattle.advisor.specs.Sides.{IsHold};
+ghost use Rattle.advisor.specs.Inner.SideCosts.{IsHold};
 ghost use Rattle.advisor.specs.Suits.{stays};
-ghost use Rattle.advisor.specs.Trials.{IsTrial, IsFresh, has_trial, HasTrials, low_stays, all_lows_stay, tried_leaf, has_not_failed, none_failed};
+ghost use Rattle.advisor.specs.Inner.Trials.{IsTrial, IsFresh, has_trial, HasTrials, low_stays, all_lows_stay, tried_leaf, has_not_failed, none_failed};
 
 use crate::candidate::Candidate;
 use map_checks::hold_at;

@@ -1,3 +1,1 @@
-pub mod Formula
-pub mod Samples
-pub mod Tables
+pub mod Inner

@@ -1,6 +1,6 @@
 // A table that is copied from one layout to another.
 ghost use Rattle.std.specs.Prelude.{◌≡◌, ◌<◌, OnOk};
-ghost use Rattle.bench_layouts.specs.Tables.{measured_fields};
+ghost use Rattle.bench_layouts.specs.Inner.Tables.{measured_fields};
 
 use crate::count::count_in;
 use crate::fault::BenchFault;

@@ -1,6 +1,6 @@
 ghost use Rattle.std.specs.Prelude.{IfOk, IsTrue};
 ghost use Rattle.record_dim.specs.Names.{is_name};
-ghost use Rattle.bench_layouts.specs.Formula.{IsFormula};
+ghost use Rattle.bench_layouts.specs.Inner.Formula.{IsFormula};
 
 use crate::fault::BenchFault;
 use crate::record::sample_schema;

@@ -2,7 +2,7 @@
 ghost use Rattle.std.specs.Prelude.{◌≡◌, ◌<◌, ◌≤◌, OnOk};
 ghost use Rattle.views.specs.Tables.{Table};
 ghost use Rattle.lane_kernels.specs.Kernels.{IsKernelOf};
-ghost use Rattle.bench_layouts.specs.Tables.{measured_fields};
+ghost use Rattle.bench_layouts.specs.Inner.Tables.{measured_fields};
 
 use crate::count::count_in;
 use crate::fault::BenchFault;

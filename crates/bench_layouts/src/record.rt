@@ -2,8 +2,8 @@ ghost use Rattle.std.specs.Prelude.{◌≡◌, IfOk, IsTrue};
 ghost use Rattle.record_dim.specs.Names.{is_name};
 ghost use Rattle.record_dim.specs.Schemas.{schema_fields};
 ghost use Rattle.record_dim.specs.Trees.{Field as One, Single, fields_of};
-ghost use Rattle.bench_layouts.specs.Formula.{sample_fields};
-ghost use Rattle.bench_layouts.specs.Tables.{measured_fields};
+ghost use Rattle.bench_layouts.specs.Inner.Formula.{sample_fields};
+ghost use Rattle.bench_layouts.specs.Inner.Tables.{measured_fields};
 
 use crate::fault::BenchFault;
 use record_dim::{Dim, Field, FieldList, LeafType, MakeSchema, Name, Schema};

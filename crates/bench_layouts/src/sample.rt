@@ -27,7 +27,7 @@ impl Sample {
 // A read changes nothing, so the state says nothing.
 impl Row for Sample {
     ghost use Rattle.std.specs.Prelude.{ℕ};
-    ghost use Rattle.bench_layouts.specs.Samples.{numbers_of};
+    ghost use Rattle.bench_layouts.specs.Inner.Samples.{numbers_of};
 
     ghost State = { Unit {0} };
 

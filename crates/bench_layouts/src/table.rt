@@ -1,5 +1,5 @@
 ghost use Rattle.std.specs.Prelude.{◌≡◌, ◌<◌, OnOk};
-ghost use Rattle.bench_layouts.specs.Tables.{measured_fields, IsMeasured};
+ghost use Rattle.bench_layouts.specs.Inner.Tables.{measured_fields, IsMeasured};
 
 use crate::fault::BenchFault;
 use crate::tables::table_view;

@@ -1,7 +1,7 @@
 // Tables of zeros in each form.
 ghost use Rattle.std.specs.Prelude.{◌≡◌, IfOk, count_by};
 ghost use Rattle.extents.specs.Shapes.{is_rows};
-ghost use Rattle.bench_layouts.specs.Tables.{measured_fields};
+ghost use Rattle.bench_layouts.specs.Inner.Tables.{measured_fields};
 
 use crate::expr::expr_of;
 use crate::fault::BenchFault;

@@ -1,11 +1,11 @@
 -- Blobs are the contents of a header exactly where they are the image of rows that it may hold.
-use Rattle.blob_file.proofs.Imports.{◌≡◌, Bool, true, false, ℕ, zero, suc, ◌+◌, ◌<◌, ◌≤◌, ℤ, pos, List, [], ◌∷◌, length, get_or, map, Result, Ok, Err, is_ok, refl, sym, ap, ◌∙◌, subst, arith, nat_eq, if◌then◌else◌, Decides, list_all, pointwise, and_parts, and_from, Decides-eqb, length-map, slice_eq-Decides, LeafType, least_of, greatest_of, least_in, greatest_in, IsIn, Leaf, leaves, kinds_of, Hold, IsLaidOut, width_at, entry, IsImage, holds_by, bit_in, HasShape, hold_at, table_shape, entry_in, bit_in_lt, declared, held, low_same, declared_same, kept_declared, StoreMode, Strict, Wrap, kind_at, Fits, Stays, fitting_held, declared_shape, declared_entry, image_raw, image_table, StoreFault, Range, Narrow, Answer, is_between, store_answer, stored_fits, fitting_stored, Header, owners_by, image_bytes, AreRows, raw_in, rows_in, answer_by, are_taken, all_taken, are_contents, leaf_count, row_count}
+use Rattle.blob_file.proofs.Imports.{◌≡◌, Bool, true, false, ℕ, zero, suc, ◌+◌, ◌<◌, ◌≤◌, ℤ, pos, List, [], ◌∷◌, length, get_or, map, Result, Ok, Err, is_ok, refl, sym, ap, ◌∙◌, subst, arith, nat_eq, if◌then◌else◌, Decides, list_all, pointwise, and_parts, and_from, Decides-eqb, length-map, slice_eq-Decides, LeafType, least_of, greatest_of, least_in, greatest_in, IsIn, Leaf, leaves, kinds_of, Hold, IsLaidOut, width_at, entry, IsImage, holds_by, bit_in, HasShape, hold_at, table_shape, entry_in, bit_in_lt, declared, held, low_same, declared_same, kept_declared, StoreMode, Strict, Wrap, kind_at, Fits, Stays, fitting_held, declared_shape, declared_entry, image_raw, image_table, StoreFault, Range, Narrow, StoreAnswer, is_between, store_answer, stored_fits, fitting_stored, Header, owners_by, image_bytes, AreRows, raw_in, rows_in, answer_by, are_taken, all_taken, are_contents, leaf_count, row_count}
 use Rattle.blob_file.proofs.ImageBits.{bytes_image}
 
 -- ---- tests of rows
 
 -- the test of a row, by its leaves
-row_taken : (answer : Answer) (first leaf : ℕ) (values : List ℤ) → leaf < length values → are_taken answer first values ≡ true → is_ok (answer (first + leaf) (get_or values leaf (pos 0))) ≡ true
+row_taken : (answer : StoreAnswer) (first leaf : ℕ) (values : List ℤ) → leaf < length values → are_taken answer first values ≡ true → is_ok (answer (first + leaf) (get_or values leaf (pos 0))) ≡ true
 row_taken answer first leaf [] inside all = absurd (omega (arith, inside))
 row_taken answer first zero (value ∷ values) inside all =
     let here : first + 0 ≡ first = omega arith in
@@ -14,7 +14,7 @@ row_taken answer first (suc leaf) (value ∷ values) inside all =
     let next : first + suc leaf ≡ first + 1 + leaf = omega arith in
     rw next (row_taken answer (first + 1) leaf values (omega (arith, inside)) (and_parts (is_ok (answer first value)) (are_taken answer (first + 1) values) all).1)
 
-taken_row : (answer : Answer) (first : ℕ) (values : List ℤ) → ((leaf : ℕ) → leaf < length values → is_ok (answer (first + leaf) (get_or values leaf (pos 0))) ≡ true) → are_taken answer first values ≡ true
+taken_row : (answer : StoreAnswer) (first : ℕ) (values : List ℤ) → ((leaf : ℕ) → leaf < length values → is_ok (answer (first + leaf) (get_or values leaf (pos 0))) ≡ true) → are_taken answer first values ≡ true
 taken_row answer first [] each = refl
 taken_row answer first (value ∷ values) each =
     let here : first + 0 ≡ first = omega arith in
@@ -25,7 +25,7 @@ taken_row answer first (value ∷ values) each =
     subst (λ (n : ℕ). is_ok (answer n (get_or values leaf (pos 0))) ≡ true) next (each (suc leaf) (omega (arith, l))))))
 
 -- and of all rows
-pub each_taken : (answer : Answer) (rows : List (List ℤ)) → all_taken answer rows ≡ true → (row leaf : ℕ) → row < length rows → leaf < length (get_or rows row []) → is_ok (answer leaf (entry rows row leaf)) ≡ true
+pub each_taken : (answer : StoreAnswer) (rows : List (List ℤ)) → all_taken answer rows ≡ true → (row leaf : ℕ) → row < length rows → leaf < length (get_or rows row []) → is_ok (answer leaf (entry rows row leaf)) ≡ true
 each_taken answer [] all row leaf row_in leaf_in = absurd (omega (arith, row_in))
 each_taken answer (values ∷ rows) all zero leaf row_in leaf_in =
     let here : 0 + leaf ≡ leaf = omega arith in
@@ -34,7 +34,7 @@ each_taken answer (values ∷ rows) all zero leaf row_in leaf_in =
 each_taken answer (values ∷ rows) all (suc row) leaf row_in leaf_in =
     each_taken answer rows (and_parts (are_taken answer 0 values) (list_all (are_taken answer 0) rows) all).1 row leaf (omega (arith, row_in)) leaf_in
 
-pub taken_each : (answer : Answer) (rows : List (List ℤ)) → ((row leaf : ℕ) → row < length rows → leaf < length (get_or rows row []) → is_ok (answer leaf (entry rows row leaf)) ≡ true) → all_taken answer rows ≡ true
+pub taken_each : (answer : StoreAnswer) (rows : List (List ℤ)) → ((row leaf : ℕ) → row < length rows → leaf < length (get_or rows row []) → is_ok (answer leaf (entry rows row leaf)) ≡ true) → all_taken answer rows ≡ true
 taken_each answer [] each = refl
 taken_each answer (values ∷ rows) each =
     and_from (are_taken answer 0 values) (list_all (are_taken answer 0) rows)

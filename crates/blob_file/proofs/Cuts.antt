@@ -1,9 +1,9 @@
 -- Bytes that are cut: into lines, and into blobs.
-use Rattle.blob_file.proofs.Imports.{◌≡◌, ℕ, zero, suc, ◌+◌, ◌-◌, ◌*◌, ◌/◌, ◌%◌, ◌<◌, true, false, List, [], ◌∷◌, ◌++◌, length, map, take, drop, get_or, All, Option, Some, None, refl, sym, ap, ◌∙◌, ⊎_elim, arith, append_assoc, length-append, ◌==◌, option_map, sum_by, cases_eq, eq-eqb, ne_eqb, take_at, drop_at, take-append-drop, length-take-le, length-drop, drop_more, take_rest, nil_from_length, sum_by-cons, NoEnd, joined, Owner, blob_lengths, two_lines, line_at, cut}
+use Rattle.blob_file.proofs.Imports.{◌≡◌, ℕ, zero, suc, ◌+◌, ◌-◌, ◌*◌, ◌/◌, ◌%◌, ◌<◌, true, false, List, [], ◌∷◌, ◌++◌, length, map, take, drop, get_or, All, Option, Some, None, refl, sym, ap, ◌∙◌, ⊎_elim, arith, append_assoc, length-append, ◌==◌, option_map, sum_by, cases_eq, eq-eqb, ne_eqb, take_at, drop_at, take-append-drop, length-take-le, length-drop, drop_more, take_rest, nil_from_length, sum_by-cons, NoEnd, joined, Owner, blob_lengths, two_lines, bytes_to_line_end, cut}
 
 -- ---- lines
 
-pub line_cut : (text rest : List ℕ) → NoEnd text → line_at (text ++ 10 ∷ rest) ≡ Some (text, rest)
+pub line_cut : (text rest : List ℕ) → NoEnd text → bytes_to_line_end (text ++ 10 ∷ rest) ≡ Some (text, rest)
 line_cut [] rest one = refl
 line_cut (byte ∷ text) rest one =
     let no : (byte == 10) ≡ false = ne_eqb byte 10 one.0 in
@@ -17,7 +17,7 @@ unmapped byte (Some found) text rest e =
     let pairs : (byte ∷ found.0, found.1) ≡ (text, rest) = cc in
     (found.0, ap (λ (r : List ℕ). Some (found.0, r)) (ap (λ (p : List ℕ × List ℕ). p.1) pairs), sym (ap (λ (p : List ℕ × List ℕ). p.0) pairs))
 
-pub line_parts : (bytes text rest : List ℕ) → line_at bytes ≡ Some (text, rest) → (bytes ≡ text ++ 10 ∷ rest) × NoEnd text
+pub line_parts : (bytes text rest : List ℕ) → bytes_to_line_end bytes ≡ Some (text, rest) → (bytes ≡ text ++ 10 ∷ rest) × NoEnd text
 line_parts [] text rest e = absurd (cc e)
 line_parts (byte ∷ bytes) text rest e =
     ⊎_elim
@@ -30,13 +30,13 @@ line_parts (byte ∷ bytes) text rest e =
     rw (← none, ← same, end) (refl, tt))
     (λ (other : byte ≡ 10 → ⊥).
     let no : (byte == 10) ≡ false = ne_eqb byte 10 other in
-    let more = unmapped byte (line_at bytes) text rest (rw no at e) in
+    let more = unmapped byte (bytes_to_line_end bytes) text rest (rw no at e) in
     let below = line_parts bytes more.0 rest more.1 in
     rw more.2 (ap (λ (bs : List ℕ). byte ∷ bs) below.0, (other, below.1)))
     (cases_eq byte 10)
 
 -- the first place of LF cuts a line
-pub cut_at : (bytes : List ℕ) (end : ℕ) → end < length bytes → get_or bytes end 0 ≡ 10 → ((k : ℕ) → k < end → get_or bytes k 0 ≡ 10 → ⊥) → line_at bytes ≡ Some (take end bytes, drop (end + 1) bytes)
+pub cut_at : (bytes : List ℕ) (end : ℕ) → end < length bytes → get_or bytes end 0 ≡ 10 → ((k : ℕ) → k < end → get_or bytes k 0 ≡ 10 → ⊥) → bytes_to_line_end bytes ≡ Some (take end bytes, drop (end + 1) bytes)
 cut_at [] end inside is before = absurd (omega (arith, inside))
 cut_at (byte ∷ bytes) zero inside is before = let yes : (byte == 10) ≡ true = eq-eqb byte 10 is in rw yes refl
 cut_at (byte ∷ bytes) (suc end) inside is before =
@@ -47,10 +47,10 @@ cut_at (byte ∷ bytes) (suc end) inside is before =
 
 -- the same by the slices before and behind it
 pub cut_slices : (bytes : List ℕ) (end : ℕ) → end < length bytes → get_or bytes end 0 ≡ 10 → ((k : ℕ) → k < end → get_or bytes k 0 ≡ 10 → ⊥) →
-    line_at bytes ≡ Some (take end bytes, take (length bytes - (end + 1)) (drop (end + 1) bytes))
+    bytes_to_line_end bytes ≡ Some (take end bytes, take (length bytes - (end + 1)) (drop (end + 1) bytes))
 cut_slices bytes end inside is before = cut_at bytes end inside is before ∙ ap (λ (rest : List ℕ). Some (take end bytes, rest)) (sym (take_rest bytes (end + 1)))
 
-pub no_cut : (bytes : List ℕ) → ((k : ℕ) → k < length bytes → get_or bytes k 0 ≡ 10 → ⊥) → line_at bytes ≡ None
+pub no_cut : (bytes : List ℕ) → ((k : ℕ) → k < length bytes → get_or bytes k 0 ≡ 10 → ⊥) → bytes_to_line_end bytes ≡ None
 no_cut [] none = refl
 no_cut (byte ∷ bytes) none =
     let no : (byte == 10) ≡ false = ne_eqb byte 10 (none 0 (omega arith)) in

@@ -1,5 +1,5 @@
 -- A view of zeros that was filled by what blobs hold: what is opened of the bytes behind a header.
-use Rattle.blob_file.proofs.Imports.{◌≡◌, true, false, ℕ, ◌+◌, ◌*◌, ◌<◌, ◌≤◌, ℤ, pos, List, [], length, get_or, map, Ok, Err, is_ok, refl, sym, ap, ◌∙◌, arith, ◌==◌, nat_eq, sum_by, enumerate_from, pointwise, eq-eqb, and_parts, and_from, false_from_ne_true, length-map, get_or-map, length-replicate, length-enumerate_from, get_or-enumerate_from, LeafType, least_of, greatest_of, least_in, greatest_in, IsIn, kinds_of, Hold, Owner, IsLaidOut, entry, indices, HasShape, hold_at, tables_same, declared, low_same, declared_same, StoreMode, Strict, Wrap, kind_at, Fits, declared_shape, declared_entry, stored_fits, Keeping, is_between, store_answer, kept_or, kept_row, kept_rows, Table, owners_of, table_holds, leaf_count_of, kept_of, after_stores, Tally, Write, all_accesses, tallied, no_tally, blob_lengths, Header, owners_by, image_bytes, IsTaken, raw_in, rows_in, answer_by, all_taken, are_contents, cut, with_blobs, with_body, empty_table, table_of, leaf_count, row_count, IsRead, header_of, blobs_of}
+use Rattle.blob_file.proofs.Imports.{◌≡◌, true, false, ℕ, ◌+◌, ◌*◌, ◌<◌, ◌≤◌, ℤ, pos, List, [], length, get_or, map, Ok, Err, is_ok, refl, sym, ap, ◌∙◌, arith, ◌==◌, nat_eq, sum_by, enumerate_from, pointwise, eq-eqb, and_parts, and_from, false_from_ne_true, length-map, get_or-map, length-replicate, length-enumerate_from, get_or-enumerate_from, LeafType, least_of, greatest_of, least_in, greatest_in, IsIn, kinds_of, Hold, Owner, IsLaidOut, entry, indices, HasShape, hold_at, tables_same, declared, low_same, declared_same, StoreMode, Strict, Wrap, kind_at, Fits, declared_shape, declared_entry, stored_fits, Keeping, is_between, store_answer, kept_or, kept_row, kept_rows, Table, owners_of, table_holds, leaf_count_of, kept_of, after_stores, Tally, Write, all_accesses, tallied, no_tally, blob_lengths, Header, owners_by, image_bytes, IsTaken, raw_in, rows_in, answer_by, all_taken, are_contents, cut, with_blobs, with_body, empty_table, table_of_saved, leaf_count, row_count, IsRead, header_of, blobs_of}
 use Rattle.blob_file.specs.declared.fault.FileFault.TheVariants as fault
 use Rattle.blob_file.proofs.Contents.{ok_itself, each_taken, taken_each, raw_shape, raw_range, some_bits, same_count, same_blobs-Decides}
 
@@ -96,7 +96,7 @@ module _ (table : Table) (laid : IsLaidOut (owners_of table) (length (indices ta
     own_blobs : blobs_of new ≡ image_bytes header (rows_in header blobs)
     own_blobs = ap blobs_of stored ∙ ap (image_bytes header) (rows_kept taken)
 
-    new_is : new ≡ table_of (record { header = header; blobs = blobs })
+    new_is : new ≡ table_of_saved (record { header = header; blobs = blobs })
     new_is =
         let tally : table.tally ≡ no_tally table.mapping (owners_of table) (leaf_count header) = ap (λ (t : Table). t.tally) empty in
         stored

@@ -1,5 +1,5 @@
 -- The header in front of bytes, by what a reader finds one after another.
-use Rattle.blob_file.proofs.Imports.{◌≡◌, ℕ, ◌<◌, Bool, true, false, List, length, take, drop, Option, Some, None, refl, ap, ◌∙◌, arith, option_map, if◌then◌else◌, Fields, New, Header, four_bytes, two_lines, same_bytes, line_at, line_told, fields_told, new_told, with_record, header_told, behind_first, behind_size, header_at}
+use Rattle.blob_file.proofs.Imports.{◌≡◌, ℕ, ◌<◌, Bool, true, false, List, length, take, drop, Option, Some, None, refl, ap, ◌∙◌, arith, option_map, if◌then◌else◌, Fields, New, Header, four_bytes, two_lines, same_bytes, bytes_to_line_end, line_told, fields_told, new_told, with_record, header_told, behind_first, behind_size, header_at}
 use Rattle.blob_file.proofs.Heads.{front_is, header_with}
 
 none_from : {A : Type 0} (o : Option A) → ((x : A) → o ≡ Some x → ⊥) → o ≡ None
@@ -23,20 +23,20 @@ no_new (Some fields) = refl
 
 module _ (bytes : List ℕ) where
   -- no line at all
-  pub no_first : line_at (drop 4 bytes) ≡ None → header_at bytes ≡ None
+  pub no_first : bytes_to_line_end (drop 4 bytes) ≡ None → header_at bytes ≡ None
   unfolding header_at
   no_first none = ap (behind_size (take 4 bytes)) none
 
-  module _ (first rest : List ℕ) (is : line_at (drop 4 bytes) ≡ Some (first, rest)) where
-    cut_first : header_at bytes ≡ behind_first (take 4 bytes) first (line_at rest)
+  module _ (first rest : List ℕ) (is : bytes_to_line_end (drop 4 bytes) ≡ Some (first, rest)) where
+    cut_first : header_at bytes ≡ behind_first (take 4 bytes) first (bytes_to_line_end rest)
     unfolding header_at
     cut_first = ap (behind_size (take 4 bytes)) is
 
     -- one line alone
-    pub no_second : line_at rest ≡ None → header_at bytes ≡ None
+    pub no_second : bytes_to_line_end rest ≡ None → header_at bytes ≡ None
     no_second none = cut_first ∙ ap (behind_first (take 4 bytes) first) none
 
-    module _ (second body : List ℕ) (next : line_at rest ≡ Some (second, body)) where
+    module _ (second body : List ℕ) (next : bytes_to_line_end rest ≡ Some (second, body)) where
       abbrev told : Option (Header × List ℕ)
       told = option_map {U = Header × List ℕ} (λ header. (header, body)) (header_told first second)
 

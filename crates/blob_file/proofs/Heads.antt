@@ -1,5 +1,5 @@
 -- The header in front of bytes: which there is, and that it is the only one.
-use Rattle.blob_file.proofs.Imports.{◌≡◌, ℕ, ◌≤◌, Bool, true, false, List, [], ◌∷◌, ◌++◌, length, map, take, drop, Ok, Option, Some, None, refl, sym, ap, ◌∙◌, subst, arith, MatchResult, codes, option_map, not, ◌&&◌, list_any, and_parts, not-true, take-append-drop, bytes_eq-Decides, NoEnd, Reads, StopsAt, Sentence, New, Blank, Define, Mapping, View, Load, Assign, Update, Actors, Kernel, Reduce, Count, Copy, Relayout, Show, Drop, Bytes, Save, Open, Advise, PrintWindow, Stencil, deepest, Version, Two, canonical, line_of, ExtentWord, Fixed, Rows, extent_of, is_rows, Fields, Single, Record, Array, StoreMode, Strict, Wrap, Header, four_bytes, two_lines, is_wrap, record_line, view_line, record_text, view_text, header_text, IsShort, is_nameless, HasLine, HasLines, same_bytes, line_at, line_told, fields_told, is_plain, new_told, mode_by, with_record, header_told, behind_first, behind_size, header_at}
+use Rattle.blob_file.proofs.Imports.{◌≡◌, ℕ, ◌≤◌, Bool, true, false, List, [], ◌∷◌, ◌++◌, length, map, take, drop, Ok, Option, Some, None, refl, sym, ap, ◌∙◌, subst, arith, MatchResult, codes, option_map, not, ◌&&◌, list_any, and_parts, not-true, take-append-drop, bytes_eq-Decides, NoEnd, Reads, StopsAt, Sentence, New, Blank, Define, Mapping, View, Load, Assign, Update, Actors, Kernel, Reduce, Count, Copy, Relayout, Show, Drop, Bytes, Save, Open, Advise, PrintWindow, Stencil, deepest, Version, Two, canonical, line_of, ExtentWord, Fixed, Rows, extent_of, is_rows, Fields, Single, Record, Array, StoreMode, Strict, Wrap, Header, four_bytes, two_lines, is_wrap, record_line, view_line, record_text, view_text, header_text, IsShort, is_nameless, HasLine, HasLines, same_bytes, bytes_to_line_end, line_told, fields_told, is_plain, new_told, mode_by, with_record, header_told, behind_first, behind_size, header_at}
 use Rattle.blob_file.proofs.Told.{some_if, if_some, told_some, told_parts, line_is, reads_told}
 use Rattle.blob_file.proofs.Cuts.{line_cut, line_parts, lines_behind}
 
@@ -156,15 +156,15 @@ second_cut size first (Some found) header body e =
     (found.0, ap (λ (rest : List ℕ). Some (found.0, rest)) told.1, (bytes_eq-Decides size (four_bytes (length (two_lines first found.0)))).0 sized.0, told.0)
 
 first_cut : (size : List ℕ) (o : Option (List ℕ × List ℕ)) (header : Header) (body : List ℕ) → behind_size size o ≡ Some (header, body) →
-    (first : List ℕ) × (rest : List ℕ) × (o ≡ Some (first, rest)) × (behind_first size first (line_at rest) ≡ Some (header, body))
+    (first : List ℕ) × (rest : List ℕ) × (o ≡ Some (first, rest)) × (behind_first size first (bytes_to_line_end rest) ≡ Some (header, body))
 first_cut size None header body e = absurd (cc e)
 first_cut size (Some found) header body e = (found.0, found.1, refl, e)
 
 pub front_is : (bytes : List ℕ) (header : Header) (body : List ℕ) → header_at bytes ≡ Some (header, body) → HasFront bytes header body
 unfolding header_at
 front_is bytes header body e =
-    let one = first_cut (take 4 bytes) (line_at (drop 4 bytes)) header body e in
-    let two = second_cut (take 4 bytes) one.0 (line_at one.1) header body one.3 in
+    let one = first_cut (take 4 bytes) (bytes_to_line_end (drop 4 bytes)) header body e in
+    let two = second_cut (take 4 bytes) one.0 (bytes_to_line_end one.1) header body one.3 in
     let texts = line_parts (drop 4 bytes) one.0 one.1 one.2 in
     let rest = line_parts one.1 two.0 body two.1 in
     record {
@@ -243,8 +243,8 @@ module _ (one_reading : (version : Version) (text : List ℕ) (a b : Sentence) �
         let size = four_bytes (length (header_text header)) in
         let of_record : NoEnd (record_text header) = one_line Two lines.of_record.0 (record_line header) lines.of_record.1 (omega arith) in
         let of_view : NoEnd (view_text header) = one_line Two lines.of_view.0 (view_line header) lines.of_view.1 (omega arith) in
-        let cut : line_at (header_text header ++ body) ≡ Some (record_text header, view_text header ++ 10 ∷ body) =
-        ap line_at (lines_behind (record_text header) (view_text header) body) ∙ line_cut (record_text header) (view_text header ++ 10 ∷ body) of_record in
+        let cut : bytes_to_line_end (header_text header ++ body) ≡ Some (record_text header, view_text header ++ 10 ∷ body) =
+        ap bytes_to_line_end (lines_behind (record_text header) (view_text header) body) ∙ line_cut (record_text header) (view_text header ++ 10 ∷ body) of_record in
         let same : same_bytes size size ≡ true = (bytes_eq-Decides size size).1 refl in
         ap (behind_size size) cut
         ∙ ap (behind_first size (record_text header)) (line_cut (view_text header) body of_view)

@@ -1,5 +1,5 @@
 -- The bytes of bits, and the bits of the bytes of an image.
-use Rattle.blob_file.proofs.Imports.{◌≡◌, ℕ, ◌+◌, ◌*◌, ◌/◌, ◌%◌, ◌<◌, ◌≤◌, ℤ, List, [], length, get_or, map, All, sym, ap, ◌∙◌, ⊎_elim, arith, bit_at, cases_lt, length-map, get_or-map, get_or_past, get_or-map-range_with_len, Owner, Pad, Bit, owner_at, entry, bit_held, image, IsImage, bit_number, digit_lt, bit_of, bits_of, bit_in, AreBytes, byte_at, bytes_of, length-bytes_of, bytes_of_bits, Table, owners_of, blob_bits_of, blobs_of}
+use Rattle.blob_file.proofs.Imports.{◌≡◌, ℕ, ◌+◌, ◌*◌, ◌/◌, ◌%◌, ◌<◌, ◌≤◌, ℤ, List, [], length, get_or, map, All, sym, ap, ◌∙◌, ⊎_elim, arith, bit_at, cases_lt, length-map, get_or-map, get_or_past, get_or-map-range_with_len, Owner, Pad, Bit, owner_at, entry, bit_held, image, IsImage, bit_number, digit_lt, bit_of, bits_of, bit_in, AreBytes, byte_of_bits, bytes_of, length-bytes_of, bytes_of_bits, Table, owners_of, blob_bits_of, blobs_of}
 
 -- a blob of a table, by its bits
 pub blob_saved : (table : Table) (b : ℕ) (bytes : List ℕ) → b < length (owners_of table) → AreBytes bytes → bits_of bytes ≡ blob_bits_of table b → bytes ≡ get_or (blobs_of table) b []
@@ -24,7 +24,7 @@ bit_back bits place whole small =
     let byte_in : place / 8 < length bits / 8 = omega (arith, inside, whole) in
     let low : place % 8 < 8 = omega arith in
     let here : 8 * (place / 8) + place % 8 ≡ place = omega arith in
-    ap (λ (w : ℕ). bit_at w (place % 8)) (get_or-map-range_with_len (byte_at bits) 0 (length bits / 8) (place / 8) (place / 8) 0 byte_in (omega arith))
+    ap (λ (w : ℕ). bit_at w (place % 8)) (get_or-map-range_with_len (byte_of_bits bits) 0 (length bits / 8) (place / 8) (place / 8) 0 byte_in (omega arith))
     ∙ bit_number (λ k. get_or bits (8 * (place / 8) + k) 0) 8 (place % 8) (λ j l. small (8 * (place / 8) + j)) low
     ∙ ap (λ (w : ℕ). get_or bits w 0) here)
     (λ (past : length bits ≤ place).

@@ -22,11 +22,11 @@ pub use Rattle.piece_bits.specs.Tables.{AreSized, HasShape, hold_at, table_in, z
 pub use Rattle.views.specs.Tallies.{blob_lengths, Access, Write, row_accesses, all_accesses, Tally, tallied, no_tally, granules_for}
 pub use Rattle.record_dim.specs.declared.leaf_type.LeafType.{LeafType}
 pub use Rattle.record_dim.specs.LeafTypes.{least_of, greatest_of, least_in, greatest_in, IsIn, is_signed, IsDeclared}
-pub use Rattle.record_dim.specs.Leaves.{Leaf, leaves, kinds_of, first_fault, records_of, records_below, lengths_of, lengths_below, names_of, has_names}
+pub use Rattle.record_dim.specs.Leaves.{Leaf, leaves, kinds_of, record_fault, records_of, records_below, lengths_of, lengths_below, names_of, has_names}
 pub use Rattle.record_dim.specs.Names.{is_word, is_name, begins_name, continues_name}
 pub use Rattle.record_dim.specs.declared.path.PathStep.{PathStep}
 pub use Rattle.places.specs.declared.piece.Hold.{Hold}
-pub use Rattle.places.specs.Laws.{IsLaidOut}
+pub use Rattle.places.specs.Lawful.{IsLaidOut}
 pub use Rattle.places.specs.CellWidthsLaws.{width_at}
 pub use Rattle.places.specs.Image.{entry, IsImage, bit_held, image}
 pub use Rattle.map_checks.specs.Mappings.{holds_by, leaf_cells, accepted, bad_field, bad_side, else_for, most_slots, not_full, layout_by}
@@ -34,7 +34,7 @@ pub use Rattle.blobs.specs.Bits.{bit_in, bit_of, bits_of, AreBytes}
 pub use Rattle.piece_bits.specs.TableLaws.{table_shape, tables_same}
 pub use Rattle.piece_bits.specs.EntriesLaws.{entry_in}
 pub use Rattle.piece_bits.specs.CellsLaws.{bit_in_lt, hold_widths}
-pub use Rattle.piece_bits.specs.Kept.{declared, held}
+pub use Rattle.piece_bits.specs.LowBits.{declared, held}
 pub use Rattle.piece_bits.specs.KeptLaws.{low_same, declared_same, kept_declared}
 pub use Rattle.piece_bits.specs.declared.mode.StoreMode.{StoreMode}
 pub use Rattle.piece_bits.specs.declared.mode.StoreMode.TheVariants.{Strict, Wrap}
@@ -44,13 +44,13 @@ pub use Rattle.piece_bits.specs.KeptTableLaws.{declared_shape, declared_entry}
 pub use Rattle.piece_bits.specs.ImageLaws.{image_raw, image_table}
 pub use Rattle.views.specs.declared.fault.StoreFault.{StoreFault}
 pub use Rattle.views.specs.declared.fault.StoreFault.TheVariants.{Range, Narrow}
-pub use Rattle.views.specs.Stores.{Answer, is_between, store_answer, kept_or, kept_row, kept_rows, Keeping, AllStay, told}
+pub use Rattle.views.specs.Stores.{StoreAnswer, is_between, store_answer, kept_or, kept_row, kept_rows, Keeping, AllStay, without_number}
 pub use Rattle.views.specs.StrictLaws.{stored_fits, fitting_stored, between_true}
-pub use Rattle.line_tokens.specs.Ends.{NoEnd}
+pub use Rattle.line_tokens.specs.Inner.Ends.{NoEnd}
 pub use Rattle.line_tokens.specs.EndLaws.{no_end_append, joined_no_end}
-pub use Rattle.line_tokens.specs.Bytes.{is_blank, is_word_byte}
+pub use Rattle.line_tokens.specs.Bytes.{is_space_byte, is_word_byte}
 pub use Rattle.line_tokens.specs.Next.{next_of}
-pub use Rattle.line_tokens.specs.Spelled.{Spells, HasRoom, spaced, joined as tokens_joined}
+pub use Rattle.line_tokens.specs.Spelled.{Spells, MayOpen, spaced, spaced_tokens as tokens_joined}
 pub use Rattle.line_tokens.specs.SpelledLaws.{IsParted, next_spelled}
 pub use Rattle.line_tokens.specs.declared.token.Next.TheVariants.{Token as Found}
 pub use Rattle.line_tokens.specs.declared.token.TokenKind.{TokenKind}
@@ -62,7 +62,7 @@ pub use Rattle.map_any.specs.AnyLaws.{length-leaf_cells}
 pub use Rattle.piece_bits.specs.Lows.{low_64}
 pub use Rattle.views.specs.AnswerLaws.{stays_answer, told_same}
 pub use Rattle.views.specs.Columns.{column_writes, with_column}
-pub use Rattle.views.specs.Runs.{raised, AreRowsMoved, CountsNothing, run_steps}
+pub use Rattle.views.specs.LeafRuns.{raised, AreRowsMoved, CountsNothing, run_steps}
 pub use Rattle.views.specs.RunsLaws.{run_entry, run_length, AreBefore, raised_low, run_more, no_leaf_moved, leaf_moved}
 pub use Rattle.views.specs.Tables.{Table, IsTable, answer_of, kept_of, leaf_count_of, leaf_type_of, leaf_types_of, owners_of, table_holds, after_stores, blob_bits_of}
 pub use Rattle.views.specs.TallyLaws.{after_stores-append, logs_more, after_log-none}
@@ -94,7 +94,7 @@ pub use Rattle.schema_lang.specs.LineOf.{line_of, IsTold}
 pub use Rattle.extents.specs.declared.words.ExtentWord.TheVariants.{Fixed, Rows}
 pub use Rattle.extents.specs.Shapes.{extent_of, is_rows, bad_shape, bad_extents, extents_for, HasRows}
 pub use Rattle.places.specs.NumbersLaws.{bit_number, digit_lt}
-pub use Rattle.instrument.specs.BlobTexts.{byte_at, bytes_of}
+pub use Rattle.instrument.specs.BlobTexts.{byte_of_bits, bytes_of}
 pub use Rattle.instrument.specs.BlobTextsLaws.{length-bytes_of, bytes_of_bits}
 pub use Rattle.places.specs.declared.piece.Cell.{Cell}
 pub use Rattle.map_expr.specs.declared.check.BadMapping.{BadMapping}
@@ -102,7 +102,7 @@ pub use Rattle.map_expr.specs.declared.check.BadMapping.TheVariants.{TooDeep, Co
 pub use Rattle.map_expr.specs.Terms.{Term, term_of, Aos, Soa, Aosoa, BitAos, BitSoa, Split, Byteswap, Bytesplit, Change, Count as Counted, Heat as Heated, Named}
 pub use Rattle.map_expr.specs.Checks.{checked, answered, bad_number}
 pub use Rattle.map_checks.specs.TermLaws.{term_laws, good_numbers, length-holds}
-pub use Rattle.views.specs.Refusals.{IsOver}
+pub use Rattle.views.specs.Refusals.{IsOverLimits}
 pub use Rattle.extents.specs.declared.words.BadExtents.{BadExtents as Bad}
 pub use Rattle.layout_io.specs.Gathering.{Gathers, Puts, HasPut}
 pub use Rattle.layout_io.specs.GatheringLaws.{Gathers-written, Puts-append, Puts-stop, Puts-stopped, Writes-puts_err, Writes-puts, Puts-loop_err, Puts-loop_ok}
@@ -110,29 +110,29 @@ pub use Rattle.layout_io.specs.WritingLaws.{flat_map_push, Wrote-append, Stopped
 pub use Rattle.line_tokens.specs.declared.spots.Spot.{Spot}
 pub use Rattle.line_tokens.specs.SpotLaws.{same_spots}
 pub use Rattle.line_grammar.specs.Grammar.{IsSentence}
-pub use Rattle.schema_lang.specs.Parsing.{IsWhole}
+pub use Rattle.schema_lang.specs.Parsing.{HasItsFields}
 pub use Rattle.schema_lang.specs.declared.fault.LineFault.{LineFault}
 pub use Rattle.schema_lang.specs.declared.fault.LineFault.TheVariants.{Syntax, NoMemory}
 pub use Rattle.record_dim.specs.declared.leaf_type.LeafType.TheVariants.{Bool as Truth}
-pub use Rattle.map_checks.specs.LeafCells.{kinds_are}
+pub use Rattle.map_checks.specs.Inner.LeafCells.{kinds_are}
 pub use Rattle.views.specs.ColumnsLaws.{length-with_column}
 pub use Rattle.views.proofs.RunStoreLaws.{value_more}
 pub use Rattle.views.proofs.StoredLaws.{nothing_stored, HasStored, passed}
 pub use Rattle.record_dim.specs.Schemas.{schema_fields}
-pub use Rattle.blob_file.specs.Opened.{cut, raw_in, rows_in, answer_by, are_taken, all_taken, leaf_count, row_count, line_at, with_blobs, with_body, empty_table, table_of, IsRead, same_bytes, fields_told, new_told, with_record, header_told, behind_first, behind_size, is_plain, mode_by, Saved, with_header, canonical_by, IsReadInto}
+pub use Rattle.blob_file.specs.Opened.{cut, raw_in, rows_in, answer_by, are_taken, all_taken, leaf_count, row_count, bytes_to_line_end, with_blobs, with_body, empty_table, table_of_saved, IsRead, same_bytes, fields_told, new_told, with_record, header_told, behind_first, behind_size, is_plain, mode_by, Saved, with_header, canonical_by, IsReadInto}
 unfoldable pub use Rattle.blob_file.specs.Opened.{are_contents, line_told, header_at, opened}
 pub use Rattle.blob_file.specs.Files.{Header, owners_by, image_bytes, AreRows, two_lines, four_bytes, is_wrap, record_line, view_line, record_text, view_text, header_text, IsShort, magic, IsFile}
 unfoldable pub use Rattle.blob_file.specs.Files.{file_of}
-pub use Rattle.blob_file.specs.Filling.{kept_run, run_writes, AreFitting, AreTaken, IsTaken, IsTakenLeaf}
+pub use Rattle.blob_file.specs.Inner.Filling.{kept_run, run_writes, AreFitting, AreTaken, IsTaken, IsTakenLeaf}
 pub use Rattle.blob_file.specs.Saving.{header_of, blobs_of, head_of}
 pub use Rattle.blob_file.specs.Parts.{fields_in, new_in, header_in, header_by}
 pub use Rattle.blob_file.specs.declared.header.ShownView.{ShownView}
-pub use Rattle.blob_file.specs.Headers.{is_count, is_step, is_width, is_typed, IsTyped, is_nameless, HasLine, HasLines, words_of, CanLie, is_over}
+pub use Rattle.blob_file.specs.Headers.{is_count, is_step, is_width, is_typed, IsTyped, is_nameless, HasLine, HasLines, words_of, CanLie, is_over_limits}
 unfoldable pub use Rattle.blob_file.specs.Headers.{can_lie}
 pub use Rattle.blob_file.specs.HeaderLaws.{nameless_built}
 pub use Rattle.blob_file.specs.declared.header.FileHeader.{FileHeader}
 pub use Rattle.blob_file.specs.Statements.{OneFile, OpensFiles}
 pub use Rattle.blob_file.specs.declared.fault.FileFault.{FileFault}
-pub use Rattle.blob_file.specs.Refusals.{refusal}
+pub use Rattle.blob_file.specs.Inner.Refusals.{refusal}
 pub use Rattle.blob_file.specs.declared.fault.FileFault.TheVariants.{Contents}
 pub use Rattle.blob_file.specs.declared.fault.SaveEnd.TheVariants.{Failed}

@@ -1,5 +1,5 @@
 -- Headers with which a view can be made: the test of them, and the laws of their layouts.
-use Rattle.blob_file.proofs.Imports.{◌≡◌, ◌*◌, ◌<◌, ◌^◌, Bool, true, false, List, length, map, nat_lt, Option, None, Some, Result, Ok, Err, is_ok, is_none, inl, inr, refl, ◌∙◌, ⊎_elim, ◌⊎◌, ◌&&◌, ◌||◌, if◌then◌else◌, sum_by, Decides, Decides-and, Decides-or, Decides-not, Decides-like, Decides-ltb, false_from_ne_true, bad_shape, bad_extents, Fields, Record, kinds_of, first_fault, Owner, IsLaidOut, Cell, Hold, BadMapping, TooDeep, Counter, Side, Field, NotFull, Term, checked, answered, bad_number, length-leaf_cells, leaf_cells, accepted, bad_field, bad_side, else_for, holds_by, most_slots, not_full, term_laws, good_numbers, length-holds, granules_for, IsOver, Header, owners_by, is_nameless, words_of, CanLie, is_over, can_lie, nameless_built, row_count}
+use Rattle.blob_file.proofs.Imports.{◌≡◌, ◌*◌, ◌<◌, ◌^◌, Bool, true, false, List, length, map, nat_lt, Option, None, Some, Result, Ok, Err, is_ok, is_none, inl, inr, refl, ◌∙◌, ⊎_elim, ◌⊎◌, ◌&&◌, ◌||◌, if◌then◌else◌, sum_by, Decides, Decides-and, Decides-or, Decides-not, Decides-like, Decides-ltb, false_from_ne_true, bad_shape, bad_extents, Fields, Record, kinds_of, record_fault, Owner, IsLaidOut, Cell, Hold, BadMapping, TooDeep, Counter, Side, Field, NotFull, Term, checked, answered, bad_number, length-leaf_cells, leaf_cells, accepted, bad_field, bad_side, else_for, holds_by, most_slots, not_full, term_laws, good_numbers, length-holds, granules_for, IsOverLimits, Header, owners_by, is_nameless, words_of, CanLie, is_over_limits, can_lie, nameless_built, row_count}
 use Rattle.std.proofs.Common.{not}
 
 -- ---- the test
@@ -12,14 +12,14 @@ ok_is : (r : Result Unit BadMapping) → Decides (is_ok r) (r ≡ Ok tt)
 ok_is (Ok done) = ((λ e. refl), (λ e. refl))
 ok_is (Err bad) = ((λ e. cc e), (λ e. cc e))
 
-over_is : (header : Header) → Decides (is_over header) (IsOver header.mapping header.extents header.fields)
+over_is : (header : Header) → Decides (is_over_limits header) (IsOverLimits header.mapping header.extents header.fields)
 over_is header =
-    Decides-like (is_over header)
+    Decides-like (is_over_limits header)
     (λ (over : (2 ^ 24 < most_slots header.mapping header.extents) ⊎ ((8 * 2 ^ 28 < sum_by (length {A = Owner}) (owners_by header)) ⊎ (2 ^ 24 < granules_for header.mapping (owners_by header)))).
     ⊎_elim (λ (slots : 2 ^ 24 < most_slots header.mapping header.extents). inl (inl slots))
     (λ (rest : (8 * 2 ^ 28 < sum_by (length {A = Owner}) (owners_by header)) ⊎ (2 ^ 24 < granules_for header.mapping (owners_by header))).
     ⊎_elim (λ (bits : 8 * 2 ^ 28 < sum_by (length {A = Owner}) (owners_by header)). inl (inr bits)) (λ (granules : 2 ^ 24 < granules_for header.mapping (owners_by header)). inr granules) rest) over)
-    (λ (over : IsOver header.mapping header.extents header.fields).
+    (λ (over : IsOverLimits header.mapping header.extents header.fields).
     ⊎_elim (λ (big : (2 ^ 24 < most_slots header.mapping header.extents) ⊎ (8 * 2 ^ 28 < sum_by (length {A = Owner}) (owners_by header))).
     ⊎_elim (λ (slots : 2 ^ 24 < most_slots header.mapping header.extents). inl slots) (λ (bits : 8 * 2 ^ 28 < sum_by (length {A = Owner}) (owners_by header)). inr (inl bits)) big)
     (λ (granules : 2 ^ 24 < granules_for header.mapping (owners_by header)). inr (inr granules)) over)
@@ -31,25 +31,25 @@ over_is header =
 
 abbrev Parts : Header → Type 0
 Parts header =
-    (first_fault (Record header.fields) ≡ None)
+    (record_fault (Record header.fields) ≡ None)
     × ((bad_shape (words_of header) ≡ None)
     × ((bad_extents (words_of header) None ≡ None)
     × ((accepted header.mapping header.fields (leaf_cells (kinds_of header.fields)) ≡ Ok tt)
-    × (¬ IsOver header.mapping header.extents header.fields))))
+    × (¬ IsOverLimits header.mapping header.extents header.fields))))
 
 pub lies : (header : Header) → Decides (can_lie header) (CanLie header)
 unfolding can_lie
 lies header =
-    let fit : Bool = is_none (first_fault (Record header.fields)) in
+    let fit : Bool = is_none (record_fault (Record header.fields)) in
     let shaped : Bool = is_none (bad_shape (words_of header)) in
     let ranged : Bool = is_none (bad_extents (words_of header) None) in
     let answer = accepted header.mapping header.fields (leaf_cells (kinds_of header.fields)) in
-    let within = not (is_over header) in
-    let one : Decides within (¬ IsOver header.mapping header.extents header.fields) = Decides-not (is_over header) (over_is header) in
-    let two : Decides (is_ok answer && within) ((answer ≡ Ok tt) × (¬ IsOver header.mapping header.extents header.fields)) = Decides-and (is_ok answer) within (ok_is answer) one in
+    let within = not (is_over_limits header) in
+    let one : Decides within (¬ IsOverLimits header.mapping header.extents header.fields) = Decides-not (is_over_limits header) (over_is header) in
+    let two : Decides (is_ok answer && within) ((answer ≡ Ok tt) × (¬ IsOverLimits header.mapping header.extents header.fields)) = Decides-and (is_ok answer) within (ok_is answer) one in
     let three = Decides-and ranged (is_ok answer && within) (none_is (bad_extents (words_of header) None)) two in
     let four = Decides-and shaped (ranged && (is_ok answer && within)) (none_is (bad_shape (words_of header))) three in
-    let five = Decides-and fit (shaped && (ranged && (is_ok answer && within))) (none_is (first_fault (Record header.fields))) four in
+    let five = Decides-and fit (shaped && (ranged && (is_ok answer && within))) (none_is (record_fault (Record header.fields))) four in
     Decides-like (can_lie header)
     (λ (parts : Parts header). record { fit = parts.0; shaped = parts.1.0; ranged = parts.1.1.0; mapped = parts.1.1.1.0; within = parts.1.1.1.1 })
     (λ (can : CanLie header). (can.fit, (can.shaped, (can.ranged, (can.mapped, can.within)))))

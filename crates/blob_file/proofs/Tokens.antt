@@ -1,5 +1,5 @@
 -- Tokens told by their text: words that are names, numbers and signs, with one space between each two.
-use Rattle.blob_file.proofs.Imports.{◌≡◌, ℕ, ◌+◌, ◌<◌, ◌≤◌, ◌^◌, List, [], ◌∷◌, ◌++◌, length, map, refl, sym, ap, ◌∙◌, arith, true, pos, negsuc, Some, append-nil, inl, inr, nat_le, and_parts, leb-true, nat_tests, AllPass-from_list_all, list_all, AllPass, NoEnd, no_end_append, joined_no_end, is_blank, is_word_byte, next_of, Spells, HasRoom, spaced, tokens_joined, IsParted, next_spelled, Found, TokenKind, Token, Word, Number, Text, Sign, BadToken, kind_token, Each, decimal_spells, written, is_word, is_name, begins_name, continues_name}
+use Rattle.blob_file.proofs.Imports.{◌≡◌, ℕ, ◌+◌, ◌<◌, ◌≤◌, ◌^◌, List, [], ◌∷◌, ◌++◌, length, map, refl, sym, ap, ◌∙◌, arith, true, pos, negsuc, Some, append-nil, inl, inr, nat_le, and_parts, leb-true, nat_tests, AllPass-from_list_all, list_all, AllPass, NoEnd, no_end_append, joined_no_end, is_space_byte, is_word_byte, next_of, Spells, MayOpen, spaced, tokens_joined, IsParted, next_spelled, Found, TokenKind, Token, Word, Number, Text, Sign, BadToken, kind_token, Each, decimal_spells, written, is_word, is_name, begins_name, continues_name}
 use Rattle.line_tokens.specs.declared.token.TokenKind.TheVariants as kind
 use Rattle.blob_file.proofs.Parts.{same_fronts}
 
@@ -39,7 +39,7 @@ told_spelled (Sign sign) told = refl
 told_spelled (Text text) told = absurd told
 told_spelled BadToken told = absurd told
 
-room : (kind : TokenKind) → HasRoom kind 0
+room : (kind : TokenKind) → MayOpen kind 0
 room kind.Word = tt
 room (kind.Number value) = tt
 room kind.Text = tt
@@ -49,7 +49,7 @@ parted : (tokens : List Token) → IsParted (spaced (map written tokens))
 parted [] = inl refl
 parted (token ∷ tokens) = inr refl
 
-no_blank : AllPass is_blank []
+no_blank : AllPass is_space_byte []
 no_blank k d l = absurd (omega arith)
 
 -- the first token of a text

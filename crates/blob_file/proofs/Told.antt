@@ -1,5 +1,5 @@
 -- The lines of a header: what is told of a text is what the grammar says.
-use Rattle.blob_file.proofs.Imports.{◌≡◌, ℕ, ◌<◌, ◌≤◌, Bool, true, false, List, length, Result, Ok, Err, Option, Some, None, inl, inr, refl, sym, ap, ◌∙◌, subst, ⊎_elim, MatchResult, IfOk, IfErr, OnOk, ◌⊎◌, nat_le, ◌&&◌, if◌then◌else◌, and_parts, and_left, and_right, leb-true, le-leb, lt-leb, bytes_eq-Decides, Spot, same_spots, IsSentence, Reads, StopsAt, tokens_of, Sentence, sentence_of, deepest, Line, Version, Two, canonical, line_of, IsTold, IsWhole, LineFault, Syntax, NoMemory, refusal, FileFault, same_bytes, canonical_by, line_told}
+use Rattle.blob_file.proofs.Imports.{◌≡◌, ℕ, ◌<◌, ◌≤◌, Bool, true, false, List, length, Result, Ok, Err, Option, Some, None, inl, inr, refl, sym, ap, ◌∙◌, subst, ⊎_elim, MatchResult, IfOk, IfErr, OnOk, ◌⊎◌, nat_le, ◌&&◌, if◌then◌else◌, and_parts, and_left, and_right, leb-true, le-leb, lt-leb, bytes_eq-Decides, Spot, same_spots, IsSentence, Reads, StopsAt, tokens_of, Sentence, sentence_of, deepest, Line, Version, Two, canonical, line_of, IsTold, HasItsFields, LineFault, Syntax, NoMemory, refusal, FileFault, same_bytes, canonical_by, line_told}
 use Rattle.schema_lang.specs.declared.fault.LineFault.TheVariants.{TooDeep}
 use Rattle.blob_file.specs.declared.fault.FileFault.TheVariants as fault
 
@@ -79,8 +79,8 @@ module _ (text : List ℕ) where
     spelled_told (Ok same) told = told_some (sentence_of line) short is low told.1 ∙ ap (λ (l : Line). Some (sentence_of l)) (sym told.0)
     spelled_told (Err found) told = tt
 
-    pub spelled_whole : (result : Result Line FileFault) → IsWhole line → IfOk result (λ same. (same ≡ line) × (same_bytes (canonical (sentence_of line)) text ≡ true)) → IfOk result IsWhole
-    spelled_whole (Ok same) whole told = subst IsWhole (sym told.0) whole
+    pub spelled_whole : (result : Result Line FileFault) → HasItsFields line → IfOk result (λ same. (same ≡ line) × (same_bytes (canonical (sentence_of line)) text ≡ true)) → IfOk result HasItsFields
+    spelled_whole (Ok same) whole told = subst HasItsFields (sym told.0) whole
     spelled_whole (Err found) whole told = tt
 
     pub spelled_short : (result : Result Line FileFault) → OnOk result (length text ≤ 4096)

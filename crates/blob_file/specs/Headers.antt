@@ -5,7 +5,7 @@ use Rattle.extents.specs.Shapes.{bad_shape, bad_extents}
 use Rattle.extents.specs.declared.words.ExtentWord.{ExtentWord}
 use Rattle.extents.specs.declared.words.ExtentWord.TheVariants.{Fixed}
 use Rattle.record_dim.specs.Trees.{Record}
-use Rattle.record_dim.specs.Leaves.{kinds_of, records_of, lengths_of, has_names, first_fault}
+use Rattle.record_dim.specs.Leaves.{kinds_of, records_of, lengths_of, has_names, record_fault}
 use Rattle.record_dim.specs.Names.{is_name}
 use Rattle.record_dim.specs.declared.path.PathStep.{PathStep}
 use Rattle.record_dim.specs.declared.path.PathStep.TheVariants as step
@@ -16,7 +16,7 @@ use Rattle.line_grammar.specs.Sentences.{Sentence}
 use Rattle.line_grammar.specs.Reads.{Reads}
 use Rattle.line_grammar.specs.declared.version.Version.TheVariants.{Two}
 use Rattle.views.specs.Tallies.{granules_for}
-use Rattle.views.specs.Refusals.{IsOver}
+use Rattle.views.specs.Refusals.{IsOverLimits}
 use Rattle.blob_file.specs.Files.{Header, owners_by, record_line, view_line}
 
 -- no name stands in a mapping
@@ -81,22 +81,22 @@ words_of header = map Fixed header.extents
 -- a view of zeros can be made with a header, if there is memory: its record is a schema, its extents are those of an array, and its mapping
 -- is accepted and within the limits of a view
 pub record CanLie (header : Header) : Type 0 where
-  pub fit : first_fault (Record header.fields) ≡ None
+  pub fit : record_fault (Record header.fields) ≡ None
   pub shaped : bad_shape (words_of header) ≡ None
   pub ranged : bad_extents (words_of header) None ≡ None
   pub mapped : accepted header.mapping header.fields (leaf_cells (kinds_of header.fields)) ≡ Ok tt
-  pub within : IsOver header.mapping header.extents header.fields → ⊥
+  pub within : IsOverLimits header.mapping header.extents header.fields → ⊥
 
 -- the same as a test
-abbrev pub is_over : Header → Bool
-is_over header =
+abbrev pub is_over_limits : Header → Bool
+is_over_limits header =
     nat_lt (2 ^ 24) (most_slots header.mapping header.extents)
     || (nat_lt (8 * 2 ^ 28) (sum_by length (owners_by header)) || nat_lt (2 ^ 24) (granules_for header.mapping (owners_by header)))
 
 unfoldable pub can_lie : Header → Bool
 can_lie header =
-    is_none (first_fault (Record header.fields))
+    is_none (record_fault (Record header.fields))
     && (is_none (bad_shape (words_of header))
     && (is_none (bad_extents (words_of header) None)
     && (is_ok (accepted header.mapping header.fields (leaf_cells (kinds_of header.fields)))
-    && not (is_over header))))
+    && not (is_over_limits header))))

@@ -4,6 +4,5 @@ pub mod Headers
 pub mod HeaderLaws
 pub mod Opened
 pub mod Parts
-pub mod Filling
-pub mod Refusals
 pub mod Statements
+pub mod Inner

@@ -15,8 +15,8 @@ use Rattle.line_grammar.specs.Sentences.{New, Sentence, Define, View, deepest}
 use Rattle.line_grammar.specs.declared.version.Version.TheVariants.{Two}
 use Rattle.line_writer.specs.Texts.{canonical}
 use Rattle.schema_lang.specs.LineOf.{line_of}
-use Rattle.views.specs.Kept.{raw_under, table_under}
-use Rattle.views.specs.Stores.{Answer, store_answer}
+use Rattle.views.specs.ViewFields.{raw_under, table_under}
+use Rattle.views.specs.Stores.{StoreAnswer, store_answer}
 use Rattle.views.specs.Tables.{Table}
 use Rattle.views.specs.Tallies.{Write, all_accesses, tallied, no_tally, blob_lengths}
 use Rattle.blob_file.specs.Files.{Header, magic, four_bytes, two_lines, owners_by, image_bytes}
@@ -35,9 +35,9 @@ abbrev pub same_bytes : List ℕ → List ℕ → Bool
 same_bytes one other = pointwise nat_eq one other
 
 -- the bytes before the first LF, and those behind it
-abbrev pub line_at : List ℕ → Option (List ℕ × List ℕ)
-line_at [] = None
-line_at (byte ∷ bytes) = if byte == 10 then Some ([], bytes) else option_map (λ found. (byte ∷ found.0, found.1)) (line_at bytes)
+abbrev pub bytes_to_line_end : List ℕ → Option (List ℕ × List ℕ)
+bytes_to_line_end [] = None
+bytes_to_line_end (byte ∷ bytes) = if byte == 10 then Some ([], bytes) else option_map (λ found. (byte ∷ found.0, found.1)) (bytes_to_line_end bytes)
 
 -- the line of which a text is the canonical one, within the limits on lines
 abbrev pub canonical_by : List ℕ → Result Sentence ℕ → Option Sentence
@@ -81,10 +81,10 @@ behind_first size first (Some second) =
 
 abbrev pub behind_size : List ℕ → Option (List ℕ × List ℕ) → Option (Header × List ℕ)
 behind_size size None = None
-behind_size size (Some first) = behind_first size first.0 (line_at first.1)
+behind_size size (Some first) = behind_first size first.0 (bytes_to_line_end first.1)
 
 unfoldable pub header_at : List ℕ → Option (Header × List ℕ)
-header_at bytes = behind_size (take 4 bytes) (line_at (drop 4 bytes))
+header_at bytes = behind_size (take 4 bytes) (bytes_to_line_end (drop 4 bytes))
 
 -- ---- the blobs
 
@@ -101,15 +101,15 @@ abbrev pub rows_in : Header → List (List ℕ) → List (List ℤ)
 rows_in header blobs = table_under header.mapping header.extents header.fields blobs
 
 -- the answer to a store of a value in a leaf
-abbrev pub answer_by : Header → Answer
+abbrev pub answer_by : Header → StoreAnswer
 answer_by header leaf value = store_answer header.mode (kind_at (kinds_of header.fields) leaf) (hold_at (holds_by header.mapping header.fields) leaf) value
 
 -- no leaf, from this one on, refuses its value, and no leaf of some rows does
-abbrev pub are_taken : Answer → ℕ → List ℤ → Bool
+abbrev pub are_taken : StoreAnswer → ℕ → List ℤ → Bool
 are_taken answer leaf [] = true
 are_taken answer leaf (value ∷ values) = is_ok (answer leaf value) && are_taken answer (leaf + 1) values
 
-abbrev pub all_taken : Answer → List (List ℤ) → Bool
+abbrev pub all_taken : StoreAnswer → List (List ℤ) → Bool
 all_taken answer rows = list_all (are_taken answer 0) rows
 
 -- the blobs are the image of the rows that they stand for, and each raw number is one that its leaf takes
@@ -151,8 +151,8 @@ empty_table header = record {
   tally = no_tally header.mapping (owners_by header) (leaf_count header);
 }
 
-abbrev pub table_of : Saved → Table
-table_of saved = record {
+abbrev pub table_of_saved : Saved → Table
+table_of_saved saved = record {
   fields = saved.header.fields;
   extents = saved.header.extents;
   mapping = saved.header.mapping;
@@ -164,7 +164,7 @@ table_of saved = record {
 
 -- the answer of a reader: the table of what is opened, or the same refusal; memory may run out at any time
 abbrev pub IsRead : Result Saved FileFault → Result Table FileFault → Type 0
-IsRead told (Ok table) = (saved : Saved) × (told ≡ Ok saved) × (table ≡ table_of saved)
+IsRead told (Ok table) = (saved : Saved) × (told ≡ Ok saved) × (table ≡ table_of_saved saved)
 IsRead told (Err found) = (found ≡ fault.NoMemory) ⊎ (told ≡ Err found)
 
 -- the same of one that makes the table in its place

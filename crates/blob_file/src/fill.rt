@@ -4,12 +4,12 @@ ghost use Rattle.record_dim.specs.LeafTypes.{is_signed, IsDeclared, IsIn};
 ghost use Rattle.piece_bits.specs.Lows.{low_64};
 ghost use Rattle.piece_bits.specs.Tables.{AreSized, hold_at};
 ghost use Rattle.views.specs.Columns.{column_writes, with_column};
-ghost use Rattle.views.specs.Runs.{run_steps, AreRowsMoved, CountsNothing};
+ghost use Rattle.views.specs.LeafRuns.{run_steps, AreRowsMoved, CountsNothing};
 ghost use Rattle.views.specs.Stores.{kept_rows};
 ghost use Rattle.views.specs.Tables.{kept_of, leaf_count_of, leaf_type_of, owners_of, table_holds, after_stores};
 ghost use Rattle.views.specs.Tallies.{Write, all_accesses};
 ghost use Rattle.blob_file.specs.Opened.{raw_in};
-ghost use Rattle.blob_file.specs.Filling.{kept_run, run_writes, AreFitting, AreTaken, IsTaken, IsTakenLeaf};
+ghost use Rattle.blob_file.specs.Inner.Filling.{kept_run, run_writes, AreFitting, AreTaken, IsTaken, IsTakenLeaf};
 ghost use Rattle.blob_file.specs.Saving.{header_of};
 ghost use Rattle.blob_file.specs.declared.fault.FileFault.TheVariants as fault;
 

@@ -2,9 +2,9 @@
 ghost use Rattle.std.specs.Prelude.{ℕ, ◌≡◌, ◌≢◌, ◌<◌, ◌≤◌, ◌⊎◌, MatchOption, IfNone, IfSome, IfOk, IfErr, OnOk, Some, None, true, false, length, slice_index};
 ghost use Rattle.line_grammar.specs.Sentences.{sentence_of};
 ghost use Rattle.line_writer.specs.Texts.{canonical};
-ghost use Rattle.schema_lang.specs.Parsing.{IsWhole};
-ghost use Rattle.blob_file.specs.Opened.{line_at, line_told, same_bytes};
-ghost use Rattle.blob_file.specs.Refusals.{refusal};
+ghost use Rattle.schema_lang.specs.Parsing.{HasItsFields};
+ghost use Rattle.blob_file.specs.Opened.{bytes_to_line_end, line_told, same_bytes};
+ghost use Rattle.blob_file.specs.Inner.Refusals.{refusal};
 ghost use Rattle.blob_file.specs.declared.fault.FileFault.TheVariants as fault;
 
 use crate::fault::FileFault;
@@ -13,7 +13,7 @@ use std::alloc::Global;
 
 /// The bytes before the first LF, and those behind it.
 pub fn cut_line(bytes: &[u8]) -> Option<(&[u8], &[u8])>
-    ensures { MatchOption result (line_at bytes.now ≡ None) (λ cut. line_at bytes.now ≡ Some (cut.0.now, cut.1.now)) }
+    ensures { MatchOption result (bytes_to_line_end bytes.now ≡ None) (λ cut. bytes_to_line_end bytes.now ≡ Some (cut.0.now, cut.1.now)) }
 {
     match line_end(bytes) {
         Some(end) => Some((&bytes[..end], &bytes[end + 1..])),
@@ -40,7 +40,7 @@ fn line_end(bytes: &[u8]) -> Option<usize>
 /// limit on lines.
 pub fn read_line(alloc: Global, text: &[u8]) -> Result<Line, FileFault>
     ensures told { IfOk result (λ line. line_told text.now ≡ Some (sentence_of line)) }
-    ensures whole { IfOk result IsWhole }
+    ensures whole { IfOk result HasItsFields }
     ensures short { OnOk result (length text.now ≤ 4096) }
     ensures refused { IfErr result (λ found. (found ≡ fault.NoMemory) ⊎ ((found ≡ fault.Header) × (line_told text.now ≡ None))) }
 {

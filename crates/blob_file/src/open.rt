@@ -4,14 +4,14 @@ ghost use Rattle.std.specs.List.{list_any};
 ghost use Rattle.extents.specs.Shapes.{bad_shape, bad_extents, extent_of, is_rows};
 ghost use Rattle.map_expr.specs.Terms.{term_of};
 ghost use Rattle.map_checks.specs.Mappings.{accepted, layout_by, leaf_cells};
-ghost use Rattle.record_dim.specs.Leaves.{first_fault, kinds_of};
+ghost use Rattle.record_dim.specs.Leaves.{record_fault, kinds_of};
 ghost use Rattle.record_dim.specs.Schemas.{schema_fields};
 ghost use Rattle.record_dim.specs.Trees.{tree_of, Record, IsRecord};
 ghost use Rattle.blob_file.specs.Files.{owners_by, Header, IsFile};
 ghost use Rattle.blob_file.specs.Headers.{is_nameless, CanLie};
 ghost use Rattle.blob_file.specs.Opened.{empty_table, leaf_count, mode_by, opened, row_count, with_blobs, with_body, with_header, IsRead, IsReadInto};
 ghost use Rattle.piece_bits.specs.Tables.{AreSized};
-ghost use Rattle.views.specs.Refusals.{IsOver};
+ghost use Rattle.views.specs.Refusals.{IsOverLimits};
 ghost use Rattle.views.specs.Tables.{owners_of};
 ghost use Rattle.blob_file.specs.Parts.{header_by, header_in};
 ghost use Rattle.blob_file.specs.Saving.{header_of, blobs_of};
@@ -85,8 +85,8 @@ fn empty_view(alloc: Global, header: FileHeader, body: &[u8]) -> Result<View, Fi
 fn schema_of(alloc: Global, dim: Dim) -> Result<Schema, FileFault>
     requires { IsRecord dim }
     ensures made { IfOk result (λ schema. Record (schema_fields schema) ≡ tree_of dim) }
-    ensures fit { OnOk result (first_fault (tree_of dim) ≡ None) }
-    ensures refused { IfErr result (λ found. (found ≡ fault.NoMemory) ⊎ ((found ≡ fault.Layout) × (first_fault (tree_of dim) ≡ None → ⊥))) }
+    ensures fit { OnOk result (record_fault (tree_of dim) ≡ None) }
+    ensures refused { IfErr result (λ found. (found ≡ fault.NoMemory) ⊎ ((found ≡ fault.Layout) × (record_fault (tree_of dim) ≡ None → ⊥))) }
 {
     match Schema::new(alloc, dim) {
         Ok(schema) => Ok(schema),
@@ -134,10 +134,10 @@ fn bytes_of(
     requires { is_nameless (term_of expr.now) ≡ true }
     ensures bytes { IfOk result (λ bytes. 8 * bytes ≡ sum_by length (layout_by (term_of expr.now) extents (schema_fields schema.now))) }
     ensures mapped { OnOk result (accepted (term_of expr.now) (schema_fields schema.now) (leaf_cells (kinds_of (schema_fields schema.now))) ≡ Ok tt) }
-    ensures within { OnOk result (IsOver (term_of expr.now) extents (schema_fields schema.now) → ⊥) }
+    ensures within { OnOk result (IsOverLimits (term_of expr.now) extents (schema_fields schema.now) → ⊥) }
     ensures refused { IfErr result (λ found. (found ≡ fault.NoMemory) ⊎ ((found ≡ fault.Layout)
         × (accepted (term_of expr.now) (schema_fields schema.now) (leaf_cells (kinds_of (schema_fields schema.now))) ≡ Ok tt
-        → (IsOver (term_of expr.now) extents (schema_fields schema.now) → ⊥) → ⊥))) }
+        → (IsOverLimits (term_of expr.now) extents (schema_fields schema.now) → ⊥) → ⊥))) }
 {
     match bytes_for(alloc, schema, extents, expr) {
         Ok(bytes) => Ok(bytes),

@@ -16,8 +16,8 @@ abbrev pub bit_in : List (List ℕ) → ℕ → ℕ → ℕ
 bit_in blobs blob place = bit_of (slice_index_or blobs blob []) place
 
 -- a number of bits that is one, two, four or eight bytes
-abbrev pub IsWhole : ℕ → Type 0
-IsWhole n = (n ≡ 8) ⊎ ((n ≡ 16) ⊎ ((n ≡ 32) ⊎ (n ≡ 64)))
+abbrev pub IsWholeBytes : ℕ → Type 0
+IsWholeBytes n = (n ≡ 8) ⊎ ((n ≡ 16) ⊎ ((n ≡ 32) ⊎ (n ≡ 64)))
 
 -- each is a byte
 abbrev pub AreBytes : List ℕ → Type 0

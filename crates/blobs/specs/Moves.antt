@@ -2,8 +2,8 @@
 use Rattle.std.specs.Prelude.{ℕ, ◌≡◌, ◌+◌, ◌/◌, ◌<◌, ◌≤◌, List, ◌++◌, length, take, drop, slice_index_or}
 
 -- bytes with `len` of them, from byte `at` on, in place of which stand those of others from byte `from` on
-abbrev pub moved : List ℕ → ℕ → List ℕ → ℕ → ℕ → List ℕ
-moved bytes at others from len = take at bytes ++ (take len (drop from others) ++ drop (at + len) bytes)
+abbrev pub with_moved : List ℕ → ℕ → List ℕ → ℕ → ℕ → List ℕ
+with_moved bytes at others from len = take at bytes ++ (take len (drop from others) ++ drop (at + len) bytes)
 
 -- byte by byte
 pub record IsMoved (old : List ℕ) (at : ℕ) (others : List ℕ) (from len : ℕ) (new : List ℕ) : Type 0 where

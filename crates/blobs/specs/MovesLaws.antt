@@ -2,10 +2,10 @@
 use Rattle.std.proofs.Common.{◌≡◌, ⊎_elim, ℕ, ◌+◌, ◌-◌, ◌<◌, ◌≤◌, List, ◌++◌, length, take, drop, get_or, refl, ap, ◌∙◌, arith, length-append}
 use Rattle.std.proofs.lemmas.Bool.{cases_lt}
 use Rattle.std.proofs.lemmas.List.{length-take-le, length-drop, get_or-take, get_or-drop, get_or_append_left, get_or-append_right}
-use Rattle.blobs.specs.Moves.{IsMoved, moved}
+use Rattle.blobs.specs.Moves.{IsMoved, with_moved}
 
 -- one block
-pub moved_bytes : (old : List ℕ) (at : ℕ) (others : List ℕ) (from len : ℕ) (new : List ℕ) → at + len ≤ length old → from + len ≤ length others → new ≡ moved old at others from len
+pub moved_bytes : (old : List ℕ) (at : ℕ) (others : List ℕ) (from len : ℕ) (new : List ℕ) → at + len ≤ length old → from + len ≤ length others → new ≡ with_moved old at others from len
     → IsMoved old at others from len new
 moved_bytes old at others from len new room there is =
     let front : List ℕ = take at old in

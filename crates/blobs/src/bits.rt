@@ -2,7 +2,7 @@
 ghost use Rattle.std.specs.Prelude.{ℕ, ◌≡◌, ◌+◌, ◌*◌, ◌%◌, ◌^◌, ◌<◌, ◌≤◌, ◌↔◌, IsTrue, length};
 ghost use Rattle.std.specs.Int.{bit_at};
 ghost use Rattle.places.specs.Image.{number};
-ghost use Rattle.blobs.specs.Bits.{bit_of, IsWhole};
+ghost use Rattle.blobs.specs.Bits.{bit_of, IsWholeBytes};
 ghost use Rattle.blobs.specs.Turned.{turned_place, IsTurned};
 
 use crate::blob::Blob;
@@ -13,7 +13,7 @@ use crate::word::{bits_in_word, with_bits};
 fn is_whole(n: u32) -> bool
     requires some { 0 < n }
     requires few { n ≤ 64 }
-    ensures { IsTrue result ↔ IsWhole n }
+    ensures { IsTrue result ↔ IsWholeBytes n }
 {
     if n <= 16 { n % 8 == 0 } else { n % 32 == 0 }
 }
@@ -23,7 +23,7 @@ impl Blob {
     /// lead to a load of that size: a table of jumps takes longer.
     #[inline(always)]
     pub fn whole(&self, first: u64, n: u32) -> u64
-        requires whole { IsWhole n }
+        requires whole { IsWholeBytes n }
         requires within { 8 * first + n ≤ 8 * length self.now }
         ensures { result ≡ number (λ k. bit_of self.now (8 * first + k)) n }
     {
@@ -44,7 +44,7 @@ impl Blob {
     /// Makes the `n` bits from byte `first` on those of `value`, least significant first: one store. All other bits stay.
     #[inline(always)]
     pub fn put_whole(&mut self, first: u64, n: u32, value: u64)
-        requires whole { IsWhole n }
+        requires whole { IsWholeBytes n }
         requires within { 8 * first + n ≤ 8 * length self.old }
         requires fits { value < 2 ^ n }
         ensures inside { (k : ℕ) → k < n → bit_of self.new (8 * first + k) ≡ bit_at value k }

@@ -3,7 +3,7 @@ ghost use Rattle.std.specs.Prelude.{◌≡◌, ◌+◌, ◌<◌, ◌≤◌, ◌+
 ghost use Rattle.std.specs.Int.{bytes_low_first, bytes_high_first};
 ghost use Rattle.byteorder.specs.Endian.{little_from};
 ghost use Rattle.blobs.specs.Bits.{AreBytes};
-ghost use Rattle.blobs.specs.Moves.{moved};
+ghost use Rattle.blobs.specs.Moves.{with_moved};
 ghost use Rattle.blobs.specs.Turned.{turned_from};
 
 use crate::lease::Lease;
@@ -272,7 +272,7 @@ impl Blob {
         requires few { len ≤ 64 }
         requires room { at + len ≤ length self.old }
         requires there { from + len ≤ length source.now }
-        ensures bytes { self.new ≡ moved self.old at source.now from len }
+        ensures bytes { self.new ≡ with_moved self.old at source.now from len }
         ensures step { steps.new ≡ steps.old + 1 }
     {
         steps.tick();
@@ -284,7 +284,7 @@ impl Blob {
         requires few { len ≤ 64 }
         requires room { at + len ≤ length self.old }
         requires there { from + len ≤ length source.now }
-        ensures { self.new ≡ moved self.old at source.now from len }
+        ensures { self.new ≡ with_moved self.old at source.now from len }
     {
         let places = &source.places;
         let mut block = [0u8; 64];

@@ -1,5 +1,5 @@
 -- A table under the mapping of a line, a kernel of a line, and a copy do what the commands of these lines do.
-use Rattle.c_lines.proofs.Imports.{◌≡◌, ⊎_elim, ℕ, ◌+◌, ◌*◌, ◌^◌, ◌≤◌, ℤ, Bool, true, false, List, [], ◌∷◌, Option, Some, None, Ok, Err, refl, ap, ◌∙◌, cases_Bool, kernel_fault, number_of, KernelFault, Kernel, Spot, refused_at, File, Relayout, Term, same_text, Fields, Table, answer_of, all_read, are_alike, copied, copy, laid_anew, relayout, with_rows, fit_kernel, kernel_run, number_text, run, run_fault, nameless, text_of_leaf, Done, done_to, on_view, with_table, Outcome, Goes, Faults, CannotRead, ◌>>=◌, Left, quiet, shows, step, live_bits, made, World, Entry, found, replaced, same_name, Answer, First, Agrees, CopiesAgree, IsCause, IsLeft, KernelsAgree, LayoutsAgree, both_left, target_after, told_rows, was_copied, Fitted, left_by, number_told, run_left, line_told, after_relaid, relaid, told, done_of, kernel_refusal}
+use Rattle.c_lines.proofs.Imports.{◌≡◌, ⊎_elim, ℕ, ◌+◌, ◌*◌, ◌^◌, ◌≤◌, ℤ, Bool, true, false, List, [], ◌∷◌, Option, Some, None, Ok, Err, refl, ap, ◌∙◌, cases_Bool, kernel_fault, given_number, KernelFault, Kernel, Spot, refused_at, File, Relayout, Term, same_text, Fields, Table, answer_of, all_read, are_alike, copied, copy, laid_anew, relayout, with_rows, fit_kernel, kernel_run, number_text, kernel_outcome, kernel_row_fault, nameless, text_of_leaf, Done, done_to, on_view, with_table, Outcome, Goes, Faults, CannotRead, ◌>>=◌, Left, quiet, shows, step, live_bits, made, World, Entry, found, replaced, same_name, Answer, First, Agrees, CopiesAgree, IsCause, IsLeft, KernelsAgree, LayoutsAgree, both_left, target_after, told_rows, was_copied, Fitted, left_by, number_told, run_left, line_answer, after_relaid, relaid, told, done_of, kernel_refusal}
 use Rattle.lane_kernels.specs.declared.fault.KernelFault.TheVariants as kernel
 use Rattle.worlds.specs.declared.fault.CommandFault.TheVariants.{Narrow}
 use Rattle.c_lines.specs.Answers as answer
@@ -39,7 +39,7 @@ by_mapping world name table (Faults cause) space plain = plain table.fields
 by_mapping world name table (CannotRead file) space plain = absurd plain
 
 tables_agree : (line name : List ℕ) (term : Term) (world : World) (table : Table) (files : List File) (unread : Bool) →
-    line_told First line ≡ Ok (Relayout name term) → world.mappings ≡ [] → found name world.views ≡ Some table → live_bits world.views + 8 * 2 ^ 28 ≤ 8 * 2 ^ 30 →
+    line_answer First line ≡ Ok (Relayout name term) → world.mappings ≡ [] → found name world.views ≡ Some table → live_bits world.views + 8 * 2 ^ 28 ≤ 8 * 2 ^ 30 →
     Agrees table.fields (λ left new. IsLeft (with_table world name new) [] left) (step world (Relayout name term) files unread) (relaid line table)
 unfolding step relayout
 tables_agree line name term world table files unread is none has space =
@@ -51,7 +51,7 @@ layouts_agree line name term world table files unread is none has space = given_
     (tables_agree line name term world table files unread is none has space)
 
 -- a kernel that runs
-kernel_cause : (fields : Fields) (cause : KernelFault) → IsCause fields (kernel_refusal cause) (run_fault fields cause)
+kernel_cause : (fields : Fields) (cause : KernelFault) → IsCause fields (kernel_refusal cause) (kernel_row_fault fields cause)
 kernel_cause fields kernel.Empty = refl
 kernel_cause fields (kernel.Range row leaf) = refl
 kernel_cause fields (kernel.Narrow row leaf) = refl
@@ -61,7 +61,7 @@ abbrev fitting : Outcome Kernel → ℕ → Answer Fitted
 fitting fit lanes = answer.◌>>=◌ (told fit) (λ kernel. Ok (record { kernel = kernel; lanes = lanes }))
 
 abbrev number_by : Answer Fitted → Table → Answer (Option ℤ)
-number_by given table = answer.◌>>=◌ given (λ fit. number_told (kernel_fault (answer_of table) fit.kernel table.rows) (number_of fit.kernel table.rows))
+number_by given table = answer.◌>>=◌ given (λ fit. number_told (kernel_fault (answer_of table) fit.kernel table.rows) (given_number fit.kernel table.rows))
 
 -- what such a command leaves of a world
 abbrev shown : World → List ℕ → Table → Outcome Done → Outcome Left
@@ -69,13 +69,13 @@ shown world name table outcome = done_to table outcome >>= λ new. shows (with_t
 
 by_fault : (world : World) (name : List ℕ) (table : Table) (fit : Fitted) (cause : Option KernelFault) → kernel_fault (answer_of table) fit.kernel table.rows ≡ cause →
     Agrees table.fields (λ left number. IsLeft (with_table world name (run_left fit table (kernel_fault (answer_of table) fit.kernel table.rows))) (number_text number) left)
-    (shown world name table (run table fit.kernel)) (number_told (kernel_fault (answer_of table) fit.kernel table.rows) (number_of fit.kernel table.rows))
+    (shown world name table (kernel_outcome table fit.kernel)) (number_told (kernel_fault (answer_of table) fit.kernel table.rows) (given_number fit.kernel table.rows))
 by_fault world name table fit None is = rw is refl
 by_fault world name table fit (Some cause) is = rw is (kernel_cause table.fields cause)
 
 by_fit : (world : World) (name : List ℕ) (table : Table) (lanes : ℕ) (fit : Outcome Kernel) → IsPlain Any fit →
     Agrees table.fields (λ left number. IsLeft (with_table world name (left_by (fitting fit lanes) table)) (number_text number) left)
-    (shown world name table (fit >>= run table)) (number_by (fitting fit lanes) table)
+    (shown world name table (fit >>= kernel_outcome table)) (number_by (fitting fit lanes) table)
 by_fit world name table lanes (Goes kernel) plain = by_fault world name table (record { kernel = kernel; lanes = lanes }) (kernel_fault (answer_of table) kernel table.rows) refl
 by_fit world name table lanes (Faults cause) plain = plain table.fields
 by_fit world name table lanes (CannotRead file) plain = absurd plain

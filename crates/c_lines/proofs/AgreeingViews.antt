@@ -1,5 +1,5 @@
 -- A view that two lines describe, with or without a dataset, is that of the commands of these lines.
-use Rattle.c_lines.proofs.Imports.{if◌then◌else◌, unwrap_or, ◌≡◌, ℕ, ◌^◌, ℤ, nat_lt, Bool, true, false, List, [], length, Option, Some, None, Result, Ok, Err, refl, sym, ap, ◌∙◌, records_of, rows_of, dataset_of, RowFault, File, file_of, New, Define, View, Load, first_fault, Tree, Fields, End, BadRecord, Table, define, fields_in, filled, load, loaded, loaded_table, row_fault, refused_if, step, made, resolved, named, new_table, view, with_view, World, added, found, same_name, TooBig, First, Second, Agrees, IsCause, IsLeft, DatasetsAgree, LoadsAgree, ViewsAgree, both_steps, fields_for, world_with, described, line_told, with_dataset, told, row_refusal}
+use Rattle.c_lines.proofs.Imports.{if◌then◌else◌, unwrap_or, ◌≡◌, ℕ, ◌^◌, ℤ, nat_lt, Bool, true, false, List, [], length, Option, Some, None, Result, Ok, Err, refl, sym, ap, ◌∙◌, csv_records, records_behind, dataset_of, RowFault, File, file_named, New, Define, View, Load, record_fault, Tree, Fields, End, BadRecord, Table, define, fields_in, filled, load, loaded, loaded_table, row_fault, refused_if, step, made, resolved, named, new_table, view, with_view, World, added, found, same_name, TooBig, First, Second, Agrees, IsCause, IsLeft, DatasetsAgree, LoadsAgree, ViewsAgree, both_steps, fields_for, world_with, described, line_answer, with_dataset, told, row_refusal}
 use Rattle.csv_rows.specs.declared.fault.RowFault.TheVariants as row
 use Rattle.c_lines.specs.Lines as lines
 use Rattle.c_lines.proofs.Agreeing.{Any, plain_any, plain_then, plain_if, agrees_told, agrees_then, agrees_behind, agrees_left}
@@ -16,34 +16,34 @@ row_cause fields (row.Range at leaf) own = refl
 row_cause fields (row.Narrow at leaf) own = refl
 row_cause fields row.NoMemory own = absurd own
 
-by_rows : (fields : Fields) (table : Table) (csv : List ℕ) (rows : Result (List (List ℤ)) RowFault) → table.fields ≡ fields → dataset_of table (records_of csv) ≡ rows → IsOwn rows →
-    Agrees fields (λ a b. a ≡ b) (filled table (records_of csv)) (with_dataset table (dataset_of table (records_of csv)))
+by_rows : (fields : Fields) (table : Table) (csv : List ℕ) (rows : Result (List (List ℤ)) RowFault) → table.fields ≡ fields → dataset_of table (csv_records csv) ≡ rows → IsOwn rows →
+    Agrees fields (λ a b. a ≡ b) (filled table (csv_records csv)) (with_dataset table (dataset_of table (csv_records csv)))
 by_rows fields table csv (Ok rows) same is own = rw is refl
 by_rows fields table csv (Err fault) same is own =
     let cause : IsCause fields (row_refusal fault) (row_fault table.fields fault) = rw same (row_cause fields fault own) in
     rw is cause
 
-values_agree : (fields : Fields) (table : Table) (csv : List ℕ) → table.fields ≡ fields → Agrees fields (λ a b. a ≡ b) (filled table (records_of csv)) (with_dataset table (dataset_of table (records_of csv)))
-values_agree fields table csv same = by_rows fields table csv (dataset_of table (records_of csv)) same refl (own_rows table (records_of csv))
+values_agree : (fields : Fields) (table : Table) (csv : List ℕ) → table.fields ≡ fields → Agrees fields (λ a b. a ≡ b) (filled table (csv_records csv)) (with_dataset table (dataset_of table (csv_records csv)))
+values_agree fields table csv same = by_rows fields table csv (dataset_of table (csv_records csv)) same refl (own_rows table (csv_records csv))
 
 -- the table of a dataset
-tables_agree : (world : World) (fields : Fields) (new : New) (file csv : List ℕ) (files : List File) → world.views ≡ [] → ((f : Fields) → found new.schema world.records ≡ Some f → f ≡ fields) → file_of files file ≡ Some csv →
-    Agrees fields (λ a b. a ≡ b) (loaded_table world new file files false) (lines.filled world new csv)
+tables_agree : (world : World) (fields : Fields) (new : New) (file csv : List ℕ) (files : List File) → world.views ≡ [] → ((f : Fields) → found new.schema world.records ≡ Some f → f ≡ fields) → file_named files file ≡ Some csv →
+    Agrees fields (λ a b. a ≡ b) (loaded_table world new file files false) (lines.dataset_filled world new csv)
 unfolding loaded_table loaded
 tables_agree world fields new file csv files none only has =
     agrees_then (λ whole. whole.fields ≡ fields) fields (λ a b. a ≡ b) (named world new) _ _ (plain_named world new fields none only)
     (λ whole same. rw (has, none)
     (let long = nat_lt (2 ^ 28) (length csv) in
-    let rows = Some (length (rows_of (records_of csv))) in
+    let rows = Some (length (records_behind (csv_records csv))) in
     agrees_then (λ passed. long ≡ false) fields (λ a b. a ≡ b) (refused_if long TooBig) _ _ (plain_if long TooBig (λ f. refl))
     (λ short any. agrees_behind Any (λ table. table.fields ≡ whole.fields) fields (λ a b. a ≡ b) (resolved new.words rows) (λ extents. made [] whole.mode whole.fields extents whole.mapping) _ _
     (plain_resolved new.words rows) (λ extents more. plain_made [] whole.mode whole.fields extents whole.mapping)
     (λ zeros is. values_agree fields zeros csv (is ∙ same)))))
 
-step_agrees : (world : World) (fields : Fields) (new : New) (file csv : List ℕ) (files : List File) → world.views ≡ [] → ((f : Fields) → found new.schema world.records ≡ Some f → f ≡ fields) → file_of files file ≡ Some csv →
-    Agrees fields (λ left table. IsLeft (with_view world new.name table) [] left) (step world (Load new file) files false) (lines.filled world new csv)
+step_agrees : (world : World) (fields : Fields) (new : New) (file csv : List ℕ) (files : List File) → world.views ≡ [] → ((f : Fields) → found new.schema world.records ≡ Some f → f ≡ fields) → file_named files file ≡ Some csv →
+    Agrees fields (λ left table. IsLeft (with_view world new.name table) [] left) (step world (Load new file) files false) (lines.dataset_filled world new csv)
 unfolding step load
-step_agrees world fields new file csv files none only has = agrees_left fields (λ table. with_view world new.name table) (loaded_table world new file files false) (lines.filled world new csv)
+step_agrees world fields new file csv files none only has = agrees_left fields (λ table. with_view world new.name table) (loaded_table world new file files false) (lines.dataset_filled world new csv)
     (tables_agree world fields new file csv files none only has)
 
 pub loads_agree : LoadsAgree
@@ -72,18 +72,18 @@ new_agrees name fields new files =
     (λ whole same. plain_then Any Any (resolved new.words None) _ (plain_resolved new.words None)
     (λ extents any. plain_any (λ table. table.fields ≡ whole.fields) (made [] whole.mode whole.fields extents whole.mapping) (plain_made [] whole.mode whole.fields extents whole.mapping)))))
 
-views_by : (first second name : List ℕ) (tree : Tree) (new : New) (files : List File) (bad : Option BadRecord) → line_told First first ≡ Ok (Define name tree) → line_told Second second ≡ Ok (View new) → first_fault tree ≡ bad →
+views_by : (first second name : List ℕ) (tree : Tree) (new : New) (files : List File) (bad : Option BadRecord) → line_answer First first ≡ Ok (Define name tree) → line_answer Second second ≡ Ok (View new) → record_fault tree ≡ bad →
     Agrees (fields_in tree) (λ left table. IsLeft (world_with name (fields_in tree) new table) [] left) (both_steps (Define name tree) (View new) files) (described first second)
 unfolding step define
 views_by first second name tree new files (Some bad) one two is = rw (one, two, is) refl
 views_by first second name tree new files None one two is = rw (one, two, is) (new_agrees name (fields_in tree) new files)
 
 pub views_agree : ViewsAgree
-views_agree first second name tree new files one two = views_by first second name tree new files (first_fault tree) one two refl
+views_agree first second name tree new files one two = views_by first second name tree new files (record_fault tree) one two refl
 
 -- views of datasets
 datasets_by : (first second name : List ℕ) (tree : Tree) (new : New) (file csv : List ℕ) (files : List File) (bad : Option BadRecord) →
-    line_told First first ≡ Ok (Define name tree) → line_told Second second ≡ Ok (Load new file) → file_of files file ≡ Some csv → first_fault tree ≡ bad →
+    line_answer First first ≡ Ok (Define name tree) → line_answer Second second ≡ Ok (Load new file) → file_named files file ≡ Some csv → record_fault tree ≡ bad →
     Agrees (fields_in tree) (λ left table. IsLeft (world_with name (fields_in tree) new table) [] left) (both_steps (Define name tree) (Load new file) files) (lines.loaded first second csv)
 unfolding step define
 datasets_by first second name tree new file csv files (Some bad) one two has is = rw (one, two, is) refl
@@ -91,4 +91,4 @@ datasets_by first second name tree new file csv files None one two has is = rw (
     (step_agrees (of_record name (fields_in tree)) (fields_in tree) new file csv files refl (λ f known. only_one name new.schema (fields_in tree) f known) has)
 
 pub datasets_agree : DatasetsAgree
-datasets_agree first second name tree new file csv files one two has = datasets_by first second name tree new file csv files (first_fault tree) one two has refl
+datasets_agree first second name tree new file csv files one two has = datasets_by first second name tree new file csv files (record_fault tree) one two has refl

@@ -1,6 +1,6 @@
 -- A dataset is a table, or is refused by a fault of its own: want of memory is none.
-use Rattle.c_lines.proofs.Imports.{ℕ, ◌+◌, ℤ, List, [], ◌∷◌, Option, Some, None, Result, Ok, Err, slice_get, enumerate_from, texts_of, Leaf, Place, columns_named, columns_of, dataset_table, header_of, one_column, row_values, rows_of, table_from, taken, the_field, the_number, unspaced, value_at, with_columns, dataset_of, RowFault, StoreMode, Hold, LeafType, store_answer, Table, leaf_types_of, table_holds, StoreFault}
-use Rattle.csv_rows.specs.Datasets.{◌>>=◌, number_of}
+use Rattle.c_lines.proofs.Imports.{ℕ, ◌+◌, ℤ, List, [], ◌∷◌, Option, Some, None, Result, Ok, Err, slice_get, enumerate_from, texts_of, Leaf, Place, columns_named, columns_of, dataset_table, header_record, one_column, row_values, records_behind, table_from, taken, the_field, the_number, unspaced, value_at, with_columns, dataset_of, RowFault, StoreMode, Hold, LeafType, store_answer, Table, leaf_types_of, table_holds, StoreFault}
+use Rattle.csv_rows.specs.Datasets.{◌>>=◌, number_behind_sign}
 use Rattle.csv_rows.specs.declared.fault.RowFault.TheVariants.{NoMemory}
 use Rattle.views.specs.declared.fault.StoreFault.TheVariants as store
 
@@ -42,7 +42,7 @@ own_taken place (Err store.Narrow) = tt
 
 own_value : (place : Place) (fields : List (List ℕ)) → IsOwn (value_at place fields)
 own_value place fields = own_then (the_field place (slice_get fields place.column)) _ (own_field place (slice_get fields place.column))
-    (λ field. own_then (the_number place (number_of (unspaced field))) _ (own_number place (number_of (unspaced field)))
+    (λ field. own_then (the_number place (number_behind_sign (unspaced field))) _ (own_number place (number_behind_sign (unspaced field)))
     (λ value. own_taken place (store_answer place.mode place.kind place.hold value)))
 
 own_row : (row : ℕ) (fields : List (List ℕ)) (leaf : ℕ) (leaves : List Leaf) → IsOwn (row_values row fields leaf leaves)
@@ -59,8 +59,8 @@ own_table row (fields ∷ rows) leaves = own_then (row_values row fields 0 leave
 
 own_dataset : (mode : StoreMode) (names : List (List ℕ)) (kinds : List LeafType) (holds : List Hold) (records : List (List (List ℕ))) → IsOwn (dataset_table mode names kinds holds records)
 unfolding dataset_table
-own_dataset mode names kinds holds records = own_then (columns_of (header_of records) 0 names) _ (own_columns (header_of records) 0 names)
-    (λ columns. own_table 0 (rows_of records) (with_columns mode columns kinds holds))
+own_dataset mode names kinds holds records = own_then (columns_of (header_record records) 0 names) _ (own_columns (header_record records) 0 names)
+    (λ columns. own_table 0 (records_behind records) (with_columns mode columns kinds holds))
 
 pub own_rows : (table : Table) (records : List (List (List ℕ))) → IsOwn (dataset_of table records)
 own_rows table records = own_dataset table.mode (texts_of table.fields) (leaf_types_of table) (table_holds table) records

@@ -16,28 +16,28 @@ pub use Rattle.views.specs.Tables.{Table, answer_of, owners_of, blob_bits_of, le
 pub use Rattle.worlds.specs.Outcomes.{Outcome, Goes, Faults, CannotRead, ◌>>=◌, quiet, refused_if, refused_by, ok_or, some_or, Left, shows, known}
 pub use Rattle.worlds.specs.Worlds.{World, Entry, found, replaced, same_name, added, empty}
 pub use Rattle.worlds.specs.declared.fault.CommandFault.{CommandFault}
-pub use Rattle.lane_kernels.specs.Kernels.{kernel_fault, number_of}
+pub use Rattle.lane_kernels.specs.Kernels.{kernel_fault, given_number}
 pub use Rattle.lane_kernels.specs.declared.fault.KernelFault.{KernelFault}
 pub use Rattle.lane_kernels.specs.declared.kernel.Kernel.{Kernel}
 pub use Rattle.layout_copy.specs.Copies.{Spot, refused_at, IsCopied, source_log, AreAlike}
-pub use Rattle.layout_io.specs.Files.{File, file_of}
+pub use Rattle.layout_io.specs.Files.{File, file_named}
 pub use Rattle.line_grammar.specs.Sentences.{Relayout, New, Define, View, Load, Sentence, deepest, sentence_of}
 pub use Rattle.map_expr.specs.Terms.{Term, Split, Byteswap, Bytesplit, Change, Count, Heat, Named as Name, term_of}
 pub use Rattle.record_dim.specs.NameBytesLaws.{same_text, text_self}
 pub use Rattle.worlds.specs.Copy.{all_read, are_alike}
 unfoldable pub use Rattle.worlds.specs.Copy.{copied, copy, laid_anew, relayout, with_rows}
-pub use Rattle.worlds.specs.Kernel.{fit_kernel, number_text, run, run_fault, are_lanes, fits, fit_leaf, is_wide, is_factor, is_constant, are_bounds}
+pub use Rattle.worlds.specs.Kernel.{fit_kernel, number_text, kernel_outcome, kernel_row_fault, are_lanes, fits, fit_leaf, is_wide, is_factor, is_constant, are_bounds}
 unfoldable pub use Rattle.worlds.specs.Kernel.{kernel_run}
 pub use Rattle.worlds.specs.Names.{nameless, text_of_leaf, leaf_of}
 pub use Rattle.worlds.specs.OnView.{Done, done_to, with_table}
 unfoldable pub use Rattle.worlds.specs.OnView.{on_view}
 unfoldable pub use Rattle.worlds.specs.Step.{step}
 pub use Rattle.worlds.specs.Tables.{live_bits, made, resolved, shaped, mode_by, zeros_of, blob_bits}
-pub use Rattle.csv_rows.specs.Datasets.{records_of, rows_of, Leaf, Place, columns_named, columns_of, header_of, one_column, row_values, table_from, taken, the_field, the_number, unspaced, value_at, with_columns}
+pub use Rattle.csv_rows.specs.Datasets.{csv_records, records_behind, Leaf, Place, columns_named, columns_of, header_record, one_column, row_values, table_from, taken, the_field, the_number, unspaced, value_at, with_columns}
 unfoldable pub use Rattle.csv_rows.specs.Datasets.{dataset_table}
 pub use Rattle.csv_rows.specs.Loads.{dataset_of}
 pub use Rattle.csv_rows.specs.declared.fault.RowFault.{RowFault}
-pub use Rattle.record_dim.specs.Leaves.{first_fault, texts_of, kinds_of, paths_of}
+pub use Rattle.record_dim.specs.Leaves.{record_fault, texts_of, kinds_of, paths_of}
 pub use Rattle.record_dim.specs.declared.fault.BadRecord.{BadRecord}
 pub use Rattle.worlds.specs.Define.{fields_in}
 unfoldable pub use Rattle.worlds.specs.Define.{define}
@@ -46,7 +46,7 @@ unfoldable pub use Rattle.worlds.specs.Load.{load, loaded, loaded_table}
 pub use Rattle.worlds.specs.View.{named, with_view, Named}
 unfoldable pub use Rattle.worlds.specs.View.{new_table, view}
 pub use Rattle.worlds.specs.declared.fault.CommandFault.TheVariants.{TooBig, Unknown, BadExtents as OfExtents, BadMapping as OfMapping, BadKernel}
-pub use Rattle.command_checks.specs.Gives.{Gives}
+pub use Rattle.command_checks.specs.Inner.Gives.{Gives}
 pub use Rattle.command_checks.specs.declared.fault.StepFault.{StepFault}
 pub use Rattle.places.specs.Image.{bit_held, image}
 pub use Rattle.blobs.specs.Bits.{bits_of, AreBytes}
@@ -69,7 +69,7 @@ pub use Rattle.piece_bits.specs.Lows.{low_64}
 pub use Rattle.lane_kernels.proofs.Faults.{lane_inside, told_some}
 pub use Rattle.views.specs.Columns.{column, column_reads, column_writes, with_column, lane_fault, first_lane_fault}
 pub use Rattle.views.specs.ColumnsLaws.{length-with_column, no_column}
-pub use Rattle.views.specs.Runs.{raised, run_of, stored_count, told_lane, with_run, TakesAll}
+pub use Rattle.views.specs.LeafRuns.{raised, run_of, stored_count, told_lane, with_run, TakesAll}
 pub use Rattle.views.specs.RunsLaws.{declared_within, raised_all, run_length}
 pub use Rattle.views.specs.Tallies.{Read, Write, granules_for}
 pub use Rattle.views.specs.declared.fault.LaneFault.{LaneFault}
@@ -104,13 +104,13 @@ pub use Rattle.c_lines.specs.declared.refusal.TextOf.TheVariants.{First, Second}
 pub use Rattle.c_lines.specs.Copies.{target_after, told_rows, was_copied, source_after}
 pub use Rattle.c_lines.specs.KernelLines.{Fitted, left_by, number_told, run_left}
 pub use Rattle.c_lines.specs.Lines.{described, with_dataset, filled_as, zeros_for, shallow}
-unfoldable pub use Rattle.c_lines.specs.Lines.{line_told}
+unfoldable pub use Rattle.c_lines.specs.Lines.{line_answer}
 pub use Rattle.c_lines.specs.Relaid.{after_relaid, relaid, mapping_told, whole_told, zeros_told}
 pub use Rattle.c_lines.specs.declared.refusal.Refusal.{Refusal}
-pub use Rattle.c_lines.specs.Steps.{answered}
+pub use Rattle.c_lines.specs.Inner.Steps.{answered}
 pub use Rattle.c_lines.specs.Buffers.{blob_told}
 pub use Rattle.c_lines.specs.Refusals.{store_refusal}
-pub use Rattle.c_lines.specs.Runs.{after_run, told_run, IsFrontStored, IsSet}
+pub use Rattle.c_lines.specs.CallerRuns.{after_run, told_run, IsFrontStored, IsSet}
 pub use Rattle.c_lines.specs.Values.{reads_signed, reads_unsigned}
 pub use Rattle.c_lines.specs.declared.refusal.TextOf.{TextOf}
-pub use Rattle.c_lines.specs.Makes.{named_of, new_of, world_of}
+pub use Rattle.c_lines.specs.Inner.Makes.{named_of, new_of, world_of}

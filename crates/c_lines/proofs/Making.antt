@@ -1,5 +1,5 @@
 -- Views of the words of two lines, by the tests that refuse them.
-use Rattle.c_lines.proofs.Imports.{◌≡◌, inl, inr, ℕ, ◌^◌, ◌≤◌, true, false, nat_eq, nat_lt, List, [], length, Option, Some, None, Ok, Err, refl, sym, ap, subst, arith, nat_tests, pointwise, text_self, Fields, records_of, rows_of, dataset_of, ExtentWord, New, Term, Table, nameless, Outcome, Goes, Faults, CannotRead, ◌>>=◌, made, resolved, shaped, mode_by, Named, named, new_table, World, empty, added, Answer, Tells, Refusal, filled_as, with_dataset, zeros_for, told, refusal_of}
+use Rattle.c_lines.proofs.Imports.{◌≡◌, inl, inr, ℕ, ◌^◌, ◌≤◌, true, false, nat_eq, nat_lt, List, [], length, Option, Some, None, Ok, Err, refl, sym, ap, subst, arith, nat_tests, pointwise, text_self, Fields, csv_records, records_behind, dataset_of, ExtentWord, New, Term, Table, nameless, Outcome, Goes, Faults, CannotRead, ◌>>=◌, made, resolved, shaped, mode_by, Named, named, new_table, World, empty, added, Answer, Tells, Refusal, filled_as, with_dataset, zeros_for, told, refusal_of}
 use Rattle.c_lines.specs.Answers as answer
 use Rattle.c_lines.specs.declared.refusal.Refusal.TheVariants.{TooBig}
 use Rattle.c_lines.proofs.Answering.{Refuses, refused_then, told_goes}
@@ -68,15 +68,15 @@ zeros_made whole words rows extents result goes tells = rw goes tells
 is_short : (csv : List ℕ) → length csv ≤ 2 ^ 28 → nat_lt (2 ^ 28) (length csv) ≡ false
 is_short csv short = grind (arith, nat_tests)
 
-pub filled_refused : (whole : Named) (words : List ExtentWord) (csv : List ℕ) (rows : ℕ) (refusal : Refusal) (result : Answer Table) → length csv ≤ 2 ^ 28 → rows ≡ length (rows_of (records_of csv)) →
+pub filled_refused : (whole : Named) (words : List ExtentWord) (csv : List ℕ) (rows : ℕ) (refusal : Refusal) (result : Answer Table) → length csv ≤ 2 ^ 28 → rows ≡ length (records_behind (csv_records csv)) →
     result ≡ Err refusal → Refuses (zeros_for whole words (Some rows)) refusal → Tells (λ table. table) (filled_as whole words csv) result
 filled_refused whole words csv rows refusal result short many is refuses =
-    let zeros = zeros_for whole words (Some (length (rows_of (records_of csv)))) in
+    let zeros = zeros_for whole words (Some (length (records_behind (csv_records csv)))) in
     let same : Refuses zeros refusal = subst (λ (n : ℕ). Refuses (zeros_for whole words (Some n)) refusal) many refuses in
-    rw (is_short csv short) (refused_then (λ table. table) zeros (λ table. with_dataset table (dataset_of table (records_of csv))) refusal result is same)
+    rw (is_short csv short) (refused_then (λ table. table) zeros (λ table. with_dataset table (dataset_of table (csv_records csv))) refusal result is same)
 
-pub filled_made : (whole : Named) (words : List ExtentWord) (csv : List ℕ) (rows : ℕ) (zeros : Table) (result : Answer Table) → length csv ≤ 2 ^ 28 → rows ≡ length (rows_of (records_of csv)) →
-    zeros_for whole words (Some rows) ≡ Ok zeros → Tells (λ table. table) (with_dataset zeros (dataset_of zeros (records_of csv))) result → Tells (λ table. table) (filled_as whole words csv) result
+pub filled_made : (whole : Named) (words : List ExtentWord) (csv : List ℕ) (rows : ℕ) (zeros : Table) (result : Answer Table) → length csv ≤ 2 ^ 28 → rows ≡ length (records_behind (csv_records csv)) →
+    zeros_for whole words (Some rows) ≡ Ok zeros → Tells (λ table. table) (with_dataset zeros (dataset_of zeros (csv_records csv))) result → Tells (λ table. table) (filled_as whole words csv) result
 filled_made whole words csv rows zeros result short many made tells =
-    let same : zeros_for whole words (Some (length (rows_of (records_of csv)))) ≡ Ok zeros = subst (λ (n : ℕ). zeros_for whole words (Some n) ≡ Ok zeros) many made in
-    rw (is_short csv short) (subst (λ (given : Answer Table). Tells (λ table. table) (answer.◌>>=◌ given (λ table. with_dataset table (dataset_of table (records_of csv)))) result) (sym same) tells)
+    let same : zeros_for whole words (Some (length (records_behind (csv_records csv)))) ≡ Ok zeros = subst (λ (n : ℕ). zeros_for whole words (Some n) ≡ Ok zeros) many made in
+    rw (is_short csv short) (subst (λ (given : Answer Table). Tells (λ table. table) (answer.◌>>=◌ given (λ table. with_dataset table (dataset_of table (csv_records csv)))) result) (sym same) tells)

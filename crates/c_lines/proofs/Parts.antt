@@ -2,8 +2,8 @@
 use Rattle.c_lines.proofs.Imports.{◌≡◌, ℕ, suc, ◌+◌, ◌-◌, ◌^◌, ◌<◌, ◌≤◌, Bool, true, false, not, List, [], ◌∷◌, ◌++◌, length, map, take, drop, get_or, ℤ, pos, negsuc, ◌≤ℤ◌, Some, None, Result, Ok, Err, refl, sym, ap, subst, ◌∙◌, arith, length-drop, take_all, w64, cast_signed, cast_unsigned, range_with_len, option_or, take-add, ints, of_z-to_z, drop-drop, drop-map, get_or-map, get_or-take, length-map, length-take-le, take-append-drop, take-map, take-take, IsDeclared, is_signed, least_in, width_of, LeafType, range_split, hold_at, low_64, lane_inside, told_some, column, column_reads, column_writes, with_column, lane_fault, first_lane_fault, length-with_column, no_column, raised, run_of, stored_count, told_lane, with_run, TakesAll, declared_within, raised_all, run_length, Fits, Table, IsTable, answer_of, kept_of, leaf_count_of, leaf_type_of, table_holds, after_log, after_stores, after_write, Read, Write, after_log-none, after_log-append, after_stores-append, LaneFault, StoreFault, none_refused, kind_count, column_then, run_declared, run_stored, value_more, fault_here, first_taken, nothing_stored, fit_answer, fit_kept, map_same, store_refusal, after_run, told_run, IsFrontStored, IsSet, reads_signed, reads_unsigned, not-true}
 use Rattle.std.specs.Prelude.{Option}
 use Rattle.record_dim.specs.declared.leaf_type.LeafType.TheVariants as kinds
-use Rattle.views.specs.Runs.{run_fault}
-use Rattle.views.specs.Stores.{Answer, told}
+use Rattle.views.specs.LeafRuns.{run_fault}
+use Rattle.views.specs.Stores.{StoreAnswer, without_number}
 use Rattle.c_lines.specs.Answers as calls
 
 -- what is said of rows one after another, of those behind them too
@@ -56,7 +56,7 @@ moved_first : (n lane : ℕ) (result : Result ℤ StoreFault) (later other : Opt
 moved_first n lane (Ok kept) later other same = same
 moved_first n lane (Err fault) later other same = refl
 
-fault_moved : (answer : Answer) (leaf n lane at : ℕ) (values : List ℤ) → at ≡ n + lane → first_lane_fault answer leaf at values ≡ moved n (first_lane_fault answer leaf lane values)
+fault_moved : (answer : StoreAnswer) (leaf n lane at : ℕ) (values : List ℤ) → at ≡ n + lane → first_lane_fault answer leaf at values ≡ moved n (first_lane_fault answer leaf lane values)
 fault_moved answer leaf n lane at [] is = refl
 fault_moved answer leaf n lane at (value ∷ values) is =
     ap (λ (l : ℕ). option_or (lane_fault l (answer leaf value)) (first_lane_fault answer leaf (at + 1) values)) is
@@ -64,7 +64,7 @@ fault_moved answer leaf n lane at (value ∷ values) is =
     (fault_moved answer leaf n (lane + 1) (at + 1) values (omega (arith, is)))
 
 -- of values behind others
-fault_append : (answer : Answer) (leaf lane : ℕ) (xs ys : List ℤ)
+fault_append : (answer : StoreAnswer) (leaf lane : ℕ) (xs ys : List ℤ)
     → first_lane_fault answer leaf lane (xs ++ ys) ≡ option_or (first_lane_fault answer leaf lane xs) (moved (lane + length xs) (first_lane_fault answer leaf 0 ys))
 fault_append answer leaf lane [] ys = fault_moved answer leaf (lane + 0) 0 lane ys (omega arith)
 fault_append answer leaf lane (x ∷ xs) ys =
@@ -163,7 +163,7 @@ front_refused leaf first count values front old new fault inside are named store
 
 -- the first number alone
 pub one_stored : (leaf first : ℕ) (numbers : List ℕ) (old new : Table) → 0 < length numbers → first < length old.rows
-    → told (answer_of old leaf (pos (get_or numbers 0 0))) ≡ Ok tt → new ≡ after_write old first leaf (pos (get_or numbers 0 0)) → IsFrontStored leaf first (map (λ (n : ℕ). pos n) numbers) old new (Ok 1)
+    → without_number (answer_of old leaf (pos (get_or numbers 0 0))) ≡ Ok tt → new ≡ after_write old first leaf (pos (get_or numbers 0 0)) → IsFrontStored leaf first (map (λ (n : ℕ). pos n) numbers) old new (Ok 1)
 one_stored leaf first [] old new some inside taken wrote = absurd (omega (arith, some))
 one_stored leaf first (n ∷ numbers) old new some inside taken wrote =
     let values = map (λ (m : ℕ). pos m) (n ∷ numbers) in
@@ -174,7 +174,7 @@ one_stored leaf first (n ∷ numbers) old new some inside taken wrote =
     )
 
 pub one_refused : (leaf first : ℕ) (numbers : List ℕ) (old new : Table) (fault : StoreFault) → 0 < length numbers
-    → told (answer_of old leaf (pos (get_or numbers 0 0))) ≡ Err fault → new ≡ old → IsFrontStored leaf first (map (λ (n : ℕ). pos n) numbers) old new (Err (record { lane = 0; fault = fault }))
+    → without_number (answer_of old leaf (pos (get_or numbers 0 0))) ≡ Err fault → new ≡ old → IsFrontStored leaf first (map (λ (n : ℕ). pos n) numbers) old new (Err (record { lane = 0; fault = fault }))
 one_refused leaf first [] old new fault some refused same = absurd (omega (arith, some))
 one_refused leaf first (n ∷ numbers) old new fault some refused same =
     let values = map (λ (m : ℕ). pos m) (n ∷ numbers) in
@@ -217,7 +217,7 @@ module _ (leaf first count : ℕ) (numbers : List ℕ) (lows : List ℤ) (old : 
   pub all_stored : (new : Table) → new ≡ after_stores old (with_column leaf first (map (raised (leaf_type_of old leaf)) lows) old.rows) (column_writes leaf first (length lows))
       → IsFrontStored leaf first (map (λ (n : ℕ). pos n) numbers) old new (Ok count)
   all_stored new put = (
-    none_refused (answer_of old) leaf 0 part (λ k below. ap told (fit_answer old leaf (get_or part k (pos 0)) some (fits k below))),
+    none_refused (answer_of old) leaf 0 part (λ k below. ap without_number (fit_answer old leaf (get_or part k (pos 0)) some (fits k below))),
     put
         ∙ ap (λ (n : ℕ). after_stores old (with_column leaf first (map (raised (leaf_type_of old leaf)) lows) old.rows) (column_writes leaf first n)) long
         ∙ ap (λ (vs : List ℤ). after_stores old (with_column leaf first vs old.rows) (column_writes leaf first count))

@@ -1,12 +1,12 @@
 -- Tables that are laid out anew, by the tests that refuse them and by the copy.
-use Rattle.c_lines.proofs.Imports.{IfOk, ◌≡◌, inl, inr, ⊎_elim, ℕ, true, false, nat_lt, List, [], length, Option, Some, None, Result, Ok, Err, refl, sym, ap, subst, ◌∙◌, cases_Bool, AreAlike, Spot, refused_at, Sentence, deepest, Two, line_of, Term, StoreMode, Table, answer_of, nameless, Outcome, Goes, Faults, CannotRead, made, zeros_of, CommandFault, alike, StepFault, Answer, Tells, TellsLeft, Refusal, Narrow, TextOf, First, was_copied, source_after, target_after, told_rows, line_told, shallow, after_relaid, mapping_told, relaid, whole_told, zeros_told, told, done_of, refusal_of}
+use Rattle.c_lines.proofs.Imports.{IfOk, ◌≡◌, inl, inr, ⊎_elim, ℕ, true, false, nat_lt, List, [], length, Option, Some, None, Result, Ok, Err, refl, sym, ap, subst, ◌∙◌, cases_Bool, AreAlike, Spot, refused_at, Sentence, deepest, Two, line_of, Term, StoreMode, Table, answer_of, nameless, Outcome, Goes, Faults, CannotRead, made, zeros_of, CommandFault, alike, StepFault, Answer, Tells, TellsLeft, Refusal, Narrow, TextOf, First, was_copied, source_after, target_after, told_rows, line_answer, shallow, after_relaid, mapping_told, relaid, whole_told, zeros_told, told, done_of, refusal_of}
 use Rattle.line_grammar.specs.Sentences as line
 use Rattle.worlds.specs.declared.fault.CommandFault.TheVariants as fault
 use Rattle.c_lines.specs.Answers.{◌>>=◌}
 use Rattle.c_lines.proofs.Answering.{Refuses}
 
 -- the mapping of a line
-pub whole_as : {A : Type 0} (view : A → Term) (text : List ℕ) (sentence : Sentence) (term : Term) (result : Answer A) → line_told First text ≡ Ok sentence → mapping_told sentence ≡ Ok term →
+pub whole_as : {A : Type 0} (view : A → Term) (text : List ℕ) (sentence : Sentence) (term : Term) (result : Answer A) → line_answer First text ≡ Ok sentence → mapping_told sentence ≡ Ok term →
     Tells view (told (nameless [] term)) result → Tells view (whole_told text) result
 whole_as view text sentence term result one two tells = rw (one, two) tells
 
@@ -36,8 +36,8 @@ plain_shallow which (Ok sentence) = ⊎_elim
     (λ (low : nat_lt 32 (deepest sentence) ≡ false). rw low tt)
     (cases_Bool (nat_lt 32 (deepest sentence)))
 
-plain_line : (which : TextOf) (text : List ℕ) → Plain (line_told which text)
-unfolding line_told
+plain_line : (which : TextOf) (text : List ℕ) → Plain (line_answer which text)
+unfolding line_answer
 plain_line which text = ⊎_elim
     (λ (long : nat_lt 4096 (length text) ≡ true). rw long (λ table. refl))
     (λ (short : nat_lt 4096 (length text) ≡ false). rw short (plain_shallow which (line_of Two text)))
@@ -57,7 +57,7 @@ plain_told (Faults fault) = plain_fault fault
 plain_told (CannotRead name) = λ table. refl
 
 plain_whole : (text : List ℕ) → Plain (whole_told text)
-plain_whole text = plain_then (line_told First text) _ (plain_line First text)
+plain_whole text = plain_then (line_answer First text) _ (plain_line First text)
     (λ sentence. plain_then (mapping_told sentence) _ (plain_mapping sentence) (λ term. plain_told (nameless [] term)))
 
 plain_zeros : (text : List ℕ) (table : Table) → Plain (zeros_told text table)

@@ -1,6 +1,6 @@
 -- Calls by lines beside the commands of a script: they give the same, or are refused for the same cause.
 use Rattle.std.specs.Prelude.{ℕ, ◌≡◌, ◌+◌, ◌*◌, ◌^◌, ◌≤◌, Bool, false, List, [], Some, unwrap_or, Ok, Err}
-use Rattle.layout_io.specs.Files.{File, file_of}
+use Rattle.layout_io.specs.Files.{File, file_named}
 use Rattle.record_dim.specs.Trees.{Tree, Fields, End}
 use Rattle.piece_bits.specs.declared.mode.StoreMode.{StoreMode}
 use Rattle.line_grammar.specs.Sentences.{Sentence, New, Define, View, Load, Kernel, Copy, Relayout}
@@ -25,7 +25,7 @@ use Rattle.c_lines.specs.declared.refusal.Refusal.TheVariants as refusal
 use Rattle.c_lines.specs.declared.refusal.TextOf.TheVariants.{First, Second}
 use Rattle.c_lines.specs.Copies.{was_copied, source_after, target_after}
 use Rattle.c_lines.specs.KernelLines.{kernel_number, after_kernel}
-use Rattle.c_lines.specs.Lines.{line_told, described, filled, loaded}
+use Rattle.c_lines.specs.Lines.{line_answer, described, dataset_filled, loaded}
 use Rattle.c_lines.specs.Relaid.{relaid, after_relaid}
 use Rattle.c_lines.specs.Told.{done_of}
 
@@ -75,18 +75,18 @@ fields_for world new = unwrap_or (found new.schema world.records) End
 -- the view of a `record` line and a `view` line is that of a script of these lines
 abbrev pub ViewsAgree : Type 0
 ViewsAgree = (first second name : List ℕ) (tree : Tree) (new : New) (files : List File) →
-    line_told First first ≡ Ok (Define name tree) → line_told Second second ≡ Ok (View new) →
+    line_answer First first ≡ Ok (Define name tree) → line_answer Second second ≡ Ok (View new) →
     Agrees (fields_in tree) (λ left table. IsLeft (world_with name (fields_in tree) new table) [] left) (both_steps (Define name tree) (View new) files) (described first second)
 
 -- the table of a dataset is that of a `load` in a world without views, whose file holds the dataset
 abbrev pub LoadsAgree : Type 0
-LoadsAgree = (world : World) (new : New) (file csv : List ℕ) (files : List File) → world.views ≡ [] → file_of files file ≡ Some csv →
-    Agrees (fields_for world new) (λ left table. IsLeft (with_view world new.name table) [] left) (step world (Load new file) files false) (filled world new csv)
+LoadsAgree = (world : World) (new : New) (file csv : List ℕ) (files : List File) → world.views ≡ [] → file_named files file ≡ Some csv →
+    Agrees (fields_for world new) (λ left table. IsLeft (with_view world new.name table) [] left) (step world (Load new file) files false) (dataset_filled world new csv)
 
 -- and that of a `record` line and a `load` line is the one of a script of these lines
 abbrev pub DatasetsAgree : Type 0
 DatasetsAgree = (first second name : List ℕ) (tree : Tree) (new : New) (file csv : List ℕ) (files : List File) →
-    line_told First first ≡ Ok (Define name tree) → line_told Second second ≡ Ok (Load new file) → file_of files file ≡ Some csv →
+    line_answer First first ≡ Ok (Define name tree) → line_answer Second second ≡ Ok (Load new file) → file_named files file ≡ Some csv →
     Agrees (fields_in tree) (λ left table. IsLeft (world_with name (fields_in tree) new table) [] left) (both_steps (Define name tree) (Load new file) files) (loaded first second csv)
 
 -- a table that a command makes leaves room for the largest one
@@ -98,14 +98,14 @@ TablesLeaveRoom = (views : List (Entry Table)) (mode : StoreMode) (fields : Fiel
 -- leave room for the largest one
 abbrev pub LayoutsAgree : Type 0
 LayoutsAgree = (line name : List ℕ) (term : Term) (world : World) (table : Table) (files : List File) (unread : Bool) →
-    line_told First line ≡ Ok (Relayout name term) → world.mappings ≡ [] → found name world.views ≡ Some table → live_bits world.views + 8 * 2 ^ 28 ≤ 8 * 2 ^ 30 →
+    line_answer First line ≡ Ok (Relayout name term) → world.mappings ≡ [] → found name world.views ≡ Some table → live_bits world.views + 8 * 2 ^ 28 ≤ 8 * 2 ^ 30 →
     Agrees table.fields (λ left done. IsLeft (with_table world name (after_relaid (relaid line table) table)) [] left)
     (step world (Relayout name term) files unread) (done_of (relaid line table))
 
 -- a kernel of a line gives the number, and leaves the rows and the counts, of a `kernel` in a world in which the table has the name of the line
 abbrev pub KernelsAgree : Type 0
 KernelsAgree = (line name : List ℕ) (kernel : KernelText) (lanes : ℕ) (world : World) (table : Table) (files : List File) (unread : Bool) →
-    line_told First line ≡ Ok (Kernel name kernel lanes) → found name world.views ≡ Some table →
+    line_answer First line ≡ Ok (Kernel name kernel lanes) → found name world.views ≡ Some table →
     Agrees table.fields (λ left number. IsLeft (with_table world name (after_kernel line table)) (number_text number) left)
     (step world (Kernel name kernel lanes) files unread) (kernel_number line table)
 

@@ -9,36 +9,36 @@ abbrev pub Answer : Type 0 → Type 0
 Answer A = Result A Refusal
 
 -- the number of a refusal in C
-abbrev pub number_of : Refusal → ℤ
-number_of NoView = pos 1
-number_of NoPlace = pos 2
-number_of NoMemory = pos 3
-number_of NoRoom = pos 4
-number_of BadType = pos 5
-number_of (Range row leaf) = pos 6
-number_of (Narrow row leaf) = pos 7
-number_of Mismatch = pos 8
-number_of (Syntax text column) = pos 9
-number_of (TooDeep text) = pos 10
-number_of (OtherLine text) = pos 11
-number_of (LineTooLong text) = pos 12
-number_of Unknown = pos 13
-number_of (BadRecord bad) = pos 14
-number_of (BadExtents bad) = pos 15
-number_of (BadMapping bad) = pos 16
-number_of TooBig = pos 17
-number_of (BadKernel bad) = pos 18
-number_of Empty = pos 19
-number_of (MissingColumn leaf) = pos 20
-number_of (ColumnTwice leaf) = pos 21
-number_of (ShortRow row leaf) = pos 22
-number_of (Number row leaf) = pos 23
-number_of (BadFile bad) = pos 24
+abbrev pub refusal_number : Refusal → ℤ
+refusal_number NoView = pos 1
+refusal_number NoPlace = pos 2
+refusal_number NoMemory = pos 3
+refusal_number NoRoom = pos 4
+refusal_number BadType = pos 5
+refusal_number (Range row leaf) = pos 6
+refusal_number (Narrow row leaf) = pos 7
+refusal_number Mismatch = pos 8
+refusal_number (Syntax text column) = pos 9
+refusal_number (TooDeep text) = pos 10
+refusal_number (OtherLine text) = pos 11
+refusal_number (LineTooLong text) = pos 12
+refusal_number Unknown = pos 13
+refusal_number (BadRecord bad) = pos 14
+refusal_number (BadExtents bad) = pos 15
+refusal_number (BadMapping bad) = pos 16
+refusal_number TooBig = pos 17
+refusal_number (BadKernel bad) = pos 18
+refusal_number Empty = pos 19
+refusal_number (MissingColumn leaf) = pos 20
+refusal_number (ColumnTwice leaf) = pos 21
+refusal_number (ShortRow row leaf) = pos 22
+refusal_number (Number row leaf) = pos 23
+refusal_number (BadFile bad) = pos 24
 
 -- the number of an answer in C
 abbrev pub code_of : {A : Type 0} → Answer A → ℤ
 code_of (Ok given) = pos 0
-code_of (Err refusal) = number_of refusal
+code_of (Err refusal) = refusal_number refusal
 
 -- one answer after another: behind a refusal comes nothing
 infixl 10 ◌>>=◌

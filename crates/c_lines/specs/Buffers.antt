@@ -1,7 +1,7 @@
 -- Bytes that are copied into the buffer of a caller, and what they are.
 use Rattle.std.specs.Prelude.{ℕ, ◌≡◌, ◌⊎◌, ◌++◌, List, [], length, drop, nat_le, nat_lt, slice_index_or, Result, Ok, Err, if◌then◌else◌}
 use Rattle.blob_file.specs.Files.{file_of}
-use Rattle.blob_file.specs.Opened.{Saved, opened, table_of}
+use Rattle.blob_file.specs.Opened.{Saved, opened, table_of_saved}
 use Rattle.blob_file.specs.Saving.{blobs_of, header_of}
 use Rattle.blob_file.specs.declared.fault.FileFault.{FileFault}
 use Rattle.blob_file.specs.declared.fault.FileFault.TheVariants as fault
@@ -33,7 +33,7 @@ needed_after (Ok bytes) old = length bytes
 needed_after (Err refused) old = old
 
 -- all of this, but memory may run out at any time, and then both stay
-pub record IsPut (told : Answer (List ℕ)) (buffer : List ℕ) (needed : ℕ) (answer : Answer (Unit {0})) (buffer_new : List ℕ) (needed_new : ℕ) : Type 0 where
+pub record IsPutOrNot (told : Answer (List ℕ)) (buffer : List ℕ) (needed : ℕ) (answer : Answer (Unit {0})) (buffer_new : List ℕ) (needed_new : ℕ) : Type 0 where
   pub answered : answer ≡ put_told told buffer
   pub filled : buffer_new ≡ buffer_after told buffer
   pub counted : needed_new ≡ needed_after told needed
@@ -44,7 +44,7 @@ pub record IsStarved (buffer : List ℕ) (needed : ℕ) (answer : Answer (Unit {
   pub still : needed_new ≡ needed
 
 abbrev pub TellsPut : Answer (List ℕ) → List ℕ → ℕ → Answer (Unit {0}) → List ℕ → ℕ → Type 0
-TellsPut told buffer needed answer buffer_new needed_new = IsStarved buffer needed answer buffer_new needed_new ⊎ IsPut told buffer needed answer buffer_new needed_new
+TellsPut told buffer needed answer buffer_new needed_new = IsStarved buffer needed answer buffer_new needed_new ⊎ IsPutOrNot told buffer needed answer buffer_new needed_new
 
 -- the text of a table
 abbrev pub printed : Table → List ℕ
@@ -68,7 +68,7 @@ file_refusal fault.Contents = BadFile bad.Contents
 file_refusal fault.NoMemory = NoMemory
 
 abbrev pub saved_table : Result Saved FileFault → Answer Table
-saved_table (Ok saved) = Ok (table_of saved)
+saved_table (Ok saved) = Ok (table_of_saved saved)
 saved_table (Err found) = Err (file_refusal found)
 
 abbrev pub opened_told : List ℕ → Answer Table

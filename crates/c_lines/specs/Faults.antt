@@ -73,30 +73,30 @@ cause_of (refusal.BadFile bad) = file_cause bad
 cause_of _ = pos 0
 
 -- the row and the leaf that it names, and the column of a text; 0 where it names none
-abbrev pub row_of : Refusal → ℕ
-row_of (refusal.Range row leaf) = row
-row_of (refusal.Narrow row leaf) = row
-row_of (refusal.ShortRow row leaf) = row
-row_of (refusal.Number row leaf) = row
-row_of _ = 0
+abbrev pub row_named : Refusal → ℕ
+row_named (refusal.Range row leaf) = row
+row_named (refusal.Narrow row leaf) = row
+row_named (refusal.ShortRow row leaf) = row
+row_named (refusal.Number row leaf) = row
+row_named _ = 0
 
-abbrev pub leaf_of : Refusal → ℕ
-leaf_of (refusal.Range row leaf) = leaf
-leaf_of (refusal.Narrow row leaf) = leaf
-leaf_of (refusal.MissingColumn leaf) = leaf
-leaf_of (refusal.ColumnTwice leaf) = leaf
-leaf_of (refusal.ShortRow row leaf) = leaf
-leaf_of (refusal.Number row leaf) = leaf
-leaf_of _ = 0
+abbrev pub leaf_named : Refusal → ℕ
+leaf_named (refusal.Range row leaf) = leaf
+leaf_named (refusal.Narrow row leaf) = leaf
+leaf_named (refusal.MissingColumn leaf) = leaf
+leaf_named (refusal.ColumnTwice leaf) = leaf
+leaf_named (refusal.ShortRow row leaf) = leaf
+leaf_named (refusal.Number row leaf) = leaf
+leaf_named _ = 0
 
 abbrev pub column_of : Refusal → ℕ
 column_of (refusal.Syntax text column) = column
 column_of _ = 0
 
 abbrev pub fault_of : Refusal → Fault
-fault_of refused = record { cause = cause_of refused; row = row_of refused; leaf = leaf_of refused; column = column_of refused }
+fault_of refused = record { cause = cause_of refused; row = row_named refused; leaf = leaf_named refused; column = column_of refused }
 
 -- what a call tells of its fault: a call that is done leaves what the caller had there
-abbrev pub fault_or : {A : Type 0} → Fault → Answer A → Fault
-fault_or old (Ok given) = old
-fault_or old (Err refused) = fault_of refused
+abbrev pub fault_left : {A : Type 0} → Fault → Answer A → Fault
+fault_left old (Ok given) = old
+fault_left old (Err refused) = fault_of refused

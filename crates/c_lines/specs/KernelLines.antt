@@ -1,7 +1,7 @@
 -- A kernel that a `kernel` line names.
 use Rattle.std.specs.Prelude.{ℕ, ℤ, List, length, Option, Some, None, Ok, Err}
-use Rattle.lane_kernels.specs.Kernels.{kernel_fault, number_of, rows_before, run_rows}
-use Rattle.lane_kernels.specs.Logs.{rows_log, fault_log}
+use Rattle.lane_kernels.specs.Kernels.{kernel_fault, given_number, rows_before, run_rows}
+use Rattle.lane_kernels.specs.Logs.{kernel_rows_log, fault_log}
 use Rattle.lane_kernels.specs.declared.fault.KernelFault.{KernelFault}
 use Rattle.lane_kernels.specs.declared.kernel.Kernel.{Kernel}
 use Rattle.line_grammar.specs.Sentences as line
@@ -12,7 +12,7 @@ use Rattle.worlds.specs.Kernel.{fit_kernel}
 use Rattle.c_lines.specs.Answers.{Answer, ◌>>=◌}
 use Rattle.c_lines.specs.declared.refusal.Refusal.TheVariants.{OtherLine}
 use Rattle.c_lines.specs.declared.refusal.TextOf.TheVariants.{First}
-use Rattle.c_lines.specs.Lines.{line_told}
+use Rattle.c_lines.specs.Lines.{line_answer}
 use Rattle.c_lines.specs.Told.{told, kernel_refusal}
 
 -- the kernel of a line as it is written, and its lanes
@@ -36,7 +36,7 @@ fitted_as written table = do
 
 abbrev pub fitted : List ℕ → Table → Answer Fitted
 fitted text table = do
-  sentence ← line_told First text
+  sentence ← line_answer First text
   written ← kernel_told sentence
   fitted_as written table
 
@@ -48,11 +48,11 @@ number_told (Some fault) number = Err (kernel_refusal fault)
 abbrev pub kernel_number : List ℕ → Table → Answer (Option ℤ)
 kernel_number text table = do
   fit ← fitted text table
-  number_told (kernel_fault (answer_of table) fit.kernel table.rows) (number_of fit.kernel table.rows)
+  number_told (kernel_fault (answer_of table) fit.kernel table.rows) (given_number fit.kernel table.rows)
 
 -- the table after it: a fault leaves the rows before it changed
 abbrev pub run_left : Fitted → Table → Option KernelFault → Table
-run_left fit table None = after_stores table (run_rows (kept_of table) fit.kernel (length table.rows) table.rows) (rows_log fit.kernel (length table.rows))
+run_left fit table None = after_stores table (run_rows (kept_of table) fit.kernel (length table.rows) table.rows) (kernel_rows_log fit.kernel (length table.rows))
 run_left fit table (Some fault) = after_stores table (run_rows (kept_of table) fit.kernel (rows_before fault) table.rows)
     (fault_log fit.kernel fit.lanes (length table.rows) fault)
 

@@ -3,13 +3,11 @@ pub mod Lines
 pub mod Copies
 pub mod Relaid
 pub mod KernelLines
-pub mod Steps
-pub mod Makes
-pub mod Kernels
 pub mod Agreement
 pub mod Answers
 pub mod Faults
 pub mod Refusals
 pub mod Values
-pub mod Runs
+pub mod CallerRuns
 pub mod Buffers
+pub mod Inner

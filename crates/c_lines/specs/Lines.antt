@@ -1,6 +1,6 @@
 -- What the lines of a call describe: they are lines of the second version of the language, and mean what they mean in a script.
 use Rattle.std.specs.Prelude.{ℕ, ℤ, ◌^◌, Bool, true, false, List, [], length, nat_lt, Option, Some, Result, Ok, Err, if◌then◌else◌}
-use Rattle.csv_rows.specs.Datasets.{records_of, rows_of}
+use Rattle.csv_rows.specs.Datasets.{csv_records, records_behind}
 use Rattle.csv_rows.specs.Loads.{dataset_of}
 use Rattle.csv_rows.specs.declared.fault.RowFault.{RowFault}
 use Rattle.extents.specs.declared.words.ExtentWord.{ExtentWord}
@@ -26,8 +26,8 @@ abbrev pub shallow : TextOf → Result Sentence ℕ → Answer Sentence
 shallow text (Err column) = Err (Syntax text column)
 shallow text (Ok sentence) = if nat_lt 32 (deepest sentence) then Err (TooDeep text) else Ok sentence
 
-unfoldable pub line_told : TextOf → List ℕ → Answer Sentence
-line_told text bytes = if nat_lt 4096 (length bytes) then Err (LineTooLong text) else shallow text (line_of Two bytes)
+unfoldable pub line_answer : TextOf → List ℕ → Answer Sentence
+line_answer text bytes = if nat_lt 4096 (length bytes) then Err (LineTooLong text) else shallow text (line_of Two bytes)
 
 -- the world behind a `record` line
 abbrev pub world_told : Sentence → Answer World
@@ -37,10 +37,10 @@ world_told (Define name tree) = do
 world_told _ = Err (OtherLine First)
 
 -- what a `view` line makes, or, where a dataset is loaded, a `load` line, whose file is not looked at
-abbrev pub new_told : Bool → Sentence → Answer New
-new_told false (View new) = Ok new
-new_told true (Load new file) = Ok new
-new_told loads _ = Err (OtherLine Second)
+abbrev pub new_answer : Bool → Sentence → Answer New
+new_answer false (View new) = Ok new
+new_answer true (Load new file) = Ok new
+new_answer loads _ = Err (OtherLine Second)
 
 -- a world with a record, and what makes a view in it, of two lines
 pub record Asked : Type 0 where
@@ -49,10 +49,10 @@ pub record Asked : Type 0 where
 
 abbrev pub asked : Bool → List ℕ → List ℕ → Answer Asked
 asked loads first second = do
-  definition ← line_told First first
+  definition ← line_answer First first
   world ← world_told definition
-  sentence ← line_told Second second
-  new ← new_told loads sentence
+  sentence ← line_answer Second second
+  new ← new_answer loads sentence
   Ok (record { world = world; new = new })
 
 -- the table of zeros that two lines describe
@@ -76,12 +76,12 @@ zeros_for whole words rows = do
 abbrev pub filled_as : Named → List ExtentWord → List ℕ → Answer Table
 filled_as whole words csv = do
   short ← told (refused_if (nat_lt (2 ^ 28) (length csv)) TooBig)
-  zeros ← zeros_for whole words (Some (length (rows_of (records_of csv))))
-  with_dataset zeros (dataset_of zeros (records_of csv))
+  zeros ← zeros_for whole words (Some (length (records_behind (csv_records csv))))
+  with_dataset zeros (dataset_of zeros (csv_records csv))
 
 -- the table of a dataset for a view in a world
-abbrev pub filled : World → New → List ℕ → Answer Table
-filled world new csv = do
+abbrev pub dataset_filled : World → New → List ℕ → Answer Table
+dataset_filled world new csv = do
   whole ← told (named world new)
   filled_as whole new.words csv
 
@@ -89,4 +89,4 @@ filled world new csv = do
 abbrev pub loaded : List ℕ → List ℕ → List ℕ → Answer Table
 loaded first second csv = do
   what ← asked true first second
-  filled what.world what.new csv
+  dataset_filled what.world what.new csv

@@ -10,7 +10,7 @@ use Rattle.c_lines.specs.Answers.{Answer, ◌>>=◌}
 use Rattle.c_lines.specs.declared.refusal.Refusal.TheVariants.{OtherLine, Narrow}
 use Rattle.c_lines.specs.declared.refusal.TextOf.TheVariants.{First}
 use Rattle.c_lines.specs.Copies.{told_rows, target_after, reads_until}
-use Rattle.c_lines.specs.Lines.{line_told}
+use Rattle.c_lines.specs.Lines.{line_answer}
 use Rattle.c_lines.specs.Told.{told}
 
 -- the mapping of a line
@@ -21,7 +21,7 @@ mapping_told _ = Err (OtherLine First)
 -- the mapping of the text of a line; no other one has a name
 abbrev pub whole_told : List ℕ → Answer Term
 whole_told line = do
-  sentence ← line_told First line
+  sentence ← line_answer First line
   term ← mapping_told sentence
   told (nameless [] term)
 

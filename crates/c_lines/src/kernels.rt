@@ -4,7 +4,7 @@ ghost use Rattle.line_grammar.specs.Sentences.{sentence_of};
 ghost use Rattle.lane_kernels.specs.Kernels.{IsKernelOf};
 ghost use Rattle.c_lines.specs.Answers.{Tells, TellsLeft};
 ghost use Rattle.c_lines.specs.KernelLines.{after_kernel, fitted, fitted_as, kernel_number, kernel_told};
-ghost use Rattle.c_lines.specs.Kernels.{fitted_of, written_of};
+ghost use Rattle.c_lines.specs.Inner.Kernels.{fitted_of, written_of};
 
 use crate::lines::line_of;
 use crate::told::{answered, kernel_refusal};

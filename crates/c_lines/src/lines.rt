@@ -1,9 +1,9 @@
 // The line that a text of a call is.
 ghost use Rattle.std.specs.Prelude.{◌≡◌, ◌≤◌, IfOk};
 ghost use Rattle.line_grammar.specs.Sentences.{sentence_of};
-ghost use Rattle.schema_lang.specs.Parsing.{IsWhole};
+ghost use Rattle.schema_lang.specs.Parsing.{HasItsFields};
 ghost use Rattle.c_lines.specs.Answers.{Tells};
-ghost use Rattle.c_lines.specs.Lines.{line_told};
+ghost use Rattle.c_lines.specs.Lines.{line_answer};
 
 use crate::{Refusal, TextOf};
 use line_grammar::{Line, Version};
@@ -11,10 +11,10 @@ use schema_lang::{LineFault, MAX_LINE_BYTES, parse_line};
 use std::alloc::Global;
 
 /// The line of the second version of the language that a text is.
-#[tactic(auto, unfolding(crate::specs::Lines::line_told))]
+#[tactic(auto, unfolding(crate::specs::Lines::line_answer))]
 pub fn line_of(alloc: Global, text: &[u8], which: TextOf) -> Result<Line, Refusal>
-    ensures told { Tells sentence_of (line_told which text.now) result }
-    ensures whole { IfOk result IsWhole }
+    ensures told { Tells sentence_of (line_answer which text.now) result }
+    ensures whole { IfOk result HasItsFields }
 {
     if text.len() > MAX_LINE_BYTES {
         return Err(Refusal::LineTooLong(which));

@@ -1,16 +1,16 @@
 // A view of the two lines that describe it, and of a dataset.
 ghost use Rattle.std.specs.Prelude.{◌≡◌, ◌<◌, IfOk, IfSome, OnOk, true, length};
-ghost use Rattle.csv_rows.specs.Datasets.{records_of, rows_of};
+ghost use Rattle.csv_rows.specs.Datasets.{csv_records, records_behind};
 ghost use Rattle.csv_rows.specs.Loads.{dataset_of};
 ghost use Rattle.extents.specs.Shapes.{IsShape};
 ghost use Rattle.line_grammar.specs.Sentences.{sentence_of};
-ghost use Rattle.schema_lang.specs.Parsing.{IsWhole};
+ghost use Rattle.schema_lang.specs.Parsing.{HasItsFields};
 ghost use Rattle.map_expr.specs.Terms.{term_of};
 ghost use Rattle.worlds.specs.View.{named, new_table};
-ghost use Rattle.command_checks.specs.Bases.{is_nameless};
+ghost use Rattle.command_checks.specs.Inner.Bases.{is_nameless};
 ghost use Rattle.c_lines.specs.Answers.{Tells};
-ghost use Rattle.c_lines.specs.Lines.{asked, described, filled_as, loaded, new_told, with_dataset, world_told, zeros_for};
-ghost use Rattle.c_lines.specs.Makes.{asked_filled, asked_of, named_of, new_of, world_of};
+ghost use Rattle.c_lines.specs.Lines.{asked, described, filled_as, loaded, new_answer, with_dataset, world_told, zeros_for};
+ghost use Rattle.c_lines.specs.Inner.Makes.{asked_filled, asked_of, named_of, new_of, world_of};
 ghost use Rattle.c_lines.specs.Told.{told};
 
 use crate::lines::line_of;
@@ -105,7 +105,7 @@ fn asked_by(alloc: Global, first: &[u8], second: &[u8], loads: bool) -> Result<A
 // The record that a line names.
 #[tactic(auto, unfolding(worlds::specs::Define::define))]
 fn record_of(alloc: Global, line: Line) -> Result<NamedRecord, Refusal>
-    requires { IsWhole line }
+    requires { HasItsFields line }
     ensures { Tells world_of (world_told (sentence_of line)) result }
 {
     match line {
@@ -123,7 +123,7 @@ fn record_of(alloc: Global, line: Line) -> Result<NamedRecord, Refusal>
 
 // What a `view` line makes a view of, or a `load` line, whose file is not looked at.
 fn new_of(line: Line, loads: bool) -> Result<NewView, Refusal>
-    ensures { Tells new_of (new_told loads (sentence_of line)) result }
+    ensures { Tells new_of (new_answer loads (sentence_of line)) result }
 {
     match line {
         Line::View {
@@ -241,8 +241,8 @@ fn with_rows<L: Ledger>(
     mut view: View,
     steps: &mut Steps<L>,
 ) -> Result<View, Refusal>
-    requires rows { length view.rows ≡ length (rows_of (records_of csv.now)) }
-    ensures { Tells (λ view. view) (with_dataset view (dataset_of view (records_of csv.now))) result }
+    requires rows { length view.rows ≡ length (records_behind (csv_records csv.now)) }
+    ensures { Tells (λ view. view) (with_dataset view (dataset_of view (csv_records csv.now))) result }
 {
     match load_rows(alloc, csv, &mut view, steps) {
         Ok(()) => Ok(view),

@@ -2,9 +2,9 @@
 ghost use Rattle.std.specs.Prelude.{◌≡◌, ◌+◌, ◌<◌, ◌≤◌, ℤ, Bool, true, length, map, IfOk};
 ghost use Rattle.record_dim.specs.LeafTypes.{IsDeclared};
 ghost use Rattle.record_dim.specs.declared.leaf_type.LeafType.{LeafType};
-ghost use Rattle.views.specs.Runs.{run_of};
+ghost use Rattle.views.specs.LeafRuns.{run_of};
 ghost use Rattle.views.specs.Tables.{leaf_count_of, leaf_type_of};
-ghost use Rattle.c_lines.specs.Runs.{after_run, IsFrontStored};
+ghost use Rattle.c_lines.specs.CallerRuns.{after_run, IsFrontStored};
 ghost use Rattle.c_lines.specs.Values.{reads_signed};
 
 use record_dim::{LeafType, Steps};

@@ -1,6 +1,6 @@
 ghost use Rattle.std.specs.Prelude.{◌≡◌};
-ghost use Rattle.c_lines.specs.Answers.{number_of};
-ghost use Rattle.c_lines.specs.Faults.{cause_of, column_of, extents_cause, fault_of, file_cause, kernel_cause, leaf_of, mapping_cause, record_cause, row_of, text_number};
+ghost use Rattle.c_lines.specs.Answers.{refusal_number};
+ghost use Rattle.c_lines.specs.Faults.{cause_of, column_of, extents_cause, fault_of, file_cause, kernel_cause, leaf_named, mapping_cause, record_cause, row_named, text_number};
 ghost use Rattle.c_lines.specs.Refusals.{store_refusal};
 
 use extents::BadExtents;
@@ -79,7 +79,7 @@ pub struct Fault {
 impl Refusal {
     /// Its number in C.
     pub fn number(self) -> i32
-        ensures { result ≡ number_of self }
+        ensures { result ≡ refusal_number self }
     {
         match self {
             Refusal::NoView => 1,
@@ -140,7 +140,7 @@ impl Refusal {
     }
 
     fn row(self) -> u64
-        ensures { result ≡ row_of self }
+        ensures { result ≡ row_named self }
     {
         match self {
             Refusal::Range { row, .. } => row,
@@ -152,7 +152,7 @@ impl Refusal {
     }
 
     fn leaf(self) -> usize
-        ensures { result ≡ leaf_of self }
+        ensures { result ≡ leaf_named self }
     {
         match self {
             Refusal::Range { leaf, .. } => leaf,

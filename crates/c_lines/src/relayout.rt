@@ -3,7 +3,7 @@ ghost use Rattle.std.specs.Prelude.{◌≡◌, ◌<◌, IfOk, true};
 ghost use Rattle.layout_copy.specs.Copies.{AreAlike};
 ghost use Rattle.line_grammar.specs.Sentences.{sentence_of};
 ghost use Rattle.map_expr.specs.Terms.{term_of};
-ghost use Rattle.command_checks.specs.Bases.{is_nameless};
+ghost use Rattle.command_checks.specs.Inner.Bases.{is_nameless};
 ghost use Rattle.c_lines.specs.Answers.{Tells, TellsLeft};
 ghost use Rattle.c_lines.specs.Relaid.{after_relaid, mapping_told, relaid, whole_told, zeros_told};
 ghost use Rattle.c_lines.specs.Told.{done_of};

@@ -1,8 +1,8 @@
 // One leaf of rows one after another, to and from an array.
 ghost use Rattle.std.specs.Prelude.{◌≡◌, ◌+◌, ◌<◌, ◌≤◌, length, map, OnOk, OnErr};
-ghost use Rattle.views.specs.Runs.{run_of};
+ghost use Rattle.views.specs.LeafRuns.{run_of};
 ghost use Rattle.views.specs.Tables.{leaf_count_of};
-ghost use Rattle.c_lines.specs.Runs.{after_run, was_set_run, after_set_run, IsSet};
+ghost use Rattle.c_lines.specs.CallerRuns.{after_run, was_set_run, after_set_run, IsSet};
 ghost use Rattle.c_lines.specs.Values.{read_by};
 
 use crate::number::Number64;

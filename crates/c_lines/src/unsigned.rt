@@ -2,7 +2,7 @@
 ghost use Rattle.std.specs.Prelude.{◌≡◌, ◌<◌, ◌≤◌, true, false, pos, length, map, take};
 ghost use Rattle.record_dim.specs.declared.leaf_type.LeafType.TheVariants.{U64};
 ghost use Rattle.piece_bits.specs.Lows.{low_64};
-ghost use Rattle.views.specs.Runs.{raised, TakesAll};
+ghost use Rattle.views.specs.LeafRuns.{raised, TakesAll};
 ghost use Rattle.views.specs.Tables.{leaf_count_of, leaf_type_of};
 ghost use Rattle.c_lines.specs.Values.{reads_unsigned};
 

@@ -30,7 +30,7 @@ pub use Rattle.piece_bits.specs.Tables.{zeros}
 pub use Rattle.piece_bits.specs.declared.mode.StoreMode.{StoreMode}
 pub use Rattle.views.specs.Tables.{Table, owners_of, leaf_count_of}
 pub use Rattle.views.specs.Tallies.{no_tally, granules_for}
-pub use Rattle.views.specs.Refusals.{IsOver}
+pub use Rattle.views.specs.Refusals.{IsOverLimits}
 pub use Rattle.worlds.specs.Worlds.{Entry, same_name}
 pub use Rattle.worlds.specs.Tables.{made, zeros_of, blob_bits, live_bits}
 pub use Rattle.layout_io.specs.Writing.{joined}
@@ -46,7 +46,7 @@ pub use Rattle.line_grammar.specs.declared.line.TermText.{TermText}
 pub use Rattle.subviews.specs.Plans.{IsTermOf}
 pub use Rattle.subviews.specs.declared.term.Term.{Term}
 pub use Rattle.worlds.specs.Names.{leaf_of, nameless}
-pub use Rattle.worlds.specs.Stencil.{all_reach, all_weigh, bound_term, fit_terms}
+pub use Rattle.worlds.specs.Stencil.{all_reach, all_weigh, stencil_term, fit_terms}
 pub use Rattle.worlds.specs.declared.fault.BadStencil.TheVariants.{Reach, Weight, Terms, Rounds}
 pub use Rattle.worlds.specs.declared.fault.CommandFault.TheVariants.{BadStencil, Unknown}
 pub use Rattle.advisor.specs.declared.pass.Pass.{Pass}
@@ -55,14 +55,14 @@ pub use Rattle.extents.specs.Shapes.{HasRows}
 pub use Rattle.record_dim.specs.Schemas.{schema_fields}
 pub use Rattle.expr_lang.specs.BindingLaws.{leaf_number_is}
 pub use Rattle.worlds.specs.declared.fault.UnknownName.TheVariants.{Path}
-pub use Rattle.command_checks.specs.Gives.{GivesUp}
+pub use Rattle.command_checks.specs.Inner.Gives.{GivesUp}
 pub use Rattle.command_checks.specs.GivesLaws.{GivesUp-then}
 pub use Rattle.command_checks.specs.declared.fault.StepFault.{StepFault}
-pub use Rattle.command_checks.specs.Entries.{view_of, mapping_of}
+pub use Rattle.command_checks.specs.SessionEntries.{view_of, mapping_of}
 pub use Rattle.command_checks.specs.declared.entries.ViewEntry.{ViewEntry}
-pub use Rattle.command_checks.specs.Indexed.{place_in, IsIndex}
-pub use Rattle.command_checks.specs.Reach.{stays, all_stay}
-pub use Rattle.command_checks.specs.Stencils.{placed_term, weighted_at}
-pub use Rattle.command_checks.specs.Bases.{is_nameless}
+pub use Rattle.command_checks.specs.Inner.Indexed.{place_in, IsIndex}
+pub use Rattle.command_checks.specs.Inner.Reach.{stays, all_stay}
+pub use Rattle.command_checks.specs.Inner.Stencils.{placed_term, weighted_at}
+pub use Rattle.command_checks.specs.Inner.Bases.{is_nameless}
 pub use Rattle.command_checks.specs.BasesLaws.{rows_for_some, rows_for_same, resolves, resolves_not, rows_are}
 pub use Rattle.command_checks.specs.PlacesLaws.{free_by_place, placed_at, unknown_name, known_at}

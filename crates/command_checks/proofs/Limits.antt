@@ -1,5 +1,5 @@
 -- New tables and their limits.
-use Rattle.command_checks.proofs.Imports.{◌≡◌, ℕ, ◌+◌, ◌-◌, ◌*◌, ◌<◌, ◌≤◌, ◌^◌, Bool, true, false, List, length, take, map, get_or, Ok, refl, sym, ap, ◌∙◌, arith, inl, inr, ◌||◌, false≢true, lt-ltb, or_right, nat_tests, get_or-map, length-map, sum_by_more, indices, Fields, leaves, kinds_of, MapTerm, leaf_cells, layout_by, accepted, most_slots, zeros, StoreMode, Table, owners_of, leaf_count_of, no_tally, granules_for, IsOver, Entry, Outcome, Goes, Faults, ◌>>=◌, refused_if, made, zeros_of, blob_bits, live_bits, view_of, ViewEntry}
+use Rattle.command_checks.proofs.Imports.{◌≡◌, ℕ, ◌+◌, ◌-◌, ◌*◌, ◌<◌, ◌≤◌, ◌^◌, Bool, true, false, List, length, take, map, get_or, Ok, refl, sym, ap, ◌∙◌, arith, inl, inr, ◌||◌, false≢true, lt-ltb, or_right, nat_tests, get_or-map, length-map, sum_by_more, indices, Fields, leaves, kinds_of, MapTerm, leaf_cells, layout_by, accepted, most_slots, zeros, StoreMode, Table, owners_of, leaf_count_of, no_tally, granules_for, IsOverLimits, Entry, Outcome, Goes, Faults, ◌>>=◌, refused_if, made, zeros_of, blob_bits, live_bits, view_of, ViewEntry}
 use Rattle.std.proofs.Common.{nat_lt}
 use Rattle.worlds.specs.declared.fault.CommandFault.TheVariants as fault
 
@@ -55,7 +55,7 @@ module _ (views : List (Entry Table)) (mode : StoreMode) (fields : Fields) (exte
   over_is : (slots || (bits || (granules || all))) ≡ true → made views mode fields extents term ≡ Faults fault.TooBig
   over_is over = made_is ∙ limited_over slots bits granules all (zeros_of mode fields extents term) over
 
-  pub made_goes : (IsOver term extents fields → ⊥) → (8 * 2 ^ 30 < live_bits views + blob_bits (zeros_of mode fields extents term) → ⊥) → made views mode fields extents term ≡ Goes (zeros_of mode fields extents term)
+  pub made_goes : (IsOverLimits term extents fields → ⊥) → (8 * 2 ^ 30 < live_bits views + blob_bits (zeros_of mode fields extents term) → ⊥) → made views mode fields extents term ≡ Goes (zeros_of mode fields extents term)
   made_goes small room = made_is ∙ limited_goes slots bits granules all (zeros_of mode fields extents term)
       (slots_within (2 ^ 24) (most_slots term extents) (λ over. small (inl (inl over))))
       (slots_within (8 * 2 ^ 28) (blob_bits (zeros_of mode fields extents term)) (λ over. small (inl (inr over))))

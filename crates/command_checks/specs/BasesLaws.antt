@@ -17,7 +17,7 @@ pub use Rattle.blob_file.specs.HeaderLaws.{nameless_built}
 use Rattle.worlds.specs.Outcomes.{Goes, Faults}
 use Rattle.worlds.specs.Tables.{resolved}
 use Rattle.worlds.specs.declared.fault.CommandFault.TheVariants.{BadExtents}
-use Rattle.command_checks.specs.Bases.{is_nameless, rows_for}
+use Rattle.command_checks.specs.Inner.Bases.{is_nameless, rows_for}
 
 -- a mapping without names can be checked
 pub nameless_term : (term : Term) → is_nameless term ≡ true → IsNameless term

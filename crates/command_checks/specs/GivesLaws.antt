@@ -1,7 +1,7 @@
 -- Tests one after another.
 use Rattle.std.proofs.Common.{◌≡◌, refl}
 use Rattle.worlds.specs.Outcomes.{Outcome, Goes, ◌>>=◌}
-use Rattle.command_checks.specs.Gives.{GivesUp}
+use Rattle.command_checks.specs.Inner.Gives.{GivesUp}
 use Rattle.command_checks.specs.declared.fault.StepFault.{StepFault}
 use Rattle.command_checks.specs.declared.fault.StepFault.TheVariants as step
 

@@ -1,12 +1,6 @@
 pub mod AlikeLaws
-pub mod Bases
 pub mod BasesLaws
-pub mod Entries
-pub mod Indexed
-pub mod Places
+pub mod SessionEntries
 pub mod PlacesLaws
-pub mod Gives
 pub mod GivesLaws
-pub mod Reach
-pub mod Stencils
-pub mod Questions
+pub mod Inner

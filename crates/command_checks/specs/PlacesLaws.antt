@@ -7,7 +7,7 @@ use Rattle.std.specs.Prelude.{is_some}
 use Rattle.worlds.specs.Outcomes.{Goes, Faults, known, free, some_or, refused_if}
 use Rattle.worlds.specs.declared.fault.CommandFault.TheVariants.{Unknown, Taken}
 use Rattle.worlds.specs.declared.fault.UnknownName.TheVariants.{Name}
-use Rattle.command_checks.specs.Places.{without, IsAt}
+use Rattle.command_checks.specs.Inner.Places.{without, IsAt}
 
 here : {E A : Type 0} (entry_of : E → Entry A) (name : List ℕ) (first : E) (rest : List E) → same_name (entry_of first).name name ≡ true → IsAt entry_of name (first ∷ rest) 0
 here entry_of name first rest same = record {

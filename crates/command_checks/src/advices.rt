@@ -7,10 +7,10 @@ ghost use Rattle.record_dim.specs.Schemas.{schema_fields};
 ghost use Rattle.worlds.specs.Advise.{asked, bound_pass, fit_advice, leaves_at, leaves_under};
 ghost use Rattle.worlds.specs.Names.{nameless};
 ghost use Rattle.worlds.specs.Outcomes.{each};
-ghost use Rattle.command_checks.specs.Bases.{is_nameless};
-ghost use Rattle.command_checks.specs.Entries.{mapping_of};
-ghost use Rattle.command_checks.specs.Gives.{Gives};
-ghost use Rattle.command_checks.specs.Questions.{IsQuestion, question_of};
+ghost use Rattle.command_checks.specs.Inner.Bases.{is_nameless};
+ghost use Rattle.command_checks.specs.SessionEntries.{mapping_of};
+ghost use Rattle.command_checks.specs.Inner.Gives.{Gives};
+ghost use Rattle.command_checks.specs.Inner.Questions.{IsQuestion, question_of};
 
 use crate::entry_list::MappingList;
 use crate::fault::StepFault;

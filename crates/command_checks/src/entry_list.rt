@@ -3,7 +3,7 @@ ghost use Rattle.std.specs.Prelude.{◌≡◌, ◌++◌, ◌∷◌, [], IfOk, If
 ghost use Rattle.std.specs.List.{position_from};
 ghost use Rattle.worlds.specs.Worlds.{same_name};
 ghost use Rattle.worlds.specs.Outcomes.{known, free};
-ghost use Rattle.command_checks.specs.Gives.{Gives};
+ghost use Rattle.command_checks.specs.Inner.Gives.{Gives};
 
 use crate::entries::RecordEntry;
 use crate::fault::StepFault;
@@ -31,7 +31,7 @@ pub type MappingList = EntryList<MappingEntry>;
 
 impl<T: NamedEntry> Model for EntryList<T> {
     ghost use Rattle.std.specs.Prelude.{List};
-    ghost use Rattle.command_checks.specs.Indexed.{IsIndex};
+    ghost use Rattle.command_checks.specs.Inner.Indexed.{IsIndex};
 
     ghost Value = { List T };
 

@@ -2,7 +2,7 @@
 ghost use Rattle.std.specs.Prelude.{◌≡◌, ℕ, List, Some, None, IfOk, IfErr, cond};
 ghost use Rattle.std.specs.Option.{option_or};
 ghost use Rattle.worlds.specs.Worlds.{same_name};
-ghost use Rattle.command_checks.specs.Indexed.{place_in};
+ghost use Rattle.command_checks.specs.Inner.Indexed.{place_in};
 
 use crate::fault::StepFault;
 use record_dim::Name;

@@ -5,7 +5,7 @@ ghost use Rattle.lane_kernels.specs.Kernels.{IsFactor, IsKernelOf, IsNarrow};
 ghost use Rattle.views.specs.Columns.{IsNarrowLeaf};
 ghost use Rattle.views.specs.Tables.{leaf_count_of};
 ghost use Rattle.worlds.specs.Kernel.{are_bounds, are_lanes, compare_of, fit_kernel, fit_leaf, fits, is_constant, is_factor, is_wide};
-ghost use Rattle.command_checks.specs.Gives.{Gives};
+ghost use Rattle.command_checks.specs.Inner.Gives.{Gives};
 
 use crate::fault::StepFault;
 use crate::leaves::leaf_of;

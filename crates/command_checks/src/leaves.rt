@@ -3,10 +3,10 @@ ghost use Rattle.std.specs.Prelude.{◌≡◌, ◌<◌, ◌⊎◌, IfOk, IfErr, 
 ghost use Rattle.expr_lang.specs.Terms.{term_of};
 ghost use Rattle.expr_lang.specs.Bounds.{bound_term};
 ghost use Rattle.record_dim.specs.Schemas.{schema_fields};
-ghost use Rattle.row_updates.specs.Rows.{IsOver};
+ghost use Rattle.row_updates.specs.Rows.{IsBoundOver};
 ghost use Rattle.views.specs.Tables.{leaf_count_of};
 ghost use Rattle.worlds.specs.Names.{leaf_of, bound, text_of_leaf};
-ghost use Rattle.command_checks.specs.Gives.{Gives};
+ghost use Rattle.command_checks.specs.Inner.Gives.{Gives};
 
 use crate::fault::StepFault;
 use expr_lang::{BindFault, Bound, Expr, bind};
@@ -36,7 +36,7 @@ pub(crate) fn unknown_path(path: Path) -> StepFault
 /// The expression over the leaves of a view.
 pub fn bound(alloc: Global, view: &View, expr: &Expr) -> Result<Bound, StepFault>
     ensures bound { Gives bound_term result (bound view.now.fields (length view.now.extents) (term_of expr.now)) }
-    ensures over { IfOk result (IsOver view.now) }
+    ensures over { IfOk result (IsBoundOver view.now) }
 {
     match bind(alloc, expr, view.schema(), view.extents().rank()) {
         Ok(bound) => Ok(bound),

@@ -1,6 +1,6 @@
 ghost use Rattle.std.specs.Prelude.{◌≡◌, true};
 ghost use Rattle.map_expr.specs.Terms.{term_of};
-ghost use Rattle.command_checks.specs.Bases.{is_nameless};
+ghost use Rattle.command_checks.specs.Inner.Bases.{is_nameless};
 
 use map_expr::MapExpr;
 use record_dim::Name;

@@ -3,7 +3,7 @@ ghost use Rattle.std.specs.Prelude.{◌≡◌};
 ghost use Rattle.map_expr.specs.Terms.{Term as MapTerm};
 ghost use Rattle.record_dim.specs.Trees.{Fields};
 ghost use Rattle.worlds.specs.Worlds.{Entry};
-ghost use Rattle.command_checks.specs.Entries.{record_of, mapping_of};
+ghost use Rattle.command_checks.specs.SessionEntries.{record_of, mapping_of};
 
 use crate::entries::RecordEntry;
 use crate::mapping_entry::MappingEntry;

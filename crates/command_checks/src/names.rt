@@ -4,9 +4,9 @@ ghost use Rattle.std.specs.List.{position_from};
 ghost use Rattle.record_dim.specs.Schemas.{schema_fields};
 ghost use Rattle.worlds.specs.Worlds.{same_name};
 ghost use Rattle.worlds.specs.Outcomes.{known, free, refused_if};
-ghost use Rattle.command_checks.specs.Places.{IsAt};
-ghost use Rattle.command_checks.specs.Entries.{record_of, view_of};
-ghost use Rattle.command_checks.specs.Gives.{Gives, GivesUp};
+ghost use Rattle.command_checks.specs.Inner.Places.{IsAt};
+ghost use Rattle.command_checks.specs.SessionEntries.{record_of, view_of};
+ghost use Rattle.command_checks.specs.Inner.Gives.{Gives, GivesUp};
 
 use crate::entries::ViewEntry;
 use crate::entry_list::RecordList;

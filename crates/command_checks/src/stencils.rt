@@ -6,10 +6,10 @@ ghost use Rattle.subviews.specs.Plans.{IsTermOf};
 ghost use Rattle.subviews.specs.Stencils.{Stencil, is_divisor, is_offset, is_weight, reaches, weighted};
 ghost use Rattle.views.specs.Tables.{leaf_count_of};
 ghost use Rattle.worlds.specs.Outcomes.{Goes, each};
-ghost use Rattle.worlds.specs.Stencil.{all_reach, all_weigh, bound_term, fit_stencil, fit_terms};
-ghost use Rattle.command_checks.specs.Gives.{Gives};
-ghost use Rattle.command_checks.specs.Reach.{all_stay, stays};
-ghost use Rattle.command_checks.specs.Stencils.{IsStencilOf, placed_term, stencil_of, weighted_at};
+ghost use Rattle.worlds.specs.Stencil.{all_reach, all_weigh, stencil_term, fit_stencil, fit_terms};
+ghost use Rattle.command_checks.specs.Inner.Gives.{Gives};
+ghost use Rattle.command_checks.specs.Inner.Reach.{all_stay, stays};
+ghost use Rattle.command_checks.specs.Inner.Stencils.{IsStencilOf, placed_term, stencil_of, weighted_at};
 
 use crate::fault::StepFault;
 use crate::leaves::leaf_of;
@@ -73,7 +73,7 @@ pub fn fit_stencil(
 
 // The leaves that terms read.
 fn leaves_of(alloc: Global, view: &View, texts: &[TermText]) -> Result<Vec<usize>, StepFault>
-    ensures terms { Gives (λ leaves. weighted_at texts.now leaves.items) result (each (bound_term view.now.fields) texts.now) }
+    ensures terms { Gives (λ leaves. weighted_at texts.now leaves.items) result (each (stencil_term view.now.fields) texts.now) }
     ensures inside { IfOk result (λ leaves. All (λ leaf. leaf < leaf_count_of view.now) leaves.items) }
     ensures paired { IfOk result (λ leaves. length leaves.items ≡ length texts.now) }
 {

@@ -5,9 +5,9 @@ ghost use Rattle.extents.specs.Shapes.{is_rows, IsShape};
 ghost use Rattle.map_expr.specs.Terms.{term_of};
 ghost use Rattle.record_dim.specs.Schemas.{schema_fields};
 ghost use Rattle.worlds.specs.Tables.{room, shaped, resolved, made, zeros_of, live_bits};
-ghost use Rattle.command_checks.specs.Bases.{is_nameless, rows_for};
-ghost use Rattle.command_checks.specs.Entries.{view_of};
-ghost use Rattle.command_checks.specs.Gives.{Gives};
+ghost use Rattle.command_checks.specs.Inner.Bases.{is_nameless, rows_for};
+ghost use Rattle.command_checks.specs.SessionEntries.{view_of};
+ghost use Rattle.command_checks.specs.Inner.Gives.{Gives};
 
 use crate::entries::ViewEntry;
 use crate::fault::StepFault;

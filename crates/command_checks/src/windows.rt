@@ -2,7 +2,7 @@
 ghost use Rattle.std.specs.Prelude.{◌≡◌, IfOk};
 ghost use Rattle.extents.specs.Windows.{IsWindow};
 ghost use Rattle.worlds.specs.Windows.{windowed};
-ghost use Rattle.command_checks.specs.Gives.{Gives};
+ghost use Rattle.command_checks.specs.Inner.Gives.{Gives};
 
 use crate::fault::StepFault;
 use extents::{Span, Window};

@@ -1,5 +1,5 @@
 -- A number that is further from 0 than any leaf reaches, and the one that is answered in its place.
-use Rattle.csv_rows.proofs.Imports.{◌≡◌, ◌⊎◌, inl, inr, ℕ, suc, ◌^◌, ◌-◌, ◌<◌, List, ◌≤◌, Bool, true, false, ◌&&◌, ℤ, pos, negsuc, neg_ℤ, ◌<ℤ◌, Result, Ok, Err, Option, Some, None, refl, sym, ap, ◌∙◌, arith, ⊎_elim, int_le, slice_get, ints, cases_lt, LeafType, Truth, U8, U16, U32, U64, I8, I16, I32, I64, least_of, greatest_of, Hold, StoreMode, Strict, Wrap, store_answer, Range, folded, shortened, folded_near, folded_far, shortened_kept, ◌>>=◌, Place, unspaced, number_of, the_field, the_number, taken, value_at, RowFault, and_right, and_left}
+use Rattle.csv_rows.proofs.Imports.{◌≡◌, ◌⊎◌, inl, inr, ℕ, suc, ◌^◌, ◌-◌, ◌<◌, List, ◌≤◌, Bool, true, false, ◌&&◌, ℤ, pos, negsuc, neg_ℤ, ◌<ℤ◌, Result, Ok, Err, Option, Some, None, refl, sym, ap, ◌∙◌, arith, ⊎_elim, int_le, slice_get, ints, cases_lt, LeafType, Truth, U8, U16, U32, U64, I8, I16, I32, I64, least_of, greatest_of, Hold, StoreMode, Strict, Wrap, store_answer, Range, folded, shortened, folded_near, folded_far, shortened_kept, ◌>>=◌, Place, unspaced, number_behind_sign, the_field, the_number, taken, value_at, RowFault, and_right, and_left}
 use Rattle.std.specs.Prelude.{option_map}
 use Rattle.csv_rows.proofs.CsvReads.{some_is}
 
@@ -48,7 +48,7 @@ value_of place number = the_number place number >>= (λ value. taken place (stor
 
 -- the number of a field, as it was asked for
 abbrev pub number_in : List ℕ → Option ℤ
-number_in field = option_map shortened (number_of (unspaced field))
+number_in field = option_map shortened (number_behind_sign (unspaced field))
 
 clip_of : (place : Place) (number : Option ℤ) (value : ℤ) → place.hold.width ≤ 64 → option_map shortened number ≡ Some value
     → value_of place number ≡ taken place (store_answer place.mode place.kind place.hold value)
@@ -57,8 +57,8 @@ clip_of place (Some z) value few is =
     ap (taken place) (answer_same place.mode place.kind place.hold z few ∙ ap (store_answer place.mode place.kind place.hold) (some_is is))
 
 -- a field that is a number
-field_in : (place : Place) (fields : List (List ℕ)) (field : List ℕ) → slice_get fields place.column ≡ Some field → value_at place fields ≡ value_of place (number_of (unspaced field))
-field_in place fields field some = ap (λ (found : Option (List ℕ)). the_field place found >>= (λ text. value_of place (number_of (unspaced text)))) some
+field_in : (place : Place) (fields : List (List ℕ)) (field : List ℕ) → slice_get fields place.column ≡ Some field → value_at place fields ≡ value_of place (number_behind_sign (unspaced field))
+field_in place fields field some = ap (λ (found : Option (List ℕ)). the_field place found >>= (λ text. value_of place (number_behind_sign (unspaced text)))) some
 
 pub value_some : (place : Place) (fields : List (List ℕ)) (value : ℤ) → place.hold.width ≤ 64 → Some (Some value) ≡ option_map number_in (slice_get fields place.column)
     → value_at place fields ≡ taken place (store_answer place.mode place.kind place.hold value)
@@ -66,4 +66,4 @@ value_some place fields value few = by (slice_get fields place.column) refl wher
   by : (found : Option (List ℕ)) → slice_get fields place.column ≡ found → Some (Some value) ≡ option_map number_in found
       → value_at place fields ≡ taken place (store_answer place.mode place.kind place.hold value)
   by None is some = cc some
-  by (Some field) is some = field_in place fields field is ∙ clip_of place (number_of (unspaced field)) value few (sym (some_is some))
+  by (Some field) is some = field_in place fields field is ∙ clip_of place (number_behind_sign (unspaced field)) value few (sym (some_is some))

@@ -1,5 +1,5 @@
 -- The first fault of a dataset: what holds of each that a value or a name may have holds of it.
-use Rattle.csv_rows.proofs.Imports.{◌≡◌, ◌⊎◌, inl, inr, ℕ, ◌+◌, ℤ, List, [], ◌∷◌, Option, Some, None, Result, Ok, Err, IfErr, refl, sym, ap, subst, ◌∙◌, slice_get, enumerate_from, texts_of, LeafType, Hold, StoreMode, Wrap, store_answer, Table, leaf_types_of, table_holds, ◌>>=◌, Place, unspaced, number_of, the_field, the_number, taken, value_at, row_values, table_from, with_columns, columns_named, one_column, columns_of, header_of, rows_of, dataset_table, dataset_of, IsNoRefusal, RowFault, MissingColumn, ColumnTwice, NoMemory}
+use Rattle.csv_rows.proofs.Imports.{◌≡◌, ◌⊎◌, inl, inr, ℕ, ◌+◌, ℤ, List, [], ◌∷◌, Option, Some, None, Result, Ok, Err, IfErr, refl, sym, ap, subst, ◌∙◌, slice_get, enumerate_from, texts_of, LeafType, Hold, StoreMode, Wrap, store_answer, Table, leaf_types_of, table_holds, ◌>>=◌, Place, unspaced, number_behind_sign, the_field, the_number, taken, value_at, row_values, table_from, with_columns, columns_named, one_column, columns_of, header_record, records_behind, dataset_table, dataset_of, IsNoRefusal, RowFault, MissingColumn, ColumnTwice, NoMemory}
 
 abbrev err_or : {A : Type 0} → RowFault → Result A RowFault → RowFault
 err_or d (Ok x) = d
@@ -68,19 +68,19 @@ number_taken place None f is = subst IsNoRefusal (err_is is) tt
 number_taken place (Some value) f is = absurd (cc is)
 
 field_taken : (place : Place) (field : Option (List ℕ)) (f : RowFault)
-    → (the_field place field >>= (λ text. the_number place (number_of (unspaced text)) >>= (λ value. taken place (store_answer Wrap place.kind place.hold value)))) ≡ Err f → IsNoRefusal f
+    → (the_field place field >>= (λ text. the_number place (number_behind_sign (unspaced text)) >>= (λ value. taken place (store_answer Wrap place.kind place.hold value)))) ≡ Err f → IsNoRefusal f
 field_taken place None f is = subst IsNoRefusal (err_is is) tt
-field_taken place (Some text) f is = number_taken place (number_of (unspaced text)) f is
+field_taken place (Some text) f is = number_taken place (number_behind_sign (unspaced text)) f is
 
 dataset_taken : (names : List (List ℕ)) (kinds : List LeafType) (holds : List Hold) (records : List (List (List ℕ))) (f : RowFault) → dataset_table Wrap names kinds holds records ≡ Err f → IsNoRefusal f
 unfolding dataset_table
-dataset_taken names kinds holds records f is = first (columns_of (header_of records) 0 names) refl is
+dataset_taken names kinds holds records f is = first (columns_of (header_record records) 0 names) refl is
   where
-    first : (found : Result (List ℕ) RowFault) → columns_of (header_of records) 0 names ≡ found
-        → (found >>= (λ columns. table_from 0 (rows_of records) (with_columns Wrap columns kinds holds))) ≡ Err f → IsNoRefusal f
+    first : (found : Result (List ℕ) RowFault) → columns_of (header_record records) 0 names ≡ found
+        → (found >>= (λ columns. table_from 0 (records_behind records) (with_columns Wrap columns kinds holds))) ≡ Err f → IsNoRefusal f
     first (Ok columns) found e =
-        of_rows IsNoRefusal Wrap (λ row fields leaf column kind hold. field_taken (place_in Wrap row leaf column kind hold) (slice_get fields column)) columns kinds holds 0 (rows_of records) f e
-    first (Err g) found e = of_header IsNoRefusal (λ leaf. tt) (λ leaf. tt) (header_of records) 0 names f (found ∙ ap Err (err_is e))
+        of_rows IsNoRefusal Wrap (λ row fields leaf column kind hold. field_taken (place_in Wrap row leaf column kind hold) (slice_get fields column)) columns kinds holds 0 (records_behind records) f e
+    first (Err g) found e = of_header IsNoRefusal (λ leaf. tt) (λ leaf. tt) (header_record records) 0 names f (found ∙ ap Err (err_is e))
 
 pub load_taken : (table : Table) (records : List (List (List ℕ))) (result : Result Unit RowFault) → IfErr result (λ f. (f ≡ NoMemory) ⊎ (dataset_of table records ≡ Err f))
     → IfErr result (λ f. table.mode ≡ Wrap → IsNoRefusal f)

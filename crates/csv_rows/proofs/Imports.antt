@@ -35,12 +35,12 @@ pub use Rattle.piece_bits.specs.declared.mode.StoreMode.{StoreMode}
 pub use Rattle.piece_bits.specs.declared.mode.StoreMode.TheVariants.{Strict, Wrap}
 pub use Rattle.views.specs.Stores.{store_answer, Keeping, kept_row, kind_at, AllStay, Stays}
 pub use Rattle.views.specs.declared.fault.StoreFault.TheVariants.{Range}
-pub use Rattle.piece_bits.specs.Far.{folded, shortened}
+pub use Rattle.piece_bits.specs.Inner.Far.{folded, shortened}
 pub use Rattle.piece_bits.specs.FarLaws.{folded_near, folded_far, shortened_kept, fold_next}
 pub use Rattle.record_dim.specs.declared.path.PathStep.{PathStep}
 pub use Rattle.record_dim.specs.declared.path.PathStep.TheVariants.{Name, At}
 pub use Rattle.record_dim.specs.Trees.{Tree, Single, Record, Array, Fields, End, Field}
-pub use Rattle.record_dim.specs.Leaves.{leaves_of, leaves, paths_of, texts_of, names_of, has_names, has_twice, records_below, first_fault}
+pub use Rattle.record_dim.specs.Leaves.{leaves_of, leaves, paths_of, texts_of, names_of, has_names, has_twice, records_below, record_fault}
 pub use Rattle.record_dim.specs.Names.{is_name, begins_name, continues_name, is_word}
 pub use Rattle.record_dim.specs.NameBytesLaws.{both, same_text, text_self}
 pub use Rattle.record_dim.specs.Paths.{BeginsWithName, path_text_of, step_text}
@@ -77,12 +77,12 @@ pub use Rattle.views.specs.AnswerLaws.{stays_answer, told_kept, told_err}
 pub use Rattle.views.specs.declared.fault.StoreFault.{StoreFault}
 pub use Rattle.record_dim.specs.Schemas.{schema_fields}
 pub use Rattle.extents.specs.Indices.{indices}
-pub use Rattle.csv_rows.specs.Readers.{IsAsked, record_count, field_state, quote_state, known, text_left, rows_from, rows_left, IsReading, text_behind}
-pub use Rattle.csv_rows.specs.Datasets.{◌>>=◌, Place, unspaced, number_of, the_field, the_number, taken, value_at, Leaf, records_of, row_values, table_from, with_columns, columns_named, one_column, columns_of, header_of, rows_of, all_digits, digits_number, is_blank, behind_blanks, before_blanks, refusal}
+pub use Rattle.csv_rows.specs.Inner.Readers.{IsAsked, record_count, field_state, quote_state, known, text_left, rows_from, rows_left, IsReading, text_behind}
+pub use Rattle.csv_rows.specs.Datasets.{◌>>=◌, Place, unspaced, number_behind_sign, the_field, the_number, taken, value_at, Leaf, csv_records, row_values, table_from, with_columns, columns_named, one_column, columns_of, header_record, records_behind, all_digits, digits_number, is_blank, behind_blanks, before_blanks, refusal}
 unfoldable pub use Rattle.csv_rows.specs.Datasets.{dataset_table}
 pub use Rattle.csv_rows.specs.declared.fault.RowFault.{RowFault}
 pub use Rattle.csv_rows.specs.Texts.{with_comma, comma_line, comma_joined}
 unfoldable pub use Rattle.csv_rows.specs.Texts.{print_text}
-pub use Rattle.csv_rows.specs.Plain.{is_comma, opens_behind, HasNoQuote, IsPlain, IsFirstField, IsField, is_line_end, line_length, first_line, behind_line, IsFieldHere, line_start, IsAt}
+pub use Rattle.csv_rows.specs.Inner.Unquoted.{is_comma, opens_behind, HasNoQuote, IsPlain, IsFirstField, IsField, is_line_end, line_length, first_line, behind_line, IsFieldHere, line_start, IsAt}
 pub use Rattle.csv_rows.specs.Loads.{dataset_of, IsNoRefusal, place_of, leaves_in, IsFront, Keeps, IsRowsFront, KeepsRows}
 pub use Rattle.csv_rows.specs.declared.fault.RowFault.TheVariants.{MissingColumn, ColumnTwice, NoMemory, ShortRow, Number, Narrow}

@@ -1,5 +1,5 @@
 -- Numbers as most are written: digits, behind a minus or not.
-use Rattle.csv_rows.proofs.Imports.{◌≡◌, ℕ, zero, suc, ◌+◌, ◌<◌, ◌≤◌, Bool, true, false, ℤ, pos, neg_ℤ, ◌-ℤ◌, FitsSigned, Option, List, [], ◌∷◌, length, take, drop, get_or, Some, None, refl, sym, ap, subst, ◌∙◌, arith, if◌then◌else◌, w128, is_ascii_digit, list_all, digits_value, ints, unspaced, all_digits, digits_number, number_of, folded, shortened, folded_near, is_comma, is_line_end, IsFieldHere}
+use Rattle.csv_rows.proofs.Imports.{◌≡◌, ℕ, zero, suc, ◌+◌, ◌<◌, ◌≤◌, Bool, true, false, ℤ, pos, neg_ℤ, ◌-ℤ◌, FitsSigned, Option, List, [], ◌∷◌, length, take, drop, get_or, Some, None, refl, sym, ap, subst, ◌∙◌, arith, if◌then◌else◌, w128, is_ascii_digit, list_all, digits_value, ints, unspaced, all_digits, digits_number, number_behind_sign, folded, shortened, folded_near, is_comma, is_line_end, IsFieldHere}
 use Rattle.std.specs.Prelude.{option_map, ◌^◌}
 use Rattle.csv_rows.proofs.CsvReads.{some_is}
 use Rattle.csv_rows.proofs.PrintedBytes.{AreDigits, unspaced_same, digits_write, minus_writes}
@@ -22,10 +22,10 @@ clip_minus : (n : ℕ) → n < 2 ^ 65 → shortened (neg_ℤ (pos n)) ≡ neg_�
 clip_minus zero small = clip_plain zero small
 clip_minus (suc n) small = ap (λ (m : ℕ). neg_ℤ (pos m)) (folded_near (suc n) small)
 
-pub plain_read : (xs : List ℕ) (n : ℕ) → n < 2 ^ 65 → digits_number xs ≡ Some n → option_map shortened (number_of (unspaced xs)) ≡ Some (pos n)
+pub plain_read : (xs : List ℕ) (n : ℕ) → n < 2 ^ 65 → digits_number xs ≡ Some n → option_map shortened (number_behind_sign (unspaced xs)) ≡ Some (pos n)
 plain_read xs n small is =
     let text = digits_write n xs (digits_known xs n is) in
-    ap (λ (t : List ℕ). option_map shortened (number_of t)) (unspaced_same xs text.plain) ∙ ap (option_map shortened) text.number ∙ ap Some (clip_plain n small)
+    ap (λ (t : List ℕ). option_map shortened (number_behind_sign t)) (unspaced_same xs text.plain) ∙ ap (option_map shortened) text.number ∙ ap Some (clip_plain n small)
 
 -- the same behind a minus
 minus_inside : (xs : List ℕ) (count k d : ℕ) → ((k d : ℕ) → k < length (take count xs) → (is_comma (get_or (take count xs) k d) ≡ false) × (is_line_end (get_or (take count xs) k d) ≡ false)) → k < suc (length (take count xs))
@@ -48,13 +48,13 @@ minus_field (c ∷ xs) count some minus first =
     let next : suc count ≡ count + 1 = omega arith in
     subst (IsFieldHere (c ∷ xs)) next (subst (λ (d : ℕ). IsFieldHere (d ∷ xs) (suc count)) (sym minus) (minus_front xs count first))
 
-pub minus_read : (xs : List ℕ) (count n : ℕ) → 0 < length xs → get_or xs 0 0 ≡ 45 → n < 2 ^ 65 → digits_number (take count (drop 1 xs)) ≡ Some n → option_map shortened (number_of (unspaced (take (count + 1) xs))) ≡ Some (neg_ℤ (pos n))
+pub minus_read : (xs : List ℕ) (count n : ℕ) → 0 < length xs → get_or xs 0 0 ≡ 45 → n < 2 ^ 65 → digits_number (take count (drop 1 xs)) ≡ Some n → option_map shortened (number_behind_sign (unspaced (take (count + 1) xs))) ≡ Some (neg_ℤ (pos n))
 minus_read [] count n some minus small is = absurd (omega arith)
 minus_read (c ∷ xs) count n some minus small is =
     let next : count + 1 ≡ suc count = omega arith in
     let text = minus_writes n (take count xs) (digits_known (take count xs) n is) in
-    ap (λ (m : ℕ). option_map shortened (number_of (unspaced (take m (c ∷ xs))))) next ∙ ap (λ (d : ℕ). option_map shortened (number_of (unspaced (d ∷ take count xs)))) minus
-    ∙ ap (λ (t : List ℕ). option_map shortened (number_of t)) (unspaced_same (45 ∷ take count xs) text.plain) ∙ ap (option_map shortened) text.number ∙ ap Some (clip_minus n small)
+    ap (λ (m : ℕ). option_map shortened (number_behind_sign (unspaced (take m (c ∷ xs))))) next ∙ ap (λ (d : ℕ). option_map shortened (number_behind_sign (unspaced (d ∷ take count xs)))) minus
+    ∙ ap (λ (t : List ℕ). option_map shortened (number_behind_sign t)) (unspaced_same (45 ∷ take count xs) text.plain) ∙ ap (option_map shortened) text.number ∙ ap Some (clip_minus n small)
 
 -- the number behind a minus, however long it is
 minus_shortened : (n : ℕ) → shortened (neg_ℤ (pos n)) ≡ neg_ℤ (pos (folded n))
@@ -77,6 +77,6 @@ given_fits (Some n) value is fits =
     let same : value ≡ pos (folded n) = some_is is in
     subst (λ (z : ℤ). FitsSigned w128 (pos 0 -ℤ z)) (sym same) (fits_minus (folded n) (subst (FitsSigned w128) same fits))
 
-pub minus_number : (xs : List ℕ) (value : ℤ) → 0 < length xs → get_or xs 0 0 ≡ 45 → Some value ≡ option_map (λ n. pos (folded n)) (digits_number (drop 1 xs)) → Some (pos 0 -ℤ value) ≡ option_map shortened (number_of xs)
+pub minus_number : (xs : List ℕ) (value : ℤ) → 0 < length xs → get_or xs 0 0 ≡ 45 → Some value ≡ option_map (λ n. pos (folded n)) (digits_number (drop 1 xs)) → Some (pos 0 -ℤ value) ≡ option_map shortened (number_behind_sign xs)
 minus_number [] value some minus is = absurd (omega arith)
-minus_number (c ∷ xs) value some minus is = subst (λ (d : ℕ). Some (pos 0 -ℤ value) ≡ option_map shortened (number_of (d ∷ xs))) (sym minus) (minus_given (digits_number xs) value is)
+minus_number (c ∷ xs) value some minus is = subst (λ (d : ℕ). Some (pos 0 -ℤ value) ≡ option_map shortened (number_behind_sign (d ∷ xs))) (sym minus) (minus_given (digits_number xs) value is)

@@ -1,5 +1,5 @@
 -- The bytes of names and of decimal texts, which stand in a line as they are.
-use Rattle.csv_rows.proofs.Imports.{◌≡◌, ℕ, suc, ◌+◌, ◌*◌, ◌/◌, ◌%◌, ◌^◌, ◌<◌, ◌≤◌, Bool, true, false, ◌&&◌, nat_eq, List, [], ◌∷◌, ◌++◌, get_or, reverse, ℤ, pos, negsuc, neg_ℤ, Some, None, refl, sym, ap, subst, ◌∙◌, arith, All, if◌then◌else◌, list_all, is_ascii_digit, digit_value, decimal, digits_value, digits_value_after, nat_tests, decimal_by_steps_wide, reverse-reverse, reverse-append, list_all-append, AllPass-from_list_all, digit_value_digit, continues_name, both, digits_text, decimal_text, decimal-digits_text, is_blank, behind_blanks, before_blanks, unspaced, all_digits, digits_number, number_of, is_comma, is_line_end, and_from}
+use Rattle.csv_rows.proofs.Imports.{◌≡◌, ℕ, suc, ◌+◌, ◌*◌, ◌/◌, ◌%◌, ◌^◌, ◌<◌, ◌≤◌, Bool, true, false, ◌&&◌, nat_eq, List, [], ◌∷◌, ◌++◌, get_or, reverse, ℤ, pos, negsuc, neg_ℤ, Some, None, refl, sym, ap, subst, ◌∙◌, arith, All, if◌then◌else◌, list_all, is_ascii_digit, digit_value, decimal, digits_value, digits_value_after, nat_tests, decimal_by_steps_wide, reverse-reverse, reverse-append, list_all-append, AllPass-from_list_all, digit_value_digit, continues_name, both, digits_text, decimal_text, decimal-digits_text, is_blank, behind_blanks, before_blanks, unspaced, all_digits, digits_number, number_behind_sign, is_comma, is_line_end, and_from}
 use Rattle.std.proofs.Common.{not, ◌||◌}
 use Rattle.std.specs.Prelude.{option_map}
 use Rattle.csv_rows.proofs.PlainTexts.{is_plain_byte, is_plain_text}
@@ -136,14 +136,14 @@ digits_read n text digits =
 no_sign : (c : ℕ) → is_ascii_digit c ≡ true → (nat_eq c 43 ≡ false) × (nat_eq c 45 ≡ false)
 no_sign c digit = (grind (arith, nat_tests), grind (arith, nat_tests))
 
-number_digits : (c : ℕ) (xs : List ℕ) → is_ascii_digit c ≡ true → number_of (c ∷ xs) ≡ option_map pos (digits_number (c ∷ xs))
+number_digits : (c : ℕ) (xs : List ℕ) → is_ascii_digit c ≡ true → number_behind_sign (c ∷ xs) ≡ option_map pos (digits_number (c ∷ xs))
 number_digits c xs digit = let (plus, minus) = no_sign c digit in rw (plus, minus) refl
 
 -- what the text of a number is
 pub record IsNumberText (z : ℤ) (text : List ℕ) : Type 0 where
   pub plain : list_all is_plain_byte text ≡ true
   pub some : is_plain_text text ≡ true
-  pub number : number_of text ≡ Some z
+  pub number : number_behind_sign text ≡ Some z
 
 -- digits, and digits behind a minus
 pub digits_write : (n : ℕ) (text : List ℕ) → AreDigits n text → IsNumberText (pos n) text
@@ -153,7 +153,7 @@ digits_write n text digits =
     record {
       plain = plain;
       some = plain_some digits.first digits.rest text digits.is plain;
-      number = ap number_of digits.is ∙ number_digits digits.first digits.rest first ∙ ap (λ (t : List ℕ). option_map pos (digits_number t)) (sym digits.is) ∙ ap (option_map pos) (digits_read n text digits);
+      number = ap number_behind_sign digits.is ∙ number_digits digits.first digits.rest first ∙ ap (λ (t : List ℕ). option_map pos (digits_number t)) (sym digits.is) ∙ ap (option_map pos) (digits_read n text digits);
     }
 
 pub minus_writes : (n : ℕ) (text : List ℕ) → AreDigits n text → IsNumberText (neg_ℤ (pos n)) (45 ∷ text)

@@ -1,5 +1,5 @@
 -- The records of lines of plain parts are these parts.
-use Rattle.csv_rows.proofs.Imports.{◌≡◌, ℕ, ◌+◌, ◌<◌, Bool, true, false, ◌&&◌, nat_eq, List, [], ◌∷◌, ◌++◌, map, flat_map, refl, ap, ◌∙◌, arith, append_assoc, append-nil, ℤ, All, if◌then◌else◌, slice_split, list_all, enumerate_from, All-append, All-cons, slice_split_none, slice_split_at, next_record, strip_bom, both, decimal_text, rows_from, records_of, is_comma, IsPlain, with_comma, comma_joined, comma_line, print_text}
+use Rattle.csv_rows.proofs.Imports.{◌≡◌, ℕ, ◌+◌, ◌<◌, Bool, true, false, ◌&&◌, nat_eq, List, [], ◌∷◌, ◌++◌, map, flat_map, refl, ap, ◌∙◌, arith, append_assoc, append-nil, ℤ, All, if◌then◌else◌, slice_split, list_all, enumerate_from, All-append, All-cons, slice_split_none, slice_split_at, next_record, strip_bom, both, decimal_text, rows_from, csv_records, is_comma, IsPlain, with_comma, comma_joined, comma_line, print_text}
 use Rattle.csv.specs.declared.parser.State.TheVariants as st
 use Rattle.csv_rows.proofs.PlainTexts.{is_plain_byte, is_plain_text}
 use Rattle.csv_rows.proofs.Commas.{comma_behind}
@@ -84,7 +84,7 @@ rows_marks (((c ∷ part) ∷ parts) ∷ rows) plain =
     strip_other c _ (plain_byte c byte).mark
 
 -- the records of such lines
-pub rows_read : (rows : List (List (List ℕ))) → list_all is_plain_row rows ≡ true → records_of (rows_text rows) ≡ rows
+pub rows_read : (rows : List (List (List ℕ))) → list_all is_plain_row rows ≡ true → csv_records (rows_text rows) ≡ rows
 rows_read rows plain =
     let marks = rows_marks rows plain in
     ap (λ (t : List ℕ). rows_from st.StartRecord (strip_bom t)) marks ∙ ap (rows_from st.StartRecord) marks ∙ rows_plain rows plain

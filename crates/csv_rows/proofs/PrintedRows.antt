@@ -1,5 +1,5 @@
 -- The values that are printed are read again, by a view that can hold them.
-use Rattle.csv_rows.proofs.Imports.{◌≡◌, ℕ, zero, suc, ◌+◌, ◌^◌, ◌<◌, true, List, [], ◌∷◌, ◌++◌, length, get_or, map, ℤ, pos, negsuc, Some, Result, Ok, refl, sym, ap, subst, ◌∙◌, arith, append_assoc, slice_get, list_all, range_with_len, ints, length_push, LeafType, Truth, U8, U16, U32, U64, I8, I16, I32, I64, IsDeclared, Hold, stays_declared, StoreMode, store_answer, Stays, kind_at, stays_answer, hold_at, decimal_text, ◌>>=◌, Place, the_field, the_number, taken, unspaced, number_of, value_at, row_values, table_from, with_columns, RowFault, and_from}
+use Rattle.csv_rows.proofs.Imports.{◌≡◌, ℕ, zero, suc, ◌+◌, ◌^◌, ◌<◌, true, List, [], ◌∷◌, ◌++◌, length, get_or, map, ℤ, pos, negsuc, Some, Result, Ok, refl, sym, ap, subst, ◌∙◌, arith, append_assoc, slice_get, list_all, range_with_len, ints, length_push, LeafType, Truth, U8, U16, U32, U64, I8, I16, I32, I64, IsDeclared, Hold, stays_declared, StoreMode, store_answer, Stays, kind_at, stays_answer, hold_at, decimal_text, ◌>>=◌, Place, the_field, the_number, taken, unspaced, number_behind_sign, value_at, row_values, table_from, with_columns, RowFault, and_from}
 use Rattle.csv_rows.proofs.PlainTexts.{is_plain_text}
 use Rattle.csv_rows.proofs.PrintedBytes.{IsNumberText, number_text, unspaced_same}
 use Rattle.csv_rows.proofs.PrintedLines.{is_plain_row}
@@ -43,8 +43,8 @@ value_read : (place : Place) (fields : List (List ℕ)) (value : ℤ) → slice_
 value_read place fields value here stays =
     let text = declared_text place.kind value (stays_declared place.mode place.kind place.hold value stays) in
     let answer : ℤ → Result ℤ RowFault = λ v. taken place (store_answer place.mode place.kind place.hold v) in
-    ap (λ found. the_field place found >>= (λ field. the_number place (number_of (unspaced field)) >>= answer)) here
-    ∙ ap (λ (field : List ℕ). the_number place (number_of field) >>= answer) (unspaced_same (decimal_text value) text.plain)
+    ap (λ found. the_field place found >>= (λ field. the_number place (number_behind_sign (unspaced field)) >>= answer)) here
+    ∙ ap (λ (field : List ℕ). the_number place (number_behind_sign field) >>= answer) (unspaced_same (decimal_text value) text.plain)
     ∙ ap (λ number. the_number place number >>= answer) text.number
     ∙ ap (taken place) (stays_answer place.mode place.kind place.hold value stays)
 

@@ -20,16 +20,16 @@ abbrev pub ◌>>=◌ : {A B : Type 0} → Result A RowFault → (A → Result B 
 (Err fault) >>= next = Err fault
 
 -- the records of a dataset: `csv` drops a byte order mark of its own, behind the one that is dropped here
-abbrev pub records_of : List ℕ → List (List (List ℕ))
-records_of bytes = records default_config (strip_bom (strip_bom bytes))
+abbrev pub csv_records : List ℕ → List (List (List ℕ))
+csv_records bytes = records default_config (strip_bom (strip_bom bytes))
 
 -- the first record is the header, and the others are the rows
-abbrev pub header_of : List (List (List ℕ)) → List (List ℕ)
-header_of [] = []
-header_of (header ∷ rows) = header
+abbrev pub header_record : List (List (List ℕ)) → List (List ℕ)
+header_record [] = []
+header_record (header ∷ rows) = header
 
-abbrev pub rows_of : List (List (List ℕ)) → List (List (List ℕ))
-rows_of records = drop 1 records
+abbrev pub records_behind : List (List (List ℕ)) → List (List (List ℕ))
+records_behind records = drop 1 records
 
 -- without spaces and tabs at the ends
 abbrev pub is_blank : ℕ → Bool
@@ -75,9 +75,9 @@ digits_number [] = None
 digits_number (digit ∷ digits) = all_digits (digit ∷ digits)
 
 -- the same behind an optional sign
-abbrev pub number_of : List ℕ → Option ℤ
-number_of [] = None
-number_of (byte ∷ bytes) =
+abbrev pub number_behind_sign : List ℕ → Option ℤ
+number_behind_sign [] = None
+number_behind_sign (byte ∷ bytes) =
     if byte == 43 then option_map pos (digits_number bytes)
     else (if byte == 45 then option_map (λ n. neg_ℤ (pos n)) (digits_number bytes) else option_map pos (digits_number (byte ∷ bytes)))
 
@@ -112,7 +112,7 @@ taken place (Err fault) = Err (refusal place.row place.leaf fault)
 abbrev pub value_at : Place → List (List ℕ) → Result ℤ RowFault
 value_at place fields = do
   field ← the_field place (slice_get fields place.column)
-  value ← the_number place (number_of (unspaced field))
+  value ← the_number place (number_behind_sign (unspaced field))
   taken place (store_answer place.mode place.kind place.hold value)
 
 -- the leaves from the one of this number on: the column of each, the mode of the view, the type and the hold
@@ -146,5 +146,5 @@ with_columns _ _ _ _ = []
 -- the table of a dataset for a view of this mode and leaves of these names, types and holds
 unfoldable pub dataset_table : StoreMode → List (List ℕ) → List LeafType → List Hold → List (List (List ℕ)) → Result (List (List ℤ)) RowFault
 dataset_table mode names kinds holds records = do
-  columns ← columns_of (header_of records) 0 names
-  table_from 0 (rows_of records) (with_columns mode columns kinds holds)
+  columns ← columns_of (header_record records) 0 names
+  table_from 0 (records_behind records) (with_columns mode columns kinds holds)

@@ -1,5 +1,4 @@
 pub mod Datasets
 pub mod Loads
-pub mod Plain
-pub mod Readers
 pub mod Texts
+pub mod Inner

@@ -1,8 +1,8 @@
 // The records of a dataset, copied by csv.
 ghost use Rattle.std.specs.Prelude.{◌≡◌, option_map};
-ghost use Rattle.piece_bits.specs.Far.{shortened};
-ghost use Rattle.csv_rows.specs.Datasets.{unspaced, number_of, records_of};
-ghost use Rattle.csv_rows.specs.Readers.{rows_left, IsReading};
+ghost use Rattle.piece_bits.specs.Inner.Far.{shortened};
+ghost use Rattle.csv_rows.specs.Datasets.{unspaced, number_behind_sign, csv_records};
+ghost use Rattle.csv_rows.specs.Inner.Readers.{rows_left, IsReading};
 
 use crate::number::{field_number, plain_number, unspaced};
 use crate::reads::{Records, without_mark};
@@ -18,7 +18,7 @@ pub struct Copies<'a> {
 
 impl Records for Copies<'_> {
     ghost use Rattle.csv.specs.Records.{fields_of};
-    ghost use Rattle.csv_rows.specs.Readers.{rows_left, IsReading};
+    ghost use Rattle.csv_rows.specs.Inner.Readers.{rows_left, IsReading};
 
     ghost left = { λ copies. rows_left copies.reader };
 
@@ -47,7 +47,7 @@ impl Records for Copies<'_> {
 
 // The number of a field, found in one pass where it is one as most are.
 fn copied_number(field: &[u8]) -> Option<i128>
-    ensures { result ≡ option_map shortened (number_of (unspaced field.now)) }
+    ensures { result ≡ option_map shortened (number_behind_sign (unspaced field.now)) }
 {
     match plain_number(field) {
         Some((value, count)) if count == field.len() => Some(value),
@@ -58,7 +58,7 @@ fn copied_number(field: &[u8]) -> Option<i128>
 /// The records of a dataset, none of which was read.
 pub fn copies_of(alloc: Global, bytes: &[u8]) -> Copies<'_>
     ensures reading { IsReading result.reader }
-    ensures records { rows_left result.reader ≡ records_of bytes.now }
+    ensures records { rows_left result.reader ≡ csv_records bytes.now }
 {
     let reader = ReaderBuilder::new()
         .has_headers(false)

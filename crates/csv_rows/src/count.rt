@@ -1,9 +1,9 @@
 // The records of a dataset, counted.
 ghost use Rattle.std.specs.Prelude.{◌≡◌, ◌+◌, ◌<◌, IfOk, IfSome, IfNone, length};
 ghost use Rattle.csv.specs.declared.parser.State.TheVariants as st;
-ghost use Rattle.csv_rows.specs.Datasets.{records_of, rows_of};
-ghost use Rattle.csv_rows.specs.Plain.{opens_behind};
-ghost use Rattle.csv_rows.specs.Readers.{record_count, field_state, quote_state};
+ghost use Rattle.csv_rows.specs.Datasets.{csv_records, records_behind};
+ghost use Rattle.csv_rows.specs.Inner.Unquoted.{opens_behind};
+ghost use Rattle.csv_rows.specs.Inner.Readers.{record_count, field_state, quote_state};
 
 use crate::line::from_place;
 use crate::lines::behind_ends;
@@ -13,7 +13,7 @@ use std::alloc::{AllocError as NoMemory, Global};
 
 /// The number of records of a dataset behind its header. Quotes are passed where they stand, so it takes no memory.
 pub fn count_rows(_alloc: Global, bytes: &[u8]) -> Result<u64, NoMemory>
-    ensures { IfOk result (λ rows. rows ≡ length (rows_of (records_of bytes.now))) }
+    ensures { IfOk result (λ rows. rows ≡ length (records_behind (csv_records bytes.now))) }
 {
     let mut text = without_marks(bytes);
     let mut records = 0u64;

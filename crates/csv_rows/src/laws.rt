@@ -4,7 +4,7 @@ ghost use Rattle.record_dim.specs.Schemas.{schema_fields};
 ghost use Rattle.record_dim.specs.Leaves.{texts_of};
 ghost use Rattle.views.specs.Tables.{leaf_types_of, table_holds};
 ghost use Rattle.views.specs.Stores.{AllStay};
-ghost use Rattle.csv_rows.specs.Datasets.{records_of};
+ghost use Rattle.csv_rows.specs.Datasets.{csv_records};
 ghost use Rattle.csv_rows.specs.Loads.{dataset_of};
 ghost use Rattle.csv_rows.specs.Texts.{print_text};
 
@@ -15,7 +15,7 @@ use views::{View, laws_of_table};
 pub fn printed_loads(_printed: &View, _loaded: &View)
     requires schema { _loaded.now.fields ≡ _printed.now.fields }
     requires stay { AllStay _loaded.now.mode (length _printed.now.rows) (leaf_types_of _loaded.now) (table_holds _loaded.now) _printed.now.rows }
-    ensures { dataset_of _loaded.now (records_of (print_text (texts_of _printed.now.fields) _printed.now.rows)) ≡ Ok _printed.now.rows }
+    ensures { dataset_of _loaded.now (csv_records (print_text (texts_of _printed.now.fields) _printed.now.rows)) ≡ Ok _printed.now.rows }
 {
     laws_of_table(_loaded);
     let _some = _printed.schema().leaf_count();

@@ -1,9 +1,9 @@
 // The fields of a line, asked for one after another.
 ghost use Rattle.std.specs.Prelude.{◌≡◌, ◌+◌, ◌≤◌, ◌<◌, ◌^◌, None, MatchBool, IfSome, drop, length, get_or, true, false, option_map};
 ghost use Rattle.std.specs.List.{slice_get, slice_split};
-ghost use Rattle.csv_rows.specs.Datasets.{unspaced, number_of};
-ghost use Rattle.piece_bits.specs.Far.{shortened};
-ghost use Rattle.csv_rows.specs.Plain.{is_comma, is_line_end, line_length, first_line, behind_line, IsFieldHere, IsAt};
+ghost use Rattle.csv_rows.specs.Datasets.{unspaced, number_behind_sign};
+ghost use Rattle.piece_bits.specs.Inner.Far.{shortened};
+ghost use Rattle.csv_rows.specs.Inner.Unquoted.{is_comma, is_line_end, line_length, first_line, behind_line, IsFieldHere, IsAt};
 
 use crate::number::{field_number, plain_number};
 use memchr::{memchr2, memchr3};
@@ -82,7 +82,7 @@ impl<'a> Line<'a> {
         requires { IsAt self.old.text.now self.old.column self.old.start self.old.known }
         ensures text { self.new.text.now ≡ self.old.text.now }
         ensures at { IsAt self.new.text.now self.new.column self.new.start self.new.known }
-        ensures number { result ≡ option_map (λ field. option_map shortened (number_of (unspaced field))) (slice_get (slice_split is_comma (first_line self.old.text.now)) column) }
+        ensures number { result ≡ option_map (λ field. option_map shortened (number_behind_sign (unspaced field))) (slice_get (slice_split is_comma (first_line self.old.text.now)) column) }
     {
         if !self.seek(column) {
             return None;
@@ -100,7 +100,7 @@ impl<'a> Line<'a> {
         requires { IsAt self.old.text.now self.old.column self.old.start self.old.known }
         ensures text { self.new.text.now ≡ self.old.text.now }
         ensures at { IsAt self.new.text.now self.new.column self.new.start self.new.known }
-        ensures number { result ≡ option_map (λ field. option_map shortened (number_of (unspaced field))) (slice_get (slice_split is_comma (first_line self.old.text.now)) column) }
+        ensures number { result ≡ option_map (λ field. option_map shortened (number_behind_sign (unspaced field))) (slice_get (slice_split is_comma (first_line self.old.text.now)) column) }
     {
         let field = self.field(column)?;
         Some(field_number(field))

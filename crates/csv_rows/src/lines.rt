@@ -1,7 +1,7 @@
 // The records of a text without quotes, read in place.
 ghost use Rattle.std.specs.Prelude.{◌≡◌, ◌<◌, true, false, get_or, length};
-ghost use Rattle.csv_rows.specs.Plain.{is_line_end, line_start, HasNoQuote, IsAt};
-ghost use Rattle.csv_rows.specs.Readers.{text_behind};
+ghost use Rattle.csv_rows.specs.Inner.Unquoted.{is_line_end, line_start, HasNoQuote, IsAt};
+ghost use Rattle.csv_rows.specs.Inner.Readers.{text_behind};
 
 use crate::line::{Line, from_place};
 use crate::number::unspaced;
@@ -34,8 +34,8 @@ impl<'a> Lines<'a> {
 impl Records for Lines<'_> {
     ghost use Rattle.std.specs.List.{slice_split};
     ghost use Rattle.csv.specs.declared.parser.State.TheVariants as st;
-    ghost use Rattle.csv_rows.specs.Plain.{is_comma, first_line, HasNoQuote, IsAt};
-    ghost use Rattle.csv_rows.specs.Readers.{rows_from, text_behind};
+    ghost use Rattle.csv_rows.specs.Inner.Unquoted.{is_comma, first_line, HasNoQuote, IsAt};
+    ghost use Rattle.csv_rows.specs.Inner.Readers.{rows_from, text_behind};
 
     ghost left = { λ lines. rows_from st.StartRecord (text_behind lines.is_begun lines.line.text.now) };
 

@@ -3,9 +3,9 @@ ghost use Rattle.std.specs.Prelude.{◌≡◌, ◌⊎◌, IfErr, OnOk, Ok, Err, 
 ghost use Rattle.piece_bits.specs.declared.mode.StoreMode.TheVariants.{Wrap};
 ghost use Rattle.views.specs.Tallies.{Write, all_accesses};
 ghost use Rattle.views.specs.Tables.{leaf_count_of, after_stores};
-ghost use Rattle.csv_rows.specs.Datasets.{records_of, rows_of, table_from};
+ghost use Rattle.csv_rows.specs.Datasets.{csv_records, records_behind, table_from};
 ghost use Rattle.csv_rows.specs.Loads.{leaves_in, dataset_of, IsNoRefusal, Keeps, KeepsRows};
-ghost use Rattle.csv_rows.specs.Plain.{HasNoQuote};
+ghost use Rattle.csv_rows.specs.Inner.Unquoted.{HasNoQuote};
 ghost use Rattle.csv_rows.specs.declared.fault.RowFault.TheVariants.{NoMemory};
 
 use crate::columns::leaf_columns;
@@ -28,11 +28,11 @@ pub fn load_rows<L: Ledger>(
     view: &mut View,
     steps: &mut Steps<L>,
 ) -> Result<(), RowFault>
-    requires { length view.old.rows ≡ length (rows_of (records_of bytes.now)) }
-    ensures loaded { OnOk result (dataset_of view.old (records_of bytes.now) ≡ Ok view.new.rows) }
-    ensures refused { IfErr result (λ f. (f ≡ NoMemory) ⊎ (dataset_of view.old (records_of bytes.now) ≡ Err f)) }
+    requires { length view.old.rows ≡ length (records_behind (csv_records bytes.now)) }
+    ensures loaded { OnOk result (dataset_of view.old (csv_records bytes.now) ≡ Ok view.new.rows) }
+    ensures refused { IfErr result (λ f. (f ≡ NoMemory) ⊎ (dataset_of view.old (csv_records bytes.now) ≡ Err f)) }
     ensures taken { IfErr result (λ f. view.old.mode ≡ Wrap → IsNoRefusal f) }
-    ensures kept { IfErr result (λ f. Keeps view.old (records_of bytes.now) view.new f) }
+    ensures kept { IfErr result (λ f. Keeps view.old (csv_records bytes.now) view.new f) }
     ensures same { OnOk result (view.new ≡ after_stores view.old view.new.rows (all_accesses Write (leaf_count_of view.old) (length view.old.rows))) }
 {
     let text = without_marks(bytes);
@@ -80,7 +80,7 @@ fn load_from<R: Records, L: Ledger>(
     steps: &mut Steps<L>,
 ) -> Result<(), RowFault>
     requires reading { R.stands records.old }
-    requires rows { length view.old.rows ≡ length (rows_of (R.left records.old)) }
+    requires rows { length view.old.rows ≡ length (records_behind (R.left records.old)) }
     ensures loaded { OnOk result (dataset_of view.old (R.left records.old) ≡ Ok view.new.rows) }
     ensures refused { IfErr result (λ f. (f ≡ NoMemory) ⊎ (dataset_of view.old (R.left records.old) ≡ Err f)) }
     ensures kept { IfErr result (λ f. Keeps view.old (R.left records.old) view.new f) }

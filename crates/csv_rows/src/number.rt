@@ -1,9 +1,9 @@
 // The number that a field spells.
 ghost use Rattle.std.specs.Prelude.{◌≡◌, ◌≤◌, ◌<◌, ◌^◌, ◌||◌, ℕ, pos, neg_ℤ, Some, true, false, IfSome, option_map, take, length, get_or};
 ghost use Rattle.std.specs.Char.{is_ascii_digit};
-ghost use Rattle.csv_rows.specs.Datasets.{is_blank, behind_blanks, before_blanks, unspaced, all_digits, digits_number, number_of};
-ghost use Rattle.piece_bits.specs.Far.{folded, shortened};
-ghost use Rattle.csv_rows.specs.Plain.{is_comma, is_line_end, IsFieldHere};
+ghost use Rattle.csv_rows.specs.Datasets.{is_blank, behind_blanks, before_blanks, unspaced, all_digits, digits_number, number_behind_sign};
+ghost use Rattle.piece_bits.specs.Inner.Far.{folded, shortened};
+ghost use Rattle.csv_rows.specs.Inner.Unquoted.{is_comma, is_line_end, IsFieldHere};
 
 use crate::lines::is_line_end;
 use piece_bits::folded;
@@ -12,13 +12,13 @@ use piece_bits::folded;
 /// from 0 or further, one is answered that is as well, and has the same 64 low bits: no leaf of a strict view can store either, and any
 /// other keeps the same of both.
 pub fn field_number(field: &[u8]) -> Option<i128>
-    ensures { result ≡ option_map shortened (number_of (unspaced field.now)) }
+    ensures { result ≡ option_map shortened (number_behind_sign (unspaced field.now)) }
 {
     signed_number(unspaced(field))
 }
 
 fn signed_number(text: &[u8]) -> Option<i128>
-    ensures { result ≡ option_map shortened (number_of text.now) }
+    ensures { result ≡ option_map shortened (number_behind_sign text.now) }
 {
     if text.is_empty() {
         return None;
@@ -54,7 +54,7 @@ fn digits_number(digits: &[u8]) -> Option<i128>
 #[inline(always)]
 pub fn plain_number(bytes: &[u8]) -> Option<(i128, usize)>
     ensures field { IfSome result (λ found. IsFieldHere bytes.now found.1) }
-    ensures number { IfSome result (λ found. option_map shortened (number_of (unspaced (take found.1 bytes.now))) ≡ Some found.0) }
+    ensures number { IfSome result (λ found. option_map shortened (number_behind_sign (unspaced (take found.1 bytes.now))) ≡ Some found.0) }
 {
     if bytes.is_empty() {
         return None;

@@ -3,10 +3,10 @@ ghost use Rattle.std.specs.Prelude.{◌≡◌, ◌+◌, ◌<◌, ◌^◌, ◌∷
 ghost use Rattle.std.specs.List.{slice_get};
 ghost use Rattle.std.specs.Cmp.Lexicographic.{pointwise};
 ghost use Rattle.csv.specs.Reading.{strip_bom};
-ghost use Rattle.csv_rows.specs.Datasets.{unspaced, number_of};
-ghost use Rattle.piece_bits.specs.Far.{shortened};
-ghost use Rattle.csv_rows.specs.Plain.{HasNoQuote};
-ghost use Rattle.csv_rows.specs.Readers.{IsAsked};
+ghost use Rattle.csv_rows.specs.Datasets.{unspaced, number_behind_sign};
+ghost use Rattle.piece_bits.specs.Inner.Far.{shortened};
+ghost use Rattle.csv_rows.specs.Inner.Unquoted.{HasNoQuote};
+ghost use Rattle.csv_rows.specs.Inner.Readers.{IsAsked};
 
 use memchr::memchr;
 use std::alloc::AllocError as NoMemory;
@@ -39,7 +39,7 @@ pub trait Records {
     /// The number of the field of a column, if there is such a column, and it is a number.
     fn number(&mut self, column: usize) -> Option<Option<i128>>
         requires { stands self.old }
-        ensures number { result ≡ option_map (λ field. option_map shortened (number_of (unspaced field))) (slice_get (fields self.old) column) }
+        ensures number { result ≡ option_map (λ field. option_map shortened (number_behind_sign (unspaced field))) (slice_get (fields self.old) column) }
         ensures asked { IsAsked stands fields left self.old self.new };
 }
 

@@ -5,7 +5,7 @@ ghost use Rattle.views.specs.Tallies.{Write, row_accesses};
 ghost use Rattle.views.specs.Tables.{leaf_count_of, answer_of, kept_of, after_stores};
 ghost use Rattle.csv_rows.specs.Datasets.{refusal, value_at, row_values};
 ghost use Rattle.csv_rows.specs.Loads.{place_of, leaves_in};
-ghost use Rattle.csv_rows.specs.Readers.{IsAsked};
+ghost use Rattle.csv_rows.specs.Inner.Readers.{IsAsked};
 
 use crate::fault::RowFault;
 use crate::reads::Records;

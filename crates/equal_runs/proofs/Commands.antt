@@ -1,5 +1,5 @@
 -- The commands that change or read a table, done to alike worlds.
-use Rattle.equal_runs.proofs.Imports.{◌≡◌, ℕ, Bool, true, false, ℤ, List, [], ◌∷◌, ◌++◌, length, Option, Some, None, Result, Ok, refl, sym, ap, subst, ◌∙◌, ◌+◌, ◌*◌, ◌^◌, not, nat_lt, slice_index_or, indices, Span, place_in, PathStep, kinds_of, texts_of, MapTerm, holds_by, hold_at, with_entry, Keeping, kind_at, Access, Write, Tally, all_accesses, Read, LeafCounts, counts_text, StoreFault, Term, Value, Assignment, Show, KernelText, ReduceKind, ShowKind, TermText, Table, leaf_count_of, answer_of, kept_of, after_stores, Setting, updated_rows, counted, value_log, rows_log, UpdateFault, UpdateKind, KernelFault, Kernel, Stencil, stenciled, rounds_log, StencilFault, World, found, Done, stores, tells, done_to, with_table, on_view, Outcome, Goes, ◌>>=◌, LeftOf, Left, known, some_or, refused_if, refused_by, ok_or, leaf_of, bound, bound_filter, bound_sets, each_once, leaves_of, text_of_leaf, storable, store_fault, value_on, inside, assigned, updated, update_fault, kind_fault, reduction, reduced, column, counting, are_alike, all_read, copied, copy, run, fit_kernel, kernel_run, number_text, run_fault, print, counts, showing, drop_view, fit_stencil, room_beside, stencil_fault, stencil_rounds, stencil_run, windowed, print_window, blob_bits, Mismatch, NotCounted, TooBig, is_of_layout, shows_layout}
+use Rattle.equal_runs.proofs.Imports.{◌≡◌, ℕ, Bool, true, false, ℤ, List, [], ◌∷◌, ◌++◌, length, Option, Some, None, Result, Ok, refl, sym, ap, subst, ◌∙◌, ◌+◌, ◌*◌, ◌^◌, not, nat_lt, slice_index_or, indices, Span, place_in, PathStep, kinds_of, texts_of, MapTerm, holds_by, hold_at, with_entry, Keeping, kind_at, Access, Write, Tally, all_accesses, Read, LeafCounts, counts_text, StoreFault, Term, Value, Assignment, Show, KernelText, ReduceKind, ShowKind, TermText, Table, leaf_count_of, answer_of, kept_of, after_stores, Setting, updated_rows, counted, value_log, rows_log, UpdateFault, UpdateKind, KernelFault, Kernel, Stencil, stenciled, rounds_log, StencilFault, World, found, Done, stores, tells, done_to, with_table, on_view, Outcome, Goes, ◌>>=◌, LeftOf, Left, known, some_or, refused_if, refused_by, ok_or, leaf_of, bound, bound_filter, bound_sets, each_once, leaves_of, text_of_leaf, storable, store_fault, value_on, inside, assigned, updated, update_fault, kind_fault, reduction, reduced, column, counting, are_alike, all_read, copied, copy, kernel_outcome, fit_kernel, kernel_run, number_text, kernel_row_fault, print, counts, showing, drop_view, fit_stencil, room_beside, stencil_fault, stencil_rounds, stencil_run, windowed, print_window, blob_bits, Mismatch, NotCounted, TooBig, is_of_layout, shows_layout}
 use Rattle.views.specs.declared.fault.StoreFault.TheVariants as store
 use Rattle.line_grammar.specs.declared.line.ShowKind.TheVariants as show
 use Rattle.row_updates.specs.declared.fault.UpdateKind.TheVariants as update_kind
@@ -31,7 +31,7 @@ narrow_update table n e is = of_kind e.kind is where
   of_kind update_kind.DivideByZero is = absurd (cc)
   of_kind (update_kind.Range leaf) is = absurd (cc)
 
-narrow_run : (table : Table) (n : Bool) (e : KernelFault) → is_narrow_kernel e ≡ true → is_of_layout n (run_fault table.fields e) ≡ true
+narrow_run : (table : Table) (n : Bool) (e : KernelFault) → is_narrow_kernel e ≡ true → is_of_layout n (kernel_row_fault table.fields e) ≡ true
 narrow_run table n (kernel_fault.Narrow row leaf) is = refl
 narrow_run table n kernel_fault.Empty is = absurd (cc)
 narrow_run table n (kernel_fault.Range row leaf) is = absurd (cc)
@@ -111,18 +111,18 @@ module _ (m o : Bool) (table : Table) (mapping : MapTerm) (tally : Tally) (same 
   abbrev ran_by : Keeping → Kernel → Done
   ran_by keep fit = record {
     rows = kernels.run_rows keep fit (length table.rows) table.rows;
-    log = kernel_logs.rows_log fit (length table.rows);
-    text = number_text (kernels.number_of fit table.rows);
+    log = kernel_logs.kernel_rows_log fit (length table.rows);
+    text = number_text (kernels.given_number fit table.rows);
   }
 
   pub ran_agree : (text : KernelText) (lanes : ℕ) → Same m o (kernel_run table text lanes) (kernel_run (under table mapping tally) text lanes)
   unfolding kernel_run
   ran_agree text lanes = before m o SameDone (fit_kernel table.fields text lanes) _ _ ran where
-    ran : (fit : Kernel) → Same m o (run table fit) (run (under table mapping tally) fit)
+    ran : (fit : Kernel) → Same m o (kernel_outcome table fit) (kernel_outcome (under table mapping tally) fit)
     ran fit =
-        bind m o Both SameDone (refused_by (run_fault table.fields) (kernels.kernel_fault (answer_of table) fit table.rows))
-        (refused_by (run_fault table.fields) (kernels.kernel_fault (answer_of (under table mapping tally)) fit table.rows)) _ _
-        (by_agree m o is_narrow_kernel (run_fault table.fields) _ _ (narrow_run table)
+        bind m o Both SameDone (refused_by (kernel_row_fault table.fields) (kernels.kernel_fault (answer_of table) fit table.rows))
+        (refused_by (kernel_row_fault table.fields) (kernels.kernel_fault (answer_of (under table mapping tally)) fit table.rows)) _ _
+        (by_agree m o is_narrow_kernel (kernel_row_fault table.fields) _ _ (narrow_run table)
         (kernel_causes (answer_of table) (answer_of (under table mapping tally)) answers_under fit table.rows))
         (λ done other p. go _ _ (ap (λ (keep : Keeping). ran_by keep fit) same.kept))
 

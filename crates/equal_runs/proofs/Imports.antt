@@ -10,10 +10,10 @@ pub use Rattle.worlds.specs.declared.fault.CommandFault.{CommandFault}
 pub use Rattle.record_dim.specs.declared.leaf_type.LeafType.{LeafType}
 pub use Rattle.record_dim.specs.LeafTypes.{least_of, greatest_of, least_in, greatest_in}
 pub use Rattle.places.specs.declared.piece.Hold.{Hold}
-pub use Rattle.piece_bits.specs.Kept.{kept}
+pub use Rattle.piece_bits.specs.LowBits.{kept}
 pub use Rattle.piece_bits.specs.declared.mode.StoreMode.{StoreMode}
 pub use Rattle.piece_bits.specs.declared.mode.StoreMode.TheVariants.{Strict, Wrap}
-pub use Rattle.views.specs.Stores.{store_answer, kept_or, is_between, Keeping, kind_at, Answer, kept_row, kept_rows, kept_by}
+pub use Rattle.views.specs.Stores.{store_answer, kept_or, is_between, Keeping, kind_at, StoreAnswer, kept_row, kept_rows, kept_by}
 pub use Rattle.views.specs.declared.fault.StoreFault.{StoreFault}
 pub use Rattle.views.specs.declared.fault.StoreFault.TheVariants.{Range, Narrow}
 pub use Rattle.extents.specs.Indices.{indices}
@@ -40,7 +40,7 @@ pub use Rattle.row_updates.specs.declared.fault.UpdateFault.{UpdateFault}
 pub use Rattle.row_updates.specs.declared.fault.UpdateKind.{UpdateKind}
 pub use Rattle.lane_kernels.specs.declared.fault.KernelFault.{KernelFault}
 pub use Rattle.lane_kernels.specs.declared.kernel.Kernel.{Kernel}
-pub use Rattle.subviews.specs.Stencils.{Stencil, stenciled, rounds_log, stencil_value, at_row, values_fault, with_column, new_entry, if_fits, round, next_round, after_rounds}
+pub use Rattle.subviews.specs.Stencils.{Stencil, stenciled, rounds_log, stencil_value, at_row, values_fault, with_entries, new_entry, if_fits, round, next_round, after_rounds}
 pub use Rattle.subviews.specs.declared.fault.StencilFault.{StencilFault}
 pub use Rattle.worlds.specs.Worlds.{World, found, Entry, same_name, added, replaced, removed, empty}
 pub use Rattle.worlds.specs.OnView.{Done, stores, tells, done_to, with_table, Work, worked}
@@ -55,7 +55,7 @@ pub use Rattle.worlds.specs.Reduce.{reduced, column}
 unfoldable pub use Rattle.worlds.specs.Reduce.{reduction, counting}
 pub use Rattle.worlds.specs.Copy.{are_alike, all_read, narrow_fault}
 unfoldable pub use Rattle.worlds.specs.Copy.{copied, copy, relayout, laid_anew, with_rows}
-pub use Rattle.worlds.specs.Kernel.{run, fit_kernel, number_text, run_fault}
+pub use Rattle.worlds.specs.Kernel.{kernel_outcome, fit_kernel, number_text, kernel_row_fault}
 unfoldable pub use Rattle.worlds.specs.Kernel.{kernel_run}
 pub use Rattle.worlds.specs.Show.{showing}
 unfoldable pub use Rattle.worlds.specs.Show.{print, counts, drop_view, heat}
@@ -66,8 +66,8 @@ unfoldable pub use Rattle.worlds.specs.Windows.{print_window}
 pub use Rattle.worlds.specs.Tables.{blob_bits, made, resolved, room, shaped, zeros_of, live_bits}
 pub use Rattle.worlds.specs.declared.fault.CommandFault.TheVariants.{Mismatch, NotCounted, TooBig, Unknown, Taken, BadMapping, TooManyViews}
 pub use Rattle.worlds.specs.declared.fault.UnknownName.TheVariants.{Name}
-pub use Rattle.lane_kernels.specs.Kernels.{Store, stored, answer_fault, first_fault, empty_fault, kernel_fault}
-pub use Rattle.csv_rows.specs.Datasets.{Place, Leaf, the_field, the_number, number_of, unspaced, refusal, taken, value_at, row_values, table_from, with_columns, columns_of, header_of, rows_of, records_of}
+pub use Rattle.lane_kernels.specs.Kernels.{Store, stored, answer_fault, first_row_fault, empty_fault, kernel_fault}
+pub use Rattle.csv_rows.specs.Datasets.{Place, Leaf, the_field, the_number, number_behind_sign, unspaced, refusal, taken, value_at, row_values, table_from, with_columns, columns_of, header_record, records_behind, csv_records}
 unfoldable pub use Rattle.csv_rows.specs.Datasets.{dataset_table}
 pub use Rattle.csv_rows.specs.declared.fault.RowFault.{RowFault}
 pub use Rattle.csv_rows.specs.declared.fault.RowFault.TheVariants.{ShortRow, Number}
@@ -75,7 +75,7 @@ pub use Rattle.layout_io.specs.Files.{File}
 pub use Rattle.record_dim.specs.Trees.{Tree, Fields}
 pub use Rattle.piece_bits.specs.TableLaws.{zeros_shape}
 pub use Rattle.views.specs.TallyLaws.{tallied-none, tallied-append, tallied-counts}
-pub use Rattle.blob_file.specs.Opened.{Saved, opened, rows_in, table_of}
+pub use Rattle.blob_file.specs.Opened.{Saved, opened, rows_in, table_of_saved}
 pub use Rattle.csv_rows.specs.Loads.{dataset_of}
 pub use Rattle.map_expr.specs.Checks.{checked}
 pub use Rattle.worlds.specs.Define.{fit}
@@ -95,7 +95,7 @@ pub use Rattle.line_grammar.specs.declared.version.Version.{Version}
 pub use Rattle.worlds.specs.Outcome.{Output}
 pub use Rattle.worlds.specs.Fold.{run_from, after, fails_at, prepend}
 pub use Rattle.places.specs.Layout.{Owner}
-pub use Rattle.views.specs.Entries.{AreEntries, AreCounts, AreHeat}
+pub use Rattle.views.specs.AccessEntries.{AreEntries, AreCounts, AreHeat}
 pub use Rattle.layout_copy.specs.Copies.{refused_at}
 pub use Rattle.views.specs.AnswerLaws.{kept_alike}
 pub use Rattle.map_any.specs.Counters.{has_count}
@@ -106,4 +106,4 @@ pub use Rattle.equal_runs.specs.GoesLaws.{IfGoes, to, refused, unread, bind, beh
 pub use Rattle.equal_runs.specs.Logs.{log_in, logged, reads_of, writes_of, fills_of, done_log, work_logs, logs_after, SoFar, at_first, one_more, Comes, there, further, log_of}
 pub use Rattle.equal_runs.specs.Widths.{MakesWide, HoldsOf, StaysWide}
 pub use Rattle.equal_runs.specs.EqualRuns.{DoesLines, EqualRuns}
-pub use Rattle.equal_runs.specs.Entries.{ShowsCounts, ShowsHeat, ShowsEntries, tally_since}
+pub use Rattle.equal_runs.specs.RunEntries.{ShowsCounts, ShowsHeat, ShowsEntries, tally_since}

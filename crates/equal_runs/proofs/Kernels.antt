@@ -1,8 +1,8 @@
 -- Which fault ends a kernel, by the answers to its stores.
-use Rattle.equal_runs.proofs.Imports.{◌≡◌, ℕ, Bool, true, false, ℤ, List, [], ◌∷◌, Option, Some, None, Result, Err, refl, option_or, Answer, StoreFault, Store, stored, answer_fault, first_fault, empty_fault, kernel_fault, KernelFault, Kernel}
+use Rattle.equal_runs.proofs.Imports.{◌≡◌, ℕ, Bool, true, false, ℤ, List, [], ◌∷◌, Option, Some, None, Result, Err, refl, option_or, StoreAnswer, StoreFault, Store, stored, answer_fault, first_row_fault, empty_fault, kernel_fault, KernelFault, Kernel}
 use Rattle.std.proofs.Common.{◌+◌}
 use Rattle.views.specs.declared.fault.StoreFault.TheVariants as stored_fault
-use Rattle.lane_kernels.specs.Kernels.{store_fault}
+use Rattle.lane_kernels.specs.Kernels.{kernel_store_fault}
 use Rattle.lane_kernels.specs.declared.fault.KernelFault.TheVariants.{Narrow}
 use Rattle.equal_runs.proofs.Answers.{Answers, both, fails, first, second, Causes, same, one, other as another, is_narrow}
 
@@ -31,17 +31,17 @@ answer_causes row leaf x y (first e z is) = narrow_answer row leaf e (answer_fau
 answer_causes row leaf x y (second z e is) = narrow_other row leaf (answer_fault row leaf z) e is
 
 -- two answers to stores that both keep a number, or of which one says that the value is not held
-module _ {Alike : Type 0} (answer other : Answer) (alike : (leaf : ℕ) (value : ℤ) → Answers is_narrow Alike (answer leaf value) (other leaf value)) where
-  store_causes : (row : ℕ) (store : Option Store) → Causes is_narrow_kernel (store_fault answer row store) (store_fault other row store)
+module _ {Alike : Type 0} (answer other : StoreAnswer) (alike : (leaf : ℕ) (value : ℤ) → Answers is_narrow Alike (answer leaf value) (other leaf value)) where
+  store_causes : (row : ℕ) (store : Option Store) → Causes is_narrow_kernel (kernel_store_fault answer row store) (kernel_store_fault other row store)
   store_causes row None = same None
   store_causes row (Some store) = answer_causes row store.leaf (answer store.leaf store.value) (other store.leaf store.value) (alike store.leaf store.value)
 
-  first_causes : (kernel : Kernel) (row : ℕ) (rows : List (List ℤ)) → Causes is_narrow_kernel (first_fault answer kernel row rows) (first_fault other kernel row rows)
+  first_causes : (kernel : Kernel) (row : ℕ) (rows : List (List ℤ)) → Causes is_narrow_kernel (first_row_fault answer kernel row rows) (first_row_fault other kernel row rows)
   first_causes kernel row [] = same None
   first_causes kernel row (values ∷ rows) =
-      or_causes (store_fault answer row (stored kernel values)) (store_fault other row (stored kernel values)) (first_fault answer kernel (row + 1) rows) (first_fault other kernel (row + 1) rows)
+      or_causes (kernel_store_fault answer row (stored kernel values)) (kernel_store_fault other row (stored kernel values)) (first_row_fault answer kernel (row + 1) rows) (first_row_fault other kernel (row + 1) rows)
       (store_causes row (stored kernel values)) (first_causes kernel (row + 1) rows)
 
   pub kernel_causes : (kernel : Kernel) (rows : List (List ℤ)) → Causes is_narrow_kernel (kernel_fault answer kernel rows) (kernel_fault other kernel rows)
   kernel_causes kernel rows =
-      or_causes (empty_fault kernel rows) (empty_fault kernel rows) (first_fault answer kernel 0 rows) (first_fault other kernel 0 rows) (same (empty_fault kernel rows)) (first_causes kernel 0 rows)
+      or_causes (empty_fault kernel rows) (empty_fault kernel rows) (first_row_fault answer kernel 0 rows) (first_row_fault other kernel 0 rows) (same (empty_fault kernel rows)) (first_causes kernel 0 rows)

@@ -1,5 +1,5 @@
 -- What a dataset answers, by how its leaves are held: one table where `Alike` says that their holds keep the same numbers.
-use Rattle.equal_runs.proofs.Imports.{◌≡◌, ℕ, suc, Bool, true, false, ℤ, List, [], ◌∷◌, length, Option, Some, None, Result, Ok, Err, refl, ap, ◌∙◌, arith, slice_get, LeafType, Hold, hold_at, StoreMode, kind_at, kept_or, store_answer, StoreFault, Place, Leaf, the_field, the_number, number_of, unspaced, refusal, taken, value_at, row_values, table_from, with_columns, columns_of, header_of, rows_of, dataset_table, RowFault, ShortRow, Number}
+use Rattle.equal_runs.proofs.Imports.{◌≡◌, ℕ, suc, Bool, true, false, ℤ, List, [], ◌∷◌, length, Option, Some, None, Result, Ok, Err, refl, ap, ◌∙◌, arith, slice_get, LeafType, Hold, hold_at, StoreMode, kind_at, kept_or, store_answer, StoreFault, Place, Leaf, the_field, the_number, number_behind_sign, unspaced, refusal, taken, value_at, row_values, table_from, with_columns, columns_of, header_record, records_behind, dataset_table, RowFault, ShortRow, Number}
 use Rattle.std.proofs.Common.{◌+◌}
 use Rattle.views.specs.declared.fault.StoreFault.TheVariants as store
 use Rattle.csv_rows.specs.Datasets.{◌>>=◌}
@@ -75,10 +75,10 @@ module _ {Alike : Type 0} (place : Place) (hold : Hold) (alike : Alike → KeepA
       (store_answers place.mode place.kind place.hold hold value (λ holds_alike. alike holds_alike value))
 
   field_answers : (field : Option (List ℕ))
-      → Answers is_narrow_row Alike (the_field place field >>= (λ f. the_number place (number_of (unspaced f)) >>= store_in place))
-      (the_field (held_by place hold) field >>= (λ f. the_number (held_by place hold) (number_of (unspaced f)) >>= store_in (held_by place hold)))
+      → Answers is_narrow_row Alike (the_field place field >>= (λ f. the_number place (number_behind_sign (unspaced f)) >>= store_in place))
+      (the_field (held_by place hold) field >>= (λ f. the_number (held_by place hold) (number_behind_sign (unspaced f)) >>= store_in (held_by place hold)))
   field_answers None = fails (ShortRow place.row place.leaf)
-  field_answers (Some field) = number_answers (number_of (unspaced field))
+  field_answers (Some field) = number_answers (number_behind_sign (unspaced field))
 
   value_answers : (fields : List (List ℕ)) → Answers is_narrow_row Alike (value_at place fields) (value_at (held_by place hold) fields)
   value_answers fields = field_answers (slice_get fields place.column)
@@ -102,6 +102,6 @@ pub dataset_answers : {Alike : Type 0} (mode : StoreMode) (names : List (List �
     → Answers is_narrow_row Alike (dataset_table mode names kinds holds records) (dataset_table mode names kinds held records)
 unfolding dataset_table
 dataset_answers mode names kinds holds held records many other alike =
-    before (columns_of (header_of records) 0 names)
-    (λ columns. table_from 0 (rows_of records) (with_columns mode columns kinds holds)) (λ columns. table_from 0 (rows_of records) (with_columns mode columns kinds held))
-    (λ columns. table_answers 0 (rows_of records) (with_columns mode columns kinds holds) (with_columns mode columns kinds held) (leaves_with mode columns kinds holds held many other alike))
+    before (columns_of (header_record records) 0 names)
+    (λ columns. table_from 0 (records_behind records) (with_columns mode columns kinds holds)) (λ columns. table_from 0 (records_behind records) (with_columns mode columns kinds held))
+    (λ columns. table_answers 0 (records_behind records) (with_columns mode columns kinds holds) (with_columns mode columns kinds held) (leaves_with mode columns kinds holds held many other alike))

@@ -1,5 +1,5 @@
 -- What is counted of a view are the accesses to it, line after line.
-use Rattle.equal_runs.proofs.Imports.{◌≡◌, ℕ, Bool, false, List, [], ◌++◌, length, Option, Some, None, refl, sym, ap, subst, ◌∙◌, ◌+◌, ◌*◌, ◌^◌, nat_lt, not, length-map, File, indices, leaves, Tree, Fields, MapTerm, zeros, zeros_shape, StoreMode, Sentence, New, Access, Tally, tallied, no_tally, all_accesses, Read, Write, tallied-none, tallied-append, kept_row, kept_rows, Table, owners_of, leaf_count_of, kept_of, after_stores, World, Entry, found, added, replaced, removed, Saved, opened, rows_in, table_of, records_of, rows_of, dataset_of, checked, copy, copied, relayout, all_read, laid_anew, are_alike, define, fit, bad_file, open_view, opened_beside, opened_table, load, loaded_table, loaded, filled, read, row_fault, mapping, Done, Work, done_to, on_view, worked, Outcome, Goes, ◌>>=◌, LeftOf, Left, quiet, known, free, refused_if, ok_or, drop_view, step, work_of, made, resolved, room, shaped, zeros_of, blob_bits, live_bits, nameless, view, new_table, with_view, named, Named, BadMapping, TooBig, Mismatch, found_added, found_replaced, IfGoes, to, refused, unread, bind, behind, known_found, free_found, log_in, logged, reads_of, writes_of, fills_of, done_log, work_logs, logs_after}
+use Rattle.equal_runs.proofs.Imports.{◌≡◌, ℕ, Bool, false, List, [], ◌++◌, length, Option, Some, None, refl, sym, ap, subst, ◌∙◌, ◌+◌, ◌*◌, ◌^◌, nat_lt, not, length-map, File, indices, leaves, Tree, Fields, MapTerm, zeros, zeros_shape, StoreMode, Sentence, New, Access, Tally, tallied, no_tally, all_accesses, Read, Write, tallied-none, tallied-append, kept_row, kept_rows, Table, owners_of, leaf_count_of, kept_of, after_stores, World, Entry, found, added, replaced, removed, Saved, opened, rows_in, table_of_saved, csv_records, records_behind, dataset_of, checked, copy, copied, relayout, all_read, laid_anew, are_alike, define, fit, bad_file, open_view, opened_beside, opened_table, load, loaded_table, loaded, filled, read, row_fault, mapping, Done, Work, done_to, on_view, worked, Outcome, Goes, ◌>>=◌, LeftOf, Left, quiet, known, free, refused_if, ok_or, drop_view, step, work_of, made, resolved, room, shaped, zeros_of, blob_bits, live_bits, nameless, view, new_table, with_view, named, Named, BadMapping, TooBig, Mismatch, found_added, found_replaced, IfGoes, to, refused, unread, bind, behind, known_found, free_found, log_in, logged, reads_of, writes_of, fills_of, done_log, work_logs, logs_after}
 use Rattle.std.specs.Prelude.{ℤ}
 use Rattle.line_grammar.specs.Sentences as line
 use Rattle.equal_runs.proofs.Agreeing.{Told, goes, told}
@@ -83,7 +83,7 @@ zeros_filled zeros records is =
     }))
 
 -- the table of a file is filled with its rows
-saved_filled : (saved : Saved) → IsFilled (table_of saved)
+saved_filled : (saved : Saved) → IsFilled (table_of_saved saved)
 saved_filled saved = record {
   mode = saved.header.mode;
   fields = saved.header.fields;
@@ -157,9 +157,9 @@ module _ (world : World) (logs : List (Entry (List Access))) (all : AreCounted w
       behind P (λ (whole : Named). found new.name world.views ≡ None) (named world new) _ (named_free new) (λ whole none.
       bind P (read files fails file) _ (λ bytes b.
       bind P (refused_if (nat_lt (2 ^ 28) (length bytes)) TooBig) _ (λ short c.
-      bind P (resolved new.words (Some (length (rows_of (records_of bytes))))) _ (λ extents d.
+      bind P (resolved new.words (Some (length (records_behind (csv_records bytes))))) _ (λ extents d.
       behind P IsZeros (made world.views whole.mode whole.fields extents whole.mapping) _ (made_zeros world.views whole.mode whole.fields extents whole.mapping) (λ zeros is.
-      with_free new none (filled zeros (records_of bytes)) (zeros_filled zeros (records_of bytes) is))))))
+      with_free new none (filled zeros (csv_records bytes)) (zeros_filled zeros (csv_records bytes) is))))))
     where
       with_free : (new : New) → found new.name world.views ≡ None → (x : Outcome Table) → IfGoes IsFilled x → IfGoes (IsLoaded new.name) x
       with_free new none x (to t is) = to t (is, none)
@@ -180,7 +180,7 @@ module _ (world : World) (logs : List (Entry (List Access))) (all : AreCounted w
       bind P (read files fails file) _ (λ bytes b.
       bind P (refused_if (nat_lt (2 ^ 28 + 8206) (length bytes)) TooBig) _ (λ short c.
       bind P (ok_or bad_file (opened bytes)) _ (λ saved d.
-      bind P (refused_if (nat_lt (8 * 2 ^ 30) (live_bits world.views + blob_bits (table_of saved))) TooBig) _ (λ fits e.
+      bind P (refused_if (nat_lt (8 * 2 ^ 30) (live_bits world.views + blob_bits (table_of_saved saved))) TooBig) _ (λ fits e.
       to _ (saved_filled saved, free_found _ (found name world.views) is)))))))
 
   open_keeps : (name file : List ℕ) (files : List File) (fails : Bool) → IfGoes (Keeps (λ w. added name (fills_of (found name w.views)) logs)) (open_view world name file files fails)

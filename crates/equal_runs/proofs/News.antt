@@ -1,5 +1,5 @@
 -- The commands with names and mapping expressions, done to alike worlds.
-use Rattle.equal_runs.proofs.Imports.{◌≡◌, ℕ, Bool, true, ℤ, List, length, Option, Some, None, refl, sym, ap, subst, ◌∙◌, ◌+◌, ◌*◌, ◌^◌, ◌&&◌, is_some, IfSome, nat_lt, nat_le, ExtentWord, File, Tree, Fields, kinds_of, texts_of, New, View, Relayout, MapTerm, checked, holds_by, holds_cells, length-leaf_cells, opened, table_of, records_of, rows_of, dataset_table, RowFault, Keeping, Table, IsWide, leaf_count_of, after_stores, World, Entry, found, Tally, all_accesses, Write, Outcome, Left, quiet, known, free, refused_if, ok_or, nameless, room, shaped, resolved, made, zeros_of, blob_bits, live_bits, fit, define, mapping, Named, named, new_table, with_view, view, read, filled, loaded, loaded_table, load, fault_of, laid_anew, relayout, bad_file, opened_beside, opened_table, open_view, BadMapping, TooBig, TooManyViews, is_refused, is_of_layout, found_added, found_replaced, MakesWide}
+use Rattle.equal_runs.proofs.Imports.{◌≡◌, ℕ, Bool, true, ℤ, List, length, Option, Some, None, refl, sym, ap, subst, ◌∙◌, ◌+◌, ◌*◌, ◌^◌, ◌&&◌, is_some, IfSome, nat_lt, nat_le, ExtentWord, File, Tree, Fields, kinds_of, texts_of, New, View, Relayout, MapTerm, checked, holds_by, holds_cells, length-leaf_cells, opened, table_of_saved, csv_records, records_behind, dataset_table, RowFault, Keeping, Table, IsWide, leaf_count_of, after_stores, World, Entry, found, Tally, all_accesses, Write, Outcome, Left, quiet, known, free, refused_if, ok_or, nameless, room, shaped, resolved, made, zeros_of, blob_bits, live_bits, fit, define, mapping, Named, named, new_table, with_view, view, read, filled, loaded, loaded_table, load, fault_of, laid_anew, relayout, bad_file, opened_beside, opened_table, open_view, BadMapping, TooBig, TooManyViews, is_refused, is_of_layout, found_added, found_replaced, MakesWide}
 use Rattle.csv_rows.specs.declared.fault.RowFault.TheVariants as row_fault
 use Rattle.equal_runs.proofs.Agreeing.{Agree, go, bind, before, alone, weaker, both_told, Any, Both, told_if, told_ok, told_misses}
 use Rattle.equal_runs.proofs.Answers.{Given, ok_agree}
@@ -61,12 +61,12 @@ module _ (m o : Bool) where
   unfolding loaded
   loaded_agree views others whole other words bytes same =
       before m o AlikeIfWide (refused_if (nat_lt (2 ^ 28) (length bytes)) TooBig) _ _ (λ short.
-      before m o AlikeIfWide (resolved words (Some (length (rows_of (records_of bytes))))) _ _ (λ extents.
+      before m o AlikeIfWide (resolved words (Some (length (records_behind (csv_records bytes))))) _ _ (λ extents.
       let alike = zeros_alike whole.mode whole.fields extents whole.mapping other.mapping in
       let changed = zeros_of whole.mode whole.fields extents other.mapping in
-      bind m o (λ (a b : Table). Agree m o AlikeIfWide (filled a (records_of bytes)) (filled b (records_of bytes))) AlikeIfWide
+      bind m o (λ (a b : Table). Agree m o AlikeIfWide (filled a (csv_records bytes)) (filled b (csv_records bytes))) AlikeIfWide
       (made views whole.mode whole.fields extents whole.mapping) (made others other.mode other.fields extents other.mapping) _ _
-      (made_agree _ views others whole other extents same (filled_agree (zeros_of whole.mode whole.fields extents whole.mapping) other.mapping changed.tally alike (records_of bytes)))
+      (made_agree _ views others whole other extents same (filled_agree (zeros_of whole.mode whole.fields extents whole.mapping) other.mapping changed.tally alike (csv_records bytes)))
       (λ a b agree. agree)))
 
   -- the table of a file, which is the same in both, but too big beside the others of one
@@ -75,7 +75,7 @@ module _ (m o : Bool) where
   opened_agree views others bytes =
       before m o AlikeTables (refused_if (nat_lt (2 ^ 28 + 8206) (length bytes)) TooBig) _ _ (λ short.
       before m o AlikeTables (ok_or bad_file (opened bytes)) _ _ (λ saved.
-      let table = table_of saved in
+      let table = table_of_saved saved in
       let many = nat_lt (8 * 2 ^ 30) (live_bits views + blob_bits table) in
       let many_others = nat_lt (8 * 2 ^ 30) (live_bits others + blob_bits table) in
       bind m o Both AlikeTables (refused_if many TooBig) (refused_if many_others TooBig) _ _

@@ -1,7 +1,7 @@
 -- What a stencil answers, by the answers to its stores.
-use Rattle.equal_runs.proofs.Imports.{◌≡◌, ℕ, zero, suc, Bool, ℤ, List, [], ◌∷◌, Result, Ok, sym, ap, subst, Answer, Keeping, kept_by, StoreFault, Stencil, stencil_value, at_row, values_fault, with_column, new_entry, if_fits, round, next_round, after_rounds, StencilFault}
+use Rattle.equal_runs.proofs.Imports.{◌≡◌, ℕ, zero, suc, Bool, ℤ, List, [], ◌∷◌, Result, Ok, sym, ap, subst, StoreAnswer, Keeping, kept_by, StoreFault, Stencil, stencil_value, at_row, values_fault, with_entries, new_entry, if_fits, round, next_round, after_rounds, StencilFault}
 use Rattle.subviews.specs.SubViews.{rows_of}
-use Rattle.subviews.specs.Stencils.{first_fault}
+use Rattle.subviews.specs.Stencils.{first_round_fault}
 use Rattle.equal_runs.proofs.Answers.{Answers, both, fails, equal, first, second, is_narrow}
 
 abbrev pub is_narrow_stencil : StencilFault → Bool
@@ -15,9 +15,9 @@ row_answers row x y u v (first e z is) later = first (record { row = row; fault 
 row_answers row x y u v (second z e is) later = second (at_row row z u) (record { row = row; fault = e }) is
 
 rows_answers : {Alike : Type 0} (x y : ℕ → Result ℤ StoreFault) → ((row : ℕ) → Answers is_narrow Alike (x row) (y row)) → (rows : List ℕ)
-    → Answers is_narrow_stencil Alike (first_fault x rows) (first_fault y rows)
+    → Answers is_narrow_stencil Alike (first_round_fault x rows) (first_round_fault y rows)
 rows_answers x y alike [] = equal (Ok tt)
-rows_answers x y alike (row ∷ rows) = row_answers row (x row) (y row) (first_fault x rows) (first_fault y rows) (alike row) (rows_answers x y alike rows)
+rows_answers x y alike (row ∷ rows) = row_answers row (x row) (y row) (first_round_fault x rows) (first_round_fault y rows) (alike row) (rows_answers x y alike rows)
 
 fits_answers : {Alike : Type 0} (x y : Result Unit StencilFault) (rows others : List (List ℤ)) → Answers is_narrow_stencil Alike x y → others ≡ rows
     → Answers is_narrow_stencil Alike (if_fits x rows) (if_fits y others)
@@ -27,14 +27,14 @@ fits_answers x y rows others (first e z told) is = first e (if_fits z others) to
 fits_answers x y rows others (second z e told) is = second (if_fits z rows) e told
 
 -- two answers to stores that both keep the same number, or of which one says that the value is not held
-module _ (answer other : Answer) (alike : (leaf : ℕ) (value : ℤ) → Answers is_narrow (Unit {0}) (answer leaf value) (other leaf value)) (same : kept_by other ≡ kept_by answer) (stencil : Stencil) where
+module _ (answer other : StoreAnswer) (alike : (leaf : ℕ) (value : ℤ) → Answers is_narrow (Unit {0}) (answer leaf value) (other leaf value)) (same : kept_by other ≡ kept_by answer) (stencil : Stencil) where
   round_answers : (rows : List (List ℤ)) → Answers is_narrow_stencil (Unit {0}) (round answer stencil rows) (round other stencil rows)
   round_answers rows =
       fits_answers (values_fault answer stencil rows (rows_of stencil.window)) (values_fault other stencil rows (rows_of stencil.window))
-      (with_column stencil.leaf (new_entry answer stencil rows) (rows_of stencil.window) rows) (with_column stencil.leaf (new_entry other stencil rows) (rows_of stencil.window) rows)
+      (with_entries stencil.leaf (new_entry answer stencil rows) (rows_of stencil.window) rows) (with_entries stencil.leaf (new_entry other stencil rows) (rows_of stencil.window) rows)
       (rows_answers (λ row. answer stencil.leaf (stencil_value stencil rows row)) (λ row. other stencil.leaf (stencil_value stencil rows row))
       (λ row. alike stencil.leaf (stencil_value stencil rows row)) (rows_of stencil.window))
-      (ap (λ (keep : Keeping). with_column stencil.leaf (λ row. keep stencil.leaf (stencil_value stencil rows row)) (rows_of stencil.window) rows) same)
+      (ap (λ (keep : Keeping). with_entries stencil.leaf (λ row. keep stencil.leaf (stencil_value stencil rows row)) (rows_of stencil.window) rows) same)
 
   next_answers : (x y : Result (List (List ℤ)) StencilFault) → Answers is_narrow_stencil (Unit {0}) x y → Answers is_narrow_stencil (Unit {0}) (next_round answer stencil x) (next_round other stencil y)
   next_answers x y (both rows others is) = subst (λ (r : List (List ℤ)). Answers is_narrow_stencil (Unit {0}) (round answer stencil rows) (round other stencil r)) (sym (is tt)) (round_answers rows)

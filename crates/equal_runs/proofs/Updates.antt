@@ -1,5 +1,5 @@
 -- What an update answers, by the answers to its stores.
-use Rattle.equal_runs.proofs.Imports.{◌≡◌, ℕ, Bool, true, false, ℤ, List, [], ◌∷◌, Option, Result, Ok, Err, refl, ap, ◌∙◌, if◌then◌else◌, flat_map, range_with_len, Term, index_at, Answer, Keeping, Access, StoreFault, Setting, each, in_row, store_kind, value_of, passes, new_value, with_values, updated_row, updated_rows, value_log, filter_log, if_ok, if_passes, sides_log, stores_log, row_log, rows_log, UpdateFault, UpdateKind}
+use Rattle.equal_runs.proofs.Imports.{◌≡◌, ℕ, Bool, true, false, ℤ, List, [], ◌∷◌, Option, Result, Ok, Err, refl, ap, ◌∙◌, if◌then◌else◌, flat_map, range_with_len, Term, index_at, StoreAnswer, Keeping, Access, StoreFault, Setting, each, in_row, store_kind, value_of, passes, new_value, with_values, updated_row, updated_rows, value_log, filter_log, if_ok, if_passes, sides_log, stores_log, row_log, rows_log, UpdateFault, UpdateKind}
 use Rattle.std.specs.Prelude.{◌++◌, slice_index_or}
 use Rattle.views.specs.declared.fault.StoreFault.TheVariants as store
 use Rattle.row_updates.specs.Rows.{◌>>=◌}
@@ -45,7 +45,7 @@ in_row_answers number leaf x y (first e z is) = first (record { row = number; ki
 in_row_answers number leaf x y (second z e is) = second (in_row number (store_kind leaf) z) (record { row = number; kind = store_kind leaf e }) (narrow_kind leaf e is)
 
 -- two answers to stores that both keep a number, or of which one says that the value is not held, where one `keep` says what is kept
-module _ {Alike : Type 0} (keep : Keeping) (answer other : Answer) (alike : (leaf : ℕ) (value : ℤ) → Answers is_narrow Alike (answer leaf value) (other leaf value)) where
+module _ {Alike : Type 0} (keep : Keeping) (answer other : StoreAnswer) (alike : (leaf : ℕ) (value : ℤ) → Answers is_narrow Alike (answer leaf value) (other leaf value)) where
   new_value_answers : (number : ℕ) (row : List ℤ) (index : List ℕ) (set : Setting)
       → Answers is_narrow_update Alike (new_value answer number row index set) (new_value other number row index set)
   new_value_answers number row index set =
@@ -108,7 +108,7 @@ logs_of_each {A} {B} step logs others same (x ∷ xs) ys goes = of_first (step x
   of_first (Err e) is goes later = absurd (cc)
   of_first (Ok y) is goes later = of_rest y is (each step xs) refl goes later
 
-module _ (keep : Keeping) (answer : Answer) where
+module _ (keep : Keeping) (answer : StoreAnswer) where
   -- where all right sides fit, which answers there were is no matter
   abbrev SidesFit : ℕ → List ℤ → List ℕ → List Setting → Type 0
   SidesFit number row index sets =

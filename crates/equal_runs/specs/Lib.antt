@@ -3,6 +3,6 @@ pub mod Endings
 pub mod Widths
 pub mod EqualRuns
 pub mod Logs
-pub mod Entries
+pub mod RunEntries
 pub mod GoesLaws
 pub mod EntryLaws

@@ -4,7 +4,7 @@ ghost use Rattle.layout_io.specs.Files.{File};
 ghost use Rattle.line_grammar.specs.declared.version.Version.{Version};
 ghost use Rattle.worlds.specs.Outcomes.{Outcome, Left};
 ghost use Rattle.worlds.specs.Worlds.{World};
-ghost use Rattle.equal_runs.specs.Entries.{ShowsEntries};
+ghost use Rattle.equal_runs.specs.RunEntries.{ShowsEntries};
 ghost use Rattle.equal_runs.specs.EqualRuns.{DoesLines, EqualRuns};
 
 use views::counts_are_entries;

@@ -44,7 +44,7 @@ unknowns paths rank (Not inner) = unknowns paths rank inner
 unknowns paths rank (Binary op left right) = unknowns paths rank left ++ unknowns paths rank right
 
 -- the fault is the first of these, or want of memory
-abbrev pub IsFirst : List BindFault → BindFault → Type 0
-IsFirst all fault.NoMemory = Unit {0}
-IsFirst all (fault.UnknownPath path) = slice_get all 0 ≡ Some (fault.UnknownPath path)
-IsFirst all (fault.UnknownIndex dimension) = slice_get all 0 ≡ Some (fault.UnknownIndex dimension)
+abbrev pub IsFirstUnknown : List BindFault → BindFault → Type 0
+IsFirstUnknown all fault.NoMemory = Unit {0}
+IsFirstUnknown all (fault.UnknownPath path) = slice_get all 0 ≡ Some (fault.UnknownPath path)
+IsFirstUnknown all (fault.UnknownIndex dimension) = slice_get all 0 ≡ Some (fault.UnknownIndex dimension)

@@ -10,8 +10,8 @@ use Rattle.expr_lang.specs.declared.bound.Step.{Step}
 use Rattle.expr_lang.specs.declared.bound.Step.TheVariants as step
 use Rattle.expr_lang.specs.Terms.{Term, IsWithin}
 use Rattle.expr_lang.specs.Chains.{step_term, links_term, IsStepWithin, AreWithin}
-use Rattle.expr_lang.specs.Exacts.{IsSafe}
-use Rattle.expr_lang.specs.Steps.{IsStepSafe, AreStepsSafe}
+use Rattle.expr_lang.specs.Inner.Exacts.{IsSafe}
+use Rattle.expr_lang.specs.Inner.Steps.{IsStepSafe, AreStepsSafe}
 
 -- what holds for the whole holds for the front, where it does so for one step
 front : (P : Term ℕ → Type 0) → ((term : Term ℕ) (s : Step) → P (step_term term s) → P term) → (term : Term ℕ) (l : Links) → P (links_term term l) → P term

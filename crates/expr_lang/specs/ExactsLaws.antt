@@ -8,7 +8,7 @@ use Rattle.expr_lang.specs.declared.expr.BinOp.TheVariants.{Add, Sub, Mul, Div, 
 use Rattle.expr_lang.specs.declared.fault.EvalFault.{EvalFault}
 use Rattle.expr_lang.specs.Terms.{Term, Number, Entry, Index, Neg, Not, Binary}
 use Rattle.expr_lang.specs.Values.{Outcome, no_read, then_from, ◌>>=◌, ranged, truth, is_true, decided, unless_decided, result_of, outcome_of}
-use Rattle.expr_lang.specs.Exacts.{exact_by, exact_of, most_by, most_of, is_total, IsSafe, IsReached}
+use Rattle.expr_lang.specs.Inner.Exacts.{exact_by, exact_of, most_by, most_of, is_total, IsSafe, IsReached}
 
 -- ---- how far from 0
 

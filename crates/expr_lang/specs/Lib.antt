@@ -2,13 +2,9 @@ pub mod Binding
 pub mod Bounds
 pub mod Chains
 pub mod Terms
-pub mod Unknowns
 pub mod Values
 pub mod BindingLaws
-pub mod Exacts
 pub mod ExactsLaws
-pub mod Mosts
-pub mod Lanes
 pub mod ChainLaws
-pub mod Steps
 pub mod StepLaws
+pub mod Inner

@@ -11,9 +11,9 @@ use Rattle.expr_lang.specs.declared.bound.Step.TheVariants as step
 use Rattle.expr_lang.specs.Terms.{Term, Neg}
 use Rattle.expr_lang.specs.Values.{truth, is_true}
 use Rattle.expr_lang.specs.Chains.{operand_term, step_term, links_term}
-use Rattle.expr_lang.specs.Exacts.{exact_by, exact_of, IsSafe}
+use Rattle.expr_lang.specs.Inner.Exacts.{exact_by, exact_of, IsSafe}
 use Rattle.expr_lang.specs.ExactsLaws.{worth}
-use Rattle.expr_lang.specs.Steps.{lone_part, right_value, stepped, IsStepFit, IsWorthIn, IsBeside, IsRight}
+use Rattle.expr_lang.specs.Inner.Steps.{lone_part, right_value, stepped, IsStepFit, IsWorthIn, IsBeside, IsRight}
 
 module _ (leaves places : List ℕ) (row : List ℤ) (index : List ℕ) where
   -- the value of a right side

@@ -6,8 +6,8 @@ ghost use Rattle.record_dim.specs.Schemas.{schema_fields};
 ghost use Rattle.expr_lang.specs.Terms.{Term, term_of};
 ghost use Rattle.expr_lang.specs.Chains.{operand_term, step_term, links_term, chain_term};
 ghost use Rattle.expr_lang.specs.Bounds.{IsBoundTo};
-ghost use Rattle.expr_lang.specs.Binding.{leaf_number, numbered, unknown_path, unknown_index, unknowns, IsFirst};
-ghost use Rattle.expr_lang.specs.Unknowns.{told};
+ghost use Rattle.expr_lang.specs.Binding.{leaf_number, numbered, unknown_path, unknown_index, unknowns, IsFirstUnknown};
+ghost use Rattle.expr_lang.specs.Inner.Unknowns.{told};
 
 use crate::bound::{Bound, Chain, Link, Links, Operand, Step};
 use crate::{BindFault, Expr};
@@ -20,7 +20,7 @@ use std::alloc::{AllocError as NoMemory, Global};
 pub fn bind(alloc: Global, expr: &Expr, schema: &Schema, rank: usize) -> Result<Bound, BindFault>
     ensures bound { IfOk result (IsBoundTo (schema_fields schema.now) rank (term_of expr.now)) }
     ensures known { OnOk result (unknowns (paths_of (schema_fields schema.now)) rank (term_of expr.now) ≡ []) }
-    ensures fault { IfErr result (IsFirst (unknowns (paths_of (schema_fields schema.now)) rank (term_of expr.now))) }
+    ensures fault { IfErr result (IsFirstUnknown (unknowns (paths_of (schema_fields schema.now)) rank (term_of expr.now))) }
 {
     match first_unknown(expr, schema, rank) {
         Some(Unknown::Path(path)) => return Err(BindFault::UnknownPath(path.copy(alloc)?)),

@@ -3,7 +3,7 @@ ghost use Rattle.std.specs.Prelude.{◌≡◌, ◌^◌, ◌<◌, IfSome, length}
 ghost use Rattle.expr_lang.specs.Bounds.{bound_term, bound_leaves, bound_rank};
 ghost use Rattle.expr_lang.specs.Chains.{operand_term, step_term, chain_term, IsStepWithin};
 ghost use Rattle.expr_lang.specs.Terms.{Term, IsWithin};
-ghost use Rattle.expr_lang.specs.Mosts.{IsMost, IsMostBy, IsStepMost};
+ghost use Rattle.expr_lang.specs.Inner.Mosts.{IsMost, IsMostBy, IsStepMost};
 
 use crate::{BinOp, Bound, Chain, Links, Operand, Step};
 

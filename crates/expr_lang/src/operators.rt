@@ -1,8 +1,8 @@
 // Operators on numbers of 64 bits side by side, with no test.
 ghost use Rattle.std.specs.Prelude.{ℕ, ◌≡◌, ◌<◌, true, not, ℤ, pos, neg_ℤ, FitsSigned, length, slice_index_or};
 ghost use Rattle.expr_lang.specs.Values.{truth, is_true};
-ghost use Rattle.expr_lang.specs.Exacts.{exact_by, is_total};
-ghost use Rattle.expr_lang.specs.Lanes.{AreFit, AreBy};
+ghost use Rattle.expr_lang.specs.Inner.Exacts.{exact_by, is_total};
+ghost use Rattle.expr_lang.specs.Inner.Lanes.{AreFit, AreBy};
 ghost use mir.Syntax.{w64};
 
 use crate::BinOp;

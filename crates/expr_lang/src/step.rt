@@ -1,8 +1,8 @@
 // One step of a chain, on many values at once.
 ghost use Rattle.std.specs.Prelude.{ℕ, ◌≡◌, ◌<◌, pos, length, slice_index_or};
 ghost use Rattle.expr_lang.specs.Chains.{chain_term};
-ghost use Rattle.expr_lang.specs.Exacts.{IsSafe};
-ghost use Rattle.expr_lang.specs.Steps.{lone_part, stepped, IsStepFit, IsStepSafe};
+ghost use Rattle.expr_lang.specs.Inner.Exacts.{IsSafe};
+ghost use Rattle.expr_lang.specs.Inner.Steps.{lone_part, stepped, IsStepFit, IsStepSafe};
 
 use crate::operators::{apply, apply_number, invert, negate};
 use crate::{Chain, Links, Operand, Step};

@@ -18,7 +18,7 @@ use Rattle.extents.specs.IndicesLaws.{length-indices}
 use Rattle.extents.specs.Shapes.{is_rows, is_zero, extent_of, fixed_product, extents_for, IsUneven, IsUnequal, IsTooMany, bad_extents}
 use Rattle.extents.specs.declared.words.BadExtents.{BadExtents}
 use Rattle.extents.specs.declared.words.BadExtents.TheVariants.{TooMany}
-use Rattle.extents.specs.Stored.{padded, IsStored}
+use Rattle.extents.specs.Stored.{padded, StoresExtents}
 
 -- ---- products
 
@@ -108,7 +108,7 @@ padded_more xs k v long h =
     ∙ sym (ap (λ n. (xs ++ v ∷ []) ++ replicate n 0) fewer)
 
 pub IsStored_from : (xs sizes : List ℕ) (rank count : ℕ) → sizes ≡ padded xs → length xs ≡ rank → 0 < rank → rank ≤ 4 → All (λ n. n < 2 ^ 32) sizes → count ≡ product xs → count ≤ 2 ^ 24
-    → IsStored sizes rank count
+    → StoresExtents sizes rank count
 IsStored_from xs sizes rank count filled long some few narrow counted bound =
     let front : take rank sizes ≡ xs = ap (take rank) filled ∙ take_at xs (replicate (4 - length xs) 0) rank long in
     record {

@@ -21,13 +21,13 @@ pub struct Extents {
 impl Model for Extents {
     ghost use Rattle.std.specs.Prelude.{ℕ, List, length, take};
     ghost use Rattle.extents.specs.Indices.{product};
-    ghost use Rattle.extents.specs.Stored.{padded, stored_back, IsStored};
+    ghost use Rattle.extents.specs.Stored.{padded, stored_back, StoresExtents};
 
     ghost Value = { List ℕ };
 
     ghost view = { λ e. take e.rank e.sizes };
 
-    ghost invariant = { λ e. IsStored e.sizes e.rank e.count };
+    ghost invariant = { λ e. StoresExtents e.sizes e.rank e.count };
 
     ghost inverse = { λ e. record { sizes = padded e; rank = length e; count = product e } };
 

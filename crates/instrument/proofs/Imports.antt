@@ -29,9 +29,9 @@ pub use Rattle.layout_io.specs.declared.ends.Failed.{Failed}
 pub use Rattle.instrument.specs.BlobTexts.{bytes_of, line_end, byte_text}
 unfoldable pub use Rattle.instrument.specs.BlobTexts.{bytes_text}
 pub use Rattle.instrument.specs.BlobTextsLaws.{bytes_long, byte_is}
-pub use Rattle.instrument.specs.CounterTexts.{line_of, owner_fields, run_line, leaf_line, granule_line, blob_lines}
+pub use Rattle.instrument.specs.CounterTexts.{fields_line, owner_fields, run_line, leaf_line, granule_line, blob_lines}
 unfoldable pub use Rattle.instrument.specs.CounterTexts.{runs_text, counts_text, heat_text}
-pub use Rattle.instrument.specs.Counters.{HeatCounts, raised, counted_times, warmed_times, heated_times, granules_of, warmed_blob, leaf_counts, granules_in, heat_counts, IsCounted}
+pub use Rattle.instrument.specs.Counters.{HeatCounts, raised, counted_times, warmed_times, heated_times, granules_of, warmed_blob, leaf_counts, granules_in, heat_counts, IsCountedPiece}
 pub use Rattle.instrument.specs.RoundingLaws.{reaches, row_begin, rounded}
-pub use Rattle.instrument.specs.Touching.{AreGranulesOf, warmed_at, heated_besides}
+pub use Rattle.instrument.specs.Inner.Touching.{AreGranulesOf, warmed_at, heated_besides}
 pub use Rattle.instrument.specs.WarmingLaws.{length-warmed_blob, length-warmed, get-warmed_blob, get-warmed, counted_kept, length-heated}

@@ -4,11 +4,11 @@ use Rattle.std.specs.List.{flat_map, enumerate_from, range_with_len}
 use Rattle.places.specs.Image.{number}
 
 -- the bytes of bits: bit k of a byte is its binary digit k
-abbrev pub byte_at : List ℕ → ℕ → ℕ
-byte_at bits at = number (λ k. slice_index_or bits (8 * at + k) 0) 8
+abbrev pub byte_of_bits : List ℕ → ℕ → ℕ
+byte_of_bits bits at = number (λ k. slice_index_or bits (8 * at + k) 0) 8
 
 abbrev pub bytes_of : List ℕ → List ℕ
-bytes_of bits = map (byte_at bits) (range_with_len 0 (length bits / 8))
+bytes_of bits = map (byte_of_bits bits) (range_with_len 0 (length bits / 8))
 
 -- a hexadecimal digit, lower-case
 abbrev pub hex_digit : ℕ → ℕ

@@ -8,22 +8,22 @@ use Rattle.places.specs.declared.piece.RunOwner.TheVariants.{Pad, Leaf}
 use Rattle.instrument.specs.Counters.{LeafCounts, HeatCounts}
 
 -- fields as a line, with a comma between each two
-abbrev pub line_of : List (List ℕ) → List ℕ
-line_of [] = 10 ∷ []
-line_of (first ∷ []) = first ++ 10 ∷ []
-line_of (first ∷ second ∷ fields) = first ++ 44 ∷ line_of (second ∷ fields)
+abbrev pub fields_line : List (List ℕ) → List ℕ
+fields_line [] = 10 ∷ []
+fields_line (first ∷ []) = first ++ 10 ∷ []
+fields_line (first ∷ second ∷ fields) = first ++ 44 ∷ fields_line (second ∷ fields)
 
 -- a leaf by its number and its path text, with its reads and its writes
 abbrev pub leaf_line : LeafCounts → ℕ × List ℕ → List ℕ
-leaf_line counts leaf = line_of (leaf.1 ∷ digits_text (slice_index counts.reads leaf.0) ∷ digits_text (slice_index counts.writes leaf.0) ∷ [])
+leaf_line counts leaf = fields_line (leaf.1 ∷ digits_text (slice_index counts.reads leaf.0) ∷ digits_text (slice_index counts.writes leaf.0) ∷ [])
 
 -- the counts of leaves that have these path texts
 unfoldable pub counts_text : List (List ℕ) → LeafCounts → List ℕ
-counts_text names counts = line_of (codes "leaf" ∷ codes "reads" ∷ codes "writes" ∷ []) ++ flat_map (leaf_line counts) (enumerate_from 0 names)
+counts_text names counts = fields_line (codes "leaf" ∷ codes "reads" ∷ codes "writes" ∷ []) ++ flat_map (leaf_line counts) (enumerate_from 0 names)
 
 -- a granule of a blob by its number, with its count; one without accesses is left out
 abbrev pub granule_line : ℕ → ℕ × ℕ → List ℕ
-granule_line blob granule = if granule.1 == 0 then [] else line_of (digits_text blob ∷ digits_text granule.0 ∷ digits_text granule.1 ∷ [])
+granule_line blob granule = if granule.1 == 0 then [] else fields_line (digits_text blob ∷ digits_text granule.0 ∷ digits_text granule.1 ∷ [])
 
 -- the granules of a blob by its number
 abbrev pub blob_lines : ℕ × List ℕ → List ℕ
@@ -31,7 +31,7 @@ blob_lines blob = flat_map (granule_line blob.0) (enumerate_from 0 blob.1)
 
 -- the counts of granules
 unfoldable pub heat_text : HeatCounts → List ℕ
-heat_text heat = line_of (codes "blob" ∷ codes "granule" ∷ codes "accesses" ∷ []) ++ flat_map blob_lines (enumerate_from 0 heat.blobs)
+heat_text heat = fields_line (codes "blob" ∷ codes "granule" ∷ codes "accesses" ∷ []) ++ flat_map blob_lines (enumerate_from 0 heat.blobs)
 
 -- the record, the leaf's path text and its lowest bit, or a dash for each
 abbrev pub owner_fields : List (List ℕ) → RunOwner → List (List ℕ)
@@ -40,8 +40,8 @@ owner_fields names (Leaf row leaf low) = digits_text row ∷ slice_index_or name
 
 -- a run, and whose it is
 abbrev pub run_line : List (List ℕ) → Run → List ℕ
-run_line names run = line_of (digits_text run.blob ∷ digits_text run.bit ∷ digits_text run.bits ∷ owner_fields names run.owner)
+run_line names run = fields_line (digits_text run.blob ∷ digits_text run.bit ∷ digits_text run.bits ∷ owner_fields names run.owner)
 
 -- the runs of leaves that have these path texts
 unfoldable pub runs_text : List (List ℕ) → List Run → List ℕ
-runs_text names runs = line_of (codes "blob" ∷ codes "bit" ∷ codes "bits" ∷ codes "record" ∷ codes "leaf" ∷ codes "low" ∷ []) ++ flat_map (run_line names) runs
+runs_text names runs = fields_line (codes "blob" ∷ codes "bit" ∷ codes "bits" ∷ codes "record" ∷ codes "leaf" ∷ codes "low" ∷ []) ++ flat_map (run_line names) runs

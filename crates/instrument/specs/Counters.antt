@@ -83,7 +83,7 @@ abbrev pub heated_by : List Piece → HeatCounts → HeatCounts
 heated_by pieces heat = heated_times 1 pieces heat
 
 -- a piece whose bytes lie in granules that are counted
-pub record IsCounted (heat : HeatCounts) (piece : Piece) : Type 0 where
+pub record IsCountedPiece (heat : HeatCounts) (piece : Piece) : Type 0 where
   pub blob_in : piece.blob < length heat.blobs
   pub within : piece.bit + piece.bits ≤ 8 * heat.granule * length (slice_index_or heat.blobs piece.blob [])
 

@@ -1,9 +1,9 @@
 pub mod BlobTexts
 pub mod BlobTextsLaws
 pub mod Counters
-pub mod Touching
 pub mod TimesLaws
 pub mod WarmingLaws
 pub mod CounterLaws
 pub mod CounterTexts
 pub mod RoundingLaws
+pub mod Inner

@@ -8,7 +8,7 @@ use Rattle.std.proofs.lemmas.Nat.{div-add-mod', mod_below}
 use Rattle.std.proofs.Math.Nat.{mul_comm}
 use Rattle.places.specs.declared.piece.Piece.{Piece}
 use Rattle.places.specs.Touched.{is_touched}
-use Rattle.instrument.specs.Counters.{HeatCounts, IsInside, IsCounted, raised, granules_of, warmed_blob, warmed_times, heated_times}
+use Rattle.instrument.specs.Counters.{HeatCounts, IsInside, IsCountedPiece, raised, granules_of, warmed_blob, warmed_times, heated_times}
 
 -- a function of each entry and its number
 length_numbered : {X Y : Type 0} (f : ℕ × X → Y) (xs : List X) → length (map f (enumerate_from 0 xs)) ≡ length xs
@@ -41,7 +41,7 @@ pub length-heated : (times : ℕ) (hot : ℕ → ℕ → Bool) (blobs : List (Li
     → length (get_or (warmed_times times hot blobs) blob []) ≡ length (get_or blobs blob [])
 length-heated times hot blobs blob small = ap length (get-warmed times hot blobs blob small) ∙ length-warmed_blob times (hot blob) (get_or blobs blob [])
 
-pub counted_kept : (times : ℕ) (heat : HeatCounts) (pieces : List Piece) (piece : Piece) → IsCounted heat piece → IsCounted (heated_times times pieces heat) piece
+pub counted_kept : (times : ℕ) (heat : HeatCounts) (pieces : List Piece) (piece : Piece) → IsCountedPiece heat piece → IsCountedPiece (heated_times times pieces heat) piece
 counted_kept times heat pieces piece counted =
     let blobs = length-warmed times (is_touched heat.granule pieces) heat.blobs in
     let long = length-heated times (is_touched heat.granule pieces) heat.blobs piece.blob counted.blob_in in
@@ -50,7 +50,7 @@ counted_kept times heat pieces piece counted =
       within = subst (λ n. piece.bit + piece.bits ≤ 8 * heat.granule * n) (sym long) counted.within;
     }
 
-pub inside-counted : {heat : HeatCounts} {piece : Piece} → IsInside heat piece → IsCounted heat piece
+pub inside-counted : {heat : HeatCounts} {piece : Piece} → IsInside heat piece → IsCountedPiece heat piece
 inside-counted inside = record { blob_in = inside.blob_in; within = inside.within }
 
 -- what lies in the bytes of a blob lies in their granules

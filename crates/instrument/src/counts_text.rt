@@ -6,7 +6,7 @@ ghost use Rattle.layout_io.specs.Decimal.{digits_text};
 ghost use Rattle.layout_io.specs.Gathering.{Puts};
 ghost use Rattle.layout_io.specs.Writing.{Writes};
 ghost use Rattle.instrument.specs.Counters.{leaf_counts, HasLeaves};
-ghost use Rattle.instrument.specs.CounterTexts.{line_of, leaf_line, counts_text};
+ghost use Rattle.instrument.specs.CounterTexts.{fields_line, leaf_line, counts_text};
 
 use crate::Counts;
 use layout_io::{Failed, Part, Sink, TextBuffer};
@@ -50,7 +50,7 @@ fn put_leaf<K: Sink>(
     sink: &mut K,
 ) -> Result<(), Failed>
     ensures { Puts K.taken K.faults sink.old sink.new buffer.old buffer.new result
-        (line_of (name.now ∷ digits_text reads ∷ digits_text writes ∷ [])) }
+        (fields_line (name.now ∷ digits_text reads ∷ digits_text writes ∷ [])) }
 {
     let parts = [
         Part::Text(name.as_bytes()),

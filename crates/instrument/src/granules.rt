@@ -2,7 +2,7 @@
 ghost use Rattle.std.specs.Prelude.{◌≡◌, ◌≤◌, ◌^◌, nat_le};
 ghost use Rattle.places.specs.Touched.{is_in_granule, is_touched};
 ghost use Rattle.instrument.specs.Counters.{granules_in};
-ghost use Rattle.instrument.specs.Touching.{AreGranulesOf};
+ghost use Rattle.instrument.specs.Inner.Touching.{AreGranulesOf};
 
 use places::Piece;
 

@@ -41,8 +41,8 @@ pub struct Heat {
 }
 
 impl Heat {
-    ghost use Rattle.instrument.specs.Counters.{heat_counts, no_heat, granules_in, heated_by, heated_times, IsCounted};
-    ghost use Rattle.instrument.specs.Touching.{heated_besides, warmed_at};
+    ghost use Rattle.instrument.specs.Counters.{heat_counts, no_heat, granules_in, heated_by, heated_times, IsCountedPiece};
+    ghost use Rattle.instrument.specs.Inner.Touching.{heated_besides, warmed_at};
 
     /// Counts of the granules of blobs of so many bytes, each 0; a granule has `granule` bytes, the last of a blob perhaps fewer. `TooBig`
     /// comes exactly where there are more than 2^24.
@@ -65,7 +65,7 @@ impl Heat {
 
     /// Counts one access to all of these pieces: one more in each granule that holds a byte that holds a bit of one, once for all.
     pub fn touch(&mut self, pieces: &Pieces)
-        requires { All (IsCounted (heat_counts self.old)) pieces.now.items }
+        requires { All (IsCountedPiece (heat_counts self.old)) pieces.now.items }
         ensures { heat_counts self.new ≡ heated_by pieces.now.items (heat_counts self.old) }
     {
         self.touch_times(pieces, 1);
@@ -73,7 +73,7 @@ impl Heat {
 
     /// Counts so many accesses to all of these pieces.
     pub fn touch_times(&mut self, pieces: &Pieces, times: u64)
-        requires { All (IsCounted (heat_counts self.old)) pieces.now.items }
+        requires { All (IsCountedPiece (heat_counts self.old)) pieces.now.items }
         ensures { heat_counts self.new ≡ heated_times times pieces.now.items (heat_counts self.old) }
     {
         for at in 0..pieces.len() {
@@ -84,7 +84,7 @@ impl Heat {
 
     // Counts accesses to a piece, but for the granules that earlier pieces touch.
     fn touch_piece(&mut self, piece: &Piece, earlier: &[Piece], times: u64)
-        requires { IsCounted (heat_counts self.old) piece.now }
+        requires { IsCountedPiece (heat_counts self.old) piece.now }
         ensures { heat_counts self.new ≡ heated_besides times earlier.now piece.now (heat_counts self.old) }
     {
         let (first, past) = granules_of(piece, self.granule);

@@ -3,8 +3,8 @@ ghost use Rattle.record_dim.specs.Schemas.{schema_fields};
 ghost use Rattle.record_dim.specs.Leaves.{leaves, texts_of};
 ghost use Rattle.layout_io.specs.Gathering.{Puts};
 ghost use Rattle.layout_io.specs.Writing.{Writes};
-ghost use Rattle.instrument.specs.CounterTexts.{line_of, owner_fields, run_line, runs_text};
-ghost use Rattle.places.specs.Runs.{IsOwnerBelow};
+ghost use Rattle.instrument.specs.CounterTexts.{fields_line, owner_fields, run_line, runs_text};
+ghost use Rattle.places.specs.RunOwners.{IsOwnerBelow};
 
 use layout_io::{Failed, Part, Sink, TextBuffer};
 use places::{Run, RunList, RunOwner};
@@ -69,7 +69,7 @@ fn put_owner<K: Sink>(
 ) -> Result<(), Failed>
     requires { IsOwnerBelow (length (leaves (schema_fields schema.now))) owner.now }
     ensures { Puts K.taken K.faults sink.old sink.new buffer.old buffer.new result
-        (line_of (owner_fields (texts_of (schema_fields schema.now)) owner.now)) }
+        (fields_line (owner_fields (texts_of (schema_fields schema.now)) owner.now)) }
 {
     match owner {
         RunOwner::Pad => buffer.put(b"-,-,-\n", sink),

@@ -17,11 +17,11 @@ pub use Rattle.std.proofs.Math.Nat.{add-div_right, add-mod_right, add-mul-div_ri
 pub use Rattle.std.proofs.lemmas.Bool.Decides.{nat_tests}
 pub use Rattle.std.proofs.lemmas.Grind.{common_steps}
 pub use Rattle.std.proofs.lemmas.Option.{get_or_from_slice_get}
-pub use Rattle.views.specs.Stores.{Keeping, Answer}
+pub use Rattle.views.specs.Stores.{Keeping, StoreAnswer}
 pub use Rattle.views.specs.Columns.{with_column, lane_fault, first_lane_fault, in_leaf, column, column_reads, IsNarrowLeaf, column_writes}
 pub use Rattle.views.specs.declared.fault.LaneFault.{LaneFault}
 pub use Rattle.views.specs.declared.fault.StoreFault.{StoreFault}
-pub use Rattle.views.specs.Runs.{stored_count, told_lane, raised, run_of, run_steps, run_fault, with_run}
+pub use Rattle.views.specs.LeafRuns.{stored_count, told_lane, raised, run_of, run_steps, run_fault, with_run}
 pub use Rattle.record_dim.specs.declared.leaf_type.LeafType.{LeafType}
 pub use Rattle.record_dim.specs.declared.leaf_type.LeafType.TheVariants.{U64, Bool as Truth, U8, U16, U32, I8, I16, I32, I64}
 pub use Rattle.record_dim.specs.LeafTypes.{width_of, IsDeclared}
@@ -30,7 +30,7 @@ pub use Rattle.views.specs.RunsLaws.{declared_within, raised_all}
 pub use Rattle.views.specs.Tables.{Table, IsTable, leaf_count_of, leaf_type_of, after_log, leaf_types_of, table_holds, owners_of, answer_of, kept_of, after_stores}
 pub use Rattle.views.specs.TallyLaws.{after_log-append, after_log-none, after_stores-append, tallied-append}
 pub use Rattle.views.specs.Tallies.{Access, Read, Write, Tally, tallied}
-pub use Rattle.piece_bits.specs.Plain.{SumsFit}
+pub use Rattle.piece_bits.specs.NumberTypes.{SumsFit}
 pub use Rattle.piece_bits.specs.NarrowLaws.{narrow_sum_fits, products_fit}
 pub use Rattle.piece_bits.specs.BlockLaws.{narrow_fits}
 pub use Rattle.places.specs.Image.{entry}
@@ -42,13 +42,13 @@ pub use Rattle.places.specs.Layout.{Owner}
 pub use Rattle.views.specs.OrderLaws.{tallied-kinds, swapped, apart}
 pub use Rattle.extents.specs.Indices.{indices}
 pub use Rattle.record_dim.specs.Trees.{Fields}
-pub use Rattle.lane_kernels.specs.Kernels.{Store, stored, with_store, run_rows, fault_named, answer_fault, store_fault, first_fault, rows_before, IsNarrow, Compare, compares, number_of, empty_fault, kernel_fault, IsRun, row_cost}
+pub use Rattle.lane_kernels.specs.Kernels.{Store, stored, with_store, run_rows, fault_named, answer_fault, kernel_store_fault, first_row_fault, rows_before, IsNarrow, Compare, compares, given_number, empty_fault, kernel_fault, IsKernelRun, row_cost}
 pub use Rattle.lane_kernels.specs.declared.kernel.Kernel.{Kernel}
-pub use Rattle.lane_kernels.specs.Runs.{named_row, rows_done, number_so_far, AreNext, AreTaken, after_rows, IsOfNoRow, AreDone, fault_in}
+pub use Rattle.lane_kernels.specs.Inner.KernelRows.{named_row, rows_done, number_so_far, AreNext, AreTaken, after_rows, IsOfNoRow, AreDone, fault_in}
 pub use Rattle.lane_kernels.specs.declared.fault.KernelFault.{KernelFault}
 pub use Rattle.lane_kernels.specs.Reductions.{reduced_by, with_more, extreme_with, CanAdd}
 pub use Rattle.lane_kernels.specs.declared.reduce.Reduction.{Reduction}
 pub use Rattle.lane_kernels.specs.declared.kernel.Kernel.TheVariants.{Axpy, Clamp, Sum, Least, Greatest, CountWhere}
-pub use Rattle.lane_kernels.specs.Blocks.{step_of, IsAt, sixteens, cost}
-pub use Rattle.lane_kernels.specs.Logs.{rows_read, reads_on, writes_on, rows_log, stopped_log, fault_log}
+pub use Rattle.lane_kernels.specs.Inner.Blocks.{step_of, IsAt, sixteens, cost}
+pub use Rattle.lane_kernels.specs.Logs.{rows_read, reads_on, writes_on, kernel_rows_log, stopped_log, fault_log}
 pub use Rattle.lane_kernels.specs.declared.fault.KernelFault.TheVariants.{Empty}

@@ -1,5 +1,5 @@
 -- The number of the values of a leaf, and of more of them.
-use Rattle.lane_kernels.proofs.Imports.{◌≡◌, ℕ, zero, suc, ◌+◌, ◌<◌, ◌≤◌, ◌^◌, Bool, cond, List, [], ◌∷◌, ◌++◌, length, get_or, take, drop, map, fold, FitsSigned, to_z, ℤ, pos, ◌+ℤ◌, w64, Option, Some, None, refl, sym, ap, subst, ◌∙◌, arith, length-take, length-drop, option_map, count_by, sum_by, unwrap_or, take-add, ints, to_z_pos, length-map, map-append, take-map, sum_by-append, count_by-le-length, Each1, Each1-chunk, Each1-weaker, SumsFit, narrow_sum_fits, narrow_fits, entry, LeafType, Truth, U8, U16, U32, U64, I8, I16, I32, I64, width_of, IsDeclared, leaves, hold_at, stays_declared, Table, IsTable, leaf_types_of, leaf_type_of, leaf_count_of, table_holds, Keeping, Compare, compares, number_of, run_rows, IsNarrow, reduced_by, with_more, number_so_far, AreNext, Reduction, low_64, low_same, Kernel, Axpy, Clamp, Sum, Least, Greatest, CountWhere}
+use Rattle.lane_kernels.proofs.Imports.{◌≡◌, ℕ, zero, suc, ◌+◌, ◌<◌, ◌≤◌, ◌^◌, Bool, cond, List, [], ◌∷◌, ◌++◌, length, get_or, take, drop, map, fold, FitsSigned, to_z, ℤ, pos, ◌+ℤ◌, w64, Option, Some, None, refl, sym, ap, subst, ◌∙◌, arith, length-take, length-drop, option_map, count_by, sum_by, unwrap_or, take-add, ints, to_z_pos, length-map, map-append, take-map, sum_by-append, count_by-le-length, Each1, Each1-chunk, Each1-weaker, SumsFit, narrow_sum_fits, narrow_fits, entry, LeafType, Truth, U8, U16, U32, U64, I8, I16, I32, I64, width_of, IsDeclared, leaves, hold_at, stays_declared, Table, IsTable, leaf_types_of, leaf_type_of, leaf_count_of, table_holds, Keeping, Compare, compares, given_number, run_rows, IsNarrow, reduced_by, with_more, number_so_far, AreNext, Reduction, low_64, low_same, Kernel, Axpy, Clamp, Sum, Least, Greatest, CountWhere}
 use Rattle.lane_kernels.specs.Kernels.{column, in_leaf, IsNarrowLeaf}
 use Rattle.lane_kernels.proofs.Changed.{rows_stand}
 use Rattle.lane_kernels.proofs.Reductions.{none_before, more_of, plain_more, run_sums_fit}
@@ -47,7 +47,7 @@ read_whole seen leaf row n values table narrow read =
     ∙ kept_whole (column leaf (take n (drop row seen.rows))) (narrow_rows leaf row n seen.rows (narrow_column seen leaf table narrow))
 
 -- the number of some rows is that of the kernel
-filled : (kernel : Kernel) (before block : List (List ℤ)) → 1 ≤ length block → number_so_far kernel (before ++ block) ≡ number_of kernel (before ++ block)
+filled : (kernel : Kernel) (before block : List (List ℤ)) → 1 ≤ length block → number_so_far kernel (before ++ block) ≡ given_number kernel (before ++ block)
 filled kernel [] [] some = absurd (omega arith)
 filled kernel [] (row ∷ rows) some = refl
 filled kernel (row ∷ rows) block some = refl
@@ -57,10 +57,10 @@ block_some kernel rows row step number next = omega (arith, next.some, next.insi
 
 -- a kernel that gives one number of a leaf
 pub record DoesReduce (kernel : Kernel) (form : Reduction) (x : ℕ) : Type 0 where
-  pub gives : (rows : List (List ℤ)) → number_of kernel rows ≡ reduced_by form (column x rows)
+  pub gives : (rows : List (List ℤ)) → given_number kernel rows ≡ reduced_by form (column x rows)
 
 beside : (kernel : Kernel) (form : Reduction) (x : ℕ) (before block : List (List ℤ)) → DoesReduce kernel form x
-    → with_more form (number_so_far kernel before) (column x block) ≡ number_of kernel (before ++ block)
+    → with_more form (number_so_far kernel before) (column x block) ≡ given_number kernel (before ++ block)
 beside kernel form x [] block does = none_before form (column x block) ∙ sym (does.gives block)
 beside kernel form x (row ∷ before) block does =
     ap (λ (n : Option ℤ). with_more form n (column x block)) (does.gives (row ∷ before))
@@ -134,11 +134,11 @@ count_whole x op c rows row step number start counted few next begun is =
     ap (λ (z : ℤ). z +ℤ to_z w64 counted) begun ∙ ap (λ (z : ℤ). unwrap_or number (pos 0) +ℤ z) (to_z_pos w64 counted small ∙ ap pos is)
 
 -- nor does a kernel that stores change the number
-stores_none : (kernel : Kernel) (rows : List (List ℤ)) → ((seen : List (List ℤ)) → number_of kernel seen ≡ None) → number_so_far kernel rows ≡ None
+stores_none : (kernel : Kernel) (rows : List (List ℤ)) → ((seen : List (List ℤ)) → given_number kernel seen ≡ None) → number_so_far kernel rows ≡ None
 stores_none kernel [] none = refl
 stores_none kernel (row ∷ rows) none = none (row ∷ rows)
 
-pub no_number : (kernel : Kernel) (some more : List (List ℤ)) → ((seen : List (List ℤ)) → number_of kernel seen ≡ None) → number_so_far kernel some ≡ number_so_far kernel more
+pub no_number : (kernel : Kernel) (some more : List (List ℤ)) → ((seen : List (List ℤ)) → given_number kernel seen ≡ None) → number_so_far kernel some ≡ number_so_far kernel more
 no_number kernel some more none = stores_none kernel some none ∙ sym (stores_none kernel more none)
 
 pub same_number : (keep : Keeping) (kernel : Kernel) (row count : ℕ) (rows : List (List ℤ)) → number_so_far kernel (take count (run_rows keep kernel row rows)) ≡ number_so_far kernel (take count rows)

@@ -1,5 +1,5 @@
 -- The table after the rows that a kernel goes through together.
-use Rattle.lane_kernels.proofs.Imports.{◌≡◌, ℕ, ◌+◌, ◌≤◌, List, [], ◌∷◌, ◌++◌, length, map, take, drop, ℤ, ◌+ℤ◌, ◌*ℤ◌, Option, None, refl, sym, ap, subst, ◌∙◌, arith, length-take, length-drop, option_map, int_min, int_max, flat_map, range_with_len, zip2, map-map, zip2-map, append-nil, length-map, take-map, take-take, flat_map-cons, Owner, in_leaf, column, column_reads, column_writes, with_column, Table, owners_of, answer_of, kept_of, after_log, after_stores, after_log-append, after_stores-append, tallied-append, tallied-kinds, Access, Read, Write, Tally, tallied, stored, first_fault, run_rows, reads_on, writes_on, named_row, rows_done, AreTaken, run_fault, stored_count, with_run, KernelFault, Kernel, Axpy, Clamp}
+use Rattle.lane_kernels.proofs.Imports.{◌≡◌, ℕ, ◌+◌, ◌≤◌, List, [], ◌∷◌, ◌++◌, length, map, take, drop, ℤ, ◌+ℤ◌, ◌*ℤ◌, Option, None, refl, sym, ap, subst, ◌∙◌, arith, length-take, length-drop, option_map, int_min, int_max, flat_map, range_with_len, zip2, map-map, zip2-map, append-nil, length-map, take-map, take-take, flat_map-cons, Owner, in_leaf, column, column_reads, column_writes, with_column, Table, owners_of, answer_of, kept_of, after_log, after_stores, after_log-append, after_stores-append, tallied-append, tallied-kinds, Access, Read, Write, Tally, tallied, stored, first_row_fault, run_rows, reads_on, writes_on, named_row, rows_done, AreTaken, run_fault, stored_count, with_run, KernelFault, Kernel, Axpy, Clamp}
 use Rattle.lane_kernels.proofs.Changed.{DoesStore, rows_stored, rows_passed}
 use Rattle.lane_kernels.proofs.Faults.{faults_alike, no_fault, done_inside, done_stored}
 
@@ -49,8 +49,8 @@ rows_changed old read new kernel leaf row count value values reads fault does wr
     let long : length rows ≡ count = omega (arith, length-take count (drop row old.rows), length-drop row old.rows) in
     let here : row + 0 ≡ row = omega arith in
     let own : run_fault leaf values read ≡ run_fault leaf (map value rows) old = ap (run_fault leaf values) read_is ∙ ap (λ (vs : List ℤ). run_fault leaf vs old) values_are in
-    let is : fault ≡ first_fault (answer_of old) kernel row rows =
-    told ∙ ap (option_map (named_row row leaf)) own ∙ sym (faults_alike (answer_of old) kernel leaf row 0 value rows does) ∙ ap (λ (n : ℕ). first_fault (answer_of old) kernel n rows) here in
+    let is : fault ≡ first_row_fault (answer_of old) kernel row rows =
+    told ∙ ap (option_map (named_row row leaf)) own ∙ sym (faults_alike (answer_of old) kernel leaf row 0 value rows does) ∙ ap (λ (n : ℕ). first_row_fault (answer_of old) kernel n rows) here in
     let f = run_fault leaf values read in
     let done = rows_done row count fault in
     let many : length values ≡ count = ap length values_are ∙ length-map rows value ∙ long in

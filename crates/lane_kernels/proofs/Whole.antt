@@ -1,5 +1,5 @@
 -- A kernel over all rows.
-use Rattle.lane_kernels.proofs.Imports.{◌≡◌, ℕ, ◌+◌, ◌-◌, ◌<◌, ◌≤◌, Bool, true, false, List, [], ◌∷◌, ◌++◌, length, take, drop, ℤ, Option, Some, None, Result, Ok, Err, refl, sym, ap, ◌∙◌, arith, length-take, flat_map, range_with_len, take-add, take_all, Owner, Table, owners_of, answer_of, kept_of, after_log, after_stores, after_log-none, tallied-append, tallied-kinds, swapped, apart, Access, Tally, tallied, StoreFault, fault_named, first_fault, empty_fault, kernel_fault, run_rows, number_of, rows_before, IsRun, reads_on, writes_on, rows_log, rows_read, stopped_log, fault_log, number_so_far, after_rows, IsOfNoRow, AreTaken, AreDone, KernelFault, Empty, Kernel, Axpy, Clamp, Sum, Least, Greatest, CountWhere}
+use Rattle.lane_kernels.proofs.Imports.{◌≡◌, ℕ, ◌+◌, ◌-◌, ◌<◌, ◌≤◌, Bool, true, false, List, [], ◌∷◌, ◌++◌, length, take, drop, ℤ, Option, Some, None, Result, Ok, Err, refl, sym, ap, ◌∙◌, arith, length-take, flat_map, range_with_len, take-add, take_all, Owner, Table, owners_of, answer_of, kept_of, after_log, after_stores, after_log-none, tallied-append, tallied-kinds, swapped, apart, Access, Tally, tallied, StoreFault, fault_named, first_row_fault, empty_fault, kernel_fault, run_rows, given_number, rows_before, IsKernelRun, reads_on, writes_on, kernel_rows_log, rows_read, stopped_log, fault_log, number_so_far, after_rows, IsOfNoRow, AreTaken, AreDone, KernelFault, Empty, Kernel, Axpy, Clamp, Sum, Least, Greatest, CountWhere}
 use Rattle.views.specs.declared.fault.StoreFault.TheVariants as store
 use Rattle.lane_kernels.proofs.Logs.{logs_from}
 use Rattle.lane_kernels.proofs.Changed.{rows_count, rows_from, rows_more}
@@ -28,14 +28,14 @@ only_empty (Least x) fault is = cc
 only_empty (Greatest x) fault is = cc
 only_empty other fault is = absurd (cc)
 
-nothing_done : (old : Table) (kernel : Kernel) (rows : ℕ) → rows ≡ 0 → old ≡ after_stores old (run_rows (kept_of old) kernel rows old.rows) (rows_log kernel rows)
+nothing_done : (old : Table) (kernel : Kernel) (rows : ℕ) → rows ≡ 0 → old ≡ after_stores old (run_rows (kept_of old) kernel rows old.rows) (kernel_rows_log kernel rows)
 nothing_done old kernel rows none = rw none (sym (after_log-none old))
 
-pub none_run : (old : Table) (kernel : Kernel) (lanes : ℕ) (result : Result (Option ℤ) KernelFault) → length old.rows ≡ 0 → IsOfNoRow kernel result → IsRun old old kernel lanes result
+pub none_run : (old : Table) (kernel : Kernel) (lanes : ℕ) (result : Result (Option ℤ) KernelFault) → length old.rows ≡ 0 → IsOfNoRow kernel result → IsKernelRun old old kernel lanes result
 none_run old kernel lanes (Ok number) none is =
     let rows = no_row old.rows none in (
       ap (kernel_fault (answer_of old) kernel) rows ∙ rw is.0 refl,
-      is.1 ∙ ap (number_of kernel) (sym rows),
+      is.1 ∙ ap (given_number kernel) (sym rows),
       nothing_done old kernel (length old.rows) none,
     )
 none_run old kernel lanes (Err fault) none is =
@@ -47,15 +47,15 @@ none_run old kernel lanes (Err fault) none is =
 
 -- the accesses of the rows before, and of more
 log_more : (layout : List (List Owner)) (tally : Tally) (kernel : Kernel) (row step : ℕ)
-    → tallied layout (tallied layout tally (rows_log kernel row)) (flat_map (reads_on kernel) (range_with_len row step) ++ flat_map (writes_on kernel) (range_with_len row step))
-    ≡ tallied layout tally (rows_log kernel (row + step))
+    → tallied layout (tallied layout tally (kernel_rows_log kernel row)) (flat_map (reads_on kernel) (range_with_len row step) ++ flat_map (writes_on kernel) (range_with_len row step))
+    ≡ tallied layout tally (kernel_rows_log kernel (row + step))
 log_more layout tally kernel row step =
-    sym (tallied-kinds layout (tallied layout tally (rows_log kernel row)) (reads_on kernel) (writes_on kernel) (range_with_len row step))
-    ∙ tallied-append layout tally (rows_log kernel row) (flat_map (λ n. reads_on kernel n ++ writes_on kernel n) (range_with_len row step))
+    sym (tallied-kinds layout (tallied layout tally (kernel_rows_log kernel row)) (reads_on kernel) (writes_on kernel) (range_with_len row step))
+    ∙ tallied-append layout tally (kernel_rows_log kernel row) (flat_map (λ n. reads_on kernel n ++ writes_on kernel n) (range_with_len row step))
     ∙ ap (tallied layout tally) (sym (logs_from (λ n. reads_on kernel n ++ writes_on kernel n) row step))
 
 log_stopped : (layout : List (List Owner)) (tally : Tally) (kernel : Kernel) (row step lane : ℕ)
-    → tallied layout (tallied layout tally (rows_log kernel row)) (flat_map (reads_on kernel) (range_with_len row step) ++ flat_map (writes_on kernel) (range_with_len row lane))
+    → tallied layout (tallied layout tally (kernel_rows_log kernel row)) (flat_map (reads_on kernel) (range_with_len row step) ++ flat_map (writes_on kernel) (range_with_len row lane))
     ≡ tallied layout tally (stopped_log kernel (row + step) (row + lane))
 log_stopped layout tally kernel row step lane =
     let reads = flat_map (reads_on kernel) (range_with_len 0 row) in
@@ -72,17 +72,17 @@ log_stopped layout tally kernel row step lane =
 
 -- the fault of the first rows, from that of more of them
 own_fault : (old view : Table) (kernel : Kernel) (row step : ℕ) (number : Option ℤ) (fault : Option KernelFault) → AreDone old kernel view row number → row ≤ length old.rows
-    → fault ≡ first_fault (answer_of view) kernel row (take step (drop row view.rows)) → first_fault (answer_of old) kernel 0 (take (row + step) old.rows) ≡ fault
+    → fault ≡ first_row_fault (answer_of view) kernel row (take step (drop row view.rows)) → first_row_fault (answer_of old) kernel 0 (take (row + step) old.rows) ≡ fault
 own_fault old view kernel row step number fault done inside told =
-    ap (first_fault (answer_of old) kernel 0) (take-add row step old.rows)
+    ap (first_row_fault (answer_of old) kernel 0) (take-add row step old.rows)
     ∙ fault_append (answer_of old) kernel 0 row (take row old.rows) (take step (drop row old.rows)) done.clean (omega (arith, length-take row old.rows))
-    ∙ ap (λ (rows : List (List ℤ)). first_fault (answer_of old) kernel row (take step rows)) (sym (rows_from (kept_of old) kernel row old.rows))
-    ∙ ap (λ (t : Table). first_fault (answer_of t) kernel row (take step (drop row t.rows))) (sym done.same)
+    ∙ ap (λ (rows : List (List ℤ)). first_row_fault (answer_of old) kernel row (take step rows)) (sym (rows_from (kept_of old) kernel row old.rows))
+    ∙ ap (λ (t : Table). first_row_fault (answer_of t) kernel row (take step (drop row t.rows))) (sym done.same)
     ∙ sym told
 
 -- the table after more rows
 more_table : (old view : Table) (kernel : Kernel) (row step changed : ℕ) (number : Option ℤ) (tally : Tally) → AreDone old kernel view row number → row ≤ length old.rows
-    → tallied (owners_of old) (tallied (owners_of old) old.tally (rows_log kernel row)) (flat_map (reads_on kernel) (range_with_len row step) ++ flat_map (writes_on kernel) (range_with_len row changed)) ≡ tally
+    → tallied (owners_of old) (tallied (owners_of old) old.tally (kernel_rows_log kernel row)) (flat_map (reads_on kernel) (range_with_len row step) ++ flat_map (writes_on kernel) (range_with_len row changed)) ≡ tally
     → after_rows view kernel row step changed ≡ record old { rows = run_rows (kept_of old) kernel (row + changed) old.rows; tally = tally }
 more_table old view kernel row step changed number tally done inside counted =
     let seen = run_rows (kept_of old) kernel row old.rows in
@@ -93,7 +93,7 @@ more_table old view kernel row step changed number tally done inside counted =
 pub more_done : (old view new : Table) (kernel : Kernel) (row step : ℕ) (number more : Option ℤ) → AreDone old kernel view row number → row ≤ length old.rows → AreTaken view new kernel row step None
     → more ≡ number_so_far kernel (take (row + step) view.rows) → AreDone old kernel new (row + step) more
 more_done old view new kernel row step number more done inside taken is = record {
-  same = taken.after ∙ more_table old view kernel row step step number (tallied (owners_of old) old.tally (rows_log kernel (row + step))) done inside (log_more (owners_of old) old.tally kernel row step);
+  same = taken.after ∙ more_table old view kernel row step step number (tallied (owners_of old) old.tally (kernel_rows_log kernel (row + step))) done inside (log_more (owners_of old) old.tally kernel row step);
   clean = own_fault old view kernel row step number None done inside taken.named;
   so_far = is ∙ ap (λ (t : Table). number_so_far kernel (take (row + step) t.rows)) done.same ∙ same_number (kept_of old) kernel row (row + step) old.rows;
 }
@@ -108,7 +108,7 @@ some_rows (Least x) (row ∷ rows) some = refl
 some_rows (Greatest x) (row ∷ rows) some = refl
 some_rows (CountWhere x op c) (row ∷ rows) some = refl
 
-some_number : (kernel : Kernel) (rows : List (List ℤ)) → 0 < length rows → number_so_far kernel rows ≡ number_of kernel rows
+some_number : (kernel : Kernel) (rows : List (List ℤ)) → 0 < length rows → number_so_far kernel rows ≡ given_number kernel rows
 some_number kernel [] some = absurd (omega arith)
 some_number kernel (row ∷ rows) some = refl
 
@@ -128,7 +128,7 @@ log_told old kernel false lanes row step lane next free inside =
 
 pub stops : (old view new : Table) (kernel : Kernel) (uncounted : Bool) (lanes row step : ℕ) (number : Option ℤ) (fault : KernelFault) → AreDone old kernel view row number
     → IsStep uncounted lanes (length old.rows) row step → (uncounted ≡ true → (log : List Access) → after_log old log ≡ old) → length view.rows ≡ length old.rows
-    → AreTaken view new kernel row step (Some fault) → IsRun old new kernel lanes (Err fault)
+    → AreTaken view new kernel row step (Some fault) → IsKernelRun old new kernel lanes (Err fault)
 stops old view new kernel uncounted lanes row step number fault done next free many taken =
     let inside : row ≤ length old.rows = omega (arith, next.room) in
     let first = fault_stays (answer_of old) kernel 0 (row + step) old.rows fault (own_fault old view kernel row step number (Some fault) done inside taken.named) in
@@ -147,12 +147,12 @@ stops old view new kernel uncounted lanes row step number fault done next free m
           ∙ ap (λ (n : ℕ). after_stores old (run_rows (kept_of old) kernel n old.rows) (fault_log kernel lanes (length old.rows) fault)) (sym before),
     )
 
-pub ends : (old view : Table) (kernel : Kernel) (lanes row : ℕ) (number : Option ℤ) → row ≡ length old.rows → 0 < row → AreDone old kernel view row number → IsRun old view kernel lanes (Ok number)
+pub ends : (old view : Table) (kernel : Kernel) (lanes row : ℕ) (number : Option ℤ) → row ≡ length old.rows → 0 < row → AreDone old kernel view row number → IsKernelRun old view kernel lanes (Ok number)
 ends old view kernel lanes row number whole some done =
     let all : take row old.rows ≡ old.rows = take_all row old.rows (omega (arith, whole)) in
     let clean = rw all at done.clean in
     let so_far = rw all at done.so_far in (
       rw (some_rows kernel old.rows (omega (arith, whole))) clean,
       so_far ∙ some_number kernel old.rows (omega (arith, whole)),
-      done.same ∙ ap (λ (n : ℕ). after_stores old (run_rows (kept_of old) kernel n old.rows) (rows_log kernel n)) whole,
+      done.same ∙ ap (λ (n : ℕ). after_stores old (run_rows (kept_of old) kernel n old.rows) (kernel_rows_log kernel n)) whole,
     )

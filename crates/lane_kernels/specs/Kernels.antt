@@ -4,15 +4,15 @@ use Rattle.std.specs.Int.{int_min, int_max}
 use Rattle.std.specs.List.{count_by}
 use Rattle.std.specs.Option.{option_or}
 use Rattle.views.specs.Tables.{Table, answer_of, kept_of, after_stores}
-use Rattle.views.specs.Stores.{Answer, Keeping}
+use Rattle.views.specs.Stores.{StoreAnswer, Keeping}
 use Rattle.views.specs.declared.fault.StoreFault.TheVariants as store
 use Rattle.views.specs.declared.fault.StoreFault.{StoreFault}
 pub use Rattle.views.specs.Columns.{in_leaf, column, IsNarrowLeaf}
 pub use Rattle.piece_bits.specs.Blocks.{IsFactor, IsNarrow}
-pub use Rattle.piece_bits.specs.Plain.{compares}
+pub use Rattle.piece_bits.specs.NumberTypes.{compares}
 pub use Rattle.piece_bits.specs.declared.compare.Compare.{Compare}
 pub use Rattle.piece_bits.specs.declared.compare.Compare.TheVariants.{Eq, Ne, Lt, Le, Gt, Ge}
-use Rattle.lane_kernels.specs.Logs.{rows_log, fault_log}
+use Rattle.lane_kernels.specs.Logs.{kernel_rows_log, fault_log}
 pub use Rattle.lane_kernels.specs.Reductions.{reduced_by}
 use Rattle.lane_kernels.specs.declared.fault.KernelFault.{KernelFault}
 use Rattle.lane_kernels.specs.declared.fault.KernelFault.TheVariants.{Empty, Range, Narrow}
@@ -49,14 +49,14 @@ abbrev pub answer_fault : ℕ → ℕ → Result ℤ StoreFault → Option Kerne
 answer_fault row leaf (Ok kept) = None
 answer_fault row leaf (Err fault) = Some (fault_named row leaf fault)
 
-abbrev pub store_fault : Answer → ℕ → Option Store → Option KernelFault
-store_fault answer row None = None
-store_fault answer row (Some store) = answer_fault row store.leaf (answer store.leaf store.value)
+abbrev pub kernel_store_fault : StoreAnswer → ℕ → Option Store → Option KernelFault
+kernel_store_fault answer row None = None
+kernel_store_fault answer row (Some store) = answer_fault row store.leaf (answer store.leaf store.value)
 
 -- the fault of the first of these rows, whose numbers begin with this one, that does not take the kernel's store
-abbrev pub first_fault : Answer → Kernel → ℕ → List (List ℤ) → Option KernelFault
-first_fault answer kernel row [] = None
-first_fault answer kernel row (values ∷ rows) = option_or (store_fault answer row (stored kernel values)) (first_fault answer kernel (row + 1) rows)
+abbrev pub first_row_fault : StoreAnswer → Kernel → ℕ → List (List ℤ) → Option KernelFault
+first_row_fault answer kernel row [] = None
+first_row_fault answer kernel row (values ∷ rows) = option_or (kernel_store_fault answer row (stored kernel values)) (first_row_fault answer kernel (row + 1) rows)
 
 -- no row has a least and a greatest value
 abbrev pub empty_fault : Kernel → List (List ℤ) → Option KernelFault
@@ -65,17 +65,17 @@ empty_fault (Greatest x) [] = Some Empty
 empty_fault _ rows = None
 
 -- the fault of a kernel on a table
-abbrev pub kernel_fault : Answer → Kernel → List (List ℤ) → Option KernelFault
-kernel_fault answer kernel rows = option_or (empty_fault kernel rows) (first_fault answer kernel 0 rows)
+abbrev pub kernel_fault : StoreAnswer → Kernel → List (List ℤ) → Option KernelFault
+kernel_fault answer kernel rows = option_or (empty_fault kernel rows) (first_row_fault answer kernel 0 rows)
 
 -- the number that a kernel gives; those that store give none
-abbrev pub number_of : Kernel → List (List ℤ) → Option ℤ
-number_of (Axpy a x y) rows = None
-number_of (Clamp x lo hi) rows = None
-number_of (Sum x) rows = reduced_by form.Sum (column x rows)
-number_of (Least x) rows = reduced_by form.Least (column x rows)
-number_of (Greatest x) rows = reduced_by form.Greatest (column x rows)
-number_of (CountWhere x op c) rows = Some (pos (count_by (λ value. compares op value c) (column x rows)))
+abbrev pub given_number : Kernel → List (List ℤ) → Option ℤ
+given_number (Axpy a x y) rows = None
+given_number (Clamp x lo hi) rows = None
+given_number (Sum x) rows = reduced_by form.Sum (column x rows)
+given_number (Least x) rows = reduced_by form.Least (column x rows)
+given_number (Greatest x) rows = reduced_by form.Greatest (column x rows)
+given_number (CountWhere x op c) rows = Some (pos (count_by (λ value. compares op value c) (column x rows)))
 
 -- how many rows were done before a fault
 abbrev pub rows_before : KernelFault → ℕ
@@ -84,11 +84,11 @@ rows_before (Range row leaf) = row
 rows_before (Narrow row leaf) = row
 
 -- what a kernel answers on a view, which becomes `new`, in blocks of so many rows; after a fault exactly the rows before it are changed
-abbrev pub IsRun : Table → Table → Kernel → ℕ → Result (Option ℤ) KernelFault → Type 0
-IsRun old new kernel lanes (Ok number) =
-    (kernel_fault (answer_of old) kernel old.rows ≡ None) × (number ≡ number_of kernel old.rows)
-    × (new ≡ after_stores old (run_rows (kept_of old) kernel (length old.rows) old.rows) (rows_log kernel (length old.rows)))
-IsRun old new kernel lanes (Err fault) =
+abbrev pub IsKernelRun : Table → Table → Kernel → ℕ → Result (Option ℤ) KernelFault → Type 0
+IsKernelRun old new kernel lanes (Ok number) =
+    (kernel_fault (answer_of old) kernel old.rows ≡ None) × (number ≡ given_number kernel old.rows)
+    × (new ≡ after_stores old (run_rows (kept_of old) kernel (length old.rows) old.rows) (kernel_rows_log kernel (length old.rows)))
+IsKernelRun old new kernel lanes (Err fault) =
     (kernel_fault (answer_of old) kernel old.rows ≡ Some fault)
     × (new ≡ after_stores old (run_rows (kept_of old) kernel (rows_before fault) old.rows) (fault_log kernel lanes (length old.rows) fault))
 

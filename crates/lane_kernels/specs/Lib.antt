@@ -1,5 +1,4 @@
 pub mod Reductions
 pub mod Kernels
 pub mod Logs
-pub mod Blocks
-pub mod Runs
+pub mod Inner

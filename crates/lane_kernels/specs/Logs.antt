@@ -21,8 +21,8 @@ writes_on (Clamp x lo hi) row = Write row x ∷ []
 writes_on _ row = []
 
 -- those of the first so many rows
-abbrev pub rows_log : Kernel → ℕ → List Access
-rows_log kernel count = flat_map (λ row. reads_on kernel row ++ writes_on kernel row) (range_with_len 0 count)
+abbrev pub kernel_rows_log : Kernel → ℕ → List Access
+kernel_rows_log kernel count = flat_map (λ row. reads_on kernel row ++ writes_on kernel row) (range_with_len 0 count)
 
 -- how many of so many rows are read where one is refused: those through the end of its block, and in the rest those through itself
 abbrev pub rows_read : ℕ → ℕ → ℕ → ℕ

@@ -2,7 +2,7 @@
 use Rattle.std.specs.Prelude.{ℤ, pos, ◌+ℤ◌, List, [], ◌∷◌, fold, Option, Some, None, option_map}
 use Rattle.std.specs.Int.{int_min, int_max}
 use Rattle.std.specs.Option.{unwrap_or}
-use Rattle.piece_bits.specs.Plain.{SumsFit}
+use Rattle.piece_bits.specs.NumberTypes.{SumsFit}
 use Rattle.lane_kernels.specs.declared.reduce.Reduction.{Reduction}
 use Rattle.lane_kernels.specs.declared.reduce.Reduction.TheVariants.{Sum, Least, Greatest}
 

@@ -1,6 +1,6 @@
 // How many rows of a view go together.
 ghost use Rattle.std.specs.Prelude.{◌≡◌, ◌+◌, ◌<◌, ◌≤◌, ◌^◌};
-ghost use Rattle.lane_kernels.specs.Blocks.{step_of};
+ghost use Rattle.lane_kernels.specs.Inner.Blocks.{step_of};
 
 /// The most rows that go together.
 pub const RUN: usize = 256;

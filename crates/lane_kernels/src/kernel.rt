@@ -1,4 +1,4 @@
-ghost use Rattle.lane_kernels.specs.Runs.{IsOfNoRow};
+ghost use Rattle.lane_kernels.specs.Inner.KernelRows.{IsOfNoRow};
 
 use crate::fault::KernelFault;
 use piece_bits::Compare;

@@ -1,5 +1,5 @@
 ghost use Rattle.std.specs.Prelude.{◌≡◌, ◌+◌, ◌≤◌, length};
-ghost use Rattle.lane_kernels.specs.Kernels.{IsKernelOf, IsRun, kernel_cost};
+ghost use Rattle.lane_kernels.specs.Kernels.{IsKernelOf, IsKernelRun, kernel_cost};
 
 use crate::blocks::{RUN, step_at};
 use crate::fault::KernelFault;
@@ -21,7 +21,7 @@ pub fn run_lanes<L: Ledger>(
     requires kernel { IsKernelOf view.old kernel.now }
     requires some { 1 ≤ lanes }
     requires few { lanes ≤ 16 }
-    ensures run { IsRun view.old view.new kernel.now lanes result }
+    ensures run { IsKernelRun view.old view.new kernel.now lanes result }
     ensures steps { steps.new ≤ steps.old + kernel_cost kernel.now lanes (length view.old.rows) }
 {
     let mut values = [0; RUN];
@@ -36,7 +36,7 @@ pub fn run_plain<L: Ledger>(
     steps: &mut Steps<L>,
 ) -> Result<Option<i64>, KernelFault>
     requires { IsKernelOf view.old kernel.now }
-    ensures run { IsRun view.old view.new kernel.now 1 result }
+    ensures run { IsKernelRun view.old view.new kernel.now 1 result }
     ensures steps { steps.new ≤ steps.old + kernel_cost kernel.now 1 (length view.old.rows) }
 {
     run_lanes(view, kernel, 1, steps)
@@ -56,7 +56,7 @@ fn run_rows<L: Ledger>(
     requires few { lanes ≤ 16 }
     requires values { length values.old ≡ 256 }
     requires added { length added.old ≡ 256 }
-    ensures run { IsRun view.old view.new kernel.now lanes result }
+    ensures run { IsKernelRun view.old view.new kernel.now lanes result }
     ensures steps { steps.new ≤ steps.old + kernel_cost kernel.now lanes (length view.old.rows) }
 {
     let count = view.extents().count();

@@ -1,7 +1,7 @@
 // The value of an expression over two leaves.
 ghost use Rattle.std.specs.Prelude.{◌≡◌, ◌<◌, length};
 ghost use Rattle.expr_lang.specs.Bounds.{bound_leaves, bound_rank};
-ghost use Rattle.schema_lang.specs.Parsing.{IsWhole};
+ghost use Rattle.schema_lang.specs.Parsing.{HasItsFields};
 
 use crate::forms::{fault_answer, no_form};
 use crate::row::LoggedRow;
@@ -100,7 +100,7 @@ fn schema(alloc: Global) -> Result<Option<Schema>, NoMemory> {
 
 // The schema that a line names.
 fn schema_of(alloc: Global, line: Line) -> Result<Option<Schema>, NoMemory>
-    requires { IsWhole line }
+    requires { HasItsFields line }
 {
     let dim = match line {
         Line::Define { name: _, dim } => dim,

@@ -1,5 +1,5 @@
 -- The runs of scripts that are within the limits are those over their lines.
-use Rattle.layout_cli.proofs.Imports.{◌≡◌, ℕ, ◌≤◌, ◌^◌, Bool, false, ltb, List, length, Option, None, Some, sym, ap, ◌∙◌, arith, if◌then◌else◌, nat_tests, File, file_of, Sentence, deepest, Version, line_of, World, empty, Outcome, Faults, Left, step, LineTooLong, TooDeep, ScriptTooLong, run_from, fails_at, DoesLines, EqualRuns, step_text, step_line, run_form, run_headed, run_versioned, faulted, script_lines, version_line, version_said, without_version, run_file, run_script, IsScript, EqualScripts, RunsUnversioned}
+use Rattle.layout_cli.proofs.Imports.{◌≡◌, ℕ, ◌≤◌, ◌^◌, Bool, false, ltb, List, length, Option, None, Some, sym, ap, ◌∙◌, arith, if◌then◌else◌, nat_tests, File, file_named, Sentence, deepest, Version, line_of, World, empty, Outcome, Faults, Left, step, LineTooLong, TooDeep, ScriptTooLong, run_from, fails_at, DoesLines, EqualRuns, step_text, step_line, run_form, run_headed, run_versioned, faulted, script_lines, version_line, version_said, without_version, run_file, run_script, IsScript, EqualScripts, RunsUnversioned}
 use Rattle.std.specs.Prelude.{Result}
 
 -- a text that is a line within the limits does what the line does
@@ -22,7 +22,7 @@ script_run files name head version lines unread is reads said =
     let all = script_lines is.script in
     let short : ltb (2 ^ 20) (length is.script) ≡ false = below (2 ^ 20) (length is.script) is.short in
     let few : ltb 65536 (length all) ≡ false = below 65536 (length all) is.few in
-    ap (λ (b : Bool). run_script name (if b then None else file_of files name) files unread) reads ∙ ap (λ file. run_script name file files unread) is.there
+    ap (λ (b : Bool). run_script name (if b then None else file_named files name) files unread) reads ∙ ap (λ file. run_script name file files unread) is.there
     ∙ ap (λ (b : Bool). if b then faulted 0 ScriptTooLong else run_form is.script files unread) short
     ∙ ap (λ (b : Bool). if b then faulted 0 ScriptTooLong else run_headed (version_line all) files all unread) few
     ∙ ap (λ (h : Option (ℕ × ℕ)). run_headed h files all unread) is.headed

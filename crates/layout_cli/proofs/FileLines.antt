@@ -1,5 +1,5 @@
 -- Which of the generated lines read a file, and which.
-use Rattle.layout_cli.proofs.Imports.{◌≡◌, ℕ, suc, ◌+◌, Bool, false, List, [], ◌∷◌, ◌++◌, length, Some, None, Result, Ok, Err, codes, nat_eq, refl, sym, ap, subst, ◌∙◌, arith, ◌||◌, if◌then◌else◌, IfSome, AllByRecursion, nat_tests, is_hash, token_at, placed, tokens_of, New, Sentence, Load, Blank, bracket_list_at, listed_at, rest_at, extent_at, fixed_at, map_at, form_or_name_at, form_at, aos_at, steps_at, Aos, Count, Rows, Row, Packed, line_at, command_at, body_at, new_at, flag_at, load_at, One, line_of, told, spots_in, spots_within, spots_behind, generated_lines, generated_files, file_of, Spot, Token, digits_text, file_in}
+use Rattle.layout_cli.proofs.Imports.{◌≡◌, ℕ, suc, ◌+◌, Bool, false, List, [], ◌∷◌, ◌++◌, length, Some, None, Result, Ok, Err, codes, nat_eq, refl, sym, ap, subst, ◌∙◌, arith, ◌||◌, if◌then◌else◌, IfSome, AllByRecursion, nat_tests, is_hash, token_at, placed, tokens_of, New, Sentence, Load, Blank, bracket_list_at, listed_at, rest_at, extent_at, fixed_at, map_at, form_or_name_at, form_at, aos_at, steps_at, Aos, Count, Rows, Row, Packed, line_at, command_at, body_at, new_at, flag_at, load_at, One, line_of, line_or_column, spots_in, spots_within, spots_behind, generated_lines, generated_files, file_named, Spot, Token, digits_text, file_in}
 use Rattle.line_tokens.specs.declared.token.Next.TheVariants.{End}
 use Rattle.layout_cli.proofs.NoFile.{reads_file, ReadsNone, gives, stops, line_none}
 
@@ -9,7 +9,7 @@ sentence_in (Err column) = Blank
 
 -- where the line reads a file, it is the dataset
 abbrev pub ReadsDataset : List ℕ → List ℕ → Type 0
-ReadsDataset dataset text = (sentence : Sentence) → line_of One text ≡ Ok sentence → IfSome (file_in sentence) (λ file. file_of (generated_files dataset) file ≡ Some dataset)
+ReadsDataset dataset text = (sentence : Sentence) → line_of One text ≡ Ok sentence → IfSome (file_in sentence) (λ file. file_named (generated_files dataset) file ≡ Some dataset)
 
 -- the load
 abbrev gen_new : New
@@ -21,11 +21,11 @@ load_line = refl
 
 load_reads : (dataset : List ℕ) → ReadsDataset dataset (codes "load A : P [?] as count(aos(packed, row)) from \"gen.csv\"")
 load_reads dataset sentence is =
-    let there : file_of (generated_files dataset) (codes "gen.csv") ≡ Some dataset = refl in
-    subst (λ (s : Sentence). IfSome (file_in s) (λ file. file_of (generated_files dataset) file ≡ Some dataset)) (ap sentence_in (sym load_line ∙ is)) there
+    let there : file_named (generated_files dataset) (codes "gen.csv") ≡ Some dataset = refl in
+    subst (λ (s : Sentence). IfSome (file_in s) (λ file. file_named (generated_files dataset) file ≡ Some dataset)) (ap sentence_in (sym load_line ∙ is)) there
 
 -- a line that begins otherwise
-told_none : (spots : List Spot) (read : Result (Sentence × List Token) ℕ) (sentence : Sentence) → ReadsNone read → told spots read ≡ Ok sentence → file_in sentence ≡ None
+told_none : (spots : List Spot) (read : Result (Sentence × List Token) ℕ) (sentence : Sentence) → ReadsNone read → line_or_column spots read ≡ Ok sentence → file_in sentence ≡ None
 told_none spots (Ok _) sentence (gives one rest none) is = subst (λ (s : Sentence). file_in s ≡ None) (ap sentence_in is) none
 told_none spots (Err _) sentence (stops left) is = absurd (cc)
 

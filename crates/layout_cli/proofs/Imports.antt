@@ -14,10 +14,10 @@ pub use Rattle.std.specs.Result.{result_unwrap_or}
 pub use Rattle.std.specs.Str.Parse.{ParsesUnsigned, AllDigits, digits_value}
 pub use Rattle.std.proofs.lemmas.Slice.Eq.{bytes_eq-Decides}
 pub use Rattle.std.proofs.lemmas.Str.Parse.{numerals_by_value, tells_digits}
-pub use Rattle.layout_io.specs.Files.{File, file_of, HasFile}
-pub use Rattle.line_grammar.specs.Sentences.{Sentence, deepest, New, Load, Blank, file_of as file_in, Value, Assignment}
+pub use Rattle.layout_io.specs.Files.{File, file_named, HasFile}
+pub use Rattle.line_grammar.specs.Sentences.{Sentence, deepest, New, Load, Blank, file_read_by as file_in, Value, Assignment}
 pub use Rattle.line_grammar.specs.declared.version.Version.{Version}
-pub use Rattle.schema_lang.specs.LineOf.{told, spots_in, spots_within, spots_behind}
+pub use Rattle.schema_lang.specs.LineOf.{line_or_column, spots_in, spots_within, spots_behind}
 unfoldable pub use Rattle.schema_lang.specs.LineOf.{line_of}
 pub use Rattle.worlds.specs.Worlds.{World, empty, Entry, found}
 pub use Rattle.worlds.specs.Outcomes.{Outcome, Faults, Left, Goes, CannotRead, each, refused_if, refused_by, ok_or, some_or, known, free}
@@ -79,7 +79,7 @@ pub use Rattle.worlds.specs.declared.fault.BadAdvice.TheVariants.{Granule, Passe
 pub use Rattle.worlds.specs.declared.fault.BadKernel.TheVariants.{Lanes, Wide, Constant}
 pub use Rattle.worlds.specs.declared.fault.BadStencil.TheVariants.{Reach, Weight, Terms, Rounds}
 pub use Rattle.worlds.specs.declared.fault.UnknownName.TheVariants.{Name}
-pub use Rattle.csv_rows.specs.Datasets.{records_of, rows_of}
+pub use Rattle.csv_rows.specs.Datasets.{csv_records, records_behind}
 pub use Rattle.record_dim.specs.declared.path.PathStep.{PathStep}
 pub use Rattle.line_grammar.specs.declared.line.PassText.{PassText}
 pub use Rattle.line_grammar.specs.declared.line.ReduceKind.{ReduceKind}
@@ -113,7 +113,7 @@ pub use Rattle.worlds.specs.Actors.{fit_cuts, shared}
 unfoldable pub use Rattle.worlds.specs.Actors.{updated_by_actors}
 pub use Rattle.worlds.specs.Advise.{leaves_at, leaves_under, bound_pass, fit_advice, advise_fault, asked}
 unfoldable pub use Rattle.worlds.specs.Advise.{advise}
-pub use Rattle.worlds.specs.Stencil.{bound_term, all_reach, all_weigh, fit_terms, fit_stencil, stencil_fault}
+pub use Rattle.worlds.specs.Stencil.{stencil_term, all_reach, all_weigh, fit_terms, fit_stencil, stencil_fault}
 unfoldable pub use Rattle.worlds.specs.Stencil.{stencil_run}
 pub use Rattle.worlds.specs.Windows.{are_inside, windowed}
 unfoldable pub use Rattle.worlds.specs.Windows.{print_window}
@@ -125,7 +125,7 @@ pub use Rattle.worlds.specs.Copy.{all_read}
 unfoldable pub use Rattle.worlds.specs.Copy.{copy, relayout, with_rows, copied, laid_anew}
 pub use Rattle.worlds.specs.Kernel.{fit_kernel, fits, fit_leaf, is_wide, is_factor, is_constant, are_bounds, are_lanes}
 unfoldable pub use Rattle.worlds.specs.Kernel.{kernel_run}
-pub use Rattle.blob_file.specs.Opened.{opened, table_of}
+pub use Rattle.blob_file.specs.Opened.{opened, table_of_saved}
 pub use Rattle.worlds.specs.Files.{bad_file}
 unfoldable pub use Rattle.worlds.specs.Files.{save, opened_beside, opened_table, open_view}
 pub use Rattle.worlds.specs.Show.{showing, small}
@@ -140,7 +140,7 @@ pub use Rattle.worlds.specs.Lines.{is_line_end, without_cr, ended_lines, lines_i
 pub use Rattle.session_runs.specs.BlankLaws.{passes_blanks}
 pub use Rattle.layout_cli.specs.Run.{run_file, run_script, run, run_words, run_generated, script_name, gen_words}
 pub use Rattle.layout_cli.specs.EqualScripts.{IsScript, EqualScripts}
-pub use Rattle.layout_cli.specs.Generated.{generated_lines, generated_files, ended, with_commas, row_text, row_values}
+pub use Rattle.layout_cli.specs.Generated.{generated_lines, generated_files, with_line_end, values_with_commas, row_text, generated_row}
 unfoldable pub use Rattle.layout_cli.specs.Generated.{script_text, dataset_text}
 pub use Rattle.layout_cli.specs.Numbers.{is_number_word, IsNumberWord}
-unfoldable pub use Rattle.layout_cli.specs.Numbers.{number_of}
+unfoldable pub use Rattle.layout_cli.specs.Numbers.{generated_rows}

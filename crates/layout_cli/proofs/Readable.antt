@@ -1,5 +1,5 @@
 -- Lines that can read what they read.
-use Rattle.layout_cli.proofs.Imports.{◌≡◌, ℕ, ◌+◌, ◌*◌, ◌^◌, not, nat_lt, Bool, true, false, pos, List, [], ◌∷◌, ◌++◌, length, Option, Some, None, is_some, nat_eq, Result, Ok, Err, ℤ, sym, subst, IfSome, if◌then◌else◌, ◌&&◌, list_any, slice_index_or, indices, place_in, File, file_of, Span, ExtentWord, Tree, Fields, MapTerm, Aos, Soa, Aosoa, BitAos, BitSoa, Split, Byteswap, Bytesplit, Change, Count, Heat, NamedTerm, New, file_in, StoreMode, Table, owners_of, World, Entry, found, Outcome, Goes, Faults, each, refused_if, refused_by, ok_or, some_or, known, free, BadMapping, BadKernel, BadActors, BadWindow, BadStencil, BadAdvice, TooBig, Taken, Unknown, Cuts, Turns, Granule, Passes, Candidates, Lanes, Wide, Constant, Reach, Weight, Terms, Rounds, Name, records_of, rows_of, PathStep, Value, PassText, ShowKind, ReduceKind, Sum, Min, Max, KernelText, TermText, Kernel, advice, stenciled, is_divisor, WindowOf, actor_of, shared_byte, updated_of, Term, kinds_of, bad_granule, accepted, leaf_cells, most_slots, granules_for, define, fit, mapping, view, new_table, named, Named, load, loaded_table, loaded, filled, read, there, with_table, on_view, assigned, inside, updated_by_actors, fit_cuts, shared, leaves_at, leaves_under, bound_pass, fit_advice, advise_fault, asked, advise, bound_term, all_reach, all_weigh, fit_terms, fit_stencil, stencil_fault, stencil_run, are_inside, windowed, print_window, updated, update_fault, reduction, reduced, counting, column, copy, relayout, with_rows, copied, laid_anew, all_read, kernel_run, fit_kernel, fits, fit_leaf, is_wide, is_factor, is_constant, are_bounds, are_lanes, opened, table_of, save, bad_file, opened_beside, opened_table, open_view, print, counts, heat, layout, showing, bytes, drop_view, small, made, resolved, room, shaped, zeros_of, blob_bits, live_bits, nameless, leaf_of, bound, bound_filter, bound_set, bound_sets, each_once, leaves_of, value_on, storable, step}
+use Rattle.layout_cli.proofs.Imports.{◌≡◌, ℕ, ◌+◌, ◌*◌, ◌^◌, not, nat_lt, Bool, true, false, pos, List, [], ◌∷◌, ◌++◌, length, Option, Some, None, is_some, nat_eq, Result, Ok, Err, ℤ, sym, subst, IfSome, if◌then◌else◌, ◌&&◌, list_any, slice_index_or, indices, place_in, File, file_named, Span, ExtentWord, Tree, Fields, MapTerm, Aos, Soa, Aosoa, BitAos, BitSoa, Split, Byteswap, Bytesplit, Change, Count, Heat, NamedTerm, New, file_in, StoreMode, Table, owners_of, World, Entry, found, Outcome, Goes, Faults, each, refused_if, refused_by, ok_or, some_or, known, free, BadMapping, BadKernel, BadActors, BadWindow, BadStencil, BadAdvice, TooBig, Taken, Unknown, Cuts, Turns, Granule, Passes, Candidates, Lanes, Wide, Constant, Reach, Weight, Terms, Rounds, Name, csv_records, records_behind, PathStep, Value, PassText, ShowKind, ReduceKind, Sum, Min, Max, KernelText, TermText, Kernel, advice, stenciled, is_divisor, WindowOf, actor_of, shared_byte, updated_of, Term, kinds_of, bad_granule, accepted, leaf_cells, most_slots, granules_for, define, fit, mapping, view, new_table, named, Named, load, loaded_table, loaded, filled, read, there, with_table, on_view, assigned, inside, updated_by_actors, fit_cuts, shared, leaves_at, leaves_under, bound_pass, fit_advice, advise_fault, asked, advise, stencil_term, all_reach, all_weigh, fit_terms, fit_stencil, stencil_fault, stencil_run, are_inside, windowed, print_window, updated, update_fault, reduction, reduced, counting, column, copy, relayout, with_rows, copied, laid_anew, all_read, kernel_run, fit_kernel, fits, fit_leaf, is_wide, is_factor, is_constant, are_bounds, are_lanes, opened, table_of_saved, save, bad_file, opened_beside, opened_table, open_view, print, counts, heat, layout, showing, bytes, drop_view, small, made, resolved, room, shaped, zeros_of, blob_bits, live_bits, nameless, leaf_of, bound, bound_filter, bound_set, bound_sets, each_once, leaves_of, value_on, storable, step}
 use Rattle.std.proofs.Common.{◌||◌}
 use Rattle.line_grammar.specs.Sentences as line
 use Rattle.worlds.specs.declared.fault.CommandFault.{CommandFault}
@@ -7,7 +7,7 @@ use Rattle.worlds.specs.Outcomes.{◌>>=◌}
 use Rattle.line_grammar.specs.declared.line.ShowKind.TheVariants as show
 use Rattle.line_grammar.specs.declared.line.KernelText.TheVariants as text
 use Rattle.worlds.specs.OnView.{Done}
-use Rattle.worlds.specs.Kernel.{run}
+use Rattle.worlds.specs.Kernel.{kernel_outcome}
 
 -- it goes on or is refused, and is not that a file can't be read
 pub data IsReadable {A : Type 0} : Outcome A → Type 0 where
@@ -108,14 +108,14 @@ loaded_reads : (views : List (Entry Table)) (whole : Named) (words : List Extent
 unfolding loaded
 loaded_reads views whole words dataset =
     next (tested _ _) (λ short.
-    next (resolved_reads words (Some (length (rows_of (records_of dataset))))) (λ extents.
-    next (made_reads views whole.mode whole.fields extents whole.mapping) (λ zeros. filled_reads zeros (records_of dataset))))
+    next (resolved_reads words (Some (length (records_behind (csv_records dataset))))) (λ extents.
+    next (made_reads views whole.mode whole.fields extents whole.mapping) (λ zeros. filled_reads zeros (csv_records dataset))))
 
 -- a file that is there can be read
-read_reads : (files : List File) (name dataset : List ℕ) → file_of files name ≡ Some dataset → IsReadable (read files false name)
+read_reads : (files : List File) (name dataset : List ℕ) → file_named files name ≡ Some dataset → IsReadable (read files false name)
 read_reads files name dataset is = subst (λ (file : Option (List ℕ)). IsReadable (there name file)) (sym is) (goes dataset)
 
-load_reads : (world : World) (new : New) (file dataset : List ℕ) (files : List File) → file_of files file ≡ Some dataset → IsReadable (load world new file files false)
+load_reads : (world : World) (new : New) (file dataset : List ℕ) (files : List File) → file_named files file ≡ Some dataset → IsReadable (load world new file files false)
 unfolding load loaded_table
 load_reads world new file dataset files is =
     next (next (named_reads world new) (λ whole.
@@ -127,9 +127,9 @@ unfolding opened_beside
 beside_reads views bytes =
     next (tested (nat_lt (2 ^ 28 + 8206) (length bytes)) TooBig) (λ short.
     next (answered bad_file (opened bytes)) (λ saved.
-    next (tested (nat_lt (8 * 2 ^ 30) (live_bits views + blob_bits (table_of saved))) TooBig) (λ all. goes (table_of saved))))
+    next (tested (nat_lt (8 * 2 ^ 30) (live_bits views + blob_bits (table_of_saved saved))) TooBig) (λ all. goes (table_of_saved saved))))
 
-open_reads : (world : World) (name file blobs : List ℕ) (files : List File) → file_of files file ≡ Some blobs → IsReadable (open_view world name file files false)
+open_reads : (world : World) (name file blobs : List ℕ) (files : List File) → file_named files file ≡ Some blobs → IsReadable (open_view world name file files false)
 unfolding open_view opened_table
 open_reads world name file blobs files is =
     next (next (free_reads name world.views) (λ unused.
@@ -218,7 +218,7 @@ fit_kernel_reads fields (text.Least x) lanes = next (fit_leaf_reads fields x lan
 fit_kernel_reads fields (text.Greatest x) lanes = next (fit_leaf_reads fields x lanes true) (λ leaf. goes _)
 fit_kernel_reads fields (text.CountWhere x op c) lanes = next (fit_leaf_reads fields x lanes (is_constant c)) (λ leaf. goes _)
 
-run_reads : (table : Table) (kernel : Kernel) → IsReadable (run table kernel)
+run_reads : (table : Table) (kernel : Kernel) → IsReadable (kernel_outcome table kernel)
 run_reads table kernel = next (caused _ _) (λ done. goes _)
 
 kernel_reads : (table : Table) (kernel_text : KernelText) (lanes : ℕ) → IsReadable (kernel_run table kernel_text lanes)
@@ -300,7 +300,7 @@ print_window_reads : (table : Table) (spans : List Span) → IsReadable (print_w
 unfolding print_window
 print_window_reads table spans = next (window_reads table.extents spans) (λ window. goes _)
 
-term_reads : (fields : Fields) (term : TermText) → IsReadable (bound_term fields term)
+term_reads : (fields : Fields) (term : TermText) → IsReadable (stencil_term fields term)
 term_reads fields term = next (leaf_reads fields term.path) (λ leaf. goes _)
 
 fit_terms_reads : (window : WindowOf) (terms : List TermText) (divisor rounds : ℕ) → IsReadable (fit_terms window terms divisor rounds)
@@ -312,7 +312,7 @@ fit_terms_reads window terms divisor rounds =
 fit_stencil_reads : (table : Table) (spans : List Span) (path : List PathStep) (terms : List TermText) (divisor rounds : ℕ) → IsReadable (fit_stencil table spans path terms divisor rounds)
 fit_stencil_reads table spans path terms divisor rounds =
     next (leaf_reads table.fields path) (λ leaf.
-    next (each_reads (bound_term table.fields) (term_reads table.fields) terms) (λ bound_to.
+    next (each_reads (stencil_term table.fields) (term_reads table.fields) terms) (λ bound_to.
     next (window_reads table.extents spans) (λ window.
     next (fit_terms_reads window terms divisor rounds) (λ fit. goes _))))
 
@@ -355,7 +355,7 @@ unfolding on_view
 view_works world name command reads = next (known_reads name world.views) (λ table. next (next (reads table) (λ done. goes _)) (λ new. goes _))
 
 -- a line whose file, if it reads one, is there
-pub step_reads : (world : World) (sentence : line.Sentence) (files : List File) (dataset : List ℕ) → IfSome (file_in sentence) (λ file. file_of files file ≡ Some dataset) → IsReadable (step world sentence files false)
+pub step_reads : (world : World) (sentence : line.Sentence) (files : List File) (dataset : List ℕ) → IfSome (file_in sentence) (λ file. file_named files file ≡ Some dataset) → IsReadable (step world sentence files false)
 unfolding step
 step_reads world line.Blank files dataset is = goes _
 step_reads world (line.Define name tree) files dataset is = define_reads world name tree

@@ -1,5 +1,5 @@
 -- From the run of a script that was read to the run of the words that name it.
-use Rattle.layout_cli.proofs.Imports.{◌≡◌, ℕ, ◌+◌, ◌≤◌, ◌^◌, inl, Bool, true, false, ltb, List, [], ◌∷◌, length, Option, None, Some, refl, sym, ap, subst, ◌∙◌, arith, rules, tests, if◌then◌else◌, IsSomeAnd, nat_tests, File, file_of, HasFile, with_bytes-nil, World, empty, Outcome, Goes, Faults, CannotRead, Left, ScriptTooLong, Output, End, Unread, Gives, IsRun, HasCause, run_from, after, fails_at, Status, Done, CommandFault, Usage, SourceFault, SinkFault, NoMemory, Version, step_text, run_form, run_headed, run_versioned, faulted, script_lines, version_line, version_said, without_version, run_file, run_script, IsSame, run_of_same}
+use Rattle.layout_cli.proofs.Imports.{◌≡◌, ℕ, ◌+◌, ◌≤◌, ◌^◌, inl, Bool, true, false, ltb, List, [], ◌∷◌, length, Option, None, Some, refl, sym, ap, subst, ◌∙◌, arith, rules, tests, if◌then◌else◌, IsSomeAnd, nat_tests, File, file_named, HasFile, with_bytes-nil, World, empty, Outcome, Goes, Faults, CannotRead, Left, ScriptTooLong, Output, End, Unread, Gives, IsRun, HasCause, run_from, after, fails_at, Status, Done, CommandFault, Usage, SourceFault, SinkFault, NoMemory, Version, step_text, run_form, run_headed, run_versioned, faulted, script_lines, version_line, version_said, without_version, run_file, run_script, IsSame, run_of_same}
 
 -- nothing was taken, and there was no memory
 pub run_starved : {K : Type 0} (taken : K → Option (List ℕ)) (old : K) (run : Option ℕ → Output) (read_failed : Type 0) → IsRun taken old old run read_failed NoMemory
@@ -10,8 +10,8 @@ run_starved taken old run read_failed = record {
 }
 
 -- a script that was read whole is the file of this name
-pub file_read : (told : Option (List File)) (files : List File) (name script : List ℕ) → told ≡ Some files → HasFile told name (λ file. script ≡ file) → file_of files name ≡ Some script
-file_read told files name script is_told has = found (file_of files name) script (subst (λ (t : Option (List File)). HasFile t name (λ file. script ≡ file)) is_told has) where
+pub file_read : (told : Option (List File)) (files : List File) (name script : List ℕ) → told ≡ Some files → HasFile told name (λ file. script ≡ file) → file_named files name ≡ Some script
+file_read told files name script is_told has = found (file_named files name) script (subst (λ (t : Option (List File)). HasFile t name (λ file. script ≡ file)) is_told has) where
   found : (file : Option (List ℕ)) (script : List ℕ) → IsSomeAnd file (λ f. script ≡ f) → file ≡ Some script
   found None script has = absurd has
   found (Some file) script has = ap Some (sym has)
@@ -43,13 +43,13 @@ form_later script files line text gives = of_test (ltb 65536 (length (script_lin
   of_test false head is = versioned_later (version_said head) head files (script_lines script) line is
 
 -- the run goes on with a script that was read
-goes_on : (files : List File) (name script : List ℕ) (unread : Option ℕ) → file_of files name ≡ Some script → length script ≤ 2 ^ 20 → fails_at unread 0 ≡ false → run_file name files unread ≡ run_form script files unread
+goes_on : (files : List File) (name script : List ℕ) (unread : Option ℕ) → file_named files name ≡ Some script → length script ≤ 2 ^ 20 → fails_at unread 0 ≡ false → run_file name files unread ≡ run_form script files unread
 goes_on files name script unread is small reads =
     let short : ltb (2 ^ 20) (length script) ≡ false = search (rules, tests) in
-    ap (λ (b : Bool). run_script name (if b then None else file_of files name) files unread) reads ∙ ap (λ file. run_script name file files unread) is ∙ ap (λ (b : Bool). if b then faulted 0 ScriptTooLong else run_form script files unread) short
+    ap (λ (b : Bool). run_script name (if b then None else file_named files name) files unread) reads ∙ ap (λ file. run_script name file files unread) is ∙ ap (λ (b : Bool). if b then faulted 0 ScriptTooLong else run_form script files unread) short
 
 -- a script that was read is run as the words say that name it
-pub run_read : {K : Type 0} (taken : K → Option (List ℕ)) (old new : K) (files : List File) (name script : List ℕ) (read_failed : Type 0) (status : Status) → file_of files name ≡ Some script → length script ≤ 2 ^ 20 → IsRun taken old new (run_form script files) read_failed status → IsRun taken old new (run_file name files) read_failed status
+pub run_read : {K : Type 0} (taken : K → Option (List ℕ)) (old new : K) (files : List File) (name script : List ℕ) (read_failed : Type 0) (status : Status) → file_named files name ≡ Some script → length script ≤ 2 ^ 20 → IsRun taken old new (run_form script files) read_failed status → IsRun taken old new (run_file name files) read_failed status
 run_read taken old new files name script read_failed status is small run =
     let same : IsSame (run_form script files) (run_file name files) = record {
       unfailed = goes_on files name script None is small refl;

@@ -1,5 +1,5 @@
 -- The lines of the generated script are those that it is made of.
-use Rattle.layout_cli.proofs.Imports.{◌≡◌, ℕ, ◌+◌, ◌-◌, ◌%◌, ◌^◌, ◌<◌, ◌≤◌, Bool, true, false, nat_lt, ◌==◌, List, [], ◌∷◌, ◌++◌, map, length, take, codes, flat_map, refl, ap, ◌∙◌, append_assoc, arith, if◌then◌else◌, list_all, slice_split, AllByRecursion, AllPass, decimal, nat_tests, decimal_by_steps_wide, list_all-append, slice_split_at, AllPass-from_list_all, strip_bom, digits_text, decimal-digits_text, is_line_end, without_cr, ended_lines, lines_in, ended, generated_lines, script_text}
+use Rattle.layout_cli.proofs.Imports.{◌≡◌, ℕ, ◌+◌, ◌-◌, ◌%◌, ◌^◌, ◌<◌, ◌≤◌, Bool, true, false, nat_lt, ◌==◌, List, [], ◌∷◌, ◌++◌, map, length, take, codes, flat_map, refl, ap, ◌∙◌, append_assoc, arith, if◌then◌else◌, list_all, slice_split, AllByRecursion, AllPass, decimal, nat_tests, decimal_by_steps_wide, list_all-append, slice_split_at, AllPass-from_list_all, strip_bom, digits_text, decimal-digits_text, is_line_end, without_cr, ended_lines, lines_in, with_line_end, generated_lines, script_text}
 use Rattle.std.specs.Prelude.{slice_index_or}
 
 -- no byte that could be a part of the end of a line
@@ -43,10 +43,10 @@ line_ahead (first ∷ more) rest plain =
     let last : (slice_index_or line (length line - 1) 0 == 13) ≡ false = no_cr _ (all (length line - 1) 0 (omega arith)) in
     ap (λ parts. map without_cr (ended_lines parts)) split ∙ ap (λ (cr : Bool). (if cr then take (length line - 1) line else line) ∷ lines_in rest) last
 
-lines_ended : (lines : List (List ℕ)) → AllByRecursion IsPlain lines → lines_in (flat_map ended lines) ≡ lines
+lines_ended : (lines : List (List ℕ)) → AllByRecursion IsPlain lines → lines_in (flat_map with_line_end lines) ≡ lines
 lines_ended [] plain = refl
 lines_ended (line ∷ lines) plain =
-    ap lines_in (append_assoc line (codes "\n") (flat_map ended lines)) ∙ line_ahead line (flat_map ended lines) plain.0
+    ap lines_in (append_assoc line (codes "\n") (flat_map with_line_end lines)) ∙ line_ahead line (flat_map with_line_end lines) plain.0
     ∙ ap (λ rest. line ∷ rest) (lines_ended lines plain.1)
 
 -- the lines of the generated script

@@ -1,5 +1,5 @@
 -- Texts that grow at their end.
-use Rattle.layout_cli.proofs.Imports.{◌≡◌, ℕ, suc, ◌+◌, ◌-◌, ◌<◌, ℤ, List, [], ◌∷◌, ◌++◌, codes, sym, ap, ◌∙◌, append_assoc, append-nil, arith, range_with_len, decimal_text, ended, with_commas, row_text}
+use Rattle.layout_cli.proofs.Imports.{◌≡◌, ℕ, suc, ◌+◌, ◌-◌, ◌<◌, ℤ, List, [], ◌∷◌, ◌++◌, codes, sym, ap, ◌∙◌, append_assoc, append-nil, arith, range_with_len, decimal_text, with_line_end, values_with_commas, row_text}
 use Rattle.std.specs.List.{flat_map}
 
 -- one piece more was put
@@ -25,16 +25,16 @@ grown_row text [] = text
 grown_row text (value ∷ []) = text ++ decimal_text value ++ codes "\n"
 grown_row text (value ∷ values) = grown_row (text ++ decimal_text value ++ codes ",") values
 
-pub grown_row_is : (text : List ℕ) (value : ℤ) (values : List ℤ) → grown_row text (value ∷ values) ≡ text ++ ended (with_commas (value ∷ values))
+pub grown_row_is : (text : List ℕ) (value : ℤ) (values : List ℤ) → grown_row text (value ∷ values) ≡ text ++ with_line_end (values_with_commas (value ∷ values))
 grown_row_is text value [] = append_assoc text (decimal_text value) (codes "\n")
 grown_row_is text value (next ∷ values) =
     let digits = decimal_text value in
-    let more = ended (with_commas (next ∷ values)) in
+    let more = with_line_end (values_with_commas (next ∷ values)) in
     grown_row_is (text ++ digits ++ codes ",") next values ∙ ap (λ (front : List ℕ). front ++ more) (append_assoc text digits (codes ","))
-    ∙ append_assoc text (digits ++ codes ",") more ∙ ap (λ rest. text ++ rest) (sym (append_assoc (digits ++ codes ",") (with_commas (next ∷ values)) (codes "\n")))
+    ∙ append_assoc text (digits ++ codes ",") more ∙ ap (λ rest. text ++ rest) (sym (append_assoc (digits ++ codes ",") (values_with_commas (next ∷ values)) (codes "\n")))
 
 -- a line that was put in parts
-pub line_put : (text front middle back : List ℕ) → text ++ front ++ middle ++ back ++ codes "\n" ≡ text ++ ended (front ++ middle ++ back)
+pub line_put : (text front middle back : List ℕ) → text ++ front ++ middle ++ back ++ codes "\n" ≡ text ++ with_line_end (front ++ middle ++ back)
 line_put text front middle back =
     ap (λ (t : List ℕ). t ++ back ++ codes "\n") (append_assoc text front middle) ∙ ap (λ (t : List ℕ). t ++ codes "\n") (append_assoc text (front ++ middle) back)
     ∙ append_assoc text (front ++ middle ++ back) (codes "\n")

@@ -1,6 +1,6 @@
 -- Two scripts that differ in their mapping expressions alone, as the program is called on them.
 use Rattle.std.specs.Prelude.{ℕ, ◌≡◌, ◌≤◌, ◌^◌, false, List, length, Option, Some}
-use Rattle.layout_io.specs.Files.{File, file_of}
+use Rattle.layout_io.specs.Files.{File, file_named}
 use Rattle.line_grammar.specs.Sentences.{Sentence}
 use Rattle.line_grammar.specs.declared.version.Version.{Version}
 use Rattle.worlds.specs.Fold.{fails_at}
@@ -13,7 +13,7 @@ use Rattle.layout_cli.specs.Run.{run_file}
 -- scripts; a version line is a blank one among them
 pub record IsScript (files : List File) (name : List ℕ) (head : Option (ℕ × ℕ)) (version : Version) (lines : List Sentence) : Type 0 where
   pub script : List ℕ
-  pub there : file_of files name ≡ Some script
+  pub there : file_named files name ≡ Some script
   pub short : length script ≤ 2 ^ 20
   pub few : length (script_lines script) ≤ 65536
   pub headed : version_line (script_lines script) ≡ head

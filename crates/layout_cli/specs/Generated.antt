@@ -5,8 +5,8 @@ use Rattle.layout_io.specs.Decimal.{digits_text, decimal_text}
 use Rattle.layout_io.specs.Files.{File}
 
 -- a line with its end
-abbrev pub ended : List ℕ → List ℕ
-ended line = line ++ codes "\n"
+abbrev pub with_line_end : List ℕ → List ℕ
+with_line_end line = line ++ codes "\n"
 
 -- the lines of the script over a dataset of n rows
 abbrev pub generated_lines : ℕ → List (List ℕ)
@@ -35,21 +35,21 @@ generated_lines n =
 
 -- the script
 unfoldable pub script_text : ℕ → List ℕ
-script_text n = flat_map ended (generated_lines n)
+script_text n = flat_map with_line_end (generated_lines n)
 
 -- the values of a row: pos.x, pos.y, mass, hot, h[0], h[1] and id
-abbrev pub row_values : ℕ → List ℤ
-row_values r = pos r ∷ neg_ℤ (pos r) ∷ pos (r % 1000) ∷ pos (r % 2) ∷ pos (r % 256) ∷ pos (255 - r % 256) ∷ pos (65537 * r) ∷ []
+abbrev pub generated_row : ℕ → List ℤ
+generated_row r = pos r ∷ neg_ℤ (pos r) ∷ pos (r % 1000) ∷ pos (r % 2) ∷ pos (r % 256) ∷ pos (255 - r % 256) ∷ pos (65537 * r) ∷ []
 
 -- the values with a comma between each two
-abbrev pub with_commas : List ℤ → List ℕ
-with_commas [] = []
-with_commas (value ∷ []) = decimal_text value
-with_commas (value ∷ values) = decimal_text value ++ codes "," ++ with_commas values
+abbrev pub values_with_commas : List ℤ → List ℕ
+values_with_commas [] = []
+values_with_commas (value ∷ []) = decimal_text value
+values_with_commas (value ∷ values) = decimal_text value ++ codes "," ++ values_with_commas values
 
 -- a row with the end of its line
 abbrev pub row_text : ℕ → List ℕ
-row_text r = ended (with_commas (row_values r))
+row_text r = with_line_end (values_with_commas (generated_row r))
 
 -- the dataset of n rows
 unfoldable pub dataset_text : ℕ → List ℕ

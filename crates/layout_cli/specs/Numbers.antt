@@ -8,8 +8,8 @@ abbrev pub is_number_word : List ℕ → ℕ → Bool
 is_number_word word n = (nat_le 1 n && nat_le n 65536) && bytes_eq word (digits_text n)
 
 -- the number from 1 to 65,536 whose decimal text the word is
-unfoldable pub number_of : List ℕ → Option ℕ
-number_of word = if is_number_word word (digits_value 10 word) then Some (digits_value 10 word) else None
+unfoldable pub generated_rows : List ℕ → Option ℕ
+generated_rows word = if is_number_word word (digits_value 10 word) then Some (digits_value 10 word) else None
 
 -- the same as a relation
 pub record IsNumberWord (word : List ℕ) (n : ℕ) : Type 0 where

@@ -1,8 +1,8 @@
 -- The run of the program on a list of words: what it writes and how it ends, over the files of its shelf.
 use Rattle.std.specs.Prelude.{ℕ, ◌≡◌, ◌^◌, List, ◌∷◌, [], length, Option, None, Some, codes, bytes_eq, nat_lt, if◌then◌else◌}
-use Rattle.layout_io.specs.Files.{File, file_of}
+use Rattle.layout_io.specs.Files.{File, file_named}
 use Rattle.layout_cli.specs.Generated.{script_text, dataset_text, generated_files}
-use Rattle.layout_cli.specs.Numbers.{number_of}
+use Rattle.layout_cli.specs.Numbers.{generated_rows}
 use Rattle.worlds.specs.FaultTexts.{unread_text}
 use Rattle.worlds.specs.declared.fault.CommandFault.TheVariants.{ScriptTooLong}
 use Rattle.worlds.specs.Outcome.{Output, Misused, Unread}
@@ -19,7 +19,7 @@ script_name words = None
 
 -- the number of rows that words of the form `gen N` name
 abbrev pub gen_words : List (List ℕ) → Option ℕ
-gen_words (verb ∷ number ∷ []) = if bytes_eq verb (codes "gen") then number_of number else None
+gen_words (verb ∷ number ∷ []) = if bytes_eq verb (codes "gen") then generated_rows number else None
 gen_words words = None
 
 -- words of neither form
@@ -28,7 +28,7 @@ IsMisuse words = (script_name words ≡ None) × (gen_words words ≡ None)
 
 -- what reading a file at a line gives
 abbrev pub read_at_line : List File → Option ℕ → ℕ → List ℕ → Option (List ℕ)
-read_at_line files unread line name = if fails_at unread line then None else file_of files name
+read_at_line files unread line name = if fails_at unread line then None else file_named files name
 
 -- the run ends since the file that a line needs was not read
 abbrev pub unread_at : ℕ → List ℕ → Output

@@ -2,7 +2,7 @@
 // lines and blank lines.
 ghost use Rattle.std.specs.Prelude.{ℕ, List};
 ghost use Rattle.layout_io.specs.Files.{File};
-ghost use Rattle.equal_runs.specs.Entries.{ShowsEntries};
+ghost use Rattle.equal_runs.specs.RunEntries.{ShowsEntries};
 ghost use Rattle.line_grammar.specs.declared.version.Version.{Version};
 ghost use Rattle.session_runs.specs.Heads.{PassesBlanks, RunsUnversioned};
 ghost use Rattle.session_runs.specs.Steps.{step_text};

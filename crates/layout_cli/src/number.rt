@@ -1,6 +1,6 @@
 ghost use Rattle.std.specs.Prelude.{◌≡◌, ℕ, Some, IfSome, OnOk, ◌++◌};
 ghost use Rattle.layout_io.specs.Decimal.{digits_text};
-ghost use Rattle.layout_cli.specs.Numbers.{number_of, is_number_word, IsNumberWord};
+ghost use Rattle.layout_cli.specs.Numbers.{generated_rows, is_number_word, IsNumberWord};
 
 use itoa::Buffer;
 use record_dim::Text;
@@ -11,7 +11,7 @@ const MAX_ROWS: u32 = 65_536;
 
 /// The number of rows that a word names: a decimal from 1 to 65,536 without a leading zero.
 pub fn gen_number(word: &str) -> Option<u32>
-    ensures number { result ≡ number_of word.now }
+    ensures number { result ≡ generated_rows word.now }
     ensures named { IfSome result (IsNumberWord word.now) }
     ensures only { (n : ℕ) → IsNumberWord word.now n → result ≡ Some n }
 {

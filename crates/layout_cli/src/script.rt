@@ -1,6 +1,6 @@
 ghost use Rattle.std.specs.Prelude.{◌≡◌, ◌≤◌, ◌++◌, OnOk, IfOk};
 ghost use Rattle.layout_io.specs.Decimal.{digits_text};
-ghost use Rattle.layout_cli.specs.Generated.{ended, script_text};
+ghost use Rattle.layout_cli.specs.Generated.{with_line_end, script_text};
 
 use crate::number::push_number;
 use record_dim::Text;
@@ -55,7 +55,7 @@ pub fn gen_script(alloc: Global, n: u32) -> Result<Text, NoMemory>
 
 // Puts a line with this number in it at the end of the text.
 fn push_line(text: &mut Text, front: &str, n: u32, back: &str) -> Result<(), NoMemory>
-    ensures { OnOk result (text.new ≡ text.old ++ ended (front.now ++ digits_text n ++ back.now)) }
+    ensures { OnOk result (text.new ≡ text.old ++ with_line_end (front.now ++ digits_text n ++ back.now)) }
 {
     text.push_str(front)?;
     push_number(text, n, back)?;

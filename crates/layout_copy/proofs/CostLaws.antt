@@ -1,5 +1,5 @@
 -- Rounds of slots one after another.
-use Rattle.layout_copy.proofs.Imports.{◌≡◌, ⊎_elim, ℕ, ◌+◌, ◌*◌, ◌/◌, ◌%◌, ◌<◌, ◌≤◌, Bool, true, false, ◌||◌, List, [], ◌∷◌, map, take, length, get_or, sum_by, refl, sym, ap, ◌∙◌, arith, ◌==◌, min, if◌then◌else◌, range_with_len, mul-mod_left, div-add-mod', mul-le, cases_lt, eqb-true, or_right, length-map, get_or-map, sum_by-cons, sum_by_more, sum_by-le-sum_by, LeafType, Truth, blocks, all_pieces, size_of, is_cut, piece_count, piece_at, slot_steps, span_join, sum_both, kind_at, piece_steps, steps_at, steps_before}
+use Rattle.layout_copy.proofs.Imports.{◌≡◌, ⊎_elim, ℕ, ◌+◌, ◌*◌, ◌/◌, ◌%◌, ◌<◌, ◌≤◌, Bool, true, false, ◌||◌, List, [], ◌∷◌, map, take, length, get_or, sum_by, refl, sym, ap, ◌∙◌, arith, ◌==◌, min, if◌then◌else◌, range_with_len, mul-mod_left, div-add-mod', mul-le, cases_lt, eqb-true, or_right, length-map, get_or-map, sum_by-cons, sum_by_more, sum_by-le-sum_by, LeafType, Truth, blocks, all_pieces, size_of, is_cut, piece_count, piece_at, slot_steps, span_join, sum_both, kind_at, piece_steps, piece_steps_at, steps_before}
 
 -- slots are cut at the multiples of the lesser of two numbers
 pub cut_at : (one two slot : ℕ) → slot % min one two ≡ 0 → is_cut one two slot ≡ true
@@ -31,7 +31,7 @@ by_test false false less more meets le = omega arith
 
 -- the pieces of a round are no more, and no longer, than those of all slots
 module _ (slots one two slot count : ℕ) (cut : is_cut one two slot ≡ true) (inside : slot + count ≤ slots) where
-  at_most : (size at : ℕ) → piece_at one two size slot (slot + count) at ≤ steps_at slots one two (size ∷ []) at
+  at_most : (size at : ℕ) → piece_at one two size slot (slot + count) at ≤ piece_steps_at slots one two (size ∷ []) at
   at_most size at =
       let less : ℕ = piece_count (slot + count) one two at in
       let more : ℕ = piece_count slots one two at in
@@ -41,15 +41,15 @@ module _ (slots one two slot count : ℕ) (cut : is_cut one two slot ≡ true) (
       let steps : blocks (less * size) ≤ piece_steps (size ∷ []) more = omega (arith, bytes, one_size) in
       by_test (at == slot) (is_cut one two at) (blocks (less * size)) (piece_steps (size ∷ []) more) (λ same. ap (is_cut one two) (eqb-true at slot same) ∙ cut) steps
 
-  leaf_round : (size : ℕ) → slot_steps one two size slot count ≤ sum_by (steps_at slots one two (size ∷ [])) (range_with_len slot count)
+  leaf_round : (size : ℕ) → slot_steps one two size slot count ≤ sum_by (piece_steps_at slots one two (size ∷ [])) (range_with_len slot count)
   leaf_round size =
       omega (
         arith,
         all_pieces one two size slot count,
-        sum_by-le-sum_by (piece_at one two size slot (slot + count)) (steps_at slots one two (size ∷ [])) (range_with_len slot count) (at_most size),
+        sum_by-le-sum_by (piece_at one two size slot (slot + count)) (piece_steps_at slots one two (size ∷ [])) (range_with_len slot count) (at_most size),
       )
 
-  one_more : (size : ℕ) (sizes : List ℕ) (at : ℕ) → steps_at slots one two (size ∷ []) at + steps_at slots one two sizes at ≤ steps_at slots one two (size ∷ sizes) at
+  one_more : (size : ℕ) (sizes : List ℕ) (at : ℕ) → piece_steps_at slots one two (size ∷ []) at + piece_steps_at slots one two sizes at ≤ piece_steps_at slots one two (size ∷ sizes) at
   one_more size sizes at = of (is_cut one two at) where
     of : (b : Bool) → (if b then piece_steps (size ∷ []) (piece_count slots one two at) else 0) + (if b then piece_steps sizes (piece_count slots one two at) else 0)
         ≤ (if b then piece_steps (size ∷ sizes) (piece_count slots one two at) else 0)
@@ -58,19 +58,19 @@ module _ (slots one two slot count : ℕ) (cut : is_cut one two slot ≡ true) (
         omega (arith, sum_by-cons f size sizes, sum_by-cons f size [])
     of false = omega arith
 
-  leaves_round : (sizes : List ℕ) → sum_by (λ size. slot_steps one two size slot count) sizes ≤ sum_by (steps_at slots one two sizes) (range_with_len slot count)
+  leaves_round : (sizes : List ℕ) → sum_by (λ size. slot_steps one two size slot count) sizes ≤ sum_by (piece_steps_at slots one two sizes) (range_with_len slot count)
   leaves_round [] = let none : sum_by (λ (size : ℕ). slot_steps one two size slot count) [] ≡ 0 = refl in omega (arith, none)
   leaves_round (size ∷ sizes) =
-      let f : ℕ → ℕ = steps_at slots one two (size ∷ []) in
-      let g : ℕ → ℕ = steps_at slots one two sizes in
+      let f : ℕ → ℕ = piece_steps_at slots one two (size ∷ []) in
+      let g : ℕ → ℕ = piece_steps_at slots one two sizes in
       let whole = sum_by-cons (λ (s : ℕ). slot_steps one two s slot count) size sizes in
       let joined = sum_both f g (range_with_len slot count) in
-      let less = sum_by-le-sum_by (λ (at : ℕ). f at + g at) (steps_at slots one two (size ∷ sizes)) (range_with_len slot count) (one_more size sizes) in
+      let less = sum_by-le-sum_by (λ (at : ℕ). f at + g at) (piece_steps_at slots one two (size ∷ sizes)) (range_with_len slot count) (one_more size sizes) in
       omega (arith, whole, joined, less, leaf_round size, leaves_round sizes)
 
   pub round_counted : (sizes : List ℕ) → steps_before slots one two sizes slot + sum_by (λ size. slot_steps one two size slot count) sizes ≤ steps_before slots one two sizes (slot + count)
   unfolding steps_before
-  round_counted sizes = omega (arith, leaves_round sizes, span_join (steps_at slots one two sizes) slot count)
+  round_counted sizes = omega (arith, leaves_round sizes, span_join (piece_steps_at slots one two sizes) slot count)
 
 -- one leaf more of a sum over leaves, and all leaves
 pub leaf_sum : (g : ℕ → ℕ) (kinds : List LeafType) (leaf : ℕ) → leaf < length kinds

@@ -17,7 +17,7 @@ pub use Rattle.views.specs.CutLaws.{all_pieces, same_steps, same_slots}
 pub use Rattle.views.specs.Moves.{size_of, IsRunMoved, IsOwn}
 pub use Rattle.views.specs.Pieces.{is_cut, piece_count, piece_at, slot_steps, move_steps, HasSlots}
 pub use Rattle.views.specs.SpanLaws.{span_join, sum_both}
-pub use Rattle.views.specs.Stores.{kind_at, Answer, kept_row, kept_rows, AllStay, told}
+pub use Rattle.views.specs.Stores.{kind_at, StoreAnswer, kept_row, kept_rows, AllStay, without_number}
 pub use Rattle.extents.specs.Indices.{indices}
 pub use Rattle.extents.specs.declared.order.Order.{Order}
 pub use Rattle.linearize.specs.Slots.{slot_at, slot_count}
@@ -27,7 +27,7 @@ pub use Rattle.piece_bits.specs.TableLaws.{tables_same}
 pub use Rattle.piece_bits.specs.Tables.{HasShape, hold_at}
 pub use Rattle.map_expr.specs.Terms.{Term, uncounted}
 pub use Rattle.map_checks.specs.Arrays.{array_of, lanes_in}
-pub use Rattle.map_any.specs.ArraySlots.{slots_in}
+pub use Rattle.map_any.specs.Inner.ArraySlots.{slots_in}
 pub use Rattle.map_any.specs.Strategies.{AreRuns, IsStrategy}
 pub use Rattle.map_any.specs.declared.arrays.ArraySlots.{ArraySlots}
 pub use Rattle.views.specs.MovesLaws.{with_rows, stays_moves, may_move, runs_full, rows_after}
@@ -43,18 +43,18 @@ pub use Rattle.record_dim.specs.Leaves.{Leaf, leaves, kinds_of}
 pub use Rattle.record_dim.specs.Trees.{Fields}
 pub use Rattle.map_checks.specs.Mappings.{leaf_cells, holds_by}
 pub use Rattle.piece_bits.specs.EntryLaws.{fitting_stays, stays_declared}
-pub use Rattle.views.specs.Runs.{CountsNothing, TakesAll, run_of, AreRowsMoved}
+pub use Rattle.views.specs.LeafRuns.{CountsNothing, TakesAll, run_of, AreRowsMoved}
 pub use Rattle.views.specs.UncountedLaws.{holds_uncounted}
 pub use Rattle.views.specs.Columns.{column, column_reads, column_writes, with_column}
 pub use Rattle.places.specs.declared.piece.Cell.{Cell}
 pub use Rattle.map_any.specs.AnyLaws.{length-leaf_cells}
 pub use Rattle.views.specs.AnswerLaws.{told_same}
 pub use Rattle.views.specs.declared.fault.StoreFault.{StoreFault}
-pub use Rattle.layout_copy.specs.Costs.{piece_steps, steps_at, round_steps, run_steps, IsWay, MayMoveTo, cost, leaf_sizes}
+pub use Rattle.layout_copy.specs.Costs.{piece_steps, piece_steps_at, round_steps, slot_run_steps, IsWay, MayMoveTo, copy_cost, leaf_sizes}
 unfoldable pub use Rattle.layout_copy.specs.Costs.{steps_before}
 pub use Rattle.layout_copy.specs.Copies.{AreAlike, refusing, refused_at, spot_or, IsCopied}
-pub use Rattle.layout_copy.specs.Runs.{order_in, order_by, IsPieceMoved}
+pub use Rattle.layout_copy.specs.Inner.CopiedRuns.{order_in, order_by, IsPieceMoved}
 pub use Rattle.layout_copy.specs.OwnLaws.{staying_held, staying_kept}
-pub use Rattle.layout_copy.specs.RowRuns.{AllTake}
+pub use Rattle.layout_copy.specs.Inner.RowRuns.{AllTake}
 pub use Rattle.layout_copy.specs.declared.fault.CopyFault.{CopyFault}
 pub use Rattle.layout_copy.specs.declared.fault.CopyFault.TheVariants.{Mismatch, Narrow}

@@ -1,5 +1,5 @@
 -- Tables that are copied leaf after leaf of a piece of slots, and piece after piece.
-use Rattle.layout_copy.proofs.Imports.{◌≡◌, ⊎_elim, ℕ, ◌+◌, ◌<◌, ◌≤◌, ℤ, List, [], ◌∷◌, length, sum_by, Option, Some, None, option_map, refl, sym, ap, ◌∙◌, subst, arith, IfSome, IsSomeAnd, cases_lt, sum_by-cons, indices, Order, slot_at, slot_count, slot_at_below, entry, tables_same, HasShape, Term, array_of, lanes_in, slots_in, AreRuns, ArraySlots, same_steps, IsRunMoved, with_rows, slot_steps, move_steps, HasSlots, Table, IsTable, leaf_count_of, AreAlike, round_steps, run_steps, steps_before, order_in, order_by, IsPieceMoved}
+use Rattle.layout_copy.proofs.Imports.{◌≡◌, ⊎_elim, ℕ, ◌+◌, ◌<◌, ◌≤◌, ℤ, List, [], ◌∷◌, length, sum_by, Option, Some, None, option_map, refl, sym, ap, ◌∙◌, subst, arith, IfSome, IsSomeAnd, cases_lt, sum_by-cons, indices, Order, slot_at, slot_count, slot_at_below, entry, tables_same, HasShape, Term, array_of, lanes_in, slots_in, AreRuns, ArraySlots, same_steps, IsRunMoved, with_rows, slot_steps, move_steps, HasSlots, Table, IsTable, leaf_count_of, AreAlike, round_steps, slot_run_steps, steps_before, order_in, order_by, IsPieceMoved}
 
 -- what is said of the order of an array's slots
 in_order : (o : Option (Order × Option ℕ)) (P : Order → Type 0) (Q : Order × Option ℕ → Type 0) → IsSomeAnd o Q → IfSome o (λ array. P array.0) → P (order_in o)
@@ -102,11 +102,11 @@ has_slots term extents slots slot count is inside = of (array_of term) is where
 -- the steps of all pieces
 pub all_steps : (source target : Table) (from to : ArraySlots) (sizes : List ℕ) → AreAlike target source → AreRuns target.mapping source.mapping
     → option_map (slots_in source.extents) (array_of source.mapping) ≡ Some from → option_map (slots_in target.extents) (array_of target.mapping) ≡ Some to
-    → run_steps (array_of source.mapping) (array_of target.mapping) target.extents sizes ≡ steps_before from.slots from.lanes to.lanes sizes from.slots
+    → slot_run_steps (array_of source.mapping) (array_of target.mapping) target.extents sizes ≡ steps_before from.slots from.lanes to.lanes sizes from.slots
 all_steps source target from to sizes alike arrays one two =
     of (array_of source.mapping) (array_of target.mapping) arrays (subst (λ (e : List ℕ). option_map (slots_in e) (array_of source.mapping) ≡ Some from) (sym alike.1) one) two where
       of : (o p : Option (Order × Option ℕ)) → IsSomeAnd p (λ array. IsSomeAnd o (λ other. array.0 ≡ other.0)) → option_map (slots_in target.extents) o ≡ Some from
-          → option_map (slots_in target.extents) p ≡ Some to → run_steps o p target.extents sizes ≡ steps_before from.slots from.lanes to.lanes sizes from.slots
+          → option_map (slots_in target.extents) p ≡ Some to → slot_run_steps o p target.extents sizes ≡ steps_before from.slots from.lanes to.lanes sizes from.slots
       of None p are first second = absurd (cc first)
       of (Some array) None are first second = absurd (cc second)
       of (Some array) (Some other) are first second =

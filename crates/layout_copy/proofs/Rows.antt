@@ -1,18 +1,18 @@
 -- Rows that are read, stored and copied, one leaf or one row more.
-use Rattle.layout_copy.proofs.Imports.{◌≡◌, Bool, true, false, ℕ, zero, suc, ◌+◌, ◌*◌, ◌<◌, ◌≤◌, ℤ, pos, List, [], ◌∷◌, ◌++◌, length, take, drop, get_or, set, Option, Some, None, is_ok, refl, sym, ap, ◌∙◌, arith, length-map, get_or-map, at_drop_more, take_more, get_or-set_same, length-set, take-set-le, Table, answer_of, kept_of, leaf_count_of, after_log, after_stores, after_read, Answer, kept_row, kept_rows, half, half_more, after_log-none, after_log-append, logs_more, accesses_more, Access, Read, Write, row_accesses, all_accesses, refusing, refused_at, spot_or}
+use Rattle.layout_copy.proofs.Imports.{◌≡◌, Bool, true, false, ℕ, zero, suc, ◌+◌, ◌*◌, ◌<◌, ◌≤◌, ℤ, pos, List, [], ◌∷◌, ◌++◌, length, take, drop, get_or, set, Option, Some, None, is_ok, refl, sym, ap, ◌∙◌, arith, length-map, get_or-map, at_drop_more, take_more, get_or-set_same, length-set, take-set-le, Table, answer_of, kept_of, leaf_count_of, after_log, after_stores, after_read, StoreAnswer, kept_row, kept_rows, half, half_more, after_log-none, after_log-append, logs_more, accesses_more, Access, Read, Write, row_accesses, all_accesses, refusing, refused_at, spot_or}
 use Rattle.std.proofs.Common.{if◌then◌else◌}
 
 -- the leaves from one on are the one and those behind it
-leaf_at : (answer : Answer) (values : List ℤ) (leaf : ℕ) → leaf < length values → refusing answer leaf (drop leaf values) ≡ refusing answer leaf (get_or values leaf (pos 0) ∷ drop (leaf + 1) values)
+leaf_at : (answer : StoreAnswer) (values : List ℤ) (leaf : ℕ) → leaf < length values → refusing answer leaf (drop leaf values) ≡ refusing answer leaf (get_or values leaf (pos 0) ∷ drop (leaf + 1) values)
 leaf_at answer values leaf small = at_drop_more (refusing answer leaf) values leaf (pos 0) small
 
 -- the values before a leaf were read, and each was taken
-pub record AreRead (answer : Answer) (row values : List ℤ) (leaf : ℕ) : Type 0 where
+pub record AreRead (answer : StoreAnswer) (row values : List ℤ) (leaf : ℕ) : Type 0 where
   pub count : length values ≡ length row
   pub front : take leaf values ≡ take leaf row
   pub rest : refusing answer 0 row ≡ refusing answer leaf (drop leaf row)
 
-pub leaf_read : (answer : Answer) (row values : List ℤ) (leaf : ℕ) (value : ℤ) → leaf < length values → value ≡ get_or row leaf (pos 0) → is_ok (answer leaf value) ≡ true → AreRead answer row values leaf
+pub leaf_read : (answer : StoreAnswer) (row values : List ℤ) (leaf : ℕ) (value : ℤ) → leaf < length values → value ≡ get_or row leaf (pos 0) → is_ok (answer leaf value) ≡ true → AreRead answer row values leaf
     → AreRead answer row (set values leaf value) (leaf + 1)
 leaf_read answer row values leaf value small is taken so_far =
     let inside : leaf < length row = omega (arith, small, so_far.count) in
@@ -23,7 +23,7 @@ leaf_read answer row values leaf value small is taken so_far =
       rest = so_far.rest ∙ leaf_at answer row leaf inside ∙ (rw (← is, taken) refl);
     }
 
-pub leaf_refused : (answer : Answer) (row values : List ℤ) (leaf : ℕ) (value : ℤ) → leaf < length values → value ≡ get_or row leaf (pos 0) → is_ok (answer leaf value) ≡ false → AreRead answer row values leaf → Some leaf ≡ refusing answer 0 row
+pub leaf_refused : (answer : StoreAnswer) (row values : List ℤ) (leaf : ℕ) (value : ℤ) → leaf < length values → value ≡ get_or row leaf (pos 0) → is_ok (answer leaf value) ≡ false → AreRead answer row values leaf → Some leaf ≡ refusing answer 0 row
 leaf_refused answer row values leaf value small is refused so_far =
     let inside : leaf < length row = omega (arith, small, so_far.count) in
     sym (so_far.rest ∙ leaf_at answer row leaf inside ∙ (rw (← is, refused) refl))
@@ -44,7 +44,7 @@ none_refuses : (test : Bool) (rest : Option ℕ) (leaf : ℕ) → (if test then 
 none_refuses true rest leaf e = (refl, e)
 none_refuses false rest leaf e = absurd (cc e)
 
-pub each_taken : (answer : Answer) (first leaf : ℕ) (values : List ℤ) → leaf < length values → refusing answer first values ≡ None → is_ok (answer (first + leaf) (get_or values leaf (pos 0))) ≡ true
+pub each_taken : (answer : StoreAnswer) (first leaf : ℕ) (values : List ℤ) → leaf < length values → refusing answer first values ≡ None → is_ok (answer (first + leaf) (get_or values leaf (pos 0))) ≡ true
 each_taken answer first leaf [] inside none = absurd (omega (arith, inside))
 each_taken answer first zero (value ∷ values) inside none =
     let here : first + 0 ≡ first = omega arith in

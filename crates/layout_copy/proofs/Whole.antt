@@ -1,17 +1,17 @@
 -- Tables that are copied whole: what they hold, what is counted, and the steps.
-use Rattle.layout_copy.proofs.Imports.{◌≡◌, ◌+◌, ◌*◌, ◌<◌, ◌≤◌, ℕ, ℤ, List, [], ◌++◌, append-nil, length, Option, Some, None, Ok, Err, refl, sym, ap, ◌∙◌, subst, arith, Result, IsErrOf, IsSomeAnd, indices, length-map, Leaf, leaves, kinds_of, Fields, entry, Hold, HasShape, hold_at, Term, uncounted, leaf_cells, holds_by, array_of, AreRuns, Strategy, fitting_stays, stays_declared, with_rows, stays_moves, may_move, runs_full, CountsNothing, AllStay, Table, IsTable, table_holds, leaf_count_of, leaf_type_of, leaf_types_of, after_log, after_stores, Read, Write, all_accesses, all_touches, holds_uncounted, AreAlike, IsCopied, cost, IsWay, MayMoveTo, staying_held, staying_kept, AllTake, CopyFault, Mismatch, Narrow}
+use Rattle.layout_copy.proofs.Imports.{◌≡◌, ◌+◌, ◌*◌, ◌<◌, ◌≤◌, ℕ, ℤ, List, [], ◌++◌, append-nil, length, Option, Some, None, Ok, Err, refl, sym, ap, ◌∙◌, subst, arith, Result, IsErrOf, IsSomeAnd, indices, length-map, Leaf, leaves, kinds_of, Fields, entry, Hold, HasShape, hold_at, Term, uncounted, leaf_cells, holds_by, array_of, AreRuns, Strategy, fitting_stays, stays_declared, with_rows, stays_moves, may_move, runs_full, CountsNothing, AllStay, Table, IsTable, table_holds, leaf_count_of, leaf_type_of, leaf_types_of, after_log, after_stores, Read, Write, all_accesses, all_touches, holds_uncounted, AreAlike, IsCopied, copy_cost, IsWay, MayMoveTo, staying_held, staying_kept, AllTake, CopyFault, Mismatch, Narrow}
 use Rattle.map_any.specs.declared.strategy.Strategy.TheVariants as way
 use Rattle.layout_copy.proofs.WayLaws.{one_way}
 
 -- the steps of a copy field by field
 pub fields_steps : (source target : Table) (before after : ℕ) → IsTable source → AreAlike source target → IsWay source target way.Fields
     → after ≤ before + 2 * (length source.rows * leaf_count_of source)
-    → (strategy : Strategy) → IsWay source target strategy → after ≤ before + cost strategy source.mapping target.mapping target.fields target.extents
+    → (strategy : Strategy) → IsWay source target strategy → after ≤ before + copy_cost strategy source.mapping target.mapping target.fields target.extents
 fields_steps source target before after is alike fields bound strategy other =
     let rows : length source.rows ≡ length (indices target.extents) = is.rows ∙ ap (λ (e : List ℕ). length (indices e)) alike.1 in
     let count : length source.rows * leaf_count_of source ≡ length (indices target.extents) * length (leaves target.fields) =
     ap (λ (n : ℕ). n * leaf_count_of source) rows ∙ ap (λ (f : Fields). length (indices target.extents) * length (leaves f)) alike.0 in
-    subst (λ (s : Strategy). after ≤ before + cost s source.mapping target.mapping target.fields target.extents)
+    subst (λ (s : Strategy). after ≤ before + copy_cost s source.mapping target.mapping target.fields target.extents)
     (one_way source target way.Fields strategy fields other)
     (let all : after ≤ before + 2 * (length (indices target.extents) * length (leaves target.fields)) = omega (arith, bound, count) in all)
 

@@ -2,7 +2,7 @@
 use Rattle.std.specs.Prelude.{ℕ, ◌+◌, ◌≡◌, ℤ, List, [], ◌∷◌, ◌++◌, length, take, drop, Option, Some, None, Result, Ok, Err, is_ok, if◌then◌else◌}
 use Rattle.views.specs.Tables.{Table, answer_of, kept_of, leaf_count_of, after_stores}
 use Rattle.views.specs.Tallies.{Access, Read, Write, row_accesses, all_accesses}
-use Rattle.views.specs.Stores.{Answer, kept_rows}
+use Rattle.views.specs.Stores.{StoreAnswer, kept_rows}
 use Rattle.layout_copy.specs.declared.fault.CopyFault.{CopyFault}
 use Rattle.layout_copy.specs.declared.fault.CopyFault.TheVariants.{Mismatch, Narrow}
 
@@ -12,7 +12,7 @@ pub record Spot : Type 0 where
   pub leaf : ℕ
 
 -- the first leaf of a row, from this one on, that does not take its value
-abbrev pub refusing : Answer → ℕ → List ℤ → Option ℕ
+abbrev pub refusing : StoreAnswer → ℕ → List ℤ → Option ℕ
 refusing answer leaf [] = None
 refusing answer leaf (value ∷ values) = if is_ok (answer leaf value) then refusing answer (leaf + 1) values else Some leaf
 
@@ -22,7 +22,7 @@ spot_or row (Some leaf) later = Some (record { row = row; leaf = leaf })
 spot_or row None later = later
 
 -- the first of these rows, whose numbers begin with this one, that has such a leaf, and the first of its leaves
-abbrev pub refused_at : Answer → ℕ → List (List ℤ) → Option Spot
+abbrev pub refused_at : StoreAnswer → ℕ → List (List ℤ) → Option Spot
 refused_at answer row [] = None
 refused_at answer row (values ∷ rows) = spot_or row (refusing answer 0 values) (refused_at answer (row + 1) rows)
 

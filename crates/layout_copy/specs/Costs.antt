@@ -36,18 +36,18 @@ abbrev pub piece_steps : List ℕ → ℕ → ℕ
 piece_steps sizes count = sum_by (λ size. blocks (count * size)) sizes
 
 -- those of the piece that begins at a slot, if one does
-abbrev pub steps_at : ℕ → ℕ → ℕ → List ℕ → ℕ → ℕ
-steps_at slots one two sizes slot = if is_cut one two slot then piece_steps sizes (piece_count slots one two slot) else 0
+abbrev pub piece_steps_at : ℕ → ℕ → ℕ → List ℕ → ℕ → ℕ
+piece_steps_at slots one two sizes slot = if is_cut one two slot then piece_steps sizes (piece_count slots one two slot) else 0
 
 -- those of the pieces that begin before a slot
 unfoldable pub steps_before : ℕ → ℕ → ℕ → List ℕ → ℕ → ℕ
-steps_before slots one two sizes slot = sum_by (steps_at slots one two sizes) (range_with_len 0 slot)
+steps_before slots one two sizes slot = sum_by (piece_steps_at slots one two sizes) (range_with_len 0 slot)
 
 -- those of all slots of two mappings that lay out arrays, cut at the lanes of each; where one lays out none, a read and a write of each leaf
-abbrev pub run_steps : Option (Order × Option ℕ) → Option (Order × Option ℕ) → List ℕ → List ℕ → ℕ
-run_steps (Some one) (Some two) extents sizes =
+abbrev pub slot_run_steps : Option (Order × Option ℕ) → Option (Order × Option ℕ) → List ℕ → List ℕ → ℕ
+slot_run_steps (Some one) (Some two) extents sizes =
     let slots = slot_count one.0 extents in steps_before slots (lanes_in one.1 slots) (lanes_in two.1 slots) sizes slots
-run_steps _ _ extents sizes = 2 * (length (indices extents) * length sizes)
+slot_run_steps _ _ extents sizes = 2 * (length (indices extents) * length sizes)
 
 -- those of so many slots from one on, leaf after leaf
 abbrev pub round_steps : Option (Order × Option ℕ) → Option (Order × Option ℕ) → List ℕ → List ℕ → ℕ → ℕ → ℕ
@@ -55,7 +55,7 @@ round_steps one two extents sizes slot count = sum_by (λ size. move_steps one t
 
 -- the most steps of a copy from a view of one expression to one of another, over these fields and extents: by whole blobs, by runs, or by a
 -- read and a write of each leaf of each row
-abbrev pub cost : Strategy → Term → Term → Fields → List ℕ → ℕ
-cost way.Blobs one two fields extents = blob_steps (layout_by two extents fields)
-cost way.Runs one two fields extents = run_steps (array_of one) (array_of two) extents (leaf_sizes fields)
-cost way.Fields one two fields extents = 2 * (length (indices extents) * length (leaves fields))
+abbrev pub copy_cost : Strategy → Term → Term → Fields → List ℕ → ℕ
+copy_cost way.Blobs one two fields extents = blob_steps (layout_by two extents fields)
+copy_cost way.Runs one two fields extents = slot_run_steps (array_of one) (array_of two) extents (leaf_sizes fields)
+copy_cost way.Fields one two fields extents = 2 * (length (indices extents) * length (leaves fields))

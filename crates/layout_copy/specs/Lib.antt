@@ -1,5 +1,4 @@
 pub mod Copies
 pub mod Costs
 pub mod OwnLaws
-pub mod RowRuns
-pub mod Runs
+pub mod Inner

@@ -5,12 +5,12 @@ use Rattle.record_dim.specs.Leaves.{leaves}
 use Rattle.places.specs.Image.{entry}
 use Rattle.piece_bits.specs.Tables.{HasShape, hold_at}
 use Rattle.views.specs.AnswerLaws.{stays_answer, rows_kept}
-use Rattle.views.specs.Stores.{Answer, AllStay, kept_or, kept_rows}
+use Rattle.views.specs.Stores.{StoreAnswer, AllStay, kept_or, kept_rows}
 use Rattle.views.specs.Tables.{Table, IsTable, table_holds, leaf_count_of, leaf_types_of, leaf_type_of, answer_of, kept_of}
 use Rattle.layout_copy.specs.Copies.{refusing, refused_at}
 
 -- rows of values that are taken are not refused
-row_held : (answer : Answer) (leaf : ℕ) (values : List ℤ)
+row_held : (answer : StoreAnswer) (leaf : ℕ) (values : List ℤ)
     → ((k : ℕ) → k < length values → answer (leaf + k) (get_or values k (pos 0)) ≡ Ok (get_or values k (pos 0))) → refusing answer leaf values ≡ None
 row_held answer leaf [] all = refl
 row_held answer leaf (value ∷ values) all =
@@ -20,7 +20,7 @@ row_held answer leaf (value ∷ values) all =
     let next : leaf + suc k ≡ leaf + 1 + k = omega arith in
     subst (λ (n : ℕ). answer n (get_or values k (pos 0)) ≡ Ok (get_or values k (pos 0))) next (all (suc k) (omega (arith, small)))))
 
-rows_held : (answer : Answer) (row : ℕ) (rows : List (List ℤ))
+rows_held : (answer : StoreAnswer) (row : ℕ) (rows : List (List ℤ))
     → ((r k : ℕ) → r < length rows → k < length (get_or rows r []) → answer k (entry rows r k) ≡ Ok (entry rows r k)) → refused_at answer row rows ≡ None
 rows_held answer row [] all = refl
 rows_held answer row (values ∷ rows) all =

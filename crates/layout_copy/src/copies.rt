@@ -3,7 +3,7 @@ ghost use Rattle.std.specs.Prelude.{◌≡◌, ◌+◌, ◌≤◌, ◌↔◌, Is
 ghost use Rattle.map_any.specs.declared.strategy.Strategy.{Strategy};
 ghost use Rattle.views.specs.Tables.{leaf_count_of, after_log};
 ghost use Rattle.layout_copy.specs.Copies.{AreAlike, IsCopied, source_log};
-ghost use Rattle.layout_copy.specs.Costs.{cost, IsWay};
+ghost use Rattle.layout_copy.specs.Costs.{copy_cost, IsWay};
 
 use crate::fault::CopyFault;
 use crate::fieldwise::copy_fields;
@@ -28,7 +28,7 @@ pub fn copy<L: Ledger>(
     ensures copied { IsCopied source.old target.old target.new result }
     ensures source { source.new ≡ after_log source.old (source_log (leaf_count_of source.old) (length source.old.rows) result) }
     ensures steps { (strategy : Strategy) → IsWay source.old target.old strategy
-        → steps.new ≤ steps.old + cost strategy source.old.mapping target.old.mapping target.old.fields target.old.extents }
+        → steps.new ≤ steps.old + copy_cost strategy source.old.mapping target.old.mapping target.old.fields target.old.extents }
     ensures none { IsErrOf result CopyFault.Mismatch → steps.new ≡ steps.old }
 {
     if !are_alike(source, target) {

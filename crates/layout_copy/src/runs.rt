@@ -1,13 +1,13 @@
 // A copy that goes by runs of slots, between views that lay out arrays whose slots are in one order.
 ghost use Rattle.std.specs.Prelude.{◌≡◌, ◌+◌, ◌%◌, ◌<◌, ◌≤◌, Some, min, length, option_map};
 ghost use Rattle.map_checks.specs.Arrays.{array_of};
-ghost use Rattle.map_any.specs.ArraySlots.{slots_in};
+ghost use Rattle.map_any.specs.Inner.ArraySlots.{slots_in};
 ghost use Rattle.map_any.specs.Strategies.{AreRuns};
 ghost use Rattle.views.specs.Pieces.{HasSlots};
 ghost use Rattle.views.specs.Tables.{leaf_count_of};
 ghost use Rattle.layout_copy.specs.Copies.{AreAlike};
-ghost use Rattle.layout_copy.specs.Costs.{leaf_sizes, round_steps, run_steps};
-ghost use Rattle.layout_copy.specs.Runs.{order_by, IsPieceMoved};
+ghost use Rattle.layout_copy.specs.Costs.{leaf_sizes, round_steps, slot_run_steps};
+ghost use Rattle.layout_copy.specs.Inner.CopiedRuns.{order_by, IsPieceMoved};
 
 use map_any::ArraySlots;
 use record_dim::Steps;
@@ -23,7 +23,7 @@ pub(crate) fn copy_runs<L: Ledger>(source: &View, target: &mut View, steps: &mut
     requires alike { AreAlike target.old source.now }
     requires arrays { AreRuns target.old.mapping source.now.mapping }
     ensures rows { target.new ≡ record target.old { rows = source.now.rows } }
-    ensures steps { steps.new ≤ steps.old + run_steps (array_of source.now.mapping) (array_of target.old.mapping) target.old.extents (leaf_sizes target.old.fields) }
+    ensures steps { steps.new ≤ steps.old + slot_run_steps (array_of source.now.mapping) (array_of target.old.mapping) target.old.extents (leaf_sizes target.old.fields) }
 {
     let Some(from) = source.array_slots() else {
         return;
@@ -49,7 +49,7 @@ fn copy_rounds<L: Ledger>(
     requires from_lanes { 0 < from.slots → 0 < from.lanes }
     requires to_lanes { 0 < to.slots → 0 < to.lanes }
     ensures rows { target.new ≡ record target.old { rows = source.now.rows } }
-    ensures steps { steps.new ≤ steps.old + run_steps (array_of source.now.mapping) (array_of target.old.mapping) target.old.extents (leaf_sizes target.old.fields) }
+    ensures steps { steps.new ≤ steps.old + slot_run_steps (array_of source.now.mapping) (array_of target.old.mapping) target.old.extents (leaf_sizes target.old.fields) }
 {
     let mut slot = 0;
     while slot < from.slots {

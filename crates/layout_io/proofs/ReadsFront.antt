@@ -3,12 +3,12 @@ use Rattle.std.proofs.Common.{◌≡◌, ℕ, ◌+◌, ◌<◌, ◌≤◌, List,
 use Rattle.std.specs.Prelude.{⊤}
 use Rattle.std.proofs.Math.Seq.{take-add}
 use Rattle.std.proofs.lemmas.List.{take_all, length-take-le}
-use Rattle.layout_io.specs.Files.{File, file_of, HasFile, Reads}
+use Rattle.layout_io.specs.Files.{File, file_named, HasFile, Reads}
 
 -- where the files are told and one has this name: P holds of its bytes
 pub IfFile : Option (List File) → List ℕ → (List ℕ → Type 0) → Type 0
 IfFile None name P = ⊤
-IfFile (Some files) name P = IfSome (file_of files name) P
+IfFile (Some files) name P = IfSome (file_named files name) P
 
 -- so far the bytes are a front of the file, and no read failed
 pub record ReadsFront {H : Type 0} (files : H → Option (List File)) (faults : H → ℕ) (first now : H) (name bytes : List ℕ) (limit : ℕ) : Type 0 where
@@ -24,7 +24,7 @@ both (Some file) P Q R join p q = join file p q
 HasFile-both : (files : Option (List File)) (name : List ℕ) (P Q R : List ℕ → Type 0) → ((file : List ℕ) → P file → Q file → R file) → IfFile files name P → HasFile files name Q → HasFile files name R
 unfolding IfFile
 HasFile-both None name P Q R join p q = tt
-HasFile-both (Some files) name P Q R join p q = both (file_of files name) P Q R join p q
+HasFile-both (Some files) name P Q R join p q = both (file_named files name) P Q R join p q
 
 if_some : (o : Option (List ℕ)) (P : List ℕ → Type 0) → IsSomeAnd o P → IfSome o P
 if_some None P h = absurd h
@@ -33,7 +33,7 @@ if_some (Some file) P h = h
 IfFile-from : (files : Option (List File)) (name : List ℕ) (P : List ℕ → Type 0) → HasFile files name P → IfFile files name P
 unfolding IfFile
 IfFile-from None name P h = tt
-IfFile-from (Some files) name P h = if_some (file_of files name) P h
+IfFile-from (Some files) name P h = if_some (file_named files name) P h
 
 trivially : (o : Option (List ℕ)) (P : List ℕ → Type 0) → ((file : List ℕ) → P file) → IfSome o P
 trivially None P h = tt
@@ -42,7 +42,7 @@ trivially (Some file) P h = h file
 IfFile-all : (files : Option (List File)) (name : List ℕ) (P : List ℕ → Type 0) → ((file : List ℕ) → P file) → IfFile files name P
 unfolding IfFile
 IfFile-all None name P h = tt
-IfFile-all (Some files) name P h = trivially (file_of files name) P h
+IfFile-all (Some files) name P h = trivially (file_named files name) P h
 
 pub ReadsFront-none : {H : Type 0} (files : H → Option (List File)) (faults : H → ℕ) (first : H) (name : List ℕ) (limit : ℕ) → ReadsFront files faults first first name [] limit
 ReadsFront-none files faults first name limit = record { told = refl; unfailed = refl; within = omega arith; front = IfFile-all (files first) name _ (λ file. refl) }

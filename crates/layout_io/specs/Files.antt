@@ -7,19 +7,19 @@ pub record File : Type 0 where
   pub bytes : List ℕ
 
 -- what the first file of this name holds
-abbrev pub file_of : List File → List ℕ → Option (List ℕ)
-file_of [] name = None
-file_of (file ∷ files) name = if bytes_eq file.name name then Some file.bytes else file_of files name
+abbrev pub file_named : List File → List ℕ → Option (List ℕ)
+file_named [] name = None
+file_named (file ∷ files) name = if bytes_eq file.name name then Some file.bytes else file_named files name
 
 -- the files are told, and none has this name
 abbrev pub IsMissing : Option (List File) → List ℕ → Type 0
 IsMissing None name = ⊥
-IsMissing (Some files) name = file_of files name ≡ None
+IsMissing (Some files) name = file_named files name ≡ None
 
 -- where the files are told: one has this name, and P holds of its bytes
 abbrev pub HasFile : Option (List File) → List ℕ → (List ℕ → Type 0) → Type 0
 HasFile None name P = ⊤
-HasFile (Some files) name P = IsSomeAnd (file_of files name) P
+HasFile (Some files) name P = IsSomeAnd (file_named files name) P
 
 -- a read from place `at` of these bytes gave n of them, and at least one where there was one to give and room for it
 pub record Reads (at n : ℕ) (into bytes : List ℕ) : Type 0 where

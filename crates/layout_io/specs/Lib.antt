@@ -6,8 +6,5 @@ pub mod Gathering
 pub mod GatheringLaws
 pub mod Decimal
 pub mod Reading
-pub mod MemoryShelf
-pub mod MemorySink
-pub mod Entries
 pub mod DecimalLaws
-pub mod Parts
+pub mod Inner

@@ -1,7 +1,7 @@
 // The files that a shelf in memory keeps.
 ghost use Rattle.std.specs.Prelude.{◌≡◌, ◌++◌, ◌-◌, IfOk, MatchOption, None, Some, length, min, take, drop, option_map};
-ghost use Rattle.layout_io.specs.Files.{file_of};
-ghost use Rattle.layout_io.specs.Entries.{file_in, files_in};
+ghost use Rattle.layout_io.specs.Files.{file_named};
+ghost use Rattle.layout_io.specs.Inner.ShelfEntries.{file_in, files_in};
 
 use std::alloc::{AllocError as NoMemory, Global};
 
@@ -27,8 +27,8 @@ impl Entry {
 /// What the first entry of this name holds.
 pub(crate) fn find<'a>(entries: &'a [Entry], name: &str) -> Option<&'a [u8]>
     ensures { MatchOption result
-        (file_of (files_in entries.now) name.now ≡ None)
-        (λ bytes. file_of (files_in entries.now) name.now ≡ Some bytes.now) }
+        (file_named (files_in entries.now) name.now ≡ None)
+        (λ bytes. file_named (files_in entries.now) name.now ≡ Some bytes.now) }
 {
     for entry in entries {
         if entry.name.as_str() == name {

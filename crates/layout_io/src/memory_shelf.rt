@@ -2,8 +2,8 @@
 ghost use Rattle.std.specs.Prelude.{◌≡◌, ◌<◌, ◌≤◌, [], ◌∷◌, ◌++◌, ◌⊎◌, ℕ, Some, None, length, take, OnOk, OnErr, IsErr, IfOk, MatchResult, IsSomeAnd, option_copied};
 ghost use Rattle.std.specs.Io.{ReadsAtMost};
 ghost use Rattle.layout_io.specs.Faults.{Rose};
-ghost use Rattle.layout_io.specs.Files.{IsMissing, HasFile, Reads, file_of};
-ghost use Rattle.layout_io.specs.MemoryShelf.{empty_shelf, ReadsPiece, CountsRead};
+ghost use Rattle.layout_io.specs.Files.{IsMissing, HasFile, Reads, file_named};
+ghost use Rattle.layout_io.specs.Inner.MemoryShelf.{empty_shelf, ReadsPiece, CountsRead};
 
 use crate::ends::{Failed, Shelf};
 use crate::entries::{Entry, copy_piece, find};
@@ -24,11 +24,11 @@ pub struct MemoryShelf {
 
 impl Model for MemoryShelf {
     ghost use Rattle.std.specs.Prelude.{◌<◌};
-    ghost use Rattle.layout_io.specs.MemoryShelf.{ShelfState};
+    ghost use Rattle.layout_io.specs.Inner.MemoryShelf.{ShelfState};
 
     ghost Value = { ShelfState };
 
-    ghost use Rattle.layout_io.specs.Entries.{files_in};
+    ghost use Rattle.layout_io.specs.Inner.ShelfEntries.{files_in};
 
     ghost view = { λ s. record {
       files = files_in s.entries.items;

@@ -2,7 +2,7 @@
 ghost use Rattle.std.specs.Prelude.{◌≡◌, ◌<◌, ◌≤◌, [], ◌∷◌, ◌++◌, ◌⊎◌, ◌-◌, ◌^◌, ℕ, min, Some, length, take, IfOk, MatchResult, OnErr};
 ghost use Rattle.layout_io.specs.Faults.{Rose};
 ghost use Rattle.layout_io.specs.Writing.{with_bytes};
-ghost use Rattle.layout_io.specs.MemorySink.{empty_sink, WritesPiece};
+ghost use Rattle.layout_io.specs.Inner.MemorySink.{empty_sink, WritesPiece};
 
 use crate::ends::{Failed, Sink};
 use crate::listed::is_listed;
@@ -22,7 +22,7 @@ pub struct MemorySink {
 
 impl Model for MemorySink {
     ghost use Rattle.std.specs.Prelude.{◌<◌, ◌≤◌, vec_len, vec_capacity};
-    ghost use Rattle.layout_io.specs.MemorySink.{SinkState};
+    ghost use Rattle.layout_io.specs.Inner.MemorySink.{SinkState};
 
     ghost Value = { SinkState };
 

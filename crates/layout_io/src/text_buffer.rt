@@ -41,7 +41,7 @@ impl Model for TextBuffer {
 }
 
 impl TextBuffer {
-    ghost use Rattle.layout_io.specs.Parts.{text_of_part};
+    ghost use Rattle.layout_io.specs.Inner.Parts.{text_of_part};
 
     /// A buffer that holds nothing.
     pub fn new() -> TextBuffer

@@ -8,7 +8,7 @@ use Rattle.std.specs.Str.{IsUtf8}
 use Rattle.std.proofs.lemmas.Str.{IsUtf8-from_ascii}
 use Rattle.line_tokens.specs.Bytes.{is_text_byte}
 use Rattle.record_dim.specs.NameBytesLaws.{both}
-use Rattle.line_grammar.specs.FileNames.{is_file_name, padded_file_name, StoresFileName}
+use Rattle.line_grammar.specs.Inner.FileNames.{is_file_name, padded_file_name, StoresFileName}
 
 text_low : (byte : ℕ) → is_text_byte byte ≡ true → byte < 128
 text_low byte h = grind (arith, nat_tests)

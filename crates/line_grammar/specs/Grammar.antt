@@ -30,7 +30,7 @@ use Rattle.line_grammar.specs.declared.line.ShowKind.{ShowKind}
 use Rattle.line_grammar.specs.declared.line.TermText.{TermText}
 use Rattle.line_grammar.specs.declared.version.Version.{Version}
 use Rattle.line_grammar.specs.Versions.{is_two, may_have_window}
-use Rattle.line_grammar.specs.Tokens.{name_of, number_of, count_of, string_of, type_of, integer_type_of, order_of, aos_form_of, soa_form_of, map_word, index_of, choice_of, or_of, and_of, comparison_of, sum_of, product_of, kernel_word_of, reduction_of, command_of}
+use Rattle.line_grammar.specs.Tokens.{name_of, token_number, count_of, string_of, type_of, integer_type_of, token_order, aos_form_of, soa_form_of, map_word, index_of, choice_of, or_of, and_of, comparison_of, sum_of, product_of, kernel_word_of, reduction_of, command_of}
 use Rattle.line_grammar.specs.Sentences.{Assignment, New, Sentence, Value, Blank, Define, Mapping, View, Load, Assign, Update, Actors, Kernel, Reduce, Count, Copy, Relayout, Show, Drop, Bytes, Save, Open, Advise, PrintWindow, Stencil}
 
 -- what is said of phrases: a list of tokens, and the value that it has
@@ -42,7 +42,7 @@ abbrev pub IsName : Phrase (List ℕ)
 IsName = IsItem name_of
 
 abbrev pub IsNumber : Phrase ℤ
-IsNumber = IsItem number_of
+IsNumber = IsItem token_number
 
 abbrev pub IsCount : Phrase ℕ
 IsCount = IsItem count_of
@@ -128,16 +128,16 @@ IsFieldWidths version = WhichIs (is_two version) (IsEither IsBracedWidths (IsNot
 -- COUNT widths "," order
 abbrev pub IsBits : Version → (ℕ → List FieldWidth → Order → MapTerm) → Phrase MapTerm
 IsBits version value = Joined IsCount (λ width. Joined (IsFieldWidths version) (λ fields.
-    Behind (Sign Comma) (Joined (IsItem order_of) (λ order. IsNothing (value width fields order)))))
+    Behind (Sign Comma) (Joined (IsItem token_order) (λ order. IsNothing (value width fields order)))))
 
 -- the inside of a form's brackets, in which maps are `IsMap`
 abbrev pub IsForm : Version → Phrase MapTerm → MapWord → Phrase MapTerm
 -- ("packed" | "aligned" | "min") "," order
-IsForm version IsMap form.Aos = Joined (IsItem aos_form_of) (λ form. Behind (Sign Comma) (Joined (IsItem order_of) (λ order. IsNothing (Aos form order))))
+IsForm version IsMap form.Aos = Joined (IsItem aos_form_of) (λ form. Behind (Sign Comma) (Joined (IsItem token_order) (λ order. IsNothing (Aos form order))))
 -- ("single" | "aligned" | "multi") "," order
-IsForm version IsMap form.Soa = Joined (IsItem soa_form_of) (λ form. Behind (Sign Comma) (Joined (IsItem order_of) (λ order. IsNothing (Soa form order))))
+IsForm version IsMap form.Soa = Joined (IsItem soa_form_of) (λ form. Behind (Sign Comma) (Joined (IsItem token_order) (λ order. IsNothing (Soa form order))))
 -- COUNT "," order
-IsForm version IsMap form.Aosoa = Joined IsCount (λ lanes. Behind (Sign Comma) (Joined (IsItem order_of) (λ order. IsNothing (Aosoa lanes order))))
+IsForm version IsMap form.Aosoa = Joined IsCount (λ lanes. Behind (Sign Comma) (Joined (IsItem token_order) (λ order. IsNothing (Aosoa lanes order))))
 -- COUNT widths "," order
 IsForm version IsMap form.BitAos = IsBits version BitAos
 IsForm version IsMap form.BitSoa = IsBits version BitSoa

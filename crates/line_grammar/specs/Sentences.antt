@@ -109,7 +109,7 @@ show_of (Show kind view) = Some (kind, view)
 show_of _ = None
 
 -- the name of the file that a line reads
-abbrev pub file_of : Sentence → Option (List ℕ)
-file_of (Load new file) = Some file
-file_of (Open name file) = Some file
-file_of _ = None
+abbrev pub file_read_by : Sentence → Option (List ℕ)
+file_read_by (Load new file) = Some file
+file_read_by (Open name file) = Some file
+file_read_by _ = None

@@ -82,9 +82,9 @@ abbrev pub name_of : Token → Option (List ℕ)
 name_of (Word word) = if list_any (bytes_eq word) reserved then None else Some word
 name_of _ = None
 
-abbrev pub number_of : Token → Option ℤ
-number_of (Number (pos value)) = Some (pos value)
-number_of _ = None
+abbrev pub token_number : Token → Option ℤ
+token_number (Number (pos value)) = Some (pos value)
+token_number _ = None
 
 abbrev pub count_of : Token → Option ℕ
 count_of (Number (pos value)) = if nat_lt value (2 ^ 32) then Some value else None
@@ -111,8 +111,8 @@ integer_type_of = meaning type_word integer_types
 abbrev pub orders : List Order
 orders = Row ∷ Col ∷ Morton ∷ []
 
-abbrev pub order_of : Token → Option Order
-order_of = meaning order_word orders
+abbrev pub token_order : Token → Option Order
+token_order = meaning order_word orders
 
 abbrev pub aos_forms : List AosForm
 aos_forms = aos.Packed ∷ aos.Aligned ∷ aos.Min ∷ []

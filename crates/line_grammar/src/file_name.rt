@@ -1,7 +1,7 @@
 ghost use Rattle.std.specs.Prelude.{◌≡◌, Some, None, IsTrue, if◌then◌else◌};
 ghost use Rattle.std.specs.List.{list_all};
 ghost use Rattle.line_tokens.specs.Bytes.{is_text_byte};
-ghost use Rattle.line_grammar.specs.FileNames.{is_file_name};
+ghost use Rattle.line_grammar.specs.Inner.FileNames.{is_file_name};
 
 use line_tokens::MAX_STRING_BYTES;
 use std::marker::Model;
@@ -16,7 +16,7 @@ pub struct FileName {
 
 impl Model for FileName {
     ghost use Rattle.std.specs.Prelude.{ℕ, List, length, take};
-    ghost use Rattle.line_grammar.specs.FileNames.{StoresFileName, padded_file_name};
+    ghost use Rattle.line_grammar.specs.Inner.FileNames.{StoresFileName, padded_file_name};
 
     ghost Value = { List ℕ };
 

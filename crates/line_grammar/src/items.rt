@@ -1,7 +1,7 @@
 // What one token stands for, by the place that it has in a line.
 ghost use Rattle.std.specs.Prelude.{◌≡◌, bytes_eq};
 ghost use Rattle.std.specs.List.{list_any};
-ghost use Rattle.line_grammar.specs.Tokens.{aos_form_of, and_of, choice_of, command_of, comparison_of, count_of, index_named, index_of, integer_type_of, is_same, kernel_word_of, map_word, meaning, name_of, number_of, operator_in, or_of, order_of, product_of, reduction_of, reserved, soa_form_of, string_of, sum_of, symbol_token, type_of};
+ghost use Rattle.line_grammar.specs.Tokens.{aos_form_of, and_of, choice_of, command_of, comparison_of, count_of, index_named, index_of, integer_type_of, is_same, kernel_word_of, map_word, meaning, name_of, token_number, operator_in, or_of, token_order, product_of, reduction_of, reserved, soa_form_of, string_of, sum_of, symbol_token, type_of};
 ghost use Rattle.line_grammar.specs.Words.{operator};
 ghost use Rattle.line_grammar.specs.declared.version.Version.TheVariants.{One, Two};
 
@@ -58,7 +58,7 @@ pub struct Number;
 impl Item for Number {
     type Value = i128;
 
-    ghost value_of = { number_of };
+    ghost value_of = { token_number };
 
     fn of(token: &Token) -> Option<i128> {
         match token {
@@ -159,7 +159,7 @@ impl Item for IntegerType {
 impl Item for Order {
     type Value = Order;
 
-    ghost value_of = { order_of };
+    ghost value_of = { token_order };
 
     fn of(token: &Token) -> Option<Order> {
         spelled(&[Order::Row, Order::Col, Order::Morton], token)

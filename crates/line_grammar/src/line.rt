@@ -1,5 +1,5 @@
 ghost use Rattle.std.specs.Prelude.{◌≡◌, option_map};
-ghost use Rattle.line_grammar.specs.Sentences.{Show, file_of, sentence_of, show_of};
+ghost use Rattle.line_grammar.specs.Sentences.{Show, file_read_by, sentence_of, show_of};
 
 use crate::FileName;
 use expr_lang::{BinOp, Expr};
@@ -159,7 +159,7 @@ pub enum Line {
 impl Line {
     /// The name of the file that the line reads: that of a dataset or of a blob file.
     pub fn file(&self) -> Option<&FileName>
-        ensures { option_map (λ file. file.now) result ≡ file_of (sentence_of self.now) }
+        ensures { option_map (λ file. file.now) result ≡ file_read_by (sentence_of self.now) }
     {
         match self {
             Line::Load { file, .. } | Line::OpenFile { file, .. } => Some(file),

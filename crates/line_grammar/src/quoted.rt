@@ -1,5 +1,5 @@
 ghost use Rattle.std.specs.Prelude.{◌≡◌, Some, None, if◌then◌else◌};
-ghost use Rattle.line_grammar.specs.FileNames.{is_file_name};
+ghost use Rattle.line_grammar.specs.Inner.FileNames.{is_file_name};
 
 use crate::FileName;
 use crate::file_name::is_file_name;
@@ -13,7 +13,7 @@ pub struct Quoted<'a> {
 
 impl<'a> Model for Quoted<'a> {
     ghost use Rattle.std.specs.Prelude.{ℕ, List, IsTrue};
-    ghost use Rattle.line_grammar.specs.FileNames.{is_file_name};
+    ghost use Rattle.line_grammar.specs.Inner.FileNames.{is_file_name};
 
     ghost Value = { List ℕ };
 

@@ -9,7 +9,7 @@ use Rattle.line_tokens.specs.declared.sign.Sign.{Sign}
 use Rattle.line_tokens.specs.declared.sign.Sign.TheVariants.{OpenBracket, Dot, EqualEqual, NotEqual, LessThan, LessEqual, GreaterThan, GreaterEqual, Plus, Minus, Star, Slash, Percent}
 use Rattle.line_grammar.specs.declared.token.Token.{Token}
 use Rattle.line_grammar.specs.declared.token.Token.TheVariants.{Word, Number, Sign as Signed}
-use Rattle.line_grammar.specs.Tokens.{is_sign, is_word, name_of, count_of, number_of}
+use Rattle.line_grammar.specs.Tokens.{is_sign, is_word, name_of, count_of, token_number}
 use Rattle.line_grammar.specs.SignsLaws.{sign_self, sign_only, word_self, word_only}
 
 pub exact_sign : (sign : Sign) → Exact (is_sign sign) (Signed sign)
@@ -24,8 +24,8 @@ name_parses = item_parses name_of (Word (codes "a")) (codes "a") refl
 pub count_parses : Parses (IsItem count_of) (item_at count_of) Always
 count_parses = item_parses count_of (Number (pos 0)) 0 refl
 
-pub number_parses : Parses (IsItem number_of) (item_at number_of) Always
-number_parses = item_parses number_of (Number (pos 0)) (pos 0) refl
+pub number_parses : Parses (IsItem token_number) (item_at token_number) Always
+number_parses = item_parses token_number (Number (pos 0)) (pos 0) refl
 
 -- how tightly a token that goes on with an expression binds: `or` least, and the parts of a path most
 abbrev pub level_of : Token → ℕ

@@ -7,7 +7,7 @@ use Rattle.expr_lang.specs.declared.expr.BinOp.{BinOp}
 use Rattle.expr_lang.specs.declared.expr.Expr.{Expr}
 use Rattle.expr_lang.specs.Terms.{Number as Constant, Entry, Index, Neg, Not, Binary, term_of}
 use Rattle.line_grammar.specs.declared.token.Token.{Token}
-use Rattle.line_grammar.specs.Tokens.{is_sign, is_word, number_of, index_of, choice_of, or_of, and_of, comparison_of, sum_of, product_of}
+use Rattle.line_grammar.specs.Tokens.{is_sign, is_word, token_number, index_of, choice_of, or_of, and_of, comparison_of, sum_of, product_of}
 use Rattle.line_grammar.specs.Sentences.{Value}
 use Rattle.line_grammar.specs.Grammar.{wrapped}
 use Rattle.line_phrases.specs.Paths.{path_at}
@@ -73,7 +73,7 @@ unfoldable pub expr_over : (List Token → Result (Value × List Token) ℕ) →
 expr_over atom = chain_at or_of (conjunction_over atom)
 
 unfoldable pub leaf_at : List Token → Result (Value × List Token) ℕ
-leaf_at = either_at (means number_of) (then_at (item_at number_of) (λ number. give_at (Constant number)))
+leaf_at = either_at (means token_number) (then_at (item_at token_number) (λ number. give_at (Constant number)))
     (either_at (means index_of) (then_at (item_at index_of) (λ dimension. give_at (Index dimension)))
     (then_at path_at (λ path. give_at (Entry path))))
 

@@ -14,7 +14,7 @@ use Rattle.expr_lang.specs.declared.expr.BinOp.TheVariants.{Add, Mul, Min, Max, 
 use Rattle.expr_lang.specs.Terms.{Number as Constant, Entry, Index, Neg, Not as Negated, Binary}
 use Rattle.line_grammar.specs.declared.token.Token.{Token}
 use Rattle.line_grammar.specs.declared.token.Token.TheVariants.{Word, Number, Text, Sign as Signed, Bad}
-use Rattle.line_grammar.specs.Tokens.{is_sign, is_word, listed, reserved, dimensions, name_of, number_of, index_of, choice_of, or_of, and_of, comparison_of, sum_of, product_of}
+use Rattle.line_grammar.specs.Tokens.{is_sign, is_word, listed, reserved, dimensions, name_of, token_number, index_of, choice_of, or_of, and_of, comparison_of, sum_of, product_of}
 use Rattle.line_grammar.specs.Words.{index_word}
 use Rattle.line_grammar.specs.Sentences.{Value}
 use Rattle.line_grammar.specs.Grammar.{IsAtom, IsBracketed, IsChain, IsChoice, IsComparison, IsConjunction, IsExpr, IsExprOver, IsLeaf, IsLink, IsNegation, IsPrefix, IsPrefixed, IsProduct, IsSum, IsUnary, wrapped}
@@ -283,7 +283,7 @@ name_free : (word x : List ℕ) (b : Bool) → list_any (bytes_eq word) reserved
 name_free word x true is e = absurd cc
 name_free word x false is e = is
 
-name_no_number : (token : Token) (x : List ℕ) → name_of token ≡ Some x → means number_of token ≡ false
+name_no_number : (token : Token) (x : List ℕ) → name_of token ≡ Some x → means token_number token ≡ false
 name_no_number (Word word) x e = refl
 name_no_number other x e = absurd cc
 
@@ -295,11 +295,11 @@ name_no_choice : (token : Token) (x : List ℕ) → name_of token ≡ Some x →
 name_no_choice (Word word) x e = ap is_some (unlisted choice_word (Min ∷ Max ∷ []) word (refl, (refl, tt)) (name_free word x (list_any (bytes_eq word) reserved) refl e))
 name_no_choice other x e = refl
 
-index_no_number : (token : Token) (d : ℕ) → index_of token ≡ Some d → means number_of token ≡ false
+index_no_number : (token : Token) (d : ℕ) → index_of token ≡ Some d → means token_number token ≡ false
 index_no_number (Word word) d e = refl
 index_no_number other d e = absurd cc
 
-number_no_choice : (token : Token) (n : _) → number_of token ≡ Some n → means choice_of token ≡ false
+number_no_choice : (token : Token) (n : _) → token_number token ≡ Some n → means choice_of token ≡ false
 number_no_choice (Number value) n e = refl
 number_no_choice other n e = absurd cc
 
@@ -317,25 +317,25 @@ index_no_choice (Word word) d e = ap is_some (two_words word d e)
 index_no_choice other d e = absurd cc
 
 -- what leaves begin with
-leaf_starts : (test : Token → Bool) (b : Bool) → ((token : Token) (n : _) → number_of token ≡ Some n → test token ≡ b) → ((token : Token) (d : ℕ) → index_of token ≡ Some d → test token ≡ b) →
+leaf_starts : (test : Token → Bool) (b : Bool) → ((token : Token) (n : _) → token_number token ≡ Some n → test token ≡ b) → ((token : Token) (d : ℕ) → index_of token ≡ Some d → test token ≡ b) →
     ((token : Token) (x : List ℕ) → name_of token ≡ Some x → test token ≡ b) → (xs : List Token) (v : Value) (rest : List Token) → IsLeaf xs v → starts test (xs ++ rest) ≡ b
-leaf_starts test b number index name xs v rest (inl h) = joined_starts test b _ _ (item_starts test number_of b number) xs v rest h
+leaf_starts test b number index name xs v rest (inl h) = joined_starts test b _ _ (item_starts test token_number b number) xs v rest h
 leaf_starts test b number index name xs v rest (inr (inl h)) = joined_starts test b _ _ (item_starts test index_of b index) xs v rest h
 leaf_starts test b number index name xs v rest (inr (inr h)) = joined_starts test b _ _ (joined_starts test b _ _ (item_starts test name_of b name)) xs v rest h
 
 pub leaf_parses : Parses IsLeaf leaf_at (AfterLevel 6)
 unfolding leaf_at
-leaf_parses = either_parses (means number_of)
+leaf_parses = either_parses (means token_number)
     (then_parses Always number_parses (λ number. give_parses (AfterLevel 6) (Constant number)) (anything _ _))
     (either_parses (means index_of)
     (then_parses Always (item_parses index_of (Word (codes "i0")) 0 refl) (λ dimension. give_parses (AfterLevel 6) (Index dimension)) (anything _ _))
     (then_parses (AfterLevel 6) path_parses (λ path. give_parses (AfterLevel 6) (Entry path)) (λ a ys v rest h after. rw h.0 after))
     (λ xs v rest h _. joined_starts (means index_of) true _ _ (item_starts (means index_of) index_of true (means_true index_of)) xs v rest h)
     (λ xs v rest h _. joined_starts (means index_of) false _ _ (joined_starts (means index_of) false _ _ (item_starts (means index_of) name_of false name_no_index)) xs v rest h))
-    (λ xs v rest h _. joined_starts (means number_of) true _ _ (item_starts (means number_of) number_of true (means_true number_of)) xs v rest h)
+    (λ xs v rest h _. joined_starts (means token_number) true _ _ (item_starts (means token_number) token_number true (means_true token_number)) xs v rest h)
     (λ xs v rest h _. elim h [
-      | inl index ↦ joined_starts (means number_of) false _ _ (item_starts (means number_of) index_of false index_no_number) xs v rest index
-      | inr path ↦ joined_starts (means number_of) false _ _ (joined_starts (means number_of) false _ _ (item_starts (means number_of) name_of false name_no_number)) xs v rest path
+      | inl index ↦ joined_starts (means token_number) false _ _ (item_starts (means token_number) index_of false index_no_number) xs v rest index
+      | inr path ↦ joined_starts (means token_number) false _ _ (joined_starts (means token_number) false _ _ (item_starts (means token_number) name_of false name_no_number)) xs v rest path
     ])
 
 bracketed_parses : {Is : List Token → Value → Type 0} {read : List Token → Result (Value × List Token) ℕ} → Parses Is read (AfterLevel 1) → Parses (IsBracketed Is) (bracketed_at read) (AfterLevel 6)
@@ -354,15 +354,15 @@ choice_parses p = then_parses Always (item_parses choice_of (Word (codes "min"))
     (anything _ _)
 
 -- no operand begins with a token that is no number, index, choice, name or bracket
-atom_starts : (test : Token → Bool) (some : Token) → Exact test some → number_of some ≡ None → index_of some ≡ None → choice_of some ≡ None → name_of some ≡ None → test (Signed OpenParen) ≡ false →
+atom_starts : (test : Token → Bool) (some : Token) → Exact test some → token_number some ≡ None → index_of some ≡ None → choice_of some ≡ None → name_of some ≡ None → test (Signed OpenParen) ≡ false →
     (n : ℕ) (xs : List Token) (v : Value) (rest : List Token) → IsAtom n xs v → starts test (xs ++ rest) ≡ false
 atom_starts test some exact number index choice name bracket zero xs v rest h =
-    leaf_starts test false (apart exact number_of number) (apart exact index_of index) (apart exact name_of name) xs v rest h
+    leaf_starts test false (apart exact token_number number) (apart exact index_of index) (apart exact name_of name) xs v rest h
 atom_starts test some exact number index choice name bracket (suc n) xs v rest (inl h) = behind_starts test (Signed OpenParen) false bracket _ xs v rest h
 atom_starts test some exact number index choice name bracket (suc n) xs v rest (inr (inl h)) =
     joined_starts test false _ _ (item_starts test choice_of false (apart exact choice_of choice)) xs v rest h
 atom_starts test some exact number index choice name bracket (suc n) xs v rest (inr (inr h)) =
-    leaf_starts test false (apart exact number_of number) (apart exact index_of index) (apart exact name_of name) xs v rest h
+    leaf_starts test false (apart exact token_number number) (apart exact index_of index) (apart exact name_of name) xs v rest h
 
 atoms_of : (n : ℕ) → Parses (IsAtom n) (atom_at n) (AfterLevel 6) → Atoms (IsAtom n) (atom_at n)
 atoms_of n p = record {
@@ -381,7 +381,7 @@ atom_parses (suc n) = either_parses (is_sign OpenParen) (bracketed_parses (over_
     (λ xs v rest h _. behind_starts (is_sign OpenParen) (Signed OpenParen) true refl _ xs v rest h)
     (λ xs v rest h _. elim h [
       | inl choice ↦ joined_starts (is_sign OpenParen) false _ _ (item_starts (is_sign OpenParen) choice_of false (apart (exact_sign OpenParen) choice_of refl)) xs v rest choice
-      | inr leaf ↦ leaf_starts (is_sign OpenParen) false (apart (exact_sign OpenParen) number_of refl) (apart (exact_sign OpenParen) index_of refl) (apart (exact_sign OpenParen) name_of refl) xs
+      | inr leaf ↦ leaf_starts (is_sign OpenParen) false (apart (exact_sign OpenParen) token_number refl) (apart (exact_sign OpenParen) index_of refl) (apart (exact_sign OpenParen) name_of refl) xs
           v rest leaf
     ])
 

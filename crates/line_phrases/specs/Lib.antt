@@ -1,4 +1,3 @@
-pub mod Gives
 pub mod Lists
 pub mod Paths
 pub mod Fields
@@ -18,3 +17,4 @@ pub mod PassLaws
 pub mod PathsLaws
 pub mod StencilLaws
 pub mod WidthLaws
+pub mod Inner

@@ -17,15 +17,15 @@ use Rattle.line_grammar.specs.declared.line.MapWord.TheVariants as form
 use Rattle.line_grammar.specs.declared.token.Token.{Token}
 use Rattle.line_grammar.specs.declared.token.Token.TheVariants.{Word, Sign as Signed}
 use Rattle.line_grammar.specs.declared.version.Version.{Version}
-use Rattle.line_grammar.specs.Tokens.{is_sign, type_of, integer_type_of, order_of, aos_form_of, soa_form_of, map_word}
+use Rattle.line_grammar.specs.Tokens.{is_sign, type_of, integer_type_of, token_order, aos_form_of, soa_form_of, map_word}
 use Rattle.line_grammar.specs.Grammar.{IsBits, IsForm, IsFormOrName, IsMap}
 use Rattle.line_phrases.specs.Maps.{aos_at, aosoa_at, bits_at, form_at, form_or_name_at, map_at, soa_at}
 use Rattle.line_phrases.specs.BasicsLaws.{AfterLevel, Not, anything, behind_after, behind_not, count_parses, exact_sign, name_parses}
 use Rattle.line_phrases.specs.PathsLaws.{path_parses}
 use Rattle.line_phrases.specs.WidthLaws.{field_widths_parses}
 
-order_parses : Parses (IsItem order_of) (item_at order_of) Always
-order_parses = item_parses order_of (Word (codes "row")) Row refl
+order_parses : Parses (IsItem token_order) (item_at token_order) Always
+order_parses = item_parses token_order (Word (codes "row")) Row refl
 
 pub type_parses : Parses (IsItem type_of) (item_at type_of) Always
 type_parses = item_parses type_of (Word (codes "bool")) Truth refl
@@ -39,8 +39,8 @@ inner_parses : {Is : List Token → MapTerm → Type 0} {read : List Token → R
 inner_parses p f = then_parses (Not OpenParen) p (λ inner. give_parses (Not OpenParen) (f inner)) (λ a ys v rest h after. rw h.0 after)
 
 -- an order, and what is made of it
-ordered_parses : (f : Order → MapTerm) → Parses (Behind (Signed Comma) (Joined (IsItem order_of) (λ order. IsNothing (f order))))
-    (behind_at (is_sign Comma) (then_at (item_at order_of) (λ order. give_at (f order)))) (Not OpenParen)
+ordered_parses : (f : Order → MapTerm) → Parses (Behind (Signed Comma) (Joined (IsItem token_order) (λ order. IsNothing (f order))))
+    (behind_at (is_sign Comma) (then_at (item_at token_order) (λ order. give_at (f order)))) (Not OpenParen)
 ordered_parses f = behind_parses (exact_sign Comma) (then_parses Always order_parses (λ order. give_parses (Not OpenParen) (f order)) (anything _ _))
 
 -- a width, those of chosen leaves, and an order

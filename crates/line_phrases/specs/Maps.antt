@@ -11,7 +11,7 @@ use Rattle.line_grammar.specs.declared.line.MapWord.{MapWord}
 use Rattle.line_grammar.specs.declared.line.MapWord.TheVariants as form
 use Rattle.line_grammar.specs.declared.token.Token.{Token}
 use Rattle.line_grammar.specs.declared.version.Version.{Version}
-use Rattle.line_grammar.specs.Tokens.{is_sign, name_of, count_of, type_of, integer_type_of, order_of, aos_form_of, soa_form_of, map_word}
+use Rattle.line_grammar.specs.Tokens.{is_sign, name_of, count_of, type_of, integer_type_of, token_order, aos_form_of, soa_form_of, map_word}
 use Rattle.line_phrases.specs.declared.maps.BitForm.{BitForm}
 use Rattle.line_phrases.specs.declared.maps.BitForm.TheVariants as bits
 use Rattle.line_phrases.specs.Paths.{path_at}
@@ -29,17 +29,17 @@ over other inner = Count inner
 
 -- the inside of the brackets of the forms without mappings in them
 unfoldable pub aos_at : List Token → Result (MapTerm × List Token) ℕ
-aos_at = then_at (item_at aos_form_of) (λ form. behind_at (is_sign Comma) (then_at (item_at order_of) (λ order. give_at (Aos form order))))
+aos_at = then_at (item_at aos_form_of) (λ form. behind_at (is_sign Comma) (then_at (item_at token_order) (λ order. give_at (Aos form order))))
 
 unfoldable pub soa_at : List Token → Result (MapTerm × List Token) ℕ
-soa_at = then_at (item_at soa_form_of) (λ form. behind_at (is_sign Comma) (then_at (item_at order_of) (λ order. give_at (Soa form order))))
+soa_at = then_at (item_at soa_form_of) (λ form. behind_at (is_sign Comma) (then_at (item_at token_order) (λ order. give_at (Soa form order))))
 
 unfoldable pub aosoa_at : List Token → Result (MapTerm × List Token) ℕ
-aosoa_at = then_at (item_at count_of) (λ lanes. behind_at (is_sign Comma) (then_at (item_at order_of) (λ order. give_at (Aosoa lanes order))))
+aosoa_at = then_at (item_at count_of) (λ lanes. behind_at (is_sign Comma) (then_at (item_at token_order) (λ order. give_at (Aosoa lanes order))))
 
 unfoldable pub bits_at : Version → (ℕ → List FieldWidth → Order → MapTerm) → List Token → Result (MapTerm × List Token) ℕ
 bits_at version value = then_at (item_at count_of) (λ width. then_at (field_widths_at version) (λ fields.
-    behind_at (is_sign Comma) (then_at (item_at order_of) (λ order. give_at (value width fields order)))))
+    behind_at (is_sign Comma) (then_at (item_at token_order) (λ order. give_at (value width fields order)))))
 
 -- what is made of a width, those of chosen leaves and an order
 abbrev pub bits_of : BitForm → ℕ → List FieldWidth → Order → MapTerm

@@ -4,7 +4,7 @@ use Rattle.phrases.specs.ParsesLaws.{Always, Parses, behind_parses, either_parse
 use Rattle.phrases.specs.MoreLaws.{behind_starts, item_starts}
 use Rattle.line_tokens.specs.declared.sign.Sign.TheVariants.{OpenParen, CloseParen, Colon, Comma, Minus, Star}
 use Rattle.line_grammar.specs.declared.token.Token.TheVariants.{Word, Sign as Signed}
-use Rattle.line_grammar.specs.Tokens.{is_sign, number_of}
+use Rattle.line_grammar.specs.Tokens.{is_sign, token_number}
 use Rattle.line_grammar.specs.Grammar.{IsConst, IsSpan, IsTerm, IsTerms, IsWindowText}
 use Rattle.line_phrases.specs.Constants.{const_at}
 use Rattle.line_phrases.specs.Stencils.{span_at, term_at, terms_at, window_at}
@@ -18,7 +18,7 @@ const_parses = either_parses (is_sign Minus)
     (behind_parses (exact_sign Minus) (then_parses Always number_parses (λ number. give_parses Always (neg_ℤ number)) (anything _ _)))
     number_parses
     (λ xs v rest h _. behind_starts (is_sign Minus) (Signed Minus) true refl _ xs v rest h)
-    (λ xs v rest h _. item_starts (is_sign Minus) number_of false (apart (exact_sign Minus) number_of refl) xs v rest h)
+    (λ xs v rest h _. item_starts (is_sign Minus) token_number false (apart (exact_sign Minus) token_number refl) xs v rest h)
 
 pub span_parses : Parses IsSpan span_at Always
 unfolding span_at

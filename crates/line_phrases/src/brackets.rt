@@ -1,7 +1,7 @@
 ghost use Rattle.std.specs.Prelude.{◌≡◌, ◌<◌, length, OnOk, IfErr};
 ghost use Rattle.phrases.specs.Reading.{item_at};
 ghost use Rattle.line_grammar.specs.Tokens.{count_of};
-ghost use Rattle.line_phrases.specs.Gives.{Gives, IsSyntax};
+ghost use Rattle.line_phrases.specs.Inner.Gives.{Gives, IsSyntax};
 ghost use Rattle.line_phrases.specs.Lists.{listed_at, bracket_list_at, cuts_at, fixed_at, extent_at};
 
 use crate::{ReadError, Tokens};

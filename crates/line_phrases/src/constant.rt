@@ -1,5 +1,5 @@
 ghost use Rattle.std.specs.Prelude.{◌≡◌, ◌<◌, length, IfErr, OnOk};
-ghost use Rattle.line_phrases.specs.Gives.{Gives, IsSyntax};
+ghost use Rattle.line_phrases.specs.Inner.Gives.{Gives, IsSyntax};
 ghost use Rattle.line_phrases.specs.Constants.{const_at};
 
 use crate::{ReadError, Tokens};

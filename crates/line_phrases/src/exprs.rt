@@ -3,7 +3,7 @@ ghost use Rattle.expr_lang.specs.Terms.{term_of, Binary, Neg, Not};
 ghost use Rattle.line_tokens.specs.declared.sign.Sign.TheVariants.{Minus};
 ghost use Rattle.line_grammar.specs.Tokens.{is_sign, is_word};
 ghost use Rattle.line_grammar.specs.Grammar.{wrapped};
-ghost use Rattle.line_phrases.specs.Gives.{Gives, IsSyntax};
+ghost use Rattle.line_phrases.specs.Inner.Gives.{Gives, IsSyntax};
 ghost use Rattle.line_phrases.specs.Exprs.{leaf_at, atom_at, behind_left, boxed_term, bracketed_at, choice_at, count_at, left_term, unary_over, product_over, sum_over, comparison_over, negation_over, conjunction_over, expr_over};
 ghost use Rattle.std.specs.Prelude.{codes, zero};
 

@@ -2,7 +2,7 @@ ghost use Rattle.std.specs.Prelude.{◌≡◌, ◌<◌, ◌≤◌, length, map, 
 ghost use Rattle.phrases.specs.Reading.{give_at, then_at};
 ghost use Rattle.record_dim.specs.Trees.{fields_of, tree_of};
 ghost use Rattle.line_grammar.specs.Grammar.{arrays, fields_of_list};
-ghost use Rattle.line_phrases.specs.Gives.{Gives, IsSyntax};
+ghost use Rattle.line_phrases.specs.Inner.Gives.{Gives, IsSyntax};
 ghost use Rattle.line_phrases.specs.Lists.{listed_at};
 ghost use Rattle.line_phrases.specs.Fields.{boxed_field, dim_at, dims_at, typed_at, field_at, fields_at};
 

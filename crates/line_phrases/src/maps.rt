@@ -1,7 +1,7 @@
 ghost use Rattle.std.specs.Prelude.{◌≡◌, ◌<◌, length, map, OnOk, IfOk};
 ghost use Rattle.map_expr.specs.Terms.{Named, term_of};
 ghost use Rattle.line_grammar.specs.declared.line.MapWord.TheVariants as form;
-ghost use Rattle.line_phrases.specs.Gives.{Gives};
+ghost use Rattle.line_phrases.specs.Inner.Gives.{Gives};
 ghost use Rattle.line_phrases.specs.Lists.{listed_at};
 ghost use Rattle.line_phrases.specs.Maps.{aos_at, aosoa_at, bits_at, bits_of, boxed_map, form_at, map_at, over, soa_at};
 

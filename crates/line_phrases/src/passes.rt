@@ -1,6 +1,6 @@
 // The passes that a layout is chosen for.
 ghost use Rattle.std.specs.Prelude.{◌≡◌, ◌<◌, length, OnOk};
-ghost use Rattle.line_phrases.specs.Gives.{Gives};
+ghost use Rattle.line_phrases.specs.Inner.Gives.{Gives};
 ghost use Rattle.line_phrases.specs.Lists.{listed_at};
 ghost use Rattle.line_phrases.specs.Passes.{pass_at, passes_at};
 ghost use Rattle.line_phrases.specs.Paths.{path_at};

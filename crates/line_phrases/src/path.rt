@@ -1,6 +1,6 @@
 ghost use Rattle.std.specs.Prelude.{◌≡◌, ◌<◌, length, IfOk, OnOk, IfErr};
 ghost use Rattle.phrases.specs.Reading.{starts};
-ghost use Rattle.line_phrases.specs.Gives.{Gives, IsSyntax};
+ghost use Rattle.line_phrases.specs.Inner.Gives.{Gives, IsSyntax};
 ghost use Rattle.line_phrases.specs.Paths.{begins_part, part_at, path_at};
 
 use crate::{ReadError, Tokens};

@@ -1,7 +1,7 @@
 // A window, and the terms of a stencil.
 ghost use Rattle.std.specs.Prelude.{◌≡◌, ◌<◌, length, OnOk, IfErr};
 ghost use Rattle.line_phrases.specs.Constants.{const_at};
-ghost use Rattle.line_phrases.specs.Gives.{Gives, IsSyntax};
+ghost use Rattle.line_phrases.specs.Inner.Gives.{Gives, IsSyntax};
 ghost use Rattle.line_phrases.specs.Lists.{listed_at, bracket_list_at};
 ghost use Rattle.line_phrases.specs.Stencils.{span_at, term_at, terms_at, window_at};
 

@@ -1,8 +1,8 @@
 ghost use Rattle.std.specs.Prelude.{◌≡◌, ◌<◌, ◌≤ℤ◌, length, pos, IfOk, IfErr, OnOk};
 ghost use Rattle.phrases.specs.Reading.{past, starts, item_at};
-ghost use Rattle.line_grammar.specs.Tokens.{is_sign, is_word, number_of};
+ghost use Rattle.line_grammar.specs.Tokens.{is_sign, is_word, token_number};
 ghost use Rattle.line_phrases.specs.Exprs.{means};
-ghost use Rattle.line_phrases.specs.Gives.{Gives, IsSyntax};
+ghost use Rattle.line_phrases.specs.Inner.Gives.{Gives, IsSyntax};
 
 use crate::ReadError;
 use line_grammar::{Item, Number, Token};
@@ -119,7 +119,7 @@ impl<'a, 'text> Tokens<'a, 'text> {
     /// Takes the first token, which is a number, and gives its value.
     pub fn number(&mut self) -> Result<i128, ReadError>
         ensures positive { IfOk result (λ x. pos 0 ≤ℤ x) }
-        ensures gives { Gives (λ x. (x, self.new)) result (item_at number_of self.old) }
+        ensures gives { Gives (λ x. (x, self.new)) result (item_at token_number self.old) }
         ensures shorter { OnOk result (length self.new < length self.old) }
         ensures fault { IfErr result IsSyntax }
     {

@@ -1,5 +1,5 @@
 ghost use Rattle.std.specs.Prelude.{◌≡◌, ◌<◌, ◌≤◌, length, OnOk};
-ghost use Rattle.line_phrases.specs.Gives.{Gives};
+ghost use Rattle.line_phrases.specs.Inner.Gives.{Gives};
 ghost use Rattle.line_phrases.specs.Lists.{listed_at};
 ghost use Rattle.line_phrases.specs.Widths.{field_width_at, field_widths_at};
 

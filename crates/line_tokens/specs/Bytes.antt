@@ -5,8 +5,8 @@ use Rattle.std.specs.Int.{is_in_range}
 use Rattle.std.specs.Str.{byte}
 
 -- a space or a tab
-abbrev pub is_blank : ℕ → Bool
-is_blank b = b == byte " " || b == byte "\t"
+abbrev pub is_space_byte : ℕ → Bool
+is_space_byte b = b == byte " " || b == byte "\t"
 
 -- a letter or `_`
 abbrev pub is_letter : ℕ → Bool

@@ -4,7 +4,6 @@ pub mod Tokens
 pub mod Next
 pub mod Spots
 pub mod Spelled
-pub mod Ends
 pub mod DecimalLaws
 pub mod EndLaws
 pub mod NextTokenLaws
@@ -13,3 +12,4 @@ pub mod SpelledLaws
 pub mod SpotLaws
 pub mod StandingLaws
 pub mod StringsLaws
+pub mod Inner

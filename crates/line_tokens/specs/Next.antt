@@ -63,13 +63,13 @@ word_at rest = let n = prefix_len is_word_byte rest in
     if nat_le n 32 then Some (n, Word) else None
 
 -- the value of decimal digits, if it is at most 2 ^ 127 - 1
-abbrev pub value_of : List ℕ → Option ℤ
-value_of digits = if nat_lt (digits_value 10 digits) (2 ^ 127) then Some (pos (digits_value 10 digits)) else None
+abbrev pub digits_value_of : List ℕ → Option ℤ
+digits_value_of digits = if nat_lt (digits_value 10 digits) (2 ^ 127) then Some (pos (digits_value 10 digits)) else None
 
 -- a number at the front, with its length
 abbrev pub number_at : List ℕ → Option (ℕ × TokenKind)
 number_at rest = let n = prefix_len is_ascii_digit rest in
-    option_map (λ value. (n, Number value)) (value_of (take n rest))
+    option_map (λ value. (n, Number value)) (digits_value_of (take n rest))
 
 -- a string at the front, with its length
 abbrev pub string_at : List ℕ → Option (ℕ × TokenKind)

@@ -5,7 +5,7 @@ use Rattle.std.specs.List.{prefix_len}
 use Rattle.std.specs.Str.Parse.{digits_value}
 use Rattle.std.proofs.lemmas.Bool.{cases_Bool}
 use Rattle.std.proofs.lemmas.List.Sums.{prefix_len-le-length}
-use Rattle.line_tokens.specs.Bytes.{is_blank, is_word_byte, is_hash}
+use Rattle.line_tokens.specs.Bytes.{is_space_byte, is_word_byte, is_hash}
 use Rattle.line_tokens.specs.Signs.{spelling}
 use Rattle.line_tokens.specs.Tokens.{start_of, rest_of, StartsWith, IsEnd, IsToken, IsBad, IsBadFrom, IsTokenFrom, IsInside}
 use Rattle.line_tokens.specs.Next.{token_at, placed, standing, next_of}
@@ -123,7 +123,7 @@ token_sized (SignKind sign) n (b ∷ after) brackets h =
     (omega arith, omega arith)
 
 start_inside : (text : List ℕ) (at : ℕ) → at ≤ length text → (at ≤ start_of text at) × (start_of text at ≤ length text)
-start_inside text at l = (omega arith, omega (arith, prefix_len-le-length is_blank (drop at text), length-drop at text))
+start_inside text at l = (omega arith, omega (arith, prefix_len-le-length is_space_byte (drop at text), length-drop at text))
 
 bad_some : (rest : List ℕ) (brackets : ℕ) → IsBad rest brackets → 1 ≤ length rest
 bad_some [] brackets h = absurd (no_bad_in_nil brackets h)

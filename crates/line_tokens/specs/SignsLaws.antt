@@ -2,7 +2,7 @@
 use Rattle.std.proofs.Common.{◌≡◌, ℕ, ◌≤◌, true, false, List, [], ◌∷◌, ◌++◌, length, Option, Some, None, ◌⊎◌, inl, inr, refl, sym, ◌∙◌, ap, subst, if◌then◌else◌, nat_eq, ◌&&◌, arith}
 use Rattle.std.proofs.lemmas.Bool.{both_ways, cond_both, lt-ltb, eqb-true, and_parts}
 use Rattle.std.specs.Option.{option_map}
-use Rattle.line_tokens.specs.Bytes.{is_blank, is_other}
+use Rattle.line_tokens.specs.Bytes.{is_space_byte, is_other}
 use Rattle.line_tokens.specs.Signs.{spelling}
 use Rattle.line_tokens.specs.Tokens.{Begins, StartsWith, IsSign}
 use Rattle.line_tokens.specs.Next.{double_sign, single_sign, sign_at}
@@ -15,7 +15,7 @@ pub record IsSingle (sign : Sign) : Type 0 where
   pub spelled : spelling sign ≡ first ∷ []
   pub found : single_sign first ≡ Some sign
   pub other : is_other first ≡ true
-  pub inked : is_blank first ≡ false
+  pub inked : is_space_byte first ≡ false
 
 -- a sign of two bytes
 pub record IsDouble (sign : Sign) : Type 0 where
@@ -24,13 +24,13 @@ pub record IsDouble (sign : Sign) : Type 0 where
   pub spelled : spelling sign ≡ first ∷ (second ∷ [])
   pub found : double_sign first second ≡ Some sign
   pub other : is_other first ≡ true
-  pub inked : is_blank first ≡ false
-  pub second_inked : is_blank second ≡ false
+  pub inked : is_space_byte first ≡ false
+  pub second_inked : is_space_byte second ≡ false
 
-single : {sign : Sign} (b : ℕ) → spelling sign ≡ b ∷ [] → single_sign b ≡ Some sign → is_other b ≡ true → is_blank b ≡ false → IsSingle sign ⊎ IsDouble sign
+single : {sign : Sign} (b : ℕ) → spelling sign ≡ b ∷ [] → single_sign b ≡ Some sign → is_other b ≡ true → is_space_byte b ≡ false → IsSingle sign ⊎ IsDouble sign
 single b e f o i = inl (record { first = b; spelled = e; found = f; other = o; inked = i })
 
-double : {sign : Sign} (b c : ℕ) → spelling sign ≡ b ∷ (c ∷ []) → double_sign b c ≡ Some sign → is_other b ≡ true → is_blank b ≡ false → is_blank c ≡ false → IsSingle sign ⊎ IsDouble sign
+double : {sign : Sign} (b c : ℕ) → spelling sign ≡ b ∷ (c ∷ []) → double_sign b c ≡ Some sign → is_other b ≡ true → is_space_byte b ≡ false → is_space_byte c ≡ false → IsSingle sign ⊎ IsDouble sign
 double b c e f o i k = inr (record { first = b; second = c; spelled = e; found = f; other = o; inked = i; second_inked = k })
 
 pub sign_spelled : (sign : Sign) → IsSingle sign ⊎ IsDouble sign
@@ -102,7 +102,7 @@ pub record StartsSingle (sign : Sign) (rest : List ℕ) : Type 0 where
   pub found : single_sign first ≡ Some sign
   pub len : length (spelling sign) ≡ 1
   pub other : is_other first ≡ true
-  pub inked : is_blank first ≡ false
+  pub inked : is_space_byte first ≡ false
 
 pub record StartsDouble (sign : Sign) (rest : List ℕ) : Type 0 where
   pub first : ℕ
@@ -112,8 +112,8 @@ pub record StartsDouble (sign : Sign) (rest : List ℕ) : Type 0 where
   pub found : double_sign first second ≡ Some sign
   pub len : length (spelling sign) ≡ 2
   pub other : is_other first ≡ true
-  pub inked : is_blank first ≡ false
-  pub second_inked : is_blank second ≡ false
+  pub inked : is_space_byte first ≡ false
+  pub second_inked : is_space_byte second ≡ false
 
 pub starts_cases : (sign : Sign) (rest : List ℕ) → StartsWith (spelling sign) rest → StartsSingle sign rest ⊎ StartsDouble sign rest
 starts_cases sign rest h = elim (sign_spelled sign) [
@@ -217,7 +217,7 @@ sign_len sign = elim (sign_spelled sign) [
 ]
 
 -- no longer sign stands where a sign stands at the end or before a blank
-pub sign_longest : (sign : Sign) (after : List ℕ) → (after ≡ []) ⊎ Begins is_blank after → (other : Sign) →
+pub sign_longest : (sign : Sign) (after : List ℕ) → (after ≡ []) ⊎ Begins is_space_byte after → (other : Sign) →
     StartsWith (spelling other) (spelling sign ++ after) → length (spelling other) ≤ length (spelling sign)
 sign_longest sign after parted other h = elim (starts_cases other (spelling sign ++ after) h) [
   | inl s ↦ omega (arith, s.len, (sign_len sign).0)
@@ -227,7 +227,7 @@ sign_longest sign after parted other h = elim (starts_cases other (spelling sign
   ]
 ]
   where
-    one_alone : (a b c : ℕ) (after rest : List ℕ) → (after ≡ []) ⊎ Begins is_blank after → is_blank c ≡ false → a ∷ after ≡ b ∷ (c ∷ rest) → ⊥
+    one_alone : (a b c : ℕ) (after rest : List ℕ) → (after ≡ []) ⊎ Begins is_space_byte after → is_space_byte c ≡ false → a ∷ after ≡ b ∷ (c ∷ rest) → ⊥
     one_alone a b c [] rest parted inked e = cc
     one_alone a b c (d ∷ after) rest (inl e') inked e = cc
-    one_alone a b c (d ∷ after) rest (inr blank) inked e = let same : d ≡ c = cc in both_ways (is_blank c) inked (rw same at blank)
+    one_alone a b c (d ∷ after) rest (inr blank) inked e = let same : d ≡ c = cc in both_ways (is_space_byte c) inked (rw same at blank)

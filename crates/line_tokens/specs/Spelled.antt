@@ -27,16 +27,16 @@ Spells Text bytes = (inside : List ℕ) × (bytes ≡ byte "\"" ∷ (inside ++ b
 Spells (SignKind sign) bytes = bytes ≡ spelling sign
 
 -- the token may stand where so many brackets are open
-abbrev pub HasRoom : TokenKind → ℕ → Type 0
-HasRoom Word brackets = ⊤
-HasRoom (Number value) brackets = ⊤
-HasRoom Text brackets = ⊤
-HasRoom (SignKind sign) brackets = IsTrue (opens sign) → brackets < 64
+abbrev pub MayOpen : TokenKind → ℕ → Type 0
+MayOpen Word brackets = ⊤
+MayOpen (Number value) brackets = ⊤
+MayOpen Text brackets = ⊤
+MayOpen (SignKind sign) brackets = IsTrue (opens sign) → brackets < 64
 
 -- each token is spelled, and none opens a 65th bracket
 abbrev pub AreSpelled : ℕ → List Written → Type 0
 AreSpelled brackets [] = ⊤
-AreSpelled brackets (token ∷ tokens) = Spells token.kind token.bytes × HasRoom token.kind brackets
+AreSpelled brackets (token ∷ tokens) = Spells token.kind token.bytes × MayOpen token.kind brackets
     × AreSpelled (brackets_after token.kind brackets) tokens
 
 -- each token behind a space
@@ -45,9 +45,9 @@ spaced [] = []
 spaced (token ∷ tokens) = byte " " ∷ (token.bytes ++ spaced tokens)
 
 -- the tokens with one space between each two
-abbrev pub joined : List Written → List ℕ
-joined [] = []
-joined (token ∷ tokens) = token.bytes ++ spaced tokens
+abbrev pub spaced_tokens : List Written → List ℕ
+spaced_tokens [] = []
+spaced_tokens (token ∷ tokens) = token.bytes ++ spaced tokens
 
 -- the places of the tokens, where the first stands at `at`
 abbrev pub places : ℕ → List Written → List Spot

@@ -6,12 +6,12 @@ use Rattle.std.proofs.lemmas.Bool.{both_ways, cases_Bool}
 use Rattle.std.proofs.lemmas.Bool.Decides.{nat_tests}
 use Rattle.std.proofs.lemmas.List.{drop_at, take_at}
 use Rattle.std.proofs.lemmas.List.Folds.{length-prefix_len}
-use Rattle.line_tokens.specs.Bytes.{is_blank, is_letter, is_word_byte}
+use Rattle.line_tokens.specs.Bytes.{is_space_byte, is_letter, is_word_byte}
 use Rattle.line_tokens.specs.Signs.{spelling}
 use Rattle.line_tokens.specs.Tokens.{Begins, start_of, IsToken}
 use Rattle.line_tokens.specs.Next.{next_of}
 use Rattle.line_tokens.specs.Spots.{brackets_after, Spots}
-use Rattle.line_tokens.specs.Spelled.{Written, Spells, HasRoom, AreSpelled, spaced, joined, places, AreTokensOf}
+use Rattle.line_tokens.specs.Spelled.{Written, Spells, MayOpen, AreSpelled, spaced, spaced_tokens, places, AreTokensOf}
 use Rattle.line_tokens.specs.declared.token.Next.TheVariants.{End, Token}
 use Rattle.line_tokens.specs.declared.token.TokenKind.{TokenKind}
 use Rattle.line_tokens.specs.declared.token.TokenKind.TheVariants.{Word, Number, Text, Sign as SignKind}
@@ -23,21 +23,21 @@ use Rattle.line_tokens.specs.StringsLaws.{prefix_len-all, prefix_len-run}
 
 -- the end, or a blank
 abbrev pub IsParted : List ℕ → Type 0
-IsParted after = (after ≡ []) ⊎ Begins is_blank after
+IsParted after = (after ≡ []) ⊎ Begins is_space_byte after
 
 -- a run of bytes that are not blank ends there
-run_parted : (p : ℕ → Bool) (bytes after : List ℕ) → ((b : ℕ) → is_blank b ≡ true → p b ≡ false) → AllPass p bytes → IsParted after → prefix_len p (bytes ++ after) ≡ length bytes
+run_parted : (p : ℕ → Bool) (bytes after : List ℕ) → ((b : ℕ) → is_space_byte b ≡ true → p b ≡ false) → AllPass p bytes → IsParted after → prefix_len p (bytes ++ after) ≡ length bytes
 run_parted p bytes [] apart pass parted = rw append-nil (prefix_len-all p bytes pass)
 run_parted p bytes (c ∷ after) apart pass (inl e) = absurd cc
 run_parted p bytes (c ∷ after) apart pass (inr blank) = prefix_len-run p bytes c after pass (apart c blank)
 
-blank_is : (b : ℕ) → is_blank b ≡ true → (b ≡ 32) ⊎ (b ≡ 9)
+blank_is : (b : ℕ) → is_space_byte b ≡ true → (b ≡ 32) ⊎ (b ≡ 9)
 blank_is b h = grind (arith, nat_tests)
 
-blank_no_word : (b : ℕ) → is_blank b ≡ true → is_word_byte b ≡ false
+blank_no_word : (b : ℕ) → is_space_byte b ≡ true → is_word_byte b ≡ false
 blank_no_word b h = elim (blank_is b h) [ inl e ↦ rw e | inr e ↦ rw e ]
 
-blank_no_digit : (b : ℕ) → is_blank b ≡ true → is_ascii_digit b ≡ false
+blank_no_digit : (b : ℕ) → is_space_byte b ≡ true → is_ascii_digit b ≡ false
 blank_no_digit b h = elim (blank_is b h) [ inl e ↦ rw e | inr e ↦ rw e ]
 
 begins_more : (p : ℕ → Bool) (bytes after : List ℕ) → Begins p bytes → Begins p (bytes ++ after)
@@ -45,7 +45,7 @@ begins_more p [] after h = absurd h
 begins_more p (b ∷ bytes) after h = h
 
 -- spelled bytes are a token there
-token_spelled : (kind : TokenKind) (bytes after : List ℕ) (brackets : ℕ) → Spells kind bytes → HasRoom kind brackets → IsParted after → IsToken kind (length bytes) (bytes ++ after) brackets
+token_spelled : (kind : TokenKind) (bytes after : List ℕ) (brackets : ℕ) → Spells kind bytes → MayOpen kind brackets → IsParted after → IsToken kind (length bytes) (bytes ++ after) brackets
 token_spelled Word bytes after brackets h room parted =
     (begins_more is_letter bytes after h.0, sym (run_parted is_word_byte bytes after blank_no_word h.1 parted), h.2)
 token_spelled (Number value) bytes after brackets h room parted = (
@@ -62,17 +62,17 @@ token_spelled (SignKind sign) bytes after brackets h room parted =
 
 -- spelled bytes begin with no blank
 
-first_apart : (p : ℕ → Bool) (bytes after : List ℕ) → ((b : ℕ) → is_blank b ≡ true → p b ≡ false) → Begins p bytes → prefix_len is_blank (bytes ++ after) ≡ 0
+first_apart : (p : ℕ → Bool) (bytes after : List ℕ) → ((b : ℕ) → is_space_byte b ≡ true → p b ≡ false) → Begins p bytes → prefix_len is_space_byte (bytes ++ after) ≡ 0
 first_apart p [] after apart h = absurd h
 first_apart p (b ∷ bytes) after apart h = ⊎_elim
     (λ blank. absurd (both_ways (p b) (apart b blank) h))
     (λ inked. rw inked)
-    (cases_Bool (is_blank b))
+    (cases_Bool (is_space_byte b))
 
-blank_no_letter : (b : ℕ) → is_blank b ≡ true → is_letter b ≡ false
+blank_no_letter : (b : ℕ) → is_space_byte b ≡ true → is_letter b ≡ false
 blank_no_letter b h = elim (blank_is b h) [ inl e ↦ rw e | inr e ↦ rw e ]
 
-spelled_inked : (kind : TokenKind) (bytes after : List ℕ) → Spells kind bytes → prefix_len is_blank (bytes ++ after) ≡ 0
+spelled_inked : (kind : TokenKind) (bytes after : List ℕ) → Spells kind bytes → prefix_len is_space_byte (bytes ++ after) ≡ 0
 spelled_inked Word bytes after h = first_apart is_letter bytes after blank_no_letter h.0
 spelled_inked (Number value) bytes after h = first_apart is_ascii_digit bytes after blank_no_digit h.0
 spelled_inked Text bytes after h = rw h.1
@@ -81,7 +81,7 @@ spelled_inked (SignKind sign) bytes after h = elim (sign_spelled sign) [
   | inr s ↦ rw (h, s.spelled, s.inked)
 ]
 
-blanks_before : (blanks rest : List ℕ) → AllPass is_blank blanks → prefix_len is_blank rest ≡ 0 → prefix_len is_blank (blanks ++ rest) ≡ length blanks
+blanks_before : (blanks rest : List ℕ) → AllPass is_space_byte blanks → prefix_len is_space_byte rest ≡ 0 → prefix_len is_space_byte (blanks ++ rest) ≡ length blanks
 blanks_before [] rest pass inked = inked
 blanks_before (b ∷ blanks) rest pass inked =
     let e = blanks_before blanks rest (λ k d l. pass (suc k) d (omega arith)) inked in
@@ -89,7 +89,7 @@ blanks_before (b ∷ blanks) rest pass inked =
 
 -- what is spelled behind blanks, at the end or before a blank, is the next token
 pub next_spelled : (kind : TokenKind) (front blanks bytes after : List ℕ) (brackets : ℕ) →
-    Spells kind bytes → HasRoom kind brackets → AllPass is_blank blanks → IsParted after →
+    Spells kind bytes → MayOpen kind brackets → AllPass is_space_byte blanks → IsParted after →
     next_of (front ++ (blanks ++ (bytes ++ after))) (length front) brackets
     ≡ Token (length front + length blanks) (length front + length blanks + length bytes) kind
 next_spelled kind front blanks bytes after brackets h room pass parted =
@@ -130,19 +130,19 @@ spaced_spots front (token ∷ tokens) brackets h =
     let behind = spaced_spots front' tokens (brackets_after token.kind brackets) h.2 in
     (next, rw (split, len) at behind)
   where
-    one_blank : AllPass is_blank (32 ∷ [])
+    one_blank : AllPass is_space_byte (32 ∷ [])
     one_blank zero d l = refl
     one_blank (suc k) d l = absurd (omega arith)
 
 -- a line of tokens is read back, each at its place
-pub joined_spots : (tokens : List Written) → AreSpelled 0 tokens → Spots (joined tokens) 0 0 (places 0 tokens)
+pub joined_spots : (tokens : List Written) → AreSpelled 0 tokens → Spots (spaced_tokens tokens) 0 0 (places 0 tokens)
 joined_spots [] h = end_spelled [] 0
 joined_spots (token ∷ tokens) h = (
   next_spelled token.kind [] [] token.bytes (spaced tokens) 0 h.0 h.1 no_blank (spaced_parted tokens),
   rw (zero-add (length token.bytes)) (spaced_spots token.bytes tokens (brackets_after token.kind 0) h.2),
 )
   where
-    no_blank : AllPass is_blank []
+    no_blank : AllPass is_space_byte []
     no_blank k d l = absurd (omega arith)
 
 -- the bytes at the places are those of the tokens
@@ -171,7 +171,7 @@ spaced_bytes front (token ∷ tokens) =
     ∙ ap (λ xs. token.bytes ∷ xs) there
 
 pub joined_bytes : (tokens : List Written) →
-    map (λ spot. slice_range (joined tokens) spot.from spot.end) (places 0 tokens) ≡ map (λ token. token.bytes) tokens
+    map (λ spot. slice_range (spaced_tokens tokens) spot.from spot.end) (places 0 tokens) ≡ map (λ token. token.bytes) tokens
 joined_bytes [] = refl
 joined_bytes (token ∷ tokens) =
     let text : List ℕ = token.bytes ++ spaced tokens in
@@ -202,7 +202,7 @@ token_spells (SignKind sign) n rest brackets h =
 
 -- the same of a token at its place
 pub next_spells : (text : List ℕ) (at brackets from end : ℕ) (kind : TokenKind) → next_of text at brackets ≡ Token from end kind →
-    Spells kind (slice_range text from end) × HasRoom kind brackets
+    Spells kind (slice_range text from end) × MayOpen kind brackets
 next_spells text at brackets from end kind e =
     let h = (token_exactly text at brackets from end kind).0 e in
     let len : end - from ≡ h.1 = omega arith in
@@ -213,5 +213,5 @@ kinds_placed at [] = refl
 kinds_placed at (token ∷ tokens) = ap (λ xs. Some token.kind ∷ xs) (kinds_placed (at + length token.bytes + 1) tokens)
 
 -- spelled tokens, joined by spaces, are read back
-pub joined_read : (tokens : List Written) → AreSpelled 0 tokens → AreTokensOf (joined tokens) tokens
+pub joined_read : (tokens : List Written) → AreSpelled 0 tokens → AreTokensOf (spaced_tokens tokens) tokens
 joined_read tokens h = record { spots = places 0 tokens; read = joined_spots tokens h; kinds = kinds_placed 0 tokens; bytes = joined_bytes tokens }

@@ -5,7 +5,7 @@ use Rattle.std.proofs.lemmas.List.Elements.{All-cons}
 use Rattle.line_tokens.specs.Signs.{opens, closes}
 use Rattle.line_tokens.specs.Tokens.{IsToken}
 use Rattle.line_tokens.specs.Next.{next_of}
-use Rattle.line_tokens.specs.Spelled.{HasRoom}
+use Rattle.line_tokens.specs.Spelled.{MayOpen}
 use Rattle.line_tokens.specs.Spots.{brackets_after, Spots}
 use Rattle.line_tokens.specs.declared.spots.Spot.{Spot}
 use Rattle.line_tokens.specs.declared.token.Next.TheVariants.{End, Bad, Token}
@@ -18,13 +18,13 @@ abbrev pub spot_at : ℕ → ℕ → Option TokenKind → Spot
 spot_at from end kind = record { from = from; end = end; kind = kind }
 
 -- no token opens a 65th bracket
-after_few : (kind : TokenKind) (brackets : ℕ) → HasRoom kind brackets → brackets ≤ 64 → brackets_after kind brackets ≤ 64
+after_few : (kind : TokenKind) (brackets : ℕ) → MayOpen kind brackets → brackets ≤ 64 → brackets_after kind brackets ≤ 64
 after_few (SignKind sign) brackets room few = cond_both (opens sign) (brackets + 1) (if closes sign then brackets - 1 else brackets) (λ n. n ≤ 64)
     (λ opened. let less = room opened in omega arith)
     (λ _. cond_both (closes sign) (brackets - 1) brackets (λ n. n ≤ 64) (λ _. omega arith) (λ _. few))
 after_few other brackets room few = few
 
-pub token_room : (kind : TokenKind) (n : ℕ) (rest : List ℕ) (brackets : ℕ) → IsToken kind n rest brackets → HasRoom kind brackets
+pub token_room : (kind : TokenKind) (n : ℕ) (rest : List ℕ) (brackets : ℕ) → IsToken kind n rest brackets → MayOpen kind brackets
 token_room (SignKind sign) n rest brackets h = h.1
 token_room other n rest brackets h = tt
 

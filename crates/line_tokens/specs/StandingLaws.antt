@@ -8,7 +8,7 @@ use Rattle.std.proofs.lemmas.Bool.{cond_both, true≢false, and_parts, and_cases
 use Rattle.std.proofs.lemmas.Bool.Decides.{nat_tests}
 use Rattle.line_tokens.specs.Bytes.{is_letter, is_word_byte, is_hash, is_quote, is_other}
 use Rattle.line_tokens.specs.Signs.{spelling, opens}
-use Rattle.line_tokens.specs.Tokens.{StartsWith, IsWord, IsNumber, IsString, IsToken, IsBad, IsLongWord, IsGreatNumber, IsLoneQuote}
+use Rattle.line_tokens.specs.Tokens.{StartsWith, IsWord, IsDigits, IsString, IsToken, IsBad, IsLongWord, IsGreatNumber, IsLoneQuote}
 use Rattle.line_tokens.specs.Next.{sign_at, with_room, word_at, number_at, string_at, token_at, placed, standing}
 use Rattle.line_tokens.specs.declared.sign.Sign.{Sign}
 use Rattle.line_tokens.specs.declared.token.Next.TheVariants.{End}
@@ -75,7 +75,7 @@ word_found n b after h = rw (← h.1, le-leb n 32 h.2)
 long_word_found : (b : ℕ) (after : List ℕ) → IsLongWord (b ∷ after) → word_at (b ∷ after) ≡ None
 long_word_found b after h = rw (lt-leb (prefix_len is_word_byte (b ∷ after)) 32 h.1)
 
-number_found : (n : ℕ) (value : ℤ) (b : ℕ) (after : List ℕ) → IsNumber n value (b ∷ after) → number_at (b ∷ after) ≡ Some (n, Number value)
+number_found : (n : ℕ) (value : ℤ) (b : ℕ) (after : List ℕ) → IsDigits n value (b ∷ after) → number_at (b ∷ after) ≡ Some (n, Number value)
 number_found n value b after h = rw (← h.1, lt-ltb (digits_value 10 (take n (b ∷ after))) (2 ^ 127) h.2, h.3)
 
 great_number_found : (b : ℕ) (after : List ℕ) → IsGreatNumber (b ∷ after) → number_at (b ∷ after) ≡ None

@@ -5,7 +5,7 @@ use Rattle.std.specs.Char.{is_ascii_digit}
 use Rattle.std.specs.List.{prefix_len, AllPass}
 use Rattle.std.specs.Str.{byte}
 use Rattle.std.specs.Str.Parse.{digits_value}
-use Rattle.line_tokens.specs.Bytes.{is_blank, is_letter, is_word_byte, is_hash, is_quote, is_text_byte, is_other}
+use Rattle.line_tokens.specs.Bytes.{is_space_byte, is_letter, is_word_byte, is_hash, is_quote, is_text_byte, is_other}
 use Rattle.line_tokens.specs.Signs.{spelling, opens}
 use Rattle.line_tokens.specs.declared.sign.Sign.{Sign}
 use Rattle.line_tokens.specs.declared.token.Next.{Next}
@@ -15,7 +15,7 @@ use Rattle.line_tokens.specs.declared.token.TokenKind.TheVariants.{Word, Number,
 
 -- the place behind the spaces and tabs that stand from place `at` on
 abbrev pub start_of : List ℕ → ℕ → ℕ
-start_of text at = at + prefix_len is_blank (drop at text)
+start_of text at = at + prefix_len is_space_byte (drop at text)
 
 -- what stands there
 abbrev pub rest_of : List ℕ → ℕ → List ℕ
@@ -39,8 +39,8 @@ abbrev pub IsWord : ℕ → List ℕ → Type 0
 IsWord n rest = Begins is_letter rest × (n ≡ prefix_len is_word_byte rest) × (n ≤ 32)
 
 -- a number of n digits, of this value
-abbrev pub IsNumber : ℕ → ℤ → List ℕ → Type 0
-IsNumber n value rest = Begins is_ascii_digit rest × (n ≡ prefix_len is_ascii_digit rest)
+abbrev pub IsDigits : ℕ → ℤ → List ℕ → Type 0
+IsDigits n value rest = Begins is_ascii_digit rest × (n ≡ prefix_len is_ascii_digit rest)
     × (digits_value 10 (take n rest) < 2 ^ 127) × (value ≡ pos (digits_value 10 (take n rest)))
 
 -- a string of n bytes with its quotes
@@ -56,7 +56,7 @@ IsSign n sign rest = StartsWith (spelling sign) rest × (n ≡ length (spelling 
 -- a token of this kind, of n bytes, where `brackets` brackets are open; at most 64 may be
 abbrev pub IsToken : TokenKind → ℕ → List ℕ → ℕ → Type 0
 IsToken Word n rest brackets = IsWord n rest
-IsToken (Number value) n rest brackets = IsNumber n value rest
+IsToken (Number value) n rest brackets = IsDigits n value rest
 IsToken Text n rest brackets = IsString n rest
 IsToken (SignKind sign) n rest brackets = IsSign n sign rest × (IsTrue (opens sign) → brackets < 64)
 

@@ -4,8 +4,8 @@ ghost use Rattle.std.specs.Prelude.{◌≡◌, ◌↔◌, ℕ, ℤ, pos, ◌+◌
 ghost use Rattle.std.specs.Char.{is_ascii_digit};
 ghost use Rattle.std.specs.List.{AllPass, prefix_len};
 ghost use Rattle.std.specs.Str.Parse.{digits_value};
-ghost use Rattle.line_tokens.specs.Bytes.{is_blank, is_letter, is_word_byte, is_text_byte};
-ghost use Rattle.line_tokens.specs.Next.{next_of, number_at, sign_at, standing, string_at, token_at, value_of, word_at};
+ghost use Rattle.line_tokens.specs.Bytes.{is_space_byte, is_letter, is_word_byte, is_text_byte};
+ghost use Rattle.line_tokens.specs.Next.{next_of, number_at, sign_at, standing, string_at, token_at, digits_value_of, word_at};
 ghost use Rattle.line_tokens.specs.Tokens.{IsBadFrom, IsEnd, IsInside, IsTokenFrom, rest_of};
 
 use crate::sign::{Sign, double_sign, single_sign};
@@ -74,7 +74,7 @@ pub fn next_token(text: &[u8], at: usize, brackets: u32) -> Next
 }
 
 fn is_blank(byte: u8) -> bool
-    ensures { result ≡ is_blank byte }
+    ensures { result ≡ is_space_byte byte }
 {
     byte == b' ' || byte == b'\t'
 }
@@ -99,7 +99,7 @@ fn is_text_byte(byte: u8) -> bool
 
 // How many bytes at the front are of one class.
 fn count_blanks(bytes: &[u8]) -> usize
-    ensures count { result ≡ prefix_len is_blank bytes.now }
+    ensures count { result ≡ prefix_len is_space_byte bytes.now }
     ensures fits { result ≤ length bytes.now }
 {
     bytes.iter().take_while(|byte| is_blank(**byte)).count()
@@ -195,7 +195,7 @@ fn number_at(rest: &[u8]) -> Option<(usize, TokenKind)>
 // The value of decimal digits, or none above the greatest number.
 fn value_of(digits: &[u8]) -> Option<i128>
     requires { AllPass is_ascii_digit digits.now }
-    ensures { result ≡ value_of digits.now }
+    ensures { result ≡ digits_value_of digits.now }
 {
     let mut value = 0u128;
     for byte in digits {

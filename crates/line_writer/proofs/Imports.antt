@@ -14,7 +14,7 @@ pub use Rattle.std.specs.Str.Parse.{AllDigits}
 pub use Rattle.std.proofs.Math.Nat.{le-max_left, le-max_right}
 pub use Rattle.std.proofs.lemmas.Slice.Eq.{bytes_eq-Decides}
 pub use Rattle.std.proofs.lemmas.Simd.{map-map}
-pub use Rattle.line_tokens.specs.Spelled.{spaced, joined, Spells, HasRoom, AreSpelled, Written}
+pub use Rattle.line_tokens.specs.Spelled.{spaced, spaced_tokens, Spells, MayOpen, AreSpelled, Written}
 pub use Rattle.line_tokens.specs.declared.sign.Sign.TheVariants.{OpenBrace, CloseBrace, Comma, CloseBracket, OpenParen, CloseParen, Dot, Equals, Minus, EqualEqual, NotEqual, LessThan, LessEqual, GreaterThan, GreaterEqual, Colon, OpenBracket, Arrow, Question, Star, Slash}
 pub use Rattle.record_dim.specs.Trees.{Tree, Fields, Field, Record, Single, tree_of, fields_of}
 pub use Rattle.map_expr.specs.declared.widths.FieldWidth.{FieldWidth}
@@ -31,7 +31,7 @@ pub use Rattle.line_grammar.specs.declared.version.Version.TheVariants.{One, Two
 pub use Rattle.line_grammar.specs.declared.line.Command.{Command}
 pub use Rattle.line_grammar.specs.declared.line.KernelText.{KernelText}
 pub use Rattle.line_grammar.specs.declared.line.KernelWord.{KernelWord}
-pub use Rattle.line_grammar.specs.Tokens.{number_of, kernel_word_of, comparison_of, command_of, dimensions, index_of, choice_of, or_of, and_of, sum_of, product_of, map_word, order_of, kind_token, listed, meaning, reserved, name_of, count_of, string_of, type_of, integer_type_of, integer_types, leaf_types, orders, aos_forms, aos_form_of, soa_forms, soa_form_of, map_words, kernel_words, reduction_of, reductions, commands}
+pub use Rattle.line_grammar.specs.Tokens.{token_number, kernel_word_of, comparison_of, command_of, dimensions, index_of, choice_of, or_of, and_of, sum_of, product_of, map_word, token_order, kind_token, listed, meaning, reserved, name_of, count_of, string_of, type_of, integer_type_of, integer_types, leaf_types, orders, aos_forms, aos_form_of, soa_forms, soa_form_of, map_words, kernel_words, reduction_of, reductions, commands}
 pub use Rattle.line_grammar.specs.Grammar.{Phrase, IsName, IsCount, IsNumber, IsPath, IsMore, IsListed, IsConst, IsExpr, IsBracketList, IsAssignment, IsCuts, IsFilter, IsUpdateEnd, IsKernelInside, IsKernel, IsBody, IsLine, IsLink, IsChain, wrapped, IsPrefix, IsPrefixed, IsSum, IsComparison, IsExprOver, IsLeaf, IsChoice, IsBracketed, IsAtom, IsUnary, IsProduct, IsNegation, IsConjunction, IsNew, IsPart, IsDims, arrays, fields_of_list, IsTyped, IsNested, IsBraced, IsField, IsFields, IsFieldWidth, IsBracedWidths, IsFieldWidths, IsBits, IsForm, IsFormOrName, IsMap, IsExtent, IsFlag, IsOneOrMore, IsPass, IsSpan, IsWindowText, IsSentence, IsTerm, IsTerms, IsString}
 pub use Rattle.line_grammar.specs.Words.{operator, kernel_word, index_word, reduction_word, show_word, command_word, type_word, order_word, aos_word, soa_word, form_word}
 pub use Rattle.extents.specs.declared.words.ExtentWord.{ExtentWord}
@@ -41,7 +41,7 @@ pub use Rattle.map_expr.specs.Terms.{Term as MapTerm, Aos, Soa, Aosoa, BitAos, B
 pub use Rattle.line_grammar.specs.declared.line.MapWord.{MapWord}
 pub use Rattle.line_tokens.specs.Bytes.{is_text_byte, is_letter, is_word_byte}
 pub use Rattle.line_tokens.specs.EndLaws.{joined_no_end}
-pub use Rattle.line_tokens.specs.Ends.{NoEnd}
+pub use Rattle.line_tokens.specs.Inner.Ends.{NoEnd}
 pub use Rattle.line_tokens.specs.Next.{next_of}
 pub use Rattle.line_tokens.specs.Spots.{brackets_after, Spots}
 pub use Rattle.line_tokens.specs.Tokens.{Begins}
@@ -60,5 +60,5 @@ pub use Rattle.line_grammar.specs.declared.line.TermText.{TermText}
 pub use Rattle.record_dim.specs.declared.dim.FieldList.{the_lemmas, size-FieldList}
 pub use Rattle.record_dim.specs.declared.dim.Dim.{size-Dim}
 pub use Rattle.line_writer.specs.Canonical.{with_commas, width_tokens, widths_tokens, fields_tokens, later_tokens, held_tokens, line_tokens, count_token, number_tokens, path_tokens, form_tokens, value_tokens, assignment_tokens, filter_tokens, update_tokens, index_tokens, actors_tokens, kernel_tokens, is_choice, operand, bracket_list, extent_tokens, flag_tokens, map_tokens, pass_tokens, new_tokens, bracketed_count, step_tokens, dims_tokens, core_tokens, ordered_tokens, bits_tokens, span_tokens, window_tokens, needs_brackets, first_tokens, term_tokens, terms_tokens}
-pub use Rattle.line_writer.specs.Texts.{written, behind}
+pub use Rattle.line_writer.specs.Texts.{written, with_tokens_behind}
 unfoldable pub use Rattle.line_writer.specs.Texts.{canonical}

@@ -1,6 +1,6 @@
 -- The phrases that may have other tokens than the canonical ones: lines with expressions and kernels. Their canonical tokens are
 -- read as the same line, and open few brackets at once.
-use Rattle.line_writer.proofs.Imports.{◌≡◌, ℕ, zero, suc, ◌+◌, ◌≤◌, max, List, [], ◌∷◌, ◌++◌, map, length, Option, Some, None, codes, ℤ, pos, negsuc, neg_ℤ, inl, inr, refl, sym, add-one, append-nil, append_assoc, arith, flat_map, Behind, Joined, IsNothing, Chain, CloseBracket, OpenParen, CloseParen, Comma, Dot, Equals, Minus, EqualEqual, NotEqual, LessThan, LessEqual, GreaterThan, GreaterEqual, PathStep, BinOp, Eq, Ne, Lt, Le, Gt, Ge, depth_of, Token, Word, Number, Text, Sign, Bad, Version, One, Two, Command, KernelText, KernelWord, number_of, kernel_word_of, comparison_of, command_of, Assignment, Sentence, Value, Assign, Update, Actors, Kernel, Count, filter_depth, deepest_set, deepest, Phrase, IsName, IsCount, IsNumber, IsPath, IsMore, IsListed, IsConst, IsExpr, IsBracketList, IsAssignment, IsCuts, IsFilter, IsUpdateEnd, IsKernelInside, IsKernel, IsBody, IsLine, operator, kernel_word, count_token, number_tokens, path_tokens, with_commas, form_tokens, value_tokens, assignment_tokens, filter_tokens, update_tokens, index_tokens, actors_tokens, kernel_tokens, line_tokens}
+use Rattle.line_writer.proofs.Imports.{◌≡◌, ℕ, zero, suc, ◌+◌, ◌≤◌, max, List, [], ◌∷◌, ◌++◌, map, length, Option, Some, None, codes, ℤ, pos, negsuc, neg_ℤ, inl, inr, refl, sym, add-one, append-nil, append_assoc, arith, flat_map, Behind, Joined, IsNothing, Chain, CloseBracket, OpenParen, CloseParen, Comma, Dot, Equals, Minus, EqualEqual, NotEqual, LessThan, LessEqual, GreaterThan, GreaterEqual, PathStep, BinOp, Eq, Ne, Lt, Le, Gt, Ge, depth_of, Token, Word, Number, Text, Sign, Bad, Version, One, Two, Command, KernelText, KernelWord, token_number, kernel_word_of, comparison_of, command_of, Assignment, Sentence, Value, Assign, Update, Actors, Kernel, Count, filter_depth, deepest_set, deepest, Phrase, IsName, IsCount, IsNumber, IsPath, IsMore, IsListed, IsConst, IsExpr, IsBracketList, IsAssignment, IsCuts, IsFilter, IsUpdateEnd, IsKernelInside, IsKernel, IsBody, IsLine, operator, kernel_word, count_token, number_tokens, path_tokens, with_commas, form_tokens, value_tokens, assignment_tokens, filter_tokens, update_tokens, index_tokens, actors_tokens, kernel_tokens, line_tokens}
 use Rattle.line_grammar.specs.declared.line.Command.TheVariants as command
 use Rattle.line_grammar.specs.declared.line.KernelText.TheVariants as kernel
 use Rattle.line_grammar.specs.declared.line.KernelWord.TheVariants as word
@@ -48,7 +48,7 @@ const_of v (suc n) e spelled = rw e (record {
   spelled = (refl, (rw add-one spelled, tt));
 })
 
-numeral : (token : Token) (v : ℤ) → number_of token ≡ Some v → IsSpelled token → (n : ℕ) × (v ≡ pos n) × IsSpelled (Number (pos n))
+numeral : (token : Token) (v : ℤ) → token_number token ≡ Some v → IsSpelled token → (n : ℕ) × (v ≡ pos n) × IsSpelled (Number (pos n))
 numeral (Number (pos value)) v h spelled = let e : v ≡ pos value = cc in (value, e, spelled)
 numeral (Number (negsuc value)) v h spelled = absurd cc
 numeral (Word text) v h spelled = absurd cc
@@ -57,7 +57,7 @@ numeral (Sign sign) v h spelled = absurd cc
 numeral Bad v h spelled = absurd cc
 
 numeral_gives : Gives IsNumber (λ xs v. (n : ℕ) × (v ≡ pos n) × IsSpelled (Number (pos n)))
-numeral_gives = item_gives {Q = λ xs v. (n : ℕ) × (v ≡ pos n) × IsSpelled (Number (pos n))} number_of refl numeral
+numeral_gives = item_gives {Q = λ xs v. (n : ℕ) × (v ≡ pos n) × IsSpelled (Number (pos n))} token_number refl numeral
 
 plain_const : (v : ℤ) (n : ℕ) → v ≡ pos n → IsSpelled (Number (pos n)) → Kept IsConst number_tokens v
 plain_const v n e spelled = rw e (record { reads = inr (Number (pos n), refl, refl); spelled = (spelled, tt) })

@@ -1,5 +1,5 @@
 -- What is read of an expression has leaves that are read back.
-use Rattle.line_writer.proofs.Imports.{◌≡◌, ℕ, zero, suc, List, [], ◌∷◌, ◌++◌, Option, Some, None, codes, ℤ, pos, negsuc, refl, sym, ap, ◌∙◌, append-nil, arith, decimal, decimal_digit, OpenParen, CloseParen, Comma, Minus, BinOp, Constant, Entry, Index, Neg, Not, Binary, Token, Word, Number, Text, Sign, Bad, number_of, dimensions, index_of, choice_of, or_of, and_of, comparison_of, sum_of, product_of, index_word, Value, Phrase, IsNumber, IsLink, IsChain, wrapped, IsPrefix, IsPrefixed, IsSum, IsComparison, IsExprOver, IsLeaf, IsChoice, IsBracketed, IsAtom, IsExpr, number_tokens, value_tokens}
+use Rattle.line_writer.proofs.Imports.{◌≡◌, ℕ, zero, suc, List, [], ◌∷◌, ◌++◌, Option, Some, None, codes, ℤ, pos, negsuc, refl, sym, ap, ◌∙◌, append-nil, arith, decimal, decimal_digit, OpenParen, CloseParen, Comma, Minus, BinOp, Constant, Entry, Index, Neg, Not, Binary, Token, Word, Number, Text, Sign, Bad, token_number, dimensions, index_of, choice_of, or_of, and_of, comparison_of, sum_of, product_of, index_word, Value, Phrase, IsNumber, IsLink, IsChain, wrapped, IsPrefix, IsPrefixed, IsSum, IsComparison, IsExprOver, IsLeaf, IsChoice, IsBracketed, IsAtom, IsExpr, number_tokens, value_tokens}
 use Rattle.line_writer.proofs.Gives.{IsClean, IsSpelled, Each, Gives, nothing_gives, item_gives, behind_gives, joined_gives, either_gives, repeats_gives, gives_also}
 use Rattle.line_writer.proofs.Words.{listed_as}
 use Rattle.line_writer.proofs.Phrases.{path_gives, sound}
@@ -21,7 +21,7 @@ IsGood (Binary op left right) = IsGood left × IsGood right
 abbrev Good : List Token → Value → Type 0
 Good xs value = IsGood value
 
-number_is : (token : Token) (v : ℤ) → number_of token ≡ Some v → IsSpelled token → number_tokens v ≡ token ∷ []
+number_is : (token : Token) (v : ℤ) → token_number token ≡ Some v → IsSpelled token → number_tokens v ≡ token ∷ []
 number_is (Number (pos value)) v h spelled = let e : pos value ≡ v = cc in rw (← e) refl
 number_is (Number (negsuc value)) v h spelled = absurd cc
 number_is (Word word) v h spelled = absurd cc
@@ -30,7 +30,7 @@ number_is (Sign sign) v h spelled = absurd cc
 number_is Bad v h spelled = absurd cc
 
 pub number_gives : Gives IsNumber (λ xs v. number_tokens v ≡ xs)
-number_gives = item_gives {Q = λ xs v. number_tokens v ≡ xs} number_of refl number_is
+number_gives = item_gives {Q = λ xs v. number_tokens v ≡ xs} token_number refl number_is
 
 -- an index has one token
 index_is : (token : Token) (v : ℕ) → index_of token ≡ Some v → IsSpelled token → Word (codes "i" ++ decimal v) ∷ [] ≡ token ∷ []

@@ -1,5 +1,5 @@
 -- A path, a record and a mapping have one list of tokens each: the canonical one.
-use Rattle.line_writer.proofs.Imports.{◌≡◌, ℕ, zero, suc, ◌≤◌, true, false, List, [], ◌∷◌, ◌++◌, length, Option, Some, None, map, codes, refl, sym, ap, ◌∙◌, append-nil, append_assoc, arith, flat_map, flat_map-append, IsItem, Behind, Joined, IsNothing, Repeats, OpenBrace, CloseBrace, OpenBracket, CloseBracket, OpenParen, CloseParen, Colon, Comma, Dot, Arrow, Question, Tree, Single, Record, Fields, Order, FieldWidth, MapTerm, Aos, Soa, Aosoa, BitAos, BitSoa, Split, Byteswap, Bytesplit, Change, Counted, Heated, Named, Token, Word, Sign, Version, One, Two, MapWord, map_word, order_of, Phrase, IsName, IsCount, IsMore, IsListed, IsPart, IsPath, IsDims, arrays, fields_of_list, IsTyped, IsNested, IsBraced, IsField, IsFields, IsFieldWidth, IsBracedWidths, IsFieldWidths, IsBits, IsForm, IsFormOrName, IsMap, IsExtent, IsBracketList, IsCuts, IsFlag, IsOneOrMore, IsPass, IsSpan, IsWindowText, type_word, order_word, aos_word, soa_word, form_word, count_token, bracketed_count, with_commas, bracket_list, step_tokens, path_tokens, dims_tokens, core_tokens, fields_tokens, later_tokens, held_tokens, form_tokens, ordered_tokens, width_tokens, widths_tokens, bits_tokens, map_tokens, extent_tokens, index_tokens, flag_tokens, pass_tokens, span_tokens, window_tokens}
+use Rattle.line_writer.proofs.Imports.{◌≡◌, ℕ, zero, suc, ◌≤◌, true, false, List, [], ◌∷◌, ◌++◌, length, Option, Some, None, map, codes, refl, sym, ap, ◌∙◌, append-nil, append_assoc, arith, flat_map, flat_map-append, IsItem, Behind, Joined, IsNothing, Repeats, OpenBrace, CloseBrace, OpenBracket, CloseBracket, OpenParen, CloseParen, Colon, Comma, Dot, Arrow, Question, Tree, Single, Record, Fields, Order, FieldWidth, MapTerm, Aos, Soa, Aosoa, BitAos, BitSoa, Split, Byteswap, Bytesplit, Change, Counted, Heated, Named, Token, Word, Sign, Version, One, Two, MapWord, map_word, token_order, Phrase, IsName, IsCount, IsMore, IsListed, IsPart, IsPath, IsDims, arrays, fields_of_list, IsTyped, IsNested, IsBraced, IsField, IsFields, IsFieldWidth, IsBracedWidths, IsFieldWidths, IsBits, IsForm, IsFormOrName, IsMap, IsExtent, IsBracketList, IsCuts, IsFlag, IsOneOrMore, IsPass, IsSpan, IsWindowText, type_word, order_word, aos_word, soa_word, form_word, count_token, bracketed_count, with_commas, bracket_list, step_tokens, path_tokens, dims_tokens, core_tokens, fields_tokens, later_tokens, held_tokens, form_tokens, ordered_tokens, width_tokens, widths_tokens, bits_tokens, map_tokens, extent_tokens, index_tokens, flag_tokens, pass_tokens, span_tokens, window_tokens}
 use Rattle.record_dim.specs.declared.path.PathStep.TheVariants as step
 use Rattle.extents.specs.declared.words.ExtentWord.TheVariants as extent
 use Rattle.line_grammar.specs.declared.line.MapWord.TheVariants as form
@@ -144,7 +144,7 @@ IsInside word xs v = map_tokens v ≡ form_tokens word xs
 
 ordered_gives : {A : Type 0} {Is : Phrase A} (first : A → Token) (word : List ℕ) (value : A → Order → MapTerm) → Gives Is (λ xs v. first v ∷ [] ≡ xs) →
     ((a : A) (order : Order) → map_tokens (value a order) ≡ form_tokens word (ordered_tokens (first a) order)) →
-    Gives (Joined Is (λ a. Behind (Sign Comma) (Joined (IsItem order_of) (λ order. IsNothing (value a order))))) (IsInside word)
+    Gives (Joined Is (λ a. Behind (Sign Comma) (Joined (IsItem token_order) (λ order. IsNothing (value a order))))) (IsInside word)
 ordered_gives first word value one is = joined_gives {Q = IsInside word} one (λ front a i same spelled.
     behind_gives {Q = λ xs v. IsInside word (front ++ xs) v} (Sign Comma) sound
     (joined_gives {Q = λ xs v. IsInside word (front ++ (Sign Comma ∷ xs)) v} order_gives (λ back order i' same' spelled'.

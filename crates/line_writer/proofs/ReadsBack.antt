@@ -1,5 +1,5 @@
 -- The canonical text of a line that is read has its canonical tokens, and is read as the same line.
-use Rattle.line_writer.proofs.Imports.{◌≡◌, ℕ, suc, ◌+◌, ◌-◌, ◌^◌, ◌<◌, ◌≤◌, true, List, [], ◌∷◌, ◌++◌, map, length, take, drop, slice_range, Option, Some, None, pos, inl, inr, refl, sym, ap, ◌∙◌, append_assoc, arith, subst, nat_tests, decimal_is_IsNumeral_wide, digit_from_value, append_cancel_right, drop-drop, length-append, take_at, AllPass-from_list_all, is_ascii_digit, decimal, list_all, AllPass, AllDigits, is_text_byte, joined_no_end, NoEnd, next_of, Spells, HasRoom, AreSpelled, joined, brackets_after, Spots, Begins, Spot, Found, TokenKind, token_exactly, next_spells, joined_read, spot_at, both, Token, Word, Number, Text, Sign, Bad, Version, kind_token, Sentence, deepest, IsLine, IsSentence, tokens_of, Reads, line_tokens, written, canonical}
+use Rattle.line_writer.proofs.Imports.{◌≡◌, ℕ, suc, ◌+◌, ◌-◌, ◌^◌, ◌<◌, ◌≤◌, true, List, [], ◌∷◌, ◌++◌, map, length, take, drop, slice_range, Option, Some, None, pos, inl, inr, refl, sym, ap, ◌∙◌, append_assoc, arith, subst, nat_tests, decimal_is_IsNumeral_wide, digit_from_value, append_cancel_right, drop-drop, length-append, take_at, AllPass-from_list_all, is_ascii_digit, decimal, list_all, AllPass, AllDigits, is_text_byte, joined_no_end, NoEnd, next_of, Spells, MayOpen, AreSpelled, spaced_tokens, brackets_after, Spots, Begins, Spot, Found, TokenKind, token_exactly, next_spells, joined_read, spot_at, both, Token, Word, Number, Text, Sign, Bad, Version, kind_token, Sentence, deepest, IsLine, IsSentence, tokens_of, Reads, line_tokens, written, canonical}
 use Rattle.line_tokens.specs.declared.token.TokenKind.TheVariants as kind
 use Rattle.line_writer.proofs.Gives.{IsClean, IsSpelled, Each}
 use Rattle.line_writer.proofs.Rooms.{fits_alone}
@@ -83,7 +83,7 @@ room_step text at brackets from end (Some kind) rest behind h spelled =
     let same = (token_spelled text at brackets from end kind h.0).1 in
     let room = (next_spells text at brackets from end kind h.0).1 in
     let after = behind end (brackets_after kind brackets) h.1 spelled.1 in
-    (spelled.0, subst (λ k. HasRoom k brackets) (sym same) room, subst (λ k. AreSpelled (brackets_after k brackets) (map written (tokens_of text rest))) (sym same) after)
+    (spelled.0, subst (λ k. MayOpen k brackets) (sym same) room, subst (λ k. AreSpelled (brackets_after k brackets) (map written (tokens_of text rest))) (sym same) after)
 
 spots_room : (text : List ℕ) (at brackets : ℕ) (spots : List Spot) → Spots text at brackets spots → Each IsSpelled (tokens_of text spots) → AreSpelled brackets (map written (tokens_of text spots))
 spots_room text at brackets [] h spelled = tt
@@ -128,10 +128,10 @@ each_spelled : (brackets : ℕ) (tokens : List Token) → AreSpelled brackets (m
 each_spelled brackets [] h = tt
 each_spelled brackets (token ∷ tokens) h = (h.0, each_spelled (brackets_after (written token).kind brackets) tokens h.2)
 
-pub joined_reads : (version : Version) (tokens : List Token) (sentence : Sentence) → AreSpelled 0 (map written tokens) → IsSentence version tokens sentence → Reads version (joined (map written tokens)) sentence
+pub joined_reads : (version : Version) (tokens : List Token) (sentence : Sentence) → AreSpelled 0 (map written tokens) → IsSentence version tokens sentence → Reads version (spaced_tokens (map written tokens)) sentence
 joined_reads version tokens sentence spelled is =
     let read = joined_read (map written tokens) spelled in
-    let same = spots_back (joined (map written tokens)) 0 0 read.spots tokens read.read read.kinds read.bytes (each_spelled 0 tokens spelled) in
+    let same = spots_back (spaced_tokens (map written tokens)) 0 0 read.spots tokens read.read read.kinds read.bytes (each_spelled 0 tokens spelled) in
     record { spots = read.spots; tokens = read.read; line = rw same is }
 
 -- the canonical tokens of a line are spelled, and are read as this line

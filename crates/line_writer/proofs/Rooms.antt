@@ -1,5 +1,5 @@
 -- The canonical tokens of expressions and kernels are spelled, and open few brackets at once.
-use Rattle.line_writer.proofs.Imports.{◌≡◌, ℕ, ◌+◌, ◌-◌, ◌<◌, ◌≤◌, max, Bool, true, false, not, ◌&&◌, if◌then◌else◌, List, [], ◌∷◌, ◌++◌, map, length, codes, ℤ, pos, negsuc, refl, sym, ◌∙◌, append-nil, append_assoc, arith, map-append, AllPass-from_list_all, le-max_left, le-max_right, list_all, flat_map, is_letter, is_word_byte, opens, closes, Begins, brackets_after, Written, HasRoom, AreSpelled, SignName, OpenBracket, CloseBracket, OpenParen, CloseParen, Comma, Dot, Minus, PathStep, BinOp, Add, Sub, Mul, Div, Rem, Min, Max, Eq, Ne, Lt, Le, Gt, Ge, And, Or, Constant, Entry, Index, Neg, Not, Binary, depth_of, Token, Word, Number, Text, Sign, Bad, Value, operator, is_choice, needs_brackets, operand, number_tokens, bracketed_count, count_token, with_commas, bracket_list, first_tokens, step_tokens, path_tokens, form_tokens, value_tokens, written}
+use Rattle.line_writer.proofs.Imports.{◌≡◌, ℕ, ◌+◌, ◌-◌, ◌<◌, ◌≤◌, max, Bool, true, false, not, ◌&&◌, if◌then◌else◌, List, [], ◌∷◌, ◌++◌, map, length, codes, ℤ, pos, negsuc, refl, sym, ◌∙◌, append-nil, append_assoc, arith, map-append, AllPass-from_list_all, le-max_left, le-max_right, list_all, flat_map, is_letter, is_word_byte, opens, closes, Begins, brackets_after, Written, MayOpen, AreSpelled, SignName, OpenBracket, CloseBracket, OpenParen, CloseParen, Comma, Dot, Minus, PathStep, BinOp, Add, Sub, Mul, Div, Rem, Min, Max, Eq, Ne, Lt, Le, Gt, Ge, And, Or, Constant, Entry, Index, Neg, Not, Binary, depth_of, Token, Word, Number, Text, Sign, Bad, Value, operator, is_choice, needs_brackets, operand, number_tokens, bracketed_count, count_token, with_commas, bracket_list, first_tokens, step_tokens, path_tokens, form_tokens, value_tokens, written}
 use Rattle.record_dim.specs.declared.path.PathStep.TheVariants as step
 use Rattle.line_writer.proofs.Gives.{IsSpelled, Each, each_front, each_back}
 use Rattle.line_writer.proofs.Leaves.{IsGood}
@@ -25,7 +25,7 @@ abbrev is_flat : Token → Bool
 is_flat (Sign sign) = not (opens sign) && not (closes sign)
 is_flat _ = true
 
-flat_room : (token : Token) (b : ℕ) → is_flat token ≡ true → HasRoom (written token).kind b × (brackets_after (written token).kind b ≡ b)
+flat_room : (token : Token) (b : ℕ) → is_flat token ≡ true → MayOpen (written token).kind b × (brackets_after (written token).kind b ≡ b)
 flat_room (Word text) b e = (tt, refl)
 flat_room (Number value) b e = (tt, refl)
 flat_room (Text text) b e = (tt, refl)

@@ -1,5 +1,5 @@
 -- The one token that each word, name, number and string of a phrase has.
-use Rattle.line_writer.proofs.Imports.{◌≡◌, ℕ, ◌^◌, Bool, true, false, if◌then◌else◌, List, [], ◌∷◌, Option, Some, None, map, bytes_eq, nat_lt, pos, negsuc, refl, sym, ap, ◌∙◌, bytes_eq-Decides, list_any, Token, Word, Number, Text, Sign, Bad, Version, MapWord, listed, meaning, reserved, name_of, count_of, string_of, type_of, integer_type_of, integer_types, leaf_types, orders, order_of, aos_forms, aos_form_of, soa_forms, soa_form_of, map_words, map_word, kernel_word_of, kernel_words, reduction_of, reductions, command_of, commands, type_word, order_word, aos_word, soa_word, form_word, kernel_word, reduction_word, command_word, IsName, IsCount, IsString, IsItem, count_token}
+use Rattle.line_writer.proofs.Imports.{◌≡◌, ℕ, ◌^◌, Bool, true, false, if◌then◌else◌, List, [], ◌∷◌, Option, Some, None, map, bytes_eq, nat_lt, pos, negsuc, refl, sym, ap, ◌∙◌, bytes_eq-Decides, list_any, Token, Word, Number, Text, Sign, Bad, Version, MapWord, listed, meaning, reserved, name_of, count_of, string_of, type_of, integer_type_of, integer_types, leaf_types, orders, token_order, aos_forms, aos_form_of, soa_forms, soa_form_of, map_words, map_word, kernel_word_of, kernel_words, reduction_of, reductions, command_of, commands, type_word, order_word, aos_word, soa_word, form_word, kernel_word, reduction_word, command_word, IsName, IsCount, IsString, IsItem, count_token}
 use Rattle.line_writer.proofs.Gives.{Gives, item_gives}
 
 listed_step : {A : Type 0} (word_of own : A → List ℕ) (word : List ℕ) (value v : A) (rest : Option A) (b : Bool) → (b ≡ true → word ≡ word_of value) → word_of value ≡ own value →
@@ -36,8 +36,8 @@ type_gives = one_token type_of (λ v. Word (type_word v)) refl (meant_word type_
 pub integer_type_gives : IsWordPhrase integer_type_of type_word
 integer_type_gives = one_token integer_type_of (λ v. Word (type_word v)) refl (meant_word type_word integer_types)
 
-pub order_gives : IsWordPhrase order_of order_word
-order_gives = one_token order_of (λ v. Word (order_word v)) refl (meant_word order_word orders)
+pub order_gives : IsWordPhrase token_order order_word
+order_gives = one_token token_order (λ v. Word (order_word v)) refl (meant_word order_word orders)
 
 pub aos_form_gives : IsWordPhrase aos_form_of aos_word
 aos_form_gives = one_token aos_form_of (λ v. Word (aos_word v)) refl (meant_word aos_word aos_forms)

@@ -3,7 +3,7 @@ use Rattle.std.specs.Prelude.{ℕ, Bool, true, false, List, [], ◌∷◌, ◌++
 use Rattle.std.specs.Fmt.{signed_decimal}
 use Rattle.std.specs.Str.{byte}
 use Rattle.line_tokens.specs.Signs.{spelling}
-use Rattle.line_tokens.specs.Spelled.{Written, joined}
+use Rattle.line_tokens.specs.Spelled.{Written, spaced_tokens}
 use Rattle.line_tokens.specs.declared.token.TokenKind.TheVariants as kind
 use Rattle.line_grammar.specs.declared.token.Token.{Token}
 use Rattle.line_grammar.specs.declared.token.Token.TheVariants.{Word, Number, Text, Sign, Bad}
@@ -20,12 +20,12 @@ written Bad = record { kind = kind.Word; bytes = [] }
 
 -- the canonical text
 unfoldable pub canonical : Sentence → List ℕ
-canonical sentence = joined (map written (line_tokens sentence))
+canonical sentence = spaced_tokens (map written (line_tokens sentence))
 
 -- the text with these tokens at its end, each behind a space
-abbrev pub behind : List ℕ → List Token → List ℕ
-behind text [] = text
-behind text (token ∷ tokens) = behind (text ++ byte " " ∷ (written token).bytes) tokens
+abbrev pub with_tokens_behind : List ℕ → List Token → List ℕ
+with_tokens_behind text [] = text
+with_tokens_behind text (token ∷ tokens) = with_tokens_behind (text ++ byte " " ∷ (written token).bytes) tokens
 
 -- whether a line changes numbers in rows, or makes one number of them
 abbrev pub is_on_rows : Sentence → Bool

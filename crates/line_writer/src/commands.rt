@@ -8,7 +8,7 @@ ghost use Rattle.line_grammar.specs.declared.token.Token.TheVariants.{Word, Sign
 ghost use Rattle.line_grammar.specs.Sentences.{assignment_of};
 ghost use Rattle.line_grammar.specs.Words.{command_word, kernel_word, operator, reduction_word};
 ghost use Rattle.line_writer.specs.Canonical.{count_token, number_tokens, path_tokens, held_tokens, map_tokens, index_tokens, with_commas, assignment_tokens, filter_tokens, actors_tokens, value_tokens, flag_tokens, new_tokens, form_tokens, kernel_tokens};
-ghost use Rattle.line_writer.specs.Texts.{behind};
+ghost use Rattle.line_writer.specs.Texts.{with_tokens_behind};
 
 use crate::mapping::{open, write_map};
 use crate::parts::{write_extents, write_index, write_sets};
@@ -26,21 +26,21 @@ use std::alloc::AllocError as NoMemory;
 
 // A command's word, with no space before it, and a name.
 pub(crate) fn write_named(text: &mut Text, command: Command, name: &Name) -> Result<(), NoMemory>
-    ensures { OnOk result (text.new ≡ behind (text.old ++ command_word command) (Word name.now ∷ [])) }
+    ensures { OnOk result (text.new ≡ with_tokens_behind (text.old ++ command_word command) (Word name.now ∷ [])) }
 {
     text.push_str(command.word())?;
     push(text, name.as_str())
 }
 
 pub(crate) fn write_define(text: &mut Text, name: &Name, dim: &Dim) -> Result<(), NoMemory>
-    ensures { OnOk result (text.new ≡ behind (text.old ++ command_word Command.Record) (Word name.now ∷ held_tokens (tree_of dim.now))) }
+    ensures { OnOk result (text.new ≡ with_tokens_behind (text.old ++ command_word Command.Record) (Word name.now ∷ held_tokens (tree_of dim.now))) }
 {
     write_named(text, Command::Record, name)?;
     write_held(text, dim)
 }
 
 pub(crate) fn write_mapping(text: &mut Text, name: &Name, expr: &MapExpr) -> Result<(), NoMemory>
-    ensures { OnOk result (text.new ≡ behind (text.old ++ command_word Command.Mapping) (Word name.now ∷ Sign Equals ∷ map_tokens (map_of expr.now))) }
+    ensures { OnOk result (text.new ≡ with_tokens_behind (text.old ++ command_word Command.Mapping) (Word name.now ∷ Sign Equals ∷ map_tokens (map_of expr.now))) }
 {
     write_named(text, Command::Mapping, name)?;
     push(text, "=")?;
@@ -57,7 +57,7 @@ pub(crate) fn write_view(
     wrap: bool,
     expr: &MapExpr,
 ) -> Result<(), NoMemory>
-    ensures { OnOk result (text.new ≡ behind (text.old ++ command_word command)
+    ensures { OnOk result (text.new ≡ with_tokens_behind (text.old ++ command_word command)
         (new_tokens (record { name = name.now; schema = schema.now; words = words.now; wrap = wrap; term = map_of expr.now }))) }
 {
     write_named(text, command, name)?;
@@ -71,7 +71,7 @@ pub(crate) fn write_view(
 
 // The word, where it is set.
 pub(crate) fn write_flag(text: &mut Text, word: &str, is_set: bool) -> Result<(), NoMemory>
-    ensures { OnOk result (text.new ≡ behind text.old (flag_tokens word.now is_set)) }
+    ensures { OnOk result (text.new ≡ with_tokens_behind text.old (flag_tokens word.now is_set)) }
 {
     if is_set { push(text, word) } else { Ok(()) }
 }
@@ -86,7 +86,7 @@ pub(crate) fn write_load(
     expr: &MapExpr,
     file: &FileName,
 ) -> Result<(), NoMemory>
-    ensures { OnOk result (text.new ≡ behind (text.old ++ command_word Command.Load)
+    ensures { OnOk result (text.new ≡ with_tokens_behind (text.old ++ command_word Command.Load)
         (new_tokens (record { name = name.now; schema = schema.now; words = words.now; wrap = wrap; term = map_of expr.now }) ++ Word (codes "from") ∷ Quoted file.now ∷ [])) }
 {
     write_view(text, Command::Load, name, schema, words, wrap, expr)?;
@@ -94,7 +94,7 @@ pub(crate) fn write_load(
 }
 
 fn write_file(text: &mut Text, file: &FileName) -> Result<(), NoMemory>
-    ensures { OnOk result (text.new ≡ behind text.old (Word (codes "from") ∷ Quoted file.now ∷ [])) }
+    ensures { OnOk result (text.new ≡ with_tokens_behind text.old (Word (codes "from") ∷ Quoted file.now ∷ [])) }
 {
     push(text, "from")?;
     push(text, "\"")?;
@@ -110,7 +110,7 @@ pub(crate) fn write_assign(
     path: &Path,
     value: &Expr,
 ) -> Result<(), NoMemory>
-    ensures { OnOk result (text.new ≡ behind (text.old ++ command_word Command.Set) (Word view.now ∷
+    ensures { OnOk result (text.new ≡ with_tokens_behind (text.old ++ command_word Command.Set) (Word view.now ∷
         (index_tokens index.now ++ Sign Dot ∷ (path_tokens path.now ++ Sign Equals ∷ value_tokens (term_of value.now))))) }
 {
     write_named(text, Command::Set, view)?;
@@ -128,7 +128,7 @@ pub(crate) fn write_update(
     filter: &Option<Expr>,
     sets: &SetList,
 ) -> Result<(), NoMemory>
-    ensures { OnOk result (text.new ≡ behind (text.old ++ command_word Command.Update) (Word view.now ∷
+    ensures { OnOk result (text.new ≡ with_tokens_behind (text.old ++ command_word Command.Update) (Word view.now ∷
         (filter_tokens (option_map term_of filter.now) ++ Word (codes "set") ∷ with_commas (map assignment_tokens (map assignment_of sets.now))))) }
 {
     write_named(text, Command::Update, view)?;
@@ -145,7 +145,7 @@ pub(crate) fn write_actors(
     seed: u32,
     turns: u32,
 ) -> Result<(), NoMemory>
-    ensures { OnOk result (text.new ≡ behind text.old (actors_tokens cuts.now seed turns)) }
+    ensures { OnOk result (text.new ≡ with_tokens_behind text.old (actors_tokens cuts.now seed turns)) }
 {
     push(text, "actors")?;
     write_index(text, cuts.as_slice())?;
@@ -156,7 +156,7 @@ pub(crate) fn write_actors(
 }
 
 fn write_filter(text: &mut Text, filter: &Option<Expr>) -> Result<(), NoMemory>
-    ensures { OnOk result (text.new ≡ behind text.old (filter_tokens (option_map term_of filter.now))) }
+    ensures { OnOk result (text.new ≡ with_tokens_behind text.old (filter_tokens (option_map term_of filter.now))) }
 {
     match filter {
         None => Ok(()),
@@ -174,7 +174,7 @@ pub(crate) fn write_kernel_line(
     kernel: &KernelText,
     lanes: u32,
 ) -> Result<(), NoMemory>
-    ensures { OnOk result (text.new ≡ behind (text.old ++ command_word Command.Kernel) (Word view.now ∷ (kernel_tokens kernel.now ++ Word (codes "lanes") ∷ count_token lanes ∷ []))) }
+    ensures { OnOk result (text.new ≡ with_tokens_behind (text.old ++ command_word Command.Kernel) (Word view.now ∷ (kernel_tokens kernel.now ++ Word (codes "lanes") ∷ count_token lanes ∷ []))) }
 {
     write_named(text, Command::Kernel, view)?;
     write_kernel(text, kernel)?;
@@ -184,7 +184,7 @@ pub(crate) fn write_kernel_line(
 
 #[tactic(auto, using(crate::proofs::Behind::behind_append))]
 fn write_kernel(text: &mut Text, kernel: &KernelText) -> Result<(), NoMemory>
-    ensures { OnOk result (text.new ≡ behind text.old (kernel_tokens kernel.now)) }
+    ensures { OnOk result (text.new ≡ with_tokens_behind text.old (kernel_tokens kernel.now)) }
 {
     match kernel {
         KernelText::Axpy { a, x, y } => {
@@ -226,7 +226,7 @@ fn write_comparison(
     op: BinOp,
     number: &i128,
 ) -> Result<(), NoMemory>
-    ensures { OnOk result (text.new ≡ behind text.old (form_tokens (kernel_word word) (path_tokens path.now ++ operator op ∷ number_tokens number.now))) }
+    ensures { OnOk result (text.new ≡ with_tokens_behind text.old (form_tokens (kernel_word word) (path_tokens path.now ++ operator op ∷ number_tokens number.now))) }
 {
     open(text, word.word())?;
     write_path(text, path)?;
@@ -237,7 +237,7 @@ fn write_comparison(
 
 #[tactic(auto, using(crate::proofs::Behind::behind_append))]
 fn write_path_kernel(text: &mut Text, word: KernelWord, path: &Path) -> Result<(), NoMemory>
-    ensures { OnOk result (text.new ≡ behind text.old (form_tokens (kernel_word word) (path_tokens path.now))) }
+    ensures { OnOk result (text.new ≡ with_tokens_behind text.old (form_tokens (kernel_word word) (path_tokens path.now))) }
 {
     open(text, word.word())?;
     write_path(text, path)?;
@@ -251,7 +251,7 @@ pub(crate) fn write_reduce(
     kind: ReduceKind,
     path: &Path,
 ) -> Result<(), NoMemory>
-    ensures { OnOk result (text.new ≡ behind (text.old ++ command_word Command.Reduce) (Word view.now ∷ Word (reduction_word kind) ∷ path_tokens path.now)) }
+    ensures { OnOk result (text.new ≡ with_tokens_behind (text.old ++ command_word Command.Reduce) (Word view.now ∷ Word (reduction_word kind) ∷ path_tokens path.now)) }
 {
     write_named(text, Command::Reduce, view)?;
     push(text, kind.word())?;
@@ -259,7 +259,7 @@ pub(crate) fn write_reduce(
 }
 
 pub(crate) fn write_count(text: &mut Text, view: &Name, filter: &Expr) -> Result<(), NoMemory>
-    ensures { OnOk result (text.new ≡ behind (text.old ++ command_word Command.Reduce) (Word view.now ∷ Word (codes "count") ∷ Word (codes "where") ∷ value_tokens (term_of filter.now))) }
+    ensures { OnOk result (text.new ≡ with_tokens_behind (text.old ++ command_word Command.Reduce) (Word view.now ∷ Word (codes "count") ∷ Word (codes "where") ∷ value_tokens (term_of filter.now))) }
 {
     write_named(text, Command::Reduce, view)?;
     push(text, "count")?;
@@ -268,7 +268,7 @@ pub(crate) fn write_count(text: &mut Text, view: &Name, filter: &Expr) -> Result
 }
 
 pub(crate) fn write_copy(text: &mut Text, source: &Name, target: &Name) -> Result<(), NoMemory>
-    ensures { OnOk result (text.new ≡ behind (text.old ++ command_word Command.Copy) (Word source.now ∷ Word (codes "to") ∷ Word target.now ∷ [])) }
+    ensures { OnOk result (text.new ≡ with_tokens_behind (text.old ++ command_word Command.Copy) (Word source.now ∷ Word (codes "to") ∷ Word target.now ∷ [])) }
 {
     write_named(text, Command::Copy, source)?;
     push(text, "to")?;
@@ -276,7 +276,7 @@ pub(crate) fn write_copy(text: &mut Text, source: &Name, target: &Name) -> Resul
 }
 
 pub(crate) fn write_relayout(text: &mut Text, view: &Name, expr: &MapExpr) -> Result<(), NoMemory>
-    ensures { OnOk result (text.new ≡ behind (text.old ++ command_word Command.Relayout) (Word view.now ∷ Word (codes "as") ∷ map_tokens (map_of expr.now))) }
+    ensures { OnOk result (text.new ≡ with_tokens_behind (text.old ++ command_word Command.Relayout) (Word view.now ∷ Word (codes "as") ∷ map_tokens (map_of expr.now))) }
 {
     write_named(text, Command::Relayout, view)?;
     push(text, "as")?;
@@ -284,14 +284,14 @@ pub(crate) fn write_relayout(text: &mut Text, view: &Name, expr: &MapExpr) -> Re
 }
 
 pub(crate) fn write_bytes(text: &mut Text, view: &Name, blob: u32) -> Result<(), NoMemory>
-    ensures { OnOk result (text.new ≡ behind (text.old ++ command_word Command.Bytes) (Word view.now ∷ count_token blob ∷ [])) }
+    ensures { OnOk result (text.new ≡ with_tokens_behind (text.old ++ command_word Command.Bytes) (Word view.now ∷ count_token blob ∷ [])) }
 {
     write_named(text, Command::Bytes, view)?;
     push_count(text, blob)
 }
 
 pub(crate) fn write_open(text: &mut Text, name: &Name, file: &FileName) -> Result<(), NoMemory>
-    ensures { OnOk result (text.new ≡ behind (text.old ++ command_word Command.Open) (Word name.now ∷ Word (codes "from") ∷ Quoted file.now ∷ [])) }
+    ensures { OnOk result (text.new ≡ with_tokens_behind (text.old ++ command_word Command.Open) (Word name.now ∷ Word (codes "from") ∷ Quoted file.now ∷ [])) }
 {
     write_named(text, Command::Open, name)?;
     write_file(text, file)

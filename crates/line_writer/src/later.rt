@@ -6,7 +6,7 @@ ghost use Rattle.line_tokens.specs.declared.sign.Sign.TheVariants.{Equals, Slash
 ghost use Rattle.line_grammar.specs.declared.token.Token.TheVariants.{Word, Sign};
 ghost use Rattle.line_grammar.specs.Words.{command_word};
 ghost use Rattle.line_writer.specs.Canonical.{bracket_list, count_token, flag_tokens, map_tokens, number_tokens, pass_tokens, path_tokens, span_tokens, term_tokens, terms_tokens, window_tokens, with_commas};
-ghost use Rattle.line_writer.specs.Texts.{behind};
+ghost use Rattle.line_writer.specs.Texts.{with_tokens_behind};
 
 use crate::commands::{write_flag, write_named};
 use crate::mapping::write_map;
@@ -25,7 +25,7 @@ pub(crate) fn write_print_window(
     view: &Name,
     window: &WindowWords,
 ) -> Result<(), NoMemory>
-    ensures { OnOk result (text.new ≡ behind (text.old ++ command_word (Command.Show ShowKind.Print)) (Word view.now ∷ window_tokens window.now)) }
+    ensures { OnOk result (text.new ≡ with_tokens_behind (text.old ++ command_word (Command.Show ShowKind.Print)) (Word view.now ∷ window_tokens window.now)) }
 {
     write_named(text, Command::Show(ShowKind::Print), view)?;
     write_window(text, window)
@@ -33,7 +33,7 @@ pub(crate) fn write_print_window(
 
 #[tactic(auto, using(crate::proofs::Behind::behind_append))]
 fn write_window(text: &mut Text, window: &WindowWords) -> Result<(), NoMemory>
-    ensures { OnOk result (text.new ≡ behind text.old (window_tokens window.now)) }
+    ensures { OnOk result (text.new ≡ with_tokens_behind text.old (window_tokens window.now)) }
 {
     push(text, "window")?;
     push(text, "[")?;
@@ -61,7 +61,7 @@ pub(crate) fn write_stencil(
     divisor: u32,
     rounds: u32,
 ) -> Result<(), NoMemory>
-    ensures { OnOk result (text.new ≡ behind (text.old ++ command_word Command.Stencil) (Word view.now ∷ (window_tokens window.now ++ Word (codes "set") ∷
+    ensures { OnOk result (text.new ≡ with_tokens_behind (text.old ++ command_word Command.Stencil) (Word view.now ∷ (window_tokens window.now ++ Word (codes "set") ∷
         (path_tokens path.now ++ Sign Equals ∷ (terms_tokens terms.now ++ Sign Slash ∷ count_token divisor ∷ Word (codes "rounds") ∷ count_token rounds ∷ []))))) }
 {
     write_named(text, Command::Stencil, view)?;
@@ -78,7 +78,7 @@ pub(crate) fn write_stencil(
 
 #[tactic(auto, using(crate::proofs::Behind::behind_append))]
 fn write_terms(text: &mut Text, terms: &TermTextList) -> Result<(), NoMemory>
-    ensures { OnOk result (text.new ≡ behind text.old (terms_tokens terms.now)) }
+    ensures { OnOk result (text.new ≡ with_tokens_behind text.old (terms_tokens terms.now)) }
 {
     push(text, "(")?;
     write_parts(text, terms.as_slice())?;
@@ -100,7 +100,7 @@ impl Part for TermText {
 
 #[tactic(auto, using(crate::proofs::Behind::behind_append))]
 fn write_offsets(text: &mut Text, offsets: &[i128]) -> Result<(), NoMemory>
-    ensures { OnOk result (text.new ≡ behind text.old (bracket_list (map number_tokens offsets.now))) }
+    ensures { OnOk result (text.new ≡ with_tokens_behind text.old (bracket_list (map number_tokens offsets.now))) }
 {
     push(text, "[")?;
     write_parts(text, offsets)?;
@@ -124,7 +124,7 @@ pub(crate) fn write_advise(
     maps: &MapExprList,
     splits: bool,
 ) -> Result<(), NoMemory>
-    ensures { OnOk result (text.new ≡ behind (text.old ++ command_word Command.Advise) (Word view.now ∷ Word (codes "granule") ∷ count_token granule ∷
+    ensures { OnOk result (text.new ≡ with_tokens_behind (text.old ++ command_word Command.Advise) (Word view.now ∷ Word (codes "granule") ∷ count_token granule ∷
         (flat_map pass_tokens passes.now ++ Word (codes "among") ∷ (with_commas (map map_tokens (map map_of maps.now)) ++ flag_tokens (codes "splits") splits)))) }
 {
     write_named(text, Command::Advise, view)?;
@@ -139,7 +139,7 @@ pub(crate) fn write_advise(
 // Items one behind another.
 #[tactic(auto, using(crate::proofs::Behind::behind_append))]
 fn write_each<T: Part>(text: &mut Text, parts: &[T]) -> Result<(), NoMemory>
-    ensures { OnOk result (text.new ≡ behind text.old (flat_map T.tokens parts.now)) }
+    ensures { OnOk result (text.new ≡ with_tokens_behind text.old (flat_map T.tokens parts.now)) }
 {
     for part in parts {
         part.write_part(text)?;
@@ -168,7 +168,7 @@ impl Part for Path {
 }
 
 fn write_maps(text: &mut Text, maps: &[MapExpr]) -> Result<(), NoMemory>
-    ensures { OnOk result (text.new ≡ behind text.old (with_commas (map map_tokens (map map_of maps.now)))) }
+    ensures { OnOk result (text.new ≡ with_tokens_behind text.old (with_commas (map map_tokens (map map_of maps.now)))) }
 {
     write_parts(text, maps)
 }

@@ -1,5 +1,5 @@
 ghost use Rattle.std.specs.Prelude.{ℕ, List, ◌≤◌, map};
-ghost use Rattle.line_tokens.specs.Ends.{NoEnd};
+ghost use Rattle.line_tokens.specs.Inner.Ends.{NoEnd};
 ghost use Rattle.line_tokens.specs.Spelled.{AreSpelled};
 ghost use Rattle.line_grammar.specs.declared.version.Version.{Version};
 ghost use Rattle.line_grammar.specs.Sentences.{Sentence, deepest};

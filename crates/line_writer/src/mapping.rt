@@ -4,7 +4,7 @@ ghost use Rattle.line_tokens.specs.declared.sign.Sign.TheVariants.{OpenParen};
 ghost use Rattle.map_expr.specs.Terms.{term_of};
 ghost use Rattle.line_grammar.specs.declared.token.Token.TheVariants.{Word, Sign};
 ghost use Rattle.line_writer.specs.Canonical.{count_token, form_tokens, ordered_tokens, map_tokens};
-ghost use Rattle.line_writer.specs.Texts.{behind};
+ghost use Rattle.line_writer.specs.Texts.{with_tokens_behind};
 
 use crate::tokens::{push, push_count, write_path};
 use crate::widths::write_bits;
@@ -18,7 +18,7 @@ use std::alloc::AllocError as NoMemory;
 #[cycle(mapping)]
 #[tactic(auto, using(crate::proofs::Behind::behind_append))]
 pub(crate) fn write_map(text: &mut Text, expr: &MapExpr) -> Result<(), NoMemory>
-    ensures { OnOk result (text.new ≡ behind text.old (map_tokens (term_of expr.now))) }
+    ensures { OnOk result (text.new ≡ with_tokens_behind text.old (map_tokens (term_of expr.now))) }
 {
     match expr {
         MapExpr::Aos { form, order } => write_worded(
@@ -96,7 +96,7 @@ pub(crate) fn write_map(text: &mut Text, expr: &MapExpr) -> Result<(), NoMemory>
 #[cycle(mapping)]
 #[tactic(auto, using(crate::proofs::Behind::behind_append))]
 fn write_inner(text: &mut Text, form: &str, inner: &MapExpr) -> Result<(), NoMemory>
-    ensures { OnOk result (text.new ≡ behind text.old (form_tokens form.now (map_tokens (term_of inner.now)))) }
+    ensures { OnOk result (text.new ≡ with_tokens_behind text.old (form_tokens form.now (map_tokens (term_of inner.now)))) }
 {
     open(text, form)?;
     write_map(text, inner)?;
@@ -105,14 +105,14 @@ fn write_inner(text: &mut Text, form: &str, inner: &MapExpr) -> Result<(), NoMem
 
 // A word and the bracket behind it.
 pub(crate) fn open(text: &mut Text, word: &str) -> Result<(), NoMemory>
-    ensures { OnOk result (text.new ≡ behind text.old (Word word.now ∷ Sign OpenParen ∷ [])) }
+    ensures { OnOk result (text.new ≡ with_tokens_behind text.old (Word word.now ∷ Sign OpenParen ∷ [])) }
 {
     push(text, word)?;
     push(text, "(")
 }
 
 fn write_worded(text: &mut Text, form: &str, word: &str, order: Order) -> Result<(), NoMemory>
-    ensures { OnOk result (text.new ≡ behind text.old (form_tokens form.now (ordered_tokens (Word word.now) order))) }
+    ensures { OnOk result (text.new ≡ with_tokens_behind text.old (form_tokens form.now (ordered_tokens (Word word.now) order))) }
 {
     open(text, form)?;
     push(text, word)?;
@@ -122,7 +122,7 @@ fn write_worded(text: &mut Text, form: &str, word: &str, order: Order) -> Result
 }
 
 fn write_counted(text: &mut Text, form: &str, count: u32, order: Order) -> Result<(), NoMemory>
-    ensures { OnOk result (text.new ≡ behind text.old (form_tokens form.now (ordered_tokens (count_token count) order))) }
+    ensures { OnOk result (text.new ≡ with_tokens_behind text.old (form_tokens form.now (ordered_tokens (count_token count) order))) }
 {
     open(text, form)?;
     push_count(text, count)?;

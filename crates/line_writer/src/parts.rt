@@ -2,7 +2,7 @@
 ghost use Rattle.std.specs.Prelude.{◌≡◌, ◌∷◌, [], map, OnOk};
 ghost use Rattle.line_grammar.specs.Sentences.{assignment_of};
 ghost use Rattle.line_writer.specs.Canonical.{count_token, bracket_list, with_commas, extent_tokens, index_tokens, assignment_tokens};
-ghost use Rattle.line_writer.specs.Texts.{behind};
+ghost use Rattle.line_writer.specs.Texts.{with_tokens_behind};
 
 use crate::tokens::{push, push_count, write_path};
 use crate::value::write_value;
@@ -19,12 +19,12 @@ pub(crate) trait Part {
     ghost tokens: { Self → List Token };
 
     fn write_part(&self, text: &mut Text) -> Result<(), NoMemory>
-        ensures { OnOk result (text.new ≡ behind text.old (tokens self.now)) };
+        ensures { OnOk result (text.new ≡ with_tokens_behind text.old (tokens self.now)) };
 }
 
 #[tactic(auto, using(crate::proofs::Behind::behind_append))]
 pub(crate) fn write_parts<T: Part>(text: &mut Text, parts: &[T]) -> Result<(), NoMemory>
-    ensures { OnOk result (text.new ≡ behind text.old (with_commas (map T.tokens parts.now))) }
+    ensures { OnOk result (text.new ≡ with_tokens_behind text.old (with_commas (map T.tokens parts.now))) }
 {
     match parts {
         [] => Ok(()),
@@ -41,7 +41,7 @@ pub(crate) fn write_parts<T: Part>(text: &mut Text, parts: &[T]) -> Result<(), N
 
 #[tactic(auto, using(crate::proofs::Behind::behind_append))]
 pub(crate) fn write_extents(text: &mut Text, words: &[ExtentWord]) -> Result<(), NoMemory>
-    ensures { OnOk result (text.new ≡ behind text.old (bracket_list (map extent_tokens words.now))) }
+    ensures { OnOk result (text.new ≡ with_tokens_behind text.old (bracket_list (map extent_tokens words.now))) }
 {
     push(text, "[")?;
     write_parts(text, words)?;
@@ -61,7 +61,7 @@ impl Part for ExtentWord {
 
 #[tactic(auto, using(crate::proofs::Behind::behind_append))]
 pub(crate) fn write_index(text: &mut Text, index: &[u32]) -> Result<(), NoMemory>
-    ensures { OnOk result (text.new ≡ behind text.old (index_tokens index.now)) }
+    ensures { OnOk result (text.new ≡ with_tokens_behind text.old (index_tokens index.now)) }
 {
     push(text, "[")?;
     write_parts(text, index)?;
@@ -77,7 +77,7 @@ impl Part for u32 {
 }
 
 pub(crate) fn write_sets(text: &mut Text, sets: &[SetText]) -> Result<(), NoMemory>
-    ensures { OnOk result (text.new ≡ behind text.old (with_commas (map assignment_tokens (map assignment_of sets.now)))) }
+    ensures { OnOk result (text.new ≡ with_tokens_behind text.old (with_commas (map assignment_tokens (map assignment_of sets.now)))) }
 {
     write_parts(text, sets)
 }

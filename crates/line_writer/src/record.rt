@@ -4,7 +4,7 @@ ghost use Rattle.record_dim.specs.Trees.{tree_of, fields_of};
 ghost use Rattle.line_tokens.specs.declared.sign.Sign.TheVariants.{OpenBrace, CloseBrace};
 ghost use Rattle.line_grammar.specs.declared.token.Token.TheVariants.{Word, Sign};
 ghost use Rattle.line_writer.specs.Canonical.{dims_tokens, core_tokens, fields_tokens, held_tokens};
-ghost use Rattle.line_writer.specs.Texts.{behind};
+ghost use Rattle.line_writer.specs.Texts.{with_tokens_behind};
 
 use crate::tokens::{push, write_bracketed};
 use line_grammar::Spelled;
@@ -15,7 +15,7 @@ use std::alloc::AllocError as NoMemory;
 #[cycle(record)]
 #[tactic(auto, using(crate::proofs::Behind::behind_append))]
 pub(crate) fn write_held(text: &mut Text, dim: &Dim) -> Result<(), NoMemory>
-    ensures { OnOk result (text.new ≡ behind text.old (held_tokens (tree_of dim.now))) }
+    ensures { OnOk result (text.new ≡ with_tokens_behind text.old (held_tokens (tree_of dim.now))) }
 {
     write_core(text, dim)?;
     write_dims(text, dim)
@@ -25,7 +25,7 @@ pub(crate) fn write_held(text: &mut Text, dim: &Dim) -> Result<(), NoMemory>
 #[cycle(record)]
 #[tactic(auto, using(crate::proofs::Behind::behind_append))]
 fn write_core(text: &mut Text, dim: &Dim) -> Result<(), NoMemory>
-    ensures { OnOk result (text.new ≡ behind text.old (core_tokens (tree_of dim.now))) }
+    ensures { OnOk result (text.new ≡ with_tokens_behind text.old (core_tokens (tree_of dim.now))) }
 {
     let mut node = dim;
     loop {
@@ -43,7 +43,7 @@ fn write_core(text: &mut Text, dim: &Dim) -> Result<(), NoMemory>
 #[cycle(record)]
 #[tactic(auto, using(crate::proofs::Behind::behind_append))]
 fn write_fields(text: &mut Text, fields: &FieldList) -> Result<(), NoMemory>
-    ensures { OnOk result (text.new ≡ behind text.old (Sign OpenBrace ∷ (fields_tokens (fields_of fields.now) ++ Sign CloseBrace ∷ []))) }
+    ensures { OnOk result (text.new ≡ with_tokens_behind text.old (Sign OpenBrace ∷ (fields_tokens (fields_of fields.now) ++ Sign CloseBrace ∷ []))) }
 {
     push(text, "{")?;
     if let FieldList::More { field, rest } = fields {
@@ -61,7 +61,7 @@ fn write_fields(text: &mut Text, fields: &FieldList) -> Result<(), NoMemory>
 #[cycle(record)]
 #[tactic(auto, using(crate::proofs::Behind::behind_append))]
 fn write_field(text: &mut Text, field: &Field) -> Result<(), NoMemory>
-    ensures { OnOk result (text.new ≡ behind text.old (Word field.now.name ∷ held_tokens (tree_of field.now.dim))) }
+    ensures { OnOk result (text.new ≡ with_tokens_behind text.old (Word field.now.name ∷ held_tokens (tree_of field.now.dim))) }
 {
     push(text, field.name.as_str())?;
     write_held(text, &field.dim)
@@ -70,7 +70,7 @@ fn write_field(text: &mut Text, field: &Field) -> Result<(), NoMemory>
 // The numbers of elements, the outermost first.
 #[tactic(auto, using(crate::proofs::Behind::behind_append))]
 fn write_dims(text: &mut Text, dim: &Dim) -> Result<(), NoMemory>
-    ensures { OnOk result (text.new ≡ behind text.old (dims_tokens (tree_of dim.now))) }
+    ensures { OnOk result (text.new ≡ with_tokens_behind text.old (dims_tokens (tree_of dim.now))) }
 {
     let mut node = dim;
     while let Dim::Array { len, element } = node {

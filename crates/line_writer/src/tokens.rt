@@ -3,7 +3,7 @@ ghost use Rattle.std.specs.Prelude.{◌≡◌, ◌++◌, ◌∷◌, [], OnOk, co
 ghost use Rattle.std.specs.Fmt.{decimal};
 ghost use Rattle.std.specs.Str.{byte};
 ghost use Rattle.line_writer.specs.Canonical.{number_tokens, bracketed_count, step_tokens, path_tokens};
-ghost use Rattle.line_writer.specs.Texts.{behind};
+ghost use Rattle.line_writer.specs.Texts.{with_tokens_behind};
 
 use itoa::Buffer;
 use record_dim::{Path, PathStep, Text};
@@ -23,7 +23,7 @@ pub(crate) fn push_count(text: &mut Text, count: u32) -> Result<(), NoMemory>
 }
 
 pub(crate) fn push_number(text: &mut Text, number: i128) -> Result<(), NoMemory>
-    ensures { OnOk result (text.new ≡ behind text.old (number_tokens number)) }
+    ensures { OnOk result (text.new ≡ with_tokens_behind text.old (number_tokens number)) }
 {
     if number < 0 {
         push(text, "-")?;
@@ -40,7 +40,7 @@ pub(crate) fn push_index(text: &mut Text, dimension: u32) -> Result<(), NoMemory
 }
 
 pub(crate) fn write_bracketed(text: &mut Text, count: u32) -> Result<(), NoMemory>
-    ensures { OnOk result (text.new ≡ behind text.old (bracketed_count count)) }
+    ensures { OnOk result (text.new ≡ with_tokens_behind text.old (bracketed_count count)) }
 {
     push(text, "[")?;
     push_count(text, count)?;
@@ -49,7 +49,7 @@ pub(crate) fn write_bracketed(text: &mut Text, count: u32) -> Result<(), NoMemor
 
 #[tactic(auto, using(crate::proofs::Behind::behind_append))]
 pub(crate) fn write_path(text: &mut Text, path: &Path) -> Result<(), NoMemory>
-    ensures { OnOk result (text.new ≡ behind text.old (path_tokens path.now)) }
+    ensures { OnOk result (text.new ≡ with_tokens_behind text.old (path_tokens path.now)) }
 {
     let [PathStep::Name(first), steps @ ..] = path.as_slice() else {
         unreachable!()
@@ -62,7 +62,7 @@ pub(crate) fn write_path(text: &mut Text, path: &Path) -> Result<(), NoMemory>
 }
 
 fn write_step(text: &mut Text, step: &PathStep) -> Result<(), NoMemory>
-    ensures { OnOk result (text.new ≡ behind text.old (step_tokens step.now)) }
+    ensures { OnOk result (text.new ≡ with_tokens_behind text.old (step_tokens step.now)) }
 {
     match step {
         PathStep::Name(name) => {

@@ -3,7 +3,7 @@ ghost use Rattle.std.specs.Prelude.{◌≡◌, OnOk};
 ghost use Rattle.expr_lang.specs.Terms.{term_of};
 ghost use Rattle.line_grammar.specs.Words.{operator};
 ghost use Rattle.line_writer.specs.Canonical.{is_choice, needs_brackets, operand, value_tokens};
-ghost use Rattle.line_writer.specs.Texts.{behind, written};
+ghost use Rattle.line_writer.specs.Texts.{with_tokens_behind, written};
 
 use crate::tokens::{push, push_index, push_number, write_path};
 use expr_lang::{BinOp, Expr};
@@ -15,7 +15,7 @@ use std::alloc::AllocError as NoMemory;
 #[cycle(value)]
 #[tactic(auto, using(crate::proofs::Behind::behind_append))]
 pub(crate) fn write_value(text: &mut Text, value: &Expr) -> Result<(), NoMemory>
-    ensures { OnOk result (text.new ≡ behind text.old (value_tokens (term_of value.now))) }
+    ensures { OnOk result (text.new ≡ with_tokens_behind text.old (value_tokens (term_of value.now))) }
 {
     match value {
         Expr::Number(number) => push_number(text, *number),
@@ -49,7 +49,7 @@ pub(crate) fn write_value(text: &mut Text, value: &Expr) -> Result<(), NoMemory>
 #[cycle(value)]
 #[tactic(auto, using(crate::proofs::Behind::behind_append))]
 fn write_operand(text: &mut Text, value: &Expr) -> Result<(), NoMemory>
-    ensures { OnOk result (text.new ≡ behind text.old (operand (term_of value.now) (value_tokens (term_of value.now)))) }
+    ensures { OnOk result (text.new ≡ with_tokens_behind text.old (operand (term_of value.now) (value_tokens (term_of value.now)))) }
 {
     if !needs_brackets(value) {
         return write_value(text, value);

@@ -1,7 +1,7 @@
 // The widths of a bit mapping.
 ghost use Rattle.std.specs.Prelude.{◌≡◌, OnOk};
 ghost use Rattle.line_writer.specs.Canonical.{bits_tokens, form_tokens, width_tokens, widths_tokens};
-ghost use Rattle.line_writer.specs.Texts.{behind};
+ghost use Rattle.line_writer.specs.Texts.{with_tokens_behind};
 
 use crate::mapping::open;
 use crate::parts::{Part, write_parts};
@@ -20,7 +20,7 @@ pub(crate) fn write_bits(
     fields: &[FieldWidth],
     order: Order,
 ) -> Result<(), NoMemory>
-    ensures { OnOk result (text.new ≡ behind text.old (form_tokens form.now (bits_tokens width fields.now order))) }
+    ensures { OnOk result (text.new ≡ with_tokens_behind text.old (form_tokens form.now (bits_tokens width fields.now order))) }
 {
     open(text, form)?;
     push_count(text, width)?;
@@ -33,7 +33,7 @@ pub(crate) fn write_bits(
 // Widths in braces, and nothing where there is none.
 #[tactic(auto, using(crate::proofs::Behind::behind_append))]
 fn write_widths(text: &mut Text, fields: &[FieldWidth]) -> Result<(), NoMemory>
-    ensures { OnOk result (text.new ≡ behind text.old (widths_tokens fields.now)) }
+    ensures { OnOk result (text.new ≡ with_tokens_behind text.old (widths_tokens fields.now)) }
 {
     match fields {
         [] => Ok(()),

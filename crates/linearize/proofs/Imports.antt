@@ -23,6 +23,6 @@ pub use Rattle.extents.specs.declared.order.Order.{Order}
 pub use Rattle.extents.specs.declared.order.Order.TheVariants.{Row, Col}
 pub use Rattle.linearize.specs.Slots.{interleaved, place_in, slot_of, slot_count, row_at}
 unfoldable pub use Rattle.linearize.specs.Slots.{digits_for}
-pub use Rattle.linearize.specs.Spreads.{IsSpread}
+pub use Rattle.linearize.specs.Inner.Spreads.{IsSpread}
 pub use Rattle.linearize.specs.MortonLaws.{self_lt_pow, at_own_place, component_fits, digits_enough, digit_of, bit_at-interleaved, below_from_digits}
 pub use Rattle.linearize.specs.SlotsLaws.{place_in_is, row_at-slot_of, IsInside-reverse, slot_below, same_index}

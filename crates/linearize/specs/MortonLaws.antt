@@ -16,35 +16,35 @@ use Rattle.linearize.specs.Slots.{interleaved, digits_for}
 -- ---- a number by its binary digits
 
 -- the number with these n binary digits
-abbrev number_of : (ℕ → ℕ) → ℕ → ℕ
-number_of digit n = sum_by (λ k. 2 ^ k * digit k) (range_with_len 0 n)
+abbrev number_by_digits : (ℕ → ℕ) → ℕ → ℕ
+number_by_digits digit n = sum_by (λ k. 2 ^ k * digit k) (range_with_len 0 n)
 
 range_more : (a n k : ℕ) → a + n ≡ k → range_with_len a (suc n) ≡ range_with_len a n ++ k ∷ []
 range_more a zero k e = let same : a ≡ k = omega arith in ap (λ x. x ∷ []) same
 range_more a (suc n) k e = ap (λ xs. a ∷ xs) (range_more (a + 1) n k (omega arith))
 
-number_more : (digit : ℕ → ℕ) (n : ℕ) → number_of digit (suc n) ≡ digit n * 2 ^ n + number_of digit n
+number_more : (digit : ℕ → ℕ) (n : ℕ) → number_by_digits digit (suc n) ≡ digit n * 2 ^ n + number_by_digits digit n
 number_more digit n =
-    let split : number_of digit (suc n) ≡ number_of digit n + 2 ^ n * digit n =
+    let split : number_by_digits digit (suc n) ≡ number_by_digits digit n + 2 ^ n * digit n =
     ap (sum_by (λ k. 2 ^ k * digit k)) (range_more 0 n n (omega arith)) ∙ sum_by_push (λ k. 2 ^ k * digit k) (range_with_len 0 n) n in
     omega (arith, split)
 
-number_lt : (digit : ℕ → ℕ) (n : ℕ) → ((k : ℕ) → digit k < 2) → number_of digit n < 2 ^ n
+number_lt : (digit : ℕ → ℕ) (n : ℕ) → ((k : ℕ) → digit k < 2) → number_by_digits digit n < 2 ^ n
 number_lt digit zero binary = omega arith
 number_lt digit (suc n) binary =
     let one : digit n ≤ 1 = omega (arith, binary n) in
     omega (arith, number_more digit n, number_lt digit n binary, mul-le (digit n) (2 ^ n) 1 (2 ^ n) one (omega arith), pow-suc 2 n)
 
-bit_at-number : (digit : ℕ → ℕ) (n k : ℕ) → ((k : ℕ) → digit k < 2) → k < n → bit_at (number_of digit n) k ≡ digit k
+bit_at-number : (digit : ℕ → ℕ) (n k : ℕ) → ((k : ℕ) → digit k < 2) → k < n → bit_at (number_by_digits digit n) k ≡ digit k
 bit_at-number digit zero k binary h = absurd (omega arith)
 bit_at-number digit (suc n) k binary h =
     ap (λ m. bit_at m k) (number_more digit n)
-    ∙ ⊎_elim (λ (l : k < n). bit_at_cat_low (digit n) n (number_of digit n) k l ∙ bit_at-number digit n k binary l)
+    ∙ ⊎_elim (λ (l : k < n). bit_at_cat_low (digit n) n (number_by_digits digit n) k l ∙ bit_at-number digit n k binary l)
     (λ (l : n ≤ k).
     let same : n ≡ k = omega arith in
     let none : k - n ≡ 0 = omega arith in
     let small : digit n % 2 ≡ digit n = omega (arith, binary n) in
-    bit_at_cat_high (digit n) n (number_of digit n) k (number_lt digit n binary) l ∙ ap (bit_at (digit n)) none ∙ bit_at_lowest (digit n) ∙ small ∙ ap digit same)
+    bit_at_cat_high (digit n) n (number_by_digits digit n) k (number_lt digit n binary) l ∙ ap (bit_at (digit n)) none ∙ bit_at_lowest (digit n) ∙ small ∙ ap digit same)
     (cases_lt k n)
 
 -- a number has no binary digit from its own value on
@@ -118,7 +118,7 @@ bit_at-interleaved i k =
     let binary : (k : ℕ) → digit_of i k < 2 = λ k. bit_at-lt (get_or i (length i - 1 - k % length i) 0) (k / length i) in
     ⊎_elim (λ (l : k < length i * fold max 0 i). bit_at-number (digit_of i) (length i * fold max 0 i) k binary l)
     (λ (l : length i * fold max 0 i ≤ k).
-    bit_at_above (number_of (digit_of i) (length i * fold max 0 i)) (length i * fold max 0 i) k (number_lt (digit_of i) (length i * fold max 0 i) binary) l
+    bit_at_above (number_by_digits (digit_of i) (length i * fold max 0 i)) (length i * fold max 0 i) k (number_lt (digit_of i) (length i * fold max 0 i) binary) l
     ∙ sym (digit_none i (fold max 0 i) k (λ d. omega (arith, get_or-le-fold_max i 0 d, self_lt_pow (fold max 0 i))) l))
     (cases_lt k (length i * fold max 0 i))
 

@@ -1,7 +1,7 @@
 // The binary digits of a component, moved apart by masks and shifts.
 ghost use Rattle.std.specs.Prelude.{◌≡◌, ◌/◌, ◌^◌, ◌<◌, ◌≤◌, [], ◌∷◌};
 ghost use Rattle.linearize.specs.Slots.{interleaved};
-ghost use Rattle.linearize.specs.Spreads.{IsSpread};
+ghost use Rattle.linearize.specs.Inner.Spreads.{IsSpread};
 
 /// The digits of a component, `rank` places apart.
 pub fn spread(component: u64, rank: usize) -> u64

@@ -5,7 +5,7 @@ use Rattle.c_lines.specs.Answers.{Answer, Tells, on_held}
 use Rattle.c_lines.specs.Faults.{fault_of}
 use Rattle.c_lines.specs.declared.refusal.Fault.{Fault}
 use Rattle.c_lines.specs.declared.refusal.Refusal.TheVariants.{NoView, NoMemory}
-use Rattle.llama_c.specs.Calls.{IsDone, IsKernel, IsMade, IsPutInto}
+use Rattle.llama_c.specs.Calls.{IsCallDone, IsKernelDone, IsMade, IsPutInto}
 
 -- an empty handle has nothing to put into a buffer, and nothing to change
 pub none_put : (told : Table → Answer (List ℕ)) (held : Option Table) (code : ℤ) (buffer : List ℕ) (needed : ℕ) → None ≡ held → code ≡ pos 1
@@ -15,15 +15,15 @@ none_put told held code buffer needed empty is =
     (record { answer = Err NoView; tells = inr (record { answered = refl; filled = refl; counted = refl }); code_is = is })
 
 pub none_done : {A : Type 0} (told : Table → Answer A) (after : Table → Table) (held new : Option Table) (code : ℤ) (fault fault_new : Fault)
-    → None ≡ held → new ≡ None → code ≡ pos 1 → fault_new ≡ fault_of NoView → IsDone told after held new code fault fault_new
+    → None ≡ held → new ≡ None → code ≡ pos 1 → fault_new ≡ fault_of NoView → IsCallDone told after held new code fault fault_new
 none_done told after held new code fault fault_new empty left is named =
-    subst (λ (h : Option Table). IsDone told after h new code fault fault_new) empty
+    subst (λ (h : Option Table). IsCallDone told after h new code fault fault_new) empty
     (record { answer = Err NoView; changes = (refl, left); code_is = is; fault_is = named })
 
 pub none_run : (told : Table → Answer (Option ℤ)) (after : Table → Table) (held new : Option Table) (code value : ℤ) (fault fault_new : Fault)
-    → None ≡ held → new ≡ None → code ≡ pos 1 → fault_new ≡ fault_of NoView → IsKernel told after held new code value value fault fault_new
+    → None ≡ held → new ≡ None → code ≡ pos 1 → fault_new ≡ fault_of NoView → IsKernelDone told after held new code value value fault fault_new
 none_run told after held new code value fault fault_new empty left is named =
-    subst (λ (h : Option Table). IsKernel told after h new code value value fault fault_new) empty
+    subst (λ (h : Option Table). IsKernelDone told after h new code value value fault fault_new) empty
     (record { answer = Err NoView; changes = (refl, left); code_is = is; value_is = refl; fault_is = named })
 
 -- what is told of an answer that was told

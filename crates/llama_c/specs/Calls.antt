@@ -2,22 +2,22 @@
 use Rattle.std.specs.Prelude.{ℕ, ◌≡◌, ◌⊎◌, ℤ, List, length, Option, Some, None, Ok, Err}
 use Rattle.views.specs.Tables.{Table, leaf_count_of, owners_of, after_log}
 use Rattle.views.specs.Tallies.{Read, all_accesses}
-use Rattle.c_lines.specs.Answers.{Answer, Tells, TellsLeft, code_of, number_of}
-use Rattle.c_lines.specs.Faults.{fault_or}
+use Rattle.c_lines.specs.Answers.{Answer, Tells, TellsLeft, code_of, refusal_number}
+use Rattle.c_lines.specs.Faults.{fault_left}
 use Rattle.c_lines.specs.declared.refusal.Fault.{Fault}
 use Rattle.c_lines.specs.declared.refusal.Refusal.TheVariants.{NoView, NoMemory}
 use Rattle.c_lines.specs.Buffers.{TellsPut}
 use Rattle.c_lines.specs.Copies.{source_after, target_after, was_copied}
 
 -- how many rows, leaves and blobs a table has
-abbrev pub row_count : Table → Answer ℕ
-row_count table = Ok (length table.rows)
+abbrev pub row_count_told : Table → Answer ℕ
+row_count_told table = Ok (length table.rows)
 
-abbrev pub leaf_count : Table → Answer ℕ
-leaf_count table = Ok (leaf_count_of table)
+abbrev pub leaf_count_told : Table → Answer ℕ
+leaf_count_told table = Ok (leaf_count_of table)
 
-abbrev pub blob_count : Table → Answer ℕ
-blob_count table = Ok (length (owners_of table))
+abbrev pub blob_count_told : Table → Answer ℕ
+blob_count_told table = Ok (length (owners_of table))
 
 -- ---- views that are made
 
@@ -32,7 +32,7 @@ pub record IsMade (told : Answer Table) (code : ℤ) (old new : Option Table) (f
   pub tells : Tells (λ view. view) told answer
   pub code_is : code ≡ code_of answer
   pub held : new ≡ held_or old answer
-  pub fault_is : fault_new ≡ fault_or fault answer
+  pub fault_is : fault_new ≡ fault_left fault answer
 
 -- ---- tables that are changed
 
@@ -48,11 +48,11 @@ Changes told after None answer new = (answer ≡ Err NoView) × (new ≡ None)
 Changes told after (Some table) answer new = IsChanged (told table) (after table) table answer new
 
 -- its number and its fault
-pub record IsDone {A : Type 0} (told : Table → Answer A) (after : Table → Table) (old new : Option Table) (code : ℤ) (fault fault_new : Fault) : Type 0 where
+pub record IsCallDone {A : Type 0} (told : Table → Answer A) (after : Table → Table) (old new : Option Table) (code : ℤ) (fault fault_new : Fault) : Type 0 where
   pub answer : Answer A
   pub changes : Changes told after old answer new
   pub code_is : code ≡ code_of answer
-  pub fault_is : fault_new ≡ fault_or fault answer
+  pub fault_is : fault_new ≡ fault_left fault answer
 
 -- the number that a kernel gives, and the caller's own where it gives none
 abbrev pub number_or : ℤ → Answer (Option ℤ) → ℤ
@@ -61,12 +61,12 @@ number_or old (Ok None) = old
 number_or old (Err refusal) = old
 
 -- the same with the number of a kernel
-pub record IsKernel (told : Table → Answer (Option ℤ)) (after : Table → Table) (old new : Option Table) (code value value_new : ℤ) (fault fault_new : Fault) : Type 0 where
+pub record IsKernelDone (told : Table → Answer (Option ℤ)) (after : Table → Table) (old new : Option Table) (code value value_new : ℤ) (fault fault_new : Fault) : Type 0 where
   pub answer : Answer (Option ℤ)
   pub changes : Changes told after old answer new
   pub code_is : code ≡ code_of answer
   pub value_is : value_new ≡ number_or value answer
-  pub fault_is : fault_new ≡ fault_or fault answer
+  pub fault_is : fault_new ≡ fault_left fault answer
 
 -- ---- two handles
 
@@ -97,5 +97,5 @@ pub record IsPutInto (told : Answer (List ℕ)) (code : ℤ) (buffer buffer_new 
 abbrev pub IsReadOnce : Option Table → ℤ → Option Table → Type 0
 IsReadOnce None code new = new ≡ None
 IsReadOnce (Some table) code new =
-    ((code ≡ number_of NoMemory) × (left : Table) × (new ≡ Some left) × (left ≡ record table { tally = left.tally }))
+    ((code ≡ refusal_number NoMemory) × (left : Table) × (new ≡ Some left) × (left ≡ record table { tally = left.tally }))
     ⊎ (new ≡ Some (after_log table (all_accesses Read (leaf_count_of table) (length table.rows))))

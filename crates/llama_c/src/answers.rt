@@ -1,8 +1,8 @@
 // Answers as C has them.
 ghost use Rattle.std.specs.Prelude.{◌≡◌};
 ghost use Rattle.c_lines.specs.Answers.{code_of};
-ghost use Rattle.c_lines.specs.Faults.{fault_of, fault_or};
-ghost use Rattle.c_lines.specs.Answers.{number_of};
+ghost use Rattle.c_lines.specs.Faults.{fault_of, fault_left};
+ghost use Rattle.c_lines.specs.Answers.{refusal_number};
 
 use c_lines::{DONE, Fault, Refusal};
 
@@ -19,7 +19,7 @@ pub fn code(answer: Result<(), Refusal>) -> i32
 /// The same, and its fault where it is a refusal.
 pub fn told(answer: Result<(), Refusal>, fault: &mut Fault) -> i32
     ensures code { result ≡ code_of answer }
-    ensures fault { fault.new ≡ fault_or fault.old answer }
+    ensures fault { fault.new ≡ fault_left fault.old answer }
 {
     match answer {
         Ok(()) => DONE,
@@ -29,7 +29,7 @@ pub fn told(answer: Result<(), Refusal>, fault: &mut Fault) -> i32
 
 /// The number of a refusal, and its fault.
 pub fn refused(refusal: Refusal, fault: &mut Fault) -> i32
-    ensures code { result ≡ number_of refusal }
+    ensures code { result ≡ refusal_number refusal }
     ensures fault { fault.new ≡ fault_of refusal }
 {
     *fault = refusal.fault();

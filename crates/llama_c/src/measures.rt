@@ -3,7 +3,7 @@ ghost use Rattle.std.specs.Prelude.{◌≡◌, ◌⊎◌, pos, Some, None, IfSom
 ghost use Rattle.extents.specs.Indices.{indices};
 ghost use Rattle.record_dim.specs.Leaves.{texts_of};
 ghost use Rattle.c_lines.specs.Answers.{code_of, given_or, on_held};
-ghost use Rattle.llama_c.specs.Calls.{blob_count, leaf_count, row_count};
+ghost use Rattle.llama_c.specs.Calls.{blob_count_told, leaf_count_told, row_count_told};
 
 use crate::handle::Handle;
 use c_lines::{DONE, Refusal, blob_count, leaf_of, row_of};
@@ -12,8 +12,8 @@ use std::alloc::Global;
 /// How many rows a view has.
 #[unsafe(no_mangle)]
 pub extern "C" fn llama_rows(alloc: Global, view: &mut Handle, rows: &mut u64) -> i32
-    ensures answer { result ≡ code_of (on_held row_count view.old.part.held) }
-    ensures value { rows.new ≡ given_or rows.old (on_held row_count view.old.part.held) }
+    ensures answer { result ≡ code_of (on_held row_count_told view.old.part.held) }
+    ensures value { rows.new ≡ given_or rows.old (on_held row_count_told view.old.part.held) }
     ensures left { view.new.part.held ≡ view.old.part.held }
 {
     let Some(held) = view.take(alloc) else {
@@ -27,8 +27,8 @@ pub extern "C" fn llama_rows(alloc: Global, view: &mut Handle, rows: &mut u64) -
 /// How many leaves its record has.
 #[unsafe(no_mangle)]
 pub extern "C" fn llama_leaves(alloc: Global, view: &mut Handle, leaves: &mut usize) -> i32
-    ensures answer { result ≡ code_of (on_held leaf_count view.old.part.held) }
-    ensures value { leaves.new ≡ given_or leaves.old (on_held leaf_count view.old.part.held) }
+    ensures answer { result ≡ code_of (on_held leaf_count_told view.old.part.held) }
+    ensures value { leaves.new ≡ given_or leaves.old (on_held leaf_count_told view.old.part.held) }
     ensures left { view.new.part.held ≡ view.old.part.held }
 {
     let Some(held) = view.take(alloc) else {
@@ -42,8 +42,8 @@ pub extern "C" fn llama_leaves(alloc: Global, view: &mut Handle, leaves: &mut us
 /// How many blobs it lies in.
 #[unsafe(no_mangle)]
 pub extern "C" fn llama_blobs(alloc: Global, view: &mut Handle, blobs: &mut usize) -> i32
-    ensures answer { result ≡ code_of (on_held blob_count view.old.part.held) }
-    ensures value { blobs.new ≡ given_or blobs.old (on_held blob_count view.old.part.held) }
+    ensures answer { result ≡ code_of (on_held blob_count_told view.old.part.held) }
+    ensures value { blobs.new ≡ given_or blobs.old (on_held blob_count_told view.old.part.held) }
     ensures left { view.new.part.held ≡ view.old.part.held }
 {
     let Some(held) = view.take(alloc) else {

@@ -1,8 +1,8 @@
 // One leaf of rows one after another.
 ghost use Rattle.std.specs.Prelude.{◌≡◌, pos, length, map, option_map};
 ghost use Rattle.c_lines.specs.Answers.{code_of, given_or, held_after, on_held};
-ghost use Rattle.c_lines.specs.Faults.{fault_or};
-ghost use Rattle.c_lines.specs.Runs.{after_run, after_set_run, got_run, was_set_run};
+ghost use Rattle.c_lines.specs.Faults.{fault_left};
+ghost use Rattle.c_lines.specs.CallerRuns.{after_run, after_set_run, got_run, was_set_run};
 ghost use Rattle.c_lines.specs.Values.{reads_signed, reads_unsigned};
 
 use crate::answers::{code, refused, told};
@@ -66,7 +66,7 @@ pub extern "C" fn llama_set_run(
     fault: &mut Fault,
 ) -> i32
     ensures answer { result ≡ code_of (on_held (was_set_run first leaf values.now) view.old.part.held) }
-    ensures fault { fault.new ≡ fault_or fault.old (on_held (was_set_run first leaf values.now) view.old.part.held) }
+    ensures fault { fault.new ≡ fault_left fault.old (on_held (was_set_run first leaf values.now) view.old.part.held) }
     ensures left { view.new.part.held ≡ option_map (after_set_run first leaf values.now) view.old.part.held }
 {
     let Some(mut held) = view.take(alloc) else {
@@ -88,7 +88,7 @@ pub extern "C" fn llama_set_run_u64(
     fault: &mut Fault,
 ) -> i32
     ensures answer { result ≡ code_of (on_held (was_set_run first leaf (map (λ n. pos n) values.now)) view.old.part.held) }
-    ensures fault { fault.new ≡ fault_or fault.old (on_held (was_set_run first leaf (map (λ n. pos n) values.now)) view.old.part.held) }
+    ensures fault { fault.new ≡ fault_left fault.old (on_held (was_set_run first leaf (map (λ n. pos n) values.now)) view.old.part.held) }
     ensures left { view.new.part.held ≡ option_map (after_set_run first leaf (map (λ n. pos n) values.now)) view.old.part.held }
 {
     let Some(mut held) = view.take(alloc) else {

@@ -1,11 +1,11 @@
 // Calls on whole tables.
 ghost use Rattle.std.specs.Prelude.{◌≡◌};
 ghost use Rattle.c_lines.specs.Answers.{code_of};
-ghost use Rattle.c_lines.specs.Faults.{fault_or};
+ghost use Rattle.c_lines.specs.Faults.{fault_left};
 ghost use Rattle.c_lines.specs.KernelLines.{after_kernel, kernel_number};
 ghost use Rattle.c_lines.specs.Relaid.{after_relaid, relaid};
 ghost use Rattle.c_lines.specs.Told.{done_of};
-ghost use Rattle.llama_c.specs.Calls.{copy_told, source_left, target_left, IsDone, IsKernel};
+ghost use Rattle.llama_c.specs.Calls.{copy_told, source_left, target_left, IsCallDone, IsKernelDone};
 
 use crate::answers::{refused, told};
 use crate::handle::Handle;
@@ -24,7 +24,7 @@ pub extern "C" fn llama_copy(
     fault: &mut Fault,
 ) -> i32
     ensures answer { result ≡ code_of (copy_told source.old.part.held target.old.part.held) }
-    ensures fault { fault.new ≡ fault_or fault.old (copy_told source.old.part.held target.old.part.held) }
+    ensures fault { fault.new ≡ fault_left fault.old (copy_told source.old.part.held target.old.part.held) }
     ensures source { source.new.part.held ≡ source_left source.old.part.held target.old.part.held }
     ensures target { target.new.part.held ≡ target_left source.old.part.held target.old.part.held }
 {
@@ -49,7 +49,7 @@ pub extern "C" fn llama_relayout(
     line: &[u8],
     fault: &mut Fault,
 ) -> i32
-    ensures { IsDone (λ table. done_of (relaid line.now table)) (λ table. after_relaid (relaid line.now table) table)
+    ensures { IsCallDone (λ table. done_of (relaid line.now table)) (λ table. after_relaid (relaid line.now table) table)
         view.old.part.held view.new.part.held result fault.old fault.new }
 {
     let Some(mut held) = view.take(alloc) else {
@@ -69,7 +69,7 @@ pub extern "C" fn llama_kernel(
     value: &mut i64,
     fault: &mut Fault,
 ) -> i32
-    ensures { IsKernel (kernel_number line.now) (after_kernel line.now) view.old.part.held view.new.part.held result value.old value.new fault.old fault.new }
+    ensures { IsKernelDone (kernel_number line.now) (after_kernel line.now) view.old.part.held view.new.part.held result value.old value.new fault.old fault.new }
 {
     let Some(mut held) = view.take(alloc) else {
         return refused(Refusal::NoView, fault);

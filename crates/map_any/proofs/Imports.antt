@@ -32,7 +32,7 @@ pub use Rattle.map_expr.specs.declared.check.BadMapping.{BadMapping}
 pub use Rattle.map_expr.specs.declared.check.BadMapping.TheVariants.{TooDeep, Counter, Side, Field, NotFull}
 pub use Rattle.map_expr.specs.Checks.{IsNameless, checked, answered, bad_number, counts_once, bad_granule}
 pub use Rattle.extents.specs.Indices.{indices, IsInside}
-pub use Rattle.places.specs.Laws.{IsLocated, owners_in, IsBitOf, IsLaidOut}
+pub use Rattle.places.specs.Lawful.{IsLocated, owners_in, IsBitOf, IsLaidOut}
 pub use Rattle.map_checks.specs.Plans.{IsPlanOf}
 pub use Rattle.map_checks.specs.declared.plan.Plan.{Plan}
 pub use Rattle.record_dim.specs.Schemas.{schema_fields}
@@ -51,18 +51,18 @@ pub use Rattle.linearize.proofs.SlotLemmas.{product_count}
 pub use Rattle.linearize.specs.SlotsLaws.{place_in_is, slot_at_below, slot_at_by_rows, entry_of_row, IsInside-reverse}
 pub use Rattle.record_dim.specs.declared.leaf_type.LeafType.TheVariants.{Bool as Truth}
 pub use Rattle.map_checks.specs.RuledLaws.{each_push}
-pub use Rattle.map_checks.specs.LeafCells.{leaf_cells_kinds}
-pub use Rattle.piece_bits.specs.Wides.{IsWide}
+pub use Rattle.map_checks.specs.Inner.LeafCells.{leaf_cells_kinds}
+pub use Rattle.piece_bits.specs.Wides.{AreReadWide}
 pub use Rattle.map_checks.specs.TermLaws.{good_numbers}
 pub use Rattle.map_any.specs.AnyLaws.{holds_cells, cell_rules, any_laws, length-leaf_cells, cell_holds}
-pub use Rattle.map_any.specs.ArrayRuns.{IsArrayRun}
+pub use Rattle.map_any.specs.Inner.ArrayRuns.{IsArrayRun}
 pub use Rattle.map_any.specs.ArrayRunLaws.{array_run, array_holds}
 pub use Rattle.map_any.specs.LeafArrays.{HaveArrays}
 pub use Rattle.map_any.specs.LeafRules.{AreLeafRules, kind_in, hold_in, IsLeafRule, AreRuled, IsWideIn}
 pub use Rattle.map_any.specs.declared.leaf_rule.LeafRule.{LeafRule}
 pub use Rattle.map_any.specs.declared.any.AnyMap.{AnyMap}
-pub use Rattle.map_any.specs.Filling.{shown_at, IsShown, IsFilled, ShowBelow, Show, runs_along}
-pub use Rattle.map_any.specs.Runs.{run_owner, goes_on, joined, runs_from}
-unfoldable pub use Rattle.map_any.specs.Runs.{runs_of}
+pub use Rattle.map_any.specs.Inner.Filling.{shown_at, IsShown, IsFilled, ShowBelow, Show, runs_along}
+pub use Rattle.map_any.specs.BitRuns.{run_owner, goes_on, joined_run, runs_from}
+unfoldable pub use Rattle.map_any.specs.BitRuns.{runs_of}
 pub use Rattle.map_any.specs.Counters.{is_counted}
 pub use Rattle.map_any.specs.declared.cell_map.CellMap.{CellMap}

@@ -1,5 +1,5 @@
 -- How a run is made one with the bits behind it.
-use Rattle.map_any.proofs.Imports.{◌≡◌, ℕ, ◌+◌, true, false, ⊎_elim, List, [], ◌∷◌, map, refl, sym, ap, ◌∙◌, arith, ◌==◌, ◌&&◌, cases_Bool, cond-true, cond-false, and_parts, eqb-true, Owner, Run, RunOwner, Pad, runs_along, run_owner, goes_on, joined, runs_from}
+use Rattle.map_any.proofs.Imports.{◌≡◌, ℕ, ◌+◌, true, false, ⊎_elim, List, [], ◌∷◌, map, refl, sym, ap, ◌∙◌, arith, ◌==◌, ◌&&◌, cases_Bool, cond-true, cond-false, and_parts, eqb-true, Owner, Run, RunOwner, Pad, runs_along, run_owner, goes_on, joined_run, runs_from}
 use Rattle.places.specs.declared.piece.RunOwner.TheVariants.{Leaf}
 
 -- the run of one bit
@@ -29,15 +29,15 @@ goes_on_later (Leaf row leaf low) (Leaf row' leaf' low') (Leaf row'' leaf'' low'
     ∙ ap (λ (x : ℕ). (row' == row'') && ((leaf' == leaf'') && (x == low''))) behind
 
 -- a run and the one behind it, where that goes on with it and where it does not
-joined_on : (run next : Run) (runs : List Run) → goes_on run.owner run.bits next.owner ≡ true → joined run (next ∷ runs) ≡ longer run next.bits ∷ runs
+joined_on : (run next : Run) (runs : List Run) → goes_on run.owner run.bits next.owner ≡ true → joined_run run (next ∷ runs) ≡ longer run next.bits ∷ runs
 joined_on run next runs e = cond-true (goes_on run.owner run.bits next.owner) (longer run next.bits ∷ runs) (run ∷ next ∷ runs) e
 
-joined_apart : (run next : Run) (runs : List Run) → goes_on run.owner run.bits next.owner ≡ false → joined run (next ∷ runs) ≡ run ∷ next ∷ runs
+joined_apart : (run next : Run) (runs : List Run) → goes_on run.owner run.bits next.owner ≡ false → joined_run run (next ∷ runs) ≡ run ∷ next ∷ runs
 joined_apart run next runs e = cond-false (goes_on run.owner run.bits next.owner) (longer run next.bits ∷ runs) (run ∷ next ∷ runs) e
 
 -- a run takes in a bit that goes on with it
 pub run_longer : (run : Run) (blob bit : ℕ) (owner : RunOwner) (rest : List Run) → goes_on run.owner run.bits owner ≡ true
-    → joined run (joined (bit_run blob bit owner) rest) ≡ joined (longer run 1) rest
+    → joined_run run (joined_run (bit_run blob bit owner) rest) ≡ joined_run (longer run 1) rest
 run_longer run blob bit owner [] e = joined_on run (bit_run blob bit owner) [] e
 run_longer run blob bit owner (next ∷ rest) e =
     let one : Run = bit_run blob bit owner in
@@ -45,29 +45,29 @@ run_longer run blob bit owner (next ∷ rest) e =
     ⊎_elim
     (λ (yes : goes_on owner 1 next.owner ≡ true).
     let bits : run.bits + (1 + next.bits) ≡ run.bits + 1 + next.bits = omega arith in
-    ap (joined run) (joined_on one next rest yes)
+    ap (joined_run run) (joined_on one next rest yes)
     ∙ joined_on run (longer one next.bits) rest e
     ∙ ap (λ (n : ℕ). record { blob = run.blob; bit = run.bit; bits = n; owner = run.owner } ∷ rest) bits
     ∙ sym (joined_on (longer run 1) next rest (later ∙ yes)))
     (λ (no' : goes_on owner 1 next.owner ≡ false).
-    ap (joined run) (joined_apart one next rest no')
+    ap (joined_run run) (joined_apart one next rest no')
     ∙ joined_on run one (next ∷ rest) e
     ∙ sym (joined_apart (longer run 1) next rest (later ∙ no')))
     (cases_Bool (goes_on owner 1 next.owner))
 
 -- a run ends before a bit that does not go on with it
 pub run_ends : (run : Run) (blob bit : ℕ) (owner : RunOwner) (rest : List Run) → goes_on run.owner run.bits owner ≡ false
-    → joined run (joined (bit_run blob bit owner) rest) ≡ run ∷ joined (bit_run blob bit owner) rest
+    → joined_run run (joined_run (bit_run blob bit owner) rest) ≡ run ∷ joined_run (bit_run blob bit owner) rest
 run_ends run blob bit owner [] e = joined_apart run (bit_run blob bit owner) [] e
 run_ends run blob bit owner (next ∷ rest) e =
     let one : Run = bit_run blob bit owner in
     ⊎_elim
     (λ (yes : goes_on owner 1 next.owner ≡ true).
-    ap (joined run) (joined_on one next rest yes)
+    ap (joined_run run) (joined_on one next rest yes)
     ∙ joined_apart run (longer one next.bits) rest e
     ∙ ap (λ (runs : List Run). run ∷ runs) (sym (joined_on one next rest yes)))
     (λ (no' : goes_on owner 1 next.owner ≡ false).
-    ap (joined run) (joined_apart one next rest no')
+    ap (joined_run run) (joined_apart one next rest no')
     ∙ joined_apart run one (next ∷ rest) e
     ∙ ap (λ (runs : List Run). run ∷ runs) (sym (joined_apart one next rest no')))
     (cases_Bool (goes_on owner 1 next.owner))
@@ -75,4 +75,4 @@ run_ends run blob bit owner (next ∷ rest) e =
 -- the runs of bits are those of what the bits show
 pub runs_shown : (blob bit : ℕ) (owners : List Owner) → runs_along blob bit (map run_owner owners) ≡ runs_from blob bit owners
 runs_shown blob bit [] = refl
-runs_shown blob bit (owner ∷ owners) = ap (joined (bit_run blob bit (run_owner owner))) (runs_shown blob (bit + 1) owners)
+runs_shown blob bit (owner ∷ owners) = ap (joined_run (bit_run blob bit (run_owner owner))) (runs_shown blob (bit + 1) owners)

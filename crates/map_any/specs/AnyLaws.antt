@@ -5,12 +5,12 @@ use Rattle.extents.specs.Indices.{indices}
 use Rattle.record_dim.specs.declared.leaf_type.LeafType.{LeafType}
 use Rattle.record_dim.specs.Trees.{Fields}
 use Rattle.record_dim.specs.Leaves.{kinds_of}
-use Rattle.places.specs.Laws.{IsLaidOut}
+use Rattle.places.specs.Lawful.{IsLaidOut}
 use Rattle.places.specs.declared.piece.Cell.{Cell}
 use Rattle.places.specs.declared.piece.Hold.{Hold}
 use Rattle.map_expr.specs.Terms.{Term}
 use Rattle.map_expr.specs.Checks.{bad_number}
-use Rattle.map_checks.specs.LeafCells.{leaf_cells_kinds}
+use Rattle.map_checks.specs.Inner.LeafCells.{leaf_cells_kinds}
 use Rattle.map_checks.specs.Mappings.{leaf_cells, layout_of, holds_of, holds_by, most_slots, not_full, IsBuiltTerm}
 use Rattle.map_checks.specs.TermLaws.{term_laws, good_numbers, length-holds}
 use Rattle.map_checks.specs.Plans.{IsPlanOf}

@@ -12,7 +12,7 @@ use Rattle.linearize.specs.Slots.{slot_at, row_at}
 use Rattle.linearize.specs.SlotsLaws.{row_at-slot_at, slot_at-row_at}
 use Rattle.places.specs.Layout.{Owner, Pad, Bit, owner_at}
 use Rattle.places.specs.Rules.{renamed, in_rows, bit_in_row}
-use Rattle.places.specs.Laws.{IsLocated, IsPiece, owners_in}
+use Rattle.places.specs.Lawful.{IsLocated, IsPiece, owners_in}
 use Rattle.places.specs.ComposeLaws.{owner_relabel}
 use Rattle.places.specs.PlacesLaws.{ranges_at}
 use Rattle.places.specs.declared.piece.Piece.{Piece}
@@ -24,7 +24,7 @@ use Rattle.places.specs.declared.piece.Cell.{Cell}
 use Rattle.map_expr.specs.Terms.{Term, Aos, Soa, Aosoa, BitAos, BitSoa, Split, Byteswap, Bytesplit, Change, Count, Heat, Named}
 use Rattle.map_checks.specs.Mappings.{holds_of}
 use Rattle.map_checks.specs.Arrays.{array_of, IsArray}
-use Rattle.map_any.specs.ArrayRuns.{IsArrayRun}
+use Rattle.map_any.specs.Inner.ArrayRuns.{IsArrayRun}
 use Rattle.map_checks.specs.RowsLaws.{length-in_rows, length-blob}
 use Rattle.map_checks.specs.declared.rule.Rule.{Rule}
 

@@ -8,7 +8,7 @@ use Rattle.places.specs.declared.piece.Hold.{Hold}
 use Rattle.map_checks.specs.Ruled.{EachWith, IsRuleOf, IsSameRule}
 use Rattle.piece_bits.specs.Shorts.{IsShortOf}
 use Rattle.piece_bits.specs.Walks.{leads}
-use Rattle.piece_bits.specs.Wides.{IsWide}
+use Rattle.piece_bits.specs.Wides.{AreReadWide}
 use Rattle.map_any.specs.declared.leaf_rule.LeafRule.{LeafRule}
 use Rattle.map_checks.specs.declared.rule.Rule.{Rule}
 
@@ -28,7 +28,7 @@ pub record IsLeafRule (kind : LeafType) (extents : List ℕ) (hold : Hold) (leaf
 
 -- so many of its rows are read by one load of eight bytes, where blobs have so many bytes; outside of the list a blob has none
 abbrev pub IsWideIn : List ℕ → LeafRule → Type 0
-IsWideIn lengths leaf = IsWide leaf.short (slice_index_or lengths leaf.short.blob 0) leaf.wide
+IsWideIn lengths leaf = AreReadWide leaf.short (slice_index_or lengths leaf.short.blob 0) leaf.wide
 
 -- those of leaves of these types, which are stored so and lie there
 pub record AreLeafRules (kinds : List LeafType) (extents : List ℕ) (holds : List Hold) (rules : List Rule) (leaves : List LeafRule) : Type 0 where

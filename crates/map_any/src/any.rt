@@ -8,7 +8,7 @@ ghost use Rattle.map_any.specs.Counters.{is_counted};
 ghost use Rattle.map_any.specs.LeafArrays.{HaveArrays};
 ghost use Rattle.map_any.specs.LeafRules.{AreRuled, IsWideIn};
 ghost use Rattle.map_checks.specs.Mappings.{layout_by, holds_by, leaf_cells, not_full, IsBuiltTerm};
-ghost use Rattle.map_checks.specs.Orders.{IsBuiltTerm-prop};
+ghost use Rattle.map_checks.specs.Inner.Orders.{IsBuiltTerm-prop};
 ghost use Rattle.map_checks.specs.Ruled.{EachWith, HasLengths};
 ghost use Rattle.piece_bits.specs.Walks.{leads};
 

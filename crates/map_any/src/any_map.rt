@@ -3,7 +3,7 @@ ghost use Rattle.extents.specs.Indices.{indices};
 ghost use Rattle.record_dim.specs.LeafTypes.{is_signed, IsIn, IsDeclared};
 ghost use Rattle.record_dim.specs.Schemas.{schema_fields};
 ghost use Rattle.record_dim.specs.Leaves.{kinds_of};
-ghost use Rattle.places.specs.Laws.{IsLocated};
+ghost use Rattle.places.specs.Lawful.{IsLocated};
 ghost use Rattle.map_expr.specs.Terms.{term_of};
 ghost use Rattle.map_checks.specs.Mappings.{leaf_cells, layout_by, holds_by, accepted, IsBuiltTerm, IsTooBigFor, IsRefusal};
 ghost use Rattle.map_any.specs.AnyLaws.{any_laws, holds_cells};
@@ -14,7 +14,7 @@ ghost use Rattle.map_checks.specs.Arrays.{IsArrayOf};
 ghost use Rattle.map_checks.specs.Ruled.{IsRuleOf};
 ghost use Rattle.piece_bits.specs.Shorts.{IsShortIn};
 ghost use Rattle.piece_bits.specs.Walks.{leads};
-ghost use Rattle.piece_bits.specs.Wides.{IsWide};
+ghost use Rattle.piece_bits.specs.Wides.{AreReadWide};
 
 use crate::any::AnyMap;
 use crate::leaf_rule::LeafRule;
@@ -92,7 +92,7 @@ impl AnyMap {
         ensures sign { leads result.now.short.walk ≡ true → (hold_in (⟦<AnyMap as Mapping>⟧.hold_list self.now) leaf).signed
             ≡ is_signed (kind_in (map (λ cell. cell.kind) (⟦<AnyMap as Mapping>⟧.cell_list self.now)) leaf) }
         ensures wide { (bytes : ℕ) → 8 * bytes ≡ length (slice_index_or (⟦<AnyMap as Mapping>⟧.layout self.now) result.now.short.blob [])
-            → IsWide result.now.short bytes result.now.wide }
+            → AreReadWide result.now.short bytes result.now.wide }
         ensures uncounted { leads result.now.short.walk ≡ true → is_counted (term_of_map self.now) ≡ false }
     {
         self.leaf_rule(leaf)

@@ -3,8 +3,8 @@ ghost use Rattle.std.specs.Prelude.{ℕ, ◌≡◌, ◌+◌, ◌*◌, ◌%◌, �
 ghost use Rattle.linearize.specs.Slots.{slot_count};
 ghost use Rattle.map_expr.specs.Terms.{term_of};
 ghost use Rattle.map_checks.specs.Arrays.{array_of, lanes_in};
-ghost use Rattle.map_any.specs.ArrayRuns.{IsArrayRun};
-ghost use Rattle.map_any.specs.ArraySlots.{slots_in};
+ghost use Rattle.map_any.specs.Inner.ArrayRuns.{IsArrayRun};
+ghost use Rattle.map_any.specs.Inner.ArraySlots.{slots_in};
 ghost use Rattle.map_any.specs.Maps.{extents_of, term_of_map};
 
 use crate::any::AnyMap;

@@ -5,7 +5,7 @@ ghost use Rattle.map_expr.specs.Terms.{term_of};
 ghost use Rattle.map_expr.specs.Checks.{bad_number};
 ghost use Rattle.map_any.specs.AnyLaws.{any_laws, cell_holds};
 ghost use Rattle.map_checks.specs.Mappings.{layout_of, holds_of, accepted, not_full, IsBuiltTerm, IsTooBigFor, IsRefusal};
-ghost use Rattle.map_checks.specs.Orders.{IsBuiltTerm-prop};
+ghost use Rattle.map_checks.specs.Inner.Orders.{IsBuiltTerm-prop};
 ghost use Rattle.map_checks.specs.Plans.{IsPlanOf};
 ghost use Rattle.map_checks.specs.Ruled.{IsRuleOf};
 

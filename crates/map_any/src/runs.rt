@@ -1,7 +1,7 @@
 ghost use Rattle.std.specs.Prelude.{ℕ, ◌≡◌, ◌+◌, ◌*◌, ◌<◌, ◌≤◌, ◌==◌, All, false, [], IfOk, length, map, slice_index_or};
 ghost use Rattle.places.specs.Layout.{Bit, owner_at};
-ghost use Rattle.map_any.specs.Filling.{IsFilled, IsShown, Show, runs_along};
-ghost use Rattle.map_any.specs.Runs.{goes_on, run_owner, runs_of};
+ghost use Rattle.map_any.specs.Inner.Filling.{IsFilled, IsShown, Show, runs_along};
+ghost use Rattle.map_any.specs.BitRuns.{goes_on, run_owner, runs_of};
 
 use crate::any::AnyMap;
 use places::{Mapping, Piece, PieceRule, Run, RunList, RunOwner};

@@ -8,7 +8,7 @@ pub use Rattle.std.proofs.lemmas.List.FromFn.{length-enumerate_from, get_or-enum
 pub use Rattle.std.specs.Result.{IsErrOf}
 pub use Rattle.record_dim.specs.LeafTypes.{width_of}
 pub use Rattle.places.specs.Layout.{Owner, Pad, Bit, owner_at, cells_of, field, falling}
-pub use Rattle.places.specs.Laws.{IsLocated}
+pub use Rattle.places.specs.Lawful.{IsLocated}
 pub use Rattle.places.specs.Holds.{widths_of, full_holds, IsTooBig}
 pub use Rattle.places.specs.declared.piece.Cell.{Cell}
 pub use Rattle.places.specs.declared.piece.Hold.{Hold}
@@ -26,6 +26,6 @@ pub use Rattle.places.specs.declared.forms.AosForm.TheVariants.{Packed, Aligned,
 pub use Rattle.places.specs.BeginsLaws.{one_lane, begins_fit}
 pub use Rattle.places.specs.DenseLaws.{not_dense}
 pub use Rattle.places.specs.declared.mapping.NewMapping.TheVariants.{TooBig}
-pub use Rattle.map_aos.specs.Aos.{IsStored, part_of, order_of, alignment}
+pub use Rattle.map_aos.specs.Aos.{LieInParts, part_of, order_of, alignment}
 pub use Rattle.map_aos.specs.AosLaws.{aos_laws, layout_parts, laid_fields, widest, part_is, apart_order, order_member, member_order}
 pub use Rattle.map_aos.specs.declared.part.Part.{Part}

@@ -1,5 +1,5 @@
 -- How the part of one slot is filled, cell after cell.
-use Rattle.map_aos.proofs.Imports.{◌≡◌, ℕ, ◌+◌, ◌-◌, ◌%◌, ◌<◌, ◌≤◌, ◌==◌, List, [], ◌∷◌, ◌++◌, map, filter, length, max, fold, replicate, get_or, set, take, slice_index, All, refl, sym, ap, ◌∙◌, subst, arith, lit≤, append-nil, append_assoc, take_more, take_all, get_or-map, length-map, get_or_append_left, length-enumerate_from, get_or-enumerate_from, width_of, Owner, Pad, Bit, cells_of, field, falling, widths_of, Cell, Member, length-field, field_at, within, member_width, member_at, member_cells, cells_member, fresh_at, stacked, up, IsFilled, filled_more, length-padded, stacked_take, IsWidth, by_width, widths_are, IsStored, part_of, order_of, alignment, laid_fields, widest, part_is, apart_order, order_member, member_order, AosForm, Packed, Aligned, Min}
+use Rattle.map_aos.proofs.Imports.{◌≡◌, ℕ, ◌+◌, ◌-◌, ◌%◌, ◌<◌, ◌≤◌, ◌==◌, List, [], ◌∷◌, ◌++◌, map, filter, length, max, fold, replicate, get_or, set, take, slice_index, All, refl, sym, ap, ◌∙◌, subst, arith, lit≤, append-nil, append_assoc, take_more, take_all, get_or-map, length-map, get_or_append_left, length-enumerate_from, get_or-enumerate_from, width_of, Owner, Pad, Bit, cells_of, field, falling, widths_of, Cell, Member, length-field, field_at, within, member_width, member_at, member_cells, cells_member, fresh_at, stacked, up, IsFilled, filled_more, length-padded, stacked_take, IsWidth, by_width, widths_are, LieInParts, part_of, order_of, alignment, laid_fields, widest, part_is, apart_order, order_member, member_order, AosForm, Packed, Aligned, Min}
 
 -- the numbered cells, one by one
 pub length-cells : (cells : List Cell) → length (cells_of (widths_of cells)) ≡ length cells
@@ -90,7 +90,7 @@ widest_more form order i d l =
 
 -- all cells are placed
 pub stored : (form : AosForm) (widths offsets : List ℕ) (end : ℕ) → All IsWidth widths → length offsets ≡ length widths
-    → IsPlaced form (order_of form (cells_of widths)) offsets end → IsStored form widths offsets (up (widest form (order_of form (cells_of widths))) end)
+    → IsPlaced form (order_of form (cells_of widths)) offsets end → LieInParts form widths offsets (up (widest form (order_of form (cells_of widths))) end)
 stored form widths offsets end each size h =
     let order : List (ℕ × ℕ) = order_of form (cells_of widths) in
     let pad : ℕ = widest form order in
@@ -179,16 +179,16 @@ placed_next form cells order i d offsets end align offset width e l size a o w h
 pub stored_all : (form : AosForm) (cells : List Cell) (order : List (ℕ × ℕ)) (i : ℕ) (offsets : List ℕ) (end last size : ℕ)
     → order ≡ order_of form (cells_of (widths_of cells)) → length order ≤ i → length offsets ≡ length cells
     → last ≡ widest form (take i order) → size ≡ end + (last - end % last) % last
-    → IsPlaced form (take i order) offsets end → IsStored form (widths_of cells) offsets size
+    → IsPlaced form (take i order) offsets end → LieInParts form (widths_of cells) offsets size
 stored_all form cells order i offsets end last size e all count l s h =
     let widths : List ℕ = widths_of cells in
-    let Stored : List (ℕ × ℕ) → Type 0 = λ xs. IsPlaced form xs offsets end → IsStored form widths offsets (up (widest form xs) end) in
+    let Stored : List (ℕ × ℕ) → Type 0 = λ xs. IsPlaced form xs offsets end → LieInParts form widths offsets (up (widest form xs) end) in
     let same : length (widths_of cells) ≡ length cells = length-map cells (λ (cell : Cell). width_of cell.kind) in
     let whole : take i order ≡ order = take_all i order all in
     let there : Stored (order_of form (cells_of widths)) = λ h. stored form widths offsets end (widths_are cells) (count ∙ sym same) h in
     let here = subst Stored (sym (whole ∙ e)) there h in
     let sized : up (widest form (take i order)) end ≡ size = ap (λ (n : ℕ). up n end) (sym l) ∙ sym s in
-    subst (λ (n : ℕ). IsStored form widths offsets n) sized here
+    subst (λ (n : ℕ). LieInParts form widths offsets n) sized here
 
 -- what is placed is no longer than a part
 pub placed_below : (form : AosForm) (cells : List Cell) (order : List (ℕ × ℕ)) (i : ℕ) (offsets : List ℕ) (end slot : ℕ)

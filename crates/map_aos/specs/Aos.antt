@@ -23,7 +23,7 @@ alignment Aligned width = width
 alignment Min width = width
 
 -- each part has `stride` bits, and in it each cell's bits stand from the cell's offset on
-pub record IsStored (form : AosForm) (widths : List ℕ) (offsets : List ℕ) (stride : ℕ) : Type 0 where
+pub record LieInParts (form : AosForm) (widths : List ℕ) (offsets : List ℕ) (stride : ℕ) : Type 0 where
   pub each : length offsets ≡ length widths
   pub size : (slot : ℕ) → length (part_of form widths slot) ≡ stride
   pub here : (slot cell bit : ℕ) → cell < length widths → bit < slice_index widths cell

@@ -3,7 +3,7 @@ use Rattle.std.proofs.Common.{◌≡◌, ℕ, ◌+◌, ◌-◌, ◌%◌, ◌<◌
 use Rattle.std.specs.List.{flat_map, range_with_len}
 use Rattle.std.proofs.lemmas.List.Elements.{All-cons, All-nil}
 use Rattle.places.specs.Layout.{Owner, cells_of, field, greatest, falling, aligned_fields, aligned_part, padded_to}
-use Rattle.places.specs.Laws.{IsBitOf, IsLaidOut}
+use Rattle.places.specs.Lawful.{IsBitOf, IsLaidOut}
 use Rattle.places.specs.Holds.{widths_of, full_holds}
 use Rattle.places.specs.declared.piece.Cell.{Cell}
 use Rattle.places.specs.declared.piece.Hold.{Hold}

@@ -4,7 +4,7 @@ ghost use Rattle.places.specs.declared.piece.Cell.{Cell};
 ghost use Rattle.places.specs.declared.piece.Hold.{Hold};
 ghost use Rattle.places.specs.Layout.{Owner};
 ghost use Rattle.places.specs.Forms.{aos_layout};
-ghost use Rattle.map_aos.specs.Aos.{IsStored};
+ghost use Rattle.map_aos.specs.Aos.{LieInParts};
 ghost use Rattle.map_aos.specs.AosLaws.{aos_laws};
 ghost use Rattle.places.specs.CellWidthsLaws.{length-full};
 
@@ -26,7 +26,7 @@ pub struct Aos {
     offsets: Vec<u64>,
     /// The bits of one slot.
     stride: u64,
-    ghost stored: { 0 < slots → IsStored form (widths_of cells.items) offsets.items stride },
+    ghost stored: { 0 < slots → LieInParts form (widths_of cells.items) offsets.items stride },
     ghost bound: { slots * stride ≤ 2 ^ 31 },
 }
 

@@ -1,7 +1,7 @@
 ghost use Rattle.std.specs.Prelude.{ℕ, ◌≡◌, ◌+◌, ◌*◌, ◌^◌, ◌<◌, ◌≤◌, ◌⊎◌, ◌++◌, ◌==◌, IfOk, IfErr, OnOk, IsErrOf, filter, length};
 ghost use Rattle.places.specs.Layout.{cells_of, falling};
 ghost use Rattle.places.specs.Holds.{widths_of};
-ghost use Rattle.map_aos.specs.Aos.{IsStored, alignment, order_of, part_of};
+ghost use Rattle.map_aos.specs.Aos.{LieInParts, alignment, order_of, part_of};
 
 use places::{AosForm, Cell, MAX_BLOB_BITS, NewMapping, up};
 use std::alloc::{AllocError as NoMemory, Global};
@@ -75,7 +75,7 @@ fn align_of(form: AosForm, width: u32) -> u64
 
 /// Lays out the part of one slot. `TooBig` comes exactly where it has more bits than all blobs may have.
 pub fn lay_out(alloc: Global, cells: &[Cell], form: AosForm) -> Result<Part, NewMapping>
-    ensures stored { IfOk result (λ part. IsStored form (widths_of cells.now) part.offsets.items part.size) }
+    ensures stored { IfOk result (λ part. LieInParts form (widths_of cells.now) part.offsets.items part.size) }
     ensures fits { IfOk result (λ part. part.size ≤ 2 ^ 31) }
     ensures too_big { IsErrOf result NewMapping.TooBig → (slot : ℕ) → 2 ^ 31 < length (part_of form (widths_of cells.now) slot) }
     ensures only { IfErr result (λ e. (e ≡ NewMapping.TooBig) ⊎ (e ≡ NewMapping.NoMemory)) }

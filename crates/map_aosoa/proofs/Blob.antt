@@ -1,5 +1,5 @@
 -- The blob of all blocks: its length, and the places of a cell.
-use Rattle.map_aosoa.proofs.Imports.{◌≡◌, ℕ, zero, suc, ◌+◌, ◌-◌, ◌*◌, ◌/◌, ◌%◌, ◌^◌, ◌<◌, ◌≤◌, inr, ⊎_elim, List, [], ◌∷◌, ◌++◌, map, length, sum_by, get_or, slice_index, take, refl, sym, ap, ◌∙◌, subst, arith, length-append, flat_map, range_with_len, enumerate_from, sum, cases_lt, row_fits, div-add-mod', mul-le, get_or_read, get_or_append_left, get_or-append-add, sum_by-cons, Owner, Pad, Bit, owner_at, cells_of, lane, block_of, aosoa, IsLocated, widths_of, full_holds, IsTooBig, Cell, Hold, Piece, within, field_at, length-parts, slot_at, one_piece, cell_width, length-widths, IsStored, block_count, lanes_of, lane_is, length-lane, in_blocks, aosoa_laws}
+use Rattle.map_aosoa.proofs.Imports.{◌≡◌, ℕ, zero, suc, ◌+◌, ◌-◌, ◌*◌, ◌/◌, ◌%◌, ◌^◌, ◌<◌, ◌≤◌, inr, ⊎_elim, List, [], ◌∷◌, ◌++◌, map, length, sum_by, get_or, slice_index, take, refl, sym, ap, ◌∙◌, subst, arith, length-append, flat_map, range_with_len, enumerate_from, sum, cases_lt, row_fits, div-add-mod', mul-le, get_or_read, get_or_append_left, get_or-append-add, sum_by-cons, Owner, Pad, Bit, owner_at, cells_of, lane, block_of, aosoa, IsLocated, widths_of, full_holds, IsTooBig, Cell, Hold, Piece, within, field_at, length-parts, slot_at, one_piece, cell_width, length-widths, LieInBlocks, block_count, lanes_of, lane_is, length-lane, in_blocks, aosoa_laws}
 
 length-lanes : (lanes slots block c w : ℕ) → length (lanes_of lanes slots block (c, w)) ≡ lanes * w
 length-lanes lanes slots block c w = length-parts (λ l. lane slots (c, w) (block * lanes + l)) w (λ l. length-lane slots c w (block * lanes + l)) 0 lanes
@@ -57,7 +57,7 @@ lane_at lanes slots block c w l k lane_in bit_in slot_in =
 abbrev blob_of : ℕ → ℕ → List ℕ → List Owner
 blob_of lanes slots widths = flat_map (block_of lanes slots (cells_of widths)) (range_with_len 0 (block_count lanes slots))
 
-block_size : (lanes slots : ℕ) (widths offsets : List ℕ) (stride : ℕ) → IsStored lanes widths offsets stride
+block_size : (lanes slots : ℕ) (widths offsets : List ℕ) (stride : ℕ) → LieInBlocks lanes widths offsets stride
     → (block : ℕ) → length (block_of lanes slots (cells_of widths) block) ≡ stride
 block_size lanes slots widths offsets stride h block = cells_size lanes slots block 0 widths ∙ sym h.ends
 
@@ -74,7 +74,7 @@ no_blocks lanes slots some none =
     (cases_lt 0 (block_count lanes slots))
 
 -- the length of the blob in bits
-pub blob_size : (lanes slots : ℕ) (widths offsets : List ℕ) (stride : ℕ) → 0 < lanes → (0 < slots → IsStored lanes widths offsets stride)
+pub blob_size : (lanes slots : ℕ) (widths offsets : List ℕ) (stride : ℕ) → 0 < lanes → (0 < slots → LieInBlocks lanes widths offsets stride)
     → length (blob_of lanes slots widths) ≡ block_count lanes slots * stride
 blob_size lanes slots widths offsets stride some h =
     ⊎_elim
@@ -88,7 +88,7 @@ blob_size lanes slots widths offsets stride some h =
     empty ∙ sym product)
     (cases_lt 0 slots)
 
-pub layout_size : (lanes slots : ℕ) (widths offsets : List ℕ) (stride : ℕ) → 0 < lanes → (0 < slots → IsStored lanes widths offsets stride)
+pub layout_size : (lanes slots : ℕ) (widths offsets : List ℕ) (stride : ℕ) → 0 < lanes → (0 < slots → LieInBlocks lanes widths offsets stride)
     → sum_by length (aosoa lanes slots widths) ≡ block_count lanes slots * stride
 layout_size lanes slots widths offsets stride some h =
     let blob : List Owner = blob_of lanes slots widths in
@@ -97,7 +97,7 @@ layout_size lanes slots widths offsets stride some h =
 
 -- the length of the one blob in bytes
 pub blob_bytes_is : (lanes slots : ℕ) (cells : List Cell) (offsets : List ℕ) (stride blob : ℕ) → 0 < lanes
-    → (0 < slots → IsStored lanes (widths_of cells) offsets stride) → blob < length (aosoa lanes slots (widths_of cells))
+    → (0 < slots → LieInBlocks lanes (widths_of cells) offsets stride) → blob < length (aosoa lanes slots (widths_of cells))
     → 8 * (block_count lanes slots * stride / 8) ≡ length (get_or (aosoa lanes slots (widths_of cells)) blob [])
 blob_bytes_is lanes slots cells offsets stride blob some h inside =
     let layout : List (List Owner) = aosoa lanes slots (widths_of cells) in
@@ -112,7 +112,7 @@ abbrev pub begin_of : ℕ → List ℕ → List ℕ → ℕ → ℕ → ℕ → 
 begin_of lanes widths offsets stride slot cell = slot / lanes * stride + slice_index offsets cell + slot % lanes * slice_index widths cell
 
 -- the places of a cell's bits
-pub cell_at : (lanes slots : ℕ) (widths offsets : List ℕ) (stride slot cell bit : ℕ) → 0 < lanes → IsStored lanes widths offsets stride
+pub cell_at : (lanes slots : ℕ) (widths offsets : List ℕ) (stride slot cell bit : ℕ) → 0 < lanes → LieInBlocks lanes widths offsets stride
     → slot < slots → cell < length widths → bit < slice_index widths cell
     → owner_at (aosoa lanes slots widths) 0 (begin_of lanes widths offsets stride slot cell + bit) ≡ Bit slot cell bit
 cell_at lanes slots widths offsets stride slot cell bit some h slot_in cell_in bit_in =
@@ -139,7 +139,7 @@ cell_at lanes slots widths offsets stride slot cell bit some h slot_in cell_in b
     ∙ at
 
 -- a cell ends within the blob
-pub cell_end : (lanes slots : ℕ) (widths offsets : List ℕ) (stride slot cell : ℕ) → 0 < lanes → IsStored lanes widths offsets stride
+pub cell_end : (lanes slots : ℕ) (widths offsets : List ℕ) (stride slot cell : ℕ) → 0 < lanes → LieInBlocks lanes widths offsets stride
     → slot < slots → cell < length widths → 1 ≤ slice_index widths cell
     → begin_of lanes widths offsets stride slot cell + slice_index widths cell ≤ block_count lanes slots * stride
 cell_end lanes slots widths offsets stride slot cell some h slot_in cell_in full =
@@ -152,7 +152,7 @@ cell_end lanes slots widths offsets stride slot cell some h slot_in cell_in full
     omega arith
 
 -- an offset as the code reads it
-pub offset_read : (lanes : ℕ) (cells : List Cell) (offsets : List ℕ) (stride cell offset : ℕ) → IsStored lanes (widths_of cells) offsets stride
+pub offset_read : (lanes : ℕ) (cells : List Cell) (offsets : List ℕ) (stride cell offset : ℕ) → LieInBlocks lanes (widths_of cells) offsets stride
     → cell < length cells → offset ≡ get_or offsets cell offset → offset ≡ slice_index offsets cell
 offset_read lanes cells offsets stride cell offset h inside read =
     let count : length offsets ≡ length (widths_of cells) = h.each in
@@ -161,10 +161,10 @@ offset_read lanes cells offsets stride cell offset h inside read =
 
 -- an offset fits its type
 pub offset_fits : (lanes slots : ℕ) (cells : List Cell) (offsets : List ℕ) (stride cell offset : ℕ) → 0 < lanes
-    → (0 < slots → IsStored lanes (widths_of cells) offsets stride) → block_count lanes slots * stride ≤ 2 ^ 31 → 0 < slots → cell < length cells
+    → (0 < slots → LieInBlocks lanes (widths_of cells) offsets stride) → block_count lanes slots * stride ≤ 2 ^ 31 → 0 < slots → cell < length cells
     → offset ≡ get_or offsets cell offset → offset ≤ 2 ^ 31
 offset_fits lanes slots cells offsets stride cell offset some h bound filled cell_in read =
-    let stored : IsStored lanes (widths_of cells) offsets stride = h filled in
+    let stored : LieInBlocks lanes (widths_of cells) offsets stride = h filled in
     let same : offset ≡ slice_index offsets cell = offset_read lanes cells offsets stride cell offset stored cell_in read in
     let width = cell_width cells cell (slice_index (widths_of cells) cell) cell_in refl in
     let end : begin_of lanes (widths_of cells) offsets stride 0 cell + slice_index (widths_of cells) cell ≤ block_count lanes slots * stride =
@@ -172,7 +172,7 @@ offset_fits lanes slots cells offsets stride cell offset some h bound filled cel
     omega arith
 
 pub located_is : (lanes slots : ℕ) (cells : List Cell) (offsets : List ℕ) (stride slot cell offset : ℕ) (piece : Piece) → 0 < lanes
-    → (0 < slots → IsStored lanes (widths_of cells) offsets stride) → block_count lanes slots * stride ≤ 2 ^ 31 → slot < slots → cell < length cells
+    → (0 < slots → LieInBlocks lanes (widths_of cells) offsets stride) → block_count lanes slots * stride ≤ 2 ^ 31 → slot < slots → cell < length cells
     → offset ≡ get_or offsets cell offset → piece.blob ≡ 0 → piece.bits ≡ slice_index (widths_of cells) cell
     → piece.bit ≡ slot / lanes * stride + offset + slot % lanes * piece.bits
     → IsLocated (aosoa lanes slots (widths_of cells)) slot cell (slice_index (map (λ (h : Hold). h.width) (full_holds cells)) cell) (piece ∷ [])
@@ -180,7 +180,7 @@ located_is lanes slots cells offsets stride slot cell offset piece some h bound 
     let widths : List ℕ = widths_of cells in
     let layout : List (List Owner) = aosoa lanes slots widths in
     let w : ℕ = slice_index widths cell in
-    let stored : IsStored lanes widths offsets stride = h (omega arith) in
+    let stored : LieInBlocks lanes widths offsets stride = h (omega arith) in
     let same : offset ≡ slice_index offsets cell = offset_read lanes cells offsets stride cell offset stored cell_in read in
     let width = cell_width cells cell w cell_in refl in
     let full : 1 ≤ w = width.some in
@@ -209,13 +209,13 @@ big_block lanes slots widths some filled long =
     inr (omega arith)
 
 -- the limits, where each block has `stride` bits
-pub big_blob : (lanes slots : ℕ) (widths offsets : List ℕ) (stride : ℕ) → 0 < lanes → IsStored lanes widths offsets stride
+pub big_blob : (lanes slots : ℕ) (widths offsets : List ℕ) (stride : ℕ) → 0 < lanes → LieInBlocks lanes widths offsets stride
     → 2 ^ 31 < block_count lanes slots * stride → IsTooBig slots (aosoa lanes slots widths)
 big_blob lanes slots widths offsets stride some h long =
     let size : sum_by length (aosoa lanes slots widths) ≡ block_count lanes slots * stride = layout_size lanes slots widths offsets stride some (λ filled. h) in
     inr (omega arith)
 
-pub not_too_big : (lanes slots : ℕ) (widths offsets : List ℕ) (stride : ℕ) → 0 < lanes → (0 < slots → IsStored lanes widths offsets stride)
+pub not_too_big : (lanes slots : ℕ) (widths offsets : List ℕ) (stride : ℕ) → 0 < lanes → (0 < slots → LieInBlocks lanes widths offsets stride)
     → slots ≤ 2 ^ 24 → block_count lanes slots * stride ≤ 2 ^ 31 → IsTooBig slots (aosoa lanes slots widths) → ⊥
 not_too_big lanes slots widths offsets stride some h few small big =
     let size : sum_by length (aosoa lanes slots widths) ≡ block_count lanes slots * stride = layout_size lanes slots widths offsets stride some h in

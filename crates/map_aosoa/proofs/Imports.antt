@@ -8,7 +8,7 @@ pub use Rattle.std.proofs.lemmas.List.Sums.{sum_by-cons, sum_by_more, sum_by-tak
 pub use Rattle.std.specs.Int.{div_ceil}
 pub use Rattle.std.specs.Result.{IsErrOf}
 pub use Rattle.places.specs.Layout.{Owner, Pad, Bit, owner_at, cells_of, lane, block_of, aosoa}
-pub use Rattle.places.specs.Laws.{IsLocated}
+pub use Rattle.places.specs.Lawful.{IsLocated}
 pub use Rattle.places.specs.Holds.{widths_of, full_holds, IsTooBig}
 pub use Rattle.places.specs.declared.piece.Cell.{Cell}
 pub use Rattle.places.specs.declared.piece.Hold.{Hold}
@@ -22,6 +22,6 @@ pub use Rattle.places.specs.WidthsLaws.{widths_whole, width_whole}
 pub use Rattle.places.specs.DenseLaws.{dense_lanes}
 pub use Rattle.places.specs.declared.mapping.NewMapping.TheVariants.{TooBig}
 pub use Rattle.places.specs.BeginsLaws.{begins_fit}
-pub use Rattle.map_aosoa.specs.Aosoa.{IsStored, block_count}
+pub use Rattle.map_aosoa.specs.Aosoa.{LieInBlocks, block_count}
 pub use Rattle.map_aosoa.specs.AosoaLaws.{lanes_of, lane_is, length-lane, in_blocks, aosoa_laws}
 pub use Rattle.map_aosoa.specs.declared.block.Block.{Block}

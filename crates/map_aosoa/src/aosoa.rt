@@ -3,7 +3,7 @@ ghost use Rattle.places.specs.Holds.{widths_of, full_holds, IsTooBig};
 ghost use Rattle.places.specs.declared.piece.Cell.{Cell};
 ghost use Rattle.places.specs.declared.piece.Hold.{Hold};
 ghost use Rattle.places.specs.Layout.{Owner, aosoa};
-ghost use Rattle.map_aosoa.specs.Aosoa.{IsStored, block_count};
+ghost use Rattle.map_aosoa.specs.Aosoa.{LieInBlocks, block_count};
 ghost use Rattle.map_aosoa.specs.AosoaLaws.{aosoa_laws};
 ghost use Rattle.places.specs.CellWidthsLaws.{length-full};
 
@@ -26,7 +26,7 @@ pub struct Aosoa {
     /// The bits of one block.
     stride: u64,
     ghost some: { 0 < lanes },
-    ghost stored: { 0 < slots → IsStored lanes (widths_of cells.items) offsets.items stride },
+    ghost stored: { 0 < slots → LieInBlocks lanes (widths_of cells.items) offsets.items stride },
     ghost whole: { stride % 8 ≡ 0 },
     ghost bound: { block_count lanes slots * stride ≤ 2 ^ 31 },
 }

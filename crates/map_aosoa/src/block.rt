@@ -1,7 +1,7 @@
 ghost use Rattle.std.specs.Prelude.{◌≡◌, ◌*◌, ◌%◌, ◌^◌, ◌<◌, ◌≤◌, ◌⊎◌, IfOk, IfErr, IsErrOf};
 ghost use Rattle.std.specs.List.{sum};
 ghost use Rattle.places.specs.Holds.{widths_of};
-ghost use Rattle.map_aosoa.specs.Aosoa.{IsStored, block_count};
+ghost use Rattle.map_aosoa.specs.Aosoa.{LieInBlocks, block_count};
 
 use places::{Cell, MAX_BLOB_BITS, NewMapping};
 use std::alloc::Global;
@@ -24,7 +24,7 @@ pub fn count_blocks(slots: u64, lanes: u32) -> u64
 /// Lays out one block. `TooBig` comes exactly where it has more bits than all blobs may have.
 pub fn lay_out(alloc: Global, cells: &[Cell], lanes: u32) -> Result<Block, NewMapping>
     requires { lanes ≤ 64 }
-    ensures stored { IfOk result (λ block. IsStored lanes (widths_of cells.now) block.offsets.items block.size) }
+    ensures stored { IfOk result (λ block. LieInBlocks lanes (widths_of cells.now) block.offsets.items block.size) }
     ensures whole { IfOk result (λ block. block.size % 8 ≡ 0) }
     ensures fits { IfOk result (λ block. block.size ≤ 2 ^ 31) }
     ensures too_big { IsErrOf result NewMapping.TooBig → 2 ^ 31 < lanes * sum (widths_of cells.now) }

@@ -9,7 +9,7 @@ pub use Rattle.std.proofs.lemmas.Bool.{cases_lt}
 pub use Rattle.std.specs.Result.{IsErrOf}
 pub use Rattle.std.specs.Prelude.{IsTrue}
 pub use Rattle.places.specs.Layout.{Owner, Pad, Bit, owner_at, cells_of, field, array, bit_soa, fields, padded_to, bit_aos}
-pub use Rattle.places.specs.Laws.{IsLocated, IsLaidOut}
+pub use Rattle.places.specs.Lawful.{IsLocated, IsLaidOut}
 pub use Rattle.places.specs.declared.piece.Hold.{Hold}
 pub use Rattle.places.specs.declared.piece.Piece.{Piece}
 pub use Rattle.places.specs.ExactLaws.{within, field_at, length-field}
@@ -21,7 +21,7 @@ pub use Rattle.places.specs.declared.piece.Cell.{Cell}
 pub use Rattle.places.specs.declared.mapping.NewMapping.TheVariants.{TooBig}
 pub use Rattle.places.specs.BeginsLaws.{begins_fit, one_lane}
 pub use Rattle.places.specs.DenseLaws.{not_dense}
-pub use Rattle.map_bits.specs.Bits.{padded_array, IsStored, packed_slots, AreHolds, has_bad_width}
+pub use Rattle.map_bits.specs.Bits.{padded_array, LieInBits, packed_slots, AreHolds, has_bad_width}
 pub use Rattle.map_bits.specs.declared.part.Part.{Part}
 pub use Rattle.map_bits.specs.NarrowLaws.{kept_are, narrow_more}
 pub use Rattle.map_bits.specs.BitLaws.{bit_aos_laws, bit_soa_laws}

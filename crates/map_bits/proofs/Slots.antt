@@ -1,5 +1,5 @@
 -- An array of structs packed to the bit: its length, and the places of a cell.
-use Rattle.map_bits.proofs.Imports.{◌≡◌, ℕ, zero, suc, ◌+◌, ◌-◌, ◌*◌, ◌/◌, ◌%◌, ◌^◌, ◌<◌, ◌≤◌, inr, ⊎_elim, List, [], ◌∷◌, ◌++◌, map, length, sum_by, replicate, get_or, slice_index, take, refl, sym, ap, ◌∙◌, subst, arith, length-append, flat_map, range_with_len, enumerate_from, sum, cases_lt, mul-le, take_all, length-map, get_or_append_left, get_or-append-add, length-map-range_with_len, get_or-map-range_with_len, map-range_with_len_more, sum_by-cons, sum_by_more, sum_by-take-le, Owner, Pad, Bit, owner_at, cells_of, field, fields, padded_to, bit_aos, IsLocated, IsLaidOut, IsTooBig, widths_in, Hold, Piece, within, field_at, length-field, length-parts, slot_at, up, length-padded, one_piece, IsStored, packed_slots}
+use Rattle.map_bits.proofs.Imports.{◌≡◌, ℕ, zero, suc, ◌+◌, ◌-◌, ◌*◌, ◌/◌, ◌%◌, ◌^◌, ◌<◌, ◌≤◌, inr, ⊎_elim, List, [], ◌∷◌, ◌++◌, map, length, sum_by, replicate, get_or, slice_index, take, refl, sym, ap, ◌∙◌, subst, arith, length-append, flat_map, range_with_len, enumerate_from, sum, cases_lt, mul-le, take_all, length-map, get_or_append_left, get_or-append-add, length-map-range_with_len, get_or-map-range_with_len, map-range_with_len_more, sum_by-cons, sum_by_more, sum_by-take-le, Owner, Pad, Bit, owner_at, cells_of, field, fields, padded_to, bit_aos, IsLocated, IsLaidOut, IsTooBig, widths_in, Hold, Piece, within, field_at, length-field, length-parts, slot_at, up, length-padded, one_piece, LieInBits, packed_slots}
 use Rattle.map_bits.proofs.Widths.{IsTaken, taken_at}
 
 -- the length of the cells that are numbered from n on
@@ -89,10 +89,10 @@ located_is slots widths stride slot cell piece taken ends bound slot_in blob bit
     subst (λ (n : ℕ). IsLocated layout slot cell n (piece ∷ [])) taken.same one
 
 -- the bits of all slots, as the mapping keeps them
-total_is : (slots : ℕ) (widths offsets : List ℕ) (stride : ℕ) → (0 < slots → IsStored widths offsets stride) → slots * stride ≡ slots * sum widths
+total_is : (slots : ℕ) (widths offsets : List ℕ) (stride : ℕ) → (0 < slots → LieInBits widths offsets stride) → slots * stride ≡ slots * sum widths
 total_is slots widths offsets stride h =
     ⊎_elim
-    (λ (filled : 0 < slots). let stored : IsStored widths offsets stride = h filled in ap (λ (n : ℕ). slots * n) stored.ends)
+    (λ (filled : 0 < slots). let stored : LieInBits widths offsets stride = h filled in ap (λ (n : ℕ). slots * n) stored.ends)
     (λ (none : slots ≤ 0).
     let empty : slots ≡ 0 = omega arith in
     ap (λ (n : ℕ). n * stride) empty ∙ (let e : 0 * stride ≡ 0 * sum widths = omega arith in e) ∙ ap (λ (n : ℕ). n * sum widths) (sym empty))
@@ -100,7 +100,7 @@ total_is slots widths offsets stride h =
 
 -- the length of the one blob in bytes
 pub blob_bytes_is : (slots : ℕ) (widths offsets : List ℕ) (stride blob bits : ℕ) → IsLaidOut (bit_aos slots widths) slots widths
-    → (0 < slots → IsStored widths offsets stride) → bits ≡ up 64 (slots * stride)
+    → (0 < slots → LieInBits widths offsets stride) → bits ≡ up 64 (slots * stride)
     → blob < length (bit_aos slots widths) → 8 * (bits / 8) ≡ length (get_or (bit_aos slots widths) blob [])
 blob_bytes_is slots widths offsets stride blob bits laid h padded inside =
     let layout : List (List Owner) = bit_aos slots widths in
@@ -112,14 +112,14 @@ blob_bytes_is slots widths offsets stride blob bits laid h padded inside =
     omega arith
 
 -- where a cell begins, as it is kept
-pub begin_at : (widths offsets : List ℕ) (stride cell d : ℕ) → IsStored widths offsets stride → cell < length widths
+pub begin_at : (widths offsets : List ℕ) (stride cell d : ℕ) → LieInBits widths offsets stride → cell < length widths
     → get_or offsets cell d ≡ sum (take cell widths)
 begin_at widths offsets stride cell d h inside =
     let number : 0 + cell ≡ cell = omega arith in
     ap (λ (xs : List ℕ). get_or xs cell d) h.begins
     ∙ get_or-map-range_with_len (λ (c : ℕ). sum (take c widths)) 0 (length widths) cell cell d inside number
 
-pub begins_each : (widths offsets : List ℕ) (stride : ℕ) → IsStored widths offsets stride → length offsets ≡ length widths
+pub begins_each : (widths offsets : List ℕ) (stride : ℕ) → LieInBits widths offsets stride → length offsets ≡ length widths
 begins_each widths offsets stride h =
     ap (λ (xs : List ℕ). length xs) h.begins ∙ length-map-range_with_len (λ (c : ℕ). sum (take c widths)) 0 (length widths)
 
@@ -144,14 +144,14 @@ big_slot slots widths filled long =
     let grows : 1 * sum widths ≤ slots * sum widths = mul-le 1 (sum widths) slots (sum widths) (omega arith) (omega arith) in
     inr (omega arith)
 
-pub big_blob : (slots : ℕ) (widths offsets : List ℕ) (stride : ℕ) → IsStored widths offsets stride → 2 ^ 31 < up 64 (slots * stride)
+pub big_blob : (slots : ℕ) (widths offsets : List ℕ) (stride : ℕ) → LieInBits widths offsets stride → 2 ^ 31 < up 64 (slots * stride)
     → IsTooBig slots (bit_aos slots widths)
 big_blob slots widths offsets stride h long =
     let size : sum_by length (bit_aos slots widths) ≡ up 64 (slots * sum widths) = layout_size slots widths in
     let same : up 64 (slots * stride) ≡ up 64 (slots * sum widths) = ap (λ (n : ℕ). up 64 (slots * n)) h.ends in
     inr (omega arith)
 
-pub not_too_big : (slots : ℕ) (widths offsets : List ℕ) (stride : ℕ) → (0 < slots → IsStored widths offsets stride) → slots ≤ 2 ^ 24
+pub not_too_big : (slots : ℕ) (widths offsets : List ℕ) (stride : ℕ) → (0 < slots → LieInBits widths offsets stride) → slots ≤ 2 ^ 24
     → up 64 (slots * stride) ≤ 2 ^ 31 → IsTooBig slots (bit_aos slots widths) → ⊥
 not_too_big slots widths offsets stride h few small big =
     let size : sum_by length (bit_aos slots widths) ≡ up 64 (slots * sum widths) = layout_size slots widths in
@@ -183,7 +183,7 @@ begins_more widths old new i end each last pushed =
 -- all cells are laid out
 pub stored_all : (holds : List Hold) (i : ℕ) (offsets : List ℕ) (end : ℕ) → i ≤ length holds → length holds ≤ i
     → offsets ≡ map (λ c. sum (take c (widths_in holds))) (range_with_len 0 i) → end ≡ sum (take i (widths_in holds))
-    → IsStored (widths_in holds) offsets end
+    → LieInBits (widths_in holds) offsets end
 stored_all holds i offsets end low high begins ends =
     let widths : List ℕ = widths_in holds in
     let size : length widths ≡ length holds = length-map holds (λ (h : Hold). h.width) in

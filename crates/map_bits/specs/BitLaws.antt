@@ -2,7 +2,7 @@
 use Rattle.std.proofs.Common.{◌≡◌, ℕ, ◌+◌, ◌-◌, ◌%◌, ◌<◌, ◌≤◌, List, [], length, get_or, All, refl, sym, ◌∙◌, arith}
 use Rattle.std.proofs.lemmas.List.Elements.{All-cons, All-nil, All-map}
 use Rattle.places.specs.Layout.{Owner, cells_of, field, fields, array, padded_to, bit_aos, bit_soa}
-use Rattle.places.specs.Laws.{IsBitOf, IsLaidOut}
+use Rattle.places.specs.Lawful.{IsBitOf, IsLaidOut}
 use Rattle.places.specs.ExactLaws.{Has, has_same, has_padded, has_field, has_range, has_cells, Member}
 use Rattle.places.specs.ComposeLaws.{LaysOut, lays_out_same, has_blob, blobs_of_cells, laid_out}
 use Rattle.places.specs.CellsLaws.{apart_enumerate, bit_of_cells, cells_of_bit}

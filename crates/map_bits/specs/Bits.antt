@@ -22,7 +22,7 @@ abbrev pub padded_array : ℕ → ℕ × ℕ → List Owner
 padded_array slots cell = padded_to 64 (array slots cell)
 
 -- each cell begins behind all cells before it, and a slot ends behind all cells
-pub record IsStored (widths offsets : List ℕ) (stride : ℕ) : Type 0 where
+pub record LieInBits (widths offsets : List ℕ) (stride : ℕ) : Type 0 where
   pub begins : offsets ≡ map (λ cell. sum (take cell widths)) (range_with_len 0 (length widths))
   pub ends : stride ≡ sum widths
 

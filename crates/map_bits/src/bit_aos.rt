@@ -4,7 +4,7 @@ ghost use Rattle.places.specs.Holds.{IsTooBig, narrow_holds, widths_in};
 ghost use Rattle.places.specs.declared.piece.Cell.{Cell};
 ghost use Rattle.places.specs.declared.piece.Hold.{Hold};
 ghost use Rattle.places.specs.Layout.{Owner, bit_aos};
-ghost use Rattle.map_bits.specs.Bits.{IsStored, AreHolds, has_bad_width};
+ghost use Rattle.map_bits.specs.Bits.{LieInBits, AreHolds, has_bad_width};
 ghost use Rattle.map_bits.specs.BitLaws.{bit_aos_laws};
 
 use crate::narrow::{has_bad_width, narrow_holds};
@@ -28,7 +28,7 @@ pub struct BitAos {
     /// The bits of one slot.
     stride: u64,
     ghost held: { AreHolds cells.items holds.items },
-    ghost stored: { 0 < slots → IsStored (widths_in holds.items) offsets.items stride },
+    ghost stored: { 0 < slots → LieInBits (widths_in holds.items) offsets.items stride },
     ghost bound: { slots * stride ≤ 2 ^ 31 },
 }
 

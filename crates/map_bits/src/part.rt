@@ -1,7 +1,7 @@
 ghost use Rattle.std.specs.Prelude.{◌≡◌, ◌^◌, ◌<◌, ◌≤◌, ◌⊎◌, IfOk, IfErr, IsErrOf};
 ghost use Rattle.std.specs.List.{sum};
 ghost use Rattle.places.specs.Holds.{widths_in};
-ghost use Rattle.map_bits.specs.Bits.{IsStored};
+ghost use Rattle.map_bits.specs.Bits.{LieInBits};
 
 use places::{Hold, MAX_BLOB_BITS, NewMapping};
 use std::alloc::Global;
@@ -15,7 +15,7 @@ pub struct Part {
 
 /// Lays out one slot of cells that are stored so. `TooBig` comes exactly where it has more bits than all blobs may have.
 pub fn lay_out(alloc: Global, holds: &[Hold]) -> Result<Part, NewMapping>
-    ensures stored { IfOk result (λ part. IsStored (widths_in holds.now) part.offsets.items part.size) }
+    ensures stored { IfOk result (λ part. LieInBits (widths_in holds.now) part.offsets.items part.size) }
     ensures fits { IfOk result (λ part. part.size ≤ 2 ^ 31) }
     ensures too_big { IsErrOf result NewMapping.TooBig → 2 ^ 31 < sum (widths_in holds.now) }
     ensures only { IfErr result (λ e. (e ≡ NewMapping.TooBig) ⊎ (e ≡ NewMapping.NoMemory)) }

@@ -11,7 +11,7 @@ pub use Rattle.places.specs.declared.piece.Piece.{Piece}
 pub use Rattle.places.specs.PlacesLaws.{range_split, bits_located, pieces_weaker}
 pub use Rattle.places.specs.Layout.{Owner, Bit}
 pub use Rattle.places.specs.Rules.{byte_cells, bytesplit, byteswap}
-pub use Rattle.places.specs.Laws.{IsLocated}
+pub use Rattle.places.specs.Lawful.{IsLocated}
 pub use Rattle.places.specs.Holds.{widths_of, full_holds}
 pub use Rattle.places.specs.WidthsLaws.{widths_full, widths_whole, widths_narrow}
 pub use Rattle.places.specs.CellWidthsLaws.{length-widths, length-full, width_read}
@@ -20,7 +20,7 @@ pub use Rattle.places.specs.declared.piece.Hold.{Hold}
 pub use Rattle.places.specs.PieceRules.{piece_in, pieces_in, begin_in}
 pub use Rattle.places.specs.declared.rule.PieceRule.{PieceRule}
 pub use Rattle.map_bytes.specs.Cuts.{byte_of, piece_bytes, swapped, places_in, groups_back, rule_byte, rule_bytes}
-pub use Rattle.map_bytes.specs.Cells.{bytes_of, byte_count, same_hold, differ}
+pub use Rattle.map_bytes.specs.Cells.{byte_cells_of, byte_count, same_hold, differ}
 pub use Rattle.map_bytes.specs.ByteCellsLaws.{bytes_before, byte_cell_at, byte_within, byte_count_is, byte_count_before, length-bytes, widths_of_bytes}
 pub use Rattle.map_bytes.specs.JoinLaws.{byte_joined, byte_alone}
 pub use Rattle.map_bytes.specs.FullLaws.{full_at, full_within, differ_more, differ_here, differ_none, full_kinds}

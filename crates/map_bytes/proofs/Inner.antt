@@ -1,5 +1,5 @@
 -- What the inner mapping says of a cell, in the words of the outer one.
-use Rattle.map_bytes.proofs.Imports.{◌≡◌, ℕ, ◌+◌, ◌*◌, ◌/◌, ◌%◌, ◌<◌, ◌≤◌, List, ◌++◌, map, length, get_or, slice_index, take, All, sym, ap, ◌∙◌, subst, arith, sum_by, get_or-map, length-map, sum_by_more_le, Owner, Bit, byte_cells, bytesplit, IsLocated, widths_of, full_holds, widths_full, widths_whole, widths_narrow, length-widths, length-full, bits_located, Cell, Hold, Piece, piece_in, pieces_in, PieceRule, bytes_of, byte_count, bytes_before, byte_cell_at, byte_within, byte_count_is, byte_count_before, length-bytes, widths_of_bytes, byte_joined, byte_alone}
+use Rattle.map_bytes.proofs.Imports.{◌≡◌, ℕ, ◌+◌, ◌*◌, ◌/◌, ◌%◌, ◌<◌, ◌≤◌, List, ◌++◌, map, length, get_or, slice_index, take, All, sym, ap, ◌∙◌, subst, arith, sum_by, get_or-map, length-map, sum_by_more_le, Owner, Bit, byte_cells, bytesplit, IsLocated, widths_of, full_holds, widths_full, widths_whole, widths_narrow, length-widths, length-full, bits_located, Cell, Hold, Piece, piece_in, pieces_in, PieceRule, byte_cells_of, byte_count, bytes_before, byte_cell_at, byte_within, byte_count_is, byte_count_before, length-bytes, widths_of_bytes, byte_joined, byte_alone}
 
 -- what holds of the pieces that rules give in slot 0 holds of the rules
 pub all_in : (Q : PieceRule → Type 0) (P : Piece → Type 0) (rules : List PieceRule) (pieces : List Piece) → pieces_in rules 0 ≡ pieces
@@ -33,17 +33,17 @@ module _ (layout : List (List Owner)) (s c : ℕ) (cells : List Cell) (holds : L
       omega arith
 
 -- the inner cells are the bytes
-module _ (cells : List Cell) (holds : List Hold) (full : holds ≡ full_holds (bytes_of cells)) where
+module _ (cells : List Cell) (holds : List Hold) (full : holds ≡ full_holds (byte_cells_of cells)) where
   pub bytes_held : length holds ≡ byte_count cells
-  bytes_held = ap (λ (hs : List Hold). length hs) full ∙ length-full (bytes_of cells) ∙ length-bytes cells
+  bytes_held = ap (λ (hs : List Hold). length hs) full ∙ length-full (byte_cells_of cells) ∙ length-bytes cells
 
   -- each stored in 8 bits
   pub byte_width : (n : ℕ) → n < length holds → slice_index (map (λ (h : Hold). h.width) holds) n ≡ 8
   byte_width n inside =
-      let same : map (λ (h : Hold). h.width) holds ≡ widths_of (bytes_of cells) =
-      ap (λ (hs : List Hold). map (λ (h : Hold). h.width) hs) full ∙ widths_full (bytes_of cells) in
-      let size : length (widths_of (bytes_of cells)) ≡ length (bytes_of cells) = length-widths (bytes_of cells) in
-      let count : length (bytes_of cells) ≡ byte_count cells = length-bytes cells in
+      let same : map (λ (h : Hold). h.width) holds ≡ widths_of (byte_cells_of cells) =
+      ap (λ (hs : List Hold). map (λ (h : Hold). h.width) hs) full ∙ widths_full (byte_cells_of cells) in
+      let size : length (widths_of (byte_cells_of cells)) ≡ length (byte_cells_of cells) = length-widths (byte_cells_of cells) in
+      let count : length (byte_cells_of cells) ≡ byte_count cells = length-bytes cells in
       let held : length holds ≡ byte_count cells = bytes_held in
       ap (λ (ws : List ℕ). slice_index ws n) same ∙ widths_of_bytes cells n 0 (omega arith)
 
@@ -59,7 +59,7 @@ bytes_within cells cell inside =
     omega arith
 
 -- byte `j` of a cell among the inner cells, and its pieces
-module _ (layout : List (List Owner)) (cells : List Cell) (holds : List Hold) (full : holds ≡ full_holds (bytes_of cells)) (s c j first : ℕ)
+module _ (layout : List (List Owner)) (cells : List Cell) (holds : List Hold) (full : holds ≡ full_holds (byte_cells_of cells)) (s c j first : ℕ)
     (inside : c < length cells) (low : j < slice_index (widths_of cells) c / 8) (begin : first ≡ bytes_before (widths_of cells) c) where
   byte_in : first + j < length holds
   byte_in =

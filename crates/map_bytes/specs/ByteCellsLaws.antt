@@ -11,7 +11,7 @@ use Rattle.record_dim.specs.declared.leaf_type.LeafType.TheVariants.{U8}
 use Rattle.places.specs.Rules.{byte_cells}
 use Rattle.places.specs.Holds.{widths_of}
 use Rattle.places.specs.declared.piece.Cell.{Cell}
-use Rattle.map_bytes.specs.Cells.{bytes_of, byte_count}
+use Rattle.map_bytes.specs.Cells.{byte_cells_of, byte_count}
 
 -- how many bytes the cells before this one have
 abbrev pub bytes_before : List ℕ → ℕ → ℕ
@@ -99,25 +99,25 @@ pub byte_count_before : (cells : List Cell) (cell : ℕ) → byte_count (take ce
 byte_count_before cells cell =
     byte_count_is (take cell cells) ∙ ap (λ (ws : List ℕ). sum_by (λ (w : ℕ). w / 8) ws) (sym (take-map (λ (c : Cell). width_of c.kind) cell cells))
 
-pub length-bytes : (cells : List Cell) → length (bytes_of cells) ≡ byte_count cells
+pub length-bytes : (cells : List Cell) → length (byte_cells_of cells) ≡ byte_count cells
 length-bytes [] = refl
 length-bytes (cell ∷ cells) =
     let byte : Cell = record { leaf = cell.leaf; kind = U8 } in
     let n : ℕ = width_of cell.kind / 8 in
     let here : length (replicate n byte) ≡ n = length-replicate n byte in
-    let later : length (bytes_of cells) ≡ byte_count cells = length-bytes cells in
-    let both : length (replicate n byte ++ bytes_of cells) ≡ length (replicate n byte) + length (bytes_of cells) = length-append (replicate n byte) (bytes_of cells) in
+    let later : length (byte_cells_of cells) ≡ byte_count cells = length-bytes cells in
+    let both : length (replicate n byte ++ byte_cells_of cells) ≡ length (replicate n byte) + length (byte_cells_of cells) = length-append (replicate n byte) (byte_cells_of cells) in
     let step : byte_count (cell ∷ cells) ≡ n + byte_count cells = sum_by-cons (λ (c : Cell). width_of c.kind / 8) cell cells in
     omega arith
 
 -- each has 8 bits
-bytes_are : (cells : List Cell) → All (λ cell. width_of cell.kind ≡ 8) (bytes_of cells)
+bytes_are : (cells : List Cell) → All (λ cell. width_of cell.kind ≡ 8) (byte_cells_of cells)
 bytes_are [] = All-nil (λ (c : Cell). width_of c.kind ≡ 8)
 bytes_are (cell ∷ cells) =
     let byte : Cell = record { leaf = cell.leaf; kind = U8 } in
     let n : ℕ = width_of cell.kind / 8 in
-    All-append (λ (c : Cell). width_of c.kind ≡ 8) (replicate n byte) (bytes_of cells)
+    All-append (λ (c : Cell). width_of c.kind ≡ 8) (replicate n byte) (byte_cells_of cells)
     (All-replicate (λ (c : Cell). width_of c.kind ≡ 8) n byte refl) (bytes_are cells)
 
-pub widths_of_bytes : (cells : List Cell) → All (λ w. w ≡ 8) (widths_of (bytes_of cells))
-widths_of_bytes cells = All-map (λ (w : ℕ). w ≡ 8) (λ (c : Cell). width_of c.kind) (bytes_of cells) (bytes_are cells)
+pub widths_of_bytes : (cells : List Cell) → All (λ w. w ≡ 8) (widths_of (byte_cells_of cells))
+widths_of_bytes cells = All-map (λ (w : ℕ). w ≡ 8) (λ (c : Cell). width_of c.kind) (byte_cells_of cells) (bytes_are cells)

@@ -5,14 +5,14 @@ use Rattle.std.proofs.lemmas.List.{length-map}
 use Rattle.std.proofs.lemmas.List.Elements.{All-map}
 use Rattle.places.specs.Layout.{Owner, Bit}
 use Rattle.places.specs.Rules.{renamed, byte_cells, bytesplit}
-use Rattle.places.specs.Laws.{IsBitOf, IsLaidOut}
+use Rattle.places.specs.Lawful.{IsBitOf, IsLaidOut}
 use Rattle.places.specs.Holds.{widths_of, full_holds}
 use Rattle.places.specs.declared.piece.Cell.{Cell}
 use Rattle.places.specs.declared.piece.Hold.{Hold}
 use Rattle.places.specs.WidthsLaws.{widths_whole, widths_wide, widths_narrow, widths_full}
 use Rattle.places.specs.ComposeLaws.{Back, relabel_lays_out, laid_out, lays_out}
 use Rattle.places.specs.CellWidthsLaws.{length-widths}
-use Rattle.map_bytes.specs.Cells.{bytes_of}
+use Rattle.map_bytes.specs.Cells.{byte_cells_of}
 use Rattle.map_bytes.specs.ByteCellsLaws.{bytes_before, IsByteCell, byte_cell_at, byte_cell_of, byte_within, byte_count_is, length-bytes, widths_of_bytes}
 
 module _ (layout : List (List Owner)) (n : ℕ) (ws es : List ℕ) (laid : IsLaidOut layout n es) (eights : All (λ w. w ≡ 8) es)
@@ -103,13 +103,13 @@ module _ (layout : List (List Owner)) (n : ℕ) (ws es : List ℕ) (laid : IsLai
       narrow wide
 
 -- the laws, over bytes that are stored whole
-pub bytesplit_laws : (layout : List (List Owner)) (slots : ℕ) (cells : List Cell) (holds : List Hold) → holds ≡ full_holds (bytes_of cells)
+pub bytesplit_laws : (layout : List (List Owner)) (slots : ℕ) (cells : List Cell) (holds : List Hold) → holds ≡ full_holds (byte_cells_of cells)
     → IsLaidOut layout slots (map (λ (h : Hold). h.width) holds) → IsLaidOut (bytesplit (widths_of cells) layout) slots (map (λ (h : Hold). h.width) (full_holds cells))
 bytesplit_laws layout slots cells holds full laid =
-    let same : map (λ (h : Hold). h.width) holds ≡ widths_of (bytes_of cells) =
-    ap (λ (hs : List Hold). map (λ (h : Hold). h.width) hs) full ∙ widths_full (bytes_of cells) in
-    let each : length (widths_of (bytes_of cells)) ≡ sum_by (λ (w : ℕ). w / 8) (widths_of cells) =
-    length-widths (bytes_of cells) ∙ length-bytes cells ∙ byte_count_is cells in
+    let same : map (λ (h : Hold). h.width) holds ≡ widths_of (byte_cells_of cells) =
+    ap (λ (hs : List Hold). map (λ (h : Hold). h.width) hs) full ∙ widths_full (byte_cells_of cells) in
+    let each : length (widths_of (byte_cells_of cells)) ≡ sum_by (λ (w : ℕ). w / 8) (widths_of cells) =
+    length-widths (byte_cells_of cells) ∙ length-bytes cells ∙ byte_count_is cells in
     subst (λ (ws : List ℕ). IsLaidOut (bytesplit (widths_of cells) layout) slots ws) (sym (widths_full cells))
-    (bytesplit_laid layout slots (widths_of cells) (widths_of (bytes_of cells)) (subst (IsLaidOut layout slots) same laid) (widths_of_bytes cells) each
+    (bytesplit_laid layout slots (widths_of cells) (widths_of (byte_cells_of cells)) (subst (IsLaidOut layout slots) same laid) (widths_of_bytes cells) each
     (widths_whole cells) (widths_narrow cells) (widths_wide cells))

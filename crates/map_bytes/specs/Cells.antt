@@ -8,8 +8,8 @@ use Rattle.places.specs.declared.piece.Cell.{Cell}
 use Rattle.places.specs.declared.piece.Hold.{Hold}
 
 -- the bytes of cells as cells of their own, least significant first
-abbrev pub bytes_of : List Cell → List Cell
-bytes_of cells = flat_map (λ cell. replicate (width_of cell.kind / 8) (record { leaf = cell.leaf; kind = U8 })) cells
+abbrev pub byte_cells_of : List Cell → List Cell
+byte_cells_of cells = flat_map (λ cell. replicate (width_of cell.kind / 8) (record { leaf = cell.leaf; kind = U8 })) cells
 
 -- how many bytes cells have
 abbrev pub byte_count : List Cell → ℕ

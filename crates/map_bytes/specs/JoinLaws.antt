@@ -6,7 +6,7 @@ use Rattle.std.proofs.lemmas.List.Concat.{flat_map-append}
 use Rattle.std.proofs.lemmas.List.Elements.{All-nil, All-append}
 use Rattle.places.specs.Layout.{Owner, Bit, field}
 use Rattle.places.specs.Rules.{renamed, byte_cells, bytesplit}
-use Rattle.places.specs.Laws.{IsPiece, IsLocated, owners_in}
+use Rattle.places.specs.Lawful.{IsPiece, IsLocated, owners_in}
 use Rattle.places.specs.declared.piece.Piece.{Piece}
 use Rattle.places.specs.PlacesLaws.{same_ranges, range_split, bits_located, located, pieces_weaker, relabel_spelled}
 use Rattle.map_bytes.specs.CutLaws.{one_of_eight}

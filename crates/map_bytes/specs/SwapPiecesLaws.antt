@@ -7,7 +7,7 @@ use Rattle.std.proofs.lemmas.List.FromFn.{length-map-range_with_len, map-range_w
 use Rattle.std.proofs.lemmas.List.Elements.{All-head, All-tail}
 use Rattle.places.specs.Layout.{Owner, Bit, owner_at}
 use Rattle.places.specs.Rules.{renamed, byteswap}
-use Rattle.places.specs.Laws.{IsLocated, owners_in}
+use Rattle.places.specs.Lawful.{IsLocated, owners_in}
 use Rattle.places.specs.declared.piece.Piece.{Piece}
 use Rattle.places.specs.ComposeLaws.{owner_relabel}
 use Rattle.places.specs.PlacesLaws.{same_ranges, range_split, spells_split, located}

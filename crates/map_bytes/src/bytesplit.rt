@@ -5,7 +5,7 @@ ghost use Rattle.places.specs.Rules.{bytesplit};
 ghost use Rattle.places.specs.declared.piece.Cell.{Cell};
 ghost use Rattle.places.specs.declared.piece.Hold.{Hold};
 ghost use Rattle.places.specs.CellWidthsLaws.{length-full};
-ghost use Rattle.map_bytes.specs.Cells.{differ, bytes_of, byte_count};
+ghost use Rattle.map_bytes.specs.Cells.{differ, byte_cells_of, byte_count};
 ghost use Rattle.map_bytes.specs.ByteCellsLaws.{bytes_before};
 ghost use Rattle.map_bytes.specs.BytesplitLaws.{bytesplit_laws};
 
@@ -32,19 +32,19 @@ fn count_bytes(cells: &[Cell]) -> usize
 pub struct Bytesplit<M: Mapping> {
     cells: Vec<Cell>,
     inner: M,
-    ghost full: { M.hold_list inner ≡ full_holds (bytes_of cells.items) },
+    ghost full: { M.hold_list inner ≡ full_holds (byte_cells_of cells.items) },
 }
 
 impl<M: Mapping> Bytesplit<M> {
     /// The mapping of these cells over an inner one of their bytes. `NotFull` comes exactly where the inner one stores some byte in
     /// another sign or width; the inner one is dropped then, and where memory is wanting.
     pub fn new(alloc: Global, cells: &CellList, inner: M) -> Result<Bytesplit<M>, NewMapping>
-        requires bytes { M.cell_list inner ≡ bytes_of cells.now }
+        requires bytes { M.cell_list inner ≡ byte_cells_of cells.now }
         ensures slots { IfOk result (λ m. ⟦<Bytesplit<M> as Mapping>⟧.slot_count m ≡ M.slot_count inner) }
         ensures cells { IfOk result (λ m. ⟦<Bytesplit<M> as Mapping>⟧.cell_list m ≡ cells.now) }
         ensures holds { IfOk result (λ m. ⟦<Bytesplit<M> as Mapping>⟧.hold_list m ≡ full_holds cells.now) }
         ensures layout { IfOk result (λ m. ⟦<Bytesplit<M> as Mapping>⟧.layout m ≡ bytesplit (widths_of cells.now) (M.layout inner)) }
-        ensures not_full { IsErrOf result NewMapping.NotFull ↔ (differ (M.hold_list inner) (full_holds (bytes_of cells.now)) ≡ true) }
+        ensures not_full { IsErrOf result NewMapping.NotFull ↔ (differ (M.hold_list inner) (full_holds (byte_cells_of cells.now)) ≡ true) }
         ensures only { IfErr result (λ e. (e ≡ NewMapping.NotFull) ⊎ (e ≡ NewMapping.NoMemory)) }
     {
         if has_other_hold(&inner) {

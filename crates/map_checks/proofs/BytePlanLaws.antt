@@ -1,5 +1,5 @@
 -- Plans of mappings of bytes, from those of their inner mappings.
-use Rattle.map_checks.proofs.Imports.{Bool, true, false, ◌≡◌, ℕ, ◌+◌, ◌-◌, ◌*◌, ◌/◌, ◌%◌, ◌^◌, ◌<◌, ◌⊎◌, get_or, List, [], ◌∷◌, map, length, All, refl, sym, ap, ◌∙◌, subst, ◌||◌, sum, PathStep, length-map, sum-map, Fields, Owner, Bit, renamed, relabel, byte_cells, byteswap, bytesplit, widths_of, full_holds, IsTooBig, widths_whole, widths_narrow, widths_full, Cell, Hold, Term, Split, Byteswap, Bytesplit, bytes_of, byte_count, length-bytes, widths_of_bytes, HasWholeBytes, HasOnePiece, AreSwapped, AreJoined, order_of, orders_of, layout_of, holds_of, not_full, most_slots, IsTooBigFor, cells_under, cells_beside, IsPlanOf, IsRuled, length-holds, Plan, or_right}
+use Rattle.map_checks.proofs.Imports.{Bool, true, false, ◌≡◌, ℕ, ◌+◌, ◌-◌, ◌*◌, ◌/◌, ◌%◌, ◌^◌, ◌<◌, ◌⊎◌, get_or, List, [], ◌∷◌, map, length, All, refl, sym, ap, ◌∙◌, subst, ◌||◌, sum, PathStep, length-map, sum-map, Fields, Owner, Bit, renamed, relabel, byte_cells, byteswap, bytesplit, widths_of, full_holds, IsTooBig, widths_whole, widths_narrow, widths_full, Cell, Hold, Term, Split, Byteswap, Bytesplit, byte_cells_of, byte_count, length-bytes, widths_of_bytes, HasWholeBytes, HasOnePiece, AreSwapped, AreJoined, order_of, orders_of, layout_of, holds_of, not_full, most_slots, IsTooBigFor, cells_under, cells_beside, IsPlanOf, IsRuled, length-holds, Plan, or_right}
 use Rattle.std.specs.List.{sum_by}
 use Rattle.map_checks.proofs.JoinRuleLaws.{alone_ruled, join_ruled, join_orders}
 use Rattle.map_checks.proofs.OrderLaws.{order_in}
@@ -72,43 +72,43 @@ module _ (inner : Term) (extents : List ℕ) (fields : Fields) (cells : List Cel
 
 -- the bytes of cells as cells
 module _ (inner : Term) (extents : List ℕ) (fields : Fields) (cells : List Cell) where
-  pub over_join : IsTooBigFor inner extents fields (bytes_of cells) → IsTooBigFor (Bytesplit inner) extents fields cells
-  over_join big = renamed_big (split_name (widths_of cells)) (most_slots inner extents) (layout_of inner extents fields (bytes_of cells)) big
+  pub over_join : IsTooBigFor inner extents fields (byte_cells_of cells) → IsTooBigFor (Bytesplit inner) extents fields cells
+  over_join big = renamed_big (split_name (widths_of cells)) (most_slots inner extents) (layout_of inner extents fields (byte_cells_of cells)) big
 
-  module _ (made : Plan) (h : IsPlanOf inner extents fields (bytes_of cells) made) where
+  module _ (made : Plan) (h : IsPlanOf inner extents fields (byte_cells_of cells) made) where
     pub join_each : length made.rules ≡ byte_count cells
     join_each =
-        h.ruled.each ∙ length-map (holds_of inner fields (bytes_of cells)) (λ (x : Hold). x.width) ∙ length-holds inner fields (bytes_of cells) ∙ length-bytes cells
+        h.ruled.each ∙ length-map (holds_of inner fields (byte_cells_of cells)) (λ (x : Hold). x.width) ∙ length-holds inner fields (byte_cells_of cells) ∙ length-bytes cells
 
-    join_widths : made.holds ≡ full_holds (bytes_of cells)
-        → IsRuled (layout_of inner extents fields (bytes_of cells)) extents (widths_of (bytes_of cells)) made.rules
+    join_widths : made.holds ≡ full_holds (byte_cells_of cells)
+        → IsRuled (layout_of inner extents fields (byte_cells_of cells)) extents (widths_of (byte_cells_of cells)) made.rules
     join_widths full =
-        subst (λ (ws : List ℕ). IsRuled (layout_of inner extents fields (bytes_of cells)) extents ws made.rules)
-        (widths_held (holds_of inner fields (bytes_of cells)) (bytes_of cells) (sym h.held ∙ full)) h.ruled
+        subst (λ (ws : List ℕ). IsRuled (layout_of inner extents fields (byte_cells_of cells)) extents ws made.rules)
+        (widths_held (holds_of inner fields (byte_cells_of cells)) (byte_cells_of cells) (sym h.held ∙ full)) h.ruled
 
-    pub join_alone : made.holds ≡ full_holds (bytes_of cells) → All HasOnePiece made.rules
+    pub join_alone : made.holds ≡ full_holds (byte_cells_of cells) → All HasOnePiece made.rules
     join_alone full =
-        alone_ruled (layout_of inner extents fields (bytes_of cells)) extents (widths_of (bytes_of cells)) made.rules (join_widths full) (widths_of_bytes cells)
+        alone_ruled (layout_of inner extents fields (byte_cells_of cells)) extents (widths_of (byte_cells_of cells)) made.rules (join_widths full) (widths_of_bytes cells)
 
-    module _ (plan : Plan) (full : made.holds ≡ full_holds (bytes_of cells)) (orders : map order_in made.rules ≡ orders_of inner fields (bytes_of cells))
+    module _ (plan : Plan) (full : made.holds ≡ full_holds (byte_cells_of cells)) (orders : map order_in made.rules ≡ orders_of inner fields (byte_cells_of cells))
         (join : AreJoined cells made.rules plan.rules) where
       pub join_planned : plan.holds ≡ full_holds cells → plan.lengths ≡ made.lengths → IsPlanOf (Bytesplit inner) extents fields cells plan
       join_planned held lengths =
-          let layout : List (List Owner) = layout_of inner extents fields (bytes_of cells) in record {
+          let layout : List (List Owner) = layout_of inner extents fields (byte_cells_of cells) in record {
             held = held;
             sized =
                 ap (map (λ (n : ℕ). 8 * n)) lengths ∙ h.sized
                 ∙ sym (lengths_renamed (split_name (widths_of cells)) layout);
             ruled =
                 subst (λ (ws : List ℕ). IsRuled (bytesplit (widths_of cells) layout) extents ws plan.rules) (sym (widths_full cells))
-                (join_ruled cells made.rules plan.rules layout extents (widths_of (bytes_of cells)) (join_widths full) (widths_of_bytes cells) join_each
+                (join_ruled cells made.rules plan.rules layout extents (widths_of (byte_cells_of cells)) (join_widths full) (widths_of_bytes cells) join_each
                 (order_of inner fields) orders join);
             fits = renamed_small (split_name (widths_of cells)) (most_slots inner extents) layout h.fits;
           }
 
       pub join_ordered : map order_in plan.rules ≡ orders_of (Bytesplit inner) fields cells
       join_ordered =
-          join_orders cells made.rules plan.rules (layout_of inner extents fields (bytes_of cells)) extents (widths_of (bytes_of cells)) (join_widths full)
+          join_orders cells made.rules plan.rules (layout_of inner extents fields (byte_cells_of cells)) extents (widths_of (byte_cells_of cells)) (join_widths full)
           (widths_of_bytes cells) join_each (order_of inner fields) orders join
 
 module _ (path : List PathStep) (one two : Term) (fields : Fields) (cells : List Cell) where

@@ -24,7 +24,7 @@ pub use Rattle.places.specs.Holds.{widths_of, full_holds, IsTooBig, hold_within,
 pub use Rattle.places.specs.WidthsLaws.{widths_whole, widths_narrow, widths_full, widths_wide}
 pub use Rattle.places.specs.declared.piece.Cell.{Cell}
 pub use Rattle.map_expr.specs.Terms.{Term, Split, Byteswap, Bytesplit, Change, term_of}
-pub use Rattle.map_bytes.specs.Cells.{bytes_of, byte_count, changed, differ}
+pub use Rattle.map_bytes.specs.Cells.{byte_cells_of, byte_count, changed, differ}
 pub use Rattle.map_bytes.specs.ByteCellsLaws.{length-bytes, widths_of_bytes, bytes_before, byte_cell_at, byte_within, byte_count_is, byte_count_before}
 pub use Rattle.places.specs.declared.mapping.NewMapping.{NewMapping}
 pub use Rattle.extents.specs.Indices.{indices}
@@ -32,7 +32,7 @@ pub use Rattle.extents.specs.declared.order.Order.{Order}
 pub use Rattle.linearize.specs.Slots.{slot_at, slot_count, row_at, index_at, slot_of}
 pub use Rattle.record_dim.specs.LeafTypes.{width_of}
 pub use Rattle.record_dim.specs.declared.leaf_type.LeafType.TheVariants.{U8}
-pub use Rattle.places.specs.Laws.{IsLocated, shifted}
+pub use Rattle.places.specs.Lawful.{IsLocated, shifted}
 pub use Rattle.places.specs.CellWidthsLaws.{length-widths, length-full}
 pub use Rattle.places.specs.declared.piece.Piece.{Piece}
 pub use Rattle.map_bytes.specs.CutLaws.{one_of_eight, swapped_in, swapped_blobs, swapped_eights, swapped_bounds, swapped_bits}
@@ -45,7 +45,7 @@ pub use Rattle.map_split.specs.SidesLaws.{merged_first, merged_rest, rank_first_
 pub use Rattle.map_split.specs.SizesLaws.{lengths-split, bits-split}
 pub use Rattle.linearize.specs.SlotsLaws.{slot_at_below, slot_at_by_rows}
 pub use Rattle.places.specs.PlacesLaws.{relabel_located, left_located, right_located}
-pub use Rattle.map_split.specs.Shifts.{shifted_rule}
+pub use Rattle.map_split.specs.Inner.Shifts.{shifted_rule}
 pub use Rattle.map_bytes.specs.Cuts.{swapped, swapped_rules}
 pub use Rattle.map_bytes.specs.SwapPiecesLaws.{swap_located}
 pub use Rattle.map_bytes.specs.FullLaws.{differ_none}
@@ -59,8 +59,8 @@ pub use Rattle.map_bits.specs.Bits.{has_bad_width}
 pub use Rattle.map_split.specs.MoreLaws.{merged_more_first, merged_more_rest}
 pub use Rattle.map_checks.specs.Arrays.{IsArray, AreArrays, HasArrays}
 pub use Rattle.map_checks.specs.declared.rule.Rule.{Rule}
-pub use Rattle.map_checks.specs.ByteRules.{HasWholeBytes, HasOnePiece, AreSwapped, AreJoined, IsJoined, bytes_at, IsSwapped}
-pub use Rattle.map_checks.specs.LeafOrders.{order_of, orders_of}
+pub use Rattle.map_checks.specs.Inner.ByteRules.{HasWholeBytes, HasOnePiece, AreSwapped, AreJoined, IsJoined, bytes_at, IsSwapped}
+pub use Rattle.map_checks.specs.Inner.LeafOrders.{order_of, orders_of}
 pub use Rattle.map_checks.specs.Mappings.{layout_of, holds_of, not_full, most_slots, IsTooBigFor, accepted, IsRefusal, ordered, leaf_cells}
 pub use Rattle.map_checks.specs.Sides.{cells_under, cells_beside, side_of}
 pub use Rattle.map_checks.specs.Plans.{IsPlanOf, IsPlanFor}
@@ -69,10 +69,10 @@ pub use Rattle.map_checks.specs.TermLaws.{length-holds, cells_first, cells_rest,
 pub use Rattle.map_checks.specs.declared.plan.Plan.{Plan}
 pub use Rattle.map_checks.specs.declared.fault.MakeMap.{MakeMap}
 pub use Rattle.map_checks.specs.declared.fault.MakeMap.TheVariants.{TooBig, NoMemory, Bad}
-pub use Rattle.map_checks.specs.Faults.{fault_of}
+pub use Rattle.map_checks.specs.Inner.Faults.{fault_of}
 pub use Rattle.map_checks.specs.Widths.{width_by, width_at, is_said, LastCounts, cell_widths, has_cell}
 pub use Rattle.map_checks.specs.RowsLaws.{sum-blobs, row_located, length-in_rows, lengths-rows}
-pub use Rattle.map_checks.specs.Splits.{IsSplitRule, AreSplitRules, LieWithin, IsShifted}
+pub use Rattle.map_checks.specs.Inner.Splits.{IsSplitRule, AreSplitRules, LieWithin, IsShifted}
 pub use Rattle.map_checks.specs.PlansLaws.{plan_holds, plan_rules}
 pub use Rattle.map_checks.specs.RuledLaws.{each_push}
-pub use Rattle.map_checks.specs.LeafCells.{leaf_cells_more}
+pub use Rattle.map_checks.specs.Inner.LeafCells.{leaf_cells_more}

@@ -1,5 +1,5 @@
 -- The joined rules of the bytes of cells are rules of the cells.
-use Rattle.map_checks.proofs.Imports.{◌≡◌, ℕ, zero, suc, ◌+◌, ◌-◌, ◌*◌, ◌/◌, ◌%◌, ◌^◌, ◌<◌, ◌≤◌, List, [], ◌∷◌, ◌++◌, map, length, get_or, slice_index, take, drop, replicate, sum_by, All, refl, sym, ap, ◌∙◌, subst, arith, flat_map, length-map, get_or-map, same_lists, get_or-take, get_or-drop, length-take-le, length-drop, take_more, take_all, map-append, append-nil, get_or_append_left, get_or-append-add, get_or-replicate, length-replicate, flat_map-append, All-append, All-nil, All-head, All-tail, sum_by-cons, sum_by-append, sum_by_more, indices, Order, slot_at, slot_count, width_of, U8, Owner, byte_cells, bytesplit, IsLocated, widths_of, widths_whole, widths_narrow, widths_wide, length-widths, Cell, Piece, piece_in, pieces_in, PieceRule, bytes_of, byte_count, bytes_before, byte_cell_at, byte_within, byte_count_is, byte_count_before, length-bytes, one_of_eight, byte_joined, none_located, HasOnePiece, IsJoined, AreJoined, bytes_at, IsRuleOf, IsRuled, Rule}
+use Rattle.map_checks.proofs.Imports.{◌≡◌, ℕ, zero, suc, ◌+◌, ◌-◌, ◌*◌, ◌/◌, ◌%◌, ◌^◌, ◌<◌, ◌≤◌, List, [], ◌∷◌, ◌++◌, map, length, get_or, slice_index, take, drop, replicate, sum_by, All, refl, sym, ap, ◌∙◌, subst, arith, flat_map, length-map, get_or-map, same_lists, get_or-take, get_or-drop, length-take-le, length-drop, take_more, take_all, map-append, append-nil, get_or_append_left, get_or-append-add, get_or-replicate, length-replicate, flat_map-append, All-append, All-nil, All-head, All-tail, sum_by-cons, sum_by-append, sum_by_more, indices, Order, slot_at, slot_count, width_of, U8, Owner, byte_cells, bytesplit, IsLocated, widths_of, widths_whole, widths_narrow, widths_wide, length-widths, Cell, Piece, piece_in, pieces_in, PieceRule, byte_cells_of, byte_count, bytes_before, byte_cell_at, byte_within, byte_count_is, byte_count_before, length-bytes, one_of_eight, byte_joined, none_located, HasOnePiece, IsJoined, AreJoined, bytes_at, IsRuleOf, IsRuled, Rule}
 use Rattle.map_checks.proofs.OrderLaws.{order_in, with_item}
 
 -- a byte has one piece
@@ -31,7 +31,7 @@ pieces_by rule = rule.pieces.items
 
 -- a byte keeps the leaf of its cell
 byte_leaf : (cells : List Cell) (c j : ℕ) (d e : Cell) → c < length cells → j < width_of (get_or cells c e).kind / 8
-    → (get_or (bytes_of cells) (byte_count (take c cells) + j) d).leaf ≡ (get_or cells c e).leaf
+    → (get_or (byte_cells_of cells) (byte_count (take c cells) + j) d).leaf ≡ (get_or cells c e).leaf
 byte_leaf [] c j d e inside low = let never : ⊥ = omega arith in absurd never
 byte_leaf (cell ∷ cells) zero j d e inside low =
     let n : ℕ = width_of cell.kind / 8 in
@@ -39,16 +39,16 @@ byte_leaf (cell ∷ cells) zero j d e inside low =
     let j_in : j < n = low in
     let size : length (replicate n byte) ≡ n = length-replicate n byte in
     let place : byte_count (take zero (cell ∷ cells)) + j ≡ j = omega arith in
-    ap (λ (i : ℕ). (get_or (bytes_of (cell ∷ cells)) i d).leaf) place
-    ∙ ap (λ (x : Cell). x.leaf) (get_or_append_left (replicate n byte) (bytes_of cells) d j (omega arith) ∙ get_or-replicate n j byte d j_in)
+    ap (λ (i : ℕ). (get_or (byte_cells_of (cell ∷ cells)) i d).leaf) place
+    ∙ ap (λ (x : Cell). x.leaf) (get_or_append_left (replicate n byte) (byte_cells_of cells) d j (omega arith) ∙ get_or-replicate n j byte d j_in)
 byte_leaf (cell ∷ cells) (suc c) j d e inside low =
     let n : ℕ = width_of cell.kind / 8 in
     let byte : Cell = record { leaf = cell.leaf; kind = U8 } in
     let size : length (replicate n byte) ≡ n = length-replicate n byte in
     let step : byte_count (take (suc c) (cell ∷ cells)) ≡ n + byte_count (take c cells) = sum_by-cons (λ (x : Cell). width_of x.kind / 8) cell (take c cells) in
     let place : byte_count (take (suc c) (cell ∷ cells)) + j ≡ length (replicate n byte) + (byte_count (take c cells) + j) = omega arith in
-    ap (λ (i : ℕ). (get_or (bytes_of (cell ∷ cells)) i d).leaf) place
-    ∙ ap (λ (x : Cell). x.leaf) (get_or-append-add (replicate n byte) (bytes_of cells) (byte_count (take c cells) + j) d)
+    ap (λ (i : ℕ). (get_or (byte_cells_of (cell ∷ cells)) i d).leaf) place
+    ∙ ap (λ (x : Cell). x.leaf) (get_or-append-add (replicate n byte) (byte_cells_of cells) (byte_count (take c cells) + j) d)
     ∙ byte_leaf cells c j d e (omega arith) low
 
 -- the bytes of one cell
@@ -212,17 +212,17 @@ module _ (cells : List Cell) (bytes : List Rule) (each : length bytes ≡ byte_c
         }
 
     -- one order for each leaf
-    module _ (order_at : ℕ → Order) (ordered : map order_in bytes ≡ map (λ (cell : Cell). order_at cell.leaf) (bytes_of cells)) where
+    module _ (order_at : ℕ → Order) (ordered : map order_in bytes ≡ map (λ (cell : Cell). order_at cell.leaf) (byte_cells_of cells)) where
       leaf_order : (j : ℕ) (d : Rule) (e : Cell) → j < count → (get_or those j d).order ≡ order_at (get_or cells c e).leaf
       leaf_order j d e low =
           let here : first + j < length bytes = omega (arith, within) in
-          let there : first + j < length (bytes_of cells) = omega (arith, length-bytes cells) in
+          let there : first + j < length (byte_cells_of cells) = omega (arith, length-bytes cells) in
           let width : slice_index ws c ≡ width_of (get_or cells c e).kind = get_or-map (λ (x : Cell). width_of x.kind) cells c e 0 inside in
           let small : j < width_of (get_or cells c e).kind / 8 = omega arith in
           ap order_in (those_at j d low)
           ∙ sym (get_or-map order_in bytes (first + j) d (order_in d) here)
           ∙ ap (λ (os : List Order). get_or os (first + j) (order_in d)) ordered
-          ∙ get_or-map (λ (cell : Cell). order_at cell.leaf) (bytes_of cells) (first + j) e (order_in d) there
+          ∙ get_or-map (λ (cell : Cell). order_at cell.leaf) (byte_cells_of cells) (first + j) e (order_in d) there
           ∙ ap order_at (byte_leaf cells c j e e inside small)
 
       pub cell_order : (rule : Rule) (e : Cell) → IsJoined those rule → rule.order ≡ order_at (get_or cells c e).leaf
@@ -236,7 +236,7 @@ module _ (cells : List Cell) (bytes : List Rule) (each : length bytes ≡ byte_c
 -- all cells
 module _ (cells : List Cell) (bytes rules : List Rule) (layout : List (List Owner)) (extents es : List ℕ) (ruled : IsRuled layout extents es bytes)
     (eights : All (λ w. w ≡ 8) es) (counted : length bytes ≡ byte_count cells) (order_at : ℕ → Order)
-    (ordered : map order_in bytes ≡ map (λ (cell : Cell). order_at cell.leaf) (bytes_of cells)) (join : AreJoined cells bytes rules) where
+    (ordered : map order_in bytes ≡ map (λ (cell : Cell). order_at cell.leaf) (byte_cells_of cells)) (join : AreJoined cells bytes rules) where
   pub join_ruled : IsRuled (bytesplit (widths_of cells) layout) extents (widths_of cells) rules
   join_ruled =
       let size : length (widths_of cells) ≡ length cells = length-widths cells in

@@ -17,7 +17,7 @@ use Rattle.map_expr.specs.Checks.{checked, bad_lanes, bad_widths, bad_granule}
 use Rattle.map_expr.specs.declared.widths.FieldWidth.{FieldWidth}
 use Rattle.map_expr.specs.declared.check.BadMapping.{BadMapping}
 use Rattle.map_expr.specs.declared.check.BadMapping.TheVariants.{Side, Field, NotFull}
-use Rattle.map_bytes.specs.Cells.{bytes_of, changed, differ}
+use Rattle.map_bytes.specs.Cells.{byte_cells_of, changed, differ}
 use Rattle.map_split.specs.Sides.{merged, is_one_sided}
 use Rattle.map_checks.specs.Sides.{side_of, cells_under, cells_beside}
 use Rattle.map_checks.specs.Widths.{cell_widths, has_empty}
@@ -74,7 +74,7 @@ layout_of (BitSoa width entries order) extents fields cells = ordered order exte
 layout_of (Split path first rest) extents fields cells =
     split (side_of fields path cells) (layout_of first extents fields (cells_under fields path cells)) (layout_of rest extents fields (cells_beside fields path cells))
 layout_of (Byteswap inner) extents fields cells = byteswap (widths_of cells) (layout_of inner extents fields cells)
-layout_of (Bytesplit inner) extents fields cells = bytesplit (widths_of cells) (layout_of inner extents fields (bytes_of cells))
+layout_of (Bytesplit inner) extents fields cells = bytesplit (widths_of cells) (layout_of inner extents fields (byte_cells_of cells))
 layout_of (Change from to inner) extents fields cells = layout_of inner extents fields (changed from to cells)
 layout_of (Count inner) extents fields cells = layout_of inner extents fields cells
 layout_of (Heat granule inner) extents fields cells = layout_of inner extents fields cells
@@ -116,7 +116,7 @@ bad_side (Split path first rest) fields cells =
     is_one_sided (side_of fields path cells)
     || (bad_side first fields (cells_under fields path cells) || bad_side rest fields (cells_beside fields path cells))
 bad_side (Byteswap inner) fields cells = bad_side inner fields cells
-bad_side (Bytesplit inner) fields cells = bad_side inner fields (bytes_of cells)
+bad_side (Bytesplit inner) fields cells = bad_side inner fields (byte_cells_of cells)
 bad_side (Change from to inner) fields cells = bad_side inner fields (changed from to cells)
 bad_side (Count inner) fields cells = bad_side inner fields cells
 bad_side (Heat granule inner) fields cells = bad_side inner fields cells
@@ -128,7 +128,7 @@ bad_field (BitAos width entries order) fields cells = has_empty fields cells ent
 bad_field (BitSoa width entries order) fields cells = has_empty fields cells entries
 bad_field (Split path first rest) fields cells = bad_field first fields (cells_under fields path cells) || bad_field rest fields (cells_beside fields path cells)
 bad_field (Byteswap inner) fields cells = bad_field inner fields cells
-bad_field (Bytesplit inner) fields cells = bad_field inner fields (bytes_of cells)
+bad_field (Bytesplit inner) fields cells = bad_field inner fields (byte_cells_of cells)
 bad_field (Change from to inner) fields cells = bad_field inner fields (changed from to cells)
 bad_field (Count inner) fields cells = bad_field inner fields cells
 bad_field (Heat granule inner) fields cells = bad_field inner fields cells
@@ -138,7 +138,7 @@ bad_field _ fields cells = false
 abbrev pub not_full : Term → Fields → List Cell → Bool
 not_full (Split path first rest) fields cells = not_full first fields (cells_under fields path cells) || not_full rest fields (cells_beside fields path cells)
 not_full (Byteswap inner) fields cells = differ (holds_of inner fields cells) (full_holds cells) || not_full inner fields cells
-not_full (Bytesplit inner) fields cells = differ (holds_of inner fields (bytes_of cells)) (full_holds (bytes_of cells)) || not_full inner fields (bytes_of cells)
+not_full (Bytesplit inner) fields cells = differ (holds_of inner fields (byte_cells_of cells)) (full_holds (byte_cells_of cells)) || not_full inner fields (byte_cells_of cells)
 not_full (Change from to inner) fields cells = not_full inner fields (changed from to cells)
 not_full (Count inner) fields cells = not_full inner fields cells
 not_full (Heat granule inner) fields cells = not_full inner fields cells

@@ -10,7 +10,7 @@ use Rattle.linearize.specs.Slots.{slot_at, slot_count, row_at}
 use Rattle.linearize.specs.SlotsLaws.{row_at-slot_at, slot_at-row_at, slot_at_below}
 use Rattle.places.specs.Layout.{Owner, Bit}
 use Rattle.places.specs.Rules.{renamed, in_rows, bit_in_row}
-use Rattle.places.specs.Laws.{IsBitOf, IsLaidOut, IsLocated}
+use Rattle.places.specs.Lawful.{IsBitOf, IsLaidOut, IsLocated}
 use Rattle.places.specs.declared.piece.Piece.{Piece}
 use Rattle.places.specs.ComposeLaws.{Back, relabel_lays_out, laid_out, lays_out}
 use Rattle.places.specs.PlacesLaws.{relabel_located}

@@ -3,7 +3,7 @@ use Rattle.std.specs.Prelude.{ℕ, ◌≡◌, ◌+◌, ◌*◌, ◌%◌, ◌^◌
 use Rattle.extents.specs.Indices.{indices}
 use Rattle.linearize.specs.Slots.{slot_at, slot_count}
 use Rattle.places.specs.Layout.{Owner}
-use Rattle.places.specs.Laws.{IsLocated}
+use Rattle.places.specs.Lawful.{IsLocated}
 use Rattle.places.specs.declared.piece.Piece.{Piece}
 use Rattle.places.specs.PieceRules.{pieces_in}
 use Rattle.map_checks.specs.declared.rule.Rule.{Rule}

@@ -12,7 +12,7 @@ use Rattle.record_dim.specs.declared.path.PathStep.{PathStep}
 use Rattle.record_dim.specs.Trees.{Fields}
 use Rattle.record_dim.specs.Nodes.{is_under}
 use Rattle.places.specs.Layout.{aosoa, bit_aos, bit_soa}
-use Rattle.places.specs.Laws.{IsLaidOut}
+use Rattle.places.specs.Lawful.{IsLaidOut}
 use Rattle.places.specs.CellWidthsLaws.{length-full}
 use Rattle.places.specs.Holds.{widths_of, widths_in, full_holds}
 use Rattle.places.specs.declared.piece.Cell.{Cell}
@@ -30,7 +30,7 @@ use Rattle.map_expr.specs.declared.widths.FieldWidth.{FieldWidth}
 use Rattle.map_bits.specs.Bits.{has_bad_width, is_bad_width}
 use Rattle.map_bits.specs.NarrowLaws.{length-narrow, narrow_wide, narrow_low}
 use Rattle.map_bits.specs.BitLaws.{bit_aos_laws, bit_soa_laws}
-use Rattle.map_bytes.specs.Cells.{bytes_of, changed, differ}
+use Rattle.map_bytes.specs.Cells.{byte_cells_of, changed, differ}
 use Rattle.map_bytes.specs.FullLaws.{differ_none}
 use Rattle.map_bytes.specs.SwapLaws.{byteswap_laws}
 use Rattle.map_bytes.specs.BytesplitLaws.{bytesplit_laws}
@@ -171,7 +171,7 @@ term_laws (Byteswap inner) extents fields cells built numbers full =
     byteswap_laws (layout_of inner extents fields cells) (length (indices extents)) cells (holds_of inner fields cells) (held_whole inner fields cells both.0)
     (term_laws inner extents fields cells built numbers both.1)
 term_laws (Bytesplit inner) extents fields cells built numbers full =
-    let bytes : List Cell = bytes_of cells in
+    let bytes : List Cell = byte_cells_of cells in
     let both = or_parts (differ (holds_of inner fields bytes) (full_holds bytes)) (not_full inner fields bytes) full in
     bytesplit_laws (layout_of inner extents fields bytes) (length (indices extents)) cells (holds_of inner fields bytes) (held_whole inner fields bytes both.0)
     (term_laws inner extents fields bytes built numbers both.1)

@@ -1,5 +1,5 @@
 ghost use Rattle.std.specs.Prelude.{◌≡◌};
-ghost use Rattle.map_checks.specs.Faults.{fault_of};
+ghost use Rattle.map_checks.specs.Inner.Faults.{fault_of};
 ghost use Rattle.map_checks.specs.declared.fault.MakeMap.TheVariants.{NoMemory};
 
 use map_expr::BadMapping;

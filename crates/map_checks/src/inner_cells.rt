@@ -1,8 +1,8 @@
 ghost use Rattle.std.specs.Prelude.{◌≡◌, ◌++◌, ◌/◌, IfOk, OnOk, replicate};
 ghost use Rattle.record_dim.specs.LeafTypes.{width_of};
 ghost use Rattle.record_dim.specs.declared.leaf_type.LeafType.TheVariants.{U8};
-ghost use Rattle.map_bytes.specs.Cells.{bytes_of, changed};
-ghost use Rattle.map_checks.specs.InnerCells.{changed_cell};
+ghost use Rattle.map_bytes.specs.Cells.{byte_cells_of, changed};
+ghost use Rattle.map_checks.specs.Inner.InnerCells.{changed_cell};
 
 use places::{Cell, CellList};
 use record_dim::LeafType;
@@ -51,7 +51,7 @@ fn push_bytes(bytes: &mut CellList, cell: Cell) -> Result<(), NoMemory>
 
 /// The bytes of cells as cells of their own, least significant first.
 pub fn bytes_cells(alloc: Global, cells: &CellList) -> Result<CellList, NoMemory>
-    ensures { IfOk result (λ bytes. bytes ≡ bytes_of cells.now) }
+    ensures { IfOk result (λ bytes. bytes ≡ byte_cells_of cells.now) }
 {
     let mut bytes = CellList::new(alloc);
     for cell in cells.as_slice() {

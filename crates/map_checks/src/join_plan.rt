@@ -1,7 +1,7 @@
 ghost use Rattle.std.specs.Prelude.{◌≡◌, ◌/◌, ◌⊎◌, ◌<◌, ◌≤◌, All, true, IfOk, IfErr, OnOk, IsErrOf, length, slice_index};
 ghost use Rattle.places.specs.Holds.{full_holds, widths_of};
-ghost use Rattle.map_bytes.specs.Cells.{differ, bytes_of, byte_count};
-ghost use Rattle.map_checks.specs.ByteRules.{HasOnePiece, IsJoined, AreJoined};
+ghost use Rattle.map_bytes.specs.Cells.{differ, byte_cells_of, byte_count};
+ghost use Rattle.map_checks.specs.Inner.ByteRules.{HasOnePiece, IsJoined, AreJoined};
 
 use crate::plan::Plan;
 use crate::rule::{PlanRules, Rule};
@@ -60,7 +60,7 @@ pub fn join_plan(
     bytes: &CellList,
     inner: Plan,
 ) -> Result<Plan, MakeMap>
-    requires bytes { bytes.now ≡ bytes_of cells.now }
+    requires bytes { bytes.now ≡ byte_cells_of cells.now }
     requires held { length inner.holds ≡ length bytes.now }
     requires each { length inner.rules ≡ byte_count cells.now }
     requires alone { inner.holds ≡ full_holds bytes.now → All HasOnePiece inner.rules }

@@ -3,7 +3,7 @@ ghost use Rattle.record_dim.specs.Schemas.{schema_fields};
 ghost use Rattle.map_expr.specs.Terms.{term_of};
 ghost use Rattle.map_checks.specs.Mappings.{IsBuiltTerm, HasNumbers, IsTooBigFor, not_full};
 ghost use Rattle.map_checks.specs.Arrays.{HasArrays};
-ghost use Rattle.map_checks.specs.LeafOrders.{orders_of};
+ghost use Rattle.map_checks.specs.Inner.LeafOrders.{orders_of};
 ghost use Rattle.map_checks.specs.Plans.{IsPlanOf};
 
 use crate::base_plan::base_plan;

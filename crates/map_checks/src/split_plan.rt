@@ -1,7 +1,7 @@
 ghost use Rattle.std.specs.Prelude.{ℕ, ◌≡◌, ◌⊎◌, ◌<◌, ◌≤◌, ◌^◌, ◌↔◌, ◌++◌, All, IsTrue, IfOk, IfErr, OnOk, IsErrOf, length, not};
 ghost use Rattle.std.specs.List.{count_by, sum};
 ghost use Rattle.map_split.specs.Sides.{merged};
-ghost use Rattle.map_checks.specs.Splits.{AreSplitRules, LieWithin};
+ghost use Rattle.map_checks.specs.Inner.Splits.{AreSplitRules, LieWithin};
 
 use crate::plan::{LengthList, Plan};
 use crate::split_rules::split_rules;

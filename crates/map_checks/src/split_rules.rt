@@ -1,6 +1,6 @@
 ghost use Rattle.std.specs.Prelude.{◌≡◌, All, IfOk, length, not};
 ghost use Rattle.std.specs.List.{count_by};
-ghost use Rattle.map_checks.specs.Splits.{AreSplitRules, HasRoom, IsShifted};
+ghost use Rattle.map_checks.specs.Inner.Splits.{AreSplitRules, HasBlobRoom, IsShifted};
 
 use crate::rule::{PlanRules, Rule};
 use map_split::shift_rules;
@@ -9,7 +9,7 @@ use std::alloc::{AllocError as NoMemory, Global};
 impl Rule {
     /// The same rule in blobs that stand behind `by` others.
     pub fn shifted(&self, by: usize) -> Rule
-        requires room { HasRoom by self.now }
+        requires room { HasBlobRoom by self.now }
         ensures { IsShifted by self.now result }
     {
         Rule {
@@ -29,8 +29,8 @@ pub fn split_rules(
 ) -> Result<PlanRules, NoMemory>
     requires first { length first.now ≡ count_by (λ s. s) side.now }
     requires rest { length rest.now ≡ count_by not side.now }
-    requires room_first { All (HasRoom 0) first.now }
-    requires room_rest { All (HasRoom by) rest.now }
+    requires room_first { All (HasBlobRoom 0) first.now }
+    requires room_rest { All (HasBlobRoom by) rest.now }
     ensures { IfOk result (λ rules. AreSplitRules side.now by first.now rest.now rules) }
 {
     let mut rules = PlanRules::new(alloc);

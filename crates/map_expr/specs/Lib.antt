@@ -1,3 +1,3 @@
 pub mod Terms
 pub mod Checks
-pub mod Codes
+pub mod Inner

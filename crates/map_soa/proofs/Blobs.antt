@@ -1,9 +1,9 @@
 -- The blobs: their lengths, and the places of a cell.
-use Rattle.map_soa.proofs.Imports.{◌≡◌, ℕ, ◌+◌, ◌-◌, ◌*◌, ◌/◌, ◌%◌, ◌^◌, ◌<◌, ◌≤◌, ◌⊎◌, ⊎_elim, List, [], ◌∷◌, map, length, sum_by, get_or, slice_index, refl, sym, ap, ◌∙◌, subst, arith, get_or_read, get_or-map, length-map, get_or-le-sum_by, width_of, Owner, Bit, owner_at, cells_of, array, IsLocated, widths_of, full_holds, Cell, Hold, Piece, cell_width, width_read, within_blobs, within_blob, one_piece, soa_layout, IsStored, blob_of, soa_laws, SoaForm, Single, Aligned, Multi}
+use Rattle.map_soa.proofs.Imports.{◌≡◌, ℕ, ◌+◌, ◌-◌, ◌*◌, ◌/◌, ◌%◌, ◌^◌, ◌<◌, ◌≤◌, ◌⊎◌, ⊎_elim, List, [], ◌∷◌, map, length, sum_by, get_or, slice_index, refl, sym, ap, ◌∙◌, subst, arith, get_or_read, get_or-map, length-map, get_or-le-sum_by, width_of, Owner, Bit, owner_at, cells_of, array, IsLocated, widths_of, full_holds, Cell, Hold, Piece, cell_width, width_read, within_blobs, within_blob, one_piece, soa_layout, LieInArrays, blob_of, soa_laws, SoaForm, Single, Aligned, Multi}
 use Rattle.map_soa.proofs.Placed.{length-array, cell_at, length-cells}
 
 -- a blob has no more bits than all blobs
-pub blob_le : (form : SoaForm) (slots : ℕ) (widths offsets : List ℕ) (size blob : ℕ) → IsStored form slots widths offsets size
+pub blob_le : (form : SoaForm) (slots : ℕ) (widths offsets : List ℕ) (size blob : ℕ) → LieInArrays form slots widths offsets size
     → blob < length (soa_layout form slots widths) → length (get_or (soa_layout form slots widths) blob []) ≤ size
 blob_le form slots widths offsets size blob h inside =
     let all : sum_by length (soa_layout form slots widths) ≡ size = h.total in
@@ -12,7 +12,7 @@ blob_le form slots widths offsets size blob h inside =
     omega arith
 
 -- a cell ends within all bits
-pub cell_end : (form : SoaForm) (slots : ℕ) (widths offsets : List ℕ) (size slot cell : ℕ) → IsStored form slots widths offsets size
+pub cell_end : (form : SoaForm) (slots : ℕ) (widths offsets : List ℕ) (size slot cell : ℕ) → LieInArrays form slots widths offsets size
     → slot < slots → cell < length widths → 1 ≤ slice_index widths cell → slice_index offsets cell + slot * slice_index widths cell + slice_index widths cell ≤ size
 cell_end form slots widths offsets size slot cell h slot_in cell_in some =
     let layout : List (List Owner) = soa_layout form slots widths in
@@ -27,7 +27,7 @@ cell_end form slots widths offsets size slot cell h slot_in cell_in some =
 
 -- an offset fits its type
 pub offset_fits : (form : SoaForm) (slots : ℕ) (cells : List Cell) (offsets : List ℕ) (size cell offset : ℕ)
-    → IsStored form slots (widths_of cells) offsets size → size ≤ 2 ^ 31 → 0 < slots → cell < length cells → offset ≡ get_or offsets cell offset → offset ≤ 2 ^ 31
+    → LieInArrays form slots (widths_of cells) offsets size → size ≤ 2 ^ 31 → 0 < slots → cell < length cells → offset ≡ get_or offsets cell offset → offset ≤ 2 ^ 31
 offset_fits form slots cells offsets size cell offset h bound some cell_in read =
     let width = cell_width cells cell (slice_index (widths_of cells) cell) cell_in refl in
     let inside : cell < length (widths_of cells) = width.inside in
@@ -39,7 +39,7 @@ offset_fits form slots cells offsets size cell offset h bound some cell_in read 
 
 -- the places of a cell are one piece
 pub located_is : (form : SoaForm) (slots : ℕ) (cells : List Cell) (offsets : List ℕ) (size slot cell : ℕ) (piece : Piece)
-    → IsStored form slots (widths_of cells) offsets size → size ≤ 2 ^ 31 → slot < slots → cell < length cells
+    → LieInArrays form slots (widths_of cells) offsets size → size ≤ 2 ^ 31 → slot < slots → cell < length cells
     → piece.blob ≡ blob_of form cell → piece.bit ≡ slice_index offsets cell + slot * slice_index (widths_of cells) cell → piece.bits ≡ slice_index (widths_of cells) cell
     → IsLocated (soa_layout form slots (widths_of cells)) slot cell (slice_index (map (λ (h : Hold). h.width) (full_holds cells)) cell) (piece ∷ [])
 located_is form slots cells offsets size slot cell piece h bound slot_in cell_in blob bit bits =
@@ -75,7 +75,7 @@ sum_one (blob ∷ []) e = omega arith
 sum_one (blob ∷ next ∷ rest) e = let none : ⊥ = omega arith in absurd none
 
 -- the length of a blob in bytes, where it is the only one
-pub one_blob_bytes : (form : SoaForm) (slots : ℕ) (cells : List Cell) (offsets : List ℕ) (size blob : ℕ) → IsStored form slots (widths_of cells) offsets size
+pub one_blob_bytes : (form : SoaForm) (slots : ℕ) (cells : List Cell) (offsets : List ℕ) (size blob : ℕ) → LieInArrays form slots (widths_of cells) offsets size
     → (form ≡ Single) ⊎ (form ≡ Aligned) → blob < length (soa_layout form slots (widths_of cells))
     → 8 * (size / 8) ≡ length (get_or (soa_layout form slots (widths_of cells)) blob [])
 one_blob_bytes form slots cells offsets size blob h in_one inside =

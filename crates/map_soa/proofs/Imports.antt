@@ -7,7 +7,7 @@ pub use Rattle.std.proofs.lemmas.Bool.{cases_lt}
 pub use Rattle.std.proofs.lemmas.List.FromFn.{length-enumerate_from, get_or-enumerate_from}
 pub use Rattle.record_dim.specs.LeafTypes.{width_of}
 pub use Rattle.places.specs.Layout.{Owner, Bit, owner_at, cells_of, array, Pad, field, padded_to}
-pub use Rattle.places.specs.Laws.{IsLocated}
+pub use Rattle.places.specs.Lawful.{IsLocated}
 pub use Rattle.places.specs.Holds.{widths_of, full_holds}
 pub use Rattle.places.specs.declared.piece.Cell.{Cell}
 pub use Rattle.places.specs.declared.piece.Hold.{Hold}
@@ -24,5 +24,5 @@ pub use Rattle.places.specs.SlotsLaws.{length-parts, slot_at}
 pub use Rattle.places.specs.StackedLaws.{stacked, up, stacked_push, stacked_append, stacked_take, stacked_bytes, length-padded, flat_stacked}
 pub use Rattle.places.specs.BeginsLaws.{begins_fit, one_lane}
 pub use Rattle.places.specs.DenseLaws.{dense_array}
-pub use Rattle.map_soa.specs.Soa.{IsStored, blob_of, alignment, in_blob}
+pub use Rattle.map_soa.specs.Soa.{LieInArrays, blob_of, alignment, in_blob}
 pub use Rattle.map_soa.specs.SoaLaws.{soa_laws, laid_arrays, single_blob, aligned_blob, array_bytes, keeps_alignment}

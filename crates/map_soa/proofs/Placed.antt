@@ -1,5 +1,5 @@
 -- How the arrays are laid out, cell after cell.
-use Rattle.map_soa.proofs.Imports.{◌≡◌, ℕ, zero, suc, inl, inr, All, ◌+◌, ◌-◌, ◌*◌, ◌%◌, ◌<◌, ◌≤◌, ⊎_elim, List, [], ◌∷◌, ◌++◌, map, length, sum_by, replicate, get_or, take, drop, slice_index, refl, sym, ap, ◌∙◌, subst, arith, length-append, flat_map, cases_lt, take_more, take_all, take-append-drop, get_or_append_left, get_or-append-add, get_or_push, get_or_default, get_or-map, length-map, length-enumerate_from, get_or-enumerate_from, sum_by-cons, width_of, Owner, Pad, Bit, owner_at, cells_of, field, array, padded_to, widths_of, Cell, length-field, field_at, within, Member, IsWidth, widths_are, member_width, length-parts, slot_at, stacked, up, stacked_push, stacked_append, stacked_take, stacked_bytes, length-padded, flat_stacked, soa_layout, IsStored, blob_of, alignment, in_blob, laid_arrays, single_blob, aligned_blob, array_bytes, keeps_alignment, SoaForm, Single, Aligned, Multi}
+use Rattle.map_soa.proofs.Imports.{◌≡◌, ℕ, zero, suc, inl, inr, All, ◌+◌, ◌-◌, ◌*◌, ◌%◌, ◌<◌, ◌≤◌, ⊎_elim, List, [], ◌∷◌, ◌++◌, map, length, sum_by, replicate, get_or, take, drop, slice_index, refl, sym, ap, ◌∙◌, subst, arith, length-append, flat_map, cases_lt, take_more, take_all, take-append-drop, get_or_append_left, get_or-append-add, get_or_push, get_or_default, get_or-map, length-map, length-enumerate_from, get_or-enumerate_from, sum_by-cons, width_of, Owner, Pad, Bit, owner_at, cells_of, field, array, padded_to, widths_of, Cell, length-field, field_at, within, Member, IsWidth, widths_are, member_width, length-parts, slot_at, stacked, up, stacked_push, stacked_append, stacked_take, stacked_bytes, length-padded, flat_stacked, soa_layout, LieInArrays, blob_of, alignment, in_blob, laid_arrays, single_blob, aligned_blob, array_bytes, keeps_alignment, SoaForm, Single, Aligned, Multi}
 
 -- the array of one cell: its length, and its places
 pub length-array : (slots c w : ℕ) → length (array slots (c, w)) ≡ slots * w
@@ -179,7 +179,7 @@ blob_bytes Multi begin whole = refl
 
 -- all cells are laid out
 pub stored_all : (form : SoaForm) (slots : ℕ) (widths : List ℕ) (count : ℕ) (offsets : List ℕ) (end : ℕ) → All IsWidth widths → count ≡ length widths
-    → IsPlaced form slots widths count offsets end → IsStored form slots widths offsets end
+    → IsPlaced form slots widths count offsets end → LieInArrays form slots widths offsets end
 stored_all form slots widths count offsets end widths_are all h =
     let size : length (cells_of widths) ≡ length widths = length-cells widths in
     let whole : take count (cells_of widths) ≡ cells_of widths = take_all count (cells_of widths) (omega arith) in
@@ -208,7 +208,7 @@ placed_next form slots cells i d offsets end width align begin offset inside w a
     placed_more form slots (widths_of cells) i offsets end width begin offset (omega arith) same (b ∙ ap (λ (n : ℕ). up n end) a) o h
 
 pub stored_cells : (form : SoaForm) (slots : ℕ) (cells : List Cell) (count : ℕ) (offsets : List ℕ) (end : ℕ) → count ≤ length cells → length cells ≤ count
-    → IsPlaced form slots (widths_of cells) count offsets end → IsStored form slots (widths_of cells) offsets end
+    → IsPlaced form slots (widths_of cells) count offsets end → LieInArrays form slots (widths_of cells) offsets end
 stored_cells form slots cells count offsets end low high h =
     let size : length (widths_of cells) ≡ length cells = length-map cells (λ (cell : Cell). width_of cell.kind) in
     stored_all form slots (widths_of cells) count offsets end (widths_are cells) (omega arith) h

@@ -24,7 +24,7 @@ in_blob Aligned begin = begin
 in_blob Multi begin = 0
 
 -- all blobs have `size` bits, and in its blob each cell's array lies from the cell's offset on, which is a byte, slot after slot
-pub record IsStored (form : SoaForm) (slots : ℕ) (widths offsets : List ℕ) (size : ℕ) : Type 0 where
+pub record LieInArrays (form : SoaForm) (slots : ℕ) (widths offsets : List ℕ) (size : ℕ) : Type 0 where
   pub each : length offsets ≡ length widths
   pub bytes : (cell : ℕ) → cell < length widths → slice_index offsets cell % 8 ≡ 0
   pub total : sum_by length (soa_layout form slots widths) ≡ size

@@ -2,7 +2,7 @@
 use Rattle.std.proofs.Common.{◌≡◌, ℕ, ◌+◌, ◌%◌, ◌<◌, ◌≤◌, List, [], ◌∷◌, map, length, get_or, All, refl, sym, ap, ◌∙◌, subst, arith}
 use Rattle.std.proofs.lemmas.List.Elements.{All-cons, All-nil, All-map}
 use Rattle.places.specs.Layout.{Owner, cells_of, field, array, single_soa, aligned_soa}
-use Rattle.places.specs.Laws.{IsBitOf, IsLaidOut}
+use Rattle.places.specs.Lawful.{IsBitOf, IsLaidOut}
 use Rattle.places.specs.Holds.{widths_of, full_holds}
 use Rattle.places.specs.declared.piece.Cell.{Cell}
 use Rattle.places.specs.declared.piece.Hold.{Hold}

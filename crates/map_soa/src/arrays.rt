@@ -1,7 +1,7 @@
 ghost use Rattle.std.specs.Prelude.{ℕ, ◌≡◌, ◌+◌, ◌*◌, ◌^◌, ◌<◌, ◌≤◌, ◌⊎◌, IfOk, IfErr, IsErrOf, length, sum_by};
 ghost use Rattle.places.specs.Holds.{widths_of};
 ghost use Rattle.places.specs.Forms.{soa_layout};
-ghost use Rattle.map_soa.specs.Soa.{IsStored, alignment, in_blob};
+ghost use Rattle.map_soa.specs.Soa.{LieInArrays, alignment, in_blob};
 
 use places::{Cell, MAX_BLOB_BITS, NewMapping, SoaForm, up};
 use std::alloc::Global;
@@ -41,7 +41,7 @@ pub fn lay_out(
     form: SoaForm,
 ) -> Result<Arrays, NewMapping>
     requires few { slots ≤ 2 ^ 24 }
-    ensures stored { IfOk result (λ arrays. IsStored form slots (widths_of cells.now) arrays.offsets.items arrays.size) }
+    ensures stored { IfOk result (λ arrays. LieInArrays form slots (widths_of cells.now) arrays.offsets.items arrays.size) }
     ensures fits { IfOk result (λ arrays. arrays.size ≤ 2 ^ 31) }
     ensures too_big { IsErrOf result NewMapping.TooBig → 2 ^ 31 < sum_by length (soa_layout form slots (widths_of cells.now)) }
     ensures only { IfErr result (λ e. (e ≡ NewMapping.TooBig) ⊎ (e ≡ NewMapping.NoMemory)) }

@@ -4,7 +4,7 @@ ghost use Rattle.places.specs.declared.piece.Cell.{Cell};
 ghost use Rattle.places.specs.declared.piece.Hold.{Hold};
 ghost use Rattle.places.specs.Layout.{Owner};
 ghost use Rattle.places.specs.Forms.{soa_layout};
-ghost use Rattle.map_soa.specs.Soa.{IsStored, blob_of};
+ghost use Rattle.map_soa.specs.Soa.{LieInArrays, blob_of};
 ghost use Rattle.map_soa.specs.SoaLaws.{soa_laws};
 ghost use Rattle.places.specs.CellWidthsLaws.{length-full};
 
@@ -25,7 +25,7 @@ pub struct Soa {
     offsets: Vec<u64>,
     /// The bits of all blobs.
     size: u64,
-    ghost stored: { IsStored form slots (widths_of cells.items) offsets.items size },
+    ghost stored: { LieInArrays form slots (widths_of cells.items) offsets.items size },
     ghost bound: { size ≤ 2 ^ 31 },
 }
 

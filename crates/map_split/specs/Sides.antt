@@ -9,8 +9,8 @@ first_of (true ∷ side) (x ∷ xs) = x ∷ first_of side xs
 first_of (false ∷ side) (x ∷ xs) = first_of side xs
 first_of _ _ = []
 
-abbrev pub rest_of : {X : Type 0} → List Bool → List X → List X
-rest_of side xs = first_of (map not side) xs
+abbrev pub side_rest : {X : Type 0} → List Bool → List X → List X
+side_rest side xs = first_of (map not side) xs
 
 -- items for the cells of both sides, in the order of the whole
 abbrev pub merged : {X : Type 0} → List Bool → List X → List X → List X
@@ -30,5 +30,5 @@ abbrev pub is_one_sided : List Bool → Bool
 is_one_sided side = (count_by (λ s. s) side == 0) || (count_by not side == 0)
 
 -- the blobs of both sides have more than 2^28 bytes together
-abbrev pub IsOver : List (List Owner) → List (List Owner) → Type 0
-IsOver first rest = 8 * 2 ^ 28 < sum_by length first + sum_by length rest
+abbrev pub IsTooLong : List (List Owner) → List (List Owner) → Type 0
+IsTooLong first rest = 8 * 2 ^ 28 < sum_by length first + sum_by length rest

@@ -5,7 +5,7 @@ use Rattle.std.specs.Prelude.{not, filter, if◌then◌else◌}
 use Rattle.std.specs.List.{count_by, enumerate_from}
 use Rattle.std.proofs.lemmas.List.{length-map}
 use Rattle.std.proofs.lemmas.List.Sums.{sum_by-cons}
-use Rattle.map_split.specs.Sides.{first_of, rest_of, merged, rank_first, rank_rest}
+use Rattle.map_split.specs.Sides.{first_of, side_rest, merged, rank_first, rank_rest}
 
 -- one more cell of each side
 pub yes_first : (side : List Bool) → count_by (λ (s : Bool). s) (true ∷ side) ≡ suc (count_by (λ (s : Bool). s) side)
@@ -187,7 +187,7 @@ length-first_of (true ∷ side) (x ∷ xs) e = ap suc (length-first_of side xs (
 length-first_of (false ∷ side) [] e = let none : ⊥ = omega arith in absurd none
 length-first_of (false ∷ side) (x ∷ xs) e = length-first_of side xs (omega arith)
 
-pub length-rest_of : {X : Type 0} (side : List Bool) (xs : List X) → length side ≡ length xs → length (rest_of side xs) ≡ count_by not side
+pub length-rest_of : {X : Type 0} (side : List Bool) (xs : List X) → length side ≡ length xs → length (side_rest side xs) ≡ count_by not side
 length-rest_of side xs e =
     let size : length (map not side) ≡ length side = length-map side not in
     length-first_of (map not side) xs (size ∙ e) ∙ count-mapped (λ (s : Bool). s) not side

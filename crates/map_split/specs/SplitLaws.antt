@@ -7,7 +7,7 @@ use Rattle.std.proofs.lemmas.List.{length-map}
 use Rattle.std.proofs.lemmas.List.Elements.{All-map, All-append}
 use Rattle.places.specs.Layout.{Owner, Bit}
 use Rattle.places.specs.Rules.{renamed, recelled, numbers_of, split}
-use Rattle.places.specs.Laws.{IsBitOf, IsLaidOut}
+use Rattle.places.specs.Lawful.{IsBitOf, IsLaidOut}
 use Rattle.places.specs.declared.piece.Cell.{Cell}
 use Rattle.places.specs.declared.piece.Hold.{Hold}
 use Rattle.places.specs.ComposeLaws.{Back, relabel_lays_out, join_lays_out, lays_out_same, laid_out, lays_out}

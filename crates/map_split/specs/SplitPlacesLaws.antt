@@ -3,7 +3,7 @@ use Rattle.std.proofs.Common.{◌≡◌, ℕ, ◌+◌, ◌<◌, Bool, true, fals
 use Rattle.std.specs.Prelude.{not}
 use Rattle.std.proofs.lemmas.List.{length-map}
 use Rattle.places.specs.Layout.{Owner, Bit}
-use Rattle.places.specs.Laws.{IsLocated, shifted}
+use Rattle.places.specs.Lawful.{IsLocated, shifted}
 use Rattle.places.specs.PlacesLaws.{relabel_located, left_located, right_located}
 use Rattle.places.specs.Rules.{recelled, numbers_of, split}
 use Rattle.places.specs.declared.piece.Piece.{Piece}

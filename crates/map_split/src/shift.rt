@@ -1,6 +1,6 @@
 ghost use Rattle.std.specs.Prelude.{ℕ, ◌≡◌, ◌+◌, ◌^◌, ◌<◌, All, map};
-ghost use Rattle.places.specs.Laws.{shifted};
-ghost use Rattle.map_split.specs.Shifts.{shifted_rule};
+ghost use Rattle.places.specs.Lawful.{shifted};
+ghost use Rattle.map_split.specs.Inner.Shifts.{shifted_rule};
 
 use places::{Piece, PieceRule, PieceRules, Pieces};
 

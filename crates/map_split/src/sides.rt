@@ -1,7 +1,7 @@
 ghost use Rattle.std.specs.Prelude.{ℕ, ◌≡◌, ◌<◌, length, not};
 ghost use Rattle.std.specs.List.{count_by};
 ghost use Rattle.map_split.specs.Sides.{is_one_sided};
-ghost use Rattle.map_split.specs.Seats.{IsSeat};
+ghost use Rattle.map_split.specs.Inner.Seats.{IsSeat};
 
 /// Where a cell of a split stands: its side, and its number there.
 #[derive(Clone, Copy)]

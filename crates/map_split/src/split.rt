@@ -1,7 +1,7 @@
 ghost use Rattle.std.specs.Prelude.{ℕ, ◌≡◌, ◌+◌, ◌^◌, ◌<◌, ◌⊎◌, ◌↔◌, true, not, IsTrue, IfOk, IfErr, OnOk, IsErrOf, length};
 ghost use Rattle.std.specs.List.{count_by};
 ghost use Rattle.places.specs.Rules.{split};
-ghost use Rattle.map_split.specs.Sides.{first_of, rest_of, merged, is_one_sided, IsOver};
+ghost use Rattle.map_split.specs.Sides.{first_of, side_rest, merged, is_one_sided, IsTooLong};
 ghost use Rattle.map_split.specs.SplitLaws.{split_laws, length-cells};
 
 use crate::bytes::bytes_left;
@@ -40,7 +40,7 @@ impl<A: Mapping, B: Mapping> Split<A, B> {
         requires each { length first_side.now ≡ length cells.now }
         requires slots { A.slot_count first ≡ B.slot_count rest }
         requires first_cells { A.cell_list first ≡ first_of first_side.now cells.now }
-        requires rest_cells { B.cell_list rest ≡ rest_of first_side.now cells.now }
+        requires rest_cells { B.cell_list rest ≡ side_rest first_side.now cells.now }
         requires blobs { length (A.layout first) + length (B.layout rest) < 2 ^ 64 }
         ensures slots { IfOk result (λ m. ⟦<Split<A, B> as Mapping>⟧.slot_count m ≡ A.slot_count first) }
         ensures cells { IfOk result (λ m. ⟦<Split<A, B> as Mapping>⟧.cell_list m ≡ cells.now) }
@@ -49,8 +49,8 @@ impl<A: Mapping, B: Mapping> Split<A, B> {
         ensures side { IsErrOf result NewMapping.Side ↔ (is_one_sided first_side.now ≡ true) }
 
         // Only want of memory comes before the limit.
-        ensures fits { OnOk result (IsOver (A.layout first) (B.layout rest) → ⊥) }
-        ensures too_big { IsErrOf result NewMapping.TooBig → IsOver (A.layout first) (B.layout rest) }
+        ensures fits { OnOk result (IsTooLong (A.layout first) (B.layout rest) → ⊥) }
+        ensures too_big { IsErrOf result NewMapping.TooBig → IsTooLong (A.layout first) (B.layout rest) }
         ensures only { IfErr result (λ e. (e ≡ NewMapping.Side) ⊎ ((e ≡ NewMapping.TooBig) ⊎ (e ≡ NewMapping.NoMemory))) }
     {
         if is_one_sided(first_side) {
@@ -72,7 +72,7 @@ impl<A: Mapping, B: Mapping> Split<A, B> {
 
 /// Whether the blobs of both mappings have more than 2^28 bytes together.
 fn is_too_big<A: Mapping, B: Mapping>(first: &A, rest: &B) -> bool
-    ensures { IsTrue result ↔ IsOver (A.layout first.now) (B.layout rest.now) }
+    ensures { IsTrue result ↔ IsTooLong (A.layout first.now) (B.layout rest.now) }
 {
     match bytes_left(first, MAX_BLOB_BYTES) {
         Some(left) => bytes_left(rest, left).is_none(),

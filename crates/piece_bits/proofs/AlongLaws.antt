@@ -1,27 +1,27 @@
 -- A short form that is put together of a path and what stands at its places.
-use Rattle.piece_bits.proofs.Imports.{◌≡◌, ℕ, ◌≤◌, ◌^◌, List, length, sym, ap, subst, Order, indices, Columns, Hold, PieceRule, Field, Word, IsAlong, IsPath, Stands, IsHeldBy, IsShortOf, IsStandOf, IsStandFor, Path, ShortRule, Stand, Walk}
+use Rattle.piece_bits.proofs.Imports.{◌≡◌, ℕ, ◌≤◌, ◌^◌, List, length, sym, ap, subst, Order, indices, Columns, Hold, PieceRule, Field, Word, IsAlong, IsRowPath, StandsFor, IsHeldBy, IsShortOf, IsStandOf, IsStandFor, Path, ShortRule, Stand, Walk}
 
 stands_along : (rules : List PieceRule) (field : Field) (word word' : Word) (blob blob' base base' block block' lane lane' power power' : ℕ) → word' ≡ word
-    → blob' ≡ blob → base' ≡ base → block' ≡ block → lane' ≡ lane → power' ≡ power → Stands rules word field blob base block lane power
-    → Stands rules word' field blob' base' block' lane' power'
+    → blob' ≡ blob → base' ≡ base → block' ≡ block → lane' ≡ lane → power' ≡ power → StandsFor rules word field blob base block lane power
+    → StandsFor rules word' field blob' base' block' lane' power'
 stands_along rules field word word' blob blob' base base' block block' lane lane' power power' one two three four five six h =
-    subst (λ (w : Word). Stands rules w field blob' base' block' lane' power') (sym one)
-    (subst (λ (n : ℕ). Stands rules word field n base' block' lane' power') (sym two)
-    (subst (λ (n : ℕ). Stands rules word field blob n block' lane' power') (sym three)
-    (subst (λ (n : ℕ). Stands rules word field blob base n lane' power') (sym four)
-    (subst (λ (n : ℕ). Stands rules word field blob base block n power') (sym five)
-    (subst (λ (n : ℕ). Stands rules word field blob base block lane n) (sym six) h)))))
+    subst (λ (w : Word). StandsFor rules w field blob' base' block' lane' power') (sym one)
+    (subst (λ (n : ℕ). StandsFor rules word field n base' block' lane' power') (sym two)
+    (subst (λ (n : ℕ). StandsFor rules word field blob n block' lane' power') (sym three)
+    (subst (λ (n : ℕ). StandsFor rules word field blob base n lane' power') (sym four)
+    (subst (λ (n : ℕ). StandsFor rules word field blob base block n power') (sym five)
+    (subst (λ (n : ℕ). StandsFor rules word field blob base block lane n) (sym six) h)))))
 
 path_along : (order : Order) (extents : List ℕ) (power power' : ℕ) (way way' : Walk) (lines lines' columns columns' : ℕ) → power' ≡ power → way' ≡ way
-    → lines' ≡ lines → columns' ≡ columns → IsPath order extents power way lines columns → IsPath order extents power' way' lines' columns'
+    → lines' ≡ lines → columns' ≡ columns → IsRowPath order extents power way lines columns → IsRowPath order extents power' way' lines' columns'
 path_along order extents power power' way way' lines lines' columns columns' one two three four h =
-    subst (λ (n : ℕ). IsPath order extents n way' lines' columns') (sym one)
-    (subst (λ (w : Walk). IsPath order extents power w lines' columns') (sym two)
-    (subst (λ (n : ℕ). IsPath order extents power way n columns') (sym three)
-    (subst (λ (n : ℕ). IsPath order extents power way lines n) (sym four) h)))
+    subst (λ (n : ℕ). IsRowPath order extents n way' lines' columns') (sym one)
+    (subst (λ (w : Walk). IsRowPath order extents power w lines' columns') (sym two)
+    (subst (λ (n : ℕ). IsRowPath order extents power way n columns') (sym three)
+    (subst (λ (n : ℕ). IsRowPath order extents power way lines n) (sym four) h)))
 
 pub short_of : (order : Order) (extents : List ℕ) (rules : List PieceRule) (hold : Hold) (path : Path) (stand : Stand) (short : ShortRule)
-    → IsAlong path stand hold short → IsStandFor rules hold stand → IsPath order extents stand.power path.walk path.lines path.columns.columns
+    → IsAlong path stand hold short → IsStandFor rules hold stand → IsRowPath order extents stand.power path.walk path.lines path.columns.columns
     → length (indices extents) ≤ 2 ^ 24 → IsShortOf order extents rules hold short
 short_of order extents rules hold path stand short along stands leads rows =
     let is : IsStandOf rules hold short.field stand = stands short.field along.signed along.width in

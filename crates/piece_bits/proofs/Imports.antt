@@ -28,7 +28,7 @@ pub use Rattle.record_dim.specs.LeafTypes.{IsIn}
 pub use Rattle.blobs.specs.Bits.{bit_of, bit_in}
 pub use Rattle.places.specs.declared.piece.Piece.{Piece}
 pub use Rattle.record_dim.specs.declared.leaf_type.LeafType.TheVariants.{Bool as Truth, U8, U16, I8, I32}
-pub use Rattle.places.specs.Laws.{IsLocated, IsPiece, owners_in}
+pub use Rattle.places.specs.Lawful.{IsLocated, IsPiece, owners_in}
 pub use Rattle.places.specs.BeginsLaws.{begins_fit}
 pub use Rattle.places.specs.PieceRules.{begin_in, piece_in, pieces_in}
 pub use Rattle.linearize.specs.ApartLaws.{line_same, column_on, columns_apart, morton_line}
@@ -43,29 +43,29 @@ pub use Rattle.blobs.specs.FieldsLaws.{field_read, field_put, window_written}
 pub use Rattle.blobs.specs.Turned.{turned_place}
 pub use Rattle.piece_bits.specs.declared.field.Field.{Field}
 pub use Rattle.piece_bits.specs.declared.word.Word.{Word}
-pub use Rattle.piece_bits.specs.Alongs.{IsAlong}
-pub use Rattle.piece_bits.specs.Paths.{IsPath}
-pub use Rattle.piece_bits.specs.Shorts.{Stands, IsHeldBy, IsShortOf, place_by, pieces_by, slot_in, start_in, HasStart}
-pub use Rattle.piece_bits.specs.Stands.{IsStandOf, IsStandFor, IsWhole, IsTurned, IsByteAlong, IsTurnedByte, AreTurned, IsScatteredByte, AreScattered, IsInBytes, IsInBits}
+pub use Rattle.piece_bits.specs.Inner.Alongs.{IsAlong}
+pub use Rattle.piece_bits.specs.RowPaths.{IsRowPath}
+pub use Rattle.piece_bits.specs.Shorts.{StandsFor, IsHeldBy, IsShortOf, place_by, pieces_by, slot_in, start_in, HasStart}
+pub use Rattle.piece_bits.specs.Inner.Stands.{IsStandOf, IsStandFor, IsWhole, IsTurned, IsByteAlong, IsTurnedByte, AreTurned, IsScatteredByte, AreScattered, IsInBytes, IsInBits}
 pub use Rattle.piece_bits.specs.declared.path.Path.{Path}
 pub use Rattle.piece_bits.specs.declared.short.ShortRule.{ShortRule}
 pub use Rattle.piece_bits.specs.declared.stand.Stand.{Stand}
 pub use Rattle.piece_bits.specs.declared.walk.Walk.{Walk}
-pub use Rattle.piece_bits.specs.Words.{half_range, word_place, word_signed, word_width, IsWord, word_bit, turned_pieces}
+pub use Rattle.piece_bits.specs.Words.{half_range, word_place, word_signed, word_width, IsPlaceWord, word_bit, turned_pieces}
 pub use Rattle.piece_bits.specs.Stretches.{stretch_place, IsStretch, AreEven}
 pub use Rattle.piece_bits.specs.declared.stretch.Stretch.{Stretch}
 pub use Rattle.piece_bits.specs.Lows.{low_64, IsWithin64}
-pub use Rattle.piece_bits.specs.Stretched.{number_at, stretched_at, HaveRead, HasRoom, IsPut, ArePut, HaveEight}
-pub use Rattle.piece_bits.specs.Scattered.{byte_of, scattered_pieces}
-pub use Rattle.piece_bits.specs.Spots.{spots_of, IsWithin, bit_at_spot, spot_at}
+pub use Rattle.piece_bits.specs.Stretched.{number_at, stretched_at, HaveRead, StretchFits, IsWordPut, ArePut, HaveEight}
+pub use Rattle.piece_bits.specs.Inner.Scattered.{byte_of, scattered_pieces}
+pub use Rattle.piece_bits.specs.Inner.Spots.{spots_of, IsWithin, bit_at_spot, spot_at}
 pub use Rattle.piece_bits.specs.SpotsOfLaws.{IsNext, nowhere, next_piece, read_next}
 pub use Rattle.piece_bits.specs.declared.stretch.Spread.{Spread}
 pub use Rattle.piece_bits.specs.declared.stretch.Spread.TheVariants.{Even, Digits, Blocks}
 pub use Rattle.piece_bits.specs.CongruenceLaws.{digits_negsuc, low_congruent, congruent_same}
 pub use Rattle.piece_bits.specs.declared.word.Word.TheVariants.{I64, Scattered, U64, TurnedU32, TurnedU64, TurnedI32, TurnedI64, I16, TurnedU16, TurnedI16, Field as FieldWord}
-pub use Rattle.piece_bits.specs.Kept.{kept, held}
-pub use Rattle.piece_bits.specs.Far.{shortened}
-pub use Rattle.piece_bits.specs.Joins.{Carries, AreJoined}
+pub use Rattle.piece_bits.specs.LowBits.{kept, held}
+pub use Rattle.piece_bits.specs.Inner.Far.{shortened}
+pub use Rattle.piece_bits.specs.Inner.Joins.{Carries, AreJoined}
 pub use Rattle.piece_bits.specs.Walks.{leads, walks_in_blocks, slot_by}
 pub use Rattle.piece_bits.specs.EntryLaws.{image_of_table, settled_after, same_sign}
 pub use Rattle.piece_bits.specs.ImageLaws.{image_table}
@@ -74,7 +74,7 @@ pub use Rattle.piece_bits.specs.FarLaws.{fold_next, folded_far, shortened_kept}
 pub use Rattle.piece_bits.specs.WritesLaws.{AreWritten, within_same, write_next}
 pub use Rattle.piece_bits.specs.Blocks.{IsBlock}
 pub use Rattle.piece_bits.specs.BlockLaws.{same}
-pub use Rattle.piece_bits.specs.Plain.{compares}
+pub use Rattle.piece_bits.specs.NumberTypes.{compares}
 pub use Rattle.piece_bits.specs.CellsLaws.{IsCell, hold_is, some_bits, few_bits, bit_count, apart, written_table, written_padding, still_laid, within, read_small, read_entry_is, bit_in_lt}
 pub use Rattle.piece_bits.specs.OnePieceLaws.{one_count, one_within, one_table, one_laid, one_width, one_entry}
 pub use Rattle.piece_bits.specs.LowsLaws.{code_low}

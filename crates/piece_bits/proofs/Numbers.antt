@@ -1,5 +1,5 @@
 -- Numbers that are read are of 64 bits.
-use Rattle.piece_bits.proofs.Imports.{◌≡◌, ℕ, ◌+◌, ◌-◌, ◌*◌, ◌/◌, ◌%◌, ◌^◌, ◌<◌, ◌≤◌, Bool, true, false, List, length, get_or, set, ℤ, pos, refl, sym, ap, ◌∙◌, subst, ⊎_elim, arith, pow-le-pow_right, cases_eq, ints, length-set, get_or-set_same, get_or-set_other, bit_at-lt, IsIn, number, number_lt, decoded_in, bit_of, word_place, word_signed, word_width, IsWord, Field, Word, stretch_place, ShortRule, Stretch, low_64, IsWithin64, number_at, stretched_at, HaveEight, HaveRead}
+use Rattle.piece_bits.proofs.Imports.{◌≡◌, ℕ, ◌+◌, ◌-◌, ◌*◌, ◌/◌, ◌%◌, ◌^◌, ◌<◌, ◌≤◌, Bool, true, false, List, length, get_or, set, ℤ, pos, refl, sym, ap, ◌∙◌, subst, ⊎_elim, arith, pow-le-pow_right, cases_eq, ints, length-set, get_or-set_same, get_or-set_other, bit_at-lt, IsIn, number, number_lt, decoded_in, bit_of, word_place, word_signed, word_width, IsPlaceWord, Field, Word, stretch_place, ShortRule, Stretch, low_64, IsWithin64, number_at, stretched_at, HaveEight, HaveRead}
 use Rattle.piece_bits.specs.declared.word.Word.TheVariants as stored
 
 within_of : (signed : Bool) (width : ℕ) (value : ℤ) → 1 ≤ width → width ≤ 64 → IsIn signed width value → IsWithin64 value
@@ -11,17 +11,17 @@ within_of false width value some narrow inside =
     (omega (arith, ints, inside.0), omega (arith, ints, inside.1, all))
 
 -- a word has from 1 to 64 bits
-pub word_some : (word : Word) (field : Field) → IsWord word field → 1 ≤ word_width word field
+pub word_some : (word : Word) (field : Field) → IsPlaceWord word field → 1 ≤ word_width word field
 word_some stored.Field field form = form.0.some
 word_some stored.Scattered field form = absurd form
 word_some _ field form = omega arith
 
-pub word_narrow : (word : Word) (field : Field) → IsWord word field → word_width word field ≤ 64
+pub word_narrow : (word : Word) (field : Field) → IsPlaceWord word field → word_width word field ≤ 64
 word_narrow stored.Field field form = form.0.narrow
 word_narrow stored.Scattered field form = absurd form
 word_narrow _ field form = omega arith
 
-pub number_within : (word : Word) (field : Field) (bytes : List ℕ) (place : ℕ) → IsWord word field → IsWithin64 (number_at word field bytes place)
+pub number_within : (word : Word) (field : Field) (bytes : List ℕ) (place : ℕ) → IsPlaceWord word field → IsWithin64 (number_at word field bytes place)
 number_within word field bytes place form =
     let bits : ℕ → ℕ = λ k. bit_of bytes (word_place word place k) in
     let width : ℕ = word_width word field in

@@ -1,5 +1,5 @@
 -- What stands at the places of rules: that it is where the rules say.
-use Rattle.piece_bits.proofs.Imports.{◌≡◌, ◌≢◌, ℕ, ◌+◌, ◌-◌, ◌*◌, ◌/◌, ◌%◌, ◌^◌, ◌<◌, ◌≤◌, All, List, [], ◌∷◌, map, length, get_or, refl, sym, ap, ◌∙◌, subst, arith, same_lists, length-map, get_or-map, All-head, IsLocated, Hold, Piece, begins_fit, begin_in, piece_in, pieces_in, PieceRule, turned_pieces, Field, Word, Carries, place_by, pieces_by, Stands, IsHeldBy, IsWhole, IsTurned, IsByteAlong, IsTurnedByte, AreTurned, IsScatteredByte, AreScattered, IsInBytes, IsInBits, IsStandFor, Stand}
+use Rattle.piece_bits.proofs.Imports.{◌≡◌, ◌≢◌, ℕ, ◌+◌, ◌-◌, ◌*◌, ◌/◌, ◌%◌, ◌^◌, ◌<◌, ◌≤◌, All, List, [], ◌∷◌, map, length, get_or, refl, sym, ap, ◌∙◌, subst, arith, same_lists, length-map, get_or-map, All-head, IsLocated, Hold, Piece, begins_fit, begin_in, piece_in, pieces_in, PieceRule, turned_pieces, Field, Word, Carries, place_by, pieces_by, StandsFor, IsHeldBy, IsWhole, IsTurned, IsByteAlong, IsTurnedByte, AreTurned, IsScatteredByte, AreScattered, IsInBytes, IsInBits, IsStandFor, Stand}
 use Rattle.piece_bits.specs.declared.word.Word.TheVariants as stored
 use Rattle.piece_bits.proofs.Places.{same_steps, same_piece}
 use Rattle.piece_bits.proofs.Together.{piece}
@@ -13,7 +13,7 @@ place_of stand slot = place_by stand.base stand.block stand.lane stand.power slo
 stands_from : (rules : List PieceRule) (field : Field) (stand : Stand)
     → ((slot : ℕ) → pieces_in rules slot ≡ pieces_by stand.word field stand.blob rules (place_of stand slot))
     → ((slot : ℕ) → All (λ rule. begin_in rule slot < 2 ^ 64) rules → place_of stand slot < 2 ^ 64)
-    → Stands rules stand.word field stand.blob stand.base stand.block stand.lane stand.power
+    → StandsFor rules stand.word field stand.blob stand.base stand.block stand.lane stand.power
 stands_from rules field stand same fits = λ layout row cell width slot placed. (
   subst (λ (ps : List Piece). IsLocated layout row cell width ps) (same slot) placed,
   fits slot (begins_fit layout row cell width slot rules placed),

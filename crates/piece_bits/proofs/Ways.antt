@@ -1,5 +1,5 @@
 -- How rows become slots: by rows, and over lines and columns.
-use Rattle.piece_bits.proofs.Imports.{◌≡◌, ◌≢◌, ℕ, ◌<◌, ◌⊎◌, ⊎_elim, List, [], ◌∷◌, length, get_or, refl, sym, ap, ◌∙◌, subst, arith, Order, Row, Col, Morton, indices, slot_at, slot_at_by_rows, slot_in_line, slot_by_columns, slot_by_digits, IsPath}
+use Rattle.piece_bits.proofs.Imports.{◌≡◌, ◌≢◌, ℕ, ◌<◌, ◌⊎◌, ⊎_elim, List, [], ◌∷◌, length, get_or, refl, sym, ap, ◌∙◌, subst, arith, Order, Row, Col, Morton, indices, slot_at, slot_at_by_rows, slot_in_line, slot_by_columns, slot_by_digits, IsRowPath}
 use Rattle.piece_bits.specs.declared.walk.Walk.TheVariants as walk
 
 -- a list of one or of two numbers
@@ -25,7 +25,7 @@ slot_is_row order extents row either inside =
     either
 
 pub plain_path : (order : Order) (extents : List ℕ) (power lines columns : ℕ) → (order ≡ Row) ⊎ (length extents ≡ 1) → power ≡ 0
-    → IsPath order extents power walk.Plain lines columns
+    → IsRowPath order extents power walk.Plain lines columns
 plain_path order extents power lines columns either none = record {
   some = refl;
   single = λ _. none;
@@ -35,7 +35,7 @@ plain_path order extents power lines columns either none = record {
 }
 
 pub block_path : (order : Order) (extents : List ℕ) (power lines columns : ℕ) → (order ≡ Row) ⊎ (length extents ≡ 1)
-    → IsPath order extents power walk.Blocks lines columns
+    → IsRowPath order extents power walk.Blocks lines columns
 block_path order extents power lines columns either = record {
   some = refl;
   single = λ e. cc;
@@ -51,7 +51,7 @@ by_columns Col one two = refl
 by_columns Morton one two = absurd (two refl)
 
 pub column_path : (order : Order) (extents : List ℕ) (lines columns : ℕ) → extents ≡ lines ∷ columns ∷ [] → order ≢ Row → order ≢ Morton
-    → IsPath order extents 0 walk.Columns lines columns
+    → IsRowPath order extents 0 walk.Columns lines columns
 column_path order extents lines columns is one two = record {
   some = refl;
   single = λ _. refl;
@@ -63,7 +63,7 @@ column_path order extents lines columns is one two = record {
 }
 
 pub digit_path : (order : Order) (extents : List ℕ) (lines columns : ℕ) → extents ≡ lines ∷ columns ∷ [] → order ≡ Morton
-    → IsPath order extents 0 walk.Morton lines columns
+    → IsRowPath order extents 0 walk.Morton lines columns
 digit_path order extents lines columns is turned = record {
   some = refl;
   single = λ _. refl;

@@ -10,10 +10,10 @@ use Rattle.places.specs.declared.piece.Hold.{Hold}
 use Rattle.places.specs.Layout.{Owner, Pad, owner_at}
 use Rattle.places.specs.Image.{number, digit, decoded, entry, table_of}
 use Rattle.places.specs.CellWidthsLaws.{width_at}
-use Rattle.places.specs.Laws.{IsLaidOut, IsLocated}
+use Rattle.places.specs.Lawful.{IsLaidOut, IsLocated}
 use Rattle.places.specs.NumbersLaws.{number_lt, bit_number, digit_lt}
 use Rattle.blobs.specs.Bits.{bit_in}
-use Rattle.piece_bits.specs.Spots.{spots_of, bit_at_spot, IsWithin, AreApart, IsOutside}
+use Rattle.piece_bits.specs.Inner.Spots.{spots_of, bit_at_spot, IsWithin, AreApart, IsOutside}
 use Rattle.piece_bits.specs.Tables.{with_entry, signs_and_widths, table_in, hold_at, AreSized, AreLaid}
 use Rattle.piece_bits.specs.LocatedLaws.{spot_count, spots_apart, pieces_within}
 use Rattle.piece_bits.specs.EntriesLaws.{read_is, set_is, padding_stands}

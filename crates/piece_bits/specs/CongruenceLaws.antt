@@ -7,13 +7,8 @@ use Rattle.std.proofs.Math.Nat.{mul-le-mul_right}
 use Rattle.record_dim.specs.LeafTypes.{IsIn}
 use Rattle.places.specs.Image.{number, digit, decoded}
 use Rattle.places.specs.NumbersLaws.{number_bits, number_complement, decoded_low, decoded_high, half_of}
-use Rattle.piece_bits.specs.Kept.{low_bits}
-
--- two numbers are equal once multiples of m are added to both
-pub record AreCongruent (m : ℕ) (a b : ℤ) : Type 0 where
-  pub one : ℕ
-  pub other : ℕ
-  pub same : a +ℤ pos (one * m) ≡ b +ℤ pos (other * m)
+use Rattle.piece_bits.specs.LowBits.{low_bits}
+use Rattle.piece_bits.specs.Congruence.{AreCongruent}
 
 -- the digits of a number, as a remainder
 digits_pos : (n width : ℕ) → number (digit (pos n)) width ≡ n % 2 ^ width

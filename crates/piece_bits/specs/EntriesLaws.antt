@@ -10,11 +10,11 @@ use Rattle.places.specs.declared.piece.Hold.{Hold}
 use Rattle.places.specs.Layout.{Owner, Pad, Bit, owner_at}
 use Rattle.places.specs.Image.{number, digit, decoded, entry, bit_held, image, IsImage, bit_owned, reading, table_of}
 use Rattle.places.specs.CellWidthsLaws.{width_at}
-use Rattle.places.specs.Laws.{IsBitOf, IsLaidOut, IsLocated}
+use Rattle.places.specs.Lawful.{IsBitOf, IsLaidOut, IsLocated}
 use Rattle.places.specs.NumbersLaws.{number_same, number_lt, bit_number, decoded_low, decoded_digits, bit_digits, decoded_in}
 use Rattle.places.specs.OwnedLaws.{owned_is, found_owned}
 use Rattle.blobs.specs.Bits.{bit_of, bits_of, bit_in}
-use Rattle.piece_bits.specs.Spots.{spots_of, spot_at, bit_at_spot, IsOutside}
+use Rattle.piece_bits.specs.Inner.Spots.{spots_of, spot_at, bit_at_spot, IsOutside}
 use Rattle.piece_bits.specs.Tables.{with_entry, zeros, signs_and_widths}
 use Rattle.piece_bits.specs.LocatedLaws.{spot_owner, spot_count, spot_owned}
 use Rattle.piece_bits.specs.TableLaws.{table_shape, entry_is, is_with_entry, tables_same, zeros_shape, zeros_entry}

@@ -8,11 +8,11 @@ use Rattle.places.specs.declared.piece.Hold.{Hold}
 use Rattle.places.specs.Layout.{Owner, Pad, Bit, owner_at}
 use Rattle.places.specs.Image.{digit, entry, bit_held, IsImage, table_of}
 use Rattle.places.specs.CellWidthsLaws.{width_at}
-use Rattle.places.specs.Laws.{IsLaidOut, IsBitOf}
+use Rattle.places.specs.Lawful.{IsLaidOut, IsBitOf}
 use Rattle.piece_bits.specs.Tables.{with_entry, HasShape, hold_at, signs_and_widths}
 use Rattle.piece_bits.specs.TableLaws.{table_shape, with_entry_same, with_entry_other}
 use Rattle.piece_bits.specs.EntriesLaws.{image_from_padding}
-use Rattle.piece_bits.specs.Kept.{value_bits, declared, held, kept}
+use Rattle.piece_bits.specs.LowBits.{value_bits, declared, held, kept}
 use Rattle.piece_bits.specs.KeptLaws.{low_in, low_same, some_bits, wider_in, held_digit, kept_in, declared_same, fitting_kept}
 use Rattle.piece_bits.specs.declared.mode.StoreMode.{StoreMode}
 use Rattle.piece_bits.specs.declared.mode.StoreMode.TheVariants.{Strict, Wrap}

@@ -8,8 +8,8 @@ use Rattle.record_dim.specs.declared.leaf_type.LeafType.{LeafType}
 use Rattle.places.specs.declared.piece.Hold.{Hold}
 use Rattle.places.specs.Image.{number, digit, decoded}
 use Rattle.places.specs.NumbersLaws.{number_bits}
-use Rattle.piece_bits.specs.Kept.{low_bits, declared, kept}
-use Rattle.piece_bits.specs.Far.{folded, shortened}
+use Rattle.piece_bits.specs.LowBits.{low_bits, declared, kept}
+use Rattle.piece_bits.specs.Inner.Far.{folded, shortened}
 use Rattle.piece_bits.specs.CongruenceLaws.{digits_negsuc}
 
 near : (n : ℕ) → n < 2 ^ 65 → folded n ≡ n

@@ -8,10 +8,10 @@ use Rattle.places.specs.Image.{digit, decoded, entry, bit_held, bit_owned, IsIma
 use Rattle.places.specs.CellWidthsLaws.{width_at}
 use Rattle.places.specs.NumbersLaws.{number_same}
 use Rattle.places.specs.OwnedLaws.{owned_is}
-use Rattle.places.specs.Laws.{IsLaidOut, IsBitOf}
+use Rattle.places.specs.Lawful.{IsLaidOut, IsBitOf}
 use Rattle.piece_bits.specs.Tables.{HasShape, hold_at, signs_and_widths}
 use Rattle.piece_bits.specs.TableLaws.{table_shape, entry_is, tables_same}
-use Rattle.piece_bits.specs.Kept.{declared, held}
+use Rattle.piece_bits.specs.LowBits.{declared, held}
 use Rattle.piece_bits.specs.declared.mode.StoreMode.{StoreMode}
 use Rattle.piece_bits.specs.Modes.{kind_at, declared_table, Stays}
 use Rattle.piece_bits.specs.KeptTableLaws.{declared_shape, declared_entry}

@@ -9,7 +9,7 @@ use Rattle.record_dim.specs.LeafTypes.{is_signed, IsIn, IsDeclared}
 use Rattle.places.specs.declared.piece.Hold.{Hold}
 use Rattle.places.specs.Image.{number, digit, decoded}
 use Rattle.places.specs.NumbersLaws.{number_same, number_lt, bit_number, bit_digits, digit_lt, decoded_digits, decoded_in}
-use Rattle.piece_bits.specs.Kept.{low_bits, value_bits, declared, held, kept}
+use Rattle.piece_bits.specs.LowBits.{low_bits, value_bits, declared, held, kept}
 
 -- digits make a number below 2^width
 pub digits_small : (value : ℤ) (width : ℕ) → number (digit value) width < 2 ^ width

@@ -5,7 +5,7 @@ use Rattle.record_dim.specs.declared.leaf_type.LeafType.{LeafType}
 use Rattle.places.specs.Image.{entry}
 use Rattle.piece_bits.specs.Tables.{with_entry, HasShape}
 use Rattle.piece_bits.specs.TableLaws.{with_entry_shape, with_entry_same, with_entry_other, is_with_entry}
-use Rattle.piece_bits.specs.Kept.{declared}
+use Rattle.piece_bits.specs.LowBits.{declared}
 use Rattle.piece_bits.specs.Modes.{kind_at, declared_row, declared_table}
 
 pub length-declared_row : (kinds : List LeafType) (row : List ℤ) → length row ≡ length kinds → length (declared_row kinds row) ≡ length kinds

@@ -1,4 +1,3 @@
-pub mod Spots
 pub mod Tables
 pub mod CellsLaws
 pub mod EntriesLaws
@@ -11,14 +10,10 @@ pub mod MovedBytesLaws
 pub mod OnePieceLaws
 pub mod Words
 pub mod WordsLaws
-pub mod Scattered
 pub mod Walks
-pub mod Paths
-pub mod Joins
+pub mod RowPaths
 pub mod Shorts
 pub mod ShortsLaws
-pub mod Stands
-pub mod Alongs
 pub mod Wides
 pub mod Spreads
 pub mod Stretches
@@ -27,9 +22,8 @@ pub mod Lows
 pub mod LowsLaws
 pub mod Stretched
 pub mod CongruenceLaws
-pub mod Far
 pub mod FarLaws
-pub mod Kept
+pub mod LowBits
 pub mod KeptLaws
 pub mod Modes
 pub mod KeptTableLaws
@@ -37,5 +31,7 @@ pub mod EntryLaws
 pub mod ImageLaws
 pub mod Blocks
 pub mod BlockLaws
-pub mod Plain
+pub mod NumberTypes
 pub mod NarrowLaws
+pub mod Congruence
+pub mod Inner

@@ -4,9 +4,9 @@ use Rattle.std.specs.List.{flat_map, range_with_len}
 use Rattle.std.proofs.lemmas.List.{map-append, length-map, get_or-map}
 use Rattle.places.specs.declared.piece.Piece.{Piece}
 use Rattle.places.specs.Layout.{Owner, Pad, Bit, owner_at, field}
-use Rattle.places.specs.Laws.{IsPiece, IsLocated, owners_in}
+use Rattle.places.specs.Lawful.{IsPiece, IsLocated, owners_in}
 use Rattle.places.specs.ExactLaws.{length-field, field_at}
-use Rattle.piece_bits.specs.Spots.{spots_of, spot_at, IsWithin, AreApart}
+use Rattle.piece_bits.specs.Inner.Spots.{spots_of, spot_at, IsWithin, AreApart}
 use Rattle.piece_bits.specs.Tables.{AreSized}
 use Rattle.piece_bits.specs.SpotsOfLaws.{spots_in}
 

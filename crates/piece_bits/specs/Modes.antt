@@ -6,7 +6,7 @@ use Rattle.record_dim.specs.LeafTypes.{IsIn, IsDeclared}
 use Rattle.places.specs.declared.piece.Hold.{Hold}
 use Rattle.places.specs.Image.{entry}
 use Rattle.piece_bits.specs.Tables.{hold_at}
-use Rattle.piece_bits.specs.Kept.{declared, held, kept}
+use Rattle.piece_bits.specs.LowBits.{declared, held, kept}
 use Rattle.piece_bits.specs.declared.mode.StoreMode.{StoreMode}
 use Rattle.piece_bits.specs.declared.mode.StoreMode.TheVariants.{Strict, Wrap}
 

@@ -6,7 +6,7 @@ use Rattle.places.specs.declared.piece.Hold.{Hold}
 use Rattle.places.specs.Layout.{Owner, Pad, Bit, owner_at}
 use Rattle.places.specs.Image.{decoded, entry, bit_owned}
 use Rattle.places.specs.CellWidthsLaws.{width_at}
-use Rattle.places.specs.Laws.{IsBitOf, IsLaidOut}
+use Rattle.places.specs.Lawful.{IsBitOf, IsLaidOut}
 use Rattle.places.specs.NumbersLaws.{number_same}
 use Rattle.places.specs.OwnedLaws.{owned_is}
 use Rattle.blobs.specs.Bits.{bit_in}

@@ -6,7 +6,7 @@ use Rattle.std.proofs.lemmas.Int.{ints, unsigned_abs-mul, fits_signed_from_abs}
 use Rattle.std.proofs.lemmas.Simd.{Each2-of}
 use Rattle.std.specs.Simd.Lanes.{Each1}
 use Rattle.piece_bits.specs.Blocks.{IsFactor, IsNarrow}
-use Rattle.piece_bits.specs.Plain.{ProductsFit}
+use Rattle.piece_bits.specs.NumberTypes.{ProductsFit}
 
 -- how large a number is, from its bounds and the other way round
 size_at_most : (z : ℤ) (n : ℕ) → neg_ℤ (pos n) ≤ℤ z → z ≤ℤ pos n → unsigned_abs z ≤ n

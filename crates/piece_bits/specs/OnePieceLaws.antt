@@ -10,7 +10,7 @@ use Rattle.places.specs.Image.{number, digit, decoded, entry}
 use Rattle.places.specs.NumbersLaws.{number_same, number_lt, digit_lt}
 use Rattle.blobs.specs.Bits.{bit_of, bit_in}
 use Rattle.piece_bits.specs.CellsLaws.{IsCell, bit_count, apart, within, read_entry_is, written_table, written_padding, still_laid}
-use Rattle.piece_bits.specs.Spots.{spots_of, spot_at, bit_at_spot, IsWithin, AreApart}
+use Rattle.piece_bits.specs.Inner.Spots.{spots_of, spot_at, bit_at_spot, IsWithin, AreApart}
 use Rattle.piece_bits.specs.SpotsOfLaws.{IsNext, next_piece, nowhere}
 use Rattle.piece_bits.specs.Tables.{AreLaid, table_in, with_entry}
 use Rattle.piece_bits.specs.WritesLaws.{AreWritten, write_next}

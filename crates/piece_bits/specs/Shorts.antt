@@ -3,7 +3,7 @@ use Rattle.std.specs.Prelude.{ℕ, ◌≡◌, ◌+◌, ◌*◌, ◌/◌, ◌%◌
 use Rattle.extents.specs.declared.order.Order.{Order}
 use Rattle.extents.specs.Indices.{indices}
 use Rattle.places.specs.Layout.{Owner}
-use Rattle.places.specs.Laws.{IsLocated}
+use Rattle.places.specs.Lawful.{IsLocated}
 use Rattle.places.specs.declared.piece.Hold.{Hold}
 use Rattle.places.specs.declared.piece.Piece.{Piece}
 use Rattle.places.specs.PieceRules.{pieces_in}
@@ -12,7 +12,7 @@ use Rattle.piece_bits.specs.Words.{word_signed, word_width, word_pieces}
 use Rattle.piece_bits.specs.declared.field.Field.{Field}
 use Rattle.piece_bits.specs.declared.word.Word.{Word}
 use Rattle.piece_bits.specs.declared.word.Word.TheVariants as stored
-use Rattle.piece_bits.specs.Paths.{IsPath}
+use Rattle.piece_bits.specs.RowPaths.{IsRowPath}
 use Rattle.piece_bits.specs.Walks.{slot_by}
 use Rattle.piece_bits.specs.declared.walk.Walk.TheVariants as walk
 use Rattle.piece_bits.specs.declared.short.ShortRule.{ShortRule}
@@ -47,8 +47,8 @@ pub record HasStart (short : ShortRule) (row : ℕ) : Type 0 where
   pub column : short.walk ≡ walk.Morton → row % short.columns.columns < 2 ^ 12
 
 -- wherever the pieces of rules are the places of a cell, so are those of what stands at a place, and the place fits its type
-abbrev pub Stands : List PieceRule → Word → Field → ℕ → ℕ → ℕ → ℕ → ℕ → Type 0
-Stands rules word field blob base block lane power = (layout : List (List Owner)) (row cell width slot : ℕ) → IsLocated layout row cell width (pieces_in rules slot)
+abbrev pub StandsFor : List PieceRule → Word → Field → ℕ → ℕ → ℕ → ℕ → ℕ → Type 0
+StandsFor rules word field blob base block lane power = (layout : List (List Owner)) (row cell width slot : ℕ) → IsLocated layout row cell width (pieces_in rules slot)
     → IsLocated layout row cell width (pieces_by word field blob rules (place_by base block lane power slot)) × (place_by base block lane power slot < 2 ^ 64)
 
 -- what stands at its places has the sign and the width of a hold, and a field at most 57 bits
@@ -60,8 +60,8 @@ pub record IsHeldBy (hold : Hold) (word : Word) (field : Field) : Type 0 where
 -- a short form says of rules by an order over extents what they say
 pub record IsShortOf (order : Order) (extents : List ℕ) (rules : List PieceRule) (hold : Hold) (short : ShortRule) : Type 0 where
   pub held : IsHeldBy hold short.word short.field
-  pub stands : Stands rules short.word short.field short.blob short.base short.block short.lane short.power
-  pub path : IsPath order extents short.power short.walk short.lines short.columns.columns
+  pub stands : StandsFor rules short.word short.field short.blob short.base short.block short.lane short.power
+  pub path : IsRowPath order extents short.power short.walk short.lines short.columns.columns
   pub rows : length (indices extents) ≤ 2 ^ 24
 
 -- a short form says where a cell lies in every row, and how it is stored

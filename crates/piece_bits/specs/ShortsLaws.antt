@@ -7,7 +7,7 @@ use Rattle.linearize.specs.Slots.{slot_at, slot_count}
 use Rattle.linearize.specs.SlotsLaws.{slot_at_below}
 use Rattle.linearize.specs.LinesLaws.{line_narrow, column_narrow}
 use Rattle.places.specs.Layout.{Owner}
-use Rattle.places.specs.Laws.{IsLocated}
+use Rattle.places.specs.Lawful.{IsLocated}
 use Rattle.places.specs.declared.piece.Hold.{Hold}
 use Rattle.places.specs.PieceRules.{pieces_in}
 use Rattle.places.specs.declared.rule.PieceRule.{PieceRule}

@@ -10,7 +10,7 @@ use Rattle.std.proofs.Math.Pow.{pow_mono}
 use Rattle.places.specs.Image.{number}
 use Rattle.places.specs.NumbersLaws.{number_same, number_split, number_lt}
 use Rattle.places.specs.declared.piece.Piece.{Piece}
-use Rattle.piece_bits.specs.Spots.{spots_of, spot_at, bit_at_spot}
+use Rattle.piece_bits.specs.Inner.Spots.{spots_of, spot_at, bit_at_spot}
 
 -- the piece that a slice of pieces has past its end
 abbrev pub nowhere : Piece

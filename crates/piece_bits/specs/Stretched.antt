@@ -4,7 +4,7 @@ use mir.Syntax.{w64}
 use Rattle.std.specs.Int.{bit_at}
 use Rattle.places.specs.Image.{number, digit, decoded}
 use Rattle.blobs.specs.Bits.{bit_of}
-use Rattle.piece_bits.specs.Words.{word_bit, word_place, word_signed, word_width, IsWord}
+use Rattle.piece_bits.specs.Words.{word_bit, word_place, word_signed, word_width, IsPlaceWord}
 use Rattle.piece_bits.specs.declared.field.Field.{Field}
 use Rattle.piece_bits.specs.declared.word.Word.{Word}
 use Rattle.piece_bits.specs.Stretches.{stretch_place}
@@ -23,8 +23,8 @@ abbrev pub stretched_at : ShortRule → Stretch → List ℕ → ℕ → ℤ
 stretched_at short stretch bytes k = number_at short.word short.field bytes (stretch_place stretch k)
 
 -- the rows of a stretch stand within so many bytes, each at one place
-pub record HasRoom (short : ShortRule) (stretch : Stretch) (bytes : ℕ) : Type 0 where
-  pub form : IsWord short.word short.field
+pub record StretchFits (short : ShortRule) (stretch : Stretch) (bytes : ℕ) : Type 0 where
+  pub form : IsPlaceWord short.word short.field
   pub digits : stretch.spread ≡ Digits → stretch.rows ≤ 16
   pub places : (k : ℕ) → k < stretch.rows → stretch_place stretch k < 2 ^ 64
   pub room : (k : ℕ) → k < stretch.rows → word_bit short.word (stretch_place stretch k) + word_width short.word short.field ≤ 8 * bytes
@@ -45,7 +45,7 @@ abbrev pub AreRead : ShortRule → Stretch → List ℕ → ℕ → List ℤ →
 AreRead short stretch bytes at old values = HaveRead short stretch bytes at stretch.rows old values
 
 -- the bits at a place are those of a number of 64 bits with a sign, as many as a word has, and all others are as they were
-pub record IsPut (word : Word) (field : Field) (place : ℕ) (value : ℤ) (old new : List ℕ) : Type 0 where
+pub record IsWordPut (word : Word) (field : Field) (place : ℕ) (value : ℤ) (old new : List ℕ) : Type 0 where
   pub fits : FitsSigned w64 value
   pub inside : (k : ℕ) → k < word_width word field → bit_of new (word_place word place k) ≡ bit_at (number (digit value) (word_width word field)) k
   pub before : (k : ℕ) → k < word_bit word place → bit_of new k ≡ bit_of old k
@@ -57,4 +57,4 @@ abbrev pub ArePut : ShortRule → Stretch → List ℤ → ℕ → ℕ → List 
 ArePut short stretch values at zero old new = new ≡ old
 ArePut short stretch values at (suc k) old new =
     (between : List ℕ) × ArePut short stretch values at k old between
-    × IsPut short.word short.field (stretch_place stretch k) (slice_index_or values (at + k) (pos 0)) between new
+    × IsWordPut short.word short.field (stretch_place stretch k) (slice_index_or values (at + k) (pos 0)) between new

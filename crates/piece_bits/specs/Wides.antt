@@ -55,7 +55,7 @@ pub record IsTurnedWide (short : ShortRule) (bytes row : ℕ) : Type 0 where
   pub room : start_in short row + 8 ≤ bytes
 
 -- so many rows are read so, where the blob has so many bytes
-pub record IsWide (short : ShortRule) (bytes : ℕ) (wide : Wide) : Type 0 where
+pub record AreReadWide (short : ShortRule) (bytes : ℕ) (wide : Wide) : Type 0 where
   pub whole : (row : ℕ) → row < wide.whole → IsWholeWide short bytes row
   pub blocks : (row : ℕ) → row < wide.blocks → IsBlockWide short bytes row
   pub field : (row : ℕ) → row < wide.field → IsFieldWide short bytes row

@@ -12,7 +12,7 @@ half_range true width = 2 ^ (width - 1)
 half_range false width = 0
 
 -- the ones and the half of the range of a field are those of its width and sign
-pub record IsField (field : Field) : Type 0 where
+pub record IsBitField (field : Field) : Type 0 where
   pub some : 1 ≤ field.width
   pub narrow : field.width ≤ 64
   pub ones : field.ones ≡ 2 ^ field.width - 1
@@ -64,10 +64,10 @@ word_place FieldWord start k = start + k
 word_place _ start k = 8 * start + k
 
 -- it stands at one place: a field has at most 57 bits, and scattered bytes do not
-abbrev pub IsWord : Word → Field → Type 0
-IsWord FieldWord field = IsField field × (field.width ≤ 57)
-IsWord Scattered field = ⊥
-IsWord _ field = Unit {0}
+abbrev pub IsPlaceWord : Word → Field → Type 0
+IsPlaceWord FieldWord field = IsBitField field × (field.width ≤ 57)
+IsPlaceWord Scattered field = ⊥
+IsPlaceWord _ field = Unit {0}
 
 -- so many whole bytes from a bit on in reverse order: their pieces, least significant first
 abbrev pub turned_pieces : ℕ → ℕ → ℕ → List Piece

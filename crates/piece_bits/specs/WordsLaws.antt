@@ -11,13 +11,13 @@ use Rattle.places.specs.Image.{number, digit, decoded, entry}
 use Rattle.places.specs.NumbersLaws.{number_same}
 use Rattle.blobs.specs.Bits.{bit_of, bit_in}
 use Rattle.blobs.specs.Turned.{turned_place}
-use Rattle.piece_bits.specs.Spots.{spots_of, spot_at, bit_at_spot, IsWithin}
+use Rattle.piece_bits.specs.Inner.Spots.{spots_of, spot_at, bit_at_spot, IsWithin}
 use Rattle.piece_bits.specs.SpotsOfLaws.{spots_in, length-spots_in, next_piece, nowhere}
 use Rattle.piece_bits.specs.OnePieceLaws.{one_count, one_at}
 use Rattle.piece_bits.specs.CellsLaws.{IsCell, bit_count, within, read_entry_is, written_table, written_padding, still_laid}
 use Rattle.piece_bits.specs.Tables.{AreSized, AreLaid, table_in, with_entry}
 use Rattle.piece_bits.specs.WritesLaws.{AreWritten}
-use Rattle.piece_bits.specs.Words.{turned_pieces, word_signed, word_width, word_bit, word_place, word_pieces, IsWord}
+use Rattle.piece_bits.specs.Words.{turned_pieces, word_signed, word_width, word_bit, word_place, word_pieces, IsPlaceWord}
 use Rattle.piece_bits.specs.declared.field.Field.{Field}
 use Rattle.piece_bits.specs.declared.word.Word.{Word}
 use Rattle.piece_bits.specs.declared.word.Word.TheVariants.{TurnedU16, TurnedU32, TurnedU64, TurnedI16, TurnedI32, TurnedI64, Field as FieldWord, Scattered}
@@ -50,7 +50,7 @@ turned_covers : (first n place : ℕ) → 8 * first ≤ place → place < 8 * fi
 turned_covers first n place low high = (turned_place (8 * n) (place - 8 * first), omega arith, omega arith)
 
 -- a word has as many places as bits
-word_count : (word : Word) (field : Field) (blob start : ℕ) → IsWord word field → length (spots_of (word_pieces word field blob start)) ≡ word_width word field
+word_count : (word : Word) (field : Field) (blob start : ℕ) → IsPlaceWord word field → length (spots_of (word_pieces word field blob start)) ≡ word_width word field
 word_count TurnedU16 field blob start form = turned_count blob (8 * start) 2
 word_count TurnedI16 field blob start form = turned_count blob (8 * start) 2
 word_count TurnedU32 field blob start form = turned_count blob (8 * start) 4
@@ -62,7 +62,7 @@ word_count Scattered field blob start form = absurd form
 word_count word field blob start form = one_count (record { blob = blob; bit = 8 * start; bits = word_width word field })
 
 -- and they are where its bits stand
-word_spot : (word : Word) (field : Field) (blob start k : ℕ) → IsWord word field → k < word_width word field
+word_spot : (word : Word) (field : Field) (blob start k : ℕ) → IsPlaceWord word field → k < word_width word field
     → spot_at (spots_of (word_pieces word field blob start)) k ≡ (blob, word_place word start k)
 word_spot TurnedU16 field blob start k form h = turned_spot blob (8 * start) 2 k h
 word_spot TurnedI16 field blob start k form h = turned_spot blob (8 * start) 2 k h
@@ -75,7 +75,7 @@ word_spot Scattered field blob start k form h = absurd form
 word_spot word field blob start k form h = one_at (record { blob = blob; bit = 8 * start; bits = word_width word field }) k h
 
 -- each place from its first bit on, as many as it has bits, is that of a bit
-word_covers : (word : Word) (field : Field) (start place : ℕ) → IsWord word field → word_bit word start ≤ place → place < word_bit word start + word_width word field
+word_covers : (word : Word) (field : Field) (start place : ℕ) → IsPlaceWord word field → word_bit word start ≤ place → place < word_bit word start + word_width word field
     → (k : ℕ) × (k < word_width word field) × (word_place word start k ≡ place)
 word_covers TurnedU16 field start place form low high = turned_covers start 2 place low high
 word_covers TurnedI16 field start place form low high = turned_covers start 2 place low high
@@ -88,12 +88,12 @@ word_covers Scattered field start place form low high = absurd form
 word_covers word field start place form low high = (place - 8 * start, omega arith, omega arith)
 
 -- where its pieces lie within blobs, so do its bits
-word_within : (word : Word) (field : Field) (blobs : List (List ℕ)) (blob start : ℕ) → IsWord word field → All (IsWithin blobs) (word_pieces word field blob start)
+word_within : (word : Word) (field : Field) (blobs : List (List ℕ)) (blob start : ℕ) → IsPlaceWord word field → All (IsWithin blobs) (word_pieces word field blob start)
     → (blob < length blobs) × (word_bit word start + word_width word field ≤ 8 * length (get_or blobs blob []))
 word_within Scattered field blobs blob start form all = absurd form
 word_within word field blobs blob start form all = let first = all 0 nowhere (omega arith) in (first.blob_in, omega (arith, first.bits_in))
 
-module _ (word : Word) (field : Field) (blobs : List (List ℕ)) (blob start : ℕ) (form : IsWord word field) where
+module _ (word : Word) (field : Field) (blobs : List (List ℕ)) (blob start : ℕ) (form : IsPlaceWord word field) where
   abbrev spots : List (ℕ × ℕ)
   spots = spots_of (word_pieces word field blob start)
 
@@ -144,7 +144,7 @@ module _ (word : Word) (field : Field) (blobs : List (List ℕ)) (blob start : �
         })
 
 -- a cell that is stored as a word
-module _ {layout : List (List Owner)} {slots : ℕ} {holds : List Hold} {slot cell : ℕ} {hold : Hold} (word : Word) (field : Field) (blob start : ℕ) (form : IsWord word field)
+module _ {layout : List (List Owner)} {slots : ℕ} {holds : List Hold} {slot cell : ℕ} {hold : Hold} (word : Word) (field : Field) (blob start : ℕ) (form : IsPlaceWord word field)
     (at : IsCell layout slots holds slot cell hold (word_pieces word field blob start)) (blobs : List (List ℕ)) (sized : AreSized layout blobs)
     (signed : word_signed word field ≡ hold.signed) where
   width : word_width word field ≡ hold.width

@@ -6,7 +6,7 @@ use Rattle.std.proofs.lemmas.Bool.{cases_lt, cases_eq}
 use Rattle.places.specs.declared.piece.Piece.{Piece}
 use Rattle.blobs.specs.Bits.{bit_of, bit_in}
 use Rattle.blobs.specs.BytesLaws.{bit_of_part}
-use Rattle.piece_bits.specs.Spots.{spots_of, spot_at, bit_at_spot, IsWithin, AreApart}
+use Rattle.piece_bits.specs.Inner.Spots.{spots_of, spot_at, bit_at_spot, IsWithin, AreApart}
 use Rattle.piece_bits.specs.SpotsOfLaws.{IsNext}
 
 -- a piece lies within blobs of the same lengths

@@ -1,5 +1,5 @@
 ghost use Rattle.std.specs.Prelude.{◌≡◌, ◌≤◌, true, length};
-ghost use Rattle.piece_bits.specs.Stands.{AreScattered, AreTurned, IsByteAlong};
+ghost use Rattle.piece_bits.specs.Inner.Stands.{AreScattered, AreTurned, IsByteAlong};
 
 use places::PieceRule;
 

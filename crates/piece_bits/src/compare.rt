@@ -1,5 +1,5 @@
 ghost use Rattle.std.specs.Prelude.{◌≡◌};
-ghost use Rattle.piece_bits.specs.Plain.{compares};
+ghost use Rattle.piece_bits.specs.NumberTypes.{compares};
 
 use num_traits::PrimInt;
 

@@ -1,6 +1,6 @@
 // Numbers of any length, digit by digit.
 ghost use Rattle.std.specs.Prelude.{◌≡◌, ◌<◌, ◌^◌};
-ghost use Rattle.piece_bits.specs.Far.{folded};
+ghost use Rattle.piece_bits.specs.Inner.Far.{folded};
 
 /// A number below 2^66 with the same 64 low bits. One below 2^65 is itself, and one from there on stays there, beyond what any leaf
 /// reaches. So the digits of a number of any length can be read one by one, with `folded(value * 10 + digit)` in between.

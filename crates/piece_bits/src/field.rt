@@ -4,7 +4,7 @@ ghost use Rattle.std.specs.Int.{bit_at};
 ghost use Rattle.record_dim.specs.LeafTypes.{IsIn};
 ghost use Rattle.places.specs.Image.{number, digit, decoded};
 ghost use Rattle.blobs.specs.Bits.{bit_of};
-ghost use Rattle.piece_bits.specs.Words.{IsField};
+ghost use Rattle.piece_bits.specs.Words.{IsBitField};
 
 use crate::value::encode;
 use blobs::{Blob, with_bits};
@@ -27,7 +27,7 @@ impl Field {
     pub fn of(hold: Hold) -> Field
         requires some { 1 ≤ hold.width }
         requires narrow { hold.width ≤ 64 }
-        ensures form { IsField result }
+        ensures form { IsBitField result }
         ensures signed { result.signed ≡ hold.signed }
         ensures width { result.width ≡ hold.width }
     {
@@ -47,7 +47,7 @@ impl Field {
 /// The number that the field from bit `at` on says (two's complement).
 #[inline(always)]
 pub fn field_at(blob: &Blob, at: u64, field: &Field) -> i128
-    requires form { IsField field.now }
+    requires form { IsBitField field.now }
     requires narrow { field.now.width ≤ 57 }
     requires within { at + field.now.width ≤ 8 * length blob.now }
     ensures { result ≡ decoded field.now.signed field.now.width (number (λ k. bit_of blob.now (at + k)) field.now.width) }
@@ -60,7 +60,7 @@ pub fn field_at(blob: &Blob, at: u64, field: &Field) -> i128
 /// is asked for.
 #[inline(always)]
 pub(crate) fn moved_back(field: &Field, bits: u64) -> i128
-    requires form { IsField field.now }
+    requires form { IsBitField field.now }
     requires small { bits < 2 ^ field.now.width }
     ensures { result ≡ decoded field.now.signed field.now.width bits }
 {
@@ -70,7 +70,7 @@ pub(crate) fn moved_back(field: &Field, bits: u64) -> i128
 /// Makes the field from bit `at` on that of a number. All other bits stay.
 #[inline(always)]
 pub fn put_field_at(blob: &mut Blob, at: u64, field: &Field, value: i128)
-    requires form { IsField field.now }
+    requires form { IsBitField field.now }
     requires narrow { field.now.width ≤ 57 }
     requires within { at + field.now.width ≤ 8 * length blob.old }
     requires held { IsIn field.now.signed field.now.width value }

@@ -1,5 +1,5 @@
 ghost use Rattle.std.specs.Prelude.{◌≡◌, true, IfSome, [], ◌∷◌};
-ghost use Rattle.piece_bits.specs.Joins.{AreJoined, Carries};
+ghost use Rattle.piece_bits.specs.Inner.Joins.{AreJoined, Carries};
 
 use places::PieceRule;
 

@@ -4,9 +4,9 @@ ghost use Rattle.record_dim.specs.LeafTypes.{IsIn, IsDeclared, is_signed};
 ghost use Rattle.record_dim.specs.declared.leaf_type.LeafType.{LeafType};
 ghost use Rattle.places.specs.Image.{digit};
 ghost use Rattle.places.specs.declared.piece.Hold.{Hold};
-ghost use Rattle.piece_bits.specs.Kept.{low_bits, value_bits, declared, held, kept};
-ghost use Rattle.piece_bits.specs.Far.{folded, shortened};
-ghost use Rattle.piece_bits.specs.CongruenceLaws.{AreCongruent};
+ghost use Rattle.piece_bits.specs.LowBits.{low_bits, value_bits, declared, held, kept};
+ghost use Rattle.piece_bits.specs.Inner.Far.{folded, shortened};
+ghost use Rattle.piece_bits.specs.Congruence.{AreCongruent};
 
 /// The laws of the kept number. This function does nothing: its contract is the laws.
 ///

@@ -1,7 +1,7 @@
 ghost use Rattle.std.specs.Prelude.{◌≡◌, ◌≢◌, ◌⊎◌, IfSome, length};
 ghost use Rattle.extents.specs.declared.order.Order.{Order};
 ghost use Rattle.extents.specs.declared.order.Order.TheVariants.{Row};
-ghost use Rattle.piece_bits.specs.Paths.{IsPath};
+ghost use Rattle.piece_bits.specs.RowPaths.{IsRowPath};
 
 use crate::walk::Walk;
 use extents::Extents;
@@ -20,7 +20,7 @@ const MAX_COLUMNS: u64 = 1 << 24;
 
 /// How rows become slots by an order, where the slots lie in blocks of this power of two and there is a short form.
 pub fn path_of(order: Order, extents: &Extents, power: u32) -> Option<Path>
-    ensures path { IfSome result (λ path. IsPath order extents.now power path.walk path.lines path.columns.columns) }
+    ensures path { IfSome result (λ path. IsRowPath order extents.now power path.walk path.lines path.columns.columns) }
 {
     if order == Order::Row || extents.rank() == 1 {
         return Some(by_rows(order, extents, power));
@@ -34,7 +34,7 @@ pub fn path_of(order: Order, extents: &Extents, power: u32) -> Option<Path>
 /// By rows, or over one extent, where every order is that by rows.
 fn by_rows(order: Order, extents: &Extents, power: u32) -> Path
     requires { (order ≡ Row) ⊎ (length extents.now ≡ 1) }
-    ensures { IsPath order extents.now power result.walk result.lines result.columns.columns }
+    ensures { IsRowPath order extents.now power result.walk result.lines result.columns.columns }
 {
     Path {
         walk: if power == 0 {
@@ -51,7 +51,7 @@ fn by_rows(order: Order, extents: &Extents, power: u32) -> Path
 fn by_lines(order: Order, extents: &Extents) -> Option<Path>
     requires rank { length extents.now ≡ 2 }
     requires order { order ≢ Row }
-    ensures { IfSome result (λ path. IsPath order extents.now 0 path.walk path.lines path.columns.columns) }
+    ensures { IfSome result (λ path. IsRowPath order extents.now 0 path.walk path.lines path.columns.columns) }
 {
     let columns = extents.at(1);
     if columns == 0 || columns > MAX_COLUMNS {

@@ -2,7 +2,7 @@ ghost use Rattle.std.specs.Prelude.{ℕ, ◌≡◌, ◌<◌, ◌≤◌, All, len
 ghost use Rattle.std.specs.Int.{bit_at};
 ghost use Rattle.places.specs.Image.{number};
 ghost use Rattle.blobs.specs.Bits.{bit_in};
-ghost use Rattle.piece_bits.specs.Spots.{spots_of, bit_at_spot, IsWithin, AreApart, IsOutside};
+ghost use Rattle.piece_bits.specs.Inner.Spots.{spots_of, bit_at_spot, IsWithin, AreApart, IsOutside};
 
 use blobs::{Blob, bits_in_word};
 use places::Piece;

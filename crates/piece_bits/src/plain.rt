@@ -2,7 +2,7 @@
 ghost use Rattle.std.specs.Prelude.{◌≡◌, ◌+ℤ◌, ◌*ℤ◌, length, map, fold, count_by};
 ghost use Rattle.std.specs.Int.{int_min, int_max};
 ghost use Rattle.std.specs.Simd.Lanes.{zip2};
-ghost use Rattle.piece_bits.specs.Plain.{compares, SumsFit, ProductsFit};
+ghost use Rattle.piece_bits.specs.NumberTypes.{compares, SumsFit, ProductsFit};
 
 use crate::compare::Compare;
 use num_traits::{PrimInt, clamp_max, clamp_min};

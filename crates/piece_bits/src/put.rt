@@ -2,8 +2,8 @@
 ghost use Rattle.std.specs.Prelude.{ℕ, ◌≡◌, ◌<◌, ◌≤◌, ◌+◌, ◌*◌, ◌^◌, pos, length, slice_index_or};
 ghost use Rattle.std.specs.Int.{bit_at};
 ghost use Rattle.blobs.specs.Bits.{bit_of};
-ghost use Rattle.piece_bits.specs.Words.{word_bit, word_width, IsWord};
-ghost use Rattle.piece_bits.specs.Stretched.{HasRoom, ArePut, IsPut};
+ghost use Rattle.piece_bits.specs.Words.{word_bit, word_width, IsPlaceWord};
+ghost use Rattle.piece_bits.specs.Stretched.{StretchFits, ArePut, IsWordPut};
 
 use crate::low_numbers::low_bits;
 use crate::{Field, ShortRule, Stretch, Word};
@@ -13,7 +13,7 @@ use blobs::{Blob, with_bits};
 /// bits stay. Rows that lie evenly go eight at a time.
 pub fn put_stretch(blob: &mut Blob, short: &ShortRule, stretch: &Stretch, values: &[i64], at: usize)
     requires rows { at + stretch.now.rows ≤ length values.now }
-    requires room { HasRoom short.now stretch.now (length blob.old) }
+    requires room { StretchFits short.now stretch.now (length blob.old) }
     ensures { ArePut short.now stretch.now values.now at stretch.now.rows blob.old blob.new }
 {
     let done = put_even(blob, short, stretch, values, at);
@@ -27,7 +27,7 @@ pub fn put_stretch(blob: &mut Blob, short: &ShortRule, stretch: &Stretch, values
 // As many of them as go eight at a time, and how many these are: a loop for each way in which a number may be stored, which is asked once.
 fn put_even(blob: &mut Blob, short: &ShortRule, stretch: &Stretch, values: &[i64], at: usize) -> u64
     requires rows { at + stretch.now.rows ≤ length values.now }
-    requires room { HasRoom short.now stretch.now (length blob.old) }
+    requires room { StretchFits short.now stretch.now (length blob.old) }
     ensures few { result ≤ stretch.now.rows }
     ensures put { ArePut short.now stretch.now values.now at result blob.old blob.new }
 {
@@ -64,7 +64,7 @@ fn put_by(
 ) -> u64
     requires word { word ≡ short.now.word }
     requires rows { at + stretch.now.rows ≤ length values.now }
-    requires room { HasRoom short.now stretch.now (length blob.old) }
+    requires room { StretchFits short.now stretch.now (length blob.old) }
     ensures few { result ≤ stretch.now.rows }
     ensures put { ArePut short.now stretch.now values.now at result blob.old blob.new }
 {
@@ -89,7 +89,7 @@ fn put_eights(
     requires word { word ≡ short.now.word }
     requires apart { apart ≡ stretch.now.apart }
     requires rows { at + stretch.now.rows ≤ length values.now }
-    requires room { HasRoom short.now stretch.now (length blob.old) }
+    requires room { StretchFits short.now stretch.now (length blob.old) }
     ensures few { result ≤ stretch.now.rows }
     ensures put { ArePut short.now stretch.now values.now at result blob.old blob.new }
 {
@@ -107,9 +107,9 @@ fn put_eights(
 // Makes the number that stands at a place the low bits of this one: a store of its size.
 #[inline(always)]
 fn put_number(blob: &mut Blob, place: u64, word: Word, field: &Field, value: i64)
-    requires form { IsWord word field.now }
+    requires form { IsPlaceWord word field.now }
     requires within { word_bit word place + word_width word field.now ≤ 8 * length blob.old }
-    ensures { IsPut word field.now place value blob.old blob.new }
+    ensures { IsWordPut word field.now place value blob.old blob.new }
 {
     match word {
         Word::U8 | Word::I8 => blob.put_whole(place, 8, low_bits(value, 8)),
@@ -127,9 +127,9 @@ fn put_number(blob: &mut Blob, place: u64, word: Word, field: &Field, value: i64
 // The same of a field of bits.
 #[inline(always)]
 fn put_field(blob: &mut Blob, place: u64, field: &Field, value: i64)
-    requires form { IsWord Word.Field field.now }
+    requires form { IsPlaceWord Word.Field field.now }
     requires within { place + field.now.width ≤ 8 * length blob.old }
-    ensures { IsPut Word.Field field.now place value blob.old blob.new }
+    ensures { IsWordPut Word.Field field.now place value blob.old blob.new }
 {
     let first = (place / 8) as usize;
     let code = low_bits(value, field.width);

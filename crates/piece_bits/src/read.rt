@@ -1,8 +1,8 @@
 // Numbers that are read.
 ghost use Rattle.std.specs.Prelude.{ℕ, ◌≡◌, ◌<◌, ◌≤◌, ◌+◌, ◌*◌, ◌^◌, length};
-ghost use Rattle.piece_bits.specs.Words.{word_bit, word_width, IsWord};
+ghost use Rattle.piece_bits.specs.Words.{word_bit, word_width, IsPlaceWord};
 ghost use Rattle.piece_bits.specs.Lows.{low_64};
-ghost use Rattle.piece_bits.specs.Stretched.{number_at, HasRoom, HaveEight, HaveRead, AreRead};
+ghost use Rattle.piece_bits.specs.Stretched.{number_at, StretchFits, HaveEight, HaveRead, AreRead};
 
 use crate::low_numbers::low_of;
 use crate::{Field, ShortRule, Stretch, Word, read_word};
@@ -18,7 +18,7 @@ pub fn read_stretch(
     at: usize,
 )
     requires rows { at + stretch.now.rows ≤ length values.old }
-    requires room { HasRoom short.now stretch.now (length blob.now) }
+    requires room { StretchFits short.now stretch.now (length blob.now) }
     ensures { AreRead short.now stretch.now blob.now at values.old values.new }
 {
     let done = read_even(blob, short, stretch, values, at);
@@ -37,7 +37,7 @@ fn read_even(
     at: usize,
 ) -> u64
     requires rows { at + stretch.now.rows ≤ length values.old }
-    requires room { HasRoom short.now stretch.now (length blob.now) }
+    requires room { StretchFits short.now stretch.now (length blob.now) }
     ensures few { result ≤ stretch.now.rows }
     ensures read { HaveRead short.now stretch.now blob.now at result values.old values.new }
 {
@@ -75,7 +75,7 @@ fn read_by(
 ) -> u64
     requires word { word ≡ short.now.word }
     requires rows { at + stretch.now.rows ≤ length values.old }
-    requires room { HasRoom short.now stretch.now (length blob.now) }
+    requires room { StretchFits short.now stretch.now (length blob.now) }
     ensures few { result ≤ stretch.now.rows }
     ensures read { HaveRead short.now stretch.now blob.now at result values.old values.new }
 {
@@ -100,7 +100,7 @@ fn read_eights(
     requires word { word ≡ short.now.word }
     requires apart { apart ≡ stretch.now.apart }
     requires rows { at + stretch.now.rows ≤ length values.old }
-    requires room { HasRoom short.now stretch.now (length blob.now) }
+    requires room { StretchFits short.now stretch.now (length blob.now) }
     ensures few { result ≤ stretch.now.rows }
     ensures read { HaveRead short.now stretch.now blob.now at result values.old values.new }
 {
@@ -118,7 +118,7 @@ fn read_eights(
 // Eight numbers that lie evenly. All are loaded before the first is stored, since a store might change what is loaded.
 #[inline(always)]
 fn eight_at(blob: &Blob, first: u64, apart: u64, word: Word, field: &Field) -> [i64; 8]
-    requires form { IsWord word field.now }
+    requires form { IsPlaceWord word field.now }
     requires fits { first + 7 * apart < 2 ^ 64 }
     requires within { (j : ℕ) → j < 8 → word_bit word (first + j * apart) + word_width word field.now ≤ 8 * length blob.now }
     ensures { HaveEight word field.now blob.now first apart 8 result }
@@ -133,7 +133,7 @@ fn eight_at(blob: &Blob, first: u64, apart: u64, word: Word, field: &Field) -> [
 // The number that stands at a place, as 64 bits with a sign.
 #[inline(always)]
 fn number_at(blob: &Blob, place: u64, word: Word, field: &Field) -> i64
-    requires form { IsWord word field.now }
+    requires form { IsPlaceWord word field.now }
     requires within { word_bit word place + word_width word field.now ≤ 8 * length blob.now }
     ensures { result ≡ low_64 (number_at word field.now blob.now place) }
 {

@@ -4,9 +4,9 @@ ghost use Rattle.std.specs.Int.{bit_at};
 ghost use Rattle.record_dim.specs.LeafTypes.{IsIn};
 ghost use Rattle.places.specs.Image.{number, digit, decoded};
 ghost use Rattle.blobs.specs.Bits.{bit_in};
-ghost use Rattle.piece_bits.specs.Words.{IsField};
-ghost use Rattle.piece_bits.specs.Scattered.{scattered_pieces};
-ghost use Rattle.piece_bits.specs.Spots.{spots_of, bit_at_spot, IsWithin, AreApart, IsOutside};
+ghost use Rattle.piece_bits.specs.Words.{IsBitField};
+ghost use Rattle.piece_bits.specs.Inner.Scattered.{scattered_pieces};
+ghost use Rattle.piece_bits.specs.Inner.Spots.{spots_of, bit_at_spot, IsWithin, AreApart, IsOutside};
 ghost use Rattle.piece_bits.specs.WritesLaws.{AreWritten};
 
 use crate::field::Field;
@@ -16,7 +16,7 @@ use places::{Hold, PieceRule};
 
 /// The number that the bytes say which stand a place behind the first ones of rules. The field says its sign and its width.
 pub fn read_scattered(blobs: &[Blob], rules: &[PieceRule], place: u64, field: &Field) -> i128
-    requires form { IsField field.now }
+    requires form { IsBitField field.now }
     requires within { All (IsWithin blobs.now) (scattered_pieces rules.now place) }
     requires bound { All (λ piece. piece.bit < 2 ^ 64) (scattered_pieces rules.now place) }
     requires wide { length (spots_of (scattered_pieces rules.now place)) ≡ field.now.width }
@@ -38,7 +38,7 @@ pub fn write_scattered(
     field: &Field,
     value: i128,
 )
-    requires form { IsField field.now }
+    requires form { IsBitField field.now }
     requires within { All (IsWithin blobs.old.items) (scattered_pieces rules.now place) }
     requires bound { All (λ piece. piece.bit < 2 ^ 64) (scattered_pieces rules.now place) }
     requires wide { length (spots_of (scattered_pieces rules.now place)) ≡ field.now.width }

@@ -1,5 +1,5 @@
 ghost use Rattle.std.specs.Prelude.{◌≡◌, ◌≢◌, ◌-◌, ◌^◌, ◌<◌, true, false};
-ghost use Rattle.piece_bits.specs.Words.{IsField};
+ghost use Rattle.piece_bits.specs.Words.{IsBitField};
 ghost use Rattle.piece_bits.specs.declared.word.Word.TheVariants.{Scattered};
 ghost use Rattle.piece_bits.specs.Walks.{walks_plain, walks_in_blocks};
 
@@ -38,5 +38,5 @@ pub struct ShortRule {
     ghost single: { walks_in_blocks walk ≡ false → power ≡ 0 },
     ghost masked: { mask ≡ 2 ^ power - 1 },
     ghost low: { power < 64 },
-    ghost form: { IsField field },
+    ghost form: { IsBitField field },
 }

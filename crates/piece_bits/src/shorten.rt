@@ -1,5 +1,5 @@
 ghost use Rattle.std.specs.Prelude.{◌≡◌, ◌<◌, ◌≤◌, true, false, IfSome};
-ghost use Rattle.piece_bits.specs.Alongs.{IsAlong};
+ghost use Rattle.piece_bits.specs.Inner.Alongs.{IsAlong};
 ghost use Rattle.piece_bits.specs.Shorts.{IsShortOf};
 ghost use Rattle.piece_bits.specs.Walks.{leads, walks_in_blocks};
 

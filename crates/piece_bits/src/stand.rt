@@ -1,7 +1,7 @@
 ghost use Rattle.std.specs.Prelude.{◌≡◌, ◌≢◌, IfSome, [], ◌∷◌};
 ghost use Rattle.piece_bits.specs.declared.word.Word.{Word};
 ghost use Rattle.piece_bits.specs.declared.word.Word.TheVariants.{Scattered};
-ghost use Rattle.piece_bits.specs.Stands.{IsStandFor};
+ghost use Rattle.piece_bits.specs.Inner.Stands.{IsStandFor};
 
 use crate::Word;
 use crate::bytes::{are_scattered, are_turned};

@@ -4,10 +4,10 @@ ghost use Rattle.record_dim.specs.LeafTypes.{is_signed};
 ghost use Rattle.record_dim.specs.declared.leaf_type.LeafType.{LeafType};
 ghost use Rattle.places.specs.declared.piece.Hold.{Hold};
 ghost use Rattle.places.specs.Layout.{Owner, Pad, owner_at};
-ghost use Rattle.places.specs.Laws.{IsLaidOut};
+ghost use Rattle.places.specs.Lawful.{IsLaidOut};
 ghost use Rattle.places.specs.Image.{IsImage, table_of, entry};
 ghost use Rattle.piece_bits.specs.Tables.{signs_and_widths, HasShape, with_entry, hold_at};
-ghost use Rattle.piece_bits.specs.Kept.{declared, held};
+ghost use Rattle.piece_bits.specs.LowBits.{declared, held};
 ghost use Rattle.piece_bits.specs.declared.mode.StoreMode.{StoreMode};
 ghost use Rattle.piece_bits.specs.Modes.{kind_at, declared_table, Stays, IsSettled, AllSettled};
 

@@ -1,5 +1,5 @@
 ghost use Rattle.std.specs.Prelude.{◌≡◌, ◌≤◌, ◌<◌, ◌^◌, IfSome};
-ghost use Rattle.piece_bits.specs.Stands.{IsInBits, IsInBytes};
+ghost use Rattle.piece_bits.specs.Inner.Stands.{IsInBits, IsInBytes};
 
 use crate::Word;
 use crate::stand::Stand;

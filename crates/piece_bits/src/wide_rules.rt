@@ -2,7 +2,7 @@
 ghost use Rattle.std.specs.Prelude.{ℕ, ◌≡◌, ◌+◌, ◌/◌, ◌<◌, ◌≤◌, true, IfSome};
 ghost use Rattle.piece_bits.specs.declared.word.Word.TheVariants.{Field as FieldWord};
 ghost use Rattle.piece_bits.specs.Shorts.{place_by};
-ghost use Rattle.piece_bits.specs.Wides.{IsAsWhole, IsAsTurned, IsWide};
+ghost use Rattle.piece_bits.specs.Wides.{IsAsWhole, IsAsTurned, AreReadWide};
 
 use crate::Word;
 use crate::short::ShortRule;
@@ -26,7 +26,7 @@ pub struct Wide {
 impl ShortRule {
     /// The rows that are read by one load, where the blob has so many bytes.
     pub fn wide(&self, bytes: u64) -> Wide
-        ensures { IsWide self.now bytes result }
+        ensures { AreReadWide self.now bytes result }
     {
         let mut wide = Wide {
             whole: 0,

@@ -3,9 +3,9 @@ ghost use Rattle.std.specs.Prelude.{ℕ, ◌≡◌, ◌+◌, ◌*◌, ◌<◌, �
 ghost use Rattle.std.specs.Int.{bit_at};
 ghost use Rattle.record_dim.specs.LeafTypes.{IsIn};
 ghost use Rattle.places.specs.Image.{number, digit, decoded};
-ghost use Rattle.blobs.specs.Bits.{bit_of, IsWhole};
+ghost use Rattle.blobs.specs.Bits.{bit_of, IsWholeBytes};
 ghost use Rattle.blobs.specs.Turned.{turned_place, IsTurned};
-ghost use Rattle.piece_bits.specs.Words.{IsWord, word_bit, word_place, word_signed, word_width};
+ghost use Rattle.piece_bits.specs.Words.{IsPlaceWord, word_bit, word_place, word_signed, word_width};
 
 use crate::field::{Field, field_at, put_field_at};
 use crate::value::{decode, encode};
@@ -40,7 +40,7 @@ pub enum Word {
 /// The number that stands at a place of a blob. Scattered bytes have no place of their own, so the whole rule reads them.
 #[inline(always)]
 pub fn read_word(blob: &Blob, start: u64, word: Word, field: &Field) -> i128
-    requires form { IsWord word field.now }
+    requires form { IsPlaceWord word field.now }
     requires within { word_bit word start + word_width word field.now ≤ 8 * length blob.now }
     ensures { result ≡ decoded (word_signed word field.now) (word_width word field.now)
         (number (λ k. bit_of blob.now (word_place word start k)) (word_width word field.now)) }
@@ -67,7 +67,7 @@ pub fn read_word(blob: &Blob, start: u64, word: Word, field: &Field) -> i128
 
 #[inline(always)]
 fn loaded(blob: &Blob, first: u64, signed: bool, width: u32) -> i128
-    requires whole { IsWhole width }
+    requires whole { IsWholeBytes width }
     requires within { 8 * first + width ≤ 8 * length blob.now }
     ensures { result ≡ decoded signed width (number (λ k. bit_of blob.now (8 * first + k)) width) }
 {
@@ -88,7 +88,7 @@ fn turned_loaded(blob: &Blob, first: u64, signed: bool, width: u32) -> i128
 /// Makes what stands at a place of a blob this number. All other bits stay.
 #[inline(always)]
 pub fn write_word(blob: &mut Blob, start: u64, word: Word, field: &Field, value: i128)
-    requires form { IsWord word field.now }
+    requires form { IsPlaceWord word field.now }
     requires within { word_bit word start + word_width word field.now ≤ 8 * length blob.old }
     requires held { IsIn (word_signed word field.now) (word_width word field.now) value }
     ensures inside { (k : ℕ) → k < word_width word field.now → bit_of blob.new (word_place word start k)
@@ -119,7 +119,7 @@ pub fn write_word(blob: &mut Blob, start: u64, word: Word, field: &Field, value:
 
 #[inline(always)]
 fn stored(blob: &mut Blob, first: u64, signed: bool, width: u32, value: i128)
-    requires whole { IsWhole width }
+    requires whole { IsWholeBytes width }
     requires within { 8 * first + width ≤ 8 * length blob.old }
     requires held { IsIn signed width value }
     ensures inside { (k : ℕ) → k < width → bit_of blob.new (8 * first + k) ≡ bit_at (number (digit value) width) k }

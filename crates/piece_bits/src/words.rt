@@ -1,5 +1,5 @@
 ghost use Rattle.std.specs.Prelude.{IfSome};
-ghost use Rattle.piece_bits.specs.Stands.{IsTurned, IsWhole};
+ghost use Rattle.piece_bits.specs.Inner.Stands.{IsTurned, IsWhole};
 
 use crate::Word;
 use places::Hold;

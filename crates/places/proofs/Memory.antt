@@ -5,8 +5,8 @@ use Rattle.std.proofs.lemmas.List.{get_or-map, length-map}
 use Rattle.std.proofs.lemmas.Option.{slice_get_within, get_or_from_slice_get}
 use Rattle.places.specs.Layout.{Owner, Bit, owner_at}
 use Rattle.places.specs.Image.{digit, number, decoded, bit_owned, reading}
-use Rattle.places.specs.Laws.{IsBitOf, IsLaidOut}
-use Rattle.places.specs.Writes.{written, WritesKeepOthers, WritesReadBack}
+use Rattle.places.specs.Lawful.{IsBitOf, IsLaidOut}
+use Rattle.places.specs.Writes.{written_bit, WritesKeepOthers, WritesReadBack}
 use Rattle.places.specs.declared.piece.Hold.{Hold}
 use Rattle.places.specs.NumbersLaws.{number_same, decoded_digits}
 use Rattle.places.specs.OwnedLaws.{found_owned, owned_is}
@@ -26,11 +26,11 @@ owned_same layout slots widths s c k old new laid same =
     (found_owned s c k layout new)
 
 -- what a write leaves at a bit of the cell, and at another's
-pub written_here : (slot cell k : ℕ) (value : ℤ) (old : ℕ) → written (Bit slot cell k) slot cell value old ≡ digit value k
+pub written_here : (slot cell k : ℕ) (value : ℤ) (old : ℕ) → written_bit (Bit slot cell k) slot cell value old ≡ digit value k
 written_here slot cell k value old =
     cond-true ((slot == slot) && (cell == cell)) (digit value k) old (and_from (slot == slot) (cell == cell) (eq-eqb slot slot refl) (eq-eqb cell cell refl))
 
-pub written_other : (s c k slot cell : ℕ) (value : ℤ) (old : ℕ) → (s ≡ slot → c ≡ cell → ⊥) → written (Bit s c k) slot cell value old ≡ old
+pub written_other : (s c k slot cell : ℕ) (value : ℤ) (old : ℕ) → (s ≡ slot → c ≡ cell → ⊥) → written_bit (Bit s c k) slot cell value old ≡ old
 written_other s c k slot cell value old other =
     ⊎_elim
     (λ (yes : ((s == slot) && (c == cell)) ≡ true).
@@ -44,7 +44,7 @@ writes_keep_others layout slots widths laid slot cell value old new write s c si
     let same : (k : ℕ) → bit_owned (Bit s c k) layout new ≡ bit_owned (Bit s c k) layout old =
     λ k. owned_same layout slots widths s c k old new laid
     (λ b p e. write b p
-    ∙ ap (λ (o : Owner). written o slot cell value (old b p)) e
+    ∙ ap (λ (o : Owner). written_bit o slot cell value (old b p)) e
     ∙ written_other s c k slot cell value (old b p) other) in
     ap (decoded signed width)
     (number_same (λ k. bit_owned (Bit s c k) layout new) (λ k. bit_owned (Bit s c k) layout old) width (λ k l. same k))
@@ -65,7 +65,7 @@ writes_read_back layout slots holds laid slot cell hold value old new slot_in fo
     let at = laid.there slot cell k stored in
     owned_is layout slots widths new at.0 at.1 slot cell k laid at.2
     ∙ write at.0 at.1
-    ∙ ap (λ (o : Owner). written o slot cell value (old at.0 at.1)) at.2
+    ∙ ap (λ (o : Owner). written_bit o slot cell value (old at.0 at.1)) at.2
     ∙ written_here slot cell k value (old at.0 at.1) in
     let digits : number (λ k. bit_owned (Bit slot cell k) layout new) hold.width ≡ number (digit value) hold.width =
     number_same (λ k. bit_owned (Bit slot cell k) layout new) (digit value) hold.width bit in

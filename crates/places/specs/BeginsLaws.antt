@@ -7,7 +7,7 @@ use Rattle.std.proofs.lemmas.List.{length-map, get_or-map}
 use Rattle.std.proofs.lemmas.Nat.{and_mask}
 use Rattle.std.proofs.lemmas.Nat.Bits.{bit_at-trailing_zeros}
 use Rattle.places.specs.Layout.{Owner}
-use Rattle.places.specs.Laws.{IsPiece, IsLocated}
+use Rattle.places.specs.Lawful.{IsPiece, IsLocated}
 use Rattle.places.specs.PieceRules.{begin_in, piece_in, pieces_in}
 use Rattle.places.specs.declared.rule.PieceRule.{PieceRule}
 

@@ -3,7 +3,7 @@ use Rattle.std.proofs.Common.{◌≡◌, ℕ, zero, suc, refl, ◌+◌, ◌-◌,
 use Rattle.std.specs.List.{enumerate_from}
 use Rattle.std.proofs.lemmas.Bool.{cases_eq}
 use Rattle.places.specs.Layout.{cells_of}
-use Rattle.places.specs.Laws.{IsBitOf}
+use Rattle.places.specs.Lawful.{IsBitOf}
 use Rattle.places.specs.ExactLaws.{Member, Apart}
 
 -- the cells of a list of widths that is numbered from n on

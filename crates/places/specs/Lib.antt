@@ -2,9 +2,9 @@ pub mod Layout
 pub mod Forms
 pub mod Rules
 pub mod Image
-pub mod Laws
+pub mod Lawful
 pub mod Holds
-pub mod Runs
+pub mod RunOwners
 pub mod Touched
 pub mod Writes
 pub mod CellWidthsLaws

@@ -1,7 +1,7 @@
 -- What rules of places say, and when they are the places of a cell.
 use Rattle.std.specs.Prelude.{ℕ, ◌≡◌, ◌+◌, ◌*◌, ◌/◌, ◌%◌, ◌<◌, List, map}
 use Rattle.places.specs.Layout.{Owner}
-use Rattle.places.specs.Laws.{IsLocated}
+use Rattle.places.specs.Lawful.{IsLocated}
 use Rattle.places.specs.declared.piece.Piece.{Piece}
 use Rattle.places.specs.declared.rule.PieceRule.{PieceRule}
 

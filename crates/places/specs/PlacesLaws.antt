@@ -9,7 +9,7 @@ use Rattle.std.proofs.lemmas.List.Sums.{sum_by-cons}
 use Rattle.std.proofs.lemmas.List.FromFn.{get_or-map-range_with_len, length-map-range_with_len}
 use Rattle.places.specs.Layout.{Owner, Pad, Bit, owner_at, field}
 use Rattle.places.specs.Rules.{renamed, relabel}
-use Rattle.places.specs.Laws.{owners_in, shifted, IsPiece, IsLocated}
+use Rattle.places.specs.Lawful.{owners_in, shifted, IsPiece, IsLocated}
 use Rattle.places.specs.declared.piece.Piece.{Piece}
 use Rattle.places.specs.ExactLaws.{within}
 use Rattle.places.specs.ComposeLaws.{owner_left, owner_right, owner_relabel, within_blobs}

@@ -9,7 +9,7 @@ use Rattle.std.proofs.lemmas.List.FromFn.{length-map-range_with_len}
 use Rattle.std.proofs.lemmas.List.Folds.{Any-from_list_any, list_any_at}
 use Rattle.places.specs.declared.piece.Piece.{Piece}
 use Rattle.places.specs.Layout.{Owner, Pad, Bit, owner_at}
-use Rattle.places.specs.Laws.{IsLaidOut, IsLocated, owners_in}
+use Rattle.places.specs.Lawful.{IsLaidOut, IsLocated, owners_in}
 use Rattle.places.specs.ExactLaws.{within}
 use Rattle.places.specs.PlacesLaws.{spells_split}
 use Rattle.places.specs.Touched.{is_in_granule, is_touched, is_bit_of, is_hot}

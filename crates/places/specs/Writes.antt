@@ -6,13 +6,13 @@ use Rattle.places.specs.Image.{digit, reading}
 use Rattle.places.specs.declared.piece.Hold.{Hold}
 
 -- the bit of a place after a value was written to a cell of a slot: a digit of the value where the cell owns the place, else as it was
-abbrev pub written : Owner → ℕ → ℕ → ℤ → ℕ → ℕ
-written Pad slot cell value old = old
-written (Bit s c k) slot cell value old = if (s == slot) && (c == cell) then digit value k else old
+abbrev pub written_bit : Owner → ℕ → ℕ → ℤ → ℕ → ℕ
+written_bit Pad slot cell value old = old
+written_bit (Bit s c k) slot cell value old = if (s == slot) && (c == cell) then digit value k else old
 
 -- bits before and after a write of one cell of one slot
 abbrev pub IsWrite : List (List Owner) → ℕ → ℕ → ℤ → (ℕ → ℕ → ℕ) → (ℕ → ℕ → ℕ) → Type 0
-IsWrite layout slot cell value old new = (blob place : ℕ) → new blob place ≡ written (owner_at layout blob place) slot cell value (old blob place)
+IsWrite layout slot cell value old new = (blob place : ℕ) → new blob place ≡ written_bit (owner_at layout blob place) slot cell value (old blob place)
 
 -- a write to one cell of one slot changes no other, whatever its sign and width
 abbrev pub WritesKeepOthers : List (List Owner) → Type 0

@@ -1,5 +1,5 @@
 ghost use Rattle.std.specs.Prelude.{ℕ, ◌≡◌, ◌≤◌, ◌<◌, length, map, slice_index, sum_by, All};
-ghost use Rattle.places.specs.Laws.{IsLaidOut, IsLocated, IsPiece};
+ghost use Rattle.places.specs.Lawful.{IsLaidOut, IsLocated, IsPiece};
 ghost use Rattle.places.specs.Writes.{WritesKeepOthers, WritesReadBack};
 
 use crate::mapping::Mapping;

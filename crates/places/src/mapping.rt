@@ -1,6 +1,6 @@
 ghost use Rattle.std.specs.Prelude.{ℕ, ◌≡◌, ◌*◌, ◌<◌, List, [], length, map, slice_index, slice_index_or, slice_get, Some};
 ghost use Rattle.places.specs.Layout.{Owner};
-ghost use Rattle.places.specs.Laws.{IsLaidOut, IsLocated};
+ghost use Rattle.places.specs.Lawful.{IsLaidOut, IsLocated};
 ghost use Rattle.places.specs.declared.mapping.NewMapping.TheVariants.{NoMemory};
 ghost use Rattle.places.specs.declared.piece.Cell.{Cell};
 ghost use Rattle.places.specs.declared.piece.Hold.{Hold};

@@ -1,5 +1,5 @@
 -- In a record without a name twice the paths of the leaves differ, and each leads to its leaf.
-use Rattle.record_dim.proofs.Imports.{◌≡◌, ℕ, suc, zero, ◌+◌, ◌<◌, Bool, true, false, cond, ◌||◌, nat_eq, nat_lt, Some, None, List, [], ◌∷◌, ◌++◌, length, map, refl, sym, ap, ◌∙◌, subst, inl, inr, ◌⊎◌, arith, pointwise, list_any, slice_get, map-append, length-map, nat_tests, LeafType, PathStep, Name, At, Dim, Tree, Single, Record, Array, Fields, End, Field, tree_of, Leaf, under, leaves_of, leaves, paths_of, names_of, has_twice, shares_name, records_of, records_below, first_fault, node_at, node_in, LeadsTo, same_text, text_self, or_right, cases_Bool, or_parts}
+use Rattle.record_dim.proofs.Imports.{◌≡◌, ℕ, suc, zero, ◌+◌, ◌<◌, Bool, true, false, cond, ◌||◌, nat_eq, nat_lt, Some, None, List, [], ◌∷◌, ◌++◌, length, map, refl, sym, ap, ◌∙◌, subst, inl, inr, ◌⊎◌, arith, pointwise, list_any, slice_get, map-append, length-map, nat_tests, LeafType, PathStep, Name, At, Dim, Tree, Single, Record, Array, Fields, End, Field, tree_of, Leaf, under, leaves_of, leaves, paths_of, names_of, has_twice, shares_name, records_of, records_below, record_fault, node_at, node_in, LeadsTo, same_text, text_self, or_right, cases_Bool, or_parts}
 use Rattle.std.proofs.Common.{append-nil}
 use Rattle.record_dim.specs.declared.dim.Dim.TheVariants as dim
 use Rattle.record_dim.proofs.Lookup.{leaves-suc}
@@ -235,7 +235,7 @@ leaf_place fields path first kind l =
     ∙ ap Some (append-nil path)
 
 -- in a record that is fit the path of a leaf leads to that leaf and no other
-pub only_leaf : (fields : Fields) → first_fault (Record fields) ≡ None → (path : List PathStep) (leaf first : ℕ) (node : Tree) →
+pub only_leaf : (fields : Fields) → record_fault (Record fields) ≡ None → (path : List PathStep) (leaf first : ℕ) (node : Tree) →
     slice_get (paths_of fields) leaf ≡ Some path → LeadsTo (Record fields) path first node → (kind : LeafType) × (node ≡ Single kind) × (first ≡ leaf)
 only_leaf fields fit path leaf first node h l =
     let fine = (fit_from (Record fields) fit).apart in
@@ -250,7 +250,7 @@ single_leaf (dim.Leaf own) kind e = cc
 single_leaf (dim.Fields fields) kind e = cc
 single_leaf (dim.Array' len p element) kind e = cc
 
-pub no_leaf : (fields : Fields) → first_fault (Record fields) ≡ None → (path : List PathStep) (leaf : ℕ) → slice_get (paths_of fields) leaf ≡ Some path → node_at (Record fields) path ≡ None → ⊥
+pub no_leaf : (fields : Fields) → record_fault (Record fields) ≡ None → (path : List PathStep) (leaf : ℕ) → slice_get (paths_of fields) leaf ≡ Some path → node_at (Record fields) path ≡ None → ⊥
 no_leaf fields fit path leaf h none =
     let leads = leads_tree (Record fields) (fit_from (Record fields) fit).apart path leaf h in
     cc (leads.1, none)

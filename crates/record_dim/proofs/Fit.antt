@@ -1,5 +1,5 @@
 -- A record that is fit has a leaf, and not too many.
-use Rattle.record_dim.proofs.Imports.{◌≡◌, ℕ, ◌*◌, ◌≤◌, Bool, true, false, cond, ◌||◌, nat_eq, nat_lt, Option, Some, None, List, ◌++◌, length, refl, sym, ◌∙◌, arith, list_any, nat_tests, list_any-append, Tree, Single, Record, Array, Fields, End, Field, leaves_of, leaves, depth_of, records_of, records_below, lengths_of, lengths_below, is_empty_record, shares_name, first_fault, or_parts}
+use Rattle.record_dim.proofs.Imports.{◌≡◌, ℕ, ◌*◌, ◌≤◌, Bool, true, false, cond, ◌||◌, nat_eq, nat_lt, Option, Some, None, List, ◌++◌, length, refl, sym, ◌∙◌, arith, list_any, nat_tests, list_any-append, Tree, Single, Record, Array, Fields, End, Field, leaves_of, leaves, depth_of, records_of, records_below, lengths_of, lengths_below, is_empty_record, shares_name, record_fault, or_parts}
 use Rattle.record_dim.proofs.Walks.{length-leaves, length-leaves_of_array}
 
 -- none in the whole: none in either part
@@ -39,7 +39,7 @@ pub record IsFit (tree : Tree) : Type 0 where
   pub filled : list_any (nat_eq 0) (lengths_of tree) ≡ false
   pub few : nat_lt 64 (length (leaves_of tree)) ≡ false
 
-pub fit_from : (tree : Tree) → first_fault tree ≡ None → IsFit tree
+pub fit_from : (tree : Tree) → record_fault tree ≡ None → IsFit tree
 fit_from tree e =
     let a = passed (nat_lt 8 (depth_of tree)) _ _ e in
     let b = passed (list_any is_empty_record (records_of tree)) _ _ a.1 in
@@ -48,8 +48,8 @@ fit_from tree e =
     let f = passed (nat_lt 64 (length (leaves_of tree))) _ _ d.1 in
     record { shallow = a.0; full = b.0; apart = c.0; filled = d.0; few = f.0 }
 
-pub fit_some : (fields : Fields) → first_fault (Record fields) ≡ None → 1 ≤ length (leaves fields)
+pub fit_some : (fields : Fields) → record_fault (Record fields) ≡ None → 1 ≤ length (leaves fields)
 fit_some fields e = let f = fit_from (Record fields) e in some_leaf (Record fields) f.full f.filled
 
-pub fit_few : (fields : Fields) → first_fault (Record fields) ≡ None → length (leaves fields) ≤ 64
+pub fit_few : (fields : Fields) → record_fault (Record fields) ≡ None → length (leaves fields) ≤ 64
 fit_few fields e = let f : IsFit (Record fields) = fit_from (Record fields) e in grind (arith, nat_tests)

@@ -18,10 +18,10 @@ pub use Rattle.record_dim.specs.declared.path.PathStep.{PathStep}
 pub use Rattle.record_dim.specs.declared.path.PathStep.TheVariants.{Name, At}
 pub use Rattle.record_dim.specs.declared.dim.Dim.{Dim}
 pub use Rattle.record_dim.specs.Trees.{Tree, Single, Record, Array, Fields, End, Field, tree_of, fields_of}
-pub use Rattle.record_dim.specs.Leaves.{Leaf, under, leaves_of, leaves, paths_of, names_of, has_twice, shares_name, records_of, records_below, first_fault, depth_of, lengths_of, lengths_below, is_empty_record, kinds_of, texts_of, greatest_depth}
+pub use Rattle.record_dim.specs.Leaves.{Leaf, under, leaves_of, leaves, paths_of, names_of, has_twice, shares_name, records_of, records_below, record_fault, depth_of, lengths_of, lengths_below, is_empty_record, kinds_of, texts_of, greatest_depth}
 pub use Rattle.record_dim.specs.Nodes.{node_at, node_in, LeadsTo, leaves_before, leaves_before_in, behind, IsStretch, HasChild, HasField}
 pub use Rattle.record_dim.specs.NameBytesLaws.{same_text, text_self, stored, name_utf8}
 pub use Rattle.record_dim.specs.Paths.{step_text, path_text_of}
-unfoldable pub use Rattle.record_dim.specs.Gathering.{node_kinds, node_texts, record_kinds, record_texts}
+unfoldable pub use Rattle.record_dim.specs.Inner.Gathering.{node_kinds, node_texts, record_kinds, record_texts}
 pub use Rattle.record_dim.specs.Names.{is_word}
 pub use Rattle.record_dim.specs.declared.dim.FieldList.{the_lemmas, size-FieldList, FieldList}

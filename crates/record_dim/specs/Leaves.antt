@@ -99,8 +99,8 @@ abbrev pub shares_name : Fields → Bool
 shares_name fields = has_twice (names_of fields)
 
 -- the first thing that makes a tree no record of a data set, if there is one
-abbrev pub first_fault : Tree → Option BadRecord
-first_fault tree =
+abbrev pub record_fault : Tree → Option BadRecord
+record_fault tree =
     if nat_lt 8 (depth_of tree) then Some bad.TooDeep
     else (if list_any is_empty_record (records_of tree) then Some bad.Empty
     else (if list_any shares_name (records_of tree) then Some bad.Twice

@@ -1,6 +1,4 @@
-pub mod Codes
 pub mod Faults
-pub mod Gathering
 pub mod LeafTypes
 pub mod Leaves
 pub mod Names
@@ -9,3 +7,4 @@ pub mod Paths
 pub mod Schemas
 pub mod Trees
 pub mod NameBytesLaws
+pub mod Inner

@@ -1,7 +1,7 @@
 ghost use Rattle.std.specs.Prelude.{◌≡◌, true, min, length, nat_eq, nat_le, IfOk};
 ghost use Rattle.std.specs.List.{list_all, list_any};
 ghost use Rattle.record_dim.specs.Trees.{tree_of, fields_of};
-ghost use Rattle.record_dim.specs.Leaves.{depth_of, greatest_depth, records_of, records_below, lengths_of, lengths_below, leaves_of, leaves, has_names, is_empty_record, shares_name, first_fault};
+ghost use Rattle.record_dim.specs.Leaves.{depth_of, greatest_depth, records_of, records_below, lengths_of, lengths_below, leaves_of, leaves, has_names, is_empty_record, shares_name, record_fault};
 
 use crate::{BadRecord, Dim, FieldList, Name};
 use std::alloc::{AllocError as NoMemory, Global};
@@ -13,7 +13,7 @@ const MAX_LEAVES: usize = 64;
 
 /// The first cause for which a record is refused. The depth is tested first, and the other walks go only as deep as it allows.
 pub fn first_fault(alloc: Global, dim: &Dim) -> Result<Option<BadRecord>, NoMemory>
-    ensures { IfOk result (λ fault. fault ≡ first_fault (tree_of dim.now)) }
+    ensures { IfOk result (λ fault. fault ≡ record_fault (tree_of dim.now)) }
 {
     if !is_within(dim, MAX_DEPTH) {
         return Ok(Some(BadRecord::TooDeep));

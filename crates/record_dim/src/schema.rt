@@ -1,7 +1,7 @@
 ghost use Rattle.std.specs.Prelude.{◌≡◌, ◌<◌, ◌≤◌, ◌+◌, ◌↔◌, ℕ, true, IsTrue, Some, None, IfSome, IfNone, IfOk, IfErr, OnOk, length};
 ghost use Rattle.std.specs.List.{slice_get, list_all};
 ghost use Rattle.record_dim.specs.Trees.{tree_of, fields_of, IsRecord, Record};
-ghost use Rattle.record_dim.specs.Leaves.{leaves, kinds_of, paths_of, texts_of, records_of, has_names, first_fault};
+ghost use Rattle.record_dim.specs.Leaves.{leaves, kinds_of, paths_of, texts_of, records_of, has_names, record_fault};
 ghost use Rattle.record_dim.specs.Nodes.{node_of, IsUnder};
 ghost use Rattle.record_dim.specs.Faults.{Names};
 
@@ -17,7 +17,7 @@ use std::alloc::{AllocError as NoMemory, Global};
 pub struct Schema {
     fields: FieldList,
     tables: Tables,
-    ghost fit: { first_fault (Record (fields_of fields)) ≡ None },
+    ghost fit: { record_fault (Record (fields_of fields)) ≡ None },
     ghost named: { list_all has_names (records_of (Record (fields_of fields))) ≡ true },
     ghost kinds: { tables.kinds.items ≡ kinds_of (fields_of fields) },
     ghost texts: { tables.texts.items ≡ texts_of (fields_of fields) },
@@ -30,8 +30,8 @@ impl Schema {
     pub fn new(alloc: Global, dim: Dim) -> Result<Schema, MakeSchema>
         requires { IsRecord dim }
         ensures made { IfOk result (λ schema. Record (schema_fields schema) ≡ tree_of dim) }
-        ensures fit { OnOk result (first_fault (tree_of dim) ≡ None) }
-        ensures refused { IfErr result (Names (first_fault (tree_of dim))) }
+        ensures fit { OnOk result (record_fault (tree_of dim) ≡ None) }
+        ensures refused { IfErr result (Names (record_fault (tree_of dim))) }
     {
         if let Some(bad) = first_fault(alloc, &dim)? {
             return Err(MakeSchema::Bad(bad));

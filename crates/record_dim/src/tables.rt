@@ -3,7 +3,7 @@ ghost use Rattle.record_dim.specs.Trees.{tree_of, fields_of, Record, Array};
 ghost use Rattle.record_dim.specs.declared.path.PathStep.TheVariants.{At};
 ghost use Rattle.record_dim.specs.Paths.{step_text};
 ghost use Rattle.record_dim.specs.Leaves.{kinds_of, texts_of};
-ghost use Rattle.record_dim.specs.Gathering.{node_kinds, node_texts, record_kinds, record_texts};
+ghost use Rattle.record_dim.specs.Inner.Gathering.{node_kinds, node_texts, record_kinds, record_texts};
 
 use crate::{Dim, Field, FieldList, LeafType, Text};
 use std::alloc::{AllocError as NoMemory, Global};

@@ -11,7 +11,7 @@ pub use Rattle.std.proofs.lemmas.Int.{ints, to_z-of_z, fits_signed_from_abs}
 pub use Rattle.std.proofs.lemmas.List.Sums.{sum_by-append, count_by-le-length, sum_by-cons}
 pub use Rattle.std.specs.Option.{option_or}
 pub use Rattle.std.proofs.lemmas.List.Elements.{All-get_or}
-pub use Rattle.views.specs.Stores.{Keeping, Answer, told, kept_or, is_between, store_answer}
+pub use Rattle.views.specs.Stores.{Keeping, StoreAnswer, without_number, kept_or, is_between, store_answer}
 pub use Rattle.extents.specs.Indices.{indices, IsInside}
 pub use Rattle.extents.specs.IndicesLaws.{length-indices, place, slice_get-place}
 pub use Rattle.linearize.specs.Slots.{index_at}
@@ -22,7 +22,7 @@ pub use Rattle.views.specs.Tables.{Table, answer_of, after_log, after_read, kept
 pub use Rattle.record_dim.specs.declared.leaf_type.LeafType.{LeafType}
 pub use Rattle.record_dim.specs.declared.leaf_type.LeafType.TheVariants.{U64, Bool as Truth}
 pub use Rattle.record_dim.specs.LeafTypes.{is_signed, IsDeclared, least_of, greatest_of, least_in, greatest_in}
-pub use Rattle.views.specs.Runs.{raised, stored_count, told_lane}
+pub use Rattle.views.specs.LeafRuns.{raised, stored_count, told_lane}
 pub use Rattle.piece_bits.specs.Tables.{with_entry, hold_at}
 pub use Rattle.views.specs.declared.fault.StoreFault.{StoreFault}
 pub use mir.Val.{bool_byte}
@@ -33,7 +33,7 @@ pub use Rattle.record_dim.specs.Leaves.{Leaf, leaves, kinds_of}
 pub use Rattle.views.specs.Columns.{in_leaf, column, with_column, column_writes, first_lane_fault, lane_fault}
 pub use Rattle.views.specs.RunsLaws.{raised_low}
 pub use Rattle.expr_lang.specs.Values.{outcome_of, is_true}
-pub use Rattle.expr_lang.specs.Exacts.{IsSafe}
+pub use Rattle.expr_lang.specs.Inner.Exacts.{IsSafe}
 pub use Rattle.expr_lang.specs.ExactsLaws.{worth}
 pub use Rattle.views.specs.AnswerLaws.{stays_answer, told_same, told_ok}
 pub use Rattle.views.specs.ColumnsLaws.{no_column, length-with_column}
@@ -48,7 +48,7 @@ pub use Rattle.expr_lang.specs.declared.bound.Links.{Links, size-Links}
 pub use Rattle.expr_lang.specs.declared.bound.Step.{Step}
 pub use Rattle.expr_lang.specs.Chains.{step_term, links_term, operand_term, chain_term, AreWithin}
 pub use Rattle.expr_lang.specs.ChainLaws.{one_more, safe_front, within_front, within_links, within_rest, safe_steps, safe_rest, no_deeper}
-pub use Rattle.expr_lang.specs.Steps.{stepped, IsStepFit, IsWorthIn, IsRight, AreStepsSafe}
+pub use Rattle.expr_lang.specs.Inner.Steps.{stepped, IsStepFit, IsWorthIn, IsRight, AreStepsSafe}
 pub use Rattle.expr_lang.specs.StepLaws.{step_worth, step_fits}
 pub use Rattle.expr_lang.specs.Bounds.{bound_term}
 pub use Rattle.expr_lang.specs.declared.bound.Link.{Link}
@@ -58,7 +58,7 @@ pub use Rattle.row_updates.specs.Rows.{each, ◌>>=◌, Setting, with_values, pa
 pub use Rattle.row_updates.specs.Logs.{value_log, filter_log, if_ok, if_passes, sides_log, stores_log, tried_log, if_given, row_log, count_log, update_log}
 pub use Rattle.row_updates.specs.TriedLaws.{log_as_tried, updated_as_tried, tried_values}
 pub use Rattle.row_updates.specs.declared.update.Assign.{Assign}
-pub use Rattle.row_updates.specs.Updated.{AreUpdated, IsStopped, AreCounted, row_test, IsCounted, IsCountStopped, IsStill, IsRunUpdated, AreTested, lane_test}
-pub use Rattle.row_updates.specs.Runs.{row_of, AreNear, IsIdle, IsGiven, AreGiven, AreTaken, AreWorth, IsRunOf, AreRights}
+pub use Rattle.row_updates.specs.Inner.Updated.{AreUpdated, IsStopped, AreCounted, row_test, IsCounted, IsCountStopped, IsStill, IsRunUpdated, AreTested, lane_test}
+pub use Rattle.row_updates.specs.Inner.ValueRuns.{row_of, AreNear, IsIdle, IsGiven, AreGiven, AreTaken, AreWorth, IsRunOf, AreRights}
 pub use Rattle.row_updates.specs.declared.runs.Run.{Run}
 pub use Rattle.row_updates.specs.declared.fault.UpdateKind.{UpdateKind}

@@ -1,5 +1,5 @@
 -- Accesses one after another: of an expression, of the right sides of a row, and of its stores.
-use Rattle.row_updates.proofs.Imports.{◌≡◌, ℕ, zero, suc, ◌+◌, ◌<◌, List, [], ◌∷◌, ◌++◌, length, map, take, get_or, ℤ, Bool, true, false, Option, Some, None, Result, Ok, Err, MutBor, refl, ap, sym, ◌∙◌, arith, fold, append-nil, append_assoc, map-append, take_more, Term, index_at, Answer, Access, Read, Write, after_log-append, after_reads, logs_more, Table, answer_of, after_log, after_read, UpdateFault, Setting, each, passes, new_value, tried_row, value_log, filter_log, if_ok, if_passes, sides_log, stores_log, tried_log, if_given, row_log, count_log, log_as_tried}
+use Rattle.row_updates.proofs.Imports.{◌≡◌, ℕ, zero, suc, ◌+◌, ◌<◌, List, [], ◌∷◌, ◌++◌, length, map, take, get_or, ℤ, Bool, true, false, Option, Some, None, Result, Ok, Err, MutBor, refl, ap, sym, ◌∙◌, arith, fold, append-nil, append_assoc, map-append, take_more, Term, index_at, StoreAnswer, Access, Read, Write, after_log-append, after_reads, logs_more, Table, answer_of, after_log, after_read, UpdateFault, Setting, each, passes, new_value, tried_row, value_log, filter_log, if_ok, if_passes, sides_log, stores_log, tried_log, if_given, row_log, count_log, log_as_tried}
 use Rattle.row_updates.proofs.Each.{parted}
 
 -- reads through a row that is borrowed
@@ -15,7 +15,7 @@ if_ok_none (Ok x) = refl
 if_ok_none (Err fault) = refl
 
 -- one right side more
-pub sides_push : (answer : Answer) (number : ℕ) (row : List ℤ) (index : List ℕ) (sets : List Setting) (set : Setting) (values : List ℤ) → each (new_value answer number row index) sets ≡ Ok values → sides_log answer number row index (sets ++ set ∷ []) ≡ sides_log answer number row index sets ++ value_log number row index set.value
+pub sides_push : (answer : StoreAnswer) (number : ℕ) (row : List ℤ) (index : List ℕ) (sets : List Setting) (set : Setting) (values : List ℤ) → each (new_value answer number row index) sets ≡ Ok values → sides_log answer number row index (sets ++ set ∷ []) ≡ sides_log answer number row index sets ++ value_log number row index set.value
 sides_push answer number row index [] set values so_far =
     let log = value_log number row index set.value in
     ap (λ (more : List Access). log ++ more) (if_ok_none (new_value answer number row index set)) ∙ append-nil log
@@ -30,7 +30,7 @@ sides_push answer number row index (one ∷ sets) set values so_far =
     ∙ ap (λ (r : Result ℤ UpdateFault). log ++ if_ok r more ++ last) (sym p.first_is)
 
 -- the first right side with a fault is the last that is read
-pub sides_stop : (answer : Answer) (number : ℕ) (row : List ℤ) (index : List ℕ) (sets : List Setting) (n : ℕ) (d : Setting) (values : List ℤ) (fault : UpdateFault) → n < length sets → each (new_value answer number row index) (take n sets) ≡ Ok values → new_value answer number row index (get_or sets n d) ≡ Err fault
+pub sides_stop : (answer : StoreAnswer) (number : ℕ) (row : List ℤ) (index : List ℕ) (sets : List Setting) (n : ℕ) (d : Setting) (values : List ℤ) (fault : UpdateFault) → n < length sets → each (new_value answer number row index) (take n sets) ≡ Ok values → new_value answer number row index (get_or sets n d) ≡ Err fault
     → sides_log answer number row index sets ≡ sides_log answer number row index (take n sets) ++ value_log number row index (get_or sets n d).value
 sides_stop answer number row index [] n d values fault small so_far stop = absurd (omega (arith, small))
 sides_stop answer number row index (one ∷ sets) zero d values fault small so_far stop =
@@ -52,37 +52,37 @@ pub stores_push : (number : ℕ) (sets : List Setting) (n : ℕ) (d : Setting) �
 stores_push number sets n d small = ap (stores_log number) (take_more sets n d small) ∙ map-append (λ (set : Setting). Write number set.leaf) (take n sets) (get_or sets n d ∷ [])
 
 -- accesses that left the table, after others that left it
-pub log_more : (old view after : Table) (log : List Access) (more : Answer → List (List ℤ) → List Access) → view ≡ after_log old log → after ≡ after_log view (more (answer_of view) view.rows) → after ≡ after_log old (log ++ more (answer_of old) old.rows)
+pub log_more : (old view after : Table) (log : List Access) (more : StoreAnswer → List (List ℤ) → List Access) → view ≡ after_log old log → after ≡ after_log view (more (answer_of view) view.rows) → after ≡ after_log old (log ++ more (answer_of old) old.rows)
 log_more old view after log more so_far last =
     last ∙ ap (λ (s : Table). after_log s (more (answer_of s) s.rows)) so_far ∙ after_log-append old log (more (answer_of old) old.rows)
 
 -- the accesses of a row that is tried: its filter leaves it out, or has a fault, or lets its right sides be read
-abbrev tested_log : Answer → Option (Term ℕ) → List Setting → ℕ → List ℤ → List ℕ → Result Bool UpdateFault → List Access
+abbrev tested_log : StoreAnswer → Option (Term ℕ) → List Setting → ℕ → List ℤ → List ℕ → Result Bool UpdateFault → List Access
 tested_log answer filter sets number row index test = filter_log number row index filter ++ if_passes test (sides_log answer number row index sets)
 
-pub tried_log_left : (answer : Answer) (filter : Option (Term ℕ)) (sets : List Setting) (number : ℕ) (row : List ℤ) (index : List ℕ) → Ok false ≡ passes number row index filter → tried_log answer filter sets number row index ≡ filter_log number row index filter
+pub tried_log_left : (answer : StoreAnswer) (filter : Option (Term ℕ)) (sets : List Setting) (number : ℕ) (row : List ℤ) (index : List ℕ) → Ok false ≡ passes number row index filter → tried_log answer filter sets number row index ≡ filter_log number row index filter
 tried_log_left answer filter sets number row index test = ap (tested_log answer filter sets number row index) (sym test) ∙ append-nil (filter_log number row index filter)
 
-pub tried_log_fault : (answer : Answer) (filter : Option (Term ℕ)) (sets : List Setting) (number : ℕ) (row : List ℤ) (index : List ℕ) (fault : UpdateFault) → Err fault ≡ passes number row index filter → tried_log answer filter sets number row index ≡ filter_log number row index filter
+pub tried_log_fault : (answer : StoreAnswer) (filter : Option (Term ℕ)) (sets : List Setting) (number : ℕ) (row : List ℤ) (index : List ℕ) (fault : UpdateFault) → Err fault ≡ passes number row index filter → tried_log answer filter sets number row index ≡ filter_log number row index filter
 tried_log_fault answer filter sets number row index fault test = ap (tested_log answer filter sets number row index) (sym test) ∙ append-nil (filter_log number row index filter)
 
-pub tried_log_done : (answer : Answer) (filter : Option (Term ℕ)) (sets : List Setting) (number : ℕ) (row : List ℤ) (index : List ℕ) → Ok true ≡ passes number row index filter → tried_log answer filter sets number row index ≡ filter_log number row index filter ++ sides_log answer number row index sets
+pub tried_log_done : (answer : StoreAnswer) (filter : Option (Term ℕ)) (sets : List Setting) (number : ℕ) (row : List ℤ) (index : List ℕ) → Ok true ≡ passes number row index filter → tried_log answer filter sets number row index ≡ filter_log number row index filter ++ sides_log answer number row index sets
 tried_log_done answer filter sets number row index test = ap (tested_log answer filter sets number row index) (sym test)
 
 -- those of a row that is given nothing, of one with a fault, and of one that is updated
-pub row_log_left : (answer : Answer) (filter : Option (Term ℕ)) (sets : List Setting) (number : ℕ) (row : List ℤ) (index : List ℕ) → tried_row answer filter sets number row index ≡ Ok None → row_log answer filter sets number row index ≡ tried_log answer filter sets number row index
+pub row_log_left : (answer : StoreAnswer) (filter : Option (Term ℕ)) (sets : List Setting) (number : ℕ) (row : List ℤ) (index : List ℕ) → tried_row answer filter sets number row index ≡ Ok None → row_log answer filter sets number row index ≡ tried_log answer filter sets number row index
 row_log_left answer filter sets number row index tried =
     log_as_tried answer filter sets number row index
     ∙ ap (λ (given : Result (Option (List ℤ)) UpdateFault). tried_log answer filter sets number row index ++ if_given given (stores_log number sets)) tried
     ∙ append-nil (tried_log answer filter sets number row index)
 
-pub row_log_stop : (answer : Answer) (filter : Option (Term ℕ)) (sets : List Setting) (number : ℕ) (row : List ℤ) (index : List ℕ) (fault : UpdateFault) → tried_row answer filter sets number row index ≡ Err fault → row_log answer filter sets number row index ≡ tried_log answer filter sets number row index
+pub row_log_stop : (answer : StoreAnswer) (filter : Option (Term ℕ)) (sets : List Setting) (number : ℕ) (row : List ℤ) (index : List ℕ) (fault : UpdateFault) → tried_row answer filter sets number row index ≡ Err fault → row_log answer filter sets number row index ≡ tried_log answer filter sets number row index
 row_log_stop answer filter sets number row index fault tried =
     log_as_tried answer filter sets number row index
     ∙ ap (λ (given : Result (Option (List ℤ)) UpdateFault). tried_log answer filter sets number row index ++ if_given given (stores_log number sets)) tried
     ∙ append-nil (tried_log answer filter sets number row index)
 
-pub row_log_done : (answer : Answer) (filter : Option (Term ℕ)) (sets : List Setting) (number : ℕ) (row : List ℤ) (index : List ℕ) (values : List ℤ) → tried_row answer filter sets number row index ≡ Ok (Some values) → row_log answer filter sets number row index ≡ tried_log answer filter sets number row index ++ stores_log number sets
+pub row_log_done : (answer : StoreAnswer) (filter : Option (Term ℕ)) (sets : List Setting) (number : ℕ) (row : List ℤ) (index : List ℕ) (values : List ℤ) → tried_row answer filter sets number row index ≡ Ok (Some values) → row_log answer filter sets number row index ≡ tried_log answer filter sets number row index ++ stores_log number sets
 row_log_done answer filter sets number row index values tried =
     log_as_tried answer filter sets number row index
     ∙ ap (λ (given : Result (Option (List ℤ)) UpdateFault). tried_log answer filter sets number row index ++ if_given given (stores_log number sets)) tried

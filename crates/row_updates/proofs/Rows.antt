@@ -1,5 +1,5 @@
 -- Updates of rows, step by step.
-use Rattle.row_updates.proofs.Imports.{◌≡◌, ℕ, suc, ◌+◌, ◌<◌, ◌≤◌, List, [], ◌∷◌, ◌++◌, length, map, get_or, take, take_all, drop, set, ℤ, pos, Bool, true, false, Option, Some, None, Result, Ok, Err, is_ok, refl, sym, ap, subst, ◌∙◌, arith, count_by, cond, range_with_len, slice_set, OnOk, IfOk, IfErr, take_more, take_more_set, drop-set-lt, drop_more, get_or-set_same, set-set, get_or-map, length-set, length-map, get_or-take, sum_by-append, Term, index_at, with_entry, Access, Write, after_log-none, logs_more, Table, answer_of, kept_of, after_log, after_stores, after_write, StoreFault, UpdateFault, Assign, Answer, Keeping, told, Setting, setting_of, each, in_row, store_kind, value_of, passes, new_value, with_values, tried_row, updated_row, updated_rows, updated_of, counted, ◌>>=◌, updated_as_tried, AreUpdated, IsStopped, AreCounted, row_test, IsCounted, IsCountStopped, value_log, sides_log, stores_log, row_log, update_log, count_log, after_stores-append, bool_byte}
+use Rattle.row_updates.proofs.Imports.{◌≡◌, ℕ, suc, ◌+◌, ◌<◌, ◌≤◌, List, [], ◌∷◌, ◌++◌, length, map, get_or, take, take_all, drop, set, ℤ, pos, Bool, true, false, Option, Some, None, Result, Ok, Err, is_ok, refl, sym, ap, subst, ◌∙◌, arith, count_by, cond, range_with_len, slice_set, OnOk, IfOk, IfErr, take_more, take_more_set, drop-set-lt, drop_more, get_or-set_same, set-set, get_or-map, length-set, length-map, get_or-take, sum_by-append, Term, index_at, with_entry, Access, Write, after_log-none, logs_more, Table, answer_of, kept_of, after_log, after_stores, after_write, StoreFault, UpdateFault, Assign, StoreAnswer, Keeping, without_number, Setting, setting_of, each, in_row, store_kind, value_of, passes, new_value, with_values, tried_row, updated_row, updated_rows, updated_of, counted, ◌>>=◌, updated_as_tried, AreUpdated, IsStopped, AreCounted, row_test, IsCounted, IsCountStopped, value_log, sides_log, stores_log, row_log, update_log, count_log, after_stores-append, bool_byte}
 use Rattle.std.proofs.lemmas.List.{get_or-drop}
 use Rattle.row_updates.proofs.Logs.{sides_push, sides_stop, stores_push, count_push}
 use Rattle.row_updates.proofs.Each.{each_push, each_stop, each_at, rows_push, rows_stop, with_values_push}
@@ -28,12 +28,12 @@ values_more step sets place set values value small short is so_far more =
     ap (λ (xs : List Setting). each step xs) (settings_more sets place set small is) ∙ each_push step (take place (map setting_of sets)) (setting_of set) (take place values) value so_far (sym more) ∙ ap (λ (vs : List ℤ). Ok vs) (sym (take_more_set values place value short))
 
 -- the reads of one right side more, and of the one that has a fault
-pub sides_more : (answer : Answer) (number : ℕ) (row : List ℤ) (index : List ℕ) (sets : List Assign) (place : ℕ) (set : Assign) (values : List ℤ) → place < length sets → set ≡ get_or sets place set → each (new_value answer number row index) (take place (map setting_of sets)) ≡ Ok values
+pub sides_more : (answer : StoreAnswer) (number : ℕ) (row : List ℤ) (index : List ℕ) (sets : List Assign) (place : ℕ) (set : Assign) (values : List ℤ) → place < length sets → set ≡ get_or sets place set → each (new_value answer number row index) (take place (map setting_of sets)) ≡ Ok values
     → sides_log answer number row index (take (place + 1) (map setting_of sets)) ≡ sides_log answer number row index (take place (map setting_of sets)) ++ value_log number row index (setting_of set).value
 sides_more answer number row index sets place set values small is so_far =
     ap (sides_log answer number row index) (settings_more sets place set small is) ∙ sides_push answer number row index (take place (map setting_of sets)) (setting_of set) values so_far
 
-pub sides_stopped : (answer : Answer) (number : ℕ) (row : List ℤ) (index : List ℕ) (sets : List Assign) (place : ℕ) (set : Assign) (values : List ℤ) (fault : UpdateFault) → place < length sets → set ≡ get_or sets place set → each (new_value answer number row index) (take place (map setting_of sets)) ≡ Ok values → Err fault ≡ new_value answer number row index (setting_of set)
+pub sides_stopped : (answer : StoreAnswer) (number : ℕ) (row : List ℤ) (index : List ℕ) (sets : List Assign) (place : ℕ) (set : Assign) (values : List ℤ) (fault : UpdateFault) → place < length sets → set ≡ get_or sets place set → each (new_value answer number row index) (take place (map setting_of sets)) ≡ Ok values → Err fault ≡ new_value answer number row index (setting_of set)
     → sides_log answer number row index (map setting_of sets) ≡ sides_log answer number row index (take place (map setting_of sets)) ++ value_log number row index (setting_of set).value
 sides_stopped answer number row index sets place set values fault small is so_far stop =
     let at = setting_at sets place set (setting_of set) small is in
@@ -67,53 +67,53 @@ stored_more old view new row place sets set values inside small short is so_far 
     ∙ ap (after_stores old (slice_set old.rows row (with_values (kept_of old) (take (place + 1) (map setting_of sets)) (take (place + 1) values) (get_or old.rows row [])))) (sym logs)
 
 -- a right side that has a value, by what its store is told
-tested_as : (number leaf : ℕ) (value : ℤ) (answer : Result ℤ StoreFault) → (in_row number (store_kind leaf) answer >>= (λ kept. Ok value)) ≡ (in_row number (store_kind leaf) (told answer) >>= (λ done. Ok value))
+tested_as : (number leaf : ℕ) (value : ℤ) (answer : Result ℤ StoreFault) → (in_row number (store_kind leaf) answer >>= (λ kept. Ok value)) ≡ (in_row number (store_kind leaf) (without_number answer) >>= (λ done. Ok value))
 tested_as number leaf value (Ok kept) = refl
 tested_as number leaf value (Err fault) = refl
 
 pub value_tested : (old read : Table) (number : ℕ) (row : List ℤ) (index : List ℕ) (set : Setting) (log : List Access) (value : ℤ) (answer : Result Unit StoreFault) → value_of number row index set.value ≡ Ok value
-    → read ≡ after_log old log → answer ≡ told (answer_of read set.leaf value) → new_value (answer_of old) number row index set ≡ (in_row number (store_kind set.leaf) answer >>= (λ done. Ok value))
+    → read ≡ after_log old log → answer ≡ without_number (answer_of read set.leaf value) → new_value (answer_of old) number row index set ≡ (in_row number (store_kind set.leaf) answer >>= (λ done. Ok value))
 value_tested old read number row index set log value answer gives reads is =
     ap (λ (first : Result ℤ UpdateFault). first >>= (λ v. in_row number (store_kind set.leaf) (answer_of old set.leaf v) >>= (λ kept. Ok v))) gives
     ∙ tested_as number set.leaf value (answer_of old set.leaf value)
-    ∙ ap (λ (t : Table). in_row number (store_kind set.leaf) (told (answer_of t set.leaf value)) >>= (λ done. Ok value)) (sym reads)
+    ∙ ap (λ (t : Table). in_row number (store_kind set.leaf) (without_number (answer_of t set.leaf value)) >>= (λ done. Ok value)) (sym reads)
     ∙ ap (λ (r : Result Unit StoreFault). in_row number (store_kind set.leaf) r >>= (λ done. Ok value)) (sym is)
 
 fits_from : (number : ℕ) (set : Setting) (got : ℤ) (answer : Result ℤ StoreFault) (value : ℤ) → (in_row number (store_kind set.leaf) answer >>= (λ kept. Ok got)) ≡ Ok value → (is_ok answer ≡ true) × (got ≡ value)
 fits_from number set got (Ok kept) value e = (refl, cc)
 fits_from number set got (Err fault) value e = absurd (cc)
 
-took_from : (answer : Answer) (number : ℕ) (set : Setting) (first : Result ℤ UpdateFault) (value : ℤ) → (first >>= (λ v. in_row number (store_kind set.leaf) (answer set.leaf v) >>= (λ kept. Ok v))) ≡ Ok value → is_ok (answer set.leaf value) ≡ true
+took_from : (answer : StoreAnswer) (number : ℕ) (set : Setting) (first : Result ℤ UpdateFault) (value : ℤ) → (first >>= (λ v. in_row number (store_kind set.leaf) (answer set.leaf v) >>= (λ kept. Ok v))) ≡ Ok value → is_ok (answer set.leaf value) ≡ true
 took_from answer number set (Ok v) value e = let f = fits_from number set v (answer set.leaf v) value e in ap (λ (v : ℤ). is_ok (answer set.leaf v)) (sym f.1) ∙ f.0
 took_from answer number set (Err fault) value e = absurd (cc)
 
 -- a right side that has a value was taken
-pub took : (answer : Answer) (number : ℕ) (row : List ℤ) (index : List ℕ) (set : Setting) (value : ℤ) → new_value answer number row index set ≡ Ok value → is_ok (answer set.leaf value) ≡ true
+pub took : (answer : StoreAnswer) (number : ℕ) (row : List ℤ) (index : List ℕ) (set : Setting) (value : ℤ) → new_value answer number row index set ≡ Ok value → is_ok (answer set.leaf value) ≡ true
 took answer number row index set value gives = took_from answer number set (value_of number row index set.value) value gives
 
-pub taken_at : (answer : Answer) (number : ℕ) (row : List ℤ) (index : List ℕ) (sets : List Assign) (values : List ℤ) (place : ℕ) (other : Setting) → length sets ≤ length values → place < length sets → each (new_value answer number row index) (map setting_of sets) ≡ Ok (take (length sets) values) → is_ok (answer (get_or (map setting_of sets) place other).leaf (get_or values place (pos 0))) ≡ true
+pub taken_at : (answer : StoreAnswer) (number : ℕ) (row : List ℤ) (index : List ℕ) (sets : List Assign) (values : List ℤ) (place : ℕ) (other : Setting) → length sets ≤ length values → place < length sets → each (new_value answer number row index) (map setting_of sets) ≡ Ok (take (length sets) values) → is_ok (answer (get_or (map setting_of sets) place other).leaf (get_or values place (pos 0))) ≡ true
 taken_at answer number row index sets values place other long small all =
     let at = each_at (new_value answer number row index) (map setting_of sets) (take (length sets) values) place other (pos 0) (settings_long sets place small) all in
     took answer number row index (get_or (map setting_of sets) place other) (get_or values place (pos 0)) (at ∙ ap (λ (v : ℤ). Ok v) (get_or-take (length sets) values place (pos 0) small))
 
 -- a row that is given nothing, one with a fault, and one that is updated
-pub row_left : (answer : Answer) (keep : Keeping) (filter : Option (Term ℕ)) (sets : List Setting) (number : ℕ) (row : List ℤ) (index : List ℕ) → tried_row answer filter sets number row index ≡ Ok None → updated_row answer keep filter sets number row index ≡ Ok row
+pub row_left : (answer : StoreAnswer) (keep : Keeping) (filter : Option (Term ℕ)) (sets : List Setting) (number : ℕ) (row : List ℤ) (index : List ℕ) → tried_row answer filter sets number row index ≡ Ok None → updated_row answer keep filter sets number row index ≡ Ok row
 row_left answer keep filter sets number row index tried = updated_as_tried answer filter sets number row index keep ∙ rw tried refl
 
-pub row_stop : (answer : Answer) (keep : Keeping) (filter : Option (Term ℕ)) (sets : List Setting) (number : ℕ) (row : List ℤ) (index : List ℕ) (fault : UpdateFault) → tried_row answer filter sets number row index ≡ Err fault → updated_row answer keep filter sets number row index ≡ Err fault
+pub row_stop : (answer : StoreAnswer) (keep : Keeping) (filter : Option (Term ℕ)) (sets : List Setting) (number : ℕ) (row : List ℤ) (index : List ℕ) (fault : UpdateFault) → tried_row answer filter sets number row index ≡ Err fault → updated_row answer keep filter sets number row index ≡ Err fault
 row_stop answer keep filter sets number row index fault tried = updated_as_tried answer filter sets number row index keep ∙ rw tried refl
 
-pub row_done : (answer : Answer) (keep : Keeping) (filter : Option (Term ℕ)) (sets : List Setting) (number : ℕ) (row : List ℤ) (index : List ℕ) (values : List ℤ) → tried_row answer filter sets number row index ≡ Ok (Some values) → updated_row answer keep filter sets number row index ≡ Ok (with_values keep sets values row)
+pub row_done : (answer : StoreAnswer) (keep : Keeping) (filter : Option (Term ℕ)) (sets : List Setting) (number : ℕ) (row : List ℤ) (index : List ℕ) (values : List ℤ) → tried_row answer filter sets number row index ≡ Ok (Some values) → updated_row answer keep filter sets number row index ≡ Ok (with_values keep sets values row)
 row_done answer keep filter sets number row index values tried = updated_as_tried answer filter sets number row index keep ∙ rw tried refl
 
 -- what a row is given: nothing, a fault of its filter or of its right sides, or their values
-pub tried_left : (answer : Answer) (filter : Option (Term ℕ)) (sets : List Setting) (number : ℕ) (row : List ℤ) (index : List ℕ) → Ok false ≡ passes number row index filter → tried_row answer filter sets number row index ≡ Ok None
+pub tried_left : (answer : StoreAnswer) (filter : Option (Term ℕ)) (sets : List Setting) (number : ℕ) (row : List ℤ) (index : List ℕ) → Ok false ≡ passes number row index filter → tried_row answer filter sets number row index ≡ Ok None
 tried_left answer filter sets number row index test = rw (← test) refl
 
-pub tried_stop : (answer : Answer) (filter : Option (Term ℕ)) (sets : List Setting) (number : ℕ) (row : List ℤ) (index : List ℕ) (fault : UpdateFault) → Ok true ≡ passes number row index filter → each (new_value answer number row index) sets ≡ Err fault → tried_row answer filter sets number row index ≡ Err fault
+pub tried_stop : (answer : StoreAnswer) (filter : Option (Term ℕ)) (sets : List Setting) (number : ℕ) (row : List ℤ) (index : List ℕ) (fault : UpdateFault) → Ok true ≡ passes number row index filter → each (new_value answer number row index) sets ≡ Err fault → tried_row answer filter sets number row index ≡ Err fault
 tried_stop answer filter sets number row index fault test stop = rw (← test, stop) refl
 
-pub tried_done : (answer : Answer) (filter : Option (Term ℕ)) (sets : List Setting) (number : ℕ) (row : List ℤ) (index : List ℕ) (values : List ℤ) → Ok true ≡ passes number row index filter → each (new_value answer number row index) sets ≡ Ok values → tried_row answer filter sets number row index ≡ Ok (Some values)
+pub tried_done : (answer : StoreAnswer) (filter : Option (Term ℕ)) (sets : List Setting) (number : ℕ) (row : List ℤ) (index : List ℕ) (values : List ℤ) → Ok true ≡ passes number row index filter → each (new_value answer number row index) sets ≡ Ok values → tried_row answer filter sets number row index ≡ Ok (Some values)
 tried_done answer filter sets number row index values test done = rw (← test, done) refl
 
 -- rows from a place on that are the same
@@ -131,7 +131,7 @@ pub none_updated : (view : Table) (filter : Option (Term ℕ)) (sets : List Sett
 none_updated view filter sets = record { same = sym (after_log-none view); count = refl; front = refl; back = refl }
 
 -- what the next row of the table so far gives is what the row gives as it stood
-row_here : {A : Type 0} (gives : Answer → Keeping → List ℤ → List ℕ → A) (old view : Table) (filter : Option (Term ℕ)) (sets : List Setting) (row : ℕ) → AreUpdated old filter sets view row → gives (answer_of view) (kept_of view) (get_or view.rows row []) (index_at view.extents row) ≡ gives (answer_of old) (kept_of old) (get_or old.rows row []) (index_at old.extents row)
+row_here : {A : Type 0} (gives : StoreAnswer → Keeping → List ℤ → List ℕ → A) (old view : Table) (filter : Option (Term ℕ)) (sets : List Setting) (row : ℕ) → AreUpdated old filter sets view row → gives (answer_of view) (kept_of view) (get_or view.rows row []) (index_at view.extents row) ≡ gives (answer_of old) (kept_of old) (get_or old.rows row []) (index_at old.extents row)
 row_here gives old view filter sets row so_far =
     ap (λ (v : Table). gives (answer_of v) (kept_of v) (get_or view.rows row []) (index_at v.extents row)) so_far.same
     ∙ ap (λ (r : List ℤ). gives (answer_of old) (kept_of old) r (index_at old.extents row)) (same_at view.rows old.rows row [] so_far.back)

@@ -1,5 +1,5 @@
 -- Rows of a run that are updated at once, as if each were updated after the one before.
-use Rattle.row_updates.proofs.Imports.{◌≡◌, ◌∙◌, ℕ, zero, suc, ◌+◌, ◌<◌, ◌≤◌, List, [], ◌∷◌, ◌++◌, length, map, take, drop, set, get_or, ℤ, pos, Bool, true, false, Option, Result, Ok, Err, is_ok, refl, sym, ap, subst, arith, get_or-drop, slice_set, get_or-map, length-map, get_or-take, length-take-le, set-get_or, take_more, drop-drop, Term, outcome_of, IsSafe, worth, index_at, hold_at, Leaf, leaves, stays_answer, in_leaf, with_column, no_column, length-with_column, Answer, Keeping, kept_or, Table, IsTable, leaf_count_of, leaf_type_of, leaf_types_of, table_holds, answer_of, kept_of, after_stores, Access, Tally, StoreFault, UpdateFault, Run, Setting, each, in_row, store_kind, passes, new_value, with_values, updated_row, updated_of, ◌>>=◌, update_log, IsIdle, row_of, IsGiven, AreUpdated, IsStill, IsRunUpdated, AreTested}
+use Rattle.row_updates.proofs.Imports.{◌≡◌, ◌∙◌, ℕ, zero, suc, ◌+◌, ◌<◌, ◌≤◌, List, [], ◌∷◌, ◌++◌, length, map, take, drop, set, get_or, ℤ, pos, Bool, true, false, Option, Result, Ok, Err, is_ok, refl, sym, ap, subst, arith, get_or-drop, slice_set, get_or-map, length-map, get_or-take, length-take-le, set-get_or, take_more, drop-drop, Term, outcome_of, IsSafe, worth, index_at, hold_at, Leaf, leaves, stays_answer, in_leaf, with_column, no_column, length-with_column, StoreAnswer, Keeping, kept_or, Table, IsTable, leaf_count_of, leaf_type_of, leaf_types_of, table_holds, answer_of, kept_of, after_stores, Access, Tally, StoreFault, UpdateFault, Run, Setting, each, in_row, store_kind, passes, new_value, with_values, updated_row, updated_of, ◌>>=◌, update_log, IsIdle, row_of, IsGiven, AreUpdated, IsStill, IsRunUpdated, AreTested}
 use Rattle.row_updates.proofs.Each.{parted, each_push, rows_push}
 
 -- ---- the rows in which a leaf has other values: those before, those behind, and each of them
@@ -46,7 +46,7 @@ values_push keep [] last (v ∷ values) row value long = absurd (omega (arith, l
 values_push keep (s ∷ sets) last [] row value long = absurd (omega (arith, long))
 values_push keep (s ∷ sets) last (v ∷ values) row value long = values_push keep sets last values (slice_set row s.leaf (keep s.leaf v)) value (omega (arith, long))
 
-module _ (answer : Answer) (keep : Keeping) (filter : Option (Term ℕ)) (sets : List Setting) (last : Setting) (number : ℕ) (row : List ℤ) (index : List ℕ) where
+module _ (answer : StoreAnswer) (keep : Keeping) (filter : Option (Term ℕ)) (sets : List Setting) (last : Setting) (number : ℕ) (row : List ℤ) (index : List ℕ) where
   record HasValues (all : Result (List ℤ) UpdateFault) (new : List ℤ) : Type 0 where
     values : List ℤ
     is : all ≡ Ok values
@@ -85,7 +85,7 @@ taken : (number leaf : ℕ) (value : ℤ) (answer : Result ℤ StoreFault) → i
 taken number leaf value (Ok kept) ok = refl
 taken number leaf value (Err fault) ok = absurd (cc)
 
-value_given : (answer : Answer) (number : ℕ) (row : List ℤ) (index : List ℕ) (set : Setting) (value : ℤ) → (outcome_of row index set.value).answer ≡ Ok value → is_ok (answer set.leaf value) ≡ true
+value_given : (answer : StoreAnswer) (number : ℕ) (row : List ℤ) (index : List ℕ) (set : Setting) (value : ℤ) → (outcome_of row index set.value).answer ≡ Ok value → is_ok (answer set.leaf value) ≡ true
     → new_value answer number row index set ≡ Ok value
 value_given answer number row index set value gives ok = rw gives (taken number set.leaf value (answer set.leaf value) ok)
 

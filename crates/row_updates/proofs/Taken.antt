@@ -1,7 +1,7 @@
 -- Values that a leaf takes.
-use Rattle.row_updates.proofs.Imports.{◌≡◌, ◌∙◌, ℕ, zero, suc, ◌+◌, ◌<◌, ◌≤◌, ◌≤ℤ◌, List, [], ◌∷◌, length, get_or, ℤ, pos, Bool, true, false, Option, Some, None, Result, Ok, Err, is_ok, refl, sym, ap, arith, if◌then◌else◌, option_or, ints, Hold, LeafType, least_of, greatest_of, least_in, greatest_in, StoreMode, Strict, Wrap, lane_fault, first_lane_fault, Answer, is_between, store_answer, told, told_lane, stored_count, LaneFault, told_same, between_true, fitting_stored, StoreFault, Range, Narrow}
+use Rattle.row_updates.proofs.Imports.{◌≡◌, ◌∙◌, ℕ, zero, suc, ◌+◌, ◌<◌, ◌≤◌, ◌≤ℤ◌, List, [], ◌∷◌, length, get_or, ℤ, pos, Bool, true, false, Option, Some, None, Result, Ok, Err, is_ok, refl, sym, ap, arith, if◌then◌else◌, option_or, ints, Hold, LeafType, least_of, greatest_of, least_in, greatest_in, StoreMode, Strict, Wrap, lane_fault, first_lane_fault, StoreAnswer, is_between, store_answer, without_number, told_lane, stored_count, LaneFault, told_same, between_true, fitting_stored, StoreFault, Range, Narrow}
 
-module _ (answer : Answer) (leaf : ℕ) where
+module _ (answer : StoreAnswer) (leaf : ℕ) where
   -- a value without a fault in front of others
   fault_free : (lane : ℕ) (one : Result ℤ StoreFault) (rest : Option LaneFault) → option_or (lane_fault lane one) rest ≡ None → (is_ok one ≡ true) × (rest ≡ None)
   fault_free lane (Ok kept) rest none = (refl, none)
@@ -40,7 +40,7 @@ module _ (answer : Answer) (leaf : ℕ) where
       → option_or (lane_fault lane one) (first_lane_fault answer leaf (lane + 1) values) ≡ Some fault → AreTakenUpTo lane (value ∷ values) fault
   before_by lane value values fault (Ok kept) is rest some = later lane value values fault (ap (λ (r : Result ℤ StoreFault). is_ok r) is) (rest some)
   before_by lane value values fault (Err other) is rest some =
-      let told : lane_fault lane (Err other) ≡ Some fault = some in
+      let without_number : lane_fault lane (Err other) ≡ Some fault = some in
       let same : fault.lane ≡ lane = cc in
       record { inside = omega (arith, same); from = omega (arith, same); taken = λ k small. absurd (omega (arith, small, same)) }
 
@@ -73,11 +73,11 @@ between_taken Strict kind hold least greatest value low high one two =
     (fitting_stored kind hold value (omega (arith, ints, declared_low, low), omega (arith, ints, declared_high, high)) (omega (arith, ints, held_low, low), omega (arith, ints, held_high, high)))
 
 -- what is stored of values up to their first fault
-pub record IsStored (answer : Answer) (leaf : ℕ) (values : List ℤ) (count : ℕ) : Type 0 where
+pub record IsStored (answer : StoreAnswer) (leaf : ℕ) (values : List ℤ) (count : ℕ) : Type 0 where
   pub few : count ≤ length values
   pub taken : (k : ℕ) → k < count → is_ok (answer leaf (get_or values k (pos 0))) ≡ true
 
-pub stored_front : (answer : Answer) (leaf : ℕ) (values : List ℤ) (fault : Option LaneFault) → first_lane_fault answer leaf 0 values ≡ fault → IsStored answer leaf values (stored_count (length values) fault)
+pub stored_front : (answer : StoreAnswer) (leaf : ℕ) (values : List ℤ) (fault : Option LaneFault) → first_lane_fault answer leaf 0 values ≡ fault → IsStored answer leaf values (stored_count (length values) fault)
 stored_front answer leaf values None is = record { few = omega arith; taken = all_taken answer leaf 0 values is }
 stored_front answer leaf values (Some fault) is =
     let before = taken_before answer leaf 0 values fault is in
@@ -85,13 +85,13 @@ stored_front answer leaf values (Some fault) is =
 
 -- what is told of it
 pub told_none : (fault : Option LaneFault) (x : Unit {0}) → told_lane fault ≡ Ok x → fault ≡ None
-told_none None x told = refl
-told_none (Some fault) x told = absurd (cc)
+told_none None x without_number = refl
+told_none (Some fault) x without_number = absurd (cc)
 
 pub told_some : (fault : Option LaneFault) (other : LaneFault) → told_lane fault ≡ Err other → fault ≡ Some other
-told_some None other told = absurd (cc)
-told_some (Some fault) other told = cc
+told_some None other without_number = absurd (cc)
+told_some (Some fault) other without_number = cc
 
 -- a value fits
-pub fits_taken : (answer : Result ℤ StoreFault) (fits : Result Unit StoreFault) (test : Bool) → fits ≡ told answer → test ≡ is_ok fits → test ≡ true → is_ok answer ≡ true
+pub fits_taken : (answer : Result ℤ StoreFault) (fits : Result Unit StoreFault) (test : Bool) → fits ≡ without_number answer → test ≡ is_ok fits → test ≡ true → is_ok answer ≡ true
 fits_taken answer fits test is tested ok = sym (told_same answer) ∙ ap (λ (r : Result Unit StoreFault). is_ok r) (sym is) ∙ sym tested ∙ ok

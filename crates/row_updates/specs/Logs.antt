@@ -6,7 +6,7 @@ use Rattle.expr_lang.specs.Values.{outcome_of}
 use Rattle.linearize.specs.Slots.{index_at}
 use Rattle.views.specs.Tallies.{Access, Read, Write}
 use Rattle.views.specs.Tables.{Table, answer_of}
-use Rattle.views.specs.Stores.{Answer}
+use Rattle.views.specs.Stores.{StoreAnswer}
 use Rattle.row_updates.specs.declared.fault.UpdateFault.{UpdateFault}
 use Rattle.row_updates.specs.Rows.{Setting, each, passes, new_value}
 
@@ -30,7 +30,7 @@ if_passes (Ok true) log = log
 if_passes _ log = []
 
 -- the reads of right sides in order, up to the first that has a fault or does not fit
-abbrev pub sides_log : Answer → ℕ → List ℤ → List ℕ → List Setting → List Access
+abbrev pub sides_log : StoreAnswer → ℕ → List ℤ → List ℕ → List Setting → List Access
 sides_log answer number row index [] = []
 sides_log answer number row index (set ∷ sets) =
     value_log number row index set.value ++ if_ok (new_value answer number row index set) (sides_log answer number row index sets)
@@ -40,7 +40,7 @@ abbrev pub stores_log : ℕ → List Setting → List Access
 stores_log number sets = map (λ set. Write number set.leaf) sets
 
 -- those of a row that is tried: its filter, then its right sides
-abbrev pub tried_log : Answer → Option (Term ℕ) → List Setting → ℕ → List ℤ → List ℕ → List Access
+abbrev pub tried_log : StoreAnswer → Option (Term ℕ) → List Setting → ℕ → List ℤ → List ℕ → List Access
 tried_log answer filter sets number row index = filter_log number row index filter ++ if_passes (passes number row index filter) (sides_log answer number row index sets)
 
 -- the stores of a row that is given something
@@ -49,13 +49,13 @@ if_given (Ok (Some values)) log = log
 if_given _ log = []
 
 -- those of a row: its filter, then its right sides, and then its stores
-abbrev pub row_log : Answer → Option (Term ℕ) → List Setting → ℕ → List ℤ → List ℕ → List Access
+abbrev pub row_log : StoreAnswer → Option (Term ℕ) → List Setting → ℕ → List ℤ → List ℕ → List Access
 row_log answer filter sets number row index =
     filter_log number row index filter
     ++ if_passes (passes number row index filter) (sides_log answer number row index sets ++ if_ok (each (new_value answer number row index) sets) (stores_log number sets))
 
 -- those of an update of the first so many rows
-abbrev pub rows_log : Answer → Option (Term ℕ) → List Setting → List ℕ → List (List ℤ) → ℕ → List Access
+abbrev pub rows_log : StoreAnswer → Option (Term ℕ) → List Setting → List ℕ → List (List ℤ) → ℕ → List Access
 rows_log answer filter sets extents rows count =
     flat_map (λ number. row_log answer filter sets number (slice_index_or rows number []) (index_at extents number)) (range_with_len 0 count)
 

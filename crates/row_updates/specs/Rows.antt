@@ -10,7 +10,7 @@ use Rattle.expr_lang.specs.Terms.{Term}
 use Rattle.expr_lang.specs.Values.{outcome_of, is_true}
 use Rattle.linearize.specs.Slots.{index_at}
 use Rattle.views.specs.Tables.{Table, leaf_count_of, answer_of, kept_of}
-use Rattle.views.specs.Stores.{Answer, Keeping}
+use Rattle.views.specs.Stores.{StoreAnswer, Keeping}
 use Rattle.views.specs.declared.fault.StoreFault.{StoreFault}
 use Rattle.views.specs.declared.fault.StoreFault.TheVariants as store
 use Rattle.row_updates.specs.declared.fault.UpdateFault.{UpdateFault}
@@ -69,14 +69,14 @@ passes number row index (Some filter) = do
   Ok (is_true value)
 
 -- the value of a right side on a row as it stands, tested for its leaf
-abbrev pub new_value : Answer → ℕ → List ℤ → List ℕ → Setting → Result ℤ UpdateFault
+abbrev pub new_value : StoreAnswer → ℕ → List ℤ → List ℕ → Setting → Result ℤ UpdateFault
 new_value answer number row index set = do
   value ← value_of number row index set.value
   kept ← in_row number (store_kind set.leaf) (answer set.leaf value)
   Ok value
 
 -- what a row is given by an update before anything is stored: nothing where it does not pass the filter, and else the values of the right sides
-abbrev pub tried_row : Answer → Option (Term ℕ) → List Setting → ℕ → List ℤ → List ℕ → Result (Option (List ℤ)) UpdateFault
+abbrev pub tried_row : StoreAnswer → Option (Term ℕ) → List Setting → ℕ → List ℤ → List ℕ → Result (Option (List ℤ)) UpdateFault
 tried_row answer filter sets number row index = do
   test ← passes number row index filter
   if test then (do
@@ -94,7 +94,7 @@ given_row keep sets None row = row
 given_row keep sets (Some values) row = with_values keep sets values row
 
 -- a row after the update: its right sides are evaluated and tested on the row as it stands, and only then stored
-abbrev pub updated_row : Answer → Keeping → Option (Term ℕ) → List Setting → ℕ → List ℤ → List ℕ → Result (List ℤ) UpdateFault
+abbrev pub updated_row : StoreAnswer → Keeping → Option (Term ℕ) → List Setting → ℕ → List ℤ → List ℕ → Result (List ℤ) UpdateFault
 updated_row answer keep filter sets number row index = do
   test ← passes number row index filter
   if test then (do
@@ -102,7 +102,7 @@ updated_row answer keep filter sets number row index = do
     Ok (with_values keep sets values row)) else Ok row
 
 -- the first so many rows after the update
-abbrev pub updated_rows : Answer → Keeping → Option (Term ℕ) → List Setting → List ℕ → List (List ℤ) → ℕ → Result (List (List ℤ)) UpdateFault
+abbrev pub updated_rows : StoreAnswer → Keeping → Option (Term ℕ) → List Setting → List ℕ → List (List ℤ) → ℕ → Result (List (List ℤ)) UpdateFault
 updated_rows answer keep filter sets extents rows count =
     each (λ number. updated_row answer keep filter sets number (slice_index_or rows number []) (index_at extents number)) (range_with_len 0 count)
 
@@ -117,11 +117,11 @@ counted filter extents rows = do
   Ok (count_by (λ test. test) tests)
 
 -- an expression is bound to the leaves and the rank of a view
-pub record IsOver (table : Table) (bound : Bound) : Type 0 where
+pub record IsBoundOver (table : Table) (bound : Bound) : Type 0 where
   pub leaves : bound_leaves bound ≡ leaf_count_of table
   pub rank : bound_rank bound ≡ length table.extents
 
 -- a leaf of a view, and an expression that is bound to it
 pub record IsSetOf (table : Table) (set : Assign) : Type 0 where
   pub inside : set.leaf < leaf_count_of table
-  pub over : IsOver table set.value
+  pub over : IsBoundOver table set.value

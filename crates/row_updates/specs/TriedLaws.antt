@@ -3,13 +3,13 @@ use Rattle.std.proofs.Common.{◌≡◌, ◌∙◌, ℕ, ℤ, Bool, true, false,
 use Rattle.std.specs.Prelude.{if◌then◌else◌}
 use Rattle.std.proofs.lemmas.List.{append-nil, append_assoc}
 use Rattle.expr_lang.specs.Terms.{Term}
-use Rattle.views.specs.Stores.{Answer, Keeping}
+use Rattle.views.specs.Stores.{StoreAnswer, Keeping}
 use Rattle.views.specs.Tallies.{Access}
 use Rattle.row_updates.specs.declared.fault.UpdateFault.{UpdateFault}
 use Rattle.row_updates.specs.Rows.{Setting, each, passes, new_value, with_values, tried_row, given_row, updated_row, ◌>>=◌}
 use Rattle.row_updates.specs.Logs.{filter_log, if_ok, if_passes, sides_log, stores_log, tried_log, if_given, row_log}
 
-module _ (answer : Answer) (filter : Option (Term ℕ)) (sets : List Setting) (number : ℕ) (row : List ℤ) (index : List ℕ) where
+module _ (answer : StoreAnswer) (filter : Option (Term ℕ)) (sets : List Setting) (number : ℕ) (row : List ℤ) (index : List ℕ) where
   -- the accesses of the filter, and of the right sides
   abbrev front : List Access
   front = filter_log number row index filter

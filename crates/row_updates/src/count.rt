@@ -1,12 +1,12 @@
 // Rows where an expression is not 0, counted.
 ghost use Rattle.std.specs.Prelude.{◌≡◌, ◌+◌, ◌≤◌, ◌-◌, ℕ, OnOk, IfOk, IfErr, length};
 ghost use Rattle.expr_lang.specs.Bounds.{bound_term};
-ghost use Rattle.expr_lang.specs.Exacts.{IsSafe};
+ghost use Rattle.expr_lang.specs.Inner.Exacts.{IsSafe};
 ghost use Rattle.views.specs.Tables.{Table, leaf_count_of, after_log};
-ghost use Rattle.row_updates.specs.Rows.{IsOver, counted};
+ghost use Rattle.row_updates.specs.Rows.{IsBoundOver, counted};
 ghost use Rattle.row_updates.specs.Logs.{count_log};
-ghost use Rattle.row_updates.specs.Runs.{IsIdle, IsRunOf};
-ghost use Rattle.row_updates.specs.Updated.{IsCounted, IsCountStopped};
+ghost use Rattle.row_updates.specs.Inner.ValueRuns.{IsIdle, IsRunOf};
+ghost use Rattle.row_updates.specs.Inner.Updated.{IsCounted, IsCountStopped};
 
 use crate::fault::UpdateFault;
 use crate::index::put_index;
@@ -26,7 +26,7 @@ pub fn count_where<L: Ledger>(
     filter: &Bound,
     steps: &mut Steps<L>,
 ) -> Result<u64, UpdateFault>
-    requires { IsOver view.old filter.now }
+    requires { IsBoundOver view.old filter.now }
     ensures value { result ≡ counted (bound_term filter.now) view.old.extents view.old.rows }
     ensures same { OnOk result (view.new ≡ after_log view.old (count_log (bound_term filter.now) view.old.extents view.old.rows (length view.old.rows))) }
     ensures so_far { IfErr result (λ fault. view.new ≡ after_log view.old (count_log (bound_term filter.now) view.old.extents view.old.rows (fault.row + 1))) }
@@ -51,7 +51,7 @@ fn count_by_runs<L: Ledger>(
     steps: &mut Steps<L>,
 ) -> Result<u64, UpdateFault>
     requires idle { IsIdle view.old }
-    requires over { IsOver view.old filter.now }
+    requires over { IsBoundOver view.old filter.now }
     requires safe { IsSafe leaves.now places.now (bound_term filter.now) }
     requires leaves { length leaves.now ≡ leaf_count_of view.old }
     requires places { length places.now ≡ length view.old.extents }
@@ -83,7 +83,7 @@ fn count_next<L: Ledger>(
     steps: &mut Steps<L>,
 ) -> Result<u64, UpdateFault>
     requires idle { IsIdle view.old }
-    requires over { IsOver view.old filter.now }
+    requires over { IsBoundOver view.old filter.now }
     requires safe { IsSafe run.now.leaves.now run.now.places.now (bound_term filter.now) }
     requires order { run.now.first ≤ end }
     requires rows { IsRunOf view.old run.now (end - run.now.first) }
@@ -109,7 +109,7 @@ fn count_between<L: Ledger>(
     end: u64,
     steps: &mut Steps<L>,
 ) -> Result<u64, UpdateFault>
-    requires over { IsOver view.old filter.now }
+    requires over { IsBoundOver view.old filter.now }
     requires order { first ≤ end }
     requires rows_in { end ≤ length view.old.rows }
     ensures few { IfOk result (λ more. first + more ≤ end) }

@@ -1,10 +1,10 @@
 // How far from 0 the values of leaves and the numbers of indices may lie, so that no part of some expressions can fail.
 ghost use Rattle.std.specs.Prelude.{◌≡◌, ◌≤◌, true, IfSome, All, length};
 ghost use Rattle.expr_lang.specs.Bounds.{bound_term, bound_leaves, bound_rank};
-ghost use Rattle.expr_lang.specs.Exacts.{IsSafe};
+ghost use Rattle.expr_lang.specs.Inner.Exacts.{IsSafe};
 ghost use Rattle.views.specs.Tables.{leaf_count_of};
-ghost use Rattle.row_updates.specs.Rows.{IsOver, IsSetOf};
-ghost use Rattle.row_updates.specs.Runs.{IsIdle, IsSized};
+ghost use Rattle.row_updates.specs.Rows.{IsBoundOver, IsSetOf};
+ghost use Rattle.row_updates.specs.Inner.ValueRuns.{IsIdle, IsSized};
 
 use crate::update::Assign;
 use expr_lang::{Bound, most};
@@ -22,7 +22,7 @@ pub fn find_limits(
     leaves: &mut [u64],
     places: &mut [u64],
 ) -> bool
-    requires filter { IfSome filter (λ bound. IsOver view.now bound.now) }
+    requires filter { IfSome filter (λ bound. IsBoundOver view.now bound.now) }
     requires sets { All (IsSetOf view.now) sets.now }
     requires leaves { length leaves.old ≡ leaf_count_of view.now }
     requires places { length places.old ≡ length view.now.extents }

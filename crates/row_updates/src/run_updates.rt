@@ -3,12 +3,12 @@ ghost use Rattle.std.specs.Prelude.{ℕ, ◌≡◌, ◌+◌, ◌<◌, ◌≤◌,
 ghost use Rattle.expr_lang.specs.Bounds.{bound_term};
 ghost use Rattle.expr_lang.specs.Terms.{Term};
 ghost use Rattle.expr_lang.specs.Values.{is_true};
-ghost use Rattle.expr_lang.specs.Exacts.{IsSafe};
+ghost use Rattle.expr_lang.specs.Inner.Exacts.{IsSafe};
 ghost use Rattle.views.specs.Columns.{in_leaf};
 ghost use Rattle.views.specs.Tables.{Table, leaf_count_of};
-ghost use Rattle.row_updates.specs.Rows.{IsOver, IsSetOf, setting_of, filter_term};
-ghost use Rattle.row_updates.specs.Runs.{IsIdle, IsRunOf, AreGiven, AreTaken, row_of};
-ghost use Rattle.row_updates.specs.Updated.{AreUpdated, IsStopped, IsStill, IsRunUpdated, lane_test, AreTested};
+ghost use Rattle.row_updates.specs.Rows.{IsBoundOver, IsSetOf, setting_of, filter_term};
+ghost use Rattle.row_updates.specs.Inner.ValueRuns.{IsIdle, IsRunOf, AreGiven, AreTaken, row_of};
+ghost use Rattle.row_updates.specs.Inner.Updated.{AreUpdated, IsStopped, IsStill, IsRunUpdated, lane_test, AreTested};
 
 use crate::fault::UpdateFault;
 use crate::runs::{Run, chain_run, leaf_run};
@@ -34,7 +34,7 @@ pub fn update_by_runs<L: Ledger>(
     steps: &mut Steps<L>,
 ) -> Result<(), UpdateFault>
     requires idle { IsIdle view.old }
-    requires filter { IfSome filter (λ bound. IsOver view.old bound.now × IsSafe leaves.now places.now (bound_term bound.now)) }
+    requires filter { IfSome filter (λ bound. IsBoundOver view.old bound.now × IsSafe leaves.now places.now (bound_term bound.now)) }
     requires sets { All (IsSetOf view.old) sets.now }
     requires safe { All (λ set. IsSafe leaves.now places.now (bound_term set.value)) sets.now }
     requires few { length sets.now ≤ 64 }
@@ -68,7 +68,7 @@ fn update_next<L: Ledger>(
     steps: &mut Steps<L>,
 ) -> Result<(), UpdateFault>
     requires idle { IsIdle view.old }
-    requires filter { IfSome filter (λ bound. IsOver view.old bound.now × IsSafe run.now.leaves.now run.now.places.now (bound_term bound.now)) }
+    requires filter { IfSome filter (λ bound. IsBoundOver view.old bound.now × IsSafe run.now.leaves.now run.now.places.now (bound_term bound.now)) }
     requires sets { All (IsSetOf view.old) sets.now }
     requires safe { All (λ set. IsSafe run.now.leaves.now run.now.places.now (bound_term set.value)) sets.now }
     requires few { length sets.now ≤ 64 }
@@ -94,7 +94,7 @@ fn update_run<L: Ledger>(
     steps: &mut Steps<L>,
 ) -> usize
     requires idle { IsIdle view.old }
-    requires filter { IfSome filter (λ bound. IsOver view.old bound.now × IsSafe run.now.leaves.now run.now.places.now (bound_term bound.now)) }
+    requires filter { IfSome filter (λ bound. IsBoundOver view.old bound.now × IsSafe run.now.leaves.now run.now.places.now (bound_term bound.now)) }
     requires sets { All (IsSetOf view.old) sets.now }
     requires safe { All (λ set. IsSafe run.now.leaves.now run.now.places.now (bound_term set.value)) sets.now }
     requires rows { IsRunOf view.old run.now count }
@@ -117,7 +117,7 @@ fn passed_run<L: Ledger>(
     steps: &mut Steps<L>,
 ) -> usize
     requires idle { IsIdle view.old }
-    requires over { IsOver view.old filter.now }
+    requires over { IsBoundOver view.old filter.now }
     requires safe_filter { IsSafe run.now.leaves.now run.now.places.now (bound_term filter.now) }
     requires sets { All (IsSetOf view.old) sets.now }
     requires safe { All (λ set. IsSafe run.now.leaves.now run.now.places.now (bound_term set.value)) sets.now }

@@ -3,9 +3,9 @@ ghost use Rattle.std.specs.Prelude.{◌≡◌, ◌<◌, ◌≤◌, ◌+◌, ℕ,
 ghost use Rattle.expr_lang.specs.Bounds.{bound_term};
 ghost use Rattle.views.specs.Tables.{Table, answer_of, kept_of, after_log, after_stores};
 ghost use Rattle.linearize.specs.Slots.{index_at};
-ghost use Rattle.row_updates.specs.Rows.{IsOver, IsSetOf, Setting, setting_of, filter_term, each, store_kind, new_value, with_values, tried_row, updated_row, updated_of};
+ghost use Rattle.row_updates.specs.Rows.{IsBoundOver, IsSetOf, Setting, setting_of, filter_term, each, store_kind, new_value, with_values, tried_row, updated_row, updated_of};
 ghost use Rattle.row_updates.specs.Logs.{value_log, sides_log, stores_log, tried_log, row_log, update_log};
-ghost use Rattle.row_updates.specs.Updated.{AreUpdated, IsStopped};
+ghost use Rattle.row_updates.specs.Inner.Updated.{AreUpdated, IsStopped};
 
 use crate::fault::{UpdateFault, UpdateKind};
 use crate::index::put_index;
@@ -36,7 +36,7 @@ pub fn update_rows<L: Ledger>(
     sets: &[Assign],
     steps: &mut Steps<L>,
 ) -> Result<(), UpdateFault>
-    requires filter { IfSome filter (λ bound. IsOver view.old bound.now) }
+    requires filter { IfSome filter (λ bound. IsBoundOver view.old bound.now) }
     requires sets { All (IsSetOf view.old) sets.now }
     requires few { length sets.now ≤ 64 }
     ensures stored { OnOk result (updated_of view.old (filter_term filter.entry) (map setting_of sets.now) (length view.old.rows) ≡ Ok view.new.rows) }
@@ -68,7 +68,7 @@ pub(crate) fn update_between<L: Ledger>(
     end: u64,
     steps: &mut Steps<L>,
 ) -> Result<(), UpdateFault>
-    requires filter { IfSome filter (λ bound. IsOver view.old bound.now) }
+    requires filter { IfSome filter (λ bound. IsBoundOver view.old bound.now) }
     requires sets { All (IsSetOf view.old) sets.now }
     requires few { length sets.now ≤ 64 }
     requires order { first ≤ end }
@@ -102,7 +102,7 @@ fn update_row<L: Ledger>(
 ) -> Result<(), UpdateFault>
     requires row_in { row < length view.old.rows }
     requires rank { length index.now ≡ length view.old.extents }
-    requires filter { IfSome filter (λ bound. IsOver view.old bound.now) }
+    requires filter { IfSome filter (λ bound. IsBoundOver view.old bound.now) }
     requires sets { All (IsSetOf view.old) sets.now }
     requires few { length sets.now ≤ 64 }
     ensures stored { OnOk result ((new : List ℤ)
@@ -134,7 +134,7 @@ pub fn try_row<L: Ledger>(
     steps: &mut Steps<L>,
 ) -> Result<bool, UpdateFault>
     requires row_in { row < length view.old.rows }
-    requires filter { IfSome filter (λ bound. IsOver view.old bound.now) }
+    requires filter { IfSome filter (λ bound. IsBoundOver view.old bound.now) }
     requires sets { All (IsSetOf view.old) sets.now }
     requires few { length sets.now ≤ 64 }
     ensures tried { IfOk result (λ passed. tried_row (answer_of view.old) (filter_term filter.entry) (map setting_of sets.now)
@@ -164,7 +164,7 @@ fn try_at<L: Ledger>(
 ) -> Result<bool, UpdateFault>
     requires row_in { row < length view.old.rows }
     requires rank { length index.now ≡ length view.old.extents }
-    requires filter { IfSome filter (λ bound. IsOver view.old bound.now) }
+    requires filter { IfSome filter (λ bound. IsBoundOver view.old bound.now) }
     requires sets { All (IsSetOf view.old) sets.now }
     requires few { length sets.now ≤ 64 }
     ensures tried { IfOk result (λ passed. tried_row (answer_of view.old) (filter_term filter.entry) (map setting_of sets.now)

@@ -3,7 +3,7 @@ ghost use Rattle.std.specs.Prelude.{◌≡◌, ◌<◌, IfErr, IfSome, [], lengt
 ghost use Rattle.expr_lang.specs.Bounds.{bound_term, bound_leaves, bound_rank};
 ghost use Rattle.expr_lang.specs.Values.{outcome_of};
 ghost use Rattle.views.specs.Tables.{leaf_count_of, after_log};
-ghost use Rattle.row_updates.specs.Rows.{IsOver, filter_term, eval_kind, value_of, passes};
+ghost use Rattle.row_updates.specs.Rows.{IsBoundOver, filter_term, eval_kind, value_of, passes};
 ghost use Rattle.row_updates.specs.Logs.{value_log, filter_log};
 
 use crate::fault::{UpdateFault, UpdateKind};
@@ -44,7 +44,7 @@ pub fn value_of<L: Ledger>(
 ) -> Result<i128, UpdateFault>
     requires row_in { row < length view.old.rows }
     requires rank { length index.now ≡ length view.old.extents }
-    requires over { IsOver view.old expr.now }
+    requires over { IsBoundOver view.old expr.now }
     ensures value { result ≡ value_of row (slice_index_or view.old.rows row []) index.now (bound_term expr.now) }
     ensures named { IfErr result (λ fault. fault.row ≡ row) }
     ensures same { view.new ≡ after_log view.old (value_log row (slice_index_or view.old.rows row []) index.now (bound_term expr.now)) }
@@ -69,7 +69,7 @@ pub fn passes<L: Ledger>(
 ) -> Result<bool, UpdateFault>
     requires row_in { row < length view.old.rows }
     requires rank { length index.now ≡ length view.old.extents }
-    requires filter { IfSome filter (λ bound. IsOver view.old bound.now) }
+    requires filter { IfSome filter (λ bound. IsBoundOver view.old bound.now) }
     ensures value { result ≡ passes row (slice_index_or view.old.rows row []) index.now (filter_term filter.entry) }
     ensures named { IfErr result (λ fault. fault.row ≡ row) }
     ensures same { view.new ≡ after_log view.old (filter_log row (slice_index_or view.old.rows row []) index.now (filter_term filter.entry)) }

@@ -1,5 +1,5 @@
 -- The rows that updates, kernels and datasets leave.
-use Rattle.saved_runs.proofs.Imports.{◌≡◌, ℕ, zero, suc, ◌+◌, ◌<◌, ◌≤◌, Bool, true, false, ℤ, List, [], ◌∷◌, ◌++◌, length, map, get_or, drop, Option, Some, None, Result, Ok, Err, is_ok, if◌then◌else◌, refl, sym, ap, ◌∙◌, subst, arith, append-nil, range_with_len, option_or, length-map, drop_all, take-length, Term, index_at, kinds_of, holds_by, hold_at, kept_by, StoreFault, Setting, each, in_row, store_kind, value_of, passes, new_value, updated_row, with_values, UpdateFault, UpdateKind, Store, stored, with_store, run_rows, answer_fault, store_fault, first_fault, empty_fault, kernel_fault, KernelFault, Kernel, Each, Header, AreRows, answer_by}
+use Rattle.saved_runs.proofs.Imports.{◌≡◌, ℕ, zero, suc, ◌+◌, ◌<◌, ◌≤◌, Bool, true, false, ℤ, List, [], ◌∷◌, ◌++◌, length, map, get_or, drop, Option, Some, None, Result, Ok, Err, is_ok, if◌then◌else◌, refl, sym, ap, ◌∙◌, subst, arith, append-nil, range_with_len, option_or, length-map, drop_all, take-length, Term, index_at, kinds_of, holds_by, hold_at, kept_by, StoreFault, Setting, each, in_row, store_kind, value_of, passes, new_value, updated_row, with_values, UpdateFault, UpdateKind, Store, stored, with_store, run_rows, answer_fault, kernel_store_fault, first_row_fault, empty_fault, kernel_fault, KernelFault, Kernel, Each, Header, AreRows, answer_by}
 use Rattle.row_updates.specs.Rows.{◌>>=◌}
 use Rattle.saved_runs.proofs.Rows.{IsRow, each_at, each_row, are_rows, set_row, taken_stays}
 
@@ -79,7 +79,7 @@ module _ (header : Header) (wide : (leaf : ℕ) → leaf < length (kinds_of head
   not_refused row leaf (Ok kept) is = refl
   not_refused row leaf (Err fault) is = absurd (cc is)
 
-  store_stays : (row : ℕ) (values : List ℤ) (store : Option Store) → store_fault (answer_by header) row store ≡ None → IsRow header values → IsRow header (with_store (kept_by (answer_by header)) values store)
+  store_stays : (row : ℕ) (values : List ℤ) (store : Option Store) → kernel_store_fault (answer_by header) row store ≡ None → IsRow header values → IsRow header (with_store (kept_by (answer_by header)) values store)
   store_stays row values None is one = one
   store_stays row values (Some store) is one =
       set_row header values store.leaf (kept_by (answer_by header) store.leaf store.value) one
@@ -89,18 +89,18 @@ module _ (header : Header) (wide : (leaf : ℕ) → leaf < length (kinds_of head
   neither None other is = (refl, is)
   neither (Some fault) other is = absurd (cc is)
 
-  rows_run : (kernel : Kernel) (row : ℕ) (rows : List (List ℤ)) → first_fault (answer_by header) kernel row rows ≡ None → Each (IsRow header) rows
+  rows_run : (kernel : Kernel) (row : ℕ) (rows : List (List ℤ)) → first_row_fault (answer_by header) kernel row rows ≡ None → Each (IsRow header) rows
       → Each (IsRow header) (map (λ values. with_store (kept_by (answer_by header)) values (stored kernel values)) rows)
   rows_run kernel row [] is all = tt
   rows_run kernel row (values ∷ rows) is all =
-      let parts = neither (store_fault (answer_by header) row (stored kernel values)) (first_fault (answer_by header) kernel (row + 1) rows) is in
+      let parts = neither (kernel_store_fault (answer_by header) row (stored kernel values)) (first_row_fault (answer_by header) kernel (row + 1) rows) is in
       (store_stays row values (stored kernel values) parts.0 all.0, rows_run kernel (row + 1) rows parts.1 all.1)
 
   pub kernel_stays : (kernel : Kernel) (rows : List (List ℤ)) → AreRows header rows → kernel_fault (answer_by header) kernel rows ≡ None
       → AreRows header (run_rows (kept_by (answer_by header)) kernel (length rows) rows)
   kernel_stays kernel rows are is =
       let done : List ℤ → List ℤ = λ values. with_store (kept_by (answer_by header)) values (stored kernel values) in
-      let parts = neither (empty_fault kernel rows) (first_fault (answer_by header) kernel 0 rows) is in
+      let parts = neither (empty_fault kernel rows) (first_row_fault (answer_by header) kernel 0 rows) is in
       let all : run_rows (kept_by (answer_by header)) kernel (length rows) rows ≡ map done rows =
       ap (λ (front : List (List ℤ)). map done front ++ drop (length rows) rows) (take-length rows)
       ∙ ap (λ (back : List (List ℤ)). map done rows ++ back) (drop_all (length rows) rows (omega arith)) ∙ append-nil (map done rows) in

@@ -1,5 +1,5 @@
 -- Lines that say the header of a table.
-use Rattle.saved_runs.proofs.Imports.{◌≡◌, ℕ, zero, suc, ◌+◌, ◌^◌, ◌<◌, ◌≤◌, Bool, true, false, not, ◌&&◌, List, [], ◌∷◌, ◌++◌, length, map, codes, nat_lt, Some, Result, Ok, Err, inr, refl, sym, ap, subst, append-nil, append_assoc, arith, ◌||◌, lt-ltb, ltb-false, Behind, IsNothing, Chain, Repeats, AreSpelled, joined, OpenBracket, CloseBracket, Colon, Comma, Fields, Record, Fixed, MapTerm, Aos, Soa, Aosoa, BitAos, BitSoa, Split, Byteswap, Bytesplit, Change, Counted, Heated, Named, depth_of, checked, has_counter, counts_once, bad_number, answered, accepted, else_for, bad_side, bad_field, not_full, Cell, Token, Word, Sign, Two, name_of, count_of, command_of, Sentence, New, Define, View, Phrase, IsName, IsCount, IsMore, IsListed, IsFixed, IsMode, IsNew, IsBody, IsCommand, IsLine, IsBracketList, count_token, written, IsSpelled, Each, fits_more, fits_flat, one_fits, word_spelled, fits_alone, decimal_spells, joined_reads, Header, is_wrap, view_line, HasLine, or_parts, not-true}
+use Rattle.saved_runs.proofs.Imports.{◌≡◌, ℕ, zero, suc, ◌+◌, ◌^◌, ◌<◌, ◌≤◌, Bool, true, false, not, ◌&&◌, List, [], ◌∷◌, ◌++◌, length, map, codes, nat_lt, Some, Result, Ok, Err, inr, refl, sym, ap, subst, append-nil, append_assoc, arith, ◌||◌, lt-ltb, ltb-false, Behind, IsNothing, Chain, Repeats, AreSpelled, spaced_tokens, OpenBracket, CloseBracket, Colon, Comma, Fields, Record, Fixed, MapTerm, Aos, Soa, Aosoa, BitAos, BitSoa, Split, Byteswap, Bytesplit, Change, Counted, Heated, Named, depth_of, checked, has_counter, counts_once, bad_number, answered, accepted, else_for, bad_side, bad_field, not_full, Cell, Token, Word, Sign, Two, name_of, count_of, command_of, Sentence, New, Define, View, Phrase, IsName, IsCount, IsMore, IsListed, IsFixed, IsMode, IsNew, IsBody, IsCommand, IsLine, IsBracketList, count_token, written, IsSpelled, Each, fits_more, fits_flat, one_fits, word_spelled, fits_alone, decimal_spells, joined_reads, Header, is_wrap, view_line, HasLine, or_parts, not-true}
 use Rattle.std.specs.Prelude.{if◌then◌else◌}
 use Rattle.map_expr.specs.declared.check.BadMapping.{BadMapping}
 use Rattle.map_expr.specs.declared.check.BadMapping.TheVariants as bad
@@ -132,7 +132,7 @@ module _ (header : Header) (has : HasTokens header.mapping) (low : height header
   pub view_has_line : HasLine (view_line header)
   view_has_line =
       let spelled = fits_alone told_view.tokens (fits_more 12 64 told_view.tokens (omega arith) told_view.fits) in
-      (joined (map written told_view.tokens), joined_reads Two told_view.tokens (view_line header) spelled (10, told_view.is))
+      (spaced_tokens (map written told_view.tokens), joined_reads Two told_view.tokens (view_line header) spelled (10, told_view.is))
 
 -- the record of fields that a line says, under any name
 pub record_has_line : (fields : Fields) → AreFields fields → HasLine (Define (codes "R") (Record fields))
@@ -158,4 +158,4 @@ record_has_line fields are =
       begins = (Word (codes "record"), refl, refl);
       ends = body;
     } in
-    (joined (map written tokens), joined_reads Two tokens sentence spelled (are.depth, inr line))
+    (spaced_tokens (map written tokens), joined_reads Two tokens sentence spelled (are.depth, inr line))

@@ -18,25 +18,25 @@ pub use Rattle.linearize.specs.Slots.{index_at, place_in}
 pub use Rattle.record_dim.specs.Leaves.{kinds_of, Leaf, leaves, texts_of}
 pub use Rattle.map_checks.specs.Mappings.{holds_by, accepted, else_for, bad_side, bad_field, not_full, leaf_cells, layout_by, most_slots}
 pub use Rattle.piece_bits.specs.Tables.{hold_at, HasShape, with_entry, zeros}
-pub use Rattle.views.specs.Stores.{kept_by, store_answer, Answer, Keeping, kept_or, kept_row, kept_rows}
+pub use Rattle.views.specs.Stores.{kept_by, store_answer, StoreAnswer, Keeping, kept_or, kept_row, kept_rows}
 pub use Rattle.views.specs.declared.fault.StoreFault.{StoreFault}
 pub use Rattle.row_updates.specs.Rows.{Setting, each, in_row, store_kind, value_of, passes, new_value, updated_row, with_values, updated_rows, updated_of, counted}
 pub use Rattle.worlds.specs.Outcomes.{◌>>=◌, Goes, free, quiet, refused_if, ok_or, LeftOf, Left, known, Outcome, shows, some_or, refused_by, Faults, CannotRead}
 pub use Rattle.row_updates.specs.declared.fault.UpdateFault.{UpdateFault}
 pub use Rattle.row_updates.specs.declared.fault.UpdateKind.{UpdateKind}
-pub use Rattle.lane_kernels.specs.Kernels.{Store, stored, with_store, run_rows, answer_fault, store_fault, first_fault, empty_fault, kernel_fault}
+pub use Rattle.lane_kernels.specs.Kernels.{Store, stored, with_store, run_rows, answer_fault, kernel_store_fault, first_row_fault, empty_fault, kernel_fault}
 pub use Rattle.lane_kernels.specs.declared.fault.KernelFault.{KernelFault}
 pub use Rattle.lane_kernels.specs.declared.kernel.Kernel.{Kernel}
 pub use Rattle.line_writer.proofs.Gives.{Each, IsSpelled, each_append, each_front, each_back}
 pub use Rattle.blob_file.specs.Files.{Header, AreRows, is_wrap, view_line, magic, four_bytes, record_text, view_text, header_text, IsShort, IsFile, image_bytes}
-pub use Rattle.blob_file.specs.Opened.{answer_by, Saved, opened, table_of, rows_in}
+pub use Rattle.blob_file.specs.Opened.{answer_by, Saved, opened, table_of_saved, rows_in}
 pub use Rattle.extents.specs.Indices.{product, indices}
 pub use Rattle.extents.specs.Shapes.{is_rows, is_zero, extent_of, fixed_product, extents_for, bad_shape, bad_extents}
 pub use Rattle.extents.specs.ShapeLaws.{same_fixed, product_filled, fixed_positive, product_fixed, product_divided}
 pub use Rattle.extents.specs.declared.words.ExtentWord.{ExtentWord}
 pub use Rattle.extents.specs.declared.words.ExtentWord.TheVariants.{Fixed, Rows}
 pub use Rattle.phrases.specs.Phrases.{Behind, IsNothing, Chain, Repeats, IsItem, Joined, IsEither}
-pub use Rattle.line_tokens.specs.Spelled.{AreSpelled, joined, HasRoom}
+pub use Rattle.line_tokens.specs.Spelled.{AreSpelled, spaced_tokens, MayOpen}
 pub use Rattle.line_tokens.specs.declared.sign.Sign.TheVariants.{OpenBracket, CloseBracket, Colon, Comma, Dot, Equals, Slash, OpenBrace, CloseBrace, OpenParen, CloseParen, Arrow}
 pub use Rattle.record_dim.specs.Trees.{Fields, Record, Tree}
 pub use Rattle.map_expr.specs.Terms.{Term as MapTerm, Aos, Soa, Aosoa, BitAos, BitSoa, Split, Byteswap, Bytesplit, Change, Count as Counted, Heat as Heated, Named, depth_of, Named as NamedTerm}
@@ -46,7 +46,7 @@ pub use Rattle.places.specs.declared.piece.Cell.{Cell}
 pub use Rattle.line_grammar.specs.declared.token.Token.{Token}
 pub use Rattle.line_grammar.specs.declared.token.Token.TheVariants.{Word, Sign, Number, Text, Bad}
 pub use Rattle.line_grammar.specs.declared.version.Version.TheVariants.{Two}
-pub use Rattle.line_grammar.specs.Tokens.{name_of, count_of, command_of, type_of, integer_type_of, order_of, aos_form_of, soa_form_of, map_word}
+pub use Rattle.line_grammar.specs.Tokens.{name_of, count_of, command_of, type_of, integer_type_of, token_order, aos_form_of, soa_form_of, map_word}
 pub use Rattle.line_grammar.specs.Sentences.{Sentence, New, Define, View, Blank, Mapping, Load, Assign, Update, Actors, Reduce, Count, Copy, Relayout, Show, Drop, Bytes, Save, Open, Advise, PrintWindow, Stencil, Value, Assignment}
 pub use Rattle.line_grammar.specs.Grammar.{Phrase, IsName, IsCount, IsMore, IsListed, IsFixed, IsMode, IsNew, IsBody, IsCommand, IsLine, IsBracketList, IsExtent, IsFields, IsShowEnd, IsSentence, IsPart, IsPath, IsFieldWidth, IsFieldWidths, IsBits, IsForm, IsFormOrName, IsMap}
 pub use Rattle.line_writer.specs.Canonical.{count_token, line_tokens}
@@ -67,7 +67,7 @@ pub use Rattle.map_any.specs.AnyLaws.{length-leaf_cells}
 pub use Rattle.piece_bits.specs.Modes.{kind_at, Stays}
 pub use Rattle.piece_bits.specs.declared.mode.StoreMode.{StoreMode}
 pub use Rattle.views.specs.AnswerLaws.{answer_stays}
-pub use Rattle.csv_rows.specs.Datasets.{Place, rows_of, one_column, columns_named, columns_of, unspaced, number_of, the_field, the_number, taken, value_at, row_values, table_from, with_columns, records_of}
+pub use Rattle.csv_rows.specs.Datasets.{Place, records_behind, one_column, columns_named, columns_of, unspaced, number_behind_sign, the_field, the_number, taken, value_at, row_values, table_from, with_columns, csv_records}
 unfoldable pub use Rattle.csv_rows.specs.Datasets.{dataset_table}
 pub use Rattle.blob_file.specs.Saving.{header_of, blobs_of}
 pub use Rattle.csv_rows.specs.declared.fault.RowFault.{RowFault}
@@ -75,7 +75,7 @@ pub use Rattle.extents.specs.declared.order.Order.{Order}
 pub use Rattle.map_expr.specs.declared.widths.FieldWidth.{FieldWidth}
 pub use Rattle.line_grammar.specs.declared.line.MapWord.{MapWord}
 pub use Rattle.line_grammar.specs.Words.{form_word}
-pub use Rattle.layout_io.specs.Files.{File, file_of}
+pub use Rattle.layout_io.specs.Files.{File, file_named}
 pub use Rattle.places.specs.Layout.{Owner}
 pub use Rattle.places.specs.Image.{bit_held, image, entry}
 pub use Rattle.instrument.specs.BlobTexts.{bytes_of}
@@ -113,7 +113,7 @@ pub use Rattle.views.specs.TallyLaws.{after_log-none}
 pub use Rattle.worlds.specs.declared.fault.UnknownName.TheVariants.{Name}
 pub use Rattle.equal_runs.specs.EntryLaws.{found_added}
 pub use Rattle.line_tokens.specs.declared.sign.Sign.{Sign as SignName}
-pub use Rattle.subviews.specs.Stencils.{stencil_value, at_row, values_fault, with_column, new_entry, if_fits, round, next_round, after_rounds, stenciled}
+pub use Rattle.subviews.specs.Stencils.{stencil_value, at_row, values_fault, with_entries, new_entry, if_fits, round, next_round, after_rounds, stenciled}
 pub use Rattle.subviews.specs.declared.fault.StencilFault.{StencilFault}
 pub use Rattle.extents.specs.IndicesLaws.{length-indices}
 pub use Rattle.csv_rows.specs.Loads.{dataset_of}
@@ -123,7 +123,7 @@ pub use Rattle.worlds.specs.Names.{nameless, leaf_of, bound, bound_filter, bound
 pub use Rattle.worlds.specs.Show.{showing, small, image_of}
 unfoldable pub use Rattle.worlds.specs.Show.{drop_view, print, counts, heat, layout, bytes}
 pub use Rattle.command_checks.specs.AlikeLaws.{not_alike}
-pub use Rattle.views.specs.Refusals.{IsOver}
+pub use Rattle.views.specs.Refusals.{IsOverLimits}
 pub use Rattle.extents.specs.declared.window.Span.{Span}
 pub use Rattle.record_dim.specs.declared.path.PathStep.{PathStep}
 pub use Rattle.line_grammar.specs.declared.line.KernelText.{KernelText}
@@ -139,7 +139,7 @@ pub use Rattle.worlds.specs.Advise.{asked, advise_fault}
 unfoldable pub use Rattle.worlds.specs.Advise.{advise}
 pub use Rattle.worlds.specs.Assign.{inside}
 unfoldable pub use Rattle.worlds.specs.Assign.{assigned}
-pub use Rattle.worlds.specs.Kernel.{fit_kernel, run_fault}
+pub use Rattle.worlds.specs.Kernel.{fit_kernel, kernel_row_fault}
 unfoldable pub use Rattle.worlds.specs.Kernel.{kernel_run}
 pub use Rattle.worlds.specs.Reduce.{reduced, column}
 unfoldable pub use Rattle.worlds.specs.Reduce.{reduction, counting}
@@ -155,4 +155,4 @@ pub use Rattle.worlds.specs.Define.{fit, fields_in}
 unfoldable pub use Rattle.worlds.specs.Define.{define}
 unfoldable pub use Rattle.worlds.specs.Mapping.{mapping}
 pub use Rattle.saved_runs.specs.SavedRuns.{IsSavable, once_written, OpensAs, SavedOpens, SavesBack, OpenedSaves}
-pub use Rattle.saved_runs.specs.Runs.{RunsSavable, RunsReopen}
+pub use Rattle.saved_runs.specs.ReopenedRuns.{RunsSavable, RunsReopen}

@@ -1,5 +1,5 @@
 -- What the lines of the language say of the records, mapping expressions and extents in them.
-use Rattle.saved_runs.proofs.Imports.{◌≡◌, ℕ, ◌+◌, ◌-◌, ◌^◌, ◌<◌, ◌≤◌, Bool, true, false, List, [], ◌∷◌, ◌++◌, map, codes, nat_lt, pos, negsuc, Some, None, if◌then◌else◌, refl, arith, ltb-true, opens, closes, brackets_after, HasRoom, AreSpelled, OpenBracket, CloseBracket, Colon, Comma, Dot, Equals, Slash, TokenKind, Tree, Fields, Record, ExtentWord, Fixed, Rows, Token, Word, Number, Text, Sign, Bad, Two, Command, ShowKind, count_of, Sentence, New, Blank, Define, Mapping, View, Load, Assign, Update, Actors, Reduce, Count, Copy, Relayout, Show, Drop, Bytes, Save, Open, Advise, PrintWindow, Stencil, Phrase, IsCount, IsListed, IsFixed, IsExtent, IsBracketList, IsFields, IsNew, IsShowEnd, IsBody, IsLine, IsSentence, written, Each, each_append}
+use Rattle.saved_runs.proofs.Imports.{◌≡◌, ℕ, ◌+◌, ◌-◌, ◌^◌, ◌<◌, ◌≤◌, Bool, true, false, List, [], ◌∷◌, ◌++◌, map, codes, nat_lt, pos, negsuc, Some, None, if◌then◌else◌, refl, arith, ltb-true, opens, closes, brackets_after, MayOpen, AreSpelled, OpenBracket, CloseBracket, Colon, Comma, Dot, Equals, Slash, TokenKind, Tree, Fields, Record, ExtentWord, Fixed, Rows, Token, Word, Number, Text, Sign, Bad, Two, Command, ShowKind, count_of, Sentence, New, Blank, Define, Mapping, View, Load, Assign, Update, Actors, Reduce, Count, Copy, Relayout, Show, Drop, Bytes, Save, Open, Advise, PrintWindow, Stencil, Phrase, IsCount, IsListed, IsFixed, IsExtent, IsBracketList, IsFields, IsNew, IsShowEnd, IsBody, IsLine, IsSentence, written, Each, each_append}
 use Rattle.line_tokens.specs.declared.token.TokenKind.TheVariants as kind
 use Rattle.line_grammar.specs.declared.line.Command.TheVariants as command
 use Rattle.line_grammar.specs.declared.line.ShowKind.TheVariants as show
@@ -50,7 +50,7 @@ listed_says {Is = Is} P one =
 -- ---- the fields of a record
 
 -- spelled tokens have room before fewer brackets
-after_less : (token : TokenKind) (few many : ℕ) → few ≤ many → HasRoom token many → HasRoom token few × (brackets_after token few ≤ brackets_after token many)
+after_less : (token : TokenKind) (few many : ℕ) → few ≤ many → MayOpen token many → MayOpen token few × (brackets_after token few ≤ brackets_after token many)
 after_less kind.Word few many less room = (tt, less)
 after_less (kind.Number value) few many less room = (tt, less)
 after_less kind.Text few many less room = (tt, less)

@@ -1,6 +1,6 @@
 -- The rows that a dataset leaves in a table.
-use Rattle.saved_runs.proofs.Imports.{◌≡◌, ℕ, zero, suc, ◌+◌, ◌<◌, ◌≤◌, ℤ, pos, List, [], ◌∷◌, length, get_or, Result, Ok, Err, refl, sym, ap, ◌∙◌, subst, arith, slice_get, enumerate_from, length-map, indices, LeafType, Leaf, leaves, kinds_of, texts_of, path_text_of, Hold, holds_by, leaf_cells, length-holds, length-leaf_cells, hold_at, kind_at, Stays, StoreMode, answer_stays, store_answer, StoreFault, Place, rows_of, one_column, columns_named, columns_of, unspaced, number_of, the_field, the_number, taken, value_at, row_values, table_from, with_columns, dataset_table, RowFault, Each, Header, AreRows}
-use Rattle.csv_rows.specs.Datasets.{◌>>=◌, header_of}
+use Rattle.saved_runs.proofs.Imports.{◌≡◌, ℕ, zero, suc, ◌+◌, ◌<◌, ◌≤◌, ℤ, pos, List, [], ◌∷◌, length, get_or, Result, Ok, Err, refl, sym, ap, ◌∙◌, subst, arith, slice_get, enumerate_from, length-map, indices, LeafType, Leaf, leaves, kinds_of, texts_of, path_text_of, Hold, holds_by, leaf_cells, length-holds, length-leaf_cells, hold_at, kind_at, Stays, StoreMode, answer_stays, store_answer, StoreFault, Place, records_behind, one_column, columns_named, columns_of, unspaced, number_behind_sign, the_field, the_number, taken, value_at, row_values, table_from, with_columns, dataset_table, RowFault, Each, Header, AreRows}
+use Rattle.csv_rows.specs.Datasets.{◌>>=◌, header_record}
 use Rattle.saved_runs.proofs.Rows.{IsRow, are_rows}
 
 -- an answer that is given was given at each of its steps
@@ -27,7 +27,7 @@ was_taken place (Err fault) value is = absurd (cc is)
 value_stays : (place : Place) (fields : List (List ℕ)) (value : ℤ) → 1 ≤ place.hold.width → value_at place fields ≡ Ok value → Stays place.mode place.kind place.hold value
 value_stays place fields value some is =
     let a = ran (the_field place (slice_get fields place.column)) _ value is in
-    let b = ran (the_number place (number_of (unspaced a.thing))) _ value a.next in
+    let b = ran (the_number place (number_behind_sign (unspaced a.thing))) _ value a.next in
     answer_stays place.mode place.kind place.hold b.thing value some (was_taken place (store_answer place.mode place.kind place.hold b.thing) value b.next)
 
 -- a number for each leaf, and each one that stays
@@ -92,12 +92,12 @@ module _ (header : Header) (wide : (leaf : ℕ) → leaf < length (kinds_of head
       (ap suc later.0, (record { long = here.long ∙ kinds_long; stays = here.stays }, later.1))
 
   -- the table of a dataset with a row for each index
-  pub dataset_stays : (records : List (List (List ℕ))) (table : List (List ℤ)) → length (rows_of records) ≡ length (indices header.extents)
+  pub dataset_stays : (records : List (List (List ℕ))) (table : List (List ℤ)) → length (records_behind records) ≡ length (indices header.extents)
       → dataset_table header.mode (texts_of header.fields) (kinds_of header.fields) (holds_by header.mapping header.fields) records ≡ Ok table → AreRows header table
   unfolding dataset_table
   dataset_stays records table many is =
-      let a = ran (columns_of (header_of records) 0 (texts_of header.fields)) _ table is in
+      let a = ran (columns_of (header_record records) 0 (texts_of header.fields)) _ table is in
       let few : length a.thing ≡ length (kinds_of header.fields) =
-      columns_long (header_of records) 0 (texts_of header.fields) a.thing a.first ∙ length-map (leaves header.fields) (λ (leaf : Leaf). path_text_of leaf.path) ∙ sym kinds_long in
-      let all = rows_loaded a.thing few 0 (rows_of records) table a.next in
+      columns_long (header_record records) 0 (texts_of header.fields) a.thing a.first ∙ length-map (leaves header.fields) (λ (leaf : Leaf). path_text_of leaf.path) ∙ sym kinds_long in
+      let all = rows_loaded a.thing few 0 (records_behind records) table a.next in
       are_rows header table (all.0 ∙ many) all.1

@@ -1,5 +1,5 @@
 -- The mapping expressions that lines say: their parts, and the tokens of such an expression.
-use Rattle.saved_runs.proofs.Imports.{◌≡◌, ℕ, zero, suc, ◌+◌, ◌≤◌, max, List, [], ◌∷◌, codes, Option, Some, None, refl, sym, subst, arith, le-max_left, le-max_right, IsItem, Behind, OpenBrace, CloseBrace, OpenBracket, CloseBracket, OpenParen, CloseParen, Colon, Comma, Dot, Arrow, Order, FieldWidth, MapTerm, Aos, Soa, Aosoa, BitAos, BitSoa, Split, Byteswap, Bytesplit, Change, Counted, Heated, Named, Word, Sign, Two, MapWord, name_of, count_of, type_of, integer_type_of, order_of, aos_form_of, soa_form_of, map_word, form_word, Phrase, IsName, IsCount, IsPart, IsPath, IsFieldWidth, IsFieldWidths, IsBits, IsForm, IsFormOrName, IsMap, IsSpelled, fits_flat, one_fits, word_spelled}
+use Rattle.saved_runs.proofs.Imports.{◌≡◌, ℕ, zero, suc, ◌+◌, ◌≤◌, max, List, [], ◌∷◌, codes, Option, Some, None, refl, sym, subst, arith, le-max_left, le-max_right, IsItem, Behind, OpenBrace, CloseBrace, OpenBracket, CloseBracket, OpenParen, CloseParen, Colon, Comma, Dot, Arrow, Order, FieldWidth, MapTerm, Aos, Soa, Aosoa, BitAos, BitSoa, Split, Byteswap, Bytesplit, Change, Counted, Heated, Named, Word, Sign, Two, MapWord, name_of, count_of, type_of, integer_type_of, token_order, aos_form_of, soa_form_of, map_word, form_word, Phrase, IsName, IsCount, IsPart, IsPath, IsFieldWidth, IsFieldWidths, IsBits, IsForm, IsFormOrName, IsMap, IsSpelled, fits_flat, one_fits, word_spelled}
 use Rattle.record_dim.specs.declared.path.PathStep.TheVariants as step
 use Rattle.line_grammar.specs.declared.line.MapWord.TheVariants as form
 use Rattle.saved_runs.proofs.Told.{Told, told_more, told_nothing, told_item, told_behind, told_joined, told_first, told_second, told_inside, Keeps, keeps_nothing, keeps_item, keeps_behind, keeps_joined, keeps_either, keeps_each, keeps_inside, keeps_listed}
@@ -32,11 +32,11 @@ widths_keep = keeps_either 2 (keeps_inside 1 OpenBrace CloseBrace (λ fields. fi
 
 -- each part is one that spelled tokens say
 abbrev pub HasTokens : MapTerm → Type 0
-HasTokens (Aos form order) = Told 0 (IsItem aos_form_of) form × Told 0 (IsItem order_of) order
-HasTokens (Soa form order) = Told 0 (IsItem soa_form_of) form × Told 0 (IsItem order_of) order
-HasTokens (Aosoa lanes order) = Told 0 IsCount lanes × Told 0 (IsItem order_of) order
-HasTokens (BitAos width fields order) = Told 0 IsCount width × (Told 2 (IsFieldWidths Two) fields × Told 0 (IsItem order_of) order)
-HasTokens (BitSoa width fields order) = Told 0 IsCount width × (Told 2 (IsFieldWidths Two) fields × Told 0 (IsItem order_of) order)
+HasTokens (Aos form order) = Told 0 (IsItem aos_form_of) form × Told 0 (IsItem token_order) order
+HasTokens (Soa form order) = Told 0 (IsItem soa_form_of) form × Told 0 (IsItem token_order) order
+HasTokens (Aosoa lanes order) = Told 0 IsCount lanes × Told 0 (IsItem token_order) order
+HasTokens (BitAos width fields order) = Told 0 IsCount width × (Told 2 (IsFieldWidths Two) fields × Told 0 (IsItem token_order) order)
+HasTokens (BitSoa width fields order) = Told 0 IsCount width × (Told 2 (IsFieldWidths Two) fields × Told 0 (IsItem token_order) order)
 HasTokens (Split path first rest) = Told 1 IsPath path × (HasTokens first × HasTokens rest)
 HasTokens (Byteswap inner) = HasTokens inner
 HasTokens (Bytesplit inner) = HasTokens inner
@@ -47,14 +47,14 @@ HasTokens (Named name) = Told 0 IsName name
 
 -- so is each part of what a line says
 module _ {IsInner : Phrase MapTerm} (inner_says : Says IsInner HasTokens) where
-  order_says : Says (IsItem order_of) (Told 0 (IsItem order_of))
-  order_says = says_item order_of (λ sign. refl)
+  order_says : Says (IsItem token_order) (Told 0 (IsItem token_order))
+  order_says = says_item token_order (λ sign. refl)
 
   count_says : Says IsCount (Told 0 IsCount)
   count_says = says_item count_of (λ sign. refl)
 
   bits_say : (value : ℕ → List FieldWidth → Order → MapTerm)
-      → ((width : ℕ) (fields : List FieldWidth) (order : Order) → Told 0 IsCount width × (Told 2 (IsFieldWidths Two) fields × Told 0 (IsItem order_of) order) → HasTokens (value width fields order))
+      → ((width : ℕ) (fields : List FieldWidth) (order : Order) → Told 0 IsCount width × (Told 2 (IsFieldWidths Two) fields × Told 0 (IsItem token_order) order) → HasTokens (value width fields order))
       → Says (IsBits Two value) HasTokens
   bits_say value has =
       says_joined count_says (λ width w. says_joined (says_told 2 widths_keep) (λ fields f.
@@ -147,7 +147,7 @@ plain : {A : Type 0} {Is : Phrase A} {v : A} (k : ℕ) → Told 0 Is v → Told 
 plain k t = told_more 0 k (omega arith) t
 
 told_bits : (n : ℕ) (value : ℕ → List FieldWidth → Order → MapTerm) (width : ℕ) (fields : List FieldWidth) (order : Order)
-    → Told 0 IsCount width × (Told 2 (IsFieldWidths Two) fields × Told 0 (IsItem order_of) order) → Told (n + 2) (IsBits Two value) (value width fields order)
+    → Told 0 IsCount width × (Told 2 (IsFieldWidths Two) fields × Told 0 (IsItem token_order) order) → Told (n + 2) (IsBits Two value) (value width fields order)
 told_bits n value width fields order h =
     let k : ℕ = n + 2 in
     let widths : Told k (IsFieldWidths Two) fields = told_more 2 k (omega arith) h.1.0 in

@@ -1,5 +1,5 @@
 -- What a savable table saves is opened as the table.
-use Rattle.saved_runs.proofs.Imports.{◌≡◌, ℕ, ◌+◌, ◌*◌, ◌/◌, ◌^◌, ◌<◌, ◌≤◌, Bool, true, false, ℤ, List, [], ◌∷◌, ◌++◌, length, map, nat_lt, Option, Some, Result, Ok, inl, inr, refl, sym, ap, ◌∙◌, subst, length-append, arith, ◌||◌, is_some, sum_by, le-ltb, lt-leb, ltb-false, length-map, sum_by-cons, File, file_of, Owner, bit_held, image, bytes_of, length-bytes_of, indices, Open, Table, owners_of, leaf_count_of, Tally, Write, all_accesses, no_tally, tallied, Header, magic, four_bytes, record_text, view_text, header_text, IsShort, CanLie, Saved, opened, table_of, rows_in, header_of, blobs_of, OpensFiles, HoldsRows, FileFault, World, found, Goes, free, quiet, refused_if, ok_or, Done, tells, room, live_bits, blob_bits, with_view, there, read, is_long, save, open_view, opened_table, opened_beside, bad_file, step, CommandFault, Taken, TooBig, TooManyViews, IsSavable, once_written, OpensAs}
+use Rattle.saved_runs.proofs.Imports.{◌≡◌, ℕ, ◌+◌, ◌*◌, ◌/◌, ◌^◌, ◌<◌, ◌≤◌, Bool, true, false, ℤ, List, [], ◌∷◌, ◌++◌, length, map, nat_lt, Option, Some, Result, Ok, inl, inr, refl, sym, ap, ◌∙◌, subst, length-append, arith, ◌||◌, is_some, sum_by, le-ltb, lt-leb, ltb-false, length-map, sum_by-cons, File, file_named, Owner, bit_held, image, bytes_of, length-bytes_of, indices, Open, Table, owners_of, leaf_count_of, Tally, Write, all_accesses, no_tally, tallied, Header, magic, four_bytes, record_text, view_text, header_text, IsShort, CanLie, Saved, opened, table_of_saved, rows_in, header_of, blobs_of, OpensFiles, HoldsRows, FileFault, World, found, Goes, free, quiet, refused_if, ok_or, Done, tells, room, live_bits, blob_bits, with_view, there, read, is_long, save, open_view, opened_table, opened_beside, bad_file, step, CommandFault, Taken, TooBig, TooManyViews, IsSavable, once_written, OpensAs}
 use Rattle.layout_io.specs.Writing.{joined}
 use Rattle.blob_file.specs.Files as saved_file
 use Rattle.saved_runs.specs.SavedRuns.{HasRoom}
@@ -69,10 +69,10 @@ passes : (test : Bool) (fault : CommandFault) → test ≡ false → refused_if 
 passes test fault is = ap (λ (t : Bool). refused_if t fault) is
 
 opens_there : (world : World) (name file : List ℕ) (files : List File) (bytes : List ℕ) (saved : Saved) → opened bytes ≡ Ok saved → length bytes ≤ 2 ^ 28 + 8206
-    → HasRoom world name (table_of saved) → file_of files file ≡ Some bytes → step world (Open name file) files false ≡ quiet (with_view world name (table_of saved))
+    → HasRoom world name (table_of_saved saved) → file_named files file ≡ Some bytes → step world (Open name file) files false ≡ quiet (with_view world name (table_of_saved saved))
 unfolding step open_view opened_table opened_beside
 opens_there world name file files bytes saved opens short has is =
-    let table = table_of saved in
+    let table = table_of_saved saved in
     leads (opened_table world name file files false) _ table _
     (leads (free name world.views) _ tt _ (passes (is_some (found name world.views)) (Taken name) (ap (λ (o : Option Table). is_some o) has.unused))
     (leads (room world.views) _ tt _ (passes _ TooManyViews (lt-leb 64 (length world.views) has.few))
@@ -100,7 +100,7 @@ module _ (opens_files : OpensFiles) (holds_rows : HoldsRows) (table : Table) (do
   same_rows : rows_in header (blobs_of table) ≡ table.rows
   same_rows = holds_rows header table.rows can.lines can.lies can.rows
 
-  same_table : table_of saved ≡ once_written table
+  same_table : table_of_saved saved ≡ once_written table
   same_table =
       let tally : ℕ → Tally = λ rows. tallied (owners_of table) (no_tally table.mapping (owners_of table) (leaf_count_of table)) (all_accesses Write (leaf_count_of table) rows) in
       ap (λ (rows : List (List ℤ)). record table { rows = rows; tally = tally (length (indices table.extents)) }) same_rows

@@ -1,5 +1,5 @@
 -- Rows that a view of a header may hold, and those that commands make of them.
-use Rattle.saved_runs.proofs.Imports.{◌≡◌, ℕ, zero, suc, ◌+◌, ◌-◌, ◌<◌, ◌≤◌, ⊎_elim, Bool, true, false, ℤ, pos, List, [], ◌∷◌, length, map, get_or, set, Option, Some, None, Result, Ok, Err, is_ok, if◌then◌else◌, refl, sym, ◌∙◌, subst, arith, get_or-set_other, get_or-set_same, enumerate_from, cases_eq, ints, length-map, pow_pos, length-enumerate_from, length-set, indices, LeafType, Truth, Leaf, leaves, kinds_of, IsIn, IsDeclared, is_signed, width_of, holds_by, entry, HasShape, hold_at, with_entry, zeros, zeros_shape, zeros_entry, fitting_stays, kind_at, Stays, answer_stays, Answer, Keeping, kept_or, kept_by, kept_row, kept_rows, StoreFault, refusing, refused_at, spot_or, Spot, Each, Header, AreRows, answer_by}
+use Rattle.saved_runs.proofs.Imports.{◌≡◌, ℕ, zero, suc, ◌+◌, ◌-◌, ◌<◌, ◌≤◌, ⊎_elim, Bool, true, false, ℤ, pos, List, [], ◌∷◌, length, map, get_or, set, Option, Some, None, Result, Ok, Err, is_ok, if◌then◌else◌, refl, sym, ◌∙◌, subst, arith, get_or-set_other, get_or-set_same, enumerate_from, cases_eq, ints, length-map, pow_pos, length-enumerate_from, length-set, indices, LeafType, Truth, Leaf, leaves, kinds_of, IsIn, IsDeclared, is_signed, width_of, holds_by, entry, HasShape, hold_at, with_entry, zeros, zeros_shape, zeros_entry, fitting_stays, kind_at, Stays, answer_stays, StoreAnswer, Keeping, kept_or, kept_by, kept_row, kept_rows, StoreFault, refusing, refused_at, spot_or, Spot, Each, Header, AreRows, answer_by}
 
 -- ---- rows one by one
 
@@ -72,7 +72,7 @@ entry_rows header rows row leaf value are stays =
 
 -- a header whose holds have a bit at least
 module _ (header : Header) (wide : (leaf : ℕ) → leaf < length (kinds_of header.fields) → 1 ≤ (hold_at (holds_by header.mapping header.fields) leaf).width) where
-  abbrev answer : Answer
+  abbrev answer : StoreAnswer
   answer = answer_by header
 
   abbrev keep : Keeping

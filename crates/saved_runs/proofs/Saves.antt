@@ -1,16 +1,16 @@
 -- What is opened of a file saves as its bytes.
-use Rattle.saved_runs.proofs.Imports.{◌≡◌, ℕ, ◌+◌, ◌*◌, ◌^◌, Bool, false, List, [], length, nat_lt, Option, Some, None, Ok, sym, ap, ◌∙◌, subst, ◌||◌, le-ltb, File, file_of, Table, after_log-none, record_text, view_text, AreRows, IsFile, IsShort, image_bytes, HasLines, CanLie, Saved, opened, table_of, rows_in, header_of, blobs_of, OpensFiles, HoldsRows, World, Entry, found, Outcome, Goes, ◌>>=◌, Left, free, shows, some_or, refused_if, ok_or, Done, done_to, on_view, tells, with_table, room, live_bits, blob_bits, with_view, read, is_long, save, open_view, opened_table, opened_beside, bad_file, step, Taken, TooBig, Unknown, Name, found_added, free_found, IsSavable, SavesBack, OpenedSaves}
+use Rattle.saved_runs.proofs.Imports.{◌≡◌, ℕ, ◌+◌, ◌*◌, ◌^◌, Bool, false, List, [], length, nat_lt, Option, Some, None, Ok, sym, ap, ◌∙◌, subst, ◌||◌, le-ltb, File, file_named, Table, after_log-none, record_text, view_text, AreRows, IsFile, IsShort, image_bytes, HasLines, CanLie, Saved, opened, table_of_saved, rows_in, header_of, blobs_of, OpensFiles, HoldsRows, World, Entry, found, Outcome, Goes, ◌>>=◌, Left, free, shows, some_or, refused_if, ok_or, Done, done_to, on_view, tells, with_table, room, live_bits, blob_bits, with_view, read, is_long, save, open_view, opened_table, opened_beside, bad_file, step, Taken, TooBig, Unknown, Name, found_added, free_found, IsSavable, SavesBack, OpenedSaves}
 use Rattle.blob_file.specs.Files as saved_file
 use Rattle.saved_runs.proofs.Went.{went, same_things, answered, was_read, replaced_same}
 
 -- what was opened of a file: its table stands under the name, where there was none
 pub record WasOpened (world : World) (name file : List ℕ) (files : List File) (table : Table) : Type 0 where
   pub bytes : List ℕ
-  pub there : file_of files file ≡ Some bytes
+  pub there : file_named files file ≡ Some bytes
   pub new : found name world.views ≡ None
   pub saved : Saved
   pub opens : opened bytes ≡ Ok saved
-  pub is : table ≡ table_of saved
+  pub is : table ≡ table_of_saved saved
 
 pub table_opened : (world : World) (name file : List ℕ) (files : List File) (fails : Bool) (table : Table) → opened_table world name file files fails ≡ Goes table
     → WasOpened world name file files table
@@ -21,14 +21,14 @@ table_opened world name file files fails table goes =
     let c = went (read files fails file) _ table b.next in
     let d = went (refused_if (nat_lt (2 ^ 28 + 8206) (length c.thing)) TooBig) _ table c.next in
     let e = went (ok_or bad_file (opened c.thing)) _ table d.next in
-    let f = went (refused_if (nat_lt (8 * 2 ^ 30) (live_bits world.views + blob_bits (table_of e.thing))) TooBig) _ table e.next in
+    let f = went (refused_if (nat_lt (8 * 2 ^ 30) (live_bits world.views + blob_bits (table_of_saved e.thing))) TooBig) _ table e.next in
     record {
       bytes = c.thing;
       there = was_read files fails file c.thing c.first;
       new = free_found (Taken name) (found name world.views) a.first;
       saved = e.thing;
       opens = answered bad_file (opened c.thing) e.thing e.first;
-      is = sym (same_things (table_of e.thing) table f.next);
+      is = sym (same_things (table_of_saved e.thing) table f.next);
     }
 
 -- a table whose texts are short saves as its file
@@ -57,26 +57,26 @@ module _ (opens_files : OpensFiles) (holds_rows : HoldsRows) where
   same_rows : (bytes : List ℕ) (saved : Saved) → (file : IsFile bytes saved.header saved.blobs) → HasLines saved.header → CanLie saved.header → rows_in saved.header saved.blobs ≡ file.rows
   same_rows bytes saved file lines lies = ap (rows_in saved.header) file.image_is ∙ holds_rows saved.header file.rows lines lies file.are_rows
 
-  pub table_savable : (bytes : List ℕ) (saved : Saved) → opened bytes ≡ Ok saved → IsSavable (table_of saved)
+  pub table_savable : (bytes : List ℕ) (saved : Saved) → opened bytes ≡ Ok saved → IsSavable (table_of_saved saved)
   table_savable bytes saved is =
       let known = (opens_files bytes saved).0 is in
       record { lines = known.1; lies = known.2; rows = subst (AreRows saved.header) (sym (same_rows bytes saved known.0 known.1 known.2)) known.0.are_rows }
 
   -- and the table saves as the file
-  table_saves : (bytes : List ℕ) (saved : Saved) → opened bytes ≡ Ok saved → save (table_of saved) ≡ Goes (tells (table_of saved) bytes)
+  table_saves : (bytes : List ℕ) (saved : Saved) → opened bytes ≡ Ok saved → save (table_of_saved saved) ≡ Goes (tells (table_of_saved saved) bytes)
   table_saves bytes saved is =
       let known = (opens_files bytes saved).0 is in
       let same = same_rows bytes saved known.0 known.1 known.2 in
-      let blobs : blobs_of (table_of saved) ≡ saved.blobs = ap (image_bytes saved.header) same ∙ sym known.0.image_is in
-      short_saves (table_of saved) known.0.short
-      ∙ ap (λ (text : List ℕ). Goes (tells (table_of saved) text)) (ap (saved_file.file_of saved.header) blobs ∙ sym known.0.is)
+      let blobs : blobs_of (table_of_saved saved) ≡ saved.blobs = ap (image_bytes saved.header) same ∙ sym known.0.image_is in
+      short_saves (table_of_saved saved) known.0.short
+      ∙ ap (λ (text : List ℕ). Goes (tells (table_of_saved saved) text)) (ap (saved_file.file_of saved.header) blobs ∙ sym known.0.is)
 
   pub opened_saves : OpenedSaves
   unfolding step open_view
   opened_saves world name file files fails left goes =
       let a = went (opened_table world name file files fails) _ left goes in
       let was = table_opened world name file files fails a.thing a.first in
-      let table = table_of was.saved in
+      let table = table_of_saved was.saved in
       let held : with_view world name table ≡ left.held =
       ap (with_view world name) (sym was.is) ∙ ap (λ (l : Left). l.held) (same_things (record { held = with_view world name a.thing; text = [] }) left a.next) in
       subst (SavesBack files file name) held

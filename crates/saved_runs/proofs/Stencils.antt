@@ -1,5 +1,5 @@
 -- The rows that stencils leave.
-use Rattle.saved_runs.proofs.Imports.{◌≡◌, ℕ, zero, suc, ◌<◌, ◌≤◌, true, ℤ, List, [], ◌∷◌, length, Result, Ok, Err, is_ok, refl, subst, kinds_of, holds_by, hold_at, with_entry, StoreFault, stencil_value, at_row, values_fault, with_column, new_entry, if_fits, round, next_round, after_rounds, StencilFault, Header, AreRows, answer_by}
+use Rattle.saved_runs.proofs.Imports.{◌≡◌, ℕ, zero, suc, ◌<◌, ◌≤◌, true, ℤ, List, [], ◌∷◌, length, Result, Ok, Err, is_ok, refl, subst, kinds_of, holds_by, hold_at, with_entry, StoreFault, stencil_value, at_row, values_fault, with_entries, new_entry, if_fits, round, next_round, after_rounds, StencilFault, Header, AreRows, answer_by}
 use Rattle.subviews.specs.SubViews.{rows_of}
 use Rattle.subviews.specs.Stencils.{Stencil}
 use Rattle.saved_runs.proofs.Rows.{entry_rows, taken_stays}
@@ -26,7 +26,7 @@ fits_at row (Err fault) rest is = absurd (cc is)
 -- a header whose holds have a bit at least
 module _ (header : Header) (wide : (leaf : ℕ) → leaf < length (kinds_of header.fields) → 1 ≤ (hold_at (holds_by header.mapping header.fields) leaf).width) (stencil : Stencil) where
   column_stays : (old : List (List ℤ)) (numbers : List ℕ) (now : List (List ℤ)) → values_fault (answer_by header) stencil old numbers ≡ fits → AreRows header now
-      → AreRows header (with_column stencil.leaf (new_entry (answer_by header) stencil old) numbers now)
+      → AreRows header (with_entries stencil.leaf (new_entry (answer_by header) stencil old) numbers now)
   column_stays old [] now is are = are
   column_stays old (row ∷ numbers) now is are =
       let value = stencil_value stencil old row in
@@ -37,7 +37,7 @@ module _ (header : Header) (wide : (leaf : ℕ) → leaf < length (kinds_of head
   round_stays : (rows new : List (List ℤ)) → AreRows header rows → round (answer_by header) stencil rows ≡ given new → AreRows header new
   round_stays rows new are is =
       let numbers = rows_of stencil.window in
-      let parts = fitted (values_fault (answer_by header) stencil rows numbers) (with_column stencil.leaf (new_entry (answer_by header) stencil rows) numbers rows) new is in
+      let parts = fitted (values_fault (answer_by header) stencil rows numbers) (with_entries stencil.leaf (new_entry (answer_by header) stencil rows) numbers rows) new is in
       subst (AreRows header) parts.1 (column_stays rows numbers rows parts.0 are)
 
   pub stencil_stays : (count : ℕ) (rows new : List (List ℤ)) → AreRows header rows → after_rounds (answer_by header) stencil count rows ≡ given new → AreRows header new

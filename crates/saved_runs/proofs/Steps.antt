@@ -1,5 +1,5 @@
 -- Each line of a run leaves a world whose tables files can say.
-use Rattle.saved_runs.proofs.Imports.{◌≡◌, ℕ, ◌^◌, ◌<◌, ◌≤◌, Bool, true, false, ℤ, nat_lt, not, List, length, Option, Some, None, ⊎_elim, refl, sym, ap, ◌∙◌, subst, arith, false≢true, cases_eq, indices, length-indices, File, Sentence, New, Two, MapTerm, holds_by, HasShape, hold_at, leaves, kinds_of, Fields, records_of, rows_of, dataset_of, AreAlike, refused_at, kept_rows, Table, answer_of, kept_of, leaf_count_of, after_stores, Access, Read, all_accesses, line_tokens, tokens_read, AreRows, view_line, header_of, OpensFiles, HoldsBits, HoldsRows, World, Entry, found, replaced, copy, copied, with_rows, all_read, laid_anew, relayout, are_alike, narrow_fault, open_view, opened_table, load, loaded_table, loaded, filled, read, row_fault, nameless, Done, Work, done_to, on_view, worked, Outcome, Goes, LeftOf, Left, known, refused_if, refused_by, ok_or, drop_view, step, work_of, resolved, made, zeros_of, named, new_table, view, with_view, Mismatch, TooBig, not_alike, IfGoes, to, refused, unread, bind, behind, known_found, IsSavable}
+use Rattle.saved_runs.proofs.Imports.{◌≡◌, ℕ, ◌^◌, ◌<◌, ◌≤◌, Bool, true, false, ℤ, nat_lt, not, List, length, Option, Some, None, ⊎_elim, refl, sym, ap, ◌∙◌, subst, arith, false≢true, cases_eq, indices, length-indices, File, Sentence, New, Two, MapTerm, holds_by, HasShape, hold_at, leaves, kinds_of, Fields, csv_records, records_behind, dataset_of, AreAlike, refused_at, kept_rows, Table, answer_of, kept_of, leaf_count_of, after_stores, Access, Read, all_accesses, line_tokens, tokens_read, AreRows, view_line, header_of, OpensFiles, HoldsBits, HoldsRows, World, Entry, found, replaced, copy, copied, with_rows, all_read, laid_anew, relayout, are_alike, narrow_fault, open_view, opened_table, load, loaded_table, loaded, filled, read, row_fault, nameless, Done, Work, done_to, on_view, worked, Outcome, Goes, LeftOf, Left, known, refused_if, refused_by, ok_or, drop_view, step, work_of, resolved, made, zeros_of, named, new_table, view, with_view, Mismatch, TooBig, not_alike, IfGoes, to, refused, unread, bind, behind, known_found, IsSavable}
 use Rattle.line_grammar.specs.Sentences as line
 use Rattle.saved_runs.proofs.Went.{unrefused, answered}
 use Rattle.saved_runs.proofs.Saves.{table_opened, table_savable}
@@ -70,7 +70,7 @@ module _ (holds_bits : HoldsBits) where
       (kept_rows_stay (header_of table) (wide table good) rows shape (uncaused (narrow_fault table.fields) (refused_at (answer_of table) 0 rows) held h))))
 
   -- what is kept of a dataset
-  filled_good : (table : Table) (records : List (List (List ℕ))) → IsSavable table → length (rows_of records) ≡ length (indices table.extents) → IfGoes IsSavable (filled table records)
+  filled_good : (table : Table) (records : List (List (List ℕ))) → IsSavable table → length (records_behind records) ≡ length (indices table.extents) → IfGoes IsSavable (filled table records)
   filled_good table records good many =
       bind IsSavable (ok_or (row_fault table.fields) (dataset_of table records)) _ (λ rows r.
       to _ (stored table rows _ good (dataset_stays (header_of table) (wide table good) records rows many (answered (row_fault table.fields) (dataset_of table records) rows r))))
@@ -109,13 +109,13 @@ module _ (holds_bits : HoldsBits) where
         behind IsSavable (IsGoodNamed new.words) (named world new) _ (named_good world good new said.term) (λ whole one.
         bind IsSavable (read files fails file) _ (λ bytes b.
         bind IsSavable (refused_if (nat_lt (2 ^ 28) (length bytes)) TooBig) _ (λ short c.
-        behind IsSavable (AreExtentsFor (Some (length (rows_of (records_of bytes))))) (resolved new.words (Some (length (rows_of (records_of bytes))))) _
-        (resolved_good new.words (Some (length (rows_of (records_of bytes)))) one.shaped said.words) (λ extents are.
+        behind IsSavable (AreExtentsFor (Some (length (records_behind (csv_records bytes))))) (resolved new.words (Some (length (records_behind (csv_records bytes))))) _
+        (resolved_good new.words (Some (length (records_behind (csv_records bytes)))) one.shaped said.words) (λ extents are.
         behind IsSavable (IsMade (zeros_of whole.mode whole.fields extents whole.mapping)) (made world.views whole.mode whole.fields extents whole.mapping) _
         (made_good holds_bits world.views whole.mode whole.fields extents whole.mapping one.fields are.are one.term) (λ table zeros.
-        (let many : length (rows_of (records_of bytes)) ≡ length (indices table.extents) =
+        (let many : length (records_behind (csv_records bytes)) ≡ length (indices table.extents) =
         sym are.counts ∙ sym (length-indices extents) ∙ ap (λ (t : Table). length (indices t.extents)) (sym zeros.is) in
-        filled_good table (records_of bytes) zeros.savable many))))))
+        filled_good table (csv_records bytes) zeros.savable many))))))
 
     load_good : (new : New) (file : List ℕ) (files : List File) (fails : Bool) → IsNewSaid new → IfGoes Keeps (load world new file files fails)
     unfolding load

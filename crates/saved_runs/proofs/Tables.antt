@@ -1,5 +1,5 @@
 -- New tables of a run can be said by a file.
-use Rattle.saved_runs.proofs.Imports.{◌≡◌, ◌⊎◌, ℕ, ◌+◌, ◌*◌, ◌^◌, ◌<◌, false, nat_lt, List, length, Option, Some, None, Ok, ⊎_elim, refl, arith, sum_by, IfSome, ltb-false, product, bad_shape, bad_extents, extents_for, ExtentWord, kinds_of, Fields, Owner, MapTerm, accepted, leaf_cells, layout_by, most_slots, StoreMode, New, IsOver, granules_for, Table, owners_of, Each, HasLines, CanLie, header_of, HoldsBits, World, Entry, found, nameless, free, known, refused_if, refused_by, ok_or, room, shaped, resolved, made, zeros_of, blob_bits, live_bits, named, BadExtents, BadMapping, TooBig, IfGoes, to, bind, behind, known_found, IsSavable}
+use Rattle.saved_runs.proofs.Imports.{◌≡◌, ◌⊎◌, ℕ, ◌+◌, ◌*◌, ◌^◌, ◌<◌, false, nat_lt, List, length, Option, Some, None, Ok, ⊎_elim, refl, arith, sum_by, IfSome, ltb-false, product, bad_shape, bad_extents, extents_for, ExtentWord, kinds_of, Fields, Owner, MapTerm, accepted, leaf_cells, layout_by, most_slots, StoreMode, New, IsOverLimits, granules_for, Table, owners_of, Each, HasLines, CanLie, header_of, HoldsBits, World, Entry, found, nameless, free, known, refused_if, refused_by, ok_or, room, shaped, resolved, made, zeros_of, blob_bits, live_bits, named, BadExtents, BadMapping, TooBig, IfGoes, to, bind, behind, known_found, IsSavable}
 use Rattle.worlds.specs.View.{Named}
 use Rattle.saved_runs.proofs.Went.{unrefused, answered}
 use Rattle.saved_runs.proofs.Maps.{HasTokens}
@@ -11,7 +11,7 @@ use Rattle.saved_runs.proofs.Worlds.{IsGoodRecord, IsGoodMapping, IsGoodWorld, o
 
 -- the limits of a view
 not_over : (term : MapTerm) (extents : List ℕ) (fields : Fields) → nat_lt (2 ^ 24) (most_slots term extents) ≡ false
-    → nat_lt (8 * 2 ^ 28) (sum_by (length {A = Owner}) (layout_by term extents fields)) ≡ false → nat_lt (2 ^ 24) (granules_for term (layout_by term extents fields)) ≡ false → IsOver term extents fields → ⊥
+    → nat_lt (8 * 2 ^ 28) (sum_by (length {A = Owner}) (layout_by term extents fields)) ≡ false → nat_lt (2 ^ 24) (granules_for term (layout_by term extents fields)) ≡ false → IsOverLimits term extents fields → ⊥
 not_over term extents fields slots bits granules over =
     ⊎_elim (λ (big : (2 ^ 24 < most_slots term extents) ⊎ (8 * 2 ^ 28 < sum_by (length {A = Owner}) (layout_by term extents fields))).
     ⊎_elim (λ (many : 2 ^ 24 < most_slots term extents). both (2 ^ 24) (most_slots term extents) slots many)
@@ -35,7 +35,7 @@ module _ (holds_bits : HoldsBits) (views : List (Entry Table)) (mode : StoreMode
   zeros_savable : HasLines (header_of zero_table) → CanLie (header_of zero_table) → IsSavable zero_table
   zeros_savable lines lies = record { lines = lines; lies = lies; rows = zeros_stay (header_of zero_table) (λ leaf l. holds_bits (header_of zero_table) leaf lines lies l) }
 
-  zeros_good : accepted term fields (leaf_cells (kinds_of fields)) ≡ Ok tt → (IsOver term extents fields → ⊥) → IsSavable zero_table
+  zeros_good : accepted term fields (leaf_cells (kinds_of fields)) ≡ Ok tt → (IsOverLimits term extents fields → ⊥) → IsSavable zero_table
   zeros_good mapped within =
       zeros_savable
       (record {

@@ -1,5 +1,5 @@
 -- What goes went at each of its steps, and a step that goes leads to the next.
-use Rattle.saved_runs.proofs.Imports.{◌≡◌, ℕ, Bool, true, false, List, [], ◌∷◌, Option, Some, None, Result, Ok, Err, refl, ap, ◌∙◌, File, file_of, Entry, same_name, found, replaced, Outcome, Goes, Faults, CannotRead, ◌>>=◌, refused_if, ok_or, there, read, CommandFault}
+use Rattle.saved_runs.proofs.Imports.{◌≡◌, ℕ, Bool, true, false, List, [], ◌∷◌, Option, Some, None, Result, Ok, Err, refl, ap, ◌∙◌, File, file_named, Entry, same_name, found, replaced, Outcome, Goes, Faults, CannotRead, ◌>>=◌, refused_if, ok_or, there, read, CommandFault}
 use Rattle.std.specs.Prelude.{if◌then◌else◌}
 
 -- a step that went, and what it led to
@@ -28,9 +28,9 @@ pub answered : {A E : Type 0} (fault : E → CommandFault) (x : Result A E) (a :
 answered fault (Ok b) a is = let same : b ≡ a = cc in ap Ok same
 answered fault (Err e) a is = absurd (cc is)
 
-pub was_read : (files : List File) (fails : Bool) (file bytes : List ℕ) → read files fails file ≡ Goes bytes → file_of files file ≡ Some bytes
+pub was_read : (files : List File) (fails : Bool) (file bytes : List ℕ) → read files fails file ≡ Goes bytes → file_named files file ≡ Some bytes
 was_read files true file bytes is = absurd (cc is)
-was_read files false file bytes is = of_option (file_of files file) is
+was_read files false file bytes is = of_option (file_named files file) is
   where
     of_option : (o : Option (List ℕ)) → there file o ≡ Goes bytes → o ≡ Some bytes
     of_option None is = absurd (cc is)

@@ -1,5 +1,5 @@
 -- A command on one view leaves rows that the view may hold.
-use Rattle.saved_runs.proofs.Imports.{ℕ, ◌<◌, ◌≤◌, Bool, List, [], length, get_or, Option, Some, None, nat_le, indices, Span, PathStep, kinds_of, MapTerm, holds_by, hold_at, place_in, Sentence, Value, Assignment, KernelText, PassText, ReduceKind, ShowKind, TermText, advice, stenciled, kernel_fault, actor_of, shared_byte, updated_rows, updated_of, counted, Table, owners_of, answer_of, kept_of, AreRows, header_of, HoldsBits, World, Entry, updated_by_actors, fit_cuts, shared, advise, asked, advise_fault, assigned, inside, save, is_long, kernel_run, fit_kernel, run_fault, leaf_of, bound, bound_filter, bound_sets, each_once, leaves_of, text_of_leaf, Done, Work, some_or, refused_if, refused_by, ok_or, reduction, reduced, column, counting, print, counts, heat, layout, bytes, showing, small, image_of, stencil_run, fit_stencil, room_beside, stencil_fault, work_of, live_bits, updated, update_fault, value_on, storable, windowed, print_window, Cuts, Turns, BadActors, BadIndex, NotCounted, TooBig, IfGoes, to, bind, IsSavable}
+use Rattle.saved_runs.proofs.Imports.{ℕ, ◌<◌, ◌≤◌, Bool, List, [], length, get_or, Option, Some, None, nat_le, indices, Span, PathStep, kinds_of, MapTerm, holds_by, hold_at, place_in, Sentence, Value, Assignment, KernelText, PassText, ReduceKind, ShowKind, TermText, advice, stenciled, kernel_fault, actor_of, shared_byte, updated_rows, updated_of, counted, Table, owners_of, answer_of, kept_of, AreRows, header_of, HoldsBits, World, Entry, updated_by_actors, fit_cuts, shared, advise, asked, advise_fault, assigned, inside, save, is_long, kernel_run, fit_kernel, kernel_row_fault, leaf_of, bound, bound_filter, bound_sets, each_once, leaves_of, text_of_leaf, Done, Work, some_or, refused_if, refused_by, ok_or, reduction, reduced, column, counting, print, counts, heat, layout, bytes, showing, small, image_of, stencil_run, fit_stencil, room_beside, stencil_fault, work_of, live_bits, updated, update_fault, value_on, storable, windowed, print_window, Cuts, Turns, BadActors, BadIndex, NotCounted, TooBig, IfGoes, to, bind, IsSavable}
 use Rattle.std.specs.Prelude.{◌^◌, not, nat_lt}
 use Rattle.line_grammar.specs.Sentences as line
 use Rattle.line_grammar.specs.declared.line.ShowKind.TheVariants as show
@@ -62,8 +62,8 @@ module _ (holds_bits : HoldsBits) (table : Table) (good : IsSavable table) where
   unfolding kernel_run
   kernel_keeps text lanes =
       bind Keeps (fit_kernel table.fields text lanes) _ (λ kernel a.
-      bind Keeps (refused_by (run_fault table.fields) (kernel_fault (answer_of table) kernel table.rows)) _ (λ done b.
-      to _ (kernel_stays (header_of table) wide kernel table.rows good.rows (uncaused (run_fault table.fields) (kernel_fault (answer_of table) kernel table.rows) done b))))
+      bind Keeps (refused_by (kernel_row_fault table.fields) (kernel_fault (answer_of table) kernel table.rows)) _ (λ done b.
+      to _ (kernel_stays (header_of table) wide kernel table.rows good.rows (uncaused (kernel_row_fault table.fields) (kernel_fault (answer_of table) kernel table.rows) done b))))
 
   -- these leave the rows as they are
   reduction_keeps : (kind : ReduceKind) (path : List PathStep) → IfGoes Keeps (reduction table kind path)

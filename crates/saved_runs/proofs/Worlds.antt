@@ -1,7 +1,7 @@
 -- What a run over lines of the language has in its world, line after line.
 use Rattle.saved_runs.proofs.Imports.{◌≡◌, ℕ, Bool, true, false, List, [], ◌∷◌, codes, Option, Some, None, refl, sym, subst, and_from, Tree, Fields, Record, MapTerm, Aos, Soa, Aosoa, BitAos, BitSoa, Split, Byteswap, Bytesplit, Change, Counted, Heated, NamedTerm, checked, Each, is_nameless, HasLine, World, Entry, same_name, found, added, replaced, removed, define, fit, fields_in, mapping, nameless, Outcome, Goes, Faults, CannotRead, ◌>>=◌, Left, known, free, refused_by, ok_or, CommandFault, BadRecord, BadMapping, IfGoes, to, refused, unread, bind, behind, known_found, IsSavable}
 use Rattle.std.specs.Prelude.{if◌then◌else◌}
-use Rattle.record_dim.specs.Leaves.{first_fault}
+use Rattle.record_dim.specs.Leaves.{record_fault}
 use Rattle.line_grammar.specs.Sentences as line
 use Rattle.saved_runs.proofs.Maps.{HasTokens}
 use Rattle.saved_runs.proofs.Lines.{IsRecord}
@@ -12,7 +12,7 @@ use Rattle.saved_runs.proofs.Headers.{record_has_line}
 -- a line is that of the record `R` of these fields, and they are fit for a table
 pub record IsGoodRecord (fields : Fields) : Type 0 where
   pub line : HasLine (line.Define (codes "R") (Record fields))
-  pub fit : first_fault (Record fields) ≡ None
+  pub fit : record_fault (Record fields) ≡ None
 
 -- the parts of a mapping expression are those of lines, and no name is among them
 pub record IsGoodMapping (term : MapTerm) : Type 0 where
@@ -70,9 +70,9 @@ module _ (world : World) (good : IsGoodWorld world) where
 
   record_fit : (tree : Tree) → IsRecord tree → IfGoes IsGoodRecord (fit tree)
   record_fit tree is =
-      bind IsGoodRecord (refused_by BadRecord (first_fault tree)) _ (λ passed p.
-      to _ (subst (λ (t : Tree). first_fault t ≡ None → IsGoodRecord (fields_in t)) (sym is.is)
-      (λ fit. record { line = record_has_line is.fields is.are; fit = fit }) (uncaused BadRecord (first_fault tree) passed p)))
+      bind IsGoodRecord (refused_by BadRecord (record_fault tree)) _ (λ passed p.
+      to _ (subst (λ (t : Tree). record_fault t ≡ None → IsGoodRecord (fields_in t)) (sym is.is)
+      (λ fit. record { line = record_has_line is.fields is.are; fit = fit }) (uncaused BadRecord (record_fault tree) passed p)))
 
   pub define_good : (name : List ℕ) (tree : Tree) → IsRecord tree → IfGoes Keeps (define world name tree)
   unfolding define

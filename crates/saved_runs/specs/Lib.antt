@@ -1,2 +1,2 @@
 pub mod SavedRuns
-pub mod Runs
+pub mod ReopenedRuns

@@ -1,12 +1,12 @@
 -- What a view saves is opened as the same table, and what is opened saves as the same bytes.
 use Rattle.std.specs.Prelude.{ℕ, ◌≡◌, ◌+◌, ◌*◌, ◌^◌, ◌<◌, ◌≤◌, Bool, false, List, length, Some, None, Ok}
-use Rattle.layout_io.specs.Files.{File, file_of}
+use Rattle.layout_io.specs.Files.{File, file_named}
 use Rattle.line_grammar.specs.Sentences.{Save, Open}
 use Rattle.views.specs.Tallies.{Write, all_accesses, no_tally, tallied}
 use Rattle.views.specs.Tables.{Table, owners_of, leaf_count_of}
 use Rattle.blob_file.specs.Files.{AreRows}
 use Rattle.blob_file.specs.Headers.{HasLines, CanLie}
-use Rattle.blob_file.specs.Opened.{Saved, opened, table_of}
+use Rattle.blob_file.specs.Opened.{Saved, opened, table_of_saved}
 use Rattle.blob_file.specs.Saving.{header_of}
 use Rattle.worlds.specs.Worlds.{World, found}
 use Rattle.worlds.specs.Outcomes.{Goes, Left, quiet, shows}
@@ -19,7 +19,7 @@ use Rattle.worlds.specs.Step.{step}
 -- a file has the bytes as which the table of a name is saved, and the save leaves the world as it is
 pub record SavesBack (files : List File) (file name : List ℕ) (world : World) : Type 0 where
   pub bytes : List ℕ
-  pub there : file_of files file ≡ Some bytes
+  pub there : file_named files file ≡ Some bytes
   pub table : Table
   pub is : found name world.views ≡ Some table
   pub saves : (others : List File) (fails : Bool) → step world (Save name) others fails ≡ shows world bytes
@@ -52,8 +52,8 @@ pub record HasRoom (world : World) (name : List ℕ) (table : Table) : Type 0 wh
 pub record OpensAs (bytes : List ℕ) (table : Table) : Type 0 where
   pub saved : Saved
   pub opens : opened bytes ≡ Ok saved
-  pub is : table_of saved ≡ table
-  pub goes : (world : World) (name file : List ℕ) (files : List File) → HasRoom world name table → file_of files file ≡ Some bytes
+  pub is : table_of_saved saved ≡ table
+  pub goes : (world : World) (name file : List ℕ) (files : List File) → HasRoom world name table → file_named files file ≡ Some bytes
       → step world (Open name file) files false ≡ quiet (with_view world name table)
 
 -- what a savable table saves is opened as the table, each value written once

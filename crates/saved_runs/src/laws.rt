@@ -1,5 +1,5 @@
 // Laws of views that are saved and opened. The functions do nothing: their contracts are the laws.
-ghost use Rattle.saved_runs.specs.Runs.{RunsReopen, RunsSavable};
+ghost use Rattle.saved_runs.specs.ReopenedRuns.{RunsReopen, RunsSavable};
 ghost use Rattle.saved_runs.specs.SavedRuns.{OpenedSaves, SavedOpens};
 
 use blob_file::{bits_law, opened_law, rows_law};

@@ -71,15 +71,15 @@ pub use Rattle.line_phrases.specs.Passes.{passes_at}
 pub use Rattle.line_phrases.specs.Paths.{path_at}
 pub use Rattle.line_phrases.specs.Stencils.{terms_at, window_at}
 pub use Rattle.record_dim.specs.NameBytesLaws.{name_utf8}
-pub use Rattle.line_grammar.specs.FileNames.{is_file_name}
+pub use Rattle.line_grammar.specs.Inner.FileNames.{is_file_name}
 pub use Rattle.line_grammar.specs.FileBytesLaws.{file_name_utf8}
 unfoldable pub use Rattle.schema_lang.specs.Updates.{assignment_at, filter_at, actors_at, update_end_at}
 unfoldable pub use Rattle.schema_lang.specs.Kernels.{axpy_at, clamp_at, count_where_at, inside_at, kernel_at}
 pub use Rattle.schema_lang.specs.Bodies.{any_token}
 unfoldable pub use Rattle.schema_lang.specs.Bodies.{advise_at, assign_at, body_at, bytes_at, command_at, copy_at, define_at, flag_at, kernel_line_at, line_at, load_at, mapping_at, new_at, open_at, reduce_at, relayout_at, show_at, stencil_at, update_at, view_at}
-pub use Rattle.schema_lang.specs.LineOf.{told, spots_in, spots_within, spots_behind}
+pub use Rattle.schema_lang.specs.LineOf.{line_or_column, spots_in, spots_within, spots_behind}
 unfoldable pub use Rattle.schema_lang.specs.LineOf.{line_of}
-pub use Rattle.schema_lang.specs.Spelled.{IsSpelled, IsSpelledAs}
-pub use Rattle.schema_lang.specs.NextTokens.{found_token, is_end, token_next}
-pub use Rattle.schema_lang.specs.VersionOf.{is_blank, version_number, version_of}
-pub use Rattle.schema_lang.specs.Parsing.{IsWhole}
+pub use Rattle.schema_lang.specs.Inner.Spelled.{IsSpelled, IsSpelledAs}
+pub use Rattle.schema_lang.specs.Inner.NextTokens.{found_token, is_end, token_next}
+pub use Rattle.schema_lang.specs.VersionOf.{is_blank_line, version_number, version_of}
+pub use Rattle.schema_lang.specs.Parsing.{HasItsFields}

@@ -1,5 +1,5 @@
 -- The line that a function of the text tells is the grammar's answer.
-use Rattle.schema_lang.proofs.Imports.{◌≡◌, ℕ, zero, suc, ◌+◌, ◌-◌, ◌<◌, ◌≤◌, List, [], ◌∷◌, length, Result, Ok, Err, refl, sym, ap, ◌∙◌, arith, MatchResult, next_of, Spots, brackets_after, Spot, Next, End, Bad, next_inside, same_spots, Reads, StopsAt, tokens_of, Sentence, Blank, Version, ended_at, ended, ◌>>=◌, either_at, give_at, ok_parts, line_at, command_at, any_token, line_of, told, spots_in, spots_within, spots_behind}
+use Rattle.schema_lang.proofs.Imports.{◌≡◌, ℕ, zero, suc, ◌+◌, ◌-◌, ◌<◌, ◌≤◌, List, [], ◌∷◌, length, Result, Ok, Err, refl, sym, ap, ◌∙◌, arith, MatchResult, next_of, Spots, brackets_after, Spot, Next, End, Bad, next_inside, same_spots, Reads, StopsAt, tokens_of, Sentence, Blank, Version, ended_at, ended, ◌>>=◌, either_at, give_at, ok_parts, line_at, command_at, any_token, line_of, line_or_column, spots_in, spots_within, spots_behind}
 use Rattle.line_tokens.specs.declared.token.Next.TheVariants.{Token}
 use Rattle.line_grammar.specs.declared.token.Token as token
 use Rattle.schema_lang.proofs.LineLaws.{found_line, stopped_line}
@@ -23,12 +23,12 @@ pub spots_are : (text : List ℕ) → Spots text 0 0 (spots_in text)
 spots_are text = within (length text + 1) text 0 0 (omega arith) (omega arith)
 
 -- what reading the tokens gives is what is told
-pub told_by : (version : Version) (text : List ℕ) (spots : List Spot) (tokens : List token.Token) (read : Result (Sentence × List token.Token) ℕ) → Spots text 0 0 spots → tokens ≡ tokens_of text spots → line_at version (length tokens) tokens ≡ read → line_of version text ≡ told spots read
+pub told_by : (version : Version) (text : List ℕ) (spots : List Spot) (tokens : List token.Token) (read : Result (Sentence × List token.Token) ℕ) → Spots text 0 0 spots → tokens ≡ tokens_of text spots → line_at version (length tokens) tokens ≡ read → line_of version text ≡ line_or_column spots read
 unfolding line_of
 told_by version text spots tokens read all are is =
     let same : spots_in text ≡ spots = same_spots text 0 0 (spots_in text) spots (spots_are text) all in
     let these : tokens_of text (spots_in text) ≡ tokens = ap (tokens_of text) same ∙ sym are in
-    ap (λ s. told s (line_at version (length (tokens_of text (spots_in text))) (tokens_of text (spots_in text)))) same ∙ ap (λ (t : List token.Token). told spots (line_at version (length t) t)) these ∙ ap (told spots) is
+    ap (λ s. line_or_column s (line_at version (length (tokens_of text (spots_in text))) (tokens_of text (spots_in text)))) same ∙ ap (λ (t : List token.Token). line_or_column spots (line_at version (length t) t)) these ∙ ap (line_or_column spots) is
 
 -- behind a whole line stands nothing
 ended_nothing : {A T : Type 0} (read : List T → Result (A × List T) ℕ) (tokens : List T) (v : A) (rest : List T) → ended_at read tokens ≡ Ok (v, rest) → rest ≡ []

@@ -1,5 +1,5 @@
 -- The tokens of a text by those that stand next, and what they say of its version.
-use Rattle.schema_lang.proofs.Imports.{◌≡◌, ◌==◌, ◌⊎◌, ℕ, ◌+◌, ◌-◌, Bool, true, false, if◌then◌else◌, List, [], ◌∷◌, length, slice_range, Option, Some, None, codes, inl, inr, refl, sym, ap, ◌∙◌, subst, arith, nat_tests, next_of, Spots, brackets_after, spot_at, Spot, Next, TokenKind, tokens_of, kind_token, token_of, is_word, count_of, Token, Word, Text, Sign, spots_in, found_token, is_end, token_next, is_blank, version_number, version_of}
+use Rattle.schema_lang.proofs.Imports.{◌≡◌, ◌==◌, ◌⊎◌, ℕ, ◌+◌, ◌-◌, Bool, true, false, if◌then◌else◌, List, [], ◌∷◌, length, slice_range, Option, Some, None, codes, inl, inr, refl, sym, ap, ◌∙◌, subst, arith, nat_tests, next_of, Spots, brackets_after, spot_at, Spot, Next, TokenKind, tokens_of, kind_token, token_of, is_word, count_of, Token, Word, Text, Sign, spots_in, found_token, is_end, token_next, is_blank_line, version_number, version_of}
 use Rattle.line_tokens.specs.declared.token.Next.TheVariants as next
 use Rattle.line_tokens.specs.declared.token.TokenKind.TheVariants as kind
 use Rattle.line_grammar.specs.declared.token.Token.TheVariants.{Number, Bad}
@@ -88,13 +88,13 @@ not_at_end text at spots h ends = of (next_of text at 0) (begin_as text at 0 spo
     of (next.Token from end kind) begins same = (token_of text (spot_at from end (Some kind)), tokens_of text begins.0, ap (tokens_of text) begins.1)
 
 -- a text has no token where it is at its end from the start
-pub blank_is : (text : List ℕ) → is_end (next_of text 0 0) ≡ is_blank text
+pub blank_is : (text : List ℕ) → is_end (next_of text 0 0) ≡ is_blank_line text
 blank_is text = of (next_of text 0 0) (begin_as text 0 0 (spots_in text) (spots_are text))
   where
     some : (spot : Spot) (spots : List Spot) → false ≡ (length (spot ∷ spots) == 0)
     some spot spots = grind (arith, nat_tests)
 
-    of : (stands : Next) → BeginAs text 0 (spots_in text) stands → is_end stands ≡ is_blank text
+    of : (stands : Next) → BeginAs text 0 (spots_in text) stands → is_end stands ≡ is_blank_line text
     of next.End begins = ap (λ (k : List Spot). length k == 0) (sym begins)
     of (next.Bad from) begins = some (spot_at from from None) [] ∙ ap (λ (k : List Spot). length k == 0) (sym begins)
     of (next.Token from end kind) begins = some (spot_at from end (Some kind)) begins.0 ∙ ap (λ (k : List Spot). length k == 0) (sym begins.1)

@@ -1,5 +1,5 @@
 -- A line that is read as the definition of a record has a record with fields.
-use Rattle.schema_lang.proofs.Imports.{◌≡◌, ℕ, Bool, true, false, if◌then◌else◌, List, [], ◌∷◌, codes, Option, Result, Ok, Err, refl, subst, ended, ended_at, ok_parts, ◌>>=◌, behind_at, either_at, give_at, item_at, past, starts, then_at, which_at, Dot, Equals, Slash, Dim, IsRecord, Record, Single, Array, Tree, tree_of, Command, Line, ShowKind, Token, Version, is_two, may_have_window, Assignment, Sentence, Value, sentence_of, Blank, Define, Mapping, View, Load, Assign, Update, Actors, Kernel, Reduce, Count, Copy, Relayout, Show, Drop, Bytes, Save, Open, Advise, PrintWindow, Stencil, is_sign, is_word, name_of, count_of, string_of, reduction_of, command_of, expr_at, fields_at, bracket_list_at, cuts_at, extent_at, fixed_at, listed_at, map_at, passes_at, path_at, terms_at, window_at, kernel_at, actors_at, assignment_at, filter_at, update_end_at, advise_at, any_token, assign_at, body_at, bytes_at, command_at, copy_at, define_at, flag_at, kernel_line_at, line_at, load_at, mapping_at, new_at, open_at, reduce_at, relayout_at, show_at, stencil_at, update_at, view_at, IsWhole}
+use Rattle.schema_lang.proofs.Imports.{◌≡◌, ℕ, Bool, true, false, if◌then◌else◌, List, [], ◌∷◌, codes, Option, Result, Ok, Err, refl, subst, ended, ended_at, ok_parts, ◌>>=◌, behind_at, either_at, give_at, item_at, past, starts, then_at, which_at, Dot, Equals, Slash, Dim, IsRecord, Record, Single, Array, Tree, tree_of, Command, Line, ShowKind, Token, Version, is_two, may_have_window, Assignment, Sentence, Value, sentence_of, Blank, Define, Mapping, View, Load, Assign, Update, Actors, Kernel, Reduce, Count, Copy, Relayout, Show, Drop, Bytes, Save, Open, Advise, PrintWindow, Stencil, is_sign, is_word, name_of, count_of, string_of, reduction_of, command_of, expr_at, fields_at, bracket_list_at, cuts_at, extent_at, fixed_at, listed_at, map_at, passes_at, path_at, terms_at, window_at, kernel_at, actors_at, assignment_at, filter_at, update_end_at, advise_at, any_token, assign_at, body_at, bytes_at, command_at, copy_at, define_at, flag_at, kernel_line_at, line_at, load_at, mapping_at, new_at, open_at, reduce_at, relayout_at, show_at, stencil_at, update_at, view_at, HasItsFields}
 use Rattle.record_dim.specs.declared.dim.Dim.TheVariants as dim
 use Rattle.line_grammar.specs.declared.line.Command.TheVariants as command
 use Rattle.line_grammar.specs.declared.line.Line.TheVariants as line
@@ -106,10 +106,10 @@ record_whole (dim.Leaf kind) h = h
 record_whole (dim.Fields fields) h = tt
 record_whole (dim.Array' len p element) h = h
 
-of_line : (found : Line) → HasFields (sentence_of found) → IsWhole found
+of_line : (found : Line) → HasFields (sentence_of found) → HasItsFields found
 of_line (line.Define name held) h = record_whole held h
 of_line _ h = tt
 
 -- a line that is read whole
-pub read_whole : (version : Version) (n : ℕ) (tokens rest : List Token) (found : Line) → line_at version n tokens ≡ Ok (sentence_of found, rest) → IsWhole found
+pub read_whole : (version : Version) (n : ℕ) (tokens rest : List Token) (found : Line) → line_at version n tokens ≡ Ok (sentence_of found, rest) → HasItsFields found
 read_whole version n tokens rest found e = of_line found ((line_whole version n).all tokens (sentence_of found) rest e)

@@ -30,12 +30,12 @@ abbrev pub spots_in : List ℕ → List Spot
 spots_in text = spots_within (length text + 1) text 0 0
 
 -- the line of these tokens, or the column at which they stop
-abbrev pub told : List Spot → Result (Sentence × List token.Token) ℕ → Result Sentence ℕ
-told spots (Ok read) = Ok read.0
-told spots (Err left) = Err (column_behind (length spots - left) spots)
+abbrev pub line_or_column : List Spot → Result (Sentence × List token.Token) ℕ → Result Sentence ℕ
+line_or_column spots (Ok read) = Ok read.0
+line_or_column spots (Err left) = Err (column_behind (length spots - left) spots)
 
 unfoldable pub line_of : Version → List ℕ → Result Sentence ℕ
-line_of version text = told (spots_in text) (line_at version (length (tokens_of text (spots_in text))) (tokens_of text (spots_in text)))
+line_of version text = line_or_column (spots_in text) (line_at version (length (tokens_of text (spots_in text))) (tokens_of text (spots_in text)))
 
 -- the answer of a reader
 abbrev pub IsTold : Result Sentence ℕ → Result Line LineFault → Type 0

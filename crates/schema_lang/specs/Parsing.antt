@@ -23,6 +23,6 @@ IsAnswer sentence (Err TooDeep) = 32 < deepest sentence
 IsAnswer sentence (Err NoMemory) = Unit {0}
 
 -- a line that names a record has one with fields
-abbrev pub IsWhole : Line → Type 0
-IsWhole (line.Define name dim) = IsRecord dim
-IsWhole _ = Unit {0}
+abbrev pub HasItsFields : Line → Type 0
+HasItsFields (line.Define name dim) = IsRecord dim
+HasItsFields _ = Unit {0}

@@ -14,5 +14,5 @@ abbrev pub version_of : List ℕ → Option ℕ
 version_of text = version_number (tokens_of text (spots_in text))
 
 -- it has no token
-abbrev pub is_blank : List ℕ → Bool
-is_blank text = length (spots_in text) == 0
+abbrev pub is_blank_line : List ℕ → Bool
+is_blank_line text = length (spots_in text) == 0

@@ -2,7 +2,7 @@ ghost use Rattle.std.specs.Prelude.{ℕ, List, Option, ◌≡◌, IfErr};
 ghost use Rattle.phrases.specs.Reading.{item_at};
 ghost use Rattle.line_grammar.specs.Sentences.{Actors, Assignment, Value, sentence_of};
 ghost use Rattle.line_grammar.specs.Tokens.{command_of};
-ghost use Rattle.line_phrases.specs.Gives.{Gives, IsSyntax};
+ghost use Rattle.line_phrases.specs.Inner.Gives.{Gives, IsSyntax};
 ghost use Rattle.line_phrases.specs.Lists.{bracket_list_at};
 ghost use Rattle.schema_lang.specs.Updates.{actors_at};
 ghost use Rattle.schema_lang.specs.Bodies.{assign_at, body_at, bytes_at, command_at, copy_at, define_at, flag_at, kernel_line_at, load_at, mapping_at, new_at, new_of, open_at, reduce_at, relayout_at, update_at, view_at, word_at};

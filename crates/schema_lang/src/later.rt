@@ -2,7 +2,7 @@
 ghost use Rattle.std.specs.Prelude.{◌≡◌};
 ghost use Rattle.line_grammar.specs.Sentences.{sentence_of};
 ghost use Rattle.line_grammar.specs.Versions.{may_have_window};
-ghost use Rattle.line_phrases.specs.Gives.{Gives};
+ghost use Rattle.line_phrases.specs.Inner.Gives.{Gives};
 ghost use Rattle.schema_lang.specs.Bodies.{advise_at, show_at, stencil_at};
 
 use crate::bodies::read_flag;

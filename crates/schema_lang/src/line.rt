@@ -2,10 +2,10 @@ ghost use Rattle.std.specs.Prelude.{ℕ, List, ◌≡◌, ◌≤◌, [], length,
 ghost use Rattle.line_grammar.specs.declared.version.Version.{Version};
 ghost use Rattle.line_grammar.specs.Reads.{Reads, StopsAt};
 ghost use Rattle.line_grammar.specs.Sentences.{Sentence, deepest, sentence_of};
-ghost use Rattle.line_phrases.specs.Gives.{Gives};
+ghost use Rattle.line_phrases.specs.Inner.Gives.{Gives};
 ghost use Rattle.schema_lang.specs.Bodies.{line_at};
 ghost use Rattle.schema_lang.specs.LineOf.{IsTold, line_of};
-ghost use Rattle.schema_lang.specs.Parsing.{IsAnswer, IsFault, IsWhole};
+ghost use Rattle.schema_lang.specs.Parsing.{IsAnswer, IsFault, HasItsFields};
 
 use crate::LineFault;
 use crate::bodies::read_command;
@@ -25,7 +25,7 @@ pub fn parse_line(alloc: Global, text: &[u8], version: Version) -> Result<Line, 
     requires { length text.now ≤ 4096 }
     // What is read is the line that the text is.
     ensures found { IfOk result (λ line. Reads version text.now (sentence_of line)) }
-    ensures whole { IfOk result IsWhole }
+    ensures whole { IfOk result HasItsFields }
     ensures shallow { IfOk result (λ line. deepest (sentence_of line) ≤ 32) }
     // Which fault it is, and where it stands.
     ensures fault { IfErr result (IsFault version text.now) }

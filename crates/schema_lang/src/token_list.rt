@@ -2,10 +2,10 @@
 ghost use Rattle.std.specs.Prelude.{◌≡◌, ◌+◌, ◌-◌, ◌<◌, ◌≤◌, ◌^◌, length, All, IfOk, if◌then◌else◌, Some, None};
 ghost use Rattle.line_tokens.specs.declared.spots.Spot.{Spot};
 ghost use Rattle.record_dim.specs.Names.{is_name};
-ghost use Rattle.line_grammar.specs.FileNames.{is_file_name};
+ghost use Rattle.line_grammar.specs.Inner.FileNames.{is_file_name};
 ghost use Rattle.line_grammar.specs.Reads.{column_behind, tokens_of};
 ghost use Rattle.line_grammar.specs.Tokens.{token_of};
-ghost use Rattle.schema_lang.specs.Spelled.{IsSpelled};
+ghost use Rattle.schema_lang.specs.Inner.Spelled.{IsSpelled};
 
 use line_grammar::{Quoted, Token};
 use line_tokens::{Spot, TokenKind};

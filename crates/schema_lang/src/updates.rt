@@ -1,7 +1,7 @@
 ghost use Rattle.std.specs.Prelude.{◌≡◌, ◌<◌, length, map, option_map, OnOk};
 ghost use Rattle.expr_lang.specs.Terms.{term_of};
 ghost use Rattle.line_grammar.specs.Sentences.{assignment_of};
-ghost use Rattle.line_phrases.specs.Gives.{Gives};
+ghost use Rattle.line_phrases.specs.Inner.Gives.{Gives};
 ghost use Rattle.line_phrases.specs.Lists.{listed_at};
 ghost use Rattle.schema_lang.specs.Updates.{assignment_at, filter_at};
 

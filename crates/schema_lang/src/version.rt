@@ -1,8 +1,8 @@
 // The version line of a script, and blank lines.
 ghost use Rattle.std.specs.Prelude.{◌≡◌, ◌≤◌, length, IfSome};
 ghost use Rattle.line_tokens.specs.Next.{next_of};
-ghost use Rattle.schema_lang.specs.NextTokens.{is_end, token_next};
-ghost use Rattle.schema_lang.specs.VersionOf.{is_blank, version_of};
+ghost use Rattle.schema_lang.specs.Inner.NextTokens.{is_end, token_next};
+ghost use Rattle.schema_lang.specs.VersionOf.{is_blank_line, version_of};
 
 use crate::token_list::token_of;
 use line_grammar::{Count, Item, Token};
@@ -28,7 +28,7 @@ pub fn version_of(text: &[u8]) -> Option<u32>
 
 /// Whether the text has no token. It takes no memory.
 pub fn is_blank(text: &[u8]) -> bool
-    ensures { result ≡ is_blank text.now }
+    ensures { result ≡ is_blank_line text.now }
 {
     is_end(text, 0)
 }

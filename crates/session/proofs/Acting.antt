@@ -1,7 +1,7 @@
 -- The parts of an update by actors, and what is done by it.
-use Rattle.session.proofs.Imports.{◌≡◌, ℕ, suc, ◌+◌, ◌/◌, ◌%◌, ◌^◌, ◌≤◌, Bool, true, false, ℤ, nat_le, List, [], ◌∷◌, length, get_or, set, map, Result, Ok, Err, refl, sym, ap, ◌∙◌, arith, IsErrAnd, not, sum_by, slice_set, filter, and_parts, leb-true, nat_tests, length-map, length-set, Run, started_run, after_turns, State, moved, turned, AreCuts, actor_of, are_cuts, are_cuts-are, Place, memory_of, written_by, start_of, job_of, fresh_of, Job, Micro, Fetch, Load, Store, Registers, stored, loaded, with_bits_of, value_on, row_in, next, entries, schedule_of, idle_with, run_by, shared_byte, Value, Assignment, image, bit_held, bytes_of, Setting, updated_of, Term, update_log, Table, owners_of, after_log, after_stores, reads_in, writes_in, reads_first, updated_by_actors, fit_cuts, shared, memory_text, bound_filter, bound_sets, each_once, leaves_of, Done, done_to, Outcome, Goes, Faults, CannotRead, ◌>>=◌, refused_if, refused_by, small, Cuts, Turns, BadActors, TooBig, StepFault, left_with, Bindings, shared_out, acted}
+use Rattle.session.proofs.Imports.{◌≡◌, ℕ, suc, ◌+◌, ◌/◌, ◌%◌, ◌^◌, ◌≤◌, Bool, true, false, ℤ, nat_le, List, [], ◌∷◌, length, get_or, set, map, Result, Ok, Err, refl, sym, ap, ◌∙◌, arith, IsErrAnd, not, sum_by, slice_set, filter, and_parts, leb-true, nat_tests, length-map, length-set, Run, started_run, after_turns, State, moved, turned, AreCuts, actor_of, are_cuts, are_cuts-are, Place, memory_of, written_by, team_start, job_of, fresh_of, Job, Micro, Fetch, Load, Store, Registers, stored, loaded, with_bits_of, value_kept_on, row_in, next, entries, schedule_of, idle_with, run_by, shared_byte, Value, Assignment, image, bit_held, bytes_of, Setting, updated_of, Term, update_log, Table, owners_of, after_log, after_stores, reads_in, writes_in, reads_first, updated_by_actors, fit_cuts, shared, memory_text, bound_filter, bound_sets, each_once, leaves_of, Done, done_to, Outcome, Goes, Faults, CannotRead, ◌>>=◌, refused_if, refused_by, small, Cuts, Turns, BadActors, TooBig, StepFault, left_with, Bindings, shared_out, acted}
 use Rattle.std.specs.Prelude.{◌*◌, nat_lt, Option, Some, None}
-use Rattle.actors.specs.Runs.{uncounted}
+use Rattle.actors.specs.ActorRuns.{without_counts}
 use Rattle.command_checks.specs.declared.fault.StepFault.TheVariants as step
 use Rattle.session.proofs.Indexing.{read_stored}
 
@@ -107,7 +107,7 @@ turn_more run actors n x = refl
 step_count : (job : Job) (step : Micro) (memory : List (List ℕ)) (registers : Registers) → length (stored job step memory registers) ≡ length memory
 step_count job (Fetch place) memory registers = refl
 step_count job (Load place) memory registers = refl
-step_count job (Store place row set) memory registers = length-set memory place.blob (slice_set (get_or memory place.blob []) place.byte (with_bits_of job.layout place row set.leaf (value_on job (row_in job registers.loaded row) row set) registers.byte))
+step_count job (Store place row set) memory registers = length-set memory place.blob (slice_set (get_or memory place.blob []) place.byte (with_bits_of job.layout place row set.leaf (value_kept_on job (row_in job registers.loaded row) row set) registers.byte))
 
 turn_count : (job : Job) (fresh : Registers) (a : ℕ) (state : State (List (List ℕ)) Micro Registers) → length (run_by job fresh (a ∷ []) state).memory ≡ length state.memory
 turn_count job fresh a state = of_rest (get_or state.actors a (idle_with fresh)).rest where
@@ -125,7 +125,7 @@ length-memory_of table = length-map (image (owners_of table) table.rows) bytes_o
 
 -- a run of a table after its turns
 pub record HasTurned (table : Table) (bound : Bindings) (cuts : List ℕ) (seed turns : ℕ) (run : Run) : Type 0 where
-  pub found : run.found ≡ uncounted table
+  pub found : run.found ≡ without_counts table
   pub test : run.filter ≡ bound.test
   pub settings : run.sets ≡ bound.settings
   pub memory : run.state.memory ≡ written_by table bound.test bound.settings cuts seed turns
@@ -146,7 +146,7 @@ has_turned table bound cuts seed turns actors first run is count turned =
 pub turned_count : (table : Table) (bound : Bindings) (cuts : List ℕ) (seed turns : ℕ) (run : Run) → HasTurned table bound cuts seed turns run → length run.state.memory ≡ length (owners_of table)
 turned_count table bound cuts seed turns run has =
     ap length has.memory
-    ∙ blob_count (job_of table bound.test bound.settings) (fresh_of table) (schedule_of (length cuts + 1) seed turns) (start_of table bound.test bound.settings cuts)
+    ∙ blob_count (job_of table bound.test bound.settings) (fresh_of table) (schedule_of (length cuts + 1) seed turns) (team_start table bound.test bound.settings cuts)
     ∙ length-memory_of table
 
 -- a table that is read, and then stored in as the plain update has it

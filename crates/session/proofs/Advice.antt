@@ -1,24 +1,24 @@
 -- The text of an advice, and what asks for it.
-use Rattle.session.proofs.Imports.{◌≡◌, ℕ, ◌+◌, ◌-◌, ◌<◌, ◌≤◌, List, [], ◌∷◌, ◌++◌, map, Bool, length, take, get_or, drop, flat_map, codes, Option, Some, option_map, refl, sym, ap, ◌∙◌, arith, append-nil, append_assoc, enumerate_from, take_all, length-drop, get_or-enumerate_from, length-enumerate_from, Advised, advice, Best, digits_text, flat_map_push, PassText, spaced, Token, Mapping, map_tokens, written, canonical, behind, term_of, Table, leaf_count_of, Read, all_accesses, Question, asked, advise, advise_fault, advice_text, best_words, cost_line, Goes, ok_or, Entry, GivesUp, GivesUp-then, StepFault}
+use Rattle.session.proofs.Imports.{◌≡◌, ℕ, ◌+◌, ◌-◌, ◌<◌, ◌≤◌, List, [], ◌∷◌, ◌++◌, map, Bool, length, take, get_or, drop, flat_map, codes, Option, Some, option_map, refl, sym, ap, ◌∙◌, arith, append-nil, append_assoc, enumerate_from, take_all, length-drop, get_or-enumerate_from, length-enumerate_from, Advised, advice, Best, digits_text, flat_map_push, PassText, spaced, Token, Mapping, map_tokens, written, canonical, with_tokens_behind, term_of, Table, leaf_count_of, Read, all_accesses, Question, asked, advise, advise_fault, advice_text, best_words, cost_line, Goes, ok_or, Entry, GivesUp, GivesUp-then, StepFault}
 use Rattle.map_expr.specs.Terms.{Term}
 
 -- tokens behind a text, each behind a space
-pub behind_spaced : (text : List ℕ) (tokens : List Token) → behind text tokens ≡ text ++ spaced (map written tokens)
+pub behind_spaced : (text : List ℕ) (tokens : List Token) → with_tokens_behind text tokens ≡ text ++ spaced (map written tokens)
 behind_spaced text [] = sym (append-nil text)
 behind_spaced text (token ∷ tokens) =
     behind_spaced (text ++ 32 ∷ (written token).bytes) tokens ∙ append_assoc text (32 ∷ (written token).bytes) (spaced (map written tokens))
 
 -- the tokens of a mapping stand behind the name that a line gives it
-pub mapping_text : (term : Term) → canonical (Mapping (codes "m") term) ≡ behind (codes "mapping m =") (map_tokens term)
+pub mapping_text : (term : Term) → canonical (Mapping (codes "m") term) ≡ with_tokens_behind (codes "mapping m =") (map_tokens term)
 unfolding canonical
 mapping_text term = sym (behind_spaced (codes "mapping m =") (map_tokens term))
 
 -- they can stand behind another text
-pub behind_other : (text : List ℕ) (term : Term) → text ++ drop 11 (behind (codes "mapping m =") (map_tokens term)) ≡ behind text (map_tokens term)
+pub behind_other : (text : List ℕ) (term : Term) → text ++ drop 11 (with_tokens_behind (codes "mapping m =") (map_tokens term)) ≡ with_tokens_behind text (map_tokens term)
 behind_other text term =
     ap (λ (line : List ℕ). text ++ drop 11 line) (behind_spaced (codes "mapping m =") (map_tokens term)) ∙ sym (behind_spaced text (map_tokens term))
 
-pub long_line : (term : Term) → 11 ≤ length (behind (codes "mapping m =") (map_tokens term))
+pub long_line : (term : Term) → 11 ≤ length (with_tokens_behind (codes "mapping m =") (map_tokens term))
 long_line term = rw (behind_spaced (codes "mapping m =") (map_tokens term)) (omega arith)
 
 -- what stands from one byte on
@@ -28,7 +28,7 @@ rest_from at line =
     take_all (length line - at) (drop at line) all
 
 -- the words of the best
-pub best_goes : (best : Option Best) (one : Best) (line text : List ℕ) → best ≡ Some one → line ≡ behind (codes "mapping m =") (map_tokens (term_of one.expr)) →
+pub best_goes : (best : Option Best) (one : Best) (line text : List ℕ) → best ≡ Some one → line ≡ with_tokens_behind (codes "mapping m =") (map_tokens (term_of one.expr)) →
     text ≡ (codes "best " ++ digits_text one.cost) ++ drop 11 line → text ≡ best_words (option_map (λ best. (best.cost, term_of best.expr)) best)
 best_goes best one line text is begun whole =
     rw is (whole ∙ ap (λ (l : List ℕ). (codes "best " ++ digits_text one.cost) ++ drop 11 l) begun ∙ behind_other (codes "best " ++ digits_text one.cost) (term_of one.expr))

@@ -1,5 +1,5 @@
 -- The steps of copies, refused or not.
-use Rattle.session.proofs.Imports.{◌≡◌, ◌∙◌, ◌≤◌, ◌+◌, ⊎_elim, ℕ, zero, suc, true, false, List, [], ◌∷◌, map, get_or, Ok, Err, refl, sym, ap, subst, arith, IsErrOf, remove, false≢true, cases_Bool, cases_eq, get_or_default, same_text, MapTerm, Strategy, Table, AreAlike, IsCopied, cost, IsWay, CopyFault, nameless, Outcome, Goes, Faults, CannotRead, known, made, zeros_of, World, Entry, same_name, alike, view_of, goes_then, IsAt, IsFirst, known_place, ViewEntry, Pair, IsWithin, WithinCopy, WithinCost, WithinRelayout, copied_pair, laid_pair, paired}
+use Rattle.session.proofs.Imports.{◌≡◌, ◌∙◌, ◌≤◌, ◌+◌, ⊎_elim, ℕ, zero, suc, true, false, List, [], ◌∷◌, map, get_or, Ok, Err, refl, sym, ap, subst, arith, IsErrOf, remove, false≢true, cases_Bool, cases_eq, get_or_default, same_text, MapTerm, Strategy, Table, AreAlike, IsCopied, copy_cost, IsWay, CopyFault, nameless, Outcome, Goes, Faults, CannotRead, known, made, zeros_of, World, Entry, same_name, alike, view_of, goes_then, IsAt, IsFirst, known_place, ViewEntry, Pair, IsWithin, WithinCopy, WithinCost, WithinRelayout, copied_pair, laid_pair, paired}
 use Rattle.std.specs.Prelude.{Result}
 use Rattle.layout_copy.specs.declared.fault.CopyFault.TheVariants as copy
 use Rattle.session.proofs.Copies.{AreApart, still_there}
@@ -7,7 +7,7 @@ use Rattle.session.proofs.Copies.{AreApart, still_there}
 -- no step is within every bound
 pub none_taken : (pair : Outcome Pair) (old new : ℕ) → new ≡ old → WithinCost pair old new
 none_taken (Goes pair) old new none = λ strategy is.
-    let most = cost strategy pair.source.mapping pair.target.mapping pair.target.fields pair.target.extents in
+    let most = copy_cost strategy pair.source.mapping pair.target.mapping pair.target.fields pair.target.extents in
     let few : new ≤ old + most = omega (arith, none) in
     few
 none_taken (Faults fault) old new none = omega (arith, none)
@@ -24,7 +24,7 @@ pair_alike : (source target : Table) → AreAlike source target → paired sourc
 pair_alike source target are = rw (alike source target are) refl
 
 pub copy_steps : (source old new : Table) (result : Result Unit CopyFault) (before after : ℕ) → IsCopied source old new result →
-    ((strategy : Strategy) → IsWay source old strategy → after ≤ before + cost strategy source.mapping old.mapping old.fields old.extents) →
+    ((strategy : Strategy) → IsWay source old strategy → after ≤ before + copy_cost strategy source.mapping old.mapping old.fields old.extents) →
     (IsErrOf result copy.Mismatch → after ≡ before) → IsWithin source old before after
 copy_steps source old new (Ok done) before after is bound none = subst (λ (pair : Outcome Pair). WithinCost pair before after) (sym (pair_alike source old is.0)) bound
 copy_steps source old new (Err copy.Mismatch) before after is bound none = none_taken (paired source old) before after (none refl)

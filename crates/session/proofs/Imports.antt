@@ -20,14 +20,14 @@ pub use Rattle.std.proofs.lemmas.Map.Steps.{length-le_from_distinct_below}
 pub use Rattle.std.proofs.Math.Seq.{drop-cons}
 pub use Rattle.std.specs.Int.{w128}
 pub use Rattle.std.proofs.lemmas.Int.{to_z-of_z}
-pub use Rattle.actors.specs.Runs.{Run, started_run, after_turns}
+pub use Rattle.actors.specs.ActorRuns.{Run, started_run, after_turns}
 pub use Rattle.map_expr.specs.Terms.{uncounted, term_of, Term as MapTerm, Count, Heat}
 pub use Rattle.actor_steps.specs.Confluence.{State, moved, turned}
 pub use Rattle.actor_steps.specs.Cuts.{AreCuts, actor_of, are_cuts}
 pub use Rattle.actor_steps.specs.CutsLaws.{are_cuts-are}
 pub use Rattle.actor_steps.specs.declared.place.Place.{Place}
-pub use Rattle.actor_steps.specs.Jobs.{memory_of, written_by, start_of, job_of, fresh_of}
-pub use Rattle.actor_steps.specs.Micro.{Job, Micro, Fetch, Load, Store, Registers, stored, with_bits_of, value_on, row_in}
+pub use Rattle.actor_steps.specs.Jobs.{memory_of, written_by, team_start, job_of, fresh_of}
+pub use Rattle.actor_steps.specs.Micro.{Job, Micro, Fetch, Load, Store, Registers, stored, with_bits_of, value_kept_on, row_in}
 pub use Rattle.actor_steps.specs.Micro.{loaded}
 pub use Rattle.actor_steps.specs.Schedules.{next, entries, schedule_of, idle_with, run_by}
 pub use Rattle.actor_steps.specs.Shared.{shared_byte}
@@ -58,12 +58,12 @@ pub use Rattle.line_grammar.specs.declared.line.PassText.{PassText}
 pub use Rattle.line_tokens.specs.Spelled.{spaced}
 pub use Rattle.line_grammar.specs.declared.token.Token.{Token}
 pub use Rattle.line_writer.specs.Canonical.{map_tokens}
-pub use Rattle.line_writer.specs.Texts.{written, behind}
+pub use Rattle.line_writer.specs.Texts.{written, with_tokens_behind}
 unfoldable pub use Rattle.line_writer.specs.Texts.{canonical}
 pub use Rattle.worlds.specs.Advise.{Question, asked, advise_fault, best_words, cost_line}
 unfoldable pub use Rattle.worlds.specs.Advise.{advise, advice_text}
 pub use Rattle.worlds.specs.Worlds.{Entry, World, replaced, same_name, found}
-pub use Rattle.command_checks.specs.Gives.{GivesUp, Gives}
+pub use Rattle.command_checks.specs.Inner.Gives.{GivesUp, Gives}
 pub use Rattle.command_checks.specs.GivesLaws.{GivesUp-then, goes_then}
 pub use Rattle.record_dim.specs.Trees.{Fields}
 pub use Rattle.layout_copy.specs.Copies.{AreAlike, IsCopied, refused_at}
@@ -77,13 +77,13 @@ unfoldable pub use Rattle.worlds.specs.Copy.{copy, copied, with_rows, laid_anew,
 pub use Rattle.worlds.specs.Tables.{made, zeros_of, room, live_bits}
 pub use Rattle.worlds.specs.declared.fault.CommandFault.{CommandFault}
 pub use Rattle.worlds.specs.declared.fault.UnknownName.TheVariants.{Name}
-pub use Rattle.command_checks.specs.Places.{IsFirst, IsAt}
+pub use Rattle.command_checks.specs.Inner.Places.{IsFirst, IsAt}
 pub use Rattle.command_checks.specs.AlikeLaws.{alike, not_alike}
-pub use Rattle.command_checks.specs.Entries.{view_of, mapping_of}
+pub use Rattle.command_checks.specs.SessionEntries.{view_of, mapping_of}
 pub use Rattle.command_checks.specs.declared.entries.ViewEntry.{ViewEntry}
 pub use Rattle.record_dim.specs.NameBytesLaws.{same_text}
 pub use Rattle.map_any.specs.declared.strategy.Strategy.{Strategy}
-pub use Rattle.layout_copy.specs.Costs.{cost, IsWay}
+pub use Rattle.layout_copy.specs.Costs.{copy_cost, IsWay}
 pub use Rattle.command_checks.specs.PlacesLaws.{known_place, known_at, without_is}
 pub use Rattle.worlds.specs.Answers.{Refused, Fronted, text_of, Did, StepsTo, StepCause}
 pub use Rattle.extents.specs.Indices.{indices, IsInside}
@@ -98,17 +98,17 @@ pub use Rattle.blob_file.specs.Opened.{IsRead, opened}
 pub use Rattle.blob_file.specs.declared.fault.FileFault.{FileFault}
 pub use Rattle.worlds.specs.Files.{bad_file}
 unfoldable pub use Rattle.worlds.specs.Files.{save, opened_beside, opened_table, open_view}
-pub use Rattle.layout_io.specs.Files.{File, file_of, IsMissing, HasFile}
-pub use Rattle.places.specs.Laws.{IsLaidOut}
+pub use Rattle.layout_io.specs.Files.{File, file_named, IsMissing, HasFile}
+pub use Rattle.places.specs.Lawful.{IsLaidOut}
 pub use Rattle.places.specs.Layout.{Owner, Pad, Bit, owner_at}
 pub use Rattle.places.specs.declared.piece.Cell.{Cell}
 pub use Rattle.places.specs.declared.piece.Hold.{Hold}
 pub use Rattle.record_dim.specs.declared.leaf_type.LeafType.{LeafType}
 pub use Rattle.map_any.specs.AnyLaws.{length-leaf_cells}
 pub use Rattle.map_checks.specs.Mappings.{leaf_cells, IsBuiltTerm}
-pub use Rattle.map_any.specs.Runs.{goes_on, joined, run_owner, runs_from}
-unfoldable pub use Rattle.map_any.specs.Runs.{runs_of}
-pub use Rattle.places.specs.Runs.{IsOwnerBelow}
+pub use Rattle.map_any.specs.BitRuns.{goes_on, joined_run, run_owner, runs_from}
+unfoldable pub use Rattle.map_any.specs.BitRuns.{runs_of}
+pub use Rattle.places.specs.RunOwners.{IsOwnerBelow}
 pub use Rattle.blob_file.specs.Files.{IsShort, record_text, view_text}
 pub use Rattle.blob_file.specs.Saving.{header_of, blobs_of}
 pub use Rattle.expr_lang.specs.declared.bound.Bound.{Bound}
@@ -137,9 +137,9 @@ unfoldable pub use Rattle.worlds.specs.Windows.{print_window}
 pub use Rattle.worlds.specs.Load.{read}
 unfoldable pub use Rattle.worlds.specs.Load.{loaded_table, load}
 pub use Rattle.worlds.specs.View.{Named, named, with_view, view}
-pub use Rattle.command_checks.specs.Stencils.{stencil_of}
+pub use Rattle.command_checks.specs.Inner.Stencils.{stencil_of}
 pub use Rattle.worlds.specs.Kernel.{number_text}
-pub use Rattle.command_checks.specs.Questions.{question_of}
+pub use Rattle.command_checks.specs.Inner.Questions.{question_of}
 pub use Rattle.blob_file.specs.HeaderLaws.{nameless_built}
 pub use Rattle.layout_io.specs.DecimalLaws.{decimal-digits_text}
 pub use Rattle.layout_io.specs.Faults.{Rose}
@@ -149,12 +149,12 @@ pub use Rattle.blobs.specs.Bits.{bits_of}
 pub use Rattle.layout_io.specs.Gathering.{Gathers}
 pub use Rattle.layout_io.specs.GatheringLaws.{Gathers-start}
 pub use Rattle.worlds.specs.Texts.{number_line}
-pub use Rattle.session.specs.Changes.{left_with, copied_at, made_like, zeros_like, TellsCopy, set_row, IsLeft, rows_updated}
-pub use Rattle.session.specs.Teams.{Bindings, shared_out, acted, bindings_of}
+pub use Rattle.session.specs.Inner.Changes.{left_with, copied_at, made_like, zeros_like, TellsCopy, set_row, IsLeft, rows_updated}
+pub use Rattle.session.specs.Inner.Teams.{Bindings, shared_out, acted, bindings_of}
 pub use Rattle.session.specs.Bounds.{Pair, IsWithin, WithinCopy, WithinCost, WithinRelayout, paired}
 unfoldable pub use Rattle.session.specs.Bounds.{copied_pair, laid_pair}
 pub use Rattle.session.specs.Answers.{Answers, TookNone, ending_of}
-pub use Rattle.session.specs.Opens.{file_fault, placed_table, with_room}
+pub use Rattle.session.specs.Inner.Opens.{file_fault, placed_table, with_room}
 pub use Rattle.session.specs.Loads.{Loads, IsUnread, UnreadOnly, ToldFor, read_within, named_of, new_of, filled_table}
 pub use Rattle.session.specs.Stands.{AreLeft, Stands, left_of, world_in, world_of}
 pub use Rattle.session.specs.declared.session.Session.{Session}

@@ -1,33 +1,33 @@
 -- A file that is read, or not, on the way to a table.
-use Rattle.session.proofs.Imports.{◌≡◌, ◌∙◌, ◌⊎◌, ◌<◌, ◌≤◌, ℕ, Bool, true, false, nat_lt, List, length, Option, Some, None, Result, Ok, Err, inl, inr, ⊎_elim, refl, subst, arith, nat_tests, IsSomeAnd, File, file_of, IsMissing, HasFile, Outcome, Goes, Faults, CannotRead, ◌>>=◌, refused_if, TooBig, Gives, GivesUp, goes_then, StepFault, Loads, IsUnread, UnreadOnly, ToldFor, read_within}
+use Rattle.session.proofs.Imports.{◌≡◌, ◌∙◌, ◌⊎◌, ◌<◌, ◌≤◌, ℕ, Bool, true, false, nat_lt, List, length, Option, Some, None, Result, Ok, Err, inl, inr, ⊎_elim, refl, subst, arith, nat_tests, IsSomeAnd, File, file_named, IsMissing, HasFile, Outcome, Goes, Faults, CannotRead, ◌>>=◌, refused_if, TooBig, Gives, GivesUp, goes_then, StepFault, Loads, IsUnread, UnreadOnly, ToldFor, read_within}
 use Rattle.command_checks.specs.declared.fault.StepFault.TheVariants as step
 
 -- a file of this name is there
-pub file_there : (told : Option (List File)) (files : List File) (name : List ℕ) (P : List ℕ → Type 0) → told ≡ Some files → HasFile told name P → (bytes : List ℕ) × (file_of files name ≡ Some bytes) × P bytes
-file_there told files name P is has = there_is (file_of files name) (subst (λ (t : Option (List File)). HasFile t name P) is has)
+pub file_there : (told : Option (List File)) (files : List File) (name : List ℕ) (P : List ℕ → Type 0) → told ≡ Some files → HasFile told name P → (bytes : List ℕ) × (file_named files name ≡ Some bytes) × P bytes
+file_there told files name P is has = there_is (file_named files name) (subst (λ (t : Option (List File)). HasFile t name P) is has)
   where
     there_is : (file : Option (List ℕ)) → IsSomeAnd file P → (bytes : List ℕ) × (file ≡ Some bytes) × P bytes
     there_is None has = absurd has
     there_is (Some bytes) has = (bytes, refl, has)
 
-pub file_missing : (told : Option (List File)) (files : List File) (name : List ℕ) → told ≡ Some files → IsMissing told name → file_of files name ≡ None
+pub file_missing : (told : Option (List File)) (files : List File) (name : List ℕ) → told ≡ Some files → IsMissing told name → file_named files name ≡ None
 file_missing told files name is missing = subst (λ (t : Option (List File)). IsMissing t name) is missing
 
 -- the file is read
-pub was_read : (most : ℕ) (files : List File) (name bytes : List ℕ) → file_of files name ≡ Some bytes → length bytes ≤ most → read_within most files false name ≡ Goes bytes
+pub was_read : (most : ℕ) (files : List File) (name bytes : List ℕ) → file_named files name ≡ Some bytes → length bytes ≤ most → read_within most files false name ≡ Goes bytes
 was_read most files name bytes is short =
     let within : nat_lt most (length bytes) ≡ false = grind (arith, nat_tests) in
     rw (is, within) refl
 
 -- it is not
-pub was_unread : (most : ℕ) (files : List File) (name : List ℕ) (read_failed : Type 0) → read_failed ⊎ (file_of files name ≡ None) → IsUnread name (λ unread. read_within most files unread name) read_failed
+pub was_unread : (most : ℕ) (files : List File) (name : List ℕ) (read_failed : Type 0) → read_failed ⊎ (file_named files name ≡ None) → IsUnread name (λ unread. read_within most files unread name) read_failed
 was_unread most files name read_failed cause = record {
   is = refl;
-  cause = ⊎_elim (λ (failed : read_failed). inl failed) (λ (none : file_of files name ≡ None). inr (rw none refl)) cause;
+  cause = ⊎_elim (λ (failed : read_failed). inl failed) (λ (none : file_named files name ≡ None). inr (rw none refl)) cause;
 }
 
 -- it is too long
-pub was_long : (most : ℕ) (files : List File) (name bytes : List ℕ) → file_of files name ≡ Some bytes → most < length bytes → read_within most files false name ≡ Faults TooBig
+pub was_long : (most : ℕ) (files : List File) (name bytes : List ℕ) → file_named files name ≡ Some bytes → most < length bytes → read_within most files false name ≡ Faults TooBig
 was_long most files name bytes is long =
     let over : nat_lt most (length bytes) ≡ true = grind (arith, nat_tests) in
     rw (is, over) refl

@@ -1,5 +1,5 @@
 -- Whose the runs of a layout are.
-use Rattle.session.proofs.Imports.{◌≡◌, ◌+◌, ◌<◌, ℕ, suc, true, false, List, [], ◌∷◌, length, map, get_or, All, refl, ap, subst, ◌∙◌, ⊎_elim, cases_Bool, All-nil, All-cons, All-tail, All-append, length-map, IsLaidOut, Owner, Pad, Bit, owner_at, Cell, Hold, LeafType, length-leaf_cells, leaf_cells, goes_on, joined, run_owner, runs_from, runs_of, IsOwnerBelow}
+use Rattle.session.proofs.Imports.{◌≡◌, ◌+◌, ◌<◌, ℕ, suc, true, false, List, [], ◌∷◌, length, map, get_or, All, refl, ap, subst, ◌∙◌, ⊎_elim, cases_Bool, All-nil, All-cons, All-tail, All-append, length-map, IsLaidOut, Owner, Pad, Bit, owner_at, Cell, Hold, LeafType, length-leaf_cells, leaf_cells, goes_on, joined_run, run_owner, runs_from, runs_of, IsOwnerBelow}
 use Rattle.std.specs.List.{flat_map}
 use Rattle.places.specs.declared.piece.Run.{Run}
 
@@ -7,7 +7,7 @@ use Rattle.places.specs.declared.piece.Run.{Run}
 abbrev pub IsRunBelow : ℕ → Run → Type 0
 IsRunBelow leaves run = IsOwnerBelow leaves run.owner
 
-below_joined : (leaves : ℕ) (run : Run) (runs : List Run) → IsRunBelow leaves run → All (IsRunBelow leaves) runs → All (IsRunBelow leaves) (joined run runs)
+below_joined : (leaves : ℕ) (run : Run) (runs : List Run) → IsRunBelow leaves run → All (IsRunBelow leaves) runs → All (IsRunBelow leaves) (joined_run run runs)
 below_joined leaves run [] one all = All-cons (IsRunBelow leaves) run [] one all
 below_joined leaves run (next ∷ runs) one all = ⊎_elim
     (λ (on : goes_on run.owner run.bits next.owner ≡ true).

@@ -1,6 +1,6 @@
 -- What the commands answer is what their lines answer.
 use Rattle.session.proofs.Imports.{◌≡◌, ℕ, Bool, true, false, List, Option, Some, Result, Ok, Err, refl, sym, subst, ◌∙◌, arith, File, Wrote-nil, with_bytes-nil, Sentence, sentence_of, Line, World, Did, text_of, StepsTo, StepCause, steps_same, Outcome, Left, step, command, Gives, RecordEntry, ViewEntry, StepFault, MappingEntry, Answers, TookNone, ending_of, Loads, ToldFor, UnreadOnly, AreLeft, Stands, left_of, world_in, world_of, Session}
-use Rattle.line_grammar.specs.Sentences.{file_of}
+use Rattle.line_grammar.specs.Sentences.{file_read_by}
 use Rattle.command_checks.specs.declared.fault.StepFault.TheVariants as fault
 use Rattle.session.proofs.Exits.{refused, starved, answers_quiet}
 use Rattle.session.proofs.Views.{session_left}
@@ -21,18 +21,18 @@ steps_load taken faults old name outcome read_failed (Err fault.NoMemory) loads 
 
 -- a line that reads this file, by the outcome of its command
 pub steps_read : {K : Type 0} (taken : K → Option (List ℕ)) (faults : K → ℕ) (old : K) (world : World) (sentence : Sentence) (name : List ℕ) (outcome : List File → Bool → Outcome Left) (told : Option (List File)) (files : List File)
-    (read_failed : Type 0) (result : Result Session StepFault) → file_of sentence ≡ Some name → ((files : List File) (unread : Bool) → command world sentence files unread ≡ outcome files unread)
+    (read_failed : Type 0) (result : Result Session StepFault) → file_read_by sentence ≡ Some name → ((files : List File) (unread : Bool) → command world sentence files unread ≡ outcome files unread)
     → (ToldFor told (outcome files true) files → Loads name left_of (outcome files) read_failed result) → ToldFor told (step world sentence files true) files
-    → StepsTo (ending_of (file_of sentence)) Stands taken faults old old (step world sentence files) read_failed result
+    → StepsTo (ending_of (file_read_by sentence)) Stands taken faults old old (step world sentence files) read_failed result
 steps_read taken faults old world sentence name outcome told files read_failed result is same loads given =
     let whole : (unread : Bool) → step world sentence files unread ≡ outcome files unread = λ unread. step_is world sentence files unread ∙ same files unread in
     let first = subst (λ (o : Outcome Left). ToldFor told o files) (whole true) given in
-    steps_same (ending_of (file_of sentence)) Stands taken faults old old (step world sentence files) (outcome files) read_failed result whole
+    steps_same (ending_of (file_read_by sentence)) Stands taken faults old old (step world sentence files) (outcome files) read_failed result whole
     (subst (λ (file : Option (List ℕ)). StepsTo {F = StepFault} (ending_of file) Stands taken faults old old (outcome files) read_failed result) (sym is)
     (steps_load taken faults old name (outcome files) read_failed result (loads first)))
 
 pub unread_read : (world : World) (sentence : Sentence) (name : List ℕ) (outcome : List File → Bool → Outcome Left) (result : Result Session StepFault) →
-    file_of sentence ≡ Some name → ((files : List File) (unread : Bool) → command world sentence files unread ≡ outcome files unread) → UnreadOnly (Some name) outcome result → UnreadOnly (file_of sentence) (step world sentence) result
+    file_read_by sentence ≡ Some name → ((files : List File) (unread : Bool) → command world sentence files unread ≡ outcome files unread) → UnreadOnly (Some name) outcome result → UnreadOnly (file_read_by sentence) (step world sentence) result
 unread_read world sentence name outcome (Ok next) is same unread = tt
 unread_read world sentence name outcome (Err (fault.Command refusal)) is same unread = tt
 unread_read world sentence name outcome (Err fault.Source) is same unread = rw is (λ files. step_is world sentence files true ∙ same files true ∙ unread files)

@@ -2,7 +2,7 @@
 use Rattle.std.specs.Prelude.{ℕ, ◌+◌, ◌≤◌, not, List, length, Option, Some, None, MatchBool}
 use Rattle.lane_kernels.specs.Kernels.{kernel_cost}
 use Rattle.lane_kernels.specs.declared.kernel.Kernel.{Kernel}
-use Rattle.layout_copy.specs.Costs.{cost, IsWay}
+use Rattle.layout_copy.specs.Costs.{copy_cost, IsWay}
 use Rattle.line_grammar.specs.Sentences as line
 use Rattle.line_grammar.specs.declared.line.KernelText.{KernelText}
 use Rattle.map_any.specs.declared.strategy.Strategy.{Strategy}
@@ -27,13 +27,13 @@ most_on None most = Some 0
 most_on (Some table) most = most table
 
 -- the most steps of a kernel on so many rows, and none where it is refused
-abbrev pub cost_of : ℕ → ℕ → Outcome Kernel → ℕ
-cost_of lanes rows (Goes kernel) = kernel_cost kernel lanes rows
-cost_of lanes rows _ = 0
+abbrev pub kernel_cost_of : ℕ → ℕ → Outcome Kernel → ℕ
+kernel_cost_of lanes rows (Goes kernel) = kernel_cost kernel lanes rows
+kernel_cost_of lanes rows _ = 0
 
 -- those of the kernel of a text on a table
 abbrev pub kernel_steps : Table → KernelText → ℕ → ℕ
-kernel_steps table text lanes = cost_of lanes (length table.rows) (fit_kernel table.fields text lanes)
+kernel_steps table text lanes = kernel_cost_of lanes (length table.rows) (fit_kernel table.fields text lanes)
 
 -- a table, and the one that it is copied into
 pub record Pair : Type 0 where
@@ -63,7 +63,7 @@ laid_pair world name term = do
 -- the steps of a copy: those of the way that the one table is copied into the other by, and none where there is nothing to copy
 abbrev pub WithinCost : Outcome Pair → ℕ → ℕ → Type 0
 WithinCost (Goes pair) old new = (strategy : Strategy) → IsWay pair.source pair.target strategy
-    → new ≤ old + cost strategy pair.source.mapping pair.target.mapping pair.target.fields pair.target.extents
+    → new ≤ old + copy_cost strategy pair.source.mapping pair.target.mapping pair.target.fields pair.target.extents
 WithinCost _ old new = Within (Some 0) old new
 
 -- those of a copy from one table into another one

@@ -5,7 +5,7 @@ use Rattle.layout_io.specs.Files.{File}
 use Rattle.record_dim.specs.Schemas.{schema_fields}
 use Rattle.map_expr.specs.Terms.{term_of}
 use Rattle.extents.specs.declared.words.ExtentWord.{ExtentWord}
-use Rattle.csv_rows.specs.Datasets.{records_of, rows_of}
+use Rattle.csv_rows.specs.Datasets.{csv_records, records_behind}
 use Rattle.views.specs.Tables.{Table}
 use Rattle.worlds.specs.Worlds.{Entry}
 use Rattle.line_grammar.specs.Sentences as line
@@ -30,9 +30,9 @@ named_of found = record { fields = schema_fields found.schema.now; mode = found.
 -- the table of a dataset of bytes that are not too many, beside these views
 abbrev pub filled_table : List (Entry Table) → Named → List ExtentWord → List ℕ → Outcome Table
 filled_table views whole words bytes = do
-  extents ← resolved words (Some (length (rows_of (records_of bytes))))
+  extents ← resolved words (Some (length (records_behind (csv_records bytes))))
   zeros ← made views whole.mode whole.fields extents whole.mapping
-  filled zeros (records_of bytes)
+  filled zeros (csv_records bytes)
 
 -- the bytes of a file that has at most so many; `unread`: reading fails in this command
 abbrev pub read_within : ℕ → List File → Bool → List ℕ → Outcome (List ℕ)

@@ -2,7 +2,7 @@
 use Rattle.std.specs.Prelude.{◌≡◌, List, Option, Some, None}
 use Rattle.std.proofs.Common.{refl}
 use Rattle.layout_io.specs.Files.{File}
-use Rattle.line_grammar.specs.Sentences.{sentence_of, file_of}
+use Rattle.line_grammar.specs.Sentences.{sentence_of, file_read_by}
 use Rattle.line_grammar.specs.declared.line.Line.{Line}
 use Rattle.line_grammar.specs.declared.line.Line.TheVariants as line
 use Rattle.worlds.specs.Outcomes.{Outcome, Goes, Faults, CannotRead}
@@ -10,7 +10,7 @@ use Rattle.session.specs.Loads.{ToldFor}
 
 -- a line that is no load and no open reads no file
 pub no_file : (l : Line) → ((name schema : _) (words : _) (wrap : _) (expr : _) (file : _) → l ≡ line.Load name schema words wrap expr file → ⊥)
-    → ((name : _) (file : _) → l ≡ line.OpenFile name file → ⊥) → file_of (sentence_of l) ≡ None
+    → ((name : _) (file : _) → l ≡ line.OpenFile name file → ⊥) → file_read_by (sentence_of l) ≡ None
 no_file (line.Load name schema words wrap expr file) no_load no_open = absurd (no_load name schema words wrap expr file refl)
 no_file (line.OpenFile name file) no_load no_open = absurd (no_open name file refl)
 no_file _ no_load no_open = refl

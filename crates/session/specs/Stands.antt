@@ -2,7 +2,7 @@
 use Rattle.std.specs.Prelude.{◌≡◌, List, [], map}
 use Rattle.worlds.specs.Worlds.{World}
 use Rattle.worlds.specs.Outcomes.{Left}
-use Rattle.command_checks.specs.Entries.{record_of, mapping_of, view_of}
+use Rattle.command_checks.specs.SessionEntries.{record_of, mapping_of, view_of}
 use Rattle.command_checks.specs.declared.entries.RecordEntry.{RecordEntry}
 use Rattle.command_checks.specs.declared.entries.ViewEntry.{ViewEntry}
 use Rattle.command_checks.specs.declared.mapping_entry.MappingEntry.{MappingEntry}

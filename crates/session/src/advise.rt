@@ -4,16 +4,16 @@ ghost use Rattle.std.specs.List.{enumerate_from};
 ghost use Rattle.advisor.specs.Advice.{advice, told_by};
 ghost use Rattle.layout_io.specs.Decimal.{digits_text};
 ghost use Rattle.line_writer.specs.Canonical.{map_tokens};
-ghost use Rattle.line_writer.specs.Texts.{behind};
+ghost use Rattle.line_writer.specs.Texts.{with_tokens_behind};
 ghost use Rattle.map_expr.specs.Terms.{term_of};
 ghost use Rattle.record_dim.specs.Names.{is_name};
 ghost use Rattle.views.specs.Tables.{leaf_count_of, after_log};
 ghost use Rattle.views.specs.Tallies.{Read, all_accesses};
 ghost use Rattle.worlds.specs.Advise.{advise, advise_fault, advice_text, best_words, cost_line, cost_words};
 ghost use Rattle.worlds.specs.Outcomes.{ok_or};
-ghost use Rattle.command_checks.specs.Entries.{mapping_of};
-ghost use Rattle.command_checks.specs.Gives.{Gives};
-ghost use Rattle.command_checks.specs.Questions.{IsQuestion};
+ghost use Rattle.command_checks.specs.SessionEntries.{mapping_of};
+ghost use Rattle.command_checks.specs.Inner.Gives.{Gives};
+ghost use Rattle.command_checks.specs.Inner.Questions.{IsQuestion};
 
 use crate::work::Work;
 use advisor::{Advice, AdviseFault, Best, advise};
@@ -188,7 +188,7 @@ fn best_words(alloc: Global, best: Option<Best>) -> Result<Vec<u8>, NoMemory>
 
 // The canonical text of the line that names a mapping `m`.
 fn mapping_line(alloc: Global, expr: MapExpr) -> Result<Text, NoMemory>
-    ensures { IfOk result (λ text. text ≡ behind (codes "mapping m =") (map_tokens (term_of expr))) }
+    ensures { IfOk result (λ text. text ≡ with_tokens_behind (codes "mapping m =") (map_tokens (term_of expr))) }
 {
     let name = named("m");
     let line = Line::Mapping { name, expr };

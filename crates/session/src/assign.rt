@@ -4,14 +4,14 @@ ghost use Rattle.expr_lang.specs.Bounds.{bound_term};
 ghost use Rattle.expr_lang.specs.Terms.{term_of};
 ghost use Rattle.extents.specs.Indices.{indices, IsInside};
 ghost use Rattle.linearize.specs.Slots.{place_in};
-ghost use Rattle.row_updates.specs.Rows.{IsOver};
+ghost use Rattle.row_updates.specs.Rows.{IsBoundOver};
 ghost use Rattle.row_updates.specs.Logs.{value_log};
 ghost use Rattle.views.specs.Tables.{leaf_count_of, after_log};
 ghost use Rattle.worlds.specs.Assign.{assigned, inside};
 ghost use Rattle.worlds.specs.OnView.{done_to};
 ghost use Rattle.worlds.specs.Values.{value_on};
-ghost use Rattle.session.specs.Changes.{set_row, stored, left_with};
-ghost use Rattle.command_checks.specs.Gives.{Gives};
+ghost use Rattle.session.specs.Inner.Changes.{set_row, stored, left_with};
+ghost use Rattle.command_checks.specs.Inner.Gives.{Gives};
 
 use crate::faults::{narrow_fault, range_fault};
 use crate::work::Work;
@@ -125,7 +125,7 @@ fn set_row<L: Ledger>(
     requires row_in { row < length view.old.rows }
     requires rank { length index.now ≡ length view.old.extents }
     requires leaf_in { leaf < leaf_count_of view.old }
-    requires over { IsOver view.old value.now }
+    requires over { IsBoundOver view.old value.now }
     ensures { Gives (λ done. view.new) result (set_row view.old row index.now leaf (bound_term value.now)) }
 {
     let value = row_value(view, row, index, value, steps)?;
@@ -152,7 +152,7 @@ fn row_value<L: Ledger>(
 ) -> Result<i128, StepFault>
     requires row_in { row < length view.old.rows }
     requires rank { length index.now ≡ length view.old.extents }
-    requires over { IsOver view.old value.now }
+    requires over { IsBoundOver view.old value.now }
     ensures value { Gives (λ number. number) result (value_on row (slice_index_or view.old.rows row []) index.now (bound_term value.now)) }
     ensures read { view.new ≡ after_log view.old (value_log row (slice_index_or view.old.rows row []) index.now (bound_term value.now)) }
 {

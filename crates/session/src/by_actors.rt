@@ -3,7 +3,7 @@ ghost use Rattle.std.specs.Prelude.{◌≡◌, ◌<◌, ◌+◌, ◌^◌, IfOk, 
 ghost use Rattle.actor_steps.specs.Cuts.{AreCuts, actor_of, are_cuts};
 ghost use Rattle.actor_steps.specs.Schedules.{next, schedule_of};
 ghost use Rattle.actor_steps.specs.Shared.{shared_byte};
-ghost use Rattle.actors.specs.Runs.{uncounted, started_run, after_turns};
+ghost use Rattle.actors.specs.ActorRuns.{without_counts, started_run, after_turns};
 ghost use Rattle.actors.specs.Updates.{IsUpdated};
 ghost use Rattle.views.specs.Tallies.{reads_in};
 ghost use Rattle.expr_lang.specs.Terms.{term_of};
@@ -17,10 +17,10 @@ ghost use Rattle.worlds.specs.OnView.{done_to};
 ghost use Rattle.worlds.specs.Outcomes.{Goes, ok_or, refused_by, refused_if};
 ghost use Rattle.worlds.specs.Show.{small};
 ghost use Rattle.worlds.specs.Update.{update_fault};
-ghost use Rattle.command_checks.specs.Gives.{Gives, GivesUp};
+ghost use Rattle.command_checks.specs.Inner.Gives.{Gives, GivesUp};
 ghost use Rattle.session.specs.Answers.{Answers};
-ghost use Rattle.session.specs.Changes.{IsLeft};
-ghost use Rattle.session.specs.Teams.{IsTeamOf, bindings_of, shared_out, acted};
+ghost use Rattle.session.specs.Inner.Changes.{IsLeft};
+ghost use Rattle.session.specs.Inner.Teams.{IsTeamOf, bindings_of, shared_out, acted};
 
 use crate::assign::widened;
 use crate::show::check_small;
@@ -204,7 +204,7 @@ fn started<'a, L: Ledger>(
 // So many turns of the schedule of a seed.
 fn take_turns(run: &mut ActorRun<'_>, view: &View, actors: u64, seed: u32, turns: u32)
     requires actors { actors ≡ length run.old.cuts + 1 }
-    requires view { uncounted view.now ≡ run.old.found }
+    requires view { without_counts view.now ≡ run.old.found }
     ensures { run.new ≡ after_turns run.old (schedule_of actors seed turns) }
 {
     let mut x = u64::from(seed) % (1 << 31);

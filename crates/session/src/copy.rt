@@ -5,11 +5,11 @@ ghost use Rattle.views.specs.Tallies.{all_accesses, Read};
 ghost use Rattle.record_dim.specs.Schemas.{schema_fields};
 ghost use Rattle.worlds.specs.Copy.{copy, copied, all_read};
 ghost use Rattle.worlds.specs.Outcomes.{Goes};
-ghost use Rattle.command_checks.specs.Entries.{view_of};
-ghost use Rattle.command_checks.specs.Gives.{Gives};
+ghost use Rattle.command_checks.specs.SessionEntries.{view_of};
+ghost use Rattle.command_checks.specs.Inner.Gives.{Gives};
 ghost use Rattle.command_checks.specs.declared.entries.ViewEntry.{ViewEntry};
 ghost use Rattle.session.specs.Bounds.{IsWithin, WithinCopy};
-ghost use Rattle.session.specs.Changes.{copied_at, TellsCopy};
+ghost use Rattle.session.specs.Inner.Changes.{copied_at, TellsCopy};
 
 use crate::faults::narrow_fault;
 use crate::session::Session;

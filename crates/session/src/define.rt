@@ -5,9 +5,9 @@ ghost use Rattle.record_dim.specs.Schemas.{schema_fields};
 ghost use Rattle.record_dim.specs.Trees.{tree_of, IsRecord};
 ghost use Rattle.worlds.specs.Define.{define, fit};
 ghost use Rattle.worlds.specs.Mapping.{mapping};
-ghost use Rattle.command_checks.specs.Bases.{is_nameless};
-ghost use Rattle.command_checks.specs.Gives.{Gives};
-ghost use Rattle.session.specs.Changes.{mapping_fits};
+ghost use Rattle.command_checks.specs.Inner.Bases.{is_nameless};
+ghost use Rattle.command_checks.specs.Inner.Gives.{Gives};
+ghost use Rattle.session.specs.Inner.Changes.{mapping_fits};
 
 use crate::session::Session;
 use command_checks::{MappingEntry, RecordEntry, StepFault, nameless};

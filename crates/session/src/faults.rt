@@ -1,6 +1,6 @@
 // The refusals of a value that does not fit the leaf of a row.
 ghost use Rattle.worlds.specs.Names.{text_of_leaf};
-ghost use Rattle.session.specs.Changes.{Tells};
+ghost use Rattle.session.specs.Inner.Changes.{Tells};
 
 use command_checks::{StepFault, leaf_text};
 use std::alloc::Global;

@@ -4,10 +4,10 @@ ghost use Rattle.layout_io.specs.Writing.{Writes};
 ghost use Rattle.lane_kernels.specs.Kernels.{IsKernelOf, kernel_cost};
 ghost use Rattle.record_dim.specs.Schemas.{schema_fields};
 ghost use Rattle.worlds.specs.OnView.{done_to};
-ghost use Rattle.worlds.specs.Kernel.{kernel_run, number_text, run, run_fault};
-ghost use Rattle.command_checks.specs.Gives.{Gives};
+ghost use Rattle.worlds.specs.Kernel.{kernel_run, number_text, kernel_outcome, kernel_row_fault};
+ghost use Rattle.command_checks.specs.Inner.Gives.{Gives};
 ghost use Rattle.session.specs.Bounds.{kernel_steps};
-ghost use Rattle.session.specs.Changes.{Tells, left_with};
+ghost use Rattle.session.specs.Inner.Changes.{Tells, left_with};
 
 use crate::faults::{narrow_fault, range_fault};
 use crate::numbers::write_number;
@@ -76,7 +76,7 @@ fn run<L: Ledger>(
     requires some { 1 ≤ lanes }
     requires few { lanes ≤ 16 }
     ensures number { Gives (λ number. left_with view.new (number_text number)) result
-        (done_to view.old (run view.old kernel.now)) }
+        (done_to view.old (kernel_outcome view.old kernel.now)) }
     ensures steps { steps.new ≤ steps.old + kernel_cost kernel.now lanes (length view.old.rows) }
 {
     match run_lanes(view, kernel, lanes, steps) {
@@ -87,7 +87,7 @@ fn run<L: Ledger>(
 
 // The fault of a kernel, with the path text of its leaf.
 fn run_fault(alloc: Global, view: &View, fault: KernelFault) -> Result<CommandFault, StepFault>
-    ensures { Tells (run_fault view.now.fields fault) result }
+    ensures { Tells (kernel_row_fault view.now.fields fault) result }
 {
     match fault {
         KernelFault::Empty => Ok(CommandFault::Empty),

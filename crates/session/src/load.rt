@@ -6,13 +6,13 @@ ghost use Rattle.layout_io.specs.Faults.{Rose};
 ghost use Rattle.layout_io.specs.Files.{File};
 ghost use Rattle.map_expr.specs.Terms.{term_of};
 ghost use Rattle.record_dim.specs.Schemas.{schema_fields};
-ghost use Rattle.csv_rows.specs.Datasets.{records_of, rows_of};
+ghost use Rattle.csv_rows.specs.Datasets.{csv_records, records_behind};
 ghost use Rattle.worlds.specs.Load.{load, loaded_table, filled};
 ghost use Rattle.worlds.specs.Tables.{resolved};
-ghost use Rattle.command_checks.specs.Bases.{is_nameless};
-ghost use Rattle.command_checks.specs.Entries.{view_of};
-ghost use Rattle.command_checks.specs.Gives.{Gives};
-ghost use Rattle.session.specs.Changes.{TellsRow};
+ghost use Rattle.command_checks.specs.Inner.Bases.{is_nameless};
+ghost use Rattle.command_checks.specs.SessionEntries.{view_of};
+ghost use Rattle.command_checks.specs.Inner.Gives.{Gives};
+ghost use Rattle.session.specs.Inner.Changes.{TellsRow};
 ghost use Rattle.session.specs.Loads.{named_of, new_of, filled_table, Loads, LoadCause, UnreadOnly, ToldFor};
 
 use crate::faults::{narrow_fault, range_fault};
@@ -124,8 +124,8 @@ fn dataset_extents(
 ) -> Result<Extents, StepFault>
     requires words { shape.now ≡ words.now }
     requires is_shape { IsShape words.now }
-    ensures extents { Gives (λ extents. extents) result (resolved words.now (Some (length (rows_of (records_of bytes.now))))) }
-    ensures rows { IfOk result (λ extents. length (indices extents) ≡ length (rows_of (records_of bytes.now))) }
+    ensures extents { Gives (λ extents. extents) result (resolved words.now (Some (length (records_behind (csv_records bytes.now))))) }
+    ensures rows { IfOk result (λ extents. length (indices extents) ≡ length (records_behind (csv_records bytes.now))) }
 {
     let rows = count_rows(alloc, bytes)?;
     let extents = resolved(shape, words, Some(rows))?;
@@ -139,8 +139,8 @@ fn fill<L: Ledger>(
     bytes: &[u8],
     steps: &mut Steps<L>,
 ) -> Result<(), StepFault>
-    requires { length view.old.rows ≡ length (rows_of (records_of bytes.now)) }
-    ensures { Gives (λ done. view.new) result (filled view.old (records_of bytes.now)) }
+    requires { length view.old.rows ≡ length (records_behind (csv_records bytes.now)) }
+    ensures { Gives (λ done. view.new) result (filled view.old (csv_records bytes.now)) }
 {
     match load_rows(alloc, bytes, view, steps) {
         Ok(()) => Ok(()),

@@ -1,6 +1,6 @@
 // Numbers as lines.
 ghost use Rattle.std.specs.Prelude.{pos, flat_map};
-ghost use Rattle.layout_io.specs.Parts.{text_of_part};
+ghost use Rattle.layout_io.specs.Inner.Parts.{text_of_part};
 ghost use Rattle.layout_io.specs.Writing.{Writes};
 ghost use Rattle.worlds.specs.Texts.{number_line};
 

@@ -3,10 +3,10 @@ ghost use Rattle.std.specs.Prelude.{◌≡◌, true, List, Some, map};
 ghost use Rattle.layout_io.specs.Faults.{Rose};
 ghost use Rattle.layout_io.specs.Files.{File};
 ghost use Rattle.worlds.specs.Files.{open_view, opened_table};
-ghost use Rattle.command_checks.specs.Entries.{view_of};
-ghost use Rattle.command_checks.specs.Gives.{Gives};
+ghost use Rattle.command_checks.specs.SessionEntries.{view_of};
+ghost use Rattle.command_checks.specs.Inner.Gives.{Gives};
 ghost use Rattle.session.specs.Loads.{Loads, LoadCause, UnreadOnly, ToldFor};
-ghost use Rattle.session.specs.Opens.{file_fault, placed_table, with_room};
+ghost use Rattle.session.specs.Inner.Opens.{file_fault, placed_table, with_room};
 
 use crate::files::file_bytes;
 use crate::session::Session;

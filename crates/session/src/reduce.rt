@@ -5,8 +5,8 @@ ghost use Rattle.views.specs.Tables.{leaf_count_of, after_log};
 ghost use Rattle.worlds.specs.OnView.{done_to};
 ghost use Rattle.worlds.specs.Texts.{number_line};
 ghost use Rattle.worlds.specs.Reduce.{form_of, reduced, reduction, column, column_log, counting};
-ghost use Rattle.command_checks.specs.Gives.{Gives};
-ghost use Rattle.session.specs.Changes.{left_with};
+ghost use Rattle.command_checks.specs.Inner.Gives.{Gives};
+ghost use Rattle.session.specs.Inner.Changes.{left_with};
 
 use crate::numbers::{write_count, write_number};
 use crate::update::update_fault;

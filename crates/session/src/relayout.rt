@@ -2,12 +2,12 @@
 ghost use Rattle.std.specs.Prelude.{◌≡◌, ◌<◌, IfOk, length, map, slice_index_or, true};
 ghost use Rattle.map_expr.specs.Terms.{term_of};
 ghost use Rattle.worlds.specs.Copy.{copied, relayout};
-ghost use Rattle.command_checks.specs.Bases.{is_nameless};
-ghost use Rattle.command_checks.specs.Entries.{view_of};
-ghost use Rattle.command_checks.specs.Gives.{Gives};
+ghost use Rattle.command_checks.specs.Inner.Bases.{is_nameless};
+ghost use Rattle.command_checks.specs.SessionEntries.{view_of};
+ghost use Rattle.command_checks.specs.Inner.Gives.{Gives};
 ghost use Rattle.command_checks.specs.declared.entries.ViewEntry.{ViewEntry};
 ghost use Rattle.session.specs.Bounds.{IsWithin, WithinRelayout};
-ghost use Rattle.session.specs.Changes.{made_like, zeros_like};
+ghost use Rattle.session.specs.Inner.Changes.{made_like, zeros_like};
 
 use crate::copy::copy_into;
 use crate::session::Session;

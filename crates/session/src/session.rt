@@ -1,7 +1,7 @@
 ghost use Rattle.std.specs.Prelude.{◌≡◌, Bool, true, List, None};
 ghost use Rattle.layout_io.specs.Faults.{Rose};
 ghost use Rattle.layout_io.specs.Files.{File};
-ghost use Rattle.line_grammar.specs.Sentences.{sentence_of, file_of};
+ghost use Rattle.line_grammar.specs.Sentences.{sentence_of, file_read_by};
 ghost use Rattle.worlds.specs.Answers.{StepsTo, StepCause};
 ghost use Rattle.worlds.specs.OnView.{on_view};
 ghost use Rattle.worlds.specs.Step.{step, command};
@@ -68,11 +68,11 @@ impl Session {
     ) -> Result<Session, StepFault>
         requires { IsFit line.now }
         ensures step { (files : List File) → ToldFor (H.files shelf.old) (step (world_of self) (sentence_of line.now) files true) files
-            → StepsTo (ending_of (file_of (sentence_of line.now))) Stands K.taken K.faults out.old out.new (step (world_of self) (sentence_of line.now) files)
+            → StepsTo (ending_of (file_read_by (sentence_of line.now))) Stands K.taken K.faults out.old out.new (step (world_of self) (sentence_of line.now) files)
             (Rose (H.faults shelf.old) (H.faults shelf.new)) result }
         ensures files { H.files shelf.new ≡ H.files shelf.old }
-        ensures cause { StepCause (ending_of (file_of (sentence_of line.now))) (H.files shelf.old) (H.faults shelf.old) (H.faults shelf.new) (K.faults out.old) (K.faults out.new) result }
-        ensures unread { UnreadOnly (file_of (sentence_of line.now)) (step (world_of self) (sentence_of line.now)) result }
+        ensures cause { StepCause (ending_of (file_read_by (sentence_of line.now))) (H.files shelf.old) (H.faults shelf.old) (H.faults shelf.new) (K.faults out.old) (K.faults out.new) result }
+        ensures unread { UnreadOnly (file_read_by (sentence_of line.now)) (step (world_of self) (sentence_of line.now)) result }
         ensures untaken { TookNone K.taken out.old out.new result }
         ensures bound { WithinSteps (world_of self) (sentence_of line.now) steps.old steps.new }
     {
@@ -101,7 +101,7 @@ impl Session {
         steps: &mut Steps<L>,
     ) -> Result<Session, StepFault>
         requires fit { IsFit line.now }
-        requires no_file { file_of (sentence_of line.now) ≡ None }
+        requires no_file { file_read_by (sentence_of line.now) ≡ None }
         ensures answers { (files : List File) (unread : Bool) → Answers Stands K.taken K.faults out.old out.new
             (command (world_of self) (sentence_of line.now) files unread) result }
         ensures bound { WithinSteps (world_of self) (sentence_of line.now) steps.old steps.new }

@@ -2,12 +2,12 @@
 ghost use Rattle.std.specs.Prelude.{◌≡◌, ◌++◌, All, IfOk, OnOk};
 ghost use Rattle.blobs.specs.Bits.{bits_of};
 ghost use Rattle.instrument.specs.BlobTexts.{bytes_of, bytes_text};
-ghost use Rattle.places.specs.Runs.{IsOwnerBelow};
+ghost use Rattle.places.specs.RunOwners.{IsOwnerBelow};
 ghost use Rattle.views.specs.Tables.{leaf_count_of, owners_of};
 ghost use Rattle.worlds.specs.OnView.{tells};
 ghost use Rattle.worlds.specs.Outcomes.{Goes};
 ghost use Rattle.worlds.specs.Show.{print, counts, heat, layout, small, all_runs, bytes, drop_view};
-ghost use Rattle.command_checks.specs.Gives.{Gives};
+ghost use Rattle.command_checks.specs.Inner.Gives.{Gives};
 
 use crate::session::Session;
 use crate::work::Work;

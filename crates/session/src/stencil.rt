@@ -3,9 +3,9 @@ ghost use Rattle.std.specs.Prelude.{◌≡◌, ◌*◌, IfOk, []};
 ghost use Rattle.subviews.specs.Plans.{IsBufferOf};
 ghost use Rattle.worlds.specs.OnView.{done_to};
 ghost use Rattle.worlds.specs.Stencil.{room_beside, stencil_fault, stencil_rounds, stencil_run};
-ghost use Rattle.command_checks.specs.Gives.{Gives};
-ghost use Rattle.command_checks.specs.Stencils.{IsStencilOf, stencil_of};
-ghost use Rattle.session.specs.Changes.{Tells, left_with};
+ghost use Rattle.command_checks.specs.Inner.Gives.{Gives};
+ghost use Rattle.command_checks.specs.Inner.Stencils.{IsStencilOf, stencil_of};
+ghost use Rattle.session.specs.Inner.Changes.{Tells, left_with};
 
 use crate::faults::{narrow_fault, range_fault};
 use crate::work::Work;

@@ -5,12 +5,12 @@ ghost use Rattle.expr_lang.specs.Bounds.{bound_term};
 ghost use Rattle.expr_lang.specs.Terms.{term_of};
 ghost use Rattle.record_dim.specs.Schemas.{schema_fields};
 ghost use Rattle.line_grammar.specs.Sentences.{assignment_of};
-ghost use Rattle.row_updates.specs.Rows.{IsOver, IsSetOf, setting_of, filter_term};
+ghost use Rattle.row_updates.specs.Rows.{IsBoundOver, IsSetOf, setting_of, filter_term};
 ghost use Rattle.worlds.specs.Names.{bound_filter, bound_set, bound_sets, each_once, leaves_of};
 ghost use Rattle.worlds.specs.OnView.{done_to};
 ghost use Rattle.worlds.specs.Update.{updated, update_fault};
-ghost use Rattle.command_checks.specs.Gives.{Gives};
-ghost use Rattle.session.specs.Changes.{Tells, rows_updated, left_with};
+ghost use Rattle.command_checks.specs.Inner.Gives.{Gives};
+ghost use Rattle.session.specs.Inner.Changes.{Tells, rows_updated, left_with};
 
 use crate::faults::{narrow_fault, range_fault};
 use crate::work::Work;
@@ -73,7 +73,7 @@ fn update_all<L: Ledger>(
     sets: &[Assign],
     steps: &mut Steps<L>,
 ) -> Result<(), StepFault>
-    requires filter { IfSome filter (λ bound. IsOver view.old bound.now) }
+    requires filter { IfSome filter (λ bound. IsBoundOver view.old bound.now) }
     requires sets { All (IsSetOf view.old) sets.now }
     requires few { length sets.now ≤ 64 }
     ensures { Gives (λ done. left_with view.new []) result
@@ -93,7 +93,7 @@ pub fn bound_filter(
 ) -> Result<Option<Bound>, StepFault>
     ensures filter { Gives (λ filter. option_map bound_term filter) result
         (bound_filter view.now.fields (length view.now.extents) (option_map term_of filter.now)) }
-    ensures over { IfOk result (λ filter. IfSome filter (IsOver view.now)) }
+    ensures over { IfOk result (λ filter. IfSome filter (IsBoundOver view.now)) }
 {
     match filter {
         None => Ok(None),

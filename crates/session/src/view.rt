@@ -3,8 +3,8 @@ ghost use Rattle.std.specs.Prelude.{◌≡◌, ◌<◌, IfOk, IfErr, OnOk, true,
 ghost use Rattle.extents.specs.Shapes.{IsShape};
 ghost use Rattle.map_expr.specs.Terms.{term_of};
 ghost use Rattle.worlds.specs.View.{named, new_table, view, with_view};
-ghost use Rattle.command_checks.specs.Bases.{is_nameless};
-ghost use Rattle.command_checks.specs.Gives.{Gives};
+ghost use Rattle.command_checks.specs.Inner.Bases.{is_nameless};
+ghost use Rattle.command_checks.specs.Inner.Gives.{Gives};
 
 use crate::session::Session;
 use blob_file::mode_by;

@@ -8,7 +8,7 @@ ghost use Rattle.command_checks.specs.declared.entries.RecordEntry.{RecordEntry}
 ghost use Rattle.command_checks.specs.declared.mapping_entry.MappingEntry.{MappingEntry};
 ghost use Rattle.session.specs.Answers.{Answers};
 ghost use Rattle.session.specs.Bounds.{Within, most_on};
-ghost use Rattle.session.specs.Changes.{IsLeft};
+ghost use Rattle.session.specs.Inner.Changes.{IsLeft};
 ghost use Rattle.session.specs.Stands.{AreLeft, world_in};
 
 use command_checks::{StepFault, ViewList, known_view};

@@ -1,31 +1,31 @@
 -- The version line of lines, by their first: what it says of the lines before it and behind it.
-use Rattle.session_runs.proofs.Imports.{◌≡◌, ℕ, suc, ◌+◌, ◌≤◌, ltb, Bool, true, false, List, [], ◌∷◌, length, drop, Option, None, Some, option_map, refl, sym, ap, subst, ◌∙◌, arith, add-one, zero-add, drop-drop, if◌then◌else◌, slice_set, nat_tests, File, Version, version_of, is_blank, World, run_from, step_text, version_line, passes_blanks, one_later, by_first}
+use Rattle.session_runs.proofs.Imports.{◌≡◌, ℕ, suc, ◌+◌, ◌≤◌, ltb, Bool, true, false, List, [], ◌∷◌, length, drop, Option, None, Some, option_map, refl, sym, ap, subst, ◌∙◌, arith, add-one, zero-add, drop-drop, if◌then◌else◌, slice_set, nat_tests, File, Version, version_of, is_blank_line, World, run_from, step_text, version_line, passes_blanks, one_later, by_first}
 
 -- where lines have a version line, the first of them is it, or is blank
 data Head (line : List ℕ) (lines : List (List ℕ)) : Option (ℕ × ℕ) → Type 0 where
   none : Head line lines None
   here : (number : ℕ) → Head line lines (Some (0, number))
-  later : (found : ℕ × ℕ) → length line ≤ 4096 → is_blank line ≡ true → version_line lines ≡ Some found → Head line lines (Some (one_later found))
+  later : (found : ℕ × ℕ) → length line ≤ 4096 → is_blank_line line ≡ true → version_line lines ≡ Some found → Head line lines (Some (one_later found))
 
 module _ (line : List ℕ) (lines : List (List ℕ)) where
   of_said : (said : Option ℕ) → Head line lines (option_map (λ number. (0, number)) said)
   of_said None = none
   of_said (Some number) = here number
 
-  of_more : (more : Option (ℕ × ℕ)) → version_line lines ≡ more → length line ≤ 4096 → is_blank line ≡ true → Head line lines (option_map one_later more)
+  of_more : (more : Option (ℕ × ℕ)) → version_line lines ≡ more → length line ≤ 4096 → is_blank_line line ≡ true → Head line lines (option_map one_later more)
   of_more None is short blank = none
   of_more (Some found) is short blank = later found short blank is
 
-  of_blank : (b : Bool) → is_blank line ≡ b → length line ≤ 4096 → Head line lines (if b then option_map one_later (version_line lines) else option_map (λ number. (0, number)) (version_of line))
+  of_blank : (b : Bool) → is_blank_line line ≡ b → length line ≤ 4096 → Head line lines (if b then option_map one_later (version_line lines) else option_map (λ number. (0, number)) (version_of line))
   of_blank true is short = of_more (version_line lines) refl short is
   of_blank false is short = of_said (version_of line)
 
   short : ltb 4096 (length line) ≡ false → length line ≤ 4096
   short is = grind (arith, nat_tests)
 
-  of_long : (b : Bool) → ltb 4096 (length line) ≡ b → Head line lines (by_first b (is_blank line) (version_of line) (version_line lines))
+  of_long : (b : Bool) → ltb 4096 (length line) ≡ b → Head line lines (by_first b (is_blank_line line) (version_of line) (version_line lines))
   of_long true is = none
-  of_long false is = of_blank (is_blank line) refl (short is)
+  of_long false is = of_blank (is_blank_line line) refl (short is)
 
   head_of : Head line lines (version_line (line ∷ lines))
   head_of = of_long (ltb 4096 (length line)) refl

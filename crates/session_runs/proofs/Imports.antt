@@ -4,7 +4,7 @@ pub use Rattle.std.specs.Prelude.{if◌then◌else◌, slice_set, ◌⊎◌, IsS
 pub use Rattle.std.proofs.lemmas.Bool.Decides.{nat_tests}
 pub use Rattle.layout_io.specs.Files.{File}
 pub use Rattle.line_grammar.specs.declared.version.Version.{Version}
-pub use Rattle.schema_lang.specs.VersionOf.{version_of, is_blank}
+pub use Rattle.schema_lang.specs.VersionOf.{version_of, is_blank_line}
 pub use Rattle.worlds.specs.Worlds.{World, empty}
 pub use Rattle.worlds.specs.Fold.{run_from}
 pub use Rattle.layout_io.specs.Writing.{Writes}
@@ -12,18 +12,18 @@ pub use Rattle.worlds.specs.FaultTexts.{fault_text}
 pub use Rattle.worlds.specs.declared.fault.CommandFault.{CommandFault as Fault}
 pub use Rattle.worlds.specs.declared.fault.CommandFault.TheVariants.{ScriptTooLong, BadVersion, LineTooLong, TooDeep}
 pub use Rattle.worlds.specs.Outcome.{Output}
-pub use Rattle.worlds.specs.RunAnswers.{IsRun, ended}
+pub use Rattle.worlds.specs.RunAnswers.{IsRun, ended_status}
 pub use Rattle.worlds.specs.declared.status.Status.{Status}
 pub use Rattle.worlds.specs.declared.status.Status.TheVariants.{CommandFault}
 pub use Rattle.line_grammar.specs.Versions.{version_numbered}
 pub use Rattle.line_grammar.specs.declared.version.Version.TheVariants.{One}
 pub use Rattle.layout_io.specs.Faults.{Rose}
-pub use Rattle.line_grammar.specs.Sentences.{Sentence, deepest, sentence_of, file_of}
+pub use Rattle.line_grammar.specs.Sentences.{Sentence, deepest, sentence_of, file_read_by}
 pub use Rattle.line_grammar.specs.declared.line.Line.{Line}
 pub use Rattle.schema_lang.specs.LineOf.{line_of}
-pub use Rattle.schema_lang.specs.Parsing.{IsWhole}
+pub use Rattle.schema_lang.specs.Parsing.{HasItsFields}
 pub use Rattle.command_checks.specs.declared.fault.StepFault.{StepFault}
-pub use Rattle.worlds.specs.Steps.{ending_of}
+pub use Rattle.worlds.specs.Inner.Steps.{ending_of}
 pub use Rattle.worlds.specs.declared.fold.LineEnd.{LineEnd}
 pub use Rattle.session.specs.Answers.{IsFit, ending_of as fault_ending}
 pub use Rattle.session.specs.Loads.{UnreadOnly}

@@ -1,9 +1,9 @@
 -- From the run over the lines of a script to the run of the script.
-use Rattle.session_runs.proofs.Imports.{◌≡◌, ℕ, ◌+◌, ◌≤◌, ◌<◌, inl, Bool, true, false, ltb, List, length, take, drop, Option, None, Some, Result, Ok, Err, refl, ap, ◌∙◌, arith, if◌then◌else◌, nat_tests, File, Writes, empty, fault_text, Fault, ScriptTooLong, BadVersion, Output, IsRun, ended, run_from, Status, CommandFault, version_numbered, Version, One, step_text, run_form, run_headed, run_versioned, faulted, script_lines, version_line, run_of_same, same_runs}
+use Rattle.session_runs.proofs.Imports.{◌≡◌, ℕ, ◌+◌, ◌≤◌, ◌<◌, inl, Bool, true, false, ltb, List, length, take, drop, Option, None, Some, Result, Ok, Err, refl, ap, ◌∙◌, arith, if◌then◌else◌, nat_tests, File, Writes, empty, fault_text, Fault, ScriptTooLong, BadVersion, Output, IsRun, ended_status, run_from, Status, CommandFault, version_numbered, Version, One, step_text, run_form, run_headed, run_versioned, faulted, script_lines, version_line, run_of_same, same_runs}
 use Rattle.session_runs.proofs.Heads.{skips}
 
 -- a run that is a fault alone
-run_faulted : {K T E : Type 0} (taken : K → Option (List ℕ)) (faults : K → ℕ) (old new : K) (run : Option ℕ → Output) (read_failed : Type 0) (line : ℕ) (fault : Fault) (written : Result T E) → run None ≡ faulted line fault → Writes taken faults old new written (fault_text line fault) → IsRun taken old new run read_failed (ended written CommandFault)
+run_faulted : {K T E : Type 0} (taken : K → Option (List ℕ)) (faults : K → ℕ) (old new : K) (run : Option ℕ → Output) (read_failed : Type 0) (line : ℕ) (fault : Fault) (written : Result T E) → run None ≡ faulted line fault → Writes taken faults old new written (fault_text line fault) → IsRun taken old new run read_failed (ended_status written CommandFault)
 run_faulted taken faults old new run read_failed line fault (Ok done) is wrote = record { out = fault_text line fault; bytes = wrote.bytes; answer = is }
 run_faulted taken faults old new run read_failed line fault (Err failed) is stopped = record {
   out = take stopped.count (fault_text line fault);
@@ -12,7 +12,7 @@ run_faulted taken faults old new run read_failed line fault (Err failed) is stop
 }
 
 -- a script of too many lines
-pub run_long : {K T E : Type 0} (taken : K → Option (List ℕ)) (faults : K → ℕ) (old new : K) (script : List ℕ) (files : List File) (read_failed : Type 0) (written : Result T E) → 65536 < length (script_lines script) → Writes taken faults old new written (fault_text 0 ScriptTooLong) → IsRun taken old new (run_form script files) read_failed (ended written CommandFault)
+pub run_long : {K T E : Type 0} (taken : K → Option (List ℕ)) (faults : K → ℕ) (old new : K) (script : List ℕ) (files : List File) (read_failed : Type 0) (written : Result T E) → 65536 < length (script_lines script) → Writes taken faults old new written (fault_text 0 ScriptTooLong) → IsRun taken old new (run_form script files) read_failed (ended_status written CommandFault)
 unfolding run_form
 run_long taken faults old new script files read_failed written long writes =
     let over : ltb 65536 (length (script_lines script)) ≡ true = grind (arith, nat_tests) in
@@ -50,7 +50,7 @@ run_behind_head taken old new lines files read_failed status found version is sa
 
 -- lines with a version line of a number that is no version
 pub run_unknown : {K T E : Type 0} (taken : K → Option (List ℕ)) (faults : K → ℕ) (old new : K) (lines : List (List ℕ)) (files : List File) (read_failed : Type 0) (found : ℕ × ℕ) (written : Result T E) → version_line lines ≡ Some found → version_numbered found.1 ≡ None
-    → Writes taken faults old new written (fault_text (found.0 + 1) BadVersion) → IsRun taken old new (run_headed (version_line lines) files lines) read_failed (ended written CommandFault)
+    → Writes taken faults old new written (fault_text (found.0 + 1) BadVersion) → IsRun taken old new (run_headed (version_line lines) files lines) read_failed (ended_status written CommandFault)
 run_unknown taken faults old new lines files read_failed found written is said writes =
     let fault : run_headed (version_line lines) files lines None ≡ faulted (found.0 + 1) BadVersion =
     ap (λ (head : Option (ℕ × ℕ)). run_headed head files lines None) is ∙ ap (λ (v : Option Version). run_versioned v (Some found) files lines None) said in

@@ -1,5 +1,5 @@
 -- From the line that a text is to the text.
-use Rattle.session_runs.proofs.Imports.{◌≡◌, ℕ, ◌≤◌, ltb, Bool, false, List, length, Option, None, Some, Result, Ok, Err, refl, sym, ap, subst, ◌∙◌, arith, ◌⊎◌, if◌then◌else◌, IsSome, nat_tests, Rose, File, Sentence, deepest, Line, Version, line_of, IsWhole, StepFault, ending_of, LineEnd, IsFit, fault_ending, UnreadOnly, World, Unread, Unreadable, EndsBy, EndCause, Outcome, Faults, Left, step, LineTooLong, TooDeep, step_text, step_line, EndsAs, TellsFile}
+use Rattle.session_runs.proofs.Imports.{◌≡◌, ℕ, ◌≤◌, ltb, Bool, false, List, length, Option, None, Some, Result, Ok, Err, refl, sym, ap, subst, ◌∙◌, arith, ◌⊎◌, if◌then◌else◌, IsSome, nat_tests, Rose, File, Sentence, deepest, Line, Version, line_of, HasItsFields, StepFault, ending_of, LineEnd, IsFit, fault_ending, UnreadOnly, World, Unread, Unreadable, EndsBy, EndCause, Outcome, Faults, Left, step, LineTooLong, TooDeep, step_text, step_line, EndsAs, TellsFile}
 use Rattle.line_grammar.specs.declared.line.Line.TheVariants as line
 use Rattle.command_checks.specs.declared.fault.StepFault.TheVariants as fault
 use Rattle.worlds.specs.declared.fold.LineEnd.TheVariants as end
@@ -25,7 +25,7 @@ told_unread taken faults old new name file outcome read_failed (end.Command refu
 told_unread taken faults old new name file outcome read_failed end.Sink is tells unread = absurd tells
 
 -- a line that is whole is fit for a session
-pub fit_of_whole : (l : Line) → IsWhole l → IsFit l
+pub fit_of_whole : (l : Line) → HasItsFields l → IsFit l
 fit_of_whole (line.Define name dim) whole = whole
 fit_of_whole _ whole = tt
 

@@ -2,7 +2,7 @@
 use Rattle.std.proofs.Common.{◌≡◌, ℕ, ◌+◌, ◌<◌, ◌≤◌, ltb, Bool, true, false, List, ◌∷◌, length, Option, None, option_map, ap, ◌∙◌, arith}
 use Rattle.std.specs.Prelude.{if◌then◌else◌}
 use Rattle.std.proofs.lemmas.Bool.Decides.{nat_tests}
-use Rattle.schema_lang.specs.VersionOf.{version_of, is_blank}
+use Rattle.schema_lang.specs.VersionOf.{version_of, is_blank_line}
 use Rattle.session_runs.specs.Scripts.{version_line}
 
 -- the version line behind a blank line
@@ -21,18 +21,18 @@ within n short = grind (arith, nat_tests)
 
 -- a first line that is too long
 pub long_first : (line : List ℕ) (lines : List (List ℕ)) → 4096 < length line → version_line (line ∷ lines) ≡ None
-long_first line lines long = ap (λ (b : Bool). by_first b (is_blank line) (version_of line) (version_line lines)) (over (length line) long)
+long_first line lines long = ap (λ (b : Bool). by_first b (is_blank_line line) (version_of line) (version_line lines)) (over (length line) long)
 
 -- a blank one
-pub blank_first : (line : List ℕ) (lines : List (List ℕ)) → length line ≤ 4096 → is_blank line ≡ true → version_line (line ∷ lines) ≡ option_map one_later (version_line lines)
+pub blank_first : (line : List ℕ) (lines : List (List ℕ)) → length line ≤ 4096 → is_blank_line line ≡ true → version_line (line ∷ lines) ≡ option_map one_later (version_line lines)
 blank_first line lines short blank =
-    ap (λ (b : Bool). by_first b (is_blank line) (version_of line) (version_line lines)) (within (length line) short)
+    ap (λ (b : Bool). by_first b (is_blank_line line) (version_of line) (version_line lines)) (within (length line) short)
     ∙ ap (λ (b : Bool). by_first false b (version_of line) (version_line lines)) blank
 
 -- any other
-pub said_first : (line : List ℕ) (lines : List (List ℕ)) (said : Option ℕ) → length line ≤ 4096 → is_blank line ≡ false → version_of line ≡ said
+pub said_first : (line : List ℕ) (lines : List (List ℕ)) (said : Option ℕ) → length line ≤ 4096 → is_blank_line line ≡ false → version_of line ≡ said
     → version_line (line ∷ lines) ≡ option_map (λ number. (0, number)) said
 said_first line lines said short blank is =
-    ap (λ (b : Bool). by_first b (is_blank line) (version_of line) (version_line lines)) (within (length line) short)
+    ap (λ (b : Bool). by_first b (is_blank_line line) (version_of line) (version_line lines)) (within (length line) short)
     ∙ ap (λ (b : Bool). by_first false b (version_of line) (version_line lines)) blank
     ∙ ap (λ (o : Option ℕ). by_first false false o (version_line lines)) is

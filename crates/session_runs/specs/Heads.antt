@@ -3,7 +3,7 @@ use Rattle.std.specs.Prelude.{ℕ, ◌≡◌, ◌+◌, ◌≤◌, true, List, �
 use Rattle.layout_io.specs.Files.{File}
 use Rattle.line_grammar.specs.declared.version.Version.{Version}
 use Rattle.line_grammar.specs.declared.version.Version.TheVariants.{One}
-use Rattle.schema_lang.specs.VersionOf.{is_blank}
+use Rattle.schema_lang.specs.VersionOf.{is_blank_line}
 use Rattle.worlds.specs.Worlds.{World, empty}
 use Rattle.worlds.specs.declared.fault.CommandFault.TheVariants.{ScriptTooLong}
 use Rattle.worlds.specs.Fold.{run_from}
@@ -21,7 +21,7 @@ with_first Other more = None
 -- a blank line does nothing in a run, whatever stands behind it: its number is counted
 abbrev pub PassesBlanks : Version → List File → Type 0
 PassesBlanks version files =
-    (number : ℕ) (world : World) (line : List ℕ) (lines : List (List ℕ)) (unread : Option ℕ) → length line ≤ 4096 → is_blank line ≡ true
+    (number : ℕ) (world : World) (line : List ℕ) (lines : List (List ℕ)) (unread : Option ℕ) → length line ≤ 4096 → is_blank_line line ≡ true
     → run_from (step_text version files) number world (line ∷ lines) unread ≡ run_from (step_text version files) (number + 1) world lines unread
 
 -- a script whose first line that is not blank is no version line is run line by line in the first version

@@ -5,7 +5,7 @@ use Rattle.layout_io.specs.Files.{File}
 use Rattle.line_grammar.specs.declared.version.Version.{Version}
 use Rattle.line_grammar.specs.declared.version.Version.TheVariants.{One}
 use Rattle.line_grammar.specs.Versions.{version_numbered}
-use Rattle.schema_lang.specs.VersionOf.{version_of, is_blank}
+use Rattle.schema_lang.specs.VersionOf.{version_of, is_blank_line}
 use Rattle.worlds.specs.Worlds.{empty}
 use Rattle.worlds.specs.FaultTexts.{fault_text}
 use Rattle.worlds.specs.declared.fault.CommandFault.{CommandFault}
@@ -28,7 +28,7 @@ abbrev pub version_line : List (List ℕ) → Option (ℕ × ℕ)
 version_line [] = None
 version_line (line ∷ lines) =
     if nat_lt 4096 (length line) then None
-    else (if is_blank line then option_map (λ found. (found.0 + 1, found.1)) (version_line lines) else option_map (λ number. (0, number)) (version_of line))
+    else (if is_blank_line line then option_map (λ found. (found.0 + 1, found.1)) (version_line lines) else option_map (λ number. (0, number)) (version_of line))
 
 -- the version in which lines are read: the first, where they have no version line
 abbrev pub version_said : Option (ℕ × ℕ) → Option Version

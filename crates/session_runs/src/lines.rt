@@ -2,9 +2,9 @@
 ghost use Rattle.std.specs.Prelude.{◌≡◌, IfOk, IsSome, List, Some};
 ghost use Rattle.layout_io.specs.Faults.{Rose};
 ghost use Rattle.layout_io.specs.Files.{File};
-ghost use Rattle.line_grammar.specs.Sentences.{sentence_of, file_of};
-ghost use Rattle.schema_lang.specs.Parsing.{IsWhole};
-ghost use Rattle.worlds.specs.Steps.{ending_of};
+ghost use Rattle.line_grammar.specs.Sentences.{sentence_of, file_read_by};
+ghost use Rattle.schema_lang.specs.Parsing.{HasItsFields};
+ghost use Rattle.worlds.specs.Inner.Steps.{ending_of};
 ghost use Rattle.session.specs.Stands.{Stands};
 ghost use Rattle.worlds.specs.Answers.{StepsTo, StepCause};
 ghost use Rattle.worlds.specs.Step.{step};
@@ -96,7 +96,7 @@ fn do_command<H: Shelf, K: Sink, L: Ledger>(
     sink: &mut K,
     steps: &mut Steps<L>,
 ) -> Result<Session, LineEnd>
-    requires { IsWhole line.now }
+    requires { HasItsFields line.now }
     ensures step { (files : List File) (world : World) → H.files shelf.old ≡ Some files → Stands session world
         → StepsTo ending_of Stands K.taken K.faults sink.old sink.new (step world (sentence_of line.now) files)
         (Rose (H.faults shelf.old) (H.faults shelf.new)) result }
@@ -112,8 +112,8 @@ fn do_command<H: Shelf, K: Sink, L: Ledger>(
 
 // The end of the run at a line that is refused so.
 fn line_end(alloc: Global, line: &Line, fault: StepFault) -> LineEnd
-    requires { fault ≡ StepFault.Source → IsSome (file_of (sentence_of line.now)) }
-    ensures { EndsAs (file_of (sentence_of line.now)) fault result }
+    requires { fault ≡ StepFault.Source → IsSome (file_read_by (sentence_of line.now)) }
+    ensures { EndsAs (file_read_by (sentence_of line.now)) fault result }
 {
     match fault {
         StepFault::Command(fault) => LineEnd::Command(fault),

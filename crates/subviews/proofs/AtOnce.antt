@@ -1,5 +1,5 @@
 -- Rows of a leaf that are read or stored at once.
-use Rattle.subviews.proofs.Imports.{◌≡◌, ℕ, zero, suc, ◌+◌, ◌<◌, ◌≤◌, true, ℤ, pos, List, [], ◌∷◌, ◌++◌, length, map, take, drop, get_or, Option, Some, None, Result, Ok, Err, is_ok, refl, ap, sym, ◌∙◌, arith, option_or, length-map, length-take-le, length-drop, get_or-map, get_or-take, get_or-drop, map-range_with_len_more, low_64, entry, with_entry, column, column_writes, in_leaf, lane_fault, first_lane_fault, no_column, entry_more, run_of, told_lane, stored_count, Answer, Write, after_log-none, after_stores-append, Table, after_stores, LaneFault, StoreFault}
+use Rattle.subviews.proofs.Imports.{◌≡◌, ℕ, zero, suc, ◌+◌, ◌<◌, ◌≤◌, true, ℤ, pos, List, [], ◌∷◌, ◌++◌, length, map, take, drop, get_or, Option, Some, None, Result, Ok, Err, is_ok, refl, ap, sym, ◌∙◌, arith, option_or, length-map, length-take-le, length-drop, get_or-map, get_or-take, get_or-drop, map-range_with_len_more, low_64, entry, with_entry, column, column_writes, in_leaf, lane_fault, first_lane_fault, no_column, entry_more, run_of, told_lane, stored_count, StoreAnswer, Write, after_log-none, after_stores-append, Table, after_stores, LaneFault, StoreFault}
 use Rattle.views.specs.Columns.{with_column}
 
 -- ---- values that are read
@@ -40,12 +40,12 @@ one_of_run table leaf first values n low inside =
 
 -- ---- values up to the first that is not taken
 
-pub record AreTaken (answer : Answer) (leaf lane : ℕ) (values : List ℤ) (end : ℕ) : Type 0 where
+pub record AreTaken (answer : StoreAnswer) (leaf lane : ℕ) (values : List ℤ) (end : ℕ) : Type 0 where
   pub from : lane ≤ end
   pub few : end ≤ lane + length values
   pub taken : (k : ℕ) → lane + k < end → is_ok (answer leaf (get_or values k (pos 0))) ≡ true
 
-pub are_taken : (answer : Answer) (leaf lane : ℕ) (values : List ℤ) (all : ℕ) → lane + length values ≡ all → AreTaken answer leaf lane values (stored_count all (first_lane_fault answer leaf lane values))
+pub are_taken : (answer : StoreAnswer) (leaf lane : ℕ) (values : List ℤ) (all : ℕ) → lane + length values ≡ all → AreTaken answer leaf lane values (stored_count all (first_lane_fault answer leaf lane values))
 are_taken answer leaf lane [] all is = record { from = omega (arith, is); few = omega (arith, is); taken = λ k low. absurd (omega (arith, is, low)) }
 are_taken answer leaf lane (value ∷ values) all is = of (answer leaf value) refl (are_taken answer leaf (lane + 1) values all (omega (arith, is))) where
   of : (one : Result ℤ StoreFault) → answer leaf value ≡ one → AreTaken answer leaf (lane + 1) values (stored_count all (first_lane_fault answer leaf (lane + 1) values))

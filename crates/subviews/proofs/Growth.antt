@@ -1,5 +1,5 @@
 -- The rows of a window grow, so those between two that lie as far apart as their places lie one behind another.
-use Rattle.subviews.proofs.Imports.{◌≡◌, ℕ, zero, suc, ◌+◌, ◌-◌, ◌<◌, ◌≤◌, Bool, true, false, List, [], ◌∷◌, length, map, get_or, filter, Some, ap, subst, ◌∙◌, arith, slice_get, if◌then◌else◌, enumerate_from, slice_get-get_or, slice_get_within, indices, holds, numbers_of, WindowOf, rows_of, IsRun, IsRunOf, Run}
+use Rattle.subviews.proofs.Imports.{◌≡◌, ℕ, zero, suc, ◌+◌, ◌-◌, ◌<◌, ◌≤◌, Bool, true, false, List, [], ◌∷◌, length, map, get_or, filter, Some, ap, subst, ◌∙◌, arith, slice_get, if◌then◌else◌, enumerate_from, slice_get-get_or, slice_get_within, indices, holds, numbers_of, WindowOf, rows_of, AreConsecutive, IsRunOf, Run}
 use Rattle.subviews.proofs.Ways.{row_held, row_inside}
 
 -- none is below the first number
@@ -35,7 +35,7 @@ rows_grow window j k one two at there = number_grows (holds window.1) 0 (indices
 
 -- the rows between two ends
 pub run_between : (window : WindowOf) (row last first end : ℕ) → row ≤ last → slice_get (rows_of window) row ≡ Some first → slice_get (rows_of window) last ≡ Some end → end ≡ first + (last - row)
-    → IsRun (rows_of window) row first (last - row + 1)
+    → AreConsecutive (rows_of window) row first (last - row + 1)
 run_between window row last first end ordered at there apart = λ k low.
     let numbers = rows_of window in
     let one = get_or numbers (row + k) 0 in
@@ -47,14 +47,14 @@ run_between window row last first end ordered at there apart = λ k low.
     here ∙ ap (λ (m : ℕ). Some m) same
 
 -- behind its first rows
-pub run_behind : (numbers : List ℕ) (row first count rows : ℕ) → IsRun numbers row first count → rows ≤ count → IsRun numbers (row + rows) (first + rows) (count - rows)
+pub run_behind : (numbers : List ℕ) (row first count rows : ℕ) → AreConsecutive numbers row first count → rows ≤ count → AreConsecutive numbers (row + rows) (first + rows) (count - rows)
 run_behind numbers row first count rows run inside = λ k low.
     let place : row + (rows + k) ≡ row + rows + k = omega arith in
     let same : first + (rows + k) ≡ first + rows + k = omega arith in
     subst (λ (m : ℕ). slice_get numbers m ≡ Some (first + rows + k)) place (run (rows + k) (omega (arith, low, inside)) ∙ ap (λ (m : ℕ). Some m) same)
 
 -- its first row
-pub run_first : (numbers : List ℕ) (row first count : ℕ) → IsRun numbers row first count → 0 < count → slice_get numbers row ≡ Some first
+pub run_first : (numbers : List ℕ) (row first count : ℕ) → AreConsecutive numbers row first count → 0 < count → slice_get numbers row ≡ Some first
 run_first numbers row first count run some =
     let place : row + 0 ≡ row = omega arith in
     let same : first + 0 ≡ first = omega arith in

@@ -20,8 +20,8 @@ pub use Rattle.places.specs.Image.{entry}
 pub use Rattle.piece_bits.specs.Tables.{with_entry, hold_at, HasShape}
 pub use Rattle.views.specs.Columns.{column, column_writes, in_leaf, lane_fault, first_lane_fault, with_column as with_values, column_reads}
 pub use Rattle.views.specs.ColumnsLaws.{no_column, entry_more}
-pub use Rattle.views.specs.Runs.{run_of, told_lane, stored_count, raised, run_fault, with_run}
-pub use Rattle.views.specs.Stores.{Answer, Fits, Stays, store_answer, kept_or, kind_at, told}
+pub use Rattle.views.specs.LeafRuns.{run_of, told_lane, stored_count, raised, run_fault, with_run}
+pub use Rattle.views.specs.Stores.{StoreAnswer, Fits, Stays, store_answer, kept_or, kind_at, without_number}
 pub use Rattle.views.specs.Tallies.{Write, Tally, tallied, Access, Read, row_accesses}
 pub use Rattle.views.specs.TallyLaws.{after_log-none, after_stores-append, after_log-append, tallied-none, logs_more}
 pub use Rattle.views.specs.Tables.{Table, after_stores, IsTable, leaf_count_of, leaf_types_of, leaf_type_of, table_holds, answer_of, kept_of, owners_of, after_log, after_write, after_read}
@@ -30,7 +30,7 @@ pub use Rattle.views.specs.declared.fault.StoreFault.{StoreFault}
 pub use borrow.Author.Gap.{read_sfits}
 pub use Rattle.extents.specs.Indices.{indices, product, IsInside, IsExtents}
 pub use Rattle.piece_bits.specs.LowsLaws.{code_low, low_same}
-pub use Rattle.piece_bits.specs.Kept.{declared, kept}
+pub use Rattle.piece_bits.specs.LowBits.{declared, kept}
 pub use Rattle.piece_bits.specs.KeptLaws.{declared_same, kept_declared}
 pub use Rattle.piece_bits.specs.declared.mode.StoreMode.{StoreMode}
 pub use Rattle.piece_bits.specs.declared.mode.StoreMode.TheVariants.{Strict, Wrap}
@@ -58,8 +58,8 @@ pub use Rattle.linearize.specs.SlotsLaws.{entry_of_row, index_at_inside}
 pub use Rattle.csv_rows.specs.Texts.{comma_line}
 unfoldable pub use Rattle.csv_rows.specs.Texts.{print_text}
 pub use Rattle.layout_io.specs.Decimal.{decimal_text}
-pub use Rattle.subviews.specs.Stencils.{with_column, at_row, first_fault, weighted, row_from, Stencil, values_fault, stencil_value, new_entry, if_fits, round, next_round, stenciled, term_reads, round_reads, round_writes, round_log, tried_rows, rounds_log, refused_log, Weighted, term_value, term_read, is_weight, away, is_index, is_offset, reaches}
-pub use Rattle.subviews.specs.Plans.{IsBufferOf, IsRun, IsRunOf, IsPlanOf, all_weights, limit_of, IsIdle, IsFilled, planned, IsTermOf, IsFar, IsWalk, stencil_by}
+pub use Rattle.subviews.specs.Stencils.{with_entries, at_row, first_round_fault, weighted, row_from, Stencil, values_fault, stencil_value, new_entry, if_fits, round, next_round, stenciled, term_reads, round_reads, round_writes, round_log, tried_rows, rounds_log, refused_log, Weighted, term_value, term_read, is_weight, away, is_index, is_offset, reaches}
+pub use Rattle.subviews.specs.Plans.{IsBufferOf, AreConsecutive, IsRunOf, IsPlanOf, all_weights, limit_of, IsIdle, IsFilled, planned, IsTermOf, IsFar, IsWalk, stencil_by}
 pub use Rattle.subviews.specs.SubViews.{WindowOf, rows_of, outer_row, sub_table}
 pub use Rattle.subviews.specs.declared.runs.Run.{Run}
 pub use Rattle.subviews.specs.declared.plan.Plan.{Plan}

@@ -1,5 +1,5 @@
 -- The two passes of a round, run by run, and rounds one after another.
-use Rattle.subviews.proofs.Imports.{◌≡◌, ℕ, zero, suc, ◌+◌, ◌<◌, ◌≤◌, true, ℤ, pos, List, [], ◌∷◌, ◌++◌, length, map, take, get_or, Contains, Result, Ok, Err, is_ok, Some, refl, ap, sym, subst, ◌∙◌, ⊎_elim, arith, slice_get, cases_eq, cases_lt, length-map, get_or-map, take-map, take_all, fold_more, slice_get-get_or, slice_get_within, get_or_from_slice_get, indices, entry, Hold, LeafType, Fields, leaves, kinds_of, leaf_cells, holds_by, StoreMode, HasShape, hold_at, with_entry, with_entry_shape, with_entry_same, with_entry_other, told_err, told_kept, told_ok, column_writes, with_values, run_of, run_fault, stored_count, with_run, holds_uncounted, Stays, kind_at, store_answer, told, kept_or, Write, Tally, tallied, after_log-none, after_log-append, after_stores-append, tallied-none, logs_more, Table, IsTable, owners_of, leaf_count_of, leaf_type_of, table_holds, answer_of, kept_of, after_log, after_stores, after_write, StoreFault, rows_of, Stencil, values_fault, stencil_value, new_entry, with_column, if_fits, round, next_round, stenciled, term_reads, round_reads, round_writes, round_log, tried_rows, rounds_log, refused_log, StencilFault, Plan, IsBufferOf, IsPlanOf, IsIdle, IsRun, IsFilled, planned}
+use Rattle.subviews.proofs.Imports.{◌≡◌, ℕ, zero, suc, ◌+◌, ◌<◌, ◌≤◌, true, ℤ, pos, List, [], ◌∷◌, ◌++◌, length, map, take, get_or, Contains, Result, Ok, Err, is_ok, Some, refl, ap, sym, subst, ◌∙◌, ⊎_elim, arith, slice_get, cases_eq, cases_lt, length-map, get_or-map, take-map, take_all, fold_more, slice_get-get_or, slice_get_within, get_or_from_slice_get, indices, entry, Hold, LeafType, Fields, leaves, kinds_of, leaf_cells, holds_by, StoreMode, HasShape, hold_at, with_entry, with_entry_shape, with_entry_same, with_entry_other, told_err, told_kept, told_ok, column_writes, with_values, run_of, run_fault, stored_count, with_run, holds_uncounted, Stays, kind_at, store_answer, without_number, kept_or, Write, Tally, tallied, after_log-none, after_log-append, after_stores-append, tallied-none, logs_more, Table, IsTable, owners_of, leaf_count_of, leaf_type_of, table_holds, answer_of, kept_of, after_log, after_stores, after_write, StoreFault, rows_of, Stencil, values_fault, stencil_value, new_entry, with_entries, if_fits, round, next_round, stenciled, term_reads, round_reads, round_writes, round_log, tried_rows, rounds_log, refused_log, StencilFault, Plan, IsBufferOf, IsPlanOf, IsIdle, AreConsecutive, IsFilled, planned}
 use Rattle.map_expr.specs.Terms.{Term}
 use Rattle.subviews.proofs.Fronts.{logs_front, map_front, fits_more, fault_here, column_same}
 use Rattle.subviews.proofs.AtOnce.{AreTaken, are_taken, run_count, run_value, stored_to, none_of_run, one_of_run}
@@ -29,10 +29,10 @@ same_stays view buffer is leaf value stays =
     (subst (λ (mode : StoreMode). Stays mode (leaf_type_of buffer leaf) (hold_at (table_holds buffer) leaf) value) is.mode stays))
 
 -- the answer of the buffer, by what a store of it told
-pub refused_here : (answer : Result ℤ StoreFault) (result : Result Unit StoreFault) (fault : StoreFault) → result ≡ told answer → result ≡ Err fault → answer ≡ Err fault
+pub refused_here : (answer : Result ℤ StoreFault) (result : Result Unit StoreFault) (fault : StoreFault) → result ≡ without_number answer → result ≡ Err fault → answer ≡ Err fault
 refused_here answer result fault is refused = told_err answer fault (sym is ∙ refused)
 
-pub taken_here : (value : ℤ) (answer : Result ℤ StoreFault) (result : Result Unit StoreFault) → result ≡ told answer → result ≡ Ok tt → answer ≡ Ok (kept_or value answer)
+pub taken_here : (value : ℤ) (answer : Result ℤ StoreFault) (result : Result Unit StoreFault) → result ≡ without_number answer → result ≡ Ok tt → answer ≡ Ok (kept_or value answer)
 taken_here value answer result is taken = told_kept value answer (sym is ∙ taken)
 
 same_but : (table old : Table) (rows : List (List ℤ)) (tally : Tally) → table ≡ record old { rows = rows; tally = tally } → table ≡ record old { rows = table.rows; tally = table.tally }
@@ -132,7 +132,7 @@ module _ (old view first buffer : Table) (plan : Plan) (k outer : ℕ) (value : 
 
 -- the values of rows one behind another, of which so many are stored at once in the buffer, up to the first that is not taken. Nothing is counted
 module _ (old view first buffer : Table) (plan : Plan) (k place : ℕ) (values : List ℤ) (is : IsBufferOf old first) (so_far : IsFilled old view first buffer plan k) (table : IsTable buffer) (idle : IsIdle view)
-    (leaf_in : plan.leaf < leaf_count_of buffer) (inside : place + length values ≤ length buffer.rows) (run : IsRun (rows_of plan.window.now) k place (length values))
+    (leaf_in : plan.leaf < leaf_count_of buffer) (inside : place + length values ≤ length buffer.rows) (run : AreConsecutive (rows_of plan.window.now) k place (length values))
     (worth : (j : ℕ) → j < length values → get_or values j (pos 0) ≡ stencil_value (planned plan) view.rows (place + j)) where
   abbrev kept : List ℤ
   kept = map (kept_of buffer plan.leaf) values
@@ -187,7 +187,7 @@ filled_all old view first buffer plan k past is row held =
 
 -- the first so many rows of the window have what the buffer holds
 pub record IsStored (old view first buffer : Table) (plan : Plan) (k : ℕ) : Type 0 where
-  pub stored : view ≡ after_stores old (with_column plan.leaf (λ row. entry first.rows row plan.leaf) (take k (rows_of plan.window.now)) old.rows) (round_writes (planned plan) (take k (rows_of plan.window.now)))
+  pub stored : view ≡ after_stores old (with_entries plan.leaf (λ row. entry first.rows row plan.leaf) (take k (rows_of plan.window.now)) old.rows) (round_writes (planned plan) (take k (rows_of plan.window.now)))
   pub same : buffer ≡ record first { tally = buffer.tally }
 
 pub none_stored : (old first : Table) (plan : Plan) → IsStored old old first first plan 0
@@ -201,7 +201,7 @@ stored_more old view first buffer after plan k outer so_far at stored =
     let f : ℕ → ℤ = λ row. entry first.rows row plan.leaf in
     let here = outer_at numbers k outer at in
     let small = slice_get_within numbers k outer at in
-    let column = with_column plan.leaf f (take k numbers) old.rows in
+    let column = with_entries plan.leaf f (take k numbers) old.rows in
     let writes = round_writes (planned plan) (take k numbers) in
     record {
       stored = stored
@@ -209,12 +209,12 @@ stored_more old view first buffer after plan k outer so_far at stored =
           ∙ after_stores-append old column (with_entry column outer plan.leaf (f outer)) writes (Write outer plan.leaf ∷ [])
           ∙ ap (λ (r : ℕ). after_stores old (with_entry column r plan.leaf (f r)) (writes ++ Write r plan.leaf ∷ [])) (sym here)
           ∙ ap (λ (r : List (List ℤ)). after_stores old r (writes ++ Write (get_or numbers k 0) plan.leaf ∷ [])) (sym (fold_more (λ table row. with_entry table row plan.leaf (f row)) old.rows numbers k 0 small))
-          ∙ ap (after_stores old (with_column plan.leaf f (take (k + 1) numbers) old.rows)) (map_front (λ row. Write row plan.leaf) numbers k 0 small);
+          ∙ ap (after_stores old (with_entries plan.leaf f (take (k + 1) numbers) old.rows)) (map_front (λ row. Write row plan.leaf) numbers k 0 small);
       same = so_far.same;
     }
 
 -- and rows one behind another, all at once
-module _ (old view first buffer : Table) (plan : Plan) (k place n : ℕ) (so_far : IsStored old view first buffer plan k) (run : IsRun (rows_of plan.window.now) k place n)
+module _ (old view first buffer : Table) (plan : Plan) (k place n : ℕ) (so_far : IsStored old view first buffer plan k) (run : AreConsecutive (rows_of plan.window.now) k place n)
     (inside : place + n ≤ length buffer.rows) (rows : length view.rows ≡ length buffer.rows) where
   abbrev values : List ℤ
   values = run_of plan.leaf place n buffer
@@ -267,16 +267,16 @@ buffer_same buffer filled after fill read = same_but after buffer filled.rows af
 pub round_done : (old view read after filled : Table) (plan : Plan) → view ≡ record old { rows = view.rows; tally = view.tally }
     → values_fault (answer_of view) (planned plan) view.rows (rows_of plan.window.now) ≡ Ok tt → read ≡ after_log view (round_reads (planned plan) (rows_of plan.window.now))
     → ((row : ℕ) → Contains (rows_of plan.window.now) row → entry filled.rows row plan.leaf ≡ new_entry (answer_of view) (planned plan) view.rows row)
-    → after ≡ after_stores read (with_column plan.leaf (λ row. entry filled.rows row plan.leaf) (rows_of plan.window.now) read.rows) (round_writes (planned plan) (rows_of plan.window.now))
+    → after ≡ after_stores read (with_entries plan.leaf (λ row. entry filled.rows row plan.leaf) (rows_of plan.window.now) read.rows) (round_writes (planned plan) (rows_of plan.window.now))
     → (round (answer_of old) (planned plan) view.rows ≡ Ok after.rows) × (after ≡ after_stores view after.rows (round_log (planned plan)))
 round_done old view read after filled plan from fits reads fill stores =
     let numbers = rows_of plan.window.now in
     let rows : read.rows ≡ view.rows = ap (λ (t : Table). t.rows) reads in
-    let column : with_column plan.leaf (λ row. entry filled.rows row plan.leaf) numbers read.rows ≡ with_column plan.leaf (new_entry (answer_of view) (planned plan) view.rows) numbers view.rows =
-    ap (with_column plan.leaf (λ row. entry filled.rows row plan.leaf) numbers) rows ∙ column_same plan.leaf (λ row. entry filled.rows row plan.leaf) (new_entry (answer_of view) (planned plan) view.rows) numbers view.rows fill in
-    let after_rows : after.rows ≡ with_column plan.leaf (new_entry (answer_of view) (planned plan) view.rows) numbers view.rows = ap (λ (t : Table). t.rows) stores ∙ column in
+    let column : with_entries plan.leaf (λ row. entry filled.rows row plan.leaf) numbers read.rows ≡ with_entries plan.leaf (new_entry (answer_of view) (planned plan) view.rows) numbers view.rows =
+    ap (with_entries plan.leaf (λ row. entry filled.rows row plan.leaf) numbers) rows ∙ column_same plan.leaf (λ row. entry filled.rows row plan.leaf) (new_entry (answer_of view) (planned plan) view.rows) numbers view.rows fill in
+    let after_rows : after.rows ≡ with_entries plan.leaf (new_entry (answer_of view) (planned plan) view.rows) numbers view.rows = ap (λ (t : Table). t.rows) stores ∙ column in
     let one : round (answer_of view) (planned plan) view.rows ≡ Ok after.rows =
-    ap (λ (r : Result Unit StencilFault). if_fits r (with_column plan.leaf (new_entry (answer_of view) (planned plan) view.rows) numbers view.rows)) fits ∙ ap (λ (r : List (List ℤ)). Ok r) (sym after_rows) in (
+    ap (λ (r : Result Unit StencilFault). if_fits r (with_entries plan.leaf (new_entry (answer_of view) (planned plan) view.rows) numbers view.rows)) fits ∙ ap (λ (r : List (List ℤ)). Ok r) (sym after_rows) in (
       sym (ap (λ (t : Table). round (answer_of t) (planned plan) view.rows) from) ∙ one,
       stores ∙ ap (λ (r : List (List ℤ)). after_stores read r (round_writes (planned plan) numbers)) (column ∙ sym after_rows)
           ∙ ap (λ (t : Table). after_stores t after.rows (round_writes (planned plan) numbers)) reads
@@ -302,7 +302,7 @@ pub round_stopped : (old view : Table) (stencil : Stencil) (fault : StencilFault
 round_stopped old view stencil fault from refused =
     let numbers = rows_of stencil.window in
     sym (ap (λ (t : Table). round (answer_of t) stencil view.rows) from)
-    ∙ ap (λ (r : Result Unit StencilFault). if_fits r (with_column stencil.leaf (new_entry (answer_of view) stencil view.rows) numbers view.rows)) refused
+    ∙ ap (λ (r : Result Unit StencilFault). if_fits r (with_entries stencil.leaf (new_entry (answer_of view) stencil view.rows) numbers view.rows)) refused
 
 -- what a stencil that meets a fault leaves: the rows of the rounds before, and beside their accesses the reads up to the row of the fault
 abbrev pub IsRefused : Table → Table → Stencil → ℕ → StencilFault → Type 0

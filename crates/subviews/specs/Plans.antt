@@ -74,21 +74,21 @@ abbrev pub IsIdle : Table → Type 0
 IsIdle table = (log : List Access) → after_log table log ≡ table
 
 -- from this place on, so many numbers are one behind another
-abbrev pub IsRun : List ℕ → ℕ → ℕ → ℕ → Type 0
-IsRun numbers place first count = (k : ℕ) → k < count → slice_get numbers (place + k) ≡ Some (first + k)
+abbrev pub AreConsecutive : List ℕ → ℕ → ℕ → ℕ → Type 0
+AreConsecutive numbers place first count = (k : ℕ) → k < count → slice_get numbers (place + k) ≡ Some (first + k)
 
 -- rows of a window that lie one behind another, at most 256
 pub record IsRunOf (window : WindowOf) (run : Run) : Type 0 where
   pub some : 0 < run.rows
   pub few : run.rows ≤ 256
-  pub each : IsRun (rows_of window) run.row run.first run.rows
+  pub each : AreConsecutive (rows_of window) run.row run.first run.rows
 
 -- a walk over a window that comes to this row next
 pub record IsWalk (window : WindowOf) (walk : Walk) (row : ℕ) : Type 0 where
   pub rows : length (indices window.0) ≤ 2 ^ 24
   pub some : 0 < walk.width
   pub narrow : walk.width < 2 ^ 33
-  pub run : IsRun (rows_of window) row walk.next walk.left
+  pub run : AreConsecutive (rows_of window) row walk.next walk.left
 
 -- the values of the first so many rows of a round fit, they were read, and the buffer has what is kept of them
 pub record IsFilled (old view first buffer : Table) (plan : Plan) (k : ℕ) : Type 0 where

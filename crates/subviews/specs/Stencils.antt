@@ -7,7 +7,7 @@ use Rattle.extents.specs.Indices.{indices}
 use Rattle.linearize.specs.Slots.{index_at}
 use Rattle.places.specs.Image.{entry}
 use Rattle.piece_bits.specs.Tables.{with_entry}
-use Rattle.views.specs.Stores.{Answer, kept_by}
+use Rattle.views.specs.Stores.{StoreAnswer, kept_by}
 use Rattle.views.specs.Tallies.{Access, Read, Write}
 use Rattle.views.specs.Tables.{Table, answer_of}
 use Rattle.views.specs.declared.fault.StoreFault.{StoreFault}
@@ -58,20 +58,20 @@ abbrev pub at_row : ℕ → Result ℤ StoreFault → Result Unit StencilFault �
 at_row row (Ok kept) rest = rest
 at_row row (Err fault) rest = Err (record { row = row; fault = fault })
 
-abbrev pub first_fault : (ℕ → Result ℤ StoreFault) → List ℕ → Result Unit StencilFault
-first_fault answer [] = Ok tt
-first_fault answer (row ∷ rows) = at_row row (answer row) (first_fault answer rows)
+abbrev pub first_round_fault : (ℕ → Result ℤ StoreFault) → List ℕ → Result Unit StencilFault
+first_round_fault answer [] = Ok tt
+first_round_fault answer (row ∷ rows) = at_row row (answer row) (first_round_fault answer rows)
 
 -- the same of a stencil: whether the values of the first rows of its window fit
-abbrev pub values_fault : Answer → Stencil → List (List ℤ) → List ℕ → Result Unit StencilFault
-values_fault answer stencil rows numbers = first_fault (λ row. answer stencil.leaf (stencil_value stencil rows row)) numbers
+abbrev pub values_fault : StoreAnswer → Stencil → List (List ℤ) → List ℕ → Result Unit StencilFault
+values_fault answer stencil rows numbers = first_round_fault (λ row. answer stencil.leaf (stencil_value stencil rows row)) numbers
 
 -- a table with new entries of a leaf in these rows
-abbrev pub with_column : ℕ → (ℕ → ℤ) → List ℕ → List (List ℤ) → List (List ℤ)
-with_column leaf value numbers rows = fold (λ table row. with_entry table row leaf (value row)) rows numbers
+abbrev pub with_entries : ℕ → (ℕ → ℤ) → List ℕ → List (List ℤ) → List (List ℤ)
+with_entries leaf value numbers rows = fold (λ table row. with_entry table row leaf (value row)) rows numbers
 
 -- what a store keeps of the value at a row
-abbrev pub new_entry : Answer → Stencil → List (List ℤ) → ℕ → ℤ
+abbrev pub new_entry : StoreAnswer → Stencil → List (List ℤ) → ℕ → ℤ
 new_entry answer stencil rows row = kept_by answer stencil.leaf (stencil_value stencil rows row)
 
 -- the rows after one round: in each row of the window the leaf is what is kept of the value there, and each value is one over the rows before the
@@ -80,18 +80,18 @@ abbrev pub if_fits : Result Unit StencilFault → List (List ℤ) → Result (Li
 if_fits (Ok fits) rows = Ok rows
 if_fits (Err fault) rows = Err fault
 
-abbrev pub round : Answer → Stencil → List (List ℤ) → Result (List (List ℤ)) StencilFault
+abbrev pub round : StoreAnswer → Stencil → List (List ℤ) → Result (List (List ℤ)) StencilFault
 round answer stencil rows =
-    if_fits (values_fault answer stencil rows (rows_of stencil.window)) (with_column stencil.leaf (new_entry answer stencil rows) (rows_of stencil.window) rows)
+    if_fits (values_fault answer stencil rows (rows_of stencil.window)) (with_entries stencil.leaf (new_entry answer stencil rows) (rows_of stencil.window) rows)
 
 -- ---- so many rounds
 
 -- the next round, where none before it had a fault
-abbrev pub next_round : Answer → Stencil → Result (List (List ℤ)) StencilFault → Result (List (List ℤ)) StencilFault
+abbrev pub next_round : StoreAnswer → Stencil → Result (List (List ℤ)) StencilFault → Result (List (List ℤ)) StencilFault
 next_round answer stencil (Ok rows) = round answer stencil rows
 next_round answer stencil (Err fault) = Err fault
 
-abbrev pub after_rounds : Answer → Stencil → ℕ → List (List ℤ) → Result (List (List ℤ)) StencilFault
+abbrev pub after_rounds : StoreAnswer → Stencil → ℕ → List (List ℤ) → Result (List (List ℤ)) StencilFault
 after_rounds answer stencil zero rows = Ok rows
 after_rounds answer stencil (suc count) rows = next_round answer stencil (after_rounds answer stencil count rows)
 
@@ -119,11 +119,11 @@ abbrev pub rounds_log : Stencil → ℕ → List Access
 rounds_log stencil count = flat_map (λ number. round_log stencil) (range_with_len 0 count)
 
 -- the rows of a round that are tried: up to the first whose value does not fit
-abbrev pub tried_rows : Answer → Stencil → List (List ℤ) → List ℕ → List ℕ
+abbrev pub tried_rows : StoreAnswer → Stencil → List (List ℤ) → List ℕ → List ℕ
 tried_rows answer stencil rows numbers = take (position_or_len (λ row. is_err (answer stencil.leaf (stencil_value stencil rows row))) numbers + 1) numbers
 
 -- those of so many rounds, and of the next one over these rows, up to the row whose value does not fit
-abbrev pub refused_log : Answer → Stencil → ℕ → List (List ℤ) → List Access
+abbrev pub refused_log : StoreAnswer → Stencil → ℕ → List (List ℤ) → List Access
 refused_log answer stencil done rows = rounds_log stencil done ++ round_reads stencil (tried_rows answer stencil rows (rows_of stencil.window))
 
 -- ---- which stencils there are

@@ -2,10 +2,10 @@
 ghost use Rattle.std.specs.Prelude.{◌≡◌, ◌+◌, ◌<◌, ◌≤◌, ℕ, true, pos, ◌<ℤ◌, int_div, All, Contains, Ok, Err, OnOk, OnErr, IfErr, length, map};
 ghost use Rattle.places.specs.Image.{entry};
 ghost use Rattle.views.specs.Columns.{column_reads, column_writes, with_column as with_values};
-ghost use Rattle.views.specs.Runs.{run_of};
+ghost use Rattle.views.specs.LeafRuns.{run_of};
 ghost use Rattle.views.specs.Tables.{Table, leaf_count_of, answer_of, after_log, after_stores};
 ghost use Rattle.subviews.specs.SubViews.{rows_of};
-ghost use Rattle.subviews.specs.Stencils.{Stencil, weighted, stencil_value, values_fault, new_entry, with_column, round, stenciled, term_reads, round_reads, round_writes, tried_rows, rounds_log, refused_log};
+ghost use Rattle.subviews.specs.Stencils.{Stencil, weighted, stencil_value, values_fault, new_entry, with_entries, round, stenciled, term_reads, round_reads, round_writes, tried_rows, rounds_log, refused_log};
 ghost use Rattle.subviews.specs.Plans.{IsTermOf, IsBufferOf, IsPlanOf, IsRunOf, IsFilled, stencil_by, planned};
 
 use crate::far::{all_far, row_away};
@@ -177,7 +177,7 @@ fn store_back<L: Ledger>(
     requires plan { IsPlanOf view.old.fields view.old.extents plan.now }
     requires buffer { IsBufferOf view.old buffer.old }
     ensures stored { view.new ≡ after_stores view.old
-        (with_column plan.now.leaf (λ row. entry buffer.old.rows row plan.now.leaf) (rows_of plan.now.window.now) view.old.rows)
+        (with_entries plan.now.leaf (λ row. entry buffer.old.rows row plan.now.leaf) (rows_of plan.now.window.now) view.old.rows)
         (round_writes (planned plan.now) (rows_of plan.now.window.now)) }
     ensures buffer { buffer.new ≡ record buffer.old { tally = buffer.new.tally } }
 {

@@ -2,7 +2,7 @@
 ghost use Rattle.std.specs.Prelude.{◌≡◌, ◌+◌, ◌<◌, ◌≤◌, ◌^◌, ℕ, slice_get, Some, length};
 ghost use Rattle.extents.specs.Indices.{indices};
 ghost use Rattle.subviews.specs.SubViews.{rows_of};
-ghost use Rattle.subviews.specs.Plans.{IsRun, IsRunOf, IsWalk};
+ghost use Rattle.subviews.specs.Plans.{AreConsecutive, IsRunOf, IsWalk};
 
 use extents::Window;
 
@@ -92,7 +92,7 @@ fn run_length(window: &Window, width: u64, row: u64, outer: u64) -> u64
     requires row_in { row < length (rows_of window.now) }
     requires entry { slice_get (rows_of window.now) row ≡ Some outer }
     ensures some { 0 < result }
-    ensures run { IsRun (rows_of window.now) row outer result }
+    ensures run { AreConsecutive (rows_of window.now) row outer result }
 {
     let count = window.count();
     let last = (row - row % width + width).min(count) - 1;

@@ -1,7 +1,7 @@
 ghost use Rattle.std.specs.Prelude.{◌≡◌, ◌+◌, ◌<◌, ℕ, OnOk, OnErr, Some, length, slice_get};
 ghost use Rattle.places.specs.Image.{entry};
 ghost use Rattle.record_dim.specs.LeafTypes.{IsDeclared};
-ghost use Rattle.views.specs.Stores.{told};
+ghost use Rattle.views.specs.Stores.{without_number};
 ghost use Rattle.views.specs.Tables.{leaf_count_of, leaf_type_of, answer_of, after_read, after_write};
 ghost use Rattle.subviews.specs.SubViews.{rows_of, outer_row};
 
@@ -72,7 +72,7 @@ impl SubView<'_> {
     ) -> Result<(), StoreFault>
         requires row_in { row < length (rows_of self.old.window.now) }
         requires leaf_in { leaf < leaf_count_of self.old.view.now }
-        ensures answer { result ≡ told (answer_of self.old.view.now leaf value) }
+        ensures answer { result ≡ without_number (answer_of self.old.view.now leaf value) }
         ensures stored { OnOk result (self.new.view.now ≡ after_write self.old.view.now (outer_row self.old.window.now row) leaf value) }
         ensures refused { OnErr result (self.new.view.now ≡ self.old.view.now) }
         ensures same_window { self.new.window.now ≡ self.old.window.now }

@@ -24,13 +24,13 @@ use Rattle.map_any.specs.declared.strategy.Strategy.{Strategy}
 use Rattle.map_any.specs.declared.strategy.Strategy.TheVariants as way
 use Rattle.views.specs.Moves.{blob_steps}
 use Rattle.views.specs.Tables.{Table}
-use Rattle.layout_copy.specs.Costs.{cost, steps_before, IsWay, MayMoveTo}
-use Rattle.view_tests.specs.Ways.{from_of, to_of, most_steps}
+use Rattle.layout_copy.specs.Costs.{copy_cost, steps_before, IsWay, MayMoveTo}
+use Rattle.view_tests.specs.Inner.Ways.{from_of, to_of, most_steps}
 
 -- from one count of steps to another no more than a copy of a table into another takes
 abbrev IsWithin : Table → Table → ℕ → ℕ → Type 0
 IsWithin source target old new =
-    (strategy : Strategy) → IsWay source target strategy → new ≤ old + cost strategy source.mapping target.mapping target.fields target.extents
+    (strategy : Strategy) → IsWay source target strategy → new ≤ old + copy_cost strategy source.mapping target.mapping target.fields target.extents
 
 -- between strict views a copy goes by the way of their expressions
 abbrev AreStrict : Table → Table → Type 0

@@ -8,7 +8,7 @@ ghost use Rattle.record_dim.specs.Schemas.{schema_fields};
 ghost use Rattle.map_expr.specs.Terms.{term_of};
 ghost use Rattle.map_checks.specs.Mappings.{IsBuiltTerm};
 ghost use Rattle.piece_bits.specs.declared.mode.StoreMode.TheVariants.{Strict};
-ghost use Rattle.view_tests.specs.Ways.{from_of, to_of, most_steps};
+ghost use Rattle.view_tests.specs.Inner.Ways.{from_of, to_of, most_steps};
 
 use crate::tables::{aos, aosoa, is_numbered, number, soa, view_of};
 use layout_copy::{CopyFault, copy};

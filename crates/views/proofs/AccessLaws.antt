@@ -1,9 +1,9 @@
 -- A leaf in a row, as the short form of its rule places it.
-use Rattle.views.proofs.Imports.{◌≡◌, ℕ, ℤ, ◌+◌, ◌*◌, ◌<◌, ◌≤◌, Bool, false, List, [], length, map, get_or, set, slice_index, refl, sym, ap, ◌∙◌, subst, arith, bit_at, slice_get-get_or, IsIn, number, digit, decoded, entry, Owner, IsLaidOut, Hold, Piece, PieceRule, bit_of, bit_in, IsCell, bit_count, apart, read_entry_is, written_table, written_padding, still_laid, scattered_pieces, spots_of, bit_at_spot, AreApart, AreSized, AreLaid, hold_at, table_in, with_entry, IsField, IsWord, word_bit, word_place, word_pieces, word_signed, word_width, word_blob, word_room, word_entry, word_held, word_table, word_laid, AreWritten, Field, Word, pieces_by, short_pieces, start_in, IsShortIn, ShortRule}
+use Rattle.views.proofs.Imports.{◌≡◌, ℕ, ℤ, ◌+◌, ◌*◌, ◌<◌, ◌≤◌, Bool, false, List, [], length, map, get_or, set, slice_index, refl, sym, ap, ◌∙◌, subst, arith, bit_at, slice_get-get_or, IsIn, number, digit, decoded, entry, Owner, IsLaidOut, Hold, Piece, PieceRule, bit_of, bit_in, IsCell, bit_count, apart, read_entry_is, written_table, written_padding, still_laid, scattered_pieces, spots_of, bit_at_spot, AreApart, AreSized, AreLaid, hold_at, table_in, with_entry, IsBitField, IsPlaceWord, word_bit, word_place, word_pieces, word_signed, word_width, word_blob, word_room, word_entry, word_held, word_table, word_laid, AreWritten, Field, Word, pieces_by, short_pieces, start_in, IsShortIn, ShortRule}
 use Rattle.piece_bits.specs.declared.word.Word.TheVariants as stored
 
 -- what is not scattered stands at one place
-word_form : (word : Word) (field : Field) → IsField field → (word ≡ stored.Field → field.width ≤ 57) → (word ≡ stored.Scattered → ⊥) → IsWord word field
+word_form : (word : Word) (field : Field) → IsBitField field → (word ≡ stored.Field → field.width ≤ 57) → (word ≡ stored.Scattered → ⊥) → IsPlaceWord word field
 word_form stored.Field field form narrow none = (form, narrow refl)
 word_form stored.Scattered field form narrow none = absurd (none refl)
 word_form _ field form narrow none = tt
@@ -35,7 +35,7 @@ module _ {layout : List (List Owner)} {rows : ℕ} (holds : List Hold) (row leaf
 
   -- it stands at one place
   module _ (none : short.word ≡ stored.Scattered → ⊥) where
-    pub is_word : IsWord short.word short.field
+    pub is_word : IsPlaceWord short.word short.field
     is_word = word_form short.word short.field short.form h.held.narrow none
 
     in_word : IsCell layout rows holds row leaf (hold_at holds leaf) (word_pieces short.word short.field short.blob start)

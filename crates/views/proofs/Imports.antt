@@ -22,16 +22,16 @@ pub use Rattle.std.proofs.lemmas.Grind.{common_steps}
 pub use Rattle.record_dim.specs.LeafTypes.{IsIn, is_signed, IsDeclared, least_of, greatest_of, least_in, greatest_in, width_of}
 pub use Rattle.places.specs.Image.{number, digit, decoded, entry, image}
 pub use Rattle.places.specs.Layout.{Owner}
-pub use Rattle.places.specs.Laws.{IsLaidOut}
+pub use Rattle.places.specs.Lawful.{IsLaidOut}
 pub use Rattle.places.specs.declared.piece.Hold.{Hold}
 pub use Rattle.places.specs.declared.piece.Piece.{Piece}
 pub use Rattle.places.specs.declared.rule.PieceRule.{PieceRule}
 pub use Rattle.blobs.specs.Bits.{bit_of, bit_in, bits_of}
 pub use Rattle.piece_bits.specs.CellsLaws.{IsCell, bit_count, apart, read_entry_is, written_table, written_padding, still_laid, bit_in_lt, hold_widths}
-pub use Rattle.piece_bits.specs.Scattered.{scattered_pieces}
-pub use Rattle.piece_bits.specs.Spots.{spots_of, bit_at_spot, AreApart}
+pub use Rattle.piece_bits.specs.Inner.Scattered.{scattered_pieces}
+pub use Rattle.piece_bits.specs.Inner.Spots.{spots_of, bit_at_spot, AreApart}
 pub use Rattle.piece_bits.specs.Tables.{AreSized, AreLaid, hold_at, table_in, with_entry, HasShape, zeros}
-pub use Rattle.piece_bits.specs.Words.{IsField, IsWord, word_bit, word_place, word_pieces, word_signed, word_width}
+pub use Rattle.piece_bits.specs.Words.{IsBitField, IsPlaceWord, word_bit, word_place, word_pieces, word_signed, word_width}
 pub use Rattle.piece_bits.specs.WordsLaws.{word_blob, word_room, word_entry, word_held, word_table, word_laid}
 pub use Rattle.piece_bits.specs.WritesLaws.{AreWritten}
 pub use Rattle.piece_bits.specs.declared.field.Field.{Field}
@@ -53,7 +53,7 @@ pub use Rattle.record_dim.specs.Leaves.{kinds_of, Leaf, leaves}
 pub use Rattle.piece_bits.specs.MovedLaws.{AreMoved}
 pub use Rattle.piece_bits.specs.MovedBytesLaws.{moved_bits}
 pub use Rattle.map_checks.specs.Arrays.{array_of, lanes_in}
-pub use Rattle.map_any.specs.ArrayRuns.{IsArrayRun}
+pub use Rattle.map_any.specs.Inner.ArrayRuns.{IsArrayRun}
 pub use Rattle.map_any.specs.Strategies.{AreRuns}
 pub use Rattle.piece_bits.specs.declared.mode.StoreMode.{StoreMode}
 pub use Rattle.record_dim.specs.declared.leaf_type.LeafType.{LeafType}
@@ -61,7 +61,7 @@ pub use Rattle.record_dim.specs.Schemas.{schema_fields}
 pub use Rattle.record_dim.specs.declared.schema.Schema.{Schema}
 pub use Rattle.map_expr.specs.declared.expr.MapExpr.{MapExpr}
 pub use Rattle.map_checks.specs.Mappings.{layout_by, holds_by, leaf_cells, IsTooBigFor, most_slots}
-pub use Rattle.piece_bits.specs.Kept.{declared, held, kept}
+pub use Rattle.piece_bits.specs.LowBits.{declared, held, kept}
 pub use Rattle.piece_bits.specs.KeptLaws.{declared_same}
 pub use Rattle.piece_bits.specs.Modes.{declared_row, declared_table, IsSettled, Stays, AllSettled}
 pub use Rattle.piece_bits.specs.EntryLaws.{fitting_settled, same_sign, strict_entry, image_of_table, settled_after, raw_held, stays_declared, fitting_held, fitting_stays, stays_settled}
@@ -72,13 +72,13 @@ pub use Rattle.piece_bits.specs.declared.mode.StoreMode.TheVariants.{Strict, Wra
 pub use Rattle.piece_bits.specs.KeptTableLaws.{declared_shape, declared_entry, declared_with_entry}
 pub use Rattle.places.specs.Holds.{IsTooBig, full_holds, hold_of}
 pub use Rattle.places.specs.declared.piece.Cell.{Cell}
-pub use Rattle.map_checks.specs.LeafCells.{kinds_are, leaf_cells_kinds, holds_by_kind}
+pub use Rattle.map_checks.specs.Inner.LeafCells.{kinds_are, leaf_cells_kinds, holds_by_kind}
 pub use Rattle.piece_bits.specs.Stretches.{stretch_place, IsStretch}
 pub use Rattle.piece_bits.specs.StretchesLaws.{stretch_fits}
 pub use Rattle.piece_bits.specs.declared.stretch.Stretch.{Stretch}
 pub use Rattle.piece_bits.specs.Lows.{low_64, IsWithin64}
 pub use Rattle.piece_bits.specs.LowsLaws.{code_low}
-pub use Rattle.piece_bits.specs.Stretched.{stretched_at, HasRoom, ArePut}
+pub use Rattle.piece_bits.specs.Stretched.{stretched_at, StretchFits, ArePut}
 pub use Rattle.piece_bits.proofs.Numbers.{word_narrow}
 pub use Rattle.instrument.specs.declared.heat.Heat.{Heat}
 pub use Rattle.map_any.specs.ArrayRunLaws.{array_holds}
@@ -87,7 +87,7 @@ pub use Rattle.instrument.specs.TimesLaws.{counted-counted, warmed-warmed, raise
 pub use Rattle.places.specs.NumbersLaws.{number_same}
 pub use Rattle.blobs.specs.Turned.{turned_place, IsTurned}
 pub use Rattle.piece_bits.specs.Walks.{leads, walks_plain, walks_in_blocks}
-pub use Rattle.piece_bits.specs.Wides.{is_turned_width, IsAsWhole, IsAsTurned, IsWide}
+pub use Rattle.piece_bits.specs.Wides.{is_turned_width, IsAsWhole, IsAsTurned, AreReadWide}
 pub use Rattle.piece_bits.specs.declared.walk.Walk.{Walk}
 pub use Rattle.piece_bits.specs.declared.wide_rules.Wide.{Wide}
 pub use Rattle.instrument.specs.WarmingLaws.{inside-counted}
@@ -96,25 +96,25 @@ pub use Rattle.instrument.specs.declared.counts.Counts.{Counts}
 pub use Rattle.map_any.specs.Maps.{extents_of, term_of_map}
 pub use Rattle.views.specs.HalfLaws.{half, half_more, half_whole}
 pub use Rattle.views.specs.Tables.{Table, after_log, after_read, kept_of, after_stores, leaf_types_of, table_holds, leaf_count_of, leaf_type_of, after_raw, IsTable, IsSettledIn, answer_of, after_write, owners_of, blob_bits_of}
-pub use Rattle.views.specs.Tallies.{Read, Access, Write, counts_touched, heat_touched, no_tally, blob_lengths, Tally, touched, all_touches, row_accesses, leaf_touched, granules_touched, access_to, all_accesses, times_accesses}
+pub use Rattle.views.specs.Tallies.{Read, Access, Write, counts_touched, heat_touched, no_tally, blob_lengths, Tally, after_access, all_touches, row_accesses, leaf_touched, granules_touched, access_to, all_accesses, times_accesses}
 unfoldable pub use Rattle.views.specs.Tallies.{tallied}
 pub use Rattle.views.specs.TallyLaws.{after_log-none, after_log-append, tallied-counts, tallied-heat, accesses_more, after_stores-append}
 pub use Rattle.views.specs.Columns.{in_leaf, column, column_reads, with_column, column_writes, first_lane_fault, lane_fault}
-pub use Rattle.views.specs.Entries.{reads_leaf, writes_leaf, touches, AreCounts, AreHeat, AreEntries}
-pub use Rattle.views.specs.Kept.{IsKept, raw_under, table_under, IsMappingOf, IsTallied, HasSign, HasGranules, tally_of}
+pub use Rattle.views.specs.AccessEntries.{reads_leaf, writes_leaf, touches, AreCounts, AreHeat, AreEntries}
+pub use Rattle.views.specs.ViewFields.{IsKept, raw_under, table_under, IsMappingOf, IsTallied, HasSign, HasGranules, tally_of}
 pub use Rattle.views.specs.Moves.{size_of, IsRunMoved, blob_steps, MayMove, IsInBlock, IsInRun}
 pub use Rattle.views.specs.Pieces.{IsMovedEach, is_cut, piece_count, piece_at, ArePieces}
-pub use Rattle.views.specs.Stores.{kind_at, Answer, Fits, told, AllStay, kept_row, kept_or, store_answer}
+pub use Rattle.views.specs.Stores.{kind_at, StoreAnswer, Fits, without_number, AllStay, kept_row, kept_or, store_answer}
 pub use Rattle.views.specs.UncountedLaws.{layout_uncounted, holds_uncounted, slots_uncounted}
 pub use Rattle.views.specs.MovesLaws.{settled_moves, may_move, full_hold, full_own, run_laid, run_moved, with_rows, rows_after}
 pub use Rattle.views.specs.CountLaws.{idle_logged, piece_inside, raised_granules, raised_leaves, new_tally, no_tally-tallied, tallied_kept, tallied-one, idle_tallied, log_kept}
 pub use Rattle.views.specs.AnswerLaws.{told_ok, answer_stays, stays_answer, strict_kept, told_kept, told_err}
 pub use Rattle.views.specs.declared.fault.StoreFault.{StoreFault}
 pub use Rattle.views.specs.ColumnsLaws.{no_column, entry_more, length-with_column}
-pub use Rattle.views.specs.Runs.{raised, run_of, TakesAll, run_fault, stored_count, with_run, told_lane, run_steps}
+pub use Rattle.views.specs.LeafRuns.{raised, run_of, TakesAll, run_fault, stored_count, with_run, told_lane, run_steps}
 pub use Rattle.views.specs.RunsLaws.{raised_low, raised_all, run_entry, run_length, raised_same, declared_within}
 pub use Rattle.views.specs.declared.fault.LaneFault.{LaneFault}
-pub use Rattle.views.specs.Repeated.{counts_after, heat_after, leaf_raised, leaves_raised, granules_raised, row_raised, rows_raised}
+pub use Rattle.views.specs.Inner.Repeated.{counts_after, heat_after, leaf_raised, leaves_raised, granules_raised, row_raised, rows_raised}
 pub use Rattle.views.specs.OrderLaws.{leaves_both, heated_both}
 pub use Rattle.views.specs.RepeatLaws.{copies, copies_add, copies_copies, fold-same, fold-flat_map, many, fold-copies, fold_range_more}
 pub use Rattle.views.specs.CutLaws.{slots_within, block_in, same_slots, same_steps, all_pieces}

@@ -1,5 +1,5 @@
 -- A view in which a column is stored.
-use Rattle.views.proofs.Imports.{◌≡◌, ℕ, zero, suc, ◌+◌, ◌<◌, List, [], ◌∷◌, length, map, get_or, set, ℤ, pos, None, Ok, refl, sym, ap, ◌∙◌, subst, ⊎_elim, arith, cases_eq, get_or-set_same, get_or-set_other, LeafType, kinds_of, Fields, schema_fields, Schema, entry, MapExpr, Term, term_of, layout_by, holds_by, AreLaid, hold_at, with_column, column_writes, first_lane_fault, declared, declared_same, StoreMode, declared_row, declared_table, IsSettled, fitting_settled, IsKept, raw_under, table_under, Answer, Fits, kind_at, told, Table, kept_of, after_stores, Tally, tallied}
+use Rattle.views.proofs.Imports.{◌≡◌, ℕ, zero, suc, ◌+◌, ◌<◌, List, [], ◌∷◌, length, map, get_or, set, ℤ, pos, None, Ok, refl, sym, ap, ◌∙◌, subst, ⊎_elim, arith, cases_eq, get_or-set_same, get_or-set_other, LeafType, kinds_of, Fields, schema_fields, Schema, entry, MapExpr, Term, term_of, layout_by, holds_by, AreLaid, hold_at, with_column, column_writes, first_lane_fault, declared, declared_same, StoreMode, declared_row, declared_table, IsSettled, fitting_settled, IsKept, raw_under, table_under, StoreAnswer, Fits, kind_at, without_number, Table, kept_of, after_stores, Tally, tallied}
 use Rattle.views.proofs.KeptLaws.{raw_shape, hold_some}
 use Rattle.views.proofs.Opened.{seen_from}
 use Rattle.views.proofs.StoreLaws.{map_same}
@@ -87,7 +87,7 @@ seen_column {mode} schema extents expr blobs {tally} {seen} is row leaf count va
 
 -- ---- values that are all taken
 
-pub none_refused : (answer : Answer) (leaf first : ℕ) (values : List ℤ) → ((k : ℕ) → k < length values → told (answer leaf (get_or values k (pos 0))) ≡ Ok tt)
+pub none_refused : (answer : StoreAnswer) (leaf first : ℕ) (values : List ℤ) → ((k : ℕ) → k < length values → without_number (answer leaf (get_or values k (pos 0))) ≡ Ok tt)
     → first_lane_fault answer leaf first values ≡ None
 none_refused answer leaf first [] each = refl
 none_refused answer leaf first (value ∷ values) each =

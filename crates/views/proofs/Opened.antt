@@ -1,5 +1,5 @@
 -- A view by its fields.
-use Rattle.views.proofs.Imports.{◌≡◌, ℕ, ℤ, ◌<◌, ◌≤◌, List, [], ◌∷◌, Some, false, length, map, slice_get, sym, ap, ◌∙◌, subst, arith, enumerate_from, length-map, length-enumerate_from, get_or_from_slice_get, Fields, indices, Schema, LeafType, Truth, schema_fields, leaves, kinds_of, IsIn, IsDeclared, is_signed, Owner, IsLaidOut, entry, Cell, Hold, MapExpr, Term, term_of, kinds_are, leaf_cells, layout_by, holds_by, IsTooBigFor, is_counted, hold_widths, AreLaid, table_in, hold_at, with_entry, Table, leaf_count_of, leaf_type_of, table_holds, after_log, after_raw, after_stores, IsTable, IsSettledIn, Fits, kind_at, Access, Write, Tally, touched, tallied, all_touches, declared, StoreMode, Strict, IsSettled, raw_held, stays_declared, IsKept, IsMappingOf, IsTallied, HasSign, raw_under, table_under, idle_logged}
+use Rattle.views.proofs.Imports.{◌≡◌, ℕ, ℤ, ◌<◌, ◌≤◌, List, [], ◌∷◌, Some, false, length, map, slice_get, sym, ap, ◌∙◌, subst, arith, enumerate_from, length-map, length-enumerate_from, get_or_from_slice_get, Fields, indices, Schema, LeafType, Truth, schema_fields, leaves, kinds_of, IsIn, IsDeclared, is_signed, Owner, IsLaidOut, entry, Cell, Hold, MapExpr, Term, term_of, kinds_are, leaf_cells, layout_by, holds_by, IsTooBigFor, is_counted, hold_widths, AreLaid, table_in, hold_at, with_entry, Table, leaf_count_of, leaf_type_of, table_holds, after_log, after_raw, after_stores, IsTable, IsSettledIn, Fits, kind_at, Access, Write, Tally, after_access, tallied, all_touches, declared, StoreMode, Strict, IsSettled, raw_held, stays_declared, IsKept, IsMappingOf, IsTallied, HasSign, raw_under, table_under, idle_logged}
 use Rattle.views.proofs.KeptLaws.{kind_count, row_count, kept_shape, kept_stays, hold_some, entry_is_declared, entry_stays, sign_entry, strict_raw, kept_set, table_set}
 
 -- as many cells as leaves
@@ -47,8 +47,8 @@ module _ {term : Term} {extents : List ℕ} {fields : Fields} {mapped : Term} {i
       (subst (λ (w : List (List Owner)). IsTallied term w (length cells) tally) (sym mapping.layout_is)
       (subst (λ (n : ℕ). IsTallied term (layout_by term extents fields) n tally) (sym (cell_count ∙ kind_count fields)) has))
 
-  pub touched_there : (tally : Tally) (access : Access) → touched layout tally access ≡ touched (layout_by term extents fields) tally access
-  touched_there tally access = ap (λ (w : List (List Owner)). touched w tally access) mapping.layout_is
+  pub touched_there : (tally : Tally) (access : Access) → after_access layout tally access ≡ after_access (layout_by term extents fields) tally access
+  touched_there tally access = ap (λ (w : List (List Owner)). after_access w tally access) mapping.layout_is
 
   pub touches_there : (tally : Tally) (reads writes : ℕ) → tallied layout tally (all_touches reads writes (length cells) slots)
       ≡ tallied (layout_by term extents fields) tally (all_touches reads writes (length (leaves fields)) (length (indices extents)))

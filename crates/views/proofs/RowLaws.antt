@@ -1,5 +1,5 @@
 -- The values of a row, one leaf more.
-use Rattle.views.proofs.Imports.{◌≡◌, true, ℕ, ◌+◌, ◌<◌, ◌≤◌, ℤ, pos, List, [], ◌∷◌, length, take, get_or, set, Result, Ok, is_ok, refl, sym, ap, ◌∙◌, arith, OnOk, enumerate_from, take_more, take_all, length-map, length-set, set-set, set-get_or, get_or-set_same, take-set-le, get_or-map, length-enumerate_from, get_or-enumerate_from, with_entry, Table, answer_of, kept_of, leaf_count_of, after_log, after_stores, after_read, after_write, kept_row, told, told_ok, after_log-none, after_log-append, accesses_more, half, half_more, half_whole, Access, Read, Write, row_accesses, StoreFault}
+use Rattle.views.proofs.Imports.{◌≡◌, true, ℕ, ◌+◌, ◌<◌, ◌≤◌, ℤ, pos, List, [], ◌∷◌, length, take, get_or, set, Result, Ok, is_ok, refl, sym, ap, ◌∙◌, arith, OnOk, enumerate_from, take_more, take_all, length-map, length-set, set-set, set-get_or, get_or-set_same, take-set-le, get_or-map, length-enumerate_from, get_or-enumerate_from, with_entry, Table, answer_of, kept_of, leaf_count_of, after_log, after_stores, after_read, after_write, kept_row, without_number, told_ok, after_log-none, after_log-append, accesses_more, half, half_more, half_whole, Access, Read, Write, row_accesses, StoreFault}
 
 -- the values before a leaf were read
 pub record AreRead (old now : Table) (row : ℕ) (values : List ℤ) (leaf : ℕ) : Type 0 where
@@ -47,7 +47,7 @@ length-kept_row : (table : Table) (values : List ℤ) → length (kept_row (kept
 length-kept_row table values = length-map (enumerate_from 0 values) (λ (v : ℕ × ℤ). kept_of table v.0 v.1) ∙ length-enumerate_from 0 values
 
 pub leaf_stored : (old now new : Table) (row leaf : ℕ) (values : List ℤ) (answer : Result Unit StoreFault) → row < length old.rows → leaf < length values → length values ≡ length (get_or old.rows row [])
-    → is_ok (answer_of old leaf (get_or values leaf (pos 0))) ≡ true → answer ≡ told (answer_of now leaf (get_or values leaf (pos 0))) → OnOk answer (new ≡ after_write now row leaf (get_or values leaf (pos 0)))
+    → is_ok (answer_of old leaf (get_or values leaf (pos 0))) ≡ true → answer ≡ without_number (answer_of now leaf (get_or values leaf (pos 0))) → OnOk answer (new ≡ after_write now row leaf (get_or values leaf (pos 0)))
     → AreStored old now row values leaf → AreStored old new row values (leaf + 1)
 leaf_stored old now new row leaf values answer inside small same taken gives stored so_far =
     let before = get_or old.rows row [] in
@@ -55,7 +55,7 @@ leaf_stored old now new row leaf values answer inside small same taken gives sto
     let kept = kept_row (kept_of old) values in
     let number = kept_of old leaf value in
     let part = half kept before leaf in
-    let ok : answer ≡ Ok tt = gives ∙ ap (λ (s : Table). told (answer_of s leaf value)) so_far ∙ told_ok (answer_of old leaf value) taken in
+    let ok : answer ≡ Ok tt = gives ∙ ap (λ (s : Table). without_number (answer_of s leaf value)) so_far ∙ told_ok (answer_of old leaf value) taken in
     let done = rw ok at stored in
     let long : length kept ≡ length values = length-kept_row old values in
     let written : with_entry (set old.rows row part) row leaf number ≡ set old.rows row (half kept before (leaf + 1)) =

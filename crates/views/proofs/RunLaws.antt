@@ -1,5 +1,5 @@
 -- Rows of a leaf that lie in a stretch.
-use Rattle.views.proofs.Imports.{◌≡◌, ℕ, zero, suc, ◌+◌, ◌^◌, ◌<◌, ◌≤◌, Bool, true, false, ◌&&◌, List, [], ◌∷◌, length, map, take, drop, get_or, set, slice_index, ℤ, pos, ◌≤ℤ◌, FitsSigned, of_z, w64, refl, sym, ap, ◌∙◌, subst, arith, bit_at, range_with_len, Fits-of_z, ints, length-map, get_or-map, get_or-set_same, set-set, length-take, length-drop, get_or-drop, get_or-take, get_or_default, same_lists, length-range_with_len, IsIn, IsDeclared, least_of, greatest_of, least_in, greatest_in, LeafType, number, digit, entry, Owner, IsLaidOut, Hold, bit_of, PieceRule, AreSized, AreLaid, hold_at, table_in, with_entry, word_place, word_width, start_in, IsShortIn, stretch_place, IsStretch, stretch_fits, ShortRule, Stretch, low_64, code_low, stretched_at, HasRoom, ArePut, word_narrow, in_leaf, column, with_column, no_column, entry_more, raised, Fits}
+use Rattle.views.proofs.Imports.{◌≡◌, ℕ, zero, suc, ◌+◌, ◌^◌, ◌<◌, ◌≤◌, Bool, true, false, ◌&&◌, List, [], ◌∷◌, length, map, take, drop, get_or, set, slice_index, ℤ, pos, ◌≤ℤ◌, FitsSigned, of_z, w64, refl, sym, ap, ◌∙◌, subst, arith, bit_at, range_with_len, Fits-of_z, ints, length-map, get_or-map, get_or-set_same, set-set, length-take, length-drop, get_or-drop, get_or-take, get_or_default, same_lists, length-range_with_len, IsIn, IsDeclared, least_of, greatest_of, least_in, greatest_in, LeafType, number, digit, entry, Owner, IsLaidOut, Hold, bit_of, PieceRule, AreSized, AreLaid, hold_at, table_in, with_entry, word_place, word_width, start_in, IsShortIn, stretch_place, IsStretch, stretch_fits, ShortRule, Stretch, low_64, code_low, stretched_at, StretchFits, ArePut, word_narrow, in_leaf, column, with_column, no_column, entry_more, raised, Fits}
 use Rattle.record_dim.specs.declared.leaf_type.LeafType.TheVariants as kinds
 use Rattle.views.proofs.AccessLaws.{is_word, blob_there, word_there, word_read, word_put, word_lies}
 
@@ -39,7 +39,7 @@ module _ {layout : List (List Owner)} {slots : ℕ} (holds : List Hold) (leaf ro
     pub stretch_blob : short.blob < length blobs
     stretch_blob = blob_there holds (row + 0) leaf laid paired (row_in 0 lies.some) leaf_in form (stretch_place stretch 0) (place 0 lies.some) blobs sized lies.alone
 
-    pub has_room : (bytes : List ℕ) → bytes ≡ get_or blobs short.blob [] → HasRoom short stretch (length bytes)
+    pub has_room : (bytes : List ℕ) → bytes ≡ get_or blobs short.blob [] → StretchFits short stretch (length bytes)
     has_room bytes is = record {
       form = is_word holds (row + 0) leaf laid paired (row_in 0 lies.some) leaf_in form (stretch_place stretch 0) (place 0 lies.some) blobs sized lies.alone;
       digits = lies.digits;

@@ -1,5 +1,5 @@
 -- What is written for a value that is stored.
-use Rattle.views.proofs.Imports.{◌≡◌, ℕ, ◌<◌, ◌≤◌, List, [], ◌∷◌, length, map, get_or, ℤ, pos, zero, suc, Ok, refl, sym, ap, ◌∙◌, subst, arith, LeafType, Hold, hold_at, with_entry, declared, held, declared_same, fitting_held, fitting_settled, fitting_stays, stays_settled, StoreMode, Strict, answer_stays, stays_answer, strict_kept, told_kept, Fits, kept_or, told, Table, answer_of, kept_of, leaf_type_of, table_holds, after_raw, after_stores, after_write, IsSettledIn, Write}
+use Rattle.views.proofs.Imports.{◌≡◌, ℕ, ◌<◌, ◌≤◌, List, [], ◌∷◌, length, map, get_or, ℤ, pos, zero, suc, Ok, refl, sym, ap, ◌∙◌, subst, arith, LeafType, Hold, hold_at, with_entry, declared, held, declared_same, fitting_held, fitting_settled, fitting_stays, stays_settled, StoreMode, Strict, answer_stays, stays_answer, strict_kept, told_kept, Fits, kept_or, without_number, Table, answer_of, kept_of, leaf_type_of, table_holds, after_raw, after_stores, after_write, IsSettledIn, Write}
 use Rattle.views.specs.Stores.{Stays}
 
 -- ---- a value that fits
@@ -23,7 +23,7 @@ module _ (table : Table) (leaf : ℕ) (value : ℤ) (some : 1 ≤ (hold_at (tabl
 
 -- ---- a value that is taken
 
-module _ (table : Table) (leaf : ℕ) (value : ℤ) (some : 1 ≤ (hold_at (table_holds table) leaf).width) (taken : told (answer_of table leaf value) ≡ Ok tt) where
+module _ (table : Table) (leaf : ℕ) (value : ℤ) (some : 1 ≤ (hold_at (table_holds table) leaf).width) (taken : without_number (answer_of table leaf value) ≡ Ok tt) where
   kept_stays : Stays table.mode (leaf_type_of table leaf) (hold_at (table_holds table) leaf) (kept_of table leaf value)
   kept_stays =
       answer_stays table.mode (leaf_type_of table leaf) (hold_at (table_holds table) leaf) value (kept_of table leaf value) some (told_kept value (answer_of table leaf value) taken)

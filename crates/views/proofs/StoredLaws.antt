@@ -1,10 +1,10 @@
 -- The values of one leaf that are stored, a lane at a time.
-use Rattle.views.proofs.Imports.{◌≡◌, ℕ, zero, suc, ◌+◌, ◌<◌, ◌≤◌, List, [], ◌∷◌, ◌++◌, length, take, drop, get_or, ℤ, pos, Some, None, Ok, Err, refl, sym, ap, ◌∙◌, arith, subst, drop-cons, FitsSigned, to_z, of_z, w64, w128, to_z-of_z, option_or, map-range_with_len_more, declared, with_entry, Answer, told, told_err, Table, leaf_type_of, after_raw, after_stores, Write, after_log-none, after_stores-append, column_writes, with_column, lane_fault, first_lane_fault, no_column, entry_more, StoreFault, LaneFault}
+use Rattle.views.proofs.Imports.{◌≡◌, ℕ, zero, suc, ◌+◌, ◌<◌, ◌≤◌, List, [], ◌∷◌, ◌++◌, length, take, drop, get_or, ℤ, pos, Some, None, Ok, Err, refl, sym, ap, ◌∙◌, arith, subst, drop-cons, FitsSigned, to_z, of_z, w64, w128, to_z-of_z, option_or, map-range_with_len_more, declared, with_entry, StoreAnswer, without_number, told_err, Table, leaf_type_of, after_raw, after_stores, Write, after_log-none, after_stores-append, column_writes, with_column, lane_fault, first_lane_fault, no_column, entry_more, StoreFault, LaneFault}
 use Rattle.std.proofs.Common.{length-take, take_all}
 use Rattle.std.specs.Prelude.{Option, Result}
 
 -- a lane whose value is taken
-no_lane_fault : (lane : ℕ) (result : Result ℤ StoreFault) → lane_fault lane result ≡ None → told result ≡ Ok tt
+no_lane_fault : (lane : ℕ) (result : Result ℤ StoreFault) → lane_fault lane result ≡ None → without_number result ≡ Ok tt
 no_lane_fault lane (Ok kept) none = refl
 no_lane_fault lane (Err fault) none = absurd (cc)
 
@@ -12,8 +12,8 @@ both_none : (one other : Option LaneFault) → option_or one other ≡ None → 
 both_none None other none = (refl, none)
 both_none (Some fault) other none = absurd (cc)
 
-pub lane_taken : (answer : Answer) (leaf first lane : ℕ) (values : List ℤ) → first_lane_fault answer leaf first values ≡ None → lane < length values
-    → told (answer leaf (get_or values lane (pos 0))) ≡ Ok tt
+pub lane_taken : (answer : StoreAnswer) (leaf first lane : ℕ) (values : List ℤ) → first_lane_fault answer leaf first values ≡ None → lane < length values
+    → without_number (answer leaf (get_or values lane (pos 0))) ≡ Ok tt
 lane_taken answer leaf first lane [] none inside = absurd (omega arith)
 lane_taken answer leaf first zero (value ∷ values) none inside =
     no_lane_fault first (answer leaf value) (both_none (lane_fault first (answer leaf value)) (first_lane_fault answer leaf (first + 1) values) none).0
@@ -21,11 +21,11 @@ lane_taken answer leaf first (suc lane) (value ∷ values) none inside =
     lane_taken answer leaf (first + 1) lane values (both_none (lane_fault first (answer leaf value)) (first_lane_fault answer leaf (first + 1) values) none).1 (omega arith)
 
 -- the lanes from one on, where it is taken and where it is not
-pub first_taken : (lane : ℕ) (result : Result ℤ StoreFault) (later : Option LaneFault) → told result ≡ Ok tt → option_or (lane_fault lane result) later ≡ later
+pub first_taken : (lane : ℕ) (result : Result ℤ StoreFault) (later : Option LaneFault) → without_number result ≡ Ok tt → option_or (lane_fault lane result) later ≡ later
 first_taken lane (Ok kept) later taken = refl
 first_taken lane (Err fault) later taken = absurd (cc)
 
-pub fault_later : (answer : Answer) (leaf lane : ℕ) (values : List ℤ) → lane < length values → told (answer leaf (get_or values lane (pos 0))) ≡ Ok tt
+pub fault_later : (answer : StoreAnswer) (leaf lane : ℕ) (values : List ℤ) → lane < length values → without_number (answer leaf (get_or values lane (pos 0))) ≡ Ok tt
     → first_lane_fault answer leaf lane (drop lane values) ≡ first_lane_fault answer leaf (lane + 1) (drop (lane + 1) values)
 fault_later answer leaf lane values inside taken =
     let next : suc lane ≡ lane + 1 = omega arith in
@@ -33,7 +33,7 @@ fault_later answer leaf lane values inside taken =
     ∙ first_taken lane (answer leaf (get_or values lane (pos 0))) (first_lane_fault answer leaf (lane + 1) (drop (suc lane) values)) taken
     ∙ ap (λ (n : ℕ). first_lane_fault answer leaf (lane + 1) (drop n values)) next
 
-pub fault_here : (answer : Answer) (leaf lane : ℕ) (values : List ℤ) (fault : StoreFault) → lane < length values → told (answer leaf (get_or values lane (pos 0))) ≡ Err fault
+pub fault_here : (answer : StoreAnswer) (leaf lane : ℕ) (values : List ℤ) (fault : StoreFault) → lane < length values → without_number (answer leaf (get_or values lane (pos 0))) ≡ Err fault
     → first_lane_fault answer leaf lane (drop lane values) ≡ Some (record { lane = lane; fault = fault })
 fault_here answer leaf lane values fault inside refused =
     let value = get_or values lane (pos 0) in

@@ -1,12 +1,12 @@
 -- One access, and the same accesses again and again.
-use Rattle.views.proofs.Imports.{◌≡◌, ℕ, zero, suc, ◌+◌, ◌*◌, ◌-◌, ◌^◌, ◌<◌, min, List, ◌++◌, length, map, Bool, true, false, Option, Some, None, refl, ap, sym, ◌∙◌, arith, IfSome, if◌then◌else◌, slice_set, enumerate_from, range_with_len, fun_ext, fold-map, fold-append, Owner, is_hot, LeafCounts, HeatCounts, HasLeaves, counted_times, warmed_times, counted-counted, warmed-warmed, raised-capped, Access, Read, Write, Tally, counts_touched, heat_touched, touched, tallied, leaf_touched, granules_touched, access_to, row_accesses, all_accesses, times_accesses, all_touches, counts_after, heat_after, leaf_raised, leaves_raised, granules_raised, row_raised, rows_raised, tallied-counts, tallied-heat, leaves_both, heated_both, copies, copies_add, copies_copies, fold-same, fold-flat_map, many, fold-copies}
+use Rattle.views.proofs.Imports.{◌≡◌, ℕ, zero, suc, ◌+◌, ◌*◌, ◌-◌, ◌^◌, ◌<◌, min, List, ◌++◌, length, map, Bool, true, false, Option, Some, None, refl, ap, sym, ◌∙◌, arith, IfSome, if◌then◌else◌, slice_set, enumerate_from, range_with_len, fun_ext, fold-map, fold-append, Owner, is_hot, LeafCounts, HeatCounts, HasLeaves, counted_times, warmed_times, counted-counted, warmed-warmed, raised-capped, Access, Read, Write, Tally, counts_touched, heat_touched, after_access, tallied, leaf_touched, granules_touched, access_to, row_accesses, all_accesses, times_accesses, all_touches, counts_after, heat_after, leaf_raised, leaves_raised, granules_raised, row_raised, rows_raised, tallied-counts, tallied-heat, leaves_both, heated_both, copies, copies_add, copies_copies, fold-same, fold-flat_map, many, fold-copies}
 use Rattle.std.specs.Prelude.{option_map, slice_index}
 use Rattle.std.specs.List.{fold}
 
 -- the counters after one access
 pub touched_both : (layout : List (List Owner)) (write : Bool) (row leaf : ℕ) (tally : Tally) (counts : Option LeafCounts) (heat : Option HeatCounts)
     → counts ≡ option_map (leaf_touched write leaf) tally.counts → heat ≡ option_map (granules_touched layout row leaf) tally.heat
-    → (let t : Tally = record { counts = counts; heat = heat } in t) ≡ touched layout tally (access_to write row leaf)
+    → (let t : Tally = record { counts = counts; heat = heat } in t) ≡ after_access layout tally (access_to write row leaf)
 touched_both layout false row leaf tally counts heat one two =
     ap (λ (c : Option LeafCounts). let t : Tally = record { counts = c; heat = heat } in t) one
     ∙ ap (λ (h : Option HeatCounts). let t : Tally = record { counts = option_map (leaf_touched false leaf) tally.counts; heat = h } in t) two

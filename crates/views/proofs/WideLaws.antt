@@ -1,5 +1,5 @@
 -- A leaf in a row that is read by one load of eight bytes.
-use Rattle.views.proofs.Imports.{◌≡◌, ℕ, ◌+◌, ◌*◌, ◌/◌, ◌<◌, ◌≤◌, Bool, true, false, ◌||◌, nat_eq, ◌⊎◌, inl, inr, ⊎_elim, List, [], length, get_or, refl, sym, ap, ◌∙◌, arith, cases_lt, get_or_past, number, decoded, number_same, Owner, bit_of, turned_place, IsTurned, AreLaid, word_place, word_signed, word_width, Field, Word, leads, walks_plain, walks_in_blocks, is_turned_width, IsAsWhole, IsAsTurned, IsWide, ShortRule, Walk, Wide, or_cases}
+use Rattle.views.proofs.Imports.{◌≡◌, ℕ, ◌+◌, ◌*◌, ◌/◌, ◌<◌, ◌≤◌, Bool, true, false, ◌||◌, nat_eq, ◌⊎◌, inl, inr, ⊎_elim, List, [], length, get_or, refl, sym, ap, ◌∙◌, arith, cases_lt, get_or_past, number, decoded, number_same, Owner, bit_of, turned_place, IsTurned, AreLaid, word_place, word_signed, word_width, Field, Word, leads, walks_plain, walks_in_blocks, is_turned_width, IsAsWhole, IsAsTurned, AreReadWide, ShortRule, Walk, Wide, or_cases}
 use Rattle.piece_bits.specs.declared.word.Word.TheVariants as stored
 use Rattle.piece_bits.specs.declared.walk.Walk.TheVariants as walk
 
@@ -27,7 +27,7 @@ bytes_laid layout blobs blob laid =
 
 -- the rows of a leaf, by the bytes that its blob has
 pub wide_seen : {layout : List (List Owner)} {blobs : List (List ℕ)} {short : ShortRule} {wide : Wide} → AreLaid layout blobs
-    → ((bytes : ℕ) → 8 * bytes ≡ length (get_or layout short.blob []) → IsWide short bytes wide) → IsWide short (length (get_or blobs short.blob [])) wide
+    → ((bytes : ℕ) → 8 * bytes ≡ length (get_or layout short.blob []) → AreReadWide short bytes wide) → AreReadWide short (length (get_or blobs short.blob [])) wide
 wide_seen {layout} {blobs} {short} {wide} laid h = h (length (get_or blobs short.blob [])) (bytes_laid layout blobs short.blob laid)
 
 -- there is room for a load where there is room in the blob

@@ -14,34 +14,34 @@ use Rattle.map_any.specs.AnyLaws.{length-leaf_cells}
 use Rattle.map_checks.specs.Mappings.{leaf_cells}
 use Rattle.map_checks.specs.TermLaws.{length-holds}
 use Rattle.piece_bits.specs.Tables.{hold_at}
-use Rattle.piece_bits.specs.Kept.{value_bits, kept}
+use Rattle.piece_bits.specs.LowBits.{value_bits, kept}
 use Rattle.piece_bits.specs.KeptLaws.{kept_again, wide_kept}
 use Rattle.piece_bits.specs.declared.mode.StoreMode.{StoreMode}
 use Rattle.piece_bits.specs.declared.mode.StoreMode.TheVariants.{Strict, Wrap}
 use Rattle.views.specs.StrictLaws.{stored_fits, fitting_stored}
-use Rattle.views.specs.Stores.{Keeping, Stays, kind_at, is_between, store_answer, told, kept_or, kept_row, kept_rows}
+use Rattle.views.specs.Stores.{Keeping, Stays, kind_at, is_between, store_answer, without_number, kept_or, kept_row, kept_rows}
 use Rattle.views.specs.Tables.{Table, IsTable, IsWide, kept_of, leaf_count_of, leaf_types_of, leaf_type_of, table_holds}
 use Rattle.views.specs.declared.fault.StoreFault.{StoreFault}
 use Rattle.views.specs.declared.fault.StoreFault.TheVariants.{Range, Narrow}
 
 -- ---- an answer that is no refusal, and one that is
 
-pub told_ok : (answer : Result ℤ StoreFault) → is_ok answer ≡ true → told answer ≡ Ok tt
+pub told_ok : (answer : Result ℤ StoreFault) → is_ok answer ≡ true → without_number answer ≡ Ok tt
 told_ok (Ok left) taken = refl
 told_ok (Err fault) taken = absurd (cc taken)
 
-pub told_same : (answer : Result ℤ StoreFault) → is_ok (told answer) ≡ is_ok answer
+pub told_same : (answer : Result ℤ StoreFault) → is_ok (without_number answer) ≡ is_ok answer
 told_same (Ok left) = refl
 told_same (Err fault) = refl
 
-pub told_err : (answer : Result ℤ StoreFault) (fault : StoreFault) → told answer ≡ Err fault → answer ≡ Err fault
+pub told_err : (answer : Result ℤ StoreFault) (fault : StoreFault) → without_number answer ≡ Err fault → answer ≡ Err fault
 told_err (Ok left) fault refused = absurd (cc refused)
 told_err (Err other) fault refused =
     let same : other ≡ fault = cc refused in
     ap (λ (f : StoreFault). Err f) same
 
 -- one that is none keeps what a store leaves
-pub told_kept : (value : ℤ) (answer : Result ℤ StoreFault) → told answer ≡ Ok tt → answer ≡ Ok (kept_or value answer)
+pub told_kept : (value : ℤ) (answer : Result ℤ StoreFault) → without_number answer ≡ Ok tt → answer ≡ Ok (kept_or value answer)
 told_kept value (Ok left) taken = refl
 told_kept value (Err fault) taken = absurd (cc taken)
 

@@ -3,7 +3,7 @@ use Rattle.std.specs.Prelude.{ℕ, zero, suc, ◌+◌, ◌<◌, ◌≤◌, ℤ, 
 use Rattle.std.specs.List.{range_with_len}
 use Rattle.std.specs.Option.{option_or}
 use Rattle.record_dim.specs.LeafTypes.{width_of}
-use Rattle.views.specs.Stores.{Answer}
+use Rattle.views.specs.Stores.{StoreAnswer}
 use Rattle.views.specs.Tables.{Table, leaf_count_of, leaf_type_of}
 use Rattle.views.specs.Tallies.{Access, Read, Write}
 use Rattle.views.specs.declared.fault.LaneFault.{LaneFault}
@@ -42,6 +42,6 @@ lane_fault lane (Ok kept) = None
 lane_fault lane (Err fault) = Some (record { lane = lane; fault = fault })
 
 -- the fault of the first of these values, whose lanes begin with this one, that a leaf does not take
-abbrev pub first_lane_fault : Answer → ℕ → ℕ → List ℤ → Option LaneFault
+abbrev pub first_lane_fault : StoreAnswer → ℕ → ℕ → List ℤ → Option LaneFault
 first_lane_fault answer leaf lane [] = None
 first_lane_fault answer leaf lane (value ∷ values) = option_or (lane_fault lane (answer leaf value)) (first_lane_fault answer leaf (lane + 1) values)

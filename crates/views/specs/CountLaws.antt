@@ -9,16 +9,16 @@ use Rattle.map_expr.specs.Terms.{Term, Aos, Soa, Aosoa, BitAos, BitSoa, Split, B
 use Rattle.map_any.specs.Counters.{has_count, granule_of, is_counted}
 use Rattle.places.specs.declared.piece.Piece.{Piece}
 use Rattle.places.specs.Layout.{Owner}
-use Rattle.places.specs.Laws.{IsPiece}
+use Rattle.places.specs.Lawful.{IsPiece}
 use Rattle.instrument.specs.declared.counts.Counts.{Counts}
 use Rattle.instrument.specs.declared.heat.Heat.{Heat as Heats}
 use Rattle.instrument.specs.Counters.{leaf_counts, heat_counts, no_counts, no_heat, LeafCounts, HeatCounts, next, raised, granules_of, warmed_blob, HasLeaves, IsInside}
 use Rattle.instrument.specs.WarmingLaws.{length-warmed_blob, bytes-in_granules}
 use Rattle.places.specs.Touched.{is_hot}
-use Rattle.views.specs.Tallies.{Access, Read, Write, Tally, counts_touched, heat_touched, touched, tallied, no_tally, blob_lengths}
-use Rattle.views.specs.Repeated.{leaf_raised, granules_raised}
+use Rattle.views.specs.Tallies.{Access, Read, Write, Tally, counts_touched, heat_touched, after_access, tallied, no_tally, blob_lengths}
+use Rattle.views.specs.Inner.Repeated.{leaf_raised, granules_raised}
 use Rattle.views.specs.TallyLaws.{tallied-append}
-use Rattle.views.specs.Kept.{HasGranules, IsTallied, tally_of}
+use Rattle.views.specs.ViewFields.{HasGranules, IsTallied, tally_of}
 
 -- counts of leaves
 counted_leaves : (access : Access) (counts : LeafCounts) (leaves : ℕ) → HasLeaves counts leaves → HasLeaves (counts_touched access counts) leaves
@@ -65,7 +65,7 @@ granule_kept layout (Write row leaf) (Some heat) = refl
 
 -- an access leaves as many counts
 pub tallied_kept : {term : Term} {layout : List (List Owner)} {leaves : ℕ} {tally : Tally} (access : Access)
-    → IsTallied term layout leaves tally → IsTallied term layout leaves (touched layout tally access)
+    → IsTallied term layout leaves tally → IsTallied term layout leaves (after_access layout tally access)
 tallied_kept {term} {layout} {leaves} {tally} access has = record {
   counted = some_kept (counts_touched access) tally.counts ∙ has.counted;
   each_leaf = leaves_kept access tally.counts leaves has.each_leaf;
@@ -74,7 +74,7 @@ tallied_kept {term} {layout} {leaves} {tally} access has = record {
 }
 
 -- one access
-pub tallied-one : (layout : List (List Owner)) (tally : Tally) (access : Access) → tallied layout tally (access ∷ []) ≡ touched layout tally access
+pub tallied-one : (layout : List (List Owner)) (tally : Tally) (access : Access) → tallied layout tally (access ∷ []) ≡ after_access layout tally access
 unfolding tallied
 tallied-one layout tally access = refl
 
@@ -93,7 +93,7 @@ none_mapped f None e = refl
 none_mapped f (Some x) e = cc
 
 -- so accesses leave it all
-pub idle_touched : (layout : List (List Owner)) (tally : Tally) (access : Access) → tally.counts ≡ None → tally.heat ≡ None → touched layout tally access ≡ tally
+pub idle_touched : (layout : List (List Owner)) (tally : Tally) (access : Access) → tally.counts ≡ None → tally.heat ≡ None → after_access layout tally access ≡ tally
 idle_touched layout tally access counts heat =
     let same_counts : option_map (counts_touched access) tally.counts ≡ tally.counts = ap (option_map (counts_touched access)) counts ∙ sym counts in
     let same_heat : option_map (heat_touched layout access) tally.heat ≡ tally.heat = ap (option_map (heat_touched layout access)) heat ∙ sym heat in
@@ -111,7 +111,7 @@ pub idle_log : (layout : List (List Owner)) (tally : Tally) (log : List Access) 
 unfolding tallied
 idle_log layout tally [] counts heat = refl
 idle_log layout tally (access ∷ log) counts heat =
-    ap (λ (t : Tally). fold (touched layout) t log) (idle_touched layout tally access counts heat) ∙ idle_log layout tally log counts heat
+    ap (λ (t : Tally). fold (after_access layout) t log) (idle_touched layout tally access counts heat) ∙ idle_log layout tally log counts heat
 
 pub idle_logged : {term : Term} {layout : List (List Owner)} {leaves : ℕ} {tally : Tally} (log : List Access)
     → is_counted term ≡ false → IsTallied term layout leaves tally → tallied layout tally log ≡ tally
@@ -124,7 +124,7 @@ pub log_kept : {term : Term} {layout : List (List Owner)} {leaves : ℕ} (tally 
     → IsTallied term layout leaves tally → IsTallied term layout leaves (tallied layout tally log)
 unfolding tallied
 log_kept tally [] has = has
-log_kept {term} {layout} {leaves} tally (access ∷ log) has = log_kept (touched layout tally access) log (tallied_kept access has)
+log_kept {term} {layout} {leaves} tally (access ∷ log) has = log_kept (after_access layout tally access) log (tallied_kept access has)
 
 -- the granules of a blob
 whole_bytes : (bits : ℕ) → bits % 8 ≡ 0 → 8 * (bits / 8) ≡ bits

@@ -6,7 +6,7 @@ use Rattle.extents.specs.declared.order.Order.{Order}
 use Rattle.linearize.specs.Slots.{slot_count}
 use Rattle.map_expr.specs.Terms.{Term}
 use Rattle.map_checks.specs.Arrays.{array_of, lanes_in}
-use Rattle.map_any.specs.ArraySlots.{slots_in}
+use Rattle.map_any.specs.Inner.ArraySlots.{slots_in}
 use Rattle.map_any.specs.Strategies.{AreRuns}
 use Rattle.map_any.specs.declared.arrays.ArraySlots.{ArraySlots}
 use Rattle.views.specs.Moves.{IsInBlock}

@@ -3,13 +3,12 @@ pub mod Stores
 pub mod StrictLaws
 pub mod AnswerLaws
 pub mod HalfLaws
-pub mod Kept
+pub mod ViewFields
 pub mod Refusals
 pub mod Tallies
-pub mod Repeated
 pub mod TallyLaws
 pub mod OrderLaws
-pub mod Entries
+pub mod AccessEntries
 pub mod Columns
 pub mod ColumnsLaws
 pub mod Moves
@@ -20,5 +19,6 @@ pub mod SpanLaws
 pub mod CutLaws
 pub mod CountLaws
 pub mod RepeatLaws
-pub mod Runs
+pub mod LeafRuns
 pub mod RunsLaws
+pub mod Inner

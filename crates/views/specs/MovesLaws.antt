@@ -11,19 +11,19 @@ use Rattle.extents.specs.Indices.{indices}
 use Rattle.extents.specs.declared.order.Order.{Order}
 use Rattle.places.specs.Holds.{full_holds, hold_of}
 use Rattle.places.specs.Layout.{Owner}
-use Rattle.places.specs.Laws.{IsLaidOut}
+use Rattle.places.specs.Lawful.{IsLaidOut}
 use Rattle.places.specs.declared.piece.Cell.{Cell}
 use Rattle.places.specs.declared.piece.Hold.{Hold}
 use Rattle.map_expr.specs.Terms.{Term}
-use Rattle.map_checks.specs.LeafCells.{leaf_cells_kinds, holds_by_kind}
+use Rattle.map_checks.specs.Inner.LeafCells.{leaf_cells_kinds, holds_by_kind}
 use Rattle.map_checks.specs.Mappings.{leaf_cells, holds_by}
 use Rattle.map_checks.specs.Arrays.{array_of}
 use Rattle.piece_bits.specs.Tables.{AreLaid, table_in, hold_at}
 use Rattle.piece_bits.specs.MovedLaws.{AreMoved, moved_laid, moved_entry, kept_entry}
-use Rattle.map_any.specs.ArrayRuns.{IsArrayRun}
+use Rattle.map_any.specs.Inner.ArrayRuns.{IsArrayRun}
 use Rattle.map_any.specs.ArrayRunLaws.{array_holds, run_row, run_other, runs_alike}
 use Rattle.map_any.specs.Strategies.{AreRuns}
-use Rattle.piece_bits.specs.Kept.{declared}
+use Rattle.piece_bits.specs.LowBits.{declared}
 use Rattle.piece_bits.specs.KeptLaws.{kept_in, own_sign_held}
 use Rattle.piece_bits.specs.EntryLaws.{fitting_stays}
 use Rattle.piece_bits.specs.Modes.{IsSettled}

@@ -7,7 +7,7 @@ use Rattle.std.proofs.lemmas.List.Concat.{flat_map-cons}
 use Rattle.places.specs.Layout.{Owner}
 use Rattle.instrument.specs.Counters.{LeafCounts, HeatCounts, counted, next, warmed_blob}
 use Rattle.places.specs.Touched.{is_hot}
-use Rattle.views.specs.Tallies.{Access, Read, Write, Tally, counts_touched, heat_touched, touched, tallied}
+use Rattle.views.specs.Tallies.{Access, Read, Write, Tally, counts_touched, heat_touched, after_access, tallied}
 use Rattle.views.specs.TallyLaws.{tallied-append}
 
 -- two counts by leaf
@@ -75,26 +75,26 @@ heats_both : (layout : List (List Owner)) (one other : Access) (heat : Option He
 heats_both layout one other None = refl
 heats_both layout one other (Some heat) = ap (λ (h : HeatCounts). Some h) (heated_both layout one other heat)
 
-touched_both : (layout : List (List Owner)) (tally : Tally) (one other : Access) → touched layout (touched layout tally one) other ≡ touched layout (touched layout tally other) one
+touched_both : (layout : List (List Owner)) (tally : Tally) (one other : Access) → after_access layout (after_access layout tally one) other ≡ after_access layout (after_access layout tally other) one
 touched_both layout tally one other =
     ap (λ (counts : Option LeafCounts). record { counts = counts; heat = option_map (heat_touched layout other) (option_map (heat_touched layout one) tally.heat) })
     (counts_both one other tally.counts)
     ∙ ap (λ (heat : Option HeatCounts). record { counts = option_map (counts_touched one) (option_map (counts_touched other) tally.counts); heat = heat }) (heats_both layout one other tally.heat)
 
 -- an access before others or after them
-one_later : (layout : List (List Owner)) (tally : Tally) (access : Access) (log : List Access) → tallied layout tally (log ++ access ∷ []) ≡ tallied layout (touched layout tally access) log
+one_later : (layout : List (List Owner)) (tally : Tally) (access : Access) (log : List Access) → tallied layout tally (log ++ access ∷ []) ≡ tallied layout (after_access layout tally access) log
 unfolding tallied
 one_later layout tally access [] = refl
 one_later layout tally access (first ∷ log) =
-    one_later layout (touched layout tally first) access log ∙ ap (λ (t : Tally). fold (touched layout) t log) (touched_both layout tally first access)
+    one_later layout (after_access layout tally first) access log ∙ ap (λ (t : Tally). fold (after_access layout) t log) (touched_both layout tally first access)
 
 -- some accesses before others or after them
 pub tallied-swap : (layout : List (List Owner)) (tally : Tally) (one other : List Access) → tallied layout tally (one ++ other) ≡ tallied layout tally (other ++ one)
 unfolding tallied
 tallied-swap layout tally [] other = ap (λ (log : List Access). tallied layout tally log) (sym (append-nil other))
 tallied-swap layout tally (access ∷ one) other =
-    tallied-swap layout (touched layout tally access) one other
-    ∙ sym (tallied-append layout (touched layout tally access) other one)
+    tallied-swap layout (after_access layout tally access) one other
+    ∙ sym (tallied-append layout (after_access layout tally access) other one)
     ∙ ap (λ (t : Tally). tallied layout t one) (sym (one_later layout tally access other))
     ∙ tallied-append layout tally (other ++ access ∷ []) one
     ∙ ap (λ (log : List Access). tallied layout tally log) (append_assoc other (access ∷ []) one)

@@ -15,7 +15,7 @@ use Rattle.places.specs.Image.{entry}
 use Rattle.views.specs.Columns.{in_leaf, column, with_column}
 use Rattle.views.specs.ColumnsLaws.{column_there, column_stands}
 use Rattle.views.specs.MovesLaws.{with_rows}
-use Rattle.views.specs.Runs.{raised, run_steps, AreRowsMoved, CountsNothing}
+use Rattle.views.specs.LeafRuns.{raised, run_steps, AreRowsMoved, CountsNothing}
 use Rattle.views.specs.Tables.{Table, after_stores}
 use Rattle.views.specs.Tallies.{Access}
 

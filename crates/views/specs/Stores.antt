@@ -6,7 +6,7 @@ use Rattle.record_dim.specs.LeafTypes.{least_of, greatest_of, least_in, greatest
 use Rattle.places.specs.declared.piece.Hold.{Hold}
 use Rattle.places.specs.Image.{entry}
 use Rattle.piece_bits.specs.Tables.{hold_at}
-use Rattle.piece_bits.specs.Kept.{kept}
+use Rattle.piece_bits.specs.LowBits.{kept}
 use Rattle.piece_bits.specs.declared.mode.StoreMode.{StoreMode}
 use Rattle.piece_bits.specs.declared.mode.StoreMode.TheVariants.{Strict, Wrap}
 pub use Rattle.piece_bits.specs.Modes.{kind_at, Fits, Stays}
@@ -27,8 +27,8 @@ store_answer Strict kind hold value =
     else Err Range
 
 -- what a store of a value in a leaf answers
-abbrev pub Answer : Type 0
-Answer = ℕ → ℤ → Result ℤ StoreFault
+abbrev pub StoreAnswer : Type 0
+StoreAnswer = ℕ → ℤ → Result ℤ StoreFault
 
 -- the number that an answer keeps, and the value itself where it is a refusal
 abbrev pub kept_or : ℤ → Result ℤ StoreFault → ℤ
@@ -39,7 +39,7 @@ kept_or value (Err fault) = value
 abbrev pub Keeping : Type 0
 Keeping = ℕ → ℤ → ℤ
 
-abbrev pub kept_by : Answer → Keeping
+abbrev pub kept_by : StoreAnswer → Keeping
 kept_by answer leaf value = kept_or value (answer leaf value)
 
 -- the same of the values of a row, and of rows
@@ -50,9 +50,9 @@ abbrev pub kept_rows : Keeping → List (List ℤ) → List (List ℤ)
 kept_rows keep rows = map (kept_row keep) rows
 
 -- an answer without its number
-abbrev pub told : Result ℤ StoreFault → Result Unit StoreFault
-told (Ok kept) = Ok tt
-told (Err fault) = Err fault
+abbrev pub without_number : Result ℤ StoreFault → Result Unit StoreFault
+without_number (Ok kept) = Ok tt
+without_number (Err fault) = Err fault
 
 -- every value of a table is one that a view of this mode holds
 abbrev pub AllStay : StoreMode → ℕ → List LeafType → List Hold → List (List ℤ) → Type 0

@@ -10,7 +10,7 @@ use Rattle.places.specs.declared.piece.Hold.{Hold}
 use Rattle.map_expr.specs.Terms.{Term}
 use Rattle.map_checks.specs.Mappings.{layout_by, holds_by}
 use Rattle.piece_bits.specs.Tables.{HasShape, hold_at, with_entry}
-use Rattle.piece_bits.specs.Kept.{value_bits, declared}
+use Rattle.piece_bits.specs.LowBits.{value_bits, declared}
 use Rattle.piece_bits.specs.Modes.{IsSettled}
 use Rattle.piece_bits.specs.declared.mode.StoreMode.{StoreMode}
 use Rattle.piece_bits.specs.declared.mode.StoreMode.TheVariants.{Wrap}

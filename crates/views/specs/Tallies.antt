@@ -56,12 +56,12 @@ heat_touched layout (Read row leaf) heat = granules_touched layout row leaf heat
 heat_touched layout (Write row leaf) heat = granules_touched layout row leaf heat
 
 -- the tally after one access
-abbrev pub touched : List (List Owner) → Tally → Access → Tally
-touched layout tally access = record { counts = option_map (counts_touched access) tally.counts; heat = option_map (heat_touched layout access) tally.heat }
+abbrev pub after_access : List (List Owner) → Tally → Access → Tally
+after_access layout tally access = record { counts = option_map (counts_touched access) tally.counts; heat = option_map (heat_touched layout access) tally.heat }
 
 -- the tally after some accesses, in order
 unfoldable pub tallied : List (List Owner) → Tally → List Access → Tally
-tallied layout tally log = fold (touched layout) tally log
+tallied layout tally log = fold (after_access layout) tally log
 
 -- the bytes of each blob
 abbrev pub blob_lengths : List (List Owner) → List ℕ

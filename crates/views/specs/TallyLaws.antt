@@ -8,7 +8,7 @@ use Rattle.std.proofs.lemmas.List.Concat.{flat_map-append, flat_map-cons}
 use Rattle.std.proofs.lemmas.List.FromFn.{map-range_with_len_more}
 use Rattle.places.specs.Layout.{Owner}
 use Rattle.instrument.specs.Counters.{LeafCounts, HeatCounts}
-use Rattle.views.specs.Tallies.{Access, Read, Tally, counts_touched, heat_touched, touched, tallied}
+use Rattle.views.specs.Tallies.{Access, Read, Tally, counts_touched, heat_touched, after_access, tallied}
 use Rattle.views.specs.Tables.{Table, owners_of, after_log, after_stores, after_read}
 
 -- no access counts nothing
@@ -19,7 +19,7 @@ tallied-none layout tally = refl
 -- accesses after others
 pub tallied-append : (layout : List (List Owner)) (tally : Tally) (log more : List Access) → tallied layout (tallied layout tally log) more ≡ tallied layout tally (log ++ more)
 unfolding tallied
-tallied-append layout tally log more = sym (fold-append (touched layout) tally log more)
+tallied-append layout tally log more = sym (fold-append (after_access layout) tally log more)
 
 pub after_log-none : (table : Table) → after_log table [] ≡ table
 after_log-none table = ap (λ (tally : Tally). record table { tally = tally }) (tallied-none (owners_of table) table.tally)
@@ -39,7 +39,7 @@ tallied-counts layout tally [] = same tally.counts where
   same : (counts : Option LeafCounts) → counts ≡ option_map (λ c. c) counts
   same None = refl
   same (Some counts) = refl
-tallied-counts layout tally (access ∷ log) = tallied-counts layout (touched layout tally access) log ∙ once tally.counts where
+tallied-counts layout tally (access ∷ log) = tallied-counts layout (after_access layout tally access) log ∙ once tally.counts where
   once : (counts : Option LeafCounts) → option_map (λ (counts : LeafCounts). fold (λ c a. counts_touched a c) counts log) (option_map (counts_touched access) counts)
       ≡ option_map (λ (counts : LeafCounts). fold (λ c a. counts_touched a c) counts (access ∷ log)) counts
   once None = refl
@@ -53,7 +53,7 @@ tallied-heat layout tally [] = same tally.heat where
   same : (heat : Option HeatCounts) → heat ≡ option_map (λ h. h) heat
   same None = refl
   same (Some heat) = refl
-tallied-heat layout tally (access ∷ log) = tallied-heat layout (touched layout tally access) log ∙ once tally.heat where
+tallied-heat layout tally (access ∷ log) = tallied-heat layout (after_access layout tally access) log ∙ once tally.heat where
   once : (heat : Option HeatCounts) → option_map (λ (heat : HeatCounts). fold (λ h a. heat_touched layout a h) heat log) (option_map (heat_touched layout access) heat)
       ≡ option_map (λ (heat : HeatCounts). fold (λ h a. heat_touched layout a h) heat (access ∷ log)) heat
   once None = refl

@@ -4,7 +4,7 @@ ghost use Rattle.places.specs.Image.{entry};
 ghost use Rattle.map_any.specs.Counters.{is_counted};
 ghost use Rattle.map_any.specs.Maps.{term_of_map};
 ghost use Rattle.piece_bits.specs.Tables.{AreLaid, hold_at, table_in, with_entry};
-ghost use Rattle.views.specs.Kept.{HasSign};
+ghost use Rattle.views.specs.ViewFields.{HasSign};
 
 use crate::view::BlobList;
 use blobs::Blob;

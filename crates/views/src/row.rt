@@ -1,7 +1,7 @@
 ghost use Rattle.std.specs.Prelude.{◌≡◌, ◌+◌, ◌<◌, OnOk, OnErr, length};
 ghost use Rattle.places.specs.Image.{entry};
 ghost use Rattle.record_dim.specs.LeafTypes.{IsDeclared};
-ghost use Rattle.views.specs.Stores.{told};
+ghost use Rattle.views.specs.Stores.{without_number};
 ghost use Rattle.views.specs.Tables.{leaf_count_of, leaf_type_of, answer_of, after_read, after_write};
 
 use crate::fault::StoreFault;
@@ -54,7 +54,7 @@ impl RowRef<'_> {
     ) -> Result<(), StoreFault>
         requires row_in { self.old.row < length self.old.view.now.rows }
         requires leaf_in { leaf < leaf_count_of self.old.view.now }
-        ensures answer { result ≡ told (answer_of self.old.view.now leaf value) }
+        ensures answer { result ≡ without_number (answer_of self.old.view.now leaf value) }
         ensures stored { OnOk result (self.new.view.now ≡ after_write self.old.view.now self.old.row leaf value) }
         ensures refused { OnErr result (self.new.view.now ≡ self.old.view.now) }
         ensures same_row { self.new.row ≡ self.old.row }

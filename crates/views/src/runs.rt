@@ -7,8 +7,8 @@ ghost use Rattle.map_any.specs.Maps.{term_of_map};
 ghost use Rattle.piece_bits.specs.Tables.{AreSized, AreLaid, hold_at, table_in};
 ghost use Rattle.piece_bits.specs.Lows.{low_64};
 ghost use Rattle.views.specs.Columns.{with_column};
-ghost use Rattle.views.specs.Kept.{HasSign};
-ghost use Rattle.views.specs.Runs.{raised};
+ghost use Rattle.views.specs.ViewFields.{HasSign};
+ghost use Rattle.views.specs.LeafRuns.{raised};
 ghost use Rattle.views.specs.Stores.{Fits, kind_at};
 
 use crate::view::BlobList;

@@ -4,7 +4,7 @@ ghost use Rattle.record_dim.specs.Leaves.{kinds_of};
 ghost use Rattle.record_dim.specs.Schemas.{schema_fields};
 ghost use Rattle.map_expr.specs.Terms.{term_of};
 ghost use Rattle.map_checks.specs.Mappings.{leaf_cells, layout_by, accepted, IsBuiltTerm};
-ghost use Rattle.views.specs.Refusals.{IsOver, IsNoView};
+ghost use Rattle.views.specs.Refusals.{IsOverLimits, IsNoView};
 
 use crate::fault::MakeView;
 use crate::fresh::has_few_granules;
@@ -26,7 +26,7 @@ pub fn bytes_for(
 
     // Only want of memory comes before the other answers.
     ensures accepted { OnOk result (accepted (term_of expr.now) (schema_fields schema.now) (leaf_cells (kinds_of (schema_fields schema.now))) ≡ Ok tt) }
-    ensures fits { OnOk result (IsOver (term_of expr.now) extents (schema_fields schema.now) → ⊥) }
+    ensures fits { OnOk result (IsOverLimits (term_of expr.now) extents (schema_fields schema.now) → ⊥) }
     ensures refused { IfErr result (IsNoView (term_of expr.now) extents (schema_fields schema.now)) }
 {
     let map = AnyMap::new(alloc, schema, &extents, expr)?;

@@ -1,6 +1,6 @@
 ghost use Rattle.std.specs.Prelude.{ℕ, ◌≡◌, ◌≤◌};
 ghost use Rattle.piece_bits.specs.declared.mode.StoreMode.TheVariants.{Strict};
-ghost use Rattle.views.specs.Stores.{is_between, store_answer, told};
+ghost use Rattle.views.specs.Stores.{is_between, store_answer, without_number};
 
 use crate::fault::StoreFault;
 use places::Hold;
@@ -10,7 +10,7 @@ use record_dim::LeafType;
 pub fn answer(kind: LeafType, hold: Hold, value: i128) -> Result<(), StoreFault>
     requires some { 1 ≤ hold.width }
     requires narrow { hold.width ≤ 64 }
-    ensures { result ≡ told (store_answer Strict kind hold value) }
+    ensures { result ≡ without_number (store_answer Strict kind hold value) }
 {
     if !is_between(kind.least(), kind.greatest(), value) {
         return Err(StoreFault::Range);

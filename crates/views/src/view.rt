@@ -57,8 +57,8 @@ impl Model for View {
     ghost use Rattle.std.specs.Prelude.{◌≡◌, length};
     ghost use Rattle.views.specs.Tables.{Table};
     ghost use Rattle.std.specs.Coded.{codes};
-    ghost use Rattle.record_dim.specs.Codes.{coded_fields};
-    ghost use Rattle.map_expr.specs.Codes.{coded_term};
+    ghost use Rattle.record_dim.specs.Inner.Codes.{coded_fields};
+    ghost use Rattle.map_expr.specs.Inner.Codes.{coded_term};
 
     ghost Value = { Table };
 
@@ -69,7 +69,7 @@ impl Model for View {
     ghost use Rattle.record_dim.specs.Leaves.{leaves};
     ghost use Rattle.map_checks.specs.Mappings.{layout_by};
     ghost use Rattle.map_any.specs.Maps.{extents_of, term_of_map};
-    ghost use Rattle.views.specs.Kept.{IsKept, IsMappingOf, IsTallied, table_under, tally_of};
+    ghost use Rattle.views.specs.ViewFields.{IsKept, IsMappingOf, IsTallied, table_under, tally_of};
 
     ghost view = { λ v. record {
       fields = schema_fields v.schema;
@@ -92,11 +92,11 @@ impl View {
     ghost use Rattle.map_any.specs.Maps.{extents_of, term_of_map};
     ghost use Rattle.record_dim.specs.Leaves.{leaves, kinds_of};
     ghost use Rattle.record_dim.specs.LeafTypes.{IsDeclared};
-    ghost use Rattle.piece_bits.specs.Kept.{declared};
+    ghost use Rattle.piece_bits.specs.LowBits.{declared};
     ghost use Rattle.piece_bits.specs.declared.mode.StoreMode.TheVariants.{Strict, Wrap};
-    ghost use Rattle.views.specs.Kept.{HasGranules};
-    ghost use Rattle.views.specs.Stores.{told};
-    ghost use Rattle.views.specs.Refusals.{IsOver, IsNoView, IsNoViewWithin};
+    ghost use Rattle.views.specs.ViewFields.{HasGranules};
+    ghost use Rattle.views.specs.Stores.{without_number};
+    ghost use Rattle.views.specs.Refusals.{IsOverLimits, IsNoView, IsNoViewWithin};
     ghost use Rattle.views.specs.Tables.{leaf_count_of, leaf_type_of, leaf_types_of, owners_of, table_holds, answer_of, kept_of, blob_bits_of, after_log, after_read, after_write, after_raw, IsTable, IsSettledIn};
 
     /// A view of zeros, which lies in memory as the expression says and refuses a value that does not fit. `Bad` comes exactly where the
@@ -117,7 +117,7 @@ impl View {
 
         // Only want of memory comes before the other answers.
         ensures accepted { OnOk result (accepted (term_of expr.now) (schema_fields schema.now) (leaf_cells (kinds_of (schema_fields schema.now))) ≡ Ok tt) }
-        ensures fits { OnOk result (IsOver (term_of expr.now) extents (schema_fields schema.now) → ⊥) }
+        ensures fits { OnOk result (IsOverLimits (term_of expr.now) extents (schema_fields schema.now) → ⊥) }
         ensures refused { IfErr result (IsNoView (term_of expr.now) extents (schema_fields schema.now)) }
     {
         View::new_within(alloc, schema, extents, expr, StoreMode::Strict, MAX_BYTES)
@@ -140,7 +140,7 @@ impl View {
 
         // Only want of memory comes before the other answers.
         ensures accepted { OnOk result (accepted (term_of expr.now) (schema_fields schema.now) (leaf_cells (kinds_of (schema_fields schema.now))) ≡ Ok tt) }
-        ensures fits { OnOk result (IsOver (term_of expr.now) extents (schema_fields schema.now) → ⊥) }
+        ensures fits { OnOk result (IsOverLimits (term_of expr.now) extents (schema_fields schema.now) → ⊥) }
         ensures refused { IfErr result (IsNoView (term_of expr.now) extents (schema_fields schema.now)) }
     {
         View::new_within(alloc, schema, extents, expr, StoreMode::Wrap, MAX_BYTES)
@@ -166,7 +166,7 @@ impl View {
 
         // Only want of memory comes before the other answers.
         ensures accepted { OnOk result (accepted (term_of expr.now) (schema_fields schema.now) (leaf_cells (kinds_of (schema_fields schema.now))) ≡ Ok tt) }
-        ensures fits { OnOk result (IsOver (term_of expr.now) extents (schema_fields schema.now) → ⊥) }
+        ensures fits { OnOk result (IsOverLimits (term_of expr.now) extents (schema_fields schema.now) → ⊥) }
         ensures within { OnOk result (sum_by length (layout_by (term_of expr.now) extents (schema_fields schema.now)) ≤ 8 * most) }
         ensures refused { IfErr result (IsNoViewWithin most (term_of expr.now) extents (schema_fields schema.now)) }
     {
@@ -348,7 +348,7 @@ impl View {
     #[inline(always)]
     pub fn fits(&self, leaf: usize, value: i128) -> Result<(), StoreFault>
         requires { leaf < leaf_count_of self.now }
-        ensures { result ≡ told (answer_of self.now leaf value) }
+        ensures { result ≡ without_number (answer_of self.now leaf value) }
     {
         if self.takes(leaf, value) {
             return Ok(());
@@ -371,7 +371,7 @@ impl View {
     #[inline(never)]
     fn tested(&self, leaf: usize, value: i128) -> Result<(), StoreFault>
         requires { leaf < leaf_count_of self.now }
-        ensures { result ≡ told (answer_of self.now leaf value) }
+        ensures { result ≡ without_number (answer_of self.now leaf value) }
     {
         match self.mode {
             StoreMode::Strict => answer(self.schema.leaf_type(leaf), self.map.hold(leaf), value),
@@ -394,7 +394,7 @@ impl View {
     #[inline(always)]
     fn raw(&self, leaf: usize, value: i128) -> i128
         requires leaf_in { leaf < leaf_count_of self.now }
-        requires taken { told (answer_of self.now leaf value) ≡ Ok tt }
+        requires taken { without_number (answer_of self.now leaf value) ≡ Ok tt }
         ensures settled { IsSettledIn self.now leaf result }
         ensures kept { declared (leaf_type_of self.now leaf) result ≡ kept_of self.now leaf value }
     {
@@ -415,7 +415,7 @@ impl View {
     ) -> Result<(), StoreFault>
         requires row_in { row < length self.old.rows }
         requires leaf_in { leaf < leaf_count_of self.old }
-        ensures answer { result ≡ told (answer_of self.old leaf value) }
+        ensures answer { result ≡ without_number (answer_of self.old leaf value) }
         ensures stored { OnOk result (self.new ≡ after_write self.old row leaf value) }
         ensures refused { OnErr result (self.new ≡ self.old) }
         ensures step { steps.new ≡ steps.old + 1 }
@@ -433,7 +433,7 @@ impl View {
     fn set_tested(&mut self, row: u64, leaf: usize, value: i128) -> Result<(), StoreFault>
         requires row_in { row < length self.old.rows }
         requires leaf_in { leaf < leaf_count_of self.old }
-        ensures answer { result ≡ told (answer_of self.old leaf value) }
+        ensures answer { result ≡ without_number (answer_of self.old leaf value) }
         ensures stored { OnOk result (self.new ≡ after_write self.old row leaf value) }
         ensures refused { OnErr result (self.new ≡ self.old) }
     {

@@ -1,5 +1,5 @@
 -- How the lines that were done make a run of all lines.
-use Rattle.worlds.proofs.Imports.{◌≡◌, ℕ, ◌+◌, ◌≤◌, inl, inr, ⊎_elim, Bool, true, false, List, [], ◌∷◌, ◌++◌, length, take, Option, None, Some, Result, Ok, Err, refl, sym, ap, subst, ◌∙◌, arith, append_assoc, length-append, nat_tests, append-nil, take-append-le, ⊤, ◌⊎◌, with_bytes, Wrote, Writes, Wrote-append, Stopped-second, with_bytes-append, Writes-last, take_past, Stopped-front, World, Outcome, Goes, Faults, CannotRead, Left, fault_text, unread_text, Fault, Output, IsText, Gives, Unread, Finished, Answers, IsRun, ended, run_from, after, prepend, fails_at, Did, Refused, Unreadable, Broke, Fronted, text_of, Status, Done, CommandFault, SourceFault, SinkFault, NoMemory}
+use Rattle.worlds.proofs.Imports.{◌≡◌, ℕ, ◌+◌, ◌≤◌, inl, inr, ⊎_elim, Bool, true, false, List, [], ◌∷◌, ◌++◌, length, take, Option, None, Some, Result, Ok, Err, refl, sym, ap, subst, ◌∙◌, arith, append_assoc, length-append, nat_tests, append-nil, take-append-le, ⊤, ◌⊎◌, with_bytes, Wrote, Writes, Wrote-append, Stopped-second, with_bytes-append, Writes-last, take_past, Stopped-front, World, Outcome, Goes, Faults, CannotRead, Left, fault_text, unread_text, Fault, Output, IsText, Gives, Unread, Finished, Answers, IsRun, ended_status, run_from, after, prepend, fails_at, Did, Refused, Unreadable, Broke, Fronted, text_of, Status, Done, CommandFault, SourceFault, SinkFault, NoMemory}
 
 -- reading fails nowhere, or at this line or a later one
 abbrev pub IsAhead : ℕ → Option ℕ → Type 0
@@ -47,7 +47,7 @@ one_more Stands taken faults old mid new outcome run number line lines before ne
 }
 
 -- a text was written, or not to its end, and the run has this text and status
-pub run_by : {K T E : Type 0} (taken : K → Option (List ℕ)) (faults : K → ℕ) (old new : K) (run : Option ℕ → Output) (read_failed : Type 0) (text : List ℕ) (status : Status) (written : Result T E) → Writes taken faults old new written text → Answers run read_failed status text → IsText run read_failed text → IsRun taken old new run read_failed (ended written status)
+pub run_by : {K T E : Type 0} (taken : K → Option (List ℕ)) (faults : K → ℕ) (old new : K) (run : Option ℕ → Output) (read_failed : Type 0) (text : List ℕ) (status : Status) (written : Result T E) → Writes taken faults old new written text → Answers run read_failed status text → IsText run read_failed text → IsRun taken old new run read_failed (ended_status written status)
 run_by taken faults old new run read_failed text status (Ok done) wrote answer is_text = record { out = text; bytes = wrote.bytes; answer = answer }
 run_by taken faults old new run read_failed text status (Err failed) stopped answer is_text = record {
   out = take stopped.count text;
@@ -69,14 +69,14 @@ run_at {outcome} {number} {lines} so_far o is =
     so_far.goes.on None tt ∙ ap (λ (x : Outcome Left). prepend so_far.written (after number x (λ w. run_from outcome (number + 1) w lines None))) is
 
 -- a command was refused
-pub at_fault : {K T E : Type 0} {Stands : World → Type 0} (taken : K → Option (List ℕ)) (faults : K → ℕ) (old mid ready new : K) (outcome : World → List ℕ → Bool → Outcome Left) (run : Option ℕ → Output) (read_failed : Type 0) (number : ℕ) (line : List ℕ) (lines : List (List ℕ)) (fault : Fault) (written : Result T E) → (so_far : SoFar Stands taken faults old mid outcome run number (line ∷ lines)) → Refused taken faults mid ready (outcome so_far.world line false) (Faults fault) → Writes taken faults ready new written (fault_text number fault) → IsRun taken old new run read_failed (ended written CommandFault)
+pub at_fault : {K T E : Type 0} {Stands : World → Type 0} (taken : K → Option (List ℕ)) (faults : K → ℕ) (old mid ready new : K) (outcome : World → List ℕ → Bool → Outcome Left) (run : Option ℕ → Output) (read_failed : Type 0) (number : ℕ) (line : List ℕ) (lines : List (List ℕ)) (fault : Fault) (written : Result T E) → (so_far : SoFar Stands taken faults old mid outcome run number (line ∷ lines)) → Refused taken faults mid ready (outcome so_far.world line false) (Faults fault) → Writes taken faults ready new written (fault_text number fault) → IsRun taken old new run read_failed (ended_status written CommandFault)
 at_fault taken faults old mid ready new outcome run read_failed number line lines fault written so_far refused writes =
     let is = run_at so_far (Faults fault) refused.is in
     let before : Wrote taken faults old ready so_far.written = subst (λ text. Wrote taken faults old ready text) (append-nil so_far.written) (Wrote-append so_far.wrote refused.wrote) in
     run_by taken faults old new run read_failed (so_far.written ++ fault_text number fault) CommandFault written (Writes-last new written (fault_text number fault) before writes) is (inl (ap (λ (o : Output). o.bytes) is))
 
 -- a file was not read
-pub at_unread : {K T E : Type 0} {Stands : World → Type 0} (taken : K → Option (List ℕ)) (faults : K → ℕ) (old mid ready new : K) (outcome : World → List ℕ → Bool → Outcome Left) (run : Option ℕ → Output) (read_failed : Type 0) (number : ℕ) (line : List ℕ) (lines : List (List ℕ)) (name : List ℕ) (written : Result T E) → (so_far : SoFar Stands taken faults old mid outcome run number (line ∷ lines)) → Unreadable taken faults mid ready (outcome so_far.world line) read_failed name → Writes taken faults ready new written (unread_text number name) → IsRun taken old new run read_failed (ended written SourceFault)
+pub at_unread : {K T E : Type 0} {Stands : World → Type 0} (taken : K → Option (List ℕ)) (faults : K → ℕ) (old mid ready new : K) (outcome : World → List ℕ → Bool → Outcome Left) (run : Option ℕ → Output) (read_failed : Type 0) (number : ℕ) (line : List ℕ) (lines : List (List ℕ)) (name : List ℕ) (written : Result T E) → (so_far : SoFar Stands taken faults old mid outcome run number (line ∷ lines)) → Unreadable taken faults mid ready (outcome so_far.world line) read_failed name → Writes taken faults ready new written (unread_text number name) → IsRun taken old new run read_failed (ended_status written SourceFault)
 at_unread taken faults old mid ready new outcome run read_failed number line lines name written so_far unreadable writes =
     let text = so_far.written ++ unread_text number name in
     let here : fails_at (Some number) number ≡ true = grind (arith, nat_tests) in

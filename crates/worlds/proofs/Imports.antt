@@ -24,9 +24,9 @@ pub use Rattle.worlds.specs.FaultTexts.{unread_text, fault_words}
 unfoldable pub use Rattle.worlds.specs.FaultTexts.{fault_text}
 pub use Rattle.worlds.specs.declared.fault.CommandFault.{CommandFault as Fault}
 pub use Rattle.worlds.specs.Outcome.{Output, IsText, Gives, Unread, Finished}
-pub use Rattle.worlds.specs.RunAnswers.{Answers, IsRun, ended}
+pub use Rattle.worlds.specs.RunAnswers.{Answers, IsRun, ended_status}
 pub use Rattle.worlds.specs.Fold.{run_from, after, prepend, fails_at}
 pub use Rattle.worlds.specs.Answers.{Did, Refused, Unreadable, Broke, Fronted, text_of}
 pub use Rattle.worlds.specs.declared.status.Status.{Status}
 pub use Rattle.worlds.specs.declared.status.Status.TheVariants.{Done, CommandFault, SourceFault, SinkFault, NoMemory}
-pub use Rattle.worlds.specs.Details.{detail_text}
+pub use Rattle.worlds.specs.Inner.Details.{detail_text}

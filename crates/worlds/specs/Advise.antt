@@ -10,7 +10,7 @@ use Rattle.layout_io.specs.Decimal.{digits_text}
 use Rattle.layout_io.specs.Writing.{joined}
 use Rattle.line_grammar.specs.declared.line.PassText.{PassText}
 use Rattle.line_writer.specs.Canonical.{map_tokens}
-use Rattle.line_writer.specs.Texts.{behind}
+use Rattle.line_writer.specs.Texts.{with_tokens_behind}
 use Rattle.map_expr.specs.Checks.{bad_granule}
 use Rattle.map_expr.specs.Terms.{Term as MapTerm}
 use Rattle.record_dim.specs.declared.path.PathStep.{PathStep}
@@ -67,7 +67,7 @@ cost_words (Some cost) = digits_text cost
 -- `best COST EXPR` with the canonical text of the expression, or `best none`
 abbrev pub best_words : Option (ℕ × MapTerm) → List ℕ
 best_words None = codes "best none"
-best_words (Some best) = behind (codes "best " ++ digits_text best.0) (map_tokens best.1)
+best_words (Some best) = with_tokens_behind (codes "best " ++ digits_text best.0) (map_tokens best.1)
 
 -- a line for each listed candidate, counted from 1, and one for the best
 abbrev pub cost_line : ℕ × Option ℕ → List ℕ

@@ -1,7 +1,7 @@
 -- `record P { .. }` names a record.
 use Rattle.std.specs.Prelude.{ℕ, List}
 use Rattle.record_dim.specs.Trees.{Tree, Record, Fields, End}
-use Rattle.record_dim.specs.Leaves.{first_fault}
+use Rattle.record_dim.specs.Leaves.{record_fault}
 use Rattle.worlds.specs.Worlds.{World, added}
 use Rattle.worlds.specs.Outcomes.{Outcome, Goes, ◌>>=◌, Left, quiet, free, refused_by}
 use Rattle.worlds.specs.declared.fault.CommandFault.TheVariants.{BadRecord}
@@ -14,7 +14,7 @@ fields_in _ = End
 -- the fields of a record that is fit for a table
 abbrev pub fit : Tree → Outcome Fields
 fit tree = do
-  good ← refused_by BadRecord (first_fault tree)
+  good ← refused_by BadRecord (record_fault tree)
   Goes (fields_in tree)
 
 unfoldable pub define : World → List ℕ → Tree → Outcome Left

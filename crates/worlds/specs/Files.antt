@@ -4,7 +4,7 @@ use Rattle.layout_io.specs.Files.{File}
 use Rattle.views.specs.Tables.{Table}
 use Rattle.blob_file.specs.Files.{record_text, view_text, file_of}
 use Rattle.blob_file.specs.Saving.{header_of, blobs_of}
-use Rattle.blob_file.specs.Opened.{opened, table_of}
+use Rattle.blob_file.specs.Opened.{opened, table_of_saved}
 use Rattle.blob_file.specs.declared.fault.FileFault.{FileFault}
 use Rattle.blob_file.specs.declared.fault.FileFault.TheVariants as cause
 use Rattle.worlds.specs.Worlds.{World, Entry}
@@ -41,8 +41,8 @@ unfoldable pub opened_beside : List (Entry Table) → List ℕ → Outcome Table
 opened_beside views bytes = do
   short ← refused_if (nat_lt (2 ^ 28 + 8206) (length bytes)) fault.TooBig
   saved ← ok_or bad_file (opened bytes)
-  all ← refused_if (nat_lt (8 * 2 ^ 30) (live_bits views + blob_bits (table_of saved))) fault.TooBig
-  Goes (table_of saved)
+  all ← refused_if (nat_lt (8 * 2 ^ 30) (live_bits views + blob_bits (table_of_saved saved))) fault.TooBig
+  Goes (table_of_saved saved)
 
 -- the table of a file
 unfoldable pub opened_table : World → List ℕ → List ℕ → List File → Bool → Outcome Table

@@ -16,7 +16,7 @@ use Rattle.lane_kernels.specs.declared.kernel.Kernel.{Kernel}
 use Rattle.lane_kernels.specs.declared.kernel.Kernel.TheVariants.{Axpy, Clamp, Sum, Least, Greatest, CountWhere}
 use Rattle.lane_kernels.specs.Kernels as kernels
 use Rattle.lane_kernels.specs.Kernels.{Compare, Eq, Ne, Lt, Le, Gt, Ge}
-use Rattle.lane_kernels.specs.Logs.{rows_log}
+use Rattle.lane_kernels.specs.Logs.{kernel_rows_log}
 use Rattle.views.specs.Tables.{Table, answer_of, kept_of}
 use Rattle.worlds.specs.OnView.{Done}
 use Rattle.worlds.specs.Outcomes.{Outcome, Goes, ◌>>=◌, refused_if, refused_by}
@@ -91,10 +91,10 @@ fit_kernel fields (text.CountWhere x op c) lanes = do
   Goes (CountWhere leaf (compare_of op) c)
 
 -- the fault of a row, with the path text of its leaf
-abbrev pub run_fault : Fields → KernelFault → CommandFault
-run_fault fields kernel_fault.Empty = Empty
-run_fault fields (kernel_fault.Range row leaf) = Range row (text_of_leaf fields leaf)
-run_fault fields (kernel_fault.Narrow row leaf) = Narrow row (text_of_leaf fields leaf)
+abbrev pub kernel_row_fault : Fields → KernelFault → CommandFault
+kernel_row_fault fields kernel_fault.Empty = Empty
+kernel_row_fault fields (kernel_fault.Range row leaf) = Range row (text_of_leaf fields leaf)
+kernel_row_fault fields (kernel_fault.Narrow row leaf) = Narrow row (text_of_leaf fields leaf)
 
 -- the number as a line, where there is one
 abbrev pub number_text : Option ℤ → List ℕ
@@ -102,16 +102,16 @@ number_text None = []
 number_text (Some number) = number_line number
 
 -- what a kernel that can run does
-abbrev pub run : Table → Kernel → Outcome Done
-run table kernel = do
-  done ← refused_by (run_fault table.fields) (kernels.kernel_fault (answer_of table) kernel table.rows)
+abbrev pub kernel_outcome : Table → Kernel → Outcome Done
+kernel_outcome table kernel = do
+  done ← refused_by (kernel_row_fault table.fields) (kernels.kernel_fault (answer_of table) kernel table.rows)
   Goes (record {
     rows = kernels.run_rows (kept_of table) kernel (length table.rows) table.rows;
-    log = rows_log kernel (length table.rows);
-    text = number_text (kernels.number_of kernel table.rows);
+    log = kernel_rows_log kernel (length table.rows);
+    text = number_text (kernels.given_number kernel table.rows);
   })
 
 unfoldable pub kernel_run : Table → KernelText → ℕ → Outcome Done
 kernel_run table text lanes = do
   fit ← fit_kernel table.fields text lanes
-  run table fit
+  kernel_outcome table fit

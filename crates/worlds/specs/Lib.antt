@@ -24,9 +24,8 @@ pub mod Stencil
 pub mod Advise
 pub mod Step
 pub mod FaultTexts
-pub mod Details
 pub mod Outcome
 pub mod RunAnswers
 pub mod Lines
 pub mod Fold
-pub mod Steps
+pub mod Inner

@@ -1,10 +1,10 @@
 -- `load V : P [..] as .. from "F"` makes a table of what it keeps of the values of a dataset.
 use Rattle.std.specs.Prelude.{ℕ, ◌^◌, Bool, List, length, Option, Some, None, nat_lt, if◌then◌else◌}
 use Rattle.extents.specs.declared.words.ExtentWord.{ExtentWord}
-use Rattle.layout_io.specs.Files.{File, file_of}
+use Rattle.layout_io.specs.Files.{File, file_named}
 use Rattle.record_dim.specs.Trees.{Fields}
 use Rattle.line_grammar.specs.Sentences.{New}
-use Rattle.csv_rows.specs.Datasets.{records_of, rows_of}
+use Rattle.csv_rows.specs.Datasets.{csv_records, records_behind}
 use Rattle.csv_rows.specs.Loads.{dataset_of}
 use Rattle.csv_rows.specs.declared.fault.RowFault.{RowFault}
 use Rattle.csv_rows.specs.declared.fault.RowFault.TheVariants as rows
@@ -25,7 +25,7 @@ there name (Some bytes) = Goes bytes
 
 -- the bytes of a file; `unread`: reading fails in this command
 abbrev pub read : List File → Bool → List ℕ → Outcome (List ℕ)
-read files unread name = there name (if unread then None else file_of files name)
+read files unread name = there name (if unread then None else file_named files name)
 
 -- the fault of a dataset, the leaf by its path text; want of memory is no fault of a dataset
 abbrev pub row_fault : Fields → RowFault → CommandFault
@@ -47,9 +47,9 @@ filled table records = do
 unfoldable pub loaded : List (Entry Table) → Named → List ExtentWord → List ℕ → Outcome Table
 loaded views whole words bytes = do
   short ← refused_if (nat_lt (2 ^ 28) (length bytes)) fault.TooBig
-  extents ← resolved words (Some (length (rows_of (records_of bytes))))
+  extents ← resolved words (Some (length (records_behind (csv_records bytes))))
   zeros ← made views whole.mode whole.fields extents whole.mapping
-  filled zeros (records_of bytes)
+  filled zeros (csv_records bytes)
 
 -- the table of a dataset in a file
 unfoldable pub loaded_table : World → New → List ℕ → List File → Bool → Outcome Table

@@ -50,5 +50,5 @@ exit_number SinkFault = 4
 exit_number NoMemory = 5
 
 -- the status where this one is due, unless the last write failed
-abbrev pub ended : {T E : Type 0} → Result T E → Status → Status
-ended written status = if is_ok written then status else SinkFault
+abbrev pub ended_status : {T E : Type 0} → Result T E → Status → Status
+ended_status written status = if is_ok written then status else SinkFault

@@ -5,7 +5,7 @@ use Rattle.places.specs.Layout.{Owner}
 use Rattle.places.specs.declared.piece.Run.{Run}
 use Rattle.places.specs.Image.{image}
 use Rattle.record_dim.specs.Leaves.{texts_of}
-use Rattle.map_any.specs.Runs.{runs_of}
+use Rattle.map_any.specs.BitRuns.{runs_of}
 use Rattle.line_grammar.specs.declared.line.ShowKind.{ShowKind}
 use Rattle.line_grammar.specs.declared.line.ShowKind.TheVariants as show
 use Rattle.instrument.specs.BlobTexts.{bytes_of, bytes_text}

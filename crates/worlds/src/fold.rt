@@ -3,7 +3,7 @@ ghost use Rattle.layout_io.specs.Faults.{Rose};
 ghost use Rattle.layout_io.specs.Files.{File};
 ghost use Rattle.worlds.specs.Worlds.{World};
 ghost use Rattle.worlds.specs.Outcomes.{Outcome, Left};
-ghost use Rattle.worlds.specs.RunAnswers.{IsRun, HasCause, ended};
+ghost use Rattle.worlds.specs.RunAnswers.{IsRun, HasCause, ended_status};
 ghost use Rattle.worlds.specs.Lines.{lines_in};
 ghost use Rattle.worlds.specs.Fold.{run_from};
 
@@ -29,7 +29,7 @@ pub enum LineEnd {
 /// What does a script line by line.
 pub trait Stepper: Drop {
     ghost use Rattle.worlds.specs.Answers.{StepsTo, StepCause};
-    ghost use Rattle.worlds.specs.Steps.{ending_of};
+    ghost use Rattle.worlds.specs.Inner.Steps.{ending_of};
 
     // The worlds that it stands for.
     ghost stands: { Self → World → Type 0 };
@@ -98,7 +98,7 @@ pub fn run_lines<S: Stepper, H: Shelf, K: Sink, L: Ledger>(
 
 /// The status that is due, unless the write that ends the run failed.
 pub fn ended(written: Result<(), Failed>, status: Status) -> Status
-    ensures { result ≡ ended written status }
+    ensures { result ≡ ended_status written status }
 {
     match written {
         Ok(()) => status,

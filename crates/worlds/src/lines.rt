@@ -1,10 +1,10 @@
 ghost use Rattle.std.specs.Prelude.{◌≡◌, ◌∷◌, [], codes, flat_map};
 ghost use Rattle.layout_io.specs.Decimal.{digits_text};
 ghost use Rattle.layout_io.specs.Gathering.{Puts};
-ghost use Rattle.layout_io.specs.Parts.{text_of_part};
+ghost use Rattle.layout_io.specs.Inner.Parts.{text_of_part};
 ghost use Rattle.layout_io.specs.Writing.{Writes};
 ghost use Rattle.worlds.specs.FaultTexts.{fault_text, unread_text};
-ghost use Rattle.worlds.specs.Details.{detail_text};
+ghost use Rattle.worlds.specs.Inner.Details.{detail_text};
 
 use crate::CommandFault;
 use crate::detail::Detail;

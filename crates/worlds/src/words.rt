@@ -1,7 +1,7 @@
 // The words of each fault.
 ghost use Rattle.std.specs.Prelude.{◌≡◌, [], ◌++◌, codes};
-ghost use Rattle.worlds.specs.FaultTexts.{fault_words, unknown_words, record_words, extents_words, mapping_words, kernel_words, file_words, actors_words, stencil_words, advice_words};
-ghost use Rattle.worlds.specs.Details.{detail_text, place_text};
+ghost use Rattle.worlds.specs.FaultTexts.{fault_words, unknown_words, record_words, extents_words, mapping_words, kernel_fault_words, file_words, actors_words, stencil_words, advice_words};
+ghost use Rattle.worlds.specs.Inner.Details.{detail_text, place_text};
 
 use crate::detail::{Detail, Words};
 use crate::{BadActors, BadAdvice, BadFile, BadKernel, BadStencil, CommandFault, UnknownName};
@@ -134,7 +134,7 @@ fn mapping_words(bad: BadMapping) -> &'static str
 }
 
 fn kernel_words(bad: BadKernel) -> &'static str
-    ensures { result.now ≡ kernel_words bad }
+    ensures { result.now ≡ kernel_fault_words bad }
 {
     match bad {
         BadKernel::Lanes => "Lanes",

@@ -3,7 +3,7 @@ ghost use Rattle.std.specs.Prelude.{ℕ, ◌≡◌, ◌+◌, ◌*◌, ◌<◌, �
 ghost use Rattle.piece_bits.specs.Tables.{hold_at};
 ghost use Rattle.piece_bits.specs.Lows.{low_64};
 ghost use Rattle.views.specs.Columns.{column_reads, column_writes, with_column};
-ghost use Rattle.views.specs.Runs.{raised, run_of, run_steps, run_fault, told_lane, stored_count, with_run, TakesAll};
+ghost use Rattle.views.specs.LeafRuns.{raised, run_of, run_steps, run_fault, told_lane, stored_count, with_run, TakesAll};
 ghost use Rattle.views.specs.Stores.{Fits};
 ghost use Rattle.views.specs.Tables.{leaf_count_of, leaf_type_of, table_holds, after_log, after_stores};
 ghost use Rattle.views.specs.Tallies.{Access};

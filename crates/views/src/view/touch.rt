@@ -1,9 +1,9 @@
 // What accesses add to the counters of a view.
 ghost use Rattle.std.specs.Prelude.{◌≡◌, ◌<◌, ◌≤◌, ◌^◌, [], ◌∷◌, ◌++◌, length, option_map, IfSome};
 ghost use Rattle.instrument.specs.Counters.{leaf_counts, heat_counts, HasLeaves};
-ghost use Rattle.views.specs.Kept.{HasGranules};
+ghost use Rattle.views.specs.ViewFields.{HasGranules};
 ghost use Rattle.views.specs.Tallies.{access_to, leaf_touched, granules_touched, times_accesses, all_touches};
-ghost use Rattle.views.specs.Repeated.{counts_after, heat_after, leaves_raised, row_raised, rows_raised};
+ghost use Rattle.views.specs.Inner.Repeated.{counts_after, heat_after, leaves_raised, row_raised, rows_raised};
 
 use super::View;
 use instrument::{Counts, Heat};

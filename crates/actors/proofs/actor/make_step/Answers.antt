@@ -1,4 +1,4 @@
-use Rattle.actors.proofs.Imports.{◌∙◌, ℕ, [], None, List, length, rules, arith, SFits, subst, sym, ap, w128, to_z-of_z, Cell, AreSized, length-leaf_cells, IsSetOf, setting_of, owners_of, leaf_types_of, with_byte-sized, job_of, row_in, value_on, IsStepOf}
+use Rattle.actors.proofs.Imports.{◌∙◌, ℕ, [], None, List, length, rules, arith, SFits, subst, sym, ap, w128, to_z-of_z, Cell, AreSized, length-leaf_cells, IsSetOf, setting_of, owners_of, leaf_types_of, with_byte-sized, job_of, row_in, value_kept_on, IsStepOf}
 use Rattle.actors.proofs.Laws.{leaf_count}
 use Rattle.actors.proofs.Turns.{store_made}
 use Rattle.actors.proofs.actor.make_step.Goals as goal
@@ -24,7 +24,7 @@ returns-in-Store-clause-stored c =
     let fits : SFits w128 value = search rules in
     store_made table c.args.sets.now c.args.step c.in-Store.place c.in-Store.row c.in-Store.set set c.args.memory.now.items c.put_byte-in-Store.new.blobs.items c.args.bytes.now _ value
     c.changed_byte-byte.result c.in-Store.is at.2 c.index-sets-set.is c.map.ensures.layout
-    (c.value_of-value.ensures ∙ ap (λ (w : List (List ℕ)). value_on (job_of table None []) (row_in (job_of table None []) w c.in-Store.row) c.in-Store.row (setting_of set)) c.deref-in-Store.ensures.value)
+    (c.value_of-value.ensures ∙ ap (λ (w : List (List ℕ)). value_kept_on (job_of table None []) (row_in (job_of table None []) w c.in-Store.row) c.in-Store.row (setting_of set)) c.deref-in-Store.ensures.value)
     (rw (to_z-of_z w128 value fits) at c.changed_byte-byte.ensures.byte) c.put_byte-in-Store.ensures
 
 pub returns-in-Store-clause-memory_sized : goal.returns-in-Store-clause-memory_sized

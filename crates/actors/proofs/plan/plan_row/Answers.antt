@@ -1,4 +1,4 @@
-use Rattle.actors.proofs.Imports.{◌∙◌, [], map, get_or, subst, sym, ap, index_at, filter_term, setting_of, given_row, Table, answer_of, kept_of, after_log, job_of, IsPlanOf}
+use Rattle.actors.proofs.Imports.{◌∙◌, [], map, get_or, subst, sym, ap, index_at, filter_term, setting_of, given_row, Table, answer_of, kept_of, after_log, job_of, IsRowPlanOf}
 use Rattle.actors.proofs.Tried.{row_reads, row_updated}
 use Rattle.actors.proofs.plan.plan_row.Goals as goal
 
@@ -18,7 +18,7 @@ returns-clause-read g c =
 
 pub returns-clause-planned : goal.returns-clause-planned
 returns-clause-planned g c =
-    subst (λ (t : Table). IsPlanOf (job_of t (filter_term c.args.filter) (map setting_of c.args.sets.now)) c.args.row c.plan_of.result) c.try_row.ensures.same c.plan_of.ensures
+    subst (λ (t : Table). IsRowPlanOf (job_of t (filter_term c.args.filter) (map setting_of c.args.sets.now)) c.args.row c.plan_of.result) c.try_row.ensures.same c.plan_of.ensures
 
 pub returns-clause-updated : goal.returns-clause-updated
 returns-clause-updated g c =

@@ -1,4 +1,4 @@
-use Rattle.actors.proofs.Imports.{rules, arith, ◌≡◌, ◌<◌, ◌+◌, ◌∙◌, [], ℕ, List, Err, length, map, get_or, subst, sym, ap, indices, index_at, update_log, filter_term, setting_of, updated_row, Table, answer_of, kept_of, after_log, job_of, Update, NoMemory, IsPlanOf, ArePlans, IsUpdatedRow, reads_in}
+use Rattle.actors.proofs.Imports.{rules, arith, ◌≡◌, ◌<◌, ◌+◌, ◌∙◌, [], ℕ, List, Err, length, map, get_or, subst, sym, ap, indices, index_at, update_log, filter_term, setting_of, updated_row, Table, answer_of, kept_of, after_log, job_of, Update, NoMemory, IsRowPlanOf, ArePlans, IsUpdatedRow, reads_in}
 use Rattle.actors.proofs.Marks.{no_plans, one_plan}
 use Rattle.actors.proofs.Tried.{none_tried, one_read, one_tried, stop_tried}
 use Rattle.actors.proofs.plan.plan_rows.Given as given
@@ -63,7 +63,7 @@ loop-row-preserved g c =
     let tried = c.loop-row.invariant.tried in
     let plan = c.in_ok-plan_row.field-0 in
     let updated = subst (λ (t : Table). IsUpdatedRow (updated_row (answer_of t) (kept_of t) filter sets row (get_or t.rows row []) (index_at t.extents row))) tried.read c.in_ok-plan_row.ensures.updated in
-    let planned = subst (λ (t : Table). IsPlanOf (job_of t filter sets) row plan) tried.read c.in_ok-plan_row.ensures.planned in
+    let planned = subst (λ (t : Table). IsRowPlanOf (job_of t filter sets) row plan) tried.read c.in_ok-plan_row.ensures.planned in
     record {
       tried = one_tried view filter sets here c.plan_row.new.view row tried updated (read g ((goal.at.loop-row-preserved g c).After-plan_row));
       plans = subst (ArePlans job (row + 1)) (sym c.in_ok-push.ensures.items) (one_plan job row c.loop-row.plans.items plan c.loop-row.invariant.plans planned);

@@ -1,4 +1,4 @@
-use Rattle.advisor.proofs.Imports.{rules, ◌≡◌, ◌⊎◌, ⊎_elim, inl, inr, List, All, Some, Ok, Err, length, map, sym, ap, ◌∙◌, subst, arith, length-map, MapExpr, term_of, uncounted, Candidate, Pass, judge, cost_of, advice, told_by, first_fault, IsStored, terms_in}
+use Rattle.advisor.proofs.Imports.{rules, ◌≡◌, ◌⊎◌, ⊎_elim, inl, inr, List, All, Some, Ok, Err, length, map, sym, ap, ◌∙◌, subst, arith, length-map, MapExpr, term_of, uncounted, Candidate, Pass, judge, cost_of, advice, told_by, first_judged_fault, HasKnownHolds, terms_in}
 use Rattle.advisor.specs.declared.advice.AdviseFault.TheVariants.{NoMemory}
 use Rattle.advisor.proofs.Advising.{advice_given, advice_faulty, costs_known, holds_known, pool_holds}
 use Rattle.advisor.proofs.adviser.advise.Goals as goal
@@ -13,7 +13,7 @@ returns-in_err-pool-clause-fault g c =
     let known : (fault ≡ NoMemory) ⊎ (advice v granule c.args.passes.now (map term_of c.args.maps.now) c.args.splits ≡ Err fault) =
     ⊎_elim
     (λ (none : fault ≡ NoMemory). inl none)
-    (λ (bad : first_fault (judge v granule) 0 (map uncounted (map term_of maps)) ≡ Some fault).
+    (λ (bad : first_judged_fault (judge v granule) 0 (map uncounted (map term_of maps)) ≡ Some fault).
     inr (ap (λ (ps : List Pass). advice v granule ps (map term_of c.args.maps.now) c.args.splits) (sym c.as_slice.ensures)
     ∙ ap (λ (es : List MapExpr). advice v granule passes (map term_of es) c.args.splits) (sym c.as_slice-2.ensures)
     ∙ advice_faulty v granule passes (map term_of maps) c.args.splits fault bad))
@@ -23,7 +23,7 @@ returns-in_err-pool-clause-fault g c =
 pub advice_among-advice-requires-clause-stored : goal.advice_among-advice-requires-clause-stored
 advice_among-advice-requires-clause-stored g c =
     let pool = c.in_ok-pool.pool.items in
-    subst (λ (cs : List Candidate). All (IsStored c.args.view.now) cs) {x = pool} (sym c.as_slice-3.ensures.value)
+    subst (λ (cs : List Candidate). All (HasKnownHolds c.args.view.now) cs) {x = pool} (sym c.as_slice-3.ensures.value)
     (holds_known c.args.view.now c.args.granule c.as_slice.result.now pool c.in_ok-pool.ensures.priced)
 
 pub advice_among-advice-requires-clause-listed : goal.advice_among-advice-requires-clause-listed

@@ -1,5 +1,5 @@
 use Rattle.advisor.proofs.Imports.{◌≡◌, ◌+◌, ◌-◌, ◌∷◌, ◌++◌, [], ℕ, List, slice_index_or, All, sym, ap, ◌∙◌, subst, arith, Piece, is_in_granule, HeatCounts, heat_counts, heated_by, inside-counted, is_run_touched, long_piece, IsWarmed, or-false}
-use Rattle.instrument.specs.Counters.{IsCounted}
+use Rattle.instrument.specs.Counters.{IsCountedPiece}
 use Rattle.advisor.proofs.SteadyLaws.{long_ends, long_fits, long_is, long_inside, long_touches}
 use Rattle.advisor.proofs.WarmLaws.{heated_warmed, warmed_alike}
 use Rattle.advisor.proofs.runs.touch_run.Goals as goal
@@ -28,8 +28,8 @@ touch-requires c =
     c.push.ensures.items ∙ ap (λ (xs : List Piece). xs ++ (record c.piece-first.result { bits = c.piece-last.result.bit + c.from.result - c.piece-first.result.bit }) ∷ []) c.new-pieces.ensures
     ∙ ap (λ (p : Piece). p ∷ []) one in
     let counted = inside-counted (long_inside heat rule c.args.start c.args.count ends (c.requires.inside (c.args.count - 1) (omega (arith, c.requires.some)))) in
-    subst (λ (xs : List Piece). All (IsCounted heat) xs) (sym pieces) (λ k d low. (let first : k ≡ 0 = omega (arith, low) in
-    subst (λ (n : ℕ). IsCounted heat (slice_index_or (long_piece rule c.args.start c.args.count ∷ []) n d)) (sym first) counted))
+    subst (λ (xs : List Piece). All (IsCountedPiece heat) xs) (sym pieces) (λ k d low. (let first : k ≡ 0 = omega (arith, low) in
+    subst (λ (n : ℕ). IsCountedPiece heat (slice_index_or (long_piece rule c.args.start c.args.count ∷ []) n d)) (sym first) counted))
 
 pub returns : goal.returns
 returns c =

@@ -1,5 +1,5 @@
 use Rattle.std.proofs.Common.{◌≡◌}
-use Rattle.bench_layouts.specs.Tables.{measured_fields}
+use Rattle.bench_layouts.specs.Inner.Tables.{measured_fields}
 use Rattle.bench_layouts.proofs.kernels.run_rounds.Given as goal
 
 abbrev pub invariant-loop-round : goal.invariant-loop-round

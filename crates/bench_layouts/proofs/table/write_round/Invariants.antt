@@ -1,4 +1,4 @@
-use Rattle.bench_layouts.specs.Tables.{IsMeasured}
+use Rattle.bench_layouts.specs.Inner.Tables.{IsMeasured}
 use Rattle.bench_layouts.proofs.table.write_round.Given as goal
 
 abbrev pub invariant-loop-row : goal.invariant-loop-row

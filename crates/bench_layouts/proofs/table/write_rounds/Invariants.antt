@@ -1,4 +1,4 @@
-use Rattle.bench_layouts.specs.Tables.{IsMeasured}
+use Rattle.bench_layouts.specs.Inner.Tables.{IsMeasured}
 use Rattle.bench_layouts.proofs.table.write_rounds.Given as goal
 
 abbrev pub invariant-loop-round : goal.invariant-loop-round

@@ -1,4 +1,4 @@
-use Rattle.blob_file.proofs.Imports.{rules, ◌≡◌, ◌+◌, ◌-◌, ◌<◌, ◌≤◌, ◌∙◌, ⊎_elim, ℕ, ℤ, List, pos, get_or, length, take, take_all, is_ok, true, Ok, Err, Result, FitsSigned, to_z, of_z, refl, sym, ap, subst, arith, w128, cases_lt, to_z-of_z, indices, entry, Cell, told_same, column_writes, with_column, length-with_column, run_length, kept_rows, told, Table, answer_of, kept_of, leaf_count_of, after_stores, StoreFault, value_more, nothing_stored, kept_run, raw_in, header_of, Contents}
+use Rattle.blob_file.proofs.Imports.{rules, ◌≡◌, ◌+◌, ◌-◌, ◌<◌, ◌≤◌, ◌∙◌, ⊎_elim, ℕ, ℤ, List, pos, get_or, length, take, take_all, is_ok, true, Ok, Err, Result, FitsSigned, to_z, of_z, refl, sym, ap, subst, arith, w128, cases_lt, to_z-of_z, indices, entry, Cell, told_same, column_writes, with_column, length-with_column, run_length, kept_rows, without_number, Table, answer_of, kept_of, leaf_count_of, after_stores, StoreFault, value_more, nothing_stored, kept_run, raw_in, header_of, Contents}
 use Rattle.blob_file.proofs.Filled.{raw_is, cell_count, run_kept, kept_long}
 use Rattle.blob_file.proofs.fill.fill_far.Goals as goal
 use Rattle.blob_file.proofs.fill.fill_far.Goals.{In-loop-k, After-set}
@@ -44,10 +44,10 @@ number g c =
     ∙ ap (λ (t : Table). raw_in (header_of t) c.args.blobs.now) c.loop-k.invariant.stored.stored)
 
 -- and the answer to its store
-answer : (g : Over) (c : After-set g) → c.set.result ≡ told (answer_of c.args.view.now c.args.leaf (entry (raw_in (header_of c.args.view.now) c.args.blobs.now) (c.args.first + c.loop-k.k) c.args.leaf))
+answer : (g : Over) (c : After-set g) → c.set.result ≡ without_number (answer_of c.args.view.now c.args.leaf (entry (raw_in (header_of c.args.view.now) c.args.blobs.now) (c.args.first + c.loop-k.k) c.args.leaf))
 answer g c =
-    c.set.ensures.answer ∙ ap (λ (v : ℤ). told (answer_of c.loop-k.view c.args.leaf v)) (number g c)
-    ∙ ap (λ (t : Table). told (answer_of t c.args.leaf (entry (raw_in (header_of c.args.view.now) c.args.blobs.now) (c.args.first + c.loop-k.k) c.args.leaf))) c.loop-k.invariant.stored.stored
+    c.set.ensures.answer ∙ ap (λ (v : ℤ). without_number (answer_of c.loop-k.view c.args.leaf v)) (number g c)
+    ∙ ap (λ (t : Table). without_number (answer_of t c.args.leaf (entry (raw_in (header_of c.args.view.now) c.args.blobs.now) (c.args.first + c.loop-k.k) c.args.leaf))) c.loop-k.invariant.stored.stored
 
 pub loop-k-preserved : goal.loop-k-preserved
 loop-k-preserved g c =

@@ -1,4 +1,4 @@
-use Rattle.blob_file.proofs.Imports.{rules, ◌≡◌, ◌*◌, ◌∙◌, ℕ, List, None, Some, Err, inr, length, map, sym, ap, arith, sum_by, ExtentWord, bad_shape, bad_extents, extent_of, Owner, first_fault, schema_fields, tree_of, Record, owners_by, CanLie, with_header, header_in}
+use Rattle.blob_file.proofs.Imports.{rules, ◌≡◌, ◌*◌, ◌∙◌, ℕ, List, None, Some, Err, inr, length, map, sym, ap, arith, sum_by, ExtentWord, bad_shape, bad_extents, extent_of, Owner, record_fault, schema_fields, tree_of, Record, owners_by, CanLie, with_header, header_in}
 use Rattle.blob_file.specs.declared.fault.FileFault.TheVariants as fault
 use Rattle.blob_file.proofs.Lies.{fit_by, shaped_by, ranged_by, can_by, none_by, same_owners}
 use Rattle.blob_file.proofs.Refused.{no_layout, no_length, refused, starved, on_ok}

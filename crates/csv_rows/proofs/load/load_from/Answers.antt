@@ -1,4 +1,4 @@
-use Rattle.csv_rows.proofs.Imports.{rules, ◌≡◌, ◌<◌, ◌∙◌, List, ℕ, [], ◌∷◌, ap, sym, length, arith, true, false, inr, Err, length-map, texts_of, header_of, MissingColumn}
+use Rattle.csv_rows.proofs.Imports.{rules, ◌≡◌, ◌<◌, ◌∙◌, List, ℕ, [], ◌∷◌, ap, sym, length, arith, true, false, inr, Err, length-map, texts_of, header_record, MissingColumn}
 use Rattle.csv_rows.proofs.Tables.{IsKnown, header_refused, no_header, dataset_loaded, dataset_refused, dataset_keeps}
 use Rattle.csv_rows.proofs.load.load_from.Goals as goal
 
@@ -8,7 +8,7 @@ returns-in_err-columns-clause-refused g c =
     let read = rw found at c.in_ok-next.ensures in
     let result : c.from_residual-in_err-columns.result ≡ Err c.in_err-columns.field-0.0 = search rules in
     let refused = rw c.schema-2.ensures.value at c.in_err-columns.ensures.refused in
-    rw result (header_refused c.args.view.now (g.R.Records.left c.args.records.now) (g.R.Records.fields c.next.new.self) c.in_err-columns.field-0.0 (ap header_of (sym read.1)) refused).0
+    rw result (header_refused c.args.view.now (g.R.Records.left c.args.records.now) (g.R.Records.fields c.next.new.self) c.in_err-columns.field-0.0 (ap header_record (sym read.1)) refused).0
 
 pub returns-in_err-columns-clause-kept : goal.returns-in_err-columns-clause-kept
 returns-in_err-columns-clause-kept g c =
@@ -16,7 +16,7 @@ returns-in_err-columns-clause-kept g c =
     let read = rw found at c.in_ok-next.ensures in
     let result : c.from_residual-in_err-columns.result ≡ Err c.in_err-columns.field-0.0 = search rules in
     let refused = rw c.schema-2.ensures.value at c.in_err-columns.ensures.refused in
-    rw result (header_refused c.args.view.now (g.R.Records.left c.args.records.now) (g.R.Records.fields c.next.new.self) c.in_err-columns.field-0.0 (ap header_of (sym read.1)) refused).1
+    rw result (header_refused c.args.view.now (g.R.Records.left c.args.records.now) (g.R.Records.fields c.next.new.self) c.in_err-columns.field-0.0 (ap header_record (sym read.1)) refused).1
 
 -- no record
 pub returns-then-not-branch-clause-refused : goal.returns-then-not-branch-clause-refused
@@ -25,7 +25,7 @@ returns-then-not-branch-clause-refused g c =
     let none = rw found at c.in_ok-next.ensures in
     let count = rw c.schema.ensures.value at c.leaf_count-leaf_count.ensures.value in
     let some : 0 < length (texts_of c.args.view.now.fields) = simp length-map (omega (arith, c.leaf_count-leaf_count.ensures.some, count)) in
-    (header_refused c.args.view.now (g.R.Records.left c.args.records.now) [] (MissingColumn 0) (ap header_of (sym none)) (inr (no_header (texts_of c.args.view.now.fields) some))).0
+    (header_refused c.args.view.now (g.R.Records.left c.args.records.now) [] (MissingColumn 0) (ap header_record (sym none)) (inr (no_header (texts_of c.args.view.now.fields) some))).0
 
 pub returns-clause-loaded : goal.returns-clause-loaded
 returns-clause-loaded g c =

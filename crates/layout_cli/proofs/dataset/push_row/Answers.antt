@@ -1,4 +1,4 @@
-use Rattle.layout_cli.proofs.Imports.{◌≡◌, ◌++◌, ◌*◌, List, ℕ, pos, neg_ℤ, drop, codes, ap, ◌∙◌, refl, ◌%◌, ◌-◌, decimal_text, row_values, row_text}
+use Rattle.layout_cli.proofs.Imports.{◌≡◌, ◌++◌, ◌*◌, List, ℕ, pos, neg_ℤ, drop, codes, ap, ◌∙◌, refl, ◌%◌, ◌-◌, decimal_text, generated_row, row_text}
 use Rattle.layout_cli.proofs.Texts.{value_more, grown_row_is}
 use Rattle.layout_cli.proofs.dataset.push_row.Goals as goal
 
@@ -12,5 +12,5 @@ returns c =
     let five = value_more (pos (row % 256)) (codes ",") _ _ _ c.in_ok-push_number-4.ensures four in
     let six = value_more (pos (255 - row % 256)) (codes ",") _ _ _ c.in_ok-push_number-5.ensures five in
     let last : c.push_number-5.new.text ++ decimal_text (pos (65537 * row)) ++ codes "\n" ≡ c.args.text.now ++ row_text row =
-    ap (λ (text : List ℕ). text ++ decimal_text (pos (65537 * row)) ++ codes "\n") six ∙ grown_row_is c.args.text.now (pos row) (drop 1 (row_values row)) in
+    ap (λ (text : List ℕ). text ++ decimal_text (pos (65537 * row)) ++ codes "\n") six ∙ grown_row_is c.args.text.now (pos row) (drop 1 (generated_row row)) in
     rw last at c.push_number-6.ensures

@@ -1,4 +1,4 @@
-use Rattle.layout_copy.proofs.Imports.{rules, arith, ◌≡◌, ◌∙◌, [], get_or, pos, is_ok, true, false, FitsSigned, refl, sym, ap, w128, to_z-of_z, told_same, told, StoreFault, answer_of, after_log-none}
+use Rattle.layout_copy.proofs.Imports.{rules, arith, ◌≡◌, ◌∙◌, [], get_or, pos, is_ok, true, false, FitsSigned, refl, sym, ap, w128, to_z-of_z, told_same, without_number, StoreFault, answer_of, after_log-none}
 use Rattle.std.proofs.Common.{Result}
 use Rattle.layout_copy.proofs.Rows.{leaf_read, leaf_refused, read_more}
 use Rattle.layout_copy.proofs.fieldwise.read_row.Goals as goal
@@ -19,7 +19,7 @@ returns-then-is_err-clause-refused g c =
     let leaf = c.loop-leaf.leaf in
     let fits : FitsSigned w128 value = search rules in
     let plain = to_z-of_z w128 value fits in
-    let gives : c.fits.result ≡ told (answer_of c.args.target.now leaf value) = rw plain at c.fits.ensures in
+    let gives : c.fits.result ≡ without_number (answer_of c.args.target.now leaf value) = rw plain at c.fits.ensures in
     let no : is_ok c.fits.result ≡ false = search rules in
     let refused : is_ok (answer_of c.args.target.now leaf value) ≡ false = sym (told_same (answer_of c.args.target.now leaf value)) ∙ sym (ap (λ (r : Result Unit StoreFault). is_ok r) gives) ∙ no in
     let read : value ≡ get_or (get_or c.args.source.now.rows c.args.row []) leaf (pos 0) = rw c.loop-leaf.invariant.source at c.get-value.ensures.value in
@@ -31,7 +31,7 @@ loop-leaf-preserved g c =
     let leaf = c.loop-leaf.leaf in
     let fits : FitsSigned w128 value = search rules in
     let plain = to_z-of_z w128 value fits in
-    let gives : c.fits.result ≡ told (answer_of c.args.target.now leaf value) = rw plain at c.fits.ensures in
+    let gives : c.fits.result ≡ without_number (answer_of c.args.target.now leaf value) = rw plain at c.fits.ensures in
     let ok : is_ok c.fits.result ≡ true = search rules in
     let taken : is_ok (answer_of c.args.target.now leaf value) ≡ true = sym (told_same (answer_of c.args.target.now leaf value)) ∙ sym (ap (λ (r : Result Unit StoreFault). is_ok r) gives) ∙ ok in
     let read : value ≡ get_or (get_or c.args.source.now.rows c.args.row []) leaf (pos 0) = rw c.loop-leaf.invariant.source at c.get-value.ensures.value in

@@ -1,5 +1,5 @@
 use Rattle.layout_copy.proofs.Imports.{rules, ◌≡◌, ◌+◌, ◌<◌, ◌∙◌, ℕ, ℤ, List, length, get_or, [], take, drop, refl, sym, ap, subst, arith, kinds_of, Fields, column, column_reads, column_writes, with_column, with_rows, run_of, AreRowsMoved, TakesAll, no_leaf_moved, leaf_moved, stores_quiet, steps_few, kind_at, Table, leaf_count_of, leaf_type_of, after_log, AreAlike}
-use Rattle.views.specs.Runs.{run_steps}
+use Rattle.views.specs.LeafRuns.{run_steps}
 use Rattle.layout_copy.proofs.RowRuns.{alike_after, same_rows, leaf_steps}
 use Rattle.layout_copy.proofs.row_runs.copy_leaves.Goals as goal
 use Rattle.layout_copy.proofs.row_runs.copy_leaves.Goals.{After-laws_of_table-in-loop-leaf}

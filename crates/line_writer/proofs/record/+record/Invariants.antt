@@ -1,5 +1,5 @@
 -- what is left is no deeper than all, and what is written so far with it is all
-use Rattle.line_writer.proofs.Imports.{◌≡◌, ◌≤◌, ◌+◌, ◌*◌, ◌∷◌, size-Dim, size-FieldList, tree_of, fields_of, OpenBrace, Sign, core_tokens, fields_tokens, later_tokens, behind}
+use Rattle.line_writer.proofs.Imports.{◌≡◌, ◌≤◌, ◌+◌, ◌*◌, ◌∷◌, size-Dim, size-FieldList, tree_of, fields_of, OpenBrace, Sign, core_tokens, fields_tokens, later_tokens, with_tokens_behind}
 use Rattle.line_writer.proofs.record.+record.Given as goal
 
 abbrev pub decreases-write_held : goal.decreases-write_held
@@ -24,5 +24,5 @@ invariant-write_core-loop-node l = record {
 abbrev pub invariant-write_fields-loop-later : goal.invariant-write_fields-loop-later
 invariant-write_fields-loop-later l = record {
   no_deeper : size-FieldList l.later ≤ size-FieldList l.fields;
-  same : behind l.text (later_tokens (fields_of l.later)) ≡ behind l.fn.text (Sign OpenBrace ∷ fields_tokens (fields_of l.fields));
+  same : with_tokens_behind l.text (later_tokens (fields_of l.later)) ≡ with_tokens_behind l.fn.text (Sign OpenBrace ∷ fields_tokens (fields_of l.fields));
 }

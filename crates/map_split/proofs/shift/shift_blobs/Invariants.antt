@@ -1,6 +1,6 @@
 -- the pieces so far
 use Rattle.std.proofs.Common.{◌≡◌, map, take}
-use Rattle.places.specs.Laws.{shifted}
+use Rattle.places.specs.Lawful.{shifted}
 use Rattle.map_split.proofs.shift.shift_blobs.Given as goal
 
 abbrev pub invariant-loop-piece : goal.invariant-loop-piece

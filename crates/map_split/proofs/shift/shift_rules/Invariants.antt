@@ -1,6 +1,6 @@
 -- the rules so far
 use Rattle.std.proofs.Common.{◌≡◌, map, take}
-use Rattle.map_split.specs.Shifts.{shifted_rule}
+use Rattle.map_split.specs.Inner.Shifts.{shifted_rule}
 use Rattle.map_split.proofs.shift.shift_rules.Given as goal
 
 abbrev pub invariant-loop-rule : goal.invariant-loop-rule

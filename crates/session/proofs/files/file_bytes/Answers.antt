@@ -1,4 +1,4 @@
-use Rattle.session.proofs.Imports.{◌≡◌, ◌⊎◌, ◌<◌, ◌∙◌, length, Some, None, inl, inr, ⊎_elim, sym, ap, Rose, file_of, IsMissing}
+use Rattle.session.proofs.Imports.{◌≡◌, ◌⊎◌, ◌<◌, ◌∙◌, length, Some, None, inl, inr, ⊎_elim, sym, ap, Rose, file_named, IsMissing}
 use Rattle.session.proofs.Reading.{file_there, file_missing, was_read, was_unread, was_long}
 use Rattle.session.proofs.files.file_bytes.Goals as goal
 
@@ -14,7 +14,7 @@ returns-in-Failed-clause-loads g c = λ files told.
     let name = c.args.file.now in
     let failed = rw c.as_str.ensures.value at (rw c.in-Failed.is at c.in-Err.ensures.whole) in
     let rose = Rose (g.H.Shelf.faults c.args.shelf.now) (g.H.Shelf.faults c.read_all.new.shelf) in
-    let cause : rose ⊎ (file_of files name ≡ None) = ⊎_elim (λ (r : rose). inl r) (λ (missing : IsMissing (g.H.Shelf.files c.args.shelf.now) name). inr (file_missing _ files name told missing)) failed.1 in
+    let cause : rose ⊎ (file_named files name ≡ None) = ⊎_elim (λ (r : rose). inl r) (λ (missing : IsMissing (g.H.Shelf.files c.args.shelf.now) name). inr (file_missing _ files name told missing)) failed.1 in
     was_unread c.args.most files name rose cause
 
 pub returns-in-TooLong-clause-loads : goal.returns-in-TooLong-clause-loads

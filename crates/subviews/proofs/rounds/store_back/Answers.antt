@@ -1,4 +1,4 @@
-use Rattle.subviews.proofs.Imports.{◌≡◌, ◌+◌, ◌≤◌, ◌∙◌, ℕ, List, length, ap, subst, sym, arith, indices, Table, IsTable, rows_of, IsBufferOf, IsPlanOf, IsRun, Plan}
+use Rattle.subviews.proofs.Imports.{◌≡◌, ◌+◌, ◌≤◌, ◌∙◌, ℕ, List, length, ap, subst, sym, arith, indices, Table, IsTable, rows_of, IsBufferOf, IsPlanOf, AreConsecutive, Plan}
 use Rattle.subviews.proofs.Growth.{run_inside}
 use Rattle.subviews.proofs.Passes.{IsStored, none_stored, run_stored}
 use Rattle.subviews.proofs.rounds.store_back.Goals as goal
@@ -36,7 +36,7 @@ loop-row-preserved g c =
     let so_far = c.loop-row.invariant.stored in
     let ones = view_rows old view first buffer plan row c.requires.plan so_far c.laws_of_table.ensures.table in
     let others = buffer_rows old view first buffer plan row c.requires.plan c.requires.buffer so_far c.laws_of_table-in-loop-row.ensures.table in
-    let each = subst (λ (n : ℕ). IsRun (rows_of plan.window.now) n run.first run.rows) c.next_run-run.ensures.row c.next_run-run.ensures.run.each in
+    let each = subst (λ (n : ℕ). AreConsecutive (rows_of plan.window.now) n run.first run.rows) c.next_run-run.ensures.row c.next_run-run.ensures.run.each in
     let read = c.copy_back.ensures.read in
     record {
       stored = run_stored old view first buffer plan row run.first run.rows so_far each (omega (arith, run_inside plan.window.now run c.next_run-run.ensures.run, others)) (ones ∙ sym others)

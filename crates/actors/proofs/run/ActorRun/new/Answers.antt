@@ -1,4 +1,4 @@
-use Rattle.actors.proofs.Imports.{◌≡◌, ◌∙◌, ℕ, List, Err, length, get_or, sym, ap, subst, rules, arith, schema_fields, term_of, filter_term, Table, after_log-none, memory_of, fresh_of, NoMemory, table_at, run_of, IsRun, uncounted}
+use Rattle.actors.proofs.Imports.{◌≡◌, ◌∙◌, ℕ, List, Err, length, get_or, sym, ap, subst, rules, arith, schema_fields, term_of, filter_term, Table, after_log-none, memory_of, fresh_of, NoMemory, table_at, actor_run_of, IsActorRun, without_counts}
 use Rattle.actors.proofs.Begins.{table_same, run_begun, run_kept}
 use Rattle.actors.proofs.Teams.{IsTeam}
 use Rattle.actors.proofs.Turns.{stands_counted}
@@ -9,7 +9,7 @@ use Rattle.actors.proofs.run.ActorRun.new.Goals.{After-mode}
 abbrev table : (g : given.Over) → After-mode g → Table
 table g c = table_at (schema_fields c.in_ok-schema.schema) c.extents.result (term_of c.in_ok-expr.expr) c.mode.result c.in_ok-found.found.items
 
-found : (g : given.Over) (c : After-mode g) → table g c ≡ uncounted c.args.view.now
+found : (g : given.Over) (c : After-mode g) → table g c ≡ without_counts c.args.view.now
 found g c =
     let read = c.in_ok-plans.ensures.read in
     table_same c.args.view.now c.laws_of_view.ensures.lawful _ _ _ _ _ (c.in_ok-schema.ensures ∙ c.schema.ensures.value ∙ ap (λ (t : Table). t.fields) read)
@@ -31,7 +31,7 @@ pub invariant_of-result : goal.invariant_of-result
 invariant_of-result g c =
     let view = c.args.view.now in
     let read = c.in_ok-plans.ensures.read in
-    subst (λ (cuts : List ℕ). IsRun (table g c) (filter_term c.args.filter) c.args.sets.now cuts c.in_ok-memory.memory.items c.in_ok-scratch.scratch.items c.in_ok-plans.plans.rows.items
+    subst (λ (cuts : List ℕ). IsActorRun (table g c) (filter_term c.args.filter) c.args.sets.now cuts c.in_ok-memory.memory.items c.in_ok-scratch.scratch.items c.in_ok-plans.plans.rows.items
     c.in_ok-targets.targets.items c.in_ok-actors.actors.items) (sym c.in_ok-cuts.ensures.items)
     (run_kept view (filter_term c.args.filter) c.args.sets.now c.args.cuts.now c.in_ok-memory.memory.items c.in_ok-actors.actors.items (c.in_ok-memory.ensures ∙ ap memory_of read) (team g c)
     (table g c) c.in_ok-scratch.scratch.items c.in_ok-plans.plans.rows.items c.in_ok-targets.targets.items (found g c) c.laws_of_view.ensures.lawful
@@ -46,7 +46,7 @@ returns-clause-begun g c =
     let sets = c.args.sets.now in
     let memory = c.in_ok-memory.memory.items in
     let actors = c.in_ok-actors.actors.items in
-    ap (λ (cuts : List ℕ). run_of (table g d) filter sets cuts memory actors) c.in_ok-cuts.ensures.items
+    ap (λ (cuts : List ℕ). actor_run_of (table g d) filter sets cuts memory actors) c.in_ok-cuts.ensures.items
     ∙ run_begun view filter sets c.args.cuts.now memory actors (c.in_ok-memory.ensures ∙ ap memory_of c.in_ok-plans.ensures.read) (team g d) (table g d) (found g d)
 
 pub returns-in_err-found-clause-so_far : goal.returns-in_err-found-clause-so_far

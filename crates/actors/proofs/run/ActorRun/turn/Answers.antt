@@ -1,4 +1,4 @@
-use Rattle.actors.proofs.Imports.{◌≡◌, ◌∙◌, ◌<◌, Bool, ℕ, List, [], ◌∷◌, length, map, get_or, set, sym, ap, subst, arith, get_or_default, length-set, schema_fields, term_of, AreSized, filter_term, setting_of, Table, owners_of, State, job_of, fresh_of, Micro, Registers, table_at, run_of, ArePlans, Run, uncounted, after_turns, rest_in, has_any, IsTurn, IsStanding}
+use Rattle.actors.proofs.Imports.{◌≡◌, ◌∙◌, ◌<◌, Bool, ℕ, List, [], ◌∷◌, length, map, get_or, set, sym, ap, subst, arith, get_or_default, length-set, schema_fields, term_of, AreSized, filter_term, setting_of, Table, owners_of, State, job_of, fresh_of, Micro, Registers, table_at, actor_run_of, ArePlans, Run, without_counts, after_turns, rest_in, has_any, IsTurn, IsStanding}
 use Rattle.actors.proofs.Turns.{turned_state, made_any, not_made, stands_alone, stands_among, reached_more}
 use Rattle.actors.proofs.run.ActorRun.turn.Goals as goal
 use Rattle.actors.proofs.run.ActorRun.turn.Goals.{After-turn_of}
@@ -7,7 +7,7 @@ table : After-turn_of → Table
 table c = let r = c.self.inside in table_at (schema_fields r.schema) r.extents (term_of r.expr) r.mode r.found.items
 
 -- the view is as it was found
-found : (c : After-turn_of) → uncounted c.args.view.now ≡ table c
+found : (c : After-turn_of) → without_counts c.args.view.now ≡ table c
 unfolding table
 found c = c.requires.view ∙ sym (ap (λ (run : Run). run.found) c.self.view_is)
 
@@ -29,14 +29,14 @@ turn c =
     (c.turn_of.ensures.turn filter plans)
 
 -- the run behind the turn
-turned : (c : After-turn_of) → run_of (table c) (filter_term c.self.inside.filter) c.self.inside.sets.now c.self.inside.cuts.items c.turn_of.new.memory.items
+turned : (c : After-turn_of) → actor_run_of (table c) (filter_term c.self.inside.filter) c.self.inside.sets.now c.self.inside.cuts.items c.turn_of.new.memory.items
     (set c.self.inside.actors.items c.args.actor c.turn_of.new.actor)
-    ≡ after_turns (run_of (table c) (filter_term c.self.inside.filter) c.self.inside.sets.now c.self.inside.cuts.items c.self.inside.memory.items c.self.inside.actors.items) (c.args.actor ∷ [])
+    ≡ after_turns (actor_run_of (table c) (filter_term c.self.inside.filter) c.self.inside.sets.now c.self.inside.cuts.items c.self.inside.memory.items c.self.inside.actors.items) (c.args.actor ∷ [])
 unfolding table turn
 turned c =
     let r = c.self.inside in
     let filter = filter_term r.filter in
-    let run = run_of (table c) filter r.sets.now r.cuts.items r.memory.items r.actors.items in
+    let run = actor_run_of (table c) filter r.sets.now r.cuts.items r.memory.items r.actors.items in
     let job = job_of (table c) filter (map setting_of r.sets.now) in
     ap (λ (s : State (List (List ℕ)) Micro Registers). record run { state = s })
     (sym (turned_state job (fresh_of (table c)) r.memory.items c.turn_of.new.memory.items r.actors.items c.args.actor c.index_mut.result.now c.turn_of.new.actor (low c) (old_is c) c.turn_of.result (turn c)))
@@ -63,8 +63,8 @@ invariant_of-self c =
           (subst (λ (t : Table). IsStanding t (length r.targets.items) new) (found d)
           (stands_alone view (length r.targets.items) new (subst (λ (ts : List ℕ). IsStanding view (length ts) new) c.as_slice.ensures.value c.turn_of.ensures.standing)));
       reached =
-          reached_more (run_of (table d) (filter_term r.filter) r.sets.now r.cuts.items r.memory.items r.actors.items) c.args.actor
-          (run_of (table d) (filter_term r.filter) r.sets.now r.cuts.items c.turn_of.new.memory.items (set r.actors.items c.args.actor new)) inv.reached (turned d);
+          reached_more (actor_run_of (table d) (filter_term r.filter) r.sets.now r.cuts.items r.memory.items r.actors.items) c.args.actor
+          (actor_run_of (table d) (filter_term r.filter) r.sets.now r.cuts.items c.turn_of.new.memory.items (set r.actors.items c.args.actor new)) inv.reached (turned d);
     }
 
 pub returns-clause-turned : goal.returns-clause-turned
@@ -88,7 +88,7 @@ returns-clause-none c = λ none.
     let d = (goal.at.returns-clause-none c).After-turn_of in
     let r = c.self.inside in
     let filter = filter_term r.filter in
-    let run = run_of (table d) filter r.sets.now r.cuts.items r.memory.items r.actors.items in
+    let run = actor_run_of (table d) filter r.sets.now r.cuts.items r.memory.items r.actors.items in
     let job = job_of (table d) filter (map setting_of r.sets.now) in
     let idle = subst (λ (made : Bool). IsTurn job r.memory.items c.index_mut.result.now made c.turn_of.new.memory.items c.turn_of.new.actor) none (turn d) in
     ap (λ (s : State (List (List ℕ)) Micro Registers). record run { state = s })

@@ -1,5 +1,5 @@
 use Rattle.c_lines.proofs.Imports.{rules, ◌≡◌, ℕ, ℤ, pos, get_or, map, take, SFits, to_z, of_z, sym, ap, subst, ◌∙◌, Err, Result, arith, w128, to_z-of_z, length-map, answer_of, after_write, LaneFault, IsFrontStored}
-use Rattle.views.specs.Stores.{told}
+use Rattle.views.specs.Stores.{without_number}
 use Rattle.c_lines.proofs.Parts.{front_refused, lows_fit, all_stored, one_stored, one_refused}
 use Rattle.c_lines.proofs.unsigned.U64Number64.store_front.Goals as goal
 
@@ -34,11 +34,11 @@ returns-in-Ok-clause-stored g c =
     let fits : SFits w128 c.from.result = search rules in
     let value : to_z w128 (of_z w128 c.from.result) ≡ pos (get_or c.args.values.now 0 0) = to_z-of_z w128 c.from.result fits ∙ c.from.ensures in
     one_stored c.args.leaf c.args.first c.args.values.now c.args.view.now c.set.new.self c.requires.any (omega (arith, c.requires.rows, c.requires.any))
-    (ap (λ (v : ℤ). told (answer_of c.args.view.now c.args.leaf v)) (sym value) ∙ sym c.set.ensures.answer ∙ c.in-Ok.is) (c.in-Ok.ensures.stored ∙ ap (after_write c.args.view.now c.args.first c.args.leaf) value)
+    (ap (λ (v : ℤ). without_number (answer_of c.args.view.now c.args.leaf v)) (sym value) ∙ sym c.set.ensures.answer ∙ c.in-Ok.is) (c.in-Ok.ensures.stored ∙ ap (after_write c.args.view.now c.args.first c.args.leaf) value)
 
 pub returns-in-Err-clause-stored : goal.returns-in-Err-clause-stored
 returns-in-Err-clause-stored g c =
     let fits : SFits w128 c.from.result = search rules in
     let value : to_z w128 (of_z w128 c.from.result) ≡ pos (get_or c.args.values.now 0 0) = to_z-of_z w128 c.from.result fits ∙ c.from.ensures in
     one_refused c.args.leaf c.args.first c.args.values.now c.args.view.now c.set.new.self c.in-Err.fault c.requires.any
-    (ap (λ (v : ℤ). told (answer_of c.args.view.now c.args.leaf v)) (sym value) ∙ sym c.set.ensures.answer ∙ c.in-Err.is) c.in-Err.ensures.refused
+    (ap (λ (v : ℤ). without_number (answer_of c.args.view.now c.args.leaf v)) (sym value) ∙ sym c.set.ensures.answer ∙ c.in-Err.is) c.in-Err.ensures.refused

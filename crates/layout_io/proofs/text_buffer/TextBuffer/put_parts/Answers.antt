@@ -1,6 +1,6 @@
 use Rattle.std.proofs.Common.{IsErr, rules}
 use Rattle.layout_io.specs.GatheringLaws.{Puts-nil, Puts-loop_err}
-use Rattle.layout_io.specs.Parts.{text_of_part}
+use Rattle.layout_io.specs.Inner.Parts.{text_of_part}
 use Rattle.layout_io.proofs.text_buffer.TextBuffer.put_parts.Goals as goal
 
 pub loop-part-init : goal.loop-part-init

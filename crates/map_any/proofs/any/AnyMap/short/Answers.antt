@@ -1,4 +1,4 @@
-use Rattle.map_any.proofs.Imports.{ℕ, sym, subst, schema_fields, kinds_of, term_of, leaf_cells_kinds, layout_by, IsWide, LeafRule}
+use Rattle.map_any.proofs.Imports.{ℕ, sym, subst, schema_fields, kinds_of, term_of, leaf_cells_kinds, layout_by, AreReadWide, LeafRule}
 use Rattle.map_any.proofs.AnyFacts.{bytes_of}
 use Rattle.map_any.proofs.LeafLaws.{leaf_short, short_uncounted}
 use Rattle.map_any.proofs.any.AnyMap.short.Goals as goal
@@ -16,5 +16,5 @@ pub returns-clause-wide : goal.returns-clause-wide
 returns-clause-wide c = λ bytes is.
     let m = c.args.self.now in
     let leaf : LeafRule = c.leaf_rule.result.now in
-    subst (λ (n : ℕ). IsWide leaf.short n leaf.wide)
+    subst (λ (n : ℕ). AreReadWide leaf.short n leaf.wide)
     (sym (bytes_of (layout_by (term_of m.expr) m.extents (schema_fields m.schema)) m.lengths leaf.short.blob bytes m.sized is)) c.leaf_rule.ensures.wide

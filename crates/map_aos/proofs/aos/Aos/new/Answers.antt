@@ -1,4 +1,4 @@
-use Rattle.map_aos.proofs.Imports.{◌≡◌, ◌<◌, ◌^◌, ℕ, List, length, Err, subst, ◌∙◌, rules, IsErrOf, widths_of, Cell, TooBig, Part, IsStored, part_of}
+use Rattle.map_aos.proofs.Imports.{◌≡◌, ◌<◌, ◌^◌, ℕ, List, length, Err, subst, ◌∙◌, rules, IsErrOf, widths_of, Cell, TooBig, Part, LieInParts, part_of}
 use Rattle.map_aos.proofs.Blob.{big_part, big_blob, not_too_big}
 use Rattle.map_aos.proofs.aos.Aos.new.Goals as goal
 
@@ -17,15 +17,15 @@ pub returns-then-slots-part-gt-MAX_BLOB_BITS-clause-too_big :
 returns-then-slots-part-gt-MAX_BLOB_BITS-clause-too_big c =
     let kept : c.deref.result.now ≡ c.args.cells.now = c.deref.ensures.value ∙ c.in_ok-kept.ensures.items ∙ c.as_slice.ensures in
     let part = c.in_ok-part.part in
-    let stored : IsStored c.args.form (widths_of c.args.cells.now) part.offsets.items part.size =
-    subst (λ (cells : List Cell). IsStored c.args.form (widths_of cells) part.offsets.items part.size) kept c.in_ok-part.ensures.stored in
+    let stored : LieInParts c.args.form (widths_of c.args.cells.now) part.offsets.items part.size =
+    subst (λ (cells : List Cell). LieInParts c.args.form (widths_of cells) part.offsets.items part.size) kept c.in_ok-part.ensures.stored in
     λ _. big_blob c.args.form c.args.slots (widths_of c.args.cells.now) part.offsets.items part.size stored c.if-slots-part-gt-MAX_BLOB_BITS.true
 
 pub returns-clause-fits : goal.returns-clause-fits
 returns-clause-fits c =
     let kept : c.deref.result.now ≡ c.args.cells.now = c.deref.ensures.value ∙ c.in_ok-kept.ensures.items ∙ c.as_slice.ensures in
     let part = c.in_ok-part.part in
-    let stored : IsStored c.args.form (widths_of c.args.cells.now) part.offsets.items part.size =
-    subst (λ (cells : List Cell). IsStored c.args.form (widths_of cells) part.offsets.items part.size) kept c.in_ok-part.ensures.stored in
+    let stored : LieInParts c.args.form (widths_of c.args.cells.now) part.offsets.items part.size =
+    subst (λ (cells : List Cell). LieInParts c.args.form (widths_of cells) part.offsets.items part.size) kept c.in_ok-part.ensures.stored in
     not_too_big c.args.form c.args.slots (widths_of c.args.cells.now) part.offsets.items part.size (λ some. stored)
     c.if-slots-gt-MAX_SLOTS.false c.if-slots-part-gt-MAX_BLOB_BITS.false

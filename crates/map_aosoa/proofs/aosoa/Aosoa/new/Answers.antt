@@ -1,4 +1,4 @@
-use Rattle.map_aosoa.proofs.Imports.{◌≡◌, ℕ, ◌*◌, ◌^◌, ◌<◌, ◌≤◌, List, Err, subst, ◌∙◌, rules, IsErrOf, sum, widths_of, Cell, TooBig, Block, IsStored, block_count}
+use Rattle.map_aosoa.proofs.Imports.{◌≡◌, ℕ, ◌*◌, ◌^◌, ◌<◌, ◌≤◌, List, Err, subst, ◌∙◌, rules, IsErrOf, sum, widths_of, Cell, TooBig, Block, LieInBlocks, block_count}
 use Rattle.map_aosoa.proofs.Blob.{big_block, big_blob, not_too_big, none_fits}
 use Rattle.map_aosoa.proofs.aosoa.Aosoa.new.Goals as goal
 
@@ -24,8 +24,8 @@ returns-then-bits-gt-MAX_BLOB_BITS-clause-too_big c =
     let kept : c.deref.result.now ≡ c.args.cells.now = c.deref.ensures.value ∙ c.in_ok-kept.ensures.items ∙ c.as_slice.ensures in
     let some : 0 < c.args.lanes = let h = c.if-not-contains.false in let e = c.contains.ensures in search rules in
     let block = c.in_ok-block.block in
-    let stored : IsStored c.args.lanes (widths_of c.args.cells.now) block.offsets.items block.size =
-    subst (λ (cells : List Cell). IsStored c.args.lanes (widths_of cells) block.offsets.items block.size) kept c.in_ok-block.ensures.stored in
+    let stored : LieInBlocks c.args.lanes (widths_of c.args.cells.now) block.offsets.items block.size =
+    subst (λ (cells : List Cell). LieInBlocks c.args.lanes (widths_of cells) block.offsets.items block.size) kept c.in_ok-block.ensures.stored in
     let long : 2 ^ 31 < block_count c.args.lanes c.args.slots * block.size =
     subst (λ (n : ℕ). 2 ^ 31 < n * block.size) c.count_blocks.ensures c.if-bits-gt-MAX_BLOB_BITS.true in
     λ _. big_blob c.args.lanes c.args.slots (widths_of c.args.cells.now) block.offsets.items block.size some stored long
@@ -35,8 +35,8 @@ returns-clause-fits c =
     let kept : c.deref.result.now ≡ c.args.cells.now = c.deref.ensures.value ∙ c.in_ok-kept.ensures.items ∙ c.as_slice.ensures in
     let some : 0 < c.args.lanes = let h = c.if-not-contains.false in let e = c.contains.ensures in search rules in
     let block = c.in_ok-block.block in
-    let stored : IsStored c.args.lanes (widths_of c.args.cells.now) block.offsets.items block.size =
-    subst (λ (cells : List Cell). IsStored c.args.lanes (widths_of cells) block.offsets.items block.size) kept c.in_ok-block.ensures.stored in
+    let stored : LieInBlocks c.args.lanes (widths_of c.args.cells.now) block.offsets.items block.size =
+    subst (λ (cells : List Cell). LieInBlocks c.args.lanes (widths_of cells) block.offsets.items block.size) kept c.in_ok-block.ensures.stored in
     let small : block_count c.args.lanes c.args.slots * block.size ≤ 2 ^ 31 =
     subst (λ (n : ℕ). n * block.size ≤ 2 ^ 31) c.count_blocks.ensures c.if-bits-gt-MAX_BLOB_BITS.false in
     not_too_big c.args.lanes c.args.slots (widths_of c.args.cells.now) block.offsets.items block.size some (λ filled. stored) c.if-slots-gt-MAX_SLOTS.false small

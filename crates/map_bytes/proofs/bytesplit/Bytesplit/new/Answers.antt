@@ -1,4 +1,4 @@
-use Rattle.map_bytes.proofs.Imports.{◌≡◌, List, length, false, sym, ap, ◌∙◌, full_holds, length-full, Cell, Hold, differ, bytes_of, differ_none}
+use Rattle.map_bytes.proofs.Imports.{◌≡◌, List, length, false, sym, ap, ◌∙◌, full_holds, length-full, Cell, Hold, differ, byte_cells_of, differ_none}
 use Rattle.map_bytes.proofs.bytesplit.Bytesplit.new.Goals as goal
 
 pub invariant_of-result : goal.invariant_of-result
@@ -9,5 +9,5 @@ invariant_of-result g c =
     let none : differ holds (full_holds inner) ≡ false = sym c.has_other_hold.ensures ∙ c.if-has_other_hold.false in
     let kept : c.in_ok-cells.cells.items ≡ c.args.cells.now = c.in_ok-cells.ensures.items ∙ c.as_slice.ensures in
     record {
-      full = differ_none holds (full_holds inner) size none ∙ ap full_holds c.requires.bytes ∙ ap (λ (cells : List Cell). full_holds (bytes_of cells)) (sym kept);
+      full = differ_none holds (full_holds inner) size none ∙ ap full_holds c.requires.bytes ∙ ap (λ (cells : List Cell). full_holds (byte_cells_of cells)) (sym kept);
     }

@@ -1,6 +1,6 @@
 use Rattle.std.proofs.Common.{ℕ, ◌<◌, ◌∙◌, Bool, List, length, slice_get, sym, ap, subst, arith}
 use Rattle.places.specs.declared.piece.Hold.{Hold}
-use Rattle.map_split.specs.Seats.{IsSeat}
+use Rattle.map_split.specs.Inner.Seats.{IsSeat}
 use Rattle.map_split.specs.declared.sides.Seat.TheVariants.{First, Rest}
 use Rattle.map_split.proofs.Rows.{held_first, held_rest}
 use Rattle.map_split.proofs.split.SplitMapping.hold.Goals as goal

@@ -1,11 +1,11 @@
 use Rattle.std.proofs.Common.{ℕ, ◌<◌, ◌∙◌, Bool, List, length, map, slice_index, sym, ap, subst, arith}
 use Rattle.places.specs.Layout.{Owner}
-use Rattle.places.specs.Laws.{IsLocated, shifted}
+use Rattle.places.specs.Lawful.{IsLocated, shifted}
 use Rattle.places.specs.Rules.{split}
 use Rattle.places.specs.declared.piece.Hold.{Hold}
 use Rattle.places.specs.declared.piece.Piece.{Piece}
 use Rattle.map_split.specs.Sides.{merged, rank_first, rank_rest}
-use Rattle.map_split.specs.Seats.{IsSeat}
+use Rattle.map_split.specs.Inner.Seats.{IsSeat}
 use Rattle.map_split.specs.SplitPlacesLaws.{first_located, rest_located}
 use Rattle.map_split.specs.declared.sides.Seat.TheVariants.{First, Rest}
 use Rattle.map_split.proofs.Rows.{width_first, width_rest}

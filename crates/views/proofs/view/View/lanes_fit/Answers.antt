@@ -1,4 +1,4 @@
-use Rattle.views.proofs.Imports.{ℤ, pos, get_or, SFits, w64, sym, ap, ◌∙◌, arith, rules, told, answer_of}
+use Rattle.views.proofs.Imports.{ℤ, pos, get_or, SFits, w64, sym, ap, ◌∙◌, arith, rules, without_number, answer_of}
 use Rattle.views.proofs.StoredLaws.{fault_later, fault_here, passed}
 use Rattle.views.proofs.view.View.lanes_fit.Goals as goal
 
@@ -9,7 +9,7 @@ loop-lane-preserved c =
     let same = passed value c.from.result fit c.from.ensures in
     c.loop-lane.invariant
     ∙ fault_later (answer_of c.args.self.now) c.args.leaf c.loop-lane.lane c.args.values.now (omega arith)
-    (sym (ap (λ (v : ℤ). told (answer_of c.args.self.now c.args.leaf v)) same) ∙ sym c.fits.ensures ∙ c.in_default.is)
+    (sym (ap (λ (v : ℤ). without_number (answer_of c.args.self.now c.args.leaf v)) same) ∙ sym c.fits.ensures ∙ c.in_default.is)
 
 pub returns-in-Err-clause-named : goal.returns-in-Err-clause-named
 returns-in-Err-clause-named c =
@@ -18,4 +18,4 @@ returns-in-Err-clause-named c =
     let same = passed value c.from.result fit c.from.ensures in
     c.loop-lane.invariant
     ∙ fault_here (answer_of c.args.self.now) c.args.leaf c.loop-lane.lane c.args.values.now c.in-Err.fault (omega arith)
-    (sym (ap (λ (v : ℤ). told (answer_of c.args.self.now c.args.leaf v)) same) ∙ sym c.fits.ensures ∙ c.in-Err.is)
+    (sym (ap (λ (v : ℤ). without_number (answer_of c.args.self.now c.args.leaf v)) same) ∙ sym c.fits.ensures ∙ c.in-Err.is)

@@ -1,11 +1,11 @@
-use Rattle.views.proofs.Imports.{ℤ, ◌∙◌, sym, ap, rules, SFits, to_z, of_z, w128, to_z-of_z, told, answer_of, after_write}
+use Rattle.views.proofs.Imports.{ℤ, ◌∙◌, sym, ap, rules, SFits, to_z, of_z, w128, to_z-of_z, without_number, answer_of, after_write}
 use Rattle.views.proofs.StoreLaws.{raw_written}
 use Rattle.views.proofs.view.View.set.Goals as goal
 
 pub returns-then-takes-clause-answer : goal.returns-then-takes-clause-answer
 returns-then-takes-clause-answer g c =
     let fits : SFits w128 c.args.value = search rules in
-    sym (ap told (c.takes.ensures.taken c.if-takes.true)) ∙ ap (λ (v : ℤ). told (answer_of c.args.self.now c.args.leaf v)) (to_z-of_z w128 c.args.value fits)
+    sym (ap without_number (c.takes.ensures.taken c.if-takes.true)) ∙ ap (λ (v : ℤ). without_number (answer_of c.args.self.now c.args.leaf v)) (to_z-of_z w128 c.args.value fits)
 
 pub returns-then-takes-clause-stored : goal.returns-then-takes-clause-stored
 returns-then-takes-clause-stored g c =

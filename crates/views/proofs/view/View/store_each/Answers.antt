@@ -1,4 +1,4 @@
-use Rattle.views.proofs.Imports.{◌≡◌, ◌<◌, ℤ, Ok, pos, get_or, length, map, take, SFits, to_z, of_z, w64, refl, sym, ap, ◌∙◌, rules, arith, w128, get_or-map, length-map, length-with_column, told_lane, told, Table, answer_of, kept_of}
+use Rattle.views.proofs.Imports.{◌≡◌, ◌<◌, ℤ, Ok, pos, get_or, length, map, take, SFits, to_z, of_z, w64, refl, sym, ap, ◌∙◌, rules, arith, w128, get_or-map, length-map, length-with_column, told_lane, without_number, Table, answer_of, kept_of}
 use Rattle.views.proofs.RunStoreLaws.{value_more, run_stored, whole_run, no_fault, stopped_run}
 use Rattle.views.proofs.StoredLaws.{nothing_stored, fault_later, fault_here, passed}
 use Rattle.views.proofs.view.View.store_each.Goals as goal
@@ -33,8 +33,8 @@ loop-lane-preserved c =
     let inside : lane < length values = omega arith in
     let same = passed value c.from.result fit c.from.ensures in
     let table = c.loop-lane.invariant.stored.stored in
-    let taken : told (answer_of old leaf value) ≡ Ok tt =
-    sym (ap (λ (v : ℤ). told (answer_of old leaf v)) same) ∙ sym (ap (λ (t : Table). told (answer_of t leaf (to_z w128 (of_z w128 c.from.result)))) table) ∙ sym c.set_tested.ensures.answer ∙ c.in_default.is in
+    let taken : without_number (answer_of old leaf value) ≡ Ok tt =
+    sym (ap (λ (v : ℤ). without_number (answer_of old leaf v)) same) ∙ sym (ap (λ (t : Table). without_number (answer_of t leaf (to_z w128 (of_z w128 c.from.result)))) table) ∙ sym c.set_tested.ensures.answer ∙ c.in_default.is in
     let kept : kept_of c.loop-lane.self leaf (to_z w128 (of_z w128 c.from.result)) ≡ get_or (map (kept_of old leaf) values) lane (pos 0) =
     ap (kept_of c.loop-lane.self leaf) same ∙ ap (λ (t : Table). kept_of t leaf value) table ∙ sym (get_or-map (kept_of old leaf) values lane (pos 0) (pos 0) inside) in
     record {
@@ -44,12 +44,12 @@ loop-lane-preserved c =
     }
 
 -- the fault of a value that is refused
-fault : (c : goal.After-set_tested) → told (answer_of c.args.self.now c.args.leaf (get_or c.args.values.now c.loop-lane.lane (pos 0))) ≡ c.set_tested.result
+fault : (c : goal.After-set_tested) → without_number (answer_of c.args.self.now c.args.leaf (get_or c.args.values.now c.loop-lane.lane (pos 0))) ≡ c.set_tested.result
 fault c =
     let value = get_or c.args.values.now c.loop-lane.lane (pos 0) in
     let fit : SFits w64 value = search rules in
     let same = passed value c.from.result fit c.from.ensures in
-    sym (ap (λ (v : ℤ). told (answer_of c.args.self.now c.args.leaf v)) same) ∙ sym (ap (λ (t : Table). told (answer_of t c.args.leaf (to_z w128 (of_z w128 c.from.result)))) c.loop-lane.invariant.stored.stored) ∙ sym c.set_tested.ensures.answer
+    sym (ap (λ (v : ℤ). without_number (answer_of c.args.self.now c.args.leaf v)) same) ∙ sym (ap (λ (t : Table). without_number (answer_of t c.args.leaf (to_z w128 (of_z w128 c.from.result)))) c.loop-lane.invariant.stored.stored) ∙ sym c.set_tested.ensures.answer
 
 pub returns-in-Err-clause-named : goal.returns-in-Err-clause-named
 returns-in-Err-clause-named c =

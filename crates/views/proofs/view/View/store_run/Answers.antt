@@ -1,4 +1,4 @@
-use Rattle.views.proofs.Imports.{◌≡◌, ◌<◌, ◌∙◌, ℤ, ℕ, List, None, true, pos, get_or, length, map, sym, ap, subst, arith, hold_at, column_writes, with_column, raised, run_fault, told_lane, stored_count, with_run, raised_same, Fits, kind_at, told, answer_of, kept_of, leaf_type_of, table_holds, after_stores, LaneFault}
+use Rattle.views.proofs.Imports.{◌≡◌, ◌<◌, ◌∙◌, ℤ, ℕ, List, None, true, pos, get_or, length, map, sym, ap, subst, arith, hold_at, column_writes, with_column, raised, run_fault, told_lane, stored_count, with_run, raised_same, Fits, kind_at, without_number, answer_of, kept_of, leaf_type_of, table_holds, after_stores, LaneFault}
 use Rattle.std.proofs.Common.{take_all}
 use Rattle.std.specs.Prelude.{Option}
 use Rattle.views.proofs.ShownLaws.{shown_there}
@@ -34,7 +34,7 @@ none g c taken =
     let a = c.self.inside in
     let some = some_seen a.schema a.extents a.expr a.blobs.items c.self.invariant.1 c.args.self.now c.self.view_is c.args.leaf c.requires.leaf_in in
     none_refused (answer_of c.args.self.now) c.args.leaf 0 c.args.values.now
-    (λ k l. ap told (fit_answer c.args.self.now c.args.leaf (get_or c.args.values.now k (pos 0)) some (fits g c taken k l)))
+    (λ k l. ap without_number (fit_answer c.args.self.now c.args.leaf (get_or c.args.values.now k (pos 0)) some (fits g c taken k l)))
 
 pub returns-then-are_taken-clause-named : goal.returns-then-are_taken-clause-named
 returns-then-are_taken-clause-named g c = sym (ap told_lane (none g (goal.at.returns-then-are_taken-clause-named g c).After-are_taken c.if-are_taken.true))

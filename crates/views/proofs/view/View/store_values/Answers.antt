@@ -1,4 +1,4 @@
-use Rattle.views.proofs.Imports.{◌≡◌, ◌<◌, ℤ, pos, get_or, length, map, take, SFits, to_z, of_z, w64, sym, ap, subst, ◌∙◌, arith, rules, w128, to_z-of_z, get_or-map, length-map, declared, told, Table, answer_of, kept_of, leaf_type_of, IsSettledIn, length-with_column}
+use Rattle.views.proofs.Imports.{◌≡◌, ◌<◌, ℤ, pos, get_or, length, map, take, SFits, to_z, of_z, w64, sym, ap, subst, ◌∙◌, arith, rules, w128, to_z-of_z, get_or-map, length-map, declared, without_number, Table, answer_of, kept_of, leaf_type_of, IsSettledIn, length-with_column}
 use Rattle.views.proofs.StoredLaws.{nothing_stored, stored_more, lane_taken, passed, all_stored}
 use Rattle.views.proofs.view.View.store_values.Goals as goal
 
@@ -20,8 +20,8 @@ pub raw-raw-requires-clause-taken : goal.raw-raw-requires-clause-taken
 raw-raw-requires-clause-taken c =
     let value = get_or c.args.values.now c.loop-lane.lane (pos 0) in
     let fit : SFits w64 value = search rules in
-    ap (λ (v : ℤ). told (answer_of c.loop-lane.self c.args.leaf v)) (passed value c.from.result fit c.from.ensures)
-    ∙ ap (λ (t : Table). told (answer_of t c.args.leaf value)) c.loop-lane.invariant.stored
+    ap (λ (v : ℤ). without_number (answer_of c.loop-lane.self c.args.leaf v)) (passed value c.from.result fit c.from.ensures)
+    ∙ ap (λ (t : Table). without_number (answer_of t c.args.leaf value)) c.loop-lane.invariant.stored
     ∙ lane_taken (answer_of c.args.self.now) c.args.leaf 0 c.loop-lane.lane c.args.values.now c.in_ok-lanes_fit.ensures.taken (omega arith)
 
 pub store-requires-clause-settled : goal.store-requires-clause-settled

@@ -1,4 +1,4 @@
-use Rattle.views.proofs.Imports.{◌≡◌, ◌∙◌, length, sym, subst, arith, schema_fields, leaves, term_of, layout_by, IsTallied, tally_of, Tally, touched, access_to, tallied_kept, tallied-one}
+use Rattle.views.proofs.Imports.{◌≡◌, ◌∙◌, length, sym, subst, arith, schema_fields, leaves, term_of, layout_by, IsTallied, tally_of, Tally, after_access, access_to, tallied_kept, tallied-one}
 use Rattle.views.proofs.KeptLaws.{kind_count}
 use Rattle.views.proofs.Opened.{tallied_here, touched_there, seen_touched, rows_seen, leaf_seen, cell_count}
 use Rattle.views.proofs.TouchLaws.{touched_both, leaf_inside}
@@ -28,7 +28,7 @@ touch_heat-requires-clause-granules c =
 
 -- what is counted then
 counts : (c : goal.After-touch_heat) → tally_of c.touch_counts.new.counts c.touch_heat.new.heat
-    ≡ touched (layout_by (term_of c.self.inside.expr) c.self.inside.extents (schema_fields c.self.inside.schema)) (tally_of c.self.inside.counts c.self.inside.heat) (access_to c.args.write c.args.row c.args.leaf)
+    ≡ after_access (layout_by (term_of c.self.inside.expr) c.self.inside.extents (schema_fields c.self.inside.schema)) (tally_of c.self.inside.counts c.self.inside.heat) (access_to c.args.write c.args.row c.args.leaf)
 counts c =
     let tally = tally_of c.self.inside.counts c.self.inside.heat in
     let new = tally_of c.touch_counts.new.counts c.touch_heat.new.heat in

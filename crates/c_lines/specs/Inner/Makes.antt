@@ -1,0 +1,31 @@
+-- What the code has of two lines, as the model of scripts has it.
+use Rattle.std.specs.Prelude.{ℕ, List, []}
+use Rattle.line_grammar.specs.Sentences.{New}
+use Rattle.map_expr.specs.Terms.{term_of}
+use Rattle.record_dim.specs.Schemas.{schema_fields}
+use Rattle.worlds.specs.View.{Named}
+use Rattle.worlds.specs.Worlds.{World, empty, added}
+use Rattle.c_lines.specs.Lines as lines
+use Rattle.c_lines.specs.Answers.{Answer}
+use Rattle.views.specs.Tables.{Table}
+use Rattle.c_lines.specs.declared.make.Asked.{Asked}
+use Rattle.c_lines.specs.declared.make.Found.{Found}
+use Rattle.c_lines.specs.declared.make.NamedRecord.{NamedRecord}
+use Rattle.c_lines.specs.declared.make.NewView.{NewView}
+
+-- a world with one record
+abbrev pub world_of : NamedRecord → World
+world_of named = record empty { records = added named.name (schema_fields named.schema) [] }
+
+abbrev pub new_of : NewView → New
+new_of new = record { name = new.name; schema = new.schema; words = new.words; wrap = new.wrap; term = term_of new.expr }
+
+abbrev pub named_of : NamedRecord → Found → Named
+named_of named found = record { fields = schema_fields named.schema; mode = found.mode; mapping = term_of found.expr }
+
+abbrev pub asked_of : Asked → lines.Asked
+asked_of asked = record { world = world_of asked.record; new = new_of asked.new }
+
+-- the table of a dataset
+abbrev pub asked_filled : Asked → List ℕ → Answer Table
+asked_filled asked csv = lines.dataset_filled (world_of asked.record) (new_of asked.new) csv

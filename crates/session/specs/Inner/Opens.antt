@@ -1,0 +1,30 @@
+-- The parts of an open, behind the reading of its file.
+use Rattle.std.specs.Prelude.{ℕ, ◌+◌, ◌*◌, ◌^◌, List, nat_lt}
+use Rattle.blob_file.specs.Opened.{opened, table_of_saved}
+use Rattle.blob_file.specs.declared.fault.FileFault.{FileFault}
+use Rattle.blob_file.specs.declared.fault.FileFault.TheVariants as cause
+use Rattle.views.specs.Tables.{Table}
+use Rattle.worlds.specs.Files.{bad_file}
+use Rattle.worlds.specs.Outcomes.{Outcome, Goes, ◌>>=◌, refused_if, ok_or}
+use Rattle.worlds.specs.Tables.{live_bits, blob_bits}
+use Rattle.worlds.specs.Worlds.{Entry}
+use Rattle.worlds.specs.declared.fault.CommandFault.TheVariants.{TooBig}
+use Rattle.command_checks.specs.declared.fault.StepFault.{StepFault}
+use Rattle.command_checks.specs.declared.fault.StepFault.TheVariants as step
+
+-- a table, where its blobs have room beside those of these views
+abbrev pub with_room : List (Entry Table) → Table → Outcome Table
+with_room views table = do
+  all ← refused_if (nat_lt (8 * 2 ^ 30) (live_bits views + blob_bits table)) TooBig
+  Goes table
+
+-- the table of a file of bytes that are not too many, beside these views
+abbrev pub placed_table : List (Entry Table) → List ℕ → Outcome Table
+placed_table views bytes = do
+  saved ← ok_or bad_file (opened bytes)
+  with_room views (table_of_saved saved)
+
+-- what a fault of a file is told as
+abbrev pub file_fault : FileFault → StepFault
+file_fault cause.NoMemory = step.NoMemory
+file_fault fault = step.Command (bad_file fault)
