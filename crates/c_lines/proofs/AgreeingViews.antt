@@ -1,8 +1,8 @@
 -- A view that two lines describe, with or without a dataset, is that of the commands of these lines.
-use Rattle.c_lines.proofs.Imports.{if◌then◌else◌, unwrap_or, ◌≡◌, ℕ, ◌^◌, ℤ, nat_lt, Bool, true, false, List, [], length, Option, Some, None, Result, Ok, Err, refl, sym, ap, ◌∙◌, csv_records, records_behind, dataset_of, RowFault, File, file_named, New, Define, View, Load, record_fault, Tree, Fields, End, BadRecord, Table, define, fields_in, filled, load, loaded, loaded_table, row_fault, refused_if, step, made, resolved, named, new_table, view, with_view, World, added, found, same_name, TooBig, First, Second, Agrees, IsCause, IsLeft, DatasetsAgree, LoadsAgree, ViewsAgree, both_steps, fields_for, world_with, described, line_answer, with_dataset, told, row_refusal}
+use Rattle.c_lines.proofs.Imports.{if◌then◌else◌, unwrap_or, ◌≡◌, ℕ, ◌^◌, ℤ, nat_lt, Bool, true, false, List, [], length, Option, Some, None, Result, Ok, Err, refl, sym, ap, ◌∙◌, csv_records, records_behind, dataset_of, RowFault, File, file_named, New, Define, View, Load, record_fault, Tree, Fields, End, BadRecord, Table, define, fields_in, filled, load, loaded, loaded_table, row_fault, sure, refused_if, step, made, resolved, named, new_table, view, with_view, World, added, found, same_name, TooBig, First, Second, Agrees, IsCause, IsLeft, DatasetsAgree, LoadsAgree, ViewsAgree, both_steps, fields_for, world_with, described, line_answer, with_dataset, told, row_refusal}
 use Rattle.csv_rows.specs.declared.fault.RowFault.TheVariants as row
 use Rattle.c_lines.specs.Lines as lines
-use Rattle.c_lines.proofs.Agreeing.{Any, plain_any, plain_then, plain_if, agrees_told, agrees_then, agrees_behind, agrees_left}
+use Rattle.c_lines.proofs.Agreeing.{Any, plain_any, plain_then, plain_if, agrees_told, agrees_then, agrees_after, agrees_behind, agrees_left, agrees_loaded}
 use Rattle.c_lines.proofs.Datasets.{IsOwn, own_rows}
 use Rattle.c_lines.proofs.PlainTests.{plain_made, plain_named, plain_resolved}
 
@@ -17,13 +17,13 @@ row_cause fields (row.Narrow at leaf) own = refl
 row_cause fields row.NoMemory own = absurd own
 
 by_rows : (fields : Fields) (table : Table) (csv : List ℕ) (rows : Result (List (List ℤ)) RowFault) → table.fields ≡ fields → dataset_of table (csv_records csv) ≡ rows → IsOwn rows →
-    Agrees fields (λ a b. a ≡ b) (filled table (csv_records csv)) (with_dataset table (dataset_of table (csv_records csv)))
+    Agrees fields (λ a b. a ≡ b) (sure (filled table (csv_records csv))) (with_dataset table (dataset_of table (csv_records csv)))
 by_rows fields table csv (Ok rows) same is own = rw is refl
 by_rows fields table csv (Err fault) same is own =
     let cause : IsCause fields (row_refusal fault) (row_fault table.fields fault) = rw same (row_cause fields fault own) in
     rw is cause
 
-values_agree : (fields : Fields) (table : Table) (csv : List ℕ) → table.fields ≡ fields → Agrees fields (λ a b. a ≡ b) (filled table (csv_records csv)) (with_dataset table (dataset_of table (csv_records csv)))
+values_agree : (fields : Fields) (table : Table) (csv : List ℕ) → table.fields ≡ fields → Agrees fields (λ a b. a ≡ b) (sure (filled table (csv_records csv))) (with_dataset table (dataset_of table (csv_records csv)))
 values_agree fields table csv same = by_rows fields table csv (dataset_of table (csv_records csv)) same refl (own_rows table (csv_records csv))
 
 -- the table of a dataset
@@ -31,7 +31,7 @@ tables_agree : (world : World) (fields : Fields) (new : New) (file csv : List �
     Agrees fields (λ a b. a ≡ b) (loaded_table world new file files false) (lines.dataset_filled world new csv)
 unfolding loaded_table loaded
 tables_agree world fields new file csv files none only has =
-    agrees_then (λ whole. whole.fields ≡ fields) fields (λ a b. a ≡ b) (named world new) _ _ (plain_named world new fields none only)
+    agrees_after (λ whole. whole.fields ≡ fields) fields (λ a b. a ≡ b) (named world new) _ _ (plain_named world new fields none only)
     (λ whole same. rw (has, none)
     (let long = nat_lt (2 ^ 28) (length csv) in
     let rows = Some (length (records_behind (csv_records csv))) in
@@ -43,7 +43,7 @@ tables_agree world fields new file csv files none only has =
 step_agrees : (world : World) (fields : Fields) (new : New) (file csv : List ℕ) (files : List File) → world.views ≡ [] → ((f : Fields) → found new.schema world.records ≡ Some f → f ≡ fields) → file_named files file ≡ Some csv →
     Agrees fields (λ left table. IsLeft (with_view world new.name table) [] left) (step world (Load new file) files false) (lines.dataset_filled world new csv)
 unfolding step load
-step_agrees world fields new file csv files none only has = agrees_left fields (λ table. with_view world new.name table) (loaded_table world new file files false) (lines.dataset_filled world new csv)
+step_agrees world fields new file csv files none only has = agrees_loaded fields (λ table. with_view world new.name table) (loaded_table world new file files false) (lines.dataset_filled world new csv)
     (tables_agree world fields new file csv files none only has)
 
 pub loads_agree : LoadsAgree

@@ -1,5 +1,5 @@
 -- What is told of a test of the model, and of one thing after another.
-use Rattle.c_lines.proofs.Imports.{IfOk, ◌≡◌, ◌⊎◌, Bool, true, false, not, inl, inr, ⊎_elim, Result, Ok, Err, refl, ap, ◌∙◌, Outcome, Goes, Faults, CannotRead, Gives, StepFault, Answer, Tells, Refusal, NoMemory, told, answered}
+use Rattle.c_lines.proofs.Imports.{IfOk, ◌≡◌, ◌⊎◌, Bool, true, false, not, inl, inr, ⊎_elim, Result, Ok, Err, refl, ap, ◌∙◌, Tested, Gives, StepFault, Answer, Tells, Refusal, NoMemory, told, answered}
 use Rattle.command_checks.specs.declared.fault.StepFault.TheVariants as step
 use Rattle.c_lines.specs.Answers.{◌>>=◌}
 
@@ -8,7 +8,7 @@ abbrev pub Refuses : {A : Type 0} → Answer A → Refusal → Type 0
 Refuses told refusal = (refusal ≡ NoMemory) ⊎ (told ≡ Err refusal)
 
 -- what a test gives is told of its outcome
-pub tells_answered : {A B : Type 0} (view : A → B) (given : Result A StepFault) (outcome : Outcome B) → Gives view given outcome → Tells view (told outcome) (answered given)
+pub tells_answered : {A B : Type 0} (view : A → B) (given : Result A StepFault) (outcome : Tested B) → Gives view given outcome → Tells view (told outcome) (answered given)
 tells_answered view (Ok x) outcome gives = rw gives refl
 tells_answered view (Err (step.Command refusal)) outcome gives = inr (rw gives refl)
 tells_answered view (Err step.NoMemory) outcome gives = inl refl
@@ -19,8 +19,8 @@ pub tells_as : {A B : Type 0} (view : A → B) (told_of : Answer B) (a b : Answe
 tells_as view told_of a b is tells = rw is tells
 
 -- a test that is passed
-pub goes_ok : {A B : Type 0} (view : A → B) (given : Result A StepFault) (outcome : Outcome B) (x : A) → Ok x ≡ answered given → Gives view given outcome → outcome ≡ Goes (view x)
-goes_ok view (Ok y) outcome x is gives = let same : y ≡ x = cc in gives ∙ ap (λ z. Goes (view z)) same
+pub goes_ok : {A B : Type 0} (view : A → B) (given : Result A StepFault) (outcome : Tested B) (x : A) → Ok x ≡ answered given → Gives view given outcome → outcome ≡ Ok (view x)
+goes_ok view (Ok y) outcome x is gives = let same : y ≡ x = cc in gives ∙ ap (λ z. Ok (view z)) same
 goes_ok view (Err fault) outcome x is gives = absurd (cc)
 
 -- a refusal of the first of two things
@@ -31,13 +31,12 @@ refused_then view first next refusal result is refuses = rw is (⊎_elim
     refuses)
 
 -- an outcome that is told as something gives it
-pub told_goes : {A : Type 0} (outcome : Outcome A) (x : A) → told outcome ≡ Ok x → outcome ≡ Goes x
-told_goes (Goes y) x is = let same : y ≡ x = cc in ap (λ z. Goes z) same
-told_goes (Faults fault) x is = absurd (cc)
-told_goes (CannotRead name) x is = absurd (cc)
+pub told_goes : {A : Type 0} (outcome : Tested A) (x : A) → told outcome ≡ Ok x → outcome ≡ Ok x
+told_goes (Ok y) x is = let same : y ≡ x = cc in ap (λ z. Ok z) same
+told_goes (Err fault) x is = absurd (cc)
 
 -- a refusal of a test, through `?`
-pub refused_test : {A B : Type 0} (view : A → B) (given : Result A StepFault) (outcome : Outcome B) (refusal : Refusal) → Err refusal ≡ answered given → Gives view given outcome → Refuses (told outcome) refusal
+pub refused_test : {A B : Type 0} (view : A → B) (given : Result A StepFault) (outcome : Tested B) (refusal : Refusal) → Err refusal ≡ answered given → Gives view given outcome → Refuses (told outcome) refusal
 refused_test view given outcome refusal is gives = tells_as view (told outcome) (Err refusal) (answered given) is (tells_answered view given outcome gives)
 
 -- a refusal as an answer

@@ -13,7 +13,7 @@ pub use Rattle.std.proofs.lemmas.Int.{ints, of_z-to_z, to_z-of_z}
 pub use Rattle.std.proofs.lemmas.Slice.{take-put_mid}
 pub use Rattle.record_dim.specs.Trees.{Fields, Tree, End}
 pub use Rattle.views.specs.Tables.{Table, answer_of, owners_of, blob_bits_of, leaf_count_of, after_log, leaf_types_of, table_holds, IsTable, kept_of, leaf_type_of, after_stores, after_write}
-pub use Rattle.worlds.specs.Outcomes.{Outcome, Goes, Faults, CannotRead, ◌>>=◌, quiet, refused_if, refused_by, ok_or, some_or, Left, shows, known}
+pub use Rattle.worlds.specs.Outcomes.{Outcome, ◌>>=◌, quiet, refused_if, refused_by, ok_or, some_or, Left, shows, known, Tested, Fault, Unread, sure}
 pub use Rattle.worlds.specs.Worlds.{World, Entry, found, replaced, same_name, added, empty}
 pub use Rattle.worlds.specs.declared.fault.CommandFault.{CommandFault}
 pub use Rattle.lane_kernels.specs.Kernels.{kernel_fault, given_number}

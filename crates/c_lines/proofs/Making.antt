@@ -1,5 +1,5 @@
 -- Views of the words of two lines, by the tests that refuse them.
-use Rattle.c_lines.proofs.Imports.{◌≡◌, inl, inr, ℕ, ◌^◌, ◌≤◌, true, false, nat_eq, nat_lt, List, [], length, Option, Some, None, Ok, Err, refl, sym, ap, subst, arith, nat_tests, pointwise, text_self, Fields, csv_records, records_behind, dataset_of, ExtentWord, New, Term, Table, nameless, Outcome, Goes, Faults, CannotRead, ◌>>=◌, made, resolved, shaped, mode_by, Named, named, new_table, World, empty, added, Answer, Tells, Refusal, filled_as, with_dataset, zeros_for, told, refusal_of}
+use Rattle.c_lines.proofs.Imports.{◌≡◌, inl, inr, ℕ, ◌^◌, ◌≤◌, true, false, nat_eq, nat_lt, List, [], length, Option, Some, None, Ok, Err, refl, sym, ap, subst, arith, nat_tests, pointwise, text_self, Fields, csv_records, records_behind, dataset_of, ExtentWord, New, Term, Table, nameless, Tested, ◌>>=◌, made, resolved, shaped, mode_by, Named, named, new_table, World, empty, added, Answer, Tells, Refusal, filled_as, with_dataset, zeros_for, told, refusal_of}
 use Rattle.c_lines.specs.Answers as answer
 use Rattle.c_lines.specs.declared.refusal.Refusal.TheVariants.{TooBig}
 use Rattle.c_lines.proofs.Answering.{Refuses, refused_then, told_goes}
@@ -9,21 +9,19 @@ abbrev pub one_record : List ℕ → Fields → World
 one_record name fields = record empty { records = added name fields [] }
 
 -- a refusal of the first of two tests
-pub told_refused : {A B : Type 0} (first : Outcome A) (next : A → Outcome B) (refusal : Refusal) → Refuses (told first) refusal → Refuses (told (first >>= next)) refusal
-told_refused (Goes x) next refusal (inl starved) = inl starved
-told_refused (Goes x) next refusal (inr is) = absurd (cc)
-told_refused (Faults fault) next refusal (inl starved) = inl starved
-told_refused (Faults fault) next refusal (inr is) = let same : refusal_of fault ≡ refusal = cc in inr (ap (λ (r : Refusal). Err r) same)
-told_refused (CannotRead name) next refusal (inl starved) = inl starved
-told_refused (CannotRead name) next refusal (inr is) = let same : TooBig ≡ refusal = cc in inr (ap (λ (r : Refusal). Err r) same)
+pub told_refused : {A B : Type 0} (first : Tested A) (next : A → Tested B) (refusal : Refusal) → Refuses (told first) refusal → Refuses (told (first >>= next)) refusal
+told_refused (Ok x) next refusal (inl starved) = inl starved
+told_refused (Ok x) next refusal (inr is) = absurd (cc)
+told_refused (Err fault) next refusal (inl starved) = inl starved
+told_refused (Err fault) next refusal (inr is) = let same : refusal_of fault ≡ refusal = cc in inr (ap (λ (r : Refusal). Err r) same)
 
 -- and of the second
-pub told_later : {A B : Type 0} (first : Outcome A) (next : A → Outcome B) (x : A) (refusal : Refusal) → first ≡ Goes x → Refuses (told (next x)) refusal → Refuses (told (first >>= next)) refusal
+pub told_later : {A B : Type 0} (first : Tested A) (next : A → Tested B) (x : A) (refusal : Refusal) → first ≡ Ok x → Refuses (told (next x)) refusal → Refuses (told (first >>= next)) refusal
 told_later first next x refusal goes refuses = rw goes refuses
 
 -- what the words of a view over a record of this name stand for
-abbrev rest_of : Fields → New → Term → Outcome Named
-rest_of fields new whole = shaped new.words >>= λ ranked. Goes (record { fields = fields; mode = mode_by new.wrap; mapping = whole })
+abbrev rest_of : Fields → New → Term → Tested Named
+rest_of fields new whole = shaped new.words >>= λ ranked. Ok (record { fields = fields; mode = mode_by new.wrap; mapping = whole })
 
 name_found : (name : List ℕ) (fields : Fields) (new : New) → new.schema ≡ name → named (one_record name fields) new ≡ (nameless [] new.term >>= rest_of fields new)
 name_found name fields new is =
@@ -31,10 +29,10 @@ name_found name fields new is =
     let same : pointwise nat_eq name schema ≡ true = rw is (text_self name) in
     rw same refl
 
-pub shape_refused : (name : List ℕ) (fields : Fields) (new : New) (whole : Term) (refusal : Refusal) → new.schema ≡ name → nameless [] new.term ≡ Goes whole → Refuses (told (shaped new.words)) refusal →
+pub shape_refused : (name : List ℕ) (fields : Fields) (new : New) (whole : Term) (refusal : Refusal) → new.schema ≡ name → nameless [] new.term ≡ Ok whole → Refuses (told (shaped new.words)) refusal →
     Refuses (told (named (one_record name fields) new)) refusal
 shape_refused name fields new whole refusal is goes refuses = rw (name_found name fields new is)
-    (told_later (nameless [] new.term) (rest_of fields new) whole refusal goes (told_refused (shaped new.words) (λ ranked. Goes (record { fields = fields; mode = mode_by new.wrap; mapping = whole })) refusal refuses))
+    (told_later (nameless [] new.term) (rest_of fields new) whole refusal goes (told_refused (shaped new.words) (λ ranked. Ok (record { fields = fields; mode = mode_by new.wrap; mapping = whole })) refusal refuses))
 
 -- the table of zeros
 pub new_refused : (world : World) (new : New) (refusal : Refusal) → Refuses (told (named world new)) refusal → Refuses (told (new_table world new)) refusal
@@ -42,16 +40,15 @@ unfolding new_table
 new_refused world new refusal refuses = told_refused (named world new) (λ whole. resolved new.words None >>= λ extents. made world.views whole.mode whole.fields extents whole.mapping) refusal refuses
 
 -- one test of the model after another, as answers
-told_then : {A B : Type 0} (first : Outcome A) (next : A → Outcome B) → told (first >>= next) ≡ answer.◌>>=◌ (told first) (λ x. told (next x))
-told_then (Goes x) next = refl
-told_then (Faults fault) next = refl
-told_then (CannotRead name) next = refl
+told_then : {A B : Type 0} (first : Tested A) (next : A → Tested B) → told (first >>= next) ≡ answer.◌>>=◌ (told first) (λ x. told (next x))
+told_then (Ok x) next = refl
+told_then (Err fault) next = refl
 
 pub table_made : (world : World) (new : New) (whole : Named) (result : Answer Table) → world.views ≡ [] → told (named world new) ≡ Ok whole →
     Tells (λ table. table) (zeros_for whole new.words None) result → Tells (λ table. table) (told (new_table world new)) result
 unfolding new_table
 table_made world new whole result none is tells =
-    let words : named world new ≡ Goes whole = told_goes (named world new) whole is in
+    let words : named world new ≡ Ok whole = told_goes (named world new) whole is in
     let same = told_then (resolved new.words None) (λ extents. made [] whole.mode whole.fields extents whole.mapping) in
     rw (words, none) (subst (λ (a : Answer Table). Tells (λ table. table) a result) (sym same) tells)
 
@@ -60,7 +57,7 @@ pub zeros_refused : (whole : Named) (words : List ExtentWord) (rows : Option ℕ
 zeros_refused whole words rows refusal (inl starved) = inl starved
 zeros_refused whole words rows refusal (inr is) = inr (rw is refl)
 
-pub zeros_made : (whole : Named) (words : List ExtentWord) (rows : Option ℕ) (extents : List ℕ) (result : Answer Table) → resolved words rows ≡ Goes extents →
+pub zeros_made : (whole : Named) (words : List ExtentWord) (rows : Option ℕ) (extents : List ℕ) (result : Answer Table) → resolved words rows ≡ Ok extents →
     Tells (λ table. table) (told (made [] whole.mode whole.fields extents whole.mapping)) result → Tells (λ table. table) (zeros_for whole words rows) result
 zeros_made whole words rows extents result goes tells = rw goes tells
 

@@ -1,5 +1,5 @@
 -- The tests of the model that make a view or fit a kernel tell their faults by their causes alone, and read no file.
-use Rattle.c_lines.proofs.Imports.{◌≡◌, ◌||◌, ℕ, ◌+◌, ◌*◌, ◌^◌, ◌≤◌, nat_lt, Bool, true, false, not, List, [], Option, Some, refl, ⊎_elim, arith, cases_Bool, nat_tests, bad_shape, bad_extents, extents_for, BadExtents, ExtentWord, leaf_number, StoreMode, New, KernelText, accepted, leaf_cells, most_slots, Term, Split, Byteswap, Bytesplit, Change, Count, Heat, Name, BadMapping, kinds_of, paths_of, Fields, PathStep, Table, owners_of, granules_for, are_lanes, fits, fit_kernel, fit_leaf, is_wide, is_factor, is_constant, are_bounds, nameless, leaf_of, Outcome, Goes, ◌>>=◌, known, refused_if, refused_by, ok_or, made, resolved, shaped, zeros_of, blob_bits, live_bits, named, World, Entry, found, Lanes, Wide, Constant, CommandFault, Unknown, OfExtents, OfMapping, BadKernel, TooBig, UnknownName, TablesLeaveRoom}
+use Rattle.c_lines.proofs.Imports.{◌≡◌, ◌||◌, ℕ, ◌+◌, ◌*◌, ◌^◌, ◌≤◌, nat_lt, Bool, true, false, not, List, [], Option, Some, refl, ⊎_elim, arith, cases_Bool, nat_tests, bad_shape, bad_extents, extents_for, BadExtents, ExtentWord, leaf_number, StoreMode, New, KernelText, accepted, leaf_cells, most_slots, Term, Split, Byteswap, Bytesplit, Change, Count, Heat, Name, BadMapping, kinds_of, paths_of, Fields, PathStep, Table, owners_of, granules_for, are_lanes, fits, fit_kernel, fit_leaf, is_wide, is_factor, is_constant, are_bounds, nameless, leaf_of, Tested, Ok, ◌>>=◌, known, refused_if, refused_by, ok_or, made, resolved, shaped, zeros_of, blob_bits, live_bits, named, World, Entry, found, Lanes, Wide, Constant, CommandFault, Unknown, OfExtents, OfMapping, BadKernel, TooBig, UnknownName, TablesLeaveRoom}
 use Rattle.line_grammar.specs.declared.line.KernelText.TheVariants as text
 use Rattle.worlds.specs.declared.fault.UnknownName.TheVariants as unknown
 use Rattle.c_lines.proofs.Agreeing.{Any, IsPlain, IsPlainFault, plain_any, plain_as, plain_goes, plain_then, plain_if, plain_by, plain_ok, plain_some}
@@ -14,8 +14,8 @@ plain_known : {A : Type 0} (name : List ℕ) (entries : List (Entry A)) → IsPl
 plain_known name entries = plain_some (Unknown (unknown.Name name)) (found name entries) (unknown_name (unknown.Name name))
 
 -- names in a mapping
-plain_inner : (make : Term → Term) (inner : Outcome Term) → IsPlain Any inner → IsPlain Any (inner >>= λ a. Goes (make a))
-plain_inner make inner plain = plain_then Any Any inner (λ a. Goes (make a)) plain (λ a any. tt)
+plain_inner : (make : Term → Term) (inner : Tested Term) → IsPlain Any inner → IsPlain Any (inner >>= λ a. Ok (make a))
+plain_inner make inner plain = plain_then Any Any inner (λ a. Ok (make a)) plain (λ a any. tt)
 
 pub plain_nameless : (mappings : List (Entry Term)) (term : Term) → IsPlain Any (nameless mappings term)
 plain_nameless mappings (Split path first rest) = plain_then Any Any (nameless mappings first) _ (plain_nameless mappings first)
@@ -36,7 +36,7 @@ plain_shaped : (words : List ExtentWord) → IsPlain Any (shaped words)
 plain_shaped words = plain_by OfExtents (bad_shape words) plain_extents
 
 pub plain_resolved : (words : List ExtentWord) (rows : Option ℕ) → IsPlain Any (resolved words rows)
-plain_resolved words rows = plain_then Any Any (refused_by OfExtents (bad_extents words rows)) (λ fit. Goes (extents_for words rows)) (plain_by OfExtents (bad_extents words rows) plain_extents) (λ fit any. tt)
+plain_resolved words rows = plain_then Any Any (refused_by OfExtents (bad_extents words rows)) (λ fit. Ok (extents_for words rows)) (plain_by OfExtents (bad_extents words rows) plain_extents) (λ fit any. tt)
 
 -- the words of a new view in a world without views, whose record is known by its name
 pub plain_named : (world : World) (new : New) (fields : Fields) → world.views ≡ [] → ((f : Fields) → found new.schema world.records ≡ Some f → f ≡ fields) → IsPlain (λ whole. whole.fields ≡ fields) (named world new)
@@ -47,7 +47,7 @@ plain_named world new fields none only = rw none
     (λ ranked more. only f is))))
 
 -- a table of zeros
-passing : {B : Type 0} (Q : B → Type 0) (test : Bool) (next : Outcome B) → (test ≡ false → IsPlain Q next) → IsPlain Q (refused_if test TooBig >>= λ passed. next)
+passing : {B : Type 0} (Q : B → Type 0) (test : Bool) (next : Tested B) → (test ≡ false → IsPlain Q next) → IsPlain Q (refused_if test TooBig >>= λ passed. next)
 passing Q test next then = plain_then (λ passed. test ≡ false) Q (refused_if test TooBig) (λ passed. next) (plain_if test TooBig too_big) (λ passed is. then is)
 
 not_over : (limit n : ℕ) → nat_lt limit n ≡ false → n ≤ limit
@@ -68,7 +68,7 @@ small_made views mode fields extents mapping =
     (λ fit any. passing P (nat_lt (2 ^ 24) (most_slots mapping extents)) _
     (λ few. passing P (nat_lt (8 * 2 ^ 28) (blob_bits table)) _
     (λ small. passing P (nat_lt (2 ^ 24) (granules_for mapping (owners_of table))) _
-    (λ granules. passing P (nat_lt (8 * 2 ^ 30) (live_bits views + blob_bits table)) (Goes table)
+    (λ granules. passing P (nat_lt (8 * 2 ^ 30) (live_bits views + blob_bits table)) (Ok table)
     (λ all. (refl, not_over (8 * 2 ^ 28) (blob_bits table) small))))))
 
 pub plain_made : (views : List (Entry Table)) (mode : StoreMode) (fields : Fields) (extents : List ℕ) (mapping : Term) → IsPlain (λ table. table.fields ≡ fields) (made views mode fields extents mapping)
@@ -112,9 +112,9 @@ plain_fits lanes wide constants =
 plain_leaf : (fields : Fields) (path : List PathStep) → IsPlain Any (leaf_of fields path)
 plain_leaf fields path = plain_any (λ leaf. leaf_number (paths_of fields) path ≡ Some leaf) (leaf_of fields path) (plain_some (Unknown (unknown.Path path)) (leaf_number (paths_of fields) path) (unknown_name (unknown.Path path)))
 
-plain_one : {A : Type 0} (make : ℕ → A) (fields : Fields) (path : List PathStep) (lanes : ℕ) (constants : Bool) → IsPlain Any (fit_leaf fields path lanes constants >>= λ leaf. Goes (make leaf))
-plain_one make fields path lanes constants = plain_then Any Any (fit_leaf fields path lanes constants) (λ leaf. Goes (make leaf))
-    (plain_then Any Any (leaf_of fields path) _ (plain_leaf fields path) (λ leaf a. plain_then Any Any (fits lanes (is_wide fields leaf) constants) (λ fit. Goes leaf) (plain_fits lanes (is_wide fields leaf) constants) (λ fit b. tt)))
+plain_one : {A : Type 0} (make : ℕ → A) (fields : Fields) (path : List PathStep) (lanes : ℕ) (constants : Bool) → IsPlain Any (fit_leaf fields path lanes constants >>= λ leaf. Ok (make leaf))
+plain_one make fields path lanes constants = plain_then Any Any (fit_leaf fields path lanes constants) (λ leaf. Ok (make leaf))
+    (plain_then Any Any (leaf_of fields path) _ (plain_leaf fields path) (λ leaf a. plain_then Any Any (fits lanes (is_wide fields leaf) constants) (λ fit. Ok leaf) (plain_fits lanes (is_wide fields leaf) constants) (λ fit b. tt)))
     (λ leaf any. tt)
 
 pub plain_kernel : (fields : Fields) (kernel : KernelText) (lanes : ℕ) → IsPlain Any (fit_kernel fields kernel lanes)

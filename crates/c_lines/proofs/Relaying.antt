@@ -1,5 +1,5 @@
 -- Tables that are laid out anew, by the tests that refuse them and by the copy.
-use Rattle.c_lines.proofs.Imports.{IfOk, ◌≡◌, inl, inr, ⊎_elim, ℕ, true, false, nat_lt, List, [], length, Option, Some, None, Result, Ok, Err, refl, sym, ap, subst, ◌∙◌, cases_Bool, AreAlike, Spot, refused_at, Sentence, deepest, Two, line_of, Term, StoreMode, Table, answer_of, nameless, Outcome, Goes, Faults, CannotRead, made, zeros_of, CommandFault, alike, StepFault, Answer, Tells, TellsLeft, Refusal, Narrow, TextOf, First, was_copied, source_after, target_after, told_rows, line_answer, shallow, after_relaid, mapping_told, relaid, whole_told, zeros_told, told, done_of, refusal_of}
+use Rattle.c_lines.proofs.Imports.{IfOk, ◌≡◌, inl, inr, ⊎_elim, ℕ, true, false, nat_lt, List, [], length, Option, Some, None, Result, Ok, Err, refl, sym, ap, subst, ◌∙◌, cases_Bool, AreAlike, Spot, refused_at, Sentence, deepest, Two, line_of, Term, StoreMode, Table, answer_of, nameless, Tested, made, zeros_of, CommandFault, alike, StepFault, Answer, Tells, TellsLeft, Refusal, Narrow, TextOf, First, was_copied, source_after, target_after, told_rows, line_answer, shallow, after_relaid, mapping_told, relaid, whole_told, zeros_told, told, done_of, refusal_of}
 use Rattle.line_grammar.specs.Sentences as line
 use Rattle.worlds.specs.declared.fault.CommandFault.TheVariants as fault
 use Rattle.c_lines.specs.Answers.{◌>>=◌}
@@ -51,10 +51,9 @@ plain_fault : (fault : CommandFault) (table : Table) → after_relaid (Err (refu
 plain_fault (fault.Syntax a) table = refl
 plain_fault other table = refl
 
-plain_told : {A : Type 0} (outcome : Outcome A) → Plain (told outcome)
-plain_told (Goes given) = tt
-plain_told (Faults fault) = plain_fault fault
-plain_told (CannotRead name) = λ table. refl
+plain_told : {A : Type 0} (outcome : Tested A) → Plain (told outcome)
+plain_told (Ok given) = tt
+plain_told (Err fault) = plain_fault fault
 
 plain_whole : (text : List ℕ) → Plain (whole_told text)
 plain_whole text = plain_then (line_answer First text) _ (plain_line First text)

@@ -11,7 +11,7 @@ use Rattle.worlds.specs.Define.{fields_in}
 use Rattle.worlds.specs.Kernel.{number_text}
 use Rattle.worlds.specs.Names.{text_of_leaf}
 use Rattle.worlds.specs.OnView.{with_table}
-use Rattle.worlds.specs.Outcomes.{Outcome, Goes, Faults, ◌>>=◌, Left}
+use Rattle.worlds.specs.Outcomes.{Outcome, Fault, ◌>>=◌, Left}
 use Rattle.worlds.specs.Step.{step}
 use Rattle.worlds.specs.Tables.{blob_bits, live_bits, made}
 use Rattle.worlds.specs.View.{with_view}
@@ -50,8 +50,8 @@ IsCause fields _ told = ⊥
 -- a command and a call agree: what they give is related so, or they are refused for one cause; want of memory is no outcome of a command, and
 -- a file that cannot be read is no answer of a call
 abbrev pub Agrees : {A B : Type 0} → Fields → (A → B → Type 0) → Outcome A → Answer B → Type 0
-Agrees fields Same (Goes made) (Ok given) = Same made given
-Agrees fields Same (Faults told) (Err refused) = IsCause fields refused told
+Agrees fields Same (Ok made) (Ok given) = Same made given
+Agrees fields Same (Err (Fault told)) (Err refused) = IsCause fields refused told
 Agrees fields Same _ _ = ⊥
 
 -- a command left this world, and wrote this text
@@ -92,7 +92,7 @@ DatasetsAgree = (first second name : List ℕ) (tree : Tree) (new : New) (file c
 -- a table that a command makes leaves room for the largest one
 abbrev pub TablesLeaveRoom : Type 0
 TablesLeaveRoom = (views : List (Entry Table)) (mode : StoreMode) (fields : Fields) (extents : List ℕ) (mapping : Term) (table : Table) →
-    made views mode fields extents mapping ≡ Goes table → blob_bits table + 8 * 2 ^ 28 ≤ 8 * 2 ^ 30
+    made views mode fields extents mapping ≡ Ok table → blob_bits table + 8 * 2 ^ 28 ≤ 8 * 2 ^ 30
 
 -- a table under the mapping of a line is that of a `relayout` in a world without mappings, in which it has the name of the line, and whose views
 -- leave room for the largest one

@@ -4,7 +4,7 @@ use Rattle.csv_rows.specs.declared.fault.RowFault.{RowFault}
 use Rattle.csv_rows.specs.declared.fault.RowFault.TheVariants as row
 use Rattle.lane_kernels.specs.declared.fault.KernelFault.{KernelFault}
 use Rattle.lane_kernels.specs.declared.fault.KernelFault.TheVariants as kernel
-use Rattle.worlds.specs.Outcomes.{Outcome, Goes, Faults, CannotRead}
+use Rattle.worlds.specs.Outcomes.{Tested}
 use Rattle.worlds.specs.declared.fault.CommandFault.{CommandFault}
 use Rattle.worlds.specs.declared.fault.CommandFault.TheVariants as command
 use Rattle.c_lines.specs.Answers.{Answer}
@@ -20,11 +20,10 @@ refusal_of (command.BadMapping bad) = refusal.BadMapping bad
 refusal_of (command.BadKernel bad) = refusal.BadKernel bad
 refusal_of _ = refusal.TooBig
 
--- an outcome as an answer; none of these reads a file
-abbrev pub told : {A : Type 0} → Outcome A → Answer A
-told (Goes given) = Ok given
-told (Faults fault) = Err (refusal_of fault)
-told (CannotRead name) = Err refusal.TooBig
+-- what a command gives that reads no file, as an answer
+abbrev pub told : {A : Type 0} → Tested A → Answer A
+told (Ok given) = Ok given
+told (Err fault) = Err (refusal_of fault)
 
 -- the refusal of a dataset, and of a kernel that runs
 abbrev pub row_refusal : RowFault → Refusal

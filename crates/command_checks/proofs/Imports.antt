@@ -17,7 +17,7 @@ pub use Rattle.std.proofs.lemmas.Int.{ints}
 pub use Rattle.std.proofs.lemmas.Option.{slice_get-get_or, slice_get_within, get_or_from_slice_get}
 pub use Rattle.std.proofs.lemmas.Grind.{common_steps}
 pub use Rattle.std.proofs.lemmas.List.Elements.{All-push}
-pub use Rattle.worlds.specs.Outcomes.{Outcome, Goes, Faults, CannotRead, ◌>>=◌, each, refused_if, some_or}
+pub use Rattle.worlds.specs.Outcomes.{Outcome, Goes, Faults, CannotRead, ◌>>=◌, each, refused_if, some_or, Tested}
 pub use Rattle.extents.specs.declared.window.Span.{Span}
 pub use Rattle.extents.specs.Windows.{IsWindow, sizes, moved}
 pub use Rattle.worlds.specs.Windows.{are_inside, windowed}

@@ -1,5 +1,5 @@
 -- Spans that are a window.
-use Rattle.command_checks.proofs.Imports.{◌≡◌, ℕ, true, false, nat_le, List, [], ◌∷◌, refl, ◌&&◌, and_parts, le-leb, leb-true, false≢true, Span, IsWindow, Goes, are_inside, windowed}
+use Rattle.command_checks.proofs.Imports.{◌≡◌, ℕ, true, false, nat_le, List, [], ◌∷◌, refl, ◌&&◌, and_parts, le-leb, leb-true, false≢true, Span, IsWindow, are_inside, windowed, Ok, Err}
 
 inside_true : (extents : List ℕ) (spans : List Span) → IsWindow extents spans → are_inside extents spans ≡ true
 inside_true [] [] is = refl
@@ -17,5 +17,5 @@ is_window (extent ∷ extents) (span ∷ spans) inside =
     let two = and_parts (nat_le span.from span.end) (nat_le span.end extent) both.0 in
     ((leb-true span.from span.end two.0, leb-true span.end extent two.1), is_window extents spans both.1)
 
-pub windowed_goes : (extents : List ℕ) (spans : List Span) → IsWindow extents spans → windowed extents spans ≡ Goes (extents, spans)
+pub windowed_goes : (extents : List ℕ) (spans : List Span) → IsWindow extents spans → windowed extents spans ≡ Ok (extents, spans)
 windowed_goes extents spans is = rw (inside_true extents spans is) refl

@@ -1,5 +1,5 @@
 -- New tables and their limits.
-use Rattle.command_checks.proofs.Imports.{◌≡◌, ℕ, ◌+◌, ◌-◌, ◌*◌, ◌<◌, ◌≤◌, ◌^◌, Bool, true, false, List, length, take, map, get_or, Ok, refl, sym, ap, ◌∙◌, arith, inl, inr, ◌||◌, false≢true, lt-ltb, or_right, nat_tests, get_or-map, length-map, sum_by_more, indices, Fields, leaves, kinds_of, MapTerm, leaf_cells, layout_by, accepted, most_slots, zeros, StoreMode, Table, owners_of, leaf_count_of, no_tally, granules_for, IsOverLimits, Entry, Outcome, Goes, Faults, ◌>>=◌, refused_if, made, zeros_of, blob_bits, live_bits, view_of, ViewEntry}
+use Rattle.command_checks.proofs.Imports.{◌≡◌, ℕ, ◌+◌, ◌-◌, ◌*◌, ◌<◌, ◌≤◌, ◌^◌, Bool, true, false, List, length, take, map, get_or, Ok, refl, sym, ap, ◌∙◌, arith, inl, inr, ◌||◌, false≢true, lt-ltb, or_right, nat_tests, get_or-map, length-map, sum_by_more, indices, Fields, leaves, kinds_of, MapTerm, leaf_cells, layout_by, accepted, most_slots, zeros, StoreMode, Table, owners_of, leaf_count_of, no_tally, granules_for, IsOverLimits, Entry, ◌>>=◌, refused_if, made, zeros_of, blob_bits, live_bits, view_of, ViewEntry, Err, Tested}
 use Rattle.std.proofs.Common.{nat_lt}
 use Rattle.worlds.specs.declared.fault.CommandFault.TheVariants as fault
 
@@ -18,18 +18,18 @@ slots_within : (a b : ℕ) → (a < b → ⊥) → nat_lt a b ≡ false
 slots_within a b within = grind (arith, nat_tests)
 
 -- a table behind four limits, each passed or not
-abbrev limited : Bool → Bool → Bool → Bool → Table → Outcome Table
+abbrev limited : Bool → Bool → Bool → Bool → Table → Tested Table
 limited slots bits granules all table = do
   fit ← refused_if slots fault.TooBig
   small ← refused_if bits fault.TooBig
   few ← refused_if granules fault.TooBig
   room ← refused_if all fault.TooBig
-  Goes table
+  Ok table
 
-limited_goes : (a b c d : Bool) (table : Table) → a ≡ false → b ≡ false → c ≡ false → d ≡ false → limited a b c d table ≡ Goes table
+limited_goes : (a b c d : Bool) (table : Table) → a ≡ false → b ≡ false → c ≡ false → d ≡ false → limited a b c d table ≡ Ok table
 limited_goes a b c d table p q r s = rw (p, q, r, s) refl
 
-limited_over : (a b c d : Bool) (table : Table) → (a || (b || (c || d))) ≡ true → limited a b c d table ≡ Faults fault.TooBig
+limited_over : (a b c d : Bool) (table : Table) → (a || (b || (c || d))) ≡ true → limited a b c d table ≡ Err fault.TooBig
 limited_over true b c d table over = refl
 limited_over false true c d table over = refl
 limited_over false false true d table over = refl
@@ -52,17 +52,17 @@ module _ (views : List (Entry Table)) (mode : StoreMode) (fields : Fields) (exte
   made_is : made views mode fields extents term ≡ limited slots bits granules all (zeros_of mode fields extents term)
   made_is = rw good refl
 
-  over_is : (slots || (bits || (granules || all))) ≡ true → made views mode fields extents term ≡ Faults fault.TooBig
+  over_is : (slots || (bits || (granules || all))) ≡ true → made views mode fields extents term ≡ Err fault.TooBig
   over_is over = made_is ∙ limited_over slots bits granules all (zeros_of mode fields extents term) over
 
-  pub made_goes : (IsOverLimits term extents fields → ⊥) → (8 * 2 ^ 30 < live_bits views + blob_bits (zeros_of mode fields extents term) → ⊥) → made views mode fields extents term ≡ Goes (zeros_of mode fields extents term)
+  pub made_goes : (IsOverLimits term extents fields → ⊥) → (8 * 2 ^ 30 < live_bits views + blob_bits (zeros_of mode fields extents term) → ⊥) → made views mode fields extents term ≡ Ok (zeros_of mode fields extents term)
   made_goes small room = made_is ∙ limited_goes slots bits granules all (zeros_of mode fields extents term)
       (slots_within (2 ^ 24) (most_slots term extents) (λ over. small (inl (inl over))))
       (slots_within (8 * 2 ^ 28) (blob_bits (zeros_of mode fields extents term)) (λ over. small (inl (inr over))))
       (slots_within (2 ^ 24) (granules_for term (layout_by term extents fields)) (λ over. small (inr over)))
       (slots_within (8 * 2 ^ 30) (live_bits views + blob_bits (zeros_of mode fields extents term)) room)
 
-  pub made_full : 8 * 2 ^ 30 < live_bits views + blob_bits (zeros_of mode fields extents term) → made views mode fields extents term ≡ Faults fault.TooBig
+  pub made_full : 8 * 2 ^ 30 < live_bits views + blob_bits (zeros_of mode fields extents term) → made views mode fields extents term ≡ Err fault.TooBig
   made_full full =
       over_is (or_right slots _ (or_right bits _ (or_right granules all (lt-ltb (8 * 2 ^ 30) (live_bits views + blob_bits (zeros_of mode fields extents term)) full))))
 

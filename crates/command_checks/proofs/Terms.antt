@@ -1,15 +1,15 @@
 -- The terms of a stencil, one after another.
-use Rattle.command_checks.proofs.Imports.{◌≡◌, ℕ, zero, suc, ◌+◌, ◌<◌, ◌≤◌, Bool, true, false, not, pos, List, [], ◌∷◌, ◌++◌, length, map, take, get_or, refl, sym, ap, subst, ◌∙◌, arith, All, ◌&&◌, nat_lt, int_le, and_parts, nat_tests, ints, take_more, map-append, common_steps, AllPass-from_list_all, TermText, Fields, IsTermOf, Weighted, weighted, is_divisor, is_weight, reaches, WindowOf, Term, leaf_of, Goes, ◌>>=◌, refused_if, all_reach, all_weigh, stencil_term, fit_terms, Reach, Weight, Terms, Rounds, BadStencil, GivesUp, GivesUp-then, placed_term, weighted_at, StepFault}
+use Rattle.command_checks.proofs.Imports.{◌≡◌, ℕ, zero, suc, ◌+◌, ◌<◌, ◌≤◌, Bool, true, false, not, pos, List, [], ◌∷◌, ◌++◌, length, map, take, get_or, refl, sym, ap, subst, ◌∙◌, arith, All, ◌&&◌, nat_lt, int_le, and_parts, nat_tests, ints, take_more, map-append, common_steps, AllPass-from_list_all, TermText, Fields, IsTermOf, Weighted, weighted, is_divisor, is_weight, reaches, WindowOf, Term, leaf_of, ◌>>=◌, refused_if, all_reach, all_weigh, stencil_term, fit_terms, Reach, Weight, Terms, Rounds, BadStencil, GivesUp, GivesUp-then, placed_term, weighted_at, StepFault, Ok}
 use Rattle.std.specs.Prelude.{◌^◌}
 
 -- ---- the leaves of terms
 
 -- a term whose leaf is known, and one whose path names none
-pub term_goes : (fields : Fields) (text : TermText) (leaf : ℕ) → leaf_of fields text.path ≡ Goes leaf → stencil_term fields text ≡ Goes (placed_term text leaf)
+pub term_goes : (fields : Fields) (text : TermText) (leaf : ℕ) → leaf_of fields text.path ≡ Ok leaf → stencil_term fields text ≡ Ok (placed_term text leaf)
 term_goes fields text leaf is = rw is refl
 
 pub term_ends : (fields : Fields) (text : TermText) (fault : StepFault) → GivesUp (leaf_of fields text.path) fault → GivesUp (stencil_term fields text) fault
-term_ends fields text fault gives = GivesUp-then (leaf_of fields text.path) (λ leaf. Goes (placed_term text leaf)) fault gives
+term_ends fields text fault gives = GivesUp-then (leaf_of fields text.path) (λ leaf. Ok (placed_term text leaf)) fault gives
 
 -- one term more
 weighted_push : (texts : List TermText) (leaves : List ℕ) (text : TermText) (leaf : ℕ) → length leaves ≡ length texts
@@ -38,14 +38,14 @@ pub record AreFit (window : WindowOf) (texts : List TermText) (divisor : ℕ) : 
   pub divides : is_divisor (pos divisor) ≡ true
   pub few : length texts ≤ 64
 
-passed : (reach weigh many long : Bool) → (refused_if (not reach) (BadStencil Reach) >>= (λ a. refused_if (not weigh) (BadStencil Weight) >>= (λ b. refused_if many (BadStencil Terms) >>= (λ c. refused_if long (BadStencil Rounds))))) ≡ Goes tt
+passed : (reach weigh many long : Bool) → (refused_if (not reach) (BadStencil Reach) >>= (λ a. refused_if (not weigh) (BadStencil Weight) >>= (λ b. refused_if many (BadStencil Terms) >>= (λ c. refused_if long (BadStencil Rounds))))) ≡ Ok tt
     → (reach ≡ true) × (weigh ≡ true) × (many ≡ false)
 passed true true false long is = (refl, refl, refl)
 passed true true true long is = absurd (cc)
 passed true false many long is = absurd (cc)
 passed false weigh many long is = absurd (cc)
 
-pub are_fit : (window : WindowOf) (texts : List TermText) (divisor rounds : ℕ) → fit_terms window texts divisor rounds ≡ Goes tt → AreFit window texts divisor
+pub are_fit : (window : WindowOf) (texts : List TermText) (divisor rounds : ℕ) → fit_terms window texts divisor rounds ≡ Ok tt → AreFit window texts divisor
 are_fit window texts divisor rounds is =
     let tests = passed (all_reach window texts) (all_weigh texts && is_divisor (pos divisor)) (nat_lt 64 (length texts)) (nat_lt 1000 rounds) is in
     let both = and_parts (all_weigh texts) (is_divisor (pos divisor)) tests.1 in

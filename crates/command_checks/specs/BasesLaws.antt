@@ -1,5 +1,5 @@
 -- Laws of mappings without names, and of the rows that words ask for.
-use Rattle.std.proofs.Common.{◌≡◌, ◌⊎◌, inl, inr, ℕ, zero, suc, ◌<◌, ◌/◌, ◌%◌, Bool, true, false, not, nat_lt, count_by, List, length, Option, Some, None, refl, sym, ap, ◌∙◌, arith, ⊎_elim}
+use Rattle.std.proofs.Common.{◌≡◌, ◌⊎◌, inl, inr, ℕ, zero, suc, ◌<◌, ◌/◌, ◌%◌, Bool, true, false, not, nat_lt, count_by, List, length, Option, Some, None, refl, sym, ap, ◌∙◌, arith, ⊎_elim, Ok, Err}
 use Rattle.std.specs.Prelude.{IsSome, IfSome, ◌==◌, ◌&&◌, if◌then◌else◌}
 use Rattle.std.proofs.lemmas.Bool.{false≢true, cases_Bool}
 use Rattle.std.proofs.lemmas.Bool.Decides.{nat_tests}
@@ -14,7 +14,6 @@ use Rattle.record_dim.specs.declared.path.PathStep.{PathStep}
 use Rattle.map_expr.specs.Terms.{Term, Aos, Soa, Aosoa, BitAos, BitSoa, Split, Byteswap, Bytesplit, Change, Count, Heat, Named}
 use Rattle.map_expr.specs.Checks.{IsNameless}
 pub use Rattle.blob_file.specs.HeaderLaws.{nameless_built}
-use Rattle.worlds.specs.Outcomes.{Goes, Faults}
 use Rattle.worlds.specs.Tables.{resolved}
 use Rattle.worlds.specs.declared.fault.CommandFault.TheVariants.{BadExtents}
 use Rattle.command_checks.specs.Inner.Bases.{is_nameless, rows_for}
@@ -57,10 +56,10 @@ rows_for_same words (Some n) = ⊎_elim
     (cases_Bool (nat_lt 0 (count_by is_rows words)))
 
 -- the first cause that refuses extents, or the extents
-pub resolves : (words : List ExtentWord) (rows : Option ℕ) (extents : List ℕ) → bad_extents words rows ≡ None → extents ≡ extents_for words rows → resolved words rows ≡ Goes extents
-resolves words rows extents none is = rw none (ap (λ (e : List ℕ). Goes e) (sym is))
+pub resolves : (words : List ExtentWord) (rows : Option ℕ) (extents : List ℕ) → bad_extents words rows ≡ None → extents ≡ extents_for words rows → resolved words rows ≡ Ok extents
+resolves words rows extents none is = rw none (ap (λ (e : List ℕ). Ok e) (sym is))
 
-pub resolves_not : (words : List ExtentWord) (rows : Option ℕ) (bad : Bad) → bad_extents words rows ≡ Some bad → resolved words rows ≡ Faults (BadExtents bad)
+pub resolves_not : (words : List ExtentWord) (rows : Option ℕ) (bad : Bad) → bad_extents words rows ≡ Some bad → resolved words rows ≡ Err (BadExtents bad)
 resolves_not words rows bad some = rw some refl
 
 -- the extents for so many rows have as many

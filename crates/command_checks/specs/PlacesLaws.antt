@@ -1,10 +1,10 @@
 -- Laws of names and the places of their entries.
-use Rattle.std.proofs.Common.{◌≡◌, ℕ, zero, suc, ◌+◌, ◌<◌, true, false, List, [], ◌∷◌, ◌++◌, length, map, take, drop, get_or, Some, None, refl, sym, ap, ◌∙◌, subst, arith, ⊎_elim}
+use Rattle.std.proofs.Common.{◌≡◌, ℕ, zero, suc, ◌+◌, ◌<◌, true, false, List, [], ◌∷◌, ◌++◌, length, map, take, drop, get_or, Some, None, refl, sym, ap, ◌∙◌, subst, arith, ⊎_elim, Ok, Err}
 use Rattle.std.specs.List.{position_from}
 use Rattle.std.proofs.lemmas.Bool.{cases_Bool}
 use Rattle.worlds.specs.Worlds.{Entry, same_name, found}
 use Rattle.std.specs.Prelude.{is_some}
-use Rattle.worlds.specs.Outcomes.{Goes, Faults, known, free, some_or, refused_if}
+use Rattle.worlds.specs.Outcomes.{known, free, some_or, refused_if}
 use Rattle.worlds.specs.declared.fault.CommandFault.TheVariants.{Unknown, Taken}
 use Rattle.worlds.specs.declared.fault.UnknownName.TheVariants.{Name}
 use Rattle.command_checks.specs.Inner.Places.{without, IsAt}
@@ -71,15 +71,15 @@ without_is (entry ∷ entries) (suc place) inside =
 
 -- what a used name stands for, by the place of its entry and by the entry there, and one that stands for nothing
 pub known_place : {E A : Type 0} (entry_of : E → Entry A) (name : List ℕ) (entries : List E) (place : ℕ) (d : E) → IsAt entry_of name entries place
-    → known name (map entry_of entries) ≡ Goes (entry_of (get_or entries place d)).held
+    → known name (map entry_of entries) ≡ Ok (entry_of (get_or entries place d)).held
 known_place entry_of name entries place d at = ap (some_or (Unknown (Name name))) (at.is d)
 
 pub known_at : {E A : Type 0} (entry_of : E → Entry A) (name : List ℕ) (entries : List E) (place : ℕ) (entry : E) → IsAt entry_of name entries place → entry ≡ get_or entries place entry
-    → known name (map entry_of entries) ≡ Goes (entry_of entry).held
-known_at entry_of name entries place entry at is = known_place entry_of name entries place entry at ∙ ap (λ e. Goes (entry_of e).held) (sym is)
+    → known name (map entry_of entries) ≡ Ok (entry_of entry).held
+known_at entry_of name entries place entry at is = known_place entry_of name entries place entry at ∙ ap (λ e. Ok (entry_of e).held) (sym is)
 
 pub unknown_name : {E A : Type 0} (entry_of : E → Entry A) (name : List ℕ) (entries : List E) → position_from (λ e. same_name (entry_of e).name name) 0 entries ≡ None
-    → known name (map entry_of entries) ≡ Faults (Unknown (Name name))
+    → known name (map entry_of entries) ≡ Err (Unknown (Name name))
 unknown_name entry_of name entries none = ap (some_or (Unknown (Name name))) (nowhere entry_of name entries 0 none)
 
 -- a defined name is taken where an entry has it

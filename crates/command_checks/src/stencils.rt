@@ -5,7 +5,7 @@ ghost use Rattle.extents.specs.Windows.{IsWindow};
 ghost use Rattle.subviews.specs.Plans.{IsTermOf};
 ghost use Rattle.subviews.specs.Stencils.{Stencil, is_divisor, is_offset, is_weight, reaches, weighted};
 ghost use Rattle.views.specs.Tables.{leaf_count_of};
-ghost use Rattle.worlds.specs.Outcomes.{Goes, each};
+ghost use Rattle.worlds.specs.Outcomes.{each};
 ghost use Rattle.worlds.specs.Stencil.{all_reach, all_weigh, stencil_term, fit_stencil, fit_terms};
 ghost use Rattle.command_checks.specs.Inner.Gives.{Gives};
 ghost use Rattle.command_checks.specs.Inner.Reach.{all_stay, stays};

@@ -1,18 +1,29 @@
 -- Outcomes that agree, or of which one is refused by a fault of how tables lie.
-use Rattle.equal_runs.proofs.Imports.{◌≡◌, ℕ, Bool, true, false, List, Option, Some, None, Result, Ok, Err, subst, Outcome, Goes, Faults, CannotRead, ◌>>=◌, refused_if, refused_by, ok_or, CommandFault, is_refused, is_of_layout}
+use Rattle.equal_runs.proofs.Imports.{◌≡◌, ℕ, Bool, true, false, Option, Some, None, Result, Ok, Err, subst, Outcome, ◌>>=◌, refused_if, refused_by, ok_or, CommandFault, is_refused, is_of_layout, refl, Tested, Stop, Fault, Unread, sure}
 
--- both go to things that are related so, or end alike, or one ends with a fault of how tables lie
-pub data Agree {A : Type 0} (m o : Bool) (R : A → A → Type 0) : Outcome A → Outcome A → Type 0 where
-  go : (x y : A) → R x y → Agree m o R (Goes x) (Goes y)
-  fault : (f : CommandFault) → Agree m o R (Faults f) (Faults f)
-  unread : (name : List ℕ) → Agree m o R (CannotRead name) (CannotRead name)
-  first : (f : CommandFault) (y : Outcome A) → is_of_layout m f ≡ true → Agree m o R (Faults f) y
-  second : (x : Outcome A) (f : CommandFault) → is_of_layout o f ≡ true → Agree m o R x (Faults f)
+-- both give things that are related so, or end alike, or one ends by an error of which its test holds
+pub data AgreeBy {A E : Type 0} (told others : E → Bool) (R : A → A → Type 0) : Result A E → Result A E → Type 0 where
+  go : (x y : A) → R x y → AgreeBy told others R (Ok x) (Ok y)
+  fault : (e : E) → AgreeBy told others R (Err e) (Err e)
+  first : (e : E) (y : Result A E) → told e ≡ true → AgreeBy told others R (Err e) y
+  second : (x : Result A E) (e : E) → others e ≡ true → AgreeBy told others R x (Err e)
 
--- it goes to a thing of which this holds, or is refused by such a fault
-pub data Told {A : Type 0} (m : Bool) (P : A → Type 0) : Outcome A → Type 0 where
-  goes : (x : A) → P x → Told m P (Goes x)
-  told : (f : CommandFault) → is_of_layout m f ≡ true → Told m P (Faults f)
+-- by a fault of how tables lie
+abbrev pub Agree : {A : Type 0} → Bool → Bool → (A → A → Type 0) → Tested A → Tested A → Type 0
+Agree m o R x y = AgreeBy (is_of_layout m) (is_of_layout o) R x y
+
+-- a line that needs a file that can't be read is not so ended
+abbrev pub is_stop : Bool → Stop → Bool
+is_stop m (Fault f) = is_of_layout m f
+is_stop m (Unread name) = false
+
+abbrev pub EndAlike : {A : Type 0} → Bool → Bool → (A → A → Type 0) → Outcome A → Outcome A → Type 0
+EndAlike m o R x y = AgreeBy (is_stop m) (is_stop o) R x y
+
+-- it gives a thing of which this holds, or is refused by such a fault
+pub data Told {A : Type 0} (m : Bool) (P : A → Type 0) : Tested A → Type 0 where
+  goes : (x : A) → P x → Told m P (Ok x)
+  told : (f : CommandFault) → is_of_layout m f ≡ true → Told m P (Err f)
 
 -- it holds of everything
 abbrev pub Any : {A : Type 0} → A → Type 0
@@ -21,43 +32,47 @@ Any x = Unit {0}
 abbrev pub Both : {A : Type 0} → A → A → Type 0
 Both x y = Unit {0}
 
-module _ (m o : Bool) where
-  pub bind : {A B : Type 0} (R : A → A → Type 0) (S : B → B → Type 0) (x y : Outcome A) (f g : A → Outcome B) → Agree m o R x y
-      → ((a b : A) → R a b → Agree m o S (f a) (g b)) → Agree m o S (x >>= f) (y >>= g)
+module _ {E : Type 0} {told others : E → Bool} where
+  pub bind : {A B : Type 0} (R : A → A → Type 0) (S : B → B → Type 0) (x y : Result A E) (f g : A → Result B E) → AgreeBy told others R x y
+      → ((a b : A) → R a b → AgreeBy told others S (f a) (g b)) → AgreeBy told others S (x >>= f) (y >>= g)
   bind R S x y f g (go a b r) next = next a b r
   bind R S x y f g (fault e) next = fault e
-  bind R S x y f g (unread name) next = unread name
   bind R S x y f g (first e z is) next = first e (z >>= g) is
   bind R S x y f g (second z e is) next = second (z >>= f) e is
 
   -- one thing before both
-  pub before : {A B : Type 0} (S : B → B → Type 0) (x : Outcome A) (f g : A → Outcome B) → ((a : A) → Agree m o S (f a) (g a)) → Agree m o S (x >>= f) (x >>= g)
-  before S (Goes a) f g next = next a
-  before S (Faults e) f g next = fault e
-  before S (CannotRead name) f g next = unread name
+  pub before : {A B : Type 0} (S : B → B → Type 0) (x : Result A E) (f g : A → Result B E) → ((a : A) → AgreeBy told others S (f a) (g a)) → AgreeBy told others S (x >>= f) (x >>= g)
+  before S (Ok a) f g next = next a
+  before S (Err e) f g next = fault e
 
   -- one thing alone
-  pub alone : {A : Type 0} (R : A → A → Type 0) (x : Outcome A) → ((a : A) → R a a) → Agree m o R x x
-  alone R (Goes a) r = go a a (r a)
-  alone R (Faults e) r = fault e
-  alone R (CannotRead name) r = unread name
+  pub alone : {A : Type 0} (R : A → A → Type 0) (x : Result A E) → ((a : A) → R a a) → AgreeBy told others R x x
+  alone R (Ok a) r = go a a (r a)
+  alone R (Err e) r = fault e
 
   -- by less of what they go to
-  pub weaker : {A : Type 0} (R S : A → A → Type 0) (x y : Outcome A) → Agree m o R x y → ((a b : A) → R a b → S a b) → Agree m o S x y
+  pub weaker : {A : Type 0} (R S : A → A → Type 0) (x y : Result A E) → AgreeBy told others R x y → ((a b : A) → R a b → S a b) → AgreeBy told others S x y
   weaker R S x y (go a b r) so = go a b (so a b r)
   weaker R S x y (fault e) so = fault e
-  weaker R S x y (unread name) so = unread name
   weaker R S x y (first e z is) so = first e z is
   weaker R S x y (second z e is) so = second z e is
 
+module _ {m o : Bool} where
+  -- what reads no file
+  pub surely : {A : Type 0} (R : A → A → Type 0) (x y : Tested A) → Agree m o R x y → EndAlike m o R (sure x) (sure y)
+  surely R x y (go a b r) = go a b r
+  surely R x y (fault e) = fault _
+  surely R x y (first e z is) = first (Fault e) (sure z) is
+  surely R x y (second z e is) = second (sure z) (Fault e) is
+
   -- two things of which each is refused by such a fault, if at all
-  pub both_told : {A : Type 0} (P Q : A → Type 0) (R : A → A → Type 0) (x y : Outcome A) → Told m P x → Told o Q y → ((a b : A) → P a → Q b → R a b) → Agree m o R x y
+  pub both_told : {A : Type 0} (P Q : A → Type 0) (R : A → A → Type 0) (x y : Tested A) → Told m P x → Told o Q y → ((a b : A) → P a → Q b → R a b) → Agree m o R x y
   both_told P Q R x y (told f is) other next = first f y is
   both_told P Q R x y (goes a p) (goes b q) next = go a b (next a b p q)
-  both_told P Q R x y (goes a p) (told f is) next = second (Goes a) f is
+  both_told P Q R x y (goes a p) (told f is) next = second (Ok a) f is
 
 module _ (m : Bool) where
-  pub told_bind : {A B : Type 0} (P : A → Type 0) (Q : B → Type 0) (x : Outcome A) (f : A → Outcome B) → Told m P x → ((a : A) → P a → Told m Q (f a)) → Told m Q (x >>= f)
+  pub told_bind : {A B : Type 0} (P : A → Type 0) (Q : B → Type 0) (x : Tested A) (f : A → Tested B) → Told m P x → ((a : A) → P a → Told m Q (f a)) → Told m Q (x >>= f)
   told_bind P Q x f (goes a p) next = next a p
   told_bind P Q x f (told e is) next = told e is
 
@@ -74,6 +89,6 @@ module _ (m : Bool) where
   told_ok as_fault (Err e) is = told (as_fault e) (is e)
 
 -- where a name is missed, a refusal is one of a name
-pub told_misses : {A : Type 0} (m : Bool) (P : A → Type 0) (x : Outcome A) → Told true P x → is_refused x ≡ m → Told m P x
+pub told_misses : {A : Type 0} (m : Bool) (P : A → Type 0) (x : Tested A) → Told true P x → is_refused x ≡ m → Told m P x
 told_misses m P x (goes a p) is = goes a p
 told_misses m P x (told f of) is = told f (subst (λ (b : Bool). is_of_layout b f ≡ true) is of)

@@ -1,5 +1,5 @@
 -- The commands that change or read a table, done to alike worlds.
-use Rattle.equal_runs.proofs.Imports.{◌≡◌, ℕ, Bool, true, false, ℤ, List, [], ◌∷◌, ◌++◌, length, Option, Some, None, Result, Ok, refl, sym, ap, subst, ◌∙◌, ◌+◌, ◌*◌, ◌^◌, not, nat_lt, slice_index_or, indices, Span, place_in, PathStep, kinds_of, texts_of, MapTerm, holds_by, hold_at, with_entry, Keeping, kind_at, Access, Write, Tally, all_accesses, Read, LeafCounts, counts_text, StoreFault, Term, Value, Assignment, Show, KernelText, ReduceKind, ShowKind, TermText, Table, leaf_count_of, answer_of, kept_of, after_stores, Setting, updated_rows, counted, value_log, rows_log, UpdateFault, UpdateKind, KernelFault, Kernel, Stencil, stenciled, rounds_log, StencilFault, World, found, Done, stores, tells, done_to, with_table, on_view, Outcome, Goes, ◌>>=◌, LeftOf, Left, known, some_or, refused_if, refused_by, ok_or, leaf_of, bound, bound_filter, bound_sets, each_once, leaves_of, text_of_leaf, storable, store_fault, value_on, inside, assigned, updated, update_fault, kind_fault, reduction, reduced, column, counting, are_alike, all_read, copied, copy, kernel_outcome, fit_kernel, kernel_run, number_text, kernel_row_fault, print, counts, showing, drop_view, fit_stencil, room_beside, stencil_fault, stencil_rounds, stencil_run, windowed, print_window, blob_bits, Mismatch, NotCounted, TooBig, is_of_layout, shows_layout}
+use Rattle.equal_runs.proofs.Imports.{◌≡◌, ℕ, Bool, true, false, ℤ, List, [], ◌∷◌, ◌++◌, length, Option, Some, None, Result, Ok, refl, sym, ap, subst, ◌∙◌, ◌+◌, ◌*◌, ◌^◌, not, nat_lt, slice_index_or, indices, Span, place_in, PathStep, kinds_of, texts_of, MapTerm, holds_by, hold_at, with_entry, Keeping, kind_at, Access, Write, Tally, all_accesses, Read, LeafCounts, counts_text, StoreFault, Term, Value, Assignment, KernelText, TermText, Table, leaf_count_of, answer_of, kept_of, after_stores, Setting, updated_rows, value_log, rows_log, UpdateFault, UpdateKind, KernelFault, Kernel, Stencil, stenciled, rounds_log, StencilFault, World, found, Done, stores, tells, done_to, with_table, on_view, ◌>>=◌, LeftOf, Left, known, some_or, refused_if, refused_by, ok_or, leaf_of, bound, bound_filter, bound_sets, each_once, leaves_of, text_of_leaf, storable, store_fault, value_on, inside, assigned, updated, update_fault, kind_fault, are_alike, all_read, copied, copy, kernel_outcome, fit_kernel, kernel_run, number_text, kernel_row_fault, counts, drop_view, fit_stencil, room_beside, stencil_fault, stencil_rounds, stencil_run, blob_bits, Mismatch, NotCounted, TooBig, is_of_layout, ⊤, content_of, Work, Reads, Shows, Changes, left_as, does, OnView, worked, Tested}
 use Rattle.views.specs.declared.fault.StoreFault.TheVariants as store
 use Rattle.line_grammar.specs.declared.line.ShowKind.TheVariants as show
 use Rattle.row_updates.specs.declared.fault.UpdateKind.TheVariants as update_kind
@@ -43,13 +43,18 @@ narrow_stencil table leaf n e is = narrow_store e.row (text_of_leaf table.fields
 abbrev SameDone : Done → Done → Type 0
 SameDone a b = b ≡ a
 
-abbrev pub Same : Bool → Bool → Outcome Done → Outcome Done → Type 0
+abbrev pub Same : Bool → Bool → Tested Done → Tested Done → Type 0
 Same m o x y = Agree m o SameDone x y
 
 -- tables that are left, and texts
 record AlikeDone (done other : LeftOf Table) : Type 0 where
   tables : AlikeTables done.held other.held
   text : other.text ≡ done.text
+
+-- it reads alone
+abbrev IsReading : Work → Type 0
+IsReading (Reads command) = ⊤
+IsReading _ = ⊥
 
 -- a table, and that table under another mapping, which are alike
 module _ (m o : Bool) (table : Table) (mapping : MapTerm) (tally : Tally) (same : AlikeTables table (under table mapping tally)) where
@@ -62,18 +67,18 @@ module _ (m o : Bool) (table : Table) (mapping : MapTerm) (tally : Tally) (same 
   pub assigned_agree : (index : List ℕ) (path : List PathStep) (value : Value) → Same m o (assigned table index path value) (assigned (under table mapping tally) index path value)
   unfolding assigned
   assigned_agree index path value =
-      before m o SameDone (leaf_of table.fields path) _ _ (λ leaf.
-      before m o SameDone (bound table.fields (length table.extents) value) _ _ (λ term.
-      before m o SameDone (inside table.extents index) _ _ (λ is_inside.
+      before SameDone (leaf_of table.fields path) _ _ (λ leaf.
+      before SameDone (bound table.fields (length table.extents) value) _ _ (λ term.
+      before SameDone (inside table.extents index) _ _ (λ is_inside.
       let row : ℕ = place_in (indices table.extents) index in
-      before m o SameDone (value_on row (slice_index_or table.rows row []) index term) _ _ (λ number.
+      before SameDone (value_on row (slice_index_or table.rows row []) index term) _ _ (λ number.
       stored leaf row number (value_log row (slice_index_or table.rows row []) index term ++ Write row leaf ∷ [])))))
     where
       stored : (leaf row : ℕ) (number : ℤ) (log : List Access)
-          → Same m o (storable table row leaf number >>= (λ kept. Goes (stores (with_entry table.rows row leaf kept) log)))
-          (storable (under table mapping tally) row leaf number >>= (λ kept. Goes (stores (with_entry table.rows row leaf kept) log)))
+          → Same m o (storable table row leaf number >>= (λ kept. Ok (stores (with_entry table.rows row leaf kept) log)))
+          (storable (under table mapping tally) row leaf number >>= (λ kept. Ok (stores (with_entry table.rows row leaf kept) log)))
       stored leaf row number log =
-          bind m o (Given (Unit {0}) _ _) SameDone (storable table row leaf number) (storable (under table mapping tally) row leaf number) _ _
+          bind (Given (Unit {0}) _ _) SameDone (storable table row leaf number) (storable (under table mapping tally) row leaf number) _ _
           (ok_agree m o is_narrow (store_fault row (text_of_leaf table.fields leaf)) _ _ (narrow_store row (text_of_leaf table.fields leaf)) (answers_under leaf number))
           (λ kept others given. go _ _ (ap (λ (number : ℤ). stores (with_entry table.rows row leaf number) log) (given.same tt)))
 
@@ -88,10 +93,10 @@ module _ (m o : Bool) (table : Table) (mapping : MapTerm) (tally : Tally) (same 
     log_is : (t : Table) (rows : List (List ℤ)) → new_rows t ≡ Ok rows → update_log t ≡ fit_rows test settings table.extents table.rows (length table.rows)
     log_is t rows goes = rows_are (kept_of t) (answer_of t) test settings table.extents table.rows (length table.rows) rows goes
 
-    updated_agree_of : Same m o (ok_or (update_fault table.fields) (new_rows table) >>= (λ rows. Goes (stores rows (update_log table))))
-        (ok_or (update_fault table.fields) (new_rows (under table mapping tally)) >>= (λ rows. Goes (stores rows (update_log (under table mapping tally)))))
+    updated_agree_of : Same m o (ok_or (update_fault table.fields) (new_rows table) >>= (λ rows. Ok (stores rows (update_log table))))
+        (ok_or (update_fault table.fields) (new_rows (under table mapping tally)) >>= (λ rows. Ok (stores rows (update_log (under table mapping tally)))))
     updated_agree_of =
-        bind m o (Given (Unit {0}) _ _) SameDone (ok_or (update_fault table.fields) (new_rows table)) (ok_or (update_fault table.fields) (new_rows (under table mapping tally))) _ _
+        bind (Given (Unit {0}) _ _) SameDone (ok_or (update_fault table.fields) (new_rows table)) (ok_or (update_fault table.fields) (new_rows (under table mapping tally))) _ _
         (ok_agree m o is_narrow_update (update_fault table.fields) _ _ (narrow_update table)
         (subst (λ (keep : Keeping). Answers is_narrow_update (Unit {0}) (new_rows table) (updated_rows (answer_of (under table mapping tally)) keep test settings table.extents table.rows (length table.rows)))
         (sym same.kept)
@@ -103,9 +108,9 @@ module _ (m o : Bool) (table : Table) (mapping : MapTerm) (tally : Tally) (same 
   pub updated_agree : (filter : Option Value) (sets : List Assignment) → Same m o (updated table filter sets) (updated (under table mapping tally) filter sets)
   unfolding updated
   updated_agree filter sets =
-      before m o SameDone (bound_filter table.fields (length table.extents) filter) _ _ (λ test.
-      before m o SameDone (bound_sets table.fields (length table.extents) sets) _ _ (λ settings.
-      before m o SameDone (each_once table.fields [] (leaves_of settings)) _ _ (λ once. updated_agree_of test settings)))
+      before SameDone (bound_filter table.fields (length table.extents) filter) _ _ (λ test.
+      before SameDone (bound_sets table.fields (length table.extents) sets) _ _ (λ settings.
+      before SameDone (each_once table.fields [] (leaves_of settings)) _ _ (λ once. updated_agree_of test settings)))
 
   -- what a kernel does whose stores keep these numbers
   abbrev ran_by : Keeping → Kernel → Done
@@ -117,25 +122,14 @@ module _ (m o : Bool) (table : Table) (mapping : MapTerm) (tally : Tally) (same 
 
   pub ran_agree : (text : KernelText) (lanes : ℕ) → Same m o (kernel_run table text lanes) (kernel_run (under table mapping tally) text lanes)
   unfolding kernel_run
-  ran_agree text lanes = before m o SameDone (fit_kernel table.fields text lanes) _ _ ran where
+  ran_agree text lanes = before SameDone (fit_kernel table.fields text lanes) _ _ ran where
     ran : (fit : Kernel) → Same m o (kernel_outcome table fit) (kernel_outcome (under table mapping tally) fit)
     ran fit =
-        bind m o Both SameDone (refused_by (kernel_row_fault table.fields) (kernels.kernel_fault (answer_of table) fit table.rows))
+        bind Both SameDone (refused_by (kernel_row_fault table.fields) (kernels.kernel_fault (answer_of table) fit table.rows))
         (refused_by (kernel_row_fault table.fields) (kernels.kernel_fault (answer_of (under table mapping tally)) fit table.rows)) _ _
         (by_agree m o is_narrow_kernel (kernel_row_fault table.fields) _ _ (narrow_run table)
         (kernel_causes (answer_of table) (answer_of (under table mapping tally)) answers_under fit table.rows))
         (λ done other p. go _ _ (ap (λ (keep : Keeping). ran_by keep fit) same.kept))
-
-  pub reduction_agree : (kind : ReduceKind) (path : List PathStep) → Same m o (reduction table kind path) (reduction (under table mapping tally) kind path)
-  unfolding reduction
-  reduction_agree kind path =
-      before m o SameDone (leaf_of table.fields path) _ _ (λ leaf. before m o SameDone (reduced kind (column leaf table.rows)) _ _ (λ number. go _ _ refl))
-
-  pub counting_agree : (filter : Value) → Same m o (counting table filter) (counting (under table mapping tally) filter)
-  unfolding counting
-  counting_agree filter =
-      before m o SameDone (bound table.fields (length table.extents) filter) _ _ (λ term.
-      before m o SameDone (ok_or (update_fault table.fields) (counted term table.extents table.rows)) _ _ (λ rows. go _ _ refl))
 
   -- only whether there is room for a buffer depends on how the tables lie
   pub stencil_agree : (live others : ℕ) (spans : List Span) (path : List PathStep) (texts : List TermText) (divisor rounds : ℕ)
@@ -144,49 +138,40 @@ module _ (m o : Bool) (table : Table) (mapping : MapTerm) (tally : Tally) (same 
   stencil_agree live others spans path texts divisor rounds =
       let many = nat_lt (8 * 2 ^ 30) (live + blob_bits table) in
       let many_others = nat_lt (8 * 2 ^ 30) (others + blob_bits (under table mapping tally)) in
-      before m o SameDone (fit_stencil table spans path texts divisor rounds) _ _ (λ stencil.
-      bind m o Both SameDone (room_beside live table) (room_beside others (under table mapping tally)) _ _
-      (both_told m o Any Any Both (room_beside live table) (room_beside others (under table mapping tally)) (told_if m many TooBig refl) (told_if o many_others TooBig refl) (λ a b p q. tt))
+      before SameDone (fit_stencil table spans path texts divisor rounds) _ _ (λ stencil.
+      bind Both SameDone (room_beside live table) (room_beside others (under table mapping tally)) _ _
+      (both_told Any Any Both (room_beside live table) (room_beside others (under table mapping tally)) (told_if m many TooBig refl) (told_if o many_others TooBig refl) (λ a b p q. tt))
       (λ room room_other p. rounds_agree stencil))
     where
       rounds_agree : (stencil : Stencil) → Same m o (stencil_rounds table rounds stencil) (stencil_rounds (under table mapping tally) rounds stencil)
       rounds_agree stencil =
-          bind m o (Given (Unit {0}) _ _) SameDone (ok_or (stencil_fault table.fields stencil.leaf) (stenciled table stencil rounds))
+          bind (Given (Unit {0}) _ _) SameDone (ok_or (stencil_fault table.fields stencil.leaf) (stenciled table stencil rounds))
           (ok_or (stencil_fault table.fields stencil.leaf) (stenciled (under table mapping tally) stencil rounds)) _ _
           (ok_agree m o is_narrow_stencil (stencil_fault table.fields stencil.leaf) _ _ (narrow_stencil table stencil.leaf)
           (stencil_answers (answer_of table) (answer_of (under table mapping tally)) answers_under same.kept stencil rounds table.rows))
           (λ rows others given. go _ _ (ap (λ (r : List (List ℤ)). stores r (rounds_log stencil rounds)) (given.same tt)))
 
-  pub print_window_agree : (spans : List Span) → Same m o (print_window table spans) (print_window (under table mapping tally) spans)
-  unfolding print_window
-  print_window_agree spans = before m o SameDone (windowed table.extents spans) _ _ (λ window. go _ _ refl)
-
-  print_agree : Same m o (print table) (print (under table mapping tally))
-  unfolding print
-  print_agree = go _ _ refl
-
   -- one that does not count has such a fault
-  counts_agree : Same m o (counts table) (counts (under table mapping tally))
+  pub counts_agree : Same m o (does (Shows counts) table) (does (Shows counts) (under table mapping tally))
   unfolding counts
   counts_agree = of_counts table.tally.counts tally.counts same.counts where
     of_counts : (x y : Option LeafCounts) → SameCounts x y
-        → Same m o (some_or NotCounted x >>= (λ numbers. Goes (tells table (counts_text (texts_of table.fields) numbers))))
-        (some_or NotCounted y >>= (λ numbers. Goes (tells table (counts_text (texts_of table.fields) numbers))))
+        → Same m o (some_or NotCounted x >>= (λ numbers. Ok (tells (counts_text (texts_of table.fields) numbers))) >>= (λ told. Ok (left_as table told)))
+        (some_or NotCounted y >>= (λ numbers. Ok (tells (counts_text (texts_of table.fields) numbers))) >>= (λ told. Ok (left_as table told)))
     of_counts None y is = first NotCounted _ refl
     of_counts (Some x) None is = second _ NotCounted refl
-    of_counts (Some x) (Some y) is = go _ _ (ap (λ (numbers : LeafCounts). tells table (counts_text (texts_of table.fields) numbers)) is)
+    of_counts (Some x) (Some y) is = go _ _ (ap (λ (numbers : LeafCounts). left_as table (tells (counts_text (texts_of table.fields) numbers))) is)
 
-  -- what shows no layout
-  pub showing_agree : (kind : ShowKind) (name : List ℕ) → shows_layout (Show kind name) ≡ false → Same m o (showing kind table) (showing kind (under table mapping tally))
-  showing_agree show.Print name plain = print_agree
-  showing_agree show.Counts name plain = counts_agree
-  showing_agree show.Heat name plain = absurd (cc)
-  showing_agree show.Layout name plain = absurd (cc)
+  -- what reads gets the same from both
+  reads_agree : (work : Work) → IsReading work → Same m o (does work table) (does work (under table mapping tally))
+  reads_agree (Reads command) is = before SameDone (command (content_of table)) _ _ (λ told. go _ _ refl)
+  reads_agree (Shows command) is = absurd is
+  reads_agree (Changes command) is = absurd is
 
   -- the same is done to both
-  done_agree : (x y : Outcome Done) → Same m o x y → Agree m o AlikeDone (done_to table x) (done_to (under table mapping tally) y)
+  done_agree : (x y : Tested Done) → Same m o x y → Agree m o AlikeDone (done_to table x) (done_to (under table mapping tally) y)
   done_agree x y agree =
-      bind m o SameDone AlikeDone x y _ _ agree
+      bind SameDone AlikeDone x y _ _ agree
       (λ a b is. go _ _ (subst (λ (d : Done). AlikeDone (record { held = after_stores table a.rows a.log; text = a.text }) (record { held = after_stores (under table mapping tally) d.rows d.log; text = d.text }))
       (sym is) (record { tables = rewritten_alike table mapping tally same a.rows a.log; text = refl })))
 
@@ -194,14 +179,26 @@ module _ (m o : Bool) (table : Table) (mapping : MapTerm) (tally : Tally) (same 
   copied_agree : (source : Table) (from : MapTerm) (counted_from : Tally) → Agree m o AlikeTables (copied source table) (copied (under source from counted_from) (under table mapping tally))
   unfolding copied
   copied_agree source from counted_from =
-      before m o AlikeTables (refused_if (not (are_alike source table)) Mismatch) _ _ (λ alike.
-      both_told m o (λ (t : Table). t ≡ with_written table source.rows) (λ (t : Table). t ≡ with_written (under table mapping tally) source.rows) AlikeTables _ _
+      before AlikeTables (refused_if (not (are_alike source table)) Mismatch) _ _ (λ alike.
+      both_told (λ (t : Table). t ≡ with_written table source.rows) (λ (t : Table). t ≡ with_written (under table mapping tally) source.rows) AlikeTables _ _
       (rows_told m table source.rows) (rows_told o (under table mapping tally) source.rows)
       (of_both AlikeTables (with_written table source.rows) (with_written (under table mapping tally) source.rows) (written_under table mapping tally same source.rows)))
 
   -- each value is read once
   read_alike : AlikeTables (all_read table) (all_read (under table mapping tally))
   read_alike = rewritten_alike table mapping tally same table.rows (all_accesses Read (leaf_count_of table) (length table.rows))
+
+-- what a line does to a view, and what it does in an alike world: a line that only reads is the same in both
+abbrev OnBoth : Bool → Bool → (Table → Tested Done) → (Table → Tested Done) → Type 0
+OnBoth m o command changed = (table : Table) (mapping : MapTerm) (tally : Tally) → AlikeTables table (under table mapping tally) → Same m o (command table) (changed (under table mapping tally))
+
+abbrev pub OnlyReads : Option OnView → Type 0
+OnlyReads None = ⊤
+OnlyReads (Some line) = IsReading line.work
+
+pub data AlikeLines (m o : Bool) : Option OnView → Option OnView → Type 0 where
+  reads : (line : Option OnView) → OnlyReads line → AlikeLines m o line line
+  works : (view : List ℕ) (work changed : Work) → OnBoth m o (does work) (does changed) → AlikeLines m o (Some (record { view = view; work = work })) (Some (record { view = view; work = changed }))
 
 -- worlds with alike tables under a name
 with_agree : (world other : World) → AlikeWorlds world other → (name : List ℕ) (a b : Table) → AlikeTables a b → AlikeWorlds (with_table world name a) (with_table other name b)
@@ -214,23 +211,26 @@ with_agree world other alike name a b same = record {
 -- alike worlds
 module _ (m o : Bool) (world other : World) (alike : AlikeWorlds world other) where
   -- what is done to a table that a name stands for
-  on_table : (name : List ℕ) (f g : Table → Outcome Left)
+  on_table : (name : List ℕ) (f g : Table → Tested Left)
       → ((table : Table) (mapping : MapTerm) (tally : Tally) → AlikeTables table (under table mapping tally) → Agree m o AlikeAlways (f table) (g (under table mapping tally)))
       → Agree m o AlikeAlways (known name world.views >>= f) (known name other.views >>= g)
   on_table name f g each =
-      bind m o (At AlikeTables (found name world.views) (found name other.views)) AlikeAlways _ _ f g (known_agree m o AlikeTables name world.views other.views alike.views)
+      bind (At AlikeTables (found name world.views) (found name other.views)) AlikeAlways _ _ f g (known_agree m o AlikeTables name world.views other.views alike.views)
       (λ a b at. of_mapping (λ (t : Table). Agree m o AlikeAlways (f a) (g t)) a b at.alike (each a))
 
   -- a command on a view agrees with another where it does to a table what the other does to that table under another mapping
-  pub view_agree : (name : List ℕ) (command changed : Table → Outcome Done)
-      → ((table : Table) (mapping : MapTerm) (tally : Tally) → AlikeTables table (under table mapping tally) → Same m o (command table) (changed (under table mapping tally)))
-      → Agree m o AlikeAlways (on_view world name command) (on_view other name changed)
+  view_agree : (name : List ℕ) (command changed : Table → Tested Done) → OnBoth m o command changed → Agree m o AlikeAlways (on_view world name command) (on_view other name changed)
   unfolding on_view
   view_agree name command changed each =
       on_table name _ _ (λ table mapping tally same.
-      bind m o AlikeDone AlikeAlways (done_to table (command table)) (done_to (under table mapping tally) (changed (under table mapping tally))) _ _
+      bind AlikeDone AlikeAlways (done_to table (command table)) (done_to (under table mapping tally) (changed (under table mapping tally))) _ _
       (done_agree m o table mapping tally same (command table) (changed (under table mapping tally)) (each table mapping tally same))
       (λ a b done. go _ _ (record { worlds = λ always also. with_agree world other alike name a.held b.held done.tables; text = done.text })))
+
+  pub worked_agree : (line changed : Option OnView) → AlikeLines m o line changed → Agree m o AlikeAlways (worked world line) (worked other changed)
+  worked_agree line changed (reads None is) = go _ _ (record { worlds = λ always also. alike; text = refl })
+  worked_agree line changed (reads (Some one) is) = view_agree one.view (does one.work) (does one.work) (λ table mapping tally same. reads_agree m o table mapping tally same one.work is)
+  worked_agree line changed (works view work other_work each) = view_agree view (does work) (does other_work) each
 
   pub drop_agree : (name : List ℕ) → Agree m o AlikeAlways (drop_view world name) (drop_view other name)
   unfolding drop_view
@@ -249,5 +249,5 @@ copy_agree m o world other alike name target =
     let read_other = with_table other name (all_read changed) in
     let alike_read : AlikeWorlds read read_other = with_agree world other alike name _ _ (read_alike m o source from counted_from same) in
     on_table m o read read_other alike_read target _ _ (λ table to tally same_to.
-    bind m o AlikeTables AlikeAlways (copied source table) (copied changed (under table to tally)) _ _ (copied_agree m o table to tally same_to source from counted_from)
+    bind AlikeTables AlikeAlways (copied source table) (copied changed (under table to tally)) _ _ (copied_agree m o table to tally same_to source from counted_from)
     (λ a b alike_new. go _ _ (record { worlds = λ always also. with_agree read read_other alike_read target a b alike_new; text = refl }))))

@@ -5,7 +5,7 @@ pub use Rattle.std.specs.List.{slice_index_or, slice_get, list_any, fold, flat_m
 pub use Rattle.std.specs.Option.{option_or}
 pub use Rattle.std.proofs.lemmas.List.{length-map}
 pub use Rattle.std.proofs.lemmas.Bool.{or_parts}
-pub use Rattle.worlds.specs.Outcomes.{Outcome, Goes, Faults, CannotRead, ◌>>=◌, refused_if, refused_by, ok_or, LeftOf, Left, known, some_or, free, quiet}
+pub use Rattle.worlds.specs.Outcomes.{Outcome, Goes, Faults, CannotRead, ◌>>=◌, refused_if, refused_by, ok_or, LeftOf, Left, known, some_or, free, quiet, Tested, Stop, Fault, Unread, sure}
 pub use Rattle.worlds.specs.declared.fault.CommandFault.{CommandFault}
 pub use Rattle.record_dim.specs.declared.leaf_type.LeafType.{LeafType}
 pub use Rattle.record_dim.specs.LeafTypes.{least_of, greatest_of, least_in, greatest_in}
@@ -43,7 +43,7 @@ pub use Rattle.lane_kernels.specs.declared.kernel.Kernel.{Kernel}
 pub use Rattle.subviews.specs.Stencils.{Stencil, stenciled, rounds_log, stencil_value, at_row, values_fault, with_entries, new_entry, if_fits, round, next_round, after_rounds}
 pub use Rattle.subviews.specs.declared.fault.StencilFault.{StencilFault}
 pub use Rattle.worlds.specs.Worlds.{World, found, Entry, same_name, added, replaced, removed, empty}
-pub use Rattle.worlds.specs.OnView.{Done, stores, tells, done_to, with_table, Work, worked}
+pub use Rattle.worlds.specs.OnView.{Done, stores, tells, done_to, with_table, Work, worked, content_of, Reads, Shows, Changes, left_as, does, OnView, Told}
 unfoldable pub use Rattle.worlds.specs.OnView.{on_view}
 pub use Rattle.worlds.specs.Names.{leaf_of, bound, bound_filter, bound_sets, each_once, leaves_of, text_of_leaf, nameless}
 pub use Rattle.worlds.specs.Values.{storable, store_fault, value_on}
@@ -102,7 +102,7 @@ pub use Rattle.map_any.specs.Counters.{has_count}
 pub use Rattle.equal_runs.specs.Endings.{is_refused, is_of_layout, misses_mapping, ends_after, ends_by_layout}
 pub use Rattle.equal_runs.specs.Lines.{shows_layout, with_term, AgreeButTerms, IsLine, AreLines}
 pub use Rattle.equal_runs.specs.EntryLaws.{found_added, found_replaced}
-pub use Rattle.equal_runs.specs.GoesLaws.{IfGoes, to, refused, unread, bind, behind, known_found, free_found, gone}
+pub use Rattle.equal_runs.specs.GoesLaws.{IfGoes, to, refused, bind, behind, known_found, free_found, gone, goes_each, surely}
 pub use Rattle.equal_runs.specs.Logs.{log_in, logged, reads_of, writes_of, fills_of, done_log, work_logs, logs_after, SoFar, at_first, one_more, Comes, there, further, log_of}
 pub use Rattle.equal_runs.specs.Widths.{MakesWide, HoldsOf, StaysWide}
 pub use Rattle.equal_runs.specs.EqualRuns.{DoesLines, EqualRuns}

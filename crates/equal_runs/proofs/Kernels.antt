@@ -4,7 +4,8 @@ use Rattle.std.proofs.Common.{◌+◌}
 use Rattle.views.specs.declared.fault.StoreFault.TheVariants as stored_fault
 use Rattle.lane_kernels.specs.Kernels.{kernel_store_fault}
 use Rattle.lane_kernels.specs.declared.fault.KernelFault.TheVariants.{Narrow}
-use Rattle.equal_runs.proofs.Answers.{Answers, both, fails, first, second, Causes, same, one, other as another, is_narrow}
+use Rattle.equal_runs.proofs.Answers.{Answers, Causes, same, one, other as another, is_narrow}
+use Rattle.equal_runs.proofs.Agreeing.{go, fault as fails, first, second}
 
 abbrev pub is_narrow_kernel : KernelFault → Bool
 is_narrow_kernel (Narrow row leaf) = true
@@ -25,7 +26,7 @@ narrow_other row leaf x stored_fault.Range is = absurd (cc)
 narrow_other row leaf x stored_fault.Narrow is = another x (Narrow row leaf) refl
 
 answer_causes : {Alike : Type 0} (row leaf : ℕ) (x y : Result ℤ StoreFault) → Answers is_narrow Alike x y → Causes is_narrow_kernel (answer_fault row leaf x) (answer_fault row leaf y)
-answer_causes row leaf x y (both a b alike) = same None
+answer_causes row leaf x y (go a b alike) = same None
 answer_causes row leaf x y (fails e) = same (answer_fault row leaf (Err e))
 answer_causes row leaf x y (first e z is) = narrow_answer row leaf e (answer_fault row leaf z) is
 answer_causes row leaf x y (second z e is) = narrow_other row leaf (answer_fault row leaf z) e is

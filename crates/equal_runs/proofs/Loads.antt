@@ -4,7 +4,8 @@ use Rattle.std.proofs.Common.{◌+◌}
 use Rattle.views.specs.declared.fault.StoreFault.TheVariants as store
 use Rattle.csv_rows.specs.Datasets.{◌>>=◌}
 use Rattle.csv_rows.specs.declared.fault.RowFault.TheVariants.{Narrow}
-use Rattle.equal_runs.proofs.Answers.{Answers, both, fails, equal, first, second, is_narrow, store_answers}
+use Rattle.equal_runs.proofs.Answers.{Answers, equal, is_narrow, store_answers}
+use Rattle.equal_runs.proofs.Agreeing.{go, fault as fails, first, second}
 
 abbrev pub is_narrow_row : RowFault → Bool
 is_narrow_row (Narrow row leaf) = true
@@ -13,7 +14,7 @@ is_narrow_row _ = false
 -- one thing after another, and one thing before both
 bind : {A B Alike : Type 0} (x y : Result A RowFault) (f g : A → Result B RowFault) → Answers is_narrow_row Alike x y
     → ((a b : A) → (Alike → b ≡ a) → Answers is_narrow_row Alike (f a) (g b)) → Answers is_narrow_row Alike (x >>= f) (y >>= g)
-bind x y f g (both a b same) next = next a b same
+bind x y f g (go a b same) next = next a b same
 bind x y f g (fails e) next = fails e
 bind x y f g (first e z is) next = first e (z >>= g) is
 bind x y f g (second z e is) next = second (z >>= f) e is
@@ -28,7 +29,7 @@ cons_answers : {A Alike : Type 0} (x y : Result A RowFault) (xs ys : Result (Lis
 cons_answers {A} x y xs ys one others =
     bind x y (λ a. xs >>= (λ rest. Ok (a ∷ rest))) (λ a. ys >>= (λ rest. Ok (a ∷ rest))) one (λ a b same.
     bind xs ys (λ rest. Ok (a ∷ rest)) (λ rest. Ok (b ∷ rest)) others (λ rest more also.
-    both (a ∷ rest) (b ∷ more) (λ alike. ap (λ (v : A). v ∷ more) (same alike) ∙ ap (λ (vs : List A). a ∷ vs) (also alike))))
+    go (a ∷ rest) (b ∷ more) (λ alike. ap (λ (v : A). v ∷ more) (same alike) ∙ ap (λ (vs : List A). a ∷ vs) (also alike))))
 
 -- what two holds keep of each value is the same
 abbrev pub KeepAlike : StoreMode → LeafType → Hold → Hold → Type 0
@@ -59,7 +60,7 @@ abbrev held_by : Place → Hold → Place
 held_by place hold = record place { hold = hold }
 
 taken_answers : {Alike : Type 0} (place : Place) (hold : Hold) (x y : Result ℤ StoreFault) → Answers is_narrow Alike x y → Answers is_narrow_row Alike (taken place x) (taken (held_by place hold) y)
-taken_answers place hold x y (both a b same) = both a b same
+taken_answers place hold x y (go a b same) = go a b same
 taken_answers place hold x y (fails e) = fails (refusal place.row place.leaf e)
 taken_answers place hold x y (first e z is) = first (refusal place.row place.leaf e) (taken (held_by place hold) z) (narrow_refusal place.row place.leaf e is)
 taken_answers place hold x y (second z e is) = second (taken place z) (refusal place.row place.leaf e) (narrow_refusal place.row place.leaf e is)

@@ -1,5 +1,5 @@
 -- What is counted of a view are the accesses to it, line after line.
-use Rattle.equal_runs.proofs.Imports.{◌≡◌, ℕ, Bool, false, List, [], ◌++◌, length, Option, Some, None, refl, sym, ap, subst, ◌∙◌, ◌+◌, ◌*◌, ◌^◌, nat_lt, not, length-map, File, indices, leaves, Tree, Fields, MapTerm, zeros, zeros_shape, StoreMode, Sentence, New, Access, Tally, tallied, no_tally, all_accesses, Read, Write, tallied-none, tallied-append, kept_row, kept_rows, Table, owners_of, leaf_count_of, kept_of, after_stores, World, Entry, found, added, replaced, removed, Saved, opened, rows_in, table_of_saved, csv_records, records_behind, dataset_of, checked, copy, copied, relayout, all_read, laid_anew, are_alike, define, fit, bad_file, open_view, opened_beside, opened_table, load, loaded_table, loaded, filled, read, row_fault, mapping, Done, Work, done_to, on_view, worked, Outcome, Goes, ◌>>=◌, LeftOf, Left, quiet, known, free, refused_if, ok_or, drop_view, step, work_of, made, resolved, room, shaped, zeros_of, blob_bits, live_bits, nameless, view, new_table, with_view, named, Named, BadMapping, TooBig, Mismatch, found_added, found_replaced, IfGoes, to, refused, unread, bind, behind, known_found, free_found, log_in, logged, reads_of, writes_of, fills_of, done_log, work_logs, logs_after}
+use Rattle.equal_runs.proofs.Imports.{◌≡◌, ℕ, Bool, false, List, [], ◌++◌, length, Option, Some, None, refl, sym, ap, subst, ◌∙◌, ◌+◌, ◌*◌, ◌^◌, nat_lt, not, length-map, File, indices, leaves, Tree, Fields, MapTerm, zeros, zeros_shape, StoreMode, Sentence, New, Access, Tally, tallied, no_tally, all_accesses, Read, Write, tallied-none, tallied-append, kept_row, kept_rows, Table, owners_of, leaf_count_of, kept_of, after_stores, World, Entry, found, added, replaced, removed, Saved, opened, rows_in, table_of_saved, csv_records, records_behind, dataset_of, checked, copy, copied, relayout, all_read, laid_anew, are_alike, define, fit, bad_file, open_view, opened_beside, opened_table, load, loaded_table, loaded, filled, read, row_fault, mapping, Done, done_to, on_view, worked, Outcome, ◌>>=◌, LeftOf, Left, quiet, known, free, refused_if, ok_or, drop_view, step, work_of, made, resolved, room, shaped, zeros_of, blob_bits, live_bits, nameless, view, new_table, with_view, named, Named, BadMapping, TooBig, Mismatch, found_added, found_replaced, IfGoes, to, refused, bind, behind, known_found, free_found, log_in, logged, reads_of, writes_of, fills_of, done_log, work_logs, logs_after, Ok, Err, OnView, does, Tested, sure, goes_each, surely}
 use Rattle.std.specs.Prelude.{ℤ}
 use Rattle.line_grammar.specs.Sentences as line
 use Rattle.equal_runs.proofs.Agreeing.{Told, goes, told}
@@ -7,7 +7,7 @@ use Rattle.equal_runs.proofs.Entries.{Entries, Finds, some, nothing, finds, entr
 use Rattle.equal_runs.proofs.Tables.{with_written, anew_of, made_told, rows_told, anew_told}
 
 -- what is told goes there
-of_told : {A : Type 0} (P : A → Type 0) (x : Outcome A) → Told false P x → IfGoes P x
+of_told : {A : Type 0} (P : A → Type 0) (x : Tested A) → Told false P x → IfGoes P x
 of_told P x (goes a p) = to a p
 of_told P x (told fault of) = refused fault
 
@@ -66,7 +66,7 @@ record IsFilled (table : Table) : Type 0 where
 
 made_zeros : (views : List (Entry Table)) (mode : StoreMode) (fields : Fields) (extents : List ℕ) (term : MapTerm) → IfGoes IsZeros (made views mode fields extents term)
 made_zeros views mode fields extents term = of_made (made views mode fields extents term) (made_told false views mode fields extents term) where
-  of_made : (x : Outcome Table) → Told false (λ (t : Table). t ≡ zeros_of mode fields extents term) x → IfGoes IsZeros x
+  of_made : (x : Tested Table) → Told false (λ (t : Table). t ≡ zeros_of mode fields extents term) x → IfGoes IsZeros x
   of_made x (goes t is) = to t (record { mode = mode; fields = fields; extents = extents; term = term; is = is })
   of_made x (told fault of) = refused fault
 
@@ -144,7 +144,7 @@ module _ (world : World) (logs : List (Entry (List Access))) (all : AreCounted w
 
   -- such a table is added
   loaded_keeps : (name : List ℕ) (x : Outcome Table) → IfGoes (IsLoaded name) x
-      → IfGoes (Keeps (λ w. added name (fills_of (found name w.views)) logs)) (x >>= (λ table. quiet (with_view world name table)))
+      → IfGoes (Keeps (λ w. added name (fills_of (found name w.views)) logs)) (x >>= (λ table. sure (quiet (with_view world name table))))
   loaded_keeps name x is_loaded =
       behind (Keeps (λ w. added name (fills_of (found name w.views)) logs)) (IsLoaded name) x _ is_loaded
       (λ table is. to _ (subst (λ (y : Option Table). AreCounted (added name table world.views) (added name (fills_of y) logs)) (sym (found_added name table world.views is.1))
@@ -154,34 +154,36 @@ module _ (world : World) (logs : List (Entry (List Access))) (all : AreCounted w
   unfolding loaded_table loaded
   loaded_filled new file files fails =
       let P : Table → Type 0 = IsLoaded new.name in
-      behind P (λ (whole : Named). found new.name world.views ≡ None) (named world new) _ (named_free new) (λ whole none.
-      bind P (read files fails file) _ (λ bytes b.
+      behind P (λ (whole : Named). found new.name world.views ≡ None) (sure (named world new)) _ (surely _ _ (named_free new)) (λ whole none.
+      bind P (read files fails file) _ (λ bytes b. surely P _ (
       bind P (refused_if (nat_lt (2 ^ 28) (length bytes)) TooBig) _ (λ short c.
       bind P (resolved new.words (Some (length (records_behind (csv_records bytes))))) _ (λ extents d.
       behind P IsZeros (made world.views whole.mode whole.fields extents whole.mapping) _ (made_zeros world.views whole.mode whole.fields extents whole.mapping) (λ zeros is.
-      with_free new none (filled zeros (csv_records bytes)) (zeros_filled zeros (csv_records bytes) is))))))
+      with_free new none (filled zeros (csv_records bytes)) (zeros_filled zeros (csv_records bytes) is)))))))
     where
-      with_free : (new : New) → found new.name world.views ≡ None → (x : Outcome Table) → IfGoes IsFilled x → IfGoes (IsLoaded new.name) x
+      with_free : (new : New) → found new.name world.views ≡ None → (x : Tested Table) → IfGoes IsFilled x → IfGoes (IsLoaded new.name) x
       with_free new none x (to t is) = to t (is, none)
       with_free new none x (refused fault) = refused fault
-      with_free new none x (unread name) = unread name
 
   load_keeps : (new : New) (file : List ℕ) (files : List File) (fails : Bool)
       → IfGoes (Keeps (λ w. added new.name (fills_of (found new.name w.views)) logs)) (load world new file files fails)
   unfolding load
   load_keeps new file files fails = loaded_keeps new.name (loaded_table world new file files fails) (loaded_filled new file files fails)
 
+  name_free : (name : List ℕ) → IfGoes (λ (done : Unit {0}). found name world.views ≡ None) (free name world.views)
+  name_free name = goes_each (λ (done : Unit {0}). found name world.views ≡ None) (free name world.views) (λ unused is. free_found _ (found name world.views) is)
+
   opened_filled : (name file : List ℕ) (files : List File) (fails : Bool) → IfGoes (IsLoaded name) (opened_table world name file files fails)
   unfolding opened_table opened_beside
   opened_filled name file files fails =
       let P : Table → Type 0 = IsLoaded name in
-      bind P (free name world.views) _ (λ unused is.
-      bind P (room world.views) _ (λ space a.
-      bind P (read files fails file) _ (λ bytes b.
+      behind P (λ (done : Unit {0}). found name world.views ≡ None) (sure (free name world.views)) _ (surely _ _ (name_free name)) (λ unused none.
+      bind P (sure (room world.views)) _ (λ space a.
+      bind P (read files fails file) _ (λ bytes b. surely P _ (
       bind P (refused_if (nat_lt (2 ^ 28 + 8206) (length bytes)) TooBig) _ (λ short c.
       bind P (ok_or bad_file (opened bytes)) _ (λ saved d.
       bind P (refused_if (nat_lt (8 * 2 ^ 30) (live_bits world.views + blob_bits (table_of_saved saved))) TooBig) _ (λ fits e.
-      to _ (saved_filled saved, free_found _ (found name world.views) is)))))))
+      to _ (saved_filled saved, none))))))))
 
   open_keeps : (name file : List ℕ) (files : List File) (fails : Bool) → IfGoes (Keeps (λ w. added name (fills_of (found name w.views)) logs)) (open_view world name file files fails)
   unfolding open_view
@@ -233,36 +235,36 @@ module _ (world : World) (logs : List (Entry (List Access))) (all : AreCounted w
   drop_keeps name = bind (Keeps (λ w. removed name logs)) (known name world.views) _ (λ table a. to _ (entries_removed IsCounted name world.views logs all))
 
   -- what a command did to a table
-  record WasDone (outcome : Outcome Done) (table : Table) (new : LeftOf Table) : Type 0 where
+  record WasDone (outcome : Tested Done) (table : Table) (new : LeftOf Table) : Type 0 where
     done : Done
-    is : outcome ≡ Goes done
+    is : outcome ≡ Ok done
     held : new.held ≡ after_stores table done.rows done.log
 
-  was_done : (table : Table) (outcome : Outcome Done) → IfGoes (WasDone outcome table) (done_to table outcome)
+  was_done : (table : Table) (outcome : Tested Done) → IfGoes (WasDone outcome table) (done_to table outcome)
   was_done table outcome = bind (WasDone outcome table) outcome _ (λ done is. to _ (record { done = done; is = is; held = refl }))
 
-  work_keeps : (work : Option Work) → IfGoes (Keeps (λ w. work_logs world work logs)) (worked world work)
+  work_keeps : (job : Option OnView) → IfGoes (Keeps (λ w. work_logs world job logs)) (worked world job)
   unfolding on_view
   work_keeps None = to _ all
-  work_keeps (Some work) =
-      let P : Left → Type 0 = Keeps (λ w. work_logs world (Some work) logs) in
-      bind P (known work.view world.views) _ (λ table t.
-      behind P (WasDone (work.does table) table) (done_to table (work.does table)) _ (was_done table (work.does table)) (λ new was.
-      let log : done_log (known work.view world.views >>= work.does) ≡ was.done.log = ap (λ (x : Outcome Table). done_log (x >>= work.does)) t ∙ ap done_log was.is in
-      let one : AreCounted (replaced work.view (after_stores table was.done.rows was.done.log) world.views) (logged work.view was.done.log logs) =
-      logged_more work.view world.views logs table was.done.rows was.done.log all (known_found _ (found work.view world.views) table t) in
-      to _ (subst (λ (n : Table). AreCounted (replaced work.view n world.views) (work_logs world (Some work) logs)) (sym was.held)
-      (subst (λ (more : List Access). AreCounted (replaced work.view (after_stores table was.done.rows was.done.log) world.views) (logged work.view more logs)) (sym log) one))))
+  work_keeps (Some job) =
+      let P : Left → Type 0 = Keeps (λ w. work_logs world (Some job) logs) in
+      bind P (known job.view world.views) _ (λ table t.
+      behind P (WasDone (does job.work table) table) (done_to table (does job.work table)) _ (was_done table (does job.work table)) (λ new was.
+      let log : done_log (known job.view world.views >>= does job.work) ≡ was.done.log = ap (λ (x : Tested Table). done_log (x >>= does job.work)) t ∙ ap done_log was.is in
+      let one : AreCounted (replaced job.view (after_stores table was.done.rows was.done.log) world.views) (logged job.view was.done.log logs) =
+      logged_more job.view world.views logs table was.done.rows was.done.log all (known_found _ (found job.view world.views) table t) in
+      to _ (subst (λ (n : Table). AreCounted (replaced job.view n world.views) (work_logs world (Some job) logs)) (sym was.held)
+      (subst (λ (more : List Access). AreCounted (replaced job.view (after_stores table was.done.rows was.done.log) world.views) (logged job.view more logs)) (sym log) one))))
 
   -- a line that goes
   pub step_keeps : (files : List File) (fails : Bool) (sentence : Sentence) → IfGoes (Keeps (λ w. logs_after world sentence w logs)) (step world sentence files fails)
   unfolding step
-  step_keeps files fails (line.Define name tree) = define_keeps name tree
-  step_keeps files fails (line.Mapping name term) = mapping_keeps name term
-  step_keeps files fails (line.View new) = view_keeps new
+  step_keeps files fails (line.Define name tree) = surely _ _ (define_keeps name tree)
+  step_keeps files fails (line.Mapping name term) = surely _ _ (mapping_keeps name term)
+  step_keeps files fails (line.View new) = surely _ _ (view_keeps new)
   step_keeps files fails (line.Load new file) = load_keeps new file files fails
   step_keeps files fails (line.Open name file) = open_keeps name file files fails
-  step_keeps files fails (line.Copy name target) = copy_keeps name target
-  step_keeps files fails (line.Relayout name term) = relayout_keeps name term
-  step_keeps files fails (line.Drop name) = drop_keeps name
-  step_keeps files fails sentence = work_keeps (work_of world sentence)
+  step_keeps files fails (line.Copy name target) = surely _ _ (copy_keeps name target)
+  step_keeps files fails (line.Relayout name term) = surely _ _ (relayout_keeps name term)
+  step_keeps files fails (line.Drop name) = surely _ _ (drop_keeps name)
+  step_keeps files fails sentence = surely _ _ (work_keeps (work_of world sentence))

@@ -1,7 +1,7 @@
 -- The commands with names and mapping expressions, done to alike worlds.
-use Rattle.equal_runs.proofs.Imports.{◌≡◌, ℕ, Bool, true, ℤ, List, length, Option, Some, None, refl, sym, ap, subst, ◌∙◌, ◌+◌, ◌*◌, ◌^◌, ◌&&◌, is_some, IfSome, nat_lt, nat_le, ExtentWord, File, Tree, Fields, kinds_of, texts_of, New, View, Relayout, MapTerm, checked, holds_by, holds_cells, length-leaf_cells, opened, table_of_saved, csv_records, records_behind, dataset_table, RowFault, Keeping, Table, IsWide, leaf_count_of, after_stores, World, Entry, found, Tally, all_accesses, Write, Outcome, Left, quiet, known, free, refused_if, ok_or, nameless, room, shaped, resolved, made, zeros_of, blob_bits, live_bits, fit, define, mapping, Named, named, new_table, with_view, view, read, filled, loaded, loaded_table, load, fault_of, laid_anew, relayout, bad_file, opened_beside, opened_table, open_view, BadMapping, TooBig, TooManyViews, is_refused, is_of_layout, found_added, found_replaced, MakesWide}
+use Rattle.equal_runs.proofs.Imports.{◌≡◌, ℕ, Bool, true, ℤ, List, length, Option, Some, None, refl, sym, ap, subst, ◌∙◌, ◌+◌, ◌*◌, ◌^◌, ◌&&◌, is_some, IfSome, nat_lt, nat_le, ExtentWord, File, Tree, Fields, kinds_of, texts_of, New, View, Relayout, MapTerm, checked, holds_by, holds_cells, length-leaf_cells, opened, table_of_saved, csv_records, records_behind, dataset_table, RowFault, Keeping, Table, IsWide, leaf_count_of, after_stores, World, Entry, found, Tally, all_accesses, Write, Left, quiet, known, free, refused_if, ok_or, nameless, room, shaped, resolved, made, zeros_of, blob_bits, live_bits, fit, define, mapping, Named, named, new_table, with_view, view, read, filled, loaded, loaded_table, load, fault_of, laid_anew, relayout, bad_file, opened_beside, opened_table, open_view, BadMapping, TooBig, TooManyViews, is_refused, is_of_layout, found_added, found_replaced, MakesWide, Tested, sure}
 use Rattle.csv_rows.specs.declared.fault.RowFault.TheVariants as row_fault
-use Rattle.equal_runs.proofs.Agreeing.{Agree, go, bind, before, alone, weaker, both_told, Any, Both, told_if, told_ok, told_misses}
+use Rattle.equal_runs.proofs.Agreeing.{Agree, go, bind, before, alone, weaker, both_told, Any, Both, told_if, told_ok, told_misses, EndAlike, surely}
 use Rattle.equal_runs.proofs.Answers.{Given, ok_agree}
 use Rattle.equal_runs.proofs.Entries.{At, known_agree, Neither, free_agree, entries_added, entries_replaced, length-entries}
 use Rattle.equal_runs.proofs.Loads.{is_narrow_row, dataset_answers}
@@ -25,7 +25,7 @@ module _ (m o : Bool) where
   names_agree : (mappings others : List (Entry MapTerm)) (term changed : MapTerm) → is_refused (nameless mappings term) ≡ m → is_refused (nameless others changed) ≡ o
       → Agree m o Both (nameless mappings term) (nameless others changed)
   names_agree mappings others term changed is also =
-      both_told m o Any Any Both (nameless mappings term) (nameless others changed) (told_misses m Any (nameless mappings term) (nameless_told mappings term) is)
+      both_told Any Any Both (nameless mappings term) (nameless others changed) (told_misses m Any (nameless mappings term) (nameless_told mappings term) is)
       (told_misses o Any (nameless others changed) (nameless_told others changed) also) (λ a b p q. tt)
 
   -- what holds of zeros under two mappings holds of the tables that are made
@@ -36,7 +36,7 @@ module _ (m o : Bool) where
       let table = zeros_of whole.mode whole.fields extents whole.mapping in
       let changed = zeros_of whole.mode whole.fields extents other.mapping in
       let moved : zeros_of other.mode other.fields extents other.mapping ≡ changed = λ i. zeros_of (same.mode i) (same.fields i) extents other.mapping in
-      both_told m o _ _ R (made views whole.mode whole.fields extents whole.mapping) (made others other.mode other.fields extents other.mapping)
+      both_told _ _ R (made views whole.mode whole.fields extents whole.mapping) (made others other.mode other.fields extents other.mapping)
       (made_told m views whole.mode whole.fields extents whole.mapping) (made_told o others other.mode other.fields extents other.mapping)
       (λ a b is also. of_both R table changed holds a b is (also ∙ moved))
 
@@ -47,7 +47,7 @@ module _ (m o : Bool) where
       let kinds = kinds_of table.fields in
       let under : Table = record table { mapping = mapping; tally = tally } in
       let log = all_accesses Write (leaf_count_of table) (length table.rows) in
-      bind m o (Given (IsWide table × IsWide under) _ _) AlikeIfWide (ok_or (fault_of table.fields) (dataset_table table.mode names kinds (holds_by table.mapping table.fields) records))
+      bind (Given (IsWide table × IsWide under) _ _) AlikeIfWide (ok_or (fault_of table.fields) (dataset_table table.mode names kinds (holds_by table.mapping table.fields) records))
       (ok_or (fault_of table.fields) (dataset_table table.mode names kinds (holds_by mapping table.fields) records)) _ _
       (ok_agree m o is_narrow_row (fault_of table.fields) _ _ (narrow_row table.fields)
       (dataset_answers table.mode names kinds (holds_by table.mapping table.fields) (holds_by mapping table.fields) records (paired table.mapping table.fields) (paired mapping table.fields)
@@ -60,11 +60,11 @@ module _ (m o : Bool) where
       → Agree m o AlikeIfWide (loaded views whole words bytes) (loaded others other words bytes)
   unfolding loaded
   loaded_agree views others whole other words bytes same =
-      before m o AlikeIfWide (refused_if (nat_lt (2 ^ 28) (length bytes)) TooBig) _ _ (λ short.
-      before m o AlikeIfWide (resolved words (Some (length (records_behind (csv_records bytes))))) _ _ (λ extents.
+      before AlikeIfWide (refused_if (nat_lt (2 ^ 28) (length bytes)) TooBig) _ _ (λ short.
+      before AlikeIfWide (resolved words (Some (length (records_behind (csv_records bytes))))) _ _ (λ extents.
       let alike = zeros_alike whole.mode whole.fields extents whole.mapping other.mapping in
       let changed = zeros_of whole.mode whole.fields extents other.mapping in
-      bind m o (λ (a b : Table). Agree m o AlikeIfWide (filled a (csv_records bytes)) (filled b (csv_records bytes))) AlikeIfWide
+      bind (λ (a b : Table). Agree m o AlikeIfWide (filled a (csv_records bytes)) (filled b (csv_records bytes))) AlikeIfWide
       (made views whole.mode whole.fields extents whole.mapping) (made others other.mode other.fields extents other.mapping) _ _
       (made_agree _ views others whole other extents same (filled_agree (zeros_of whole.mode whole.fields extents whole.mapping) other.mapping changed.tally alike (csv_records bytes)))
       (λ a b agree. agree)))
@@ -73,17 +73,17 @@ module _ (m o : Bool) where
   opened_agree : (views others : List (Entry Table)) (bytes : List ℕ) → Agree m o AlikeTables (opened_beside views bytes) (opened_beside others bytes)
   unfolding opened_beside
   opened_agree views others bytes =
-      before m o AlikeTables (refused_if (nat_lt (2 ^ 28 + 8206) (length bytes)) TooBig) _ _ (λ short.
-      before m o AlikeTables (ok_or bad_file (opened bytes)) _ _ (λ saved.
+      before AlikeTables (refused_if (nat_lt (2 ^ 28 + 8206) (length bytes)) TooBig) _ _ (λ short.
+      before AlikeTables (ok_or bad_file (opened bytes)) _ _ (λ saved.
       let table = table_of_saved saved in
       let many = nat_lt (8 * 2 ^ 30) (live_bits views + blob_bits table) in
       let many_others = nat_lt (8 * 2 ^ 30) (live_bits others + blob_bits table) in
-      bind m o Both AlikeTables (refused_if many TooBig) (refused_if many_others TooBig) _ _
-      (both_told m o Any Any Both (refused_if many TooBig) (refused_if many_others TooBig) (told_if m many TooBig refl) (told_if o many_others TooBig refl) (λ a b p q. tt))
+      bind Both AlikeTables (refused_if many TooBig) (refused_if many_others TooBig) _ _
+      (both_told Any Any Both (refused_if many TooBig) (refused_if many_others TooBig) (told_if m many TooBig refl) (told_if o many_others TooBig refl) (λ a b p q. tt))
       (λ all also p. go _ _ (self_alike table))))
 
 -- where a name was found, a mapping is missed where its expression is refused
-found_misses : {A B : Type 0} (x : Option A) (a : A) (y : Outcome B) → x ≡ Some a → is_refused y ≡ (is_some x && is_refused y)
+found_misses : {A B : Type 0} (x : Option A) (a : A) (y : Tested B) → x ≡ Some a → is_refused y ≡ (is_some x && is_refused y)
 found_misses {A} x a y is = sym (ap (λ (f : Option A). is_some f && is_refused y) is)
 
 -- a table that is found is wide where what is found is
@@ -94,9 +94,9 @@ module _ (world other : World) (alike : AlikeWorlds world other) where
   pub define_agree : (m o : Bool) (name : List ℕ) (tree : Tree) → Agree m o AlikeAlways (define world name tree) (define other name tree)
   unfolding define
   define_agree m o name tree =
-      bind m o (Neither (found name world.records) (found name other.records)) AlikeAlways (free name world.records) (free name other.records) _ _
+      bind (Neither (found name world.records) (found name other.records)) AlikeAlways (free name world.records) (free name other.records) _ _
       (free_agree m o (λ (a b : Fields). b ≡ a) name world.records other.records alike.records) (λ new also p.
-      before m o AlikeAlways (fit tree) _ _ (λ fields. go _ _ (record {
+      before AlikeAlways (fit tree) _ _ (λ fields. go _ _ (record {
         worlds = λ always also. record {
           records = entries_added (λ (a b : Fields). b ≡ a) name fields fields world.records other.records refl alike.records;
           mappings = alike.mappings;
@@ -111,11 +111,11 @@ module _ (world other : World) (alike : AlikeWorlds world other) where
   mapping_agree name term changed =
       let m = is_refused (nameless world.mappings term) in
       let o = is_refused (nameless other.mappings changed) in
-      bind m o (Neither (found name world.mappings) (found name other.mappings)) AlikeAlways (free name world.mappings) (free name other.mappings) _ _
+      bind (Neither (found name world.mappings) (found name other.mappings)) AlikeAlways (free name world.mappings) (free name other.mappings) _ _
       (free_agree m o Both name world.mappings other.mappings alike.mappings) (λ new also p.
-      bind m o Both AlikeAlways (nameless world.mappings term) (nameless other.mappings changed) _ _ (names_agree m o world.mappings other.mappings term changed refl refl) (λ whole whole_other q.
-      bind m o Both AlikeAlways (ok_or BadMapping (checked whole)) (ok_or BadMapping (checked whole_other)) _ _
-      (both_told m o Any Any Both (ok_or BadMapping (checked whole)) (ok_or BadMapping (checked whole_other)) (told_ok m BadMapping (checked whole) (λ e. refl))
+      bind Both AlikeAlways (nameless world.mappings term) (nameless other.mappings changed) _ _ (names_agree m o world.mappings other.mappings term changed refl refl) (λ whole whole_other q.
+      bind Both AlikeAlways (ok_or BadMapping (checked whole)) (ok_or BadMapping (checked whole_other)) _ _
+      (both_told Any Any Both (ok_or BadMapping (checked whole)) (ok_or BadMapping (checked whole_other)) (told_ok m BadMapping (checked whole) (λ e. refl))
       (told_ok o BadMapping (checked whole_other) (λ e. refl)) (λ a b r s. tt))
       (λ done done_other r. go _ _ (record {
         worlds = λ always also. record {
@@ -129,7 +129,7 @@ module _ (world other : World) (alike : AlikeWorlds world other) where
   room_agree : (m o : Bool) → Agree m o Both (room world.views) (room other.views)
   room_agree m o =
       subst (λ (n : ℕ). Agree m o Both (room world.views) (refused_if (nat_le 64 n) TooManyViews)) (length-entries AlikeTables world.views other.views alike.views)
-      (alone m o Both (room world.views) (λ a. tt))
+      (alone Both (room world.views) (λ a. tt))
 
   -- the world with one more table
   view_added : (name : List ℕ) (a b : Table) → AlikeTables a b → AlikeWorlds (with_view world name a) (with_view other name b)
@@ -139,14 +139,14 @@ module _ (world other : World) (alike : AlikeWorlds world other) where
     views = entries_added AlikeTables name a b world.views other.views same alike.views;
   }
 
-  pub open_agree : (m o : Bool) (name file : List ℕ) (files : List File) (unread : Bool) → Agree m o AlikeAlways (open_view world name file files unread) (open_view other name file files unread)
+  pub open_agree : (m o : Bool) (name file : List ℕ) (files : List File) (unread : Bool) → EndAlike m o AlikeAlways (open_view world name file files unread) (open_view other name file files unread)
   unfolding open_view opened_table
   open_agree m o name file files unread =
-      bind m o AlikeTables AlikeAlways (opened_table world name file files unread) (opened_table other name file files unread) _ _
-      (bind m o (Neither (found name world.views) (found name other.views)) AlikeTables (free name world.views) (free name other.views) _ _
-      (free_agree m o AlikeTables name world.views other.views alike.views) (λ unused also p.
-      bind m o Both AlikeTables (room world.views) (room other.views) _ _ (room_agree m o) (λ space space_other q.
-      before m o AlikeTables (read files unread file) _ _ (λ bytes. opened_agree m o world.views other.views bytes))))
+      bind AlikeTables AlikeAlways (opened_table world name file files unread) (opened_table other name file files unread) _ _
+      (bind (Neither (found name world.views) (found name other.views)) AlikeTables (sure (free name world.views)) (sure (free name other.views)) _ _
+      (surely _ _ _ (free_agree m o AlikeTables name world.views other.views alike.views)) (λ unused also p.
+      bind Both AlikeTables (sure (room world.views)) (sure (room other.views)) _ _ (surely _ _ _ (room_agree m o)) (λ space space_other q.
+      before AlikeTables (read files unread file) _ _ (λ bytes. surely _ _ _ (opened_agree m o world.views other.views bytes)))))
       (λ a b same. go _ _ (record { worlds = λ always also. view_added name a b same; text = refl }))
 
   -- what makes a view, and the same under another mapping
@@ -166,16 +166,16 @@ module _ (world other : World) (alike : AlikeWorlds world other) where
 
     named_agree : Agree missed missed_other AreNew (named world new) (named other under)
     named_agree =
-        bind missed missed_other (Neither (found new.name world.views) (found new.name other.views)) AreNew (free new.name world.views) (free new.name other.views) _ _
+        bind (Neither (found new.name world.views) (found new.name other.views)) AreNew (free new.name world.views) (free new.name other.views) _ _
         (free_agree missed missed_other AlikeTables new.name world.views other.views alike.views) (λ p q unused.
-        bind missed missed_other (At (λ (a b : Fields). b ≡ a) (found new.schema world.records) (found new.schema other.records)) AreNew (known new.schema world.records) (known new.schema other.records) _ _
+        bind (At (λ (a b : Fields). b ≡ a) (found new.schema world.records) (found new.schema other.records)) AreNew (known new.schema world.records) (known new.schema other.records) _ _
         (known_agree missed missed_other (λ (a b : Fields). b ≡ a) new.schema world.records other.records alike.records) (λ fields others at.
-        bind missed missed_other Both AreNew (nameless world.mappings new.term) (nameless other.mappings changed) _ _
+        bind Both AreNew (nameless world.mappings new.term) (nameless other.mappings changed) _ _
         (names_agree missed missed_other world.mappings other.mappings new.term changed (found_misses (found new.schema world.records) fields (nameless world.mappings new.term) at.first)
         (found_misses (found new.schema other.records) others (nameless other.mappings changed) at.second))
         (λ whole whole_other r.
-        bind missed missed_other Both AreNew (room world.views) (room other.views) _ _ (room_agree missed missed_other) (λ space space_other s.
-        before missed missed_other AreNew (shaped new.words) _ _ (λ ranked. go _ _ (record { fields = at.alike; mode = refl }, unused))))))
+        bind Both AreNew (room world.views) (room other.views) _ _ (room_agree missed missed_other) (λ space space_other s.
+        before AreNew (shaped new.words) _ _ (λ ranked. go _ _ (record { fields = at.alike; mode = refl }, unused))))))
 
     -- tables that are alike where the line that adds them makes both wide
     abbrev AlikeAdded : Table → Table → Type 0
@@ -194,23 +194,23 @@ module _ (world other : World) (alike : AlikeWorlds world other) where
     pub view_agree : Agree missed missed_other AlikeMade (view world new) (view other under)
     unfolding view new_table
     view_agree =
-        bind missed missed_other AlikeAdded AlikeMade (new_table world new) (new_table other under) _ _
-        (bind missed missed_other AreNew AlikeAdded (named world new) (named other under) _ _ named_agree (λ whole whole_other is.
-        before missed missed_other AlikeAdded (resolved new.words None) _ _ (λ extents.
-        weaker missed missed_other AlikeIfWide AlikeAdded _ _
+        bind AlikeAdded AlikeMade (new_table world new) (new_table other under) _ _
+        (bind AreNew AlikeAdded (named world new) (named other under) _ _ named_agree (λ whole whole_other is.
+        before AlikeAdded (resolved new.words None) _ _ (λ extents.
+        weaker AlikeIfWide AlikeAdded _ _
         (made_agree missed missed_other AlikeIfWide world.views other.views whole whole_other extents is.0 (zeros_alike whole.mode whole.fields extents whole.mapping whole_other.mapping))
         (added_alike whole whole_other is))))
         made_alike
 
-    pub load_agree : (file : List ℕ) (files : List File) (unread : Bool) → Agree missed missed_other AlikeMade (load world new file files unread) (load other under file files unread)
+    pub load_agree : (file : List ℕ) (files : List File) (unread : Bool) → EndAlike missed missed_other AlikeMade (load world new file files unread) (load other under file files unread)
     unfolding load loaded_table
     load_agree file files unread =
-        bind missed missed_other AlikeAdded AlikeMade (loaded_table world new file files unread) (loaded_table other under file files unread) _ _
-        (bind missed missed_other AreNew AlikeAdded (named world new) (named other under) _ _ named_agree (λ whole whole_other is.
-        before missed missed_other AlikeAdded (read files unread file) _ _ (λ bytes.
-        weaker missed missed_other AlikeIfWide AlikeAdded _ _ (loaded_agree missed missed_other world.views other.views whole whole_other new.words bytes is.0)
-        (added_alike whole whole_other is))))
-        made_alike
+        bind AlikeAdded AlikeMade (loaded_table world new file files unread) (loaded_table other under file files unread) _ _
+        (bind AreNew AlikeAdded (sure (named world new)) (sure (named other under)) _ _ (surely _ _ _ named_agree) (λ whole whole_other is.
+        before AlikeAdded (read files unread file) _ _ (λ bytes.
+        surely _ _ _ (weaker AlikeIfWide AlikeAdded _ _ (loaded_agree missed missed_other world.views other.views whole whole_other new.words bytes is.0)
+        (added_alike whole whole_other is)))))
+        (λ a b same. surely _ _ _ (made_alike a b same))
 
   pub relayout_agree : (name : List ℕ) (term changed : MapTerm)
       → Agree (is_some (found name world.views) && is_refused (nameless world.mappings term)) (is_some (found name other.views) && is_refused (nameless other.mappings changed))
@@ -220,14 +220,14 @@ module _ (world other : World) (alike : AlikeWorlds world other) where
       let R : Left → Left → Type 0 = AlikeLefts (MakesWide (Relayout name term)) (MakesWide (Relayout name changed)) in
       let m = is_some (found name world.views) && is_refused (nameless world.mappings term) in
       let o = is_some (found name other.views) && is_refused (nameless other.mappings changed) in
-      bind m o (At AlikeTables (found name world.views) (found name other.views)) R (known name world.views) (known name other.views) _ _
+      bind (At AlikeTables (found name world.views) (found name other.views)) R (known name world.views) (known name other.views) _ _
       (known_agree m o AlikeTables name world.views other.views alike.views) (λ table table_other at.
-      bind m o Both R (nameless world.mappings term) (nameless other.mappings changed) _ _
+      bind Both R (nameless world.mappings term) (nameless other.mappings changed) _ _
       (names_agree m o world.mappings other.mappings term changed (found_misses (found name world.views) table (nameless world.mappings term) at.first)
       (found_misses (found name other.views) table_other (nameless other.mappings changed) at.second))
       (λ whole whole_other q.
-      bind m o AlikeIfWide R (laid_anew world.views table whole) (laid_anew other.views table_other whole_other) _ _
-      (both_told m o (λ (t : Table). t ≡ anew_of table whole) (λ (t : Table). t ≡ anew_of table_other whole_other) AlikeIfWide
+      bind AlikeIfWide R (laid_anew world.views table whole) (laid_anew other.views table_other whole_other) _ _
+      (both_told (λ (t : Table). t ≡ anew_of table whole) (λ (t : Table). t ≡ anew_of table_other whole_other) AlikeIfWide
       (laid_anew world.views table whole) (laid_anew other.views table_other whole_other) (anew_told m world.views table whole) (anew_told o other.views table_other whole_other)
       (of_both AlikeIfWide (anew_of table whole) (anew_of table_other whole_other) (anew_alike table table_other whole whole_other at.alike)))
       (λ a b same. go _ _ (record {

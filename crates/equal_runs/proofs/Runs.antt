@@ -1,21 +1,23 @@
 -- The runs of scripts that differ in their mapping expressions alone.
-use Rattle.equal_runs.proofs.Imports.{◌≡◌, ℕ, Bool, false, List, [], ◌∷◌, Option, refl, sym, ap, subst, ◌∙◌, list_any, or_parts, File, MapTerm, Sentence, Version, World, empty, Outcome, Left, step, Output, run_from, after, fails_at, prepend, with_term, AgreeButTerms, shows_layout, IsLine, AreLines, misses_mapping, ends_after, ends_by_layout, MakesWide, HoldsOf, StaysWide, DoesLines, EqualRuns}
+use Rattle.equal_runs.proofs.Imports.{◌≡◌, ℕ, Bool, false, List, [], ◌∷◌, Option, refl, sym, ap, subst, ◌∙◌, list_any, or_parts, File, MapTerm, Sentence, Version, World, empty, Outcome, Left, step, Output, run_from, after, fails_at, prepend, with_term, AgreeButTerms, shows_layout, IsLine, AreLines, misses_mapping, ends_after, ends_by_layout, MakesWide, HoldsOf, StaysWide, DoesLines, EqualRuns, Fault, Unread}
 use Rattle.std.proofs.Common.{◌+◌}
-use Rattle.equal_runs.proofs.Agreeing.{Agree, go, fault, unread as not_read, first, second}
+use Rattle.equal_runs.proofs.Agreeing.{go, fault, first, second, EndAlike}
 use Rattle.equal_runs.proofs.Entries.{none as no_entries}
 use Rattle.equal_runs.proofs.Steps.{step_agree}
 use Rattle.equal_runs.proofs.Tables.{AlikeWorlds, AlikeLefts}
 
 -- after outcomes that agree, and of which none ends by a fault of how tables lie, runs go on alike; of the worlds that are left `P` and `Q` hold
 after_alike : (m o : Bool) (M N : World → Type 0) (number : ℕ) (x y : Outcome Left) (ends others : World → Bool) (P Q : World → Type 0) (rest later : World → Output)
-    → Agree m o (AlikeLefts M N) x y → ends_after m x ends ≡ false → ends_after o y others ≡ false → HoldsOf x P → HoldsOf y Q
+    → EndAlike m o (AlikeLefts M N) x y → ends_after m x ends ≡ false → ends_after o y others ≡ false → HoldsOf x P → HoldsOf y Q
     → ((a b : Left) → AlikeLefts M N a b → ends a.held ≡ false → others b.held ≡ false → P a.held → Q b.held → rest a.held ≡ later b.held) → after number x rest ≡ after number y later
 after_alike m o M N number x y ends others P Q rest later (go a b alike) holds also p q next =
     ap (λ (text : List ℕ). prepend text (rest a.held)) (sym alike.text) ∙ ap (prepend b.text) (next a b alike holds also p q)
-after_alike m o M N number x y ends others P Q rest later (fault f) holds also p q next = refl
-after_alike m o M N number x y ends others P Q rest later (not_read name) holds also p q next = refl
-after_alike m o M N number x y ends others P Q rest later (first f z is) holds also p q next = absurd (cc)
-after_alike m o M N number x y ends others P Q rest later (second z f is) holds also p q next = absurd (cc)
+after_alike m o M N number x y ends others P Q rest later (fault (Fault f)) holds also p q next = refl
+after_alike m o M N number x y ends others P Q rest later (fault (Unread name)) holds also p q next = refl
+after_alike m o M N number x y ends others P Q rest later (first (Fault f) z is) holds also p q next = absurd (cc)
+after_alike m o M N number x y ends others P Q rest later (first (Unread name) z is) holds also p q next = absurd (cc)
+after_alike m o M N number x y ends others P Q rest later (second z (Fault f) is) holds also p q next = absurd (cc)
+after_alike m o M N number x y ends others P Q rest later (second z (Unread name) is) holds also p q next = absurd (cc)
 
 -- texts that are lines, and other texts that are the same lines but for their mapping expressions
 data Pairs (version : Version) : List (List ℕ) → List Sentence → List (List ℕ) → List Sentence → Type 0 where

@@ -1,5 +1,5 @@
 -- What a run shows of its accesses.
-use Rattle.equal_runs.proofs.Imports.{◌≡◌, ℕ, Bool, List, [], ◌∷◌, ◌++◌, length, Option, Some, None, refl, sym, ap, subst, ◌∙◌, arith, append_assoc, IfSome, File, Owner, texts_of, Sentence, Version, LeafCounts, HeatCounts, counts_text, heat_text, AreEntries, AreCounts, AreHeat, Access, Tally, tallied, no_tally, Table, owners_of, leaf_count_of, World, found, Done, done_to, on_view, Outcome, LeftOf, Left, known, some_or, counts, heat, step, NotCounted, run_from, after, prepend, fails_at, Output, AreLines, DoesLines, SoFar, at_first, one_more, logs_after, Comes, there, further, log_of, ShowsCounts, ShowsHeat, ShowsEntries, tally_since, IfGoes, to, bind, behind, gone, known_found}
+use Rattle.equal_runs.proofs.Imports.{◌≡◌, ℕ, Bool, List, [], ◌∷◌, ◌++◌, length, Option, Some, None, refl, sym, ap, subst, ◌∙◌, arith, append_assoc, IfSome, File, Owner, texts_of, Sentence, Version, LeafCounts, HeatCounts, counts_text, heat_text, AreEntries, AreCounts, AreHeat, Access, Tally, tallied, no_tally, Table, owners_of, leaf_count_of, World, found, Done, done_to, on_view, Outcome, LeftOf, Left, known, some_or, counts, heat, step, NotCounted, run_from, after, prepend, fails_at, Output, AreLines, DoesLines, SoFar, at_first, one_more, logs_after, Comes, there, further, log_of, ShowsCounts, ShowsHeat, ShowsEntries, tally_since, IfGoes, to, bind, behind, gone, known_found, Told, Shows, does, surely}
 use Rattle.std.proofs.Common.{◌+◌}
 use Rattle.map_expr.specs.Terms.{Term}
 use Rattle.equal_runs.proofs.Entries.{none}
@@ -52,20 +52,22 @@ module _ (told : AreTold) (files : List File) (unread : Option ℕ) (lines : Lis
   abbrev CountsTold : Table → List ℕ → Type 0
   CountsTold table text = (numbers : LeafCounts) × (table.tally.counts ≡ Some numbers) × (text ≡ counts_text (texts_of table.fields) numbers)
 
-  counts_told : (table : Table) → IfGoes (λ (new : LeftOf Table). CountsTold table new.text) (done_to table (counts table))
+  counts_told : (table : Table) → IfGoes (λ (new : LeftOf Table). CountsTold table new.text) (done_to table (does (Shows counts) table))
   unfolding counts
   counts_told table =
-      behind (λ (new : LeftOf Table). CountsTold table new.text) (λ (done : Done). CountsTold table done.text) (counts table) _
-      (bind (λ (done : Done). CountsTold table done.text) (some_or NotCounted table.tally.counts) _ (λ numbers is. to _ (numbers, known_found _ table.tally.counts numbers is, refl)))
+      behind (λ (new : LeftOf Table). CountsTold table new.text) (λ (done : Done). CountsTold table done.text) (does (Shows counts) table) _
+      (behind (λ (done : Done). CountsTold table done.text) (λ (told : Told). CountsTold table told.text) (counts table) _
+      (bind (λ (told : Told). CountsTold table told.text) (some_or NotCounted table.tally.counts) _ (λ numbers is. to _ (numbers, known_found _ table.tally.counts numbers is, refl)))
+      (λ told is. to _ is))
       (λ done is. to _ is)
 
-  pub shows_counts : IfGoes (λ (left : Left). ShowsCounts now name left.text) (on_view now.world name counts)
+  pub shows_counts : IfGoes (λ (left : Left). ShowsCounts now name left.text) (on_view now.world name (does (Shows counts)))
   unfolding on_view
   shows_counts =
       let P : Left → Type 0 = λ left. ShowsCounts now name left.text in
       bind P (known name now.world.views) _ (λ table t.
       let t_is : found name now.world.views ≡ Some table = known_found _ (found name now.world.views) table t in
-      behind P (λ (new : LeftOf Table). CountsTold table new.text) (done_to table (counts table)) _ (counts_told table) (λ new told_of.
+      behind P (λ (new : LeftOf Table). CountsTold table new.text) (done_to table (does (Shows counts) table)) _ (counts_told table) (λ new told_of.
       to _ (record {
         table = table;
         is = t_is;
@@ -79,20 +81,22 @@ module _ (told : AreTold) (files : List File) (unread : Option ℕ) (lines : Lis
   abbrev HeatTold : Table → List ℕ → Type 0
   HeatTold table text = (numbers : HeatCounts) × (table.tally.heat ≡ Some numbers) × (text ≡ heat_text numbers)
 
-  heat_told : (table : Table) → IfGoes (λ (new : LeftOf Table). HeatTold table new.text) (done_to table (heat table))
+  heat_told : (table : Table) → IfGoes (λ (new : LeftOf Table). HeatTold table new.text) (done_to table (does (Shows heat) table))
   unfolding heat
   heat_told table =
-      behind (λ (new : LeftOf Table). HeatTold table new.text) (λ (done : Done). HeatTold table done.text) (heat table) _
-      (bind (λ (done : Done). HeatTold table done.text) (some_or NotCounted table.tally.heat) _ (λ numbers is. to _ (numbers, known_found _ table.tally.heat numbers is, refl)))
+      behind (λ (new : LeftOf Table). HeatTold table new.text) (λ (done : Done). HeatTold table done.text) (does (Shows heat) table) _
+      (behind (λ (done : Done). HeatTold table done.text) (λ (told : Told). HeatTold table told.text) (heat table) _
+      (bind (λ (told : Told). HeatTold table told.text) (some_or NotCounted table.tally.heat) _ (λ numbers is. to _ (numbers, known_found _ table.tally.heat numbers is, refl)))
+      (λ told is. to _ is))
       (λ done is. to _ is)
 
-  pub shows_heat : IfGoes (λ (left : Left). ShowsHeat now name left.text) (on_view now.world name heat)
+  pub shows_heat : IfGoes (λ (left : Left). ShowsHeat now name left.text) (on_view now.world name (does (Shows heat)))
   unfolding on_view
   shows_heat =
       let P : Left → Type 0 = λ left. ShowsHeat now name left.text in
       bind P (known name now.world.views) _ (λ table t.
       let t_is : found name now.world.views ≡ Some table = known_found _ (found name now.world.views) table t in
-      behind P (λ (new : LeftOf Table). HeatTold table new.text) (done_to table (heat table)) _ (heat_told table) (λ new told_of.
+      behind P (λ (new : LeftOf Table). HeatTold table new.text) (done_to table (does (Shows heat) table)) _ (heat_told table) (λ new told_of.
       to _ (record {
         table = table;
         is = t_is;
@@ -106,8 +110,8 @@ pub shows_entries : AreTold → (version : Version) (files : List File) (outcome
 unfolding step
 shows_entries told version files outcome does = record {
   runs = λ texts more lines unread now are comes. comes_on version files outcome does unread 1 at_first now lines comes texts more are ∙ ap (λ (n : ℕ). prepend now.text (run_from outcome n now.world more unread)) (order (length lines));
-  counts = λ lines unread now name fails left comes is. gone _ _ left (shows_counts told files unread lines now comes name) is;
-  heat = λ lines unread now name fails left comes is. gone _ _ left (shows_heat told files unread lines now comes name) is;
+  counts = λ lines unread now name fails left comes is. gone _ _ left (surely _ _ (shows_counts told files unread lines now comes name)) is;
+  heat = λ lines unread now name fails left comes is. gone _ _ left (surely _ _ (shows_heat told files unread lines now comes name)) is;
 } where
   order : (n : ℕ) → 1 + n ≡ n + 1
   order n = omega arith

@@ -2,14 +2,15 @@
 use Rattle.equal_runs.proofs.Imports.{◌≡◌, ℕ, zero, suc, Bool, ℤ, List, [], ◌∷◌, Result, Ok, sym, ap, subst, StoreAnswer, Keeping, kept_by, StoreFault, Stencil, stencil_value, at_row, values_fault, with_entries, new_entry, if_fits, round, next_round, after_rounds, StencilFault}
 use Rattle.subviews.specs.SubViews.{rows_of}
 use Rattle.subviews.specs.Stencils.{first_round_fault}
-use Rattle.equal_runs.proofs.Answers.{Answers, both, fails, equal, first, second, is_narrow}
+use Rattle.equal_runs.proofs.Answers.{Answers, equal, is_narrow}
+use Rattle.equal_runs.proofs.Agreeing.{go, fault as fails, first, second}
 
 abbrev pub is_narrow_stencil : StencilFault → Bool
 is_narrow_stencil fault = is_narrow fault.fault
 
 row_answers : {Alike : Type 0} (row : ℕ) (x y : Result ℤ StoreFault) (u v : Result Unit StencilFault) → Answers is_narrow Alike x y → Answers is_narrow_stencil Alike u v
     → Answers is_narrow_stencil Alike (at_row row x u) (at_row row y v)
-row_answers row x y u v (both a b same) later = later
+row_answers row x y u v (go a b same) later = later
 row_answers row x y u v (fails e) later = fails (record { row = row; fault = e })
 row_answers row x y u v (first e z is) later = first (record { row = row; fault = e }) (at_row row z v) is
 row_answers row x y u v (second z e is) later = second (at_row row z u) (record { row = row; fault = e }) is
@@ -21,7 +22,7 @@ rows_answers x y alike (row ∷ rows) = row_answers row (x row) (y row) (first_r
 
 fits_answers : {Alike : Type 0} (x y : Result Unit StencilFault) (rows others : List (List ℤ)) → Answers is_narrow_stencil Alike x y → others ≡ rows
     → Answers is_narrow_stencil Alike (if_fits x rows) (if_fits y others)
-fits_answers x y rows others (both a b same) is = both rows others (λ alike. is)
+fits_answers x y rows others (go a b same) is = go rows others (λ alike. is)
 fits_answers x y rows others (fails e) is = fails e
 fits_answers x y rows others (first e z told) is = first e (if_fits z others) told
 fits_answers x y rows others (second z e told) is = second (if_fits z rows) e told
@@ -37,7 +38,7 @@ module _ (answer other : StoreAnswer) (alike : (leaf : ℕ) (value : ℤ) → An
       (ap (λ (keep : Keeping). with_entries stencil.leaf (λ row. keep stencil.leaf (stencil_value stencil rows row)) (rows_of stencil.window) rows) same)
 
   next_answers : (x y : Result (List (List ℤ)) StencilFault) → Answers is_narrow_stencil (Unit {0}) x y → Answers is_narrow_stencil (Unit {0}) (next_round answer stencil x) (next_round other stencil y)
-  next_answers x y (both rows others is) = subst (λ (r : List (List ℤ)). Answers is_narrow_stencil (Unit {0}) (round answer stencil rows) (round other stencil r)) (sym (is tt)) (round_answers rows)
+  next_answers x y (go rows others is) = subst (λ (r : List (List ℤ)). Answers is_narrow_stencil (Unit {0}) (round answer stencil rows) (round other stencil r)) (sym (is tt)) (round_answers rows)
   next_answers x y (fails e) = fails e
   next_answers x y (first e z is) = first e (next_round other stencil z) is
   next_answers x y (second z e is) = second (next_round answer stencil z) e is

@@ -4,7 +4,8 @@ use Rattle.std.specs.Prelude.{◌++◌, slice_index_or}
 use Rattle.views.specs.declared.fault.StoreFault.TheVariants as store
 use Rattle.row_updates.specs.Rows.{◌>>=◌}
 use Rattle.row_updates.specs.declared.fault.UpdateKind.TheVariants.{Narrow}
-use Rattle.equal_runs.proofs.Answers.{Answers, both, fails, equal, first, second, is_narrow}
+use Rattle.equal_runs.proofs.Agreeing.{go, fault as fails, first, second}
+use Rattle.equal_runs.proofs.Answers.{Answers, equal, is_narrow}
 
 abbrev pub is_narrow_kind : UpdateKind → Bool
 is_narrow_kind (Narrow leaf) = true
@@ -16,7 +17,7 @@ is_narrow_update fault = is_narrow_kind fault.kind
 -- one thing after another, and one thing before both
 bind : {A B Alike : Type 0} (x y : Result A UpdateFault) (f g : A → Result B UpdateFault) → Answers is_narrow_update Alike x y
     → ((a b : A) → (Alike → b ≡ a) → Answers is_narrow_update Alike (f a) (g b)) → Answers is_narrow_update Alike (x >>= f) (y >>= g)
-bind x y f g (both a b same) next = next a b same
+bind x y f g (go a b same) next = next a b same
 bind x y f g (fails e) next = fails e
 bind x y f g (first e z is) next = first e (z >>= g) is
 bind x y f g (second z e is) next = second (z >>= f) e is
@@ -31,7 +32,7 @@ each_answers step other alike [] = equal (Ok [])
 each_answers {A} {B} step other alike (x ∷ xs) =
     bind (step x) (other x) (λ y. each step xs >>= (λ ys. Ok (y ∷ ys))) (λ y. each other xs >>= (λ ys. Ok (y ∷ ys))) (alike x)
     (λ y z same. bind (each step xs) (each other xs) (λ ys. Ok (y ∷ ys)) (λ ys. Ok (z ∷ ys)) (each_answers step other alike xs)
-    (λ ys zs rest. both (y ∷ ys) (z ∷ zs) (λ holds. ap (λ (v : B). v ∷ zs) (same holds) ∙ ap (λ (vs : List B). y ∷ vs) (rest holds))))
+    (λ ys zs rest. go (y ∷ ys) (z ∷ zs) (λ holds. ap (λ (v : B). v ∷ zs) (same holds) ∙ ap (λ (vs : List B). y ∷ vs) (rest holds))))
 
 narrow_kind : (leaf : ℕ) (e : StoreFault) → is_narrow e ≡ true → is_narrow_kind (store_kind leaf e) ≡ true
 narrow_kind leaf store.Range is = is
@@ -39,7 +40,7 @@ narrow_kind leaf store.Narrow is = refl
 
 in_row_answers : {Alike : Type 0} (number leaf : ℕ) (x y : Result ℤ StoreFault) → Answers is_narrow Alike x y
     → Answers is_narrow_update Alike (in_row number (store_kind leaf) x) (in_row number (store_kind leaf) y)
-in_row_answers number leaf x y (both a b same) = both a b same
+in_row_answers number leaf x y (go a b same) = go a b same
 in_row_answers number leaf x y (fails e) = fails (record { row = number; kind = store_kind leaf e })
 in_row_answers number leaf x y (first e z is) = first (record { row = number; kind = store_kind leaf e }) (in_row number (store_kind leaf) z) (narrow_kind leaf e is)
 in_row_answers number leaf x y (second z e is) = second (in_row number (store_kind leaf) z) (record { row = number; kind = store_kind leaf e }) (narrow_kind leaf e is)
@@ -70,7 +71,7 @@ module _ {Alike : Type 0} (keep : Keeping) (answer other : StoreAnswer) (alike :
       of_test true =
           bind (each (new_value answer number row index) sets) (each (new_value other number row index) sets) (λ values. Ok (with_values keep sets values row)) (λ values. Ok (with_values keep sets values row))
           (each_answers (new_value answer number row index) (new_value other number row index) (new_value_answers number row index) sets)
-          (λ values others same. both (with_values keep sets values row) (with_values keep sets others row) (λ holds. ap (λ (found : List ℤ). with_values keep sets found row) (same holds)))
+          (λ values others same. go (with_values keep sets values row) (with_values keep sets others row) (λ holds. ap (λ (found : List ℤ). with_values keep sets found row) (same holds)))
 
   pub rows_answers : (filter : Option (Term ℕ)) (sets : List Setting) (extents : List ℕ) (rows : List (List ℤ)) (count : ℕ)
       → Answers is_narrow_update Alike (updated_rows answer keep filter sets extents rows count) (updated_rows other keep filter sets extents rows count)

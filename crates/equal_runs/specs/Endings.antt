@@ -1,9 +1,9 @@
 -- The runs that end with a fault of how their tables lie.
-use Rattle.std.specs.Prelude.{ℕ, ◌+◌, ◌&&◌, Bool, true, false, is_some, List, [], ◌∷◌, Option}
+use Rattle.std.specs.Prelude.{ℕ, ◌+◌, ◌&&◌, Bool, true, false, is_some, List, [], ◌∷◌, Option, Ok, Err}
 use Rattle.layout_io.specs.Files.{File}
 use Rattle.line_grammar.specs.Sentences.{Sentence, Mapping, View, Load, Relayout, Advise}
 use Rattle.worlds.specs.Worlds.{World, found}
-use Rattle.worlds.specs.Outcomes.{Outcome, Goes, Faults, CannotRead, each, Left}
+use Rattle.worlds.specs.Outcomes.{Tested, Outcome, Fault, Unread, each, Left}
 use Rattle.worlds.specs.Names.{nameless}
 use Rattle.worlds.specs.Step.{step}
 use Rattle.worlds.specs.declared.fault.CommandFault.{CommandFault}
@@ -12,8 +12,8 @@ use Rattle.worlds.specs.declared.fault.UnknownName.TheVariants.{Name}
 use Rattle.worlds.specs.Fold.{fails_at}
 
 -- it does not go
-abbrev pub is_refused : {A : Type 0} → Outcome A → Bool
-is_refused (Goes x) = false
+abbrev pub is_refused : {A : Type 0} → Tested A → Bool
+is_refused (Ok x) = false
 is_refused _ = true
 
 -- some name in the mapping expressions of a line names no mapping, and the name before them, of a record or a view, is known
@@ -36,9 +36,9 @@ is_of_layout misses _ = false
 
 -- what becomes of a run after the outcome of a line: such a fault ends it, or what comes later does
 abbrev pub ends_after : Bool → Outcome Left → (World → Bool) → Bool
-ends_after misses (Goes left) rest = rest left.held
-ends_after misses (Faults fault) rest = is_of_layout misses fault
-ends_after misses (CannotRead name) rest = false
+ends_after misses (Ok left) rest = rest left.held
+ends_after misses (Err (Fault fault)) rest = is_of_layout misses fault
+ends_after misses (Err (Unread name)) rest = false
 
 -- the run over these lines, the first of which has this number, ends with a fault of how tables lie
 abbrev pub ends_by_layout : List File → ℕ → World → List Sentence → Option ℕ → Bool

@@ -1,13 +1,13 @@
 -- The accesses to each view of a run since it was made.
-use Rattle.std.specs.Prelude.{ℕ, ◌+◌, ◌≡◌, List, [], ◌∷◌, ◌++◌, length, Option, Some, None}
+use Rattle.std.specs.Prelude.{ℕ, ◌+◌, ◌≡◌, List, [], ◌∷◌, ◌++◌, length, Option, Some, None, Ok}
 use Rattle.layout_io.specs.Files.{File}
 use Rattle.extents.specs.Indices.{indices}
 use Rattle.line_grammar.specs.Sentences.{Sentence, View, Load, Copy, Relayout, Drop, Open}
 use Rattle.views.specs.Tallies.{Access, all_accesses, Read, Write}
 use Rattle.views.specs.Tables.{Table, leaf_count_of}
 use Rattle.worlds.specs.Worlds.{World, Entry, empty, found, added, replaced, removed}
-use Rattle.worlds.specs.OnView.{Done, Work}
-use Rattle.worlds.specs.Outcomes.{Outcome, Goes, ◌>>=◌, Left, known}
+use Rattle.worlds.specs.OnView.{Done, OnView, does}
+use Rattle.worlds.specs.Outcomes.{Tested, Goes, ◌>>=◌, Left, known}
 use Rattle.worlds.specs.Step.{step, work_of}
 use Rattle.worlds.specs.Fold.{fails_at}
 
@@ -34,13 +34,13 @@ fills_of None = []
 fills_of (Some table) = all_accesses Write (leaf_count_of table) (length (indices table.extents))
 
 -- the accesses of what was done to a table
-abbrev pub done_log : Outcome Done → List Access
-done_log (Goes done) = done.log
+abbrev pub done_log : Tested Done → List Access
+done_log (Ok done) = done.log
 done_log _ = []
 
-abbrev pub work_logs : World → Option Work → List (Entry (List Access)) → List (Entry (List Access))
+abbrev pub work_logs : World → Option OnView → List (Entry (List Access)) → List (Entry (List Access))
 work_logs world None logs = logs
-work_logs world (Some work) logs = logged work.view (done_log (known work.view world.views >>= work.does)) logs
+work_logs world (Some line) logs = logged line.view (done_log (known line.view world.views >>= does line.work)) logs
 
 -- the accesses to each view after a line that takes one world to the next: a new view has none, that of a dataset and that of a blob file
 -- have one write of each value, and one that is laid out anew begins with one write of each

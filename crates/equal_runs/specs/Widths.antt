@@ -1,10 +1,10 @@
 -- The runs in which each line that lays a table out gives it room for all bits of each value, where it keeps low bits.
-use Rattle.std.specs.Prelude.{ℕ, ◌+◌, ⊤, List, [], ◌∷◌, Option, IfSome}
+use Rattle.std.specs.Prelude.{ℕ, ◌+◌, ⊤, List, [], ◌∷◌, Option, IfSome, Ok}
 use Rattle.layout_io.specs.Files.{File}
 use Rattle.line_grammar.specs.Sentences.{Sentence, View, Load, Relayout}
 use Rattle.views.specs.Tables.{IsWide}
 use Rattle.worlds.specs.Worlds.{World, found}
-use Rattle.worlds.specs.Outcomes.{Outcome, Goes, Left}
+use Rattle.worlds.specs.Outcomes.{Outcome, Left}
 use Rattle.worlds.specs.Step.{step}
 use Rattle.worlds.specs.Fold.{fails_at}
 
@@ -17,7 +17,7 @@ MakesWide line next = ⊤
 
 -- it holds of the world that a line leaves, where the line goes
 abbrev pub HoldsOf : Outcome Left → (World → Type 0) → Type 0
-HoldsOf (Goes left) P = P left.held
+HoldsOf (Ok left) P = P left.held
 HoldsOf _ P = ⊤
 
 -- each such table of the run over these lines is so, the first of which has this number

@@ -1,5 +1,5 @@
 -- The run over the generated script reads no file that is not there, so it ends as a run that reads nothing.
-use Rattle.layout_cli.proofs.Imports.{◌≡◌, ℕ, ◌+◌, ◌≤◌, Bool, true, false, inl, ⊎_elim, List, [], ◌∷◌, get_or, drop, length, Option, None, Some, Result, Ok, Err, refl, sym, ap, subst, ◌∙◌, arith, lit≤, if◌then◌else◌, AllByRecursion, Rose, File, Sentence, deepest, line_of, World, empty, Outcome, Goes, Faults, CannotRead, Left, LineTooLong, TooDeep, ScriptTooLong, Output, End, Unread, Gives, IsText, run_from, after, Answers, IsRun, HasCause, HasSinkCause, Status, Done, CommandFault, Usage, SourceFault, SinkFault, NoMemory, script_text, dataset_text, generated_lines, generated_files, One, step_text, step_line, run_form, run_headed, script_lines, version_line, faulted, run, run_file, run_words, run_generated, script_name, gen_words, said_first}
+use Rattle.layout_cli.proofs.Imports.{◌≡◌, ℕ, ◌+◌, ◌≤◌, Bool, true, false, inl, ⊎_elim, List, [], ◌∷◌, get_or, drop, length, Option, None, Some, Result, Ok, Err, refl, sym, ap, subst, ◌∙◌, arith, lit≤, if◌then◌else◌, AllByRecursion, Rose, File, Sentence, deepest, line_of, World, empty, Outcome, Refusal, NotRead, Left, LineTooLong, TooDeep, ScriptTooLong, Output, End, Unread, Gives, IsText, run_from, after, Answers, IsRun, HasCause, HasSinkCause, Status, Done, CommandFault, Usage, SourceFault, SinkFault, NoMemory, script_text, dataset_text, generated_lines, generated_files, One, step_text, step_line, run_form, run_headed, script_lines, version_line, faulted, run, run_file, run_words, run_generated, script_name, gen_words, said_first}
 use Rattle.std.specs.Prelude.{nat_lt}
 use Rattle.layout_cli.proofs.ScriptLines.{script_lines_are}
 use Rattle.layout_cli.proofs.FileLines.{ReadsDataset, lines_read}
@@ -16,9 +16,9 @@ run_reads outcome [] reads number world unread = unread
 run_reads outcome (text ∷ lines) reads number world unread =
     of_outcome (λ next. run_reads outcome lines reads.1 (number + 1) next) (outcome world text false) (reads.0 world) unread where
       of_outcome : ((next : World) → IsUnread (run_from outcome (number + 1) next lines None).end → ⊥) → (o : Outcome Left) → IsReadable o → IsUnread (after number o (λ next. run_from outcome (number + 1) next lines None)).end → ⊥
-      of_outcome below (Goes _) (goes left) unread = below left.held unread
-      of_outcome below (Faults _) (faults fault) unread = unread
-      of_outcome below (CannotRead _) is unread = elim is [ ]
+      of_outcome below (Ok _) (goes left) unread = below left.held unread
+      of_outcome below (Err (Refusal _)) (faults fault) unread = unread
+      of_outcome below (Err (NotRead _)) is unread = elim is [ ]
 
 -- a line that reads the dataset, if a file
 text_reads : (dataset text : List ℕ) → ReadsDataset dataset text → (world : World) → IsReadable (step_text One (generated_files dataset) world text false)

@@ -1,5 +1,5 @@
 -- From the run of a script that was read to the run of the words that name it.
-use Rattle.layout_cli.proofs.Imports.{◌≡◌, ℕ, ◌+◌, ◌≤◌, ◌^◌, inl, Bool, true, false, ltb, List, [], ◌∷◌, length, Option, None, Some, refl, sym, ap, subst, ◌∙◌, arith, rules, tests, if◌then◌else◌, IsSomeAnd, nat_tests, File, file_named, HasFile, with_bytes-nil, World, empty, Outcome, Goes, Faults, CannotRead, Left, ScriptTooLong, Output, End, Unread, Gives, IsRun, HasCause, run_from, after, fails_at, Status, Done, CommandFault, Usage, SourceFault, SinkFault, NoMemory, Version, step_text, run_form, run_headed, run_versioned, faulted, script_lines, version_line, version_said, without_version, run_file, run_script, IsSame, run_of_same}
+use Rattle.layout_cli.proofs.Imports.{◌≡◌, ℕ, ◌+◌, ◌≤◌, ◌^◌, inl, Bool, true, false, ltb, List, [], ◌∷◌, length, Option, None, Some, refl, sym, ap, subst, ◌∙◌, arith, rules, tests, if◌then◌else◌, IsSomeAnd, nat_tests, File, file_named, HasFile, with_bytes-nil, World, empty, Outcome, Ok, Err, Refusal, NotRead, Left, ScriptTooLong, Output, End, Unread, Gives, IsRun, HasCause, run_from, after, fails_at, Status, Done, CommandFault, Usage, SourceFault, SinkFault, NoMemory, Version, step_text, run_form, run_headed, run_versioned, faulted, script_lines, version_line, version_said, without_version, run_file, run_script, IsSame, run_of_same}
 
 -- nothing was taken, and there was no memory
 pub run_starved : {K : Type 0} (taken : K → Option (List ℕ)) (old : K) (run : Option ℕ → Output) (read_failed : Type 0) → IsRun taken old old run read_failed NoMemory
@@ -26,9 +26,9 @@ unread_later : (outcome : World → List ℕ → Bool → Outcome Left) (number 
 unread_later outcome number world [] unread line is = absurd (cc)
 unread_later outcome number world (text ∷ lines) unread line is = of_outcome (λ next. unread_later outcome (number + 1) next lines unread line) (outcome world text (fails_at unread number)) is where
   of_outcome : ((next : World) → (run_from outcome (number + 1) next lines unread).end ≡ Unread line → number + 1 ≤ line) → (o : Outcome Left) → (after number o (λ next. run_from outcome (number + 1) next lines unread)).end ≡ Unread line → number ≤ line
-  of_outcome below (Goes left) is = omega (arith, below left.held is)
-  of_outcome below (Faults fault) is = absurd (cc)
-  of_outcome below (CannotRead name) is = let here : number ≡ line = ap line_in is in omega (arith, here)
+  of_outcome below (Ok left) is = omega (arith, below left.held is)
+  of_outcome below (Err (Refusal fault)) is = absurd (cc)
+  of_outcome below (Err (NotRead name)) is = let here : number ≡ line = ap line_in is in omega (arith, here)
 
 -- the lines of a script have numbers from 1 on
 versioned_later : (said : Option Version) (head : Option (ℕ × ℕ)) (files : List File) (lines : List (List ℕ)) (line : ℕ) → (run_versioned said head files lines (Some line)).end ≡ Unread line → 1 ≤ line

@@ -21,7 +21,7 @@ pub use Rattle.piece_bits.specs.Tables.{hold_at, HasShape, with_entry, zeros}
 pub use Rattle.views.specs.Stores.{kept_by, store_answer, StoreAnswer, Keeping, kept_or, kept_row, kept_rows}
 pub use Rattle.views.specs.declared.fault.StoreFault.{StoreFault}
 pub use Rattle.row_updates.specs.Rows.{Setting, each, in_row, store_kind, value_of, passes, new_value, updated_row, with_values, updated_rows, updated_of, counted}
-pub use Rattle.worlds.specs.Outcomes.{◌>>=◌, Goes, free, quiet, refused_if, ok_or, LeftOf, Left, known, Outcome, shows, some_or, refused_by, Faults, CannotRead}
+pub use Rattle.worlds.specs.Outcomes.{◌>>=◌, Goes, free, quiet, refused_if, ok_or, LeftOf, Left, known, Outcome, shows, some_or, refused_by, Faults, CannotRead, sure, Tested}
 pub use Rattle.row_updates.specs.declared.fault.UpdateFault.{UpdateFault}
 pub use Rattle.row_updates.specs.declared.fault.UpdateKind.{UpdateKind}
 pub use Rattle.lane_kernels.specs.Kernels.{Store, stored, with_store, run_rows, answer_fault, kernel_store_fault, first_row_fault, empty_fault, kernel_fault}
@@ -85,7 +85,7 @@ pub use Rattle.views.specs.Tallies.{Tally, Write, all_accesses, no_tally, tallie
 pub use Rattle.blob_file.specs.Statements.{OpensFiles, HoldsRows, HoldsBits}
 pub use Rattle.blob_file.specs.declared.fault.FileFault.{FileFault}
 pub use Rattle.worlds.specs.Worlds.{World, found, Entry, replaced, same_name, added, removed}
-pub use Rattle.worlds.specs.OnView.{Done, tells, done_to, with_table, Work, worked}
+pub use Rattle.worlds.specs.OnView.{Done, tells, done_to, with_table, Work, worked, Told, Shows, left_as, does, OnView, content_of, Changes}
 unfoldable pub use Rattle.worlds.specs.OnView.{on_view}
 pub use Rattle.worlds.specs.Tables.{room, live_bits, blob_bits, resolved, made, zeros_of, shaped}
 pub use Rattle.worlds.specs.View.{with_view, named}
@@ -97,7 +97,7 @@ unfoldable pub use Rattle.worlds.specs.Files.{save, open_view, opened_table, ope
 pub use Rattle.worlds.specs.Step.{work_of}
 unfoldable pub use Rattle.worlds.specs.Step.{step}
 pub use Rattle.worlds.specs.declared.fault.CommandFault.{CommandFault}
-pub use Rattle.equal_runs.specs.GoesLaws.{known_found, gone, free_found, IfGoes, to, refused, unread, bind, behind}
+pub use Rattle.equal_runs.specs.GoesLaws.{known_found, gone, free_found, IfGoes, to, refused, bind, behind, surely}
 pub use Rattle.record_dim.specs.declared.leaf_type.LeafType.TheVariants.{Bool as Truth}
 pub use Rattle.record_dim.specs.LeafTypes.{IsIn, IsDeclared, is_signed, width_of}
 pub use Rattle.piece_bits.specs.TableLaws.{zeros_shape, zeros_entry}

@@ -1,9 +1,9 @@
 -- What a savable table saves is opened as the table.
-use Rattle.saved_runs.proofs.Imports.{◌≡◌, ℕ, ◌+◌, ◌*◌, ◌/◌, ◌^◌, ◌<◌, ◌≤◌, Bool, true, false, ℤ, List, [], ◌∷◌, ◌++◌, length, map, nat_lt, Option, Some, Result, Ok, inl, inr, refl, sym, ap, ◌∙◌, subst, length-append, arith, ◌||◌, is_some, sum_by, le-ltb, lt-leb, ltb-false, length-map, sum_by-cons, File, file_named, Owner, bit_held, image, bytes_of, length-bytes_of, indices, Open, Table, owners_of, leaf_count_of, Tally, Write, all_accesses, no_tally, tallied, Header, magic, four_bytes, record_text, view_text, header_text, IsShort, CanLie, Saved, opened, table_of_saved, rows_in, header_of, blobs_of, OpensFiles, HoldsRows, FileFault, World, found, Goes, free, quiet, refused_if, ok_or, Done, tells, room, live_bits, blob_bits, with_view, there, read, is_long, save, open_view, opened_table, opened_beside, bad_file, step, CommandFault, Taken, TooBig, TooManyViews, IsSavable, once_written, OpensAs}
+use Rattle.saved_runs.proofs.Imports.{◌≡◌, ℕ, ◌+◌, ◌*◌, ◌/◌, ◌^◌, ◌<◌, ◌≤◌, Bool, true, false, ℤ, List, [], ◌∷◌, ◌++◌, length, map, nat_lt, Option, Some, Result, Ok, inl, inr, refl, sym, ap, ◌∙◌, subst, length-append, arith, ◌||◌, is_some, sum_by, le-ltb, lt-leb, ltb-false, length-map, sum_by-cons, File, file_named, Owner, bit_held, image, bytes_of, length-bytes_of, indices, Open, Table, owners_of, leaf_count_of, Tally, Write, all_accesses, no_tally, tallied, Header, magic, four_bytes, record_text, view_text, header_text, IsShort, CanLie, Saved, opened, table_of_saved, rows_in, header_of, blobs_of, OpensFiles, HoldsRows, FileFault, World, found, free, quiet, refused_if, ok_or, tells, room, live_bits, blob_bits, with_view, there, read, is_long, save, open_view, opened_table, opened_beside, bad_file, step, CommandFault, Taken, TooBig, TooManyViews, IsSavable, once_written, OpensAs, sure, Told}
 use Rattle.layout_io.specs.Writing.{joined}
 use Rattle.blob_file.specs.Files as saved_file
 use Rattle.saved_runs.specs.SavedRuns.{HasRoom}
-use Rattle.saved_runs.proofs.Went.{went, leads, same_things, unrefused}
+use Rattle.saved_runs.proofs.Went.{went, leads, unrefused, same_given}
 
 -- ---- the file of a table
 
@@ -20,7 +20,7 @@ record WasSaved (table : Table) (text : List ℕ) : Type 0 where
   short : IsShort (header_of table)
   is : text ≡ saved_file.file_of (header_of table) (blobs_of table)
 
-was_saved : (table : Table) (done : Done) → save table ≡ Goes done → WasSaved table done.text
+was_saved : (table : Table) (done : Told) → save table ≡ Ok done → WasSaved table done.text
 unfolding save
 was_saved table done goes =
     let file : List ℕ = saved_file.file_of (header_of table) (blobs_of table) in
@@ -28,7 +28,7 @@ was_saved table done goes =
     let few = both_short (length (record_text (header_of table))) (length (view_text (header_of table))) (unrefused (is_long table) TooBig a.thing a.first) in
     record {
       short = record { of_record = few.0; of_view = few.1 };
-      is = ap (λ (d : Done). d.text) (sym (same_things (tells table file) done a.next));
+      is = ap (λ (d : Told). d.text) (sym (same_given (tells file) done a.next));
     }
 
 -- ---- a file is not too long to be opened
@@ -65,25 +65,25 @@ saved_length table short lies =
 
 -- ---- what is opened where there is room
 
-passes : (test : Bool) (fault : CommandFault) → test ≡ false → refused_if test fault ≡ Goes tt
+passes : (test : Bool) (fault : CommandFault) → test ≡ false → refused_if test fault ≡ Ok tt
 passes test fault is = ap (λ (t : Bool). refused_if t fault) is
 
 opens_there : (world : World) (name file : List ℕ) (files : List File) (bytes : List ℕ) (saved : Saved) → opened bytes ≡ Ok saved → length bytes ≤ 2 ^ 28 + 8206
-    → HasRoom world name (table_of_saved saved) → file_named files file ≡ Some bytes → step world (Open name file) files false ≡ quiet (with_view world name (table_of_saved saved))
+    → HasRoom world name (table_of_saved saved) → file_named files file ≡ Some bytes → step world (Open name file) files false ≡ sure (quiet (with_view world name (table_of_saved saved)))
 unfolding step open_view opened_table opened_beside
 opens_there world name file files bytes saved opens short has is =
     let table = table_of_saved saved in
     leads (opened_table world name file files false) _ table _
-    (leads (free name world.views) _ tt _ (passes (is_some (found name world.views)) (Taken name) (ap (λ (o : Option Table). is_some o) has.unused))
-    (leads (room world.views) _ tt _ (passes _ TooManyViews (lt-leb 64 (length world.views) has.few))
-    (leads (read files false file) _ bytes _ (ap (there file) is)
+    (leads (sure (free name world.views)) _ tt _ (ap sure (passes (is_some (found name world.views)) (Taken name) (ap (λ (o : Option Table). is_some o) has.unused)))
+    (leads (sure (room world.views)) _ tt _ (ap sure (passes _ TooManyViews (lt-leb 64 (length world.views) has.few)))
+    (leads (read files false file) _ bytes _ (ap (there file) is) (ap sure
     (leads (refused_if (nat_lt (2 ^ 28 + 8206) (length bytes)) TooBig) _ tt _ (passes _ TooBig (le-ltb (2 ^ 28 + 8206) (length bytes) short))
     (leads (ok_or bad_file (opened bytes)) _ saved _ (ap (λ (r : Result Saved FileFault). ok_or bad_file r) opens)
     (leads (refused_if (nat_lt (8 * 2 ^ 30) (live_bits world.views + blob_bits table)) TooBig) _ tt _
-    (passes _ TooBig (le-ltb (8 * 2 ^ 30) (live_bits world.views + blob_bits table) has.small)) refl))))))
+    (passes _ TooBig (le-ltb (8 * 2 ^ 30) (live_bits world.views + blob_bits table) has.small)) refl)))))))
     refl
 
-module _ (opens_files : OpensFiles) (holds_rows : HoldsRows) (table : Table) (done : Done) (can : IsSavable table) (goes : save table ≡ Goes done) where
+module _ (opens_files : OpensFiles) (holds_rows : HoldsRows) (table : Table) (done : Told) (can : IsSavable table) (goes : save table ≡ Ok done) where
   abbrev header : Header
   header = header_of table
 
@@ -113,6 +113,6 @@ module _ (opens_files : OpensFiles) (holds_rows : HoldsRows) (table : Table) (do
     is = same_table;
     goes = λ world name file files has is.
         let short : length done.text ≤ 2 ^ 28 + 8206 = subst (λ (text : List ℕ). length text ≤ 2 ^ 28 + 8206) (sym was.is) (saved_length table was.short can.lies) in
-        subst (λ (t : Table). step world (Open name file) files false ≡ quiet (with_view world name t)) same_table
+        subst (λ (t : Table). step world (Open name file) files false ≡ sure (quiet (with_view world name t))) same_table
         (opens_there world name file files done.text saved saved_opened short (subst (HasRoom world name) (sym same_table) has) is);
   }

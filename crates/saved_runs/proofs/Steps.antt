@@ -1,5 +1,5 @@
 -- Each line of a run leaves a world whose tables files can say.
-use Rattle.saved_runs.proofs.Imports.{◌≡◌, ℕ, ◌^◌, ◌<◌, ◌≤◌, Bool, true, false, ℤ, nat_lt, not, List, length, Option, Some, None, ⊎_elim, refl, sym, ap, ◌∙◌, subst, arith, false≢true, cases_eq, indices, length-indices, File, Sentence, New, Two, MapTerm, holds_by, HasShape, hold_at, leaves, kinds_of, Fields, csv_records, records_behind, dataset_of, AreAlike, refused_at, kept_rows, Table, answer_of, kept_of, leaf_count_of, after_stores, Access, Read, all_accesses, line_tokens, tokens_read, AreRows, view_line, header_of, OpensFiles, HoldsBits, HoldsRows, World, Entry, found, replaced, copy, copied, with_rows, all_read, laid_anew, relayout, are_alike, narrow_fault, open_view, opened_table, load, loaded_table, loaded, filled, read, row_fault, nameless, Done, Work, done_to, on_view, worked, Outcome, Goes, LeftOf, Left, known, refused_if, refused_by, ok_or, drop_view, step, work_of, resolved, made, zeros_of, named, new_table, view, with_view, Mismatch, TooBig, not_alike, IfGoes, to, refused, unread, bind, behind, known_found, IsSavable}
+use Rattle.saved_runs.proofs.Imports.{◌≡◌, ℕ, ◌^◌, ◌<◌, ◌≤◌, Bool, true, false, ℤ, nat_lt, not, List, length, Option, Some, None, ⊎_elim, refl, sym, ap, ◌∙◌, subst, arith, false≢true, cases_eq, indices, length-indices, File, Sentence, New, Two, MapTerm, holds_by, HasShape, hold_at, leaves, kinds_of, Fields, csv_records, records_behind, dataset_of, AreAlike, refused_at, kept_rows, Table, answer_of, kept_of, leaf_count_of, after_stores, Access, Read, all_accesses, line_tokens, tokens_read, AreRows, view_line, header_of, OpensFiles, HoldsBits, HoldsRows, World, Entry, found, replaced, copy, copied, with_rows, all_read, laid_anew, relayout, are_alike, narrow_fault, open_view, opened_table, load, loaded_table, loaded, filled, read, row_fault, nameless, Done, done_to, on_view, worked, LeftOf, Left, known, refused_if, refused_by, ok_or, drop_view, step, work_of, resolved, made, zeros_of, named, new_table, view, with_view, Mismatch, TooBig, not_alike, IfGoes, to, refused, bind, behind, known_found, IsSavable, Ok, OnView, does, Tested, sure, surely}
 use Rattle.line_grammar.specs.Sentences as line
 use Rattle.saved_runs.proofs.Went.{unrefused, answered}
 use Rattle.saved_runs.proofs.Saves.{table_opened, table_savable}
@@ -10,7 +10,7 @@ use Rattle.saved_runs.proofs.Rows.{kept_rows_stay}
 use Rattle.saved_runs.proofs.Loads.{dataset_stays}
 use Rattle.saved_runs.proofs.Worlds.{AreAll, IsGoodRecord, IsGoodMapping, IsGoodWorld, of_found, with_added, with_replaced, with_removed, uncaused, define_good, nameless_good, mapping_good}
 use Rattle.saved_runs.proofs.Tables.{IsGoodNamed, IsMade, AreExtentsFor, made_good, resolved_good, named_good}
-use Rattle.saved_runs.proofs.Works.{WorkKeeps, work_keeps}
+use Rattle.saved_runs.proofs.Works.{LineKeeps, does_keep, line_keeps}
 
 -- ---- what is known of a table
 
@@ -44,14 +44,13 @@ record WasDone (table : Table) (new : LeftOf Table) : Type 0 where
   held : new.held ≡ after_stores table done.rows done.log
   rows : AreRows (header_of table) done.rows
 
-was_done : (table : Table) (outcome : Outcome Done) → IfGoes (λ (done : Done). AreRows (header_of table) done.rows) outcome → IfGoes (WasDone table) (done_to table outcome)
+was_done : (table : Table) (outcome : Tested Done) → IfGoes (λ (done : Done). AreRows (header_of table) done.rows) outcome → IfGoes (WasDone table) (done_to table outcome)
 was_done table outcome keeps =
     behind (WasDone table) (λ (done : Done). AreRows (header_of table) done.rows) outcome _ keeps (λ done are. to _ (record { done = done; held = refl; rows = are }))
 
-made_savable : (zeros : Table) (x : Outcome Table) → IfGoes (IsMade zeros) x → IfGoes IsSavable x
+made_savable : (zeros : Table) (x : Tested Table) → IfGoes (IsMade zeros) x → IfGoes IsSavable x
 made_savable zeros x (to table made) = to table made.savable
 made_savable zeros x (refused fault) = refused fault
-made_savable zeros x (unread name) = unread name
 
 unnegated : (test : Bool) → not test ≡ false → test ≡ true
 unnegated true is = refl
@@ -88,7 +87,7 @@ module _ (holds_bits : HoldsBits) where
     more : (name : List ℕ) (table : Table) → IsSavable table → IsGoodWorld (with_view world name table)
     more name table one = record { records = good.records; mappings = good.mappings; views = with_added IsSavable name table world.views one good.views }
 
-    named_table : (name : List ℕ) (table : Table) → known name world.views ≡ Goes table → IsSavable table
+    named_table : (name : List ℕ) (table : Table) → known name world.views ≡ Ok table → IsSavable table
     named_table name table is = of_found IsSavable name world.views table good.views (known_found _ (found name world.views) table is)
 
     new_good : (new : New) → IsNewSaid new → IfGoes IsSavable (new_table world new)
@@ -106,8 +105,8 @@ module _ (holds_bits : HoldsBits) where
     loaded_good : (new : New) (file : List ℕ) (files : List File) (fails : Bool) → IsNewSaid new → IfGoes IsSavable (loaded_table world new file files fails)
     unfolding loaded_table loaded
     loaded_good new file files fails said =
-        behind IsSavable (IsGoodNamed new.words) (named world new) _ (named_good world good new said.term) (λ whole one.
-        bind IsSavable (read files fails file) _ (λ bytes b.
+        behind IsSavable (IsGoodNamed new.words) (sure (named world new)) _ (surely _ _ (named_good world good new said.term)) (λ whole one.
+        bind IsSavable (read files fails file) _ (λ bytes b. surely IsSavable _ (
         bind IsSavable (refused_if (nat_lt (2 ^ 28) (length bytes)) TooBig) _ (λ short c.
         behind IsSavable (AreExtentsFor (Some (length (records_behind (csv_records bytes))))) (resolved new.words (Some (length (records_behind (csv_records bytes))))) _
         (resolved_good new.words (Some (length (records_behind (csv_records bytes)))) one.shaped said.words) (λ extents are.
@@ -115,7 +114,7 @@ module _ (holds_bits : HoldsBits) where
         (made_good holds_bits world.views whole.mode whole.fields extents whole.mapping one.fields are.are one.term) (λ table zeros.
         (let many : length (records_behind (csv_records bytes)) ≡ length (indices table.extents) =
         sym are.counts ∙ sym (length-indices extents) ∙ ap (λ (t : Table). length (indices t.extents)) (sym zeros.is) in
-        filled_good table (csv_records bytes) zeros.savable many))))))
+        filled_good table (csv_records bytes) zeros.savable many)))))))
 
     load_good : (new : New) (file : List ℕ) (files : List File) (fails : Bool) → IsNewSaid new → IfGoes Keeps (load world new file files fails)
     unfolding load
@@ -169,23 +168,23 @@ module _ (holds_bits : HoldsBits) where
         bind Keeps (known name world.views) _ (λ table t.
         to _ (record { records = good.records; mappings = good.mappings; views = with_removed IsSavable name world.views good.views }))
 
-    work_good : (work : Option Work) → ((table : Table) → IsSavable table → WorkKeeps table work) → IfGoes Keeps (worked world work)
+    work_good : (line : Option OnView) → ((table : Table) → IsSavable table → LineKeeps table line) → IfGoes Keeps (worked world line)
     unfolding on_view
     work_good None keeps = to _ good
-    work_good (Some work) keeps =
-        bind Keeps (known work.view world.views) _ (λ table t.
-        (let one : IsSavable table = named_table work.view table t in
-        behind Keeps (WasDone table) (done_to table (work.does table)) _ (was_done table (work.does table) (keeps table one)) (λ new was.
-        to _ (kept work.view new.held (subst IsSavable (sym was.held) (stored table was.done.rows was.done.log one was.rows))))))
+    work_good (Some one) keeps =
+        bind Keeps (known one.view world.views) _ (λ table t.
+        (let can : IsSavable table = named_table one.view table t in
+        behind Keeps (WasDone table) (done_to table (does one.work table)) _ (was_done table (does one.work table) (does_keep holds_bits table can one.work (keeps table can))) (λ new was.
+        to _ (kept one.view new.held (subst IsSavable (sym was.held) (stored table was.done.rows was.done.log can was.rows))))))
 
     pub step_good : OpensFiles → HoldsRows → (files : List File) (fails : Bool) (sentence : Sentence) → IsSaid sentence → IfGoes Keeps (step world sentence files fails)
     unfolding step
-    step_good opens_files holds_rows files fails (line.Define name tree) said = define_good world good name tree said
-    step_good opens_files holds_rows files fails (line.Mapping name term) said = mapping_good world good name term said
-    step_good opens_files holds_rows files fails (line.View new) said = view_good new said
+    step_good opens_files holds_rows files fails (line.Define name tree) said = surely _ _ (define_good world good name tree said)
+    step_good opens_files holds_rows files fails (line.Mapping name term) said = surely _ _ (mapping_good world good name term said)
+    step_good opens_files holds_rows files fails (line.View new) said = surely _ _ (view_good new said)
     step_good opens_files holds_rows files fails (line.Load new file) said = load_good new file files fails said
-    step_good opens_files holds_rows files fails (line.Copy name target) said = copy_good name target
-    step_good opens_files holds_rows files fails (line.Relayout name term) said = relayout_good name term said
-    step_good opens_files holds_rows files fails (line.Drop name) said = drop_good name
+    step_good opens_files holds_rows files fails (line.Copy name target) said = surely _ _ (copy_good name target)
+    step_good opens_files holds_rows files fails (line.Relayout name term) said = surely _ _ (relayout_good name term said)
+    step_good opens_files holds_rows files fails (line.Drop name) said = surely _ _ (drop_good name)
     step_good opens_files holds_rows files fails (line.Open name file) said = open_good opens_files holds_rows name file files fails
-    step_good opens_files holds_rows files fails sentence said = work_good (work_of world sentence) (λ table one. work_keeps holds_bits table one world sentence)
+    step_good opens_files holds_rows files fails sentence said = surely _ _ (work_good (work_of world sentence) (λ table one. line_keeps holds_bits table one world sentence))

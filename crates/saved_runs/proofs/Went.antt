@@ -1,30 +1,41 @@
 -- What goes went at each of its steps, and a step that goes leads to the next.
-use Rattle.saved_runs.proofs.Imports.{◌≡◌, ℕ, Bool, true, false, List, [], ◌∷◌, Option, Some, None, Result, Ok, Err, refl, ap, ◌∙◌, File, file_named, Entry, same_name, found, replaced, Outcome, Goes, Faults, CannotRead, ◌>>=◌, refused_if, ok_or, there, read, CommandFault}
+use Rattle.saved_runs.proofs.Imports.{◌≡◌, ℕ, Bool, true, false, List, [], ◌∷◌, Option, Some, None, Result, Ok, Err, refl, ap, ◌∙◌, File, file_named, Entry, same_name, found, replaced, Goes, ◌>>=◌, refused_if, ok_or, there, read, CommandFault, Tested, sure}
 use Rattle.std.specs.Prelude.{if◌then◌else◌}
 
 -- a step that went, and what it led to
-pub record Went {A B : Type 0} (x : Outcome A) (f : A → Outcome B) (b : B) : Type 0 where
+pub record Went {A B E : Type 0} (x : Result A E) (f : A → Result B E) (b : B) : Type 0 where
   pub thing : A
-  pub first : x ≡ Goes thing
-  pub next : f thing ≡ Goes b
+  pub first : x ≡ Ok thing
+  pub next : f thing ≡ Ok b
 
-pub went : {A B : Type 0} (x : Outcome A) (f : A → Outcome B) (b : B) → (x >>= f) ≡ Goes b → Went x f b
-went (Goes a) f b is = record { thing = a; first = refl; next = is }
-went (Faults fault) f b is = absurd (cc is)
-went (CannotRead name) f b is = absurd (cc is)
+pub went : {A B E : Type 0} (x : Result A E) (f : A → Result B E) (b : B) → (x >>= f) ≡ Ok b → Went x f b
+went (Ok a) f b is = record { thing = a; first = refl; next = is }
+went (Err fault) f b is = absurd (cc is)
 
-pub leads : {A B : Type 0} (x : Outcome A) (f : A → Outcome B) (a : A) (y : Outcome B) → x ≡ Goes a → f a ≡ y → (x >>= f) ≡ y
-leads {A} x f a y is next = ap (λ (o : Outcome A). o >>= f) is ∙ next
+-- what is given that reads no file
+abbrev pub given : {A : Type 0} → A → Tested A
+given x = Ok x
+
+-- what went and reads no file
+pub sure_went : {A : Type 0} (x : Tested A) (a : A) → sure x ≡ Goes a → x ≡ Ok a
+sure_went (Ok b) a is = let same : b ≡ a = cc in ap Ok same
+sure_went (Err fault) a is = absurd (cc is)
+
+pub leads : {A B E : Type 0} (x : Result A E) (f : A → Result B E) (a : A) (y : Result B E) → x ≡ Ok a → f a ≡ y → (x >>= f) ≡ y
+leads {A} {B} {E} x f a y is next = ap (λ (o : Result A E). o >>= f) is ∙ next
 
 pub same_things : {A : Type 0} (x y : A) → Goes x ≡ Goes y → x ≡ y
 same_things x y is = cc
 
+pub same_given : {A : Type 0} (x y : A) → given x ≡ given y → x ≡ y
+same_given x y is = cc
+
 -- answers that went
-pub unrefused : (test : Bool) (fault : CommandFault) (done : Unit {0}) → refused_if test fault ≡ Goes done → test ≡ false
+pub unrefused : (test : Bool) (fault : CommandFault) (done : Unit {0}) → refused_if test fault ≡ Ok done → test ≡ false
 unrefused false fault done is = refl
 unrefused true fault done is = absurd (cc is)
 
-pub answered : {A E : Type 0} (fault : E → CommandFault) (x : Result A E) (a : A) → ok_or fault x ≡ Goes a → x ≡ Ok a
+pub answered : {A E : Type 0} (fault : E → CommandFault) (x : Result A E) (a : A) → ok_or fault x ≡ Ok a → x ≡ Ok a
 answered fault (Ok b) a is = let same : b ≡ a = cc in ap Ok same
 answered fault (Err e) a is = absurd (cc is)
 

@@ -1,5 +1,5 @@
 -- What a run over lines of the language has in its world, line after line.
-use Rattle.saved_runs.proofs.Imports.{◌≡◌, ℕ, Bool, true, false, List, [], ◌∷◌, codes, Option, Some, None, refl, sym, subst, and_from, Tree, Fields, Record, MapTerm, Aos, Soa, Aosoa, BitAos, BitSoa, Split, Byteswap, Bytesplit, Change, Counted, Heated, NamedTerm, checked, Each, is_nameless, HasLine, World, Entry, same_name, found, added, replaced, removed, define, fit, fields_in, mapping, nameless, Outcome, Goes, Faults, CannotRead, ◌>>=◌, Left, known, free, refused_by, ok_or, CommandFault, BadRecord, BadMapping, IfGoes, to, refused, unread, bind, behind, known_found, IsSavable}
+use Rattle.saved_runs.proofs.Imports.{◌≡◌, ℕ, Bool, true, false, List, [], ◌∷◌, codes, Option, Some, None, refl, sym, subst, and_from, Tree, Fields, Record, MapTerm, Aos, Soa, Aosoa, BitAos, BitSoa, Split, Byteswap, Bytesplit, Change, Counted, Heated, NamedTerm, checked, Each, is_nameless, HasLine, World, Entry, same_name, found, added, replaced, removed, define, fit, fields_in, mapping, nameless, ◌>>=◌, Left, known, free, refused_by, ok_or, CommandFault, BadRecord, BadMapping, IfGoes, to, refused, bind, behind, known_found, IsSavable, Ok, Err, Tested}
 use Rattle.std.specs.Prelude.{if◌then◌else◌}
 use Rattle.record_dim.specs.Leaves.{record_fault}
 use Rattle.line_grammar.specs.Sentences as line
@@ -58,7 +58,7 @@ pub record IsGoodWorld (world : World) : Type 0 where
   pub views : AreAll IsSavable world.views
 
 -- a test that was passed
-pub uncaused : {E : Type 0} (fault : E → CommandFault) (cause : Option E) (done : Unit {0}) → refused_by fault cause ≡ Goes done → cause ≡ None
+pub uncaused : {E : Type 0} (fault : E → CommandFault) (cause : Option E) (done : Unit {0}) → refused_by fault cause ≡ Ok done → cause ≡ None
 uncaused fault None done is = refl
 uncaused fault (Some cause) done is = absurd (cc is)
 
@@ -82,7 +82,7 @@ module _ (world : World) (good : IsGoodWorld world) where
       to _ (record { records = with_added IsGoodRecord name fields world.records one good.records; mappings = good.mappings; views = good.views })))
 
   wrapped : (wrap : MapTerm → MapTerm) (inner : MapTerm) → ((a : MapTerm) → IsGoodMapping a → IsGoodMapping (wrap a)) → IfGoes IsGoodMapping (nameless world.mappings inner)
-      → IfGoes IsGoodMapping (nameless world.mappings inner >>= (λ a. Goes (wrap a)))
+      → IfGoes IsGoodMapping (nameless world.mappings inner >>= (λ a. Ok (wrap a)))
   wrapped wrap inner keeps one = behind IsGoodMapping IsGoodMapping (nameless world.mappings inner) _ one (λ a g. to _ (keeps a g))
 
   -- names replaced by what they stand for
@@ -99,15 +99,10 @@ module _ (world : World) (good : IsGoodWorld world) where
   nameless_good (Heated granule inner) has = wrapped (Heated granule) inner (λ a g. record { has = (has.0, g.has); nameless = g.nameless }) (nameless_good inner has.1)
   nameless_good (NamedTerm name) has = named_good (known name world.mappings) refl
     where
-      named_good : (outcome : Outcome MapTerm) → known name world.mappings ≡ outcome → IfGoes IsGoodMapping outcome
-      named_good (Goes term) is = to term (of_found IsGoodMapping name world.mappings term good.mappings (known_found _ (found name world.mappings) term is))
-      named_good (Faults fault) is = refused fault
-      named_good (CannotRead file) is = unread file
-  nameless_good (Aos form order) has = to _ (record { has = has; nameless = refl })
-  nameless_good (Soa form order) has = to _ (record { has = has; nameless = refl })
-  nameless_good (Aosoa lanes order) has = to _ (record { has = has; nameless = refl })
-  nameless_good (BitAos width fields order) has = to _ (record { has = has; nameless = refl })
-  nameless_good (BitSoa width fields order) has = to _ (record { has = has; nameless = refl })
+      named_good : (outcome : Tested MapTerm) → known name world.mappings ≡ outcome → IfGoes IsGoodMapping outcome
+      named_good (Ok term) is = to term (of_found IsGoodMapping name world.mappings term good.mappings (known_found _ (found name world.mappings) term is))
+      named_good (Err fault) is = refused fault
+  nameless_good base has = to _ (record { has = has; nameless = refl })
 
   pub mapping_good : (name : List ℕ) (term : MapTerm) → HasTokens term → IfGoes Keeps (mapping world name term)
   unfolding mapping

@@ -9,8 +9,8 @@ use Rattle.blob_file.specs.Headers.{HasLines, CanLie}
 use Rattle.blob_file.specs.Opened.{Saved, opened, table_of_saved}
 use Rattle.blob_file.specs.Saving.{header_of}
 use Rattle.worlds.specs.Worlds.{World, found}
-use Rattle.worlds.specs.Outcomes.{Goes, Left, quiet, shows}
-use Rattle.worlds.specs.OnView.{Done}
+use Rattle.worlds.specs.Outcomes.{Goes, Left, sure, quiet, shows}
+use Rattle.worlds.specs.OnView.{Told}
 use Rattle.worlds.specs.Tables.{live_bits, blob_bits}
 use Rattle.worlds.specs.View.{with_view}
 use Rattle.worlds.specs.Files.{save}
@@ -22,7 +22,7 @@ pub record SavesBack (files : List File) (file name : List ℕ) (world : World) 
   pub there : file_named files file ≡ Some bytes
   pub table : Table
   pub is : found name world.views ≡ Some table
-  pub saves : (others : List File) (fails : Bool) → step world (Save name) others fails ≡ shows world bytes
+  pub saves : (others : List File) (fails : Bool) → step world (Save name) others fails ≡ sure (shows world bytes)
 
 -- what is opened of a file saves as its bytes
 abbrev pub OpenedSaves : Type 0
@@ -54,8 +54,8 @@ pub record OpensAs (bytes : List ℕ) (table : Table) : Type 0 where
   pub opens : opened bytes ≡ Ok saved
   pub is : table_of_saved saved ≡ table
   pub goes : (world : World) (name file : List ℕ) (files : List File) → HasRoom world name table → file_named files file ≡ Some bytes
-      → step world (Open name file) files false ≡ quiet (with_view world name table)
+      → step world (Open name file) files false ≡ sure (quiet (with_view world name table))
 
 -- what a savable table saves is opened as the table, each value written once
 abbrev pub SavedOpens : Type 0
-SavedOpens = (table : Table) (done : Done) → IsSavable table → save table ≡ Goes done → OpensAs done.text (once_written table)
+SavedOpens = (table : Table) (told : Told) → IsSavable table → save table ≡ Ok told → OpensAs told.text (once_written table)

@@ -1,75 +1,74 @@
 -- The parts of an update by actors, and what is done by it.
-use Rattle.session.proofs.Imports.{◌≡◌, ℕ, suc, ◌+◌, ◌/◌, ◌%◌, ◌^◌, ◌≤◌, Bool, true, false, ℤ, nat_le, List, [], ◌∷◌, length, get_or, set, map, Result, Ok, Err, refl, sym, ap, ◌∙◌, arith, IsErrAnd, not, sum_by, slice_set, filter, and_parts, leb-true, nat_tests, length-map, length-set, Run, started_run, after_turns, State, moved, turned, AreCuts, actor_of, are_cuts, are_cuts-are, Place, memory_of, written_by, team_start, job_of, fresh_of, Job, Micro, Fetch, Load, Store, Registers, stored, loaded, with_bits_of, value_kept_on, row_in, next, entries, schedule_of, idle_with, run_by, shared_byte, Value, Assignment, image, bit_held, bytes_of, Setting, updated_of, Term, update_log, Table, owners_of, after_log, after_stores, reads_in, writes_in, reads_first, updated_by_actors, fit_cuts, shared, memory_text, bound_filter, bound_sets, each_once, leaves_of, Done, done_to, Outcome, Goes, Faults, CannotRead, ◌>>=◌, refused_if, refused_by, small, Cuts, Turns, BadActors, TooBig, StepFault, left_with, Bindings, shared_out, acted}
+use Rattle.session.proofs.Imports.{◌≡◌, ℕ, suc, ◌+◌, ◌/◌, ◌%◌, ◌^◌, ◌≤◌, Bool, true, false, ℤ, nat_le, List, [], ◌∷◌, length, get_or, set, map, Result, Ok, Err, refl, sym, ap, ◌∙◌, arith, IsErrAnd, not, sum_by, slice_set, filter, and_parts, leb-true, nat_tests, length-map, length-set, Run, started_run, after_turns, State, moved, turned, AreCuts, actor_of, are_cuts, are_cuts-are, Place, memory_of, written_by, team_start, job_of, fresh_of, Job, Micro, Fetch, Load, Store, Registers, stored, loaded, with_bits_of, value_kept_on, row_in, next, entries, schedule_of, idle_with, run_by, shared_byte, Value, Assignment, image, bit_held, bytes_of, Setting, updated_of, Term, update_log, Table, owners_of, after_log, after_stores, reads_in, writes_in, reads_first, updated_by_actors, fit_cuts, shared, memory_text, bound_filter, bound_sets, each_once, leaves_of, Done, done_to, ◌>>=◌, refused_if, refused_by, small, Cuts, Turns, BadActors, TooBig, StepFault, left_with, Bindings, shared_out, acted, Tested}
 use Rattle.std.specs.Prelude.{◌*◌, nat_lt, Option, Some, None}
 use Rattle.actors.specs.ActorRuns.{without_counts}
 use Rattle.command_checks.specs.declared.fault.StepFault.TheVariants as step
 use Rattle.session.proofs.Indexing.{read_stored}
 
 -- cuts that pass
-of_fit : (test : Bool) → refused_if (not test) (BadActors Cuts) ≡ Goes tt → test ≡ true
+of_fit : (test : Bool) → refused_if (not test) (BadActors Cuts) ≡ Ok tt → test ≡ true
 of_fit true is = refl
 of_fit false is = absurd (cc)
 
-pub cuts_fit : (cuts : List ℕ) (rows : ℕ) → refused_if (not (fit_cuts cuts rows)) (BadActors Cuts) ≡ Goes tt → AreCuts 0 cuts rows × (length cuts ≤ 63)
+pub cuts_fit : (cuts : List ℕ) (rows : ℕ) → refused_if (not (fit_cuts cuts rows)) (BadActors Cuts) ≡ Ok tt → AreCuts 0 cuts rows × (length cuts ≤ 63)
 cuts_fit cuts rows is =
     let both = and_parts (nat_le (length cuts) 63) (are_cuts 0 cuts rows) (of_fit (fit_cuts cuts rows) is) in
     (are_cuts-are 0 cuts rows both.1, leb-true (length cuts) 63 both.0)
 
 -- a table that is small
-pub small_few : (table : Table) → small table ≡ Goes tt → sum_by length (owners_of table) ≤ 8 * 65536
+pub small_few : (table : Table) → small table ≡ Ok tt → sum_by length (owners_of table) ≤ 8 * 65536
 small_few table is = of_test (nat_lt (8 * 65536) (sum_by length (owners_of table))) refl is where
-  of_test : (test : Bool) → nat_lt (8 * 65536) (sum_by length (owners_of table)) ≡ test → refused_if test TooBig ≡ Goes tt → sum_by length (owners_of table) ≤ 8 * 65536
+  of_test : (test : Bool) → nat_lt (8 * 65536) (sum_by length (owners_of table)) ≡ test → refused_if test TooBig ≡ Ok tt → sum_by length (owners_of table) ≤ 8 * 65536
   of_test true e is = absurd (cc)
   of_test false e is = grind (arith, nat_tests)
 
 -- no byte is shared
-pub none_shared : (cause : Option Place) → refused_by shared cause ≡ Goes tt → cause ≡ None
+pub none_shared : (cause : Option Place) → refused_by shared cause ≡ Ok tt → cause ≡ None
 none_shared None is = refl
 none_shared (Some place) is = absurd (cc)
 
 -- one thing after another, in two parts
-in_parts : {A B C : Type 0} (x : Outcome A) (f : A → Outcome C) (first : A → Outcome B) (rest : B → Outcome C) → ((a : A) → f a ≡ (first a >>= rest)) → (x >>= f) ≡ ((x >>= first) >>= rest)
-in_parts (Goes a) f first rest same = same a
-in_parts (Faults fault) f first rest same = refl
-in_parts (CannotRead name) f first rest same = refl
+in_parts : {A B C : Type 0} (x : Tested A) (f : A → Tested C) (first : A → Tested B) (rest : B → Tested C) → ((a : A) → f a ≡ (first a >>= rest)) → (x >>= f) ≡ ((x >>= first) >>= rest)
+in_parts (Ok a) f first rest same = same a
+in_parts (Err fault) f first rest same = refl
 
 -- what comes behind each test, up to the values of the rows, and with them
 module _ (table : Table) (cuts : List ℕ) (seed turns : ℕ) where
-  abbrev apart : Outcome (Unit {0})
+  abbrev apart : Tested (Unit {0})
   apart = refused_by shared (shared_byte (owners_of table) (actor_of cuts))
 
-  abbrev few : Outcome (Unit {0})
+  abbrev few : Tested (Unit {0})
   few = refused_if (nat_lt (2 ^ 20) turns) (BadActors Turns)
 
-  abbrev fit : Outcome (Unit {0})
+  abbrev fit : Tested (Unit {0})
   fit = refused_if (not (fit_cuts cuts (length table.rows))) (BadActors Cuts)
 
-  abbrev once : List Setting → Outcome (Unit {0})
+  abbrev once : List Setting → Tested (Unit {0})
   once settings = each_once table.fields [] (leaves_of settings)
 
-  module _ {B : Type 0} (last : Option (Term ℕ) → List Setting → Outcome B) where
-    abbrev behind_small : Option (Term ℕ) → List Setting → Outcome B
+  module _ {B : Type 0} (last : Option (Term ℕ) → List Setting → Tested B) where
+    abbrev behind_small : Option (Term ℕ) → List Setting → Tested B
     behind_small test settings = apart >>= (λ a. last test settings)
 
-    abbrev behind_few : Option (Term ℕ) → List Setting → Outcome B
+    abbrev behind_few : Option (Term ℕ) → List Setting → Tested B
     behind_few test settings = small table >>= (λ a. behind_small test settings)
 
-    abbrev behind_fit : Option (Term ℕ) → List Setting → Outcome B
+    abbrev behind_fit : Option (Term ℕ) → List Setting → Tested B
     behind_fit test settings = few >>= (λ a. behind_few test settings)
 
-    abbrev behind_once : Option (Term ℕ) → List Setting → Outcome B
+    abbrev behind_once : Option (Term ℕ) → List Setting → Tested B
     behind_once test settings = fit >>= (λ a. behind_fit test settings)
 
-    abbrev behind_sets : Option (Term ℕ) → List Setting → Outcome B
+    abbrev behind_sets : Option (Term ℕ) → List Setting → Tested B
     behind_sets test settings = once settings >>= (λ a. behind_once test settings)
 
-  abbrev bound : Option (Term ℕ) → List Setting → Outcome Bindings
-  bound test settings = Goes (record { test = test; settings = settings })
+  abbrev bound : Option (Term ℕ) → List Setting → Tested Bindings
+  bound test settings = Ok (record { test = test; settings = settings })
 
-  abbrev done : Bindings → Outcome Done
+  abbrev done : Bindings → Tested Done
   done bound = acted table bound cuts seed turns
 
-  abbrev whole : Option (Term ℕ) → List Setting → Outcome Done
+  abbrev whole : Option (Term ℕ) → List Setting → Tested Done
   whole test settings = done (record { test = test; settings = settings })
 
   behind : (test : Option (Term ℕ)) (settings : List Setting) → behind_sets whole test settings ≡ (behind_sets bound test settings >>= done)
@@ -84,14 +83,14 @@ module _ (table : Table) (cuts : List ℕ) (seed turns : ℕ) where
       → updated_by_actors table filter sets cuts seed turns ≡ (shared_out table filter sets cuts turns >>= done)
   unfolding updated_by_actors
   by_parts filter sets =
-      let settings : Outcome (List Setting) = bound_sets table.fields (length table.extents) sets in
+      let settings : Tested (List Setting) = bound_sets table.fields (length table.extents) sets in
       in_parts (bound_filter table.fields (length table.extents) filter) (λ test. settings >>= behind_sets whole test) (λ test. settings >>= behind_sets bound test) done (λ test.
       in_parts settings (behind_sets whole test) (behind_sets bound test) done (behind test))
 
 -- what is done where the plain update meets no fault
 pub acted_goes : (table : Table) (bound : Bindings) (cuts : List ℕ) (seed turns : ℕ) (rows : List (List ℤ)) → updated_of table bound.test bound.settings (length table.rows) ≡ Ok rows
     → done_to table (acted table bound cuts seed turns)
-    ≡ Goes (left_with (after_stores table rows (reads_first (update_log table bound.test bound.settings (length table.rows)))) (memory_text (written_by table bound.test bound.settings cuts seed turns)))
+    ≡ Ok (left_with (after_stores table rows (reads_first (update_log table bound.test bound.settings (length table.rows)))) (memory_text (written_by table bound.test bound.settings cuts seed turns)))
 acted_goes table bound cuts seed turns rows is = rw is refl
 
 -- a write that failed

@@ -1,5 +1,5 @@
 -- The text of an advice, and what asks for it.
-use Rattle.session.proofs.Imports.{◌≡◌, ℕ, ◌+◌, ◌-◌, ◌<◌, ◌≤◌, List, [], ◌∷◌, ◌++◌, map, Bool, length, take, get_or, drop, flat_map, codes, Option, Some, option_map, refl, sym, ap, ◌∙◌, arith, append-nil, append_assoc, enumerate_from, take_all, length-drop, get_or-enumerate_from, length-enumerate_from, Advised, advice, Best, digits_text, flat_map_push, PassText, spaced, Token, Mapping, map_tokens, written, canonical, with_tokens_behind, term_of, Table, leaf_count_of, Read, all_accesses, Question, asked, advise, advise_fault, advice_text, best_words, cost_line, Goes, ok_or, Entry, GivesUp, GivesUp-then, StepFault}
+use Rattle.session.proofs.Imports.{◌≡◌, ℕ, ◌+◌, ◌-◌, ◌<◌, ◌≤◌, List, [], ◌∷◌, ◌++◌, map, Bool, length, take, get_or, drop, flat_map, codes, Option, Some, option_map, refl, sym, ap, ◌∙◌, arith, append-nil, append_assoc, enumerate_from, take_all, length-drop, get_or-enumerate_from, length-enumerate_from, Advised, advice, Best, digits_text, flat_map_push, PassText, spaced, Token, Mapping, map_tokens, written, canonical, with_tokens_behind, term_of, Table, leaf_count_of, Read, all_accesses, Question, asked, advise, advise_fault, advice_text, best_words, cost_line, ok_or, Entry, GivesUp, GivesUp-then, StepFault, Ok}
 use Rattle.map_expr.specs.Terms.{Term}
 
 -- tokens behind a text, each behind a space
@@ -58,14 +58,14 @@ advice_parts told = refl
 
 -- the advice that is told where this is asked
 pub told_goes : (mappings : List (Entry Term)) (table : Table) (granule : ℕ) (texts : List PassText) (terms : List Term) (splits : Bool) (question : Question) (told : Advised) →
-    asked mappings table granule texts terms ≡ Goes question → ok_or advise_fault (advice table granule question.passes question.terms splits) ≡ Goes told →
-    advise mappings table granule texts terms splits ≡ Goes (record { rows = table.rows; log = all_accesses Read (leaf_count_of table) (length table.rows); text = advice_text told })
+    asked mappings table granule texts terms ≡ Ok question → ok_or advise_fault (advice table granule question.passes question.terms splits) ≡ Ok told →
+    advise mappings table granule texts terms splits ≡ Ok (record { log = all_accesses Read (leaf_count_of table) (length table.rows); text = advice_text told })
 unfolding advise
 told_goes mappings table granule texts terms splits question told is goes = rw is (rw goes refl)
 
 -- and where a listed candidate is none
 pub none_told : (mappings : List (Entry Term)) (table : Table) (granule : ℕ) (texts : List PassText) (terms : List Term) (splits : Bool) (question : Question) (fault : StepFault) →
-    asked mappings table granule texts terms ≡ Goes question → GivesUp (ok_or advise_fault (advice table granule question.passes question.terms splits)) fault →
+    asked mappings table granule texts terms ≡ Ok question → GivesUp (ok_or advise_fault (advice table granule question.passes question.terms splits)) fault →
     GivesUp (advise mappings table granule texts terms splits) fault
 unfolding advise
 none_told mappings table granule texts terms splits question fault is gives = rw is (GivesUp-then _ _ fault gives)

@@ -1,5 +1,5 @@
 -- Tables that are copied from one place of a list to another.
-use Rattle.session.proofs.Imports.{◌≡◌, ◌⊎◌, ⊎_elim, inl, inr, ◌<◌, ◌≤◌, ◌+◌, ℕ, zero, suc, List, [], ◌∷◌, ◌++◌, length, map, get_or, Some, None, Ok, Err, refl, sym, ap, subst, ◌∙◌, arith, slice_set, insert, remove, length-map, length-set, get_or_default, get_or-set_same, get_or-set_other, set-set, map-set, get_or-map, get_or-remove_below, get_or-remove_above, length-remove, Fields, AreAlike, IsCopied, refused_at, own_held, CopyFault, Table, IsTable, leaf_count_of, answer_of, kept_of, after_log, Access, all_accesses, all_touches, Read, Write, after_log-append, kept_rows, own_rows, copy, copied, with_rows, all_read, laid_anew, narrow_fault, made, zeros_of, MapTerm, CommandFault, Unknown, Name, IsFirst, Outcome, Goes, Faults, CannotRead, ◌>>=◌, quiet, known, some_or, World, Entry, replaced, alike, not_alike, view_of, GivesUp, GivesUp-then, goes_then, ViewEntry, StepFault, copied_at, made_like, zeros_like, TellsCopy}
+use Rattle.session.proofs.Imports.{◌≡◌, ◌⊎◌, ⊎_elim, inl, inr, ◌<◌, ◌≤◌, ◌+◌, ℕ, zero, suc, List, [], ◌∷◌, ◌++◌, length, map, get_or, Some, None, Ok, Err, refl, sym, ap, subst, ◌∙◌, arith, slice_set, insert, remove, length-map, length-set, get_or_default, get_or-set_same, get_or-set_other, set-set, map-set, get_or-map, get_or-remove_below, get_or-remove_above, length-remove, Fields, AreAlike, IsCopied, refused_at, own_held, CopyFault, Table, IsTable, leaf_count_of, answer_of, kept_of, after_log, Access, all_accesses, all_touches, Read, Write, after_log-append, kept_rows, own_rows, copy, copied, with_rows, all_read, laid_anew, narrow_fault, made, zeros_of, MapTerm, CommandFault, Unknown, Name, IsFirst, ◌>>=◌, quiet, known, some_or, World, Entry, replaced, alike, not_alike, view_of, GivesUp, GivesUp-then, goes_then, ViewEntry, StepFault, copied_at, made_like, zeros_like, TellsCopy, Tested}
 use Rattle.std.proofs.lemmas.List.{append-nil}
 use Rattle.layout_copy.specs.declared.fault.CopyFault.TheVariants as copy
 use Rattle.worlds.specs.declared.fault.CommandFault.TheVariants as refusal
@@ -67,7 +67,7 @@ touched_once leaves_in rows =
     ∙ ap (λ (log : List Access). (all_accesses Read leaves_in rows ++ []) ++ log) (sym (append-nil (all_accesses Write leaves_in rows)))
 
 pub copied_self : (seen now : Table) → IsTable seen → now ≡ after_log seen (all_touches 1 1 (leaf_count_of seen) (length seen.rows)) →
-    copied seen (all_read seen) ≡ Goes now
+    copied seen (all_read seen) ≡ Ok now
 unfolding with_rows
 copied_self seen now is touched =
     let reads = all_accesses Read (leaf_count_of seen) (length seen.rows) in
@@ -77,10 +77,10 @@ copied_self seen now is touched =
     let kept : kept_rows (kept_of read) seen.rows ≡ seen.rows = own_rows seen is in
     let both : after_log read writes ≡ now =
     after_log-append seen reads writes ∙ ap (after_log seen) (touched_once (leaf_count_of seen) (length seen.rows)) ∙ sym touched in
-    copied_alike seen read (refl, refl) ∙ rw (held, kept) (ap (λ (s : Table). Goes s) both)
+    copied_alike seen read (refl, refl) ∙ rw (held, kept) (ap (λ (s : Table). Ok s) both)
 
 -- a table that is laid out anew is copied into the new one
-pub laid_copied : (views : List (Entry Table)) (term : MapTerm) (old fresh : Table) → made views old.mode old.fields old.extents term ≡ Goes fresh →
+pub laid_copied : (views : List (Entry Table)) (term : MapTerm) (old fresh : Table) → made views old.mode old.fields old.extents term ≡ Ok fresh →
     fresh ≡ zeros_of old.mode old.fields old.extents term → laid_anew views old term ≡ copied old fresh
 unfolding laid_anew
 laid_copied views term old fresh made_is zeros =
@@ -90,40 +90,40 @@ laid_copied views term old fresh made_is zeros =
 
 -- the same of a table at a place
 pub made_at : (views : List ViewEntry) (place : ℕ) (entry : ViewEntry) (term : MapTerm) (fresh : Table) → entry ≡ get_or views place entry →
-    made_like (map view_of views) ((get_or views place entry).view) term ≡ Goes fresh → fresh ≡ zeros_like ((get_or views place entry).view) term →
-    (made_like (map view_of views) entry.view term ≡ Goes fresh) × (fresh ≡ zeros_like entry.view term)
+    made_like (map view_of views) ((get_or views place entry).view) term ≡ Ok fresh → fresh ≡ zeros_like ((get_or views place entry).view) term →
+    (made_like (map view_of views) entry.view term ≡ Ok fresh) × (fresh ≡ zeros_like entry.view term)
 made_at views place entry term fresh is made_is zeros =
     let old = λ (e : ViewEntry). e.view in (
-      subst (λ (e : ViewEntry). made_like (map view_of views) (old e) term ≡ Goes fresh) (sym is) made_is,
+      subst (λ (e : ViewEntry). made_like (map view_of views) (old e) term ≡ Ok fresh) (sym is) made_is,
       subst (λ (e : ViewEntry). fresh ≡ zeros_like (old e) term) (sym is) zeros,
     )
 
 pub laid_at : (views : List ViewEntry) (place : ℕ) (entry : ViewEntry) (term : MapTerm) (fresh : Table) → entry ≡ get_or views place entry →
-    made_like (map view_of views) ((get_or views place entry).view) term ≡ Goes fresh → fresh ≡ zeros_like ((get_or views place entry).view) term →
+    made_like (map view_of views) ((get_or views place entry).view) term ≡ Ok fresh → fresh ≡ zeros_like ((get_or views place entry).view) term →
     laid_anew (map view_of views) entry.view term ≡ copied entry.view fresh
 laid_at views place entry term fresh is made_is zeros =
     let made_here = made_at views place entry term fresh is made_is zeros in
     laid_copied (map view_of views) term entry.view fresh made_here.0 made_here.1
 
 -- what a copy answers is what the model's copy gives
-pub copied_goes : (source old new : Table) → IsCopied source old new (Ok tt) → copied source old ≡ Goes new
+pub copied_goes : (source old new : Table) → IsCopied source old new (Ok tt) → copied source old ≡ Ok new
 unfolding with_rows
 copied_goes source old new is =
     let held : refused_at (answer_of old) 0 source.rows ≡ None = is.1 in
-    copied_alike source old is.0 ∙ rw held (ap (λ (seen : Table). Goes seen) (sym is.2))
+    copied_alike source old is.0 ∙ rw held (ap (λ (seen : Table). Ok seen) (sym is.2))
 
-differs : (source old new : Table) → IsCopied source old new (Err copy.Mismatch) → copied source old ≡ Faults refusal.Mismatch
+differs : (source old new : Table) → IsCopied source old new (Err copy.Mismatch) → copied source old ≡ Err refusal.Mismatch
 unfolding copied
 differs source old new is = rw (not_alike source old is.0) refl
 
 is_narrow : (source old new : Table) (row leaf : ℕ) → IsCopied source old new (Err (copy.Narrow row leaf)) →
-    copied source old ≡ Faults (narrow_fault old.fields (record { row = row; leaf = leaf }))
+    copied source old ≡ Err (narrow_fault old.fields (record { row = row; leaf = leaf }))
 unfolding with_rows
 is_narrow source old new row leaf is =
     let not_held : refused_at (answer_of old) 0 source.rows ≡ Some (record { row = row; leaf = leaf }) = is.1 in
     copied_alike source old is.0 ∙ rw not_held refl
 
-pub copy_refused : (source old new : Table) (bad : CopyFault) (told : CommandFault) → IsCopied source old new (Err bad) → TellsCopy new.fields bad (Ok told) → copied source old ≡ Faults told
+pub copy_refused : (source old new : Table) (bad : CopyFault) (told : CommandFault) → IsCopied source old new (Err bad) → TellsCopy new.fields bad (Ok told) → copied source old ≡ Err told
 copy_refused source old new copy.Mismatch told is tells = tells_gives _ refusal.Mismatch told (differs source old new is) tells
 copy_refused source old new (copy.Narrow row leaf) told is tells =
     let same : new.fields ≡ old.fields = ap (λ (seen : Table). seen.fields) is.2 in
@@ -140,16 +140,16 @@ module _ (tables : List (Entry Table)) (source target : ℕ) (d from to : Entry 
   with_copy new = slice_set (slice_set tables source (as_read from)) target (record { name = to.name; held = new })
 
   pub copied_in : get_or tables source d ≡ from → get_or (slice_set tables source (as_read from)) target d ≡ to →
-      copied_at tables source target d ≡ (copied from.held to.held >>= (λ new. Goes (with_copy new)))
+      copied_at tables source target d ≡ (copied from.held to.held >>= (λ new. Ok (with_copy new)))
   copied_in one two =
       ap (λ (f : Entry Table). let read = slice_set tables source (as_read f) in
-      copied f.held (get_or read target d).held >>= (λ new. Goes (slice_set read target (record { name = (get_or read target d).name; held = new })))) one
-      ∙ ap (λ (t : Entry Table). copied from.held t.held >>= (λ new. Goes (slice_set (slice_set tables source (as_read from)) target (record { name = t.name; held = new })))) two
+      copied f.held (get_or read target d).held >>= (λ new. Ok (slice_set read target (record { name = (get_or read target d).name; held = new })))) one
+      ∙ ap (λ (t : Entry Table). copied from.held t.held >>= (λ new. Ok (slice_set (slice_set tables source (as_read from)) target (record { name = t.name; held = new })))) two
 
 -- a copy of a table onto itself, in its list
 pub kept_to : (views : List ViewEntry) (place : ℕ) (old : ViewEntry) (new : Table) (d : ViewEntry) → place < length views → old ≡ get_or views place old →
-    copied old.view (all_read old.view) ≡ Goes new →
-    copied_at (map view_of views) place place (view_of d) ≡ Goes (map view_of (slice_set views place (record { name = old.name; view = new })))
+    copied old.view (all_read old.view) ≡ Ok new →
+    copied_at (map view_of views) place place (view_of d) ≡ Ok (map view_of (slice_set views place (record { name = old.name; view = new })))
 kept_to views place old new d small is goes =
     let tables = map view_of views in
     let from : get_or tables place (view_of d) ≡ view_of old = get_or-map view_of views place d ∙ ap view_of (get_or_default views place d old small ∙ sym is) in
@@ -158,7 +158,7 @@ kept_to views place old new d small is goes =
     let changed : ViewEntry = record { name = old.name; view = new } in
     copied_in tables place place (view_of d) (view_of old) (as_read (view_of old)) from to
     ∙ goes_then _ _ _ goes
-    ∙ ap (λ (t : List (Entry Table)). Goes t) (set-set tables place (as_read (view_of old)) (view_of changed) ∙ sym (map-set view_of views place changed))
+    ∙ ap (λ (t : List (Entry Table)). Ok t) (set-set tables place (as_read (view_of old)) (view_of changed) ∙ sym (map-set view_of views place changed))
 
 -- the two views of a copy, of which the target is out of the list
 pub record AreApart (views : List ViewEntry) (source target place : ℕ) (entry old : ViewEntry) : Type 0 where
@@ -202,7 +202,7 @@ target_in views source target place entry old d changed are =
 
 -- a copy between them
 apart_is : (views : List ViewEntry) (source target place : ℕ) (entry old d : ViewEntry) → AreApart views source target place entry old →
-    copied_at (map view_of views) source target (view_of d) ≡ (copied entry.view old.view >>= (λ new. Goes (with_copy (map view_of views) source target (view_of d) (view_of entry) (view_of old) new)))
+    copied_at (map view_of views) source target (view_of d) ≡ (copied entry.view old.view >>= (λ new. Ok (with_copy (map view_of views) source target (view_of d) (view_of entry) (view_of old) new)))
 apart_is views source target place entry old d are =
     copied_in (map view_of views) source target (view_of d) (view_of entry) (view_of old) (source_in views source target place entry old d are)
     (target_in views source target place entry old d (as_read (view_of entry)) are)
@@ -210,13 +210,13 @@ apart_is views source target place entry old d are =
 pub apart_not : (views : List ViewEntry) (source target place : ℕ) (entry old d : ViewEntry) (fault : StepFault) → AreApart views source target place entry old → GivesUp (copied entry.view old.view) fault →
     GivesUp (copied_at (map view_of views) source target (view_of d)) fault
 apart_not views source target place entry old d fault are gives =
-    subst (λ (o : Outcome (List (Entry Table))). GivesUp o fault) (sym (apart_is views source target place entry old d are)) (GivesUp-then _ _ fault gives)
+    subst (λ (o : Tested (List (Entry Table))). GivesUp o fault) (sym (apart_is views source target place entry old d are)) (GivesUp-then _ _ fault gives)
 
 pub apart_to : (views now : List ViewEntry) (source target place : ℕ) (entry old d : ViewEntry) (source_now target_now : Table) → AreApart views source target place entry old →
     source_now ≡ after_log entry.view (all_accesses Read (leaf_count_of entry.view) (length entry.view.rows)) →
     now ≡ insert (slice_set (remove views target) place (record { name = entry.name; view = source_now })) target (record { name = old.name; view = target_now }) →
-    copied entry.view old.view ≡ Goes target_now →
-    copied_at (map view_of views) source target (view_of d) ≡ Goes (map view_of now)
+    copied entry.view old.view ≡ Ok target_now →
+    copied_at (map view_of views) source target (view_of d) ≡ Ok (map view_of now)
 apart_to views now source target place entry old d source_now target_now are read is goes =
     let tables = map view_of views in
     let from : ViewEntry = record { name = entry.name; view = source_now } in
@@ -224,16 +224,15 @@ apart_to views now source target place entry old d source_now target_now are rea
     let list : now ≡ slice_set (slice_set views source from) target to = is ∙ both_set views target source place from to are.inside are.apart are.before are.behind in
     let seen : as_read (view_of entry) ≡ view_of from = ap (λ (s : Table). record { name = entry.name; held = s }) (sym read) in
     apart_is views source target place entry old d are ∙ goes_then _ _ _ goes
-    ∙ ap (λ (t : List (Entry Table)). Goes t)
+    ∙ ap (λ (t : List (Entry Table)). Ok t)
     (ap (λ (e : Entry Table). slice_set (slice_set tables source e) target (view_of to)) seen
     ∙ ap (λ (t : List (Entry Table)). slice_set t target (view_of to)) (sym (map-set view_of views source from))
     ∙ sym (map-set view_of (slice_set views source from) target to) ∙ ap (map view_of) (sym list))
 
 -- one outcome behind another
-then_same : {A B C : Type 0} (first : Outcome A) (f : A → B) (g : A → Outcome C) (next : B → Outcome C) → ((a : A) → g a ≡ next (f a)) → (first >>= g) ≡ ((first >>= (λ a. Goes (f a))) >>= next)
-then_same (Goes a) f g next same = same a
-then_same (Faults fault) f g next same = refl
-then_same (CannotRead name) f g next same = refl
+then_same : {A B C : Type 0} (first : Tested A) (f : A → B) (g : A → Tested C) (next : B → Tested C) → ((a : A) → g a ≡ next (f a)) → (first >>= g) ≡ ((first >>= (λ a. Ok (f a))) >>= next)
+then_same (Ok a) f g next same = same a
+then_same (Err fault) f g next same = refl
 
 -- a copy by the places of the two tables
 pub copy_in : (world : World) (name target_name : List ℕ) (source target : ℕ) (d : Entry Table) → IsFirst name world.views source → IsFirst target_name world.views target →

@@ -1,17 +1,16 @@
 -- The steps of copies, refused or not.
-use Rattle.session.proofs.Imports.{◌≡◌, ◌∙◌, ◌≤◌, ◌+◌, ⊎_elim, ℕ, zero, suc, true, false, List, [], ◌∷◌, map, get_or, Ok, Err, refl, sym, ap, subst, arith, IsErrOf, remove, false≢true, cases_Bool, cases_eq, get_or_default, same_text, MapTerm, Strategy, Table, AreAlike, IsCopied, copy_cost, IsWay, CopyFault, nameless, Outcome, Goes, Faults, CannotRead, known, made, zeros_of, World, Entry, same_name, alike, view_of, goes_then, IsAt, IsFirst, known_place, ViewEntry, Pair, IsWithin, WithinCopy, WithinCost, WithinRelayout, copied_pair, laid_pair, paired}
+use Rattle.session.proofs.Imports.{◌≡◌, ◌∙◌, ◌≤◌, ◌+◌, ⊎_elim, ℕ, zero, suc, true, false, List, [], ◌∷◌, map, get_or, Ok, Err, refl, sym, ap, subst, arith, IsErrOf, remove, false≢true, cases_Bool, cases_eq, get_or_default, same_text, MapTerm, Strategy, Table, AreAlike, IsCopied, copy_cost, IsWay, CopyFault, nameless, known, made, zeros_of, World, Entry, same_name, alike, view_of, goes_then, IsAt, IsFirst, known_place, ViewEntry, Pair, IsWithin, WithinCopy, WithinCost, WithinRelayout, copied_pair, laid_pair, paired, Tested}
 use Rattle.std.specs.Prelude.{Result}
 use Rattle.layout_copy.specs.declared.fault.CopyFault.TheVariants as copy
 use Rattle.session.proofs.Copies.{AreApart, still_there}
 
 -- no step is within every bound
-pub none_taken : (pair : Outcome Pair) (old new : ℕ) → new ≡ old → WithinCost pair old new
-none_taken (Goes pair) old new none = λ strategy is.
+pub none_taken : (pair : Tested Pair) (old new : ℕ) → new ≡ old → WithinCost pair old new
+none_taken (Ok pair) old new none = λ strategy is.
     let most = copy_cost strategy pair.source.mapping pair.target.mapping pair.target.fields pair.target.extents in
     let few : new ≤ old + most = omega (arith, none) in
     few
-none_taken (Faults fault) old new none = omega (arith, none)
-none_taken (CannotRead name) old new none = omega (arith, none)
+none_taken (Err fault) old new none = omega (arith, none)
 
 pub no_copy : (world : World) (name target_name : List ℕ) (steps : ℕ) → WithinCopy world name target_name steps steps
 no_copy world name target_name steps = ⊎_elim
@@ -20,16 +19,16 @@ no_copy world name target_name steps = ⊎_elim
     (cases_Bool (same_name name target_name))
 
 -- the steps of a copy between two tables
-pair_alike : (source target : Table) → AreAlike source target → paired source target ≡ Goes (record { source = source; target = target })
+pair_alike : (source target : Table) → AreAlike source target → paired source target ≡ Ok (record { source = source; target = target })
 pair_alike source target are = rw (alike source target are) refl
 
 pub copy_steps : (source old new : Table) (result : Result Unit CopyFault) (before after : ℕ) → IsCopied source old new result →
     ((strategy : Strategy) → IsWay source old strategy → after ≤ before + copy_cost strategy source.mapping old.mapping old.fields old.extents) →
     (IsErrOf result copy.Mismatch → after ≡ before) → IsWithin source old before after
-copy_steps source old new (Ok done) before after is bound none = subst (λ (pair : Outcome Pair). WithinCost pair before after) (sym (pair_alike source old is.0)) bound
+copy_steps source old new (Ok done) before after is bound none = subst (λ (pair : Tested Pair). WithinCost pair before after) (sym (pair_alike source old is.0)) bound
 copy_steps source old new (Err copy.Mismatch) before after is bound none = none_taken (paired source old) before after (none refl)
 copy_steps source old new (Err (copy.Narrow row leaf)) before after is bound none =
-    subst (λ (pair : Outcome Pair). WithinCost pair before after) (sym (pair_alike source old is.0)) bound
+    subst (λ (pair : Tested Pair). WithinCost pair before after) (sym (pair_alike source old is.0)) bound
 
 -- the same of two tables in a list
 pub apart_within : (views : List ViewEntry) (source target place : ℕ) (entry old d : ViewEntry) (before after : ℕ) → AreApart views source target place entry old →
@@ -54,8 +53,8 @@ two_places : (world : World) (name target_name : List ℕ) (views : List ViewEnt
     IsAt view_of name views source → IsAt view_of target_name views target → copied_pair world name target_name ≡ paired (get_or views source d).view (get_or views target d).view
 unfolding copied_pair
 two_places world name target_name views source target d is one two =
-    let from : known name world.views ≡ Goes (get_or views source d).view = ap (known name) is ∙ known_place view_of name views source d one in
-    let to : known target_name world.views ≡ Goes (get_or views target d).view = ap (known target_name) is ∙ known_place view_of target_name views target d two in
+    let from : known name world.views ≡ Ok (get_or views source d).view = ap (known name) is ∙ known_place view_of name views source d one in
+    let to : known target_name world.views ≡ Ok (get_or views target d).view = ap (known target_name) is ∙ known_place view_of target_name views target d two in
     goes_then _ _ _ from ∙ goes_then _ _ _ to
 
 pub copy_within : (world : World) (name target_name : List ℕ) (views : List ViewEntry) (source target : ℕ) (d : ViewEntry) (before after : ℕ) → world.views ≡ map view_of views →
@@ -72,14 +71,14 @@ copy_within world name target_name views source target d before after is one two
     let pair = two_places world name target_name views source target d is one two in
     let within : WithinCost (copied_pair world name target_name) before after = ⊎_elim
     (λ (places : source ≡ target). none_taken (copied_pair world name target_name) before after (none places))
-    (λ (apart : source ≡ target → ⊥). subst (λ (p : Outcome Pair). WithinCost p before after) (sym pair) (bound apart))
+    (λ (apart : source ≡ target → ⊥). subst (λ (p : Tested Pair). WithinCost p before after) (sym pair) (bound apart))
     (cases_eq source target) in
     rw differ within)
     (cases_Bool (same_name name target_name))
 
 -- the steps of a table that is laid out anew
-pub laid_within : (world : World) (name : List ℕ) (term whole : MapTerm) (table fresh : Table) (before after : ℕ) → known name world.views ≡ Goes table →
-    nameless world.mappings term ≡ Goes whole → made world.views table.mode table.fields table.extents whole ≡ Goes fresh → fresh ≡ zeros_of table.mode table.fields table.extents whole →
+pub laid_within : (world : World) (name : List ℕ) (term whole : MapTerm) (table fresh : Table) (before after : ℕ) → known name world.views ≡ Ok table →
+    nameless world.mappings term ≡ Ok whole → made world.views table.mode table.fields table.extents whole ≡ Ok fresh → fresh ≡ zeros_of table.mode table.fields table.extents whole →
     IsWithin table fresh before after → WithinRelayout world name term before after
 unfolding laid_pair
 laid_within world name term whole table fresh before after known_is whole_is made_is zeros within =
@@ -87,4 +86,4 @@ laid_within world name term whole table fresh before after known_is whole_is mad
     let extents : fresh.extents ≡ table.extents = ap (λ (t : Table). t.extents) zeros in
     let pair : laid_pair world name term ≡ paired table fresh =
     goes_then _ _ _ known_is ∙ goes_then _ _ _ whole_is ∙ goes_then _ _ _ made_is ∙ sym (pair_alike table fresh (sym fields, sym extents)) in
-    subst (λ (p : Outcome Pair). WithinCost p before after) (sym pair) within
+    subst (λ (p : Tested Pair). WithinCost p before after) (sym pair) within

@@ -42,9 +42,9 @@ pub use Rattle.views.specs.Tallies.{reads_in, writes_in, reads_first, Read, all_
 pub use Rattle.worlds.specs.Actors.{fit_cuts, shared, memory_text}
 unfoldable pub use Rattle.worlds.specs.Actors.{updated_by_actors}
 pub use Rattle.worlds.specs.Names.{bound_filter, bound_sets, each_once, leaves_of, nameless, leaf_of, bound, bound_set, text_of_leaf}
-pub use Rattle.worlds.specs.OnView.{Done, done_to, tells, with_table}
+pub use Rattle.worlds.specs.OnView.{Done, done_to, tells, with_table, telling, left_as, reading, Told}
 unfoldable pub use Rattle.worlds.specs.OnView.{on_view}
-pub use Rattle.worlds.specs.Outcomes.{Outcome, Goes, Faults, CannotRead, ◌>>=◌, refused_if, refused_by, ok_or, quiet, known, some_or, LeftOf, Left, shows, free}
+pub use Rattle.worlds.specs.Outcomes.{Outcome, Goes, Faults, CannotRead, ◌>>=◌, refused_if, refused_by, ok_or, quiet, known, some_or, LeftOf, Left, shows, free, Tested, Fault, Unread, sure}
 pub use Rattle.worlds.specs.Show.{small, all_runs}
 unfoldable pub use Rattle.worlds.specs.Show.{counts, heat, layout, drop_view, print}
 pub use Rattle.worlds.specs.declared.fault.BadActors.TheVariants.{Cuts, Turns}
@@ -122,7 +122,7 @@ pub use Rattle.worlds.specs.Stencil.{fit_stencil, room_beside, stencil_rounds}
 unfoldable pub use Rattle.worlds.specs.Stencil.{stencil_run}
 pub use Rattle.line_grammar.specs.declared.line.Line.{Line}
 pub use Rattle.worlds.specs.AnswersLaws.{steps_same}
-pub use Rattle.worlds.specs.Step.{command}
+pub use Rattle.worlds.specs.Step.{command, done_by}
 unfoldable pub use Rattle.worlds.specs.Step.{step}
 pub use Rattle.command_checks.specs.declared.entries.RecordEntry.{RecordEntry}
 pub use Rattle.command_checks.specs.declared.mapping_entry.MappingEntry.{MappingEntry}
@@ -158,3 +158,4 @@ pub use Rattle.session.specs.Inner.Opens.{file_fault, placed_table, with_room}
 pub use Rattle.session.specs.Loads.{Loads, IsUnread, UnreadOnly, ToldFor, read_within, named_of, new_of, filled_table}
 pub use Rattle.session.specs.Stands.{AreLeft, Stands, left_of, world_in, world_of}
 pub use Rattle.session.specs.declared.session.Session.{Session}
+pub use Rattle.session.specs.LoadsLaws.{no_file}

@@ -1,5 +1,5 @@
 -- The first table of a name, by its place among the others.
-use Rattle.session.proofs.Imports.{◌≡◌, true, false, ℕ, zero, suc, List, [], ◌∷◌, get_or, Option, Some, None, refl, ap, ⊎_elim, slice_set, cases_Bool, Table, Entry, same_name, found, replaced, Faults, known, GivesUp, IsFirst, StepFault}
+use Rattle.session.proofs.Imports.{◌≡◌, true, false, ℕ, zero, suc, List, [], ◌∷◌, get_or, Option, Some, None, refl, ap, ⊎_elim, slice_set, cases_Bool, Table, Entry, same_name, found, replaced, known, GivesUp, IsFirst, StepFault, Err}
 use Rattle.command_checks.specs.declared.fault.StepFault.TheVariants as step
 
 -- the first table of a name is found
@@ -43,7 +43,7 @@ still_unknown name other (entry ∷ entries) held none = ⊎_elim
 pub gives_up_still : (name other : List ℕ) (entries : List (Entry Table)) (held : Table) (fault : StepFault) → GivesUp (known name entries) fault → GivesUp (known name (replaced other held entries)) fault
 gives_up_still name other entries held (step.Command refusal) gives = refused (found name entries) refl
   where
-    refused : (what : Option Table) → found name entries ≡ what → known name (replaced other held entries) ≡ Faults refusal
+    refused : (what : Option Table) → found name entries ≡ what → known name (replaced other held entries) ≡ Err refusal
     refused None none = rw (still_unknown name other entries held none) (rw none at gives)
     refused (Some table) some = absurd (cc)
 gives_up_still name other entries held step.NoMemory gives = tt

@@ -1,5 +1,5 @@
 -- A table that is opened beside others.
-use Rattle.session.proofs.Imports.{◌≡◌, ℕ, List, Result, Ok, Err, refl, sym, ap, subst, ⊎_elim, IsRead, opened, FileFault, Table, bad_file, Outcome, Entry, Gives, GivesUp, StepFault, file_fault, placed_table, with_room}
+use Rattle.session.proofs.Imports.{◌≡◌, ℕ, List, Result, Ok, Err, refl, sym, ap, subst, ⊎_elim, IsRead, opened, FileFault, Table, bad_file, Entry, Gives, GivesUp, StepFault, file_fault, placed_table, with_room, Tested}
 use Rattle.blob_file.specs.declared.fault.FileFault.TheVariants as cause
 use Rattle.command_checks.specs.declared.fault.StepFault.TheVariants as step
 
@@ -8,7 +8,7 @@ pub placed_gives : {A : Type 0} (views : List (Entry Table)) (bytes : List ℕ) 
     → Gives view result (placed_table views bytes)
 placed_gives views bytes table view result read gives =
     let placed : placed_table views bytes ≡ with_room views table = rw read.1 (ap (with_room views) (sym read.2)) in
-    subst (λ (outcome : Outcome Table). Gives view result outcome) (sym placed) gives
+    subst (λ (outcome : Tested Table). Gives view result outcome) (sym placed) gives
 
 -- or was not
 refused : (views : List (Entry Table)) (bytes : List ℕ) (found : FileFault) (fault : StepFault) → fault ≡ step.Command (bad_file found) → (found ≡ cause.NoMemory → ⊥) → IsRead (opened bytes) (Err found) → GivesUp (placed_table views bytes) fault

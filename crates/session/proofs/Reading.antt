@@ -1,5 +1,5 @@
 -- A file that is read, or not, on the way to a table.
-use Rattle.session.proofs.Imports.{◌≡◌, ◌∙◌, ◌⊎◌, ◌<◌, ◌≤◌, ℕ, Bool, true, false, nat_lt, List, length, Option, Some, None, Result, Ok, Err, inl, inr, ⊎_elim, refl, subst, arith, nat_tests, IsSomeAnd, File, file_named, IsMissing, HasFile, Outcome, Goes, Faults, CannotRead, ◌>>=◌, refused_if, TooBig, Gives, GivesUp, goes_then, StepFault, Loads, IsUnread, UnreadOnly, ToldFor, read_within}
+use Rattle.session.proofs.Imports.{◌≡◌, ◌∙◌, ◌⊎◌, ◌<◌, ◌≤◌, ℕ, Bool, true, false, nat_lt, List, length, Option, Some, None, Result, Ok, Err, inl, inr, ⊎_elim, refl, subst, arith, nat_tests, IsSomeAnd, File, file_named, IsMissing, HasFile, Outcome, Goes, Faults, CannotRead, ◌>>=◌, refused_if, TooBig, Gives, GivesUp, goes_then, StepFault, Loads, IsUnread, UnreadOnly, ToldFor, read_within, ap, Tested, Fault, Unread, sure}
 use Rattle.command_checks.specs.declared.fault.StepFault.TheVariants as step
 
 -- a file of this name is there
@@ -33,23 +33,22 @@ was_long most files name bytes is long =
     rw (is, over) refl
 
 -- a test of how long bytes are comes with what gives them, or with what is made of them
-tested : {A B : Type 0} (test : Bool) (x : A) (rest : A → Outcome B) → (refused_if test TooBig >>= (λ short. rest x)) ≡ ((refused_if test TooBig >>= (λ short. Goes x)) >>= rest)
+tested : {A B : Type 0} (test : Bool) (x : A) (rest : A → Tested B) → sure (refused_if test TooBig >>= (λ short. rest x)) ≡ ((sure (refused_if test TooBig) >>= (λ short. Goes x)) >>= (λ y. sure (rest y)))
 tested true x rest = refl
 tested false x rest = refl
 
-pub within_first : {B : Type 0} (most : ℕ) (held : Outcome (List ℕ)) (rest : List ℕ → Outcome B) → (held >>= (λ bytes. refused_if (nat_lt most (length bytes)) TooBig >>= (λ short. rest bytes)))
-    ≡ ((held >>= (λ bytes. refused_if (nat_lt most (length bytes)) TooBig >>= (λ short. Goes bytes))) >>= rest)
-within_first most (Goes bytes) rest = tested (nat_lt most (length bytes)) bytes rest
-within_first most (Faults fault) rest = refl
-within_first most (CannotRead name) rest = refl
+pub within_first : {B : Type 0} (most : ℕ) (held : Outcome (List ℕ)) (rest : List ℕ → Tested B) → (held >>= (λ bytes. sure (refused_if (nat_lt most (length bytes)) TooBig >>= (λ short. rest bytes))))
+    ≡ ((held >>= (λ bytes. sure (refused_if (nat_lt most (length bytes)) TooBig) >>= (λ short. Goes bytes))) >>= (λ bytes. sure (rest bytes)))
+within_first most (Ok bytes) rest = tested (nat_lt most (length bytes)) bytes rest
+within_first most (Err stop) rest = refl
 
 -- a test that gives up before the file is read
-pub before_reading : {A B : Type 0} (name : List ℕ) (view : A → B) (outcome : Bool → Outcome B) (read_failed : Type 0) (fault : StepFault) (result : Result A StepFault) →
-    result ≡ Err fault → GivesUp (outcome false) fault → Loads name view outcome read_failed result
-before_reading name view outcome read_failed (step.Command refusal) result is gives = rw is gives
-before_reading name view outcome read_failed step.NoMemory result is gives = rw is tt
-before_reading name view outcome read_failed step.Source result is gives = absurd gives
-before_reading name view outcome read_failed step.Sink result is gives = absurd gives
+pub before_reading : {A B X : Type 0} (name : List ℕ) (view : A → B) (outcome : Bool → Outcome B) (first : Tested X) (next : X → Outcome B) (read_failed : Type 0) (fault : StepFault) (result : Result A StepFault) →
+    outcome false ≡ (sure first >>= next) → result ≡ Err fault → GivesUp first fault → Loads name view outcome read_failed result
+before_reading name view outcome first next read_failed (step.Command refusal) result same is gives = rw is (same ∙ rw gives refl)
+before_reading name view outcome first next read_failed step.NoMemory result same is gives = rw is tt
+before_reading name view outcome first next read_failed step.Source result same is gives = absurd gives
+before_reading name view outcome first next read_failed step.Sink result same is gives = absurd gives
 
 -- what comes behind an outcome that is not reached
 pub after_load : {A B C D : Type 0} (name : List ℕ) (view : A → B) (done : C → D) (outcome : Bool → Outcome B) (rest : B → Outcome D) (read_failed : Type 0) (fault : StepFault) (result : Result C StepFault) →
@@ -73,9 +72,9 @@ unread_after A name outcome rest other result is unread = rw is tt
 
 -- what is told of a load is told of what comes first
 pub told_first : {A B : Type 0} (told : Option (List File)) (files : List File) (first : Outcome A) (rest : A → Outcome B) → ToldFor told (first >>= rest) files → ToldFor told first files
-told_first told files (Goes x) rest is = tt
-told_first told files (Faults fault) rest is = tt
-told_first told files (CannotRead name) rest is = is
+told_first told files (Ok x) rest is = tt
+told_first told files (Err (Fault fault)) rest is = tt
+told_first told files (Err (Unread name)) rest is = is
 
 -- the same outcomes, said otherwise
 loads_same : {A B : Type 0} (name : List ℕ) (view : A → B) (whole outcome : Bool → Outcome B) (read_failed : Type 0) (result : Result A StepFault) →
@@ -90,42 +89,42 @@ loads_same name view whole outcome read_failed (Err step.Source) same unread = r
 loads_same name view whole outcome read_failed (Err step.Sink) same loads = absurd loads
 
 -- the outcome is what is made of the bytes of this file, which has at most so many
-pub record IsOf {B : Type 0} (most : ℕ) (name : List ℕ) (rest : List ℕ → Outcome B) (outcome : List File → Bool → Outcome B) : Type 0 where
-  pub is : (files : List File) (unread : Bool) → outcome files unread ≡ (read_within most files unread name >>= rest)
+pub record IsOf {B : Type 0} (most : ℕ) (name : List ℕ) (rest : List ℕ → Tested B) (outcome : List File → Bool → Outcome B) : Type 0 where
+  pub is : (files : List File) (unread : Bool) → outcome files unread ≡ (read_within most files unread name >>= (λ bytes. sure (rest bytes)))
 
 -- then it reads the file, so the files are told
-pub told_of : {B : Type 0} {most : ℕ} {name : List ℕ} {rest : List ℕ → Outcome B} {outcome : List File → Bool → Outcome B} (told : Option (List File)) (files : List File) →
+pub told_of : {B : Type 0} {most : ℕ} {name : List ℕ} {rest : List ℕ → Tested B} {outcome : List File → Bool → Outcome B} (told : Option (List File)) (files : List File) →
     IsOf most name rest outcome → ToldFor told (outcome files true) files → told ≡ Some files
 told_of {B} told files reads given = subst (λ (o : Outcome B). ToldFor told o files) (reads.is files true) given
 
 -- the file was read
-pub loads_of : {A B : Type 0} {most : ℕ} {name : List ℕ} {rest : List ℕ → Outcome B} {outcome : List File → Bool → Outcome B} (view : A → B) (files : List File) (bytes : List ℕ) (read_failed : Type 0) (result : Result A StepFault) →
+pub loads_of : {A B : Type 0} {most : ℕ} {name : List ℕ} {rest : List ℕ → Tested B} {outcome : List File → Bool → Outcome B} (view : A → B) (files : List File) (bytes : List ℕ) (read_failed : Type 0) (result : Result A StepFault) →
     IsOf most name rest outcome → read_within most files false name ≡ Goes bytes → Gives view result (rest bytes) → Loads name view (outcome files) read_failed result
-loads_of {rest} view files bytes read_failed (Ok x) reads read gives = reads.is files false ∙ goes_then _ rest bytes read ∙ gives
-loads_of {rest} view files bytes read_failed (Err (step.Command refusal)) reads read gives = reads.is files false ∙ goes_then _ rest bytes read ∙ gives
+loads_of {rest} view files bytes read_failed (Ok x) reads read gives = reads.is files false ∙ goes_then _ (λ bytes. sure (rest bytes)) bytes read ∙ ap sure gives
+loads_of {rest} view files bytes read_failed (Err (step.Command refusal)) reads read gives = reads.is files false ∙ goes_then _ (λ bytes. sure (rest bytes)) bytes read ∙ ap sure gives
 loads_of view files bytes read_failed (Err step.NoMemory) reads read gives = tt
 loads_of view files bytes read_failed (Err step.Source) reads read gives = absurd gives
 loads_of view files bytes read_failed (Err step.Sink) reads read gives = absurd gives
 
 -- it was not
-pub unloads_of : {A B : Type 0} {most : ℕ} {name : List ℕ} {rest : List ℕ → Outcome B} {outcome : List File → Bool → Outcome B} (view : A → B) (files : List File) (read_failed : Type 0) (fault : StepFault) (result : Result A StepFault) →
+pub unloads_of : {A B : Type 0} {most : ℕ} {name : List ℕ} {rest : List ℕ → Tested B} {outcome : List File → Bool → Outcome B} (view : A → B) (files : List File) (read_failed : Type 0) (fault : StepFault) (result : Result A StepFault) →
     IsOf most name rest outcome → result ≡ Err fault → Loads {A = List ℕ} name (λ bytes. bytes) (λ unread. read_within most files unread name) read_failed (Err fault) → Loads name view (outcome files) read_failed result
 unloads_of {most} {name} {rest} {outcome} view files read_failed fault result reads is loads =
-    loads_same name view (outcome files) (λ unread. read_within most files unread name >>= rest) read_failed result (reads.is files)
-    (after_load {A = List ℕ} name (λ (bytes : List ℕ). bytes) view (λ unread. read_within most files unread name) rest read_failed fault result is loads)
+    loads_same name view (outcome files) (λ unread. read_within most files unread name >>= (λ bytes. sure (rest bytes))) read_failed result (reads.is files)
+    (after_load {A = List ℕ} name (λ (bytes : List ℕ). bytes) view (λ unread. read_within most files unread name) (λ bytes. sure (rest bytes)) read_failed fault result is loads)
 
 -- and no other file is told as unread
-pub unread_of : (A : Type 0) {B : Type 0} {most : ℕ} {name : List ℕ} {rest : List ℕ → Outcome B} {outcome : List File → Bool → Outcome B} (fault : StepFault) (result : Result A StepFault) →
+pub unread_of : (A : Type 0) {B : Type 0} {most : ℕ} {name : List ℕ} {rest : List ℕ → Tested B} {outcome : List File → Bool → Outcome B} (fault : StepFault) (result : Result A StepFault) →
     IsOf most name rest outcome → result ≡ Err fault → UnreadOnly (Some name) outcome result
 unread_of A step.Source result reads is = rw is (λ files. reads.is files true)
 unread_of A other result reads is = rw is tt
 
 -- a test that gives up tells no file as unread
-pub unread_test : {A B X : Type 0} (file : Option (List ℕ)) (first : Outcome X) (outcome : List File → Bool → Outcome B) (fault : StepFault) (result : Result A StepFault) → result ≡ Err fault → GivesUp first fault → UnreadOnly file outcome result
+pub unread_test : {A B X : Type 0} (file : Option (List ℕ)) (first : Tested X) (outcome : List File → Bool → Outcome B) (fault : StepFault) (result : Result A StepFault) → result ≡ Err fault → GivesUp first fault → UnreadOnly file outcome result
 unread_test file first outcome step.Source result is gives = absurd gives
 unread_test file first outcome other result is gives = rw is tt
 
 -- nor does one that is done without a file
-pub unread_gives : {A B C : Type 0} (file : Option (List ℕ)) (view : A → B) (first : Outcome B) (outcome : List File → Bool → Outcome C) (result : Result A StepFault) → Gives view result first → UnreadOnly file outcome result
+pub unread_gives : {A B C : Type 0} (file : Option (List ℕ)) (view : A → B) (first : Tested B) (outcome : List File → Bool → Outcome C) (result : Result A StepFault) → Gives view result first → UnreadOnly file outcome result
 unread_gives file view first outcome (Ok x) gives = tt
 unread_gives {A} file view first outcome (Err fault) gives = unread_test {A = A} file first outcome fault (Err fault) refl gives

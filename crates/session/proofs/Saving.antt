@@ -1,5 +1,5 @@
 -- A table that is saved.
-use Rattle.session.proofs.Imports.{◌≡◌, ◌∙◌, ◌≤◌, ℕ, Bool, true, false, nat_lt, length, List, Option, Err, refl, sym, ap, subst, arith, ⊎_elim, ◌||◌, cases_Bool, nat_tests, IsShort, record_text, view_text, header_of, blobs_of, Table, save, done_to, tells, Outcome, LeftOf, Goes, Faults, ◌>>=◌, refused_if, TooBig, GivesUp, StepFault, Answers, IsLeft, left_with}
+use Rattle.session.proofs.Imports.{◌≡◌, ◌∙◌, ◌≤◌, ℕ, Bool, true, false, nat_lt, length, List, Option, Err, refl, sym, ap, subst, arith, ⊎_elim, ◌||◌, cases_Bool, nat_tests, IsShort, record_text, view_text, header_of, blobs_of, Table, save, done_to, tells, LeftOf, ◌>>=◌, refused_if, TooBig, GivesUp, StepFault, Answers, IsLeft, left_with, Ok, telling, Tested}
 use Rattle.blob_file.specs.Files.{file_of}
 use Rattle.session.proofs.Exits.{gave_up}
 use Rattle.session.proofs.Views.{tells_left}
@@ -21,22 +21,22 @@ some_long a b long = ⊎_elim
     at_most n within = grind (arith, nat_tests)
 
 -- the outcome, where the texts are too long and where they are not
-abbrev saved : Table → Bool → Outcome (LeftOf Table)
-saved table long = done_to table (refused_if long TooBig >>= (λ short. Goes (tells table (file_of (header_of table) (blobs_of table)))))
+abbrev saved : Table → Bool → Tested (LeftOf Table)
+saved table long = done_to table (telling (λ shown. refused_if long TooBig >>= (λ short. Ok (tells (file_of (header_of table) (blobs_of table))))) table)
 
-pub save_goes : (table : Table) → IsShort (header_of table) → done_to table (save table) ≡ Goes (left_with table (file_of (header_of table) (blobs_of table)))
+pub save_goes : (table : Table) → IsShort (header_of table) → done_to table (telling save table) ≡ Ok (left_with table (file_of (header_of table) (blobs_of table)))
 unfolding save
 save_goes table short =
     ap (saved table) (none_long (length (record_text (header_of table))) (length (view_text (header_of table))) short.of_record short.of_view)
     ∙ tells_left table (file_of (header_of table) (blobs_of table))
 
-pub save_long : (table : Table) → (IsShort (header_of table) → ⊥) → done_to table (save table) ≡ Faults TooBig
+pub save_long : (table : Table) → (IsShort (header_of table) → ⊥) → done_to table (telling save table) ≡ Err TooBig
 unfolding save
 save_long table long =
     ap (saved table) (some_long (length (record_text (header_of table))) (length (view_text (header_of table))) (λ one other. long (record { of_record = one; of_view = other })))
 
 -- a work that gives up and leaves its sink as it was
-pub gave_up_idle : {K : Type 0} (taken : K → Option (List ℕ)) (faults : K → ℕ) (old new : K) (view : Table) (outcome : Outcome (LeftOf Table)) (fault : StepFault) →
+pub gave_up_idle : {K : Type 0} (taken : K → Option (List ℕ)) (faults : K → ℕ) (old new : K) (view : Table) (outcome : Tested (LeftOf Table)) (fault : StepFault) →
     new ≡ old → GivesUp outcome fault → Answers (IsLeft view) taken faults old new outcome (Err fault)
 gave_up_idle {K} taken faults old new view outcome fault same gives =
     subst (λ (k : K). Answers (IsLeft view) taken faults old k outcome (Err fault)) (sym same) (gave_up (IsLeft view) taken faults old outcome fault (Err fault) refl gives)

@@ -1,5 +1,5 @@
 -- The leaves that are set, one after another.
-use Rattle.session.proofs.Imports.{◌≡◌, ℕ, suc, ◌+◌, ◌<◌, ◌≤◌, Bool, true, false, nat_eq, List, [], ◌∷◌, ◌++◌, length, get_or, take, drop, map, refl, sym, ap, subst, ◌∙◌, arith, add-one, ⊎_elim, ◌||◌, option_copied, Bor, Bound, bound_term, Term, All-get_or, Table, leaf_count_of, list_any, IsDistinct, cases_Bool, false≢true, nat_tests, nat_eq_equiv, take-append-drop, map-append, length-map, take_more, take_all, take-map, IsDistinct-push, length-le_from_distinct_below, drop_of_length-le, drop-cons, Fields, Assignment, Value, Setting, setting_of, filter_term, IsSetOf, Assign, Outcome, Goes, Faults, CannotRead, ◌>>=◌, bound_filter, bound_set, bound_sets, each_once, leaves_of, text_of_leaf, updated, Twice, GivesUp, GivesUp-then, StepFault, rows_updated}
+use Rattle.session.proofs.Imports.{◌≡◌, ℕ, suc, ◌+◌, ◌<◌, ◌≤◌, Bool, true, false, nat_eq, List, [], ◌∷◌, ◌++◌, length, get_or, take, drop, map, refl, sym, ap, subst, ◌∙◌, arith, add-one, ⊎_elim, ◌||◌, option_copied, Bor, Bound, bound_term, Term, All-get_or, Table, leaf_count_of, list_any, IsDistinct, cases_Bool, false≢true, nat_tests, nat_eq_equiv, take-append-drop, map-append, length-map, take_more, take_all, take-map, IsDistinct-push, length-le_from_distinct_below, drop_of_length-le, drop-cons, Fields, Assignment, Value, Setting, setting_of, filter_term, IsSetOf, Assign, ◌>>=◌, bound_filter, bound_set, bound_sets, each_once, leaves_of, text_of_leaf, updated, Twice, GivesUp, GivesUp-then, StepFault, rows_updated, Ok, Err, Tested}
 use Rattle.std.specs.Prelude.{All, Option, Some, None, option_map}
 use Rattle.std.proofs.lemmas.List.{get_or-map}
 
@@ -12,30 +12,28 @@ pub map_more : {X Y : Type 0} (f : X → Y) (xs : List X) (i : ℕ) (d : X) → 
 map_more f xs i d small = ap (map f) (take_more xs i d small) ∙ map-append f (take i xs) (get_or xs i d ∷ [])
 
 -- settings that were made
-record IsMade (first : Outcome Setting) (rest : Outcome (List Setting)) (settings : List Setting) : Type 0 where
+record IsMade (first : Tested Setting) (rest : Tested (List Setting)) (settings : List Setting) : Type 0 where
   made : Setting
   others : List Setting
-  first_is : first ≡ Goes made
-  rest_is : rest ≡ Goes others
+  first_is : first ≡ Ok made
+  rest_is : rest ≡ Ok others
   settings_are : settings ≡ made ∷ others
 
-is_made : (first : Outcome Setting) (rest : Outcome (List Setting)) (settings : List Setting) → (first >>= (λ y. rest >>= (λ ys. Goes (y ∷ ys)))) ≡ Goes settings → IsMade first rest settings
-is_made (Goes y) (Goes ys) settings e = record { made = y; others = ys; first_is = refl; rest_is = refl; settings_are = (let same : (y ∷ ys) ≡ settings = cc in sym same) }
-is_made (Goes y) (Faults fault) settings e = absurd (cc)
-is_made (Goes y) (CannotRead name) settings e = absurd (cc)
-is_made (Faults fault) rest settings e = absurd (cc)
-is_made (CannotRead name) rest settings e = absurd (cc)
+is_made : (first : Tested Setting) (rest : Tested (List Setting)) (settings : List Setting) → (first >>= (λ y. rest >>= (λ ys. Ok (y ∷ ys)))) ≡ Ok settings → IsMade first rest settings
+is_made (Ok y) (Ok ys) settings e = record { made = y; others = ys; first_is = refl; rest_is = refl; settings_are = (let same : (y ∷ ys) ≡ settings = cc in sym same) }
+is_made (Ok y) (Err fault) settings e = absurd (cc)
+is_made (Err fault) rest settings e = absurd (cc)
 
-pushed : (first : Outcome Setting) (rest : Outcome (List Setting)) (made : Setting) (others : List Setting) (setting : Setting) (settings : List Setting) →
-    first ≡ Goes made → rest ≡ Goes (others ++ setting ∷ []) → settings ≡ made ∷ others → (first >>= (λ y. rest >>= (λ ys. Goes (y ∷ ys)))) ≡ Goes (settings ++ setting ∷ [])
+pushed : (first : Tested Setting) (rest : Tested (List Setting)) (made : Setting) (others : List Setting) (setting : Setting) (settings : List Setting) →
+    first ≡ Ok made → rest ≡ Ok (others ++ setting ∷ []) → settings ≡ made ∷ others → (first >>= (λ y. rest >>= (λ ys. Ok (y ∷ ys)))) ≡ Ok (settings ++ setting ∷ [])
 pushed first rest made others setting settings a b c = rw (a, b, c) refl
 
-stopped : (first : Outcome Setting) (rest : Outcome (List Setting)) (made : Setting) (fault : StepFault) → first ≡ Goes made → GivesUp rest fault → GivesUp (first >>= (λ y. rest >>= (λ ys. Goes (y ∷ ys)))) fault
+stopped : (first : Tested Setting) (rest : Tested (List Setting)) (made : Setting) (fault : StepFault) → first ≡ Ok made → GivesUp rest fault → GivesUp (first >>= (λ y. rest >>= (λ ys. Ok (y ∷ ys)))) fault
 stopped first rest made fault a gives = rw a (GivesUp-then rest _ fault gives)
 
 -- one setting more
 pub sets_push : (fields : Fields) (rank : ℕ) (before : List Assignment) (settings : List Setting) (set : Assignment) (setting : Setting) →
-    bound_sets fields rank before ≡ Goes settings → bound_set fields rank set ≡ Goes setting → bound_sets fields rank (before ++ set ∷ []) ≡ Goes (settings ++ setting ∷ [])
+    bound_sets fields rank before ≡ Ok settings → bound_set fields rank set ≡ Ok setting → bound_sets fields rank (before ++ set ∷ []) ≡ Ok (settings ++ setting ∷ [])
 sets_push fields rank [] settings set setting so_far is = let none : settings ≡ [] = cc in rw (is, none) refl
 sets_push fields rank (first ∷ before) settings set setting so_far is =
     let made = is_made (bound_set fields rank first) (bound_sets fields rank before) settings so_far in
@@ -44,7 +42,7 @@ sets_push fields rank (first ∷ before) settings set setting so_far is =
 
 -- a setting that is refused
 pub sets_stop : (fields : Fields) (rank : ℕ) (before : List Assignment) (settings : List Setting) (set : Assignment) (behind : List Assignment) (fault : StepFault) →
-    bound_sets fields rank before ≡ Goes settings → GivesUp (bound_set fields rank set) fault → GivesUp (bound_sets fields rank (before ++ set ∷ behind)) fault
+    bound_sets fields rank before ≡ Ok settings → GivesUp (bound_set fields rank set) fault → GivesUp (bound_sets fields rank (before ++ set ∷ behind)) fault
 sets_stop fields rank [] settings set behind fault so_far gives = GivesUp-then (bound_set fields rank set) _ fault gives
 sets_stop fields rank (first ∷ before) settings set behind fault so_far gives =
     let made = is_made (bound_set fields rank first) (bound_sets fields rank before) settings so_far in
@@ -75,10 +73,10 @@ once_more fields leaves place small fresh so_far = record {
   distinct = rw (take_more leaves place 0 small) (IsDistinct-push nat_eq_equiv (take place leaves) (get_or leaves place 0) so_far.distinct fresh);
 }
 
-pub once_stop : (fields : Fields) (leaves : List ℕ) (place : ℕ) → place < length leaves → list_any (nat_eq (get_or leaves place 0)) (take place leaves) ≡ true → IsOnce fields leaves place → each_once fields [] leaves ≡ Faults (Twice (text_of_leaf fields (get_or leaves place 0)))
+pub once_stop : (fields : Fields) (leaves : List ℕ) (place : ℕ) → place < length leaves → list_any (nat_eq (get_or leaves place 0)) (take place leaves) ≡ true → IsOnce fields leaves place → each_once fields [] leaves ≡ Err (Twice (text_of_leaf fields (get_or leaves place 0)))
 once_stop fields leaves place small again so_far = so_far.once ∙ rw (drop-cons leaves place 0 small, again) refl
 
-pub once_all : (fields : Fields) (leaves : List ℕ) (place : ℕ) → length leaves ≤ place → IsOnce fields leaves place → each_once fields [] leaves ≡ Goes tt
+pub once_all : (fields : Fields) (leaves : List ℕ) (place : ℕ) → length leaves ≤ place → IsOnce fields leaves place → each_once fields [] leaves ≡ Ok tt
 once_all fields leaves place over so_far = so_far.once ∙ ap (each_once fields (take place leaves)) (drop_of_length-le leaves over)
 
 -- the leaf that is set at a place
@@ -125,7 +123,7 @@ filter_is (Some lent) bound is = ap (option_map bound_term) is
 
 -- an update whose words are known
 pub updated_is : (table : Table) (filter : Option Value) (sets : List Assignment) (test : Option (Term ℕ)) (settings : List Setting) →
-    bound_filter table.fields (length table.extents) filter ≡ Goes test → bound_sets table.fields (length table.extents) sets ≡ Goes settings →
-    each_once table.fields [] (leaves_of settings) ≡ Goes tt → updated table filter sets ≡ rows_updated table test settings
+    bound_filter table.fields (length table.extents) filter ≡ Ok test → bound_sets table.fields (length table.extents) sets ≡ Ok settings →
+    each_once table.fields [] (leaves_of settings) ≡ Ok tt → updated table filter sets ≡ rows_updated table test settings
 unfolding updated
 updated_is table filter sets test settings a b c = rw (a, b, c) refl

@@ -1,5 +1,5 @@
 -- What stencils do, and the buffer of their rounds.
-use Rattle.session.proofs.Imports.{◌≡◌, ◌∙◌, ℕ, List, Span, TermText, IsBuiltTerm, Count, Heat, uncounted, PathStep, Stencil, Table, done_to, Goes, fit_stencil, room_beside, stencil_rounds, stencil_run, GivesUp, GivesUp-then, goes_then, StepFault}
+use Rattle.session.proofs.Imports.{◌≡◌, ◌∙◌, ℕ, List, Span, TermText, IsBuiltTerm, Count, Heat, uncounted, PathStep, Stencil, Table, done_to, fit_stencil, room_beside, stencil_rounds, stencil_run, GivesUp, GivesUp-then, goes_then, StepFault}
 use Rattle.map_expr.specs.Terms.{Term}
 use Rattle.session.proofs.Exits.{goes_gives}
 
@@ -10,12 +10,12 @@ module _ (live : ℕ) (table : Table) (spans : List Span) (path : List PathStep)
   unfolding stencil_run
   unfit fault gives = GivesUp-then _ _ fault (GivesUp-then _ _ fault gives)
 
-  pub no_room : (stencil : Stencil) (fault : StepFault) → fit_stencil table spans path texts divisor rounds ≡ Goes stencil → GivesUp (room_beside live table) fault
+  pub no_room : (stencil : Stencil) (fault : StepFault) → fit_stencil table spans path texts divisor rounds ≡ Ok stencil → GivesUp (room_beside live table) fault
       → GivesUp (done_to table (stencil_run live table spans path texts divisor rounds)) fault
   unfolding stencil_run
   no_room stencil fault fit gives = GivesUp-then _ _ fault (goes_gives _ stencil _ fault fit (GivesUp-then _ _ fault gives))
 
-  pub run_is : (stencil : Stencil) → fit_stencil table spans path texts divisor rounds ≡ Goes stencil → room_beside live table ≡ Goes tt
+  pub run_is : (stencil : Stencil) → fit_stencil table spans path texts divisor rounds ≡ Ok stencil → room_beside live table ≡ Ok tt
       → stencil_run live table spans path texts divisor rounds ≡ stencil_rounds table rounds stencil
   unfolding stencil_run
   run_is stencil fit room = goes_then _ _ _ fit ∙ goes_then _ _ _ room

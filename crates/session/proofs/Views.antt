@@ -1,25 +1,24 @@
 -- What a work on a view answers is what the command on the view of a name answers.
-use Rattle.session.proofs.Imports.{◌≡◌, ℕ, List, map, get_or, Option, Some, None, Result, Ok, Err, refl, sym, ap, subst, ◌∙◌, slice_set, Wrote, Stopped, LeafCounts, HeatCounts, counts_text, heat_text, runs_text, texts_of, Table, owners_of, Tally, tallied-none, Did, Fronted, text_of, Done, tells, done_to, on_view, with_table, Outcome, Goes, Faults, CannotRead, LeftOf, Left, ◌>>=◌, known, some_or, shows, counts, heat, layout, small, all_runs, World, Entry, NotCounted, view_of, IsAt, known_at, RecordEntry, ViewEntry, MappingEntry, StepFault, Answers, IsLeft, left_with, AreLeft, Stands, world_in, world_of, Session}
+use Rattle.session.proofs.Imports.{◌≡◌, ℕ, List, map, get_or, Option, Some, None, Result, Ok, Err, refl, sym, ap, subst, ◌∙◌, slice_set, Wrote, Stopped, LeafCounts, HeatCounts, counts_text, heat_text, runs_text, texts_of, Table, owners_of, Tally, tallied-none, Did, Fronted, text_of, Done, tells, done_to, on_view, with_table, LeftOf, Left, ◌>>=◌, known, some_or, shows, counts, heat, layout, small, all_runs, World, Entry, NotCounted, view_of, IsAt, known_at, RecordEntry, ViewEntry, MappingEntry, StepFault, Answers, IsLeft, left_with, AreLeft, Stands, world_in, world_of, Session, telling, left_as, Tested}
 use Rattle.command_checks.specs.declared.fault.StepFault.TheVariants as step
 use Rattle.session.proofs.Exits.{table_changed}
 
 -- the outcome of a command on the view of a name, by what it leaves of the table
-abbrev onward : World → List ℕ → Outcome (LeftOf Table) → Outcome Left
+abbrev onward : World → List ℕ → Tested (LeftOf Table) → Tested Left
 onward world name outcome = outcome >>= (λ new. shows (with_table world name new.held) new.text)
 
-on_known : (world : World) (name : List ℕ) (table : Table) (does : Table → Outcome Done) → known name world.views ≡ Goes table → on_view world name does ≡ onward world name (done_to table (does table))
+on_known : (world : World) (name : List ℕ) (table : Table) (does : Table → Tested Done) → known name world.views ≡ Ok table → on_view world name does ≡ onward world name (done_to table (does table))
 unfolding on_view
 on_known world name table does is = rw is refl
 
-text_onward : (world : World) (name : List ℕ) (outcome : Outcome (LeftOf Table)) → text_of (onward world name outcome) ≡ text_of outcome
-text_onward world name (Goes left) = refl
-text_onward world name (Faults fault) = refl
-text_onward world name (CannotRead file) = refl
+text_onward : (world : World) (name : List ℕ) (outcome : Tested (LeftOf Table)) → text_of (onward world name outcome) ≡ text_of outcome
+text_onward world name (Ok left) = refl
+text_onward world name (Err fault) = refl
 
 -- a work that stops
 pub view_stops : {K : Type 0} (taken : K → Option (List ℕ)) (faults : K → ℕ) (old new : K) (records : List RecordEntry) (mappings : List MappingEntry) (items left : List ViewEntry) (name : List ℕ) (view : Table) (table : Table)
-    (does : Table → Outcome Done) (fault : StepFault) (result : Result (Unit {0}) StepFault) →
-    result ≡ Err fault → known name (map view_of items) ≡ Goes table → Answers (IsLeft view) taken faults old new (done_to table (does table)) (Err fault) →
+    (does : Table → Tested Done) (fault : StepFault) (result : Result (Unit {0}) StepFault) →
+    result ≡ Err fault → known name (map view_of items) ≡ Ok table → Answers (IsLeft view) taken faults old new (done_to table (does table)) (Err fault) →
     Answers (AreLeft records mappings left) taken faults old new (on_view (world_in records mappings items) name does) result
 view_stops taken faults old new records mappings items left name view table does (step.Command refusal) result is at refused =
     let world = world_in records mappings items in
@@ -38,7 +37,7 @@ view_stops taken faults old new records mappings items left name view table does
 
 -- a work that is done: the view stands in its place
 pub view_done : {K : Type 0} (taken : K → Option (List ℕ)) (faults : K → ℕ) (old new : K) (records : List RecordEntry) (mappings : List MappingEntry) (items : List ViewEntry) (name : List ℕ) (place : ℕ) (entry changed : ViewEntry)
-    (does : Table → Outcome Done) → IsAt view_of name items place → entry ≡ get_or items place entry → changed.name ≡ entry.name →
+    (does : Table → Tested Done) → IsAt view_of name items place → entry ≡ get_or items place entry → changed.name ≡ entry.name →
     Did (IsLeft changed.view) taken faults old new (done_to entry.view (does entry.view)) tt →
     Did (AreLeft records mappings (slice_set items place changed)) taken faults old new (on_view (world_in records mappings items) name does) tt
 view_done taken faults old new records mappings items name place entry changed does at is same did =
@@ -47,15 +46,15 @@ view_done taken faults old new records mappings items name place entry changed d
     record {
       left = left (map view_of (slice_set items place changed));
       goes = on_known world name entry.view does (known_at view_of name items place entry at is) ∙ ap (onward world name) did.goes
-          ∙ ap (λ (table : Table). Goes (record { held = with_table world name table; text = did.left.text })) (sym did.stands)
-          ∙ ap (λ (views : List (Entry Table)). Goes (left views)) (sym (table_changed items name place entry changed at is same));
+          ∙ ap (λ (table : Table). Ok (record { held = with_table world name table; text = did.left.text })) (sym did.stands)
+          ∙ ap (λ (views : List (Entry Table)). Ok (left views)) (sym (table_changed items name place entry changed at is same));
       stands = refl;
       wrote = did.wrote;
     }
 
 -- whether it stops or is done
 pub view_worked : {K : Type 0} (taken : K → Option (List ℕ)) (faults : K → ℕ) (old new : K) (records : List RecordEntry) (mappings : List MappingEntry) (items : List ViewEntry) (name : List ℕ) (place : ℕ) (entry changed : ViewEntry)
-    (does : Table → Outcome Done) (result : Result (Unit {0}) StepFault) → IsAt view_of name items place → entry ≡ get_or items place entry → changed.name ≡ entry.name →
+    (does : Table → Tested Done) (result : Result (Unit {0}) StepFault) → IsAt view_of name items place → entry ≡ get_or items place entry → changed.name ≡ entry.name →
     Answers (IsLeft changed.view) taken faults old new (done_to entry.view (does entry.view)) result →
     Answers (AreLeft records mappings (slice_set items place changed)) taken faults old new (on_view (world_in records mappings items) name does) result
 view_worked taken faults old new records mappings items name place entry changed does (Ok done) at is same did =
@@ -64,46 +63,46 @@ view_worked taken faults old new records mappings items name place entry changed
     view_stops taken faults old new records mappings items (slice_set items place changed) name changed.view entry.view does fault (Err fault) refl (known_at view_of name items place entry at is) stopped
 
 -- a session in which the views are those that are left
-pub session_left : {K : Type 0} (taken : K → Option (List ℕ)) (faults : K → ℕ) (old new : K) (records : List RecordEntry) (mappings : List MappingEntry) (left : List ViewEntry) (outcome : Outcome Left) (next : Session) →
+pub session_left : {K : Type 0} (taken : K → Option (List ℕ)) (faults : K → ℕ) (old new : K) (records : List RecordEntry) (mappings : List MappingEntry) (left : List ViewEntry) (outcome : Tested Left) (next : Session) →
     world_of next ≡ world_in records mappings left → Did (AreLeft records mappings left) taken faults old new outcome tt → Did Stands taken faults old new outcome next
 session_left taken faults old new records mappings left outcome next is did = record { left = did.left; goes = did.goes; stands = is ∙ did.stands; wrote = did.wrote }
 
 -- a work that gives something, and writes it as a text
-pub then_wrote : {K : Type 0} (taken : K → Option (List ℕ)) (faults : K → ℕ) (old new : K) (view : Table) (outcome : Outcome (LeftOf Table)) (text : List ℕ) →
-    outcome ≡ Goes (left_with view text) → Wrote taken faults old new text → Did (IsLeft view) taken faults old new outcome tt
+pub then_wrote : {K : Type 0} (taken : K → Option (List ℕ)) (faults : K → ℕ) (old new : K) (view : Table) (outcome : Tested (LeftOf Table)) (text : List ℕ) →
+    outcome ≡ Ok (left_with view text) → Wrote taken faults old new text → Did (IsLeft view) taken faults old new outcome tt
 then_wrote taken faults old new view outcome text goes wrote = record { left = left_with view text; goes = goes; stands = refl; wrote = wrote }
 
 -- or breaks off as it writes it
-pub then_broke : {K : Type 0} (taken : K → Option (List ℕ)) (faults : K → ℕ) (old new : K) (view : Table) (outcome : Outcome (LeftOf Table)) (left : LeftOf Table) (result : Result (Unit {0}) StepFault) →
-    result ≡ Err step.Sink → outcome ≡ Goes left → Stopped taken faults old new left.text → Answers (IsLeft view) taken faults old new outcome result
+pub then_broke : {K : Type 0} (taken : K → Option (List ℕ)) (faults : K → ℕ) (old new : K) (view : Table) (outcome : Tested (LeftOf Table)) (left : LeftOf Table) (result : Result (Unit {0}) StepFault) →
+    result ≡ Err step.Sink → outcome ≡ Ok left → Stopped taken faults old new left.text → Answers (IsLeft view) taken faults old new outcome result
 then_broke taken faults old new view outcome left result is goes stopped = rw is (record { left = left; goes = goes; stopped = stopped })
 
 -- a table that is told of stays as it is
-pub tells_left : (table : Table) (text : List ℕ) → done_to table (Goes (tells table text)) ≡ Goes (left_with table text)
-tells_left table text = ap (λ (tally : Tally). Goes (left_with (record table { tally = tally }) text)) (tallied-none (owners_of table) table.tally)
+pub tells_left : (table : Table) (text : List ℕ) → done_to table (Ok (left_as table (tells text))) ≡ Ok (left_with table text)
+tells_left table text = ap (λ (tally : Tally). Ok (left_with (record table { tally = tally }) text)) (tallied-none (owners_of table) table.tally)
 
 -- what is shown of a table
-pub counts_goes : (table : Table) (numbers : LeafCounts) → Some numbers ≡ table.tally.counts → done_to table (counts table) ≡ Goes (left_with table (counts_text (texts_of table.fields) numbers))
+pub counts_goes : (table : Table) (numbers : LeafCounts) → Some numbers ≡ table.tally.counts → done_to table (telling counts table) ≡ Ok (left_with table (counts_text (texts_of table.fields) numbers))
 unfolding counts
 counts_goes table numbers is =
-    ap (λ (x : Option LeafCounts). done_to table (some_or NotCounted x >>= (λ (n : LeafCounts). Goes (tells table (counts_text (texts_of table.fields) n))))) (sym is)
+    ap (λ (x : Option LeafCounts). done_to table (telling (λ shown. some_or NotCounted x >>= (λ (n : LeafCounts). Ok (tells (counts_text (texts_of table.fields) n)))) table)) (sym is)
     ∙ tells_left table (counts_text (texts_of table.fields) numbers)
 
-pub heat_goes : (table : Table) (numbers : HeatCounts) → Some numbers ≡ table.tally.heat → done_to table (heat table) ≡ Goes (left_with table (heat_text numbers))
+pub heat_goes : (table : Table) (numbers : HeatCounts) → Some numbers ≡ table.tally.heat → done_to table (telling heat table) ≡ Ok (left_with table (heat_text numbers))
 unfolding heat
 heat_goes table numbers is =
-    ap (λ (x : Option HeatCounts). done_to table (some_or NotCounted x >>= (λ (n : HeatCounts). Goes (tells table (heat_text n))))) (sym is)
+    ap (λ (x : Option HeatCounts). done_to table (telling (λ shown. some_or NotCounted x >>= (λ (n : HeatCounts). Ok (tells (heat_text n)))) table)) (sym is)
     ∙ tells_left table (heat_text numbers)
 
-pub layout_goes : (table : Table) → small table ≡ Goes tt → done_to table (layout table) ≡ Goes (left_with table (runs_text (texts_of table.fields) (all_runs (owners_of table))))
+pub layout_goes : (table : Table) → small table ≡ Ok tt → done_to table (telling layout table) ≡ Ok (left_with table (runs_text (texts_of table.fields) (all_runs (owners_of table))))
 unfolding layout
 layout_goes table is = rw is (tells_left table (runs_text (texts_of table.fields) (all_runs (owners_of table))))
 
 -- or is not, where it was not counted
-pub counts_none : (table : Table) → None ≡ table.tally.counts → done_to table (counts table) ≡ Faults NotCounted
+pub counts_none : (table : Table) → None ≡ table.tally.counts → done_to table (telling counts table) ≡ Err NotCounted
 unfolding counts
 counts_none table is = rw (← is) refl
 
-pub heat_none : (table : Table) → None ≡ table.tally.heat → done_to table (heat table) ≡ Faults NotCounted
+pub heat_none : (table : Table) → None ≡ table.tally.heat → done_to table (telling heat table) ≡ Err NotCounted
 unfolding heat
 heat_none table is = rw (← is) refl

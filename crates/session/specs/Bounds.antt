@@ -1,5 +1,5 @@
 -- The most steps that a line takes.
-use Rattle.std.specs.Prelude.{ℕ, ◌+◌, ◌≤◌, not, List, length, Option, Some, None, MatchBool}
+use Rattle.std.specs.Prelude.{ℕ, ◌+◌, ◌≤◌, not, List, length, Option, Some, None, MatchBool, Ok}
 use Rattle.lane_kernels.specs.Kernels.{kernel_cost}
 use Rattle.lane_kernels.specs.declared.kernel.Kernel.{Kernel}
 use Rattle.layout_copy.specs.Costs.{copy_cost, IsWay}
@@ -11,7 +11,7 @@ use Rattle.views.specs.Tables.{Table}
 use Rattle.worlds.specs.Copy.{are_alike}
 use Rattle.worlds.specs.Kernel.{fit_kernel}
 use Rattle.worlds.specs.Names.{nameless}
-use Rattle.worlds.specs.Outcomes.{Outcome, Goes, ◌>>=◌, known, refused_if}
+use Rattle.worlds.specs.Outcomes.{Tested, ◌>>=◌, known, refused_if}
 use Rattle.worlds.specs.Tables.{made}
 use Rattle.worlds.specs.Worlds.{World, found, same_name}
 use Rattle.worlds.specs.declared.fault.CommandFault.TheVariants.{Mismatch}
@@ -27,8 +27,8 @@ most_on None most = Some 0
 most_on (Some table) most = most table
 
 -- the most steps of a kernel on so many rows, and none where it is refused
-abbrev pub kernel_cost_of : ℕ → ℕ → Outcome Kernel → ℕ
-kernel_cost_of lanes rows (Goes kernel) = kernel_cost kernel lanes rows
+abbrev pub kernel_cost_of : ℕ → ℕ → Tested Kernel → ℕ
+kernel_cost_of lanes rows (Ok kernel) = kernel_cost kernel lanes rows
 kernel_cost_of lanes rows _ = 0
 
 -- those of the kernel of a text on a table
@@ -41,28 +41,28 @@ pub record Pair : Type 0 where
   pub target : Table
 
 -- two tables that are alike
-abbrev pub paired : Table → Table → Outcome Pair
+abbrev pub paired : Table → Table → Tested Pair
 paired source target = do
   alike ← refused_if (not (are_alike source target)) Mismatch
-  Goes (record { source = source; target = target })
+  Ok (record { source = source; target = target })
 
 -- what is copied by `copy V to W`, and by `relayout V as ..`, where nothing is refused before the values are looked at
-unfoldable pub copied_pair : World → List ℕ → List ℕ → Outcome Pair
+unfoldable pub copied_pair : World → List ℕ → List ℕ → Tested Pair
 copied_pair world name target_name = do
   source ← known name world.views
   target ← known target_name world.views
   paired source target
 
-unfoldable pub laid_pair : World → List ℕ → MapTerm → Outcome Pair
+unfoldable pub laid_pair : World → List ℕ → MapTerm → Tested Pair
 laid_pair world name term = do
   table ← known name world.views
   whole ← nameless world.mappings term
   zeros ← made world.views table.mode table.fields table.extents whole
-  Goes (record { source = table; target = zeros })
+  Ok (record { source = table; target = zeros })
 
 -- the steps of a copy: those of the way that the one table is copied into the other by, and none where there is nothing to copy
-abbrev pub WithinCost : Outcome Pair → ℕ → ℕ → Type 0
-WithinCost (Goes pair) old new = (strategy : Strategy) → IsWay pair.source pair.target strategy
+abbrev pub WithinCost : Tested Pair → ℕ → ℕ → Type 0
+WithinCost (Ok pair) old new = (strategy : Strategy) → IsWay pair.source pair.target strategy
     → new ≤ old + copy_cost strategy pair.source.mapping pair.target.mapping pair.target.fields pair.target.extents
 WithinCost _ old new = Within (Some 0) old new
 

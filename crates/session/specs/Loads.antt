@@ -9,7 +9,7 @@ use Rattle.csv_rows.specs.Datasets.{csv_records, records_behind}
 use Rattle.views.specs.Tables.{Table}
 use Rattle.worlds.specs.Worlds.{Entry}
 use Rattle.line_grammar.specs.Sentences as line
-use Rattle.worlds.specs.Outcomes.{Outcome, Goes, Faults, CannotRead, ◌>>=◌, refused_if}
+use Rattle.worlds.specs.Outcomes.{Tested, Outcome, Goes, Faults, CannotRead, Unread, sure, ◌>>=◌, refused_if}
 use Rattle.worlds.specs.Tables.{resolved, made}
 use Rattle.worlds.specs.Load.{read, filled}
 use Rattle.worlds.specs.View.{Named}
@@ -28,7 +28,7 @@ abbrev pub named_of : Found → Named
 named_of found = record { fields = schema_fields found.schema.now; mode = found.mode; mapping = term_of found.expr }
 
 -- the table of a dataset of bytes that are not too many, beside these views
-abbrev pub filled_table : List (Entry Table) → Named → List ExtentWord → List ℕ → Outcome Table
+abbrev pub filled_table : List (Entry Table) → Named → List ExtentWord → List ℕ → Tested Table
 filled_table views whole words bytes = do
   extents ← resolved words (Some (length (records_behind (csv_records bytes))))
   zeros ← made views whole.mode whole.fields extents whole.mapping
@@ -38,7 +38,7 @@ filled_table views whole words bytes = do
 abbrev pub read_within : ℕ → List File → Bool → List ℕ → Outcome (List ℕ)
 read_within most files unread name = do
   bytes ← read files unread name
-  short ← refused_if (nat_lt most (length bytes)) TooBig
+  short ← sure (refused_if (nat_lt most (length bytes)) TooBig)
   Goes bytes
 
 -- where reading fails the outcome is that this file can't be read; a read failed, or it is the outcome in any case
@@ -70,5 +70,5 @@ UnreadOnly file outcome _ = Unit {0}
 -- exactly these files are told where a file is read, so where the outcome is that it can't be read if reading fails; any other outcome is
 -- the same whatever files there are
 abbrev pub ToldFor : {A : Type 0} → Option (List File) → Outcome A → List File → Type 0
-ToldFor told (CannotRead name) files = told ≡ Some files
+ToldFor told (Err (Unread name)) files = told ≡ Some files
 ToldFor told _ files = Unit {0}

@@ -1,11 +1,11 @@
 -- Which lines read a file, and what a shelf tells.
-use Rattle.std.specs.Prelude.{◌≡◌, List, Option, Some, None}
+use Rattle.std.specs.Prelude.{◌≡◌, List, Option, Some, None, Ok, Err}
 use Rattle.std.proofs.Common.{refl}
 use Rattle.layout_io.specs.Files.{File}
 use Rattle.line_grammar.specs.Sentences.{sentence_of, file_read_by}
 use Rattle.line_grammar.specs.declared.line.Line.{Line}
 use Rattle.line_grammar.specs.declared.line.Line.TheVariants as line
-use Rattle.worlds.specs.Outcomes.{Outcome, Goes, Faults, CannotRead}
+use Rattle.worlds.specs.Outcomes.{Outcome, Fault, Unread}
 use Rattle.session.specs.Loads.{ToldFor}
 
 -- a line that is no load and no open reads no file
@@ -17,6 +17,6 @@ no_file _ no_load no_open = refl
 
 -- what a shelf tells it tells to any line
 pub told_any : {A : Type 0} (told : Option (List File)) (outcome : Outcome A) (files : List File) → told ≡ Some files → ToldFor told outcome files
-told_any told (Goes x) files is = tt
-told_any told (Faults fault) files is = tt
-told_any told (CannotRead name) files is = is
+told_any told (Ok x) files is = tt
+told_any told (Err (Fault fault)) files is = tt
+told_any told (Err (Unread name)) files is = is

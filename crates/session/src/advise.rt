@@ -9,6 +9,7 @@ ghost use Rattle.map_expr.specs.Terms.{term_of};
 ghost use Rattle.record_dim.specs.Names.{is_name};
 ghost use Rattle.views.specs.Tables.{leaf_count_of, after_log};
 ghost use Rattle.views.specs.Tallies.{Read, all_accesses};
+ghost use Rattle.worlds.specs.OnView.{telling};
 ghost use Rattle.worlds.specs.Advise.{advise, advise_fault, advice_text, best_words, cost_line, cost_words};
 ghost use Rattle.worlds.specs.Outcomes.{ok_or};
 ghost use Rattle.command_checks.specs.SessionEntries.{mapping_of};
@@ -43,8 +44,8 @@ pub(crate) struct Advise<'m, 'a> {
 }
 
 impl Work for Advise<'_, '_> {
-    ghost does = { λ this table. advise (map mapping_of this.mappings.now) table this.granule.now this.passes.now
-        (map term_of this.maps.now) this.splits.now };
+    ghost does = { λ this table. telling (λ shown. advise (map mapping_of this.mappings.now) shown this.granule.now this.passes.now
+        (map term_of this.maps.now) this.splits.now) table };
 
     fn run<K: Sink, L: Ledger>(
         &self,
@@ -67,7 +68,7 @@ fn told<L: Ledger>(
     steps: &mut Steps<L>,
 ) -> Result<Vec<u8>, StepFault>
     ensures told { Gives
-        (λ text. record { rows = view.old.rows; log = all_accesses Read (leaf_count_of view.old) (length view.old.rows); text = text.items })
+        (λ text. record { log = all_accesses Read (leaf_count_of view.old) (length view.old.rows); text = text.items })
         result (advise (map mapping_of words.now.mappings.now) view.old words.now.granule.now words.now.passes.now
         (map term_of words.now.maps.now) words.now.splits.now) }
     ensures read { OnOk result (view.new ≡ after_log view.old (all_accesses Read (leaf_count_of view.old) (length view.old.rows))) }

@@ -14,7 +14,7 @@ ghost use Rattle.row_updates.specs.Logs.{update_log};
 ghost use Rattle.views.specs.Tables.{owners_of, after_log};
 ghost use Rattle.worlds.specs.Actors.{updated_by_actors, fit_cuts, shared, memory_text};
 ghost use Rattle.worlds.specs.OnView.{done_to};
-ghost use Rattle.worlds.specs.Outcomes.{Goes, ok_or, refused_by, refused_if};
+ghost use Rattle.worlds.specs.Outcomes.{ok_or, refused_by, refused_if};
 ghost use Rattle.worlds.specs.Show.{small};
 ghost use Rattle.worlds.specs.Update.{update_fault};
 ghost use Rattle.command_checks.specs.Inner.Gives.{Gives, GivesUp};
@@ -141,7 +141,7 @@ fn bad_actors(bad: BadActors) -> StepFault
 // That no byte holds bits of rows of two actors.
 fn check_apart(alloc: Global, view: &View, cuts: &[u64]) -> Result<(), StepFault>
     requires cuts { AreCuts 0 cuts.now (length view.now.rows) }
-    requires small { small view.now ≡ Goes tt }
+    requires small { small view.now ≡ Ok tt }
     ensures { Gives (λ done. tt) result (refused_by shared (shared_byte (owners_of view.now) (actor_of cuts.now))) }
 {
     match check_cuts(alloc, view, cuts) {

@@ -4,7 +4,6 @@ ghost use Rattle.views.specs.Tables.{leaf_count_of, after_log};
 ghost use Rattle.views.specs.Tallies.{all_accesses, Read};
 ghost use Rattle.record_dim.specs.Schemas.{schema_fields};
 ghost use Rattle.worlds.specs.Copy.{copy, copied, all_read};
-ghost use Rattle.worlds.specs.Outcomes.{Goes};
 ghost use Rattle.command_checks.specs.SessionEntries.{view_of};
 ghost use Rattle.command_checks.specs.Inner.Gives.{Gives};
 ghost use Rattle.command_checks.specs.declared.entries.ViewEntry.{ViewEntry};
@@ -96,7 +95,7 @@ fn place_without(place: usize, gone: usize) -> usize
 
 // A copy of a view onto itself, which has all of its own values.
 fn keep(view: &mut View)
-    ensures { copied view.old (all_read view.old) ≡ Goes view.new }
+    ensures { copied view.old (all_read view.old) ≡ Ok view.new }
 {
     let _table = view.schema();
     copy_self(view);

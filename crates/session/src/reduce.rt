@@ -2,7 +2,7 @@
 ghost use Rattle.std.specs.Prelude.{◌≡◌, ◌<◌, OnOk, pos, length};
 ghost use Rattle.expr_lang.specs.Terms.{term_of};
 ghost use Rattle.views.specs.Tables.{leaf_count_of, after_log};
-ghost use Rattle.worlds.specs.OnView.{done_to};
+ghost use Rattle.worlds.specs.OnView.{done_to, reading};
 ghost use Rattle.worlds.specs.Texts.{number_line};
 ghost use Rattle.worlds.specs.Reduce.{form_of, reduced, reduction, column, column_log, counting};
 ghost use Rattle.command_checks.specs.Inner.Gives.{Gives};
@@ -30,7 +30,7 @@ pub(crate) struct Count<'a> {
 }
 
 impl Work for Count<'_> {
-    ghost does = { λ this table. counting table (term_of this.filter.now) };
+    ghost does = { λ this table. reading (λ content. counting content (term_of this.filter.now)) table };
 
     fn run<K: Sink, L: Ledger>(
         &self,
@@ -52,7 +52,7 @@ pub(crate) struct Reduce<'a> {
 }
 
 impl Work for Reduce<'_> {
-    ghost does = { λ this table. reduction table this.kind.now this.path.now };
+    ghost does = { λ this table. reading (λ content. reduction content this.kind.now this.path.now) table };
 
     fn run<K: Sink, L: Ledger>(
         &self,
@@ -76,7 +76,7 @@ fn reduction<L: Ledger>(
     steps: &mut Steps<L>,
 ) -> Result<i128, StepFault>
     ensures { Gives (λ value. left_with view.new (number_line value)) result
-        (done_to view.old (reduction view.old kind path.now)) }
+        (done_to view.old (reading (λ content. reduction content kind path.now) view.old)) }
 {
     let leaf = leaf_of(alloc, view, path)?;
     reduced(view, leaf, kind, steps)
@@ -91,7 +91,7 @@ fn counting<L: Ledger>(
     steps: &mut Steps<L>,
 ) -> Result<u64, StepFault>
     ensures { Gives (λ rows. left_with view.new (number_line (pos rows))) result
-        (done_to view.old (counting view.old (term_of filter.now))) }
+        (done_to view.old (reading (λ content. counting content (term_of filter.now)) view.old)) }
 {
     let filter = bound(alloc, view, filter)?;
     match count_where(view, &filter, steps) {

@@ -1,5 +1,6 @@
 // `save V`.
 ghost use Rattle.worlds.specs.Files.{save};
+ghost use Rattle.worlds.specs.OnView.{telling};
 
 use crate::work::Work;
 use blob_file::{SaveEnd, write_file};
@@ -16,7 +17,7 @@ use worlds::CommandFault;
 pub(crate) struct Save;
 
 impl Work for Save {
-    ghost does = { λ this table. save table };
+    ghost does = { λ this table. telling save table };
 
     fn run<K: Sink, L: Ledger>(
         &self,

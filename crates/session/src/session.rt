@@ -4,7 +4,7 @@ ghost use Rattle.layout_io.specs.Files.{File};
 ghost use Rattle.line_grammar.specs.Sentences.{sentence_of, file_read_by};
 ghost use Rattle.worlds.specs.Answers.{StepsTo, StepCause};
 ghost use Rattle.worlds.specs.OnView.{on_view};
-ghost use Rattle.worlds.specs.Step.{step, command};
+ghost use Rattle.worlds.specs.Step.{step, done_by};
 ghost use Rattle.worlds.specs.Worlds.{empty, found};
 
 use crate::advise::Advise;
@@ -102,8 +102,7 @@ impl Session {
     ) -> Result<Session, StepFault>
         requires fit { IsFit line.now }
         requires no_file { file_read_by (sentence_of line.now) ≡ None }
-        ensures answers { (files : List File) (unread : Bool) → Answers Stands K.taken K.faults out.old out.new
-            (command (world_of self) (sentence_of line.now) files unread) result }
+        ensures answers { Answers Stands K.taken K.faults out.old out.new (done_by (world_of self) (sentence_of line.now)) result }
         ensures bound { WithinSteps (world_of self) (sentence_of line.now) steps.old steps.new }
     {
         match line {
@@ -132,8 +131,7 @@ impl Session {
         steps: &mut Steps<L>,
     ) -> Result<Session, StepFault>
         requires { IsOnView line.now }
-        ensures answers { (files : List File) (unread : Bool) → Answers Stands K.taken K.faults out.old out.new
-            (command (world_of self) (sentence_of line.now) files unread) result }
+        ensures answers { Answers Stands K.taken K.faults out.old out.new (done_by (world_of self) (sentence_of line.now)) result }
         ensures bound { WithinSteps (world_of self) (sentence_of line.now) steps.old steps.new }
     {
         match line {
@@ -198,8 +196,7 @@ impl Session {
         steps: &mut Steps<L>,
     ) -> Result<Session, StepFault>
         requires { IsShown line.now }
-        ensures answers { (files : List File) (unread : Bool) → Answers Stands K.taken K.faults out.old out.new
-            (command (world_of self) (sentence_of line.now) files unread) result }
+        ensures answers { Answers Stands K.taken K.faults out.old out.new (done_by (world_of self) (sentence_of line.now)) result }
         ensures bound { WithinSteps (world_of self) (sentence_of line.now) steps.old steps.new }
     {
         match line {

@@ -4,8 +4,7 @@ ghost use Rattle.blobs.specs.Bits.{bits_of};
 ghost use Rattle.instrument.specs.BlobTexts.{bytes_of, bytes_text};
 ghost use Rattle.places.specs.RunOwners.{IsOwnerBelow};
 ghost use Rattle.views.specs.Tables.{leaf_count_of, owners_of};
-ghost use Rattle.worlds.specs.OnView.{tells};
-ghost use Rattle.worlds.specs.Outcomes.{Goes};
+ghost use Rattle.worlds.specs.OnView.{tells, reading, telling};
 ghost use Rattle.worlds.specs.Show.{print, counts, heat, layout, small, all_runs, bytes, drop_view};
 ghost use Rattle.command_checks.specs.Inner.Gives.{Gives};
 
@@ -31,7 +30,7 @@ const MAX_SHOWN_BYTES: u64 = 65_536;
 pub(crate) struct Print;
 
 impl Work for Print {
-    ghost does = { λ this table. print table };
+    ghost does = { λ this table. reading print table };
 
     fn run<K: Sink, L: Ledger>(
         &self,
@@ -49,7 +48,7 @@ impl Work for Print {
 pub(crate) struct Counts;
 
 impl Work for Counts {
-    ghost does = { λ this table. counts table };
+    ghost does = { λ this table. telling counts table };
 
     fn run<K: Sink, L: Ledger>(
         &self,
@@ -70,7 +69,7 @@ impl Work for Counts {
 pub(crate) struct Heat;
 
 impl Work for Heat {
-    ghost does = { λ this table. heat table };
+    ghost does = { λ this table. telling heat table };
 
     fn run<K: Sink, L: Ledger>(
         &self,
@@ -91,7 +90,7 @@ impl Work for Heat {
 pub(crate) struct Layout;
 
 impl Work for Layout {
-    ghost does = { λ this table. layout table };
+    ghost does = { λ this table. telling layout table };
 
     fn run<K: Sink, L: Ledger>(
         &self,
@@ -113,7 +112,7 @@ pub(crate) struct Bytes<'a> {
 }
 
 impl Work for Bytes<'_> {
-    ghost does = { λ this table. bytes table this.blob.now };
+    ghost does = { λ this table. telling (λ shown. bytes shown this.blob.now) table };
 
     fn run<K: Sink, L: Ledger>(
         &self,
@@ -144,7 +143,7 @@ impl Session {
 // The blob of this number, where there is one and the view is small.
 #[tactic(auto, unfolding(worlds::specs::Show::bytes))]
 fn shown(view: &View, blob: u32) -> Result<&Blob, StepFault>
-    ensures { Gives (λ blob. tells view.now (bytes_text (bytes_of (bits_of blob.now)))) result (bytes view.now blob) }
+    ensures { Gives (λ blob. tells (bytes_text (bytes_of (bits_of blob.now)))) result (bytes view.now blob) }
 {
     let blob = blob as usize;
     if view.map().blob_count() <= blob {
@@ -166,7 +165,7 @@ pub fn check_small(view: &View) -> Result<(), StepFault>
 
 // The runs of all blobs of a small view, in order.
 fn all_runs(alloc: Global, view: &View) -> Result<RunList, NoMemory>
-    requires { small view.now ≡ Goes tt }
+    requires { small view.now ≡ Ok tt }
     ensures runs { IfOk result (λ runs. runs ≡ all_runs (owners_of view.now)) }
     ensures leaves { IfOk result (λ runs. All (λ run. IsOwnerBelow (leaf_count_of view.now) run.owner) runs) }
 {

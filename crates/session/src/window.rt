@@ -1,5 +1,6 @@
 // `print V window [..]`.
 ghost use Rattle.std.specs.Prelude.{◌≡◌};
+ghost use Rattle.worlds.specs.OnView.{reading};
 ghost use Rattle.worlds.specs.Windows.{print_window};
 
 use crate::work::Work;
@@ -19,7 +20,7 @@ pub(crate) struct PrintWindow<'a> {
 }
 
 impl Work for PrintWindow<'_> {
-    ghost does = { λ this table. print_window table this.window.now };
+    ghost does = { λ this table. reading (λ content. print_window content this.window.now) table };
 
     fn run<K: Sink, L: Ledger>(
         &self,

@@ -2,7 +2,7 @@
 ghost use Rattle.std.specs.Prelude.{ℕ, List, Option, None};
 ghost use Rattle.views.specs.Tables.{Table};
 ghost use Rattle.worlds.specs.OnView.{Done, done_to, on_view};
-ghost use Rattle.worlds.specs.Outcomes.{Outcome};
+ghost use Rattle.worlds.specs.Outcomes.{Tested};
 ghost use Rattle.worlds.specs.Worlds.{found};
 ghost use Rattle.command_checks.specs.declared.entries.RecordEntry.{RecordEntry};
 ghost use Rattle.command_checks.specs.declared.mapping_entry.MappingEntry.{MappingEntry};
@@ -21,7 +21,7 @@ use views::View;
 /// What works on one view, and on nothing else of a session.
 pub(crate) trait Work {
     // What it does to a table.
-    ghost does: { Self → Table → Outcome Done };
+    ghost does: { Self → Table → Tested Done };
 
     // The most steps that it takes on a table, where something is said of them.
     ghost most: { Self → Table → Option ℕ } = { λ this table. None };

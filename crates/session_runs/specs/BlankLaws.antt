@@ -11,7 +11,7 @@ use Rattle.schema_lang.specs.Bodies.{line_at}
 use Rattle.schema_lang.specs.LineOf.{line_of, line_or_column, spots_in}
 use Rattle.schema_lang.specs.VersionOf.{is_blank_line}
 use Rattle.worlds.specs.Worlds.{World}
-use Rattle.worlds.specs.Outcomes.{Outcome, Faults, Left, quiet}
+use Rattle.worlds.specs.Outcomes.{Outcome, Faults, Left, quiet, sure}
 use Rattle.worlds.specs.Step.{step}
 use Rattle.worlds.specs.declared.fault.CommandFault.TheVariants.{LineTooLong}
 use Rattle.worlds.specs.Fold.{run_from, after, fails_at}
@@ -31,7 +31,7 @@ unfolding line_of line_at
 blank_line version text blank = ap (λ (spots : List Spot). line_or_column spots (line_at version (length (tokens_of text spots)) (tokens_of text spots))) (no_spots (spots_in text) blank)
 
 blank_text : (version : Version) (files : List File) (world : World) (text : List ℕ) (unread : Bool) → length text ≤ 4096 → is_blank_line text ≡ true
-    → step_text version files world text unread ≡ quiet world
+    → step_text version files world text unread ≡ sure (quiet world)
 unfolding step
 blank_text version files world text unread short blank =
     let within : ltb 4096 (length text) ≡ false = grind (arith, nat_tests) in

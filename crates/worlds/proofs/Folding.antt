@@ -1,5 +1,5 @@
 -- How the lines that were done make a run of all lines.
-use Rattle.worlds.proofs.Imports.{◌≡◌, ℕ, ◌+◌, ◌≤◌, inl, inr, ⊎_elim, Bool, true, false, List, [], ◌∷◌, ◌++◌, length, take, Option, None, Some, Result, Ok, Err, refl, sym, ap, subst, ◌∙◌, arith, append_assoc, length-append, nat_tests, append-nil, take-append-le, ⊤, ◌⊎◌, with_bytes, Wrote, Writes, Wrote-append, Stopped-second, with_bytes-append, Writes-last, take_past, Stopped-front, World, Outcome, Goes, Faults, CannotRead, Left, fault_text, unread_text, Fault, Output, IsText, Gives, Unread, Finished, Answers, IsRun, ended_status, run_from, after, prepend, fails_at, Did, Refused, Unreadable, Broke, Fronted, text_of, Status, Done, CommandFault, SourceFault, SinkFault, NoMemory}
+use Rattle.worlds.proofs.Imports.{◌≡◌, ℕ, ◌+◌, ◌≤◌, inl, inr, ⊎_elim, Bool, true, false, List, [], ◌∷◌, ◌++◌, length, take, Option, None, Some, Result, Ok, Err, refl, sym, ap, subst, ◌∙◌, arith, append_assoc, length-append, nat_tests, append-nil, take-append-le, ⊤, ◌⊎◌, with_bytes, Wrote, Writes, Wrote-append, Stopped-second, with_bytes-append, Writes-last, take_past, Stopped-front, World, Outcome, Goes, Faults, CannotRead, Left, fault_text, unread_text, Fault, Output, IsText, Gives, Unread, Finished, Answers, IsRun, ended_status, run_from, after, prepend, fails_at, Did, Refused, Unreadable, Broke, Fronted, text_of, Status, Done, CommandFault, SourceFault, SinkFault, NoMemory, Refusal, NotRead}
 
 -- reading fails nowhere, or at this line or a later one
 abbrev pub IsAhead : ℕ → Option ℕ → Type 0
@@ -105,9 +105,9 @@ at_break taken faults old mid new outcome run read_failed number line lines so_f
 
 -- what stands behind the text of a line in the bytes of the run
 behind : (number : ℕ) (o : Outcome Left) (written : List ℕ) (rest : World → Output) → (more : List ℕ) × ((written ++ text_of o) ++ more ≡ (prepend written (after number o rest)).bytes)
-behind number (Goes left) written rest = ((rest left.held).bytes, append_assoc written left.text (rest left.held).bytes)
-behind number (Faults fault) written rest = (fault_text number fault, append_assoc written [] (fault_text number fault))
-behind number (CannotRead name) written rest = (unread_text number name, append_assoc written [] (unread_text number name))
+behind number (Ok left) written rest = ((rest left.held).bytes, append_assoc written left.text (rest left.held).bytes)
+behind number (Err (Refusal fault)) written rest = (fault_text number fault, append_assoc written [] (fault_text number fault))
+behind number (Err (NotRead name)) written rest = (unread_text number name, append_assoc written [] (unread_text number name))
 
 -- memory was wanting within a line
 pub at_starved : {K : Type 0} {Stands : World → Type 0} (taken : K → Option (List ℕ)) (faults : K → ℕ) (old mid new : K) (outcome : World → List ℕ → Bool → Outcome Left) (run : Option ℕ → Output) (read_failed : Type 0) (number : ℕ) (line : List ℕ) (lines : List (List ℕ)) → (so_far : SoFar Stands taken faults old mid outcome run number (line ∷ lines)) → Fronted taken faults mid new (text_of (outcome so_far.world line false)) → IsRun taken old new run read_failed NoMemory

@@ -19,7 +19,7 @@ pub use Rattle.layout_io.specs.declared.ends.Failed.{Failed}
 pub use Rattle.layout_io.specs.Files.{File}
 pub use Rattle.worlds.specs.Lines.{lines_in, ended_lines, without_cr, is_line_end}
 pub use Rattle.worlds.specs.Worlds.{World}
-pub use Rattle.worlds.specs.Outcomes.{Outcome, Goes, Faults, CannotRead, Left}
+pub use Rattle.worlds.specs.Outcomes.{Outcome, Goes, Faults, CannotRead, Left, Fault as Refusal, Unread as NotRead}
 pub use Rattle.worlds.specs.FaultTexts.{unread_text, fault_words}
 unfoldable pub use Rattle.worlds.specs.FaultTexts.{fault_text}
 pub use Rattle.worlds.specs.declared.fault.CommandFault.{CommandFault as Fault}

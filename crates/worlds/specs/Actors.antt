@@ -1,5 +1,5 @@
 -- `update V where .. set .. = .., .. actors [..] schedule S turns N` shares the rows of an update out among actors.
-use Rattle.std.specs.Prelude.{ℕ, ◌^◌, ◌&&◌, Bool, not, nat_le, nat_lt, List, [], length, flat_map, Option}
+use Rattle.std.specs.Prelude.{ℕ, ◌^◌, ◌&&◌, Bool, not, nat_le, nat_lt, List, [], length, flat_map, Option, Ok}
 use Rattle.line_grammar.specs.Sentences.{Value, Assignment}
 use Rattle.instrument.specs.BlobTexts.{bytes_text}
 use Rattle.views.specs.Tables.{Table, owners_of}
@@ -11,7 +11,7 @@ use Rattle.actor_steps.specs.Cuts.{are_cuts, actor_of}
 use Rattle.actor_steps.specs.Shared.{shared_byte}
 use Rattle.actor_steps.specs.Jobs.{written_by}
 use Rattle.worlds.specs.OnView.{Done}
-use Rattle.worlds.specs.Outcomes.{Outcome, Goes, ◌>>=◌, refused_if, refused_by, ok_or}
+use Rattle.worlds.specs.Outcomes.{Tested, ◌>>=◌, refused_if, refused_by, ok_or}
 use Rattle.worlds.specs.Names.{bound_filter, bound_sets, each_once, leaves_of}
 use Rattle.worlds.specs.Show.{small}
 use Rattle.worlds.specs.Update.{update_fault}
@@ -32,7 +32,7 @@ abbrev pub memory_text : List (List ℕ) → List ℕ
 memory_text memory = flat_map bytes_text memory
 
 -- the rows of the plain update, once no actor has a step left; its text is the memory in the midst of it, after so many turns
-unfoldable pub updated_by_actors : Table → Option Value → List Assignment → List ℕ → ℕ → ℕ → Outcome Done
+unfoldable pub updated_by_actors : Table → Option Value → List Assignment → List ℕ → ℕ → ℕ → Tested Done
 updated_by_actors table filter sets cuts seed turns = do
   test ← bound_filter table.fields (length table.extents) filter
   settings ← bound_sets table.fields (length table.extents) sets
@@ -42,7 +42,7 @@ updated_by_actors table filter sets cuts seed turns = do
   shown ← small table
   apart ← refused_by shared (shared_byte (owners_of table) (actor_of cuts))
   rows ← ok_or (update_fault table.fields) (updated_of table test settings (length table.rows))
-  Goes (record {
+  Ok (record {
     rows = rows;
     log = reads_first (update_log table test settings (length table.rows));
     text = memory_text (written_by table test settings cuts seed turns);

@@ -1,5 +1,5 @@
 -- `advise V granule G pass .. times N .. among .. splits` writes what mappings cost for some passes, and the cheapest of them.
-use Rattle.std.specs.Prelude.{ℕ, Bool, nat_lt, is_some, List, [], ◌∷◌, ◌++◌, length, codes, Option, Some, None}
+use Rattle.std.specs.Prelude.{ℕ, Bool, nat_lt, is_some, List, [], ◌∷◌, ◌++◌, length, codes, Option, Some, None, Ok}
 use Rattle.std.specs.List.{flat_map, range_with_len, enumerate_from}
 use Rattle.advisor.specs.Advice.{Advised, advice}
 use Rattle.advisor.specs.declared.advice.AdviseFault.{AdviseFault}
@@ -20,8 +20,8 @@ use Rattle.record_dim.specs.Trees.{Fields, Record}
 use Rattle.views.specs.Tables.{Table, leaf_count_of}
 use Rattle.views.specs.Tallies.{Read, all_accesses}
 use Rattle.worlds.specs.Worlds.{Entry}
-use Rattle.worlds.specs.OnView.{Done}
-use Rattle.worlds.specs.Outcomes.{Outcome, Goes, ◌>>=◌, each, refused_if, some_or, ok_or}
+use Rattle.worlds.specs.OnView.{Told}
+use Rattle.worlds.specs.Outcomes.{Tested, ◌>>=◌, each, refused_if, some_or, ok_or}
 use Rattle.worlds.specs.Names.{nameless}
 use Rattle.worlds.specs.declared.fault.BadAdvice.TheVariants.{Granule, Passes, Candidates}
 use Rattle.worlds.specs.declared.fault.CommandFault.{CommandFault}
@@ -29,25 +29,25 @@ use Rattle.worlds.specs.declared.fault.CommandFault.TheVariants.{BadAdvice, BadM
 use Rattle.worlds.specs.declared.fault.UnknownName.TheVariants as unknown
 
 -- the leaves under the node that has a path, or the one that it is
-abbrev pub leaves_at : Fields → List PathStep → Outcome (List ℕ)
+abbrev pub leaves_at : Fields → List PathStep → Tested (List ℕ)
 leaves_at fields path = do
   node ← some_or (Unknown (unknown.Path path)) (node_of fields path)
-  Goes (range_with_len (leaves_before (Record fields) path) (length (leaves_of node)))
+  Ok (range_with_len (leaves_before (Record fields) path) (length (leaves_of node)))
 
 -- those of some paths, one path behind another
-abbrev pub leaves_under : Fields → List (List PathStep) → Outcome (List ℕ)
+abbrev pub leaves_under : Fields → List (List PathStep) → Tested (List ℕ)
 leaves_under fields paths = do
   lists ← each (leaves_at fields) paths
-  Goes (joined lists)
+  Ok (joined lists)
 
 -- a pass with the numbers of its leaves in place of its paths
-abbrev pub bound_pass : Fields → PassText → Outcome Pass
+abbrev pub bound_pass : Fields → PassText → Tested Pass
 bound_pass fields text = do
   leaves ← leaves_under fields text.paths
-  Goes (record { leaves = leaves; times = text.times })
+  Ok (record { leaves = leaves; times = text.times })
 
 -- a granule that may be asked for, at most 16 passes and at most 16 candidates
-abbrev pub fit_advice : ℕ → ℕ → ℕ → Outcome (Unit {0})
+abbrev pub fit_advice : ℕ → ℕ → ℕ → Tested (Unit {0})
 fit_advice granule passes candidates = do
   grain ← refused_if (is_some (bad_granule granule)) (BadAdvice Granule)
   short ← refused_if (nat_lt 16 passes) (BadAdvice Passes)
@@ -81,21 +81,21 @@ pub record Question : Type 0 where
   pub passes : List Pass
   pub terms : List MapTerm
 
-abbrev pub asked : List (Entry MapTerm) → Table → ℕ → List PassText → List MapTerm → Outcome Question
+abbrev pub asked : List (Entry MapTerm) → Table → ℕ → List PassText → List MapTerm → Tested Question
 asked mappings table granule texts terms = do
   whole ← each (nameless mappings) terms
   passes ← each (bound_pass table.fields) texts
   fit ← fit_advice granule (length texts) (length terms)
-  Goes (record { passes = passes; terms = whole })
+  Ok (record { passes = passes; terms = whole })
 
 -- each value of the table is read once
-abbrev pub advised_of : Table → ℕ → Bool → Question → Outcome Done
+abbrev pub advised_of : Table → ℕ → Bool → Question → Tested Told
 advised_of table granule splits question = do
   advised ← ok_or advise_fault (advice table granule question.passes question.terms splits)
-  Goes (record { rows = table.rows; log = all_accesses Read (leaf_count_of table) (length table.rows); text = advice_text advised })
+  Ok (record { log = all_accesses Read (leaf_count_of table) (length table.rows); text = advice_text advised })
 
 -- with these mappings for the names
-unfoldable pub advise : List (Entry MapTerm) → Table → ℕ → List PassText → List MapTerm → Bool → Outcome Done
+unfoldable pub advise : List (Entry MapTerm) → Table → ℕ → List PassText → List MapTerm → Bool → Tested Told
 advise mappings table granule texts terms splits = do
   question ← asked mappings table granule texts terms
   advised_of table granule splits question

@@ -3,24 +3,24 @@ use Rattle.std.specs.Prelude.{ℕ, ◌≡◌, ◌≤◌, ◌⊎◌, Bool, true, 
 use Rattle.layout_io.specs.Faults.{Rose}
 use Rattle.layout_io.specs.Files.{File}
 use Rattle.layout_io.specs.Writing.{with_bytes, Wrote, Stopped}
-use Rattle.worlds.specs.Outcomes.{Outcome, Goes, Faults, CannotRead, LeftOf}
+use Rattle.worlds.specs.Outcomes.{Outcome, Faults, CannotRead, LeftOf}
 use Rattle.worlds.specs.declared.fault.CommandFault.{CommandFault}
 
 -- the text of an outcome
-abbrev pub text_of : {A : Type 0} → Outcome (LeftOf A) → List ℕ
-text_of (Goes left) = left.text
+abbrev pub text_of : {A E : Type 0} → Result (LeftOf A) E → List ℕ
+text_of (Ok left) = left.text
 text_of _ = []
 
 -- what is left stands for that of the outcome, and its text was written
-pub record Did {S K A : Type 0} (Stands : S → A → Type 0) (taken : K → Option (List ℕ)) (faults : K → ℕ) (old new : K)
-    (outcome : Outcome (LeftOf A)) (next : S) : Type 0 where
+pub record Did {S K A E : Type 0} (Stands : S → A → Type 0) (taken : K → Option (List ℕ)) (faults : K → ℕ) (old new : K)
+    (outcome : Result (LeftOf A) E) (next : S) : Type 0 where
   pub left : LeftOf A
-  pub goes : outcome ≡ Goes left
+  pub goes : outcome ≡ Ok left
   pub stands : Stands next left.held
   pub wrote : Wrote taken faults old new left.text
 
 -- the outcome is this refusal, and nothing was written
-pub record Refused {K A : Type 0} (taken : K → Option (List ℕ)) (faults : K → ℕ) (old new : K) (outcome refusal : Outcome (LeftOf A)) : Type 0 where
+pub record Refused {K A E : Type 0} (taken : K → Option (List ℕ)) (faults : K → ℕ) (old new : K) (outcome refusal : Result (LeftOf A) E) : Type 0 where
   pub is : outcome ≡ refusal
   pub wrote : Wrote taken faults old new []
 
@@ -32,9 +32,9 @@ pub record Unreadable {K A : Type 0} (taken : K → Option (List ℕ)) (faults :
   pub wrote : Wrote taken faults old new []
 
 -- a write failed within the text of the outcome
-pub record Broke {K A : Type 0} (taken : K → Option (List ℕ)) (faults : K → ℕ) (old new : K) (outcome : Outcome (LeftOf A)) : Type 0 where
+pub record Broke {K A E : Type 0} (taken : K → Option (List ℕ)) (faults : K → ℕ) (old new : K) (outcome : Result (LeftOf A) E) : Type 0 where
   pub left : LeftOf A
-  pub goes : outcome ≡ Goes left
+  pub goes : outcome ≡ Ok left
   pub stopped : Stopped taken faults old new left.text
 
 -- a front of the text was taken, and no write failed

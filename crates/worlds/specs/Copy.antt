@@ -1,5 +1,5 @@
 -- `copy V to W` makes the table of W what W keeps of that of V, and `relayout V as ..` lays a table out anew.
-use Rattle.std.specs.Prelude.{ℕ, ℤ, ◌&&◌, Bool, true, false, not, nat_eq, List, length}
+use Rattle.std.specs.Prelude.{ℕ, ℤ, ◌&&◌, Bool, true, false, not, nat_eq, List, length, Ok}
 use Rattle.std.specs.Cmp.Lexicographic.{pointwise}
 use Rattle.record_dim.specs.Trees.{Tree, Fields, Single, Record, Array, End, Field}
 use Rattle.map_expr.specs.Terms.{Term as MapTerm}
@@ -9,7 +9,7 @@ use Rattle.views.specs.Tallies.{Read, Write, all_accesses}
 use Rattle.views.specs.Tables.{Table, leaf_count_of, after_log, after_stores, answer_of, kept_of}
 use Rattle.views.specs.Stores.{kept_rows}
 use Rattle.worlds.specs.Worlds.{World, Entry}
-use Rattle.worlds.specs.Outcomes.{Outcome, Goes, ◌>>=◌, Left, quiet, known, refused_if, refused_by}
+use Rattle.worlds.specs.Outcomes.{Tested, ◌>>=◌, Left, quiet, known, refused_if, refused_by}
 use Rattle.worlds.specs.Names.{nameless, text_of_leaf}
 use Rattle.worlds.specs.Tables.{made}
 use Rattle.worlds.specs.OnView.{with_table}
@@ -39,13 +39,13 @@ abbrev pub narrow_fault : Fields → Spot → CommandFault
 narrow_fault fields spot = Narrow spot.row (text_of_leaf fields spot.leaf)
 
 -- a table with what it keeps of the rows of another, where it takes them, each value written once
-unfoldable pub with_rows : Table → List (List ℤ) → Outcome Table
+unfoldable pub with_rows : Table → List (List ℤ) → Tested Table
 with_rows table rows = do
   held ← refused_by (narrow_fault table.fields) (refused_at (answer_of table) 0 rows)
-  Goes (after_stores table (kept_rows (kept_of table) rows) (all_accesses Write (leaf_count_of table) (length rows)))
+  Ok (after_stores table (kept_rows (kept_of table) rows) (all_accesses Write (leaf_count_of table) (length rows)))
 
 -- the target with what it keeps of the rows of the source
-unfoldable pub copied : Table → Table → Outcome Table
+unfoldable pub copied : Table → Table → Tested Table
 copied source target = do
   alike ← refused_if (not (are_alike source target)) Mismatch
   with_rows target source.rows
@@ -55,7 +55,7 @@ abbrev pub all_read : Table → Table
 all_read source = after_log source (all_accesses Read (leaf_count_of source) (length source.rows))
 
 -- of a table onto itself, each value is read and is written
-unfoldable pub copy : World → List ℕ → List ℕ → Outcome Left
+unfoldable pub copy : World → List ℕ → List ℕ → Tested Left
 copy world name target_name = do
   source ← known name world.views
   let read = with_table world name (all_read source)
@@ -64,12 +64,12 @@ copy world name target_name = do
   quiet (with_table read target_name new)
 
 -- what a table of the same mode keeps of the rows under a new mapping, beside all of these, the old one among them
-unfoldable pub laid_anew : List (Entry Table) → Table → MapTerm → Outcome Table
+unfoldable pub laid_anew : List (Entry Table) → Table → MapTerm → Tested Table
 laid_anew views table mapping = do
   zeros ← made views table.mode table.fields table.extents mapping
   with_rows zeros table.rows
 
-unfoldable pub relayout : World → List ℕ → MapTerm → Outcome Left
+unfoldable pub relayout : World → List ℕ → MapTerm → Tested Left
 relayout world name term = do
   table ← known name world.views
   whole ← nameless world.mappings term

@@ -1,9 +1,9 @@
 -- `record P { .. }` names a record.
-use Rattle.std.specs.Prelude.{ℕ, List}
+use Rattle.std.specs.Prelude.{ℕ, List, Ok}
 use Rattle.record_dim.specs.Trees.{Tree, Record, Fields, End}
 use Rattle.record_dim.specs.Leaves.{record_fault}
 use Rattle.worlds.specs.Worlds.{World, added}
-use Rattle.worlds.specs.Outcomes.{Outcome, Goes, ◌>>=◌, Left, quiet, free, refused_by}
+use Rattle.worlds.specs.Outcomes.{Tested, ◌>>=◌, Left, quiet, free, refused_by}
 use Rattle.worlds.specs.declared.fault.CommandFault.TheVariants.{BadRecord}
 
 -- the fields of a record
@@ -12,12 +12,12 @@ fields_in (Record fields) = fields
 fields_in _ = End
 
 -- the fields of a record that is fit for a table
-abbrev pub fit : Tree → Outcome Fields
+abbrev pub fit : Tree → Tested Fields
 fit tree = do
   good ← refused_by BadRecord (record_fault tree)
-  Goes (fields_in tree)
+  Ok (fields_in tree)
 
-unfoldable pub define : World → List ℕ → Tree → Outcome Left
+unfoldable pub define : World → List ℕ → Tree → Tested Left
 define world name tree = do
   new ← free name world.records
   fields ← fit tree

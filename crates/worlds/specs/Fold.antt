@@ -1,7 +1,7 @@
 -- The run over the lines of a script, from a world.
-use Rattle.std.specs.Prelude.{ℕ, ◌+◌, ◌==◌, Bool, false, List, [], ◌∷◌, ◌++◌, Option, None, Some}
+use Rattle.std.specs.Prelude.{ℕ, ◌+◌, ◌==◌, Bool, false, List, [], ◌∷◌, ◌++◌, Option, None, Some, Ok, Err}
 use Rattle.worlds.specs.Worlds.{World}
-use Rattle.worlds.specs.Outcomes.{Outcome, Goes, Faults, CannotRead, Left}
+use Rattle.worlds.specs.Outcomes.{Outcome, Fault, Unread as NotRead, Left}
 use Rattle.worlds.specs.FaultTexts.{fault_text, unread_text}
 use Rattle.worlds.specs.Outcome.{Output, Finished, Faulted, Unread}
 
@@ -16,9 +16,9 @@ fails_at (Some other) line = other == line
 
 -- what becomes of a run after the outcome of a line
 abbrev pub after : ℕ → Outcome Left → (World → Output) → Output
-after line (Goes left) rest = prepend left.text (rest left.held)
-after line (Faults fault) rest = record { bytes = fault_text line fault; end = Faulted }
-after line (CannotRead name) rest = record { bytes = unread_text line name; end = Unread line }
+after line (Ok left) rest = prepend left.text (rest left.held)
+after line (Err (Fault fault)) rest = record { bytes = fault_text line fault; end = Faulted }
+after line (Err (NotRead name)) rest = record { bytes = unread_text line name; end = Unread line }
 
 -- the lines in order, the first of which has this number
 abbrev pub run_from : (World → List ℕ → Bool → Outcome Left) → ℕ → World → List (List ℕ) → Option ℕ → Output

@@ -1,5 +1,5 @@
 -- `kernel V .. lanes N` runs a kernel over the rows of a table, and writes the number of those that give one.
-use Rattle.std.specs.Prelude.{ℕ, ◌^◌, ◌&&◌, ◌||◌, Bool, true, not, ℤ, pos, neg_ℤ, int_le, int_lt, nat_eq, nat_lt, List, [], ◌∷◌, length, Option, Some, None}
+use Rattle.std.specs.Prelude.{ℕ, ◌^◌, ◌&&◌, ◌||◌, Bool, true, not, ℤ, pos, neg_ℤ, int_le, int_lt, nat_eq, nat_lt, List, [], ◌∷◌, length, Option, Some, None, Ok}
 use Rattle.std.specs.List.{list_any}
 use Rattle.expr_lang.specs.declared.expr.BinOp.{BinOp}
 use Rattle.expr_lang.specs.declared.expr.BinOp.TheVariants as op
@@ -19,7 +19,7 @@ use Rattle.lane_kernels.specs.Kernels.{Compare, Eq, Ne, Lt, Le, Gt, Ge}
 use Rattle.lane_kernels.specs.Logs.{kernel_rows_log}
 use Rattle.views.specs.Tables.{Table, answer_of, kept_of}
 use Rattle.worlds.specs.OnView.{Done}
-use Rattle.worlds.specs.Outcomes.{Outcome, Goes, ◌>>=◌, refused_if, refused_by}
+use Rattle.worlds.specs.Outcomes.{Tested, ◌>>=◌, refused_if, refused_by}
 use Rattle.worlds.specs.Names.{leaf_of, text_of_leaf}
 use Rattle.worlds.specs.Texts.{number_line}
 use Rattle.worlds.specs.declared.fault.BadKernel.TheVariants.{Lanes, Wide, Constant}
@@ -54,41 +54,41 @@ abbrev pub are_bounds : ℤ → ℤ → Bool
 are_bounds lo hi = is_constant lo && (is_constant hi && int_le lo hi)
 
 -- a number of lanes, leaves of which some is wide or none, and constants that are in their ranges or not
-abbrev pub fits : ℕ → Bool → Bool → Outcome (Unit {0})
+abbrev pub fits : ℕ → Bool → Bool → Tested (Unit {0})
 fits lanes wide constants = do
   even ← refused_if (not (are_lanes lanes)) (BadKernel Lanes)
   narrow ← refused_if wide (BadKernel Wide)
   refused_if (not constants) (BadKernel Constant)
 
 -- the number of the one leaf of a kernel
-abbrev pub fit_leaf : Fields → List PathStep → ℕ → Bool → Outcome ℕ
+abbrev pub fit_leaf : Fields → List PathStep → ℕ → Bool → Tested ℕ
 fit_leaf fields path lanes constants = do
   leaf ← leaf_of fields path
   fit ← fits lanes (is_wide fields leaf) constants
-  Goes leaf
+  Ok leaf
 
 -- a kernel that can run on a table of this record: the numbers of its leaves stand in place of their paths
-abbrev pub fit_kernel : Fields → KernelText → ℕ → Outcome Kernel
+abbrev pub fit_kernel : Fields → KernelText → ℕ → Tested Kernel
 fit_kernel fields (text.Axpy a x y) lanes = do
   from ← leaf_of fields x
   to ← leaf_of fields y
   fit ← fits lanes (is_wide fields from || is_wide fields to) (is_factor a)
-  Goes (Axpy a from to)
+  Ok (Axpy a from to)
 fit_kernel fields (text.Clamp x lo hi) lanes = do
   leaf ← fit_leaf fields x lanes (are_bounds lo hi)
-  Goes (Clamp leaf lo hi)
+  Ok (Clamp leaf lo hi)
 fit_kernel fields (text.Sum x) lanes = do
   leaf ← fit_leaf fields x lanes true
-  Goes (Sum leaf)
+  Ok (Sum leaf)
 fit_kernel fields (text.Least x) lanes = do
   leaf ← fit_leaf fields x lanes true
-  Goes (Least leaf)
+  Ok (Least leaf)
 fit_kernel fields (text.Greatest x) lanes = do
   leaf ← fit_leaf fields x lanes true
-  Goes (Greatest leaf)
+  Ok (Greatest leaf)
 fit_kernel fields (text.CountWhere x op c) lanes = do
   leaf ← fit_leaf fields x lanes (is_constant c)
-  Goes (CountWhere leaf (compare_of op) c)
+  Ok (CountWhere leaf (compare_of op) c)
 
 -- the fault of a row, with the path text of its leaf
 abbrev pub kernel_row_fault : Fields → KernelFault → CommandFault
@@ -102,16 +102,16 @@ number_text None = []
 number_text (Some number) = number_line number
 
 -- what a kernel that can run does
-abbrev pub kernel_outcome : Table → Kernel → Outcome Done
+abbrev pub kernel_outcome : Table → Kernel → Tested Done
 kernel_outcome table kernel = do
   done ← refused_by (kernel_row_fault table.fields) (kernels.kernel_fault (answer_of table) kernel table.rows)
-  Goes (record {
+  Ok (record {
     rows = kernels.run_rows (kept_of table) kernel (length table.rows) table.rows;
     log = kernel_rows_log kernel (length table.rows);
     text = number_text (kernels.given_number kernel table.rows);
   })
 
-unfoldable pub kernel_run : Table → KernelText → ℕ → Outcome Done
+unfoldable pub kernel_run : Table → KernelText → ℕ → Tested Done
 kernel_run table text lanes = do
   fit ← fit_kernel table.fields text lanes
   kernel_outcome table fit

@@ -1,5 +1,5 @@
 -- `load V : P [..] as .. from "F"` makes a table of what it keeps of the values of a dataset.
-use Rattle.std.specs.Prelude.{ℕ, ◌^◌, Bool, List, length, Option, Some, None, nat_lt, if◌then◌else◌}
+use Rattle.std.specs.Prelude.{ℕ, ◌^◌, Bool, List, length, Option, Some, None, nat_lt, if◌then◌else◌, Ok}
 use Rattle.extents.specs.declared.words.ExtentWord.{ExtentWord}
 use Rattle.layout_io.specs.Files.{File, file_named}
 use Rattle.record_dim.specs.Trees.{Fields}
@@ -11,7 +11,7 @@ use Rattle.csv_rows.specs.declared.fault.RowFault.TheVariants as rows
 use Rattle.views.specs.Tallies.{Write, all_accesses}
 use Rattle.views.specs.Tables.{Table, leaf_count_of, after_stores}
 use Rattle.worlds.specs.Worlds.{World, Entry}
-use Rattle.worlds.specs.Outcomes.{Outcome, Goes, CannotRead, ◌>>=◌, Left, quiet, refused_if, ok_or}
+use Rattle.worlds.specs.Outcomes.{Tested, CannotRead, ◌>>=◌, Left, quiet, refused_if, ok_or, Outcome, Goes, sure}
 use Rattle.worlds.specs.Names.{text_of_leaf}
 use Rattle.worlds.specs.Tables.{resolved, made}
 use Rattle.worlds.specs.View.{with_view, Named, named}
@@ -38,13 +38,13 @@ row_fault fields (rows.Narrow row leaf) = fault.Narrow row (text_of_leaf fields 
 row_fault fields rows.NoMemory = fault.TooBig
 
 -- a table with what it keeps of the values of a dataset in place of its own, each written once
-abbrev pub filled : Table → List (List (List ℕ)) → Outcome Table
+abbrev pub filled : Table → List (List (List ℕ)) → Tested Table
 filled table records = do
   rows ← ok_or (row_fault table.fields) (dataset_of table records)
-  Goes (after_stores table rows (all_accesses Write (leaf_count_of table) (length table.rows)))
+  Ok (after_stores table rows (all_accesses Write (leaf_count_of table) (length table.rows)))
 
 -- the table of a dataset of these bytes, beside these views
-unfoldable pub loaded : List (Entry Table) → Named → List ExtentWord → List ℕ → Outcome Table
+unfoldable pub loaded : List (Entry Table) → Named → List ExtentWord → List ℕ → Tested Table
 loaded views whole words bytes = do
   short ← refused_if (nat_lt (2 ^ 28) (length bytes)) fault.TooBig
   extents ← resolved words (Some (length (records_behind (csv_records bytes))))
@@ -54,11 +54,11 @@ loaded views whole words bytes = do
 -- the table of a dataset in a file
 unfoldable pub loaded_table : World → New → List ℕ → List File → Bool → Outcome Table
 loaded_table world new file files unread = do
-  whole ← named world new
+  whole ← sure (named world new)
   bytes ← read files unread file
-  loaded world.views whole new.words bytes
+  sure (loaded world.views whole new.words bytes)
 
 unfoldable pub load : World → New → List ℕ → List File → Bool → Outcome Left
 load world new file files unread = do
   table ← loaded_table world new file files unread
-  quiet (with_view world new.name table)
+  sure (quiet (with_view world new.name table))

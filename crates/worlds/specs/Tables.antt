@@ -1,5 +1,5 @@
 -- New tables, and what refuses them.
-use Rattle.std.specs.Prelude.{ℕ, ◌+◌, ◌*◌, ◌^◌, List, length, sum_by, nat_lt, nat_le, Option}
+use Rattle.std.specs.Prelude.{ℕ, ◌+◌, ◌*◌, ◌^◌, List, length, sum_by, nat_lt, nat_le, Option, Ok}
 use Rattle.extents.specs.Shapes.{extents_for, bad_shape, bad_extents}
 use Rattle.extents.specs.declared.words.ExtentWord.{ExtentWord}
 use Rattle.record_dim.specs.Trees.{Fields}
@@ -13,22 +13,22 @@ use Rattle.blob_file.specs.Opened.{empty_table}
 use Rattle.blob_file.specs.Parts.{header_by}
 pub use Rattle.blob_file.specs.Opened.{mode_by}
 use Rattle.worlds.specs.Worlds.{Entry}
-use Rattle.worlds.specs.Outcomes.{Outcome, Goes, ◌>>=◌, refused_if, refused_by, ok_or}
+use Rattle.worlds.specs.Outcomes.{Tested, ◌>>=◌, refused_if, refused_by, ok_or}
 use Rattle.worlds.specs.declared.fault.CommandFault.TheVariants.{TooManyViews, TooBig, BadExtents, BadMapping}
 
 -- fewer than 64 views are live
-abbrev pub room : List (Entry Table) → Outcome (Unit {0})
+abbrev pub room : List (Entry Table) → Tested (Unit {0})
 room views = refused_if (nat_le 64 (length views)) TooManyViews
 
 -- the words can be extents
-abbrev pub shaped : List ExtentWord → Outcome (Unit {0})
+abbrev pub shaped : List ExtentWord → Tested (Unit {0})
 shaped words = refused_by BadExtents (bad_shape words)
 
 -- the extents for the rows of a dataset, if there is one
-abbrev pub resolved : List ExtentWord → Option ℕ → Outcome (List ℕ)
+abbrev pub resolved : List ExtentWord → Option ℕ → Tested (List ℕ)
 resolved words rows = do
   fit ← refused_by BadExtents (bad_extents words rows)
-  Goes (extents_for words rows)
+  Ok (extents_for words rows)
 
 -- the bits of the blobs of a table
 abbrev pub blob_bits : Table → ℕ
@@ -44,7 +44,7 @@ zeros_of mode fields extents mapping = empty_table (header_by fields extents mod
 
 -- a table of zeros beside these views, where its mapping is one and no limit is passed: the slots, the bytes of its blobs, the granules
 -- that are counted, and the bytes of all live views
-abbrev pub made : List (Entry Table) → StoreMode → Fields → List ℕ → MapTerm → Outcome Table
+abbrev pub made : List (Entry Table) → StoreMode → Fields → List ℕ → MapTerm → Tested Table
 made views mode fields extents mapping =
     let table = zeros_of mode fields extents mapping in do
       fit ← ok_or BadMapping (accepted mapping fields (leaf_cells (kinds_of fields)))
@@ -52,4 +52,4 @@ made views mode fields extents mapping =
       bytes ← refused_if (nat_lt (8 * 2 ^ 28) (blob_bits table)) TooBig
       granules ← refused_if (nat_lt (2 ^ 24) (granules_for mapping (owners_of table))) TooBig
       all ← refused_if (nat_lt (8 * 2 ^ 30) (live_bits views + blob_bits table)) TooBig
-      Goes table
+      Ok table

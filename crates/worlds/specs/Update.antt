@@ -1,5 +1,5 @@
 -- `update V where .. set .. = .., ..` stores values in each row where the filter is not 0.
-use Rattle.std.specs.Prelude.{ℕ, List, [], length, Option}
+use Rattle.std.specs.Prelude.{ℕ, List, [], length, Option, Ok}
 use Rattle.line_grammar.specs.Sentences.{Value, Assignment}
 use Rattle.record_dim.specs.Trees.{Fields}
 use Rattle.row_updates.specs.Rows.{updated_rows}
@@ -9,7 +9,7 @@ use Rattle.row_updates.specs.declared.fault.UpdateKind.{UpdateKind}
 use Rattle.row_updates.specs.declared.fault.UpdateKind.TheVariants as kind
 use Rattle.views.specs.Tables.{Table, answer_of, kept_of}
 use Rattle.worlds.specs.OnView.{Done, stores}
-use Rattle.worlds.specs.Outcomes.{Outcome, Goes, ◌>>=◌, ok_or}
+use Rattle.worlds.specs.Outcomes.{Tested, ◌>>=◌, ok_or}
 use Rattle.worlds.specs.Names.{text_of_leaf, bound_filter, bound_sets, each_once, leaves_of}
 use Rattle.worlds.specs.declared.fault.CommandFault.{CommandFault}
 use Rattle.worlds.specs.declared.fault.CommandFault.TheVariants.{Range, Narrow, Overflow, DivideByZero}
@@ -25,10 +25,10 @@ abbrev pub update_fault : Fields → UpdateFault → CommandFault
 update_fault fields fault = kind_fault fields fault.row fault.kind
 
 -- new values go into the rows that pass a filter
-unfoldable pub updated : Table → Option Value → List Assignment → Outcome Done
+unfoldable pub updated : Table → Option Value → List Assignment → Tested Done
 updated table filter sets = do
   test ← bound_filter table.fields (length table.extents) filter
   settings ← bound_sets table.fields (length table.extents) sets
   once ← each_once table.fields [] (leaves_of settings)
   rows ← ok_or (update_fault table.fields) (updated_rows (answer_of table) (kept_of table) test settings table.extents table.rows (length table.rows))
-  Goes (stores rows (rows_log (answer_of table) test settings table.extents table.rows (length table.rows)))
+  Ok (stores rows (rows_log (answer_of table) test settings table.extents table.rows (length table.rows)))

@@ -7,7 +7,7 @@ use Rattle.expr_lang.specs.declared.fault.EvalFault.TheVariants as eval
 use Rattle.views.specs.declared.fault.StoreFault.{StoreFault}
 use Rattle.views.specs.declared.fault.StoreFault.TheVariants as store
 use Rattle.views.specs.Tables.{Table, answer_of}
-use Rattle.worlds.specs.Outcomes.{Outcome, ok_or}
+use Rattle.worlds.specs.Outcomes.{Tested, ok_or}
 use Rattle.worlds.specs.Names.{text_of_leaf}
 use Rattle.worlds.specs.declared.fault.CommandFault.{CommandFault}
 use Rattle.worlds.specs.declared.fault.CommandFault.TheVariants.{Range, Narrow, Overflow, DivideByZero}
@@ -23,9 +23,9 @@ store_fault row leaf store.Range = Range row leaf
 store_fault row leaf store.Narrow = Narrow row leaf
 
 -- the value of an expression on the row of this number and this index
-abbrev pub value_on : ℕ → List ℤ → List ℕ → Term ℕ → Outcome ℤ
+abbrev pub value_on : ℕ → List ℤ → List ℕ → Term ℕ → Tested ℤ
 value_on number row index value = ok_or (eval_fault number) (outcome_of row index value).answer
 
 -- the number that is kept of a value in a leaf of the row of this number
-abbrev pub storable : Table → ℕ → ℕ → ℤ → Outcome ℤ
+abbrev pub storable : Table → ℕ → ℕ → ℤ → Tested ℤ
 storable table number leaf value = ok_or (store_fault number (text_of_leaf table.fields leaf)) (answer_of table leaf value)

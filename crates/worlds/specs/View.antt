@@ -1,12 +1,12 @@
 -- `view V : P [..] as ..` makes a table of zeros.
-use Rattle.std.specs.Prelude.{ℕ, List, None}
+use Rattle.std.specs.Prelude.{ℕ, List, None, Ok}
 use Rattle.record_dim.specs.Trees.{Fields}
 use Rattle.map_expr.specs.Terms.{Term as MapTerm}
 use Rattle.line_grammar.specs.Sentences.{New}
 use Rattle.piece_bits.specs.declared.mode.StoreMode.{StoreMode}
 use Rattle.views.specs.Tables.{Table}
 use Rattle.worlds.specs.Worlds.{World, added}
-use Rattle.worlds.specs.Outcomes.{Outcome, Goes, ◌>>=◌, Left, quiet, free, known}
+use Rattle.worlds.specs.Outcomes.{Tested, ◌>>=◌, Left, quiet, free, known}
 use Rattle.worlds.specs.Names.{nameless}
 use Rattle.worlds.specs.Tables.{room, shaped, resolved, mode_by, made}
 
@@ -21,23 +21,23 @@ pub record Named : Type 0 where
   pub mapping : MapTerm
 
 -- the tests of a new view that need no file
-abbrev pub named : World → New → Outcome Named
+abbrev pub named : World → New → Tested Named
 named world new = do
   unused ← free new.name world.views
   fields ← known new.schema world.records
   whole ← nameless world.mappings new.term
   space ← room world.views
   ranked ← shaped new.words
-  Goes (record { fields = fields; mode = mode_by new.wrap; mapping = whole })
+  Ok (record { fields = fields; mode = mode_by new.wrap; mapping = whole })
 
 -- the table that a view begins as
-unfoldable pub new_table : World → New → Outcome Table
+unfoldable pub new_table : World → New → Tested Table
 new_table world new = do
   whole ← named world new
   extents ← resolved new.words None
   made world.views whole.mode whole.fields extents whole.mapping
 
-unfoldable pub view : World → New → Outcome Left
+unfoldable pub view : World → New → Tested Left
 view world new = do
   table ← new_table world new
   quiet (with_view world new.name table)

@@ -1,12 +1,11 @@
 -- `print V window [..]` writes the rows whose index a window holds.
-use Rattle.std.specs.Prelude.{ℕ, ◌&&◌, Bool, true, false, not, nat_le, List, [], ◌∷◌}
+use Rattle.std.specs.Prelude.{ℕ, ◌&&◌, Bool, true, false, not, nat_le, List, [], ◌∷◌, length, Ok}
 use Rattle.csv_rows.specs.Texts.{print_text}
 use Rattle.extents.specs.declared.window.Span.{Span}
-use Rattle.record_dim.specs.Leaves.{texts_of}
+use Rattle.record_dim.specs.Leaves.{texts_of, leaves}
 use Rattle.subviews.specs.SubViews.{WindowOf, sub_table, sub_reads}
-use Rattle.views.specs.Tables.{Table, leaf_count_of}
-use Rattle.worlds.specs.OnView.{Done}
-use Rattle.worlds.specs.Outcomes.{Outcome, Goes, ◌>>=◌, refused_if}
+use Rattle.worlds.specs.OnView.{Content, Told}
+use Rattle.worlds.specs.Outcomes.{Tested, ◌>>=◌, refused_if}
 use Rattle.worlds.specs.declared.fault.CommandFault.TheVariants.{BadWindow}
 
 -- a span for each extent, which ends neither before it begins nor outside the extent
@@ -16,17 +15,16 @@ are_inside (extent ∷ extents) (span ∷ spans) = (nat_le span.from span.end &&
 are_inside _ _ = false
 
 -- the window of spans
-abbrev pub windowed : List ℕ → List Span → Outcome WindowOf
+abbrev pub windowed : List ℕ → List Span → Tested WindowOf
 windowed extents spans = do
   inside ← refused_if (not (are_inside extents spans)) BadWindow
-  Goes (extents, spans)
+  Ok (extents, spans)
 
 -- each value of the window is read once
-unfoldable pub print_window : Table → List Span → Outcome Done
-print_window table spans = do
-  window ← windowed table.extents spans
-  Goes (record {
-    rows = table.rows;
-    log = sub_reads window (leaf_count_of table);
-    text = print_text (texts_of table.fields) (sub_table window table.rows);
+unfoldable pub print_window : Content → List Span → Tested Told
+print_window content spans = do
+  window ← windowed content.extents spans
+  Ok (record {
+    log = sub_reads window (length (leaves content.fields));
+    text = print_text (texts_of content.fields) (sub_table window content.rows);
   })

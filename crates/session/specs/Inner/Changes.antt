@@ -7,7 +7,7 @@ use Rattle.map_expr.specs.Terms.{Term as MapTerm}
 use Rattle.map_expr.specs.Checks.{checked}
 use Rattle.views.specs.Tables.{Table, answer_of, kept_of, after_log, after_stores}
 use Rattle.worlds.specs.Worlds.{Entry}
-use Rattle.worlds.specs.Outcomes.{Outcome, Goes, ◌>>=◌, LeftOf, ok_or}
+use Rattle.worlds.specs.Outcomes.{Tested, ◌>>=◌, LeftOf, ok_or}
 use Rattle.worlds.specs.OnView.{Done, stores}
 use Rattle.csv_rows.specs.declared.fault.RowFault.{RowFault}
 use Rattle.csv_rows.specs.declared.fault.RowFault.TheVariants as rows
@@ -27,17 +27,17 @@ use Rattle.worlds.specs.Copy.{all_read, copied, narrow_fault}
 use Rattle.worlds.specs.Tables.{made, zeros_of}
 
 -- an expression that can be a mapping, whatever its cells are
-abbrev pub mapping_fits : MapTerm → Outcome (Unit {0})
+abbrev pub mapping_fits : MapTerm → Tested (Unit {0})
 mapping_fits term = ok_or BadMapping (checked term)
 
 -- a table with the number that is kept of a value in a leaf of a row, where it fits
-abbrev pub stored : Table → ℕ → ℕ → ℤ → Outcome Table
+abbrev pub stored : Table → ℕ → ℕ → ℤ → Tested Table
 stored table row leaf value = do
   kept ← storable table row leaf value
-  Goes (after_stores table (with_entry table.rows row leaf kept) (Write row leaf ∷ []))
+  Ok (after_stores table (with_entry table.rows row leaf kept) (Write row leaf ∷ []))
 
 -- the same of the value of an expression on a row
-abbrev pub set_row : Table → ℕ → List ℕ → ℕ → Term ℕ → Outcome Table
+abbrev pub set_row : Table → ℕ → List ℕ → ℕ → Term ℕ → Tested Table
 set_row table row index leaf term = do
   number ← value_on row (slice_index_or table.rows row []) index term
   stored (after_log table (value_log row (slice_index_or table.rows row []) index term)) row leaf number
@@ -53,25 +53,25 @@ TellsRow fields rows.NoMemory told = told ≡ Err step.NoMemory
 TellsRow fields fault told = Tells (row_fault fields fault) told
 
 -- new values go into the rows that pass a filter
-abbrev pub rows_updated : Table → Option (Term ℕ) → List Setting → Outcome Done
+abbrev pub rows_updated : Table → Option (Term ℕ) → List Setting → Tested Done
 rows_updated table test settings = do
   rows ← ok_or (update_fault table.fields) (updated_rows (answer_of table) (kept_of table) test settings table.extents table.rows (length table.rows))
-  Goes (stores rows (rows_log (answer_of table) test settings table.extents table.rows (length table.rows)))
+  Ok (stores rows (rows_log (answer_of table) test settings table.extents table.rows (length table.rows)))
 
 -- the tables beside one another, that at one place read, and then that at a place as a copy of it
-abbrev pub copied_at : List (Entry Table) → ℕ → ℕ → Entry Table → Outcome (List (Entry Table))
+abbrev pub copied_at : List (Entry Table) → ℕ → ℕ → Entry Table → Tested (List (Entry Table))
 copied_at views place target d =
     let source = slice_index_or views place d in
     let read = slice_set views place (record { name = source.name; held = all_read source.held }) in
     let old = slice_index_or read target d in do
       new ← copied source.held old.held
-      Goes (slice_set read target (record { name = old.name; held = new }))
+      Ok (slice_set read target (record { name = old.name; held = new }))
 
 -- a table of zeros of the mode, the record and the extents of another one, and its making beside these
 abbrev pub zeros_like : Table → MapTerm → Table
 zeros_like table term = zeros_of table.mode table.fields table.extents term
 
-abbrev pub made_like : List (Entry Table) → Table → MapTerm → Outcome Table
+abbrev pub made_like : List (Entry Table) → Table → MapTerm → Tested Table
 made_like views table term = made views table.mode table.fields table.extents term
 
 -- the fault of a copy

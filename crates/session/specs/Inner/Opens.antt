@@ -1,11 +1,11 @@
 -- The parts of an open, behind the reading of its file.
-use Rattle.std.specs.Prelude.{ℕ, ◌+◌, ◌*◌, ◌^◌, List, nat_lt}
+use Rattle.std.specs.Prelude.{ℕ, ◌+◌, ◌*◌, ◌^◌, List, nat_lt, Ok}
 use Rattle.blob_file.specs.Opened.{opened, table_of_saved}
 use Rattle.blob_file.specs.declared.fault.FileFault.{FileFault}
 use Rattle.blob_file.specs.declared.fault.FileFault.TheVariants as cause
 use Rattle.views.specs.Tables.{Table}
 use Rattle.worlds.specs.Files.{bad_file}
-use Rattle.worlds.specs.Outcomes.{Outcome, Goes, ◌>>=◌, refused_if, ok_or}
+use Rattle.worlds.specs.Outcomes.{Tested, ◌>>=◌, refused_if, ok_or}
 use Rattle.worlds.specs.Tables.{live_bits, blob_bits}
 use Rattle.worlds.specs.Worlds.{Entry}
 use Rattle.worlds.specs.declared.fault.CommandFault.TheVariants.{TooBig}
@@ -13,13 +13,13 @@ use Rattle.command_checks.specs.declared.fault.StepFault.{StepFault}
 use Rattle.command_checks.specs.declared.fault.StepFault.TheVariants as step
 
 -- a table, where its blobs have room beside those of these views
-abbrev pub with_room : List (Entry Table) → Table → Outcome Table
+abbrev pub with_room : List (Entry Table) → Table → Tested Table
 with_room views table = do
   all ← refused_if (nat_lt (8 * 2 ^ 30) (live_bits views + blob_bits table)) TooBig
-  Goes table
+  Ok table
 
 -- the table of a file of bytes that are not too many, beside these views
-abbrev pub placed_table : List (Entry Table) → List ℕ → Outcome Table
+abbrev pub placed_table : List (Entry Table) → List ℕ → Tested Table
 placed_table views bytes = do
   saved ← ok_or bad_file (opened bytes)
   with_room views (table_of_saved saved)

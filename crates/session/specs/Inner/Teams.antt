@@ -1,5 +1,5 @@
 -- The parts of an update by actors.
-use Rattle.std.specs.Prelude.{ℕ, ◌≡◌, ◌*◌, ◌^◌, ◌≤◌, not, nat_lt, All, IfSome, List, [], length, map, sum_by, Option, None, option_map}
+use Rattle.std.specs.Prelude.{ℕ, ◌≡◌, ◌*◌, ◌^◌, ◌≤◌, not, nat_lt, All, IfSome, List, [], length, map, sum_by, Option, None, option_map, Ok}
 use Rattle.actor_steps.specs.Cuts.{AreCuts, actor_of}
 use Rattle.actor_steps.specs.Jobs.{written_by}
 use Rattle.actor_steps.specs.Shared.{shared_byte}
@@ -13,7 +13,7 @@ use Rattle.worlds.specs.Actors.{fit_cuts, shared, memory_text}
 use Rattle.views.specs.Tallies.{reads_first}
 use Rattle.worlds.specs.Names.{bound_filter, bound_sets, each_once, leaves_of}
 use Rattle.worlds.specs.OnView.{Done}
-use Rattle.worlds.specs.Outcomes.{Outcome, Goes, ◌>>=◌, refused_if, refused_by, ok_or}
+use Rattle.worlds.specs.Outcomes.{Tested, ◌>>=◌, refused_if, refused_by, ok_or}
 use Rattle.worlds.specs.Show.{small}
 use Rattle.worlds.specs.Update.{update_fault}
 use Rattle.worlds.specs.declared.fault.BadActors.TheVariants.{Cuts, Turns}
@@ -29,7 +29,7 @@ abbrev pub bindings_of : Team → Bindings
 bindings_of team = record { test = option_map bound_term team.filter; settings = map setting_of team.sets.items }
 
 -- them, where nothing refuses the update before its values are looked at
-abbrev pub shared_out : Table → Option Value → List Assignment → List ℕ → ℕ → Outcome Bindings
+abbrev pub shared_out : Table → Option Value → List Assignment → List ℕ → ℕ → Tested Bindings
 shared_out table filter sets cuts turns = do
   test ← bound_filter table.fields (length table.extents) filter
   settings ← bound_sets table.fields (length table.extents) sets
@@ -38,13 +38,13 @@ shared_out table filter sets cuts turns = do
   few ← refused_if (nat_lt (2 ^ 20) turns) (BadActors Turns)
   shown ← small table
   apart ← refused_by shared (shared_byte (owners_of table) (actor_of cuts))
-  Goes (record { test = test; settings = settings })
+  Ok (record { test = test; settings = settings })
 
 -- what is done then
-abbrev pub acted : Table → Bindings → List ℕ → ℕ → ℕ → Outcome Done
+abbrev pub acted : Table → Bindings → List ℕ → ℕ → ℕ → Tested Done
 acted table bound cuts seed turns = do
   rows ← ok_or (update_fault table.fields) (updated_of table bound.test bound.settings (length table.rows))
-  Goes (record {
+  Ok (record {
     rows = rows;
     log = reads_first (update_log table bound.test bound.settings (length table.rows));
     text = memory_text (written_by table bound.test bound.settings cuts seed turns);

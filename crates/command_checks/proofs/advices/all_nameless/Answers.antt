@@ -1,4 +1,4 @@
-use Rattle.command_checks.proofs.Imports.{rules, ◌≡◌, ◌++◌, ◌∷◌, [], List, Err, true, map, ◌<◌, length, get_or, length-append, subst, sym, ap, ◌∙◌, get_or-map, length-map, map-append, All-push, MapTerm, term_of, nameless, Goes, is_nameless, mapping_of, GivesUp}
+use Rattle.command_checks.proofs.Imports.{rules, ◌≡◌, ◌++◌, ◌∷◌, [], List, Err, true, map, ◌<◌, length, get_or, length-append, subst, sym, ap, ◌∙◌, get_or-map, length-map, map-append, All-push, MapTerm, term_of, nameless, is_nameless, mapping_of, GivesUp, Ok}
 use Rattle.command_checks.proofs.Each.{each_more, each_ends}
 use Rattle.command_checks.proofs.advices.all_nameless.Goals as goal
 
@@ -27,7 +27,7 @@ loop-expr-preserved c =
     let items : c.push.new.self ≡ whole ++ expr ∷ [] = search rules in
     record {
       whole = each_more f (map term_of exprs) i (term_of one) (map term_of whole) (term_of expr) small c.loop-expr.invariant.whole (ap f at ∙ c.in_ok-expr.ensures.whole)
-          ∙ ap (λ (terms : List MapTerm). Goes terms) (sym (ap (map term_of) items ∙ map-append term_of whole (expr ∷ [])));
+          ∙ ap (λ (terms : List MapTerm). Ok terms) (sym (ap (map term_of) items ∙ map-append term_of whole (expr ∷ [])));
       nameless = rw items (All-push (λ e. is_nameless (term_of e) ≡ true) whole expr c.loop-expr.invariant.nameless c.in_ok-expr.ensures.nameless);
       long = rw items (simp (length-append, c.loop-expr.invariant.long));
     }

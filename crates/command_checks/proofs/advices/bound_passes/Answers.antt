@@ -1,4 +1,4 @@
-use Rattle.command_checks.proofs.Imports.{rules, ◌≡◌, ◌++◌, ◌∷◌, [], List, Err, length-append, sym, ap, ◌∙◌, Pass, bound_pass, Goes}
+use Rattle.command_checks.proofs.Imports.{rules, ◌≡◌, ◌++◌, ◌∷◌, [], List, Err, length-append, sym, ap, ◌∙◌, Pass, bound_pass, Ok}
 use Rattle.command_checks.proofs.Each.{each_more, each_ends}
 use Rattle.command_checks.proofs.advices.bound_passes.Goals as goal
 
@@ -14,6 +14,6 @@ loop-text-preserved c =
     let is = rw c.text-item.is at c.in_ok-pass.ensures in
     record {
       passes = each_more (bound_pass c.args.view.now.fields) c.args.texts.now c.loop-text.text-index c.text-item.result c.loop-text.passes c.in_ok-pass.pass c.loop-text-test.true c.loop-text.invariant.passes is
-          ∙ ap (λ (passes : List Pass). Goes passes) (sym items);
+          ∙ ap (λ (passes : List Pass). Ok passes) (sym items);
       long = rw items (simp (length-append, c.loop-text.invariant.long));
     }

@@ -1,4 +1,4 @@
-use Rattle.command_checks.proofs.Imports.{rules, ◌≡◌, ◌++◌, ◌∷◌, [], List, Err, ◌+◌, take, get_or, length-append, sym, ap, ◌∙◌, All-push, Weighted, leaf_count_of, Goes, stencil_term, placed_term, weighted_at}
+use Rattle.command_checks.proofs.Imports.{rules, ◌≡◌, ◌++◌, ◌∷◌, [], List, Err, ◌+◌, take, get_or, length-append, sym, ap, ◌∙◌, All-push, Weighted, leaf_count_of, stencil_term, placed_term, weighted_at, Ok}
 use Rattle.std.specs.Prelude.{◌<◌}
 use Rattle.command_checks.proofs.Each.{each_more, each_ends}
 use Rattle.command_checks.proofs.Terms.{term_goes, term_ends, weighted_more}
@@ -28,7 +28,7 @@ loop-text-preserved c =
     record {
       terms = each_more (stencil_term fields) texts i one (weighted_at (take i texts) leaves) (placed_term (get_or texts i one) leaf) c.loop-text-test.true c.loop-text.invariant.terms
           (term_goes fields (get_or texts i one) leaf is)
-          ∙ ap (λ (terms : List Weighted). Goes terms) (sym (weighted_more texts leaves i one leaf c.loop-text-test.true c.loop-text.invariant.paired) ∙ ap (weighted_at (take (i + 1) texts)) (sym items));
+          ∙ ap (λ (terms : List Weighted). Ok terms) (sym (weighted_more texts leaves i one leaf c.loop-text-test.true c.loop-text.invariant.paired) ∙ ap (weighted_at (take (i + 1) texts)) (sym items));
       inside = rw items (All-push (λ leaf. leaf < leaf_count_of c.args.view.now) leaves leaf c.loop-text.invariant.inside c.in_ok-leaf.ensures.inside);
       paired = rw items (simp (length-append, c.loop-text.invariant.paired));
     }

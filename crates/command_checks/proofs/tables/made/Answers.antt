@@ -1,4 +1,4 @@
-use Rattle.command_checks.proofs.Imports.{◌∙◌, sym, ap, map, term_of, schema_fields, Goes, view_of}
+use Rattle.command_checks.proofs.Imports.{◌∙◌, sym, ap, map, term_of, schema_fields, view_of, Ok}
 use Rattle.command_checks.proofs.Limits.{table_new, made_goes, made_full, bits_over, bits_within}
 use Rattle.command_checks.proofs.tables.made.Goals as goal
 
@@ -13,7 +13,7 @@ returns-else-live-gt-MAX_LIVE_BYTES-clause-made c =
     let term = term_of c.args.expr.now in
     let table = table_new c.in-Ok.view c.args.mode fields c.args.extents term c.in-Ok.ensures.mode c.in-Ok.ensures.schema c.in-Ok.ensures.extents c.in-Ok.ensures.expr c.in-Ok.ensures.table c.in-Ok.ensures.tally in
     made_goes (map view_of c.args.views.now) c.args.mode fields c.args.extents term c.in-Ok.ensures.accepted c.in-Ok.ensures.fits
-    (bits_within c.live_bytes-live.result c.left_beside.result _ _ c.live_bytes-live.ensures.sum c.left_beside.ensures c.if-live-gt-MAX_LIVE_BYTES.false c.in-Ok.ensures.within) ∙ sym (ap Goes table)
+    (bits_within c.live_bytes-live.result c.left_beside.result _ _ c.live_bytes-live.ensures.sum c.left_beside.ensures c.if-live-gt-MAX_LIVE_BYTES.false c.in-Ok.ensures.within) ∙ sym (ap Ok table)
 
 pub returns-else-live-gt-MAX_LIVE_BYTES-clause-zeros : goal.returns-else-live-gt-MAX_LIVE_BYTES-clause-zeros
 returns-else-live-gt-MAX_LIVE_BYTES-clause-zeros c =

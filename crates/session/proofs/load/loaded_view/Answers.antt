@@ -1,13 +1,13 @@
-use Rattle.session.proofs.Imports.{rules, ◌≡◌, ◌∙◌, ◌^◌, ℕ, false, List, Some, New, Table, loaded_table, read, Goes, ◌>>=◌, Named, named, World, GivesUp-then, goes_then, named_of, new_of, filled_table, world_in}
+use Rattle.session.proofs.Imports.{rules, ◌≡◌, ◌∙◌, ◌^◌, ℕ, false, List, Some, New, Table, loaded_table, read, ◌>>=◌, Named, named, World, goes_then, named_of, new_of, filled_table, world_in, Ok, refl, ap, sure}
 use Rattle.worlds.specs.Load.{loaded}
 use Rattle.session.proofs.Reading.{IsOf, within_first, before_reading, told_of, loads_of, unloads_of, unread_of, unread_test, unread_gives}
 use Rattle.session.proofs.load.loaded_view.Goals as goal
 
 -- behind the tests of its words a table is that of the bytes of its file
-reads : (world : World) (new : New) (file : List ℕ) (whole : Named) → named world new ≡ Goes whole → IsOf (2 ^ 28) file (filled_table world.views whole new.words) (loaded_table world new file)
+reads : (world : World) (new : New) (file : List ℕ) (whole : Named) → named world new ≡ Ok whole → IsOf (2 ^ 28) file (filled_table world.views whole new.words) (loaded_table world new file)
 unfolding loaded_table loaded
 reads world new file whole goes = record {
-  is = λ files unread. goes_then (named world new) (λ (w : Named). read files unread file >>= loaded world.views w new.words) whole goes
+  is = λ files unread. goes_then (sure (named world new)) (λ (w : Named). read files unread file >>= (λ bytes. sure (loaded world.views w new.words bytes))) whole (ap sure goes)
       ∙ within_first (2 ^ 28) (read files unread file) (filled_table world.views whole new.words);
 }
 
@@ -15,10 +15,9 @@ pub returns-in_err-found-clause-loads : goal.returns-in_err-found-clause-loads
 unfolding loaded_table
 returns-in_err-found-clause-loads g c = λ files told.
     let world = world_in c.args.records.now c.args.mappings.now c.args.views.now in
-    let next = λ (w : Named). read files false c.args.file.now >>= loaded world.views w c.args.new.now.words.now in
+    let next = λ (w : Named). read files false c.args.file.now >>= (λ bytes. sure (loaded world.views w c.args.new.now.words.now bytes)) in
     let fault = c.in_err-found.field-0.0 in
-    before_reading c.args.file.now (λ (view : Table). view) (loaded_table world (new_of c.args.new.now) c.args.file.now files) _ fault c.from_residual.result (search rules)
-    (GivesUp-then _ next fault c.in_err-found.ensures.named)
+    before_reading c.args.file.now (λ (view : Table). view) (loaded_table world (new_of c.args.new.now) c.args.file.now files) (named world (new_of c.args.new.now)) next _ fault c.from_residual.result refl (search rules) c.in_err-found.ensures.named
 
 pub returns-in_err-bytes-clause-loads : goal.returns-in_err-bytes-clause-loads
 returns-in_err-bytes-clause-loads g c = λ files given.

@@ -1,4 +1,4 @@
-use Rattle.session.proofs.Imports.{rules, ◌≡◌, ◌++◌, ◌∷◌, [], List, Err, map, get_or, drop, take, suc, subst, sym, ap, ◌∙◌, length, All-push, Assignment, assignment_of, Setting, setting_of, IsSetOf, map-append, bound_sets, Goes, GivesUp}
+use Rattle.session.proofs.Imports.{rules, ◌≡◌, ◌++◌, ◌∷◌, [], List, Err, map, get_or, drop, take, suc, subst, sym, ap, ◌∙◌, length, All-push, Assignment, assignment_of, Setting, setting_of, IsSetOf, map-append, bound_sets, GivesUp, Ok}
 use Rattle.session.proofs.Sets.{map_at, map_more, sets_push, sets_stop}
 use Rattle.session.proofs.update.bound_sets.Goals as goal
 
@@ -25,6 +25,6 @@ loop-set-preserved c =
     let pushed = sets_push fields rank (map assignment_of (take place sets)) (map setting_of c.loop-set.bound.items) (assignment_of (get_or sets place one)) (setting_of c.in_ok-set.set) c.loop-set.invariant.sets is in
     record {
       sets = ap (bound_sets fields rank) (map_more assignment_of sets place one c.loop-set-test.true) ∙ pushed
-          ∙ ap (λ (settings : List Setting). Goes settings) (sym (ap (map setting_of) items ∙ map-append setting_of c.loop-set.bound.items (c.in_ok-set.set ∷ [])));
+          ∙ ap (λ (settings : List Setting). Ok settings) (sym (ap (map setting_of) items ∙ map-append setting_of c.loop-set.bound.items (c.in_ok-set.set ∷ [])));
       over = rw items (All-push (IsSetOf c.args.view.now) c.loop-set.bound.items c.in_ok-set.set c.loop-set.invariant.over c.in_ok-set.ensures.over);
     }

@@ -1,4 +1,4 @@
-use Rattle.session.proofs.Imports.{arith, ◌<◌, ◌∙◌, ◌≤◌, ℕ, length, map, refl, ap, setting_of, leaf_count_of, leaves_of, text_of_leaf, Faults, Twice}
+use Rattle.session.proofs.Imports.{arith, ◌<◌, ◌∙◌, ◌≤◌, ℕ, length, map, refl, ap, setting_of, leaf_count_of, leaves_of, text_of_leaf, Twice, Err}
 use Rattle.session.proofs.Sets.{once_none, once_more, once_stop, once_all, once_few, leaf_at, leaves_below, leaves_long, test_at}
 use Rattle.session.proofs.update.each_once.Goals as goal
 
@@ -13,7 +13,7 @@ returns-then-is_set-clause-once c =
     let again = test_at sets _ c.loop-place.place one _ c.loop-place-test.true c.index-sets-place.is refl c.is_set.ensures ∙ c.if-is_set.true in
     let text = c.in_ok-leaf.ensures.text in
     rw text (once_stop c.args.view.now.fields (leaves_of (map setting_of sets)) c.loop-place.place small again c.loop-place.invariant
-    ∙ ap (λ (leaf : ℕ). Faults (Twice (text_of_leaf c.args.view.now.fields leaf))) (leaf_at sets c.loop-place.place one c.loop-place-test.true c.index-sets-place.is))
+    ∙ ap (λ (leaf : ℕ). Err (Twice (text_of_leaf c.args.view.now.fields leaf))) (leaf_at sets c.loop-place.place one c.loop-place-test.true c.index-sets-place.is))
 
 pub loop-place-preserved : goal.loop-place-preserved
 loop-place-preserved c =

@@ -1,4 +1,4 @@
-use Rattle.session.proofs.Imports.{refl, header_of, blobs_of, save, done_to, TooBig, left_with}
+use Rattle.session.proofs.Imports.{refl, header_of, blobs_of, save, done_to, TooBig, left_with, telling}
 use Rattle.blob_file.specs.Files.{file_of}
 use Rattle.command_checks.specs.declared.fault.StepFault.TheVariants as step
 use Rattle.session.proofs.Saving.{gave_up_idle, save_goes, save_long}
@@ -27,4 +27,4 @@ pub returns-in-NoMemory-clause-answers : goal.returns-in-NoMemory-clause-answers
 returns-in-NoMemory-clause-answers g c =
     let table = c.args.view.now in
     let starved = rw c.in-NoMemory.is at c.in-Err.ensures.saved in
-    gave_up_idle g.K.Sink.taken g.K.Sink.faults c.args.out.now c.write_file.new.sink table (done_to table (save table)) step.NoMemory starved tt
+    gave_up_idle g.K.Sink.taken g.K.Sink.faults c.args.out.now c.write_file.new.sink table (done_to table (telling save table)) step.NoMemory starved tt

@@ -1,4 +1,4 @@
-use Rattle.session.proofs.Imports.{rules, ◌≡◌, ◌∙◌, map, Err, refl, sym, subst, copy, Outcome, Left, view_of, GivesUp, GivesUp-then, goes_then, IsAt, known_place, world_of}
+use Rattle.session.proofs.Imports.{rules, ◌≡◌, ◌∙◌, map, Err, refl, sym, subst, copy, Left, view_of, GivesUp, GivesUp-then, goes_then, IsAt, known_place, world_of, Tested}
 use Rattle.session.proofs.Exits.{goes_gives}
 use Rattle.session.proofs.Copies.{first_of, copy_in}
 use Rattle.session.proofs.CopySteps.{copy_within, no_copy}
@@ -27,7 +27,7 @@ returns-in_err-copy_between-clause-copied g c =
     let is : c.from_residual-in_err-copy_between.result ≡ Err fault = search rules in
     let whole = copy_in (world_of c.args.self) c.args.source c.args.target c.in_ok-source.source c.in_ok-target.target (view_of d)
     from.first to.first in
-    rw is (subst (λ (o : Outcome Left). GivesUp o fault) (sym whole) (GivesUp-then _ _ fault (c.in_err-copy_between.ensures.copied d)))
+    rw is (subst (λ (o : Tested Left). GivesUp o fault) (sym whole) (GivesUp-then _ _ fault (c.in_err-copy_between.ensures.copied d)))
 
 pub returns-clause-copied : goal.returns-clause-copied
 returns-clause-copied g c =

@@ -1,14 +1,13 @@
-use Rattle.session.proofs.Imports.{rules, ◌≡◌, ◌∙◌, ◌+◌, ◌^◌, ℕ, List, Some, Table, opened_beside, opened_table, read, Goes, ◌>>=◌, free, room, World, GivesUp-then, goes_then, placed_table, world_of}
-use Rattle.session.proofs.Exits.{goes_gives}
+use Rattle.session.proofs.Imports.{rules, ◌≡◌, ◌∙◌, ◌+◌, ◌^◌, ℕ, List, Some, Table, opened_beside, opened_table, read, ◌>>=◌, free, room, World, goes_then, placed_table, world_of, false, Ok, refl, ap, sure}
 use Rattle.session.proofs.Reading.{IsOf, within_first, before_reading, told_of, loads_of, unloads_of, unread_of, unread_test, unread_gives}
 use Rattle.session.proofs.session.Session.opened_view.Goals as goal
 
 -- where its name is free, and there is room for a view, a table is that of the bytes of its file
-reads : (world : World) (name file : List ℕ) → free name world.views ≡ Goes tt → room world.views ≡ Goes tt → IsOf (2 ^ 28 + 8206) file (placed_table world.views) (opened_table world name file)
+reads : (world : World) (name file : List ℕ) → free name world.views ≡ Ok tt → room world.views ≡ Ok tt → IsOf (2 ^ 28 + 8206) file (placed_table world.views) (opened_table world name file)
 unfolding opened_table opened_beside
 reads world name file unused space = record {
-  is = λ files unread. goes_then (free name world.views) (λ (u : Unit {0}). room world.views >>= (λ (s : Unit {0}). read files unread file >>= opened_beside world.views)) tt unused
-      ∙ goes_then (room world.views) (λ (s : Unit {0}). read files unread file >>= opened_beside world.views) tt space
+  is = λ files unread. goes_then (sure (free name world.views)) (λ (u : Unit {0}). sure (room world.views) >>= (λ (s : Unit {0}). read files unread file >>= (λ bytes. sure (opened_beside world.views bytes)))) tt (ap sure unused)
+      ∙ goes_then (sure (room world.views)) (λ (s : Unit {0}). read files unread file >>= (λ bytes. sure (opened_beside world.views bytes))) tt (ap sure space)
       ∙ within_first (2 ^ 28 + 8206) (read files unread file) (placed_table world.views);
 }
 
@@ -18,8 +17,8 @@ returns-in_err-free_view-clause-loads g c = λ files told.
     let world = world_of c.args.self.now in
     let fault = c.in_err-free_view.field-0.0 in
     let taken = rw c.as_slice-views.ensures.value at c.in_err-free_view.ensures in
-    before_reading c.args.file.now (λ (view : Table). view) (opened_table world c.args.name c.args.file.now files) _ fault c.from_residual.result (search rules)
-    (GivesUp-then (free c.args.name world.views) _ fault taken)
+    let next = λ (u : Unit {0}). sure (room world.views) >>= (λ (s : Unit {0}). read files false c.args.file.now >>= (λ bytes. sure (opened_beside world.views bytes))) in
+    before_reading c.args.file.now (λ (view : Table). view) (opened_table world c.args.name c.args.file.now files) (free c.args.name world.views) next _ fault c.from_residual.result refl (search rules) taken
 
 pub returns-in_err-has_room-clause-loads : goal.returns-in_err-has_room-clause-loads
 unfolding opened_table
@@ -28,8 +27,9 @@ returns-in_err-has_room-clause-loads g c = λ files told.
     let fault = c.in_err-has_room.field-0.0 in
     let unused = rw c.as_slice-views.ensures.value at c.in_ok-free_view.ensures in
     let full = rw c.as_slice-views.ensures.value at c.in_err-has_room.ensures.room in
-    before_reading c.args.file.now (λ (view : Table). view) (opened_table world c.args.name c.args.file.now files) _ fault c.from_residual-in_err-has_room.result (search rules)
-    (goes_gives (free c.args.name world.views) tt _ fault unused (GivesUp-then (room world.views) _ fault full))
+    let next = λ (s : Unit {0}). read files false c.args.file.now >>= (λ bytes. sure (opened_beside world.views bytes)) in
+    before_reading c.args.file.now (λ (view : Table). view) (opened_table world c.args.name c.args.file.now files) (room world.views) next _ fault c.from_residual-in_err-has_room.result
+    (goes_then (sure (free c.args.name world.views)) (λ (u : Unit {0}). sure (room world.views) >>= next) tt (ap sure unused)) (search rules) full
 
 pub returns-in_err-bytes-clause-loads : goal.returns-in_err-bytes-clause-loads
 returns-in_err-bytes-clause-loads g c = λ files given.

@@ -1,4 +1,4 @@
-use Rattle.session.proofs.Imports.{rules, ◌≡◌, ◌∙◌, List, [], Err, refl, sym, ap, subst, term_of, Table, relayout, laid_anew, Outcome, Goes, Entry, view_of, GivesUp, GivesUp-then, goes_then, IsAt, known_at, known_place, ViewEntry, world_of, laid_pair}
+use Rattle.session.proofs.Imports.{rules, ◌≡◌, ◌∙◌, List, [], Err, refl, sym, ap, subst, term_of, Table, relayout, laid_anew, Entry, view_of, GivesUp, GivesUp-then, goes_then, IsAt, known_at, known_place, ViewEntry, world_of, laid_pair, Ok, Tested}
 use Rattle.session.proofs.Exits.{goes_gives, table_changed}
 use Rattle.session.proofs.Copies.{first_of, laid_at, made_at}
 use Rattle.session.proofs.CopySteps.{laid_within, none_taken}
@@ -40,7 +40,7 @@ returns-in_err-laid_over-clause-laid g c =
     let zeros = rw c.as_slice-2.ensures.value at (c.in_ok-fresh.ensures.zeros entry) in
     let laid = laid_at items c.in_ok-place.place entry (term_of c.in_ok-expr.expr) c.in_ok-fresh.fresh c.index_mut.ensures.value made zeros in
     rw is (goes_gives _ _ _ fault (known_at view_of c.args.name items c.in_ok-place.place entry at c.index_mut.ensures.value)
-    (goes_gives _ _ _ fault whole (GivesUp-then _ _ fault (subst (λ (o : Outcome Table). GivesUp o fault) (sym laid) c.in_err-laid_over.ensures.copied))))
+    (goes_gives _ _ _ fault whole (GivesUp-then _ _ fault (subst (λ (o : Tested Table). GivesUp o fault) (sym laid) c.in_err-laid_over.ensures.copied))))
 
 pub returns-clause-laid : goal.returns-clause-laid
 unfolding relayout
@@ -55,7 +55,7 @@ returns-clause-laid g c =
     let laid = laid_at items c.in_ok-place.place entry (term_of c.in_ok-expr.expr) c.in_ok-fresh.fresh c.index_mut.ensures.value made zeros in
     let same = table_changed items c.args.name c.in_ok-place.place entry changed at c.index_mut.ensures.value refl in
     goes_then _ _ _ (known_at view_of c.args.name items c.in_ok-place.place entry at c.index_mut.ensures.value) ∙ goes_then _ _ _ whole ∙ goes_then _ _ _ (laid ∙ c.in_ok-laid_over.ensures.copied)
-    ∙ ap (λ (views : List (Entry Table)). Goes (record { held = record (world_of c.args.self) { views = views }; text = [] })) (sym same)
+    ∙ ap (λ (views : List (Entry Table)). Ok (record { held = record (world_of c.args.self) { views = views }; text = [] })) (sym same)
 
 pub returns-in_err-place-clause-bound : goal.returns-in_err-place-clause-bound
 returns-in_err-place-clause-bound g c = none_taken (laid_pair (world_of c.args.self) c.args.name (term_of c.args.expr.now)) c.args.steps.now c.args.steps.now refl

@@ -1,4 +1,4 @@
-use Rattle.session.proofs.Imports.{◌∙◌, false, [], sym, ap, New, sentence_of, Line, open_view, load, step, command, new_of, world_of}
+use Rattle.session.proofs.Imports.{◌∙◌, false, [], sym, ap, New, sentence_of, Line, open_view, load, step, command, new_of, world_of, no_file}
 use Rattle.line_grammar.specs.Sentences.{file_read_by}
 use Rattle.session.proofs.Steps.{steps_read, steps_shown, cause_shown, unread_read, unread_shown, untaken_quiet, untaken_shown}
 use Rattle.session.proofs.session.Session.step.Goals as goal
@@ -43,14 +43,14 @@ returns-in-OpenFile-clause-untaken g c = untaken_quiet g.K.Sink.taken c.args.out
 
 pub returns-in_default-clause-step : goal.returns-in_default-clause-step
 returns-in_default-clause-step g c = λ files told.
-    steps_shown g.K.Sink.taken g.K.Sink.faults c.args.out.now c.command.new.out (world_of c.args.self) (sentence_of c.args.line.now) (file_read_by (sentence_of c.args.line.now)) files _ c.command.result (c.command.ensures.answers files false)
+    steps_shown g.K.Sink.taken g.K.Sink.faults c.args.out.now c.command.new.out (world_of c.args.self) (sentence_of c.args.line.now) (file_read_by (sentence_of c.args.line.now)) files _ c.command.result (no_file c.args.line.now c.in_default.not-Load c.in_default.not-OpenFile) c.command.ensures.answers
 
 pub returns-in_default-clause-cause : goal.returns-in_default-clause-cause
 returns-in_default-clause-cause g c =
-    cause_shown g.K.Sink.taken g.K.Sink.faults c.args.out.now c.command.new.out _ (file_read_by (sentence_of c.args.line.now)) (g.H.Shelf.files c.args.shelf.now) (g.H.Shelf.faults c.args.shelf.now) c.command.result (c.command.ensures.answers [] false)
+    cause_shown g.K.Sink.taken g.K.Sink.faults c.args.out.now c.command.new.out _ (file_read_by (sentence_of c.args.line.now)) (g.H.Shelf.files c.args.shelf.now) (g.H.Shelf.faults c.args.shelf.now) c.command.result c.command.ensures.answers
 
 pub returns-in_default-clause-unread : goal.returns-in_default-clause-unread
-returns-in_default-clause-unread g c = unread_shown g.K.Sink.taken g.K.Sink.faults c.args.out.now c.command.new.out _ _ (step (world_of c.args.self) (sentence_of c.args.line.now)) c.command.result (c.command.ensures.answers [] false)
+returns-in_default-clause-unread g c = unread_shown g.K.Sink.taken g.K.Sink.faults c.args.out.now c.command.new.out _ _ (step (world_of c.args.self) (sentence_of c.args.line.now)) c.command.result c.command.ensures.answers
 
 pub returns-in_default-clause-untaken : goal.returns-in_default-clause-untaken
-returns-in_default-clause-untaken g c = untaken_shown g.K.Sink.taken g.K.Sink.faults c.args.out.now c.command.new.out _ c.command.result (c.command.ensures.answers [] false)
+returns-in_default-clause-untaken g c = untaken_shown g.K.Sink.taken g.K.Sink.faults c.args.out.now c.command.new.out _ c.command.result c.command.ensures.answers

@@ -8,7 +8,7 @@ pub returns-in_err-check_small-clause-answers : goal.returns-in_err-check_small-
 unfolding layout
 returns-in_err-check_small-clause-answers g c =
     let fault = c.in_err-check_small.field-0.0 in
-    gave_up (IsLeft c.args.view.now) g.K.Sink.taken g.K.Sink.faults c.args.out.now _ fault _ (search rules) (GivesUp-then _ _ fault (GivesUp-then _ _ fault c.in_err-check_small.ensures))
+    gave_up (IsLeft c.args.view.now) g.K.Sink.taken g.K.Sink.faults c.args.out.now _ fault _ (search rules) (GivesUp-then _ _ fault (GivesUp-then _ _ fault (GivesUp-then _ _ fault c.in_err-check_small.ensures)))
 
 pub returns-in_err-runs-clause-answers : goal.returns-in_err-runs-clause-answers
 returns-in_err-runs-clause-answers g c = gave_up (IsLeft c.args.view.now) g.K.Sink.taken g.K.Sink.faults c.args.out.now _ step.NoMemory _ (search rules) tt

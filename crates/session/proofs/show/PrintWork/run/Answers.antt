@@ -1,4 +1,4 @@
-use Rattle.session.proofs.Imports.{rules, length, refl, ap, sym, print_text, texts_of, Table, after_log, leaf_count_of, all_accesses, Read, Goes, print, left_with}
+use Rattle.session.proofs.Imports.{rules, length, refl, ap, sym, print_text, texts_of, Table, after_log, leaf_count_of, all_accesses, Read, print, left_with, Ok}
 use Rattle.session.proofs.Views.{then_broke, then_wrote}
 use Rattle.session.proofs.show.PrintWork.run.Goals as goal
 
@@ -14,4 +14,4 @@ unfolding print
 returns-clause-answers g c =
     let view = c.args.view.now in
     let text = print_text (texts_of view.fields) view.rows in
-    then_wrote g.K.Sink.taken g.K.Sink.faults c.args.out.now c.print_rows.new.sink c.print_rows.new.view _ text (ap (λ (seen : Table). Goes (left_with seen text)) (sym c.in_ok-print_rows.ensures.read)) c.in_ok-print_rows.ensures.writes
+    then_wrote g.K.Sink.taken g.K.Sink.faults c.args.out.now c.print_rows.new.sink c.print_rows.new.view _ text (ap (λ (seen : Table). Ok (left_with seen text)) (sym c.in_ok-print_rows.ensures.read)) c.in_ok-print_rows.ensures.writes

@@ -1,4 +1,4 @@
-use Rattle.session.proofs.Imports.{◌*◌, [], rules, refl, sym, subst, Done, done_to, Outcome, Gives, stencil_of, IsLeft, left_with}
+use Rattle.session.proofs.Imports.{◌*◌, [], rules, refl, sym, subst, Done, done_to, Gives, stencil_of, IsLeft, left_with, Tested}
 use Rattle.session.proofs.Exits.{answers_quiet, gave_up}
 use Rattle.session.proofs.Stencils.{unfit, no_room, run_is}
 use Rattle.session.proofs.stencil.RunStencilWork.run.Goals as goal
@@ -25,4 +25,4 @@ returns-clause-answers g c =
     let whole = run_is (8 * this.live) c.args.view.now this.window.now this.path.now this.terms.now this.divisor.now this.rounds.now (stencil_of c.in_ok-fit.fit)
     (rw (c.as_slice.ensures, c.as_slice-2.ensures) at c.in_ok-fit.ensures.fit) c.in_ok-check_room.ensures in
     answers_quiet (IsLeft c.run_rounds.new.view) (λ done. c.run_rounds.new.view) g.K.Sink.taken g.K.Sink.faults c.args._out.now _ c.run_rounds.result (λ done. refl)
-    (subst (λ (outcome : Outcome Done). Gives (λ done. left_with c.run_rounds.new.view []) c.run_rounds.result (done_to c.args.view.now outcome)) (sym whole) c.run_rounds.ensures)
+    (subst (λ (outcome : Tested Done). Gives (λ done. left_with c.run_rounds.new.view []) c.run_rounds.result (done_to c.args.view.now outcome)) (sym whole) c.run_rounds.ensures)

@@ -1,4 +1,4 @@
-use Rattle.session.proofs.Imports.{◌∙◌, rules, ap, sym, print_text, texts_of, sub_table, sub_reads, Table, after_log, leaf_count_of, Goes, IsLeft, left_with}
+use Rattle.session.proofs.Imports.{◌∙◌, rules, ap, sym, print_text, texts_of, sub_table, sub_reads, Table, after_log, leaf_count_of, IsLeft, left_with, Ok}
 use Rattle.session.proofs.Exits.{gave_up}
 use Rattle.session.proofs.Views.{then_broke, then_wrote}
 use Rattle.session.proofs.Windows.{no_window, window_goes}
@@ -28,5 +28,5 @@ returns-clause-answers g c =
     let left = c.view-1.given.1 (sym (c.print_window.ensures.same_view ∙ c.new-rows.ensures.same_view)) in
     let read = rw (c.new-rows.ensures.view, c.new-rows.ensures.window) at c.in_ok-print_window.ensures.read in
     then_wrote g.K.Sink.taken g.K.Sink.faults c.args.out.now c.print_window.new.sink _ _ text
-    (goes ∙ ap (λ (seen : Table). Goes (left_with seen text)) (sym (left ∙ read)))
+    (goes ∙ ap (λ (seen : Table). Ok (left_with seen text)) (sym (left ∙ read)))
     (rw (c.new-rows.ensures.view, c.new-rows.ensures.window) at c.in_ok-print_window.ensures.writes)
