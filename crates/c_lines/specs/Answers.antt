@@ -40,12 +40,6 @@ abbrev pub code_of : {A : Type 0} → Answer A → ℤ
 code_of (Ok given) = pos 0
 code_of (Err refusal) = refusal_number refusal
 
--- one answer after another: behind a refusal comes nothing
-infixl 10 ◌>>=◌
-abbrev pub ◌>>=◌ : {A B : Type 0} → Answer A → (A → Answer B) → Answer B
-(Ok given) >>= next = next given
-(Err refusal) >>= next = Err refusal
-
 -- what is answered, seen by `view`, is this; but memory may run out at any time
 abbrev pub Tells : {A B : Type 0} → (A → B) → Answer B → Answer A → Type 0
 Tells view told (Ok given) = told ≡ Ok (view given)

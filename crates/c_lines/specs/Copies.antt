@@ -1,21 +1,16 @@
 -- A copy of one table into another.
-use Rattle.std.specs.Prelude.{ℕ, ◌+◌, ◌++◌, List, length, take, drop, Option, Some, None, Ok, Err, if◌then◌else◌}
-use Rattle.layout_copy.specs.Copies.{Spot, refused_at}
+use Rattle.std.specs.Prelude.{ℕ, ◌+◌, ◌++◌, List, length, take, drop, Ok, Err}
 use Rattle.views.specs.Stores.{kept_rows}
 use Rattle.views.specs.Tallies.{Access, Read, Write, all_accesses, row_accesses}
-use Rattle.views.specs.Tables.{Table, answer_of, kept_of, leaf_count_of, after_log, after_stores}
-use Rattle.worlds.specs.Copy.{are_alike}
+use Rattle.views.specs.Tables.{Table, kept_of, leaf_count_of, after_log, after_stores}
+use Rattle.worlds.specs.Copy.{all_read, copied_by}
 use Rattle.c_lines.specs.Answers.{Answer}
-use Rattle.c_lines.specs.declared.refusal.Refusal.TheVariants.{Mismatch, Narrow}
-
--- the answer of a store of rows, by the first value that is not taken
-abbrev pub told_rows : Option Spot → Answer (Unit {0})
-told_rows None = Ok tt
-told_rows (Some spot) = Err (Narrow spot.row spot.leaf)
+use Rattle.c_lines.specs.declared.refusal.Refusal.TheVariants.{Narrow}
+use Rattle.c_lines.specs.Told.{done_of, in_numbers}
 
 -- what `llama_copy` answers
 abbrev pub was_copied : Table → Table → Answer (Unit {0})
-was_copied source target = if are_alike source target then told_rows (refused_at (answer_of target) 0 source.rows) else Err Mismatch
+was_copied source target = done_of (copied_by in_numbers source target)
 
 -- the reads of the source up to a value that is not taken, and the target with the rows before it
 abbrev pub reads_until : Table → ℕ → ℕ → List Access
@@ -32,6 +27,6 @@ target_after (Err (Narrow row leaf)) source target = with_front source target ro
 target_after (Err _) source target = target
 
 abbrev pub source_after : Answer (Unit {0}) → Table → Table
-source_after (Ok done) source = after_log source (all_accesses Read (leaf_count_of source) (length source.rows))
+source_after (Ok done) source = all_read source
 source_after (Err (Narrow row leaf)) source = after_log source (reads_until source row leaf)
 source_after (Err _) source = source

@@ -9,7 +9,8 @@ use Rattle.line_grammar.specs.Sentences.{Sentence}
 use Rattle.line_grammar.specs.declared.line.KernelText.{KernelText}
 use Rattle.views.specs.Tables.{Table, answer_of, kept_of, after_stores}
 use Rattle.worlds.specs.Kernel.{fit_kernel}
-use Rattle.c_lines.specs.Answers.{Answer, ◌>>=◌}
+use Rattle.worlds.specs.Outcomes.{◌>>=◌, refused_by}
+use Rattle.c_lines.specs.Answers.{Answer}
 use Rattle.c_lines.specs.declared.refusal.Refusal.TheVariants.{OtherLine}
 use Rattle.c_lines.specs.declared.refusal.TextOf.TheVariants.{First}
 use Rattle.c_lines.specs.Lines.{line_answer}
@@ -41,14 +42,11 @@ fitted text table = do
   fitted_as written table
 
 -- the number that it gives, or its first fault
-abbrev pub number_told : Option KernelFault → Option ℤ → Answer (Option ℤ)
-number_told None number = Ok number
-number_told (Some fault) number = Err (kernel_refusal fault)
-
 abbrev pub kernel_number : List ℕ → Table → Answer (Option ℤ)
 kernel_number text table = do
   fit ← fitted text table
-  number_told (kernel_fault (answer_of table) fit.kernel table.rows) (given_number fit.kernel table.rows)
+  ran ← refused_by kernel_refusal (kernel_fault (answer_of table) fit.kernel table.rows)
+  Ok (given_number fit.kernel table.rows)
 
 -- the table after it: a fault leaves the rows before it changed
 abbrev pub run_left : Fitted → Table → Option KernelFault → Table

@@ -1,25 +1,19 @@
 -- What the lines of a call describe: they are lines of the second version of the language, and mean what they mean in a script.
-use Rattle.std.specs.Prelude.{ℕ, ℤ, ◌^◌, Bool, true, false, List, [], length, nat_lt, Option, Some, Result, Ok, Err, if◌then◌else◌}
-use Rattle.csv_rows.specs.Datasets.{csv_records, records_behind}
-use Rattle.csv_rows.specs.Loads.{dataset_of}
-use Rattle.csv_rows.specs.declared.fault.RowFault.{RowFault}
-use Rattle.extents.specs.declared.words.ExtentWord.{ExtentWord}
+use Rattle.std.specs.Prelude.{ℕ, Bool, true, false, List, length, nat_lt, Result, Ok, Err, if◌then◌else◌}
 use Rattle.line_grammar.specs.Sentences.{Sentence, New, Define, View, Load, deepest}
 use Rattle.line_grammar.specs.declared.version.Version.TheVariants.{Two}
 use Rattle.schema_lang.specs.LineOf.{line_of}
-use Rattle.views.specs.Tallies.{Write, all_accesses}
-use Rattle.views.specs.Tables.{Table, leaf_count_of, after_stores}
+use Rattle.views.specs.Tables.{Table}
 use Rattle.worlds.specs.Define.{define}
-use Rattle.worlds.specs.Outcomes.{refused_if}
-use Rattle.worlds.specs.Tables.{made, resolved}
-use Rattle.worlds.specs.View.{Named, named, new_table}
+use Rattle.worlds.specs.Load.{loaded_by}
+use Rattle.worlds.specs.Outcomes.{◌>>=◌}
+use Rattle.worlds.specs.View.{named, new_table_by}
 use Rattle.worlds.specs.Worlds.{World, empty}
-use Rattle.worlds.specs.declared.fault.CommandFault.TheVariants.{TooBig}
-use Rattle.c_lines.specs.Answers.{Answer, ◌>>=◌}
+use Rattle.c_lines.specs.Answers.{Answer}
 use Rattle.c_lines.specs.declared.refusal.Refusal.TheVariants.{LineTooLong, Syntax, TooDeep, OtherLine}
 use Rattle.c_lines.specs.declared.refusal.TextOf.{TextOf}
 use Rattle.c_lines.specs.declared.refusal.TextOf.TheVariants.{First, Second}
-use Rattle.c_lines.specs.Told.{told, row_refusal}
+use Rattle.c_lines.specs.Told.{in_numbers, told}
 
 -- the line that a text is
 abbrev pub shallow : TextOf → Result Sentence ℕ → Answer Sentence
@@ -59,31 +53,13 @@ asked loads first second = do
 abbrev pub described : List ℕ → List ℕ → Answer Table
 described first second = do
   what ← asked false first second
-  told (new_table what.world what.new)
-
--- a table with what it keeps of the values of a dataset, each written once
-abbrev pub with_dataset : Table → Result (List (List ℤ)) RowFault → Answer Table
-with_dataset table (Ok rows) = Ok (after_stores table rows (all_accesses Write (leaf_count_of table) (length table.rows)))
-with_dataset table (Err fault) = Err (row_refusal fault)
-
--- the table of zeros where the words of a view stand for this: `?` among the extents stands for what so many rows leave
-abbrev pub zeros_for : Named → List ExtentWord → Option ℕ → Answer Table
-zeros_for whole words rows = do
-  extents ← told (resolved words rows)
-  told (made [] whole.mode whole.fields extents whole.mapping)
-
--- that of a dataset, which is not too long
-abbrev pub filled_as : Named → List ExtentWord → List ℕ → Answer Table
-filled_as whole words csv = do
-  short ← told (refused_if (nat_lt (2 ^ 28) (length csv)) TooBig)
-  zeros ← zeros_for whole words (Some (length (records_behind (csv_records csv))))
-  with_dataset zeros (dataset_of zeros (csv_records csv))
+  new_table_by in_numbers what.world what.new
 
 -- the table of a dataset for a view in a world
 abbrev pub dataset_filled : World → New → List ℕ → Answer Table
 dataset_filled world new csv = do
   whole ← told (named world new)
-  filled_as whole new.words csv
+  loaded_by in_numbers world.views whole new.words csv
 
 -- the table that two lines and a dataset describe
 abbrev pub loaded : List ℕ → List ℕ → List ℕ → Answer Table

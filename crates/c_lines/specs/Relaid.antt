@@ -1,17 +1,18 @@
 -- A table that is laid out anew by a `relayout` line.
 use Rattle.std.specs.Prelude.{ℕ, List, [], Ok, Err}
-use Rattle.layout_copy.specs.Copies.{refused_at}
 use Rattle.line_grammar.specs.Sentences.{Sentence, Relayout}
 use Rattle.map_expr.specs.Terms.{Term}
-use Rattle.views.specs.Tables.{Table, answer_of, after_log}
+use Rattle.views.specs.Tables.{Table}
+use Rattle.worlds.specs.Copy.{laid_anew_by}
 use Rattle.worlds.specs.Names.{nameless}
+use Rattle.worlds.specs.Outcomes.{◌>>=◌}
 use Rattle.worlds.specs.Tables.{made}
-use Rattle.c_lines.specs.Answers.{Answer, ◌>>=◌}
-use Rattle.c_lines.specs.declared.refusal.Refusal.TheVariants.{OtherLine, Narrow}
+use Rattle.c_lines.specs.Answers.{Answer}
+use Rattle.c_lines.specs.declared.refusal.Refusal.TheVariants.{OtherLine}
 use Rattle.c_lines.specs.declared.refusal.TextOf.TheVariants.{First}
-use Rattle.c_lines.specs.Copies.{told_rows, target_after, reads_until}
+use Rattle.c_lines.specs.Copies.{source_after, target_after, was_copied}
 use Rattle.c_lines.specs.Lines.{line_answer}
-use Rattle.c_lines.specs.Told.{told}
+use Rattle.c_lines.specs.Told.{in_numbers, told}
 
 -- the mapping of a line
 abbrev pub mapping_told : Sentence → Answer Term
@@ -31,15 +32,21 @@ zeros_told line table = do
   whole ← whole_told line
   told (made [] table.mode table.fields table.extents whole)
 
--- the table under the mapping of a line, each of its values written once
+-- the table under the mapping of a line, beside no other
 abbrev pub relaid : List ℕ → Table → Answer Table
 relaid line table = do
-  zeros ← zeros_told line table
-  held ← told_rows (refused_at (answer_of zeros) 0 table.rows)
-  Ok (target_after (Ok tt) table zeros)
+  whole ← whole_told line
+  laid_anew_by in_numbers [] table whole
 
--- what is left by such an answer: where a value is not held, the old table, which was read up to it
-abbrev pub after_relaid : Answer Table → Table → Table
-after_relaid (Ok new) table = new
-after_relaid (Err (Narrow row leaf)) table = after_log table (reads_until table row leaf)
-after_relaid (Err _) table = table
+-- what a copy into zeros with this answer leaves of a table: the zeros in its place, with its values, or the table itself
+abbrev pub laid_left : Answer (Unit {0}) → Table → Table → Table
+laid_left (Ok done) table zeros = target_after (Ok done) table zeros
+laid_left (Err refused) table zeros = source_after (Err refused) table
+
+-- the table after the call: where a value is not held, it was read up to that
+abbrev pub left_anew : Answer Table → Table → Table
+left_anew (Ok zeros) table = laid_left (was_copied table zeros) table zeros
+left_anew (Err refused) table = table
+
+abbrev pub after_relaid : List ℕ → Table → Table
+after_relaid line table = left_anew (zeros_told line table) table

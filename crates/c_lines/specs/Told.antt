@@ -4,28 +4,32 @@ use Rattle.csv_rows.specs.declared.fault.RowFault.{RowFault}
 use Rattle.csv_rows.specs.declared.fault.RowFault.TheVariants as row
 use Rattle.lane_kernels.specs.declared.fault.KernelFault.{KernelFault}
 use Rattle.lane_kernels.specs.declared.fault.KernelFault.TheVariants as kernel
-use Rattle.worlds.specs.Outcomes.{Tested}
+use Rattle.layout_copy.specs.Copies.{Spot}
+use Rattle.worlds.specs.Outcomes.{Tested, ok_or}
+use Rattle.worlds.specs.Wordings.{Wording}
 use Rattle.worlds.specs.declared.fault.CommandFault.{CommandFault}
 use Rattle.worlds.specs.declared.fault.CommandFault.TheVariants as command
 use Rattle.c_lines.specs.Answers.{Answer}
 use Rattle.c_lines.specs.declared.refusal.Refusal.{Refusal}
 use Rattle.c_lines.specs.declared.refusal.Refusal.TheVariants as refusal
 
--- the refusal of what makes a view, or fits a kernel to one; nothing else but a limit refuses these
+-- the refusal of a test that names no leaf. No other one refuses the commands of calls, and where one did, the call would have no answer but
+-- want of memory, which may come at any time
 abbrev pub refusal_of : CommandFault → Refusal
 refusal_of (command.Unknown name) = refusal.Unknown
 refusal_of (command.BadRecord bad) = refusal.BadRecord bad
 refusal_of (command.BadExtents bad) = refusal.BadExtents bad
 refusal_of (command.BadMapping bad) = refusal.BadMapping bad
 refusal_of (command.BadKernel bad) = refusal.BadKernel bad
-refusal_of _ = refusal.TooBig
+refusal_of command.Mismatch = refusal.Mismatch
+refusal_of command.TooBig = refusal.TooBig
+refusal_of _ = refusal.NoMemory
 
 -- what a command gives that reads no file, as an answer
 abbrev pub told : {A : Type 0} → Tested A → Answer A
-told (Ok given) = Ok given
-told (Err fault) = Err (refusal_of fault)
+told outcome = ok_or refusal_of outcome
 
--- the refusal of a dataset, and of a kernel that runs
+-- the refusal of a dataset, of a value that is not held, and of a kernel that runs
 abbrev pub row_refusal : RowFault → Refusal
 row_refusal (row.MissingColumn leaf) = refusal.MissingColumn leaf
 row_refusal (row.ColumnTwice leaf) = refusal.ColumnTwice leaf
@@ -35,10 +39,17 @@ row_refusal (row.Range at leaf) = refusal.Range at leaf
 row_refusal (row.Narrow at leaf) = refusal.Narrow at leaf
 row_refusal row.NoMemory = refusal.NoMemory
 
+abbrev pub spot_refusal : Spot → Refusal
+spot_refusal spot = refusal.Narrow spot.row spot.leaf
+
 abbrev pub kernel_refusal : KernelFault → Refusal
 kernel_refusal kernel.Empty = refusal.Empty
 kernel_refusal (kernel.Range at leaf) = refusal.Range at leaf
 kernel_refusal (kernel.Narrow at leaf) = refusal.Narrow at leaf
+
+-- why a command is refused, as a call has it: a leaf is its number
+abbrev pub in_numbers : Wording Refusal
+in_numbers = record { tested = told; of_row = λ fields. row_refusal; of_spot = λ fields. spot_refusal }
 
 -- an answer that gives nothing
 abbrev pub done_of : {A : Type 0} → Answer A → Answer (Unit {0})

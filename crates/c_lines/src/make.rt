@@ -1,17 +1,17 @@
 // A view of the two lines that describe it, and of a dataset.
-ghost use Rattle.std.specs.Prelude.{◌≡◌, ◌<◌, IfOk, IfSome, OnOk, true, length};
+ghost use Rattle.std.specs.Prelude.{◌≡◌, ◌<◌, IfOk, IfSome, OnOk, true, [], length};
 ghost use Rattle.csv_rows.specs.Datasets.{csv_records, records_behind};
-ghost use Rattle.csv_rows.specs.Loads.{dataset_of};
 ghost use Rattle.extents.specs.Shapes.{IsShape};
 ghost use Rattle.line_grammar.specs.Sentences.{sentence_of};
 ghost use Rattle.schema_lang.specs.Parsing.{HasItsFields};
 ghost use Rattle.map_expr.specs.Terms.{term_of};
-ghost use Rattle.worlds.specs.View.{named, new_table};
+ghost use Rattle.worlds.specs.Load.{filled_by, loaded_by};
+ghost use Rattle.worlds.specs.View.{named, new_table_by};
 ghost use Rattle.command_checks.specs.Inner.Bases.{is_nameless};
 ghost use Rattle.c_lines.specs.Answers.{Tells};
-ghost use Rattle.c_lines.specs.Lines.{asked, described, filled_as, loaded, new_answer, with_dataset, world_told, zeros_for};
-ghost use Rattle.c_lines.specs.Inner.Makes.{asked_filled, asked_of, named_of, new_of, world_of};
-ghost use Rattle.c_lines.specs.Told.{told};
+ghost use Rattle.c_lines.specs.Lines.{asked, described, loaded, new_answer, world_told};
+ghost use Rattle.c_lines.specs.Inner.Makes.{asked_filled, asked_of, named_of, new_of, world_of, zeros_for};
+ghost use Rattle.c_lines.specs.Told.{in_numbers, told};
 
 use crate::lines::line_of;
 use crate::told::{answered, row_refusal};
@@ -161,9 +161,8 @@ fn new_of(line: Line, loads: bool) -> Result<NewView, Refusal>
 }
 
 // The view of zeros that is asked for.
-#[tactic(auto, unfolding(worlds::specs::View::new_table))]
 fn zeros_of(alloc: Global, asked: &Asked) -> Result<View, Refusal>
-    ensures { Tells (λ view. view) (told (new_table (world_of asked.now.record) (new_of asked.now.new))) result }
+    ensures { Tells (λ view. view) (new_table_by in_numbers (world_of asked.now.record) (new_of asked.now.new)) result }
 {
     let found = find(alloc, asked)?;
     let made = zeros_for(alloc, asked, &found, None);
@@ -216,7 +215,7 @@ fn filled_as<L: Ledger>(
     requires nameless { is_nameless (term_of found.now.expr) ≡ true }
     requires shape { found.now.shape ≡ asked.now.new.words }
     requires is_shape { IsShape asked.now.new.words }
-    ensures { Tells (λ view. view) (filled_as (named_of asked.now.record found.now) asked.now.new.words csv.now) result }
+    ensures { Tells (λ view. view) (loaded_by in_numbers [] (named_of asked.now.record found.now) asked.now.new.words csv.now) result }
 {
     if csv.len() > MAX_DATASET_BYTES {
         return Err(Refusal::TooBig);
@@ -242,7 +241,7 @@ fn with_rows<L: Ledger>(
     steps: &mut Steps<L>,
 ) -> Result<View, Refusal>
     requires rows { length view.rows ≡ length (records_behind (csv_records csv.now)) }
-    ensures { Tells (λ view. view) (with_dataset view (dataset_of view (csv_records csv.now))) result }
+    ensures { Tells (λ view. view) (filled_by in_numbers view (csv_records csv.now)) result }
 {
     match load_rows(alloc, csv, &mut view, steps) {
         Ok(()) => Ok(view),

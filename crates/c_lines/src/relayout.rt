@@ -31,7 +31,7 @@ pub fn lay_anew<L: Ledger>(
     requires name { blank.name ≡ L.name }
     requires parts { blank.parts ≡ L.parts }
     requires some { 0 < blank.parts }
-    ensures { TellsLeft (done_of (relaid line.now view.old)) (after_relaid (relaid line.now view.old) view.old) view.old result view.new }
+    ensures { TellsLeft (done_of (relaid line.now view.old)) (after_relaid line.now view.old) view.old result view.new }
 {
     let mut fresh = zeros_like(alloc, view, line)?;
     match copy_into::<L>(view, &mut fresh, blank) {

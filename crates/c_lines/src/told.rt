@@ -38,9 +38,11 @@ fn command_refusal(fault: CommandFault) -> Refusal
         CommandFault::BadExtents(bad) => Refusal::BadExtents(bad),
         CommandFault::BadMapping(bad) => Refusal::BadMapping(bad),
         CommandFault::BadKernel(bad) => Refusal::BadKernel(bad),
+        CommandFault::Mismatch => Refusal::Mismatch,
+        CommandFault::TooBig => Refusal::TooBig,
         other => {
             drop(other);
-            Refusal::TooBig
+            Refusal::NoMemory
         }
     }
 }

@@ -53,7 +53,7 @@ pub use Rattle.worlds.specs.Update.{update_fault, kind_fault}
 unfoldable pub use Rattle.worlds.specs.Update.{updated}
 pub use Rattle.worlds.specs.Reduce.{reduced, column}
 unfoldable pub use Rattle.worlds.specs.Reduce.{reduction, counting}
-pub use Rattle.worlds.specs.Copy.{are_alike, all_read, narrow_fault}
+pub use Rattle.worlds.specs.Copy.{are_alike, all_read}
 unfoldable pub use Rattle.worlds.specs.Copy.{copied, copy, relayout, laid_anew, with_rows}
 pub use Rattle.worlds.specs.Kernel.{kernel_outcome, fit_kernel, number_text, kernel_row_fault}
 unfoldable pub use Rattle.worlds.specs.Kernel.{kernel_run}
@@ -82,7 +82,8 @@ pub use Rattle.worlds.specs.Define.{fit}
 unfoldable pub use Rattle.worlds.specs.Define.{define}
 pub use Rattle.worlds.specs.Files.{bad_file}
 unfoldable pub use Rattle.worlds.specs.Files.{open_view, opened_beside, opened_table}
-pub use Rattle.worlds.specs.Load.{filled, read, row_fault, row_fault as fault_of}
+pub use Rattle.worlds.specs.Load.{filled, read}
+pub use Rattle.worlds.specs.Wordings.{in_words, narrow_fault, row_fault, row_fault as fault_of}
 unfoldable pub use Rattle.worlds.specs.Load.{load, loaded_table, loaded}
 unfoldable pub use Rattle.worlds.specs.Mapping.{mapping}
 pub use Rattle.worlds.specs.Step.{work_of}

@@ -1,5 +1,5 @@
 -- Worlds of the same records and tables, under other mappings.
-use Rattle.equal_runs.proofs.Imports.{◌≡◌, ℕ, Bool, List, length, refl, sym, subst, Fields, leaves, kinds_of, MapTerm, leaf_cells, layout_by, most_slots, accepted, Access, Tally, all_accesses, granules_for, Write, refused_at, StoreMode, ◌+◌, ◌*◌, ◌^◌, nat_lt, ⊤, kept_alike, Keeping, kept_rows, Table, IsWide, owners_of, leaf_count_of, answer_of, kept_of, after_stores, World, Entry, Left, refused_by, refused_if, ok_or, made, zeros_of, blob_bits, live_bits, with_rows, laid_anew, narrow_fault, BadMapping, TooBig}
+use Rattle.equal_runs.proofs.Imports.{◌≡◌, ℕ, Bool, List, length, refl, sym, subst, Fields, leaves, kinds_of, MapTerm, leaf_cells, layout_by, most_slots, accepted, Access, Tally, all_accesses, granules_for, Write, refused_at, StoreMode, ◌+◌, ◌*◌, ◌^◌, nat_lt, ⊤, kept_alike, Keeping, kept_rows, Table, IsWide, owners_of, leaf_count_of, answer_of, kept_of, after_stores, World, Entry, Left, refused_by, refused_if, ok_or, made, zeros_of, blob_bits, live_bits, in_words, with_rows, laid_anew, narrow_fault, BadMapping, TooBig}
 use Rattle.std.specs.Prelude.{ℤ}
 use Rattle.equal_runs.proofs.Agreeing.{Told, goes, Any, Both, told_bind, told_if, told_ok, told_by}
 use Rattle.equal_runs.proofs.Entries.{Entries}
@@ -111,7 +111,7 @@ module _ (m : Bool) where
       told_bind m Any _ (refused_if (nat_lt (8 * 2 ^ 30) (live_bits views + blob_bits table)) TooBig) _ (told_if m _ TooBig refl) (λ all t. goes table refl)))))
 
   -- rows are refused for a hold alone
-  pub rows_told : (table : Table) (rows : List (List ℤ)) → Told m (λ (t : Table). t ≡ with_written table rows) (with_rows table rows)
+  pub rows_told : (table : Table) (rows : List (List ℤ)) → Told m (λ (t : Table). t ≡ with_written table rows) (with_rows in_words table rows)
   unfolding with_rows
   rows_told table rows =
       told_bind m Any _ (refused_by (narrow_fault table.fields) (refused_at (answer_of table) 0 rows)) _ (told_by m (narrow_fault table.fields) _ (λ e. refl)) (λ held p. goes _ refl)
@@ -121,5 +121,5 @@ module _ (m : Bool) where
   anew_told views table mapping =
       told_bind m (λ (t : Table). t ≡ zeros_of table.mode table.fields table.extents mapping) (λ (t : Table). t ≡ anew_of table mapping)
       (made views table.mode table.fields table.extents mapping) _ (made_told views table.mode table.fields table.extents mapping)
-      (λ zeros is. subst (λ (z : Table). Told m (λ (t : Table). t ≡ anew_of table mapping) (with_rows z table.rows)) (sym is)
+      (λ zeros is. subst (λ (z : Table). Told m (λ (t : Table). t ≡ anew_of table mapping) (with_rows in_words z table.rows)) (sym is)
       (rows_told (zeros_of table.mode table.fields table.extents mapping) table.rows))

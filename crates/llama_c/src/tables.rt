@@ -49,7 +49,7 @@ pub extern "C" fn llama_relayout(
     line: &[u8],
     fault: &mut Fault,
 ) -> i32
-    ensures { IsCallDone (λ table. done_of (relaid line.now table)) (λ table. after_relaid (relaid line.now table) table)
+    ensures { IsCallDone (λ table. done_of (relaid line.now table)) (after_relaid line.now)
         view.old.part.held view.new.part.held result fault.old fault.new }
 {
     let Some(mut held) = view.take(alloc) else {

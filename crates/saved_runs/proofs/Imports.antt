@@ -90,7 +90,8 @@ unfoldable pub use Rattle.worlds.specs.OnView.{on_view}
 pub use Rattle.worlds.specs.Tables.{room, live_bits, blob_bits, resolved, made, zeros_of, shaped}
 pub use Rattle.worlds.specs.View.{with_view, named}
 unfoldable pub use Rattle.worlds.specs.View.{new_table, view}
-pub use Rattle.worlds.specs.Load.{there, read, filled, row_fault}
+pub use Rattle.worlds.specs.Load.{there, read, filled}
+pub use Rattle.worlds.specs.Wordings.{in_words, row_fault, narrow_fault}
 unfoldable pub use Rattle.worlds.specs.Load.{load, loaded_table, loaded}
 pub use Rattle.worlds.specs.Files.{is_long, bad_file}
 unfoldable pub use Rattle.worlds.specs.Files.{save, open_view, opened_table, opened_beside}
@@ -117,7 +118,7 @@ pub use Rattle.subviews.specs.Stencils.{stencil_value, at_row, values_fault, wit
 pub use Rattle.subviews.specs.declared.fault.StencilFault.{StencilFault}
 pub use Rattle.extents.specs.IndicesLaws.{length-indices}
 pub use Rattle.csv_rows.specs.Loads.{dataset_of}
-pub use Rattle.worlds.specs.Copy.{all_read, are_alike, narrow_fault}
+pub use Rattle.worlds.specs.Copy.{all_read, are_alike}
 unfoldable pub use Rattle.worlds.specs.Copy.{copy, copied, with_rows, laid_anew, relayout}
 pub use Rattle.worlds.specs.Names.{nameless, leaf_of, bound, bound_filter, bound_sets, each_once, leaves_of, text_of_leaf}
 pub use Rattle.worlds.specs.Show.{showing, small, image_of}

@@ -1,5 +1,5 @@
 -- Each line of a run leaves a world whose tables files can say.
-use Rattle.saved_runs.proofs.Imports.{◌≡◌, ℕ, ◌^◌, ◌<◌, ◌≤◌, Bool, true, false, ℤ, nat_lt, not, List, length, Option, Some, None, ⊎_elim, refl, sym, ap, ◌∙◌, subst, arith, false≢true, cases_eq, indices, length-indices, File, Sentence, New, Two, MapTerm, holds_by, HasShape, hold_at, leaves, kinds_of, Fields, csv_records, records_behind, dataset_of, AreAlike, refused_at, kept_rows, Table, answer_of, kept_of, leaf_count_of, after_stores, Access, Read, all_accesses, line_tokens, tokens_read, AreRows, view_line, header_of, OpensFiles, HoldsBits, HoldsRows, World, Entry, found, replaced, copy, copied, with_rows, all_read, laid_anew, relayout, are_alike, narrow_fault, open_view, opened_table, load, loaded_table, loaded, filled, read, row_fault, nameless, Done, done_to, on_view, worked, LeftOf, Left, known, refused_if, refused_by, ok_or, drop_view, step, work_of, resolved, made, zeros_of, named, new_table, view, with_view, Mismatch, TooBig, not_alike, IfGoes, to, refused, bind, behind, known_found, IsSavable, Ok, OnView, does, Tested, sure, surely}
+use Rattle.saved_runs.proofs.Imports.{◌≡◌, ℕ, ◌^◌, ◌<◌, ◌≤◌, Bool, true, false, ℤ, nat_lt, not, List, length, Option, Some, None, ⊎_elim, refl, sym, ap, ◌∙◌, subst, arith, false≢true, cases_eq, indices, length-indices, File, Sentence, New, Two, MapTerm, holds_by, HasShape, hold_at, leaves, kinds_of, Fields, csv_records, records_behind, dataset_of, AreAlike, refused_at, kept_rows, Table, answer_of, kept_of, leaf_count_of, after_stores, Access, Read, all_accesses, line_tokens, tokens_read, AreRows, view_line, header_of, OpensFiles, HoldsBits, HoldsRows, World, Entry, found, replaced, copy, copied, in_words, with_rows, all_read, laid_anew, relayout, are_alike, narrow_fault, open_view, opened_table, load, loaded_table, loaded, filled, read, row_fault, nameless, Done, done_to, on_view, worked, LeftOf, Left, known, refused_if, refused_by, ok_or, drop_view, step, work_of, resolved, made, zeros_of, named, new_table, view, with_view, Mismatch, TooBig, not_alike, IfGoes, to, refused, bind, behind, known_found, IsSavable, Ok, OnView, does, Tested, sure, surely}
 use Rattle.line_grammar.specs.Sentences as line
 use Rattle.saved_runs.proofs.Went.{unrefused, answered}
 use Rattle.saved_runs.proofs.Saves.{table_opened, table_savable}
@@ -61,7 +61,7 @@ module _ (holds_bits : HoldsBits) where
   wide table good leaf l = holds_bits (header_of table) leaf good.lines good.lies l
 
   -- what is kept of rows
-  rows_good : (table : Table) (rows : List (List ℤ)) → IsSavable table → HasShape (length (indices table.extents)) (length (leaves table.fields)) rows → IfGoes IsSavable (with_rows table rows)
+  rows_good : (table : Table) (rows : List (List ℤ)) → IsSavable table → HasShape (length (indices table.extents)) (length (leaves table.fields)) rows → IfGoes IsSavable (with_rows in_words table rows)
   unfolding with_rows
   rows_good table rows good shape =
       bind IsSavable (refused_by (narrow_fault table.fields) (refused_at (answer_of table) 0 rows)) _ (λ held h.

@@ -1,5 +1,5 @@
 -- Tables that are copied from one place of a list to another.
-use Rattle.session.proofs.Imports.{◌≡◌, ◌⊎◌, ⊎_elim, inl, inr, ◌<◌, ◌≤◌, ◌+◌, ℕ, zero, suc, List, [], ◌∷◌, ◌++◌, length, map, get_or, Some, None, Ok, Err, refl, sym, ap, subst, ◌∙◌, arith, slice_set, insert, remove, length-map, length-set, get_or_default, get_or-set_same, get_or-set_other, set-set, map-set, get_or-map, get_or-remove_below, get_or-remove_above, length-remove, Fields, AreAlike, IsCopied, refused_at, own_held, CopyFault, Table, IsTable, leaf_count_of, answer_of, kept_of, after_log, Access, all_accesses, all_touches, Read, Write, after_log-append, kept_rows, own_rows, copy, copied, with_rows, all_read, laid_anew, narrow_fault, made, zeros_of, MapTerm, CommandFault, Unknown, Name, IsFirst, ◌>>=◌, quiet, known, some_or, World, Entry, replaced, alike, not_alike, view_of, GivesUp, GivesUp-then, goes_then, ViewEntry, StepFault, copied_at, made_like, zeros_like, TellsCopy, Tested}
+use Rattle.session.proofs.Imports.{◌≡◌, ◌⊎◌, ⊎_elim, inl, inr, ◌<◌, ◌≤◌, ◌+◌, ℕ, zero, suc, List, [], ◌∷◌, ◌++◌, length, map, get_or, Some, None, Ok, Err, refl, sym, ap, subst, ◌∙◌, arith, slice_set, insert, remove, length-map, length-set, get_or_default, get_or-set_same, get_or-set_other, set-set, map-set, get_or-map, get_or-remove_below, get_or-remove_above, length-remove, Fields, AreAlike, IsCopied, refused_at, own_held, CopyFault, Table, IsTable, leaf_count_of, answer_of, kept_of, after_log, Access, all_accesses, all_touches, Read, Write, after_log-append, kept_rows, own_rows, copy, copied, with_rows, all_read, laid_anew, in_words, narrow_fault, made, zeros_of, MapTerm, CommandFault, Unknown, Name, IsFirst, ◌>>=◌, quiet, known, some_or, World, Entry, replaced, alike, not_alike, view_of, GivesUp, GivesUp-then, goes_then, ViewEntry, StepFault, copied_at, made_like, zeros_like, TellsCopy, Tested}
 use Rattle.std.proofs.lemmas.List.{append-nil}
 use Rattle.layout_copy.specs.declared.fault.CopyFault.TheVariants as copy
 use Rattle.worlds.specs.declared.fault.CommandFault.TheVariants as refusal
@@ -56,7 +56,7 @@ both_set xs gone place now x y small apart before behind =
     (either_way place gone apart)
 
 -- the copy of a table to one that is alike
-copied_alike : (source target : Table) → AreAlike source target → copied source target ≡ with_rows target source.rows
+copied_alike : (source target : Table) → AreAlike source target → copied source target ≡ with_rows in_words target source.rows
 unfolding copied
 copied_alike source target are = rw (alike source target are) refl
 

@@ -72,7 +72,8 @@ pub use Rattle.layout_copy.specs.declared.fault.CopyFault.{CopyFault}
 pub use Rattle.views.specs.TallyLaws.{after_log-append, tallied-append, tallied-none, logs_more}
 pub use Rattle.views.specs.Stores.{kept_rows}
 pub use Rattle.views.specs.AnswerLaws.{own_rows}
-pub use Rattle.worlds.specs.Copy.{all_read, narrow_fault}
+pub use Rattle.worlds.specs.Copy.{all_read}
+pub use Rattle.worlds.specs.Wordings.{in_words, narrow_fault}
 unfoldable pub use Rattle.worlds.specs.Copy.{copy, copied, with_rows, laid_anew, relayout}
 pub use Rattle.worlds.specs.Tables.{made, zeros_of, room, live_bits}
 pub use Rattle.worlds.specs.declared.fault.CommandFault.{CommandFault}

@@ -1,20 +1,20 @@
 -- `copy V to W` makes the table of W what W keeps of that of V, and `relayout V as ..` lays a table out anew.
-use Rattle.std.specs.Prelude.{ℕ, ℤ, ◌&&◌, Bool, true, false, not, nat_eq, List, length, Ok}
+use Rattle.std.specs.Prelude.{ℕ, ℤ, ◌&&◌, Bool, true, false, not, nat_eq, List, length, Result, Ok}
 use Rattle.std.specs.Cmp.Lexicographic.{pointwise}
 use Rattle.record_dim.specs.Trees.{Tree, Fields, Single, Record, Array, End, Field}
 use Rattle.map_expr.specs.Terms.{Term as MapTerm}
 use Rattle.record_dim.specs.LeafTypes.{kind_number}
-use Rattle.layout_copy.specs.Copies.{Spot, refused_at}
+use Rattle.layout_copy.specs.Copies.{refused_at}
 use Rattle.views.specs.Tallies.{Read, Write, all_accesses}
 use Rattle.views.specs.Tables.{Table, leaf_count_of, after_log, after_stores, answer_of, kept_of}
 use Rattle.views.specs.Stores.{kept_rows}
 use Rattle.worlds.specs.Worlds.{World, Entry}
 use Rattle.worlds.specs.Outcomes.{Tested, ◌>>=◌, Left, quiet, known, refused_if, refused_by}
-use Rattle.worlds.specs.Names.{nameless, text_of_leaf}
+use Rattle.worlds.specs.Names.{nameless}
+use Rattle.worlds.specs.Wordings.{Wording, in_words}
 use Rattle.worlds.specs.Tables.{made}
 use Rattle.worlds.specs.OnView.{with_table}
-use Rattle.worlds.specs.declared.fault.CommandFault.{CommandFault}
-use Rattle.worlds.specs.declared.fault.CommandFault.TheVariants.{Mismatch, Narrow}
+use Rattle.worlds.specs.declared.fault.CommandFault.TheVariants.{Mismatch}
 
 -- whether two records are one tree, names included
 abbrev mutual
@@ -34,21 +34,20 @@ abbrev mutual
 abbrev pub are_alike : Table → Table → Bool
 are_alike source target = same_fields source.fields target.fields && pointwise nat_eq source.extents target.extents
 
--- the fault of a value that is not held
-abbrev pub narrow_fault : Fields → Spot → CommandFault
-narrow_fault fields spot = Narrow spot.row (text_of_leaf fields spot.leaf)
-
 -- a table with what it keeps of the rows of another, where it takes them, each value written once
-unfoldable pub with_rows : Table → List (List ℤ) → Tested Table
-with_rows table rows = do
-  held ← refused_by (narrow_fault table.fields) (refused_at (answer_of table) 0 rows)
+unfoldable pub with_rows : {E : Type 0} → Wording E → Table → List (List ℤ) → Result Table E
+with_rows wording table rows = do
+  held ← refused_by (wording.of_spot table.fields) (refused_at (answer_of table) 0 rows)
   Ok (after_stores table (kept_rows (kept_of table) rows) (all_accesses Write (leaf_count_of table) (length rows)))
 
 -- the target with what it keeps of the rows of the source
+abbrev pub copied_by : {E : Type 0} → Wording E → Table → Table → Result Table E
+copied_by wording source target = do
+  alike ← wording.tested (refused_if (not (are_alike source target)) Mismatch)
+  with_rows wording target source.rows
+
 unfoldable pub copied : Table → Table → Tested Table
-copied source target = do
-  alike ← refused_if (not (are_alike source target)) Mismatch
-  with_rows target source.rows
+copied source target = copied_by in_words source target
 
 -- the source, each of its values read once
 abbrev pub all_read : Table → Table
@@ -64,10 +63,13 @@ copy world name target_name = do
   quiet (with_table read target_name new)
 
 -- what a table of the same mode keeps of the rows under a new mapping, beside all of these, the old one among them
+abbrev pub laid_anew_by : {E : Type 0} → Wording E → List (Entry Table) → Table → MapTerm → Result Table E
+laid_anew_by wording views table mapping = do
+  zeros ← wording.tested (made views table.mode table.fields table.extents mapping)
+  with_rows wording zeros table.rows
+
 unfoldable pub laid_anew : List (Entry Table) → Table → MapTerm → Tested Table
-laid_anew views table mapping = do
-  zeros ← made views table.mode table.fields table.extents mapping
-  with_rows zeros table.rows
+laid_anew views table mapping = laid_anew_by in_words views table mapping
 
 unfoldable pub relayout : World → List ℕ → MapTerm → Tested Left
 relayout world name term = do

@@ -4,6 +4,7 @@ pub mod Answers
 pub mod AnswersLaws
 pub mod OnView
 pub mod Names
+pub mod Wordings
 pub mod Values
 pub mod Tables
 pub mod Texts

@@ -1,22 +1,18 @@
 -- `load V : P [..] as .. from "F"` makes a table of what it keeps of the values of a dataset.
-use Rattle.std.specs.Prelude.{ℕ, ◌^◌, Bool, List, length, Option, Some, None, nat_lt, if◌then◌else◌, Ok}
+use Rattle.std.specs.Prelude.{ℕ, ◌^◌, Bool, List, length, Option, Some, None, nat_lt, if◌then◌else◌, Result, Ok}
 use Rattle.extents.specs.declared.words.ExtentWord.{ExtentWord}
 use Rattle.layout_io.specs.Files.{File, file_named}
-use Rattle.record_dim.specs.Trees.{Fields}
 use Rattle.line_grammar.specs.Sentences.{New}
 use Rattle.csv_rows.specs.Datasets.{csv_records, records_behind}
 use Rattle.csv_rows.specs.Loads.{dataset_of}
-use Rattle.csv_rows.specs.declared.fault.RowFault.{RowFault}
-use Rattle.csv_rows.specs.declared.fault.RowFault.TheVariants as rows
 use Rattle.views.specs.Tallies.{Write, all_accesses}
 use Rattle.views.specs.Tables.{Table, leaf_count_of, after_stores}
 use Rattle.worlds.specs.Worlds.{World, Entry}
 use Rattle.worlds.specs.Outcomes.{Tested, CannotRead, ◌>>=◌, Left, quiet, refused_if, ok_or, Outcome, Goes, sure}
-use Rattle.worlds.specs.Names.{text_of_leaf}
+use Rattle.worlds.specs.Wordings.{Wording, in_words}
 use Rattle.worlds.specs.Tables.{resolved, made}
 use Rattle.worlds.specs.View.{with_view, Named, named}
-use Rattle.worlds.specs.declared.fault.CommandFault.{CommandFault}
-use Rattle.worlds.specs.declared.fault.CommandFault.TheVariants as fault
+use Rattle.worlds.specs.declared.fault.CommandFault.TheVariants.{TooBig}
 
 -- the bytes of a file that may be missing
 abbrev pub there : List ℕ → Option (List ℕ) → Outcome (List ℕ)
@@ -27,29 +23,25 @@ there name (Some bytes) = Goes bytes
 abbrev pub read : List File → Bool → List ℕ → Outcome (List ℕ)
 read files unread name = there name (if unread then None else file_named files name)
 
--- the fault of a dataset, the leaf by its path text; want of memory is no fault of a dataset
-abbrev pub row_fault : Fields → RowFault → CommandFault
-row_fault fields (rows.MissingColumn leaf) = fault.MissingColumn (text_of_leaf fields leaf)
-row_fault fields (rows.ColumnTwice leaf) = fault.ColumnTwice (text_of_leaf fields leaf)
-row_fault fields (rows.ShortRow row leaf) = fault.ShortRow row (text_of_leaf fields leaf)
-row_fault fields (rows.Number row leaf) = fault.Number row (text_of_leaf fields leaf)
-row_fault fields (rows.Range row leaf) = fault.Range row (text_of_leaf fields leaf)
-row_fault fields (rows.Narrow row leaf) = fault.Narrow row (text_of_leaf fields leaf)
-row_fault fields rows.NoMemory = fault.TooBig
-
 -- a table with what it keeps of the values of a dataset in place of its own, each written once
-abbrev pub filled : Table → List (List (List ℕ)) → Tested Table
-filled table records = do
-  rows ← ok_or (row_fault table.fields) (dataset_of table records)
+abbrev pub filled_by : {E : Type 0} → Wording E → Table → List (List (List ℕ)) → Result Table E
+filled_by wording table records = do
+  rows ← ok_or (wording.of_row table.fields) (dataset_of table records)
   Ok (after_stores table rows (all_accesses Write (leaf_count_of table) (length table.rows)))
 
+abbrev pub filled : Table → List (List (List ℕ)) → Tested Table
+filled table records = filled_by in_words table records
+
 -- the table of a dataset of these bytes, beside these views
+abbrev pub loaded_by : {E : Type 0} → Wording E → List (Entry Table) → Named → List ExtentWord → List ℕ → Result Table E
+loaded_by wording views whole words bytes = do
+  short ← wording.tested (refused_if (nat_lt (2 ^ 28) (length bytes)) TooBig)
+  extents ← wording.tested (resolved words (Some (length (records_behind (csv_records bytes)))))
+  zeros ← wording.tested (made views whole.mode whole.fields extents whole.mapping)
+  filled_by wording zeros (csv_records bytes)
+
 unfoldable pub loaded : List (Entry Table) → Named → List ExtentWord → List ℕ → Tested Table
-loaded views whole words bytes = do
-  short ← refused_if (nat_lt (2 ^ 28) (length bytes)) fault.TooBig
-  extents ← resolved words (Some (length (records_behind (csv_records bytes))))
-  zeros ← made views whole.mode whole.fields extents whole.mapping
-  filled zeros (csv_records bytes)
+loaded views whole words bytes = loaded_by in_words views whole words bytes
 
 -- the table of a dataset in a file
 unfoldable pub loaded_table : World → New → List ℕ → List File → Bool → Outcome Table

@@ -67,12 +67,12 @@ abbrev pub refused_if : Bool → CommandFault → Tested (Unit {0})
 refused_if test fault = if test then Err fault else Ok tt
 
 -- refused where there is a cause
-abbrev pub refused_by : {E : Type 0} → (E → CommandFault) → Option E → Tested (Unit {0})
+abbrev pub refused_by : {E F : Type 0} → (E → F) → Option E → Result (Unit {0}) F
 refused_by fault None = Ok tt
 refused_by fault (Some cause) = Err (fault cause)
 
 -- refused by another's answer
-abbrev pub ok_or : {A E : Type 0} → (E → CommandFault) → Result A E → Tested A
+abbrev pub ok_or : {A E F : Type 0} → (E → F) → Result A E → Result A F
 ok_or fault (Ok x) = Ok x
 ok_or fault (Err e) = Err (fault e)
 

@@ -1,5 +1,5 @@
 -- `view V : P [..] as ..` makes a table of zeros.
-use Rattle.std.specs.Prelude.{ℕ, List, None, Ok}
+use Rattle.std.specs.Prelude.{ℕ, List, None, Result, Ok}
 use Rattle.record_dim.specs.Trees.{Fields}
 use Rattle.map_expr.specs.Terms.{Term as MapTerm}
 use Rattle.line_grammar.specs.Sentences.{New}
@@ -8,6 +8,7 @@ use Rattle.views.specs.Tables.{Table}
 use Rattle.worlds.specs.Worlds.{World, added}
 use Rattle.worlds.specs.Outcomes.{Tested, ◌>>=◌, Left, quiet, free, known}
 use Rattle.worlds.specs.Names.{nameless}
+use Rattle.worlds.specs.Wordings.{Wording, in_words}
 use Rattle.worlds.specs.Tables.{room, shaped, resolved, mode_by, made}
 
 -- the world with one more table
@@ -31,11 +32,14 @@ named world new = do
   Ok (record { fields = fields; mode = mode_by new.wrap; mapping = whole })
 
 -- the table that a view begins as
+abbrev pub new_table_by : {E : Type 0} → Wording E → World → New → Result Table E
+new_table_by wording world new = do
+  whole ← wording.tested (named world new)
+  extents ← wording.tested (resolved new.words None)
+  wording.tested (made world.views whole.mode whole.fields extents whole.mapping)
+
 unfoldable pub new_table : World → New → Tested Table
-new_table world new = do
-  whole ← named world new
-  extents ← resolved new.words None
-  made world.views whole.mode whole.fields extents whole.mapping
+new_table world new = new_table_by in_words world new
 
 unfoldable pub view : World → New → Tested Left
 view world new = do

@@ -1,12 +1,16 @@
 -- What the code has of two lines, as the model of scripts has it.
-use Rattle.std.specs.Prelude.{ℕ, List, []}
+use Rattle.std.specs.Prelude.{ℕ, List, [], Option}
+use Rattle.extents.specs.declared.words.ExtentWord.{ExtentWord}
 use Rattle.line_grammar.specs.Sentences.{New}
 use Rattle.map_expr.specs.Terms.{term_of}
 use Rattle.record_dim.specs.Schemas.{schema_fields}
+use Rattle.worlds.specs.Outcomes.{◌>>=◌}
+use Rattle.worlds.specs.Tables.{made, resolved}
 use Rattle.worlds.specs.View.{Named}
 use Rattle.worlds.specs.Worlds.{World, empty, added}
 use Rattle.c_lines.specs.Lines as lines
 use Rattle.c_lines.specs.Answers.{Answer}
+use Rattle.c_lines.specs.Told.{told}
 use Rattle.views.specs.Tables.{Table}
 use Rattle.c_lines.specs.declared.make.Asked.{Asked}
 use Rattle.c_lines.specs.declared.make.Found.{Found}
@@ -25,6 +29,12 @@ named_of named found = record { fields = schema_fields named.schema; mode = foun
 
 abbrev pub asked_of : Asked → lines.Asked
 asked_of asked = record { world = world_of asked.record; new = new_of asked.new }
+
+-- the table of zeros where the words of a view stand for this: `?` among the extents stands for what so many rows leave
+abbrev pub zeros_for : Named → List ExtentWord → Option ℕ → Answer Table
+zeros_for whole words rows = do
+  extents ← told (resolved words rows)
+  told (made [] whole.mode whole.fields extents whole.mapping)
 
 -- the table of a dataset
 abbrev pub asked_filled : Asked → List ℕ → Answer Table

@@ -11,7 +11,7 @@ use Rattle.worlds.specs.Outcomes.{Tested, ◌>>=◌, LeftOf, ok_or}
 use Rattle.worlds.specs.OnView.{Done, stores}
 use Rattle.csv_rows.specs.declared.fault.RowFault.{RowFault}
 use Rattle.csv_rows.specs.declared.fault.RowFault.TheVariants as rows
-use Rattle.worlds.specs.Load.{row_fault}
+use Rattle.worlds.specs.Wordings.{narrow_fault, row_fault}
 use Rattle.row_updates.specs.Rows.{Setting, updated_rows}
 use Rattle.row_updates.specs.Logs.{value_log, rows_log}
 use Rattle.views.specs.Tallies.{Write}
@@ -23,7 +23,7 @@ use Rattle.worlds.specs.declared.fault.CommandFault.{CommandFault}
 use Rattle.worlds.specs.declared.fault.CommandFault.TheVariants.{BadMapping, Mismatch}
 use Rattle.layout_copy.specs.declared.fault.CopyFault.{CopyFault}
 use Rattle.layout_copy.specs.declared.fault.CopyFault.TheVariants as copy
-use Rattle.worlds.specs.Copy.{all_read, copied, narrow_fault}
+use Rattle.worlds.specs.Copy.{all_read, copied}
 use Rattle.worlds.specs.Tables.{made, zeros_of}
 
 -- an expression that can be a mapping, whatever its cells are
