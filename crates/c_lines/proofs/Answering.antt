@@ -11,8 +11,7 @@ tells_answered : {A B : Type 0} (view : A → B) (given : Result A StepFault) (o
 tells_answered view (Ok x) outcome gives = rw gives refl
 tells_answered view (Err (step.Command refusal)) outcome gives = inr (rw gives refl)
 tells_answered view (Err step.NoMemory) outcome gives = inl refl
-tells_answered view (Err step.Source) outcome gives = absurd gives
-tells_answered view (Err step.Sink) outcome gives = absurd gives
+tells_answered view (Err other) outcome gives = absurd gives
 
 pub tells_test : {A B : Type 0} (view : A → B) (given : Result A StepFault) (outcome : Tested B) (result : Answer A) → result ≡ answered given → Gives view given outcome → Tells view (told outcome) result
 tells_test view given outcome result is gives = rw is (tells_answered view given outcome gives)

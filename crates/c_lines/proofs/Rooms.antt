@@ -1,5 +1,5 @@
 -- Tables that are made, and the room that they leave.
-use Rattle.c_lines.proofs.Imports.{◌≡◌, ℕ, ◌+◌, ◌*◌, ◌^◌, ◌≤◌, nat_lt, Bool, true, false, refl, subst, ap, ⊎_elim, arith, cases_Bool, nat_tests, accepted, leaf_cells, most_slots, kinds_of, Table, owners_of, granules_for, Tested, Ok, Err, ◌>>=◌, refused_if, ok_or, zeros_of, blob_bits, live_bits, OfMapping, TooBig, TablesAgree, TablesLeaveRoom}
+use Rattle.c_lines.proofs.Imports.{◌≡◌, ℕ, ◌+◌, ◌*◌, ◌^◌, ◌≤◌, nat_lt, Bool, true, false, refl, subst, ⊎_elim, arith, cases_Bool, nat_tests, accepted, leaf_cells, most_slots, kinds_of, Table, owners_of, granules_for, Tested, Ok, Err, ◌>>=◌, refused_if, ok_or, zeros_of, blob_bits, live_bits, OfMapping, TooBig, TablesAgree, TablesLeaveRoom}
 
 -- what goes on behind a test, and behind a limit that was not passed
 behind : {A B : Type 0} (first : Tested A) (next : A → Tested B) (y : B) → (first >>= next) ≡ Ok y → (x : A) × (next x ≡ Ok y)

@@ -1,7 +1,7 @@
 -- Bytes that are copied into the buffer of a caller, and what they are.
-use Rattle.std.specs.Prelude.{ℕ, ◌≡◌, ◌⊎◌, ◌++◌, List, [], length, drop, nat_le, nat_lt, slice_index_or, Result, Ok, Err, if◌then◌else◌}
+use Rattle.std.specs.Prelude.{ℕ, ◌≡◌, ◌⊎◌, ◌++◌, List, [], length, drop, nat_le, nat_lt, slice_index_or, Ok, Err, if◌then◌else◌}
 use Rattle.blob_file.specs.Files.{file_of}
-use Rattle.blob_file.specs.Opened.{Saved, opened, table_of_saved}
+use Rattle.blob_file.specs.Opened.{opened, table_of_saved}
 use Rattle.blob_file.specs.Saving.{blobs_of, header_of}
 use Rattle.blob_file.specs.declared.fault.FileFault.{FileFault}
 use Rattle.blob_file.specs.declared.fault.FileFault.TheVariants as fault
@@ -9,6 +9,7 @@ use Rattle.csv_rows.specs.Texts.{print_text}
 use Rattle.record_dim.specs.Leaves.{texts_of}
 use Rattle.views.specs.Tables.{Table, owners_of}
 use Rattle.worlds.specs.Files.{is_long}
+use Rattle.worlds.specs.Outcomes.{◌>>=◌, ok_or}
 use Rattle.worlds.specs.declared.fault.BadFile.TheVariants as bad
 use Rattle.c_lines.specs.Answers.{Answer}
 use Rattle.c_lines.specs.declared.refusal.Refusal.{Refusal}
@@ -67,9 +68,7 @@ file_refusal fault.Length = BadFile bad.Length
 file_refusal fault.Contents = BadFile bad.Contents
 file_refusal fault.NoMemory = NoMemory
 
-abbrev pub saved_table : Result Saved FileFault → Answer Table
-saved_table (Ok saved) = Ok (table_of_saved saved)
-saved_table (Err found) = Err (file_refusal found)
-
 abbrev pub opened_told : List ℕ → Answer Table
-opened_told bytes = saved_table (opened bytes)
+opened_told bytes = do
+  saved ← ok_or file_refusal (opened bytes)
+  Ok (table_of_saved saved)

@@ -1,4 +1,3 @@
 -- Words of contracts within the project, which no promise reaches.
-pub mod Kernels
 pub mod Makes
 pub mod Steps

@@ -3,33 +3,25 @@ use Rattle.std.specs.Prelude.{ℕ, ℤ, List, length, Option, Some, None, Ok, Er
 use Rattle.lane_kernels.specs.Kernels.{kernel_fault, given_number, rows_before, run_rows}
 use Rattle.lane_kernels.specs.Logs.{kernel_rows_log, fault_log}
 use Rattle.lane_kernels.specs.declared.fault.KernelFault.{KernelFault}
-use Rattle.lane_kernels.specs.declared.kernel.Kernel.{Kernel}
 use Rattle.line_grammar.specs.Sentences as line
 use Rattle.line_grammar.specs.Sentences.{Sentence}
-use Rattle.line_grammar.specs.declared.line.KernelText.{KernelText}
 use Rattle.views.specs.Tables.{Table, answer_of, kept_of, after_stores}
 use Rattle.worlds.specs.Kernel.{fit_kernel}
 use Rattle.worlds.specs.Outcomes.{◌>>=◌, refused_by}
 use Rattle.c_lines.specs.Answers.{Answer}
+use Rattle.c_lines.specs.declared.kernels.Fitted.{Fitted}
+use Rattle.c_lines.specs.declared.kernels.Written.{Written}
 use Rattle.c_lines.specs.declared.refusal.Refusal.TheVariants.{OtherLine}
 use Rattle.c_lines.specs.declared.refusal.TextOf.TheVariants.{First}
 use Rattle.c_lines.specs.Lines.{line_answer}
 use Rattle.c_lines.specs.Told.{told, kernel_refusal}
 
 -- the kernel of a line as it is written, and its lanes
-pub record Written : Type 0 where
-  pub kernel : KernelText
-  pub lanes : ℕ
-
 abbrev pub kernel_told : Sentence → Answer Written
 kernel_told (line.Kernel name kernel lanes) = Ok (record { kernel = kernel; lanes = lanes })
 kernel_told _ = Err (OtherLine First)
 
 -- the same with the numbers of the leaves of a table
-pub record Fitted : Type 0 where
-  pub kernel : Kernel
-  pub lanes : ℕ
-
 abbrev pub fitted_as : Written → Table → Answer Fitted
 fitted_as written table = do
   kernel ← told (fit_kernel table.fields written.kernel written.lanes)

@@ -4,7 +4,6 @@ ghost use Rattle.line_grammar.specs.Sentences.{sentence_of};
 ghost use Rattle.lane_kernels.specs.Kernels.{IsKernelOf};
 ghost use Rattle.c_lines.specs.Answers.{Tells, TellsLeft};
 ghost use Rattle.c_lines.specs.KernelLines.{after_kernel, fitted, fitted_as, kernel_number, kernel_told};
-ghost use Rattle.c_lines.specs.Inner.Kernels.{fitted_of, written_of};
 
 use crate::lines::line_of;
 use crate::told::{answered, kernel_refusal};
@@ -54,7 +53,7 @@ pub fn run_kernel<L: Ledger>(
 
 // The kernel of a line, fit to a view.
 fn fit_to(alloc: Global, view: &View, line: &[u8]) -> Result<Fitted, Refusal>
-    ensures fit { Tells fitted_of (fitted line.now view.now) result }
+    ensures fit { Tells (λ fit. fit) (fitted line.now view.now) result }
     ensures able { IfOk result (λ fit. IsKernelOf view.now fit.kernel) }
     ensures lanes { IfOk result (λ fit. (1 ≤ fit.lanes) × (fit.lanes ≤ 16)) }
 {
@@ -66,7 +65,7 @@ fn fit_to(alloc: Global, view: &View, line: &[u8]) -> Result<Fitted, Refusal>
 
 // A kernel that is written, fit to a view.
 fn fit_written(alloc: Global, view: &View, written: &Written) -> Result<Fitted, Refusal>
-    ensures fit { Tells fitted_of (fitted_as (written_of written.now) view.now) result }
+    ensures fit { Tells (λ fit. fit) (fitted_as written.now view.now) result }
     ensures able { IfOk result (λ fit. IsKernelOf view.now fit.kernel) }
     ensures lanes { IfOk result (λ fit. (1 ≤ fit.lanes) × (fit.lanes ≤ 16)) }
 {
@@ -77,7 +76,7 @@ fn fit_written(alloc: Global, view: &View, written: &Written) -> Result<Fitted, 
 
 // The kernel that a line names.
 fn kernel_of(line: Line) -> Result<Written, Refusal>
-    ensures { Tells written_of (kernel_told (sentence_of line)) result }
+    ensures { Tells (λ written. written) (kernel_told (sentence_of line)) result }
 {
     match line {
         Line::Kernel {

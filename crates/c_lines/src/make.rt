@@ -25,7 +25,7 @@ use map_expr::MapExpr;
 use record_dim::{MakeSchema, Name, Schema, Steps};
 use std::alloc::Global;
 use std::sync::ledger::{Blank, Ledger};
-use views::{StoreMode, View};
+use views::{StoreMode, View, laws_of_table};
 
 /// The most bytes of a dataset.
 const MAX_DATASET_BYTES: usize = 1 << 28;
@@ -274,6 +274,6 @@ fn zeros_for(
         extents,
         &found.expr,
     ))?;
-    let _rows = view.schema();
+    laws_of_table(&view);
     Ok(view)
 }

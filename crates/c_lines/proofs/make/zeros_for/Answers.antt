@@ -25,6 +25,6 @@ returns-clause-rows c =
     let view = c.in_ok-view.view in
     let extents = c.in_ok-extents.extents in
     let same : view.extents ≡ extents = if_answered (λ (v : Table). v.extents ≡ extents) c.made.result (Ok view) c.in_ok-view.ensures c.made.ensures.extents in
-    let many : length view.rows ≡ length (indices extents) = c.schema-rows.ensures.table.rows ∙ ap (λ (e : List ℕ). length (indices e)) same in
+    let many : length view.rows ≡ length (indices extents) = c.laws_of_table.ensures.table.rows ∙ ap (λ (e : List ℕ). length (indices e)) same in
     subst (λ (n : ℕ). IfSome c.args.rows (λ count. n ≡ count)) (sym many)
     (if_answered (λ (e : List ℕ). IfSome c.args.rows (λ count. length (indices e) ≡ count)) c.resolved.result (Ok extents) c.in_ok-extents.ensures c.resolved.ensures.rows)
