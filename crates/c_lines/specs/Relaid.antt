@@ -48,5 +48,6 @@ abbrev pub left_anew : Answer Table → Table → Table
 left_anew (Ok zeros) table = laid_left (was_copied table zeros) table zeros
 left_anew (Err refused) table = table
 
+-- what is left by the line
 abbrev pub after_relaid : List ℕ → Table → Table
 after_relaid line table = left_anew (zeros_told line table) table

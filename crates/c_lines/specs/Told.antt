@@ -29,7 +29,7 @@ refusal_of _ = refusal.NoMemory
 abbrev pub told : {A : Type 0} → Tested A → Answer A
 told outcome = ok_or refusal_of outcome
 
--- the refusal of a dataset, of a value that is not held, and of a kernel that runs
+-- the refusal of a dataset
 abbrev pub row_refusal : RowFault → Refusal
 row_refusal (row.MissingColumn leaf) = refusal.MissingColumn leaf
 row_refusal (row.ColumnTwice leaf) = refusal.ColumnTwice leaf
@@ -39,9 +39,11 @@ row_refusal (row.Range at leaf) = refusal.Range at leaf
 row_refusal (row.Narrow at leaf) = refusal.Narrow at leaf
 row_refusal row.NoMemory = refusal.NoMemory
 
+-- of a value that is not held
 abbrev pub spot_refusal : Spot → Refusal
 spot_refusal spot = refusal.Narrow spot.row spot.leaf
 
+-- and of a kernel that runs
 abbrev pub kernel_refusal : KernelFault → Refusal
 kernel_refusal kernel.Empty = refusal.Empty
 kernel_refusal (kernel.Range at leaf) = refusal.Range at leaf

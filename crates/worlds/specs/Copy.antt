@@ -46,6 +46,7 @@ copied_by wording source target = do
   alike ← wording.tested (refused_if (not (are_alike source target)) Mismatch)
   with_rows wording target source.rows
 
+-- in the words of a script
 unfoldable pub copied : Table → Table → Tested Table
 copied source target = copied_by in_words source target
 
@@ -68,6 +69,7 @@ laid_anew_by wording views table mapping = do
   zeros ← wording.tested (made views table.mode table.fields table.extents mapping)
   with_rows wording zeros table.rows
 
+-- in the words of a script
 unfoldable pub laid_anew : List (Entry Table) → Table → MapTerm → Tested Table
 laid_anew views table mapping = laid_anew_by in_words views table mapping
 

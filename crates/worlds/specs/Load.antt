@@ -29,6 +29,7 @@ filled_by wording table records = do
   rows ← ok_or (wording.of_row table.fields) (dataset_of table records)
   Ok (after_stores table rows (all_accesses Write (leaf_count_of table) (length table.rows)))
 
+-- in the words of a script
 abbrev pub filled : Table → List (List (List ℕ)) → Tested Table
 filled table records = filled_by in_words table records
 
@@ -40,6 +41,7 @@ loaded_by wording views whole words bytes = do
   zeros ← wording.tested (made views whole.mode whole.fields extents whole.mapping)
   filled_by wording zeros (csv_records bytes)
 
+-- in the words of a script
 unfoldable pub loaded : List (Entry Table) → Named → List ExtentWord → List ℕ → Tested Table
 loaded views whole words bytes = loaded_by in_words views whole words bytes
 

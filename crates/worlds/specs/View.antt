@@ -38,6 +38,7 @@ new_table_by wording world new = do
   extents ← wording.tested (resolved new.words None)
   wording.tested (made world.views whole.mode whole.fields extents whole.mapping)
 
+-- in the words of a script
 unfoldable pub new_table : World → New → Tested Table
 new_table world new = new_table_by in_words world new
 
