@@ -5,6 +5,7 @@ use Rattle.views.specs.Columns.{column_reads}
 use Rattle.views.specs.LeafRuns.{run_of, run_fault, stored_count, with_run}
 use Rattle.views.specs.declared.fault.LaneFault.{LaneFault}
 use Rattle.views.specs.Tables.{Table, after_log}
+use Rattle.worlds.specs.Outcomes.{refused_by}
 use Rattle.c_lines.specs.Answers.{Answer}
 use Rattle.c_lines.specs.Refusals.{store_refusal}
 use Rattle.c_lines.specs.Values.{is_run, read_by}
@@ -20,8 +21,7 @@ after_run first count leaf table = after_log table (column_reads leaf first coun
 
 -- the answer of a store of values in a leaf of the rows from one on
 abbrev pub told_run : ℕ → ℕ → Option LaneFault → Answer (Unit {0})
-told_run first leaf None = Ok tt
-told_run first leaf (Some fault) = Err (store_refusal (first + fault.lane) leaf fault.fault)
+told_run first leaf cause = refused_by (λ (fault : LaneFault). store_refusal (first + fault.lane) leaf fault.fault) cause
 
 -- what it answers and leaves
 pub record IsSet (first leaf : ℕ) (values : List ℤ) (old new : Table) (answer : Answer (Unit {0})) : Type 0 where

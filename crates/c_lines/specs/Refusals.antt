@@ -1,8 +1,7 @@
 -- What refuses a call, as the crates below say it.
-use Rattle.std.specs.Prelude.{ℕ, Ok, Err, Result, ℤ}
+use Rattle.std.specs.Prelude.{ℕ}
 use Rattle.views.specs.declared.fault.StoreFault.{StoreFault}
 use Rattle.views.specs.declared.fault.StoreFault.TheVariants as store
-use Rattle.c_lines.specs.Answers.{Answer}
 use Rattle.c_lines.specs.declared.refusal.Refusal.{Refusal}
 use Rattle.c_lines.specs.declared.refusal.Refusal.TheVariants.{Range, Narrow}
 
@@ -10,8 +9,3 @@ use Rattle.c_lines.specs.declared.refusal.Refusal.TheVariants.{Range, Narrow}
 abbrev pub store_refusal : ℕ → ℕ → StoreFault → Refusal
 store_refusal row leaf store.Range = Range row leaf
 store_refusal row leaf store.Narrow = Narrow row leaf
-
--- the answer of a store
-abbrev pub told_store : ℕ → ℕ → Result ℤ StoreFault → Answer (Unit {0})
-told_store row leaf (Ok kept) = Ok tt
-told_store row leaf (Err fault) = Err (store_refusal row leaf fault)

@@ -4,9 +4,11 @@ use Rattle.record_dim.specs.declared.leaf_type.LeafType.{LeafType}
 use Rattle.record_dim.specs.declared.leaf_type.LeafType.TheVariants.{U64}
 use Rattle.record_dim.specs.LeafTypes.{is_signed}
 use Rattle.places.specs.Image.{entry}
+use Rattle.views.specs.Stores.{without_number}
 use Rattle.views.specs.Tables.{Table, leaf_count_of, leaf_type_of, answer_of}
+use Rattle.worlds.specs.Outcomes.{ok_or}
 use Rattle.c_lines.specs.Answers.{Answer}
-use Rattle.c_lines.specs.Refusals.{told_store}
+use Rattle.c_lines.specs.Refusals.{store_refusal}
 use Rattle.c_lines.specs.declared.refusal.Refusal.TheVariants.{NoPlace, BadType}
 
 -- so many rows from one on, and a leaf, are those of a table
@@ -32,4 +34,4 @@ got reads at leaf table = read_by reads table at 1 leaf (entry table.rows at lea
 
 -- what `llama_set` and `llama_set_u64` answer
 abbrev pub was_set : ℕ → ℕ → ℤ → Table → Answer (Unit {0})
-was_set at leaf value table = if is_run table at 1 leaf then told_store at leaf (answer_of table leaf value) else Err NoPlace
+was_set at leaf value table = if is_run table at 1 leaf then ok_or (store_refusal at leaf) (without_number (answer_of table leaf value)) else Err NoPlace
