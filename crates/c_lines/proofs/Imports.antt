@@ -81,4 +81,4 @@ pub use Rattle.c_lines.specs.Buffers.{blob_told}
 pub use Rattle.c_lines.specs.Refusals.{store_refusal}
 pub use Rattle.c_lines.specs.CallerRuns.{after_run, told_run, IsFrontStored, IsSet}
 pub use Rattle.c_lines.specs.Values.{reads_signed, reads_unsigned}
-pub use Rattle.c_lines.specs.Inner.Makes.{named_of, new_of, zeros_for}
+pub use Rattle.c_lines.specs.Inner.Makes.{named_of, new_of, world_of, zeros_for}

@@ -34,7 +34,7 @@ is_short csv short = grind (arith, nat_tests)
 from_zeros : (whole : Named) (words : List ExtentWord) (csv : List ℕ) (rows : ℕ) → length csv ≤ 2 ^ 28 → rows ≡ length (records_behind (csv_records csv)) →
     loaded_by in_numbers [] whole words csv ≡ (zeros_for whole words (Some rows) >>= λ zeros. filled_by in_numbers zeros (csv_records csv))
 from_zeros whole words csv rows short many = rw (is_short csv short, many)
-    (then_then (told (resolved words (Some (length (records_behind (csv_records csv)))))) (λ extents. told (made [] whole.mode whole.fields extents whole.mapping)) (λ zeros. filled_by in_numbers zeros (csv_records csv)))
+    (then_then (told (resolved words (Some (length (records_behind (csv_records csv)))))) (λ (extents : List ℕ). told (made [] whole.mode whole.fields extents whole.mapping)) (λ (zeros : Table). filled_by in_numbers zeros (csv_records csv)))
 
 pub tells_filled : (whole : Named) (words : List ExtentWord) (csv : List ℕ) (rows : ℕ) (result : Answer Table) → length csv ≤ 2 ^ 28 → rows ≡ length (records_behind (csv_records csv)) →
     Tells (λ table. table) (zeros_for whole words (Some rows) >>= λ zeros. filled_by in_numbers zeros (csv_records csv)) result → Tells (λ table. table) (loaded_by in_numbers [] whole words csv) result

@@ -13,7 +13,7 @@ zeros_alike table mode term (Err fault) is = tt
 
 -- the new table is that of zeros with the old one's values
 relaid_by : (text : List ℕ) (table : Table) → relaid text table ≡ (zeros_told text table >>= λ zeros. with_rows in_numbers zeros table.rows)
-relaid_by text table = then_then (whole_told text) (λ whole. told (made [] table.mode table.fields table.extents whole)) (λ zeros. with_rows in_numbers zeros table.rows)
+relaid_by text table = then_then (whole_told text) (λ (whole : Term). told (made [] table.mode table.fields table.extents whole)) (λ (zeros : Table). with_rows in_numbers zeros table.rows)
 
 -- none is made
 pub anew_refused : (text : List ℕ) (table : Table) (refusal : Refusal) (result : Answer (Unit {0})) → result ≡ Err refusal → Refuses (zeros_told text table) refusal →
@@ -31,6 +31,8 @@ tells_left told_of after old new (Err refusal) is left = inr (is, left)
 
 pub laid : (text : List ℕ) (table zeros new : Table) (answer : Answer (Unit {0})) → zeros_told text table ≡ Ok zeros → AreAlike table zeros → answer ≡ was_copied table zeros → new ≡ laid_left answer table zeros →
     TellsLeft (done_of (relaid text table)) (after_relaid text table) table answer new
-laid text table zeros new answer made_is are copied left = tells_left _ _ table new answer
-    (ap done_of (relaid_by text table ∙ goes_then (zeros_told text table) _ zeros made_is) ∙ rows_copied table zeros are ∙ sym copied)
-    (left ∙ ap (λ a. laid_left a table zeros) copied ∙ sym (ap (λ z. left_anew z table) made_is))
+laid text table zeros new answer made_is are copied left =
+    let goes = relaid_by text table ∙ goes_then (zeros_told text table) (λ (fresh : Table). with_rows in_numbers fresh table.rows) zeros made_is in
+    tells_left (done_of (relaid text table)) (after_relaid text table) table new answer
+    (ap (λ (given : Answer Table). done_of given) goes ∙ rows_copied table zeros are ∙ sym copied)
+    (left ∙ ap (λ (a : Answer (Unit {0})). laid_left a table zeros) copied ∙ sym (ap (λ (z : Answer Table). left_anew z table) made_is))

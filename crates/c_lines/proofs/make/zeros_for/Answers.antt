@@ -11,14 +11,14 @@ pub returns-in_err-view-clause-zeros : goal.returns-in_err-view-clause-zeros
 returns-in_err-view-clause-zeros c =
     let extents = c.in_ok-extents.extents in
     let goes : resolved c.args.asked.now.new.words c.args.rows ≡ Ok extents = goes_ok _ c.resolved.result _ extents c.in_ok-extents.ensures (rw c.as_slice.ensures at c.resolved.ensures.extents) in
-    given_then (λ (view : Table). view) _ _ extents c.from_residual-in_err-view.result (ap told goes)
+    given_then (λ (view : Table). view) (told (resolved c.args.asked.now.new.words c.args.rows)) _ extents c.from_residual-in_err-view.result (ap told goes)
     (tells_refused (λ (view : Table). view) _ c.in_err-view.field-0.0 c.from_residual-in_err-view.result (search rules) (tells_test (λ (view : Table). view) c.made.result _ _ c.in_err-view.ensures c.made.ensures.made))
 
 pub returns-clause-zeros : goal.returns-clause-zeros
 returns-clause-zeros c =
     let extents = c.in_ok-extents.extents in
     let goes : resolved c.args.asked.now.new.words c.args.rows ≡ Ok extents = goes_ok _ c.resolved.result _ extents c.in_ok-extents.ensures (rw c.as_slice.ensures at c.resolved.ensures.extents) in
-    given_then (λ (view : Table). view) _ _ extents (Ok c.in_ok-view.view) (ap told goes) (tells_test (λ (view : Table). view) c.made.result _ (Ok c.in_ok-view.view) c.in_ok-view.ensures c.made.ensures.made)
+    given_then (λ (view : Table). view) (told (resolved c.args.asked.now.new.words c.args.rows)) _ extents (Ok c.in_ok-view.view) (ap told goes) (tells_test (λ (view : Table). view) c.made.result _ (Ok c.in_ok-view.view) c.in_ok-view.ensures c.made.ensures.made)
 
 pub returns-clause-rows : goal.returns-clause-rows
 returns-clause-rows c =
