@@ -69,7 +69,7 @@ pub use Rattle.record_dim.specs.declared.leaf_type.LeafType.TheVariants.{U64}
 pub use Rattle.piece_bits.proofs.InPlace.{one_more, IsReplaced}
 pub use Rattle.c_lines.specs.Answers.{Answer, Tells, TellsLeft}
 pub use Rattle.c_lines.specs.Agreement.{TablesAgree, TablesLeaveRoom}
-pub use Rattle.c_lines.specs.Told.{told, refusal_of, done_of, in_numbers}
+pub use Rattle.c_lines.specs.Told.{told, refusal_of, store_refusal, done_of, in_numbers}
 pub use Rattle.c_lines.specs.declared.refusal.Refusal.TheVariants.{Narrow, NoMemory, Mismatch}
 pub use Rattle.c_lines.specs.declared.refusal.TextOf.TheVariants.{First}
 pub use Rattle.c_lines.specs.Copies.{was_copied}
@@ -78,7 +78,6 @@ pub use Rattle.c_lines.specs.Relaid.{after_relaid, laid_left, left_anew, relaid,
 pub use Rattle.c_lines.specs.declared.refusal.Refusal.{Refusal}
 pub use Rattle.c_lines.specs.Inner.Steps.{answered}
 pub use Rattle.c_lines.specs.Buffers.{blob_told}
-pub use Rattle.c_lines.specs.Refusals.{store_refusal}
 pub use Rattle.c_lines.specs.CallerRuns.{after_run, told_run, IsFrontStored, IsSet}
 pub use Rattle.c_lines.specs.Values.{reads_signed, reads_unsigned}
 pub use Rattle.c_lines.specs.Inner.Makes.{named_of, new_of, world_of, zeros_for}

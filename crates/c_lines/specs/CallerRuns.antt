@@ -7,7 +7,7 @@ use Rattle.views.specs.declared.fault.LaneFault.{LaneFault}
 use Rattle.views.specs.Tables.{Table, after_log}
 use Rattle.worlds.specs.Outcomes.{refused_by}
 use Rattle.c_lines.specs.Answers.{Answer}
-use Rattle.c_lines.specs.Refusals.{store_refusal}
+use Rattle.c_lines.specs.Told.{store_refusal}
 use Rattle.c_lines.specs.Values.{is_run, read_by}
 use Rattle.c_lines.specs.declared.refusal.Refusal.TheVariants.{NoPlace}
 

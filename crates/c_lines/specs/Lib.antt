@@ -6,7 +6,6 @@ pub mod KernelLines
 pub mod Agreement
 pub mod Answers
 pub mod Faults
-pub mod Refusals
 pub mod Values
 pub mod CallerRuns
 pub mod Buffers

@@ -1,15 +1,17 @@
--- What the model of scripts makes of a command, as the answer of a call.
-use Rattle.std.specs.Prelude.{Ok, Err}
+-- Why a command of the model of scripts or a store is refused, as the answer of a call.
+use Rattle.std.specs.Prelude.{ℕ}
 use Rattle.csv_rows.specs.declared.fault.RowFault.{RowFault}
 use Rattle.csv_rows.specs.declared.fault.RowFault.TheVariants as row
 use Rattle.lane_kernels.specs.declared.fault.KernelFault.{KernelFault}
 use Rattle.lane_kernels.specs.declared.fault.KernelFault.TheVariants as kernel
 use Rattle.layout_copy.specs.Copies.{Spot}
+use Rattle.views.specs.declared.fault.StoreFault.{StoreFault}
+use Rattle.views.specs.declared.fault.StoreFault.TheVariants as store
 use Rattle.worlds.specs.Outcomes.{Tested, ok_or}
 use Rattle.worlds.specs.Wordings.{Wording}
 use Rattle.worlds.specs.declared.fault.CommandFault.{CommandFault}
 use Rattle.worlds.specs.declared.fault.CommandFault.TheVariants as command
-use Rattle.c_lines.specs.Answers.{Answer}
+use Rattle.c_lines.specs.Answers.{Answer, answer_map}
 use Rattle.c_lines.specs.declared.refusal.Refusal.{Refusal}
 use Rattle.c_lines.specs.declared.refusal.Refusal.TheVariants as refusal
 
@@ -29,7 +31,12 @@ refusal_of _ = refusal.NoMemory
 abbrev pub told : {A : Type 0} → Tested A → Answer A
 told outcome = ok_or refusal_of outcome
 
--- the refusal of a dataset
+-- that of a store in a leaf of a row
+abbrev pub store_refusal : ℕ → ℕ → StoreFault → Refusal
+store_refusal at leaf store.Range = refusal.Range at leaf
+store_refusal at leaf store.Narrow = refusal.Narrow at leaf
+
+-- of a dataset
 abbrev pub row_refusal : RowFault → Refusal
 row_refusal (row.MissingColumn leaf) = refusal.MissingColumn leaf
 row_refusal (row.ColumnTwice leaf) = refusal.ColumnTwice leaf
@@ -55,5 +62,4 @@ in_numbers = record { tested = told; of_row = λ fields. row_refusal; of_spot = 
 
 -- an answer that gives nothing
 abbrev pub done_of : {A : Type 0} → Answer A → Answer (Unit {0})
-done_of (Ok given) = Ok tt
-done_of (Err refused) = Err refused
+done_of answer = answer_map (λ given. tt) answer

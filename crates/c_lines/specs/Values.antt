@@ -8,7 +8,7 @@ use Rattle.views.specs.Stores.{without_number}
 use Rattle.views.specs.Tables.{Table, leaf_count_of, leaf_type_of, answer_of}
 use Rattle.worlds.specs.Outcomes.{ok_or}
 use Rattle.c_lines.specs.Answers.{Answer}
-use Rattle.c_lines.specs.Refusals.{store_refusal}
+use Rattle.c_lines.specs.Told.{store_refusal}
 use Rattle.c_lines.specs.declared.refusal.Refusal.TheVariants.{NoPlace, BadType}
 
 -- so many rows from one on, and a leaf, are those of a table

@@ -1,7 +1,7 @@
 ghost use Rattle.std.specs.Prelude.{◌≡◌};
 ghost use Rattle.c_lines.specs.Answers.{refusal_number};
 ghost use Rattle.c_lines.specs.Faults.{cause_of, column_of, extents_cause, fault_of, file_cause, kernel_cause, leaf_named, mapping_cause, record_cause, row_named, text_number};
-ghost use Rattle.c_lines.specs.Refusals.{store_refusal};
+ghost use Rattle.c_lines.specs.Told.{store_refusal};
 
 use extents::BadExtents;
 use map_expr::BadMapping;

@@ -1,7 +1,8 @@
 -- The refusal of a test of a command, as that of a call; the tests here neither read a file nor write.
-use Rattle.std.specs.Prelude.{Result, Ok, Err}
+use Rattle.std.specs.Prelude.{Result}
 use Rattle.command_checks.specs.declared.fault.StepFault.{StepFault}
 use Rattle.command_checks.specs.declared.fault.StepFault.TheVariants as step
+use Rattle.worlds.specs.Outcomes.{ok_or}
 use Rattle.c_lines.specs.Answers.{Answer}
 use Rattle.c_lines.specs.declared.refusal.Refusal.{Refusal}
 use Rattle.c_lines.specs.declared.refusal.Refusal.TheVariants.{NoMemory}
@@ -12,5 +13,4 @@ step_refusal (step.Command fault) = refusal_of fault
 step_refusal _ = NoMemory
 
 abbrev pub answered : {A : Type 0} → Result A StepFault → Answer A
-answered (Ok given) = Ok given
-answered (Err fault) = Err (step_refusal fault)
+answered given = ok_or step_refusal given
