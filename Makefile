@@ -1,6 +1,7 @@
 # make: proves and builds the program. try: runs the script SCRIPT, before anything is proved too. demo: runs examples/first so. install: puts it on the PATH. library: proves and builds the library
-# for C in lib/. install-library: puts it, its header and its pkg-config file below PREFIX.
+# for C in lib/. install-library: puts what stands in lib/ below PREFIX with its header and what finds it; that takes no kit, and where nothing stands there, it is built first.
 PREFIX ?= /usr/local
+below = $(DESTDIR)$(PREFIX)
 
 program = crates/layout_cli/out/layout_cli
 
@@ -19,13 +20,16 @@ install: all
 	install -D -m 755 $(program) $(DESTDIR)$(PREFIX)/bin/llama
 
 library:
-	@PREFIX=$(PREFIX) tools/library lib
+	@tools/library lib
 
-install-library: library
-	install -D -m 644 include/llama.h $(DESTDIR)$(PREFIX)/include/llama.h
-	install -D -m 644 lib/libllama.a $(DESTDIR)$(PREFIX)/lib/libllama.a
-	install -D -m 755 lib/libllama.so $(DESTDIR)$(PREFIX)/lib/libllama.so
-	install -D -m 644 lib/llama.pc $(DESTDIR)$(PREFIX)/lib/pkgconfig/llama.pc
+install-library:
+	@[ -e lib/libllama_layout.a ] || tools/library lib
+	install -d $(below)/include $(below)/lib/pkgconfig $(below)/lib/cmake/llama_layout
+	install -m 644 include/llama_layout.h $(below)/include
+	install -m 644 lib/libllama_layout.a $(below)/lib
+	cp -P lib/libllama_layout.so lib/libllama_layout.so.* $(below)/lib
+	install -m 644 lib/llama_layout.pc $(below)/lib/pkgconfig
+	install -m 644 lib/llama_layoutConfig.cmake lib/llama_layoutConfigVersion.cmake $(below)/lib/cmake/llama_layout
 
 clean:
 	rm -rf lib

@@ -1,7 +1,7 @@
-/* The time of llama_get_run, llama_set_run and llama_get beside C over the same bytes: a leaf of a million rows, as soa, as aosoa and in bits. What
+/* The time of lly_get_run, lly_set_run and lly_get beside C over the same bytes: a leaf of a million rows, as soa, as aosoa and in bits. What
  * stands beside a run is a loop that is not inlined, and beside a single read an accessor that is.
  *
- * gcc -std=gnu99 -O2 -Iinclude bench/runs.c lib/libllama.a -o runs && ./runs 100 [soa | aosoa | bits]
+ * gcc -std=gnu99 -O2 -Iinclude bench/runs.c lib/libllama_layout.a -o runs && ./runs 100 [soa | aosoa | bits]
  */
 #include <inttypes.h>
 #include <stdio.h>
@@ -9,7 +9,7 @@
 #include <string.h>
 #include <time.h>
 
-#include "llama.h"
+#include "llama_layout.h"
 
 /* STRIDE has no factor in common with ROWS, so each row comes once. */
 enum { ROWS = 1000000, LANES = 16, BITS = 20, STRIDE = 17 };
@@ -17,20 +17,20 @@ enum { ROWS = 1000000, LANES = 16, BITS = 20, STRIDE = 17 };
 static int64_t values[ROWS];
 
 static void must(int32_t answer) {
-    if (answer != LLAMA_DONE) {
+    if (answer != LLY_DONE) {
         fprintf(stderr, "a call answers %" PRId32 "\n", answer);
         exit(1);
     }
 }
 
 /* The leaf x of a view of ROWS rows, row r of which is r % 1000. */
-static void make(llama_view *view, const char *line) {
+static void make(lly_view *view, const char *line) {
     static const char record[] = "record P { x: i32, y: u32 }";
-    llama_fault fault = LLAMA_NO_FAULT;
+    lly_fault fault = LLY_NO_FAULT;
     uint64_t row;
-    must(llama_new(view, (const uint8_t *)record, strlen(record), (const uint8_t *)line, strlen(line), &fault));
+    must(lly_new(view, (const uint8_t *)record, strlen(record), (const uint8_t *)line, strlen(line), &fault));
     for (row = 0; row < ROWS; row++) {
-        must(llama_set(view, row, 0, (int64_t)(row % 1000)));
+        must(lly_set(view, row, 0, (int64_t)(row % 1000)));
     }
 }
 
@@ -109,8 +109,8 @@ int main(int argc, char **argv) {
         if (argc > 2 && strcmp(argv[2], names[form]) != 0) {
             continue;
         }
-        llama_view view = LLAMA_NONE;
-        llama_fault fault = LLAMA_NO_FAULT;
+        lly_view view = LLY_NONE;
+        lly_fault fault = LLY_NO_FAULT;
         uint8_t *bytes = bytes_of(form);
         double begin, by_loop, by_run, by_store, by_each, by_get;
         int64_t sum = 0, value = 0;
@@ -123,7 +123,7 @@ int main(int argc, char **argv) {
         by_loop = seconds() - begin;
         begin = seconds();
         for (int round = 0; round < rounds; round++) {
-            must(llama_get_run(&view, 0, 0, values, ROWS));
+            must(lly_get_run(&view, 0, 0, values, ROWS));
             sum -= values[round];
         }
         by_run = seconds() - begin;
@@ -135,7 +135,7 @@ int main(int argc, char **argv) {
         }
         begin = seconds();
         for (int round = 0; round < rounds; round++) {
-            must(llama_set_run(&view, 0, 0, values, ROWS, &fault));
+            must(lly_set_run(&view, 0, 0, values, ROWS, &fault));
         }
         by_store = seconds() - begin;
         begin = seconds();
@@ -143,14 +143,14 @@ int main(int argc, char **argv) {
         by_each = seconds() - begin;
         begin = seconds();
         for (uint64_t k = 0; k < ROWS; k++) {
-            must(llama_get(&view, k * STRIDE % ROWS, 0, &value));
+            must(lly_get(&view, k * STRIDE % ROWS, 0, &value));
             sum -= value;
         }
         by_get = seconds() - begin;
-        printf("%-6s loop %.2f ns, llama_get_run %.2f ns (%.2f times), llama_set_run %.2f ns, accessor %.2f ns, llama_get %.2f ns (%.2f more), sum %" PRId64 "\n",
+        printf("%-6s loop %.2f ns, lly_get_run %.2f ns (%.2f times), lly_set_run %.2f ns, accessor %.2f ns, lly_get %.2f ns (%.2f more), sum %" PRId64 "\n",
                names[form], 1e9 * by_loop / rounds / ROWS, 1e9 * by_run / rounds / ROWS, by_run / by_loop, 1e9 * by_store / rounds / ROWS, 1e9 * by_each / ROWS,
                1e9 * by_get / ROWS, 1e9 * (by_get - by_each) / ROWS, sum);
-        llama_drop(&view);
+        lly_drop(&view);
         free(bytes);
     }
     return 0;

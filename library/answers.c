@@ -1,4 +1,4 @@
-/* Answers of the calls of llama.h: their numbers, what they report of their faults, and what they leave. Those for a lack of memory are not among them. tools/library_examples runs it; it says what
+/* Answers of the calls of llama_layout.h: their numbers, what they report of their faults, and what they leave. Those for a lack of memory are not among them. tools/library_examples runs it; it says what
  * differs, and ends with 0 where nothing does.
  */
 #include <inttypes.h>
@@ -6,7 +6,7 @@
 #include <stdlib.h>
 #include <string.h>
 
-#include "llama.h"
+#include "llama_layout.h"
 
 static int differs = 0;
 
@@ -23,10 +23,10 @@ static int differs = 0;
 
 static const char RECORD[] = "record P { x: i32, n: u16, on: bool, big: u64 }";
 static const char LINE[] = "view V : P [2, 3] as aos(packed, row)";
-static const llama_fault UNTOUCHED = {-7, 71, 72, 73};
+static const lly_fault UNTOUCHED = {-7, 71, 72, 73};
 
 /* A fault, field by field. */
-static void expect_fault(int line, const llama_fault *fault, int32_t cause, uint64_t row, size_t leaf, uint64_t column) {
+static void expect_fault(int line, const lly_fault *fault, int32_t cause, uint64_t row, size_t leaf, uint64_t column) {
     if (fault->cause != cause || fault->row != row || fault->leaf != leaf || fault->column != column) {
         printf("line %d: the fault is %" PRId32 " %" PRIu64 " %zu %" PRIu64 ", and not %" PRId32 " %" PRIu64 " %zu %" PRIu64 "\n", line, fault->cause, fault->row,
                fault->leaf, fault->column, cause, row, leaf, column);
@@ -37,62 +37,62 @@ static void expect_fault(int line, const llama_fault *fault, int32_t cause, uint
 #define EXPECT_FAULT(cause, row, leaf, column) expect_fault(__LINE__, &fault, cause, row, leaf, column)
 #define EXPECT_NO_FAULT() expect_fault(__LINE__, &fault, UNTOUCHED.cause, UNTOUCHED.row, UNTOUCHED.leaf, UNTOUCHED.column)
 
-static void make(llama_view *view, const char *record, const char *line) {
-    llama_fault fault = UNTOUCHED;
-    EXPECT(llama_new(view, TEXT(record), TEXT(line), &fault), LLAMA_DONE);
+static void make(lly_view *view, const char *record, const char *line) {
+    lly_fault fault = UNTOUCHED;
+    EXPECT(lly_new(view, TEXT(record), TEXT(line), &fault), LLY_DONE);
     EXPECT_NO_FAULT();
 }
 
 /* The text of a view, which is asked for twice: for its length, and for itself. */
-static void expect_print(llama_view *view, const char *expected) {
+static void expect_print(lly_view *view, const char *expected) {
     size_t needed = 0;
     uint8_t *text;
-    EXPECT(llama_print(view, NULL, 0, &needed), LLAMA_NO_ROOM);
+    EXPECT(lly_print(view, NULL, 0, &needed), LLY_NO_ROOM);
     EXPECT(needed, strlen(expected));
     text = malloc(needed + 1);
     text[needed] = 0;
-    EXPECT(llama_print(view, text, needed, &needed), LLAMA_DONE);
+    EXPECT(lly_print(view, text, needed, &needed), LLY_DONE);
     EXPECT(strcmp((const char *)text, expected), 0);
     free(text);
 }
 
 static void views_are_refused(void) {
-    llama_view view = LLAMA_NONE;
-    llama_fault fault = UNTOUCHED;
+    lly_view view = LLY_NONE;
+    lly_fault fault = UNTOUCHED;
     char long_line[4098];
     char deep[200] = "view V : P [2] as ";
     size_t k;
     uint64_t rows = 0;
     make(&view, RECORD, LINE);
-    EXPECT(llama_new(&view, TEXT("record P { x i32 }"), TEXT(LINE), &fault), LLAMA_SYNTAX);
-    EXPECT_FAULT(LLAMA_TEXT_FIRST, 0, 0, 14);
-    EXPECT(llama_new(&view, TEXT(RECORD), TEXT("view V : P [2 as aos(packed, row)"), &fault), LLAMA_SYNTAX);
-    EXPECT_FAULT(LLAMA_TEXT_SECOND, 0, 0, 15);
-    EXPECT(llama_new(&view, TEXT(LINE), TEXT(LINE), &fault), LLAMA_OTHER_LINE);
-    EXPECT_FAULT(LLAMA_TEXT_FIRST, 0, 0, 0);
-    EXPECT(llama_new(&view, TEXT(RECORD), TEXT(RECORD), &fault), LLAMA_OTHER_LINE);
-    EXPECT_FAULT(LLAMA_TEXT_SECOND, 0, 0, 0);
+    EXPECT(lly_new(&view, TEXT("record P { x i32 }"), TEXT(LINE), &fault), LLY_SYNTAX);
+    EXPECT_FAULT(LLY_TEXT_FIRST, 0, 0, 14);
+    EXPECT(lly_new(&view, TEXT(RECORD), TEXT("view V : P [2 as aos(packed, row)"), &fault), LLY_SYNTAX);
+    EXPECT_FAULT(LLY_TEXT_SECOND, 0, 0, 15);
+    EXPECT(lly_new(&view, TEXT(LINE), TEXT(LINE), &fault), LLY_OTHER_LINE);
+    EXPECT_FAULT(LLY_TEXT_FIRST, 0, 0, 0);
+    EXPECT(lly_new(&view, TEXT(RECORD), TEXT(RECORD), &fault), LLY_OTHER_LINE);
+    EXPECT_FAULT(LLY_TEXT_SECOND, 0, 0, 0);
     memset(long_line, ' ', 4097);
-    EXPECT(llama_new(&view, (const uint8_t *)long_line, 4097, TEXT(LINE), &fault), LLAMA_LINE_TOO_LONG);
-    EXPECT_FAULT(LLAMA_TEXT_FIRST, 0, 0, 0);
-    EXPECT(llama_new(&view, (const uint8_t *)long_line, 4096, TEXT(LINE), &fault), LLAMA_OTHER_LINE);
-    EXPECT_FAULT(LLAMA_TEXT_FIRST, 0, 0, 0);
-    EXPECT(llama_new(&view, TEXT(RECORD), TEXT("view V : Q [2] as aos(packed, row)"), &fault), LLAMA_UNKNOWN);
+    EXPECT(lly_new(&view, (const uint8_t *)long_line, 4097, TEXT(LINE), &fault), LLY_LINE_TOO_LONG);
+    EXPECT_FAULT(LLY_TEXT_FIRST, 0, 0, 0);
+    EXPECT(lly_new(&view, (const uint8_t *)long_line, 4096, TEXT(LINE), &fault), LLY_OTHER_LINE);
+    EXPECT_FAULT(LLY_TEXT_FIRST, 0, 0, 0);
+    EXPECT(lly_new(&view, TEXT(RECORD), TEXT("view V : Q [2] as aos(packed, row)"), &fault), LLY_UNKNOWN);
     EXPECT_FAULT(0, 0, 0, 0);
-    EXPECT(llama_new(&view, TEXT(RECORD), TEXT("view V : P [2] as Layout"), &fault), LLAMA_UNKNOWN);
-    EXPECT(llama_new(&view, TEXT("record P { x: i32, x: i8 }"), TEXT(LINE), &fault), LLAMA_BAD_RECORD);
-    EXPECT_FAULT(LLAMA_RECORD_TWICE, 0, 0, 0);
-    EXPECT(llama_new(&view, TEXT("record P { x: i32[65] }"), TEXT(LINE), &fault), LLAMA_BAD_RECORD);
-    EXPECT_FAULT(LLAMA_RECORD_TOO_MANY_LEAVES, 0, 0, 0);
-    EXPECT(llama_new(&view, TEXT(RECORD), TEXT("view V : P [1, 1, 1, 1, 1] as aos(packed, row)"), &fault), LLAMA_BAD_EXTENTS);
-    EXPECT_FAULT(LLAMA_EXTENTS_RANK, 0, 0, 0);
-    EXPECT(llama_new(&view, TEXT(RECORD), TEXT("view V : P [16777217] as aos(packed, row)"), &fault), LLAMA_BAD_EXTENTS);
-    EXPECT_FAULT(LLAMA_EXTENTS_TOO_MANY, 0, 0, 0);
-    EXPECT(llama_new(&view, TEXT(RECORD), TEXT("view V : P [2] as aosoa(65, row)"), &fault), LLAMA_BAD_MAPPING);
-    EXPECT_FAULT(LLAMA_MAPPING_LANES, 0, 0, 0);
-    EXPECT(llama_new(&view, TEXT(RECORD), TEXT("view V : P [2] as byteswap(bitaos(8, row))"), &fault), LLAMA_BAD_MAPPING);
-    EXPECT_FAULT(LLAMA_MAPPING_NOT_FULL, 0, 0, 0);
-    EXPECT(llama_new(&view, TEXT("record P { x: u64[64] }"), TEXT("view V : P [16777216] as aos(packed, row)"), &fault), LLAMA_TOO_BIG);
+    EXPECT(lly_new(&view, TEXT(RECORD), TEXT("view V : P [2] as Layout"), &fault), LLY_UNKNOWN);
+    EXPECT(lly_new(&view, TEXT("record P { x: i32, x: i8 }"), TEXT(LINE), &fault), LLY_BAD_RECORD);
+    EXPECT_FAULT(LLY_RECORD_TWICE, 0, 0, 0);
+    EXPECT(lly_new(&view, TEXT("record P { x: i32[65] }"), TEXT(LINE), &fault), LLY_BAD_RECORD);
+    EXPECT_FAULT(LLY_RECORD_TOO_MANY_LEAVES, 0, 0, 0);
+    EXPECT(lly_new(&view, TEXT(RECORD), TEXT("view V : P [1, 1, 1, 1, 1] as aos(packed, row)"), &fault), LLY_BAD_EXTENTS);
+    EXPECT_FAULT(LLY_EXTENTS_RANK, 0, 0, 0);
+    EXPECT(lly_new(&view, TEXT(RECORD), TEXT("view V : P [16777217] as aos(packed, row)"), &fault), LLY_BAD_EXTENTS);
+    EXPECT_FAULT(LLY_EXTENTS_TOO_MANY, 0, 0, 0);
+    EXPECT(lly_new(&view, TEXT(RECORD), TEXT("view V : P [2] as aosoa(65, row)"), &fault), LLY_BAD_MAPPING);
+    EXPECT_FAULT(LLY_MAPPING_LANES, 0, 0, 0);
+    EXPECT(lly_new(&view, TEXT(RECORD), TEXT("view V : P [2] as byteswap(bitaos(8, row))"), &fault), LLY_BAD_MAPPING);
+    EXPECT_FAULT(LLY_MAPPING_NOT_FULL, 0, 0, 0);
+    EXPECT(lly_new(&view, TEXT("record P { x: u64[64] }"), TEXT("view V : P [16777216] as aos(packed, row)"), &fault), LLY_TOO_BIG);
     EXPECT_FAULT(0, 0, 0, 0);
     for (k = 0; k < 9; k++) {
         strcat(deep, "byteswap(");
@@ -101,116 +101,116 @@ static void views_are_refused(void) {
     for (k = 0; k < 9; k++) {
         strcat(deep, ")");
     }
-    EXPECT(llama_new(&view, TEXT(RECORD), TEXT(deep), &fault), LLAMA_BAD_MAPPING);
-    EXPECT_FAULT(LLAMA_MAPPING_TOO_DEEP, 0, 0, 0);
-    EXPECT(llama_rows(&view, &rows), LLAMA_DONE);
+    EXPECT(lly_new(&view, TEXT(RECORD), TEXT(deep), &fault), LLY_BAD_MAPPING);
+    EXPECT_FAULT(LLY_MAPPING_TOO_DEEP, 0, 0, 0);
+    EXPECT(lly_rows(&view, &rows), LLY_DONE);
     EXPECT(rows, 6);
-    llama_drop(&view);
-    llama_drop(&view);
+    lly_drop(&view);
+    lly_drop(&view);
     EXPECT(view.full, 0);
 }
 
 static void datasets_are_loaded(void) {
     static const char line[] = "load V : P [2, ?] as soa(multi, col) from \"any\"";
-    llama_view view = LLAMA_NONE;
-    llama_fault fault = UNTOUCHED;
+    lly_view view = LLY_NONE;
+    lly_fault fault = UNTOUCHED;
     uint64_t rows = 0;
-    EXPECT(llama_load(&view, TEXT(RECORD), TEXT(line), TEXT("on,big,n,x,other\n1,18446744073709551615,7,-5,a\n0,0,8,6,b\n"), &fault), LLAMA_DONE);
+    EXPECT(lly_load(&view, TEXT(RECORD), TEXT(line), TEXT("on,big,n,x,other\n1,18446744073709551615,7,-5,a\n0,0,8,6,b\n"), &fault), LLY_DONE);
     EXPECT_NO_FAULT();
     expect_print(&view, "x,n,on,big\n-5,7,1,18446744073709551615\n6,8,0,0\n");
-    EXPECT(llama_load(&view, TEXT(RECORD), TEXT(line), TEXT("on,big,n,x\n1,2,3,4\n1,2,3,4\n0,0,8,6\n"), &fault), LLAMA_BAD_EXTENTS);
-    EXPECT_FAULT(LLAMA_EXTENTS_NOT_DIVISIBLE, 0, 0, 0);
-    EXPECT(llama_load(&view, TEXT(RECORD), TEXT("load V : P [3] as aos(min, row) from \"any\""), TEXT("on,big,n,x\n1,2,3,4\n"), &fault), LLAMA_BAD_EXTENTS);
-    EXPECT_FAULT(LLAMA_EXTENTS_NOT_EQUAL, 0, 0, 0);
-    EXPECT(llama_load(&view, TEXT(RECORD), TEXT(line), TEXT("on,big,x\n1,2,3\n1,2,3\n"), &fault), LLAMA_MISSING_COLUMN);
+    EXPECT(lly_load(&view, TEXT(RECORD), TEXT(line), TEXT("on,big,n,x\n1,2,3,4\n1,2,3,4\n0,0,8,6\n"), &fault), LLY_BAD_EXTENTS);
+    EXPECT_FAULT(LLY_EXTENTS_NOT_DIVISIBLE, 0, 0, 0);
+    EXPECT(lly_load(&view, TEXT(RECORD), TEXT("load V : P [3] as aos(min, row) from \"any\""), TEXT("on,big,n,x\n1,2,3,4\n"), &fault), LLY_BAD_EXTENTS);
+    EXPECT_FAULT(LLY_EXTENTS_NOT_EQUAL, 0, 0, 0);
+    EXPECT(lly_load(&view, TEXT(RECORD), TEXT(line), TEXT("on,big,x\n1,2,3\n1,2,3\n"), &fault), LLY_MISSING_COLUMN);
     EXPECT_FAULT(0, 0, 1, 0);
-    EXPECT(llama_load(&view, TEXT(RECORD), TEXT(line), TEXT("x,n,on,big,on\n1,2,1,4,5\n1,2,1,4,5\n"), &fault), LLAMA_COLUMN_TWICE);
+    EXPECT(lly_load(&view, TEXT(RECORD), TEXT(line), TEXT("x,n,on,big,on\n1,2,1,4,5\n1,2,1,4,5\n"), &fault), LLY_COLUMN_TWICE);
     EXPECT_FAULT(0, 0, 2, 0);
-    EXPECT(llama_load(&view, TEXT(RECORD), TEXT(line), TEXT("x,n,on,big\n1,2,1,4\n1,2,1\n"), &fault), LLAMA_SHORT_ROW);
+    EXPECT(lly_load(&view, TEXT(RECORD), TEXT(line), TEXT("x,n,on,big\n1,2,1,4\n1,2,1\n"), &fault), LLY_SHORT_ROW);
     EXPECT_FAULT(0, 1, 3, 0);
-    EXPECT(llama_load(&view, TEXT(RECORD), TEXT(line), TEXT("x,n,on,big\n1,two,1,4\n1,2,1,4\n"), &fault), LLAMA_NUMBER);
+    EXPECT(lly_load(&view, TEXT(RECORD), TEXT(line), TEXT("x,n,on,big\n1,two,1,4\n1,2,1,4\n"), &fault), LLY_NUMBER);
     EXPECT_FAULT(0, 0, 1, 0);
-    EXPECT(llama_load(&view, TEXT(RECORD), TEXT(line), TEXT("x,n,on,big\n1,2,1,4\n1,65536,1,4\n"), &fault), LLAMA_RANGE);
+    EXPECT(lly_load(&view, TEXT(RECORD), TEXT(line), TEXT("x,n,on,big\n1,2,1,4\n1,65536,1,4\n"), &fault), LLY_RANGE);
     EXPECT_FAULT(0, 1, 1, 0);
-    EXPECT(llama_load(&view, TEXT(RECORD), TEXT("load V : P [?] as bitaos(4, row) from \"any\""), TEXT("x,n,on,big\n7,2,1,4\n8,2,1,4\n"), &fault), LLAMA_NARROW);
+    EXPECT(lly_load(&view, TEXT(RECORD), TEXT("load V : P [?] as bitaos(4, row) from \"any\""), TEXT("x,n,on,big\n7,2,1,4\n8,2,1,4\n"), &fault), LLY_NARROW);
     EXPECT_FAULT(0, 1, 0, 0);
-    EXPECT(llama_load(&view, TEXT(RECORD), TEXT(LINE), TEXT("x,n,on,big\n"), &fault), LLAMA_OTHER_LINE);
-    EXPECT_FAULT(LLAMA_TEXT_SECOND, 0, 0, 0);
-    EXPECT(llama_new(&view, TEXT(RECORD), TEXT(line), &fault), LLAMA_OTHER_LINE);
-    EXPECT_FAULT(LLAMA_TEXT_SECOND, 0, 0, 0);
-    EXPECT(llama_rows(&view, &rows), LLAMA_DONE);
+    EXPECT(lly_load(&view, TEXT(RECORD), TEXT(LINE), TEXT("x,n,on,big\n"), &fault), LLY_OTHER_LINE);
+    EXPECT_FAULT(LLY_TEXT_SECOND, 0, 0, 0);
+    EXPECT(lly_new(&view, TEXT(RECORD), TEXT(line), &fault), LLY_OTHER_LINE);
+    EXPECT_FAULT(LLY_TEXT_SECOND, 0, 0, 0);
+    EXPECT(lly_rows(&view, &rows), LLY_DONE);
     EXPECT(rows, 2);
-    llama_drop(&view);
+    lly_drop(&view);
 }
 
 static void places_are_found(void) {
-    llama_view view = LLAMA_NONE;
+    lly_view view = LLY_NONE;
     const uint64_t last[] = {1, 2}, outside[] = {2, 0};
     uint64_t row = 9, rows = 9;
     size_t leaf = 9, leaves = 9, blobs = 9;
-    EXPECT(llama_rows(&view, &rows), LLAMA_NO_VIEW);
-    EXPECT(llama_leaves(&view, &leaves), LLAMA_NO_VIEW);
-    EXPECT(llama_blobs(&view, &blobs), LLAMA_NO_VIEW);
-    EXPECT(llama_row(&view, last, 2, &row), LLAMA_NO_VIEW);
-    EXPECT(llama_leaf(&view, TEXT("n"), &leaf), LLAMA_NO_VIEW);
+    EXPECT(lly_rows(&view, &rows), LLY_NO_VIEW);
+    EXPECT(lly_leaves(&view, &leaves), LLY_NO_VIEW);
+    EXPECT(lly_blobs(&view, &blobs), LLY_NO_VIEW);
+    EXPECT(lly_row(&view, last, 2, &row), LLY_NO_VIEW);
+    EXPECT(lly_leaf(&view, TEXT("n"), &leaf), LLY_NO_VIEW);
     make(&view, "record P { pos { x: i32, y: i32 }, h: u8[3] }", "view V : P [2, 3] as split(pos, soa(multi, row), aos(packed, row))");
-    EXPECT(llama_rows(&view, &rows), LLAMA_DONE);
+    EXPECT(lly_rows(&view, &rows), LLY_DONE);
     EXPECT(rows, 6);
-    EXPECT(llama_leaves(&view, &leaves), LLAMA_DONE);
+    EXPECT(lly_leaves(&view, &leaves), LLY_DONE);
     EXPECT(leaves, 5);
-    EXPECT(llama_blobs(&view, &blobs), LLAMA_DONE);
+    EXPECT(lly_blobs(&view, &blobs), LLY_DONE);
     EXPECT(blobs, 3);
-    EXPECT(llama_row(&view, outside, 2, &row), LLAMA_NO_PLACE);
-    EXPECT(llama_row(&view, last, 1, &row), LLAMA_NO_PLACE);
-    EXPECT(llama_row(&view, NULL, 0, &row), LLAMA_NO_PLACE);
+    EXPECT(lly_row(&view, outside, 2, &row), LLY_NO_PLACE);
+    EXPECT(lly_row(&view, last, 1, &row), LLY_NO_PLACE);
+    EXPECT(lly_row(&view, NULL, 0, &row), LLY_NO_PLACE);
     EXPECT(row, 9);
-    EXPECT(llama_row(&view, last, 2, &row), LLAMA_DONE);
+    EXPECT(lly_row(&view, last, 2, &row), LLY_DONE);
     EXPECT(row, 5);
-    EXPECT(llama_leaf(&view, TEXT("pos"), &leaf), LLAMA_NO_PLACE);
-    EXPECT(llama_leaf(&view, NULL, 0, &leaf), LLAMA_NO_PLACE);
+    EXPECT(lly_leaf(&view, TEXT("pos"), &leaf), LLY_NO_PLACE);
+    EXPECT(lly_leaf(&view, NULL, 0, &leaf), LLY_NO_PLACE);
     EXPECT(leaf, 9);
-    EXPECT(llama_leaf(&view, TEXT("pos.y"), &leaf), LLAMA_DONE);
+    EXPECT(lly_leaf(&view, TEXT("pos.y"), &leaf), LLY_DONE);
     EXPECT(leaf, 1);
-    EXPECT(llama_leaf(&view, TEXT("h[2]"), &leaf), LLAMA_DONE);
+    EXPECT(lly_leaf(&view, TEXT("h[2]"), &leaf), LLY_DONE);
     EXPECT(leaf, 4);
-    llama_drop(&view);
+    lly_drop(&view);
 }
 
 static void values_are_read_and_stored(void) {
-    llama_view view = LLAMA_NONE;
+    lly_view view = LLY_NONE;
     int64_t value = 9;
     uint64_t natural = 9;
-    EXPECT(llama_get(&view, 0, 0, &value), LLAMA_NO_VIEW);
-    EXPECT(llama_set_u64(&view, 0, 0, 1), LLAMA_NO_VIEW);
+    EXPECT(lly_get(&view, 0, 0, &value), LLY_NO_VIEW);
+    EXPECT(lly_set_u64(&view, 0, 0, 1), LLY_NO_VIEW);
     make(&view, RECORD, "view V : P [2, 3] as bitsoa(16 { big: 64 }, row)");
-    EXPECT(llama_set(&view, 5, 0, -32768), LLAMA_DONE);
-    EXPECT(llama_set(&view, 5, 0, 32768), LLAMA_NARROW);
-    EXPECT(llama_set(&view, 5, 0, INT64_C(1) << 40), LLAMA_RANGE);
-    EXPECT(llama_set(&view, 6, 0, 1), LLAMA_NO_PLACE);
-    EXPECT(llama_set(&view, 0, 4, 1), LLAMA_NO_PLACE);
-    EXPECT(llama_set_u64(&view, 1, 3, UINT64_MAX), LLAMA_DONE);
-    EXPECT(llama_set(&view, 1, 3, -1), LLAMA_RANGE);
-    EXPECT(llama_get(&view, 5, 0, &value), LLAMA_DONE);
+    EXPECT(lly_set(&view, 5, 0, -32768), LLY_DONE);
+    EXPECT(lly_set(&view, 5, 0, 32768), LLY_NARROW);
+    EXPECT(lly_set(&view, 5, 0, INT64_C(1) << 40), LLY_RANGE);
+    EXPECT(lly_set(&view, 6, 0, 1), LLY_NO_PLACE);
+    EXPECT(lly_set(&view, 0, 4, 1), LLY_NO_PLACE);
+    EXPECT(lly_set_u64(&view, 1, 3, UINT64_MAX), LLY_DONE);
+    EXPECT(lly_set(&view, 1, 3, -1), LLY_RANGE);
+    EXPECT(lly_get(&view, 5, 0, &value), LLY_DONE);
     EXPECT(value, -32768);
-    EXPECT(llama_get(&view, 1, 3, &value), LLAMA_BAD_TYPE);
-    EXPECT(llama_get_u64(&view, 5, 0, &natural), LLAMA_BAD_TYPE);
-    EXPECT(llama_get_u64(&view, 6, 3, &natural), LLAMA_NO_PLACE);
+    EXPECT(lly_get(&view, 1, 3, &value), LLY_BAD_TYPE);
+    EXPECT(lly_get_u64(&view, 5, 0, &natural), LLY_BAD_TYPE);
+    EXPECT(lly_get_u64(&view, 6, 3, &natural), LLY_NO_PLACE);
     EXPECT(value, -32768);
     EXPECT(natural, 9);
-    EXPECT(llama_get_u64(&view, 1, 3, &natural), LLAMA_DONE);
+    EXPECT(lly_get_u64(&view, 1, 3, &natural), LLY_DONE);
     EXPECT(natural == UINT64_MAX, 1);
-    llama_drop(&view);
+    lly_drop(&view);
     make(&view, RECORD, "view V : P [2] wrap as aos(packed, row)");
-    EXPECT(llama_set(&view, 0, 1, -1), LLAMA_DONE);
-    EXPECT(llama_get(&view, 0, 1, &value), LLAMA_DONE);
+    EXPECT(lly_set(&view, 0, 1, -1), LLY_DONE);
+    EXPECT(lly_get(&view, 0, 1, &value), LLY_DONE);
     EXPECT(value, 65535);
-    llama_drop(&view);
+    lly_drop(&view);
 }
 
 /* A run of 100 rows under a layout, from and to each type, with the rows that stand before and behind it. */
 static void runs_under(const char *line) {
-    llama_view view = LLAMA_NONE;
-    llama_fault fault = UNTOUCHED;
+    lly_view view = LLY_NONE;
+    lly_fault fault = UNTOUCHED;
     int64_t values[100], read[100];
     uint64_t naturals[100], read_naturals[100];
     uint64_t first;
@@ -221,20 +221,20 @@ static void runs_under(const char *line) {
             values[k] = (int64_t)k * 300 - 15000;
             naturals[k] = k * 655;
         }
-        EXPECT(llama_set_run(&view, first, 0, values, 100, &fault), LLAMA_DONE);
-        EXPECT(llama_set_run_u64(&view, first, 1, naturals, 100, &fault), LLAMA_DONE);
+        EXPECT(lly_set_run(&view, first, 0, values, 100, &fault), LLY_DONE);
+        EXPECT(lly_set_run_u64(&view, first, 1, naturals, 100, &fault), LLY_DONE);
         EXPECT_NO_FAULT();
         memset(read, 0, sizeof read);
         memset(read_naturals, 0, sizeof read_naturals);
-        EXPECT(llama_get_run(&view, first, 0, read, 100), LLAMA_DONE);
-        EXPECT(llama_get_run_u64(&view, first, 1, read_naturals, 100), LLAMA_DONE);
+        EXPECT(lly_get_run(&view, first, 0, read, 100), LLY_DONE);
+        EXPECT(lly_get_run_u64(&view, first, 1, read_naturals, 100), LLY_DONE);
         EXPECT(memcmp(values, read, sizeof values), 0);
         EXPECT(memcmp(naturals, read_naturals, sizeof naturals), 0);
-        EXPECT(llama_get_run(&view, first, 1, read, 100), LLAMA_DONE);
+        EXPECT(lly_get_run(&view, first, 1, read, 100), LLY_DONE);
         EXPECT(read[99], 64845);
         for (k = 0; k < 100; k++) {
             int64_t value = 0;
-            EXPECT(llama_get(&view, first + k, 0, &value), LLAMA_DONE);
+            EXPECT(lly_get(&view, first + k, 0, &value), LLY_DONE);
             EXPECT(value, values[k]);
         }
     }
@@ -243,30 +243,30 @@ static void runs_under(const char *line) {
         values[k] = 40000 + (int64_t)k;
         naturals[k] = k == 70 ? UINT64_MAX : 7;
     }
-    EXPECT(llama_set_run(&view, 1, 1, values, 100, &fault), LLAMA_DONE);
+    EXPECT(lly_set_run(&view, 1, 1, values, 100, &fault), LLY_DONE);
     values[37] = 65536;
     values[60] = -1;
-    EXPECT(llama_set_run(&view, 3, 1, values, 100, &fault), LLAMA_RANGE);
+    EXPECT(lly_set_run(&view, 3, 1, values, 100, &fault), LLY_RANGE);
     EXPECT_FAULT(0, 40, 1, 0);
-    EXPECT(llama_get_run(&view, 0, 1, read, 100), LLAMA_DONE);
+    EXPECT(lly_get_run(&view, 0, 1, read, 100), LLY_DONE);
     EXPECT(read[39], 40036);
     EXPECT(read[40], 40039);
-    EXPECT(llama_set_run_u64(&view, 0, 0, naturals, 100, &fault), LLAMA_RANGE);
+    EXPECT(lly_set_run_u64(&view, 0, 0, naturals, 100, &fault), LLY_RANGE);
     EXPECT_FAULT(0, 70, 0, 0);
-    EXPECT(llama_get_run(&view, 0, 0, read, 100), LLAMA_DONE);
+    EXPECT(lly_get_run(&view, 0, 0, read, 100), LLY_DONE);
     EXPECT(read[69], 7);
     EXPECT(read[70] != 7, 1);
-    EXPECT(llama_get_run_u64(&view, 0, 0, read_naturals, 1), LLAMA_BAD_TYPE);
-    EXPECT(llama_get_run(&view, 101, 0, read, 100), LLAMA_NO_PLACE);
-    EXPECT(llama_get_run(&view, UINT64_MAX, 0, read, 1), LLAMA_NO_PLACE);
-    EXPECT(llama_get_run(&view, 200, 0, read, 0), LLAMA_DONE);
-    EXPECT(llama_get_run(&view, 0, 0, NULL, 0), LLAMA_DONE);
-    EXPECT(llama_set_run(&view, 0, 2, values, 1, &fault), LLAMA_NO_PLACE);
+    EXPECT(lly_get_run_u64(&view, 0, 0, read_naturals, 1), LLY_BAD_TYPE);
+    EXPECT(lly_get_run(&view, 101, 0, read, 100), LLY_NO_PLACE);
+    EXPECT(lly_get_run(&view, UINT64_MAX, 0, read, 1), LLY_NO_PLACE);
+    EXPECT(lly_get_run(&view, 200, 0, read, 0), LLY_DONE);
+    EXPECT(lly_get_run(&view, 0, 0, NULL, 0), LLY_DONE);
+    EXPECT(lly_set_run(&view, 0, 2, values, 1, &fault), LLY_NO_PLACE);
     EXPECT_FAULT(0, 0, 0, 0);
-    llama_drop(&view);
-    EXPECT(llama_get_run(&view, 0, 0, read, 1), LLAMA_NO_VIEW);
-    EXPECT(llama_set_run(&view, 0, 0, values, 1, &fault), LLAMA_NO_VIEW);
-    EXPECT(llama_set_run_u64(&view, 0, 0, naturals, 1, &fault), LLAMA_NO_VIEW);
+    lly_drop(&view);
+    EXPECT(lly_get_run(&view, 0, 0, read, 1), LLY_NO_VIEW);
+    EXPECT(lly_set_run(&view, 0, 0, values, 1, &fault), LLY_NO_VIEW);
+    EXPECT(lly_set_run_u64(&view, 0, 0, naturals, 1, &fault), LLY_NO_VIEW);
 }
 
 static void runs_are_read_and_stored(void) {
@@ -283,217 +283,217 @@ static void runs_are_read_and_stored(void) {
 }
 
 static void tables_are_copied(void) {
-    llama_view source = LLAMA_NONE, target = LLAMA_NONE;
-    llama_fault fault = UNTOUCHED;
-    EXPECT(llama_copy(&source, &target, &fault), LLAMA_NO_VIEW);
+    lly_view source = LLY_NONE, target = LLY_NONE;
+    lly_fault fault = UNTOUCHED;
+    EXPECT(lly_copy(&source, &target, &fault), LLY_NO_VIEW);
     EXPECT_FAULT(0, 0, 0, 0);
     make(&source, "record P { x: i32, n: u16 }", "view V : P [3] as aos(packed, row)");
-    EXPECT(llama_copy(&source, &target, &fault), LLAMA_NO_VIEW);
-    EXPECT(llama_copy(&target, &source, &fault), LLAMA_NO_VIEW);
-    EXPECT(llama_copy(&source, &source, &fault), LLAMA_SAME);
+    EXPECT(lly_copy(&source, &target, &fault), LLY_NO_VIEW);
+    EXPECT(lly_copy(&target, &source, &fault), LLY_NO_VIEW);
+    EXPECT(lly_copy(&source, &source, &fault), LLY_SAME);
     make(&target, "record P { x: i32, n: u16 }", "view V : P [3, 1] as soa(multi, row)");
-    EXPECT(llama_copy(&source, &target, &fault), LLAMA_MISMATCH);
+    EXPECT(lly_copy(&source, &target, &fault), LLY_MISMATCH);
     EXPECT_FAULT(0, 0, 0, 0);
     make(&target, "record P { x: i32, n: u16 }", "view V : P [3] as bitaos(9, row)");
-    EXPECT(llama_set(&source, 0, 0, -256), LLAMA_DONE);
-    EXPECT(llama_set(&source, 1, 1, 512), LLAMA_DONE);
-    EXPECT(llama_copy(&source, &target, &fault), LLAMA_NARROW);
+    EXPECT(lly_set(&source, 0, 0, -256), LLY_DONE);
+    EXPECT(lly_set(&source, 1, 1, 512), LLY_DONE);
+    EXPECT(lly_copy(&source, &target, &fault), LLY_NARROW);
     EXPECT_FAULT(0, 1, 1, 0);
     expect_print(&target, "x,n\n-256,0\n0,0\n0,0\n");
     fault = UNTOUCHED;
-    EXPECT(llama_set(&source, 1, 1, 511), LLAMA_DONE);
-    EXPECT(llama_copy(&source, &target, &fault), LLAMA_DONE);
+    EXPECT(lly_set(&source, 1, 1, 511), LLY_DONE);
+    EXPECT(lly_copy(&source, &target, &fault), LLY_DONE);
     EXPECT_NO_FAULT();
     expect_print(&target, "x,n\n-256,0\n0,511\n0,0\n");
-    llama_drop(&source);
-    llama_drop(&target);
+    lly_drop(&source);
+    lly_drop(&target);
 }
 
 static void tables_are_laid_anew(void) {
-    llama_view view = LLAMA_NONE;
-    llama_fault fault = UNTOUCHED;
+    lly_view view = LLY_NONE;
+    lly_fault fault = UNTOUCHED;
     size_t blobs = 0;
-    EXPECT(llama_relayout(&view, TEXT("relayout V as aos(min, row)"), &fault), LLAMA_NO_VIEW);
+    EXPECT(lly_relayout(&view, TEXT("relayout V as aos(min, row)"), &fault), LLY_NO_VIEW);
     EXPECT_FAULT(0, 0, 0, 0);
     make(&view, "record P { x: i32, n: u16 }", "view V : P [2] as aos(packed, row)");
-    EXPECT(llama_set(&view, 1, 0, -9), LLAMA_DONE);
+    EXPECT(lly_set(&view, 1, 0, -9), LLY_DONE);
     fault = UNTOUCHED;
-    EXPECT(llama_relayout(&view, TEXT("relayout Any as soa(multi, row)"), &fault), LLAMA_DONE);
+    EXPECT(lly_relayout(&view, TEXT("relayout Any as soa(multi, row)"), &fault), LLY_DONE);
     EXPECT_NO_FAULT();
-    EXPECT(llama_blobs(&view, &blobs), LLAMA_DONE);
+    EXPECT(lly_blobs(&view, &blobs), LLY_DONE);
     EXPECT(blobs, 2);
-    EXPECT(llama_relayout(&view, TEXT("relayout V as bitaos(4, row)"), &fault), LLAMA_NARROW);
+    EXPECT(lly_relayout(&view, TEXT("relayout V as bitaos(4, row)"), &fault), LLY_NARROW);
     EXPECT_FAULT(0, 1, 0, 0);
-    EXPECT(llama_relayout(&view, TEXT("relayout V as bitaos(0, row)"), &fault), LLAMA_BAD_MAPPING);
-    EXPECT_FAULT(LLAMA_MAPPING_WIDTH, 0, 0, 0);
-    EXPECT(llama_relayout(&view, TEXT("relayout V as Layout"), &fault), LLAMA_UNKNOWN);
-    EXPECT(llama_relayout(&view, TEXT("relayout V as"), &fault), LLAMA_SYNTAX);
-    EXPECT_FAULT(LLAMA_TEXT_FIRST, 0, 0, 14);
-    EXPECT(llama_relayout(&view, TEXT("print V"), &fault), LLAMA_OTHER_LINE);
-    EXPECT_FAULT(LLAMA_TEXT_FIRST, 0, 0, 0);
-    EXPECT(llama_blobs(&view, &blobs), LLAMA_DONE);
+    EXPECT(lly_relayout(&view, TEXT("relayout V as bitaos(0, row)"), &fault), LLY_BAD_MAPPING);
+    EXPECT_FAULT(LLY_MAPPING_WIDTH, 0, 0, 0);
+    EXPECT(lly_relayout(&view, TEXT("relayout V as Layout"), &fault), LLY_UNKNOWN);
+    EXPECT(lly_relayout(&view, TEXT("relayout V as"), &fault), LLY_SYNTAX);
+    EXPECT_FAULT(LLY_TEXT_FIRST, 0, 0, 14);
+    EXPECT(lly_relayout(&view, TEXT("print V"), &fault), LLY_OTHER_LINE);
+    EXPECT_FAULT(LLY_TEXT_FIRST, 0, 0, 0);
+    EXPECT(lly_blobs(&view, &blobs), LLY_DONE);
     EXPECT(blobs, 2);
     expect_print(&view, "x,n\n0,0\n-9,0\n");
-    llama_drop(&view);
+    lly_drop(&view);
 }
 
 static void kernels_run(void) {
-    llama_view view = LLAMA_NONE;
-    llama_fault fault = UNTOUCHED;
+    lly_view view = LLY_NONE;
+    lly_fault fault = UNTOUCHED;
     int64_t value = 9;
-    EXPECT(llama_kernel(&view, TEXT("kernel V sum(x) lanes 8"), &value, &fault), LLAMA_NO_VIEW);
-    EXPECT(llama_load(&view, TEXT("record P { x: i32, n: u16, big: i64 }"), TEXT("load V : P [?] as soa(multi, row) from \"any\""), TEXT("x,n,big\n5,1,0\n-7,2,0\n30,3,0\n"), &fault),
-           LLAMA_DONE);
+    EXPECT(lly_kernel(&view, TEXT("kernel V sum(x) lanes 8"), &value, &fault), LLY_NO_VIEW);
+    EXPECT(lly_load(&view, TEXT("record P { x: i32, n: u16, big: i64 }"), TEXT("load V : P [?] as soa(multi, row) from \"any\""), TEXT("x,n,big\n5,1,0\n-7,2,0\n30,3,0\n"), &fault),
+           LLY_DONE);
     fault = UNTOUCHED;
-    EXPECT(llama_kernel(&view, TEXT("kernel Any sum(x) lanes 8"), &value, &fault), LLAMA_DONE);
+    EXPECT(lly_kernel(&view, TEXT("kernel Any sum(x) lanes 8"), &value, &fault), LLY_DONE);
     EXPECT(value, 28);
-    EXPECT(llama_kernel(&view, TEXT("kernel V least(x) lanes 1"), &value, &fault), LLAMA_DONE);
+    EXPECT(lly_kernel(&view, TEXT("kernel V least(x) lanes 1"), &value, &fault), LLY_DONE);
     EXPECT(value, -7);
-    EXPECT(llama_kernel(&view, TEXT("kernel V axpy(10, n, x) lanes 4"), &value, &fault), LLAMA_DONE);
+    EXPECT(lly_kernel(&view, TEXT("kernel V axpy(10, n, x) lanes 4"), &value, &fault), LLY_DONE);
     EXPECT(value, -7);
     EXPECT_NO_FAULT();
     expect_print(&view, "x,n,big\n15,1,0\n13,2,0\n60,3,0\n");
-    EXPECT(llama_kernel(&view, TEXT("kernel V axpy(32000, x, n) lanes 16"), &value, &fault), LLAMA_RANGE);
+    EXPECT(lly_kernel(&view, TEXT("kernel V axpy(32000, x, n) lanes 16"), &value, &fault), LLY_RANGE);
     EXPECT_FAULT(0, 0, 1, 0);
-    EXPECT(llama_kernel(&view, TEXT("kernel V sum(y) lanes 8"), &value, &fault), LLAMA_UNKNOWN);
+    EXPECT(lly_kernel(&view, TEXT("kernel V sum(y) lanes 8"), &value, &fault), LLY_UNKNOWN);
     EXPECT_FAULT(0, 0, 0, 0);
-    EXPECT(llama_kernel(&view, TEXT("kernel V sum(x) lanes 3"), &value, &fault), LLAMA_BAD_KERNEL);
-    EXPECT_FAULT(LLAMA_KERNEL_LANES, 0, 0, 0);
-    EXPECT(llama_kernel(&view, TEXT("kernel V sum(big) lanes 8"), &value, &fault), LLAMA_BAD_KERNEL);
-    EXPECT_FAULT(LLAMA_KERNEL_WIDE, 0, 0, 0);
+    EXPECT(lly_kernel(&view, TEXT("kernel V sum(x) lanes 3"), &value, &fault), LLY_BAD_KERNEL);
+    EXPECT_FAULT(LLY_KERNEL_LANES, 0, 0, 0);
+    EXPECT(lly_kernel(&view, TEXT("kernel V sum(big) lanes 8"), &value, &fault), LLY_BAD_KERNEL);
+    EXPECT_FAULT(LLY_KERNEL_WIDE, 0, 0, 0);
     make(&view, "record P { x: i32 }", "view V : P [0] as aos(packed, row)");
-    EXPECT(llama_kernel(&view, TEXT("kernel V greatest(x) lanes 8"), &value, &fault), LLAMA_EMPTY);
+    EXPECT(lly_kernel(&view, TEXT("kernel V greatest(x) lanes 8"), &value, &fault), LLY_EMPTY);
     EXPECT_FAULT(0, 0, 0, 0);
     EXPECT(value, -7);
-    llama_drop(&view);
+    lly_drop(&view);
 }
 
 static void bytes_are_copied_out(void) {
-    llama_view view = LLAMA_NONE, again = LLAMA_NONE;
-    llama_fault fault = UNTOUCHED;
+    lly_view view = LLY_NONE, again = LLY_NONE;
+    lly_fault fault = UNTOUCHED;
     uint8_t bytes[200], blob[10];
     size_t needed = 9, file;
-    EXPECT(llama_print(&view, bytes, 200, &needed), LLAMA_NO_VIEW);
-    EXPECT(llama_save(&view, bytes, 200, &needed), LLAMA_NO_VIEW);
-    EXPECT(llama_blob(&view, 0, bytes, 200, &needed), LLAMA_NO_VIEW);
+    EXPECT(lly_print(&view, bytes, 200, &needed), LLY_NO_VIEW);
+    EXPECT(lly_save(&view, bytes, 200, &needed), LLY_NO_VIEW);
+    EXPECT(lly_blob(&view, 0, bytes, 200, &needed), LLY_NO_VIEW);
     EXPECT(needed, 9);
     make(&view, "record P { x: i16, n: u8 }", "view V : P [2] as aos(packed, row)");
-    EXPECT(llama_set(&view, 0, 0, 258), LLAMA_DONE);
-    EXPECT(llama_set(&view, 1, 1, 255), LLAMA_DONE);
-    EXPECT(llama_blob(&view, 1, blob, 10, &needed), LLAMA_NO_PLACE);
+    EXPECT(lly_set(&view, 0, 0, 258), LLY_DONE);
+    EXPECT(lly_set(&view, 1, 1, 255), LLY_DONE);
+    EXPECT(lly_blob(&view, 1, blob, 10, &needed), LLY_NO_PLACE);
     EXPECT(needed, 9);
     memset(blob, 0xAA, 10);
-    EXPECT(llama_blob(&view, 0, blob, 5, &needed), LLAMA_NO_ROOM);
+    EXPECT(lly_blob(&view, 0, blob, 5, &needed), LLY_NO_ROOM);
     EXPECT(needed, 6);
     EXPECT(blob[0], 0xAA);
-    EXPECT(llama_blob(&view, 0, blob, 10, &needed), LLAMA_DONE);
+    EXPECT(lly_blob(&view, 0, blob, 10, &needed), LLY_DONE);
     EXPECT(memcmp(blob, "\x02\x01\x00\x00\x00\xFF\xAA", 7), 0);
     memset(bytes, 0, 200);
-    EXPECT(llama_print(&view, bytes, 14, &needed), LLAMA_NO_ROOM);
+    EXPECT(lly_print(&view, bytes, 14, &needed), LLY_NO_ROOM);
     EXPECT(needed, 16);
     EXPECT(bytes[0], 0);
-    EXPECT(llama_print(&view, bytes, 200, &needed), LLAMA_DONE);
+    EXPECT(lly_print(&view, bytes, 200, &needed), LLY_DONE);
     EXPECT(memcmp(bytes, "x,n\n258,0\n0,255\n", 17), 0);
-    EXPECT(llama_save(&view, NULL, 0, &file), LLAMA_NO_ROOM);
-    EXPECT(llama_save(&view, bytes, file, &needed), LLAMA_DONE);
+    EXPECT(lly_save(&view, NULL, 0, &file), LLY_NO_ROOM);
+    EXPECT(lly_save(&view, bytes, file, &needed), LLY_DONE);
     EXPECT(needed, file);
     EXPECT(memcmp(bytes, "LLAMAB1\n", 8), 0);
     EXPECT(memcmp(bytes + file - 6, "\x02\x01\x00\x00\x00\xFF", 6), 0);
-    EXPECT(llama_open(&again, bytes, file, &fault), LLAMA_DONE);
+    EXPECT(lly_open(&again, bytes, file, &fault), LLY_DONE);
     EXPECT_NO_FAULT();
     expect_print(&again, "x,n\n258,0\n0,255\n");
-    EXPECT(llama_open(&again, bytes, file - 1, &fault), LLAMA_BAD_FILE);
-    EXPECT_FAULT(LLAMA_FILE_LENGTH, 0, 0, 0);
-    EXPECT(llama_open(&again, bytes, 0, &fault), LLAMA_BAD_FILE);
-    EXPECT_FAULT(LLAMA_FILE_MAGIC, 0, 0, 0);
+    EXPECT(lly_open(&again, bytes, file - 1, &fault), LLY_BAD_FILE);
+    EXPECT_FAULT(LLY_FILE_LENGTH, 0, 0, 0);
+    EXPECT(lly_open(&again, bytes, 0, &fault), LLY_BAD_FILE);
+    EXPECT_FAULT(LLY_FILE_MAGIC, 0, 0, 0);
     bytes[8] ^= 1;
-    EXPECT(llama_open(&again, bytes, file, &fault), LLAMA_BAD_FILE);
-    EXPECT_FAULT(LLAMA_FILE_HEADER, 0, 0, 0);
+    EXPECT(lly_open(&again, bytes, file, &fault), LLY_BAD_FILE);
+    EXPECT_FAULT(LLY_FILE_HEADER, 0, 0, 0);
     expect_print(&again, "x,n\n258,0\n0,255\n");
-    llama_drop(&view);
-    llama_drop(&again);
+    lly_drop(&view);
+    lly_drop(&again);
 }
 
 /* Each pointer of each call, NULL in turn. */
 static void null_is_answered(void) {
-    llama_view view = LLAMA_NONE, other = LLAMA_NONE;
-    llama_fault fault = UNTOUCHED;
+    lly_view view = LLY_NONE, other = LLY_NONE;
+    lly_fault fault = UNTOUCHED;
     const uint8_t *const none = NULL;
     uint8_t bytes[1];
     uint64_t index[1] = {0}, row = 0, naturals[1] = {0};
     int64_t values[1] = {0};
     size_t size = 0;
     make(&view, RECORD, LINE);
-    EXPECT(llama_new(NULL, TEXT(RECORD), TEXT(LINE), &fault), LLAMA_NULL);
-    EXPECT(llama_new(&view, none, 1, TEXT(LINE), &fault), LLAMA_NULL);
-    EXPECT(llama_new(&view, TEXT(RECORD), none, 1, &fault), LLAMA_NULL);
-    EXPECT(llama_new(&view, TEXT(RECORD), TEXT(LINE), NULL), LLAMA_NULL);
-    EXPECT(llama_new(&view, none, 0, none, 0, &fault), LLAMA_OTHER_LINE);
+    EXPECT(lly_new(NULL, TEXT(RECORD), TEXT(LINE), &fault), LLY_NULL);
+    EXPECT(lly_new(&view, none, 1, TEXT(LINE), &fault), LLY_NULL);
+    EXPECT(lly_new(&view, TEXT(RECORD), none, 1, &fault), LLY_NULL);
+    EXPECT(lly_new(&view, TEXT(RECORD), TEXT(LINE), NULL), LLY_NULL);
+    EXPECT(lly_new(&view, none, 0, none, 0, &fault), LLY_OTHER_LINE);
     fault = UNTOUCHED;
-    EXPECT(llama_load(NULL, TEXT(RECORD), TEXT(LINE), none, 0, &fault), LLAMA_NULL);
-    EXPECT(llama_load(&view, none, 1, TEXT(LINE), none, 0, &fault), LLAMA_NULL);
-    EXPECT(llama_load(&view, TEXT(RECORD), none, 1, none, 0, &fault), LLAMA_NULL);
-    EXPECT(llama_load(&view, TEXT(RECORD), TEXT(LINE), none, 1, &fault), LLAMA_NULL);
-    EXPECT(llama_load(&view, TEXT(RECORD), TEXT(LINE), none, 0, NULL), LLAMA_NULL);
-    EXPECT(llama_open(NULL, none, 0, &fault), LLAMA_NULL);
-    EXPECT(llama_open(&view, none, 1, &fault), LLAMA_NULL);
-    EXPECT(llama_open(&view, none, 0, NULL), LLAMA_NULL);
-    EXPECT(llama_rows(NULL, &row), LLAMA_NULL);
-    EXPECT(llama_rows(&view, NULL), LLAMA_NULL);
-    EXPECT(llama_leaves(NULL, &size), LLAMA_NULL);
-    EXPECT(llama_leaves(&view, NULL), LLAMA_NULL);
-    EXPECT(llama_blobs(NULL, &size), LLAMA_NULL);
-    EXPECT(llama_blobs(&view, NULL), LLAMA_NULL);
-    EXPECT(llama_row(NULL, index, 1, &row), LLAMA_NULL);
-    EXPECT(llama_row(&view, NULL, 1, &row), LLAMA_NULL);
-    EXPECT(llama_row(&view, index, 1, NULL), LLAMA_NULL);
-    EXPECT(llama_leaf(NULL, none, 0, &size), LLAMA_NULL);
-    EXPECT(llama_leaf(&view, none, 1, &size), LLAMA_NULL);
-    EXPECT(llama_leaf(&view, none, 0, NULL), LLAMA_NULL);
-    EXPECT(llama_get(NULL, 0, 0, values), LLAMA_NULL);
-    EXPECT(llama_get(&view, 0, 0, NULL), LLAMA_NULL);
-    EXPECT(llama_get_u64(NULL, 0, 3, naturals), LLAMA_NULL);
-    EXPECT(llama_get_u64(&view, 0, 3, NULL), LLAMA_NULL);
-    EXPECT(llama_set(NULL, 0, 0, 1), LLAMA_NULL);
-    EXPECT(llama_set_u64(NULL, 0, 0, 1), LLAMA_NULL);
-    EXPECT(llama_get_run(NULL, 0, 0, values, 1), LLAMA_NULL);
-    EXPECT(llama_get_run(&view, 0, 0, NULL, 1), LLAMA_NULL);
-    EXPECT(llama_get_run_u64(NULL, 0, 3, naturals, 1), LLAMA_NULL);
-    EXPECT(llama_get_run_u64(&view, 0, 3, NULL, 1), LLAMA_NULL);
-    EXPECT(llama_set_run(NULL, 0, 0, values, 1, &fault), LLAMA_NULL);
-    EXPECT(llama_set_run(&view, 0, 0, NULL, 1, &fault), LLAMA_NULL);
-    EXPECT(llama_set_run(&view, 0, 0, values, 1, NULL), LLAMA_NULL);
-    EXPECT(llama_set_run_u64(NULL, 0, 3, naturals, 1, &fault), LLAMA_NULL);
-    EXPECT(llama_set_run_u64(&view, 0, 3, NULL, 1, &fault), LLAMA_NULL);
-    EXPECT(llama_set_run_u64(&view, 0, 3, naturals, 1, NULL), LLAMA_NULL);
-    EXPECT(llama_copy(NULL, &other, &fault), LLAMA_NULL);
-    EXPECT(llama_copy(&view, NULL, &fault), LLAMA_NULL);
-    EXPECT(llama_copy(&view, &other, NULL), LLAMA_NULL);
-    EXPECT(llama_relayout(NULL, none, 0, &fault), LLAMA_NULL);
-    EXPECT(llama_relayout(&view, none, 1, &fault), LLAMA_NULL);
-    EXPECT(llama_relayout(&view, none, 0, NULL), LLAMA_NULL);
-    EXPECT(llama_kernel(NULL, none, 0, values, &fault), LLAMA_NULL);
-    EXPECT(llama_kernel(&view, none, 1, values, &fault), LLAMA_NULL);
-    EXPECT(llama_kernel(&view, none, 0, NULL, &fault), LLAMA_NULL);
-    EXPECT(llama_kernel(&view, none, 0, values, NULL), LLAMA_NULL);
-    EXPECT(llama_print(NULL, bytes, 1, &size), LLAMA_NULL);
-    EXPECT(llama_print(&view, NULL, 1, &size), LLAMA_NULL);
-    EXPECT(llama_print(&view, bytes, 1, NULL), LLAMA_NULL);
-    EXPECT(llama_save(NULL, bytes, 1, &size), LLAMA_NULL);
-    EXPECT(llama_save(&view, NULL, 1, &size), LLAMA_NULL);
-    EXPECT(llama_save(&view, bytes, 1, NULL), LLAMA_NULL);
-    EXPECT(llama_blob(NULL, 0, bytes, 1, &size), LLAMA_NULL);
-    EXPECT(llama_blob(&view, 0, NULL, 1, &size), LLAMA_NULL);
-    EXPECT(llama_blob(&view, 0, bytes, 1, NULL), LLAMA_NULL);
+    EXPECT(lly_load(NULL, TEXT(RECORD), TEXT(LINE), none, 0, &fault), LLY_NULL);
+    EXPECT(lly_load(&view, none, 1, TEXT(LINE), none, 0, &fault), LLY_NULL);
+    EXPECT(lly_load(&view, TEXT(RECORD), none, 1, none, 0, &fault), LLY_NULL);
+    EXPECT(lly_load(&view, TEXT(RECORD), TEXT(LINE), none, 1, &fault), LLY_NULL);
+    EXPECT(lly_load(&view, TEXT(RECORD), TEXT(LINE), none, 0, NULL), LLY_NULL);
+    EXPECT(lly_open(NULL, none, 0, &fault), LLY_NULL);
+    EXPECT(lly_open(&view, none, 1, &fault), LLY_NULL);
+    EXPECT(lly_open(&view, none, 0, NULL), LLY_NULL);
+    EXPECT(lly_rows(NULL, &row), LLY_NULL);
+    EXPECT(lly_rows(&view, NULL), LLY_NULL);
+    EXPECT(lly_leaves(NULL, &size), LLY_NULL);
+    EXPECT(lly_leaves(&view, NULL), LLY_NULL);
+    EXPECT(lly_blobs(NULL, &size), LLY_NULL);
+    EXPECT(lly_blobs(&view, NULL), LLY_NULL);
+    EXPECT(lly_row(NULL, index, 1, &row), LLY_NULL);
+    EXPECT(lly_row(&view, NULL, 1, &row), LLY_NULL);
+    EXPECT(lly_row(&view, index, 1, NULL), LLY_NULL);
+    EXPECT(lly_leaf(NULL, none, 0, &size), LLY_NULL);
+    EXPECT(lly_leaf(&view, none, 1, &size), LLY_NULL);
+    EXPECT(lly_leaf(&view, none, 0, NULL), LLY_NULL);
+    EXPECT(lly_get(NULL, 0, 0, values), LLY_NULL);
+    EXPECT(lly_get(&view, 0, 0, NULL), LLY_NULL);
+    EXPECT(lly_get_u64(NULL, 0, 3, naturals), LLY_NULL);
+    EXPECT(lly_get_u64(&view, 0, 3, NULL), LLY_NULL);
+    EXPECT(lly_set(NULL, 0, 0, 1), LLY_NULL);
+    EXPECT(lly_set_u64(NULL, 0, 0, 1), LLY_NULL);
+    EXPECT(lly_get_run(NULL, 0, 0, values, 1), LLY_NULL);
+    EXPECT(lly_get_run(&view, 0, 0, NULL, 1), LLY_NULL);
+    EXPECT(lly_get_run_u64(NULL, 0, 3, naturals, 1), LLY_NULL);
+    EXPECT(lly_get_run_u64(&view, 0, 3, NULL, 1), LLY_NULL);
+    EXPECT(lly_set_run(NULL, 0, 0, values, 1, &fault), LLY_NULL);
+    EXPECT(lly_set_run(&view, 0, 0, NULL, 1, &fault), LLY_NULL);
+    EXPECT(lly_set_run(&view, 0, 0, values, 1, NULL), LLY_NULL);
+    EXPECT(lly_set_run_u64(NULL, 0, 3, naturals, 1, &fault), LLY_NULL);
+    EXPECT(lly_set_run_u64(&view, 0, 3, NULL, 1, &fault), LLY_NULL);
+    EXPECT(lly_set_run_u64(&view, 0, 3, naturals, 1, NULL), LLY_NULL);
+    EXPECT(lly_copy(NULL, &other, &fault), LLY_NULL);
+    EXPECT(lly_copy(&view, NULL, &fault), LLY_NULL);
+    EXPECT(lly_copy(&view, &other, NULL), LLY_NULL);
+    EXPECT(lly_relayout(NULL, none, 0, &fault), LLY_NULL);
+    EXPECT(lly_relayout(&view, none, 1, &fault), LLY_NULL);
+    EXPECT(lly_relayout(&view, none, 0, NULL), LLY_NULL);
+    EXPECT(lly_kernel(NULL, none, 0, values, &fault), LLY_NULL);
+    EXPECT(lly_kernel(&view, none, 1, values, &fault), LLY_NULL);
+    EXPECT(lly_kernel(&view, none, 0, NULL, &fault), LLY_NULL);
+    EXPECT(lly_kernel(&view, none, 0, values, NULL), LLY_NULL);
+    EXPECT(lly_print(NULL, bytes, 1, &size), LLY_NULL);
+    EXPECT(lly_print(&view, NULL, 1, &size), LLY_NULL);
+    EXPECT(lly_print(&view, bytes, 1, NULL), LLY_NULL);
+    EXPECT(lly_save(NULL, bytes, 1, &size), LLY_NULL);
+    EXPECT(lly_save(&view, NULL, 1, &size), LLY_NULL);
+    EXPECT(lly_save(&view, bytes, 1, NULL), LLY_NULL);
+    EXPECT(lly_blob(NULL, 0, bytes, 1, &size), LLY_NULL);
+    EXPECT(lly_blob(&view, 0, NULL, 1, &size), LLY_NULL);
+    EXPECT(lly_blob(&view, 0, bytes, 1, NULL), LLY_NULL);
     EXPECT_NO_FAULT();
-    llama_drop(NULL);
-    EXPECT(llama_rows(&view, &row), LLAMA_DONE);
+    lly_drop(NULL);
+    EXPECT(lly_rows(&view, &row), LLY_DONE);
     EXPECT(row, 6);
-    llama_drop(&view);
+    lly_drop(&view);
 }
 
 int main(void) {
-    EXPECT(llama_version(), LLAMA_VERSION);
+    EXPECT(lly_version(), LLY_VERSION);
     views_are_refused();
     datasets_are_loaded();
     places_are_found();

@@ -1,10 +1,10 @@
-/* The names of llama.h, over the proved calls: what is tested here is only what a proof has to take as given, that pointers are not NULL and that
+/* The names of llama_layout.h, over the proved calls: what is tested here is only what a proof has to take as given, that pointers are not NULL and that
  * the two handles of a copy are apart. tools/library gives each proved call the prefix `proved_`, and hides it behind the one here.
  */
-#include "llama.h"
+#include "llama_layout.h"
 
 /* A proved call has the type of its name in the header. */
-#define PROVED(call) extern __typeof__(llama_##call) proved_llama_##call
+#define PROVED(call) extern __typeof__(lly_##call) proved_lly_##call
 
 PROVED(version);
 PROVED(new);
@@ -37,102 +37,102 @@ static uint64_t nothing[1];
 #define IS_ARRAY(at, len) ((at) != NULL || (len) == 0)
 #define ARRAY(at) ((at) != NULL ? (at) : (void *)nothing)
 
-int32_t llama_version(void) { return proved_llama_version(); }
+int32_t lly_version(void) { return proved_lly_version(); }
 
-int32_t llama_new(llama_view *out, const uint8_t *first, size_t first_len, const uint8_t *second, size_t second_len, llama_fault *fault) {
+int32_t lly_new(lly_view *out, const uint8_t *first, size_t first_len, const uint8_t *second, size_t second_len, lly_fault *fault) {
     if (!out || !fault || !IS_ARRAY(first, first_len) || !IS_ARRAY(second, second_len)) {
-        return LLAMA_NULL;
+        return LLY_NULL;
     }
-    return proved_llama_new(out, ARRAY(first), first_len, ARRAY(second), second_len, fault);
+    return proved_lly_new(out, ARRAY(first), first_len, ARRAY(second), second_len, fault);
 }
 
-int32_t llama_load(llama_view *out, const uint8_t *first, size_t first_len, const uint8_t *second, size_t second_len, const uint8_t *csv,
-                   size_t csv_len, llama_fault *fault) {
+int32_t lly_load(lly_view *out, const uint8_t *first, size_t first_len, const uint8_t *second, size_t second_len, const uint8_t *csv,
+                   size_t csv_len, lly_fault *fault) {
     if (!out || !fault || !IS_ARRAY(first, first_len) || !IS_ARRAY(second, second_len) || !IS_ARRAY(csv, csv_len)) {
-        return LLAMA_NULL;
+        return LLY_NULL;
     }
-    return proved_llama_load(out, ARRAY(first), first_len, ARRAY(second), second_len, ARRAY(csv), csv_len, fault);
+    return proved_lly_load(out, ARRAY(first), first_len, ARRAY(second), second_len, ARRAY(csv), csv_len, fault);
 }
 
-int32_t llama_open(llama_view *out, const uint8_t *bytes, size_t bytes_len, llama_fault *fault) {
-    return out && fault && IS_ARRAY(bytes, bytes_len) ? proved_llama_open(out, ARRAY(bytes), bytes_len, fault) : LLAMA_NULL;
+int32_t lly_open(lly_view *out, const uint8_t *bytes, size_t bytes_len, lly_fault *fault) {
+    return out && fault && IS_ARRAY(bytes, bytes_len) ? proved_lly_open(out, ARRAY(bytes), bytes_len, fault) : LLY_NULL;
 }
 
-void llama_drop(llama_view *view) {
+void lly_drop(lly_view *view) {
     if (view) {
-        proved_llama_drop(view);
+        proved_lly_drop(view);
     }
 }
 
-int32_t llama_rows(llama_view *view, uint64_t *rows) { return view && rows ? proved_llama_rows(view, rows) : LLAMA_NULL; }
+int32_t lly_rows(lly_view *view, uint64_t *rows) { return view && rows ? proved_lly_rows(view, rows) : LLY_NULL; }
 
-int32_t llama_leaves(llama_view *view, size_t *leaves) { return view && leaves ? proved_llama_leaves(view, leaves) : LLAMA_NULL; }
+int32_t lly_leaves(lly_view *view, size_t *leaves) { return view && leaves ? proved_lly_leaves(view, leaves) : LLY_NULL; }
 
-int32_t llama_blobs(llama_view *view, size_t *blobs) { return view && blobs ? proved_llama_blobs(view, blobs) : LLAMA_NULL; }
+int32_t lly_blobs(lly_view *view, size_t *blobs) { return view && blobs ? proved_lly_blobs(view, blobs) : LLY_NULL; }
 
-int32_t llama_row(llama_view *view, const uint64_t *index, size_t rank, uint64_t *row) {
-    return view && row && IS_ARRAY(index, rank) ? proved_llama_row(view, ARRAY(index), rank, row) : LLAMA_NULL;
+int32_t lly_row(lly_view *view, const uint64_t *index, size_t rank, uint64_t *row) {
+    return view && row && IS_ARRAY(index, rank) ? proved_lly_row(view, ARRAY(index), rank, row) : LLY_NULL;
 }
 
-int32_t llama_leaf(llama_view *view, const uint8_t *path, size_t path_len, size_t *leaf) {
-    return view && leaf && IS_ARRAY(path, path_len) ? proved_llama_leaf(view, ARRAY(path), path_len, leaf) : LLAMA_NULL;
+int32_t lly_leaf(lly_view *view, const uint8_t *path, size_t path_len, size_t *leaf) {
+    return view && leaf && IS_ARRAY(path, path_len) ? proved_lly_leaf(view, ARRAY(path), path_len, leaf) : LLY_NULL;
 }
 
-int32_t llama_get(llama_view *view, uint64_t row, size_t leaf, int64_t *value) {
-    return view && value ? proved_llama_get(view, row, leaf, value) : LLAMA_NULL;
+int32_t lly_get(lly_view *view, uint64_t row, size_t leaf, int64_t *value) {
+    return view && value ? proved_lly_get(view, row, leaf, value) : LLY_NULL;
 }
 
-int32_t llama_get_u64(llama_view *view, uint64_t row, size_t leaf, uint64_t *value) {
-    return view && value ? proved_llama_get_u64(view, row, leaf, value) : LLAMA_NULL;
+int32_t lly_get_u64(lly_view *view, uint64_t row, size_t leaf, uint64_t *value) {
+    return view && value ? proved_lly_get_u64(view, row, leaf, value) : LLY_NULL;
 }
 
-int32_t llama_set(llama_view *view, uint64_t row, size_t leaf, int64_t value) {
-    return view ? proved_llama_set(view, row, leaf, value) : LLAMA_NULL;
+int32_t lly_set(lly_view *view, uint64_t row, size_t leaf, int64_t value) {
+    return view ? proved_lly_set(view, row, leaf, value) : LLY_NULL;
 }
 
-int32_t llama_set_u64(llama_view *view, uint64_t row, size_t leaf, uint64_t value) {
-    return view ? proved_llama_set_u64(view, row, leaf, value) : LLAMA_NULL;
+int32_t lly_set_u64(lly_view *view, uint64_t row, size_t leaf, uint64_t value) {
+    return view ? proved_lly_set_u64(view, row, leaf, value) : LLY_NULL;
 }
 
-int32_t llama_get_run(llama_view *view, uint64_t first, size_t leaf, int64_t *values, size_t count) {
-    return view && IS_ARRAY(values, count) ? proved_llama_get_run(view, first, leaf, ARRAY(values), count) : LLAMA_NULL;
+int32_t lly_get_run(lly_view *view, uint64_t first, size_t leaf, int64_t *values, size_t count) {
+    return view && IS_ARRAY(values, count) ? proved_lly_get_run(view, first, leaf, ARRAY(values), count) : LLY_NULL;
 }
 
-int32_t llama_get_run_u64(llama_view *view, uint64_t first, size_t leaf, uint64_t *values, size_t count) {
-    return view && IS_ARRAY(values, count) ? proved_llama_get_run_u64(view, first, leaf, ARRAY(values), count) : LLAMA_NULL;
+int32_t lly_get_run_u64(lly_view *view, uint64_t first, size_t leaf, uint64_t *values, size_t count) {
+    return view && IS_ARRAY(values, count) ? proved_lly_get_run_u64(view, first, leaf, ARRAY(values), count) : LLY_NULL;
 }
 
-int32_t llama_set_run(llama_view *view, uint64_t first, size_t leaf, const int64_t *values, size_t count, llama_fault *fault) {
-    return view && fault && IS_ARRAY(values, count) ? proved_llama_set_run(view, first, leaf, ARRAY(values), count, fault) : LLAMA_NULL;
+int32_t lly_set_run(lly_view *view, uint64_t first, size_t leaf, const int64_t *values, size_t count, lly_fault *fault) {
+    return view && fault && IS_ARRAY(values, count) ? proved_lly_set_run(view, first, leaf, ARRAY(values), count, fault) : LLY_NULL;
 }
 
-int32_t llama_set_run_u64(llama_view *view, uint64_t first, size_t leaf, const uint64_t *values, size_t count, llama_fault *fault) {
-    return view && fault && IS_ARRAY(values, count) ? proved_llama_set_run_u64(view, first, leaf, ARRAY(values), count, fault) : LLAMA_NULL;
+int32_t lly_set_run_u64(lly_view *view, uint64_t first, size_t leaf, const uint64_t *values, size_t count, lly_fault *fault) {
+    return view && fault && IS_ARRAY(values, count) ? proved_lly_set_run_u64(view, first, leaf, ARRAY(values), count, fault) : LLY_NULL;
 }
 
-int32_t llama_copy(llama_view *source, llama_view *target, llama_fault *fault) {
+int32_t lly_copy(lly_view *source, lly_view *target, lly_fault *fault) {
     if (!source || !target || !fault) {
-        return LLAMA_NULL;
+        return LLY_NULL;
     }
-    return source == target ? LLAMA_SAME : proved_llama_copy(source, target, fault);
+    return source == target ? LLY_SAME : proved_lly_copy(source, target, fault);
 }
 
-int32_t llama_relayout(llama_view *view, const uint8_t *line, size_t line_len, llama_fault *fault) {
-    return view && fault && IS_ARRAY(line, line_len) ? proved_llama_relayout(view, ARRAY(line), line_len, fault) : LLAMA_NULL;
+int32_t lly_relayout(lly_view *view, const uint8_t *line, size_t line_len, lly_fault *fault) {
+    return view && fault && IS_ARRAY(line, line_len) ? proved_lly_relayout(view, ARRAY(line), line_len, fault) : LLY_NULL;
 }
 
-int32_t llama_kernel(llama_view *view, const uint8_t *line, size_t line_len, int64_t *value, llama_fault *fault) {
-    return view && value && fault && IS_ARRAY(line, line_len) ? proved_llama_kernel(view, ARRAY(line), line_len, value, fault) : LLAMA_NULL;
+int32_t lly_kernel(lly_view *view, const uint8_t *line, size_t line_len, int64_t *value, lly_fault *fault) {
+    return view && value && fault && IS_ARRAY(line, line_len) ? proved_lly_kernel(view, ARRAY(line), line_len, value, fault) : LLY_NULL;
 }
 
-int32_t llama_print(llama_view *view, uint8_t *text, size_t text_len, size_t *needed) {
-    return view && needed && IS_ARRAY(text, text_len) ? proved_llama_print(view, ARRAY(text), text_len, needed) : LLAMA_NULL;
+int32_t lly_print(lly_view *view, uint8_t *text, size_t text_len, size_t *needed) {
+    return view && needed && IS_ARRAY(text, text_len) ? proved_lly_print(view, ARRAY(text), text_len, needed) : LLY_NULL;
 }
 
-int32_t llama_save(llama_view *view, uint8_t *bytes, size_t bytes_len, size_t *needed) {
-    return view && needed && IS_ARRAY(bytes, bytes_len) ? proved_llama_save(view, ARRAY(bytes), bytes_len, needed) : LLAMA_NULL;
+int32_t lly_save(lly_view *view, uint8_t *bytes, size_t bytes_len, size_t *needed) {
+    return view && needed && IS_ARRAY(bytes, bytes_len) ? proved_lly_save(view, ARRAY(bytes), bytes_len, needed) : LLY_NULL;
 }
 
-int32_t llama_blob(llama_view *view, size_t blob, uint8_t *bytes, size_t bytes_len, size_t *needed) {
-    return view && needed && IS_ARRAY(bytes, bytes_len) ? proved_llama_blob(view, blob, ARRAY(bytes), bytes_len, needed) : LLAMA_NULL;
+int32_t lly_blob(lly_view *view, size_t blob, uint8_t *bytes, size_t bytes_len, size_t *needed) {
+    return view && needed && IS_ARRAY(bytes, bytes_len) ? proved_lly_blob(view, blob, ARRAY(bytes), bytes_len, needed) : LLY_NULL;
 }

@@ -1,4 +1,4 @@
-/* What each call of llama.h takes of the stack. It reads lines and hands each to each call that takes a text: as a record, as a view, in the header of a
+/* What each call of llama_layout.h takes of the stack. It reads lines and hands each to each call that takes a text: as a record, as a view, in the header of a
  * file, as a line and as a path. Of what makes a view it makes one, and tries every other call on it. Each call runs on a thread whose stack was filled
  * with a pattern. It writes the call and the number of the line, and then how far below the call the deepest byte lies that was changed: so a call that
  * ends the program is named. tools/checks/stack has the lines, and judges the numbers.
@@ -10,7 +10,7 @@
 #include <string.h>
 #include <sys/mman.h>
 
-#include "llama.h"
+#include "llama_layout.h"
 
 #define STACK ((size_t)512 * 1024)
 #define GUARD ((size_t)64 * 1024)
@@ -33,8 +33,8 @@ static int line_number = 0;
 static struct text line, loading;
 static struct text record = {"record P { x: i32 }", 19}, table = {"view V : P [2] as soa(multi, row)", 33};
 static const struct text *first, *second;
-static llama_view view = LLAMA_NONE, other = LLAMA_NONE;
-static llama_fault fault;
+static lly_view view = LLY_NONE, other = LLY_NONE;
+static lly_fault fault;
 static int32_t answer;
 static uint64_t row, naturals[2];
 static int64_t value, integers[2];
@@ -71,13 +71,13 @@ static uint8_t header[8192 * 2 + 20];
     CALL(open, (&other, opened, opened_length, &fault))                     \
     CALL(copy, (&view, &other, &fault))
 
-#define MAKE(name, arguments) static void make_##name(void) { answer = llama_##name arguments; }
+#define MAKE(name, arguments) static void make_##name(void) { answer = lly_##name arguments; }
 WITH_TEXTS(MAKE)
 ON_A_VIEW(MAKE)
-static void make_drop(void) { llama_drop(&other); }
+static void make_drop(void) { lly_drop(&other); }
 
-#define ENTRY(name, arguments) {"llama_" #name, make_##name},
-static const struct call on_a_view[] = {ON_A_VIEW(ENTRY){"llama_drop", make_drop}};
+#define ENTRY(name, arguments) {"lly_" #name, make_##name},
+static const struct call on_a_view[] = {ON_A_VIEW(ENTRY){"lly_drop", make_drop}};
 
 static void *run(void *call)
 {
@@ -108,7 +108,7 @@ static void measure(const struct call *call)
     printf("%ld\n", (long)(begun - (char *)(stack + at)));
 }
 
-#define MEASURE(name) measure(&(const struct call){"llama_" #name, make_##name})
+#define MEASURE(name) measure(&(const struct call){"lly_" #name, make_##name})
 
 /* As many bytes as a call asked for, and room for two more. */
 static uint8_t *room(uint8_t *before, size_t *length)
@@ -134,11 +134,11 @@ static void try_view(void)
 {
     size_t k;
 
-    llama_print(&view, NULL, 0, &count);
+    lly_print(&view, NULL, 0, &count);
     csv = room(csv, &csv_length);
-    llama_save(&view, NULL, 0, &count);
+    lly_save(&view, NULL, 0, &count);
     file = room(file, &file_length);
-    if (llama_blob(&view, 0, NULL, 0, &count) == LLAMA_NO_ROOM) {
+    if (lly_blob(&view, 0, NULL, 0, &count) == LLY_NO_ROOM) {
         blob = room(blob, &blob_length);
     }
     opened = file;
@@ -160,7 +160,7 @@ static void try_text(struct text *text, const struct text *one, const struct tex
     first = one;
     second = two;
     MEASURE(new);
-    if (answer == LLAMA_DONE) {
+    if (answer == LLY_DONE) {
         *text = line;
         try_view();
         return;
@@ -187,7 +187,7 @@ int main(void)
         try_text(&record, &line, &table);
         try_text(&table, &record, &line);
         MEASURE(relayout);
-        if (answer == LLAMA_DONE) {
+        if (answer == LLY_DONE) {
             try_view();
         }
         MEASURE(kernel);

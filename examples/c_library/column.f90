@@ -3,12 +3,12 @@ module llama
   use, intrinsic :: iso_c_binding
   implicit none
 
-  type, bind(c) :: llama_view
+  type, bind(c) :: lly_view
     logical(c_bool) :: full = .false.
     type(c_ptr) :: at = c_null_ptr
   end type
 
-  type, bind(c) :: llama_fault
+  type, bind(c) :: lly_fault
     integer(c_int32_t) :: cause = 0
     integer(c_int64_t) :: row = 0
     integer(c_size_t) :: leaf = 0
@@ -16,32 +16,32 @@ module llama
   end type
 
   interface
-    integer(c_int32_t) function llama_new(out, first, first_len, second, second_len, fault) bind(c)
+    integer(c_int32_t) function lly_new(out, first, first_len, second, second_len, fault) bind(c)
       import
-      type(llama_view), intent(inout) :: out
+      type(lly_view), intent(inout) :: out
       character(kind=c_char), intent(in) :: first(*), second(*)
       integer(c_size_t), value :: first_len, second_len
-      type(llama_fault), intent(inout) :: fault
+      type(lly_fault), intent(inout) :: fault
     end function
 
-    integer(c_int32_t) function llama_set(view, row, leaf, number) bind(c)
+    integer(c_int32_t) function lly_set(view, row, leaf, number) bind(c)
       import
-      type(llama_view), intent(inout) :: view
+      type(lly_view), intent(inout) :: view
       integer(c_int64_t), value :: row, number
       integer(c_size_t), value :: leaf
     end function
 
-    integer(c_int32_t) function llama_get_run(view, first, leaf, numbers, length) bind(c)
+    integer(c_int32_t) function lly_get_run(view, first, leaf, numbers, length) bind(c)
       import
-      type(llama_view), intent(inout) :: view
+      type(lly_view), intent(inout) :: view
       integer(c_int64_t), value :: first
       integer(c_size_t), value :: leaf, length
       integer(c_int64_t), intent(inout) :: numbers(*)
     end function
 
-    subroutine llama_drop(view) bind(c)
+    subroutine lly_drop(view) bind(c)
       import
-      type(llama_view), intent(inout) :: view
+      type(lly_view), intent(inout) :: view
     end subroutine
   end interface
 end module
@@ -51,17 +51,17 @@ program column
   implicit none
   character(*), parameter :: record_line = 'record Atom { charge: i8, level: u32 }'
   character(*), parameter :: view_line = 'view Atoms : Atom [100] as bitsoa(8 { level: 20 }, row)'
-  type(llama_view) :: view
-  type(llama_fault) :: fault
+  type(lly_view) :: view
+  type(lly_fault) :: fault
   integer(c_int64_t) :: row, levels(100)
-  call must(llama_new(view, record_line, len(record_line, c_size_t), view_line, len(view_line, c_size_t), fault))
+  call must(lly_new(view, record_line, len(record_line, c_size_t), view_line, len(view_line, c_size_t), fault))
   do row = 0, 99
-    call must(llama_set(view, row, 1_c_size_t, row * row))
+    call must(lly_set(view, row, 1_c_size_t, row * row))
   end do
-  call must(llama_get_run(view, 0_c_int64_t, 1_c_size_t, levels, size(levels, kind=c_size_t)))
+  call must(lly_get_run(view, 0_c_int64_t, 1_c_size_t, levels, size(levels, kind=c_size_t)))
   print '(i0, 1x, i0, 1x, i0)', levels(1), levels(100), sum(levels)
-  print '(i0)', llama_set(view, 0_c_int64_t, 1_c_size_t, 1048576_c_int64_t)
-  call llama_drop(view)
+  print '(i0)', lly_set(view, 0_c_int64_t, 1_c_size_t, 1048576_c_int64_t)
+  call lly_drop(view)
 
 contains
 

@@ -1,10 +1,10 @@
-"""A column of a view from and to numpy arrays, which the library reads and fills: nothing is copied on the way. LLAMA_LIBRARY names the library."""
+"""A column of a view from and to numpy arrays, which the library reads and fills: nothing is copied on the way. LLAMA_LAYOUT_LIBRARY names the library."""
 import ctypes
 import os
 
 import numpy
 
-library = ctypes.CDLL(os.environ.get('LLAMA_LIBRARY', 'libllama.so'))
+library = ctypes.CDLL(os.environ.get('LLAMA_LAYOUT_LIBRARY', 'libllama_layout.so'))
 
 
 class View(ctypes.Structure):
@@ -15,12 +15,12 @@ class Fault(ctypes.Structure):
     _fields_ = [('cause', ctypes.c_int32), ('row', ctypes.c_uint64), ('leaf', ctypes.c_size_t), ('column', ctypes.c_uint64)]
 
 
-library.llama_new.argtypes = [ctypes.POINTER(View), ctypes.c_char_p, ctypes.c_size_t, ctypes.c_char_p, ctypes.c_size_t, ctypes.POINTER(Fault)]
-library.llama_set.argtypes = [ctypes.POINTER(View), ctypes.c_uint64, ctypes.c_size_t, ctypes.c_int64]
-library.llama_get_run.argtypes = [ctypes.POINTER(View), ctypes.c_uint64, ctypes.c_size_t, ctypes.POINTER(ctypes.c_int64), ctypes.c_size_t]
-library.llama_set_run.argtypes = [*library.llama_get_run.argtypes, ctypes.POINTER(Fault)]
-library.llama_drop.argtypes = [ctypes.POINTER(View)]
-library.llama_drop.restype = None
+library.lly_new.argtypes = [ctypes.POINTER(View), ctypes.c_char_p, ctypes.c_size_t, ctypes.c_char_p, ctypes.c_size_t, ctypes.POINTER(Fault)]
+library.lly_set.argtypes = [ctypes.POINTER(View), ctypes.c_uint64, ctypes.c_size_t, ctypes.c_int64]
+library.lly_get_run.argtypes = [ctypes.POINTER(View), ctypes.c_uint64, ctypes.c_size_t, ctypes.POINTER(ctypes.c_int64), ctypes.c_size_t]
+library.lly_set_run.argtypes = [*library.lly_get_run.argtypes, ctypes.POINTER(Fault)]
+library.lly_drop.argtypes = [ctypes.POINTER(View)]
+library.lly_drop.restype = None
 
 
 def must(answer):
@@ -29,7 +29,7 @@ def must(answer):
 
 
 def make(view, first, second):
-    must(library.llama_new(view, first, len(first), second, len(second), Fault()))
+    must(library.lly_new(view, first, len(first), second, len(second), Fault()))
 
 
 def numbers(values):
@@ -37,11 +37,11 @@ def numbers(values):
 
 
 def read(view, first, leaf, values):
-    must(library.llama_get_run(view, first, leaf, numbers(values), len(values)))
+    must(library.lly_get_run(view, first, leaf, numbers(values), len(values)))
 
 
 def store(view, first, leaf, values):
-    must(library.llama_set_run(view, first, leaf, numbers(values), len(values), Fault()))
+    must(library.lly_set_run(view, first, leaf, numbers(values), len(values), Fault()))
 
 
 view = View()
@@ -50,5 +50,5 @@ store(view, 0, 0, numpy.arange(-500, 500, dtype=numpy.int64))
 heat = numpy.zeros(300, dtype=numpy.int64)
 read(view, 350, 0, heat)
 print(heat[0], heat[-1], heat.sum())
-print(library.llama_set(view, 0, 0, 40000))
-library.llama_drop(view)
+print(library.lly_set(view, 0, 0, 40000))
+library.lly_drop(view)

@@ -7,13 +7,13 @@
 #include <string_view>
 #include <utility>
 
-#include "llama.h"
+#include "llama_layout.h"
 
 class View {
 public:
     View(std::string_view record, std::string_view view) {
-        llama_fault fault = LLAMA_NO_FAULT;
-        must(llama_new(&handle_, bytes(record), record.size(), bytes(view), view.size(), &fault));
+        lly_fault fault = LLY_NO_FAULT;
+        must(lly_new(&handle_, bytes(record), record.size(), bytes(view), view.size(), &fault));
     }
 
     View(const View &) = delete;
@@ -25,20 +25,20 @@ public:
         return *this;
     }
 
-    ~View() { llama_drop(&handle_); }
+    ~View() { lly_drop(&handle_); }
 
     std::int64_t get(std::uint64_t row, std::size_t leaf) {
         std::int64_t value = 0;
-        must(llama_get(&handle_, row, leaf, &value));
+        must(lly_get(&handle_, row, leaf, &value));
         return value;
     }
 
-    void set(std::uint64_t row, std::size_t leaf, std::int64_t value) { must(llama_set(&handle_, row, leaf, value)); }
+    void set(std::uint64_t row, std::size_t leaf, std::int64_t value) { must(lly_set(&handle_, row, leaf, value)); }
 
     template <std::size_t Count>
     std::array<std::int64_t, Count> run(std::uint64_t first, std::size_t leaf) {
         std::array<std::int64_t, Count> values{};
-        must(llama_get_run(&handle_, first, leaf, values.data(), values.size()));
+        must(lly_get_run(&handle_, first, leaf, values.data(), values.size()));
         return values;
     }
 
@@ -46,12 +46,12 @@ private:
     static const std::uint8_t *bytes(std::string_view text) { return reinterpret_cast<const std::uint8_t *>(text.data()); }
 
     static void must(std::int32_t answer) {
-        if (answer != LLAMA_DONE) {
+        if (answer != LLY_DONE) {
             throw std::runtime_error("the library answers " + std::to_string(answer));
         }
     }
 
-    llama_view handle_ = LLAMA_NONE;
+    lly_view handle_ = LLY_NONE;
 };
 
 int main() {

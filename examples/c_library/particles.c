@@ -6,7 +6,7 @@
 #include <string.h>
 #include <time.h>
 
-#include "llama.h"
+#include "llama_layout.h"
 
 enum { ROWS = 4096, X = 0, MASS = 1, ALIVE = 2 };
 
@@ -18,28 +18,28 @@ static const char *const VIEWS[] = {
 };
 
 static void must(int32_t answer, const char *call) {
-    if (answer != LLAMA_DONE) {
+    if (answer != LLY_DONE) {
         fprintf(stderr, "%s answers %" PRId32 "\n", call, answer);
         exit(1);
     }
 }
 
-static void make(llama_view *view, const char *line) {
-    llama_fault fault = LLAMA_NO_FAULT;
-    must(llama_new(view, (const uint8_t *)RECORD, strlen(RECORD), (const uint8_t *)line, strlen(line), &fault), "llama_new");
+static void make(lly_view *view, const char *line) {
+    lly_fault fault = LLY_NO_FAULT;
+    must(lly_new(view, (const uint8_t *)RECORD, strlen(RECORD), (const uint8_t *)line, strlen(line), &fault), "lly_new");
 }
 
-static int64_t sum_of(llama_view *view, size_t leaf, int64_t *values) {
+static int64_t sum_of(lly_view *view, size_t leaf, int64_t *values) {
     int64_t sum = 0;
     size_t row;
-    must(llama_get_run(view, 0, leaf, values, ROWS), "llama_get_run");
+    must(lly_get_run(view, 0, leaf, values, ROWS), "lly_get_run");
     for (row = 0; row < ROWS; row++) {
         sum += values[row];
     }
     return sum;
 }
 
-static void time_rounds(llama_view *view, int rounds, int64_t *values) {
+static void time_rounds(lly_view *view, int rounds, int64_t *values) {
     const clock_t begin = clock();
     int64_t sum = 0;
     int round;
@@ -50,49 +50,49 @@ static void time_rounds(llama_view *view, int rounds, int64_t *values) {
 }
 
 /* The table of a view in another layout, by a copy; and a row that is found by its index. */
-static void copy_back(llama_view *view, int64_t *values) {
-    llama_view other = LLAMA_NONE;
+static void copy_back(lly_view *view, int64_t *values) {
+    lly_view other = LLY_NONE;
     const uint64_t index[] = {1000}, outside[] = {ROWS};
     uint64_t row = 0, rows = 0;
     size_t leaves = 0;
-    llama_fault fault = LLAMA_NO_FAULT;
+    lly_fault fault = LLY_NO_FAULT;
     make(&other, VIEWS[0]);
-    must(llama_copy(view, &other, &fault), "llama_copy");
-    must(llama_row(&other, index, 1, &row), "llama_row");
-    must(llama_rows(&other, &rows), "llama_rows");
-    must(llama_leaves(&other, &leaves), "llama_leaves");
-    printf("%" PRIu64 " %" PRIu64 " %d %" PRId64 " %d\n", row, rows, (int)leaves, sum_of(&other, X, values), (int)llama_row(&other, outside, 1, &row));
-    llama_drop(&other);
+    must(lly_copy(view, &other, &fault), "lly_copy");
+    must(lly_row(&other, index, 1, &row), "lly_row");
+    must(lly_rows(&other, &rows), "lly_rows");
+    must(lly_leaves(&other, &leaves), "lly_leaves");
+    printf("%" PRIu64 " %" PRIu64 " %d %" PRId64 " %d\n", row, rows, (int)leaves, sum_of(&other, X, values), (int)lly_row(&other, outside, 1, &row));
+    lly_drop(&other);
 }
 
 int main(int argc, char **argv) {
     static int64_t values[ROWS];
-    llama_view view = LLAMA_NONE;
+    lly_view view = LLY_NONE;
     size_t form;
     int64_t row;
-    if (llama_version() / 100 != LLAMA_VERSION / 100) {
-        fprintf(stderr, "the library has the version %" PRId32 "\n", llama_version());
+    if (lly_version() / 10000 != LLY_VERSION / 10000) {
+        fprintf(stderr, "the library has the version %" PRId32 "\n", lly_version());
         return 1;
     }
     for (form = 0; form < sizeof VIEWS / sizeof VIEWS[0]; form++) {
         int64_t value = 0;
-        llama_fault fault = LLAMA_NO_FAULT;
+        lly_fault fault = LLY_NO_FAULT;
         make(&view, VIEWS[form]);
         for (row = 0; row < ROWS; row++) {
             values[row] = 3 * row - 6000;
-            must(llama_set(&view, (uint64_t)row, MASS, row), "llama_set");
-            must(llama_set(&view, (uint64_t)row, ALIVE, row % 2), "llama_set");
+            must(lly_set(&view, (uint64_t)row, MASS, row), "lly_set");
+            must(lly_set(&view, (uint64_t)row, ALIVE, row % 2), "lly_set");
         }
-        must(llama_set_run(&view, 0, X, values, ROWS, &fault), "llama_set_run");
-        must(llama_get(&view, 1000, X, &value), "llama_get");
+        must(lly_set_run(&view, 0, X, values, ROWS, &fault), "lly_set_run");
+        must(lly_get(&view, 1000, X, &value), "lly_get");
         printf("%" PRId64 " %" PRId64 " %" PRId64 " %" PRId64 "\n", value, sum_of(&view, X, values), sum_of(&view, MASS, values), sum_of(&view, ALIVE, values));
-        printf("%d %d %d\n", (int)llama_set(&view, 0, MASS, 65536), (int)llama_get(&view, ROWS, X, &value), (int)llama_get(&view, 0, 3, &value));
+        printf("%d %d %d\n", (int)lly_set(&view, 0, MASS, 65536), (int)lly_get(&view, ROWS, X, &value), (int)lly_get(&view, 0, 3, &value));
         if (argc > 1) {
             time_rounds(&view, atoi(argv[1]), values);
         }
     }
     copy_back(&view, values);
-    llama_drop(&view);
-    printf("%d\n", (int)llama_get(&view, 0, X, &row));
+    lly_drop(&view);
+    printf("%d\n", (int)lly_get(&view, 0, X, &row));
     return 0;
 }

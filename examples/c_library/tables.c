@@ -6,12 +6,12 @@
 #include <stdlib.h>
 #include <string.h>
 
-#include "llama.h"
+#include "llama_layout.h"
 
 #define TEXT(text) (const uint8_t *)(text), strlen(text)
 
-static void must(int32_t answer, const char *call, const llama_fault *fault) {
-    if (answer != LLAMA_DONE) {
+static void must(int32_t answer, const char *call, const lly_fault *fault) {
+    if (answer != LLY_DONE) {
         fprintf(stderr, "%s answers %" PRId32 ": cause %" PRId32 ", row %" PRIu64 ", leaf %zu, column %" PRIu64 "\n", call, answer, fault->cause, fault->row,
                 fault->leaf, fault->column);
         exit(1);
@@ -33,29 +33,29 @@ int main(int argc, char **argv) {
     static const char load[] = "load Stars : Star [?] as aos(packed, row) from \"tables.csv\"";
     static uint8_t csv[65536];
     const size_t csv_len = read_file(argc > 1 ? argv[1] : "tables.csv", csv, sizeof csv);
-    llama_view stars = LLAMA_NONE, again = LLAMA_NONE;
-    llama_fault fault = LLAMA_NO_FAULT;
+    lly_view stars = LLY_NONE, again = LLY_NONE;
+    lly_fault fault = LLY_NO_FAULT;
     uint8_t *bytes;
     size_t needed = 0;
     int64_t sum = 0;
-    must(llama_load(&stars, TEXT(record), TEXT(load), csv, csv_len, &fault), "llama_load", &fault);
-    must(llama_kernel(&stars, TEXT("kernel Stars axpy(3, mag, count) lanes 8"), &sum, &fault), "llama_kernel", &fault);
-    must(llama_relayout(&stars, TEXT("relayout Stars as soa(multi, row)"), &fault), "llama_relayout", &fault);
-    must(llama_kernel(&stars, TEXT("kernel Stars sum(count) lanes 16"), &sum, &fault), "llama_kernel", &fault);
+    must(lly_load(&stars, TEXT(record), TEXT(load), csv, csv_len, &fault), "lly_load", &fault);
+    must(lly_kernel(&stars, TEXT("kernel Stars axpy(3, mag, count) lanes 8"), &sum, &fault), "lly_kernel", &fault);
+    must(lly_relayout(&stars, TEXT("relayout Stars as soa(multi, row)"), &fault), "lly_relayout", &fault);
+    must(lly_kernel(&stars, TEXT("kernel Stars sum(count) lanes 16"), &sum, &fault), "lly_kernel", &fault);
     printf("%" PRId64 "\n", sum);
 
     /* saved, opened again, and shown: each time the length is asked for first */
-    llama_save(&stars, NULL, 0, &needed);
+    lly_save(&stars, NULL, 0, &needed);
     bytes = malloc(needed);
-    must(llama_save(&stars, bytes, needed, &needed), "llama_save", &fault);
-    must(llama_open(&again, bytes, needed, &fault), "llama_open", &fault);
+    must(lly_save(&stars, bytes, needed, &needed), "lly_save", &fault);
+    must(lly_open(&again, bytes, needed, &fault), "lly_open", &fault);
     free(bytes);
-    llama_print(&again, NULL, 0, &needed);
+    lly_print(&again, NULL, 0, &needed);
     bytes = malloc(needed);
-    must(llama_print(&again, bytes, needed, &needed), "llama_print", &fault);
+    must(lly_print(&again, bytes, needed, &needed), "lly_print", &fault);
     fwrite(bytes, 1, needed, stdout);
     free(bytes);
-    llama_drop(&stars);
-    llama_drop(&again);
+    lly_drop(&stars);
+    lly_drop(&again);
     return 0;
 }

@@ -13,7 +13,7 @@ use std::sync::ledger::Blank;
 
 /// The text of a table, as a script prints it.
 #[unsafe(no_mangle)]
-pub extern "C" fn llama_print(
+pub extern "C" fn lly_print(
     alloc: Global,
     view: &mut Handle,
     text: &mut [u8],
@@ -33,7 +33,7 @@ pub extern "C" fn llama_print(
 
 /// The bytes of the file that a view saves as.
 #[unsafe(no_mangle)]
-pub extern "C" fn llama_save(
+pub extern "C" fn lly_save(
     alloc: Global,
     view: &mut Handle,
     bytes: &mut [u8],
@@ -53,7 +53,7 @@ pub extern "C" fn llama_save(
 
 /// The bytes of a blob of a view.
 #[unsafe(no_mangle)]
-pub extern "C" fn llama_blob(
+pub extern "C" fn lly_blob(
     alloc: Global,
     view: &mut Handle,
     blob: usize,

@@ -11,7 +11,7 @@ use std::alloc::Global;
 
 /// How many rows a view has.
 #[unsafe(no_mangle)]
-pub extern "C" fn llama_rows(alloc: Global, view: &mut Handle, rows: &mut u64) -> i32
+pub extern "C" fn lly_rows(alloc: Global, view: &mut Handle, rows: &mut u64) -> i32
     ensures answer { result ≡ code_of (on_held row_count_told view.old.part.held) }
     ensures value { rows.new ≡ given_or rows.old (on_held row_count_told view.old.part.held) }
     ensures left { view.new.part.held ≡ view.old.part.held }
@@ -26,7 +26,7 @@ pub extern "C" fn llama_rows(alloc: Global, view: &mut Handle, rows: &mut u64) -
 
 /// How many leaves its record has.
 #[unsafe(no_mangle)]
-pub extern "C" fn llama_leaves(alloc: Global, view: &mut Handle, leaves: &mut usize) -> i32
+pub extern "C" fn lly_leaves(alloc: Global, view: &mut Handle, leaves: &mut usize) -> i32
     ensures answer { result ≡ code_of (on_held leaf_count_told view.old.part.held) }
     ensures value { leaves.new ≡ given_or leaves.old (on_held leaf_count_told view.old.part.held) }
     ensures left { view.new.part.held ≡ view.old.part.held }
@@ -41,7 +41,7 @@ pub extern "C" fn llama_leaves(alloc: Global, view: &mut Handle, leaves: &mut us
 
 /// How many blobs it lies in.
 #[unsafe(no_mangle)]
-pub extern "C" fn llama_blobs(alloc: Global, view: &mut Handle, blobs: &mut usize) -> i32
+pub extern "C" fn lly_blobs(alloc: Global, view: &mut Handle, blobs: &mut usize) -> i32
     ensures answer { result ≡ code_of (on_held blob_count_told view.old.part.held) }
     ensures value { blobs.new ≡ given_or blobs.old (on_held blob_count_told view.old.part.held) }
     ensures left { view.new.part.held ≡ view.old.part.held }
@@ -56,7 +56,7 @@ pub extern "C" fn llama_blobs(alloc: Global, view: &mut Handle, blobs: &mut usiz
 
 /// The row of an index: its place in the lexicographic list of the indices.
 #[unsafe(no_mangle)]
-pub extern "C" fn llama_row(alloc: Global, view: &mut Handle, index: &[u64], row: &mut u64) -> i32
+pub extern "C" fn lly_row(alloc: Global, view: &mut Handle, index: &[u64], row: &mut u64) -> i32
     ensures empty { view.old.part.held ≡ None → result ≡ pos 1 }
     ensures answers { IfSome view.old.part.held (λ table. (result ≡ pos 0) ⊎ (result ≡ pos 2)) }
     ensures found { result ≡ pos 0 → IfSome view.old.part.held (λ table. slice_get (indices table.extents) row.new ≡ Some index.now) }
@@ -80,7 +80,7 @@ pub extern "C" fn llama_row(alloc: Global, view: &mut Handle, index: &[u64], row
 
 /// The leaf whose path has this text.
 #[unsafe(no_mangle)]
-pub extern "C" fn llama_leaf(alloc: Global, view: &mut Handle, path: &[u8], leaf: &mut usize) -> i32
+pub extern "C" fn lly_leaf(alloc: Global, view: &mut Handle, path: &[u8], leaf: &mut usize) -> i32
     ensures empty { view.old.part.held ≡ None → result ≡ pos 1 }
     ensures answers { IfSome view.old.part.held (λ table. (result ≡ pos 0) ⊎ (result ≡ pos 2)) }
     ensures found { result ≡ pos 0 → IfSome view.old.part.held (λ table. slice_get (texts_of table.fields) leaf.new ≡ Some path.now) }

@@ -14,7 +14,7 @@ use std::sync::ledger::Blank;
 
 /// The values of a leaf in as many rows as the array is long, from one row on, where each value of the leaf is an `int64_t`.
 #[unsafe(no_mangle)]
-pub extern "C" fn llama_get_run(
+pub extern "C" fn lly_get_run(
     alloc: Global,
     view: &mut Handle,
     first: u64,
@@ -35,7 +35,7 @@ pub extern "C" fn llama_get_run(
 
 /// The same as `uint64_t`s, where each value of the leaf is one.
 #[unsafe(no_mangle)]
-pub extern "C" fn llama_get_run_u64(
+pub extern "C" fn lly_get_run_u64(
     alloc: Global,
     view: &mut Handle,
     first: u64,
@@ -57,7 +57,7 @@ pub extern "C" fn llama_get_run_u64(
 /// Makes the values of a leaf in as many rows as the array is long these, from one row on, as the view keeps them. A value that it does not take
 /// leaves those before it stored; the fault names its row and its leaf.
 #[unsafe(no_mangle)]
-pub extern "C" fn llama_set_run(
+pub extern "C" fn lly_set_run(
     alloc: Global,
     view: &mut Handle,
     first: u64,
@@ -79,7 +79,7 @@ pub extern "C" fn llama_set_run(
 
 /// The same of `uint64_t`s.
 #[unsafe(no_mangle)]
-pub extern "C" fn llama_set_run_u64(
+pub extern "C" fn lly_set_run_u64(
     alloc: Global,
     view: &mut Handle,
     first: u64,

@@ -17,7 +17,7 @@ use std::sync::ledger::Blank;
 /// Makes the table of a view that of another with the same record and the same extents, as the target keeps its values. A strict target that
 /// does not hold a value has the rows before it; the fault names the row and the leaf of that value.
 #[unsafe(no_mangle)]
-pub extern "C" fn llama_copy(
+pub extern "C" fn lly_copy(
     alloc: Global,
     source: &mut Handle,
     target: &mut Handle,
@@ -43,7 +43,7 @@ pub extern "C" fn llama_copy(
 
 /// Lays the table of a view out as a `relayout` line says. On a refusal the old view stays.
 #[unsafe(no_mangle)]
-pub extern "C" fn llama_relayout(
+pub extern "C" fn lly_relayout(
     alloc: Global,
     view: &mut Handle,
     line: &[u8],
@@ -62,7 +62,7 @@ pub extern "C" fn llama_relayout(
 
 /// Runs the kernel of a `kernel` line over the rows of a view, and gives its number, if it gives one.
 #[unsafe(no_mangle)]
-pub extern "C" fn llama_kernel(
+pub extern "C" fn lly_kernel(
     alloc: Global,
     view: &mut Handle,
     line: &[u8],

@@ -13,7 +13,7 @@ use std::sync::ledger::Blank;
 
 /// The value of a leaf in a row, where each value of the leaf is an `int64_t`.
 #[unsafe(no_mangle)]
-pub extern "C" fn llama_get(
+pub extern "C" fn lly_get(
     alloc: Global,
     view: &mut Handle,
     row: u64,
@@ -40,7 +40,7 @@ pub extern "C" fn llama_get(
 
 /// The same as a `uint64_t`, where each value of the leaf is one.
 #[unsafe(no_mangle)]
-pub extern "C" fn llama_get_u64(
+pub extern "C" fn lly_get_u64(
     alloc: Global,
     view: &mut Handle,
     row: u64,
@@ -67,7 +67,7 @@ pub extern "C" fn llama_get_u64(
 
 /// Makes the value of a leaf in a row this one, as the view keeps it.
 #[unsafe(no_mangle)]
-pub extern "C" fn llama_set(
+pub extern "C" fn lly_set(
     alloc: Global,
     view: &mut Handle,
     row: u64,
@@ -87,7 +87,7 @@ pub extern "C" fn llama_set(
 
 /// The same of a `uint64_t`.
 #[unsafe(no_mangle)]
-pub extern "C" fn llama_set_u64(
+pub extern "C" fn lly_set_u64(
     alloc: Global,
     view: &mut Handle,
     row: u64,

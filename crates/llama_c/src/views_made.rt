@@ -13,20 +13,20 @@ use std::marker::Brand;
 use std::sync::ledger::Blank;
 use views::{MakeView, View};
 
-/// The version of the interface: it grows where a call is added, and its hundreds where one changes.
-const VERSION: i32 = 200;
+/// The version of the interface, 1.0.0: the last number is that of a mend, the one before it grows where a call is added, the first where one changes.
+const VERSION: i32 = 10_000;
 
-/// The version of the interface, as `LLAMA_VERSION` of the header that it was made with.
+/// The version of the interface, as `LLY_VERSION` of the header that it was made with.
 #[unsafe(no_mangle)]
-pub extern "C" fn llama_version() -> i32
-    ensures { result ≡ pos 200 }
+pub extern "C" fn lly_version() -> i32
+    ensures { result ≡ pos 10000 }
 {
     VERSION
 }
 
 /// Lets the view go, and leaves the handle empty.
 #[unsafe(no_mangle)]
-pub extern "C" fn llama_drop(alloc: Global, view: &mut Handle)
+pub extern "C" fn lly_drop(alloc: Global, view: &mut Handle)
     ensures { view.new.part.held ≡ None }
 {
     *view = Handle::new(alloc, None);
@@ -34,7 +34,7 @@ pub extern "C" fn llama_drop(alloc: Global, view: &mut Handle)
 
 /// Puts the view of zeros that two lines describe into the handle, in place of what it held. On a refusal the handle stays.
 #[unsafe(no_mangle)]
-pub extern "C" fn llama_new(
+pub extern "C" fn lly_new(
     alloc: Global,
     out: &mut Handle,
     first: &[u8],
@@ -49,7 +49,7 @@ pub extern "C" fn llama_new(
 
 /// Puts the view that two lines and a dataset describe into the handle, in place of what it held. On a refusal the handle stays.
 #[unsafe(no_mangle)]
-pub extern "C" fn llama_load(
+pub extern "C" fn lly_load(
     alloc: Global,
     out: &mut Handle,
     first: &[u8],
@@ -65,12 +65,7 @@ pub extern "C" fn llama_load(
 
 /// Puts the view of which bytes are the file into the handle, in place of what it held. On a refusal the handle stays.
 #[unsafe(no_mangle)]
-pub extern "C" fn llama_open(
-    alloc: Global,
-    out: &mut Handle,
-    bytes: &[u8],
-    fault: &mut Fault,
-) -> i32
+pub extern "C" fn lly_open(alloc: Global, out: &mut Handle, bytes: &[u8], fault: &mut Fault) -> i32
     ensures { IsMade (opened_told bytes.now) result out.old.part.held out.new.part.held fault.old fault.new }
 {
     let made = open_view::<Brand>(alloc, bytes, Blank::new(1));

@@ -1,5 +1,0 @@
--- the ledger that the blank opens
-use Rattle.llama_c.proofs.runs.llama_set_run_u64.Given as goal
-
-abbrev pub ghosts-set_run : goal.ghosts-set_run
-ghosts-set_run a = record { name = a.blank.name; parts = a.blank.parts }

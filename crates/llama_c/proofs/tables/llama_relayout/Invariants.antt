@@ -1,5 +1,0 @@
--- the ledger that the blank opens
-use Rattle.llama_c.proofs.tables.llama_relayout.Given as goal
-
-abbrev pub ghosts-lay_anew : goal.ghosts-lay_anew
-ghosts-lay_anew a = record { name = a.blank.name; parts = a.blank.parts }

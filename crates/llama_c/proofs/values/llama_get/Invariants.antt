@@ -1,5 +1,0 @@
--- the ledger that the blank opens
-use Rattle.llama_c.proofs.values.llama_get.Given as goal
-
-abbrev pub ghosts-get : goal.ghosts-get
-ghosts-get a = record { name = a.blank.name; parts = a.blank.parts }

@@ -1,5 +1,0 @@
--- the ledger that the blank opens
-use Rattle.llama_c.proofs.values.llama_set.Given as goal
-
-abbrev pub ghosts-set : goal.ghosts-set
-ghosts-set a = record { name = a.blank.name; parts = a.blank.parts }

@@ -1,0 +1,5 @@
+-- the ledger that the blank opens
+use Rattle.llama_c.proofs.values.lly_get_u64.Given as goal
+
+abbrev pub ghosts-get : goal.ghosts-get
+ghosts-get a = record { name = a.blank.name; parts = a.blank.parts }

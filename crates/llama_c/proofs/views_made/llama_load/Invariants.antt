@@ -1,5 +1,0 @@
--- the ledger that the blank opens
-use Rattle.llama_c.proofs.views_made.llama_load.Given as goal
-
-abbrev pub ghosts-loaded_view : goal.ghosts-loaded_view
-ghosts-loaded_view a = record { name = a.blank.name; parts = a.blank.parts }

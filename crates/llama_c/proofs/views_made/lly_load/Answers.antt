@@ -1,0 +1,10 @@
+use Rattle.std.proofs.Common.{rules, SFits, w32}
+use Rattle.std.proofs.lemmas.Int.{to_z-of_z}
+use Rattle.c_lines.specs.Lines.{loaded}
+use Rattle.llama_c.proofs.Held.{made_told}
+use Rattle.llama_c.proofs.views_made.lly_load.Goals as goal
+
+pub returns : goal.returns
+returns c =
+    let fits : SFits w32 c.put.result = search rules in
+    made_told (loaded c.args.first.now c.args.second.now c.args.csv.now) c.loaded_view-made.result c.put.result _ _ _ _ _ c.loaded_view-made.ensures (to_z-of_z w32 c.put.result fits) c.put.ensures
