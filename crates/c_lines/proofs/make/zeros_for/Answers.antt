@@ -1,4 +1,4 @@
-use Rattle.c_lines.proofs.Imports.{rules, ◌≡◌, ◌∙◌, ℕ, List, length, IfSome, Ok, sym, ap, subst, indices, Table, resolved, named_of}
+use Rattle.c_lines.proofs.Imports.{rules, ◌≡◌, ◌∙◌, ℕ, List, length, IfSome, Ok, Err, sym, ap, subst, indices, Table, resolved, named_of}
 use Rattle.c_lines.proofs.Answering.{goes_ok, if_answered, tells_refused, tells_test}
 use Rattle.c_lines.proofs.Making.{zeros_refused, zeros_made}
 use Rattle.c_lines.proofs.make.zeros_for.Goals as goal
@@ -7,7 +7,7 @@ pub returns-in_err-extents-clause-zeros : goal.returns-in_err-extents-clause-zer
 returns-in_err-extents-clause-zeros c =
     let asked = c.args.asked.now in
     zeros_refused (named_of asked.record c.args.found.now) asked.new.words c.args.rows c.in_err-extents.field-0.0 _ (search rules)
-    (tells_test _ c.resolved.result _ _ c.in_err-extents.ensures (rw c.as_slice.ensures at c.resolved.ensures.extents))
+    (tells_test _ c.resolved.result (resolved asked.new.words c.args.rows) (Err c.in_err-extents.field-0.0) c.in_err-extents.ensures (rw c.as_slice.ensures at c.resolved.ensures.extents))
 
 pub returns-in_err-view-clause-zeros : goal.returns-in_err-view-clause-zeros
 returns-in_err-view-clause-zeros c =
@@ -15,7 +15,7 @@ returns-in_err-view-clause-zeros c =
     let extents = c.in_ok-extents.extents in
     let goes : resolved asked.new.words c.args.rows ≡ Ok extents = goes_ok _ c.resolved.result _ extents c.in_ok-extents.ensures (rw c.as_slice.ensures at c.resolved.ensures.extents) in
     zeros_made (named_of asked.record c.args.found.now) asked.new.words c.args.rows extents c.from_residual-in_err-view.result goes
-    (tells_refused (λ (view : Table). view) _ c.in_err-view.field-0.0 c.from_residual-in_err-view.result (search rules) (tells_test (λ (view : Table). view) c.made.result _ _ c.in_err-view.ensures c.made.ensures.made))
+    (tells_refused (λ (view : Table). view) _ c.in_err-view.field-0.0 c.from_residual-in_err-view.result (search rules) (tells_test (λ (view : Table). view) c.made.result _ (Err c.in_err-view.field-0.0) c.in_err-view.ensures c.made.ensures.made))
 
 pub returns-clause-zeros : goal.returns-clause-zeros
 returns-clause-zeros c =
