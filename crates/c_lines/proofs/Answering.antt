@@ -1,5 +1,5 @@
 -- What is told of a test of the model, and of one thing after another.
-use Rattle.c_lines.proofs.Imports.{IfOk, ◌≡◌, ◌⊎◌, Bool, true, false, not, inl, inr, ⊎_elim, Result, Ok, Err, refl, ap, ◌∙◌, Tested, ◌>>=◌, Gives, StepFault, Answer, Tells, Refusal, NoMemory, told, answered}
+use Rattle.c_lines.proofs.Imports.{IfOk, ◌≡◌, ◌⊎◌, Bool, true, false, not, inl, inr, Result, Ok, Err, refl, ap, ◌∙◌, Tested, ◌>>=◌, Gives, StepFault, Answer, Tells, Refusal, NoMemory, told, answered}
 use Rattle.command_checks.specs.declared.fault.StepFault.TheVariants as step
 
 -- a refusal, or want of memory
@@ -29,17 +29,6 @@ if_answered P (Err fault) result is holds = rw is tt
 -- a refusal as an answer
 pub tells_refused : {A B : Type 0} (view : A → B) (told_of : Answer B) (refusal : Refusal) (result : Answer A) → result ≡ Err refusal → Refuses told_of refusal → Tells view told_of result
 tells_refused view told_of refusal result is refuses = rw is refuses
-
--- a refusal of the first of two things
-pub refused_then : {A B C : Type 0} (view : C → B) (first : Answer A) (next : A → Answer B) (refusal : Refusal) (result : Answer C) → result ≡ Err refusal → Refuses first refusal → Tells view (first >>= next) result
-refused_then view first next refusal result is refuses = rw is (⊎_elim
-    (λ (starved : refusal ≡ NoMemory). inl starved)
-    (λ (told_is : first ≡ Err refusal). inr (rw told_is refl))
-    refuses)
-
--- the first of two things gives this
-pub given_then : {A B C : Type 0} (view : C → B) (first : Answer A) (next : A → Answer B) (x : A) (result : Answer C) → first ≡ Ok x → Tells view (next x) result → Tells view (first >>= next) result
-given_then view first next x result is tells = rw is tells
 
 -- three things, of which the first two are one
 pub then_then : {A B C E : Type 0} (first : Result A E) (next : A → Result B E) (last : B → Result C E) → (first >>= λ x. next x >>= last) ≡ ((first >>= next) >>= last)

@@ -1,5 +1,5 @@
 -- What the proofs of this crate speak of.
-pub use Rattle.std.proofs.Common.{◌≡◌, Bool, true, false, [], Some, None, Result, Ok, Err, refl, ap, ⊎_elim, ℕ, ◌+◌, ◌*◌, ◌^◌, ◌≤◌, ℤ, List, ◌∷◌, ◌∙◌, nat_lt, length, sym, ◌⊎◌, not, inl, inr, ◌<◌, get_or, map, arith, nat_eq, subst, suc, ◌-◌, ◌++◌, take, drop, pos, negsuc, ◌≤ℤ◌, length-drop, take_all, w64, rules, IfSome, SFits, to_z, of_z, FitsSigned}
+pub use Rattle.std.proofs.Common.{◌≡◌, Bool, true, false, [], Option, Some, None, Result, Ok, Err, refl, ap, ⊎_elim, ℕ, ◌+◌, ◌*◌, ◌^◌, ◌≤◌, ℤ, List, ◌∷◌, ◌∙◌, nat_lt, length, sym, ◌⊎◌, not, inl, inr, ◌<◌, get_or, map, arith, nat_eq, subst, suc, ◌-◌, ◌++◌, take, drop, pos, negsuc, ◌≤ℤ◌, length-drop, take_all, w64, rules, IfSome, SFits, to_z, of_z, FitsSigned}
 pub use Rattle.std.proofs.lemmas.Bool.{cases_Bool, not-true}
 pub use Rattle.std.specs.Prelude.{IfOk}
 pub use Rattle.std.proofs.lemmas.Bool.Decides.{nat_tests}
@@ -24,7 +24,7 @@ pub use Rattle.worlds.specs.Names.{nameless}
 pub use Rattle.worlds.specs.Tables.{live_bits, made, resolved, shaped, mode_by, zeros_of, blob_bits}
 pub use Rattle.csv_rows.specs.Datasets.{csv_records, records_behind}
 pub use Rattle.record_dim.specs.Leaves.{texts_of, kinds_of}
-pub use Rattle.worlds.specs.View.{named, Named}
+pub use Rattle.worlds.specs.View.{named, new_table_by, Named}
 pub use Rattle.worlds.specs.Load.{filled_by, loaded_by}
 pub use Rattle.worlds.specs.declared.fault.CommandFault.TheVariants.{TooBig, BadMapping as OfMapping}
 pub use Rattle.command_checks.specs.Inner.Gives.{Gives}
@@ -80,4 +80,4 @@ pub use Rattle.c_lines.specs.Inner.Steps.{answered}
 pub use Rattle.c_lines.specs.Buffers.{blob_told}
 pub use Rattle.c_lines.specs.CallerRuns.{after_run, told_run, IsFrontStored, IsSet}
 pub use Rattle.c_lines.specs.Values.{reads_signed, reads_unsigned}
-pub use Rattle.c_lines.specs.Inner.Makes.{named_of, new_of, world_of, zeros_for}
+pub use Rattle.c_lines.specs.Inner.Makes.{named_of, new_of, zeros_for}

@@ -1,5 +1,5 @@
 -- Views of the words of two lines, by the tests that refuse them.
-use Rattle.c_lines.proofs.Imports.{◌≡◌, inl, inr, ℕ, ◌^◌, ◌≤◌, true, false, nat_eq, nat_lt, List, [], length, Some, Ok, Err, refl, sym, ap, subst, arith, nat_tests, pointwise, text_self, Fields, csv_records, records_behind, ExtentWord, New, Term, Table, nameless, Tested, ◌>>=◌, made, resolved, shaped, mode_by, Named, named, World, empty, added, filled_by, loaded_by, Answer, Tells, Refusal, zeros_for, told, refusal_of, in_numbers}
+use Rattle.c_lines.proofs.Imports.{◌≡◌, inl, inr, ℕ, ◌^◌, ◌≤◌, true, false, nat_eq, nat_lt, List, [], length, Option, Some, None, Ok, Err, refl, ap, arith, nat_tests, pointwise, text_self, Fields, csv_records, records_behind, ExtentWord, New, Term, Table, nameless, Tested, ◌>>=◌, made, resolved, shaped, mode_by, Named, named, World, empty, added, filled_by, loaded_by, new_table_by, Answer, Tells, Refusal, zeros_for, told, refusal_of, in_numbers}
 use Rattle.c_lines.proofs.Answering.{Refuses, then_then}
 
 -- a world of one record
@@ -27,6 +27,26 @@ pub shape_refused : (name : List ℕ) (fields : Fields) (new : New) (whole : Ter
 shape_refused name fields new whole refusal is goes refuses = rw (name_found name fields new is, goes)
     (told_refused (shaped new.words) (λ ranked. Ok (record { fields = fields; mode = mode_by new.wrap; mapping = whole })) refusal refuses)
 
+-- the table of zeros
+pub new_refused : (name : List ℕ) (fields : Fields) (new : New) (refusal : Refusal) (result : Answer Table) → result ≡ Err refusal → Refuses (told (named (one_record name fields) new)) refusal →
+    Tells (λ table. table) (new_table_by in_numbers (one_record name fields) new) result
+new_refused name fields new refusal result is (inl starved) = rw is (inl starved)
+new_refused name fields new refusal result is (inr told_is) = rw (is, told_is) (inr refl)
+
+pub new_made : (name : List ℕ) (fields : Fields) (new : New) (whole : Named) (result : Answer Table) → told (named (one_record name fields) new) ≡ Ok whole →
+    Tells (λ table. table) (zeros_for whole new.words None) result → Tells (λ table. table) (new_table_by in_numbers (one_record name fields) new) result
+new_made name fields new whole result is tells = rw is tells
+
+-- where the words stand for this
+pub zeros_refused : (whole : Named) (words : List ExtentWord) (rows : Option ℕ) (refusal : Refusal) (result : Answer Table) → result ≡ Err refusal → Refuses (told (resolved words rows)) refusal →
+    Tells (λ table. table) (zeros_for whole words rows) result
+zeros_refused whole words rows refusal result is (inl starved) = rw is (inl starved)
+zeros_refused whole words rows refusal result is (inr told_is) = rw (is, told_is) (inr refl)
+
+pub zeros_made : (whole : Named) (words : List ExtentWord) (rows : Option ℕ) (extents : List ℕ) (result : Answer Table) → resolved words rows ≡ Ok extents →
+    Tells (λ table. table) (told (made [] whole.mode whole.fields extents whole.mapping)) result → Tells (λ table. table) (zeros_for whole words rows) result
+zeros_made whole words rows extents result goes tells = rw goes tells
+
 -- the table of a dataset that is not too long is that of zeros with its values
 is_short : (csv : List ℕ) → length csv ≤ 2 ^ 28 → nat_lt (2 ^ 28) (length csv) ≡ false
 is_short csv short = grind (arith, nat_tests)
@@ -36,6 +56,11 @@ from_zeros : (whole : Named) (words : List ExtentWord) (csv : List ℕ) (rows : 
 from_zeros whole words csv rows short many = rw (is_short csv short, many)
     (then_then (told (resolved words (Some (length (records_behind (csv_records csv)))))) (λ (extents : List ℕ). told (made [] whole.mode whole.fields extents whole.mapping)) (λ (zeros : Table). filled_by in_numbers zeros (csv_records csv)))
 
-pub tells_filled : (whole : Named) (words : List ExtentWord) (csv : List ℕ) (rows : ℕ) (result : Answer Table) → length csv ≤ 2 ^ 28 → rows ≡ length (records_behind (csv_records csv)) →
-    Tells (λ table. table) (zeros_for whole words (Some rows) >>= λ zeros. filled_by in_numbers zeros (csv_records csv)) result → Tells (λ table. table) (loaded_by in_numbers [] whole words csv) result
-tells_filled whole words csv rows result short many tells = subst (λ (a : Answer Table). Tells (λ table. table) a result) (sym (from_zeros whole words csv rows short many)) tells
+pub filled_refused : (whole : Named) (words : List ExtentWord) (csv : List ℕ) (rows : ℕ) (refusal : Refusal) (result : Answer Table) → length csv ≤ 2 ^ 28 → rows ≡ length (records_behind (csv_records csv)) →
+    result ≡ Err refusal → Refuses (zeros_for whole words (Some rows)) refusal → Tells (λ table. table) (loaded_by in_numbers [] whole words csv) result
+filled_refused whole words csv rows refusal result short many is (inl starved) = rw is (inl starved)
+filled_refused whole words csv rows refusal result short many is (inr told_is) = rw (is, from_zeros whole words csv rows short many, told_is) (inr refl)
+
+pub filled_made : (whole : Named) (words : List ExtentWord) (csv : List ℕ) (rows : ℕ) (zeros : Table) (result : Answer Table) → length csv ≤ 2 ^ 28 → rows ≡ length (records_behind (csv_records csv)) →
+    zeros_for whole words (Some rows) ≡ Ok zeros → Tells (λ table. table) (filled_by in_numbers zeros (csv_records csv)) result → Tells (λ table. table) (loaded_by in_numbers [] whole words csv) result
+filled_made whole words csv rows zeros result short many made_is tells = rw (from_zeros whole words csv rows short many, made_is) tells

@@ -7,6 +7,11 @@ pub whole_as : {A : Type 0} (view : A → Term) (text : List ℕ) (sentence : Se
     Tells view (told (nameless [] term)) result → Tells view (whole_told text) result
 whole_as view text sentence term result one two tells = rw (one, two) tells
 
+-- zeros under it in the shape of a table
+pub zeros_as : (text : List ℕ) (table : Table) (whole : Term) (result : Answer Table) → whole_told text ≡ Ok whole →
+    Tells (λ view. view) (told (made [] table.mode table.fields table.extents whole)) result → Tells (λ view. view) (zeros_told text table) result
+zeros_as text table whole result is tells = rw is tells
+
 pub zeros_alike : (table : Table) (mode : StoreMode) (term : Term) (given : Result Table StepFault) → IfOk given (λ view. view ≡ zeros_of mode table.fields table.extents term) → IfOk given (AreAlike table)
 zeros_alike table mode term (Ok view) is = (sym (ap (λ (t : Table). t.fields) is), sym (ap (λ (t : Table). t.extents) is))
 zeros_alike table mode term (Err fault) is = tt

@@ -1,4 +1,4 @@
-use Rattle.c_lines.proofs.Imports.{rules, [], term_of, same_text, schema_fields, nameless, Gives, named_of, new_of}
+use Rattle.c_lines.proofs.Imports.{rules, [], Err, term_of, same_text, schema_fields, nameless, shaped, Gives, named_of, new_of}
 use Rattle.c_lines.proofs.Answering.{goes_ok, ne_false, tells_refused, tells_test}
 use Rattle.c_lines.proofs.Making.{shape_refused}
 use Rattle.c_lines.proofs.make.find.Goals as goal
@@ -12,4 +12,4 @@ returns-in_err-shape-clause-named c =
     let same = same_text asked.new.schema asked.record.name (ne_false c.ne.result _ c.ne.ensures c.if-ne.false) in
     tells_refused (named_of asked.record) _ refusal c.from_residual-in_err-shape.result (search rules)
     (shape_refused asked.record.name (schema_fields asked.record.schema) (new_of asked.new) (term_of c.in_ok-expr.expr) refusal same goes
-    (tells_test _ c.shaped.result _ _ c.in_err-shape.ensures (rw c.as_slice.ensures at c.shaped.ensures.shaped)))
+    (tells_test _ c.shaped.result (shaped asked.new.words) (Err refusal) c.in_err-shape.ensures (rw c.as_slice.ensures at c.shaped.ensures.shaped)))

@@ -1,24 +1,29 @@
-use Rattle.c_lines.proofs.Imports.{rules, ◌≡◌, ◌∙◌, ℕ, List, length, IfSome, Ok, sym, ap, subst, indices, Table, resolved, told}
-use Rattle.c_lines.proofs.Answering.{given_then, goes_ok, if_answered, refused_then, tells_refused, tells_test}
+use Rattle.c_lines.proofs.Imports.{rules, ◌≡◌, ◌∙◌, ℕ, List, length, IfSome, Ok, Err, sym, ap, subst, indices, Table, resolved, named_of}
+use Rattle.c_lines.proofs.Answering.{goes_ok, if_answered, tells_refused, tells_test}
+use Rattle.c_lines.proofs.Making.{zeros_refused, zeros_made}
 use Rattle.c_lines.proofs.make.zeros_for.Goals as goal
 
 pub returns-in_err-extents-clause-zeros : goal.returns-in_err-extents-clause-zeros
 returns-in_err-extents-clause-zeros c =
-    refused_then (λ (view : Table). view) (told (resolved c.args.asked.now.new.words c.args.rows)) _ c.in_err-extents.field-0.0 _ (search rules)
-    (tells_test _ c.resolved.result _ _ c.in_err-extents.ensures (rw c.as_slice.ensures at c.resolved.ensures.extents))
+    let asked = c.args.asked.now in
+    zeros_refused (named_of asked.record c.args.found.now) asked.new.words c.args.rows c.in_err-extents.field-0.0 _ (search rules)
+    (tells_test _ c.resolved.result (resolved asked.new.words c.args.rows) (Err c.in_err-extents.field-0.0) c.in_err-extents.ensures (rw c.as_slice.ensures at c.resolved.ensures.extents))
 
 pub returns-in_err-view-clause-zeros : goal.returns-in_err-view-clause-zeros
 returns-in_err-view-clause-zeros c =
+    let asked = c.args.asked.now in
     let extents = c.in_ok-extents.extents in
-    let goes : resolved c.args.asked.now.new.words c.args.rows ≡ Ok extents = goes_ok _ c.resolved.result _ extents c.in_ok-extents.ensures (rw c.as_slice.ensures at c.resolved.ensures.extents) in
-    given_then (λ (view : Table). view) (told (resolved c.args.asked.now.new.words c.args.rows)) _ extents c.from_residual-in_err-view.result (ap told goes)
-    (tells_refused (λ (view : Table). view) _ c.in_err-view.field-0.0 c.from_residual-in_err-view.result (search rules) (tells_test (λ (view : Table). view) c.made.result _ _ c.in_err-view.ensures c.made.ensures.made))
+    let goes : resolved asked.new.words c.args.rows ≡ Ok extents = goes_ok _ c.resolved.result _ extents c.in_ok-extents.ensures (rw c.as_slice.ensures at c.resolved.ensures.extents) in
+    zeros_made (named_of asked.record c.args.found.now) asked.new.words c.args.rows extents c.from_residual-in_err-view.result goes
+    (tells_refused (λ (view : Table). view) _ c.in_err-view.field-0.0 c.from_residual-in_err-view.result (search rules) (tells_test (λ (view : Table). view) c.made.result _ (Err c.in_err-view.field-0.0) c.in_err-view.ensures c.made.ensures.made))
 
 pub returns-clause-zeros : goal.returns-clause-zeros
 returns-clause-zeros c =
+    let asked = c.args.asked.now in
     let extents = c.in_ok-extents.extents in
-    let goes : resolved c.args.asked.now.new.words c.args.rows ≡ Ok extents = goes_ok _ c.resolved.result _ extents c.in_ok-extents.ensures (rw c.as_slice.ensures at c.resolved.ensures.extents) in
-    given_then (λ (view : Table). view) (told (resolved c.args.asked.now.new.words c.args.rows)) _ extents (Ok c.in_ok-view.view) (ap told goes) (tells_test (λ (view : Table). view) c.made.result _ (Ok c.in_ok-view.view) c.in_ok-view.ensures c.made.ensures.made)
+    let goes : resolved asked.new.words c.args.rows ≡ Ok extents = goes_ok _ c.resolved.result _ extents c.in_ok-extents.ensures (rw c.as_slice.ensures at c.resolved.ensures.extents) in
+    zeros_made (named_of asked.record c.args.found.now) asked.new.words c.args.rows extents (Ok c.in_ok-view.view) goes
+    (tells_test (λ (view : Table). view) c.made.result _ (Ok c.in_ok-view.view) c.in_ok-view.ensures c.made.ensures.made)
 
 pub returns-clause-rows : goal.returns-clause-rows
 returns-clause-rows c =

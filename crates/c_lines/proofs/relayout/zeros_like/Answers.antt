@@ -1,11 +1,11 @@
-use Rattle.c_lines.proofs.Imports.{AreAlike, term_of, Table, whole_told}
-use Rattle.c_lines.proofs.Answering.{given_then, if_answered, tells_test}
-use Rattle.c_lines.proofs.Relaying.{zeros_alike}
+use Rattle.c_lines.proofs.Imports.{AreAlike, term_of, Table}
+use Rattle.c_lines.proofs.Answering.{if_answered, tells_test}
+use Rattle.c_lines.proofs.Relaying.{zeros_alike, zeros_as}
 use Rattle.c_lines.proofs.relayout.zeros_like.Goals as goal
 
 pub returns-clause-told : goal.returns-clause-told
 returns-clause-told c =
-    given_then (λ (view : Table). view) (whole_told c.args.line.now) _ (term_of c.in_ok-expr.expr) c.answered-zeros.result c.in_ok-expr.ensures.told
+    zeros_as c.args.line.now c.args.view.now (term_of c.in_ok-expr.expr) c.answered-zeros.result c.in_ok-expr.ensures.told
     (tells_test (λ (view : Table). view) c.made.result _ c.answered-zeros.result c.answered-zeros.ensures
     (rw (c.mode.ensures, c.schema.ensures.value, c.extents.ensures.value) at c.made.ensures.made))
 
