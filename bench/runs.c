@@ -1,6 +1,7 @@
 /* llama_get_run, llama_set_run and llama_get beside loops in C over the same bytes: the leaf x of { x: i32, y: u32 }, in packed records, arrays, blocks of 16
  * rows and fields of 20 bits. A loop knows its layout. It tests once that the rows are there, and each value that it stores for its range, as the library does.
  *
+ * gcc -std=gnu99 -O2 -Iinclude bench/runs.c lib/libllama.a -o runs
  * usage: runs llama|loop aos|soa|aosoa|bits get|set|one ROWS ROUNDS     ROWS is a multiple of 16; the sum of what is read is printed */
 #include <inttypes.h>
 #include <stdbool.h>
