@@ -1,157 +1,190 @@
-/* The time of lly_get_run, lly_set_run and lly_get beside C over the same bytes: a leaf of a million rows, as soa, as aosoa and in bits. What
- * stands beside a run is a loop that is not inlined, and beside a single read an accessor that is.
+/* lly_get_run, lly_set_run and lly_get beside loops in C over the same bytes: the leaf x of { x: i32, y: u32 }, in packed records, arrays, blocks of 16
+ * rows and fields of 20 bits. A loop knows its layout. It tests once that the rows are there, and each value that it stores for its range, as the library does.
  *
- * gcc -std=gnu99 -O2 -Iinclude bench/runs.c lib/libllama_layout.a -o runs && ./runs 100 [soa | aosoa | bits]
- */
+ * gcc -std=gnu99 -O2 -Iinclude bench/runs.c lib/libllama_layout.a -o runs
+ * usage: runs llama|loop aos|soa|aosoa|bits get|set|one ROWS ROUNDS     ROWS is a multiple of 16; the sum of what is read is printed */
 #include <inttypes.h>
+#include <stdbool.h>
 #include <stdio.h>
 #include <stdlib.h>
 #include <string.h>
-#include <time.h>
 
 #include "llama_layout.h"
 
-/* STRIDE has no factor in common with ROWS, so each row comes once. */
-enum { ROWS = 1000000, LANES = 16, BITS = 20, STRIDE = 17 };
+/* STRIDE has no factor in common with a number of rows that ends in 0, so each row comes once. */
+enum { LANES = 16, BITS = 20, STRIDE = 17, SPARE = 64 };
 
-static int64_t values[ROWS];
+static void fail(const char *why) {
+    fprintf(stderr, "runs: %s\n", why);
+    exit(1);
+}
 
 static void must(int32_t answer) {
     if (answer != LLY_DONE) {
-        fprintf(stderr, "a call answers %" PRId32 "\n", answer);
-        exit(1);
+        fail("a call is refused");
     }
 }
 
-/* The leaf x of a view of ROWS rows, row r of which is r % 1000. */
-static void make(lly_view *view, const char *line) {
-    static const char record[] = "record P { x: i32, y: u32 }";
-    lly_fault fault = LLY_NO_FAULT;
-    uint64_t row;
-    must(lly_new(view, (const uint8_t *)record, strlen(record), (const uint8_t *)line, strlen(line), &fault));
-    for (row = 0; row < ROWS; row++) {
-        must(lly_set(view, row, 0, (int64_t)(row % 1000)));
+/* ---- The accessors of the four layouts, and the range of what each holds. */
+
+static inline void *at_aos(uint8_t *bytes, uint64_t row) { return bytes + 8 * row; }
+static inline void *at_soa(uint8_t *bytes, uint64_t row) { return bytes + 4 * row; }
+static inline void *at_aosoa(uint8_t *bytes, uint64_t row) { return bytes + row / LANES * LANES * 8 + row % LANES * 4; }
+
+#define WHOLE(form)                                                                                     \
+    static const int64_t far_##form = INT32_MAX;                                                        \
+    static inline int64_t get_##form(uint8_t *bytes, uint64_t row) {                                    \
+        int32_t value;                                                                                  \
+        memcpy(&value, at_##form(bytes, row), 4);                                                       \
+        return value;                                                                                   \
+    }                                                                                                   \
+    static inline void put_##form(uint8_t *bytes, uint64_t row, int64_t value) {                        \
+        const int32_t low = (int32_t)value;                                                             \
+        memcpy(at_##form(bytes, row), &low, 4);                                                         \
     }
-}
 
-/* The same bytes, made by hand. */
-static uint8_t *bytes_of(int form) {
-    uint8_t *bytes = calloc(ROWS + 64, 8);
-    uint64_t row, bit;
-    for (row = 0; row < ROWS; row++) {
-        const int32_t value = (int32_t)(row % 1000);
-        if (form == 0) {
-            memcpy(bytes + 4 * row, &value, 4);
-        } else if (form == 1) {
-            memcpy(bytes + row / LANES * LANES * 8 + row % LANES * 4, &value, 4);
-        } else {
-            for (bit = 0; bit < BITS; bit++) {
-                const uint64_t at = row * BITS + bit;
-                bytes[at / 8] |= (uint8_t)(((uint32_t)value >> bit & 1u) << at % 8);
-            }
-        }
-    }
-    return bytes;
-}
+WHOLE(aos)
+WHOLE(soa)
+WHOLE(aosoa)
 
-/* The accessors of the three layouts. */
-static inline int64_t get_soa(const uint8_t *bytes, uint64_t row) {
-    int32_t value;
-    memcpy(&value, bytes + 4 * row, 4);
-    return value;
-}
+static const int64_t far_bits = (1 << (BITS - 1)) - 1;
 
-static inline int64_t get_aosoa(const uint8_t *bytes, uint64_t row) {
-    int32_t value;
-    memcpy(&value, bytes + row / LANES * LANES * 8 + row % LANES * 4, 4);
-    return value;
-}
-
-static inline int64_t get_bits(const uint8_t *bytes, uint64_t row) {
+static inline int64_t get_bits(uint8_t *bytes, uint64_t row) {
     const uint64_t at = row * BITS;
     uint32_t word;
     memcpy(&word, bytes + at / 8, 4);
     return (int32_t)(word >> at % 8 << (32 - BITS)) >> (32 - BITS);
 }
 
-/* A loop that reads a run, and one that sums single reads in an order that is not that of the rows. */
-#define LOOPS(form)                                                                                             \
-    __attribute__((noinline)) static void loop_##form(const uint8_t *bytes, int64_t *into, uint64_t rows) {     \
-        for (uint64_t row = 0; row < rows; row++) {                                                             \
-            into[row] = get_##form(bytes, row);                                                                 \
-        }                                                                                                       \
-    }                                                                                                           \
-    __attribute__((noinline)) static int64_t each_##form(const uint8_t *bytes, uint64_t rows) {                 \
-        int64_t sum = 0;                                                                                        \
-        for (uint64_t k = 0; k < rows; k++) {                                                                   \
-            sum += get_##form(bytes, k * STRIDE % rows);                                                        \
-        }                                                                                                       \
-        return sum;                                                                                             \
+static inline void put_bits(uint8_t *bytes, uint64_t row, int64_t value) {
+    const uint64_t at = row * BITS;
+    const uint32_t ones = ((1u << BITS) - 1) << at % 8;
+    uint32_t word;
+    memcpy(&word, bytes + at / 8, 4);
+    word = (word & ~ones) | ((uint32_t)value << at % 8 & ones);
+    memcpy(bytes + at / 8, &word, 4);
+}
+
+/* ---- The loops. */
+
+#define LOOPS(form)                                                                                     \
+    __attribute__((noipa)) static bool read_##form(uint8_t *bytes, uint64_t rows, uint64_t first,       \
+                                                   int64_t *values, uint64_t count) {                   \
+        if (first > rows || count > rows - first) {                                                     \
+            return false;                                                                               \
+        }                                                                                               \
+        for (uint64_t k = 0; k < count; k++) {                                                          \
+            values[k] = get_##form(bytes, first + k);                                                   \
+        }                                                                                               \
+        return true;                                                                                    \
+    }                                                                                                   \
+    __attribute__((noipa)) static bool store_##form(uint8_t *bytes, uint64_t rows, uint64_t first,      \
+                                                    int64_t *values, uint64_t count) {                  \
+        if (first > rows || count > rows - first) {                                                     \
+            return false;                                                                               \
+        }                                                                                               \
+        for (uint64_t k = 0; k < count; k++) {                                                          \
+            if (values[k] < -far_##form - 1 || values[k] > far_##form) {                                \
+                return false;                                                                           \
+            }                                                                                           \
+            put_##form(bytes, first + k, values[k]);                                                    \
+        }                                                                                               \
+        return true;                                                                                    \
+    }                                                                                                   \
+    __attribute__((noipa)) static bool each_##form(uint8_t *bytes, uint64_t rows, uint64_t first,       \
+                                                   int64_t *sum, uint64_t count) {                      \
+        for (uint64_t k = first; k < count; k++) {                                                      \
+            *sum += get_##form(bytes, k * STRIDE % rows);                                               \
+        }                                                                                               \
+        return true;                                                                                    \
     }
 
+LOOPS(aos)
 LOOPS(soa)
 LOOPS(aosoa)
 LOOPS(bits)
 
-static double seconds(void) { return (double)clock() / CLOCKS_PER_SEC; }
+typedef bool loop(uint8_t *, uint64_t, uint64_t, int64_t *, uint64_t);
 
-int main(int argc, char **argv) {
-    static const char *const lines[] = {
-        "view V : P [1000000] as soa(multi, row)",
-        "view V : P [1000000] as aosoa(16, row)",
-        "view V : P [1000000] as bitsoa(8 { x: 20 }, row)",
-    };
-    static const char *const names[] = {"soa", "aosoa", "bits"};
-    static void (*const loops[])(const uint8_t *, int64_t *, uint64_t) = {loop_soa, loop_aosoa, loop_bits};
-    static int64_t (*const eachs[])(const uint8_t *, uint64_t) = {each_soa, each_aosoa, each_bits};
-    const int rounds = argc > 1 ? atoi(argv[1]) : 20;
-    for (int form = 0; form < 3; form++) {
-        if (argc > 2 && strcmp(argv[2], names[form]) != 0) {
-            continue;
+static const char *const FORMS[] = {"aos", "soa", "aosoa", "bits"};
+static const char *const LAYOUTS[] = {"aos(packed, row)", "soa(multi, row)", "aosoa(16, row)", "bitsoa(8 { x: 20 }, row)"};
+static const char *const WORKS[] = {"get", "set", "one"};
+static loop *const LOOPS_OF[][3] = {
+    {read_aos, store_aos, each_aos},
+    {read_soa, store_soa, each_soa},
+    {read_aosoa, store_aosoa, each_aosoa},
+    {read_bits, store_bits, each_bits},
+};
+
+static int index_of(const char *word, const char *const *words, int count) {
+    for (int k = 0; k < count; k++) {
+        if (strcmp(word, words[k]) == 0) {
+            return k;
         }
-        lly_view view = LLY_NONE;
-        lly_fault fault = LLY_NO_FAULT;
-        uint8_t *bytes = bytes_of(form);
-        double begin, by_loop, by_run, by_store, by_each, by_get;
-        int64_t sum = 0, value = 0;
-        make(&view, lines[form]);
-        begin = seconds();
-        for (int round = 0; round < rounds; round++) {
-            loops[form](bytes, values, ROWS);
-            sum += values[round];
-        }
-        by_loop = seconds() - begin;
-        begin = seconds();
-        for (int round = 0; round < rounds; round++) {
-            must(lly_get_run(&view, 0, 0, values, ROWS));
-            sum -= values[round];
-        }
-        by_run = seconds() - begin;
-        for (uint64_t row = 0; row < ROWS; row++) {
-            if (values[row] != (int64_t)(row % 1000)) {
-                fprintf(stderr, "row %" PRIu64 " differs\n", row);
-                return 1;
-            }
-        }
-        begin = seconds();
-        for (int round = 0; round < rounds; round++) {
-            must(lly_set_run(&view, 0, 0, values, ROWS, &fault));
-        }
-        by_store = seconds() - begin;
-        begin = seconds();
-        sum += eachs[form](bytes, ROWS);
-        by_each = seconds() - begin;
-        begin = seconds();
-        for (uint64_t k = 0; k < ROWS; k++) {
-            must(lly_get(&view, k * STRIDE % ROWS, 0, &value));
-            sum -= value;
-        }
-        by_get = seconds() - begin;
-        printf("%-6s loop %.2f ns, lly_get_run %.2f ns (%.2f times), lly_set_run %.2f ns, accessor %.2f ns, lly_get %.2f ns (%.2f more), sum %" PRId64 "\n",
-               names[form], 1e9 * by_loop / rounds / ROWS, 1e9 * by_run / rounds / ROWS, by_run / by_loop, 1e9 * by_store / rounds / ROWS, 1e9 * by_each / ROWS,
-               1e9 * by_get / ROWS, 1e9 * (by_get - by_each) / ROWS, sum);
-        lly_drop(&view);
-        free(bytes);
     }
+    fail("usage: runs llama|loop aos|soa|aosoa|bits get|set|one ROWS ROUNDS");
+    return 0;
+}
+
+static void make(lly_view *view, int form, uint64_t rows) {
+    static const char record[] = "record P { x: i32, y: u32 }";
+    char line[80];
+    lly_fault fault = LLY_NO_FAULT;
+    const int length = snprintf(line, sizeof line, "view V : P [%" PRIu64 "] as %s", rows, LAYOUTS[form]);
+    must(lly_new(view, (const uint8_t *)record, strlen(record), (const uint8_t *)line, (size_t)length, &fault));
+}
+
+/* A round of a piece of work by the library: all rows at once, or one by one. */
+static void by_llama(lly_view *view, int work, int64_t *values, uint64_t rows) {
+    lly_fault fault = LLY_NO_FAULT;
+    int64_t value = 0;
+    if (work == 0) {
+        must(lly_get_run(view, 0, 0, values, rows));
+    } else if (work == 1) {
+        must(lly_set_run(view, 0, 0, values, rows, &fault));
+    } else {
+        for (uint64_t k = 0; k < rows; k++) {
+            must(lly_get(view, k * STRIDE % rows, 0, &value));
+            values[0] += value;
+        }
+    }
+}
+
+int main(int count, char **words) {
+    static const char *const programs[] = {"llama", "loop"};
+    if (count != 6) {
+        index_of("", programs, 0);
+    }
+    const int ours = index_of(words[1], programs, 2) == 0, form = index_of(words[2], FORMS, 4), work = index_of(words[3], WORKS, 3);
+    const uint64_t rows = strtoull(words[4], NULL, 10), rounds = strtoull(words[5], NULL, 10);
+    uint8_t *bytes = calloc(rows + SPARE, 8);
+    int64_t *values = malloc((rows + 1) * sizeof *values), sum = 0;
+    lly_view view = LLY_NONE;
+    if (!bytes || !values) {
+        fail("there is no memory");
+    }
+    for (uint64_t row = 0; row < rows; row++) {
+        values[row] = (int64_t)(row % 1000) - 500;
+    }
+    if (ours) {
+        make(&view, form, rows);
+        by_llama(&view, 1, values, rows);
+    } else if (!LOOPS_OF[form][1](bytes, rows, 0, values, rows)) {
+        fail("a value is refused");
+    }
+    for (uint64_t round = 0; round < rounds; round++) {
+        if (ours) {
+            by_llama(&view, work, values, rows);
+        } else if (!LOOPS_OF[form][work](bytes, rows, 0, values, rows)) {
+            fail("a value is refused");
+        }
+    }
+    for (uint64_t row = 0; row < rows; row++) {
+        sum += values[row] * (int64_t)(row % 7);
+    }
+    printf("%" PRId64 "\n", sum);
+    lly_drop(&view);
+    free(values);
+    free(bytes);
     return 0;
 }
