@@ -13,7 +13,7 @@ abbrev pub told_rows : Option Spot → Answer (Unit {0})
 told_rows None = Ok tt
 told_rows (Some spot) = Err (Narrow spot.row spot.leaf)
 
--- what `llama_copy` answers
+-- what `lly_copy` answers
 abbrev pub was_copied : Table → Table → Answer (Unit {0})
 was_copied source target = if are_alike source target then told_rows (refused_at (answer_of target) 0 source.rows) else Err Mismatch
 
