@@ -88,7 +88,7 @@ class View:
         leaf, kind = self._leaves[path]
         call, wide = (lly.get_run_u64, numpy.uint64) if kind == numpy.uint64 else (lly.get_run, numpy.int64)
         numbers = numpy.empty(count, wide)
-        must(call(self._handle, first, leaf, numbers.ctypes.data, count))
+        must(call(self._handle, self.row(first), leaf, numbers.ctypes.data, count))
         return numbers.astype(kind, copy=False)
 
     def set_run(self, path, first, numbers):
@@ -98,13 +98,13 @@ class View:
             raise TypeError(f'{path}: {numbers.dtype} is no type of whole numbers')
         call, wide = (lly.set_run_u64, numpy.uint64) if numbers.dtype == numpy.uint64 else (lly.set_run, numpy.int64)
         numbers, fault = numpy.ascontiguousarray(numbers, wide), Fault()
-        must(call(self._handle, first, self._leaves[path][0], numbers.ctypes.data, numbers.size, fault), fault)
+        must(call(self._handle, self.row(first), self._leaves[path][0], numbers.ctypes.data, numbers.size, fault), fault)
 
     def row(self, index):
         """The row of an index, which has as many numbers as there are extents; or that of its number."""
         if not isinstance(index, tuple):
-            return operator.index(index)
-        numbers = (c_uint64 * len(index))(*map(operator.index, index))
+            return _within(0, index)
+        numbers = (c_uint64 * len(index))(*[_within(0, number) for number in index])
         return asked(lly.row, c_uint64, self._handle, numbers, len(index))
 
     def get(self, row, path):
@@ -114,8 +114,9 @@ class View:
         return asked(call, wide, self._handle, self.row(row), leaf)
 
     def set(self, row, path, number):
+        number = _within(-2 ** 63, number)
         call = lly.set_u64 if number >= 2 ** 63 else lly.set
-        must(call(self._handle, self.row(row), self._leaves[path][0], operator.index(number)))
+        must(call(self._handle, self.row(row), self._leaves[path][0], number))
 
     def relayout(self, layout):
         """Lays the table out anew."""
@@ -163,6 +164,14 @@ class View:
     def drop(self):
         """Lets the table go before the object does; then every call is refused."""
         lly.drop(self._handle)
+
+
+def _within(least, number):
+    """A number that a call takes, whose low 64 bits would else be handed on."""
+    number = operator.index(number)
+    if not least <= number < 2 ** 64:
+        raise OverflowError(f'{number} is not from {least} to {2 ** 64 - 1}')
+    return number
 
 
 def _line(extents, wrap, layout, record='R'):

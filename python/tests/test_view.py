@@ -98,6 +98,8 @@ class OfCalls(unittest.TestCase):
         self.refused(Answer.NO_PLACE, self.view.row, (2, 0))
         self.assertRaises(TypeError, self.view.set, 0, 'x', 1.0)
         self.assertRaises(KeyError, self.view.get, 0, 'y')
+        for act, words in ((self.view.set, (0, 'big', 2 ** 64)), (self.view.set, (0, 'x', -2 ** 63 - 1)), (self.view.get, (2 ** 64, 'x')), (self.view.row, ((0, -1),)), (self.view.run, ('x', -1, 1))):
+            self.assertRaises(OverflowError, act, *words)
 
     def test_runs(self):
         self.view.set_run('x', 2, [5, 6])
