@@ -52,10 +52,10 @@ class OfArrays(unittest.TestCase):
 
     def test_the_memory_is_that_of_numpy(self):
         packed, aligned = numpy.dtype([('a', 'u1'), ('b', '<i4')]), numpy.dtype([('a', 'u1'), ('b', '<i4')], align=True)
-        table = numpy.zeros(9, packed)
-        table['a'], table['b'] = range(9), range(-4, 5)
-        self.assertEqual(View.from_array(table, 'aos(packed, row)').blobs(), [table.tobytes()])
-        self.assertEqual(View.from_array(table.astype(aligned), 'aos(aligned, row)').blobs(), [table.astype(aligned).tobytes()])
+        for kind, layout in ((aligned, 'aos(aligned, row)'), (packed, 'aos(packed, row)')):
+            table = numpy.zeros(9, kind)
+            table['a'], table['b'] = range(9), range(-4, 5)
+            self.assertEqual(View.from_array(table, layout).blobs(), [table.tobytes()])
         self.assertEqual(View.from_array(table, 'soa(multi, row)').blobs(), [table['a'].tobytes(), table['b'].tobytes()])
         self.assertEqual(View.from_array(table, 'byteswap(soa(multi, row))').blobs()[1], table['b'].astype('>i4').tobytes())
         self.assertEqual(View.from_array(table, 'change(i32->i8, soa(multi, row))').blobs()[1], table['b'].astype('i1').tobytes())
