@@ -39,7 +39,7 @@ extern "C" {
  */
 #define LLY_VERSION 10000
 
-/* A view, or none. */
+/* A view, or none: then full is false, and the rest means nothing. */
 typedef struct lly_view {
     bool full;
     void *at;

@@ -11,7 +11,7 @@ use Rattle.c_lines.specs.Told.{store_refusal}
 use Rattle.c_lines.specs.Values.{is_run, read_by}
 use Rattle.c_lines.specs.declared.refusal.Refusal.TheVariants.{NoPlace}
 
--- what `llama_get_run` and `llama_get_run_u64` answer
+-- what `lly_get_run` and `lly_get_run_u64` answer
 abbrev pub got_run : (LeafType → Bool) → ℕ → ℕ → ℕ → Table → Answer (List ℤ)
 got_run reads first count leaf table = read_by reads table first count leaf (run_of leaf first count table)
 
@@ -33,7 +33,7 @@ abbrev pub IsFrontStored : ℕ → ℕ → List ℤ → Table → Table → Resu
 IsFrontStored leaf first values old new (Ok count) = (run_fault leaf (take count values) old ≡ None) × (new ≡ with_run leaf first values count old)
 IsFrontStored leaf first values old new (Err fault) = (run_fault leaf values old ≡ Some fault) × (new ≡ with_run leaf first values fault.lane old)
 
--- what `llama_set_run` and `llama_set_run_u64` answer, and what they leave
+-- what `lly_set_run` and `lly_set_run_u64` answer, and what they leave
 abbrev pub was_set_run : ℕ → ℕ → List ℤ → Table → Answer (Unit {0})
 was_set_run first leaf values table = if is_run table first (length values) leaf then told_run first leaf (run_fault leaf values table) else Err NoPlace
 

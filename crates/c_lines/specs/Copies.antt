@@ -8,7 +8,7 @@ use Rattle.c_lines.specs.Answers.{Answer}
 use Rattle.c_lines.specs.declared.refusal.Refusal.TheVariants.{Narrow}
 use Rattle.c_lines.specs.Told.{done_of, in_numbers}
 
--- what `llama_copy` answers
+-- what `lly_copy` answers
 abbrev pub was_copied : Table → Table → Answer (Unit {0})
 was_copied source target = done_of (copied_by in_numbers source target)
 

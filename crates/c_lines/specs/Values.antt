@@ -28,10 +28,10 @@ abbrev pub read_by : {A : Type 0} → (LeafType → Bool) → Table → ℕ → 
 read_by reads table first count leaf given = if is_run table first count leaf
     then (if reads (leaf_type_of table leaf) then Ok given else Err BadType) else Err NoPlace
 
--- what `llama_get` and `llama_get_u64` answer
+-- what `lly_get` and `lly_get_u64` answer
 abbrev pub got : (LeafType → Bool) → ℕ → ℕ → Table → Answer ℤ
 got reads at leaf table = read_by reads table at 1 leaf (entry table.rows at leaf)
 
--- what `llama_set` and `llama_set_u64` answer
+-- what `lly_set` and `lly_set_u64` answer
 abbrev pub was_set : ℕ → ℕ → ℤ → Table → Answer (Unit {0})
 was_set at leaf value table = if is_run table at 1 leaf then ok_or (store_refusal at leaf) (without_number (answer_of table leaf value)) else Err NoPlace

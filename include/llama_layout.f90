@@ -1,0 +1,210 @@
+! The calls of llama_layout.h for Fortran. A text is handed on with its length, len(text, c_size_t), a number without a sign as the
+! signed one of the same bits. Rows, leaves and blobs count from 0. It is compiled with the program.
+module llama_layout
+  use, intrinsic :: iso_c_binding, only: c_bool, c_char, c_int32_t, c_int64_t, c_null_ptr, c_ptr, c_size_t
+  implicit none
+  private :: c_bool, c_char, c_int32_t, c_int64_t, c_null_ptr, c_ptr, c_size_t
+
+  ! What a call answers: the header says more of each.
+  enum, bind(c)
+    enumerator :: LLY_DONE = 0, LLY_NO_VIEW = 1, LLY_NO_PLACE = 2, LLY_NO_MEMORY = 3, LLY_NO_ROOM = 4
+    enumerator :: LLY_BAD_TYPE = 5, LLY_RANGE = 6, LLY_NARROW = 7, LLY_MISMATCH = 8, LLY_SYNTAX = 9
+    enumerator :: LLY_TOO_DEEP = 10, LLY_OTHER_LINE = 11, LLY_LINE_TOO_LONG = 12, LLY_UNKNOWN = 13, LLY_BAD_RECORD = 14
+    enumerator :: LLY_BAD_EXTENTS = 15, LLY_BAD_MAPPING = 16, LLY_TOO_BIG = 17, LLY_BAD_KERNEL = 18, LLY_EMPTY = 19
+    enumerator :: LLY_MISSING_COLUMN = 20, LLY_COLUMN_TWICE = 21, LLY_SHORT_ROW = 22, LLY_NUMBER = 23, LLY_BAD_FILE = 24
+    enumerator :: LLY_NULL = 25, LLY_SAME = 26
+  end enum
+
+  ! A view, or none. It is never copied while it holds one, so no variable of this type is assigned to another.
+  type, bind(c) :: lly_view
+    logical(c_bool) :: full = .false.
+    type(c_ptr) :: at = c_null_ptr
+  end type
+
+  type, bind(c) :: lly_fault
+    integer(c_int32_t) :: cause = 0
+    integer(c_int64_t) :: row = 0
+    integer(c_size_t) :: leaf = 0
+    integer(c_int64_t) :: column = 0
+  end type
+
+  interface
+    integer(c_int32_t) function lly_version() bind(c)
+      import
+    end function
+
+    integer(c_int32_t) function lly_new(out, first, first_len, second, second_len, fault) bind(c)
+      import
+      type(lly_view), intent(inout) :: out
+      character(kind=c_char), intent(in) :: first(*), second(*)
+      integer(c_size_t), value :: first_len, second_len
+      type(lly_fault), intent(inout) :: fault
+    end function
+
+    integer(c_int32_t) function lly_load(out, first, first_len, second, second_len, csv, csv_len, fault) bind(c)
+      import
+      type(lly_view), intent(inout) :: out
+      character(kind=c_char), intent(in) :: first(*), second(*), csv(*)
+      integer(c_size_t), value :: first_len, second_len, csv_len
+      type(lly_fault), intent(inout) :: fault
+    end function
+
+    integer(c_int32_t) function lly_open(out, bytes, bytes_len, fault) bind(c)
+      import
+      type(lly_view), intent(inout) :: out
+      character(kind=c_char), intent(in) :: bytes(*)
+      integer(c_size_t), value :: bytes_len
+      type(lly_fault), intent(inout) :: fault
+    end function
+
+    subroutine lly_drop(view) bind(c)
+      import
+      type(lly_view), intent(inout) :: view
+    end subroutine
+
+    integer(c_int32_t) function lly_rows(view, rows) bind(c)
+      import
+      type(lly_view), intent(inout) :: view
+      integer(c_int64_t), intent(inout) :: rows
+    end function
+
+    integer(c_int32_t) function lly_leaves(view, leaves) bind(c)
+      import
+      type(lly_view), intent(inout) :: view
+      integer(c_size_t), intent(inout) :: leaves
+    end function
+
+    integer(c_int32_t) function lly_blobs(view, blobs) bind(c)
+      import
+      type(lly_view), intent(inout) :: view
+      integer(c_size_t), intent(inout) :: blobs
+    end function
+
+    integer(c_int32_t) function lly_row(view, index, rank, row) bind(c)
+      import
+      type(lly_view), intent(inout) :: view
+      integer(c_int64_t), intent(in) :: index(*)
+      integer(c_size_t), value :: rank
+      integer(c_int64_t), intent(inout) :: row
+    end function
+
+    integer(c_int32_t) function lly_leaf(view, path, path_len, leaf) bind(c)
+      import
+      type(lly_view), intent(inout) :: view
+      character(kind=c_char), intent(in) :: path(*)
+      integer(c_size_t), value :: path_len
+      integer(c_size_t), intent(inout) :: leaf
+    end function
+
+    integer(c_int32_t) function lly_get(view, row, leaf, value) bind(c)
+      import
+      type(lly_view), intent(inout) :: view
+      integer(c_int64_t), value :: row
+      integer(c_size_t), value :: leaf
+      integer(c_int64_t), intent(inout) :: value
+    end function
+
+    integer(c_int32_t) function lly_get_u64(view, row, leaf, value) bind(c)
+      import
+      type(lly_view), intent(inout) :: view
+      integer(c_int64_t), value :: row
+      integer(c_size_t), value :: leaf
+      integer(c_int64_t), intent(inout) :: value
+    end function
+
+    integer(c_int32_t) function lly_set(view, row, leaf, value) bind(c)
+      import
+      type(lly_view), intent(inout) :: view
+      integer(c_int64_t), value :: row, value
+      integer(c_size_t), value :: leaf
+    end function
+
+    integer(c_int32_t) function lly_set_u64(view, row, leaf, value) bind(c)
+      import
+      type(lly_view), intent(inout) :: view
+      integer(c_int64_t), value :: row, value
+      integer(c_size_t), value :: leaf
+    end function
+
+    integer(c_int32_t) function lly_get_run(view, first, leaf, values, count) bind(c)
+      import
+      type(lly_view), intent(inout) :: view
+      integer(c_int64_t), value :: first
+      integer(c_size_t), value :: leaf, count
+      integer(c_int64_t), intent(inout) :: values(*)
+    end function
+
+    integer(c_int32_t) function lly_get_run_u64(view, first, leaf, values, count) bind(c)
+      import
+      type(lly_view), intent(inout) :: view
+      integer(c_int64_t), value :: first
+      integer(c_size_t), value :: leaf, count
+      integer(c_int64_t), intent(inout) :: values(*)
+    end function
+
+    integer(c_int32_t) function lly_set_run(view, first, leaf, values, count, fault) bind(c)
+      import
+      type(lly_view), intent(inout) :: view
+      integer(c_int64_t), value :: first
+      integer(c_size_t), value :: leaf, count
+      integer(c_int64_t), intent(in) :: values(*)
+      type(lly_fault), intent(inout) :: fault
+    end function
+
+    integer(c_int32_t) function lly_set_run_u64(view, first, leaf, values, count, fault) bind(c)
+      import
+      type(lly_view), intent(inout) :: view
+      integer(c_int64_t), value :: first
+      integer(c_size_t), value :: leaf, count
+      integer(c_int64_t), intent(in) :: values(*)
+      type(lly_fault), intent(inout) :: fault
+    end function
+
+    integer(c_int32_t) function lly_copy(source, target, fault) bind(c)
+      import
+      type(lly_view), intent(inout) :: source, target
+      type(lly_fault), intent(inout) :: fault
+    end function
+
+    integer(c_int32_t) function lly_relayout(view, line, line_len, fault) bind(c)
+      import
+      type(lly_view), intent(inout) :: view
+      character(kind=c_char), intent(in) :: line(*)
+      integer(c_size_t), value :: line_len
+      type(lly_fault), intent(inout) :: fault
+    end function
+
+    integer(c_int32_t) function lly_kernel(view, line, line_len, value, fault) bind(c)
+      import
+      type(lly_view), intent(inout) :: view
+      character(kind=c_char), intent(in) :: line(*)
+      integer(c_size_t), value :: line_len
+      integer(c_int64_t), intent(inout) :: value
+      type(lly_fault), intent(inout) :: fault
+    end function
+
+    integer(c_int32_t) function lly_print(view, text, text_len, needed) bind(c)
+      import
+      type(lly_view), intent(inout) :: view
+      character(kind=c_char), intent(inout) :: text(*)
+      integer(c_size_t), value :: text_len
+      integer(c_size_t), intent(inout) :: needed
+    end function
+
+    integer(c_int32_t) function lly_save(view, bytes, bytes_len, needed) bind(c)
+      import
+      type(lly_view), intent(inout) :: view
+      character(kind=c_char), intent(inout) :: bytes(*)
+      integer(c_size_t), value :: bytes_len
+      integer(c_size_t), intent(inout) :: needed
+    end function
+
+    integer(c_int32_t) function lly_blob(view, blob, bytes, bytes_len, needed) bind(c)
+      import
+      type(lly_view), intent(inout) :: view
+      integer(c_size_t), value :: blob, bytes_len
+      character(kind=c_char), intent(inout) :: bytes(*)
+      integer(c_size_t), intent(inout) :: needed
+    end function
+  end interface
+end module

@@ -1,0 +1,81 @@
+// Each member of lly::view, and what it throws. tools/library_examples runs it; it says what differs, and ends with 0 where nothing does.
+#include <iostream>
+
+#include <llama_layout.hpp>
+
+static int differs = 0;
+
+#define EXPECT(what, expected)                                                        \
+    do {                                                                              \
+        if (!((what) == (expected))) {                                                \
+            std::cout << "line " << __LINE__ << ": " << #what << " is otherwise\n";   \
+            differs = 1;                                                              \
+        }                                                                             \
+    } while (0)
+
+template <typename Call>
+static void expect_refusal(int line, std::int32_t answer, std::uint64_t row, Call call) {
+    try {
+        call();
+    } catch (const lly::error &refusal) {
+        if (refusal.answer() == answer && refusal.fault().row == row && refusal.what() == std::string(lly::message(answer))) {
+            return;
+        }
+    }
+    std::cout << "line " << line << ": the refusal is another, or none\n";
+    differs = 1;
+}
+
+#define EXPECT_REFUSAL(answer, row, call) expect_refusal(__LINE__, answer, row, [&] { call; })
+
+static const char RECORD[] = "record P { x: i32, big: u64 }";
+static const char LINE[] = "view V : P [2, 2] as aos(packed, row)";
+
+static void numbers() {
+    lly::view view(RECORD, LINE);
+    const std::vector<std::uint64_t> big{1, UINT64_MAX};
+    EXPECT(view.rows(), 4U);
+    EXPECT(view.leaves(), 2U);
+    EXPECT(view.blobs(), 1U);
+    EXPECT(view.row({1, 0}), 2U);
+    EXPECT(view.leaf("big"), 1U);
+    view.set(3, 0, -7);
+    view.set(3, 1, UINT64_MAX);
+    view.set(2, 0, true);
+    EXPECT(view.get(3, 0), -7);
+    EXPECT(view.get<std::uint64_t>(3, 1), UINT64_MAX);
+    view.set_run(0, 1, big);
+    view.set_run(0, 0, std::vector<std::int64_t>{5, 6});
+    EXPECT(view.run<std::uint64_t>(0, 1, 2), big);
+    EXPECT(view.run(0, 0, 4), (std::vector<std::int64_t>{5, 6, 1, -7}));
+    EXPECT(view.print(), "x,big\n5,1\n6,18446744073709551615\n1,0\n-7,18446744073709551615\n");
+    EXPECT(view.blob(0).size(), 48U);
+    EXPECT(view.blob(0)[12], 6);
+    EXPECT_REFUSAL(LLY_NO_PLACE, 0, view.leaf("none"));
+    EXPECT_REFUSAL(LLY_BAD_TYPE, 0, view.get(0, 1));
+    EXPECT_REFUSAL(LLY_RANGE, 2, view.set_run(1, 0, std::vector<std::int64_t>{1, INT64_MAX}));
+}
+
+static void tables() {
+    lly::view view = lly::view::load(RECORD, "load V : P [?, 2] as soa(multi, row) from \"any\"", "big,x\n1,2\n3,4\n");
+    lly::view other(RECORD, "view V : P [1, 2] as aosoa(2, col)");
+    view.copy_to(other);
+    EXPECT(other.print(), "x,big\n2,1\n4,3\n");
+    EXPECT_REFUSAL(LLY_SAME, 0, other.copy_to(other));
+    EXPECT(other.kernel("kernel V sum(x) lanes 4"), 6);
+    other.relayout("relayout V as bitaos(20, row)");
+    lly::view opened = lly::view::open(other.save());
+    EXPECT(opened.blobs(), 1U);
+    view = std::move(opened);
+    EXPECT(view.print(), other.print());
+    EXPECT(lly_rows(view.handle(), nullptr), LLY_NULL);
+    EXPECT_REFUSAL(LLY_SYNTAX, 0, lly::view(RECORD, "view V"));
+    EXPECT_REFUSAL(LLY_BAD_FILE, 0, lly::view::open({}));
+    EXPECT(std::string(lly::message(27)), "an answer of a later version");
+}
+
+int main() {
+    numbers();
+    tables();
+    return differs;
+}

@@ -1,0 +1,72 @@
+! Each call of the module llama_layout. tools/library_examples runs it; it says what differs, and ends with 0 where nothing does.
+program answers
+  use, intrinsic :: iso_c_binding, only: c_char, c_int32_t, c_int64_t, c_size_t
+  use llama_layout
+  implicit none
+  character(*), parameter :: record_line = 'record P { x: i32, n: u16 }'
+  character(*), parameter :: view_line = 'view V : P [2, 2] as aos(packed, row)'
+  character(*), parameter :: load_line = 'load V : P [?, 2] as soa(multi, row) from "any"'
+  character, parameter :: lf = achar(10)
+  character(*), parameter :: csv = 'n,x' // lf // '2,1' // lf // '4,3' // lf // '6,5' // lf // '8,7' // lf
+  character(*), parameter :: table = 'x,n' // lf // '1,2' // lf // '3,4' // lf // '5,6' // lf // '7,8' // lf
+  type(lly_view) :: view, other
+  type(lly_fault) :: fault
+  integer(c_int64_t) :: row, number, numbers(4)
+  integer(c_size_t) :: many, needed
+  character(kind=c_char, len=200) :: text
+  logical :: differs = .false.
+
+  call expect(lly_version() / 10000, 1)
+  call expect(lly_new(view, record_line, len(record_line, c_size_t), view_line, len(view_line, c_size_t), fault), LLY_DONE)
+  call expect(lly_load(other, record_line, len(record_line, c_size_t), load_line, len(load_line, c_size_t), csv, &
+                       len(csv, c_size_t), fault), LLY_DONE)
+  call expect(lly_copy(other, view, fault), LLY_DONE)
+  call expect(lly_rows(view, row), LLY_DONE)
+  call expect(int(row), 4)
+  call expect(lly_leaves(view, many), LLY_DONE)
+  call expect(int(many), 2)
+  call expect(lly_blobs(other, many), LLY_DONE)
+  call expect(int(many), 2)
+  call expect(lly_row(view, [1_c_int64_t, 0_c_int64_t], 2_c_size_t, row), LLY_DONE)
+  call expect(int(row), 2)
+  call expect(lly_leaf(view, 'n', 1_c_size_t, many), LLY_DONE)
+  call expect(int(many), 1)
+  call expect(lly_print(view, text, len(text, c_size_t), needed), LLY_DONE)
+  call expect(merge(0, 1, text(:needed) == table), 0)
+  call expect(lly_get(view, 3_c_int64_t, 0_c_size_t, number), LLY_DONE)
+  call expect(int(number), 7)
+  call expect(lly_get_u64(view, 3_c_int64_t, 1_c_size_t, number), LLY_DONE)
+  call expect(int(number), 8)
+  call expect(lly_get_u64(view, 3_c_int64_t, 0_c_size_t, number), LLY_BAD_TYPE)
+  call expect(lly_set(view, 0_c_int64_t, 0_c_size_t, -1_c_int64_t), LLY_DONE)
+  call expect(lly_set_u64(view, 0_c_int64_t, 0_c_size_t, -1_c_int64_t), LLY_RANGE)
+  call expect(lly_set_run(view, 1_c_int64_t, 1_c_size_t, [1_c_int64_t, 65536_c_int64_t], 2_c_size_t, fault), LLY_RANGE)
+  call expect(int(fault%row), 2)
+  call expect(lly_set_run_u64(view, 0_c_int64_t, 1_c_size_t, [9_c_int64_t], 1_c_size_t, fault), LLY_DONE)
+  call expect(lly_get_run(view, 0_c_int64_t, 0_c_size_t, numbers, 4_c_size_t), LLY_DONE)
+  call expect(int(sum(numbers)), 14)
+  call expect(lly_get_run_u64(view, 0_c_int64_t, 1_c_size_t, numbers, 4_c_size_t), LLY_DONE)
+  call expect(int(sum(numbers)), 24)
+  call expect(lly_relayout(view, 'relayout V as aosoa(2, col)', 27_c_size_t, fault), LLY_DONE)
+  call expect(lly_kernel(view, 'kernel V sum(x) lanes 4', 23_c_size_t, number, fault), LLY_DONE)
+  call expect(int(number), 14)
+  call expect(lly_blob(view, 0_c_size_t, text, 1_c_size_t, needed), LLY_NO_ROOM)
+  call expect(lly_save(view, text, len(text, c_size_t), needed), LLY_DONE)
+  call expect(lly_open(other, text, needed, fault), LLY_DONE)
+  call expect(lly_open(other, text, needed - 1, fault), LLY_BAD_FILE)
+  call lly_drop(view)
+  call expect(lly_rows(view, row), LLY_NO_VIEW)
+  call lly_drop(other)
+  if (differs) error stop 'something differs'
+
+contains
+
+  subroutine expect(is, due)
+    integer(c_int32_t), intent(in) :: is, due
+    integer :: number = 0
+    save number
+    number = number + 1
+    if (is /= due) print '(3(a, i0))', 'expectation ', number, ' is ', is, ', and not ', due
+    differs = differs .or. is /= due
+  end subroutine
+end program

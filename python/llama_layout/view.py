@@ -1,0 +1,178 @@
+"""The class View."""
+import operator
+import pathlib
+import re
+from ctypes import c_int64, c_size_t, c_uint64
+
+import numpy
+
+from .calls import Fault, asked, filled, lly, made, must, sized
+from .records import dtype_of, extents_of, fields_of, leaves_of, part_of
+
+SAYS_NOTHING = ('axpy', 'clamp')
+
+
+class View:
+    """A table of whole numbers whose layout in memory is a text of the script language.
+
+    It has the extents `shape`, records of the numpy type `dtype`, and a leaf for each of `paths`. `view[path]` is a copy of a leaf in an array of that shape, and
+    `view[path] = numbers` stores one. What a call refuses is raised as `Refused`.
+    """
+
+    def __init__(self, record, view):
+        """A view of zeros, of a line `record P { .. }` and a line `view V : P [..] as ..`."""
+        self._take(made(lly.new, record, view), record, view)
+
+    def _take(self, handle, record, view):
+        self._handle, self.dtype = handle, dtype_of(record)
+        self.shape = extents_of(view, len(self))
+        self._leaves = {path: (asked(lly.leaf, c_size_t, handle, *sized(path)), kind) for path, kind, _ in leaves_of(self.dtype)}
+        self.paths = list(self._leaves)
+        return self
+
+    @classmethod
+    def load(cls, record, view, csv):
+        """A view of a dataset, of a line `load V : P [..] as .. from ".."`: the rows are `csv`, which is a path, or the bytes of such a file."""
+        data = csv if isinstance(csv, bytes) else pathlib.Path(csv).read_bytes()
+        return cls.__new__(cls)._take(made(lly.load, record, view, data), record, view)
+
+    @classmethod
+    def from_bytes(cls, data):
+        """The view of which these bytes are the file."""
+        handle = made(lly.open, data)
+        record, view, _ = data[12:].split(b'\n', 2)
+        return cls.__new__(cls)._take(handle, record.decode(), view.decode())
+
+    @classmethod
+    def open(cls, file):
+        """The view of a blob file, as `save` here and in a script writes it."""
+        return cls.from_bytes(pathlib.Path(file).read_bytes())
+
+    @classmethod
+    def from_array(cls, array, layout='soa(multi, row)', wrap=False):
+        """A view of a structured array: its fields, its shape and its numbers."""
+        array = numpy.asarray(array)
+        if not array.dtype.names:
+            raise TypeError(f'an array of {array.dtype} has no fields')
+        view = cls(f'record R {fields_of(array.dtype)}', _line(array.shape, wrap, layout))
+        for path, _, steps in leaves_of(view.dtype):
+            view[path] = part_of(array, steps)
+        return view
+
+    @classmethod
+    def from_frame(cls, frame, layout='soa(multi, row)', record=None, wrap=False):
+        """A view of a frame of pandas, a row for each of its rows. The columns are its fields in their order, or, by a record line, those that have the paths of its leaves."""
+        columns = {str(name): frame[name].to_numpy() for name in frame.columns}
+        if record is None:
+            record = f'record R {fields_of(numpy.dtype([(name, column.dtype) for name, column in columns.items()]))}'
+        view = cls(record, _line([len(frame)], wrap, layout, re.match(r'\s*record\s+(\w+)', record)[1]))
+        for path in view.paths:
+            view[path] = columns[path]
+        return view
+
+    def __len__(self):
+        """How many rows it has."""
+        return asked(lly.rows, c_uint64, self._handle)
+
+    def __repr__(self):
+        return f'<View of {fields_of(self.dtype)} {list(self.shape)}>'
+
+    def __getitem__(self, path):
+        return self.run(path, 0, len(self)).reshape(self.shape)
+
+    def __setitem__(self, path, numbers):
+        self.set_run(path, 0, numpy.broadcast_to(numbers, self.shape).ravel())
+
+    def run(self, path, first, count):
+        """The numbers of a leaf in so many rows from `first` on."""
+        leaf, kind = self._leaves[path]
+        call, wide = (lly.get_run_u64, numpy.uint64) if kind == numpy.uint64 else (lly.get_run, numpy.int64)
+        numbers = numpy.empty(count, wide)
+        must(call(self._handle, self.row(first), leaf, numbers.ctypes.data, count))
+        return numbers.astype(kind, copy=False)
+
+    def set_run(self, path, first, numbers):
+        """Stores numbers in a leaf of the rows from `first` on. Of a strict view that refuses one, those before it are stored."""
+        numbers = numpy.asarray(numbers)
+        if numbers.size and numbers.dtype.kind not in 'bui':
+            raise TypeError(f'{path}: {numbers.dtype} is no type of whole numbers')
+        call, wide = (lly.set_run_u64, numpy.uint64) if numbers.dtype == numpy.uint64 else (lly.set_run, numpy.int64)
+        numbers, fault = numpy.ascontiguousarray(numbers, wide), Fault()
+        must(call(self._handle, self.row(first), self._leaves[path][0], numbers.ctypes.data, numbers.size, fault), fault)
+
+    def row(self, index):
+        """The row of an index, which has as many numbers as there are extents; or that of its number."""
+        if not isinstance(index, tuple):
+            return _within(0, index)
+        numbers = (c_uint64 * len(index))(*[_within(0, number) for number in index])
+        return asked(lly.row, c_uint64, self._handle, numbers, len(index))
+
+    def get(self, row, path):
+        """One number, of a row that `row` takes."""
+        leaf, kind = self._leaves[path]
+        call, wide = (lly.get_u64, c_uint64) if kind == numpy.uint64 else (lly.get, c_int64)
+        return asked(call, wide, self._handle, self.row(row), leaf)
+
+    def set(self, row, path, number):
+        number = _within(-2 ** 63, number)
+        call = lly.set_u64 if number >= 2 ** 63 else lly.set
+        must(call(self._handle, self.row(row), self._leaves[path][0], number))
+
+    def relayout(self, layout):
+        """Lays the table out anew."""
+        fault = Fault()
+        must(lly.relayout(self._handle, *sized(f'relayout V as {layout}'), fault), fault)
+
+    def kernel(self, kernel, lanes=1):
+        """Runs a kernel such as `sum(x)` over the rows, and returns its number if it has one."""
+        number, fault = c_int64(), Fault()
+        must(lly.kernel(self._handle, *sized(f'kernel V {kernel} lanes {lanes}'), number, fault), fault)
+        return None if kernel.lstrip().startswith(SAYS_NOTHING) else number.value
+
+    def copy_to(self, target):
+        """Makes the table of a view of the same record and extents that of this one."""
+        fault = Fault()
+        must(lly.copy(self._handle, target._handle, fault), fault)
+
+    def to_array(self):
+        """The table in a structured array."""
+        array = numpy.zeros(self.shape, self.dtype)
+        for path, _, steps in leaves_of(self.dtype):
+            part_of(array, steps)[...] = self[path]
+        return array
+
+    def to_frame(self):
+        """The table in a frame of pandas, a column for each path."""
+        import pandas
+        return pandas.DataFrame({path: self[path].ravel() for path in self.paths})
+
+    def text(self):
+        """The table as CSV, as `print` of a script shows it."""
+        return filled(lly.print, self._handle).decode()
+
+    def blobs(self):
+        """The bytes of each blob, as the layout says."""
+        return [filled(lly.blob, self._handle, blob) for blob in range(asked(lly.blobs, c_size_t, self._handle))]
+
+    def to_bytes(self):
+        """The bytes of its file."""
+        return filled(lly.save, self._handle)
+
+    def save(self, file):
+        pathlib.Path(file).write_bytes(self.to_bytes())
+
+    def drop(self):
+        """Lets the table go before the object does; then every call is refused."""
+        lly.drop(self._handle)
+
+
+def _within(least, number):
+    """A number that a call takes, whose low 64 bits would else be handed on."""
+    number = operator.index(number)
+    if not least <= number < 2 ** 64:
+        raise OverflowError(f'{number} is not from {least} to {2 ** 64 - 1}')
+    return number
+
+
+def _line(extents, wrap, layout, record='R'):
+    return f'view V : {record} [{", ".join(map(str, extents))}]{" wrap" * wrap} as {layout}'
