@@ -1,5 +1,5 @@
 -- What stencils do, and the buffer of their rounds.
-use Rattle.session.proofs.Imports.{◌≡◌, ◌∙◌, ℕ, List, Span, TermText, IsBuiltTerm, Count, Heat, uncounted, PathStep, Stencil, Table, done_to, fit_stencil, room_beside, stencil_rounds, stencil_run, GivesUp, GivesUp-then, goes_then, StepFault}
+use Rattle.session.proofs.Imports.{◌≡◌, ◌∙◌, ℕ, List, Span, TermText, IsBuiltTerm, Count, Heat, uncounted, Ok, PathStep, Stencil, Table, done_to, fit_stencil, room_beside, stencil_rounds, stencil_run, GivesUp, GivesUp-then, goes_then, StepFault}
 use Rattle.map_expr.specs.Terms.{Term}
 use Rattle.session.proofs.Exits.{goes_gives}
 
