@@ -1,6 +1,6 @@
 -- Readers that answer alike on lists of at most so many tokens, and that composed readers then answer alike.
 use Rattle.std.proofs.Common.{◌≡◌, ℕ, zero, suc, ◌≤◌, Bool, true, false, if◌then◌else◌, List, [], ◌∷◌, length, Result, Ok, Err, refl, ap, ◌∙◌, length-append, arith}
-use Rattle.phrases.specs.Reading.{◌>>=◌, starts, past, behind_at, then_at, either_at, which_at, steps_within, steps_at}
+use Rattle.phrases.specs.Reading.{◌>>=◌, starts, past, behind_at, then_at, either_at, steps_within, steps_at}
 use Rattle.phrases.specs.ParsesLaws.{Parses}
 use Rattle.phrases.specs.RepeatedLaws.{bind_alike}
 
