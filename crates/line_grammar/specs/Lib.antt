@@ -3,6 +3,7 @@ pub mod Words
 pub mod Tokens
 pub mod Sentences
 pub mod Grammar
+pub mod Language
 pub mod Reads
 pub mod FileBytesLaws
 pub mod SignsLaws
