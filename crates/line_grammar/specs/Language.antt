@@ -1,12 +1,12 @@
 -- The grammar of a line, phrase by phrase, as values. A word or a sign in `behind` stands for itself, and `joined` puts one phrase
 -- behind another. `version` is the version of the language.
 use Rattle.std.specs.Prelude.{ℕ, zero, suc, Bool, true, false, List, [], ◌∷◌, Option, Some, None, codes, ℤ, neg_ℤ, Result}
-use Rattle.phrases.specs.Grammar.{Grammar, item, behind, joined, either, which, nothing, repeats, deep, more}
+use Rattle.phrases.specs.Grammar.{Grammar, item, behind, joined, either, which, nothing, repeats, deep, more, Is}
 use Rattle.phrases.specs.Reading.{at}
 use Rattle.line_tokens.specs.declared.sign.Sign.TheVariants.{OpenBrace, CloseBrace, OpenBracket, CloseBracket, OpenParen, CloseParen, Colon, Comma, Dot, Equals, Minus, Star, Slash, Arrow, Question}
 use Rattle.record_dim.specs.declared.path.PathStep.{PathStep}
 use Rattle.record_dim.specs.declared.path.PathStep.TheVariants as step
-use Rattle.record_dim.specs.Trees.{Tree, Single, Record, Fields}
+use Rattle.record_dim.specs.Trees.{Tree, Single, Record, Array, Fields, End, Field}
 use Rattle.extents.specs.declared.order.Order.{Order}
 use Rattle.extents.specs.declared.window.Span.{Span}
 use Rattle.extents.specs.declared.words.ExtentWord.{ExtentWord}
@@ -32,7 +32,6 @@ use Rattle.line_grammar.specs.declared.version.Version.{Version}
 use Rattle.line_grammar.specs.Versions.{is_two, may_have_window}
 use Rattle.line_grammar.specs.Tokens.{is_same, name_of, token_number, count_of, string_of, type_of, integer_type_of, token_order, aos_form_of, soa_form_of, map_word, index_of, choice_of, or_of, and_of, comparison_of, sum_of, product_of, kernel_word_of, reduction_of, command_of}
 use Rattle.line_grammar.specs.Sentences.{Assignment, New, Sentence, Value, Blank, Define, Mapping, View, Load, Assign, Update, Actors, Kernel, Reduce, Count, Copy, Relayout, Show, Drop, Bytes, Save, Open, Advise, PrintWindow, Stencil}
-use Rattle.line_grammar.specs.Grammar.{arrays, fields_of_list, wrapped}
 
 -- how a phrase is read
 abbrev pub read : {A : Type 0} → Grammar Token A → List Token → Result (A × List Token) ℕ
@@ -82,6 +81,16 @@ dim = behind (Sign OpenBracket) (joined count (λ count. behind (Sign CloseBrack
 
 unfoldable pub dims : List ℕ → Grammar Token (List ℕ)
 dims found = repeats (more dim) found
+
+-- the first count is the outermost: `u8[4][2]` is an array of 4 arrays of 2
+abbrev pub arrays : List ℕ → Tree → Tree
+arrays [] tree = tree
+arrays (count ∷ counts) tree = Array count (arrays counts tree)
+
+-- the fields of a record, in order
+abbrev pub fields_of_list : List (List ℕ × Tree) → Fields
+fields_of_list [] = End
+fields_of_list (field ∷ fields) = Field field.0 field.1 (fields_of_list fields)
 
 -- ":" TYPE dims, and fields dims
 unfoldable pub typed : List ℕ → Grammar Token (List ℕ × Tree)
@@ -181,6 +190,11 @@ links operator one left = repeats (link operator one) left
 
 unfoldable pub chain : (Token → Option BinOp) → Grammar Token Value → Grammar Token Value
 chain operator one = joined one (links operator one)
+
+-- a value with so many of one operator in front
+abbrev pub wrapped : (Value → Value) → ℕ → Value → Value
+wrapped wrap zero value = value
+wrapped wrap (suc n) value = wrap (wrapped wrap n value)
 
 -- token* phrase
 unfoldable pub signs : Token → ℕ → Grammar Token ℕ
@@ -379,3 +393,7 @@ command_line version = joined (item (command_of version)) (body version)
 
 unfoldable pub line : Version → Grammar Token Sentence
 line version = either (command_line version) (nothing Blank)
+
+-- the tokens are this line, however deep brackets nest
+abbrev pub IsSentence : Version → List Token → Sentence → Type 0
+IsSentence version = Is (line version)

@@ -1,11 +1,5 @@
-pub mod Lists
-pub mod Paths
 pub mod Fields
-pub mod Widths
 pub mod Maps
-pub mod Constants
-pub mod Passes
-pub mod Stencils
 pub mod Exprs
 pub mod BasicsLaws
 pub mod FieldLaws
@@ -16,5 +10,4 @@ pub mod NestingLaws
 pub mod PassLaws
 pub mod PathsLaws
 pub mod StencilLaws
-pub mod WidthLaws
 pub mod Inner

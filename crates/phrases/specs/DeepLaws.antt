@@ -4,7 +4,7 @@ use Rattle.std.proofs.Math.Nat.{le-max_left, le-max_right}
 use Rattle.phrases.specs.ParsesLaws.{Parses, head_of}
 use Rattle.phrases.specs.WiderLaws.{Wider}
 use Rattle.phrases.specs.AlikeLaws.{Alike}
-use Rattle.phrases.specs.Column.{IsAny}
+use Rattle.phrases.specs.Phrases.{IsAny}
 
 abbrev pub by_length : {T A : Type 0} → (ℕ → List T → Result (A × List T) ℕ) → List T → Result (A × List T) ℕ
 by_length read_at tokens = read_at (length tokens) tokens

@@ -1,15 +1,14 @@
 -- A grammar that is read by first tokens alone: the first token of each alternative, and of what stands behind a phrase, tells how to
 -- read on. All of it is computed from the grammar down to conditions on single tokens. Then reading gives each phrase, and stops where
 -- no phrase goes on.
-use Rattle.std.proofs.Common.{◌≡◌, ℕ, zero, suc, ◌⊎◌, inl, inr, Bool, true, false, ◌||◌, List, [], ◌∷◌, ◌++◌, is_some, refl, sym, ap, ◌∙◌, subst, ◌≤◌, Some}
+use Rattle.std.proofs.Common.{◌≡◌, ℕ, zero, suc, ◌⊎◌, inl, inr, Bool, true, false, ◌||◌, List, [], ◌∷◌, ◌++◌, is_some, refl, sym, ap, ◌∙◌, subst, ◌≤◌, Some, append_assoc, Option}
 use Rattle.phrases.specs.ParsesLaws.{Exact, Parses, behind_parses, either_parses, give_parses, item_parses, parses_before, then_parses, which_parses}
 use Rattle.phrases.specs.WiderLaws.{Wider}
 use Rattle.phrases.specs.AlikeLaws.{Alike}
 use Rattle.phrases.specs.Grammar.{Grammar, item, behind, joined, either, which, nothing, repeats, deep, Is}
 use Rattle.phrases.specs.Reading.{first, at, starts}
-use Rattle.phrases.specs.Phrases.{Chain, Joined}
+use Rattle.phrases.specs.Phrases.{IsItem, Behind, Chain, Joined}
 use Rattle.phrases.specs.RepeatedLaws.{steps_parses}
-use Rattle.phrases.specs.MoreLaws.{behind_starts, item_starts, joined_starts}
 use Rattle.phrases.specs.DeepLaws.{deep_parses}
 
 -- whether the first part of a phrase may have no token
@@ -93,12 +92,25 @@ pub starts_same : {T : Type 0} (test other : T → Bool) → ((t : T) → test t
 starts_same test other e [] = refl
 starts_same test other e (t ∷ ts) = e t
 
+-- a phrase behind a token begins with it, so does an item, and a phrase whose first part does
+
+behind_starts : {T A : Type 0} (test : T → Bool) (token : T) → test token ≡ true → (Is : List T → A → Type 0) (xs : List T) (v : A) (rest : List T) → Behind token Is xs v → starts test (xs ++ rest) ≡ true
+behind_starts test token e Is [] v rest h = absurd h
+behind_starts test token e Is (first ∷ xs) v rest h = ap test h.0 ∙ e
+
+item_starts : {T A : Type 0} (value : T → Option A) (xs : List T) (v : A) (rest : List T) → IsItem value xs v → starts (λ t. is_some (value t)) (xs ++ rest) ≡ true
+item_starts value xs v rest h = ap (λ k. starts (λ t. is_some (value t)) (k ++ rest)) h.1 ∙ ap is_some h.2
+
+joined_starts : {T A B : Type 0} (test : T → Bool) (Is : List T → A → Type 0) (Next : A → List T → B → Type 0) → ((xs : List T) (v : A) (rest : List T) → Is xs v → starts test (xs ++ rest) ≡ true)
+    → (xs : List T) (v : B) (rest : List T) → Joined Is Next xs v → starts test (xs ++ rest) ≡ true
+joined_starts test Is Next one xs v rest h = ap (λ k. starts test (k ++ rest)) h.whole ∙ ap (starts test) (append_assoc h.front h.back rest) ∙ one h.front h.first (h.back ++ rest) h.begins
+
 -- a phrase begins with a token that `first` tells, unless it may have none
 pub solid_starts : {T A : Type 0} (same : T → T → Bool) (one : Grammar T A) → Fine same one → may_be_empty one ≡ false → (xs : List T) (v : A) (rest : List T) → Is one xs v
     → starts (first same one) (xs ++ rest) ≡ true
-solid_starts same (item value) f s xs v rest h = item_starts (first same (item value)) value true (λ t w e. ap is_some e) xs v rest h
-solid_starts same (behind token one) f s xs v rest h = behind_starts (same token) token true f.0.passes (Is one) xs v rest h
-solid_starts same (joined one next) f s xs v rest h = joined_starts (first same one) true (Is one) (λ a. Is (next a)) (solid_starts same one f.0 s) xs v rest h
+solid_starts same (item value) f s xs v rest h = item_starts value xs v rest h
+solid_starts same (behind token one) f s xs v rest h = behind_starts (same token) token f.0.passes (Is one) xs v rest h
+solid_starts same (joined one next) f s xs v rest h = joined_starts (first same one) (Is one) (λ a. Is (next a)) (solid_starts same one f.0 s) xs v rest h
 solid_starts same (either one other) f s xs v rest (inl h) =
     or_starts (first same one) (first same other) (xs ++ rest) (inl (solid_starts same one f.0 (or_false (may_be_empty one) (may_be_empty other) s).0 xs v rest h))
 solid_starts same (either one other) f s xs v rest (inr h) =
@@ -164,13 +176,9 @@ firsts same (deep of) f P o t more v h = firsts same (of h.0) (f.0 h.0) P (o h.0
 
 -- what may follow two phrases may follow the second, and what may follow the first stands behind it
 
-clear_behind : {T A : Type 0} (same : T → T → Bool) (token : T) (one : Grammar T A) (rest : List T) → Clear same (behind token one) rest → Clear same one rest
-clear_behind same token one [] after = tt
-clear_behind same token one (t ∷ rest) after = after
-
-clear_next : {T A B : Type 0} (same : T → T → Bool) (one : Grammar T A) (next : A → Grammar T B) (a : A) (rest : List T) → Clear same (joined one next) rest → Clear same (next a) rest
-clear_next same one next a [] after = tt
-clear_next same one next a (t ∷ rest) after = (after a).0
+clear_more : {T A B : Type 0} (same : T → T → Bool) (one : Grammar T A) (other : Grammar T B) → ((t : T) → Quiet same one t → Quiet same other t) → (rest : List T) → Clear same one rest → Clear same other rest
+clear_more same one other more [] after = tt
+clear_more same one other more (t ∷ rest) after = more t after
 
 clear_between : {T A B : Type 0} (same : T → T → Bool) (one : Grammar T A) (next : A → Grammar T B) → ((a : A) → Fine same (next a) × Firsts (next a) (Quiet same one))
     → (a : A) (ys : List T) (v : B) (rest : List T) → Is (next a) ys v → Clear same (joined one next) rest → Clear same one (ys ++ rest)
@@ -178,31 +186,11 @@ clear_between same one next f a [] v [] h after = tt
 clear_between same one next f a [] v (t ∷ rest) h after = skips (next a) (after a).1 v h
 clear_between same one next f a (t ∷ ys) v rest h after = firsts same (next a) (f a).0 (Quiet same one) (f a).1 t ys v h
 
-clear_one : {T A : Type 0} (same : T → T → Bool) (one other : Grammar T A) (rest : List T) → Clear same (either one other) rest → Clear same one rest
-clear_one same one other [] after = tt
-clear_one same one other (t ∷ rest) after = after.0
-
-clear_other : {T A : Type 0} (same : T → T → Bool) (one other : Grammar T A) (rest : List T) → Clear same (either one other) rest → Clear same other rest
-clear_other same one other [] after = tt
-clear_other same one other (t ∷ rest) after = after.1
-
 other_starts : {T A : Type 0} (same : T → T → Bool) (one other : Grammar T A) → Fine same other → Firsts other (λ t. first same one t ≡ false)
     → (xs : List T) (v : A) (rest : List T) → Is other xs v → Clear same (either one other) rest → starts (first same one) (xs ++ rest) ≡ false
 other_starts same one other f o [] v [] h after = refl
 other_starts same one other f o [] v (t ∷ rest) h after = skips other after.2 v h
 other_starts same one other f o (t ∷ xs) v rest h after = firsts same other f (λ t. first same one t ≡ false) o t xs v h
-
-clear_first : {T A : Type 0} (same : T → T → Bool) (holds : Bool) (one other : Grammar T A) (rest : List T) → Clear same (which holds one other) rest → Clear same one rest
-clear_first same holds one other [] after = tt
-clear_first same holds one other (t ∷ rest) after = after.0
-
-clear_second : {T A : Type 0} (same : T → T → Bool) (holds : Bool) (one other : Grammar T A) (rest : List T) → Clear same (which holds one other) rest → Clear same other rest
-clear_second same holds one other [] after = tt
-clear_second same holds one other (t ∷ rest) after = after.1
-
-clear_deep : {T A : Type 0} (same : T → T → Bool) (of : ℕ → Grammar T A) (n : ℕ) (rest : List T) → Clear same (deep of) rest → Clear same (of n) rest
-clear_deep same of n [] after = tt
-clear_deep same of n (t ∷ rest) after = after n
 
 -- steps: no step goes on with what may stand between two
 
@@ -229,18 +217,18 @@ repeat_goes_on same step value f v (t ∷ xs) w rest h = λ a. firsts same (step
 
 pub parses : {T A : Type 0} (same : T → T → Bool) (one : Grammar T A) → Fine same one → Parses (Is one) (at same one) (Clear same one)
 parses same (item value) f = parses_before (Clear same (item value)) (λ rest h. tt) (item_parses value f.0 f.1 f.2)
-parses same (behind token one) f = parses_before (Clear same (behind token one)) (clear_behind same token one) (behind_parses f.0 (parses same one f.1))
+parses same (behind token one) f = parses_before (Clear same (behind token one)) (clear_more same (behind token one) one (λ t q. q)) (behind_parses f.0 (parses same one f.1))
 parses same (joined one next) f = then_parses (Clear same one) (parses same one f.0)
-    (λ a. parses_before (Clear same (joined one next)) (clear_next same one next a) (parses same (next a) (f.1 a).0))
+    (λ a. parses_before (Clear same (joined one next)) (clear_more same (joined one next) (next a) (λ t q. (q a).0)) (parses same (next a) (f.1 a).0))
     (clear_between same one next f.1)
 parses same (either one other) f = either_parses (first same one)
-    (parses_before (Clear same (either one other)) (clear_one same one other) (parses same one f.0))
-    (parses_before (Clear same (either one other)) (clear_other same one other) (parses same other f.1))
+    (parses_before (Clear same (either one other)) (clear_more same (either one other) one (λ t q. q.0)) (parses same one f.0))
+    (parses_before (Clear same (either one other)) (clear_more same (either one other) other (λ t q. q.1)) (parses same other f.1))
     (λ xs v rest h after. solid_starts same one f.0 f.2 xs v rest h)
     (other_starts same one other f.1 f.3)
 parses same (which holds one other) f = which_parses holds
-    (parses_before (Clear same (which holds one other)) (clear_first same holds one other) (parses same one f.0))
-    (parses_before (Clear same (which holds one other)) (clear_second same holds one other) (parses same other f.1))
+    (parses_before (Clear same (which holds one other)) (clear_more same (which holds one other) one (λ t q. q.0)) (parses same one f.0))
+    (parses_before (Clear same (which holds one other)) (clear_more same (which holds one other) other (λ t q. q.1)) (parses same other f.1))
 parses same (nothing value) f = give_parses (Clear same (nothing value)) value
 parses same (repeats step value) f = steps_parses (record {
   one = λ v. parses_before (Between same step) (λ rest b. b v) (parses same (step v) (f.0 v).0);
@@ -249,7 +237,7 @@ parses same (repeats step value) f = steps_parses (record {
   ends = repeat_ends same step value;
   last = repeat_last same step value;
 }) value
-parses same (deep of) f = deep_parses (λ n. parses_before (Clear same (deep of)) (clear_deep same of n) (parses same (of n) (f.0 n))) f.1 f.2
+parses same (deep of) f = deep_parses (λ n. parses_before (Clear same (deep of)) (clear_more same (deep of) (of n) (λ t q. q n)) (parses same (of n) (f.0 n))) f.1 f.2
 
 -- for conditions on grammars that are not opened: what holds anyway, and what holds of each token
 

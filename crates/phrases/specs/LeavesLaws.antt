@@ -1,9 +1,7 @@
 -- What holds of the value of each phrase, and of its tokens, asked at the ends of the grammar alone.
-use Rattle.std.proofs.Common.{◌≡◌, ℕ, zero, suc, inl, inr, Bool, true, false, List, [], ◌∷◌, ◌++◌, Ok, append-nil, append_assoc, Some}
+use Rattle.std.proofs.Common.{◌≡◌, ℕ, zero, suc, inl, inr, true, false, List, [], ◌∷◌, ◌++◌, append-nil, append_assoc, Some}
 use Rattle.phrases.specs.Grammar.{Grammar, item, behind, joined, either, which, nothing, repeats, deep, Is}
 use Rattle.phrases.specs.Phrases.{Chain}
-use Rattle.phrases.specs.Reading.{at}
-use Rattle.phrases.specs.FineLaws.{Fine, parses}
 
 -- `P` holds of each value, whatever the values of the parts are
 abbrev pub Leaves : {T A : Type 0} → Grammar T A → (A → Type 0) → Type 0
@@ -61,11 +59,6 @@ leaves (which false one other) P l xs v h = leaves other P l.1 xs v h
 leaves (nothing value) P l xs v h = rw h.1 l
 leaves (repeats step value) P l xs v h = chain_keeps (λ a. Is (step a)) P (λ a p us w i. leaves (step a) P (l.1 a p) us w i) h.0 value xs v l.0 h.1
 leaves (deep of) P l xs v h = leaves (of h.0) P (l h.0) xs v h.1
-
--- and of what is read
-pub leaves_read : {T A : Type 0} (same : T → T → Bool) (one : Grammar T A) → Fine same one → (P : A → Type 0) → Leaves one P → (tokens : List T) (v : A) (rest : List T)
-    → at same one tokens ≡ Ok (v, rest) → P v
-leaves_read same one f P l tokens v rest e = let r = (parses same one f).sound tokens v rest e in leaves one P l r.front v r.phrase
 
 chain_told : {T A : Type 0} {Holds : List T → Type 0} → Splits Holds → (Step : A → List T → A → Type 0) (Q : List T → A → Type 0)
     → ((a : A) (before : List T) → Q before a → (xs : List T) (v : A) → Step a xs v → Holds xs → Q (before ++ xs) v)

@@ -5,16 +5,12 @@ pub mod Column
 pub mod Ended
 pub mod AlikeLaws
 pub mod DeepLaws
-pub mod EndedLaws
 pub mod FineLaws
 pub mod LeavesLaws
 pub mod LineLaws
 pub mod LoopLaws
-pub mod MoreLaws
 pub mod ParsesLaws
 pub mod RepeatedLaws
 pub mod TakesLaws
-pub mod UnboundedLaws
 pub mod UnderLaws
-pub mod WholeLaws
 pub mod WiderLaws

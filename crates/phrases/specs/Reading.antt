@@ -1,6 +1,6 @@
 -- Reading a phrase from the front of a list of tokens: its value and the tokens behind it, or how many tokens are left where
 -- reading stops.
-use Rattle.std.specs.Prelude.{ℕ, zero, suc, Bool, false, ◌||◌, if◌then◌else◌, List, [], ◌∷◌, ◌++◌, length, Option, Some, None, is_some, Result, Ok, Err}
+use Rattle.std.specs.Prelude.{ℕ, zero, suc, Bool, false, ◌||◌, if◌then◌else◌, List, [], ◌∷◌, length, Option, Some, None, is_some, Result, Ok, Err}
 use Rattle.phrases.specs.Grammar.{Grammar, item, behind, joined, either, which, nothing, repeats, deep}
 
 infixl 10 ◌>>=◌
@@ -56,10 +56,6 @@ steps_within (suc n) test step v tokens =
 -- steps as long as the first token passes
 unfoldable pub steps_at : {T A : Type 0} → (T → Bool) → (A → List T → Result (A × List T) ℕ) → A → List T → Result (A × List T) ℕ
 steps_at test step v tokens = steps_within (length tokens) test step v tokens
-
--- one phrase more at the end of those found
-abbrev pub more_at : {T A : Type 0} → (List T → Result (A × List T) ℕ) → List A → List T → Result (List A × List T) ℕ
-more_at read found tokens = read tokens >>= λ x. Ok (found ++ x.0 ∷ [], x.1)
 
 -- whether a token begins a phrase of a grammar; `same` tells whether one token is another
 abbrev pub first : {T A : Type 0} → (T → T → Bool) → Grammar T A → T → Bool

@@ -24,9 +24,6 @@ pub either_wider : {T A : Type 0} {Is IsAlso IsOther IsOtherAlso : List T → A 
 either_wider one two xs v (inl h) = inl (one xs v h)
 either_wider one two xs v (inr h) = inr (two xs v h)
 
-pub same_wider : {T A : Type 0} (Is : List T → A → Type 0) → Wider Is Is
-same_wider Is xs v h = h
-
 chain_wider : {T A : Type 0} {Step StepAlso : A → List T → A → Type 0} → ((a : A) → Wider (Step a) (StepAlso a)) → (n : ℕ) (a : A) → Wider (Chain Step n a) (Chain StepAlso n a)
 chain_wider one zero a xs v h = h
 chain_wider one (suc n) a xs v h = record {

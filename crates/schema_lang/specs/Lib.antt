@@ -1,5 +1,3 @@
-pub mod Kernels
-pub mod Updates
 pub mod Bodies
 pub mod Parsing
 pub mod LineOf
