@@ -14,8 +14,8 @@ pub use Rattle.line_grammar.specs.Sentences.{Value}
 pub use Rattle.line_grammar.specs.Language.{wrapped, arrays, fields_of_list, read, count, path, constant, fixed, extent_word, span, term, passes, link, atom_within, unary, product, sum, negation, conjunction, expr_over, listed, mapping, field_width, field_within}
 pub use Rattle.map_expr.specs.Terms.{term_of}
 pub use Rattle.record_dim.specs.Trees.{tree_of, fields_of}
-pub use Rattle.line_phrases.specs.Fields.{boxed_field}
+pub use Rattle.line_phrases.specs.Inner.Fields.{boxed_field}
 pub use Rattle.line_phrases.specs.FieldLaws.{onto}
 unfoldable pub use Rattle.line_grammar.specs.Language.{later, parts, dims, later_passes, links, signs}
-pub use Rattle.line_phrases.specs.Exprs.{means, boxed_term, left_term}
-unfoldable pub use Rattle.line_phrases.specs.Exprs.{chain_behind}
+pub use Rattle.line_phrases.specs.Inner.Exprs.{means, boxed_term, left_term}
+unfoldable pub use Rattle.line_phrases.specs.Inner.Exprs.{chain_behind}

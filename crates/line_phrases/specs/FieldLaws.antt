@@ -14,7 +14,7 @@ use Rattle.record_dim.specs.Trees.{Tree, Fields, Array, End, Field}
 use Rattle.line_grammar.specs.declared.token.Token.{Token}
 use Rattle.line_grammar.specs.Tokens.{is_same, is_sign}
 use Rattle.line_grammar.specs.Language.{arrays, fields_of_list, read, later, listed, braced, dim, dims, field_within, fields, nested, typed}
-use Rattle.line_phrases.specs.Fields.{boxed_field}
+use Rattle.line_phrases.specs.Inner.Fields.{boxed_field}
 use Rattle.line_phrases.specs.BasicsLaws.{count_fine, exact_sign, name_fine}
 use Rattle.line_phrases.specs.ListLaws.{listed_fine, listed_quiet}
 use Rattle.line_phrases.specs.MapLaws.{GoesOn, type_fine}

@@ -1,6 +1,3 @@
-pub mod Fields
-pub mod Maps
-pub mod Exprs
 pub mod BasicsLaws
 pub mod FieldLaws
 pub mod LevelsLaws

@@ -4,7 +4,7 @@ ghost use Rattle.line_tokens.specs.declared.sign.Sign.TheVariants.{Minus};
 ghost use Rattle.line_grammar.specs.declared.token.Token.TheVariants.{Word, Sign as Signed};
 ghost use Rattle.line_grammar.specs.Language.{wrapped, read, atom_within, bracketed, choice, comparison, conjunction, expr, expr_over, leaf, negation, product, signs, sum, unary};
 ghost use Rattle.line_phrases.specs.Inner.Gives.{Gives, IsSyntax};
-ghost use Rattle.line_phrases.specs.Exprs.{behind_left, boxed_term, left_term};
+ghost use Rattle.line_phrases.specs.Inner.Exprs.{behind_left, boxed_term, left_term};
 ghost use Rattle.std.specs.Prelude.{codes, zero};
 
 use crate::{ReadError, Tokens, read_path};
@@ -26,7 +26,7 @@ pub fn read_expr(alloc: Global, tokens: &mut Tokens) -> Result<Expr, ReadError>
 
 // Its brackets nest at most `room` deep.
 #[cycle(expr)]
-#[tactic(auto, unfolding(line_grammar::specs::Language::expr_over, line_grammar::specs::Language::chain, crate::specs::Exprs::chain_behind), using(crate::proofs::Links::link_steps))]
+#[tactic(auto, unfolding(line_grammar::specs::Language::expr_over, line_grammar::specs::Language::chain, crate::specs::Inner::Exprs::chain_behind), using(crate::proofs::Links::link_steps))]
 fn read_boxed(alloc: Global, room: usize, tokens: &mut Tokens) -> Result<Box<Expr>, ReadError>
     ensures gives { Gives (λ x. (boxed_term x, tokens.new)) result (read (expr_over (atom_within room)) tokens.old) }
     ensures shorter { OnOk result (length tokens.new < length tokens.old) }
@@ -45,7 +45,7 @@ fn read_boxed(alloc: Global, room: usize, tokens: &mut Tokens) -> Result<Box<Exp
 
 // `and` between negations.
 #[cycle(expr)]
-#[tactic(auto, unfolding(line_grammar::specs::Language::conjunction, line_grammar::specs::Language::chain, crate::specs::Exprs::chain_behind), using(crate::proofs::Links::link_steps))]
+#[tactic(auto, unfolding(line_grammar::specs::Language::conjunction, line_grammar::specs::Language::chain, crate::specs::Inner::Exprs::chain_behind), using(crate::proofs::Links::link_steps))]
 fn read_conjunction(alloc: Global, room: usize, tokens: &mut Tokens) -> Result<Box<Expr>, ReadError>
     ensures gives { Gives (λ x. (boxed_term x, tokens.new)) result (read (conjunction (atom_within room)) tokens.old) }
     ensures shorter { OnOk result (length tokens.new < length tokens.old) }
@@ -94,7 +94,7 @@ fn read_comparison(alloc: Global, room: usize, tokens: &mut Tokens) -> Result<Bo
 
 // `+` and `-` between products.
 #[cycle(expr)]
-#[tactic(auto, unfolding(line_grammar::specs::Language::sum, line_grammar::specs::Language::chain, crate::specs::Exprs::chain_behind), using(crate::proofs::Links::link_steps))]
+#[tactic(auto, unfolding(line_grammar::specs::Language::sum, line_grammar::specs::Language::chain, crate::specs::Inner::Exprs::chain_behind), using(crate::proofs::Links::link_steps))]
 fn read_sum(alloc: Global, room: usize, tokens: &mut Tokens) -> Result<Box<Expr>, ReadError>
     ensures gives { Gives (λ x. (boxed_term x, tokens.new)) result (read (sum (atom_within room)) tokens.old) }
     ensures shorter { OnOk result (length tokens.new < length tokens.old) }
@@ -113,7 +113,7 @@ fn read_sum(alloc: Global, room: usize, tokens: &mut Tokens) -> Result<Box<Expr>
 
 // `*`, `/` and `%` between operands.
 #[cycle(expr)]
-#[tactic(auto, unfolding(line_grammar::specs::Language::product, line_grammar::specs::Language::chain, crate::specs::Exprs::chain_behind), using(crate::proofs::Links::link_steps))]
+#[tactic(auto, unfolding(line_grammar::specs::Language::product, line_grammar::specs::Language::chain, crate::specs::Inner::Exprs::chain_behind), using(crate::proofs::Links::link_steps))]
 fn read_product(alloc: Global, room: usize, tokens: &mut Tokens) -> Result<Box<Expr>, ReadError>
     ensures gives { Gives (λ x. (boxed_term x, tokens.new)) result (read (product (atom_within room)) tokens.old) }
     ensures shorter { OnOk result (length tokens.new < length tokens.old) }

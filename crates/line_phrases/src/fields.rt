@@ -3,7 +3,7 @@ ghost use Rattle.phrases.specs.Grammar.{joined, nothing};
 ghost use Rattle.record_dim.specs.Trees.{fields_of, tree_of};
 ghost use Rattle.line_grammar.specs.Language.{arrays, fields_of_list, read, braced, dim, dims, field_within, fields, listed, typed};
 ghost use Rattle.line_phrases.specs.Inner.Gives.{Gives, IsSyntax};
-ghost use Rattle.line_phrases.specs.Fields.{boxed_field};
+ghost use Rattle.line_phrases.specs.Inner.Fields.{boxed_field};
 
 use crate::{ReadError, Tokens};
 use line_grammar::Count;

@@ -3,7 +3,7 @@ ghost use Rattle.map_expr.specs.Terms.{Named, term_of};
 ghost use Rattle.line_grammar.specs.declared.line.MapWord.TheVariants as form;
 ghost use Rattle.line_grammar.specs.Language.{read, listed, inside_aos, inside_aosoa, inside_bits, inside_form, inside_soa, mapping, mapping_within};
 ghost use Rattle.line_phrases.specs.Inner.Gives.{Gives};
-ghost use Rattle.line_phrases.specs.Maps.{bits_of, boxed_map, over};
+ghost use Rattle.line_phrases.specs.Inner.Maps.{bits_of, boxed_map, over};
 
 use crate::widths::read_field_widths;
 use crate::{ReadError, Tokens, read_path};

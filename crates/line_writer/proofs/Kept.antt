@@ -9,7 +9,7 @@ use Rattle.line_writer.proofs.Words.{count_prints, name_prints}
 use Rattle.line_writer.proofs.Phrases.{path_prints}
 use Rattle.line_writer.proofs.Leaves.{IsGood}
 use Rattle.line_writer.proofs.Levels.{value_read}
-use Rattle.line_writer.proofs.Rooms.{Fits, no_tokens_fit, fits_more, fits_append, fits_flat, fits_operator, one_fits, path_fits, number_fits, value_fits, commas_fit, form_fits, bracket_list_fits, word_spelled}
+use Rattle.line_writer.proofs.Rooms.{Fits, no_tokens_fit, fits_more, fits_append, fits_flat, fits_operator, fits_word, one_fits, path_fits, number_fits, value_fits, commas_fit, form_fits, bracket_list_fits, word_spelled}
 
 -- the canonical tokens of the value are read as this value, and are spelled
 pub record Kept {A : Type 0} (one : Grammar Token A) (tokens : A → List Token) (v : A) : Type 0 where
@@ -146,37 +146,7 @@ kernel_inside_gives word.CountWhere = gives (inside_kernel word.CountWhere) (Kep
 abbrev pub IsKept : Version → Sentence → Type 0
 IsKept version sentence = deepest sentence ≤ 32 → Fits 64 (line_tokens sentence) × Is (line version) (line_tokens sentence) sentence
 
--- the words of such lines
-pub set_word : IsSpelled (Word (codes "set"))
-set_word = word_spelled (codes "set") refl refl (omega arith)
-
-update_word : IsSpelled (Word (codes "update"))
-update_word = word_spelled (codes "update") refl refl (omega arith)
-
-where_word : IsSpelled (Word (codes "where"))
-where_word = word_spelled (codes "where") refl refl (omega arith)
-
-reduce_word : IsSpelled (Word (codes "reduce"))
-reduce_word = word_spelled (codes "reduce") refl refl (omega arith)
-
-count_word : IsSpelled (Word (codes "count"))
-count_word = word_spelled (codes "count") refl refl (omega arith)
-
-actors_word : IsSpelled (Word (codes "actors"))
-actors_word = word_spelled (codes "actors") refl refl (omega arith)
-
-schedule_word : IsSpelled (Word (codes "schedule"))
-schedule_word = word_spelled (codes "schedule") refl refl (omega arith)
-
-turns_word : IsSpelled (Word (codes "turns"))
-turns_word = word_spelled (codes "turns") refl refl (omega arith)
-
-kernel_command : IsSpelled (Word (codes "kernel"))
-kernel_command = word_spelled (codes "kernel") refl refl (omega arith)
-
-lanes_word : IsSpelled (Word (codes "lanes"))
-lanes_word = word_spelled (codes "lanes") refl refl (omega arith)
-
+-- the words of kernels
 kernel_word_spelled : (word : KernelWord) → IsSpelled (Word (kernel_word word))
 kernel_word_spelled word.Axpy = word_spelled (codes "axpy") refl refl (omega arith)
 kernel_word_spelled word.Clamp = word_spelled (codes "clamp") refl refl (omega arith)
@@ -204,8 +174,8 @@ value_in value good small = fits_more (depth_of value) 32 _ small (value_fits va
 pub count_kept : (version : Version) (view : List ℕ) (filter : Value) → KeptName view → IsGood filter → IsKept version (Count view filter)
 unfolding body
 count_kept version view filter kv good = λ small. (
-  fits_more 32 64 _ (omega arith) (fits_flat 32 (Word (codes "reduce")) _ refl reduce_word (fits_flat 32 (Word view) _ refl (name_in view kv)
-      (fits_flat 32 (Word (codes "count")) _ refl count_word (fits_flat 32 (Word (codes "where")) _ refl where_word (value_in filter good small))))),
+  fits_more 32 64 _ (omega arith) (fits_word 32 (codes "reduce") _ refl refl (omega arith) (fits_flat 32 (Word view) _ refl (name_in view kv)
+      (fits_word 32 (codes "count") _ refl refl (omega arith) (fits_word 32 (codes "where") _ refl refl (omega arith) (value_in filter good small))))),
   as_line version command.Reduce (codes "reduce") _ _ refl (join (Word view ∷ []) _ view _ kv.reads
       (inl (refl, (refl, last (λ filter. Count view filter) (value_tokens filter) filter (value_read filter good))))),
 )
@@ -222,8 +192,8 @@ kernel_fits word text k = rw k.whole (form_fits 1 (kernel_word word) k.inside (k
 pub kernel_kept : (version : Version) (view : List ℕ) (word : KernelWord) (text : KernelText) (lanes : ℕ) → KeptName view → KeptKernel word text → KeptCount lanes → IsKept version (Kernel view text lanes)
 unfolding body
 kernel_kept version view word text lanes kv k kl = λ small. (
-  fits_more 2 64 _ (omega arith) (fits_flat 2 (Word (codes "kernel")) _ refl kernel_command (fits_flat 2 (Word view) _ refl (name_in view kv)
-      (fits_append 2 (kernel_tokens text) _ (kernel_fits word text k) (fits_flat 2 (Word (codes "lanes")) _ refl lanes_word (fits_more 0 2 _ (omega arith) (one_fits (count_token lanes) refl kl.spelled.0)))))),
+  fits_more 2 64 _ (omega arith) (fits_word 2 (codes "kernel") _ refl refl (omega arith) (fits_flat 2 (Word view) _ refl (name_in view kv)
+      (fits_append 2 (kernel_tokens text) _ (kernel_fits word text k) (fits_word 2 (codes "lanes") _ refl refl (omega arith) (fits_more 0 2 _ (omega arith) (one_fits (count_token lanes) refl kl.spelled.0)))))),
   as_line version command.Kernel (codes "kernel") _ _ refl (join (Word view ∷ []) _ view _ kv.reads
       (join (kernel_tokens text) (Word (codes "lanes") ∷ count_token lanes ∷ []) text _ (kernel_reads word text k)
       (refl, last (λ lanes. Kernel view text lanes) (count_token lanes ∷ []) lanes kl.reads))),
@@ -275,7 +245,7 @@ index_fits index h = bracket_list_fits 0 _ (counts_fit index (spelled_commas _ (
 pub assign_kept : (version : Version) (view : List ℕ) (index : List ℕ) (path : List PathStep) (value : Value) → KeptName view → Kept (bracketed_list count) index_tokens index → KeptPath path → IsGood value → IsKept version (Assign view index path value)
 unfolding body
 assign_kept version view index path value kv ki kp good = λ small. (
-  fits_more 32 64 _ (omega arith) (fits_flat 32 (Word (codes "set")) _ refl set_word (fits_flat 32 (Word view) _ refl (name_in view kv)
+  fits_more 32 64 _ (omega arith) (fits_word 32 (codes "set") _ refl refl (omega arith) (fits_flat 32 (Word view) _ refl (name_in view kv)
       (fits_append 32 (index_tokens index) _ (fits_more 1 32 _ (omega arith) (index_fits index ki.spelled)) (fits_flat 32 (Sign Dot) _ refl refl
       (fits_append 32 (path_tokens path) _ (fits_more 1 32 _ (omega arith) (path_in path kp)) (fits_flat 32 (Sign Equals) _ refl refl (value_in value good small))))))),
   as_line version command.Set (codes "set") _ _ refl (join (Word view ∷ []) _ view _ kv.reads
@@ -317,7 +287,7 @@ filter_reads (Some filter) good = inl (refl, last Some (value_tokens filter) fil
 
 filter_fits : (filter : Option Value) → IsGoodFilter filter → filter_depth filter ≤ 32 → Fits 32 (filter_tokens filter)
 filter_fits None good small = fits_more 0 32 [] (omega arith) no_tokens_fit
-filter_fits (Some filter) good small = fits_flat 32 (Word (codes "where")) _ refl where_word (value_in filter good small)
+filter_fits (Some filter) good small = fits_word 32 (codes "where") _ refl refl (omega arith) (value_in filter good small)
 
 -- the parts of an update are kept
 pub record KeptParts (view : List ℕ) (filter : Option Value) (sets : List Assignment) : Type 0 where
@@ -327,8 +297,8 @@ pub record KeptParts (view : List ℕ) (filter : Option Value) (sets : List Assi
   pub goods : Each IsGoodSet sets
 
 update_fits : (view : List ℕ) (filter : Option Value) (sets : List Assignment) → KeptParts view filter sets → max (filter_depth filter) (deepest_set sets) ≤ 32 → Fits 32 (update_tokens view filter sets)
-update_fits view filter sets k small = fits_flat 32 (Word (codes "update")) _ refl update_word (fits_flat 32 (Word view) _ refl (name_in view k.named)
-    (fits_append 32 (filter_tokens filter) _ (filter_fits filter k.good (omega arith)) (fits_flat 32 (Word (codes "set")) _ refl set_word (commas_fit 32 _ (sets_fit sets k.goods (omega arith))))))
+update_fits view filter sets k small = fits_word 32 (codes "update") _ refl refl (omega arith) (fits_flat 32 (Word view) _ refl (name_in view k.named)
+    (fits_append 32 (filter_tokens filter) _ (filter_fits filter k.good (omega arith)) (fits_word 32 (codes "set") _ refl refl (omega arith) (commas_fit 32 _ (sets_fit sets k.goods (omega arith))))))
 
 -- with what ends it
 update_reads : (version : Version) (view : List ℕ) (filter : Option Value) (sets : List Assignment) (end : List Token) (s : Sentence) → KeptParts view filter sets →
@@ -358,9 +328,9 @@ pub actors_kept : (view : List ℕ) (filter : Option Value) (sets : List Assignm
 unfolding update_end actors
 actors_kept view filter sets cuts seed turns k kc ks kt = λ small. (
   fits_more 32 64 _ (omega arith) (fits_append 32 (update_tokens view filter sets) _ (update_fits view filter sets k small)
-      (fits_flat 32 (Word (codes "actors")) _ refl actors_word (fits_append 32 (index_tokens cuts) _ (fits_more 1 32 _ (omega arith) (index_fits cuts kc.spelled))
-      (fits_flat 32 (Word (codes "schedule")) _ refl schedule_word (fits_flat 32 (count_token seed) _ refl ks.spelled.0
-      (fits_flat 32 (Word (codes "turns")) _ refl turns_word (fits_more 0 32 _ (omega arith) (one_fits (count_token turns) refl kt.spelled.0)))))))),
+      (fits_word 32 (codes "actors") _ refl refl (omega arith) (fits_append 32 (index_tokens cuts) _ (fits_more 1 32 _ (omega arith) (index_fits cuts kc.spelled))
+      (fits_word 32 (codes "schedule") _ refl refl (omega arith) (fits_flat 32 (count_token seed) _ refl ks.spelled.0
+      (fits_word 32 (codes "turns") _ refl refl (omega arith) (fits_more 0 32 _ (omega arith) (one_fits (count_token turns) refl kt.spelled.0)))))))),
   update_reads Two view filter sets (actors_tokens cuts seed turns) (Actors view filter sets cuts seed turns) k (inl (
     refl,
     join (index_tokens cuts) (Word (codes "schedule") ∷ count_token seed ∷ Word (codes "turns") ∷ count_token turns ∷ []) cuts _ kc.reads (

@@ -1,7 +1,7 @@
 -- What is read of an expression has leaves that are read back.
 use Rattle.line_writer.proofs.Imports.{◌≡◌, ℕ, suc, [], ◌∷◌, ◌++◌, codes, refl, sym, ap, ◌∙◌, append-nil, arith, zero, inl, inr, Option, Some, ℤ, pos, negsuc, decimal, decimal_digit, Minus, Token, Word, Sign, Number, Text, Bad, Value, Grammar, Is, item, BinOp, Constant, Entry, Index, Neg, Not, Binary, token_number, dimensions, index_of, or_of, and_of, sum_of, product_of, wrapped, number, link, atom_within, bracketed, chain, choice, comparison, conjunction, expr, expr_over, leaf, links, negation, path, prefixed, product, sum, unary, operator, index_word, number_tokens, value_tokens}
 use Rattle.line_writer.proofs.Gives.{Each, Gives, IsSpelled, Prints, gives, prints}
-use Rattle.line_writer.proofs.Words.{listed_as, one_token}
+use Rattle.line_writer.proofs.Words.{listed_as}
 use Rattle.line_writer.proofs.Phrases.{path_prints}
 
 -- the canonical tokens of a leaf are spelled, and are read as this leaf

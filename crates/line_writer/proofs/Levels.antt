@@ -1,5 +1,5 @@
 -- The canonical tokens of an expression are read as this expression.
-use Rattle.line_writer.proofs.Imports.{◌≡◌, ℕ, suc, ◌≤◌, List, [], ◌∷◌, ◌++◌, codes, refl, sym, append-nil, arith, zero, inl, inr, Option, Some, true, false, Comma, OpenParen, CloseParen, Minus, Token, Word, Sign, Value, Grammar, Is, deep, BinOp, Eq, Ne, Lt, Le, Gt, Ge, Add, Sub, Mul, Div, Rem, Min, Max, And, Or, depth_of, Constant, Entry, Index, Neg, Not, Binary, comparison_of, choice_of, or_of, and_of, sum_of, product_of, number, link, atom_within, bracketed, chain, choice, comparison, conjunction, expr, expr_over, leaf, links, negation, path, prefixed, product, signs, sum, unary, operator, value_tokens, is_choice, operand}
+use Rattle.line_writer.proofs.Imports.{◌≡◌, ℕ, suc, ◌≤◌, List, [], ◌∷◌, ◌++◌, codes, refl, sym, append-nil, arith, zero, inl, inr, Option, Some, true, false, Comma, OpenParen, CloseParen, Minus, Token, Word, Sign, Value, Grammar, Is, BinOp, Eq, Ne, Lt, Le, Gt, Ge, Add, Sub, Mul, Div, Rem, Min, Max, And, Or, depth_of, Constant, Entry, Index, Neg, Not, Binary, comparison_of, choice_of, or_of, and_of, sum_of, product_of, number, link, atom_within, bracketed, chain, choice, comparison, conjunction, expr, expr_over, leaf, links, negation, path, prefixed, product, signs, sum, unary, operator, value_tokens, is_choice, operand}
 use Rattle.line_writer.proofs.Leaves.{IsGood}
 
 -- each level has the phrases of the next one

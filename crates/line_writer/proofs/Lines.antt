@@ -1,5 +1,5 @@
 -- A line has its canonical tokens alone, or one with expressions or a kernel, and then its canonical tokens are kept.
-use Rattle.line_writer.proofs.Imports.{◌≡◌, ℕ, List, [], ◌∷◌, ◌++◌, map, codes, refl, sym, ap, ◌∙◌, append-nil, inl, inr, Option, Some, ◌⊎◌, Token, Word, Sentence, Assignment, Value, Update, Show, Grammar, Is, item, behind, joined, nothing, Version, One, Two, Command, KernelWord, command_of, name, count, actors, assignment, body, bracketed_list, command_line, cuts_phrase, extent_word, fields, filter_phrase, fixed, kernel_text, line, comma_list, mapping, new, parts, passes, path, show_end, update_end, command_word, ExtentWord, ShowKind, line_tokens, count_token, index_tokens, extent_tokens, map_tokens, new_tokens}
+use Rattle.line_writer.proofs.Imports.{◌≡◌, ℕ, List, [], ◌∷◌, ◌++◌, codes, refl, sym, ap, ◌∙◌, append-nil, inl, inr, Option, Some, ◌⊎◌, Token, Word, Sentence, Assignment, Value, Update, Show, Grammar, Is, item, behind, joined, nothing, InParts, Version, One, Two, Command, KernelWord, command_of, name, count, actors, assignment, body, bracketed_list, command_line, cuts_phrase, extent_word, filter_phrase, fixed, kernel_text, line, comma_list, mapping, new, show_end, update_end, command_word, ExtentWord, ShowKind, line_tokens, count_token, index_tokens, extent_tokens, map_tokens, new_tokens}
 use Rattle.line_grammar.specs.declared.line.Command.TheVariants as command
 use Rattle.line_grammar.specs.declared.line.ShowKind.TheVariants as show
 use Rattle.line_writer.proofs.Gives.{Each, Gives, IsSpelled, Prints, at_ends, by_parts, each_back, each_front, gives, prints}
@@ -20,24 +20,7 @@ IsBehind version c xs sentence = IsDone version (Word (command_word c) ∷ xs) s
 -- what makes a view
 new_prints : (version : Version) (word : Grammar Token ExtentWord) → Prints word extent_tokens → Prints (new version word) new_tokens
 unfolding new
-new_prints version word p = prints (new version word) new_tokens (
-  _,
-  name_prints,
-  λ name. (
-    _,
-    name_prints,
-    λ schema. (
-      _,
-      bracket_list_prints word extent_tokens p,
-      λ words. (
-        _,
-        flag_prints (codes "wrap"),
-        λ wrap.
-            (_, mapping_prints version, λ map. rw append-nil refl),
-      ),
-    ),
-  ),
-)
+new_prints version word p = prints (new version word) new_tokens (_, name_prints, λ name. (_, name_prints, λ schema. (_, bracket_list_prints word extent_tokens p, λ words. (_, flag_prints (codes "wrap"), λ wrap. (_, mapping_prints version, λ map. rw append-nil refl)))))
 
 -- the parts of lines that are kept
 filter_gives : Gives filter_phrase IsGoodFilter
@@ -59,14 +42,8 @@ unfolding body update_end actors
 update_gives One = gives (joined name (λ view. joined filter_phrase (λ filter. behind (Word (codes "set")) (joined (comma_list assignment) (λ sets. nothing (Update view filter sets)))))) (IsKept One)
     (λ view f i s filter g j t sets h k u. update_kept One view filter sets (update_parts f g h view filter sets i s j t k u))
 update_gives Two = gives (body Two command.Update) (IsKept Two) (λ view f i s filter g j t sets h k u.
-    let parts = update_parts f g h view filter sets i s j t k u in let plain = update_kept Two view filter sets parts in (
-      (
-        (λ cuts m l w seed n o x turns p q y.
-            actors_kept view filter sets cuts seed turns parts (kept cuts_phrase index_tokens cuts_print m cuts l w) (kept_count n seed o x) (kept_count p turns q y)),
-        plain,
-      ),
-      plain,
-    ))
+    let parts = update_parts f g h view filter sets i s j t k u in let plain = update_kept Two view filter sets parts in
+    (((λ cuts m l w seed n o x turns p q y. actors_kept view filter sets cuts seed turns parts (kept cuts_phrase index_tokens cuts_print m cuts l w) (kept_count n seed o x) (kept_count p turns q y)), plain), plain))
 
 kernel_gives : Gives kernel_text (λ text. (word : KernelWord) × KeptKernel word text)
 unfolding kernel_text
@@ -81,13 +58,16 @@ show_done Two show.Counts = by_parts (joined name (λ view. nothing (Show show.C
 show_done Two show.Heat = by_parts (joined name (λ view. nothing (Show show.Heat view))) (IsBehind Two (command.Show show.Heat)) (_, name_prints, λ view. inl refl)
 show_done Two show.Layout = by_parts (joined name (λ view. nothing (Show show.Layout view))) (IsBehind Two (command.Show show.Layout)) (_, name_prints, λ view. inl refl)
 
+by_its_parts : (version : Version) (c : Command) → InParts (Each IsSpelled) (body version c) (IsBehind version c) → (xs : List Token) (v : Sentence) → Is (body version c) xs v → Each IsSpelled xs → IsBehind version c xs v
+by_its_parts version c = by_parts (body version c) (IsBehind version c)
+
 -- what stands behind a word of the version
 body_done : (version : Version) (c : Command) → command_of version (Word (command_word c)) ≡ Some c → (xs : List Token) (v : Sentence) → Is (body version c) xs v → Each IsSpelled xs → IsBehind version c xs v
 unfolding body
-body_done version command.Record is = by_parts (body version command.Record) (IsBehind version command.Record) (_, name_prints, λ name. (_, fields_print, λ fields. inl refl))
-body_done version command.Mapping is = by_parts (body version command.Mapping) (IsBehind version command.Mapping) (_, name_prints, λ name. (_, mapping_prints version, λ map. inl (rw append-nil refl)))
-body_done version command.View is = by_parts (body version command.View) (IsBehind version command.View) (_, new_prints version fixed fixed_prints, λ new. inl (rw append-nil refl))
-body_done version command.Load is = by_parts (body version command.Load) (IsBehind version command.Load) (_, new_prints version extent_word extent_prints, λ new. (_, string_prints, λ file. inl refl))
+body_done version command.Record is = by_its_parts version command.Record (_, name_prints, λ name. (_, fields_print, λ fields. inl refl))
+body_done version command.Mapping is = by_its_parts version command.Mapping (_, name_prints, λ name. (_, mapping_prints version, λ map. inl (rw append-nil refl)))
+body_done version command.View is = by_its_parts version command.View (_, new_prints version fixed fixed_prints, λ new. inl (rw append-nil refl))
+body_done version command.Load is = by_its_parts version command.Load (_, new_prints version extent_word extent_prints, λ new. (_, string_prints, λ file. inl refl))
 body_done version command.Set is = λ xs v h spelled. inr (gives (body version command.Set) (IsKept version) (λ view f i s index g j t path h k u value e l w.
     assign_kept version view index path value (kept_name f view i s) (kept (bracketed_list count) index_tokens (bracket_list_prints count (λ count. count_token count ∷ []) count_prints) g index j t)
     (kept_path h path k u) (expr_gives e value l w)) xs v h spelled)
@@ -98,27 +78,14 @@ body_done version command.Reduce is = at_ends (body version command.Reduce) (IsB
   (λ value g j t. inr (count_kept version view value (kept_name f view i s) (expr_gives g value j t))),
   λ kind g j t path h k u. inl (rw (← name_prints f view i s, ← reduction_prints g kind j t, ← path_prints h path k u, append-nil) refl),
 ))
-body_done version command.Copy is = by_parts (body version command.Copy) (IsBehind version command.Copy) (_, name_prints, λ source. (_, name_prints, λ target. inl refl))
-body_done version command.Relayout is = by_parts (body version command.Relayout) (IsBehind version command.Relayout) (_, name_prints, λ view. (_, mapping_prints version, λ map. inl (rw append-nil refl)))
+body_done version command.Copy is = by_its_parts version command.Copy (_, name_prints, λ source. (_, name_prints, λ target. inl refl))
+body_done version command.Relayout is = by_its_parts version command.Relayout (_, name_prints, λ view. (_, mapping_prints version, λ map. inl (rw append-nil refl)))
 body_done version (command.Show kind) is = show_done version kind
-body_done version command.Drop is = by_parts (body version command.Drop) (IsBehind version command.Drop) (_, name_prints, λ view. inl refl)
-body_done version command.Bytes is = by_parts (body version command.Bytes) (IsBehind version command.Bytes) (_, name_prints, λ view. (_, count_prints, λ blob. inl refl))
-body_done version command.Save is = by_parts (body version command.Save) (IsBehind version command.Save) (_, name_prints, λ view. inl refl)
-body_done version command.Open is = by_parts (body version command.Open) (IsBehind version command.Open) (_, name_prints, λ view. (_, string_prints, λ file. inl refl))
-body_done version command.Advise is = by_parts (body version command.Advise) (IsBehind version command.Advise) (
-  _,
-  name_prints,
-  λ view. (
-    _,
-    count_prints,
-    λ granule. (
-      _,
-      passes_print,
-      λ passes.
-          (_, listed_prints (mapping version) map_tokens (mapping_prints version), λ maps. (_, flag_prints (codes "splits"), λ splits. inl (rw append-nil refl))),
-    ),
-  ),
-)
+body_done version command.Drop is = by_its_parts version command.Drop (_, name_prints, λ view. inl refl)
+body_done version command.Bytes is = by_its_parts version command.Bytes (_, name_prints, λ view. (_, count_prints, λ blob. inl refl))
+body_done version command.Save is = by_its_parts version command.Save (_, name_prints, λ view. inl refl)
+body_done version command.Open is = by_its_parts version command.Open (_, name_prints, λ view. (_, string_prints, λ file. inl refl))
+body_done version command.Advise is = by_its_parts version command.Advise (_, name_prints, λ view. (_, count_prints, λ granule. (_, passes_print, λ passes. (_, listed_prints (mapping version) map_tokens (mapping_prints version), λ maps. (_, flag_prints (codes "splits"), λ splits. inl (rw append-nil refl))))))
 body_done version command.Stencil is = λ xs v h spelled. inr (stencil_gives version is xs v h spelled)
 
 -- a word of the version stands for its command

@@ -1,7 +1,6 @@
 -- A path, a record and a mapping have one list of tokens each: the canonical one.
-use Rattle.line_writer.proofs.Imports.{◌≡◌, ℕ, suc, ◌≤◌, List, [], ◌∷◌, ◌++◌, map, length, codes, refl, sym, ap, ◌∙◌, append-nil, append_assoc, arith, zero, inl, inr, Option, Some, None, flat_map, flat_map-append, OpenBrace, CloseBrace, Comma, Arrow, Tree, Fields, Record, Single, Token, Word, Sign, Grammar, Is, behind, joined, either, repeats, more, Version, One, Two, map_word, arrays, fields_of_list, name, count, bracketed_list, braced, braced_widths, cuts_phrase, dim, dims, extent_word, field_width, field_widths, field_within, fields, fixed, flag, form_or_name, inside_aos, inside_aosoa, inside_bits, inside_form, inside_soa, later, later_passes, comma_list, mapping, mapping_within, nested, part, parts, pass, passes, path, span, typed, window_phrase, type_word, form_word, MapTerm, MapWord, with_commas, width_tokens, widths_tokens, fields_tokens, later_tokens, held_tokens, count_token, path_tokens, form_tokens, index_tokens, bracket_list, extent_tokens, flag_tokens, map_tokens, pass_tokens, bracketed_count, step_tokens, dims_tokens, core_tokens, span_tokens, window_tokens}
+use Rattle.line_writer.proofs.Imports.{◌≡◌, ℕ, suc, ◌≤◌, List, [], ◌∷◌, ◌++◌, map, length, refl, sym, ap, ◌∙◌, append-nil, append_assoc, arith, zero, inl, inr, Option, Some, None, flat_map, flat_map-append, OpenBrace, CloseBrace, Comma, Arrow, Tree, Fields, Record, Single, Token, Word, Sign, Grammar, Is, behind, joined, either, repeats, more, InParts, Version, One, Two, map_word, arrays, fields_of_list, name, count, bracketed_list, braced, braced_widths, cuts_phrase, dim, dims, extent_word, field_width, field_widths, field_within, fields, fixed, flag, form_or_name, inside_aos, inside_aosoa, inside_bits, inside_form, inside_soa, later, later_passes, comma_list, mapping, mapping_within, nested, part, parts, pass, passes, path, span, typed, window_phrase, type_word, form_word, MapTerm, MapWord, with_commas, width_tokens, widths_tokens, fields_tokens, later_tokens, held_tokens, count_token, path_tokens, form_tokens, index_tokens, bracket_list, extent_tokens, flag_tokens, map_tokens, pass_tokens, bracketed_count, step_tokens, dims_tokens, core_tokens, span_tokens, window_tokens}
 use Rattle.record_dim.specs.declared.path.PathStep.TheVariants as step
-use Rattle.extents.specs.declared.words.ExtentWord.TheVariants as extent
 use Rattle.line_grammar.specs.declared.line.MapWord.TheVariants as form
 use Rattle.line_writer.proofs.Gives.{Each, IsSpelled, Prints, at_ends, by_parts, each_back, each_front, prints}
 use Rattle.line_writer.proofs.Behind.{some_widths}
@@ -14,14 +13,14 @@ IsWrittenOn {A = A} tokens found xs v = (later : List A) × (v ≡ found ++ late
 -- phrases one after another
 more_prints : {A : Type 0} (one : Grammar Token A) (tokens : A → List Token) → Prints one tokens → (found : List A) (xs : List Token) (v : List A) → Is (repeats (more one) found) xs v
     → Each IsSpelled xs → IsWrittenOn tokens found xs v
-more_prints one tokens p found = at_ends (repeats (more one) found) (IsWrittenOn tokens found) (
-  ([], sym (append-nil found), refl),
-  λ so_far before q next front i s. (
-    q.0 ++ next ∷ [],
-    rw q.1 (append_assoc found q.0 (next ∷ [])),
-    flat_map-append tokens q.0 (next ∷ []) ∙ ap (λ k. k ++ (tokens next ++ [])) q.2 ∙ ap (λ k. before ++ (k ++ [])) (p front next i s),
-  ),
-)
+more_prints {A = A} one tokens p found = at_ends (repeats (more one) found) (IsWrittenOn tokens found) (([], sym (append-nil found), refl), λ so_far before q next front i s. step so_far before q next front (p front next i s))
+  where
+    step : (so_far : List A) (before : List Token) → IsWrittenOn tokens found before so_far → (next : A) (front : List Token) → tokens next ≡ front → IsWrittenOn tokens found (before ++ (front ++ [])) (so_far ++ next ∷ [])
+    step so_far before q next front same = (
+      q.0 ++ next ∷ [],
+      rw q.1 (append_assoc found q.0 (next ∷ [])),
+      flat_map-append tokens q.0 (next ∷ []) ∙ ap (λ k. k ++ (tokens next ++ [])) q.2 ∙ ap (λ k. before ++ (k ++ [])) same,
+    )
 
 -- a first one, and later ones
 first_prints : {A B : Type 0} (one : Grammar Token A) (later : Grammar Token B) (tokens : A → List Token) (tokens_later : B → List Token) → Prints one tokens → Prints later tokens_later → (start : A → List B)
@@ -146,40 +145,26 @@ IsInside form xs v = map_tokens v ≡ form_tokens (form_word form) xs
 abbrev IsBehindWord : List ℕ → List Token → MapTerm → Type 0
 IsBehindWord word xs v = map_tokens v ≡ Word word ∷ xs
 
+form_end : (form : MapWord) (front inner : List Token) → form_tokens (form_word form) (front ++ inner) ≡ form_tokens (form_word form) (front ++ (inner ++ []))
+form_end form front inner = rw append-nil refl
+
 module _ (version : Version) (one : Grammar Token MapTerm) (p : Prints one map_tokens) where
+  in_its_parts : (form : MapWord) → InParts (Each IsSpelled) (inside_form version one form) (IsInside form) → (xs : List Token) (v : MapTerm) → Is (inside_form version one form) xs v → Each IsSpelled xs → IsInside form xs v
+  in_its_parts form = by_parts (inside_form version one form) (IsInside form)
+
   inside_prints : (form : MapWord) (xs : List Token) (v : MapTerm) → Is (inside_form version one form) xs v → Each IsSpelled xs → IsInside form xs v
   unfolding inside_form inside_aos inside_soa inside_aosoa inside_bits
-  inside_prints form.Aos = by_parts (inside_form version one form.Aos) (IsInside form.Aos) (_, aos_form_prints, λ form. (_, order_prints, λ order. refl))
-  inside_prints form.Soa = by_parts (inside_form version one form.Soa) (IsInside form.Soa) (_, soa_form_prints, λ form. (_, order_prints, λ order. refl))
-  inside_prints form.Aosoa = by_parts (inside_form version one form.Aosoa) (IsInside form.Aosoa) (_, count_prints, λ lanes. (_, order_prints, λ order. refl))
-  inside_prints form.BitAos = by_parts (inside_form version one form.BitAos) (IsInside form.BitAos) (_, count_prints, λ width. (_, field_widths_prints version, λ fields. (_, order_prints, λ order. refl)))
-  inside_prints form.BitSoa = by_parts (inside_form version one form.BitSoa) (IsInside form.BitSoa) (_, count_prints, λ width. (_, field_widths_prints version, λ fields. (_, order_prints, λ order. refl)))
-  inside_prints form.Split = by_parts (inside_form version one form.Split) (IsInside form.Split) (_, path_prints, λ path. (_, p, λ first. (_, p, λ rest. rw append-nil refl)))
-  inside_prints form.Byteswap = by_parts (inside_form version one form.Byteswap) (IsInside form.Byteswap) (_, p, λ inner. rw append-nil refl)
-  inside_prints form.Bytesplit = by_parts (inside_form version one form.Bytesplit) (IsInside form.Bytesplit) (_, p, λ inner. rw append-nil refl)
-  inside_prints form.Change = by_parts (inside_form version one form.Change) (IsInside form.Change) (
-    _,
-    type_prints,
-    λ from. (
-      _,
-      integer_type_prints,
-      λ to. (
-        _,
-        p,
-        λ inner. ap (λ k. form_tokens (codes "change") (Word (type_word from) ∷ Sign Arrow ∷ Word (type_word to) ∷ Sign Comma ∷ k)) (sym (append-nil (map_tokens inner))),
-      ),
-    ),
-  )
-  inside_prints form.Count = by_parts (inside_form version one form.Count) (IsInside form.Count) (_, p, λ inner. rw append-nil refl)
-  inside_prints form.Heat = by_parts (inside_form version one form.Heat) (IsInside form.Heat) (
-    _,
-    count_prints,
-    λ granule. (
-      _,
-      p,
-      λ inner. ap (λ k. form_tokens (codes "heat") (count_token granule ∷ Sign Comma ∷ k)) (sym (append-nil (map_tokens inner))),
-    ),
-  )
+  inside_prints form.Aos = in_its_parts form.Aos (_, aos_form_prints, λ form. (_, order_prints, λ order. refl))
+  inside_prints form.Soa = in_its_parts form.Soa (_, soa_form_prints, λ form. (_, order_prints, λ order. refl))
+  inside_prints form.Aosoa = in_its_parts form.Aosoa (_, count_prints, λ lanes. (_, order_prints, λ order. refl))
+  inside_prints form.BitAos = in_its_parts form.BitAos (_, count_prints, λ width. (_, field_widths_prints version, λ fields. (_, order_prints, λ order. refl)))
+  inside_prints form.BitSoa = in_its_parts form.BitSoa (_, count_prints, λ width. (_, field_widths_prints version, λ fields. (_, order_prints, λ order. refl)))
+  inside_prints form.Split = in_its_parts form.Split (_, path_prints, λ path. (_, p, λ first. (_, p, λ rest. rw append-nil refl)))
+  inside_prints form.Byteswap = in_its_parts form.Byteswap (_, p, λ inner. rw append-nil refl)
+  inside_prints form.Bytesplit = in_its_parts form.Bytesplit (_, p, λ inner. rw append-nil refl)
+  inside_prints form.Change = in_its_parts form.Change (_, type_prints, λ from. (_, integer_type_prints, λ to. (_, p, λ inner. form_end form.Change (Word (type_word from) ∷ Sign Arrow ∷ Word (type_word to) ∷ Sign Comma ∷ []) (map_tokens inner))))
+  inside_prints form.Count = in_its_parts form.Count (_, p, λ inner. rw append-nil refl)
+  inside_prints form.Heat = in_its_parts form.Heat (_, count_prints, λ granule. (_, p, λ inner. form_end form.Heat (count_token granule ∷ Sign Comma ∷ []) (map_tokens inner)))
 
   form_or_name_prints : (word : List ℕ) (form : Option MapWord) → map_word word ≡ form → (xs : List Token) (v : MapTerm) → Is (form_or_name version one word form) xs v → Each IsSpelled xs → IsBehindWord word xs v
   unfolding form_or_name

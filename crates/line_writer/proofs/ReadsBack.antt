@@ -1,5 +1,5 @@
 -- The canonical text of a line that is read has its canonical tokens, and is read as the same line.
-use Rattle.line_writer.proofs.Imports.{◌≡◌, ℕ, suc, ◌+◌, ◌<◌, ◌≤◌, ◌-◌, List, [], ◌∷◌, ◌++◌, map, length, take, drop, refl, sym, ap, ◌∙◌, append_assoc, arith, inl, inr, Option, Some, None, subst, pos, true, ◌^◌, slice_range, list_all, AllPass, decimal, decimal_is_IsNumeral_wide, nat_tests, digit_from_value, append_cancel_right, drop-drop, length-append, take_at, AllPass-from_list_all, is_ascii_digit, AllDigits, spaced_tokens, Spells, MayOpen, AreSpelled, Token, Word, Sign, Number, Text, Bad, Sentence, deepest, Is, Version, kind_token, read, line, is_text_byte, joined_no_end, NoEnd, next_of, brackets_after, Spots, Begins, Spot, Found, TokenKind, token_exactly, next_spells, joined_read, spot_at, both, tokens_of, Reads, line_tokens, written, canonical}
+use Rattle.line_writer.proofs.Imports.{◌≡◌, ℕ, suc, ◌+◌, ◌<◌, ◌≤◌, ◌-◌, List, [], ◌∷◌, ◌++◌, map, length, take, drop, refl, sym, ap, ◌∙◌, append_assoc, arith, inl, inr, Option, Some, None, subst, pos, true, ◌^◌, slice_range, list_all, AllPass, decimal, decimal_is_IsNumeral_wide, nat_tests, digit_from_value, append_cancel_right, drop-drop, length-append, take_at, AllPass-from_list_all, is_ascii_digit, AllDigits, spaced_tokens, Spells, MayOpen, AreSpelled, Token, Word, Sign, Number, Text, Bad, Sentence, deepest, Is, Version, kind_token, line, is_text_byte, joined_no_end, NoEnd, next_of, brackets_after, Spots, Begins, Spot, Found, TokenKind, token_exactly, next_spells, joined_read, spot_at, both, tokens_of, Reads, line_tokens, written, canonical}
 use Rattle.line_tokens.specs.declared.token.TokenKind.TheVariants as kind
 use Rattle.line_writer.proofs.Gives.{IsClean, IsSpelled, Each, sound}
 use Rattle.line_writer.proofs.Sounds.{line_sound}

@@ -1,10 +1,10 @@
 -- A stencil may have other tokens than the canonical ones, since a number may have a sign before a zero: its canonical tokens are kept.
-use Rattle.line_writer.proofs.Imports.{◌≡◌, ℕ, List, [], ◌∷◌, ◌++◌, map, codes, refl, arith, Some, ℤ, Comma, CloseBracket, OpenParen, CloseParen, Equals, Colon, Star, Slash, Token, Word, Sign, Stencil, Grammar, Is, behind, PathStep, Version, command_of, number, body, bracketed_list, constant, later, comma_list, path, span, stencil, term_phrase, terms_phrase, window_phrase, Span, TermText, with_commas, count_token, number_tokens, path_tokens, bracket_list, span_tokens, window_tokens, term_tokens, terms_tokens}
+use Rattle.line_writer.proofs.Imports.{◌≡◌, ℕ, List, [], ◌∷◌, ◌++◌, map, codes, refl, arith, Some, ℤ, Comma, CloseBracket, OpenParen, CloseParen, Equals, Colon, Star, Slash, Token, Word, Sign, Stencil, Grammar, Is, behind, PathStep, Version, command_of, body, bracketed_list, constant, later, comma_list, path, span, stencil, term_phrase, terms_phrase, window_phrase, Span, TermText, with_commas, count_token, number_tokens, path_tokens, bracket_list, span_tokens, window_tokens, term_tokens, terms_tokens}
 use Rattle.line_grammar.specs.declared.line.Command.TheVariants as command
 use Rattle.line_writer.proofs.Gives.{IsSpelled, Each, each_append, each_front, Gives, gives}
 use Rattle.line_writer.proofs.Phrases.{window_prints}
-use Rattle.line_writer.proofs.Rooms.{Fits, commas_fit, fits_append, fits_flat, fits_inside, fits_more, bracket_list_fits, number_fits, one_fits, word_spelled}
-use Rattle.line_writer.proofs.Kept.{Kept, KeptConst, KeptName, KeptCount, KeptPath, IsFull, IsKept, as_line, const_gives, join, kept, kept_count, kept_name, kept_path, last, listed_read, name_in, path_in, set_word, spelled_commas}
+use Rattle.line_writer.proofs.Rooms.{Fits, commas_fit, fits_append, fits_flat, fits_inside, fits_more, bracket_list_fits, number_fits, one_fits, fits_word}
+use Rattle.line_writer.proofs.Kept.{Kept, KeptConst, KeptName, KeptCount, KeptPath, IsFull, IsKept, as_line, const_gives, join, kept, kept_count, kept_name, kept_path, last, listed_read, name_in, path_in, spelled_commas}
 
 -- a list of phrases has one at least, and `P` holds of each
 full_more : {A : Type 0} (found : List A) (next : A) → IsFull (found ++ next ∷ [])
@@ -17,10 +17,8 @@ behind_gives token one P g (first ∷ xs) v i s = g xs v i.1 s.1
 
 pub items_give : {A : Type 0} (one : Grammar Token A) (P : A → Type 0) → Gives one P → Gives (comma_list one) (λ v. IsFull v × Each P v)
 unfolding comma_list later
-items_give one P g = gives (comma_list one) (λ v. IsFull v × Each P v) (λ first f i s. (
-  (tt, (g f first i s, tt)),
-  λ found before goods next h j t. (full_more found next, each_append P found (next ∷ []) goods.1 (behind_gives (Sign Comma) one P g h next j t, tt)),
-))
+items_give one P g = gives (comma_list one) (λ v. IsFull v × Each P v) (λ first f i s.
+    ((tt, (g f first i s, tt)), λ found before goods next h j t. (full_more found next, each_append P found (next ∷ []) goods.1 (behind_gives (Sign Comma) one P g h next j t, tt))))
 
 -- a window
 spans_fit : (spans : List Span) → Each (Each IsSpelled) (map span_tokens spans) → Each (Fits 0) (map span_tokens spans)
@@ -35,11 +33,11 @@ window_fits window h = fits_flat 1 (Word (codes "window")) _ refl h.0
 -- offsets
 consts_read : (numbers : List ℤ) → Each KeptConst numbers → Each (λ number. Is constant (number_tokens number) number) numbers
 consts_read [] each = tt
-consts_read (number ∷ numbers) each = (each.0.reads, consts_read numbers each.1)
+consts_read (value ∷ values) each = (each.0.reads, consts_read values each.1)
 
 consts_fit : (numbers : List ℤ) → Each KeptConst numbers → Each (Fits 0) (map number_tokens numbers)
 consts_fit [] each = tt
-consts_fit (number ∷ numbers) each = (number_fits number each.0.spelled, consts_fit numbers each.1)
+consts_fit (value ∷ values) each = (number_fits value each.0.spelled, consts_fit values each.1)
 
 offsets_read : (offsets : List ℤ) → IsFull offsets → Each KeptConst offsets → Is (bracketed_list constant) (bracket_list (map number_tokens offsets)) offsets
 unfolding bracketed_list
@@ -64,7 +62,7 @@ term_kept weight path offsets kw kp full each = record {
         (refl, last (λ offsets. let made : TermText = record { weight = weight; path = path; offsets = offsets } in made) (bracket_list (map number_tokens offsets)) offsets (offsets_read offsets full each)),
   );
   fits = fits_append 1 (number_tokens weight) _ (fits_more 0 1 _ (omega arith) (number_fits weight kw.spelled)) (fits_flat 1 (Sign Star) _ refl refl
-      (fits_append 1 (path_tokens path) _ (path_in path kp) (fits_flat 1 (Word (codes "at")) _ refl (word_spelled (codes "at") refl refl (omega arith))
+      (fits_append 1 (path_tokens path) _ (path_in path kp) (fits_word 1 (codes "at") _ refl refl (omega arith)
       (bracket_list_fits 0 _ (consts_fit offsets each)))));
 }
 
@@ -106,11 +104,11 @@ stencil_kept : (version : Version) (view : List ℕ) (window : List Span) (path 
     KeptName view → Kept window_phrase window_tokens window → KeptPath path → IsFull terms × Each KeptTerm terms → KeptCount divisor → KeptCount rounds → IsKept version (Stencil view window path terms divisor rounds)
 unfolding body stencil
 stencil_kept version view window path terms divisor rounds is kv kw kp kt kd kr = λ small. (
-  fits_more 2 64 _ (omega arith) (fits_flat 2 (Word (codes "stencil")) _ refl (word_spelled (codes "stencil") refl refl (omega arith)) (fits_flat 2 (Word view) _ refl (name_in view kv)
-      (fits_append 2 (window_tokens window) _ (fits_more 1 2 _ (omega arith) (window_fits window kw.spelled)) (fits_flat 2 (Word (codes "set")) _ refl set_word
+  fits_more 2 64 _ (omega arith) (fits_word 2 (codes "stencil") _ refl refl (omega arith) (fits_flat 2 (Word view) _ refl (name_in view kv)
+      (fits_append 2 (window_tokens window) _ (fits_more 1 2 _ (omega arith) (window_fits window kw.spelled)) (fits_word 2 (codes "set") _ refl refl (omega arith)
       (fits_append 2 (path_tokens path) _ (fits_more 1 2 _ (omega arith) (path_in path kp)) (fits_flat 2 (Sign Equals) _ refl refl
       (fits_append 2 (terms_tokens terms) _ (terms_fit terms kt.1) (fits_flat 2 (Sign Slash) _ refl refl (fits_flat 2 (count_token divisor) _ refl kd.spelled.0
-      (fits_flat 2 (Word (codes "rounds")) _ refl (word_spelled (codes "rounds") refl refl (omega arith)) (fits_more 0 2 _ (omega arith) (one_fits (count_token rounds) refl kr.spelled.0)))))))))))),
+      (fits_word 2 (codes "rounds") _ refl refl (omega arith) (fits_more 0 2 _ (omega arith) (one_fits (count_token rounds) refl kr.spelled.0)))))))))))),
   as_line version command.Stencil (codes "stencil") _ _ is (join (Word view ∷ []) _ view _ kv.reads (join (window_tokens window) _ window _ kw.reads (
     refl,
     join (path_tokens path) _ path _ kp.reads (

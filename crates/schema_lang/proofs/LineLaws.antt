@@ -12,7 +12,7 @@ line_begun version token rest = of (command_of version token)
     of None = refl
     of (Some word) = refl
 
-pub found_line : (version : Version) (text : List ℕ) (spots : List Spot) (tokens : List Token) (sentence : Sentence) → Spots text 0 0 spots → tokens ≡ tokens_of text spots → line_at version tokens ≡ Ok (sentence, []) → Reads version text sentence
+pub found_line : (version : Version) (text : List ℕ) (spots : List Spot) (tokens : List Token) (sentence : Sentence) {rest : List Token} → Spots text 0 0 spots → tokens ≡ tokens_of text spots → line_at version tokens ≡ Ok (sentence, rest) → Reads version text sentence
 unfolding line_at
 found_line version text spots tokens sentence h same e = record { spots = spots; tokens = h; line = rw (← same) (line_found is_same (line version) (line_fine version) tokens sentence e) }
 

@@ -1,4 +1,3 @@
-pub mod Bodies
 pub mod Parsing
 pub mod LineOf
 pub mod VersionOf

@@ -6,7 +6,7 @@ ghost use Rattle.line_grammar.specs.declared.line.Command.TheVariants as command
 ghost use Rattle.line_grammar.specs.declared.version.Version.{Version};
 ghost use Rattle.line_grammar.specs.Language.{read, actors, body, bracket_list, command_line, flag, new};
 ghost use Rattle.line_phrases.specs.Inner.Gives.{Gives, IsSyntax};
-ghost use Rattle.schema_lang.specs.Bodies.{extent_where, new_of};
+ghost use Rattle.schema_lang.specs.Inner.Bodies.{extent_where, new_of};
 
 use crate::kernels::read_kernel;
 use crate::later::{read_advise, read_show, read_stencil};
