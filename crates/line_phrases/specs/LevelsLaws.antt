@@ -3,7 +3,7 @@ use Rattle.std.proofs.lemmas.Bool.{cases_Bool}
 use Rattle.std.proofs.Common.{◌≡◌, ℕ, zero, suc, ◌<◌, Bool, true, false, if◌then◌else◌, inl, inr, List, [], ◌∷◌, Option, Some, None, is_some, bytes_eq, codes, ℤ, refl, sym, ap, ◌∙◌, arith}
 use Rattle.std.specs.List.{list_any}
 use Rattle.std.proofs.lemmas.Slice.Eq.{bytes_eq-Decides}
-use Rattle.phrases.specs.Grammar.{Grammar, either, nothing}
+use Rattle.phrases.specs.Grammar.{Grammar, item, either, nothing}
 use Rattle.phrases.specs.Reading.{first}
 use Rattle.phrases.specs.FineLaws.{Fine, Firsts, Quiet, Skips, anyway, firsts_any, firsts_more, skips_more}
 use Rattle.phrases.specs.ParsesLaws.{Exact}
@@ -218,20 +218,17 @@ module _ (one : Grammar Token Value) (a : Atoms one) where
 
   pub comparison_operand : Operand 3 (comparison one)
   unfolding comparison
-  comparison_operand = let s = sum_operand in record {
-    fine = (
-      s.fine,
-      λ left. (
-        (link_fine 3 comparison_of comparison_operator (sum one) s left, tt, refl, tt),
-        (((λ t op e. s.quiet t (level 3 comparison_of comparison_operator (sum one) s t op e)), tt), tt),
-      ),
-    );
-    quiet = λ t less left. (
-      (link_quiet 3 comparison_of comparison_operator (sum one) s left t (omega (arith, less)), tt, no_operator 3 comparison_of comparison_operator (sum one) s t less),
-      (tt, s.quiet t (omega (arith, less))),
-    );
-    some = none (sum one) ((left : Value) → Skips (either (link comparison_of (sum one) left) (nothing left)) ⊥) s.some;
-  }
+  comparison_operand =
+      let s = sum_operand in
+      let links = link_fine 3 comparison_of comparison_operator (sum one) s in
+      let goes = link_quiet 3 comparison_of comparison_operator (sum one) s in
+      let ends = no_operator 3 comparison_of comparison_operator (sum one) s in
+      let opens = λ (t : Token) (op : BinOp) (e : comparison_of t ≡ Some op). s.quiet t (level 3 comparison_of comparison_operator (sum one) s t op e) in
+      record {
+        fine = (s.fine, λ left. ((links left, tt, refl, tt), ((opens, tt), tt)));
+        quiet = λ t less left. ((goes left t (omega (arith, less)), tt, ends t less), (tt, s.quiet t (omega (arith, less))));
+        some = none (sum one) ((left : Value) → Skips (either (link comparison_of (sum one) left) (nothing left)) ⊥) s.some;
+      }
 
   sum_no_not : Firsts (sum one) (λ t. is_word (codes "not") t ≡ false)
   unfolding sum product unary
@@ -323,80 +320,58 @@ leaf_firsts : (P : Token → Type 0) → ((t : Token) (n : ℤ) → token_number
 unfolding leaf path
 leaf_firsts P number index name = ((number, tt), ((index, tt), ((name, tt), tt)))
 
-pub leaf_operand : Operand 6 leaf
+leaf_apart : {test : Token → Bool} {some : Token} → Exact test some → token_number some ≡ None → index_of some ≡ None → name_of some ≡ None → Firsts leaf (λ t. test t ≡ false)
+leaf_apart {test} exact number index name = leaf_firsts (λ t. test t ≡ false) (apart exact token_number number) (apart exact index_of index) (apart exact name_of name)
+
+index_fine : Fine is_same (item index_of)
+index_fine = (Word (codes "i0"), 0, refl)
+
+leaf_fine : Fine is_same leaf
 unfolding leaf path
-leaf_operand = record {
-  fine = (
-    (number_fine, λ n. (tt, tt)),
-    (((Word (codes "i0"), 0, refl), λ d. (tt, tt)), (path_fine, λ p. (tt, tt)), refl, ((name_no_index, tt), tt)),
-    refl,
-    ((index_no_number, tt), ((name_no_number, tt), tt)),
-  );
-  quiet = λ t less. ((λ n. (tt, tt)), ((λ d. (tt, tt)), (λ p. (tt, path_quiet t (no_part t less))), tt), (tt, tt));
-  some = (tt, (tt, tt));
-}
+leaf_fine = search (number_fine, index_fine, path_fine, name_no_index, index_no_number, name_no_number) depth 12
+
+leaf_quiet : (t : Token) → level_of t < 6 → Quiet is_same leaf t
+unfolding leaf path
+leaf_quiet t less = search (path_quiet, no_part) depth 12
+
+leaf_some : (P : Type 0) → Skips leaf P
+unfolding leaf path
+leaf_some P = (tt, (tt, tt))
 
 leaf_atoms : Atoms leaf
 leaf_atoms = record {
-  operand = leaf_operand;
-  no_minus = leaf_firsts (λ t. is_sign Minus t ≡ false) (apart (exact_sign Minus) token_number refl) (apart (exact_sign Minus) index_of refl) (apart (exact_sign Minus) name_of refl);
-  no_not = leaf_firsts (λ t. is_word (codes "not") t ≡ false) (apart (exact_word (codes "not")) token_number refl) (apart (exact_word (codes "not")) index_of refl)
-      (apart (exact_word (codes "not")) name_of refl);
+  operand = record { fine = leaf_fine; quiet = leaf_quiet; some = leaf_some ⊥ };
+  no_minus = leaf_apart (exact_sign Minus) refl refl refl;
+  no_not = leaf_apart (exact_word (codes "not")) refl refl refl;
 }
+
+-- in brackets an expression ends at a token that binds nothing
+ends : (one : Grammar Token Value) → Operand 1 one → (t : Token) → level_of t ≡ 0 → Quiet is_same one t
+ends one o t e = o.quiet t (omega (arith, e))
+
+bracketed_fine : (one : Grammar Token Value) → Operand 1 one → Fine is_same (bracketed one)
+unfolding bracketed
+bracketed_fine one o = search (exact_sign, o.fine, ends one o) depth 12
+
+choice_fine : (one : Grammar Token Value) → Operand 1 one → Fine is_same (choice one)
+unfolding choice
+choice_fine one o = ((Word (codes "min"), Min, refl), search (exact_sign, o.fine, ends one o) depth 12)
 
 pub atoms : (n : ℕ) → Atoms (atom_within n)
 unfolding atom_within bracketed choice
 atoms zero = leaf_atoms
-atoms (suc n) = let o = over_operand (atom_within n) (atoms n) in let l = leaf_operand in record {
-  operand = record {
-    fine = (
-      (exact_sign OpenParen, (o.fine, λ value. ((exact_sign CloseParen, tt), o.quiet (Signed CloseParen) (omega arith)))),
-      (
-        (
-          (Word (codes "min"), Min, refl),
-          λ op. (
-            (
-              exact_sign OpenParen,
-              (
-                o.fine,
-                λ left. (
-                  (
-                    exact_sign Comma,
-                    (
-                      o.fine,
-                      λ right. (
-                        (exact_sign CloseParen, tt),
-                        o.quiet (Signed CloseParen) (omega arith),
-                      ),
-                    ),
-                  ),
-                  o.quiet (Signed Comma) (omega arith),
-                ),
-              ),
-            ),
-            tt,
-          ),
-        ),
-        l.fine,
-        refl,
-        leaf_firsts (λ t. is_some (choice_of t) ≡ false) number_no_choice index_no_choice name_no_choice,
-      ),
-      refl,
-      (
-        (apart (exact_sign OpenParen) choice_of refl, tt),
-        leaf_firsts (λ t. is_sign OpenParen t ≡ false) (apart (exact_sign OpenParen) token_number refl) (apart (exact_sign OpenParen) index_of refl) (apart (exact_sign OpenParen) name_of refl),
-      ),
-    );
-    quiet = λ t less. (
-      (λ value. (tt, tt)),
-      ((λ op. ((λ left. ((λ right. (tt, tt)), tt)), tt)), l.quiet t less, skips_more leaf {P = ⊥} {Q = is_some (choice_of t) ≡ false} (λ bad. absurd bad) l.some),
-      (tt, skips_more leaf {P = ⊥} {Q = is_sign OpenParen t ≡ false} (λ bad. absurd bad) l.some),
-    );
-    some = (tt, (tt, l.some));
-  };
-  no_minus = (refl, ((apart (exact_sign Minus) choice_of refl, tt), leaf_atoms.no_minus));
-  no_not = (refl, ((apart (exact_word (codes "not")) choice_of refl, tt), leaf_atoms.no_not));
-}
+atoms (suc n) =
+    let o = over_operand (atom_within n) (atoms n) in
+    let no_choice = leaf_firsts (λ t. is_some (choice_of t) ≡ false) number_no_choice index_no_choice name_no_choice in
+    record {
+      operand = record {
+        fine = (bracketed_fine _ o, (choice_fine _ o, leaf_fine, refl, no_choice), refl, ((apart (exact_sign OpenParen) choice_of refl, tt), leaf_apart (exact_sign OpenParen) refl refl refl));
+        quiet = λ t less. search (leaf_quiet, leaf_some) depth 12;
+        some = (tt, (tt, leaf_some ⊥));
+      };
+      no_minus = (refl, ((apart (exact_sign Minus) choice_of refl, tt), leaf_atoms.no_minus));
+      no_not = (refl, ((apart (exact_word (codes "not")) choice_of refl, tt), leaf_atoms.no_not));
+    }
 
 pub expr_fine : Fine is_same expr
 unfolding expr
