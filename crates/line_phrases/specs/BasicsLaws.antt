@@ -1,6 +1,6 @@
 -- The tokens of phrases: which one passes a test, an item of each kind, and how tightly a token binds.
 use Rattle.std.proofs.lemmas.Bool.{cases_Bool}
-use Rattle.std.proofs.Common.{◌≡◌, ℕ, Bool, true, false, if◌then◌else◌, inl, inr, List, Option, Some, None, codes, bytes_eq, pos, refl, ap, sym, ◌∙◌}
+use Rattle.std.proofs.Common.{◌≡◌, ℕ, Bool, false, if◌then◌else◌, inl, inr, List, Option, Some, None, codes, bytes_eq, pos, refl, ap, sym, ◌∙◌}
 use Rattle.phrases.specs.FineLaws.{Fine}
 use Rattle.phrases.specs.ParsesLaws.{Exact}
 use Rattle.line_tokens.specs.declared.sign.Sign.{Sign}

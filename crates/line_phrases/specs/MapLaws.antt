@@ -19,7 +19,7 @@ use Rattle.line_grammar.specs.declared.token.Token.{Token}
 use Rattle.line_grammar.specs.declared.token.Token.TheVariants.{Word}
 use Rattle.line_grammar.specs.declared.version.Version.{Version}
 use Rattle.line_grammar.specs.Tokens.{is_same, is_sign, map_word, type_of, integer_type_of, token_order}
-use Rattle.line_grammar.specs.Language.{part, listed, braced_widths, field_width, field_widths, inside_aos, inside_aosoa, inside_bits, inside_form, inside_soa, form_or_name, mapping, mapping_within}
+use Rattle.line_grammar.specs.Language.{part, braced_widths, field_width, field_widths, inside_aos, inside_aosoa, inside_bits, inside_form, inside_soa, form_or_name, mapping, mapping_within}
 use Rattle.line_phrases.specs.BasicsLaws.{count_fine, exact_sign, name_fine}
 use Rattle.line_phrases.specs.ListLaws.{listed_fine, listed_quiet}
 use Rattle.line_phrases.specs.PathsLaws.{path_fine, path_quiet}
