@@ -107,7 +107,8 @@ class OfCalls(unittest.TestCase):
         self.view['n'] = 4
         self.view['big'] = numpy.array([[2 ** 64 - 1] * 3] * 2, 'u8')
         self.assertEqual((self.view['n'].sum(), self.view['big'].max()), (24, 2 ** 64 - 1))
-        self.assertIn('row 3', self.refused(Answer.RANGE, self.view.set_run, 'n', 1, [1, 2, -1], row=3, leaf=1))
+        last = 3
+        self.assertIn(f'row {last}', self.refused(Answer.RANGE, self.view.set_run, 'n', 1, [1, 2, -1], row=last, leaf=1))
         self.assertEqual(list(self.view['n'].ravel()), [4, 1, 2, 4, 4, 4])
         self.refused(Answer.NO_PLACE, self.view.run, 'x', 5, 2)
         self.assertRaises(TypeError, self.view.set_run, 'x', 0, [0.5])
