@@ -109,7 +109,7 @@ pub use Rattle.layout_io.specs.GatheringLaws.{Gathers-written, Puts-append, Puts
 pub use Rattle.layout_io.specs.WritingLaws.{flat_map_push, Wrote-append, Stopped-first, Stopped-second}
 pub use Rattle.line_tokens.specs.declared.spots.Spot.{Spot}
 pub use Rattle.line_tokens.specs.SpotLaws.{same_spots}
-pub use Rattle.line_grammar.specs.Grammar.{IsSentence}
+pub use Rattle.line_grammar.specs.Language.{IsSentence}
 pub use Rattle.schema_lang.specs.Parsing.{HasItsFields}
 pub use Rattle.schema_lang.specs.declared.fault.LineFault.{LineFault}
 pub use Rattle.schema_lang.specs.declared.fault.LineFault.TheVariants.{Syntax, NoMemory}

@@ -1,7 +1,7 @@
 -- Which of the generated lines read a file, and which.
-use Rattle.layout_cli.proofs.Imports.{◌≡◌, ℕ, suc, ◌+◌, Bool, false, List, [], ◌∷◌, ◌++◌, length, Some, None, Result, Ok, Err, codes, nat_eq, refl, sym, ap, subst, ◌∙◌, arith, ◌||◌, if◌then◌else◌, IfSome, AllByRecursion, nat_tests, is_hash, token_at, placed, tokens_of, New, Sentence, Load, Blank, bracket_list_at, listed_at, rest_at, extent_at, fixed_at, map_at, form_or_name_at, form_at, aos_at, steps_at, Aos, Count, Rows, Row, Packed, line_at, command_at, body_at, new_at, flag_at, load_at, One, line_of, line_or_column, spots_in, spots_within, spots_behind, generated_lines, generated_files, file_named, Spot, Token, digits_text, file_in}
+use Rattle.layout_cli.proofs.Imports.{◌≡◌, ℕ, suc, ◌+◌, Bool, false, List, [], ◌∷◌, ◌++◌, length, Some, None, Result, Ok, Err, codes, nat_eq, refl, sym, ap, subst, ◌∙◌, arith, ◌||◌, if◌then◌else◌, IfSome, AllByRecursion, nat_tests, is_hash, token_at, placed, tokens_of, New, Sentence, Load, Blank, bracket_list, listed, later, extent_word, fixed, mapping, mapping_within, form_or_name, inside_form, inside_aos, steps_at, Aos, Count, Rows, Row, Packed, line_at, line, command_line, body, new, flag, One, line_of, line_or_column, spots_in, spots_within, spots_behind, generated_lines, generated_files, file_named, Spot, Token, digits_text, file_in}
 use Rattle.line_tokens.specs.declared.token.Next.TheVariants.{End}
-use Rattle.layout_cli.proofs.NoFile.{reads_file, ReadsNone, gives, stops, line_none}
+use Rattle.layout_cli.proofs.NoFile.{reads_file, line_none}
 
 abbrev sentence_in : Result Sentence ℕ → Sentence
 sentence_in (Ok sentence) = sentence
@@ -16,7 +16,7 @@ abbrev gen_new : New
 gen_new = record { name = codes "A"; schema = codes "P"; words = Rows ∷ []; wrap = false; term = Count (Aos Packed Row) }
 
 load_line : line_of One (codes "load A : P [?] as count(aos(packed, row)) from \"gen.csv\"") ≡ Ok (Load gen_new (codes "gen.csv"))
-unfolding line_of line_at command_at body_at load_at new_at flag_at bracket_list_at listed_at rest_at steps_at extent_at fixed_at map_at form_or_name_at form_at aos_at
+unfolding line_of line_at line command_line body new flag bracket_list listed later steps_at extent_word fixed mapping mapping_within form_or_name inside_form inside_aos
 load_line = refl
 
 load_reads : (dataset : List ℕ) → ReadsDataset dataset (codes "load A : P [?] as count(aos(packed, row)) from \"gen.csv\"")
@@ -25,15 +25,16 @@ load_reads dataset sentence is =
     subst (λ (s : Sentence). IfSome (file_in s) (λ file. file_named (generated_files dataset) file ≡ Some dataset)) (ap sentence_in (sym load_line ∙ is)) there
 
 -- a line that begins otherwise
-told_none : (spots : List Spot) (read : Result (Sentence × List Token) ℕ) (sentence : Sentence) → ReadsNone read → line_or_column spots read ≡ Ok sentence → file_in sentence ≡ None
-told_none spots (Ok _) sentence (gives one rest none) is = subst (λ (s : Sentence). file_in s ≡ None) (ap sentence_in is) none
-told_none spots (Err _) sentence (stops left) is = absurd (cc)
+told_none : (spots : List Spot) (read : Result (Sentence × List Token) ℕ) (sentence : Sentence) → ((found : Sentence) (rest : List Token) → read ≡ Ok (found, rest) → file_in found ≡ None)
+    → line_or_column spots read ≡ Ok sentence → file_in sentence ≡ None
+told_none spots (Ok x) sentence none is = subst (λ (s : Sentence). file_in s ≡ None) (ap sentence_in is) (none x.0 x.1 refl)
+told_none spots (Err _) sentence none is = absurd (cc)
 
 no_file : (dataset text : List ℕ) → reads_file One (tokens_of text (spots_in text)) ≡ false → ReadsDataset dataset text
 unfolding line_of
 no_file dataset text other sentence is =
     let tokens = tokens_of text (spots_in text) in
-    let none : file_in sentence ≡ None = told_none (spots_in text) (line_at One (length tokens) tokens) sentence (line_none One (length tokens) tokens other) is in
+    let none : file_in sentence ≡ None = told_none (spots_in text) (line_at One tokens) sentence (λ found rest e. line_none One tokens found rest other e) is in
     rw none tt
 
 -- a line that begins with `view`

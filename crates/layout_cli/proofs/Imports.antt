@@ -1,5 +1,5 @@
 -- What the proofs of this crate speak of.
-pub use Rattle.std.proofs.Common.{◌≡◌, ℕ, ◌≤◌, ◌^◌, Bool, false, ltb, List, length, Option, None, Some, sym, ap, ◌∙◌, arith, Result, suc, ◌+◌, [], ◌∷◌, ◌++◌, Ok, Err, codes, nat_eq, refl, subst, true, inl, ⊎_elim, get_or, drop, lit≤, nat_lt, ◌<◌, ℤ, pos, neg_ℤ, ◌-ℤ◌, FitsSigned, ◌*◌, rules, tests, ◌-◌, ◌%◌, ◌==◌, map, take, flat_map, append_assoc, append-nil, nat_le, bytes_eq, string_bytes, option_map}
+pub use Rattle.std.proofs.Common.{◌≡◌, ℕ, ◌≤◌, ◌^◌, Bool, false, ltb, List, length, Option, None, Some, sym, ap, ◌∙◌, arith, Result, suc, ◌+◌, [], ◌∷◌, ◌++◌, Ok, Err, codes, nat_eq, refl, subst, true, inl, ⊎_elim, get_or, drop, lit≤, nat_lt, ◌<◌, ℤ, pos, neg_ℤ, ◌-ℤ◌, FitsSigned, ◌*◌, rules, tests, ◌-◌, ◌%◌, ◌==◌, map, take, flat_map, append_assoc, append-nil, nat_le, bytes_eq, string_bytes, option_map, inr}
 pub use Rattle.std.specs.Prelude.{if◌then◌else◌, ◌||◌, IfSome, IsSomeAnd}
 pub use Rattle.std.proofs.lemmas.Bool.Decides.{nat_tests}
 pub use Rattle.std.specs.List.{AllByRecursion, list_all, slice_split, AllPass, range_with_len}
@@ -15,10 +15,10 @@ pub use Rattle.std.specs.Str.Parse.{ParsesUnsigned, AllDigits, digits_value}
 pub use Rattle.std.proofs.lemmas.Slice.Eq.{bytes_eq-Decides}
 pub use Rattle.std.proofs.lemmas.Str.Parse.{numerals_by_value, tells_digits}
 pub use Rattle.layout_io.specs.Files.{File, file_named, HasFile}
-pub use Rattle.line_grammar.specs.Sentences.{Sentence, deepest, New, Load, Blank, file_read_by as file_in, Value, Assignment}
+pub use Rattle.line_grammar.specs.Sentences.{Sentence, deepest, New, Load, Blank, file_read_by as file_in}
 pub use Rattle.line_grammar.specs.declared.version.Version.{Version}
 pub use Rattle.schema_lang.specs.LineOf.{line_or_column, spots_in, spots_within, spots_behind}
-unfoldable pub use Rattle.schema_lang.specs.LineOf.{line_of}
+unfoldable pub use Rattle.schema_lang.specs.LineOf.{line_at, line_of}
 pub use Rattle.worlds.specs.Worlds.{World, empty}
 pub use Rattle.worlds.specs.Outcomes.{Outcome, Faults, Left, free, Tested, Fault as Refusal, Unread as NotRead, sure, quiet}
 unfoldable pub use Rattle.worlds.specs.Step.{step}
@@ -33,17 +33,13 @@ pub use Rattle.line_tokens.specs.Bytes.{is_hash}
 pub use Rattle.line_tokens.specs.Next.{token_at, placed}
 pub use Rattle.worlds.specs.Outcome.{End, Output, Unread, Gives, IsText}
 pub use Rattle.line_grammar.specs.Reads.{tokens_of}
-pub use Rattle.line_phrases.specs.Lists.{cuts_at}
-unfoldable pub use Rattle.line_phrases.specs.Lists.{bracket_list_at, listed_at, rest_at, extent_at, fixed_at}
-unfoldable pub use Rattle.line_phrases.specs.Maps.{map_at, form_or_name_at, form_at, aos_at}
-pub use Rattle.phrases.specs.Reading.{◌>>=◌, item_at, past, starts, item_or, then_at, give_at, behind_at, either_at, which_at}
 unfoldable pub use Rattle.phrases.specs.Reading.{steps_at}
 pub use Rattle.map_expr.specs.Terms.{Aos, Count}
 pub use Rattle.extents.specs.declared.words.ExtentWord.TheVariants.{Rows}
 pub use Rattle.extents.specs.declared.order.Order.TheVariants.{Row}
 pub use Rattle.places.specs.declared.forms.AosForm.TheVariants.{Packed}
-unfoldable pub use Rattle.schema_lang.specs.Bodies.{line_at, command_at, body_at, new_at, flag_at, load_at, define_at, mapping_at, view_at, assign_at, update_at, kernel_line_at, reduce_at, copy_at, relayout_at, show_at, bytes_at, advise_at, stencil_at}
-pub use Rattle.line_grammar.specs.declared.version.Version.TheVariants.{One, Two}
+unfoldable pub use Rattle.line_grammar.specs.Language.{actors, body, bracket_list, command_line, extent_word, fixed, flag, form_or_name, inside_aos, inside_form, later, line, listed, mapping, mapping_within, new, show_end, stencil, update_end}
+pub use Rattle.line_grammar.specs.declared.version.Version.TheVariants.{One}
 pub use Rattle.line_tokens.specs.declared.spots.Spot.{Spot}
 pub use Rattle.line_grammar.specs.declared.token.Token.{Token}
 pub use Rattle.layout_io.specs.Decimal.{digits_text, decimal_text}
@@ -54,19 +50,8 @@ pub use Rattle.worlds.specs.declared.status.Status.TheVariants.{Done, CommandFau
 pub use Rattle.session_runs.specs.HeadLaws.{said_first}
 pub use mir.Val.{to_z, of_z}
 pub use Rattle.layout_io.specs.DecimalLaws.{signed_decimal-decimal_text, decimal-digits_text}
-pub use Rattle.line_grammar.specs.Tokens.{is_sign, is_word, name_of, count_of, reduction_of, command_of}
+pub use Rattle.line_grammar.specs.Tokens.{command_of, is_same}
 pub use Rattle.line_grammar.specs.declared.line.Command.{Command}
-pub use Rattle.line_grammar.specs.declared.line.ShowKind.{ShowKind}
-pub use Rattle.line_grammar.specs.Versions.{may_have_window}
-pub use Rattle.line_tokens.specs.declared.sign.Sign.TheVariants.{Dot, Equals, Slash}
-pub use Rattle.line_phrases.specs.Exprs.{expr_at}
-pub use Rattle.line_phrases.specs.Fields.{fields_at}
-pub use Rattle.line_phrases.specs.Passes.{passes_at}
-pub use Rattle.line_phrases.specs.Paths.{path_at}
-pub use Rattle.line_phrases.specs.Stencils.{terms_at, window_at}
-pub use Rattle.schema_lang.specs.Kernels.{kernel_at}
-pub use Rattle.schema_lang.specs.Updates.{assignment_at, filter_at}
-unfoldable pub use Rattle.schema_lang.specs.Updates.{actors_at, update_end_at}
 pub use Rattle.worlds.specs.View.{named, with_view}
 pub use Rattle.worlds.specs.Load.{read, there}
 unfoldable pub use Rattle.worlds.specs.Load.{load, loaded_table, loaded}
@@ -83,3 +68,6 @@ pub use Rattle.layout_cli.specs.Generated.{generated_lines, generated_files, wit
 unfoldable pub use Rattle.layout_cli.specs.Generated.{script_text, dataset_text}
 pub use Rattle.layout_cli.specs.Numbers.{is_number_word, IsNumberWord}
 unfoldable pub use Rattle.layout_cli.specs.Numbers.{generated_rows}
+pub use Rattle.phrases.specs.Grammar.{Is}
+pub use Rattle.phrases.specs.LeavesLaws.{Leaves, leaves}
+pub use Rattle.phrases.specs.LineLaws.{line_found}

@@ -2,7 +2,7 @@ pub mod Versions
 pub mod Words
 pub mod Tokens
 pub mod Sentences
-pub mod Grammar
+pub mod Language
 pub mod Reads
 pub mod FileBytesLaws
 pub mod SignsLaws

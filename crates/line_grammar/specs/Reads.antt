@@ -7,7 +7,7 @@ use Rattle.line_grammar.specs.declared.token.Token.{Token}
 use Rattle.line_grammar.specs.declared.version.Version.{Version}
 use Rattle.line_grammar.specs.Tokens.{token_of}
 use Rattle.line_grammar.specs.Sentences.{Sentence}
-use Rattle.line_grammar.specs.Grammar.{IsSentence}
+use Rattle.line_grammar.specs.Language.{IsSentence}
 
 -- the tokens of a text, a bad one the last of them
 abbrev pub tokens_of : List ℕ → List Spot → List Token

@@ -1,3 +1,2 @@
 mod Imports
 pub mod Links
-pub mod Steps

@@ -1,85 +1,102 @@
--- How the fields of a record are read.
-use Rattle.std.proofs.Common.{◌≡◌, ℕ, zero, suc, true, false, List, [], ◌∷◌, ◌++◌, map, Result, Ok, Err, refl, sym, ap, ◌∙◌}
-use Rattle.phrases.specs.Reading.{starts, past, behind_at}
-use Rattle.phrases.specs.ParsesLaws.{Always, Parses, behind_parses, either_parses, give_parses, item_parses, then_parses}
-use Rattle.phrases.specs.MoreLaws.{Listed, Takes, behind_bare, behind_starts, behind_stepped, behind_stop, joined_starts, listed_takes, more_end, more_parses, more_stepped, more_stop}
-use Rattle.line_tokens.specs.declared.sign.Sign.TheVariants.{OpenBrace, CloseBrace, OpenBracket, CloseBracket, Colon, Comma}
-use Rattle.record_dim.specs.declared.leaf_type.LeafType.TheVariants.{Bool as Truth}
-use Rattle.record_dim.specs.declared.dim.Field.{Field as FieldValue}
-use Rattle.record_dim.specs.Trees.{Tree, Fields, Single, Record, Array, End, Field}
-use Rattle.line_grammar.specs.declared.token.Token.{Token}
-use Rattle.line_grammar.specs.declared.token.Token.TheVariants.{Word, Sign as Signed}
-use Rattle.line_grammar.specs.Tokens.{is_sign, type_of}
-use Rattle.line_grammar.specs.Grammar.{IsBraced, IsDim, IsDims, IsField, IsFields, IsNested, IsTyped, arrays, fields_of_list}
-use Rattle.line_phrases.specs.Lists.{rest_at}
-use Rattle.line_phrases.specs.Fields.{boxed_field, dim_at, more_dims_at, dims_at, typed_at, nested_at, braced_at, field_at, fields_at}
-use Rattle.line_phrases.specs.BasicsLaws.{Not, anything, behind_not, count_parses, exact_sign, name_parses}
-use Rattle.line_phrases.specs.ListLaws.{AfterList, comma_listed, listed_parses}
+-- The fields of a record are read by first tokens, and how their reading goes on.
 use Rattle.std.specs.Global.{Global}
-use Rattle.std.specs.Prelude.{Box, codes}
+use Rattle.std.specs.Prelude.{Box}
+use Rattle.std.proofs.Common.{◌≡◌, ℕ, zero, suc, ◌≤◌, true, false, inl, List, [], ◌∷◌, ◌++◌, map, Ok, Err, refl, ap, arith}
+use Rattle.phrases.specs.Grammar.{Grammar}
+use Rattle.phrases.specs.Reading.{starts}
+use Rattle.phrases.specs.FineLaws.{Fine, Quiet, anyway, firsts_any}
+use Rattle.phrases.specs.LoopLaws.{list_end, list_stepped, list_stop}
+use Rattle.phrases.specs.UnderLaws.{Under, equal, empty, behind, joined, either, repeats, fewer, alike, wider}
+use Rattle.phrases.specs.WiderLaws.{joined_wider}
+use Rattle.line_tokens.specs.declared.sign.Sign.TheVariants.{OpenBracket}
+use Rattle.record_dim.specs.declared.dim.Field.{Field as FieldValue}
+use Rattle.record_dim.specs.Trees.{Tree, Fields, Array, End, Field}
+use Rattle.line_grammar.specs.declared.token.Token.{Token}
+use Rattle.line_grammar.specs.Tokens.{is_same, is_sign}
+use Rattle.line_grammar.specs.Language.{arrays, fields_of_list, read, later, listed, braced, dim, dims, field_within, fields, nested, typed}
+use Rattle.line_phrases.specs.Inner.Fields.{boxed_field}
+use Rattle.line_phrases.specs.BasicsLaws.{count_fine, exact_sign, name_fine}
+use Rattle.line_phrases.specs.ListLaws.{listed_fine, listed_quiet}
+use Rattle.line_phrases.specs.MapLaws.{GoesOn, type_fine}
 
-dim_parses : Parses IsDim dim_at Always
-unfolding dim_at
-dim_parses = behind_parses (exact_sign OpenBracket) (then_parses Always count_parses (λ count. behind_parses (exact_sign CloseBracket) (give_parses Always count)) (anything _ _))
+dims_fine : Fine is_same (dims [])
+unfolding dims dim
+dims_fine = search (exact_sign, count_fine) depth 12
 
-dims_listed : Listed IsDim (is_sign OpenBracket) dim_at Always (Not OpenBracket)
-dims_listed = record {
-  one = dim_parses;
-  begins = λ xs v rest h. behind_starts (is_sign OpenBracket) (Signed OpenBracket) true refl _ xs v rest h;
-  goes_on = λ rest h. tt;
-  ends = λ rest h. h;
-  last = λ rest h. tt;
-}
+dims_quiet : (t : Token) → is_sign OpenBracket t ≡ false → Quiet is_same (dims []) t
+unfolding dims dim
+dims_quiet t e = search depth 12
 
-pub dims_parses : Parses IsDims dims_at (Not OpenBracket)
-unfolding dims_at more_dims_at
-dims_parses = more_parses dims_listed []
+pub dims_stepped : (counts : List ℕ) (tokens : List Token) (next : ℕ) (rest : List Token) → starts (is_sign OpenBracket) tokens ≡ true → read dim tokens ≡ Ok (next, rest)
+    → read (dims counts) tokens ≡ read (dims (counts ++ next ∷ [])) rest
+unfolding dims dim
+dims_stepped = list_stepped is_same dim refl
 
-pub dims_stepped : (counts : List ℕ) (tokens : List Token) (next : ℕ) (rest : List Token) → starts (is_sign OpenBracket) tokens ≡ true → dim_at tokens ≡ Ok (next, rest) →
-    more_dims_at counts tokens ≡ more_dims_at (counts ++ next ∷ []) rest
-unfolding more_dims_at
-dims_stepped = more_stepped (is_sign OpenBracket) dim_at (listed_takes dims_listed)
+pub dims_stop : (counts : List ℕ) (tokens : List Token) (left : ℕ) → starts (is_sign OpenBracket) tokens ≡ true → read dim tokens ≡ Err left → read (dims counts) tokens ≡ Err left
+unfolding dims dim
+dims_stop = list_stop is_same dim refl
 
-pub dims_stop : (counts : List ℕ) (tokens : List Token) (left : ℕ) → starts (is_sign OpenBracket) tokens ≡ true → dim_at tokens ≡ Err left → more_dims_at counts tokens ≡ Err left
-unfolding more_dims_at
-dims_stop = more_stop (is_sign OpenBracket) dim_at (listed_takes dims_listed)
-
-pub dims_end : (counts : List ℕ) (tokens : List Token) → starts (is_sign OpenBracket) tokens ≡ false → more_dims_at counts tokens ≡ Ok (counts, tokens)
-unfolding more_dims_at
-dims_end = more_end (is_sign OpenBracket) dim_at
+pub dims_end : (counts : List ℕ) (tokens : List Token) → starts (is_sign OpenBracket) tokens ≡ false → read (dims counts) tokens ≡ Ok (counts, tokens)
+unfolding dims dim
+dims_end = list_end is_same dim refl
 
 pub ruleset dim_steps = (dims_stepped, dims_stop, dims_end)
 
-typed_parses : (name : List ℕ) → Parses (IsTyped name) (typed_at name) (Not OpenBracket)
-unfolding typed_at
-typed_parses name = behind_parses (exact_sign Colon) (then_parses Always (item_parses type_of (Word (codes "bool")) Truth refl)
-    (λ kind. then_parses (Not OpenBracket) dims_parses (λ counts. give_parses (Not OpenBracket) (name, arrays counts (Single kind))) (λ a ys v rest h after. rw h.0 after)) (anything _ _))
+typed_fine : (name : List ℕ) → Fine is_same (typed name)
+unfolding typed
+typed_fine name = search (exact_sign, type_fine, dims_fine, anyway, firsts_any) depth 12
 
-pub braced_parses : {Is : List Token → List ℕ × Tree → Type 0} {read : List Token → Result ((List ℕ × Tree) × List Token) ℕ} → Parses Is read (Not OpenBracket)
-    → Parses (IsBraced Is) (braced_at read) Always
-unfolding braced_at
-braced_parses p = behind_parses (exact_sign OpenBrace) (then_parses (AfterList (Not OpenBracket)) (listed_parses p (λ us. refl))
-    (λ fields. behind_parses (exact_sign CloseBrace) (give_parses Always (fields_of_list fields)))
-    (λ a ys v rest h after. (behind_not Comma (Signed CloseBrace) refl _ ys v rest h, behind_not OpenBracket (Signed CloseBrace) refl _ ys v rest h)))
+typed_quiet : (name : List ℕ) (t : Token) → is_sign OpenBracket t ≡ false → Quiet is_same (typed name) t
+unfolding typed
+typed_quiet name t e = search (dims_quiet, anyway) depth 12
 
-nested_parses : {Is : List Token → Fields → Type 0} {read : List Token → Result (Fields × List Token) ℕ} → Parses Is read Always → (name : List ℕ)
-    → Parses (IsNested Is name) (nested_at read name) (Not OpenBracket)
-unfolding nested_at
-nested_parses p name = then_parses Always p
-    (λ fields. then_parses (Not OpenBracket) dims_parses (λ counts. give_parses (Not OpenBracket) (name, arrays counts (Record fields))) (λ a ys v rest h after. rw h.0 after)) (anything _ _)
+module _ (one : Grammar Token (List ℕ × Tree)) (f : GoesOn OpenBracket one) where
+  braced_fine : Fine is_same (braced one)
+  unfolding braced
+  braced_fine = search (exact_sign, f.fine, f.quiet, listed_fine one, listed_quiet one) depth 12
 
-pub field_parses : (n : ℕ) → Parses (IsField n) (field_at n) (Not OpenBracket)
-unfolding field_at
-field_parses zero = then_parses Always name_parses typed_parses (anything _ _)
-field_parses (suc n) = then_parses Always name_parses
-    (λ name. either_parses (is_sign Colon) (typed_parses name) (nested_parses (braced_parses (field_parses n)) name)
-    (λ xs v rest h _. behind_starts (is_sign Colon) (Signed Colon) true refl _ xs v rest h)
-    (λ xs v rest h _. joined_starts (is_sign Colon) false _ _ (λ ys w us g. behind_starts (is_sign Colon) (Signed OpenBrace) false refl _ ys w us g) xs v rest h))
-    (anything _ _)
+  nested_fine : (name : List ℕ) → Fine is_same (nested (braced one) name)
+  unfolding nested braced
+  nested_fine name = search (braced_fine, dims_fine, anyway, firsts_any) depth 12
 
-pub fields_parses : (n : ℕ) → Parses (IsFields n) (fields_at n) Always
-unfolding fields_at
-fields_parses n = braced_parses (field_parses n)
+  nested_quiet : (name : List ℕ) (t : Token) → is_sign OpenBracket t ≡ false → Quiet is_same (nested (braced one) name) t
+  unfolding nested braced
+  nested_quiet name t e = search (dims_quiet, anyway) depth 12
+
+fine_field : (n : ℕ) → GoesOn OpenBracket (field_within n)
+unfolding field_within nested braced typed
+fine_field zero = record { fine = search (name_fine, typed_fine, anyway, firsts_any) depth 12; quiet = λ t e. search (typed_quiet, anyway) depth 12 }
+fine_field (suc n) = let f = fine_field n in record {
+  fine = (name_fine, λ name. ((typed_fine name, nested_fine (field_within n) f name, refl, search), search (firsts_any)));
+  quiet = λ t e name. ((typed_quiet name t e, nested_quiet (field_within n) f name t e, search), search (anyway));
+}
+
+-- deeper
+
+abbrev Deeper : ℕ → Grammar Token (List ℕ × Tree) → Grammar Token (List ℕ × Tree) → Type 1
+Deeper n one more = Under is_same (List ℕ × Tree) n one more
+
+braced_under : {n : ℕ} {one more : Grammar Token (List ℕ × Tree)} → Deeper n one more → Under is_same Fields (suc n) (braced one) (braced more)
+unfolding braced listed later
+braced_under u = behind (joined (joined u (λ first. repeats (λ found t. refl) (λ found. joined (fewer (behind u)) (λ next. equal)))) (λ fields. equal))
+
+field_under : (n m : ℕ) → n ≤ m → Deeper n (field_within n) (field_within m)
+unfolding field_within nested
+field_under zero zero le = equal
+field_under zero (suc m) le = empty (joined_wider (λ xs v h. h) (λ name xs v h. inl h)) refl
+field_under (suc n) zero le = absurd (omega arith)
+field_under (suc n) (suc m) le = joined equal (λ name. either (λ t. refl) equal (joined (braced_under (field_under n m (omega arith))) (λ fields. equal)))
+
+fields_under : (n m : ℕ) → n ≤ m → Under is_same Fields n (braced (field_within n)) (braced (field_within m))
+fields_under n m le = fewer (braced_under (field_under n m le))
+
+pub fields_fine : Fine is_same fields
+unfolding fields
+fields_fine = ((λ n. braced_fine (field_within n) (fine_field n)), (λ n m le. wider (fields_under n m le)), λ n m le. alike (fields_under n m le))
+
+pub fields_quiet : (t : Token) → Quiet is_same fields t
+unfolding fields braced
+fields_quiet t = search (anyway) depth 12
 
 -- the last count is the innermost array, and the last field has none behind it
 pub arrays_last : (counts : List ℕ) (count : ℕ) (tree : Tree) → arrays (counts ++ count ∷ []) tree ≡ arrays counts (Array count tree)
@@ -107,38 +124,3 @@ pub onto_all : (fields : List (Box FieldValue Global)) → onto (entries fields)
 onto_all fields = onto_end (entries fields)
 
 pub ruleset fields_last = (onto_pop, onto_all)
-
-field_takes : (n : ℕ) → Takes (behind_at (is_sign Comma) (field_at n))
-field_takes n = listed_takes (comma_listed (field_parses n) (λ us. refl))
-
-pub field_stepped : (n : ℕ) → (found : List (List ℕ × Tree)) (tokens us : List Token) (next : (List ℕ × Tree)) (rest : List Token) → starts (is_sign Comma) tokens ≡ true
-    → past (is_sign Comma) tokens ≡ Ok us → (field_at n) us ≡ Ok (next, rest) →
-    rest_at (field_at n) found tokens ≡ rest_at (field_at n) (found ++ next ∷ []) rest
-unfolding rest_at
-field_stepped n = behind_stepped (is_sign Comma) (field_at n) (field_takes n)
-
-pub field_stop : (n : ℕ) → (found : List (List ℕ × Tree)) (tokens us : List Token) (left : ℕ) → starts (is_sign Comma) tokens ≡ true → past (is_sign Comma) tokens ≡ Ok us
-    → (field_at n) us ≡ Err left → rest_at (field_at n) found tokens ≡ Err left
-unfolding rest_at
-field_stop n = behind_stop (is_sign Comma) (field_at n) (field_takes n)
-
-pub field_bare : (n : ℕ) → (found : List (List ℕ × Tree)) (tokens : List Token) (left : ℕ) → starts (is_sign Comma) tokens ≡ true → past (is_sign Comma) tokens ≡ Err left
-    → rest_at (field_at n) found tokens ≡ Err left
-unfolding rest_at
-field_bare n = behind_bare (is_sign Comma) (field_at n) (field_takes n)
-
-pub field_end : (n : ℕ) → (found : List (List ℕ × Tree)) (tokens : List Token) → starts (is_sign Comma) tokens ≡ false → rest_at (field_at n) found tokens ≡ Ok (found, tokens)
-unfolding rest_at
-field_end n = more_end (is_sign Comma) (behind_at (is_sign Comma) (field_at n))
-
-entries_more : (fields : List (Box FieldValue Global)) (field : Box FieldValue Global) → entries (fields ++ field ∷ []) ≡ entries fields ++ boxed_field field ∷ []
-entries_more [] field = refl
-entries_more (first ∷ fields) field = ap (λ (k : List (List ℕ × Tree)). boxed_field first ∷ k) (entries_more fields field)
-
-pub field_pushed : (n : ℕ) (fields : List (Box FieldValue Global)) (tokens us : List Token) (field : Box FieldValue Global) (rest : List Token) → starts (is_sign Comma) tokens ≡ true
-    → past (is_sign Comma) tokens ≡ Ok us → field_at n us ≡ Ok (boxed_field field, rest) →
-    rest_at (field_at n) (entries fields) tokens ≡ rest_at (field_at n) (entries (fields ++ field ∷ [])) rest
-field_pushed n fields tokens us field rest passes is then =
-    field_stepped n (entries fields) tokens us (boxed_field field) rest passes is then ∙ ap (λ k. rest_at (field_at n) k rest) (sym (entries_more fields field))
-
-pub ruleset field_steps = (field_pushed, field_stop, field_bare, field_end)

@@ -1,30 +1,26 @@
--- How an expression is read, level by level, and what may follow each level.
+-- Expressions are read by first tokens, level by level, to any depth of brackets.
 use Rattle.std.proofs.lemmas.Bool.{cases_Bool}
-use Rattle.std.proofs.Common.{◌≡◌, ℕ, zero, suc, Bool, true, false, if◌then◌else◌, inl, inr, List, [], ◌∷◌, ◌++◌, Option, Some, None, is_some, bytes_eq, Result, codes, refl, sym, ap, ◌∙◌, append_assoc, arith}
+use Rattle.std.proofs.Common.{◌≡◌, ℕ, zero, suc, ◌<◌, Bool, true, false, if◌then◌else◌, inl, inr, List, [], ◌∷◌, Option, Some, None, is_some, bytes_eq, codes, ℤ, refl, sym, ap, ◌∙◌, arith}
 use Rattle.std.specs.List.{list_any}
 use Rattle.std.proofs.lemmas.Slice.Eq.{bytes_eq-Decides}
-use Rattle.phrases.specs.Phrases.{IsNothing, Joined, Chain}
-use Rattle.phrases.specs.Reading.{starts, behind_at, give_at}
-use Rattle.phrases.specs.ParsesLaws.{Always, Exact, Parses, behind_parses, either_parses, give_parses, item_parses, parses_before, then_parses}
-use Rattle.phrases.specs.RepeatedLaws.{Steps, chain_between, steps_parses}
-use Rattle.phrases.specs.MoreLaws.{behind_starts, item_starts, joined_starts}
+use Rattle.phrases.specs.Grammar.{Grammar, item, either, nothing}
+use Rattle.phrases.specs.Reading.{first}
+use Rattle.phrases.specs.FineLaws.{Fine, Firsts, Quiet, Skips, anyway, firsts_any, firsts_more, skips_more}
+use Rattle.phrases.specs.ParsesLaws.{Exact}
+use Rattle.phrases.specs.UnderLaws.{alike, wider}
 use Rattle.line_tokens.specs.declared.sign.Sign.TheVariants.{OpenBrace, CloseBrace, OpenBracket, CloseBracket, OpenParen, CloseParen, Colon, Comma, Dot, Equals, EqualEqual, NotEqual, LessThan, LessEqual, GreaterThan, GreaterEqual, Plus, Minus, Arrow, Star, Slash, Percent, Question}
 use Rattle.expr_lang.specs.declared.expr.BinOp.{BinOp}
 use Rattle.expr_lang.specs.declared.expr.BinOp.TheVariants.{Add, Mul, Min, Max, Eq, And, Or}
-use Rattle.expr_lang.specs.Terms.{Number as Constant, Entry, Index, Neg, Not as Negated, Binary}
 use Rattle.line_grammar.specs.declared.token.Token.{Token}
 use Rattle.line_grammar.specs.declared.token.Token.TheVariants.{Word, Number, Text, Sign as Signed, Bad}
-use Rattle.line_grammar.specs.Tokens.{is_sign, is_word, listed, reserved, dimensions, name_of, token_number, index_of, choice_of, or_of, and_of, comparison_of, sum_of, product_of}
+use Rattle.line_grammar.specs.Tokens.{is_same, is_sign, is_word, listed, reserved, dimensions, name_of, token_number, index_of, choice_of, or_of, and_of, comparison_of, sum_of, product_of}
 use Rattle.line_grammar.specs.Words.{index_word}
 use Rattle.line_grammar.specs.Sentences.{Value}
-use Rattle.line_grammar.specs.Grammar.{IsAtom, IsBracketed, IsChain, IsChoice, IsComparison, IsConjunction, IsExpr, IsExprOver, IsLeaf, IsLink, IsNegation, IsPrefix, IsPrefixed, IsProduct, IsSum, IsUnary, wrapped}
-use Rattle.line_phrases.specs.Exprs.{means, link_at, links_at, chain_at, count_at, prefixed_at, unary_over, product_over, sum_over, comparison_over, negation_over, conjunction_over, expr_over, leaf_at, choice_at, bracketed_at, atom_at, expr_at}
-use Rattle.line_phrases.specs.BasicsLaws.{AfterLevel, anything, apart, behind_after, exact_sign, exact_word, first_level, level_of, number_parses, starts_false, starts_level}
-use Rattle.line_phrases.specs.PathsLaws.{path_parses}
-
--- a token that has a meaning
-means_true : {A : Type 0} (value : Token → Option A) (token : Token) (v : A) → value token ≡ Some v → means value token ≡ true
-means_true value token v e = ap is_some e
+use Rattle.line_grammar.specs.Language.{atom_within, bracketed, chain, choice, comparison, conjunction, expr, expr_over, leaf, link, links, negation, part, path, prefixed, product, signs, sum, unary}
+use Rattle.line_phrases.specs.Inner.Exprs.{means}
+use Rattle.line_phrases.specs.BasicsLaws.{apart, exact_sign, exact_word, level_of, number_fine}
+use Rattle.line_phrases.specs.NestingLaws.{expr_under}
+use Rattle.line_phrases.specs.PathsLaws.{part_level, path_fine, path_quiet}
 
 -- an operator of a level: each of its tokens has that level, and one is known
 pub record Operator (operator : Token → Option BinOp) (level : ℕ) : Type 0 where
@@ -32,75 +28,6 @@ pub record Operator (operator : Token → Option BinOp) (level : ℕ) : Type 0 w
   pub some : Token
   pub op : BinOp
   pub shown : operator some ≡ Some op
-
-module _ {Is : List Token → Value → Type 0} {read : List Token → Result (Value × List Token) ℕ} {operator : Token → Option BinOp} (k : ℕ) (o : Operator operator k)
-    (p : Parses Is read (AfterLevel (suc k))) where
-  pub link_parses : (left : Value) → Parses (IsLink operator Is left) (link_at operator read left) (AfterLevel (suc k))
-  link_parses left = then_parses Always (item_parses operator o.some o.op o.shown)
-      (λ op. then_parses (AfterLevel (suc k)) p (λ right. give_parses (AfterLevel (suc k)) (Binary op left right)) (λ a ys v rest h after. rw h.0 after))
-      (anything _ _)
-
-  pub link_begins : (left : Value) (xs : List Token) (v : Value) (rest : List Token) → IsLink operator Is left xs v → starts (means operator) (xs ++ rest) ≡ true
-  link_begins left xs v rest h = joined_starts (means operator) true _ _ (item_starts (means operator) operator true (means_true operator)) xs v rest h
-
-  pub link_level : (left : Value) (xs : List Token) (v : Value) (rest : List Token) → IsLink operator Is left xs v → first_level (xs ++ rest) ≡ k
-  link_level left xs v rest h = starts_level (means operator) k o.levels (xs ++ rest) (link_begins left xs v rest h)
-
-  pub link_steps : Steps (IsLink operator Is) (means operator) (link_at operator read) (AfterLevel (suc k)) (AfterLevel k)
-  link_steps = record {
-    one = link_parses;
-    begins = link_begins;
-    goes_on = λ left xs v rest h. let same = link_level left xs v rest h in omega arith;
-    ends = starts_false (means operator) k o.levels;
-    last = λ rest after. omega arith;
-  }
-
-  pub chain_parses : Parses (IsChain operator Is) (chain_at operator read) (AfterLevel k)
-  unfolding chain_at links_at
-  chain_parses = then_parses (AfterLevel (suc k)) p (λ first. steps_parses link_steps first)
-      (λ a ys v rest h after. chain_between link_steps h.0 a ys v rest h.1 after)
-
--- how often a token stands in front
-
-pub prefix_steps : (token : Token) (test : Token → Bool) → Exact test token → Steps (IsPrefix token) test (λ n. behind_at test (give_at (suc n))) Always (λ rest. starts test rest ≡ false)
-prefix_steps token test exact = record {
-  one = λ n. behind_parses exact (give_parses Always (suc n));
-  begins = λ n xs w rest h. behind_starts test token true exact.passes _ xs w rest h;
-  goes_on = λ n xs w rest h. tt;
-  ends = λ rest h. h;
-  last = λ rest h. tt;
-}
-
-pub prefixed_parses : {Is : List Token → Value → Type 0} {read : List Token → Result (Value × List Token) ℕ} (After : List Token → Type 0) (token : Token) (test : Token → Bool)
-    (exact : Exact test token) (wrap : Value → Value) →
-    Parses Is read After → ((xs : List Token) (v : Value) (rest : List Token) → Is xs v → starts test (xs ++ rest) ≡ false) →
-    Parses (IsPrefixed token wrap Is) (prefixed_at test wrap read) After
-unfolding prefixed_at count_at
-prefixed_parses After token test exact wrap p other = then_parses (λ rest. starts test rest ≡ false) (steps_parses (prefix_steps token test exact) zero)
-    (λ n. then_parses After p (λ value. give_parses After (wrapped wrap n value)) (λ a ys v rest h after. rw h.0 after))
-    (λ a ys v rest h after. joined_starts test false _ _ other ys v rest h)
-
--- what a phrase with prefixes begins with
-prefixed_starts : (test : Token → Bool) (token : Token) → test token ≡ false → (wrap : Value → Value) (Is : List Token → Value → Type 0)
-    → ((xs : List Token) (v : Value) (rest : List Token) → Is xs v → starts test (xs ++ rest) ≡ false) →
-    (n : ℕ) (front back : List Token) (m : ℕ) (v : Value) (rest : List Token) → Chain (IsPrefix token) n zero front m → Joined Is (λ value. IsNothing (wrapped wrap m value)) back v
-    → starts test ((front ++ back) ++ rest) ≡ false
-prefixed_starts test token e wrap Is other n front back m v rest h g = chain_starts n zero front back rest h (joined_starts test false _ _ other back v rest g)
-  where
-    chain_starts : (n a : ℕ) (front back rest : List Token) → Chain (IsPrefix token) n a front m → starts test (back ++ rest) ≡ false → starts test ((front ++ back) ++ rest) ≡ false
-    chain_starts zero a front back rest h g = ap (λ k. starts test ((k ++ back) ++ rest)) h.0 ∙ g
-    chain_starts (suc n) a front back rest h g =
-        ap (λ k. starts test ((k ++ back) ++ rest)) h.whole
-        ∙ ap (λ k. starts test (k ++ rest)) (append_assoc h.front h.back back) ∙ ap (starts test) (append_assoc h.front (h.back ++ back) rest)
-        ∙ behind_starts test token false e _ h.front h.first ((h.back ++ back) ++ rest) h.begins
-
-pub prefixed_other : (test : Token → Bool) (token : Token) → test token ≡ false → (wrap : Value → Value) (Is : List Token → Value → Type 0)
-    → ((xs : List Token) (v : Value) (rest : List Token) → Is xs v → starts test (xs ++ rest) ≡ false) →
-    (xs : List Token) (v : Value) (rest : List Token) → IsPrefixed token wrap Is xs v → starts test (xs ++ rest) ≡ false
-prefixed_other test token e wrap Is other xs v rest h =
-    ap (λ k. starts test (k ++ rest)) h.whole ∙ prefixed_starts test token e wrap Is other h.begins.0 h.front h.back h.first v rest h.begins.1 h.ends
-
--- the operators
 
 or_word : (token : Token) (b : Bool) → is_word (codes "or") token ≡ b → is_some (let o : Option BinOp = if b then Some Or else None in o) ≡ true → 1 ≡ level_of token
 or_word token true e h = sym (ap level_of ((exact_word (codes "or")).only token e))
@@ -212,53 +139,118 @@ product_levels Bad h = absurd cc
 pub product_operator : Operator product_of 5
 product_operator = record { levels = product_levels; some = Signed Star; op = Mul; shown = refl }
 
--- a reader of operands, none of which begins with a minus or with `not`
-pub record Atoms (Is : List Token → Value → Type 0) (read : List Token → Result (Value × List Token) ℕ) : Type 0 where
-  pub parses : Parses Is read (AfterLevel 6)
-  pub no_minus : (xs : List Token) (v : Value) (rest : List Token) → Is xs v → starts (is_sign Minus) (xs ++ rest) ≡ false
-  pub no_not : (xs : List Token) (v : Value) (rest : List Token) → Is xs v → starts (is_word (codes "not")) (xs ++ rest) ≡ false
+-- operands that are read by first tokens, and go on with tokens of this level and higher ones alone
+pub record Operand (k : ℕ) (one : Grammar Token Value) : Type 0 where
+  pub fine : Fine is_same one
+  pub quiet : (t : Token) → level_of t < k → Quiet is_same one t
+  pub some : Skips one ⊥
 
-module _ {Is : List Token → Value → Type 0} {read : List Token → Result (Value × List Token) ℕ} (a : Atoms Is read) where
-  pub unary_parses : Parses (IsUnary Is) (unary_over read) (AfterLevel 6)
-  unfolding unary_over
-  unary_parses = prefixed_parses (AfterLevel 6) (Signed Minus) (is_sign Minus) (exact_sign Minus) Neg a.parses a.no_minus
+none : (one : Grammar Token Value) (P : Type 0) → Skips one ⊥ → Skips one P
+none one P s = skips_more one {P = ⊥} {Q = P} (λ bad. absurd bad) s
 
-  pub product_parses : Parses (IsProduct Is) (product_over read) (AfterLevel 5)
-  unfolding product_over
-  product_parses = chain_parses 5 product_operator unary_parses
+module _ (k : ℕ) (operator : Token → Option BinOp) (o : Operator operator k) (one : Grammar Token Value) (p : Operand (suc k) one) where
+  pub link_fine : (left : Value) → Fine is_same (link operator one left)
+  link_fine left = ((o.some, o.op, o.shown), λ op. ((p.fine, λ right. (tt, tt)), (firsts_any one (λ t. tt), anyway one (λ right. tt))))
 
-  pub sum_parses : Parses (IsSum Is) (sum_over read) (AfterLevel 4)
-  unfolding sum_over
-  sum_parses = chain_parses 4 sum_operator product_parses
+  pub link_quiet : (left : Value) (t : Token) → level_of t < suc k → Quiet is_same (link operator one left) t
+  link_quiet left t less = λ op. ((λ right. (tt, p.quiet t less)), anyway one (λ right. tt))
 
-  pub comparison_parses : Parses (IsComparison Is) (comparison_over read) (AfterLevel 3)
-  unfolding comparison_over
-  comparison_parses = then_parses (AfterLevel 4) sum_parses
-      (λ left. either_parses (means comparison_of) (parses_before (AfterLevel 3) (λ rest h. omega arith) (link_parses 3 comparison_operator sum_parses left)) (give_parses (AfterLevel 3) left)
-      (λ xs v rest h _. link_begins 3 comparison_operator sum_parses left xs v rest h)
-      (λ xs v rest h after. ap (λ k. starts (means comparison_of) (k ++ rest)) h.0 ∙ starts_false (means comparison_of) 3 comparison_levels rest after))
-      (λ left ys v rest h after. elim h [
-        | inl link ↦ (let same = link_level 3 comparison_operator sum_parses left ys v rest link in omega arith)
-        | inr none ↦ (let less : AfterLevel 4 rest = omega arith in rw none.0 less)
-      ])
+  level : (t : Token) (op : BinOp) → operator t ≡ Some op → level_of t < suc k
+  level t op e = let same = o.levels t (ap is_some e) in omega (arith, same)
 
-  unary_no_not : (xs : List Token) (v : Value) (rest : List Token) → IsUnary Is xs v → starts (is_word (codes "not")) (xs ++ rest) ≡ false
-  unary_no_not = prefixed_other (is_word (codes "not")) (Signed Minus) refl Neg Is a.no_not
+  no_operator : (t : Token) → level_of t < k → is_some (operator t) ≡ false
+  no_operator t less = elim (cases_Bool (means operator t)) [
+    | inl h ↦ absurd (let same = o.levels t h in omega (arith, same, less))
+    | inr h ↦ h
+  ]
 
-  comparison_no_not : (xs : List Token) (v : Value) (rest : List Token) → IsComparison Is xs v → starts (is_word (codes "not")) (xs ++ rest) ≡ false
-  comparison_no_not = joined_starts (is_word (codes "not")) false _ _ (joined_starts (is_word (codes "not")) false _ _ (joined_starts (is_word (codes "not")) false _ _ unary_no_not))
+  pub links_fine : (left : Value) → Fine is_same (links operator one left)
+  unfolding links
+  links_fine left = ((λ a. (link_fine a, refl)), (λ a t. refl), λ a b. ((λ t op e. link_quiet b t (level t op e)), tt))
 
-  pub negation_parses : Parses (IsNegation Is) (negation_over read) (AfterLevel 3)
-  unfolding negation_over
-  negation_parses = prefixed_parses (AfterLevel 3) (Word (codes "not")) (is_word (codes "not")) (exact_word (codes "not")) Negated comparison_parses comparison_no_not
+  pub chain_operand : Operand k (chain operator one)
+  unfolding chain links
+  chain_operand = record {
+    fine = (p.fine, λ a. (links_fine a, ((λ t op e. p.quiet t (level t op e)), tt)));
+    quiet = λ t less a. (((λ left. link_quiet left t (omega (arith, less))), no_operator t less), p.quiet t (omega (arith, less)));
+    some = none one (Value → ⊥) p.some;
+  }
 
-  pub conjunction_parses : Parses (IsConjunction Is) (conjunction_over read) (AfterLevel 2)
-  unfolding conjunction_over
-  conjunction_parses = chain_parses 2 and_operator negation_parses
+  chain_firsts : (P : Token → Type 0) → Firsts one P → Firsts (chain operator one) P
+  unfolding chain
+  chain_firsts P f = (f, none one ((a : Value) → Firsts (links operator one a) P) p.some)
 
-  pub over_parses : Parses (IsExprOver Is) (expr_over read) (AfterLevel 1)
+-- signs in front, of phrases that begin with none
+pub prefixed_operand : (k : ℕ) (token : Token) → Exact (is_same token) token → (wrap : Value → Value) (one : Grammar Token Value) → Operand k one → Firsts one (λ t. is_same token t ≡ false)
+    → Operand k (prefixed token wrap one)
+unfolding prefixed signs
+prefixed_operand k token exact wrap one p other = record {
+  fine = (
+    ((λ n. ((exact, tt), refl)), (λ n t. refl), λ n m. tt),
+    λ n. ((p.fine, λ value. (tt, tt)), (firsts_more one (λ t e. ((λ n. tt), e)) other, anyway one (λ value. tt))),
+  );
+  quiet = λ t less n. ((λ value. (tt, p.quiet t less)), none one (Value → Quiet is_same (signs token zero) t) p.some);
+  some = λ n. none one (Value → ⊥) p.some;
+}
+
+prefixed_firsts : (token : Token) (wrap : Value → Value) (one : Grammar Token Value) (P : Token → Type 0) → P token → Firsts one P → Firsts (prefixed token wrap one) P
+unfolding prefixed signs
+prefixed_firsts token wrap one P own f = (own, λ n. (f, anyway one (λ value. tt)))
+
+-- operands, none of which begins with a minus or with `not`
+pub record Atoms (one : Grammar Token Value) : Type 0 where
+  pub operand : Operand 6 one
+  pub no_minus : Firsts one (λ t. is_sign Minus t ≡ false)
+  pub no_not : Firsts one (λ t. is_word (codes "not") t ≡ false)
+
+module _ (one : Grammar Token Value) (a : Atoms one) where
+  pub unary_operand : Operand 6 (unary one)
+  unfolding unary
+  unary_operand = prefixed_operand 6 (Signed Minus) (exact_sign Minus) _ one a.operand a.no_minus
+
+  pub product_operand : Operand 5 (product one)
+  unfolding product
+  product_operand = chain_operand 5 product_of product_operator (unary one) unary_operand
+
+  pub sum_operand : Operand 4 (sum one)
+  unfolding sum
+  sum_operand = chain_operand 4 sum_of sum_operator (product one) product_operand
+
+  pub comparison_operand : Operand 3 (comparison one)
+  unfolding comparison
+  comparison_operand =
+      let s = sum_operand in
+      let links = link_fine 3 comparison_of comparison_operator (sum one) s in
+      let goes = link_quiet 3 comparison_of comparison_operator (sum one) s in
+      let ends = no_operator 3 comparison_of comparison_operator (sum one) s in
+      let opens = λ (t : Token) (op : BinOp) (e : comparison_of t ≡ Some op). s.quiet t (level 3 comparison_of comparison_operator (sum one) s t op e) in
+      record {
+        fine = (s.fine, λ left. ((links left, tt, refl, tt), ((opens, tt), tt)));
+        quiet = λ t less left. ((goes left t (omega (arith, less)), tt, ends t less), (tt, s.quiet t (omega (arith, less))));
+        some = none (sum one) ((left : Value) → Skips (either (link comparison_of (sum one) left) (nothing left)) ⊥) s.some;
+      }
+
+  sum_no_not : Firsts (sum one) (λ t. is_word (codes "not") t ≡ false)
+  unfolding sum product unary
+  sum_no_not = chain_firsts 4 sum_of sum_operator (product one) product_operand (λ t. is_word (codes "not") t ≡ false)
+      (chain_firsts 5 product_of product_operator (unary one) unary_operand (λ t. is_word (codes "not") t ≡ false)
+      (prefixed_firsts (Signed Minus) _ one (λ t. is_word (codes "not") t ≡ false) refl a.no_not))
+
+  comparison_no_not : Firsts (comparison one) (λ t. is_word (codes "not") t ≡ false)
+  unfolding comparison
+  comparison_no_not = (sum_no_not, none (sum one) ((left : Value) → Firsts (either (link comparison_of (sum one) left) (nothing left)) (λ t. is_word (codes "not") t ≡ false)) sum_operand.some)
+
+  pub negation_operand : Operand 3 (negation one)
+  unfolding negation
+  negation_operand = prefixed_operand 3 (Word (codes "not")) (exact_word (codes "not")) _ (comparison one) comparison_operand comparison_no_not
+
+  pub conjunction_operand : Operand 2 (conjunction one)
+  unfolding conjunction
+  conjunction_operand = chain_operand 2 and_of and_operator (negation one) negation_operand
+
+  pub over_operand : Operand 1 (expr_over one)
   unfolding expr_over
-  over_parses = chain_parses 1 or_operator conjunction_parses
+  over_operand = chain_operand 1 or_of or_operator (conjunction one) conjunction_operand
 
 -- operands
 
@@ -316,78 +308,75 @@ index_no_choice : (token : Token) (d : ℕ) → index_of token ≡ Some d → me
 index_no_choice (Word word) d e = ap is_some (two_words word d e)
 index_no_choice other d e = absurd cc
 
--- what leaves begin with
-leaf_starts : (test : Token → Bool) (b : Bool) → ((token : Token) (n : _) → token_number token ≡ Some n → test token ≡ b) → ((token : Token) (d : ℕ) → index_of token ≡ Some d → test token ≡ b) →
-    ((token : Token) (x : List ℕ) → name_of token ≡ Some x → test token ≡ b) → (xs : List Token) (v : Value) (rest : List Token) → IsLeaf xs v → starts test (xs ++ rest) ≡ b
-leaf_starts test b number index name xs v rest (inl h) = joined_starts test b _ _ (item_starts test token_number b number) xs v rest h
-leaf_starts test b number index name xs v rest (inr (inl h)) = joined_starts test b _ _ (item_starts test index_of b index) xs v rest h
-leaf_starts test b number index name xs v rest (inr (inr h)) = joined_starts test b _ _ (joined_starts test b _ _ (item_starts test name_of b name)) xs v rest h
+pub no_part : (t : Token) → level_of t < 6 → first is_same part t ≡ false
+no_part t less = elim (cases_Bool (first is_same part t)) [
+  | inl h ↦ absurd (let same = part_level t h in omega (arith, same, less))
+  | inr h ↦ h
+]
 
-pub leaf_parses : Parses IsLeaf leaf_at (AfterLevel 6)
-unfolding leaf_at
-leaf_parses = either_parses (means token_number)
-    (then_parses Always number_parses (λ number. give_parses (AfterLevel 6) (Constant number)) (anything _ _))
-    (either_parses (means index_of)
-    (then_parses Always (item_parses index_of (Word (codes "i0")) 0 refl) (λ dimension. give_parses (AfterLevel 6) (Index dimension)) (anything _ _))
-    (then_parses (AfterLevel 6) path_parses (λ path. give_parses (AfterLevel 6) (Entry path)) (λ a ys v rest h after. rw h.0 after))
-    (λ xs v rest h _. joined_starts (means index_of) true _ _ (item_starts (means index_of) index_of true (means_true index_of)) xs v rest h)
-    (λ xs v rest h _. joined_starts (means index_of) false _ _ (joined_starts (means index_of) false _ _ (item_starts (means index_of) name_of false name_no_index)) xs v rest h))
-    (λ xs v rest h _. joined_starts (means token_number) true _ _ (item_starts (means token_number) token_number true (means_true token_number)) xs v rest h)
-    (λ xs v rest h _. elim h [
-      | inl index ↦ joined_starts (means token_number) false _ _ (item_starts (means token_number) index_of false index_no_number) xs v rest index
-      | inr path ↦ joined_starts (means token_number) false _ _ (joined_starts (means token_number) false _ _ (item_starts (means token_number) name_of false name_no_number)) xs v rest path
-    ])
+-- what holds of the tokens of the leaves holds of what begins a leaf
+leaf_firsts : (P : Token → Type 0) → ((t : Token) (n : ℤ) → token_number t ≡ Some n → P t) → ((t : Token) (d : ℕ) → index_of t ≡ Some d → P t)
+    → ((t : Token) (x : List ℕ) → name_of t ≡ Some x → P t) → Firsts leaf P
+unfolding leaf path
+leaf_firsts P number index name = ((number, tt), ((index, tt), ((name, tt), tt)))
 
-bracketed_parses : {Is : List Token → Value → Type 0} {read : List Token → Result (Value × List Token) ℕ} → Parses Is read (AfterLevel 1) → Parses (IsBracketed Is) (bracketed_at read) (AfterLevel 6)
-unfolding bracketed_at
-bracketed_parses p = behind_parses (exact_sign OpenParen) (then_parses (AfterLevel 1) p (λ value. behind_parses (exact_sign CloseParen) (give_parses (AfterLevel 6) value))
-    (λ a ys v rest h after. behind_after 1 (Signed CloseParen) (omega arith) _ ys v rest h))
+leaf_apart : {test : Token → Bool} {some : Token} → Exact test some → token_number some ≡ None → index_of some ≡ None → name_of some ≡ None → Firsts leaf (λ t. test t ≡ false)
+leaf_apart {test} exact number index name = leaf_firsts (λ t. test t ≡ false) (apart exact token_number number) (apart exact index_of index) (apart exact name_of name)
 
-choice_parses : {Is : List Token → Value → Type 0} {read : List Token → Result (Value × List Token) ℕ} → Parses Is read (AfterLevel 1) → Parses (IsChoice Is) (choice_at read) (AfterLevel 6)
-unfolding choice_at
-choice_parses p = then_parses Always (item_parses choice_of (Word (codes "min")) Min refl)
-    (λ op. behind_parses (exact_sign OpenParen) (then_parses (AfterLevel 1) p
-    (λ left. behind_parses (exact_sign Comma) (then_parses (AfterLevel 1) p
-    (λ right. behind_parses (exact_sign CloseParen) (give_parses (AfterLevel 6) (Binary op left right)))
-    (λ a ys v rest h after. behind_after 1 (Signed CloseParen) (omega arith) _ ys v rest h)))
-    (λ a ys v rest h after. behind_after 1 (Signed Comma) (omega arith) _ ys v rest h)))
-    (anything _ _)
+index_fine : Fine is_same (item index_of)
+index_fine = (Word (codes "i0"), 0, refl)
 
--- no operand begins with a token that is no number, index, choice, name or bracket
-atom_starts : (test : Token → Bool) (some : Token) → Exact test some → token_number some ≡ None → index_of some ≡ None → choice_of some ≡ None → name_of some ≡ None → test (Signed OpenParen) ≡ false →
-    (n : ℕ) (xs : List Token) (v : Value) (rest : List Token) → IsAtom n xs v → starts test (xs ++ rest) ≡ false
-atom_starts test some exact number index choice name bracket zero xs v rest h =
-    leaf_starts test false (apart exact token_number number) (apart exact index_of index) (apart exact name_of name) xs v rest h
-atom_starts test some exact number index choice name bracket (suc n) xs v rest (inl h) = behind_starts test (Signed OpenParen) false bracket _ xs v rest h
-atom_starts test some exact number index choice name bracket (suc n) xs v rest (inr (inl h)) =
-    joined_starts test false _ _ (item_starts test choice_of false (apart exact choice_of choice)) xs v rest h
-atom_starts test some exact number index choice name bracket (suc n) xs v rest (inr (inr h)) =
-    leaf_starts test false (apart exact token_number number) (apart exact index_of index) (apart exact name_of name) xs v rest h
+leaf_fine : Fine is_same leaf
+unfolding leaf path
+leaf_fine = search (number_fine, index_fine, path_fine, name_no_index, index_no_number, name_no_number) depth 12
 
-atoms_of : (n : ℕ) → Parses (IsAtom n) (atom_at n) (AfterLevel 6) → Atoms (IsAtom n) (atom_at n)
-atoms_of n p = record {
-  parses = p;
-  no_minus = atom_starts (is_sign Minus) (Signed Minus) (exact_sign Minus) refl refl refl refl refl n;
-  no_not = atom_starts (is_word (codes "not")) (Word (codes "not")) (exact_word (codes "not")) refl refl refl refl refl n;
+leaf_quiet : (t : Token) → level_of t < 6 → Quiet is_same leaf t
+unfolding leaf path
+leaf_quiet t less = search (path_quiet, no_part) depth 12
+
+leaf_some : (P : Type 0) → Skips leaf P
+unfolding leaf path
+leaf_some P = (tt, (tt, tt))
+
+leaf_atoms : Atoms leaf
+leaf_atoms = record {
+  operand = record { fine = leaf_fine; quiet = leaf_quiet; some = leaf_some ⊥ };
+  no_minus = leaf_apart (exact_sign Minus) refl refl refl;
+  no_not = leaf_apart (exact_word (codes "not")) refl refl refl;
 }
 
-pub atom_parses : (n : ℕ) → Parses (IsAtom n) (atom_at n) (AfterLevel 6)
-unfolding atom_at
-atom_parses zero = leaf_parses
-atom_parses (suc n) = either_parses (is_sign OpenParen) (bracketed_parses (over_parses (atoms_of n (atom_parses n))))
-    (either_parses (means choice_of) (choice_parses (over_parses (atoms_of n (atom_parses n)))) leaf_parses
-    (λ xs v rest h _. joined_starts (means choice_of) true _ _ (item_starts (means choice_of) choice_of true (means_true choice_of)) xs v rest h)
-    (λ xs v rest h _. leaf_starts (means choice_of) false number_no_choice index_no_choice name_no_choice xs v rest h))
-    (λ xs v rest h _. behind_starts (is_sign OpenParen) (Signed OpenParen) true refl _ xs v rest h)
-    (λ xs v rest h _. elim h [
-      | inl choice ↦ joined_starts (is_sign OpenParen) false _ _ (item_starts (is_sign OpenParen) choice_of false (apart (exact_sign OpenParen) choice_of refl)) xs v rest choice
-      | inr leaf ↦ leaf_starts (is_sign OpenParen) false (apart (exact_sign OpenParen) token_number refl) (apart (exact_sign OpenParen) index_of refl) (apart (exact_sign OpenParen) name_of refl) xs
-          v rest leaf
-    ])
+-- in brackets an expression ends at a token that binds nothing
+ends : (one : Grammar Token Value) → Operand 1 one → (t : Token) → level_of t ≡ 0 → Quiet is_same one t
+ends one o t e = o.quiet t (omega (arith, e))
 
-pub atoms : (n : ℕ) → Atoms (IsAtom n) (atom_at n)
-atoms n = atoms_of n (atom_parses n)
+bracketed_fine : (one : Grammar Token Value) → Operand 1 one → Fine is_same (bracketed one)
+unfolding bracketed
+bracketed_fine one o = search (exact_sign, o.fine, ends one o) depth 12
 
-pub expr_parses : (n : ℕ) → Parses (IsExpr n) (expr_at n) (AfterLevel 1)
-unfolding expr_at
-expr_parses n = over_parses (atoms n)
+choice_fine : (one : Grammar Token Value) → Operand 1 one → Fine is_same (choice one)
+unfolding choice
+choice_fine one o = ((Word (codes "min"), Min, refl), search (exact_sign, o.fine, ends one o) depth 12)
+
+pub atoms : (n : ℕ) → Atoms (atom_within n)
+unfolding atom_within bracketed choice
+atoms zero = leaf_atoms
+atoms (suc n) =
+    let o = over_operand (atom_within n) (atoms n) in
+    let no_choice = leaf_firsts (λ t. is_some (choice_of t) ≡ false) number_no_choice index_no_choice name_no_choice in
+    record {
+      operand = record {
+        fine = (bracketed_fine _ o, (choice_fine _ o, leaf_fine, refl, no_choice), refl, ((apart (exact_sign OpenParen) choice_of refl, tt), leaf_apart (exact_sign OpenParen) refl refl refl));
+        quiet = λ t less. search (leaf_quiet, leaf_some) depth 12;
+        some = (tt, (tt, leaf_some ⊥));
+      };
+      no_minus = (refl, ((apart (exact_sign Minus) choice_of refl, tt), leaf_atoms.no_minus));
+      no_not = (refl, ((apart (exact_word (codes "not")) choice_of refl, tt), leaf_atoms.no_not));
+    }
+
+pub expr_fine : Fine is_same expr
+unfolding expr
+expr_fine = ((λ n. (over_operand (atom_within n) (atoms n)).fine), (λ n m le. wider (expr_under n m le)), (λ n m le. alike (expr_under n m le)))
+
+pub expr_quiet : (t : Token) → level_of t ≡ 0 → Quiet is_same expr t
+unfolding expr
+expr_quiet t e = λ n. (over_operand (atom_within n) (atoms n)).quiet t (omega (arith, e))

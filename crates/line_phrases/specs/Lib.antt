@@ -1,12 +1,3 @@
-pub mod Lists
-pub mod Paths
-pub mod Fields
-pub mod Widths
-pub mod Maps
-pub mod Constants
-pub mod Passes
-pub mod Stencils
-pub mod Exprs
 pub mod BasicsLaws
 pub mod FieldLaws
 pub mod LevelsLaws
@@ -16,5 +7,4 @@ pub mod NestingLaws
 pub mod PassLaws
 pub mod PathsLaws
 pub mod StencilLaws
-pub mod WidthLaws
 pub mod Inner

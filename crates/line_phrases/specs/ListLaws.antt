@@ -1,139 +1,97 @@
--- How lists are read, behind commas and in brackets.
-use Rattle.std.proofs.Common.{◌≡◌, ℕ, true, false, List, [], ◌∷◌, ◌++◌, Result, Ok, Err, refl}
-use Rattle.phrases.specs.Phrases.{Behind, Joined, IsNothing}
-use Rattle.phrases.specs.Reading.{starts, past, item_at, behind_at, then_at, give_at}
-use Rattle.phrases.specs.ParsesLaws.{Always, Parses, behind_parses, either_parses, give_parses, then_parses}
-use Rattle.phrases.specs.RepeatedLaws.{chain_between}
-use Rattle.phrases.specs.MoreLaws.{Listed, Takes, behind_bare, behind_starts, behind_stepped, behind_stop, item_starts, joined_starts, listed_takes, more_end, more_parses, more_steps}
-use Rattle.line_tokens.specs.declared.sign.Sign.TheVariants.{OpenBracket, CloseBracket, Comma, Question}
-use Rattle.extents.specs.declared.words.ExtentWord.{ExtentWord}
-use Rattle.extents.specs.declared.words.ExtentWord.TheVariants as extent
+-- Lists behind commas and in brackets are read by first tokens, and how their reading goes on.
+use Rattle.std.proofs.Common.{◌≡◌, ℕ, true, false, List, [], ◌∷◌, ◌++◌, map, Ok, Err, sym, ap, ◌∙◌, refl}
+use Rattle.std.proofs.lemmas.List.{map-append}
+use Rattle.phrases.specs.Grammar.{Grammar}
+use Rattle.phrases.specs.Reading.{starts, past, item_at}
+use Rattle.phrases.specs.FineLaws.{Fine, Quiet}
+use Rattle.phrases.specs.LoopLaws.{behind_list_bare, behind_list_end, behind_list_stepped, behind_list_stop}
+use Rattle.line_tokens.specs.declared.sign.Sign.TheVariants.{CloseBracket, Comma, Question}
 use Rattle.line_grammar.specs.declared.token.Token.{Token}
 use Rattle.line_grammar.specs.declared.token.Token.TheVariants.{Sign as Signed}
-use Rattle.line_grammar.specs.Tokens.{is_sign, count_of}
-use Rattle.line_grammar.specs.Grammar.{IsBracketList, IsCuts, IsExtent, IsFixed, IsListed}
-use Rattle.line_phrases.specs.Lists.{rest_at, listed_at, bracket_list_at, cuts_at, fixed_at, extent_at}
-use Rattle.line_phrases.specs.BasicsLaws.{Not, anything, apart, behind_not, count_parses, exact_sign, sign_next}
+use Rattle.line_grammar.specs.Tokens.{is_same, is_sign, count_of}
+use Rattle.line_grammar.specs.Language.{read, count, later, listed, bracket_list, cuts, fixed, extent_word}
+use Rattle.line_phrases.specs.BasicsLaws.{apart, count_fine, exact_sign}
 
--- no comma stands next, and what may follow one of the list
-abbrev pub AfterList : (List Token → Type 0) → List Token → Type 0
-AfterList Between rest = Not Comma rest × Between rest
+-- a list of phrases that do not go on with a comma
+pub listed_fine : {A : Type 0} (one : Grammar Token A) → Fine is_same one → Quiet is_same one (Signed Comma) → Fine is_same (listed one)
+unfolding listed later
+listed_fine one f q = search (exact_sign) depth 12
 
-pub comma_listed : {A : Type 0} {Is : List Token → A → Type 0} {read : List Token → Result (A × List Token) ℕ} {Between : List Token → Type 0} → Parses Is read Between →
-    ((us : List Token) → Between (Signed Comma ∷ us)) → Listed (Behind (Signed Comma) Is) (is_sign Comma) (behind_at (is_sign Comma) read) Between (AfterList Between)
-comma_listed {Is = Is} p goes = record {
-  one = behind_parses (exact_sign Comma) p;
-  begins = λ xs v rest h. behind_starts (is_sign Comma) (Signed Comma) true refl Is xs v rest h;
-  goes_on = λ rest h. let next = sign_next Comma rest h in rw next.1 (goes next.0);
-  ends = λ rest h. h.0;
-  last = λ rest h. h.1;
-}
+-- what goes on neither with one of them nor is a comma does not go on with the list
+pub listed_quiet : {A : Type 0} (one : Grammar Token A) (t : Token) → Quiet is_same one t → is_sign Comma t ≡ false → Quiet is_same (listed one) t
+unfolding listed later
+listed_quiet one t q e = search
 
-pub listed_parses : {A : Type 0} {Is : List Token → A → Type 0} {read : List Token → Result (A × List Token) ℕ} {Between : List Token → Type 0} → Parses Is read Between →
-    ((us : List Token) → Between (Signed Comma ∷ us)) → Parses (IsListed Is) (listed_at read) (AfterList Between)
-unfolding listed_at rest_at
-listed_parses {Between = Between} p goes = then_parses Between p (λ first. more_parses (comma_listed p goes) (first ∷ []))
-    (λ a ys v rest h after. chain_between (more_steps (comma_listed p goes)) h.0 (a ∷ []) ys v rest h.1 after)
+pub bracket_list_fine : {A : Type 0} (one : Grammar Token A) → Fine is_same one → ((t : Token) → Quiet is_same one t) → Fine is_same (bracket_list one)
+unfolding bracket_list
+bracket_list_fine one f q = search (exact_sign, listed_fine, listed_quiet)
 
--- what is behind such a list in brackets
-list_end_parses : {A : Type 0} {Is : List Token → A → Type 0} {read : List Token → Result (A × List Token) ℕ} → Parses Is read Always
-    → Parses (Joined (IsListed Is) (λ found. Behind (Signed CloseBracket) (IsNothing found))) (then_at (listed_at read) (λ found. behind_at (is_sign CloseBracket) (give_at found))) Always
-list_end_parses p = then_parses (AfterList Always) (listed_parses p (λ us. tt)) (λ found. behind_parses (exact_sign CloseBracket) (give_parses Always found))
-    (λ a ys v rest h after. (behind_not Comma (Signed CloseBracket) refl _ ys v rest h, tt))
+pub bracket_list_quiet : {A : Type 0} (one : Grammar Token A) (t : Token) → Quiet is_same (bracket_list one) t
+unfolding bracket_list
+bracket_list_quiet one t = search
 
-pub bracket_list_parses : {A : Type 0} {Is : List Token → A → Type 0} {read : List Token → Result (A × List Token) ℕ} → Parses Is read Always → Parses (IsBracketList Is) (bracket_list_at read) Always
-unfolding bracket_list_at
-bracket_list_parses p = behind_parses (exact_sign OpenBracket) (list_end_parses p)
+pub cuts_fine : Fine is_same cuts
+unfolding cuts listed
+cuts_fine = search (exact_sign, count_fine, listed_fine count, listed_quiet count, apart (exact_sign CloseBracket) count_of refl) depth 12
 
-pub cuts_parses : Parses IsCuts cuts_at Always
-unfolding cuts_at
-cuts_parses = behind_parses (exact_sign OpenBracket) (either_parses (is_sign CloseBracket)
-    (behind_parses (exact_sign CloseBracket) (give_parses Always []))
-    (list_end_parses count_parses)
-    (λ xs v rest h _. behind_starts (is_sign CloseBracket) (Signed CloseBracket) true refl _ xs v rest h)
-    (λ xs v rest h _. joined_starts (is_sign CloseBracket) false _ _ (joined_starts (is_sign CloseBracket) false _ _
-    (item_starts (is_sign CloseBracket) count_of false (apart (exact_sign CloseBracket) count_of refl))) xs v rest h))
+pub cuts_quiet : (t : Token) → Quiet is_same cuts t
+unfolding cuts listed
+cuts_quiet t = search
 
-pub fixed_parses : Parses IsFixed fixed_at Always
-unfolding fixed_at
-fixed_parses = then_parses Always count_parses (λ count. give_parses Always (extent.Fixed count)) (anything _ _)
+pub fixed_fine : Fine is_same fixed
+unfolding fixed
+fixed_fine = search count_fine
 
-pub extent_parses : Parses IsExtent extent_at Always
-unfolding extent_at fixed_at
-extent_parses = either_parses (is_sign Question)
-    (behind_parses (exact_sign Question) (give_parses Always extent.Rows))
-    (then_parses Always count_parses (λ count. give_parses Always (extent.Fixed count)) (anything _ _))
-    (λ xs v rest h _. behind_starts (is_sign Question) (Signed Question) true refl _ xs v rest h)
-    (λ xs v rest h _. joined_starts (is_sign Question) false _ _ (item_starts (is_sign Question) count_of false (λ token v e. apart (exact_sign Question) count_of refl token v e)) xs v rest h)
+pub fixed_quiet : (t : Token) → Quiet is_same fixed t
+unfolding fixed
+fixed_quiet t = search
 
-count_takes : Takes (behind_at (is_sign Comma) (item_at count_of))
-count_takes = listed_takes (comma_listed count_parses (λ us. tt))
+pub extent_word_fine : Fine is_same extent_word
+unfolding extent_word fixed
+extent_word_fine = search (exact_sign, count_fine, apart (exact_sign Question) count_of refl) depth 12
 
-pub count_stepped : (found : List ℕ) (tokens us : List Token) (next : ℕ) (rest : List Token) → starts (is_sign Comma) tokens ≡ true → past (is_sign Comma) tokens ≡ Ok us
-    → (item_at count_of) us ≡ Ok (next, rest) →
-    rest_at (item_at count_of) found tokens ≡ rest_at (item_at count_of) (found ++ next ∷ []) rest
-unfolding rest_at
-count_stepped = behind_stepped (is_sign Comma) (item_at count_of) (count_takes)
+pub extent_word_quiet : (t : Token) → Quiet is_same extent_word t
+unfolding extent_word fixed
+extent_word_quiet t = search
 
-pub count_stop : (found : List ℕ) (tokens us : List Token) (left : ℕ) → starts (is_sign Comma) tokens ≡ true → past (is_sign Comma) tokens ≡ Ok us → (item_at count_of) us ≡ Err left
-    → rest_at (item_at count_of) found tokens ≡ Err left
-unfolding rest_at
-count_stop = behind_stop (is_sign Comma) (item_at count_of) (count_takes)
+-- how reading goes on behind a comma and a phrase, where such a phrase stops, where the comma does, and where there is none
 
-pub count_bare : (found : List ℕ) (tokens : List Token) (left : ℕ) → starts (is_sign Comma) tokens ≡ true → past (is_sign Comma) tokens ≡ Err left → rest_at (item_at count_of) found tokens ≡ Err left
-unfolding rest_at
-count_bare = behind_bare (is_sign Comma) (item_at count_of) (count_takes)
+pub comma_stepped : {A : Type 0} (one : Grammar Token A) (found : List A) (tokens us : List Token) (next : A) (rest : List Token) → starts (is_sign Comma) tokens ≡ true
+    → past (is_sign Comma) tokens ≡ Ok us → read one us ≡ Ok (next, rest) → read (later one found) tokens ≡ read (later one (found ++ next ∷ [])) rest
+unfolding later
+comma_stepped one = behind_list_stepped is_same (Signed Comma) one
 
-pub count_end : (found : List ℕ) (tokens : List Token) → starts (is_sign Comma) tokens ≡ false → rest_at (item_at count_of) found tokens ≡ Ok (found, tokens)
-unfolding rest_at
-count_end = more_end (is_sign Comma) (behind_at (is_sign Comma) (item_at count_of))
+pub comma_stop : {A : Type 0} (one : Grammar Token A) (found : List A) (tokens us : List Token) (left : ℕ) → starts (is_sign Comma) tokens ≡ true
+    → past (is_sign Comma) tokens ≡ Ok us → read one us ≡ Err left → read (later one found) tokens ≡ Err left
+unfolding later
+comma_stop one = behind_list_stop is_same (Signed Comma) one
 
-pub ruleset count_steps = (count_stepped, count_stop, count_bare, count_end)
+pub comma_bare : {A : Type 0} (one : Grammar Token A) (found : List A) (tokens : List Token) (left : ℕ) → starts (is_sign Comma) tokens ≡ true
+    → past (is_sign Comma) tokens ≡ Err left → read (later one found) tokens ≡ Err left
+unfolding later
+comma_bare one = behind_list_bare is_same (Signed Comma) one
 
-fixed_takes : Takes (behind_at (is_sign Comma) fixed_at)
-fixed_takes = listed_takes (comma_listed fixed_parses (λ us. tt))
+pub comma_end : {A : Type 0} (one : Grammar Token A) (found : List A) (tokens : List Token) → starts (is_sign Comma) tokens ≡ false → read (later one found) tokens ≡ Ok (found, tokens)
+unfolding later
+comma_end one = behind_list_end is_same (Signed Comma) one
 
-pub fixed_stepped : (found : List ExtentWord) (tokens us : List Token) (next : ExtentWord) (rest : List Token) → starts (is_sign Comma) tokens ≡ true → past (is_sign Comma) tokens ≡ Ok us
-    → fixed_at us ≡ Ok (next, rest) →
-    rest_at fixed_at found tokens ≡ rest_at fixed_at (found ++ next ∷ []) rest
-unfolding rest_at
-fixed_stepped = behind_stepped (is_sign Comma) fixed_at (fixed_takes)
+pub ruleset comma_steps = (comma_stepped, comma_stop, comma_bare, comma_end)
 
-pub fixed_stop : (found : List ExtentWord) (tokens us : List Token) (left : ℕ) → starts (is_sign Comma) tokens ≡ true → past (is_sign Comma) tokens ≡ Ok us → fixed_at us ≡ Err left
-    → rest_at fixed_at found tokens ≡ Err left
-unfolding rest_at
-fixed_stop = behind_stop (is_sign Comma) fixed_at (fixed_takes)
+-- the same for counts, each of one token
+pub count_stepped : (found : List ℕ) (tokens us : List Token) (next : ℕ) (rest : List Token) → starts (is_sign Comma) tokens ≡ true → past (is_sign Comma) tokens ≡ Ok us → item_at count_of us ≡ Ok (next, rest)
+    → read (later count found) tokens ≡ read (later count (found ++ next ∷ [])) rest
+count_stepped = comma_stepped count
 
-pub fixed_bare : (found : List ExtentWord) (tokens : List Token) (left : ℕ) → starts (is_sign Comma) tokens ≡ true → past (is_sign Comma) tokens ≡ Err left → rest_at fixed_at found tokens ≡ Err left
-unfolding rest_at
-fixed_bare = behind_bare (is_sign Comma) fixed_at (fixed_takes)
+pub count_stop : (found : List ℕ) (tokens us : List Token) (left : ℕ) → starts (is_sign Comma) tokens ≡ true → past (is_sign Comma) tokens ≡ Ok us → item_at count_of us ≡ Err left
+    → read (later count found) tokens ≡ Err left
+count_stop = comma_stop count
 
-pub fixed_end : (found : List ExtentWord) (tokens : List Token) → starts (is_sign Comma) tokens ≡ false → rest_at fixed_at found tokens ≡ Ok (found, tokens)
-unfolding rest_at
-fixed_end = more_end (is_sign Comma) (behind_at (is_sign Comma) fixed_at)
+pub ruleset count_steps = (count_stepped, count_stop, comma_bare, comma_end)
 
-pub ruleset fixed_steps = (fixed_stepped, fixed_stop, fixed_bare, fixed_end)
+-- the same where the list is that of the values of what was found
+pub viewed_stepped : {A B : Type 0} (view : B → A) (one : Grammar Token A) (found : List B) (tokens us : List Token) (next : B) (rest : List Token) → starts (is_sign Comma) tokens ≡ true
+    → past (is_sign Comma) tokens ≡ Ok us → read one us ≡ Ok (view next, rest) → read (later one (map view found)) tokens ≡ read (later one (map view (found ++ next ∷ []))) rest
+viewed_stepped view one found tokens us next rest passes is then =
+    comma_stepped one (map view found) tokens us (view next) rest passes is then ∙ ap (λ k. read (later one k) rest) (sym (map-append view found (next ∷ [])))
 
-extent_takes : Takes (behind_at (is_sign Comma) extent_at)
-extent_takes = listed_takes (comma_listed extent_parses (λ us. tt))
-
-pub extent_stepped : (found : List ExtentWord) (tokens us : List Token) (next : ExtentWord) (rest : List Token) → starts (is_sign Comma) tokens ≡ true → past (is_sign Comma) tokens ≡ Ok us
-    → extent_at us ≡ Ok (next, rest) →
-    rest_at extent_at found tokens ≡ rest_at extent_at (found ++ next ∷ []) rest
-unfolding rest_at
-extent_stepped = behind_stepped (is_sign Comma) extent_at (extent_takes)
-
-pub extent_stop : (found : List ExtentWord) (tokens us : List Token) (left : ℕ) → starts (is_sign Comma) tokens ≡ true → past (is_sign Comma) tokens ≡ Ok us → extent_at us ≡ Err left
-    → rest_at extent_at found tokens ≡ Err left
-unfolding rest_at
-extent_stop = behind_stop (is_sign Comma) extent_at (extent_takes)
-
-pub extent_bare : (found : List ExtentWord) (tokens : List Token) (left : ℕ) → starts (is_sign Comma) tokens ≡ true → past (is_sign Comma) tokens ≡ Err left → rest_at extent_at found tokens ≡ Err left
-unfolding rest_at
-extent_bare = behind_bare (is_sign Comma) extent_at (extent_takes)
-
-pub extent_end : (found : List ExtentWord) (tokens : List Token) → starts (is_sign Comma) tokens ≡ false → rest_at extent_at found tokens ≡ Ok (found, tokens)
-unfolding rest_at
-extent_end = more_end (is_sign Comma) (behind_at (is_sign Comma) extent_at)
-
-pub ruleset extent_steps = (extent_stepped, extent_stop, extent_bare, extent_end)
+pub ruleset viewed_steps = (viewed_stepped, comma_stop, comma_bare, comma_end)

@@ -1,87 +1,128 @@
--- How a mapping is read.
-use Rattle.std.proofs.Common.{ℕ, zero, suc, true, List, Option, Some, None, Result, codes, refl, arith}
-use Rattle.phrases.specs.Phrases.{Behind, IsItem, Joined, IsNothing}
-use Rattle.phrases.specs.Reading.{item_at, behind_at, then_at, give_at}
-use Rattle.phrases.specs.ParsesLaws.{Always, Parses, behind_parses, either_parses, give_parses, item_parses, then_parses}
-use Rattle.phrases.specs.MoreLaws.{behind_starts}
+-- Mappings, and the widths of chosen leaves in them, are read by first tokens.
+use Rattle.std.proofs.Common.{◌≡◌, ℕ, zero, suc, ◌≤◌, false, inr, List, Option, Some, None, codes, refl, arith}
+use Rattle.phrases.specs.Grammar.{Grammar, Is, item, nothing}
+use Rattle.phrases.specs.FineLaws.{Fine, Quiet, anyway, firsts_any}
+use Rattle.phrases.specs.UnderLaws.{Under, equal, empty, behind, joined, either, fewer, alike, wider}
+use Rattle.phrases.specs.WiderLaws.{Wider, joined_wider}
 use Rattle.extents.specs.declared.order.Order.{Order}
-use Rattle.line_tokens.specs.declared.sign.Sign.TheVariants.{OpenBrace, OpenParen, CloseParen, Comma, Arrow}
-use Rattle.record_dim.specs.declared.leaf_type.LeafType.TheVariants.{Bool as Truth, U8}
 use Rattle.extents.specs.declared.order.Order.TheVariants.{Row}
+use Rattle.line_tokens.specs.declared.sign.Sign.{Sign}
+use Rattle.line_tokens.specs.declared.sign.Sign.TheVariants.{OpenBrace, OpenParen}
+use Rattle.record_dim.specs.declared.leaf_type.LeafType.TheVariants.{Bool as Truth, U8}
 use Rattle.places.specs.declared.forms.AosForm.TheVariants as aos
 use Rattle.places.specs.declared.forms.SoaForm.TheVariants as soa
 use Rattle.map_expr.specs.declared.widths.FieldWidth.{FieldWidth}
-use Rattle.map_expr.specs.Terms.{Term as MapTerm, Aos, Soa, Aosoa, BitAos, BitSoa, Split, Byteswap, Bytesplit, Change, Count, Heat, Named}
+use Rattle.map_expr.specs.Terms.{Term as MapTerm, Named}
 use Rattle.line_grammar.specs.declared.line.MapWord.{MapWord}
 use Rattle.line_grammar.specs.declared.line.MapWord.TheVariants as form
 use Rattle.line_grammar.specs.declared.token.Token.{Token}
-use Rattle.line_grammar.specs.declared.token.Token.TheVariants.{Word, Sign as Signed}
+use Rattle.line_grammar.specs.declared.token.Token.TheVariants.{Word}
 use Rattle.line_grammar.specs.declared.version.Version.{Version}
-use Rattle.line_grammar.specs.Tokens.{is_sign, type_of, integer_type_of, token_order, aos_form_of, soa_form_of, map_word}
-use Rattle.line_grammar.specs.Grammar.{IsBits, IsForm, IsFormOrName, IsMap}
-use Rattle.line_phrases.specs.Maps.{aos_at, aosoa_at, bits_at, form_at, form_or_name_at, map_at, soa_at}
-use Rattle.line_phrases.specs.BasicsLaws.{AfterLevel, Not, anything, behind_after, behind_not, count_parses, exact_sign, name_parses}
-use Rattle.line_phrases.specs.PathsLaws.{path_parses}
-use Rattle.line_phrases.specs.WidthLaws.{field_widths_parses}
+use Rattle.line_grammar.specs.Tokens.{is_same, is_sign, map_word, type_of, integer_type_of, token_order}
+use Rattle.line_grammar.specs.Language.{part, braced_widths, field_width, field_widths, inside_aos, inside_aosoa, inside_bits, inside_form, inside_soa, form_or_name, mapping, mapping_within}
+use Rattle.line_phrases.specs.BasicsLaws.{count_fine, exact_sign, name_fine}
+use Rattle.line_phrases.specs.ListLaws.{listed_fine, listed_quiet}
+use Rattle.line_phrases.specs.PathsLaws.{path_fine, path_quiet}
 
-order_parses : Parses (IsItem token_order) (item_at token_order) Always
-order_parses = item_parses token_order (Word (codes "row")) Row refl
+field_width_fine : Fine is_same field_width
+unfolding field_width part
+field_width_fine = search (exact_sign, path_fine, path_quiet, count_fine) depth 12
 
-pub type_parses : Parses (IsItem type_of) (item_at type_of) Always
-type_parses = item_parses type_of (Word (codes "bool")) Truth refl
+field_widths_fine : (version : Version) → Fine is_same (field_widths version)
+unfolding field_widths braced_widths field_width
+field_widths_fine version = search (exact_sign, field_width_fine, listed_fine field_width, listed_quiet field_width) depth 12
 
-pub integer_type_parses : Parses (IsItem integer_type_of) (item_at integer_type_of) Always
-integer_type_parses = item_parses integer_type_of (Word (codes "u8")) U8 refl
+field_widths_quiet : (version : Version) (t : Token) → is_sign OpenBrace t ≡ false → Quiet is_same (field_widths version) t
+unfolding field_widths braced_widths
+field_widths_quiet version t e = search depth 12
 
--- a map, and what is made of it
-inner_parses : {Is : List Token → MapTerm → Type 0} {read : List Token → Result (MapTerm × List Token) ℕ} → Parses Is read (Not OpenParen) → (f : MapTerm → MapTerm) →
-    Parses (Joined Is (λ inner. IsNothing (f inner))) (then_at read (λ inner. give_at (f inner))) (Not OpenParen)
-inner_parses p f = then_parses (Not OpenParen) p (λ inner. give_parses (Not OpenParen) (f inner)) (λ a ys v rest h after. rw h.0 after)
+pub type_fine : Fine is_same (item type_of)
+type_fine = (Word (codes "bool"), Truth, refl)
 
--- an order, and what is made of it
-ordered_parses : (f : Order → MapTerm) → Parses (Behind (Signed Comma) (Joined (IsItem token_order) (λ order. IsNothing (f order))))
-    (behind_at (is_sign Comma) (then_at (item_at token_order) (λ order. give_at (f order)))) (Not OpenParen)
-ordered_parses f = behind_parses (exact_sign Comma) (then_parses Always order_parses (λ order. give_parses (Not OpenParen) (f order)) (anything _ _))
+integer_type_fine : Fine is_same (item integer_type_of)
+integer_type_fine = (Word (codes "u8"), U8, refl)
 
--- a width, those of chosen leaves, and an order
-bits_parses : (version : Version) (value : ℕ → List FieldWidth → Order → MapTerm) → Parses (IsBits version value) (bits_at version value) (Not OpenParen)
-unfolding bits_at
-bits_parses version value = then_parses Always count_parses (λ width. then_parses (Not OpenBrace) (field_widths_parses version)
-    (λ fields. ordered_parses (λ order. value width fields order))
-    (λ a ys v rest h after. behind_not OpenBrace (Signed Comma) refl _ ys v rest h)) (anything _ _)
+order_fine : Fine is_same (item token_order)
+order_fine = (Word (codes "row"), Row, refl)
 
-pub form_parses : (version : Version) {Is : List Token → MapTerm → Type 0} {read : List Token → Result (MapTerm × List Token) ℕ} → Parses Is read (Not OpenParen) → (form : MapWord)
-    → Parses (IsForm version Is form) (form_at version read form) (Not OpenParen)
-unfolding form_at aos_at soa_at aosoa_at
-form_parses version p form.Aos = then_parses Always (item_parses aos_form_of (Word (codes "packed")) aos.Packed refl) (λ form. ordered_parses (λ order. Aos form order)) (anything _ _)
-form_parses version p form.Soa = then_parses Always (item_parses soa_form_of (Word (codes "single")) soa.Single refl) (λ form. ordered_parses (λ order. Soa form order)) (anything _ _)
-form_parses version p form.Aosoa = then_parses Always count_parses (λ lanes. ordered_parses (λ order. Aosoa lanes order)) (anything _ _)
-form_parses version p form.BitAos = bits_parses version BitAos
-form_parses version p form.BitSoa = bits_parses version BitSoa
-form_parses version p form.Split = then_parses (AfterLevel 6) path_parses (λ path. behind_parses (exact_sign Comma) (then_parses (Not OpenParen) p
-    (λ first. behind_parses (exact_sign Comma) (inner_parses p (λ rest. Split path first rest)))
-    (λ a ys v rest h after. behind_not OpenParen (Signed Comma) refl _ ys v rest h)))
-    (λ a ys v rest h after. behind_after 6 (Signed Comma) (omega arith) _ ys v rest h)
-form_parses version p form.Byteswap = inner_parses p Byteswap
-form_parses version p form.Bytesplit = inner_parses p Bytesplit
-form_parses version p form.Change = then_parses Always type_parses (λ from. behind_parses (exact_sign Arrow) (then_parses Always integer_type_parses
-    (λ to. behind_parses (exact_sign Comma) (inner_parses p (λ inner. Change from to inner))) (anything _ _))) (anything _ _)
-form_parses version p form.Count = inner_parses p Count
-form_parses version p form.Heat = then_parses Always count_parses (λ granule. behind_parses (exact_sign Comma) (inner_parses p (λ inner. Heat granule inner))) (anything _ _)
+bits_fine : (version : Version) (value : ℕ → List FieldWidth → Order → MapTerm) → Fine is_same (inside_bits version value)
+unfolding inside_bits
+bits_fine version value = search (count_fine, exact_sign, order_fine, field_widths_fine, field_widths_quiet, anyway, firsts_any) depth 12
 
-form_or_name_parses : (version : Version) {Is : List Token → MapTerm → Type 0} {read : List Token → Result (MapTerm × List Token) ℕ}
-    → Parses Is read (Not OpenParen) → (word : List ℕ) (form : Option MapWord)
-    → Parses (IsFormOrName version Is word form) (form_or_name_at version read word form) (Not OpenParen)
-unfolding form_or_name_at
-form_or_name_parses version p word None = give_parses (Not OpenParen) (Named word)
-form_or_name_parses version p word (Some form) = either_parses (is_sign OpenParen)
-    (behind_parses (exact_sign OpenParen) (then_parses (Not OpenParen) (form_parses version p form) (λ map. behind_parses (exact_sign CloseParen) (give_parses (Not OpenParen) map))
-    (λ a ys v rest h after. behind_not OpenParen (Signed CloseParen) refl _ ys v rest h)))
-    (give_parses (Not OpenParen) (Named word))
-    (λ xs v rest h _. behind_starts (is_sign OpenParen) (Signed OpenParen) true refl _ xs v rest h)
-    (λ xs v rest h after. rw h.0 after)
+-- what is read by first tokens, and goes on with no token but this sign
+pub record GoesOn {A : Type 0} (sign : Sign) (one : Grammar Token A) : Type 0 where
+  pub fine : Fine is_same one
+  pub quiet : (t : Token) → is_sign sign t ≡ false → Quiet is_same one t
 
-pub map_parses : (version : Version) (n : ℕ) → Parses (IsMap version n) (map_at version n) (Not OpenParen)
-unfolding map_at
-map_parses version zero = then_parses Always name_parses (λ word. give_parses (Not OpenParen) (Named word)) (anything _ _)
-map_parses version (suc n) = then_parses Always name_parses (λ word. form_or_name_parses version (map_parses version n) word (map_word word)) (anything _ _)
+module _ (version : Version) (map : Grammar Token MapTerm) (f : GoesOn OpenParen map) where
+  inside_fine : (word : MapWord) → Fine is_same (inside_form version map word)
+  unfolding inside_form inside_aos inside_soa inside_aosoa part
+  inside_fine form.Aos = ((Word (codes "packed"), aos.Packed, refl), search (exact_sign, order_fine) depth 12)
+  inside_fine form.Soa = ((Word (codes "single"), soa.Single, refl), search (exact_sign, order_fine) depth 12)
+  inside_fine form.BitAos = bits_fine version _
+  inside_fine form.BitSoa = bits_fine version _
+  inside_fine _ = search (exact_sign, type_fine, integer_type_fine, count_fine, path_fine, path_quiet, order_fine, f.fine, f.quiet) depth 20
+
+  inside_quiet : (word : MapWord) (t : Token) → is_sign OpenParen t ≡ false → Quiet is_same (inside_form version map word) t
+  unfolding inside_form inside_aos inside_soa inside_aosoa inside_bits
+  inside_quiet form.Aos t e = search
+  inside_quiet _ t e = search (f.quiet, anyway) depth 20
+
+  form_or_name_fine : (word : List ℕ) (form : Option MapWord) → Fine is_same (form_or_name version map word form)
+  unfolding form_or_name
+  form_or_name_fine word None = tt
+  form_or_name_fine word (Some form) = search (exact_sign, inside_fine, inside_quiet) depth 12
+
+  form_or_name_quiet : (word : List ℕ) (form : Option MapWord) (t : Token) → is_sign OpenParen t ≡ false → Quiet is_same (form_or_name version map word form) t
+  unfolding form_or_name
+  form_or_name_quiet word None t e = tt
+  form_or_name_quiet word (Some form) t e = search
+
+within : (version : Version) (n : ℕ) → GoesOn OpenParen (mapping_within version n)
+unfolding mapping_within
+within version zero = record { fine = search name_fine; quiet = λ t e. search }
+within version (suc n) = record {
+  fine = (name_fine, λ word. (form_or_name_fine version (mapping_within version n) (within version n) word (map_word word), search (firsts_any)));
+  quiet = λ t e word. (form_or_name_quiet version (mapping_within version n) (within version n) word (map_word word) t e, search (anyway));
+}
+
+-- deeper
+
+abbrev Deeper : ℕ → Grammar Token MapTerm → Grammar Token MapTerm → Type 1
+Deeper n one more = Under is_same MapTerm n one more
+
+inside_under : (version : Version) {n : ℕ} {one more : Grammar Token MapTerm} → Deeper n one more → (word : MapWord) → Deeper n (inside_form version one word) (inside_form version more word)
+unfolding inside_form
+inside_under version u form.Split = joined equal (λ path. fewer (behind (joined u (λ first. fewer (behind (joined u (λ rest. equal)))))))
+inside_under version u form.Byteswap = joined u (λ inner. equal)
+inside_under version u form.Bytesplit = joined u (λ inner. equal)
+inside_under version u form.Change = joined equal (λ from. fewer (behind (joined equal (λ to. fewer (behind (joined u (λ inner. equal)))))))
+inside_under version u form.Count = joined u (λ inner. equal)
+inside_under version u form.Heat = joined equal (λ granule. fewer (behind (joined u (λ inner. equal))))
+inside_under version u other = equal
+
+form_or_name_under : (version : Version) {n : ℕ} {one more : Grammar Token MapTerm} → Deeper n one more → (word : List ℕ) (form : Option MapWord)
+    → Deeper (suc n) (form_or_name version one word form) (form_or_name version more word form)
+unfolding form_or_name
+form_or_name_under version u word None = equal
+form_or_name_under version u word (Some form) = either (λ t. refl) (behind (joined (inside_under version u form) (λ map. equal))) equal
+
+only_name : (version : Version) (map : Grammar Token MapTerm) (word : List ℕ) (form : Option MapWord) → Wider (Is (nothing (Named word))) (Is (form_or_name version map word form))
+unfolding form_or_name
+only_name version map word None xs v h = h
+only_name version map word (Some form) xs v h = inr h
+
+within_under : (version : Version) (n m : ℕ) → n ≤ m → Deeper n (mapping_within version n) (mapping_within version m)
+unfolding mapping_within
+within_under version zero zero le = equal
+within_under version (suc n) zero le = absurd (omega arith)
+within_under version zero (suc m) le = empty (joined_wider (λ xs v h. h) (λ word. only_name version (mapping_within version m) word (map_word word))) refl
+within_under version (suc n) (suc m) le = joined equal (λ word. form_or_name_under version (within_under version n m (omega arith)) word (map_word word))
+
+pub mapping_fine : (version : Version) → Fine is_same (mapping version)
+unfolding mapping
+mapping_fine version = ((λ n. (within version n).fine), (λ n m le. wider (within_under version n m le)), λ n m le. alike (within_under version n m le))
+
+pub mapping_quiet : (version : Version) (t : Token) → is_sign OpenParen t ≡ false → Quiet is_same (mapping version) t
+unfolding mapping
+mapping_quiet version t e = λ n. (within version n).quiet t e

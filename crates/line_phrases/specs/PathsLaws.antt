@@ -1,62 +1,57 @@
--- How a path is read, and how its reading goes on.
+-- A path is read by first tokens, and how its reading goes on.
 use Rattle.std.proofs.lemmas.Bool.{or_cases}
-use Rattle.std.proofs.Common.{◌≡◌, ℕ, Bool, true, false, ◌||◌, ◌⊎◌, inl, inr, List, [], ◌∷◌, ◌++◌, Ok, Err, refl, sym, ap}
-use Rattle.phrases.specs.Reading.{starts}
-use Rattle.phrases.specs.ParsesLaws.{Always, Parses, behind_parses, either_parses, give_parses, then_parses}
-use Rattle.phrases.specs.MoreLaws.{Listed, behind_starts, listed_takes, more_end, more_parses, more_stepped, more_stop}
-use Rattle.line_tokens.specs.declared.sign.Sign.TheVariants.{OpenBracket, CloseBracket, Dot}
+use Rattle.std.proofs.Common.{◌≡◌, ℕ, true, false, inl, inr, List, [], ◌∷◌, ◌++◌, Ok, Err, refl, sym, ap}
+use Rattle.phrases.specs.Reading.{first, starts}
+use Rattle.phrases.specs.FineLaws.{Fine, Quiet, may_be_empty}
+use Rattle.phrases.specs.LoopLaws.{list_end, list_stepped, list_stop}
+use Rattle.line_tokens.specs.declared.sign.Sign.TheVariants.{OpenBracket, Dot}
 use Rattle.record_dim.specs.declared.path.PathStep.{PathStep}
-use Rattle.record_dim.specs.declared.path.PathStep.TheVariants as step
 use Rattle.line_grammar.specs.declared.token.Token.{Token}
-use Rattle.line_grammar.specs.declared.token.Token.TheVariants.{Sign as Signed}
-use Rattle.line_grammar.specs.Tokens.{is_sign}
-use Rattle.line_grammar.specs.Grammar.{IsPart, IsPath}
+use Rattle.line_grammar.specs.Tokens.{is_same, is_sign}
+use Rattle.line_grammar.specs.Language.{read, part, parts, path}
 use Rattle.line_grammar.specs.SignsLaws.{sign_only}
-use Rattle.line_phrases.specs.Paths.{begins_part, part_at, parts_at, path_at}
-use Rattle.line_phrases.specs.BasicsLaws.{AfterLevel, anything, count_parses, exact_sign, level_of, name_parses, starts_false}
+use Rattle.line_phrases.specs.BasicsLaws.{count_fine, exact_sign, level_of, name_fine}
 
-pub part_parses : Parses IsPart part_at Always
-unfolding part_at
-part_parses = either_parses (is_sign Dot)
-    (behind_parses (exact_sign Dot) (then_parses Always name_parses (λ name. give_parses Always (step.Name name)) (anything _ _)))
-    (behind_parses (exact_sign OpenBracket) (then_parses Always count_parses (λ number. behind_parses (exact_sign CloseBracket) (give_parses Always (step.At number))) (anything _ _)))
-    (λ xs v rest h _. behind_starts (is_sign Dot) (Signed Dot) true refl _ xs v rest h)
-    (λ xs v rest h _. behind_starts (is_sign Dot) (Signed OpenBracket) false refl _ xs v rest h)
+part_fine : Fine is_same part
+unfolding part
+part_fine = search (name_fine, count_fine, exact_sign)
 
-part_level : (token : Token) → begins_part token ≡ true → 6 ≡ level_of token
-part_level token h = elim (or_cases (is_sign Dot token) (is_sign OpenBracket token) h) [
-  | inl dot ↦ sym (ap level_of (sign_only Dot token dot))
-  | inr bracket ↦ sym (ap level_of (sign_only OpenBracket token bracket))
+-- behind a part anything may follow
+part_quiet : (t : Token) → Quiet is_same part t
+unfolding part
+part_quiet t = search
+
+pub part_level : (t : Token) → first is_same part t ≡ true → 6 ≡ level_of t
+unfolding part
+part_level t h = elim (or_cases (is_sign Dot t) (is_sign OpenBracket t) h) [
+  | inl dot ↦ sym (ap level_of (sign_only Dot t dot))
+  | inr bracket ↦ sym (ap level_of (sign_only OpenBracket t bracket))
 ]
 
-part_begins : (xs : List Token) (v : PathStep) (rest : List Token) → IsPart xs v → starts begins_part (xs ++ rest) ≡ true
-part_begins xs v rest (inl h) = behind_starts begins_part (Signed Dot) true refl _ xs v rest h
-part_begins xs v rest (inr h) = behind_starts begins_part (Signed OpenBracket) true refl _ xs v rest h
+pub path_fine : Fine is_same path
+unfolding path parts part
+path_fine = search (name_fine, part_fine, part_quiet) depth 12
 
-pub parts_listed : Listed IsPart begins_part part_at Always (AfterLevel 6)
-parts_listed = record {
-  one = part_parses;
-  begins = part_begins;
-  goes_on = λ rest h. tt;
-  ends = starts_false begins_part 6 part_level;
-  last = λ rest h. tt;
-}
+-- what begins no part does not go on with a path
+pub path_quiet : (t : Token) → first is_same part t ≡ false → Quiet is_same path t
+unfolding path parts
+path_quiet t e = search (part_quiet)
 
-pub path_parses : Parses IsPath path_at (AfterLevel 6)
-unfolding path_at parts_at
-path_parses = then_parses Always name_parses (λ name. more_parses parts_listed (step.Name name ∷ [])) (anything _ _)
+part_solid : may_be_empty part ≡ false
+unfolding part
+part_solid = refl
 
-pub parts_stepped : (path : List PathStep) (tokens : List Token) (next : PathStep) (rest : List Token) → starts begins_part tokens ≡ true → part_at tokens ≡ Ok (next, rest) →
-    parts_at path tokens ≡ parts_at (path ++ next ∷ []) rest
-unfolding parts_at
-parts_stepped = more_stepped begins_part part_at (listed_takes parts_listed)
+pub parts_stepped : (found : List PathStep) (tokens : List Token) (next : PathStep) (rest : List Token) → starts (first is_same part) tokens ≡ true → read part tokens ≡ Ok (next, rest)
+    → read (parts found) tokens ≡ read (parts (found ++ next ∷ [])) rest
+unfolding parts
+parts_stepped = list_stepped is_same part part_solid
 
-pub parts_stop : (path : List PathStep) (tokens : List Token) (left : ℕ) → starts begins_part tokens ≡ true → part_at tokens ≡ Err left → parts_at path tokens ≡ Err left
-unfolding parts_at
-parts_stop = more_stop begins_part part_at (listed_takes parts_listed)
+pub parts_stop : (found : List PathStep) (tokens : List Token) (left : ℕ) → starts (first is_same part) tokens ≡ true → read part tokens ≡ Err left → read (parts found) tokens ≡ Err left
+unfolding parts
+parts_stop = list_stop is_same part part_solid
 
-pub parts_end : (path : List PathStep) (tokens : List Token) → starts begins_part tokens ≡ false → parts_at path tokens ≡ Ok (path, tokens)
-unfolding parts_at
-parts_end = more_end begins_part part_at
+pub parts_end : (found : List PathStep) (tokens : List Token) → starts (first is_same part) tokens ≡ false → read (parts found) tokens ≡ Ok (found, tokens)
+unfolding parts
+parts_end = list_end is_same part part_solid
 
 pub ruleset path_steps = (parts_stepped, parts_stop, parts_end)

@@ -1,8 +1,6 @@
 ghost use Rattle.std.specs.Prelude.{◌≡◌, ◌<◌, length, OnOk, IfErr};
-ghost use Rattle.phrases.specs.Reading.{item_at};
-ghost use Rattle.line_grammar.specs.Tokens.{count_of};
+ghost use Rattle.line_grammar.specs.Language.{read, count, listed, bracket_list, cuts, fixed, extent_word};
 ghost use Rattle.line_phrases.specs.Inner.Gives.{Gives, IsSyntax};
-ghost use Rattle.line_phrases.specs.Lists.{listed_at, bracket_list_at, cuts_at, fixed_at, extent_at};
 
 use crate::{ReadError, Tokens};
 use extents::ExtentWord;
@@ -11,9 +9,9 @@ use line_tokens::Sign;
 use std::alloc::Global;
 
 /// The index of a row, in brackets.
-#[tactic(auto, unfolding(crate::specs::Lists::bracket_list_at))]
+#[tactic(auto, unfolding(line_grammar::specs::Language::bracket_list))]
 pub fn read_index(alloc: Global, tokens: &mut Tokens) -> Result<IndexWords, ReadError>
-    ensures gives { Gives (λ x. (x, tokens.new)) result (bracket_list_at (item_at count_of) tokens.old) }
+    ensures gives { Gives (λ x. (x, tokens.new)) result (read (bracket_list count) tokens.old) }
     ensures shorter { OnOk result (length tokens.new < length tokens.old) }
 {
     tokens.sign(Sign::OpenBracket)?;
@@ -23,9 +21,9 @@ pub fn read_index(alloc: Global, tokens: &mut Tokens) -> Result<IndexWords, Read
 }
 
 /// The cuts between actors, in brackets. There may be none.
-#[tactic(auto, unfolding(crate::specs::Lists::cuts_at))]
+#[tactic(auto, unfolding(line_grammar::specs::Language::cuts))]
 pub fn read_cuts(alloc: Global, tokens: &mut Tokens) -> Result<IndexWords, ReadError>
-    ensures { Gives (λ x. (x, tokens.new)) result (cuts_at tokens.old) }
+    ensures { Gives (λ x. (x, tokens.new)) result (read cuts tokens.old) }
 {
     tokens.sign(Sign::OpenBracket)?;
     if tokens.begins_sign(Sign::CloseBracket) {
@@ -37,9 +35,9 @@ pub fn read_cuts(alloc: Global, tokens: &mut Tokens) -> Result<IndexWords, ReadE
     Ok(cuts)
 }
 
-#[tactic(auto, unfolding(crate::specs::Lists::listed_at), using(crate::specs::ListLaws::count_steps))]
+#[tactic(auto, unfolding(line_grammar::specs::Language::listed), using(crate::specs::ListLaws::count_steps))]
 fn read_counts(alloc: Global, tokens: &mut Tokens) -> Result<IndexWords, ReadError>
-    ensures gives { Gives (λ x. (x, tokens.new)) result (listed_at (item_at count_of) tokens.old) }
+    ensures gives { Gives (λ x. (x, tokens.new)) result (read (listed count) tokens.old) }
     ensures shorter { OnOk result (length tokens.new < length tokens.old) }
 {
     let mut counts = IndexWords::new(alloc);
@@ -52,9 +50,9 @@ fn read_counts(alloc: Global, tokens: &mut Tokens) -> Result<IndexWords, ReadErr
 }
 
 /// The extents of a view, in brackets, which are all numbers.
-#[tactic(auto, unfolding(crate::specs::Lists::bracket_list_at))]
+#[tactic(auto, unfolding(line_grammar::specs::Language::bracket_list))]
 pub fn read_fixed_extents(alloc: Global, tokens: &mut Tokens) -> Result<ExtentWords, ReadError>
-    ensures gives { Gives (λ x. (x, tokens.new)) result (bracket_list_at fixed_at tokens.old) }
+    ensures gives { Gives (λ x. (x, tokens.new)) result (read (bracket_list fixed) tokens.old) }
     ensures shorter { OnOk result (length tokens.new < length tokens.old) }
 {
     tokens.sign(Sign::OpenBracket)?;
@@ -63,9 +61,9 @@ pub fn read_fixed_extents(alloc: Global, tokens: &mut Tokens) -> Result<ExtentWo
     Ok(words)
 }
 
-#[tactic(auto, unfolding(crate::specs::Lists::listed_at), using(crate::specs::ListLaws::fixed_steps))]
+#[tactic(auto, unfolding(line_grammar::specs::Language::listed), using(crate::specs::ListLaws::comma_steps))]
 fn read_fixed_list(alloc: Global, tokens: &mut Tokens) -> Result<ExtentWords, ReadError>
-    ensures gives { Gives (λ x. (x, tokens.new)) result (listed_at fixed_at tokens.old) }
+    ensures gives { Gives (λ x. (x, tokens.new)) result (read (listed fixed) tokens.old) }
     ensures shorter { OnOk result (length tokens.new < length tokens.old) }
 {
     let mut words = ExtentWords::new(alloc);
@@ -77,9 +75,9 @@ fn read_fixed_list(alloc: Global, tokens: &mut Tokens) -> Result<ExtentWords, Re
     Ok(words)
 }
 
-#[tactic(auto, unfolding(crate::specs::Lists::fixed_at))]
+#[tactic(auto, unfolding(line_grammar::specs::Language::fixed))]
 fn read_fixed(tokens: &mut Tokens) -> Result<ExtentWord, ReadError>
-    ensures gives { Gives (λ x. (x, tokens.new)) result (fixed_at tokens.old) }
+    ensures gives { Gives (λ x. (x, tokens.new)) result (read fixed tokens.old) }
     ensures shorter { OnOk result (length tokens.new < length tokens.old) }
     ensures fault { IfErr result IsSyntax }
 {
@@ -88,9 +86,9 @@ fn read_fixed(tokens: &mut Tokens) -> Result<ExtentWord, ReadError>
 }
 
 /// The extents of a view, in brackets, each a number or `?`.
-#[tactic(auto, unfolding(crate::specs::Lists::bracket_list_at))]
+#[tactic(auto, unfolding(line_grammar::specs::Language::bracket_list))]
 pub fn read_extents(alloc: Global, tokens: &mut Tokens) -> Result<ExtentWords, ReadError>
-    ensures gives { Gives (λ x. (x, tokens.new)) result (bracket_list_at extent_at tokens.old) }
+    ensures gives { Gives (λ x. (x, tokens.new)) result (read (bracket_list extent_word) tokens.old) }
     ensures shorter { OnOk result (length tokens.new < length tokens.old) }
 {
     tokens.sign(Sign::OpenBracket)?;
@@ -99,9 +97,9 @@ pub fn read_extents(alloc: Global, tokens: &mut Tokens) -> Result<ExtentWords, R
     Ok(words)
 }
 
-#[tactic(auto, unfolding(crate::specs::Lists::listed_at), using(crate::specs::ListLaws::extent_steps))]
+#[tactic(auto, unfolding(line_grammar::specs::Language::listed), using(crate::specs::ListLaws::comma_steps))]
 fn read_extent_list(alloc: Global, tokens: &mut Tokens) -> Result<ExtentWords, ReadError>
-    ensures gives { Gives (λ x. (x, tokens.new)) result (listed_at extent_at tokens.old) }
+    ensures gives { Gives (λ x. (x, tokens.new)) result (read (listed extent_word) tokens.old) }
     ensures shorter { OnOk result (length tokens.new < length tokens.old) }
 {
     let mut words = ExtentWords::new(alloc);
@@ -113,9 +111,9 @@ fn read_extent_list(alloc: Global, tokens: &mut Tokens) -> Result<ExtentWords, R
     Ok(words)
 }
 
-#[tactic(auto, unfolding(crate::specs::Lists::extent_at))]
+#[tactic(auto, unfolding(line_grammar::specs::Language::extent_word))]
 fn read_extent(tokens: &mut Tokens) -> Result<ExtentWord, ReadError>
-    ensures gives { Gives (λ x. (x, tokens.new)) result (extent_at tokens.old) }
+    ensures gives { Gives (λ x. (x, tokens.new)) result (read extent_word tokens.old) }
     ensures shorter { OnOk result (length tokens.new < length tokens.old) }
     ensures fault { IfErr result IsSyntax }
 {

@@ -1,14 +1,14 @@
 ghost use Rattle.std.specs.Prelude.{◌≡◌, ◌<◌, length, IfErr, OnOk};
+ghost use Rattle.line_grammar.specs.Language.{read, constant};
 ghost use Rattle.line_phrases.specs.Inner.Gives.{Gives, IsSyntax};
-ghost use Rattle.line_phrases.specs.Constants.{const_at};
 
 use crate::{ReadError, Tokens};
 use line_tokens::Sign;
 
 /// A number with or without a minus.
-#[tactic(auto, unfolding(crate::specs::Constants::const_at))]
+#[tactic(auto, unfolding(line_grammar::specs::Language::constant))]
 pub fn read_const(tokens: &mut Tokens) -> Result<i128, ReadError>
-    ensures gives { Gives (λ x. (x, tokens.new)) result (const_at tokens.old) }
+    ensures gives { Gives (λ x. (x, tokens.new)) result (read constant tokens.old) }
     ensures shorter { OnOk result (length tokens.new < length tokens.old) }
     ensures fault { IfErr result IsSyntax }
 {

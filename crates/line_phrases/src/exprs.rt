@@ -1,10 +1,10 @@
 ghost use Rattle.std.specs.Prelude.{◌≡◌, ◌<◌, ◌≤◌, length, OnOk, IfOk, IfErr};
 ghost use Rattle.expr_lang.specs.Terms.{term_of, Binary, Neg, Not};
 ghost use Rattle.line_tokens.specs.declared.sign.Sign.TheVariants.{Minus};
-ghost use Rattle.line_grammar.specs.Tokens.{is_sign, is_word};
-ghost use Rattle.line_grammar.specs.Grammar.{wrapped};
+ghost use Rattle.line_grammar.specs.declared.token.Token.TheVariants.{Word, Sign as Signed};
+ghost use Rattle.line_grammar.specs.Language.{wrapped, read, atom_within, bracketed, choice, comparison, conjunction, expr, expr_over, leaf, negation, product, signs, sum, unary};
 ghost use Rattle.line_phrases.specs.Inner.Gives.{Gives, IsSyntax};
-ghost use Rattle.line_phrases.specs.Exprs.{leaf_at, atom_at, behind_left, boxed_term, bracketed_at, choice_at, count_at, left_term, unary_over, product_over, sum_over, comparison_over, negation_over, conjunction_over, expr_over};
+ghost use Rattle.line_phrases.specs.Inner.Exprs.{behind_left, boxed_term, left_term};
 ghost use Rattle.std.specs.Prelude.{codes, zero};
 
 use crate::{ReadError, Tokens, read_path};
@@ -13,20 +13,22 @@ use line_grammar::{Choice, Comparison, Conjunction, Disjunction, Index, Number, 
 use line_tokens::Sign;
 use std::alloc::{AllocError as NoMemory, Global};
 
-/// The expression at the front. Its brackets nest at most `room` deep. Chains are walked by loops, so only brackets take stack; a level calls
-/// the next one at one place where it can, so that the compiler makes one frame of several.
-pub fn read_expr(alloc: Global, room: usize, tokens: &mut Tokens) -> Result<Expr, ReadError>
-    ensures gives { Gives (λ x. (term_of x, tokens.new)) result (expr_over (atom_at room) tokens.old) }
+/// The expression at the front. Chains are walked by loops, so only brackets take stack; a level calls the next one at one place where it
+/// can, so that the compiler makes one frame of several.
+#[tactic(auto, unfolding(line_grammar::specs::Language::expr))]
+pub fn read_expr(alloc: Global, tokens: &mut Tokens) -> Result<Expr, ReadError>
+    ensures gives { Gives (λ x. (term_of x, tokens.new)) result (read expr tokens.old) }
     ensures shorter { OnOk result (length tokens.new < length tokens.old) }
 {
-    let boxed = read_boxed(alloc, room, tokens)?;
+    let boxed = read_boxed(alloc, tokens.len(), tokens)?;
     Ok(Box::into_inner(boxed))
 }
 
+// Its brackets nest at most `room` deep.
 #[cycle(expr)]
-#[tactic(auto, unfolding(crate::specs::Exprs::expr_over, crate::specs::Exprs::chain_at, crate::specs::Exprs::next_at), using(crate::proofs::Links::expr_steps))]
+#[tactic(auto, unfolding(line_grammar::specs::Language::expr_over, line_grammar::specs::Language::chain, crate::specs::Inner::Exprs::chain_behind), using(crate::proofs::Links::link_steps))]
 fn read_boxed(alloc: Global, room: usize, tokens: &mut Tokens) -> Result<Box<Expr>, ReadError>
-    ensures gives { Gives (λ x. (boxed_term x, tokens.new)) result (expr_over (atom_at room) tokens.old) }
+    ensures gives { Gives (λ x. (boxed_term x, tokens.new)) result (read (expr_over (atom_within room)) tokens.old) }
     ensures shorter { OnOk result (length tokens.new < length tokens.old) }
 {
     let mut waiting = None;
@@ -43,9 +45,9 @@ fn read_boxed(alloc: Global, room: usize, tokens: &mut Tokens) -> Result<Box<Exp
 
 // `and` between negations.
 #[cycle(expr)]
-#[tactic(auto, unfolding(crate::specs::Exprs::conjunction_over, crate::specs::Exprs::chain_at, crate::specs::Exprs::next_at), using(crate::proofs::Links::conjunction_steps))]
+#[tactic(auto, unfolding(line_grammar::specs::Language::conjunction, line_grammar::specs::Language::chain, crate::specs::Inner::Exprs::chain_behind), using(crate::proofs::Links::link_steps))]
 fn read_conjunction(alloc: Global, room: usize, tokens: &mut Tokens) -> Result<Box<Expr>, ReadError>
-    ensures gives { Gives (λ x. (boxed_term x, tokens.new)) result (conjunction_over (atom_at room) tokens.old) }
+    ensures gives { Gives (λ x. (boxed_term x, tokens.new)) result (read (conjunction (atom_within room)) tokens.old) }
     ensures shorter { OnOk result (length tokens.new < length tokens.old) }
 {
     let mut waiting = None;
@@ -62,9 +64,9 @@ fn read_conjunction(alloc: Global, room: usize, tokens: &mut Tokens) -> Result<B
 
 // `not` in front of a comparison, any number of times.
 #[cycle(expr)]
-#[tactic(auto, unfolding(crate::specs::Exprs::negation_over, crate::specs::Exprs::prefixed_at))]
+#[tactic(auto, unfolding(line_grammar::specs::Language::negation, line_grammar::specs::Language::prefixed))]
 fn read_negation(alloc: Global, room: usize, tokens: &mut Tokens) -> Result<Box<Expr>, ReadError>
-    ensures gives { Gives (λ x. (boxed_term x, tokens.new)) result (negation_over (atom_at room) tokens.old) }
+    ensures gives { Gives (λ x. (boxed_term x, tokens.new)) result (read (negation (atom_within room)) tokens.old) }
     ensures shorter { OnOk result (length tokens.new < length tokens.old) }
 {
     let count = count_words(tokens)?;
@@ -75,9 +77,9 @@ fn read_negation(alloc: Global, room: usize, tokens: &mut Tokens) -> Result<Box<
 
 // Two sums and a comparison between them, or one sum.
 #[cycle(expr)]
-#[tactic(auto, unfolding(crate::specs::Exprs::comparison_over))]
+#[tactic(auto, unfolding(line_grammar::specs::Language::comparison))]
 fn read_comparison(alloc: Global, room: usize, tokens: &mut Tokens) -> Result<Box<Expr>, ReadError>
-    ensures gives { Gives (λ x. (boxed_term x, tokens.new)) result (comparison_over (atom_at room) tokens.old) }
+    ensures gives { Gives (λ x. (boxed_term x, tokens.new)) result (read (comparison (atom_within room)) tokens.old) }
     ensures shorter { OnOk result (length tokens.new < length tokens.old) }
 {
     let left = read_sum(alloc, room, tokens)?;
@@ -92,9 +94,9 @@ fn read_comparison(alloc: Global, room: usize, tokens: &mut Tokens) -> Result<Bo
 
 // `+` and `-` between products.
 #[cycle(expr)]
-#[tactic(auto, unfolding(crate::specs::Exprs::sum_over, crate::specs::Exprs::chain_at, crate::specs::Exprs::next_at), using(crate::proofs::Links::sum_steps))]
+#[tactic(auto, unfolding(line_grammar::specs::Language::sum, line_grammar::specs::Language::chain, crate::specs::Inner::Exprs::chain_behind), using(crate::proofs::Links::link_steps))]
 fn read_sum(alloc: Global, room: usize, tokens: &mut Tokens) -> Result<Box<Expr>, ReadError>
-    ensures gives { Gives (λ x. (boxed_term x, tokens.new)) result (sum_over (atom_at room) tokens.old) }
+    ensures gives { Gives (λ x. (boxed_term x, tokens.new)) result (read (sum (atom_within room)) tokens.old) }
     ensures shorter { OnOk result (length tokens.new < length tokens.old) }
 {
     let mut waiting = None;
@@ -111,9 +113,9 @@ fn read_sum(alloc: Global, room: usize, tokens: &mut Tokens) -> Result<Box<Expr>
 
 // `*`, `/` and `%` between operands.
 #[cycle(expr)]
-#[tactic(auto, unfolding(crate::specs::Exprs::product_over, crate::specs::Exprs::chain_at, crate::specs::Exprs::next_at), using(crate::proofs::Links::product_steps))]
+#[tactic(auto, unfolding(line_grammar::specs::Language::product, line_grammar::specs::Language::chain, crate::specs::Inner::Exprs::chain_behind), using(crate::proofs::Links::link_steps))]
 fn read_product(alloc: Global, room: usize, tokens: &mut Tokens) -> Result<Box<Expr>, ReadError>
-    ensures gives { Gives (λ x. (boxed_term x, tokens.new)) result (product_over (atom_at room) tokens.old) }
+    ensures gives { Gives (λ x. (boxed_term x, tokens.new)) result (read (product (atom_within room)) tokens.old) }
     ensures shorter { OnOk result (length tokens.new < length tokens.old) }
 {
     let mut waiting = None;
@@ -130,9 +132,9 @@ fn read_product(alloc: Global, room: usize, tokens: &mut Tokens) -> Result<Box<E
 
 // `-` in front of an operand, any number of times.
 #[cycle(expr)]
-#[tactic(auto, unfolding(crate::specs::Exprs::unary_over, crate::specs::Exprs::prefixed_at))]
+#[tactic(auto, unfolding(line_grammar::specs::Language::unary, line_grammar::specs::Language::prefixed))]
 fn read_unary(alloc: Global, room: usize, tokens: &mut Tokens) -> Result<Box<Expr>, ReadError>
-    ensures gives { Gives (λ x. (boxed_term x, tokens.new)) result (unary_over (atom_at room) tokens.old) }
+    ensures gives { Gives (λ x. (boxed_term x, tokens.new)) result (read (unary (atom_within room)) tokens.old) }
     ensures shorter { OnOk result (length tokens.new < length tokens.old) }
 {
     let count = count_signs(tokens)?;
@@ -143,9 +145,9 @@ fn read_unary(alloc: Global, room: usize, tokens: &mut Tokens) -> Result<Box<Exp
 
 // An operand without an operator of its own.
 #[cycle(expr)]
-#[tactic(auto, unfolding(crate::specs::Exprs::atom_at))]
+#[tactic(auto, unfolding(line_grammar::specs::Language::atom_within, line_grammar::specs::Language::bracketed, line_grammar::specs::Language::choice))]
 fn read_atom(alloc: Global, room: usize, tokens: &mut Tokens) -> Result<Box<Expr>, ReadError>
-    ensures gives { Gives (λ x. (boxed_term x, tokens.new)) result (atom_at room tokens.old) }
+    ensures gives { Gives (λ x. (boxed_term x, tokens.new)) result (read (atom_within room) tokens.old) }
     ensures shorter { OnOk result (length tokens.new < length tokens.old) }
 {
     if room > 0 && tokens.begins_sign(Sign::OpenParen) {
@@ -160,9 +162,9 @@ fn read_atom(alloc: Global, room: usize, tokens: &mut Tokens) -> Result<Box<Expr
 }
 
 #[cycle(expr)]
-#[tactic(auto, unfolding(crate::specs::Exprs::bracketed_at))]
+#[tactic(auto, unfolding(line_grammar::specs::Language::bracketed))]
 fn read_bracketed(alloc: Global, room: usize, tokens: &mut Tokens) -> Result<Box<Expr>, ReadError>
-    ensures gives { Gives (λ x. (boxed_term x, tokens.new)) result (bracketed_at (expr_over (atom_at room)) tokens.old) }
+    ensures gives { Gives (λ x. (boxed_term x, tokens.new)) result (read (bracketed (expr_over (atom_within room))) tokens.old) }
     ensures shorter { OnOk result (length tokens.new < length tokens.old) }
 {
     tokens.sign(Sign::OpenParen)?;
@@ -173,9 +175,9 @@ fn read_bracketed(alloc: Global, room: usize, tokens: &mut Tokens) -> Result<Box
 
 // `min` or `max` of two expressions.
 #[cycle(expr)]
-#[tactic(auto, unfolding(crate::specs::Exprs::choice_at))]
+#[tactic(auto, unfolding(line_grammar::specs::Language::choice))]
 fn read_choice(alloc: Global, room: usize, tokens: &mut Tokens) -> Result<Box<Expr>, ReadError>
-    ensures gives { Gives (λ x. (boxed_term x, tokens.new)) result (choice_at (expr_over (atom_at room)) tokens.old) }
+    ensures gives { Gives (λ x. (boxed_term x, tokens.new)) result (read (choice (expr_over (atom_within room))) tokens.old) }
     ensures shorter { OnOk result (length tokens.new < length tokens.old) }
 {
     let op = tokens.item::<Choice>()?;
@@ -189,9 +191,9 @@ fn read_choice(alloc: Global, room: usize, tokens: &mut Tokens) -> Result<Box<Ex
 }
 
 // A number, an index or a path.
-#[tactic(auto, unfolding(crate::specs::Exprs::leaf_at))]
+#[tactic(auto, unfolding(line_grammar::specs::Language::leaf))]
 fn read_leaf(alloc: Global, tokens: &mut Tokens) -> Result<Expr, ReadError>
-    ensures gives { Gives (λ x. (term_of x, tokens.new)) result (leaf_at tokens.old) }
+    ensures gives { Gives (λ x. (term_of x, tokens.new)) result (read leaf tokens.old) }
     ensures shorter { OnOk result (length tokens.new < length tokens.old) }
 {
     if tokens.begins::<Number>() {
@@ -233,9 +235,9 @@ fn binary(
 }
 
 // How often `not` stands in front.
-#[tactic(auto, using(crate::proofs::Links::word_steps))]
+#[tactic(auto, using(crate::proofs::Links::sign_steps))]
 fn count_words(tokens: &mut Tokens) -> Result<usize, ReadError>
-    ensures gives { Gives (λ x. (x, tokens.new)) result (count_at (is_word (codes "not")) zero tokens.old) }
+    ensures gives { Gives (λ x. (x, tokens.new)) result (read (signs (Word (codes "not")) zero) tokens.old) }
     ensures no_longer { OnOk result (length tokens.new ≤ length tokens.old) }
     ensures fault { IfErr result IsSyntax }
 {
@@ -252,7 +254,7 @@ fn count_words(tokens: &mut Tokens) -> Result<usize, ReadError>
 // How often `-` stands in front.
 #[tactic(auto, using(crate::proofs::Links::sign_steps))]
 fn count_signs(tokens: &mut Tokens) -> Result<usize, ReadError>
-    ensures gives { Gives (λ x. (x, tokens.new)) result (count_at (is_sign Minus) zero tokens.old) }
+    ensures gives { Gives (λ x. (x, tokens.new)) result (read (signs (Signed Minus) zero) tokens.old) }
     ensures no_longer { OnOk result (length tokens.new ≤ length tokens.old) }
     ensures fault { IfErr result IsSyntax }
 {

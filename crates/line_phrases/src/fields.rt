@@ -1,10 +1,9 @@
-ghost use Rattle.std.specs.Prelude.{◌≡◌, ◌<◌, ◌≤◌, length, map, OnOk, IfOk, IfErr};
-ghost use Rattle.phrases.specs.Reading.{give_at, then_at};
+ghost use Rattle.std.specs.Prelude.{◌≡◌, ◌<◌, ◌≤◌, [], length, map, OnOk, IfOk, IfErr};
+ghost use Rattle.phrases.specs.Grammar.{joined, nothing};
 ghost use Rattle.record_dim.specs.Trees.{fields_of, tree_of};
-ghost use Rattle.line_grammar.specs.Grammar.{arrays, fields_of_list};
+ghost use Rattle.line_grammar.specs.Language.{arrays, fields_of_list, read, braced, dim, dims, field_within, fields, listed, typed};
 ghost use Rattle.line_phrases.specs.Inner.Gives.{Gives, IsSyntax};
-ghost use Rattle.line_phrases.specs.Lists.{listed_at};
-ghost use Rattle.line_phrases.specs.Fields.{boxed_field, dim_at, dims_at, typed_at, field_at, fields_at};
+ghost use Rattle.line_phrases.specs.Inner.Fields.{boxed_field};
 
 use crate::{ReadError, Tokens};
 use line_grammar::Count;
@@ -12,11 +11,19 @@ use line_tokens::Sign;
 use record_dim::{Dim, Field, FieldList, LeafType, Name};
 use std::alloc::{AllocError as NoMemory, Global};
 
-/// The fields of a record, in braces. Braces nest at most `room` deep in them.
+/// The fields of a record, in braces.
+#[tactic(auto, unfolding(line_grammar::specs::Language::fields))]
+pub fn read_fields(alloc: Global, tokens: &mut Tokens) -> Result<FieldList, ReadError>
+    ensures { Gives (λ x. (fields_of x, tokens.new)) result (read fields tokens.old) }
+{
+    read_braced(alloc, tokens.len(), tokens)
+}
+
+// Braces nest at most `room` deep in them.
 #[cycle(fields)]
-#[tactic(auto, unfolding(crate::specs::Fields::fields_at, crate::specs::Fields::braced_at))]
-pub fn read_fields(alloc: Global, room: usize, tokens: &mut Tokens) -> Result<FieldList, ReadError>
-    ensures gives { Gives (λ x. (fields_of x, tokens.new)) result (fields_at room tokens.old) }
+#[tactic(auto, unfolding(line_grammar::specs::Language::braced))]
+fn read_braced(alloc: Global, room: usize, tokens: &mut Tokens) -> Result<FieldList, ReadError>
+    ensures gives { Gives (λ x. (fields_of x, tokens.new)) result (read (braced (field_within room)) tokens.old) }
     ensures shorter { OnOk result (length tokens.new < length tokens.old) }
 {
     tokens.sign(Sign::OpenBrace)?;
@@ -27,13 +34,13 @@ pub fn read_fields(alloc: Global, room: usize, tokens: &mut Tokens) -> Result<Fi
 }
 
 #[cycle(fields)]
-#[tactic(auto, unfolding(crate::specs::Lists::listed_at), using(crate::specs::FieldLaws::field_steps))]
+#[tactic(auto, unfolding(line_grammar::specs::Language::listed), using(crate::specs::ListLaws::viewed_steps))]
 fn read_field_list(
     alloc: Global,
     room: usize,
     tokens: &mut Tokens,
 ) -> Result<Vec<Box<Field>>, ReadError>
-    ensures gives { Gives (λ x. (map boxed_field x.items, tokens.new)) result (listed_at (field_at room) tokens.old) }
+    ensures gives { Gives (λ x. (map boxed_field x.items, tokens.new)) result (read (listed (field_within room)) tokens.old) }
     ensures shorter { OnOk result (length tokens.new < length tokens.old) }
 {
     let mut fields = Vec::new(alloc);
@@ -47,9 +54,9 @@ fn read_field_list(
 
 // What stands around the fields of a field is read by functions of its own, so that a level of braces takes little of the stack.
 #[cycle(fields)]
-#[tactic(auto, unfolding(crate::specs::Fields::field_at, crate::specs::Fields::fields_at, crate::specs::Fields::nested_at))]
+#[tactic(auto, unfolding(line_grammar::specs::Language::field_within, line_grammar::specs::Language::nested, line_grammar::specs::Language::typed))]
 fn read_field(alloc: Global, room: usize, tokens: &mut Tokens) -> Result<Box<Field>, ReadError>
-    ensures gives { Gives (λ x. (boxed_field x, tokens.new)) result (field_at room tokens.old) }
+    ensures gives { Gives (λ x. (boxed_field x, tokens.new)) result (read (field_within room) tokens.old) }
     ensures shorter { OnOk result (length tokens.new < length tokens.old) }
 {
     let name = tokens.item::<Name>()?;
@@ -59,15 +66,15 @@ fn read_field(alloc: Global, room: usize, tokens: &mut Tokens) -> Result<Box<Fie
     if tokens.begins_sign(Sign::Colon) {
         return read_typed(alloc, name, tokens);
     }
-    let fields = read_fields(alloc, room - 1, tokens)?;
+    let fields = read_braced(alloc, room - 1, tokens)?;
     read_arrays(alloc, name, Dim::Fields(fields), tokens)
 }
 
 // The type of a field, and the counts of its arrays.
 #[inline(never)]
-#[tactic(auto, unfolding(crate::specs::Fields::typed_at))]
+#[tactic(auto, unfolding(line_grammar::specs::Language::typed))]
 fn read_typed(alloc: Global, name: Name, tokens: &mut Tokens) -> Result<Box<Field>, ReadError>
-    ensures gives { Gives (λ x. (boxed_field x, tokens.new)) result (typed_at name tokens.old) }
+    ensures gives { Gives (λ x. (boxed_field x, tokens.new)) result (read (typed name) tokens.old) }
     ensures shorter { OnOk result (length tokens.new < length tokens.old) }
 {
     tokens.sign(Sign::Colon)?;
@@ -83,7 +90,7 @@ fn read_arrays(
     element: Dim,
     tokens: &mut Tokens,
 ) -> Result<Box<Field>, ReadError>
-    ensures gives { Gives (λ x. (boxed_field x, tokens.new)) result (then_at dims_at (λ counts. give_at (name, arrays counts (tree_of element))) tokens.old) }
+    ensures gives { Gives (λ x. (boxed_field x, tokens.new)) result (read (joined (dims []) (λ counts. nothing (name, arrays counts (tree_of element)))) tokens.old) }
     ensures no_longer { OnOk result (length tokens.new ≤ length tokens.old) }
 {
     let counts = read_dims(alloc, tokens)?;
@@ -93,9 +100,9 @@ fn read_arrays(
 }
 
 // The counts in brackets, the outermost first.
-#[tactic(auto, unfolding(crate::specs::Fields::dims_at), using(crate::specs::FieldLaws::dim_steps))]
+#[tactic(auto, using(crate::specs::FieldLaws::dim_steps))]
 fn read_dims(alloc: Global, tokens: &mut Tokens) -> Result<Vec<u32>, ReadError>
-    ensures gives { Gives (λ x. (x.items, tokens.new)) result (dims_at tokens.old) }
+    ensures gives { Gives (λ x. (x.items, tokens.new)) result (read (dims []) tokens.old) }
     ensures no_longer { OnOk result (length tokens.new ≤ length tokens.old) }
 {
     let mut counts = Vec::new(alloc);
@@ -105,9 +112,9 @@ fn read_dims(alloc: Global, tokens: &mut Tokens) -> Result<Vec<u32>, ReadError>
     Ok(counts)
 }
 
-#[tactic(auto, unfolding(crate::specs::Fields::dim_at))]
+#[tactic(auto, unfolding(line_grammar::specs::Language::dim))]
 fn read_dim(tokens: &mut Tokens) -> Result<u32, ReadError>
-    ensures gives { Gives (λ x. (x, tokens.new)) result (dim_at tokens.old) }
+    ensures gives { Gives (λ x. (x, tokens.new)) result (read dim tokens.old) }
     ensures shorter { OnOk result (length tokens.new < length tokens.old) }
     ensures fault { IfErr result IsSyntax }
 {

@@ -1,9 +1,9 @@
 ghost use Rattle.std.specs.Prelude.{◌≡◌, ◌<◌, length, map, OnOk, IfOk};
 ghost use Rattle.map_expr.specs.Terms.{Named, term_of};
 ghost use Rattle.line_grammar.specs.declared.line.MapWord.TheVariants as form;
+ghost use Rattle.line_grammar.specs.Language.{read, listed, inside_aos, inside_aosoa, inside_bits, inside_form, inside_soa, mapping, mapping_within};
 ghost use Rattle.line_phrases.specs.Inner.Gives.{Gives};
-ghost use Rattle.line_phrases.specs.Lists.{listed_at};
-ghost use Rattle.line_phrases.specs.Maps.{aos_at, aosoa_at, bits_at, bits_of, boxed_map, form_at, map_at, over, soa_at};
+ghost use Rattle.line_phrases.specs.Inner.Maps.{bits_of, boxed_map, over};
 
 use crate::widths::read_field_widths;
 use crate::{ReadError, Tokens, read_path};
@@ -15,49 +15,45 @@ use places::{AosForm, SoaForm};
 use record_dim::{LeafType, Name};
 use std::alloc::{AllocError as NoMemory, Global};
 
-/// The mappings at the front, behind commas. The brackets of each nest at most `room` deep.
-#[tactic(auto, unfolding(crate::specs::Lists::listed_at), using(crate::proofs::Steps::map_steps))]
+/// The mappings at the front, behind commas.
+#[tactic(auto, unfolding(line_grammar::specs::Language::listed), using(crate::specs::ListLaws::viewed_steps))]
 pub fn read_maps(
     alloc: Global,
     version: Version,
-    room: usize,
     tokens: &mut Tokens,
 ) -> Result<MapExprList, ReadError>
-    ensures { Gives (λ x. (map term_of x, tokens.new)) result (listed_at (map_at version room) tokens.old) }
+    ensures { Gives (λ x. (map term_of x, tokens.new)) result (read (listed (mapping version)) tokens.old) }
 {
     let mut maps = MapExprList::new(alloc);
-    maps.push(read_map(alloc, version, room, tokens)?)?;
+    maps.push(read_map(alloc, version, tokens)?)?;
     while tokens.begins_sign(Sign::Comma) {
         tokens.sign(Sign::Comma)?;
-        maps.push(read_map(alloc, version, room, tokens)?)?;
+        maps.push(read_map(alloc, version, tokens)?)?;
     }
     Ok(maps)
 }
 
-/// The mapping at the front, in a version of the language. Its brackets nest at most `room` deep. A level of brackets takes little of the stack:
-/// what it hands on lies in boxes, and what has no mappings in it is read by functions of its own.
-pub fn read_map(
-    alloc: Global,
-    version: Version,
-    room: usize,
-    tokens: &mut Tokens,
-) -> Result<MapExpr, ReadError>
-    ensures gives { Gives (λ x. (term_of x, tokens.new)) result (map_at version room tokens.old) }
+/// The mapping at the front, in a version of the language. A level of brackets takes little of the stack: what it hands on lies in
+/// boxes, and what has no mappings in it is read by functions of its own.
+#[tactic(auto, unfolding(line_grammar::specs::Language::mapping))]
+pub fn read_map(alloc: Global, version: Version, tokens: &mut Tokens) -> Result<MapExpr, ReadError>
+    ensures gives { Gives (λ x. (term_of x, tokens.new)) result (read (mapping version) tokens.old) }
     ensures shorter { OnOk result (length tokens.new < length tokens.old) }
 {
-    let map = read_boxed(alloc, version, room, tokens)?;
+    let map = read_boxed(alloc, version, tokens.len(), tokens)?;
     Ok(Box::into_inner(map))
 }
 
+// Its brackets nest at most `room` deep.
 #[cycle(map)]
-#[tactic(auto, unfolding(crate::specs::Maps::map_at, crate::specs::Maps::form_or_name_at))]
+#[tactic(auto, unfolding(line_grammar::specs::Language::mapping_within, line_grammar::specs::Language::form_or_name))]
 fn read_boxed(
     alloc: Global,
     version: Version,
     room: usize,
     tokens: &mut Tokens,
 ) -> Result<Box<MapExpr>, ReadError>
-    ensures gives { Gives (λ x. (boxed_map x, tokens.new)) result (map_at version room tokens.old) }
+    ensures gives { Gives (λ x. (boxed_map x, tokens.new)) result (read (mapping_within version room) tokens.old) }
     ensures shorter { OnOk result (length tokens.new < length tokens.old) }
 {
     let word = tokens.item::<Name>()?;
@@ -93,7 +89,7 @@ fn boxed(alloc: Global, map: MapExpr) -> Result<Box<MapExpr>, NoMemory>
 
 // The inside of a form's brackets.
 #[cycle(map)]
-#[tactic(auto, unfolding(crate::specs::Maps::form_at))]
+#[tactic(auto, unfolding(line_grammar::specs::Language::inside_form))]
 fn read_form(
     alloc: Global,
     version: Version,
@@ -101,7 +97,7 @@ fn read_form(
     form: MapWord,
     tokens: &mut Tokens,
 ) -> Result<Box<MapExpr>, ReadError>
-    ensures gives { Gives (λ x. (boxed_map x, tokens.new)) result (form_at version (map_at version room) form tokens.old) }
+    ensures gives { Gives (λ x. (boxed_map x, tokens.new)) result (read (inside_form version (mapping_within version room) form) tokens.old) }
     ensures shorter { OnOk result (length tokens.new < length tokens.old) }
 {
     match form {
@@ -132,14 +128,14 @@ fn over(form: MapWord, inner: Box<MapExpr>) -> MapExpr
 }
 
 #[cycle(map)]
-#[tactic(auto, unfolding(crate::specs::Maps::form_at))]
+#[tactic(auto, unfolding(line_grammar::specs::Language::inside_form))]
 fn read_split(
     alloc: Global,
     version: Version,
     room: usize,
     tokens: &mut Tokens,
 ) -> Result<Box<MapExpr>, ReadError>
-    ensures gives { Gives (λ x. (boxed_map x, tokens.new)) result (form_at version (map_at version room) form.Split tokens.old) }
+    ensures gives { Gives (λ x. (boxed_map x, tokens.new)) result (read (inside_form version (mapping_within version room) form.Split) tokens.old) }
     ensures shorter { OnOk result (length tokens.new < length tokens.old) }
 {
     let path = read_path(alloc, tokens)?;
@@ -151,14 +147,14 @@ fn read_split(
 }
 
 #[cycle(map)]
-#[tactic(auto, unfolding(crate::specs::Maps::form_at))]
+#[tactic(auto, unfolding(line_grammar::specs::Language::inside_form))]
 fn read_change(
     alloc: Global,
     version: Version,
     room: usize,
     tokens: &mut Tokens,
 ) -> Result<Box<MapExpr>, ReadError>
-    ensures gives { Gives (λ x. (boxed_map x, tokens.new)) result (form_at version (map_at version room) form.Change tokens.old) }
+    ensures gives { Gives (λ x. (boxed_map x, tokens.new)) result (read (inside_form version (mapping_within version room) form.Change) tokens.old) }
     ensures shorter { OnOk result (length tokens.new < length tokens.old) }
 {
     let from = tokens.item::<LeafType>()?;
@@ -170,14 +166,14 @@ fn read_change(
 }
 
 #[cycle(map)]
-#[tactic(auto, unfolding(crate::specs::Maps::form_at))]
+#[tactic(auto, unfolding(line_grammar::specs::Language::inside_form))]
 fn read_heat(
     alloc: Global,
     version: Version,
     room: usize,
     tokens: &mut Tokens,
 ) -> Result<Box<MapExpr>, ReadError>
-    ensures gives { Gives (λ x. (boxed_map x, tokens.new)) result (form_at version (map_at version room) form.Heat tokens.old) }
+    ensures gives { Gives (λ x. (boxed_map x, tokens.new)) result (read (inside_form version (mapping_within version room) form.Heat) tokens.old) }
     ensures shorter { OnOk result (length tokens.new < length tokens.old) }
 {
     let granule = tokens.item::<Count>()?;
@@ -187,9 +183,9 @@ fn read_heat(
 }
 
 #[inline(never)]
-#[tactic(auto, unfolding(crate::specs::Maps::aos_at))]
+#[tactic(auto, unfolding(line_grammar::specs::Language::inside_aos))]
 fn read_aos(alloc: Global, tokens: &mut Tokens) -> Result<Box<MapExpr>, ReadError>
-    ensures gives { Gives (λ x. (boxed_map x, tokens.new)) result (aos_at tokens.old) }
+    ensures gives { Gives (λ x. (boxed_map x, tokens.new)) result (read inside_aos tokens.old) }
     ensures shorter { OnOk result (length tokens.new < length tokens.old) }
 {
     let form = tokens.item::<AosForm>()?;
@@ -199,9 +195,9 @@ fn read_aos(alloc: Global, tokens: &mut Tokens) -> Result<Box<MapExpr>, ReadErro
 }
 
 #[inline(never)]
-#[tactic(auto, unfolding(crate::specs::Maps::soa_at))]
+#[tactic(auto, unfolding(line_grammar::specs::Language::inside_soa))]
 fn read_soa(alloc: Global, tokens: &mut Tokens) -> Result<Box<MapExpr>, ReadError>
-    ensures gives { Gives (λ x. (boxed_map x, tokens.new)) result (soa_at tokens.old) }
+    ensures gives { Gives (λ x. (boxed_map x, tokens.new)) result (read inside_soa tokens.old) }
     ensures shorter { OnOk result (length tokens.new < length tokens.old) }
 {
     let form = tokens.item::<SoaForm>()?;
@@ -211,9 +207,9 @@ fn read_soa(alloc: Global, tokens: &mut Tokens) -> Result<Box<MapExpr>, ReadErro
 }
 
 #[inline(never)]
-#[tactic(auto, unfolding(crate::specs::Maps::aosoa_at))]
+#[tactic(auto, unfolding(line_grammar::specs::Language::inside_aosoa))]
 fn read_aosoa(alloc: Global, tokens: &mut Tokens) -> Result<Box<MapExpr>, ReadError>
-    ensures gives { Gives (λ x. (boxed_map x, tokens.new)) result (aosoa_at tokens.old) }
+    ensures gives { Gives (λ x. (boxed_map x, tokens.new)) result (read inside_aosoa tokens.old) }
     ensures shorter { OnOk result (length tokens.new < length tokens.old) }
 {
     let lanes = tokens.item::<Count>()?;
@@ -230,14 +226,14 @@ enum BitForm {
 }
 
 #[inline(never)]
-#[tactic(auto, unfolding(crate::specs::Maps::bits_at))]
+#[tactic(auto, unfolding(line_grammar::specs::Language::inside_bits))]
 fn read_bits(
     alloc: Global,
     version: Version,
     form: BitForm,
     tokens: &mut Tokens,
 ) -> Result<Box<MapExpr>, ReadError>
-    ensures gives { Gives (λ x. (boxed_map x, tokens.new)) result (bits_at version (bits_of form) tokens.old) }
+    ensures gives { Gives (λ x. (boxed_map x, tokens.new)) result (read (inside_bits version (bits_of form)) tokens.old) }
     ensures shorter { OnOk result (length tokens.new < length tokens.old) }
 {
     let width = tokens.item::<Count>()?;

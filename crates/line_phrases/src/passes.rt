@@ -1,9 +1,7 @@
 // The passes that a layout is chosen for.
 ghost use Rattle.std.specs.Prelude.{◌≡◌, ◌<◌, length, OnOk};
+ghost use Rattle.line_grammar.specs.Language.{read, listed, pass, passes, path};
 ghost use Rattle.line_phrases.specs.Inner.Gives.{Gives};
-ghost use Rattle.line_phrases.specs.Lists.{listed_at};
-ghost use Rattle.line_phrases.specs.Passes.{pass_at, passes_at};
-ghost use Rattle.line_phrases.specs.Paths.{path_at};
 
 use crate::{ReadError, Tokens, read_path};
 use line_grammar::{Count, PassText, PassTextList, PathList};
@@ -11,9 +9,9 @@ use line_tokens::Sign;
 use std::alloc::Global;
 
 /// The passes at the front, of which there is one at least.
-#[tactic(auto, unfolding(crate::specs::Passes::passes_at), using(crate::proofs::Steps::pass_steps))]
+#[tactic(auto, unfolding(line_grammar::specs::Language::passes), using(crate::specs::PassLaws::pass_steps))]
 pub fn read_passes(alloc: Global, tokens: &mut Tokens) -> Result<PassTextList, ReadError>
-    ensures { Gives (λ x. (x, tokens.new)) result (passes_at tokens.old) }
+    ensures { Gives (λ x. (x, tokens.new)) result (read passes tokens.old) }
 {
     let mut passes = PassTextList::new(alloc);
     passes.push(read_pass(alloc, tokens)?)?;
@@ -23,9 +21,9 @@ pub fn read_passes(alloc: Global, tokens: &mut Tokens) -> Result<PassTextList, R
     Ok(passes)
 }
 
-#[tactic(auto, unfolding(crate::specs::Passes::pass_at))]
+#[tactic(auto, unfolding(line_grammar::specs::Language::pass))]
 fn read_pass(alloc: Global, tokens: &mut Tokens) -> Result<PassText, ReadError>
-    ensures gives { Gives (λ x. (x, tokens.new)) result (pass_at tokens.old) }
+    ensures gives { Gives (λ x. (x, tokens.new)) result (read pass tokens.old) }
     ensures shorter { OnOk result (length tokens.new < length tokens.old) }
 {
     tokens.word("pass")?;
@@ -35,9 +33,9 @@ fn read_pass(alloc: Global, tokens: &mut Tokens) -> Result<PassText, ReadError>
     Ok(PassText { paths, times })
 }
 
-#[tactic(auto, unfolding(crate::specs::Lists::listed_at), using(crate::proofs::Steps::path_list_steps))]
+#[tactic(auto, unfolding(line_grammar::specs::Language::listed), using(crate::specs::ListLaws::comma_steps))]
 fn read_paths(alloc: Global, tokens: &mut Tokens) -> Result<PathList, ReadError>
-    ensures gives { Gives (λ x. (x, tokens.new)) result (listed_at path_at tokens.old) }
+    ensures gives { Gives (λ x. (x, tokens.new)) result (read (listed path) tokens.old) }
     ensures shorter { OnOk result (length tokens.new < length tokens.old) }
 {
     let mut paths = PathList::new(alloc);

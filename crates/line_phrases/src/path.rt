@@ -1,7 +1,8 @@
 ghost use Rattle.std.specs.Prelude.{◌≡◌, ◌<◌, length, IfOk, OnOk, IfErr};
-ghost use Rattle.phrases.specs.Reading.{starts};
+ghost use Rattle.phrases.specs.Reading.{first, starts};
+ghost use Rattle.line_grammar.specs.Language.{read, part, path};
+ghost use Rattle.line_grammar.specs.Tokens.{is_same};
 ghost use Rattle.line_phrases.specs.Inner.Gives.{Gives, IsSyntax};
-ghost use Rattle.line_phrases.specs.Paths.{begins_part, part_at, path_at};
 
 use crate::{ReadError, Tokens};
 use line_grammar::Count;
@@ -10,9 +11,9 @@ use record_dim::{Name, Path, PathStep};
 use std::alloc::Global;
 
 /// The path at the front.
-#[tactic(auto, unfolding(crate::specs::Paths::path_at), using(crate::specs::PathsLaws::path_steps))]
+#[tactic(auto, unfolding(line_grammar::specs::Language::path), using(crate::specs::PathsLaws::path_steps))]
 pub fn read_path(alloc: Global, tokens: &mut Tokens) -> Result<Path, ReadError>
-    ensures gives { Gives (λ x. (x, tokens.new)) result (path_at tokens.old) }
+    ensures gives { Gives (λ x. (x, tokens.new)) result (read path tokens.old) }
     ensures shorter { OnOk result (length tokens.new < length tokens.old) }
 {
     let name = tokens.item::<Name>()?;
@@ -23,15 +24,16 @@ pub fn read_path(alloc: Global, tokens: &mut Tokens) -> Result<Path, ReadError>
     Ok(path)
 }
 
+#[tactic(auto, unfolding(line_grammar::specs::Language::part))]
 fn begins_part(tokens: &Tokens) -> bool
-    ensures { result ≡ starts begins_part tokens.now }
+    ensures { result ≡ starts (first is_same part) tokens.now }
 {
     tokens.begins_sign(Sign::Dot) || tokens.begins_sign(Sign::OpenBracket)
 }
 
-#[tactic(auto, unfolding(crate::specs::Paths::part_at))]
+#[tactic(auto, unfolding(line_grammar::specs::Language::part))]
 fn read_part(tokens: &mut Tokens) -> Result<PathStep, ReadError>
-    ensures gives { Gives (λ x. (x, tokens.new)) result (part_at tokens.old) }
+    ensures gives { Gives (λ x. (x, tokens.new)) result (read part tokens.old) }
     ensures shorter { OnOk result (length tokens.new < length tokens.old) }
     ensures fault { IfErr result IsSyntax }
 {

@@ -1,9 +1,7 @@
 // A window, and the terms of a stencil.
 ghost use Rattle.std.specs.Prelude.{◌≡◌, ◌<◌, length, OnOk, IfErr};
-ghost use Rattle.line_phrases.specs.Constants.{const_at};
+ghost use Rattle.line_grammar.specs.Language.{read, constant, listed, span, term, terms, window};
 ghost use Rattle.line_phrases.specs.Inner.Gives.{Gives, IsSyntax};
-ghost use Rattle.line_phrases.specs.Lists.{listed_at, bracket_list_at};
-ghost use Rattle.line_phrases.specs.Stencils.{span_at, term_at, terms_at, window_at};
 
 use crate::{ReadError, Tokens, read_const, read_path};
 use extents::Span;
@@ -12,9 +10,9 @@ use line_tokens::Sign;
 use std::alloc::Global;
 
 /// The word `window`, and the spans of the window in brackets.
-#[tactic(auto, unfolding(crate::specs::Stencils::window_at, crate::specs::Lists::bracket_list_at))]
+#[tactic(auto, unfolding(line_grammar::specs::Language::window, line_grammar::specs::Language::bracket_list))]
 pub fn read_window(alloc: Global, tokens: &mut Tokens) -> Result<WindowWords, ReadError>
-    ensures { Gives (λ x. (x, tokens.new)) result (window_at tokens.old) }
+    ensures { Gives (λ x. (x, tokens.new)) result (read window tokens.old) }
 {
     tokens.word("window")?;
     tokens.sign(Sign::OpenBracket)?;
@@ -23,9 +21,9 @@ pub fn read_window(alloc: Global, tokens: &mut Tokens) -> Result<WindowWords, Re
     Ok(window)
 }
 
-#[tactic(auto, unfolding(crate::specs::Lists::listed_at), using(crate::proofs::Steps::span_steps))]
+#[tactic(auto, unfolding(line_grammar::specs::Language::listed), using(crate::specs::ListLaws::comma_steps))]
 fn read_spans(alloc: Global, tokens: &mut Tokens) -> Result<WindowWords, ReadError>
-    ensures { Gives (λ x. (x, tokens.new)) result (listed_at span_at tokens.old) }
+    ensures { Gives (λ x. (x, tokens.new)) result (read (listed span) tokens.old) }
 {
     let mut spans = WindowWords::new(alloc);
     spans.push(read_span(tokens)?)?;
@@ -36,9 +34,9 @@ fn read_spans(alloc: Global, tokens: &mut Tokens) -> Result<WindowWords, ReadErr
     Ok(spans)
 }
 
-#[tactic(auto, unfolding(crate::specs::Stencils::span_at))]
+#[tactic(auto, unfolding(line_grammar::specs::Language::span))]
 fn read_span(tokens: &mut Tokens) -> Result<Span, ReadError>
-    ensures gives { Gives (λ x. (x, tokens.new)) result (span_at tokens.old) }
+    ensures gives { Gives (λ x. (x, tokens.new)) result (read span tokens.old) }
     ensures shorter { OnOk result (length tokens.new < length tokens.old) }
     ensures fault { IfErr result IsSyntax }
 {
@@ -49,9 +47,9 @@ fn read_span(tokens: &mut Tokens) -> Result<Span, ReadError>
 }
 
 /// The terms of a stencil, in parentheses.
-#[tactic(auto, unfolding(crate::specs::Stencils::terms_at))]
+#[tactic(auto, unfolding(line_grammar::specs::Language::terms))]
 pub fn read_terms(alloc: Global, tokens: &mut Tokens) -> Result<TermTextList, ReadError>
-    ensures { Gives (λ x. (x, tokens.new)) result (terms_at tokens.old) }
+    ensures { Gives (λ x. (x, tokens.new)) result (read terms tokens.old) }
 {
     tokens.sign(Sign::OpenParen)?;
     let terms = read_term_list(alloc, tokens)?;
@@ -59,9 +57,9 @@ pub fn read_terms(alloc: Global, tokens: &mut Tokens) -> Result<TermTextList, Re
     Ok(terms)
 }
 
-#[tactic(auto, unfolding(crate::specs::Lists::listed_at), using(crate::proofs::Steps::term_steps))]
+#[tactic(auto, unfolding(line_grammar::specs::Language::listed), using(crate::specs::ListLaws::comma_steps))]
 fn read_term_list(alloc: Global, tokens: &mut Tokens) -> Result<TermTextList, ReadError>
-    ensures { Gives (λ x. (x, tokens.new)) result (listed_at term_at tokens.old) }
+    ensures { Gives (λ x. (x, tokens.new)) result (read (listed term) tokens.old) }
 {
     let mut terms = TermTextList::new(alloc);
     terms.push(read_term(alloc, tokens)?)?;
@@ -72,9 +70,9 @@ fn read_term_list(alloc: Global, tokens: &mut Tokens) -> Result<TermTextList, Re
     Ok(terms)
 }
 
-#[tactic(auto, unfolding(crate::specs::Stencils::term_at, crate::specs::Lists::bracket_list_at))]
+#[tactic(auto, unfolding(line_grammar::specs::Language::term, line_grammar::specs::Language::bracket_list))]
 fn read_term(alloc: Global, tokens: &mut Tokens) -> Result<TermText, ReadError>
-    ensures gives { Gives (λ x. (x, tokens.new)) result (term_at tokens.old) }
+    ensures gives { Gives (λ x. (x, tokens.new)) result (read term tokens.old) }
     ensures shorter { OnOk result (length tokens.new < length tokens.old) }
 {
     let weight = read_const(tokens)?;
@@ -91,9 +89,9 @@ fn read_term(alloc: Global, tokens: &mut Tokens) -> Result<TermText, ReadError>
     })
 }
 
-#[tactic(auto, unfolding(crate::specs::Lists::listed_at), using(crate::proofs::Steps::const_steps))]
+#[tactic(auto, unfolding(line_grammar::specs::Language::listed), using(crate::specs::ListLaws::comma_steps))]
 fn read_offsets(alloc: Global, tokens: &mut Tokens) -> Result<OffsetTexts, ReadError>
-    ensures gives { Gives (λ x. (x, tokens.new)) result (listed_at const_at tokens.old) }
+    ensures gives { Gives (λ x. (x, tokens.new)) result (read (listed constant) tokens.old) }
     ensures shorter { OnOk result (length tokens.new < length tokens.old) }
 {
     let mut offsets = OffsetTexts::new(alloc);

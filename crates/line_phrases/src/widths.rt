@@ -1,7 +1,6 @@
 ghost use Rattle.std.specs.Prelude.{◌≡◌, ◌<◌, ◌≤◌, length, OnOk};
+ghost use Rattle.line_grammar.specs.Language.{read, field_width, field_widths, listed};
 ghost use Rattle.line_phrases.specs.Inner.Gives.{Gives};
-ghost use Rattle.line_phrases.specs.Lists.{listed_at};
-ghost use Rattle.line_phrases.specs.Widths.{field_width_at, field_widths_at};
 
 use crate::{ReadError, Tokens, read_path};
 use line_grammar::{Count, Version};
@@ -11,13 +10,13 @@ use std::alloc::Global;
 
 /// The widths of chosen leaves at the front, in braces. There are none in the first version of the language, nor where no brace
 /// is next.
-#[tactic(auto, unfolding(crate::specs::Widths::field_widths_at))]
+#[tactic(auto, unfolding(line_grammar::specs::Language::field_widths, line_grammar::specs::Language::braced_widths))]
 pub(crate) fn read_field_widths(
     alloc: Global,
     version: Version,
     tokens: &mut Tokens,
 ) -> Result<WidthList, ReadError>
-    ensures gives { Gives (λ x. (x, tokens.new)) result (field_widths_at version tokens.old) }
+    ensures gives { Gives (λ x. (x, tokens.new)) result (read (field_widths version) tokens.old) }
     ensures no_longer { OnOk result (length tokens.new ≤ length tokens.old) }
 {
     if !version.is_two() || !tokens.begins_sign(Sign::OpenBrace) {
@@ -29,9 +28,9 @@ pub(crate) fn read_field_widths(
     Ok(fields)
 }
 
-#[tactic(auto, unfolding(crate::specs::Lists::listed_at), using(crate::specs::WidthLaws::width_steps))]
+#[tactic(auto, unfolding(line_grammar::specs::Language::listed), using(crate::specs::ListLaws::comma_steps))]
 fn read_width_list(alloc: Global, tokens: &mut Tokens) -> Result<WidthList, ReadError>
-    ensures gives { Gives (λ x. (x, tokens.new)) result (listed_at field_width_at tokens.old) }
+    ensures gives { Gives (λ x. (x, tokens.new)) result (read (listed field_width) tokens.old) }
     ensures shorter { OnOk result (length tokens.new < length tokens.old) }
 {
     let mut fields = WidthList::new(alloc);
@@ -43,9 +42,9 @@ fn read_width_list(alloc: Global, tokens: &mut Tokens) -> Result<WidthList, Read
     Ok(fields)
 }
 
-#[tactic(auto, unfolding(crate::specs::Widths::field_width_at))]
+#[tactic(auto, unfolding(line_grammar::specs::Language::field_width))]
 fn read_field_width(alloc: Global, tokens: &mut Tokens) -> Result<FieldWidth, ReadError>
-    ensures gives { Gives (λ x. (x, tokens.new)) result (field_width_at tokens.old) }
+    ensures gives { Gives (λ x. (x, tokens.new)) result (read field_width tokens.old) }
     ensures shorter { OnOk result (length tokens.new < length tokens.old) }
 {
     let path = read_path(alloc, tokens)?;

@@ -1,5 +1,5 @@
--- What holds of each phrase whose tokens are spelled, composed as the phrases are.
-use Rattle.line_writer.proofs.Imports.{◌≡◌, ℕ, zero, suc, inl, inr, List, [], ◌∷◌, ◌++◌, Option, Some, None, subst, append-nil, append_assoc, IsItem, Behind, Joined, IsEither, IsNothing, Chain, Repeats, Spells, Token, Word, Number, Text, Sign, Bad, written}
+-- What holds of phrases whose tokens are spelled.
+use Rattle.line_writer.proofs.Imports.{◌≡◌, ℕ, suc, List, [], ◌∷◌, ◌++◌, zero, inl, inr, Option, Some, None, true, false, Bool, Spells, Token, Bad, Chain, Grammar, Is, item, behind, joined, either, which, nothing, repeats, deep, Splits, Told, InParts, told, in_parts, written}
 
 -- the canonical bytes of a token spell it
 abbrev pub IsSpelled : Token → Type 0
@@ -26,64 +26,75 @@ pub each_back : {A : Type 0} (P : A → Type 0) (xs ys : List A) → Each P (xs 
 each_back P [] ys h = h
 each_back P (x ∷ xs) ys h = each_back P xs ys h.1
 
--- phrases with clean tokens have no bad one, and `Q` holds of them
-pub record Gives {A : Type 0} (Is : List Token → A → Type 0) (Q : List Token → A → Type 0) : Type 0 where
-  pub at : (xs : List Token) (v : A) → Is xs v → Each IsClean xs → Each IsSpelled xs × Q xs v
+spelled_splits : Splits (Each IsSpelled)
+spelled_splits = record { front = each_front IsSpelled; back = each_back IsSpelled }
 
-pub nothing_gives : {A : Type 0} {Q : List Token → A → Type 0} (value : A) → Q [] value → Gives (IsNothing value) Q
-nothing_gives {Q = Q} value q = record { at = λ xs v h clean. (rw h.0 tt, rw (h.0, h.1) q) }
+-- each value has one list of spelled tokens
+abbrev pub Prints : {A : Type 0} → Grammar Token A → (A → List Token) → Type 0
+Prints {A} one print = (front : List Token) (a : A) → Is one front a → Each IsSpelled front → print a ≡ front
 
-clean_spelled : {A : Type 0} (value : Token → Option A) (token : Token) (v : A) → value Bad ≡ None → value token ≡ Some v → IsClean token → IsSpelled token
-clean_spelled value Bad v none some clean = absurd cc
-clean_spelled value other v none some clean = clean
+-- so holds `Q` of all phrases of spelled tokens, if it does where they end
+pub by_parts : {A : Type 0} (one : Grammar Token A) (Q : List Token → A → Type 0) → InParts (Each IsSpelled) one Q → (xs : List Token) (v : A) → Is one xs v → Each IsSpelled xs → Q xs v
+by_parts = in_parts spelled_splits
 
-pub item_gives : {A : Type 0} {Q : List Token → A → Type 0} (value : Token → Option A) → value Bad ≡ None →
-    ((token : Token) (v : A) → value token ≡ Some v → IsSpelled token → Q (token ∷ []) v) → Gives (IsItem value) Q
-item_gives {A = A} {Q = Q} value none q = record {
-  at = λ xs v h clean.
-      let alone : Each IsClean (h.0 ∷ []) = rw h.1 at clean in
-      let good = clean_spelled value h.0 v none h.2 alone.0 in
-      (rw h.1 (good, tt), rw h.1 (q h.0 v h.2 good));
-}
+pub prints : {A : Type 0} (one : Grammar Token A) (print : A → List Token) → InParts (Each IsSpelled) one (λ xs v. print v ≡ xs) → Prints one print
+prints one print = by_parts one (λ xs v. print v ≡ xs)
 
-pub behind_gives : {A : Type 0} {Is : List Token → A → Type 0} {Q : List Token → A → Type 0} (token : Token) → (IsClean token → IsSpelled token) →
-    Gives Is (λ xs v. Q (token ∷ xs) v) → Gives (Behind token Is) Q
-behind_gives {A = A} {Is = Is} {Q = Q} token sound p = record { at = λ xs v h clean. behind_at xs v h clean }
-  where
-    behind_at : (xs : List Token) (v : A) → Behind token Is xs v → Each IsClean xs → Each IsSpelled xs × Q xs v
-    behind_at [] v h clean = absurd h
-    behind_at (first ∷ xs) v h clean =
-        let rest = p.at xs v h.1 clean.1 in
-        let own : IsClean token = subst IsClean h.0 clean.0 in
-        rw h.0 ((sound own, rest.0), rest.1)
+-- `P` holds of the value of each phrase of spelled tokens
+abbrev pub Gives : {A : Type 0} → Grammar Token A → (A → Type 0) → Type 0
+Gives {A} one P = (front : List Token) (a : A) → Is one front a → Each IsSpelled front → P a
 
-pub joined_gives : {A B : Type 0} {Is : List Token → A → Type 0} {Next : A → List Token → B → Type 0} {P : List Token → A → Type 0} {Q : List Token → B → Type 0} → Gives Is P →
-    ((front : List Token) (a : A) → Is front a → P front a → Each IsSpelled front → Gives (Next a) (λ back v. Q (front ++ back) v)) → Gives (Joined Is Next) Q
-joined_gives {Is = Is} {Next = Next} {Q = Q} one two = record {
-  at = λ xs v h clean.
-      let all : Each IsClean (h.front ++ h.back) = rw h.whole at clean in
-      let front = one.at h.front h.first h.begins (each_front IsClean h.front h.back all) in
-      let back = (two h.front h.first h.begins front.1 front.0).at h.back v h.ends (each_back IsClean h.front h.back all) in
-      (rw h.whole (each_append IsSpelled h.front h.back front.0 back.0), rw h.whole back.1);
-}
+pub at_ends : {A : Type 0} (one : Grammar Token A) (Q : List Token → A → Type 0) → Told (Each IsSpelled) one Q → (xs : List Token) (v : A) → Is one xs v → Each IsSpelled xs → Q xs v
+at_ends = told spelled_splits
 
-pub either_gives : {A : Type 0} {Is IsOther : List Token → A → Type 0} {Q : List Token → A → Type 0} → Gives Is Q → Gives IsOther Q → Gives (IsEither Is IsOther) Q
-either_gives one two = record { at = λ xs v h clean. elim h [ inl i ↦ one.at xs v i clean | inr i ↦ two.at xs v i clean ] }
+pub gives : {A : Type 0} (one : Grammar Token A) (P : A → Type 0) → Told (Each IsSpelled) one (λ xs v. P v) → Gives one P
+gives one P = at_ends one (λ xs v. P v)
 
--- steps: `Q so_far value` is kept by each
-chain_gives : {A : Type 0} {Step : A → List Token → A → Type 0} {Q : List Token → A → Type 0} →
-    ((before : List Token) (a : A) → Q before a → Gives (Step a) (λ xs v. Q (before ++ xs) v)) →
-    (n : ℕ) (before : List Token) (a : A) → Q before a → Gives (Chain Step n a) (λ xs v. Q (before ++ xs) v)
-chain_gives {Q = Q} step zero before a q = nothing_gives {Q = λ xs v. Q (before ++ xs) v} a (rw append-nil q)
-chain_gives {A = A} {Step = Step} {Q = Q} step (suc n) before a q = joined_gives {Q = λ xs v. Q (before ++ xs) v} (step before a q)
-    (λ front b is kept spelled. let rest = chain_gives {Step = Step} {Q = Q} step n (before ++ front) b kept in
-    record { at = λ xs v h clean. let r = rest.at xs v h clean in (r.0, rw (← append_assoc) r.1) })
+-- ---- clean tokens of a phrase are spelled, since none of them is bad
 
-pub repeats_gives : {A : Type 0} {Step : A → List Token → A → Type 0} {Q : List Token → A → Type 0} →
-    ((before : List Token) (a : A) → Q before a → Gives (Step a) (λ xs v. Q (before ++ xs) v)) →
-    (a : A) → Q [] a → Gives (Repeats Step a) Q
-repeats_gives {Step = Step} {Q = Q} step a q = record { at = λ xs v h clean. (chain_gives {Step = Step} {Q = Q} step h.0 [] a q).at xs v h.1 clean }
+abbrev pub is_bad : Token → Bool
+is_bad Bad = true
+is_bad token = false
 
--- a weaker fact
-pub gives_also : {A : Type 0} {Is : List Token → A → Type 0} {P Q : List Token → A → Type 0} → Gives Is P → ((xs : List Token) (v : A) → Is xs v → Each IsSpelled xs → P xs v → Q xs v) → Gives Is Q
-gives_also p f = record { at = λ xs v h clean. let r = p.at xs v h clean in (r.0, f xs v h r.0 r.1) }
+good_spelled : (token : Token) → is_bad token ≡ false → IsClean token → IsSpelled token
+good_spelled Bad good clean = absurd cc
+good_spelled token good clean = clean
+
+item_spelled : {A : Type 0} (value : Token → Option A) (token : Token) (v : A) → value Bad ≡ None → value token ≡ Some v → IsClean token → IsSpelled token
+item_spelled value Bad v none some clean = absurd cc
+item_spelled value token v none some clean = clean
+
+-- no item and no token that stands for itself is the bad one
+abbrev pub HasNoBad : {A : Type 0} → Grammar Token A → Type 0
+HasNoBad (item value) = value Bad ≡ None
+HasNoBad (behind token one) = (is_bad token ≡ false) × HasNoBad one
+HasNoBad (joined {A} one next) = HasNoBad one × ((a : A) → HasNoBad (next a))
+HasNoBad (either one other) = HasNoBad one × HasNoBad other
+HasNoBad (which holds one other) = HasNoBad one × HasNoBad other
+HasNoBad (nothing value) = Unit {0}
+HasNoBad {A = A} (repeats step value) = (a : A) → HasNoBad (step a)
+HasNoBad (deep of) = (n : ℕ) → HasNoBad (of n)
+
+chain_spelled : {A : Type 0} (Step : A → List Token → A → Type 0) → ((a : A) (xs : List Token) (v : A) → Step a xs v → Each IsClean xs → Each IsSpelled xs)
+    → (n : ℕ) (a : A) (xs : List Token) (v : A) → Chain Step n a xs v → Each IsClean xs → Each IsSpelled xs
+chain_spelled Step one zero a xs v h clean = rw h.0 tt
+chain_spelled Step one (suc n) a xs v h clean =
+    let all : Each IsClean (h.front ++ h.back) = rw h.whole at clean in
+    rw h.whole (each_append IsSpelled h.front h.back (one a h.front h.first h.begins (each_front IsClean h.front h.back all))
+    (chain_spelled Step one n h.first h.back v h.ends (each_back IsClean h.front h.back all)))
+
+pub sound : {A : Type 0} (one : Grammar Token A) → HasNoBad one → (xs : List Token) (v : A) → Is one xs v → Each IsClean xs → Each IsSpelled xs
+sound (item value) s xs v h clean = let own : Each IsClean (h.0 ∷ []) = rw h.1 at clean in rw h.1 (item_spelled value h.0 v s h.2 own.0, tt)
+sound (behind token one) s [] v h clean = absurd h
+sound (behind token one) s (first ∷ xs) v h clean = let own : IsClean token = rw h.0 at clean.0 in rw h.0 (good_spelled token s.0 own, sound one s.1 xs v h.1 clean.1)
+sound (joined one next) s xs v h clean =
+    let all : Each IsClean (h.front ++ h.back) = rw h.whole at clean in
+    rw h.whole (each_append IsSpelled h.front h.back (sound one s.0 h.front h.first h.begins (each_front IsClean h.front h.back all))
+    (sound (next h.first) (s.1 h.first) h.back v h.ends (each_back IsClean h.front h.back all)))
+sound (either one other) s xs v (inl h) clean = sound one s.0 xs v h clean
+sound (either one other) s xs v (inr h) clean = sound other s.1 xs v h clean
+sound (which true one other) s xs v h clean = sound one s.0 xs v h clean
+sound (which false one other) s xs v h clean = sound other s.1 xs v h clean
+sound (nothing value) s xs v h clean = rw h.0 tt
+sound (repeats step value) s xs v h clean = chain_spelled (λ a. Is (step a)) (λ a us w i. sound (step a) (s a) us w i) h.0 value xs v h.1 clean
+sound (deep of) s xs v h clean = sound (of h.0) (s h.0) xs v h.1 clean

@@ -15,13 +15,15 @@ pub use Rattle.std.proofs.Math.Nat.{le-max_left, le-max_right}
 pub use Rattle.std.proofs.lemmas.Slice.Eq.{bytes_eq-Decides}
 pub use Rattle.std.proofs.lemmas.Simd.{map-map}
 pub use Rattle.line_tokens.specs.Spelled.{spaced, spaced_tokens, Spells, MayOpen, AreSpelled, Written}
-pub use Rattle.line_tokens.specs.declared.sign.Sign.TheVariants.{OpenBrace, CloseBrace, Comma, CloseBracket, OpenParen, CloseParen, Dot, Equals, Minus, EqualEqual, NotEqual, LessThan, LessEqual, GreaterThan, GreaterEqual, Colon, OpenBracket, Arrow, Question, Star, Slash}
+pub use Rattle.line_tokens.specs.declared.sign.Sign.TheVariants.{OpenBrace, CloseBrace, Comma, CloseBracket, OpenParen, CloseParen, Dot, Equals, Minus, EqualEqual, NotEqual, LessThan, LessEqual, GreaterThan, GreaterEqual, Colon, OpenBracket, Arrow, Star, Slash}
 pub use Rattle.record_dim.specs.Trees.{Tree, Fields, Field, Record, Single, tree_of, fields_of}
 pub use Rattle.map_expr.specs.declared.widths.FieldWidth.{FieldWidth}
 pub use Rattle.line_grammar.specs.declared.token.Token.{Token}
 pub use Rattle.line_grammar.specs.declared.token.Token.TheVariants.{Word, Sign, Number, Text, Bad}
-pub use Rattle.line_grammar.specs.Sentences.{Sentence, Assignment, Value, Assign, Update, Actors, Kernel, Count, filter_depth, deepest_set, deepest, Blank, Define, Mapping, View, Load, Reduce, Copy, Relayout, Show, Drop, Bytes, Save, Open, Advise, PrintWindow, Stencil, assignment_of}
-pub use Rattle.phrases.specs.Phrases.{IsItem, Behind, Joined, IsEither, IsNothing, Chain, Repeats}
+pub use Rattle.line_grammar.specs.Sentences.{Sentence, Assignment, Value, Assign, Update, Actors, Kernel, Count, filter_depth, deepest_set, deepest, Show, Stencil, assignment_of}
+pub use Rattle.phrases.specs.Phrases.{Joined, IsNothing, Chain}
+pub use Rattle.phrases.specs.Grammar.{Grammar, Is, item, behind, joined, either, which, nothing, repeats, deep, more}
+pub use Rattle.phrases.specs.LeavesLaws.{Splits, Told, Written as InParts, told, written as in_parts}
 pub use Rattle.record_dim.specs.declared.path.PathStep.{PathStep}
 pub use Rattle.expr_lang.specs.declared.expr.BinOp.{BinOp}
 pub use Rattle.expr_lang.specs.declared.expr.BinOp.TheVariants.{Eq, Ne, Lt, Le, Gt, Ge, Add, Sub, Mul, Div, Rem, Min, Max, And, Or}
@@ -32,12 +34,12 @@ pub use Rattle.line_grammar.specs.declared.line.Command.{Command}
 pub use Rattle.line_grammar.specs.declared.line.KernelText.{KernelText}
 pub use Rattle.line_grammar.specs.declared.line.KernelWord.{KernelWord}
 pub use Rattle.line_grammar.specs.Tokens.{token_number, kernel_word_of, comparison_of, command_of, dimensions, index_of, choice_of, or_of, and_of, sum_of, product_of, map_word, token_order, kind_token, listed, meaning, reserved, name_of, count_of, string_of, type_of, integer_type_of, integer_types, leaf_types, orders, aos_forms, aos_form_of, soa_forms, soa_form_of, map_words, kernel_words, reduction_of, reductions, commands}
-pub use Rattle.line_grammar.specs.Grammar.{Phrase, IsName, IsCount, IsNumber, IsPath, IsMore, IsListed, IsConst, IsExpr, IsBracketList, IsAssignment, IsCuts, IsFilter, IsUpdateEnd, IsKernelInside, IsKernel, IsBody, IsLine, IsLink, IsChain, wrapped, IsPrefix, IsPrefixed, IsSum, IsComparison, IsExprOver, IsLeaf, IsChoice, IsBracketed, IsAtom, IsUnary, IsProduct, IsNegation, IsConjunction, IsNew, IsPart, IsDims, arrays, fields_of_list, IsTyped, IsNested, IsBraced, IsField, IsFields, IsFieldWidth, IsBracedWidths, IsFieldWidths, IsBits, IsForm, IsFormOrName, IsMap, IsExtent, IsFlag, IsOneOrMore, IsPass, IsSpan, IsWindowText, IsSentence, IsTerm, IsTerms, IsString}
-pub use Rattle.line_grammar.specs.Words.{operator, kernel_word, index_word, reduction_word, show_word, command_word, type_word, order_word, aos_word, soa_word, form_word}
+pub use Rattle.line_grammar.specs.Language.{wrapped, arrays, fields_of_list, name, count, number, string, link}
+unfoldable pub use Rattle.line_grammar.specs.Language.{actors, assignment, atom_within, body, bracket_list as bracketed_list, braced, braced_widths, bracketed, chain, choice, command_line, comparison, conjunction, constant, cuts as cuts_phrase, dim, dims, expr, expr_over, extent_word, field_width, field_widths, field_within, fields, filter as filter_phrase, fixed, flag, form_or_name, inside_aos, inside_aosoa, inside_bits, inside_form, inside_kernel, inside_soa, kernel_text, later, later_passes, leaf, line, links, listed as comma_list, mapping, mapping_within, negation, nested, new, part, parts, pass, passes, path, prefixed, product, show_end, signs, span, stencil, sum, term as term_phrase, terms as terms_phrase, typed, unary, update_end, window as window_phrase}
+pub use Rattle.line_grammar.specs.Words.{operator, kernel_word, index_word, reduction_word, command_word, type_word, order_word, aos_word, soa_word, form_word}
 pub use Rattle.extents.specs.declared.words.ExtentWord.{ExtentWord}
 pub use Rattle.line_grammar.specs.declared.line.ShowKind.{ShowKind}
-pub use Rattle.extents.specs.declared.order.Order.{Order}
-pub use Rattle.map_expr.specs.Terms.{Term as MapTerm, Aos, Soa, Aosoa, BitAos, BitSoa, Split, Byteswap, Bytesplit, Change, Count as Counted, Heat as Heated, Named, term_of}
+pub use Rattle.map_expr.specs.Terms.{Term as MapTerm, term_of}
 pub use Rattle.line_grammar.specs.declared.line.MapWord.{MapWord}
 pub use Rattle.line_tokens.specs.Bytes.{is_text_byte, is_letter, is_word_byte}
 pub use Rattle.line_tokens.specs.EndLaws.{joined_no_end}
@@ -59,6 +61,6 @@ pub use Rattle.extents.specs.declared.window.Span.{Span}
 pub use Rattle.line_grammar.specs.declared.line.TermText.{TermText}
 pub use Rattle.record_dim.specs.declared.dim.FieldList.{the_lemmas, size-FieldList}
 pub use Rattle.record_dim.specs.declared.dim.Dim.{size-Dim}
-pub use Rattle.line_writer.specs.Canonical.{with_commas, width_tokens, widths_tokens, fields_tokens, later_tokens, held_tokens, line_tokens, count_token, number_tokens, path_tokens, form_tokens, value_tokens, assignment_tokens, filter_tokens, update_tokens, index_tokens, actors_tokens, kernel_tokens, is_choice, operand, bracket_list, extent_tokens, flag_tokens, map_tokens, pass_tokens, new_tokens, bracketed_count, step_tokens, dims_tokens, core_tokens, ordered_tokens, bits_tokens, span_tokens, window_tokens, needs_brackets, first_tokens, term_tokens, terms_tokens}
+pub use Rattle.line_writer.specs.Canonical.{with_commas, width_tokens, widths_tokens, fields_tokens, later_tokens, held_tokens, line_tokens, count_token, number_tokens, path_tokens, form_tokens, value_tokens, assignment_tokens, filter_tokens, update_tokens, index_tokens, actors_tokens, kernel_tokens, is_choice, operand, bracket_list, extent_tokens, flag_tokens, map_tokens, pass_tokens, new_tokens, bracketed_count, step_tokens, dims_tokens, core_tokens, span_tokens, window_tokens, needs_brackets, first_tokens, term_tokens, terms_tokens}
 pub use Rattle.line_writer.specs.Texts.{written, with_tokens_behind}
 unfoldable pub use Rattle.line_writer.specs.Texts.{canonical}

@@ -1,47 +1,58 @@
 -- The phrases that may have other tokens than the canonical ones: lines with expressions and kernels. Their canonical tokens are
 -- read as the same line, and open few brackets at once.
-use Rattle.line_writer.proofs.Imports.{◌≡◌, ℕ, zero, suc, ◌+◌, ◌≤◌, max, List, [], ◌∷◌, ◌++◌, map, length, Option, Some, None, codes, ℤ, pos, negsuc, neg_ℤ, inl, inr, refl, sym, add-one, append-nil, append_assoc, arith, flat_map, Behind, Joined, IsNothing, Chain, CloseBracket, OpenParen, CloseParen, Comma, Dot, Equals, Minus, EqualEqual, NotEqual, LessThan, LessEqual, GreaterThan, GreaterEqual, PathStep, BinOp, Eq, Ne, Lt, Le, Gt, Ge, depth_of, Token, Word, Number, Text, Sign, Bad, Version, One, Two, Command, KernelText, KernelWord, token_number, kernel_word_of, comparison_of, command_of, Assignment, Sentence, Value, Assign, Update, Actors, Kernel, Count, filter_depth, deepest_set, deepest, Phrase, IsName, IsCount, IsNumber, IsPath, IsMore, IsListed, IsConst, IsExpr, IsBracketList, IsAssignment, IsCuts, IsFilter, IsUpdateEnd, IsKernelInside, IsKernel, IsBody, IsLine, operator, kernel_word, count_token, number_tokens, path_tokens, with_commas, form_tokens, value_tokens, assignment_tokens, filter_tokens, update_tokens, index_tokens, actors_tokens, kernel_tokens, line_tokens}
+use Rattle.line_writer.proofs.Imports.{◌≡◌, ℕ, suc, ◌+◌, ◌≤◌, List, [], ◌∷◌, ◌++◌, map, length, codes, refl, sym, add-one, append-nil, append_assoc, arith, zero, inl, inr, Option, Some, None, max, ℤ, pos, negsuc, neg_ℤ, flat_map, Comma, CloseBracket, OpenParen, CloseParen, Dot, Equals, EqualEqual, NotEqual, LessThan, LessEqual, GreaterThan, GreaterEqual, Token, Word, Sign, Number, Text, Bad, Sentence, Assignment, Value, Assign, Update, Actors, Kernel, Count, filter_depth, deepest_set, deepest, Joined, IsNothing, Chain, Grammar, Is, behind, joined, more, PathStep, BinOp, Eq, Ne, Lt, Le, Gt, Ge, depth_of, Version, One, Two, Command, KernelText, KernelWord, token_number, kernel_word_of, comparison_of, command_of, name, count, number, actors, assignment, body, bracketed_list, command_line, constant, cuts_phrase, filter_phrase, inside_kernel, kernel_text, later, line, comma_list, part, parts, path, update_end, operator, kernel_word, with_commas, line_tokens, count_token, number_tokens, path_tokens, form_tokens, value_tokens, assignment_tokens, filter_tokens, update_tokens, index_tokens, actors_tokens, kernel_tokens}
 use Rattle.line_grammar.specs.declared.line.Command.TheVariants as command
 use Rattle.line_grammar.specs.declared.line.KernelText.TheVariants as kernel
 use Rattle.line_grammar.specs.declared.line.KernelWord.TheVariants as word
-use Rattle.line_writer.proofs.Gives.{IsSpelled, Each, each_front, each_back, Gives, nothing_gives, item_gives, behind_gives, joined_gives, either_gives, gives_also}
-use Rattle.line_writer.proofs.Phrases.{IsWritten, sound, path_gives}
+use Rattle.line_writer.proofs.Gives.{IsSpelled, Each, each_front, each_back, Gives, Prints, gives}
+use Rattle.line_writer.proofs.Words.{count_prints, name_prints}
+use Rattle.line_writer.proofs.Phrases.{path_prints}
 use Rattle.line_writer.proofs.Leaves.{IsGood}
 use Rattle.line_writer.proofs.Levels.{value_read}
-use Rattle.line_writer.proofs.Rooms.{Fits, no_tokens_fit, fits_more, fits_append, fits_flat, fits_operator, one_fits, path_fits, number_fits, value_fits, commas_fit, form_fits, bracket_list_fits, word_spelled}
+use Rattle.line_writer.proofs.Rooms.{Fits, no_tokens_fit, fits_more, fits_append, fits_flat, fits_operator, fits_word, one_fits, path_fits, number_fits, value_fits, commas_fit, form_fits, bracket_list_fits, word_spelled}
 
 -- the canonical tokens of the value are read as this value, and are spelled
-pub record Kept {A : Type 0} (Is : Phrase A) (tokens : A → List Token) (v : A) : Type 0 where
-  pub reads : Is (tokens v) v
+pub record Kept {A : Type 0} (one : Grammar Token A) (tokens : A → List Token) (v : A) : Type 0 where
+  pub reads : Is one (tokens v) v
   pub spelled : Each IsSpelled (tokens v)
 
-pub kept_from : {A : Type 0} (Is : Phrase A) (tokens : A → List Token) (xs : List Token) (v : A) → tokens v ≡ xs → Is xs v → Each IsSpelled xs → Kept Is tokens v
-kept_from Is tokens xs v same is spelled = record { reads = rw same is; spelled = rw same spelled }
-
-pub kept_gives : {A : Type 0} {Is : Phrase A} (tokens : A → List Token) → Gives Is (IsWritten tokens) → Gives Is (λ xs v. Kept Is tokens v)
-kept_gives {Is = Is} tokens one = gives_also one (λ xs v is spelled same. kept_from Is tokens xs v same is spelled)
+pub kept : {A : Type 0} (one : Grammar Token A) (tokens : A → List Token) → Prints one tokens → Gives one (Kept one tokens)
+kept one tokens p front v is spelled = record { reads = rw (p front v is spelled) is; spelled = rw (p front v is spelled) spelled }
 
 abbrev pub KeptName : List ℕ → Type 0
-KeptName name = Kept IsName (λ k. Word k ∷ []) name
+KeptName = Kept name (λ k. Word k ∷ [])
 
 abbrev pub KeptCount : ℕ → Type 0
-KeptCount count = Kept IsCount (λ k. count_token k ∷ []) count
+KeptCount = Kept count (λ k. count_token k ∷ [])
 
 abbrev pub KeptPath : List PathStep → Type 0
-KeptPath path = Kept IsPath path_tokens path
+KeptPath = Kept path path_tokens
+
+abbrev pub KeptConst : ℤ → Type 0
+KeptConst = Kept constant number_tokens
+
+pub kept_name : Gives name KeptName
+kept_name = kept name (λ k. Word k ∷ []) name_prints
+
+pub kept_count : Gives count KeptCount
+kept_count = kept count (λ k. count_token k ∷ []) count_prints
+
+pub kept_path : Gives path KeptPath
+kept_path = kept path path_tokens path_prints
 
 -- one phrase behind another, and the last one
-pub join : {A B : Type 0} {Is : Phrase A} {Next : A → Phrase B} (front back : List Token) (a : A) (v : B) → Is front a → Next a back v → Joined Is Next (front ++ back) v
+pub join : {A B : Type 0} {IsOne : List Token → A → Type 0} {Next : A → List Token → B → Type 0} (front back : List Token) (a : A) (v : B) → IsOne front a → Next a back v → Joined IsOne Next (front ++ back) v
 join front back a v h g = record { first = a; front = front; back = back; whole = refl; begins = h; ends = g }
 
-pub last : {A B : Type 0} {Is : Phrase A} (f : A → B) (xs : List Token) (a : A) → Is xs a → Joined Is (λ a. IsNothing (f a)) xs (f a)
+pub last : {A B : Type 0} {IsOne : List Token → A → Type 0} (f : A → B) (xs : List Token) (a : A) → IsOne xs a → Joined IsOne (λ a. IsNothing (f a)) xs (f a)
 last f xs a h = record { first = a; front = xs; back = []; whole = sym (append-nil xs); begins = h; ends = (refl, refl) }
 
 -- a constant
 negative : (n : ℕ) → neg_ℤ (pos (n + 1)) ≡ negsuc n
 negative n = rw add-one refl
 
-const_of : (v : ℤ) (n : ℕ) → v ≡ pos n → IsSpelled (Number (pos n)) → Kept IsConst number_tokens (neg_ℤ v)
+const_of : (v : ℤ) (n : ℕ) → v ≡ pos n → IsSpelled (Number (pos n)) → KeptConst (neg_ℤ v)
+unfolding constant
 const_of v zero e spelled = rw e (record { reads = inr (Number (pos 0), refl, refl); spelled = (spelled, tt) })
 const_of v (suc n) e spelled = rw e (record {
   reads = inl (refl, record { first = pos (n + 1); front = Number (pos (n + 1)) ∷ []; back = []; whole = refl; begins = (Number (pos (n + 1)), refl, refl); ends = (refl, sym (negative n)) });
@@ -56,32 +67,29 @@ numeral (Text text) v h spelled = absurd cc
 numeral (Sign sign) v h spelled = absurd cc
 numeral Bad v h spelled = absurd cc
 
-numeral_gives : Gives IsNumber (λ xs v. (n : ℕ) × (v ≡ pos n) × IsSpelled (Number (pos n)))
-numeral_gives = item_gives {Q = λ xs v. (n : ℕ) × (v ≡ pos n) × IsSpelled (Number (pos n))} token_number refl numeral
-
-plain_const : (v : ℤ) (n : ℕ) → v ≡ pos n → IsSpelled (Number (pos n)) → Kept IsConst number_tokens v
+plain_const : (v : ℤ) (n : ℕ) → v ≡ pos n → IsSpelled (Number (pos n)) → KeptConst v
+unfolding constant
 plain_const v n e spelled = rw e (record { reads = inr (Number (pos n), refl, refl); spelled = (spelled, tt) })
 
-pub const_gives : Gives IsConst (λ xs v. Kept IsConst number_tokens v)
-const_gives = either_gives
-    (behind_gives {Q = λ xs v. Kept IsConst number_tokens v} (Sign Minus) sound (joined_gives {Q = λ xs v. Kept IsConst number_tokens v} numeral_gives (λ front number i n s.
-    nothing_gives {Q = λ xs v. Kept IsConst number_tokens v} (neg_ℤ number) (const_of number n.0 n.1 n.2))))
-    (gives_also numeral_gives (λ xs v i s n. plain_const v n.0 n.1 n.2))
+pub const_gives : Gives constant KeptConst
+unfolding constant
+const_gives = gives constant KeptConst ((λ v f i s. let n = numeral i.0 v i.2 (rw i.1 at s).0 in const_of v n.0 n.1 n.2), (λ token v is s. let n = numeral token v is s.0 in plain_const v n.0 n.1 n.2))
 
 -- kernels
 pub record KeptKernel (word : KernelWord) (text : KernelText) : Type 0 where
   pub inside : List Token
   pub whole : kernel_tokens text ≡ form_tokens (kernel_word word) inside
-  pub reads : IsKernelInside word inside text
+  pub reads : Is (inside_kernel word) inside text
   pub fits : Fits 1 inside
 
 pub path_in : (path : List PathStep) → KeptPath path → Fits 1 (path_tokens path)
 path_in path h = path_fits path h.spelled
 
-const_in : (number : ℤ) → Kept IsConst number_tokens number → Fits 1 (number_tokens number)
+const_in : (number : ℤ) → KeptConst number → Fits 1 (number_tokens number)
 const_in number h = fits_more 0 1 _ (omega arith) (number_fits number h.spelled)
 
-axpy_kept : (a : ℤ) (x y : List PathStep) → Kept IsConst number_tokens a → KeptPath x → KeptPath y → KeptKernel word.Axpy (kernel.Axpy a x y)
+axpy_kept : (a : ℤ) (x y : List PathStep) → KeptConst a → KeptPath x → KeptPath y → KeptKernel word.Axpy (kernel.Axpy a x y)
+unfolding inside_kernel
 axpy_kept a x y ka kx ky = record {
   inside = number_tokens a ++ Sign Comma ∷ (path_tokens x ++ Sign Comma ∷ path_tokens y);
   whole = refl;
@@ -91,7 +99,8 @@ axpy_kept a x y ka kx ky = record {
       (fits_append 1 (path_tokens x) _ (path_in x kx) (fits_flat 1 (Sign Comma) _ refl refl (path_in y ky))));
 }
 
-clamp_kept : (x : List PathStep) (lo hi : ℤ) → KeptPath x → Kept IsConst number_tokens lo → Kept IsConst number_tokens hi → KeptKernel word.Clamp (kernel.Clamp x lo hi)
+clamp_kept : (x : List PathStep) (lo hi : ℤ) → KeptPath x → KeptConst lo → KeptConst hi → KeptKernel word.Clamp (kernel.Clamp x lo hi)
+unfolding inside_kernel
 clamp_kept x lo hi kx kl kh = record {
   inside = path_tokens x ++ Sign Comma ∷ (number_tokens lo ++ Sign Comma ∷ number_tokens hi);
   whole = refl;
@@ -101,7 +110,8 @@ clamp_kept x lo hi kx kl kh = record {
       (fits_append 1 (number_tokens lo) _ (const_in lo kl) (fits_flat 1 (Sign Comma) _ refl refl (const_in hi kh))));
 }
 
-count_where_kept : (x : List PathStep) (op : BinOp) (c : ℤ) → KeptPath x → comparison_of (operator op) ≡ Some op → Kept IsConst number_tokens c → KeptKernel word.CountWhere (kernel.CountWhere x op c)
+count_where_kept : (x : List PathStep) (op : BinOp) (c : ℤ) → KeptPath x → comparison_of (operator op) ≡ Some op → KeptConst c → KeptKernel word.CountWhere (kernel.CountWhere x op c)
+unfolding inside_kernel
 count_where_kept x op c kx e kc = record {
   inside = path_tokens x ++ operator op ∷ number_tokens c;
   whole = refl;
@@ -122,58 +132,21 @@ comparison_is (Sign GreaterThan) op h spelled = comparison_back op Gt (cc) refl
 comparison_is (Sign GreaterEqual) op h spelled = comparison_back op Ge (cc) refl
 comparison_is token op h spelled = absurd cc
 
-path_kernel : (word : KernelWord) (value : List PathStep → KernelText) → ((x : List PathStep) → KeptPath x → KeptKernel word (value x)) → Gives (Joined IsPath (λ x. IsNothing (value x))) (λ xs v. KeptKernel word v)
-path_kernel word value kept = joined_gives {Q = λ xs v. KeptKernel word v} (kept_gives path_tokens path_gives) (λ front x i k s. nothing_gives {Q = λ xs v. KeptKernel word v} (value x) (kept x k))
-
-pub kernel_inside_gives : (word : KernelWord) → Gives (IsKernelInside word) (λ xs v. KeptKernel word v)
-kernel_inside_gives word.Axpy = joined_gives {Q = λ xs v. KeptKernel word.Axpy v} const_gives (λ f a i ka s. behind_gives {Q = λ xs v. KeptKernel word.Axpy v} (Sign Comma) sound
-    (joined_gives {Q = λ xs v. KeptKernel word.Axpy v} (kept_gives path_tokens path_gives) (λ g x i' kx s'. behind_gives {Q = λ xs v. KeptKernel word.Axpy v} (Sign Comma) sound
-    (joined_gives {Q = λ xs v. KeptKernel word.Axpy v} (kept_gives path_tokens path_gives) (λ h y i'' ky s''. nothing_gives {Q = λ xs v. KeptKernel word.Axpy v} (kernel.Axpy a x y) (axpy_kept a x y ka kx ky))))))
-kernel_inside_gives word.Clamp = joined_gives {Q = λ xs v. KeptKernel word.Clamp v} (kept_gives path_tokens path_gives) (λ f x i kx s. behind_gives {Q = λ xs v. KeptKernel word.Clamp v} (Sign Comma) sound
-    (joined_gives {Q = λ xs v. KeptKernel word.Clamp v} const_gives (λ g lo i' kl s'. behind_gives {Q = λ xs v. KeptKernel word.Clamp v} (Sign Comma) sound
-    (joined_gives {Q = λ xs v. KeptKernel word.Clamp v} const_gives (λ h hi i'' kh s''. nothing_gives {Q = λ xs v. KeptKernel word.Clamp v} (kernel.Clamp x lo hi) (clamp_kept x lo hi kx kl kh))))))
-kernel_inside_gives word.Sum = path_kernel word.Sum kernel.Sum (λ x k. record { inside = path_tokens x; whole = refl; reads = last kernel.Sum (path_tokens x) x k.reads; fits = path_in x k })
-kernel_inside_gives word.Least = path_kernel word.Least kernel.Least (λ x k. record { inside = path_tokens x; whole = refl; reads = last kernel.Least (path_tokens x) x k.reads; fits = path_in x k })
-kernel_inside_gives word.Greatest = path_kernel word.Greatest kernel.Greatest (λ x k. record { inside = path_tokens x; whole = refl; reads = last kernel.Greatest (path_tokens x) x k.reads; fits = path_in x k })
-kernel_inside_gives word.CountWhere = joined_gives {Q = λ xs v. KeptKernel word.CountWhere v} (kept_gives path_tokens path_gives) (λ f x i kx s.
-    joined_gives {Q = λ xs v. KeptKernel word.CountWhere v} (item_gives {Q = λ xs op. comparison_of (operator op) ≡ Some op} comparison_of refl comparison_is) (λ g op i' e s'.
-    joined_gives {Q = λ xs v. KeptKernel word.CountWhere v} const_gives (λ h c i'' kc s''. nothing_gives {Q = λ xs v. KeptKernel word.CountWhere v} (kernel.CountWhere x op c) (count_where_kept x op c kx e kc))))
+pub kernel_inside_gives : (word : KernelWord) → Gives (inside_kernel word) (KeptKernel word)
+unfolding inside_kernel
+kernel_inside_gives word.Axpy = gives (inside_kernel word.Axpy) (KeptKernel word.Axpy) (λ a f i s x g j t y h k u. axpy_kept a x y (const_gives f a i s) (kept_path g x j t) (kept_path h y k u))
+kernel_inside_gives word.Clamp = gives (inside_kernel word.Clamp) (KeptKernel word.Clamp) (λ x f i s lo g j t hi h k u. clamp_kept x lo hi (kept_path f x i s) (const_gives g lo j t) (const_gives h hi k u))
+kernel_inside_gives word.Sum = gives (inside_kernel word.Sum) (KeptKernel word.Sum) (λ x f i s. let k = kept_path f x i s in record { inside = path_tokens x; whole = refl; reads = last kernel.Sum (path_tokens x) x k.reads; fits = path_in x k })
+kernel_inside_gives word.Least = gives (inside_kernel word.Least) (KeptKernel word.Least) (λ x f i s. let k = kept_path f x i s in record { inside = path_tokens x; whole = refl; reads = last kernel.Least (path_tokens x) x k.reads; fits = path_in x k })
+kernel_inside_gives word.Greatest = gives (inside_kernel word.Greatest) (KeptKernel word.Greatest) (λ x f i s. let k = kept_path f x i s in record { inside = path_tokens x; whole = refl; reads = last kernel.Greatest (path_tokens x) x k.reads; fits = path_in x k })
+kernel_inside_gives word.CountWhere = gives (inside_kernel word.CountWhere) (KeptKernel word.CountWhere) (λ x f i s op g j t c h k u.
+    count_where_kept x op c (kept_path f x i s) (comparison_is j.0 op j.2 (rw j.1 at t).0) (const_gives h c k u))
 
 -- a line is kept: its canonical tokens are read as this line, and open no 65th bracket
 abbrev pub IsKept : Version → Sentence → Type 0
-IsKept version sentence = deepest sentence ≤ 32 → Fits 64 (line_tokens sentence) × IsLine version 32 (line_tokens sentence) sentence
+IsKept version sentence = deepest sentence ≤ 32 → Fits 64 (line_tokens sentence) × Is (line version) (line_tokens sentence) sentence
 
--- the words of such lines
-pub set_word : IsSpelled (Word (codes "set"))
-set_word = word_spelled (codes "set") refl refl (omega arith)
-
-update_word : IsSpelled (Word (codes "update"))
-update_word = word_spelled (codes "update") refl refl (omega arith)
-
-where_word : IsSpelled (Word (codes "where"))
-where_word = word_spelled (codes "where") refl refl (omega arith)
-
-reduce_word : IsSpelled (Word (codes "reduce"))
-reduce_word = word_spelled (codes "reduce") refl refl (omega arith)
-
-count_word : IsSpelled (Word (codes "count"))
-count_word = word_spelled (codes "count") refl refl (omega arith)
-
-actors_word : IsSpelled (Word (codes "actors"))
-actors_word = word_spelled (codes "actors") refl refl (omega arith)
-
-schedule_word : IsSpelled (Word (codes "schedule"))
-schedule_word = word_spelled (codes "schedule") refl refl (omega arith)
-
-turns_word : IsSpelled (Word (codes "turns"))
-turns_word = word_spelled (codes "turns") refl refl (omega arith)
-
-kernel_command : IsSpelled (Word (codes "kernel"))
-kernel_command = word_spelled (codes "kernel") refl refl (omega arith)
-
-lanes_word : IsSpelled (Word (codes "lanes"))
-lanes_word = word_spelled (codes "lanes") refl refl (omega arith)
-
+-- the words of kernels
 kernel_word_spelled : (word : KernelWord) → IsSpelled (Word (kernel_word word))
 kernel_word_spelled word.Axpy = word_spelled (codes "axpy") refl refl (omega arith)
 kernel_word_spelled word.Clamp = word_spelled (codes "clamp") refl refl (omega arith)
@@ -187,29 +160,29 @@ kernel_word_back word.Axpy = refl
 kernel_word_back other = refl
 
 -- a command with a word in front
-pub command_line : (version : Version) (c : Command) (text : List ℕ) (rest : List Token) (s : Sentence) → command_of version (Word text) ≡ Some c → IsBody version 32 c rest s → IsLine version 32 (Word text ∷ rest) s
-command_line version c text rest s e h = inr (join (Word text ∷ []) rest c s (Word text, refl, e) h)
+pub as_line : (version : Version) (c : Command) (text : List ℕ) (rest : List Token) (s : Sentence) → command_of version (Word text) ≡ Some c → Is (body version c) rest s → Is (line version) (Word text ∷ rest) s
+unfolding line command_line
+as_line version c text rest s e h = inl (join (Word text ∷ []) rest c s (Word text, refl, e) h)
 
-pub name_in : (name : List ℕ) → KeptName name → IsSpelled (Word name)
-name_in name h = h.spelled.0
+pub name_in : (text : List ℕ) → KeptName text → IsSpelled (Word text)
+name_in text h = h.spelled.0
 
 value_in : (value : Value) → IsGood value → depth_of value ≤ 32 → Fits 32 (value_tokens value)
 value_in value good small = fits_more (depth_of value) 32 _ small (value_fits value good)
 
-value_reads : (value : Value) → IsGood value → depth_of value ≤ 32 → IsExpr 32 (value_tokens value) value
-value_reads value good small = value_read value 32 good (omega arith)
-
 -- reduce .. count where
 pub count_kept : (version : Version) (view : List ℕ) (filter : Value) → KeptName view → IsGood filter → IsKept version (Count view filter)
+unfolding body
 count_kept version view filter kv good = λ small. (
-  fits_more 32 64 _ (omega arith) (fits_flat 32 (Word (codes "reduce")) _ refl reduce_word (fits_flat 32 (Word view) _ refl (name_in view kv)
-      (fits_flat 32 (Word (codes "count")) _ refl count_word (fits_flat 32 (Word (codes "where")) _ refl where_word (value_in filter good small))))),
-  command_line version command.Reduce (codes "reduce") _ _ refl (join (Word view ∷ []) _ view _ kv.reads
-      (inl (refl, (refl, last (λ filter. Count view filter) (value_tokens filter) filter (value_reads filter good small))))),
+  fits_more 32 64 _ (omega arith) (fits_word 32 (codes "reduce") _ refl refl (omega arith) (fits_flat 32 (Word view) _ refl (name_in view kv)
+      (fits_word 32 (codes "count") _ refl refl (omega arith) (fits_word 32 (codes "where") _ refl refl (omega arith) (value_in filter good small))))),
+  as_line version command.Reduce (codes "reduce") _ _ refl (join (Word view ∷ []) _ view _ kv.reads
+      (inl (refl, (refl, last (λ filter. Count view filter) (value_tokens filter) filter (value_read filter good))))),
 )
 
 -- kernel
-kernel_reads : (word : KernelWord) (text : KernelText) → KeptKernel word text → IsKernel (kernel_tokens text) text
+kernel_reads : (word : KernelWord) (text : KernelText) → KeptKernel word text → Is kernel_text (kernel_tokens text) text
+unfolding kernel_text
 kernel_reads word text k = rw k.whole (join (Word (kernel_word word) ∷ []) (Sign OpenParen ∷ (k.inside ++ Sign CloseParen ∷ [])) word text (Word (kernel_word word), refl, kernel_word_back word)
     (refl, join k.inside (Sign CloseParen ∷ []) text text k.reads (refl, (refl, refl))))
 
@@ -217,10 +190,11 @@ kernel_fits : (word : KernelWord) (text : KernelText) → KeptKernel word text �
 kernel_fits word text k = rw k.whole (form_fits 1 (kernel_word word) k.inside (kernel_word_spelled word) k.fits)
 
 pub kernel_kept : (version : Version) (view : List ℕ) (word : KernelWord) (text : KernelText) (lanes : ℕ) → KeptName view → KeptKernel word text → KeptCount lanes → IsKept version (Kernel view text lanes)
+unfolding body
 kernel_kept version view word text lanes kv k kl = λ small. (
-  fits_more 2 64 _ (omega arith) (fits_flat 2 (Word (codes "kernel")) _ refl kernel_command (fits_flat 2 (Word view) _ refl (name_in view kv)
-      (fits_append 2 (kernel_tokens text) _ (kernel_fits word text k) (fits_flat 2 (Word (codes "lanes")) _ refl lanes_word (fits_more 0 2 _ (omega arith) (one_fits (count_token lanes) refl kl.spelled.0)))))),
-  command_line version command.Kernel (codes "kernel") _ _ refl (join (Word view ∷ []) _ view _ kv.reads
+  fits_more 2 64 _ (omega arith) (fits_word 2 (codes "kernel") _ refl refl (omega arith) (fits_flat 2 (Word view) _ refl (name_in view kv)
+      (fits_append 2 (kernel_tokens text) _ (kernel_fits word text k) (fits_word 2 (codes "lanes") _ refl refl (omega arith) (fits_more 0 2 _ (omega arith) (one_fits (count_token lanes) refl kl.spelled.0)))))),
+  as_line version command.Kernel (codes "kernel") _ _ refl (join (Word view ∷ []) _ view _ kv.reads
       (join (kernel_tokens text) (Word (codes "lanes") ∷ count_token lanes ∷ []) text _ (kernel_reads word text k)
       (refl, last (λ lanes. Kernel view text lanes) (count_token lanes ∷ []) lanes kl.reads))),
 )
@@ -230,9 +204,9 @@ abbrev pub IsFull : {A : Type 0} → List A → Type 0
 IsFull [] = ⊥
 IsFull (x ∷ xs) = Unit {0}
 
-module _ {A : Type 0} (Is : Phrase A) (tokens : A → List Token) where
-  later_read : (found vs : List A) → Each (λ v. Is (tokens v) v) vs →
-      Chain (IsMore (Behind (Sign Comma) Is)) (length vs) found (flat_map (λ next. Sign Comma ∷ next) (map tokens vs)) (found ++ vs)
+module _ {A : Type 0} (one : Grammar Token A) (tokens : A → List Token) where
+  later_read : (found vs : List A) → Each (λ v. Is one (tokens v) v) vs →
+      Chain (λ a. Is (more (behind (Sign Comma) one) a)) (length vs) found (flat_map (λ next. Sign Comma ∷ next) (map tokens vs)) (found ++ vs)
   later_read found [] each = (refl, append-nil found)
   later_read found (v ∷ vs) each =
       let rest = later_read (found ++ v ∷ []) vs each.1 in
@@ -245,7 +219,8 @@ module _ {A : Type 0} (Is : Phrase A) (tokens : A → List Token) where
         ends = rw append_assoc at rest;
       }
 
-  pub listed_read : (vs : List A) → IsFull vs → Each (λ v. Is (tokens v) v) vs → IsListed Is (with_commas (map tokens vs)) vs
+  pub listed_read : (vs : List A) → IsFull vs → Each (λ v. Is one (tokens v) v) vs → Is (comma_list one) (with_commas (map tokens vs)) vs
+  unfolding comma_list later
   listed_read [] full each = absurd full
   listed_read (v ∷ vs) full each = join (tokens v) (flat_map (λ next. Sign Comma ∷ next) (map tokens vs)) v (v ∷ vs) each.0 (length vs, later_read (v ∷ []) vs each.1)
 
@@ -267,16 +242,17 @@ counts_fit (count ∷ counts) h = (one_fits (count_token count) refl h.0.0, coun
 index_fits : (index : List ℕ) → Each IsSpelled (index_tokens index) → Fits 1 (index_tokens index)
 index_fits index h = bracket_list_fits 0 _ (counts_fit index (spelled_commas _ (each_front IsSpelled (with_commas (map (λ count. count_token count ∷ []) index)) (Sign CloseBracket ∷ []) h.1)))
 
-pub assign_kept : (version : Version) (view : List ℕ) (index : List ℕ) (path : List PathStep) (value : Value) → KeptName view → Kept (IsBracketList IsCount) index_tokens index → KeptPath path → IsGood value → IsKept version (Assign view index path value)
+pub assign_kept : (version : Version) (view : List ℕ) (index : List ℕ) (path : List PathStep) (value : Value) → KeptName view → Kept (bracketed_list count) index_tokens index → KeptPath path → IsGood value → IsKept version (Assign view index path value)
+unfolding body
 assign_kept version view index path value kv ki kp good = λ small. (
-  fits_more 32 64 _ (omega arith) (fits_flat 32 (Word (codes "set")) _ refl set_word (fits_flat 32 (Word view) _ refl (name_in view kv)
+  fits_more 32 64 _ (omega arith) (fits_word 32 (codes "set") _ refl refl (omega arith) (fits_flat 32 (Word view) _ refl (name_in view kv)
       (fits_append 32 (index_tokens index) _ (fits_more 1 32 _ (omega arith) (index_fits index ki.spelled)) (fits_flat 32 (Sign Dot) _ refl refl
       (fits_append 32 (path_tokens path) _ (fits_more 1 32 _ (omega arith) (path_in path kp)) (fits_flat 32 (Sign Equals) _ refl refl (value_in value good small))))))),
-  command_line version command.Set (codes "set") _ _ refl (join (Word view ∷ []) _ view _ kv.reads
+  as_line version command.Set (codes "set") _ _ refl (join (Word view ∷ []) _ view _ kv.reads
       (join (index_tokens index) (Sign Dot ∷ (path_tokens path ++ Sign Equals ∷ value_tokens value)) index _ ki.reads (
         refl,
         join (path_tokens path) (Sign Equals ∷ value_tokens value) path _ kp.reads
-            (refl, last (λ value. Assign view index path value) (value_tokens value) value (value_reads value good small)),
+            (refl, last (λ value. Assign view index path value) (value_tokens value) value (value_read value good)),
       ))),
 )
 
@@ -288,28 +264,30 @@ abbrev pub IsGoodFilter : Option Value → Type 0
 IsGoodFilter None = Unit {0}
 IsGoodFilter (Some filter) = IsGood filter
 
-set_reads : (set : Assignment) → IsGoodSet set → depth_of set.value ≤ 32 → IsAssignment 32 (assignment_tokens set) set
-set_reads set good small = join (path_tokens set.path) (Sign Equals ∷ value_tokens set.value) set.path _ good.0.reads
-    (refl, last (λ value. let made : Assignment = record { path = set.path; value = value } in made) (value_tokens set.value) set.value (value_reads set.value good.1 small))
+set_reads : (set : Assignment) → IsGoodSet set → Is assignment (assignment_tokens set) set
+unfolding assignment
+set_reads set good = join (path_tokens set.path) (Sign Equals ∷ value_tokens set.value) set.path _ good.0.reads
+    (refl, last (λ value. let made : Assignment = record { path = set.path; value = value } in made) (value_tokens set.value) set.value (value_read set.value good.1))
 
 set_fits : (set : Assignment) → IsGoodSet set → depth_of set.value ≤ 32 → Fits 32 (assignment_tokens set)
 set_fits set good small = fits_append 32 (path_tokens set.path) _ (fits_more 1 32 _ (omega arith) (path_in set.path good.0)) (fits_flat 32 (Sign Equals) _ refl refl (value_in set.value good.1 small))
 
-sets_read : (sets : List Assignment) → Each IsGoodSet sets → deepest_set sets ≤ 32 → Each (λ set. IsAssignment 32 (assignment_tokens set) set) sets
-sets_read [] good small = tt
-sets_read (set ∷ sets) good small = (set_reads set good.0 (omega arith), sets_read sets good.1 (omega arith))
+sets_read : (sets : List Assignment) → Each IsGoodSet sets → Each (λ set. Is assignment (assignment_tokens set) set) sets
+sets_read [] good = tt
+sets_read (set ∷ sets) good = (set_reads set good.0, sets_read sets good.1)
 
 sets_fit : (sets : List Assignment) → Each IsGoodSet sets → deepest_set sets ≤ 32 → Each (Fits 32) (map assignment_tokens sets)
 sets_fit [] good small = tt
 sets_fit (set ∷ sets) good small = (set_fits set good.0 (omega arith), sets_fit sets good.1 (omega arith))
 
-filter_reads : (filter : Option Value) → IsGoodFilter filter → filter_depth filter ≤ 32 → IsFilter 32 (filter_tokens filter) filter
-filter_reads None good small = inr (refl, refl)
-filter_reads (Some filter) good small = inl (refl, last Some (value_tokens filter) filter (value_reads filter good small))
+filter_reads : (filter : Option Value) → IsGoodFilter filter → Is filter_phrase (filter_tokens filter) filter
+unfolding filter_phrase
+filter_reads None good = inr (refl, refl)
+filter_reads (Some filter) good = inl (refl, last Some (value_tokens filter) filter (value_read filter good))
 
 filter_fits : (filter : Option Value) → IsGoodFilter filter → filter_depth filter ≤ 32 → Fits 32 (filter_tokens filter)
 filter_fits None good small = fits_more 0 32 [] (omega arith) no_tokens_fit
-filter_fits (Some filter) good small = fits_flat 32 (Word (codes "where")) _ refl where_word (value_in filter good small)
+filter_fits (Some filter) good small = fits_word 32 (codes "where") _ refl refl (omega arith) (value_in filter good small)
 
 -- the parts of an update are kept
 pub record KeptParts (view : List ℕ) (filter : Option Value) (sets : List Assignment) : Type 0 where
@@ -319,39 +297,41 @@ pub record KeptParts (view : List ℕ) (filter : Option Value) (sets : List Assi
   pub goods : Each IsGoodSet sets
 
 update_fits : (view : List ℕ) (filter : Option Value) (sets : List Assignment) → KeptParts view filter sets → max (filter_depth filter) (deepest_set sets) ≤ 32 → Fits 32 (update_tokens view filter sets)
-update_fits view filter sets k small = fits_flat 32 (Word (codes "update")) _ refl update_word (fits_flat 32 (Word view) _ refl (name_in view k.named)
-    (fits_append 32 (filter_tokens filter) _ (filter_fits filter k.good (omega arith)) (fits_flat 32 (Word (codes "set")) _ refl set_word (commas_fit 32 _ (sets_fit sets k.goods (omega arith))))))
+update_fits view filter sets k small = fits_word 32 (codes "update") _ refl refl (omega arith) (fits_flat 32 (Word view) _ refl (name_in view k.named)
+    (fits_append 32 (filter_tokens filter) _ (filter_fits filter k.good (omega arith)) (fits_word 32 (codes "set") _ refl refl (omega arith) (commas_fit 32 _ (sets_fit sets k.goods (omega arith))))))
 
 -- with what ends it
 update_reads : (version : Version) (view : List ℕ) (filter : Option Value) (sets : List Assignment) (end : List Token) (s : Sentence) → KeptParts view filter sets →
-    max (filter_depth filter) (deepest_set sets) ≤ 32 → IsUpdateEnd version view filter sets end s → IsLine version 32 (update_tokens view filter sets ++ end) s
-update_reads version view filter sets end s k small ends =
+    Is (update_end version view filter sets) end s → Is (line version) (update_tokens view filter sets ++ end) s
+unfolding body
+update_reads version view filter sets end s k ends =
     let commas : List Token = with_commas (map assignment_tokens sets) in
-    let behind : Joined (IsFilter 32) (λ filter. Behind (Word (codes "set")) (Joined (IsListed (IsAssignment 32)) (λ sets. IsUpdateEnd version view filter sets)))
-    (filter_tokens filter ++ Word (codes "set") ∷ (commas ++ end)) s =
-    join (filter_tokens filter) (Word (codes "set") ∷ (commas ++ end)) filter s (filter_reads filter k.good (omega arith))
-    (refl, join commas end sets s (listed_read (IsAssignment 32) assignment_tokens sets k.full (sets_read sets k.goods (omega arith))) ends) in
-    command_line version command.Update (codes "update") _ s refl (join (Word view ∷ []) _ view s k.named.reads (rw append_assoc behind))
+    let parts : Is (joined filter_phrase (λ filter. behind (Word (codes "set")) (joined (comma_list assignment) (λ sets. update_end version view filter sets)))) (filter_tokens filter ++ Word (codes "set") ∷ (commas ++ end)) s =
+    join (filter_tokens filter) (Word (codes "set") ∷ (commas ++ end)) filter s (filter_reads filter k.good)
+    (refl, join commas end sets s (listed_read assignment assignment_tokens sets k.full (sets_read sets k.goods)) ends) in
+    as_line version command.Update (codes "update") _ s refl (join (Word view ∷ []) _ view s k.named.reads (rw append_assoc parts))
 
-update_ends : (version : Version) (view : List ℕ) (filter : Option Value) (sets : List Assignment) → IsUpdateEnd version view filter sets [] (Update view filter sets)
+update_ends : (version : Version) (view : List ℕ) (filter : Option Value) (sets : List Assignment) → Is (update_end version view filter sets) [] (Update view filter sets)
+unfolding update_end
 update_ends One view filter sets = (refl, refl)
 update_ends Two view filter sets = inr (refl, refl)
 
 pub update_kept : (version : Version) (view : List ℕ) (filter : Option Value) (sets : List Assignment) → KeptParts view filter sets → IsKept version (Update view filter sets)
 update_kept version view filter sets k = λ small. (
   fits_more 32 64 _ (omega arith) (update_fits view filter sets k small),
-  rw append-nil at (update_reads version view filter sets [] (Update view filter sets) k small (update_ends version view filter sets)),
+  rw append-nil at (update_reads version view filter sets [] (Update view filter sets) k (update_ends version view filter sets)),
 )
 
 -- with actors
-pub actors_kept : (view : List ℕ) (filter : Option Value) (sets : List Assignment) (cuts : List ℕ) (seed turns : ℕ) → KeptParts view filter sets → Kept IsCuts index_tokens cuts → KeptCount seed → KeptCount turns →
+pub actors_kept : (view : List ℕ) (filter : Option Value) (sets : List Assignment) (cuts : List ℕ) (seed turns : ℕ) → KeptParts view filter sets → Kept cuts_phrase index_tokens cuts → KeptCount seed → KeptCount turns →
     IsKept Two (Actors view filter sets cuts seed turns)
+unfolding update_end actors
 actors_kept view filter sets cuts seed turns k kc ks kt = λ small. (
   fits_more 32 64 _ (omega arith) (fits_append 32 (update_tokens view filter sets) _ (update_fits view filter sets k small)
-      (fits_flat 32 (Word (codes "actors")) _ refl actors_word (fits_append 32 (index_tokens cuts) _ (fits_more 1 32 _ (omega arith) (index_fits cuts kc.spelled))
-      (fits_flat 32 (Word (codes "schedule")) _ refl schedule_word (fits_flat 32 (count_token seed) _ refl ks.spelled.0
-      (fits_flat 32 (Word (codes "turns")) _ refl turns_word (fits_more 0 32 _ (omega arith) (one_fits (count_token turns) refl kt.spelled.0)))))))),
-  update_reads Two view filter sets (actors_tokens cuts seed turns) (Actors view filter sets cuts seed turns) k small (inl (
+      (fits_word 32 (codes "actors") _ refl refl (omega arith) (fits_append 32 (index_tokens cuts) _ (fits_more 1 32 _ (omega arith) (index_fits cuts kc.spelled))
+      (fits_word 32 (codes "schedule") _ refl refl (omega arith) (fits_flat 32 (count_token seed) _ refl ks.spelled.0
+      (fits_word 32 (codes "turns") _ refl refl (omega arith) (fits_more 0 32 _ (omega arith) (one_fits (count_token turns) refl kt.spelled.0)))))))),
+  update_reads Two view filter sets (actors_tokens cuts seed turns) (Actors view filter sets cuts seed turns) k (inl (
     refl,
     join (index_tokens cuts) (Word (codes "schedule") ∷ count_token seed ∷ Word (codes "turns") ∷ count_token turns ∷ []) cuts _ kc.reads (
       refl,

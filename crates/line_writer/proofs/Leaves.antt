@@ -1,12 +1,12 @@
 -- What is read of an expression has leaves that are read back.
-use Rattle.line_writer.proofs.Imports.{◌≡◌, ℕ, zero, suc, List, [], ◌∷◌, ◌++◌, Option, Some, None, codes, ℤ, pos, negsuc, refl, sym, ap, ◌∙◌, append-nil, arith, decimal, decimal_digit, OpenParen, CloseParen, Comma, Minus, BinOp, Constant, Entry, Index, Neg, Not, Binary, Token, Word, Number, Text, Sign, Bad, token_number, dimensions, index_of, choice_of, or_of, and_of, comparison_of, sum_of, product_of, index_word, Value, Phrase, IsNumber, IsLink, IsChain, wrapped, IsPrefix, IsPrefixed, IsSum, IsComparison, IsExprOver, IsLeaf, IsChoice, IsBracketed, IsAtom, IsExpr, number_tokens, value_tokens}
-use Rattle.line_writer.proofs.Gives.{IsClean, IsSpelled, Each, Gives, nothing_gives, item_gives, behind_gives, joined_gives, either_gives, repeats_gives, gives_also}
+use Rattle.line_writer.proofs.Imports.{◌≡◌, ℕ, suc, [], ◌∷◌, ◌++◌, codes, refl, sym, ap, ◌∙◌, append-nil, arith, zero, inl, inr, Option, Some, ℤ, pos, negsuc, decimal, decimal_digit, Minus, Token, Word, Sign, Number, Text, Bad, Value, Grammar, Is, item, BinOp, Constant, Entry, Index, Neg, Not, Binary, token_number, dimensions, index_of, or_of, and_of, sum_of, product_of, wrapped, number, link, atom_within, bracketed, chain, choice, comparison, conjunction, expr, expr_over, leaf, links, negation, path, prefixed, product, sum, unary, operator, index_word, number_tokens, value_tokens}
+use Rattle.line_writer.proofs.Gives.{Each, Gives, IsSpelled, Prints, gives, prints}
 use Rattle.line_writer.proofs.Words.{listed_as}
-use Rattle.line_writer.proofs.Phrases.{path_gives, sound}
+use Rattle.line_writer.proofs.Phrases.{path_prints}
 
 -- the canonical tokens of a leaf are spelled, and are read as this leaf
 pub record IsGoodLeaf (value : Value) : Type 0 where
-  pub leaf : IsLeaf (value_tokens value) value
+  pub leaf : Is leaf (value_tokens value) value
   pub spelled : Each IsSpelled (value_tokens value)
 
 -- each leaf is such a leaf
@@ -18,9 +18,6 @@ IsGood (Neg inner) = IsGood inner
 IsGood (Not inner) = IsGood inner
 IsGood (Binary op left right) = IsGood left × IsGood right
 
-abbrev Good : List Token → Value → Type 0
-Good xs value = IsGood value
-
 number_is : (token : Token) (v : ℤ) → token_number token ≡ Some v → IsSpelled token → number_tokens v ≡ token ∷ []
 number_is (Number (pos value)) v h spelled = let e : pos value ≡ v = cc in rw (← e) refl
 number_is (Number (negsuc value)) v h spelled = absurd cc
@@ -29,8 +26,8 @@ number_is (Text text) v h spelled = absurd cc
 number_is (Sign sign) v h spelled = absurd cc
 number_is Bad v h spelled = absurd cc
 
-pub number_gives : Gives IsNumber (λ xs v. number_tokens v ≡ xs)
-number_gives = item_gives {Q = λ xs v. number_tokens v ≡ xs} token_number refl number_is
+pub number_prints : Prints number number_tokens
+number_prints front v i spelled = number_is i.0 v i.2 (rw i.1 at spelled).0 ∙ sym i.1
 
 -- an index has one token
 index_is : (token : Token) (v : ℕ) → index_of token ≡ Some v → IsSpelled token → Word (codes "i" ++ decimal v) ∷ [] ≡ token ∷ []
@@ -38,62 +35,57 @@ index_is (Word word) v h spelled = ap (λ k. Word k ∷ []) (sym (listed_as inde
     (rw (decimal_digit 0 (omega arith), decimal_digit 1 (omega arith), decimal_digit 2 (omega arith), decimal_digit 3 (omega arith)) refl) word v h))
 index_is other v h spelled = absurd cc
 
--- a leaf has one list of tokens
-leaf_written : Gives IsLeaf (λ xs v. (value_tokens v ≡ xs) × (IsGoodLeaf v → IsGood v))
-leaf_written = either_gives
-    (joined_gives {Q = λ xs v. (value_tokens v ≡ xs) × (IsGoodLeaf v → IsGood v)} number_gives (λ front number i same s.
-    nothing_gives {Q = λ xs v. (value_tokens v ≡ front ++ xs) × (IsGoodLeaf v → IsGood v)} (Constant number) (same ∙ sym (append-nil front), sound)))
-    (either_gives
-    (joined_gives {Q = λ xs v. (value_tokens v ≡ xs) × (IsGoodLeaf v → IsGood v)} (item_gives {Q = λ xs v. Word (codes "i" ++ decimal v) ∷ [] ≡ xs} index_of refl index_is) (λ front dimension i same s.
-    nothing_gives {Q = λ xs v. (value_tokens v ≡ front ++ xs) × (IsGoodLeaf v → IsGood v)} (Index dimension) (same ∙ sym (append-nil front), sound)))
-    (joined_gives {Q = λ xs v. (value_tokens v ≡ xs) × (IsGoodLeaf v → IsGood v)} path_gives (λ front path i same s.
-    nothing_gives {Q = λ xs v. (value_tokens v ≡ front ++ xs) × (IsGoodLeaf v → IsGood v)} (Entry path) (same ∙ sym (append-nil front), sound))))
+index_prints : Prints (item index_of) (λ v. Word (codes "i" ++ decimal v) ∷ [])
+index_prints front v i spelled = index_is i.0 v i.2 (rw i.1 at spelled).0 ∙ sym i.1
 
-leaf_gives : Gives IsLeaf Good
-leaf_gives = gives_also leaf_written (λ xs v is spelled h. h.1 (record { leaf = rw h.0 is; spelled = rw h.0 spelled }))
+-- a leaf has one list of tokens
+leaf_prints : Prints leaf value_tokens
+unfolding leaf
+leaf_prints = prints leaf value_tokens ((_, number_prints, λ number. rw append-nil refl), ((_, index_prints, λ dimension. refl), (_, path_prints, λ path. rw append-nil refl)))
+
+leaf_gives : Gives leaf IsGood
+unfolding leaf
+leaf_gives front v i spelled =
+    let own = leaf_prints front v i spelled in
+    let good : IsGoodLeaf v = record { leaf = rw own i; spelled = rw own spelled } in
+    gives leaf (λ v. IsGoodLeaf v → IsGood v) ((λ number f i s good. good), ((λ dimension f i s good. good), (λ path f i s good. good))) front v i spelled good
 
 -- operators between operands, and in front of them
-link_gives : {Is : Phrase Value} (operator : Token → Option BinOp) → operator Bad ≡ None → Gives Is Good → (left : Value) → IsGood left → Gives (IsLink operator Is left) Good
-link_gives operator none one left good = joined_gives {Q = Good} (item_gives {Q = λ xs v. Unit {0}} operator none (λ token v h s. tt)) (λ front op i t s.
-    joined_gives {Q = Good} one (λ back right i' good' s'. nothing_gives {Q = Good} (Binary op left right) (good, good')))
+link_gives : (operator : Token → Option BinOp) (one : Grammar Token Value) → Gives one IsGood → (left : Value) → IsGood left → Gives (link operator one left) IsGood
+link_gives operator one g left good = gives (link operator one left) IsGood (λ op f i s right h j t. (good, g h right j t))
 
-chain_gives : {Is : Phrase Value} (operator : Token → Option BinOp) → operator Bad ≡ None → Gives Is Good → Gives (IsChain operator Is) Good
-chain_gives {Is = Is} operator none one = joined_gives {Q = Good} one (λ front first i good s.
-    repeats_gives {Step = IsLink operator Is} {Q = Good} (λ before left good'. link_gives operator none one left good') first good)
+chain_gives : (operator : Token → Option BinOp) (one : Grammar Token Value) → Gives one IsGood → Gives (chain operator one) IsGood
+unfolding chain links
+chain_gives operator one g = gives (chain operator one) IsGood (λ first f i s. (g f first i s, λ left before good op f i s right h j t. (good, g h right j t)))
 
 wrapped_good : (wrap : Value → Value) → ((value : Value) → IsGood value → IsGood (wrap value)) → (n : ℕ) (value : Value) → IsGood value → IsGood (wrapped wrap n value)
 wrapped_good wrap keeps zero value good = good
 wrapped_good wrap keeps (suc n) value good = keeps (wrapped wrap n value) (wrapped_good wrap keeps n value good)
 
-prefixed_gives : {Is : Phrase Value} (token : Token) → (IsClean token → IsSpelled token) → (wrap : Value → Value) → ((value : Value) → IsGood value → IsGood (wrap value)) →
-    Gives Is Good → Gives (IsPrefixed token wrap Is) Good
-prefixed_gives token own wrap keeps one = joined_gives {Q = Good}
-    (repeats_gives {Step = IsPrefix token} {Q = λ xs n. Unit {0}} (λ before n t. behind_gives {Q = λ xs n. Unit {0}} token own (nothing_gives {Q = λ xs n. Unit {0}} (suc n) tt)) zero tt)
-    (λ front n i t s. joined_gives {Q = Good} one (λ back value i' good s'. nothing_gives {Q = Good} (wrapped wrap n value) (wrapped_good wrap keeps n value good)))
+prefixed_gives : (token : Token) (wrap : Value → Value) → ((value : Value) → IsGood value → IsGood (wrap value)) → (one : Grammar Token Value) → Gives one IsGood → Gives (prefixed token wrap one) IsGood
+unfolding prefixed
+prefixed_gives token wrap keeps one g = gives (prefixed token wrap one) IsGood (λ n f i s value h j t. wrapped_good wrap keeps n value (g h value j t))
 
-sum_gives : {IsAtom : Phrase Value} → Gives IsAtom Good → Gives (IsSum IsAtom) Good
-sum_gives atom = chain_gives sum_of refl (chain_gives product_of refl (prefixed_gives (Sign Minus) sound Neg (λ value good. good) atom))
+sum_gives : (one : Grammar Token Value) → Gives one IsGood → Gives (sum one) IsGood
+unfolding sum product unary
+sum_gives one g = chain_gives sum_of (product one) (chain_gives product_of (unary one) (prefixed_gives (Sign Minus) Neg (λ value good. good) one g))
 
-comparison_gives : {IsAtom : Phrase Value} → Gives IsAtom Good → Gives (IsComparison IsAtom) Good
-comparison_gives atom = joined_gives {Q = Good} (sum_gives atom) (λ front left i good s.
-    either_gives (link_gives comparison_of refl (sum_gives atom) left good) (nothing_gives {Q = Good} left good))
+comparison_gives : (one : Grammar Token Value) → Gives one IsGood → Gives (comparison one) IsGood
+unfolding comparison
+comparison_gives one g = gives (comparison one) IsGood (λ left f i s. ((λ op f' i' s' right h j t. (sum_gives one g f left i s, sum_gives one g h right j t)), sum_gives one g f left i s))
 
-over_gives : {IsAtom : Phrase Value} → Gives IsAtom Good → Gives (IsExprOver IsAtom) Good
-over_gives atom = chain_gives or_of refl (chain_gives and_of refl (prefixed_gives (Word (codes "not")) sound Not (λ value good. good) (comparison_gives atom)))
+over_gives : (one : Grammar Token Value) → Gives one IsGood → Gives (expr_over one) IsGood
+unfolding expr_over conjunction negation
+over_gives one g = chain_gives or_of (conjunction one) (chain_gives and_of (negation one) (prefixed_gives (Word (codes "not")) Not (λ value good. good) (comparison one) (comparison_gives one g)))
 
-bracketed_gives : {IsInner : Phrase Value} → Gives IsInner Good → Gives (IsBracketed IsInner) Good
-bracketed_gives one = behind_gives {Q = Good} (Sign OpenParen) sound (joined_gives {Q = Good} one (λ front value i good s.
-    behind_gives {Q = Good} (Sign CloseParen) sound (nothing_gives {Q = Good} value good)))
+atom_gives : (n : ℕ) → Gives (atom_within n) IsGood
+unfolding atom_within bracketed choice leaf
+atom_gives zero front v i s = leaf_gives front v i s
+atom_gives (suc n) front v (inl i) s = gives (bracketed (expr_over (atom_within n))) IsGood (λ value f i s. over_gives (atom_within n) (atom_gives n) f value i s) front v i s
+atom_gives (suc n) front v (inr (inl i)) s = gives (choice (expr_over (atom_within n))) IsGood (λ op f' i' s' left f i s right h j t.
+    (over_gives (atom_within n) (atom_gives n) f left i s, over_gives (atom_within n) (atom_gives n) h right j t)) front v i s
+atom_gives (suc n) front v (inr (inr i)) s = leaf_gives front v i s
 
-choice_gives : {IsInner : Phrase Value} → Gives IsInner Good → Gives (IsChoice IsInner) Good
-choice_gives one = joined_gives {Q = Good} (item_gives {Q = λ xs v. Unit {0}} choice_of refl (λ token v h s. tt)) (λ front op i t s.
-    behind_gives {Q = Good} (Sign OpenParen) sound (joined_gives {Q = Good} one (λ middle left i' good s'.
-    behind_gives {Q = Good} (Sign Comma) sound (joined_gives {Q = Good} one (λ back right i'' good' s''.
-    behind_gives {Q = Good} (Sign CloseParen) sound (nothing_gives {Q = Good} (Binary op left right) (good, good')))))))
-
-atom_gives : (n : ℕ) → Gives (IsAtom n) Good
-atom_gives zero = leaf_gives
-atom_gives (suc n) = either_gives (bracketed_gives (over_gives (atom_gives n))) (either_gives (choice_gives (over_gives (atom_gives n))) leaf_gives)
-
-pub expr_gives : (n : ℕ) → Gives (IsExpr n) (λ xs v. IsGood v)
-expr_gives n = over_gives (atom_gives n)
+pub expr_gives : Gives expr IsGood
+unfolding expr
+expr_gives front v i s = over_gives (atom_within i.0) (atom_gives i.0) front v i.1 s

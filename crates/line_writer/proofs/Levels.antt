@@ -1,13 +1,15 @@
 -- The canonical tokens of an expression are read as this expression.
-use Rattle.line_writer.proofs.Imports.{◌≡◌, ℕ, zero, suc, ◌≤◌, true, false, List, [], ◌∷◌, ◌++◌, Option, Some, codes, inl, inr, refl, sym, append-nil, arith, OpenParen, CloseParen, Comma, Minus, BinOp, Add, Sub, Mul, Div, Rem, Min, Max, Eq, Ne, Lt, Le, Gt, Ge, And, Or, Constant, Entry, Index, Neg, Not, Binary, depth_of, Token, Word, Sign, choice_of, or_of, and_of, comparison_of, sum_of, product_of, Value, Phrase, IsLink, IsChain, IsPrefixed, IsUnary, IsProduct, IsSum, IsComparison, IsNegation, IsConjunction, IsExprOver, IsLeaf, IsAtom, IsExpr, operator, is_choice, operand, value_tokens}
+use Rattle.line_writer.proofs.Imports.{◌≡◌, ℕ, suc, ◌≤◌, List, [], ◌∷◌, ◌++◌, codes, refl, sym, append-nil, arith, zero, inl, inr, Option, Some, true, false, Comma, OpenParen, CloseParen, Minus, Token, Word, Sign, Value, Grammar, Is, BinOp, Eq, Ne, Lt, Le, Gt, Ge, Add, Sub, Mul, Div, Rem, Min, Max, And, Or, depth_of, Constant, Entry, Index, Neg, Not, Binary, comparison_of, choice_of, or_of, and_of, sum_of, product_of, number, link, atom_within, bracketed, chain, choice, comparison, conjunction, expr, expr_over, leaf, links, negation, path, prefixed, product, signs, sum, unary, operator, value_tokens, is_choice, operand}
 use Rattle.line_writer.proofs.Leaves.{IsGood}
 
 -- each level has the phrases of the next one
-chain_one : (op : Token → Option BinOp) (Is : Phrase Value) (xs : List Token) (v : Value) → Is xs v → IsChain op Is xs v
-chain_one op Is xs v h = record { first = v; front = xs; back = []; whole = sym (append-nil xs); begins = h; ends = (0, (refl, refl)) }
+chain_one : (op : Token → Option BinOp) (one : Grammar Token Value) (xs : List Token) (v : Value) → Is one xs v → Is (chain op one) xs v
+unfolding chain links
+chain_one op one xs v h = record { first = v; front = xs; back = []; whole = sym (append-nil xs); begins = h; ends = (0, (refl, refl)) }
 
-prefix_none : (token : Token) (wrap : Value → Value) (Is : Phrase Value) (xs : List Token) (v : Value) → Is xs v → IsPrefixed token wrap Is xs v
-prefix_none token wrap Is xs v h = record {
+prefix_none : (token : Token) (wrap : Value → Value) (one : Grammar Token Value) (xs : List Token) (v : Value) → Is one xs v → Is (prefixed token wrap one) xs v
+unfolding prefixed signs
+prefix_none token wrap one xs v h = record {
   first = zero;
   front = [];
   back = xs;
@@ -16,12 +18,13 @@ prefix_none token wrap Is xs v h = record {
   ends = record { first = v; front = xs; back = []; whole = sym (append-nil xs); begins = h; ends = (refl, refl) };
 }
 
-comparison_one : (Is : Phrase Value) (xs : List Token) (v : Value) → IsSum Is xs v → IsComparison Is xs v
-comparison_one Is xs v h = record { first = v; front = xs; back = []; whole = sym (append-nil xs); begins = h; ends = inr (refl, refl) }
+comparison_one : (one : Grammar Token Value) (xs : List Token) (v : Value) → Is (sum one) xs v → Is (comparison one) xs v
+unfolding comparison
+comparison_one one xs v h = record { first = v; front = xs; back = []; whole = sym (append-nil xs); begins = h; ends = inr (refl, refl) }
 
 -- one operator of a level
-link : (op : Token → Option BinOp) (Is : Phrase Value) (token : Token) (kind : BinOp) (ys : List Token) (a b : Value) → op token ≡ Some kind → Is ys b → IsLink op Is a (token ∷ ys) (Binary kind a b)
-link op Is token kind ys a b e h = record {
+link_of : (op : Token → Option BinOp) (one : Grammar Token Value) (token : Token) (kind : BinOp) (ys : List Token) (a b : Value) → op token ≡ Some kind → Is one ys b → Is (link op one a) (token ∷ ys) (Binary kind a b)
+link_of op one token kind ys a b e h = record {
   first = kind;
   front = token ∷ [];
   back = ys;
@@ -30,21 +33,24 @@ link op Is token kind ys a b e h = record {
   ends = record { first = b; front = ys; back = []; whole = sym (append-nil ys); begins = h; ends = (refl, refl) };
 }
 
-chain_link : (op : Token → Option BinOp) (Is : Phrase Value) (token : Token) (kind : BinOp) (xs ys : List Token) (a b : Value) → op token ≡ Some kind → Is xs a → Is ys b → IsChain op Is (xs ++ token ∷ ys) (Binary kind a b)
-chain_link op Is token kind xs ys a b e h g = record {
+chain_link : (op : Token → Option BinOp) (one : Grammar Token Value) (token : Token) (kind : BinOp) (xs ys : List Token) (a b : Value) → op token ≡ Some kind → Is one xs a → Is one ys b → Is (chain op one) (xs ++ token ∷ ys) (Binary kind a b)
+unfolding chain links
+chain_link op one token kind xs ys a b e h g = record {
   first = a;
   front = xs;
   back = token ∷ ys;
   whole = refl;
   begins = h;
-  ends = (1, record { first = Binary kind a b; front = token ∷ ys; back = []; whole = sym (append-nil (token ∷ ys)); begins = link op Is token kind ys a b e g; ends = (refl, refl) });
+  ends = (1, record { first = Binary kind a b; front = token ∷ ys; back = []; whole = sym (append-nil (token ∷ ys)); begins = link_of op one token kind ys a b e g; ends = (refl, refl) });
 }
 
-comparison_link : (Is : Phrase Value) (token : Token) (kind : BinOp) (xs ys : List Token) (a b : Value) → comparison_of token ≡ Some kind → IsSum Is xs a → IsSum Is ys b → IsComparison Is (xs ++ token ∷ ys) (Binary kind a b)
-comparison_link Is token kind xs ys a b e h g = record { first = a; front = xs; back = token ∷ ys; whole = refl; begins = h; ends = inl (link comparison_of (IsSum Is) token kind ys a b e g) }
+comparison_link : (one : Grammar Token Value) (token : Token) (kind : BinOp) (xs ys : List Token) (a b : Value) → comparison_of token ≡ Some kind → Is (sum one) xs a → Is (sum one) ys b → Is (comparison one) (xs ++ token ∷ ys) (Binary kind a b)
+unfolding comparison
+comparison_link one token kind xs ys a b e h g = record { first = a; front = xs; back = token ∷ ys; whole = refl; begins = h; ends = inl (link_of comparison_of (sum one) token kind ys a b e g) }
 
-prefix_one : (token : Token) (wrap : Value → Value) (Is : Phrase Value) (xs : List Token) (v : Value) → Is xs v → IsPrefixed token wrap Is (token ∷ xs) (wrap v)
-prefix_one token wrap Is xs v h = record {
+prefix_one : (token : Token) (wrap : Value → Value) (one : Grammar Token Value) (xs : List Token) (v : Value) → Is one xs v → Is (prefixed token wrap one) (token ∷ xs) (wrap v)
+unfolding prefixed signs
+prefix_one token wrap one xs v h = record {
   first = 1;
   front = token ∷ [];
   back = xs;
@@ -54,72 +60,85 @@ prefix_one token wrap Is xs v h = record {
 }
 
 -- from a level up to an expression, and from an atom up to a level
-from_conjunction : (Is : Phrase Value) (xs : List Token) (v : Value) → IsConjunction Is xs v → IsExprOver Is xs v
-from_conjunction Is = chain_one or_of (IsConjunction Is)
+from_conjunction : (one : Grammar Token Value) (xs : List Token) (v : Value) → Is (conjunction one) xs v → Is (expr_over one) xs v
+unfolding expr_over
+from_conjunction one = chain_one or_of (conjunction one)
 
-from_negation : (Is : Phrase Value) (xs : List Token) (v : Value) → IsNegation Is xs v → IsExprOver Is xs v
-from_negation Is xs v h = from_conjunction Is xs v (chain_one and_of (IsNegation Is) xs v h)
+from_negation : (one : Grammar Token Value) (xs : List Token) (v : Value) → Is (negation one) xs v → Is (expr_over one) xs v
+unfolding conjunction
+from_negation one xs v h = from_conjunction one xs v (chain_one and_of (negation one) xs v h)
 
-from_comparison : (Is : Phrase Value) (xs : List Token) (v : Value) → IsComparison Is xs v → IsExprOver Is xs v
-from_comparison Is xs v h = from_negation Is xs v (prefix_none (Word (codes "not")) Not (IsComparison Is) xs v h)
+from_comparison : (one : Grammar Token Value) (xs : List Token) (v : Value) → Is (comparison one) xs v → Is (expr_over one) xs v
+unfolding negation
+from_comparison one xs v h = from_negation one xs v (prefix_none (Word (codes "not")) Not (comparison one) xs v h)
 
-from_sum : (Is : Phrase Value) (xs : List Token) (v : Value) → IsSum Is xs v → IsExprOver Is xs v
-from_sum Is xs v h = from_comparison Is xs v (comparison_one Is xs v h)
+from_sum : (one : Grammar Token Value) (xs : List Token) (v : Value) → Is (sum one) xs v → Is (expr_over one) xs v
+from_sum one xs v h = from_comparison one xs v (comparison_one one xs v h)
 
-from_product : (Is : Phrase Value) (xs : List Token) (v : Value) → IsProduct Is xs v → IsExprOver Is xs v
-from_product Is xs v h = from_sum Is xs v (chain_one sum_of (IsProduct Is) xs v h)
+from_product : (one : Grammar Token Value) (xs : List Token) (v : Value) → Is (product one) xs v → Is (expr_over one) xs v
+unfolding sum
+from_product one xs v h = from_sum one xs v (chain_one sum_of (product one) xs v h)
 
-from_unary : (Is : Phrase Value) (xs : List Token) (v : Value) → IsUnary Is xs v → IsExprOver Is xs v
-from_unary Is xs v h = from_product Is xs v (chain_one product_of (IsUnary Is) xs v h)
+from_unary : (one : Grammar Token Value) (xs : List Token) (v : Value) → Is (unary one) xs v → Is (expr_over one) xs v
+unfolding product
+from_unary one xs v h = from_product one xs v (chain_one product_of (unary one) xs v h)
 
-unary : (Is : Phrase Value) (xs : List Token) (v : Value) → Is xs v → IsUnary Is xs v
-unary Is = prefix_none (Sign Minus) Neg Is
+as_unary : (one : Grammar Token Value) (xs : List Token) (v : Value) → Is one xs v → Is (unary one) xs v
+unfolding unary
+as_unary one = prefix_none (Sign Minus) Neg one
 
-product : (Is : Phrase Value) (xs : List Token) (v : Value) → Is xs v → IsProduct Is xs v
-product Is xs v h = chain_one product_of (IsUnary Is) xs v (unary Is xs v h)
+as_product : (one : Grammar Token Value) (xs : List Token) (v : Value) → Is one xs v → Is (product one) xs v
+unfolding product
+as_product one xs v h = chain_one product_of (unary one) xs v (as_unary one xs v h)
 
-sum : (Is : Phrase Value) (xs : List Token) (v : Value) → Is xs v → IsSum Is xs v
-sum Is xs v h = chain_one sum_of (IsProduct Is) xs v (product Is xs v h)
+as_sum : (one : Grammar Token Value) (xs : List Token) (v : Value) → Is one xs v → Is (sum one) xs v
+unfolding sum
+as_sum one xs v h = chain_one sum_of (product one) xs v (as_product one xs v h)
 
-comparison : (Is : Phrase Value) (xs : List Token) (v : Value) → Is xs v → IsComparison Is xs v
-comparison Is xs v h = comparison_one Is xs v (sum Is xs v h)
+as_comparison : (one : Grammar Token Value) (xs : List Token) (v : Value) → Is one xs v → Is (comparison one) xs v
+as_comparison one xs v h = comparison_one one xs v (as_sum one xs v h)
 
-negation : (Is : Phrase Value) (xs : List Token) (v : Value) → Is xs v → IsNegation Is xs v
-negation Is xs v h = prefix_none (Word (codes "not")) Not (IsComparison Is) xs v (comparison Is xs v h)
+as_negation : (one : Grammar Token Value) (xs : List Token) (v : Value) → Is one xs v → Is (negation one) xs v
+unfolding negation
+as_negation one xs v h = prefix_none (Word (codes "not")) Not (comparison one) xs v (as_comparison one xs v h)
 
-conjunction : (Is : Phrase Value) (xs : List Token) (v : Value) → Is xs v → IsConjunction Is xs v
-conjunction Is xs v h = chain_one and_of (IsNegation Is) xs v (negation Is xs v h)
+as_conjunction : (one : Grammar Token Value) (xs : List Token) (v : Value) → Is one xs v → Is (conjunction one) xs v
+unfolding conjunction
+as_conjunction one xs v h = chain_one and_of (negation one) xs v (as_negation one xs v h)
 
-from_atom : (Is : Phrase Value) (xs : List Token) (v : Value) → Is xs v → IsExprOver Is xs v
-from_atom Is xs v h = from_conjunction Is xs v (conjunction Is xs v h)
+from_atom : (one : Grammar Token Value) (xs : List Token) (v : Value) → Is one xs v → Is (expr_over one) xs v
+from_atom one xs v h = from_conjunction one xs v (as_conjunction one xs v h)
 
 -- each operator stands between atoms
-between : (Is : Phrase Value) (op : BinOp) (xs ys : List Token) (a b : Value) → is_choice op ≡ false → Is xs a → Is ys b → IsExprOver Is (xs ++ operator op ∷ ys) (Binary op a b)
-between Is Min xs ys a b e h g = absurd cc
-between Is Max xs ys a b e h g = absurd cc
-between Is Mul xs ys a b e h g = from_product Is _ _ (chain_link product_of (IsUnary Is) (operator Mul) Mul xs ys a b refl (unary Is xs a h) (unary Is ys b g))
-between Is Div xs ys a b e h g = from_product Is _ _ (chain_link product_of (IsUnary Is) (operator Div) Div xs ys a b refl (unary Is xs a h) (unary Is ys b g))
-between Is Rem xs ys a b e h g = from_product Is _ _ (chain_link product_of (IsUnary Is) (operator Rem) Rem xs ys a b refl (unary Is xs a h) (unary Is ys b g))
-between Is Add xs ys a b e h g = from_sum Is _ _ (chain_link sum_of (IsProduct Is) (operator Add) Add xs ys a b refl (product Is xs a h) (product Is ys b g))
-between Is Sub xs ys a b e h g = from_sum Is _ _ (chain_link sum_of (IsProduct Is) (operator Sub) Sub xs ys a b refl (product Is xs a h) (product Is ys b g))
-between Is Eq xs ys a b e h g = from_comparison Is _ _ (comparison_link Is (operator Eq) Eq xs ys a b refl (sum Is xs a h) (sum Is ys b g))
-between Is Ne xs ys a b e h g = from_comparison Is _ _ (comparison_link Is (operator Ne) Ne xs ys a b refl (sum Is xs a h) (sum Is ys b g))
-between Is Lt xs ys a b e h g = from_comparison Is _ _ (comparison_link Is (operator Lt) Lt xs ys a b refl (sum Is xs a h) (sum Is ys b g))
-between Is Le xs ys a b e h g = from_comparison Is _ _ (comparison_link Is (operator Le) Le xs ys a b refl (sum Is xs a h) (sum Is ys b g))
-between Is Gt xs ys a b e h g = from_comparison Is _ _ (comparison_link Is (operator Gt) Gt xs ys a b refl (sum Is xs a h) (sum Is ys b g))
-between Is Ge xs ys a b e h g = from_comparison Is _ _ (comparison_link Is (operator Ge) Ge xs ys a b refl (sum Is xs a h) (sum Is ys b g))
-between Is And xs ys a b e h g = from_conjunction Is _ _ (chain_link and_of (IsNegation Is) (operator And) And xs ys a b refl (negation Is xs a h) (negation Is ys b g))
-between Is Or xs ys a b e h g = chain_link or_of (IsConjunction Is) (operator Or) Or xs ys a b refl (conjunction Is xs a h) (conjunction Is ys b g)
+between : (one : Grammar Token Value) (op : BinOp) (xs ys : List Token) (a b : Value) → is_choice op ≡ false → Is one xs a → Is one ys b → Is (expr_over one) (xs ++ operator op ∷ ys) (Binary op a b)
+unfolding expr_over conjunction sum product
+between one Min xs ys a b e h g = absurd cc
+between one Max xs ys a b e h g = absurd cc
+between one Mul xs ys a b e h g = from_product one _ _ (chain_link product_of (unary one) (operator Mul) Mul xs ys a b refl (as_unary one xs a h) (as_unary one ys b g))
+between one Div xs ys a b e h g = from_product one _ _ (chain_link product_of (unary one) (operator Div) Div xs ys a b refl (as_unary one xs a h) (as_unary one ys b g))
+between one Rem xs ys a b e h g = from_product one _ _ (chain_link product_of (unary one) (operator Rem) Rem xs ys a b refl (as_unary one xs a h) (as_unary one ys b g))
+between one Add xs ys a b e h g = from_sum one _ _ (chain_link sum_of (product one) (operator Add) Add xs ys a b refl (as_product one xs a h) (as_product one ys b g))
+between one Sub xs ys a b e h g = from_sum one _ _ (chain_link sum_of (product one) (operator Sub) Sub xs ys a b refl (as_product one xs a h) (as_product one ys b g))
+between one Eq xs ys a b e h g = from_comparison one _ _ (comparison_link one (operator Eq) Eq xs ys a b refl (as_sum one xs a h) (as_sum one ys b g))
+between one Ne xs ys a b e h g = from_comparison one _ _ (comparison_link one (operator Ne) Ne xs ys a b refl (as_sum one xs a h) (as_sum one ys b g))
+between one Lt xs ys a b e h g = from_comparison one _ _ (comparison_link one (operator Lt) Lt xs ys a b refl (as_sum one xs a h) (as_sum one ys b g))
+between one Le xs ys a b e h g = from_comparison one _ _ (comparison_link one (operator Le) Le xs ys a b refl (as_sum one xs a h) (as_sum one ys b g))
+between one Gt xs ys a b e h g = from_comparison one _ _ (comparison_link one (operator Gt) Gt xs ys a b refl (as_sum one xs a h) (as_sum one ys b g))
+between one Ge xs ys a b e h g = from_comparison one _ _ (comparison_link one (operator Ge) Ge xs ys a b refl (as_sum one xs a h) (as_sum one ys b g))
+between one And xs ys a b e h g = from_conjunction one _ _ (chain_link and_of (negation one) (operator And) And xs ys a b refl (as_negation one xs a h) (as_negation one ys b g))
+between one Or xs ys a b e h g = chain_link or_of (conjunction one) (operator Or) Or xs ys a b refl (as_conjunction one xs a h) (as_conjunction one ys b g)
 
 -- an expression in brackets, and two behind `min` or `max`
-abbrev bracketed : List Token → List Token
-bracketed tokens = Sign OpenParen ∷ (tokens ++ Sign CloseParen ∷ [])
+abbrev bracketed_tokens : List Token → List Token
+bracketed_tokens tokens = Sign OpenParen ∷ (tokens ++ Sign CloseParen ∷ [])
 
-bracketed_atom : (n : ℕ) (xs : List Token) (v : Value) → IsExpr n xs v → IsAtom (suc n) (bracketed xs) v
+bracketed_atom : (n : ℕ) (xs : List Token) (v : Value) → Is (expr_over (atom_within n)) xs v → Is (atom_within (suc n)) (bracketed_tokens xs) v
+unfolding atom_within bracketed
 bracketed_atom n xs v h = inl (refl, record { first = v; front = xs; back = Sign CloseParen ∷ []; whole = refl; begins = h; ends = (refl, (refl, refl)) })
 
-choice_atom : (n : ℕ) (op : BinOp) (xs ys : List Token) (a b : Value) → choice_of (operator op) ≡ Some op → IsExpr n xs a → IsExpr n ys b →
-    IsAtom (suc n) (operator op ∷ Sign OpenParen ∷ (xs ++ Sign Comma ∷ (ys ++ Sign CloseParen ∷ []))) (Binary op a b)
+choice_atom : (n : ℕ) (op : BinOp) (xs ys : List Token) (a b : Value) → choice_of (operator op) ≡ Some op → Is (expr_over (atom_within n)) xs a → Is (expr_over (atom_within n)) ys b →
+    Is (atom_within (suc n)) (operator op ∷ Sign OpenParen ∷ (xs ++ Sign Comma ∷ (ys ++ Sign CloseParen ∷ []))) (Binary op a b)
+unfolding atom_within choice
 choice_atom n op xs ys a b e h g = inr (inl (record {
   first = op;
   front = operator op ∷ [];
@@ -139,47 +158,48 @@ choice_atom n op xs ys a b e h g = inr (inl (record {
   );
 }))
 
-leaf_atom : (n : ℕ) (xs : List Token) (v : Value) → IsLeaf xs v → IsAtom n xs v
+leaf_atom : (n : ℕ) (xs : List Token) (v : Value) → Is leaf xs v → Is (atom_within n) xs v
+unfolding atom_within
 leaf_atom zero xs v h = h
 leaf_atom (suc n) xs v h = inr (inr h)
 
 -- the canonical tokens of a value as a whole expression and as an operand, where brackets may nest n deep
 record IsReadBack (v : Value) : Type 0 where
-  whole : (n : ℕ) → depth_of v ≤ suc n → IsExpr n (value_tokens v) v
-  atom : (n : ℕ) → depth_of v ≤ n → IsAtom n (operand v (value_tokens v)) v
+  whole : (n : ℕ) → depth_of v ≤ suc n → Is (expr_over (atom_within n)) (value_tokens v) v
+  atom : (n : ℕ) → depth_of v ≤ n → Is (atom_within n) (operand v (value_tokens v)) v
 
 depth_some : (v : Value) → 1 ≤ depth_of v
 depth_some (Constant number) = omega arith
 depth_some other = omega arith
 
-leaf_back : (v : Value) (tokens : List Token) → IsLeaf tokens v → (n : ℕ) → IsExpr n tokens v
-leaf_back v tokens h n = from_atom (IsAtom n) tokens v (leaf_atom n tokens v h)
+leaf_back : (v : Value) (tokens : List Token) → Is leaf tokens v → (n : ℕ) → Is (expr_over (atom_within n)) tokens v
+leaf_back v tokens h n = from_atom (atom_within n) tokens v (leaf_atom n tokens v h)
 
 -- a value that stands in brackets as an operand
-compound_atom : (v : Value) (tokens : List Token) → 2 ≤ depth_of v → ((n : ℕ) → depth_of v ≤ suc n → IsExpr n tokens v) → (n : ℕ) → depth_of v ≤ n → IsAtom n (bracketed tokens) v
-compound_atom v tokens deep whole zero small = absurd (omega arith)
-compound_atom v tokens deep whole (suc n) small = bracketed_atom n tokens v (whole n small)
+compound_atom : (v : Value) (tokens : List Token) → 2 ≤ depth_of v → ((n : ℕ) → depth_of v ≤ suc n → Is (expr_over (atom_within n)) tokens v) → (n : ℕ) → depth_of v ≤ n → Is (atom_within n) (bracketed_tokens tokens) v
+compound_atom v tokens two whole zero small = absurd (omega arith)
+compound_atom v tokens two whole (suc n) small = bracketed_atom n tokens v (whole n small)
 
 choice_at : (op : BinOp) (a b : Value) → choice_of (operator op) ≡ Some op → IsReadBack a → IsReadBack b → (n : ℕ) → depth_of a ≤ n → depth_of b ≤ n →
-    IsAtom n (operator op ∷ Sign OpenParen ∷ (value_tokens a ++ Sign Comma ∷ (value_tokens b ++ Sign CloseParen ∷ []))) (Binary op a b)
+    Is (atom_within n) (operator op ∷ Sign OpenParen ∷ (value_tokens a ++ Sign Comma ∷ (value_tokens b ++ Sign CloseParen ∷ []))) (Binary op a b)
 choice_at op a b e one two zero small small' = let some = depth_some a in absurd (omega arith)
 choice_at op a b e one two (suc n) small small' = choice_atom n op (value_tokens a) (value_tokens b) a b e (one.whole n small) (two.whole n small')
 
 choice_back : (op : BinOp) (a b : Value) → is_choice op ≡ true → choice_of (operator op) ≡ Some op → IsReadBack a → IsReadBack b → IsReadBack (Binary op a b)
 choice_back op a b is e one two =
     let tokens : List Token = operator op ∷ Sign OpenParen ∷ (value_tokens a ++ Sign Comma ∷ (value_tokens b ++ Sign CloseParen ∷ [])) in
-    let atom_at : (n : ℕ) → depth_of (Binary op a b) ≤ suc n → IsAtom n tokens (Binary op a b)
+    let atom_at : (n : ℕ) → depth_of (Binary op a b) ≤ suc n → Is (atom_within n) tokens (Binary op a b)
     = λ n small. choice_at op a b e one two n (omega arith) (omega arith) in
     record {
-      whole = λ n small. rw is (from_atom (IsAtom n) tokens (Binary op a b) (atom_at n small));
+      whole = λ n small. rw is (from_atom (atom_within n) tokens (Binary op a b) (atom_at n small));
       atom = λ n small. rw is (atom_at n (omega arith));
     }
 
 between_back : (op : BinOp) (a b : Value) → is_choice op ≡ false → IsReadBack a → IsReadBack b → IsReadBack (Binary op a b)
 between_back op a b is one two =
     let tokens : List Token = operand a (value_tokens a) ++ operator op ∷ operand b (value_tokens b) in
-    let whole_at : (n : ℕ) → depth_of (Binary op a b) ≤ suc n → IsExpr n tokens (Binary op a b)
-    = λ n small. between (IsAtom n) op (operand a (value_tokens a)) (operand b (value_tokens b)) a b is (one.atom n (omega arith)) (two.atom n (omega arith)) in
+    let whole_at : (n : ℕ) → depth_of (Binary op a b) ≤ suc n → Is (expr_over (atom_within n)) tokens (Binary op a b)
+    = λ n small. between (atom_within n) op (operand a (value_tokens a)) (operand b (value_tokens b)) a b is (one.atom n (omega arith)) (two.atom n (omega arith)) in
     let some = depth_some a in
     record { whole = λ n small. rw is (whole_at n small); atom = λ n small. rw is (compound_atom (Binary op a b) tokens (omega arith) whole_at n small) }
 
@@ -201,16 +221,18 @@ binary_back And a b one two = between_back And a b refl one two
 binary_back Or a b one two = between_back Or a b refl one two
 
 neg_back : (v : Value) → IsReadBack v → IsReadBack (Neg v)
+unfolding unary
 neg_back v one =
-    let whole_at : (n : ℕ) → depth_of (Neg v) ≤ suc n → IsExpr n (value_tokens (Neg v)) (Neg v)
-    = λ n small. from_unary (IsAtom n) _ _ (prefix_one (Sign Minus) Neg (IsAtom n) (operand v (value_tokens v)) v (one.atom n (omega arith))) in
+    let whole_at : (n : ℕ) → depth_of (Neg v) ≤ suc n → Is (expr_over (atom_within n)) (value_tokens (Neg v)) (Neg v)
+    = λ n small. from_unary (atom_within n) _ _ (prefix_one (Sign Minus) Neg (atom_within n) (operand v (value_tokens v)) v (one.atom n (omega arith))) in
     let some = depth_some v in
     record { whole = whole_at; atom = compound_atom (Neg v) (value_tokens (Neg v)) (omega arith) whole_at }
 
 not_back : (v : Value) → IsReadBack v → IsReadBack (Not v)
+unfolding negation
 not_back v one =
-    let whole_at : (n : ℕ) → depth_of (Not v) ≤ suc n → IsExpr n (value_tokens (Not v)) (Not v)
-    = λ n small. from_negation (IsAtom n) _ _ (prefix_one (Word (codes "not")) Not (IsComparison (IsAtom n)) (operand v (value_tokens v)) v (comparison (IsAtom n) _ v (one.atom n (omega arith)))) in
+    let whole_at : (n : ℕ) → depth_of (Not v) ≤ suc n → Is (expr_over (atom_within n)) (value_tokens (Not v)) (Not v)
+    = λ n small. from_negation (atom_within n) _ _ (prefix_one (Word (codes "not")) Not (comparison (atom_within n)) (operand v (value_tokens v)) v (as_comparison (atom_within n) _ v (one.atom n (omega arith)))) in
     let some = depth_some v in
     record { whole = whole_at; atom = compound_atom (Not v) (value_tokens (Not v)) (omega arith) whole_at }
 
@@ -222,6 +244,7 @@ read_back (Neg inner) good = neg_back inner (read_back inner good)
 read_back (Not inner) good = not_back inner (read_back inner good)
 read_back (Binary op left right) good = binary_back op left right (read_back left good.0) (read_back right good.1)
 
--- the canonical tokens of what was read are read as the same, where its depth is at most one more than the brackets may nest
-pub value_read : (v : Value) (n : ℕ) → IsGood v → depth_of v ≤ suc n → IsExpr n (value_tokens v) v
-value_read v n good small = (read_back v good).whole n small
+-- the canonical tokens of what was read are read as the same
+pub value_read : (v : Value) → IsGood v → Is expr (value_tokens v) v
+unfolding expr
+value_read v good = (depth_of v, (read_back v good).whole (depth_of v) (omega arith))

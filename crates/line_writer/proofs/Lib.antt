@@ -8,5 +8,6 @@ pub mod Lines
 pub mod Phrases
 pub mod ReadsBack
 pub mod Rooms
+pub mod Sounds
 pub mod Stencils
 pub mod Words

@@ -1,9 +1,10 @@
 -- The canonical text of a line that is read has its canonical tokens, and is read as the same line.
-use Rattle.line_writer.proofs.Imports.{◌≡◌, ℕ, suc, ◌+◌, ◌-◌, ◌^◌, ◌<◌, ◌≤◌, true, List, [], ◌∷◌, ◌++◌, map, length, take, drop, slice_range, Option, Some, None, pos, inl, inr, refl, sym, ap, ◌∙◌, append_assoc, arith, subst, nat_tests, decimal_is_IsNumeral_wide, digit_from_value, append_cancel_right, drop-drop, length-append, take_at, AllPass-from_list_all, is_ascii_digit, decimal, list_all, AllPass, AllDigits, is_text_byte, joined_no_end, NoEnd, next_of, Spells, MayOpen, AreSpelled, spaced_tokens, brackets_after, Spots, Begins, Spot, Found, TokenKind, token_exactly, next_spells, joined_read, spot_at, both, Token, Word, Number, Text, Sign, Bad, Version, kind_token, Sentence, deepest, IsLine, IsSentence, tokens_of, Reads, line_tokens, written, canonical}
+use Rattle.line_writer.proofs.Imports.{◌≡◌, ℕ, suc, ◌+◌, ◌<◌, ◌≤◌, ◌-◌, List, [], ◌∷◌, ◌++◌, map, length, take, drop, refl, sym, ap, ◌∙◌, append_assoc, arith, inl, inr, Option, Some, None, subst, pos, true, ◌^◌, slice_range, list_all, AllPass, decimal, decimal_is_IsNumeral_wide, nat_tests, digit_from_value, append_cancel_right, drop-drop, length-append, take_at, AllPass-from_list_all, is_ascii_digit, AllDigits, spaced_tokens, Spells, MayOpen, AreSpelled, Token, Word, Sign, Number, Text, Bad, Sentence, deepest, Is, Version, kind_token, line, is_text_byte, joined_no_end, NoEnd, next_of, brackets_after, Spots, Begins, Spot, Found, TokenKind, token_exactly, next_spells, joined_read, spot_at, both, tokens_of, Reads, line_tokens, written, canonical}
 use Rattle.line_tokens.specs.declared.token.TokenKind.TheVariants as kind
-use Rattle.line_writer.proofs.Gives.{IsClean, IsSpelled, Each}
+use Rattle.line_writer.proofs.Gives.{IsClean, IsSpelled, Each, sound}
+use Rattle.line_writer.proofs.Sounds.{line_sound}
 use Rattle.line_writer.proofs.Rooms.{fits_alone}
-use Rattle.line_writer.proofs.Lines.{IsDone, line_gives}
+use Rattle.line_writer.proofs.Lines.{IsDone, line_done}
 
 -- decimal digits spell their number
 digit_passes : (c : ℕ) → (48 ≤ c) × (c ≤ 57) → is_ascii_digit c ≡ true
@@ -128,7 +129,7 @@ each_spelled : (brackets : ℕ) (tokens : List Token) → AreSpelled brackets (m
 each_spelled brackets [] h = tt
 each_spelled brackets (token ∷ tokens) h = (h.0, each_spelled (brackets_after (written token).kind brackets) tokens h.2)
 
-pub joined_reads : (version : Version) (tokens : List Token) (sentence : Sentence) → AreSpelled 0 (map written tokens) → IsSentence version tokens sentence → Reads version (spaced_tokens (map written tokens)) sentence
+pub joined_reads : (version : Version) (tokens : List Token) (sentence : Sentence) → AreSpelled 0 (map written tokens) → Is (line version) tokens sentence → Reads version (spaced_tokens (map written tokens)) sentence
 joined_reads version tokens sentence spelled is =
     let read = joined_read (map written tokens) spelled in
     let same = spots_back (spaced_tokens (map written tokens)) 0 0 read.spots tokens read.read read.kinds read.bytes (each_spelled 0 tokens spelled) in
@@ -137,17 +138,17 @@ joined_reads version tokens sentence spelled is =
 -- the canonical tokens of a line are spelled, and are read as this line
 pub record IsRead (version : Version) (sentence : Sentence) : Type 0 where
   pub spelled : AreSpelled 0 (map written (line_tokens sentence))
-  pub line : IsSentence version (line_tokens sentence) sentence
+  pub line : Is (line version) (line_tokens sentence) sentence
 
-done_read : (version : Version) (n : ℕ) (tokens : List Token) (sentence : Sentence) → IsLine version n tokens sentence → AreSpelled 0 (map written tokens) → deepest sentence ≤ 32 → IsDone version tokens sentence → IsRead version sentence
-done_read version n tokens sentence is spelled small (inl same) = record { spelled = rw same spelled; line = (n, rw same is) }
-done_read version n tokens sentence is spelled small (inr kept) = let k = kept small in record { spelled = fits_alone (line_tokens sentence) k.0; line = (32, k.1) }
+done_read : (version : Version) (tokens : List Token) (sentence : Sentence) → Is (line version) tokens sentence → AreSpelled 0 (map written tokens) → deepest sentence ≤ 32 → IsDone version tokens sentence → IsRead version sentence
+done_read version tokens sentence is spelled small (inl same) = record { spelled = rw same spelled; line = rw same is }
+done_read version tokens sentence is spelled small (inr kept) = let k = kept small in record { spelled = fits_alone (line_tokens sentence) k.0; line = k.1 }
 
 pub tokens_read : (version : Version) (text : List ℕ) (sentence : Sentence) → Reads version text sentence → deepest sentence ≤ 32 → IsRead version sentence
 tokens_read version text sentence h small =
     let tokens : List Token = tokens_of text h.spots in
-    let done = (line_gives version h.line.0).at tokens sentence h.line.1 (spots_clean text 0 0 h.spots h.tokens) in
-    done_read version h.line.0 tokens sentence h.line.1 (spots_room text 0 0 h.spots h.tokens done.0) small done.1
+    let spelled = sound (line version) (line_sound version) tokens sentence h.line (spots_clean text 0 0 h.spots h.tokens) in
+    done_read version tokens sentence h.line (spots_room text 0 0 h.spots h.tokens spelled) small (line_done version tokens sentence h.line spelled)
 
 -- the canonical text of a line that some text is, with no expression deeper than 32, is this line
 pub reads_back : (version : Version) (text : List ℕ) (sentence : Sentence) → Reads version text sentence → deepest sentence ≤ 32 → Reads version (canonical sentence) sentence

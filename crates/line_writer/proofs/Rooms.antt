@@ -1,5 +1,5 @@
 -- The canonical tokens of expressions and kernels are spelled, and open few brackets at once.
-use Rattle.line_writer.proofs.Imports.{◌≡◌, ℕ, ◌+◌, ◌-◌, ◌<◌, ◌≤◌, max, Bool, true, false, not, ◌&&◌, if◌then◌else◌, List, [], ◌∷◌, ◌++◌, map, length, codes, ℤ, pos, negsuc, refl, sym, ◌∙◌, append-nil, append_assoc, arith, map-append, AllPass-from_list_all, le-max_left, le-max_right, list_all, flat_map, is_letter, is_word_byte, opens, closes, Begins, brackets_after, Written, MayOpen, AreSpelled, SignName, OpenBracket, CloseBracket, OpenParen, CloseParen, Comma, Dot, Minus, PathStep, BinOp, Add, Sub, Mul, Div, Rem, Min, Max, Eq, Ne, Lt, Le, Gt, Ge, And, Or, Constant, Entry, Index, Neg, Not, Binary, depth_of, Token, Word, Number, Text, Sign, Bad, Value, operator, is_choice, needs_brackets, operand, number_tokens, bracketed_count, count_token, with_commas, bracket_list, first_tokens, step_tokens, path_tokens, form_tokens, value_tokens, written}
+use Rattle.line_writer.proofs.Imports.{◌≡◌, ℕ, ◌+◌, ◌<◌, ◌≤◌, ◌-◌, List, [], ◌∷◌, ◌++◌, map, length, codes, refl, sym, ◌∙◌, append-nil, append_assoc, arith, max, ℤ, pos, negsuc, true, false, Bool, not, ◌&&◌, if◌then◌else◌, flat_map, list_all, map-append, AllPass-from_list_all, le-max_left, le-max_right, MayOpen, AreSpelled, Written, Comma, CloseBracket, OpenParen, CloseParen, Dot, Minus, OpenBracket, Token, Word, Sign, Number, Text, Bad, Value, PathStep, BinOp, Add, Min, Max, And, Or, depth_of, Constant, Entry, Index, Neg, Not, Binary, name, count, number, part, parts, path, operator, is_letter, is_word_byte, brackets_after, Begins, opens, closes, SignName, with_commas, count_token, number_tokens, path_tokens, form_tokens, value_tokens, is_choice, operand, bracket_list, bracketed_count, step_tokens, needs_brackets, first_tokens, written}
 use Rattle.record_dim.specs.declared.path.PathStep.TheVariants as step
 use Rattle.line_writer.proofs.Gives.{IsSpelled, Each, each_front, each_back}
 use Rattle.line_writer.proofs.Leaves.{IsGood}
@@ -58,6 +58,9 @@ fits_inside k opening closing tokens o p c f = record {
 -- words and signs of the language are spelled
 pub word_spelled : (text : List ℕ) → Begins is_letter text → list_all is_word_byte text ≡ true → length text ≤ 32 → IsSpelled (Word text)
 word_spelled text begins all short = (begins, AllPass-from_list_all is_word_byte text all, short)
+
+pub fits_word : (k : ℕ) (text : List ℕ) (tokens : List Token) → Begins is_letter text → list_all is_word_byte text ≡ true → length text ≤ 32 → Fits k tokens → Fits k (Word text ∷ tokens)
+fits_word k text tokens first all short f = fits_flat k (Word text) tokens refl (word_spelled text first all short) f
 
 operator_spelled : (op : BinOp) → IsSpelled (operator op)
 operator_spelled Min = word_spelled (codes "min") refl refl (omega arith)

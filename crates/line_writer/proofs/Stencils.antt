@@ -1,23 +1,24 @@
 -- A stencil may have other tokens than the canonical ones, since a number may have a sign before a zero: its canonical tokens are kept.
-use Rattle.line_writer.proofs.Imports.{◌≡◌, ℕ, List, [], ◌∷◌, ◌++◌, map, Some, codes, ℤ, refl, arith, Behind, OpenBracket, CloseBracket, OpenParen, CloseParen, Colon, Comma, Equals, Star, Slash, PathStep, Span, TermText, Word, Sign, Version, command_of, Stencil, Phrase, IsBody, IsBracketList, IsConst, IsListed, IsMore, IsTerm, IsTerms, IsWindowText, bracket_list, count_token, number_tokens, path_tokens, span_tokens, term_tokens, terms_tokens, window_tokens, with_commas}
+use Rattle.line_writer.proofs.Imports.{◌≡◌, ℕ, List, [], ◌∷◌, ◌++◌, map, codes, refl, arith, Some, ℤ, Comma, CloseBracket, OpenParen, CloseParen, Equals, Colon, Star, Slash, Token, Word, Sign, Stencil, Grammar, Is, behind, PathStep, Version, command_of, body, bracketed_list, constant, later, comma_list, path, span, stencil, term_phrase, terms_phrase, window_phrase, Span, TermText, with_commas, count_token, number_tokens, path_tokens, bracket_list, span_tokens, window_tokens, term_tokens, terms_tokens}
 use Rattle.line_grammar.specs.declared.line.Command.TheVariants as command
-use Rattle.line_writer.proofs.Gives.{IsSpelled, Each, each_append, each_front, Gives, nothing_gives, behind_gives, joined_gives, repeats_gives}
-use Rattle.line_writer.proofs.Words.{name_gives, count_gives}
-use Rattle.line_writer.proofs.Phrases.{sound, path_gives, window_gives}
-use Rattle.line_writer.proofs.Rooms.{Fits, commas_fit, fits_append, fits_flat, fits_inside, fits_more, bracket_list_fits, number_fits, one_fits, word_spelled}
-use Rattle.line_writer.proofs.Kept.{Kept, KeptName, KeptCount, KeptPath, IsFull, IsKept, command_line, const_gives, join, kept_gives, last, listed_read, name_in, path_in, set_word, spelled_commas}
+use Rattle.line_writer.proofs.Gives.{IsSpelled, Each, each_append, each_front, Gives, gives}
+use Rattle.line_writer.proofs.Phrases.{window_prints}
+use Rattle.line_writer.proofs.Rooms.{Fits, commas_fit, fits_append, fits_flat, fits_inside, fits_more, bracket_list_fits, number_fits, one_fits, fits_word}
+use Rattle.line_writer.proofs.Kept.{Kept, KeptConst, KeptName, KeptCount, KeptPath, IsFull, IsKept, as_line, const_gives, join, kept, kept_count, kept_name, kept_path, last, listed_read, name_in, path_in, spelled_commas}
 
--- a list of phrases has one at least, and `Q` holds of each
+-- a list of phrases has one at least, and `P` holds of each
 full_more : {A : Type 0} (found : List A) (next : A) → IsFull (found ++ next ∷ [])
 full_more [] next = tt
 full_more (first ∷ found) next = tt
 
-pub items_give : {A : Type 0} {Is : Phrase A} (Q : A → Type 0) → Gives Is (λ xs v. Q v) → Gives (IsListed Is) (λ xs v. IsFull v × Each Q v)
-items_give {Is = Is} Q one = joined_gives {Q = λ xs v. IsFull v × Each Q v} one (λ f first i1 good s1.
-    repeats_gives {Step = IsMore (Behind (Sign Comma) Is)} {Q = λ xs v. IsFull v × Each Q v} (λ before found goods.
-    joined_gives {Q = λ xs v. IsFull v × Each Q v} (behind_gives {Q = λ xs v. Q v} (Sign Comma) sound one) (λ g next i2 good' s2.
-    nothing_gives {Q = λ xs v. IsFull v × Each Q v} (found ++ next ∷ []) (full_more found next, each_append Q found (next ∷ []) goods.1 (good', tt))))
-    (first ∷ []) (tt, (good, tt)))
+behind_gives : {A : Type 0} (token : Token) (one : Grammar Token A) (P : A → Type 0) → Gives one P → Gives (behind token one) P
+behind_gives token one P g [] v i s = absurd i
+behind_gives token one P g (first ∷ xs) v i s = g xs v i.1 s.1
+
+pub items_give : {A : Type 0} (one : Grammar Token A) (P : A → Type 0) → Gives one P → Gives (comma_list one) (λ v. IsFull v × Each P v)
+unfolding comma_list later
+items_give one P g = gives (comma_list one) (λ v. IsFull v × Each P v) (λ first f i s.
+    ((tt, (g f first i s, tt)), λ found before goods next h j t. (full_more found next, each_append P found (next ∷ []) goods.1 (behind_gives (Sign Comma) one P g h next j t, tt))))
 
 -- a window
 spans_fit : (spans : List Span) → Each (Each IsSpelled) (map span_tokens spans) → Each (Fits 0) (map span_tokens spans)
@@ -30,31 +31,30 @@ window_fits window h = fits_flat 1 (Word (codes "window")) _ refl h.0
     (bracket_list_fits 0 _ (spans_fit window (spelled_commas _ (each_front IsSpelled (with_commas (map span_tokens window)) (Sign CloseBracket ∷ []) h.1.1))))
 
 -- offsets
-abbrev KeptConst : ℤ → Type 0
-KeptConst number = Kept IsConst number_tokens number
-
-consts_read : (numbers : List ℤ) → Each KeptConst numbers → Each (λ number. IsConst (number_tokens number) number) numbers
+consts_read : (numbers : List ℤ) → Each KeptConst numbers → Each (λ number. Is constant (number_tokens number) number) numbers
 consts_read [] each = tt
-consts_read (number ∷ numbers) each = (each.0.reads, consts_read numbers each.1)
+consts_read (value ∷ values) each = (each.0.reads, consts_read values each.1)
 
 consts_fit : (numbers : List ℤ) → Each KeptConst numbers → Each (Fits 0) (map number_tokens numbers)
 consts_fit [] each = tt
-consts_fit (number ∷ numbers) each = (number_fits number each.0.spelled, consts_fit numbers each.1)
+consts_fit (value ∷ values) each = (number_fits value each.0.spelled, consts_fit values each.1)
 
-offsets_read : (offsets : List ℤ) → IsFull offsets → Each KeptConst offsets → IsBracketList IsConst (bracket_list (map number_tokens offsets)) offsets
+offsets_read : (offsets : List ℤ) → IsFull offsets → Each KeptConst offsets → Is (bracketed_list constant) (bracket_list (map number_tokens offsets)) offsets
+unfolding bracketed_list
 offsets_read offsets full each = (
   refl,
   join (with_commas (map number_tokens offsets)) (Sign CloseBracket ∷ []) offsets offsets
-      (listed_read IsConst number_tokens offsets full (consts_read offsets each)) (refl, (refl, refl)),
+      (listed_read constant number_tokens offsets full (consts_read offsets each)) (refl, (refl, refl)),
 )
 
 -- a term
 record KeptTerm (term : TermText) : Type 0 where
-  reads : IsTerm (term_tokens term) term
+  reads : Is term_phrase (term_tokens term) term
   fits : Fits 1 (term_tokens term)
 
 term_kept : (weight : ℤ) (path : List PathStep) (offsets : List ℤ) → KeptConst weight → KeptPath path → IsFull offsets → Each KeptConst offsets
     → KeptTerm (record { weight = weight; path = path; offsets = offsets })
+unfolding term_phrase
 term_kept weight path offsets kw kp full each = record {
   reads = join (number_tokens weight) _ weight _ kw.reads (
     refl,
@@ -62,22 +62,21 @@ term_kept weight path offsets kw kp full each = record {
         (refl, last (λ offsets. let made : TermText = record { weight = weight; path = path; offsets = offsets } in made) (bracket_list (map number_tokens offsets)) offsets (offsets_read offsets full each)),
   );
   fits = fits_append 1 (number_tokens weight) _ (fits_more 0 1 _ (omega arith) (number_fits weight kw.spelled)) (fits_flat 1 (Sign Star) _ refl refl
-      (fits_append 1 (path_tokens path) _ (path_in path kp) (fits_flat 1 (Word (codes "at")) _ refl (word_spelled (codes "at") refl refl (omega arith))
+      (fits_append 1 (path_tokens path) _ (path_in path kp) (fits_word 1 (codes "at") _ refl refl (omega arith)
       (bracket_list_fits 0 _ (consts_fit offsets each)))));
 }
 
-term_gives : Gives IsTerm (λ xs v. KeptTerm v)
-term_gives = joined_gives {Q = λ xs v. KeptTerm v} const_gives (λ f weight i1 kw s1.
-    behind_gives {Q = λ xs v. KeptTerm v} (Sign Star) sound (joined_gives {Q = λ xs v. KeptTerm v} (kept_gives path_tokens path_gives) (λ g path i2 kp s2.
-    behind_gives {Q = λ xs v. KeptTerm v} (Word (codes "at")) sound (joined_gives {Q = λ xs v. KeptTerm v} offsets_give (λ h offsets i3 ko s3.
-    nothing_gives {Q = λ xs v. KeptTerm v} (record { weight = weight; path = path; offsets = offsets }) (term_kept weight path offsets kw kp ko.0 ko.1))))))
-  where
-    offsets_give : Gives (IsBracketList IsConst) (λ xs v. IsFull v × Each KeptConst v)
-    offsets_give = behind_gives {Q = λ xs v. IsFull v × Each KeptConst v} (Sign OpenBracket) sound (joined_gives {Q = λ xs v. IsFull v × Each KeptConst v} (items_give KeptConst const_gives) (λ f offsets i ko s.
-        behind_gives {Q = λ xs v. IsFull v × Each KeptConst v} (Sign CloseBracket) sound (nothing_gives {Q = λ xs v. IsFull v × Each KeptConst v} offsets ko)))
+offsets_give : Gives (bracketed_list constant) (λ v. IsFull v × Each KeptConst v)
+unfolding bracketed_list
+offsets_give = gives (bracketed_list constant) (λ v. IsFull v × Each KeptConst v) (λ offsets f i s. items_give constant KeptConst const_gives f offsets i s)
+
+term_gives : Gives term_phrase KeptTerm
+unfolding term_phrase
+term_gives = gives term_phrase KeptTerm (λ weight f i s path g j t offsets h k u.
+    let full = offsets_give h offsets k u in term_kept weight path offsets (const_gives f weight i s) (kept_path g path j t) full.0 full.1)
 
 -- the terms
-terms_are_read : (terms : List TermText) → Each KeptTerm terms → Each (λ term. IsTerm (term_tokens term) term) terms
+terms_are_read : (terms : List TermText) → Each KeptTerm terms → Each (λ term. Is term_phrase (term_tokens term) term) terms
 terms_are_read [] each = tt
 terms_are_read (term ∷ terms) each = (each.0.reads, terms_are_read terms each.1)
 
@@ -85,30 +84,32 @@ each_fits : (terms : List TermText) → Each KeptTerm terms → Each (Fits 1) (m
 each_fits [] each = tt
 each_fits (term ∷ terms) each = (each.0.fits, each_fits terms each.1)
 
-terms_read : (terms : List TermText) → IsFull terms → Each KeptTerm terms → IsTerms (terms_tokens terms) terms
+terms_read : (terms : List TermText) → IsFull terms → Each KeptTerm terms → Is terms_phrase (terms_tokens terms) terms
+unfolding terms_phrase
 terms_read terms full each = (
   refl,
   join (with_commas (map term_tokens terms)) (Sign CloseParen ∷ []) terms terms
-      (listed_read IsTerm term_tokens terms full (terms_are_read terms each)) (refl, (refl, refl)),
+      (listed_read term_phrase term_tokens terms full (terms_are_read terms each)) (refl, (refl, refl)),
 )
 
 terms_fit : (terms : List TermText) → Each KeptTerm terms → Fits 2 (terms_tokens terms)
 terms_fit terms each = fits_inside 1 OpenParen CloseParen (with_commas (map term_tokens terms)) refl refl refl (commas_fit 1 _ (each_fits terms each))
 
-terms_give : Gives IsTerms (λ xs v. IsFull v × Each KeptTerm v)
-terms_give = behind_gives {Q = λ xs v. IsFull v × Each KeptTerm v} (Sign OpenParen) sound (joined_gives {Q = λ xs v. IsFull v × Each KeptTerm v} (items_give KeptTerm term_gives) (λ f terms i kt s.
-    behind_gives {Q = λ xs v. IsFull v × Each KeptTerm v} (Sign CloseParen) sound (nothing_gives {Q = λ xs v. IsFull v × Each KeptTerm v} terms kt)))
+terms_give : Gives terms_phrase (λ v. IsFull v × Each KeptTerm v)
+unfolding terms_phrase
+terms_give = gives terms_phrase (λ v. IsFull v × Each KeptTerm v) (λ terms f i s. items_give term_phrase KeptTerm term_gives f terms i s)
 
 -- the line, in a version that has the word
 stencil_kept : (version : Version) (view : List ℕ) (window : List Span) (path : List PathStep) (terms : List TermText) (divisor rounds : ℕ) → command_of version (Word (codes "stencil")) ≡ Some command.Stencil →
-    KeptName view → Kept IsWindowText window_tokens window → KeptPath path → IsFull terms × Each KeptTerm terms → KeptCount divisor → KeptCount rounds → IsKept version (Stencil view window path terms divisor rounds)
+    KeptName view → Kept window_phrase window_tokens window → KeptPath path → IsFull terms × Each KeptTerm terms → KeptCount divisor → KeptCount rounds → IsKept version (Stencil view window path terms divisor rounds)
+unfolding body stencil
 stencil_kept version view window path terms divisor rounds is kv kw kp kt kd kr = λ small. (
-  fits_more 2 64 _ (omega arith) (fits_flat 2 (Word (codes "stencil")) _ refl (word_spelled (codes "stencil") refl refl (omega arith)) (fits_flat 2 (Word view) _ refl (name_in view kv)
-      (fits_append 2 (window_tokens window) _ (fits_more 1 2 _ (omega arith) (window_fits window kw.spelled)) (fits_flat 2 (Word (codes "set")) _ refl set_word
+  fits_more 2 64 _ (omega arith) (fits_word 2 (codes "stencil") _ refl refl (omega arith) (fits_flat 2 (Word view) _ refl (name_in view kv)
+      (fits_append 2 (window_tokens window) _ (fits_more 1 2 _ (omega arith) (window_fits window kw.spelled)) (fits_word 2 (codes "set") _ refl refl (omega arith)
       (fits_append 2 (path_tokens path) _ (fits_more 1 2 _ (omega arith) (path_in path kp)) (fits_flat 2 (Sign Equals) _ refl refl
       (fits_append 2 (terms_tokens terms) _ (terms_fit terms kt.1) (fits_flat 2 (Sign Slash) _ refl refl (fits_flat 2 (count_token divisor) _ refl kd.spelled.0
-      (fits_flat 2 (Word (codes "rounds")) _ refl (word_spelled (codes "rounds") refl refl (omega arith)) (fits_more 0 2 _ (omega arith) (one_fits (count_token rounds) refl kr.spelled.0)))))))))))),
-  command_line version command.Stencil (codes "stencil") _ _ is (join (Word view ∷ []) _ view _ kv.reads (join (window_tokens window) _ window _ kw.reads (
+      (fits_word 2 (codes "rounds") _ refl refl (omega arith) (fits_more 0 2 _ (omega arith) (one_fits (count_token rounds) refl kr.spelled.0)))))))))))),
+  as_line version command.Stencil (codes "stencil") _ _ is (join (Word view ∷ []) _ view _ kv.reads (join (window_tokens window) _ window _ kw.reads (
     refl,
     join (path_tokens path) _ path _ kp.reads (
       refl,
@@ -121,11 +122,8 @@ stencil_kept version view window path terms divisor rounds is kv kw kp kt kd kr 
   ))),
 )
 
-pub stencil_body : (version : Version) (n : ℕ) → command_of version (Word (codes "stencil")) ≡ Some command.Stencil → Gives (IsBody version n command.Stencil) (λ xs v. IsKept version v)
-stencil_body version n is = joined_gives {Q = λ xs v. IsKept version v} (kept_gives (λ k. Word k ∷ []) name_gives) (λ f view i1 kv s1.
-    joined_gives {Q = λ xs v. IsKept version v} (kept_gives window_tokens window_gives) (λ g window i2 kw s2.
-    behind_gives {Q = λ xs v. IsKept version v} (Word (codes "set")) sound (joined_gives {Q = λ xs v. IsKept version v} (kept_gives path_tokens path_gives) (λ h path i3 kp s3.
-    behind_gives {Q = λ xs v. IsKept version v} (Sign Equals) sound (joined_gives {Q = λ xs v. IsKept version v} terms_give (λ t terms i4 kt s4.
-    behind_gives {Q = λ xs v. IsKept version v} (Sign Slash) sound (joined_gives {Q = λ xs v. IsKept version v} (kept_gives (λ k. count_token k ∷ []) count_gives) (λ d divisor i5 kd s5.
-    behind_gives {Q = λ xs v. IsKept version v} (Word (codes "rounds")) sound (joined_gives {Q = λ xs v. IsKept version v} (kept_gives (λ k. count_token k ∷ []) count_gives) (λ r rounds i6 kr s6.
-    nothing_gives {Q = λ xs v. IsKept version v} (Stencil view window path terms divisor rounds) (stencil_kept version view window path terms divisor rounds is kv kw kp kt kd kr)))))))))))
+pub stencil_gives : (version : Version) → command_of version (Word (codes "stencil")) ≡ Some command.Stencil → Gives (body version command.Stencil) (IsKept version)
+unfolding body stencil
+stencil_gives version is = gives (body version command.Stencil) (IsKept version) (λ view f i s window g j t path h k u terms m l w divisor d o x rounds r q y.
+    stencil_kept version view window path terms divisor rounds is (kept_name f view i s) (kept window_phrase window_tokens window_prints g window j t) (kept_path h path k u) (terms_give m terms l w)
+    (kept_count d divisor o x) (kept_count r rounds q y))

@@ -1,11 +1,11 @@
 -- The one token that each word, name, number and string of a phrase has.
-use Rattle.line_writer.proofs.Imports.{◌≡◌, ℕ, ◌^◌, Bool, true, false, if◌then◌else◌, List, [], ◌∷◌, Option, Some, None, map, bytes_eq, nat_lt, pos, negsuc, refl, sym, ap, ◌∙◌, bytes_eq-Decides, list_any, Token, Word, Number, Text, Sign, Bad, Version, MapWord, listed, meaning, reserved, name_of, count_of, string_of, type_of, integer_type_of, integer_types, leaf_types, orders, token_order, aos_forms, aos_form_of, soa_forms, soa_form_of, map_words, map_word, kernel_word_of, kernel_words, reduction_of, reductions, command_of, commands, type_word, order_word, aos_word, soa_word, form_word, kernel_word, reduction_word, command_word, IsName, IsCount, IsString, IsItem, count_token}
-use Rattle.line_writer.proofs.Gives.{Gives, item_gives}
+use Rattle.line_writer.proofs.Imports.{◌≡◌, ℕ, List, [], ◌∷◌, map, refl, sym, ap, ◌∙◌, Option, Some, None, pos, negsuc, true, false, ◌^◌, Bool, if◌then◌else◌, bytes_eq, nat_lt, list_any, bytes_eq-Decides, Token, Word, Sign, Number, Text, Bad, item, Version, kernel_word_of, command_of, map_word, token_order, listed, meaning, reserved, name_of, count_of, string_of, type_of, integer_type_of, integer_types, leaf_types, orders, aos_forms, aos_form_of, soa_forms, soa_form_of, map_words, kernel_words, reduction_of, reductions, commands, name, count, string, kernel_word, reduction_word, command_word, type_word, order_word, aos_word, soa_word, form_word, MapWord, count_token}
+use Rattle.line_writer.proofs.Gives.{Prints}
 
 listed_step : {A : Type 0} (word_of own : A → List ℕ) (word : List ℕ) (value v : A) (rest : Option A) (b : Bool) → (b ≡ true → word ≡ word_of value) → word_of value ≡ own value →
     (rest ≡ Some v → word ≡ own v) → (if b then Some value else rest) ≡ Some v → word ≡ own v
-listed_step word_of own word value v rest true same is behind h = let e : value ≡ v = cc in same refl ∙ is ∙ ap own e
-listed_step word_of own word value v rest false same is behind h = behind h
+listed_step word_of own word value v rest true same is next h = let e : value ≡ v = cc in same refl ∙ is ∙ ap own e
+listed_step word_of own word value v rest false same is next h = next h
 
 -- a value that a word spells has this word, by whatever name its word goes
 pub listed_as : {A : Type 0} (word_of own : A → List ℕ) (values : List A) → map word_of values ≡ map own values → (word : List ℕ) (v : A) → listed word_of values word ≡ Some v → word ≡ own v
@@ -23,36 +23,35 @@ pub map_word_is : (word : List ℕ) (form : MapWord) → map_word word ≡ Some 
 map_word_is = listed_as form_word form_word map_words refl
 
 -- a phrase of one token, which its value determines
-pub one_token : {A : Type 0} (value : Token → Option A) (token_for : A → Token) → value Bad ≡ None → ((token : Token) (v : A) → value token ≡ Some v → token ≡ token_for v) →
-    Gives (IsItem value) (λ xs v. token_for v ∷ [] ≡ xs)
-one_token {A = A} value token_for none is = item_gives {Q = λ xs v. token_for v ∷ [] ≡ xs} value none (λ token v h spelled. ap (λ (t : Token). t ∷ []) (sym (is token v h)))
+pub one_token : {A : Type 0} (value : Token → Option A) (token_for : A → Token) → ((token : Token) (v : A) → value token ≡ Some v → token ≡ token_for v) → Prints (item value) (λ v. token_for v ∷ [])
+one_token value token_for is front v h spelled = sym (h.1 ∙ ap (λ (t : Token). t ∷ []) (is h.0 v h.2))
 
 abbrev IsWordPhrase : {A : Type 0} → (Token → Option A) → (A → List ℕ) → Type 0
-IsWordPhrase value word_of = Gives (IsItem value) (λ xs v. Word (word_of v) ∷ [] ≡ xs)
+IsWordPhrase value word_of = Prints (item value) (λ v. Word (word_of v) ∷ [])
 
-pub type_gives : IsWordPhrase type_of type_word
-type_gives = one_token type_of (λ v. Word (type_word v)) refl (meant_word type_word leaf_types)
+pub type_prints : IsWordPhrase type_of type_word
+type_prints = one_token type_of (λ v. Word (type_word v)) (meant_word type_word leaf_types)
 
-pub integer_type_gives : IsWordPhrase integer_type_of type_word
-integer_type_gives = one_token integer_type_of (λ v. Word (type_word v)) refl (meant_word type_word integer_types)
+pub integer_type_prints : IsWordPhrase integer_type_of type_word
+integer_type_prints = one_token integer_type_of (λ v. Word (type_word v)) (meant_word type_word integer_types)
 
-pub order_gives : IsWordPhrase token_order order_word
-order_gives = one_token token_order (λ v. Word (order_word v)) refl (meant_word order_word orders)
+pub order_prints : IsWordPhrase token_order order_word
+order_prints = one_token token_order (λ v. Word (order_word v)) (meant_word order_word orders)
 
-pub aos_form_gives : IsWordPhrase aos_form_of aos_word
-aos_form_gives = one_token aos_form_of (λ v. Word (aos_word v)) refl (meant_word aos_word aos_forms)
+pub aos_form_prints : IsWordPhrase aos_form_of aos_word
+aos_form_prints = one_token aos_form_of (λ v. Word (aos_word v)) (meant_word aos_word aos_forms)
 
-pub soa_form_gives : IsWordPhrase soa_form_of soa_word
-soa_form_gives = one_token soa_form_of (λ v. Word (soa_word v)) refl (meant_word soa_word soa_forms)
+pub soa_form_prints : IsWordPhrase soa_form_of soa_word
+soa_form_prints = one_token soa_form_of (λ v. Word (soa_word v)) (meant_word soa_word soa_forms)
 
-pub reduction_gives : IsWordPhrase reduction_of reduction_word
-reduction_gives = one_token reduction_of (λ v. Word (reduction_word v)) refl (meant_word reduction_word reductions)
+pub reduction_prints : IsWordPhrase reduction_of reduction_word
+reduction_prints = one_token reduction_of (λ v. Word (reduction_word v)) (meant_word reduction_word reductions)
 
-pub command_gives : (version : Version) → IsWordPhrase (command_of version) command_word
-command_gives version = one_token (command_of version) (λ v. Word (command_word v)) refl (meant_word command_word (commands version))
+pub command_prints : (version : Version) → IsWordPhrase (command_of version) command_word
+command_prints version = one_token (command_of version) (λ v. Word (command_word v)) (meant_word command_word (commands version))
 
-pub kernel_word_gives : IsWordPhrase kernel_word_of kernel_word
-kernel_word_gives = one_token kernel_word_of (λ v. Word (kernel_word v)) refl (meant_word kernel_word kernel_words)
+pub kernel_word_prints : IsWordPhrase kernel_word_of kernel_word
+kernel_word_prints = one_token kernel_word_of (λ v. Word (kernel_word v)) (meant_word kernel_word kernel_words)
 
 -- names, counts and strings
 if_some : {A : Type 0} (b : Bool) (x v : A) → (if b then Some x else None) ≡ Some v → x ≡ v
@@ -67,15 +66,15 @@ name_is : (token : Token) (v : List ℕ) → name_of token ≡ Some v → token 
 name_is (Word word) v h = ap Word (if_none (list_any (bytes_eq word) reserved) word v h)
 name_is other v h = absurd cc
 
-pub name_gives : Gives IsName (λ xs v. Word v ∷ [] ≡ xs)
-name_gives = one_token name_of Word refl name_is
+pub name_prints : Prints name (λ v. Word v ∷ [])
+name_prints = one_token name_of Word name_is
 
 string_is : (token : Token) (v : List ℕ) → string_of token ≡ Some v → token ≡ Text v
 string_is (Text text) v h = cc
 string_is other v h = absurd cc
 
-pub string_gives : Gives IsString (λ xs v. Text v ∷ [] ≡ xs)
-string_gives = one_token string_of Text refl string_is
+pub string_prints : Prints string (λ v. Text v ∷ [])
+string_prints = one_token string_of Text string_is
 
 count_is : (token : Token) (v : ℕ) → count_of token ≡ Some v → token ≡ count_token v
 count_is (Number (pos value)) v h = ap count_token (if_some (nat_lt value (2 ^ 32)) value v h)
@@ -85,5 +84,5 @@ count_is (Word word) v h = absurd cc
 count_is (Sign sign) v h = absurd cc
 count_is Bad v h = absurd cc
 
-pub count_gives : Gives IsCount (λ xs v. count_token v ∷ [] ≡ xs)
-count_gives = one_token count_of count_token refl count_is
+pub count_prints : Prints count (λ v. count_token v ∷ [])
+count_prints = one_token count_of count_token count_is

@@ -1,7 +1,6 @@
 -- Readers that answer alike on lists of at most so many tokens, and that composed readers then answer alike.
-use Rattle.std.proofs.Common.{◌≡◌, ℕ, zero, suc, ◌≤◌, Bool, true, false, if◌then◌else◌, List, [], ◌∷◌, length, Result, Ok, Err, refl, ap, ◌∙◌, length-append, arith}
-use Rattle.phrases.specs.Reading.{◌>>=◌, starts, past, behind_at, then_at, either_at, which_at, steps_within, steps_at}
-use Rattle.phrases.specs.ParsesLaws.{Parses}
+use Rattle.std.proofs.Common.{◌≡◌, ℕ, zero, suc, ◌≤◌, Bool, true, false, if◌then◌else◌, List, [], ◌∷◌, length, Result, Ok, Err, refl, ap, ◌∙◌, arith}
+use Rattle.phrases.specs.Reading.{◌>>=◌, starts, past, behind_at, then_at, either_at, steps_within, steps_at}
 use Rattle.phrases.specs.RepeatedLaws.{bind_alike}
 
 abbrev pub Alike : {T A : Type 0} → ℕ → (List T → Result (A × List T) ℕ) → (List T → Result (A × List T) ℕ) → Type 0
@@ -10,12 +9,6 @@ Alike {T = T} n read other = (tokens : List T) → length tokens ≤ n → read 
 -- what is left is no longer than what was given
 abbrev pub NoLonger : {T A : Type 0} → (List T → Result (A × List T) ℕ) → Type 0
 NoLonger {T = T} {A = A} read = (tokens : List T) (x : A × List T) → read tokens ≡ Ok x → length x.1 ≤ length tokens
-
-pub no_longer : {T A : Type 0} {Is : List T → A → Type 0} {read : List T → Result (A × List T) ℕ} {After : List T → Type 0} → Parses Is read After → NoLonger read
-no_longer p tokens x e = let f = p.sound tokens x.0 x.1 e in rw f.whole (omega (arith, length-append f.front x.1))
-
-pub same_alike : {T A : Type 0} (n : ℕ) (read : List T → Result (A × List T) ℕ) → Alike n read read
-same_alike n read tokens small = refl
 
 pub then_alike : {T A B : Type 0} (n : ℕ) {read other : List T → Result (A × List T) ℕ} {next next_other : A → List T → Result (B × List T) ℕ} → NoLonger read →
     Alike n read other → ((a : A) → Alike n (next a) (next_other a)) → Alike n (then_at read next) (then_at other next_other)

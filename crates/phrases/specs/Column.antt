@@ -19,7 +19,3 @@ pub record IsStop {T A : Type 0} (Is : List T → A → Type 0) (tokens : List T
   pub begins : Begins Is front
   pub bars : Bars Is front rest
   pub none : (v : A) → ¬ Is tokens v
-
--- a phrase however deep its brackets nest, where `IsAt n` says what a phrase is in which they nest at most n deep
-abbrev pub IsAny : {T A : Type 0} → (ℕ → List T → A → Type 0) → List T → A → Type 0
-IsAny IsAt xs v = (n : ℕ) × IsAt n xs v

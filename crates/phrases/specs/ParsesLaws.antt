@@ -385,18 +385,6 @@ stopped_also to s = record {
   blocked = s.blocked;
 }
 
-pub said_otherwise : {T A : Type 0} {Is IsAlso : List T → A → Type 0} {read : List T → Result (A × List T) ℕ} {After Fewer : List T → Type 0} → Parses Is read After →
-    ((xs : List T) (v : A) → Is xs v → IsAlso xs v) → ((xs : List T) (v : A) → IsAlso xs v → Is xs v) → ((rest : List T) → Fewer rest → After rest) →
-    Parses IsAlso read Fewer
-said_otherwise p to from fewer = record {
-  sound = λ tokens v rest e. found_also to (p.sound tokens v rest e);
-  full = λ xs v rest h after. p.full xs v rest (from xs v h) (fewer rest after);
-  stops = λ tokens left e. stopped_also to (p.stops tokens left e);
-  example = p.example;
-  value = p.value;
-  shown = to p.example p.value p.shown;
-}
-
 -- the same phrases, with fewer that may follow
 pub parses_before : {T A : Type 0} {Is : List T → A → Type 0} {read : List T → Result (A × List T) ℕ} {After : List T → Type 0} (Fewer : List T → Type 0)
     → ((rest : List T) → Fewer rest → After rest) → Parses Is read After →

@@ -40,3 +40,7 @@ Chain Step (suc n) value = Joined (Step value) (Chain Step n)
 -- any number of steps
 abbrev pub Repeats : {T A : Type 0} → (A → List T → A → Type 0) → A → List T → A → Type 0
 Repeats Step value xs v = (n : ℕ) × Chain Step n value xs v
+
+-- a phrase however deep its brackets nest, where `IsAt n` says what a phrase is in which they nest at most n deep
+abbrev pub IsAny : {T A : Type 0} → (ℕ → List T → A → Type 0) → List T → A → Type 0
+IsAny IsAt xs v = (n : ℕ) × IsAt n xs v

@@ -1,6 +1,7 @@
 -- Reading a phrase from the front of a list of tokens: its value and the tokens behind it, or how many tokens are left where
 -- reading stops.
-use Rattle.std.specs.Prelude.{ℕ, zero, suc, Bool, false, if◌then◌else◌, List, [], ◌∷◌, ◌++◌, length, Option, Some, None, Result, Ok, Err}
+use Rattle.std.specs.Prelude.{ℕ, zero, suc, Bool, false, ◌||◌, if◌then◌else◌, List, [], ◌∷◌, length, Option, Some, None, is_some, Result, Ok, Err}
+use Rattle.phrases.specs.Grammar.{Grammar, item, behind, joined, either, which, nothing, repeats, deep}
 
 infixl 10 ◌>>=◌
 abbrev pub ◌>>=◌ : {A B : Type 0} → Result A ℕ → (A → Result B ℕ) → Result B ℕ
@@ -56,6 +57,24 @@ steps_within (suc n) test step v tokens =
 unfoldable pub steps_at : {T A : Type 0} → (T → Bool) → (A → List T → Result (A × List T) ℕ) → A → List T → Result (A × List T) ℕ
 steps_at test step v tokens = steps_within (length tokens) test step v tokens
 
--- one phrase more at the end of those found
-abbrev pub more_at : {T A : Type 0} → (List T → Result (A × List T) ℕ) → List A → List T → Result (List A × List T) ℕ
-more_at read found tokens = read tokens >>= λ x. Ok (found ++ x.0 ∷ [], x.1)
+-- whether a token begins a phrase of a grammar; `same` tells whether one token is another
+abbrev pub first : {T A : Type 0} → (T → T → Bool) → Grammar T A → T → Bool
+first same (item value) t = is_some (value t)
+first same (behind token one) t = same token t
+first same (joined one next) t = first same one t
+first same (either one other) t = first same one t || first same other t
+first same (which holds one other) t = if holds then first same one t else first same other t
+first same (nothing value) t = false
+first same (repeats step value) t = false
+first same (deep of) t = false
+
+-- reading a phrase of a grammar, an alternative by its first token
+abbrev pub at : {T A : Type 0} → (T → T → Bool) → Grammar T A → List T → Result (A × List T) ℕ
+at same (item value) = item_at value
+at same (behind token one) = behind_at (same token) (at same one)
+at same (joined one next) = then_at (at same one) (λ a. at same (next a))
+at same (either one other) = either_at (first same one) (at same one) (at same other)
+at same (which holds one other) = which_at holds (at same one) (at same other)
+at same (nothing value) = give_at value
+at same (repeats step value) = steps_at (first same (step value)) (λ a. at same (step a)) value
+at same (deep of) = λ tokens. at same (of (length tokens)) tokens

@@ -1,6 +1,6 @@
 -- A phrase of composed phrases is one of wider phrases composed alike.
-use Rattle.std.proofs.Common.{ℕ, zero, suc, inl, inr, Bool, true, false, List, [], ◌∷◌}
-use Rattle.phrases.specs.Phrases.{Behind, Joined, IsEither, WhichIs, Chain, Repeats}
+use Rattle.std.proofs.Common.{ℕ, zero, suc, inl, inr, List, [], ◌∷◌}
+use Rattle.phrases.specs.Phrases.{Behind, Joined, IsEither, Chain, Repeats}
 
 abbrev pub Wider : {T A : Type 0} → (List T → A → Type 0) → (List T → A → Type 0) → Type 0
 Wider {T = T} {A = A} Is IsAlso = (xs : List T) (v : A) → Is xs v → IsAlso xs v
@@ -23,9 +23,6 @@ behind_wider token one (first ∷ xs) v h = (h.0, one xs v h.1)
 pub either_wider : {T A : Type 0} {Is IsAlso IsOther IsOtherAlso : List T → A → Type 0} → Wider Is IsAlso → Wider IsOther IsOtherAlso → Wider (IsEither Is IsOther) (IsEither IsAlso IsOtherAlso)
 either_wider one two xs v (inl h) = inl (one xs v h)
 either_wider one two xs v (inr h) = inr (two xs v h)
-
-pub same_wider : {T A : Type 0} (Is : List T → A → Type 0) → Wider Is Is
-same_wider Is xs v h = h
 
 chain_wider : {T A : Type 0} {Step StepAlso : A → List T → A → Type 0} → ((a : A) → Wider (Step a) (StepAlso a)) → (n : ℕ) (a : A) → Wider (Chain Step n a) (Chain StepAlso n a)
 chain_wider one zero a xs v h = h

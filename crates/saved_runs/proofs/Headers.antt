@@ -1,10 +1,10 @@
 -- Lines that say the header of a table.
-use Rattle.saved_runs.proofs.Imports.{◌≡◌, ℕ, zero, suc, ◌+◌, ◌^◌, ◌<◌, ◌≤◌, Bool, true, false, not, ◌&&◌, List, [], ◌∷◌, ◌++◌, length, map, codes, nat_lt, Some, Result, Ok, Err, inr, refl, sym, ap, subst, append-nil, append_assoc, arith, ◌||◌, lt-ltb, ltb-false, Behind, IsNothing, Chain, Repeats, AreSpelled, spaced_tokens, OpenBracket, CloseBracket, Colon, Comma, Fields, Record, Fixed, MapTerm, Aos, Soa, Aosoa, BitAos, BitSoa, Split, Byteswap, Bytesplit, Change, Counted, Heated, Named, depth_of, checked, has_counter, counts_once, bad_number, answered, accepted, else_for, bad_side, bad_field, not_full, Cell, Token, Word, Sign, Two, name_of, count_of, command_of, Sentence, New, Define, View, Phrase, IsName, IsCount, IsMore, IsListed, IsFixed, IsMode, IsNew, IsBody, IsCommand, IsLine, IsBracketList, count_token, written, IsSpelled, Each, fits_more, fits_flat, one_fits, word_spelled, fits_alone, decimal_spells, joined_reads, Header, is_wrap, view_line, HasLine, or_parts, not-true}
+use Rattle.saved_runs.proofs.Imports.{◌≡◌, ℕ, zero, suc, ◌+◌, ◌^◌, ◌<◌, ◌≤◌, Bool, true, false, not, ◌&&◌, List, [], ◌∷◌, ◌++◌, length, map, codes, nat_lt, Some, Result, Ok, Err, inl, refl, sym, ap, subst, append-nil, append_assoc, arith, ◌||◌, lt-ltb, ltb-false, Grammar, Is, AreSpelled, spaced_tokens, OpenBracket, CloseBracket, Colon, Comma, Fields, Record, Fixed, MapTerm, Aos, Soa, Aosoa, BitAos, BitSoa, Split, Byteswap, Bytesplit, Change, Counted, Heated, Named, depth_of, checked, has_counter, counts_once, bad_number, answered, accepted, else_for, bad_side, bad_field, not_full, Cell, Token, Word, Sign, Two, name_of, count_of, command_of, Sentence, New, Define, View, name, count, fixed, later, listed, bracket_list, flag, new, mapping, body, command_line, line, count_token, written, IsSpelled, Each, fits_more, fits_flat, one_fits, word_spelled, fits_alone, decimal_spells, joined_reads, Header, is_wrap, view_line, HasLine, or_parts, not-true}
 use Rattle.std.specs.Prelude.{if◌then◌else◌}
 use Rattle.map_expr.specs.declared.check.BadMapping.{BadMapping}
 use Rattle.map_expr.specs.declared.check.BadMapping.TheVariants as bad
 use Rattle.line_grammar.specs.declared.line.Command.TheVariants as command
-use Rattle.saved_runs.proofs.Told.{Told, told_nothing, told_item, told_behind, told_joined, told_first, told_second, told_inside}
+use Rattle.saved_runs.proofs.Told.{Told, told_nothing, told_item, told_behind, told_joined, told_deep, told_end, told_step, told_first, told_second, told_inside}
 use Rattle.saved_runs.proofs.Maps.{HasTokens, height, told_map}
 use Rattle.saved_runs.proofs.Lines.{AreFields}
 
@@ -70,51 +70,50 @@ accepted_low term fields cells is =
 
 -- ---- tokens of numbers, words and lists
 
-told_count : (k n : ℕ) → n < 2 ^ 32 → Told k IsCount n
+told_count : (k n : ℕ) → n < 2 ^ 32 → Told k count n
 told_count k n low = told_item k count_of (count_token n) n (rw (lt-ltb n (2 ^ 32) low) refl) (one_fits (count_token n) refl (decimal_spells n (omega (arith, low))))
 
 -- more phrases behind those found
-told_steps : {A : Type 0} {Is : Phrase A} (k : ℕ) (found rest : List A) → Each (Told k Is) rest → (n : ℕ) × Told k (Chain (IsMore (Behind (Sign Comma) Is)) n found) (found ++ rest)
-told_steps {Is = Is} k found [] all = (zero, subst (Told k (IsNothing found)) (sym (append-nil found)) (told_nothing k found))
-told_steps {A = A} {Is = Is} k found (next ∷ rest) all =
-    let more = told_steps {Is = Is} k (found ++ next ∷ []) rest all.1 in
-    let one : Told k (IsMore (Behind (Sign Comma) Is) found) (found ++ next ∷ []) =
-    told_joined k (told_behind k (Sign Comma) (λ xs f. fits_flat k (Sign Comma) xs refl refl f) all.0) (told_nothing k (found ++ next ∷ [])) in
-    (suc more.0, subst (Told k (Chain (IsMore (Behind (Sign Comma) Is)) (suc more.0) found)) (append_assoc found (next ∷ []) rest) (told_joined k one more.1))
+told_later : {A : Type 0} (one : Grammar Token A) (k : ℕ) (found rest : List A) → Each (Told k one) rest → Told k (later one found) (found ++ rest)
+unfolding later
+told_later one k found [] all = subst (Told k (later one found)) (sym (append-nil found)) (told_end k found)
+told_later one k found (next ∷ rest) all = subst (Told k (later one found)) (append_assoc found (next ∷ []) rest)
+    (told_step k (told_joined k (told_behind k (Sign Comma) (λ xs f. fits_flat k (Sign Comma) xs refl refl f) all.0) (told_nothing k (found ++ next ∷ []))) (told_later one k (found ++ next ∷ []) rest all.1))
 
-told_list : {A : Type 0} {Is : Phrase A} (k : ℕ) (first : A) (rest : List A) → Told k Is first → Each (Told k Is) rest → Told k (IsListed Is) (first ∷ rest)
-told_list {Is = Is} k first rest one all =
-    let steps = told_steps {Is = Is} k (first ∷ []) rest all in
-    let repeats : Told k (Repeats (IsMore (Behind (Sign Comma) Is)) (first ∷ [])) (first ∷ rest) =
-    record { tokens = steps.1.tokens; is = (steps.0, steps.1.is); fits = steps.1.fits } in
-    told_joined k one repeats
+told_list : {A : Type 0} (one : Grammar Token A) (k : ℕ) (first : A) (rest : List A) → Told k one first → Each (Told k one) rest → Told k (listed one) (first ∷ rest)
+unfolding listed
+told_list one k first rest is all = told_joined k is (told_later one k (first ∷ []) rest all)
 
-told_fixed : (k n : ℕ) → n < 2 ^ 32 → Told k IsFixed (Fixed n)
+told_fixed : (k n : ℕ) → n < 2 ^ 32 → Told k fixed (Fixed n)
+unfolding fixed
 told_fixed k n low = told_joined k (told_count k n low) (told_nothing k (Fixed n))
 
-each_fixed : (k : ℕ) (extents : List ℕ) → Each (λ n. n < 2 ^ 32) extents → Each (Told k IsFixed) (map Fixed extents)
+each_fixed : (k : ℕ) (extents : List ℕ) → Each (λ n. n < 2 ^ 32) extents → Each (Told k fixed) (map Fixed extents)
 each_fixed k [] all = tt
 each_fixed k (n ∷ extents) all = (told_fixed k n all.0, each_fixed k extents all.1)
 
-told_extents : (k : ℕ) (extents : List ℕ) → 1 ≤ length extents → Each (λ n. n < 2 ^ 32) extents → Told (k + 1) (IsBracketList IsFixed) (map Fixed extents)
+told_extents : (k : ℕ) (extents : List ℕ) → 1 ≤ length extents → Each (λ n. n < 2 ^ 32) extents → Told (k + 1) (bracket_list fixed) (map Fixed extents)
+unfolding bracket_list
 told_extents k [] some all = absurd (omega (arith, some))
 told_extents k (n ∷ extents) some all =
-    told_inside k OpenBracket CloseBracket refl refl refl (told_list k (Fixed n) (map Fixed extents) (told_fixed k n all.0) (each_fixed k extents all.1))
+    told_inside k OpenBracket CloseBracket refl refl refl (told_list fixed k (Fixed n) (map Fixed extents) (told_fixed k n all.0) (each_fixed k extents all.1))
 
-told_mode : (k : ℕ) (wrap : Bool) → Told k IsMode wrap
+told_mode : (k : ℕ) (wrap : Bool) → Told k (flag (codes "wrap")) wrap
+unfolding flag
 told_mode k true = told_first k (told_behind k (Word (codes "wrap")) (λ xs f. fits_flat k (Word (codes "wrap")) xs refl (word_spelled (codes "wrap") refl refl (omega arith)) f) (told_nothing k true))
 told_mode k false = told_second k (told_nothing k false)
 
 -- ---- the lines
 
 module _ (header : Header) (has : HasTokens header.mapping) (low : height header.mapping ≤ 10) (some : 1 ≤ length header.extents) (small : Each (λ n. n < 2 ^ 32) header.extents) where
-  abbrev new : New
-  new = record { name = codes "V"; schema = codes "R"; words = map Fixed header.extents; wrap = is_wrap header.mode; term = header.mapping }
+  abbrev made : New
+  made = record { name = codes "V"; schema = codes "R"; words = map Fixed header.extents; wrap = is_wrap header.mode; term = header.mapping }
 
-  told_name : (text : List ℕ) → name_of (Word text) ≡ Some text → IsSpelled (Word text) → Told 12 IsName text
+  told_name : (text : List ℕ) → name_of (Word text) ≡ Some text → IsSpelled (Word text) → Told 12 name text
   told_name text is spelled = told_item 12 name_of (Word text) text is (one_fits (Word text) refl spelled)
 
-  told_new : Told 12 (IsNew Two IsFixed 10) new
+  told_new : Told 12 (new Two fixed) made
+  unfolding new mapping
   told_new =
       told_joined 12 (told_name (codes "V") refl (word_spelled (codes "V") refl refl (omega arith)))
       (told_behind 12 (Sign Colon) (λ xs f. fits_flat 12 (Sign Colon) xs refl refl f)
@@ -122,27 +121,29 @@ module _ (header : Header) (has : HasTokens header.mapping) (low : height header
       (told_joined 12 (told_extents 11 header.extents some small)
       (told_joined 12 (told_mode 12 (is_wrap header.mode))
       (told_behind 12 (Word (codes "as")) (λ xs f. fits_flat 12 (Word (codes "as")) xs refl (word_spelled (codes "as") refl refl (omega arith)) f)
-      (told_joined 12 (told_map 10 header.mapping has low) (told_nothing 12 new)))))))
+      (told_joined 12 (told_deep 12 10 (told_map 10 header.mapping has low)) (told_nothing 12 made)))))))
 
-  told_view : Told 12 (IsLine Two 10) (view_line header)
+  told_view : Told 12 (line Two) (view_line header)
+  unfolding line command_line body
   told_view =
-      told_second 12 (told_joined 12 (told_item 12 (command_of Two) (Word (codes "view")) command.View refl (one_fits (Word (codes "view")) refl (word_spelled (codes "view") refl refl (omega arith))))
-      (told_joined 12 told_new (told_nothing 12 (View new))))
+      told_first 12 (told_joined 12 (told_item 12 (command_of Two) (Word (codes "view")) command.View refl (one_fits (Word (codes "view")) refl (word_spelled (codes "view") refl refl (omega arith))))
+      (told_joined 12 told_new (told_nothing 12 (View made))))
 
   pub view_has_line : HasLine (view_line header)
   view_has_line =
       let spelled = fits_alone told_view.tokens (fits_more 12 64 told_view.tokens (omega arith) told_view.fits) in
-      (spaced_tokens (map written told_view.tokens), joined_reads Two told_view.tokens (view_line header) spelled (10, told_view.is))
+      (spaced_tokens (map written told_view.tokens), joined_reads Two told_view.tokens (view_line header) spelled told_view.is)
 
 -- the record of fields that a line says, under any name
 pub record_has_line : (fields : Fields) → AreFields fields → HasLine (Define (codes "R") (Record fields))
+unfolding line command_line body
 record_has_line fields are =
     let sentence : Sentence = Define (codes "R") (Record fields) in
     let named : List Token = Word (codes "R") ∷ are.tokens in
     let tokens : List Token = Word (codes "record") ∷ named in
     let spelled : AreSpelled 0 (map written tokens) =
     (word_spelled (codes "record") refl refl (omega arith), tt, (word_spelled (codes "R") refl refl (omega arith), tt, are.spelled)) in
-    let body : IsBody Two are.depth command.Record named sentence = record {
+    let said : Is (body Two command.Record) named sentence = record {
       first = codes "R";
       front = Word (codes "R") ∷ [];
       back = are.tokens;
@@ -150,12 +151,12 @@ record_has_line fields are =
       begins = (Word (codes "R"), refl, refl);
       ends = record { first = fields; front = are.tokens; back = []; whole = sym (append-nil are.tokens); begins = are.are; ends = (refl, refl) };
     } in
-    let line : IsCommand Two are.depth tokens sentence = record {
+    let whole : Is (command_line Two) tokens sentence = record {
       first = command.Record;
       front = Word (codes "record") ∷ [];
       back = named;
       whole = refl;
       begins = (Word (codes "record"), refl, refl);
-      ends = body;
+      ends = said;
     } in
-    (spaced_tokens (map written tokens), joined_reads Two tokens sentence spelled (are.depth, inr line))
+    (spaced_tokens (map written tokens), joined_reads Two tokens sentence spelled (inl whole))

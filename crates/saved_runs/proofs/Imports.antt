@@ -21,7 +21,7 @@ pub use Rattle.piece_bits.specs.Tables.{hold_at, HasShape, with_entry, zeros}
 pub use Rattle.views.specs.Stores.{kept_by, store_answer, StoreAnswer, Keeping, kept_or, kept_row, kept_rows}
 pub use Rattle.views.specs.declared.fault.StoreFault.{StoreFault}
 pub use Rattle.row_updates.specs.Rows.{Setting, each, in_row, store_kind, value_of, passes, new_value, updated_row, with_values, updated_rows, updated_of, counted}
-pub use Rattle.worlds.specs.Outcomes.{◌>>=◌, Goes, free, quiet, refused_if, ok_or, LeftOf, Left, known, Outcome, shows, some_or, refused_by, Faults, CannotRead, sure, Tested}
+pub use Rattle.worlds.specs.Outcomes.{◌>>=◌, Goes, free, quiet, refused_if, ok_or, LeftOf, Left, known, shows, some_or, refused_by, sure, Tested}
 pub use Rattle.row_updates.specs.declared.fault.UpdateFault.{UpdateFault}
 pub use Rattle.row_updates.specs.declared.fault.UpdateKind.{UpdateKind}
 pub use Rattle.lane_kernels.specs.Kernels.{Store, stored, with_store, run_rows, answer_fault, kernel_store_fault, first_row_fault, empty_fault, kernel_fault}
@@ -35,9 +35,11 @@ pub use Rattle.extents.specs.Shapes.{is_rows, is_zero, extent_of, fixed_product,
 pub use Rattle.extents.specs.ShapeLaws.{same_fixed, product_filled, fixed_positive, product_fixed, product_divided}
 pub use Rattle.extents.specs.declared.words.ExtentWord.{ExtentWord}
 pub use Rattle.extents.specs.declared.words.ExtentWord.TheVariants.{Fixed, Rows}
-pub use Rattle.phrases.specs.Phrases.{Behind, IsNothing, Chain, Repeats, IsItem, Joined, IsEither}
+pub use Rattle.phrases.specs.Phrases.{Chain}
+pub use Rattle.phrases.specs.Grammar.{Grammar, Is, item, behind, joined, either, which, nothing, repeats, deep, more}
+pub use Rattle.phrases.specs.LeavesLaws.{Told as Asked, told as asked, Splits}
 pub use Rattle.line_tokens.specs.Spelled.{AreSpelled, spaced_tokens, MayOpen}
-pub use Rattle.line_tokens.specs.declared.sign.Sign.TheVariants.{OpenBracket, CloseBracket, Colon, Comma, Dot, Equals, Slash, OpenBrace, CloseBrace, OpenParen, CloseParen, Arrow}
+pub use Rattle.line_tokens.specs.declared.sign.Sign.TheVariants.{OpenBracket, CloseBracket, Colon, Comma, Dot, OpenBrace, CloseBrace, OpenParen, CloseParen, Arrow}
 pub use Rattle.record_dim.specs.Trees.{Fields, Record, Tree}
 pub use Rattle.map_expr.specs.Terms.{Term as MapTerm, Aos, Soa, Aosoa, BitAos, BitSoa, Split, Byteswap, Bytesplit, Change, Count as Counted, Heat as Heated, Named, depth_of, Named as NamedTerm}
 pub use Rattle.map_expr.specs.Checks.{checked, has_counter, counts_once, bad_number, answered}
@@ -47,8 +49,9 @@ pub use Rattle.line_grammar.specs.declared.token.Token.{Token}
 pub use Rattle.line_grammar.specs.declared.token.Token.TheVariants.{Word, Sign, Number, Text, Bad}
 pub use Rattle.line_grammar.specs.declared.version.Version.TheVariants.{Two}
 pub use Rattle.line_grammar.specs.Tokens.{name_of, count_of, command_of, type_of, integer_type_of, token_order, aos_form_of, soa_form_of, map_word}
-pub use Rattle.line_grammar.specs.Sentences.{Sentence, New, Define, View, Blank, Mapping, Load, Assign, Update, Actors, Reduce, Count, Copy, Relayout, Show, Drop, Bytes, Save, Open, Advise, PrintWindow, Stencil, Value, Assignment}
-pub use Rattle.line_grammar.specs.Grammar.{Phrase, IsName, IsCount, IsMore, IsListed, IsFixed, IsMode, IsNew, IsBody, IsCommand, IsLine, IsBracketList, IsExtent, IsFields, IsShowEnd, IsSentence, IsPart, IsPath, IsFieldWidth, IsFieldWidths, IsBits, IsForm, IsFormOrName, IsMap}
+pub use Rattle.line_grammar.specs.Sentences.{Sentence, New, Define, View, Mapping, Load, Relayout, Open, Value, Assignment}
+pub use Rattle.line_grammar.specs.Language.{name, count, fields, IsSentence}
+unfoldable pub use Rattle.line_grammar.specs.Language.{later, listed, bracket_list, part, parts, path, field_width, field_widths, braced_widths, inside_aos, inside_soa, inside_aosoa, inside_bits, inside_form, form_or_name, mapping, mapping_within, fixed, extent_word, actors, update_end, show_end, stencil, flag, new, body, command_line, line}
 pub use Rattle.line_writer.specs.Canonical.{count_token, line_tokens}
 pub use Rattle.line_writer.specs.Texts.{written}
 pub use Rattle.line_writer.proofs.Rooms.{fits_more, fits_flat, one_fits, word_spelled, fits_alone, Fits, no_tokens_fit, fits_append, fits_inside}

@@ -1,5 +1,4 @@
 mod Imports
-pub mod Assignments
 pub mod CommandLaws
 pub mod Depths
 pub mod LineLaws

@@ -1,5 +1,5 @@
 -- The line that a function of the text tells is the grammar's answer.
-use Rattle.schema_lang.proofs.Imports.{◌≡◌, ℕ, zero, suc, ◌+◌, ◌-◌, ◌<◌, ◌≤◌, List, [], ◌∷◌, length, Result, Ok, Err, refl, sym, ap, ◌∙◌, arith, MatchResult, next_of, Spots, brackets_after, Spot, Next, End, Bad, next_inside, same_spots, Reads, StopsAt, tokens_of, Sentence, Blank, Version, ended_at, ended, ◌>>=◌, either_at, give_at, ok_parts, line_at, command_at, any_token, line_of, line_or_column, spots_in, spots_within, spots_behind}
+use Rattle.schema_lang.proofs.Imports.{◌≡◌, ℕ, List, Ok, Err, refl, sym, ap, ◌∙◌, arith, ◌≤◌, Result, ◌-◌, length, zero, suc, ◌+◌, ◌<◌, MatchResult, Sentence, Version, Spot, Spots, brackets_after, same_spots, Reads, StopsAt, tokens_of, next_of, Next, End, Bad, next_inside, line_or_column, spots_in, spots_within, spots_behind, line_at, line_of, read, later}
 use Rattle.line_tokens.specs.declared.token.Next.TheVariants.{Token}
 use Rattle.line_grammar.specs.declared.token.Token as token
 use Rattle.schema_lang.proofs.LineLaws.{found_line, stopped_line}
@@ -23,34 +23,16 @@ pub spots_are : (text : List ℕ) → Spots text 0 0 (spots_in text)
 spots_are text = within (length text + 1) text 0 0 (omega arith) (omega arith)
 
 -- what reading the tokens gives is what is told
-pub told_by : (version : Version) (text : List ℕ) (spots : List Spot) (tokens : List token.Token) (read : Result (Sentence × List token.Token) ℕ) → Spots text 0 0 spots → tokens ≡ tokens_of text spots → line_at version (length tokens) tokens ≡ read → line_of version text ≡ line_or_column spots read
+pub told_by : (version : Version) (text : List ℕ) (spots : List Spot) (tokens : List token.Token) (read : Result (Sentence × List token.Token) ℕ) → Spots text 0 0 spots → tokens ≡ tokens_of text spots → line_at version tokens ≡ read → line_of version text ≡ line_or_column spots read
 unfolding line_of
 told_by version text spots tokens read all are is =
     let same : spots_in text ≡ spots = same_spots text 0 0 (spots_in text) spots (spots_are text) all in
     let these : tokens_of text (spots_in text) ≡ tokens = ap (tokens_of text) same ∙ sym are in
-    ap (λ s. line_or_column s (line_at version (length (tokens_of text (spots_in text))) (tokens_of text (spots_in text)))) same ∙ ap (λ (t : List token.Token). line_or_column spots (line_at version (length t) t)) these ∙ ap (line_or_column spots) is
-
--- behind a whole line stands nothing
-ended_nothing : {A T : Type 0} (read : List T → Result (A × List T) ℕ) (tokens : List T) (v : A) (rest : List T) → ended_at read tokens ≡ Ok (v, rest) → rest ≡ []
-ended_nothing {A} {T} read tokens v rest e = of (read tokens) e where
-  of_rest : (w : A) (left : List T) → ended w left ≡ Ok (v, rest) → rest ≡ []
-  of_rest w [] e = sym (ok_parts e).1
-  of_rest w (token ∷ left) e = absurd (cc)
-
-  of : (r : Result (A × List T) ℕ) → (r >>= λ x. ended x.0 x.1) ≡ Ok (v, rest) → rest ≡ []
-  of (Ok x) e = of_rest x.0 x.1 e
-  of (Err n) e = absurd (cc)
-
-whole_line : (version : Version) (tokens : List token.Token) (v : Sentence) (rest : List token.Token) → line_at version (length tokens) tokens ≡ Ok (v, rest) → rest ≡ []
-unfolding line_at
-whole_line version tokens v rest e = ended_nothing (either_at any_token (command_at version (length tokens)) (give_at Blank)) tokens v rest e
+    ap (λ s. line_or_column s (line_at version (tokens_of text (spots_in text)))) same ∙ ap (λ (t : List token.Token). line_or_column spots (line_at version t)) these ∙ ap (line_or_column spots) is
 
 -- a text whose line is told is this line, and one whose column is told stops there
 pub line_law : (version : Version) (text : List ℕ) → MatchResult (line_of version text) (Reads version text) (StopsAt version text)
-line_law version text = by (line_at version (length (tokens_of text (spots_in text))) (tokens_of text (spots_in text))) refl where
-  by : (read : Result (Sentence × List token.Token) ℕ) → line_at version (length (tokens_of text (spots_in text))) (tokens_of text (spots_in text)) ≡ read → MatchResult (line_of version text) (Reads version text) (StopsAt version text)
-  by (Ok x) is =
-      let nothing : x.1 ≡ [] = whole_line version (tokens_of text (spots_in text)) x.0 x.1 is in
-      let whole : line_at version (length (tokens_of text (spots_in text))) (tokens_of text (spots_in text)) ≡ Ok (x.0, []) = is ∙ ap (λ (r : List token.Token). Ok (x.0, r)) nothing in
-      rw (told_by version text (spots_in text) (tokens_of text (spots_in text)) (Ok x) (spots_are text) refl is) (found_line version text (spots_in text) (tokens_of text (spots_in text)) x.0 (spots_are text) refl whole)
+line_law version text = by (line_at version (tokens_of text (spots_in text))) refl where
+  by : (read : Result (Sentence × List token.Token) ℕ) → line_at version (tokens_of text (spots_in text)) ≡ read → MatchResult (line_of version text) (Reads version text) (StopsAt version text)
+  by (Ok x) is = rw (told_by version text (spots_in text) (tokens_of text (spots_in text)) (Ok x) (spots_are text) refl is) (found_line version text (spots_in text) (tokens_of text (spots_in text)) x.0 (spots_are text) refl is)
   by (Err left) is = rw (told_by version text (spots_in text) (tokens_of text (spots_in text)) (Err left) (spots_are text) refl is) (stopped_line version text (spots_in text) (tokens_of text (spots_in text)) left (spots_are text) refl is)

@@ -1,6 +1,3 @@
-pub mod Kernels
-pub mod Updates
-pub mod Bodies
 pub mod Parsing
 pub mod LineOf
 pub mod VersionOf

@@ -6,11 +6,12 @@ use Rattle.line_tokens.specs.declared.spots.Spot.{Spot}
 use Rattle.line_tokens.specs.declared.token.Next.{Next}
 use Rattle.line_tokens.specs.declared.token.Next.TheVariants.{End, Bad, Token}
 use Rattle.line_grammar.specs.declared.line.Line.{Line}
+use Rattle.phrases.specs.Ended.{ended_at}
+use Rattle.line_grammar.specs.Language.{read, line}
 use Rattle.line_grammar.specs.Reads.{tokens_of, column_behind}
 use Rattle.line_grammar.specs.Sentences.{Sentence, sentence_of, deepest}
 use Rattle.line_grammar.specs.declared.token.Token as token
 use Rattle.line_grammar.specs.declared.version.Version.{Version}
-use Rattle.schema_lang.specs.Bodies.{line_at}
 use Rattle.schema_lang.specs.declared.fault.LineFault.{LineFault}
 use Rattle.schema_lang.specs.declared.fault.LineFault.TheVariants.{Syntax, TooDeep, NoMemory}
 
@@ -29,13 +30,17 @@ spots_within (suc room) text at brackets = spots_behind (next_of text at bracket
 abbrev pub spots_in : List ℕ → List Spot
 spots_in text = spots_within (length text + 1) text 0 0
 
+-- reading tokens as a line, and nothing behind it
+unfoldable pub line_at : Version → List token.Token → Result (Sentence × List token.Token) ℕ
+line_at version = ended_at (read (line version))
+
 -- the line of these tokens, or the column at which they stop
 abbrev pub line_or_column : List Spot → Result (Sentence × List token.Token) ℕ → Result Sentence ℕ
 line_or_column spots (Ok read) = Ok read.0
 line_or_column spots (Err left) = Err (column_behind (length spots - left) spots)
 
 unfoldable pub line_of : Version → List ℕ → Result Sentence ℕ
-line_of version text = line_or_column (spots_in text) (line_at version (length (tokens_of text (spots_in text))) (tokens_of text (spots_in text)))
+line_of version text = line_or_column (spots_in text) (line_at version (tokens_of text (spots_in text)))
 
 -- the answer of a reader
 abbrev pub IsTold : Result Sentence ℕ → Result Line LineFault → Type 0

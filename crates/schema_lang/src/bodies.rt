@@ -2,10 +2,11 @@ ghost use Rattle.std.specs.Prelude.{ℕ, List, Option, ◌≡◌, IfErr};
 ghost use Rattle.phrases.specs.Reading.{item_at};
 ghost use Rattle.line_grammar.specs.Sentences.{Actors, Assignment, Value, sentence_of};
 ghost use Rattle.line_grammar.specs.Tokens.{command_of};
+ghost use Rattle.line_grammar.specs.declared.line.Command.TheVariants as command;
+ghost use Rattle.line_grammar.specs.declared.version.Version.{Version};
+ghost use Rattle.line_grammar.specs.Language.{read, actors, body, bracket_list, command_line, flag, new};
 ghost use Rattle.line_phrases.specs.Inner.Gives.{Gives, IsSyntax};
-ghost use Rattle.line_phrases.specs.Lists.{bracket_list_at};
-ghost use Rattle.schema_lang.specs.Updates.{actors_at};
-ghost use Rattle.schema_lang.specs.Bodies.{assign_at, body_at, bytes_at, command_at, copy_at, define_at, flag_at, kernel_line_at, load_at, mapping_at, new_at, new_of, open_at, reduce_at, relayout_at, update_at, view_at, word_at};
+ghost use Rattle.schema_lang.specs.Inner.Bodies.{extent_where, new_of};
 
 use crate::kernels::read_kernel;
 use crate::later::{read_advise, read_show, read_stencil};
@@ -22,18 +23,17 @@ use map_expr::MapExpr;
 use record_dim::{Dim, Name};
 use std::alloc::Global;
 
-// A command of a version of the language, whose brackets nest at most `room` deep.
-#[tactic(auto, unfolding(crate::specs::Bodies::command_at))]
+// A command of a version of the language.
+#[tactic(auto, unfolding(line_grammar::specs::Language::command_line))]
 pub(crate) fn read_command(
     alloc: Global,
     version: Version,
-    room: usize,
     tokens: &mut Tokens,
 ) -> Result<Line, ReadError>
-    ensures { Gives (λ x. (sentence_of x, tokens.new)) result (command_at version room tokens.old) }
+    ensures { Gives (λ x. (sentence_of x, tokens.new)) result (read (command_line version) tokens.old) }
 {
     let command = read_word(version, tokens)?;
-    read_body(alloc, version, room, command, tokens)
+    read_body(alloc, version, command, tokens)
 }
 
 // The word of a command that the version has.
@@ -48,61 +48,55 @@ fn read_word(version: Version, tokens: &mut Tokens) -> Result<Command, ReadError
 }
 
 // What stands behind the word of a command.
-#[tactic(auto, unfolding(crate::specs::Bodies::body_at))]
+#[tactic(auto, unfolding(line_grammar::specs::Language::body))]
 fn read_body(
     alloc: Global,
     version: Version,
-    room: usize,
     command: Command,
     tokens: &mut Tokens,
 ) -> Result<Line, ReadError>
-    ensures { Gives (λ x. (sentence_of x, tokens.new)) result (body_at version room command tokens.old) }
+    ensures { Gives (λ x. (sentence_of x, tokens.new)) result (read (body version command) tokens.old) }
 {
     match command {
-        Command::Record => read_define(alloc, room, tokens),
-        Command::Mapping => read_mapping(alloc, version, room, tokens),
-        Command::View => read_view(alloc, version, room, tokens),
-        Command::Load => read_load(alloc, version, room, tokens),
-        Command::Set => read_assign(alloc, room, tokens),
-        Command::Update => read_update(alloc, version, room, tokens),
+        Command::Record => read_define(alloc, tokens),
+        Command::Mapping => read_mapping(alloc, version, tokens),
+        Command::View => read_view(alloc, version, tokens),
+        Command::Load => read_load(alloc, version, tokens),
+        Command::Set => read_assign(alloc, tokens),
+        Command::Update => read_update(alloc, version, tokens),
         Command::Kernel => read_kernel_line(alloc, tokens),
-        Command::Reduce => read_reduce(alloc, room, tokens),
+        Command::Reduce => read_reduce(alloc, tokens),
         Command::Copy => read_copy(tokens),
-        Command::Relayout => read_relayout(alloc, version, room, tokens),
+        Command::Relayout => read_relayout(alloc, version, tokens),
         Command::Show(kind) => read_show(alloc, version, kind, tokens),
         Command::Drop => Ok(Line::Drop(tokens.item::<Name>()?)),
         Command::Bytes => read_bytes(tokens),
         Command::Save => Ok(Line::SaveView(tokens.item::<Name>()?)),
         Command::Open => read_open(tokens),
-        Command::Advise => read_advise(alloc, version, room, tokens),
+        Command::Advise => read_advise(alloc, version, tokens),
         Command::Stencil => read_stencil(alloc, tokens),
     }
 }
 
-#[tactic(auto, unfolding(crate::specs::Bodies::define_at))]
-fn read_define(alloc: Global, room: usize, tokens: &mut Tokens) -> Result<Line, ReadError>
-    ensures { Gives (λ x. (sentence_of x, tokens.new)) result (define_at room tokens.old) }
+#[tactic(auto, unfolding(line_grammar::specs::Language::body))]
+fn read_define(alloc: Global, tokens: &mut Tokens) -> Result<Line, ReadError>
+    ensures { (version : Version) → Gives (λ x. (sentence_of x, tokens.new)) result (read (body version command.Record) tokens.old) }
 {
     let name = tokens.item::<Name>()?;
-    let fields = read_fields(alloc, room, tokens)?;
+    let fields = read_fields(alloc, tokens)?;
     Ok(Line::Define {
         name,
         dim: Dim::Fields(fields),
     })
 }
 
-#[tactic(auto, unfolding(crate::specs::Bodies::mapping_at))]
-fn read_mapping(
-    alloc: Global,
-    version: Version,
-    room: usize,
-    tokens: &mut Tokens,
-) -> Result<Line, ReadError>
-    ensures { Gives (λ x. (sentence_of x, tokens.new)) result (mapping_at version room tokens.old) }
+#[tactic(auto, unfolding(line_grammar::specs::Language::body))]
+fn read_mapping(alloc: Global, version: Version, tokens: &mut Tokens) -> Result<Line, ReadError>
+    ensures { Gives (λ x. (sentence_of x, tokens.new)) result (read (body version command.Mapping) tokens.old) }
 {
     let name = tokens.item::<Name>()?;
     tokens.sign(Sign::Equals)?;
-    let expr = read_map(alloc, version, room, tokens)?;
+    let expr = read_map(alloc, version, tokens)?;
     Ok(Line::Mapping { name, expr })
 }
 
@@ -117,15 +111,14 @@ pub(crate) struct New {
 }
 
 // What makes a view. `?` may stand among its extents where `is_loaded`.
-#[tactic(auto, unfolding(crate::specs::Bodies::new_at))]
+#[tactic(auto, unfolding(line_grammar::specs::Language::new))]
 fn read_new(
     alloc: Global,
     version: Version,
-    room: usize,
     is_loaded: bool,
     tokens: &mut Tokens,
 ) -> Result<New, ReadError>
-    ensures { Gives (λ x. (new_of x, tokens.new)) result (new_at version (word_at is_loaded) room tokens.old) }
+    ensures { Gives (λ x. (new_of x, tokens.new)) result (read (new version (extent_where is_loaded)) tokens.old) }
 {
     let name = tokens.item::<Name>()?;
     tokens.sign(Sign::Colon)?;
@@ -133,7 +126,7 @@ fn read_new(
     let words = read_words(alloc, is_loaded, tokens)?;
     let wrap = read_flag("wrap", tokens)?;
     tokens.word("as")?;
-    let expr = read_map(alloc, version, room, tokens)?;
+    let expr = read_map(alloc, version, tokens)?;
     Ok(New {
         name,
         schema,
@@ -144,7 +137,7 @@ fn read_new(
 }
 
 fn read_words(alloc: Global, is_loaded: bool, tokens: &mut Tokens) -> Result<ExtentWords, ReadError>
-    ensures { Gives (λ x. (x, tokens.new)) result (bracket_list_at (word_at is_loaded) tokens.old) }
+    ensures { Gives (λ x. (x, tokens.new)) result (read (bracket_list (extent_where is_loaded)) tokens.old) }
 {
     if is_loaded {
         read_extents(alloc, tokens)
@@ -154,9 +147,9 @@ fn read_words(alloc: Global, is_loaded: bool, tokens: &mut Tokens) -> Result<Ext
 }
 
 // Whether the word stands next, which is taken then.
-#[tactic(auto, unfolding(crate::specs::Bodies::flag_at))]
+#[tactic(auto, unfolding(line_grammar::specs::Language::flag))]
 pub(crate) fn read_flag(word: &str, tokens: &mut Tokens) -> Result<bool, ReadError>
-    ensures gives { Gives (λ x. (x, tokens.new)) result (flag_at word.now tokens.old) }
+    ensures gives { Gives (λ x. (x, tokens.new)) result (read (flag word.now) tokens.old) }
     ensures fault { IfErr result IsSyntax }
 {
     if !tokens.begins_word(word) {
@@ -166,14 +159,9 @@ pub(crate) fn read_flag(word: &str, tokens: &mut Tokens) -> Result<bool, ReadErr
     Ok(true)
 }
 
-#[tactic(auto, unfolding(crate::specs::Bodies::view_at))]
-fn read_view(
-    alloc: Global,
-    version: Version,
-    room: usize,
-    tokens: &mut Tokens,
-) -> Result<Line, ReadError>
-    ensures { Gives (λ x. (sentence_of x, tokens.new)) result (view_at version room tokens.old) }
+#[tactic(auto, unfolding(line_grammar::specs::Language::body))]
+fn read_view(alloc: Global, version: Version, tokens: &mut Tokens) -> Result<Line, ReadError>
+    ensures { Gives (λ x. (sentence_of x, tokens.new)) result (read (body version command.View) tokens.old) }
 {
     let New {
         name,
@@ -181,7 +169,7 @@ fn read_view(
         words,
         wrap,
         expr,
-    } = read_new(alloc, version, room, false, tokens)?;
+    } = read_new(alloc, version, false, tokens)?;
     Ok(Line::View {
         name,
         schema,
@@ -191,14 +179,9 @@ fn read_view(
     })
 }
 
-#[tactic(auto, unfolding(crate::specs::Bodies::load_at))]
-fn read_load(
-    alloc: Global,
-    version: Version,
-    room: usize,
-    tokens: &mut Tokens,
-) -> Result<Line, ReadError>
-    ensures { Gives (λ x. (sentence_of x, tokens.new)) result (load_at version room tokens.old) }
+#[tactic(auto, unfolding(line_grammar::specs::Language::body))]
+fn read_load(alloc: Global, version: Version, tokens: &mut Tokens) -> Result<Line, ReadError>
+    ensures { Gives (λ x. (sentence_of x, tokens.new)) result (read (body version command.Load) tokens.old) }
 {
     let New {
         name,
@@ -206,7 +189,7 @@ fn read_load(
         words,
         wrap,
         expr,
-    } = read_new(alloc, version, room, true, tokens)?;
+    } = read_new(alloc, version, true, tokens)?;
     tokens.word("from")?;
     let file = tokens.item::<FileName>()?;
     Ok(Line::Load {
@@ -219,16 +202,16 @@ fn read_load(
     })
 }
 
-#[tactic(auto, unfolding(crate::specs::Bodies::assign_at, line_phrases::specs::Exprs::expr_at))]
-fn read_assign(alloc: Global, room: usize, tokens: &mut Tokens) -> Result<Line, ReadError>
-    ensures { Gives (λ x. (sentence_of x, tokens.new)) result (assign_at room tokens.old) }
+#[tactic(auto, unfolding(line_grammar::specs::Language::body))]
+fn read_assign(alloc: Global, tokens: &mut Tokens) -> Result<Line, ReadError>
+    ensures { (version : Version) → Gives (λ x. (sentence_of x, tokens.new)) result (read (body version command.Set) tokens.old) }
 {
     let view = tokens.item::<Name>()?;
     let index = read_index(alloc, tokens)?;
     tokens.sign(Sign::Dot)?;
     let path = read_path(alloc, tokens)?;
     tokens.sign(Sign::Equals)?;
-    let value = read_expr(alloc, room, tokens)?;
+    let value = read_expr(alloc, tokens)?;
     Ok(Line::Assign {
         view,
         index,
@@ -237,19 +220,14 @@ fn read_assign(alloc: Global, room: usize, tokens: &mut Tokens) -> Result<Line, 
     })
 }
 
-#[tactic(auto, unfolding(crate::specs::Bodies::update_at, crate::specs::Updates::update_end_at))]
-fn read_update(
-    alloc: Global,
-    version: Version,
-    room: usize,
-    tokens: &mut Tokens,
-) -> Result<Line, ReadError>
-    ensures { Gives (λ x. (sentence_of x, tokens.new)) result (update_at version room tokens.old) }
+#[tactic(auto, unfolding(line_grammar::specs::Language::body, line_grammar::specs::Language::update_end, line_grammar::specs::Language::actors))]
+fn read_update(alloc: Global, version: Version, tokens: &mut Tokens) -> Result<Line, ReadError>
+    ensures { Gives (λ x. (sentence_of x, tokens.new)) result (read (body version command.Update) tokens.old) }
 {
     let view = tokens.item::<Name>()?;
-    let filter = read_filter(alloc, room, tokens)?;
+    let filter = read_filter(alloc, tokens)?;
     tokens.word("set")?;
-    let sets = read_sets(alloc, room, tokens)?;
+    let sets = read_sets(alloc, tokens)?;
     if !version.is_two() || !tokens.begins_word("actors") {
         return Ok(Line::Update { view, filter, sets });
     }
@@ -273,10 +251,10 @@ pub(crate) struct ActorsText {
 }
 
 // The actors of an update, whatever it is.
-#[tactic(auto, unfolding(crate::specs::Updates::actors_at))]
+#[tactic(auto, unfolding(line_grammar::specs::Language::actors))]
 fn read_actors(alloc: Global, tokens: &mut Tokens) -> Result<ActorsText, ReadError>
     ensures { (view : List ℕ) (filter : Option Value) (sets : List Assignment)
-        → Gives (λ x. (Actors view filter sets x.cuts x.seed x.turns, tokens.new)) result (actors_at view filter sets tokens.old) }
+        → Gives (λ x. (Actors view filter sets x.cuts x.seed x.turns, tokens.new)) result (read (actors view filter sets) tokens.old) }
 {
     tokens.word("actors")?;
     let cuts = read_cuts(alloc, tokens)?;
@@ -287,9 +265,9 @@ fn read_actors(alloc: Global, tokens: &mut Tokens) -> Result<ActorsText, ReadErr
     Ok(ActorsText { cuts, seed, turns })
 }
 
-#[tactic(auto, unfolding(crate::specs::Bodies::kernel_line_at))]
+#[tactic(auto, unfolding(line_grammar::specs::Language::body))]
 fn read_kernel_line(alloc: Global, tokens: &mut Tokens) -> Result<Line, ReadError>
-    ensures { Gives (λ x. (sentence_of x, tokens.new)) result (kernel_line_at tokens.old) }
+    ensures { (version : Version) → Gives (λ x. (sentence_of x, tokens.new)) result (read (body version command.Kernel) tokens.old) }
 {
     let view = tokens.item::<Name>()?;
     let kernel = read_kernel(alloc, tokens)?;
@@ -302,15 +280,15 @@ fn read_kernel_line(alloc: Global, tokens: &mut Tokens) -> Result<Line, ReadErro
     })
 }
 
-#[tactic(auto, unfolding(crate::specs::Bodies::reduce_at, line_phrases::specs::Exprs::expr_at))]
-fn read_reduce(alloc: Global, room: usize, tokens: &mut Tokens) -> Result<Line, ReadError>
-    ensures { Gives (λ x. (sentence_of x, tokens.new)) result (reduce_at room tokens.old) }
+#[tactic(auto, unfolding(line_grammar::specs::Language::body))]
+fn read_reduce(alloc: Global, tokens: &mut Tokens) -> Result<Line, ReadError>
+    ensures { (version : Version) → Gives (λ x. (sentence_of x, tokens.new)) result (read (body version command.Reduce) tokens.old) }
 {
     let view = tokens.item::<Name>()?;
     if tokens.begins_word("count") {
         tokens.word("count")?;
         tokens.word("where")?;
-        let filter = read_expr(alloc, room, tokens)?;
+        let filter = read_expr(alloc, tokens)?;
         return Ok(Line::Count { view, filter });
     }
     let kind = tokens.item::<ReduceKind>()?;
@@ -318,9 +296,9 @@ fn read_reduce(alloc: Global, room: usize, tokens: &mut Tokens) -> Result<Line, 
     Ok(Line::Reduce { view, kind, path })
 }
 
-#[tactic(auto, unfolding(crate::specs::Bodies::copy_at))]
+#[tactic(auto, unfolding(line_grammar::specs::Language::body))]
 fn read_copy(tokens: &mut Tokens) -> Result<Line, ReadError>
-    ensures gives { Gives (λ x. (sentence_of x, tokens.new)) result (copy_at tokens.old) }
+    ensures gives { (version : Version) → Gives (λ x. (sentence_of x, tokens.new)) result (read (body version command.Copy) tokens.old) }
     ensures fault { IfErr result IsSyntax }
 {
     let source = tokens.item::<Name>()?;
@@ -329,24 +307,19 @@ fn read_copy(tokens: &mut Tokens) -> Result<Line, ReadError>
     Ok(Line::Copy { source, target })
 }
 
-#[tactic(auto, unfolding(crate::specs::Bodies::relayout_at))]
-fn read_relayout(
-    alloc: Global,
-    version: Version,
-    room: usize,
-    tokens: &mut Tokens,
-) -> Result<Line, ReadError>
-    ensures { Gives (λ x. (sentence_of x, tokens.new)) result (relayout_at version room tokens.old) }
+#[tactic(auto, unfolding(line_grammar::specs::Language::body))]
+fn read_relayout(alloc: Global, version: Version, tokens: &mut Tokens) -> Result<Line, ReadError>
+    ensures { Gives (λ x. (sentence_of x, tokens.new)) result (read (body version command.Relayout) tokens.old) }
 {
     let view = tokens.item::<Name>()?;
     tokens.word("as")?;
-    let expr = read_map(alloc, version, room, tokens)?;
+    let expr = read_map(alloc, version, tokens)?;
     Ok(Line::Relayout { view, expr })
 }
 
-#[tactic(auto, unfolding(crate::specs::Bodies::bytes_at))]
+#[tactic(auto, unfolding(line_grammar::specs::Language::body))]
 fn read_bytes(tokens: &mut Tokens) -> Result<Line, ReadError>
-    ensures gives { Gives (λ x. (sentence_of x, tokens.new)) result (bytes_at tokens.old) }
+    ensures gives { (version : Version) → Gives (λ x. (sentence_of x, tokens.new)) result (read (body version command.Bytes) tokens.old) }
     ensures fault { IfErr result IsSyntax }
 {
     let view = tokens.item::<Name>()?;
@@ -354,9 +327,9 @@ fn read_bytes(tokens: &mut Tokens) -> Result<Line, ReadError>
     Ok(Line::Bytes { view, blob })
 }
 
-#[tactic(auto, unfolding(crate::specs::Bodies::open_at))]
+#[tactic(auto, unfolding(line_grammar::specs::Language::body))]
 fn read_open(tokens: &mut Tokens) -> Result<Line, ReadError>
-    ensures gives { Gives (λ x. (sentence_of x, tokens.new)) result (open_at tokens.old) }
+    ensures gives { (version : Version) → Gives (λ x. (sentence_of x, tokens.new)) result (read (body version command.Open) tokens.old) }
     ensures fault { IfErr result IsSyntax }
 {
     let name = tokens.item::<Name>()?;

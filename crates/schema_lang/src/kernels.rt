@@ -1,6 +1,7 @@
-ghost use Rattle.std.specs.Prelude.{◌≡◌, ◌<◌, length, OnOk};
+ghost use Rattle.std.specs.Prelude.{◌≡◌};
+ghost use Rattle.line_grammar.specs.declared.line.KernelWord.TheVariants.{Axpy, Clamp, CountWhere};
+ghost use Rattle.line_grammar.specs.Language.{read, inside_kernel, kernel_text};
 ghost use Rattle.line_phrases.specs.Inner.Gives.{Gives};
-ghost use Rattle.schema_lang.specs.Kernels.{axpy_at, clamp_at, count_where_at, inside_at, kernel_at};
 
 use line_grammar::{Comparison, KernelText, KernelWord};
 use line_phrases::{ReadError, Tokens, read_const, read_path};
@@ -8,9 +9,9 @@ use line_tokens::Sign;
 use std::alloc::Global;
 
 // A kernel with its leaves and numbers.
-#[tactic(auto, unfolding(crate::specs::Kernels::kernel_at))]
+#[tactic(auto, unfolding(line_grammar::specs::Language::kernel_text))]
 pub(crate) fn read_kernel(alloc: Global, tokens: &mut Tokens) -> Result<KernelText, ReadError>
-    ensures gives { Gives (λ x. (x, tokens.new)) result (kernel_at tokens.old) }
+    ensures gives { Gives (λ x. (x, tokens.new)) result (read kernel_text tokens.old) }
 {
     let word = tokens.item::<KernelWord>()?;
     tokens.sign(Sign::OpenParen)?;
@@ -19,13 +20,13 @@ pub(crate) fn read_kernel(alloc: Global, tokens: &mut Tokens) -> Result<KernelTe
     Ok(kernel)
 }
 
-#[tactic(auto, unfolding(crate::specs::Kernels::inside_at))]
+#[tactic(auto, unfolding(line_grammar::specs::Language::inside_kernel))]
 fn read_inside(
     alloc: Global,
     word: KernelWord,
     tokens: &mut Tokens,
 ) -> Result<KernelText, ReadError>
-    ensures gives { Gives (λ x. (x, tokens.new)) result (inside_at word tokens.old) }
+    ensures gives { Gives (λ x. (x, tokens.new)) result (read (inside_kernel word) tokens.old) }
 {
     match word {
         KernelWord::Axpy => read_axpy(alloc, tokens),
@@ -37,9 +38,9 @@ fn read_inside(
     }
 }
 
-#[tactic(auto, unfolding(crate::specs::Kernels::axpy_at))]
+#[tactic(auto, unfolding(line_grammar::specs::Language::inside_kernel))]
 fn read_axpy(alloc: Global, tokens: &mut Tokens) -> Result<KernelText, ReadError>
-    ensures gives { Gives (λ x. (x, tokens.new)) result (axpy_at tokens.old) }
+    ensures gives { Gives (λ x. (x, tokens.new)) result (read (inside_kernel Axpy) tokens.old) }
 {
     let a = read_const(tokens)?;
     tokens.sign(Sign::Comma)?;
@@ -49,9 +50,9 @@ fn read_axpy(alloc: Global, tokens: &mut Tokens) -> Result<KernelText, ReadError
     Ok(KernelText::Axpy { a, x, y })
 }
 
-#[tactic(auto, unfolding(crate::specs::Kernels::clamp_at))]
+#[tactic(auto, unfolding(line_grammar::specs::Language::inside_kernel))]
 fn read_clamp(alloc: Global, tokens: &mut Tokens) -> Result<KernelText, ReadError>
-    ensures gives { Gives (λ x. (x, tokens.new)) result (clamp_at tokens.old) }
+    ensures gives { Gives (λ x. (x, tokens.new)) result (read (inside_kernel Clamp) tokens.old) }
 {
     let x = read_path(alloc, tokens)?;
     tokens.sign(Sign::Comma)?;
@@ -61,9 +62,9 @@ fn read_clamp(alloc: Global, tokens: &mut Tokens) -> Result<KernelText, ReadErro
     Ok(KernelText::Clamp { x, lo, hi })
 }
 
-#[tactic(auto, unfolding(crate::specs::Kernels::count_where_at))]
+#[tactic(auto, unfolding(line_grammar::specs::Language::inside_kernel))]
 fn read_count_where(alloc: Global, tokens: &mut Tokens) -> Result<KernelText, ReadError>
-    ensures gives { Gives (λ x. (x, tokens.new)) result (count_where_at tokens.old) }
+    ensures gives { Gives (λ x. (x, tokens.new)) result (read (inside_kernel CountWhere) tokens.old) }
 {
     let x = read_path(alloc, tokens)?;
     let op = tokens.item::<Comparison>()?;

@@ -2,8 +2,9 @@
 ghost use Rattle.std.specs.Prelude.{◌≡◌};
 ghost use Rattle.line_grammar.specs.Sentences.{sentence_of};
 ghost use Rattle.line_grammar.specs.Versions.{may_have_window};
+ghost use Rattle.line_grammar.specs.declared.line.Command.TheVariants as command;
+ghost use Rattle.line_grammar.specs.Language.{read, body, stencil};
 ghost use Rattle.line_phrases.specs.Inner.Gives.{Gives};
-ghost use Rattle.schema_lang.specs.Bodies.{advise_at, show_at, stencil_at};
 
 use crate::bodies::read_flag;
 use line_grammar::{Count, Line, ShowKind, Version};
@@ -12,14 +13,14 @@ use line_tokens::Sign;
 use record_dim::Name;
 use std::alloc::Global;
 
-#[tactic(auto, unfolding(crate::specs::Bodies::show_at))]
+#[tactic(auto, unfolding(line_grammar::specs::Language::body, line_grammar::specs::Language::show_end, line_grammar::specs::Language::window))]
 pub(crate) fn read_show(
     alloc: Global,
     version: Version,
     kind: ShowKind,
     tokens: &mut Tokens,
 ) -> Result<Line, ReadError>
-    ensures { Gives (λ x. (sentence_of x, tokens.new)) result (show_at version kind tokens.old) }
+    ensures { Gives (λ x. (sentence_of x, tokens.new)) result (read (body version (command.Show kind)) tokens.old) }
 {
     let view = tokens.item::<Name>()?;
     if !may_have_window(version, kind) || !tokens.begins_word("window") {
@@ -36,21 +37,20 @@ fn may_have_window(version: Version, kind: ShowKind) -> bool
     matches!((version, kind), (Version::Two, ShowKind::Print))
 }
 
-#[tactic(auto, unfolding(crate::specs::Bodies::advise_at))]
+#[tactic(auto, unfolding(line_grammar::specs::Language::body))]
 pub(crate) fn read_advise(
     alloc: Global,
     version: Version,
-    room: usize,
     tokens: &mut Tokens,
 ) -> Result<Line, ReadError>
-    ensures { Gives (λ x. (sentence_of x, tokens.new)) result (advise_at version room tokens.old) }
+    ensures { Gives (λ x. (sentence_of x, tokens.new)) result (read (body version command.Advise) tokens.old) }
 {
     let view = tokens.item::<Name>()?;
     tokens.word("granule")?;
     let granule = tokens.item::<Count>()?;
     let passes = read_passes(alloc, tokens)?;
     tokens.word("among")?;
-    let maps = read_maps(alloc, version, room, tokens)?;
+    let maps = read_maps(alloc, version, tokens)?;
     let splits = read_flag("splits", tokens)?;
     Ok(Line::Advise {
         view,
@@ -61,9 +61,9 @@ pub(crate) fn read_advise(
     })
 }
 
-#[tactic(auto, unfolding(crate::specs::Bodies::stencil_at))]
+#[tactic(auto, unfolding(line_grammar::specs::Language::stencil))]
 pub(crate) fn read_stencil(alloc: Global, tokens: &mut Tokens) -> Result<Line, ReadError>
-    ensures { Gives (λ x. (sentence_of x, tokens.new)) result (stencil_at tokens.old) }
+    ensures { Gives (λ x. (sentence_of x, tokens.new)) result (read stencil tokens.old) }
 {
     let view = tokens.item::<Name>()?;
     let window = read_window(alloc, tokens)?;

@@ -3,8 +3,7 @@ ghost use Rattle.line_grammar.specs.declared.version.Version.{Version};
 ghost use Rattle.line_grammar.specs.Reads.{Reads, StopsAt};
 ghost use Rattle.line_grammar.specs.Sentences.{Sentence, deepest, sentence_of};
 ghost use Rattle.line_phrases.specs.Inner.Gives.{Gives};
-ghost use Rattle.schema_lang.specs.Bodies.{line_at};
-ghost use Rattle.schema_lang.specs.LineOf.{IsTold, line_of};
+ghost use Rattle.schema_lang.specs.LineOf.{IsTold, line_at, line_of};
 ghost use Rattle.schema_lang.specs.Parsing.{IsAnswer, IsFault, HasItsFields};
 
 use crate::LineFault;
@@ -56,15 +55,15 @@ pub fn parse_line(alloc: Global, text: &[u8], version: Version) -> Result<Line, 
 }
 
 // The line that has these tokens.
-#[tactic(auto, unfolding(crate::specs::Bodies::line_at))]
+#[tactic(auto, unfolding(crate::specs::LineOf::line_at, line_grammar::specs::Language::line), using(crate::proofs::LineLaws::line_begun))]
 fn read_line(alloc: Global, version: Version, tokens: &[Token<'_>]) -> Result<Line, ReadError>
-    ensures { Gives (λ x. (sentence_of x, [])) result (line_at version (length tokens.now) tokens.now) }
+    ensures { Gives (λ x. (sentence_of x, [])) result (line_at version tokens.now) }
 {
     let mut left = Tokens::new(tokens);
     if tokens.is_empty() {
         return Ok(Line::Blank);
     }
-    let line = read_command(alloc, version, tokens.len(), &mut left)?;
+    let line = read_command(alloc, version, &mut left)?;
     if left.len() > 0 {
         drop(line);
         return Err(ReadError::Syntax(left.len()));

@@ -7,8 +7,8 @@ use Rattle.line_tokens.specs.declared.spots.Spot.{Spot}
 use Rattle.line_grammar.specs.Reads.{tokens_of}
 use Rattle.line_grammar.specs.Sentences.{Sentence, Blank}
 use Rattle.line_grammar.specs.declared.version.Version.{Version}
-use Rattle.schema_lang.specs.Bodies.{line_at}
-use Rattle.schema_lang.specs.LineOf.{line_of, line_or_column, spots_in}
+use Rattle.line_grammar.specs.Language.{line}
+use Rattle.schema_lang.specs.LineOf.{line_at, line_of, line_or_column, spots_in}
 use Rattle.schema_lang.specs.VersionOf.{is_blank_line}
 use Rattle.worlds.specs.Worlds.{World}
 use Rattle.worlds.specs.Outcomes.{Outcome, Faults, Left, quiet, sure}
@@ -27,8 +27,8 @@ no_spots (spot ∷ spots) none = let zero : length (spot ∷ spots) ≡ 0 = none
 
 -- a text without tokens is the line that does nothing
 blank_line : (version : Version) (text : List ℕ) → is_blank_line text ≡ true → line_of version text ≡ Ok Blank
-unfolding line_of line_at
-blank_line version text blank = ap (λ (spots : List Spot). line_or_column spots (line_at version (length (tokens_of text spots)) (tokens_of text spots))) (no_spots (spots_in text) blank)
+unfolding line_of line_at line
+blank_line version text blank = ap (λ (spots : List Spot). line_or_column spots (line_at version (tokens_of text spots))) (no_spots (spots_in text) blank)
 
 blank_text : (version : Version) (files : List File) (world : World) (text : List ℕ) (unread : Bool) → length text ≤ 4096 → is_blank_line text ≡ true
     → step_text version files world text unread ≡ sure (quiet world)

@@ -1,5 +1,5 @@
 -- A level is read by the levels below it, and brackets leave less room. In a chain the operands that are left give the whole chain.
-use Rattle.line_phrases.proofs.Imports.{◌≡◌, ◌≤◌, ◌+◌, ◌*◌, length, or_of, and_of, sum_of, product_of, atom_at, next_at, left_term, unary_over, product_over, sum_over, negation_over, conjunction_over, expr_over}
+use Rattle.line_phrases.proofs.Imports.{◌≡◌, ◌≤◌, ◌+◌, ◌*◌, length, or_of, and_of, sum_of, product_of, read, atom_within, chain_behind, left_term, unary, product, sum, negation, conjunction, expr_over}
 use Rattle.line_phrases.proofs.exprs.+expr.Given as goal
 
 abbrev pub decreases-read_atom : goal.decreases-read_atom
@@ -34,7 +34,7 @@ decreases-read_choice l = 10 * l.room + 8
 
 abbrev pub invariant-read_boxed-loop-waiting : goal.invariant-read_boxed-loop-waiting
 invariant-read_boxed-loop-waiting l = record {
-  same : next_at or_of (conjunction_over (atom_at l.room)) (left_term l.waiting) l.tokens ≡ expr_over (atom_at l.room) l.fn.tokens;
+  same : read (chain_behind or_of (conjunction (atom_within l.room)) (left_term l.waiting)) l.tokens ≡ read (expr_over (atom_within l.room)) l.fn.tokens;
   shorter : length l.tokens ≤ length l.fn.tokens;
 }
 
@@ -43,7 +43,7 @@ decreases-read_boxed-loop-waiting l = length l.tokens
 
 abbrev pub invariant-read_conjunction-loop-waiting : goal.invariant-read_conjunction-loop-waiting
 invariant-read_conjunction-loop-waiting l = record {
-  same : next_at and_of (negation_over (atom_at l.room)) (left_term l.waiting) l.tokens ≡ conjunction_over (atom_at l.room) l.fn.tokens;
+  same : read (chain_behind and_of (negation (atom_within l.room)) (left_term l.waiting)) l.tokens ≡ read (conjunction (atom_within l.room)) l.fn.tokens;
   shorter : length l.tokens ≤ length l.fn.tokens;
 }
 
@@ -52,7 +52,7 @@ decreases-read_conjunction-loop-waiting l = length l.tokens
 
 abbrev pub invariant-read_sum-loop-waiting : goal.invariant-read_sum-loop-waiting
 invariant-read_sum-loop-waiting l = record {
-  same : next_at sum_of (product_over (atom_at l.room)) (left_term l.waiting) l.tokens ≡ sum_over (atom_at l.room) l.fn.tokens;
+  same : read (chain_behind sum_of (product (atom_within l.room)) (left_term l.waiting)) l.tokens ≡ read (sum (atom_within l.room)) l.fn.tokens;
   shorter : length l.tokens ≤ length l.fn.tokens;
 }
 
@@ -61,7 +61,7 @@ decreases-read_sum-loop-waiting l = length l.tokens
 
 abbrev pub invariant-read_product-loop-waiting : goal.invariant-read_product-loop-waiting
 invariant-read_product-loop-waiting l = record {
-  same : next_at product_of (unary_over (atom_at l.room)) (left_term l.waiting) l.tokens ≡ product_over (atom_at l.room) l.fn.tokens;
+  same : read (chain_behind product_of (unary (atom_within l.room)) (left_term l.waiting)) l.tokens ≡ read (product (atom_within l.room)) l.fn.tokens;
   shorter : length l.tokens ≤ length l.fn.tokens;
 }
 

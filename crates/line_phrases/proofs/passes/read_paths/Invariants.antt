@@ -1,10 +1,10 @@
 -- what is read on gives the whole list
-use Rattle.line_phrases.proofs.Imports.{◌≡◌, ◌<◌, length, rest_at, listed_at, path_at}
+use Rattle.line_phrases.proofs.Imports.{◌≡◌, ◌<◌, length, read, later, listed, path}
 use Rattle.line_phrases.proofs.passes.read_paths.Given as goal
 
 abbrev pub invariant-loop-alloc : goal.invariant-loop-alloc
 invariant-loop-alloc l = record {
-  same : rest_at path_at l.paths l.tokens ≡ listed_at path_at l.fn.tokens;
+  same : read (later path l.paths) l.tokens ≡ read (listed path) l.fn.tokens;
   shorter : length l.tokens < length l.fn.tokens;
 }
 

@@ -1,10 +1,10 @@
 -- what is read on gives the whole list
-use Rattle.line_phrases.proofs.Imports.{◌≡◌, ◌<◌, length, const_at, rest_at, listed_at}
+use Rattle.line_phrases.proofs.Imports.{◌≡◌, ◌<◌, length, read, later, listed, constant}
 use Rattle.line_phrases.proofs.stencils.read_offsets.Given as goal
 
 abbrev pub invariant-loop-tokens : goal.invariant-loop-tokens
 invariant-loop-tokens l = record {
-  same : rest_at const_at l.offsets l.tokens ≡ listed_at const_at l.fn.tokens;
+  same : read (later constant l.offsets) l.tokens ≡ read (listed constant) l.fn.tokens;
   shorter : length l.tokens < length l.fn.tokens;
 }
 

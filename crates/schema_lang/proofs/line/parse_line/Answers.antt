@@ -1,4 +1,4 @@
-use Rattle.schema_lang.proofs.Imports.{◌≡◌, ◌<◌, ◌≤◌, ◌-◌, [], length, sym, ap, ◌∙◌, arith, nat_tests, ok_parts, Spots, deepest, sentence_of, column_behind}
+use Rattle.schema_lang.proofs.Imports.{◌≡◌, sym, ap, ◌∙◌, arith, ◌≤◌, ◌-◌, length, ◌<◌, nat_tests, sentence_of, deepest, Spots, column_behind, ok_parts}
 use Rattle.schema_lang.proofs.LineLaws.{found_line, full_line, one_line, stopped_line}
 use Rattle.schema_lang.proofs.LineOfLaws.{told_by}
 use Rattle.schema_lang.proofs.SpellingLaws.{spots_spelled}
@@ -93,4 +93,4 @@ returns-clause-told c =
     rw column (told_by c.args.version text spots c.deref.result.now _ all (c.deref.ensures.value ∙ c.in_ok-tokens.ensures) stopped)
 
 pub returns-then-is_shallow-clause-whole : goal.returns-then-is_shallow-clause-whole
-returns-then-is_shallow-clause-whole c = read_whole c.args.version (length c.deref.result.now) c.deref.result.now [] c.in-Ok.line c.in-Ok.ensures
+returns-then-is_shallow-clause-whole c = read_whole c.args.version c.deref.result.now c.in-Ok.line c.in-Ok.ensures

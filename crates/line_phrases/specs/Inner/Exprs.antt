@@ -1,0 +1,31 @@
+-- Expressions as they are read, and what is left of a chain behind a left side.
+use Rattle.std.specs.Prelude.{Box, box_value, Bool, Option, None, Some, is_some}
+use Rattle.std.specs.Global.{Global}
+use Rattle.phrases.specs.Grammar.{Grammar, joined}
+use Rattle.expr_lang.specs.declared.expr.BinOp.{BinOp}
+use Rattle.expr_lang.specs.declared.expr.Expr.{Expr}
+use Rattle.expr_lang.specs.Terms.{Binary, term_of}
+use Rattle.line_grammar.specs.declared.token.Token.{Token}
+use Rattle.line_grammar.specs.Sentences.{Value}
+use Rattle.line_grammar.specs.Language.{links}
+
+-- whether a token has a meaning
+abbrev pub means : {A : Type 0} → (Token → Option A) → Token → Bool
+means value token = is_some (value token)
+
+-- a value behind what stands in front of it: a left side and its operator, or nothing
+abbrev pub behind_left : Option (Value × BinOp) → Value → Value
+behind_left None right = right
+behind_left (Some left) right = Binary left.1 left.0 right
+
+-- the next operand of a chain, and the operators and operands behind it
+unfoldable pub chain_behind : (Token → Option BinOp) → Grammar Token Value → Option (Value × BinOp) → Grammar Token Value
+chain_behind operator one left = joined one (λ right. links operator one (behind_left left right))
+
+-- the value of an expression that was read, and a left side and its operator
+abbrev pub boxed_term : Box Expr Global → Value
+boxed_term boxed = term_of (box_value boxed)
+
+abbrev pub left_term : Option (Box Expr Global × BinOp) → Option (Value × BinOp)
+left_term None = None
+left_term (Some left) = Some (boxed_term left.0, left.1)

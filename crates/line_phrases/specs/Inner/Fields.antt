@@ -1,0 +1,9 @@
+-- Fields as they are read.
+use Rattle.std.specs.Prelude.{Box, box_value, ℕ, List}
+use Rattle.std.specs.Global.{Global}
+use Rattle.record_dim.specs.declared.dim.Field.{Field}
+use Rattle.record_dim.specs.Trees.{Tree, tree_of}
+
+-- the name and the tree of a field that was read
+abbrev pub boxed_field : Box Field Global → List ℕ × Tree
+boxed_field boxed = ((box_value boxed).name, tree_of (box_value boxed).dim)

@@ -1,0 +1,26 @@
+-- Mappings as they are read.
+use Rattle.std.specs.Prelude.{Box, box_value, ℕ, List}
+use Rattle.std.specs.Global.{Global}
+use Rattle.extents.specs.declared.order.Order.{Order}
+use Rattle.map_expr.specs.declared.widths.FieldWidth.{FieldWidth}
+use Rattle.map_expr.specs.declared.expr.MapExpr.{MapExpr}
+use Rattle.map_expr.specs.Terms.{Term as MapTerm, BitAos, BitSoa, Byteswap, Bytesplit, Count, term_of}
+use Rattle.line_grammar.specs.declared.line.MapWord.{MapWord}
+use Rattle.line_grammar.specs.declared.line.MapWord.TheVariants as form
+use Rattle.line_phrases.specs.declared.maps.BitForm.{BitForm}
+use Rattle.line_phrases.specs.declared.maps.BitForm.TheVariants as bits
+
+-- the mapping that was read
+abbrev pub boxed_map : Box MapExpr Global → MapTerm
+boxed_map boxed = term_of (box_value boxed)
+
+-- one of the forms that have a mapping in them and nothing else
+abbrev pub over : MapWord → MapTerm → MapTerm
+over form.Byteswap inner = Byteswap inner
+over form.Bytesplit inner = Bytesplit inner
+over other inner = Count inner
+
+-- what is made of a width, those of chosen leaves and an order
+abbrev pub bits_of : BitForm → ℕ → List FieldWidth → Order → MapTerm
+bits_of bits.Aos = BitAos
+bits_of bits.Soa = BitSoa

@@ -1,0 +1,18 @@
+-- What makes a view, as it is read.
+use Rattle.std.specs.Prelude.{Bool, true, false}
+use Rattle.phrases.specs.Grammar.{Grammar}
+use Rattle.extents.specs.declared.words.ExtentWord.{ExtentWord}
+use Rattle.map_expr.specs.Terms.{term_of as map_of}
+use Rattle.line_grammar.specs.declared.token.Token.{Token}
+use Rattle.line_grammar.specs.Language.{extent_word, fixed}
+use Rattle.line_grammar.specs.Sentences.{New}
+use Rattle.schema_lang.specs.declared.bodies.New as bodies
+
+-- what makes a view
+abbrev pub new_of : bodies.New → New
+new_of new = record { name = new.name; schema = new.schema; words = new.words; wrap = new.wrap; term = map_of new.expr }
+
+-- an extent, which may be `?` in a load
+abbrev pub extent_where : Bool → Grammar Token ExtentWord
+extent_where true = extent_word
+extent_where false = fixed
