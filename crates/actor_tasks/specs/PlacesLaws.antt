@@ -99,7 +99,8 @@ places_from-first layout row leaf from first there holds low least =
     split_first is_before irreflexive asymmetric (λ place. byte_holds_bit layout row leaf place && not (is_before place from)) (all_bytes layout) first (all-ordered layout) there
     (and_from (byte_holds_bit layout row leaf first) (not (is_before first from)) holds (ap not low)) least
     ∙ ap (λ rest. first ∷ rest)
-    (same_filter (λ y. (byte_holds_bit layout row leaf y && not (is_before y from)) && is_before first y) (λ y. byte_holds_bit layout row leaf y && not (is_before y (byte_behind first))) (all_bytes layout)
+    (same_filter (λ y. (byte_holds_bit layout row leaf y && not (is_before y from)) && is_before first y)
+    (λ y. byte_holds_bit layout row leaf y && not (is_before y (byte_behind first))) (all_bytes layout)
     (λ k d inside. rest_test (byte_holds_bit layout row leaf (get_or (all_bytes layout) k d)) first from (get_or (all_bytes layout) k d) low))
 
 -- from the first byte on these are all

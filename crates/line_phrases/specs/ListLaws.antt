@@ -78,7 +78,8 @@ comma_end one = behind_list_end is_same (Signed Comma) one
 pub ruleset comma_steps = (comma_stepped, comma_stop, comma_bare, comma_end)
 
 -- the same for counts, each of one token
-pub count_stepped : (found : List ℕ) (tokens us : List Token) (next : ℕ) (rest : List Token) → starts (is_sign Comma) tokens ≡ true → past (is_sign Comma) tokens ≡ Ok us → item_at count_of us ≡ Ok (next, rest)
+pub count_stepped : (found : List ℕ) (tokens us : List Token) (next : ℕ) (rest : List Token)
+    → starts (is_sign Comma) tokens ≡ true → past (is_sign Comma) tokens ≡ Ok us → item_at count_of us ≡ Ok (next, rest)
     → read (later count found) tokens ≡ read (later count (found ++ next ∷ [])) rest
 count_stepped = comma_stepped count
 

@@ -39,7 +39,8 @@ module _ {T A : Type 0} {IsAt : ℕ → List T → A → Type 0} {read_at : ℕ 
   again_stopped tokens front rest left whole short e token behind other is =
       let k = max (length tokens) (length (front ++ (token ∷ other))) in
       let s = (parses k).stops tokens left (sym (enough tokens k (le-max_left (length tokens) (length (front ++ (token ∷ other))))) ∙ e) in
-      let same = cut_alike front s.front rest s.rest (omega (arith, ap length (sym whole ∙ s.whole), short, s.length_left, length-append front rest, length-append s.front s.rest)) (sym whole ∙ s.whole) in
+      let same = cut_alike front s.front rest s.rest
+      (omega (arith, ap length (sym whole ∙ s.whole), short, s.length_left, length-append front rest, length-append s.front s.rest)) (sym whole ∙ s.whole) in
       enough (front ++ (token ∷ other)) k (le-max_right (length tokens) (length (front ++ (token ∷ other)))) ∙ ap (λ (us : List T). read_at k (us ++ (token ∷ other))) same.0
       ∙ s.blocked token behind other (sym same.1 ∙ is)
 

@@ -94,7 +94,8 @@ starts_same test other e (t ∷ ts) = e t
 
 -- a phrase behind a token begins with it, so does an item, and a phrase whose first part does
 
-behind_starts : {T A : Type 0} (test : T → Bool) (token : T) → test token ≡ true → (Is : List T → A → Type 0) (xs : List T) (v : A) (rest : List T) → Behind token Is xs v → starts test (xs ++ rest) ≡ true
+behind_starts : {T A : Type 0} (test : T → Bool) (token : T) → test token ≡ true → (Is : List T → A → Type 0) (xs : List T) (v : A) (rest : List T)
+    → Behind token Is xs v → starts test (xs ++ rest) ≡ true
 behind_starts test token e Is [] v rest h = absurd h
 behind_starts test token e Is (first ∷ xs) v rest h = ap test h.0 ∙ e
 
@@ -176,7 +177,8 @@ firsts same (deep of) f P o t more v h = firsts same (of h.0) (f.0 h.0) P (o h.0
 
 -- what may follow two phrases may follow the second, and what may follow the first stands behind it
 
-clear_more : {T A B : Type 0} (same : T → T → Bool) (one : Grammar T A) (other : Grammar T B) → ((t : T) → Quiet same one t → Quiet same other t) → (rest : List T) → Clear same one rest → Clear same other rest
+clear_more : {T A B : Type 0} (same : T → T → Bool) (one : Grammar T A) (other : Grammar T B) → ((t : T) → Quiet same one t → Quiet same other t) → (rest : List T)
+    → Clear same one rest → Clear same other rest
 clear_more same one other more [] after = tt
 clear_more same one other more (t ∷ rest) after = more t after
 

@@ -81,7 +81,8 @@ told s (either one other) Q l xs v (inr h) holds = told s other Q l.1 xs v h hol
 told s (which true one other) Q l xs v h holds = told s one Q l.0 xs v h holds
 told s (which false one other) Q l xs v h holds = told s other Q l.1 xs v h holds
 told s (nothing value) Q l xs v h holds = rw (h.0, h.1) l
-told s (repeats step value) Q l xs v h holds = chain_told s (λ a. Is (step a)) Q (λ a before q us w i holds. told s (step a) (λ ys z. Q (before ++ ys) z) (l.1 a before q) us w i holds) h.0 value [] xs v l.0 h.1 holds
+told s (repeats step value) Q l xs v h holds =
+    chain_told s (λ a. Is (step a)) Q (λ a before q us w i holds. told s (step a) (λ ys z. Q (before ++ ys) z) (l.1 a before q) us w i holds) h.0 value [] xs v l.0 h.1 holds
 told s (deep of) Q l xs v h holds = told s (of h.0) Q (l h.0) xs v h.1 holds
 
 pub written : {T A : Type 0} {Holds : List T → Type 0} → Splits Holds → (one : Grammar T A) (Q : List T → A → Type 0) → Written Holds one Q → (xs : List T) (v : A) → Is one xs v → Holds xs → Q xs v
@@ -97,5 +98,6 @@ written s (either one other) Q l xs v (inr h) holds = written s other Q l.1 xs v
 written s (which true one other) Q l xs v h holds = written s one Q l.0 xs v h holds
 written s (which false one other) Q l xs v h holds = written s other Q l.1 xs v h holds
 written s (nothing value) Q l xs v h holds = rw (h.0, h.1) l
-written s (repeats step value) Q l xs v h holds = chain_told s (λ a. Is (step a)) Q (λ a before q us w i holds. written s (step a) (λ ys z. Q (before ++ ys) z) (l.1 a before q) us w i holds) h.0 value [] xs v l.0 h.1 holds
+written s (repeats step value) Q l xs v h holds =
+    chain_told s (λ a. Is (step a)) Q (λ a before q us w i holds. written s (step a) (λ ys z. Q (before ++ ys) z) (l.1 a before q) us w i holds) h.0 value [] xs v l.0 h.1 holds
 written s (deep of) Q l xs v h holds = written s (of h.0) Q (l h.0) xs v h.1 holds

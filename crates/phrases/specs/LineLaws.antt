@@ -26,7 +26,8 @@ module _ {T A : Type 0} (same : T → T → Bool) (one : Grammar T A) (f : Fine 
       let goes = ap (ended_at (at same one)) (sym (append_assoc front (token ∷ []) b.0)) ∙ line_full ((front ++ token ∷ []) ++ b.0) b.1 b.2 in
       let bad = sym (blocked token behind b.0 refl).1 ∙ goes in cc
 
-  stop_in : (tokens : List T) (r : Result (A × List T) ℕ) → at same one tokens ≡ r → (left : ℕ) → (r >>= λ x. ended x.0 x.1) ≡ Err left → ended_at (at same one) tokens ≡ Err left → IsStop (Is one) tokens left
+  stop_in : (tokens : List T) (r : Result (A × List T) ℕ) → at same one tokens ≡ r → (left : ℕ)
+      → (r >>= λ x. ended x.0 x.1) ≡ Err left → ended_at (at same one) tokens ≡ Err left → IsStop (Is one) tokens left
   stop_in tokens (Ok (w, [])) is left e whole = absurd cc
   stop_in tokens (Ok (w, token ∷ us)) is left e whole = let found = (parses same one f).sound tokens w (token ∷ us) is in record {
     front = found.front;

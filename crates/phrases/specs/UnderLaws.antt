@@ -19,7 +19,8 @@ pub data Under {T : Type 0} (same : T → T → Bool) : (A : Type 0) → ℕ →
       → Under same B n (grammar.joined one next) (grammar.joined more later)
   either : {A : Type 0} {n : ℕ} {one more other another : Grammar T A} → ((t : T) → first same one t ≡ first same more t) → Under same A n one more → Under same A n other another
       → Under same A n (grammar.either one other) (grammar.either more another)
-  which : {A : Type 0} {n : ℕ} {holds : Bool} {one more other another : Grammar T A} → Under same A n one more → Under same A n other another → Under same A n (grammar.which holds one other) (grammar.which holds more another)
+  which : {A : Type 0} {n : ℕ} {holds : Bool} {one more other another : Grammar T A}
+      → Under same A n one more → Under same A n other another → Under same A n (grammar.which holds one other) (grammar.which holds more another)
   repeats : {A : Type 0} {n : ℕ} {step more : A → Grammar T A} {value : A} → ((a : A) (t : T) → first same (step a) t ≡ first same (more a) t) → ((a : A) → Under same A n (step a) (more a))
       → Under same A n (grammar.repeats step value) (grammar.repeats more value)
   -- for fewer tokens too
