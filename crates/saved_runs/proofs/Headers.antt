@@ -1,5 +1,5 @@
 -- Lines that say the header of a table.
-use Rattle.saved_runs.proofs.Imports.{◌≡◌, ℕ, zero, suc, ◌+◌, ◌^◌, ◌<◌, ◌≤◌, Bool, true, false, not, ◌&&◌, List, [], ◌∷◌, ◌++◌, length, map, codes, nat_lt, Some, Result, Ok, Err, inl, refl, sym, ap, subst, append-nil, append_assoc, arith, ◌||◌, lt-ltb, ltb-false, Grammar, Is, AreSpelled, spaced_tokens, OpenBracket, CloseBracket, Colon, Comma, Fields, Record, Fixed, MapTerm, Aos, Soa, Aosoa, BitAos, BitSoa, Split, Byteswap, Bytesplit, Change, Counted, Heated, Named, depth_of, checked, has_counter, counts_once, bad_number, answered, accepted, else_for, bad_side, bad_field, not_full, Cell, Token, Word, Sign, Two, name_of, count_of, command_of, Sentence, New, Define, View, name, count, fixed, later, listed, bracket_list, flag, new, mapping, body, command_line, line, count_token, written, IsSpelled, Each, fits_more, fits_flat, one_fits, word_spelled, fits_alone, decimal_spells, joined_reads, Header, is_wrap, view_line, HasLine, or_parts, not-true}
+use Rattle.saved_runs.proofs.Imports.{◌≡◌, ℕ, zero, suc, ◌+◌, ◌^◌, ◌<◌, ◌≤◌, Bool, true, false, not, ◌&&◌, List, [], ◌∷◌, ◌++◌, length, map, codes, nat_lt, Some, Result, Ok, Err, inl, refl, sym, ap, subst, append-nil, append_assoc, arith, ◌||◌, lt-ltb, ltb-false, Grammar, Is, AreSpelled, spaced_tokens, OpenBracket, CloseBracket, Colon, Comma, Fields, Record, Fixed, MapTerm, Aos, Soa, Aosoa, BitAos, BitSoa, Split, Byteswap, Bytesplit, Change, Counted, Heated, Named, depth_of, checked, has_counter, counts_once, bad_number, answered, accepted, else_for, bad_side, bad_field, not_full, Cell, Token, Word, Sign, Two, name_of, count_of, command_of, Sentence, New, Define, View, name, count, fixed, later, listed, bracket_list, flag, new, mapping_phrase, body, command_line, line, count_token, written, IsSpelled, Each, fits_more, fits_flat, one_fits, word_spelled, fits_alone, decimal_spells, joined_reads, Header, is_wrap, view_line, HasLine, or_parts, not-true}
 use Rattle.std.specs.Prelude.{if◌then◌else◌}
 use Rattle.map_expr.specs.declared.check.BadMapping.{BadMapping}
 use Rattle.map_expr.specs.declared.check.BadMapping.TheVariants as bad
@@ -113,7 +113,7 @@ module _ (header : Header) (has : HasTokens header.mapping) (low : height header
   told_name text is spelled = told_item 12 name_of (Word text) text is (one_fits (Word text) refl spelled)
 
   told_new : Told 12 (new Two fixed) made
-  unfolding new mapping
+  unfolding new mapping_phrase
   told_new =
       told_joined 12 (told_name (codes "V") refl (word_spelled (codes "V") refl refl (omega arith)))
       (told_behind 12 (Sign Colon) (λ xs f. fits_flat 12 (Sign Colon) xs refl refl f)

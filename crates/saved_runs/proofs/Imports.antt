@@ -36,8 +36,8 @@ pub use Rattle.extents.specs.ShapeLaws.{same_fixed, product_filled, fixed_positi
 pub use Rattle.extents.specs.declared.words.ExtentWord.{ExtentWord}
 pub use Rattle.extents.specs.declared.words.ExtentWord.TheVariants.{Fixed, Rows}
 pub use Rattle.phrases.specs.Phrases.{Chain}
-pub use Rattle.phrases.specs.Grammar.{Grammar, Is, item, behind, joined, either, which, nothing, repeats, deep, more}
-pub use Rattle.phrases.specs.LeavesLaws.{Told as Asked, told as asked, Splits}
+pub use Rattle.phrases.specs.Grammar.{Grammar, Is, item, behind as behind_token, joined, either, which, nothing, repeats, deep, more}
+pub use Rattle.phrases.specs.LeavesLaws.{Told as Asked, told as as_asked, Splits}
 pub use Rattle.line_tokens.specs.Spelled.{AreSpelled, spaced_tokens, MayOpen}
 pub use Rattle.line_tokens.specs.declared.sign.Sign.TheVariants.{OpenBracket, CloseBracket, Colon, Comma, Dot, OpenBrace, CloseBrace, OpenParen, CloseParen, Arrow}
 pub use Rattle.record_dim.specs.Trees.{Fields, Record, Tree}
@@ -51,7 +51,7 @@ pub use Rattle.line_grammar.specs.declared.version.Version.TheVariants.{Two}
 pub use Rattle.line_grammar.specs.Tokens.{name_of, count_of, command_of, type_of, integer_type_of, token_order, aos_form_of, soa_form_of, map_word}
 pub use Rattle.line_grammar.specs.Sentences.{Sentence, New, Define, View, Mapping, Load, Relayout, Open, Value, Assignment}
 pub use Rattle.line_grammar.specs.Language.{name, count, fields, IsSentence}
-unfoldable pub use Rattle.line_grammar.specs.Language.{later, listed, bracket_list, part, parts, path, field_width, field_widths, braced_widths, inside_aos, inside_soa, inside_aosoa, inside_bits, inside_form, form_or_name, mapping, mapping_within, fixed, extent_word, actors, update_end, show_end, stencil, flag, new, body, command_line, line}
+unfoldable pub use Rattle.line_grammar.specs.Language.{later, listed, bracket_list, part, parts, path, field_width, field_widths, braced_widths, inside_aos, inside_soa, inside_aosoa, inside_bits, inside_form, form_or_name, mapping as mapping_phrase, mapping_within, fixed, extent_word, actors, update_end, show_end, stencil, flag, new, body, command_line, line}
 pub use Rattle.line_writer.specs.Canonical.{count_token, line_tokens}
 pub use Rattle.line_writer.specs.Texts.{written}
 pub use Rattle.line_writer.proofs.Rooms.{fits_more, fits_flat, one_fits, word_spelled, fits_alone, Fits, no_tokens_fit, fits_append, fits_inside}

@@ -1,5 +1,5 @@
 -- What the lines of the language say of the records, mapping expressions and extents in them.
-use Rattle.saved_runs.proofs.Imports.{◌≡◌, ℕ, ◌+◌, ◌-◌, ◌^◌, ◌<◌, ◌≤◌, Bool, true, false, List, [], ◌∷◌, ◌++◌, map, nat_lt, pos, negsuc, Some, None, if◌then◌else◌, refl, arith, ltb-true, Grammar, Is, behind, Asked, asked, opens, closes, brackets_after, MayOpen, AreSpelled, Comma, TokenKind, Tree, Fields, Record, ExtentWord, Fixed, Rows, Token, Word, Number, Text, Sign, Bad, Two, Command, count_of, Sentence, New, Define, Mapping, View, Load, Relayout, IsSentence, actors, body, bracket_list, command_line, extent_word, fields, fixed, later, line, listed, new, show_end, stencil, update_end, written, Each, each_append}
+use Rattle.saved_runs.proofs.Imports.{◌≡◌, ℕ, ◌+◌, ◌-◌, ◌^◌, ◌<◌, ◌≤◌, Bool, true, false, List, [], ◌∷◌, ◌++◌, map, nat_lt, pos, negsuc, Some, None, if◌then◌else◌, refl, arith, ltb-true, Grammar, Is, behind_token, Asked, as_asked, opens, closes, brackets_after, MayOpen, AreSpelled, Comma, TokenKind, Tree, Fields, Record, ExtentWord, Fixed, Rows, Token, Word, Number, Text, Sign, Bad, Two, Command, count_of, Sentence, New, Define, Mapping, View, Load, Relayout, IsSentence, actors, body, bracket_list, command_line, extent_word, fields, fixed, later, line, listed, new, show_end, stencil, update_end, written, Each, each_append}
 use Rattle.line_tokens.specs.declared.token.TokenKind.TheVariants as kind
 use Rattle.line_grammar.specs.declared.line.Command.TheVariants as command
 use Rattle.saved_runs.proofs.Maps.{HasTokens, mapping_has}
@@ -38,14 +38,14 @@ extents_low = (tt, fixed_low)
 -- each of the phrases of a list in brackets
 listed_each : {A : Type 0} (one : Grammar Token A) (P : A → Type 0) → Asked Stand one (λ xs v. P v) → (xs : List Token) (found : List A) → Is (listed one) xs found → Stand xs → Each P found
 unfolding listed later
-listed_each one P has = asked stand_splits (listed one) (λ xs v. Each P v) (λ first xs i s. (
-  (asked stand_splits one (λ us v. P v) has xs first i s, tt),
-  λ found front all next ys j t. each_append P found (next ∷ []) all (asked stand_splits (behind (Sign Comma) one) (λ us v. P v) has ys next j t, tt),
+listed_each one P has = as_asked stand_splits (listed one) (λ xs v. Each P v) (λ first xs i s. (
+  (as_asked stand_splits one (λ us v. P v) has xs first i s, tt),
+  λ found front all next ys j t. each_append P found (next ∷ []) all (as_asked stand_splits (behind_token (Sign Comma) one) (λ us v. P v) has ys next j t, tt),
 ))
 
 bracketed_each : {A : Type 0} (one : Grammar Token A) (P : A → Type 0) → Asked Stand one (λ xs v. P v) → (xs : List Token) (found : List A) → Is (bracket_list one) xs found → Stand xs → Each P found
 unfolding bracket_list
-bracketed_each one P has = asked stand_splits (bracket_list one) (λ xs v. Each P v) (λ found xs i s. listed_each one P has xs found i s)
+bracketed_each one P has = as_asked stand_splits (bracket_list one) (λ xs v. Each P v) (λ found xs i s. listed_each one P has xs found i s)
 
 -- ---- the fields of a record
 
@@ -96,7 +96,7 @@ IsSaid line = Unit {0}
 
 new_said : (word : Grammar Token ExtentWord) → Asked Stand word (λ xs v. IsLow v) → (xs : List Token) (made : New) → Is (new Two word) xs made → Stand xs → IsNewSaid made
 unfolding new
-new_said word low = asked stand_splits (new Two word) (λ xs v. IsNewSaid v) (λ name a i s schema b j t words c k u wrap d l v term e m w.
+new_said word low = as_asked stand_splits (new Two word) (λ xs v. IsNewSaid v) (λ name a i s schema b j t words c k u wrap d l v term e m w.
     record { term = mapping_has e term m w; words = bracketed_each word IsLow low c words k u })
 
 body_said : (word : Command) → Asked Stand (body Two word) (λ xs v. IsSaid v)
@@ -114,4 +114,4 @@ line_said = ((λ word a i s. body_said word), tt)
 
 -- what spelled tokens say that are a line
 pub sentence_said : (tokens : List Token) (sentence : Sentence) → IsSentence Two tokens sentence → AreSpelled 0 (map written tokens) → IsSaid sentence
-sentence_said tokens sentence is spelled = asked stand_splits (line Two) (λ xs v. IsSaid v) line_said tokens sentence is (0, spelled)
+sentence_said tokens sentence is spelled = as_asked stand_splits (line Two) (λ xs v. IsSaid v) line_said tokens sentence is (0, spelled)

@@ -1,5 +1,5 @@
 -- The mapping expressions that lines say: their parts, and the tokens of such an expression.
-use Rattle.saved_runs.proofs.Imports.{◌≡◌, ℕ, zero, suc, ◌+◌, ◌≤◌, max, List, [], ◌∷◌, codes, Option, Some, None, refl, sym, subst, arith, le-max_left, le-max_right, Grammar, Is, item, behind, Asked, asked, OpenBrace, CloseBrace, OpenBracket, CloseBracket, OpenParen, CloseParen, Colon, Comma, Dot, Arrow, Order, FieldWidth, MapTerm, Aos, Soa, Aosoa, BitAos, BitSoa, Split, Byteswap, Bytesplit, Change, Counted, Heated, Named, Token, Word, Sign, Two, MapWord, name_of, count_of, type_of, integer_type_of, token_order, aos_form_of, soa_form_of, map_word, form_word, name, count, part, parts, path, field_width, field_widths, braced_widths, inside_aos, inside_soa, inside_aosoa, inside_bits, inside_form, form_or_name, mapping, mapping_within, IsSpelled, fits_flat, one_fits, word_spelled}
+use Rattle.saved_runs.proofs.Imports.{◌≡◌, ℕ, zero, suc, ◌+◌, ◌≤◌, max, List, [], ◌∷◌, codes, Option, Some, None, refl, sym, subst, arith, le-max_left, le-max_right, Grammar, Is, item, behind_token, Asked, as_asked, OpenBrace, CloseBrace, OpenBracket, CloseBracket, OpenParen, CloseParen, Colon, Comma, Dot, Arrow, Order, FieldWidth, MapTerm, Aos, Soa, Aosoa, BitAos, BitSoa, Split, Byteswap, Bytesplit, Change, Counted, Heated, Named, Token, Word, Sign, Two, MapWord, name_of, count_of, type_of, integer_type_of, token_order, aos_form_of, soa_form_of, map_word, form_word, name, count, part, parts, path, field_width, field_widths, braced_widths, inside_aos, inside_soa, inside_aosoa, inside_bits, inside_form, form_or_name, mapping_phrase, mapping_within, IsSpelled, fits_flat, one_fits, word_spelled}
 use Rattle.record_dim.specs.declared.path.PathStep.TheVariants as step
 use Rattle.line_grammar.specs.declared.line.MapWord.TheVariants as form
 use Rattle.saved_runs.proofs.Told.{Told, told_more, told_nothing, told_item, told_behind, told_joined, told_first, told_second, told_inside, Keeps, keeps_nothing, keeps_item, keeps_behind, keeps_joined, keeps_either, keeps_which, keeps_each, keeps_inside, keeps_listed}
@@ -80,16 +80,16 @@ module _ (inner : Grammar Token MapTerm) (inner_has : (xs : List Token) (v : Map
   form_or_name_has : (word : List ℕ) → Told 0 name word → (form : Option MapWord) → Asked Stand (form_or_name Two inner word form) (λ xs v. HasTokens v)
   unfolding form_or_name
   form_or_name_has word is None = is
-  form_or_name_has word is (Some form) = ((λ map xs i s. asked stand_splits (inside_form Two inner form) (λ us v. HasTokens v) (form_has form) xs map i s), is)
+  form_or_name_has word is (Some form) = ((λ map xs i s. as_asked stand_splits (inside_form Two inner form) (λ us v. HasTokens v) (form_has form) xs map i s), is)
 
 within_has : (n : ℕ) (xs : List Token) (v : MapTerm) → Is (mapping_within Two n) xs v → Stand xs → HasTokens v
 unfolding mapping_within
-within_has zero = asked stand_splits (mapping_within Two zero) (λ us v. HasTokens v) (λ word xs i s. item_told name_of (λ sign. refl) xs word i s)
-within_has (suc n) = asked stand_splits (mapping_within Two (suc n)) (λ us v. HasTokens v)
+within_has zero = as_asked stand_splits (mapping_within Two zero) (λ us v. HasTokens v) (λ word xs i s. item_told name_of (λ sign. refl) xs word i s)
+within_has (suc n) = as_asked stand_splits (mapping_within Two (suc n)) (λ us v. HasTokens v)
     (λ word xs i s. form_or_name_has (mapping_within Two n) (within_has n) word (item_told name_of (λ sign. refl) xs word i s) (map_word word))
 
-pub mapping_has : (xs : List Token) (v : MapTerm) → Is (mapping Two) xs v → Stand xs → HasTokens v
-unfolding mapping
+pub mapping_has : (xs : List Token) (v : MapTerm) → Is (mapping_phrase Two) xs v → Stand xs → HasTokens v
+unfolding mapping_phrase
 mapping_has xs v is stands = within_has is.0 xs v is.1 stands
 
 -- ---- the tokens of a mapping expression
@@ -143,7 +143,7 @@ told_form n k m less form term inside =
     (subst (λ (o : Option MapWord). Told m (form_or_name Two (mapping_within Two n) (form_word form) o) term) (sym word.meant) bracketed)
 
 -- a part behind a comma, and a part without brackets
-comma : {A : Type 0} {one : Grammar Token A} {v : A} (k : ℕ) → Told k one v → Told k (behind (Sign Comma) one) v
+comma : {A : Type 0} {one : Grammar Token A} {v : A} (k : ℕ) → Told k one v → Told k (behind_token (Sign Comma) one) v
 comma k t = told_behind k (Sign Comma) (λ xs f. fits_flat k (Sign Comma) xs refl refl f) t
 
 plain : {A : Type 0} {one : Grammar Token A} {v : A} (k : ℕ) → Told 0 one v → Told k one v

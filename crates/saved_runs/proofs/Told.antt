@@ -1,5 +1,5 @@
 -- Spelled tokens that are a phrase, put together as the phrases are.
-use Rattle.saved_runs.proofs.Imports.{◌≡◌, ℕ, zero, suc, ◌+◌, ◌≤◌, true, false, List, [], ◌∷◌, ◌++◌, Option, Some, None, inl, inr, refl, arith, Chain, Grammar, Is, item, behind, joined, either, which, nothing, repeats, deep, more, opens, closes, SignName, Comma, Token, Word, Number, Text, Sign, Bad, later, listed, IsSpelled, Each, each_front, each_back, Fits, no_tokens_fit, fits_more, fits_append, fits_flat, fits_inside, one_fits}
+use Rattle.saved_runs.proofs.Imports.{◌≡◌, ℕ, zero, suc, ◌+◌, ◌≤◌, true, false, List, [], ◌∷◌, ◌++◌, Option, Some, None, inl, inr, refl, arith, Chain, Grammar, Is, item, behind_token, joined, either, which, nothing, repeats, deep, more, opens, closes, SignName, Comma, Token, Word, Number, Text, Sign, Bad, later, listed, IsSpelled, Each, each_front, each_back, Fits, no_tokens_fit, fits_more, fits_append, fits_flat, fits_inside, one_fits}
 
 -- some spelled tokens are a phrase with this value: they close all brackets that they open, and have at most k of them open at once
 pub record Told {A : Type 0} (k : ℕ) (one : Grammar Token A) (v : A) : Type 0 where
@@ -17,7 +17,7 @@ pub told_item : {A : Type 0} (k : ℕ) (value : Token → Option A) (token : Tok
 told_item k value token v is fits = record { tokens = token ∷ []; is = (token, refl, is); fits = fits_more 0 k (token ∷ []) (omega arith) fits }
 
 -- a token that stands for itself
-pub told_behind : {A : Type 0} {one : Grammar Token A} {v : A} (k : ℕ) (token : Token) → ((xs : List Token) → Fits k xs → Fits k (token ∷ xs)) → Told k one v → Told k (behind token one) v
+pub told_behind : {A : Type 0} {one : Grammar Token A} {v : A} (k : ℕ) (token : Token) → ((xs : List Token) → Fits k xs → Fits k (token ∷ xs)) → Told k one v → Told k (behind_token token one) v
 told_behind k token more t = record { tokens = token ∷ t.tokens; is = (refl, t.is); fits = more t.tokens t.fits }
 
 pub told_joined : {A B : Type 0} {one : Grammar Token A} {next : A → Grammar Token B} {a : A} {b : B} (k : ℕ) → Told k one a → Told k (next a) b → Told k (joined one next) b
@@ -49,7 +49,7 @@ told_second k t = record { tokens = t.tokens; is = inr t.is; fits = t.fits }
 
 -- a phrase in brackets, and the value that stands for it
 abbrev pub inside : {A B : Type 0} → SignName → SignName → Grammar Token A → (A → B) → Grammar Token B
-inside opening closing one value = behind (Sign opening) (joined one (λ v. behind (Sign closing) (nothing (value v))))
+inside opening closing one value = behind_token (Sign opening) (joined one (λ v. behind_token (Sign closing) (nothing (value v))))
 
 pub told_inside : {A : Type 0} {one : Grammar Token A} {v : A} (k : ℕ) (opening closing : SignName) → opens opening ≡ true → opens closing ≡ false → closes closing ≡ true → Told k one v
     → Told (k + 1) (inside opening closing one (λ w. w)) v
@@ -81,10 +81,10 @@ keeps_item k value plain = record {
       rw is.1 (fits_more 0 k (is.0 ∷ []) (omega arith) (item_fits value is.0 v plain is.2 own.0));
 }
 
-pub keeps_behind : {A : Type 0} {one : Grammar Token A} (k : ℕ) (token : Token) → ((xs : List Token) → Fits k xs → Fits k (token ∷ xs)) → Keeps k one → Keeps k (behind token one)
+pub keeps_behind : {A : Type 0} {one : Grammar Token A} (k : ℕ) (token : Token) → ((xs : List Token) → Fits k xs → Fits k (token ∷ xs)) → Keeps k one → Keeps k (behind_token token one)
 keeps_behind {A = A} {one = phrase} k token more one = record { at = λ xs v is spelled. behind_at xs v is spelled }
   where
-    behind_at : (xs : List Token) (v : A) → Is (behind token phrase) xs v → Each IsSpelled xs → Fits k xs
+    behind_at : (xs : List Token) (v : A) → Is (behind_token token phrase) xs v → Each IsSpelled xs → Fits k xs
     behind_at [] v is spelled = absurd is
     behind_at (first ∷ xs) v is spelled = rw is.0 (more xs (one.at xs v is.1 spelled.1))
 
@@ -121,7 +121,7 @@ pub keeps_inside : {A B : Type 0} {one : Grammar Token A} (k : ℕ) (opening clo
     → Keeps (k + 1) (inside opening closing one value)
 keeps_inside {A = A} {B = B} {one = phrase} k opening closing value o p c one = record { at = λ xs v is spelled. inside_at xs v is spelled }
   where
-    alone : (w v : B) (xs : List Token) → Is (behind (Sign closing) (nothing w)) xs v → xs ≡ Sign closing ∷ []
+    alone : (w v : B) (xs : List Token) → Is (behind_token (Sign closing) (nothing w)) xs v → xs ≡ Sign closing ∷ []
     alone w v [] is = absurd is
     alone w v (first ∷ xs) is = rw (is.0, is.1.0) refl
 
