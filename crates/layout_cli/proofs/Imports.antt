@@ -38,7 +38,7 @@ pub use Rattle.map_expr.specs.Terms.{Aos, Count}
 pub use Rattle.extents.specs.declared.words.ExtentWord.TheVariants.{Rows}
 pub use Rattle.extents.specs.declared.order.Order.TheVariants.{Row}
 pub use Rattle.places.specs.declared.forms.AosForm.TheVariants.{Packed}
-unfoldable pub use Rattle.line_grammar.specs.Language.{actors, body, bracket_list, command_line, extent_word, fixed, flag, form_or_name, inside_aos, inside_form, later, line, listed, mapping, mapping_within, new, show_end, stencil, update_end}
+unfoldable pub use Rattle.line_grammar.specs.Language.{actors, body, bracket_list, command_line, extent_word, fixed, flag, form_or_name, inside_aos, inside_form, later, line, listed, mapping, mapping_within, new, show_end, update_end}
 pub use Rattle.line_grammar.specs.declared.version.Version.TheVariants.{One}
 pub use Rattle.line_tokens.specs.declared.spots.Spot.{Spot}
 pub use Rattle.line_grammar.specs.declared.token.Token.{Token}

@@ -1,5 +1,5 @@
 -- Which lines read no file, by their first token.
-use Rattle.layout_cli.proofs.Imports.{◌≡◌, Bool, true, false, List, [], ◌∷◌, ◌++◌, Option, Some, None, Ok, inl, inr, refl, sym, ap, ◌∙◌, Is, Leaves, leaves, line_found, Sentence, command_of, is_same, Token, Command, Version, line_at, actors, body, command_line, line, show_end, stencil, update_end, file_in}
+use Rattle.layout_cli.proofs.Imports.{◌≡◌, Bool, true, false, List, [], ◌∷◌, ◌++◌, Option, Some, None, Ok, inl, inr, refl, sym, ap, ◌∙◌, Is, Leaves, leaves, line_found, Sentence, command_of, is_same, Token, Command, Version, line_at, actors, body, command_line, line, show_end, update_end, file_in}
 use Rattle.line_grammar.specs.declared.line.Command.TheVariants as command
 use Rattle.schema_lang.proofs.CommandLaws.{line_fine}
 
@@ -14,7 +14,7 @@ reads_file version [] = false
 reads_file version (first ∷ rest) = is_reader (command_of version first)
 
 body_none : (version : Version) (word : Command) → is_reader (Some word) ≡ false → Leaves (body version word) (λ sentence. file_in sentence ≡ None)
-unfolding body update_end actors show_end stencil
+unfolding body update_end actors show_end
 body_none version command.Load bad = absurd cc
 body_none version command.Open bad = absurd cc
 body_none version _ other = search

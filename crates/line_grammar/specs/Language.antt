@@ -341,11 +341,6 @@ unfoldable pub new : Version → Grammar Token ExtentWord → Grammar Token New
 new version word = joined name (λ name. behind (Sign Colon) (joined (item name_of) (λ schema. joined (bracket_list word) (λ words. joined (flag (codes "wrap")) (λ wrap.
     behind (Word (codes "as")) (joined (mapping version) (λ map. nothing (record { name = name; schema = schema; words = words; wrap = wrap; term = map }))))))))
 
--- "stencil" NAME win "set" path "=" "(" term ("," term)* ")" "/" COUNT "rounds" COUNT, from the second version on
-unfoldable pub stencil : Grammar Token Sentence
-stencil = joined name (λ view. joined window (λ window. behind (Word (codes "set")) (joined path (λ path. behind (Sign Equals) (joined terms
-    (λ terms. behind (Sign Slash) (joined count (λ divisor. behind (Word (codes "rounds")) (joined count (λ rounds. nothing (Stencil view window path terms divisor rounds)))))))))))
-
 -- what stands behind the word of a command
 unfoldable pub body : Version → Command → Grammar Token Sentence
 -- "record" NAME fields
@@ -385,7 +380,9 @@ body version command.Open = joined name (λ name. behind (Word (codes "from")) (
 -- "advise" NAME "granule" COUNT pass pass* "among" map ("," map)* "splits"?, from the second version on
 body version command.Advise = joined name (λ view. behind (Word (codes "granule")) (joined count (λ granule. joined passes
     (λ passes. behind (Word (codes "among")) (joined (listed (mapping version)) (λ maps. joined (flag (codes "splits")) (λ splits. nothing (Advise view granule passes maps splits))))))))
-body version command.Stencil = stencil
+-- "stencil" NAME win "set" path "=" "(" term ("," term)* ")" "/" COUNT "rounds" COUNT, from the second version on
+body version command.Stencil = joined name (λ view. joined window (λ window. behind (Word (codes "set")) (joined path (λ path. behind (Sign Equals) (joined terms
+    (λ terms. behind (Sign Slash) (joined count (λ divisor. behind (Word (codes "rounds")) (joined count (λ rounds. nothing (Stencil view window path terms divisor rounds)))))))))))
 
 -- line = command | nothing
 unfoldable pub command_line : Version → Grammar Token Sentence

@@ -35,7 +35,7 @@ pub use Rattle.line_grammar.specs.declared.line.KernelText.{KernelText}
 pub use Rattle.line_grammar.specs.declared.line.KernelWord.{KernelWord}
 pub use Rattle.line_grammar.specs.Tokens.{token_number, kernel_word_of, comparison_of, command_of, dimensions, index_of, choice_of, or_of, and_of, sum_of, product_of, map_word, token_order, kind_token, listed, meaning, reserved, name_of, count_of, string_of, type_of, integer_type_of, integer_types, leaf_types, orders, aos_forms, aos_form_of, soa_forms, soa_form_of, map_words, kernel_words, reduction_of, reductions, commands}
 pub use Rattle.line_grammar.specs.Language.{wrapped, arrays, fields_of_list, name, count, number, string, link}
-unfoldable pub use Rattle.line_grammar.specs.Language.{actors, assignment, atom_within, body, bracket_list as bracketed_list, braced, braced_widths, bracketed, chain, choice, command_line, comparison, conjunction, constant, cuts as cuts_phrase, dim, dims, expr, expr_over, extent_word, field_width, field_widths, field_within, fields, filter as filter_phrase, fixed, flag, form_or_name, inside_aos, inside_aosoa, inside_bits, inside_form, inside_kernel, inside_soa, kernel_text, later, later_passes, leaf, line, links, listed as comma_list, mapping, mapping_within, negation, nested, new, part, parts, pass, passes, path, prefixed, product, show_end, signs, span, stencil, sum, term as term_phrase, terms as terms_phrase, typed, unary, update_end, window as window_phrase}
+unfoldable pub use Rattle.line_grammar.specs.Language.{actors, assignment, atom_within, body, bracket_list as bracketed_list, braced, braced_widths, bracketed, chain, choice, command_line, comparison, conjunction, constant, cuts as cuts_phrase, dim, dims, expr, expr_over, extent_word, field_width, field_widths, field_within, fields, filter as filter_phrase, fixed, flag, form_or_name, inside_aos, inside_aosoa, inside_bits, inside_form, inside_kernel, inside_soa, kernel_text, later, later_passes, leaf, line, links, listed as comma_list, mapping, mapping_within, negation, nested, new, part, parts, pass, passes, path, prefixed, product, show_end, signs, span, sum, term as term_phrase, terms as terms_phrase, typed, unary, update_end, window as window_phrase}
 pub use Rattle.line_grammar.specs.Words.{operator, kernel_word, index_word, reduction_word, command_word, type_word, order_word, aos_word, soa_word, form_word}
 pub use Rattle.extents.specs.declared.words.ExtentWord.{ExtentWord}
 pub use Rattle.line_grammar.specs.declared.line.ShowKind.{ShowKind}

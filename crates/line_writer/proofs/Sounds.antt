@@ -1,5 +1,5 @@
 -- No phrase of the language has the bad token.
-use Rattle.line_writer.proofs.Imports.{◌≡◌, ℕ, suc, List, refl, zero, Option, Some, None, false, Token, Bad, Value, Grammar, BinOp, Version, Command, KernelWord, map_word, actors, assignment, atom_within, body, bracketed_list, braced, braced_widths, bracketed, chain, choice, command_line, comparison, conjunction, constant, cuts_phrase, dim, dims, expr, expr_over, extent_word, field_width, field_widths, field_within, fields, filter_phrase, fixed, flag, form_or_name, inside_aos, inside_aosoa, inside_bits, inside_form, inside_kernel, inside_soa, kernel_text, later, later_passes, leaf, line, links, comma_list, mapping, mapping_within, negation, nested, new, part, parts, pass, passes, path, prefixed, product, show_end, signs, span, stencil, sum, term_phrase, terms_phrase, typed, unary, update_end, window_phrase, operator, MapTerm, MapWord}
+use Rattle.line_writer.proofs.Imports.{◌≡◌, ℕ, suc, List, refl, zero, Option, Some, None, false, Token, Bad, Value, Grammar, BinOp, Version, Command, KernelWord, map_word, actors, assignment, atom_within, body, bracketed_list, braced, braced_widths, bracketed, chain, choice, command_line, comparison, conjunction, constant, cuts_phrase, dim, dims, expr, expr_over, extent_word, field_width, field_widths, field_within, fields, filter_phrase, fixed, flag, form_or_name, inside_aos, inside_aosoa, inside_bits, inside_form, inside_kernel, inside_soa, kernel_text, later, later_passes, leaf, line, links, comma_list, mapping, mapping_within, negation, nested, new, part, parts, pass, passes, path, prefixed, product, show_end, signs, span, sum, term_phrase, terms_phrase, typed, unary, update_end, window_phrase, operator, MapTerm, MapWord}
 use Rattle.line_grammar.specs.declared.line.Command.TheVariants as command
 use Rattle.line_grammar.specs.declared.line.KernelWord.TheVariants as word
 use Rattle.line_grammar.specs.declared.line.MapWord.TheVariants as form
@@ -80,7 +80,7 @@ unfolding terms_phrase term_phrase bracketed_list comma_list later
 terms_sound = search (path_sound, constant_sound) depth 20
 
 body_sound : (version : Version) (c : Command) → HasNoBad (body version c)
-unfolding body stencil bracketed_list comma_list later passes later_passes pass kernel_text flag new update_end actors filter_phrase assignment show_end cuts_phrase extent_word fixed
+unfolding body bracketed_list comma_list later passes later_passes pass kernel_text flag new update_end actors filter_phrase assignment show_end cuts_phrase extent_word fixed
 body_sound version command.Record = search (fields_sound) depth 30
 body_sound version command.Stencil = (refl, λ view. (window_sound, λ window. (refl, (path_sound, λ path. (refl, (terms_sound, λ terms. search depth 12))))))
 body_sound version _ = search (path_sound, window_sound, mapping_sound, expr_sound, kernel_sound) depth 40

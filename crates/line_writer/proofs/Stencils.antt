@@ -1,5 +1,5 @@
 -- A stencil may have other tokens than the canonical ones, since a number may have a sign before a zero: its canonical tokens are kept.
-use Rattle.line_writer.proofs.Imports.{◌≡◌, ℕ, List, [], ◌∷◌, ◌++◌, map, codes, refl, arith, Some, ℤ, Comma, CloseBracket, OpenParen, CloseParen, Equals, Colon, Star, Slash, Token, Word, Sign, Stencil, Grammar, Is, behind, PathStep, Version, command_of, body, bracketed_list, constant, later, comma_list, path, span, stencil, term_phrase, terms_phrase, window_phrase, Span, TermText, with_commas, count_token, number_tokens, path_tokens, bracket_list, span_tokens, window_tokens, term_tokens, terms_tokens}
+use Rattle.line_writer.proofs.Imports.{◌≡◌, ℕ, List, [], ◌∷◌, ◌++◌, map, codes, refl, arith, Some, ℤ, Comma, CloseBracket, OpenParen, CloseParen, Equals, Colon, Star, Slash, Token, Word, Sign, Stencil, Grammar, Is, behind, PathStep, Version, command_of, body, bracketed_list, constant, later, comma_list, path, span, term_phrase, terms_phrase, window_phrase, Span, TermText, with_commas, count_token, number_tokens, path_tokens, bracket_list, span_tokens, window_tokens, term_tokens, terms_tokens}
 use Rattle.line_grammar.specs.declared.line.Command.TheVariants as command
 use Rattle.line_writer.proofs.Gives.{IsSpelled, Each, each_append, each_front, Gives, gives}
 use Rattle.line_writer.proofs.Phrases.{window_prints}
@@ -102,7 +102,7 @@ terms_give = gives terms_phrase (λ v. IsFull v × Each KeptTerm v) (λ terms f 
 -- the line, in a version that has the word
 stencil_kept : (version : Version) (view : List ℕ) (window : List Span) (path : List PathStep) (terms : List TermText) (divisor rounds : ℕ) → command_of version (Word (codes "stencil")) ≡ Some command.Stencil →
     KeptName view → Kept window_phrase window_tokens window → KeptPath path → IsFull terms × Each KeptTerm terms → KeptCount divisor → KeptCount rounds → IsKept version (Stencil view window path terms divisor rounds)
-unfolding body stencil
+unfolding body
 stencil_kept version view window path terms divisor rounds is kv kw kp kt kd kr = λ small. (
   fits_more 2 64 _ (omega arith) (fits_word 2 (codes "stencil") _ refl refl (omega arith) (fits_flat 2 (Word view) _ refl (name_in view kv)
       (fits_append 2 (window_tokens window) _ (fits_more 1 2 _ (omega arith) (window_fits window kw.spelled)) (fits_word 2 (codes "set") _ refl refl (omega arith)
@@ -123,7 +123,7 @@ stencil_kept version view window path terms divisor rounds is kv kw kp kt kd kr 
 )
 
 pub stencil_gives : (version : Version) → command_of version (Word (codes "stencil")) ≡ Some command.Stencil → Gives (body version command.Stencil) (IsKept version)
-unfolding body stencil
+unfolding body
 stencil_gives version is = gives (body version command.Stencil) (IsKept version) (λ view f i s window g j t path h k u terms m l w divisor d o x rounds r q y.
     stencil_kept version view window path terms divisor rounds is (kept_name f view i s) (kept window_phrase window_tokens window_prints g window j t) (kept_path h path k u) (terms_give m terms l w)
     (kept_count d divisor o x) (kept_count r rounds q y))

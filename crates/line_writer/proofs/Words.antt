@@ -1,5 +1,5 @@
 -- The one token that each word, name, number and string of a phrase has.
-use Rattle.line_writer.proofs.Imports.{◌≡◌, ℕ, List, [], ◌∷◌, map, refl, sym, ap, ◌∙◌, Option, Some, None, pos, negsuc, true, false, ◌^◌, Bool, if◌then◌else◌, bytes_eq, nat_lt, list_any, bytes_eq-Decides, Token, Word, Sign, Number, Text, Bad, item, Version, kernel_word_of, command_of, map_word, token_order, listed, meaning, reserved, name_of, count_of, string_of, type_of, integer_type_of, integer_types, leaf_types, orders, aos_forms, aos_form_of, soa_forms, soa_form_of, map_words, kernel_words, reduction_of, reductions, commands, name, count, string, kernel_word, reduction_word, command_word, type_word, order_word, aos_word, soa_word, form_word, MapWord, count_token}
+use Rattle.line_writer.proofs.Imports.{◌≡◌, ℕ, List, [], ◌∷◌, map, refl, sym, ap, ◌∙◌, Option, Some, None, pos, negsuc, true, false, ◌^◌, Bool, if◌then◌else◌, bytes_eq, nat_lt, list_any, bytes_eq-Decides, Token, Word, Sign, Number, Text, Bad, item, Version, command_of, map_word, token_order, listed, meaning, reserved, name_of, count_of, string_of, type_of, integer_type_of, integer_types, leaf_types, orders, aos_forms, aos_form_of, soa_forms, soa_form_of, map_words, reduction_of, reductions, commands, name, count, string, reduction_word, command_word, type_word, order_word, aos_word, soa_word, form_word, MapWord, count_token}
 use Rattle.line_writer.proofs.Gives.{Prints}
 
 listed_step : {A : Type 0} (word_of own : A → List ℕ) (word : List ℕ) (value v : A) (rest : Option A) (b : Bool) → (b ≡ true → word ≡ word_of value) → word_of value ≡ own value →
@@ -49,9 +49,6 @@ reduction_prints = one_token reduction_of (λ v. Word (reduction_word v)) (meant
 
 pub command_prints : (version : Version) → IsWordPhrase (command_of version) command_word
 command_prints version = one_token (command_of version) (λ v. Word (command_word v)) (meant_word command_word (commands version))
-
-pub kernel_word_prints : IsWordPhrase kernel_word_of kernel_word
-kernel_word_prints = one_token kernel_word_of (λ v. Word (kernel_word v)) (meant_word kernel_word kernel_words)
 
 -- names, counts and strings
 if_some : {A : Type 0} (b : Bool) (x v : A) → (if b then Some x else None) ≡ Some v → x ≡ v

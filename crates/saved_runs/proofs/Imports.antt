@@ -51,7 +51,7 @@ pub use Rattle.line_grammar.specs.declared.version.Version.TheVariants.{Two}
 pub use Rattle.line_grammar.specs.Tokens.{name_of, count_of, command_of, type_of, integer_type_of, token_order, aos_form_of, soa_form_of, map_word}
 pub use Rattle.line_grammar.specs.Sentences.{Sentence, New, Define, View, Mapping, Load, Relayout, Open, Value, Assignment}
 pub use Rattle.line_grammar.specs.Language.{name, count, fields, IsSentence}
-unfoldable pub use Rattle.line_grammar.specs.Language.{later, listed, bracket_list, part, parts, path, field_width, field_widths, braced_widths, inside_aos, inside_soa, inside_aosoa, inside_bits, inside_form, form_or_name, mapping as mapping_phrase, mapping_within, fixed, extent_word, actors, update_end, show_end, stencil, flag, new, body, command_line, line}
+unfoldable pub use Rattle.line_grammar.specs.Language.{later, listed, bracket_list, part, parts, path, field_width, field_widths, braced_widths, inside_aos, inside_soa, inside_aosoa, inside_bits, inside_form, form_or_name, mapping as mapping_phrase, mapping_within, fixed, extent_word, actors, update_end, show_end, flag, new, body, command_line, line}
 pub use Rattle.line_writer.specs.Canonical.{count_token, line_tokens}
 pub use Rattle.line_writer.specs.Texts.{written}
 pub use Rattle.line_writer.proofs.Rooms.{fits_more, fits_flat, one_fits, word_spelled, fits_alone, Fits, no_tokens_fit, fits_append, fits_inside}

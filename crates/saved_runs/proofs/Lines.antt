@@ -1,5 +1,5 @@
 -- What the lines of the language say of the records, mapping expressions and extents in them.
-use Rattle.saved_runs.proofs.Imports.{◌≡◌, ℕ, ◌+◌, ◌-◌, ◌^◌, ◌<◌, ◌≤◌, Bool, true, false, List, [], ◌∷◌, ◌++◌, map, nat_lt, pos, negsuc, Some, None, if◌then◌else◌, refl, arith, ltb-true, Grammar, Is, behind_token, Asked, as_asked, opens, closes, brackets_after, MayOpen, AreSpelled, Comma, TokenKind, Tree, Fields, Record, ExtentWord, Fixed, Rows, Token, Word, Number, Text, Sign, Bad, Two, Command, count_of, Sentence, New, Define, Mapping, View, Load, Relayout, IsSentence, actors, body, bracket_list, command_line, extent_word, fields, fixed, later, line, listed, new, show_end, stencil, update_end, written, Each, each_append}
+use Rattle.saved_runs.proofs.Imports.{◌≡◌, ℕ, ◌+◌, ◌-◌, ◌^◌, ◌<◌, ◌≤◌, Bool, true, false, List, [], ◌∷◌, ◌++◌, map, nat_lt, pos, negsuc, Some, None, if◌then◌else◌, refl, arith, ltb-true, Grammar, Is, behind_token, Asked, as_asked, opens, closes, brackets_after, MayOpen, AreSpelled, Comma, TokenKind, Tree, Fields, Record, ExtentWord, Fixed, Rows, Token, Word, Number, Text, Sign, Bad, Two, Command, count_of, Sentence, New, Define, Mapping, View, Load, Relayout, IsSentence, actors, body, bracket_list, command_line, extent_word, fields, fixed, later, line, listed, new, show_end, update_end, written, Each, each_append}
 use Rattle.line_tokens.specs.declared.token.TokenKind.TheVariants as kind
 use Rattle.line_grammar.specs.declared.line.Command.TheVariants as command
 use Rattle.saved_runs.proofs.Maps.{HasTokens, mapping_has}
@@ -100,7 +100,7 @@ new_said word low = as_asked stand_splits (new Two word) (λ xs v. IsNewSaid v) 
     record { term = mapping_has e term m w; words = bracketed_each word IsLow low c words k u })
 
 body_said : (word : Command) → Asked Stand (body Two word) (λ xs v. IsSaid v)
-unfolding body update_end actors show_end stencil
+unfolding body update_end actors show_end
 body_said command.Record = λ name a i s held b j t. record { fields = held; is = refl; are = record { tokens = b; are = j; spelled = fewer b 0 t.0 (omega arith) t.1 } }
 body_said command.Mapping = λ name a i s term b j t. mapping_has b term j t
 body_said command.View = λ made a i s. new_said fixed fixed_low a made i s

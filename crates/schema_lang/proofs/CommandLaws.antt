@@ -1,5 +1,5 @@
 -- Each command, and a line, is read by first tokens.
-use Rattle.schema_lang.proofs.Imports.{◌≡◌, ℕ, false, List, codes, Some, refl, ap, arith, Option, is_some, Comma, Equals, OpenParen, Colon, Dot, EqualEqual, Slash, Token, Word, Signed, Text, Assignment, Value, is_same, is_sign, is_word, comparison_of, reduction_of, ExtentWord, Eq, BinOp, Command, KernelWord, ShowKind, Version, Grammar, first, Fine, Quiet, anyway, firsts_any, count, string, mapping, actors, assignment, body, bracket_list, command_line, filter, flag, inside_kernel, kernel_text, later, line, listed, new, part, show_end, stencil, update_end, window, apart, count_fine, exact_sign, exact_word, level_of, name_fine, fields_fine, fields_quiet, comparison_levels, expr_fine, expr_quiet, no_part, bracket_list_fine, bracket_list_quiet, cuts_fine, cuts_quiet, extent_word_fine, extent_word_quiet, fixed_fine, fixed_quiet, listed_fine, listed_quiet, mapping_fine, mapping_quiet, passes_fine, passes_quiet, path_fine, path_quiet, constant_fine, constant_quiet, terms_fine, terms_quiet, window_fine, window_quiet}
+use Rattle.schema_lang.proofs.Imports.{◌≡◌, ℕ, false, List, codes, Some, refl, ap, arith, Option, is_some, Comma, Equals, OpenParen, Colon, Dot, EqualEqual, Slash, Token, Word, Signed, Text, Assignment, Value, is_same, is_sign, is_word, comparison_of, reduction_of, ExtentWord, Eq, BinOp, Command, KernelWord, ShowKind, Version, Grammar, first, Fine, Quiet, anyway, firsts_any, count, string, mapping, actors, assignment, body, bracket_list, command_line, filter, flag, inside_kernel, kernel_text, later, line, listed, new, part, show_end, update_end, window, apart, count_fine, exact_sign, exact_word, level_of, name_fine, fields_fine, fields_quiet, comparison_levels, expr_fine, expr_quiet, no_part, bracket_list_fine, bracket_list_quiet, cuts_fine, cuts_quiet, extent_word_fine, extent_word_quiet, fixed_fine, fixed_quiet, listed_fine, listed_quiet, mapping_fine, mapping_quiet, passes_fine, passes_quiet, path_fine, path_quiet, constant_fine, constant_quiet, terms_fine, terms_quiet, window_fine, window_quiet}
 use Rattle.line_grammar.specs.declared.line.Command.TheVariants as command
 use Rattle.line_grammar.specs.declared.line.KernelWord.TheVariants as kernel_word
 use Rattle.line_grammar.specs.declared.line.ReduceKind.TheVariants as reduce
@@ -41,10 +41,6 @@ flag_fine : (word : List ℕ) → Fine is_same (flag word)
 unfolding flag
 flag_fine word = search exact_word
 
-flag_quiet : (word : List ℕ) (t : Token) → is_word word t ≡ false → Quiet is_same (flag word) t
-unfolding flag
-flag_quiet word t e = search
-
 show_end_fine : (version : Version) (kind : ShowKind) (view : List ℕ) → Fine is_same (show_end version kind view)
 unfolding show_end window
 show_end_fine version kind view = search (window_fine, window_quiet) depth 12
@@ -79,7 +75,7 @@ unfolding new flag bracket_list
 new_quiet version word t e = search (mapping_quiet version, anyway) depth 20
 
 pub body_fine : (version : Version) (word : Command) → Fine is_same (body version word)
-unfolding body update_end actors filter assignment part flag listed later stencil
+unfolding body update_end actors filter assignment part flag listed later
 body_fine version command.Record = search (name_fine, fields_fine, fields_quiet, anyway, firsts_any) depth 30
 body_fine version command.Mapping = search (exact_sign, name_fine, mapping_fine version, mapping_quiet version) depth 30
 body_fine version command.View = search (fixed_fine, fixed_quiet, new_fine, new_quiet) depth 30

@@ -56,7 +56,7 @@ pub use Rattle.phrases.specs.FineLaws.{Fine, Quiet, anyway, firsts_any}
 pub use Rattle.phrases.specs.LeavesLaws.{Leaves, leaves}
 pub use Rattle.phrases.specs.LineLaws.{line_found, line_full, line_stop}
 pub use Rattle.line_grammar.specs.Language.{IsSentence, read, count, string, mapping}
-unfoldable pub use Rattle.line_grammar.specs.Language.{actors, assignment, body, bracket_list, command_line, filter, flag, inside_kernel, kernel_text, later, line, listed, new, part, show_end, stencil, update_end, window}
+unfoldable pub use Rattle.line_grammar.specs.Language.{actors, assignment, body, bracket_list, command_line, filter, flag, inside_kernel, kernel_text, later, line, listed, new, part, show_end, update_end, window}
 pub use Rattle.line_phrases.specs.BasicsLaws.{apart, count_fine, exact_sign, exact_word, level_of, name_fine}
 pub use Rattle.line_phrases.specs.FieldLaws.{fields_fine, fields_quiet}
 pub use Rattle.line_phrases.specs.LevelsLaws.{comparison_levels, expr_fine, expr_quiet, no_part}

@@ -1,5 +1,5 @@
 -- A line that is read as the definition of a record has a record with fields.
-use Rattle.schema_lang.proofs.Imports.{◌≡◌, List, [], Ok, Token, Sentence, Define, sentence_of, is_same, Record, IsRecord, Single, Array, Tree, tree_of, Command, Version, Dim, Line, line_at, HasItsFields, Leaves, leaves, line_found, actors, body, command_line, line, show_end, stencil, update_end}
+use Rattle.schema_lang.proofs.Imports.{◌≡◌, List, [], Ok, Token, Sentence, Define, sentence_of, is_same, Record, IsRecord, Single, Array, Tree, tree_of, Command, Version, Dim, Line, line_at, HasItsFields, Leaves, leaves, line_found, actors, body, command_line, line, show_end, update_end}
 use Rattle.record_dim.specs.declared.dim.Dim.TheVariants as dim
 use Rattle.line_grammar.specs.declared.line.Command.TheVariants as command
 use Rattle.line_grammar.specs.declared.line.Line.TheVariants as line_kind
@@ -16,7 +16,7 @@ HasFields (Define name tree) = IsTreeOfFields tree
 HasFields _ = Unit {0}
 
 body_whole : (version : Version) (word : Command) → Leaves (body version word) HasFields
-unfolding body update_end actors show_end stencil
+unfolding body update_end actors show_end
 body_whole version command.Record = search
 body_whole version _ = search
 

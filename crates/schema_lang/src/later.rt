@@ -3,7 +3,8 @@ ghost use Rattle.std.specs.Prelude.{◌≡◌};
 ghost use Rattle.line_grammar.specs.Sentences.{sentence_of};
 ghost use Rattle.line_grammar.specs.Versions.{may_have_window};
 ghost use Rattle.line_grammar.specs.declared.line.Command.TheVariants as command;
-ghost use Rattle.line_grammar.specs.Language.{read, body, stencil};
+ghost use Rattle.line_grammar.specs.declared.version.Version.{Version};
+ghost use Rattle.line_grammar.specs.Language.{read, body};
 ghost use Rattle.line_phrases.specs.Inner.Gives.{Gives};
 
 use crate::bodies::read_flag;
@@ -61,9 +62,9 @@ pub(crate) fn read_advise(
     })
 }
 
-#[tactic(auto, unfolding(line_grammar::specs::Language::stencil))]
+#[tactic(auto, unfolding(line_grammar::specs::Language::body))]
 pub(crate) fn read_stencil(alloc: Global, tokens: &mut Tokens) -> Result<Line, ReadError>
-    ensures { Gives (λ x. (sentence_of x, tokens.new)) result (read stencil tokens.old) }
+    ensures { (version : Version) → Gives (λ x. (sentence_of x, tokens.new)) result (read (body version command.Stencil) tokens.old) }
 {
     let view = tokens.item::<Name>()?;
     let window = read_window(alloc, tokens)?;
