@@ -1,18 +1,19 @@
-ghost use Rattle.std.specs.Prelude.{ℕ, List, Option, ◌≡◌, IfErr};
+ghost use Rattle.std.specs.Prelude.{◌≡◌, IfErr, map, option_map};
 ghost use Rattle.phrases.specs.Reading.{item_at};
-ghost use Rattle.line_grammar.specs.Sentences.{Actors, Assignment, Value, sentence_of};
+ghost use Rattle.expr_lang.specs.Terms.{term_of};
+ghost use Rattle.line_grammar.specs.Sentences.{assignment_of, sentence_of};
 ghost use Rattle.line_grammar.specs.Tokens.{command_of};
 ghost use Rattle.line_grammar.specs.declared.line.Command.TheVariants as command;
-ghost use Rattle.line_grammar.specs.declared.version.Version.{Version};
 ghost use Rattle.line_grammar.specs.Language.{read, actors, body, bracket_list, command_line, flag, new};
 ghost use Rattle.line_phrases.specs.Inner.Gives.{Gives, IsSyntax};
-ghost use Rattle.schema_lang.specs.Inner.Bodies.{extent_where, new_of};
+ghost use Rattle.schema_lang.specs.Inner.Bodies.{common_body, extent_where, new_of};
 
 use crate::kernels::read_kernel;
 use crate::later::{read_advise, read_show, read_stencil};
 use crate::updates::{read_filter, read_sets};
+use expr_lang::Expr;
 use line_grammar::{
-    Command, Count, ExtentWords, FileName, FirstCommand, IndexWords, Line, ReduceKind, Version,
+    Command, Count, ExtentWords, FileName, FirstCommand, Line, ReduceKind, SetList, Version,
 };
 use line_phrases::{
     ReadError, Tokens, read_cuts, read_expr, read_extents, read_fields, read_fixed_extents,
@@ -80,7 +81,7 @@ fn read_body(
 
 #[tactic(auto, unfolding(line_grammar::specs::Language::body))]
 fn read_define(alloc: Global, tokens: &mut Tokens) -> Result<Line, ReadError>
-    ensures { (version : Version) → Gives (λ x. (sentence_of x, tokens.new)) result (read (body version command.Record) tokens.old) }
+    ensures { Gives (λ x. (sentence_of x, tokens.new)) result (read (common_body command.Record) tokens.old) }
 {
     let name = tokens.item::<Name>()?;
     let fields = read_fields(alloc, tokens)?;
@@ -204,7 +205,7 @@ fn read_load(alloc: Global, version: Version, tokens: &mut Tokens) -> Result<Lin
 
 #[tactic(auto, unfolding(line_grammar::specs::Language::body))]
 fn read_assign(alloc: Global, tokens: &mut Tokens) -> Result<Line, ReadError>
-    ensures { (version : Version) → Gives (λ x. (sentence_of x, tokens.new)) result (read (body version command.Set) tokens.old) }
+    ensures { Gives (λ x. (sentence_of x, tokens.new)) result (read (common_body command.Set) tokens.old) }
 {
     let view = tokens.item::<Name>()?;
     let index = read_index(alloc, tokens)?;
@@ -231,7 +232,26 @@ fn read_update(alloc: Global, version: Version, tokens: &mut Tokens) -> Result<L
     if !version.is_two() || !tokens.begins_word("actors") {
         return Ok(Line::Update { view, filter, sets });
     }
-    let ActorsText { cuts, seed, turns } = read_actors(alloc, tokens)?;
+    read_actors(alloc, view, filter, sets, tokens)
+}
+
+// The actors of an update of these parts, and their schedule.
+#[tactic(auto, unfolding(line_grammar::specs::Language::actors))]
+fn read_actors(
+    alloc: Global,
+    view: Name,
+    filter: Option<Expr>,
+    sets: SetList,
+    tokens: &mut Tokens,
+) -> Result<Line, ReadError>
+    ensures { Gives (λ x. (sentence_of x, tokens.new)) result (read (actors view (option_map term_of filter) (map assignment_of sets)) tokens.old) }
+{
+    tokens.word("actors")?;
+    let cuts = read_cuts(alloc, tokens)?;
+    tokens.word("schedule")?;
+    let seed = tokens.item::<Count>()?;
+    tokens.word("turns")?;
+    let turns = tokens.item::<Count>()?;
     Ok(Line::Actors {
         view,
         filter,
@@ -242,32 +262,9 @@ fn read_update(alloc: Global, version: Version, tokens: &mut Tokens) -> Result<L
     })
 }
 
-// The actors of an update, and their schedule.
-#[derive(Drop)]
-pub(crate) struct ActorsText {
-    pub(crate) cuts: IndexWords,
-    pub(crate) seed: u32,
-    pub(crate) turns: u32,
-}
-
-// The actors of an update, whatever it is.
-#[tactic(auto, unfolding(line_grammar::specs::Language::actors))]
-fn read_actors(alloc: Global, tokens: &mut Tokens) -> Result<ActorsText, ReadError>
-    ensures { (view : List ℕ) (filter : Option Value) (sets : List Assignment)
-        → Gives (λ x. (Actors view filter sets x.cuts x.seed x.turns, tokens.new)) result (read (actors view filter sets) tokens.old) }
-{
-    tokens.word("actors")?;
-    let cuts = read_cuts(alloc, tokens)?;
-    tokens.word("schedule")?;
-    let seed = tokens.item::<Count>()?;
-    tokens.word("turns")?;
-    let turns = tokens.item::<Count>()?;
-    Ok(ActorsText { cuts, seed, turns })
-}
-
 #[tactic(auto, unfolding(line_grammar::specs::Language::body))]
 fn read_kernel_line(alloc: Global, tokens: &mut Tokens) -> Result<Line, ReadError>
-    ensures { (version : Version) → Gives (λ x. (sentence_of x, tokens.new)) result (read (body version command.Kernel) tokens.old) }
+    ensures { Gives (λ x. (sentence_of x, tokens.new)) result (read (common_body command.Kernel) tokens.old) }
 {
     let view = tokens.item::<Name>()?;
     let kernel = read_kernel(alloc, tokens)?;
@@ -282,7 +279,7 @@ fn read_kernel_line(alloc: Global, tokens: &mut Tokens) -> Result<Line, ReadErro
 
 #[tactic(auto, unfolding(line_grammar::specs::Language::body))]
 fn read_reduce(alloc: Global, tokens: &mut Tokens) -> Result<Line, ReadError>
-    ensures { (version : Version) → Gives (λ x. (sentence_of x, tokens.new)) result (read (body version command.Reduce) tokens.old) }
+    ensures { Gives (λ x. (sentence_of x, tokens.new)) result (read (common_body command.Reduce) tokens.old) }
 {
     let view = tokens.item::<Name>()?;
     if tokens.begins_word("count") {
@@ -298,7 +295,7 @@ fn read_reduce(alloc: Global, tokens: &mut Tokens) -> Result<Line, ReadError>
 
 #[tactic(auto, unfolding(line_grammar::specs::Language::body))]
 fn read_copy(tokens: &mut Tokens) -> Result<Line, ReadError>
-    ensures gives { (version : Version) → Gives (λ x. (sentence_of x, tokens.new)) result (read (body version command.Copy) tokens.old) }
+    ensures gives { Gives (λ x. (sentence_of x, tokens.new)) result (read (common_body command.Copy) tokens.old) }
     ensures fault { IfErr result IsSyntax }
 {
     let source = tokens.item::<Name>()?;
@@ -319,7 +316,7 @@ fn read_relayout(alloc: Global, version: Version, tokens: &mut Tokens) -> Result
 
 #[tactic(auto, unfolding(line_grammar::specs::Language::body))]
 fn read_bytes(tokens: &mut Tokens) -> Result<Line, ReadError>
-    ensures gives { (version : Version) → Gives (λ x. (sentence_of x, tokens.new)) result (read (body version command.Bytes) tokens.old) }
+    ensures gives { Gives (λ x. (sentence_of x, tokens.new)) result (read (common_body command.Bytes) tokens.old) }
     ensures fault { IfErr result IsSyntax }
 {
     let view = tokens.item::<Name>()?;
@@ -329,7 +326,7 @@ fn read_bytes(tokens: &mut Tokens) -> Result<Line, ReadError>
 
 #[tactic(auto, unfolding(line_grammar::specs::Language::body))]
 fn read_open(tokens: &mut Tokens) -> Result<Line, ReadError>
-    ensures gives { (version : Version) → Gives (λ x. (sentence_of x, tokens.new)) result (read (body version command.Open) tokens.old) }
+    ensures gives { Gives (λ x. (sentence_of x, tokens.new)) result (read (common_body command.Open) tokens.old) }
     ensures fault { IfErr result IsSyntax }
 {
     let name = tokens.item::<Name>()?;

@@ -3,9 +3,9 @@ ghost use Rattle.std.specs.Prelude.{◌≡◌};
 ghost use Rattle.line_grammar.specs.Sentences.{sentence_of};
 ghost use Rattle.line_grammar.specs.Versions.{may_have_window};
 ghost use Rattle.line_grammar.specs.declared.line.Command.TheVariants as command;
-ghost use Rattle.line_grammar.specs.declared.version.Version.{Version};
 ghost use Rattle.line_grammar.specs.Language.{read, body};
 ghost use Rattle.line_phrases.specs.Inner.Gives.{Gives};
+ghost use Rattle.schema_lang.specs.Inner.Bodies.{common_body};
 
 use crate::bodies::read_flag;
 use line_grammar::{Count, Line, ShowKind, Version};
@@ -64,7 +64,7 @@ pub(crate) fn read_advise(
 
 #[tactic(auto, unfolding(line_grammar::specs::Language::body))]
 pub(crate) fn read_stencil(alloc: Global, tokens: &mut Tokens) -> Result<Line, ReadError>
-    ensures { (version : Version) → Gives (λ x. (sentence_of x, tokens.new)) result (read (body version command.Stencil) tokens.old) }
+    ensures { Gives (λ x. (sentence_of x, tokens.new)) result (read (common_body command.Stencil) tokens.old) }
 {
     let view = tokens.item::<Name>()?;
     let window = read_window(alloc, tokens)?;

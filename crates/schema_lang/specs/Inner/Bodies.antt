@@ -1,11 +1,13 @@
--- What makes a view, as it is read.
+-- What is read of a line.
 use Rattle.std.specs.Prelude.{Bool, true, false}
 use Rattle.phrases.specs.Grammar.{Grammar}
 use Rattle.extents.specs.declared.words.ExtentWord.{ExtentWord}
 use Rattle.map_expr.specs.Terms.{term_of as map_of}
 use Rattle.line_grammar.specs.declared.token.Token.{Token}
-use Rattle.line_grammar.specs.Language.{extent_word, fixed}
-use Rattle.line_grammar.specs.Sentences.{New}
+use Rattle.line_grammar.specs.Language.{body, extent_word, fixed}
+use Rattle.line_grammar.specs.Sentences.{New, Sentence}
+use Rattle.line_grammar.specs.declared.line.Command.{Command}
+use Rattle.line_grammar.specs.declared.version.Version.TheVariants.{Two}
 use Rattle.schema_lang.specs.declared.bodies.New as bodies
 
 -- what makes a view
@@ -16,3 +18,7 @@ new_of new = record { name = new.name; schema = new.schema; words = new.words; w
 abbrev pub extent_where : Bool → Grammar Token ExtentWord
 extent_where true = extent_word
 extent_where false = fixed
+
+-- what stands behind the word of a command, where it is the same in each version
+abbrev pub common_body : Command → Grammar Token Sentence
+common_body = body Two
