@@ -27,12 +27,10 @@ is_shaped words is =
     of_tests : (rank two beside : Bool) → ((length words == 0) || nat_lt 4 (length words)) ≡ rank → nat_lt 1 (count_by is_rows words) ≡ two
         → (nat_lt 0 (count_by is_rows words) && list_any is_zero words) ≡ beside
         → (if rank then Some bad.Rank else (if two then Some bad.TwoRows else (if beside then Some bad.RowsBesideZero else None))) ≡ None → IsShaped words
-    of_tests true two beside a b c is = absurd (cc is)
-    of_tests false true beside a b c is = absurd (cc is)
-    of_tests false false true a b c is = absurd (cc is)
     of_tests false false false a b c is =
         let rank = ranked (length words) a in
         record { some = rank.0; few = rank.1; one = ltb-false 1 (count_by is_rows words) b; apart = c }
+    of_tests _ _ _ a b c is = absurd (cc is)
 
 -- what the tests of words for a number of rows say
 record IsRanged (words : List ExtentWord) (rows : Option ℕ) : Type 0 where
@@ -48,10 +46,8 @@ is_ranged words rows is =
     of_tests : (uneven unequal many : Bool) → (nat_lt 0 (count_by is_rows words) && not (unwrap_or rows 0 % fixed_product words == 0)) ≡ uneven
         → ((count_by is_rows words == 0) && option_map_or (λ n. not (n == fixed_product words)) rows false) ≡ unequal → nat_lt (2 ^ 24) (product (extents_for words rows)) ≡ many
         → (if uneven then Some bad.NotDivisible else (if unequal then Some bad.NotEqual else (if many then Some bad.TooMany else None))) ≡ None → IsRanged words rows
-    of_tests true unequal many a b c is = absurd (cc is)
-    of_tests false true many a b c is = absurd (cc is)
-    of_tests false false true a b c is = absurd (cc is)
     of_tests false false false a b c is = record { even = a; equal = b; few = ltb-false (2 ^ 24) (product (extents_for words rows)) c }
+    of_tests _ _ _ a b c is = absurd (cc is)
 
 at_most_one : (n : ℕ) → n ≤ 1 → (n ≡ 0) ⊎ (n ≡ 1)
 at_most_one zero few = inl refl

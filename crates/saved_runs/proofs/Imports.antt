@@ -1,5 +1,5 @@
 -- What the proofs of this crate speak of.
-pub use Rattle.std.proofs.Common.{◌≡◌, ℕ, zero, suc, ◌+◌, ◌<◌, ◌≤◌, Bool, true, false, ℤ, List, [], ◌∷◌, ◌++◌, length, map, get_or, drop, Option, Some, None, Result, Ok, Err, is_ok, if◌then◌else◌, refl, sym, ap, ◌∙◌, subst, arith, append-nil, ◌⊎◌, ◌*◌, ◌/◌, ◌%◌, ◌^◌, not, ◌&&◌, nat_lt, inl, inr, ⊎_elim, codes, append_assoc, ◌-◌, pos, negsuc, max, length-append, set, get_or-set_other, get_or-set_same}
+pub use Rattle.std.proofs.Common.{◌≡◌, ℕ, zero, suc, ◌+◌, ◌<◌, ◌≤◌, Bool, true, false, ℤ, List, [], ◌∷◌, ◌++◌, length, map, get_or, drop, Option, Some, None, Result, Ok, Err, is_ok, if◌then◌else◌, refl, sym, ap, ◌∙◌, subst, arith, append-nil, ◌⊎◌, ◌*◌, ◌/◌, ◌%◌, ◌^◌, not, ◌&&◌, nat_lt, inl, inr, ⊎_elim, codes, append_assoc, ◌-◌, pos, max, length-append, set, get_or-set_other, get_or-set_same}
 pub use Rattle.std.specs.List.{range_with_len, list_any, slice_get, enumerate_from}
 pub use Rattle.std.specs.Option.{option_or, option_map_or}
 pub use Rattle.std.proofs.lemmas.List.{length-map, drop_all}

@@ -1,5 +1,5 @@
 -- What the lines of the language say of the records, mapping expressions and extents in them.
-use Rattle.saved_runs.proofs.Imports.{◌≡◌, ℕ, ◌+◌, ◌-◌, ◌^◌, ◌<◌, ◌≤◌, Bool, true, false, List, [], ◌∷◌, ◌++◌, map, nat_lt, pos, negsuc, Some, None, if◌then◌else◌, refl, arith, ltb-true, Grammar, Is, behind_token, Asked, as_asked, opens, closes, brackets_after, MayOpen, AreSpelled, Comma, TokenKind, Tree, Fields, Record, ExtentWord, Fixed, Rows, Token, Word, Number, Text, Sign, Bad, Two, Command, count_of, Sentence, New, Define, Mapping, View, Load, Relayout, IsSentence, actors, body, bracket_list, command_line, extent_word, fields, fixed, later, line, listed, new, show_end, update_end, written, Each, each_append}
+use Rattle.saved_runs.proofs.Imports.{◌≡◌, ℕ, ◌+◌, ◌-◌, ◌^◌, ◌<◌, ◌≤◌, Bool, true, false, List, [], ◌∷◌, map, nat_lt, pos, Some, None, if◌then◌else◌, refl, arith, ltb-true, Grammar, Is, behind_token, Asked, as_asked, opens, closes, brackets_after, MayOpen, AreSpelled, Comma, TokenKind, Tree, Fields, Record, ExtentWord, Fixed, Rows, Token, Number, Sign, Two, Command, count_of, Sentence, New, Define, Mapping, View, Load, Relayout, IsSentence, actors, body, bracket_list, command_line, extent_word, fields, fixed, later, line, listed, new, show_end, update_end, written, Each, each_append}
 use Rattle.line_tokens.specs.declared.token.TokenKind.TheVariants as kind
 use Rattle.line_grammar.specs.declared.line.Command.TheVariants as command
 use Rattle.saved_runs.proofs.Maps.{HasTokens, mapping_has}
@@ -21,11 +21,7 @@ below false n v low is = absurd (cc is)
 
 count_low : (token : Token) (v : ℕ) → count_of token ≡ Some v → v < 2 ^ 32
 count_low (Number (pos n)) v is = below (nat_lt n (2 ^ 32)) n v refl is
-count_low (Number (negsuc n)) v is = absurd (cc is)
-count_low (Word text) v is = absurd (cc is)
-count_low (Text text) v is = absurd (cc is)
-count_low (Sign sign) v is = absurd (cc is)
-count_low Bad v is = absurd (cc is)
+count_low _ v is = absurd (cc is)
 
 fixed_low : Asked Stand fixed (λ xs v. IsLow v)
 unfolding fixed

@@ -106,11 +106,6 @@ height _ = 1
 
 some_height : (term : MapTerm) → 1 ≤ height term
 some_height (Split along first rest) = omega arith
-some_height (Byteswap inner) = omega arith
-some_height (Bytesplit inner) = omega arith
-some_height (Change from to inner) = omega arith
-some_height (Counted inner) = omega arith
-some_height (Heated granule inner) = omega arith
 some_height _ = omega arith
 
 -- a word that begins a form is a name, and is spelled
@@ -121,16 +116,7 @@ record IsFormWord (form : MapWord) : Type 0 where
 
 form_words : (form : MapWord) → IsFormWord form
 form_words form.Aos = record { name = refl; meant = refl; spelled = word_spelled (codes "aos") refl refl (omega arith) }
-form_words form.Soa = record { name = refl; meant = refl; spelled = word_spelled (codes "soa") refl refl (omega arith) }
-form_words form.Aosoa = record { name = refl; meant = refl; spelled = word_spelled (codes "aosoa") refl refl (omega arith) }
-form_words form.BitAos = record { name = refl; meant = refl; spelled = word_spelled (codes "bitaos") refl refl (omega arith) }
-form_words form.BitSoa = record { name = refl; meant = refl; spelled = word_spelled (codes "bitsoa") refl refl (omega arith) }
-form_words form.Split = record { name = refl; meant = refl; spelled = word_spelled (codes "split") refl refl (omega arith) }
-form_words form.Byteswap = record { name = refl; meant = refl; spelled = word_spelled (codes "byteswap") refl refl (omega arith) }
-form_words form.Bytesplit = record { name = refl; meant = refl; spelled = word_spelled (codes "bytesplit") refl refl (omega arith) }
-form_words form.Change = record { name = refl; meant = refl; spelled = word_spelled (codes "change") refl refl (omega arith) }
-form_words form.Count = record { name = refl; meant = refl; spelled = word_spelled (codes "count") refl refl (omega arith) }
-form_words form.Heat = record { name = refl; meant = refl; spelled = word_spelled (codes "heat") refl refl (omega arith) }
+form_words other = record { name = refl; meant = refl; spelled = word_spelled (form_word other) refl refl (omega arith) }
 
 -- a form around what stands in its brackets
 told_form : (n k m : ℕ) → k + 1 ≤ m → (form : MapWord) (term : MapTerm) → Told k (inside_form Two (mapping_within Two n) form) term → Told m (mapping_within Two (suc n)) term
