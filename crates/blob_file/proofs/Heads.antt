@@ -1,5 +1,5 @@
 -- The header in front of bytes: which there is, and that it is the only one.
-use Rattle.blob_file.proofs.Imports.{◌≡◌, ℕ, ◌≤◌, Bool, true, false, List, [], ◌∷◌, ◌++◌, length, map, take, drop, Ok, Option, Some, None, refl, sym, ap, ◌∙◌, subst, arith, MatchResult, codes, option_map, not, ◌&&◌, list_any, and_parts, not-true, take-append-drop, bytes_eq-Decides, NoEnd, Reads, StopsAt, Sentence, New, Blank, Define, Mapping, View, Load, Assign, Update, Actors, Kernel, Reduce, Count, Copy, Relayout, Show, Drop, Bytes, Save, Open, Advise, PrintWindow, Stencil, deepest, Version, Two, canonical, line_of, ExtentWord, Fixed, Rows, extent_of, is_rows, Fields, Single, Record, Array, StoreMode, Strict, Wrap, Header, four_bytes, two_lines, is_wrap, record_line, view_line, record_text, view_text, header_text, IsShort, is_nameless, HasLine, HasLines, same_bytes, bytes_to_line_end, line_told, fields_told, is_plain, new_told, mode_by, with_record, header_told, behind_first, behind_size, header_at}
+use Rattle.blob_file.proofs.Imports.{◌≡◌, ℕ, ◌≤◌, Bool, true, false, List, [], ◌∷◌, ◌++◌, length, map, take, drop, Ok, Option, Some, None, refl, sym, ap, ◌∙◌, subst, arith, MatchResult, codes, option_map, not, ◌&&◌, list_any, and_parts, not-true, take-append-drop, bytes_eq-Decides, NoEnd, Reads, StopsAt, Sentence, New, Define, View, deepest, Version, Two, canonical, line_of, ExtentWord, Fixed, Rows, extent_of, is_rows, Fields, Record, StoreMode, Strict, Wrap, Header, four_bytes, two_lines, is_wrap, record_line, view_line, record_text, view_text, header_text, IsShort, is_nameless, HasLine, HasLines, same_bytes, bytes_to_line_end, line_told, fields_told, is_plain, new_told, mode_by, with_record, header_told, behind_first, behind_size, header_at}
 use Rattle.blob_file.proofs.Told.{some_if, if_some, told_some, told_parts, line_is, reads_told}
 use Rattle.blob_file.proofs.Cuts.{line_cut, line_parts, lines_behind}
 
@@ -38,55 +38,13 @@ fields_are (Some (Define name (Record held))) fields e =
     let told = some_if (same_bytes name (codes "R")) held fields e in
     let named : name ≡ codes "R" = (bytes_eq-Decides name (codes "R")).0 told.0 in
     ap (λ (n : List ℕ). Some (Define n (Record held))) named ∙ ap (λ (f : Fields). Some (Define (codes "R") (Record f))) told.1
-fields_are (Some (Define name (Single kind))) fields e = absurd (cc e)
-fields_are (Some (Define name (Array len element))) fields e = absurd (cc e)
-fields_are None fields e = absurd (cc e)
-fields_are (Some Blank) fields e = absurd (cc e)
-fields_are (Some (Mapping name term)) fields e = absurd (cc e)
-fields_are (Some (View new)) fields e = absurd (cc e)
-fields_are (Some (Load new file)) fields e = absurd (cc e)
-fields_are (Some (Assign view index path value)) fields e = absurd (cc e)
-fields_are (Some (Update view filter sets)) fields e = absurd (cc e)
-fields_are (Some (Actors view filter sets cuts seed turns)) fields e = absurd (cc e)
-fields_are (Some (Kernel view text lanes)) fields e = absurd (cc e)
-fields_are (Some (Reduce view kind path)) fields e = absurd (cc e)
-fields_are (Some (Count view filter)) fields e = absurd (cc e)
-fields_are (Some (Copy source target)) fields e = absurd (cc e)
-fields_are (Some (Relayout view term)) fields e = absurd (cc e)
-fields_are (Some (Show kind view)) fields e = absurd (cc e)
-fields_are (Some (Drop view)) fields e = absurd (cc e)
-fields_are (Some (Bytes view blob)) fields e = absurd (cc e)
-fields_are (Some (Save view)) fields e = absurd (cc e)
-fields_are (Some (Open name file)) fields e = absurd (cc e)
-fields_are (Some (Advise view granule passes maps splits)) fields e = absurd (cc e)
-fields_are (Some (PrintWindow view window)) fields e = absurd (cc e)
-fields_are (Some (Stencil view window path terms divisor rounds)) fields e = absurd (cc e)
+fields_are _ fields e = absurd (cc e)
 
 new_is : (read : Option Sentence) (new : New) → new_told read ≡ Some new → (read ≡ Some (View new)) × (is_plain new ≡ true)
 new_is (Some (View found)) new e =
     let told = some_if (is_plain found) found new e in
     (ap (λ (n : New). Some (View n)) told.1, subst (λ (n : New). is_plain n ≡ true) told.1 told.0)
-new_is None new e = absurd (cc e)
-new_is (Some Blank) new e = absurd (cc e)
-new_is (Some (Define name tree)) new e = absurd (cc e)
-new_is (Some (Mapping name term)) new e = absurd (cc e)
-new_is (Some (Load found file)) new e = absurd (cc e)
-new_is (Some (Assign view index path value)) new e = absurd (cc e)
-new_is (Some (Update view filter sets)) new e = absurd (cc e)
-new_is (Some (Actors view filter sets cuts seed turns)) new e = absurd (cc e)
-new_is (Some (Kernel view text lanes)) new e = absurd (cc e)
-new_is (Some (Reduce view kind path)) new e = absurd (cc e)
-new_is (Some (Count view filter)) new e = absurd (cc e)
-new_is (Some (Copy source target)) new e = absurd (cc e)
-new_is (Some (Relayout view term)) new e = absurd (cc e)
-new_is (Some (Show kind view)) new e = absurd (cc e)
-new_is (Some (Drop view)) new e = absurd (cc e)
-new_is (Some (Bytes view blob)) new e = absurd (cc e)
-new_is (Some (Save view)) new e = absurd (cc e)
-new_is (Some (Open name file)) new e = absurd (cc e)
-new_is (Some (Advise view granule passes maps splits)) new e = absurd (cc e)
-new_is (Some (PrintWindow view window)) new e = absurd (cc e)
-new_is (Some (Stencil view window path terms divisor rounds)) new e = absurd (cc e)
+new_is _ new e = absurd (cc e)
 
 -- the parts of a view that is plain
 pub record IsPlain (new : New) : Type 0 where

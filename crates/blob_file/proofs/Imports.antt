@@ -67,7 +67,7 @@ pub use Rattle.views.specs.RunsLaws.{run_entry, run_length, AreBefore, raised_lo
 pub use Rattle.views.specs.Tables.{Table, IsTable, answer_of, kept_of, leaf_count_of, leaf_type_of, leaf_types_of, owners_of, table_holds, after_stores, blob_bits_of}
 pub use Rattle.views.specs.TallyLaws.{after_stores-append, logs_more, after_log-none}
 pub use Rattle.record_dim.specs.Trees.{Fields, End, Field as More, Tree, Single, Record, Array, tree_of, IsRecord}
-pub use Rattle.line_grammar.specs.Sentences.{New, Define, View, sentence_of, Sentence, Blank, Mapping, Load, Assign, Update, Actors, Kernel, Reduce, Count, Copy, Relayout, Show, Drop, Bytes, Save, Open, Advise, PrintWindow, Stencil, deepest}
+pub use Rattle.line_grammar.specs.Sentences.{New, Define, View, sentence_of, Sentence, deepest}
 pub use Rattle.extents.specs.declared.words.ExtentWord.{ExtentWord}
 pub use Rattle.record_dim.specs.declared.dim.Dim.{Dim}
 pub use Rattle.map_expr.specs.declared.expr.MapExpr.{MapExpr}
