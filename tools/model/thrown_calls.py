@@ -57,7 +57,7 @@ class Calls(Script):
         """Rarely a layout whose canonical text is longer than that of a file may be."""
         if one_in(self.dice, 150) and leaves:
             path = leaves[0].path
-            text = f'bitsoa(3{{{",".join([f"{path}:1"] * (3900 // (len(path) + 3)))}}},row)'
+            text = f'bitsoa(3{{{",".join([f"{path}:1"] * (3500 // (len(path) + 3)))}}},row)'
             return text, self.whole(text)
         return super().layout_for(leaves)
 
