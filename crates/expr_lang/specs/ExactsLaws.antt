@@ -118,7 +118,8 @@ op_answer Or x y o is goes small = or_answer (is_true x) y (o >>= (λ y. no_read
 
 -- an operator over two sides whose answers are their exact values
 binary_answer : (row : List ℤ) (index : List ℕ) (op : BinOp) (left right : Term ℕ) → (outcome_of row index left).answer ≡ Ok (exact_of row index left)
-    → (outcome_of row index right).answer ≡ Ok (exact_of row index right) → has_result op (exact_of row index right) ≡ true → unsigned_abs (exact_by op (exact_of row index left) (exact_of row index right)) < 2 ^ 63
+    → (outcome_of row index right).answer ≡ Ok (exact_of row index right) → has_result op (exact_of row index right) ≡ true
+    → unsigned_abs (exact_by op (exact_of row index left) (exact_of row index right)) < 2 ^ 63
     → (outcome_of row index (Binary op left right)).answer ≡ Ok (exact_of row index (Binary op left right))
 binary_answer row index op left right one two total small =
     let x : ℤ = exact_of row index left in
