@@ -1,5 +1,7 @@
 -- Along the links of a chain: what holds for all of it holds for its front, and how deep is what is left.
-use Rattle.std.proofs.Common.{◌≡◌, ◌∙◌, ℕ, ◌≤◌, List, sym, ap, subst, arith}
+use Rattle.std.proofs.Common.{◌≡◌, ◌∙◌, ℕ, ◌≤◌, pos, List, refl, sym, ap, subst, arith}
+use Rattle.expr_lang.specs.declared.bound.Operand.{Operand}
+use Rattle.expr_lang.specs.declared.bound.Operand.TheVariants as operand
 use Rattle.expr_lang.specs.declared.bound.Links.{Links, size-Links}
 use Rattle.expr_lang.specs.declared.bound.Links.TheViews.{deep-More', size-Link}
 use Rattle.expr_lang.specs.declared.bound.Links.TheBlock.{the_depth}
@@ -8,10 +10,10 @@ use denote.Hole.Carrier.{fold}
 use Rattle.expr_lang.specs.declared.bound.Links.TheVariants as links
 use Rattle.expr_lang.specs.declared.bound.Step.{Step}
 use Rattle.expr_lang.specs.declared.bound.Step.TheVariants as step
-use Rattle.expr_lang.specs.Terms.{Term, IsWithin}
-use Rattle.expr_lang.specs.Chains.{step_term, links_term, IsStepWithin, AreWithin}
-use Rattle.expr_lang.specs.Inner.Exacts.{IsSafe}
-use Rattle.expr_lang.specs.Inner.Steps.{IsStepSafe, AreStepsSafe}
+use Rattle.expr_lang.specs.Terms.{Term, Number, Entry, Index, IsWithin}
+use Rattle.expr_lang.specs.Chains.{operand_term, step_term, links_term, IsStepWithin, AreWithin}
+use Rattle.expr_lang.specs.Inner.Exacts.{has_result, number_in, IsSafe}
+use Rattle.expr_lang.specs.Inner.Steps.{lone_part, right_value, IsStepSafe, AreStepsSafe}
 
 -- what holds for the whole holds for the front, where it does so for one step
 front : (P : Term ℕ → Type 0) → ((term : Term ℕ) (s : Step) → P (step_term term s) → P term) → (term : Term ℕ) (l : Links) → P (links_term term l) → P term
@@ -40,6 +42,22 @@ module _ (leaves rank : ℕ) where
   pub within_rest : (all rest after : Links) (s : Step) (p : _) → all ≡ links.More' p s rest → after ≡ rest → AreWithin leaves rank all → AreWithin leaves rank after
   within_rest all rest after s p is two within = subst (AreWithin leaves rank) (sym two) (subst (AreWithin leaves rank) is within).1
 
+-- what a step has made is no number
+no_number : (term : Term ℕ) (s : Step) (l : Links) → number_in (links_term (step_term term s) l) ≡ pos 0
+no_number term step.Neg links.End = refl
+no_number term step.Not links.End = refl
+no_number term (step.Binary' op first rest) links.End = refl
+no_number term s (links.More' p next rest) = no_number (step_term term s) next rest
+
+-- the number that a chain is
+pub lone_is : (first : Operand) (l : Links) → right_value (lone_part first l) (pos 0) ≡ number_in (links_term (operand_term first) l)
+lone_is (operand.Number number) links.End = refl
+lone_is (operand.Leaf leaf) links.End = refl
+lone_is (operand.Index dimension) links.End = refl
+lone_is (operand.Number number) (links.More' p s rest) = sym (no_number (Number number) s rest)
+lone_is (operand.Leaf leaf) (links.More' p s rest) = sym (no_number (Entry leaf) s rest)
+lone_is (operand.Index dimension) (links.More' p s rest) = sym (no_number (Index dimension) s rest)
+
 module _ (leaves places : List ℕ) where
   safe_back : (term : Term ℕ) (s : Step) → IsSafe leaves places (step_term term s) → IsSafe leaves places term
   safe_back term step.Neg h = h
@@ -49,7 +67,7 @@ module _ (leaves places : List ℕ) where
   safe_step : (term : Term ℕ) (s : Step) → IsSafe leaves places (step_term term s) → IsStepSafe leaves places s
   safe_step term step.Neg h = tt
   safe_step term step.Not h = tt
-  safe_step term (step.Binary' op first rest) h = (h.1, h.2)
+  safe_step term (step.Binary' op first rest) h = (h.1, ap (has_result op) (lone_is first rest) ∙ h.2)
 
   pub safe_front : (term : Term ℕ) (l : Links) → IsSafe leaves places (links_term term l) → IsSafe leaves places term
   safe_front = front (IsSafe leaves places) safe_back

@@ -1,14 +1,16 @@
 -- Where no part of a term can fail, its value is the exact one.
-use Rattle.std.proofs.Common.{◌≡◌, ◌∙◌, ℕ, ◌+◌, ◌*◌, ◌^◌, ◌<◌, ◌≤◌, max, Bool, true, false, cond, not, ◌&&◌, ◌||◌, ℤ, pos, negsuc, neg_ℤ, ◌+ℤ◌, ◌-ℤ◌, ◌*ℤ◌, ◌≤ℤ◌, List, Some, None, Result, Ok, refl, ap, arith}
-use Rattle.std.specs.Prelude.{unsigned_abs, int_lt, if◌then◌else◌}
-use Rattle.std.proofs.lemmas.Int.{ints, unsigned_abs-mul}
-use Rattle.std.proofs.Math.Nat.{mul-le-mul}
+use Rattle.std.proofs.Common.{◌≡◌, ◌∙◌, ℕ, ◌+◌, ◌*◌, ◌^◌, ◌<◌, ◌≤◌, max, Bool, true, false, cond, not, ◌&&◌, ◌||◌, ℤ, pos, negsuc, neg_ℤ, ◌+ℤ◌, ◌-ℤ◌, ◌*ℤ◌, ◌≤ℤ◌, List, Some, None, Result, Ok, Err, refl, ap, arith}
+use Rattle.std.specs.Prelude.{suc, ◌/◌, ◌%◌, unsigned_abs, int_lt, int_div, int_rem, if◌then◌else◌}
+use Rattle.std.specs.Ordering.{int_eq}
+use Rattle.std.proofs.lemmas.Int.{ints, unsigned_abs-mul, quot-rem}
+use Rattle.std.proofs.Math.Nat.{mul-le-mul, div-le_self, mod-le}
 use Rattle.expr_lang.specs.declared.expr.BinOp.{BinOp}
 use Rattle.expr_lang.specs.declared.expr.BinOp.TheVariants.{Add, Sub, Mul, Div, Rem, Min, Max, Eq, Ne, Lt, Le, Gt, Ge, And, Or}
 use Rattle.expr_lang.specs.declared.fault.EvalFault.{EvalFault}
+use Rattle.expr_lang.specs.declared.fault.EvalFault.TheVariants.{DivideByZero}
 use Rattle.expr_lang.specs.Terms.{Term, Number, Entry, Index, Neg, Not, Binary}
 use Rattle.expr_lang.specs.Values.{Outcome, no_read, then_from, ◌>>=◌, ranged, truth, is_true, decided, unless_decided, result_of, outcome_of}
-use Rattle.expr_lang.specs.Inner.Exacts.{exact_by, exact_of, most_by, most_of, is_total, IsSafe, IsReached}
+use Rattle.expr_lang.specs.Inner.Exacts.{exact_by, exact_of, most_by, most_of, has_result, number_in, IsSafe, IsReached}
 
 -- ---- how far from 0
 
@@ -38,6 +40,21 @@ abs_product a b m n one two =
     let both : unsigned_abs a * unsigned_abs b ≤ m * n = mul-le-mul one two in
     omega (arith, unsigned_abs-mul a b, both)
 
+abs_quotient : (a b : ℤ) → unsigned_abs (int_div a b) ≤ unsigned_abs a
+abs_quotient (pos a) (pos b) = div-le_self a b
+abs_quotient (pos a) (negsuc b) = omega (arith, abs_negated (pos (a / suc b)), div-le_self a (suc b))
+abs_quotient (negsuc a) (pos b) = omega (arith, abs_negated (pos (suc a / b)), div-le_self (suc a) b)
+abs_quotient (negsuc a) (negsuc b) = div-le_self (suc a) (suc b)
+
+abs_rest : (a b : ℤ) → unsigned_abs (int_rem a b) ≤ unsigned_abs a
+abs_rest (pos a) b = mod-le a (unsigned_abs b)
+abs_rest (negsuc a) b = omega (arith, abs_negated (pos (suc a % unsigned_abs b)), mod-le (suc a) (unsigned_abs b))
+
+abs_remainder : (a b : ℤ) → unsigned_abs (a -ℤ b *ℤ int_div a b) ≤ unsigned_abs a
+abs_remainder a b =
+    let rest : a -ℤ b *ℤ int_div a b ≡ int_rem a b = omega (arith, ints, quot-rem a b) in
+    omega (arith, ap unsigned_abs rest, abs_rest a b)
+
 abs_truth : (b : Bool) → unsigned_abs (truth b) ≤ 1
 abs_truth true = omega arith
 abs_truth false = omega arith
@@ -50,21 +67,25 @@ abs_other : (b : Bool) (x y : ℤ) (m n : ℕ) → unsigned_abs x ≤ m → unsi
 abs_other true x y m n one two = omega (arith, one)
 abs_other false x y m n one two = omega (arith, two)
 
-near_by : (op : BinOp) (x y : ℤ) (m n : ℕ) → is_total op ≡ true → unsigned_abs x ≤ m → unsigned_abs y ≤ n → unsigned_abs (exact_by op x y) ≤ most_by op m n
-near_by Add x y m n goes one two = omega (arith, abs_sum x y, one, two)
-near_by Sub x y m n goes one two = omega (arith, abs_difference x y, one, two)
-near_by Mul x y m n goes one two = abs_product x y m n one two
-near_by Div x y m n goes one two = absurd (cc)
-near_by Rem x y m n goes one two = absurd (cc)
-near_by Min x y m n goes one two = abs_either (int_lt y x) x y m n one two
-near_by Max x y m n goes one two = abs_other (int_lt y x) x y m n one two
-near_by other x y m n goes one two = abs_truth _
+near_by : (op : BinOp) (x y : ℤ) (m n : ℕ) → unsigned_abs x ≤ m → unsigned_abs y ≤ n → unsigned_abs (exact_by op x y) ≤ most_by op m n
+near_by Add x y m n one two = omega (arith, abs_sum x y, one, two)
+near_by Sub x y m n one two = omega (arith, abs_difference x y, one, two)
+near_by Mul x y m n one two = abs_product x y m n one two
+near_by Div x y m n one two = omega (arith, abs_quotient x y, one)
+near_by Rem x y m n one two = omega (arith, abs_remainder x y, one)
+near_by Min x y m n one two = abs_either (int_lt y x) x y m n one two
+near_by Max x y m n one two = abs_other (int_lt y x) x y m n one two
+near_by other x y m n one two = abs_truth _
 
 -- ---- answers
 
 in_range : (z : ℤ) → unsigned_abs z < 2 ^ 63 → ranged z ≡ Ok z
 in_range (pos n) small = grind (arith, ints)
 in_range (negsuc n) small = grind (arith, ints)
+
+in_divided : (none : Bool) (z : ℤ) → not none ≡ true → unsigned_abs z < 2 ^ 63 → (if none then Err DivideByZero else ranged z) ≡ Ok z
+in_divided true z goes small = absurd (cc)
+in_divided false z goes small = in_range z small
 
 then_answer : (o : Outcome) (x : ℤ) (next : ℤ → Outcome) → o.answer ≡ Ok x → (o >>= next).answer ≡ (next x).answer
 then_answer o x next is = ap (λ (a : Result ℤ EvalFault). (then_from a o.reads next).answer) is
@@ -77,13 +98,13 @@ or_answer : (b : Bool) (y : ℤ) (o : Outcome) → o.answer ≡ Ok (truth (b || 
 or_answer true y o is = refl
 or_answer false y o is = is
 
-op_answer : (op : BinOp) (x y : ℤ) (o : Outcome) → o.answer ≡ Ok y → is_total op ≡ true → unsigned_abs (exact_by op x y) < 2 ^ 63
+op_answer : (op : BinOp) (x y : ℤ) (o : Outcome) → o.answer ≡ Ok y → has_result op y ≡ true → unsigned_abs (exact_by op x y) < 2 ^ 63
     → (unless_decided (decided op x) (o >>= (λ y. no_read (result_of op x y)))).answer ≡ Ok (exact_by op x y)
 op_answer Add x y o is goes small = then_answer o y (λ y. no_read (result_of Add x y)) is ∙ in_range (x +ℤ y) small
 op_answer Sub x y o is goes small = then_answer o y (λ y. no_read (result_of Sub x y)) is ∙ in_range (x -ℤ y) small
 op_answer Mul x y o is goes small = then_answer o y (λ y. no_read (result_of Mul x y)) is ∙ in_range (x *ℤ y) small
-op_answer Div x y o is goes small = absurd (cc)
-op_answer Rem x y o is goes small = absurd (cc)
+op_answer Div x y o is goes small = then_answer o y (λ y. no_read (result_of Div x y)) is ∙ in_divided (int_eq y (pos 0)) (int_div x y) goes small
+op_answer Rem x y o is goes small = then_answer o y (λ y. no_read (result_of Rem x y)) is ∙ in_divided (int_eq y (pos 0)) (x -ℤ y *ℤ int_div x y) goes small
 op_answer Min x y o is goes small = then_answer o y (λ y. no_read (result_of Min x y)) is
 op_answer Max x y o is goes small = then_answer o y (λ y. no_read (result_of Max x y)) is
 op_answer Eq x y o is goes small = then_answer o y (λ y. no_read (result_of Eq x y)) is
@@ -97,7 +118,7 @@ op_answer Or x y o is goes small = or_answer (is_true x) y (o >>= (λ y. no_read
 
 -- an operator over two sides whose answers are their exact values
 binary_answer : (row : List ℤ) (index : List ℕ) (op : BinOp) (left right : Term ℕ) → (outcome_of row index left).answer ≡ Ok (exact_of row index left)
-    → (outcome_of row index right).answer ≡ Ok (exact_of row index right) → is_total op ≡ true → unsigned_abs (exact_by op (exact_of row index left) (exact_of row index right)) < 2 ^ 63
+    → (outcome_of row index right).answer ≡ Ok (exact_of row index right) → has_result op (exact_of row index right) ≡ true → unsigned_abs (exact_by op (exact_of row index left) (exact_of row index right)) < 2 ^ 63
     → (outcome_of row index (Binary op left right)).answer ≡ Ok (exact_of row index (Binary op left right))
 binary_answer row index op left right one two total small =
     let x : ℤ = exact_of row index left in
@@ -106,6 +127,20 @@ binary_answer row index op left right one two total small =
     ∙ op_answer op x y (outcome_of row index right) two total small
 
 -- ---- terms
+
+on_all : (op : BinOp) (y : ℤ) → has_result op (pos 0) ≡ true → has_result op y ≡ true
+on_all Div y goes = absurd (cc)
+on_all Rem y goes = absurd (cc)
+on_all other y goes = refl
+
+-- an operator has a result on each row
+on_rows : (op : BinOp) (row : List ℤ) (index : List ℕ) (term : Term ℕ) → has_result op (number_in term) ≡ true → has_result op (exact_of row index term) ≡ true
+on_rows op row index (Number number) goes = goes
+on_rows op row index (Entry leaf) goes = on_all op _ goes
+on_rows op row index (Index dimension) goes = on_all op _ goes
+on_rows op row index (Neg inner) goes = on_all op _ goes
+on_rows op row index (Not inner) goes = on_all op _ goes
+on_rows op row index (Binary by left right) goes = on_all op _ goes
 
 -- the answer of a term is its exact value, which lies no further from 0 than it may
 pub record IsWorth (row : List ℤ) (index : List ℕ) (term : Term ℕ) (most : ℕ) : Type 0 where
@@ -140,6 +175,6 @@ module _ (leaves places : List ℕ) (row : List ℤ) (index : List ℕ) where
       let second = worth right safe.1 reach.1 in
       let x : ℤ = exact_of row index left in
       let y : ℤ = exact_of row index right in
-      let near : unsigned_abs (exact_by op x y) ≤ most_by op (most_of leaves places left) (most_of leaves places right) = near_by op x y _ _ safe.2 first.near second.near in
+      let near : unsigned_abs (exact_by op x y) ≤ most_by op (most_of leaves places left) (most_of leaves places right) = near_by op x y _ _ first.near second.near in
       let small : unsigned_abs (exact_by op x y) < 2 ^ 63 = omega (arith, near, safe.3) in
-      record { answer = binary_answer row index op left right first.answer second.answer safe.2 small; near = near; small = safe.3 }
+      record { answer = binary_answer row index op left right first.answer second.answer (on_rows op row index right safe.2) small; near = near; small = safe.3 }

@@ -5,6 +5,7 @@ ghost use Rattle.expr_lang.specs.Chains.{operand_term, step_term, chain_term, Is
 ghost use Rattle.expr_lang.specs.Terms.{Term, IsWithin};
 ghost use Rattle.expr_lang.specs.Inner.Mosts.{IsMost, IsMostBy, IsStepMost};
 
+use crate::step::lone_number;
 use crate::{BinOp, Bound, Chain, Links, Operand, Step};
 
 /// The first number that is too far from 0.
@@ -50,7 +51,7 @@ fn step_most(step: &Step, most: u64, leaves: &[u64], places: &[u64], levels: u64
         Step::Binary { op, right } => {
             let below = levels.checked_sub(1)?;
             let other = chain_most(right, leaves, places, below)?;
-            most_by(*op, most, other)
+            most_by(*op, most, other, lone_number(right, leaves, places))
         }
     }
 }
@@ -67,16 +68,20 @@ fn operand_most(operand: Operand, leaves: &[u64], places: &[u64]) -> Option<u64>
     near(most)
 }
 
-fn most_by(op: BinOp, left: u64, right: u64) -> Option<u64>
+// Only by a number is divided here.
+fn most_by(op: BinOp, left: u64, right: u64, number: Option<i64>) -> Option<u64>
     requires left { left < 2 ^ 63 }
     requires right { right < 2 ^ 63 }
-    ensures { IfSome result (IsMostBy op left right) }
+    ensures { IfSome result (IsMostBy op left right number) }
 {
+    if matches!(op, BinOp::Div | BinOp::Rem) && number.unwrap_or(0) == 0 {
+        return None;
+    }
     let most = match op {
         BinOp::Add | BinOp::Sub => left + right,
         BinOp::Mul => left.checked_mul(right)?,
         BinOp::Min | BinOp::Max => left.max(right),
-        BinOp::Div | BinOp::Rem => return None,
+        BinOp::Div | BinOp::Rem => left,
         _ => 1,
     };
     near(most)

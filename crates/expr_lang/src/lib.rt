@@ -21,6 +21,5 @@ pub use evaluation::eval;
 pub use expr::{BinOp, Expr};
 pub use fault::{BindFault, EvalFault};
 pub use numbers::{decided, result_of};
-pub use operators::{apply, apply_number, invert, negate};
 pub use row::Row;
 pub use step::{apply_step, lone_number};

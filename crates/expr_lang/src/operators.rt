@@ -1,7 +1,7 @@
 // Operators on numbers of 64 bits side by side, with no test.
 ghost use Rattle.std.specs.Prelude.{ℕ, ◌≡◌, ◌<◌, true, not, ℤ, pos, neg_ℤ, FitsSigned, length, slice_index_or};
 ghost use Rattle.expr_lang.specs.Values.{truth, is_true};
-ghost use Rattle.expr_lang.specs.Inner.Exacts.{exact_by, is_total};
+ghost use Rattle.expr_lang.specs.Inner.Exacts.{exact_by, has_result};
 ghost use Rattle.expr_lang.specs.Inner.Lanes.{AreFit, AreBy};
 ghost use mir.Syntax.{w64};
 
@@ -10,7 +10,7 @@ use crate::BinOp;
 /// Makes each number on the left the result of the operator with the number beside it. The operator is told apart before the loop, so
 /// that each loop is of one.
 pub fn apply(op: BinOp, left: &mut [i64], right: &[i64])
-    requires total { is_total op ≡ true }
+    requires total { has_result op (pos 0) ≡ true }
     requires long { length right.now ≡ length left.old }
     requires fits { AreFit op left.old (λ k. slice_index_or right.now k (pos 0)) }
     ensures { AreBy op left.old (λ k. slice_index_or right.now k (pos 0)) left.new }
@@ -35,7 +35,7 @@ pub fn apply(op: BinOp, left: &mut [i64], right: &[i64])
 
 /// The same with one number on the right of all.
 pub fn apply_number(op: BinOp, left: &mut [i64], right: i64)
-    requires total { is_total op ≡ true }
+    requires total { has_result op right ≡ true }
     requires fits { AreFit op left.old (λ k. right) }
     ensures { AreBy op left.old (λ k. right) left.new }
 {
@@ -53,7 +53,8 @@ pub fn apply_number(op: BinOp, left: &mut [i64], right: i64)
         BinOp::Ge => each_number(BinOp::Ge, left, right),
         BinOp::And => each_number(BinOp::And, left, right),
         BinOp::Or => each_number(BinOp::Or, left, right),
-        BinOp::Div | BinOp::Rem => unreachable!(),
+        BinOp::Div => each_number(BinOp::Div, left, right),
+        BinOp::Rem => each_number(BinOp::Rem, left, right),
     }
 }
 
@@ -80,7 +81,7 @@ pub fn invert(values: &mut [i64])
 
 #[inline(always)]
 fn each(op: BinOp, left: &mut [i64], right: &[i64])
-    requires total { is_total op ≡ true }
+    requires total { has_result op (pos 0) ≡ true }
     requires long { length right.now ≡ length left.old }
     requires fits { AreFit op left.old (λ k. slice_index_or right.now k (pos 0)) }
     ensures { AreBy op left.old (λ k. slice_index_or right.now k (pos 0)) left.new }
@@ -92,7 +93,7 @@ fn each(op: BinOp, left: &mut [i64], right: &[i64])
 
 #[inline(always)]
 fn each_number(op: BinOp, left: &mut [i64], right: i64)
-    requires total { is_total op ≡ true }
+    requires total { has_result op right ≡ true }
     requires fits { AreFit op left.old (λ k. right) }
     ensures { AreBy op left.old (λ k. right) left.new }
 {
@@ -103,7 +104,7 @@ fn each_number(op: BinOp, left: &mut [i64], right: i64)
 
 #[inline(always)]
 fn result_by(op: BinOp, left: i64, right: i64) -> i64
-    requires total { is_total op ≡ true }
+    requires total { has_result op right ≡ true }
     requires fits { FitsSigned w64 (exact_by op left right) }
     ensures { result ≡ exact_by op left right }
 {
@@ -121,6 +122,7 @@ fn result_by(op: BinOp, left: i64, right: i64) -> i64
         BinOp::Ge => i64::from(left >= right),
         BinOp::And => i64::from(left != 0 && right != 0),
         BinOp::Or => i64::from(left != 0 || right != 0),
-        BinOp::Div | BinOp::Rem => unreachable!(),
+        BinOp::Div => left / right,
+        BinOp::Rem => left.wrapping_rem(right),
     }
 }

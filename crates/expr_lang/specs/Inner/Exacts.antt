@@ -1,5 +1,5 @@
 -- What an expression is worth on a row where nothing can fail, and how far from 0 it may lie.
-use Rattle.std.specs.Prelude.{ℕ, ◌≡◌, ◌+◌, ◌*◌, ◌^◌, ◌<◌, ◌≤◌, max, Bool, true, false, not, ◌&&◌, ◌||◌, ℤ, pos, neg_ℤ, ◌+ℤ◌, ◌-ℤ◌, ◌*ℤ◌, int_lt, int_le, int_div, unsigned_abs, List, slice_index}
+use Rattle.std.specs.Prelude.{ℕ, ◌≡◌, ◌+◌, ◌*◌, ◌^◌, ◌<◌, ◌≤◌, max, Bool, true, not, ◌&&◌, ◌||◌, ℤ, pos, neg_ℤ, ◌+ℤ◌, ◌-ℤ◌, ◌*ℤ◌, int_lt, int_le, int_div, unsigned_abs, List, slice_index}
 use Rattle.std.specs.List.{slice_index_or}
 use Rattle.std.specs.Int.{int_min, int_max}
 use Rattle.std.specs.Ordering.{int_eq}
@@ -53,11 +53,16 @@ most_of leaves places (Neg inner) = most_of leaves places inner
 most_of leaves places (Not inner) = 1
 most_of leaves places (Binary op left right) = most_by op (most_of leaves places left) (most_of leaves places right)
 
--- an operator that has a result on all sides
-abbrev pub is_total : BinOp → Bool
-is_total Div = false
-is_total Rem = false
-is_total _ = true
+-- an operator has a result where this number is its right side
+abbrev pub has_result : BinOp → ℤ → Bool
+has_result Div y = is_true y
+has_result Rem y = is_true y
+has_result _ y = true
+
+-- the number that a term is, and 0 where it is none
+abbrev pub number_in : Term ℕ → ℤ
+number_in (Number number) = number
+number_in _ = pos 0
 
 -- every part of a term has a result on all rows, and lies less than 2^63 from 0
 abbrev pub IsSafe : List ℕ → List ℕ → Term ℕ → Type 0
@@ -67,7 +72,7 @@ IsSafe leaves places (Index dimension) = slice_index places dimension < 2 ^ 63
 IsSafe leaves places (Neg inner) = IsSafe leaves places inner
 IsSafe leaves places (Not inner) = IsSafe leaves places inner
 IsSafe leaves places (Binary op left right) =
-    IsSafe leaves places left × IsSafe leaves places right × (is_total op ≡ true) × (most_by op (most_of leaves places left) (most_of leaves places right) < 2 ^ 63)
+    IsSafe leaves places left × IsSafe leaves places right × (has_result op (number_in right) ≡ true) × (most_by op (most_of leaves places left) (most_of leaves places right) < 2 ^ 63)
 
 -- each entry of a row that a term names lies so near to 0, and each number of its index
 abbrev pub IsReached : List ℕ → List ℕ → List ℤ → List ℕ → Term ℕ → Type 0

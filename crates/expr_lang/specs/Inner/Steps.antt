@@ -1,5 +1,5 @@
 -- What a step makes of a value, where the value of its right side stands beside it.
-use Rattle.std.specs.Prelude.{ℕ, ◌≡◌, true, not, ℤ, neg_ℤ, FitsSigned, List, Option, Some, None}
+use Rattle.std.specs.Prelude.{ℕ, ◌≡◌, true, not, ℤ, pos, neg_ℤ, FitsSigned, List, Option, Some, None}
 use mir.Syntax.{w64}
 use Rattle.expr_lang.specs.declared.bound.Operand.{Operand}
 use Rattle.expr_lang.specs.declared.bound.Operand.TheVariants as operand
@@ -10,7 +10,7 @@ use Rattle.expr_lang.specs.declared.bound.Step.TheVariants as step
 use Rattle.expr_lang.specs.Terms.{Term}
 use Rattle.expr_lang.specs.Values.{truth, is_true}
 use Rattle.expr_lang.specs.Chains.{operand_term, links_term}
-use Rattle.expr_lang.specs.Inner.Exacts.{exact_by, exact_of, is_total, IsSafe, IsReached}
+use Rattle.expr_lang.specs.Inner.Exacts.{exact_by, exact_of, has_result, IsSafe, IsReached}
 
 -- the number that a chain is, where it is no more than one
 abbrev pub lone_part : Operand → Links → Option ℤ
@@ -36,7 +36,7 @@ IsStepFit (step.Binary' op first rest) x y = FitsSigned w64 (exact_by op x (righ
 
 -- it has a result of all sides, and no part of its right side can fail; the same of each step of links
 abbrev pub IsStepSafe : List ℕ → List ℕ → Step → Type 0
-IsStepSafe leaves places (step.Binary' op first rest) = IsSafe leaves places (links_term (operand_term first) rest) × (is_total op ≡ true)
+IsStepSafe leaves places (step.Binary' op first rest) = IsSafe leaves places (links_term (operand_term first) rest) × (has_result op (right_value (lone_part first rest) (pos 0)) ≡ true)
 IsStepSafe leaves places _ = Unit {0}
 
 abbrev pub AreStepsSafe : List ℕ → List ℕ → Links → Type 0
