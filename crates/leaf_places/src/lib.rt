@@ -1,0 +1,10 @@
+//! Where the numbers of a leaf of a view lie, in few numbers: for callers who read them with no call.
+#![tactic(auto)]
+
+mod find;
+mod form;
+mod groups;
+mod told;
+
+pub use find::places_of;
+pub use told::Places;
