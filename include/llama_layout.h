@@ -271,7 +271,7 @@ typedef struct lly_places {
 } lly_places;
 
 /* The places of a leaf. LLY_NO_PLACE where there is no such leaf. LLY_IRREGULAR where they are none of this form: where accesses are counted, under bytesplit,
- * of fields of 58 to 63 bits, in blocks that are no power of two of rows, and by columns or in Morton order over more than two extents. On a refusal *places
+ * of more than 57 bits that are no whole bytes, in blocks that are no power of two of rows, and by columns or in Morton order over more than two extents. On a refusal *places
  * stays as it was. llama_layout_places.h has C that reads by them.
  */
 int32_t lly_place(lly_view *view, size_t leaf, lly_places *places, lly_fault *fault);

@@ -80,69 +80,90 @@ public:
         using pointer = const Number *;
         using reference = Number;
 
-        iterator(const run &of, std::uint64_t row) : of_(&of), row_(row) {}
-        Number operator*() const { return (*of_)[row_]; }
+        iterator(const run &of, typename Read::cursor at) : of_(&of), at_(at) {}
+        Number operator*() const { return of_->read_(of_->blob_, of_->spot_, at_); }
         iterator &operator++() {
-            ++row_;
+            at_ += Read::step(of_->apart_);
             return *this;
         }
-        iterator operator++(int) { return {*of_, row_++}; }
-        bool operator==(const iterator &other) const { return row_ == other.row_; }
-        bool operator!=(const iterator &other) const { return row_ != other.row_; }
+        iterator operator++(int) {
+            const iterator old = *this;
+            ++*this;
+            return old;
+        }
+        bool operator==(const iterator &other) const { return at_ == other.at_; }
+        bool operator!=(const iterator &other) const { return at_ != other.at_; }
 
     private:
         const run *of_;
-        std::uint64_t row_;
+        typename Read::cursor at_;
     };
 
     run(const std::uint8_t *blob, std::uint64_t first, std::uint64_t spot, std::uint64_t apart, std::uint64_t rows, Read read)
-        : blob_(blob), first_(first), spot_(spot), apart_(apart), rows_(rows), read_(read) {}
+        : blob_(blob), first_(first), spot_(spot), apart_(apart ? apart : 1), rows_(rows), read_(read) {}
 
     /// The row of the view that is its first, and how many it has.
     std::uint64_t first() const { return first_; }
     std::uint64_t size() const { return Rows ? Rows : rows_; }
-    Number operator[](std::uint64_t row) const { return read_(blob_, spot_ + row * read_.apart(apart_)); }
-    iterator begin() const { return {*this, 0}; }
-    iterator end() const { return {*this, size()}; }
+    Number operator[](std::uint64_t row) const { return read_(blob_, spot_, at(row)); }
+    iterator begin() const { return {*this, at(0)}; }
+    iterator end() const { return {*this, at(size())}; }
 
 private:
+    typename Read::cursor at(std::uint64_t row) const { return Read::first(blob_, spot_) + row * Read::step(apart_); }
+
     const std::uint8_t *blob_;
     std::uint64_t first_, spot_, apart_, rows_;
     Read read_;
 };
 
-// How a number is read: whole bytes, which in a dense run stand one behind another; the same in reverse order; fields, near the end of a blob by a load that
-// does not pass it.
+// How a number is read where a cursor stands: whole bytes by their addresses, and in a dense run by their number, of which compilers make loops over vectors; the
+// same in reverse order, and fields near the end of a blob, by a load that does not pass it; other fields.
 template <typename Number>
 struct read_whole {
-    static std::uint64_t apart(std::uint64_t lane) { return lane; }
-    Number operator()(const std::uint8_t *blob, std::uint64_t spot) const {
+    using cursor = const std::uint8_t *;
+    static cursor first(const std::uint8_t *blob, std::uint64_t spot) { return blob + spot; }
+    static std::uint64_t step(std::uint64_t apart) { return apart; }
+    Number operator()(const std::uint8_t *, std::uint64_t, cursor at) const {
         Number number;
-        std::memcpy(&number, blob + spot, sizeof number);
+        std::memcpy(&number, at, sizeof number);
         return number;
     }
 };
 
 template <typename Number>
-struct read_dense : read_whole<Number> {
-    static std::uint64_t apart(std::uint64_t) { return sizeof(Number); }
+struct read_dense {
+    using cursor = std::uint64_t;
+    static cursor first(const std::uint8_t *, std::uint64_t) { return 0; }
+    static std::uint64_t step(std::uint64_t) { return 1; }
+    Number operator()(const std::uint8_t *blob, std::uint64_t spot, cursor row) const {
+        Number number;
+        std::memcpy(&number, blob + spot + row * sizeof number, sizeof number);
+        return number;
+    }
+};
+
+struct by_spots {
+    using cursor = std::uint64_t;
+    static cursor first(const std::uint8_t *, std::uint64_t spot) { return spot; }
+    static std::uint64_t step(std::uint64_t apart) { return apart; }
 };
 
 template <typename Number>
-struct read_any {
+struct read_any : by_spots {
     lly_places places;
-    static std::uint64_t apart(std::uint64_t lane) { return lane; }
-    Number operator()(const std::uint8_t *blob, std::uint64_t spot) const { return static_cast<Number>(lly_number_at(blob, &places, spot)); }
+    explicit read_any(const lly_places &places) : places(places) {}
+    Number operator()(const std::uint8_t *blob, std::uint64_t, cursor spot) const { return static_cast<Number>(lly_number_at(blob, &places, spot)); }
 };
 
 template <typename Number>
-struct read_field {
+struct read_field : by_spots {
     std::uint64_t ones, half;
-    static std::uint64_t apart(std::uint64_t lane) { return lane; }
-    Number operator()(const std::uint8_t *blob, std::uint64_t spot) const {
+    read_field(std::uint64_t ones, std::uint64_t half) : ones(ones), half(half) {}
+    Number operator()(const std::uint8_t *blob, std::uint64_t, cursor bit) const {
         std::uint64_t word;
-        std::memcpy(&word, blob + spot / 8, sizeof word);
-        return static_cast<Number>((((word >> spot % 8) & ones) ^ half) - half);
+        std::memcpy(&word, blob + bit / 8, sizeof word);
+        return static_cast<Number>((((word >> bit % 8) & ones) ^ half) - half);
     }
 };
 
@@ -169,7 +190,7 @@ public:
         if (places_.in_bits) {
             by_fields(each);
         } else if (places_.in_digits || places_.is_turned) {
-            by(read_any<Number>{places_}, each);
+            by(read_any<Number>(places_), each);
         } else if (places_.lane != sizeof(Number)) {
             by(read_whole<Number>(), each);
         } else if (places_.lanes == 8) {
@@ -205,8 +226,8 @@ private:
     // Of the fields of a run those go first of which eight bytes lie in the blob.
     template <typename Each>
     void by_fields(Each &each) const {
-        const read_field<Number> near{~(~std::uint64_t(0) << places_.width), places_.is_signed ? std::uint64_t(1) << (places_.width - 1) : 0};
-        const read_any<Number> last{places_};
+        const read_field<Number> near(~(~std::uint64_t(0) << places_.width), places_.is_signed ? std::uint64_t(1) << (places_.width - 1) : 0);
+        const read_any<Number> last(places_);
         const std::uint64_t end = places_.bytes < 8 ? 0 : 8 * (places_.bytes - 7);
         for (std::uint64_t row = 0, count; row < rows_; row += count) {
             count = lly_even(&places_, row, rows_ - row);
