@@ -79,9 +79,11 @@ WORKS(bits)
 __attribute__((noipa)) static void sum_column(const lly::column<std::int32_t> &column, std::int64_t *sums) {
     std::int64_t sum = 0;
     column.runs([&](auto numbers) {
+        std::int64_t part = 0;
         for (const std::int64_t x : numbers) {
-            sum += x;
+            part += x;
         }
+        sum += part;
     });
     sums[0] += sum;
 }
