@@ -33,7 +33,7 @@ pub use Rattle.line_tokens.specs.Bytes.{is_hash}
 pub use Rattle.line_tokens.specs.Next.{token_at, placed}
 pub use Rattle.worlds.specs.Outcome.{End, Output, Unread, Gives, IsText}
 pub use Rattle.line_grammar.specs.Reads.{tokens_of}
-unfoldable pub use Rattle.phrases.specs.Reading.{steps_at}
+unfoldable pub use Rattle.line_grammar.specs.Reading.{steps_at}
 pub use Rattle.map_expr.specs.Terms.{Aos, Count}
 pub use Rattle.extents.specs.declared.words.ExtentWord.TheVariants.{Rows}
 pub use Rattle.extents.specs.declared.order.Order.TheVariants.{Row}
@@ -68,6 +68,6 @@ pub use Rattle.layout_cli.specs.Generated.{generated_lines, generated_files, wit
 unfoldable pub use Rattle.layout_cli.specs.Generated.{script_text, dataset_text}
 pub use Rattle.layout_cli.specs.Numbers.{is_number_word, IsNumberWord}
 unfoldable pub use Rattle.layout_cli.specs.Numbers.{generated_rows}
-pub use Rattle.phrases.specs.Grammar.{Is}
-pub use Rattle.phrases.specs.LeavesLaws.{Leaves, leaves}
-pub use Rattle.phrases.specs.LineLaws.{line_found}
+pub use Rattle.line_grammar.specs.Grammar.{Is}
+pub use Rattle.line_grammar.specs.LeavesLaws.{Leaves, leaves}
+pub use Rattle.line_grammar.specs.LineLaws.{line_found}

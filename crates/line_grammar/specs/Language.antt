@@ -1,8 +1,8 @@
 -- The grammar of a line, phrase by phrase, as values. A word or a sign in `behind` stands for itself, and `joined` puts one phrase
 -- behind another. `version` is the version of the language.
 use Rattle.std.specs.Prelude.{ℕ, zero, suc, Bool, true, false, List, [], ◌∷◌, Option, Some, None, codes, ℤ, neg_ℤ, Result}
-use Rattle.phrases.specs.Grammar.{Grammar, item, behind, joined, either, which, nothing, repeats, deep, more, Is}
-use Rattle.phrases.specs.Reading.{at}
+use Rattle.line_grammar.specs.Grammar.{Grammar, item, behind, joined, either, which, nothing, repeats, deep, more, Is}
+use Rattle.line_grammar.specs.Reading.{at}
 use Rattle.line_tokens.specs.declared.sign.Sign.TheVariants.{OpenBrace, CloseBrace, OpenBracket, CloseBracket, OpenParen, CloseParen, Colon, Comma, Dot, Equals, Minus, Star, Slash, Arrow, Question}
 use Rattle.record_dim.specs.declared.path.PathStep.{PathStep}
 use Rattle.record_dim.specs.declared.path.PathStep.TheVariants as step

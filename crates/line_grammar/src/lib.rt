@@ -1,4 +1,5 @@
-//! The lines of the script language: their types, their tokens and their grammar.
+//! The lines of the script language: their types, their tokens and their grammar. Below these, for any tokens: the words of a
+//! grammar, how phrases of it are read, and where reading them stops.
 #![tactic(auto)]
 
 mod file_name;

@@ -1,9 +1,9 @@
 -- What the proofs of this crate speak of.
 pub use Rattle.std.proofs.Common.{◌≡◌, ℕ, suc, ◌+◌, true, false, List, Option, Some, Result, Ok, Err, codes, refl, sym, ap, ◌∙◌, add-one, [], map, ◌<◌, ◌≤◌, ◌*◌, length, zero, vec_len}
-pub use Rattle.phrases.specs.Reading.{◌>>=◌, starts, past, item_at, give_at}
-pub use Rattle.phrases.specs.Grammar.{Grammar, behind, nothing}
-pub use Rattle.phrases.specs.TakesLaws.{takes}
-pub use Rattle.phrases.specs.RepeatedLaws.{Shrinks, steps_end, steps_stepped, steps_stop}
+pub use Rattle.line_grammar.specs.Reading.{◌>>=◌, starts, past, item_at, give_at}
+pub use Rattle.line_grammar.specs.Grammar.{Grammar, behind, nothing}
+pub use Rattle.line_grammar.specs.TakesLaws.{takes}
+pub use Rattle.line_grammar.specs.RepeatedLaws.{Shrinks, steps_end, steps_stepped, steps_stop}
 pub use Rattle.line_tokens.specs.declared.sign.Sign.TheVariants.{Minus}
 pub use Rattle.expr_lang.specs.declared.expr.BinOp.{BinOp}
 pub use Rattle.expr_lang.specs.Terms.{Binary, Neg, Not}

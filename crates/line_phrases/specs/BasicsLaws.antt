@@ -1,8 +1,8 @@
 -- The tokens of phrases: which one passes a test, an item of each kind, and how tightly a token binds.
 use Rattle.std.proofs.lemmas.Bool.{cases_Bool}
 use Rattle.std.proofs.Common.{◌≡◌, ℕ, Bool, false, if◌then◌else◌, inl, inr, List, Option, Some, None, codes, bytes_eq, pos, refl, ap, sym, ◌∙◌}
-use Rattle.phrases.specs.FineLaws.{Fine}
-use Rattle.phrases.specs.ParsesLaws.{Exact}
+use Rattle.line_grammar.specs.FineLaws.{Fine}
+use Rattle.line_grammar.specs.ParsesLaws.{Exact}
 use Rattle.line_tokens.specs.declared.sign.Sign.{Sign}
 use Rattle.line_tokens.specs.declared.sign.Sign.TheVariants.{OpenBracket, Dot, EqualEqual, NotEqual, LessThan, LessEqual, GreaterThan, GreaterEqual, Plus, Minus, Star, Slash, Percent}
 use Rattle.line_grammar.specs.declared.token.Token.{Token}

@@ -2,12 +2,12 @@
 use Rattle.std.specs.Global.{Global}
 use Rattle.std.specs.Prelude.{Box}
 use Rattle.std.proofs.Common.{◌≡◌, ℕ, zero, suc, ◌≤◌, true, false, inl, List, [], ◌∷◌, ◌++◌, map, Ok, Err, refl, ap, arith}
-use Rattle.phrases.specs.Grammar.{Grammar}
-use Rattle.phrases.specs.Reading.{starts}
-use Rattle.phrases.specs.FineLaws.{Fine, Quiet, anyway, firsts_any}
-use Rattle.phrases.specs.LoopLaws.{list_end, list_stepped, list_stop}
-use Rattle.phrases.specs.UnderLaws.{Under, equal, empty, behind, joined, either, repeats, fewer, alike, wider}
-use Rattle.phrases.specs.WiderLaws.{joined_wider}
+use Rattle.line_grammar.specs.Grammar.{Grammar}
+use Rattle.line_grammar.specs.Reading.{starts}
+use Rattle.line_grammar.specs.FineLaws.{Fine, Quiet, anyway, firsts_any}
+use Rattle.line_grammar.specs.LoopLaws.{list_end, list_stepped, list_stop}
+use Rattle.line_grammar.specs.UnderLaws.{Under, equal, empty, behind, joined, either, repeats, fewer, alike, wider}
+use Rattle.line_grammar.specs.WiderLaws.{joined_wider}
 use Rattle.line_tokens.specs.declared.sign.Sign.TheVariants.{OpenBracket}
 use Rattle.record_dim.specs.declared.dim.Field.{Field as FieldValue}
 use Rattle.record_dim.specs.Trees.{Tree, Fields, Array, End, Field}

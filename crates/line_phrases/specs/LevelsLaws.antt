@@ -3,11 +3,11 @@ use Rattle.std.proofs.lemmas.Bool.{cases_Bool}
 use Rattle.std.proofs.Common.{◌≡◌, ℕ, zero, suc, ◌<◌, Bool, true, false, if◌then◌else◌, inl, inr, List, [], ◌∷◌, Option, Some, None, is_some, bytes_eq, codes, ℤ, refl, sym, ap, ◌∙◌, arith}
 use Rattle.std.specs.List.{list_any}
 use Rattle.std.proofs.lemmas.Slice.Eq.{bytes_eq-Decides}
-use Rattle.phrases.specs.Grammar.{Grammar, item, either, nothing}
-use Rattle.phrases.specs.Reading.{first}
-use Rattle.phrases.specs.FineLaws.{Fine, Firsts, Quiet, Skips, anyway, firsts_any, firsts_more, skips_more}
-use Rattle.phrases.specs.ParsesLaws.{Exact}
-use Rattle.phrases.specs.UnderLaws.{alike, wider}
+use Rattle.line_grammar.specs.Grammar.{Grammar, item, either, nothing}
+use Rattle.line_grammar.specs.Reading.{first}
+use Rattle.line_grammar.specs.FineLaws.{Fine, Firsts, Quiet, Skips, anyway, firsts_any, firsts_more, skips_more}
+use Rattle.line_grammar.specs.ParsesLaws.{Exact}
+use Rattle.line_grammar.specs.UnderLaws.{alike, wider}
 use Rattle.line_tokens.specs.declared.sign.Sign.TheVariants.{OpenBrace, CloseBrace, OpenBracket, CloseBracket, OpenParen, CloseParen, Colon, Comma, Dot, Equals, EqualEqual, NotEqual, LessThan, LessEqual, GreaterThan, GreaterEqual, Plus, Minus, Arrow, Star, Slash, Percent, Question}
 use Rattle.expr_lang.specs.declared.expr.BinOp.{BinOp}
 use Rattle.expr_lang.specs.declared.expr.BinOp.TheVariants.{Add, Mul, Min, Max, Eq, And, Or}

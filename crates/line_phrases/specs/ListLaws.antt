@@ -1,10 +1,10 @@
 -- Lists behind commas and in brackets are read by first tokens, and how their reading goes on.
 use Rattle.std.proofs.Common.{◌≡◌, ℕ, true, false, List, [], ◌∷◌, ◌++◌, map, Ok, Err, sym, ap, ◌∙◌, refl}
 use Rattle.std.proofs.lemmas.List.{map-append}
-use Rattle.phrases.specs.Grammar.{Grammar}
-use Rattle.phrases.specs.Reading.{starts, past, item_at}
-use Rattle.phrases.specs.FineLaws.{Fine, Quiet}
-use Rattle.phrases.specs.LoopLaws.{behind_list_bare, behind_list_end, behind_list_stepped, behind_list_stop}
+use Rattle.line_grammar.specs.Grammar.{Grammar}
+use Rattle.line_grammar.specs.Reading.{starts, past, item_at}
+use Rattle.line_grammar.specs.FineLaws.{Fine, Quiet}
+use Rattle.line_grammar.specs.LoopLaws.{behind_list_bare, behind_list_end, behind_list_stepped, behind_list_stop}
 use Rattle.line_tokens.specs.declared.sign.Sign.TheVariants.{CloseBracket, Comma, Question}
 use Rattle.line_grammar.specs.declared.token.Token.{Token}
 use Rattle.line_grammar.specs.declared.token.Token.TheVariants.{Sign as Signed}

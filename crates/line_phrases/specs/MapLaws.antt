@@ -1,9 +1,9 @@
 -- Mappings, and the widths of chosen leaves in them, are read by first tokens.
 use Rattle.std.proofs.Common.{◌≡◌, ℕ, zero, suc, ◌≤◌, false, inr, List, Option, Some, None, codes, refl, arith}
-use Rattle.phrases.specs.Grammar.{Grammar, Is, item, nothing}
-use Rattle.phrases.specs.FineLaws.{Fine, Quiet, anyway, firsts_any}
-use Rattle.phrases.specs.UnderLaws.{Under, equal, empty, behind, joined, either, fewer, alike, wider}
-use Rattle.phrases.specs.WiderLaws.{Wider, joined_wider}
+use Rattle.line_grammar.specs.Grammar.{Grammar, Is, item, nothing}
+use Rattle.line_grammar.specs.FineLaws.{Fine, Quiet, anyway, firsts_any}
+use Rattle.line_grammar.specs.UnderLaws.{Under, equal, empty, behind, joined, either, fewer, alike, wider}
+use Rattle.line_grammar.specs.WiderLaws.{Wider, joined_wider}
 use Rattle.extents.specs.declared.order.Order.{Order}
 use Rattle.extents.specs.declared.order.Order.TheVariants.{Row}
 use Rattle.line_tokens.specs.declared.sign.Sign.{Sign}

@@ -1,7 +1,7 @@
 -- Expressions with deeper brackets.
 use Rattle.std.proofs.Common.{ℕ, zero, suc, ◌≤◌, inr, Option, refl, arith}
-use Rattle.phrases.specs.Grammar.{Grammar}
-use Rattle.phrases.specs.UnderLaws.{Under, equal, empty, behind, joined, either, repeats, fewer}
+use Rattle.line_grammar.specs.Grammar.{Grammar}
+use Rattle.line_grammar.specs.UnderLaws.{Under, equal, empty, behind, joined, either, repeats, fewer}
 use Rattle.expr_lang.specs.declared.expr.BinOp.{BinOp}
 use Rattle.line_grammar.specs.declared.token.Token.{Token}
 use Rattle.line_grammar.specs.Tokens.{is_same}

@@ -1,8 +1,8 @@
 -- The passes that a layout is chosen for are read by first tokens, and how their reading goes on.
 use Rattle.std.proofs.Common.{◌≡◌, ℕ, true, false, List, [], ◌∷◌, ◌++◌, codes, Ok, Err, refl}
-use Rattle.phrases.specs.Reading.{starts}
-use Rattle.phrases.specs.FineLaws.{Fine, Quiet}
-use Rattle.phrases.specs.LoopLaws.{list_end, list_stepped, list_stop}
+use Rattle.line_grammar.specs.Reading.{starts}
+use Rattle.line_grammar.specs.FineLaws.{Fine, Quiet}
+use Rattle.line_grammar.specs.LoopLaws.{list_end, list_stepped, list_stop}
 use Rattle.line_grammar.specs.declared.line.PassText.{PassText}
 use Rattle.line_grammar.specs.declared.token.Token.{Token}
 use Rattle.line_grammar.specs.Tokens.{is_same, is_word}

@@ -1,9 +1,9 @@
 -- A path is read by first tokens, and how its reading goes on.
 use Rattle.std.proofs.lemmas.Bool.{or_cases}
 use Rattle.std.proofs.Common.{◌≡◌, ℕ, true, false, inl, inr, List, [], ◌∷◌, ◌++◌, Ok, Err, refl, sym, ap}
-use Rattle.phrases.specs.Reading.{first, starts}
-use Rattle.phrases.specs.FineLaws.{Fine, Quiet, may_be_empty}
-use Rattle.phrases.specs.LoopLaws.{list_end, list_stepped, list_stop}
+use Rattle.line_grammar.specs.Reading.{first, starts}
+use Rattle.line_grammar.specs.FineLaws.{Fine, Quiet, may_be_empty}
+use Rattle.line_grammar.specs.LoopLaws.{list_end, list_stepped, list_stop}
 use Rattle.line_tokens.specs.declared.sign.Sign.TheVariants.{OpenBracket, Dot}
 use Rattle.record_dim.specs.declared.path.PathStep.{PathStep}
 use Rattle.line_grammar.specs.declared.token.Token.{Token}

@@ -1,6 +1,6 @@
 -- A number with its sign, a window and the terms of a stencil are read by first tokens.
 use Rattle.std.proofs.Common.{refl}
-use Rattle.phrases.specs.FineLaws.{Fine, Quiet}
+use Rattle.line_grammar.specs.FineLaws.{Fine, Quiet}
 use Rattle.line_tokens.specs.declared.sign.Sign.TheVariants.{Minus, Star}
 use Rattle.line_grammar.specs.declared.token.Token.{Token}
 use Rattle.line_grammar.specs.declared.token.Token.TheVariants.{Sign as Signed}

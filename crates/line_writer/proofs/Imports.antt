@@ -21,9 +21,9 @@ pub use Rattle.map_expr.specs.declared.widths.FieldWidth.{FieldWidth}
 pub use Rattle.line_grammar.specs.declared.token.Token.{Token}
 pub use Rattle.line_grammar.specs.declared.token.Token.TheVariants.{Word, Sign, Number, Text, Bad}
 pub use Rattle.line_grammar.specs.Sentences.{Sentence, Assignment, Value, Assign, Update, Actors, Kernel, Count, filter_depth, deepest_set, deepest, Show, Stencil, assignment_of}
-pub use Rattle.phrases.specs.Phrases.{Joined, IsNothing, Chain}
-pub use Rattle.phrases.specs.Grammar.{Grammar, Is, item, behind, joined, either, which, nothing, repeats, deep, more}
-pub use Rattle.phrases.specs.LeavesLaws.{Splits, Told, Written as InParts, told, written as in_parts}
+pub use Rattle.line_grammar.specs.Phrases.{Joined, IsNothing, Chain}
+pub use Rattle.line_grammar.specs.Grammar.{Grammar, Is, item, behind, joined, either, which, nothing, repeats, deep, more}
+pub use Rattle.line_grammar.specs.LeavesLaws.{Splits, Told, Written as InParts, told, written as in_parts}
 pub use Rattle.record_dim.specs.declared.path.PathStep.{PathStep}
 pub use Rattle.expr_lang.specs.declared.expr.BinOp.{BinOp}
 pub use Rattle.expr_lang.specs.declared.expr.BinOp.TheVariants.{Eq, Ne, Lt, Le, Gt, Ge, Add, Sub, Mul, Div, Rem, Min, Max, And, Or}

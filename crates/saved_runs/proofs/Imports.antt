@@ -35,9 +35,9 @@ pub use Rattle.extents.specs.Shapes.{is_rows, is_zero, extent_of, fixed_product,
 pub use Rattle.extents.specs.ShapeLaws.{same_fixed, product_filled, fixed_positive, product_fixed, product_divided}
 pub use Rattle.extents.specs.declared.words.ExtentWord.{ExtentWord}
 pub use Rattle.extents.specs.declared.words.ExtentWord.TheVariants.{Fixed, Rows}
-pub use Rattle.phrases.specs.Phrases.{Chain}
-pub use Rattle.phrases.specs.Grammar.{Grammar, Is, item, behind as behind_token, joined, either, which, nothing, repeats, deep, more}
-pub use Rattle.phrases.specs.LeavesLaws.{Told as Asked, told as as_asked, Splits}
+pub use Rattle.line_grammar.specs.Phrases.{Chain}
+pub use Rattle.line_grammar.specs.Grammar.{Grammar, Is, item, behind as behind_token, joined, either, which, nothing, repeats, deep, more}
+pub use Rattle.line_grammar.specs.LeavesLaws.{Told as Asked, told as as_asked, Splits}
 pub use Rattle.line_tokens.specs.Spelled.{AreSpelled, spaced_tokens, MayOpen}
 pub use Rattle.line_tokens.specs.declared.sign.Sign.TheVariants.{OpenBracket, CloseBracket, Colon, Comma, Dot, OpenBrace, CloseBrace, OpenParen, CloseParen, Arrow}
 pub use Rattle.record_dim.specs.Trees.{Fields, Record, Tree}

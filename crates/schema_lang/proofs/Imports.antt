@@ -32,7 +32,7 @@ pub use Rattle.line_tokens.specs.Next.{next_of}
 pub use Rattle.line_tokens.specs.declared.token.Next.{Next}
 pub use Rattle.line_tokens.specs.declared.token.Next.TheVariants.{End, Bad}
 pub use Rattle.line_tokens.specs.NextTokenLaws.{next_inside}
-pub use Rattle.phrases.specs.Ended.{ended_at, ended}
+pub use Rattle.line_grammar.specs.Ended.{ended_at, ended}
 pub use Rattle.record_dim.specs.Names.{begins_name, continues_name, is_name}
 pub use Rattle.line_tokens.specs.Bytes.{is_letter, is_word_byte, is_text_byte}
 pub use Rattle.line_tokens.specs.Spelled.{Spells}
@@ -49,12 +49,12 @@ unfoldable pub use Rattle.schema_lang.specs.LineOf.{line_at, line_of}
 pub use Rattle.schema_lang.specs.Inner.Spelled.{IsSpelled, IsSpelledAs}
 pub use Rattle.schema_lang.specs.Inner.NextTokens.{found_token, is_end, token_next}
 pub use Rattle.schema_lang.specs.Parsing.{HasItsFields}
-pub use Rattle.phrases.specs.Grammar.{Grammar}
-pub use Rattle.phrases.specs.Reading.{◌>>=◌, first, item_or}
-pub use Rattle.phrases.specs.ParsesLaws.{ok_parts}
-pub use Rattle.phrases.specs.FineLaws.{Fine, Quiet, anyway, firsts_any}
-pub use Rattle.phrases.specs.LeavesLaws.{Leaves, leaves}
-pub use Rattle.phrases.specs.LineLaws.{line_found, line_full, line_stop}
+pub use Rattle.line_grammar.specs.Grammar.{Grammar}
+pub use Rattle.line_grammar.specs.Reading.{◌>>=◌, first, item_or}
+pub use Rattle.line_grammar.specs.ParsesLaws.{ok_parts}
+pub use Rattle.line_grammar.specs.FineLaws.{Fine, Quiet, anyway, firsts_any}
+pub use Rattle.line_grammar.specs.LeavesLaws.{Leaves, leaves}
+pub use Rattle.line_grammar.specs.LineLaws.{line_found, line_full, line_stop}
 pub use Rattle.line_grammar.specs.Language.{IsSentence, read, count, string, mapping}
 unfoldable pub use Rattle.line_grammar.specs.Language.{actors, assignment, body, bracket_list, command_line, filter, flag, inside_kernel, kernel_text, later, line, listed, new, part, show_end, update_end, window}
 pub use Rattle.line_phrases.specs.BasicsLaws.{apart, count_fine, exact_sign, exact_word, level_of, name_fine}

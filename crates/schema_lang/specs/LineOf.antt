@@ -6,7 +6,7 @@ use Rattle.line_tokens.specs.declared.spots.Spot.{Spot}
 use Rattle.line_tokens.specs.declared.token.Next.{Next}
 use Rattle.line_tokens.specs.declared.token.Next.TheVariants.{End, Bad, Token}
 use Rattle.line_grammar.specs.declared.line.Line.{Line}
-use Rattle.phrases.specs.Ended.{ended_at}
+use Rattle.line_grammar.specs.Ended.{ended_at}
 use Rattle.line_grammar.specs.Language.{read, line}
 use Rattle.line_grammar.specs.Reads.{tokens_of, column_behind}
 use Rattle.line_grammar.specs.Sentences.{Sentence, sentence_of, deepest}

@@ -1,5 +1,5 @@
 ghost use Rattle.std.specs.Prelude.{◌≡◌, IfErr, map, option_map};
-ghost use Rattle.phrases.specs.Reading.{item_at};
+ghost use Rattle.line_grammar.specs.Reading.{item_at};
 ghost use Rattle.expr_lang.specs.Terms.{term_of};
 ghost use Rattle.line_grammar.specs.Sentences.{assignment_of, sentence_of};
 ghost use Rattle.line_grammar.specs.Tokens.{command_of};

@@ -1,7 +1,7 @@
 -- Expressions as they are read, and what is left of a chain behind a left side.
 use Rattle.std.specs.Prelude.{Box, box_value, Bool, Option, None, Some, is_some}
 use Rattle.std.specs.Global.{Global}
-use Rattle.phrases.specs.Grammar.{Grammar, joined}
+use Rattle.line_grammar.specs.Grammar.{Grammar, joined}
 use Rattle.expr_lang.specs.declared.expr.BinOp.{BinOp}
 use Rattle.expr_lang.specs.declared.expr.Expr.{Expr}
 use Rattle.expr_lang.specs.Terms.{Binary, term_of}

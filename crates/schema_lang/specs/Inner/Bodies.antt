@@ -1,6 +1,6 @@
 -- What is read of a line.
 use Rattle.std.specs.Prelude.{Bool, true, false}
-use Rattle.phrases.specs.Grammar.{Grammar}
+use Rattle.line_grammar.specs.Grammar.{Grammar}
 use Rattle.extents.specs.declared.words.ExtentWord.{ExtentWord}
 use Rattle.map_expr.specs.Terms.{term_of as map_of}
 use Rattle.line_grammar.specs.declared.token.Token.{Token}

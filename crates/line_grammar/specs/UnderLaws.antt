@@ -1,12 +1,12 @@
 -- A grammar that is another one with deeper brackets: it has each phrase of that, and lists of at most so many tokens are read alike.
 use Rattle.std.proofs.Common.{◌≡◌, ℕ, zero, suc, Bool, true, false, if◌then◌else◌, List, [], ◌∷◌, length, Result, Ok, Err, refl, ap, ◌∙◌, arith}
-use Rattle.phrases.specs.WiderLaws.{Wider, behind_wider, either_wider, joined_wider, repeats_wider}
-use Rattle.phrases.specs.Grammar.{Grammar, Is}
-use Rattle.phrases.specs.Reading.{first, at, ◌>>=◌, starts, steps_at, steps_within}
-use Rattle.phrases.specs.AlikeLaws.{Alike, alike_below, behind_alike, either_alike, steps_alike, then_alike}
-use Rattle.phrases.specs.TakesLaws.{no_longer}
-use Rattle.phrases.specs.FineLaws.{starts_same}
-use Rattle.phrases.specs.Grammar as grammar
+use Rattle.line_grammar.specs.WiderLaws.{Wider, behind_wider, either_wider, joined_wider, repeats_wider}
+use Rattle.line_grammar.specs.Grammar.{Grammar, Is}
+use Rattle.line_grammar.specs.Reading.{first, at, ◌>>=◌, starts, steps_at, steps_within}
+use Rattle.line_grammar.specs.AlikeLaws.{Alike, alike_below, behind_alike, either_alike, steps_alike, then_alike}
+use Rattle.line_grammar.specs.TakesLaws.{no_longer}
+use Rattle.line_grammar.specs.FineLaws.{starts_same}
+use Rattle.line_grammar.specs.Grammar as grammar
 
 pub data Under {T : Type 0} (same : T → T → Bool) : (A : Type 0) → ℕ → Grammar T A → Grammar T A → Type 1 where
   -- the same phrase

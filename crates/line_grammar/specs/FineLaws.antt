@@ -2,14 +2,14 @@
 -- read on. All of it is computed from the grammar down to conditions on single tokens. Then reading gives each phrase, and stops where
 -- no phrase goes on.
 use Rattle.std.proofs.Common.{◌≡◌, ℕ, zero, suc, ◌⊎◌, inl, inr, Bool, true, false, ◌||◌, List, [], ◌∷◌, ◌++◌, is_some, refl, sym, ap, ◌∙◌, subst, ◌≤◌, Some, append_assoc, Option}
-use Rattle.phrases.specs.ParsesLaws.{Exact, Parses, behind_parses, either_parses, give_parses, item_parses, parses_before, then_parses, which_parses}
-use Rattle.phrases.specs.WiderLaws.{Wider}
-use Rattle.phrases.specs.AlikeLaws.{Alike}
-use Rattle.phrases.specs.Grammar.{Grammar, item, behind, joined, either, which, nothing, repeats, deep, Is}
-use Rattle.phrases.specs.Reading.{first, at, starts}
-use Rattle.phrases.specs.Phrases.{IsItem, Behind, Chain, Joined}
-use Rattle.phrases.specs.RepeatedLaws.{steps_parses}
-use Rattle.phrases.specs.DeepLaws.{deep_parses}
+use Rattle.line_grammar.specs.ParsesLaws.{Exact, Parses, behind_parses, either_parses, give_parses, item_parses, parses_before, then_parses, which_parses}
+use Rattle.line_grammar.specs.WiderLaws.{Wider}
+use Rattle.line_grammar.specs.AlikeLaws.{Alike}
+use Rattle.line_grammar.specs.Grammar.{Grammar, item, behind, joined, either, which, nothing, repeats, deep, Is}
+use Rattle.line_grammar.specs.Reading.{first, at, starts}
+use Rattle.line_grammar.specs.Phrases.{IsItem, Behind, Chain, Joined}
+use Rattle.line_grammar.specs.RepeatedLaws.{steps_parses}
+use Rattle.line_grammar.specs.DeepLaws.{deep_parses}
 
 -- whether the first part of a phrase may have no token
 abbrev pub may_be_empty : {T A : Type 0} → Grammar T A → Bool

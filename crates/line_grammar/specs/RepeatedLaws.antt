@@ -1,9 +1,9 @@
 -- Phrases that repeat a step: how the reader goes on, that each repetition is read, and that reading stops where it must.
 use Rattle.std.proofs.lemmas.Bool.{cases_Bool}
 use Rattle.std.proofs.Common.{◌≡◌, ℕ, zero, suc, ◌≤◌, ◌<◌, Bool, true, false, if◌then◌else◌, inl, inr, List, [], ◌∷◌, ◌++◌, length, Result, Ok, Err, refl, sym, ap, ◌∙◌, append_assoc, length-append, arith}
-use Rattle.phrases.specs.Phrases.{Joined, Chain, Repeats}
-use Rattle.phrases.specs.Reading.{◌>>=◌, starts, steps_within, steps_at}
-use Rattle.phrases.specs.ParsesLaws.{head_of, Found, Stopped, Parses, bind_cases, found_also, joined_found, joined_stops_early, joined_stops_late, ok_parts, starts_alike, stopped_also}
+use Rattle.line_grammar.specs.Phrases.{Joined, Chain, Repeats}
+use Rattle.line_grammar.specs.Reading.{◌>>=◌, starts, steps_within, steps_at}
+use Rattle.line_grammar.specs.ParsesLaws.{head_of, Found, Stopped, Parses, bind_cases, found_also, joined_found, joined_stops_early, joined_stops_late, ok_parts, starts_alike, stopped_also}
 
 -- a step whose phrases begin with a token that passes, and behind whose repetition none stands that passes
 pub record Steps {T A : Type 0} (Step : A → List T → A → Type 0) (test : T → Bool) (step : A → List T → Result (A × List T) ℕ) (Between After : List T → Type 0) : Type 0 where

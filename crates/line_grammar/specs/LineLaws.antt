@@ -1,11 +1,11 @@
 -- Reading all tokens as one phrase of a grammar: it gives each phrase, and stops at the first token with which the tokens begin none.
 use Rattle.std.proofs.Common.{◌≡◌, ℕ, Bool, List, [], ◌∷◌, ◌++◌, Result, Ok, Err, refl, sym, ap, ◌∙◌, append_assoc, append-nil}
-use Rattle.phrases.specs.Column.{Bars, IsStop}
-use Rattle.phrases.specs.Grammar.{Grammar, Is}
-use Rattle.phrases.specs.Reading.{◌>>=◌, at}
-use Rattle.phrases.specs.Ended.{ended, ended_at}
-use Rattle.phrases.specs.ParsesLaws.{head_of, ok_parts}
-use Rattle.phrases.specs.FineLaws.{Fine, parses}
+use Rattle.line_grammar.specs.Column.{Bars, IsStop}
+use Rattle.line_grammar.specs.Grammar.{Grammar, Is}
+use Rattle.line_grammar.specs.Reading.{◌>>=◌, at}
+use Rattle.line_grammar.specs.Ended.{ended, ended_at}
+use Rattle.line_grammar.specs.ParsesLaws.{head_of, ok_parts}
+use Rattle.line_grammar.specs.FineLaws.{Fine, parses}
 
 module _ {T A : Type 0} (same : T → T → Bool) (one : Grammar T A) (f : Fine same one) where
   pub line_full : (tokens : List T) (v : A) → Is one tokens v → ended_at (at same one) tokens ≡ Ok (v, [])

@@ -1,6 +1,6 @@
 -- Reading a phrase that has to be all of the tokens.
 use Rattle.std.specs.Prelude.{ℕ, List, [], ◌∷◌, length, Result, Ok, Err}
-use Rattle.phrases.specs.Reading.{◌>>=◌}
+use Rattle.line_grammar.specs.Reading.{◌>>=◌}
 
 -- a phrase with nothing behind it
 abbrev pub ended : {T A : Type 0} → A → List T → Result (A × List T) ℕ

@@ -1,11 +1,11 @@
 -- What is left is no longer than what was given, and shorter behind a phrase that has a token.
 use Rattle.std.proofs.Common.{◌≡◌, ℕ, zero, suc, ◌+◌, ◌≤◌, ◌<◌, Bool, true, false, ◌||◌, if◌then◌else◌, List, [], ◌∷◌, length, Option, Some, None, Result, Ok, Err, refl, ap, arith}
-use Rattle.phrases.specs.Grammar.{Grammar}
-use Rattle.phrases.specs.Grammar as grammar
-use Rattle.phrases.specs.Reading.{◌>>=◌, first, at, starts, past, item_or, item_at, steps_at, steps_within}
-use Rattle.phrases.specs.FineLaws.{may_be_empty}
-use Rattle.phrases.specs.ParsesLaws.{ok_parts}
-use Rattle.phrases.specs.AlikeLaws.{NoLonger}
+use Rattle.line_grammar.specs.Grammar.{Grammar}
+use Rattle.line_grammar.specs.Grammar as grammar
+use Rattle.line_grammar.specs.Reading.{◌>>=◌, first, at, starts, past, item_or, item_at, steps_at, steps_within}
+use Rattle.line_grammar.specs.FineLaws.{may_be_empty}
+use Rattle.line_grammar.specs.ParsesLaws.{ok_parts}
+use Rattle.line_grammar.specs.AlikeLaws.{NoLonger}
 
 -- each phrase takes a token
 abbrev pub Takes : {T A : Type 0} → (List T → Result (A × List T) ℕ) → Type 0

@@ -1,6 +1,6 @@
 -- A phrase of composed phrases is one of wider phrases composed alike.
 use Rattle.std.proofs.Common.{ℕ, zero, suc, inl, inr, List, [], ◌∷◌}
-use Rattle.phrases.specs.Phrases.{Behind, Joined, IsEither, Chain, Repeats}
+use Rattle.line_grammar.specs.Phrases.{Behind, Joined, IsEither, Chain, Repeats}
 
 abbrev pub Wider : {T A : Type 0} → (List T → A → Type 0) → (List T → A → Type 0) → Type 0
 Wider {T = T} {A = A} Is IsAlso = (xs : List T) (v : A) → Is xs v → IsAlso xs v

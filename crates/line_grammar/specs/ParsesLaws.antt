@@ -1,8 +1,8 @@
 -- What a reader of a phrase keeps, and that the readers of composed phrases keep it.
 use Rattle.std.proofs.lemmas.Bool.{cases_Bool}
 use Rattle.std.proofs.Common.{◌≡◌, ℕ, suc, ◌⊎◌, inl, inr, Bool, true, false, if◌then◌else◌, List, [], ◌∷◌, ◌++◌, length, Option, Some, None, Result, Ok, Err, refl, sym, ap, ◌∙◌, append_assoc}
-use Rattle.phrases.specs.Phrases.{IsItem, Behind, Joined, IsEither, WhichIs, IsNothing}
-use Rattle.phrases.specs.Reading.{◌>>=◌, starts, item_or, item_at, behind_at, then_at, give_at, either_at, which_at}
+use Rattle.line_grammar.specs.Phrases.{IsItem, Behind, Joined, IsEither, WhichIs, IsNothing}
+use Rattle.line_grammar.specs.Reading.{◌>>=◌, starts, item_or, item_at, behind_at, then_at, give_at, either_at, which_at}
 
 -- the first token, if there is one
 abbrev pub head_of : {T : Type 0} → List T → Option T

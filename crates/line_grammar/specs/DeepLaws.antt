@@ -1,10 +1,10 @@
 -- A phrase in which brackets nest to any depth is read with as much depth as there are tokens.
 use Rattle.std.proofs.Common.{◌≡◌, ℕ, suc, ◌≤◌, max, List, [], ◌∷◌, ◌++◌, length, Result, Ok, Err, refl, sym, ap, ◌∙◌, length-append, arith}
 use Rattle.std.proofs.Math.Nat.{le-max_left, le-max_right}
-use Rattle.phrases.specs.ParsesLaws.{Parses, head_of}
-use Rattle.phrases.specs.WiderLaws.{Wider}
-use Rattle.phrases.specs.AlikeLaws.{Alike}
-use Rattle.phrases.specs.Phrases.{IsAny}
+use Rattle.line_grammar.specs.ParsesLaws.{Parses, head_of}
+use Rattle.line_grammar.specs.WiderLaws.{Wider}
+use Rattle.line_grammar.specs.AlikeLaws.{Alike}
+use Rattle.line_grammar.specs.Phrases.{IsAny}
 
 abbrev pub by_length : {T A : Type 0} → (ℕ → List T → Result (A × List T) ℕ) → List T → Result (A × List T) ℕ
 by_length read_at tokens = read_at (length tokens) tokens

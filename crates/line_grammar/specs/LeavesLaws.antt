@@ -1,7 +1,7 @@
 -- What holds of the value of each phrase, and of its tokens, asked at the ends of the grammar alone.
 use Rattle.std.proofs.Common.{◌≡◌, ℕ, zero, suc, inl, inr, true, false, List, [], ◌∷◌, ◌++◌, append-nil, append_assoc, Some}
-use Rattle.phrases.specs.Grammar.{Grammar, item, behind, joined, either, which, nothing, repeats, deep, Is}
-use Rattle.phrases.specs.Phrases.{Chain}
+use Rattle.line_grammar.specs.Grammar.{Grammar, item, behind, joined, either, which, nothing, repeats, deep, Is}
+use Rattle.line_grammar.specs.Phrases.{Chain}
 
 -- `P` holds of each value, whatever the values of the parts are
 abbrev pub Leaves : {T A : Type 0} → Grammar T A → (A → Type 0) → Type 0

@@ -1,10 +1,10 @@
 -- How the reading of a list goes on: of phrases one after another, and of phrases behind a token.
 use Rattle.std.proofs.Common.{◌≡◌, ℕ, Bool, true, false, List, [], ◌∷◌, ◌++◌, Ok, Err, refl, ap, ◌∙◌}
-use Rattle.phrases.specs.Grammar.{Grammar, behind, repeats, more}
-use Rattle.phrases.specs.Reading.{◌>>=◌, first, at, give_at, starts, past}
-use Rattle.phrases.specs.FineLaws.{may_be_empty}
-use Rattle.phrases.specs.RepeatedLaws.{Shrinks, steps_end, steps_stepped, steps_stop}
-use Rattle.phrases.specs.TakesLaws.{takes}
+use Rattle.line_grammar.specs.Grammar.{Grammar, behind, repeats, more}
+use Rattle.line_grammar.specs.Reading.{◌>>=◌, first, at, give_at, starts, past}
+use Rattle.line_grammar.specs.FineLaws.{may_be_empty}
+use Rattle.line_grammar.specs.RepeatedLaws.{Shrinks, steps_end, steps_stepped, steps_stop}
+use Rattle.line_grammar.specs.TakesLaws.{takes}
 
 -- how reading goes on behind one phrase more, where such a phrase stops, and where none begins
 module _ {T A : Type 0} (same : T → T → Bool) (one : Grammar T A) (s : may_be_empty one ≡ false) where

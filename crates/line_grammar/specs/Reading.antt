@@ -1,7 +1,7 @@
 -- Reading a phrase from the front of a list of tokens: its value and the tokens behind it, or how many tokens are left where
 -- reading stops.
 use Rattle.std.specs.Prelude.{ℕ, zero, suc, Bool, false, ◌||◌, if◌then◌else◌, List, [], ◌∷◌, length, Option, Some, None, is_some, Result, Ok, Err}
-use Rattle.phrases.specs.Grammar.{Grammar, item, behind, joined, either, which, nothing, repeats, deep}
+use Rattle.line_grammar.specs.Grammar.{Grammar, item, behind, joined, either, which, nothing, repeats, deep}
 
 infixl 10 ◌>>=◌
 abbrev pub ◌>>=◌ : {A B : Type 0} → Result A ℕ → (A → Result B ℕ) → Result B ℕ

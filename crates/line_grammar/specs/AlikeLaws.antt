@@ -1,7 +1,7 @@
 -- Readers that answer alike on lists of at most so many tokens, and that composed readers then answer alike.
 use Rattle.std.proofs.Common.{◌≡◌, ℕ, zero, suc, ◌≤◌, Bool, true, false, if◌then◌else◌, List, [], ◌∷◌, length, Result, Ok, Err, refl, ap, ◌∙◌, arith}
-use Rattle.phrases.specs.Reading.{◌>>=◌, starts, past, behind_at, then_at, either_at, steps_within, steps_at}
-use Rattle.phrases.specs.RepeatedLaws.{bind_alike}
+use Rattle.line_grammar.specs.Reading.{◌>>=◌, starts, past, behind_at, then_at, either_at, steps_within, steps_at}
+use Rattle.line_grammar.specs.RepeatedLaws.{bind_alike}
 
 abbrev pub Alike : {T A : Type 0} → ℕ → (List T → Result (A × List T) ℕ) → (List T → Result (A × List T) ℕ) → Type 0
 Alike {T = T} n read other = (tokens : List T) → length tokens ≤ n → read tokens ≡ other tokens
