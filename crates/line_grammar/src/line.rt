@@ -25,7 +25,7 @@ pub type PassTextList = Sequence<PassText>;
 /// The spans of a window, in order.
 pub type WindowWords = Sequence<Span>;
 
-/// The terms of a stencil, in order.
+/// Weighted terms, in order.
 pub type TermTextList = Sequence<TermText>;
 
 /// How far a neighbour is away in each dimension, in order.
@@ -207,7 +207,7 @@ pub struct PassText {
     pub times: u32,
 }
 
-/// A term of a stencil: `weight` times the leaf in the row whose index is `offsets` away.
+/// A weighted term: `weight` times the leaf in the row whose index is `offsets` away.
 #[derive(Drop)]
 pub struct TermText {
     pub weight: i128,

@@ -6,5 +6,5 @@ pub mod MapLaws
 pub mod NestingLaws
 pub mod PassLaws
 pub mod PathsLaws
-pub mod StencilLaws
+pub mod WindowLaws
 pub mod Inner

@@ -10,9 +10,9 @@ mod fields;
 mod maps;
 mod passes;
 mod path;
-mod stencils;
 mod tokens;
 mod widths;
+mod windows;
 
 pub use brackets::{read_cuts, read_extents, read_fixed_extents, read_index};
 pub use constant::read_const;
@@ -22,5 +22,5 @@ pub use fields::read_fields;
 pub use maps::{read_map, read_maps};
 pub use passes::read_passes;
 pub use path::read_path;
-pub use stencils::{read_terms, read_window};
 pub use tokens::Tokens;
+pub use windows::{read_terms, read_window};

@@ -200,7 +200,7 @@ span_tokens span = count_token span.from ∷ Sign Colon ∷ count_token span.end
 abbrev pub window_tokens : List Span → List Token
 window_tokens window = Word (codes "window") ∷ bracket_list (map span_tokens window)
 
--- the terms of a stencil, in parentheses
+-- weighted terms, in parentheses
 abbrev pub term_tokens : TermText → List Token
 term_tokens term = number_tokens term.weight ++ Sign Star ∷ (path_tokens term.path ++ Word (codes "at") ∷ bracket_list (map number_tokens term.offsets))
 

@@ -64,5 +64,5 @@ pub use Rattle.line_phrases.specs.ListLaws.{bracket_list_fine, bracket_list_quie
 pub use Rattle.line_phrases.specs.MapLaws.{mapping_fine, mapping_quiet}
 pub use Rattle.line_phrases.specs.PassLaws.{passes_fine, passes_quiet}
 pub use Rattle.line_phrases.specs.PathsLaws.{path_fine, path_quiet}
-pub use Rattle.line_phrases.specs.StencilLaws.{constant_fine, constant_quiet, terms_fine, terms_quiet, window_fine, window_quiet}
+pub use Rattle.line_phrases.specs.WindowLaws.{constant_fine, constant_quiet, terms_fine, terms_quiet, window_fine, window_quiet}
 pub use Rattle.schema_lang.specs.VersionOf.{is_blank_line, version_number, version_of}

@@ -1,4 +1,4 @@
--- A number with its sign, a window and the terms of a stencil are read by first tokens.
+-- A number with its sign, a window and weighted terms are read by first tokens.
 use Rattle.std.proofs.Common.{refl}
 use Rattle.line_grammar.specs.FineLaws.{Fine, Quiet}
 use Rattle.line_tokens.specs.declared.sign.Sign.TheVariants.{Minus, Star}

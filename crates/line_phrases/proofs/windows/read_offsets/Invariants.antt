@@ -1,6 +1,6 @@
 -- what is read on gives the whole list
 use Rattle.line_phrases.proofs.Imports.{◌≡◌, ◌<◌, length, read, later, listed, constant}
-use Rattle.line_phrases.proofs.stencils.read_offsets.Given as goal
+use Rattle.line_phrases.proofs.windows.read_offsets.Given as goal
 
 abbrev pub invariant-loop-tokens : goal.invariant-loop-tokens
 invariant-loop-tokens l = record {

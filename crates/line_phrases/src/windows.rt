@@ -1,4 +1,4 @@
-// A window, and the terms of a stencil.
+// A window, and weighted terms.
 ghost use Rattle.std.specs.Prelude.{◌≡◌, ◌<◌, length, OnOk, IfErr};
 ghost use Rattle.line_grammar.specs.Language.{read, constant, listed, span, term, terms, window};
 ghost use Rattle.line_phrases.specs.Inner.Gives.{Gives, IsSyntax};
@@ -46,7 +46,7 @@ fn read_span(tokens: &mut Tokens) -> Result<Span, ReadError>
     Ok(Span { from, end })
 }
 
-/// The terms of a stencil, in parentheses.
+/// Weighted terms, in parentheses.
 #[tactic(auto, unfolding(line_grammar::specs::Language::terms))]
 pub fn read_terms(alloc: Global, tokens: &mut Tokens) -> Result<TermTextList, ReadError>
     ensures { Gives (λ x. (x, tokens.new)) result (read terms tokens.old) }
