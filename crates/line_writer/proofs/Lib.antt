@@ -9,5 +9,5 @@ pub mod Phrases
 pub mod ReadsBack
 pub mod Rooms
 pub mod Sounds
-pub mod Stencils
+pub mod Terms
 pub mod Words

@@ -1,13 +1,14 @@
 -- A line has its canonical tokens alone, or one with expressions or a kernel, and then its canonical tokens are kept.
-use Rattle.line_writer.proofs.Imports.{◌≡◌, ℕ, List, [], ◌∷◌, ◌++◌, codes, refl, sym, ap, ◌∙◌, append-nil, inl, inr, Option, Some, ◌⊎◌, Token, Word, Sentence, Assignment, Value, Update, Show, Grammar, Is, item, behind, joined, nothing, InParts, Version, One, Two, Command, KernelWord, command_of, name, count, actors, assignment, body, bracketed_list, command_line, cuts_phrase, extent_word, filter_phrase, fixed, kernel_text, line, comma_list, mapping, new, show_end, update_end, command_word, ExtentWord, ShowKind, line_tokens, count_token, index_tokens, extent_tokens, map_tokens, new_tokens}
+use Rattle.line_writer.proofs.Imports.{◌≡◌, ℕ, List, [], ◌∷◌, ◌++◌, codes, refl, sym, ap, ◌∙◌, append-nil, inl, inr, Option, Some, ◌⊎◌, Token, Word, Sentence, Assignment, Value, Update, Show, Grammar, Is, item, behind, joined, nothing, InParts, Version, One, Two, Command, KernelWord, command_of, name, count, actors, assignment, body, bracketed_list, command_line, cuts_phrase, extent_word, filter_phrase, fixed, kernel_text, line, comma_list, mapping, new, show_end, update_end, command_word, ExtentWord, ShowKind, line_tokens, count_token, index_tokens, extent_tokens, map_tokens, new_tokens, arith, Sign, Equals, Slash, Stencil, PathStep, Span, TermText, window_phrase, path_tokens, window_tokens, terms_tokens}
 use Rattle.line_grammar.specs.declared.line.Command.TheVariants as command
 use Rattle.line_grammar.specs.declared.line.ShowKind.TheVariants as show
 use Rattle.line_writer.proofs.Gives.{Each, Gives, IsSpelled, Prints, at_ends, by_parts, each_back, each_front, gives, prints}
 use Rattle.line_writer.proofs.Words.{name_prints, count_prints, string_prints, reduction_prints, command_prints}
 use Rattle.line_writer.proofs.Phrases.{path_prints, fields_print, mapping_prints, listed_prints, bracket_list_prints, cuts_print, fixed_prints, extent_prints, flag_prints, passes_print, window_prints}
 use Rattle.line_writer.proofs.Leaves.{expr_gives}
-use Rattle.line_writer.proofs.Kept.{kept, kept_name, kept_count, kept_path, KeptKernel, kernel_inside_gives, IsGoodSet, IsGoodFilter, IsKept, KeptParts, count_kept, kernel_kept, assign_kept, update_kept, actors_kept}
-use Rattle.line_writer.proofs.Stencils.{items_give, stencil_gives}
+use Rattle.line_writer.proofs.Kept.{kept, kept_name, kept_count, kept_path, KeptKernel, kernel_inside_gives, IsGoodSet, IsGoodFilter, IsKept, KeptParts, count_kept, kernel_kept, assign_kept, update_kept, actors_kept, Kept, KeptName, KeptCount, KeptPath, IsFull, as_line, join, last, name_in, path_in}
+use Rattle.line_writer.proofs.Rooms.{fits_append, fits_flat, fits_more, fits_word, one_fits}
+use Rattle.line_writer.proofs.Terms.{KeptTerm, items_give, terms_fit, terms_give, terms_read, window_fits}
 
 -- the tokens are the canonical ones, or the line is kept
 abbrev pub IsDone : Version → List Token → Sentence → Type 0
@@ -48,6 +49,35 @@ update_gives Two = gives (body Two command.Update) (IsKept Two) (λ view f i s f
 kernel_gives : Gives kernel_text (λ text. (word : KernelWord) × KeptKernel word text)
 unfolding kernel_text
 kernel_gives = gives kernel_text (λ text. (word : KernelWord) × KeptKernel word text) (λ word f i s text g j t. (word, kernel_inside_gives word g text j t))
+
+-- a stencil, in a version that has the word
+stencil_kept : (version : Version) (view : List ℕ) (window : List Span) (path : List PathStep) (terms : List TermText) (divisor rounds : ℕ) → command_of version (Word (codes "stencil")) ≡ Some command.Stencil →
+    KeptName view → Kept window_phrase window_tokens window → KeptPath path → IsFull terms × Each KeptTerm terms → KeptCount divisor → KeptCount rounds → IsKept version (Stencil view window path terms divisor rounds)
+unfolding body
+stencil_kept version view window path terms divisor rounds is kv kw kp kt kd kr = λ small. (
+  fits_more 2 64 _ (omega arith) (fits_word 2 (codes "stencil") _ refl refl (omega arith) (fits_flat 2 (Word view) _ refl (name_in view kv)
+      (fits_append 2 (window_tokens window) _ (fits_more 1 2 _ (omega arith) (window_fits window kw.spelled)) (fits_word 2 (codes "set") _ refl refl (omega arith)
+      (fits_append 2 (path_tokens path) _ (fits_more 1 2 _ (omega arith) (path_in path kp)) (fits_flat 2 (Sign Equals) _ refl refl
+      (fits_append 2 (terms_tokens terms) _ (terms_fit terms kt.1) (fits_flat 2 (Sign Slash) _ refl refl (fits_flat 2 (count_token divisor) _ refl kd.spelled.0
+      (fits_word 2 (codes "rounds") _ refl refl (omega arith) (fits_more 0 2 _ (omega arith) (one_fits (count_token rounds) refl kr.spelled.0)))))))))))),
+  as_line version command.Stencil (codes "stencil") _ _ is (join (Word view ∷ []) _ view _ kv.reads (join (window_tokens window) _ window _ kw.reads (
+    refl,
+    join (path_tokens path) _ path _ kp.reads (
+      refl,
+      join (terms_tokens terms) _ terms _ (terms_read terms kt.0 kt.1) (
+        refl,
+        join (count_token divisor ∷ []) _ divisor _ kd.reads
+            (refl, last (λ rounds. Stencil view window path terms divisor rounds) (count_token rounds ∷ []) rounds kr.reads),
+      ),
+    ),
+  ))),
+)
+
+stencil_gives : (version : Version) → command_of version (Word (codes "stencil")) ≡ Some command.Stencil → Gives (body version command.Stencil) (IsKept version)
+unfolding body
+stencil_gives version is = gives (body version command.Stencil) (IsKept version) (λ view f i s window g j t path h k u terms m l w divisor d o x rounds r q y.
+    stencil_kept version view window path terms divisor rounds is (kept_name f view i s) (kept window_phrase window_tokens window_prints g window j t) (kept_path h path k u) (terms_give m terms l w)
+    (kept_count d divisor o x) (kept_count r rounds q y))
 
 -- what is shown of a view
 show_done : (version : Version) (kind : ShowKind) (xs : List Token) (v : Sentence) → Is (body version (command.Show kind)) xs v → Each IsSpelled xs → IsBehind version (command.Show kind) xs v

@@ -1,10 +1,8 @@
--- A stencil may have other tokens than the canonical ones, since a number may have a sign before a zero: its canonical tokens are kept.
-use Rattle.line_writer.proofs.Imports.{◌≡◌, ℕ, List, [], ◌∷◌, ◌++◌, map, codes, refl, arith, Some, ℤ, Comma, CloseBracket, OpenParen, CloseParen, Equals, Colon, Star, Slash, Token, Word, Sign, Stencil, Grammar, Is, behind, PathStep, Version, command_of, body, bracketed_list, constant, later, comma_list, path, span, term_phrase, terms_phrase, window_phrase, Span, TermText, with_commas, count_token, number_tokens, path_tokens, bracket_list, span_tokens, window_tokens, term_tokens, terms_tokens}
-use Rattle.line_grammar.specs.declared.line.Command.TheVariants as command
+-- Windows and weighted terms. A term may have other tokens than the canonical ones, since a number may have a sign before a zero: its canonical tokens are kept.
+use Rattle.line_writer.proofs.Imports.{List, [], ◌∷◌, ◌++◌, map, codes, refl, arith, ℤ, Comma, CloseBracket, OpenParen, CloseParen, Colon, Star, Token, Word, Sign, Grammar, Is, behind, PathStep, bracketed_list, constant, later, comma_list, path, span, term_phrase, terms_phrase, Span, TermText, with_commas, count_token, number_tokens, path_tokens, bracket_list, span_tokens, window_tokens, term_tokens, terms_tokens}
 use Rattle.line_writer.proofs.Gives.{IsSpelled, Each, each_append, each_front, Gives, gives}
-use Rattle.line_writer.proofs.Phrases.{window_prints}
 use Rattle.line_writer.proofs.Rooms.{Fits, commas_fit, fits_append, fits_flat, fits_inside, fits_more, bracket_list_fits, number_fits, one_fits, fits_word}
-use Rattle.line_writer.proofs.Kept.{Kept, KeptConst, KeptName, KeptCount, KeptPath, IsFull, IsKept, as_line, const_gives, join, kept, kept_count, kept_name, kept_path, last, listed_read, name_in, path_in, spelled_commas}
+use Rattle.line_writer.proofs.Kept.{KeptConst, KeptPath, IsFull, const_gives, join, kept_path, last, listed_read, path_in, spelled_commas}
 
 -- a list of phrases has one at least, and `P` holds of each
 full_more : {A : Type 0} (found : List A) (next : A) → IsFull (found ++ next ∷ [])
@@ -26,7 +24,7 @@ spans_fit [] h = tt
 spans_fit (span ∷ spans) h =
     (fits_flat 0 (count_token span.from) _ refl h.0.0 (fits_flat 0 (Sign Colon) _ refl refl (one_fits (count_token span.end) refl h.0.1.1.0)), spans_fit spans h.1)
 
-window_fits : (window : List Span) → Each IsSpelled (window_tokens window) → Fits 1 (window_tokens window)
+pub window_fits : (window : List Span) → Each IsSpelled (window_tokens window) → Fits 1 (window_tokens window)
 window_fits window h = fits_flat 1 (Word (codes "window")) _ refl h.0
     (bracket_list_fits 0 _ (spans_fit window (spelled_commas _ (each_front IsSpelled (with_commas (map span_tokens window)) (Sign CloseBracket ∷ []) h.1.1))))
 
@@ -48,7 +46,7 @@ offsets_read offsets full each = (
 )
 
 -- a term
-record KeptTerm (term : TermText) : Type 0 where
+pub record KeptTerm (term : TermText) : Type 0 where
   reads : Is term_phrase (term_tokens term) term
   fits : Fits 1 (term_tokens term)
 
@@ -84,7 +82,7 @@ each_fits : (terms : List TermText) → Each KeptTerm terms → Each (Fits 1) (m
 each_fits [] each = tt
 each_fits (term ∷ terms) each = (each.0.fits, each_fits terms each.1)
 
-terms_read : (terms : List TermText) → IsFull terms → Each KeptTerm terms → Is terms_phrase (terms_tokens terms) terms
+pub terms_read : (terms : List TermText) → IsFull terms → Each KeptTerm terms → Is terms_phrase (terms_tokens terms) terms
 unfolding terms_phrase
 terms_read terms full each = (
   refl,
@@ -92,38 +90,9 @@ terms_read terms full each = (
       (listed_read term_phrase term_tokens terms full (terms_are_read terms each)) (refl, (refl, refl)),
 )
 
-terms_fit : (terms : List TermText) → Each KeptTerm terms → Fits 2 (terms_tokens terms)
+pub terms_fit : (terms : List TermText) → Each KeptTerm terms → Fits 2 (terms_tokens terms)
 terms_fit terms each = fits_inside 1 OpenParen CloseParen (with_commas (map term_tokens terms)) refl refl refl (commas_fit 1 _ (each_fits terms each))
 
-terms_give : Gives terms_phrase (λ v. IsFull v × Each KeptTerm v)
+pub terms_give : Gives terms_phrase (λ v. IsFull v × Each KeptTerm v)
 unfolding terms_phrase
 terms_give = gives terms_phrase (λ v. IsFull v × Each KeptTerm v) (λ terms f i s. items_give term_phrase KeptTerm term_gives f terms i s)
-
--- the line, in a version that has the word
-stencil_kept : (version : Version) (view : List ℕ) (window : List Span) (path : List PathStep) (terms : List TermText) (divisor rounds : ℕ) → command_of version (Word (codes "stencil")) ≡ Some command.Stencil →
-    KeptName view → Kept window_phrase window_tokens window → KeptPath path → IsFull terms × Each KeptTerm terms → KeptCount divisor → KeptCount rounds → IsKept version (Stencil view window path terms divisor rounds)
-unfolding body
-stencil_kept version view window path terms divisor rounds is kv kw kp kt kd kr = λ small. (
-  fits_more 2 64 _ (omega arith) (fits_word 2 (codes "stencil") _ refl refl (omega arith) (fits_flat 2 (Word view) _ refl (name_in view kv)
-      (fits_append 2 (window_tokens window) _ (fits_more 1 2 _ (omega arith) (window_fits window kw.spelled)) (fits_word 2 (codes "set") _ refl refl (omega arith)
-      (fits_append 2 (path_tokens path) _ (fits_more 1 2 _ (omega arith) (path_in path kp)) (fits_flat 2 (Sign Equals) _ refl refl
-      (fits_append 2 (terms_tokens terms) _ (terms_fit terms kt.1) (fits_flat 2 (Sign Slash) _ refl refl (fits_flat 2 (count_token divisor) _ refl kd.spelled.0
-      (fits_word 2 (codes "rounds") _ refl refl (omega arith) (fits_more 0 2 _ (omega arith) (one_fits (count_token rounds) refl kr.spelled.0)))))))))))),
-  as_line version command.Stencil (codes "stencil") _ _ is (join (Word view ∷ []) _ view _ kv.reads (join (window_tokens window) _ window _ kw.reads (
-    refl,
-    join (path_tokens path) _ path _ kp.reads (
-      refl,
-      join (terms_tokens terms) _ terms _ (terms_read terms kt.0 kt.1) (
-        refl,
-        join (count_token divisor ∷ []) _ divisor _ kd.reads
-            (refl, last (λ rounds. Stencil view window path terms divisor rounds) (count_token rounds ∷ []) rounds kr.reads),
-      ),
-    ),
-  ))),
-)
-
-pub stencil_gives : (version : Version) → command_of version (Word (codes "stencil")) ≡ Some command.Stencil → Gives (body version command.Stencil) (IsKept version)
-unfolding body
-stencil_gives version is = gives (body version command.Stencil) (IsKept version) (λ view f i s window g j t path h k u terms m l w divisor d o x rounds r q y.
-    stencil_kept version view window path terms divisor rounds is (kept_name f view i s) (kept window_phrase window_tokens window_prints g window j t) (kept_path h path k u) (terms_give m terms l w)
-    (kept_count d divisor o x) (kept_count r rounds q y))
