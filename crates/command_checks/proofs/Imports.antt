@@ -1,27 +1,26 @@
 -- What the proofs of this crate speak of.
-pub use Rattle.std.proofs.Common.{◌≡◌, ℕ, suc, ◌+◌, ◌<◌, List, [], ◌∷◌, ◌++◌, take, drop, get_or, length, refl, sym, ap, ◌∙◌, true, false, nat_le, ◌-◌, ◌*◌, ◌≤◌, ◌^◌, Bool, map, Ok, arith, inl, inr, cond, Option, Some, None, subst, ⊎_elim, zero, append_assoc, ◌≤ℤ◌, ℤ, pos, negsuc, neg_ℤ, ◌+ℤ◌, ◌-ℤ◌, Contains, not, rules, Err, length-append}
+pub use Rattle.std.proofs.Common.{◌≡◌, ℕ, suc, ◌+◌, ◌<◌, List, [], ◌∷◌, ◌++◌, take, drop, get_or, length, refl, sym, ap, ◌∙◌, true, false, nat_le, ◌-◌, ◌*◌, ◌≤◌, ◌^◌, Bool, map, Ok, arith, inl, inr, cond, Option, Some, None, subst, ⊎_elim, zero, append_assoc, pos, not, rules, Err, length-append}
 pub use Rattle.std.proofs.lemmas.List.{take-append-drop, take_more, get_or-map, length-map, append-nil, map-append}
 pub use Rattle.std.proofs.Math.Seq.{drop-cons}
-pub use Rattle.std.specs.Prelude.{◌&&◌, nat_lt, ◌||◌, ◌==◌, int_le, slice_get, All}
-pub use Rattle.std.proofs.lemmas.Bool.{and_parts, le-leb, leb-true, false≢true, lt-ltb, or_right, cases_Bool, ltb-true, cases_lt}
+pub use Rattle.std.specs.Prelude.{◌&&◌, nat_lt, ◌||◌, int_le, All}
+pub use Rattle.std.proofs.lemmas.Bool.{and_parts, le-leb, leb-true, false≢true, lt-ltb, or_right, cases_Bool}
 pub use Rattle.std.proofs.lemmas.Bool.Decides.{nat_tests}
-pub use Rattle.std.proofs.lemmas.List.Sums.{sum_by_more, AllPass-from_list_all, list_all-from_AllPass, passes_at_first, fails_before_first}
+pub use Rattle.std.proofs.lemmas.List.Sums.{sum_by_more, AllPass-from_list_all}
 pub use Rattle.std.specs.BTreeMap.{BTreeMap, Updates}
 pub use Rattle.std.specs.Cmp.Lexicographic.{slice_cmp, bytes_decides, texts_ties}
-pub use Rattle.std.specs.List.{position_from, range_with_len, list_all, position_or_len}
+pub use Rattle.std.specs.List.{position_from, range_with_len}
 pub use Rattle.std.specs.Option.{option_or}
 pub use Rattle.std.specs.Ordering.{nat_cmp}
 pub use Rattle.std.proofs.lemmas.List.Concat.{flat_map-append}
-pub use Rattle.std.specs.Cmp.Rules.{signed_items}
 pub use Rattle.std.proofs.lemmas.Int.{ints}
-pub use Rattle.std.proofs.lemmas.Option.{slice_get-get_or, slice_get_within, get_or_from_slice_get}
+pub use Rattle.std.proofs.lemmas.Option.{slice_get_within}
 pub use Rattle.std.proofs.lemmas.Grind.{common_steps}
 pub use Rattle.std.proofs.lemmas.List.Elements.{All-push}
 pub use Rattle.worlds.specs.Outcomes.{Outcome, Goes, Faults, CannotRead, ◌>>=◌, each, refused_if, some_or, Tested}
 pub use Rattle.extents.specs.declared.window.Span.{Span}
-pub use Rattle.extents.specs.Windows.{IsWindow, sizes, moved}
+pub use Rattle.extents.specs.Windows.{IsWindow}
 pub use Rattle.worlds.specs.Windows.{are_inside, windowed}
-pub use Rattle.extents.specs.Indices.{indices, IsInside}
+pub use Rattle.extents.specs.Indices.{indices}
 pub use Rattle.record_dim.specs.Trees.{Fields}
 pub use Rattle.record_dim.specs.Leaves.{leaves, kinds_of, paths_of}
 pub use Rattle.map_expr.specs.Terms.{Term as MapTerm, term_of}
@@ -36,17 +35,13 @@ pub use Rattle.worlds.specs.Tables.{made, zeros_of, blob_bits, live_bits}
 pub use Rattle.layout_io.specs.Writing.{joined}
 pub use Rattle.record_dim.specs.declared.path.PathStep.{PathStep}
 pub use Rattle.worlds.specs.Advise.{leaves_at, leaves_under, bound_pass}
-pub use Rattle.extents.specs.IndicesLaws.{inside_of_entry, row_of_inside}
-pub use Rattle.extents.specs.WindowLaws.{window_count, window_row, moved_inside, same_rank}
-pub use Rattle.linearize.specs.Slots.{index_at}
-pub use Rattle.linearize.specs.SlotsLaws.{index_at_inside}
-pub use Rattle.subviews.specs.SubViews.{WindowOf, rows_of}
-pub use Rattle.subviews.specs.Stencils.{away, is_index, row_from, is_offset, reaches, Weighted, weighted, is_divisor, is_weight}
+pub use Rattle.subviews.specs.SubViews.{WindowOf}
+pub use Rattle.subviews.specs.Stencils.{reaches, Weighted, weighted, is_divisor, is_weight}
 pub use Rattle.line_grammar.specs.declared.line.TermText.{TermText}
 pub use Rattle.subviews.specs.Plans.{IsTermOf}
 pub use Rattle.subviews.specs.declared.term.Term.{Term}
 pub use Rattle.worlds.specs.Names.{leaf_of, nameless}
-pub use Rattle.worlds.specs.Stencil.{all_reach, all_weigh, stencil_term, fit_terms}
+pub use Rattle.worlds.specs.Stencil.{all_reach, all_weigh, weighted_term, fit_terms}
 pub use Rattle.worlds.specs.declared.fault.BadStencil.TheVariants.{Reach, Weight, Terms, Rounds}
 pub use Rattle.worlds.specs.declared.fault.CommandFault.TheVariants.{BadStencil, Unknown}
 pub use Rattle.advisor.specs.declared.pass.Pass.{Pass}
@@ -61,8 +56,7 @@ pub use Rattle.command_checks.specs.declared.fault.StepFault.{StepFault}
 pub use Rattle.command_checks.specs.SessionEntries.{view_of, mapping_of}
 pub use Rattle.command_checks.specs.declared.entries.ViewEntry.{ViewEntry}
 pub use Rattle.command_checks.specs.Inner.Indexed.{place_in, IsIndex}
-pub use Rattle.command_checks.specs.Inner.Reach.{stays, all_stay}
-pub use Rattle.command_checks.specs.Inner.Stencils.{placed_term, weighted_at}
+pub use Rattle.command_checks.specs.Inner.Terms.{placed_term, weighted_at}
 pub use Rattle.command_checks.specs.Inner.Bases.{is_nameless}
 pub use Rattle.command_checks.specs.BasesLaws.{rows_for_some, rows_for_same, resolves, resolves_not, rows_are}
 pub use Rattle.command_checks.specs.PlacesLaws.{free_by_place, placed_at, unknown_name, known_at}

@@ -4,5 +4,4 @@ pub mod Inside
 pub mod Limits
 pub mod NameTables
 pub mod Passes
-pub mod Reaches
-pub mod Terms
+pub mod WeightedTerms

@@ -4,5 +4,5 @@ pub mod Gives
 pub mod Indexed
 pub mod Places
 pub mod Questions
-pub mod Reach
 pub mod Stencils
+pub mod Terms

@@ -14,6 +14,7 @@ mod named_entry;
 mod names;
 mod stencils;
 mod tables;
+mod terms;
 mod windows;
 
 pub use advices::{Question, asked};

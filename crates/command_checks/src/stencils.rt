@@ -1,33 +1,21 @@
 // Stencils that may be made.
-ghost use Rattle.std.specs.Prelude.{◌≡◌, ◌<◌, ◌≤◌, All, IfOk, true, pos, length, map};
-ghost use Rattle.std.specs.List.{list_all};
+ghost use Rattle.std.specs.Prelude.{◌≡◌, IfOk};
 ghost use Rattle.extents.specs.Windows.{IsWindow};
-ghost use Rattle.subviews.specs.Plans.{IsTermOf};
-ghost use Rattle.subviews.specs.Stencils.{Stencil, is_divisor, is_offset, is_weight, reaches, weighted};
-ghost use Rattle.views.specs.Tables.{leaf_count_of};
-ghost use Rattle.worlds.specs.Outcomes.{each};
-ghost use Rattle.worlds.specs.Stencil.{all_reach, all_weigh, stencil_term, fit_stencil, fit_terms};
+ghost use Rattle.worlds.specs.Stencil.{fit_stencil, fit_terms};
 ghost use Rattle.command_checks.specs.Inner.Gives.{Gives};
-ghost use Rattle.command_checks.specs.Inner.Reach.{all_stay, stays};
-ghost use Rattle.command_checks.specs.Inner.Stencils.{IsStencilOf, placed_term, stencil_of, weighted_at};
+ghost use Rattle.command_checks.specs.Inner.Stencils.{IsStencilOf, stencil_of};
 
 use crate::fault::StepFault;
 use crate::leaves::leaf_of;
+use crate::terms::{all_reach, all_weigh, leaves_of, terms_at};
 use crate::windows::windowed;
-use arrayvec::ArrayVec;
-use extents::{Extents, Span, Window};
+use extents::{Span, Window};
 use line_grammar::TermText;
 use record_dim::Path;
-use std::alloc::{AllocError as NoMemory, Global};
-use subviews::Term;
+use std::alloc::Global;
+use subviews::{Term, is_divisor};
 use views::View;
 use worlds::{BadStencil, CommandFault};
-
-/// The farthest that an offset reaches in a dimension.
-const MAX_OFFSET: i128 = 1 << 32;
-
-/// Weights lie from the negative of this number to below it, and a divisor is at most this number.
-const WEIGHTS: i128 = 1 << 31;
 
 /// The most terms.
 const MAX_TERMS: usize = 64;
@@ -71,20 +59,6 @@ pub fn fit_stencil(
     })
 }
 
-// The leaves that terms read.
-fn leaves_of(alloc: Global, view: &View, texts: &[TermText]) -> Result<Vec<usize>, StepFault>
-    ensures terms { Gives (λ leaves. weighted_at texts.now leaves.items) result (each (stencil_term view.now.fields) texts.now) }
-    ensures inside { IfOk result (λ leaves. All (λ leaf. leaf < leaf_count_of view.now) leaves.items) }
-    ensures paired { IfOk result (λ leaves. length leaves.items ≡ length texts.now) }
-{
-    let mut leaves = Vec::new(alloc);
-    for text in texts {
-        let leaf = leaf_of(alloc, view, &text.path)?;
-        leaves.push(leaf)?;
-    }
-    Ok(leaves)
-}
-
 // That no cause of four refuses terms.
 fn check_terms(
     window: &Window,
@@ -116,128 +90,4 @@ fn bad_stencil(bad: BadStencil) -> StepFault
     ensures { result ≡ StepFault.Command (CommandFault.BadStencil bad) }
 {
     StepFault::Command(CommandFault::BadStencil(bad))
-}
-
-// Whether each term reads inside the array, from each row of a window.
-fn all_reach(window: &Window, spans: &[Span], texts: &[TermText]) -> bool
-    requires spans { window.now.1 ≡ spans.now }
-    requires is { IsWindow window.now.0 window.now.1 }
-    ensures { result ≡ all_reach window.now texts.now }
-{
-    for text in texts {
-        if !reaches(window, spans, text.offsets.as_slice()) {
-            return false;
-        }
-    }
-    true
-}
-
-// Whether from each row of a window these offsets lead into the array.
-fn reaches(window: &Window, spans: &[Span], offsets: &[i128]) -> bool
-    requires spans { window.now.1 ≡ spans.now }
-    requires is { IsWindow window.now.0 window.now.1 }
-    ensures { result ≡ reaches window.now offsets.now }
-{
-    let extents = window.extents();
-    if offsets.len() != extents.rank() || !are_offsets(offsets) {
-        return false;
-    }
-    window.count() == 0 || all_stay(&extents, spans, offsets)
-}
-
-fn are_offsets(offsets: &[i128]) -> bool
-    ensures { result ≡ list_all is_offset offsets.now }
-{
-    offsets.iter().all(|offset| is_offset(*offset))
-}
-
-fn is_offset(offset: i128) -> bool
-    ensures { result ≡ is_offset offset }
-{
-    -MAX_OFFSET <= offset && offset <= MAX_OFFSET
-}
-
-// Whether so far away from a window nothing lies outside the array.
-fn all_stay(extents: &Extents, spans: &[Span], offsets: &[i128]) -> bool
-    requires spans { length spans.now ≡ length extents.now }
-    requires offsets { length offsets.now ≡ length extents.now }
-    ensures { result ≡ all_stay extents.now spans.now offsets.now }
-{
-    for (dimension, offset) in offsets.iter().enumerate() {
-        if !stays(extents.at(dimension), spans[dimension], *offset) {
-            return false;
-        }
-    }
-    true
-}
-
-// The same in one dimension.
-fn stays(extent: u64, span: Span, offset: i128) -> bool
-    ensures { result ≡ stays extent span offset }
-{
-    -i128::from(span.from) <= offset && offset <= i128::from(extent) - i128::from(span.end)
-}
-
-fn all_weigh(texts: &[TermText]) -> bool
-    ensures { result ≡ all_weigh texts.now }
-{
-    texts.iter().all(|text| is_weight(text.weight))
-}
-
-fn is_weight(weight: i128) -> bool
-    ensures { result ≡ is_weight weight }
-{
-    -WEIGHTS <= weight && weight < WEIGHTS
-}
-
-fn is_divisor(divisor: u32) -> bool
-    ensures { result ≡ is_divisor (pos divisor) }
-{
-    1 <= divisor && i128::from(divisor) <= WEIGHTS
-}
-
-// Terms that were tested, with the leaves that they read.
-fn terms_at(
-    alloc: Global,
-    window: &Window,
-    texts: &[TermText],
-    leaves: &[usize],
-) -> Result<Vec<Term>, NoMemory>
-    requires reach { all_reach window.now texts.now ≡ true }
-    requires weigh { all_weigh texts.now ≡ true }
-    requires paired { length leaves.now ≡ length texts.now }
-    ensures { IfOk result (λ terms. map weighted terms.items ≡ weighted_at texts.now leaves.now) }
-{
-    let _rank = window.extents().rank();
-    let mut terms = Vec::new(alloc);
-    for (place, text) in texts.iter().enumerate() {
-        terms.push(term_at(text, leaves[place]))?;
-    }
-    Ok(terms)
-}
-
-fn term_at(text: &TermText, leaf: usize) -> Term
-    requires weigh { is_weight text.now.weight ≡ true }
-    requires near { list_all is_offset text.now.offsets ≡ true }
-    requires ranked { length text.now.offsets ≤ 4 }
-    ensures { weighted result ≡ placed_term text.now leaf }
-{
-    Term {
-        weight: text.weight as i64,
-        leaf,
-        offsets: narrowed(text.offsets.as_slice()),
-    }
-}
-
-// Offsets that were tested.
-fn narrowed(offsets: &[i128]) -> ArrayVec<i64, 4>
-    requires near { list_all is_offset offsets.now ≡ true }
-    requires ranked { length offsets.now ≤ 4 }
-    ensures { result.items ≡ offsets.now }
-{
-    let mut narrow = ArrayVec::new();
-    for offset in offsets {
-        narrow.push(*offset as i64);
-    }
-    narrow
 }

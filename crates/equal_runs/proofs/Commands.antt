@@ -1,16 +1,15 @@
 -- The commands that change or read a table, done to alike worlds.
-use Rattle.equal_runs.proofs.Imports.{◌≡◌, ℕ, Bool, true, false, ℤ, List, [], ◌∷◌, ◌++◌, length, Option, Some, None, Result, Ok, refl, sym, ap, subst, ◌∙◌, ◌+◌, ◌*◌, ◌^◌, not, nat_lt, slice_index_or, indices, Span, place_in, PathStep, kinds_of, texts_of, MapTerm, holds_by, hold_at, with_entry, Keeping, kind_at, Access, Write, Tally, all_accesses, Read, LeafCounts, counts_text, StoreFault, Term, Value, Assignment, KernelText, TermText, Table, leaf_count_of, answer_of, kept_of, after_stores, Setting, updated_rows, value_log, rows_log, UpdateFault, UpdateKind, KernelFault, Kernel, Stencil, stenciled, rounds_log, StencilFault, World, found, Done, stores, tells, done_to, with_table, on_view, ◌>>=◌, LeftOf, Left, known, some_or, refused_if, refused_by, ok_or, leaf_of, bound, bound_filter, bound_sets, each_once, leaves_of, text_of_leaf, storable, store_fault, value_on, inside, assigned, updated, update_fault, kind_fault, are_alike, all_read, copied, copy, kernel_outcome, fit_kernel, kernel_run, number_text, kernel_row_fault, counts, drop_view, fit_stencil, room_beside, stencil_fault, stencil_rounds, stencil_run, blob_bits, Mismatch, NotCounted, TooBig, is_of_layout, ⊤, content_of, Work, Reads, Shows, Changes, left_as, does, OnView, worked, Tested}
+use Rattle.equal_runs.proofs.Imports.{◌≡◌, ℕ, Bool, true, false, ℤ, List, [], ◌∷◌, ◌++◌, length, Option, Some, None, Result, Ok, refl, sym, ap, subst, ◌∙◌, not, slice_index_or, indices, place_in, PathStep, kinds_of, texts_of, MapTerm, holds_by, hold_at, with_entry, Keeping, kind_at, Access, Write, Tally, all_accesses, Read, LeafCounts, counts_text, StoreFault, Term, Value, Assignment, KernelText, Table, leaf_count_of, answer_of, kept_of, after_stores, Setting, updated_rows, value_log, rows_log, UpdateFault, UpdateKind, KernelFault, Kernel, World, found, Done, stores, tells, done_to, with_table, on_view, ◌>>=◌, LeftOf, Left, known, some_or, refused_if, refused_by, ok_or, leaf_of, bound, bound_filter, bound_sets, each_once, leaves_of, text_of_leaf, storable, store_fault, value_on, inside, assigned, updated, update_fault, kind_fault, are_alike, all_read, copied, copy, kernel_outcome, fit_kernel, kernel_run, number_text, kernel_row_fault, counts, drop_view, Mismatch, NotCounted, is_of_layout, ⊤, content_of, Work, Reads, Shows, Changes, left_as, does, OnView, worked, Tested}
 use Rattle.views.specs.declared.fault.StoreFault.TheVariants as store
 use Rattle.line_grammar.specs.declared.line.ShowKind.TheVariants as show
 use Rattle.row_updates.specs.declared.fault.UpdateKind.TheVariants as update_kind
 use Rattle.lane_kernels.specs.declared.fault.KernelFault.TheVariants as kernel_fault
 use Rattle.lane_kernels.specs.Kernels as kernels
 use Rattle.lane_kernels.specs.Logs as kernel_logs
-use Rattle.equal_runs.proofs.Agreeing.{Agree, go, first, second, bind, before, both_told, told_if, Any, Both}
+use Rattle.equal_runs.proofs.Agreeing.{Agree, go, first, second, bind, before, both_told, Both}
 use Rattle.equal_runs.proofs.Answers.{Answers, is_narrow, store_answers, Given, ok_agree, by_agree}
 use Rattle.equal_runs.proofs.Entries.{At, known_agree, entries_replaced, entries_removed}
 use Rattle.equal_runs.proofs.Kernels.{is_narrow_kernel, kernel_causes}
-use Rattle.equal_runs.proofs.Stencils.{is_narrow_stencil, stencil_answers}
 use Rattle.equal_runs.proofs.Tables.{AlikeTables, AlikeWorlds, AlikeAlways, of_mapping, of_both, rewritten_alike, with_written, written_under, rows_told}
 use Rattle.equal_runs.proofs.TallyCounts.{SameCounts}
 use Rattle.equal_runs.proofs.Updates.{is_narrow_update, rows_answers, fit_rows, rows_are}
@@ -19,7 +18,7 @@ use Rattle.equal_runs.proofs.Updates.{is_narrow_update, rows_answers, fit_rows, 
 abbrev under : Table → MapTerm → Tally → Table
 under table mapping tally = record table { mapping = mapping; tally = tally }
 
-narrow_store : (row : ℕ) (leaf : List ℕ) (n : Bool) (e : StoreFault) → is_narrow e ≡ true → is_of_layout n (store_fault row leaf e) ≡ true
+pub narrow_store : (row : ℕ) (leaf : List ℕ) (n : Bool) (e : StoreFault) → is_narrow e ≡ true → is_of_layout n (store_fault row leaf e) ≡ true
 narrow_store row leaf n store.Range is = absurd (cc)
 narrow_store row leaf n store.Narrow is = refl
 
@@ -36,11 +35,8 @@ narrow_run table n (kernel_fault.Narrow row leaf) is = refl
 narrow_run table n kernel_fault.Empty is = absurd (cc)
 narrow_run table n (kernel_fault.Range row leaf) is = absurd (cc)
 
-narrow_stencil : (table : Table) (leaf : ℕ) (n : Bool) (e : StencilFault) → is_narrow_stencil e ≡ true → is_of_layout n (stencil_fault table.fields leaf e) ≡ true
-narrow_stencil table leaf n e is = narrow_store e.row (text_of_leaf table.fields leaf) n e.fault is
-
 -- what both do is the same, where neither is refused
-abbrev SameDone : Done → Done → Type 0
+abbrev pub SameDone : Done → Done → Type 0
 SameDone a b = b ≡ a
 
 abbrev pub Same : Bool → Bool → Tested Done → Tested Done → Type 0
@@ -59,7 +55,7 @@ IsReading _ = ⊥
 -- a table, and that table under another mapping, which are alike
 module _ (m o : Bool) (table : Table) (mapping : MapTerm) (tally : Tally) (same : AlikeTables table (under table mapping tally)) where
   -- the answers to a store in them
-  answers_under : (leaf : ℕ) (value : ℤ) → Answers is_narrow (Unit {0}) (answer_of table leaf value) (answer_of (under table mapping tally) leaf value)
+  pub answers_under : (leaf : ℕ) (value : ℤ) → Answers is_narrow (Unit {0}) (answer_of table leaf value) (answer_of (under table mapping tally) leaf value)
   answers_under leaf value =
       store_answers table.mode (kind_at (kinds_of table.fields) leaf) (hold_at (holds_by table.mapping table.fields) leaf) (hold_at (holds_by mapping table.fields) leaf) value
       (λ always. ap (λ (keep : Keeping). keep leaf value) same.kept)
@@ -130,26 +126,6 @@ module _ (m o : Bool) (table : Table) (mapping : MapTerm) (tally : Tally) (same 
         (by_agree m o is_narrow_kernel (kernel_row_fault table.fields) _ _ (narrow_run table)
         (kernel_causes (answer_of table) (answer_of (under table mapping tally)) answers_under fit table.rows))
         (λ done other p. go _ _ (ap (λ (keep : Keeping). ran_by keep fit) same.kept))
-
-  -- only whether there is room for a buffer depends on how the tables lie
-  pub stencil_agree : (live others : ℕ) (spans : List Span) (path : List PathStep) (texts : List TermText) (divisor rounds : ℕ)
-      → Same m o (stencil_run live table spans path texts divisor rounds) (stencil_run others (under table mapping tally) spans path texts divisor rounds)
-  unfolding stencil_run
-  stencil_agree live others spans path texts divisor rounds =
-      let many = nat_lt (8 * 2 ^ 30) (live + blob_bits table) in
-      let many_others = nat_lt (8 * 2 ^ 30) (others + blob_bits (under table mapping tally)) in
-      before SameDone (fit_stencil table spans path texts divisor rounds) _ _ (λ stencil.
-      bind Both SameDone (room_beside live table) (room_beside others (under table mapping tally)) _ _
-      (both_told Any Any Both (room_beside live table) (room_beside others (under table mapping tally)) (told_if m many TooBig refl) (told_if o many_others TooBig refl) (λ a b p q. tt))
-      (λ room room_other p. rounds_agree stencil))
-    where
-      rounds_agree : (stencil : Stencil) → Same m o (stencil_rounds table rounds stencil) (stencil_rounds (under table mapping tally) rounds stencil)
-      rounds_agree stencil =
-          bind (Given (Unit {0}) _ _) SameDone (ok_or (stencil_fault table.fields stencil.leaf) (stenciled table stencil rounds))
-          (ok_or (stencil_fault table.fields stencil.leaf) (stenciled (under table mapping tally) stencil rounds)) _ _
-          (ok_agree m o is_narrow_stencil (stencil_fault table.fields stencil.leaf) _ _ (narrow_stencil table stencil.leaf)
-          (stencil_answers (answer_of table) (answer_of (under table mapping tally)) answers_under same.kept stencil rounds table.rows))
-          (λ rows others given. go _ _ (ap (λ (r : List (List ℤ)). stores r (rounds_log stencil rounds)) (given.same tt)))
 
   -- one that does not count has such a fault
   pub counts_agree : Same m o (does (Shows counts) table) (does (Shows counts) (under table mapping tally))

@@ -40,7 +40,6 @@ pub use Rattle.row_updates.specs.declared.fault.UpdateFault.{UpdateFault}
 pub use Rattle.row_updates.specs.declared.fault.UpdateKind.{UpdateKind}
 pub use Rattle.lane_kernels.specs.declared.fault.KernelFault.{KernelFault}
 pub use Rattle.lane_kernels.specs.declared.kernel.Kernel.{Kernel}
-pub use Rattle.subviews.specs.Stencils.{Stencil, stenciled, rounds_log, stencil_value, at_row, values_fault, with_entries, new_entry, if_fits, round, next_round, after_rounds}
 pub use Rattle.subviews.specs.declared.fault.StencilFault.{StencilFault}
 pub use Rattle.worlds.specs.Worlds.{World, found, Entry, same_name, added, replaced, removed, empty}
 pub use Rattle.worlds.specs.OnView.{Done, stores, tells, done_to, with_table, Work, worked, content_of, Reads, Shows, Changes, left_as, does, OnView, Told}
@@ -59,8 +58,6 @@ pub use Rattle.worlds.specs.Kernel.{kernel_outcome, fit_kernel, number_text, ker
 unfoldable pub use Rattle.worlds.specs.Kernel.{kernel_run}
 pub use Rattle.worlds.specs.Show.{showing}
 unfoldable pub use Rattle.worlds.specs.Show.{print, counts, drop_view, heat}
-pub use Rattle.worlds.specs.Stencil.{fit_stencil, room_beside, stencil_fault, stencil_rounds}
-unfoldable pub use Rattle.worlds.specs.Stencil.{stencil_run}
 pub use Rattle.worlds.specs.Windows.{windowed}
 unfoldable pub use Rattle.worlds.specs.Windows.{print_window}
 pub use Rattle.worlds.specs.Tables.{blob_bits, made, resolved, room, shaped, zeros_of, live_bits}

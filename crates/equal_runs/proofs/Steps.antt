@@ -2,8 +2,9 @@
 use Rattle.equal_runs.proofs.Imports.{◌≡◌, Bool, false, List, refl, File, MapTerm, World, step, live_bits, with_term, shows_layout, misses_mapping, MakesWide, work_of}
 use Rattle.line_grammar.specs.declared.line.ShowKind.TheVariants as show
 use Rattle.line_grammar.specs.Sentences as line
-use Rattle.equal_runs.proofs.Commands.{assigned_agree, updated_agree, ran_agree, copy_agree, stencil_agree, drop_agree, AlikeLines, reads, works, worked_agree, counts_agree}
+use Rattle.equal_runs.proofs.Commands.{assigned_agree, updated_agree, ran_agree, copy_agree, drop_agree, AlikeLines, reads, works, worked_agree, counts_agree}
 use Rattle.equal_runs.proofs.News.{define_agree, mapping_agree, view_agree as new_agree, load_agree, open_agree, relayout_agree}
+use Rattle.equal_runs.proofs.Stencils.{stencil_agree}
 use Rattle.equal_runs.proofs.Tables.{AlikeWorlds, AlikeLefts}
 use Rattle.equal_runs.proofs.Agreeing.{EndAlike, surely}
 

@@ -117,8 +117,6 @@ pub use Rattle.views.specs.TallyLaws.{after_log-none}
 pub use Rattle.worlds.specs.declared.fault.UnknownName.TheVariants.{Name}
 pub use Rattle.equal_runs.specs.EntryLaws.{found_added}
 pub use Rattle.line_tokens.specs.declared.sign.Sign.{Sign as SignName}
-pub use Rattle.subviews.specs.Stencils.{stencil_value, at_row, values_fault, with_entries, new_entry, if_fits, round, next_round, after_rounds, stenciled}
-pub use Rattle.subviews.specs.declared.fault.StencilFault.{StencilFault}
 pub use Rattle.extents.specs.IndicesLaws.{length-indices}
 pub use Rattle.csv_rows.specs.Loads.{dataset_of}
 pub use Rattle.worlds.specs.Copy.{all_read, are_alike}
@@ -147,8 +145,6 @@ pub use Rattle.worlds.specs.Kernel.{fit_kernel, kernel_row_fault}
 unfoldable pub use Rattle.worlds.specs.Kernel.{kernel_run}
 pub use Rattle.worlds.specs.Reduce.{reduced, column}
 unfoldable pub use Rattle.worlds.specs.Reduce.{reduction, counting}
-pub use Rattle.worlds.specs.Stencil.{fit_stencil, room_beside, stencil_fault}
-unfoldable pub use Rattle.worlds.specs.Stencil.{stencil_run}
 pub use Rattle.worlds.specs.Update.{update_fault}
 unfoldable pub use Rattle.worlds.specs.Update.{updated}
 pub use Rattle.worlds.specs.Values.{value_on, storable}

@@ -21,7 +21,7 @@ pub use Rattle.std.proofs.Math.Seq.{drop-cons}
 pub use Rattle.std.specs.Int.{w128}
 pub use Rattle.std.proofs.lemmas.Int.{to_z-of_z}
 pub use Rattle.actors.specs.ActorRuns.{Run, started_run, after_turns}
-pub use Rattle.map_expr.specs.Terms.{uncounted, term_of, Term as MapTerm, Count, Heat}
+pub use Rattle.map_expr.specs.Terms.{term_of, Term as MapTerm}
 pub use Rattle.actor_steps.specs.Confluence.{State, moved, turned}
 pub use Rattle.actor_steps.specs.Cuts.{AreCuts, actor_of, are_cuts}
 pub use Rattle.actor_steps.specs.CutsLaws.{are_cuts-are}
@@ -106,7 +106,7 @@ pub use Rattle.places.specs.declared.piece.Cell.{Cell}
 pub use Rattle.places.specs.declared.piece.Hold.{Hold}
 pub use Rattle.record_dim.specs.declared.leaf_type.LeafType.{LeafType}
 pub use Rattle.map_any.specs.AnyLaws.{length-leaf_cells}
-pub use Rattle.map_checks.specs.Mappings.{leaf_cells, IsBuiltTerm}
+pub use Rattle.map_checks.specs.Mappings.{leaf_cells}
 pub use Rattle.map_any.specs.BitRuns.{goes_on, joined_run, run_owner, runs_from}
 unfoldable pub use Rattle.map_any.specs.BitRuns.{runs_of}
 pub use Rattle.places.specs.RunOwners.{IsOwnerBelow}
@@ -119,8 +119,6 @@ unfoldable pub use Rattle.worlds.specs.Update.{updated}
 pub use Rattle.extents.specs.declared.window.Span.{Span}
 pub use Rattle.line_grammar.specs.declared.line.TermText.{TermText}
 pub use Rattle.subviews.specs.Stencils.{Stencil}
-pub use Rattle.worlds.specs.Stencil.{fit_stencil, room_beside, stencil_rounds}
-unfoldable pub use Rattle.worlds.specs.Stencil.{stencil_run}
 pub use Rattle.line_grammar.specs.declared.line.Line.{Line}
 pub use Rattle.worlds.specs.AnswersLaws.{steps_same}
 pub use Rattle.worlds.specs.Step.{command, done_by}
@@ -138,7 +136,6 @@ unfoldable pub use Rattle.worlds.specs.Windows.{print_window}
 pub use Rattle.worlds.specs.Load.{read}
 unfoldable pub use Rattle.worlds.specs.Load.{loaded_table, load}
 pub use Rattle.worlds.specs.View.{Named, named, with_view, view}
-pub use Rattle.command_checks.specs.Inner.Stencils.{stencil_of}
 pub use Rattle.worlds.specs.Kernel.{number_text}
 pub use Rattle.command_checks.specs.Inner.Questions.{question_of}
 pub use Rattle.blob_file.specs.HeaderLaws.{nameless_built}

@@ -1,9 +1,7 @@
--- What stencils do, and the buffer of their rounds.
-use Rattle.session.proofs.Imports.{◌≡◌, ◌∙◌, ℕ, List, Span, TermText, IsBuiltTerm, Count, Heat, uncounted, Ok, PathStep, Stencil, Table, done_to, fit_stencil, room_beside, stencil_rounds, stencil_run, GivesUp, GivesUp-then, goes_then, StepFault}
-use Rattle.map_expr.specs.Terms.{Term}
+-- What a stencil does, by its parts.
+use Rattle.session.proofs.Imports.{◌≡◌, ◌∙◌, ℕ, List, Span, TermText, Ok, PathStep, Stencil, Table, done_to, GivesUp, GivesUp-then, goes_then, StepFault}
+use Rattle.worlds.specs.Stencil.{fit_stencil, room_beside, stencil_rounds, stencil_run}
 use Rattle.session.proofs.Exits.{goes_gives}
-
--- ---- the parts of the command
 
 module _ (live : ℕ) (table : Table) (spans : List Span) (path : List PathStep) (texts : List TermText) (divisor rounds : ℕ) where
   pub unfit : (fault : StepFault) → GivesUp (fit_stencil table spans path texts divisor rounds) fault → GivesUp (done_to table (stencil_run live table spans path texts divisor rounds)) fault
@@ -19,12 +17,3 @@ module _ (live : ℕ) (table : Table) (spans : List Span) (path : List PathStep)
       → stencil_run live table spans path texts divisor rounds ≡ stencil_rounds table rounds stencil
   unfolding stencil_run
   run_is stencil fit room = goes_then _ _ _ fit ∙ goes_then _ _ _ room
-
--- ---- its rounds
-
--- ---- expressions without counters
-
-pub built_uncounted : (term : Term) → IsBuiltTerm term → IsBuiltTerm (uncounted term)
-built_uncounted (Count inner) built = built_uncounted inner built
-built_uncounted (Heat granule inner) built = built_uncounted inner built
-built_uncounted other built = built

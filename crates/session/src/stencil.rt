@@ -1,6 +1,5 @@
 // `stencil V window [..] set .. = (..) / D rounds N`.
-ghost use Rattle.std.specs.Prelude.{◌≡◌, ◌*◌, IfOk, []};
-ghost use Rattle.subviews.specs.Plans.{IsBufferOf};
+ghost use Rattle.std.specs.Prelude.{◌≡◌, ◌*◌, []};
 ghost use Rattle.worlds.specs.OnView.{done_to};
 ghost use Rattle.worlds.specs.Stencil.{room_beside, stencil_fault, stencil_rounds, stencil_run};
 ghost use Rattle.command_checks.specs.Inner.Gives.{Gives};
@@ -13,9 +12,9 @@ use command_checks::{FitStencil, MAX_LIVE_BYTES, StepFault, fit_stencil};
 use layout_io::Sink;
 use line_grammar::{TermTextList, WindowWords};
 use record_dim::{Path, Steps};
-use std::alloc::{AllocError as NoMemory, Global};
+use std::alloc::Global;
 use std::sync::ledger::Ledger;
-use subviews::{StencilFault, stencil};
+use subviews::{StencilFault, buffer_for, stencil};
 use views::{StoreFault, View};
 use worlds::CommandFault;
 
@@ -92,27 +91,6 @@ fn run_rounds<L: Ledger>(
     match done {
         Ok(()) => Ok(()),
         Err(fault) => Err(stencil_fault(alloc, view, fit.leaf, fault)?.into()),
-    }
-}
-
-// A view of zeros that lies as another one, without its counters.
-fn buffer_for(alloc: Global, view: &View) -> Result<View, NoMemory>
-    ensures { IfOk result (IsBufferOf view.now) }
-{
-    let _map = view.map();
-    let expr = view.expr().uncounted();
-    let most = view.blob_bytes();
-    match View::new_within(
-        alloc,
-        view.schema(),
-        view.extents(),
-        expr,
-        view.mode(),
-        most,
-    ) {
-        Ok(buffer) => Ok(buffer),
-        // The view itself keeps all limits, so only memory can be wanting.
-        Err(_) => Err(NoMemory),
     }
 }
 

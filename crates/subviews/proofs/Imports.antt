@@ -7,11 +7,12 @@ pub use Rattle.std.proofs.lemmas.Int.{ints, of_z-to_z, unsigned_abs-mul, fits_si
 pub use Rattle.std.proofs.Math.Nat.{mod-eq_of_lt, mul-div-le, div-le_self, mul-le-mul_right}
 pub use Rattle.std.specs.List.{position_or_len, enumerate_from, list_all}
 pub use Rattle.std.proofs.lemmas.List.Concat.{flat_map-append}
-pub use Rattle.std.specs.Prelude.{slice_get, if◌then◌else◌, max, unsigned_abs, ◌&&◌, ◌==◌, nat_lt, int_div}
+pub use Rattle.std.specs.Prelude.{slice_get, if◌then◌else◌, max, unsigned_abs, ◌&&◌, ◌==◌, nat_lt, int_div, ◌||◌, int_le}
 pub use Rattle.std.proofs.lemmas.Option.{slice_get-get_or, slice_get_within, get_or_from_slice_get}
-pub use Rattle.std.proofs.lemmas.List.Sums.{sum_by_more, sum_by_more_le, fold_more, AllPass-from_list_all, passes_at_first}
+pub use Rattle.std.proofs.lemmas.List.Sums.{sum_by_more, sum_by_more_le, fold_more, AllPass-from_list_all, passes_at_first, list_all-from_AllPass, fails_before_first}
 pub use Rattle.std.proofs.lemmas.Nat.{mul-le, mod_below}
-pub use Rattle.std.proofs.lemmas.Bool.{cases_eq, cases_lt, and_parts, ltb-true}
+pub use Rattle.std.proofs.lemmas.Bool.{cases_eq, cases_lt, and_parts, ltb-true, lt-ltb, false≢true}
+pub use Rattle.std.proofs.lemmas.Bool.Decides.{nat_tests}
 pub use Rattle.std.specs.Int.{w128}
 pub use Rattle.std.specs.Cmp.Rules.{signed_items}
 pub use Rattle.std.proofs.lemmas.List.Elements.{Contains-get_or}
@@ -41,18 +42,20 @@ pub use Rattle.record_dim.specs.Leaves.{Leaf, leaves, kinds_of}
 pub use Rattle.record_dim.specs.LeafTypes.{IsDeclared}
 pub use Rattle.record_dim.specs.Trees.{Fields}
 pub use Rattle.views.specs.RunsLaws.{low_declared, raised_low, raised_all}
-pub use Rattle.extents.specs.Windows.{holds}
-pub use Rattle.extents.specs.WindowLaws.{numbers_of, inside_length}
-pub use Rattle.map_checks.specs.Mappings.{leaf_cells, holds_by}
+pub use Rattle.extents.specs.Windows.{holds, IsWindow, sizes, moved}
+pub use Rattle.extents.specs.WindowLaws.{numbers_of, inside_length, window_count, window_row, moved_inside, same_rank}
+pub use Rattle.extents.specs.declared.window.Span.{Span}
+pub use Rattle.map_checks.specs.Mappings.{leaf_cells, holds_by, IsBuiltTerm}
+pub use Rattle.map_expr.specs.Terms.{term_of, uncounted}
 pub use Rattle.piece_bits.specs.TableLaws.{with_entry_shape, with_entry_same, with_entry_other}
 pub use Rattle.views.specs.AnswerLaws.{told_err, told_kept, told_ok}
-pub use Rattle.views.specs.UncountedLaws.{holds_uncounted}
+pub use Rattle.views.specs.UncountedLaws.{holds_uncounted, built_uncounted}
 pub use Rattle.layout_io.specs.Gathering.{Puts, HasPut}
 pub use Rattle.layout_io.specs.GatheringLaws.{Puts-append, Writes-puts_err, Puts-stop, Puts-loop_err}
 pub use Rattle.layout_io.specs.WritingLaws.{flat_map_push}
 pub use Rattle.record_dim.specs.declared.leaf_type.LeafType.TheVariants.{Bool as Truth, U8, U16, U32, U64, I8, I16, I32, I64}
 pub use Rattle.views.specs.StrictLaws.{between_true}
-pub use Rattle.extents.specs.IndicesLaws.{place, entry_at, same_row}
+pub use Rattle.extents.specs.IndicesLaws.{place, entry_at, same_row, inside_of_entry, row_of_inside}
 pub use Rattle.linearize.specs.Slots.{index_at}
 pub use Rattle.linearize.specs.SlotsLaws.{entry_of_row, index_at_inside}
 pub use Rattle.csv_rows.specs.Texts.{comma_line}
@@ -61,6 +64,7 @@ pub use Rattle.layout_io.specs.Decimal.{decimal_text}
 pub use Rattle.subviews.specs.Stencils.{with_entries, at_row, first_round_fault, weighted, row_from, Stencil, values_fault, stencil_value, new_entry, if_fits, round, next_round, stenciled, term_reads, round_reads, round_writes, round_log, tried_rows, rounds_log, refused_log, Weighted, term_value, term_read, is_weight, away, is_index, is_offset, reaches}
 pub use Rattle.subviews.specs.Plans.{IsBufferOf, AreConsecutive, IsRunOf, IsPlanOf, all_weights, limit_of, IsIdle, IsFilled, planned, IsTermOf, IsFar, IsWalk, stencil_by}
 pub use Rattle.subviews.specs.SubViews.{WindowOf, rows_of, outer_row, sub_table}
+pub use Rattle.subviews.specs.Inner.Reach.{stays, all_stay}
 pub use Rattle.subviews.specs.declared.runs.Run.{Run}
 pub use Rattle.subviews.specs.declared.plan.Plan.{Plan}
 pub use Rattle.subviews.specs.declared.term.Term.{Term}

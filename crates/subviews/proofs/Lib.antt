@@ -6,5 +6,6 @@ pub mod Growth
 pub mod Near
 pub mod Passes
 pub mod Printed
+pub mod Reaches
 pub mod Values
 pub mod Ways

@@ -1,3 +1,5 @@
 pub mod SubViews
 pub mod Stencils
 pub mod Plans
+pub mod RoundsLaws
+pub mod Inner

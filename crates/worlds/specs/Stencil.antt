@@ -20,8 +20,8 @@ use Rattle.worlds.specs.declared.fault.CommandFault.{CommandFault}
 use Rattle.worlds.specs.declared.fault.CommandFault.TheVariants.{BadStencil, TooBig}
 
 -- a term with the number of its leaf in place of its path
-abbrev pub stencil_term : Fields → TermText → Tested Weighted
-stencil_term fields text = do
+abbrev pub weighted_term : Fields → TermText → Tested Weighted
+weighted_term fields text = do
   leaf ← leaf_of fields text.path
   Ok (record { weight = text.weight; leaf = leaf; offsets = text.offsets })
 
@@ -44,7 +44,7 @@ fit_terms window texts divisor rounds = do
 abbrev pub fit_stencil : Table → List Span → List PathStep → List TermText → ℕ → ℕ → Tested Stencil
 fit_stencil table spans path texts divisor rounds = do
   leaf ← leaf_of table.fields path
-  terms ← each (stencil_term table.fields) texts
+  terms ← each (weighted_term table.fields) texts
   window ← windowed table.extents spans
   fit ← fit_terms window texts divisor rounds
   Ok (record { window = window; leaf = leaf; terms = terms; divisor = pos divisor })

@@ -1,18 +1,9 @@
 -- Stencils that may be made on a table.
-use Rattle.std.specs.Prelude.{ℕ, ◌≡◌, ◌<◌, ◌≤◌, All, List, [], ◌∷◌, length}
-use Rattle.line_grammar.specs.declared.line.TermText.{TermText}
+use Rattle.std.specs.Prelude.{◌≡◌, ◌<◌, ◌≤◌, All, length}
 use Rattle.subviews.specs.Plans.{IsTermOf, stencil_by}
-use Rattle.subviews.specs.Stencils.{Stencil, Weighted}
+use Rattle.subviews.specs.Stencils.{Stencil}
 use Rattle.views.specs.Tables.{Table, leaf_count_of}
 use Rattle.command_checks.specs.declared.stencils.FitStencil.{FitStencil}
-
--- a term of a text that reads this leaf, and terms that read these leaves
-abbrev pub placed_term : TermText → ℕ → Weighted
-placed_term text leaf = record { weight = text.weight; leaf = leaf; offsets = text.offsets }
-
-abbrev pub weighted_at : List TermText → List ℕ → List Weighted
-weighted_at (text ∷ texts) (leaf ∷ leaves) = placed_term text leaf ∷ weighted_at texts leaves
-weighted_at _ _ = []
 
 -- the stencil of its parts
 abbrev pub stencil_of : FitStencil → Stencil

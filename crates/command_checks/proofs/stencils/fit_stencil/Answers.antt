@@ -1,5 +1,5 @@
 use Rattle.command_checks.proofs.Imports.{arith, ◌≡◌, ℕ, List, map, ap, Span, weighted, leaf_count_of, weighted_at}
-use Rattle.command_checks.proofs.Terms.{are_fit, divides_some, terms_able, terms_few}
+use Rattle.command_checks.proofs.WeightedTerms.{are_fit, divides_some, terms_able, terms_few}
 use Rattle.command_checks.proofs.stencils.fit_stencil.Goals as goal
 
 pub returns-clause-able : goal.returns-clause-able

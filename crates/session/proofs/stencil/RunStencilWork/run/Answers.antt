@@ -1,4 +1,5 @@
-use Rattle.session.proofs.Imports.{◌*◌, [], rules, refl, sym, subst, Done, done_to, Gives, stencil_of, IsLeft, left_with, Tested}
+use Rattle.session.proofs.Imports.{◌*◌, [], rules, refl, sym, subst, Done, done_to, Gives, IsLeft, left_with, Tested}
+use Rattle.command_checks.specs.Inner.Stencils.{stencil_of}
 use Rattle.session.proofs.Exits.{answers_quiet, gave_up}
 use Rattle.session.proofs.Stencils.{unfit, no_room, run_is}
 use Rattle.session.proofs.stencil.RunStencilWork.run.Goals as goal

@@ -1,5 +1,5 @@
 -- Whether a term reads inside the array is seen at two rows of a window: its first and its last.
-use Rattle.command_checks.proofs.Imports.{◌≡◌, ℕ, ◌+◌, ◌-◌, ◌<◌, ◌≤◌, ◌≤ℤ◌, Bool, true, false, ℤ, pos, negsuc, neg_ℤ, ◌+ℤ◌, ◌-ℤ◌, List, [], ◌∷◌, length, map, get_or, Contains, Some, ⊎_elim, refl, ap, sym, subst, ◌∙◌, arith, ◌&&◌, ◌||◌, ◌==◌, nat_lt, int_le, slice_get, list_all, position_or_len, signed_items, and_parts, ltb-true, lt-ltb, cases_lt, false≢true, nat_tests, ints, AllPass-from_list_all, list_all-from_AllPass, passes_at_first, fails_before_first, slice_get-get_or, slice_get_within, get_or_from_slice_get, indices, IsInside, inside_of_entry, row_of_inside, Span, IsWindow, sizes, moved, window_count, window_row, moved_inside, same_rank, index_at, index_at_inside, WindowOf, rows_of, away, is_index, row_from, is_offset, reaches, stays, all_stay}
+use Rattle.subviews.proofs.Imports.{◌≡◌, ℕ, ◌+◌, ◌-◌, ◌<◌, ◌≤◌, ◌≤ℤ◌, Bool, true, false, ℤ, pos, negsuc, neg_ℤ, ◌+ℤ◌, ◌-ℤ◌, List, [], ◌∷◌, length, map, get_or, Contains, Some, ⊎_elim, refl, ap, sym, subst, ◌∙◌, arith, ◌&&◌, ◌||◌, ◌==◌, nat_lt, int_le, slice_get, list_all, position_or_len, signed_items, and_parts, ltb-true, lt-ltb, cases_lt, false≢true, nat_tests, ints, AllPass-from_list_all, list_all-from_AllPass, passes_at_first, fails_before_first, slice_get-get_or, slice_get_within, get_or_from_slice_get, indices, IsInside, inside_of_entry, row_of_inside, Span, IsWindow, sizes, moved, window_count, window_row, moved_inside, same_rank, index_at, index_at_inside, WindowOf, rows_of, away, is_index, row_from, is_offset, reaches, stays, all_stay}
 
 -- two tests that hold of the same
 same_test : (a b : Bool) → (a ≡ true → b ≡ true) → (b ≡ true → a ≡ true) → a ≡ b

@@ -1,6 +1,6 @@
 use Rattle.command_checks.proofs.Imports.{arith, rules, ◌≡◌, ◌<◌, ◌++◌, ◌∷◌, [], length}
-use Rattle.command_checks.proofs.Terms.{terms_more}
-use Rattle.command_checks.proofs.stencils.terms_at.Goals as goal
+use Rattle.command_checks.proofs.WeightedTerms.{terms_more}
+use Rattle.command_checks.proofs.terms.terms_at.Goals as goal
 
 pub loop-place-preserved : goal.loop-place-preserved
 loop-place-preserved c =

@@ -1,14 +1,14 @@
--- The terms of a stencil, one after another.
-use Rattle.command_checks.proofs.Imports.{◌≡◌, ℕ, zero, suc, ◌+◌, ◌<◌, ◌≤◌, Bool, true, false, not, pos, List, [], ◌∷◌, ◌++◌, length, map, take, get_or, refl, sym, ap, subst, ◌∙◌, arith, All, ◌&&◌, nat_lt, int_le, and_parts, nat_tests, ints, take_more, map-append, common_steps, AllPass-from_list_all, TermText, Fields, IsTermOf, Weighted, weighted, is_divisor, is_weight, reaches, WindowOf, Term, leaf_of, ◌>>=◌, refused_if, all_reach, all_weigh, stencil_term, fit_terms, Reach, Weight, Terms, Rounds, BadStencil, GivesUp, GivesUp-then, placed_term, weighted_at, StepFault, Ok}
+-- Weighted terms, one after another.
+use Rattle.command_checks.proofs.Imports.{◌≡◌, ℕ, zero, suc, ◌+◌, ◌<◌, ◌≤◌, Bool, true, false, not, pos, List, [], ◌∷◌, ◌++◌, length, map, take, get_or, refl, sym, ap, subst, ◌∙◌, arith, All, ◌&&◌, nat_lt, int_le, and_parts, nat_tests, ints, take_more, map-append, common_steps, AllPass-from_list_all, TermText, Fields, IsTermOf, Weighted, weighted, is_divisor, is_weight, reaches, WindowOf, Term, leaf_of, ◌>>=◌, refused_if, all_reach, all_weigh, weighted_term, fit_terms, Reach, Weight, Terms, Rounds, BadStencil, GivesUp, GivesUp-then, placed_term, weighted_at, StepFault, Ok}
 use Rattle.std.specs.Prelude.{◌^◌}
 
 -- ---- the leaves of terms
 
 -- a term whose leaf is known, and one whose path names none
-pub term_goes : (fields : Fields) (text : TermText) (leaf : ℕ) → leaf_of fields text.path ≡ Ok leaf → stencil_term fields text ≡ Ok (placed_term text leaf)
+pub term_goes : (fields : Fields) (text : TermText) (leaf : ℕ) → leaf_of fields text.path ≡ Ok leaf → weighted_term fields text ≡ Ok (placed_term text leaf)
 term_goes fields text leaf is = rw is refl
 
-pub term_ends : (fields : Fields) (text : TermText) (fault : StepFault) → GivesUp (leaf_of fields text.path) fault → GivesUp (stencil_term fields text) fault
+pub term_ends : (fields : Fields) (text : TermText) (fault : StepFault) → GivesUp (leaf_of fields text.path) fault → GivesUp (weighted_term fields text) fault
 term_ends fields text fault gives = GivesUp-then (leaf_of fields text.path) (λ leaf. Ok (placed_term text leaf)) fault gives
 
 -- one term more

@@ -1,6 +1,6 @@
-use Rattle.command_checks.proofs.Imports.{arith, ◌≡◌, length, ℕ, Bool, false, List, ap, sym, ◌∙◌, ◌==◌, ◌||◌, nat_tests, Span, same_rank, rows_of, all_stay}
-use Rattle.command_checks.proofs.Reaches.{reaches_rest}
-use Rattle.command_checks.proofs.stencils.reaches.Goals as goal
+use Rattle.subviews.proofs.Imports.{arith, ◌≡◌, length, ℕ, Bool, false, List, ap, sym, ◌∙◌, ◌==◌, ◌||◌, nat_tests, Span, same_rank, rows_of, all_stay}
+use Rattle.subviews.proofs.Reaches.{reaches_rest}
+use Rattle.subviews.proofs.reach.reaches.Goals as goal
 
 pub all_stay-requires-clause-spans : goal.all_stay-requires-clause-spans
 all_stay-requires-clause-spans c =

@@ -1,6 +1,5 @@
-use Rattle.session.proofs.Imports.{◌≡◌, ◌∙◌, sym, ap, subst, IsBuiltTerm, term_of, uncounted}
-use Rattle.session.proofs.Stencils.{built_uncounted}
-use Rattle.session.proofs.stencil.buffer_for.Goals as goal
+use Rattle.subviews.proofs.Imports.{◌≡◌, ◌∙◌, sym, ap, subst, IsBuiltTerm, term_of, uncounted, built_uncounted}
+use Rattle.subviews.proofs.buffer.buffer_for.Goals as goal
 
 pub new_within-requires : goal.new_within-requires
 new_within-requires c =

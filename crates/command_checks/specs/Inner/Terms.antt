@@ -1,0 +1,12 @@
+-- Terms of a text that read known leaves.
+use Rattle.std.specs.Prelude.{ℕ, List, [], ◌∷◌}
+use Rattle.line_grammar.specs.declared.line.TermText.{TermText}
+use Rattle.subviews.specs.Stencils.{Weighted}
+
+-- a term of a text that reads this leaf, and terms that read these leaves
+abbrev pub placed_term : TermText → ℕ → Weighted
+placed_term text leaf = record { weight = text.weight; leaf = leaf; offsets = text.offsets }
+
+abbrev pub weighted_at : List TermText → List ℕ → List Weighted
+weighted_at (text ∷ texts) (leaf ∷ leaves) = placed_term text leaf ∷ weighted_at texts leaves
+weighted_at _ _ = []

@@ -1,0 +1,2 @@
+-- Words of contracts within the project, which no promise reaches.
+pub mod Reach
