@@ -1,11 +1,11 @@
 -- What the proofs of this crate speak of.
 pub use Rattle.std.proofs.Common.{◌≡◌, ℕ, suc, ◌+◌, ◌<◌, List, [], ◌∷◌, ◌++◌, take, drop, get_or, length, refl, sym, ap, ◌∙◌, true, false, nat_le, ◌-◌, ◌*◌, ◌≤◌, ◌^◌, Bool, map, Ok, arith, inl, inr, cond, Option, Some, None, subst, ⊎_elim, zero, append_assoc, pos, not, rules, Err, length-append}
-pub use Rattle.std.proofs.lemmas.List.{take-append-drop, take_more, get_or-map, length-map, append-nil, map-append}
+pub use Rattle.std.proofs.lemmas.List.{take-append-drop, take_more, get_or-map, length-map, append-nil, map-append, length-take-le}
 pub use Rattle.std.proofs.Math.Seq.{drop-cons}
 pub use Rattle.std.specs.Prelude.{◌&&◌, nat_lt, ◌||◌, int_le, All}
 pub use Rattle.std.proofs.lemmas.Bool.{and_parts, le-leb, leb-true, false≢true, lt-ltb, or_right, cases_Bool}
 pub use Rattle.std.proofs.lemmas.Bool.Decides.{nat_tests}
-pub use Rattle.std.proofs.lemmas.List.Sums.{sum_by_more, AllPass-from_list_all}
+pub use Rattle.std.proofs.lemmas.List.Sums.{sum_by_more}
 pub use Rattle.std.specs.BTreeMap.{BTreeMap, Updates}
 pub use Rattle.std.specs.Cmp.Lexicographic.{slice_cmp, bytes_decides, texts_ties}
 pub use Rattle.std.specs.List.{position_from, range_with_len}
@@ -14,8 +14,7 @@ pub use Rattle.std.specs.Ordering.{nat_cmp}
 pub use Rattle.std.proofs.lemmas.List.Concat.{flat_map-append}
 pub use Rattle.std.proofs.lemmas.Int.{ints}
 pub use Rattle.std.proofs.lemmas.Option.{slice_get_within}
-pub use Rattle.std.proofs.lemmas.Grind.{common_steps}
-pub use Rattle.std.proofs.lemmas.List.Elements.{All-push}
+pub use Rattle.std.proofs.lemmas.List.Elements.{All-push, All-nil, All-cons, All-head, All-tail}
 pub use Rattle.worlds.specs.Outcomes.{Outcome, Goes, Faults, CannotRead, ◌>>=◌, each, refused_if, some_or, Tested}
 pub use Rattle.extents.specs.declared.window.Span.{Span}
 pub use Rattle.extents.specs.Windows.{IsWindow}

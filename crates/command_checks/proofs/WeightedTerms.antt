@@ -1,5 +1,5 @@
 -- Weighted terms, one after another.
-use Rattle.command_checks.proofs.Imports.{◌≡◌, ℕ, zero, suc, ◌+◌, ◌<◌, ◌≤◌, Bool, true, false, not, pos, List, [], ◌∷◌, ◌++◌, length, map, take, get_or, refl, sym, ap, subst, ◌∙◌, arith, All, ◌&&◌, nat_lt, int_le, and_parts, nat_tests, ints, take_more, map-append, common_steps, AllPass-from_list_all, TermText, Fields, IsTermOf, Weighted, weighted, is_divisor, is_weight, reaches, WindowOf, Term, leaf_of, ◌>>=◌, refused_if, all_reach, all_weigh, weighted_term, fit_terms, Reach, Weight, Terms, Rounds, BadStencil, GivesUp, GivesUp-then, placed_term, weighted_at, StepFault, Ok}
+use Rattle.command_checks.proofs.Imports.{◌≡◌, ℕ, ◌+◌, ◌<◌, ◌≤◌, Bool, true, false, not, pos, List, [], ◌∷◌, ◌++◌, length, map, take, get_or, refl, sym, ap, subst, ◌∙◌, arith, All, ◌&&◌, nat_lt, int_le, and_parts, nat_tests, ints, take_more, map-append, TermText, Fields, IsTermOf, Weighted, weighted, is_divisor, is_weight, reaches, WindowOf, Term, leaf_of, ◌>>=◌, refused_if, all_reach, all_weigh, weighted_term, fit_terms, Reach, Weight, Terms, Rounds, BadStencil, GivesUp, GivesUp-then, placed_term, weighted_at, StepFault, Ok, length-take-le, All-nil, All-cons, All-head, All-tail}
 use Rattle.std.specs.Prelude.{◌^◌}
 
 -- ---- the leaves of terms
@@ -19,13 +19,10 @@ weighted_push [] (other ∷ leaves) text leaf same = absurd (omega (arith, same)
 weighted_push (first ∷ texts) [] text leaf same = absurd (omega (arith, same))
 weighted_push (first ∷ texts) (other ∷ leaves) text leaf same = ap (λ (terms : List Weighted). placed_term first other ∷ terms) (weighted_push texts leaves text leaf (omega (arith, same)))
 
-take_long : {X : Type 0} (i : ℕ) (xs : List X) → i ≤ length xs → length (take i xs) ≡ i
-take_long i xs small = grind (arith, common_steps)
-
 pub weighted_more : (texts : List TermText) (leaves : List ℕ) (i : ℕ) (text : TermText) (leaf : ℕ) → i < length texts → length leaves ≡ i
     → weighted_at (take (i + 1) texts) (leaves ++ leaf ∷ []) ≡ weighted_at (take i texts) leaves ++ placed_term (get_or texts i text) leaf ∷ []
 weighted_more texts leaves i text leaf small long =
-    let front : length (take i texts) ≡ i = take_long i texts (omega (arith, small)) in
+    let front : length (take i texts) ≡ i = length-take-le i texts (omega (arith, small)) in
     ap (λ (front : List TermText). weighted_at front (leaves ++ leaf ∷ [])) (take_more texts i text small)
     ∙ weighted_push (take i texts) leaves (get_or texts i text) leaf (omega (arith, front, long))
 
@@ -56,45 +53,23 @@ divides_some divisor divides =
     let low = (and_parts (int_le (pos 1) (pos divisor)) (int_le (pos divisor) (pos (2 ^ 31))) divides).0 in
     grind (arith, ints, low)
 
-pub reach_at : (window : WindowOf) (texts : List TermText) (i : ℕ) (text : TermText) → i < length texts → all_reach window texts ≡ true → reaches window (get_or texts i text).offsets ≡ true
-reach_at window texts i text small all = AllPass-from_list_all (λ (one : TermText). reaches window one.offsets) texts all i text small
-
-pub weigh_at : (texts : List TermText) (i : ℕ) (text : TermText) → i < length texts → all_weigh texts ≡ true → is_weight (get_or texts i text).weight ≡ true
-weigh_at texts i text small all = AllPass-from_list_all (λ (one : TermText). is_weight one.weight) texts all i text small
-
 -- ---- the terms of the code
 
--- a term stands for its text and its leaf
-record IsPlaced (terms : List Term) (texts : List TermText) (leaves : List ℕ) (k : ℕ) (d : Term) (text : TermText) : Type 0 where
-  is : weighted (get_or terms k d) ≡ placed_term (get_or texts k text) (get_or leaves k 0)
-  in_texts : k < length texts
-  in_leaves : k < length leaves
-
-placed : (terms : List Term) (texts : List TermText) (leaves : List ℕ) (k : ℕ) (d : Term) (text : TermText) → map weighted terms ≡ weighted_at texts leaves → length leaves ≡ length texts → k < length terms
-    → IsPlaced terms texts leaves k d text
-placed [] texts leaves k d text is same small = absurd (omega (arith, small))
-placed (term ∷ terms) [] leaves k d text is same small = absurd (cc)
-placed (term ∷ terms) (first ∷ texts) [] k d text is same small = absurd (omega (arith, same))
-placed (term ∷ terms) (first ∷ texts) (leaf ∷ leaves) zero d text is same small = record { is = cc; in_texts = omega arith; in_leaves = omega arith }
-placed (term ∷ terms) (first ∷ texts) (leaf ∷ leaves) (suc k) d text is same small =
-    let rest : map weighted terms ≡ weighted_at texts leaves = cc in
-    let later = placed terms texts leaves k d text rest (omega (arith, same)) (omega (arith, small)) in
-    record { is = later.is; in_texts = omega (arith, later.in_texts); in_leaves = omega (arith, later.in_leaves) }
-
-some_texts : (terms : List Term) (leaves : List ℕ) (k : ℕ) → map weighted terms ≡ weighted_at [] leaves → k < length terms → ⊥
-some_texts [] leaves k is small = omega (arith, small)
-some_texts (term ∷ terms) leaves k is small = absurd (cc)
-
-pub terms_able : (leaf_count : ℕ) (window : WindowOf) (terms : List Term) (texts : List TermText) (leaves : List ℕ) → map weighted terms ≡ weighted_at texts leaves → length leaves ≡ length texts
+pub terms_able : (leaf_count : ℕ) (window : WindowOf) (terms : List Term) (texts : List TermText) (leaves : List ℕ) → map weighted terms ≡ weighted_at texts leaves
     → all_reach window texts ≡ true → all_weigh texts ≡ true → All (λ leaf. leaf < leaf_count) leaves → All (IsTermOf leaf_count window) terms
-terms_able leaf_count window terms [] leaves is same reach weigh inside = λ k d small. absurd (some_texts terms leaves k is small)
-terms_able leaf_count window terms (text ∷ texts) leaves is same reach weigh inside = λ k d small.
-    let at = placed terms (text ∷ texts) leaves k d text is same small in
-    record {
-      inside = subst (λ (leaf : ℕ). leaf < leaf_count) (sym (ap (λ (w : Weighted). w.leaf) at.is)) (inside k 0 at.in_leaves);
-      weight = ap (λ (w : Weighted). is_weight w.weight) at.is ∙ weigh_at (text ∷ texts) k text at.in_texts weigh;
-      reach = ap (λ (w : Weighted). reaches window w.offsets) at.is ∙ reach_at window (text ∷ texts) k text at.in_texts reach;
-    }
+terms_able leaf_count window [] texts leaves is reach weigh inside = All-nil (IsTermOf leaf_count window)
+terms_able leaf_count window (term ∷ terms) [] leaves is reach weigh inside = absurd (cc)
+terms_able leaf_count window (term ∷ terms) (text ∷ texts) [] is reach weigh inside = absurd (cc)
+terms_able leaf_count window (term ∷ terms) (text ∷ texts) (leaf ∷ leaves) is reach weigh inside =
+    let here : weighted term ≡ placed_term text leaf = cc in
+    let rest : map weighted terms ≡ weighted_at texts leaves = cc in
+    let near = and_parts (reaches window text.offsets) (all_reach window texts) reach in
+    let light = and_parts (is_weight text.weight) (all_weigh texts) weigh in
+    All-cons (IsTermOf leaf_count window) term terms (record {
+      inside = subst (λ (leaf : ℕ). leaf < leaf_count) (sym (ap (λ (w : Weighted). w.leaf) here)) (All-head (λ leaf. leaf < leaf_count) leaf leaves inside);
+      weight = ap (λ (w : Weighted). is_weight w.weight) here ∙ light.0;
+      reach = ap (λ (w : Weighted). reaches window w.offsets) here ∙ near.0;
+    }) (terms_able leaf_count window terms texts leaves rest near.1 light.1 (All-tail (λ leaf. leaf < leaf_count) leaf leaves inside))
 
 pub terms_few : (terms : List Term) (texts : List TermText) (leaves : List ℕ) → map weighted terms ≡ weighted_at texts leaves → length terms ≤ length texts
 terms_few [] texts leaves is = omega arith
@@ -107,7 +82,7 @@ terms_few (term ∷ terms) (text ∷ texts) (leaf ∷ leaves) is =
 pub terms_more : (terms after : List Term) (texts : List TermText) (leaves : List ℕ) (i : ℕ) (text : TermText) (term : Term) → i < length texts → i < length leaves → after ≡ terms ++ term ∷ []
     → map weighted terms ≡ weighted_at (take i texts) (take i leaves) → weighted term ≡ placed_term (get_or texts i text) (get_or leaves i 0) → map weighted after ≡ weighted_at (take (i + 1) texts) (take (i + 1) leaves)
 terms_more terms after texts leaves i text term in_texts in_leaves push so_far is =
-    let front : length (take i leaves) ≡ i = take_long i leaves (omega (arith, in_leaves)) in
+    let front : length (take i leaves) ≡ i = length-take-le i leaves (omega (arith, in_leaves)) in
     ap (map weighted) push ∙ map-append weighted terms (term ∷ []) ∙ ap (λ (all : List Weighted). all ++ weighted term ∷ []) so_far
     ∙ ap (λ (one : Weighted). weighted_at (take i texts) (take i leaves) ++ one ∷ []) is
     ∙ sym (weighted_more texts (take i leaves) i text (get_or leaves i 0) in_texts front)

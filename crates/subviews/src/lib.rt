@@ -1,7 +1,6 @@
 //! Windows of a view, used as views of their own, and stencils over them.
 #![tactic(auto)]
 
-mod buffer;
 mod far;
 mod fault;
 mod limits;
@@ -14,10 +13,9 @@ mod sub_view;
 mod sums;
 mod term;
 
-pub use buffer::buffer_for;
 pub use fault::StencilFault;
 pub use print::print_window;
 pub use reach::{is_divisor, is_weight, reaches};
-pub use rounds::stencil;
+pub use rounds::{buffer_for, stencil};
 pub use sub_view::SubView;
 pub use term::Term;

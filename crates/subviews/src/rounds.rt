@@ -1,5 +1,5 @@
-// Rounds of a stencil over a window.
-ghost use Rattle.std.specs.Prelude.{◌≡◌, ◌+◌, ◌<◌, ◌≤◌, ℕ, true, pos, ◌<ℤ◌, int_div, All, Contains, Ok, Err, OnOk, OnErr, IfErr, length, map};
+// Rounds of a stencil over a window, and their buffer.
+ghost use Rattle.std.specs.Prelude.{◌≡◌, ◌+◌, ◌<◌, ◌≤◌, ℕ, true, pos, ◌<ℤ◌, int_div, All, Contains, Ok, Err, OnOk, OnErr, IfOk, IfErr, length, map};
 ghost use Rattle.places.specs.Image.{entry};
 ghost use Rattle.views.specs.Columns.{column_reads, column_writes, with_column as with_values};
 ghost use Rattle.views.specs.LeafRuns.{run_of};
@@ -18,8 +18,30 @@ use crate::term::Term;
 use extents::Window;
 use piece_bits::StoreMode;
 use record_dim::Steps;
+use std::alloc::{AllocError as NoMemory, Global};
 use std::sync::ledger::Ledger;
 use views::{View, laws_of_table};
+
+/// A buffer for stencils over a view: it lies as the view does, without the view's counters.
+pub fn buffer_for(alloc: Global, view: &View) -> Result<View, NoMemory>
+    ensures { IfOk result (IsBufferOf view.now) }
+{
+    let _map = view.map();
+    let expr = view.expr().uncounted();
+    let most = view.blob_bytes();
+    match View::new_within(
+        alloc,
+        view.schema(),
+        view.extents(),
+        expr,
+        view.mode(),
+        most,
+    ) {
+        Ok(buffer) => Ok(buffer),
+        // The view itself keeps all limits, so only memory can be wanting.
+        Err(_) => Err(NoMemory),
+    }
+}
 
 /// Sets a leaf in each row of a window to the sum of the terms there, divided and cut toward zero, so many times. All values of a round are
 /// worked out over the table before it, into the buffer, and only then stored. On a fault the table is that after the rounds before, and what

@@ -14,7 +14,7 @@ returns-clause-able c =
     record {
       window = ap (λ (w : List ℕ × List Span). w.0) c.in_ok-window.ensures.spans;
       leaf = c.in_ok-leaf.ensures.inside;
-      terms = terms_able (leaf_count_of c.args.view.now) window terms texts leaves are c.in_ok-leaves.ensures.paired fit.reach fit.weigh c.in_ok-leaves.ensures.inside;
+      terms = terms_able (leaf_count_of c.args.view.now) window terms texts leaves are fit.reach fit.weigh c.in_ok-leaves.ensures.inside;
       few = omega (arith, few, fit.few);
       divisor = divides_some c.args.divisor fit.divides;
     }
