@@ -67,7 +67,6 @@ pub use Rattle.places.specs.declared.rule.PieceRule.{PieceRule}
 pub use Rattle.extents.specs.Indices.{indices}
 pub use Rattle.places.specs.TouchedLaws.{touched_hot as pieces_hot}
 pub use Rattle.views.specs.ViewFields.{HasGranules}
-pub use Rattle.views.specs.UncountedLaws.{built_uncounted}
 pub use Rattle.views.specs.CountLaws.{piece_inside, blob_granules}
 pub use Rattle.record_dim.specs.LeafTypes.{least_of, greatest_of, least_in, greatest_in, IsDeclared}
 pub use Rattle.piece_bits.specs.declared.mode.StoreMode.TheVariants.{Strict}

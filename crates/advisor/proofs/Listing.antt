@@ -1,7 +1,13 @@
 -- Listed expressions, one after another.
-use Rattle.advisor.proofs.Imports.{◌≡◌, ℕ, ◌+◌, ◌<◌, ◌≤◌, ◌⊎◌, ⊎_elim, inl, inr, List, length, map, get_or, drop, add-one, drop-cons, Option, Some, None, Ok, Err, sym, ap, ◌∙◌, Result, drop_all, Term, MakeMap, AdviseFault, fault_at, fault_or, first_judged_fault}
+use Rattle.advisor.proofs.Imports.{◌≡◌, ℕ, ◌+◌, ◌<◌, ◌≤◌, ◌⊎◌, ⊎_elim, inl, inr, List, length, map, get_or, drop, add-one, drop-cons, Option, Some, None, Ok, Err, sym, ap, ◌∙◌, Result, drop_all, Term, Aos, Soa, Aosoa, BitAos, BitSoa, Split, Byteswap, Bytesplit, Change, Count, Heat, Named, uncounted, IsBuiltTerm, MakeMap, AdviseFault, fault_at, fault_or, first_judged_fault}
 use Rattle.map_checks.specs.declared.fault.MakeMap.TheVariants as made
 use Rattle.advisor.specs.declared.advice.AdviseFault.TheVariants.{NoMemory}
+
+-- an expression that is built is so without its counters
+pub built_uncounted : (term : Term) → IsBuiltTerm term → IsBuiltTerm (uncounted term)
+built_uncounted (Count inner) built = built_uncounted inner built
+built_uncounted (Heat granule inner) built = built_uncounted inner built
+built_uncounted other built = built
 
 -- the first fault from an expression on
 module _ {X : Type 0} (judge : Term → Result Unit MakeMap) (f : X → Term) (xs : List X) where

@@ -49,7 +49,7 @@ pub use Rattle.map_checks.specs.Mappings.{leaf_cells, holds_by, IsBuiltTerm}
 pub use Rattle.map_expr.specs.Terms.{term_of, uncounted}
 pub use Rattle.piece_bits.specs.TableLaws.{with_entry_shape, with_entry_same, with_entry_other}
 pub use Rattle.views.specs.AnswerLaws.{told_err, told_kept, told_ok}
-pub use Rattle.views.specs.UncountedLaws.{holds_uncounted, built_uncounted}
+pub use Rattle.views.specs.UncountedLaws.{holds_uncounted}
 pub use Rattle.layout_io.specs.Gathering.{Puts, HasPut}
 pub use Rattle.layout_io.specs.GatheringLaws.{Puts-append, Writes-puts_err, Puts-stop, Puts-loop_err}
 pub use Rattle.layout_io.specs.WritingLaws.{flat_map_push}

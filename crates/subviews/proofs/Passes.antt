@@ -1,10 +1,16 @@
 -- The two passes of a round, run by run, and rounds one after another.
-use Rattle.subviews.proofs.Imports.{◌≡◌, ℕ, zero, suc, ◌+◌, ◌<◌, ◌≤◌, true, ℤ, pos, List, [], ◌∷◌, ◌++◌, length, map, take, get_or, Contains, Result, Ok, Err, is_ok, Some, refl, ap, sym, subst, ◌∙◌, ⊎_elim, arith, slice_get, cases_eq, cases_lt, length-map, get_or-map, take-map, take_all, fold_more, slice_get-get_or, slice_get_within, get_or_from_slice_get, indices, entry, Hold, LeafType, Fields, leaves, kinds_of, leaf_cells, holds_by, StoreMode, HasShape, hold_at, with_entry, with_entry_shape, with_entry_same, with_entry_other, told_err, told_kept, told_ok, column_writes, with_values, run_of, run_fault, stored_count, with_run, holds_uncounted, Stays, kind_at, store_answer, without_number, kept_or, Write, Tally, tallied, after_log-none, after_log-append, after_stores-append, tallied-none, logs_more, Table, IsTable, owners_of, leaf_count_of, leaf_type_of, table_holds, answer_of, kept_of, after_log, after_stores, after_write, StoreFault, rows_of, Stencil, values_fault, stencil_value, new_entry, with_entries, if_fits, round, next_round, stenciled, term_reads, round_reads, round_writes, round_log, tried_rows, rounds_log, refused_log, StencilFault, Plan, IsBufferOf, IsPlanOf, IsIdle, AreConsecutive, IsFilled, planned}
-use Rattle.map_expr.specs.Terms.{Term}
+use Rattle.subviews.proofs.Imports.{◌≡◌, ℕ, zero, suc, ◌+◌, ◌<◌, ◌≤◌, true, ℤ, pos, List, [], ◌∷◌, ◌++◌, length, map, take, get_or, Contains, Result, Ok, Err, is_ok, Some, refl, ap, sym, subst, ◌∙◌, ⊎_elim, arith, slice_get, cases_eq, cases_lt, length-map, get_or-map, take-map, take_all, fold_more, slice_get-get_or, slice_get_within, get_or_from_slice_get, indices, entry, Hold, LeafType, Fields, leaves, kinds_of, leaf_cells, holds_by, StoreMode, HasShape, hold_at, with_entry, with_entry_shape, with_entry_same, with_entry_other, told_err, told_kept, told_ok, column_writes, with_values, run_of, run_fault, stored_count, with_run, holds_uncounted, Stays, kind_at, store_answer, without_number, kept_or, Write, Tally, tallied, after_log-none, after_log-append, after_stores-append, tallied-none, logs_more, Table, IsTable, owners_of, leaf_count_of, leaf_type_of, table_holds, answer_of, kept_of, after_log, after_stores, after_write, StoreFault, rows_of, Stencil, values_fault, stencil_value, new_entry, with_entries, if_fits, round, next_round, stenciled, term_reads, round_reads, round_writes, round_log, tried_rows, rounds_log, refused_log, StencilFault, Plan, IsBufferOf, IsPlanOf, IsIdle, AreConsecutive, IsFilled, planned, IsBuiltTerm, uncounted}
+use Rattle.map_expr.specs.Terms.{Term, Count, Heat}
 use Rattle.subviews.proofs.Fronts.{logs_front, map_front, fits_more, fault_here, column_same}
 use Rattle.subviews.proofs.AtOnce.{AreTaken, are_taken, run_count, run_value, stored_to, none_of_run, one_of_run}
 
 -- ---- a buffer keeps what its view keeps
+
+-- the expression of a view is built without its counters too
+pub built_uncounted : (term : Term) → IsBuiltTerm term → IsBuiltTerm (uncounted term)
+built_uncounted (Count inner) built = built_uncounted inner built
+built_uncounted (Heat granule inner) built = built_uncounted inner built
+built_uncounted other built = built
 
 same_kind : (view buffer : Table) → IsBufferOf view buffer → (leaf : ℕ) → leaf_type_of buffer leaf ≡ leaf_type_of view leaf
 same_kind view buffer is leaf = ap (λ (fields : Fields). kind_at (kinds_of fields) leaf) is.fields

@@ -3,7 +3,7 @@ use Rattle.std.proofs.Common.{◌≡◌, ℕ, List, refl, ◌∙◌}
 use Rattle.record_dim.specs.Trees.{Fields}
 use Rattle.places.specs.declared.piece.Cell.{Cell}
 use Rattle.map_expr.specs.Terms.{Term, Aos, Soa, Aosoa, BitAos, BitSoa, Split, Byteswap, Bytesplit, Change, Count, Heat, Named, uncounted}
-use Rattle.map_checks.specs.Mappings.{IsBuiltTerm, layout_of, holds_of, most_slots}
+use Rattle.map_checks.specs.Mappings.{layout_of, holds_of, most_slots}
 
 -- what no counter changes is that of the expression without the counters at its top
 same_uncounted : {A : Type 0} (f : Term → A) → ((inner : Term) → f inner ≡ f (Count inner)) → ((granule : ℕ) (inner : Term) → f inner ≡ f (Heat granule inner))
@@ -21,9 +21,3 @@ holds_uncounted term fields cells = same_uncounted (λ t. holds_of t fields cell
 
 pub slots_uncounted : (term : Term) (extents : List ℕ) → most_slots (uncounted term) extents ≡ most_slots term extents
 slots_uncounted term extents = same_uncounted (λ t. most_slots t extents) (λ inner. refl) (λ granule inner. refl) term
-
--- an expression that is built is so without its counters
-pub built_uncounted : (term : Term) → IsBuiltTerm term → IsBuiltTerm (uncounted term)
-built_uncounted (Count inner) built = built_uncounted inner built
-built_uncounted (Heat granule inner) built = built_uncounted inner built
-built_uncounted other built = built

@@ -1,4 +1,5 @@
-use Rattle.advisor.proofs.Imports.{◌≡◌, ◌+◌, ◌++◌, ◌∷◌, [], List, All, map, take, sym, ap, ◌∙◌, subst, arith, take_more, map_push, All-push, Term, term_of, uncounted, MapExpr, IsBuiltTerm, built_uncounted}
+use Rattle.advisor.proofs.Imports.{◌≡◌, ◌+◌, ◌++◌, ◌∷◌, [], List, All, map, take, sym, ap, ◌∙◌, subst, arith, take_more, map_push, All-push, Term, term_of, uncounted, MapExpr, IsBuiltTerm}
+use Rattle.advisor.proofs.Listing.{built_uncounted}
 use Rattle.advisor.proofs.listed.uncounted.Goals as goal
 
 pub loop-at-preserved : goal.loop-at-preserved

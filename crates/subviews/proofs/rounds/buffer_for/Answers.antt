@@ -1,4 +1,5 @@
-use Rattle.subviews.proofs.Imports.{◌≡◌, ◌∙◌, sym, ap, subst, IsBuiltTerm, term_of, uncounted, built_uncounted}
+use Rattle.subviews.proofs.Imports.{◌≡◌, ◌∙◌, sym, ap, subst, IsBuiltTerm, term_of, uncounted}
+use Rattle.subviews.proofs.Passes.{built_uncounted}
 use Rattle.subviews.proofs.rounds.buffer_for.Goals as goal
 
 pub new_within-requires : goal.new_within-requires
