@@ -13,7 +13,7 @@ const MAX_OFFSET: i128 = 1 << 32;
 /// Weights lie from the negative of this number to below it, and a divisor is at most this number.
 const WEIGHTS: i128 = 1 << 31;
 
-/// Whether from each row of a window, of these spans, the offsets lead into the array: one for each dimension, and none past 2^32.
+/// Whether from each row of a window the offsets, one for each dimension and none past 2^32, lead into the array. `spans` are the window's.
 pub fn reaches(window: &Window, spans: &[Span], offsets: &[i128]) -> bool
     requires spans { window.now.1 ≡ spans.now }
     requires is { IsWindow window.now.0 window.now.1 }
