@@ -1,5 +1,5 @@
 use Rattle.subviews.proofs.Imports.{arith, ◌≡◌, length, ℕ, Bool, false, List, ap, sym, ◌∙◌, ◌==◌, ◌||◌, nat_tests, Span, same_rank, rows_of, all_stay}
-use Rattle.subviews.proofs.Reaches.{reaches_rest}
+use Rattle.subviews.proofs.Corners.{reaches_rest}
 use Rattle.subviews.proofs.reach.reaches.Goals as goal
 
 pub all_stay-requires-clause-spans : goal.all_stay-requires-clause-spans
