@@ -13,11 +13,6 @@ code_raised kinds.U64 low width narrow fits =
     ∙ sym (code_low (pos (of_z w64 low)) width narrow (omega (arith, ints), omega (arith, ints, whole)))
 code_raised _ low width narrow fits = refl
 
--- two facts that hold together
-pub and_parts : (a b : Bool) → (a && b) ≡ true → (a ≡ true) × (b ≡ true)
-and_parts true b both = (refl, both)
-and_parts false b both = absurd (cc)
-
 set_there : (blobs : List (List ℕ)) (blob : ℕ) → set blobs blob (get_or blobs blob []) ≡ blobs
 set_there [] blob = refl
 set_there (first ∷ blobs) zero = refl

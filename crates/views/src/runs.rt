@@ -14,7 +14,7 @@ ghost use Rattle.views.specs.Stores.{Fits, kind_at};
 use crate::view::BlobList;
 use blobs::Blob;
 use map_any::AnyMap;
-use piece_bits::{put_stretch, read_stretch};
+use piece_bits::{are_within, put_stretch, read_stretch};
 use places::{Mapping, laws_of};
 use record_dim::LeafType;
 
@@ -91,11 +91,8 @@ pub fn are_taken(mapping: &AnyMap, leaf: usize, values: &[i64]) -> bool
     ensures { result ≡ true → (k : ℕ) → k < length values.now → Fits (kind_at (map (λ cell. cell.kind) (⟦<AnyMap as Mapping>⟧.cell_list mapping.now)) leaf)
         (hold_at (⟦<AnyMap as Mapping>⟧.hold_list mapping.now) leaf) (slice_index_or values.now k (pos 0)) }
 {
-    let mut all = true;
-    for value in values {
-        all &= mapping.takes(leaf, i128::from(*value));
-    }
-    all
+    let (least, greatest) = mapping.taken(leaf);
+    are_within(least, greatest, values)
 }
 
 /// The value of a type whose low 64 bits these are, read with a sign.
