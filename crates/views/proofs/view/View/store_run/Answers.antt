@@ -1,4 +1,4 @@
-use Rattle.views.proofs.Imports.{◌≡◌, ◌<◌, ◌∙◌, ℤ, ℕ, List, None, true, pos, get_or, length, map, sym, ap, subst, arith, hold_at, column_writes, with_column, raised, run_fault, told_lane, stored_count, with_run, raised_same, Fits, without_number, answer_of, kept_or, kept_of, leaf_type_of, table_holds, after_stores, LaneFault}
+use Rattle.views.proofs.Imports.{◌≡◌, ◌∙◌, ℤ, List, None, true, pos, get_or, length, map, sym, ap, subst, arith, hold_at, column_writes, with_column, raised, run_fault, told_lane, stored_count, with_run, raised_same, Fits, without_number, answer_of, kept_or, kept_of, leaf_type_of, table_holds, after_stores, LaneFault}
 use Rattle.std.proofs.Common.{take_all}
 use Rattle.std.specs.Prelude.{Option}
 use Rattle.views.proofs.KeptColumns.{none_refused}
