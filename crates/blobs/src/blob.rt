@@ -93,6 +93,15 @@ impl Blob {
         *self.places.get(at)
     }
 
+    /// The byte at `at`, where it lies: its address is one that callers in C read from.
+    #[inline(always)]
+    pub fn byte(&self, at: usize) -> &u8
+        requires { at < length self.now }
+        ensures { result.now ≡ slice_index self.now at }
+    {
+        self.places.get(at)
+    }
+
     /// Makes the byte at `at` this one.
     #[inline(always)]
     pub fn put(&mut self, at: usize, byte: u8)

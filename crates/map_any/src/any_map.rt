@@ -1,4 +1,4 @@
-ghost use Rattle.std.specs.Prelude.{ℕ, ◌≡◌, ◌<◌, ◌*◌, ◌∷◌, List, [], true, false, IfOk, OnOk, IfErr, IfSome, Ok, length, map, slice_index, slice_index_or};
+ghost use Rattle.std.specs.Prelude.{ℕ, ℤ, ◌≡◌, ◌<◌, ◌≤ℤ◌, ◌*◌, ◌∷◌, List, [], true, false, IfOk, OnOk, IfErr, IfSome, Ok, length, map, slice_index, slice_index_or};
 ghost use Rattle.extents.specs.Indices.{indices};
 ghost use Rattle.record_dim.specs.LeafTypes.{is_signed, IsIn, IsDeclared};
 ghost use Rattle.record_dim.specs.Schemas.{schema_fields};
@@ -110,6 +110,18 @@ impl AnyMap {
             Ok(near) => rule.least <= near && near <= rule.greatest,
             Err(_) => false,
         }
+    }
+
+    /// From the first of these to the second, each value is sure to be declared for a leaf and held by it. Where none is, the first is the
+    /// greater.
+    #[inline(always)]
+    pub fn taken(&self, leaf: usize) -> (i64, i64)
+        requires { leaf < length (⟦<AnyMap as Mapping>⟧.cell_list self.now) }
+        ensures { (value : ℤ) → result.0 ≤ℤ value → value ≤ℤ result.1 → let hold = hold_in (⟦<AnyMap as Mapping>⟧.hold_list self.now) leaf in
+            IsDeclared (kind_in (map (λ cell. cell.kind) (⟦<AnyMap as Mapping>⟧.cell_list self.now)) leaf) value × IsIn hold.signed hold.width value }
+    {
+        let rule = self.leaf_rule(leaf);
+        (rule.least, rule.greatest)
     }
 
     /// The one piece of a leaf in a row, where it has one. None where there may be several.

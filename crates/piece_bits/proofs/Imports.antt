@@ -1,9 +1,9 @@
 -- What the proofs of this crate speak of.
-pub use Rattle.std.proofs.Common.{◌≡◌, ℕ, ◌≤◌, ◌^◌, List, length, sym, ap, subst, ◌+◌, ◌-◌, ◌%◌, ◌<◌, ◌*◌, Bool, true, false, bit_xor, pos, ◌-ℤ◌, ◌∙◌, ⊎_elim, arith, ◌≢◌, zero, suc, [], ◌∷◌, ◌++◌, get_or, set, map, take, ℤ, refl, ◌/◌, All, bit_and, negsuc, w64, min, lit<, append_assoc, ◌⊎◌, rules, FitsSigned, SFits, Some, slice_index, ◌+ℤ◌, to_z, of_z, ◌*ℤ◌, fold, drop, drop-cons}
+pub use Rattle.std.proofs.Common.{◌≡◌, ◌≤ℤ◌, bit_or, ℕ, ◌≤◌, ◌^◌, List, length, sym, ap, subst, ◌+◌, ◌-◌, ◌%◌, ◌<◌, ◌*◌, Bool, true, false, bit_xor, pos, ◌-ℤ◌, ◌∙◌, ⊎_elim, arith, ◌≢◌, zero, suc, [], ◌∷◌, ◌++◌, get_or, set, map, take, ℤ, refl, ◌/◌, All, bit_and, negsuc, w64, min, lit<, append_assoc, ◌⊎◌, rules, FitsSigned, SFits, Some, slice_index, ◌+ℤ◌, to_z, of_z, ◌*ℤ◌, fold, drop, drop-cons}
 pub use Rattle.std.proofs.lemmas.Grind.{common_steps}
 pub use Rattle.std.proofs.lemmas.Int.{ints, to_z-of_z}
 pub use Rattle.std.proofs.lemmas.Nat.{pow_pos, xor_block, and_mask, mod_below, shr_split, shr-shr, pow-add, div-mul-add, mod-mul-add, div-add-mod'}
-pub use Rattle.std.proofs.lemmas.Bool.{cases_lt, cases_eq}
+pub use Rattle.std.proofs.lemmas.Bool.{cases_lt, cases_eq, leb-true}
 pub use Rattle.std.proofs.Math.Nat.{mod-eq_of_lt, mod-eq-sub-mod, pow-le-pow_right, div-lt_iff_lt-mul, div-mul-le_self, mod-lt, mul-le-mul_right, div-one, mod-one, mul_assoc, div-eq_of_lt}
 pub use Rattle.std.specs.Simd.Lanes.{zip2, Each2}
 pub use Rattle.std.proofs.lemmas.List.{map-append, length-map, get_or-map, get_or-set_other, take_more, take_more_set, take_all, length-set, get_or-set_same, same_lists, get_or_read, get_or_default, drop_all}
@@ -79,3 +79,4 @@ pub use Rattle.piece_bits.specs.CellsLaws.{IsCell, hold_is, some_bits, few_bits,
 pub use Rattle.piece_bits.specs.OnePieceLaws.{one_count, one_within, one_table, one_laid, one_width, one_entry}
 pub use Rattle.piece_bits.specs.LowsLaws.{code_low}
 pub use Rattle.piece_bits.specs.Spreads.{offset_by, spread_power}
+pub use Rattle.piece_bits.specs.Inner.Distances.{far_of}

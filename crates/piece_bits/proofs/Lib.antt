@@ -1,4 +1,5 @@
 mod Imports
+mod Distances
 mod Remainders
 mod Rows
 pub mod AlongLaws

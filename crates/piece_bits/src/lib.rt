@@ -30,6 +30,7 @@ mod value;
 mod walk;
 mod wide;
 mod wide_rules;
+mod within;
 mod word;
 mod words;
 
@@ -53,4 +54,5 @@ pub use value::{decode, encode};
 pub use walk::Walk;
 pub use wide::{field_wide, turned_wide, whole_wide};
 pub use wide_rules::Wide;
+pub use within::are_within;
 pub use word::{Word, read_word, write_word};

@@ -13,7 +13,3 @@ low_near true (pos n) limit low high = omega (arith, ints, high)
 low_near true (negsuc n) limit low high = omega (arith, ints, low)
 low_near false (pos n) limit low high = omega (arith, ints, high)
 low_near false (negsuc n) limit low high = absurd (omega (arith, ints, low))
-
--- one that is handed on with 128 bits
-pub passed : (value wide : ℤ) → FitsSigned w64 value → wide ≡ value → to_z w128 (of_z w128 wide) ≡ value
-passed value wide fits same = ap (λ (z : ℤ). to_z w128 (of_z w128 z)) same ∙ to_z-of_z w128 value (record { sfits = omega (arith, fits.sfits) })

@@ -48,30 +48,6 @@ module _ (answer : StoreAnswer) (leaf : ℕ) where
   taken_before lane [] fault some = absurd (cc)
   taken_before lane (value ∷ values) fault some = before_by lane value values fault (answer leaf value) refl (taken_before (lane + 1) values fault) some
 
--- what a strict view takes lies in both ranges
-parts : (declared held : Bool) (value : ℤ) → is_ok (if declared then (if held then Ok value else Err Narrow) else Err Range) ≡ true → (declared ≡ true) × (held ≡ true)
-parts true true value ok = (refl, refl)
-parts true false value ok = absurd (cc)
-parts false held value ok = absurd (cc)
-
--- what lies between two values that are taken is taken
-pub between_taken : (mode : StoreMode) (kind : LeafType) (hold : Hold) (least greatest value : ℤ) → least ≤ℤ value → value ≤ℤ greatest
-    → is_ok (store_answer mode kind hold least) ≡ true → is_ok (store_answer mode kind hold greatest) ≡ true → is_ok (store_answer mode kind hold value) ≡ true
-between_taken Wrap kind hold least greatest value low high one two = refl
-between_taken Strict kind hold least greatest value low high one two =
-    let from = least_of kind in
-    let to = greatest_of kind in
-    let first = least_in hold.signed hold.width in
-    let last = greatest_in hold.signed hold.width in
-    let below = parts (is_between from to least) (is_between first last least) least one in
-    let above = parts (is_between from to greatest) (is_between first last greatest) greatest two in
-    let declared_low = (between_true from to least below.0).0 in
-    let declared_high = (between_true from to greatest above.0).1 in
-    let held_low = (between_true first last least below.1).0 in
-    let held_high = (between_true first last greatest above.1).1 in
-    ap (λ (r : Result ℤ StoreFault). is_ok r)
-    (fitting_stored kind hold value (omega (arith, ints, declared_low, low), omega (arith, ints, declared_high, high)) (omega (arith, ints, held_low, low), omega (arith, ints, held_high, high)))
-
 -- what is stored of values up to their first fault
 pub record IsStored (answer : StoreAnswer) (leaf : ℕ) (values : List ℤ) (count : ℕ) : Type 0 where
   pub few : count ≤ length values
@@ -91,7 +67,3 @@ told_none (Some fault) x without_number = absurd (cc)
 pub told_some : (fault : Option LaneFault) (other : LaneFault) → told_lane fault ≡ Err other → fault ≡ Some other
 told_some None other without_number = absurd (cc)
 told_some (Some fault) other without_number = cc
-
--- a value fits
-pub fits_taken : (answer : Result ℤ StoreFault) (fits : Result Unit StoreFault) (test : Bool) → fits ≡ without_number answer → test ≡ is_ok fits → test ≡ true → is_ok answer ≡ true
-fits_taken answer fits test is tested ok = sym (told_same answer) ∙ ap (λ (r : Result Unit StoreFault). is_ok r) (sym is) ∙ sym tested ∙ ok

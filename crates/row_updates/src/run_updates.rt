@@ -1,5 +1,5 @@
 // Updates of many rows at once, in a view that counts nothing.
-ghost use Rattle.std.specs.Prelude.{ℕ, ◌≡◌, ◌+◌, ◌<◌, ◌≤◌, Bool, true, false, ℤ, pos, is_ok, OnOk, IfErr, IfSome, Option, Some, None, All, List, [], ◌∷◌, count_by, length, map, slice_index_or, if◌then◌else◌, ◌-◌};
+ghost use Rattle.std.specs.Prelude.{ℕ, ◌≡◌, ◌+◌, ◌<◌, ◌≤◌, Bool, true, false, ℤ, pos, OnOk, IfErr, IfSome, Option, Some, None, All, List, [], ◌∷◌, count_by, length, map, slice_index_or, if◌then◌else◌, ◌-◌};
 ghost use Rattle.expr_lang.specs.Bounds.{bound_term};
 ghost use Rattle.expr_lang.specs.Terms.{Term};
 ghost use Rattle.expr_lang.specs.Values.{is_true};
@@ -7,7 +7,7 @@ ghost use Rattle.expr_lang.specs.Inner.Exacts.{IsSafe};
 ghost use Rattle.views.specs.Columns.{in_leaf};
 ghost use Rattle.views.specs.Tables.{Table, leaf_count_of};
 ghost use Rattle.row_updates.specs.Rows.{IsBoundOver, IsSetOf, setting_of, filter_term};
-ghost use Rattle.row_updates.specs.Inner.ValueRuns.{IsIdle, IsRunOf, AreGiven, AreTaken, row_of};
+ghost use Rattle.row_updates.specs.Inner.ValueRuns.{IsIdle, IsRunOf, AreGiven, row_of};
 ghost use Rattle.row_updates.specs.Inner.Updated.{AreUpdated, IsStopped, IsStill, IsRunUpdated, lane_test, AreTested};
 
 use crate::fault::UpdateFault;
@@ -22,7 +22,7 @@ use views::{View, laws_of_table};
 pub const ROWS: u64 = 256;
 
 // How far from 0 what stands in a leaf may lie, since it is stored again as 64 bits with a sign.
-const FAR: u64 = (1 << 63) - 1;
+const FAR: u64 = 1 << 62;
 
 /// Updates all rows, as many as there are up to 256 at once, and row by row where values lie too far from 0 or a leaf does not take one.
 pub fn update_by_runs<L: Ledger>(
@@ -236,7 +236,7 @@ fn sets_run<L: Ledger>(
     let last = &sets[before];
     let mut buffer = [0; 256];
     let values = &mut buffer[..count];
-    if !value_run(view, last, run, mask, values, steps) || !takes_all(view, last.leaf, values) {
+    if !value_run(view, last, run, mask, values, steps) || !view.takes_run(last.leaf, values) {
         return false;
     }
     if !sets_run(view, &sets[..before], run, count, mask, steps) {
@@ -316,18 +316,4 @@ fn chosen(test: i64, value: i64, other: i64) -> i64
     ensures { result ≡ (if is_true test then value else other) }
 {
     if test == 0 { other } else { value }
-}
-
-// Whether a leaf takes each of these: it does where it takes the least and the greatest of them.
-fn takes_all(view: &View, leaf: usize, values: &[i64]) -> bool
-    requires { leaf < leaf_count_of view.now }
-    ensures { result ≡ true → AreTaken view.now leaf values.now }
-{
-    let mut least = i64::MAX;
-    let mut greatest = i64::MIN;
-    for value in values {
-        least = least.min(*value);
-        greatest = greatest.max(*value);
-    }
-    view.fits(leaf, i128::from(least)).is_ok() && view.fits(leaf, i128::from(greatest)).is_ok()
 }

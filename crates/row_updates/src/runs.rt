@@ -10,6 +10,7 @@ ghost use Rattle.row_updates.specs.Inner.ValueRuns.{IsIdle, IsRunOf, AreWorth, A
 
 use crate::index::put_index;
 use expr_lang::{Chain, Links, Operand, Step, apply_step, lone_number};
+use piece_bits::are_within;
 use record_dim::{LeafType, Steps};
 use std::sync::ledger::Ledger;
 use views::View;
@@ -153,13 +154,7 @@ fn are_near(values: &[i64], signed: bool, limit: u64) -> bool
 {
     let greatest = limit as i64;
     let least = if signed { -greatest } else { 0 };
-    let mut near = true;
-    for value in values {
-        let number = *value;
-        let inside = least <= number && number <= greatest;
-        near = near && inside;
-    }
-    near
+    are_within(least, greatest, values)
 }
 
 // The numbers of the index in a dimension, and whether each is no greater than this.

@@ -1,6 +1,6 @@
 -- Pieces of slots that are moved between the blobs of two views, as far behind each other on either side.
-use Rattle.views.proofs.Imports.{◌≡◌, ℕ, zero, suc, ◌+◌, ◌*◌, ◌%◌, ◌<◌, ◌≤◌, List, [], length, get_or, set, Option, Some, None, sym, ap, ◌∙◌, subst, arith, IfSome, get_or-set_same, length-set, set-set, set-get_or, indices, Order, slot_count, Fields, kinds_of, Owner, IsMoved, AreMoved, moved_bits, Term, array_of, lanes_in, IsArrayRun, AreRuns, StoreMode, IsKept, raw_under, size_of, IsRunMoved, IsMovedEach, kind_at}
-use Rattle.views.proofs.RunMoveLaws.{IsRunOf, HasRun, none_moved, target_in, target_room, source_in, source_room, run_kept, run_raw}
+use Rattle.views.proofs.Imports.{◌≡◌, ℕ, zero, suc, ◌+◌, ◌*◌, ◌%◌, ◌<◌, ◌≤◌, List, [], length, get_or, set, Option, Some, None, sym, ap, ◌∙◌, subst, arith, IfSome, get_or-set_same, length-set, set-set, set-get_or, indices, Order, slot_count, Fields, kinds_of, Owner, IsMoved, AreMoved, moved_bits, Term, array_of, lanes_in, IsArrayRun, StoreMode, IsKept, raw_under, IsRunMoved, IsMovedEach}
+use Rattle.views.proofs.RunMoveLaws.{IsMove, HasRun, none_moved, target_in, target_room, source_in, source_room, run_kept, run_raw}
 use Rattle.views.proofs.SlotMoveLaws.{runs_joined}
 
 -- one of all that is said of a mapping's slots
@@ -21,37 +21,23 @@ run_at term layout extents leaf width slot n blob byte step h k = of (array_of t
 
 -- pieces of a leaf of two views over one array
 pub record AreEven (a b : Term) (extents others_extents : List ℕ) (fields trees : Fields) (leaf slot count pieces target at to_step source from from_step len : ℕ) : Type 0 where
-  pub alike : (fields ≡ trees) × (extents ≡ others_extents)
-  pub arrays : AreRuns a b
-  pub leaf_in : leaf < length (kinds_of fields)
-  pub some : 0 < count
   pub more : 0 < pieces
-  pub len_is : len ≡ count * size_of (kind_at (kinds_of fields) leaf)
-  pub one : (k : ℕ) → k < pieces → IfSome (array_of a) (IsRunOf a extents fields leaf (slot + k * count) count target (at + k * to_step))
-  pub two : (k : ℕ) → k < pieces → IfSome (array_of b) (IsRunOf b others_extents trees leaf (slot + k * count) count source (from + k * from_step))
+  pub each : (k : ℕ) → k < pieces → IsMove a b extents others_extents fields trees leaf (slot + k * count) count target (at + k * to_step) source (from + k * from_step) len
 
-module _ {mode lender : StoreMode} (a b : Term) (extents others_extents : List ℕ) (fields trees : Fields) (old others : List (List ℕ)) (leaf slot count pieces target at to_step source from from_step len : ℕ)
+module _ {mode lender : StoreMode} {a b : Term} {extents others_extents : List ℕ} {fields trees : Fields} {old others : List (List ℕ)} {leaf slot count pieces target at to_step source from from_step len : ℕ}
     (e : AreEven a b extents others_extents fields trees leaf slot count pieces target at to_step source from from_step len)
     (kept : IsKept mode a extents fields old) (others_kept : IsKept lender b others_extents trees others) where
   pub each_target_in : target < length old
-  each_target_in =
-      target_in a b extents others_extents fields trees old others old leaf (slot + 0 * count) count target (at + 0 * to_step) source (from + 0 * from_step) len
-      e.alike e.arrays e.leaf_in e.some e.len_is (e.one 0 e.more) (e.two 0 e.more) kept others_kept
+  each_target_in = target_in (e.each 0 e.more) kept others_kept
 
   pub each_source_in : source < length others
-  each_source_in =
-      source_in a b extents others_extents fields trees old others old leaf (slot + 0 * count) count target (at + 0 * to_step) source (from + 0 * from_step) len
-      e.alike e.arrays e.leaf_in e.some e.len_is (e.one 0 e.more) (e.two 0 e.more) kept others_kept
+  each_source_in = source_in (e.each 0 e.more) kept others_kept
 
   pub each_target_room : (k : ℕ) → k < pieces → at + k * to_step + len ≤ length (get_or old target [])
-  each_target_room k l =
-      target_room a b extents others_extents fields trees old others old leaf (slot + k * count) count target (at + k * to_step) source (from + k * from_step) len
-      e.alike e.arrays e.leaf_in e.some e.len_is (e.one k l) (e.two k l) kept others_kept
+  each_target_room k l = target_room (e.each k l) kept others_kept
 
   pub each_source_room : (k : ℕ) → k < pieces → from + k * from_step + len ≤ length (get_or others source [])
-  each_source_room k l =
-      source_room a b extents others_extents fields trees old others old leaf (slot + k * count) count target (at + k * to_step) source (from + k * from_step) len
-      e.alike e.arrays e.leaf_in e.some e.len_is (e.one k l) (e.two k l) kept others_kept
+  each_source_room k l = source_room (e.each k l) kept others_kept
 
   -- what is kept of blobs, and what their raw numbers are, once so many slots were moved
   abbrev After : ℕ → List (List ℕ) → Type 0
@@ -79,15 +65,13 @@ module _ {mode lender : StoreMode} (a b : Term) (extents others_extents : List �
       (subst (λ (bs : List ℕ). IsMoved bs (at + k * to_step) (get_or others source []) (from + k * from_step) len bytes) (sym here) h.2) in
       let moved : AreMoved others blobs new source (8 * (from + k * from_step)) target (8 * (at + k * to_step)) (8 * len) =
       subst (λ (bs : List (List ℕ)). AreMoved others blobs bs source (8 * (from + k * from_step)) target (8 * (at + k * to_step)) (8 * len)) (set-set old target mid bytes) bits in
-      let next = run_raw a b extents others_extents fields trees blobs others new leaf (slot + k * count) count target (at + k * to_step) source (from + k * from_step) len
-      e.alike e.arrays e.leaf_in e.some e.len_is (e.one k inside) (e.two k inside) so_far.0 others_kept moved in
+      let next = run_raw (e.each k inside) so_far.0 others_kept moved in
       let all : k * count + count ≡ suc k * count = grind arith in (
-        run_kept a b extents others_extents fields trees blobs others new leaf (slot + k * count) count target (at + k * to_step) source (from + k * from_step) len
-            e.alike e.arrays e.leaf_in e.some e.len_is (e.one k inside) (e.two k inside) so_far.0 others_kept moved,
+        run_kept (e.each k inside) so_far.0 others_kept moved,
         subst (λ (n : ℕ). IfSome (array_of a) (λ array. IsRunMoved array.0 extents (length (indices extents)) (length (kinds_of fields)) leaf slot n
             (raw_under b others_extents trees others) (raw_under a extents fields old) (raw_under a extents fields new))) all
             (runs_joined (array_of a) extents (length (indices extents)) (length (kinds_of fields)) leaf slot (k * count) count (raw_under b others_extents trees others)
-            (raw_under a extents fields old) (raw_under a extents fields blobs) (raw_under a extents fields new) e.leaf_in so_far.1 next),
+            (raw_under a extents fields old) (raw_under a extents fields blobs) (raw_under a extents fields new) (e.each k inside).leaf_in so_far.1 next),
       )
 
   -- once all were

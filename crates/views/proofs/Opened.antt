@@ -1,5 +1,5 @@
 -- A view by its fields.
-use Rattle.views.proofs.Imports.{◌≡◌, ℕ, ℤ, ◌<◌, ◌≤◌, List, [], ◌∷◌, Some, false, length, map, slice_get, sym, ap, ◌∙◌, subst, arith, enumerate_from, length-map, length-enumerate_from, get_or_from_slice_get, Fields, indices, Schema, LeafType, Truth, schema_fields, leaves, kinds_of, IsIn, IsDeclared, is_signed, Owner, IsLaidOut, entry, Cell, Hold, MapExpr, Term, term_of, kinds_are, leaf_cells, layout_by, holds_by, IsTooBigFor, is_counted, hold_widths, AreLaid, table_in, hold_at, with_entry, Table, leaf_count_of, leaf_type_of, table_holds, after_log, after_raw, after_stores, IsTable, IsSettledIn, Fits, kind_at, Access, Write, Tally, after_access, tallied, all_touches, declared, StoreMode, Strict, IsSettled, raw_held, stays_declared, IsKept, IsMappingOf, IsTallied, HasSign, raw_under, table_under, idle_logged}
+use Rattle.views.proofs.Imports.{◌≡◌, ℕ, ℤ, ◌<◌, ◌≤◌, List, [], ◌∷◌, Some, false, length, map, slice_get, sym, ap, ◌∙◌, subst, arith, SFits, to_z, of_z, w128, to_z-of_z, enumerate_from, length-map, length-enumerate_from, get_or_from_slice_get, Fields, indices, Schema, LeafType, Truth, schema_fields, leaves, kinds_of, IsIn, IsDeclared, is_signed, Owner, IsLaidOut, entry, Cell, Hold, MapExpr, Term, term_of, kinds_are, leaf_cells, layout_by, holds_by, IsTooBigFor, is_counted, hold_widths, AreLaid, table_in, hold_at, with_entry, Table, leaf_count_of, leaf_type_of, table_holds, after_log, after_raw, after_stores, IsTable, IsSettledIn, Fits, kind_at, Access, Write, Tally, after_access, tallied, all_touches, declared, StoreMode, Strict, IsSettled, raw_held, stays_declared, IsKept, IsMappingOf, IsTallied, HasSign, raw_under, table_under, idle_logged}
 use Rattle.views.proofs.KeptLaws.{kind_count, row_count, kept_shape, kept_stays, hold_some, entry_is_declared, entry_stays, sign_entry, strict_raw, kept_set, table_set}
 
 -- as many cells as leaves
@@ -65,6 +65,19 @@ module _ {term : Term} {extents : List ℕ} {fields : Fields} {mapped : Term} {i
   sign_there leaf sign =
       subst (λ (hs : List Hold). (hold_at hs leaf).signed ≡ is_signed (kind_at (kinds_of fields) leaf)) mapping.holds_are
       (subst (λ (ks : List LeafType). (hold_at holds leaf).signed ≡ is_signed (kind_at ks leaf)) (kinds_are cells (kinds_of fields) mapping.cells_are) sign)
+
+  -- a raw number is stored, as it is handed on
+  module _ (leaf : ℕ) (raw : ℤ) (fits : SFits w128 raw) where
+    pub held_passed : IsIn (hold_at (holds_by term fields) leaf).signed (hold_at (holds_by term fields) leaf).width raw → IsIn (hold_at holds leaf).signed (hold_at holds leaf).width (to_z w128 (of_z w128 raw))
+    held_passed held =
+        subst (λ (hs : List Hold). IsIn (hold_at hs leaf).signed (hold_at hs leaf).width (to_z w128 (of_z w128 raw))) (sym mapping.holds_are)
+        (subst (λ (v : ℤ). IsIn (hold_at (holds_by term fields) leaf).signed (hold_at (holds_by term fields) leaf).width v) (sym (to_z-of_z w128 raw fits)) held)
+
+    pub raw_stored : (blobs new : List (List ℕ)) (row : ℕ) → table_in layout slots holds new ≡ with_entry (table_in layout slots holds blobs) row leaf (to_z w128 (of_z w128 raw))
+        → raw_under term extents fields new ≡ with_entry (raw_under term extents fields blobs) row leaf raw
+    raw_stored blobs new row wrote =
+        sym (raw_same new) ∙ wrote ∙ ap (λ (t : List (List ℤ)). with_entry t row leaf (to_z w128 (of_z w128 raw))) (raw_same blobs)
+        ∙ ap (with_entry (raw_under term extents fields blobs) row leaf) (to_z-of_z w128 raw fits)
 
 -- the same after copies of the schema and the expression
 pub mapping_copied : {term copy mapped : Term} {fields same : Fields} {extents inside : List ℕ} {layout : List (List Owner)} {slots : ℕ} {cells : List Cell} {holds : List Hold} →
@@ -194,6 +207,9 @@ module _ {mode : StoreMode} (schema : Schema) (extents : List ℕ) (expr : MapEx
     sign_seen sign =
         read_here mapping lent blobs same row leaf
         ∙ sym (sign_entry mode (term_of expr) extents (schema_fields schema) blobs kept row leaf (omega (arith, row_in, rows_seen)) (leaf_seen leaf leaf_in) (sign_there mapping leaf sign)) ∙ entry_there
+
+    pub sign_declared : HasSign cells holds leaf → (value : ℤ) → value ≡ entry (table_in layout slots holds lent) row leaf → IsDeclared (leaf_type_of seen leaf) value
+    sign_declared sign value read = subst (λ (v : ℤ). IsDeclared (leaf_type_of seen leaf) v) (sym (read ∙ sign_seen sign)) (declared_seen row leaf row_in leaf_in)
 
     pub strict_seen : mode ≡ Strict → entry (table_in layout slots holds lent) row leaf ≡ entry seen.rows row leaf
     strict_seen strict =

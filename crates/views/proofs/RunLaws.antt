@@ -1,7 +1,7 @@
 -- Rows of a leaf that lie in a stretch.
-use Rattle.views.proofs.Imports.{◌≡◌, ℕ, zero, suc, ◌+◌, ◌^◌, ◌<◌, ◌≤◌, Bool, true, false, ◌&&◌, List, [], ◌∷◌, length, map, take, drop, get_or, set, slice_index, ℤ, pos, ◌≤ℤ◌, FitsSigned, of_z, w64, refl, sym, ap, ◌∙◌, subst, arith, bit_at, range_with_len, Fits-of_z, ints, length-map, get_or-map, get_or-set_same, set-set, length-take, length-drop, get_or-drop, get_or-take, get_or_default, same_lists, length-range_with_len, IsIn, IsDeclared, least_of, greatest_of, least_in, greatest_in, LeafType, number, digit, entry, Owner, IsLaidOut, Hold, bit_of, PieceRule, AreSized, AreLaid, hold_at, table_in, with_entry, word_place, word_width, start_in, IsShortIn, stretch_place, IsStretch, stretch_fits, ShortRule, Stretch, low_64, code_low, stretched_at, StretchFits, ArePut, word_narrow, in_leaf, column, with_column, no_column, entry_more, raised, Fits}
+use Rattle.views.proofs.Imports.{◌≡◌, ℕ, zero, suc, ◌+◌, ◌^◌, ◌<◌, ◌≤◌, List, [], ◌∷◌, length, map, take, drop, get_or, set, slice_index, ℤ, pos, ◌≤ℤ◌, FitsSigned, of_z, w64, refl, sym, ap, ◌∙◌, subst, arith, bit_at, range_with_len, Fits-of_z, ints, length-map, get_or-map, get_or-set_same, set-set, length-take, length-drop, get_or-drop, get_or-take, get_or_default, same_lists, length-range_with_len, IsIn, IsDeclared, least_of, greatest_of, least_in, greatest_in, LeafType, number, digit, entry, Owner, IsLaidOut, Hold, bit_of, PieceRule, AreSized, AreLaid, hold_at, table_in, with_entry, word_place, word_width, IsShortIn, stretch_place, IsStretch, stretch_fits, ShortRule, Stretch, low_64, code_low, stretched_at, StretchFits, ArePut, word_narrow, in_leaf, column, with_column, no_column, entry_more, raised, Fits}
 use Rattle.record_dim.specs.declared.leaf_type.LeafType.TheVariants as kinds
-use Rattle.views.proofs.AccessLaws.{is_word, blob_there, word_there, word_read, word_put, word_lies}
+use Rattle.views.proofs.AccessLaws.{StandsAt, stands, blob_there, word_there, word_read, word_put, word_lies}
 
 -- ---- low bits
 
@@ -12,11 +12,6 @@ code_raised kinds.U64 low width narrow fits =
     code_low low width narrow (omega (arith, ints, fits.sfits), omega (arith, ints, fits.sfits))
     ∙ sym (code_low (pos (of_z w64 low)) width narrow (omega (arith, ints), omega (arith, ints, whole)))
 code_raised _ low width narrow fits = refl
-
--- two facts that hold together
-pub and_parts : (a b : Bool) → (a && b) ≡ true → (a ≡ true) × (b ≡ true)
-and_parts true b both = (refl, both)
-and_parts false b both = absurd (cc)
 
 set_there : (blobs : List (List ℕ)) (blob : ℕ) → set blobs blob (get_or blobs blob []) ≡ blobs
 set_there [] blob = refl
@@ -32,28 +27,27 @@ module _ {layout : List (List Owner)} {slots : ℕ} (holds : List Hold) (leaf ro
   row_in : (k : ℕ) → k < stretch.rows → row + k < slots
   row_in k inside = omega (arith, inside, lies.few, rows_in)
 
-  place : (k : ℕ) → k < stretch.rows → stretch_place stretch k ≡ start_in short (row + k)
-  place k inside = sym (lies.place k inside)
+  -- where the leaf stands in a row of it
+  at_row : (blobs : List (List ℕ)) → AreSized layout blobs → (k : ℕ) → k < stretch.rows → StandsAt layout slots holds (row + k) leaf short (stretch_place stretch k) blobs
+  at_row blobs sized k inside = stands holds (row + k) leaf laid paired (row_in k inside) leaf_in form (stretch_place stretch k) (sym (lies.place k inside)) blobs sized lies.alone
 
   module _ (blobs : List (List ℕ)) (sized : AreSized layout blobs) where
     pub stretch_blob : short.blob < length blobs
-    stretch_blob = blob_there holds (row + 0) leaf laid paired (row_in 0 lies.some) leaf_in form (stretch_place stretch 0) (place 0 lies.some) blobs sized lies.alone
+    stretch_blob = blob_there (at_row blobs sized 0 lies.some)
 
     pub has_room : (bytes : List ℕ) → bytes ≡ get_or blobs short.blob [] → StretchFits short stretch (length bytes)
     has_room bytes is = record {
-      form = is_word holds (row + 0) leaf laid paired (row_in 0 lies.some) leaf_in form (stretch_place stretch 0) (place 0 lies.some) blobs sized lies.alone;
+      form = (at_row blobs sized 0 lies.some).form;
       digits = lies.digits;
       places = λ k inside. stretch_fits short row most stretch lies k inside (λ j below. form.starts (row + j) (omega (arith, below, rows_in)));
-      room = λ k inside.
-          word_there holds (row + k) leaf laid paired (row_in k inside) leaf_in form (stretch_place stretch k) (place k inside) blobs sized lies.alone bytes is;
+      room = λ k inside. word_there (at_row blobs sized k inside) bytes is;
     }
 
     -- what stands there are the entries
     pub stretch_read : (bytes : List ℕ) → bytes ≡ get_or blobs short.blob [] → (k there : ℕ) → k < stretch.rows → row + k ≡ there
         → stretched_at short stretch bytes k ≡ entry (table_in layout slots holds blobs) there leaf
     stretch_read bytes is k there inside at =
-        word_read holds (row + k) leaf laid paired (row_in k inside) leaf_in form (stretch_place stretch k) (place k inside) blobs sized lies.alone bytes
-        (stretched_at short stretch bytes k) is refl
+        word_read (at_row blobs sized k inside) bytes (stretched_at short stretch bytes k) is refl
         ∙ ap (λ (n : ℕ). entry (table_in layout slots holds blobs) n leaf) at
 
     -- numbers that are put there make a column
@@ -89,19 +83,16 @@ module _ {layout : List (List Owner)} {slots : ℕ} (holds : List Hold) (leaf ro
           let twice : set so_far short.blob new ≡ set blobs short.blob new = set-set blobs short.blob between new in
           let here : between ≡ get_or so_far short.blob [] = sym (get_or-set_same blobs short.blob between [] stretch_blob) in
           let width : ℕ = word_width short.word short.field in
-          let narrow : width ≤ 64 =
-          word_narrow short.word short.field
-          (is_word holds (row + 0) leaf laid paired (row_in 0 lies.some) leaf_in form (stretch_place stretch 0) (place 0 lies.some) blobs sized lies.alone) in
+          let standing = at_row so_far before.0.sized k inside in
+          let narrow : width ≤ 64 = word_narrow short.word short.field standing.form in
           let code : number (digit low) width ≡ number (digit value) width = code_raised kind low width narrow put.2.fits in
           let written : (j : ℕ) → j < width → bit_of new (word_place short.word (stretch_place stretch k) j) ≡ bit_at (number (digit value) width) j =
           λ j below. put.2.inside j below ∙ ap (λ (n : ℕ). bit_at n j) code in
           let size : length table ≡ slots = length-map (range_with_len 0 slots) _ ∙ length-range_with_len 0 slots in (
             subst (λ (b : List (List ℕ)). AreLaid layout b) twice
-                (word_lies holds (row + k) leaf laid paired (row_in k inside) leaf_in form (stretch_place stretch k) (place k inside) so_far before.0.sized lies.alone value value between new
-                (held (at + k) there) refl here written put.2.before put.2.after put.2.len before.0),
+                (word_lies standing value value between new (held (at + k) there) refl here written put.2.before put.2.after put.2.len before.0),
             ap (table_in layout slots holds) (sym twice)
-                ∙ word_put holds (row + k) leaf laid paired (row_in k inside) leaf_in form (stretch_place stretch k) (place k inside) so_far before.0.sized lies.alone value value between new
-                (held (at + k) there) refl here written put.2.before put.2.after put.2.len
+                ∙ word_put standing value value between new (held (at + k) there) refl here written put.2.before put.2.after put.2.len
                 ∙ ap (λ (t : List (List ℤ)). with_entry t (row + k) leaf value) before.1
                 ∙ ap (with_entry (with_column leaf row (take k numbers) table) (row + k) leaf) (number_is k inside)
                 ∙ entry_more leaf row k (row + k) numbers table (omega (arith, inside, many)) refl (omega (arith, row_in k inside, size)),

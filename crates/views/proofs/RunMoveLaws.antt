@@ -74,23 +74,29 @@ run_there {term} {extents} {fields} {mapped} {inside} {layout} {slots} {cells} {
     } in found)
     here within (array_holds term fields (leaf_cells (kinds_of fields)))
 
--- a run that is moved between the blobs of two views
-module _ {mode lender : StoreMode} (a b : Term) (extents others_extents : List ℕ) (fields trees : Fields) (old others new : List (List ℕ)) (leaf slot count target at source from len : ℕ)
-    (alike : (fields ≡ trees) × (extents ≡ others_extents)) (arrays : AreRuns a b) (leaf_in : leaf < length (kinds_of fields)) (some : 0 < count)
-    (len_is : len ≡ count * size_of (kind_at (kinds_of fields) leaf))
-    (one : IfSome (array_of a) (IsRunOf a extents fields leaf slot count target at)) (two : IfSome (array_of b) (IsRunOf b others_extents trees leaf slot count source from))
-    (kept : IsKept mode a extents fields old) (others_kept : IsKept lender b others_extents trees others) where
+-- a run of slots of a leaf, in the blobs of two views over one array
+pub record IsMove (a b : Term) (extents others_extents : List ℕ) (fields trees : Fields) (leaf slot count target at source from len : ℕ) : Type 0 where
+  pub alike : (fields ≡ trees) × (extents ≡ others_extents)
+  pub arrays : AreRuns a b
+  pub leaf_in : leaf < length (kinds_of fields)
+  pub some : 0 < count
+  pub len_is : len ≡ count * size_of (kind_at (kinds_of fields) leaf)
+  pub one : IfSome (array_of a) (IsRunOf a extents fields leaf slot count target at)
+  pub two : IfSome (array_of b) (IsRunOf b others_extents trees leaf slot count source from)
+
+module _ {mode lender : StoreMode} {a b : Term} {extents others_extents : List ℕ} {fields trees : Fields} {old others : List (List ℕ)} {leaf slot count target at source from len : ℕ}
+    (move : IsMove a b extents others_extents fields trees leaf slot count target at source from len) (kept : IsKept mode a extents fields old) (others_kept : IsKept lender b others_extents trees others) where
   abbrev OneOrder : Order × Option ℕ → Order × Option ℕ → Type 0
   OneOrder x y = x.0 ≡ y.0
 
   both : AreTwo (array_of a) (array_of b) OneOrder (IsRunOf a extents fields leaf slot count target at) (IsRunOf b extents fields leaf slot count source from)
   both =
-      two_of (array_of a) (array_of b) OneOrder _ _ arrays one
-      (subst (λ (f : Fields). IfSome (array_of b) (IsRunOf b extents f leaf slot count source from)) (sym alike.0)
-      (subst (λ (e : List ℕ). IfSome (array_of b) (IsRunOf b e trees leaf slot count source from)) (sym alike.1) two))
+      two_of (array_of a) (array_of b) OneOrder _ _ move.arrays move.one
+      (subst (λ (f : Fields). IfSome (array_of b) (IsRunOf b extents f leaf slot count source from)) (sym move.alike.0)
+      (subst (λ (e : List ℕ). IfSome (array_of b) (IsRunOf b e trees leaf slot count source from)) (sym move.alike.1) move.two))
 
   there : IsKept lender b extents fields others
-  there = subst (λ (f : Fields). IsKept lender b extents f others) (sym alike.0) (subst (λ (e : List ℕ). IsKept lender b e trees others) (sym alike.1) others_kept)
+  there = subst (λ (f : Fields). IsKept lender b extents f others) (sym move.alike.0) (subst (λ (e : List ℕ). IsKept lender b e trees others) (sym move.alike.1) others_kept)
 
   abbrev width : ℕ
   width = width_of (kind_at (kinds_of fields) leaf)
@@ -111,7 +117,7 @@ module _ {mode lender : StoreMode} (a b : Term) (extents others_extents : List �
   bits =
       let size : ℕ = size_of (kind_at (kinds_of fields) leaf) in
       let product : 8 * (count * size) ≡ count * (8 * size) = grind arith in
-      ap (λ (n : ℕ). 8 * n) len_is ∙ product ∙ ap (λ (n : ℕ). count * n) (whole_width (kind_at (kinds_of fields) leaf))
+      ap (λ (n : ℕ). 8 * n) move.len_is ∙ product ∙ ap (λ (n : ℕ). count * n) (whole_width (kind_at (kinds_of fields) leaf))
 
   other_run : IsArrayRun other order extents leaf width slot count source (8 * from)
   other_run = subst (λ (o : Order). IsArrayRun other o extents leaf width slot count source (8 * from)) (sym both.both) both.of_two.run
@@ -132,7 +138,7 @@ module _ {mode lender : StoreMode} (a b : Term) (extents others_extents : List �
   pub source_room : from + len ≤ length (get_or others source [])
   source_room = omega (arith, other_run.within, there.laid.sized.lengths source other_run.blob_in, bits)
 
-  module _ (moved : AreMoved others old new source (8 * from) target (8 * at) (8 * len)) where
+  module _ {new : List (List ℕ)} (moved : AreMoved others old new source (8 * from) target (8 * at) (8 * len)) where
     moved_bits : AreMoved others old new source (8 * from) target (8 * at) (count * width)
     moved_bits = subst (λ (n : ℕ). AreMoved others old new source (8 * from) target (8 * at) n) bits moved
 
@@ -140,10 +146,10 @@ module _ {mode lender : StoreMode} (a b : Term) (extents others_extents : List �
     other_lawful = subst (λ (hs : List Hold). IsLaidOut other (length (indices extents)) (map (λ (h : Hold). h.width) hs)) holds_same there.lawful
 
     in_holds : leaf < length holds
-    in_holds = omega (arith, kept.paired)
+    in_holds = omega (arith, kept.paired, move.leaf_in)
 
     width_is : (hold_at holds leaf).width ≡ width
-    width_is = ap (λ (h : Hold). h.width) (full_hold (kinds_of fields) holds leaf leaf_in both.of_one.full)
+    width_is = ap (λ (h : Hold). h.width) (full_hold (kinds_of fields) holds leaf move.leaf_in both.of_one.full)
 
     is_moved : IsRunMoved order extents (length (indices extents)) (length holds) leaf slot count
         (table_in other (length (indices extents)) holds others) (raw_under a extents fields old) (raw_under a extents fields new)
@@ -198,8 +204,8 @@ module _ {mode lender : StoreMode} (a b : Term) (extents others_extents : List �
         subst (λ (n : ℕ). IsRunMoved order extents (length (indices extents)) n leaf slot count (table_in other (length (indices extents)) holds others)
         (raw_under a extents fields old) (raw_under a extents fields new)) kept.paired is_moved in
         let far : Moved (raw_under b others_extents trees others) =
-        subst (λ (f : Fields). Moved (raw_under b others_extents f others)) alike.0
-        (subst (λ (e : List ℕ). Moved (raw_under b e fields others)) alike.1 (subst Moved same_raw here)) in
+        subst (λ (f : Fields). Moved (raw_under b others_extents f others)) move.alike.0
+        (subst (λ (e : List ℕ). Moved (raw_under b e fields others)) move.alike.1 (subst Moved same_raw here)) in
         subst (λ (o : Option (Order × Option ℕ)). IfSome o (λ array. IsRunMoved array.0 extents (length (indices extents)) (length (kinds_of fields)) leaf slot count
         (raw_under b others_extents trees others) (raw_under a extents fields old) (raw_under a extents fields new))) (sym both.is_one) far
 

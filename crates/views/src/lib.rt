@@ -18,6 +18,6 @@ pub use fault::{LaneFault, MakeView, StoreFault};
 pub use laws::{counts_are_entries, laws_of_table};
 pub use piece_bits::StoreMode;
 pub use row::RowRef;
-pub use runs::{raised, read_rows};
+pub use runs::{RUN, raised, read_rows};
 pub use size::bytes_for;
 pub use view::{BlobList, View};

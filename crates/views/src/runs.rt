@@ -1,6 +1,6 @@
 // Many rows of one leaf in blobs, stretch by stretch.
-ghost use Rattle.std.specs.Prelude.{ℕ, ℤ, ◌≡◌, ◌+◌, ◌<◌, ◌≤◌, pos, true, false, length, map, take, slice_index_or};
-ghost use Rattle.record_dim.specs.LeafTypes.{IsDeclared, IsIn};
+ghost use Rattle.std.specs.Prelude.{ℕ, ◌≡◌, ◌+◌, ◌<◌, ◌≤◌, pos, true, false, length, map, take, slice_index_or};
+ghost use Rattle.record_dim.specs.LeafTypes.{IsIn};
 ghost use Rattle.places.specs.Image.{entry};
 ghost use Rattle.map_any.specs.Counters.{is_counted};
 ghost use Rattle.map_any.specs.Maps.{term_of_map};
@@ -14,9 +14,12 @@ ghost use Rattle.views.specs.Stores.{Fits, kind_at};
 use crate::view::BlobList;
 use blobs::Blob;
 use map_any::AnyMap;
-use piece_bits::{put_stretch, read_stretch};
+use piece_bits::{are_within, put_stretch, read_stretch};
 use places::{Mapping, laws_of};
 use record_dim::LeafType;
+
+/// The most rows whose values go together: they lie on the stack, and what is tested before it is stored is still near.
+pub const RUN: usize = 256;
 
 /// Reads the raw numbers that blobs hold of a leaf in as many rows as there is room for, from one on, each by its low 64 bits, read with a
 /// sign, where the rows lie in stretches, and says whether it did. The padding of the blobs may be anything. A mapping that counts has none.
@@ -91,11 +94,8 @@ pub fn are_taken(mapping: &AnyMap, leaf: usize, values: &[i64]) -> bool
     ensures { result ≡ true → (k : ℕ) → k < length values.now → Fits (kind_at (map (λ cell. cell.kind) (⟦<AnyMap as Mapping>⟧.cell_list mapping.now)) leaf)
         (hold_at (⟦<AnyMap as Mapping>⟧.hold_list mapping.now) leaf) (slice_index_or values.now k (pos 0)) }
 {
-    let mut all = true;
-    for value in values {
-        all &= mapping.takes(leaf, i128::from(*value));
-    }
-    all
+    let (least, greatest) = mapping.taken(leaf);
+    are_within(least, greatest, values)
 }
 
 /// The value of a type whose low 64 bits these are, read with a sign.

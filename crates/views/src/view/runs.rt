@@ -1,11 +1,11 @@
 // The values of one leaf in many rows at once.
-ghost use Rattle.std.specs.Prelude.{ℕ, ◌≡◌, ◌+◌, ◌*◌, ◌<◌, ◌≤◌, pos, true, List, length, map, take, slice_index_or};
+ghost use Rattle.std.specs.Prelude.{ℕ, ◌≡◌, ◌+◌, ◌*◌, ◌<◌, ◌≤◌, pos, true, Ok, List, length, map, take, slice_index_or};
 ghost use Rattle.piece_bits.specs.Tables.{hold_at};
 ghost use Rattle.piece_bits.specs.Lows.{low_64};
 ghost use Rattle.views.specs.Columns.{column_reads, column_writes, with_column};
 ghost use Rattle.views.specs.LeafRuns.{raised, run_of, run_steps, run_fault, told_lane, stored_count, with_run, TakesAll};
 ghost use Rattle.views.specs.Stores.{Fits};
-ghost use Rattle.views.specs.Tables.{leaf_count_of, leaf_type_of, table_holds, after_log, after_stores};
+ghost use Rattle.views.specs.Tables.{answer_of, leaf_count_of, leaf_type_of, table_holds, after_log, after_stores};
 ghost use Rattle.views.specs.Tallies.{Access};
 
 use super::View;
@@ -57,6 +57,17 @@ impl View {
         }
     }
 
+    /// Whether a leaf is sure to take each of these values. False says nothing.
+    pub fn takes_run(&self, leaf: usize, values: &[i64]) -> bool
+        requires { leaf < leaf_count_of self.now }
+        ensures taken { result ≡ true → (k : ℕ) → k < length values.now
+            → answer_of self.now leaf (slice_index_or values.now k (pos 0)) ≡ Ok (slice_index_or values.now k (pos 0)) }
+        ensures fits { result ≡ true → (k : ℕ) → k < length values.now
+            → Fits (leaf_type_of self.now leaf) (hold_at (table_holds self.now) leaf) (slice_index_or values.now k (pos 0)) }
+    {
+        are_taken(&self.map, leaf, values)
+    }
+
     /// Stores values in a leaf of as many rows, from one on, up to the first that it does not take. It takes as many steps as `read_run`, also
     /// where one is not taken.
     pub fn store_run<L: Ledger>(
@@ -73,7 +84,7 @@ impl View {
         ensures steps { steps.new ≡ steps.old + run_steps (leaf_type_of self.old leaf) (length values.now) }
     {
         self.count_run(leaf, values.len(), steps);
-        if are_taken(&self.map, leaf, values) {
+        if self.takes_run(leaf, values) {
             self.put_lows(leaf, first, values);
             return Ok(());
         }

@@ -47,7 +47,7 @@ returns-clause-updated g t c = λ all filter tested.
     let safe = subst (λ (s : Assign). IsSafe leaves places (bound_term s.value)) (sym c.index-sets-before.is)
     (All-get_or (λ (s : Assign). IsSafe leaves places (bound_term s.value)) sets before last small c.requires.safe) in
     let front = (rw c.value_run.ensures.same at c.sets_run.ensures.updated) c.if-not-sets_run.false filter tested in
-    let taken = subst (λ (v : Table). AreTaken v last.leaf values) c.value_run.ensures.same (c.takes_all.ensures c.if-not-takes_all.false) in
+    let taken = subst (λ (v : Table). AreTaken v last.leaf values) c.value_run.ensures.same (λ k small. ap is_ok (c.takes_run.ensures.taken c.if-not-takes_run.false k small)) in
     subst (λ (s : List Setting). IsRunUpdated table filter s run.first c.args.count after) (all_settings sets before last (omega (arith, small)) c.index-sets-before.is)
     (last_stored table run filter c.args.count (lane_test c.args.mask) values (setting_of last) c.laws_of_table.ensures.table c.requires.idle safe set.inside c.requires.rows.rows long tested
     (c.value_run.ensures.given c.if-not-value_run.false) (map setting_of (take before sets)) mid after front taken c.store_run-taken.ensures.stored)

@@ -1,87 +1,72 @@
-use Rattle.views.proofs.Imports.{◌≡◌, ◌<◌, ◌∙◌, [], length, get_or, SFits, rules, arith, w128, common_steps, to_z-of_z, get_or_default}
-use Rattle.views.proofs.AccessLaws.{with_rules, is_word, blob_there, word_there, word_holds, word_put, word_lies, bytes_wide, bytes_apart, bytes_put, bytes_lie}
+use Rattle.views.proofs.Imports.{◌<◌, length, SFits, rules, arith, w128, common_steps, to_z-of_z}
+use Rattle.views.proofs.AccessLaws.{StandsIn, LiesIn, with_rules, stands, lies, blob_there, blob_is, word_there, word_holds, word_put, word_lies, bytes_wide, bytes_apart, bytes_put, bytes_lie}
 use Rattle.views.proofs.access.short_write.Goals as goal
-use Rattle.views.proofs.access.short_write.Goals.{After-index_mut}
+use Rattle.views.proofs.access.short_write.Goals.{In_default-word, After-as_slice}
+
+-- where the leaf stands
+at : (c : In_default-word) → StandsIn c.args.map.now c.args.row c.args.leaf c.short-rule.result.now.short c.in-Some.start c.args.blobs.now.items
+at c =
+    stands c.args.map.now.holds c.args.row c.args.leaf c.laws_of.ensures.lawful c.laws_of.ensures.paired c.requires.row_in c.requires.leaf_in
+    (c.short-rule.ensures.form c.in-Some.ensures.some) c.in-Some.start c.in-Some.ensures.start c.args.blobs.now.items c.requires.laid.sized c.in_default-word.not-Scattered
+
+-- the bytes that it lies in
+in_bytes : (c : After-as_slice) → LiesIn c.args.map.now c.args.row c.args.leaf c.short-rule.result.now.short.field c.as_slice.result.now c.in-Some.start
+in_bytes c =
+    lies c.args.map.now.holds c.args.row c.args.leaf c.laws_of.ensures.lawful c.laws_of.ensures.paired c.requires.row_in c.requires.leaf_in
+    (with_rules c.as_slice.result.now c.as_slice.ensures.value (c.short-rule.ensures.form c.in-Some.ensures.some)) c.in-Some.start c.in-Some.ensures.start c.args.blobs.now.items c.requires.laid.sized
+    c.in-Scattered.is
 
 pub start-requires : goal.start-requires
 start-requires c = λ leads. (c.short-rule.ensures.form leads).starts c.args.row c.requires.row_in
 
 pub index_mut-requires : goal.index_mut-requires
 index_mut-requires c =
-    let low : c.short-rule.result.now.short.blob < length c.args.blobs.now.items =
-    blob_there c.args.map.now.holds c.args.row c.args.leaf c.laws_of.ensures.lawful c.laws_of.ensures.paired c.requires.row_in c.requires.leaf_in
-    (c.short-rule.ensures.form c.in-Some.ensures.some) c.in-Some.start c.in-Some.ensures.start c.args.blobs.now.items c.requires.laid.sized
-    c.in_default-word.not-Scattered in
+    let low : c.short-rule.result.now.short.blob < length c.args.blobs.now.items = blob_there (at (goal.at.index_mut-requires c).In_default-word) in
     grind (arith, common_steps, low)
 
--- what stood in the blob
-blob : (c : After-index_mut) → c.index_mut.result.now ≡ get_or c.args.blobs.now.items c.short-rule.result.now.short.blob []
-blob c =
-    let low : c.short-rule.result.now.short.blob < length c.args.blobs.now.items =
-    blob_there c.args.map.now.holds c.args.row c.args.leaf c.laws_of.ensures.lawful c.laws_of.ensures.paired c.requires.row_in c.requires.leaf_in
-    (c.short-rule.ensures.form c.in-Some.ensures.some) c.in-Some.start c.in-Some.ensures.start c.args.blobs.now.items c.requires.laid.sized
-    c.in_default-word.not-Scattered in
-    c.index_mut.ensures.value ∙ get_or_default c.args.blobs.now.items c.short-rule.result.now.short.blob _ [] low
-
 pub write_word-requires-clause-form : goal.write_word-requires-clause-form
-write_word-requires-clause-form c =
-    is_word c.args.map.now.holds c.args.row c.args.leaf c.laws_of.ensures.lawful c.laws_of.ensures.paired c.requires.row_in c.requires.leaf_in
-    (c.short-rule.ensures.form c.in-Some.ensures.some) c.in-Some.start c.in-Some.ensures.start c.args.blobs.now.items c.requires.laid.sized
-    c.in_default-word.not-Scattered
+write_word-requires-clause-form c = (at (goal.at.write_word-requires-clause-form c).In_default-word).form
 
 pub write_word-requires-clause-within : goal.write_word-requires-clause-within
 write_word-requires-clause-within c =
-    word_there c.args.map.now.holds c.args.row c.args.leaf c.laws_of.ensures.lawful c.laws_of.ensures.paired c.requires.row_in c.requires.leaf_in
-    (c.short-rule.ensures.form c.in-Some.ensures.some) c.in-Some.start c.in-Some.ensures.start c.args.blobs.now.items c.requires.laid.sized
-    c.in_default-word.not-Scattered c.index_mut.result.now (blob (goal.at.write_word-requires-clause-within c).After-index_mut)
+    let here = at (goal.at.write_word-requires-clause-within c).In_default-word in
+    word_there here c.index_mut.result.now (blob_is here _ _ c.index_mut.ensures.value)
 
 pub write_word-requires-clause-held : goal.write_word-requires-clause-held
 write_word-requires-clause-held c =
     let fits : SFits w128 c.args.value = search rules in
-    word_holds c.args.map.now.holds c.args.row c.args.leaf c.laws_of.ensures.lawful c.laws_of.ensures.paired c.requires.row_in c.requires.leaf_in
-    (c.short-rule.ensures.form c.in-Some.ensures.some) c.in-Some.start c.in-Some.ensures.start c.args.blobs.now.items c.requires.laid.sized
-    c.in_default-word.not-Scattered c.args.value _ (to_z-of_z w128 c.args.value fits) c.requires.held
+    word_holds (at (goal.at.write_word-requires-clause-held c).In_default-word) c.args.value _ (to_z-of_z w128 c.args.value fits) c.requires.held
 
 pub returns-in_default-word-clause-table : goal.returns-in_default-word-clause-table
 returns-in_default-word-clause-table c = λ wrote.
+    let here = at (goal.at.returns-in_default-word-clause-table c).In_default-word in
     let fits : SFits w128 c.args.value = search rules in
     let put = c.write_word.ensures in
-    word_put c.args.map.now.holds c.args.row c.args.leaf c.laws_of.ensures.lawful c.laws_of.ensures.paired c.requires.row_in c.requires.leaf_in
-    (c.short-rule.ensures.form c.in-Some.ensures.some) c.in-Some.start c.in-Some.ensures.start c.args.blobs.now.items c.requires.laid.sized
-    c.in_default-word.not-Scattered c.args.value _ c.index_mut.result.now c.write_word.new.blob c.requires.held (to_z-of_z w128 c.args.value fits)
-    (blob (goal.at.returns-in_default-word-clause-table c).After-index_mut) put.inside put.before put.after put.len
+    word_put here c.args.value _ c.index_mut.result.now c.write_word.new.blob c.requires.held (to_z-of_z w128 c.args.value fits) (blob_is here _ _ c.index_mut.ensures.value)
+    put.inside put.before put.after put.len
 
 pub returns-in_default-word-clause-still_laid : goal.returns-in_default-word-clause-still_laid
 returns-in_default-word-clause-still_laid c = λ wrote.
+    let here = at (goal.at.returns-in_default-word-clause-still_laid c).In_default-word in
     let fits : SFits w128 c.args.value = search rules in
     let put = c.write_word.ensures in
-    word_lies c.args.map.now.holds c.args.row c.args.leaf c.laws_of.ensures.lawful c.laws_of.ensures.paired c.requires.row_in c.requires.leaf_in
-    (c.short-rule.ensures.form c.in-Some.ensures.some) c.in-Some.start c.in-Some.ensures.start c.args.blobs.now.items c.requires.laid.sized
-    c.in_default-word.not-Scattered c.args.value _ c.index_mut.result.now c.write_word.new.blob c.requires.held (to_z-of_z w128 c.args.value fits)
-    (blob (goal.at.returns-in_default-word-clause-still_laid c).After-index_mut) put.inside put.before put.after put.len c.requires.laid
+    word_lies here c.args.value _ c.index_mut.result.now c.write_word.new.blob c.requires.held (to_z-of_z w128 c.args.value fits) (blob_is here _ _ c.index_mut.ensures.value)
+    put.inside put.before put.after put.len c.requires.laid
 
 pub write_scattered-requires-clause-wide : goal.write_scattered-requires-clause-wide
-write_scattered-requires-clause-wide c =
-    bytes_wide c.args.map.now.holds c.args.row c.args.leaf c.laws_of.ensures.lawful c.laws_of.ensures.paired c.requires.row_in c.requires.leaf_in
-    (with_rules c.as_slice.result.now c.as_slice.ensures.value (c.short-rule.ensures.form c.in-Some.ensures.some)) c.in-Some.start c.in-Some.ensures.start c.args.blobs.now.items c.requires.laid.sized
-    c.in-Scattered.is
+write_scattered-requires-clause-wide c = bytes_wide (in_bytes (goal.at.write_scattered-requires-clause-wide c).After-as_slice)
 
 pub write_scattered-requires-clause-apart : goal.write_scattered-requires-clause-apart
-write_scattered-requires-clause-apart c =
-    bytes_apart c.args.map.now.holds c.args.row c.args.leaf c.laws_of.ensures.lawful c.laws_of.ensures.paired c.requires.row_in c.requires.leaf_in
-    (with_rules c.as_slice.result.now c.as_slice.ensures.value (c.short-rule.ensures.form c.in-Some.ensures.some)) c.in-Some.start c.in-Some.ensures.start c.args.blobs.now.items c.requires.laid.sized
-    c.in-Scattered.is
+write_scattered-requires-clause-apart c = bytes_apart (in_bytes (goal.at.write_scattered-requires-clause-apart c).After-as_slice)
 
 pub returns-in-Scattered-clause-table : goal.returns-in-Scattered-clause-table
 returns-in-Scattered-clause-table c = λ wrote.
     let fits : SFits w128 c.args.value = search rules in
-    bytes_put c.args.map.now.holds c.args.row c.args.leaf c.laws_of.ensures.lawful c.laws_of.ensures.paired c.requires.row_in c.requires.leaf_in
-    (with_rules c.as_slice.result.now c.as_slice.ensures.value (c.short-rule.ensures.form c.in-Some.ensures.some)) c.in-Some.start c.in-Some.ensures.start c.args.blobs.now.items c.requires.laid.sized
-    c.in-Scattered.is c.write_scattered.new.blobs.items c.args.value _ c.requires.held (to_z-of_z w128 c.args.value fits) c.write_scattered.ensures
+    bytes_put (in_bytes (goal.at.returns-in-Scattered-clause-table c).After-as_slice) c.args.blobs.now.items c.write_scattered.new.blobs.items c.args.value _ c.requires.held
+    (to_z-of_z w128 c.args.value fits) c.write_scattered.ensures
 
 pub returns-in-Scattered-clause-still_laid : goal.returns-in-Scattered-clause-still_laid
 returns-in-Scattered-clause-still_laid c = λ wrote.
     let fits : SFits w128 c.args.value = search rules in
-    bytes_lie c.args.map.now.holds c.args.row c.args.leaf c.laws_of.ensures.lawful c.laws_of.ensures.paired c.requires.row_in c.requires.leaf_in
-    (with_rules c.as_slice.result.now c.as_slice.ensures.value (c.short-rule.ensures.form c.in-Some.ensures.some)) c.in-Some.start c.in-Some.ensures.start c.args.blobs.now.items c.requires.laid.sized
-    c.in-Scattered.is c.write_scattered.new.blobs.items c.args.value _ c.requires.held (to_z-of_z w128 c.args.value fits) c.write_scattered.ensures c.requires.laid
+    bytes_lie (in_bytes (goal.at.returns-in-Scattered-clause-still_laid c).After-as_slice) c.args.blobs.now.items c.write_scattered.new.blobs.items c.args.value _ c.requires.held
+    (to_z-of_z w128 c.args.value fits) c.write_scattered.ensures c.requires.laid

@@ -6,7 +6,7 @@ use Rattle.views.proofs.Opened.{cell_count, leaf_seen}
 use Rattle.views.proofs.RunMoveLaws.{few_slots, run_table, moved_seen, runs_seen, one_seen, block_seen, few_bits, run_there, slot_there, other_is}
 use Rattle.views.proofs.view.View.move_even.Given as given
 use Rattle.views.proofs.view.View.move_even.Goals as goal
-use Rattle.views.proofs.view.View.move_even.Goals.{After-as_slice}
+use Rattle.views.proofs.view.View.move_even.Goals.{After-as_slice, After-move_pieces}
 
 module _ (g : given.Over) (c : After-as_slice g) where
   -- what is said of the pieces on both sides
@@ -24,17 +24,20 @@ module _ (g : given.Over) (c : After-as_slice g) where
       let other_in : leaf < length (kinds_of (schema_fields b.schema)) = subst (λ (f : Fields). leaf < length (kinds_of f)) alike.0 leaf_in in
       let kind : kind_at (kinds_of (schema_fields a.schema)) leaf ≡ c.leaf_type.result = get_or_from_slice_get (kinds_of (schema_fields a.schema)) leaf c.leaf_type.result Truth c.leaf_type.ensures in
       record {
-        alike = alike;
-        arrays = runs_seen c.args.self.now c.args.source.now c.self.view_is c.source.view_is c.requires.arrays;
-        leaf_in = leaf_in;
-        some = c.requires.some;
         more = c.requires.more;
-        len_is = ap (λ (w : ℕ). n * (w / 8)) c.width.ensures ∙ ap (λ (k : LeafType). n * size_of k) (sym kind);
-        one = λ k l. run_there c.self.invariant.0 leaf (slot + k * n) n c.in-Some.to.blob (c.in-Some.to.byte + k * c.in-Some.to.step) leaf_in c.requires.some
-            (block_seen c.args.self.now (slot + k * n) n c.self.view_is (c.requires.block k l)) (run_at (term_of_map a.map) (layout_by (term_of a.map.expr) a.map.extents (schema_fields a.map.schema)) (extents_of a.map) leaf (slice_index (map (λ (h : Hold). h.width) a.map.holds) leaf) slot n c.in-Some.to.blob c.in-Some.to.byte c.in-Some.to.step c.in-Some.ensures k);
-        two = λ k l. run_there c.source.invariant.0 leaf (slot + k * n) n c.in-Some-places_of.from.blob (c.in-Some-places_of.from.byte + k * c.in-Some-places_of.from.step) other_in c.requires.some
-            (block_seen c.args.source.now (slot + k * n) n c.source.view_is (c.requires.other_block k l))
-            (run_at (term_of_map b.map) (layout_by (term_of b.map.expr) b.map.extents (schema_fields b.map.schema)) (extents_of b.map) leaf (slice_index (map (λ (h : Hold). h.width) b.map.holds) leaf) slot n c.in-Some-places_of.from.blob c.in-Some-places_of.from.byte c.in-Some-places_of.from.step c.in-Some-places_of.ensures k);
+        each = λ k l. record {
+          alike = alike;
+          arrays = runs_seen c.args.self.now c.args.source.now c.self.view_is c.source.view_is c.requires.arrays;
+          leaf_in = leaf_in;
+          some = c.requires.some;
+          len_is = ap (λ (w : ℕ). n * (w / 8)) c.width.ensures ∙ ap (λ (k : LeafType). n * size_of k) (sym kind);
+          one = run_there c.self.invariant.0 leaf (slot + k * n) n c.in-Some.to.blob (c.in-Some.to.byte + k * c.in-Some.to.step) leaf_in c.requires.some
+              (block_seen c.args.self.now (slot + k * n) n c.self.view_is (c.requires.block k l))
+              (run_at (term_of_map a.map) (layout_by (term_of a.map.expr) a.map.extents (schema_fields a.map.schema)) (extents_of a.map) leaf (slice_index (map (λ (h : Hold). h.width) a.map.holds) leaf) slot n c.in-Some.to.blob c.in-Some.to.byte c.in-Some.to.step c.in-Some.ensures k);
+          two = run_there c.source.invariant.0 leaf (slot + k * n) n c.in-Some-places_of.from.blob (c.in-Some-places_of.from.byte + k * c.in-Some-places_of.from.step) other_in c.requires.some
+              (block_seen c.args.source.now (slot + k * n) n c.source.view_is (c.requires.other_block k l))
+              (run_at (term_of_map b.map) (layout_by (term_of b.map.expr) b.map.extents (schema_fields b.map.schema)) (extents_of b.map) leaf (slice_index (map (λ (h : Hold). h.width) b.map.holds) leaf) slot n c.in-Some-places_of.from.blob c.in-Some-places_of.from.byte c.in-Some-places_of.from.step c.in-Some-places_of.ensures k);
+        };
       }
 
 first_place : (slot n : ℕ) → slot + 0 * n ≡ slot
@@ -83,59 +86,54 @@ overflow_mul-bytes g c =
     omega arith
 
 pub move_pieces-requires-clause-target : goal.move_pieces-requires-clause-target
-move_pieces-requires-clause-target g c =
-    each_target_in _ _ _ _ _ _ c.self.inside.blobs.items c.source.inside.blobs.items _ _ _ _ _ _ _ _ _ _ _
-    (even g (goal.at.move_pieces-requires-clause-target g c).After-as_slice) c.self.invariant.1 c.source.invariant.1
+move_pieces-requires-clause-target g c = each_target_in (even g (goal.at.move_pieces-requires-clause-target g c).After-as_slice) c.self.invariant.1 c.source.invariant.1
 
 pub move_pieces-requires-clause-room : goal.move_pieces-requires-clause-room
-move_pieces-requires-clause-room g c =
-    each_target_room _ _ _ _ _ _ c.self.inside.blobs.items c.source.inside.blobs.items _ _ _ _ _ _ _ _ _ _ _
-    (even g (goal.at.move_pieces-requires-clause-room g c).After-as_slice) c.self.invariant.1 c.source.invariant.1
+move_pieces-requires-clause-room g c = each_target_room (even g (goal.at.move_pieces-requires-clause-room g c).After-as_slice) c.self.invariant.1 c.source.invariant.1
 
 pub move_pieces-requires-clause-source : goal.move_pieces-requires-clause-source
 move_pieces-requires-clause-source g c =
     subst (λ (bs : List (List ℕ)). c.in-Some-places_of.from.blob < length bs) (sym c.as_slice.ensures.value)
-    (each_source_in _ _ _ _ _ _ c.self.inside.blobs.items c.source.inside.blobs.items _ _ _ _ _ _ _ _ _ _ _
-    (even g (goal.at.move_pieces-requires-clause-source g c).After-as_slice) c.self.invariant.1 c.source.invariant.1)
+    (each_source_in (even g (goal.at.move_pieces-requires-clause-source g c).After-as_slice) c.self.invariant.1 c.source.invariant.1)
 
 pub move_pieces-requires-clause-there : goal.move_pieces-requires-clause-there
 move_pieces-requires-clause-there g c k l =
     subst (λ (bs : List (List ℕ)). c.in-Some-places_of.from.byte + k * c.in-Some-places_of.from.step + c.args.n * (c.width.result / 8) ≤ length (get_or bs c.in-Some-places_of.from.blob []))
     (sym c.as_slice.ensures.value)
-    (each_source_room _ _ _ _ _ _ c.self.inside.blobs.items c.source.inside.blobs.items _ _ _ _ _ _ _ _ _ _ _
-    (even g (goal.at.move_pieces-requires-clause-there g c).After-as_slice) c.self.invariant.1 c.source.invariant.1 k l)
+    (each_source_room (even g (goal.at.move_pieces-requires-clause-there g c).After-as_slice) c.self.invariant.1 c.source.invariant.1 k l)
+
+-- they are moved, and what is kept of the blobs and in their raw numbers then
+module _ (g : given.Over) (c : After-move_pieces g) where
+  abbrev MovedFrom : List (List ℕ) → Type 0
+  MovedFrom blobs = IsMovedEach c.in-Some.to.byte c.in-Some.to.step (get_or blobs c.in-Some-places_of.from.blob []) c.in-Some-places_of.from.byte c.in-Some-places_of.from.step
+      (c.args.n * (c.width.result / 8)) c.args.pieces (get_or c.self.inside.blobs.items c.in-Some.to.blob []) (get_or c.move_pieces.new.blobs.items c.in-Some.to.blob [])
+
+  moved : MovedFrom c.source.inside.blobs.items
+  moved = subst MovedFrom c.as_slice.ensures.value c.move_pieces.ensures.moved
 
 pub invariant_of-self : goal.invariant_of-self
 invariant_of-self g c =
-    let others = c.source.inside.blobs.items in
-    let moved : IsMovedEach c.in-Some.to.byte c.in-Some.to.step (get_or others c.in-Some-places_of.from.blob []) c.in-Some-places_of.from.byte c.in-Some-places_of.from.step
-    (c.args.n * (c.width.result / 8)) c.args.pieces (get_or c.self.inside.blobs.items c.in-Some.to.blob []) (get_or c.move_pieces.new.blobs.items c.in-Some.to.blob []) =
-    subst (λ (bs : List (List ℕ)). IsMovedEach c.in-Some.to.byte c.in-Some.to.step (get_or bs c.in-Some-places_of.from.blob []) c.in-Some-places_of.from.byte c.in-Some-places_of.from.step
-    (c.args.n * (c.width.result / 8)) c.args.pieces (get_or c.self.inside.blobs.items c.in-Some.to.blob []) (get_or c.move_pieces.new.blobs.items c.in-Some.to.blob [])) c.as_slice.ensures.value c.move_pieces.ensures.moved in (
+    let d = goal.at.invariant_of-self g c in (
       c.self.invariant.0,
-      (each_moved _ _ _ _ _ _ c.self.inside.blobs.items others _ _ _ _ _ _ _ _ _ _ _ (even g (goal.at.invariant_of-self g c).After-as_slice) c.self.invariant.1 c.source.invariant.1
-          c.move_pieces.new.blobs.items c.move_pieces.ensures.beside moved).0,
+      (each_moved (even g d.After-as_slice) c.self.invariant.1 c.source.invariant.1 c.move_pieces.new.blobs.items c.move_pieces.ensures.beside (moved g d.After-move_pieces)).0,
       c.self.invariant.2,
     )
 
 pub returns-clause-moved : goal.returns-clause-moved
 returns-clause-moved g c = λ wrote.
     let a = c.self.inside in
-    let others = c.source.inside.blobs.items in
-    let moved : IsMovedEach c.in-Some.to.byte c.in-Some.to.step (get_or others c.in-Some-places_of.from.blob []) c.in-Some-places_of.from.byte c.in-Some-places_of.from.step
-    (c.args.n * (c.width.result / 8)) c.args.pieces (get_or c.self.inside.blobs.items c.in-Some.to.blob []) (get_or c.move_pieces.new.blobs.items c.in-Some.to.blob []) =
-    subst (λ (bs : List (List ℕ)). IsMovedEach c.in-Some.to.byte c.in-Some.to.step (get_or bs c.in-Some-places_of.from.blob []) c.in-Some-places_of.from.byte c.in-Some-places_of.from.step
-    (c.args.n * (c.width.result / 8)) c.args.pieces (get_or c.self.inside.blobs.items c.in-Some.to.blob []) (get_or c.move_pieces.new.blobs.items c.in-Some.to.blob [])) c.as_slice.ensures.value c.move_pieces.ensures.moved in
-    let after = (each_moved _ _ _ _ _ _ c.self.inside.blobs.items others _ _ _ _ _ _ _ _ _ _ _ (even g (goal.at.returns-clause-moved g c).After-as_slice) c.self.invariant.1 c.source.invariant.1
-    c.move_pieces.new.blobs.items c.move_pieces.ensures.beside moved) in
+    let b = c.source.inside in
+    let d = goal.at.returns-clause-moved g c in
+    let pieces = even g d.After-as_slice in
+    let one = pieces.each 0 pieces.more in
+    let after = each_moved pieces c.self.invariant.1 c.source.invariant.1 c.move_pieces.new.blobs.items c.move_pieces.ensures.beside (moved g d.After-move_pieces) in
     moved_seen c.args.self.now c.args.source.now c.args.leaf c.args.slot (c.args.pieces * c.args.n) (length (kinds_of (schema_fields a.schema))) _ c.self.view_is c.source.view_is (kind_count (schema_fields a.schema))
     (sym (row_count a.mode (term_of a.expr) a.extents (schema_fields a.schema) a.blobs.items c.self.invariant.1))
-    (run_table (term_of a.expr) (term_of c.source.inside.expr) a.extents c.source.inside.extents (schema_fields a.schema) (schema_fields c.source.inside.schema) a.blobs.items others
-    c.move_pieces.new.blobs.items c.args.leaf c.args.slot (c.args.pieces * c.args.n) (even g (goal.at.returns-clause-moved g c).After-as_slice).alike (even g (goal.at.returns-clause-moved g c).After-as_slice).leaf_in
-    c.self.invariant.1 c.source.invariant.1 after.0 after.1)
+    (run_table (term_of a.expr) (term_of b.expr) a.extents b.extents (schema_fields a.schema) (schema_fields b.schema) a.blobs.items b.blobs.items
+    c.move_pieces.new.blobs.items c.args.leaf c.args.slot (c.args.pieces * c.args.n) one.alike one.leaf_in c.self.invariant.1 c.source.invariant.1 after.0 after.1)
 
 pub returns-clause-steps : goal.returns-clause-steps
 returns-clause-steps g c = λ wrote.
     let e = even g (goal.at.returns-clause-steps g c).After-as_slice in
-    let same = ap (λ (m : ℕ). c.args.pieces * blocks m) e.len_is ∙ ap (λ (s : Table). c.args.pieces * blocks (c.args.n * size_of (leaf_type_of s c.args.leaf))) c.self.view_is in
+    let same = ap (λ (m : ℕ). c.args.pieces * blocks m) (e.each 0 e.more).len_is ∙ ap (λ (s : Table). c.args.pieces * blocks (c.args.n * size_of (leaf_type_of s c.args.leaf))) c.self.view_is in
     omega (arith, c.move_pieces.ensures.steps, same)

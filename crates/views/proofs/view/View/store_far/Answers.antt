@@ -1,5 +1,5 @@
-use Rattle.views.proofs.Imports.{ℤ, ◌≡◌, List, true, false, ◌∙◌, sym, ap, subst, arith, rules, SFits, to_z, of_z, w128, to_z-of_z, IsIn, schema_fields, Hold, term_of, is_counted, holds_by, hold_at, with_entry, raw_under, tally_of, Table, IsSettledIn, Write, idle_tallied}
-use Rattle.views.proofs.Opened.{rows_seen, leaf_seen, cell_count, held_seen, kept_after, table_after, raw_same, laid_there, seen_from, seen_written}
+use Rattle.views.proofs.Imports.{ℤ, ◌≡◌, true, false, ◌∙◌, sym, ap, subst, arith, rules, SFits, w128, to_z-of_z, schema_fields, term_of, is_counted, with_entry, raw_under, tally_of, Table, IsSettledIn, Write, idle_tallied}
+use Rattle.views.proofs.Opened.{rows_seen, leaf_seen, cell_count, held_seen, held_passed, raw_stored, kept_after, table_after, laid_there, seen_from, seen_written}
 use Rattle.views.proofs.view.View.store_far.Goals as goal
 use Rattle.views.proofs.view.View.store_far.Goals.{After-short_write}
 
@@ -17,21 +17,15 @@ pub short_write-requires-clause-held : goal.short_write-requires-clause-held
 short_write-requires-clause-held c =
     let a = c.self.inside in
     let fits : SFits w128 c.args.raw = search rules in
-    let holds = holds_by (term_of a.expr) (schema_fields a.schema) in
-    let held = held_seen a.schema a.extents a.expr a.blobs.items c.self.invariant.1 c.args.self.now c.self.view_is c.args.leaf c.args.raw c.requires.leaf_in c.requires.settled in
-    subst (λ (hs : List Hold). IsIn (hold_at hs c.args.leaf).signed (hold_at hs c.args.leaf).width (to_z w128 (of_z w128 c.args.raw))) (sym c.self.invariant.0.holds_are)
-    (subst (λ (v : ℤ). IsIn (hold_at holds c.args.leaf).signed (hold_at holds c.args.leaf).width v) (sym (to_z-of_z w128 c.args.raw fits)) held)
+    held_passed c.self.invariant.0 c.args.leaf c.args.raw fits
+    (held_seen a.schema a.extents a.expr a.blobs.items c.self.invariant.1 c.args.self.now c.self.view_is c.args.leaf c.args.raw c.requires.leaf_in c.requires.settled)
 
 -- what is stored then
 stored : (c : goal.After-short_write) → c.short_write.result ≡ true → raw_under (term_of c.self.inside.expr) c.self.inside.extents (schema_fields c.self.inside.schema) c.short_write.new.blobs.items
     ≡ with_entry (raw_under (term_of c.self.inside.expr) c.self.inside.extents (schema_fields c.self.inside.schema) c.self.inside.blobs.items) c.args.row c.args.leaf c.args.raw
 stored c wrote =
-    let mapping = c.self.invariant.0 in
     let fits : SFits w128 c.args.raw = search rules in
-    let old = raw_under (term_of c.self.inside.expr) c.self.inside.extents (schema_fields c.self.inside.schema) c.self.inside.blobs.items in
-    sym (raw_same mapping c.short_write.new.blobs.items) ∙ c.short_write.ensures.table wrote
-    ∙ ap (λ (t : List (List ℤ)). with_entry t c.args.row c.args.leaf (to_z w128 (of_z w128 c.args.raw))) (raw_same mapping c.self.inside.blobs.items)
-    ∙ ap (with_entry old c.args.row c.args.leaf) (to_z-of_z w128 c.args.raw fits)
+    raw_stored c.self.invariant.0 c.args.leaf c.args.raw fits c.self.inside.blobs.items c.short_write.new.blobs.items c.args.row (c.short_write.ensures.table wrote)
 
 pub invariant_of-self : goal.invariant_of-self
 invariant_of-self c =

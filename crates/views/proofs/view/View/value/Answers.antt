@@ -1,5 +1,5 @@
-use Rattle.views.proofs.Imports.{ℤ, ◌≡◌, false, refl, sym, ap, ◌∙◌, subst, arith, rules, SFits, w128, to_z-of_z, IsDeclared, term_of, is_counted, tally_of, leaf_type_of, Read, idle_tallied}
-use Rattle.views.proofs.Opened.{rows_seen, leaf_seen, cell_count, laid_here, sign_seen, declared_seen, seen_touched}
+use Rattle.views.proofs.Imports.{◌≡◌, false, refl, sym, ap, ◌∙◌, arith, rules, SFits, w128, to_z-of_z, term_of, is_counted, tally_of, Read, idle_tallied}
+use Rattle.views.proofs.Opened.{rows_seen, leaf_seen, cell_count, laid_here, sign_seen, sign_declared, seen_touched}
 use Rattle.views.proofs.view.View.value.Goals as goal
 
 pub wide_read-requires-clause-row_in : goal.wide_read-requires-clause-row_in
@@ -27,13 +27,9 @@ returns-in-Some-clause-value c =
 pub returns-in-Some-clause-declared : goal.returns-in-Some-clause-declared
 returns-in-Some-clause-declared c =
     let a = c.self.inside in
-    let seen = c.args.self.now in
     let fits : SFits w128 c.in-Some.value = search rules in
-    let read = c.in-Some.ensures.value
-    ∙ sign_seen a.schema a.extents a.expr a.blobs.items c.self.invariant.1 seen c.self.view_is c.self.invariant.0 c.as_slice.result.now c.as_slice.ensures.value c.args.row c.args.leaf
-    c.requires.row_in c.requires.leaf_in (c.in-Some.ensures.sign refl) in
-    subst (λ (v : ℤ). IsDeclared (leaf_type_of seen c.args.leaf) v) (sym read ∙ sym (to_z-of_z w128 c.in-Some.value fits))
-    (declared_seen a.schema a.extents a.expr a.blobs.items c.self.invariant.1 seen c.self.view_is c.args.row c.args.leaf c.requires.row_in c.requires.leaf_in)
+    sign_declared a.schema a.extents a.expr a.blobs.items c.self.invariant.1 c.args.self.now c.self.view_is c.self.invariant.0 c.as_slice.result.now c.as_slice.ensures.value c.args.row c.args.leaf
+    c.requires.row_in c.requires.leaf_in (c.in-Some.ensures.sign refl) _ (to_z-of_z w128 c.in-Some.value fits ∙ c.in-Some.ensures.value)
 
 pub returns-in-Some-clause-same : goal.returns-in-Some-clause-same
 returns-in-Some-clause-same c =

@@ -1,0 +1,6 @@
+use Rattle.piece_bits.proofs.Imports.{ℕ, ◌<◌, get_or, pos}
+use Rattle.piece_bits.proofs.Distances.{IsNoFarther}
+use Rattle.piece_bits.proofs.within.are_within.Given as goal
+
+abbrev pub invariant-loop-value : goal.invariant-loop-value
+invariant-loop-value l = (k : ℕ) → k < l.value-index → IsNoFarther l.least (get_or l.values k (pos 0)) l.far
