@@ -1,5 +1,4 @@
-use Rattle.views.proofs.Imports.{◌≤ℤ◌, ℤ, get_or, pos, rules, subst, w64, FitsSigned}
-use Rattle.std.proofs.lemmas.Int.{to_z-of_z}
+use Rattle.views.proofs.Imports.{◌≤ℤ◌, ℤ, get_or, pos, rules, subst, w64, FitsSigned, to_z-of_z}
 use Rattle.views.proofs.runs.are_taken.Goals as goal
 
 pub returns : goal.returns
@@ -9,6 +8,6 @@ returns c = λ all k small.
     let low : FitsSigned w64 c.taken-least.result.0 = search rules in
     let high : FitsSigned w64 c.taken-least.result.1 = search rules in
     let taken = c.taken-least.ensures value
-        (subst (λ (z : ℤ). z ≤ℤ value) (to_z-of_z w64 c.taken-least.result.0 low) range.0)
-        (subst (λ (z : ℤ). value ≤ℤ z) (to_z-of_z w64 c.taken-least.result.1 high) range.1) in
+    (subst (λ (z : ℤ). z ≤ℤ value) (to_z-of_z w64 c.taken-least.result.0 low) range.0)
+    (subst (λ (z : ℤ). value ≤ℤ z) (to_z-of_z w64 c.taken-least.result.1 high) range.1) in
     record { declared = taken.0; held = taken.1 }
