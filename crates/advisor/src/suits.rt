@@ -12,10 +12,7 @@ use crate::trials::{Trial, none_failed, trials_of, try_leaf};
 use record_dim::Steps;
 use std::alloc::{AllocError as NoMemory, Global};
 use std::sync::ledger::Ledger;
-use views::View;
-
-// The most rows whose values are read at once. They lie on the stack.
-const RUN: usize = 256;
+use views::{RUN, View};
 
 /// Whether the values of a view suit each candidate. It takes all its memory first, and then reads each leaf of each row once.
 pub fn suiting<L: Ledger>(

@@ -19,10 +19,7 @@ use piece_bits::read_entry;
 use places::{Hold, Mapping, laws_of};
 use record_dim::{LeafType, Steps};
 use std::sync::ledger::Ledger;
-use views::{View, laws_of_table, read_rows};
-
-// The most rows that are stored leaf after leaf. Their numbers lie on the stack, and the records of both sides stay in the cache.
-const RUN: usize = 256;
+use views::{RUN, View, laws_of_table, read_rows};
 
 /// Stores the raw numbers that blobs hold as the rows of a view of zeros. `Contents` comes exactly where a leaf refuses its number.
 pub fn fill_rows<L: Ledger>(

@@ -2,8 +2,7 @@
 ghost use Rattle.std.specs.Prelude.{◌≡◌, ◌+◌, ◌<◌, ◌≤◌, ◌^◌};
 ghost use Rattle.lane_kernels.specs.Inner.Blocks.{step_of};
 
-/// The most rows that go together.
-pub const RUN: usize = 256;
+use views::RUN;
 
 /// How many rows go together from this one on: where nothing counts accesses as many as may, and else a block, or one of the rest.
 pub fn step_at(uncounted: bool, lanes: usize, count: u64, row: u64) -> usize

@@ -1,13 +1,13 @@
 ghost use Rattle.std.specs.Prelude.{◌≡◌, ◌+◌, ◌≤◌, length};
 ghost use Rattle.lane_kernels.specs.Kernels.{IsKernelOf, IsKernelRun, kernel_cost};
 
-use crate::blocks::{RUN, step_at};
+use crate::blocks::step_at;
 use crate::fault::KernelFault;
 use crate::kernel::Kernel;
 use crate::rows::on_rows;
 use record_dim::Steps;
 use std::sync::ledger::Ledger;
-use views::View;
+use views::{RUN, View};
 
 /// Runs a kernel in blocks of 1 to 16 rows, and the rest row by row. Each value is stored as the view keeps it. `Range` and `Narrow` come
 /// exactly where the view is strict and a value to store does not fit, and name the first row; exactly the rows before it are changed.

@@ -10,12 +10,11 @@ ghost use Rattle.views.specs.Tables.{after_log, leaf_count_of, leaf_type_of};
 ghost use Rattle.lane_kernels.specs.Kernels.{IsNarrow};
 ghost use Rattle.lane_kernels.specs.Reductions.{reduced_by, with_more, CanAdd};
 
-use crate::blocks::RUN;
 use num_traits::PrimInt;
 use piece_bits::{greatest, least, sum};
 use record_dim::{LeafType, Steps};
 use std::sync::ledger::Ledger;
-use views::{View, raised};
+use views::{RUN, View, raised};
 
 /// What is asked of some numbers.
 #[derive(Clone, Copy)]

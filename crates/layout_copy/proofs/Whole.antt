@@ -28,9 +28,6 @@ run_holds one two fields are =
     full.0 ∙ sym full.1
 
 -- accesses of one kind
-only_reads : (leaves rows : ℕ) → all_touches 1 0 leaves rows ≡ all_accesses Read leaves rows
-only_reads leaves rows = append-nil (all_accesses Read leaves rows ++ []) ∙ append-nil (all_accesses Read leaves rows)
-
 only_writes : (leaves rows : ℕ) → all_touches 0 1 leaves rows ≡ all_accesses Write leaves rows
 only_writes leaves rows = append-nil (all_accesses Write leaves rows)
 

@@ -7,10 +7,7 @@ ghost use Rattle.layout_copy.specs.Inner.RowRuns.{AllTake};
 
 use record_dim::Steps;
 use std::sync::ledger::Ledger;
-use views::{View, laws_of_table};
-
-// The most rows that are copied leaf after leaf: their values lie on the stack.
-const RUN: usize = 256;
+use views::{RUN, View, laws_of_table};
 
 // Whether no side counts, and each leaf of the target takes each value of its type.
 pub(crate) fn may_go_by_runs(source: &View, target: &View) -> bool

@@ -1,5 +1,5 @@
 -- What the proofs of this crate speak of.
-pub use Rattle.std.proofs.Common.{◌≡◌, ℕ, zero, suc, ◌+◌, ◌<◌, ◌≤◌, List, [], ◌∷◌, ◌++◌, length, get_or, take, ℤ, Result, Ok, Err, refl, sym, ap, ◌∙◌, arith, ◌*◌, length-take, set, Some, map, Bool, true, false, Option, None, MutBor, ◌≤ℤ◌, pos, negsuc, neg_ℤ, FitsSigned, to_z, of_z, w64, take_all, drop, is_ok, subst, count_by, cond, get_or-drop, ◌^◌, length-drop, All, rules, ◌-◌, slice_index}
+pub use Rattle.std.proofs.Common.{◌≡◌, ℕ, zero, suc, ◌+◌, ◌<◌, ◌≤◌, List, [], ◌∷◌, ◌++◌, length, get_or, take, ℤ, Result, Ok, Err, refl, sym, ap, ◌∙◌, arith, ◌*◌, length-take, set, Some, map, Bool, true, false, Option, None, MutBor, ◌≤ℤ◌, pos, negsuc, neg_ℤ, FitsSigned, w64, take_all, drop, is_ok, subst, count_by, cond, get_or-drop, ◌^◌, length-drop, All, rules, ◌-◌, slice_index}
 pub use Rattle.std.specs.List.{range_with_len, slice_get, fold}
 pub use Rattle.std.specs.Prelude.{slice_set, unsigned_abs, if◌then◌else◌, OnOk, IfOk, IfErr}
 pub use Rattle.std.proofs.lemmas.List.FromFn.{get_or-range_with_len, length-range_with_len}
@@ -11,7 +11,8 @@ pub use Rattle.std.proofs.lemmas.Int.{ints, to_z-of_z, fits_signed_from_abs}
 pub use Rattle.std.proofs.lemmas.List.Sums.{sum_by-append, count_by-le-length, sum_by-cons}
 pub use Rattle.std.specs.Option.{option_or}
 pub use Rattle.std.proofs.lemmas.List.Elements.{All-get_or}
-pub use Rattle.views.specs.Stores.{Keeping, StoreAnswer, without_number, kept_or, is_between, store_answer}
+pub use Rattle.views.specs.Stores.{Keeping, StoreAnswer, Fits, without_number, kept_or}
+pub use Rattle.views.proofs.StoreLaws.{map_same}
 pub use Rattle.extents.specs.Indices.{indices, IsInside}
 pub use Rattle.extents.specs.IndicesLaws.{length-indices, place, slice_get-place}
 pub use Rattle.linearize.specs.Slots.{index_at}
@@ -21,7 +22,7 @@ pub use Rattle.views.specs.TallyLaws.{after_log-append, after_reads, logs_more, 
 pub use Rattle.views.specs.Tables.{Table, answer_of, after_log, after_read, kept_of, after_stores, after_write, IsTable, leaf_count_of, leaf_type_of, leaf_types_of, table_holds}
 pub use Rattle.record_dim.specs.declared.leaf_type.LeafType.{LeafType}
 pub use Rattle.record_dim.specs.declared.leaf_type.LeafType.TheVariants.{U64, Bool as Truth}
-pub use Rattle.record_dim.specs.LeafTypes.{is_signed, IsDeclared, least_of, greatest_of, least_in, greatest_in}
+pub use Rattle.record_dim.specs.LeafTypes.{is_signed, IsDeclared}
 pub use Rattle.views.specs.LeafRuns.{raised, stored_count, told_lane}
 pub use Rattle.piece_bits.specs.Tables.{with_entry, hold_at}
 pub use Rattle.views.specs.declared.fault.StoreFault.{StoreFault}
@@ -31,19 +32,14 @@ pub use Rattle.piece_bits.specs.LowsLaws.{low_same}
 pub use Rattle.piece_bits.specs.EntryLaws.{stays_declared}
 pub use Rattle.record_dim.specs.Leaves.{Leaf, leaves, kinds_of}
 pub use Rattle.views.specs.Columns.{in_leaf, column, with_column, column_writes, first_lane_fault, lane_fault}
-pub use Rattle.views.specs.RunsLaws.{raised_low}
+pub use Rattle.views.specs.RunsLaws.{raised_low, raised_same}
 pub use Rattle.expr_lang.specs.Values.{outcome_of, is_true}
 pub use Rattle.expr_lang.specs.Inner.Exacts.{IsSafe}
 pub use Rattle.expr_lang.specs.ExactsLaws.{worth}
-pub use Rattle.views.specs.AnswerLaws.{stays_answer, told_same, told_ok}
+pub use Rattle.views.specs.AnswerLaws.{stays_answer, told_ok}
 pub use Rattle.views.specs.ColumnsLaws.{no_column, length-with_column}
 pub use Rattle.expr_lang.specs.declared.fault.EvalFault.{EvalFault}
-pub use Rattle.places.specs.declared.piece.Hold.{Hold}
-pub use Rattle.piece_bits.specs.declared.mode.StoreMode.{StoreMode}
-pub use Rattle.piece_bits.specs.declared.mode.StoreMode.TheVariants.{Strict, Wrap}
 pub use Rattle.views.specs.declared.fault.LaneFault.{LaneFault}
-pub use Rattle.views.specs.StrictLaws.{between_true, fitting_stored}
-pub use Rattle.views.specs.declared.fault.StoreFault.TheVariants.{Range, Narrow}
 pub use Rattle.expr_lang.specs.declared.bound.Links.{Links, size-Links}
 pub use Rattle.expr_lang.specs.declared.bound.Step.{Step}
 pub use Rattle.expr_lang.specs.Chains.{step_term, links_term, operand_term, chain_term, AreWithin}
@@ -59,6 +55,6 @@ pub use Rattle.row_updates.specs.Logs.{value_log, filter_log, if_ok, if_passes, 
 pub use Rattle.row_updates.specs.TriedLaws.{log_as_tried, updated_as_tried, tried_values}
 pub use Rattle.row_updates.specs.declared.update.Assign.{Assign}
 pub use Rattle.row_updates.specs.Inner.Updated.{AreUpdated, IsStopped, AreCounted, row_test, IsCounted, IsCountStopped, IsStill, IsRunUpdated, AreTested, lane_test}
-pub use Rattle.row_updates.specs.Inner.ValueRuns.{row_of, AreNear, IsIdle, IsGiven, AreGiven, AreTaken, AreWorth, IsRunOf, AreRights}
+pub use Rattle.row_updates.specs.Inner.ValueRuns.{row_of, AreNear, IsIdle, IsGiven, AreGiven, AreWorth, IsRunOf, AreRights}
 pub use Rattle.row_updates.specs.declared.runs.Run.{Run}
 pub use Rattle.row_updates.specs.declared.fault.UpdateKind.{UpdateKind}

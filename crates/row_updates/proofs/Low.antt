@@ -1,5 +1,5 @@
 -- Values of a leaf as 64 bits with a sign.
-use Rattle.row_updates.proofs.Imports.{◌≡◌, ◌∙◌, ℕ, ◌≤◌, ◌≤ℤ◌, ℤ, pos, negsuc, neg_ℤ, Bool, true, false, FitsSigned, to_z, of_z, w64, refl, ap, arith, w128, unsigned_abs, if◌then◌else◌, ints, to_z-of_z, LeafType, U64, is_signed, raised}
+use Rattle.row_updates.proofs.Imports.{◌≡◌, ℕ, ◌≤◌, ◌≤ℤ◌, ℤ, pos, negsuc, neg_ℤ, Bool, true, false, refl, arith, unsigned_abs, if◌then◌else◌, ints, LeafType, U64, is_signed, raised}
 
 -- low bits that lie no lower than a type's values do are the value
 pub low_is : (kind : LeafType) (low : ℤ) (limit : ℕ) → (if is_signed kind then neg_ℤ (pos limit) else pos 0) ≤ℤ low → raised kind low ≡ low

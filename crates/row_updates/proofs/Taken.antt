@@ -1,5 +1,5 @@
 -- Values that a leaf takes.
-use Rattle.row_updates.proofs.Imports.{◌≡◌, ◌∙◌, ℕ, zero, suc, ◌+◌, ◌<◌, ◌≤◌, ◌≤ℤ◌, List, [], ◌∷◌, length, get_or, ℤ, pos, Bool, true, false, Option, Some, None, Result, Ok, Err, is_ok, refl, sym, ap, arith, if◌then◌else◌, option_or, ints, Hold, LeafType, least_of, greatest_of, least_in, greatest_in, StoreMode, Strict, Wrap, lane_fault, first_lane_fault, StoreAnswer, is_between, store_answer, without_number, told_lane, stored_count, LaneFault, told_same, between_true, fitting_stored, StoreFault, Range, Narrow}
+use Rattle.row_updates.proofs.Imports.{◌≡◌, ℕ, zero, suc, ◌+◌, ◌<◌, ◌≤◌, List, [], ◌∷◌, length, get_or, ℤ, pos, true, Option, Some, None, Result, Ok, Err, is_ok, refl, ap, arith, option_or, lane_fault, first_lane_fault, StoreAnswer, without_number, told_lane, stored_count, LaneFault, StoreFault}
 
 module _ (answer : StoreAnswer) (leaf : ℕ) where
   -- a value without a fault in front of others
@@ -7,21 +7,12 @@ module _ (answer : StoreAnswer) (leaf : ℕ) where
   fault_free lane (Ok kept) rest none = (refl, none)
   fault_free lane (Err fault) rest none = absurd (cc)
 
-  free_fault : (lane : ℕ) (one : Result ℤ StoreFault) (rest : Option LaneFault) → is_ok one ≡ true → rest ≡ None → option_or (lane_fault lane one) rest ≡ None
-  free_fault lane (Ok kept) rest ok none = none
-  free_fault lane (Err fault) rest ok none = absurd (cc)
-
   -- no value has a fault
   pub all_taken : (lane : ℕ) (values : List ℤ) → first_lane_fault answer leaf lane values ≡ None → (k : ℕ) → k < length values → is_ok (answer leaf (get_or values k (pos 0))) ≡ true
   all_taken lane [] none k small = absurd (omega (arith, small))
   all_taken lane (value ∷ values) none zero small = (fault_free lane (answer leaf value) (first_lane_fault answer leaf (lane + 1) values) none).0
   all_taken lane (value ∷ values) none (suc k) small =
       all_taken (lane + 1) values (fault_free lane (answer leaf value) (first_lane_fault answer leaf (lane + 1) values) none).1 k (omega (arith, small))
-
-  pub none_faulty : (lane : ℕ) (values : List ℤ) → ((k : ℕ) → k < length values → is_ok (answer leaf (get_or values k (pos 0))) ≡ true) → first_lane_fault answer leaf lane values ≡ None
-  none_faulty lane [] taken = refl
-  none_faulty lane (value ∷ values) taken =
-      free_fault lane (answer leaf value) (first_lane_fault answer leaf (lane + 1) values) (taken 0 (omega arith)) (none_faulty (lane + 1) values (λ k small. taken (suc k) (omega (arith, small))))
 
   -- the values before the first fault have none
   pub record AreTakenUpTo (lane : ℕ) (values : List ℤ) (fault : LaneFault) : Type 0 where

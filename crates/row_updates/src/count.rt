@@ -11,13 +11,13 @@ ghost use Rattle.row_updates.specs.Inner.Updated.{IsCounted, IsCountStopped};
 use crate::fault::UpdateFault;
 use crate::index::put_index;
 use crate::limits::find_limits;
-use crate::run_updates::{ROWS, count_passing};
+use crate::run_updates::count_passing;
 use crate::runs::{Run, chain_run};
 use crate::value::passes;
 use expr_lang::Bound;
 use record_dim::Steps;
 use std::sync::ledger::Ledger;
-use views::View;
+use views::{RUN, View};
 
 /// In how many rows an expression is not 0, or its first fault in the order of rows. The table stands, the
 /// reads are counted, and no memory is taken.
@@ -67,7 +67,7 @@ fn count_by_runs<L: Ledger>(
             leaves,
             places,
         };
-        let end = (first + ROWS).min(count);
+        let end = (first + RUN as u64).min(count);
         passing += count_next(view, filter, &run, end, steps)?;
         first = end;
     }
@@ -93,7 +93,7 @@ fn count_next<L: Ledger>(
     ensures stopped { (old : Table) (before : ℕ) → IsIdle old → IsCounted old (bound_term filter.now) view.old run.now.first before
         → IfErr result (IsCountStopped old (bound_term filter.now) view.new) }
 {
-    let mut buffer = [0; 256];
+    let mut buffer = [0; RUN];
     let values = &mut buffer[..(end - run.first) as usize];
     if chain_run(view, filter.chain(), run, values, steps) {
         return Ok(count_passing(values) as u64);

@@ -1,5 +1,5 @@
 // Updates of many rows at once, in a view that counts nothing.
-ghost use Rattle.std.specs.Prelude.{ℕ, ◌≡◌, ◌+◌, ◌<◌, ◌≤◌, Bool, true, false, ℤ, pos, OnOk, IfErr, IfSome, Option, Some, None, All, List, [], ◌∷◌, count_by, length, map, slice_index_or, if◌then◌else◌, ◌-◌};
+ghost use Rattle.std.specs.Prelude.{ℕ, ◌≡◌, ◌+◌, ◌<◌, ◌≤◌, true, false, pos, OnOk, IfErr, IfSome, Option, Some, None, All, [], ◌∷◌, count_by, length, map, slice_index_or, if◌then◌else◌, ◌-◌};
 ghost use Rattle.expr_lang.specs.Bounds.{bound_term};
 ghost use Rattle.expr_lang.specs.Terms.{Term};
 ghost use Rattle.expr_lang.specs.Values.{is_true};
@@ -16,10 +16,7 @@ use crate::update::{Assign, update_between};
 use expr_lang::Bound;
 use record_dim::Steps;
 use std::sync::ledger::Ledger;
-use views::{View, laws_of_table};
-
-/// How many rows go at once.
-pub const ROWS: u64 = 256;
+use views::{RUN, View, laws_of_table};
 
 // How far from 0 what stands in a leaf may lie, since it is stored again as 64 bits with a sign.
 const FAR: u64 = 1 << 62;
@@ -51,7 +48,7 @@ pub fn update_by_runs<L: Ledger>(
             leaves,
             places,
         };
-        let end = (first + ROWS).min(count);
+        let end = (first + RUN as u64).min(count);
         update_next(view, filter, sets, &run, end, steps)?;
         first = end;
     }
@@ -125,7 +122,7 @@ fn passed_run<L: Ledger>(
     ensures few { result ≤ count }
     ensures updated { IsRunUpdated view.old (Some (bound_term filter.now)) (map setting_of sets.now) run.now.first result view.new }
 {
-    let mut buffer = [0; 256];
+    let mut buffer = [0; RUN];
     let mask = &mut buffer[..count];
     if !chain_run(view, filter.chain(), run, mask, steps) {
         return 0;
@@ -198,7 +195,7 @@ fn lone_run<L: Ledger>(
         → IsRunUpdated view.old filter (setting_of set.now ∷ []) run.now.first result view.new }
 {
     laws_of_table(view);
-    let mut buffer = [0; 256];
+    let mut buffer = [0; RUN];
     let values = &mut buffer[..count];
     if !value_run(view, set, run, mask, values, steps) {
         return 0;
@@ -234,7 +231,7 @@ fn sets_run<L: Ledger>(
     }
     let before = sets.len() - 1;
     let last = &sets[before];
-    let mut buffer = [0; 256];
+    let mut buffer = [0; RUN];
     let values = &mut buffer[..count];
     if !value_run(view, last, run, mask, values, steps) || !view.takes_run(last.leaf, values) {
         return false;
@@ -242,7 +239,7 @@ fn sets_run<L: Ledger>(
     if !sets_run(view, &sets[..before], run, count, mask, steps) {
         return false;
     }
-    let _taken = view.store_run(last.leaf, run.first, values, steps);
+    view.put_run(last.leaf, run.first, values, steps);
     true
 }
 
@@ -289,7 +286,7 @@ fn keep_others<L: Ledger>(
     ensures kept { result ≡ true → (k : ℕ) → k < length values.old → slice_index_or values.new k (pos 0)
         ≡ (if is_true (slice_index_or mask.now k (pos 0)) then slice_index_or values.old k (pos 0) else in_leaf leaf (row_of view.old (run.now.first + k))) }
 {
-    let mut buffer = [0; 256];
+    let mut buffer = [0; RUN];
     let old = &mut buffer[..values.len()];
     if !leaf_run(view, leaf, run.first, FAR, old, steps) {
         return false;

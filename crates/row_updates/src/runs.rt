@@ -13,7 +13,7 @@ use expr_lang::{Chain, Links, Operand, Step, apply_step, lone_number};
 use piece_bits::are_within;
 use record_dim::{LeafType, Steps};
 use std::sync::ledger::Ledger;
-use views::View;
+use views::{RUN, View};
 
 /// Consecutive rows from one on, and how far from 0 the values of each leaf and the numbers of their indices may lie.
 #[derive(Clone, Copy)]
@@ -43,7 +43,7 @@ pub fn chain_run<L: Ledger>(
     if !operand_run(view, chain.first, run, values, steps) {
         return false;
     }
-    let mut buffer = [0; 256];
+    let mut buffer = [0; RUN];
     let other = &mut buffer[..values.len()];
     let mut links = &chain.links;
     while let Links::More(link) = links {

@@ -12,7 +12,7 @@ use crate::far::{all_far, row_away};
 use crate::fault::StencilFault;
 use crate::limits::are_near;
 use crate::plan::Plan;
-use crate::runs::{MOST, Run, Walk};
+use crate::runs::{Run, Walk};
 use crate::sums::sum_run;
 use crate::term::Term;
 use extents::Window;
@@ -20,7 +20,7 @@ use piece_bits::StoreMode;
 use record_dim::Steps;
 use std::alloc::{AllocError as NoMemory, Global};
 use std::sync::ledger::Ledger;
-use views::{View, laws_of_table};
+use views::{RUN, View, laws_of_table};
 
 /// A buffer for stencils over a view: it lies as the view does, without the view's counters.
 pub fn buffer_for(alloc: Global, view: &View) -> Result<View, NoMemory>
@@ -80,8 +80,8 @@ pub fn stencil<L: Ledger>(
         divisor: i64::from(divisor),
         near: are_near(view, terms),
     };
-    let mut values = [0; MOST];
-    let mut read = [0; MOST];
+    let mut values = [0; RUN];
+    let mut read = [0; RUN];
     for _round in 0..rounds {
         fill(view, buffer, &plan, &mut values, &mut read, steps)?;
         store_back(view, buffer, &plan, &mut values, steps);
@@ -94,8 +94,8 @@ fn fill<L: Ledger>(
     view: &mut View,
     buffer: &mut View,
     plan: &Plan<'_>,
-    values: &mut [i64; MOST],
-    read: &mut [i64; MOST],
+    values: &mut [i64; RUN],
+    read: &mut [i64; RUN],
     steps: &mut Steps<L>,
 ) -> Result<(), StencilFault>
     requires plan { IsPlanOf view.old.fields view.old.extents plan.now }
@@ -134,8 +134,8 @@ fn fill_run<L: Ledger>(
     buffer: &mut View,
     plan: &Plan<'_>,
     run: Run,
-    values: &mut [i64; MOST],
-    read: &mut [i64; MOST],
+    values: &mut [i64; RUN],
+    read: &mut [i64; RUN],
     steps: &mut Steps<L>,
 ) -> u64
     requires plan { IsPlanOf view.old.fields view.old.extents plan.now }
@@ -193,7 +193,7 @@ fn store_back<L: Ledger>(
     view: &mut View,
     buffer: &mut View,
     plan: &Plan<'_>,
-    values: &mut [i64; MOST],
+    values: &mut [i64; RUN],
     steps: &mut Steps<L>,
 )
     requires plan { IsPlanOf view.old.fields view.old.extents plan.now }
@@ -221,7 +221,7 @@ fn copy_back<L: Ledger>(
     buffer: &mut View,
     leaf: usize,
     run: Run,
-    values: &mut [i64; MOST],
+    values: &mut [i64; RUN],
     steps: &mut Steps<L>,
 )
     requires buffer { IsBufferOf view.old buffer.old }

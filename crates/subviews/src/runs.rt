@@ -5,9 +5,7 @@ ghost use Rattle.subviews.specs.SubViews.{rows_of};
 ghost use Rattle.subviews.specs.Plans.{AreConsecutive, IsRunOf, IsWalk};
 
 use extents::Window;
-
-/// The most rows of a run. Room for their numbers is on the stack.
-pub const MOST: usize = 256;
+use views::RUN;
 
 /// Rows of a window that lie one behind another in the array.
 #[derive(Clone, Copy)]
@@ -53,7 +51,7 @@ impl Walk {
     {
         self.ready(window, row);
         let first = self.next;
-        let rows = self.left.min(MOST as u64);
+        let rows = self.left.min(RUN as u64);
         self.next += rows;
         self.left -= rows;
         Run { row, first, rows }

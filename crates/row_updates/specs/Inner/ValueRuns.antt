@@ -1,5 +1,5 @@
 -- The values of an expression in consecutive rows of a table that counts nothing.
-use Rattle.std.specs.Prelude.{ℕ, ◌≡◌, ◌+◌, ◌<◌, ◌≤◌, Bool, true, false, ℤ, pos, List, [], length, slice_index, slice_index_or, is_ok, unsigned_abs}
+use Rattle.std.specs.Prelude.{ℕ, ◌≡◌, ◌+◌, ◌<◌, ◌≤◌, Bool, true, false, ℤ, pos, List, [], length, slice_index, slice_index_or, unsigned_abs}
 use Rattle.expr_lang.specs.declared.bound.Bound.{Bound}
 use Rattle.expr_lang.specs.Bounds.{bound_leaves, bound_rank}
 use Rattle.expr_lang.specs.declared.bound.Step.{Step}
@@ -7,7 +7,7 @@ use Rattle.expr_lang.specs.Terms.{Term}
 use Rattle.expr_lang.specs.Inner.Steps.{IsWorthIn, IsRight}
 use Rattle.linearize.specs.Slots.{index_at}
 use Rattle.views.specs.Columns.{in_leaf}
-use Rattle.views.specs.Tables.{Table, leaf_count_of, answer_of, after_log}
+use Rattle.views.specs.Tables.{Table, leaf_count_of, after_log}
 use Rattle.views.specs.Tallies.{Access}
 use Rattle.row_updates.specs.declared.runs.Run.{Run}
 use Rattle.row_updates.specs.Rows.{Setting}
@@ -54,10 +54,6 @@ IsGiven false table run set k value = value ≡ in_leaf set.leaf (row_of table (
 
 abbrev pub AreGiven : Table → Run → Setting → (ℕ → Bool) → List ℤ → Type 0
 AreGiven table run set test values = (k : ℕ) → k < length values → IsGiven (test k) table run set k (slice_index_or values k (pos 0))
-
--- a leaf takes each of these values
-abbrev pub AreTaken : Table → ℕ → List ℤ → Type 0
-AreTaken table leaf values = (k : ℕ) → k < length values → is_ok (answer_of table leaf (slice_index_or values k (pos 0))) ≡ true
 
 -- an expression asks for as many leaves and numbers of an index
 pub record IsSized (leaves places : List ℕ) (bound : Bound) : Type 0 where

@@ -1,10 +1,10 @@
-use Rattle.row_updates.proofs.Imports.{rules, ◌≡◌, ◌-◌, ◌<◌, ℕ, List, length, map, take, sym, ap, subst, arith, All-get_or, bound_term, IsSafe, column_writes, Table, leaf_count_of, kept_of, Assign, Setting, setting_of, IsSetOf, AreTaken, IsRunUpdated, IsStill, lane_test}
+use Rattle.row_updates.proofs.Imports.{rules, ◌≡◌, ◌-◌, ◌<◌, ℕ, List, length, map, take, get_or, ℤ, pos, sym, ap, subst, arith, All-get_or, bound_term, IsSafe, hold_at, column_writes, raised, raised_same, Fits, Table, leaf_count_of, leaf_type_of, table_holds, Assign, Setting, setting_of, IsSetOf, IsRunUpdated, IsStill, lane_test}
 use Rattle.row_updates.proofs.RunRows.{stored_still}
-use Rattle.row_updates.proofs.RunSets.{stored_of, last_stored, all_settings}
+use Rattle.row_updates.proofs.RunSets.{last_stored, all_settings}
 use Rattle.row_updates.proofs.run_updates.+sets_run.Goals as goal
 
-pub store_run-taken-requires-clause-leaf_in : goal.store_run-taken-requires-clause-leaf_in
-store_run-taken-requires-clause-leaf_in g t c =
+pub put_run-requires-clause-leaf_in : goal.put_run-requires-clause-leaf_in
+put_run-requires-clause-leaf_in g t c =
     let view = c.args.view.now in
     let sets = c.args.sets.now in
     let last = c.index-sets-before.result in
@@ -13,10 +13,19 @@ store_run-taken-requires-clause-leaf_in g t c =
     let set = subst (IsSetOf view) (sym c.index-sets-before.is) (All-get_or (IsSetOf view) sets before last small c.requires.sets) in
     subst (λ (v : Table). last.leaf < leaf_count_of v) (sym c.sets_run.ensures.still.same) (subst (λ (v : Table). last.leaf < leaf_count_of v) (sym c.value_run.ensures.same) set.inside)
 
-pub store_run-taken-requires-clause-rows_in : goal.store_run-taken-requires-clause-rows_in
-store_run-taken-requires-clause-rows_in g t c =
+pub put_run-requires-clause-rows_in : goal.put_run-requires-clause-rows_in
+put_run-requires-clause-rows_in g t c =
     let long : length c.value_run.new.values ≡ c.args.count = search rules in
     omega (arith, long, c.requires.rows.rows, c.sets_run.ensures.still.count, ap (λ (v : Table). length v.rows) c.value_run.ensures.same)
+
+pub put_run-requires-clause-fits : goal.put_run-requires-clause-fits
+put_run-requires-clause-fits g t c = λ k small.
+    let leaf = c.index-sets-before.result.leaf in
+    let view = c.value_run.new.view in
+    let value = get_or c.value_run.new.values k (pos 0) in
+    let fit = c.takes_run.ensures.fits c.if-not-takes_run.false k small in
+    subst (λ (v : Table). Fits (leaf_type_of v leaf) (hold_at (table_holds v) leaf) (raised (leaf_type_of v leaf) value)) (sym c.sets_run.ensures.still.same)
+    (subst (λ (v : ℤ). Fits (leaf_type_of view leaf) (hold_at (table_holds view) leaf) v) (sym (raised_same (leaf_type_of view leaf) value fit.declared)) fit)
 
 pub returns-clause-still : goal.returns-clause-still
 returns-clause-still g t c =
@@ -26,8 +35,7 @@ returns-clause-still g t c =
     let values = c.value_run.new.values in
     let mid = c.sets_run.new.view in
     let before = subst (λ (v : Table). IsStill v mid) c.value_run.ensures.same c.sets_run.ensures.still in
-    let many = stored_of mid leaf values in
-    stored_still table mid c.store_run-taken.new.self leaf first (map (kept_of mid leaf) (take many values)) (column_writes leaf first many) c.requires.idle before c.store_run-taken.ensures.stored
+    stored_still table mid c.put_run.new.self leaf first (map (raised (leaf_type_of mid leaf)) values) (column_writes leaf first (length values)) c.requires.idle before c.put_run.ensures.stored
 
 pub returns-clause-updated : goal.returns-clause-updated
 returns-clause-updated g t c = λ all filter tested.
@@ -38,7 +46,7 @@ returns-clause-updated g t c = λ all filter tested.
     let sets = c.args.sets.now in
     let values = c.value_run.new.values in
     let mid = c.sets_run.new.view in
-    let after = c.store_run-taken.new.self in
+    let after = c.put_run.new.self in
     let last = c.index-sets-before.result in
     let before : ℕ = length sets - 1 in
     let small : before < length sets = search rules in
@@ -47,7 +55,9 @@ returns-clause-updated g t c = λ all filter tested.
     let safe = subst (λ (s : Assign). IsSafe leaves places (bound_term s.value)) (sym c.index-sets-before.is)
     (All-get_or (λ (s : Assign). IsSafe leaves places (bound_term s.value)) sets before last small c.requires.safe) in
     let front = (rw c.value_run.ensures.same at c.sets_run.ensures.updated) c.if-not-sets_run.false filter tested in
-    let taken = subst (λ (v : Table). AreTaken v last.leaf values) c.value_run.ensures.same (λ k small. ap is_ok (c.takes_run.ensures.taken c.if-not-takes_run.false k small)) in
+    let taken = (rw c.value_run.ensures.same at c.takes_run.ensures.taken) c.if-not-takes_run.false in
+    let fits = (rw c.value_run.ensures.same at c.takes_run.ensures.fits) c.if-not-takes_run.false in
     subst (λ (s : List Setting). IsRunUpdated table filter s run.first c.args.count after) (all_settings sets before last (omega (arith, small)) c.index-sets-before.is)
     (last_stored table run filter c.args.count (lane_test c.args.mask) values (setting_of last) c.laws_of_table.ensures.table c.requires.idle safe set.inside c.requires.rows.rows long tested
-    (c.value_run.ensures.given c.if-not-value_run.false) (map setting_of (take before sets)) mid after front taken c.store_run-taken.ensures.stored)
+    (c.value_run.ensures.given c.if-not-value_run.false) (map setting_of (take before sets)) mid after front taken
+    (λ k l. raised_same (leaf_type_of table last.leaf) (get_or values k (pos 0)) (fits k l).declared) c.put_run.ensures.stored)
