@@ -15,7 +15,7 @@ use Rattle.equal_runs.proofs.TallyCounts.{SameCounts}
 use Rattle.equal_runs.proofs.Updates.{is_narrow_update, rows_answers, fit_rows, rows_are}
 
 -- the table under another mapping, with another tally
-abbrev under : Table → MapTerm → Tally → Table
+abbrev pub under : Table → MapTerm → Tally → Table
 under table mapping tally = record table { mapping = mapping; tally = tally }
 
 pub narrow_store : (row : ℕ) (leaf : List ℕ) (n : Bool) (e : StoreFault) → is_narrow e ≡ true → is_of_layout n (store_fault row leaf e) ≡ true
