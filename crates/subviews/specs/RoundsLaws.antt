@@ -29,7 +29,8 @@ fits_at row (Err fault) rest is = absurd (cc is)
 -- rows of which something holds, as it does after a store of a value that fits
 module _ (answer : StoreAnswer) (stencil : Stencil) (Holds : List (List ℤ) → Type 0)
     (keeps : (rows : List (List ℤ)) (row : ℕ) (value : ℤ) → is_ok (answer stencil.leaf value) ≡ true → Holds rows → Holds (with_entry rows row stencil.leaf (kept_by answer stencil.leaf value))) where
-  column_keeps : (old : List (List ℤ)) (numbers : List ℕ) (now : List (List ℤ)) → values_fault answer stencil old numbers ≡ fits → Holds now → Holds (with_entries stencil.leaf (new_entry answer stencil old) numbers now)
+  column_keeps : (old : List (List ℤ)) (numbers : List ℕ) (now : List (List ℤ)) → values_fault answer stencil old numbers ≡ fits → Holds now
+      → Holds (with_entries stencil.leaf (new_entry answer stencil old) numbers now)
   column_keeps old [] now is holds = holds
   column_keeps old (row ∷ numbers) now is holds =
       let value = stencil_value stencil old row in
