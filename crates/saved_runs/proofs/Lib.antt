@@ -11,7 +11,6 @@ mod Rows
 mod Runs
 mod Saves
 mod Says
-mod Stencils
 mod Steps
 mod Tables
 mod Told
