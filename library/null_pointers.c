@@ -27,6 +27,8 @@ PROVED(set_run_u64);
 PROVED(copy);
 PROVED(relayout);
 PROVED(kernel);
+PROVED(do);
+PROVED(tell);
 PROVED(print);
 PROVED(save);
 PROVED(blob);
@@ -123,6 +125,17 @@ int32_t lly_relayout(lly_view *view, const uint8_t *line, size_t line_len, lly_f
 
 int32_t lly_kernel(lly_view *view, const uint8_t *line, size_t line_len, int64_t *value, lly_fault *fault) {
     return view && value && fault && IS_ARRAY(line, line_len) ? proved_lly_kernel(view, ARRAY(line), line_len, value, fault) : LLY_NULL;
+}
+
+int32_t lly_do(lly_view *view, const uint8_t *line, size_t line_len, int64_t *number, lly_fault *fault) {
+    return view && number && fault && IS_ARRAY(line, line_len) ? proved_lly_do(view, ARRAY(line), line_len, number, fault) : LLY_NULL;
+}
+
+int32_t lly_tell(lly_view *view, const uint8_t *line, size_t line_len, uint8_t *text, size_t text_len, size_t *needed, lly_fault *fault) {
+    if (!view || !needed || !fault || !IS_ARRAY(line, line_len) || !IS_ARRAY(text, text_len)) {
+        return LLY_NULL;
+    }
+    return proved_lly_tell(view, ARRAY(line), line_len, ARRAY(text), text_len, needed, fault);
 }
 
 int32_t lly_print(lly_view *view, uint8_t *text, size_t text_len, size_t *needed) {

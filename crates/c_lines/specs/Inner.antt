@@ -1,3 +1,4 @@
 -- Words of contracts within the project, which no promise reaches.
+pub mod Carried
 pub mod Makes
 pub mod Steps

@@ -4,6 +4,7 @@ pub mod Copies
 pub mod Relaid
 pub mod KernelLines
 pub mod Agreement
+pub mod Commands
 pub mod Answers
 pub mod Faults
 pub mod Values

@@ -64,6 +64,15 @@ pub enum Refusal {
     /// The field of the dataset is no number.
     Number { row: u64, leaf: usize },
     BadFile(BadFile),
+    /// An update sets the leaf a second time.
+    Twice { leaf: usize },
+    /// A result lies outside 128 bits.
+    Overflow { row: u64 },
+    DivideByZero { row: u64 },
+    /// The view counts no accesses.
+    NotCounted,
+    /// The spans are no window of the extents.
+    BadWindow,
 }
 
 /// What C learns of a refusal beside its number: which of several causes it is, and where. What a refusal does not have is 0.
@@ -106,6 +115,12 @@ impl Refusal {
             Refusal::ShortRow { .. } => 22,
             Refusal::Number { .. } => 23,
             Refusal::BadFile(_) => 24,
+            // What is tested over the proved calls has 25 and 26.
+            Refusal::Twice { .. } => 27,
+            Refusal::Overflow { .. } => 28,
+            Refusal::DivideByZero { .. } => 29,
+            Refusal::NotCounted => 30,
+            Refusal::BadWindow => 31,
         }
     }
 
@@ -147,6 +162,8 @@ impl Refusal {
             Refusal::Narrow { row, .. } => row,
             Refusal::ShortRow { row, .. } => row,
             Refusal::Number { row, .. } => row,
+            Refusal::Overflow { row } => row,
+            Refusal::DivideByZero { row } => row,
             _ => 0,
         }
     }
@@ -161,6 +178,7 @@ impl Refusal {
             Refusal::ColumnTwice { leaf } => leaf,
             Refusal::ShortRow { leaf, .. } => leaf,
             Refusal::Number { leaf, .. } => leaf,
+            Refusal::Twice { leaf } => leaf,
             _ => 0,
         }
     }

@@ -5,6 +5,7 @@ mod answers;
 mod box_parts;
 mod buffers;
 mod handle;
+mod lines;
 mod measures;
 mod part;
 mod runs;
