@@ -226,5 +226,14 @@ module llama_layout
       character(kind=c_char), intent(inout) :: bytes(*)
       integer(c_size_t), intent(inout) :: needed
     end function
+
+    integer(c_int32_t) function lly_message(answer, fault, text, text_len, needed) bind(c)
+      import
+      integer(c_int32_t), value :: answer
+      type(lly_fault), intent(in) :: fault
+      character(kind=c_char), intent(inout) :: text(*)
+      integer(c_size_t), value :: text_len
+      integer(c_size_t), intent(inout) :: needed
+    end function
   end interface
 end module

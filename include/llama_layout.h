@@ -19,7 +19,7 @@
  *
  * A text is bytes with a length, not ended by 0. Lines are those of the second version of the language, whole, of at most 4,096 bytes. Rows,
  * leaves and blobs count from 0: leaf 0 is the first of the record. Memory is taken by lly_new, lly_load, lly_open, lly_relayout,
- * lly_kernel, lly_do, lly_tell, lly_print and lly_save alone; each may answer LLY_NO_MEMORY, and then changes nothing but counts of accesses. A call takes at
+ * lly_kernel, lly_do, lly_tell, lly_print, lly_save and lly_message alone; each may answer LLY_NO_MEMORY, and then changes nothing but counts of accesses. A call takes at
  * most 64 KiB of stack, whatever text it is handed: this is measured, not proved.
  * Each call but lly_drop and lly_version answers a number below, and changes nothing but what it says.
  */
@@ -261,6 +261,10 @@ int32_t lly_save(lly_view *view, uint8_t *bytes, size_t bytes_len, size_t *neede
 
 /* The bytes of a blob, bit for bit what the layout says, with padding 0. */
 int32_t lly_blob(lly_view *view, size_t blob, uint8_t *bytes, size_t bytes_len, size_t *needed);
+
+/* The words of an answer and of the fault that came with it, as `Range record 3 leaf 1`: those that a script prints where a script has some, but a leaf
+ * is its number and a name is left out. A call without a fault has LLY_NO_FAULT. LLY_NO_PLACE where no call answers so. */
+int32_t lly_message(int32_t answer, const lly_fault *fault, uint8_t *text, size_t text_len, size_t *needed);
 
 #ifdef __cplusplus
 }

@@ -63,6 +63,14 @@ public:
     std::int32_t answer() const noexcept { return answer_; }
     const lly_fault &fault() const noexcept { return fault_; }
 
+    /// What a script prints of it, but a leaf is its number: `Range record 3 leaf 1`.
+    std::string words() const {
+        std::uint8_t text[64];
+        std::size_t needed = 0;
+        const std::int32_t told = lly_message(answer_, &fault_, text, sizeof text, &needed);
+        return told == LLY_DONE ? std::string(reinterpret_cast<const char *>(text), needed) : what();
+    }
+
 private:
     std::int32_t answer_;
     lly_fault fault_;

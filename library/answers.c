@@ -476,6 +476,41 @@ static void lines_are_told(void) {
     lly_drop(&view);
 }
 
+/* What is said of an answer with this cause, row 3, leaf 1 and column 14. */
+static void expect_message(int32_t answer, int32_t cause, const char *expected) {
+    const lly_fault fault = {cause, 3, 1, 14};
+    uint8_t text[64];
+    size_t needed = 0;
+    EXPECT(lly_message(answer, &fault, NULL, 0, &needed), LLY_NO_ROOM);
+    EXPECT(needed, strlen(expected));
+    EXPECT(lly_message(answer, &fault, text, sizeof text, &needed), LLY_DONE);
+    EXPECT(needed == strlen(expected) && memcmp(text, expected, needed) == 0, 1);
+}
+
+static void answers_have_words(void) {
+    const lly_fault none = LLY_NO_FAULT;
+    size_t needed = 9;
+    expect_message(LLY_DONE, 0, "Done");
+    expect_message(LLY_NO_VIEW, 0, "NoView");
+    expect_message(LLY_RANGE, 0, "Range record 3 leaf 1");
+    expect_message(LLY_SYNTAX, LLY_TEXT_SECOND, "Syntax column 14");
+    expect_message(LLY_OTHER_LINE, LLY_TEXT_FIRST, "OtherLine");
+    expect_message(LLY_UNKNOWN, 0, "Unknown");
+    expect_message(LLY_BAD_MAPPING, LLY_MAPPING_NOT_FULL, "BadMapping NotFull");
+    expect_message(LLY_COLUMN_TWICE, 0, "ColumnTwice 1");
+    expect_message(LLY_BAD_FILE, LLY_FILE_MAGIC, "BadFile Magic");
+    expect_message(LLY_NULL, 0, "Null");
+    expect_message(LLY_SAME, 0, "Same");
+    expect_message(LLY_TWICE, 0, "Twice 1");
+    expect_message(LLY_DIVIDE_BY_ZERO, 0, "DivideByZero record 3");
+    expect_message(LLY_BAD_WINDOW, 0, "BadWindow");
+    /* no call answers so */
+    EXPECT(lly_message(32, &none, NULL, 0, &needed), LLY_NO_PLACE);
+    EXPECT(lly_message(-1, &none, NULL, 0, &needed), LLY_NO_PLACE);
+    EXPECT(lly_message(LLY_BAD_RECORD, &none, NULL, 0, &needed), LLY_NO_PLACE);
+    EXPECT(needed, 9);
+}
+
 static void bytes_are_copied_out(void) {
     lly_view view = LLY_NONE, again = LLY_NONE;
     lly_fault fault = UNTOUCHED;
@@ -602,6 +637,9 @@ static void null_is_answered(void) {
     EXPECT(lly_blob(NULL, 0, bytes, 1, &size), LLY_NULL);
     EXPECT(lly_blob(&view, 0, NULL, 1, &size), LLY_NULL);
     EXPECT(lly_blob(&view, 0, bytes, 1, NULL), LLY_NULL);
+    EXPECT(lly_message(LLY_RANGE, NULL, bytes, 1, &size), LLY_NULL);
+    EXPECT(lly_message(LLY_RANGE, &fault, NULL, 1, &size), LLY_NULL);
+    EXPECT(lly_message(LLY_RANGE, &fault, bytes, 1, NULL), LLY_NULL);
     EXPECT_NO_FAULT();
     lly_drop(NULL);
     EXPECT(lly_rows(&view, &row), LLY_DONE);
@@ -621,6 +659,7 @@ int main(void) {
     kernels_run();
     lines_are_done();
     lines_are_told();
+    answers_have_words();
     bytes_are_copied_out();
     null_is_answered();
     return differs;

@@ -80,6 +80,8 @@ static void tables() {
     EXPECT_REFUSAL(LLY_BAD_FILE, 0, lly::view::open({}));
     EXPECT(std::string(lly::message(LLY_BAD_WINDOW)), "the spans are no window of the extents");
     EXPECT(std::string(lly::message(32)), "an answer of a later version");
+    EXPECT(lly::error(LLY_NARROW, {0, 3, 1, 0}).words(), "Narrow record 3 leaf 1");
+    EXPECT(lly::error(32, LLY_NO_FAULT).words(), "an answer of a later version");
 }
 
 int main() {

@@ -53,6 +53,8 @@ program answers
   call expect(lly_do(view, 'reduce V max x', 14_c_size_t, number, fault), LLY_DONE)
   call expect(lly_do(view, 'set V[0].y = 1', 14_c_size_t, number, fault), LLY_UNKNOWN)
   call expect(lly_tell(view, 'counts V', 8_c_size_t, text, len(text, c_size_t), needed, fault), LLY_NOT_COUNTED)
+  call expect(lly_message(LLY_NOT_COUNTED, fault, text, len(text, c_size_t), needed), LLY_DONE)
+  call expect(merge(0, 1, text(:needed) == 'NotCounted'), 0)
   call expect(lly_blob(view, 0_c_size_t, text, 1_c_size_t, needed), LLY_NO_ROOM)
   call expect(lly_save(view, text, len(text, c_size_t), needed), LLY_DONE)
   call expect(lly_open(other, text, needed, fault), LLY_DONE)

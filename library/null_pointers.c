@@ -32,6 +32,7 @@ PROVED(tell);
 PROVED(print);
 PROVED(save);
 PROVED(blob);
+PROVED(message);
 
 /* An array of length 0 may be NULL; the proved calls want a place all the same, which they do not touch. */
 static uint64_t nothing[1];
@@ -148,4 +149,8 @@ int32_t lly_save(lly_view *view, uint8_t *bytes, size_t bytes_len, size_t *neede
 
 int32_t lly_blob(lly_view *view, size_t blob, uint8_t *bytes, size_t bytes_len, size_t *needed) {
     return view && needed && IS_ARRAY(bytes, bytes_len) ? proved_lly_blob(view, blob, ARRAY(bytes), bytes_len, needed) : LLY_NULL;
+}
+
+int32_t lly_message(int32_t answer, const lly_fault *fault, uint8_t *text, size_t text_len, size_t *needed) {
+    return fault && needed && IS_ARRAY(text, text_len) ? proved_lly_message(answer, fault, ARRAY(text), text_len, needed) : LLY_NULL;
 }

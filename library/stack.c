@@ -70,6 +70,7 @@ static uint8_t header[8192 * 2 + 20];
     CALL(print, (&view, csv, csv_length, &count))                           \
     CALL(save, (&view, file, file_length, &count))                          \
     CALL(blob, (&view, 0, blob, blob_length, &count))                       \
+    CALL(message, (LLY_RANGE, &fault, csv, csv_length, &count))             \
     CALL(open, (&other, opened, opened_length, &fault))                     \
     CALL(copy, (&view, &other, &fault))
 

@@ -86,6 +86,11 @@ class Refused(ValueError):
         causes, place = self.answer.causes, ''.join(f', {name} {number}' for name, number in (('row', self.row), ('column', self.column)) if number)
         super().__init__(f'{self.answer.name}: {causes[self.cause - 1] if causes and self.cause else self.answer.message}{place}')
 
+    @property
+    def words(self):
+        """What a script prints of it, but a leaf is its number: `Range record 3 leaf 1`."""
+        return filled(lly.message, self.answer, Fault(self.cause, self.row, self.leaf, self.column)).decode()
+
 
 _VIEW, _FAULT, _ROW, _SIZE, _NUMBER = POINTER(Handle), POINTER(Fault), POINTER(c_uint64), POINTER(c_size_t), POINTER(c_int64)
 _TEXT, _RUN, _BUFFER = (c_char_p, c_size_t), (c_uint64, c_size_t, c_void_p, c_size_t), (c_void_p, c_size_t, _SIZE)
@@ -96,7 +101,7 @@ _PROTOTYPES = {
     'set_u64': (_VIEW, c_uint64, c_size_t, c_uint64), 'get_run': (_VIEW, *_RUN), 'get_run_u64': (_VIEW, *_RUN), 'set_run': (_VIEW, *_RUN, _FAULT),
     'set_run_u64': (_VIEW, *_RUN, _FAULT), 'copy': (_VIEW, _VIEW, _FAULT), 'relayout': (_VIEW, *_TEXT, _FAULT), 'kernel': (_VIEW, *_TEXT, _NUMBER, _FAULT),
     'do': (_VIEW, *_TEXT, _NUMBER, _FAULT), 'tell': (_VIEW, *_TEXT, *_BUFFER, _FAULT),
-    'print': (_VIEW, *_BUFFER), 'save': (_VIEW, *_BUFFER), 'blob': (_VIEW, c_size_t, *_BUFFER),
+    'print': (_VIEW, *_BUFFER), 'save': (_VIEW, *_BUFFER), 'blob': (_VIEW, c_size_t, *_BUFFER), 'message': (c_int32, _FAULT, *_BUFFER),
 }
 
 

@@ -132,6 +132,7 @@ class OfCalls(unittest.TestCase):
         self.assertEqual(self.view.tell('print V window [0 : 1, 0 : 2]'), 'x,n,on,big\n5,0,0,0\n1,1,0,0\n')
         self.refused(Answer.DIVIDE_BY_ZERO, self.view.do, 'update V set x = 1 / (x - 2)', row=2)
         self.refused(Answer.BAD_WINDOW, self.view.tell, 'print V window [0 : 3, 0 : 2]')
+        self.refused(Answer.TWICE, self.view.do, 'update V set n = 1, n = 2', words='Twice 1')
 
     def test_refused_lines(self):
         self.assertIn('column 14', self.refused(Answer.SYNTAX, View, 'record P { x i32 }', 'view V : P [1] as aos(packed, row)', cause=1, column=14))

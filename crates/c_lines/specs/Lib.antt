@@ -7,6 +7,7 @@ pub mod Agreement
 pub mod Commands
 pub mod Answers
 pub mod Faults
+pub mod Messages
 pub mod Values
 pub mod CallerRuns
 pub mod Buffers

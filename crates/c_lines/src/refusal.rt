@@ -137,7 +137,7 @@ impl Refusal {
     }
 
     // Which of several causes it is, or which text it is of.
-    fn cause(self) -> i32
+    pub(crate) fn cause(self) -> i32
         ensures { result ≡ cause_of self }
     {
         match self {
@@ -154,7 +154,7 @@ impl Refusal {
         }
     }
 
-    fn row(self) -> u64
+    pub(crate) fn row(self) -> u64
         ensures { result ≡ row_named self }
     {
         match self {
@@ -168,7 +168,7 @@ impl Refusal {
         }
     }
 
-    fn leaf(self) -> usize
+    pub(crate) fn leaf(self) -> usize
         ensures { result ≡ leaf_named self }
     {
         match self {

@@ -1,8 +1,8 @@
 // The calls of the library for C that take memory and that no command makes, with ample memory: that it is wanting is an answer that no clause
 // rules out.
 use c_lines::{
-    do_line, lay_anew, loaded_view, new_view, open_view, put_blob, put_file, put_table, run_kernel,
-    tell_line,
+    Fault, do_line, lay_anew, loaded_view, new_view, open_view, put_blob, put_file, put_message,
+    put_table, run_kernel, tell_line,
 };
 use std::alloc::Global;
 use std::marker::Brand;
@@ -126,6 +126,20 @@ fn lines_are_done_and_told(rt: HostRuntime) -> Result<(), Fail> {
         )
     );
     assert!(rt; tells(rt.alloc(), &mut view, b"bytes V 0", b"02 01 ff 0f 00 05\n"));
+    Ok(())
+}
+
+#[test]
+fn an_answer_has_words(rt: HostRuntime) -> Result<(), Fail> {
+    let fault = Fault {
+        cause: 0,
+        row: 3,
+        leaf: 1,
+        column: 0,
+    };
+    let (mut text, mut needed) = ([0; 21], 0);
+    let put = put_message(rt.alloc(), 6, &fault, &mut text, &mut needed);
+    assert!(rt; put.is_ok() && needed == 21 && &text[..] == b"Range record 3 leaf 1");
     Ok(())
 }
 

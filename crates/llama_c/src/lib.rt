@@ -7,6 +7,7 @@ mod buffers;
 mod handle;
 mod lines;
 mod measures;
+mod messages;
 mod part;
 mod runs;
 mod tables;
