@@ -139,7 +139,7 @@ fn an_answer_has_words(rt: HostRuntime) -> Result<(), Fail> {
     };
     let (mut text, mut needed) = ([0; 21], 0);
     let put = put_message(rt.alloc(), 6, &fault, &mut text, &mut needed);
-    assert!(rt; put.is_ok() && needed == 21 && &text[..] == b"Range record 3 leaf 1");
+    assert!(rt; put.is_ok() && needed == 21 && text == *b"Range record 3 leaf 1");
     Ok(())
 }
 
