@@ -3,7 +3,7 @@ use Rattle.c_lines.proofs.Imports.{◌≡◌, inl, inr, ◌++◌, ◌∷◌, ℕ
 use Rattle.c_lines.proofs.Commanding.{front_none, has_rows, has_same}
 use Rattle.expr_lang.specs.declared.fault.EvalFault.TheVariants as eval
 use Rattle.std.specs.Prelude.{OnErr, OnOk}
-use Rattle.lane_kernels.specs.Kernels.{IsKernelRun, rows_before}
+use Rattle.lane_kernels.specs.Kernels.{IsKernelRun, given_number, rows_before}
 use Rattle.lane_kernels.specs.Logs.{kernel_rows_log, fault_log}
 use Rattle.lane_kernels.specs.Reductions.{reduced_by}
 use Rattle.lane_kernels.specs.declared.fault.KernelFault.{KernelFault}
@@ -207,7 +207,7 @@ pub kernel_done : (old new : Table) (text : KernelText) (lanes : ℕ) (kernel : 
     IsKernelRun old new kernel lanes (Ok number) → Carried number_text (kernel_run old text lanes) left old (Ok number) new
 kernel_done old new text lanes kernel number left fit run =
     ap (λ (outcome : Tested Done). done_to old outcome) (kernel_goes old text lanes kernel fit)
-    ∙ rw (run.0, run.1) (ap (λ (table : Table). Ok (record { held = table; text = number_text _ })) (sym run.2))
+    ∙ rw (run.0, run.1) (ap (λ (table : Table). Ok (record { held = table; text = number_text (given_number kernel old.rows) })) (sym run.2))
 
 says_kernel : (fields : Fields) (fault : KernelFault) → Says fields (kernel_row_fault fields fault) (kernel_refusal fault)
 says_kernel fields kernel.Empty = refl

@@ -12,3 +12,4 @@ pub mod Relaying
 pub mod Rooms
 pub mod Sets
 pub mod Telling
+pub mod Words

@@ -61,12 +61,12 @@ refusals_at fault = NoView ∷ NoPlace ∷ NoMemory ∷ NoRoom ∷ BadType ∷ R
     ∷ Twice fault.leaf ∷ Overflow fault.row ∷ DivideByZero fault.row ∷ NotCounted ∷ BadWindow ∷ []
 
 -- whether a refusal has this number and this cause
-abbrev pub is_told : ℤ → Fault → Refusal → Bool
-is_told answer fault refusal = int_eq (refusal_number refusal) answer && int_eq (cause_of refusal) fault.cause
+abbrev pub is_told : ℤ → ℤ → Refusal → Bool
+is_told answer cause refusal = int_eq (refusal_number refusal) answer && int_eq (cause_of refusal) cause
 
 -- the refusal that a call answers and reports so
 abbrev pub refusal_by : ℤ → Fault → Option Refusal
-refusal_by answer fault = find (is_told answer fault) (refusals_at fault)
+refusal_by answer fault = find (is_told answer fault.cause) (refusals_at fault)
 
 -- what is said of the other answers, and of a number that is none
 abbrev pub words_beside : ℤ → Answer (List ℕ)

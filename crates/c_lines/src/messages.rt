@@ -1,11 +1,13 @@
 // The words of answers.
-ghost use Rattle.std.specs.Prelude.{◌≡◌, IfOk, Ok};
+ghost use Rattle.std.specs.Prelude.{◌≡◌, ◌-◌, ◌≤◌, IfOk, Ok, drop, length, take};
+ghost use Rattle.std.specs.List.{find};
 ghost use Rattle.layout_io.specs.Decimal.{digits_text};
 ghost use Rattle.worlds.specs.FaultTexts.{fault_words};
 ghost use Rattle.c_lines.specs.Answers.{answer_map};
 ghost use Rattle.c_lines.specs.Buffers.{TellsPut};
+ghost use Rattle.c_lines.specs.Faults.{leaf_named};
 ghost use Rattle.c_lines.specs.Inner.Said.{said_words};
-ghost use Rattle.c_lines.specs.Messages.{MessagesTell, message_told, refusal_by, refusals_at, words_beside, words_for};
+ghost use Rattle.c_lines.specs.Messages.{MessagesTell, is_told, message_told, refusal_by, refusals_at, words_beside, words_for};
 
 use crate::byte_sink::ByteSink;
 use crate::copy_out::copy_out;
@@ -51,7 +53,7 @@ pub fn put_message(
 {
     match refusal_by(answer, fault) {
         Some(refusal) => put_words(alloc, refusal, buffer, needed),
-        None => copy_out(words_beside(answer)?.as_bytes(), buffer, needed),
+        None => put_beside(answer, buffer, needed),
     }
 }
 
@@ -65,11 +67,33 @@ pub fn messages_tell()
 fn refusal_by(answer: i32, fault: &Fault) -> Option<Refusal>
     ensures { result ≡ refusal_by answer fault.now }
 {
-    let refusals = refusals_at(*fault);
-    refusals
-        .iter()
-        .find(|refusal| refusal.number() == answer && refusal.cause() == fault.cause)
-        .copied()
+    first_told(&refusals_at(*fault), answer, fault.cause)
+}
+
+// The first of some refusals that has this number and this cause.
+fn first_told(refusals: &[Refusal], answer: i32, cause: i32) -> Option<Refusal>
+    ensures { result ≡ find (is_told answer cause) refusals.now }
+{
+    for refusal in refusals {
+        if is_told(*refusal, answer, cause) {
+            return Some(*refusal);
+        }
+    }
+    None
+}
+
+fn is_told(refusal: Refusal, answer: i32, cause: i32) -> bool
+    ensures { result ≡ is_told answer cause refusal }
+{
+    refusal.number() == answer && refusal.cause() == cause
+}
+
+// The words of another answer, in a buffer.
+fn put_beside(answer: i32, buffer: &mut [u8], needed: &mut usize) -> Result<(), Refusal>
+    ensures { TellsPut (words_beside answer) buffer.old needed.old result buffer.new needed.new }
+{
+    let words = words_beside(answer)?;
+    copy_out(words.as_bytes(), buffer, needed)
 }
 
 // The words of the other answers.
@@ -115,52 +139,70 @@ fn put_fault(
 {
     let mut sink = ByteSink::new(alloc);
     match write_fault(0, fault, &mut sink) {
-        Ok(()) => {
-            let line = sink.taken();
-            copy_out(&line[BEFORE_WORDS..line.len() - 1], buffer, needed)
-        }
+        Ok(()) => copy_out(words_in(sink.taken()), buffer, needed),
         Err(Failed) => Err(Refusal::NoMemory),
     }
+}
+
+// What stands between the front and the end of the line of a fault.
+fn words_in(line: &[u8]) -> &[u8]
+    requires { 9 ≤ length line.now }
+    ensures { result.now ≡ take (length line.now - 9) (drop 8 line.now) }
+{
+    &line[BEFORE_WORDS..line.len() - 1]
 }
 
 // What is said of a refusal.
 fn said_of(alloc: Global, refusal: Refusal) -> Result<Said, NoMemory>
     ensures { IfOk result (λ said. said_words said ≡ words_for refusal) }
 {
-    let row = refusal.row();
     let leaf = digits(alloc, refusal.leaf())?;
-    let fault = match refusal {
-        Refusal::NoView => return Ok(Said::Word("NoView")),
-        Refusal::NoPlace => return Ok(Said::Word("NoPlace")),
-        Refusal::NoMemory => return Ok(Said::Word("NoMemory")),
-        Refusal::NoRoom => return Ok(Said::Word("NoRoom")),
-        Refusal::BadType => return Ok(Said::Word("BadType")),
-        Refusal::OtherLine(_) => return Ok(Said::Word("OtherLine")),
-        Refusal::Unknown => return Ok(Said::Word("Unknown")),
-        Refusal::Range { .. } => CommandFault::Range { row, leaf },
-        Refusal::Narrow { .. } => CommandFault::Narrow { row, leaf },
-        Refusal::ShortRow { .. } => CommandFault::ShortRow { row, leaf },
-        Refusal::Number { .. } => CommandFault::Number { row, leaf },
-        Refusal::MissingColumn { .. } => CommandFault::MissingColumn { leaf },
-        Refusal::ColumnTwice { .. } => CommandFault::ColumnTwice { leaf },
-        Refusal::Twice { .. } => CommandFault::Twice { leaf },
-        Refusal::Overflow { .. } => CommandFault::Overflow { row },
-        Refusal::DivideByZero { .. } => CommandFault::DivideByZero { row },
-        Refusal::Syntax { column, .. } => CommandFault::Syntax { column },
-        Refusal::TooDeep(_) => CommandFault::TooDeep,
-        Refusal::LineTooLong(_) => CommandFault::LineTooLong,
-        Refusal::BadRecord(bad) => CommandFault::BadRecord(bad),
-        Refusal::BadExtents(bad) => CommandFault::BadExtents(bad),
-        Refusal::BadMapping(bad) => CommandFault::BadMapping(bad),
-        Refusal::BadKernel(bad) => CommandFault::BadKernel(bad),
-        Refusal::BadFile(bad) => CommandFault::BadFile(bad),
-        Refusal::Mismatch => CommandFault::Mismatch,
-        Refusal::TooBig => CommandFault::TooBig,
-        Refusal::Empty => CommandFault::Empty,
-        Refusal::NotCounted => CommandFault::NotCounted,
-        Refusal::BadWindow => CommandFault::BadWindow,
-    };
-    Ok(Said::Fault(fault))
+    Ok(with_leaf(refusal, leaf))
+}
+
+// The same, with the number of the leaf that it names as a text.
+fn with_leaf(refusal: Refusal, leaf: Text) -> Said
+    requires { leaf ≡ digits_text (leaf_named refusal) }
+    ensures { said_words result ≡ words_for refusal }
+{
+    let row = refusal.row();
+    match refusal {
+        Refusal::NoView => word("NoView"),
+        Refusal::NoPlace => word("NoPlace"),
+        Refusal::NoMemory => word("NoMemory"),
+        Refusal::NoRoom => word("NoRoom"),
+        Refusal::BadType => word("BadType"),
+        Refusal::OtherLine(_) => word("OtherLine"),
+        Refusal::Unknown => word("Unknown"),
+        Refusal::Range { .. } => Said::Fault(CommandFault::Range { row, leaf }),
+        Refusal::Narrow { .. } => Said::Fault(CommandFault::Narrow { row, leaf }),
+        Refusal::ShortRow { .. } => Said::Fault(CommandFault::ShortRow { row, leaf }),
+        Refusal::Number { .. } => Said::Fault(CommandFault::Number { row, leaf }),
+        Refusal::MissingColumn { .. } => Said::Fault(CommandFault::MissingColumn { leaf }),
+        Refusal::ColumnTwice { .. } => Said::Fault(CommandFault::ColumnTwice { leaf }),
+        Refusal::Twice { .. } => Said::Fault(CommandFault::Twice { leaf }),
+        Refusal::Overflow { .. } => Said::Fault(CommandFault::Overflow { row }),
+        Refusal::DivideByZero { .. } => Said::Fault(CommandFault::DivideByZero { row }),
+        Refusal::Syntax { column, .. } => Said::Fault(CommandFault::Syntax { column }),
+        Refusal::TooDeep(_) => Said::Fault(CommandFault::TooDeep),
+        Refusal::LineTooLong(_) => Said::Fault(CommandFault::LineTooLong),
+        Refusal::BadRecord(bad) => Said::Fault(CommandFault::BadRecord(bad)),
+        Refusal::BadExtents(bad) => Said::Fault(CommandFault::BadExtents(bad)),
+        Refusal::BadMapping(bad) => Said::Fault(CommandFault::BadMapping(bad)),
+        Refusal::BadKernel(bad) => Said::Fault(CommandFault::BadKernel(bad)),
+        Refusal::BadFile(bad) => Said::Fault(CommandFault::BadFile(bad)),
+        Refusal::Mismatch => Said::Fault(CommandFault::Mismatch),
+        Refusal::TooBig => Said::Fault(CommandFault::TooBig),
+        Refusal::Empty => Said::Fault(CommandFault::Empty),
+        Refusal::NotCounted => Said::Fault(CommandFault::NotCounted),
+        Refusal::BadWindow => Said::Fault(CommandFault::BadWindow),
+    }
+}
+
+fn word(text: &'static str) -> Said
+    ensures { said_words result ≡ text.now }
+{
+    Said::Word(text)
 }
 
 // The number of a leaf.
@@ -174,7 +216,7 @@ fn digits(alloc: Global, leaf: usize) -> Result<Text, NoMemory>
 
 // Each refusal that names this row, leaf and column, where it names one.
 fn refusals_at(fault: Fault) -> [Refusal; REFUSALS]
-    ensures { result.items ≡ refusals_at fault }
+    ensures { result ≡ refusals_at fault }
 {
     let (row, leaf, column) = (fault.row, fault.leaf, fault.column);
     [

@@ -6,4 +6,4 @@ use Rattle.c_lines.specs.declared.messages.Said.TheVariants as said
 
 abbrev pub said_words : Said → List ℕ
 said_words (said.Word word) = word.now
-said_words (said.Fault fault) = fault
+said_words (said.Fault fault) = fault_words fault

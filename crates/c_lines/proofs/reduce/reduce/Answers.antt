@@ -1,4 +1,4 @@
-use Rattle.c_lines.proofs.Imports.{rules, ◌∙◌, ap, refl, number_text}
+use Rattle.c_lines.proofs.Imports.{rules, ◌∙◌, ap, refl, number_text, FitsSigned, w128, to_z-of_z}
 use Rattle.c_lines.proofs.Answering.{goes_ok}
 use Rattle.c_lines.proofs.Arms.{no_column, reduce_done, reduce_empty}
 use Rattle.c_lines.proofs.Commanding.{carried_refused, refuses_by, refuses_test}
@@ -15,9 +15,10 @@ returns-in_err-leaf g c =
 pub returns-in-Some : goal.returns-in-Some
 returns-in-Some g c =
     let leaf = goes_ok _ c.leaf_of.result _ c.in_ok-leaf.leaf c.in_ok-leaf.ensures c.leaf_of.ensures.leaf in
-    reduce_done c.args.view.now c.reduce_leaf.new.view c.args.kind c.args.path.now c.in_ok-leaf.leaf c.in-Some.number leaf (rw (c.in-Some.is, c.form_of.ensures) at c.reduce_leaf.ensures.value) c.reduce_leaf.ensures.read
+    let fits : FitsSigned w128 c.in-Some.number = search rules in
+    rw (to_z-of_z w128 c.in-Some.number fits) (reduce_done c.args.view.now c.reduce_leaf.new.view c.args.kind c.args.path.now c.in_ok-leaf.leaf c.in-Some.number leaf (rw (c.in-Some.is, c.form_of.ensures) at c.reduce_leaf.ensures.value) c.reduce_leaf.ensures.read)
 
-pub returns-in-None : goal.returns-in-None
-returns-in-None g c =
+pub returns : goal.returns
+returns g c =
     let leaf = goes_ok _ c.leaf_of.result _ c.in_ok-leaf.leaf c.in_ok-leaf.ensures c.leaf_of.ensures.leaf in
     reduce_empty c.args.view.now c.reduce_leaf.new.view c.args.kind c.args.path.now c.in_ok-leaf.leaf _ leaf (rw (c.in-None.is, c.form_of.ensures) at c.reduce_leaf.ensures.value) c.reduce_leaf.ensures.read

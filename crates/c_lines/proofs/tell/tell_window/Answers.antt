@@ -24,4 +24,4 @@ returns-in-Ok g c =
 pub returns-in-Err : goal.returns-in-Err
 returns-in-Err g c =
     let left = c.view-1.given.1 (sym (c.print_window.ensures.same_view ∙ c.new-rows.ensures.same_view)) in
-    (inl refl, left ∙ (rw c.new-rows.ensures.view at c.print_window.ensures.same))
+    (inl refl, rw left (rw c.new-rows.ensures.view at c.print_window.ensures.same))

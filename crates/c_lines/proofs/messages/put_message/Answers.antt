@@ -1,0 +1,14 @@
+use Rattle.c_lines.proofs.Imports.{ap, Option, Refusal}
+use Rattle.c_lines.specs.Messages.{words_by}
+use Rattle.c_lines.proofs.Words.{put_told_as}
+use Rattle.c_lines.proofs.messages.put_message.Goals as goal
+
+pub returns-in-Some : goal.returns-in-Some
+returns-in-Some c =
+    put_told_as _ _ c.args.buffer.now c.args.needed.now c.put_words.result c.put_words.new.buffer c.put_words.new.needed
+    (ap (λ (told : Option Refusal). words_by c.args.answer told) c.in-Some.ensures) c.put_words.ensures
+
+pub returns-in-None : goal.returns-in-None
+returns-in-None c =
+    put_told_as _ _ c.args.buffer.now c.args.needed.now c.put_beside.result c.put_beside.new.buffer c.put_beside.new.needed
+    (ap (λ (told : Option Refusal). words_by c.args.answer told) c.in-None.ensures) c.put_beside.ensures
