@@ -122,9 +122,23 @@ fn put_words(
     ensures { TellsPut (Ok (words_for refusal)) buffer.old needed.old result buffer.new needed.new }
 {
     match said_of(alloc, refusal) {
-        Ok(Said::Word(word)) => copy_out(word.as_bytes(), buffer, needed),
-        Ok(Said::Fault(fault)) => put_fault(alloc, &fault, buffer, needed),
+        Ok(said) => put_said(alloc, &said, buffer, needed),
         Err(NoMemory) => Err(Refusal::NoMemory),
+    }
+}
+
+// What is said of it.
+fn put_said(
+    alloc: Global,
+    said: &Said,
+    buffer: &mut [u8],
+    needed: &mut usize,
+) -> Result<(), Refusal>
+    ensures { TellsPut (Ok (said_words said.now)) buffer.old needed.old result buffer.new needed.new }
+{
+    match said {
+        Said::Word(word) => copy_out(word.as_bytes(), buffer, needed),
+        Said::Fault(fault) => put_fault(alloc, fault, buffer, needed),
     }
 }
 
