@@ -12,7 +12,8 @@ module llama_layout
     enumerator :: LLY_TOO_DEEP = 10, LLY_OTHER_LINE = 11, LLY_LINE_TOO_LONG = 12, LLY_UNKNOWN = 13, LLY_BAD_RECORD = 14
     enumerator :: LLY_BAD_EXTENTS = 15, LLY_BAD_MAPPING = 16, LLY_TOO_BIG = 17, LLY_BAD_KERNEL = 18, LLY_EMPTY = 19
     enumerator :: LLY_MISSING_COLUMN = 20, LLY_COLUMN_TWICE = 21, LLY_SHORT_ROW = 22, LLY_NUMBER = 23, LLY_BAD_FILE = 24
-    enumerator :: LLY_NULL = 25, LLY_SAME = 26
+    enumerator :: LLY_NULL = 25, LLY_SAME = 26, LLY_TWICE = 27, LLY_OVERFLOW = 28, LLY_DIVIDE_BY_ZERO = 29
+    enumerator :: LLY_NOT_COUNTED = 30, LLY_BAD_WINDOW = 31
   end enum
 
   ! A view, or none. It is never copied while it holds one, so no variable of this type is assigned to another.
@@ -183,6 +184,25 @@ module llama_layout
       type(lly_fault), intent(inout) :: fault
     end function
 
+    integer(c_int32_t) function lly_do(view, line, line_len, number, fault) bind(c)
+      import
+      type(lly_view), intent(inout) :: view
+      character(kind=c_char), intent(in) :: line(*)
+      integer(c_size_t), value :: line_len
+      integer(c_int64_t), intent(inout) :: number
+      type(lly_fault), intent(inout) :: fault
+    end function
+
+    integer(c_int32_t) function lly_tell(view, line, line_len, text, text_len, needed, fault) bind(c)
+      import
+      type(lly_view), intent(inout) :: view
+      character(kind=c_char), intent(in) :: line(*)
+      integer(c_size_t), value :: line_len, text_len
+      character(kind=c_char), intent(inout) :: text(*)
+      integer(c_size_t), intent(inout) :: needed
+      type(lly_fault), intent(inout) :: fault
+    end function
+
     integer(c_int32_t) function lly_print(view, text, text_len, needed) bind(c)
       import
       type(lly_view), intent(inout) :: view
@@ -204,6 +224,15 @@ module llama_layout
       type(lly_view), intent(inout) :: view
       integer(c_size_t), value :: blob, bytes_len
       character(kind=c_char), intent(inout) :: bytes(*)
+      integer(c_size_t), intent(inout) :: needed
+    end function
+
+    integer(c_int32_t) function lly_message(answer, fault, text, text_len, needed) bind(c)
+      import
+      integer(c_int32_t), value :: answer
+      type(lly_fault), intent(in) :: fault
+      character(kind=c_char), intent(inout) :: text(*)
+      integer(c_size_t), value :: text_len
       integer(c_size_t), intent(inout) :: needed
     end function
   end interface

@@ -19,7 +19,7 @@
  *
  * A text is bytes with a length, not ended by 0. Lines are those of the second version of the language, whole, of at most 4,096 bytes. Rows,
  * leaves and blobs count from 0: leaf 0 is the first of the record. Memory is taken by lly_new, lly_load, lly_open, lly_relayout,
- * lly_kernel, lly_print and lly_save alone; each may answer LLY_NO_MEMORY, and then changes nothing but counts of accesses. A call takes at
+ * lly_kernel, lly_do, lly_tell, lly_print, lly_save and lly_message alone; each may answer LLY_NO_MEMORY, and then changes nothing but counts of accesses. A call takes at
  * most 64 KiB of stack, whatever text it is handed: this is measured, not proved.
  * Each call but lly_drop and lly_version answers a number below, and changes nothing but what it says.
  */
@@ -34,10 +34,10 @@
 extern "C" {
 #endif
 
-/* The version of this header, 1.0.0. lly_version gives that of the library, which fits where the first of the three numbers is the same: version / 10000.
+/* The version of this header, 1.1.0. lly_version gives that of the library, which fits where the first of the three numbers is the same: version / 10000.
  * The shared library has it in its name and in those of its calls, so that no program is started with one that does not fit.
  */
-#define LLY_VERSION 10000
+#define LLY_VERSION 10100
 
 /* A view, or none: then full is false, and the rest means nothing. */
 typedef struct lly_view {
@@ -55,7 +55,7 @@ enum {
     LLY_NO_PLACE = 2,        /* there is no such row, leaf, blob, path or index */
     LLY_NO_MEMORY = 3,       /* memory ran out */
     LLY_NO_ROOM = 4,         /* the buffer is too short: *needed says how long it has to be */
-    LLY_BAD_TYPE = 5,        /* some values of the leaf's type are none of the caller's type */
+    LLY_BAD_TYPE = 5,        /* a number, or some value of the leaf's type, is none of the caller's type */
     LLY_RANGE = 6,           /* the value lies outside of the declared range of its leaf, and the view is strict: row, leaf */
     LLY_NARROW = 7,          /* it lies in that range and not in the range of how its leaf is stored, and the view is strict: row, leaf */
     LLY_MISMATCH = 8,        /* the views have other records or other extents */
@@ -76,7 +76,12 @@ enum {
     LLY_NUMBER = 23,         /* the field of the dataset is no number: row, leaf */
     LLY_BAD_FILE = 24,       /* the bytes are no file of a view: cause */
     LLY_NULL = 25,           /* a pointer is NULL */
-    LLY_SAME = 26            /* both handles are one */
+    LLY_SAME = 26,           /* both handles are one */
+    LLY_TWICE = 27,          /* an update sets the leaf a second time: leaf */
+    LLY_OVERFLOW = 28,       /* a result of an expression lies outside of 128 bits: row */
+    LLY_DIVIDE_BY_ZERO = 29, /* a divisor in an expression is 0: row */
+    LLY_NOT_COUNTED = 30,    /* the view counts no accesses */
+    LLY_BAD_WINDOW = 31      /* the spans are no window of the extents */
 };
 
 /* The cause in a fault of LLY_SYNTAX, LLY_TOO_DEEP, LLY_OTHER_LINE and LLY_LINE_TOO_LONG: which text of the call it is. */
@@ -228,6 +233,22 @@ int32_t lly_relayout(lly_view *view, const uint8_t *line, size_t line_len, lly_f
  */
 int32_t lly_kernel(lly_view *view, const uint8_t *line, size_t line_len, int64_t *value, lly_fault *fault);
 
+/* ---- Lines of a script. A call does what the command of its line does in a script that has nothing but this view, by the name that the line gives
+ * it: so any name will do, and no mapping has one. */
+
+/* Does a line `set V[..].path = ..`, `update V ..` without actors, `kernel V .. lanes N` or `reduce V ..`. The number that the command writes goes
+ * to *number; where it writes none, that stays as it was, and where it is no int64_t the answer is LLY_BAD_TYPE. LLY_RANGE, LLY_NARROW, LLY_OVERFLOW and
+ * LLY_DIVIDE_BY_ZERO name the first row that is refused: an update and a kernel have changed exactly the rows before it. Every other refusal
+ * leaves all values as they were; what was read up to it may be counted.
+ */
+int32_t lly_do(lly_view *view, const uint8_t *line, size_t line_len, int64_t *number, lly_fault *fault);
+
+/* Puts what a line `print V`, `print V window [..]`, `counts V`, `heat V`, `layout V` or `bytes V B` writes into a buffer, as the calls below put
+ * bytes there. No value changes. A view that counts accesses counts the reads, also where the buffer is too short. LLY_NO_PLACE where `bytes` names no
+ * blob, LLY_TOO_BIG where the blobs that `layout` or `bytes` shows have more than 65,536 bytes.
+ */
+int32_t lly_tell(lly_view *view, const uint8_t *line, size_t line_len, uint8_t *text, size_t text_len, size_t *needed, lly_fault *fault);
+
 /* ---- Bytes that are copied into a buffer. Each sets *needed to their number, and answers LLY_NO_ROOM where the buffer is shorter; then the
  * buffer stays as it was. So a first call with a length of 0 asks for the length. */
 
@@ -240,6 +261,10 @@ int32_t lly_save(lly_view *view, uint8_t *bytes, size_t bytes_len, size_t *neede
 
 /* The bytes of a blob, bit for bit what the layout says, with padding 0. */
 int32_t lly_blob(lly_view *view, size_t blob, uint8_t *bytes, size_t bytes_len, size_t *needed);
+
+/* The words of an answer and of the fault that came with it, as `Range record 3 leaf 1`: those that a script prints where a script has some, but a leaf
+ * is its number and a name is left out. A call without a fault has LLY_NO_FAULT. LLY_NO_PLACE where no call answers so. */
+int32_t lly_message(int32_t answer, const lly_fault *fault, uint8_t *text, size_t text_len, size_t *needed);
 
 #ifdef __cplusplus
 }

@@ -25,7 +25,7 @@ inline const char *message(std::int32_t answer) noexcept {
     case LLY_NO_PLACE: return "there is no such row, leaf, blob, path or index";
     case LLY_NO_MEMORY: return "memory ran out";
     case LLY_NO_ROOM: return "the buffer is too short";
-    case LLY_BAD_TYPE: return "some values of the leaf's type are none of the caller's type";
+    case LLY_BAD_TYPE: return "a number, or some value of the leaf's type, is none of the caller's type";
     case LLY_RANGE: return "the value lies outside of the declared range of its leaf, and the view is strict";
     case LLY_NARROW: return "it lies in that range and not in the range of how its leaf is stored, and the view is strict";
     case LLY_MISMATCH: return "the views have other records or other extents";
@@ -47,6 +47,11 @@ inline const char *message(std::int32_t answer) noexcept {
     case LLY_BAD_FILE: return "the bytes are no file of a view";
     case LLY_NULL: return "a pointer is NULL";
     case LLY_SAME: return "both handles are one";
+    case LLY_TWICE: return "an update sets the leaf a second time";
+    case LLY_OVERFLOW: return "a result of an expression lies outside of 128 bits";
+    case LLY_DIVIDE_BY_ZERO: return "a divisor in an expression is 0";
+    case LLY_NOT_COUNTED: return "the view counts no accesses";
+    case LLY_BAD_WINDOW: return "the spans are no window of the extents";
     default: return "an answer of a later version";
     }
 }
@@ -57,6 +62,14 @@ public:
     error(std::int32_t answer, const lly_fault &fault) : std::runtime_error(message(answer)), answer_(answer), fault_(fault) {}
     std::int32_t answer() const noexcept { return answer_; }
     const lly_fault &fault() const noexcept { return fault_; }
+
+    /// What a script prints of it, but a leaf is its number: `Range record 3 leaf 1`.
+    std::string words() const {
+        std::uint8_t text[64];
+        std::size_t needed = 0;
+        const std::int32_t told = lly_message(answer_, &fault_, text, sizeof text, &needed);
+        return told == LLY_DONE ? std::string(reinterpret_cast<const char *>(text), needed) : what();
+    }
 
 private:
     std::int32_t answer_;
@@ -166,6 +179,20 @@ public:
         return value;
     }
 
+    /// A line `set V[..].path = ..`, `update V ..`, `kernel V ..` or `reduce V ..`, and its number, 0 where it has none.
+    std::int64_t perform(std::string_view line) {
+        std::int64_t number = 0;
+        checked([&](lly_fault *fault) { return lly_do(&handle_, bytes(line), line.size(), &number, fault); });
+        return number;
+    }
+
+    /// What a line `print V window [..]`, `counts V`, `heat V`, `layout V` or `bytes V B` writes.
+    std::string tell(std::string_view line) {
+        lly_fault fault = LLY_NO_FAULT;
+        return filled<std::string>(
+            [&](std::uint8_t *text, std::size_t room, std::size_t *needed) { return lly_tell(&handle_, bytes(line), line.size(), text, room, needed, &fault); }, &fault);
+    }
+
     std::string print() {
         return filled<std::string>([&](std::uint8_t *text, std::size_t room, std::size_t *needed) { return lly_print(&handle_, text, room, needed); });
     }
@@ -217,7 +244,7 @@ private:
 
     // What a call puts into a buffer, which is asked for its length first.
     template <typename Buffer, typename Call>
-    static Buffer filled(Call call) {
+    static Buffer filled(Call call, const lly_fault *fault = nullptr) {
         Buffer buffer;
         std::size_t needed = 0;
         std::int32_t answer = call(nullptr, 0, &needed);
@@ -225,7 +252,7 @@ private:
             buffer.resize(needed);
             answer = call(reinterpret_cast<std::uint8_t *>(buffer.data()), needed, &needed);
         }
-        must(answer);
+        must(answer, fault ? *fault : lly_fault LLY_NO_FAULT);
         return buffer;
     }
 

@@ -368,6 +368,149 @@ static void kernels_run(void) {
     lly_drop(&view);
 }
 
+/* What a line tells of a view, which is asked for twice: for its length, and for itself. */
+static void expect_told(lly_view *view, const char *line, const char *expected) {
+    lly_fault fault = UNTOUCHED;
+    size_t needed = 0;
+    uint8_t *text;
+    EXPECT(lly_tell(view, TEXT(line), NULL, 0, &needed, &fault), LLY_NO_ROOM);
+    EXPECT_FAULT(0, 0, 0, 0);
+    EXPECT(needed, strlen(expected));
+    text = malloc(needed + 1);
+    text[needed] = 0;
+    fault = UNTOUCHED;
+    EXPECT(lly_tell(view, TEXT(line), text, needed, &needed, &fault), LLY_DONE);
+    EXPECT_NO_FAULT();
+    EXPECT(strcmp((const char *)text, expected), 0);
+    free(text);
+}
+
+static void lines_are_done(void) {
+    lly_view view = LLY_NONE;
+    lly_fault fault = UNTOUCHED;
+    int64_t number = 9;
+    EXPECT(lly_do(&view, TEXT("reduce V sum x"), &number, &fault), LLY_NO_VIEW);
+    EXPECT_FAULT(0, 0, 0, 0);
+    EXPECT(lly_load(&view, TEXT("record P { x: i32, n: u8, big: u64 }"), TEXT("load V : P [2, 2] as soa(multi, row) from \"any\""),
+                    TEXT("x,n,big\n5,1,18446744073709551615\n-7,2,1\n30,3,0\n0,4,0\n"), &fault),
+           LLY_DONE);
+    fault = UNTOUCHED;
+    EXPECT(lly_do(&view, TEXT("set Any[1, 0].x = x * 2 + i1"), &number, &fault), LLY_DONE);
+    EXPECT(lly_do(&view, TEXT("update V where n > 2 set n = n + 10, x = n"), &number, &fault), LLY_DONE);
+    EXPECT(number, 9);
+    EXPECT(lly_do(&view, TEXT("reduce V min x"), &number, &fault), LLY_DONE);
+    EXPECT(number, -7);
+    EXPECT(lly_do(&view, TEXT("reduce V count where x < n"), &number, &fault), LLY_DONE);
+    EXPECT(number, 3);
+    EXPECT(lly_do(&view, TEXT("kernel V sum(n) lanes 4"), &number, &fault), LLY_DONE);
+    EXPECT(number, 30);
+    EXPECT_NO_FAULT();
+    expect_print(&view, "x,n,big\n5,1,18446744073709551615\n-7,2,1\n3,13,0\n4,14,0\n");
+    /* refusals: those at a row leave the rows before it changed by an update and by a kernel alone */
+    EXPECT(lly_do(&view, TEXT("reduce V sum big"), &number, &fault), LLY_BAD_TYPE);
+    EXPECT_FAULT(0, 0, 0, 0);
+    EXPECT(lly_do(&view, TEXT("update V set n = n * 20, x = 1"), &number, &fault), LLY_RANGE);
+    EXPECT_FAULT(0, 2, 1, 0);
+    expect_print(&view, "x,n,big\n1,20,18446744073709551615\n1,40,1\n3,13,0\n4,14,0\n");
+    EXPECT(lly_do(&view, TEXT("update V set x = 6 / (n - 13)"), &number, &fault), LLY_DIVIDE_BY_ZERO);
+    EXPECT_FAULT(0, 2, 0, 0);
+    expect_print(&view, "x,n,big\n0,20,18446744073709551615\n0,40,1\n3,13,0\n4,14,0\n");
+    EXPECT(lly_do(&view, TEXT("set V[0, 0].x = 170141183460469231731687303715884105727 + 1"), &number, &fault), LLY_OVERFLOW);
+    EXPECT_FAULT(0, 0, 0, 0);
+    EXPECT(lly_do(&view, TEXT("set V[1, 1].n = 256"), &number, &fault), LLY_RANGE);
+    EXPECT_FAULT(0, 3, 1, 0);
+    EXPECT(lly_do(&view, TEXT("set V[2, 0].n = 1"), &number, &fault), LLY_NO_PLACE);
+    EXPECT_FAULT(0, 0, 0, 0);
+    EXPECT(lly_do(&view, TEXT("set V[0, 0].y = 1"), &number, &fault), LLY_UNKNOWN);
+    EXPECT(lly_do(&view, TEXT("update V set x = 1, n = 2, x = 3"), &number, &fault), LLY_TWICE);
+    EXPECT_FAULT(0, 0, 0, 0);
+    EXPECT(lly_do(&view, TEXT("update V set x = 1, n = 2, n = 3"), &number, &fault), LLY_TWICE);
+    EXPECT_FAULT(0, 0, 1, 0);
+    EXPECT(lly_do(&view, TEXT("kernel V sum(big) lanes 4"), &number, &fault), LLY_BAD_KERNEL);
+    EXPECT_FAULT(LLY_KERNEL_WIDE, 0, 0, 0);
+    EXPECT(lly_do(&view, TEXT("update V set"), &number, &fault), LLY_SYNTAX);
+    EXPECT_FAULT(LLY_TEXT_FIRST, 0, 0, 13);
+    EXPECT(lly_do(&view, TEXT("drop V"), &number, &fault), LLY_OTHER_LINE);
+    EXPECT_FAULT(LLY_TEXT_FIRST, 0, 0, 0);
+    EXPECT(number, 30);
+    expect_print(&view, "x,n,big\n0,20,18446744073709551615\n0,40,1\n3,13,0\n4,14,0\n");
+    make(&view, "record P { x: i32 }", "view V : P [0] as aos(packed, row)");
+    EXPECT(lly_do(&view, TEXT("reduce V max x"), &number, &fault), LLY_EMPTY);
+    EXPECT(lly_do(&view, TEXT("reduce V sum x"), &number, &fault), LLY_DONE);
+    EXPECT(number, 0);
+    lly_drop(&view);
+}
+
+static void lines_are_told(void) {
+    lly_view view = LLY_NONE;
+    lly_fault fault = UNTOUCHED;
+    uint8_t text[4] = {'.', '.', '.', '.'};
+    size_t needed = 9;
+    EXPECT(lly_tell(&view, TEXT("print V"), text, 4, &needed, &fault), LLY_NO_VIEW);
+    EXPECT_FAULT(0, 0, 0, 0);
+    make(&view, "record P { x: i16, n: u8 }", "view V : P [3] as count(soa(single, row))");
+    EXPECT(lly_set(&view, 1, 0, 258), LLY_DONE);
+    EXPECT(lly_set(&view, 2, 1, 9), LLY_DONE);
+    expect_told(&view, "counts V", "leaf,reads,writes\nx,0,1\nn,0,1\n");
+    expect_told(&view, "print Any window [1 : 3]", "x,n\n258,0\n0,9\n");
+    expect_told(&view, "counts V", "leaf,reads,writes\nx,4,1\nn,4,1\n");
+    expect_told(&view, "print V", "x,n\n0,0\n258,0\n0,9\n");
+    expect_told(&view, "bytes V 0", "00 00 02 01 00 00 00 00 09\n");
+    expect_told(&view, "layout V",
+                "blob,bit,bits,record,leaf,low\n0,0,16,0,x,0\n0,16,16,1,x,0\n0,32,16,2,x,0\n0,48,8,0,n,0\n0,56,8,1,n,0\n0,64,8,2,n,0\n");
+    fault = UNTOUCHED;
+    EXPECT(lly_tell(&view, TEXT("print V"), text, 3, &needed, &fault), LLY_NO_ROOM);
+    EXPECT(memcmp(text, "....", 4), 0);
+    needed = 9;
+    EXPECT(lly_tell(&view, TEXT("heat V"), text, 4, &needed, &fault), LLY_NOT_COUNTED);
+    EXPECT_FAULT(0, 0, 0, 0);
+    EXPECT(lly_tell(&view, TEXT("bytes V 1"), text, 4, &needed, &fault), LLY_NO_PLACE);
+    EXPECT(lly_tell(&view, TEXT("print V window [1 : 4]"), text, 4, &needed, &fault), LLY_BAD_WINDOW);
+    EXPECT(lly_tell(&view, TEXT("reduce V sum x"), text, 4, &needed, &fault), LLY_OTHER_LINE);
+    EXPECT_FAULT(LLY_TEXT_FIRST, 0, 0, 0);
+    EXPECT(lly_tell(&view, TEXT("print"), text, 4, &needed, &fault), LLY_SYNTAX);
+    EXPECT_FAULT(LLY_TEXT_FIRST, 0, 0, 6);
+    EXPECT(needed, 9);
+    make(&view, "record P { x: i16 }", "view V : P [32769] as soa(multi, row)");
+    EXPECT(lly_tell(&view, TEXT("layout V"), text, 4, &needed, &fault), LLY_TOO_BIG);
+    lly_drop(&view);
+}
+
+/* What is said of an answer with this cause, row 3, leaf 1 and column 14. */
+static void expect_message(int32_t answer, int32_t cause, const char *expected) {
+    const lly_fault fault = {cause, 3, 1, 14};
+    uint8_t text[64];
+    size_t needed = 0;
+    EXPECT(lly_message(answer, &fault, NULL, 0, &needed), LLY_NO_ROOM);
+    EXPECT(needed, strlen(expected));
+    EXPECT(lly_message(answer, &fault, text, sizeof text, &needed), LLY_DONE);
+    EXPECT(needed == strlen(expected) && memcmp(text, expected, needed) == 0, 1);
+}
+
+static void answers_have_words(void) {
+    const lly_fault none = LLY_NO_FAULT;
+    size_t needed = 9;
+    expect_message(LLY_DONE, 0, "Done");
+    expect_message(LLY_NO_VIEW, 0, "NoView");
+    expect_message(LLY_RANGE, 0, "Range record 3 leaf 1");
+    expect_message(LLY_SYNTAX, LLY_TEXT_SECOND, "Syntax column 14");
+    expect_message(LLY_OTHER_LINE, LLY_TEXT_FIRST, "OtherLine");
+    expect_message(LLY_UNKNOWN, 0, "Unknown");
+    expect_message(LLY_BAD_MAPPING, LLY_MAPPING_NOT_FULL, "BadMapping NotFull");
+    expect_message(LLY_COLUMN_TWICE, 0, "ColumnTwice 1");
+    expect_message(LLY_BAD_FILE, LLY_FILE_MAGIC, "BadFile Magic");
+    expect_message(LLY_NULL, 0, "Null");
+    expect_message(LLY_SAME, 0, "Same");
+    expect_message(LLY_TWICE, 0, "Twice 1");
+    expect_message(LLY_DIVIDE_BY_ZERO, 0, "DivideByZero record 3");
+    expect_message(LLY_BAD_WINDOW, 0, "BadWindow");
+    /* no call answers so */
+    EXPECT(lly_message(32, &none, NULL, 0, &needed), LLY_NO_PLACE);
+    EXPECT(lly_message(-1, &none, NULL, 0, &needed), LLY_NO_PLACE);
+    EXPECT(lly_message(LLY_BAD_RECORD, &none, NULL, 0, &needed), LLY_NO_PLACE);
+    EXPECT(needed, 9);
+}
+
 static void bytes_are_copied_out(void) {
     lly_view view = LLY_NONE, again = LLY_NONE;
     lly_fault fault = UNTOUCHED;
@@ -476,6 +619,15 @@ static void null_is_answered(void) {
     EXPECT(lly_kernel(&view, none, 1, values, &fault), LLY_NULL);
     EXPECT(lly_kernel(&view, none, 0, NULL, &fault), LLY_NULL);
     EXPECT(lly_kernel(&view, none, 0, values, NULL), LLY_NULL);
+    EXPECT(lly_do(NULL, none, 0, values, &fault), LLY_NULL);
+    EXPECT(lly_do(&view, none, 1, values, &fault), LLY_NULL);
+    EXPECT(lly_do(&view, none, 0, NULL, &fault), LLY_NULL);
+    EXPECT(lly_do(&view, none, 0, values, NULL), LLY_NULL);
+    EXPECT(lly_tell(NULL, none, 0, bytes, 1, &size, &fault), LLY_NULL);
+    EXPECT(lly_tell(&view, none, 1, bytes, 1, &size, &fault), LLY_NULL);
+    EXPECT(lly_tell(&view, none, 0, NULL, 1, &size, &fault), LLY_NULL);
+    EXPECT(lly_tell(&view, none, 0, bytes, 1, NULL, &fault), LLY_NULL);
+    EXPECT(lly_tell(&view, none, 0, bytes, 1, &size, NULL), LLY_NULL);
     EXPECT(lly_print(NULL, bytes, 1, &size), LLY_NULL);
     EXPECT(lly_print(&view, NULL, 1, &size), LLY_NULL);
     EXPECT(lly_print(&view, bytes, 1, NULL), LLY_NULL);
@@ -485,6 +637,9 @@ static void null_is_answered(void) {
     EXPECT(lly_blob(NULL, 0, bytes, 1, &size), LLY_NULL);
     EXPECT(lly_blob(&view, 0, NULL, 1, &size), LLY_NULL);
     EXPECT(lly_blob(&view, 0, bytes, 1, NULL), LLY_NULL);
+    EXPECT(lly_message(LLY_RANGE, NULL, bytes, 1, &size), LLY_NULL);
+    EXPECT(lly_message(LLY_RANGE, &fault, NULL, 1, &size), LLY_NULL);
+    EXPECT(lly_message(LLY_RANGE, &fault, bytes, 1, NULL), LLY_NULL);
     EXPECT_NO_FAULT();
     lly_drop(NULL);
     EXPECT(lly_rows(&view, &row), LLY_DONE);
@@ -502,6 +657,9 @@ int main(void) {
     tables_are_copied();
     tables_are_laid_anew();
     kernels_run();
+    lines_are_done();
+    lines_are_told();
+    answers_have_words();
     bytes_are_copied_out();
     null_is_answered();
     return differs;

@@ -63,6 +63,13 @@ static void tables() {
     EXPECT(other.print(), "x,big\n2,1\n4,3\n");
     EXPECT_REFUSAL(LLY_SAME, 0, other.copy_to(other));
     EXPECT(other.kernel("kernel V sum(x) lanes 4"), 6);
+    EXPECT(other.perform("update V where x > 2 set x = x + 1"), 0);
+    EXPECT(other.perform("reduce V max x"), 5);
+    EXPECT(other.perform("set V[0, 1].x = 4"), 0);
+    EXPECT(other.tell("print V window [0 : 1, 1 : 2]"), "x,big\n4,3\n");
+    EXPECT_REFUSAL(LLY_NOT_COUNTED, 0, other.tell("counts V"));
+    EXPECT_REFUSAL(LLY_DIVIDE_BY_ZERO, 1, other.perform("update V set x = x / (x - 4)"));
+    EXPECT(other.perform("set V[0, 0].x = 2"), 0);
     other.relayout("relayout V as bitaos(20, row)");
     lly::view opened = lly::view::open(other.save());
     EXPECT(opened.blobs(), 1U);
@@ -71,7 +78,10 @@ static void tables() {
     EXPECT(lly_rows(view.handle(), nullptr), LLY_NULL);
     EXPECT_REFUSAL(LLY_SYNTAX, 0, lly::view(RECORD, "view V"));
     EXPECT_REFUSAL(LLY_BAD_FILE, 0, lly::view::open({}));
-    EXPECT(std::string(lly::message(27)), "an answer of a later version");
+    EXPECT(std::string(lly::message(LLY_BAD_WINDOW)), "the spans are no window of the extents");
+    EXPECT(std::string(lly::message(32)), "an answer of a later version");
+    EXPECT(lly::error(LLY_NARROW, {0, 3, 1, 0}).words(), "Narrow record 3 leaf 1");
+    EXPECT(lly::error(32, LLY_NO_FAULT).words(), "an answer of a later version");
 }
 
 int main() {

@@ -27,9 +27,12 @@ PROVED(set_run_u64);
 PROVED(copy);
 PROVED(relayout);
 PROVED(kernel);
+PROVED(do);
+PROVED(tell);
 PROVED(print);
 PROVED(save);
 PROVED(blob);
+PROVED(message);
 
 /* An array of length 0 may be NULL; the proved calls want a place all the same, which they do not touch. */
 static uint64_t nothing[1];
@@ -125,6 +128,17 @@ int32_t lly_kernel(lly_view *view, const uint8_t *line, size_t line_len, int64_t
     return view && value && fault && IS_ARRAY(line, line_len) ? proved_lly_kernel(view, ARRAY(line), line_len, value, fault) : LLY_NULL;
 }
 
+int32_t lly_do(lly_view *view, const uint8_t *line, size_t line_len, int64_t *number, lly_fault *fault) {
+    return view && number && fault && IS_ARRAY(line, line_len) ? proved_lly_do(view, ARRAY(line), line_len, number, fault) : LLY_NULL;
+}
+
+int32_t lly_tell(lly_view *view, const uint8_t *line, size_t line_len, uint8_t *text, size_t text_len, size_t *needed, lly_fault *fault) {
+    if (!view || !needed || !fault || !IS_ARRAY(line, line_len) || !IS_ARRAY(text, text_len)) {
+        return LLY_NULL;
+    }
+    return proved_lly_tell(view, ARRAY(line), line_len, ARRAY(text), text_len, needed, fault);
+}
+
 int32_t lly_print(lly_view *view, uint8_t *text, size_t text_len, size_t *needed) {
     return view && needed && IS_ARRAY(text, text_len) ? proved_lly_print(view, ARRAY(text), text_len, needed) : LLY_NULL;
 }
@@ -135,4 +149,8 @@ int32_t lly_save(lly_view *view, uint8_t *bytes, size_t bytes_len, size_t *neede
 
 int32_t lly_blob(lly_view *view, size_t blob, uint8_t *bytes, size_t bytes_len, size_t *needed) {
     return view && needed && IS_ARRAY(bytes, bytes_len) ? proved_lly_blob(view, blob, ARRAY(bytes), bytes_len, needed) : LLY_NULL;
+}
+
+int32_t lly_message(int32_t answer, const lly_fault *fault, uint8_t *text, size_t text_len, size_t *needed) {
+    return fault && needed && IS_ARRAY(text, text_len) ? proved_lly_message(answer, fault, ARRAY(text), text_len, needed) : LLY_NULL;
 }

@@ -50,6 +50,8 @@ static uint8_t header[8192 * 2 + 20];
     CALL(load, (&other, TEXT(first), TEXT(second), csv, csv_length, &fault)) \
     CALL(relayout, (&view, TEXT(&line), &fault))                            \
     CALL(kernel, (&view, TEXT(&line), &value, &fault))                      \
+    CALL(do, (&view, TEXT(&line), &value, &fault))                          \
+    CALL(tell, (&view, TEXT(&line), csv, csv_length, &count, &fault))       \
     CALL(leaf, (&view, TEXT(&line), &count))
 #define ON_A_VIEW(CALL)                                                     \
     CALL(version, ())                                                       \
@@ -68,6 +70,7 @@ static uint8_t header[8192 * 2 + 20];
     CALL(print, (&view, csv, csv_length, &count))                           \
     CALL(save, (&view, file, file_length, &count))                          \
     CALL(blob, (&view, 0, blob, blob_length, &count))                       \
+    CALL(message, (LLY_RANGE, &fault, csv, csv_length, &count))             \
     CALL(open, (&other, opened, opened_length, &fault))                     \
     CALL(copy, (&view, &other, &fault))
 
@@ -191,6 +194,8 @@ int main(void)
             try_view();
         }
         MEASURE(kernel);
+        MEASURE(do);
+        MEASURE(tell);
         MEASURE(leaf);
     }
     return 0;

@@ -14,7 +14,7 @@
 
 enum { HANDLES = 8, TEXTS = 3, UNTOUCHED = 0x5A };
 
-enum op { END, VERSION, NEW, LOAD, OPEN, DROP, ROWS, LEAVES, BLOBS, ROW, LEAF, GET, GET_U64, SET, SET_U64, GET_RUN, GET_RUN_U64, SET_RUN, SET_RUN_U64, COPY, RELAYOUT, KERNEL, PRINT, SAVE, BLOB };
+enum op { END, VERSION, NEW, LOAD, OPEN, DROP, ROWS, LEAVES, BLOBS, ROW, LEAF, GET, GET_U64, SET, SET_U64, GET_RUN, GET_RUN_U64, SET_RUN, SET_RUN_U64, COPY, RELAYOUT, KERNEL, DO, PRINT, SAVE, BLOB, TELL };
 
 /* How requests are refused while a call is made: none, or each of them in turn, by itself or with all later ones. */
 enum refused { NONE, ONCE, ON };
@@ -96,15 +96,18 @@ static void *room(size_t size) {
 /* ---- Calls. */
 
 static int takes_memory(uint64_t op) {
-    return op == NEW || op == LOAD || op == OPEN || op == RELAYOUT || op == KERNEL || op == PRINT || op == SAVE;
+    return op == NEW || op == LOAD || op == OPEN || op == RELAYOUT || op == KERNEL || op == DO || op == PRINT || op == SAVE || op == TELL;
 }
 
 /* A pointer, or NULL where the call is to have that. */
 #define P(which, at) (call->head.nulls >> (which) & 1 ? NULL : (at))
 #define TEXT(pointer, text) P(pointer, call->texts[text]), call->head.lengths[text]
 
-static int32_t put(const struct call *call, lly_view *view, uint8_t *bytes, size_t size, size_t *needed) {
+static int32_t put(const struct call *call, lly_view *view, uint8_t *bytes, size_t size, size_t *needed, lly_fault *fault) {
     const struct head *head = &call->head;
+    if (head->op == TELL) {
+        return lly_tell(P(0, view), TEXT(1, 0), P(2, bytes), size, P(3, needed), P(4, fault));
+    }
     return head->op == PRINT ? lly_print(P(0, view), P(1, bytes), size, P(2, needed)) : head->op == SAVE ? lly_save(P(0, view), P(1, bytes), size, P(2, needed))
                                                                                         : lly_blob(P(0, view), head->a, P(1, bytes), size, P(2, needed));
 }
@@ -139,7 +142,8 @@ static int32_t made(const struct call *call, uint8_t *bytes, size_t size, uint64
     case COPY: return lly_copy(P(0, view), P(1, &views[head->a]), P(2, fault));
     case RELAYOUT: return lly_relayout(P(0, view), TEXT(1, 0), P(2, fault));
     case KERNEL: answer = lly_kernel(P(0, view), TEXT(1, 0), P(2, &given), P(3, fault)); *value = (uint64_t)given; return answer;
-    default: answer = put(call, view, bytes, size, &place); break;
+    case DO: answer = lly_do(P(0, view), TEXT(1, 0), P(2, &given), P(3, fault)); *value = (uint64_t)given; return answer;
+    default: answer = put(call, view, bytes, size, &place, fault); break;
     }
     *value = place;
     return answer;
@@ -149,6 +153,7 @@ static int32_t made(const struct call *call, uint8_t *bytes, size_t size, uint64
 static size_t size_for(const struct call *call) {
     const struct head *head = &call->head;
     size_t needed = 0, by;
+    lly_fault fault;
     int32_t answer;
     if (head->op == GET_RUN || head->op == GET_RUN_U64) {
         return head->c * sizeof(uint64_t);
@@ -156,8 +161,8 @@ static size_t size_for(const struct call *call) {
     if (head->op < PRINT || head->nulls) {
         return 0;
     }
-    answer = put(call, &views[head->handle], NULL, 0, &needed);
-    if (answer != (needed ? LLY_NO_ROOM : LLY_DONE) && answer != LLY_NO_VIEW && answer != LLY_NO_PLACE && answer != LLY_TOO_BIG) {
+    answer = put(call, &views[head->handle], NULL, 0, &needed, &fault);
+    if (head->op != TELL && answer != (needed ? LLY_NO_ROOM : LLY_DONE) && answer != LLY_NO_VIEW && answer != LLY_NO_PLACE && answer != LLY_TOO_BIG) {
         say(call, "a first call does not ask for room");
     }
     by = (size_t)llabs((long long)(int64_t)head->c);

@@ -24,7 +24,7 @@ class Answer(enum.IntEnum):
     NO_PLACE = 2, 'there is no such row, leaf, blob, path or index'
     NO_MEMORY = 3, 'memory ran out'
     NO_ROOM = 4, 'the buffer is too short'
-    BAD_TYPE = 5, "some values of the leaf's type are none of the caller's type"
+    BAD_TYPE = 5, "a number, or some value of the leaf's type, is none of the caller's type"
     RANGE = 6, 'the value lies outside of the declared range of its leaf, and the view is strict'
     NARROW = 7, 'it lies in that range and not in the range of how its leaf is stored, and the view is strict'
     MISMATCH = 8, 'the views have other records or other extents'
@@ -57,6 +57,11 @@ class Answer(enum.IntEnum):
         'the bytes behind the header are not as many as those of the blobs', 'they are not the image of rows that such a view may hold')
     NULL = 25, 'a pointer is NULL'
     SAME = 26, 'both handles are one'
+    TWICE = 27, 'an update sets the leaf a second time'
+    OVERFLOW = 28, 'a result of an expression lies outside of 128 bits'
+    DIVIDE_BY_ZERO = 29, 'a divisor in an expression is 0'
+    NOT_COUNTED = 30, 'the view counts no accesses'
+    BAD_WINDOW = 31, 'the spans are no window of the extents'
 
 
 class Handle(ctypes.Structure):
@@ -81,6 +86,11 @@ class Refused(ValueError):
         causes, place = self.answer.causes, ''.join(f', {name} {number}' for name, number in (('row', self.row), ('column', self.column)) if number)
         super().__init__(f'{self.answer.name}: {causes[self.cause - 1] if causes and self.cause else self.answer.message}{place}')
 
+    @property
+    def words(self):
+        """What a script prints of it, but a leaf is its number: `Range record 3 leaf 1`."""
+        return filled(lly.message, self.answer, Fault(self.cause, self.row, self.leaf, self.column)).decode()
+
 
 _VIEW, _FAULT, _ROW, _SIZE, _NUMBER = POINTER(Handle), POINTER(Fault), POINTER(c_uint64), POINTER(c_size_t), POINTER(c_int64)
 _TEXT, _RUN, _BUFFER = (c_char_p, c_size_t), (c_uint64, c_size_t, c_void_p, c_size_t), (c_void_p, c_size_t, _SIZE)
@@ -90,7 +100,8 @@ _PROTOTYPES = {
     'get': (_VIEW, c_uint64, c_size_t, _NUMBER), 'get_u64': (_VIEW, c_uint64, c_size_t, _ROW), 'set': (_VIEW, c_uint64, c_size_t, c_int64),
     'set_u64': (_VIEW, c_uint64, c_size_t, c_uint64), 'get_run': (_VIEW, *_RUN), 'get_run_u64': (_VIEW, *_RUN), 'set_run': (_VIEW, *_RUN, _FAULT),
     'set_run_u64': (_VIEW, *_RUN, _FAULT), 'copy': (_VIEW, _VIEW, _FAULT), 'relayout': (_VIEW, *_TEXT, _FAULT), 'kernel': (_VIEW, *_TEXT, _NUMBER, _FAULT),
-    'print': (_VIEW, *_BUFFER), 'save': (_VIEW, *_BUFFER), 'blob': (_VIEW, c_size_t, *_BUFFER),
+    'do': (_VIEW, *_TEXT, _NUMBER, _FAULT), 'tell': (_VIEW, *_TEXT, *_BUFFER, _FAULT),
+    'print': (_VIEW, *_BUFFER), 'save': (_VIEW, *_BUFFER), 'blob': (_VIEW, c_size_t, *_BUFFER), 'message': (c_int32, _FAULT, *_BUFFER),
 }
 
 
@@ -139,13 +150,13 @@ def asked(call, kind, *words):
     return number.value
 
 
-def filled(call, *words):
-    """The bytes that a call puts into a buffer, which is asked for their number first."""
+def filled(call, *words, behind=()):
+    """The bytes that a call puts into a buffer, which is asked for their number first; `behind` the buffer may stand a fault."""
     needed = c_size_t()
-    answer = call(*words, None, 0, needed)
+    answer = call(*words, None, 0, needed, *behind)
     if answer == Answer.NO_ROOM:
         buffer = ctypes.create_string_buffer(needed.value)
-        must(call(*words, buffer, needed, needed))
+        must(call(*words, buffer, needed, needed, *behind), *behind)
         return buffer.raw
-    must(answer)
+    must(answer, *behind)
     return b''

@@ -10,6 +10,7 @@ from .calls import Fault, asked, filled, lly, made, must, sized
 from .records import dtype_of, extents_of, fields_of, leaves_of, part_of
 
 SAYS_NOTHING = ('axpy', 'clamp')
+SAYS_A_NUMBER = re.compile(r'\s*(reduce\s|kernel\s+\w+\s+(?!axpy|clamp))')
 
 
 class View:
@@ -128,6 +129,16 @@ class View:
         number, fault = c_int64(), Fault()
         must(lly.kernel(self._handle, *sized(f'kernel V {kernel} lanes {lanes}'), number, fault), fault)
         return None if kernel.lstrip().startswith(SAYS_NOTHING) else number.value
+
+    def do(self, line):
+        """Does a line `set V[..].path = ..`, `update V ..`, `kernel V ..` or `reduce V ..`, whatever name it gives the view, and returns its number if it has one."""
+        number, fault = c_int64(), Fault()
+        must(lly.do(self._handle, *sized(line), number, fault), fault)
+        return number.value if SAYS_A_NUMBER.match(line) else None
+
+    def tell(self, line):
+        """What a line `print V window [..]`, `counts V`, `heat V`, `layout V` or `bytes V B` writes, whatever name it gives the view."""
+        return filled(lly.tell, self._handle, *sized(line), behind=(Fault(),)).decode()
 
     def copy_to(self, target):
         """Makes the table of a view of the same record and extents that of this one."""

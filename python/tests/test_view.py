@@ -125,6 +125,15 @@ class OfCalls(unittest.TestCase):
         self.refused(Answer.BAD_MAPPING, self.view.relayout, 'aosoa(65, row)', cause=3)
         self.refused(Answer.BAD_KERNEL, self.view.kernel, 'sum(big)', cause=2)
 
+    def test_lines(self):
+        self.view['x'] = numpy.arange(6).reshape(2, 3)
+        lines = 'set V[0, 0].x = 7', 'update V where x < 5 set n = x', 'reduce V sum n', 'kernel V clamp(x, 0, 5) lanes 2', 'kernel V sum(x) lanes 2'
+        self.assertEqual([self.view.do(line) for line in lines], [None, None, 10, None, 20])
+        self.assertEqual(self.view.tell('print V window [0 : 1, 0 : 2]'), 'x,n,on,big\n5,0,0,0\n1,1,0,0\n')
+        self.refused(Answer.DIVIDE_BY_ZERO, self.view.do, 'update V set x = 1 / (x - 2)', row=2)
+        self.refused(Answer.BAD_WINDOW, self.view.tell, 'print V window [0 : 3, 0 : 2]')
+        self.refused(Answer.TWICE, self.view.do, 'update V set n = 1, n = 2', words='Twice 1')
+
     def test_refused_lines(self):
         self.assertIn('column 14', self.refused(Answer.SYNTAX, View, 'record P { x i32 }', 'view V : P [1] as aos(packed, row)', cause=1, column=14))
         self.assertIn('share a name', self.refused(Answer.BAD_RECORD, View, 'record P { x:i8, x:i8 }', 'view V : P [1] as aos(packed, row)', cause=3))

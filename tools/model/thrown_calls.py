@@ -13,12 +13,12 @@ from thrown_texts import NUMBERS, damaged, deep_expr, one_in, thrown_number, wit
 from views import declared_range
 
 OPS = ['end', 'version', 'new', 'load', 'open', 'drop', 'rows', 'leaves', 'blobs', 'row', 'leaf', 'get', 'get_u64', 'set', 'set_u64', 'get_run', 'get_run_u64', 'set_run', 'set_run_u64', 'copy',
-       'relayout', 'kernel', 'print', 'save', 'blob']
-TAKE_MEMORY = ('new', 'load', 'open', 'relayout', 'kernel', 'print', 'save')
+       'relayout', 'kernel', 'do', 'print', 'save', 'blob', 'tell']
+TAKE_MEMORY = ('new', 'load', 'open', 'relayout', 'kernel', 'do', 'print', 'save', 'tell')
 # the pointers of a call in their order: what is written or read at once by `o`, an array by `a`
 POINTERS = {'version': '', 'new': 'oaao', 'load': 'oaaao', 'open': 'oao', 'drop': 'o', 'rows': 'oo', 'leaves': 'oo', 'blobs': 'oo', 'row': 'oao', 'leaf': 'oao', 'get': 'oo', 'get_u64': 'oo',
-            'set': 'o', 'set_u64': 'o', 'get_run': 'oa', 'get_run_u64': 'oa', 'set_run': 'oao', 'set_run_u64': 'oao', 'copy': 'ooo', 'relayout': 'oao', 'kernel': 'oaoo', 'print': 'oao',
-            'save': 'oao', 'blob': 'oao'}
+            'set': 'o', 'set_u64': 'o', 'get_run': 'oa', 'get_run_u64': 'oa', 'set_run': 'oao', 'set_run_u64': 'oao', 'copy': 'ooo', 'relayout': 'oao', 'kernel': 'oaoo', 'do': 'oaoo', 'print': 'oao',
+            'save': 'oao', 'blob': 'oao', 'tell': 'oaaoo'}
 HANDLES = 4
 WORD = 2 ** 64
 LEAST, GREATEST = {'': -2 ** 63, '_u64': 0}, {'': 2 ** 63 - 1, '_u64': WORD - 1}
@@ -222,12 +222,13 @@ class Calls(Script):
         self.call('copy', other, handle)
 
     def by_line(self, handle):
-        """A kernel or another layout."""
-        table, name = self.table_in(handle), self.held.get(handle)
-        op = self.dice.choice(['relayout', 'kernel', 'kernel'])
-        line = self.taken(getattr(self, op), name, table) if table else self.dice.choice(OTHER_LINES)
+        """A kernel, another layout, or a line that does or tells something."""
+        table, name, dice = self.table_in(handle), self.held.get(handle), self.dice
+        op = dice.choice(['relayout', 'kernel', 'do', 'do', 'do', 'tell', 'tell'])
+        act = getattr(self, {'do': dice.choice(['set', 'update', 'update', 'reduce', 'kernel']), 'tell': 'show'}.get(op, op))
+        line = self.taken(act, name, table) if table else dice.choice(OTHER_LINES)
         if line is not None:
-            self.call(op, handle, texts=[self.text(line)])
+            self.call(op, handle, c=dice.choice([0, 0, 0, -1, 3]) if op == 'tell' else 0, texts=[self.text(line)])
 
     def drop_one(self, handle):
         if self.call('drop', handle):

@@ -81,3 +81,63 @@ pub use Rattle.c_lines.specs.Buffers.{blob_told}
 pub use Rattle.c_lines.specs.CallerRuns.{after_run, told_run, IsFrontStored, IsSet}
 pub use Rattle.c_lines.specs.Values.{reads_signed, reads_unsigned}
 pub use Rattle.c_lines.specs.Inner.Makes.{named_of, new_of, zeros_for}
+pub use Rattle.command_checks.specs.GivesLaws.{GivesUp-then}
+pub use Rattle.command_checks.specs.Inner.Gives.{GivesUp}
+pub use Rattle.expr_lang.specs.Bounds.{bound_term}
+pub use Rattle.expr_lang.specs.Terms.{Term as LeafTerm}
+pub use Rattle.expr_lang.specs.Values.{outcome_of}
+pub use Rattle.expr_lang.specs.declared.bound.Bound.{Bound}
+pub use Rattle.expr_lang.specs.declared.fault.EvalFault.{EvalFault}
+pub use Rattle.extents.specs.Indices.{IsInside}
+pub use Rattle.extents.specs.IndicesLaws.{inside_of_entry, row_of_inside}
+pub use Rattle.line_grammar.specs.Sentences.{Assignment, Value, assignment_of}
+pub use Rattle.line_grammar.specs.declared.line.Line.{Line}
+pub use Rattle.linearize.specs.Slots.{place_in}
+pub use Rattle.linearize.specs.SlotsLaws.{place_in_is}
+pub use Rattle.map_any.specs.AnyLaws.{length-leaf_cells}
+pub use Rattle.map_any.specs.BitRuns.{goes_on, joined_run, run_owner, runs_from}
+unfoldable pub use Rattle.map_any.specs.BitRuns.{runs_of}
+pub use Rattle.piece_bits.specs.Tables.{with_entry}
+pub use Rattle.places.specs.Lawful.{IsLaidOut}
+pub use Rattle.places.specs.Layout.{Bit, Owner, Pad, owner_at}
+pub use Rattle.places.specs.RunOwners.{IsOwnerBelow}
+pub use Rattle.places.specs.declared.piece.Cell.{Cell}
+pub use Rattle.places.specs.declared.piece.Hold.{Hold}
+pub use Rattle.record_dim.specs.Leaves.{leaves}
+pub use Rattle.record_dim.specs.declared.path.PathStep.{PathStep}
+pub use Rattle.row_updates.specs.Logs.{rows_log, update_log, value_log}
+pub use Rattle.row_updates.specs.Rows.{IsSetOf, Setting, filter_term, setting_of, updated_of}
+pub use Rattle.row_updates.specs.declared.fault.UpdateFault.{UpdateFault}
+pub use Rattle.row_updates.specs.declared.update.Assign.{Assign}
+pub use Rattle.std.proofs.Common.{All, add-one, tests, zero, option_map}
+pub use Rattle.std.proofs.Math.ListN.{drop_of_length-le}
+pub use Rattle.std.proofs.Math.Seq.{drop-cons}
+pub use Rattle.std.proofs.lemmas.Bool.{false≢true}
+pub use Rattle.std.proofs.lemmas.Cmp.{nat_eq_equiv, nat_list_eq_equiv}
+pub use Rattle.std.proofs.lemmas.List.Elements.{All-append, All-cons, All-get_or, All-nil, All-push, All-tail, length_all_zip}
+pub use Rattle.std.proofs.lemmas.Map.Keys.{IsDistinct-push}
+pub use Rattle.std.proofs.lemmas.Map.Steps.{length-le_from_distinct_below}
+pub use Rattle.std.specs.Borrow.{Bor}
+pub use Rattle.std.specs.List.{list_any, slice_get, slice_index_or}
+unfoldable pub use Rattle.std.specs.List.{IsDistinct}
+pub use Rattle.std.specs.Option.{option_copied}
+pub use Rattle.std.specs.Prelude.{◌||◌}
+pub use Rattle.views.specs.Stores.{without_number}
+pub use Rattle.views.specs.Tables.{leaf_types_of}
+pub use Rattle.views.specs.Tallies.{Access, Tally}
+pub use Rattle.views.specs.TallyLaws.{logs_more, tallied-append}
+pub use Rattle.worlds.specs.Assign.{inside}
+unfoldable pub use Rattle.worlds.specs.Assign.{assigned}
+pub use Rattle.worlds.specs.Kernel.{fit_kernel, number_text}
+unfoldable pub use Rattle.worlds.specs.Kernel.{kernel_run}
+pub use Rattle.worlds.specs.Names.{bound, bound_filter, bound_set, bound_sets, each_once, leaf_of, leaves_of, text_of_leaf}
+pub use Rattle.worlds.specs.OnView.{Done, done_to, reading}
+unfoldable pub use Rattle.worlds.specs.OnView.{on_view}
+pub use Rattle.worlds.specs.Outcomes.{Left, LeftOf, known}
+unfoldable pub use Rattle.worlds.specs.Update.{updated}
+pub use Rattle.worlds.specs.Values.{storable, value_on}
+pub use Rattle.worlds.specs.declared.fault.CommandFault.{CommandFault}
+pub use Rattle.worlds.specs.declared.fault.CommandFault.TheVariants.{BadIndex, Twice}
+pub use Rattle.c_lines.specs.Commands.{DoesLine, Does, HasRows, IsFaultOf, Makes, OnLine, Refuses, Says, alone, commanded, front_left, is_do, is_tell, kernel_left, line_taken, rows_left, taken, updated_front, view_in}
+pub use Rattle.c_lines.specs.Faults.{row_named}
+pub use Rattle.c_lines.specs.Inner.Carried.{Carried, Gave, eval_refusal, front_by, set_in, store_told, updated_by}

@@ -1,8 +1,15 @@
 mod Imports
 pub mod Answering
+pub mod Arms
+pub mod BitRuns
 pub mod BlobBytes
+pub mod Commanding
 pub mod Copied
+pub mod Indexing
 pub mod Making
 pub mod Parts
 pub mod Relaying
 pub mod Rooms
+pub mod Sets
+pub mod Telling
+pub mod Words

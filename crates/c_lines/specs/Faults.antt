@@ -78,6 +78,8 @@ row_named (refusal.Range row leaf) = row
 row_named (refusal.Narrow row leaf) = row
 row_named (refusal.ShortRow row leaf) = row
 row_named (refusal.Number row leaf) = row
+row_named (refusal.Overflow row) = row
+row_named (refusal.DivideByZero row) = row
 row_named _ = 0
 
 abbrev pub leaf_named : Refusal → ℕ
@@ -87,6 +89,7 @@ leaf_named (refusal.MissingColumn leaf) = leaf
 leaf_named (refusal.ColumnTwice leaf) = leaf
 leaf_named (refusal.ShortRow row leaf) = leaf
 leaf_named (refusal.Number row leaf) = leaf
+leaf_named (refusal.Twice leaf) = leaf
 leaf_named _ = 0
 
 abbrev pub column_of : Refusal → ℕ

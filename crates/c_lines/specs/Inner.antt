@@ -1,3 +1,5 @@
 -- Words of contracts within the project, which no promise reaches.
+pub mod Carried
 pub mod Makes
+pub mod Said
 pub mod Steps

@@ -4,8 +4,10 @@ pub mod Copies
 pub mod Relaid
 pub mod KernelLines
 pub mod Agreement
+pub mod Commands
 pub mod Answers
 pub mod Faults
+pub mod Messages
 pub mod Values
 pub mod CallerRuns
 pub mod Buffers

@@ -5,6 +5,9 @@ use Rattle.csv_rows.specs.declared.fault.RowFault.TheVariants as row
 use Rattle.lane_kernels.specs.declared.fault.KernelFault.{KernelFault}
 use Rattle.lane_kernels.specs.declared.fault.KernelFault.TheVariants as kernel
 use Rattle.layout_copy.specs.Copies.{Spot}
+use Rattle.row_updates.specs.declared.fault.UpdateFault.{UpdateFault}
+use Rattle.row_updates.specs.declared.fault.UpdateKind.{UpdateKind}
+use Rattle.row_updates.specs.declared.fault.UpdateKind.TheVariants as update
 use Rattle.views.specs.declared.fault.StoreFault.{StoreFault}
 use Rattle.views.specs.declared.fault.StoreFault.TheVariants as store
 use Rattle.worlds.specs.Outcomes.{Tested, ok_or}
@@ -15,7 +18,7 @@ use Rattle.c_lines.specs.Answers.{Answer, answer_map}
 use Rattle.c_lines.specs.declared.refusal.Refusal.{Refusal}
 use Rattle.c_lines.specs.declared.refusal.Refusal.TheVariants as refusal
 
--- the refusal of a test that names no leaf. No other one refuses the commands of calls, and where one did, the call would have no answer but
+-- the refusal of a fault that names no leaf. No other one refuses the commands of calls, and where one did, the call would have no answer but
 -- want of memory, which may come at any time
 abbrev pub refusal_of : CommandFault → Refusal
 refusal_of (command.Unknown name) = refusal.Unknown
@@ -25,6 +28,12 @@ refusal_of (command.BadMapping bad) = refusal.BadMapping bad
 refusal_of (command.BadKernel bad) = refusal.BadKernel bad
 refusal_of command.Mismatch = refusal.Mismatch
 refusal_of command.TooBig = refusal.TooBig
+refusal_of command.Empty = refusal.Empty
+refusal_of command.BadIndex = refusal.NoPlace
+refusal_of command.BadWindow = refusal.BadWindow
+refusal_of command.NotCounted = refusal.NotCounted
+refusal_of (command.Overflow row) = refusal.Overflow row
+refusal_of (command.DivideByZero row) = refusal.DivideByZero row
 refusal_of _ = refusal.NoMemory
 
 -- what a command gives that reads no file, as an answer
@@ -49,6 +58,16 @@ row_refusal row.NoMemory = refusal.NoMemory
 -- of a value that is not held
 abbrev pub spot_refusal : Spot → Refusal
 spot_refusal spot = refusal.Narrow spot.row spot.leaf
+
+-- of an update
+abbrev pub update_kind_refusal : ℕ → UpdateKind → Refusal
+update_kind_refusal at update.Overflow = refusal.Overflow at
+update_kind_refusal at update.DivideByZero = refusal.DivideByZero at
+update_kind_refusal at (update.Range leaf) = refusal.Range at leaf
+update_kind_refusal at (update.Narrow leaf) = refusal.Narrow at leaf
+
+abbrev pub update_refusal : UpdateFault → Refusal
+update_refusal fault = update_kind_refusal fault.row fault.kind
 
 -- and of a kernel that runs
 abbrev pub kernel_refusal : KernelFault → Refusal

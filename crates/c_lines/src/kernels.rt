@@ -3,6 +3,9 @@ ghost use Rattle.std.specs.Prelude.{◌≡◌, ◌<◌, ◌≤◌, IfOk};
 ghost use Rattle.line_grammar.specs.Sentences.{sentence_of};
 ghost use Rattle.lane_kernels.specs.Kernels.{IsKernelOf};
 ghost use Rattle.c_lines.specs.Answers.{Tells, TellsLeft};
+ghost use Rattle.worlds.specs.Kernel.{fit_kernel, kernel_run, number_text};
+ghost use Rattle.c_lines.specs.Commands.{kernel_left};
+ghost use Rattle.c_lines.specs.Inner.Carried.{Carried};
 ghost use Rattle.c_lines.specs.KernelLines.{after_kernel, fitted, fitted_as, kernel_number, kernel_told};
 
 use crate::lines::line_of;
@@ -48,6 +51,37 @@ pub fn run_kernel<L: Ledger>(
     match run_lanes(view, &fit.kernel, fit.lanes, &mut steps) {
         Ok(number) => Ok(number),
         Err(fault) => Err(kernel_refusal(fault)),
+    }
+}
+
+/// The same of a kernel that stands in a line that was read, and what a refusal leaves: the rows from the named one on.
+pub(crate) fn run_text<L: Ledger>(
+    alloc: Global,
+    view: &mut View,
+    text: &KernelText,
+    lanes: u32,
+    blank: Blank,
+) -> Result<Option<i128>, Refusal>
+    requires name { blank.name ≡ L.name }
+    requires parts { blank.parts ≡ L.parts }
+    requires some { 0 < blank.parts }
+    ensures { Carried number_text (kernel_run view.old text.now lanes)
+        (λ row. kernel_left view.old row (fit_kernel view.old.fields text.now lanes)) view.old result view.new }
+{
+    let kernel = answered(fit_kernel(alloc, view, text, lanes))?;
+    let mut steps = Steps::<L>::new(blank);
+    match run_lanes(view, &kernel, lanes as usize, &mut steps) {
+        Ok(number) => Ok(widened(number)),
+        Err(fault) => Err(kernel_refusal(fault)),
+    }
+}
+
+fn widened(number: Option<i64>) -> Option<i128>
+    ensures { result ≡ number }
+{
+    match number {
+        Some(number) => Some(i128::from(number)),
+        None => None,
     }
 }
 

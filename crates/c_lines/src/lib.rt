@@ -2,10 +2,12 @@
 //! caller. What is asked for by lines means what it means in a script.
 #![tactic(auto)]
 
+mod assign;
 mod blob_bytes;
 mod by_index;
 mod by_path;
 mod byte_sink;
+mod commands;
 mod copies;
 mod copy_out;
 mod files;
@@ -13,27 +15,35 @@ mod kernels;
 mod laws;
 mod lines;
 mod make;
+mod messages;
 mod number;
 mod print;
+mod reduce;
 mod refusal;
 mod relayout;
 mod runs;
+mod shown;
 mod slice_sink;
+mod tell;
 mod told;
 mod unsigned;
+mod update;
 mod values;
 
 pub use blob_bytes::{blob_count, put_blob};
 pub use by_index::row_of;
 pub use by_path::leaf_of;
+pub use commands::{do_line, in_64};
 pub use copies::copy_into;
 pub use files::{open_view, put_file};
 pub use kernels::run_kernel;
 pub use laws::lines_agree;
 pub use make::{loaded_view, new_view};
+pub use messages::{messages_tell, put_message};
 pub use number::Number64;
 pub use print::put_table;
 pub use refusal::{DONE, Fault, Refusal, TextOf};
 pub use relayout::lay_anew;
 pub use runs::{get_run, set_run};
+pub use tell::tell_line;
 pub use values::{get, set};

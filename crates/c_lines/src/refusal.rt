@@ -64,6 +64,15 @@ pub enum Refusal {
     /// The field of the dataset is no number.
     Number { row: u64, leaf: usize },
     BadFile(BadFile),
+    /// An update sets the leaf a second time.
+    Twice { leaf: usize },
+    /// A result lies outside 128 bits.
+    Overflow { row: u64 },
+    DivideByZero { row: u64 },
+    /// The view counts no accesses.
+    NotCounted,
+    /// The spans are no window of the extents.
+    BadWindow,
 }
 
 /// What C learns of a refusal beside its number: which of several causes it is, and where. What a refusal does not have is 0.
@@ -106,6 +115,12 @@ impl Refusal {
             Refusal::ShortRow { .. } => 22,
             Refusal::Number { .. } => 23,
             Refusal::BadFile(_) => 24,
+            // What is tested over the proved calls has 25 and 26.
+            Refusal::Twice { .. } => 27,
+            Refusal::Overflow { .. } => 28,
+            Refusal::DivideByZero { .. } => 29,
+            Refusal::NotCounted => 30,
+            Refusal::BadWindow => 31,
         }
     }
 
@@ -122,7 +137,7 @@ impl Refusal {
     }
 
     // Which of several causes it is, or which text it is of.
-    fn cause(self) -> i32
+    pub(crate) fn cause(self) -> i32
         ensures { result ≡ cause_of self }
     {
         match self {
@@ -139,7 +154,7 @@ impl Refusal {
         }
     }
 
-    fn row(self) -> u64
+    pub(crate) fn row(self) -> u64
         ensures { result ≡ row_named self }
     {
         match self {
@@ -147,11 +162,13 @@ impl Refusal {
             Refusal::Narrow { row, .. } => row,
             Refusal::ShortRow { row, .. } => row,
             Refusal::Number { row, .. } => row,
+            Refusal::Overflow { row } => row,
+            Refusal::DivideByZero { row } => row,
             _ => 0,
         }
     }
 
-    fn leaf(self) -> usize
+    pub(crate) fn leaf(self) -> usize
         ensures { result ≡ leaf_named self }
     {
         match self {
@@ -161,6 +178,7 @@ impl Refusal {
             Refusal::ColumnTwice { leaf } => leaf,
             Refusal::ShortRow { leaf, .. } => leaf,
             Refusal::Number { leaf, .. } => leaf,
+            Refusal::Twice { leaf } => leaf,
             _ => 0,
         }
     }

@@ -1,12 +1,13 @@
 // The refusals of the model's commands, as those of calls.
 ghost use Rattle.std.specs.Prelude.{◌≡◌};
-ghost use Rattle.c_lines.specs.Told.{kernel_refusal, refusal_of, row_refusal};
+ghost use Rattle.c_lines.specs.Told.{kernel_refusal, refusal_of, row_refusal, update_refusal};
 ghost use Rattle.c_lines.specs.Inner.Steps.{answered, step_refusal};
 
 use crate::Refusal;
 use command_checks::StepFault;
 use csv_rows::RowFault;
 use lane_kernels::KernelFault;
+use row_updates::{UpdateFault, UpdateKind};
 use worlds::CommandFault;
 
 /// What a test of a command gives, as the answer of a call.
@@ -40,6 +41,12 @@ fn command_refusal(fault: CommandFault) -> Refusal
         CommandFault::BadKernel(bad) => Refusal::BadKernel(bad),
         CommandFault::Mismatch => Refusal::Mismatch,
         CommandFault::TooBig => Refusal::TooBig,
+        CommandFault::Empty => Refusal::Empty,
+        CommandFault::BadIndex => Refusal::NoPlace,
+        CommandFault::BadWindow => Refusal::BadWindow,
+        CommandFault::NotCounted => Refusal::NotCounted,
+        CommandFault::Overflow { row } => Refusal::Overflow { row },
+        CommandFault::DivideByZero { row } => Refusal::DivideByZero { row },
         other => {
             drop(other);
             Refusal::NoMemory
@@ -59,6 +66,19 @@ pub fn row_refusal(fault: RowFault) -> Refusal
         RowFault::Range { row, leaf } => Refusal::Range { row, leaf },
         RowFault::Narrow { row, leaf } => Refusal::Narrow { row, leaf },
         RowFault::NoMemory => Refusal::NoMemory,
+    }
+}
+
+/// The refusal of an update.
+pub fn update_refusal(fault: UpdateFault) -> Refusal
+    ensures { result ≡ update_refusal fault }
+{
+    let row = fault.row;
+    match fault.kind {
+        UpdateKind::Overflow => Refusal::Overflow { row },
+        UpdateKind::DivideByZero => Refusal::DivideByZero { row },
+        UpdateKind::Range { leaf } => Refusal::Range { row, leaf },
+        UpdateKind::Narrow { leaf } => Refusal::Narrow { row, leaf },
     }
 }
 

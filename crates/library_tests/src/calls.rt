@@ -1,7 +1,8 @@
 // The calls of the library for C that take memory and that no command makes, with ample memory: that it is wanting is an answer that no clause
 // rules out.
 use c_lines::{
-    lay_anew, loaded_view, new_view, open_view, put_blob, put_file, put_table, run_kernel,
+    Fault, do_line, lay_anew, loaded_view, new_view, open_view, put_blob, put_file, put_message,
+    put_table, run_kernel, tell_line,
 };
 use std::alloc::Global;
 use std::marker::Brand;
@@ -37,6 +38,19 @@ fn opened(alloc: Global) -> Result<View, Fail> {
 fn sum_of(alloc: Global, view: &mut View) -> Option<Option<i64>> {
     let line = b"kernel V sum(f0) lanes 2";
     run_kernel::<Brand>(alloc, view, line, Blank::new(1)).ok()
+}
+
+// The number of a line that is done.
+fn number_of(alloc: Global, view: &mut View, line: &[u8]) -> Option<Option<i128>> {
+    do_line::<Brand>(alloc, view, line, Blank::new(1)).ok()
+}
+
+// Whether a line tells this text, of at most 40 bytes.
+fn tells(alloc: Global, view: &mut View, line: &[u8], due: &[u8]) -> bool {
+    let mut text = [0; 40];
+    let mut needed = 0;
+    let told = tell_line::<Brand>(alloc, view, line, &mut text, &mut needed, Blank::new(1));
+    told.is_ok() && needed <= text.len() && &text[..needed] == due
 }
 
 // Whether a view takes another layout.
@@ -83,6 +97,49 @@ fn a_table_is_summed_and_laid_anew(rt: HostRuntime) -> Result<(), Fail> {
     let (mut bytes, mut needed) = ([0; 2], 0);
     let put = put_blob(&view, 1, &mut bytes, &mut needed);
     assert!(rt; put.is_ok() && bytes == [255, 4]);
+    Ok(())
+}
+
+#[test]
+fn lines_are_done_and_told(rt: HostRuntime) -> Result<(), Fail> {
+    let mut view = loaded(rt.alloc())?;
+    assert!(rt; number_of(rt.alloc(), &mut view, b"set V[1].f1 = f0 + 2") == Some(None));
+    assert!(rt;
+        number_of(
+            rt.alloc(),
+            &mut view,
+            b"update V where f1 > 0 set f0 = f0 * f1"
+        ) == Some(None)
+    );
+    assert!(rt; number_of(rt.alloc(), &mut view, b"reduce V sum f0") == Some(Some(273)));
+    assert!(rt; number_of(rt.alloc(), &mut view, b"reduce V count where f1 < 0") == Some(Some(1)));
+    assert!(rt;
+        number_of(rt.alloc(), &mut view, b"kernel V greatest(f1) lanes 2") == Some(Some(5))
+    );
+    assert!(rt; tells(rt.alloc(), &mut view, b"print V", b"f0,f1\n258,-1\n15,5\n"));
+    assert!(rt;
+        tells(
+            rt.alloc(),
+            &mut view,
+            b"print V window [1 : 2]",
+            b"f0,f1\n15,5\n"
+        )
+    );
+    assert!(rt; tells(rt.alloc(), &mut view, b"bytes V 0", b"02 01 ff 0f 00 05\n"));
+    Ok(())
+}
+
+#[test]
+fn an_answer_has_words(rt: HostRuntime) -> Result<(), Fail> {
+    let fault = Fault {
+        cause: 0,
+        row: 3,
+        leaf: 1,
+        column: 0,
+    };
+    let (mut text, mut needed) = ([0; 21], 0);
+    let put = put_message(rt.alloc(), 6, &fault, &mut text, &mut needed);
+    assert!(rt; put.is_ok() && needed == 21 && text == *b"Range record 3 leaf 1");
     Ok(())
 }
 

@@ -3,6 +3,7 @@ use Rattle.std.specs.Prelude.{ℕ, ◌≡◌, ◌⊎◌, ℤ, List, length, Opti
 use Rattle.views.specs.Tables.{Table, leaf_count_of, owners_of, after_log}
 use Rattle.views.specs.Tallies.{Read, all_accesses}
 use Rattle.c_lines.specs.Answers.{Answer, Tells, TellsLeft, code_of, refusal_number}
+use Rattle.c_lines.specs.Commands.{DoesLine, IsToldInto, in_64}
 use Rattle.c_lines.specs.Faults.{fault_left}
 use Rattle.c_lines.specs.declared.refusal.Fault.{Fault}
 use Rattle.c_lines.specs.declared.refusal.Refusal.TheVariants.{NoView, NoMemory}
@@ -66,6 +67,37 @@ pub record IsKernelDone (told : Table → Answer (Option ℤ)) (after : Table �
   pub changes : Changes told after old answer new
   pub code_is : code ≡ code_of answer
   pub value_is : value_new ≡ number_or value answer
+  pub fault_is : fault_new ≡ fault_left fault answer
+
+-- ---- lines
+
+-- what is said of an answer and of the table that is left, on any handle
+pub record IsLeft (Holds : Table → Type 0) (new : Option Table) : Type 0 where
+  pub left : Table
+  pub holds : Holds left
+  pub held : new ≡ Some left
+
+abbrev pub OnHeld : {A : Type 0} → (Table → Answer A → Table → Type 0) → Option Table → Answer A → Option Table → Type 0
+OnHeld Says None answer new = (answer ≡ Err NoView) × (new ≡ None)
+OnHeld Says (Some table) answer new = IsLeft (Says table answer) new
+
+-- a call that does a line: a number of it that is none of the caller's type is a refusal
+pub record IsLineDone (line : List ℕ) (old new : Option Table) (code value value_new : ℤ) (fault fault_new : Fault) : Type 0 where
+  pub answer : Answer (Option ℤ)
+  pub does : OnHeld (DoesLine line) old answer new
+  pub code_is : code ≡ code_of (in_64 answer)
+  pub value_is : value_new ≡ number_or value (in_64 answer)
+  pub fault_is : fault_new ≡ fault_left fault (in_64 answer)
+
+-- one that tells what a line shows
+abbrev pub ToldInto : List ℕ → List ℕ → ℕ → List ℕ → ℕ → Option Table → Answer (Unit {0}) → Option Table → Type 0
+ToldInto line buffer needed buffer_new needed_new None answer new = (answer ≡ Err NoView) × (new ≡ None) × (buffer_new ≡ buffer) × (needed_new ≡ needed)
+ToldInto line buffer needed buffer_new needed_new (Some table) answer new = IsLeft (λ left. IsToldInto line table left buffer needed answer buffer_new needed_new) new
+
+pub record IsLineTold (line : List ℕ) (old new : Option Table) (code : ℤ) (buffer buffer_new : List ℕ) (needed needed_new : ℕ) (fault fault_new : Fault) : Type 0 where
+  pub answer : Answer (Unit {0})
+  pub tells : ToldInto line buffer needed buffer_new needed_new old answer new
+  pub code_is : code ≡ code_of answer
   pub fault_is : fault_new ≡ fault_left fault answer
 
 -- ---- two handles

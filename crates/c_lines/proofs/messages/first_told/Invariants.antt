@@ -1,0 +1,7 @@
+use Rattle.c_lines.proofs.Imports.{◌≡◌, drop}
+use Rattle.std.specs.List.{find}
+use Rattle.c_lines.specs.Messages.{is_told}
+use Rattle.c_lines.proofs.messages.first_told.Given as goal
+
+abbrev pub invariant-loop-refusal : goal.invariant-loop-refusal
+invariant-loop-refusal l = find (is_told l.answer l.cause) l.refusals ≡ find (is_told l.answer l.cause) (drop l.refusal-index l.refusals)
