@@ -160,6 +160,49 @@ module llama_layout
       type(lly_fault), intent(inout) :: fault
     end function
 
+    integer(c_int32_t) function lly_gather(view, rows, count, leaf, values) bind(c)
+      import
+      type(lly_view), intent(inout) :: view
+      integer(c_int64_t), intent(in) :: rows(*)
+      integer(c_size_t), value :: count, leaf
+      integer(c_int64_t), intent(inout) :: values(*)
+    end function
+
+    integer(c_int32_t) function lly_gather_u64(view, rows, count, leaf, values) bind(c)
+      import
+      type(lly_view), intent(inout) :: view
+      integer(c_int64_t), intent(in) :: rows(*)
+      integer(c_size_t), value :: count, leaf
+      integer(c_int64_t), intent(inout) :: values(*)
+    end function
+
+    integer(c_int32_t) function lly_scatter(view, rows, count, leaf, values, fault) bind(c)
+      import
+      type(lly_view), intent(inout) :: view
+      integer(c_int64_t), intent(in) :: rows(*)
+      integer(c_size_t), value :: count, leaf
+      integer(c_int64_t), intent(in) :: values(*)
+      type(lly_fault), intent(inout) :: fault
+    end function
+
+    integer(c_int32_t) function lly_scatter_u64(view, rows, count, leaf, values, fault) bind(c)
+      import
+      type(lly_view), intent(inout) :: view
+      integer(c_int64_t), intent(in) :: rows(*)
+      integer(c_size_t), value :: count, leaf
+      integer(c_int64_t), intent(in) :: values(*)
+      type(lly_fault), intent(inout) :: fault
+    end function
+
+    integer(c_int32_t) function lly_scatter_add(view, rows, count, leaf, values, fault) bind(c)
+      import
+      type(lly_view), intent(inout) :: view
+      integer(c_int64_t), intent(in) :: rows(*)
+      integer(c_size_t), value :: count, leaf
+      integer(c_int64_t), intent(in) :: values(*)
+      type(lly_fault), intent(inout) :: fault
+    end function
+
     integer(c_int32_t) function lly_copy(source, target, fault) bind(c)
       import
       type(lly_view), intent(inout) :: source, target

@@ -150,6 +150,37 @@ public:
         });
     }
 
+    /// The numbers of a leaf in the rows of a list, in its order.
+    template <typename Number = std::int64_t>
+    std::vector<Number> gather(const std::vector<std::uint64_t> &rows, std::size_t leaf) {
+        std::vector<Number> values(rows.size());
+        if constexpr (is_unsigned<Number>()) {
+            must(lly_gather_u64(&handle_, rows.data(), rows.size(), leaf, values.data()));
+        } else {
+            must(lly_gather(&handle_, rows.data(), rows.size(), leaf, values.data()));
+        }
+        return values;
+    }
+
+    /// Stores a number in each row of a list, in its order. There are as many as rows, or `LLY_NO_PLACE` is thrown.
+    template <typename Number>
+    void scatter(const std::vector<std::uint64_t> &rows, std::size_t leaf, const std::vector<Number> &values) {
+        must(values.size() == rows.size() ? LLY_DONE : LLY_NO_PLACE);
+        checked([&](lly_fault *fault) {
+            if constexpr (is_unsigned<Number>()) {
+                return lly_scatter_u64(&handle_, rows.data(), rows.size(), leaf, values.data(), fault);
+            } else {
+                return lly_scatter(&handle_, rows.data(), rows.size(), leaf, values.data(), fault);
+            }
+        });
+    }
+
+    /// Adds them to what stands there.
+    void scatter_add(const std::vector<std::uint64_t> &rows, std::size_t leaf, const std::vector<std::int64_t> &values) {
+        must(values.size() == rows.size() ? LLY_DONE : LLY_NO_PLACE);
+        checked([&](lly_fault *fault) { return lly_scatter_add(&handle_, rows.data(), rows.size(), leaf, values.data(), fault); });
+    }
+
     void copy_to(view &target) {
         checked([&](lly_fault *fault) { return lly_copy(&handle_, &target.handle_, fault); });
     }

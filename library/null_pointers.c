@@ -31,6 +31,13 @@ PROVED(print);
 PROVED(save);
 PROVED(blob);
 
+/* A proved call has a length for each array, and its name here one for both. */
+extern int32_t proved_lly_gather(lly_view *, const uint64_t *, size_t, size_t, int64_t *, size_t);
+extern int32_t proved_lly_gather_u64(lly_view *, const uint64_t *, size_t, size_t, uint64_t *, size_t);
+extern int32_t proved_lly_scatter(lly_view *, const uint64_t *, size_t, size_t, const int64_t *, size_t, lly_fault *);
+extern int32_t proved_lly_scatter_u64(lly_view *, const uint64_t *, size_t, size_t, const uint64_t *, size_t, lly_fault *);
+extern int32_t proved_lly_scatter_add(lly_view *, const uint64_t *, size_t, size_t, const int64_t *, size_t, lly_fault *);
+
 /* An array of length 0 may be NULL; the proved calls want a place all the same, which they do not touch. */
 static uint64_t nothing[1];
 
@@ -108,6 +115,31 @@ int32_t lly_set_run(lly_view *view, uint64_t first, size_t leaf, const int64_t *
 
 int32_t lly_set_run_u64(lly_view *view, uint64_t first, size_t leaf, const uint64_t *values, size_t count, lly_fault *fault) {
     return view && fault && IS_ARRAY(values, count) ? proved_lly_set_run_u64(view, first, leaf, ARRAY(values), count, fault) : LLY_NULL;
+}
+
+int32_t lly_gather(lly_view *view, const uint64_t *rows, size_t count, size_t leaf, int64_t *values) {
+    return view && IS_ARRAY(rows, count) && IS_ARRAY(values, count) ? proved_lly_gather(view, ARRAY(rows), count, leaf, ARRAY(values), count) : LLY_NULL;
+}
+
+int32_t lly_gather_u64(lly_view *view, const uint64_t *rows, size_t count, size_t leaf, uint64_t *values) {
+    return view && IS_ARRAY(rows, count) && IS_ARRAY(values, count) ? proved_lly_gather_u64(view, ARRAY(rows), count, leaf, ARRAY(values), count) : LLY_NULL;
+}
+
+int32_t lly_scatter(lly_view *view, const uint64_t *rows, size_t count, size_t leaf, const int64_t *values, lly_fault *fault) {
+    return view && fault && IS_ARRAY(rows, count) && IS_ARRAY(values, count) ? proved_lly_scatter(view, ARRAY(rows), count, leaf, ARRAY(values), count, fault)
+                                                                             : LLY_NULL;
+}
+
+int32_t lly_scatter_u64(lly_view *view, const uint64_t *rows, size_t count, size_t leaf, const uint64_t *values, lly_fault *fault) {
+    return view && fault && IS_ARRAY(rows, count) && IS_ARRAY(values, count)
+               ? proved_lly_scatter_u64(view, ARRAY(rows), count, leaf, ARRAY(values), count, fault)
+               : LLY_NULL;
+}
+
+int32_t lly_scatter_add(lly_view *view, const uint64_t *rows, size_t count, size_t leaf, const int64_t *values, lly_fault *fault) {
+    return view && fault && IS_ARRAY(rows, count) && IS_ARRAY(values, count)
+               ? proved_lly_scatter_add(view, ARRAY(rows), count, leaf, ARRAY(values), count, fault)
+               : LLY_NULL;
 }
 
 int32_t lly_copy(lly_view *source, lly_view *target, lly_fault *fault) {

@@ -65,6 +65,11 @@ static uint8_t header[8192 * 2 + 20];
     CALL(get_run_u64, (&view, 0, 0, naturals, 2))                           \
     CALL(set_run, (&view, 0, 0, integers, 2, &fault))                       \
     CALL(set_run_u64, (&view, 0, 0, naturals, 2, &fault))                   \
+    CALL(gather, (&view, origin, 2, 0, integers))                           \
+    CALL(gather_u64, (&view, origin, 2, 0, naturals))                       \
+    CALL(scatter, (&view, origin, 2, 0, integers, &fault))                  \
+    CALL(scatter_u64, (&view, origin, 2, 0, naturals, &fault))              \
+    CALL(scatter_add, (&view, origin, 2, 0, integers, &fault))              \
     CALL(print, (&view, csv, csv_length, &count))                           \
     CALL(save, (&view, file, file_length, &count))                          \
     CALL(blob, (&view, 0, blob, blob_length, &count))                       \

@@ -81,3 +81,14 @@ pub use Rattle.c_lines.specs.Buffers.{blob_told}
 pub use Rattle.c_lines.specs.CallerRuns.{after_run, told_run, IsFrontStored, IsSet}
 pub use Rattle.c_lines.specs.Values.{reads_signed, reads_unsigned}
 pub use Rattle.c_lines.specs.Inner.Makes.{named_of, new_of, zeros_for}
+pub use Rattle.std.specs.Prelude.{◌+ℤ◌, OnOk, OnErr}
+pub use Rattle.std.specs.List.{list_all}
+pub use Rattle.std.proofs.lemmas.List.{drop_all}
+pub use Rattle.std.proofs.lemmas.List.Folds.{list_all_at}
+pub use Rattle.std.proofs.Math.Seq.{drop-cons}
+pub use Rattle.piece_bits.specs.Lows.{IsWithin64}
+pub use Rattle.views.specs.Tables.{after_read}
+pub use Rattle.views.specs.Tallies.{Access}
+pub use Rattle.places.specs.Image.{entry}
+pub use Rattle.c_lines.specs.Answers.{changed_by}
+pub use Rattle.c_lines.specs.ByRows.{Done, done_after, in_turn}

@@ -8,5 +8,6 @@ pub mod Answers
 pub mod Faults
 pub mod Values
 pub mod CallerRuns
+pub mod ByRows
 pub mod Buffers
 pub mod Inner

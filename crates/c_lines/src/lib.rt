@@ -5,6 +5,7 @@
 mod blob_bytes;
 mod by_index;
 mod by_path;
+mod by_rows;
 mod byte_sink;
 mod copies;
 mod copy_out;
@@ -20,12 +21,14 @@ mod relayout;
 mod runs;
 mod slice_sink;
 mod told;
+mod turns;
 mod unsigned;
 mod values;
 
 pub use blob_bytes::{blob_count, put_blob};
 pub use by_index::row_of;
 pub use by_path::leaf_of;
+pub use by_rows::{gather, scatter, scatter_add};
 pub use copies::copy_into;
 pub use files::{open_view, put_file};
 pub use kernels::run_kernel;

@@ -4,6 +4,7 @@
 mod answers;
 mod box_parts;
 mod buffers;
+mod by_rows;
 mod handle;
 mod measures;
 mod part;
