@@ -56,6 +56,21 @@ static void numbers() {
     EXPECT_REFUSAL(LLY_RANGE, 2, view.set_run(1, 0, std::vector<std::int64_t>{1, INT64_MAX}));
 }
 
+static void lists() {
+    lly::view view(RECORD, LINE);
+    const std::vector<std::uint64_t> rows{3, 1, 3};
+    view.scatter(rows, 0, std::vector<std::int64_t>{1, 2, 3});
+    view.scatter_add(rows, 0, {10, 10, -20});
+    EXPECT(view.gather(rows, 0), (std::vector<std::int64_t>{-7, 12, -7}));
+    view.scatter(rows, 1, std::vector<std::uint64_t>{1, UINT64_MAX, 3});
+    EXPECT(view.gather<std::uint64_t>(rows, 1), (std::vector<std::uint64_t>{3, UINT64_MAX, 3}));
+    EXPECT_REFUSAL(LLY_NO_PLACE, 0, view.gather({4}, 0));
+    EXPECT_REFUSAL(LLY_NO_PLACE, 0, view.scatter_add(rows, 0, {1}));
+    EXPECT_REFUSAL(LLY_BAD_TYPE, 0, view.gather(rows, 1));
+    EXPECT_REFUSAL(LLY_RANGE, 1, view.scatter_add(rows, 1, {1, 1, 1}));
+    EXPECT(view.print(), "x,big\n0,0\n12,18446744073709551615\n0,0\n-7,4\n");
+}
+
 static void tables() {
     lly::view view = lly::view::load(RECORD, "load V : P [?, 2] as soa(multi, row) from \"any\"", "big,x\n1,2\n3,4\n");
     lly::view other(RECORD, "view V : P [1, 2] as aosoa(2, col)");
@@ -76,6 +91,7 @@ static void tables() {
 
 int main() {
     numbers();
+    lists();
     tables();
     return differs;
 }

@@ -1,6 +1,6 @@
 -- What the proofs of this crate speak of.
 pub use Rattle.std.proofs.Common.{◌≡◌, Bool, true, false, [], Option, Some, None, Result, Ok, Err, refl, ap, ⊎_elim, ℕ, ◌+◌, ◌*◌, ◌^◌, ◌≤◌, ℤ, List, ◌∷◌, ◌∙◌, nat_lt, length, sym, ◌⊎◌, not, inl, inr, ◌<◌, get_or, map, arith, nat_eq, subst, suc, ◌-◌, ◌++◌, take, drop, pos, negsuc, ◌≤ℤ◌, length-drop, take_all, w64, rules, IfSome, SFits, to_z, of_z, FitsSigned}
-pub use Rattle.std.proofs.lemmas.Bool.{cases_Bool, not-true}
+pub use Rattle.std.proofs.lemmas.Bool.{cases_Bool, not-true, ltb-true}
 pub use Rattle.std.specs.Prelude.{IfOk}
 pub use Rattle.std.proofs.lemmas.Bool.Decides.{nat_tests}
 pub use Rattle.std.proofs.lemmas.List.{length-map, get_or-map, drop-drop, drop-map, get_or-take, length-take-le, take-append-drop, take-map, take-take, map-id, map-append, length-set, take_more, take_more_set, length-take}

@@ -1,5 +1,5 @@
 // One leaf of the rows of a list, to and from an array.
-ghost use Rattle.std.specs.Prelude.{◌≡◌, ◌<◌, true, length, map, nat_lt, slice_index_or, OnOk, OnErr};
+ghost use Rattle.std.specs.Prelude.{◌≡◌, ◌<◌, ℕ, true, length, map, nat_lt, slice_index_or, OnOk, OnErr};
 ghost use Rattle.std.specs.List.{list_all};
 ghost use Rattle.record_dim.specs.declared.leaf_type.LeafType.{LeafType};
 ghost use Rattle.views.specs.Tables.{leaf_count_of, leaf_type_of};
@@ -93,21 +93,17 @@ fn are_rows(view: &View, rows: &[u64], count: usize, leaf: usize) -> bool
     ensures leaf { result ≡ true → leaf < leaf_count_of view.now }
     ensures rows { result ≡ true → (k : ℕ) → k < length rows.now → slice_index_or rows.now k 0 < length view.now.rows }
 {
-    let most = view.extents().count();
-    count == rows.len() && leaf < view.schema().leaf_count() && are_below(rows, most)
+    if count != rows.len() || leaf >= view.schema().leaf_count() {
+        return false;
+    }
+    are_below(rows, view.extents().count())
 }
 
 // Whether each number of a list is below one.
 fn are_below(numbers: &[u64], most: u64) -> bool
-    ensures test { result ≡ list_all (λ number. nat_lt number most) numbers.now }
-    ensures each { result ≡ true → (k : ℕ) → k < length numbers.now → slice_index_or numbers.now k 0 < most }
+    ensures { result ≡ list_all (λ number. nat_lt number most) numbers.now }
 {
-    for number in numbers {
-        if *number >= most {
-            return false;
-        }
-    }
-    true
+    numbers.iter().all(|number| *number < most)
 }
 
 // Reads the values of a leaf in the rows of a list.

@@ -25,11 +25,3 @@ loop-k-preserved g c =
       log = read_one row leaf table c.loop-k.view c.get.new.self (map (λ (n : ℕ). Read n leaf) (take k rows)) so_far.log c.get.ensures.same
           ∙ ap (after_log table) (sym (map_more (λ (n : ℕ). Read n leaf) rows k 0 inside));
     }
-
-pub returns-clause-values : goal.returns-clause-values
-returns-clause-values g c =
-    let end : length c.args.rows.now ≤ c.loop-k.k = omega arith in
-    ?
-
-pub returns-clause-read : goal.returns-clause-read
-returns-clause-read g c = ?
