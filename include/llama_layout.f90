@@ -96,6 +96,37 @@ module llama_layout
       integer(c_size_t), intent(inout) :: leaf
     end function
 
+    integer(c_int32_t) function lly_extents(view, extents, rank, needed) bind(c)
+      import
+      type(lly_view), intent(inout) :: view
+      integer(c_int64_t), intent(inout) :: extents(*)
+      integer(c_size_t), value :: rank
+      integer(c_size_t), intent(inout) :: needed
+    end function
+
+    integer(c_int32_t) function lly_path(view, leaf, path, path_len, needed) bind(c)
+      import
+      type(lly_view), intent(inout) :: view
+      integer(c_size_t), value :: leaf, path_len
+      character(kind=c_char), intent(inout) :: path(*)
+      integer(c_size_t), intent(inout) :: needed
+    end function
+
+    integer(c_int32_t) function lly_type(view, leaf, bits, sign) bind(c)
+      import
+      type(lly_view), intent(inout) :: view
+      integer(c_size_t), value :: leaf
+      integer(c_int32_t), intent(inout) :: bits
+      logical(c_bool), intent(inout) :: sign
+    end function
+
+    integer(c_int32_t) function lly_counts(view, leaf, reads, writes) bind(c)
+      import
+      type(lly_view), intent(inout) :: view
+      integer(c_size_t), value :: leaf
+      integer(c_int64_t), intent(inout) :: reads, writes
+    end function
+
     integer(c_int32_t) function lly_get(view, row, leaf, value) bind(c)
       import
       type(lly_view), intent(inout) :: view

@@ -106,6 +106,32 @@ public:
         return asked<std::size_t>([&](auto *leaf) { return lly_leaf(&handle_, bytes(path), path.size(), leaf); });
     }
 
+    std::vector<std::uint64_t> extents() {
+        std::vector<std::uint64_t> extents(4);
+        std::size_t rank = 0;
+        must(lly_extents(&handle_, extents.data(), extents.size(), &rank));
+        extents.resize(rank);
+        return extents;
+    }
+
+    std::string path(std::size_t leaf) {
+        return filled<std::string>([&](std::uint8_t *path, std::size_t room, std::size_t *needed) { return lly_path(&handle_, leaf, path, room, needed); });
+    }
+
+    /// How many bits the values of a leaf have, and whether they have a sign.
+    std::pair<std::uint32_t, bool> type(std::size_t leaf) {
+        std::pair<std::uint32_t, bool> type;
+        must(lly_type(&handle_, leaf, &type.first, &type.second));
+        return type;
+    }
+
+    /// How often a leaf was read, and written, where the layout counts that.
+    std::pair<std::uint64_t, std::uint64_t> counts(std::size_t leaf) {
+        std::pair<std::uint64_t, std::uint64_t> counts;
+        must(lly_counts(&handle_, leaf, &counts.first, &counts.second));
+        return counts;
+    }
+
     template <typename Number = std::int64_t>
     Number get(std::uint64_t row, std::size_t leaf) {
         return asked<Number>([&](Number *value) {

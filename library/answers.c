@@ -176,6 +176,71 @@ static void places_are_found(void) {
     lly_drop(&view);
 }
 
+static void views_say_what_they_are(void) {
+    static const struct {
+        const char *path;
+        uint32_t bits;
+        bool sign;
+    } leaves[] = {{"pos.x", 32, true}, {"pos.y", 16, false}, {"on", 1, false}, {"h[0]", 8, true}, {"h[1]", 8, true}, {"big", 64, false}};
+    static const uint64_t rows[] = {0, 0};
+    static const int64_t large[] = {65535, 1};
+    lly_view view = LLY_NONE;
+    lly_fault fault = UNTOUCHED;
+    uint64_t extents[4] = {9, 9, 9, 9}, reads = 9, writes = 9;
+    int64_t values[2] = {9, 9};
+    uint8_t path[9] = "unchanged";
+    uint32_t bits = 9;
+    size_t needed = 9, leaf;
+    bool sign = true;
+    EXPECT(lly_extents(&view, extents, 4, &needed), LLY_NO_VIEW);
+    EXPECT(lly_path(&view, 0, path, 9, &needed), LLY_NO_VIEW);
+    EXPECT(lly_type(&view, 0, &bits, &sign), LLY_NO_VIEW);
+    EXPECT(lly_counts(&view, 0, &reads, &writes), LLY_NO_VIEW);
+    EXPECT(needed, 9);
+    make(&view, "record P { pos { x: i32, y: u16 }, on: bool, h: i8[2], big: u64 }", "view V : P [2, 3] as count(soa(multi, row))");
+    EXPECT(lly_extents(&view, extents, 1, &needed), LLY_NO_ROOM);
+    EXPECT(needed, 2);
+    EXPECT(extents[0], 9);
+    EXPECT(lly_extents(&view, extents, 4, &needed), LLY_DONE);
+    EXPECT(extents[0], 2);
+    EXPECT(extents[1], 3);
+    EXPECT(extents[2], 9);
+    EXPECT(lly_path(&view, 0, path, 4, &needed), LLY_NO_ROOM);
+    EXPECT(needed, 5);
+    EXPECT(memcmp(path, "unchanged", 9), 0);
+    for (leaf = 0; leaf < 6; leaf++) {
+        memset(path, '.', 9);
+        EXPECT(lly_path(&view, leaf, path, 9, &needed), LLY_DONE);
+        EXPECT(needed, strlen(leaves[leaf].path));
+        EXPECT(memcmp(path, leaves[leaf].path, needed), 0);
+        EXPECT(path[needed], '.');
+        EXPECT(lly_type(&view, leaf, &bits, &sign), LLY_DONE);
+        EXPECT(bits, leaves[leaf].bits);
+        EXPECT(sign, leaves[leaf].sign);
+        EXPECT(lly_counts(&view, leaf, &reads, &writes), LLY_DONE);
+        EXPECT(reads + writes, 0);
+    }
+    EXPECT(lly_path(&view, 6, path, 9, &needed), LLY_NO_PLACE);
+    EXPECT(lly_type(&view, 6, &bits, &sign), LLY_NO_PLACE);
+    EXPECT(lly_counts(&view, 6, &reads, &writes), LLY_NO_PLACE);
+    EXPECT(bits, 64);
+    EXPECT(needed, 3);
+    /* each read and each write, and of a sum that is refused the read */
+    EXPECT(lly_set(&view, 5, 1, 7), LLY_DONE);
+    EXPECT(lly_gather(&view, rows, 2, 1, values), LLY_DONE);
+    EXPECT(lly_counts(&view, 1, &reads, &writes), LLY_DONE);
+    EXPECT(10 * reads + writes, 21);
+    EXPECT(lly_scatter_add(&view, rows, 2, 1, large, &fault), LLY_RANGE);
+    EXPECT(lly_scatter(&view, rows, 2, 6, large, &fault), LLY_NO_PLACE);
+    EXPECT(lly_counts(&view, 1, &reads, &writes), LLY_DONE);
+    EXPECT(10 * reads + writes, 42);
+    EXPECT(lly_counts(&view, 0, &reads, &writes), LLY_DONE);
+    EXPECT(reads + writes, 0);
+    make(&view, "record P { x: i32 }", "view V : P [2] as heat(1, soa(multi, row))");
+    EXPECT(lly_counts(&view, 0, &reads, &writes), LLY_NO_PLACE);
+    lly_drop(&view);
+}
+
 static void values_are_read_and_stored(void) {
     lly_view view = LLY_NONE;
     int64_t value = 9;
@@ -519,6 +584,8 @@ static void null_is_answered(void) {
     uint8_t bytes[1];
     uint64_t index[1] = {0}, row = 0, naturals[1] = {0};
     int64_t values[1] = {0};
+    uint32_t bits = 0;
+    bool sign = false;
     size_t size = 0;
     make(&view, RECORD, LINE);
     EXPECT(lly_new(NULL, TEXT(RECORD), TEXT(LINE), &fault), LLY_NULL);
@@ -547,6 +614,18 @@ static void null_is_answered(void) {
     EXPECT(lly_leaf(NULL, none, 0, &size), LLY_NULL);
     EXPECT(lly_leaf(&view, none, 1, &size), LLY_NULL);
     EXPECT(lly_leaf(&view, none, 0, NULL), LLY_NULL);
+    EXPECT(lly_extents(NULL, naturals, 1, &size), LLY_NULL);
+    EXPECT(lly_extents(&view, NULL, 1, &size), LLY_NULL);
+    EXPECT(lly_extents(&view, naturals, 1, NULL), LLY_NULL);
+    EXPECT(lly_path(NULL, 0, bytes, 1, &size), LLY_NULL);
+    EXPECT(lly_path(&view, 0, NULL, 1, &size), LLY_NULL);
+    EXPECT(lly_path(&view, 0, bytes, 1, NULL), LLY_NULL);
+    EXPECT(lly_type(NULL, 0, &bits, &sign), LLY_NULL);
+    EXPECT(lly_type(&view, 0, NULL, &sign), LLY_NULL);
+    EXPECT(lly_type(&view, 0, &bits, NULL), LLY_NULL);
+    EXPECT(lly_counts(NULL, 0, naturals, &row), LLY_NULL);
+    EXPECT(lly_counts(&view, 0, NULL, &row), LLY_NULL);
+    EXPECT(lly_counts(&view, 0, naturals, NULL), LLY_NULL);
     EXPECT(lly_get(NULL, 0, 0, values), LLY_NULL);
     EXPECT(lly_get(&view, 0, 0, NULL), LLY_NULL);
     EXPECT(lly_get_u64(NULL, 0, 3, naturals), LLY_NULL);
@@ -612,6 +691,7 @@ int main(void) {
     views_are_refused();
     datasets_are_loaded();
     places_are_found();
+    views_say_what_they_are();
     values_are_read_and_stored();
     runs_are_read_and_stored();
     lists_of_rows_are_read_and_stored();

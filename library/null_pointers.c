@@ -16,6 +16,10 @@ PROVED(leaves);
 PROVED(blobs);
 PROVED(row);
 PROVED(leaf);
+PROVED(extents);
+PROVED(path);
+PROVED(type);
+PROVED(counts);
 PROVED(get);
 PROVED(get_u64);
 PROVED(set);
@@ -83,6 +87,22 @@ int32_t lly_row(lly_view *view, const uint64_t *index, size_t rank, uint64_t *ro
 
 int32_t lly_leaf(lly_view *view, const uint8_t *path, size_t path_len, size_t *leaf) {
     return view && leaf && IS_ARRAY(path, path_len) ? proved_lly_leaf(view, ARRAY(path), path_len, leaf) : LLY_NULL;
+}
+
+int32_t lly_extents(lly_view *view, uint64_t *extents, size_t rank, size_t *needed) {
+    return view && needed && IS_ARRAY(extents, rank) ? proved_lly_extents(view, ARRAY(extents), rank, needed) : LLY_NULL;
+}
+
+int32_t lly_path(lly_view *view, size_t leaf, uint8_t *path, size_t path_len, size_t *needed) {
+    return view && needed && IS_ARRAY(path, path_len) ? proved_lly_path(view, leaf, ARRAY(path), path_len, needed) : LLY_NULL;
+}
+
+int32_t lly_type(lly_view *view, size_t leaf, uint32_t *bits, bool *sign) {
+    return view && bits && sign ? proved_lly_type(view, leaf, bits, sign) : LLY_NULL;
+}
+
+int32_t lly_counts(lly_view *view, size_t leaf, uint64_t *reads, uint64_t *writes) {
+    return view && reads && writes ? proved_lly_counts(view, leaf, reads, writes) : LLY_NULL;
 }
 
 int32_t lly_get(lly_view *view, uint64_t row, size_t leaf, int64_t *value) {

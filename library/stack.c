@@ -37,6 +37,8 @@ static lly_view view = LLY_NONE, other = LLY_NONE;
 static lly_fault fault;
 static int32_t answer;
 static uint64_t row, naturals[2];
+static uint32_t bits;
+static bool sign;
 static int64_t value, integers[2];
 static const uint64_t origin[4];
 static size_t count, file_length, csv_length, blob_length, opened_length;
@@ -57,6 +59,10 @@ static uint8_t header[8192 * 2 + 20];
     CALL(leaves, (&view, &count))                                           \
     CALL(blobs, (&view, &count))                                            \
     CALL(row, (&view, origin, 1, &row))                                     \
+    CALL(extents, (&view, naturals, 2, &count))                             \
+    CALL(path, (&view, 0, (uint8_t *)&row, sizeof row, &count))             \
+    CALL(type, (&view, 0, &bits, &sign))                                    \
+    CALL(counts, (&view, 0, &row, naturals))                                \
     CALL(get, (&view, 0, 0, &value))                                        \
     CALL(get_u64, (&view, 0, 0, &row))                                      \
     CALL(set, (&view, 0, 0, 1))                                             \

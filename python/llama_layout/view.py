@@ -143,6 +143,12 @@ class View:
         call = lly.set_u64 if number >= 2 ** 63 else lly.set
         must(call(self._handle, self.row(row), self._leaves[path][0], number))
 
+    def counts(self, path):
+        """How often a leaf was read, and written, where the layout counts that."""
+        reads, writes = c_uint64(), c_uint64()
+        must(lly.counts(self._handle, self._leaves[path][0], reads, writes))
+        return reads.value, writes.value
+
     def relayout(self, layout):
         """Lays the table out anew."""
         fault = Fault()

@@ -9,5 +9,6 @@ pub mod Faults
 pub mod Values
 pub mod CallerRuns
 pub mod ByRows
+pub mod About
 pub mod Buffers
 pub mod Inner

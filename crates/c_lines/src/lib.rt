@@ -2,6 +2,7 @@
 //! caller. What is asked for by lines means what it means in a script.
 #![tactic(auto)]
 
+mod about;
 mod blob_bytes;
 mod by_index;
 mod by_path;
@@ -25,6 +26,7 @@ mod turns;
 mod unsigned;
 mod values;
 
+pub use about::{counts_of, put_extents, put_path, type_of, value_bits};
 pub use blob_bytes::{blob_count, put_blob};
 pub use by_index::row_of;
 pub use by_path::leaf_of;
