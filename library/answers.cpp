@@ -39,6 +39,10 @@ static void numbers() {
     EXPECT(view.blobs(), 1U);
     EXPECT(view.row({1, 0}), 2U);
     EXPECT(view.leaf("big"), 1U);
+    EXPECT(view.extents(), (std::vector<std::uint64_t>{2, 2}));
+    EXPECT(view.path(1), "big");
+    EXPECT(view.type(0), std::make_pair(UINT32_C(32), true));
+    EXPECT_REFUSAL(LLY_NO_PLACE, 0, view.counts(0));
     view.set(3, 0, -7);
     view.set(3, 1, UINT64_MAX);
     view.set(2, 0, true);

@@ -114,6 +114,13 @@ class OfCalls(unittest.TestCase):
         self.assertRaises(TypeError, self.view.set_run, 'x', 0, [0.5])
         self.assertRaises(ValueError, self.view.__setitem__, 'x', [1, 2])
 
+    def test_counts(self):
+        self.refused(Answer.NO_PLACE, self.view.counts, 'x')
+        self.view.relayout('count(soa(multi, row))')
+        self.view.set(0, 'x', 1)
+        self.view.run('x', 0, 2)
+        self.assertEqual((self.view.counts('x'), self.view.counts('n')), ((2, 7), (0, 6)))
+
     def test_lists_of_rows(self):
         rows = [5, 1, 5]
         self.view.scatter('x', rows, [1, 2, 3])

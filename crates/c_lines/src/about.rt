@@ -12,11 +12,7 @@ use record_dim::LeafType;
 use views::View;
 
 /// Puts the extents of a view into a buffer, and tells how many there are.
-pub fn put_extents(
-    view: &View,
-    buffer: &mut [u64],
-    needed: &mut usize,
-) -> Result<(), Refusal>
+pub fn put_extents(view: &View, buffer: &mut [u64], needed: &mut usize) -> Result<(), Refusal>
     ensures told { result ≡ put_told (extents_told view.now) buffer.old }
     ensures buffer { buffer.new ≡ buffer_after (extents_told view.now) buffer.old }
     ensures needed { needed.new ≡ needed_after (extents_told view.now) needed.old }
