@@ -21,4 +21,13 @@ returns-clause-answer c =
     ∙ ap (λ (held : Option Table). code_of (on_held (gathered reads_unsigned rows count leaf) held)) c.in-Some.ensures.view
 
 pub returns-clause-left : goal.returns-clause-left
-returns-clause-left c = let a = c.new-2.ensures in let b = c.deref_mut.ensures in let d = c.gather-answer.ensures.read in let e = c.in-Some.ensures.view in ?
+returns-clause-left c =
+    let rows = c.args.rows.now in
+    let count = length c.args.values.now in
+    let leaf = c.args.leaf in
+    let table = c.deref_mut.result.now in
+    let after = held_after (gathered reads_unsigned rows count leaf) (after_gather rows leaf) in
+    let given = c.gather-answer.ensures in
+    let left = read_left (are_rows rows count leaf table) (reads_unsigned (leaf_type_of table leaf)) (values_at rows leaf table) c.gather-answer.result (after_gather rows leaf table) table
+    c.gather-answer.new.view given.answer given.read given.kept in
+    c.new-2.ensures ∙ ap (λ (t : Table). Some t) left ∙ ap (λ (t : Table). after (Some t)) c.deref_mut.ensures.value ∙ ap after c.in-Some.ensures.view
