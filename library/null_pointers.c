@@ -98,7 +98,12 @@ int32_t lly_path(lly_view *view, size_t leaf, uint8_t *path, size_t path_len, si
 }
 
 int32_t lly_type(lly_view *view, size_t leaf, uint32_t *bits, bool *sign) {
-    return view && bits && sign ? proved_lly_type(view, leaf, bits, sign) : LLY_NULL;
+    bool given = false; /* a proved call takes a bool that is 0 or 1, as one that is not set yet may not be */
+    int32_t answer = view && bits && sign ? proved_lly_type(view, leaf, bits, &given) : LLY_NULL;
+    if (answer == LLY_DONE) {
+        *sign = given;
+    }
+    return answer;
 }
 
 int32_t lly_counts(lly_view *view, size_t leaf, uint64_t *reads, uint64_t *writes) {
