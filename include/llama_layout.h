@@ -176,10 +176,10 @@ int32_t lly_row(lly_view *view, const uint64_t *index, size_t rank, uint64_t *ro
 /* The leaf of a path, as `pos.x` or `h[2]`. LLY_NO_PLACE where there is none, and *leaf stays as it was. */
 int32_t lly_leaf(lly_view *view, const uint8_t *path, size_t path_len, size_t *leaf);
 
-/* The extents of the array, as many as an index has numbers, copied as the bytes below are: *needed is their number, and LLY_NO_ROOM comes where rank is less. */
+/* The extents of the array, as many as an index has numbers. *needed is set to how many; LLY_NO_ROOM where rank is less, and the array stays as it was. */
 int32_t lly_extents(lly_view *view, uint64_t *extents, size_t rank, size_t *needed);
 
-/* The path of a leaf, as lly_leaf takes it and the first line of lly_print has it, copied so too. LLY_NO_PLACE where there is no such leaf. */
+/* The path of a leaf, as lly_leaf takes it and the first line of lly_print has it, copied into a buffer as below. LLY_NO_PLACE where there is no such leaf. */
 int32_t lly_path(lly_view *view, size_t leaf, uint8_t *path, size_t path_len, size_t *needed);
 
 /* The type of a leaf: how many bits a value has, 1 for a `bool`, and whether there is a sign. LLY_NO_PLACE where there is no such leaf, and both stay. */
