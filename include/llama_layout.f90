@@ -97,6 +97,37 @@ module llama_layout
       integer(c_size_t), intent(inout) :: leaf
     end function
 
+    integer(c_int32_t) function lly_extents(view, extents, rank, needed) bind(c)
+      import
+      type(lly_view), intent(inout) :: view
+      integer(c_int64_t), intent(inout) :: extents(*)
+      integer(c_size_t), value :: rank
+      integer(c_size_t), intent(inout) :: needed
+    end function
+
+    integer(c_int32_t) function lly_path(view, leaf, path, path_len, needed) bind(c)
+      import
+      type(lly_view), intent(inout) :: view
+      integer(c_size_t), value :: leaf, path_len
+      character(kind=c_char), intent(inout) :: path(*)
+      integer(c_size_t), intent(inout) :: needed
+    end function
+
+    integer(c_int32_t) function lly_type(view, leaf, bits, sign) bind(c)
+      import
+      type(lly_view), intent(inout) :: view
+      integer(c_size_t), value :: leaf
+      integer(c_int32_t), intent(inout) :: bits
+      logical(c_bool), intent(inout) :: sign
+    end function
+
+    integer(c_int32_t) function lly_counts(view, leaf, reads, writes) bind(c)
+      import
+      type(lly_view), intent(inout) :: view
+      integer(c_size_t), value :: leaf
+      integer(c_int64_t), intent(inout) :: reads, writes
+    end function
+
     integer(c_int32_t) function lly_get(view, row, leaf, value) bind(c)
       import
       type(lly_view), intent(inout) :: view
@@ -157,6 +188,49 @@ module llama_layout
       type(lly_view), intent(inout) :: view
       integer(c_int64_t), value :: first
       integer(c_size_t), value :: leaf, count
+      integer(c_int64_t), intent(in) :: values(*)
+      type(lly_fault), intent(inout) :: fault
+    end function
+
+    integer(c_int32_t) function lly_gather(view, rows, count, leaf, values) bind(c)
+      import
+      type(lly_view), intent(inout) :: view
+      integer(c_int64_t), intent(in) :: rows(*)
+      integer(c_size_t), value :: count, leaf
+      integer(c_int64_t), intent(inout) :: values(*)
+    end function
+
+    integer(c_int32_t) function lly_gather_u64(view, rows, count, leaf, values) bind(c)
+      import
+      type(lly_view), intent(inout) :: view
+      integer(c_int64_t), intent(in) :: rows(*)
+      integer(c_size_t), value :: count, leaf
+      integer(c_int64_t), intent(inout) :: values(*)
+    end function
+
+    integer(c_int32_t) function lly_scatter(view, rows, count, leaf, values, fault) bind(c)
+      import
+      type(lly_view), intent(inout) :: view
+      integer(c_int64_t), intent(in) :: rows(*)
+      integer(c_size_t), value :: count, leaf
+      integer(c_int64_t), intent(in) :: values(*)
+      type(lly_fault), intent(inout) :: fault
+    end function
+
+    integer(c_int32_t) function lly_scatter_u64(view, rows, count, leaf, values, fault) bind(c)
+      import
+      type(lly_view), intent(inout) :: view
+      integer(c_int64_t), intent(in) :: rows(*)
+      integer(c_size_t), value :: count, leaf
+      integer(c_int64_t), intent(in) :: values(*)
+      type(lly_fault), intent(inout) :: fault
+    end function
+
+    integer(c_int32_t) function lly_scatter_add(view, rows, count, leaf, values, fault) bind(c)
+      import
+      type(lly_view), intent(inout) :: view
+      integer(c_int64_t), intent(in) :: rows(*)
+      integer(c_size_t), value :: count, leaf
       integer(c_int64_t), intent(in) :: values(*)
       type(lly_fault), intent(inout) :: fault
     end function

@@ -181,6 +181,18 @@ int32_t lly_row(lly_view *view, const uint64_t *index, size_t rank, uint64_t *ro
 /* The leaf of a path, as `pos.x` or `h[2]`. LLY_NO_PLACE where there is none, and *leaf stays as it was. */
 int32_t lly_leaf(lly_view *view, const uint8_t *path, size_t path_len, size_t *leaf);
 
+/* The extents of the array, as many as an index has numbers. *needed is set to how many; LLY_NO_ROOM where rank is less, and the array stays as it was. */
+int32_t lly_extents(lly_view *view, uint64_t *extents, size_t rank, size_t *needed);
+
+/* The path of a leaf, as lly_leaf takes it and the first line of lly_print has it, copied into a buffer as below. LLY_NO_PLACE where there is no such leaf. */
+int32_t lly_path(lly_view *view, size_t leaf, uint8_t *path, size_t path_len, size_t *needed);
+
+/* The type of a leaf: how many bits a value has, 1 for a `bool`, and whether there is a sign. LLY_NO_PLACE where there is no such leaf, and both stay. */
+int32_t lly_type(lly_view *view, size_t leaf, uint32_t *bits, bool *sign);
+
+/* How often a leaf was read and written, as `counts` shows it. LLY_NO_PLACE where there is no such leaf or the layout has no `count`, and both stay. */
+int32_t lly_counts(lly_view *view, size_t leaf, uint64_t *reads, uint64_t *writes);
+
 /* ---- One value. */
 
 /* The value of a leaf in a row. LLY_NO_PLACE where there is no such row or leaf; LLY_BAD_TYPE where the leaf is a `u64`. On a refusal *value
@@ -213,6 +225,27 @@ int32_t lly_get_run_u64(lly_view *view, uint64_t first, size_t leaf, uint64_t *v
  */
 int32_t lly_set_run(lly_view *view, uint64_t first, size_t leaf, const int64_t *values, size_t count, lly_fault *fault);
 int32_t lly_set_run_u64(lly_view *view, uint64_t first, size_t leaf, const uint64_t *values, size_t count, lly_fault *fault);
+
+/* ---- One leaf of the rows of a list: values[k] is that of row rows[k], and both arrays have count elements. A row may stand in the list more than
+ * once. All rows are tested before one is read or stored: LLY_NO_PLACE where some row or the leaf is none, and nothing changes. */
+
+/* The values of a leaf in these rows. Else it answers as lly_get does, and on a refusal the array stays as it was. A view that counts accesses counts a
+ * read for each element of the list.
+ */
+int32_t lly_gather(lly_view *view, const uint64_t *rows, size_t count, size_t leaf, int64_t *values);
+int32_t lly_gather_u64(lly_view *view, const uint64_t *rows, size_t count, size_t leaf, uint64_t *values);
+
+/* Stores each value in its row as lly_set does, in the order of the list: in a row that stands there twice the later value is left. A strict view
+ * that does not take a value has exactly those before it; fault->row and fault->leaf are those of this value.
+ */
+int32_t lly_scatter(lly_view *view, const uint64_t *rows, size_t count, size_t leaf, const int64_t *values, lly_fault *fault);
+int32_t lly_scatter_u64(lly_view *view, const uint64_t *rows, size_t count, size_t leaf, const uint64_t *values, lly_fault *fault);
+
+/* Adds each value to what stands in its row, in the order of the list: to a row that stands there twice both are added. The leaf may have any type. A sum
+ * is one of whole numbers of any size, and is then stored as by lly_scatter: a strict view refuses one that does not fit, and a view whose line has
+ * the word `wrap` keeps its low bits. A view that counts accesses counts a read and a write for each value, and for one that is refused the read.
+ */
+int32_t lly_scatter_add(lly_view *view, const uint64_t *rows, size_t count, size_t leaf, const int64_t *values, lly_fault *fault);
 
 /* ---- Whole tables. */
 

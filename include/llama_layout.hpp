@@ -119,6 +119,32 @@ public:
         return asked<std::size_t>([&](auto *leaf) { return lly_leaf(&handle_, bytes(path), path.size(), leaf); });
     }
 
+    std::vector<std::uint64_t> extents() {
+        std::vector<std::uint64_t> extents(4);
+        std::size_t rank = 0;
+        must(lly_extents(&handle_, extents.data(), extents.size(), &rank));
+        extents.resize(rank);
+        return extents;
+    }
+
+    std::string path(std::size_t leaf) {
+        return filled<std::string>([&](std::uint8_t *path, std::size_t room, std::size_t *needed) { return lly_path(&handle_, leaf, path, room, needed); });
+    }
+
+    /// How many bits the values of a leaf have, and whether they have a sign.
+    std::pair<std::uint32_t, bool> type(std::size_t leaf) {
+        std::pair<std::uint32_t, bool> type;
+        must(lly_type(&handle_, leaf, &type.first, &type.second));
+        return type;
+    }
+
+    /// How often a leaf was read, and written, where the layout counts that.
+    std::pair<std::uint64_t, std::uint64_t> counts(std::size_t leaf) {
+        std::pair<std::uint64_t, std::uint64_t> counts;
+        must(lly_counts(&handle_, leaf, &counts.first, &counts.second));
+        return counts;
+    }
+
     template <typename Number = std::int64_t>
     Number get(std::uint64_t row, std::size_t leaf) {
         return asked<Number>([&](Number *value) {
@@ -161,6 +187,37 @@ public:
                 return lly_set_run(&handle_, first, leaf, values.data(), values.size(), fault);
             }
         });
+    }
+
+    /// The numbers of a leaf in the rows of a list, in its order.
+    template <typename Number = std::int64_t>
+    std::vector<Number> gather(const std::vector<std::uint64_t> &rows, std::size_t leaf) {
+        std::vector<Number> values(rows.size());
+        if constexpr (is_unsigned<Number>()) {
+            must(lly_gather_u64(&handle_, rows.data(), rows.size(), leaf, values.data()));
+        } else {
+            must(lly_gather(&handle_, rows.data(), rows.size(), leaf, values.data()));
+        }
+        return values;
+    }
+
+    /// Stores a number in each row of a list, in its order. There are as many as rows, or `LLY_NO_PLACE` is thrown.
+    template <typename Number>
+    void scatter(const std::vector<std::uint64_t> &rows, std::size_t leaf, const std::vector<Number> &values) {
+        must(values.size() == rows.size() ? LLY_DONE : LLY_NO_PLACE);
+        checked([&](lly_fault *fault) {
+            if constexpr (is_unsigned<Number>()) {
+                return lly_scatter_u64(&handle_, rows.data(), rows.size(), leaf, values.data(), fault);
+            } else {
+                return lly_scatter(&handle_, rows.data(), rows.size(), leaf, values.data(), fault);
+            }
+        });
+    }
+
+    /// Adds them to what stands there.
+    void scatter_add(const std::vector<std::uint64_t> &rows, std::size_t leaf, const std::vector<std::int64_t> &values) {
+        must(values.size() == rows.size() ? LLY_DONE : LLY_NO_PLACE);
+        checked([&](lly_fault *fault) { return lly_scatter_add(&handle_, rows.data(), rows.size(), leaf, values.data(), fault); });
     }
 
     void copy_to(view &target) {

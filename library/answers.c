@@ -176,6 +176,71 @@ static void places_are_found(void) {
     lly_drop(&view);
 }
 
+static void views_say_what_they_are(void) {
+    static const struct {
+        const char *path;
+        uint32_t bits;
+        bool sign;
+    } leaves[] = {{"pos.x", 32, true}, {"pos.y", 16, false}, {"on", 1, false}, {"h[0]", 8, true}, {"h[1]", 8, true}, {"big", 64, false}};
+    static const uint64_t rows[] = {0, 0};
+    static const int64_t large[] = {65535, 1};
+    lly_view view = LLY_NONE;
+    lly_fault fault = UNTOUCHED;
+    uint64_t extents[4] = {9, 9, 9, 9}, reads = 9, writes = 9;
+    int64_t values[2] = {9, 9};
+    uint8_t path[9] = "unchanged";
+    uint32_t bits = 9;
+    size_t needed = 9, leaf;
+    bool sign = true;
+    EXPECT(lly_extents(&view, extents, 4, &needed), LLY_NO_VIEW);
+    EXPECT(lly_path(&view, 0, path, 9, &needed), LLY_NO_VIEW);
+    EXPECT(lly_type(&view, 0, &bits, &sign), LLY_NO_VIEW);
+    EXPECT(lly_counts(&view, 0, &reads, &writes), LLY_NO_VIEW);
+    EXPECT(needed, 9);
+    make(&view, "record P { pos { x: i32, y: u16 }, on: bool, h: i8[2], big: u64 }", "view V : P [2, 3] as count(soa(multi, row))");
+    EXPECT(lly_extents(&view, extents, 1, &needed), LLY_NO_ROOM);
+    EXPECT(needed, 2);
+    EXPECT(extents[0], 9);
+    EXPECT(lly_extents(&view, extents, 4, &needed), LLY_DONE);
+    EXPECT(extents[0], 2);
+    EXPECT(extents[1], 3);
+    EXPECT(extents[2], 9);
+    EXPECT(lly_path(&view, 0, path, 4, &needed), LLY_NO_ROOM);
+    EXPECT(needed, 5);
+    EXPECT(memcmp(path, "unchanged", 9), 0);
+    for (leaf = 0; leaf < 6; leaf++) {
+        memset(path, '.', 9);
+        EXPECT(lly_path(&view, leaf, path, 9, &needed), LLY_DONE);
+        EXPECT(needed, strlen(leaves[leaf].path));
+        EXPECT(memcmp(path, leaves[leaf].path, needed), 0);
+        EXPECT(path[needed], '.');
+        EXPECT(lly_type(&view, leaf, &bits, &sign), LLY_DONE);
+        EXPECT(bits, leaves[leaf].bits);
+        EXPECT(sign, leaves[leaf].sign);
+        EXPECT(lly_counts(&view, leaf, &reads, &writes), LLY_DONE);
+        EXPECT(reads + writes, 0);
+    }
+    EXPECT(lly_path(&view, 6, path, 9, &needed), LLY_NO_PLACE);
+    EXPECT(lly_type(&view, 6, &bits, &sign), LLY_NO_PLACE);
+    EXPECT(lly_counts(&view, 6, &reads, &writes), LLY_NO_PLACE);
+    EXPECT(bits, 64);
+    EXPECT(needed, 3);
+    /* each read and each write, and of a sum that is refused the read */
+    EXPECT(lly_set(&view, 5, 1, 7), LLY_DONE);
+    EXPECT(lly_gather(&view, rows, 2, 1, values), LLY_DONE);
+    EXPECT(lly_counts(&view, 1, &reads, &writes), LLY_DONE);
+    EXPECT(10 * reads + writes, 21);
+    EXPECT(lly_scatter_add(&view, rows, 2, 1, large, &fault), LLY_RANGE);
+    EXPECT(lly_scatter(&view, rows, 2, 6, large, &fault), LLY_NO_PLACE);
+    EXPECT(lly_counts(&view, 1, &reads, &writes), LLY_DONE);
+    EXPECT(10 * reads + writes, 42);
+    EXPECT(lly_counts(&view, 0, &reads, &writes), LLY_DONE);
+    EXPECT(reads + writes, 0);
+    make(&view, "record P { x: i32 }", "view V : P [2] as heat(1, soa(multi, row))");
+    EXPECT(lly_counts(&view, 0, &reads, &writes), LLY_NO_PLACE);
+    lly_drop(&view);
+}
+
 static void values_are_read_and_stored(void) {
     lly_view view = LLY_NONE;
     int64_t value = 9;
@@ -280,6 +345,103 @@ static void runs_are_read_and_stored(void) {
     for (k = 0; k < sizeof lines / sizeof lines[0]; k++) {
         runs_under(lines[k]);
     }
+}
+
+/* Rows of a list, one of them twice, under a layout that holds each value. */
+static void lists_under(const char *line) {
+    static const uint64_t rows[] = {5, 0, 5, 2}, outside[] = {0, 6}, twice[] = {0, 0, 2};
+    static const int64_t first[] = {10, 20, 30, -40}, second[] = {1, 2, 3, 4}, small[] = {255, 1, 256, 7}, grown[] = {254, 1, 1}, shrunk[] = {-255, -1, 1};
+    static const uint64_t big[] = {1, 2, UINT64_MAX, 4}, one[] = {1, 1, 1};
+    lly_view view = LLY_NONE;
+    lly_fault fault = UNTOUCHED;
+    int64_t read[4] = {9, 9, 9, 9};
+    uint64_t naturals[4] = {9, 9, 9, 9};
+    make(&view, "record P { x: i32, n: u8, big: u64 }", line);
+    EXPECT(lly_scatter(&view, rows, 4, 0, first, &fault), LLY_DONE);
+    EXPECT_NO_FAULT();
+    expect_print(&view, "x,n,big\n20,0,0\n0,0,0\n-40,0,0\n0,0,0\n0,0,0\n30,0,0\n");
+    EXPECT(lly_scatter_add(&view, rows, 4, 0, second, &fault), LLY_DONE);
+    EXPECT_NO_FAULT();
+    EXPECT(lly_gather(&view, rows, 4, 0, read), LLY_DONE);
+    EXPECT(read[0], 34);
+    EXPECT(read[1], 22);
+    EXPECT(read[2], 34);
+    EXPECT(read[3], -36);
+    /* no such row or leaf: nothing is read or stored, and each row is tested before */
+    EXPECT(lly_gather(&view, outside, 2, 0, read), LLY_NO_PLACE);
+    EXPECT(lly_gather(&view, rows, 4, 3, read), LLY_NO_PLACE);
+    EXPECT(lly_gather_u64(&view, rows, 4, 0, naturals), LLY_BAD_TYPE);
+    EXPECT(lly_gather(&view, rows, 4, 2, read), LLY_BAD_TYPE);
+    EXPECT(lly_gather(&view, outside, 2, 2, read), LLY_NO_PLACE);
+    EXPECT(read[1], 22);
+    EXPECT(naturals[0], 9);
+    EXPECT(lly_scatter(&view, outside, 2, 0, second, &fault), LLY_NO_PLACE);
+    EXPECT_FAULT(0, 0, 0, 0);
+    EXPECT(lly_scatter_add(&view, outside, 2, 0, second, &fault), LLY_NO_PLACE);
+    EXPECT(lly_scatter(&view, rows, 4, 3, second, &fault), LLY_NO_PLACE);
+    EXPECT(lly_scatter_u64(&view, outside, 2, 0, big, &fault), LLY_NO_PLACE);
+    EXPECT(lly_gather(&view, rows, 4, 0, read), LLY_DONE);
+    EXPECT(read[1], 22);
+    /* the first value that is not taken: those before it are stored */
+    EXPECT(lly_scatter(&view, rows, 4, 1, small, &fault), LLY_RANGE);
+    EXPECT_FAULT(0, 5, 1, 0);
+    EXPECT(lly_gather_u64(&view, rows, 4, 1, naturals), LLY_DONE);
+    EXPECT(naturals[0], 255);
+    EXPECT(naturals[1], 1);
+    EXPECT(naturals[3], 0);
+    EXPECT(lly_scatter_add(&view, twice, 3, 1, grown, &fault), LLY_RANGE);
+    EXPECT_FAULT(0, 0, 1, 0);
+    EXPECT(lly_scatter_add(&view, twice, 3, 1, shrunk, &fault), LLY_RANGE);
+    EXPECT_FAULT(0, 0, 1, 0);
+    EXPECT(lly_gather(&view, twice, 3, 1, read), LLY_DONE);
+    EXPECT(read[0], 0);
+    EXPECT(read[2], 0);
+    /* the widest type */
+    EXPECT(lly_scatter_u64(&view, rows, 4, 2, big, &fault), LLY_DONE);
+    EXPECT(lly_scatter_add(&view, rows, 1, 2, shrunk + 1, &fault), LLY_DONE);
+    EXPECT(lly_gather_u64(&view, rows, 4, 2, naturals), LLY_DONE);
+    EXPECT(naturals[0] == UINT64_MAX - 1, 1);
+    EXPECT(naturals[1], 2);
+    EXPECT(naturals[3], 4);
+    EXPECT(lly_scatter_add(&view, rows, 4, 2, second, &fault), LLY_RANGE);
+    EXPECT_FAULT(0, 5, 2, 0);
+    EXPECT(lly_scatter_u64(&view, rows, 3, 0, one, &fault), LLY_DONE);
+    EXPECT(lly_gather(&view, NULL, 0, 0, NULL), LLY_DONE);
+    EXPECT(lly_gather(&view, NULL, 0, 3, NULL), LLY_NO_PLACE);
+    EXPECT(lly_scatter_add(&view, NULL, 0, 0, NULL, &fault), LLY_DONE);
+    lly_drop(&view);
+    EXPECT(lly_gather(&view, rows, 4, 0, read), LLY_NO_VIEW);
+    EXPECT(lly_gather_u64(&view, rows, 4, 0, naturals), LLY_NO_VIEW);
+    EXPECT(lly_scatter(&view, rows, 4, 0, first, &fault), LLY_NO_VIEW);
+    EXPECT_FAULT(0, 0, 0, 0);
+    EXPECT(lly_scatter_u64(&view, rows, 4, 0, big, &fault), LLY_NO_VIEW);
+    EXPECT(lly_scatter_add(&view, rows, 4, 0, first, &fault), LLY_NO_VIEW);
+}
+
+static void lists_of_rows_are_read_and_stored(void) {
+    static const char *const lines[] = {
+        "view V : P [6] as aos(packed, row)",           "view V : P [2, 3] as soa(multi, row)", "view V : P [3, 2] as aosoa(4, morton)",
+        "view V : P [6] as bitaos(9 { big: 64 }, row)", "view V : P [6] as count(aos(min, row))",
+    };
+    static const uint64_t twice[] = {1, 1};
+    static const int64_t most[] = {7, 1}, low[] = {200, 57};
+    lly_view view = LLY_NONE;
+    lly_fault fault = UNTOUCHED;
+    int64_t read[2] = {9, 9};
+    size_t k;
+    for (k = 0; k < sizeof lines / sizeof lines[0]; k++) {
+        lists_under(lines[k]);
+    }
+    make(&view, "record P { x: i32 }", "view V : P [2] as bitsoa(4, row)");
+    EXPECT(lly_scatter_add(&view, twice, 2, 0, most, &fault), LLY_NARROW);
+    EXPECT_FAULT(0, 1, 0, 0);
+    EXPECT(lly_gather(&view, twice, 2, 0, read), LLY_DONE);
+    EXPECT(read[1], 7);
+    make(&view, "record P { n: u8 }", "view V : P [2] wrap as aos(packed, row)");
+    EXPECT(lly_scatter_add(&view, twice, 2, 0, low, &fault), LLY_DONE);
+    EXPECT(lly_gather(&view, twice, 2, 0, read), LLY_DONE);
+    EXPECT(read[0], 1);
+    lly_drop(&view);
 }
 
 static void tables_are_copied(void) {
@@ -565,6 +727,8 @@ static void null_is_answered(void) {
     uint8_t bytes[1];
     uint64_t index[1] = {0}, row = 0, naturals[1] = {0};
     int64_t values[1] = {0};
+    uint32_t bits = 0;
+    bool sign = false;
     size_t size = 0;
     make(&view, RECORD, LINE);
     EXPECT(lly_new(NULL, TEXT(RECORD), TEXT(LINE), &fault), LLY_NULL);
@@ -593,6 +757,18 @@ static void null_is_answered(void) {
     EXPECT(lly_leaf(NULL, none, 0, &size), LLY_NULL);
     EXPECT(lly_leaf(&view, none, 1, &size), LLY_NULL);
     EXPECT(lly_leaf(&view, none, 0, NULL), LLY_NULL);
+    EXPECT(lly_extents(NULL, naturals, 1, &size), LLY_NULL);
+    EXPECT(lly_extents(&view, NULL, 1, &size), LLY_NULL);
+    EXPECT(lly_extents(&view, naturals, 1, NULL), LLY_NULL);
+    EXPECT(lly_path(NULL, 0, bytes, 1, &size), LLY_NULL);
+    EXPECT(lly_path(&view, 0, NULL, 1, &size), LLY_NULL);
+    EXPECT(lly_path(&view, 0, bytes, 1, NULL), LLY_NULL);
+    EXPECT(lly_type(NULL, 0, &bits, &sign), LLY_NULL);
+    EXPECT(lly_type(&view, 0, NULL, &sign), LLY_NULL);
+    EXPECT(lly_type(&view, 0, &bits, NULL), LLY_NULL);
+    EXPECT(lly_counts(NULL, 0, naturals, &row), LLY_NULL);
+    EXPECT(lly_counts(&view, 0, NULL, &row), LLY_NULL);
+    EXPECT(lly_counts(&view, 0, naturals, NULL), LLY_NULL);
     EXPECT(lly_get(NULL, 0, 0, values), LLY_NULL);
     EXPECT(lly_get(&view, 0, 0, NULL), LLY_NULL);
     EXPECT(lly_get_u64(NULL, 0, 3, naturals), LLY_NULL);
@@ -609,6 +785,24 @@ static void null_is_answered(void) {
     EXPECT(lly_set_run_u64(NULL, 0, 3, naturals, 1, &fault), LLY_NULL);
     EXPECT(lly_set_run_u64(&view, 0, 3, NULL, 1, &fault), LLY_NULL);
     EXPECT(lly_set_run_u64(&view, 0, 3, naturals, 1, NULL), LLY_NULL);
+    EXPECT(lly_gather(NULL, naturals, 1, 0, values), LLY_NULL);
+    EXPECT(lly_gather(&view, NULL, 1, 0, values), LLY_NULL);
+    EXPECT(lly_gather(&view, naturals, 1, 0, NULL), LLY_NULL);
+    EXPECT(lly_gather_u64(NULL, naturals, 1, 3, naturals), LLY_NULL);
+    EXPECT(lly_gather_u64(&view, NULL, 1, 3, naturals), LLY_NULL);
+    EXPECT(lly_gather_u64(&view, naturals, 1, 3, NULL), LLY_NULL);
+    EXPECT(lly_scatter(NULL, naturals, 1, 0, values, &fault), LLY_NULL);
+    EXPECT(lly_scatter(&view, NULL, 1, 0, values, &fault), LLY_NULL);
+    EXPECT(lly_scatter(&view, naturals, 1, 0, NULL, &fault), LLY_NULL);
+    EXPECT(lly_scatter(&view, naturals, 1, 0, values, NULL), LLY_NULL);
+    EXPECT(lly_scatter_u64(NULL, naturals, 1, 3, naturals, &fault), LLY_NULL);
+    EXPECT(lly_scatter_u64(&view, NULL, 1, 3, naturals, &fault), LLY_NULL);
+    EXPECT(lly_scatter_u64(&view, naturals, 1, 3, NULL, &fault), LLY_NULL);
+    EXPECT(lly_scatter_u64(&view, naturals, 1, 3, naturals, NULL), LLY_NULL);
+    EXPECT(lly_scatter_add(NULL, naturals, 1, 0, values, &fault), LLY_NULL);
+    EXPECT(lly_scatter_add(&view, NULL, 1, 0, values, &fault), LLY_NULL);
+    EXPECT(lly_scatter_add(&view, naturals, 1, 0, NULL, &fault), LLY_NULL);
+    EXPECT(lly_scatter_add(&view, naturals, 1, 0, values, NULL), LLY_NULL);
     EXPECT(lly_copy(NULL, &other, &fault), LLY_NULL);
     EXPECT(lly_copy(&view, NULL, &fault), LLY_NULL);
     EXPECT(lly_copy(&view, &other, NULL), LLY_NULL);
@@ -652,8 +846,10 @@ int main(void) {
     views_are_refused();
     datasets_are_loaded();
     places_are_found();
+    views_say_what_they_are();
     values_are_read_and_stored();
     runs_are_read_and_stored();
+    lists_of_rows_are_read_and_stored();
     tables_are_copied();
     tables_are_laid_anew();
     kernels_run();

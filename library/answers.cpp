@@ -39,6 +39,10 @@ static void numbers() {
     EXPECT(view.blobs(), 1U);
     EXPECT(view.row({1, 0}), 2U);
     EXPECT(view.leaf("big"), 1U);
+    EXPECT(view.extents(), (std::vector<std::uint64_t>{2, 2}));
+    EXPECT(view.path(1), "big");
+    EXPECT(view.type(0), std::make_pair(UINT32_C(32), true));
+    EXPECT_REFUSAL(LLY_NO_PLACE, 0, view.counts(0));
     view.set(3, 0, -7);
     view.set(3, 1, UINT64_MAX);
     view.set(2, 0, true);
@@ -54,6 +58,21 @@ static void numbers() {
     EXPECT_REFUSAL(LLY_NO_PLACE, 0, view.leaf("none"));
     EXPECT_REFUSAL(LLY_BAD_TYPE, 0, view.get(0, 1));
     EXPECT_REFUSAL(LLY_RANGE, 2, view.set_run(1, 0, std::vector<std::int64_t>{1, INT64_MAX}));
+}
+
+static void lists() {
+    lly::view view(RECORD, LINE);
+    const std::vector<std::uint64_t> rows{3, 1, 3};
+    view.scatter(rows, 0, std::vector<std::int64_t>{1, 2, 3});
+    view.scatter_add(rows, 0, {10, 10, -20});
+    EXPECT(view.gather(rows, 0), (std::vector<std::int64_t>{-7, 12, -7}));
+    view.scatter(rows, 1, std::vector<std::uint64_t>{1, UINT64_MAX, 3});
+    EXPECT(view.gather<std::uint64_t>(rows, 1), (std::vector<std::uint64_t>{3, UINT64_MAX, 3}));
+    EXPECT_REFUSAL(LLY_NO_PLACE, 0, view.gather({4}, 0));
+    EXPECT_REFUSAL(LLY_NO_PLACE, 0, view.scatter_add(rows, 0, {1}));
+    EXPECT_REFUSAL(LLY_BAD_TYPE, 0, view.gather(rows, 1));
+    EXPECT_REFUSAL(LLY_RANGE, 1, view.scatter_add(rows, 1, {1, 1, 1}));
+    EXPECT(view.print(), "x,big\n0,0\n12,18446744073709551615\n0,0\n-7,4\n");
 }
 
 static void tables() {
@@ -86,6 +105,7 @@ static void tables() {
 
 int main() {
     numbers();
+    lists();
     tables();
     return differs;
 }

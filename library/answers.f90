@@ -1,6 +1,6 @@
 ! Each call of the module llama_layout. tools/library_examples runs it; it says what differs, and ends with 0 where nothing does.
 program answers
-  use, intrinsic :: iso_c_binding, only: c_char, c_int32_t, c_int64_t, c_size_t
+  use, intrinsic :: iso_c_binding, only: c_bool, c_char, c_int32_t, c_int64_t, c_size_t
   use llama_layout
   implicit none
   character(*), parameter :: record_line = 'record P { x: i32, n: u16 }'
@@ -13,6 +13,8 @@ program answers
   type(lly_fault) :: fault
   integer(c_int64_t) :: row, number, numbers(4)
   integer(c_size_t) :: many, needed
+  integer(c_int32_t) :: bits
+  logical(c_bool) :: sign
   character(kind=c_char, len=200) :: text
   logical :: differs = .false.
 
@@ -31,6 +33,13 @@ program answers
   call expect(int(row), 2)
   call expect(lly_leaf(view, 'n', 1_c_size_t, many), LLY_DONE)
   call expect(int(many), 1)
+  call expect(lly_extents(view, numbers, 4_c_size_t, needed), LLY_DONE)
+  call expect(int(10 * numbers(1) + numbers(2) + 100 * needed), 222)
+  call expect(lly_path(view, 1_c_size_t, text, len(text, c_size_t), needed), LLY_DONE)
+  call expect(merge(0, 1, text(:needed) == 'n'), 0)
+  call expect(lly_type(view, 0_c_size_t, bits, sign), LLY_DONE)
+  call expect(merge(bits, 0, logical(sign)), 32)
+  call expect(lly_counts(view, 0_c_size_t, row, number), LLY_NO_PLACE)
   call expect(lly_print(view, text, len(text, c_size_t), needed), LLY_DONE)
   call expect(merge(0, 1, text(:needed) == table), 0)
   call expect(lly_get(view, 3_c_int64_t, 0_c_size_t, number), LLY_DONE)
@@ -59,6 +68,14 @@ program answers
   call expect(lly_save(view, text, len(text, c_size_t), needed), LLY_DONE)
   call expect(lly_open(other, text, needed, fault), LLY_DONE)
   call expect(lly_open(other, text, needed - 1, fault), LLY_BAD_FILE)
+  call expect(lly_scatter(view, [3_c_int64_t, 1_c_int64_t], 2_c_size_t, 0_c_size_t, [1_c_int64_t, 2_c_int64_t], fault), LLY_DONE)
+  call expect(lly_scatter_add(view, [1_c_int64_t, 1_c_int64_t], 2_c_size_t, 0_c_size_t, &
+                              [3_c_int64_t, 4_c_int64_t], fault), LLY_DONE)
+  call expect(lly_gather(view, [3_c_int64_t, 1_c_int64_t], 2_c_size_t, 0_c_size_t, numbers), LLY_DONE)
+  call expect(int(10 * numbers(1) + numbers(2)), 19)
+  call expect(lly_scatter_u64(view, [2_c_int64_t], 1_c_size_t, 1_c_size_t, [65536_c_int64_t], fault), LLY_RANGE)
+  call expect(int(fault%row), 2)
+  call expect(lly_gather_u64(view, [4_c_int64_t], 1_c_size_t, 1_c_size_t, numbers), LLY_NO_PLACE)
   call lly_drop(view)
   call expect(lly_rows(view, row), LLY_NO_VIEW)
   call lly_drop(other)

@@ -16,6 +16,10 @@ PROVED(leaves);
 PROVED(blobs);
 PROVED(row);
 PROVED(leaf);
+PROVED(extents);
+PROVED(path);
+PROVED(type);
+PROVED(counts);
 PROVED(get);
 PROVED(get_u64);
 PROVED(set);
@@ -33,6 +37,13 @@ PROVED(print);
 PROVED(save);
 PROVED(blob);
 PROVED(message);
+
+/* A proved call has a length for each array, and its name here one for both. */
+extern int32_t proved_lly_gather(lly_view *, const uint64_t *, size_t, size_t, int64_t *, size_t);
+extern int32_t proved_lly_gather_u64(lly_view *, const uint64_t *, size_t, size_t, uint64_t *, size_t);
+extern int32_t proved_lly_scatter(lly_view *, const uint64_t *, size_t, size_t, const int64_t *, size_t, lly_fault *);
+extern int32_t proved_lly_scatter_u64(lly_view *, const uint64_t *, size_t, size_t, const uint64_t *, size_t, lly_fault *);
+extern int32_t proved_lly_scatter_add(lly_view *, const uint64_t *, size_t, size_t, const int64_t *, size_t, lly_fault *);
 
 /* An array of length 0 may be NULL; the proved calls want a place all the same, which they do not touch. */
 static uint64_t nothing[1];
@@ -81,6 +92,27 @@ int32_t lly_leaf(lly_view *view, const uint8_t *path, size_t path_len, size_t *l
     return view && leaf && IS_ARRAY(path, path_len) ? proved_lly_leaf(view, ARRAY(path), path_len, leaf) : LLY_NULL;
 }
 
+int32_t lly_extents(lly_view *view, uint64_t *extents, size_t rank, size_t *needed) {
+    return view && needed && IS_ARRAY(extents, rank) ? proved_lly_extents(view, ARRAY(extents), rank, needed) : LLY_NULL;
+}
+
+int32_t lly_path(lly_view *view, size_t leaf, uint8_t *path, size_t path_len, size_t *needed) {
+    return view && needed && IS_ARRAY(path, path_len) ? proved_lly_path(view, leaf, ARRAY(path), path_len, needed) : LLY_NULL;
+}
+
+int32_t lly_type(lly_view *view, size_t leaf, uint32_t *bits, bool *sign) {
+    bool given = false; /* a proved call takes a bool that is 0 or 1, as one that is not set yet may not be */
+    int32_t answer = view && bits && sign ? proved_lly_type(view, leaf, bits, &given) : LLY_NULL;
+    if (answer == LLY_DONE) {
+        *sign = given;
+    }
+    return answer;
+}
+
+int32_t lly_counts(lly_view *view, size_t leaf, uint64_t *reads, uint64_t *writes) {
+    return view && reads && writes ? proved_lly_counts(view, leaf, reads, writes) : LLY_NULL;
+}
+
 int32_t lly_get(lly_view *view, uint64_t row, size_t leaf, int64_t *value) {
     return view && value ? proved_lly_get(view, row, leaf, value) : LLY_NULL;
 }
@@ -111,6 +143,31 @@ int32_t lly_set_run(lly_view *view, uint64_t first, size_t leaf, const int64_t *
 
 int32_t lly_set_run_u64(lly_view *view, uint64_t first, size_t leaf, const uint64_t *values, size_t count, lly_fault *fault) {
     return view && fault && IS_ARRAY(values, count) ? proved_lly_set_run_u64(view, first, leaf, ARRAY(values), count, fault) : LLY_NULL;
+}
+
+int32_t lly_gather(lly_view *view, const uint64_t *rows, size_t count, size_t leaf, int64_t *values) {
+    return view && IS_ARRAY(rows, count) && IS_ARRAY(values, count) ? proved_lly_gather(view, ARRAY(rows), count, leaf, ARRAY(values), count) : LLY_NULL;
+}
+
+int32_t lly_gather_u64(lly_view *view, const uint64_t *rows, size_t count, size_t leaf, uint64_t *values) {
+    return view && IS_ARRAY(rows, count) && IS_ARRAY(values, count) ? proved_lly_gather_u64(view, ARRAY(rows), count, leaf, ARRAY(values), count) : LLY_NULL;
+}
+
+int32_t lly_scatter(lly_view *view, const uint64_t *rows, size_t count, size_t leaf, const int64_t *values, lly_fault *fault) {
+    return view && fault && IS_ARRAY(rows, count) && IS_ARRAY(values, count) ? proved_lly_scatter(view, ARRAY(rows), count, leaf, ARRAY(values), count, fault)
+                                                                             : LLY_NULL;
+}
+
+int32_t lly_scatter_u64(lly_view *view, const uint64_t *rows, size_t count, size_t leaf, const uint64_t *values, lly_fault *fault) {
+    return view && fault && IS_ARRAY(rows, count) && IS_ARRAY(values, count)
+               ? proved_lly_scatter_u64(view, ARRAY(rows), count, leaf, ARRAY(values), count, fault)
+               : LLY_NULL;
+}
+
+int32_t lly_scatter_add(lly_view *view, const uint64_t *rows, size_t count, size_t leaf, const int64_t *values, lly_fault *fault) {
+    return view && fault && IS_ARRAY(rows, count) && IS_ARRAY(values, count)
+               ? proved_lly_scatter_add(view, ARRAY(rows), count, leaf, ARRAY(values), count, fault)
+               : LLY_NULL;
 }
 
 int32_t lly_copy(lly_view *source, lly_view *target, lly_fault *fault) {

@@ -37,6 +37,8 @@ static lly_view view = LLY_NONE, other = LLY_NONE;
 static lly_fault fault;
 static int32_t answer;
 static uint64_t row, naturals[2];
+static uint32_t bits;
+static bool sign;
 static int64_t value, integers[2];
 static const uint64_t origin[4];
 static size_t count, file_length, csv_length, blob_length, opened_length;
@@ -59,6 +61,10 @@ static uint8_t header[8192 * 2 + 20];
     CALL(leaves, (&view, &count))                                           \
     CALL(blobs, (&view, &count))                                            \
     CALL(row, (&view, origin, 1, &row))                                     \
+    CALL(extents, (&view, naturals, 2, &count))                             \
+    CALL(path, (&view, 0, (uint8_t *)&row, sizeof row, &count))             \
+    CALL(type, (&view, 0, &bits, &sign))                                    \
+    CALL(counts, (&view, 0, &row, naturals))                                \
     CALL(get, (&view, 0, 0, &value))                                        \
     CALL(get_u64, (&view, 0, 0, &row))                                      \
     CALL(set, (&view, 0, 0, 1))                                             \
@@ -67,6 +73,11 @@ static uint8_t header[8192 * 2 + 20];
     CALL(get_run_u64, (&view, 0, 0, naturals, 2))                           \
     CALL(set_run, (&view, 0, 0, integers, 2, &fault))                       \
     CALL(set_run_u64, (&view, 0, 0, naturals, 2, &fault))                   \
+    CALL(gather, (&view, origin, 2, 0, integers))                           \
+    CALL(gather_u64, (&view, origin, 2, 0, naturals))                       \
+    CALL(scatter, (&view, origin, 2, 0, integers, &fault))                  \
+    CALL(scatter_u64, (&view, origin, 2, 0, naturals, &fault))              \
+    CALL(scatter_add, (&view, origin, 2, 0, integers, &fault))              \
     CALL(print, (&view, csv, csv_length, &count))                           \
     CALL(save, (&view, file, file_length, &count))                          \
     CALL(blob, (&view, 0, blob, blob_length, &count))                       \

@@ -5,7 +5,7 @@ LLAMA_LAYOUT_LIBRARY names the library; without it the system finds libllama_lay
 import ctypes
 import enum
 import os
-from ctypes import POINTER, c_bool, c_char_p, c_int32, c_int64, c_size_t, c_uint64, c_void_p
+from ctypes import POINTER, c_bool, c_char_p, c_int32, c_int64, c_size_t, c_uint32, c_uint64, c_void_p
 
 MAJOR = 1
 LIBRARY = os.environ.get('LLAMA_LAYOUT_LIBRARY', f'libllama_layout.so.{MAJOR}')
@@ -94,13 +94,17 @@ class Refused(ValueError):
 
 _VIEW, _FAULT, _ROW, _SIZE, _NUMBER = POINTER(Handle), POINTER(Fault), POINTER(c_uint64), POINTER(c_size_t), POINTER(c_int64)
 _TEXT, _RUN, _BUFFER = (c_char_p, c_size_t), (c_uint64, c_size_t, c_void_p, c_size_t), (c_void_p, c_size_t, _SIZE)
+_LIST = (c_void_p, c_size_t, c_size_t, c_void_p)
 _PROTOTYPES = {
     'version': (), 'drop': (_VIEW,), 'new': (_VIEW, *_TEXT, *_TEXT, _FAULT), 'load': (_VIEW, *_TEXT, *_TEXT, *_TEXT, _FAULT), 'open': (_VIEW, *_TEXT, _FAULT),
     'rows': (_VIEW, _ROW), 'leaves': (_VIEW, _SIZE), 'blobs': (_VIEW, _SIZE), 'row': (_VIEW, _ROW, c_size_t, _ROW), 'leaf': (_VIEW, *_TEXT, _SIZE),
+    'extents': (_VIEW, _ROW, c_size_t, _SIZE), 'path': (_VIEW, c_size_t, *_BUFFER), 'type': (_VIEW, c_size_t, POINTER(c_uint32), POINTER(c_bool)),
+    'counts': (_VIEW, c_size_t, _ROW, _ROW),
     'get': (_VIEW, c_uint64, c_size_t, _NUMBER), 'get_u64': (_VIEW, c_uint64, c_size_t, _ROW), 'set': (_VIEW, c_uint64, c_size_t, c_int64),
     'set_u64': (_VIEW, c_uint64, c_size_t, c_uint64), 'get_run': (_VIEW, *_RUN), 'get_run_u64': (_VIEW, *_RUN), 'set_run': (_VIEW, *_RUN, _FAULT),
-    'set_run_u64': (_VIEW, *_RUN, _FAULT), 'copy': (_VIEW, _VIEW, _FAULT), 'relayout': (_VIEW, *_TEXT, _FAULT), 'kernel': (_VIEW, *_TEXT, _NUMBER, _FAULT),
-    'do': (_VIEW, *_TEXT, _NUMBER, _FAULT), 'tell': (_VIEW, *_TEXT, *_BUFFER, _FAULT),
+    'set_run_u64': (_VIEW, *_RUN, _FAULT), 'gather': (_VIEW, *_LIST), 'gather_u64': (_VIEW, *_LIST), 'scatter': (_VIEW, *_LIST, _FAULT),
+    'scatter_u64': (_VIEW, *_LIST, _FAULT), 'scatter_add': (_VIEW, *_LIST, _FAULT), 'copy': (_VIEW, _VIEW, _FAULT), 'relayout': (_VIEW, *_TEXT, _FAULT),
+    'kernel': (_VIEW, *_TEXT, _NUMBER, _FAULT), 'do': (_VIEW, *_TEXT, _NUMBER, _FAULT), 'tell': (_VIEW, *_TEXT, *_BUFFER, _FAULT),
     'print': (_VIEW, *_BUFFER), 'save': (_VIEW, *_BUFFER), 'blob': (_VIEW, c_size_t, *_BUFFER), 'message': (c_int32, _FAULT, *_BUFFER),
 }
 

@@ -94,12 +94,37 @@ class View:
 
     def set_run(self, path, first, numbers):
         """Stores numbers in a leaf of the rows from `first` on. Of a strict view that refuses one, those before it are stored."""
-        numbers = numpy.asarray(numbers)
-        if numbers.size and numbers.dtype.kind not in 'bui':
-            raise TypeError(f'{path}: {numbers.dtype} is no type of whole numbers')
+        numbers = _whole(path, numbers)
         call, wide = (lly.set_run_u64, numpy.uint64) if numbers.dtype == numpy.uint64 else (lly.set_run, numpy.int64)
         numbers, fault = numpy.ascontiguousarray(numbers, wide), Fault()
         must(call(self._handle, self.row(first), self._leaves[path][0], numbers.ctypes.data, numbers.size, fault), fault)
+
+    def gather(self, path, rows):
+        """The numbers of a leaf in the rows of a list, in its order."""
+        leaf, kind = self._leaves[path]
+        call, wide = (lly.gather_u64, numpy.uint64) if kind == numpy.uint64 else (lly.gather, numpy.int64)
+        rows = _rows(rows)
+        numbers = numpy.empty(rows.shape, wide)
+        must(call(self._handle, rows.ctypes.data, rows.size, leaf, numbers.ctypes.data))
+        return numbers.astype(kind, copy=False)
+
+    def scatter(self, path, rows, numbers):
+        """Stores a number in each row of a list, in its order. Of a strict view that refuses one, those before it are stored."""
+        numbers = _whole(path, numbers)
+        call, wide = (lly.scatter_u64, numpy.uint64) if numbers.dtype == numpy.uint64 else (lly.scatter, numpy.int64)
+        self._scatter(call, path, rows, numbers, wide)
+
+    def scatter_add(self, path, rows, numbers):
+        """Adds a number, of 64 bits with a sign, to what stands in each row of a list, in its order."""
+        numbers = _whole(path, numbers)
+        if numbers.dtype == numpy.uint64 and numbers.size and numbers.max() >= 2 ** 63:
+            raise OverflowError(f'{numbers.max()} is not below 2^63')
+        self._scatter(lly.scatter_add, path, rows, numbers, numpy.int64)
+
+    def _scatter(self, call, path, rows, numbers, wide):
+        rows, fault = _rows(rows), Fault()
+        numbers = numpy.ascontiguousarray(numpy.broadcast_to(numbers, rows.shape), wide)
+        must(call(self._handle, rows.ctypes.data, rows.size, self._leaves[path][0], numbers.ctypes.data, fault), fault)
 
     def row(self, index):
         """The row of an index, which has as many numbers as there are extents; or that of its number."""
@@ -118,6 +143,12 @@ class View:
         number = _within(-2 ** 63, number)
         call = lly.set_u64 if number >= 2 ** 63 else lly.set
         must(call(self._handle, self.row(row), self._leaves[path][0], number))
+
+    def counts(self, path):
+        """How often a leaf was read, and written, where the layout counts that."""
+        reads, writes = c_uint64(), c_uint64()
+        must(lly.counts(self._handle, self._leaves[path][0], reads, writes))
+        return reads.value, writes.value
 
     def relayout(self, layout):
         """Lays the table out anew."""
@@ -175,6 +206,22 @@ class View:
     def drop(self):
         """Lets the table go before the object does; then every call is refused."""
         lly.drop(self._handle)
+
+
+def _whole(of, numbers):
+    """Whole numbers in an array."""
+    numbers = numpy.asarray(numbers)
+    if numbers.size and numbers.dtype.kind not in 'bui':
+        raise TypeError(f'{of}: {numbers.dtype} is no type of whole numbers')
+    return numbers
+
+
+def _rows(rows):
+    """Rows as calls take them. One below 0 is no row."""
+    rows = _whole('rows', rows)
+    if rows.size and rows.min() < 0:
+        raise OverflowError(f'{rows.min()} is no row')
+    return numpy.ascontiguousarray(rows, numpy.uint64)
 
 
 def _within(least, number):

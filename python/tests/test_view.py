@@ -114,6 +114,29 @@ class OfCalls(unittest.TestCase):
         self.assertRaises(TypeError, self.view.set_run, 'x', 0, [0.5])
         self.assertRaises(ValueError, self.view.__setitem__, 'x', [1, 2])
 
+    def test_counts(self):
+        self.refused(Answer.NO_PLACE, self.view.counts, 'x')
+        self.view.relayout('count(soa(multi, row))')
+        self.view.set(0, 'x', 1)
+        self.view.run('x', 0, 2)
+        self.assertEqual((self.view.counts('x'), self.view.counts('n')), ((2, 7), (0, 6)))
+
+    def test_lists_of_rows(self):
+        rows = [5, 1, 5]
+        self.view.scatter('x', rows, [1, 2, 3])
+        self.view.scatter_add('x', rows, [10, 20, -30])
+        self.assertEqual(list(self.view.gather('x', rows)), [-17, 22, -17])
+        self.view.scatter('big', rows, numpy.array([1, 2, 2 ** 64 - 1], 'u8'))
+        self.assertEqual(self.view.gather('big', numpy.array([5, 0])).tolist(), [2 ** 64 - 1, 0])
+        self.view.scatter_add('n', rows, 1)
+        self.assertEqual(list(self.view['n'].ravel()), [0, 1, 0, 0, 0, 2])
+        self.refused(Answer.RANGE, self.view.scatter_add, 'n', [1, 5], [1, -3], row=5, leaf=1)
+        self.refused(Answer.NO_PLACE, self.view.gather, 'x', [6])
+        self.assertEqual(self.view.gather('x', []).size, 0)
+        self.assertRaises(TypeError, self.view.scatter, 'x', rows, 0.5)
+        self.assertRaises(OverflowError, self.view.gather, 'x', [-1])
+        self.assertRaises(OverflowError, self.view.scatter_add, 'x', rows, numpy.uint64(2 ** 63))
+
     def test_whole_tables(self):
         self.view['x'] = numpy.arange(6).reshape(2, 3)
         self.view.relayout('bitsoa(64, morton)')

@@ -6,6 +6,7 @@ pub mod BlobBytes
 pub mod Commanding
 pub mod Copied
 pub mod Indexing
+pub mod InTurn
 pub mod Making
 pub mod Parts
 pub mod Relaying

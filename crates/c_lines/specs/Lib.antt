@@ -10,5 +10,7 @@ pub mod Faults
 pub mod Messages
 pub mod Values
 pub mod CallerRuns
+pub mod ByRows
+pub mod About
 pub mod Buffers
 pub mod Inner

@@ -2,10 +2,12 @@
 //! caller. What is asked for by lines means what it means in a script.
 #![tactic(auto)]
 
+mod about;
 mod assign;
 mod blob_bytes;
 mod by_index;
 mod by_path;
+mod by_rows;
 mod byte_sink;
 mod commands;
 mod copies;
@@ -26,13 +28,16 @@ mod shown;
 mod slice_sink;
 mod tell;
 mod told;
+mod turns;
 mod unsigned;
 mod update;
 mod values;
 
+pub use about::{counts_of, put_extents, put_path, type_of, value_bits};
 pub use blob_bytes::{blob_count, put_blob};
 pub use by_index::row_of;
 pub use by_path::leaf_of;
+pub use by_rows::{gather, scatter, scatter_add};
 pub use commands::{do_line, in_64};
 pub use copies::copy_into;
 pub use files::{open_view, put_file};

@@ -2,6 +2,7 @@
 ghost use Rattle.std.specs.Prelude.{◌≡◌, ◌+◌, ◌<◌, ◌≤◌, ℤ, Bool, true, length, map, IfOk};
 ghost use Rattle.record_dim.specs.LeafTypes.{IsDeclared};
 ghost use Rattle.record_dim.specs.declared.leaf_type.LeafType.{LeafType};
+ghost use Rattle.piece_bits.specs.Lows.{IsWithin64};
 ghost use Rattle.views.specs.LeafRuns.{run_of};
 ghost use Rattle.views.specs.Tables.{leaf_count_of, leaf_type_of};
 ghost use Rattle.c_lines.specs.CallerRuns.{after_run, IsFrontStored};
@@ -30,6 +31,11 @@ pub trait Number64: Copy {
         requires declared { IsDeclared kind value }
         requires reads { reads kind ≡ true }
         ensures { number result ≡ value };
+
+    /// The number, in a type that has all of them.
+    fn whole(self) -> i128
+        ensures number { result ≡ number self }
+        ensures few { IsWithin64 result };
 
     /// The values of a leaf of such a type in as many rows as there is room for, from one on.
     fn read_run<L: Ledger>(
@@ -75,6 +81,11 @@ impl Number64 for i64 {
     #[inline(always)]
     fn of(_kind: LeafType, value: i128) -> i64 {
         value as i64
+    }
+
+    #[inline(always)]
+    fn whole(self) -> i128 {
+        i128::from(self)
     }
 
     fn read_run<L: Ledger>(

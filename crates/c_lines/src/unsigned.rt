@@ -27,6 +27,11 @@ impl Number64 for u64 {
         value as u64
     }
 
+    #[inline(always)]
+    fn whole(self) -> i128 {
+        i128::from(self)
+    }
+
     fn read_run<L: Ledger>(
         view: &mut View,
         leaf: usize,

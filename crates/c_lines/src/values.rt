@@ -2,7 +2,7 @@
 ghost use Rattle.std.specs.Prelude.{◌≡◌, ◌+◌, ◌<◌, ◌≤◌, true, length, OnOk, OnErr};
 ghost use Rattle.views.specs.Tables.{leaf_count_of, leaf_type_of, after_read, after_write};
 ghost use Rattle.c_lines.specs.Answers.{answer_map};
-ghost use Rattle.c_lines.specs.Values.{is_run, got, was_set};
+ghost use Rattle.c_lines.specs.Values.{is_run, got, store_told, was_set};
 
 use crate::number::Number64;
 use crate::refusal::Refusal;
@@ -56,7 +56,25 @@ pub fn set<L: Ledger>(
         return Err(Refusal::NoPlace);
     }
     let mut steps = Steps::<L>::new(blank);
-    match view.set(row, leaf, value, &mut steps) {
+    put(view, row, leaf, value, &mut steps)
+}
+
+/// The same of a row and a leaf that the view has.
+#[inline(always)]
+pub(crate) fn put<L: Ledger>(
+    view: &mut View,
+    row: u64,
+    leaf: usize,
+    value: i128,
+    steps: &mut Steps<L>,
+) -> Result<(), Refusal>
+    requires row { row < length view.old.rows }
+    requires leaf { leaf < leaf_count_of view.old }
+    ensures told { result ≡ store_told row leaf value view.old }
+    ensures written { OnOk result (view.new ≡ after_write view.old row leaf value) }
+    ensures kept { OnErr result (view.new ≡ view.old) }
+{
+    match view.set(row, leaf, value, steps) {
         Ok(()) => Ok(()),
         Err(fault) => Err(Refusal::of_store(row, leaf, fault)),
     }

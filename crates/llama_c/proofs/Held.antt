@@ -1,12 +1,13 @@
 -- What calls answer by what their handles held.
-use Rattle.std.proofs.Common.{◌≡◌, ⊎_elim, inl, inr, ℕ, ℤ, pos, List, Option, Some, None, Ok, Err, refl, ap, subst, ◌∙◌}
+use Rattle.std.proofs.Common.{◌≡◌, ⊎_elim, inl, inr, ℕ, ℤ, pos, List, Option, Some, None, Ok, Err, refl, ap, subst, ◌∙◌, Bool, true, false, if◌then◌else◌}
 use Rattle.views.specs.Tables.{Table}
-use Rattle.c_lines.specs.Answers.{Answer, Tells, code_of, on_held}
+use Rattle.c_lines.specs.Answers.{Answer, Tells, code_of, on_held, changed_by}
 use Rattle.c_lines.specs.Commands.{DoesLine, in_64}
 use Rattle.c_lines.specs.Faults.{fault_left, fault_of}
 use Rattle.c_lines.specs.declared.refusal.Fault.{Fault}
-use Rattle.c_lines.specs.declared.refusal.Refusal.TheVariants.{NoView, NoMemory}
+use Rattle.c_lines.specs.declared.refusal.Refusal.TheVariants.{NoView, NoMemory, NoPlace, BadType}
 use Rattle.llama_c.specs.Calls.{IsCallDone, IsKernelDone, IsLineDone, IsLineTold, IsMade, IsPutInto, number_or}
+use Rattle.std.specs.Prelude.{OnOk, OnErr}
 
 -- an empty handle has nothing to put into a buffer, and nothing to change
 pub none_put : (told : Table → Answer (List ℕ)) (held : Option Table) (code : ℤ) (buffer : List ℕ) (needed : ℕ) → None ≡ held → code ≡ pos 1
@@ -69,3 +70,23 @@ made_told told made code given old new fault fault_new is same put = record {
   held = put.held;
   fault_is = put.fault_is;
 }
+
+-- what is read where a test passes and the caller takes the type
+abbrev pub read_of : {A : Type 0} → Bool → Bool → A → Answer A
+read_of there takes given = if there then (if takes then Ok given else Err BadType) else Err NoPlace
+
+-- the number of its answer is the same whatever is read
+pub read_code : {A B : Type 0} (there takes : Bool) (x : A) (y : B) → code_of (read_of there takes x) ≡ code_of (read_of there takes y)
+read_code true true x y = refl
+read_code true false x y = refl
+read_code false takes x y = refl
+
+-- and so is the table after it
+pub read_left : {A : Type 0} (there takes : Bool) (x : A) (answer : Answer (Unit {0})) (after old new : Table) → answer ≡ read_of there takes tt → OnOk answer (new ≡ after) → OnErr answer (new ≡ old)
+    → new ≡ changed_by (read_of there takes x) after old
+read_left true true x (Ok done) after old new is read kept = read
+read_left true true x (Err refusal) after old new is read kept = absurd (cc is)
+read_left true false x (Ok done) after old new is read kept = absurd (cc is)
+read_left true false x (Err refusal) after old new is read kept = kept
+read_left false takes x (Ok done) after old new is read kept = absurd (cc is)
+read_left false takes x (Err refusal) after old new is read kept = kept

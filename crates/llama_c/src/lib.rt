@@ -1,9 +1,11 @@
 //! Views for callers in C, each in a handle that owns it. Each call takes the view out of its handle, does its work on it, and puts it back.
 #![tactic(auto)]
 
+mod about;
 mod answers;
 mod box_parts;
 mod buffers;
+mod by_rows;
 mod handle;
 mod lines;
 mod measures;

@@ -1,0 +1,69 @@
+-- Rows of a list in their turn.
+use Rattle.c_lines.proofs.Imports.{◌≡◌, ⊎_elim, ℕ, suc, ◌+◌, ◌<◌, ◌≤◌, Bool, true, false, ℤ, pos, List, [], ◌∷◌, ◌++◌, length, map, take, drop, get_or, Ok, Err, refl, sym, ap, ◌∙◌, arith, cases_Bool, drop-cons, drop_all, list_all, list_all_at, map-append, take_more, take_more_set, Table, kept_of, after_log, after_log-append, after_read, after_write, Access, Read, length-set, leaf_count_of, Answer, Refusal, Turned, done_after, in_turn, changed_by, OnOk, OnErr}
+use Rattle.std.specs.Prelude.{set}
+
+-- a test that each number passes
+pub passes : (test : ℕ → Bool) (numbers : List ℕ) (k : ℕ) → list_all test numbers ≡ true → k < length numbers → test (get_or numbers k 0) ≡ true
+passes test numbers k all inside =
+    ⊎_elim (λ (yes : test (get_or numbers k 0) ≡ true). yes)
+    (λ (no : test (get_or numbers k 0) ≡ false). absurd (let none : true ≡ false = sym all ∙ list_all_at test numbers k 0 inside no in cc none))
+    (cases_Bool (test (get_or numbers k 0)))
+
+-- ---- values that are read
+
+-- one more element of a list, as something else
+pub map_more : {A B : Type 0} (f : A → B) (xs : List A) (k : ℕ) (x : A) → k < length xs → map f (take (k + 1) xs) ≡ map f (take k xs) ++ f (get_or xs k x) ∷ []
+map_more f xs k x inside = ap (map f) (take_more xs k x inside) ∙ map-append f (take k xs) (get_or xs k x ∷ [])
+
+-- and of an array in which it was made
+pub map_made : {A B : Type 0} (f : A → B) (xs : List A) (k : ℕ) (x : A) → k < length xs → map f (take (k + 1) (set xs k x)) ≡ map f (take k xs) ++ f x ∷ []
+map_made f xs k x inside = ap (map f) (take_more_set xs k x inside) ∙ map-append f (take k xs) (x ∷ [])
+
+-- a read after others
+pub read_one : (row leaf : ℕ) (old now new : Table) (log : List Access) → now ≡ after_log old log → new ≡ after_read now row leaf → new ≡ after_log old (log ++ Read row leaf ∷ [])
+read_one row leaf old now new log so_far is = is ∙ ap (λ (t : Table). after_read t row leaf) so_far ∙ after_log-append old log (Read row leaf ∷ [])
+
+-- ---- values that are stored
+
+module _ (store : ℕ → ℤ → Table → Turned) (rows : List ℕ) (values : List ℤ) (k : ℕ) (now : Table) where
+  abbrev here : Turned
+  here = store (get_or rows k 0) (get_or values k (pos 0)) now
+
+  first : k < length rows → k < length values
+      → in_turn store (drop k rows) (drop k values) now ≡ done_after here.answer here.left (in_turn store (drop (suc k) rows) (drop (suc k) values))
+  first row_in value_in =
+      ap (λ (rs : List ℕ). in_turn store rs (drop k values) now) (drop-cons rows k 0 row_in)
+      ∙ ap (λ (vs : List ℤ). in_turn store (get_or rows k 0 ∷ drop (suc k) rows) vs now) (drop-cons values k (pos 0) value_in)
+
+  -- the next one is stored
+  pub turn_done : (next : ℕ) (new : Table) → next ≡ suc k → k < length rows → k < length values → here.answer ≡ Ok tt → new ≡ here.left
+      → in_turn store (drop next rows) (drop next values) new ≡ in_turn store (drop k rows) (drop k values) now
+  turn_done next new at row_in value_in taken left =
+      ap (λ (n : ℕ). in_turn store (drop n rows) (drop n values) new) at ∙ ap (in_turn store (drop (suc k) rows) (drop (suc k) values)) left
+      ∙ sym (first row_in value_in ∙ ap (λ (a : Answer (Unit {0})). done_after a here.left (in_turn store (drop (suc k) rows) (drop (suc k) values))) taken)
+
+  -- or it is refused
+  pub turn_refused : (refusal : Refusal) → k < length rows → k < length values → here.answer ≡ Err refusal
+      → in_turn store (drop k rows) (drop k values) now ≡ record { answer = Err refusal; left = here.left }
+  turn_refused refusal row_in value_in refused =
+      first row_in value_in ∙ ap (λ (a : Answer (Unit {0})). done_after a here.left (in_turn store (drop (suc k) rows) (drop (suc k) values))) refused
+
+  -- none is left
+  pub turns_over : length rows ≤ k → in_turn store (drop k rows) (drop k values) now ≡ record { answer = Ok tt; left = now }
+  turns_over over = ap (λ (rs : List ℕ). in_turn store rs (drop k values) now) (drop_all k rows over)
+
+-- ---- a value that is put somewhere
+
+-- what is left by a store
+pub left_by_store : (told result : Answer (Unit {0})) (after old new : Table) → result ≡ told → OnOk result (new ≡ after) → OnErr result (new ≡ old) → new ≡ changed_by told after old
+left_by_store told (Ok done) after old new is wrote kept = wrote ∙ ap (λ (a : Answer (Unit {0})). changed_by a after old) is
+left_by_store told (Err refusal) after old new is wrote kept = kept ∙ ap (λ (a : Answer (Unit {0})). changed_by a after old) is
+
+-- it keeps the rows, and the record
+pub rows_still : (told : Answer (Unit {0})) (row leaf : ℕ) (value : ℤ) (old new : Table) → new ≡ changed_by told (after_write old row leaf value) old → length new.rows ≡ length old.rows
+rows_still (Ok done) row leaf value old new is = ap (λ (t : Table). length t.rows) is ∙ length-set old.rows row (set (get_or old.rows row []) leaf (kept_of old leaf value))
+rows_still (Err refusal) row leaf value old new is = ap (λ (t : Table). length t.rows) is
+
+pub leaves_still : (told : Answer (Unit {0})) (row leaf : ℕ) (value : ℤ) (old new : Table) → new ≡ changed_by told (after_write old row leaf value) old → leaf_count_of new ≡ leaf_count_of old
+leaves_still (Ok done) row leaf value old new is = ap leaf_count_of is
+leaves_still (Err refusal) row leaf value old new is = ap leaf_count_of is

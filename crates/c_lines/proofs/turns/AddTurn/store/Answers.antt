@@ -1,0 +1,31 @@
+use Rattle.c_lines.proofs.Imports.{rules, ◌≡◌, ℤ, ◌+ℤ◌, SFits, w128, to_z, of_z, to_z-of_z, ap, ◌∙◌, after_read, after_write, entry}
+use Rattle.c_lines.proofs.InTurn.{left_by_store, leaves_still, rows_still}
+use Rattle.c_lines.specs.Values.{store_told}
+use Rattle.c_lines.proofs.turns.AddTurn.store.Goals as goal
+
+pub returns : goal.returns
+returns g c =
+    let row = c.args.row in
+    let leaf = c.args.leaf in
+    let value = c.args.value in
+    let there = c.get-there.result in
+    let old = c.args.view.now in
+    let read = after_read old row leaf in
+    let sum = entry old.rows row leaf +ℤ value in
+    let has : SFits w128 there = search rules in
+    let adds : SFits w128 value = search rules in
+    let fits : SFits w128 (there +ℤ value) = search rules in
+    let plain : to_z w128 (of_z w128 (to_z w128 (of_z w128 there) +ℤ to_z w128 (of_z w128 value))) ≡ sum =
+    ap (λ (v : ℤ). to_z w128 (of_z w128 (v +ℤ to_z w128 (of_z w128 value)))) (to_z-of_z w128 there has)
+    ∙ ap (λ (v : ℤ). to_z w128 (of_z w128 (there +ℤ v))) (to_z-of_z w128 value adds)
+    ∙ to_z-of_z w128 (there +ℤ value) fits ∙ ap (λ (v : ℤ). v +ℤ value) c.get-there.ensures.value in
+    let told = rw (plain, c.get-there.ensures.same) at c.put.ensures.told in
+    let written = rw (plain, c.get-there.ensures.same) at c.put.ensures.written in
+    let kept = rw c.get-there.ensures.same at c.put.ensures.kept in
+    let left = left_by_store (store_told row leaf sum read) c.put.result (after_write read row leaf sum) read c.put.new.view told written kept in
+    record {
+      answer = told;
+      left = left;
+      rows = rows_still (store_told row leaf sum read) row leaf sum read c.put.new.view left;
+      leaves = leaves_still (store_told row leaf sum read) row leaf sum read c.put.new.view left;
+    }

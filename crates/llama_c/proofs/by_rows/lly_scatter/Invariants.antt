@@ -1,0 +1,5 @@
+-- the ledger that the blank opens
+use Rattle.llama_c.proofs.by_rows.lly_scatter.Given as goal
+
+abbrev pub ghosts-scatter : goal.ghosts-scatter
+ghosts-scatter a = record { name = a.blank.name; parts = a.blank.parts }
