@@ -272,7 +272,8 @@ int32_t lly_kernel(lly_view *view, const uint8_t *line, size_t line_len, int64_t
 /* Does a line `set V[..].path = ..`, `update V ..` without actors, `kernel V .. lanes N` or `reduce V ..`. The number that the command writes goes
  * to *number; where it writes none, that stays as it was, and where it is no int64_t the answer is LLY_BAD_TYPE. LLY_RANGE, LLY_NARROW, LLY_OVERFLOW and
  * LLY_DIVIDE_BY_ZERO name the first row that is refused: an update and a kernel have changed exactly the rows before it. Every other refusal
- * leaves all values as they were; what was read up to it may be counted.
+ * leaves all values as they were; what was read up to it may be counted. Other lines are LLY_OTHER_LINE: `relayout` and `copy` have calls of their own,
+ * and `stencil`, `advise` and an update by actors are for scripts alone.
  */
 int32_t lly_do(lly_view *view, const uint8_t *line, size_t line_len, int64_t *number, lly_fault *fault);
 

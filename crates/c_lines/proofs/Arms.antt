@@ -153,10 +153,6 @@ pub front_goes : (table : Table) (filter : Option Value) (sets : List Assignment
 front_goes table filter sets test settings row a b c = rw (a, b, c) refl
 
 -- where its words are refused all rows stay
-pub front_stops : (table : Table) (filter : Option Value) (sets : List Assignment) (row : ℕ) (fault : CommandFault) → updated_front table filter sets row ≡ Err fault →
-    front_left table row (updated_front table filter sets row) ≡ table.rows
-front_stops table filter sets row fault is = rw is refl
-
 pub update_stays : {X : Type 0} (table : Table) (filter : Option Value) (sets : List Assignment) (first : Tested X) (told : Refusal) → Refuses table.fields first told →
     ((fault : CommandFault) (row : ℕ) → first ≡ Err fault → updated_front table filter sets row ≡ Err fault) → HasRows table (front_left table (row_named told) (updated_front table filter sets (row_named told))) table
 update_stays table filter sets first told (inl starved) stops = rw (starved, front_none table filter sets) refl

@@ -28,7 +28,7 @@ none_run told after held new code value fault fault_new empty left is named =
     subst (λ (h : Option Table). IsKernelDone told after h new code value value fault fault_new) empty
     (record { answer = Err NoView; changes = (refl, left); code_is = is; value_is = refl; fault_is = named })
 
--- a line on an empty handle, and one that is done
+-- a line on an empty handle
 pub none_line : (line : List ℕ) (held new : Option Table) (code value : ℤ) (fault fault_new : Fault) → None ≡ held → new ≡ None → code ≡ pos 1 → fault_new ≡ fault_of NoView
     → IsLineDone line held new code value value fault fault_new
 none_line line held new code value fault fault_new empty left is named =
@@ -40,19 +40,6 @@ pub none_text : (line : List ℕ) (held new : Option Table) (code : ℤ) (buffer
 none_text line held new code buffer needed fault fault_new empty left is named =
     subst (λ (h : Option Table). IsLineTold line h new code buffer buffer needed needed fault fault_new) empty
     (record { answer = Err NoView; tells = (refl, left, refl, refl); code_is = is; fault_is = named })
-
-pub line_done : (line : List ℕ) (held new : Option Table) (table left : Table) (answer narrow : Answer (Option ℤ)) (code value value_new : ℤ) (fault fault_new : Fault) → Some table ≡ held → new ≡ Some left
-    → DoesLine line table answer left → narrow ≡ in_64 answer → code ≡ code_of narrow → value_new ≡ number_or value narrow → fault_new ≡ fault_left fault narrow
-    → IsLineDone line held new code value value_new fault fault_new
-line_done line held new table left answer narrow code value value_new fault fault_new full kept does same is value_is named =
-    subst (λ (h : Option Table). IsLineDone line h new code value value_new fault fault_new) full
-    (record {
-      answer = answer;
-      does = record { left = left; holds = does; held = kept };
-      code_is = is ∙ ap (λ (a : Answer (Option ℤ)). code_of a) same;
-      value_is = value_is ∙ ap (λ (a : Answer (Option ℤ)). number_or value a) same;
-      fault_is = named ∙ ap (λ (a : Answer (Option ℤ)). fault_left fault a) same;
-    })
 
 -- what is told of an answer that was told
 tells_twice : (told made answer : Answer Table) → Tells (λ view. view) told made → Tells (λ view. view) made answer → Tells (λ view. view) told answer
