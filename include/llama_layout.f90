@@ -12,7 +12,7 @@ module llama_layout
     enumerator :: LLY_TOO_DEEP = 10, LLY_OTHER_LINE = 11, LLY_LINE_TOO_LONG = 12, LLY_UNKNOWN = 13, LLY_BAD_RECORD = 14
     enumerator :: LLY_BAD_EXTENTS = 15, LLY_BAD_MAPPING = 16, LLY_TOO_BIG = 17, LLY_BAD_KERNEL = 18, LLY_EMPTY = 19
     enumerator :: LLY_MISSING_COLUMN = 20, LLY_COLUMN_TWICE = 21, LLY_SHORT_ROW = 22, LLY_NUMBER = 23, LLY_BAD_FILE = 24
-    enumerator :: LLY_NULL = 25, LLY_SAME = 26
+    enumerator :: LLY_NULL = 25, LLY_SAME = 26, LLY_IRREGULAR = 32
   end enum
 
   ! A view, or none. It is never copied while it holds one, so no variable of this type is assigned to another.
@@ -26,6 +26,14 @@ module llama_layout
     integer(c_int64_t) :: row = 0
     integer(c_size_t) :: leaf = 0
     integer(c_int64_t) :: column = 0
+  end type
+
+  ! Where the numbers of a leaf lie: the header says how. c_f_pointer makes a pointer to an array of a blob.
+  type, bind(c) :: lly_places
+    integer(c_size_t) :: blob = 0
+    integer(c_int64_t) :: bytes = 0, base = 0, lanes = 0, lane = 0, block = 0
+    integer(c_int32_t) :: width = 0
+    logical(c_bool) :: is_signed = .false., is_turned = .false., in_bits = .false., in_digits = .false.
   end type
 
   interface
@@ -205,6 +213,22 @@ module llama_layout
       integer(c_size_t), value :: blob, bytes_len
       character(kind=c_char), intent(inout) :: bytes(*)
       integer(c_size_t), intent(inout) :: needed
+    end function
+
+    integer(c_int32_t) function lly_place(view, leaf, places, fault) bind(c)
+      import
+      type(lly_view), intent(inout) :: view
+      integer(c_size_t), value :: leaf
+      type(lly_places), intent(inout) :: places
+      type(lly_fault), intent(inout) :: fault
+    end function
+
+    integer(c_int32_t) function lly_blob_at(view, blob, bytes, length) bind(c)
+      import
+      type(lly_view), intent(inout) :: view
+      integer(c_size_t), value :: blob
+      type(c_ptr), intent(inout) :: bytes
+      integer(c_size_t), intent(inout) :: length
     end function
   end interface
 end module

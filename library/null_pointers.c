@@ -30,6 +30,8 @@ PROVED(kernel);
 PROVED(print);
 PROVED(save);
 PROVED(blob);
+PROVED(place);
+PROVED(blob_at);
 
 /* An array of length 0 may be NULL; the proved calls want a place all the same, which they do not touch. */
 static uint64_t nothing[1];
@@ -135,4 +137,12 @@ int32_t lly_save(lly_view *view, uint8_t *bytes, size_t bytes_len, size_t *neede
 
 int32_t lly_blob(lly_view *view, size_t blob, uint8_t *bytes, size_t bytes_len, size_t *needed) {
     return view && needed && IS_ARRAY(bytes, bytes_len) ? proved_lly_blob(view, blob, ARRAY(bytes), bytes_len, needed) : LLY_NULL;
+}
+
+int32_t lly_place(lly_view *view, size_t leaf, lly_places *places, lly_fault *fault) {
+    return view && places && fault ? proved_lly_place(view, leaf, places, fault) : LLY_NULL;
+}
+
+int32_t lly_blob_at(lly_view *view, size_t blob, const uint8_t **bytes, size_t *length) {
+    return view && bytes && length ? proved_lly_blob_at(view, blob, bytes, length) : LLY_NULL;
 }

@@ -5,7 +5,7 @@ LLAMA_LAYOUT_LIBRARY names the library; without it the system finds libllama_lay
 import ctypes
 import enum
 import os
-from ctypes import POINTER, c_bool, c_char_p, c_int32, c_int64, c_size_t, c_uint64, c_void_p
+from ctypes import POINTER, c_bool, c_char_p, c_int32, c_int64, c_size_t, c_uint32, c_uint64, c_void_p
 
 MAJOR = 1
 LIBRARY = os.environ.get('LLAMA_LAYOUT_LIBRARY', f'libllama_layout.so.{MAJOR}')
@@ -57,6 +57,7 @@ class Answer(enum.IntEnum):
         'the bytes behind the header are not as many as those of the blobs', 'they are not the image of rows that such a view may hold')
     NULL = 25, 'a pointer is NULL'
     SAME = 26, 'both handles are one'
+    IRREGULAR = 32, 'the numbers of the leaf lie as no lly_places says, or accesses to them are counted'
 
 
 class Handle(ctypes.Structure):
@@ -71,6 +72,12 @@ class Handle(ctypes.Structure):
 
 class Fault(ctypes.Structure):
     _fields_ = [('cause', c_int32), ('row', c_uint64), ('leaf', c_size_t), ('column', c_uint64)]
+
+
+class Places(ctypes.Structure):
+    _fields_ = [
+        ('blob', c_size_t), ('bytes', c_uint64), ('base', c_uint64), ('lanes', c_uint64), ('lane', c_uint64), ('block', c_uint64), ('width', c_uint32),
+        ('is_signed', c_bool), ('is_turned', c_bool), ('in_bits', c_bool), ('in_digits', c_bool)]
 
 
 class Refused(ValueError):
@@ -90,7 +97,8 @@ _PROTOTYPES = {
     'get': (_VIEW, c_uint64, c_size_t, _NUMBER), 'get_u64': (_VIEW, c_uint64, c_size_t, _ROW), 'set': (_VIEW, c_uint64, c_size_t, c_int64),
     'set_u64': (_VIEW, c_uint64, c_size_t, c_uint64), 'get_run': (_VIEW, *_RUN), 'get_run_u64': (_VIEW, *_RUN), 'set_run': (_VIEW, *_RUN, _FAULT),
     'set_run_u64': (_VIEW, *_RUN, _FAULT), 'copy': (_VIEW, _VIEW, _FAULT), 'relayout': (_VIEW, *_TEXT, _FAULT), 'kernel': (_VIEW, *_TEXT, _NUMBER, _FAULT),
-    'print': (_VIEW, *_BUFFER), 'save': (_VIEW, *_BUFFER), 'blob': (_VIEW, c_size_t, *_BUFFER),
+    'print': (_VIEW, *_BUFFER), 'save': (_VIEW, *_BUFFER), 'blob': (_VIEW, c_size_t, *_BUFFER), 'place': (_VIEW, c_size_t, POINTER(Places), _FAULT),
+    'blob_at': (_VIEW, c_size_t, POINTER(c_void_p), _SIZE),
 }
 
 

@@ -2,7 +2,7 @@
 use Rattle.std.specs.Prelude.{◌≡◌, ◌⊎◌, ℤ, pos, Option, Some, None, option_map, Result, Ok, Err}
 use Rattle.views.specs.Tables.{Table}
 use Rattle.c_lines.specs.declared.refusal.Refusal.{Refusal}
-use Rattle.c_lines.specs.declared.refusal.Refusal.TheVariants.{NoView, NoPlace, NoMemory, NoRoom, BadType, Range, Narrow, Mismatch, Syntax, TooDeep, OtherLine, LineTooLong, Unknown, BadRecord, BadExtents, BadMapping, TooBig, BadKernel, Empty, MissingColumn, ColumnTwice, ShortRow, Number, BadFile}
+use Rattle.c_lines.specs.declared.refusal.Refusal.TheVariants.{NoView, NoPlace, NoMemory, NoRoom, BadType, Range, Narrow, Mismatch, Syntax, TooDeep, OtherLine, LineTooLong, Unknown, BadRecord, BadExtents, BadMapping, TooBig, BadKernel, Empty, MissingColumn, ColumnTwice, ShortRow, Number, BadFile, Irregular}
 
 -- an answer that gives an `A`
 abbrev pub Answer : Type 0 → Type 0
@@ -34,6 +34,7 @@ refusal_number (ColumnTwice leaf) = pos 21
 refusal_number (ShortRow row leaf) = pos 22
 refusal_number (Number row leaf) = pos 23
 refusal_number (BadFile bad) = pos 24
+refusal_number (Irregular leaf) = pos 32
 
 -- the number of an answer in C
 abbrev pub code_of : {A : Type 0} → Answer A → ℤ

@@ -9,4 +9,5 @@ pub mod Faults
 pub mod Values
 pub mod CallerRuns
 pub mod Buffers
+pub mod Placed
 pub mod Inner

@@ -2,6 +2,7 @@
 //! caller. What is asked for by lines means what it means in a script.
 #![tactic(auto)]
 
+mod addresses;
 mod blob_bytes;
 mod by_index;
 mod by_path;
@@ -14,6 +15,7 @@ mod laws;
 mod lines;
 mod make;
 mod number;
+mod placed;
 mod print;
 mod refusal;
 mod relayout;
@@ -23,6 +25,7 @@ mod told;
 mod unsigned;
 mod values;
 
+pub use addresses::{BytesAt, blob_at};
 pub use blob_bytes::{blob_count, put_blob};
 pub use by_index::row_of;
 pub use by_path::leaf_of;
@@ -32,6 +35,7 @@ pub use kernels::run_kernel;
 pub use laws::lines_agree;
 pub use make::{loaded_view, new_view};
 pub use number::Number64;
+pub use placed::place;
 pub use print::put_table;
 pub use refusal::{DONE, Fault, Refusal, TextOf};
 pub use relayout::lay_anew;

@@ -64,6 +64,8 @@ pub enum Refusal {
     /// The field of the dataset is no number.
     Number { row: u64, leaf: usize },
     BadFile(BadFile),
+    /// The numbers of the leaf lie as no place says, or the accesses to it are counted.
+    Irregular { leaf: usize },
 }
 
 /// What C learns of a refusal beside its number: which of several causes it is, and where. What a refusal does not have is 0.
@@ -106,6 +108,7 @@ impl Refusal {
             Refusal::ShortRow { .. } => 22,
             Refusal::Number { .. } => 23,
             Refusal::BadFile(_) => 24,
+            Refusal::Irregular { .. } => 32,
         }
     }
 
@@ -161,6 +164,7 @@ impl Refusal {
             Refusal::ColumnTwice { leaf } => leaf,
             Refusal::ShortRow { leaf, .. } => leaf,
             Refusal::Number { leaf, .. } => leaf,
+            Refusal::Irregular { leaf } => leaf,
             _ => 0,
         }
     }

@@ -7,6 +7,7 @@ mod buffers;
 mod handle;
 mod measures;
 mod part;
+mod placed;
 mod runs;
 mod tables;
 mod values;
