@@ -25,7 +25,7 @@ library:
 install-library:
 	@[ -e lib/libllama_layout.a ] || tools/library lib
 	install -d $(below)/include $(below)/lib/pkgconfig $(below)/lib/cmake/llama_layout
-	install -m 644 include/llama_layout.h include/llama_layout.hpp include/llama_layout.f90 $(below)/include
+	install -m 644 include/llama_layout.h include/llama_layout_places.h include/llama_layout.hpp include/llama_layout.f90 $(below)/include
 	install -m 644 lib/libllama_layout.a $(below)/lib
 	cp -P lib/libllama_layout.so lib/libllama_layout.so.* $(below)/lib
 	install -m 644 lib/llama_layout.pc $(below)/lib/pkgconfig

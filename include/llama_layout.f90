@@ -13,7 +13,7 @@ module llama_layout
     enumerator :: LLY_BAD_EXTENTS = 15, LLY_BAD_MAPPING = 16, LLY_TOO_BIG = 17, LLY_BAD_KERNEL = 18, LLY_EMPTY = 19
     enumerator :: LLY_MISSING_COLUMN = 20, LLY_COLUMN_TWICE = 21, LLY_SHORT_ROW = 22, LLY_NUMBER = 23, LLY_BAD_FILE = 24
     enumerator :: LLY_NULL = 25, LLY_SAME = 26, LLY_TWICE = 27, LLY_OVERFLOW = 28, LLY_DIVIDE_BY_ZERO = 29
-    enumerator :: LLY_NOT_COUNTED = 30, LLY_BAD_WINDOW = 31
+    enumerator :: LLY_NOT_COUNTED = 30, LLY_BAD_WINDOW = 31, LLY_IRREGULAR = 32
   end enum
 
   ! A view, or none. It is never copied while it holds one, so no variable of this type is assigned to another.
@@ -27,6 +27,14 @@ module llama_layout
     integer(c_int64_t) :: row = 0
     integer(c_size_t) :: leaf = 0
     integer(c_int64_t) :: column = 0
+  end type
+
+  ! Where the numbers of a leaf lie: the header says how. c_f_pointer makes a pointer to an array of a blob.
+  type, bind(c) :: lly_places
+    integer(c_size_t) :: blob = 0
+    integer(c_int64_t) :: bytes = 0, base = 0, lanes = 0, lane = 0, block = 0
+    integer(c_int32_t) :: width = 0
+    logical(c_bool) :: is_signed = .false., is_turned = .false., in_bits = .false., in_digits = .false.
   end type
 
   interface
@@ -308,6 +316,22 @@ module llama_layout
       character(kind=c_char), intent(inout) :: text(*)
       integer(c_size_t), value :: text_len
       integer(c_size_t), intent(inout) :: needed
+    end function
+
+    integer(c_int32_t) function lly_place(view, leaf, places, fault) bind(c)
+      import
+      type(lly_view), intent(inout) :: view
+      integer(c_size_t), value :: leaf
+      type(lly_places), intent(inout) :: places
+      type(lly_fault), intent(inout) :: fault
+    end function
+
+    integer(c_int32_t) function lly_blob_at(view, blob, bytes, length) bind(c)
+      import
+      type(lly_view), intent(inout) :: view
+      integer(c_size_t), value :: blob
+      type(c_ptr), intent(inout) :: bytes
+      integer(c_size_t), intent(inout) :: length
     end function
   end interface
 end module

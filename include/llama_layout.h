@@ -81,7 +81,8 @@ enum {
     LLY_OVERFLOW = 28,       /* a result of an expression lies outside of 128 bits: row */
     LLY_DIVIDE_BY_ZERO = 29, /* a divisor in an expression is 0: row */
     LLY_NOT_COUNTED = 30,    /* the view counts no accesses */
-    LLY_BAD_WINDOW = 31      /* the spans are no window of the extents */
+    LLY_BAD_WINDOW = 31,     /* the spans are no window of the extents */
+    LLY_IRREGULAR = 32       /* the numbers of the leaf lie as no lly_places says, or accesses to them are counted: leaf */
 };
 
 /* The cause in a fault of LLY_SYNTAX, LLY_TOO_DEEP, LLY_OTHER_LINE and LLY_LINE_TOO_LONG: which text of the call it is. */
@@ -299,6 +300,53 @@ int32_t lly_blob(lly_view *view, size_t blob, uint8_t *bytes, size_t bytes_len, 
 /* The words of an answer and of the fault that came with it, as `Range record 3 leaf 1`: those that a script prints where a script has some, but a leaf
  * is its number and a name is left out. A call without a fault has LLY_NO_FAULT. LLY_NO_PLACE where no call answers so. */
 int32_t lly_message(int32_t answer, const lly_fault *fault, uint8_t *text, size_t text_len, size_t *needed);
+
+/* ---- Numbers without a call: where those of a leaf lie is asked once, and a loop reads them. llama_layout_places.h has C that does. What the caller owes:
+ * - The bytes are read, and never written.
+ * - They lie where lly_blob_at says until the handle is handed to lly_new, lly_load, lly_open, lly_relayout or lly_drop. No other call moves them.
+ * - lly_set and its like, lly_copy into the view and lly_kernel change them, so nobody reads while such a call runs. Beside other calls, and where there is none,
+ *   any number of threads may read.
+ * - Places are used with the blob that they name, of the view that they were told of or a whole copy of it, and for rows of that view.
+ * - The machine stores the least significant byte first, as all do for which the library is built.
+ */
+
+/* Where the numbers of a leaf lie. Rows go in groups of `lanes`, the last of which may not be full. The number in row r begins at
+ *
+ *     base + r / lanes * block + r % lanes * lane
+ *
+ * and where in_digits is true at base + z * block, where z has the binary digits of r / lanes and of r % lanes in turn, those of r % lanes first: Morton order.
+ * That is a byte of the blob, or where in_bits is true a bit; bit k of a blob is bit k % 8 of its byte k / 8. The number has `width` bits from there on.
+ * Where is_turned is false the least significant come first, else the most significant byte does.
+ * Where all rows lie evenly, as under aos and soa, they are one group, and the number in row r begins at base + r * lane.
+ *
+ * It is proved that in each row these are the places of the mapping, and that what stands there is the number that lly_get reads, whatever numbers the view
+ * gets. It is so until another table is put into the handle.
+ */
+typedef struct lly_places {
+    size_t blob;    /* the blob, and how many bytes it has */
+    uint64_t bytes;
+    uint64_t base;  /* where the number in row 0 begins */
+    uint64_t lanes; /* how many rows a group has, at least 1 */
+    uint64_t lane;  /* from a row to the next in its group */
+    uint64_t block; /* from a group to the next */
+    uint32_t width; /* 8, 16, 32 or 64; in bits 1 to 57 */
+    bool is_signed; /* the top bit is a sign */
+    bool is_turned;
+    bool in_bits;
+    bool in_digits;
+} lly_places;
+
+/* The places of a leaf. LLY_NO_PLACE where there is no such leaf. LLY_IRREGULAR where accesses are counted, where `change` stores the leaf in another sign
+ * than that of its type, and where no lly_places say where it lies. Exactly then, so that under aos, soa, aosoa, bitaos, bitsoa and byteswap there are
+ * places of every leaf; but in Morton order, and of a view without rows, it may be answered though there are. On a refusal *places stays as it was.
+ * It takes no memory. Under most layouts it looks at no row, and else at each.
+ */
+int32_t lly_place(lly_view *view, size_t leaf, lly_places *places, lly_fault *fault);
+
+/* Where the bytes of a blob lie: *bytes is the first of them, and *length how many they are; of none *bytes is NULL. LLY_NO_PLACE where there is no such
+ * blob, and both stay as they were. That *bytes is the address is tested: no contract of the toolchain speaks of addresses.
+ */
+int32_t lly_blob_at(lly_view *view, size_t blob, const uint8_t **bytes, size_t *length);
 
 #ifdef __cplusplus
 }

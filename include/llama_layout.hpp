@@ -4,6 +4,8 @@
 
 #include <cstddef>
 #include <cstdint>
+#include <cstring>
+#include <iterator>
 #include <initializer_list>
 #include <new>
 #include <stdexcept>
@@ -14,6 +16,7 @@
 #include <vector>
 
 #include "llama_layout.h"
+#include "llama_layout_places.h"
 
 namespace lly {
 
@@ -52,6 +55,7 @@ inline const char *message(std::int32_t answer) noexcept {
     case LLY_DIVIDE_BY_ZERO: return "a divisor in an expression is 0";
     case LLY_NOT_COUNTED: return "the view counts no accesses";
     case LLY_BAD_WINDOW: return "the spans are no window of the extents";
+    case LLY_IRREGULAR: return "the numbers of the leaf lie as no lly_places says, or accesses to them are counted";
     default: return "an answer of a later version";
     }
 }
@@ -74,6 +78,193 @@ public:
 private:
     std::int32_t answer_;
     lly_fault fault_;
+};
+
+/// Numbers that lie evenly, in rows one after another. How one is read is known to the compiler; so is how far they lie apart in a dense run, and how many
+/// they are in a group of `Rows`.
+template <typename Number, typename Read, std::uint64_t Rows = 0>
+class run {
+public:
+    class iterator {
+    public:
+        using iterator_category = std::input_iterator_tag;
+        using value_type = Number;
+        using difference_type = std::ptrdiff_t;
+        using pointer = const Number *;
+        using reference = Number;
+
+        iterator(const run &of, typename Read::cursor at) : of_(&of), at_(at) {}
+        Number operator*() const { return of_->read_(of_->blob_, of_->spot_, at_); }
+        iterator &operator++() {
+            at_ += Read::step(of_->apart_);
+            return *this;
+        }
+        iterator operator++(int) {
+            const iterator old = *this;
+            ++*this;
+            return old;
+        }
+        bool operator==(const iterator &other) const { return at_ == other.at_; }
+        bool operator!=(const iterator &other) const { return at_ != other.at_; }
+
+    private:
+        const run *of_;
+        typename Read::cursor at_;
+    };
+
+    run(const std::uint8_t *blob, std::uint64_t first, std::uint64_t spot, std::uint64_t apart, std::uint64_t rows, Read read)
+        : blob_(blob), first_(first), spot_(spot), apart_(apart ? apart : 1), rows_(rows), read_(read) {}
+
+    /// The row of the view that is its first, and how many it has.
+    std::uint64_t first() const { return first_; }
+    std::uint64_t size() const { return Rows ? Rows : rows_; }
+    Number operator[](std::uint64_t row) const { return read_(blob_, spot_, at(row)); }
+    iterator begin() const { return {*this, at(0)}; }
+    iterator end() const { return {*this, at(size())}; }
+
+private:
+    typename Read::cursor at(std::uint64_t row) const { return Read::first(blob_, spot_) + row * Read::step(apart_); }
+
+    const std::uint8_t *blob_;
+    std::uint64_t first_, spot_, apart_, rows_;
+    Read read_;
+};
+
+// How a number is read where a cursor stands: whole bytes by their addresses, and in a dense run by their number, of which compilers make loops over vectors; the
+// same in reverse order, and fields near the end of a blob, by a load that does not pass it; other fields.
+#ifdef __GNUC__
+// A load by the number's own type, at whatever address: so a loop that stores numbers of another type needs no tests whether the two overlap.
+template <typename Number>
+Number loaded(const std::uint8_t *at) {
+    using loose [[gnu::aligned(1)]] = const Number;
+    return *reinterpret_cast<loose *>(at);
+}
+#else
+template <typename Number>
+Number loaded(const std::uint8_t *at) {
+    Number number;
+    std::memcpy(&number, at, sizeof number);
+    return number;
+}
+#endif
+
+template <typename Number>
+struct read_whole {
+    using cursor = const std::uint8_t *;
+    static cursor first(const std::uint8_t *blob, std::uint64_t spot) { return blob + spot; }
+    static std::uint64_t step(std::uint64_t apart) { return apart; }
+    Number operator()(const std::uint8_t *, std::uint64_t, cursor at) const { return loaded<Number>(at); }
+};
+
+template <typename Number>
+struct read_dense {
+    using cursor = std::uint64_t;
+    static cursor first(const std::uint8_t *, std::uint64_t) { return 0; }
+    static std::uint64_t step(std::uint64_t) { return 1; }
+    Number operator()(const std::uint8_t *blob, std::uint64_t spot, cursor row) const { return loaded<Number>(blob + spot + row * sizeof(Number)); }
+};
+
+struct by_spots {
+    using cursor = std::uint64_t;
+    static cursor first(const std::uint8_t *, std::uint64_t spot) { return spot; }
+    static std::uint64_t step(std::uint64_t apart) { return apart; }
+};
+
+template <typename Number>
+struct read_any : by_spots {
+    lly_places places;
+    explicit read_any(const lly_places &places) : places(places) {}
+    Number operator()(const std::uint8_t *blob, std::uint64_t, cursor spot) const { return static_cast<Number>(lly_number_at(blob, &places, spot)); }
+};
+
+template <typename Number>
+struct read_field : by_spots {
+    std::uint64_t ones, half;
+    read_field(std::uint64_t ones, std::uint64_t half) : ones(ones), half(half) {}
+    Number operator()(const std::uint8_t *blob, std::uint64_t, cursor bit) const {
+        std::uint64_t word;
+        std::memcpy(&word, blob + bit / 8, sizeof word);
+        return static_cast<Number>((((word >> bit % 8) & ones) ^ half) - half);
+    }
+};
+
+/// The numbers of a leaf where they lie, as an object that copies nothing and makes no call. It is of use as long as lly_blob_at says of its view.
+template <typename Number>
+class column {
+public:
+    column(const std::uint8_t *blob, const lly_places &places, std::uint64_t rows) : blob_(blob), places_(places), rows_(rows) {
+        static_assert(std::is_integral_v<Number>, "a view holds whole numbers");
+        const std::size_t bits = 8 * sizeof(Number);
+        if (std::is_signed_v<Number> != places.is_signed || (places.in_bits ? bits < places.width : bits != places.width)) {
+            throw error(LLY_BAD_TYPE, LLY_NO_FAULT);
+        }
+    }
+
+    std::uint64_t size() const { return rows_; }
+    const lly_places &places() const { return places_; }
+    Number operator[](std::uint64_t row) const { return static_cast<Number>(lly_number(blob_, &places_, row)); }
+
+    /// Hands all rows on, in their order, by runs that lie evenly. Each is of one of several types, so the function is a generic one:
+    /// `column.runs([&](auto numbers) { for (const auto number : numbers) { .. } })`.
+    template <typename Each>
+    void runs(Each each) const {
+        if (places_.in_bits) {
+            by_fields(each);
+        } else if (places_.in_digits || places_.is_turned) {
+            by(read_any<Number>(places_), each);
+        } else if (places_.lane != sizeof(Number)) {
+            by(read_whole<Number>(), each);
+        } else if (places_.lanes == 8) {
+            by_groups<8>(each);
+        } else if (places_.lanes == 16) {
+            by_groups<16>(each);
+        } else {
+            by(read_dense<Number>(), each);
+        }
+    }
+
+private:
+    template <typename Read, typename Each>
+    void by(Read read, Each &each) const {
+        for (std::uint64_t row = 0, count; row < rows_; row += count) {
+            count = lly_even(&places_, row, rows_ - row);
+            each(run<Number, Read>(blob_, row, lly_spot(&places_, row), places_.lane, count, read));
+        }
+    }
+
+    // Dense groups of as many rows, and what is left behind the last full one.
+    template <std::uint64_t Rows, typename Each>
+    void by_groups(Each &each) const {
+        std::uint64_t row = 0, spot = places_.base;
+        for (; rows_ - row >= Rows; row += Rows, spot += places_.block) {
+            each(run<Number, read_dense<Number>, Rows>(blob_, row, spot, sizeof(Number), Rows, {}));
+        }
+        if (row < rows_) {
+            each(run<Number, read_dense<Number>>(blob_, row, spot, sizeof(Number), rows_ - row, {}));
+        }
+    }
+
+    // Of the fields of a run those go first of which eight bytes lie in the blob.
+    template <typename Each>
+    void by_fields(Each &each) const {
+        const read_field<Number> near(~(~std::uint64_t(0) << places_.width), places_.is_signed ? std::uint64_t(1) << (places_.width - 1) : 0);
+        const read_any<Number> last(places_);
+        const std::uint64_t end = places_.bytes < 8 ? 0 : 8 * (places_.bytes - 7);
+        for (std::uint64_t row = 0, count; row < rows_; row += count) {
+            count = lly_even(&places_, row, rows_ - row);
+            const std::uint64_t spot = lly_spot(&places_, row), lane = places_.lane;
+            const std::uint64_t inside = spot >= end ? 0 : lane == 0 ? count : (end - spot - 1) / lane + 1;
+            const std::uint64_t sure = inside < count ? inside : count;
+            each(run<Number, read_field<Number>>(blob_, row, spot, lane, sure, near));
+            if (sure < count) {
+                each(run<Number, read_any<Number>>(blob_, row + sure, spot + sure * lane, lane, count - sure, last));
+            }
+        }
+    }
+
+    const std::uint8_t *blob_;
+    lly_places places_;
+    std::uint64_t rows_;
 };
 
 /// A view, which is moved and never copied, and goes with its object. Numbers are `std::int64_t` or, of leaves of `u64`, `std::uint64_t`.
@@ -218,6 +409,22 @@ public:
     void scatter_add(const std::vector<std::uint64_t> &rows, std::size_t leaf, const std::vector<std::int64_t> &values) {
         must(values.size() == rows.size() ? LLY_DONE : LLY_NO_PLACE);
         checked([&](lly_fault *fault) { return lly_scatter_add(&handle_, rows.data(), rows.size(), leaf, values.data(), fault); });
+    }
+
+    /// The numbers of a leaf where they lie. The type is that in which they are stored; of a field of bits it is as wide or wider.
+    template <typename Number = std::int64_t>
+    lly::column<Number> column(std::size_t leaf) {
+        lly_places places;
+        checked([&](lly_fault *fault) { return lly_place(&handle_, leaf, &places, fault); });
+        const std::uint8_t *blob = nullptr;
+        std::size_t length = 0;
+        must(lly_blob_at(&handle_, places.blob, &blob, &length));
+        return {blob, places, rows()};
+    }
+
+    template <typename Number = std::int64_t>
+    lly::column<Number> column(std::string_view path) {
+        return column<Number>(leaf(path));
     }
 
     void copy_to(view &target) {

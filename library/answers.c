@@ -7,6 +7,7 @@
 #include <string.h>
 
 #include "llama_layout.h"
+#include "llama_layout_places.h"
 
 static int differs = 0;
 
@@ -719,11 +720,118 @@ static void bytes_are_copied_out(void) {
     lly_drop(&again);
 }
 
+/* Each leaf of RECORD in each row, with numbers of both signs and of all bits, as a place reads it and as a call does. */
+static void expect_numbers(int line, lly_view *view, size_t leaf) {
+    static const int64_t values[] = {0, -1, 1, INT64_MAX, INT64_MIN, 0x123456789abcdef};
+    lly_column column;
+    lly_fault fault;
+    uint64_t row;
+    for (row = 0; row < 6; row++) {
+        EXPECT(lly_set_u64(view, row, leaf, (uint64_t)values[row]), LLY_DONE);
+    }
+    EXPECT(lly_column_of(view, leaf, &column, &fault), LLY_DONE);
+    for (row = 0; row < 6; row++) {
+        int64_t read = 0;
+        const int32_t answer = leaf == 3 ? lly_get_u64(view, row, leaf, (uint64_t *)&read) : lly_get(view, row, leaf, &read);
+        if (answer != LLY_DONE || lly_number(column.blob, &column.places, row) != read) {
+            printf("line %d: the number of leaf %zu in row %" PRIu64 " is read as another\n", line, leaf, row);
+            differs = 1;
+        }
+    }
+}
+
+/* The places of a leaf, field by field, and its numbers. */
+static void expect_places(int line, lly_view *view, size_t leaf, lly_places due) {
+    lly_places is;
+    lly_fault fault = UNTOUCHED;
+    const int32_t answer = lly_place(view, leaf, &is, &fault);
+    if (answer != LLY_DONE || is.blob != due.blob || is.bytes != due.bytes || is.base != due.base || is.lanes != due.lanes || is.lane != due.lane || is.block != due.block
+        || is.width != due.width || is.is_signed != due.is_signed || is.is_turned != due.is_turned || is.in_bits != due.in_bits || is.in_digits != due.in_digits) {
+        printf("line %d: the places are answered by %" PRId32 ", or others: %zu, %" PRIu64 ", %" PRIu64 ", %" PRIu64 " %" PRIu64 " %" PRIu64 ", %" PRIu32 ", %d%d%d%d\n", line, answer,
+               is.blob, is.bytes, is.base, is.lanes, is.lane, is.block, is.width, is.is_signed, is.is_turned, is.in_bits, is.in_digits);
+        differs = 1;
+        return;
+    }
+    EXPECT_NO_FAULT();
+    expect_numbers(line, view, leaf);
+}
+
+#define EXPECT_PLACES(leaf, ...) expect_places(__LINE__, &view, leaf, (lly_places){__VA_ARGS__})
+
+static void expect_irregular(int line, const char *how) {
+    lly_view view = LLY_NONE;
+    lly_fault fault = UNTOUCHED;
+    lly_places places;
+    memset(&places, 7, sizeof places);
+    make(&view, RECORD, how);
+    if (lly_place(&view, 3, &places, &fault) != LLY_IRREGULAR || places.lanes != UINT64_C(0x0707070707070707)) {
+        printf("line %d: there are places, or what was there is lost\n", line);
+        differs = 1;
+    }
+    expect_fault(line, &fault, 0, 0, 3, 0);
+    lly_drop(&view);
+}
+
+/* The places of the leaves, worked out from what docs/LAYOUTS.md says of each form: a record has 15 bytes, and 6 rows are over 2 lines and 3 columns. */
+static void numbers_are_read_by_places(void) {
+    lly_view view = LLY_NONE;
+    lly_fault fault = UNTOUCHED;
+    lly_places places;
+    const uint8_t *bytes = NULL;
+    size_t length = 9;
+    EXPECT(lly_place(&view, 0, &places, &fault), LLY_NO_VIEW);
+    EXPECT_FAULT(0, 0, 0, 0);
+    EXPECT(lly_blob_at(&view, 0, &bytes, &length), LLY_NO_VIEW);
+    make(&view, RECORD, "view V : P [2, 3] wrap as aos(packed, row)");
+    EXPECT_PLACES(0, 0, 90, 0, 6, 15, 0, 32, true, false, false, false);
+    EXPECT_PLACES(1, 0, 90, 4, 6, 15, 0, 16, false, false, false, false);
+    EXPECT_PLACES(2, 0, 90, 6, 6, 15, 0, 8, false, false, false, false);
+    EXPECT_PLACES(3, 0, 90, 7, 6, 15, 0, 64, false, false, false, false);
+    EXPECT(lly_place(&view, 4, &places, &fault), LLY_NO_PLACE);
+    EXPECT(lly_blob_at(&view, 1, &bytes, &length), LLY_NO_PLACE);
+    EXPECT(length, 9);
+    EXPECT(bytes == NULL, true);
+    EXPECT(lly_blob_at(&view, 0, &bytes, &length), LLY_DONE);
+    EXPECT(length, 90);
+    make(&view, RECORD, "view V : P [2, 3] wrap as aos(aligned, row)");
+    EXPECT_PLACES(3, 0, 96, 8, 6, 16, 0, 64, false, false, false, false);
+    make(&view, RECORD, "view V : P [2, 3] wrap as soa(multi, row)");
+    EXPECT_PLACES(1, 1, 12, 0, 6, 2, 0, 16, false, false, false, false);
+    make(&view, RECORD, "view V : P [2, 3] wrap as soa(single, row)");
+    EXPECT_PLACES(3, 0, 90, 42, 6, 8, 0, 64, false, false, false, false);
+    make(&view, RECORD, "view V : P [2, 3] wrap as aosoa(4, row)");
+    EXPECT_PLACES(0, 0, 120, 0, 4, 4, 60, 32, true, false, false, false);
+    EXPECT_PLACES(3, 0, 120, 28, 4, 8, 60, 64, false, false, false, false);
+    make(&view, RECORD, "view V : P [2, 3] wrap as aosoa(3, row)");
+    EXPECT_PLACES(3, 0, 90, 21, 3, 8, 45, 64, false, false, false, false);
+    make(&view, RECORD, "view V : P [2, 1, 3] wrap as soa(multi, col)");
+    EXPECT_PLACES(3, 3, 48, 0, 3, 16, 8, 64, false, false, false, false);
+    make(&view, RECORD, "view V : P [2, 3] wrap as soa(multi, col)");
+    EXPECT_PLACES(0, 0, 24, 0, 3, 8, 4, 32, true, false, false, false);
+    make(&view, RECORD, "view V : P [2, 3] wrap as soa(multi, morton)");
+    EXPECT_PLACES(0, 0, 64, 0, 3, 0, 4, 32, true, false, false, true);
+    make(&view, RECORD, "view V : P [2, 3] wrap as bitaos(5, row)");
+    EXPECT_PLACES(0, 0, 16, 0, 6, 20, 0, 5, true, false, true, false);
+    EXPECT_PLACES(3, 0, 16, 15, 6, 20, 0, 5, false, false, true, false);
+    make(&view, RECORD, "view V : P [2, 3] wrap as bitsoa(57, row)");
+    EXPECT_PLACES(3, 3, 48, 0, 6, 57, 0, 57, false, false, true, false);
+    make(&view, RECORD, "view V : P [2, 3] wrap as byteswap(aos(packed, row))");
+    EXPECT_PLACES(0, 0, 90, 0, 6, 15, 0, 32, true, true, false, false);
+    EXPECT_PLACES(2, 0, 90, 6, 6, 15, 0, 8, false, false, false, false);
+    EXPECT_PLACES(3, 0, 90, 7, 6, 15, 0, 64, false, true, false, false);
+    lly_drop(&view);
+    expect_irregular(__LINE__, "view V : P [2, 3] as count(aos(packed, row))");
+    expect_irregular(__LINE__, "view V : P [2, 3] as bytesplit(soa(multi, row))");
+    expect_irregular(__LINE__, "view V : P [2, 3] as bitaos(58, row)");
+    expect_irregular(__LINE__, "view V : P [2, 2, 2] as soa(multi, col)");
+}
+
 /* Each pointer of each call, NULL in turn. */
 static void null_is_answered(void) {
     lly_view view = LLY_NONE, other = LLY_NONE;
     lly_fault fault = UNTOUCHED;
-    const uint8_t *const none = NULL;
+    const uint8_t *const none = NULL, *at = NULL;
+    lly_places places;
     uint8_t bytes[1];
     uint64_t index[1] = {0}, row = 0, naturals[1] = {0};
     int64_t values[1] = {0};
@@ -834,6 +942,12 @@ static void null_is_answered(void) {
     EXPECT(lly_message(LLY_RANGE, NULL, bytes, 1, &size), LLY_NULL);
     EXPECT(lly_message(LLY_RANGE, &fault, NULL, 1, &size), LLY_NULL);
     EXPECT(lly_message(LLY_RANGE, &fault, bytes, 1, NULL), LLY_NULL);
+    EXPECT(lly_place(NULL, 0, &places, &fault), LLY_NULL);
+    EXPECT(lly_place(&view, 0, NULL, &fault), LLY_NULL);
+    EXPECT(lly_place(&view, 0, &places, NULL), LLY_NULL);
+    EXPECT(lly_blob_at(NULL, 0, &at, &size), LLY_NULL);
+    EXPECT(lly_blob_at(&view, 0, NULL, &size), LLY_NULL);
+    EXPECT(lly_blob_at(&view, 0, &at, NULL), LLY_NULL);
     EXPECT_NO_FAULT();
     lly_drop(NULL);
     EXPECT(lly_rows(&view, &row), LLY_DONE);
@@ -857,6 +971,7 @@ int main(void) {
     lines_are_told();
     answers_have_words();
     bytes_are_copied_out();
+    numbers_are_read_by_places();
     null_is_answered();
     return differs;
 }

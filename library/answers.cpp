@@ -98,14 +98,42 @@ static void tables() {
     EXPECT_REFUSAL(LLY_SYNTAX, 0, lly::view(RECORD, "view V"));
     EXPECT_REFUSAL(LLY_BAD_FILE, 0, lly::view::open({}));
     EXPECT(std::string(lly::message(LLY_BAD_WINDOW)), "the spans are no window of the extents");
-    EXPECT(std::string(lly::message(32)), "an answer of a later version");
+    EXPECT(std::string(lly::message(99)), "an answer of a later version");
     EXPECT(lly::error(LLY_NARROW, {0, 3, 1, 0}).words(), "Narrow record 3 leaf 1");
-    EXPECT(lly::error(32, LLY_NO_FAULT).words(), "an answer of a later version");
+    EXPECT(lly::error(99, LLY_NO_FAULT).words(), "an answer of a later version");
+}
+
+// The sum of a column by each of its ways, and what is refused.
+static void columns() {
+    const char *const layouts[] = {"aos(packed, row)", "soa(multi, row)", "aosoa(4, row)", "soa(multi, col)", "soa(multi, morton)", "byteswap(soa(multi, row))", "bitaos(20, row)"};
+    const std::vector<std::int64_t> values{5, -6, 7, -8, 9, -524288};
+    for (const char *const layout : layouts) {
+        lly::view view(RECORD, std::string("view V : P [2, 3] as ") + layout);
+        view.set_run(0, 0, values);
+        const auto column = view.column<std::int32_t>("x");
+        std::vector<std::int64_t> read(6), by_row;
+        column.runs([&](auto numbers) {
+            std::uint64_t row = numbers.first();
+            for (const std::int64_t number : numbers) {
+                read[row++] = number;
+            }
+        });
+        for (std::uint64_t row = 0; row < column.size(); row++) {
+            by_row.push_back(column[row]);
+        }
+        EXPECT(read, values);
+        EXPECT(by_row, values);
+        EXPECT_REFUSAL(LLY_BAD_TYPE, 0, view.column<std::uint32_t>("x"));
+        EXPECT_REFUSAL(LLY_BAD_TYPE, 0, view.column<std::int16_t>(0));
+    }
+    lly::view split(RECORD, "view V : P [2, 3] as bytesplit(soa(multi, row))");
+    EXPECT_REFUSAL(LLY_IRREGULAR, 0, split.column<std::int32_t>("x"));
 }
 
 int main() {
     numbers();
     lists();
+    columns();
     tables();
     return differs;
 }

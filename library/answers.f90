@@ -1,6 +1,6 @@
 ! Each call of the module llama_layout. tools/library_examples runs it; it says what differs, and ends with 0 where nothing does.
 program answers
-  use, intrinsic :: iso_c_binding, only: c_bool, c_char, c_int32_t, c_int64_t, c_size_t
+  use, intrinsic :: iso_c_binding, only: c_bool, c_char, c_int32_t, c_int64_t, c_ptr, c_size_t
   use llama_layout
   implicit none
   character(*), parameter :: record_line = 'record P { x: i32, n: u16 }'
@@ -11,6 +11,8 @@ program answers
   character(*), parameter :: table = 'x,n' // lf // '1,2' // lf // '3,4' // lf // '5,6' // lf // '7,8' // lf
   type(lly_view) :: view, other
   type(lly_fault) :: fault
+  type(lly_places) :: places
+  type(c_ptr) :: at
   integer(c_int64_t) :: row, number, numbers(4)
   integer(c_size_t) :: many, needed
   integer(c_int32_t) :: bits
@@ -25,6 +27,11 @@ program answers
   call expect(lly_copy(other, view, fault), LLY_DONE)
   call expect(lly_rows(view, row), LLY_DONE)
   call expect(int(row), 4)
+  call expect(lly_place(view, 0_c_size_t, places, fault), LLY_DONE)
+  call expect(places%width, 32)
+  call expect(int(places%lane), 6)
+  call expect(lly_blob_at(view, places%blob, at, needed), LLY_DONE)
+  call expect(int(needed), int(places%bytes))
   call expect(lly_leaves(view, many), LLY_DONE)
   call expect(int(many), 2)
   call expect(lly_blobs(other, many), LLY_DONE)

@@ -36,6 +36,8 @@ PROVED(tell);
 PROVED(print);
 PROVED(save);
 PROVED(blob);
+PROVED(place);
+PROVED(blob_at);
 PROVED(message);
 
 /* A proved call has a length for each array, and its name here one for both. */
@@ -210,4 +212,12 @@ int32_t lly_blob(lly_view *view, size_t blob, uint8_t *bytes, size_t bytes_len, 
 
 int32_t lly_message(int32_t answer, const lly_fault *fault, uint8_t *text, size_t text_len, size_t *needed) {
     return fault && needed && IS_ARRAY(text, text_len) ? proved_lly_message(answer, fault, ARRAY(text), text_len, needed) : LLY_NULL;
+}
+
+int32_t lly_place(lly_view *view, size_t leaf, lly_places *places, lly_fault *fault) {
+    return view && places && fault ? proved_lly_place(view, leaf, places, fault) : LLY_NULL;
+}
+
+int32_t lly_blob_at(lly_view *view, size_t blob, const uint8_t **bytes, size_t *length) {
+    return view && bytes && length ? proved_lly_blob_at(view, blob, bytes, length) : LLY_NULL;
 }

@@ -35,6 +35,8 @@ static struct text record = {"record P { x: i32 }", 19}, table = {"view V : P [2
 static const struct text *first, *second;
 static lly_view view = LLY_NONE, other = LLY_NONE;
 static lly_fault fault;
+static lly_places places;
+static const uint8_t *bytes_at;
 static int32_t answer;
 static uint64_t row, naturals[2];
 static uint32_t bits;
@@ -82,6 +84,8 @@ static uint8_t header[8192 * 2 + 20];
     CALL(save, (&view, file, file_length, &count))                          \
     CALL(blob, (&view, 0, blob, blob_length, &count))                       \
     CALL(message, (LLY_RANGE, &fault, csv, csv_length, &count))             \
+    CALL(place, (&view, 0, &places, &fault))                                \
+    CALL(blob_at, (&view, 0, &bytes_at, &count))                            \
     CALL(open, (&other, opened, opened_length, &fault))                     \
     CALL(copy, (&view, &other, &fault))
 

@@ -62,6 +62,7 @@ class Answer(enum.IntEnum):
     DIVIDE_BY_ZERO = 29, 'a divisor in an expression is 0'
     NOT_COUNTED = 30, 'the view counts no accesses'
     BAD_WINDOW = 31, 'the spans are no window of the extents'
+    IRREGULAR = 32, 'the numbers of the leaf lie as no lly_places says, or accesses to them are counted'
 
 
 class Handle(ctypes.Structure):
@@ -76,6 +77,12 @@ class Handle(ctypes.Structure):
 
 class Fault(ctypes.Structure):
     _fields_ = [('cause', c_int32), ('row', c_uint64), ('leaf', c_size_t), ('column', c_uint64)]
+
+
+class Places(ctypes.Structure):
+    _fields_ = [
+        ('blob', c_size_t), ('bytes', c_uint64), ('base', c_uint64), ('lanes', c_uint64), ('lane', c_uint64), ('block', c_uint64), ('width', c_uint32),
+        ('is_signed', c_bool), ('is_turned', c_bool), ('in_bits', c_bool), ('in_digits', c_bool)]
 
 
 class Refused(ValueError):
@@ -106,6 +113,7 @@ _PROTOTYPES = {
     'scatter_u64': (_VIEW, *_LIST, _FAULT), 'scatter_add': (_VIEW, *_LIST, _FAULT), 'copy': (_VIEW, _VIEW, _FAULT), 'relayout': (_VIEW, *_TEXT, _FAULT),
     'kernel': (_VIEW, *_TEXT, _NUMBER, _FAULT), 'do': (_VIEW, *_TEXT, _NUMBER, _FAULT), 'tell': (_VIEW, *_TEXT, *_BUFFER, _FAULT),
     'print': (_VIEW, *_BUFFER), 'save': (_VIEW, *_BUFFER), 'blob': (_VIEW, c_size_t, *_BUFFER), 'message': (c_int32, _FAULT, *_BUFFER),
+    'place': (_VIEW, c_size_t, POINTER(Places), _FAULT), 'blob_at': (_VIEW, c_size_t, POINTER(c_void_p), _SIZE),
 }
 
 

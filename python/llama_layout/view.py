@@ -1,12 +1,14 @@
 """The class View."""
+import math
 import operator
 import pathlib
 import re
-from ctypes import c_int64, c_size_t, c_uint64
+import weakref
+from ctypes import c_int64, c_size_t, c_uint64, c_void_p
 
 import numpy
 
-from .calls import Fault, asked, filled, lly, made, must, sized
+from .calls import Fault, Places, asked, filled, lly, made, must, sized
 from .records import dtype_of, extents_of, fields_of, leaves_of, part_of
 
 SAYS_NOTHING = ('axpy', 'clamp')
@@ -29,6 +31,7 @@ class View:
         self.shape = extents_of(view, len(self))
         self._leaves = {path: (asked(lly.leaf, c_size_t, handle, *sized(path)), kind) for path, kind, _ in leaves_of(self.dtype)}
         self.paths = list(self._leaves)
+        self._columns = weakref.WeakSet()
         return self
 
     @classmethod
@@ -92,6 +95,23 @@ class View:
         must(call(self._handle, self.row(first), leaf, numbers.ctypes.data, count))
         return numbers.astype(kind, copy=False)
 
+    def column(self, path):
+        """The numbers of a leaf where they lie, as an array that copies nothing and cannot be written. As long as there is one, the view is neither laid anew nor let go."""
+        leaf, kind = self._leaves[path]
+        places, fault, at, length = Places(), Fault(), c_void_p(), c_size_t()
+        must(lly.place(self._handle, leaf, places, fault), fault)
+        must(lly.blob_at(self._handle, places.blob, at, length))
+        strides = _strides(places, self.shape)
+        if strides is None:
+            raise ValueError(f'{path}: no strides say where its numbers lie')
+        if 8 * kind.itemsize != places.width:
+            kind = numpy.dtype(f'{"i" if places.is_signed else "u"}{places.width // 8}')
+        if not len(self):
+            return numpy.broadcast_to(numpy.empty(1, kind), self.shape)
+        lent = _Column(self, kind.newbyteorder('>' if places.is_turned else '<').str, (at.value or 0) + places.base, strides)
+        self._columns.add(lent)
+        return numpy.asarray(lent)
+
     def set_run(self, path, first, numbers):
         """Stores numbers in a leaf of the rows from `first` on. Of a strict view that refuses one, those before it are stored."""
         numbers = _whole(path, numbers)
@@ -152,6 +172,7 @@ class View:
 
     def relayout(self, layout):
         """Lays the table out anew."""
+        self._keep()
         fault = Fault()
         must(lly.relayout(self._handle, *sized(f'relayout V as {layout}'), fault), fault)
 
@@ -205,7 +226,29 @@ class View:
 
     def drop(self):
         """Lets the table go before the object does; then every call is refused."""
+        self._keep()
         lly.drop(self._handle)
+
+    def _keep(self):
+        if self._columns:
+            raise BufferError('a column of the view is in use')
+
+
+class _Column:
+    """What an array of a column holds: it keeps the view."""
+
+    def __init__(self, view, kind, at, strides):
+        self._view = view
+        self.__array_interface__ = {'version': 3, 'shape': view.shape, 'typestr': kind, 'data': (at, True), 'strides': strides}
+
+
+def _strides(places, shape):
+    """How far the numbers of a leaf lie apart along each extent, or None where that is not one number."""
+    if places.in_bits or places.in_digits:
+        return None
+    if places.lanes >= math.prod(shape):
+        return tuple(places.lane * math.prod(shape[at + 1:]) for at in range(len(shape)))
+    return (places.block, places.lane) if shape[1:] == (places.lanes,) else None
 
 
 def _whole(of, numbers):

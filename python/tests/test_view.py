@@ -50,6 +50,37 @@ class OfArrays(unittest.TestCase):
         view['pos.y'][...] = 7
         self.assertTrue((view['pos.y'] == filled()['pos']['y']).all())
 
+    def test_a_column_is_where_the_numbers_lie(self):
+        for layout in ('aos(packed, row)', 'aos(aligned, row)', 'soa(multi, row)', 'soa(single, col)', 'byteswap(aos(min, col))', 'bitsoa(64, row)'):
+            view = View.from_array(filled(), layout)
+            for path in ('on', 'pos.x', 'h[1][0]', 'big', 'low'):
+                column = view.column(path)
+                self.assertEqual((column.dtype.newbyteorder('='), column.shape), (view[path].dtype, (3, 5)))
+                self.assertTrue((column == view[path]).all(), (layout, path))
+                self.assertFalse(column.flags.writeable)
+            view.set((1, 2), 'low', -77)
+            self.assertEqual(column[1, 2], -77)
+
+    def test_a_column_keeps_its_view(self):
+        view = View.from_array(filled())
+        column = view.column('low')[::2]
+        self.assertRaises(BufferError, view.relayout, 'aos(packed, row)')
+        self.assertRaises(BufferError, view.drop)
+        due = view['low'][::2]
+        del view
+        self.assertTrue((column == due).all())
+        view = View.from_array(filled())
+        view.column('low')
+        view.relayout('aos(packed, row)')
+
+    def test_other_leaves_have_no_column(self):
+        for layout in ('aosoa(4, row)', 'soa(multi, morton)', 'bitaos(20, row)'):
+            self.assertRaises(ValueError, View('record P { x: i32 }', f'view V : P [3, 5] as {layout}').column, 'x')
+        with self.assertRaises(Refused) as caught:
+            View.from_array(filled(), 'bytesplit(soa(aligned, row))').column('big')
+        self.assertEqual(caught.exception.answer, Answer.IRREGULAR)
+        self.assertEqual(View('record P { x: i32 }', 'view V : P [0, 3] as soa(multi, row)').column('x').shape, (0, 3))
+
     def test_the_memory_is_that_of_numpy(self):
         packed, aligned = numpy.dtype([('a', 'u1'), ('b', '<i4')]), numpy.dtype([('a', 'u1'), ('b', '<i4')], align=True)
         for kind, layout in ((aligned, 'aos(aligned, row)'), (packed, 'aos(packed, row)')):

@@ -2,7 +2,7 @@
 use Rattle.std.specs.Prelude.{◌≡◌, ◌⊎◌, ℤ, pos, Option, Some, None, option_map, Result, Ok, Err}
 use Rattle.views.specs.Tables.{Table}
 use Rattle.c_lines.specs.declared.refusal.Refusal.{Refusal}
-use Rattle.c_lines.specs.declared.refusal.Refusal.TheVariants.{NoView, NoPlace, NoMemory, NoRoom, BadType, Range, Narrow, Mismatch, Syntax, TooDeep, OtherLine, LineTooLong, Unknown, BadRecord, BadExtents, BadMapping, TooBig, BadKernel, Empty, MissingColumn, ColumnTwice, ShortRow, Number, BadFile, Twice, Overflow, DivideByZero, NotCounted, BadWindow}
+use Rattle.c_lines.specs.declared.refusal.Refusal.TheVariants.{NoView, NoPlace, NoMemory, NoRoom, BadType, Range, Narrow, Mismatch, Syntax, TooDeep, OtherLine, LineTooLong, Unknown, BadRecord, BadExtents, BadMapping, TooBig, BadKernel, Empty, MissingColumn, ColumnTwice, ShortRow, Number, BadFile, Twice, Overflow, DivideByZero, NotCounted, BadWindow, Irregular}
 
 -- an answer that gives an `A`
 abbrev pub Answer : Type 0 → Type 0
@@ -39,6 +39,7 @@ refusal_number (Overflow row) = pos 28
 refusal_number (DivideByZero row) = pos 29
 refusal_number NotCounted = pos 30
 refusal_number BadWindow = pos 31
+refusal_number (Irregular leaf) = pos 32
 
 -- the number of an answer in C
 abbrev pub code_of : {A : Type 0} → Answer A → ℤ

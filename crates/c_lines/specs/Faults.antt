@@ -90,6 +90,7 @@ leaf_named (refusal.ColumnTwice leaf) = leaf
 leaf_named (refusal.ShortRow row leaf) = leaf
 leaf_named (refusal.Number row leaf) = leaf
 leaf_named (refusal.Twice leaf) = leaf
+leaf_named (refusal.Irregular leaf) = leaf
 leaf_named _ = 0
 
 abbrev pub column_of : Refusal → ℕ

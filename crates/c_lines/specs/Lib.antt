@@ -13,4 +13,5 @@ pub mod CallerRuns
 pub mod ByRows
 pub mod About
 pub mod Buffers
+pub mod Placed
 pub mod Inner

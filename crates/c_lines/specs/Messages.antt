@@ -14,7 +14,7 @@ use Rattle.c_lines.specs.Answers.{Answer, refusal_number}
 use Rattle.c_lines.specs.Faults.{cause_of, fault_of}
 use Rattle.c_lines.specs.declared.refusal.Fault.{Fault}
 use Rattle.c_lines.specs.declared.refusal.Refusal.{Refusal}
-use Rattle.c_lines.specs.declared.refusal.Refusal.TheVariants.{NoView, NoPlace, NoMemory, NoRoom, BadType, Range, Narrow, Mismatch, Syntax, TooDeep, OtherLine, LineTooLong, Unknown, BadRecord, BadExtents, BadMapping, TooBig, BadKernel, Empty, MissingColumn, ColumnTwice, ShortRow, Number, BadFile, Twice, Overflow, DivideByZero, NotCounted, BadWindow}
+use Rattle.c_lines.specs.declared.refusal.Refusal.TheVariants.{NoView, NoPlace, NoMemory, NoRoom, BadType, Range, Narrow, Mismatch, Syntax, TooDeep, OtherLine, LineTooLong, Unknown, BadRecord, BadExtents, BadMapping, TooBig, BadKernel, Empty, MissingColumn, ColumnTwice, ShortRow, Number, BadFile, Twice, Overflow, DivideByZero, NotCounted, BadWindow, Irregular}
 use Rattle.c_lines.specs.declared.refusal.TextOf.TheVariants.{First, Second}
 
 -- what a refusal is called
@@ -26,6 +26,7 @@ words_for NoRoom = codes "NoRoom"
 words_for BadType = codes "BadType"
 words_for (OtherLine text) = codes "OtherLine"
 words_for Unknown = codes "Unknown"
+words_for (Irregular leaf) = codes "Irregular"
 words_for (Range row leaf) = fault_words (command.Range row (digits_text leaf))
 words_for (Narrow row leaf) = fault_words (command.Narrow row (digits_text leaf))
 words_for Mismatch = fault_words command.Mismatch
@@ -58,7 +59,7 @@ refusals_at fault = NoView ∷ NoPlace ∷ NoMemory ∷ NoRoom ∷ BadType ∷ R
     ∷ BadMapping mapping.TooDeep ∷ BadMapping mapping.Counter ∷ BadMapping mapping.Lanes ∷ BadMapping mapping.Width ∷ BadMapping mapping.Granule ∷ BadMapping mapping.Side ∷ BadMapping mapping.Field ∷ BadMapping mapping.NotFull
     ∷ TooBig ∷ BadKernel kernel.Lanes ∷ BadKernel kernel.Wide ∷ BadKernel kernel.Constant ∷ Empty ∷ MissingColumn fault.leaf ∷ ColumnTwice fault.leaf ∷ ShortRow fault.row fault.leaf ∷ Number fault.row fault.leaf
     ∷ BadFile file.Magic ∷ BadFile file.Header ∷ BadFile file.Layout ∷ BadFile file.Length ∷ BadFile file.Contents
-    ∷ Twice fault.leaf ∷ Overflow fault.row ∷ DivideByZero fault.row ∷ NotCounted ∷ BadWindow ∷ []
+    ∷ Twice fault.leaf ∷ Overflow fault.row ∷ DivideByZero fault.row ∷ NotCounted ∷ BadWindow ∷ Irregular fault.leaf ∷ []
 
 -- whether a refusal has this number and this cause
 abbrev pub is_told : ℤ → ℤ → Refusal → Bool

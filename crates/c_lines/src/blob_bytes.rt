@@ -39,7 +39,7 @@ pub fn put_blob(
 }
 
 // The bytes of a blob of a view.
-fn blob_of(view: &View, blob: usize) -> &Blob
+pub(crate) fn blob_of(view: &View, blob: usize) -> &Blob
     requires { blob < length (owners_of view.now) }
     ensures { blob_told blob view.now ≡ Ok result.now }
 {

@@ -3,6 +3,7 @@
 #![tactic(auto)]
 
 mod about;
+mod addresses;
 mod assign;
 mod blob_bytes;
 mod by_index;
@@ -19,6 +20,7 @@ mod lines;
 mod make;
 mod messages;
 mod number;
+mod placed;
 mod print;
 mod reduce;
 mod refusal;
@@ -34,6 +36,7 @@ mod update;
 mod values;
 
 pub use about::{counts_of, put_extents, put_path, type_of, value_bits};
+pub use addresses::{BytesAt, blob_at};
 pub use blob_bytes::{blob_count, put_blob};
 pub use by_index::row_of;
 pub use by_path::leaf_of;
@@ -46,6 +49,7 @@ pub use laws::lines_agree;
 pub use make::{loaded_view, new_view};
 pub use messages::{messages_tell, put_message};
 pub use number::Number64;
+pub use placed::place;
 pub use print::put_table;
 pub use refusal::{DONE, Fault, Refusal, TextOf};
 pub use relayout::lay_anew;

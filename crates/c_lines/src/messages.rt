@@ -26,7 +26,7 @@ const NULL: i32 = 25;
 const SAME: i32 = 26;
 
 /// How many refusals there are for one row, leaf and column.
-const REFUSALS: usize = 55;
+const REFUSALS: usize = 56;
 
 /// The bytes of `line 0: `, which stand before the words of a fault.
 const BEFORE_WORDS: usize = 8;
@@ -188,6 +188,7 @@ fn with_leaf(refusal: Refusal, leaf: Text) -> Said
         Refusal::BadType => word("BadType"),
         Refusal::OtherLine(_) => word("OtherLine"),
         Refusal::Unknown => word("Unknown"),
+        Refusal::Irregular { .. } => word("Irregular"),
         Refusal::Range { .. } => Said::Fault(CommandFault::Range { row, leaf }),
         Refusal::Narrow { .. } => Said::Fault(CommandFault::Narrow { row, leaf }),
         Refusal::ShortRow { .. } => Said::Fault(CommandFault::ShortRow { row, leaf }),
@@ -295,5 +296,6 @@ fn refusals_at(fault: Fault) -> [Refusal; REFUSALS]
         Refusal::DivideByZero { row },
         Refusal::NotCounted,
         Refusal::BadWindow,
+        Refusal::Irregular { leaf },
     ]
 }

@@ -73,6 +73,8 @@ pub enum Refusal {
     NotCounted,
     /// The spans are no window of the extents.
     BadWindow,
+    /// The numbers of the leaf lie as no place says, or the accesses to it are counted.
+    Irregular { leaf: usize },
 }
 
 /// What C learns of a refusal beside its number: which of several causes it is, and where. What a refusal does not have is 0.
@@ -121,6 +123,7 @@ impl Refusal {
             Refusal::DivideByZero { .. } => 29,
             Refusal::NotCounted => 30,
             Refusal::BadWindow => 31,
+            Refusal::Irregular { .. } => 32,
         }
     }
 
@@ -179,6 +182,7 @@ impl Refusal {
             Refusal::ShortRow { leaf, .. } => leaf,
             Refusal::Number { leaf, .. } => leaf,
             Refusal::Twice { leaf } => leaf,
+            Refusal::Irregular { leaf } => leaf,
             _ => 0,
         }
     }

@@ -5,3 +5,5 @@
 mod calls;
 #[cfg(test)]
 mod deep;
+#[cfg(test)]
+mod placed;

@@ -2,12 +2,14 @@
 use Rattle.std.specs.Prelude.{ℕ, ◌≡◌, ◌⊎◌, ℤ, List, length, Option, Some, None, Ok, Err}
 use Rattle.views.specs.Tables.{Table, leaf_count_of, owners_of, after_log}
 use Rattle.views.specs.Tallies.{Read, all_accesses}
-use Rattle.c_lines.specs.Answers.{Answer, Tells, TellsLeft, code_of, refusal_number}
+use Rattle.c_lines.specs.Answers.{Answer, Tells, TellsLeft, code_of, refusal_number, given_or}
 use Rattle.c_lines.specs.Commands.{DoesLine, IsToldInto, in_64}
 use Rattle.c_lines.specs.Faults.{fault_left}
 use Rattle.c_lines.specs.declared.refusal.Fault.{Fault}
 use Rattle.c_lines.specs.declared.refusal.Refusal.TheVariants.{NoView, NoMemory}
 use Rattle.c_lines.specs.Buffers.{TellsPut}
+use Rattle.c_lines.specs.Placed.{TellsPlaces}
+use Rattle.leaf_places.specs.declared.told.Places.{Places}
 use Rattle.c_lines.specs.Copies.{source_after, target_after, was_copied}
 
 -- how many rows, leaves and blobs a table has
@@ -131,3 +133,18 @@ IsReadOnce None code new = new ≡ None
 IsReadOnce (Some table) code new =
     ((code ≡ refusal_number NoMemory) × (left : Table) × (new ≡ Some left) × (left ≡ record table { tally = left.tally }))
     ⊎ (new ≡ Some (after_log table (all_accesses Read (leaf_count_of table) (length table.rows))))
+
+-- ---- places
+
+-- what may be answered of a leaf
+abbrev pub TellsPlacesOf : ℕ → Option Table → Answer Places → Type 0
+TellsPlacesOf leaf None answer = answer ≡ Err NoView
+TellsPlacesOf leaf (Some table) answer = TellsPlaces leaf table answer
+
+-- a call that tells where a leaf lies: its number, its fault, and what it writes
+pub record IsPlaced (leaf : ℕ) (held : Option Table) (code : ℤ) (places places_new : Places) (fault fault_new : Fault) : Type 0 where
+  pub answer : Answer Places
+  pub tells : TellsPlacesOf leaf held answer
+  pub code_is : code ≡ code_of answer
+  pub places_are : places_new ≡ given_or places answer
+  pub fault_is : fault_new ≡ fault_left fault answer

@@ -11,6 +11,7 @@ mod lines;
 mod measures;
 mod messages;
 mod part;
+mod placed;
 mod runs;
 mod tables;
 mod values;

@@ -1,0 +1,4 @@
+mod Leading
+mod Numbers
+mod Shorts
+mod Placing

@@ -1,0 +1,3 @@
+-- Words of contracts within the project, which no promise reaches.
+pub mod Placing
+pub mod Search
