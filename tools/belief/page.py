@@ -25,7 +25,7 @@ How many definitions of a file the promises ask for, how many lines these have, 
 
 ## Definitions of other clauses
 
-The clauses that PROOFS lists beside those of the promises need these as well.
+The clauses that PROOFS lists beside those of the promises need these as well. Files of the table above are described there.
 
 |file below `crates/`|what it says|definitions|lines|
 |---|---|---|---|
@@ -71,7 +71,8 @@ def file_rows(promises, reached, has_promises):
     for source in promises.sources:
         found = chosen(source, reached)
         if found:
-            cells = [f'`{source.where}`', in_table(source.head), str(len(found)), str(sum(definition.size for definition in found))]
+            said = '' if not has_promises and chosen(source, promises.whole.reached) else in_table(source.head)
+            cells = [f'`{source.where}`', said, str(len(found)), str(sum(definition.size for definition in found))]
             yield '|' + '|'.join(cells + [ranges(promises.resting_on(found))] * has_promises) + '|'
 
 

@@ -56,8 +56,10 @@ refusals_at fault = NoView ∷ NoPlace ∷ NoMemory ∷ NoRoom ∷ BadType ∷ R
     ∷ Syntax First fault.column ∷ Syntax Second fault.column ∷ TooDeep First ∷ TooDeep Second ∷ OtherLine First ∷ OtherLine Second ∷ LineTooLong First ∷ LineTooLong Second ∷ Unknown
     ∷ BadRecord fields.TooDeep ∷ BadRecord fields.Empty ∷ BadRecord fields.Twice ∷ BadRecord fields.NoElements ∷ BadRecord fields.TooManyLeaves
     ∷ BadExtents extents.Rank ∷ BadExtents extents.TwoRows ∷ BadExtents extents.RowsBesideZero ∷ BadExtents extents.NotDivisible ∷ BadExtents extents.NotEqual ∷ BadExtents extents.TooMany
-    ∷ BadMapping mapping.TooDeep ∷ BadMapping mapping.Counter ∷ BadMapping mapping.Lanes ∷ BadMapping mapping.Width ∷ BadMapping mapping.Granule ∷ BadMapping mapping.Side ∷ BadMapping mapping.Field ∷ BadMapping mapping.NotFull
-    ∷ TooBig ∷ BadKernel kernel.Lanes ∷ BadKernel kernel.Wide ∷ BadKernel kernel.Constant ∷ Empty ∷ MissingColumn fault.leaf ∷ ColumnTwice fault.leaf ∷ ShortRow fault.row fault.leaf ∷ Number fault.row fault.leaf
+    ∷ BadMapping mapping.TooDeep ∷ BadMapping mapping.Counter ∷ BadMapping mapping.Lanes ∷ BadMapping mapping.Width
+    ∷ BadMapping mapping.Granule ∷ BadMapping mapping.Side ∷ BadMapping mapping.Field ∷ BadMapping mapping.NotFull
+    ∷ TooBig ∷ BadKernel kernel.Lanes ∷ BadKernel kernel.Wide ∷ BadKernel kernel.Constant ∷ Empty
+    ∷ MissingColumn fault.leaf ∷ ColumnTwice fault.leaf ∷ ShortRow fault.row fault.leaf ∷ Number fault.row fault.leaf
     ∷ BadFile file.Magic ∷ BadFile file.Header ∷ BadFile file.Layout ∷ BadFile file.Length ∷ BadFile file.Contents
     ∷ Twice fault.leaf ∷ Overflow fault.row ∷ DivideByZero fault.row ∷ NotCounted ∷ BadWindow ∷ Irregular fault.leaf ∷ []
 

@@ -10,10 +10,7 @@ ghost use Rattle.c_lines.specs.Values.{reads_signed};
 
 use record_dim::{LeafType, Steps};
 use std::sync::ledger::Ledger;
-use views::{LaneFault, View, laws_of_table};
-
-/// How many numbers go at once: what is tested before it is stored is still near.
-pub(crate) const RUN: usize = 256;
+use views::{LaneFault, RUN, View, laws_of_table};
 
 /// A whole number of 64 bits, with a sign or without one.
 pub trait Number64: Copy {

@@ -6,11 +6,11 @@ ghost use Rattle.views.specs.LeafRuns.{raised, TakesAll};
 ghost use Rattle.views.specs.Tables.{leaf_count_of, leaf_type_of};
 ghost use Rattle.c_lines.specs.Values.{reads_unsigned};
 
-use crate::number::{Number64, RUN};
+use crate::number::Number64;
 use crate::values::leaf_type;
 use record_dim::{LeafType, Steps};
 use std::sync::ledger::Ledger;
-use views::{LaneFault, View, laws_of_table};
+use views::{LaneFault, RUN, View, laws_of_table};
 
 impl Number64 for u64 {
     ghost number = { λ n. pos n };
