@@ -337,9 +337,9 @@ typedef struct lly_places {
 } lly_places;
 
 /* The places of a leaf. LLY_NO_PLACE where there is no such leaf. LLY_IRREGULAR where accesses are counted, where `change` stores the leaf in another sign
- * than that of its type, and where no lly_places say where it lies. Exactly then, so that under aos, soa, aosoa, bitaos, bitsoa and byteswap there are
- * places of every leaf; but in Morton order, and of a view without rows, it may be answered though there are. On a refusal *places stays as it was.
- * It takes no memory. Under most layouts it looks at no row, and else at each.
+ * than that of its type, and where no lly_places say where it lies. Exactly then: so by rows under aos, soa, aosoa, bitaos, bitsoa and byteswap each leaf has
+ * places, but for fields of 58 to 63 bits. Only in Morton order, and of a view without rows, it may be answered though there are some. On a refusal *places
+ * stays as it was. It takes no memory. Under most layouts it looks at no row, and else at each.
  */
 int32_t lly_place(lly_view *view, size_t leaf, lly_places *places, lly_fault *fault);
 
