@@ -1,12 +1,11 @@
 -- What calls answer by what their handles held.
-use Rattle.std.proofs.Common.{◌≡◌, ⊎_elim, inl, inr, ℕ, ℤ, pos, List, Option, Some, None, Ok, Err, refl, ap, subst, ◌∙◌, Bool, true, false, if◌then◌else◌}
+use Rattle.std.proofs.Common.{◌≡◌, ⊎_elim, inl, inr, ℕ, ℤ, pos, List, Option, None, Ok, Err, refl, subst, ◌∙◌, Bool, true, false, if◌then◌else◌}
 use Rattle.views.specs.Tables.{Table}
 use Rattle.c_lines.specs.Answers.{Answer, Tells, code_of, on_held, changed_by}
-use Rattle.c_lines.specs.Commands.{DoesLine, in_64}
-use Rattle.c_lines.specs.Faults.{fault_left, fault_of}
+use Rattle.c_lines.specs.Faults.{fault_of}
 use Rattle.c_lines.specs.declared.refusal.Fault.{Fault}
 use Rattle.c_lines.specs.declared.refusal.Refusal.TheVariants.{NoView, NoMemory, NoPlace, BadType}
-use Rattle.llama_c.specs.Calls.{IsCallDone, IsKernelDone, IsLineDone, IsLineTold, IsMade, IsPutInto, number_or}
+use Rattle.llama_c.specs.Calls.{IsCallDone, IsKernelDone, IsLineDone, IsLineTold, IsMade, IsPutInto}
 use Rattle.std.specs.Prelude.{OnOk, OnErr}
 
 -- an empty handle has nothing to put into a buffer, and nothing to change

@@ -1,4 +1,4 @@
-use Rattle.std.proofs.Common.{◌≡◌, Ok, Err, Option, Some, None, refl, sym, subst, ◌∙◌, rules, SFits, w32}
+use Rattle.std.proofs.Common.{Ok, Err, Option, refl, subst, ◌∙◌, rules, SFits, w32}
 use Rattle.std.proofs.lemmas.Int.{to_z-of_z}
 use Rattle.views.specs.Tables.{Table}
 use Rattle.c_lines.specs.Placed.{TellsPlaces}
