@@ -1,5 +1,5 @@
 -- What the proofs of this crate speak of.
-pub use Rattle.std.proofs.Common.{◌≡◌, Bool, true, false, [], Option, Some, None, Result, Ok, Err, refl, ap, ⊎_elim, ℕ, ◌+◌, ◌*◌, ◌^◌, ◌≤◌, ℤ, List, ◌∷◌, ◌∙◌, nat_lt, length, sym, ◌⊎◌, not, inl, inr, ◌<◌, get_or, map, arith, nat_eq, subst, suc, ◌-◌, ◌++◌, take, drop, pos, negsuc, ◌≤ℤ◌, length-drop, take_all, w64, rules, IfSome, SFits, to_z, of_z, FitsSigned, All, add-one, tests, zero, option_map}
+pub use Rattle.std.proofs.Common.{◌≡◌, Bool, true, false, [], Option, Some, None, Result, Ok, Err, refl, ap, ⊎_elim, ℕ, ◌+◌, ◌^◌, ◌≤◌, ℤ, List, ◌∷◌, ◌∙◌, nat_lt, length, sym, ◌⊎◌, not, inl, inr, ◌<◌, get_or, map, arith, nat_eq, subst, suc, ◌-◌, ◌++◌, take, drop, pos, negsuc, ◌≤ℤ◌, length-drop, take_all, w64, rules, IfSome, SFits, to_z, of_z, FitsSigned, All, add-one, tests, zero, option_map}
 pub use Rattle.std.proofs.lemmas.Bool.{cases_Bool, not-true, ltb-true, false≢true}
 pub use Rattle.std.specs.Prelude.{IfOk, ◌||◌, ◌+ℤ◌, OnOk, OnErr}
 pub use Rattle.std.proofs.lemmas.Bool.Decides.{nat_tests}
@@ -13,7 +13,7 @@ pub use Rattle.std.proofs.lemmas.Int.{ints, of_z-to_z, to_z-of_z}
 pub use Rattle.std.proofs.lemmas.Slice.{take-put_mid}
 pub use Rattle.record_dim.specs.Trees.{Fields}
 pub use Rattle.views.specs.Tables.{Table, answer_of, owners_of, blob_bits_of, leaf_count_of, after_log, table_holds, IsTable, kept_of, leaf_type_of, after_stores, after_write, leaf_types_of, after_read}
-pub use Rattle.worlds.specs.Outcomes.{◌>>=◌, refused_if, ok_or, Tested, Left, LeftOf, known}
+pub use Rattle.worlds.specs.Outcomes.{◌>>=◌, Tested, Left, LeftOf, known}
 pub use Rattle.worlds.specs.Worlds.{World, added, empty}
 pub use Rattle.layout_copy.specs.Copies.{refused_at, IsCopied, source_log, AreAlike}
 pub use Rattle.line_grammar.specs.Sentences.{New, Sentence, sentence_of, Assignment, Value, assignment_of}
@@ -21,12 +21,12 @@ pub use Rattle.map_expr.specs.Terms.{Term, term_of}
 pub use Rattle.record_dim.specs.NameBytesLaws.{same_text, text_self}
 unfoldable pub use Rattle.worlds.specs.Copy.{with_rows}
 pub use Rattle.worlds.specs.Names.{nameless, bound, bound_filter, bound_set, bound_sets, each_once, leaf_of, leaves_of, text_of_leaf}
-pub use Rattle.worlds.specs.Tables.{live_bits, made, resolved, shaped, mode_by, zeros_of, blob_bits}
+pub use Rattle.worlds.specs.Tables.{made, resolved, shaped, mode_by}
 pub use Rattle.csv_rows.specs.Datasets.{csv_records, records_behind}
-pub use Rattle.record_dim.specs.Leaves.{texts_of, kinds_of, leaves}
+pub use Rattle.record_dim.specs.Leaves.{texts_of, leaves}
 pub use Rattle.worlds.specs.View.{named, new_table_by, Named}
 pub use Rattle.worlds.specs.Load.{filled_by, loaded_by}
-pub use Rattle.worlds.specs.declared.fault.CommandFault.TheVariants.{TooBig, BadMapping as OfMapping, BadIndex, Twice}
+pub use Rattle.worlds.specs.declared.fault.CommandFault.TheVariants.{BadIndex, Twice}
 pub use Rattle.command_checks.specs.Inner.Gives.{Gives, GivesUp}
 pub use Rattle.command_checks.specs.declared.fault.StepFault.{StepFault}
 pub use Rattle.places.specs.Image.{bit_held, image, entry}
@@ -38,7 +38,6 @@ pub use Rattle.layout_copy.specs.declared.fault.CopyFault.{CopyFault}
 pub use Rattle.views.specs.TallyLaws.{after_log-none, after_log-append, after_stores-append, logs_more, tallied-append}
 pub use Rattle.command_checks.specs.AlikeLaws.{alike, not_alike}
 pub use Rattle.command_checks.specs.GivesLaws.{goes_then, GivesUp-then}
-pub use Rattle.piece_bits.specs.declared.mode.StoreMode.{StoreMode}
 pub use Rattle.record_dim.specs.declared.leaf_type.LeafType.{LeafType}
 pub use Rattle.views.specs.Stores.{Fits, without_number}
 pub use Rattle.views.specs.declared.fault.StoreFault.{StoreFault}
@@ -46,13 +45,13 @@ pub use Rattle.extents.specs.declared.words.ExtentWord.{ExtentWord}
 pub use Rattle.record_dim.specs.LeafTypes.{IsDeclared, is_signed, least_in, width_of}
 pub use Rattle.places.specs.PlacesLaws.{range_split}
 pub use Rattle.piece_bits.specs.Tables.{hold_at, with_entry}
-pub use Rattle.piece_bits.specs.Lows.{low_64, IsWithin64}
+pub use Rattle.piece_bits.specs.Lows.{low_64}
 pub use Rattle.lane_kernels.proofs.Faults.{lane_inside, told_some}
 pub use Rattle.views.specs.Columns.{column, column_reads, column_writes, with_column, lane_fault, first_lane_fault}
 pub use Rattle.views.specs.ColumnsLaws.{length-with_column, no_column}
 pub use Rattle.views.specs.LeafRuns.{raised, run_of, stored_count, told_lane, with_run, TakesAll}
 pub use Rattle.views.specs.RunsLaws.{declared_within, raised_all, run_length}
-pub use Rattle.views.specs.Tallies.{Read, Write, granules_for, Access, Tally}
+pub use Rattle.views.specs.Tallies.{Read, Write, Access, Tally}
 pub use Rattle.views.specs.declared.fault.LaneFault.{LaneFault}
 pub use Rattle.views.proofs.KeptColumns.{none_refused}
 pub use Rattle.views.proofs.KeptLaws.{kind_count}
@@ -61,20 +60,19 @@ pub use Rattle.views.proofs.RunSeenLaws.{run_declared}
 pub use Rattle.views.proofs.RunStoreLaws.{run_stored, value_more}
 pub use Rattle.views.proofs.StoredLaws.{fault_here, first_taken, nothing_stored}
 pub use Rattle.views.proofs.StoreLaws.{fit_answer, fit_kept, map_same}
-pub use Rattle.map_checks.specs.Mappings.{accepted, leaf_cells, most_slots}
+pub use Rattle.map_checks.specs.Mappings.{leaf_cells}
 pub use Rattle.extents.specs.Indices.{indices, IsInside}
 pub use Rattle.record_dim.specs.Schemas.{schema_fields}
 pub use Rattle.lane_kernels.proofs.LeafRuns.{run_raised}
 pub use Rattle.record_dim.specs.declared.leaf_type.LeafType.TheVariants.{U64}
 pub use Rattle.piece_bits.proofs.InPlace.{one_more, IsReplaced}
 pub use Rattle.c_lines.specs.Answers.{Answer, Tells, TellsLeft, changed_by}
-pub use Rattle.c_lines.specs.Agreement.{TablesAgree, TablesLeaveRoom}
 pub use Rattle.c_lines.specs.Told.{told, refusal_of, store_refusal, done_of, in_numbers}
 pub use Rattle.c_lines.specs.declared.refusal.Refusal.TheVariants.{Narrow, NoMemory, Mismatch}
 pub use Rattle.c_lines.specs.declared.refusal.TextOf.TheVariants.{First}
 pub use Rattle.c_lines.specs.Copies.{was_copied}
 unfoldable pub use Rattle.c_lines.specs.Lines.{line_answer}
-pub use Rattle.c_lines.specs.Relaid.{after_relaid, laid_left, left_anew, relaid, mapping_told, whole_told, zeros_told}
+pub use Rattle.c_lines.specs.Relaid.{after_relaid, laid_left, left_anew, relaid, whole_told, zeros_told}
 pub use Rattle.c_lines.specs.declared.refusal.Refusal.{Refusal}
 pub use Rattle.c_lines.specs.Inner.Steps.{answered}
 pub use Rattle.c_lines.specs.Buffers.{blob_told}
@@ -99,7 +97,7 @@ pub use Rattle.places.specs.RunOwners.{IsOwnerBelow}
 pub use Rattle.places.specs.declared.piece.Cell.{Cell}
 pub use Rattle.places.specs.declared.piece.Hold.{Hold}
 pub use Rattle.record_dim.specs.declared.path.PathStep.{PathStep}
-pub use Rattle.row_updates.specs.Logs.{rows_log, update_log, value_log}
+pub use Rattle.row_updates.specs.Logs.{update_log, value_log}
 pub use Rattle.row_updates.specs.Rows.{IsSetOf, Setting, filter_term, setting_of, updated_of}
 pub use Rattle.row_updates.specs.declared.fault.UpdateFault.{UpdateFault}
 pub use Rattle.row_updates.specs.declared.update.Assign.{Assign}
@@ -121,6 +119,6 @@ pub use Rattle.worlds.specs.Values.{storable, value_on}
 pub use Rattle.worlds.specs.declared.fault.CommandFault.{CommandFault}
 pub use Rattle.c_lines.specs.Commands.{DoesLine, Does, HasRows, IsFaultOf, Makes, OnLine, Refuses, Says, alone, commanded, front_left, is_do, is_tell, kernel_left, line_taken, rows_left, taken, updated_front, view_in}
 pub use Rattle.c_lines.specs.Faults.{row_named}
-pub use Rattle.c_lines.specs.Inner.Carried.{Carried, Gave, eval_refusal, front_by, set_in, store_told, updated_by}
+pub use Rattle.c_lines.specs.Inner.Carried.{Carried, eval_refusal, front_by, set_in, store_told, updated_by}
 pub use Rattle.std.proofs.lemmas.List.Folds.{list_all_at}
 pub use Rattle.c_lines.specs.ByRows.{Turned, done_after, in_turn}

@@ -10,7 +10,6 @@ pub mod InTurn
 pub mod Making
 pub mod Parts
 pub mod Relaying
-pub mod Rooms
 pub mod Sets
 pub mod Telling
 pub mod Words

@@ -1,20 +1,6 @@
 -- Tables that are laid out anew, by the tests that refuse them and by the copy.
-use Rattle.c_lines.proofs.Imports.{IfOk, ◌≡◌, inl, inr, List, ℕ, [], Result, Ok, Err, refl, sym, ap, ◌∙◌, AreAlike, Sentence, Term, StoreMode, Table, nameless, ◌>>=◌, made, zeros_of, with_rows, alike, goes_then, StepFault, Answer, Tells, TellsLeft, Refusal, First, was_copied, line_answer, after_relaid, laid_left, left_anew, mapping_told, relaid, whole_told, zeros_told, told, done_of, in_numbers}
+use Rattle.c_lines.proofs.Imports.{◌≡◌, inl, inr, List, ℕ, [], Ok, Err, refl, sym, ap, ◌∙◌, AreAlike, Term, Table, ◌>>=◌, made, with_rows, alike, goes_then, Answer, TellsLeft, Refusal, was_copied, after_relaid, laid_left, left_anew, relaid, whole_told, zeros_told, told, done_of, in_numbers}
 use Rattle.c_lines.proofs.Answering.{Refuses, then_then}
-
--- the mapping of a line
-pub whole_as : {A : Type 0} (view : A → Term) (text : List ℕ) (sentence : Sentence) (term : Term) (result : Answer A) → line_answer First text ≡ Ok sentence → mapping_told sentence ≡ Ok term →
-    Tells view (told (nameless [] term)) result → Tells view (whole_told text) result
-whole_as view text sentence term result one two tells = rw (one, two) tells
-
--- zeros under it in the shape of a table
-pub zeros_as : (text : List ℕ) (table : Table) (whole : Term) (result : Answer Table) → whole_told text ≡ Ok whole →
-    Tells (λ view. view) (told (made [] table.mode table.fields table.extents whole)) result → Tells (λ view. view) (zeros_told text table) result
-zeros_as text table whole result is tells = rw is tells
-
-pub zeros_alike : (table : Table) (mode : StoreMode) (term : Term) (given : Result Table StepFault) → IfOk given (λ view. view ≡ zeros_of mode table.fields table.extents term) → IfOk given (AreAlike table)
-zeros_alike table mode term (Ok view) is = (sym (ap (λ (t : Table). t.fields) is), sym (ap (λ (t : Table). t.extents) is))
-zeros_alike table mode term (Err fault) is = tt
 
 -- the new table is that of zeros with the old one's values
 relaid_by : (text : List ℕ) (table : Table) → relaid text table ≡ (zeros_told text table >>= λ zeros. with_rows in_numbers zeros table.rows)
