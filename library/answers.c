@@ -667,8 +667,9 @@ static void answers_have_words(void) {
     expect_message(LLY_TWICE, 0, "Twice 1");
     expect_message(LLY_DIVIDE_BY_ZERO, 0, "DivideByZero record 3");
     expect_message(LLY_BAD_WINDOW, 0, "BadWindow");
+    expect_message(LLY_IRREGULAR, 0, "Irregular");
     /* no call answers so */
-    EXPECT(lly_message(32, &none, NULL, 0, &needed), LLY_NO_PLACE);
+    EXPECT(lly_message(33, &none, NULL, 0, &needed), LLY_NO_PLACE);
     EXPECT(lly_message(-1, &none, NULL, 0, &needed), LLY_NO_PLACE);
     EXPECT(lly_message(LLY_BAD_RECORD, &none, NULL, 0, &needed), LLY_NO_PLACE);
     EXPECT(needed, 9);
