@@ -49,8 +49,15 @@ fn number_of(alloc: Global, view: &mut View, line: &[u8]) -> Option<Option<i128>
 fn tells(alloc: Global, view: &mut View, line: &[u8], due: &[u8]) -> bool {
     let mut text = [0; 40];
     let mut needed = 0;
-    let told = tell_line::<Brand>(alloc, view, line, &mut text, &mut needed, Blank::new(1));
-    told.is_ok() && needed <= text.len() && &text[..needed] == due
+    let is_told = tell_line::<Brand>(
+        alloc,
+        view,
+        line,
+        &mut text,
+        &mut needed,
+        Blank::new(1),
+    ).is_ok();
+    is_told && needed <= text.len() && &text[..needed] == due
 }
 
 // Whether a view takes another layout.

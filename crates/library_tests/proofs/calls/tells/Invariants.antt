@@ -1,0 +1,4 @@
+use Rattle.library_tests.proofs.calls.tells.Given as goal
+
+abbrev pub ghosts-tell_line : goal.ghosts-tell_line
+ghosts-tell_line a = record { name = a.blank.name; parts = a.blank.parts }
