@@ -19,8 +19,8 @@
  *
  * A text is bytes with a length, not ended by 0. Lines are those of the second version of the language, whole, of at most 4,096 bytes. Rows,
  * leaves and blobs count from 0: leaf 0 is the first of the record. Memory is taken by lly_new, lly_load, lly_open, lly_relayout,
- * lly_kernel, lly_do, lly_tell, lly_print, lly_save and lly_message alone; each may answer LLY_NO_MEMORY, and then changes nothing but counts of accesses. A call takes at
- * most 64 KiB of stack, whatever text it is handed: this is measured, not proved.
+ * lly_kernel, lly_do, lly_tell, lly_print, lly_save and lly_message alone; each may answer LLY_NO_MEMORY, and then changes nothing but counts
+ * of accesses. A call takes at most 64 KiB of stack, whatever text it is handed: this is measured, not proved.
  * Each call but lly_drop and lly_version answers a number below, and changes nothing but what it says.
  */
 #ifndef LLAMA_LAYOUT_H
