@@ -29,7 +29,7 @@ pub use Rattle.places.specs.declared.piece.Hold.{Hold}
 pub use Rattle.places.specs.Lawful.{IsLaidOut}
 pub use Rattle.places.specs.CellWidthsLaws.{width_at}
 pub use Rattle.places.specs.Image.{entry, IsImage, bit_held, image}
-pub use Rattle.map_checks.specs.Mappings.{holds_by, leaf_cells, accepted, bad_field, bad_side, else_for, most_slots, not_full, layout_by}
+pub use Rattle.map_checks.specs.Mappings.{IsBuiltTerm, holds_by, leaf_cells, accepted, bad_field, bad_side, else_for, most_slots, not_full, layout_by}
 pub use Rattle.blobs.specs.Bits.{bit_in, bit_of, bits_of, AreBytes}
 pub use Rattle.piece_bits.specs.TableLaws.{table_shape, tables_same}
 pub use Rattle.piece_bits.specs.EntriesLaws.{entry_in}

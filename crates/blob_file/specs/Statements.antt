@@ -5,7 +5,10 @@ use Rattle.map_checks.specs.Mappings.{holds_by}
 use Rattle.piece_bits.specs.Tables.{hold_at}
 use Rattle.blob_file.specs.Files.{Header, AreRows, IsFile, image_bytes}
 use Rattle.blob_file.specs.Headers.{IsTyped, HasLines, CanLie}
-use Rattle.blob_file.specs.Opened.{Saved, opened, rows_in}
+use Rattle.layout_io.specs.Writing.{joined}
+use Rattle.views.specs.Tables.{Table}
+use Rattle.blob_file.specs.Opened.{Saved, opened, rows_in, with_body}
+use Rattle.blob_file.specs.Saving.{blobs_of, header_of}
 
 -- no bytes are the files of two headers, nor of one with two lists of blobs. A header that is not what its types say is none: a `name` of
 -- the bytes `a:u8, b` could stand for two fields.
@@ -27,3 +30,9 @@ HoldsRows = (header : Header) (rows : List (List ℤ)) → HasLines header → C
 abbrev pub HoldsBits : Type 0
 HoldsBits =
     (header : Header) (leaf : ℕ) → HasLines header → CanLie header → leaf < length (kinds_of header.fields) → 1 ≤ (hold_at (holds_by header.mapping header.fields) leaf).width
+
+-- the bytes of the blobs of a table, one behind another, are read back as its rows
+abbrev pub ReadsBack : Table → Type 0
+ReadsBack table =
+    (with_body (header_of table) (joined (blobs_of table)) ≡ Ok (record { header = header_of table; blobs = blobs_of table }))
+    × (rows_in (header_of table) (blobs_of table) ≡ table.rows)

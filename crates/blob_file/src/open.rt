@@ -3,7 +3,7 @@ ghost use Rattle.std.specs.Prelude.{◌≡◌, ◌≤◌, ◌+◌, ◌*◌, ◌�
 ghost use Rattle.std.specs.List.{list_any};
 ghost use Rattle.extents.specs.Shapes.{bad_shape, bad_extents, extent_of, is_rows};
 ghost use Rattle.map_expr.specs.Terms.{term_of};
-ghost use Rattle.map_checks.specs.Mappings.{accepted, layout_by, leaf_cells};
+ghost use Rattle.map_checks.specs.Mappings.{accepted, layout_by, leaf_cells, IsBuiltTerm};
 ghost use Rattle.record_dim.specs.Leaves.{record_fault, kinds_of};
 ghost use Rattle.record_dim.specs.Schemas.{schema_fields};
 ghost use Rattle.record_dim.specs.Trees.{tree_of, Record, IsRecord};
@@ -46,7 +46,45 @@ pub fn read_file<L: Ledger>(
         return Err(FileFault::Magic);
     };
     let (header, body) = read_header(alloc, rest)?;
-    let mut view = empty_view(alloc, header, body)?;
+    let view = empty_view(alloc, header, body)?;
+    filled(alloc, view, body, steps)
+}
+
+/// The view that is like another one in record, extents, mapping and mode, and of whose blobs these are the bytes, one behind another. It has
+/// counted one write of each leaf of each row, and nothing else. `Length` comes where there are not as many bytes as the blobs have, `Contents`
+/// where they are not the image of rows that such a view may hold; memory may run out at any time. A step is taken for each leaf of each row
+/// that is stored.
+pub fn read_body<L: Ledger>(
+    alloc: Global,
+    view: &View,
+    body: &[u8],
+    steps: &mut Steps<L>,
+) -> Result<View, FileFault>
+    ensures read { IsRead (with_body (header_of view.now) body.now) result }
+    ensures steps { IfOk result (λ view. steps.new ≡ steps.old + row_count (header_of view) * leaf_count (header_of view)) }
+{
+    let _map = view.map();
+    let bytes = body.len() as u64;
+    if view.blob_bytes() != bytes {
+        return Err(FileFault::Length);
+    }
+    let (schema, expr) = (view.schema(), view.expr());
+    let empty = zeros(alloc, schema, view.extents(), expr, view.mode(), bytes)?;
+    filled(alloc, empty, body, steps)
+}
+
+// A view of zeros, filled with the rows of which these are the bytes.
+fn filled<L: Ledger>(
+    alloc: Global,
+    mut view: View,
+    body: &[u8],
+    steps: &mut Steps<L>,
+) -> Result<View, FileFault>
+    requires empty { view ≡ empty_table (header_of view) }
+    requires sized { 8 * length body.now ≡ sum_by length (owners_of view) }
+    ensures read { IsRead (with_body (header_of view) body.now) result }
+    ensures steps { IfOk result (λ view. steps.new ≡ steps.old + row_count (header_of view) * leaf_count (header_of view)) }
+{
     match fill_view(alloc, &mut view, body, steps) {
         Ok(()) => Ok(view),
         Err(fault) => {
@@ -57,6 +95,7 @@ pub fn read_file<L: Ledger>(
 }
 
 // A view of zeros that the header says, in which nothing was counted, where as many bytes stand behind the header as it has.
+#[tactic(auto, using(crate::specs::HeaderLaws::nameless_built))]
 fn empty_view(alloc: Global, header: FileHeader, body: &[u8]) -> Result<View, FileFault>
     requires kind { IsRecord header.dim }
     requires plain { list_any is_rows header.words ≡ false }
@@ -148,7 +187,6 @@ fn bytes_of(
 }
 
 // A view of zeros of so many bytes. Those of which `bytes_of` tells them lack nothing but memory.
-#[tactic(auto, using(crate::specs::HeaderLaws::nameless_built))]
 fn zeros(
     alloc: Global,
     schema: &Schema,
@@ -157,7 +195,7 @@ fn zeros(
     mode: StoreMode,
     bytes: u64,
 ) -> Result<View, FileFault>
-    requires { is_nameless (term_of expr.now) ≡ true }
+    requires { IsBuiltTerm (term_of expr.now) }
     ensures made { IfOk result (λ view. view ≡ empty_table (header_by (schema_fields schema.now) extents mode (term_of expr.now))) }
     ensures refused { IfErr result (λ found. found ≡ fault.NoMemory) }
 {

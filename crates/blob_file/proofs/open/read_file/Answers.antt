@@ -1,4 +1,4 @@
-use Rattle.blob_file.proofs.Imports.{rules, ◌≡◌, ◌∙◌, drop, length, Some, Ok, Err, Result, inr, sym, ap, subst, sum_by, Owner, Table, owners_of, Saved, header_at, with_body, opened, empty_table, IsRead, header_in, header_of, FileFault}
+use Rattle.blob_file.proofs.Imports.{rules, ◌≡◌, ◌∙◌, drop, length, Some, Err, Result, inr, sym, ap, subst, sum_by, Owner, Table, owners_of, Saved, header_at, with_body, opened, empty_table, IsRead, header_in, header_of, FileFault}
 use Rattle.blob_file.specs.declared.fault.FileFault.TheVariants as fault
 use Rattle.blob_file.proofs.Opens.{read_is_file}
 use Rattle.blob_file.proofs.Refused.{no_magic, no_header, header_told, body_told, refused}
@@ -24,28 +24,19 @@ returns-in_err-view-clause-read g c =
     let is : c.from_residual-in_err-view.result ≡ Err c.in_err-view.field-0.0 = search rules in
     rw is (subst (λ (t : Result Saved FileFault). IsRead t (Err c.in_err-view.field-0.0)) (sym (header_told bytes begins header c.in_ok-header.body.now found)) c.in_err-view.ensures.refused)
 
-pub fill_view-requires : goal.fill_view-requires
-fill_view-requires g c =
+pub filled-requires : goal.filled-requires
+filled-requires g c =
     let made = c.in_ok-view.ensures.made in
     record {
       empty = made ∙ ap empty_table (sym (ap header_of made));
       sized = c.in_ok-view.ensures.sized ∙ sym (ap (λ (t : Table). sum_by (length {A = Owner}) (owners_of t)) made);
     }
 
-pub returns-in-Ok : goal.returns-in-Ok
-returns-in-Ok g c =
-    let bytes = c.args.bytes.now in
-    let view = c.fill_view.new.view in
-    let told : opened bytes ≡ with_body (header_of c.in_ok-view.view) c.in_ok-header.body.now =
-    body_told bytes c.in-Some.ensures.0 (header_in c.in_ok-header.header) (sym (ap header_at c.in-Some.ensures.1) ∙ c.in_ok-header.ensures.found) c.in_ok-view.ensures.lies (header_of c.in_ok-view.view)
-    (ap header_of c.in_ok-view.ensures.made) in
-    let read : IsRead (opened bytes) (Ok view) = subst (λ (t : Result Saved FileFault). IsRead t (Ok view)) (sym told) c.in-Ok.ensures.read in
-    record { read = read; file = read_is_file bytes (Ok view) read; steps = c.in-Ok.ensures.steps }
-
-pub returns-in-Err-clause-read : goal.returns-in-Err-clause-read
-returns-in-Err-clause-read g c =
+pub returns : goal.returns
+returns g c =
     let bytes = c.args.bytes.now in
     let told : opened bytes ≡ with_body (header_of c.in_ok-view.view) c.in_ok-header.body.now =
     body_told bytes c.in-Some.ensures.0 (header_in c.in_ok-header.header) (sym (ap header_at c.in-Some.ensures.1) ∙ c.in_ok-header.ensures.found) c.in_ok-view.ensures.lies (header_of c.in_ok-view.view)
     (ap header_of c.in_ok-view.ensures.made) in
-    subst (λ (t : Result Saved FileFault). IsRead t (Err c.in-Err.fault)) (sym told) c.in-Err.ensures.read
+    let read : IsRead (opened bytes) c.filled.result = subst (λ (t : Result Saved FileFault). IsRead t c.filled.result) (sym told) c.filled.ensures.read in
+    record { read = read; file = read_is_file bytes c.filled.result read; steps = c.filled.ensures.steps }
