@@ -13,7 +13,8 @@ module llama_layout
     enumerator :: LLY_BAD_EXTENTS = 15, LLY_BAD_MAPPING = 16, LLY_TOO_BIG = 17, LLY_BAD_KERNEL = 18, LLY_EMPTY = 19
     enumerator :: LLY_MISSING_COLUMN = 20, LLY_COLUMN_TWICE = 21, LLY_SHORT_ROW = 22, LLY_NUMBER = 23, LLY_BAD_FILE = 24
     enumerator :: LLY_NULL = 25, LLY_SAME = 26, LLY_TWICE = 27, LLY_OVERFLOW = 28, LLY_DIVIDE_BY_ZERO = 29
-    enumerator :: LLY_NOT_COUNTED = 30, LLY_BAD_WINDOW = 31, LLY_IRREGULAR = 32
+    enumerator :: LLY_NOT_COUNTED = 30, LLY_BAD_WINDOW = 31, LLY_IRREGULAR = 32, LLY_BAD_STENCIL = 33, LLY_BAD_ACTORS = 34
+    enumerator :: LLY_BAD_ADVICE = 35, LLY_SHARED_BYTE = 36
   end enum
 
   ! A view, or none. It is never copied while it holds one, so no variable of this type is assigned to another.
@@ -200,6 +201,28 @@ module llama_layout
       type(lly_fault), intent(inout) :: fault
     end function
 
+    ! Of any numbers, of integers and of reals: bits is storage_size(bytes), sign is .true. of integers with one, and bytes_len is c_sizeof(bytes).
+    integer(c_int32_t) function lly_get_run_as(view, first, leaf, bits, sign, bytes, bytes_len) bind(c)
+      import
+      type(lly_view), intent(inout) :: view
+      integer(c_int64_t), value :: first
+      integer(c_size_t), value :: leaf, bytes_len
+      integer(c_int32_t), value :: bits
+      logical(c_bool), value :: sign
+      type(*), intent(inout) :: bytes(*)
+    end function
+
+    integer(c_int32_t) function lly_set_run_as(view, first, leaf, bits, sign, bytes, bytes_len, fault) bind(c)
+      import
+      type(lly_view), intent(inout) :: view
+      integer(c_int64_t), value :: first
+      integer(c_size_t), value :: leaf, bytes_len
+      integer(c_int32_t), value :: bits
+      logical(c_bool), value :: sign
+      type(*), intent(in) :: bytes(*)
+      type(lly_fault), intent(inout) :: fault
+    end function
+
     integer(c_int32_t) function lly_gather(view, rows, count, leaf, values) bind(c)
       import
       type(lly_view), intent(inout) :: view
@@ -239,6 +262,40 @@ module llama_layout
       type(lly_view), intent(inout) :: view
       integer(c_int64_t), intent(in) :: rows(*)
       integer(c_size_t), value :: count, leaf
+      integer(c_int64_t), intent(in) :: values(*)
+      type(lly_fault), intent(inout) :: fault
+    end function
+
+    integer(c_int32_t) function lly_get_box(view, low, high, rank, leaf, values, count) bind(c)
+      import
+      type(lly_view), intent(inout) :: view
+      integer(c_int64_t), intent(in) :: low(*), high(*)
+      integer(c_size_t), value :: rank, leaf, count
+      integer(c_int64_t), intent(inout) :: values(*)
+    end function
+
+    integer(c_int32_t) function lly_get_box_u64(view, low, high, rank, leaf, values, count) bind(c)
+      import
+      type(lly_view), intent(inout) :: view
+      integer(c_int64_t), intent(in) :: low(*), high(*)
+      integer(c_size_t), value :: rank, leaf, count
+      integer(c_int64_t), intent(inout) :: values(*)
+    end function
+
+    integer(c_int32_t) function lly_set_box(view, low, high, rank, leaf, values, count, fault) bind(c)
+      import
+      type(lly_view), intent(inout) :: view
+      integer(c_int64_t), intent(in) :: low(*), high(*)
+      integer(c_size_t), value :: rank, leaf, count
+      integer(c_int64_t), intent(in) :: values(*)
+      type(lly_fault), intent(inout) :: fault
+    end function
+
+    integer(c_int32_t) function lly_set_box_u64(view, low, high, rank, leaf, values, count, fault) bind(c)
+      import
+      type(lly_view), intent(inout) :: view
+      integer(c_int64_t), intent(in) :: low(*), high(*)
+      integer(c_size_t), value :: rank, leaf, count
       integer(c_int64_t), intent(in) :: values(*)
       type(lly_fault), intent(inout) :: fault
     end function
@@ -307,6 +364,38 @@ module llama_layout
       integer(c_size_t), value :: blob, bytes_len
       character(kind=c_char), intent(inout) :: bytes(*)
       integer(c_size_t), intent(inout) :: needed
+    end function
+
+    integer(c_int32_t) function lly_record(view, text, text_len, needed) bind(c)
+      import
+      type(lly_view), intent(inout) :: view
+      character(kind=c_char), intent(inout) :: text(*)
+      integer(c_size_t), value :: text_len
+      integer(c_size_t), intent(inout) :: needed
+    end function
+
+    integer(c_int32_t) function lly_layout(view, text, text_len, needed) bind(c)
+      import
+      type(lly_view), intent(inout) :: view
+      character(kind=c_char), intent(inout) :: text(*)
+      integer(c_size_t), value :: text_len
+      integer(c_size_t), intent(inout) :: needed
+    end function
+
+    integer(c_int32_t) function lly_lend(view, bytes, bytes_len, needed) bind(c)
+      import
+      type(lly_view), intent(inout) :: view
+      character(kind=c_char), intent(inout) :: bytes(*)
+      integer(c_size_t), value :: bytes_len
+      integer(c_size_t), intent(inout) :: needed
+    end function
+
+    integer(c_int32_t) function lly_return(view, bytes, bytes_len, fault) bind(c)
+      import
+      type(lly_view), intent(inout) :: view
+      character(kind=c_char), intent(in) :: bytes(*)
+      integer(c_size_t), value :: bytes_len
+      type(lly_fault), intent(inout) :: fault
     end function
 
     integer(c_int32_t) function lly_message(answer, fault, text, text_len, needed) bind(c)

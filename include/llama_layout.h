@@ -19,8 +19,8 @@
  *
  * A text is bytes with a length, not ended by 0. Lines are those of the second version of the language, whole, of at most 4,096 bytes. Rows,
  * leaves and blobs count from 0: leaf 0 is the first of the record. Memory is taken by lly_new, lly_load, lly_open, lly_relayout,
- * lly_kernel, lly_do, lly_tell, lly_print, lly_save and lly_message alone; each may answer LLY_NO_MEMORY, and then changes nothing but counts
- * of accesses. A call takes at most 64 KiB of stack, whatever text it is handed: this is measured, not proved.
+ * lly_kernel, lly_do, lly_tell, lly_print, lly_save, lly_record, lly_layout, lly_return and lly_message alone; each may answer LLY_NO_MEMORY, and then
+ * changes nothing but counts of accesses. A call takes at most 64 KiB of stack, whatever text it is handed: this is measured, not proved.
  * Each call but lly_drop and lly_version answers a number below, and changes nothing but what it says.
  */
 #ifndef LLAMA_LAYOUT_H
@@ -34,10 +34,10 @@
 extern "C" {
 #endif
 
-/* The version of this header, 1.1.0. lly_version gives that of the library, which fits where the first of the three numbers is the same: version / 10000.
+/* The version of this header, 1.2.0. lly_version gives that of the library, which fits where the first of the three numbers is the same: version / 10000.
  * The shared library has it in its name and in those of its calls, so that no program is started with one that does not fit.
  */
-#define LLY_VERSION 10100
+#define LLY_VERSION 10200
 
 /* A view, or none: then full is false, and the rest means nothing. */
 typedef struct lly_view {
@@ -82,7 +82,11 @@ enum {
     LLY_DIVIDE_BY_ZERO = 29, /* a divisor in an expression is 0: row */
     LLY_NOT_COUNTED = 30,    /* the view counts no accesses */
     LLY_BAD_WINDOW = 31,     /* the spans are no window of the extents */
-    LLY_IRREGULAR = 32       /* the numbers of the leaf lie as no lly_places says, or accesses to them are counted: leaf */
+    LLY_IRREGULAR = 32,      /* the numbers of the leaf lie as no lly_places says, or accesses to them are counted: leaf */
+    LLY_BAD_STENCIL = 33,    /* the stencil is refused: cause */
+    LLY_BAD_ACTORS = 34,     /* the rows are not shared out among actors: cause */
+    LLY_BAD_ADVICE = 35,     /* no layout is advised: cause */
+    LLY_SHARED_BYTE = 36     /* a byte holds bits of rows of two actors: row is its blob, column its place there, from 0 */
 };
 
 /* The cause in a fault of LLY_SYNTAX, LLY_TOO_DEEP, LLY_OTHER_LINE and LLY_LINE_TOO_LONG: which text of the call it is. */
@@ -133,6 +137,27 @@ enum {
     LLY_FILE_LAYOUT = 3,  /* no view is made of the header */
     LLY_FILE_LENGTH = 4,  /* the bytes behind the header are not as many as those of the blobs */
     LLY_FILE_CONTENTS = 5 /* they are not the image of rows that such a view may hold */
+};
+
+/* That of LLY_BAD_STENCIL. */
+enum {
+    LLY_STENCIL_REACH = 1,  /* offsets have another rank or are out of range, or from some row of the window they reach outside the extents */
+    LLY_STENCIL_WEIGHT = 2, /* a weight or the divisor is out of range */
+    LLY_STENCIL_TERMS = 3,  /* there are more than 64 terms */
+    LLY_STENCIL_ROUNDS = 4  /* there are more than 1,000 rounds */
+};
+
+/* That of LLY_BAD_ACTORS. */
+enum {
+    LLY_ACTORS_CUTS = 1, /* there are more than 63 cuts, they fall somewhere, or one is over the number of rows */
+    LLY_ACTORS_TURNS = 2 /* there are more than 2^20 turns */
+};
+
+/* That of LLY_BAD_ADVICE. */
+enum {
+    LLY_ADVICE_GRANULE = 1,   /* the granule is no power of two from 1 to 4,096 */
+    LLY_ADVICE_PASSES = 2,    /* there are more than 16 passes */
+    LLY_ADVICE_CANDIDATES = 3 /* there are more than 16 candidates */
 };
 
 /* Where and why a call was refused, beside its answer. A refusal other than LLY_NULL and LLY_SAME sets all of it, what its answer does not
@@ -227,6 +252,34 @@ int32_t lly_get_run_u64(lly_view *view, uint64_t first, size_t leaf, uint64_t *v
 int32_t lly_set_run(lly_view *view, uint64_t first, size_t leaf, const int64_t *values, size_t count, lly_fault *fault);
 int32_t lly_set_run_u64(lly_view *view, uint64_t first, size_t leaf, const uint64_t *values, size_t count, lly_fault *fault);
 
+/* The same of numbers of another width: bits is 8, 16, 32 or 64, sign says whether there is one, and the numbers are as many as fill the bytes, one after another,
+ * the least significant byte of each first. LLY_BAD_TYPE where bits is none of these, and of a read also where some value of the leaf's type is no such number.
+ * LLY_NO_PLACE also where the bytes are no whole number of numbers.
+ */
+int32_t lly_get_run_as(lly_view *view, uint64_t first, size_t leaf, uint32_t bits, bool sign, uint8_t *bytes, size_t bytes_len);
+int32_t lly_set_run_as(lly_view *view, uint64_t first, size_t leaf, uint32_t bits, bool sign, const uint8_t *bytes, size_t bytes_len, lly_fault *fault);
+
+/* The same of arrays by their types: lly_get_run_i8, lly_set_run_i8 and so on. `_f64` carries the bits of a double in a `u64` leaf, and `_f32` those of a float in a
+ * `u32` leaf: copies, layouts, files and places keep them as they are, but expressions, kernels and texts see whole numbers. To compute with fractions store them in
+ * fixed point, as whole numbers of a small unit.
+ */
+#define LLY_RUN_OF(name, type, bits, sign)                                                                                                       \
+    static inline int32_t lly_get_run_##name(lly_view *view, uint64_t first, size_t leaf, type *values, size_t count) {                           \
+        return lly_get_run_as(view, first, leaf, bits, sign, (uint8_t *)values, count * sizeof *values);                                          \
+    }                                                                                                                                             \
+    static inline int32_t lly_set_run_##name(lly_view *view, uint64_t first, size_t leaf, const type *values, size_t count, lly_fault *fault) {   \
+        return lly_set_run_as(view, first, leaf, bits, sign, (const uint8_t *)values, count * sizeof *values, fault);                             \
+    }
+LLY_RUN_OF(i8, int8_t, 8, true)
+LLY_RUN_OF(i16, int16_t, 16, true)
+LLY_RUN_OF(i32, int32_t, 32, true)
+LLY_RUN_OF(u8, uint8_t, 8, false)
+LLY_RUN_OF(u16, uint16_t, 16, false)
+LLY_RUN_OF(u32, uint32_t, 32, false)
+LLY_RUN_OF(f32, float, 32, false)
+LLY_RUN_OF(f64, double, 64, false)
+#undef LLY_RUN_OF
+
 /* ---- One leaf of the rows of a list: values[k] is that of row rows[k], and both arrays have count elements. A row may stand in the list more than
  * once. All rows are tested before one is read or stored: LLY_NO_PLACE where some row or the leaf is none, and nothing changes. */
 
@@ -247,6 +300,20 @@ int32_t lly_scatter_u64(lly_view *view, const uint64_t *rows, size_t count, size
  * the word `wrap` keeps its low bits. A view that counts accesses counts a read and a write for each value, and for one that is refused the read.
  */
 int32_t lly_scatter_add(lly_view *view, const uint64_t *rows, size_t count, size_t leaf, const int64_t *values, lly_fault *fault);
+
+/* ---- One leaf of the rows of a box: of those whose index has low[d] <= index[d] < high[d] for each extent d, in their order, so the last component of
+ * the index runs fastest. A box with low[d] == high[d] has no row. LLY_BAD_WINDOW where rank is not the number of the extents, or a low bound is above its
+ * high one, or a high one above its extent; then LLY_NO_PLACE where the leaf is none, or count is not the number of rows; and nothing changes. */
+
+/* The values of a leaf in these rows, as lly_gather gives them. */
+int32_t lly_get_box(lly_view *view, const uint64_t *low, const uint64_t *high, size_t rank, size_t leaf, int64_t *values, size_t count);
+int32_t lly_get_box_u64(lly_view *view, const uint64_t *low, const uint64_t *high, size_t rank, size_t leaf, uint64_t *values, size_t count);
+
+/* Stores values in these rows, as lly_scatter does. */
+int32_t lly_set_box(lly_view *view, const uint64_t *low, const uint64_t *high, size_t rank, size_t leaf, const int64_t *values, size_t count,
+                    lly_fault *fault);
+int32_t lly_set_box_u64(lly_view *view, const uint64_t *low, const uint64_t *high, size_t rank, size_t leaf, const uint64_t *values, size_t count,
+                        lly_fault *fault);
 
 /* ---- Whole tables. */
 
@@ -270,17 +337,18 @@ int32_t lly_kernel(lly_view *view, const uint8_t *line, size_t line_len, int64_t
 /* ---- Lines of a script. A call does what the command of its line does in a script that has nothing but this view, by the name that the line gives
  * it: so any name will do, and no mapping has one. */
 
-/* Does a line `set V[..].path = ..`, `update V ..` without actors, `kernel V .. lanes N` or `reduce V ..`. The number that the command writes goes
- * to *number; where it writes none, that stays as it was, and where it is no int64_t the answer is LLY_BAD_TYPE. LLY_RANGE, LLY_NARROW, LLY_OVERFLOW and
- * LLY_DIVIDE_BY_ZERO name the first row that is refused: an update and a kernel have changed exactly the rows before it. Every other refusal
- * leaves all values as they were; what was read up to it may be counted. Other lines are LLY_OTHER_LINE: `relayout` and `copy` have calls of their own,
- * and `stencil`, `advise` and an update by actors are for scripts alone.
+/* Does a line `set V[..].path = ..`, `update V ..`, with actors too, `reduce V ..`, `kernel V .. lanes N`, `stencil V ..` or `relayout V as ..`. The number
+ * that the command writes goes to *number; where it writes none, that stays as it was, and where it is no int64_t the answer is LLY_BAD_TYPE. The memory
+ * that an update by actors shows is not told. LLY_RANGE, LLY_NARROW, LLY_OVERFLOW and LLY_DIVIDE_BY_ZERO name the first row that is refused: an update
+ * without actors and a kernel have changed exactly the rows before it, and a stencil has made the rounds before that one. Every other refusal
+ * leaves all values as they were; what was read up to it may be counted. `relayout` makes the new table beside the old one, as in a script. Other lines
+ * are LLY_OTHER_LINE: `copy` has a call of its own.
  */
 int32_t lly_do(lly_view *view, const uint8_t *line, size_t line_len, int64_t *number, lly_fault *fault);
 
-/* Puts what a line `print V`, `print V window [..]`, `counts V`, `heat V`, `layout V` or `bytes V B` writes into a buffer, as the calls below put
- * bytes there. No value changes. A view that counts accesses counts the reads, also where the buffer is too short. LLY_NO_PLACE where `bytes` names no
- * blob, LLY_TOO_BIG where the blobs that `layout` or `bytes` shows have more than 65,536 bytes.
+/* Puts what a line `print V`, `print V window [..]`, `counts V`, `heat V`, `layout V`, `bytes V B` or `advise V ..` writes into a buffer, as the calls
+ * below put bytes there. No value changes. A view that counts accesses counts the reads, also where the buffer is too short. LLY_NO_PLACE where `bytes` names
+ * no blob, LLY_TOO_BIG where the blobs that `layout` or `bytes` shows have more than 65,536 bytes.
  */
 int32_t lly_tell(lly_view *view, const uint8_t *line, size_t line_len, uint8_t *text, size_t text_len, size_t *needed, lly_fault *fault);
 
@@ -297,13 +365,28 @@ int32_t lly_save(lly_view *view, uint8_t *bytes, size_t bytes_len, size_t *neede
 /* The bytes of a blob, bit for bit what the layout says, with padding 0. */
 int32_t lly_blob(lly_view *view, size_t blob, uint8_t *bytes, size_t bytes_len, size_t *needed);
 
+/* The texts of the two lines of which lly_new makes a view of zeros like this one, where neither has more than 4,096 bytes: `record R { .. }` and
+ * `view V : R [..] as ..`. So a program can read a file that it has not made. */
+int32_t lly_record(lly_view *view, uint8_t *text, size_t text_len, size_t *needed);
+int32_t lly_layout(lly_view *view, uint8_t *text, size_t text_len, size_t *needed);
+
+/* The bytes of all blobs, one behind another: each begins at the sum of the lengths of those before it. They are lent: a program changes numbers in them,
+ * where lly_place says that they lie, and hands them to lly_return. */
+int32_t lly_lend(lly_view *view, uint8_t *bytes, size_t bytes_len, size_t *needed);
+
+/* Makes the table of the view the one of which these are the bytes of the blobs, one behind another. LLY_BAD_FILE with LLY_FILE_LENGTH where they are not as many, and
+ * with LLY_FILE_CONTENTS where they are not the image of rows that the view may hold: so a number outside of the declared range of its leaf and a bit of padding that
+ * is 1 are found. On a refusal the view stays as it was. A view that counts accesses begins anew, with a write of each value. Bytes that come back as they
+ * were lent leave each value as it was. */
+int32_t lly_return(lly_view *view, const uint8_t *bytes, size_t bytes_len, lly_fault *fault);
+
 /* The words of an answer and of the fault that came with it, as `Range record 3 leaf 1`: those that a script prints where a script has some, but a leaf
  * is its number and a name is left out. A call without a fault has LLY_NO_FAULT. LLY_NO_PLACE where no call answers so. */
 int32_t lly_message(int32_t answer, const lly_fault *fault, uint8_t *text, size_t text_len, size_t *needed);
 
 /* ---- Numbers without a call: where those of a leaf lie is asked once, and a loop reads them. llama_layout_places.h has C that does. What the caller owes:
- * - The bytes are read, and never written.
- * - They lie where lly_blob_at says until the handle is handed to lly_new, lly_load, lly_open, lly_relayout or lly_drop. No other call moves them.
+ * - The bytes are read, and never written: lly_lend has a copy that may be.
+ * - They lie where lly_blob_at says until the handle is handed to lly_new, lly_load, lly_open, lly_relayout, lly_return or lly_drop. No other call moves them.
  * - lly_set and its like, lly_copy into the view and lly_kernel change them, so nobody reads while such a call runs. Beside other calls, and where there is none,
  *   any number of threads may read.
  * - Places are used with the blob that they name, of the view that they were told of or a whole copy of it, and for rows of that view.
@@ -338,7 +421,7 @@ typedef struct lly_places {
 
 /* The places of a leaf. LLY_NO_PLACE where there is no such leaf. LLY_IRREGULAR where accesses are counted, where `change` stores the leaf in another sign
  * than that of its type, and where no lly_places say where it lies. Exactly then: so by rows under aos, soa, aosoa, bitaos, bitsoa and byteswap each leaf has
- * places, but for fields of 58 to 63 bits. Only in Morton order, and of a view without rows, it may be answered though there are some. On a refusal *places
+ * places, but for fields of more than 57 bits that are no whole bytes at a byte. Only in Morton order, and of a view without rows, it may be answered though there are some. On a refusal *places
  * stays as it was. It takes no memory. Under most layouts it looks at no row, and else at each.
  */
 int32_t lly_place(lly_view *view, size_t leaf, lly_places *places, lly_fault *fault);

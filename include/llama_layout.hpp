@@ -2,12 +2,15 @@
 #ifndef LLAMA_LAYOUT_HPP
 #define LLAMA_LAYOUT_HPP
 
+#include <algorithm>
 #include <cstddef>
 #include <cstdint>
 #include <cstring>
+#include <functional>
 #include <iterator>
 #include <initializer_list>
 #include <new>
+#include <numeric>
 #include <stdexcept>
 #include <string>
 #include <string_view>
@@ -56,6 +59,10 @@ inline const char *message(std::int32_t answer) noexcept {
     case LLY_NOT_COUNTED: return "the view counts no accesses";
     case LLY_BAD_WINDOW: return "the spans are no window of the extents";
     case LLY_IRREGULAR: return "the numbers of the leaf lie as no lly_places says, or accesses to them are counted";
+    case LLY_BAD_STENCIL: return "the stencil is refused";
+    case LLY_BAD_ACTORS: return "the rows are not shared out among actors";
+    case LLY_BAD_ADVICE: return "no layout is advised";
+    case LLY_SHARED_BYTE: return "a byte holds bits of rows of two actors";
     default: return "an answer of a later version";
     }
 }
@@ -188,11 +195,30 @@ struct read_field : by_spots {
     }
 };
 
-/// The numbers of a leaf where they lie, as an object that copies nothing and makes no call. It is of use as long as lly_blob_at says of its view.
+/// The rows of an array: `shape(i, j)` is that of an index, whose last number runs fastest. What is no index of the array gives no row of it.
+class shape {
+public:
+    explicit shape(std::vector<std::uint64_t> extents) : extents_(std::move(extents)) {}
+
+    std::uint64_t rows() const { return std::accumulate(extents_.begin(), extents_.end(), std::uint64_t(1), std::multiplies<>()); }
+
+    template <typename... Index>
+    std::uint64_t operator()(Index... index) const {
+        std::uint64_t row = 0;
+        std::size_t dimension = 0;
+        ((row = row * extents_[dimension++] + static_cast<std::uint64_t>(index)), ...);
+        return row;
+    }
+
+private:
+    std::vector<std::uint64_t> extents_;
+};
+
+/// The numbers of a leaf where they lie, as an object that copies nothing and makes no call: `column[row]`, or `column(i, j)` by an index. It is of use as long as lly_blob_at says of its view.
 template <typename Number>
 class column {
 public:
-    column(const std::uint8_t *blob, const lly_places &places, std::uint64_t rows) : blob_(blob), places_(places), rows_(rows) {
+    column(const std::uint8_t *blob, const lly_places &places, lly::shape shape) : blob_(blob), places_(places), rows_(shape.rows()), shape_(std::move(shape)) {
         static_assert(std::is_integral_v<Number>, "a view holds whole numbers");
         const std::size_t bits = 8 * sizeof(Number);
         if (std::is_signed_v<Number> != places.is_signed || (places.in_bits ? bits < places.width : bits != places.width)) {
@@ -203,6 +229,11 @@ public:
     std::uint64_t size() const { return rows_; }
     const lly_places &places() const { return places_; }
     Number operator[](std::uint64_t row) const { return static_cast<Number>(lly_number(blob_, &places_, row)); }
+    template <typename... Index>
+    Number operator()(Index... index) const {
+        return (*this)[shape_(index...)];
+    }
+    const lly::shape &shape() const { return shape_; }
 
     /// Hands all rows on, in their order, by runs that lie evenly. Each is of one of several types, so the function is a generic one:
     /// `column.runs([&](auto numbers) { for (const auto number : numbers) { .. } })`.
@@ -265,6 +296,70 @@ private:
     const std::uint8_t *blob_;
     lly_places places_;
     std::uint64_t rows_;
+    lly::shape shape_;
+};
+
+/// The numbers of a leaf in bytes that a view lent, where they lie: `column[row] = column[row] + 1`. Of a number that is written the low bits stay that have a place.
+template <typename Number>
+class lent_column {
+public:
+    class number {
+    public:
+        number(const lent_column &of, std::uint64_t row) : of_(of), row_(row) {}
+        operator Number() const { return of_.read_[row_]; }
+        Number operator=(Number number) const {
+            of_.put(row_, number);
+            return number;
+        }
+        Number operator=(const number &other) const { return *this = static_cast<Number>(other); }
+
+    private:
+        const lent_column &of_;
+        std::uint64_t row_;
+    };
+
+    lent_column(std::uint8_t *blob, const lly_places &places, lly::shape shape)
+        : read_(blob, places, std::move(shape)), blob_(blob), is_even_(!places.in_bits && !places.is_turned && !places.in_digits && places.lanes >= read_.size()) {}
+
+    std::uint64_t size() const { return read_.size(); }
+    number operator[](std::uint64_t row) const { return {*this, row}; }
+    template <typename... Index>
+    number operator()(Index... index) const {
+        return (*this)[read_.shape()(index...)];
+    }
+
+private:
+    void put(std::uint64_t row, Number number) const {
+        const lly_places &places = read_.places();
+        if (is_even_) {
+            std::memcpy(blob_ + places.base + row * places.lane, &number, sizeof number);
+        } else {
+            lly_put_number(blob_, &places, row, static_cast<std::int64_t>(number));
+        }
+    }
+
+    column<Number> read_;
+    std::uint8_t *blob_;
+    bool is_even_;
+};
+
+class view;
+
+/// The bytes of all blobs of a view, one behind another, as `view.edit` lends them.
+class lent {
+public:
+    explicit lent(view &of);
+
+    /// The numbers of a leaf in them, as `view.column` has those of the view.
+    template <typename Number = std::int64_t>
+    lent_column<Number> column(std::size_t leaf);
+    template <typename Number = std::int64_t>
+    lent_column<Number> column(std::string_view path);
+
+    std::vector<std::uint8_t> bytes;
+
+private:
+    view &of_;
 };
 
 /// A view, which is moved and never copied, and goes with its object. Numbers are `std::int64_t` or, of leaves of `u64`, `std::uint64_t`.
@@ -357,14 +452,16 @@ public:
         }
     }
 
-    /// The numbers of a leaf in so many rows from the first on.
+    /// The numbers of a leaf in so many rows from the first on, in any type of whole numbers. A `double` or a `float` has the bits of what a `u64` or a `u32` holds.
     template <typename Number = std::int64_t>
     std::vector<Number> run(std::uint64_t first, std::size_t leaf, std::size_t count) {
         std::vector<Number> values(count);
-        if constexpr (is_unsigned<Number>()) {
+        if constexpr (std::is_same_v<Number, std::uint64_t>) {
             must(lly_get_run_u64(&handle_, first, leaf, values.data(), count));
-        } else {
+        } else if constexpr (std::is_same_v<Number, std::int64_t>) {
             must(lly_get_run(&handle_, first, leaf, values.data(), count));
+        } else {
+            must(lly_get_run_as(&handle_, first, leaf, 8 * sizeof(Number), has_sign<Number>(), reinterpret_cast<std::uint8_t *>(values.data()), count * sizeof(Number)));
         }
         return values;
     }
@@ -372,10 +469,13 @@ public:
     template <typename Number>
     void set_run(std::uint64_t first, std::size_t leaf, const std::vector<Number> &values) {
         checked([&](lly_fault *fault) {
-            if constexpr (is_unsigned<Number>()) {
+            if constexpr (std::is_same_v<Number, std::uint64_t>) {
                 return lly_set_run_u64(&handle_, first, leaf, values.data(), values.size(), fault);
-            } else {
+            } else if constexpr (std::is_same_v<Number, std::int64_t>) {
                 return lly_set_run(&handle_, first, leaf, values.data(), values.size(), fault);
+            } else {
+                const auto *const numbers = reinterpret_cast<const std::uint8_t *>(values.data());
+                return lly_set_run_as(&handle_, first, leaf, 8 * sizeof(Number), has_sign<Number>(), numbers, values.size() * sizeof(Number), fault);
             }
         });
     }
@@ -411,20 +511,69 @@ public:
         checked([&](lly_fault *fault) { return lly_scatter_add(&handle_, rows.data(), rows.size(), leaf, values.data(), fault); });
     }
 
+    /// The numbers of a leaf in the rows of a box, the last index fastest. Bounds of two lengths throw `LLY_BAD_WINDOW`.
+    template <typename Number = std::int64_t>
+    std::vector<Number> box(const std::vector<std::uint64_t> &low, const std::vector<std::uint64_t> &high, std::size_t leaf) {
+        must(low.size() == high.size() ? LLY_DONE : LLY_BAD_WINDOW);
+        const std::uint64_t most = rows();
+        std::uint64_t count = 1;
+        for (std::size_t d = 0; d < low.size(); d++) {
+            count = std::min(most, count * (low[d] < high[d] ? std::min(most, high[d] - low[d]) : 0));
+        }
+        std::vector<Number> values(count);
+        if constexpr (is_unsigned<Number>()) {
+            must(lly_get_box_u64(&handle_, low.data(), high.data(), low.size(), leaf, values.data(), count));
+        } else {
+            must(lly_get_box(&handle_, low.data(), high.data(), low.size(), leaf, values.data(), count));
+        }
+        return values;
+    }
+
+    /// Stores a number in each row of a box, in their order.
+    template <typename Number>
+    void set_box(const std::vector<std::uint64_t> &low, const std::vector<std::uint64_t> &high, std::size_t leaf, const std::vector<Number> &values) {
+        must(low.size() == high.size() ? LLY_DONE : LLY_BAD_WINDOW);
+        checked([&](lly_fault *fault) {
+            if constexpr (is_unsigned<Number>()) {
+                return lly_set_box_u64(&handle_, low.data(), high.data(), low.size(), leaf, values.data(), values.size(), fault);
+            } else {
+                return lly_set_box(&handle_, low.data(), high.data(), low.size(), leaf, values.data(), values.size(), fault);
+            }
+        });
+    }
+
     /// The numbers of a leaf where they lie. The type is that in which they are stored; of a field of bits it is as wide or wider.
     template <typename Number = std::int64_t>
     lly::column<Number> column(std::size_t leaf) {
-        lly_places places;
-        checked([&](lly_fault *fault) { return lly_place(&handle_, leaf, &places, fault); });
-        const std::uint8_t *blob = nullptr;
-        std::size_t length = 0;
-        must(lly_blob_at(&handle_, places.blob, &blob, &length));
-        return {blob, places, rows()};
+        const lly_places places = this->places(leaf);
+        return {blob_at(places.blob).first, places, lly::shape(extents())};
     }
 
     template <typename Number = std::int64_t>
     lly::column<Number> column(std::string_view path) {
         return column<Number>(leaf(path));
+    }
+
+    lly_places places(std::size_t leaf) {
+        lly_places places;
+        checked([&](lly_fault *fault) { return lly_place(&handle_, leaf, &places, fault); });
+        return places;
+    }
+
+    /// Where the bytes of a blob lie, and how many they are.
+    std::pair<const std::uint8_t *, std::size_t> blob_at(std::size_t blob) {
+        std::pair<const std::uint8_t *, std::size_t> at;
+        must(lly_blob_at(&handle_, blob, &at.first, &at.second));
+        return at;
+    }
+
+    /// Lends the bytes of the blobs to a function, and has them back when it is done: `view.edit([](lly::lent &lent) { auto x = lent.column<std::int32_t>("x"); .. })`.
+    /// Where it throws, or they stand for no rows of the view, the view stays as it was.
+    template <typename Change>
+    void edit(Change change) {
+        lent lent(*this);
+        change(lent);
+        checked([&](lly_fault *fault) { return lly_return(&handle_, lent.bytes.data(), lent.bytes.size(), fault); });
     }
 
     void copy_to(view &target) {
@@ -461,6 +610,15 @@ public:
         return filled<std::string>([&](std::uint8_t *text, std::size_t room, std::size_t *needed) { return lly_print(&handle_, text, room, needed); });
     }
 
+    /// The lines of which a view of zeros like this one is made.
+    std::string record() {
+        return filled<std::string>([&](std::uint8_t *text, std::size_t room, std::size_t *needed) { return lly_record(&handle_, text, room, needed); });
+    }
+
+    std::string layout() {
+        return filled<std::string>([&](std::uint8_t *text, std::size_t room, std::size_t *needed) { return lly_layout(&handle_, text, room, needed); });
+    }
+
     std::vector<std::uint8_t> save() {
         return filled<std::vector<std::uint8_t>>([&](std::uint8_t *file, std::size_t room, std::size_t *needed) { return lly_save(&handle_, file, room, needed); });
     }
@@ -473,12 +631,20 @@ public:
     lly_view *handle() noexcept { return &handle_; }
 
 private:
+    friend class lent;
+
     view() = default;
 
     template <typename Number>
     static constexpr bool is_unsigned() {
         static_assert(std::is_same_v<Number, std::int64_t> || std::is_same_v<Number, std::uint64_t>, "numbers have 64 bits");
         return std::is_unsigned_v<Number>;
+    }
+
+    template <typename Number>
+    static constexpr bool has_sign() {
+        static_assert(std::is_arithmetic_v<Number> && sizeof(Number) <= 8, "numbers have at most 64 bits");
+        return std::is_integral_v<Number> && std::is_signed_v<Number>;
     }
 
     static const std::uint8_t *bytes(std::string_view text) { return reinterpret_cast<const std::uint8_t *>(text.data()); }
@@ -522,6 +688,25 @@ private:
 
     lly_view handle_ = LLY_NONE;
 };
+
+inline lent::lent(view &of) : of_(of) {
+    bytes = view::filled<std::vector<std::uint8_t>>([&](std::uint8_t *to, std::size_t room, std::size_t *needed) { return lly_lend(of.handle(), to, room, needed); });
+}
+
+template <typename Number>
+lent_column<Number> lent::column(std::size_t leaf) {
+    const lly_places places = of_.places(leaf);
+    std::uint8_t *blob = bytes.data();
+    for (std::size_t before = 0; before < places.blob; before++) {
+        blob += of_.blob_at(before).second;
+    }
+    return {blob, places, lly::shape(of_.extents())};
+}
+
+template <typename Number>
+lent_column<Number> lent::column(std::string_view path) {
+    return column<Number>(of_.leaf(path));
+}
 
 } // namespace lly
 

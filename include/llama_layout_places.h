@@ -1,9 +1,9 @@
-/* llama_layout_places.h: numbers read by their places, with no call.
+/* llama_layout_places.h: numbers read by their places, with no call, and written in bytes that lly_lend gave.
  *
  *     lly_column x;
  *     if (lly_column_of(&view, leaf, &x, &fault) == LLY_DONE) { .. lly_number(x.blob, &x.places, row) .. }
  *
- * What lly_place tells is proved. This is C, which is tested and not proved: that it reads what is told. llama_layout.h says what the caller owes.
+ * What lly_place tells is proved. This is C, which is tested and not proved: that it reads and writes what is told. llama_layout.h says what the caller owes.
  */
 #ifndef LLAMA_LAYOUT_PLACES_H
 #define LLAMA_LAYOUT_PLACES_H
@@ -105,6 +105,32 @@ static inline int64_t lly_number_at(const uint8_t *blob, const lly_places *place
 static inline int64_t lly_number(const uint8_t *blob, const lly_places *places, uint64_t row)
 {
     return lly_number_at(blob, places, lly_spot(places, row));
+}
+
+/* Makes the number that begins there this one, of which the low bits stay that have a place. */
+static inline void lly_put_number_at(uint8_t *blob, const lly_places *places, uint64_t spot, int64_t number)
+{
+    uint64_t left = (uint64_t)number;
+    uint32_t width = places->width, bits;
+
+    if (!places->in_bits) {
+        left = places->is_turned ? lly_turned(left, width) : left;
+        memcpy(blob + spot, &left, width / 8);
+        return;
+    }
+    for (; width > 0; width -= bits, left >>= bits, spot += bits) {
+        const uint32_t at = spot % 8;
+        uint8_t *const byte = blob + spot / 8;
+
+        bits = width < 8 - at ? width : 8 - at;
+        *byte = (uint8_t)((*byte & ~(((1u << bits) - 1) << at)) | (left & ((1u << bits) - 1)) << at);
+    }
+}
+
+/* The same in a row. */
+static inline void lly_put_number(uint8_t *blob, const lly_places *places, uint64_t row, int64_t number)
+{
+    lly_put_number_at(blob, places, lly_spot(places, row), number);
 }
 
 /* A leaf whose numbers are read where they lie. */

@@ -335,6 +335,73 @@ static void runs_under(const char *line) {
     EXPECT(lly_set_run_u64(&view, 0, 0, naturals, 1, &fault), LLY_NO_VIEW);
 }
 
+/* Numbers of each width, to and from leaves of each type, over more rows than go at once. */
+static void runs_of_each_width(void) {
+    enum { ROWS = 700 };
+    static int8_t small[ROWS], small_read[ROWS];
+    static uint16_t naturals[ROWS], naturals_read[ROWS];
+    static int32_t wide[ROWS];
+    static double doubles[ROWS], doubles_read[ROWS];
+    static float floats[ROWS], floats_read[ROWS];
+    lly_view view = LLY_NONE;
+    lly_fault fault = UNTOUCHED;
+    int64_t value = 0;
+    size_t k;
+    make(&view, "record P { x: i8, n: u16, on: bool, big: u64, f: u32 }", "view V : P [7, 101] as aosoa(8, row)");
+    for (k = 0; k < ROWS; k++) {
+        small[k] = (int8_t)(k % 256 - 128);
+        naturals[k] = (uint16_t)(k * 93);
+        doubles[k] = (k % 2 ? -1.0 : 1.0) / (double)(k + 1);
+        floats[k] = (float)doubles[k];
+    }
+    EXPECT(lly_set_run_i8(&view, 3, 0, small, ROWS, &fault), LLY_DONE);
+    EXPECT(lly_set_run_u16(&view, 3, 1, naturals, ROWS, &fault), LLY_DONE);
+    EXPECT(lly_set_run_f64(&view, 3, 3, doubles, ROWS, &fault), LLY_DONE);
+    EXPECT(lly_set_run_f32(&view, 3, 4, floats, ROWS, &fault), LLY_DONE);
+    EXPECT_NO_FAULT();
+    EXPECT(lly_get_run_i8(&view, 3, 0, small_read, ROWS), LLY_DONE);
+    EXPECT(lly_get_run_u16(&view, 3, 1, naturals_read, ROWS), LLY_DONE);
+    EXPECT(lly_get_run_f64(&view, 3, 3, doubles_read, ROWS), LLY_DONE);
+    EXPECT(lly_get_run_f32(&view, 3, 4, floats_read, ROWS), LLY_DONE);
+    EXPECT(memcmp(small, small_read, sizeof small), 0);
+    EXPECT(memcmp(naturals, naturals_read, sizeof naturals), 0);
+    EXPECT(memcmp(doubles, doubles_read, sizeof doubles), 0);
+    EXPECT(memcmp(floats, floats_read, sizeof floats), 0);
+    EXPECT(lly_get_run_i32(&view, 3, 0, wide, ROWS), LLY_DONE);
+    EXPECT(wide[5], -123);
+    EXPECT(lly_get_run_i32(&view, 3, 1, wide, ROWS), LLY_DONE);
+    EXPECT(wide[699], 65007);
+    EXPECT(lly_get_run_i8(&view, 0, 2, small_read, 5), LLY_DONE);
+    EXPECT(small_read[4], 0);
+    EXPECT(lly_get(&view, 3, 0, &value), LLY_DONE);
+    EXPECT(value, -128);
+    EXPECT(lly_get_run_u8(&view, 0, 0, (uint8_t *)small, 1), LLY_BAD_TYPE);
+    EXPECT(lly_get_run_u32(&view, 0, 0, (uint32_t *)wide, 1), LLY_BAD_TYPE);
+    EXPECT(lly_get_run_i16(&view, 0, 1, (int16_t *)naturals, 1), LLY_BAD_TYPE);
+    EXPECT(lly_get_run_f64(&view, 0, 0, doubles, 1), LLY_BAD_TYPE);
+    EXPECT(lly_get_run_as(&view, 0, 0, 24, true, (uint8_t *)wide, 3), LLY_BAD_TYPE);
+    EXPECT(lly_get_run_as(&view, 0, 0, 0, true, (uint8_t *)wide, 3), LLY_BAD_TYPE);
+    EXPECT(lly_get_run_as(&view, 0, 0, 32, true, (uint8_t *)wide, 6), LLY_NO_PLACE);
+    EXPECT(lly_get_run_i32(&view, 8, 0, wide, ROWS), LLY_NO_PLACE);
+    EXPECT(lly_get_run_i32(&view, 0, 5, wide, 1), LLY_NO_PLACE);
+    EXPECT(lly_get_run_i32(&view, 707, 0, NULL, 0), LLY_DONE);
+    EXPECT(wide[699], 65007);
+    wide[0] = 127;
+    wide[1] = 128;
+    EXPECT(lly_set_run_i32(&view, 10, 0, wide, 2, &fault), LLY_RANGE);
+    EXPECT_FAULT(0, 11, 0, 0);
+    EXPECT(lly_get_run_i8(&view, 10, 0, small_read, 2), LLY_DONE);
+    EXPECT(small_read[0], 127);
+    EXPECT(small_read[1], -120);
+    EXPECT(lly_set_run_i8(&view, 6, 3, small, 1, &fault), LLY_RANGE);
+    EXPECT_FAULT(0, 6, 3, 0);
+    EXPECT(lly_set_run_as(&view, 0, 0, 12, false, (uint8_t *)wide, 3, &fault), LLY_BAD_TYPE);
+    EXPECT(lly_set_run_as(&view, 0, 0, 16, false, (uint8_t *)wide, 3, &fault), LLY_NO_PLACE);
+    lly_drop(&view);
+    EXPECT(lly_get_run_u32(&view, 0, 0, (uint32_t *)wide, 1), LLY_NO_VIEW);
+    EXPECT(lly_set_run_u8(&view, 0, 0, (uint8_t *)wide, 1, &fault), LLY_NO_VIEW);
+}
+
 static void runs_are_read_and_stored(void) {
     static const char *const lines[] = {
         "view V : P [200] as aos(packed, row)",       "view V : P [200] as soa(multi, row)",        "view V : P [20, 10] as soa(single, col)",
@@ -442,6 +509,81 @@ static void lists_of_rows_are_read_and_stored(void) {
     EXPECT(lly_scatter_add(&view, twice, 2, 0, low, &fault), LLY_DONE);
     EXPECT(lly_gather(&view, twice, 2, 0, read), LLY_DONE);
     EXPECT(read[0], 1);
+    lly_drop(&view);
+}
+
+/* Boxes of 4 times 5 rows, of which each has its number in x. */
+static void boxes_under(const char *line) {
+    static const uint64_t low[] = {1, 2}, high[] = {3, 5}, none[] = {4, 0}, all[] = {4, 5}, outside[] = {4, 6}, wide[] = {3, UINT64_MAX};
+    static const uint64_t big[] = {1, 2, UINT64_MAX, 4, 5, 6};
+    static const int64_t due[] = {7, 8, 9, 12, 13, 14}, small[] = {1, 2, 3, 256, 5, 6};
+    lly_view view = LLY_NONE;
+    lly_fault fault = UNTOUCHED;
+    int64_t read[20];
+    uint64_t naturals[6] = {9, 9, 9, 9, 9, 9};
+    size_t k;
+    make(&view, "record P { x: i32, n: u8, big: u64 }", line);
+    for (k = 0; k < 20; k++) {
+        read[k] = (int64_t)k;
+    }
+    EXPECT(lly_set_box(&view, high, low, 2, 0, read, 20, &fault), LLY_BAD_WINDOW);
+    EXPECT_FAULT(0, 0, 0, 0);
+    EXPECT(lly_set_run(&view, 0, 0, read, 20, &fault), LLY_DONE);
+    EXPECT(lly_get_box(&view, low, high, 2, 0, read, 6), LLY_DONE);
+    EXPECT(memcmp(read, due, sizeof due), 0);
+    EXPECT(read[6], 6);
+    EXPECT(lly_set_box(&view, low, high, 2, 1, small, 6, &fault), LLY_RANGE);
+    EXPECT_FAULT(0, 12, 1, 0);
+    EXPECT(lly_get_box_u64(&view, low, high, 2, 1, naturals, 6), LLY_DONE);
+    EXPECT(naturals[2], 3);
+    EXPECT(naturals[3], 0);
+    EXPECT(lly_set_box_u64(&view, low, high, 2, 2, big, 6, &fault), LLY_DONE);
+    EXPECT(lly_get_box_u64(&view, low, high, 2, 2, naturals, 6), LLY_DONE);
+    EXPECT(memcmp(naturals, big, sizeof big), 0);
+    /* no window, then no place, then another type: nothing is read or stored */
+    EXPECT(lly_get_box(&view, low, high, 1, 3, read, 2), LLY_BAD_WINDOW);
+    EXPECT(lly_get_box(&view, NULL, NULL, 0, 0, read, 1), LLY_BAD_WINDOW);
+    EXPECT(lly_get_box(&view, high, low, 2, 0, read, 6), LLY_BAD_WINDOW);
+    EXPECT(lly_get_box(&view, low, outside, 2, 0, read, 6), LLY_BAD_WINDOW);
+    EXPECT(lly_get_box_u64(&view, low, wide, 2, 1, naturals, 6), LLY_BAD_WINDOW);
+    EXPECT(lly_set_box_u64(&view, low, wide, 2, 1, big, 6, &fault), LLY_BAD_WINDOW);
+    EXPECT_FAULT(0, 0, 0, 0);
+    EXPECT(lly_get_box(&view, low, high, 2, 0, read, 5), LLY_NO_PLACE);
+    EXPECT(lly_get_box(&view, low, high, 2, 3, read, 6), LLY_NO_PLACE);
+    EXPECT(lly_set_box(&view, low, high, 2, 1, small, 5, &fault), LLY_NO_PLACE);
+    EXPECT(lly_get_box(&view, low, high, 2, 2, read, 6), LLY_BAD_TYPE);
+    EXPECT(lly_get_box_u64(&view, low, high, 2, 0, naturals, 6), LLY_BAD_TYPE);
+    EXPECT(memcmp(read, due, sizeof due), 0);
+    EXPECT(memcmp(naturals, big, sizeof big), 0);
+    EXPECT(lly_get_box(&view, none, all, 2, 0, NULL, 0), LLY_DONE);
+    EXPECT(lly_set_box(&view, none, all, 2, 0, NULL, 0, &fault), LLY_DONE);
+    lly_drop(&view);
+    EXPECT(lly_get_box(&view, low, high, 2, 0, read, 6), LLY_NO_VIEW);
+    EXPECT(lly_get_box_u64(&view, low, high, 2, 1, naturals, 6), LLY_NO_VIEW);
+    EXPECT(lly_set_box(&view, low, high, 2, 0, due, 6, &fault), LLY_NO_VIEW);
+    EXPECT(lly_set_box_u64(&view, low, high, 2, 2, big, 6, &fault), LLY_NO_VIEW);
+}
+
+static void boxes_are_read_and_stored(void) {
+    static const char *const lines[] = {
+        "view V : P [4, 5] as aos(packed, row)",         "view V : P [4, 5] as soa(multi, col)", "view V : P [4, 5] as aosoa(4, morton)",
+        "view V : P [4, 5] as bitaos(9 { big: 64 }, row)", "view V : P [4, 5] as count(aos(min, row))",
+    };
+    static const uint64_t low[] = {0, 1, 0}, high[] = {2, 2, 3};
+    lly_view view = LLY_NONE;
+    lly_fault fault = UNTOUCHED;
+    int64_t values[6] = {1, 2, 3, 4, 5, 6};
+    uint64_t reads = 0, writes = 0;
+    size_t k;
+    for (k = 0; k < sizeof lines / sizeof lines[0]; k++) {
+        boxes_under(lines[k]);
+    }
+    make(&view, "record P { n: u8 }", "view V : P [2, 2, 3] as count(soa(multi, row))");
+    EXPECT(lly_set_box(&view, low, high, 3, 0, values, 6, &fault), LLY_DONE);
+    EXPECT(lly_get_box(&view, low, high, 3, 0, values, 6), LLY_DONE);
+    EXPECT(lly_counts(&view, 0, &reads, &writes), LLY_DONE);
+    EXPECT(10 * reads + writes, 66);
+    expect_print(&view, "n\n0\n0\n0\n1\n2\n3\n0\n0\n0\n4\n5\n6\n");
     lly_drop(&view);
 }
 
@@ -604,6 +746,46 @@ static void lines_are_done(void) {
     lly_drop(&view);
 }
 
+static void rounds_and_turns_are_done(void) {
+    lly_view view = LLY_NONE;
+    lly_fault fault = UNTOUCHED;
+    int64_t number = 9;
+    uint8_t text[4];
+    size_t needed = 9;
+    EXPECT(lly_load(&view, TEXT("record P { t: u8 }"), TEXT("load V : P [4] as aos(packed, row) from \"any\""), TEXT("t\n0\n10\n20\n40\n"), &fault), LLY_DONE);
+    fault = UNTOUCHED;
+    EXPECT(lly_do(&view, TEXT("stencil V window [1 : 3] set t = (1 * t at [-1], 1 * t at [1]) / 2 rounds 1"), &number, &fault), LLY_DONE);
+    expect_print(&view, "t\n0\n10\n25\n40\n");
+    EXPECT(lly_do(&view, TEXT("relayout V as soa(multi, row)"), &number, &fault), LLY_DONE);
+    EXPECT_NO_FAULT();
+    expect_print(&view, "t\n0\n10\n25\n40\n");
+    /* 0 + 2 * 25 and 10 + 2 * 40, then 0 + 2 * 90 and 50 + 2 * 40, then 0 + 2 * 130, which no u8 has: the first two rounds stay */
+    EXPECT(lly_do(&view, TEXT("stencil V window [1 : 3] set t = (1 * t at [-1], 2 * t at [1]) / 1 rounds 9"), &number, &fault), LLY_RANGE);
+    EXPECT_FAULT(0, 1, 0, 0);
+    expect_print(&view, "t\n0\n180\n130\n40\n");
+    EXPECT(lly_do(&view, TEXT("stencil V window [0 : 3] set t = (1 * t at [-1]) / 1 rounds 1"), &number, &fault), LLY_BAD_STENCIL);
+    EXPECT_FAULT(LLY_STENCIL_REACH, 0, 0, 0);
+    EXPECT(lly_do(&view, TEXT("stencil V window [0 : 5] set t = (1 * t at [0]) / 1 rounds 1"), &number, &fault), LLY_BAD_WINDOW);
+    EXPECT(lly_do(&view, TEXT("relayout V as bitaos(7, row)"), &number, &fault), LLY_NARROW);
+    EXPECT_FAULT(0, 1, 0, 0);
+    EXPECT(lly_do(&view, TEXT("relayout V as bitaos(0, row)"), &number, &fault), LLY_BAD_MAPPING);
+    expect_print(&view, "t\n0\n180\n130\n40\n");
+    make(&view, "record P { a: u16 }", "view V : P [4] as bitaos(12, row)");
+    EXPECT(lly_do(&view, TEXT("update V set a = 4095 actors [1] schedule 0 turns 4"), &number, &fault), LLY_SHARED_BYTE);
+    EXPECT_FAULT(0, 0, 0, 1);
+    EXPECT(lly_do(&view, TEXT("update V set a = 4095 actors [5] schedule 0 turns 4"), &number, &fault), LLY_BAD_ACTORS);
+    EXPECT_FAULT(LLY_ACTORS_CUTS, 0, 0, 0);
+    EXPECT(lly_do(&view, TEXT("update V set a = 70000 * i0 actors [2] schedule 0 turns 4"), &number, &fault), LLY_RANGE);
+    EXPECT_FAULT(0, 1, 0, 0);
+    expect_print(&view, "a\n0\n0\n0\n0\n");
+    EXPECT(lly_do(&view, TEXT("update V set a = i0 actors [2] schedule 0 turns 4"), &number, &fault), LLY_DONE);
+    expect_print(&view, "a\n0\n1\n2\n3\n");
+    EXPECT(lly_tell(&view, TEXT("advise V granule 3 pass a times 1 among aos(packed, row)"), text, 4, &needed, &fault), LLY_BAD_ADVICE);
+    EXPECT_FAULT(LLY_ADVICE_GRANULE, 0, 0, 0);
+    EXPECT(number, 9);
+    lly_drop(&view);
+}
+
 static void lines_are_told(void) {
     lly_view view = LLY_NONE;
     lly_fault fault = UNTOUCHED;
@@ -673,6 +855,68 @@ static void answers_have_words(void) {
     EXPECT(lly_message(-1, &none, NULL, 0, &needed), LLY_NO_PLACE);
     EXPECT(lly_message(LLY_BAD_RECORD, &none, NULL, 0, &needed), LLY_NO_PLACE);
     EXPECT(needed, 9);
+}
+
+/* The texts of an opened view make another one, and numbers are changed where they lie. */
+static void bytes_are_lent(void) {
+    lly_view view = LLY_NONE, again = LLY_NONE;
+    lly_fault fault = UNTOUCHED;
+    lly_places places;
+    uint8_t record[100], layout[100], bytes[16];
+    size_t needed = 9, record_len, layout_len;
+    uint64_t reads, writes;
+    EXPECT(lly_record(&view, record, 100, &needed), LLY_NO_VIEW);
+    EXPECT(lly_layout(&view, layout, 100, &needed), LLY_NO_VIEW);
+    EXPECT(lly_lend(&view, bytes, 16, &needed), LLY_NO_VIEW);
+    EXPECT(needed, 9);
+    EXPECT_NO_FAULT();
+    EXPECT(lly_return(&view, bytes, 16, &fault), LLY_NO_VIEW);
+    EXPECT_FAULT(0, 0, 0, 0);
+    fault = UNTOUCHED;
+    make(&view, "record P { on: bool, n: u16, x: i8 }", "view V : P [2] as split(x, soa(multi, row), aos(aligned, row))");
+    EXPECT(lly_record(&view, NULL, 0, &needed), LLY_NO_ROOM);
+    EXPECT(lly_record(&view, record, 100, &record_len), LLY_DONE);
+    EXPECT(needed, record_len);
+    EXPECT(memcmp(record, "record R { on : bool , n : u16 , x : i8 }", record_len), 0);
+    EXPECT(lly_layout(&view, layout, 100, &layout_len), LLY_DONE);
+    EXPECT(lly_new(&again, record, record_len, layout, layout_len, &fault), LLY_DONE);
+    EXPECT(lly_set(&view, 0, 1, 770), LLY_DONE);
+    EXPECT(lly_set(&view, 1, 2, -1), LLY_DONE);
+    memset(bytes, 0xAA, 16);
+    EXPECT(lly_lend(&view, bytes, 9, &needed), LLY_NO_ROOM);
+    EXPECT(needed, 10);
+    EXPECT(bytes[0], 0xAA);
+    EXPECT(lly_lend(&view, bytes, 16, &needed), LLY_DONE);
+    EXPECT(memcmp(bytes, "\x00\xFF\x00\x00\x02\x03\x00\x00\x00\x00\xAA", 11), 0);
+    EXPECT(lly_return(&again, bytes, 10, &fault), LLY_DONE);
+    expect_print(&again, "on,n,x\n0,770,0\n0,0,-1\n");
+    EXPECT(lly_place(&view, 1, &places, &fault), LLY_DONE);
+    EXPECT(places.blob, 1);
+    lly_put_number(bytes + 2, &places, 1, 65535);
+    EXPECT(lly_return(&view, bytes, 10, &fault), LLY_DONE);
+    EXPECT_NO_FAULT();
+    expect_print(&view, "on,n,x\n0,770,0\n0,65535,-1\n");
+    EXPECT(lly_return(&view, bytes, 9, &fault), LLY_BAD_FILE);
+    EXPECT_FAULT(LLY_FILE_LENGTH, 0, 0, 0);
+    EXPECT(lly_return(&view, bytes, 11, &fault), LLY_BAD_FILE);
+    EXPECT_FAULT(LLY_FILE_LENGTH, 0, 0, 0);
+    bytes[2] = 2; /* no bool */
+    EXPECT(lly_return(&view, bytes, 10, &fault), LLY_BAD_FILE);
+    EXPECT_FAULT(LLY_FILE_CONTENTS, 0, 0, 0);
+    bytes[2] = 1;
+    bytes[3] = 1; /* padding */
+    EXPECT(lly_return(&view, bytes, 10, &fault), LLY_BAD_FILE);
+    EXPECT_FAULT(LLY_FILE_CONTENTS, 0, 0, 0);
+    expect_print(&view, "on,n,x\n0,770,0\n0,65535,-1\n");
+    fault = UNTOUCHED;
+    make(&view, "record P { x: i8 }", "view V : P [2] as count(soa(multi, row))");
+    EXPECT(lly_get_run(&view, 0, 0, (int64_t *)layout, 2), LLY_DONE);
+    EXPECT(lly_lend(&view, bytes, 16, &needed), LLY_DONE);
+    EXPECT(lly_return(&view, bytes, 2, &fault), LLY_DONE);
+    EXPECT(lly_counts(&view, 0, &reads, &writes), LLY_DONE);
+    EXPECT(10 * reads + writes, 2);
+    lly_drop(&view);
+    lly_drop(&again);
 }
 
 static void bytes_are_copied_out(void) {
@@ -894,6 +1138,11 @@ static void null_is_answered(void) {
     EXPECT(lly_set_run_u64(NULL, 0, 3, naturals, 1, &fault), LLY_NULL);
     EXPECT(lly_set_run_u64(&view, 0, 3, NULL, 1, &fault), LLY_NULL);
     EXPECT(lly_set_run_u64(&view, 0, 3, naturals, 1, NULL), LLY_NULL);
+    EXPECT(lly_get_run_as(NULL, 0, 0, 8, true, bytes, 1), LLY_NULL);
+    EXPECT(lly_get_run_as(&view, 0, 0, 8, true, NULL, 1), LLY_NULL);
+    EXPECT(lly_set_run_as(NULL, 0, 0, 8, true, bytes, 1, &fault), LLY_NULL);
+    EXPECT(lly_set_run_as(&view, 0, 0, 8, true, NULL, 1, &fault), LLY_NULL);
+    EXPECT(lly_set_run_as(&view, 0, 0, 8, true, bytes, 1, NULL), LLY_NULL);
     EXPECT(lly_gather(NULL, naturals, 1, 0, values), LLY_NULL);
     EXPECT(lly_gather(&view, NULL, 1, 0, values), LLY_NULL);
     EXPECT(lly_gather(&view, naturals, 1, 0, NULL), LLY_NULL);
@@ -912,6 +1161,24 @@ static void null_is_answered(void) {
     EXPECT(lly_scatter_add(&view, NULL, 1, 0, values, &fault), LLY_NULL);
     EXPECT(lly_scatter_add(&view, naturals, 1, 0, NULL, &fault), LLY_NULL);
     EXPECT(lly_scatter_add(&view, naturals, 1, 0, values, NULL), LLY_NULL);
+    EXPECT(lly_get_box(NULL, naturals, naturals, 1, 0, values, 1), LLY_NULL);
+    EXPECT(lly_get_box(&view, NULL, naturals, 1, 0, values, 1), LLY_NULL);
+    EXPECT(lly_get_box(&view, naturals, NULL, 1, 0, values, 1), LLY_NULL);
+    EXPECT(lly_get_box(&view, naturals, naturals, 1, 0, NULL, 1), LLY_NULL);
+    EXPECT(lly_get_box_u64(NULL, naturals, naturals, 1, 3, naturals, 1), LLY_NULL);
+    EXPECT(lly_get_box_u64(&view, NULL, naturals, 1, 3, naturals, 1), LLY_NULL);
+    EXPECT(lly_get_box_u64(&view, naturals, NULL, 1, 3, naturals, 1), LLY_NULL);
+    EXPECT(lly_get_box_u64(&view, naturals, naturals, 1, 3, NULL, 1), LLY_NULL);
+    EXPECT(lly_set_box(NULL, naturals, naturals, 1, 0, values, 1, &fault), LLY_NULL);
+    EXPECT(lly_set_box(&view, NULL, naturals, 1, 0, values, 1, &fault), LLY_NULL);
+    EXPECT(lly_set_box(&view, naturals, NULL, 1, 0, values, 1, &fault), LLY_NULL);
+    EXPECT(lly_set_box(&view, naturals, naturals, 1, 0, NULL, 1, &fault), LLY_NULL);
+    EXPECT(lly_set_box(&view, naturals, naturals, 1, 0, values, 1, NULL), LLY_NULL);
+    EXPECT(lly_set_box_u64(NULL, naturals, naturals, 1, 3, naturals, 1, &fault), LLY_NULL);
+    EXPECT(lly_set_box_u64(&view, NULL, naturals, 1, 3, naturals, 1, &fault), LLY_NULL);
+    EXPECT(lly_set_box_u64(&view, naturals, NULL, 1, 3, naturals, 1, &fault), LLY_NULL);
+    EXPECT(lly_set_box_u64(&view, naturals, naturals, 1, 3, NULL, 1, &fault), LLY_NULL);
+    EXPECT(lly_set_box_u64(&view, naturals, naturals, 1, 3, naturals, 1, NULL), LLY_NULL);
     EXPECT(lly_copy(NULL, &other, &fault), LLY_NULL);
     EXPECT(lly_copy(&view, NULL, &fault), LLY_NULL);
     EXPECT(lly_copy(&view, &other, NULL), LLY_NULL);
@@ -940,6 +1207,18 @@ static void null_is_answered(void) {
     EXPECT(lly_blob(NULL, 0, bytes, 1, &size), LLY_NULL);
     EXPECT(lly_blob(&view, 0, NULL, 1, &size), LLY_NULL);
     EXPECT(lly_blob(&view, 0, bytes, 1, NULL), LLY_NULL);
+    EXPECT(lly_record(NULL, bytes, 1, &size), LLY_NULL);
+    EXPECT(lly_record(&view, NULL, 1, &size), LLY_NULL);
+    EXPECT(lly_record(&view, bytes, 1, NULL), LLY_NULL);
+    EXPECT(lly_layout(NULL, bytes, 1, &size), LLY_NULL);
+    EXPECT(lly_layout(&view, NULL, 1, &size), LLY_NULL);
+    EXPECT(lly_layout(&view, bytes, 1, NULL), LLY_NULL);
+    EXPECT(lly_lend(NULL, bytes, 1, &size), LLY_NULL);
+    EXPECT(lly_lend(&view, NULL, 1, &size), LLY_NULL);
+    EXPECT(lly_lend(&view, bytes, 1, NULL), LLY_NULL);
+    EXPECT(lly_return(NULL, bytes, 1, &fault), LLY_NULL);
+    EXPECT(lly_return(&view, NULL, 1, &fault), LLY_NULL);
+    EXPECT(lly_return(&view, bytes, 1, NULL), LLY_NULL);
     EXPECT(lly_message(LLY_RANGE, NULL, bytes, 1, &size), LLY_NULL);
     EXPECT(lly_message(LLY_RANGE, &fault, NULL, 1, &size), LLY_NULL);
     EXPECT(lly_message(LLY_RANGE, &fault, bytes, 1, NULL), LLY_NULL);
@@ -963,15 +1242,19 @@ int main(void) {
     places_are_found();
     views_say_what_they_are();
     values_are_read_and_stored();
+    runs_of_each_width();
     runs_are_read_and_stored();
     lists_of_rows_are_read_and_stored();
+    boxes_are_read_and_stored();
     tables_are_copied();
     tables_are_laid_anew();
     kernels_run();
     lines_are_done();
+    rounds_and_turns_are_done();
     lines_are_told();
     answers_have_words();
     bytes_are_copied_out();
+    bytes_are_lent();
     numbers_are_read_by_places();
     null_is_answered();
     return differs;

@@ -52,12 +52,18 @@ static void numbers() {
     view.set_run(0, 0, std::vector<std::int64_t>{5, 6});
     EXPECT(view.run<std::uint64_t>(0, 1, 2), big);
     EXPECT(view.run(0, 0, 4), (std::vector<std::int64_t>{5, 6, 1, -7}));
+    EXPECT(view.run<std::int32_t>(0, 0, 4), (std::vector<std::int32_t>{5, 6, 1, -7}));
+    EXPECT_REFUSAL(LLY_BAD_TYPE, 0, view.run<std::int16_t>(0, 0, 4));
     EXPECT(view.print(), "x,big\n5,1\n6,18446744073709551615\n1,0\n-7,18446744073709551615\n");
     EXPECT(view.blob(0).size(), 48U);
     EXPECT(view.blob(0)[12], 6);
     EXPECT_REFUSAL(LLY_NO_PLACE, 0, view.leaf("none"));
     EXPECT_REFUSAL(LLY_BAD_TYPE, 0, view.get(0, 1));
     EXPECT_REFUSAL(LLY_RANGE, 2, view.set_run(1, 0, std::vector<std::int64_t>{1, INT64_MAX}));
+    view.set_run(0, 0, std::vector<std::int8_t>{-3, 4});
+    view.set_run(2, 1, std::vector<double>{0.5, -2.25});
+    EXPECT(view.run(0, 0, 2), (std::vector<std::int64_t>{-3, 4}));
+    EXPECT(view.run<double>(2, 1, 2), (std::vector<double>{0.5, -2.25}));
 }
 
 static void lists() {
@@ -73,6 +79,20 @@ static void lists() {
     EXPECT_REFUSAL(LLY_BAD_TYPE, 0, view.gather(rows, 1));
     EXPECT_REFUSAL(LLY_RANGE, 1, view.scatter_add(rows, 1, {1, 1, 1}));
     EXPECT(view.print(), "x,big\n0,0\n12,18446744073709551615\n0,0\n-7,4\n");
+}
+
+static void boxes() {
+    lly::view view(RECORD, "view V : P [2, 3] as aosoa(2, col)");
+    view.set_box({0, 1}, {2, 3}, 0, std::vector<std::int64_t>{1, 2, 3, 4});
+    view.set_box({1, 0}, {2, 3}, 1, std::vector<std::uint64_t>{5, 6, UINT64_MAX});
+    EXPECT(view.box({0, 1}, {2, 2}, 0), (std::vector<std::int64_t>{1, 3}));
+    EXPECT(view.box<std::uint64_t>({0, 2}, {2, 3}, 1), (std::vector<std::uint64_t>{0, UINT64_MAX}));
+    EXPECT(view.box({1, 3}, {2, 3}, 0).size(), 0U);
+    EXPECT_REFUSAL(LLY_BAD_WINDOW, 0, view.box({0}, {2}, 0));
+    EXPECT_REFUSAL(LLY_BAD_WINDOW, 0, view.box({0, 0}, {2}, 0));
+    EXPECT_REFUSAL(LLY_BAD_WINDOW, 0, view.box({0, 0}, {2, UINT64_MAX}, 0));
+    EXPECT_REFUSAL(LLY_NO_PLACE, 0, view.set_box({0, 0}, {1, 2}, 0, std::vector<std::int64_t>{1}));
+    EXPECT_REFUSAL(LLY_RANGE, 2, view.set_box({0, 0}, {2, 3}, 0, std::vector<std::int64_t>{1, 2, INT64_MAX, 4, 5, 6}));
 }
 
 static void tables() {
@@ -111,6 +131,8 @@ static void columns() {
         lly::view view(RECORD, std::string("view V : P [2, 3] as ") + layout);
         view.set_run(0, 0, values);
         const auto column = view.column<std::int32_t>("x");
+        EXPECT(column(1, 0), -8);
+        EXPECT(column(0, 2), 7);
         std::vector<std::int64_t> read(6), by_row;
         column.runs([&](auto numbers) {
             std::uint64_t row = numbers.first();
@@ -130,10 +152,41 @@ static void columns() {
     EXPECT_REFUSAL(LLY_IRREGULAR, 0, split.column<std::int32_t>("x"));
 }
 
+// Numbers that are changed where they lie in what is lent, and bytes that no view has.
+static void edits() {
+    const char *const layouts[] = {"aos(packed, row)", "soa(multi, row)", "aosoa(4, row)", "soa(multi, morton)", "byteswap(soa(single, col))", "bitaos(20, row)"};
+    for (const char *const layout : layouts) {
+        lly::view view("record P { on: bool, x: i32, n: u16 }", std::string("view V : P [2, 3] as ") + layout);
+        view.set(5, 1, -524288);
+        view.edit([](lly::lent &lent) {
+            const auto x = lent.column<std::int32_t>("x");
+            x(0, 1) = x(0, 1);
+            const auto n = lent.column<std::uint16_t>(2);
+            for (std::uint64_t row = 0; row + 1 < x.size(); row++) {
+                x[row] = static_cast<std::int32_t>(row) - 3;
+                n[row] = 1;
+            }
+            x[0] = x[5];
+        });
+        EXPECT(view.run(0, 1, 6), (std::vector<std::int64_t>{-524288, -2, -1, 0, 1, -524288}));
+        EXPECT(view.run(0, 2, 6), (std::vector<std::int64_t>{1, 1, 1, 1, 1, 0}));
+        const std::string before = view.print();
+        EXPECT_REFUSAL(LLY_BAD_FILE, 0, view.edit([](lly::lent &lent) { lent.bytes.pop_back(); }));
+        EXPECT_REFUSAL(LLY_BAD_TYPE, 0, view.edit([](lly::lent &lent) { lent.column<std::uint32_t>("x")[0] = 7; }));
+        EXPECT(view.print(), before);
+        EXPECT(view.record(), "record R { on : bool , x : i32 , n : u16 }");
+        lly::view again(view.record(), view.layout());
+        view.copy_to(again);
+        EXPECT(again.save(), view.save());
+    }
+}
+
 int main() {
     numbers();
     lists();
+    boxes();
     columns();
+    edits();
     tables();
     return differs;
 }

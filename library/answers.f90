@@ -1,6 +1,6 @@
 ! Each call of the module llama_layout. tools/library_examples runs it; it says what differs, and ends with 0 where nothing does.
 program answers
-  use, intrinsic :: iso_c_binding, only: c_bool, c_char, c_int32_t, c_int64_t, c_ptr, c_size_t
+  use, intrinsic :: iso_c_binding, only: c_bool, c_char, c_double, c_int16_t, c_int32_t, c_int64_t, c_ptr, c_size_t, c_sizeof
   use llama_layout
   implicit none
   character(*), parameter :: record_line = 'record P { x: i32, n: u16 }'
@@ -15,7 +15,9 @@ program answers
   type(c_ptr) :: at
   integer(c_int64_t) :: row, number, numbers(4)
   integer(c_size_t) :: many, needed
-  integer(c_int32_t) :: bits
+  integer(c_int32_t) :: bits, wide(4)
+  integer(c_int16_t) :: short(2) = [3_c_int16_t, 5_c_int16_t]
+  real(c_double) :: reals(2)
   logical(c_bool) :: sign
   character(kind=c_char, len=200) :: text
   logical :: differs = .false.
@@ -63,6 +65,13 @@ program answers
   call expect(int(sum(numbers)), 14)
   call expect(lly_get_run_u64(view, 0_c_int64_t, 1_c_size_t, numbers, 4_c_size_t), LLY_DONE)
   call expect(int(sum(numbers)), 24)
+  call expect(lly_set_run_as(view, 1_c_int64_t, 0_c_size_t, storage_size(short), .true._c_bool, short, &
+                             c_sizeof(short), fault), LLY_DONE)
+  call expect(lly_get_run_as(view, 0_c_int64_t, 0_c_size_t, storage_size(wide), .true._c_bool, wide, &
+                             c_sizeof(wide)), LLY_DONE)
+  call expect(sum(int(wide)), 14)
+  call expect(lly_get_run_as(view, 0_c_int64_t, 0_c_size_t, storage_size(reals), .false._c_bool, reals, &
+                             c_sizeof(reals)), LLY_BAD_TYPE)
   call expect(lly_relayout(view, 'relayout V as aosoa(2, col)', 27_c_size_t, fault), LLY_DONE)
   call expect(lly_kernel(view, 'kernel V sum(x) lanes 4', 23_c_size_t, number, fault), LLY_DONE)
   call expect(int(number), 14)
@@ -74,6 +83,12 @@ program answers
   call expect(lly_blob(view, 0_c_size_t, text, 1_c_size_t, needed), LLY_NO_ROOM)
   call expect(lly_save(view, text, len(text, c_size_t), needed), LLY_DONE)
   call expect(lly_open(other, text, needed, fault), LLY_DONE)
+  call expect(lly_record(other, text, len(text, c_size_t), needed), LLY_DONE)
+  call expect(merge(0, 1, text(:9) == 'record R '), 0)
+  call expect(lly_layout(other, text, 1_c_size_t, needed), LLY_NO_ROOM)
+  call expect(lly_lend(view, text, len(text, c_size_t), many), LLY_DONE)
+  call expect(lly_return(other, text, many, fault), LLY_DONE)
+  call expect(lly_return(other, text, many - 1, fault), LLY_BAD_FILE)
   call expect(lly_open(other, text, needed - 1, fault), LLY_BAD_FILE)
   call expect(lly_scatter(view, [3_c_int64_t, 1_c_int64_t], 2_c_size_t, 0_c_size_t, [1_c_int64_t, 2_c_int64_t], fault), LLY_DONE)
   call expect(lly_scatter_add(view, [1_c_int64_t, 1_c_int64_t], 2_c_size_t, 0_c_size_t, &
@@ -83,6 +98,15 @@ program answers
   call expect(lly_scatter_u64(view, [2_c_int64_t], 1_c_size_t, 1_c_size_t, [65536_c_int64_t], fault), LLY_RANGE)
   call expect(int(fault%row), 2)
   call expect(lly_gather_u64(view, [4_c_int64_t], 1_c_size_t, 1_c_size_t, numbers), LLY_NO_PLACE)
+  call expect(lly_set_box(view, [0_c_int64_t, 1_c_int64_t], [2_c_int64_t, 2_c_int64_t], 2_c_size_t, 0_c_size_t, &
+                          [5_c_int64_t, 6_c_int64_t], 2_c_size_t, fault), LLY_DONE)
+  call expect(lly_get_box(view, [0_c_int64_t, 0_c_int64_t], [1_c_int64_t, 2_c_int64_t], 2_c_size_t, 0_c_size_t, &
+                          numbers, 2_c_size_t), LLY_DONE)
+  call expect(int(numbers(2)), 5)
+  call expect(lly_set_box_u64(view, [1_c_int64_t, 0_c_int64_t], [2_c_int64_t, 1_c_int64_t], 2_c_size_t, 1_c_size_t, &
+                              [65536_c_int64_t], 1_c_size_t, fault), LLY_RANGE)
+  call expect(int(fault%row), 2)
+  call expect(lly_get_box_u64(view, [0_c_int64_t], [1_c_int64_t], 1_c_size_t, 1_c_size_t, numbers, 1_c_size_t), LLY_BAD_WINDOW)
   call lly_drop(view)
   call expect(lly_rows(view, row), LLY_NO_VIEW)
   call lly_drop(other)

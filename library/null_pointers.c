@@ -28,6 +28,8 @@ PROVED(get_run);
 PROVED(get_run_u64);
 PROVED(set_run);
 PROVED(set_run_u64);
+PROVED(get_run_as);
+PROVED(set_run_as);
 PROVED(copy);
 PROVED(relayout);
 PROVED(kernel);
@@ -36,6 +38,10 @@ PROVED(tell);
 PROVED(print);
 PROVED(save);
 PROVED(blob);
+PROVED(record);
+PROVED(layout);
+PROVED(lend);
+PROVED(return);
 PROVED(place);
 PROVED(blob_at);
 PROVED(message);
@@ -46,6 +52,10 @@ extern int32_t proved_lly_gather_u64(lly_view *, const uint64_t *, size_t, size_
 extern int32_t proved_lly_scatter(lly_view *, const uint64_t *, size_t, size_t, const int64_t *, size_t, lly_fault *);
 extern int32_t proved_lly_scatter_u64(lly_view *, const uint64_t *, size_t, size_t, const uint64_t *, size_t, lly_fault *);
 extern int32_t proved_lly_scatter_add(lly_view *, const uint64_t *, size_t, size_t, const int64_t *, size_t, lly_fault *);
+extern int32_t proved_lly_get_box(lly_view *, const uint64_t *, size_t, const uint64_t *, size_t, size_t, int64_t *, size_t);
+extern int32_t proved_lly_get_box_u64(lly_view *, const uint64_t *, size_t, const uint64_t *, size_t, size_t, uint64_t *, size_t);
+extern int32_t proved_lly_set_box(lly_view *, const uint64_t *, size_t, const uint64_t *, size_t, size_t, const int64_t *, size_t, lly_fault *);
+extern int32_t proved_lly_set_box_u64(lly_view *, const uint64_t *, size_t, const uint64_t *, size_t, size_t, const uint64_t *, size_t, lly_fault *);
 
 /* An array of length 0 may be NULL; the proved calls want a place all the same, which they do not touch. */
 static uint64_t nothing[1];
@@ -147,6 +157,14 @@ int32_t lly_set_run_u64(lly_view *view, uint64_t first, size_t leaf, const uint6
     return view && fault && IS_ARRAY(values, count) ? proved_lly_set_run_u64(view, first, leaf, ARRAY(values), count, fault) : LLY_NULL;
 }
 
+int32_t lly_get_run_as(lly_view *view, uint64_t first, size_t leaf, uint32_t bits, bool sign, uint8_t *bytes, size_t bytes_len) {
+    return view && IS_ARRAY(bytes, bytes_len) ? proved_lly_get_run_as(view, first, leaf, bits, sign, ARRAY(bytes), bytes_len) : LLY_NULL;
+}
+
+int32_t lly_set_run_as(lly_view *view, uint64_t first, size_t leaf, uint32_t bits, bool sign, const uint8_t *bytes, size_t bytes_len, lly_fault *fault) {
+    return view && fault && IS_ARRAY(bytes, bytes_len) ? proved_lly_set_run_as(view, first, leaf, bits, sign, ARRAY(bytes), bytes_len, fault) : LLY_NULL;
+}
+
 int32_t lly_gather(lly_view *view, const uint64_t *rows, size_t count, size_t leaf, int64_t *values) {
     return view && IS_ARRAY(rows, count) && IS_ARRAY(values, count) ? proved_lly_gather(view, ARRAY(rows), count, leaf, ARRAY(values), count) : LLY_NULL;
 }
@@ -169,6 +187,32 @@ int32_t lly_scatter_u64(lly_view *view, const uint64_t *rows, size_t count, size
 int32_t lly_scatter_add(lly_view *view, const uint64_t *rows, size_t count, size_t leaf, const int64_t *values, lly_fault *fault) {
     return view && fault && IS_ARRAY(rows, count) && IS_ARRAY(values, count)
                ? proved_lly_scatter_add(view, ARRAY(rows), count, leaf, ARRAY(values), count, fault)
+               : LLY_NULL;
+}
+
+#define ARE_ARRAYS(low, high, rank, values, count) (IS_ARRAY(low, rank) && IS_ARRAY(high, rank) && IS_ARRAY(values, count))
+
+int32_t lly_get_box(lly_view *view, const uint64_t *low, const uint64_t *high, size_t rank, size_t leaf, int64_t *values, size_t count) {
+    return view && ARE_ARRAYS(low, high, rank, values, count) ? proved_lly_get_box(view, ARRAY(low), rank, ARRAY(high), rank, leaf, ARRAY(values), count)
+                                                              : LLY_NULL;
+}
+
+int32_t lly_get_box_u64(lly_view *view, const uint64_t *low, const uint64_t *high, size_t rank, size_t leaf, uint64_t *values, size_t count) {
+    return view && ARE_ARRAYS(low, high, rank, values, count) ? proved_lly_get_box_u64(view, ARRAY(low), rank, ARRAY(high), rank, leaf, ARRAY(values), count)
+                                                              : LLY_NULL;
+}
+
+int32_t lly_set_box(lly_view *view, const uint64_t *low, const uint64_t *high, size_t rank, size_t leaf, const int64_t *values, size_t count,
+                    lly_fault *fault) {
+    return view && fault && ARE_ARRAYS(low, high, rank, values, count)
+               ? proved_lly_set_box(view, ARRAY(low), rank, ARRAY(high), rank, leaf, ARRAY(values), count, fault)
+               : LLY_NULL;
+}
+
+int32_t lly_set_box_u64(lly_view *view, const uint64_t *low, const uint64_t *high, size_t rank, size_t leaf, const uint64_t *values, size_t count,
+                        lly_fault *fault) {
+    return view && fault && ARE_ARRAYS(low, high, rank, values, count)
+               ? proved_lly_set_box_u64(view, ARRAY(low), rank, ARRAY(high), rank, leaf, ARRAY(values), count, fault)
                : LLY_NULL;
 }
 
@@ -208,6 +252,22 @@ int32_t lly_save(lly_view *view, uint8_t *bytes, size_t bytes_len, size_t *neede
 
 int32_t lly_blob(lly_view *view, size_t blob, uint8_t *bytes, size_t bytes_len, size_t *needed) {
     return view && needed && IS_ARRAY(bytes, bytes_len) ? proved_lly_blob(view, blob, ARRAY(bytes), bytes_len, needed) : LLY_NULL;
+}
+
+int32_t lly_record(lly_view *view, uint8_t *text, size_t text_len, size_t *needed) {
+    return view && needed && IS_ARRAY(text, text_len) ? proved_lly_record(view, ARRAY(text), text_len, needed) : LLY_NULL;
+}
+
+int32_t lly_layout(lly_view *view, uint8_t *text, size_t text_len, size_t *needed) {
+    return view && needed && IS_ARRAY(text, text_len) ? proved_lly_layout(view, ARRAY(text), text_len, needed) : LLY_NULL;
+}
+
+int32_t lly_lend(lly_view *view, uint8_t *bytes, size_t bytes_len, size_t *needed) {
+    return view && needed && IS_ARRAY(bytes, bytes_len) ? proved_lly_lend(view, ARRAY(bytes), bytes_len, needed) : LLY_NULL;
+}
+
+int32_t lly_return(lly_view *view, const uint8_t *bytes, size_t bytes_len, lly_fault *fault) {
+    return view && fault && IS_ARRAY(bytes, bytes_len) ? proved_lly_return(view, ARRAY(bytes), bytes_len, fault) : LLY_NULL;
 }
 
 int32_t lly_message(int32_t answer, const lly_fault *fault, uint8_t *text, size_t text_len, size_t *needed) {

@@ -1,5 +1,5 @@
 /* llama_layout_places.h beside what leaf_places/specs/Places.antt says of places, by random ones: where the number in a row begins, and what its bits say, one by
- * one. tools/library_examples runs it; it says how many differ, and ends with 0 where none does. The blobs are as long as the places say, so that valgrind sees
+ * one, and that a number is written there. tools/library_examples runs it; it says how many differ, and ends with 0 where none does. The blobs are as long as the places say, so that valgrind sees
  * a load that passes them.
  */
 #include <inttypes.h>
@@ -40,6 +40,8 @@ static int is_other_number(void)
     uint8_t *const blob = malloc(places.bytes);
     uint64_t number = 0, spot, first, bits, k;
     int64_t read;
+    uint8_t before[LONGEST + 1];
+    int is_other;
 
     places.width = places.in_bits ? 1 + (uint32_t)below(57) : widths[below(4)];
     places.is_turned = places.is_turned && !places.in_bits && places.width > 8;
@@ -61,8 +63,15 @@ static int is_other_number(void)
         number -= UINT64_C(1) << places.width;
     }
     read = lly_number_at(blob, &places, spot);
+    is_other = (uint64_t)read != number;
+    /* Another number is written and read back, and the bytes are as they were once the first one is written. */
+    memcpy(before, blob, places.bytes);
+    lly_put_number_at(blob, &places, spot, ~read);
+    is_other |= lly_number_at(blob, &places, spot) != (places.is_signed || places.width == 64 ? ~read : (int64_t)(~number & ~(~UINT64_C(0) << places.width)));
+    lly_put_number_at(blob, &places, spot, read);
+    is_other |= memcmp(before, blob, places.bytes);
     free(blob);
-    return (uint64_t)read != number;
+    return is_other != 0;
 }
 
 int main(void)

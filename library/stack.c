@@ -42,9 +42,9 @@ static uint64_t row, naturals[2];
 static uint32_t bits;
 static bool sign;
 static int64_t value, integers[2];
-static const uint64_t origin[4];
-static size_t count, file_length, csv_length, blob_length, opened_length;
-static uint8_t *file, *csv, *blob;
+static const uint64_t origin[4], ends[] = {2};
+static size_t count, file_length, csv_length, blob_length, lent_length, opened_length;
+static uint8_t *file, *csv, *blob, *lent;
 static const uint8_t *opened;
 static uint8_t header[8192 * 2 + 20];
 
@@ -75,14 +75,24 @@ static uint8_t header[8192 * 2 + 20];
     CALL(get_run_u64, (&view, 0, 0, naturals, 2))                           \
     CALL(set_run, (&view, 0, 0, integers, 2, &fault))                       \
     CALL(set_run_u64, (&view, 0, 0, naturals, 2, &fault))                   \
+    CALL(get_run_as, (&view, 0, 0, 64, false, (uint8_t *)&row, 8))          \
+    CALL(set_run_as, (&view, 0, 0, 64, false, (uint8_t *)&row, 8, &fault))  \
     CALL(gather, (&view, origin, 2, 0, integers))                           \
     CALL(gather_u64, (&view, origin, 2, 0, naturals))                       \
     CALL(scatter, (&view, origin, 2, 0, integers, &fault))                  \
     CALL(scatter_u64, (&view, origin, 2, 0, naturals, &fault))              \
     CALL(scatter_add, (&view, origin, 2, 0, integers, &fault))              \
+    CALL(get_box, (&view, origin, ends, 1, 0, integers, 2))                 \
+    CALL(get_box_u64, (&view, origin, ends, 1, 0, naturals, 2))             \
+    CALL(set_box, (&view, origin, ends, 1, 0, integers, 2, &fault))         \
+    CALL(set_box_u64, (&view, origin, ends, 1, 0, naturals, 2, &fault))     \
     CALL(print, (&view, csv, csv_length, &count))                           \
     CALL(save, (&view, file, file_length, &count))                          \
     CALL(blob, (&view, 0, blob, blob_length, &count))                       \
+    CALL(record, (&view, csv, csv_length, &count))                          \
+    CALL(layout, (&view, csv, csv_length, &count))                          \
+    CALL(lend, (&view, lent, lent_length, &count))                          \
+    CALL(return, (&view, lent, lent_length, &fault))                        \
     CALL(message, (LLY_RANGE, &fault, csv, csv_length, &count))             \
     CALL(place, (&view, 0, &places, &fault))                                \
     CALL(blob_at, (&view, 0, &bytes_at, &count))                            \
@@ -159,6 +169,8 @@ static void try_view(void)
     if (lly_blob(&view, 0, NULL, 0, &count) == LLY_NO_ROOM) {
         blob = room(blob, &blob_length);
     }
+    lly_lend(&view, NULL, 0, &count);
+    lent = room(lent, &lent_length);
     opened = file;
     opened_length = file_length;
     for (k = 0; k < sizeof on_a_view / sizeof *on_a_view; k++) {

@@ -11,10 +11,26 @@
 #include <string.h>
 
 #include "llama_layout.h"
+#include "llama_layout_places.h"
 
 enum { HANDLES = 8, TEXTS = 3, UNTOUCHED = 0x5A };
 
-enum op { END, VERSION, NEW, LOAD, OPEN, DROP, ROWS, LEAVES, BLOBS, ROW, LEAF, GET, GET_U64, SET, SET_U64, GET_RUN, GET_RUN_U64, SET_RUN, SET_RUN_U64, COPY, RELAYOUT, KERNEL, DO, PRINT, SAVE, BLOB, TELL };
+enum op {
+    END, VERSION, NEW, LOAD, OPEN, DROP, ROWS, LEAVES, BLOBS, ROW, LEAF, EXTENTS, PATH, TYPE, COUNTS, GET, GET_U64, SET, SET_U64, GET_RUN, GET_RUN_U64, SET_RUN, SET_RUN_U64, GATHER, GATHER_U64, SCATTER,
+    SCATTER_U64, SCATTER_ADD, COPY, RELAYOUT, KERNEL, DO, TELL, PRINT, SAVE, BLOB, MESSAGE, PLACE, BLOB_AT, GET_BOX, GET_BOX_U64, SET_BOX, SET_BOX_U64, GET_RUN_AS, SET_RUN_AS, RECORD, LAYOUT, LEND, RETURN
+};
+
+/* Of a kind of call: whether it takes memory, whether it reports a fault, and of how many bytes each element is that it gives, of which it says how many it needs, or has as many as it is asked for. */
+static const struct kind {
+    unsigned takes_memory, reports, needs, element;
+} kinds[] = {
+    [NEW] = {1, 1, 0, 0}, [LOAD] = {1, 1, 0, 0}, [OPEN] = {1, 1, 0, 0}, [EXTENTS] = {0, 0, 1, 8}, [PATH] = {0, 0, 1, 1}, [TYPE] = {0, 0, 0, 5}, [COUNTS] = {0, 0, 0, 16}, [GET_RUN] = {0, 0, 0, 8},
+    [GET_RUN_U64] = {0, 0, 0, 8}, [SET_RUN] = {0, 1, 0, 0}, [SET_RUN_U64] = {0, 1, 0, 0}, [GATHER] = {0, 0, 0, 8}, [GATHER_U64] = {0, 0, 0, 8}, [SCATTER] = {0, 1, 0, 0}, [SCATTER_U64] = {0, 1, 0, 0},
+    [SCATTER_ADD] = {0, 1, 0, 0}, [COPY] = {0, 1, 0, 0}, [RELAYOUT] = {1, 1, 0, 0}, [KERNEL] = {1, 1, 0, 0}, [DO] = {1, 1, 0, 0}, [TELL] = {1, 1, 1, 1}, [PRINT] = {1, 0, 1, 1}, [SAVE] = {1, 0, 1, 1},
+    [BLOB] = {0, 0, 1, 1}, [MESSAGE] = {1, 0, 1, 1}, [PLACE] = {0, 1, 0, sizeof(lly_places)}, [BLOB_AT] = {0, 0, 1, 1},
+    [GET_BOX] = {0, 0, 0, 8}, [GET_BOX_U64] = {0, 0, 0, 8}, [SET_BOX] = {0, 1, 0, 0}, [SET_BOX_U64] = {0, 1, 0, 0}, [GET_RUN_AS] = {0, 0, 0, 1}, [SET_RUN_AS] = {0, 1, 0, 0}, [RECORD] = {1, 0, 1, 1},
+    [LAYOUT] = {1, 0, 1, 1}, [LEND] = {0, 0, 1, 1}, [RETURN] = {1, 1, 0, 0}
+};
 
 /* How requests are refused while a call is made: none, or each of them in turn, by itself or with all later ones. */
 enum refused { NONE, ONCE, ON };
@@ -37,6 +53,8 @@ struct answer {
 };
 
 static lly_view views[HANDLES];
+/* What the call before answered and reported. */
+static struct answer last;
 static uint64_t sequence, number, all_refused, all_in_turn;
 static int differs = 0;
 
@@ -95,21 +113,75 @@ static void *room(size_t size) {
 
 /* ---- Calls. */
 
-static int takes_memory(uint64_t op) {
-    return op == NEW || op == LOAD || op == OPEN || op == RELAYOUT || op == KERNEL || op == DO || op == PRINT || op == SAVE || op == TELL;
-}
-
 /* A pointer, or NULL where the call is to have that. */
 #define P(which, at) (call->head.nulls >> (which) & 1 ? NULL : (at))
 #define TEXT(pointer, text) P(pointer, call->texts[text]), call->head.lengths[text]
 
-static int32_t put(const struct call *call, lly_view *view, uint8_t *bytes, size_t size, size_t *needed, lly_fault *fault) {
+/* The words of the call before, or of what is handed. */
+static int32_t message(const struct call *call, uint8_t *bytes, size_t size, size_t *needed) {
     const struct head *head = &call->head;
-    if (head->op == TELL) {
-        return lly_tell(P(0, view), TEXT(1, 0), P(2, bytes), size, P(3, needed), P(4, fault));
+    lly_fault fault = LLY_NO_FAULT;
+    if (head->words == 3) {
+        fault.cause = (int32_t)head->b;
+        fault.row = call->words[0];
+        fault.leaf = call->words[1];
+        fault.column = call->words[2];
+    } else if (last.cause != -7) {
+        fault.cause = (int32_t)last.cause;
+        fault.row = last.row;
+        fault.leaf = last.leaf;
+        fault.column = last.column;
     }
-    return head->op == PRINT ? lly_print(P(0, view), P(1, bytes), size, P(2, needed)) : head->op == SAVE ? lly_save(P(0, view), P(1, bytes), size, P(2, needed))
-                                                                                        : lly_blob(P(0, view), head->a, P(1, bytes), size, P(2, needed));
+    return lly_message((int32_t)(head->words == 3 ? (int64_t)head->a : last.answer), P(0, &fault), P(1, bytes), size, P(2, needed));
+}
+
+/* The bytes of a blob where they lie. */
+static int32_t blob_at(const struct call *call, uint8_t *bytes, size_t size, size_t *length) {
+    const uint8_t *const none = (const uint8_t *)&views, *at = none;
+    const int32_t answer = lly_blob_at(P(0, &views[call->head.handle]), call->head.a, P(1, &at), P(2, length));
+    if (answer == LLY_DONE ? at == none || (*length == 0) != (at == NULL) : at != none) {
+        say(call, "the address of a blob");
+    } else if (answer == LLY_DONE && *length && *length <= size) {
+        memcpy(bytes, at, *length);
+    }
+    return answer;
+}
+
+static int32_t put(const struct call *call, uint8_t *bytes, size_t size, size_t *needed, lly_fault *fault) {
+    const struct head *head = &call->head;
+    lly_view *view = &views[head->handle];
+    switch (head->op) {
+    case EXTENTS: return lly_extents(P(0, view), P(1, (uint64_t *)(void *)bytes), size / sizeof(uint64_t), P(2, needed));
+    case PATH: return lly_path(P(0, view), head->b, P(1, bytes), size, P(2, needed));
+    case TELL: return lly_tell(P(0, view), TEXT(1, 0), P(2, bytes), size, P(3, needed), P(4, fault));
+    case PRINT: return lly_print(P(0, view), P(1, bytes), size, P(2, needed));
+    case SAVE: return lly_save(P(0, view), P(1, bytes), size, P(2, needed));
+    case BLOB: return lly_blob(P(0, view), head->a, P(1, bytes), size, P(2, needed));
+    case RECORD: return lly_record(P(0, view), P(1, bytes), size, P(2, needed));
+    case LAYOUT: return lly_layout(P(0, view), P(1, bytes), size, P(2, needed));
+    case LEND: return lly_lend(P(0, view), P(1, bytes), size, P(2, needed));
+    case MESSAGE: return message(call, bytes, size, needed);
+    default: return blob_at(call, bytes, size, needed);
+    }
+}
+
+/* The bytes of all blobs come back as they were lent, or with other bits in one of them, and as many as they were or one more or less. */
+static int32_t returned(const struct call *call, lly_fault *fault) {
+    const struct head *head = &call->head;
+    size_t size = 0, length;
+    uint8_t *bytes;
+    int32_t answer;
+    lly_lend(&views[head->handle], NULL, 0, &size);
+    bytes = room(size + 1);
+    bytes[size] = 0;
+    lly_lend(&views[head->handle], bytes, size, &size);
+    length = size || (int64_t)head->c > 0 ? size + head->c : 0;
+    if (size) {
+        bytes[head->a % size] ^= (uint8_t)head->b;
+    }
+    answer = lly_return(P(0, &views[head->handle]), P(1, bytes), length, P(2, fault));
+    __real_free(bytes);
+    return answer;
 }
 
 /* The call, over so many bytes that it may write. */
@@ -117,7 +189,7 @@ static int32_t made(const struct call *call, uint8_t *bytes, size_t size, uint64
     const struct head *head = &call->head;
     lly_view *view = &views[head->handle];
     int64_t *numbers = (int64_t *)call->words;
-    size_t count = head->words, place = (size_t)*value;
+    size_t count = head->words, half = count / 2, rank = head->a, place = (size_t)*value;
     int64_t given = (int64_t)*value;
     int32_t answer;
     switch (head->op) {
@@ -131,6 +203,14 @@ static int32_t made(const struct call *call, uint8_t *bytes, size_t size, uint64
     case LEAVES: answer = lly_leaves(P(0, view), P(1, &place)); break;
     case BLOBS: answer = lly_blobs(P(0, view), P(1, &place)); break;
     case LEAF: answer = lly_leaf(P(0, view), TEXT(1, 0), P(2, &place)); break;
+    case TYPE: return lly_type(P(0, view), head->b, P(1, (uint32_t *)(void *)bytes), P(2, (bool *)(bytes + 4)));
+    case COUNTS: return lly_counts(P(0, view), head->b, P(1, (uint64_t *)(void *)bytes), P(2, (uint64_t *)(void *)(bytes + 8)));
+    case PLACE: return lly_place(P(0, view), head->b, P(1, (lly_places *)(void *)bytes), P(2, fault));
+    case GATHER: return lly_gather(P(0, view), P(1, call->words), count, head->b, P(2, (int64_t *)(void *)bytes));
+    case GATHER_U64: return lly_gather_u64(P(0, view), P(1, call->words), count, head->b, P(2, (uint64_t *)(void *)bytes));
+    case SCATTER: return lly_scatter(P(0, view), P(1, call->words), half, head->b, P(2, numbers + half), P(3, fault));
+    case SCATTER_U64: return lly_scatter_u64(P(0, view), P(1, call->words), half, head->b, P(2, call->words + half), P(3, fault));
+    case SCATTER_ADD: return lly_scatter_add(P(0, view), P(1, call->words), half, head->b, P(2, numbers + half), P(3, fault));
     case GET: answer = lly_get(P(0, view), head->a, head->b, P(1, &given)); *value = (uint64_t)given; return answer;
     case GET_U64: return lly_get_u64(P(0, view), head->a, head->b, P(1, value));
     case SET: return lly_set(P(0, view), head->a, head->b, (int64_t)head->c);
@@ -139,34 +219,46 @@ static int32_t made(const struct call *call, uint8_t *bytes, size_t size, uint64
     case GET_RUN_U64: return lly_get_run_u64(P(0, view), head->a, head->b, P(1, (uint64_t *)(void *)bytes), head->c);
     case SET_RUN: return lly_set_run(P(0, view), head->a, head->b, P(1, numbers), count, P(2, fault));
     case SET_RUN_U64: return lly_set_run_u64(P(0, view), head->a, head->b, P(1, call->words), count, P(2, fault));
+    case GET_BOX: return lly_get_box(P(0, view), P(1, call->words), P(2, call->words + rank), rank, head->b, P(3, (int64_t *)(void *)bytes), head->c);
+    case GET_BOX_U64: return lly_get_box_u64(P(0, view), P(1, call->words), P(2, call->words + rank), rank, head->b, P(3, (uint64_t *)(void *)bytes), head->c);
+    case SET_BOX: return lly_set_box(P(0, view), P(1, call->words), P(2, call->words + rank), rank, head->b, P(3, numbers + 2 * rank), count - 2 * rank, P(4, fault));
+    case SET_BOX_U64: return lly_set_box_u64(P(0, view), P(1, call->words), P(2, call->words + rank), rank, head->b, P(3, call->words + 2 * rank), count - 2 * rank, P(4, fault));
+    case GET_RUN_AS: return lly_get_run_as(P(0, view), head->a, head->b, (uint32_t)call->words[0], call->words[1] != 0, P(1, bytes), size);
+    case SET_RUN_AS: return lly_set_run_as(P(0, view), head->a, head->b, (uint32_t)call->words[0], call->words[1] != 0, TEXT(1, 0), P(2, fault));
+    case RETURN: return returned(call, fault);
     case COPY: return lly_copy(P(0, view), P(1, &views[head->a]), P(2, fault));
     case RELAYOUT: return lly_relayout(P(0, view), TEXT(1, 0), P(2, fault));
     case KERNEL: answer = lly_kernel(P(0, view), TEXT(1, 0), P(2, &given), P(3, fault)); *value = (uint64_t)given; return answer;
     case DO: answer = lly_do(P(0, view), TEXT(1, 0), P(2, &given), P(3, fault)); *value = (uint64_t)given; return answer;
-    default: answer = put(call, view, bytes, size, &place, fault); break;
+    default: answer = put(call, bytes, size, &place, fault); break;
     }
     *value = place;
     return answer;
 }
 
-/* How many bytes the call is handed to be written: an array of numbers, or what it needs for a table or a blob, less or more by the number that is handed. */
+/* How many bytes the call is handed to be written: those of the elements that it is asked for, or what it needs, less or more by the number that is handed. */
 static size_t size_for(const struct call *call) {
     const struct head *head = &call->head;
+    const struct kind *kind = &kinds[head->op];
     size_t needed = 0, by;
     lly_fault fault;
     int32_t answer;
-    if (head->op == GET_RUN || head->op == GET_RUN_U64) {
-        return head->c * sizeof(uint64_t);
+    if (!kind->needs) {
+        switch (head->op) {
+        case GATHER: case GATHER_U64: return kind->element * head->words;
+        case GET_RUN: case GET_RUN_U64: case GET_RUN_AS: case GET_BOX: case GET_BOX_U64: return kind->element * head->c;
+        default: return kind->element;
+        }
     }
-    if (head->op < PRINT || head->nulls) {
+    if (head->nulls) {
         return 0;
     }
-    answer = put(call, &views[head->handle], NULL, 0, &needed, &fault);
-    if (head->op != TELL && answer != (needed ? LLY_NO_ROOM : LLY_DONE) && answer != LLY_NO_VIEW && answer != LLY_NO_PLACE && answer != LLY_TOO_BIG) {
+    answer = put(call, NULL, 0, &needed, &fault);
+    if (head->op != TELL && head->op != BLOB_AT && answer != (needed ? LLY_NO_ROOM : LLY_DONE) && answer != LLY_NO_VIEW && answer != LLY_NO_PLACE && answer != LLY_TOO_BIG) {
         say(call, "a first call does not ask for room");
     }
     by = (size_t)llabs((long long)(int64_t)head->c);
-    return (int64_t)head->c >= 0 ? needed + by : needed - (by < needed ? by : needed);
+    return kind->element * ((int64_t)head->c >= 0 ? needed + by : needed - (by < needed ? by : needed));
 }
 
 static int all_untouched(const uint8_t *bytes, size_t from, size_t to) {
@@ -174,6 +266,30 @@ static int all_untouched(const uint8_t *bytes, size_t from, size_t to) {
         from++;
     }
     return from >= to;
+}
+
+/* What is read by places is what the calls read that read one value. */
+static void read_by_places(const struct call *call, const lly_places *places) {
+    lly_view *view = &views[call->head.handle];
+    const uint8_t *blob = NULL;
+    size_t length = 0;
+    uint64_t rows = 0, row, natural;
+    int64_t whole;
+    if (lly_blob_at(view, places->blob, &blob, &length) != LLY_DONE || lly_rows(view, &rows) != LLY_DONE || length != places->bytes) {
+        say(call, "places of no blob");
+        rows = 0;
+    }
+    for (row = 0; row < rows; row++) {
+        if (lly_get(view, row, call->head.b, &whole) == LLY_DONE) {
+            natural = (uint64_t)whole;
+        } else if (lly_get_u64(view, row, call->head.b, &natural) != LLY_DONE) {
+            say(call, "a leaf is of no type");
+        }
+        if ((uint64_t)lly_number(blob, places, row) != natural) {
+            say(call, "a number is not where its places say");
+            return;
+        }
+    }
 }
 
 /* What comes of a call, and the bytes of its answer in memory of their own. */
@@ -193,14 +309,17 @@ static struct answer done(const struct call *call, uint8_t **bytes) {
     is.answer = made(call, *bytes, size, &value, &fault);
     how = NONE;
     if (is.answer == LLY_DONE) {
-        given = head->op >= PRINT ? value : size;
+        given = kinds[head->op].needs ? kinds[head->op].element * value : size;
     }
     if (given > size || !all_untouched(*bytes, given, size)) {
         say(call, "bytes are written that are none of the answer");
         given = 0;
     }
-    if (!takes_memory(head->op) && requests) {
+    if (!kinds[head->op].takes_memory && requests) {
         say(call, "memory is taken");
+    }
+    if (head->op == PLACE && is.answer == LLY_DONE) {
+        read_by_places(call, (const lly_places *)(const void *)*bytes);
     }
     is.cause = fault.cause;
     is.row = fault.row;
@@ -238,7 +357,7 @@ static uint8_t *all_blobs(size_t *size) {
 
 static int is_no_memory(const struct answer *is, enum op op) {
     uint64_t value;
-    const int tells = op != PRINT && op != SAVE;
+    const int tells = kinds[op].reports;
     memset(&value, UNTOUCHED, sizeof value);
     return is->answer == LLY_NO_MEMORY && is->value == value && is->cause == (tells ? 0 : -7) && is->row == (tells ? 0 : 71) && is->leaf == (tells ? 0 : 72) && is->column == (tells ? 0 : 73);
 }
@@ -339,6 +458,7 @@ int main(void) {
             write_all(&is, sizeof is);
             write_all(bytes, is.size);
             __real_free(bytes);
+            last = is;
             number++;
         }
         __real_free(call.words);

@@ -14,7 +14,7 @@ from .view import View
 def main(words):
     if len(words) == 2 and words[0] == 'show':
         view = View.open(words[1])
-        print(*view.to_bytes()[12:].decode('latin-1').split('\n')[:2], view.text(), sep='\n', end='')
+        print(view.record, view.layout, view.text(), sep='\n', end='')
     elif len(words) == 3 and words[0] == 'npy':
         numpy.save(words[2], View.open(words[1]).to_array())
     elif len(words) in (4, 5) and words[0] == 'blob' and words[4:] in ([], ['wrap']):

@@ -63,6 +63,14 @@ class Answer(enum.IntEnum):
     NOT_COUNTED = 30, 'the view counts no accesses'
     BAD_WINDOW = 31, 'the spans are no window of the extents'
     IRREGULAR = 32, 'the numbers of the leaf lie as no lly_places says, or accesses to them are counted'
+    BAD_STENCIL = (
+        33, 'the stencil is refused', 'offsets have another rank or are out of range, or from some row of the window they reach outside the extents',
+        'a weight or the divisor is out of range', 'there are more than 64 terms', 'there are more than 1,000 rounds')
+    BAD_ACTORS = (
+        34, 'the rows are not shared out among actors', 'there are more than 63 cuts, they fall somewhere, or one is over the number of rows', 'there are more than 2^20 turns')
+    BAD_ADVICE = (
+        35, 'no layout is advised', 'the granule is no power of two from 1 to 4,096', 'there are more than 16 passes', 'there are more than 16 candidates')
+    SHARED_BYTE = 36, 'a byte holds bits of rows of two actors'
 
 
 class Handle(ctypes.Structure):
@@ -101,7 +109,8 @@ class Refused(ValueError):
 
 _VIEW, _FAULT, _ROW, _SIZE, _NUMBER = POINTER(Handle), POINTER(Fault), POINTER(c_uint64), POINTER(c_size_t), POINTER(c_int64)
 _TEXT, _RUN, _BUFFER = (c_char_p, c_size_t), (c_uint64, c_size_t, c_void_p, c_size_t), (c_void_p, c_size_t, _SIZE)
-_LIST = (c_void_p, c_size_t, c_size_t, c_void_p)
+_NUMBERS = (c_uint64, c_size_t, c_uint32, c_bool, c_void_p, c_size_t)
+_LIST, _BOX = (c_void_p, c_size_t, c_size_t, c_void_p), (_ROW, _ROW, c_size_t, c_size_t, c_void_p, c_size_t)
 _PROTOTYPES = {
     'version': (), 'drop': (_VIEW,), 'new': (_VIEW, *_TEXT, *_TEXT, _FAULT), 'load': (_VIEW, *_TEXT, *_TEXT, *_TEXT, _FAULT), 'open': (_VIEW, *_TEXT, _FAULT),
     'rows': (_VIEW, _ROW), 'leaves': (_VIEW, _SIZE), 'blobs': (_VIEW, _SIZE), 'row': (_VIEW, _ROW, c_size_t, _ROW), 'leaf': (_VIEW, *_TEXT, _SIZE),
@@ -109,10 +118,13 @@ _PROTOTYPES = {
     'counts': (_VIEW, c_size_t, _ROW, _ROW),
     'get': (_VIEW, c_uint64, c_size_t, _NUMBER), 'get_u64': (_VIEW, c_uint64, c_size_t, _ROW), 'set': (_VIEW, c_uint64, c_size_t, c_int64),
     'set_u64': (_VIEW, c_uint64, c_size_t, c_uint64), 'get_run': (_VIEW, *_RUN), 'get_run_u64': (_VIEW, *_RUN), 'set_run': (_VIEW, *_RUN, _FAULT),
-    'set_run_u64': (_VIEW, *_RUN, _FAULT), 'gather': (_VIEW, *_LIST), 'gather_u64': (_VIEW, *_LIST), 'scatter': (_VIEW, *_LIST, _FAULT),
-    'scatter_u64': (_VIEW, *_LIST, _FAULT), 'scatter_add': (_VIEW, *_LIST, _FAULT), 'copy': (_VIEW, _VIEW, _FAULT), 'relayout': (_VIEW, *_TEXT, _FAULT),
+    'set_run_u64': (_VIEW, *_RUN, _FAULT), 'get_run_as': (_VIEW, *_NUMBERS), 'set_run_as': (_VIEW, *_NUMBERS, _FAULT),
+    'gather': (_VIEW, *_LIST), 'gather_u64': (_VIEW, *_LIST), 'scatter': (_VIEW, *_LIST, _FAULT),
+    'scatter_u64': (_VIEW, *_LIST, _FAULT), 'scatter_add': (_VIEW, *_LIST, _FAULT), 'get_box': (_VIEW, *_BOX), 'get_box_u64': (_VIEW, *_BOX),
+    'set_box': (_VIEW, *_BOX, _FAULT), 'set_box_u64': (_VIEW, *_BOX, _FAULT), 'copy': (_VIEW, _VIEW, _FAULT), 'relayout': (_VIEW, *_TEXT, _FAULT),
     'kernel': (_VIEW, *_TEXT, _NUMBER, _FAULT), 'do': (_VIEW, *_TEXT, _NUMBER, _FAULT), 'tell': (_VIEW, *_TEXT, *_BUFFER, _FAULT),
-    'print': (_VIEW, *_BUFFER), 'save': (_VIEW, *_BUFFER), 'blob': (_VIEW, c_size_t, *_BUFFER), 'message': (c_int32, _FAULT, *_BUFFER),
+    'print': (_VIEW, *_BUFFER), 'save': (_VIEW, *_BUFFER), 'blob': (_VIEW, c_size_t, *_BUFFER),
+    'record': (_VIEW, *_BUFFER), 'layout': (_VIEW, *_BUFFER), 'lend': (_VIEW, *_BUFFER), 'return': (_VIEW, *_TEXT, _FAULT), 'message': (c_int32, _FAULT, *_BUFFER),
     'place': (_VIEW, c_size_t, POINTER(Places), _FAULT), 'blob_at': (_VIEW, c_size_t, POINTER(c_void_p), _SIZE),
 }
 

@@ -1,5 +1,4 @@
 """Records of llama as types of numpy, and back. A line is read here after the library has taken it."""
-import math
 import re
 
 import numpy
@@ -27,13 +26,6 @@ def _fields(tokens):
             dims.append(int(size))
         fields.append((name, kind, tuple(dims)) if dims else (name, kind))
     return numpy.dtype(fields)
-
-
-def extents_of(line, rows):
-    """The extents of a line of a view with so many rows, of which one may be `?`."""
-    words = [word.strip() for word in re.search(r'\[([^]]*)', line)[1].split(',')]
-    others = math.prod(int(word) for word in words if word != '?')
-    return tuple(rows // others if word == '?' else int(word) for word in words)
 
 
 def fields_of(dtype):

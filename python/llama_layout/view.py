@@ -1,4 +1,5 @@
 """The class View."""
+import contextlib
 import math
 import operator
 import pathlib
@@ -8,8 +9,8 @@ from ctypes import c_int64, c_size_t, c_uint64, c_void_p
 
 import numpy
 
-from .calls import Fault, Places, asked, filled, lly, made, must, sized
-from .records import dtype_of, extents_of, fields_of, leaves_of, part_of
+from .calls import Answer, Fault, Places, asked, filled, lly, made, must, sized
+from .records import dtype_of, fields_of, leaves_of, part_of
 
 SAYS_NOTHING = ('axpy', 'clamp')
 SAYS_A_NUMBER = re.compile(r'\s*(reduce\s|kernel\s+\w+\s+(?!axpy|clamp))')
@@ -24,11 +25,13 @@ class View:
 
     def __init__(self, record, view):
         """A view of zeros, of a line `record P { .. }` and a line `view V : P [..] as ..`."""
-        self._take(made(lly.new, record, view), record, view)
+        self._take(made(lly.new, record, view))
 
-    def _take(self, handle, record, view):
-        self._handle, self.dtype = handle, dtype_of(record)
-        self.shape = extents_of(view, len(self))
+    def _take(self, handle):
+        self._handle = handle
+        self.dtype, extents, rank = dtype_of(self.record), (c_uint64 * 4)(), c_size_t()
+        must(lly.extents(handle, extents, 4, rank))
+        self.shape = tuple(extents[:rank.value])
         self._leaves = {path: (asked(lly.leaf, c_size_t, handle, *sized(path)), kind) for path, kind, _ in leaves_of(self.dtype)}
         self.paths = list(self._leaves)
         self._columns = weakref.WeakSet()
@@ -38,14 +41,12 @@ class View:
     def load(cls, record, view, csv):
         """A view of a dataset, of a line `load V : P [..] as .. from ".."`: the rows are `csv`, which is a path, or the bytes of such a file."""
         data = csv if isinstance(csv, bytes) else pathlib.Path(csv).read_bytes()
-        return cls.__new__(cls)._take(made(lly.load, record, view, data), record, view)
+        return cls.__new__(cls)._take(made(lly.load, record, view, data))
 
     @classmethod
     def from_bytes(cls, data):
         """The view of which these bytes are the file."""
-        handle = made(lly.open, data)
-        record, view, _ = data[12:].split(b'\n', 2)
-        return cls.__new__(cls)._take(handle, record.decode(), view.decode())
+        return cls.__new__(cls)._take(made(lly.open, data))
 
     @classmethod
     def open(cls, file):
@@ -81,6 +82,16 @@ class View:
     def __repr__(self):
         return f'<View of {fields_of(self.dtype)} {list(self.shape)}>'
 
+    @property
+    def record(self):
+        """The line of its record."""
+        return filled(lly.record, self._handle).decode()
+
+    @property
+    def layout(self):
+        """The line `view V : R [..] as ..` of which and of `record` a view of zeros like it is made."""
+        return filled(lly.layout, self._handle).decode()
+
     def __getitem__(self, path):
         return self.run(path, 0, len(self)).reshape(self.shape)
 
@@ -90,34 +101,52 @@ class View:
     def run(self, path, first, count):
         """The numbers of a leaf in so many rows from `first` on."""
         leaf, kind = self._leaves[path]
-        call, wide = (lly.get_run_u64, numpy.uint64) if kind == numpy.uint64 else (lly.get_run, numpy.int64)
-        numbers = numpy.empty(count, wide)
-        must(call(self._handle, self.row(first), leaf, numbers.ctypes.data, count))
-        return numbers.astype(kind, copy=False)
+        numbers = numpy.empty(count, kind)
+        must(lly.get_run_as(self._handle, self.row(first), leaf, *_numbers(numbers)))
+        return numbers
 
     def column(self, path):
         """The numbers of a leaf where they lie, as an array that copies nothing and cannot be written. As long as there is one, the view is neither laid anew nor let go."""
+        places, kind, strides = self._placed(path)
+        if not len(self):
+            return numpy.broadcast_to(numpy.empty(1, kind), self.shape)
+        lent = _Column(self, kind.str, self._blob(places.blob)[0] + places.base, strides)
+        self._columns.add(lent)
+        return numpy.asarray(lent)
+
+    def _placed(self, path):
+        """Where the numbers of a leaf lie, their type there, and how far they lie apart along each extent."""
         leaf, kind = self._leaves[path]
-        places, fault, at, length = Places(), Fault(), c_void_p(), c_size_t()
+        places, fault = Places(), Fault()
         must(lly.place(self._handle, leaf, places, fault), fault)
-        must(lly.blob_at(self._handle, places.blob, at, length))
         strides = _strides(places, self.shape)
         if strides is None:
             raise ValueError(f'{path}: no strides say where its numbers lie')
         if 8 * kind.itemsize != places.width:
             kind = numpy.dtype(f'{"i" if places.is_signed else "u"}{places.width // 8}')
-        if not len(self):
-            return numpy.broadcast_to(numpy.empty(1, kind), self.shape)
-        lent = _Column(self, kind.newbyteorder('>' if places.is_turned else '<').str, (at.value or 0) + places.base, strides)
-        self._columns.add(lent)
-        return numpy.asarray(lent)
+        return places, kind.newbyteorder('>' if places.is_turned else '<'), strides
+
+    def _blob(self, blob):
+        """Where the bytes of a blob lie, and how many they are."""
+        at, length = c_void_p(), c_size_t()
+        must(lly.blob_at(self._handle, blob, at, length))
+        return at.value or 0, length.value
+
+    @contextlib.contextmanager
+    def edit(self):
+        """Lends the numbers where they lie: `with view.edit() as columns: columns[path][:] = numbers`, an array for each leaf that has a column. They come back at the end of the block;
+        where it raises, or a number is none that the view may hold, the view stays as it was."""
+        self._keep()
+        lent, fault = bytearray(filled(lly.lend, self._handle)), Fault()
+        yield _Lent(self, lent)
+        self._keep()
+        must(getattr(lly, 'return')(self._handle, *sized(bytes(lent)), fault), fault)
 
     def set_run(self, path, first, numbers):
         """Stores numbers in a leaf of the rows from `first` on. Of a strict view that refuses one, those before it are stored."""
-        numbers = _whole(path, numbers)
-        call, wide = (lly.set_run_u64, numpy.uint64) if numbers.dtype == numpy.uint64 else (lly.set_run, numpy.int64)
-        numbers, fault = numpy.ascontiguousarray(numbers, wide), Fault()
-        must(call(self._handle, self.row(first), self._leaves[path][0], numbers.ctypes.data, numbers.size, fault), fault)
+        numbers, fault = _whole(path, numbers), Fault()
+        numbers = numpy.ascontiguousarray(numbers, numbers.dtype.newbyteorder('<'))
+        must(lly.set_run_as(self._handle, self.row(first), self._leaves[path][0], *_numbers(numbers), fault), fault)
 
     def gather(self, path, rows):
         """The numbers of a leaf in the rows of a list, in its order."""
@@ -140,6 +169,30 @@ class View:
         if numbers.dtype == numpy.uint64 and numbers.size and numbers.max() >= 2 ** 63:
             raise OverflowError(f'{numbers.max()} is not below 2^63')
         self._scatter(lly.scatter_add, path, rows, numbers, numpy.int64)
+
+    def box(self, path, low, high):
+        """The numbers of a leaf at the indices from `low` up to, and without, `high`, each a number for each extent, in an array of that shape."""
+        leaf, kind = self._leaves[path]
+        call, wide = (lly.get_box_u64, numpy.uint64) if kind == numpy.uint64 else (lly.get_box, numpy.int64)
+        bounds, shape = self._bounds(low, high)
+        numbers = numpy.empty(shape, wide)
+        must(call(self._handle, *bounds, leaf, numbers.ctypes.data, numbers.size))
+        return numbers.astype(kind, copy=False)
+
+    def set_box(self, path, low, high, numbers):
+        """Stores numbers there. Of a strict view that refuses one, those before it are stored."""
+        numbers = _whole(path, numbers)
+        call, wide = (lly.set_box_u64, numpy.uint64) if numbers.dtype == numpy.uint64 else (lly.set_box, numpy.int64)
+        bounds, shape = self._bounds(low, high)
+        numbers, fault = numpy.ascontiguousarray(numpy.broadcast_to(numbers, shape), wide), Fault()
+        must(call(self._handle, *bounds, self._leaves[path][0], numbers.ctypes.data, numbers.size, fault), fault)
+
+    def _bounds(self, low, high):
+        """Bounds as calls take them, and the shape of the box if they have one."""
+        low, high = ([_within(0, number) for number in bounds] for bounds in (low, high))
+        must(Answer.DONE if len(low) == len(high) else Answer.BAD_WINDOW)
+        kind = c_uint64 * len(low)
+        return (kind(*low), kind(*high), len(low)), [max(min(end, most) - first, 0) for first, end, most in zip(low, high, self.shape)]
 
     def _scatter(self, call, path, rows, numbers, wide):
         rows, fault = _rows(rows), Fault()
@@ -242,6 +295,18 @@ class _Column:
         self.__array_interface__ = {'version': 3, 'shape': view.shape, 'typestr': kind, 'data': (at, True), 'strides': strides}
 
 
+class _Lent:
+    """The leaves of a view in the bytes of its blobs, one behind another."""
+
+    def __init__(self, view, lent):
+        self._view, self._bytes = view, lent
+
+    def __getitem__(self, path):
+        places, kind, strides = self._view._placed(path)
+        before = sum(self._view._blob(blob)[1] for blob in range(places.blob))
+        return numpy.ndarray(self._view.shape, kind, self._bytes, before + places.base, strides)
+
+
 def _strides(places, shape):
     """How far the numbers of a leaf lie apart along each extent, or None where that is not one number."""
     if places.in_bits or places.in_digits:
@@ -257,6 +322,11 @@ def _whole(of, numbers):
     if numbers.size and numbers.dtype.kind not in 'bui':
         raise TypeError(f'{of}: {numbers.dtype} is no type of whole numbers')
     return numbers
+
+
+def _numbers(array):
+    """The numbers of an array as calls take them: how wide they are, whether they have a sign, and their bytes."""
+    return 8 * array.itemsize, array.dtype.kind == 'i', array.ctypes.data, array.nbytes
 
 
 def _rows(rows):

@@ -81,6 +81,23 @@ class OfArrays(unittest.TestCase):
         self.assertEqual(caught.exception.answer, Answer.IRREGULAR)
         self.assertEqual(View('record P { x: i32 }', 'view V : P [0, 3] as soa(multi, row)').column('x').shape, (0, 3))
 
+    def test_numbers_are_changed_where_they_lie(self):
+        for layout in ('aos(packed, row)', 'soa(multi, row)', 'byteswap(soa(single, col))', 'bitsoa(64, row)'):
+            view, due = View.from_array(filled(), layout), filled()
+            with view.edit() as columns:
+                columns['pos.x'][1:] = 9
+                columns['big'][...] += numpy.uint64(1)
+            due['pos']['x'][1:], due['big'] = 9, due['big'] + numpy.uint64(1)
+            self.assertTrue((view.to_array() == due).all(), layout)
+            with self.assertRaises(Refused) as caught, view.edit() as columns:
+                columns['on'].view('u1')[0, 0] = 2
+            self.assertEqual((caught.exception.answer, caught.exception.cause), (Answer.BAD_FILE, 5))
+            with self.assertRaises(KeyError), view.edit() as columns:
+                columns['low'][...] = 0
+                columns['none']
+            self.assertTrue((view.to_array() == due).all(), layout)
+            self.assertTrue((View(view.record, view.layout).blobs()[-1] == bytes(len(view.blobs()[-1]))), layout)
+
     def test_the_memory_is_that_of_numpy(self):
         packed, aligned = numpy.dtype([('a', 'u1'), ('b', '<i4')]), numpy.dtype([('a', 'u1'), ('b', '<i4')], align=True)
         for kind, layout in ((aligned, 'aos(aligned, row)'), (packed, 'aos(packed, row)')):
@@ -141,6 +158,11 @@ class OfCalls(unittest.TestCase):
         last = 3
         self.assertIn(f'row {last}', self.refused(Answer.RANGE, self.view.set_run, 'n', 1, [1, 2, -1], row=last, leaf=1))
         self.assertEqual(list(self.view['n'].ravel()), [4, 1, 2, 4, 4, 4])
+        for kind in ('i1', '>i2', '<u4', '?'):
+            self.view.set_run('x', 0, numpy.arange(12).astype(kind)[::2])
+            self.assertEqual(list(self.view['x'].ravel()), list(numpy.arange(0, 12, 2).astype(kind)))
+        self.view.set_run('big', 0, numpy.array([0.5, -2.25]).view('u8'))
+        self.assertEqual(list(self.view.run('big', 0, 2).view('f8')), [0.5, -2.25])
         self.refused(Answer.NO_PLACE, self.view.run, 'x', 5, 2)
         self.assertRaises(TypeError, self.view.set_run, 'x', 0, [0.5])
         self.assertRaises(ValueError, self.view.__setitem__, 'x', [1, 2])
@@ -167,6 +189,20 @@ class OfCalls(unittest.TestCase):
         self.assertRaises(TypeError, self.view.scatter, 'x', rows, 0.5)
         self.assertRaises(OverflowError, self.view.gather, 'x', [-1])
         self.assertRaises(OverflowError, self.view.scatter_add, 'x', rows, numpy.uint64(2 ** 63))
+
+    def test_boxes(self):
+        self.view['x'] = numpy.arange(6).reshape(2, 3)
+        self.assertEqual(self.view.box('x', (0, 1), (2, 3)).tolist(), [[1, 2], [4, 5]])
+        self.view.set_box('big', (1, 0), (2, 3), numpy.array([[1, 2, 2 ** 64 - 1]], 'u8'))
+        self.assertEqual(self.view.box('big', (0, 2), (2, 3)).tolist(), [[0], [2 ** 64 - 1]])
+        self.view.set_box('n', (0, 0), (2, 2), 7)
+        self.assertEqual(self.view['n'].tolist(), [[7, 7, 0], [7, 7, 0]])
+        self.assertEqual(self.view.box('x', (2, 0), (2, 3)).shape, (0, 3))
+        self.refused(Answer.RANGE, self.view.set_box, 'n', (1, 0), (2, 3), [1, 2, -1], row=5, leaf=1)
+        for bounds in (((0,), (2,)), ((0, 0), (2,)), ((1, 0), (0, 3)), ((0, 0), (2, 4)), ((0, 0), (2, 2 ** 64 - 1))):
+            self.refused(Answer.BAD_WINDOW, self.view.box, 'x', *bounds)
+        self.assertRaises(ValueError, self.view.set_box, 'n', (0, 0), (2, 2), [1, 2, 3])
+        self.assertRaises(OverflowError, self.view.box, 'x', (0, -1), (2, 3))
 
     def test_whole_tables(self):
         self.view['x'] = numpy.arange(6).reshape(2, 3)

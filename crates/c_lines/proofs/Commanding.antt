@@ -1,8 +1,7 @@
 -- Commands in a world of one view, and what refuses them.
-use Rattle.c_lines.proofs.Imports.{◌≡◌, ◌⊎◌, inl, inr, ⊎_elim, ℕ, nat_eq, Bool, true, List, Option, Some, None, Result, Ok, Err, refl, sym, ap, subst, ◌∙◌, pointwise, text_self, Fields, Access, Table, after_log, after_stores, LeafTerm, Setting, Sentence, sentence_of, Line, Value, Assignment, Tested, ◌>>=◌, Left, LeftOf, known, Done, done_to, on_view, CommandFault, Gives, StepFault, Answer, Tells, Refusal, NoMemory, First, answered, refusal_of, line_answer, row_named, DoesLine, Does, HasRows, IsFaultOf, Makes, OnLine, Refuses, Says, alone, commanded, front_left, kernel_left, line_taken, rows_left, taken, updated_front, view_in, Carried, bound_filter, bound_sets, each_once, leaves_of, fit_kernel, [], length, ℤ}
+use Rattle.c_lines.proofs.Imports.{◌≡◌, ◌⊎◌, inl, inr, ℕ, ℤ, nat_eq, Bool, true, List, Option, None, Ok, Err, refl, sym, ap, subst, ◌∙◌, pointwise, text_self, Fields, Table, Sentence, sentence_of, Line, Tested, ◌>>=◌, Left, LeftOf, known, Done, done_to, on_view, CommandFault, GivesUp, StepFault, Answer, Refusal, NoMemory, First, refusal_of, line_answer, row_told, Comes, Does, HasRows, OnLine, Refuses, Says, SaysStep, alone, left_at, line_taken, rows_left, taken, untold, view_in, step_refusal, Carried, Changed, ChangeFault, Ends, change_refusal, row_of, number_text, numbered}
 use Rattle.command_checks.specs.declared.fault.StepFault.TheVariants as step
-use Rattle.lane_kernels.specs.declared.kernel.Kernel.{Kernel}
-use Rattle.line_grammar.specs.Sentences as line
+use Rattle.view_commands.specs.declared.change.ChangeFault.TheVariants as change
 use Rattle.worlds.specs.declared.fault.CommandFault.TheVariants as command
 
 -- ---- the world of one view
@@ -32,90 +31,94 @@ says_of fields (command.Narrow row text) = inl refl
 says_of fields (command.Twice text) = inl refl
 says_of fields fault = inr refl
 
--- a test that was not passed
-pub refuses_test : {A B : Type 0} (fields : Fields) (view : A → B) (given : Result A StepFault) (outcome : Tested B) (told : Refusal) → Err told ≡ answered given → Gives view given outcome
-    → Refuses fields outcome told
-refuses_test fields view (Ok x) outcome told is gives = absurd (cc)
-refuses_test fields view (Err (step.Command fault)) outcome told is gives =
-    let same : told ≡ refusal_of fault = cc in
-    rw same (⊎_elim (λ (starved : refusal_of fault ≡ NoMemory). inl starved)
-    (λ (says : Says fields fault (refusal_of fault)). inr (record { fault = fault; is = gives; says = says })) (says_of fields fault))
-refuses_test fields view (Err step.NoMemory) outcome told is gives =
-    let same : told ≡ NoMemory = cc in
-    inl same
-refuses_test fields view (Err other) outcome told is gives = absurd gives
+pub says_step : (fields : Fields) (fault : StepFault) (told : Refusal) → told ≡ step_refusal fault → SaysStep fields fault told
+says_step fields (step.Command fault) told is = rw is (says_of fields fault)
+says_step fields other told is = is
 
--- a command that is refused, and one that is done
-pub carried_refused : {A : Type 0} (text : A → List ℕ) (outcome : Tested Done) (left : ℕ → List (List ℤ)) (old new : Table) (told : Refusal) (answer : Answer A) → answer ≡ Err told →
-    Refuses old.fields outcome told → HasRows old (left (row_named told)) new → Carried text outcome left old answer new
-carried_refused text outcome left old new told answer is refuses rows = rw is (refuses, rows)
+-- a fault that was told
+pub refuses_step : {A : Type 0} (fields : Fields) (outcome : Tested A) (fault : StepFault) (told : Refusal) → GivesUp outcome fault → SaysStep fields fault told → Refuses fields outcome told
+refuses_step fields outcome (step.Command fault) told gives (inl starved) = inl starved
+refuses_step fields outcome (step.Command fault) told gives (inr says) = inr (record { fault = fault; is = gives; says = says })
+refuses_step fields outcome step.NoMemory told gives says = inl says
+refuses_step fields outcome other told gives says = absurd gives
 
--- a command said otherwise
-pub carried_as : {A : Type 0} (text : A → List ℕ) (outcome other : Tested Done) (left more : ℕ → List (List ℤ)) (old new : Table) (answer : Answer A) → outcome ≡ other → ((row : ℕ) → left row ≡ more row) →
-    Carried text other more old answer new → Carried text outcome left old answer new
-carried_as text outcome other left more old new (Ok given) same rows carried = ap (λ (o : Tested Done). done_to old o) same ∙ carried
-carried_as text outcome other left more old new (Err told) same rows carried =
-    (refuses_by old.fields other outcome told (λ fault is. same ∙ is) carried.0, rw (rows (row_named told)) carried.1)
+-- that of a command that may store
+refuses_change : {A : Type 0} (fields : Fields) (outcome : Tested A) (fault : ChangeFault) → Ends fields outcome fault → Refuses fields outcome (change_refusal fault)
+refuses_change fields outcome (change.Range row leaf) ends = inr (record { fault = _; is = ends; says = record { leaf = leaf; text_is = refl; is = refl } })
+refuses_change fields outcome (change.Narrow row leaf) ends = inr (record { fault = _; is = ends; says = record { leaf = leaf; text_is = refl; is = refl } })
+refuses_change fields outcome (change.Twice leaf) ends = inr (record { fault = _; is = ends; says = record { leaf = leaf; text_is = refl; is = refl } })
+refuses_change fields outcome (change.Other fault) ends = refuses_step fields outcome fault (step_refusal fault) ends (says_step fields fault (step_refusal fault) refl)
 
--- a table that was read, and one that was stored in
-pub has_rows : (old new : Table) (rows : List (List ℤ)) (log : List Access) → new ≡ after_stores old rows log → HasRows old rows new
-has_rows old new rows log is = rw is refl
+row_command : (fault : CommandFault) → row_told (refusal_of fault) ≡ row_of (change.Other (step.Command fault))
+row_command (command.Overflow row) = refl
+row_command (command.DivideByZero row) = refl
+row_command fault = refl
 
-pub has_same : (old new : Table) (log : List Access) → new ≡ after_log old log → HasRows old old.rows new
-has_same old new log is = rw is refl
+row_change : (fault : ChangeFault) → row_told (change_refusal fault) ≡ row_of fault
+row_change (change.Range row leaf) = refl
+row_change (change.Narrow row leaf) = refl
+row_change (change.Twice leaf) = refl
+row_change (change.Other (step.Command fault)) = row_command fault
+row_change (change.Other other) = refl
 
--- ---- what a refusal at row 0 leaves is all
-
-front_then : {X : Type 0} (table : Table) (row : ℕ) (first : Tested X) (next : X → Tested (List (List ℤ))) → ((x : X) → front_left table row (next x) ≡ table.rows) → front_left table row (first >>= next) ≡ table.rows
-front_then table row (Ok x) next each = each x
-front_then table row (Err fault) next each = refl
-
-pub front_none : (table : Table) (filter : Option Value) (sets : List Assignment) → front_left table 0 (updated_front table filter sets 0) ≡ table.rows
-front_none table filter sets =
-    front_then table 0 (bound_filter table.fields (length table.extents) filter) _ (λ test.
-    front_then table 0 (bound_sets table.fields (length table.extents) sets) _ (λ settings.
-    front_then table 0 (each_once table.fields [] (leaves_of settings)) _ (λ once. refl)))
-
-pub kernel_none : (table : Table) (fit : Tested Kernel) → kernel_left table 0 fit ≡ table.rows
-kernel_none table (Ok kernel) = refl
-kernel_none table (Err fault) = refl
-
-rows_none : (sentence : Sentence) (table : Table) → rows_left sentence table 0 ≡ table.rows
-rows_none (line.Update name filter sets) table = front_none table filter sets
-rows_none (line.Kernel name kernel lanes) table = kernel_none table (fit_kernel table.fields kernel lanes)
-rows_none sentence table = refl
+pub carried_not : (outcome : Tested Done) (left : ℕ → List (List ℤ)) (old new : Table) (fault : ChangeFault) → Changed outcome left old (Err fault) new → Carried number_text outcome left old (Err (change_refusal fault)) new
+carried_not outcome left old new fault changed = (refuses_change old.fields outcome fault changed.0, rw (row_change fault) changed.1)
 
 -- ---- lines
 
 -- want of memory before the command
-starved_on : {A : Type 0} (text : A → List ℕ) (line_is : Answer Sentence) (old : Table) → OnLine text line_is old (Err NoMemory) old
-starved_on text (Ok sentence) old = (inl refl, rw (rows_none sentence old) refl)
-starved_on text (Err told) old = (inl refl, refl)
+starved_on : {A : Type 0} (text : A → List ℕ) (comes : Comes) (line_is : Answer Sentence) (old : Table) → OnLine text comes line_is old (Err NoMemory) old
+starved_on text comes (Ok sentence) old = (inl refl, refl)
+starved_on text comes (Err told) old = (inl refl, refl)
 
 -- a text that is no line
-pub text_refused : {A : Type 0} (text : A → List ℕ) (is : Sentence → Bool) (bytes : List ℕ) (old : Table) (told : Refusal) (answer : Answer A) → answer ≡ Err told →
-    (told ≡ NoMemory) ⊎ (line_answer First bytes ≡ Err told) → OnLine text (line_taken is bytes) old answer old
-text_refused text is bytes old told answer same (inl starved) = rw (same, starved) (starved_on text (line_taken is bytes) old)
-text_refused text is bytes old told answer same (inr refused) = rw (same, refused) (inr refl, refl)
+pub text_refused : {A : Type 0} (text : A → List ℕ) (comes : Comes) (is : Sentence → Bool) (bytes : List ℕ) (old : Table) (told : Refusal) (answer : Answer A) → answer ≡ Err told →
+    (told ≡ NoMemory) ⊎ (line_answer First bytes ≡ Err told) → OnLine text comes (line_taken is bytes) old answer old
+text_refused text comes is bytes old told answer same (inl starved) = rw (same, starved) (starved_on text comes (line_taken is bytes) old)
+text_refused text comes is bytes old told answer same (inr refused) = rw (same, refused) (inr refl, refl)
 
 -- one that is
-pub text_read : {A : Type 0} (text : A → List ℕ) (is : Sentence → Bool) (bytes : List ℕ) (sentence : Sentence) (old new : Table) (answer : Answer A) → line_answer First bytes ≡ Ok sentence →
-    OnLine text (taken is sentence) old answer new → OnLine text (line_taken is bytes) old answer new
-text_read text is bytes sentence old new answer read on = rw read on
+pub text_read : {A : Type 0} (text : A → List ℕ) (comes : Comes) (is : Sentence → Bool) (bytes : List ℕ) (sentence : Sentence) (old new : Table) (answer : Answer A) → line_answer First bytes ≡ Ok sentence →
+    OnLine text comes (taken is sentence) old answer new → OnLine text comes (line_taken is bytes) old answer new
+text_read text comes is bytes sentence old new answer read on = rw read on
 
--- a line that is known, and works on one view
-pub line_does : {A : Type 0} (text : A → List ℕ) (is : Sentence → Bool) (line known : Line) (command : Table → Tested Done) (old new : Table) (answer : Answer A) → line ≡ known →
-    taken is (sentence_of known) ≡ Ok (sentence_of known) → commanded (sentence_of known) old ≡ on_view (alone (view_in (sentence_of known)) old) (view_in (sentence_of known)) command →
-    Carried text (command old) (rows_left (sentence_of known) old) old answer new → OnLine text (taken is (sentence_of line)) old answer new
-line_does text is line known command old new answer same takes by carried =
-    subst (λ (l : Line). OnLine text (taken is (sentence_of l)) old answer new) (sym same)
-    (subst (λ (t : Answer Sentence). OnLine text t old answer new) (sym takes) (does text (sentence_of known) command old new answer by carried))
+-- a line that is known
+pub line_is : {A : Type 0} (text : A → List ℕ) (comes : Comes) (is : Sentence → Bool) (line known : Line) (old new : Table) (answer : Answer A) → line ≡ known → taken is (sentence_of known) ≡ Ok (sentence_of known) →
+    Does text comes (sentence_of known) old answer new → OnLine text comes (taken is (sentence_of line)) old answer new
+line_is text comes is line known old new answer same takes does =
+    subst (λ (l : Line). OnLine text comes (taken is (sentence_of l)) old answer new) (sym same)
+    (subst (λ (t : Answer Sentence). OnLine text comes t old answer new) (sym takes) does)
+
+-- one that works on one view
+pub line_does : {A : Type 0} (text : A → List ℕ) (comes : Comes) (is : Sentence → Bool) (line known : Line) (command : Table → Tested Done) (old new : Table) (answer : Answer A) → line ≡ known →
+    taken is (sentence_of known) ≡ Ok (sentence_of known) → comes (sentence_of known) old ≡ on_view (alone (view_in (sentence_of known)) old) (view_in (sentence_of known)) command →
+    Carried text (command old) (rows_left (sentence_of known) old) old answer new → OnLine text comes (taken is (sentence_of line)) old answer new
+line_does text comes is line known command old new answer same takes by carried =
+    line_is text comes is line known old new answer same takes (does text (sentence_of known) command old new answer by carried)
   where
     does : {A : Type 0} (text : A → List ℕ) (sentence : Sentence) (command : Table → Tested Done) (old new : Table) (answer : Answer A) →
-        commanded sentence old ≡ on_view (alone (view_in sentence) old) (view_in sentence) command → Carried text (command old) (rows_left sentence old) old answer new → Does text sentence old answer new
+        comes sentence old ≡ on_view (alone (view_in sentence) old) (view_in sentence) command → Carried text (command old) (rows_left sentence old) old answer new → Does text comes sentence old answer new
     does text sentence command old new (Ok given) by carried = by ∙ on_alone (view_in sentence) old command ∙ ap (onward (view_in sentence)) carried
     does text sentence command old new (Err told) by carried = (
-      refuses_by old.fields (command old) (commanded sentence old) told
+      refuses_by old.fields (command old) (comes sentence old) told
           (λ fault is. by ∙ on_alone (view_in sentence) old command ∙ ap (λ (outcome : Tested Done). onward (view_in sentence) (done_to old outcome)) is) carried.0,
       carried.1,
     )
+
+-- an update by actors, whose memory is not told
+pub actors_does : {A : Type 0} (heard : A → List ℕ) (line known : Line) (is : Sentence → Bool) (command : Table → Tested Done) (old new : Table) (sunk : A) → line ≡ known →
+    taken is (sentence_of known) ≡ Ok (sentence_of known) → numbered (sentence_of known) old ≡ untold (on_view (alone (view_in (sentence_of known)) old) (view_in (sentence_of known)) command) →
+    done_to old (command old) ≡ Ok (record { held = new; text = heard sunk }) → OnLine number_text numbered (taken is (sentence_of line)) old (Ok None) new
+actors_does heard line known is command old new sunk same takes by done =
+    line_is number_text numbered is line known old new (Ok None) same takes
+    (by ∙ ap untold (on_alone (view_in (sentence_of known)) old command) ∙ ap (λ (outcome : Tested (LeftOf Table)). untold (onward (view_in (sentence_of known)) outcome)) done)
+
+pub actors_not : (line known : Line) (is : Sentence → Bool) (command : Table → Tested Done) (old new : Table) (told : Refusal) (answer : Answer (Option ℤ)) → answer ≡ Err told → line ≡ known →
+    taken is (sentence_of known) ≡ Ok (sentence_of known) → numbered (sentence_of known) old ≡ untold (on_view (alone (view_in (sentence_of known)) old) (view_in (sentence_of known)) command) →
+    Refuses old.fields (command old) told → HasRows old (left_at (rows_left (sentence_of known) old) old (row_told told)) new → OnLine number_text numbered (taken is (sentence_of line)) old answer new
+actors_not line known is command old new told answer answered same takes by refuses rows =
+    rw answered (line_is number_text numbered is line known old new (Err told) same takes (
+      refuses_by old.fields (command old) (numbered (sentence_of known) old) told
+          (λ fault is. by ∙ ap untold (on_alone (view_in (sentence_of known)) old command) ∙ ap (λ (outcome : Tested Done). untold (onward (view_in (sentence_of known)) (done_to old outcome))) is) refuses,
+      rows,
+    ))

@@ -1,15 +1,14 @@
 mod Imports
+pub mod Anew
 pub mod Answering
-pub mod Arms
-pub mod BitRuns
 pub mod BlobBytes
+pub mod BoxRows
+pub mod CallerBytes
 pub mod Commanding
 pub mod Copied
-pub mod Indexing
 pub mod InTurn
 pub mod Making
 pub mod Parts
 pub mod Relaying
-pub mod Sets
-pub mod Telling
+pub mod Tellings
 pub mod Words

@@ -74,7 +74,7 @@ fault_append answer leaf lane (x ∷ xs) ys =
     ∙ or_twice (lane_fault lane (answer leaf x)) (first_lane_fault answer leaf (lane + 1) xs) (moved (lane + suc (length xs)) (first_lane_fault answer leaf 0 ys))
 
 -- of a run in two parts
-fault_parts : (leaf count : ℕ) (values : List ℤ) (table : Table) → count ≤ length values
+pub fault_parts : (leaf count : ℕ) (values : List ℤ) (table : Table) → count ≤ length values
     → run_fault leaf values table ≡ option_or (run_fault leaf (take count values) table) (moved count (run_fault leaf (drop count values) table))
 fault_parts leaf count values table inside =
     let all : 0 + length (take count values) ≡ count = omega (arith, length-take-le count values inside) in

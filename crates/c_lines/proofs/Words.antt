@@ -1,5 +1,5 @@
 -- The words of a fault in its line.
-use Rattle.c_lines.proofs.Imports.{◌≡◌, ℕ, List, [], ◌∷◌, ◌++◌, ◌+◌, ◌-◌, ◌≤◌, length, take, drop, Option, Some, Ok, Err, Refusal, inr, refl, sym, ap, subst, ◌∙◌, arith}
+use Rattle.c_lines.proofs.Imports.{◌≡◌, ℕ, List, [], ◌++◌, ◌+◌, ◌-◌, ◌≤◌, length, take, drop, Some, Ok, Err, Refusal, inr, refl, subst, ◌∙◌, arith}
 use Rattle.layout_io.specs.Writing.{with_bytes}
 unfoldable use Rattle.layout_io.specs.Decimal.{digits_text}
 unfoldable use Rattle.worlds.specs.FaultTexts.{fault_text}

@@ -2,7 +2,7 @@
 use Rattle.std.specs.Prelude.{◌≡◌, ◌⊎◌, ℤ, pos, Option, Some, None, option_map, Result, Ok, Err}
 use Rattle.views.specs.Tables.{Table}
 use Rattle.c_lines.specs.declared.refusal.Refusal.{Refusal}
-use Rattle.c_lines.specs.declared.refusal.Refusal.TheVariants.{NoView, NoPlace, NoMemory, NoRoom, BadType, Range, Narrow, Mismatch, Syntax, TooDeep, OtherLine, LineTooLong, Unknown, BadRecord, BadExtents, BadMapping, TooBig, BadKernel, Empty, MissingColumn, ColumnTwice, ShortRow, Number, BadFile, Twice, Overflow, DivideByZero, NotCounted, BadWindow, Irregular}
+use Rattle.c_lines.specs.declared.refusal.Refusal.TheVariants.{NoView, NoPlace, NoMemory, NoRoom, BadType, Range, Narrow, Mismatch, Syntax, TooDeep, OtherLine, LineTooLong, Unknown, BadRecord, BadExtents, BadMapping, TooBig, BadKernel, Empty, MissingColumn, ColumnTwice, ShortRow, Number, BadFile, Twice, Overflow, DivideByZero, NotCounted, BadWindow, Irregular, BadStencil, BadActors, BadAdvice, SharedByte}
 
 -- an answer that gives an `A`
 abbrev pub Answer : Type 0 → Type 0
@@ -40,6 +40,10 @@ refusal_number (DivideByZero row) = pos 29
 refusal_number NotCounted = pos 30
 refusal_number BadWindow = pos 31
 refusal_number (Irregular leaf) = pos 32
+refusal_number (BadStencil bad) = pos 33
+refusal_number (BadActors bad) = pos 34
+refusal_number (BadAdvice bad) = pos 35
+refusal_number (SharedByte blob byte) = pos 36
 
 -- the number of an answer in C
 abbrev pub code_of : {A : Type 0} → Answer A → ℤ

@@ -1,17 +1,18 @@
 -- Bytes that are copied into the buffer of a caller, and what they are.
-use Rattle.std.specs.Prelude.{ℕ, ◌≡◌, ◌⊎◌, ◌++◌, List, [], length, drop, nat_le, nat_lt, slice_index_or, Ok, Err, if◌then◌else◌}
-use Rattle.blob_file.specs.Files.{file_of}
-use Rattle.blob_file.specs.Opened.{opened, table_of_saved}
+use Rattle.std.specs.Prelude.{ℕ, ◌≡◌, ◌⊎◌, ◌++◌, List, [], length, drop, nat_le, nat_lt, slice_index_or, Result, Ok, Err, if◌then◌else◌}
+use Rattle.blob_file.specs.Files.{file_of, record_text, view_text}
+use Rattle.blob_file.specs.Opened.{Saved, opened, table_of_saved, with_body}
 use Rattle.blob_file.specs.Saving.{blobs_of, header_of}
 use Rattle.blob_file.specs.declared.fault.FileFault.{FileFault}
 use Rattle.blob_file.specs.declared.fault.FileFault.TheVariants as fault
 use Rattle.csv_rows.specs.Texts.{print_text}
+use Rattle.layout_io.specs.Writing.{joined}
 use Rattle.record_dim.specs.Leaves.{texts_of}
 use Rattle.views.specs.Tables.{Table, owners_of}
 use Rattle.worlds.specs.Files.{is_long}
 use Rattle.worlds.specs.Outcomes.{◌>>=◌, ok_or}
 use Rattle.worlds.specs.declared.fault.BadFile.TheVariants as bad
-use Rattle.c_lines.specs.Answers.{Answer}
+use Rattle.c_lines.specs.Answers.{Answer, given_or}
 use Rattle.c_lines.specs.declared.refusal.Refusal.{Refusal}
 use Rattle.c_lines.specs.declared.refusal.Refusal.TheVariants.{NoPlace, NoMemory, NoRoom, TooBig, BadFile}
 
@@ -59,6 +60,17 @@ file_told table = if is_long table then Err TooBig else Ok (file_of (header_of t
 abbrev pub blob_told : ℕ → Table → Answer (List ℕ)
 blob_told blob table = if nat_lt blob (length (owners_of table)) then Ok (slice_index_or (blobs_of table) blob []) else Err NoPlace
 
+-- the bytes of all blobs, one behind another
+abbrev pub lent : Table → List ℕ
+lent table = joined (blobs_of table)
+
+-- the texts of the lines of a record and of a view with which a table of zeros like it is made
+abbrev pub record_line : Table → List ℕ
+record_line table = record_text (header_of table)
+
+abbrev pub view_line : Table → List ℕ
+view_line table = view_text (header_of table)
+
 -- the table of a file
 abbrev pub file_refusal : FileFault → Refusal
 file_refusal fault.Magic = BadFile bad.Magic
@@ -68,7 +80,21 @@ file_refusal fault.Length = BadFile bad.Length
 file_refusal fault.Contents = BadFile bad.Contents
 file_refusal fault.NoMemory = NoMemory
 
-abbrev pub opened_told : List ℕ → Answer Table
-opened_told bytes = do
-  saved ← ok_or file_refusal (opened bytes)
+abbrev pub saved_told : Result Saved FileFault → Answer Table
+saved_told read = do
+  saved ← ok_or file_refusal read
   Ok (table_of_saved saved)
+
+abbrev pub opened_told : List ℕ → Answer Table
+opened_told bytes = saved_told (opened bytes)
+
+-- the table like another one of whose blobs these are the bytes, one behind another, and what is left of that one
+abbrev pub returned : List ℕ → Table → Answer Table
+returned bytes table = saved_told (with_body (header_of table) bytes)
+
+abbrev pub after_return : List ℕ → Table → Table
+after_return bytes table = given_or table (returned bytes table)
+
+-- what is lent and returned unchanged leaves all but the counts
+abbrev pub ReturnsSame : Table → Type 0
+ReturnsSame table = (left : Table) × (returned (lent table) table ≡ Ok left) × (left ≡ record table { tally = left.tally })

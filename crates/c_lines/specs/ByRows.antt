@@ -1,13 +1,12 @@
 -- Values of one leaf in the rows of a list, in the order of the list. A row may stand in it more than once.
-use Rattle.std.specs.Prelude.{ℕ, ◌&&◌, Bool, ℤ, ◌+ℤ◌, List, [], ◌∷◌, length, map, nat_eq, nat_lt, Ok, Err, if◌then◌else◌}
+use Rattle.std.specs.Prelude.{ℕ, ◌&&◌, Bool, ℤ, ◌+ℤ◌, List, ◌∷◌, length, map, nat_eq, nat_lt, Ok, Err, if◌then◌else◌}
 use Rattle.std.specs.List.{list_all}
 use Rattle.record_dim.specs.declared.leaf_type.LeafType.{LeafType}
 use Rattle.places.specs.Image.{entry}
 use Rattle.views.specs.Tables.{Table, leaf_count_of, leaf_type_of, after_log, after_read, after_write}
-use Rattle.views.specs.Tallies.{Access, Read}
+use Rattle.views.specs.Tallies.{Read}
 use Rattle.c_lines.specs.Answers.{Answer, changed_by}
 use Rattle.c_lines.specs.Values.{read_if, store_told}
-use Rattle.c_lines.specs.declared.refusal.Refusal.{Refusal}
 use Rattle.c_lines.specs.declared.refusal.Refusal.TheVariants.{NoPlace}
 
 -- all rows of a list are rows of a table, so is a leaf of it, and an array has as many numbers as the list
@@ -16,17 +15,13 @@ are_rows rows count leaf table = (nat_eq count (length rows) && nat_lt leaf (lea
 
 -- ---- values that are read
 
--- what is read of these rows, by a caller who takes the values of some types
-abbrev pub gather_by : {A : Type 0} → (LeafType → Bool) → List ℕ → ℕ → ℕ → Table → A → Answer A
-gather_by reads rows count leaf table given = read_if (are_rows rows count leaf table) reads (leaf_type_of table leaf) given
-
 -- the values of a leaf in these rows
 abbrev pub values_at : List ℕ → ℕ → Table → List ℤ
 values_at rows leaf table = map (λ row. entry table.rows row leaf) rows
 
 -- what `lly_gather` and `lly_gather_u64` answer
 abbrev pub gathered : (LeafType → Bool) → List ℕ → ℕ → ℕ → Table → Answer (List ℤ)
-gathered reads rows count leaf table = gather_by reads rows count leaf table (values_at rows leaf table)
+gathered reads rows count leaf table = read_if (are_rows rows count leaf table) reads (leaf_type_of table leaf) (values_at rows leaf table)
 
 -- the table after such a read, which counts one of each row in turn
 abbrev pub after_gather : List ℕ → ℕ → Table → Table

@@ -1,23 +1,21 @@
 -- A line on one view: its command, in a script that has nothing but this view, by the name that the line gives it.
-use Rattle.std.specs.Prelude.{ℕ, ◌≡◌, ◌⊎◌, ◌++◌, ◌&&◌, ℤ, pos, neg_ℤ, int_le, int_lt, ◌^◌, Bool, true, false, List, [], length, drop, Option, Some, None, Ok, Err, if◌then◌else◌}
-use Rattle.lane_kernels.specs.Kernels.{run_rows}
-use Rattle.lane_kernels.specs.declared.kernel.Kernel.{Kernel}
+use Rattle.std.specs.Prelude.{ℕ, ◌≡◌, ◌⊎◌, ◌&&◌, ℤ, pos, neg_ℤ, int_le, int_lt, ◌^◌, Bool, true, false, List, [], Option, Some, Ok, Err, if◌then◌else◌}
 use Rattle.line_grammar.specs.Sentences as line
-use Rattle.line_grammar.specs.Sentences.{Sentence, Value, Assignment}
+use Rattle.line_grammar.specs.Sentences.{Sentence}
 use Rattle.record_dim.specs.Trees.{Fields}
-use Rattle.row_updates.specs.Rows.{updated_of}
-use Rattle.views.specs.Tables.{Table, kept_of}
+use Rattle.views.specs.Tables.{Table}
+use Rattle.view_commands.specs.Changes.{HasRows, front_left, kernel_left, left_at, stencil_left, updated_front}
 use Rattle.worlds.specs.Kernel.{fit_kernel, number_text}
-use Rattle.worlds.specs.Names.{bound_filter, bound_sets, each_once, leaves_of, text_of_leaf}
-use Rattle.worlds.specs.Outcomes.{Left, LeftOf, Tested, ◌>>=◌, ok_or}
+use Rattle.worlds.specs.Names.{text_of_leaf}
+use Rattle.worlds.specs.Outcomes.{Left, Tested, ◌>>=◌}
+use Rattle.worlds.specs.Stencil.{fit_stencil}
 use Rattle.worlds.specs.Step.{done_by}
-use Rattle.worlds.specs.Update.{update_fault}
 use Rattle.worlds.specs.Worlds.{World, added, empty}
 use Rattle.worlds.specs.declared.fault.CommandFault.{CommandFault}
 use Rattle.worlds.specs.declared.fault.CommandFault.TheVariants as command
 use Rattle.c_lines.specs.Answers.{Answer}
 use Rattle.c_lines.specs.Buffers.{buffer_after, needed_after, put_told}
-use Rattle.c_lines.specs.Faults.{row_named}
+use Rattle.c_lines.specs.Faults.{row_told}
 use Rattle.c_lines.specs.Lines.{line_answer}
 use Rattle.c_lines.specs.Told.{refusal_of}
 use Rattle.c_lines.specs.declared.refusal.Refusal.{Refusal}
@@ -40,15 +38,25 @@ view_in (line.Count name filter) = name
 view_in (line.Show kind name) = name
 view_in (line.Bytes name blob) = name
 view_in (line.PrintWindow name spans) = name
+view_in (line.Relayout name term) = name
+view_in (line.Stencil name spans path terms divisor rounds) = name
+view_in (line.Actors name filter sets cuts seed turns) = name
+view_in (line.Advise name granule passes terms splits) = name
 view_in _ = []
 
 -- what becomes of the world of a table
 abbrev pub commanded : Sentence → Table → Tested Left
 commanded sentence table = done_by (alone (view_in sentence) table) sentence
 
--- the command leaves this table, and writes this text
-abbrev pub Makes : Sentence → Table → Table → List ℕ → Type 0
-Makes sentence old new text = commanded sentence old ≡ Ok (record { held = alone (view_in sentence) new; text = text })
+-- the same of a caller who asks for a number: the memory that an update by actors writes is not told
+abbrev pub untold : Tested Left → Tested Left
+untold outcome = do
+  left ← outcome
+  Ok (record left { text = [] })
+
+abbrev pub numbered : Sentence → Table → Tested Left
+numbered (line.Actors name filter sets cuts seed turns) table = untold (commanded (line.Actors name filter sets cuts seed turns) table)
+numbered sentence table = commanded sentence table
 
 -- ---- why it is refused
 
@@ -76,38 +84,24 @@ Refuses fields outcome told = (told ≡ refusal.NoMemory) ⊎ IsFaultOf fields o
 
 -- ---- what a refusal leaves
 
--- the rows of an update before one of them
-abbrev pub updated_front : Table → Option Value → List Assignment → ℕ → Tested (List (List ℤ))
-updated_front table filter sets row = do
-  test ← bound_filter table.fields (length table.extents) filter
-  settings ← bound_sets table.fields (length table.extents) sets
-  once ← each_once table.fields [] (leaves_of settings)
-  ok_or (update_fault table.fields) (updated_of table test settings row)
-
-abbrev pub front_left : Table → ℕ → Tested (List (List ℤ)) → List (List ℤ)
-front_left table row (Ok front) = front ++ drop row table.rows
-front_left table row (Err fault) = table.rows
-
-abbrev pub kernel_left : Table → ℕ → Tested Kernel → List (List ℤ)
-kernel_left table row (Ok kernel) = run_rows (kept_of table) kernel row table.rows
-kernel_left table row (Err fault) = table.rows
-
--- the rows that a command leaves which is refused at this one, and else at 0: an update and a kernel have changed those before it
+-- the rows that a command leaves which is refused at this one: an update and a kernel have changed those before it, and a stencil has made the
+-- rounds before the one that is refused
 abbrev pub rows_left : Sentence → Table → ℕ → List (List ℤ)
 rows_left (line.Update name filter sets) table row = front_left table row (updated_front table filter sets row)
 rows_left (line.Kernel name kernel lanes) table row = kernel_left table row (fit_kernel table.fields kernel lanes)
+rows_left (line.Stencil name spans path terms divisor rounds) table row = stencil_left table rounds (fit_stencil table spans path terms divisor rounds)
 rows_left _ table row = table.rows
-
--- a table with these rows, of which some accesses may be counted
-abbrev pub HasRows : Table → List (List ℤ) → Table → Type 0
-HasRows old rows new = new ≡ record old { rows = rows; tally = new.tally }
 
 -- ---- the call
 
--- what an answer says of the command, where `text` is what the command writes of what is given
-abbrev pub Does : {A : Type 0} → (A → List ℕ) → Sentence → Table → Answer A → Table → Type 0
-Does text sentence old (Ok given) new = Makes sentence old new (text given)
-Does text sentence old (Err told) new = Refuses old.fields (commanded sentence old) told × HasRows old (rows_left sentence old (row_named told)) new
+-- what comes of a line on a table
+abbrev pub Comes : Type 0
+Comes = Sentence → Table → Tested Left
+
+-- what an answer says of it, where `text` is what is written of what is given
+abbrev pub Does : {A : Type 0} → (A → List ℕ) → Comes → Sentence → Table → Answer A → Table → Type 0
+Does text comes sentence old (Ok given) new = comes sentence old ≡ Ok (record { held = alone (view_in sentence) new; text = text given })
+Does text comes sentence old (Err told) new = Refuses old.fields (comes sentence old) told × HasRows old (left_at (rows_left sentence old) old (row_told told)) new
 
 -- the line of a text, where it is one of these
 abbrev pub taken : (Sentence → Bool) → Sentence → Answer Sentence
@@ -119,9 +113,9 @@ line_taken is text = do
   taken is sentence
 
 -- another text changes nothing
-abbrev pub OnLine : {A : Type 0} → (A → List ℕ) → Answer Sentence → Table → Answer A → Table → Type 0
-OnLine text (Ok sentence) old answer new = Does text sentence old answer new
-OnLine text (Err told) old answer new = ((answer ≡ Err refusal.NoMemory) ⊎ (answer ≡ Err told)) × (new ≡ old)
+abbrev pub OnLine : {A : Type 0} → (A → List ℕ) → Comes → Answer Sentence → Table → Answer A → Table → Type 0
+OnLine text comes (Ok sentence) old answer new = Does text comes sentence old answer new
+OnLine text comes (Err told) old answer new = ((answer ≡ Err refusal.NoMemory) ⊎ (answer ≡ Err told)) × (new ≡ old)
 
 -- the lines that `lly_do` takes
 abbrev pub is_do : Sentence → Bool
@@ -130,21 +124,30 @@ is_do (line.Update name filter sets) = true
 is_do (line.Kernel name kernel lanes) = true
 is_do (line.Reduce name kind path) = true
 is_do (line.Count name filter) = true
+is_do (line.Relayout name term) = true
+is_do (line.Stencil name spans path terms divisor rounds) = true
+is_do (line.Actors name filter sets cuts seed turns) = true
 is_do _ = false
 
--- what it answers and leaves: a number is that which the command writes
-abbrev pub DoesLine : List ℕ → Table → Answer (Option ℤ) → Table → Type 0
-DoesLine text old answer new = OnLine number_text (line_taken is_do text) old answer new
+-- and the one that `lly_kernel` takes
+abbrev pub is_kernel : Sentence → Bool
+is_kernel (line.Kernel name kernel lanes) = true
+is_kernel _ = false
+
+-- what such a call answers and leaves: a number is that which the command writes, but for the memory of actors
+abbrev pub DoesLine : (Sentence → Bool) → List ℕ → Table → Answer (Option ℤ) → Table → Type 0
+DoesLine is text old answer new = OnLine number_text numbered (line_taken is text) old answer new
 
 -- those that `lly_tell` takes, and the text that it tells
 abbrev pub is_tell : Sentence → Bool
 is_tell (line.Show kind name) = true
 is_tell (line.Bytes name blob) = true
 is_tell (line.PrintWindow name spans) = true
+is_tell (line.Advise name granule passes terms splits) = true
 is_tell _ = false
 
 abbrev pub TellsLine : List ℕ → Table → Answer (List ℕ) → Table → Type 0
-TellsLine text old answer new = OnLine (λ told. told) (line_taken is_tell text) old answer new
+TellsLine text old answer new = OnLine (λ told. told) commanded (line_taken is_tell text) old answer new
 
 -- all of it, with the text in a buffer
 pub record IsToldInto (text : List ℕ) (old new : Table) (buffer : List ℕ) (needed : ℕ) (answer : Answer (Unit {0})) (buffer_new : List ℕ) (needed_new : ℕ) : Type 0 where

@@ -1,15 +1,21 @@
 -- What C learns of a refusal beside its number.
-use Rattle.std.specs.Prelude.{ℕ, ℤ, pos, Ok, Err}
+use Rattle.std.specs.Prelude.{ℕ, ℤ, pos, Option, Some, None, Ok, Err}
 use Rattle.extents.specs.declared.words.BadExtents.{BadExtents}
 use Rattle.extents.specs.declared.words.BadExtents.TheVariants as extents
 use Rattle.map_expr.specs.declared.check.BadMapping.{BadMapping}
 use Rattle.map_expr.specs.declared.check.BadMapping.TheVariants as mapping
 use Rattle.record_dim.specs.declared.fault.BadRecord.{BadRecord}
 use Rattle.record_dim.specs.declared.fault.BadRecord.TheVariants as fields
+use Rattle.worlds.specs.declared.fault.BadActors.{BadActors}
+use Rattle.worlds.specs.declared.fault.BadActors.TheVariants as actors
+use Rattle.worlds.specs.declared.fault.BadAdvice.{BadAdvice}
+use Rattle.worlds.specs.declared.fault.BadAdvice.TheVariants as advice
 use Rattle.worlds.specs.declared.fault.BadFile.{BadFile}
 use Rattle.worlds.specs.declared.fault.BadFile.TheVariants as file
 use Rattle.worlds.specs.declared.fault.BadKernel.{BadKernel}
 use Rattle.worlds.specs.declared.fault.BadKernel.TheVariants as kernel
+use Rattle.worlds.specs.declared.fault.BadStencil.{BadStencil}
+use Rattle.worlds.specs.declared.fault.BadStencil.TheVariants as stencil
 use Rattle.c_lines.specs.Answers.{Answer}
 use Rattle.c_lines.specs.declared.refusal.Fault.{Fault}
 use Rattle.c_lines.specs.declared.refusal.Refusal.{Refusal}
@@ -59,6 +65,21 @@ file_cause file.Layout = pos 3
 file_cause file.Length = pos 4
 file_cause file.Contents = pos 5
 
+abbrev pub stencil_cause : BadStencil → ℤ
+stencil_cause stencil.Reach = pos 1
+stencil_cause stencil.Weight = pos 2
+stencil_cause stencil.Terms = pos 3
+stencil_cause stencil.Rounds = pos 4
+
+abbrev pub actors_cause : BadActors → ℤ
+actors_cause actors.Cuts = pos 1
+actors_cause actors.Turns = pos 2
+
+abbrev pub advice_cause : BadAdvice → ℤ
+advice_cause advice.Granule = pos 1
+advice_cause advice.Passes = pos 2
+advice_cause advice.Candidates = pos 3
+
 -- which of several causes it is, or which text it is of, and 0 where there is but one
 abbrev pub cause_of : Refusal → ℤ
 cause_of (refusal.Syntax text column) = text_number text
@@ -70,9 +91,12 @@ cause_of (refusal.BadExtents bad) = extents_cause bad
 cause_of (refusal.BadMapping bad) = mapping_cause bad
 cause_of (refusal.BadKernel bad) = kernel_cause bad
 cause_of (refusal.BadFile bad) = file_cause bad
+cause_of (refusal.BadStencil bad) = stencil_cause bad
+cause_of (refusal.BadActors bad) = actors_cause bad
+cause_of (refusal.BadAdvice bad) = advice_cause bad
 cause_of _ = pos 0
 
--- the row and the leaf that it names, and the column of a text; 0 where it names none
+-- the row and the leaf that it names, and the column of a text, but of a byte its blob and its place there; 0 where it names none
 abbrev pub row_named : Refusal → ℕ
 row_named (refusal.Range row leaf) = row
 row_named (refusal.Narrow row leaf) = row
@@ -80,6 +104,7 @@ row_named (refusal.ShortRow row leaf) = row
 row_named (refusal.Number row leaf) = row
 row_named (refusal.Overflow row) = row
 row_named (refusal.DivideByZero row) = row
+row_named (refusal.SharedByte blob byte) = blob
 row_named _ = 0
 
 abbrev pub leaf_named : Refusal → ℕ
@@ -95,7 +120,16 @@ leaf_named _ = 0
 
 abbrev pub column_of : Refusal → ℕ
 column_of (refusal.Syntax text column) = column
+column_of (refusal.SharedByte blob byte) = byte
 column_of _ = 0
+
+-- the row of a view that a command is refused at, if it is at one
+abbrev pub row_told : Refusal → Option ℕ
+row_told (refusal.Range row leaf) = Some row
+row_told (refusal.Narrow row leaf) = Some row
+row_told (refusal.Overflow row) = Some row
+row_told (refusal.DivideByZero row) = Some row
+row_told _ = None
 
 abbrev pub fault_of : Refusal → Fault
 fault_of refused = record { cause = cause_of refused; row = row_named refused; leaf = leaf_named refused; column = column_of refused }

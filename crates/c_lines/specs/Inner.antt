@@ -1,5 +1,6 @@
 -- Words of contracts within the project, which no promise reaches.
 pub mod Carried
+pub mod Laid
 pub mod Makes
 pub mod Said
 pub mod Steps

@@ -2,7 +2,6 @@ pub mod Told
 pub mod Lines
 pub mod Copies
 pub mod Relaid
-pub mod KernelLines
 pub mod Agreement
 pub mod Commands
 pub mod Answers
@@ -10,7 +9,9 @@ pub mod Faults
 pub mod Messages
 pub mod Values
 pub mod CallerRuns
+pub mod CallerBytes
 pub mod ByRows
+pub mod Boxes
 pub mod About
 pub mod Buffers
 pub mod Placed

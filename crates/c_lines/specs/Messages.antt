@@ -7,14 +7,17 @@ use Rattle.layout_io.specs.Decimal.{digits_text}
 use Rattle.map_expr.specs.declared.check.BadMapping.TheVariants as mapping
 use Rattle.record_dim.specs.declared.fault.BadRecord.TheVariants as fields
 use Rattle.worlds.specs.FaultTexts.{fault_words}
+use Rattle.worlds.specs.declared.fault.BadActors.TheVariants as actors
+use Rattle.worlds.specs.declared.fault.BadAdvice.TheVariants as advice
 use Rattle.worlds.specs.declared.fault.BadFile.TheVariants as file
 use Rattle.worlds.specs.declared.fault.BadKernel.TheVariants as kernel
+use Rattle.worlds.specs.declared.fault.BadStencil.TheVariants as stencil
 use Rattle.worlds.specs.declared.fault.CommandFault.TheVariants as command
 use Rattle.c_lines.specs.Answers.{Answer, refusal_number}
 use Rattle.c_lines.specs.Faults.{cause_of, fault_of}
 use Rattle.c_lines.specs.declared.refusal.Fault.{Fault}
 use Rattle.c_lines.specs.declared.refusal.Refusal.{Refusal}
-use Rattle.c_lines.specs.declared.refusal.Refusal.TheVariants.{NoView, NoPlace, NoMemory, NoRoom, BadType, Range, Narrow, Mismatch, Syntax, TooDeep, OtherLine, LineTooLong, Unknown, BadRecord, BadExtents, BadMapping, TooBig, BadKernel, Empty, MissingColumn, ColumnTwice, ShortRow, Number, BadFile, Twice, Overflow, DivideByZero, NotCounted, BadWindow, Irregular}
+use Rattle.c_lines.specs.declared.refusal.Refusal.TheVariants.{NoView, NoPlace, NoMemory, NoRoom, BadType, Range, Narrow, Mismatch, Syntax, TooDeep, OtherLine, LineTooLong, Unknown, BadRecord, BadExtents, BadMapping, TooBig, BadKernel, Empty, MissingColumn, ColumnTwice, ShortRow, Number, BadFile, Twice, Overflow, DivideByZero, NotCounted, BadWindow, Irregular, BadStencil, BadActors, BadAdvice, SharedByte}
 use Rattle.c_lines.specs.declared.refusal.TextOf.TheVariants.{First, Second}
 
 -- what a refusal is called
@@ -49,6 +52,10 @@ words_for (Overflow row) = fault_words (command.Overflow row)
 words_for (DivideByZero row) = fault_words (command.DivideByZero row)
 words_for NotCounted = fault_words command.NotCounted
 words_for BadWindow = fault_words command.BadWindow
+words_for (BadStencil bad) = fault_words (command.BadStencil bad)
+words_for (BadActors bad) = fault_words (command.BadActors bad)
+words_for (BadAdvice bad) = fault_words (command.BadAdvice bad)
+words_for (SharedByte blob byte) = fault_words (command.SharedByte blob byte)
 
 -- each refusal that names this row, leaf and column, where it names one
 abbrev pub refusals_at : Fault → List Refusal
@@ -61,7 +68,9 @@ refusals_at fault = NoView ∷ NoPlace ∷ NoMemory ∷ NoRoom ∷ BadType ∷ R
     ∷ TooBig ∷ BadKernel kernel.Lanes ∷ BadKernel kernel.Wide ∷ BadKernel kernel.Constant ∷ Empty
     ∷ MissingColumn fault.leaf ∷ ColumnTwice fault.leaf ∷ ShortRow fault.row fault.leaf ∷ Number fault.row fault.leaf
     ∷ BadFile file.Magic ∷ BadFile file.Header ∷ BadFile file.Layout ∷ BadFile file.Length ∷ BadFile file.Contents
-    ∷ Twice fault.leaf ∷ Overflow fault.row ∷ DivideByZero fault.row ∷ NotCounted ∷ BadWindow ∷ Irregular fault.leaf ∷ []
+    ∷ Twice fault.leaf ∷ Overflow fault.row ∷ DivideByZero fault.row ∷ NotCounted ∷ BadWindow ∷ Irregular fault.leaf
+    ∷ BadStencil stencil.Reach ∷ BadStencil stencil.Weight ∷ BadStencil stencil.Terms ∷ BadStencil stencil.Rounds ∷ BadActors actors.Cuts ∷ BadActors actors.Turns
+    ∷ BadAdvice advice.Granule ∷ BadAdvice advice.Passes ∷ BadAdvice advice.Candidates ∷ SharedByte fault.row fault.column ∷ []
 
 -- whether a refusal has this number and this cause
 abbrev pub is_told : ℤ → ℤ → Refusal → Bool

@@ -2,12 +2,7 @@
 use Rattle.std.specs.Prelude.{ℕ}
 use Rattle.csv_rows.specs.declared.fault.RowFault.{RowFault}
 use Rattle.csv_rows.specs.declared.fault.RowFault.TheVariants as row
-use Rattle.lane_kernels.specs.declared.fault.KernelFault.{KernelFault}
-use Rattle.lane_kernels.specs.declared.fault.KernelFault.TheVariants as kernel
 use Rattle.layout_copy.specs.Copies.{Spot}
-use Rattle.row_updates.specs.declared.fault.UpdateFault.{UpdateFault}
-use Rattle.row_updates.specs.declared.fault.UpdateKind.{UpdateKind}
-use Rattle.row_updates.specs.declared.fault.UpdateKind.TheVariants as update
 use Rattle.views.specs.declared.fault.StoreFault.{StoreFault}
 use Rattle.views.specs.declared.fault.StoreFault.TheVariants as store
 use Rattle.worlds.specs.Outcomes.{Tested, ok_or}
@@ -34,6 +29,10 @@ refusal_of command.BadWindow = refusal.BadWindow
 refusal_of command.NotCounted = refusal.NotCounted
 refusal_of (command.Overflow row) = refusal.Overflow row
 refusal_of (command.DivideByZero row) = refusal.DivideByZero row
+refusal_of (command.BadStencil bad) = refusal.BadStencil bad
+refusal_of (command.BadActors bad) = refusal.BadActors bad
+refusal_of (command.BadAdvice bad) = refusal.BadAdvice bad
+refusal_of (command.SharedByte blob byte) = refusal.SharedByte blob byte
 refusal_of _ = refusal.NoMemory
 
 -- what a command gives that reads no file, as an answer
@@ -58,22 +57,6 @@ row_refusal row.NoMemory = refusal.NoMemory
 -- of a value that is not held
 abbrev pub spot_refusal : Spot → Refusal
 spot_refusal spot = refusal.Narrow spot.row spot.leaf
-
--- of an update
-abbrev pub update_kind_refusal : ℕ → UpdateKind → Refusal
-update_kind_refusal at update.Overflow = refusal.Overflow at
-update_kind_refusal at update.DivideByZero = refusal.DivideByZero at
-update_kind_refusal at (update.Range leaf) = refusal.Range at leaf
-update_kind_refusal at (update.Narrow leaf) = refusal.Narrow at leaf
-
-abbrev pub update_refusal : UpdateFault → Refusal
-update_refusal fault = update_kind_refusal fault.row fault.kind
-
--- and of a kernel that runs
-abbrev pub kernel_refusal : KernelFault → Refusal
-kernel_refusal kernel.Empty = refusal.Empty
-kernel_refusal (kernel.Range at leaf) = refusal.Range at leaf
-kernel_refusal (kernel.Narrow at leaf) = refusal.Narrow at leaf
 
 -- why a command is refused, as a call has it: a leaf is its number
 abbrev pub in_numbers : Wording Refusal

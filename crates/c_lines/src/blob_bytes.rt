@@ -1,9 +1,10 @@
 // The blobs of a view.
 ghost use Rattle.std.specs.Prelude.{◌≡◌, ◌<◌, ◌≤◌, ◌++◌, Ok, drop, length};
 ghost use Rattle.views.specs.Tables.{owners_of};
-ghost use Rattle.c_lines.specs.Buffers.{blob_told, buffer_after, needed_after, put_told};
+ghost use Rattle.c_lines.specs.Buffers.{blob_told, buffer_after, lent, needed_after, put_told, ReturnsSame};
 
 use crate::refusal::Refusal;
+use blob_file::body_law;
 use blobs::Blob;
 use places::Mapping;
 use views::View;
@@ -55,5 +56,35 @@ fn put_bytes(blob: &Blob, buffer: &mut [u8])
 {
     for at in 0..blob.len() {
         buffer[at] = blob.get(at);
+    }
+}
+
+/// Puts the bytes of all blobs of a view, one behind another, into a buffer, and tells how many they are.
+#[tactic(auto, using(crate::proofs::BlobBytes::returns_same))]
+pub fn lend(view: &View, buffer: &mut [u8], needed: &mut usize) -> Result<(), Refusal>
+    ensures told { result ≡ put_told (Ok (lent view.now)) buffer.old }
+    ensures buffer { buffer.new ≡ buffer_after (Ok (lent view.now)) buffer.old }
+    ensures needed { needed.new ≡ needed_after (Ok (lent view.now)) needed.old }
+    ensures back { ReturnsSame view.now }
+{
+    body_law(view);
+    *needed = view.blob_bytes() as usize;
+    if *needed > buffer.len() {
+        return Err(Refusal::NoRoom);
+    }
+    put_blobs(view, buffer);
+    Ok(())
+}
+
+// Makes the front of a buffer the bytes of all blobs of a view.
+fn put_blobs(view: &View, buffer: &mut [u8])
+    requires { length (lent view.now) ≤ length buffer.old }
+    ensures { buffer.new ≡ lent view.now ++ drop (length (lent view.now)) buffer.old }
+{
+    let mut done = 0;
+    for b in 0..blob_count(view) {
+        let blob = blob_of(view, b);
+        put_bytes(blob, &mut buffer[done..]);
+        done += blob.len();
     }
 }

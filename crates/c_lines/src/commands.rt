@@ -2,22 +2,26 @@
 ghost use Rattle.std.specs.Prelude.{◌≡◌, ◌<◌};
 ghost use Rattle.line_grammar.specs.Sentences.{sentence_of};
 ghost use Rattle.worlds.specs.Kernel.{number_text};
-ghost use Rattle.c_lines.specs.Commands.{DoesLine, OnLine, in_64, is_do, is_signed_64, taken};
+ghost use Rattle.c_lines.specs.Commands.{DoesLine, OnLine, in_64, is_do, is_kernel, is_signed_64, numbered, taken};
+ghost use Rattle.c_lines.specs.Inner.Carried.{Carried, IsRounds, change_refusal};
 
-use crate::assign::assign;
-use crate::kernels::run_text;
 use crate::lines::line_of;
-use crate::reduce::{count, reduce};
-use crate::update::update;
+use crate::relayout::relaid;
+use crate::showing::told_by;
+use crate::told::step_refusal;
 use crate::{Refusal, TextOf};
 use line_grammar::Line;
+use record_dim::Steps;
 use std::alloc::Global;
 use std::sync::ledger::{Blank, Ledger};
+use view_commands::{
+    Assign, Change, ChangeFault, Count, Reduce, RunKernel, RunStencil, Update, UpdateByActors,
+};
 use views::View;
 
-/// Does a line that sets a value, updates, reduces or runs a kernel, and gives its number, if it gives one: what its command does in a script that
-/// has nothing but this view, whatever name the line gives it. An update and a kernel that are refused at a row have changed those before it; what
-/// else is refused leaves the rows, and may have read some of them.
+/// Does a line that sets a value, updates, reduces, runs a kernel or a stencil, or lays out anew, and gives its number, if it gives one: what its
+/// command does in a script that has nothing but this view, whatever name the line gives it. An update and a kernel that are refused at a row have
+/// changed those before it, and a stencil has made the rounds before; what else is refused leaves the rows, and may have read some of them.
 pub fn do_line<L: Ledger>(
     alloc: Global,
     view: &mut View,
@@ -27,7 +31,7 @@ pub fn do_line<L: Ledger>(
     requires name { blank.name ≡ L.name }
     requires parts { blank.parts ≡ L.parts }
     requires some { 0 < blank.parts }
-    ensures { DoesLine text.now view.old result view.new }
+    ensures { DoesLine is_do text.now view.old result view.new }
 {
     let line = line_of(alloc, text, TextOf::First)?;
     let answer = do_command::<L>(alloc, view, &line, blank);
@@ -45,7 +49,7 @@ fn do_command<L: Ledger>(
     requires name { blank.name ≡ L.name }
     requires parts { blank.parts ≡ L.parts }
     requires some { 0 < blank.parts }
-    ensures { OnLine number_text (taken is_do (sentence_of line.now)) view.old result view.new }
+    ensures { OnLine number_text numbered (taken is_do (sentence_of line.now)) view.old result view.new }
 {
     match line {
         Line::Assign {
@@ -53,24 +57,154 @@ fn do_command<L: Ledger>(
             index,
             path,
             value,
-        } => assign::<L>(alloc, view, index.as_slice(), path, value, blank),
+        } => changed::<Assign<'_>, L>(alloc, view, &Assign { index, path, value }, blank),
         Line::Update {
             view: _,
             filter,
             sets,
-        } => update::<L>(alloc, view, filter, sets.as_slice(), blank),
+        } => changed::<Update<'_>, L>(alloc, view, &Update { filter, sets }, blank),
         Line::Kernel {
             view: _,
             kernel,
             lanes,
-        } => run_text::<L>(alloc, view, kernel, *lanes, blank),
+        } => changed::<RunKernel<'_>, L>(alloc, view, &RunKernel { kernel, lanes }, blank),
         Line::Reduce {
             view: _,
             kind,
             path,
-        } => reduce::<L>(alloc, view, *kind, path, blank),
-        Line::Count { view: _, filter } => count::<L>(alloc, view, filter, blank),
+        } => changed::<Reduce<'_>, L>(alloc, view, &Reduce { kind, path }, blank),
+        Line::Count { view: _, filter } => {
+            changed::<Count<'_>, L>(alloc, view, &Count { filter }, blank)
+        }
+        Line::Relayout { view: _, expr } => relaid::<L>(alloc, view, expr, blank),
+        Line::Stencil { .. } => do_rounds::<L>(alloc, view, line, blank),
+        Line::Actors { .. } => do_rounds::<L>(alloc, view, line, blank),
         _ => Err(Refusal::OtherLine(TextOf::First)),
+    }
+}
+
+// Does a line of a stencil or of actors.
+fn do_rounds<L: Ledger>(
+    alloc: Global,
+    view: &mut View,
+    line: &Line,
+    blank: Blank,
+) -> Result<Option<i128>, Refusal>
+    requires name { blank.name ≡ L.name }
+    requires parts { blank.parts ≡ L.parts }
+    requires some { 0 < blank.parts }
+    requires rounds { IsRounds line.now }
+    ensures { OnLine number_text numbered (taken is_do (sentence_of line.now)) view.old result view.new }
+{
+    match line {
+        Line::Stencil {
+            view: _,
+            window,
+            path,
+            terms,
+            divisor,
+            rounds,
+        } => {
+            let live = u128::from(view.blob_bytes());
+            let work = RunStencil {
+                window,
+                path,
+                terms,
+                divisor,
+                rounds,
+                live,
+            };
+            changed::<RunStencil<'_>, L>(alloc, view, &work, blank)
+        }
+        Line::Actors {
+            view: _,
+            filter,
+            sets,
+            cuts,
+            seed,
+            turns,
+        } => {
+            let work = UpdateByActors {
+                filter,
+                sets,
+                cuts,
+                seed,
+                turns,
+            };
+            drop(told_by::<UpdateByActors<'_>, L>(alloc, view, &work, blank)?);
+            Ok(None)
+        }
+        _ => unreachable!(),
+    }
+}
+
+/// The same of a line that runs a kernel alone.
+pub fn run_kernel<L: Ledger>(
+    alloc: Global,
+    view: &mut View,
+    text: &[u8],
+    blank: Blank,
+) -> Result<Option<i128>, Refusal>
+    requires name { blank.name ≡ L.name }
+    requires parts { blank.parts ≡ L.parts }
+    requires some { 0 < blank.parts }
+    ensures { DoesLine is_kernel text.now view.old result view.new }
+{
+    let line = line_of(alloc, text, TextOf::First)?;
+    let answer = kernel_command::<L>(alloc, view, &line, blank);
+    drop(line);
+    answer
+}
+
+fn kernel_command<L: Ledger>(
+    alloc: Global,
+    view: &mut View,
+    line: &Line,
+    blank: Blank,
+) -> Result<Option<i128>, Refusal>
+    requires name { blank.name ≡ L.name }
+    requires parts { blank.parts ≡ L.parts }
+    requires some { 0 < blank.parts }
+    ensures { OnLine number_text numbered (taken is_kernel (sentence_of line.now)) view.old result view.new }
+{
+    match line {
+        Line::Kernel {
+            view: _,
+            kernel,
+            lanes,
+        } => changed::<RunKernel<'_>, L>(alloc, view, &RunKernel { kernel, lanes }, blank),
+        _ => Err(Refusal::OtherLine(TextOf::First)),
+    }
+}
+
+// What a command that may store gives.
+fn changed<W: Change, L: Ledger>(
+    alloc: Global,
+    view: &mut View,
+    work: &W,
+    blank: Blank,
+) -> Result<Option<i128>, Refusal>
+    requires name { blank.name ≡ L.name }
+    requires parts { blank.parts ≡ L.parts }
+    requires some { 0 < blank.parts }
+    ensures { Carried number_text (W.does work.now view.old) (W.left work.now view.old) view.old result view.new }
+{
+    let mut steps = Steps::<L>::new(blank);
+    match work.run(alloc, view, &mut steps) {
+        Ok(number) => Ok(number),
+        Err(fault) => Err(change_refusal(fault)),
+    }
+}
+
+// The refusal of such a command.
+fn change_refusal(fault: ChangeFault) -> Refusal
+    ensures { result ≡ change_refusal fault }
+{
+    match fault {
+        ChangeFault::Range { row, leaf } => Refusal::Range { row, leaf },
+        ChangeFault::Narrow { row, leaf } => Refusal::Narrow { row, leaf },
+        ChangeFault::Twice { leaf } => Refusal::Twice { leaf },
+        ChangeFault::Other(fault) => step_refusal(fault),
     }
 }
 

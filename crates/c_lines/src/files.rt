@@ -1,16 +1,21 @@
-// A view as the bytes of a file, and the view of such bytes.
-ghost use Rattle.std.specs.Prelude.{◌≡◌, ◌<◌, length, MatchResult};
+// A view as the bytes of a file or of its blobs and as the lines that make it, and the view of such bytes.
+ghost use Rattle.std.specs.Prelude.{◌≡◌, ◌<◌, Ok, length, MatchResult};
 ghost use Rattle.blob_file.specs.Files.{file_of};
 ghost use Rattle.blob_file.specs.Saving.{blobs_of, header_of};
-ghost use Rattle.c_lines.specs.Answers.{Tells};
-ghost use Rattle.c_lines.specs.Buffers.{file_refusal, file_told, opened_told, TellsPut};
+ghost use Rattle.c_lines.specs.Answers.{Tells, TellsLeft};
+ghost use Rattle.c_lines.specs.Buffers.{after_return, file_refusal, file_told, opened_told, record_line, returned, view_line, TellsPut};
+ghost use Rattle.c_lines.specs.Told.{done_of};
 ghost use Rattle.c_lines.specs.declared.refusal.Refusal.TheVariants.{NoMemory};
 
+use crate::copy_out::copy_out;
 use crate::refusal::Refusal;
 use crate::slice_sink::SliceSink;
-use blob_file::{FileFault, SaveEnd, file_len, read_file, write_file};
+use blob_file::{
+    FileFault, SaveEnd, file_len, read_body, read_file, record_text, view_text, write_file,
+};
 use record_dim::Steps;
 use std::alloc::Global;
+use std::mem;
 use std::sync::ledger::{Blank, Ledger};
 use views::View;
 use worlds::BadFile;
@@ -67,6 +72,60 @@ pub fn open_view<L: Ledger>(alloc: Global, bytes: &[u8], blank: Blank) -> Result
         Ok(view) => Ok(view),
         Err(fault) => Err(file_refusal(fault)),
     }
+}
+
+/// Makes the table of a view the one of whose blobs these are the bytes, one behind another. On a refusal the old one stays.
+pub fn give_back<L: Ledger>(
+    alloc: Global,
+    view: &mut View,
+    bytes: &[u8],
+    blank: Blank,
+) -> Result<(), Refusal>
+    requires name { blank.name ≡ L.name }
+    requires parts { blank.parts ≡ L.parts }
+    requires some { 0 < blank.parts }
+    ensures { TellsLeft (done_of (returned bytes.now view.old)) (after_return bytes.now view.old) view.old result view.new }
+{
+    let mut steps = Steps::<L>::new(blank);
+    let read = read_body(alloc, view, bytes, &mut steps);
+    drop(steps);
+    match read {
+        Ok(fresh) => {
+            drop(mem::replace(view, fresh));
+            Ok(())
+        }
+        Err(fault) => Err(file_refusal(fault)),
+    }
+}
+
+/// Puts the text of the line of a view's record into a buffer, and tells how many bytes it has.
+pub fn put_record(
+    alloc: Global,
+    view: &View,
+    buffer: &mut [u8],
+    needed: &mut usize,
+) -> Result<(), Refusal>
+    ensures { TellsPut (Ok (record_line view.now)) buffer.old needed.old result buffer.new needed.new }
+{
+    let Ok(text) = record_text(alloc, view) else {
+        return Err(Refusal::NoMemory);
+    };
+    copy_out(text.as_str().as_bytes(), buffer, needed)
+}
+
+/// The same of the line of the view itself.
+pub fn put_layout(
+    alloc: Global,
+    view: &View,
+    buffer: &mut [u8],
+    needed: &mut usize,
+) -> Result<(), Refusal>
+    ensures { TellsPut (Ok (view_line view.now)) buffer.old needed.old result buffer.new needed.new }
+{
+    let Ok(text) = view_text(alloc, view) else {
+        return Err(Refusal::NoMemory);
+    };
+    copy_out(text.as_str().as_bytes(), buffer, needed)
 }
 
 fn file_refusal(fault: FileFault) -> Refusal

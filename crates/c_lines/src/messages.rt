@@ -18,7 +18,7 @@ use layout_io::Failed;
 use map_expr::BadMapping;
 use record_dim::{BadRecord, Text};
 use std::alloc::{AllocError as NoMemory, Global};
-use worlds::{BadFile, BadKernel, CommandFault, write_fault};
+use worlds::{BadActors, BadAdvice, BadFile, BadKernel, BadStencil, CommandFault, write_fault};
 
 /// The answers of what is tested over the proved calls: a pointer is NULL, and both handles are one.
 const NULL: i32 = 25;
@@ -26,7 +26,7 @@ const NULL: i32 = 25;
 const SAME: i32 = 26;
 
 /// How many refusals there are for one row, leaf and column.
-const REFUSALS: usize = 56;
+const REFUSALS: usize = 66;
 
 /// The bytes of `line 0: `, which stand before the words of a fault.
 const BEFORE_WORDS: usize = 8;
@@ -211,6 +211,12 @@ fn with_leaf(refusal: Refusal, leaf: Text) -> Said
         Refusal::Empty => Said::Fault(CommandFault::Empty),
         Refusal::NotCounted => Said::Fault(CommandFault::NotCounted),
         Refusal::BadWindow => Said::Fault(CommandFault::BadWindow),
+        Refusal::BadStencil(bad) => Said::Fault(CommandFault::BadStencil(bad)),
+        Refusal::BadActors(bad) => Said::Fault(CommandFault::BadActors(bad)),
+        Refusal::BadAdvice(bad) => Said::Fault(CommandFault::BadAdvice(bad)),
+        Refusal::SharedByte { blob, byte } => {
+            Said::Fault(CommandFault::SharedByte { blob, byte })
+        }
     }
 }
 
@@ -297,5 +303,18 @@ fn refusals_at(fault: Fault) -> [Refusal; REFUSALS]
         Refusal::NotCounted,
         Refusal::BadWindow,
         Refusal::Irregular { leaf },
+        Refusal::BadStencil(BadStencil::Reach),
+        Refusal::BadStencil(BadStencil::Weight),
+        Refusal::BadStencil(BadStencil::Terms),
+        Refusal::BadStencil(BadStencil::Rounds),
+        Refusal::BadActors(BadActors::Cuts),
+        Refusal::BadActors(BadActors::Turns),
+        Refusal::BadAdvice(BadAdvice::Granule),
+        Refusal::BadAdvice(BadAdvice::Passes),
+        Refusal::BadAdvice(BadAdvice::Candidates),
+        Refusal::SharedByte {
+            blob: row,
+            byte: column,
+        },
     ]
 }

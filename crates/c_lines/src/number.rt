@@ -5,9 +5,11 @@ ghost use Rattle.record_dim.specs.declared.leaf_type.LeafType.{LeafType};
 ghost use Rattle.piece_bits.specs.Lows.{IsWithin64};
 ghost use Rattle.views.specs.LeafRuns.{run_of};
 ghost use Rattle.views.specs.Tables.{leaf_count_of, leaf_type_of};
+ghost use Rattle.c_lines.specs.CallerBytes.{number_in};
 ghost use Rattle.c_lines.specs.CallerRuns.{after_run, IsFrontStored};
 ghost use Rattle.c_lines.specs.Values.{reads_signed};
 
+use byteorder::{ByteOrder, LittleEndian};
 use record_dim::{LeafType, Steps};
 use std::sync::ledger::Ledger;
 use views::{LaneFault, RUN, View, laws_of_table};
@@ -15,6 +17,9 @@ use views::{LaneFault, RUN, View, laws_of_table};
 /// A whole number of 64 bits, with a sign or without one.
 pub trait Number64: Copy {
     ghost number: { Self → ℤ };
+
+    /// Whether some are below 0.
+    ghost sign: { Bool };
 
     /// The leaf types of which each value is such a number.
     ghost reads: { LeafType → Bool };
@@ -33,6 +38,13 @@ pub trait Number64: Copy {
     fn whole(self) -> i128
         ensures number { result ≡ number self }
         ensures few { IsWithin64 result };
+
+    /// The number in the first so many bytes, the least significant first.
+    fn in_bytes(bytes: &[u8], size: usize) -> Self
+        requires some { 1 ≤ size }
+        requires few { size ≤ 8 }
+        requires room { size ≤ length bytes.now }
+        ensures { number result ≡ number_in sign size bytes.now };
 
     /// The values of a leaf of such a type in as many rows as there is room for, from one on.
     fn read_run<L: Ledger>(
@@ -68,6 +80,8 @@ pub trait Number64: Copy {
 impl Number64 for i64 {
     ghost number = { λ n. n };
 
+    ghost sign = { true };
+
     ghost reads = { reads_signed };
 
     #[inline(always)]
@@ -83,6 +97,11 @@ impl Number64 for i64 {
     #[inline(always)]
     fn whole(self) -> i128 {
         i128::from(self)
+    }
+
+    #[inline(always)]
+    fn in_bytes(bytes: &[u8], size: usize) -> i64 {
+        LittleEndian::read_int(bytes, size)
     }
 
     fn read_run<L: Ledger>(

@@ -1,13 +1,13 @@
 ghost use Rattle.std.specs.Prelude.{◌≡◌};
 ghost use Rattle.c_lines.specs.Answers.{refusal_number};
-ghost use Rattle.c_lines.specs.Faults.{cause_of, column_of, extents_cause, fault_of, file_cause, kernel_cause, leaf_named, mapping_cause, record_cause, row_named, text_number};
+ghost use Rattle.c_lines.specs.Faults.{actors_cause, advice_cause, stencil_cause, cause_of, column_of, extents_cause, fault_of, file_cause, kernel_cause, leaf_named, mapping_cause, record_cause, row_named, text_number};
 ghost use Rattle.c_lines.specs.Told.{store_refusal};
 
 use extents::BadExtents;
 use map_expr::BadMapping;
 use record_dim::BadRecord;
 use views::StoreFault;
-use worlds::{BadFile, BadKernel};
+use worlds::{BadActors, BadAdvice, BadFile, BadKernel, BadStencil};
 
 /// The number in C of a call that did what it is for.
 pub const DONE: i32 = 0;
@@ -75,6 +75,11 @@ pub enum Refusal {
     BadWindow,
     /// The numbers of the leaf lie as no place says, or the accesses to it are counted.
     Irregular { leaf: usize },
+    BadStencil(BadStencil),
+    BadActors(BadActors),
+    BadAdvice(BadAdvice),
+    /// A byte holds bits of rows of two actors.
+    SharedByte { blob: u64, byte: u64 },
 }
 
 /// What C learns of a refusal beside its number: which of several causes it is, and where. What a refusal does not have is 0.
@@ -124,6 +129,10 @@ impl Refusal {
             Refusal::NotCounted => 30,
             Refusal::BadWindow => 31,
             Refusal::Irregular { .. } => 32,
+            Refusal::BadStencil(_) => 33,
+            Refusal::BadActors(_) => 34,
+            Refusal::BadAdvice(_) => 35,
+            Refusal::SharedByte { .. } => 36,
         }
     }
 
@@ -153,6 +162,9 @@ impl Refusal {
             Refusal::BadMapping(bad) => mapping_cause(bad),
             Refusal::BadKernel(bad) => kernel_cause(bad),
             Refusal::BadFile(bad) => file_cause(bad),
+            Refusal::BadStencil(bad) => stencil_cause(bad),
+            Refusal::BadActors(bad) => actors_cause(bad),
+            Refusal::BadAdvice(bad) => advice_cause(bad),
             _ => 0,
         }
     }
@@ -167,6 +179,7 @@ impl Refusal {
             Refusal::Number { row, .. } => row,
             Refusal::Overflow { row } => row,
             Refusal::DivideByZero { row } => row,
+            Refusal::SharedByte { blob, .. } => blob,
             _ => 0,
         }
     }
@@ -192,6 +205,7 @@ impl Refusal {
     {
         match self {
             Refusal::Syntax { column, .. } => column,
+            Refusal::SharedByte { byte, .. } => byte,
             _ => 0,
         }
     }
@@ -277,5 +291,35 @@ fn file_cause(bad: BadFile) -> i32
         BadFile::Layout => 3,
         BadFile::Length => 4,
         BadFile::Contents => 5,
+    }
+}
+
+fn stencil_cause(bad: BadStencil) -> i32
+    ensures { result ≡ stencil_cause bad }
+{
+    match bad {
+        BadStencil::Reach => 1,
+        BadStencil::Weight => 2,
+        BadStencil::Terms => 3,
+        BadStencil::Rounds => 4,
+    }
+}
+
+fn actors_cause(bad: BadActors) -> i32
+    ensures { result ≡ actors_cause bad }
+{
+    match bad {
+        BadActors::Cuts => 1,
+        BadActors::Turns => 2,
+    }
+}
+
+fn advice_cause(bad: BadAdvice) -> i32
+    ensures { result ≡ advice_cause bad }
+{
+    match bad {
+        BadAdvice::Granule => 1,
+        BadAdvice::Passes => 2,
+        BadAdvice::Candidates => 3,
     }
 }

@@ -1,18 +1,21 @@
 // A table that is laid out anew.
-ghost use Rattle.std.specs.Prelude.{◌≡◌, ◌<◌, IfOk, true};
+ghost use Rattle.std.specs.Prelude.{◌≡◌, ◌<◌, ℕ, IfOk, List, true};
 ghost use Rattle.layout_copy.specs.Copies.{AreAlike};
 ghost use Rattle.line_grammar.specs.Sentences.{sentence_of};
 ghost use Rattle.map_expr.specs.Terms.{term_of};
 ghost use Rattle.command_checks.specs.Inner.Bases.{is_nameless};
 ghost use Rattle.c_lines.specs.Answers.{Tells, TellsLeft};
-ghost use Rattle.c_lines.specs.Relaid.{after_relaid, mapping_told, relaid, whole_told, zeros_told};
+ghost use Rattle.c_lines.specs.Copies.{was_copied};
+ghost use Rattle.c_lines.specs.Inner.Carried.{Gave};
+ghost use Rattle.c_lines.specs.Inner.Laid.{RelaidAs, zeros_beside};
+ghost use Rattle.c_lines.specs.Relaid.{after_relaid, laid_left, mapping_told, relaid, whole_told, zeros_told};
 ghost use Rattle.c_lines.specs.Told.{done_of};
 
 use crate::copies::copy_into;
 use crate::lines::line_of;
 use crate::told::answered;
 use crate::{Refusal, TextOf};
-use command_checks::{MappingList, made, nameless};
+use command_checks::{MappingList, made, made_beside, nameless};
 use line_grammar::Line;
 use map_expr::MapExpr;
 use std::alloc::Global;
@@ -33,7 +36,35 @@ pub fn lay_anew<L: Ledger>(
     requires some { 0 < blank.parts }
     ensures { TellsLeft (done_of (relaid line.now view.old)) (after_relaid line.now view.old) view.old result view.new }
 {
-    let mut fresh = zeros_like(alloc, view, line)?;
+    let fresh = zeros_like(alloc, view, line)?;
+    laid_over::<L>(view, fresh, blank)
+}
+
+/// The same of a mapping that stands in a line, with what the command does in a script: the old view counts among the live ones.
+pub(crate) fn relaid<L: Ledger>(
+    alloc: Global,
+    view: &mut View,
+    written: &MapExpr,
+    blank: Blank,
+) -> Result<Option<i128>, Refusal>
+    requires name { blank.name ≡ L.name }
+    requires parts { blank.parts ≡ L.parts }
+    requires some { 0 < blank.parts }
+    ensures { (name : List ℕ) → RelaidAs name (term_of written.now) view.old result view.new }
+{
+    let fresh = zeros_beside(alloc, view, written)?;
+    laid_over::<L>(view, fresh, blank)?;
+    Ok(None)
+}
+
+// The table of a view, copied into a fresh one, which then takes its place.
+fn laid_over<L: Ledger>(view: &mut View, mut fresh: View, blank: Blank) -> Result<(), Refusal>
+    requires name { blank.name ≡ L.name }
+    requires parts { blank.parts ≡ L.parts }
+    requires some { 0 < blank.parts }
+    ensures answer { result ≡ was_copied view.old fresh }
+    ensures left { view.new ≡ laid_left result view.old fresh }
+{
     match copy_into::<L>(view, &mut fresh, blank) {
         Ok(()) => {
             drop(mem::replace(view, fresh));
@@ -44,6 +75,18 @@ pub fn lay_anew<L: Ledger>(
             Err(refusal)
         }
     }
+}
+
+// Zeros in the shape of a view, under a mapping, beside that view.
+fn zeros_beside(alloc: Global, view: &View, written: &MapExpr) -> Result<View, Refusal>
+    ensures made { Gave view.now.fields (λ fresh. fresh) (zeros_beside (term_of written.now) view.now) result }
+    ensures alike { IfOk result (AreAlike view.now) }
+{
+    let expr = answered(nameless(alloc, &MappingList::new(alloc), written))?;
+    let (live, mode, extents) = (u128::from(view.blob_bytes()), view.mode(), view.extents());
+    let zeros = answered(made_beside(alloc, live, mode, view.schema(), extents, &expr));
+    drop(expr);
+    zeros
 }
 
 // Zeros in the shape of a view, under the mapping of a line.

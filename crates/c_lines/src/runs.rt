@@ -64,7 +64,7 @@ pub fn set_run<N: Number64, L: Ledger>(
 }
 
 // Stores a run part by part.
-fn store_run<N: Number64, L: Ledger>(
+pub(crate) fn store_run<N: Number64, L: Ledger>(
     view: &mut View,
     first: u64,
     leaf: usize,

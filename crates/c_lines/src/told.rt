@@ -1,13 +1,11 @@
 // The refusals of the model's commands, as those of calls.
 ghost use Rattle.std.specs.Prelude.{◌≡◌};
-ghost use Rattle.c_lines.specs.Told.{kernel_refusal, refusal_of, row_refusal, update_refusal};
+ghost use Rattle.c_lines.specs.Told.{refusal_of, row_refusal};
 ghost use Rattle.c_lines.specs.Inner.Steps.{answered, step_refusal};
 
 use crate::Refusal;
 use command_checks::StepFault;
 use csv_rows::RowFault;
-use lane_kernels::KernelFault;
-use row_updates::{UpdateFault, UpdateKind};
 use worlds::CommandFault;
 
 /// What a test of a command gives, as the answer of a call.
@@ -20,8 +18,8 @@ pub fn answered<A>(given: Result<A, StepFault>) -> Result<A, Refusal>
     }
 }
 
-// The refusal of a test of a command.
-fn step_refusal(fault: StepFault) -> Refusal
+/// The refusal of a test of a command.
+pub(crate) fn step_refusal(fault: StepFault) -> Refusal
     ensures { result ≡ step_refusal fault }
 {
     match fault {
@@ -47,6 +45,10 @@ fn command_refusal(fault: CommandFault) -> Refusal
         CommandFault::NotCounted => Refusal::NotCounted,
         CommandFault::Overflow { row } => Refusal::Overflow { row },
         CommandFault::DivideByZero { row } => Refusal::DivideByZero { row },
+        CommandFault::BadStencil(bad) => Refusal::BadStencil(bad),
+        CommandFault::BadActors(bad) => Refusal::BadActors(bad),
+        CommandFault::BadAdvice(bad) => Refusal::BadAdvice(bad),
+        CommandFault::SharedByte { blob, byte } => Refusal::SharedByte { blob, byte },
         other => {
             drop(other);
             Refusal::NoMemory
@@ -66,29 +68,5 @@ pub fn row_refusal(fault: RowFault) -> Refusal
         RowFault::Range { row, leaf } => Refusal::Range { row, leaf },
         RowFault::Narrow { row, leaf } => Refusal::Narrow { row, leaf },
         RowFault::NoMemory => Refusal::NoMemory,
-    }
-}
-
-/// The refusal of an update.
-pub fn update_refusal(fault: UpdateFault) -> Refusal
-    ensures { result ≡ update_refusal fault }
-{
-    let row = fault.row;
-    match fault.kind {
-        UpdateKind::Overflow => Refusal::Overflow { row },
-        UpdateKind::DivideByZero => Refusal::DivideByZero { row },
-        UpdateKind::Range { leaf } => Refusal::Range { row, leaf },
-        UpdateKind::Narrow { leaf } => Refusal::Narrow { row, leaf },
-    }
-}
-
-/// The refusal of a kernel that runs.
-pub fn kernel_refusal(fault: KernelFault) -> Refusal
-    ensures { result ≡ kernel_refusal fault }
-{
-    match fault {
-        KernelFault::Empty => Refusal::Empty,
-        KernelFault::Range { row, leaf } => Refusal::Range { row, leaf },
-        KernelFault::Narrow { row, leaf } => Refusal::Narrow { row, leaf },
     }
 }

@@ -8,12 +8,15 @@ ghost use Rattle.c_lines.specs.Values.{reads_unsigned};
 
 use crate::number::Number64;
 use crate::values::leaf_type;
+use byteorder::{ByteOrder, LittleEndian};
 use record_dim::{LeafType, Steps};
 use std::sync::ledger::Ledger;
 use views::{LaneFault, RUN, View, laws_of_table};
 
 impl Number64 for u64 {
     ghost number = { λ n. pos n };
+
+    ghost sign = { false };
 
     ghost reads = { reads_unsigned };
 
@@ -30,6 +33,11 @@ impl Number64 for u64 {
     #[inline(always)]
     fn whole(self) -> i128 {
         i128::from(self)
+    }
+
+    #[inline(always)]
+    fn in_bytes(bytes: &[u8], size: usize) -> u64 {
+        LittleEndian::read_uint(bytes, size)
     }
 
     fn read_run<L: Ledger>(

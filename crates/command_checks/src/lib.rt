@@ -28,5 +28,5 @@ pub use mappings::nameless;
 pub use named_entry::NamedEntry;
 pub use names::{free_view, known_view, schema_of};
 pub use stencils::{FitStencil, fit_stencil};
-pub use tables::{MAX_LIVE_BYTES, has_room, live_bytes, made, resolved, shaped};
+pub use tables::{MAX_LIVE_BYTES, has_room, live_bytes, made, made_beside, resolved, shaped};
 pub use windows::windowed;

@@ -1,9 +1,11 @@
 // New views, and what refuses them.
-ghost use Rattle.std.specs.Prelude.{◌≡◌, ◌-◌, ◌*◌, ◌^◌, ◌<◌, ◌≤◌, IfOk, IfSome, OnOk, nat_lt, count_by, map, length, true};
+ghost use Rattle.std.specs.Prelude.{◌≡◌, ◌-◌, ◌*◌, ◌^◌, ◌<◌, ◌≤◌, IfOk, IfSome, List, OnOk, nat_lt, count_by, map, length, true};
 ghost use Rattle.extents.specs.Indices.{indices};
 ghost use Rattle.extents.specs.Shapes.{is_rows, IsShape};
 ghost use Rattle.map_expr.specs.Terms.{term_of};
 ghost use Rattle.record_dim.specs.Schemas.{schema_fields};
+ghost use Rattle.views.specs.Tables.{Table};
+ghost use Rattle.worlds.specs.Worlds.{Entry};
 ghost use Rattle.worlds.specs.Tables.{room, shaped, resolved, made, zeros_of, live_bits};
 ghost use Rattle.command_checks.specs.Inner.Bases.{is_nameless, rows_for};
 ghost use Rattle.command_checks.specs.SessionEntries.{view_of};
@@ -87,7 +89,6 @@ fn is_rows(word: &ExtentWord) -> bool
 }
 
 /// A view of zeros in this mode beside the views that live. One that is refused has taken no memory for its blobs.
-#[tactic(auto, using(crate::specs::BasesLaws::nameless_built))]
 pub fn made(
     alloc: Global,
     views: &[ViewEntry],
@@ -101,11 +102,30 @@ pub fn made(
     ensures made { Gives (λ view. view) result (made (map view_of views.now) mode (schema_fields schema.now) extents (term_of expr.now)) }
     ensures extents { IfOk result (λ view. view.extents ≡ extents) }
 {
-    let live = live_bytes(views);
+    made_beside(alloc, live_bytes(views), mode, schema, extents, expr)
+}
+
+/// The same beside views that have so many bytes.
+#[tactic(auto, using(crate::specs::BasesLaws::nameless_built))]
+pub fn made_beside(
+    alloc: Global,
+    live: u128,
+    mode: StoreMode,
+    schema: &Schema,
+    extents: Extents,
+    expr: &MapExpr,
+) -> Result<View, StepFault>
+    requires nameless { is_nameless (term_of expr.now) ≡ true }
+    ensures zeros { IfOk result (λ view. view ≡ zeros_of mode (schema_fields schema.now) extents (term_of expr.now)) }
+    ensures made { (views : List (Entry Table)) → 8 * live ≡ live_bits views
+        → Gives (λ view. view) result (made views mode (schema_fields schema.now) extents (term_of expr.now)) }
+    ensures extents { IfOk result (λ view. view.extents ≡ extents) }
+{
     match View::new_within(alloc, schema, extents, expr, mode, left_beside(live)) {
         Ok(view) => {
             // Nothing is left beside too many bytes, and a view of none is refused there too.
             if live > MAX_LIVE_BYTES {
+                drop(view);
                 return Err(StepFault::Command(CommandFault::TooBig));
             }
             Ok(view)

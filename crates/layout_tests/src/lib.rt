@@ -1,8 +1,10 @@
-//! The tests of what no clause says and no script reaches, below the mappings of run time. The crate has nothing else.
+//! The tests of mappings, of views and of what stands on them that no clause says and no script reaches. The crate has nothing else.
 #![tactic(auto)]
 
 #[cfg(test)]
 mod bit_fields;
+#[cfg(test)]
+mod copies;
 #[cfg(test)]
 mod deep_expressions;
 #[cfg(test)]
@@ -10,4 +12,8 @@ mod deep_records;
 #[cfg(test)]
 mod edges;
 #[cfg(test)]
+mod kernels;
+#[cfg(test)]
 mod mappings;
+#[cfg(test)]
+mod tables;

@@ -1,8 +1,8 @@
 // The calls of the library for C that take memory and that no command makes, with ample memory: that it is wanting is an answer that no clause
 // rules out.
 use c_lines::{
-    Fault, do_line, lay_anew, loaded_view, new_view, open_view, put_blob, put_file, put_message,
-    put_table, run_kernel, tell_line,
+    Fault, do_line, give_back, lay_anew, lend, loaded_view, new_view, open_view, put_blob,
+    put_file, put_layout, put_message, put_record, put_table, run_kernel, tell_line,
 };
 use std::alloc::Global;
 use std::marker::Brand;
@@ -35,7 +35,7 @@ fn opened(alloc: Global) -> Result<View, Fail> {
 }
 
 // The sum of the first leaf.
-fn sum_of(alloc: Global, view: &mut View) -> Option<Option<i64>> {
+fn sum_of(alloc: Global, view: &mut View) -> Option<Option<i128>> {
     let line = b"kernel V sum(f0) lanes 2";
     run_kernel::<Brand>(alloc, view, line, Blank::new(1)).ok()
 }
@@ -66,6 +66,11 @@ fn is_laid_anew(alloc: Global, view: &mut View) -> bool {
     lay_anew::<Brand>(alloc, view, line, Blank::new(1)).is_ok()
 }
 
+// Whether these bytes become those of the blobs of a view.
+fn is_given_back(alloc: Global, view: &mut View, bytes: &[u8]) -> bool {
+    give_back::<Brand>(alloc, view, bytes, Blank::new(1)).is_ok()
+}
+
 // Whether the text of a view is this one, of at most 18 bytes.
 fn shows(alloc: Global, view: &mut View, due: &[u8]) -> bool {
     let mut text = [0; 18];
@@ -79,6 +84,20 @@ fn is_put(alloc: Global, view: &View) -> bool {
     let (mut bytes, mut needed) = ([0; 91], 0);
     let put = put_file(alloc, view, &mut bytes, &mut needed);
     put.is_ok() && needed == 91 && &bytes[..] == FILE
+}
+
+// Whether a view tells the line of its record.
+fn tells_its_record(alloc: Global, view: &View) -> bool {
+    let (mut text, mut needed) = ([0; 31], 0);
+    let put = put_record(alloc, view, &mut text, &mut needed);
+    put.is_ok() && needed == 31 && &text[..] == RECORD
+}
+
+// Whether it tells its own.
+fn tells_its_layout(alloc: Global, view: &View) -> bool {
+    let (mut text, mut needed) = ([0; 40], 0);
+    let put = put_layout(alloc, view, &mut text, &mut needed);
+    put.is_ok() && needed == 40 && &text[..] == &FILE[44..84]
 }
 
 #[test]
@@ -154,5 +173,24 @@ fn an_answer_has_words(rt: HostRuntime) -> Result<(), Fail> {
 fn a_file_is_opened(rt: HostRuntime) -> Result<(), Fail> {
     let mut view = opened(rt.alloc())?;
     assert!(rt; shows(rt.alloc(), &mut view, TEXT));
+    Ok(())
+}
+
+#[test]
+fn lent_bytes_are_changed_and_given_back(rt: HostRuntime) -> Result<(), Fail> {
+    let mut view = loaded(rt.alloc())?;
+    let (mut bytes, mut needed) = ([0; 6], 0);
+    assert!(rt; lend(&view, &mut bytes, &mut needed).is_ok() && needed == 6);
+    bytes[0] = 3;
+    assert!(rt; is_given_back(rt.alloc(), &mut view, &bytes));
+    assert!(rt; shows(rt.alloc(), &mut view, b"f0,f1\n259,-1\n3,4\n"));
+    Ok(())
+}
+
+#[test]
+fn an_opened_view_tells_its_lines(rt: HostRuntime) -> Result<(), Fail> {
+    let view = opened(rt.alloc())?;
+    assert!(rt; tells_its_record(rt.alloc(), &view));
+    assert!(rt; tells_its_layout(rt.alloc(), &view));
     Ok(())
 }

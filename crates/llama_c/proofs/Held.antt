@@ -1,12 +1,13 @@
 -- What calls answer by what their handles held.
-use Rattle.std.proofs.Common.{◌≡◌, ⊎_elim, inl, inr, ℕ, ℤ, pos, List, Option, None, Ok, Err, refl, subst, ◌∙◌, Bool, true, false, if◌then◌else◌}
+use Rattle.std.proofs.Common.{◌≡◌, ⊎_elim, inl, inr, ℕ, ℤ, pos, Bool, List, Option, Some, None, Ok, Err, map, refl, sym, ap, subst, ◌∙◌}
+use Rattle.std.proofs.lemmas.List.{map-id}
+use Rattle.line_grammar.specs.Sentences.{Sentence}
 use Rattle.views.specs.Tables.{Table}
-use Rattle.c_lines.specs.Answers.{Answer, Tells, code_of, on_held, changed_by}
+use Rattle.c_lines.specs.Answers.{Answer, Tells, given_or, on_held}
 use Rattle.c_lines.specs.Faults.{fault_of}
 use Rattle.c_lines.specs.declared.refusal.Fault.{Fault}
-use Rattle.c_lines.specs.declared.refusal.Refusal.TheVariants.{NoView, NoMemory, NoPlace, BadType}
-use Rattle.llama_c.specs.Calls.{IsCallDone, IsKernelDone, IsLineDone, IsLineTold, IsMade, IsPutInto}
-use Rattle.std.specs.Prelude.{OnOk, OnErr}
+use Rattle.c_lines.specs.declared.refusal.Refusal.TheVariants.{NoView, NoMemory}
+use Rattle.llama_c.specs.Calls.{IsCallDone, IsLineDone, IsLineTold, IsMade, IsPutInto}
 
 -- an empty handle has nothing to put into a buffer, and nothing to change
 pub none_put : (told : Table → Answer (List ℕ)) (held : Option Table) (code : ℤ) (buffer : List ℕ) (needed : ℕ) → None ≡ held → code ≡ pos 1
@@ -21,17 +22,11 @@ none_done told after held new code fault fault_new empty left is named =
     subst (λ (h : Option Table). IsCallDone told after h new code fault fault_new) empty
     (record { answer = Err NoView; changes = (refl, left); code_is = is; fault_is = named })
 
-pub none_run : (told : Table → Answer (Option ℤ)) (after : Table → Table) (held new : Option Table) (code value : ℤ) (fault fault_new : Fault)
-    → None ≡ held → new ≡ None → code ≡ pos 1 → fault_new ≡ fault_of NoView → IsKernelDone told after held new code value value fault fault_new
-none_run told after held new code value fault fault_new empty left is named =
-    subst (λ (h : Option Table). IsKernelDone told after h new code value value fault fault_new) empty
-    (record { answer = Err NoView; changes = (refl, left); code_is = is; value_is = refl; fault_is = named })
-
 -- a line on an empty handle
-pub none_line : (line : List ℕ) (held new : Option Table) (code value : ℤ) (fault fault_new : Fault) → None ≡ held → new ≡ None → code ≡ pos 1 → fault_new ≡ fault_of NoView
-    → IsLineDone line held new code value value fault fault_new
-none_line line held new code value fault fault_new empty left is named =
-    subst (λ (h : Option Table). IsLineDone line h new code value value fault fault_new) empty
+pub none_line : (is : Sentence → Bool) (line : List ℕ) (held new : Option Table) (code value : ℤ) (fault fault_new : Fault) → None ≡ held → new ≡ None → code ≡ pos 1 → fault_new ≡ fault_of NoView
+    → IsLineDone is line held new code value value fault fault_new
+none_line is_line line held new code value fault fault_new empty left is named =
+    subst (λ (h : Option Table). IsLineDone is_line line h new code value value fault fault_new) empty
     (record { answer = Err NoView; does = (refl, left); code_is = is; value_is = refl; fault_is = named })
 
 pub none_text : (line : List ℕ) (held new : Option Table) (code : ℤ) (buffer : List ℕ) (needed : ℕ) (fault fault_new : Fault) → None ≡ held → new ≡ None → code ≡ pos 1 → fault_new ≡ fault_of NoView
@@ -57,22 +52,8 @@ made_told told made code given old new fault fault_new is same put = record {
   fault_is = put.fault_is;
 }
 
--- what is read where a test passes and the caller takes the type
-abbrev pub read_of : {A : Type 0} → Bool → Bool → A → Answer A
-read_of there takes given = if there then (if takes then Ok given else Err BadType) else Err NoPlace
-
--- the number of its answer is the same whatever is read
-pub read_code : {A B : Type 0} (there takes : Bool) (x : A) (y : B) → code_of (read_of there takes x) ≡ code_of (read_of there takes y)
-read_code true true x y = refl
-read_code true false x y = refl
-read_code false takes x y = refl
-
--- and so is the table after it
-pub read_left : {A : Type 0} (there takes : Bool) (x : A) (answer : Answer (Unit {0})) (after old new : Table) → answer ≡ read_of there takes tt → OnOk answer (new ≡ after) → OnErr answer (new ≡ old)
-    → new ≡ changed_by (read_of there takes x) after old
-read_left true true x (Ok done) after old new is read kept = read
-read_left true true x (Err refusal) after old new is read kept = absurd (cc is)
-read_left true false x (Ok done) after old new is read kept = absurd (cc is)
-read_left true false x (Err refusal) after old new is read kept = kept
-read_left false takes x (Ok done) after old new is read kept = absurd (cc is)
-read_left false takes x (Err refusal) after old new is read kept = kept
+-- the numbers of an array after a call on what a handle holds
+pub numbers_given : (call : Table → Answer (List ℤ)) (old new : List ℤ) (seen table : Table) (held : Option Table) → map (λ n. n) new ≡ given_or (map (λ n. n) old) (call seen)
+    → seen ≡ table → Some table ≡ held → new ≡ given_or old (on_held call held)
+numbers_given call old new seen table held given same is =
+    sym (map-id new) ∙ given ∙ ap (λ (xs : List ℤ). given_or xs (call seen)) (map-id old) ∙ ap (λ (t : Table). given_or old (call t)) same ∙ ap (λ (h : Option Table). given_or old (on_held call h)) is

@@ -1,5 +1,6 @@
 -- What calls answer and leave, by what their handles held.
-use Rattle.std.specs.Prelude.{ℕ, ◌≡◌, ◌⊎◌, ℤ, List, length, Option, Some, None, Ok, Err}
+use Rattle.std.specs.Prelude.{ℕ, ◌≡◌, ◌⊎◌, Bool, ℤ, List, length, Option, Some, None, Ok, Err}
+use Rattle.line_grammar.specs.Sentences.{Sentence}
 use Rattle.views.specs.Tables.{Table, leaf_count_of, owners_of, after_log}
 use Rattle.views.specs.Tallies.{Read, all_accesses}
 use Rattle.c_lines.specs.Answers.{Answer, Tells, TellsLeft, code_of, refusal_number, given_or}
@@ -57,19 +58,11 @@ pub record IsCallDone {A : Type 0} (told : Table → Answer A) (after : Table �
   pub code_is : code ≡ code_of answer
   pub fault_is : fault_new ≡ fault_left fault answer
 
--- the number that a kernel gives, and the caller's own where it gives none
+-- the number that a line gives, and the caller's own where it gives none
 abbrev pub number_or : ℤ → Answer (Option ℤ) → ℤ
 number_or old (Ok (Some number)) = number
 number_or old (Ok None) = old
 number_or old (Err refusal) = old
-
--- the same with the number of a kernel
-pub record IsKernelDone (told : Table → Answer (Option ℤ)) (after : Table → Table) (old new : Option Table) (code value value_new : ℤ) (fault fault_new : Fault) : Type 0 where
-  pub answer : Answer (Option ℤ)
-  pub changes : Changes told after old answer new
-  pub code_is : code ≡ code_of answer
-  pub value_is : value_new ≡ number_or value answer
-  pub fault_is : fault_new ≡ fault_left fault answer
 
 -- ---- lines
 
@@ -84,9 +77,9 @@ OnHeld Says None answer new = (answer ≡ Err NoView) × (new ≡ None)
 OnHeld Says (Some table) answer new = IsLeft (Says table answer) new
 
 -- a call that does a line: a number of it that is none of the caller's type is a refusal
-pub record IsLineDone (line : List ℕ) (old new : Option Table) (code value value_new : ℤ) (fault fault_new : Fault) : Type 0 where
+pub record IsLineDone (is : Sentence → Bool) (line : List ℕ) (old new : Option Table) (code value value_new : ℤ) (fault fault_new : Fault) : Type 0 where
   pub answer : Answer (Option ℤ)
-  pub does : OnHeld (DoesLine line) old answer new
+  pub does : OnHeld (DoesLine is line) old answer new
   pub code_is : code ≡ code_of (in_64 answer)
   pub value_is : value_new ≡ number_or value (in_64 answer)
   pub fault_is : fault_new ≡ fault_left fault (in_64 answer)

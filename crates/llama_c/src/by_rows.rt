@@ -28,7 +28,7 @@ pub extern "C" fn lly_gather(
     let Some(mut held) = view.take(alloc) else {
         return Refusal::NoView.number();
     };
-    let answer = gather::<i64, Brand>(&mut held, rows, leaf, values, Blank::new(1));
+    let answer = gather::<i64, _, Brand>(&mut held, &rows, leaf, values, Blank::new(1));
     *view = Handle::new(alloc, Some(held));
     code(answer)
 }
@@ -49,7 +49,7 @@ pub extern "C" fn lly_gather_u64(
     let Some(mut held) = view.take(alloc) else {
         return Refusal::NoView.number();
     };
-    let answer = gather::<u64, Brand>(&mut held, rows, leaf, values, Blank::new(1));
+    let answer = gather::<u64, _, Brand>(&mut held, &rows, leaf, values, Blank::new(1));
     *view = Handle::new(alloc, Some(held));
     code(answer)
 }
@@ -72,7 +72,7 @@ pub extern "C" fn lly_scatter(
     let Some(mut held) = view.take(alloc) else {
         return refused(Refusal::NoView, fault);
     };
-    let answer = scatter::<i64, Brand>(&mut held, rows, leaf, values, Blank::new(1));
+    let answer = scatter::<i64, _, Brand>(&mut held, &rows, leaf, values, Blank::new(1));
     *view = Handle::new(alloc, Some(held));
     told(answer, fault)
 }
@@ -94,7 +94,7 @@ pub extern "C" fn lly_scatter_u64(
     let Some(mut held) = view.take(alloc) else {
         return refused(Refusal::NoView, fault);
     };
-    let answer = scatter::<u64, Brand>(&mut held, rows, leaf, values, Blank::new(1));
+    let answer = scatter::<u64, _, Brand>(&mut held, &rows, leaf, values, Blank::new(1));
     *view = Handle::new(alloc, Some(held));
     told(answer, fault)
 }
@@ -116,7 +116,7 @@ pub extern "C" fn lly_scatter_add(
     let Some(mut held) = view.take(alloc) else {
         return refused(Refusal::NoView, fault);
     };
-    let answer = scatter_add::<i64, Brand>(&mut held, rows, leaf, values, Blank::new(1));
+    let answer = scatter_add::<i64, _, Brand>(&mut held, &rows, leaf, values, Blank::new(1));
     *view = Handle::new(alloc, Some(held));
     told(answer, fault)
 }

@@ -4,6 +4,7 @@
 mod about;
 mod answers;
 mod box_parts;
+mod boxes;
 mod buffers;
 mod by_rows;
 mod handle;

@@ -1,15 +1,15 @@
 // Calls on whole tables.
 ghost use Rattle.std.specs.Prelude.{◌≡◌};
 ghost use Rattle.c_lines.specs.Answers.{code_of};
+ghost use Rattle.c_lines.specs.Buffers.{after_return, returned};
 ghost use Rattle.c_lines.specs.Faults.{fault_left};
-ghost use Rattle.c_lines.specs.KernelLines.{after_kernel, kernel_number};
 ghost use Rattle.c_lines.specs.Relaid.{after_relaid, relaid};
 ghost use Rattle.c_lines.specs.Told.{done_of};
-ghost use Rattle.llama_c.specs.Calls.{copy_told, source_left, target_left, IsCallDone, IsKernelDone};
+ghost use Rattle.llama_c.specs.Calls.{copy_told, source_left, target_left, IsCallDone};
 
 use crate::answers::{refused, told};
 use crate::handle::Handle;
-use c_lines::{DONE, Fault, Refusal, copy_into, lay_anew, run_kernel};
+use c_lines::{Fault, Refusal, copy_into, give_back, lay_anew};
 use std::alloc::Global;
 use std::marker::Brand;
 use std::sync::ledger::Blank;
@@ -60,28 +60,21 @@ pub extern "C" fn lly_relayout(
     told(answer, fault)
 }
 
-/// Runs the kernel of a `kernel` line over the rows of a view, and gives its number, if it gives one.
+/// Makes the table of a view the one of whose blobs these are the bytes, one behind another. On a refusal the old one stays.
 #[unsafe(no_mangle)]
-pub extern "C" fn lly_kernel(
+pub extern "C" fn lly_return(
     alloc: Global,
     view: &mut Handle,
-    line: &[u8],
-    value: &mut i64,
+    bytes: &[u8],
     fault: &mut Fault,
 ) -> i32
-    ensures { IsKernelDone (kernel_number line.now) (after_kernel line.now) view.old.part.held view.new.part.held result value.old value.new fault.old fault.new }
+    ensures { IsCallDone (λ table. done_of (returned bytes.now table)) (after_return bytes.now)
+        view.old.part.held view.new.part.held result fault.old fault.new }
 {
     let Some(mut held) = view.take(alloc) else {
         return refused(Refusal::NoView, fault);
     };
-    let answer = run_kernel::<Brand>(alloc, &mut held, line, Blank::new(1));
+    let answer = give_back::<Brand>(alloc, &mut held, bytes, Blank::new(1));
     *view = Handle::new(alloc, Some(held));
-    match answer {
-        Ok(Some(number)) => {
-            *value = number;
-            DONE
-        }
-        Ok(None) => DONE,
-        Err(refusal) => refused(refusal, fault),
-    }
+    told(answer, fault)
 }

@@ -13,13 +13,13 @@ use std::marker::Brand;
 use std::sync::ledger::Blank;
 use views::{MakeView, View};
 
-/// The version of the interface, 1.1.0: the last number is that of a mend, the one before it grows where a call is added, the first where one changes.
-const VERSION: i32 = 10_100;
+/// The version of the interface, 1.2.0: the last number is that of a mend, the one before it grows where a call is added, the first where one changes.
+const VERSION: i32 = 10_200;
 
 /// The version of the interface, as `LLY_VERSION` of the header that it was made with.
 #[unsafe(no_mangle)]
 pub extern "C" fn lly_version() -> i32
-    ensures { result ≡ pos 10100 }
+    ensures { result ≡ pos 10200 }
 {
     VERSION
 }

@@ -3,7 +3,7 @@ use Rattle.session.proofs.Imports.{◌≡◌, ◌⊎◌, ⊎_elim, inl, inr, ◌
 use Rattle.std.proofs.lemmas.List.{append-nil}
 use Rattle.layout_copy.specs.declared.fault.CopyFault.TheVariants as copy
 use Rattle.worlds.specs.declared.fault.CommandFault.TheVariants as refusal
-use Rattle.session.proofs.Exits.{tells_gives}
+use Rattle.view_commands.specs.ExitsLaws.{tells_gives}
 use Rattle.session.proofs.Named.{first_found, first_replaced, first_still}
 
 pub first_of : {E : Type 0} (xs : List E) (i : ℕ) → i < length xs → E

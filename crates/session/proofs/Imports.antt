@@ -147,11 +147,11 @@ pub use Rattle.blobs.specs.Bits.{bits_of}
 pub use Rattle.layout_io.specs.Gathering.{Gathers}
 pub use Rattle.layout_io.specs.GatheringLaws.{Gathers-start}
 pub use Rattle.worlds.specs.Texts.{number_line}
-pub use Rattle.session.specs.Inner.Changes.{left_with, copied_at, made_like, zeros_like, TellsCopy, set_row, IsLeft, rows_updated}
-pub use Rattle.session.specs.Inner.Teams.{Bindings, shared_out, acted, bindings_of}
+pub use Rattle.session.specs.Inner.Changes.{copied_at, made_like, zeros_like, TellsCopy}
+pub use Rattle.view_commands.specs.Inner.Answers.{Answers, IsLeft, left_with}
 pub use Rattle.session.specs.Bounds.{Pair, IsWithin, WithinCopy, WithinCost, WithinRelayout, paired}
 unfoldable pub use Rattle.session.specs.Bounds.{copied_pair, laid_pair}
-pub use Rattle.session.specs.Answers.{Answers, TookNone, ending_of}
+pub use Rattle.session.specs.Answers.{TookNone, ending_of}
 pub use Rattle.session.specs.Inner.Opens.{file_fault, placed_table, with_room}
 pub use Rattle.session.specs.Loads.{Loads, IsUnread, UnreadOnly, ToldFor, read_within, named_of, new_of, filled_table}
 pub use Rattle.session.specs.Stands.{AreLeft, Stands, left_of, world_in, world_of}

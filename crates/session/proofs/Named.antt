@@ -1,5 +1,5 @@
 -- The first table of a name, by its place among the others.
-use Rattle.session.proofs.Imports.{◌≡◌, true, false, ℕ, zero, suc, List, [], ◌∷◌, get_or, Option, Some, None, refl, ap, ⊎_elim, slice_set, cases_Bool, Table, Entry, same_name, found, replaced, known, GivesUp, IsFirst, StepFault, Err}
+use Rattle.session.proofs.Imports.{◌≡◌, true, false, ℕ, zero, suc, List, [], ◌∷◌, get_or, Option, Some, None, refl, ap, ⊎_elim, slice_set, cases_Bool, Table, Entry, same_name, found, replaced, known, GivesUp, IsFirst, StepFault, Err, map, sym, ◌∙◌, view_of, IsAt, ViewEntry}
 use Rattle.command_checks.specs.declared.fault.StepFault.TheVariants as step
 
 -- the first table of a name is found
@@ -49,3 +49,8 @@ gives_up_still name other entries held (step.Command refusal) gives = refused (f
 gives_up_still name other entries held step.NoMemory gives = tt
 gives_up_still name other entries held step.Source gives = absurd gives
 gives_up_still name other entries held step.Sink gives = absurd gives
+
+-- the views with one changed in its place
+pub table_changed : (items : List ViewEntry) (name : List ℕ) (place : ℕ) (entry changed : ViewEntry) → IsAt view_of name items place → entry ≡ get_or items place entry → changed.name ≡ entry.name →
+    map view_of (slice_set items place changed) ≡ replaced name changed.view (map view_of items)
+table_changed items name place entry changed at is same = sym (at.other entry changed (same ∙ ap (λ (e : ViewEntry). e.name) is))

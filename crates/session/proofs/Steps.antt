@@ -3,7 +3,7 @@ use Rattle.session.proofs.Imports.{◌≡◌, ℕ, Bool, true, false, List, Opti
 use Rattle.line_grammar.specs.Sentences as line
 use Rattle.line_grammar.specs.Sentences.{file_read_by}
 use Rattle.command_checks.specs.declared.fault.StepFault.TheVariants as fault
-use Rattle.session.proofs.Exits.{starved, answers_quiet}
+use Rattle.view_commands.specs.ExitsLaws.{starved, answers_quiet}
 use Rattle.session.proofs.Views.{session_left}
 
 -- a line is done by its command

@@ -1,7 +1,7 @@
 -- What a work on a view answers is what the command on the view of a name answers.
 use Rattle.session.proofs.Imports.{◌≡◌, ℕ, List, map, get_or, Option, Some, None, Result, Ok, Err, refl, sym, ap, subst, ◌∙◌, slice_set, Wrote, Stopped, LeafCounts, HeatCounts, counts_text, heat_text, runs_text, texts_of, Table, owners_of, Tally, tallied-none, Did, Fronted, text_of, Done, tells, done_to, on_view, with_table, LeftOf, Left, ◌>>=◌, known, some_or, shows, counts, heat, layout, small, all_runs, World, Entry, NotCounted, view_of, IsAt, known_at, RecordEntry, ViewEntry, MappingEntry, StepFault, Answers, IsLeft, left_with, AreLeft, Stands, world_in, world_of, Session, telling, left_as, Tested}
 use Rattle.command_checks.specs.declared.fault.StepFault.TheVariants as step
-use Rattle.session.proofs.Exits.{table_changed}
+use Rattle.session.proofs.Named.{table_changed}
 
 -- the outcome of a command on the view of a name, by what it leaves of the table
 abbrev onward : World → List ℕ → Tested (LeftOf Table) → Tested Left
@@ -66,43 +66,3 @@ view_worked taken faults old new records mappings items name place entry changed
 pub session_left : {K : Type 0} (taken : K → Option (List ℕ)) (faults : K → ℕ) (old new : K) (records : List RecordEntry) (mappings : List MappingEntry) (left : List ViewEntry) (outcome : Tested Left) (next : Session) →
     world_of next ≡ world_in records mappings left → Did (AreLeft records mappings left) taken faults old new outcome tt → Did Stands taken faults old new outcome next
 session_left taken faults old new records mappings left outcome next is did = record { left = did.left; goes = did.goes; stands = is ∙ did.stands; wrote = did.wrote }
-
--- a work that gives something, and writes it as a text
-pub then_wrote : {K : Type 0} (taken : K → Option (List ℕ)) (faults : K → ℕ) (old new : K) (view : Table) (outcome : Tested (LeftOf Table)) (text : List ℕ) →
-    outcome ≡ Ok (left_with view text) → Wrote taken faults old new text → Did (IsLeft view) taken faults old new outcome tt
-then_wrote taken faults old new view outcome text goes wrote = record { left = left_with view text; goes = goes; stands = refl; wrote = wrote }
-
--- or breaks off as it writes it
-pub then_broke : {K : Type 0} (taken : K → Option (List ℕ)) (faults : K → ℕ) (old new : K) (view : Table) (outcome : Tested (LeftOf Table)) (left : LeftOf Table) (result : Result (Unit {0}) StepFault) →
-    result ≡ Err step.Sink → outcome ≡ Ok left → Stopped taken faults old new left.text → Answers (IsLeft view) taken faults old new outcome result
-then_broke taken faults old new view outcome left result is goes stopped = rw is (record { left = left; goes = goes; stopped = stopped })
-
--- a table that is told of stays as it is
-pub tells_left : (table : Table) (text : List ℕ) → done_to table (Ok (left_as table (tells text))) ≡ Ok (left_with table text)
-tells_left table text = ap (λ (tally : Tally). Ok (left_with (record table { tally = tally }) text)) (tallied-none (owners_of table) table.tally)
-
--- what is shown of a table
-pub counts_goes : (table : Table) (numbers : LeafCounts) → Some numbers ≡ table.tally.counts → done_to table (telling counts table) ≡ Ok (left_with table (counts_text (texts_of table.fields) numbers))
-unfolding counts
-counts_goes table numbers is =
-    ap (λ (x : Option LeafCounts). done_to table (telling (λ shown. some_or NotCounted x >>= (λ (n : LeafCounts). Ok (tells (counts_text (texts_of table.fields) n)))) table)) (sym is)
-    ∙ tells_left table (counts_text (texts_of table.fields) numbers)
-
-pub heat_goes : (table : Table) (numbers : HeatCounts) → Some numbers ≡ table.tally.heat → done_to table (telling heat table) ≡ Ok (left_with table (heat_text numbers))
-unfolding heat
-heat_goes table numbers is =
-    ap (λ (x : Option HeatCounts). done_to table (telling (λ shown. some_or NotCounted x >>= (λ (n : HeatCounts). Ok (tells (heat_text n)))) table)) (sym is)
-    ∙ tells_left table (heat_text numbers)
-
-pub layout_goes : (table : Table) → small table ≡ Ok tt → done_to table (telling layout table) ≡ Ok (left_with table (runs_text (texts_of table.fields) (all_runs (owners_of table))))
-unfolding layout
-layout_goes table is = rw is (tells_left table (runs_text (texts_of table.fields) (all_runs (owners_of table))))
-
--- or is not, where it was not counted
-pub counts_none : (table : Table) → None ≡ table.tally.counts → done_to table (telling counts table) ≡ Err NotCounted
-unfolding counts
-counts_none table is = rw (← is) refl
-
-pub heat_none : (table : Table) → None ≡ table.tally.heat → done_to table (telling heat table) ≡ Err NotCounted
-unfolding heat
-heat_none table is = rw (← is) refl

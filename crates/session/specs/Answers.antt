@@ -1,10 +1,9 @@
--- What the answer to a line says of its outcome, and of what was read and written.
-use Rattle.std.specs.Prelude.{ℕ, ◌≡◌, List, Option, Result, Ok, Err}
+-- What the answer to a line says of what was read and written, and which lines work on one view.
+use Rattle.std.specs.Prelude.{ℕ, ◌≡◌, List, Option, Result, Err}
 use Rattle.line_grammar.specs.declared.line.Line.{Line}
 use Rattle.line_grammar.specs.declared.line.Line.TheVariants as line
 use Rattle.record_dim.specs.Trees.{IsRecord}
-use Rattle.worlds.specs.Outcomes.{Tested, LeftOf}
-use Rattle.worlds.specs.Answers.{Ending, Refuses, Unread, Breaks, Starves, Did, Refused, Broke, Fronted, text_of}
+use Rattle.worlds.specs.Answers.{Ending, Refuses, Unread, Breaks, Starves}
 use Rattle.command_checks.specs.declared.fault.StepFault.{StepFault}
 use Rattle.command_checks.specs.declared.fault.StepFault.TheVariants as fault
 
@@ -14,14 +13,6 @@ ending_of file (fault.Command refusal) = Refuses refusal
 ending_of file fault.Source = Unread file
 ending_of file fault.Sink = Breaks
 ending_of file fault.NoMemory = Starves
-
--- an answer to a line that reads no file, or to a part of one
-abbrev pub Answers : {S K A : Type 0} → (S → A → Type 0) → (K → Option (List ℕ)) → (K → ℕ) → K → K → Tested (LeftOf A) → Result S StepFault → Type 0
-Answers Stands taken faults old new outcome (Ok next) = Did Stands taken faults old new outcome next
-Answers Stands taken faults old new outcome (Err (fault.Command refusal)) = Refused taken faults old new outcome (Err refusal)
-Answers Stands taken faults old new outcome (Err fault.Source) = ⊥
-Answers Stands taken faults old new outcome (Err fault.Sink) = Broke taken faults old new outcome
-Answers Stands taken faults old new outcome (Err fault.NoMemory) = Fronted taken faults old new (text_of outcome)
 
 -- nothing was taken at a refusal, nor where a file was not read
 abbrev pub TookNone : {S K : Type 0} → (K → Option (List ℕ)) → K → K → Result S StepFault → Type 0

@@ -1,39 +1,22 @@
 -- The most steps that a line takes.
-use Rattle.std.specs.Prelude.{ℕ, ◌+◌, ◌≤◌, not, List, length, Option, Some, None, MatchBool, Ok}
-use Rattle.lane_kernels.specs.Kernels.{kernel_cost}
-use Rattle.lane_kernels.specs.declared.kernel.Kernel.{Kernel}
+use Rattle.std.specs.Prelude.{ℕ, ◌+◌, ◌≤◌, not, List, Option, Some, None, MatchBool, Ok}
 use Rattle.layout_copy.specs.Costs.{copy_cost, IsWay}
 use Rattle.line_grammar.specs.Sentences as line
-use Rattle.line_grammar.specs.declared.line.KernelText.{KernelText}
 use Rattle.map_any.specs.declared.strategy.Strategy.{Strategy}
 use Rattle.map_expr.specs.Terms.{Term as MapTerm}
 use Rattle.views.specs.Tables.{Table}
 use Rattle.worlds.specs.Copy.{are_alike}
-use Rattle.worlds.specs.Kernel.{fit_kernel}
 use Rattle.worlds.specs.Names.{nameless}
 use Rattle.worlds.specs.Outcomes.{Tested, ◌>>=◌, known, refused_if}
 use Rattle.worlds.specs.Tables.{made}
 use Rattle.worlds.specs.Worlds.{World, found, same_name}
 use Rattle.worlds.specs.declared.fault.CommandFault.TheVariants.{Mismatch}
-
--- from one count of steps to another at most so many were taken; where no number stands, nothing is said
-abbrev pub Within : Option ℕ → ℕ → ℕ → Type 0
-Within None old new = Unit {0}
-Within (Some most) old new = new ≤ old + most
+use Rattle.view_commands.specs.Steps.{Within, kernel_steps}
 
 -- the most steps of what is done to a table, and none where there is no table
 abbrev pub most_on : Option Table → (Table → Option ℕ) → Option ℕ
 most_on None most = Some 0
 most_on (Some table) most = most table
-
--- the most steps of a kernel on so many rows, and none where it is refused
-abbrev pub kernel_cost_of : ℕ → ℕ → Tested Kernel → ℕ
-kernel_cost_of lanes rows (Ok kernel) = kernel_cost kernel lanes rows
-kernel_cost_of lanes rows _ = 0
-
--- those of the kernel of a text on a table
-abbrev pub kernel_steps : Table → KernelText → ℕ → ℕ
-kernel_steps table text lanes = kernel_cost_of lanes (length table.rows) (fit_kernel table.fields text lanes)
 
 -- a table, and the one that it is copied into
 pub record Pair : Type 0 where

@@ -7,18 +7,8 @@ ghost use Rattle.worlds.specs.OnView.{on_view};
 ghost use Rattle.worlds.specs.Step.{step, done_by};
 ghost use Rattle.worlds.specs.Worlds.{empty, found};
 
-use crate::advise::Advise;
-use crate::assign::Assign;
-use crate::by_actors::UpdateByActors;
-use crate::kernel::RunKernel;
-use crate::reduce::{Count, Reduce};
-use crate::save::Save;
-use crate::show::{Bytes, Counts, Heat, Layout, Print};
-use crate::stencil::RunStencil;
-use crate::update::Update;
 use crate::view::New;
-use crate::window::PrintWindow;
-use crate::work::{Work, work_on};
+use crate::work::work_on;
 use command_checks::{
     MappingEntry, MappingList, RecordEntry, RecordList, StepFault, ViewEntry, ViewList, live_bytes,
 };
@@ -27,6 +17,10 @@ use line_grammar::Line;
 use record_dim::{Name, Steps};
 use std::alloc::Global;
 use std::sync::ledger::Ledger;
+use view_commands::{
+    Advise, Assign, Bytes, Count, Counts, Heat, Layout, Print, PrintWindow, Reduce, RunKernel,
+    RunStencil, Save, Update, UpdateByActors, Work, Written,
+};
 
 /// What a script has named so far.
 #[derive(Drop)]
@@ -39,8 +33,10 @@ pub struct Session {
 
 impl Session {
     ghost use Rattle.session.specs.Stands.{Stands, world_of};
-    ghost use Rattle.session.specs.Answers.{Answers, TookNone, IsFit, IsOnView, IsShown, ending_of};
-    ghost use Rattle.session.specs.Bounds.{Within, WithinSteps, most_on};
+    ghost use Rattle.session.specs.Answers.{TookNone, IsFit, IsOnView, IsShown, ending_of};
+    ghost use Rattle.session.specs.Bounds.{WithinSteps, most_on};
+    ghost use Rattle.view_commands.specs.Inner.Answers.{Answers};
+    ghost use Rattle.view_commands.specs.Steps.{Within};
     ghost use Rattle.session.specs.Loads.{UnreadOnly, ToldFor};
 
     /// A session that holds nothing.
@@ -140,9 +136,12 @@ impl Session {
                 index,
                 path,
                 value,
-            } => self.on_view(*view, &Assign { index, path, value }, out, steps),
+            } => {
+                let work = Written(Assign { index, path, value });
+                self.on_view(*view, &work, out, steps)
+            },
             Line::Update { view, filter, sets } => {
-                self.on_view(*view, &Update { filter, sets }, out, steps)
+                self.on_view(*view, &Written(Update { filter, sets }), out, steps)
             }
             Line::Actors {
                 view,
@@ -165,7 +164,7 @@ impl Session {
                 view,
                 kernel,
                 lanes,
-            } => self.on_view(*view, &RunKernel { kernel, lanes }, out, steps),
+            } => self.on_view(*view, &Written(RunKernel { kernel, lanes }), out, steps),
             Line::Stencil {
                 view,
                 window,
@@ -174,14 +173,14 @@ impl Session {
                 divisor,
                 rounds,
             } => {
-                let work = RunStencil {
+                let work = Written(RunStencil {
                     window,
                     path,
                     terms,
                     divisor,
                     rounds,
                     live: live_bytes(self.views.as_slice()),
-                };
+                });
                 self.on_view(*view, &work, out, steps)
             }
             _ => self.show(line, out, steps),
@@ -201,9 +200,14 @@ impl Session {
     {
         match line {
             Line::Reduce { view, kind, path } => {
-                self.on_view(*view, &Reduce { kind, path }, out, steps)
+                self.on_view(*view, &Written(Reduce { kind, path }), out, steps)
             }
-            Line::Count { view, filter } => self.on_view(*view, &Count { filter }, out, steps),
+            Line::Count { view, filter } => self.on_view(
+                *view,
+                &Written(Count { filter }),
+                out,
+                steps,
+            ),
             Line::Print(view) => self.on_view(*view, &Print, out, steps),
             Line::PrintWindow { view, window } => {
                 self.on_view(*view, &PrintWindow { window }, out, steps)

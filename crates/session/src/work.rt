@@ -1,43 +1,20 @@
 // Commands that work on one view.
-ghost use Rattle.std.specs.Prelude.{ℕ, List, Option, None};
-ghost use Rattle.views.specs.Tables.{Table};
-ghost use Rattle.worlds.specs.OnView.{Done, done_to, on_view};
-ghost use Rattle.worlds.specs.Outcomes.{Tested};
+ghost use Rattle.std.specs.Prelude.{List};
+ghost use Rattle.worlds.specs.OnView.{on_view};
 ghost use Rattle.worlds.specs.Worlds.{found};
 ghost use Rattle.command_checks.specs.declared.entries.RecordEntry.{RecordEntry};
 ghost use Rattle.command_checks.specs.declared.mapping_entry.MappingEntry.{MappingEntry};
-ghost use Rattle.session.specs.Answers.{Answers};
-ghost use Rattle.session.specs.Bounds.{Within, most_on};
-ghost use Rattle.session.specs.Inner.Changes.{IsLeft};
+ghost use Rattle.session.specs.Bounds.{most_on};
 ghost use Rattle.session.specs.Stands.{AreLeft, world_in};
+ghost use Rattle.view_commands.specs.Inner.Answers.{Answers};
+ghost use Rattle.view_commands.specs.Steps.{Within};
 
 use command_checks::{StepFault, ViewList, known_view};
 use layout_io::Sink;
 use record_dim::{Name, Steps};
 use std::alloc::Global;
 use std::sync::ledger::Ledger;
-use views::View;
-
-/// What works on one view, and on nothing else of a session.
-pub(crate) trait Work {
-    // What it does to a table.
-    ghost does: { Self → Table → Tested Done };
-
-    // The most steps that it takes on a table, where something is said of them.
-    ghost most: { Self → Table → Option ℕ } = { λ this table. None };
-
-    /// Works on a view, and writes what there is to show.
-    fn run<K: Sink, L: Ledger>(
-        &self,
-        alloc: Global,
-        view: &mut View,
-        out: &mut K,
-        steps: &mut Steps<L>,
-    ) -> Result<(), StepFault>
-        ensures answers { Answers (IsLeft view.new) K.taken K.faults out.old out.new
-            (done_to view.old (does self.now view.old)) result }
-        ensures steps { Within (most self.now view.old) steps.old steps.new };
-}
+use view_commands::Work;
 
 /// Works on the view of a name, whatever records and mappings there are beside the views.
 #[tactic(auto, unfolding(worlds::specs::OnView::on_view))]

@@ -30,18 +30,6 @@ use Rattle.worlds.specs.Tables.{made, zeros_of}
 abbrev pub mapping_fits : MapTerm → Tested (Unit {0})
 mapping_fits term = ok_or BadMapping (checked term)
 
--- a table with the number that is kept of a value in a leaf of a row, where it fits
-abbrev pub stored : Table → ℕ → ℕ → ℤ → Tested Table
-stored table row leaf value = do
-  kept ← storable table row leaf value
-  Ok (after_stores table (with_entry table.rows row leaf kept) (Write row leaf ∷ []))
-
--- the same of the value of an expression on a row
-abbrev pub set_row : Table → ℕ → List ℕ → ℕ → Term ℕ → Tested Table
-set_row table row index leaf term = do
-  number ← value_on row (slice_index_or table.rows row []) index term
-  stored (after_log table (value_log row (slice_index_or table.rows row []) index term)) row leaf number
-
 -- what a fault of a view is told as: this refusal, unless memory was wanting
 abbrev pub Tells : CommandFault → Result CommandFault StepFault → Type 0
 Tells refusal (Ok told) = told ≡ refusal
@@ -51,12 +39,6 @@ Tells refusal (Err fault) = fault ≡ step.NoMemory
 abbrev pub TellsRow : Fields → RowFault → Result CommandFault StepFault → Type 0
 TellsRow fields rows.NoMemory told = told ≡ Err step.NoMemory
 TellsRow fields fault told = Tells (row_fault fields fault) told
-
--- new values go into the rows that pass a filter
-abbrev pub rows_updated : Table → Option (Term ℕ) → List Setting → Tested Done
-rows_updated table test settings = do
-  rows ← ok_or (update_fault table.fields) (updated_rows (answer_of table) (kept_of table) test settings table.extents table.rows (length table.rows))
-  Ok (stores rows (rows_log (answer_of table) test settings table.extents table.rows (length table.rows)))
 
 -- the tables beside one another, that at one place read, and then that at a place as a copy of it
 abbrev pub copied_at : List (Entry Table) → ℕ → ℕ → Entry Table → Tested (List (Entry Table))
@@ -78,11 +60,3 @@ made_like views table term = made views table.mode table.fields table.extents te
 abbrev pub TellsCopy : Fields → CopyFault → Result CommandFault StepFault → Type 0
 TellsCopy fields copy.Mismatch told = Tells Mismatch told
 TellsCopy fields (copy.Narrow row leaf) told = Tells (narrow_fault fields (record { row = row; leaf = leaf })) told
-
--- a table that is left, and a text
-abbrev pub left_with : Table → List ℕ → LeftOf Table
-left_with table text = record { held = table; text = text }
-
--- the table of a view is the one that is left
-abbrev pub IsLeft : Table → Unit {0} → Table → Type 0
-IsLeft view done table = view ≡ table

@@ -5,6 +5,6 @@ abbrev pub invariant-loop-k : goal.invariant-loop-k
 invariant-loop-k g l = record {
   rows : length l.view.rows ≡ length l.initial.view.rows;
   leaves : leaf_count_of l.view ≡ leaf_count_of l.initial.view;
-  rest : in_turn (g.T.Turn.store l.leaf) (drop l.k l.rows) (drop l.k (map g.N.Number64.number l.values)) l.view
-      ≡ in_turn (g.T.Turn.store l.leaf) l.rows (map g.N.Number64.number l.values) l.initial.view;
+  rest : in_turn (g.T.Turn.store l.leaf) (drop l.k (g.R.RowList.rows l.rows)) (drop l.k (map g.N.Number64.number l.values)) l.view
+      ≡ in_turn (g.T.Turn.store l.leaf) (g.R.RowList.rows l.rows) (map g.N.Number64.number l.values) l.initial.view;
 }

@@ -1,4 +1,4 @@
-use Rattle.session.proofs.Exits.{goes_gives}
+use Rattle.view_commands.specs.ExitsLaws.{goes_gives}
 use Rattle.session.proofs.load.filled_view.Goals as goal
 
 pub returns-in-Err : goal.returns-in-Err

@@ -1,0 +1,6 @@
+use Rattle.c_lines.proofs.Imports.{◌≡◌, length, take}
+use Rattle.c_lines.specs.Boxes.{spans_of}
+use Rattle.c_lines.proofs.boxes.box_of.Given as goal
+
+abbrev pub invariant-loop-d : goal.invariant-loop-d
+invariant-loop-d l = (length l.spans ≡ 4) × (take l.d l.spans ≡ take l.d (spans_of l.low l.high))

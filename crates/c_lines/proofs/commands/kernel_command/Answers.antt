@@ -1,0 +1,8 @@
+use Rattle.c_lines.proofs.Imports.{refl, number_text, is_kernel, numbered}
+use Rattle.worlds.specs.Kernel.{kernel_run}
+use Rattle.c_lines.proofs.Commanding.{line_does}
+use Rattle.c_lines.proofs.commands.kernel_command.Goals as goal
+
+pub returns-in-Kernel : goal.returns-in-Kernel
+returns-in-Kernel g c =
+    line_does number_text numbered is_kernel c.args.line.now _ (λ table. kernel_run table c.in-Kernel.kernel c.in-Kernel.lanes) c.args.view.now c.changed.new.view c.changed.result c.in-Kernel.is refl refl c.changed.ensures

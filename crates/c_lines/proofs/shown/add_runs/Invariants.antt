@@ -1,5 +1,0 @@
-use Rattle.c_lines.proofs.Imports.{◌≡◌, ◌++◌, take}
-use Rattle.c_lines.proofs.shown.add_runs.Given as goal
-
-abbrev pub invariant-loop-run : goal.invariant-loop-run
-invariant-loop-run l = l.runs ≡ l.initial.runs ++ take l.run-index l.more

@@ -1,0 +1,149 @@
+// Lines that show something of a view.
+ghost use Rattle.std.specs.Prelude.{◌≡◌, ◌<◌, ◌⊎◌, true};
+ghost use Rattle.line_grammar.specs.Sentences.{sentence_of};
+ghost use Rattle.view_commands.specs.Changes.{all_left};
+ghost use Rattle.c_lines.specs.Commands.{IsToldInto, OnLine, commanded, is_tell, line_taken, taken};
+ghost use Rattle.c_lines.specs.Inner.Carried.{Carried, SaysStep, bytes_in};
+
+use crate::by_path::leaf_of;
+use crate::byte_sink::ByteSink;
+use crate::copy_out::copy_out;
+use crate::lines::line_of;
+use crate::told::step_refusal;
+use crate::{Refusal, TextOf};
+use command_checks::{MappingList, StepFault};
+use line_grammar::Line;
+use record_dim::Steps;
+use std::alloc::Global;
+use std::sync::ledger::{Blank, Ledger};
+use view_commands::{Advise, Bytes, Counts, Heat, Layout, Print, PrintWindow, Work};
+use views::View;
+use worlds::CommandFault;
+
+/// Puts what a line shows of a view into a buffer, and tells how many bytes it has: what its command writes in a script that has nothing but this view,
+/// whatever name the line gives it. The rows stay, and what is read counts, also where the buffer is too short.
+pub fn tell_line<L: Ledger>(
+    alloc: Global,
+    view: &mut View,
+    text: &[u8],
+    buffer: &mut [u8],
+    needed: &mut usize,
+    blank: Blank,
+) -> Result<(), Refusal>
+    requires name { blank.name ≡ L.name }
+    requires parts { blank.parts ≡ L.parts }
+    requires some { 0 < blank.parts }
+    ensures { IsToldInto text.now view.old view.new buffer.old needed.old result buffer.new needed.new }
+{
+    let told = shown_by::<L>(alloc, view, text, blank)?;
+    copy_out(told.taken(), buffer, needed)
+}
+
+// What a line shows.
+fn shown_by<L: Ledger>(
+    alloc: Global,
+    view: &mut View,
+    text: &[u8],
+    blank: Blank,
+) -> Result<ByteSink, Refusal>
+    requires name { blank.name ≡ L.name }
+    requires parts { blank.parts ≡ L.parts }
+    requires some { 0 < blank.parts }
+    ensures { OnLine bytes_in commanded (line_taken is_tell text.now) view.old result view.new }
+{
+    let line = line_of(alloc, text, TextOf::First)?;
+    let told = tell_command::<L>(alloc, view, &line, blank);
+    drop(line);
+    told
+}
+
+fn tell_command<L: Ledger>(
+    alloc: Global,
+    view: &mut View,
+    line: &Line,
+    blank: Blank,
+) -> Result<ByteSink, Refusal>
+    requires name { blank.name ≡ L.name }
+    requires parts { blank.parts ≡ L.parts }
+    requires some { 0 < blank.parts }
+    ensures { OnLine bytes_in commanded (taken is_tell (sentence_of line.now)) view.old result view.new }
+{
+    match line {
+        Line::Print(_) => told_by::<Print, L>(alloc, view, &Print, blank),
+        Line::PrintWindow { view: _, window } => {
+            told_by::<PrintWindow<'_>, L>(alloc, view, &PrintWindow { window }, blank)
+        }
+        Line::Counts(_) => told_by::<Counts, L>(alloc, view, &Counts, blank),
+        Line::Heat(_) => told_by::<Heat, L>(alloc, view, &Heat, blank),
+        Line::Layout(_) => told_by::<Layout, L>(alloc, view, &Layout, blank),
+        Line::Bytes { view: _, blob } => {
+            told_by::<Bytes<'_>, L>(alloc, view, &Bytes { blob }, blank)
+        }
+        Line::Advise {
+            view: _,
+            granule,
+            passes,
+            maps,
+            splits,
+        } => {
+            let mappings = &MappingList::new(alloc);
+            let work = Advise {
+                mappings,
+                granule,
+                passes,
+                maps,
+                splits,
+            };
+            told_by::<Advise<'_, '_>, L>(alloc, view, &work, blank)
+        }
+        _ => Err(Refusal::OtherLine(TextOf::First)),
+    }
+}
+
+/// What a command writes that leaves the rows where it is refused.
+pub fn told_by<W: Work, L: Ledger>(
+    alloc: Global,
+    view: &mut View,
+    work: &W,
+    blank: Blank,
+) -> Result<ByteSink, Refusal>
+    requires stays { W.stays work.now ≡ true }
+    requires name { blank.name ≡ L.name }
+    requires parts { blank.parts ≡ L.parts }
+    requires some { 0 < blank.parts }
+    ensures { Carried bytes_in (W.does work.now view.old) (all_left view.old) view.old result view.new }
+{
+    let mut sink = ByteSink::new(alloc);
+    let mut steps = Steps::<L>::new(blank);
+    match work.run(alloc, view, &mut sink, &mut steps) {
+        Ok(()) => Ok(sink),
+        Err(fault) => Err(told_refusal(view, fault)),
+    }
+}
+
+// The refusal of a fault in the words of a script, of which the paths of leaves are those of a view.
+fn told_refusal(view: &View, fault: StepFault) -> Refusal
+    ensures { SaysStep view.now.fields fault result }
+{
+    match fault {
+        StepFault::Command(CommandFault::Range { row, leaf }) => {
+            match leaf_of(view, leaf.as_str().as_bytes()) {
+                Ok(leaf) => Refusal::Range { row, leaf },
+                Err(_) => Refusal::NoMemory,
+            }
+        }
+        StepFault::Command(CommandFault::Narrow { row, leaf }) => {
+            match leaf_of(view, leaf.as_str().as_bytes()) {
+                Ok(leaf) => Refusal::Narrow { row, leaf },
+                Err(_) => Refusal::NoMemory,
+            }
+        }
+        StepFault::Command(CommandFault::Twice { leaf }) => {
+            match leaf_of(view, leaf.as_str().as_bytes()) {
+                Ok(leaf) => Refusal::Twice { leaf },
+                Err(_) => Refusal::NoMemory,
+            }
+        }
+        other => step_refusal(other),
+    }
+}

@@ -1,0 +1,9 @@
+-- the view lies as at first, in the same mode
+use Rattle.std.proofs.Common.{◌≡◌}
+use Rattle.layout_tests.proofs.tables.number.Given as goal
+
+abbrev pub invariant-loop-row : goal.invariant-loop-row
+invariant-loop-row l = record {
+  mapping : l.view.mapping ≡ l.initial.view.mapping;
+  mode : l.view.mode ≡ l.initial.view.mode;
+}

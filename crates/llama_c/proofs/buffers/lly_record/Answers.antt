@@ -1,0 +1,10 @@
+use Rattle.std.proofs.Common.{rules, Ok, ◌∙◌, SFits, w32}
+use Rattle.std.proofs.lemmas.Int.{to_z-of_z}
+use Rattle.c_lines.specs.Buffers.{record_line}
+use Rattle.llama_c.proofs.Held.{none_put}
+use Rattle.llama_c.proofs.buffers.lly_record.Goals as goal
+
+pub returns-in_default-clause-put : goal.returns-in_default-clause-put
+returns-in_default-clause-put c =
+    let fits : SFits w32 c.number.result = search rules in
+    none_put (λ table. Ok (record_line table)) c.args.view.now.part.held _ c.args.text.now c.args.needed.now c.in_default.ensures.view (to_z-of_z w32 c.number.result fits ∙ c.number.ensures)

@@ -1,0 +1,13 @@
+use Rattle.std.proofs.Common.{rules, ◌∙◌, SFits, w32}
+use Rattle.std.proofs.lemmas.Int.{to_z-of_z}
+use Rattle.c_lines.specs.Buffers.{after_return, returned}
+use Rattle.c_lines.specs.Told.{done_of}
+use Rattle.llama_c.proofs.Held.{none_done}
+use Rattle.llama_c.proofs.tables.lly_return.Goals as goal
+
+pub returns-in_default : goal.returns-in_default
+returns-in_default c =
+    let fits : SFits w32 c.refused.result = search rules in
+    none_done (λ table. done_of (returned c.args.bytes.now table)) (after_return c.args.bytes.now) c.args.view.now.part.held
+    c.take.new.self.part.held _ c.args.fault.now c.refused.new.fault c.in_default.ensures.view c.in_default.ensures.empty
+    (to_z-of_z w32 c.refused.result fits ∙ c.refused.ensures.code) c.refused.ensures.fault

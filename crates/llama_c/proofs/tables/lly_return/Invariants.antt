@@ -1,0 +1,5 @@
+-- the ledger that the blank opens
+use Rattle.llama_c.proofs.tables.lly_return.Given as goal
+
+abbrev pub ghosts-give_back : goal.ghosts-give_back
+ghosts-give_back a = record { name = a.blank.name; parts = a.blank.parts }

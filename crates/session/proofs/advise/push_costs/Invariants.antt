@@ -1,5 +1,0 @@
-use Rattle.session.proofs.Imports.{◌≡◌, ◌++◌, take, flat_map, enumerate_from, cost_line}
-use Rattle.session.proofs.advise.push_costs.Given as goal
-
-abbrev pub invariant-loop-at : goal.invariant-loop-at
-invariant-loop-at l = l.text.items ≡ l.initial.text.items ++ flat_map cost_line (take l.at (enumerate_from 1 l.costs))

@@ -1,5 +1,0 @@
-use Rattle.session.proofs.Imports.{◌≡◌, take}
-use Rattle.session.proofs.assign.widened.Given as goal
-
-abbrev pub invariant-loop-number : goal.invariant-loop-number
-invariant-loop-number g l = l.wide.items ≡ take l.number-index l.numbers

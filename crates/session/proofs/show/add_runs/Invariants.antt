@@ -1,5 +1,0 @@
-use Rattle.session.proofs.Imports.{◌≡◌, ◌++◌, take}
-use Rattle.session.proofs.show.add_runs.Given as goal
-
-abbrev pub invariant-loop-run : goal.invariant-loop-run
-invariant-loop-run l = l.runs ≡ l.initial.runs ++ take l.run-index l.more

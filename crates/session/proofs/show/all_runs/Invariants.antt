@@ -1,6 +1,0 @@
-use Rattle.session.proofs.Imports.{◌≡◌, range_with_len, runs_of, owners_of}
-use Rattle.std.specs.List.{flat_map}
-use Rattle.session.proofs.show.all_runs.Given as goal
-
-abbrev pub invariant-loop-blob : goal.invariant-loop-blob
-invariant-loop-blob l = l.runs ≡ flat_map (runs_of (owners_of l.view)) (range_with_len 0 l.blob)

@@ -1,0 +1,4 @@
+pub mod Changes
+pub mod ExitsLaws
+pub mod Steps
+pub mod Inner
