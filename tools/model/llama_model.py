@@ -579,6 +579,11 @@ def view_in(data):
         view = zeros(record_line['record'], resolved(view_line['words'], None), view_line['map'], view_line['wrap'])
     except Fault:
         raise FileFault('Layout') from None
+    return filled(view, rest)
+
+
+def filled(view, rest):
+    """A view of zeros, with the table that has this memory."""
     if len(rest) != sum(view.lengths()):
         raise FileFault('Length')
     view.kept = table_in(view, rest)

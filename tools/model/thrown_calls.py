@@ -6,19 +6,26 @@ import random
 import struct
 from collections import namedtuple
 
-from layouts import product
-from records import leaves_of
+from layouts import WIDTHS, product
+from mappings import counters_of, lengths_of
 from thrown import ANY, Script
 from thrown_texts import NUMBERS, damaged, deep_expr, one_in, thrown_number, with_comment
 from views import declared_range
 
-OPS = ['end', 'version', 'new', 'load', 'open', 'drop', 'rows', 'leaves', 'blobs', 'row', 'leaf', 'get', 'get_u64', 'set', 'set_u64', 'get_run', 'get_run_u64', 'set_run', 'set_run_u64', 'copy',
-       'relayout', 'kernel', 'do', 'print', 'save', 'blob', 'tell']
-TAKE_MEMORY = ('new', 'load', 'open', 'relayout', 'kernel', 'do', 'print', 'save', 'tell')
-# the pointers of a call in their order: what is written or read at once by `o`, an array by `a`
-POINTERS = {'version': '', 'new': 'oaao', 'load': 'oaaao', 'open': 'oao', 'drop': 'o', 'rows': 'oo', 'leaves': 'oo', 'blobs': 'oo', 'row': 'oao', 'leaf': 'oao', 'get': 'oo', 'get_u64': 'oo',
-            'set': 'o', 'set_u64': 'o', 'get_run': 'oa', 'get_run_u64': 'oa', 'set_run': 'oao', 'set_run_u64': 'oao', 'copy': 'ooo', 'relayout': 'oao', 'kernel': 'oaoo', 'do': 'oaoo', 'print': 'oao',
-            'save': 'oao', 'blob': 'oao', 'tell': 'oaaoo'}
+# of each kind of call its pointers in their order: what is written or read at once by `o`, an array by `a`; then m where it takes memory, and f where it reports a fault
+KINDS = {'version': '', 'new': 'oaao mf', 'load': 'oaaao mf', 'open': 'oao mf', 'drop': 'o', 'rows': 'oo', 'leaves': 'oo', 'blobs': 'oo', 'row': 'oao', 'leaf': 'oao', 'extents': 'oao', 'path': 'oao',
+         'type': 'ooo', 'counts': 'ooo', 'get': 'oo', 'get_u64': 'oo', 'set': 'o', 'set_u64': 'o', 'get_run': 'oa', 'get_run_u64': 'oa', 'set_run': 'oao f', 'set_run_u64': 'oao f', 'gather': 'oaa',
+         'gather_u64': 'oaa', 'scatter': 'oaao f', 'scatter_u64': 'oaao f', 'scatter_add': 'oaao f', 'copy': 'ooo f', 'relayout': 'oao mf', 'kernel': 'oaoo mf', 'do': 'oaoo mf', 'tell': 'oaaoo mf',
+         'print': 'oao m', 'save': 'oao m', 'blob': 'oao', 'message': 'oao m', 'place': 'ooo f', 'blob_at': 'ooo', 'get_box': 'oaaa', 'get_box_u64': 'oaaa',
+         'set_box': 'oaaao f', 'set_box_u64': 'oaaao f', 'get_run_as': 'oa', 'set_run_as': 'oao f', 'record': 'oao m', 'layout': 'oao m', 'lend': 'oao', 'return': 'oao mf'}
+OPS = ['end', *KINDS]
+POINTERS = {op: kind.split(' ')[0] for op, kind in KINDS.items()}
+TAKE_MEMORY = [op for op, kind in KINDS.items() if 'm' in kind[len(POINTERS[op]):]]
+TELL_FAULTS = [op for op, kind in KINDS.items() if 'f' in kind[len(POINTERS[op]):]]
+# what throws the lines of a call; an update is by actors in one of two
+ACTS = {'do': ['set', 'update', 'update', 'reduce', 'kernel', 'relayout', 'stencil'], 'tell': ['show', 'show', 'advise']}
+# the memory of a view that is lent and returned: the model reads it bit by bit
+MOST_LENT_BYTES = 4096
 HANDLES = 4
 WORD = 2 ** 64
 LEAST, GREATEST = {'': -2 ** 63, '_u64': 0}, {'': 2 ** 63 - 1, '_u64': WORD - 1}
@@ -61,6 +68,10 @@ class Calls(Script):
             return text, self.whole(text)
         return super().layout_for(leaves)
 
+    def counted(self, inner):
+        """Every second layout counts nothing, so that its leaves may have places."""
+        return super().counted(inner) if one_in(self.dice, 2) else inner
+
     def extents(self):
         if one_in(self.dice, 10) and not self.is_small:
             return self.dice.choice([[self.dice.randint(60, 700)], [self.dice.randint(2, 20), self.dice.randint(2, 30)]])
@@ -79,7 +90,15 @@ class Calls(Script):
         nulls = dice.randrange(1, 2 ** len(pointers)) if pointers and one_in(dice, 80) else 0
         refused = dice.choice([1, 2]) if op in TAKE_MEMORY and not nulls and one_in(dice, 10) else 0
         self.calls.append(Call(op, handle, refused, nulls, a, b, c, tuple(words), tuple(texts)))
+        if op != 'message' and one_in(dice, 10):
+            self.message()
         return nulls == 0
+
+    def message(self):
+        """The words of the call before it, for which there are no words here, or of a number with a fault."""
+        dice = self.dice
+        fault = [] if dice.randrange(3) else [dice.choice([0, 7, WORD - 1]) for _ in range(3)]
+        self.call('message', 0, dice.randint(-1, 37), dice.choice([0, 0, 1, 2, dice.randint(-1, 9)]), dice.choice([0, 0, 0, -1, 3]), fault)
 
     def text(self, line, others=True):
         """A line as a call is handed it: with other blanks, a comment, as long as it may be, or damaged, or another line."""
@@ -154,6 +173,24 @@ class Calls(Script):
         left = max(rows - first, 0)
         return first, dice.choice([0, 1, left, left, dice.randint(0, left), dice.randint(0, left)]) if dice.randrange(25) else left + dice.randint(1, 3)
 
+    def box_for(self, table):
+        """The low bounds of a box, the high ones, and how many rows it has; rarely it is no box, or has others."""
+        dice, extents = self.dice, table.extents if table else [3]
+        spans = [sorted(dice.randint(0, extent) for _ in range(2)) for extent in extents]
+        count = product(high - low for low, high in spans) + one_in(dice, 25)
+        if one_in(dice, 10):
+            at = dice.randrange(len(spans))
+            spans[at] = dice.choice([spans[at][::-1], [spans[at][0], extents[at] + 1], [WORD - 1] * 2, [0, WORD - 1]])
+        spans = dice.choice([[], spans[1:], spans + [[0, 1]]]) if one_in(dice, 40) else spans
+        return [low for low, _ in spans], [high for _, high in spans], count
+
+    def type_for(self, table, leaf):
+        """The bits of the numbers of an array and whether they have a sign, mostly as the leaf needs; how many bytes a number has, or 1 where that is no width."""
+        dice, kind = self.dice, table.leaves[leaf].kind if table and leaf < len(table.leaves) else 'u8'
+        bits = dice.choice([8, 16, 32, 64]) if one_in(dice, 4) else max(dice.choice([8, 16, 32, 64]), WIDTHS[kind])
+        bits = dice.choice([0, 1, 24, 128, 2 ** 32 - 8]) if one_in(dice, 30) else bits
+        return bits, (kind[0] == 'i') != one_in(dice, 6), bits // 8 if bits in (8, 16, 32, 64) else 1
+
     def form_for(self, table, leaf):
         """Whether a call goes by numbers without a sign, mostly as the leaf needs."""
         needs = table and leaf < len(table.leaves) and table.leaves[leaf].kind[0] == 'u'
@@ -183,7 +220,8 @@ class Calls(Script):
 
     def read_one(self, handle, table):
         dice = self.dice
-        op = dice.choice(['get'] * 6 + ['run'] * 4 + ['rows', 'leaves', 'blobs', 'row', 'row', 'leaf', 'leaf', 'save', 'print', 'blob', 'blob', 'version'])
+        op = dice.choice(['get'] * 6 + ['run', 'gather', 'get_box', 'get_run_as', 'place'] * 4 + ['record', 'layout', 'lend', 'lend'] + ['rows', 'leaves', 'blobs', 'row', 'row', 'leaf', 'leaf', 'extents', 'path', 'path', 'type', 'type', 'counts', 'counts', 'save',
+                         'print', 'blob', 'blob', 'blob_at', 'blob_at', 'version'])
         leaf = self.leaf_for(table)
         if op == 'get':
             self.call('get' + self.form_for(table, leaf), handle, self.row_for(table), leaf)
@@ -196,22 +234,76 @@ class Calls(Script):
             self.call(op, handle, words=index if dice.randrange(20) else dice.choice([[], index + [0], index[1:]]))
         elif op == 'leaf':
             self.call(op, handle, texts=[self.path(table).encode() if table and dice.randrange(10) else dice.choice([b'', b'a.', b'a[0', b'\xff', b'h[02]', b'a' * 300])])
-        elif op in ('save', 'print'):
+        elif op == 'get_box':
+            low, high, count = self.box_for(table)
+            self.call(op + self.form_for(table, leaf), handle, len(low), leaf, count, words=low + high)
+        elif op == 'get_run_as':
+            (first, count), (bits, sign, size) = self.run_for(table), self.type_for(table, leaf)
+            self.call(op, handle, first, leaf, count * size + one_in(dice, 25), words=[bits, sign])
+        elif op in ('save', 'print', 'record', 'layout', 'lend'):
             self.call(op, handle, c=dice.choice([0, 0, 0, -1, 3, -4096]))
-        elif op == 'blob':
-            self.call(op, handle, dice.randrange(3) if dice.randrange(20) else dice.choice([8, 64, 2 ** 32, WORD - 1]), c=dice.choice([0, 0, 0, -1, 3]))
+        elif op in ('blob', 'blob_at'):
+            blobs = len(lengths_of(table.mapping, table.leaves, table.extents)) if table else 1
+            self.call(op, handle, dice.randrange(blobs) if dice.randrange(12) else dice.choice([blobs, 64, 2 ** 32, WORD - 1]), c=dice.choice([0, 0, 0, -1, 3]) if op == 'blob' else 0)
+        elif op == 'gather':
+            self.call(op + self.form_for(table, leaf), handle, b=leaf, words=self.list_for(table))
+        elif op in ('path', 'type', 'place', 'extents'):
+            self.call(op, handle, b=leaf, c=dice.choice([0, 0, 0, -1, 3]) if op in ('path', 'extents') else 0)
+        elif op == 'counts':
+            self.counts_of(handle, table, leaf)
         else:
             self.call(op, handle)
+
+    def counts_of(self, handle, table, leaf):
+        """Those of all leaves, where they are counted."""
+        for each in range(len(table.leaves)) if table and 'count' in counters_of(table.mapping) else [leaf]:
+            self.call('counts', handle, b=each)
 
     def write(self, handle):
         table, dice = self.table_in(handle), self.dice
         leaf = self.leaf_for(table)
         form = self.form_for(table, leaf)
         if dice.randrange(3):
+            return dice.choice([self.scatter, self.scatter, self.set_box, self.set_run_as, self.lend_and_return])(handle, table, leaf, form)
+        if dice.randrange(3):
             return self.call('set' + form, handle, self.row_for(table), leaf, self.number_for(table, leaf, form, 12))
         first, count = self.run_for(table)
         odds = dice.choice([30, 400])
         return self.call('set_run' + form, handle, first, leaf, words=[self.number_for(table, leaf, form, odds) for _ in range(count)])
+
+    def set_box(self, handle, table, leaf, form):
+        low, high, count = self.box_for(table)
+        odds = self.dice.choice([30, 400])
+        self.call('set_box' + form, handle, len(low), leaf, words=low + high + [self.number_for(table, leaf, form, odds) for _ in range(count)])
+        self.counts_of(handle, table, leaf)
+
+    def set_run_as(self, handle, table, leaf, form):
+        (first, count), (bits, sign, size), odds = self.run_for(table), self.type_for(table, leaf), self.dice.choice([30, 400])
+        values = [self.number_for(table, leaf, form, odds) % 2 ** (8 * size) for _ in range(count)]
+        self.call('set_run_as', handle, first, leaf, words=[bits, sign], texts=[b''.join(value.to_bytes(size, 'little') for value in values) + bytes(one_in(self.dice, 25))])
+
+    def lend_and_return(self, handle, table, leaf, _):
+        """Mostly as it was lent, or with bits of a byte changed; what is there is shown before."""
+        dice, size = self.dice, sum(lengths_of(table.mapping, table.leaves, table.extents)) if table else 0
+        if size <= MOST_LENT_BYTES:
+            self.print_of(handle)
+            self.call('return', handle, dice.randrange(size or 1), dice.choice([0, 1 << dice.randrange(8), dice.randrange(256)]), dice.choice([-1, 1]) if one_in(dice, 15) else 0)
+            self.counts_of(handle, table, leaf)
+
+    def list_for(self, table):
+        """Rows in any order, some of them more than once."""
+        dice, rows = self.dice, product(table.extents) if table else 3
+        some = [dice.randrange(rows) for _ in range(dice.choice([0, 1, 2, 5, 20]))] if rows else []
+        return some + [self.row_for(table)] * one_in(dice, 20) + some[:dice.choice([0, 0, 1, 3])]
+
+    def scatter(self, handle, table, leaf, form):
+        """A value for each row of a list, or one that is added to what is shown before: so that it mostly fits, a small one."""
+        dice, rows = self.dice, self.list_for(table)
+        odds = dice.choice([12, 200])
+        if dice.randrange(2):
+            return self.call('scatter' + form, handle, b=leaf, words=rows + [self.number_for(table, leaf, form, odds) for _ in rows])
+        self.print_of(handle)
+        return self.call('scatter_add', handle, b=leaf, words=rows + [self.number_for(table, leaf, '', odds) if one_in(dice, odds) else dice.choice([-2, -1, 0, 1, 3]) for _ in rows])
 
     def copy_to(self, handle):
         """A copy from another handle, mostly of the same record and extents; what is there is shown before."""
@@ -225,8 +317,10 @@ class Calls(Script):
         """A kernel, another layout, or a line that does or tells something."""
         table, name, dice = self.table_in(handle), self.held.get(handle), self.dice
         op = dice.choice(['relayout', 'kernel', 'do', 'do', 'do', 'tell', 'tell'])
-        act = getattr(self, {'do': dice.choice(['set', 'update', 'update', 'reduce', 'kernel']), 'tell': 'show'}.get(op, op))
+        act = getattr(self, dice.choice(ACTS.get(op, [op])))
         line = self.taken(act, name, table) if table else dice.choice(OTHER_LINES)
+        if act == self.stencil:
+            self.print_of(handle)
         if line is not None:
             self.call(op, handle, c=dice.choice([0, 0, 0, -1, 3]) if op == 'tell' else 0, texts=[self.text(line)])
 
