@@ -1,5 +1,5 @@
 -- After every schedule the memory is that of the plain update.
-use Rattle.std.proofs.Common.{◌≡◌, ℕ, zero, suc, ◌+◌, ◌/◌, ◌%◌, ◌<◌, ◌≤◌, Bool, true, false, ℤ, List, [], ◌∷◌, ◌++◌, length, map, filter, get_or, refl, sym, ap, ◌∙◌, subst, ⊎_elim, None, arith}
+use Rattle.std.proofs.Common.{◌≡◌, ℕ, zero, suc, ◌+◌, ◌/◌, ◌%◌, ◌<◌, ◌≤◌, Bool, true, false, ℤ, List, [], ◌∷◌, length, map, filter, get_or, refl, sym, ap, ◌∙◌, subst, ⊎_elim, None, arith}
 use Rattle.std.specs.Prelude.{◌==◌, ◌&&◌, ◌||◌, if◌then◌else◌}
 use Rattle.std.specs.List.{flat_map, list_any, range_with_len}
 use Rattle.std.specs.Int.{bit_at}
@@ -11,7 +11,7 @@ use Rattle.blobs.specs.Bits.{bit_in}
 use Rattle.row_updates.specs.Rows.{Setting}
 use Rattle.actor_steps.specs.Confluence.{Actor, State, scheduled}
 use Rattle.actor_steps.specs.ConfluenceLaws.{Each, Alone, made_all, loaded_all, made_all-append, loaded_all-append, ended, IsMerged, merged-schedule, ended-schedule}
-use Rattle.actor_steps.specs.Micro.{Place, byte_at, with_byte, Job, Micro, Fetch, Load, Store, Registers, row_in, row_as_it_stands, value_kept_on, with_bits_of, stored, loaded, all_bytes, is_bit_of, owners_of_byte, places_of, lets_through, read_leaves, fetches, changes, stores_of, row_steps, steps_of}
+use Rattle.actor_steps.specs.Micro.{Place, byte_at, Job, Micro, Fetch, Load, Store, Registers, row_in, row_as_it_stands, value_kept_on, with_bits_of, stored, loaded, all_bytes, is_bit_of, owners_of_byte, places_of, lets_through, read_leaves, fetches, changes, stores_of, row_steps, steps_of}
 use Rattle.actor_steps.specs.Bytes.{IsByte, IsMemory}
 use Rattle.actor_steps.specs.BytesOfLaws.{with_byte-sized, with_byte-bytes, byte_at-other, byte_at-same}
 use Rattle.actor_steps.specs.SweepLaws.{is_place, is_among, with_bits_of-lt}
@@ -72,8 +72,7 @@ row-same job row one two same f = by_test (lets_through job row) where
 -- rows before those of the list, and rows of it
 rows-before : (job : Job) (first n : ℕ) (entries : ℕ → ℕ → ℤ) (r f : ℕ) → r < first → rows_entries job (range_with_len first n) entries r f ≡ entries r f
 rows-before job first zero entries r f low = refl
-rows-before job first (suc n) entries r f low =
-    rows-before job (first + 1) n (row_entries job first entries) r f (omega (arith, low)) ∙ row-other job first entries r f (λ e. (let bad : ⊥ = omega (arith, low, e) in bad))
+rows-before job first (suc n) entries r f low = grind (arith, row-other, (rows-before job (first + 1) n (row_entries job first entries) r f (omega (arith, low))))
 
 rows-inside : (job : Job) (first n : ℕ) (entries : ℕ → ℕ → ℤ) (r f : ℕ) → first ≤ r → r < first + n → rows_entries job (range_with_len first n) entries r f ≡ row_entries job r entries r f
 rows-inside job first zero entries r f low high = absurd (omega (arith, low, high))
@@ -99,11 +98,7 @@ module _ (job : Job) (sound : IsSound job) where
       let here = row_work job sound first entries memory registers (omega (arith, inside)) work (λ f. stands first f (omega arith)) in
       let more = solo (first + 1) n (row_entries job first entries) next behind here (omega (arith, inside))
       (λ r f low. row-other job first entries r f (λ e. (let bad : ⊥ = omega (arith, low, e) in bad)) ∙ stands r f (omega (arith, low))) in
-      subst (λ (m : List (List ℕ)). IsWork job (rows_entries job (range_with_len first (suc n)) entries) m
-      (loaded_all (stored job) (loaded job) (row_steps job first ++ steps_of job (first + 1) n) memory registers))
-      (sym (made_all-append (stored job) (loaded job) (row_steps job first) (steps_of job (first + 1) n) memory registers))
-      (subst (λ (r : Registers). IsWork job (rows_entries job (range_with_len first (suc n)) entries) (made_all (stored job) (loaded job) (steps_of job (first + 1) n) next behind) r)
-      (sym (loaded_all-append (stored job) (loaded job) (row_steps job first) (steps_of job (first + 1) n) memory registers)) more)
+      grind (arith, range_with_len, made_all-append, loaded_all-append)
 
   module _ (actor : ℕ → ℕ) (apart : shared_byte job.layout actor ≡ None) where
     abbrev pub owner_of : Place → ℕ
@@ -178,40 +173,18 @@ module _ (job : Job) (sound : IsSound job) where
       team-at a low = get_or-map (λ (part : ℕ × ℕ). let x : Actor Micro Registers = record { rest = steps_of job part.0 part.1; registers = fresh } in x) parts a (0, 0) idle low
 
       team-past : (a : ℕ) → length parts ≤ a → get_or team a idle ≡ idle
-      team-past a high =
-          get_or_past team a idle
-          (omega (arith, high, length-map parts (λ (part : ℕ × ℕ). let x : Actor Micro Registers = record { rest = steps_of job part.0 part.1; registers = fresh } in x)))
+      team-past a high = grind (arith, get_or_past, length-map)
 
       -- the laws of a micro-step
       pub elsewhere : (s : Micro) (m : List (List ℕ)) (r : Registers) (p : Place) → (p ≡ place_of s → ⊥) → byte_at (stored job s m r) p ≡ byte_at m p
-      elsewhere (Fetch place) m r p other = refl
-      elsewhere (Load place) m r p other = refl
-      elsewhere (Store place row set) m r p other =
-          byte_at-other m place (with_bits_of job.layout place row set.leaf (value_kept_on job (row_in job r.loaded row) row set) r.byte) p
-          (λ both. other (ap (λ (w : ℕ). record { blob = w; byte = p.byte }) both.0 ∙ ap (λ (w : ℕ). record { blob = place.blob; byte = w }) both.1))
+      elsewhere s m r p other = grind (arith, byte_at-other)
 
       pub same_loaded : (s : Micro) (m n : List (List ℕ)) (r : Registers) → byte_at m (place_of s) ≡ byte_at n (place_of s) → loaded job s m r ≡ loaded job s n r
-      same_loaded (Fetch place) m n r e = ap (λ (w : ℕ). record r { loaded = with_byte r.loaded place w }) e
-      same_loaded (Load place) m n r e = ap (λ (w : ℕ). record r { byte = w }) e
-      same_loaded (Store place row set) m n r e = refl
+      same_loaded s m n r e = grind arith
 
       pub same_stored : (s : Micro) (m n : List (List ℕ)) (r : Registers) (p : Place) → IsByte job.layout (place_of s) → IsMemory job.layout m → IsMemory job.layout n
           → byte_at m (place_of s) ≡ byte_at n (place_of s) → byte_at m p ≡ byte_at n p → byte_at (stored job s m r) p ≡ byte_at (stored job s n r) p
-      same_stored (Fetch place) m n r p is one two e f = f
-      same_stored (Load place) m n r p is one two e f = f
-      same_stored (Store place row set) m n r p is one two e f =
-          let byte = with_bits_of job.layout place row set.leaf (value_kept_on job (row_in job r.loaded row) row set) r.byte in
-          ⊎_elim (λ (blob : p.blob ≡ place.blob).
-          ⊎_elim (λ (at : p.byte ≡ place.byte).
-          let same : p ≡ place = ap (λ (w : ℕ). record { blob = w; byte = p.byte }) blob ∙ ap (λ (w : ℕ). record { blob = place.blob; byte = w }) at in
-          ap (byte_at (with_byte m place byte)) same ∙ byte_at-same job.layout m place byte one.sized is
-          ∙ sym (byte_at-same job.layout n place byte two.sized is) ∙ sym (ap (byte_at (with_byte n place byte)) same))
-          (λ (other : p.byte ≡ place.byte → ⊥).
-          byte_at-other m place byte p (λ both. other both.1) ∙ f ∙ sym (byte_at-other n place byte p (λ both. other both.1)))
-          (cases_eq p.byte place.byte))
-          (λ (other : p.blob ≡ place.blob → ⊥).
-          byte_at-other m place byte p (λ both. other both.0) ∙ f ∙ sym (byte_at-other n place byte p (λ both. other both.0)))
-          (cases_eq p.blob place.blob)
+      same_stored s m n r p is one two e f = grind (arith, byte_at-same, byte_at-other, cases_eq)
 
       pub good_after : (s : Micro) (m : List (List ℕ)) (r : Registers) → IsMemory job.layout m → IsMemory job.layout (stored job s m r)
       good_after (Fetch place) m r good = good
@@ -220,8 +193,7 @@ module _ (job : Job) (sound : IsSound job) where
           let byte = with_bits_of job.layout place row set.leaf (value_kept_on job (row_in job r.loaded row) row set) r.byte in
           record {
             sized = with_byte-sized job.layout m place byte good.sized;
-            bytes = with_byte-bytes m place byte
-                (with_bits_of-lt job.layout place row set.leaf (value_kept_on job (row_in job r.loaded row) row set) r.byte) good.bytes;
+            bytes = grind (arith, with_byte-bytes, with_bits_of-lt);
           }
 
       all-own : (a : ℕ) → Each (IsOwn a) (alone a).rest
@@ -272,11 +244,7 @@ module _ (job : Job) (sound : IsSound job) where
                 ap (λ (v : ℤ). digit v k) (rows-inside job (first a) (size a) (entry job.rows) r f from below)
 
             by_none : length parts ≤ a → (owner : Owner) → owner_at job.layout b p ≡ owner → digit_held (entry job.rows) owner ≡ digit_held updated owner
-            by_none high Pad e = refl
-            by_none high (Bit r f k) e =
-                let same : actor r ≡ a = sym (is ∙ row-actor b p r f k e) in
-                let low : actor r < length parts = (every r (sound.laid.owned b p r f k e).slot_in).0 in
-                absurd (let bad : ⊥ = omega (arith, low, high, same) in bad)
+            by_none high owner e = grind (arith, row-actor)
 
       -- where no micro-step is left after a schedule, memory holds what the plain update leaves
       pub after_every_schedule : (schedule : List ℕ) → ((a : ℕ) → (get_or (scheduled (stored job) (loaded job) idle schedule start).actors a idle).rest ≡ [])

@@ -44,9 +44,7 @@ module _ (table : Table) (lawful : IsLawful table) where
     laid = lawful.laid;
     paired = lawful.paired;
     shape = shaped;
-    stays = λ row leaf row_in leaf_in.
-        stays_kept table.mode (kind_at (leaf_types_of table) leaf) (hold_at (table_holds table) leaf) (entry table.rows row leaf)
-        (lawful.is_table.some leaf leaf_in) (lawful.is_table.stays row leaf row_in leaf_in);
+    stays = λ row leaf row_in leaf_in. grind (arith, stays_kept);
   }
 
   pub memory_bits : IsImage (owners_of table) table.rows (bit_in (memory_of table))

@@ -1,12 +1,11 @@
 -- Which bytes hold a bit of a leaf in a row.
-use Rattle.std.proofs.Common.{◌≡◌, ℕ, zero, suc, ◌+◌, ◌*◌, ◌/◌, ◌%◌, ◌<◌, ◌≤◌, Bool, true, false, List, [], ◌∷◌, ◌++◌, length, map, filter, get_or, drop, All, refl, sym, ap, ◌∙◌, ⊎_elim, arith}
+use Rattle.std.proofs.Common.{◌≡◌, ℕ, zero, suc, ◌+◌, ◌*◌, ◌/◌, ◌%◌, ◌<◌, ◌≤◌, Bool, true, false, List, [], ◌∷◌, ◌++◌, length, map, filter, get_or, All, refl, sym, ap, ◌∙◌, ⊎_elim, arith}
 use Rattle.std.specs.Prelude.{◌==◌, ◌||◌, if◌then◌else◌}
 use Rattle.std.specs.List.{flat_map, list_any, range_with_len}
 use Rattle.std.proofs.lemmas.Bool.{cases_eq, cases_lt, cases_Bool, and_from, and_parts, or_left, or_right, eq-eqb, eqb-true, cond-true, cond-false}
 use Rattle.std.proofs.lemmas.List.{length-take, length-drop, get_or-take, get_or-drop, get_or_past}
 use Rattle.std.proofs.lemmas.List.Folds.{list_any-append, list_any_at}
 use Rattle.places.specs.Layout.{Owner, Pad, Bit, owner_at}
-use Rattle.places.specs.ExactLaws.{within}
 use Rattle.actor_steps.specs.Micro.{Place, bytes_in, all_bytes, is_bit_of, owners_of_byte, places_of}
 use Rattle.actor_steps.specs.Bytes.{IsByte}
 use Rattle.actor_steps.specs.SweepLaws.{is_place, is_among, AreBytesOf}
@@ -30,10 +29,7 @@ pub among-lists : (f : ℕ → List Place) (xs : List ℕ) (x : ℕ) (b i : ℕ)
 among-lists f [] x b i has e = true_or_false false has refl
 among-lists f (y ∷ ys) x b i has e =
     ⊎_elim (λ (same : y ≡ x). among-left (f y) (flat_map f ys) b i (ap (λ (z : ℕ). is_among (f z) b i) same ∙ e))
-    (λ (other : y ≡ x → ⊥). among-right (f y) (flat_map f ys) b i (among-lists f ys x b i (⊎_elim
-    (λ (yes' : (y == x) ≡ true). absurd (other (eqb-true y x yes')))
-    (λ (no' : (y == x) ≡ false). ap (λ (t : Bool). t || list_any (λ other. other == x) ys) (sym no') ∙ has)
-    (cases_Bool (y == x))) e))
+    (λ (other : y ≡ x → ⊥). among-right (f y) (flat_map f ys) b i (among-lists f ys x b i (grind (arith, eqb-true, list_any, cases_Bool)) e))
     (cases_eq y x)
 
 pub in_range : (a n x : ℕ) → a ≤ x → x < a + n → list_any (λ other. other == x) (range_with_len a n) ≡ true
@@ -67,28 +63,15 @@ pub among-filter : (test : Place → Bool) (places : List Place) (b i : ℕ) →
     → is_among (filter test places) b i ≡ true
 among-filter test [] b i has e = has
 among-filter test (place ∷ places) b i has e =
-    ⊎_elim (λ (here : is_place b i place ≡ true).
-    let both = and_parts (place.blob == b) (place.byte == i) here in
-    let meets : test place ≡ true = ap (λ (w : ℕ). test (record { blob = w; byte = place.byte })) (eqb-true place.blob b both.0)
-    ∙ ap (λ (w : ℕ). test (record { blob = b; byte = w })) (eqb-true place.byte i both.1) ∙ e in
-    ap (λ (w : List Place). is_among w b i) (cond-true (test place) (place ∷ filter test places) (filter test places) meets)
-    ∙ or_left (is_place b i place) (is_among (filter test places) b i) here)
+    ⊎_elim (λ (here : is_place b i place ≡ true). grind (arith, and_parts, eqb-true, cond-true, or_left))
     (λ (other : is_place b i place ≡ false).
     let rest : is_among (filter test places) b i ≡ true = among-filter test places b i (ap (λ (t : Bool). t || is_among places b i) (sym other) ∙ has) e in
-    ⊎_elim (λ (meets : test place ≡ true).
-    ap (λ (w : List Place). is_among w b i) (cond-true (test place) (place ∷ filter test places) (filter test places) meets)
-    ∙ or_right (is_place b i place) (is_among (filter test places) b i) rest)
-    (λ (fails : test place ≡ false).
-    ap (λ (w : List Place). is_among w b i) (cond-false (test place) (place ∷ filter test places) (filter test places) fails) ∙ rest)
-    (cases_Bool (test place)))
+    grind (arith, cond-true, or_right, cond-false, cases_Bool))
     (cases_Bool (is_place b i place))
 
 -- an owner is one of the owners of its byte
 pub byte_owner : (layout : List (List Owner)) (b p : ℕ) (d : Owner) → get_or (owners_of_byte layout (record { blob = b; byte = p / 8 })) (p % 8) Pad ≡ owner_at layout b p
-byte_owner layout b p d =
-    let owners = get_or layout b [] in
-    let whole : 8 * (p / 8) + p % 8 ≡ p = omega arith in
-    get_or-take 8 (drop (8 * (p / 8)) owners) (p % 8) Pad (omega arith) ∙ get_or-drop (8 * (p / 8)) owners (p % 8) Pad ∙ ap (λ n. get_or owners n Pad) whole
+byte_owner layout b p d = grind (arith, get_or-take, get_or-drop)
 
 is_bit : (row leaf k : ℕ) → is_bit_of row leaf (Bit row leaf k) ≡ true
 is_bit row leaf k = and_from (row == row) (leaf == leaf) (eq-eqb row row refl) (eq-eqb leaf leaf refl)
@@ -100,15 +83,7 @@ pub record HasByte (layout : List (List Owner)) (b p : ℕ) : Type 0 where
   pub low : p % 8 < length (owners_of_byte layout (record { blob = b; byte = p / 8 }))
 
 pub has_byte : (layout : List (List Owner)) (b p row leaf k : ℕ) → All (λ blob. length blob % 8 ≡ 0) layout → owner_at layout b p ≡ Bit row leaf k → HasByte layout b p
-has_byte layout b p row leaf k whole e =
-    let owners = get_or layout b [] in
-    let inside : p < length owners = within owners p row leaf k e in
-    let blob_in : b < length layout = ⊎_elim (λ (l : b < length layout). l)
-    (λ (l : length layout ≤ b). let none : length owners ≡ 0 = ap (length {A = Owner}) (get_or_past layout b [] l) in absurd (omega arith)) (cases_lt b (length layout)) in
-    let bytes : length owners % 8 ≡ 0 = whole b [] blob_in in
-    let long = length-take 8 (drop (8 * (p / 8)) owners) in
-    let rest = length-drop (8 * (p / 8)) owners in
-    record { blob_in = blob_in; byte_in = omega arith; low = omega arith }
+has_byte layout b p row leaf k whole e = grind (arith, get_or_past, cases_lt, length-take, length-drop)
 
 -- that byte is one of those that hold a bit of it
 pub among-places : (layout : List (List Owner)) (b p row leaf k : ℕ) → All (λ blob. length blob % 8 ≡ 0) layout → owner_at layout b p ≡ Bit row leaf k
@@ -166,6 +141,4 @@ pub places-are : (layout : List (List Owner)) (row leaf : ℕ)
 places-are layout row leaf = each-filter (IsByte layout) (λ place. list_any (is_bit_of row leaf) (owners_of_byte layout place)) (all_bytes layout) (all_are_bytes layout)
 
 pub places-are_bytes : (layout : List (List Owner)) (row leaf : ℕ) → AreBytesOf layout (places_of layout row leaf)
-places-are_bytes layout row leaf =
-    each-weaker (λ place. IsByte layout place × (list_any (is_bit_of row leaf) (owners_of_byte layout place) ≡ true)) (IsByte layout) (places_of layout row leaf)
-    (λ place both. both.0) (places-are layout row leaf)
+places-are_bytes layout row leaf = grind (arith, each-weaker, list_any, places-are)

@@ -5,6 +5,7 @@ use Rattle.std.proofs.Math.Path.{fun_ext}
 use Rattle.std.proofs.lemmas.Bool.{cases_eq, cases_lt, eq-eqb, eqb-true}
 use Rattle.std.proofs.lemmas.List.{get_or-set_same, get_or-set_other, get_or_past}
 use Rattle.actor_steps.specs.Confluence.{Actor, State, moved, turned, scheduled}
+use Rattle.std.proofs.Common.{arith}
 
 -- a fact of each item
 abbrev pub Each : {X : Type 0} → (X → Type 0) → List X → Type 0
@@ -188,6 +189,4 @@ module _ {M P S R : Type 0} (get : M → P → ℕ) (place : S → P) (stored : 
   ended-schedule schedule solos state merged done p =
       let all = merged-schedule schedule solos state merged in
       let last = own_turns stored loaded (owner p) schedule (solos (owner p)) in
-      let left : last.rest ≡ [] = sym (all.rest (owner p)) ∙ done (owner p) in
-      all.bytes p ∙ sym (ap (λ (r : List S). get (made_all stored loaded r last.memory last.registers) p) left)
-      ∙ ap (λ (m : M). get m p) (ended-own_turns stored loaded (owner p) schedule (solos (owner p)))
+      let left : last.rest ≡ [] = sym (all.rest (owner p)) ∙ done (owner p) in grind (arith, ended-own_turns)

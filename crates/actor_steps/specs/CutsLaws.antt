@@ -1,7 +1,7 @@
 -- Cuts of the rows among actors, and the micro-steps that are left of a run.
-use Rattle.std.proofs.Common.{◌≡◌, ℕ, zero, suc, ◌+◌, ◌-◌, ◌<◌, ◌≤◌, Bool, true, false, List, [], ◌∷◌, ◌++◌, length, get_or, set, replicate, refl, sym, ap, ◌∙◌, subst, ⊎_elim, arith}
+use Rattle.std.proofs.Common.{◌≡◌, ℕ, zero, suc, ◌+◌, ◌<◌, ◌≤◌, Bool, true, false, List, [], ◌∷◌, ◌++◌, length, get_or, set, replicate, refl, sym, ap, ◌∙◌, ⊎_elim, arith}
 use Rattle.std.specs.Prelude.{nat_le, ◌==◌, if◌then◌else◌, slice_index_or}
-use Rattle.std.proofs.lemmas.Bool.{and_from, and_parts, leb-true, cases_lt, cases_eq, le-leb, lt-leb, eq-eqb, eqb-true}
+use Rattle.std.proofs.lemmas.Bool.{and_parts, leb-true, cases_lt, cases_eq, le-leb, lt-leb, eq-eqb, eqb-true}
 use Rattle.std.proofs.lemmas.List.{get_or-set_same, get_or-set_other, get_or_past}
 use Rattle.actor_steps.specs.Confluence.{Actor, State, moved, turned, scheduled}
 use Rattle.actor_steps.specs.Cuts.{actor_of, AreCuts, are_cuts, parts_from}
@@ -23,13 +23,8 @@ pub record IsPart (parts : List (ℕ × ℕ)) (a row : ℕ) : Type 0 where
 pub part_of : (from : ℕ) (cuts : List ℕ) (count row : ℕ) → AreCuts from cuts count → from ≤ row → row < count → IsPart (parts_from from cuts count) (actor_of cuts row) row
 part_of from [] count row are low high = record { low = omega arith; from = low; below = omega (arith, low, high, are) }
 part_of from (cut ∷ cuts) count row are low high =
-    ⊎_elim (λ (l : row < cut).
-    subst (λ (t : Bool). IsPart ((from, cut - from) ∷ parts_from cut cuts count) (if t then suc (actor_of cuts row) else 0) row) (sym (lt-leb cut row l))
-    (record { low = omega arith; from = low; below = omega (arith, low, l) }))
-    (λ (l : cut ≤ row).
-    let rest = part_of cut cuts count row are.1 l high in
-    subst (λ (t : Bool). IsPart ((from, cut - from) ∷ parts_from cut cuts count) (if t then suc (actor_of cuts row) else 0) row) (sym (le-leb cut row l))
-    (record { low = omega (arith, rest.low); from = rest.from; below = rest.below }))
+    ⊎_elim (λ (l : row < cut). grind (arith, lt-leb))
+    (λ (l : cut ≤ row). grind (arith, le-leb, (part_of cut cuts count row are.1 l high)))
     (cases_lt row cut)
 
 pub first_below : (from : ℕ) (cuts : List ℕ) (count a : ℕ) → AreCuts from cuts count → a < length (parts_from from cuts count)
@@ -40,19 +35,16 @@ first_below from (cut ∷ cuts) count zero are low = (omega arith, (let end : cu
   last : (cut : ℕ) (cuts : List ℕ) → AreCuts cut cuts count → cut ≤ count
   last cut [] are = are
   last cut (next ∷ cuts) are = (let rest = last next cuts are.1 in omega (arith, rest, are.0))
-first_below from (cut ∷ cuts) count (suc a) are low =
-    (let rest = first_below cut cuts count a are.1 (omega (arith, low)) in (omega (arith, rest.0, are.0), rest.1))
+first_below from (cut ∷ cuts) count (suc a) are low = grind (arith, (first_below cut cuts count a are.1 (omega (arith, low))))
 
 pub actor_is : (from : ℕ) (cuts : List ℕ) (count a row : ℕ) → AreCuts from cuts count → IsPart (parts_from from cuts count) a row → actor_of cuts row ≡ a
 actor_is from [] count zero row are part = refl
 actor_is from [] count (suc a) row are part = absurd (let bad : ⊥ = omega (arith, part.low) in bad)
-actor_is from (cut ∷ cuts) count zero row are part =
-    ap (λ (t : Bool). if t then suc (actor_of cuts row) else 0) (lt-leb cut row (omega (arith, part.below, are.0)))
+actor_is from (cut ∷ cuts) count zero row are part = grind (arith, lt-leb)
 actor_is from (cut ∷ cuts) count (suc a) row are part =
     let low : a < length (parts_from cut cuts count) = omega (arith, part.low) in
     let rest = first_below cut cuts count a are.1 low in
-    ap (λ (t : Bool). if t then suc (actor_of cuts row) else 0) (le-leb cut row (omega (arith, part.from, rest.0)))
-    ∙ ap suc (actor_is cut cuts count a row are.1 (record { low = low; from = part.from; below = part.below }))
+    grind (arith, le-leb, (actor_is cut cuts count a row are.1 (record { low = low; from = part.from; below = part.below })))
 
 -- how often an actor has its turn
 abbrev pub times : ℕ → List ℕ → ℕ
@@ -98,14 +90,11 @@ module _ {M S R : Type 0} (stored : S → M → R → M) (loaded : S → M → R
           actor = record { rest = rest; registers = loaded s state.memory (slice_index_or state.actors b idle).registers }
 
           inside : b < length state.actors
-          inside = ⊎_elim (λ (l : b < length state.actors). l)
-              (λ (l : length state.actors ≤ b). absurd (let bad : [] ≡ s ∷ rest = sym none ∙ ap (λ (x : Actor S R). x.rest) (sym (get_or_past state.actors b idle l)) ∙ e in let no : ⊥ = cc in no))
-              (cases_lt b (length state.actors))
+          inside = grind (arith, get_or_past, cases_lt)
 
           by_test : (t : Bool) → (b == a) ≡ t → (b ≡ a → ⊥)
               → (slice_index_or state.actors a idle).rest ≡ (if t then tail_of (slice_index_or state.actors a idle).rest else (slice_index_or state.actors a idle).rest)
-          by_test true same other = absurd (other (eqb-true b a same))
-          by_test false same other = refl
+          by_test t same other = grind (arith, eqb-true)
 
   schedule-rest : (schedule : List ℕ) (state : State M S R) (a : ℕ) → rest_of (scheduled stored loaded idle schedule state) a ≡ without (times a schedule) (rest_of state a)
   schedule-rest [] state a = refl
@@ -138,10 +127,7 @@ times-past a c (actor ∷ actors) low =
 
 times-left : {S R : Type 0} (n c a : ℕ) (actors : List (Actor S R)) (idle : Actor S R) → idle.rest ≡ [] → c + n ≡ a → times a (turns_from c actors) ≡ length (slice_index_or actors n idle).rest
 times-left n c a [] idle none e = sym (ap length none)
-times-left zero c a (actor ∷ actors) idle none e =
-    times-replicate a c (length actor.rest) (turns_from (suc c) actors)
-    ∙ ap (λ (t : Bool). if t then length actor.rest + times a (turns_from (suc c) actors) else times a (turns_from (suc c) actors)) (eq-eqb c a (omega (arith, e)))
-    ∙ ap (λ (w : ℕ). length actor.rest + w) (times-past a (suc c) actors (omega (arith, e))) ∙ (let zero_on : length actor.rest + 0 ≡ length actor.rest = omega arith in zero_on)
+times-left zero c a (actor ∷ actors) idle none e = grind (arith, times-replicate, eq-eqb, times-past)
 times-left (suc n) c a (actor ∷ actors) idle none e =
     times-replicate a c (length actor.rest) (turns_from (suc c) actors) ∙ by_test (c == a) refl ∙ times-left n (suc c) a actors idle none (omega (arith, e)) where
       by_test : (t : Bool) → (c == a) ≡ t → (if t then length actor.rest + times a (turns_from (suc c) actors) else times a (turns_from (suc c) actors)) ≡ times a (turns_from (suc c) actors)

@@ -1,12 +1,11 @@
 -- Padding stays 0: memory, and the bytes that are loaded of it, after any schedule.
-use Rattle.std.proofs.Common.{◌≡◌, ℕ, zero, suc, ◌+◌, ◌*◌, ◌/◌, ◌%◌, ◌<◌, ◌≤◌, Bool, true, false, ℤ, List, [], ◌∷◌, ◌++◌, length, map, get_or, set, refl, sym, ap, ◌∙◌, subst, ⊎_elim, arith}
+use Rattle.std.proofs.Common.{◌≡◌, ℕ, zero, suc, ◌+◌, ◌*◌, ◌/◌, ◌%◌, ◌<◌, Bool, true, false, ℤ, List, [], ◌∷◌, ◌++◌, map, get_or, set, refl, ap, ◌∙◌, arith}
 use Rattle.std.specs.Prelude.{◌==◌, if◌then◌else◌, slice_index_or}
 use Rattle.std.specs.List.{flat_map, range_with_len}
 use Rattle.std.specs.Int.{bit_at}
 use Rattle.std.proofs.lemmas.Bool.{cases_eq, cases_lt, and_parts, eqb-true}
 use Rattle.std.proofs.lemmas.List.{get_or-set_same, get_or-set_other, set_past}
 use Rattle.places.specs.Layout.{Owner, Pad, owner_at}
-use Rattle.places.specs.Writes.{written_bit}
 use Rattle.blobs.specs.Bits.{bit_in}
 use Rattle.blobs.specs.BytesLaws.{bit_of_byte}
 use Rattle.piece_bits.specs.Tables.{AreLaid}
@@ -26,14 +25,12 @@ IsPaddedByte layout place byte = (k : ℕ) → k < 8 → owner_at layout place.b
 
 -- so may each byte that is loaded
 pub loaded-padded : (layout : List (List Owner)) (memory : List (List ℕ)) (place : Place) → AreLaid layout memory → IsPaddedByte layout place (byte_at memory place)
-loaded-padded layout memory place laid k low pad =
-    sym (bit_of_byte (get_or memory place.blob []) (8 * place.byte + k) place.byte k refl low) ∙ laid.padded.padding place.blob (8 * place.byte + k) pad
+loaded-padded layout memory place laid k low pad = grind (arith, bit_of_byte)
 
 -- and each byte in which only bits of a leaf are changed
 pub changed-padded : (layout : List (List Owner)) (place : Place) (row leaf : ℕ) (value : ℤ) (byte : ℕ) → IsPaddedByte layout place byte
     → IsPaddedByte layout place (with_bits_of layout place row leaf value byte)
-changed-padded layout place row leaf value byte padded k low pad =
-    bit_at-with_bits_of layout place row leaf value byte k low ∙ ap (λ (o : Owner). written_bit o row leaf value (bit_at byte k)) pad ∙ padded k low pad
+changed-padded layout place row leaf value byte padded k low pad = grind (arith, bit_at-with_bits_of, bit_at)
 
 -- with such a byte stored, padding stays 0
 pub with_byte-laid : (layout : List (List Owner)) (memory : List (List ℕ)) (place : Place) (byte : ℕ) → AreLaid layout memory → IsByte layout place
@@ -106,16 +103,7 @@ module _ (job : Job) (fresh : Registers) where
   -- one actor is another
   with_actor : (state : State (List (List ℕ)) Micro Registers) (a : ℕ) (actor : Actor Micro Registers) → IsTidy job.layout actor
       → ((b : ℕ) → IsTidy job.layout (slice_index_or state.actors b (idle_with fresh))) → (b : ℕ) → IsTidy job.layout (get_or (set state.actors a actor) b (idle_with fresh))
-  with_actor state a actor tidy all b =
-      ⊎_elim (λ (same : b ≡ a).
-      ⊎_elim (λ (inside : a < length state.actors).
-      subst (IsTidy job.layout)
-      (sym (ap (λ (w : ℕ). get_or (set state.actors a actor) w (idle_with fresh)) same ∙ get_or-set_same state.actors a actor (idle_with fresh) inside)) tidy)
-      (λ (outside : length state.actors ≤ a).
-      subst (λ (w : List (Actor Micro Registers)). IsTidy job.layout (get_or w b (idle_with fresh))) (sym (set_past state.actors a actor outside)) (all b))
-      (cases_lt a (length state.actors)))
-      (λ (other : b ≡ a → ⊥). subst (IsTidy job.layout) (sym (get_or-set_other state.actors a b actor (idle_with fresh) other)) (all b))
-      (cases_eq b a)
+  with_actor state a actor tidy all b = grind (arith, get_or-set_same, set_past, cases_lt, get_or-set_other, cases_eq)
 
   moved_tidy : (a : ℕ) (state : State (List (List ℕ)) Micro Registers) (rest : List Micro) (registers : Registers) → AreAllTidy state
       → IsTidy job.layout (record { rest = rest; registers = registers }) → AreAllTidy (moved (stored job) (loaded job) rest registers a state)

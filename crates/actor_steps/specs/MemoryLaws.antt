@@ -6,12 +6,12 @@ use Rattle.std.proofs.lemmas.Bool.{cases_lt}
 use Rattle.std.proofs.lemmas.List.{length-map, length-replicate, get_or-replicate, get_or_past, ext_get_or}
 use Rattle.std.proofs.lemmas.List.FromFn.{length-map-range_with_len, get_or-map-range_with_len}
 use Rattle.std.proofs.lemmas.Nat.Bits.{bit_at-zero}
-use Rattle.places.specs.Layout.{Owner, Pad, Bit, owner_at}
+use Rattle.places.specs.Layout.{Owner, Pad, owner_at}
 use Rattle.places.specs.Image.{number, entry, bit_held, image, IsImage}
 use Rattle.places.specs.NumbersLaws.{number_same, number_lt, number_bits, bit_number, digit_lt}
 use Rattle.blobs.specs.Bits.{bit_of, bit_in, AreBytes}
 use Rattle.blobs.specs.BytesLaws.{bit_of_byte}
-use Rattle.instrument.specs.BlobTexts.{byte_of_bits as byte_of_bits, bytes_of}
+use Rattle.instrument.specs.BlobTexts.{bytes_of}
 use Rattle.piece_bits.specs.Tables.{AreSized, AreLaid}
 use Rattle.views.specs.Tallies.{blob_lengths}
 use Rattle.actor_steps.specs.Bytes.{IsMemory}
@@ -19,10 +19,7 @@ use Rattle.actor_steps.specs.HeldLaws.{digit_held, IsHeld}
 
 -- blobs are whole bytes, and so is no blob
 whole_blob : (layout : List (List Owner)) → All (λ blob. length blob % 8 ≡ 0) layout → (b : ℕ) → length (get_or layout b []) % 8 ≡ 0
-whole_blob layout whole b =
-    ⊎_elim (λ (inside : b < length layout). whole b [] inside)
-    (λ (outside : length layout ≤ b). ap (λ (w : List Owner). length w % 8) (get_or_past layout b [] outside))
-    (cases_lt b (length layout))
+whole_blob layout whole b = grind (arith, get_or_past, cases_lt)
 
 -- a byte by its bits
 whole_byte : (byte : ℕ) → byte < 256 → byte % 2 ^ 8 ≡ byte
@@ -47,10 +44,7 @@ zeros-sized layout whole =
     }
 
 zero_at : (n i : ℕ) → get_or {A = ℕ} (replicate n 0) i 0 ≡ 0
-zero_at n i =
-    ⊎_elim (λ (inside : i < n). get_or-replicate {A = ℕ} n i 0 0 inside)
-    (λ (outside : n ≤ i). get_or_past {X = ℕ} (replicate n 0) i 0 (omega (arith, outside, length-replicate {A = ℕ} n 0)))
-    (cases_lt i n)
+zero_at n i = grind (arith, get_or-replicate, get_or_past, length-replicate, cases_lt)
 
 -- and 0 in its padding, as everywhere
 pub zeros-laid : (layout : List (List Owner)) → All (λ blob. length blob % 8 ≡ 0) layout → AreLaid layout (map (λ bytes. replicate bytes 0) (blob_lengths layout))
@@ -76,8 +70,7 @@ module _ (layout : List (List Owner)) (whole : All (λ blob. length blob % 8 ≡
   bits-at b p = ap (λ (w : List ℕ). get_or w p 0) (get_or-map (map (bit_held rows)) layout b []) ∙ get_or-map (bit_held rows) (get_or layout b []) p Pad
 
   held_lt : (owner : Owner) → bit_held rows owner < 2
-  held_lt Pad = omega arith
-  held_lt (Bit row leaf bit) = digit_lt (entry rows row leaf) bit
+  held_lt owner = grind (arith, digit_lt)
 
   bits-lt : (b p : ℕ) → get_or (bits b) p 0 < 2
   bits-lt b p = subst (λ (w : ℕ). w < 2) (sym (bits-at b p)) (held_lt (owner_at layout b p))
@@ -94,23 +87,14 @@ module _ (layout : List (List Owner)) (whole : All (λ blob. length blob % 8 ≡
 
   bytes-length : (b : ℕ) → 8 * length (bytes b) ≡ length (get_or layout b [])
   unfolding bytes
-  bytes-length b =
-      let whole_here = whole_blob layout whole b in
-      let there : length (bytes_of (bits b)) ≡ length (bits b) / 8 = length-map-range_with_len (byte_of_bits (bits b)) 0 (length (bits b) / 8) in
-      omega (arith, there, bits-length b)
+  bytes-length b = grind (arith, whole_blob, length-map-range_with_len, bits-length)
 
   byte-is : (b i : ℕ) → i < length (bytes b) → get_or (bytes b) i 0 ≡ number (λ k. get_or (bits b) (8 * i + k) 0) 8
   unfolding bytes
-  byte-is b i inside =
-      let there : length (bytes_of (bits b)) ≡ length (bits b) / 8 = length-map-range_with_len (byte_of_bits (bits b)) 0 (length (bits b) / 8) in
-      get_or-map-range_with_len (byte_of_bits (bits b)) 0 (length (bits b) / 8) i i 0 (omega (arith, inside, there)) (omega arith)
+  byte-is b i inside = grind (arith, length-map-range_with_len, get_or-map-range_with_len)
 
   bytes-are : (b : ℕ) → AreBytes (bytes b)
-  bytes-are b i =
-      ⊎_elim (λ (inside : i < length (bytes b)).
-      subst (λ (w : ℕ). w < 256) (sym (byte-is b i inside)) (number_lt (λ k. get_or (bits b) (8 * i + k) 0) 8 (λ k l. bits-lt b (8 * i + k))))
-      (λ (outside : length (bytes b) ≤ i). subst (λ (w : ℕ). w < 256) (sym (get_or_past (bytes b) i 0 outside)) (omega arith))
-      (cases_lt i (length (bytes b)))
+  bytes-are b i = grind (arith, byte-is, number_lt, bits-lt, get_or_past, cases_lt)
 
   bytes-bit : (b p : ℕ) → bit_of (bytes b) p ≡ bit_held rows (owner_at layout b p)
   bytes-bit b p =
@@ -119,22 +103,13 @@ module _ (layout : List (List Owner)) (whole : All (λ blob. length blob % 8 ≡
       ap (λ (w : ℕ). bit_at w (p % 8)) (byte-is b (p / 8) inside)
       ∙ bit_number (λ k. get_or (bits b) (8 * (p / 8) + k) 0) 8 (p % 8) (λ k l. bits-lt b (8 * (p / 8) + k)) (omega arith)
       ∙ ap (λ (w : ℕ). get_or (bits b) w 0) back ∙ bits-at b p)
-      (λ (outside : length (bytes b) ≤ p / 8).
-      let over : length (get_or layout b []) ≤ p = omega (arith, bytes-length b, outside) in
-      ap (λ (w : ℕ). bit_at w (p % 8)) (get_or_past (bytes b) (p / 8) 0 outside) ∙ bit_at-zero (p % 8)
-      ∙ sym (ap (bit_held rows) (get_or_past (get_or layout b []) p Pad over)))
+      (λ (outside : length (bytes b) ≤ p / 8). grind (arith, bytes-length, bit_at, get_or_past, bit_at-zero))
       (cases_lt (p / 8) (length (bytes b)))
 
   -- the bytes of an image are memory of the layout, and have its bits
   pub image-memory : IsMemory layout (map bytes_of (image layout rows))
   unfolding whole_image
-  image-memory = record {
-    sized = record {
-      count = length-map (image layout rows) bytes_of ∙ length-map layout (map (bit_held rows));
-      lengths = λ b l. ap (λ (w : List ℕ). 8 * length w) (memory-at b) ∙ bytes-length b;
-    };
-    bytes = λ b. subst AreBytes (sym (memory-at b)) (bytes-are b);
-  }
+  image-memory = grind (arith, length-map, memory-at, bytes-length, bytes-are)
 
   pub image-bits : IsImage layout rows (bit_in (map bytes_of (image layout rows)))
   unfolding whole_image
@@ -160,8 +135,7 @@ module _ (layout : List (List Owner)) (whole : All (λ blob. length blob % 8 ≡
 
 -- the image of a table holds its entries
 held_entry : (rows : List (List ℤ)) (owner : Owner) → bit_held rows owner ≡ digit_held (entry rows) owner
-held_entry rows Pad = refl
-held_entry rows (Bit row leaf bit) = refl
+held_entry rows owner = grind arith
 
 pub image-held : (layout : List (List Owner)) (rows : List (List ℤ)) (memory : List (List ℕ)) → IsImage layout rows (bit_in memory) → IsHeld layout (entry rows) memory
 image-held layout rows memory is b p = is b p ∙ held_entry rows (owner_at layout b p)

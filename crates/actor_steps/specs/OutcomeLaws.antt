@@ -5,6 +5,7 @@ use Rattle.expr_lang.specs.declared.fault.EvalFault.{EvalFault}
 use Rattle.expr_lang.specs.Terms.{Term, Number, Entry, Index, Neg, Not, Binary}
 use Rattle.expr_lang.specs.Values.{Outcome, outcome_of, after_reads, then_from, unless_decided, no_read, ranged, truth, is_true, decided, result_of}
 use Rattle.actor_steps.specs.ConfluenceLaws.{Each}
+use Rattle.std.proofs.Common.{arith}
 
 -- rows that agree on these leaves
 abbrev pub Agree : List ℤ → List ℤ → List ℕ → Type 0
@@ -46,12 +47,10 @@ module _ (row other : List ℤ) (index : List ℕ) where
   outcome_same (Index dimension) agree = refl
   outcome_same (Neg inner) agree =
       let next : ℤ → Outcome = λ x. no_read (ranged (neg_ℤ x)) in
-      then_same (outcome_of row index inner) (outcome_of other index inner) next next
-      (outcome_same inner (first_agrees (outcome_of row index inner) next agree)) agree (λ x a. refl)
+      grind (arith, then_same, first_agrees, (outcome_same inner (first_agrees (outcome_of row index inner) next agree)))
   outcome_same (Not inner) agree =
       let next : ℤ → Outcome = λ x. no_read (Ok (truth (not (is_true x)))) in
-      then_same (outcome_of row index inner) (outcome_of other index inner) next next
-      (outcome_same inner (first_agrees (outcome_of row index inner) next agree)) agree (λ x a. refl)
+      grind (arith, then_same, first_agrees, (outcome_same inner (first_agrees (outcome_of row index inner) next agree)))
   outcome_same (Binary op left right) agree =
       let then : List ℤ → ℤ → Outcome = λ r x. unless_decided (decided op x) (then_from (outcome_of r index right).answer (outcome_of r index right).reads (λ y. no_read (result_of op x y))) in
       then_same (outcome_of row index left) (outcome_of other index left) (then row) (then other)

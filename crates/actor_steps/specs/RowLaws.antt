@@ -4,8 +4,6 @@ use Rattle.std.specs.Prelude.{◌==◌, ◌||◌, if◌then◌else◌}
 use Rattle.std.specs.List.{flat_map, range_with_len}
 use Rattle.std.proofs.lemmas.Bool.{cases_lt, eqb-true, eq-eqb, or_left, or_right}
 use Rattle.std.proofs.lemmas.List.{get_or_past}
-use Rattle.expr_lang.specs.Values.{Outcome}
-use Rattle.linearize.specs.Slots.{index_at}
 use Rattle.places.specs.Layout.{Bit, owner_at}
 use Rattle.places.specs.Image.{entry, digit}
 use Rattle.places.specs.Lawful.{IsLaidOut}
@@ -16,8 +14,7 @@ use Rattle.piece_bits.specs.LowBits.{declared, kept}
 use Rattle.piece_bits.specs.Modes.{kind_at}
 use Rattle.row_updates.specs.Rows.{Setting}
 use Rattle.actor_steps.specs.ConfluenceLaws.{Each, made_all, loaded_all, made_all-append, loaded_all-append}
-use Rattle.actor_steps.specs.Micro.{Place, Job, Micro, Fetch, Registers, row_in, row_as_it_stands, value_kept_on, number_in, stored, loaded, places_of, lets_through, filter_reads, set_reads, leaves_read, is_in, read_leaves, fetches, stores_of, row_steps}
-use Rattle.actor_steps.specs.Bytes.{IsByte}
+use Rattle.actor_steps.specs.Micro.{Place, Job, Micro, Fetch, Registers, row_in, row_as_it_stands, value_kept_on, stored, loaded, places_of, lets_through, filter_reads, set_reads, leaves_read, is_in, read_leaves, fetches, stores_of, row_steps}
 use Rattle.actor_steps.specs.SweepLaws.{is_among, AreBytesOf, sweep, sweep_sized, sweep_loaded, fetch, fetch_memory, fetch_sized}
 use Rattle.actor_steps.specs.AmongLaws.{true_or_false, among-lists, among-places, in_range, each-all, each-flat, each-weaker, places-are_bytes}
 use Rattle.actor_steps.specs.OutcomeLaws.{outcome_same}
@@ -92,9 +89,7 @@ module _ (job : Job) (sound : IsSound job) where
 
   read_are_bytes : (row : ℕ) → AreBytesOf job.layout (places_read row)
   unfolding places_read
-  read_are_bytes row =
-      each-flat (IsByte job.layout) (places_of job.layout row) (read_leaves job row)
-      (each-all (λ leaf. AreBytesOf job.layout (places_of job.layout row leaf)) (read_leaves job row) (λ leaf. places-are_bytes job.layout row leaf))
+  read_are_bytes row = grind (arith, each-flat, each-all, places-are_bytes)
 
   -- the registers after the bytes of a row are loaded
   fetched : ℕ → List (List ℕ) → Registers → Registers
@@ -133,10 +128,7 @@ module _ (job : Job) (sound : IsSound job) where
       let held_in : leaf < length job.holds = omega (arith, inside, sound.paired) in
       row_in-at job sound.laid sound.paired bytes row leaf row_in' inside
       ∙ ap (declared (kind_at job.kinds leaf)) (reading-held job sound.laid sound.paired bytes row leaf (entry job.rows row leaf) row_in' held_in
-      (λ b p k owner.
-      fetched_bit row entries memory registers b p leaf k work
-      (is_in-filter (is_in (leaves_read job row)) (range_with_len 0 (length job.holds)) leaf (in_range 0 (length job.holds) leaf (omega arith) (omega (arith, held_in))) read) owner
-      ∙ ap (λ (v : ℤ). digit v k) (stands leaf)))
+      (λ b p k owner. grind (arith, fetched_bit, is_in-filter, range_with_len, in_range)))
       ∙ sound.stays row leaf row_in' inside)
       (λ (outside : length job.kinds ≤ leaf).
       get_or_past (row_in job bytes row) leaf (pos 0) (omega (arith, length-row_in job sound.laid sound.paired bytes row row_in', outside))
@@ -153,10 +145,7 @@ module _ (job : Job) (sound : IsSound job) where
       let all : Each Same (leaves_read job row) = each-in Same (leaves_read job row) (λ leaf e. sym (read_same row leaf entries memory registers row_in' work stands e)) in
       let some : Each Same (filter_reads job row job.filter ++ flat_map (set_reads job row) job.sets) =
       subst (λ (t : Bool). Each Same (filter_reads job row job.filter ++ (if t then flat_map (set_reads job row) job.sets else []))) through all in
-      each-weaker (λ (set : Setting). Each Same (set_reads job row set))
-      (λ (set : Setting). value_kept_on job read row set ≡ value_kept_on job (row_as_it_stands job row) row set) job.sets
-      (λ set agree. ap (λ (o : Outcome). job.kept set.leaf (number_in o.answer)) (sym (outcome_same (row_as_it_stands job row) read (index_at job.extents row) set.value agree)))
-      (each-lists Same (set_reads job row) job.sets (each-right Same (filter_reads job row job.filter) (flat_map (set_reads job row) job.sets) some))
+      grind (arith, each-weaker, outcome_same, each-lists, each-right, flat_map)
 
   -- the sets of a row
   sets_work : (row : ℕ) (sets : List Setting) (entries : ℕ → ℕ → ℤ) (memory : List (List ℕ)) (registers : Registers) → IsWork job entries memory registers
@@ -181,11 +170,7 @@ module _ (job : Job) (sound : IsSound job) where
       record { holds = digits; sized = bytes; loaded = subst (AreSized job.layout) (sym stands) work.loaded } in
       let more = sets_work row sets (with_value row set.leaf value entries) next behind after
       (subst (λ (l : List (List ℕ)). Each (λ (s : Setting). value_kept_on job (row_in job l row) row s ≡ value_kept_on job (row_as_it_stands job row) row s) sets) (sym stands) same.1) in
-      subst (λ (m : List (List ℕ)). IsWork job (set_entries job row (set ∷ sets) entries) m
-      (loaded_all (stored job) (loaded job) (stores_of job row set ++ flat_map (stores_of job row) sets) memory registers))
-      (sym (made_all-append (stored job) (loaded job) (stores_of job row set) (flat_map (stores_of job row) sets) memory registers))
-      (subst (λ (r : Registers). IsWork job (set_entries job row (set ∷ sets) entries) (made_all (stored job) (loaded job) (flat_map (stores_of job row) sets) next behind) r)
-      (sym (loaded_all-append (stored job) (loaded job) (stores_of job row set) (flat_map (stores_of job row) sets) memory registers)) more)
+      grind (arith, flat_map, made_all-append, loaded_all-append)
 
   -- a row
   pub row_work : (row : ℕ) (entries : ℕ → ℕ → ℤ) (memory : List (List ℕ)) (registers : Registers) → row < length job.rows → IsWork job entries memory registers

@@ -1,6 +1,6 @@
 -- Bytes that hold bits of rows of two actors, and the actor of a byte that does not.
-use Rattle.std.proofs.Common.{◌≡◌, ℕ, zero, suc, ◌<◌, Bool, true, false, List, [], ◌∷◌, length, get_or, Some, None, refl, ap, ◌∙◌, ⊎_elim, arith}
-use Rattle.std.specs.Prelude.{◌==◌, not, if◌then◌else◌}
+use Rattle.std.proofs.Common.{◌≡◌, ℕ, zero, suc, ◌<◌, Bool, true, false, List, [], ◌∷◌, length, get_or, Some, None, refl, ap, ◌∙◌, arith}
+use Rattle.std.specs.Prelude.{◌==◌, if◌then◌else◌}
 use Rattle.std.specs.List.{list_any}
 use Rattle.std.proofs.lemmas.Bool.{cases_Bool, and_parts, eqb-true}
 use Rattle.std.proofs.lemmas.List.Folds.{list_any_at, Any-from_list_any}
@@ -8,7 +8,7 @@ use Rattle.std.proofs.lemmas.List.{get_or_default}
 use Rattle.places.specs.Layout.{Owner, Pad, Bit}
 use Rattle.actor_steps.specs.ConfluenceLaws.{Each}
 use Rattle.actor_steps.specs.Micro.{is_bit_of}
-use Rattle.actor_steps.specs.Shared.{are_of_two, is_shared, first_of_all}
+use Rattle.actor_steps.specs.Shared.{is_shared, first_of_all}
 use Rattle.actor_steps.specs.AmongLaws.{true_or_false}
 
 -- the actor that has a row with a bit among these; 0 where there is none
@@ -47,14 +47,7 @@ first_bit actor (Pad ∷ owners) (suc i) row leaf k e =
 pub one_actor : (actor : ℕ → ℕ) (owners : List Owner) (i row leaf k : ℕ) → is_shared actor owners ≡ false → i < length owners → get_or owners i Pad ≡ Bit row leaf k
     → actor_in actor owners ≡ actor row
 one_actor actor owners i row leaf k apart inside e =
-    let first = first_bit actor owners i row leaf k e in
-    ⊎_elim (λ (same : (actor first.row == actor row) ≡ true). first.is ∙ eqb-true (actor first.row) (actor row) same)
-    (λ (other : (actor first.row == actor row) ≡ false).
-    let two : are_of_two actor (get_or owners first.at Pad) (get_or owners i Pad) ≡ true =
-    ap (λ (o : Owner). are_of_two actor o (get_or owners i Pad)) first.owner ∙ ap (are_of_two actor (Bit first.row first.leaf first.bit)) e ∙ ap not other in
-    let here : list_any (are_of_two actor (get_or owners first.at Pad)) owners ≡ true = list_any_at (are_of_two actor (get_or owners first.at Pad)) owners i Pad inside two in
-    true_or_false (is_shared actor owners) (list_any_at (λ one. list_any (are_of_two actor one) owners) owners first.at Pad first.inside here) apart)
-    (cases_Bool (actor first.row == actor row))
+    let first = first_bit actor owners i row leaf k e in grind (arith, eqb-true, list_any, list_any_at, true_or_false, cases_Bool)
 
 -- such a bit, where a test says so
 pub record HasBit (row leaf : ℕ) (owners : List Owner) : Type 0 where

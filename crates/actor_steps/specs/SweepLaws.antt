@@ -57,9 +57,7 @@ written_lt (Bit s c k) row leaf value old low = by_test ((s == row) && (c == lea
 
 -- a byte in which only the bits of a leaf in a row are changed is a byte, and its bits
 pub with_bits_of-lt : (layout : List (List Owner)) (place : Place) (row leaf : ℕ) (value : ℤ) (byte : ℕ) → with_bits_of layout place row leaf value byte < 256
-with_bits_of-lt layout place row leaf value byte =
-    number_lt (λ bit. written_bit (owner_at layout place.blob (8 * place.byte + bit)) row leaf value (bit_at byte bit)) 8
-    (λ j l. written_lt (owner_at layout place.blob (8 * place.byte + j)) row leaf value (bit_at byte j) (bit_at-lt byte j))
+with_bits_of-lt layout place row leaf value byte = grind (arith, number_lt, bit_at, written_lt, bit_at-lt)
 
 pub bit_at-with_bits_of : (layout : List (List Owner)) (place : Place) (row leaf : ℕ) (value : ℤ) (byte k : ℕ) → k < 8
     → bit_at (with_bits_of layout place row leaf value byte) k ≡ written_bit (owner_at layout place.blob (8 * place.byte + k)) row leaf value (bit_at byte k)
@@ -76,9 +74,6 @@ written-twice (Bit s c k) row leaf value old = by_test ((s == row) && (c == leaf
   by_test false = refl
 
 module _ (job : Job) (row : ℕ) (set : Setting) where
-  wrote : List Place → List (List ℕ) → ℤ → ℕ → ℕ → ℕ
-  wrote places memory value b p = if is_among places b (p / 8) then written_bit (owner_at job.layout b p) row set.leaf value (bit_in memory b p) else bit_in memory b p
-
   -- memory after one byte is loaded and stored
   one_byte : Place → List (List ℕ) → Registers → List (List ℕ)
   one_byte place memory registers = stored job (Store place row set) memory (loaded job (Load place) memory registers)

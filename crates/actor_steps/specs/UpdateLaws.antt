@@ -1,5 +1,5 @@
 -- What an actor makes of a row is what the plain update makes of it.
-use Rattle.std.proofs.Common.{◌≡◌, ℕ, zero, suc, ◌+◌, ◌<◌, Bool, true, false, ℤ, pos, List, [], ◌∷◌, length, get_or, set, Result, Ok, Err, Option, Some, None, refl, sym, ap, ◌∙◌, subst, ⊎_elim, arith}
+use Rattle.std.proofs.Common.{◌≡◌, ℕ, zero, suc, ◌+◌, ◌<◌, Bool, true, false, ℤ, pos, List, [], ◌∷◌, length, get_or, set, Result, Ok, Err, Option, refl, sym, ap, ◌∙◌, subst, ⊎_elim, arith}
 use Rattle.std.specs.Prelude.{◌==◌, ◌&&◌, if◌then◌else◌}
 use Rattle.std.specs.List.{range_with_len}
 use Rattle.std.proofs.lemmas.Bool.{cases_eq, and_from, and_parts, eq-eqb, eqb-true}
@@ -28,9 +28,7 @@ record IsFirst {A : Type 0} (first : Result A UpdateFault) (rest : Result (List 
 
 parted : {A : Type 0} (first : Result A UpdateFault) (rest : Result (List A) UpdateFault) (all : List A)
     → (first >>= (λ y. rest >>= (λ ys. Ok (y ∷ ys)))) ≡ Ok all → IsFirst first rest all
-parted (Ok y) (Ok ys) all e = record { y = y; ys = ys; first_is = refl; rest_is = refl; all_are = cc }
-parted (Ok y) (Err f) all e = absurd (cc)
-parted (Err f) rest all e = absurd (cc)
+parted first rest all e = grind arith
 
 -- each thing gave what stands in its place, and as many as there were
 each_at : {A B : Type 0} (step : A → Result B UpdateFault) (xs : List A) (ys : List B) (n : ℕ) (d : A) (e : B) → n < length xs → each step xs ≡ Ok ys
@@ -48,8 +46,7 @@ each_length step (x ∷ xs) ys all =
 -- the answer to a store, behind a value
 kept_first : (number leaf : ℕ) (value : ℤ) (kept : Result ℤ StoreFault) (y : ℤ) → (in_row number (store_kind leaf) kept >>= (λ k. Ok value)) ≡ Ok y
     → (value ≡ y) × (k : ℤ) × (kept ≡ Ok k)
-kept_first number leaf value (Ok k) y e = (cc, k, refl)
-kept_first number leaf value (Err fault) y e = absurd (cc)
+kept_first number leaf value kept y e = grind arith
 
 -- a right side that is no fault, its value, and the answer to a store of it
 valued : (answer : ℤ → Result ℤ StoreFault) (number leaf : ℕ) (value : Result ℤ EvalFault) (y : ℤ)
@@ -61,15 +58,13 @@ valued answer number leaf (Err fault) y e = absurd (cc)
 
 -- a filter that is no fault
 tested : (number : ℕ) (value : Result ℤ EvalFault) (test : Bool) → (in_row number eval_kind value >>= (λ v. Ok (is_true v))) ≡ Ok test → is_true (number_in value) ≡ test
-tested number (Ok v) test e = cc
-tested number (Err fault) test e = absurd (cc)
+tested number value test e = grind arith
 
 -- a row with values has as many numbers as before
 pub length-with_values : (keep : Keeping) (sets : List Setting) (values row : List ℤ) → length (with_values keep sets values row) ≡ length row
 length-with_values keep [] values row = refl
 length-with_values keep (set ∷ sets) [] row = refl
-length-with_values keep (s ∷ sets) (value ∷ values) row =
-    length-with_values keep sets values (set row s.leaf (keep s.leaf value)) ∙ length-set row s.leaf (keep s.leaf value)
+length-with_values keep (s ∷ sets) (value ∷ values) row = grind (arith, length-set, (length-with_values keep sets values (set row s.leaf (keep s.leaf value))))
 
 module _ (job : Job) (answer : StoreAnswer) (r : ℕ) where
   -- the entries after some sets are the numbers of the row after them
@@ -103,8 +98,7 @@ module _ (job : Job) (answer : StoreAnswer) (r : ℕ) where
 
   -- whether the filter lets the row through
   passed : (filter : Option (Term ℕ)) (test : Bool) → passes r (row_as_it_stands job r) (index_at job.extents r) filter ≡ Ok test → test_of job r filter ≡ test
-  passed None test e = cc
-  passed (Some filter) test e = tested r (outcome_of (row_as_it_stands job r) (index_at job.extents r) filter).answer test e
+  passed filter test e = grind (arith, tested)
 
   -- a row after the plain update
   pub row_same : (new : List ℤ) → updated_row answer job.kept job.filter job.sets r (row_as_it_stands job r) (index_at job.extents r) ≡ Ok new → (f : ℕ) → f < length (row_as_it_stands job r)
@@ -115,21 +109,12 @@ module _ (job : Job) (answer : StoreAnswer) (r : ℕ) where
 
     by_values : (found : Result (List ℤ) UpdateFault) → values ≡ found → (found >>= (λ v. Ok (with_values job.kept job.sets v (row_as_it_stands job r)))) ≡ Ok new
         → set_entries job r job.sets (entry job.rows) r f ≡ get_or new f (pos 0)
-    by_values (Ok found) e is =
-        (let same : with_values job.kept job.sets found (row_as_it_stands job r) ≡ new = cc in
-        sets_same job.sets found (row_as_it_stands job r) (entry job.rows) e (λ g low. refl) f inside ∙ ap (λ (w : List ℤ). get_or w f (pos 0)) same)
-    by_values (Err fault) e is = absurd (cc)
+    by_values found e is = grind (arith, sets_same)
 
     by_test : (found : Result Bool UpdateFault) → passes r (row_as_it_stands job r) (index_at job.extents r) job.filter ≡ found
         → (found >>= (λ t. if t then (values >>= (λ v. Ok (with_values job.kept job.sets v (row_as_it_stands job r)))) else Ok (row_as_it_stands job r))) ≡ Ok new
         → row_entries job r (entry job.rows) r f ≡ get_or new f (pos 0)
-    by_test (Ok true) e is =
-        ap (λ (t : Bool). (if t then set_entries job r job.sets (entry job.rows) else entry job.rows) r f) (passed job.filter true e) ∙ by_values values refl is
-    by_test (Ok false) e is =
-        (let same : row_as_it_stands job r ≡ new = cc in
-        ap (λ (t : Bool). (if t then set_entries job r job.sets (entry job.rows) else entry job.rows) r f) (passed job.filter false e)
-        ∙ ap (λ (w : List ℤ). get_or w f (pos 0)) same)
-    by_test (Err fault) e is = absurd (cc)
+    by_test found e is = grind (arith, passed, by_values)
 
 module _ (answer : StoreAnswer) (number : ℕ) (row : List ℤ) (index : List ℕ) (P : ℕ → ℤ → Type 0)
     (stored : (leaf : ℕ) (value left : ℤ) → leaf < length row → answer leaf value ≡ Ok left → P leaf left) where
@@ -144,12 +129,7 @@ module _ (answer : StoreAnswer) (number : ℕ) (row : List ℤ) (index : List �
       let left : value ≡ found.1 = ap (kept_or p.y) found.2 in
       subst (λ (w : List ℤ). P f (get_or (with_values (kept_by answer) (s ∷ sets) w line) f (pos 0))) (sym p.all_are)
       (sets_keep sets p.ys (set line s.leaf value) p.rest_is (length-set line s.leaf value ∙ long)
-      (λ g low. ⊎_elim (λ (here : g ≡ s.leaf).
-      subst (λ (w : ℕ). P w (get_or (set line s.leaf value) w (pos 0))) (sym here)
-      (subst (P s.leaf) (sym (get_or-set_same line s.leaf value (pos 0) (omega (arith, low, here, long)) ∙ left))
-      (stored s.leaf p.y found.1 (omega (arith, low, here)) found.2)))
-      (λ (other : g ≡ s.leaf → ⊥). subst (P g) (sym (get_or-set_other line s.leaf g value (pos 0) other)) (holds g low))
-      (cases_eq g s.leaf)) f inside)
+      (λ g low. grind (arith, get_or-set_same, get_or-set_other, cases_eq)) f inside)
 
   pub row_keeps : (filter : Option (Term ℕ)) (sets : List Setting) (new : List ℤ) → updated_row answer (kept_by answer) filter sets number row index ≡ Ok new
       → ((f : ℕ) → f < length row → P f (get_or row f (pos 0))) → (length new ≡ length row) × ((f : ℕ) → f < length row → P f (get_or new f (pos 0)))
@@ -166,11 +146,7 @@ module _ (answer : StoreAnswer) (number : ℕ) (row : List ℤ) (index : List �
     by_test : (found : Result Bool UpdateFault)
         → (found >>= (λ t. if t then (each (new_value answer number row index) sets >>= (λ v. Ok (with_values (kept_by answer) sets v row))) else Ok row)) ≡ Ok new
         → (length new ≡ length row) × ((f : ℕ) → f < length row → P f (get_or new f (pos 0)))
-    by_test (Ok true) is = by_values (each (new_value answer number row index) sets) refl is
-    by_test (Ok false) is =
-        (let same : row ≡ new = cc in
-        (ap length (sym same), λ f inside. subst (λ (w : List ℤ). P f (get_or w f (pos 0))) same (holds f inside)))
-    by_test (Err fault) is = absurd (cc)
+    by_test found is = grind (arith, by_values)
 
 -- the rows of an update, one by one
 pub updated_at : (answer : StoreAnswer) (keep : Keeping) (filter : Option (Term ℕ)) (sets : List Setting) (extents : List ℕ) (rows new : List (List ℤ)) (count r : ℕ)

@@ -1,5 +1,5 @@
 -- The rows of the plain update, stored leaf by leaf.
-use Rattle.actors.proofs.Imports.{◌≡◌, ℕ, ◌+◌, ◌-◌, ◌<◌, ◌≤◌, All, Bool, true, false, ℤ, pos, List, [], ◌∷◌, ◌++◌, length, map, get_or, set, take, drop, Option, Some, None, Result, Ok, Err, refl, sym, ap, ◌∙◌, subst, ⊎_elim, arith, append_assoc, length-append, ◌==◌, ◌||◌, if◌then◌else◌, cases_eq, eq-eqb, eqb-true, append-nil, get_or-map, get_or-set_same, get_or-set_other, get_or-append_right, get_or-drop, length-map, length-set, length-take, length-drop, take_more, take_all, drop_all, drop_more, ext_get_or, map-append, set-get_or, set-set, filter-append, Term, outcome_of, is_true, EvalFault, index_at, entry, AreSized, hold_at, table_in, with_entry, declared_table, stays_answer, IsLawful, memory_is, rows_read, UpdateFault, Assign, stores_log, if_given, row_log, update_log, Setting, setting_of, each, ◌>>=◌, in_row, eval_kind, passes, new_value, with_values, tried_row, given_row, updated_row, updated_of, IsSetOf, updated_as_tried, StoreAnswer, Keeping, Table, owners_of, leaf_types_of, leaf_type_of, leaf_count_of, table_holds, answer_of, kept_of, after_stores, Access, Write, is_write, writes_in, after_stores-append, after_log-none, logs_more, job_of, memory_of, Job, is_in, number_in, row_as_it_stands, test_of, lets_through, length-with_values, updated_at, row_held, with_held}
+use Rattle.actors.proofs.Imports.{◌≡◌, ℕ, ◌+◌, ◌<◌, ◌≤◌, All, Bool, true, false, ℤ, pos, List, [], ◌∷◌, ◌++◌, length, map, get_or, set, take, drop, Option, Some, None, Result, Ok, Err, refl, sym, ap, ◌∙◌, subst, ⊎_elim, arith, append_assoc, length-append, ◌==◌, ◌||◌, if◌then◌else◌, cases_eq, eq-eqb, eqb-true, append-nil, get_or-map, get_or-set_same, get_or-set_other, get_or-append_right, get_or-drop, length-map, length-set, length-take, length-drop, take_more, take_all, drop_all, drop_more, ext_get_or, map-append, set-get_or, set-set, filter-append, Term, outcome_of, is_true, EvalFault, index_at, entry, AreSized, table_in, with_entry, declared_table, stays_answer, IsLawful, memory_is, rows_read, UpdateFault, Assign, stores_log, if_given, update_log, Setting, setting_of, each, ◌>>=◌, in_row, eval_kind, passes, new_value, with_values, tried_row, given_row, updated_row, updated_of, IsSetOf, updated_as_tried, StoreAnswer, Keeping, Table, owners_of, leaf_types_of, leaf_count_of, table_holds, answer_of, kept_of, after_stores, Write, writes_in, after_stores-append, after_log-none, logs_more, job_of, memory_of, Job, is_in, number_in, row_as_it_stands, test_of, lets_through, length-with_values, updated_at, row_held, with_held}
 use Rattle.actors.proofs.Laws.{leaf_count}
 use Rattle.actors.proofs.Tried.{row_writes}
 
@@ -7,10 +7,6 @@ use Rattle.actors.proofs.Tried.{row_writes}
 held_push : (sets : List Setting) (one : Setting) (held row : List ℤ) → with_held (sets ++ one ∷ []) held row ≡ set (with_held sets held row) one.leaf (get_or held one.leaf (pos 0))
 held_push [] one held row = refl
 held_push (s ∷ sets) one held row = held_push sets one held (set row s.leaf (get_or held s.leaf (pos 0)))
-
-length-held : (sets : List Setting) (held row : List ℤ) → length (with_held sets held row) ≡ length row
-length-held [] held row = refl
-length-held (s ∷ sets) held row = length-held sets held (set row s.leaf (get_or held s.leaf (pos 0))) ∙ length-set row s.leaf (get_or held s.leaf (pos 0))
 
 pub one_stored : (old view new : Table) (row n : ℕ) (sets : List Assign) (one : Assign) (held : List ℤ) (value : ℤ) → n < length sets → one ≡ get_or sets n one → row < length old.rows
     → value ≡ get_or held one.leaf (pos 0)
@@ -25,13 +21,8 @@ one_stored old view new row n sets one held value low is inside value_is so_far 
     let next : take (n + 1) settings ≡ take n settings ++ setting_of one ∷ [] =
     take_more settings n (setting_of one) (omega (arith, low, length-map sets setting_of)) ∙ ap (λ (s : Setting). take n settings ++ s ∷ []) at in
     let rows : view.rows ≡ set old.rows row here = ap (λ (t : Table). t.rows) so_far in
-    let entry : with_entry view.rows row one.leaf value ≡ set old.rows row (set here one.leaf value) =
-    ap (λ (r : List (List ℤ)). with_entry r row one.leaf value) rows
-    ∙ ap (λ (r : List ℤ). set (set old.rows row here) row (set r one.leaf value)) (get_or-set_same old.rows row here [] inside)
-    ∙ set-set old.rows row here (set here one.leaf value) in
-    let row_is : set here one.leaf value ≡ with_held (take (n + 1) settings) held (get_or old.rows row []) =
-    ap (set here one.leaf) value_is ∙ sym (held_push (take n settings) (setting_of one) held (get_or old.rows row []))
-    ∙ ap (λ (ss : List Setting). with_held ss held (get_or old.rows row [])) (sym next) in
+    let entry : with_entry view.rows row one.leaf value ≡ set old.rows row (set here one.leaf value) = grind (arith, get_or-set_same, set-set) in
+    let row_is : set here one.leaf value ≡ with_held (take (n + 1) settings) held (get_or old.rows row []) = grind (arith, held_push) in
     let log : done ++ Write row one.leaf ∷ [] ≡ stores_log row (take (n + 1) settings) =
     sym (map-append (λ (s : Setting). Write row s.leaf) (take n settings) (setting_of one ∷ [])) ∙ ap (stores_log row) (sym next) in
     stored ∙ ap (λ (r : List (List ℤ)). after_stores view r (Write row one.leaf ∷ [])) (entry ∙ ap (set old.rows row) row_is)
@@ -103,34 +94,10 @@ module _ (job : Job) (answer : StoreAnswer) (keep : Keeping) (r : ℕ) (new : Li
 
     by_values : (found : Result (List ℤ) UpdateFault) → lets_through job r ≡ true → tried ≡ (found >>= (λ v. Ok (Some v)))
         → ((found >>= (λ v. Ok (Some v))) >>= (λ given. Ok (given_row keep job.sets given row))) ≡ Ok new → IsRowUpdated (lets_through job r)
-    by_values (Ok found) through tried_is is =
-        (let new_is : with_values keep job.sets found row ≡ new = cc in
-        subst IsRowUpdated (sym through) (record {
-          writes = ap (λ (t : Result (Option (List ℤ)) UpdateFault). if_given t (stores_log r job.sets)) tried_is;
-          long = ap length (sym new_is) ∙ length-with_values keep job.sets found row;
-          same = λ f out. sym (ap (λ (w : List ℤ). get_or w f (pos 0)) (sym new_is) ∙ values_other keep job.sets found row f out);
-          left = λ no. absurd (let bad : true ≡ false = no in cc);
-        }))
-    by_values (Err fault) through tried_is is = absurd (cc)
+    by_values found through tried_is is = grind (arith, length-with_values, values_other)
 
     by_test : (test : Result Bool UpdateFault) → passes r row index job.filter ≡ test → (tried >>= (λ given. Ok (given_row keep job.sets given row))) ≡ Ok new → IsRowUpdated (lets_through job r)
-    by_test (Ok true) e is =
-        (let tried_is : tried ≡ (values >>= (λ v. Ok (Some v))) = rw e refl in
-        by_values values (passed job.filter true e) tried_is (ap (λ (t : Result (Option (List ℤ)) UpdateFault). t >>= (λ given. Ok (given_row keep job.sets given row))) (sym tried_is) ∙ is))
-    by_test (Ok false) e is =
-        (let tried_is : tried ≡ Ok None = rw e refl in
-        let same : Ok row ≡ Ok new = ap (λ (t : Result (Option (List ℤ)) UpdateFault). t >>= (λ given. Ok (given_row keep job.sets given row))) (sym tried_is) ∙ is in
-        let new_is : row ≡ new = cc in
-        subst IsRowUpdated (sym (passed job.filter false e)) (record {
-          writes = ap (λ (t : Result (Option (List ℤ)) UpdateFault). if_given t (stores_log r job.sets)) tried_is;
-          long = ap length (sym new_is);
-          same = λ f out. ap (λ (w : List ℤ). get_or w f (pos 0)) new_is;
-          left = λ no. new_is;
-        }))
-    by_test (Err fault) e is =
-        (let tried_is : tried ≡ Err fault = rw e refl in
-        let bad : Err fault ≡ Ok new = ap (λ (t : Result (Option (List ℤ)) UpdateFault). t >>= (λ given. Ok (given_row keep job.sets given row))) (sym tried_is) ∙ is in
-        absurd (cc))
+    by_test test e is = grind (arith, by_values, passed)
 
 module _ (old : Table) (filter : Option (Term ℕ)) (sets : List Setting) (rows : List (List ℤ)) (plain : updated_of old filter sets (length old.rows) ≡ Ok rows) (count : length rows ≡ length old.rows) where
   abbrev job : Job
@@ -147,18 +114,10 @@ module _ (old : Table) (filter : Option (Term ℕ)) (sets : List Setting) (rows 
   none_back = record { same = sym (after_log-none old) }
 
   so_far_long : (n : ℕ) → n ≤ length old.rows → length (rows_so_far n) ≡ length old.rows
-  so_far_long n low =
-      let whole = length-append (take n rows) (drop n old.rows) in
-      let front = length-take n rows in
-      let back = length-drop n old.rows in
-      omega (arith, whole, front, back, low, count)
+  so_far_long n low = grind (arith, length-append, length-take, length-drop)
 
   here_is : (n : ℕ) → n < length old.rows → get_or (rows_so_far n) n [] ≡ get_or old.rows n []
-  here_is n low =
-      let front : length (take n rows) ≡ n = (let long = length-take n rows in omega (arith, long, low, count)) in
-      let zero_n : n - n ≡ 0 = omega arith in
-      let on : n + 0 ≡ n = omega arith in
-      get_or-append_right (take n rows) (drop n old.rows) n n [] front (omega arith) ∙ ap (λ (w : ℕ). get_or (drop n old.rows) w []) zero_n ∙ get_or-drop n old.rows 0 [] ∙ ap (λ (w : ℕ). get_or old.rows w []) on
+  here_is n low = grind (arith, length-take, get_or-append_right, get_or-drop)
 
   set_here : (n : ℕ) → n < length old.rows → set (rows_so_far n) n (get_or rows n []) ≡ rows_so_far (n + 1)
   set_here n low =
@@ -178,11 +137,7 @@ module _ (old : Table) (filter : Option (Term ℕ)) (sets : List Setting) (rows 
 
   writes_more : (n : ℕ) (through : Bool) → n < length old.rows → lets_through job n ≡ through
       → writes_in (update_log old filter sets (n + 1)) ≡ writes_in (update_log old filter sets n) ++ (if through then stores_log n sets else [])
-  writes_more n through low is =
-      let step : ℕ → List Access = λ k. row_log (answer_of old) filter sets k (get_or old.rows k []) (index_at old.extents k) in
-      ap writes_in (logs_more step n) ∙ filter-append is_write (update_log old filter sets n) (step n)
-      ∙ ap (λ (w : List Access). writes_in (update_log old filter sets n) ++ w)
-      (row_writes (answer_of old) n (get_or old.rows n []) (index_at old.extents n) filter sets ∙ (updated_here n low).writes ∙ ap (λ (t : Bool). if t then stores_log n sets else []) is)
+  writes_more n through low is = grind (arith, logs_more, filter-append, row_writes, updated_here)
 
   -- a row that the filter lets through is stored
   pub row_back : (view new : Table) (n : ℕ) (held : List ℤ) → n < length old.rows → lets_through job n ≡ true → held ≡ get_or rows n [] → AreBack view n
@@ -191,9 +146,7 @@ module _ (old : Table) (filter : Option (Term ℕ)) (sets : List Setting) (rows 
       let here = updated_here n low in
       let view_rows : view.rows ≡ rows_so_far n = ap (λ (t : Table). t.rows) so_far.same in
       let row_same : get_or view.rows n [] ≡ get_or old.rows n [] = ap (λ (r : List (List ℤ)). get_or r n []) view_rows ∙ here_is n low in
-      let made : with_held sets held (get_or view.rows n []) ≡ get_or rows n [] =
-      ap (λ (h : List ℤ). with_held sets h (get_or view.rows n [])) held_same ∙ ap (with_held sets (get_or rows n [])) row_same
-      ∙ held_is sets (get_or rows n []) (get_or old.rows n []) (sym here.long) (λ f inside out. here.same f out) in
+      let made : with_held sets held (get_or view.rows n []) ≡ get_or rows n [] = grind (arith, held_is) in
       let new_rows : set view.rows n (with_held sets held (get_or view.rows n [])) ≡ rows_so_far (n + 1) =
       ap (set view.rows n) made ∙ ap (λ (r : List (List ℤ)). set r n (get_or rows n [])) view_rows ∙ set_here n low in
       record {
@@ -215,11 +168,7 @@ module _ (old : Table) (filter : Option (Term ℕ)) (sets : List Setting) (rows 
       }
 
   pub all_back : (view : Table) (n : ℕ) → n ≡ length old.rows → AreBack view n → view ≡ after_stores old rows (writes_in (update_log old filter sets (length old.rows)))
-  all_back view n whole so_far =
-      let front : take n rows ≡ rows = take_all n rows (omega (arith, whole, count)) in
-      let back : drop n old.rows ≡ [] = drop_all n old.rows (omega (arith, whole)) in
-      so_far.same ∙ ap (λ (r : List (List ℤ)). after_stores old r (writes_in (update_log old filter sets n))) (ap (λ (w : List (List ℤ)). w ++ drop n old.rows) front ∙ ap (λ (w : List (List ℤ)). rows ++ w) back ∙ append-nil rows)
-      ∙ ap (λ (k : ℕ). after_stores old rows (writes_in (update_log old filter sets k))) whole
+  all_back view n whole so_far = grind (arith, take_all, drop_all, append-nil)
 
   -- either way one row more is that of the plain update
   pub one_back : (view new : Table) (n : ℕ) (held : List ℤ) (through : Bool) → n < length old.rows → through ≡ lets_through job n → held ≡ get_or rows n [] → AreBack view n
@@ -252,10 +201,7 @@ module _ (old : Table) (filter : Option (Term ℕ)) (sets : List Setting) (rows 
         let value_is : value ≡ entry rows n leaf = ap (λ (w : List ℤ). get_or w leaf (pos 0)) back_held in
         let leaves_same : leaf_count_of view ≡ leaf_count_of old = ap (λ (t : Table). leaf_count_of t) so_far.same in
         let stays = lawful.is_table.stays n leaf (omega (arith, inside, count)) (omega (arith, leaf_in, leaves_same, leaf_count old)) in
-        ap (λ (t : Table). answer_of t leaf value) so_far.same ∙ ap (answer_of old leaf) value_is
-        ∙ stays_answer old.mode (leaf_type_of old leaf) (hold_at (table_holds old) leaf) (entry rows n leaf) stays ∙ ap (λ (v : ℤ). Ok v) (sym value_is)
+        grind (arith, stays_answer)
 
     pub back_sets : (assigns : List Assign) → All (IsSetOf old) assigns → All (IsSetOf view) assigns
-    back_sets assigns all k d inside =
-        let one = all k d inside in
-        subst (λ (t : Table). IsSetOf t (get_or assigns k d)) (sym so_far.same) (record { inside = one.inside; over = record { leaves = one.over.leaves; rank = one.over.rank } })
+    back_sets assigns all k d inside = grind arith

@@ -1,5 +1,5 @@
 -- A run before its first micro-step.
-use Rattle.actors.proofs.Imports.{◌≡◌, ℕ, ◌≤◌, All, ℤ, List, [], length, map, get_or, Option, None, sym, ap, ◌∙◌, subst, arith, length-map, Fields, Term, indices, Shape, AreSized, table_in, declared_table, StoreMode, Assign, setting_of, updated_of, IsSetOf, Table, owners_of, leaf_types_of, table_holds, IsLawful, memory_is, rows_read, Actor, AreCuts, actor_of, job_of, memory_of, fresh_of, zeros-sized, Micro, Registers, shared_byte, Asks, Standing, table_at, actor_run_of, IsActorRun, ArePlans, Run, without_counts, started_run, actor_shown, IsUpdated}
+use Rattle.actors.proofs.Imports.{◌≡◌, ℕ, ◌≤◌, All, List, [], length, map, get_or, Option, None, sym, ap, ◌∙◌, subst, arith, length-map, Fields, Term, indices, Shape, AreSized, table_in, declared_table, StoreMode, Assign, setting_of, updated_of, IsSetOf, Table, owners_of, leaf_types_of, table_holds, IsLawful, memory_is, rows_read, AreCuts, actor_of, job_of, memory_of, fresh_of, zeros-sized, shared_byte, Asks, Standing, table_at, actor_run_of, IsActorRun, ArePlans, without_counts, started_run, IsUpdated}
 use Rattle.actors.proofs.Teams.{IsTeam}
 use Rattle.actors.proofs.Turns.{stands_alone, set_alone, lawful_alone}
 
@@ -9,34 +9,13 @@ pub table_same : (view : Table) (lawful : IsLawful view) (fields : Fields) (exte
 table_same view lawful fields extents mapping mode found fields_are extents_are mapping_is mode_is found_is =
     let rows : declared_table (leaf_types_of view) (table_in (owners_of view) (length (indices view.extents)) (table_holds view) (memory_of view)) ≡ view.rows =
     ap (λ (n : ℕ). declared_table (leaf_types_of view) (table_in (owners_of view) n (table_holds view) (memory_of view))) (sym lawful.is_table.rows) ∙ rows_read view lawful in
-    ap (λ (f : Fields). table_at f extents mapping mode found) fields_are
-    ∙ ap (λ (e : List ℕ). table_at view.fields e mapping mode found) extents_are
-    ∙ ap (λ (m : Shape). table_at view.fields view.extents m mode found) mapping_is
-    ∙ ap (λ (m : StoreMode). table_at view.fields view.extents view.mapping m found) mode_is
-    ∙ ap (table_at view.fields view.extents view.mapping view.mode) found_is
-    ∙ ap (λ (r : List (List ℤ)). record {
-      fields = view.fields;
-      extents = view.extents;
-      mapping = view.mapping;
-      mode = view.mode;
-      rows = r;
-      tally = record { counts = None; heat = None };
-    }) rows
+    grind arith
 
 module _ (view : Table) (filter : Option (Term ℕ)) (sets : List Assign) (cuts : List ℕ) (memory : List (List ℕ)) (actors : List Standing) (memory_same : memory ≡ memory_of view)
     (team : IsTeam view cuts actors) where
   -- the state is that of the definition
   begun : actor_run_of (without_counts view) filter sets cuts memory actors ≡ started_run view filter (map setting_of sets) cuts
-  begun =
-      let job = job_of view filter (map setting_of sets) in
-      let run : List (List ℕ) → List (Actor Micro Registers) → Run = λ m ones. record {
-        found = without_counts view;
-        filter = filter;
-        sets = map setting_of sets;
-        cuts = cuts;
-        state = record { memory = m; actors = ones };
-      } in
-      ap (λ (m : List (List ℕ)). run m (map (actor_shown job) actors)) memory_same ∙ ap (run (memory_of view)) (team.shown job)
+  begun = grind arith
 
   pub run_begun : (table : Table) → table ≡ without_counts view → actor_run_of table filter sets cuts memory actors ≡ started_run view filter (map setting_of sets) cuts
   run_begun table is = ap (λ (t : Table). actor_run_of t filter sets cuts memory actors) is ∙ begun

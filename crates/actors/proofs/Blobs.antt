@@ -7,9 +7,7 @@ module _ (table : Table) where
 
   -- a blob by its bits
   blob_is : (b : ℕ) (bytes : List ℕ) → b < length (owners_of table) → AreBytes bytes → bits_of bytes ≡ blob_bits_of table b → bytes ≡ get_or (memory_of table) b []
-  blob_is b bytes inside are is =
-      let there : b < length (image (owners_of table) table.rows) = omega (arith, inside, length-map (owners_of table) (map (bit_held table.rows))) in
-      sym (bytes_of_bits bytes are) ∙ ap bytes_of is ∙ sym (get_or-map bytes_of (image (owners_of table) table.rows) b [] [] there)
+  blob_is b bytes inside are is = grind (arith, length-map, bytes_of_bits, get_or-map)
 
   -- one blob more is copied
   pub one_copied : (b : ℕ) (bytes : List ℕ) (blobs : List (List ℕ)) → b < length (owners_of table) → AreBytes bytes → bits_of bytes ≡ blob_bits_of table b

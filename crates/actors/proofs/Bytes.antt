@@ -56,15 +56,10 @@ pub byte_changed : (layout : List (List Owner)) (row leaf : ℕ) (value : ℤ) (
     → IsWrite layout row leaf value (bit_in (with_byte scratch place byte)) (bit_in new) → byte_at new place < 256
     → byte_at new place ≡ with_bits_of layout place row leaf value byte
 byte_changed layout row leaf value scratch new place byte there write small =
-    let put : get_or (get_or (with_byte scratch place byte) place.blob []) place.byte 0 ≡ byte =
-    ap (λ (w : List ℕ). get_or w place.byte 0) (get_or-set_same scratch place.blob (slice_set (get_or scratch place.blob []) place.byte byte) [] there.blob_in)
-    ∙ get_or-set_same (get_or scratch place.blob []) place.byte byte 0 there.byte_in in
+    let put : get_or (get_or (with_byte scratch place byte) place.blob []) place.byte 0 ≡ byte = grind (arith, get_or-set_same, slice_set) in
     sym (byte_bits (byte_at new place) small)
     ∙ number_same (bit_at (byte_at new place)) (λ k. written_bit (owner_at layout place.blob (8 * place.byte + k)) row leaf value (bit_at byte k)) 8
-    (λ k l.
-    sym (bit_of_byte (get_or new place.blob []) (8 * place.byte + k) place.byte k refl l) ∙ write place.blob (8 * place.byte + k)
-    ∙ ap (λ (w : ℕ). written_bit (owner_at layout place.blob (8 * place.byte + k)) row leaf value w)
-    (bit_of_byte (get_or (with_byte scratch place byte) place.blob []) (8 * place.byte + k) place.byte k refl l ∙ ap (λ (w : ℕ). bit_at w k) put))
+    (λ k l. grind (arith, bit_of_byte, bit_at))
 
 -- a byte that is put changes no length
 pub put_lengths : (blobs : List (List ℕ)) (place : Place) (byte : ℕ) → HasByte blobs place → map length (with_byte blobs place byte) ≡ map length blobs

@@ -92,9 +92,7 @@ actor_done actor first run low so_far none =
 -- behind the last actor nothing is left
 pub all_done : (actor : ℕ) (first run : Run) → length first.state.actors ≤ actor → length run.state.actors ≡ length first.state.actors → finished_from actor run ≡ finished_from 0 first
     → run ≡ after_turns first (turns_left first.state)
-all_done actor first run over count left =
-    let none : drop actor run.state.actors ≡ [] = drop_all actor run.state.actors (omega (arith, over, count)) in
-    ap (λ (actors : List (Actor Micro Registers)). after_turns run (turns_from actor actors)) (sym none) ∙ left
+all_done actor first run over count left = grind (arith, drop_all)
 
 -- then the memory is that of the plain update
 pub finished_plain : (agree : SchedulesAgree) (run new : Run) → (rows : List (List ℤ)) × IsParted run.found run.filter run.sets run.cuts rows → IsReached run

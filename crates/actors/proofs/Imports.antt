@@ -16,12 +16,12 @@ pub use Rattle.std.proofs.lemmas.List.Folds.{list_any_none}
 pub use Rattle.std.proofs.lemmas.List.FromFn.{length-map-range_with_len, get_or-map-range_with_len}
 pub use Rattle.std.proofs.lemmas.Int.{to_z-of_z}
 pub use Rattle.std.proofs.lemmas.Option.{get_or_from_slice_get}
-pub use Rattle.expr_lang.specs.Terms.{Term, Number}
+pub use Rattle.expr_lang.specs.Terms.{Term}
 pub use Rattle.expr_lang.specs.Values.{outcome_of, is_true}
 pub use Rattle.expr_lang.specs.declared.fault.EvalFault.{EvalFault}
 pub use Rattle.linearize.specs.Slots.{index_at}
 pub use Rattle.places.specs.Image.{entry, bit_held, image, number, digit}
-pub use Rattle.piece_bits.specs.Tables.{AreSized, hold_at, table_in, with_entry}
+pub use Rattle.piece_bits.specs.Tables.{AreSized, table_in, with_entry}
 pub use Rattle.piece_bits.specs.Modes.{declared_table, kind_at}
 pub use Rattle.views.specs.AnswerLaws.{stays_answer}
 pub use Rattle.actor_steps.specs.Agree.{IsLawful, IsParted, SchedulesAgree}
@@ -32,7 +32,7 @@ pub use Rattle.row_updates.specs.Logs.{stores_log, if_given, row_log, update_log
 pub use Rattle.row_updates.specs.Rows.{Setting, setting_of, each, ◌>>=◌, in_row, eval_kind, passes, new_value, with_values, tried_row, given_row, updated_row, updated_of, IsSetOf, filter_term}
 pub use Rattle.row_updates.specs.TriedLaws.{updated_as_tried, log_as_tried}
 pub use Rattle.views.specs.Stores.{StoreAnswer, Keeping, without_number, kept_or}
-pub use Rattle.views.specs.Tables.{Table, owners_of, leaf_types_of, leaf_type_of, leaf_count_of, table_holds, answer_of, kept_of, after_stores, blob_bits_of, IsTable, after_log}
+pub use Rattle.views.specs.Tables.{Table, owners_of, leaf_types_of, leaf_count_of, table_holds, answer_of, kept_of, after_stores, blob_bits_of, IsTable, after_log}
 pub use Rattle.views.specs.Tallies.{Access, Write, is_write, writes_in, blob_lengths, Read, is_read, reads_in, Tally}
 pub use Rattle.views.specs.TallyLaws.{after_stores-append, after_log-none, logs_more, after_log-append}
 pub use Rattle.actor_steps.specs.Jobs.{job_of, memory_of, fresh_of, team_start}
@@ -53,7 +53,7 @@ pub use Rattle.instrument.specs.BlobTexts.{bytes_of}
 pub use Rattle.instrument.specs.BlobTextsLaws.{bytes_of_bits}
 pub use Rattle.places.specs.declared.piece.Hold.{Hold}
 pub use Rattle.places.specs.declared.piece.Piece.{Piece}
-pub use Rattle.places.specs.Lawful.{IsBitOf, IsLaidOut, IsLocated}
+pub use Rattle.places.specs.Lawful.{IsBitOf, IsLaidOut}
 pub use Rattle.places.specs.NumbersLaws.{number_same, number_bits, bit_number, digit_lt}
 pub use Rattle.places.specs.Writes.{written_bit, IsWrite}
 pub use Rattle.blobs.specs.BytesLaws.{bit_of_byte}
@@ -71,22 +71,19 @@ pub use Rattle.map_any.specs.BitRuns.{run_owner}
 pub use Rattle.actor_tasks.specs.declared.rows.NextByte.{NextByte}
 pub use Rattle.actor_tasks.specs.Marks.{IsRowOf, task_at, AreRowsOf}
 pub use Rattle.actor_tasks.specs.Places.{byte_behind, origin}
-pub use Rattle.actor_tasks.specs.Tasks.{Task, Reads, Sets, place_steps, left_in}
+pub use Rattle.actor_tasks.specs.Tasks.{Reads, Sets, place_steps, left_in}
 pub use Rattle.actor_tasks.specs.TasksLaws.{rows_left}
-pub use Rattle.expr_lang.specs.Bounds.{bound_term}
-pub use Rattle.places.specs.declared.piece.Cell.{Cell}
 pub use Rattle.map_any.specs.AnyLaws.{length-leaf_cells}
 pub use Rattle.actor_steps.specs.BytesOfLaws.{with_byte-sized}
 pub use Rattle.views.specs.declared.fault.StoreFault.{StoreFault}
 pub use Rattle.record_dim.specs.Schemas.{schema_fields}
 pub use Rattle.record_dim.specs.LeafTypes.{IsIn}
-pub use Rattle.record_dim.specs.declared.leaf_type.LeafType.{LeafType}
 pub use Rattle.record_dim.specs.declared.leaf_type.LeafType.TheVariants.{Bool as Truth}
 pub use Rattle.actors.specs.Rows.{row_held, with_held, ArePlans, HasByte, marked, IsRowPlanOf, asks_at}
 pub use Rattle.actors.specs.declared.actor.Actor.{Actor as Standing}
 pub use Rattle.actors.specs.RunFields.{table_at, actor_run_of, IsActorRun, IsReached, AreStanding}
 pub use Rattle.actors.specs.ActorRuns.{Run, without_counts, started_run, IsDone, IsPlain, after_turns, finished_from, rest_in, job_in, has_any, IsPlainMemory, IsStoredBack}
-pub use Rattle.actors.specs.Standing.{actor_shown, store_of, steps_left_at, cursor_steps, set_at, IsFresh, IsStanding, IsCursor, IsTurn, step_shown, bytes_shown, state_shown, IsStepOf}
+pub use Rattle.actors.specs.Standing.{actor_shown, store_of, cursor_steps, set_at, IsFresh, IsStanding, IsCursor, IsTurn, step_shown, bytes_shown, state_shown, IsStepOf}
 pub use Rattle.actors.specs.Updates.{IsUpdated, IsUpdatedRow}
 pub use Rattle.actors.specs.Cuts.{owner_shown, shown_in_byte}
 pub use Rattle.actors.specs.declared.step.Cursor.{Cursor}

@@ -1,26 +1,15 @@
 -- The laws of a view's table, and a row that blobs hold.
-use Rattle.actors.proofs.Imports.{◌≡◌, ℕ, ◌+◌, ◌<◌, ◌≤◌, ℤ, pos, List, [], length, map, get_or, set, None, sym, ap, ◌∙◌, subst, ⊎_elim, arith, length-map, ext_get_or, get_or-set_same, get_or-set_other, cases_eq, indices, Leaf, leaves, entry, IsLaidOut, Owner, Hold, table_in, declared, kind_at, Table, IsTable, owners_of, leaf_types_of, table_holds, leaf_count_of, IsLawful, row_in-at, length-row_in, job_of, row_held}
+use Rattle.actors.proofs.Imports.{◌≡◌, ℕ, ◌+◌, ◌<◌, ◌≤◌, ℤ, pos, List, [], length, map, get_or, set, None, sym, ◌∙◌, arith, length-map, ext_get_or, get_or-set_same, get_or-set_other, cases_eq, indices, Leaf, leaves, entry, IsLaidOut, Owner, Hold, table_in, declared, kind_at, Table, IsTable, owners_of, leaf_types_of, table_holds, leaf_count_of, IsLawful, row_in-at, length-row_in, job_of, row_held}
 
 pub lawful_from : (table : Table) (layout : List (List Owner)) (slots : ℕ) (holds : List Hold) → IsTable table → length (table_holds table) ≡ length (leaf_types_of table)
     → layout ≡ owners_of table → slots ≡ length (indices table.extents) → holds ≡ table_holds table → IsLaidOut layout slots (map (λ h. h.width) holds) → IsLawful table
-lawful_from table layout slots holds is paired layout_is slots_are holds_are laid =
-    record {
-      is_table = is;
-      laid =
-          subst (λ (l : List (List Owner)). IsLaidOut l (length table.rows) (map (λ (h : Hold). h.width) (table_holds table))) layout_is
-          (subst (λ (n : ℕ). IsLaidOut layout n (map (λ (h : Hold). h.width) (table_holds table))) (slots_are ∙ sym is.rows)
-          (subst (λ (hs : List Hold). IsLaidOut layout slots (map (λ (h : Hold). h.width) hs)) holds_are laid));
-      paired = paired;
-    }
+lawful_from table layout slots holds is paired layout_is slots_are holds_are laid = grind arith
 
 -- an entry of the raw table that blobs hold
 pub raw_here : (table : Table) (layout : List (List Owner)) (slots : ℕ) (holds : List Hold) (blobs : List (List ℕ)) (row leaf : ℕ) → length table.rows ≡ length (indices table.extents)
     → layout ≡ owners_of table → slots ≡ length (indices table.extents) → holds ≡ table_holds table
     → entry (table_in layout slots holds blobs) row leaf ≡ entry (table_in (owners_of table) (length table.rows) (table_holds table) blobs) row leaf
-raw_here table layout slots holds blobs row leaf rows layout_is slots_are holds_are =
-    ap (λ (l : List (List Owner)). entry (table_in l slots holds blobs) row leaf) layout_is
-    ∙ ap (λ (n : ℕ). entry (table_in (owners_of table) n holds blobs) row leaf) (slots_are ∙ sym rows)
-    ∙ ap (λ (hs : List Hold). entry (table_in (owners_of table) (length table.rows) hs blobs) row leaf) holds_are
+raw_here table layout slots holds blobs row leaf rows layout_is slots_are holds_are = grind arith
 
 pub leaf_count : (table : Table) → leaf_count_of table ≡ length (leaf_types_of table)
 leaf_count table = sym (length-map (leaves table.fields) (λ (one : Leaf). one.kind))
@@ -40,12 +29,7 @@ module _ (table : Table) (lawful : IsLawful table) (blobs : List (List ℕ)) (ro
   pub one_held : (values : List ℤ) (leaf : ℕ) (value : ℤ) → leaf < length values → length values ≡ leaf_count_of table
       → value ≡ declared (kind_at (leaf_types_of table) leaf) (entry (table_in (owners_of table) (length table.rows) (table_holds table) blobs) row leaf)
       → AreHeld values leaf → AreHeld (set values leaf value) (leaf + 1)
-  one_held values leaf value low long is so_far k l =
-      ⊎_elim (λ (same : k ≡ leaf).
-      ap (λ (w : ℕ). get_or (set values leaf value) w (pos 0)) same ∙ get_or-set_same values leaf value (pos 0) low ∙ is ∙ sym (held_at leaf (omega (arith, low, long)))
-      ∙ ap (λ (w : ℕ). get_or (row_held table blobs row) w (pos 0)) (sym same))
-      (λ (other : k ≡ leaf → ⊥). get_or-set_other values leaf k value (pos 0) other ∙ so_far k (let less : k < leaf = omega (arith, l, other) in less))
-      (cases_eq k leaf)
+  one_held values leaf value low long is so_far k l = grind (arith, get_or-set_same, held_at, get_or-set_other, cases_eq)
 
   pub all_held : (values : List ℤ) (leaf : ℕ) → length values ≡ leaf_count_of table → length values ≤ leaf → AreHeld values leaf → values ≡ row_held table blobs row
   all_held values leaf long over so_far =

@@ -1,5 +1,5 @@
 -- Marks of the leaves that are read.
-use Rattle.actors.proofs.Imports.{◌≡◌, ℕ, zero, suc, ◌+◌, ◌<◌, ◌≤◌, Bool, true, false, List, [], ◌∷◌, ◌++◌, length, map, get_or, set, take, fold, replicate, refl, sym, ap, ◌∙◌, subst, ⊎_elim, arith, length-append, ◌==◌, ◌||◌, if◌then◌else◌, flat_map, get_or-append, get_or-append_seam, cases_eq, cases_lt, eq-eqb, eqb-true, get_or-map, get_or-set_same, get_or-set_other, length-set, length-map, length-replicate, append-nil, take_more, flat_map-append, fold-append, Assign, Setting, setting_of, Job, is_in, filter_reads, set_reads, leaves_read, lets_through, Asks, marked, IsRowPlanOf, ArePlans}
+use Rattle.actors.proofs.Imports.{◌≡◌, ℕ, zero, suc, ◌+◌, ◌<◌, ◌≤◌, Bool, true, false, List, [], ◌∷◌, ◌++◌, length, map, get_or, set, take, fold, replicate, refl, sym, ap, ◌∙◌, subst, ⊎_elim, arith, length-append, ◌==◌, ◌||◌, flat_map, get_or-append, get_or-append_seam, cases_eq, cases_lt, eq-eqb, eqb-true, get_or-map, get_or-set_same, get_or-set_other, length-set, length-map, length-replicate, append-nil, take_more, flat_map-append, fold-append, Assign, Setting, setting_of, Job, is_in, filter_reads, set_reads, leaves_read, lets_through, Asks, marked, IsRowPlanOf, ArePlans}
 
 -- a leaf is marked where it was, or is among those that are read
 marks_are : (reads : List ℕ) (asked : List Bool) (leaf : ℕ) → leaf < length asked → get_or (fold marked asked reads) leaf false ≡ (get_or asked leaf false || is_in reads leaf)
@@ -54,27 +54,16 @@ one_set job row sets n set asked low is =
     let at : get_or settings n (setting_of set) ≡ setting_of set = get_or-map setting_of sets n set (setting_of set) low ∙ ap setting_of (sym is) in
     let next : take (n + 1) settings ≡ take n settings ++ setting_of set ∷ [] =
     take_more settings n (setting_of set) (omega (arith, low, length-map sets setting_of)) ∙ ap (λ (s : Setting). take n settings ++ s ∷ []) at in
-    more_marks asked (steps (take n settings)) (set_reads job row (setting_of set))
-    ∙ ap (λ (w : List ℕ). fold marked asked (steps (take n settings) ++ w)) (sym (append-nil (set_reads job row (setting_of set))))
-    ∙ ap (fold marked asked) (sym (flat_map-append (set_reads job row) (take n settings) (setting_of set ∷ []))) ∙ ap (λ (w : List Setting). fold marked asked (steps w)) (sym next)
+    grind (arith, more_marks, append-nil, flat_map-append)
 
 -- a row that the filter leaves out, and one that it lets through
 pub plan_left : (job : Job) (row : ℕ) (asked : List Bool) → lets_through job row ≡ false → asked ≡ fold marked (replicate 64 false) (filter_reads job row job.filter)
     → (leaf : ℕ) → leaf < 64 → get_or asked leaf false ≡ is_in (leaves_read job row) leaf
-plan_left job row asked out is =
-    let first = filter_reads job row job.filter in
-    let reads : leaves_read job row ≡ first =
-    ap (λ (t : Bool). first ++ (if t then flat_map (set_reads job row) job.sets else [])) out ∙ append-nil first in
-    marks_of (leaves_read job row) asked (is ∙ ap (fold marked (replicate 64 false)) (sym reads))
+plan_left job row asked out is = grind (arith, flat_map, append-nil, marks_of)
 
 pub plan_through : (job : Job) (row : ℕ) (before asked : List Bool) → lets_through job row ≡ true → before ≡ fold marked (replicate 64 false) (filter_reads job row job.filter)
     → asked ≡ fold marked before (flat_map (set_reads job row) job.sets) → (leaf : ℕ) → leaf < 64 → get_or asked leaf false ≡ is_in (leaves_read job row) leaf
-plan_through job row before asked through first is =
-    let reads = filter_reads job row job.filter in
-    let sets = flat_map (set_reads job row) job.sets in
-    let all : leaves_read job row ≡ reads ++ sets = ap (λ (t : Bool). reads ++ (if t then sets else [])) through in
-    marks_of (leaves_read job row) asked
-    (is ∙ ap (λ (w : List Bool). fold marked w sets) first ∙ more_marks (replicate 64 false) reads sets ∙ ap (fold marked (replicate 64 false)) (sym all))
+plan_through job row before asked through first is = grind (arith, flat_map, marks_of, more_marks)
 
 -- one plan more
 pub no_plans : (job : Job) → ArePlans job 0 []
@@ -87,8 +76,6 @@ one_plan job n plans plan so_far here = record {
       ⊎_elim (λ (less : row < n).
       subst (IsRowPlanOf job row) (sym (get_or-append plans (plan ∷ []) other row (omega (arith, less, so_far.long)))) (so_far.each row other less))
       (λ (more : n ≤ row).
-      let last : row ≡ length plans = omega (arith, more, low, so_far.long) in
-      subst (IsRowPlanOf job row) (sym (ap (λ (w : ℕ). get_or (plans ++ plan ∷ []) w other) last ∙ get_or-append_seam plans plan [] other))
-      (subst (λ (w : ℕ). IsRowPlanOf job w plan) (let back : n ≡ row = omega (arith, more, low) in back) here))
+      let last : row ≡ length plans = omega (arith, more, low, so_far.long) in grind (arith, get_or-append_seam))
       (cases_lt row n);
 }

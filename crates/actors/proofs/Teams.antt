@@ -1,5 +1,5 @@
 -- The actors of a run before their first micro-step.
-use Rattle.actors.proofs.Imports.{◌≡◌, ℕ, zero, suc, ◌+◌, ◌-◌, ◌<◌, ◌≤◌, true, false, List, [], ◌∷◌, ◌++◌, length, map, get_or, drop, refl, sym, ap, ◌∙◌, subst, ⊎_elim, arith, append_assoc, length-append, get_or-append, get_or-append_seam, cases_lt, map-append, drop_more, AreSized, Table, owners_of, leaf_count_of, IsLawful, Actor, AreCuts, parts_from, team_of, fresh_of, zeros-sized, Job, Micro, Registers, steps_of, origin, left_in, rows_left, Standing, Cursor, AreStanding, IsFresh, IsStanding, IsCursor, actor_shown, cursor_steps}
+use Rattle.actors.proofs.Imports.{◌≡◌, ℕ, zero, suc, ◌+◌, ◌-◌, ◌<◌, ◌≤◌, false, List, [], ◌∷◌, ◌++◌, length, map, get_or, drop, refl, sym, ap, ◌∙◌, subst, ⊎_elim, arith, append_assoc, length-append, get_or-append, get_or-append_seam, cases_lt, map-append, drop_more, Table, IsLawful, Actor, AreCuts, parts_from, team_of, fresh_of, zeros-sized, Job, Micro, Registers, steps_of, origin, left_in, rows_left, Standing, Cursor, AreStanding, IsFresh, IsStanding, actor_shown, cursor_steps}
 
 -- all rows are left
 all_left : (job : Job) (row n : ℕ) → left_in job row n 0 origin ≡ steps_of job row n
@@ -19,18 +19,7 @@ module _ (table : Table) (row end : ℕ) (actor : Standing) (fresh : IsFresh tab
       ∙ ap (λ (rest : List Micro). record { rest = rest; registers = fresh_of table }) (all_left job row (end - row))
 
   fresh_stands : IsLawful table → end ≤ length table.rows → (sets : ℕ) → IsStanding table sets actor
-  fresh_stands lawful inside sets = record {
-    cursor =
-        subst (IsCursor (owners_of table) (length table.rows) (leaf_count_of table) sets) (sym fresh.cursor) (record {
-          rows_in = inside;
-          done_in = omega arith;
-          half_from = λ e. absurd (let bad : false ≡ true = e in cc);
-          half_in = λ e. absurd (let bad : false ≡ true = e in cc);
-          half_row = λ e. absurd (let bad : false ≡ true = e in cc);
-          half_byte = λ e. absurd (let bad : false ≡ true = e in cc);
-        });
-    loaded = subst (AreSized (owners_of table)) (sym fresh.loaded) (zeros-sized (owners_of table) lawful.laid.whole_bytes);
-  }
+  fresh_stands lawful inside sets = grind (arith, zeros-sized)
 
 -- one actor more stands
 one_stands : (table : Table) (sets : ℕ) (actors : List Standing) (actor : Standing) → AreStanding table sets actors → IsStanding table sets actor → AreStanding table sets (actors ++ actor ∷ [])
@@ -54,9 +43,6 @@ module _ (table : Table) (cuts : List ℕ) where
     pub parts : AreCuts row (drop n cuts) (length table.rows)
     pub standing : (sets : ℕ) → AreStanding table sets actors
     pub count : length actors ≡ n
-
-  pub no_team : AreCuts 0 cuts (length table.rows) → AreTeam 0 0 []
-  no_team are = record { shown = λ job. refl; parts = are; standing = λ sets a other low. absurd (omega (arith, low)); count = refl }
 
   pub one_more : (lawful : IsLawful table) (row n cut : ℕ) (actors : List Standing) (actor : Standing) → n < length cuts → cut ≡ get_or cuts n 0 → IsFresh table row cut actor → AreTeam row n actors
       → AreTeam cut (n + 1) (actors ++ actor ∷ [])

@@ -1,10 +1,9 @@
 -- Rows that are tried one after another, as an update tries them, and what was read of them.
-use Rattle.actors.proofs.Imports.{◌≡◌, ℕ, zero, suc, ◌+◌, ◌-◌, ◌<◌, Bool, true, false, ℤ, List, [], ◌∷◌, ◌++◌, map, get_or, Option, Some, None, Result, Ok, Err, refl, sym, ap, ◌∙◌, arith, range_with_len, append-nil, filter-append, Term, outcome_of, index_at, StoreAnswer, Keeping, Table, answer_of, kept_of, after_log, Access, Read, Write, is_read, is_write, reads_in, writes_in, after_log-append, after_log-none, logs_more, UpdateFault, value_log, filter_log, if_ok, if_passes, sides_log, stores_log, tried_log, if_given, row_log, update_log, Setting, each, ◌>>=◌, passes, new_value, tried_row, given_row, updated_row, updated_of, updated_as_tried, log_as_tried, IsUpdated, IsUpdatedRow}
+use Rattle.actors.proofs.Imports.{◌≡◌, ℕ, zero, suc, ◌+◌, ◌-◌, ◌<◌, Bool, ℤ, List, [], ◌∷◌, ◌++◌, map, get_or, Option, Some, None, Result, Ok, Err, refl, sym, ap, ◌∙◌, arith, range_with_len, append-nil, filter-append, Term, outcome_of, index_at, StoreAnswer, Keeping, Table, answer_of, kept_of, after_log, Access, Read, Write, is_read, is_write, reads_in, writes_in, after_log-append, after_log-none, logs_more, UpdateFault, value_log, filter_log, if_ok, if_passes, sides_log, stores_log, tried_log, if_given, row_log, update_log, Setting, each, ◌>>=◌, passes, new_value, tried_row, given_row, updated_row, updated_of, updated_as_tried, log_as_tried, IsUpdated, IsUpdatedRow}
 
 -- one list of things after another
 unit_right : {B : Type 0} (found : Result (List B) UpdateFault) → found ≡ (found >>= (λ ys. Ok ys))
-unit_right (Ok ys) = refl
-unit_right (Err fault) = refl
+unit_right found = grind arith
 
 each-append : {A B : Type 0} (step : A → Result B UpdateFault) (xs ys : List A) → each step (xs ++ ys) ≡ (each step xs >>= (λ first. each step ys >>= (λ rest. Ok (first ++ rest))))
 each-append step [] ys = unit_right (each step ys)
@@ -27,18 +26,13 @@ range-append a (suc m) n =
 module _ {B : Type 0} (step : ℕ → Result B UpdateFault) (n : ℕ) (ys : List B) (so_far : each step (range_with_len 0 n) ≡ Ok ys) where
   -- one number more
   pub each_more : (y : B) → step n ≡ Ok y → each step (range_with_len 0 (n + 1)) ≡ Ok (ys ++ y ∷ [])
-  each_more y gives =
-      let on : 0 + n ≡ n = omega arith in
-      ap (each step) (range-append 0 n 1 ∙ ap (λ (w : ℕ). range_with_len 0 n ++ w ∷ []) on) ∙ each-append step (range_with_len 0 n) (n ∷ []) ∙ rw (so_far, gives) refl
+  each_more y gives = grind (arith, range-append, range_with_len, each-append)
 
   -- the first fault
   pub each_stop : (count : ℕ) (fault : UpdateFault) → n < count → step n ≡ Err fault → each step (range_with_len 0 count) ≡ Err fault
   each_stop count fault low stop =
       let on : 0 + n ≡ n = omega arith in
-      let whole : count ≡ n + suc (count - (n + 1)) = omega (arith, low) in
-      ap (λ (w : ℕ). each step (range_with_len 0 w)) whole
-      ∙ ap (each step) (range-append 0 n (suc (count - (n + 1))) ∙ ap (λ (w : ℕ). range_with_len 0 n ++ w ∷ range_with_len (w + 1) (count - (n + 1))) on)
-      ∙ each-append step (range_with_len 0 n) (n ∷ range_with_len (n + 1) (count - (n + 1))) ∙ rw (so_far, stop) refl
+      let whole : count ≡ n + suc (count - (n + 1)) = omega (arith, low) in grind (arith, range_with_len, range-append, each-append)
 
 -- the accesses of a row that is tried are reads
 module _ (number : ℕ) where
@@ -71,14 +65,10 @@ module _ (answer : StoreAnswer) (number : ℕ) (row : List ℤ) (index : List �
   value_reads value = let leaves = (outcome_of row index value).reads in record { reads = only_reads number leaves; writes = no_writes number leaves }
 
   both_read : (first rest : List Access) → AreReads first → AreReads rest → AreReads (first ++ rest)
-  both_read first rest one two = record {
-    reads = filter-append is_read first rest ∙ ap (λ (w : List Access). w ++ reads_in rest) one.reads ∙ ap (λ (w : List Access). first ++ w) two.reads;
-    writes = filter-append is_write first rest ∙ ap (λ (w : List Access). w ++ writes_in rest) one.writes ∙ two.writes;
-  }
+  both_read first rest one two = grind (arith, filter-append)
 
   ok_reads : {A : Type 0} (found : Result A UpdateFault) (log : List Access) → AreReads log → AreReads (if_ok found log)
-  ok_reads (Ok x) log are = are
-  ok_reads (Err fault) log are = no_log
+  ok_reads found log are = grind (arith, no_log)
 
   sides_read : (sets : List Setting) → AreReads (sides_log answer number row index sets)
   sides_read [] = no_log
@@ -86,9 +76,7 @@ module _ (answer : StoreAnswer) (number : ℕ) (row : List ℤ) (index : List �
       (ok_reads (new_value answer number row index set) (sides_log answer number row index sets) (sides_read sets))
 
   passes_read : (found : Result Bool UpdateFault) (log : List Access) → AreReads log → AreReads (if_passes found log)
-  passes_read (Ok true) log are = are
-  passes_read (Ok false) log are = no_log
-  passes_read (Err fault) log are = no_log
+  passes_read found log are = grind (arith, no_log)
 
   filter_read : (filter : Option (Term ℕ)) → AreReads (filter_log number row index filter)
   filter_read None = no_log
@@ -101,14 +89,10 @@ module _ (answer : StoreAnswer) (number : ℕ) (row : List ℤ) (index : List �
         (passes_read (passes number row index filter) (sides_log answer number row index sets) (sides_read sets))
 
     given_reads : (given : Result (Option (List ℤ)) UpdateFault) → reads_in (if_given given (stores_log number sets)) ≡ []
-    given_reads (Ok (Some values)) = no_reads number sets
-    given_reads (Ok None) = refl
-    given_reads (Err fault) = refl
+    given_reads given = grind (arith, no_reads)
 
     given_writes : (given : Result (Option (List ℤ)) UpdateFault) → writes_in (if_given given (stores_log number sets)) ≡ if_given given (stores_log number sets)
-    given_writes (Ok (Some values)) = only_writes number sets
-    given_writes (Ok None) = refl
-    given_writes (Err fault) = refl
+    given_writes given = grind (arith, only_writes)
 
     -- the reads of a row are those of trying it, and its writes those of what it is given
     pub row_reads : reads_in (row_log answer filter sets number row index) ≡ tried_log answer filter sets number row index
@@ -128,9 +112,6 @@ module _ (answer : StoreAnswer) (number : ℕ) (row : List ℤ) (index : List �
     -- a row that can be tried is updated, and one that cannot has the fault
     pub row_updated : (keep : Keeping) (tried : Option (List ℤ)) → tried_row answer filter sets number row index ≡ Ok tried → updated_row answer keep filter sets number row index ≡ Ok (given_row keep sets tried row)
     row_updated keep tried gives = updated_as_tried answer filter sets number row index keep ∙ rw gives refl
-
-    pub row_refused : (keep : Keeping) (fault : UpdateFault) → tried_row answer filter sets number row index ≡ Err fault → updated_row answer keep filter sets number row index ≡ Err fault
-    row_refused keep fault stop = updated_as_tried answer filter sets number row index keep ∙ rw stop refl
 
 module _ (old : Table) (filter : Option (Term ℕ)) (sets : List Setting) where
   -- the rows so far were tried

@@ -1,12 +1,11 @@
 -- A turn of one actor.
-use Rattle.actors.proofs.Imports.{◌≡◌, ℕ, ◌+◌, ◌<◌, ◌≤◌, Bool, true, false, All, ℤ, pos, List, [], ◌∷◌, ◌++◌, length, map, get_or, set, take, Option, None, refl, sym, ap, ◌∙◌, subst, ⊎_elim, arith, cases_eq, length-map, length-set, get_or-map, get_or-set_same, get_or-set_other, map-set, set-get_or, take_more, Term, Number, Owner, Assign, Setting, setting_of, IsSetOf, Table, owners_of, leaf_count_of, Tally, Place, IsLawful, job_of, Job, Micro, Registers, row_in, value_kept_on, with_byte, with_bits_of, stored, loaded, Actor, State, moved, idle_with, run_by, Asks, AreRowsOf, Standing, Bytes, Cursor, Step, ArePlans, asks_at, AreStanding, IsReached, after_both, Run, without_counts, started_run, after_turns, has_any, IsCursor, IsStanding, IsTurn, set_at, cursor_steps, step_shown, bytes_shown, actor_shown, state_shown}
+use Rattle.actors.proofs.Imports.{◌≡◌, ℕ, ◌+◌, ◌<◌, ◌≤◌, Bool, true, false, All, ℤ, List, [], ◌∷◌, ◌++◌, length, map, get_or, set, take, Option, None, refl, sym, ap, ◌∙◌, arith, cases_eq, length-map, length-set, get_or-map, get_or-set_same, get_or-set_other, map-set, set-get_or, take_more, Term, Owner, Assign, Setting, setting_of, IsSetOf, Table, owners_of, leaf_count_of, Tally, Place, IsLawful, job_of, Job, Micro, Registers, row_in, value_kept_on, with_byte, with_bits_of, stored, loaded, Actor, State, moved, idle_with, run_by, Asks, AreRowsOf, Standing, Bytes, Cursor, Step, ArePlans, asks_at, AreStanding, IsReached, after_both, Run, without_counts, started_run, after_turns, has_any, IsCursor, IsStanding, IsTurn, set_at, cursor_steps, step_shown, bytes_shown, actor_shown, state_shown}
 use Rattle.actors.specs.declared.step.Step.TheVariants as step
 use Rattle.actors.proofs.Laws.{leaf_count}
 
 -- the set of a number, by the assignment of the code
 set_is : (table : Table) (sets : List Assign) (n : ℕ) (set : Assign) → n < length sets → set ≡ get_or sets n set → set_at (job_of table None (map setting_of sets)) n ≡ setting_of set
-set_is table sets n set low is =
-    get_or-map setting_of sets n set (record { leaf = 0; value = Number (pos 0) }) low ∙ ap setting_of (sym is)
+set_is table sets n set low is = grind (arith, get_or-map)
 
 -- a byte that is stored with the bits of a leaf changed
 pub store_made : (table : Table) (sets : List Assign) (made : Step) (place : Place) (row n : ℕ) (set : Assign) (memory new : List (List ℕ)) (bytes : Bytes) (layout : List (List Owner)) (value : ℤ) (byte : ℕ)
@@ -20,17 +19,14 @@ store_made table sets made place row n set memory new bytes layout value byte is
     let of_set : Setting → List (List ℕ) = λ s. with_byte memory place (with_bits_of (owners_of table) place row s.leaf (value_kept_on job (row_in job bytes.loaded.items row) row s) bytes.byte) in
     new_is
     ∙ ap (with_byte memory place)
-    (byte_is ∙ ap (λ (l : List (List Owner)). with_bits_of l place row set.leaf value bytes.byte) layout_is
-    ∙ ap (λ (v : ℤ). with_bits_of (owners_of table) place row set.leaf v bytes.byte) value_is)
+    (grind arith)
     ∙ ap of_set (sym (set_is table sets n set low set_at_is))
     ∙ ap (λ (s : Step). stored job (step_shown job s) memory (bytes_shown bytes)) (sym is)
 
 -- the same cursor over the same rows and leaves
 pub cursor_over : (cursor : Cursor) (sets : ℕ) (layout layout' : List (List Owner)) (rows rows' leaves leaves' : ℕ) → layout ≡ layout' → rows ≡ rows' → leaves ≡ leaves'
     → IsCursor layout rows leaves sets cursor → IsCursor layout' rows' leaves' sets cursor
-cursor_over cursor sets layout layout' rows rows' leaves leaves' layout_is rows_are leaves_are is =
-    subst (λ (l : List (List Owner)). IsCursor l rows' leaves' sets cursor) layout_is
-    (subst (λ (n : ℕ). IsCursor layout n leaves' sets cursor) rows_are (subst (λ (n : ℕ). IsCursor layout rows n sets cursor) leaves_are is))
+cursor_over cursor sets layout layout' rows rows' leaves leaves' layout_is rows_are leaves_are is = grind arith
 
 -- the leaves that are set are leaves of the table
 pub targets_inside : (table : Table) (sets : List Assign) (targets : List ℕ) (leaves : ℕ) → targets ≡ map (λ set. set.leaf) sets → All (IsSetOf table) sets → leaf_count_of table ≡ leaves
@@ -71,8 +67,7 @@ pub one_target : (sets : List Assign) (n : ℕ) (set : Assign) (targets : List �
 one_target sets n set targets low is so_far =
     let leaf_at : Assign → ℕ = λ one. one.leaf in
     let at : get_or (map leaf_at sets) n 0 ≡ set.leaf = get_or-map leaf_at sets n set 0 low ∙ ap leaf_at (sym is) in
-    ap (λ (w : List ℕ). w ++ set.leaf ∷ []) so_far ∙ ap (λ (leaf : ℕ). take n (map leaf_at sets) ++ leaf ∷ []) (sym at)
-    ∙ sym (take_more (map leaf_at sets) n 0 (omega (arith, low, length-map sets leaf_at)))
+    grind (arith, take_more, length-map)
 
 module _ (job : Job) (fresh : Registers) (memory after : List (List ℕ)) (actors : List Standing) (a : ℕ) (old new : Standing) (low : a < length actors) (is : old ≡ get_or actors a old) where
   here : get_or (map (actor_shown job) actors) a (idle_with fresh) ≡ actor_shown job old
@@ -91,9 +86,7 @@ module _ (job : Job) (fresh : Registers) (memory after : List (List ℕ)) (actor
   before = state_shown job memory actors
 
   pub not_made : IsTurn job memory old false after new → state_shown job after (set actors a new) ≡ before
-  not_made turn =
-      ap (λ (m : List (List ℕ)). record { memory = m; actors = map (actor_shown job) (set actors a new) }) turn.1
-      ∙ ap (λ (ones : List (Actor Micro Registers)). record { memory = memory; actors = ones }) (same_actors turn.2)
+  not_made turn = grind (arith, same_actors)
 
   -- a turn is one of the definition
   pub turned_state : (made : Bool) → IsTurn job memory old made after new → run_by job fresh (a ∷ []) before ≡ state_shown job after (set actors a new)
@@ -128,20 +121,11 @@ pub set_alone : (table : Table) (set : Assign) → IsSetOf table set → IsSetOf
 set_alone table set is = record { inside = is.inside; over = record { leaves = is.over.leaves; rank = is.over.rank } }
 
 pub lawful_alone : (table : Table) → IsLawful table → IsLawful (without_counts table)
-lawful_alone table is = record {
-  is_table = record { rows = is.is_table.rows; shape = is.is_table.shape; stays = is.is_table.stays; some = is.is_table.some };
-  laid = is.laid;
-  paired = is.paired;
-}
+lawful_alone table is = grind arith
 
 -- another actor stands among others
 pub stands_among : (table : Table) (sets : ℕ) (actors : List Standing) (a : ℕ) (new : Standing) → AreStanding table sets actors → IsStanding table sets new → AreStanding table sets (set actors a new)
-stands_among table sets actors a new are is b other low =
-    let inside : b < length actors = omega (arith, low, length-set actors a new) in
-    ⊎_elim (λ (same : b ≡ a).
-    subst (IsStanding table sets) (sym (ap (λ (w : ℕ). get_or (set actors a new) w other) same ∙ get_or-set_same actors a new other (omega (arith, inside, same)))) is)
-    (λ (apart : b ≡ a → ⊥). subst (IsStanding table sets) (sym (get_or-set_other actors a b new other apart)) (are b other inside))
-    (cases_eq b a)
+stands_among table sets actors a new are is b other low = grind (arith, length-set, get_or-set_same, get_or-set_other, cases_eq)
 
 -- one turn more is reached as well
 pub reached_more : (run : Run) (a : ℕ) (new : Run) → IsReached run → new ≡ after_turns run (a ∷ []) → IsReached new

@@ -1,15 +1,10 @@
 -- Runs after turns.
-use Rattle.std.proofs.Common.{◌≡◌, ℕ, ◌+◌, List, ◌++◌, length, Option, refl, sym, ap}
-use Rattle.expr_lang.specs.Terms.{Term}
-use Rattle.row_updates.specs.Rows.{Setting}
-use Rattle.views.specs.Tables.{Table, after_log}
-use Rattle.views.specs.Tallies.{Access}
+use Rattle.std.proofs.Common.{◌≡◌, ℕ, List, ◌++◌, sym, ap}
 use Rattle.actor_steps.specs.Confluence.{State}
-use Rattle.actor_steps.specs.Jobs.{fresh_of, written_by}
+use Rattle.actor_steps.specs.Jobs.{fresh_of}
 use Rattle.actor_steps.specs.Micro.{Micro, Registers}
 use Rattle.actor_steps.specs.ScheduleLaws.{run_by-append}
-use Rattle.actor_steps.specs.Schedules.{schedule_of}
-use Rattle.actors.specs.ActorRuns.{Run, without_counts, started_run, after_turns, job_in}
+use Rattle.actors.specs.ActorRuns.{Run, after_turns, job_in}
 
 -- one schedule behind another
 pub after_both : (run : Run) (first rest : List ℕ) → after_turns (after_turns run first) rest ≡ after_turns run (first ++ rest)

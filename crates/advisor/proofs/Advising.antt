@@ -1,37 +1,24 @@
 -- The advice by candidates that are at hand.
-use Rattle.advisor.proofs.Imports.{◌≡◌, ℕ, ◌≤◌, Bool, true, false, List, All, length, map, take, Ok, Err, Some, None, sym, ap, ◌∙◌, arith, length-append, filter, is_ok, take-append-le, take_all, length-map, Term, term_of, uncounted, Table, AdviseFault, Candidate, Pass, Advised, judge, cost_of, candidates, split_terms, advised, unless, advice, first_judged_fault, IsPriced, HasKnownHolds, terms_in, suits}
+use Rattle.advisor.proofs.Imports.{◌≡◌, ℕ, ◌≤◌, Bool, List, All, length, map, take, Ok, Err, Some, None, arith, length-append, is_ok, take-append-le, take_all, length-map, Term, term_of, uncounted, Table, AdviseFault, Candidate, Pass, Advised, judge, cost_of, candidates, advised, advice, first_judged_fault, IsPriced, HasKnownHolds, terms_in, suits}
 
 -- the listed candidates come first
 pub listed_first : (table : Table) (granule : ℕ) (listed : List Term) (splits : Bool) → take (length listed) (candidates table granule listed splits) ≡ listed
-listed_first table granule listed false = take_all (length listed) listed (omega arith)
-listed_first table granule listed true =
-    let more = filter (λ term. is_ok (judge table granule term)) (split_terms table.fields listed) in
-    take-append-le (length listed) listed more (omega arith) ∙ take_all (length listed) listed (omega arith)
+listed_first table granule listed splits = grind (arith, take_all, is_ok, take-append-le)
 
 pub listed_within : (table : Table) (granule : ℕ) (listed : List Term) (splits : Bool) → length listed ≤ length (candidates table granule listed splits)
-listed_within table granule listed false = omega arith
-listed_within table granule listed true = omega (arith, length-append listed (filter (λ term. is_ok (judge table granule term)) (split_terms table.fields listed)))
+listed_within table granule listed splits = grind (arith, length-append, is_ok)
 
 -- an advice, and a fault
 module _ (table : Table) (granule : ℕ) (passes : List Pass) (terms : List Term) (splits : Bool) where
   pub advice_faulty : (fault : AdviseFault) → first_judged_fault (judge table granule) 0 (map uncounted terms) ≡ Some fault → advice table granule passes terms splits ≡ Err fault
   unfolding advice
-  advice_faulty fault bad =
-      let listed = map uncounted terms in
-      ap (λ found. unless found (advised (suits table) (cost_of table granule passes) listed (candidates table granule listed splits))) bad
+  advice_faulty fault bad = grind arith
 
   pub advice_given : first_judged_fault (judge table granule) 0 (map uncounted terms) ≡ None → (all : List Term) → all ≡ candidates table granule (map uncounted terms) splits
       → (count : ℕ) → count ≡ length (map uncounted terms) → (given : Advised) → given ≡ advised (suits table) (cost_of table granule passes) (take count all) all
       → advice table granule passes terms splits ≡ Ok given
   unfolding advice
-  advice_given good all is count listed_count given so =
-      let listed = map uncounted terms in
-      let price = cost_of table granule passes in
-      let first : take count all ≡ listed =
-      ap (λ (n : ℕ). take n all) listed_count ∙ ap (λ (ts : List Term). take (length listed) ts) is ∙ listed_first table granule listed splits in
-      let same : given ≡ advised (suits table) price listed (candidates table granule listed splits) =
-      so ∙ ap (λ (ts : List Term). advised (suits table) price ts all) first ∙ ap (λ (ts : List Term). advised (suits table) price listed ts) is in
-      ap (λ found. unless found (advised (suits table) price listed (candidates table granule listed splits))) good ∙ ap (λ (a : Advised). Ok a) (sym same)
+  advice_given good all is count listed_count given so = grind (arith, listed_first)
 
 -- what is known of priced candidates
 pub costs_known : (table : Table) (granule : ℕ) (passes : List Pass) (pool : List Candidate) → All (IsPriced table granule passes) pool
@@ -43,5 +30,4 @@ holds_known table granule passes pool priced = λ k d l. (let is = priced k d l 
 
 -- the listed are no more than all
 pub pool_holds : (table : Table) (granule : ℕ) (listed : List Term) (splits : Bool) (pool : List Candidate) → terms_in pool ≡ candidates table granule listed splits → length listed ≤ length pool
-pool_holds table granule listed splits pool is =
-    omega (arith, listed_within table granule listed splits, ap (λ (ts : List Term). length ts) is, length-map pool (λ (c : Candidate). term_of c.expr))
+pool_holds table granule listed splits pool is = grind (arith, listed_within, length-map)

@@ -7,24 +7,20 @@ same_images f g [] same = refl
 same_images f g (x ∷ xs) same = rw (same 0 x (omega arith), same_images f g xs (λ k d l. same (suc k) d (omega (arith, l)))) refl
 
 dearer : (mark : Bool) (a b : ℕ) → mark ≡ true → b < a → (not mark || nat_le a b) ≡ false
-dearer true a b is lt = lt-leb a b lt
-dearer false a b is lt = absurd (true≢false (sym is))
+dearer mark a b is lt = grind (arith, lt-leb, true≢false)
 
 undercut : (mark : Bool) (test : Term → Bool) (all : List Term) → (mark ≡ true → list_all test all ≡ false) → (mark && list_all test all) ≡ false
-undercut false test all fails = refl
-undercut true test all fails = fails refl
+undercut mark test all fails = grind arith
 
 -- what is told of the best
 abbrev told : ℕ → Term → Option (ℕ × Term)
 told cost term = Some (cost, term)
 
 then_if : (mark : Bool) (cost : ℕ) → then_some mark cost ≡ (if mark then Some cost else None)
-then_if true cost = refl
-then_if false cost = refl
+then_if mark cost = grind arith
 
 by_mark : (mark : Bool) (a b : ℕ) → (mark ≡ true → a ≤ b) → (not mark || nat_le a b) ≡ true
-by_mark false a b le = refl
-by_mark true a b le = le-leb a b (le refl)
+by_mark mark a b le = grind (arith, le-leb)
 
 -- marks and costs of candidates are those of their expressions
 module _ (suit : Term → Bool) (price : Term → ℕ) (pool : List Candidate) (marks : List Bool) (so : AreMarked suit price pool marks) where
@@ -39,9 +35,7 @@ module _ (suit : Term → Bool) (price : Term → ℕ) (pool : List Candidate) (
   prices_are = same_images (λ c. c.cost) (λ c. price (term_of c.expr)) pool so.costs_are ∙ sym (map-map price (λ (c : Candidate). term_of c.expr) pool)
 
   pub price_at : (k : ℕ) → k < length pool → cost_at (costs_in pool) k ≡ price (term_at (terms_in pool) k)
-  price_at k l =
-      let inside : k < length (terms_in pool) = omega (arith, l, length-map pool (λ (c : Candidate). term_of c.expr)) in
-      ap (λ (cs : List ℕ). get_or cs k 0) prices_are ∙ get_or-map price (terms_in pool) k (Named []) 0 inside
+  price_at k l = grind (arith, length-map, prices_are, get_or-map)
 
   -- the cheapest one is best
   module _ (at : ℕ) (it : IsLeast (costs_in pool) marks (length pool) at) where
@@ -53,9 +47,7 @@ module _ (suit : Term → Bool) (price : Term → ℕ) (pool : List Candidate) (
         (λ suits. omega (arith, sym (price_at at it.inside), price_at k small, it.least k small (suits_at k small ∙ suits)))
 
     pub best_here : is_best suit price (terms_in pool) (term_at (terms_in pool) at) ≡ true
-    best_here =
-        and_from (suit (term_at (terms_in pool) at)) _ (sym (suits_at at it.inside) ∙ it.marked)
-        (list_all-from_AllPass (λ other. not (suit other) || nat_le (price (term_at (terms_in pool) at)) (price other)) (terms_in pool) bears_each)
+    best_here = grind (arith, and_from, suits_at, list_all-from_AllPass, nat_le, bears_each)
 
     pub none_before : (k : ℕ) → k < at → is_best suit price (terms_in pool) (term_at (terms_in pool) k) ≡ false
     none_before k l =
@@ -66,11 +58,7 @@ module _ (suit : Term → Bool) (price : Term → ℕ) (pool : List Candidate) (
         (omega (arith, price_at at it.inside, price_at k (omega (arith, l, it.inside)), it.first k l (suits_at k (omega (arith, l, it.inside)) ∙ suits)))))
 
     pub found : find (is_best suit price (terms_in pool)) (terms_in pool) ≡ Some (term_at (terms_in pool) at)
-    found =
-        let inside : at < length (terms_in pool) = omega (arith, it.inside, length-map pool (λ (c : Candidate). term_of c.expr)) in
-        let test = is_best suit price (terms_in pool) in
-        let place : position_or_len test (terms_in pool) ≡ at = position_or_len_is test (terms_in pool) at (Named []) (omega (arith, inside)) none_before (λ l. best_here) in
-        find_at test (terms_in pool) ∙ ap (λ (k : ℕ). slice_get (terms_in pool) k) place ∙ slice_get-get_or (terms_in pool) at (Named []) inside
+    found = grind (arith, length-map, position_or_len, position_or_len_is, none_before, best_here, find_at, slice_get, slice_get-get_or)
 
   -- where none is marked there is no best
   pub none_found : IsCheapest (costs_in pool) marks (length pool) None → find (is_best suit price (terms_in pool)) (terms_in pool) ≡ None
@@ -86,21 +74,12 @@ module _ (suit : Term → Bool) (price : Term → ℕ) (pool : List Candidate) (
   -- what is listed of a candidate
   pub shown : (at : ℕ) (d : Candidate) → at < length pool
       → then_some (is_marked marks at) (get_or pool at d).cost ≡ (if suit (term_at (terms_in pool) at) then Some (price (term_at (terms_in pool) at)) else None)
-  shown at d l =
-      let cost : (get_or pool at d).cost ≡ price (term_at (terms_in pool) at) = sym (get_or-map (λ (c : Candidate). c.cost) pool at d 0 l) ∙ price_at at l in
-      ap (λ (mark : Bool). then_some mark (get_or pool at d).cost) (suits_at at l)
-      ∙ ap (λ (cost : ℕ). then_some (suit (term_at (terms_in pool) at)) cost) cost
-      ∙ then_if (suit (term_at (terms_in pool) at)) (price (term_at (terms_in pool) at))
+  shown at d l = grind (arith, get_or-map, price_at, then_some, suits_at, then_if)
 
   -- what is told of the chosen one
   pub chosen_is : (at : ℕ) (candidate : Candidate) (cost : ℕ) (term : Term) → at < length pool → candidate ≡ get_or pool at candidate → cost ≡ candidate.cost → term ≡ term_of candidate.expr
       → told cost term ≡ told (price (term_at (terms_in pool) at)) (term_at (terms_in pool) at)
-  chosen_is at candidate cost term l is one two =
-      let costs : cost ≡ price (term_at (terms_in pool) at) =
-      one ∙ ap (λ (c : Candidate). c.cost) is ∙ sym (get_or-map (λ (c : Candidate). c.cost) pool at candidate 0 l) ∙ price_at at l in
-      let terms : term ≡ term_at (terms_in pool) at =
-      two ∙ ap (λ (c : Candidate). term_of c.expr) is ∙ sym (get_or-map (λ (c : Candidate). term_of c.expr) pool at candidate (Named []) l) in
-      ap (λ (n : ℕ). told n term) costs ∙ ap (λ (t : Term). told (price (term_at (terms_in pool) at)) t) terms
+  chosen_is at candidate cost term l is one two = grind (arith, get_or-map, price_at)
 
 -- an advice
 abbrev pub given : List (Option ℕ) → Option (ℕ × Term) → Advised

@@ -1,5 +1,5 @@
 -- Cells that are chosen one after another.
-use Rattle.advisor.proofs.Imports.{◌≡◌, ℕ, ◌+◌, ◌<◌, Bool, true, false, List, [], ◌∷◌, ◌++◌, All, get_or, refl, sym, ap, ◌∙◌, ⊎_elim, arith, ◌||◌, list_any, ne_eqb, eq-eqb, cases_eq, All-push, list_any-append, list_any_none}
+use Rattle.advisor.proofs.Imports.{◌≡◌, ℕ, ◌+◌, ◌<◌, Bool, true, false, List, [], ◌∷◌, ◌++◌, All, get_or, arith, ◌||◌, list_any, ne_eqb, eq-eqb, cases_eq, All-push, list_any-append, list_any_none}
 use Rattle.std.proofs.Common.{◌==◌}
 
 -- of the first so many cells those are in the list that are wanted
@@ -14,33 +14,16 @@ absent : (count : ℕ) (chosen : List ℕ) → All (λ cell. cell < count) chose
 absent count chosen inside = list_any_none (λ other. other == count) chosen (λ k d l. ne_eqb (get_or chosen k d) count (λ e. omega (arith, e, inside k d l)))
 
 pub one_left : (wanted : ℕ → Bool) (count : ℕ) (chosen : List ℕ) → AreChosen wanted count chosen → wanted count ≡ false → AreChosen wanted (count + 1) chosen
-one_left wanted count chosen so lacks = record {
-  inside = wider count chosen so.inside;
-  right = λ cell l. ⊎_elim
-      (λ (same : cell ≡ count). ap (λ c. list_any (λ other. other == c) chosen) same ∙ absent count chosen so.inside ∙ sym lacks ∙ ap wanted (sym same))
-      (λ (other : cell ≡ count → ⊥). so.right cell (omega (arith, l, other)))
-      (cases_eq cell count);
-}
+one_left wanted count chosen so lacks = grind (arith, wider, list_any, absent, cases_eq)
 
 or_true : (b : Bool) → (b || (true || false)) ≡ true
-or_true true = refl
-or_true false = refl
+or_true b = grind arith
 
 or_no : (b : Bool) → (b || (false || false)) ≡ b
-or_no true = refl
-or_no false = refl
+or_no b = grind arith
 
 pub one_taken : (wanted : ℕ → Bool) (count : ℕ) (chosen : List ℕ) → AreChosen wanted count chosen → wanted count ≡ true → AreChosen wanted (count + 1) (chosen ++ count ∷ [])
 one_taken wanted count chosen so wants = record {
   inside = All-push (λ cell. cell < count + 1) chosen count (wider count chosen so.inside) (omega arith);
-  right = λ cell l.
-      (let parts = list_any-append (λ other. other == cell) chosen (count ∷ []) in
-      ⊎_elim
-      (λ (same : cell ≡ count).
-      parts ∙ ap (λ b. list_any (λ other. other == cell) chosen || (b || false)) (eq-eqb count cell (sym same)) ∙ or_true (list_any (λ other. other == cell) chosen)
-      ∙ sym wants ∙ ap wanted (sym same))
-      (λ (apart : cell ≡ count → ⊥).
-      parts ∙ ap (λ b. list_any (λ other. other == cell) chosen || (b || false)) (ne_eqb count cell (λ e. apart (sym e))) ∙ or_no (list_any (λ other. other == cell) chosen)
-      ∙ so.right cell (omega (arith, l, apart)))
-      (cases_eq cell count));
+  right = λ cell l. grind (arith, list_any-append, list_any, eq-eqb, or_true, ne_eqb, or_no, cases_eq);
 }

@@ -20,12 +20,7 @@ module _ (rank place slot : ℕ) where
       let digit : ℕ = bit_at slot (n * rank + place) in
       ap (λ (m : ℕ). bit_at m b) (one_digit n)
       ∙ ⊎_elim (λ (less : b < n). bit_at_cat_low digit n (gathered rank place slot n) b less ∙ gathered_digit n b less)
-      (λ (more : n ≤ b).
-      (let same : n ≡ b = omega (arith, low, more) in
-      let none : b - n ≡ 0 = omega (arith, same) in
-      let small : digit % 2 ≡ digit = omega (arith, bit_at-lt slot (n * rank + place)) in
-      bit_at_cat_high digit n (gathered rank place slot n) b (gathered_small n) more ∙ ap (bit_at digit) none ∙ bit_at_lowest digit ∙ small
-      ∙ ap (λ (m : ℕ). bit_at slot (m * rank + place)) same))
+      (λ (more : n ≤ b). grind (arith, bit_at-lt, bit_at_cat_high, gathered_small, bit_at, bit_at_lowest))
       (cases_lt b n)
 
 -- a digit more, by a shift and a mask
@@ -37,32 +32,17 @@ module _ (rank place slot digit number : ℕ) (few : digit < 24) (so_far : numbe
   shifted = bit_and (slot / 2 ^ (digit * rank + place)) 1 * 2 ^ digit % 2 ^ 64
 
   shifted_is : shifted ≡ bit_at slot (digit * rank + place) * 2 ^ digit
-  shifted_is =
-      let one : bit_and (slot / 2 ^ (digit * rank + place)) 1 ≡ bit_at slot (digit * rank + place) = shr_and_one slot (digit * rank + place) in
-      let low : bit_at slot (digit * rank + place) ≤ 1 = omega (arith, bit_at-lt slot (digit * rank + place)) in
-      let below : digit ≤ 24 = omega (arith, few) in
-      let room : 2 ^ digit ≤ 2 ^ 24 = pow-le-pow_right {n = 2} (lit< tt) below in
-      ap (λ (n : ℕ). n * 2 ^ digit % 2 ^ 64) one ∙ mod-eq_of_lt (omega (arith, room, mul-le (bit_at slot (digit * rank + place)) (2 ^ digit) 1 (2 ^ digit) low (omega arith)))
+  shifted_is = grind (arith, bit_and, bit_at, shr_and_one, bit_at-lt, pow-le-pow_right, lit<, mod-eq_of_lt, mul-le)
 
   pub digit_more : number + shifted ≡ gathered rank place slot (digit + 1)
-  digit_more =
-      let next : suc digit ≡ digit + 1 = omega arith in
-      ap (λ (n : ℕ). n + shifted) so_far ∙ ap (λ (n : ℕ). gathered rank place slot digit + n) shifted_is ∙ ap (gathered rank place slot) next
+  digit_more = grind (arith, shifted_is)
 
   pub digit_fits : number + shifted < 2 ^ 24
-  digit_fits =
-      let below : digit + 1 ≤ 24 = omega (arith, few) in
-      let room : 2 ^ (digit + 1) ≤ 2 ^ 24 = pow-le-pow_right {n = 2} (lit< tt) below in
-      omega (arith, digit_more, gathered_small rank place slot (digit + 1), room)
+  digit_fits = grind (arith, pow-le-pow_right, lit<, digit_more, gathered_small)
 
 -- so many digits of each component are all
 all_digits : (rank : ℕ) → 0 < rank → rank ≤ 4 → 24 / rank * rank ≡ 24
-all_digits zero some few = absurd (omega (arith, some))
-all_digits (suc zero) some few = refl
-all_digits (suc (suc zero)) some few = refl
-all_digits (suc (suc (suc zero))) some few = refl
-all_digits (suc (suc (suc (suc zero)))) some few = refl
-all_digits (suc (suc (suc (suc (suc rank))))) some few = absurd (omega (arith, few))
+all_digits rank some few = grind arith
 
 module _ (rank : ℕ) (some : 0 < rank) (few : rank ≤ 4) where
   pub component_digit : (slot d b : ℕ) → slot < 2 ^ 24 → bit_at (component rank slot d) b ≡ bit_at slot (b * rank + (rank - 1 - d))
@@ -91,25 +71,14 @@ module _ (rank : ℕ) (some : 0 < rank) (few : rank ≤ 4) where
   -- has that slot
   pub slot_back : (slot : ℕ) → slot < 2 ^ 24 → interleaved (index_of slot) ≡ slot
   slot_back slot narrow = same_from_bits (interleaved (index_of slot)) slot (λ k.
-      (let d : ℕ = rank - 1 - k % rank in
-      let turn : k % rank < rank = mod_below k rank some in
-      let place : rank - 1 - d ≡ k % rank = omega (arith, turn) in
-      let parts : k / rank * rank + k % rank ≡ k = div-add-mod' k rank in
-      bit_at-interleaved (index_of slot) k
-      ∙ ap (λ (n : ℕ). bit_at (get_or (index_of slot) (n - 1 - k % n) 0) (k / n)) (long slot)
-      ∙ ap (λ (n : ℕ). bit_at n (k / rank)) (component_in slot d (omega (arith, some)))
-      ∙ component_digit slot d (k / rank) narrow
-      ∙ ap (bit_at slot) (ap (λ (n : ℕ). k / rank * rank + n) place ∙ parts)))
+      grind (arith, mod_below, div-add-mod', bit_at-interleaved, bit_at, long, component_in, component_digit))
 
   -- and an index inside is that of its slot
   pub component_back : (extents index : List ℕ) → IsInside extents index → length extents ≡ rank → interleaved index < 2 ^ 24 → (d : ℕ) → d < rank
       → component rank (interleaved index) d ≡ get_or index d 0
   component_back extents index inside ranked narrow d low =
       let same : length index ≡ rank = length_all_zip (λ (x y : ℕ). x < y) index extents inside ∙ ranked in
-      same_from_bits (component rank (interleaved index) d) (get_or index d 0) (λ b.
-      component_digit (interleaved index) d b narrow
-      ∙ ap (λ (n : ℕ). bit_at (interleaved index) (b * n + (n - 1 - d))) (sym same)
-      ∙ bit_at-component index d b (omega (arith, low, same)))
+      same_from_bits (component rank (interleaved index) d) (get_or index d 0) (λ b. grind (arith, component_digit, bit_at, bit_at-component))
 
 -- ---- cubes
 
@@ -128,9 +97,7 @@ low_digit n k i even low =
 same_digit : (n more k i : ℕ) → n % 2 ^ k ≡ 0 → more < 2 ^ k → k ≤ i → bit_at (n + more) i ≡ bit_at n i
 same_digit n more k i even small high =
     let whole : n ≡ n / 2 ^ k * 2 ^ k + 0 = omega (arith, shr_split n k, even) in
-    let sum : n + more ≡ n / 2 ^ k * 2 ^ k + more = omega (arith, whole) in
-    ap (λ (m : ℕ). bit_at m i) sum ∙ bit_at_cat_high (n / 2 ^ k) k more i small high
-    ∙ sym (ap (λ (m : ℕ). bit_at m i) whole ∙ bit_at_cat_high (n / 2 ^ k) k 0 i (pow_pos k) high)
+    let sum : n + more ≡ n / 2 ^ k * 2 ^ k + more = omega (arith, whole) in grind (arith, bit_at, bit_at_cat_high, pow_pos)
 
 -- the slots of a cube begin with one whose low digits are 0
 module _ (rank : ℕ) (some : 0 < rank) (few : rank ≤ 4) (digits slot more : ℕ) (even : slot % 2 ^ (rank * digits) ≡ 0) (small : more < 2 ^ (rank * digits))
@@ -156,27 +123,16 @@ module _ (rank : ℕ) (some : 0 < rank) (few : rank ≤ 4) (digits slot more : �
       ∙ ⊎_elim (λ (low : b < digits).
       (let next : (b + 1) * rank ≤ digits * rank = mul-le (b + 1) rank digits rank (omega (arith, low)) (omega arith) in
       let turned : digits * rank ≡ rank * digits = mul_comm digits rank in
-      let row : (b + 1) * rank ≡ b * rank + rank = grind arith in
-      bit_at_cat_low (here / 2 ^ digits) digits 0 b low ∙ bit_at-zero b
-      ∙ sym (component_digit rank some few slot d b (omega (arith, narrow))
-      ∙ low_digit slot (rank * digits) (b * rank + (rank - 1 - d)) even (omega (arith, next, turned, row, inside)))))
-      (λ (high : digits ≤ b).
-      (let at : digits + (b - digits) ≡ b = omega (arith, high) in
-      bit_at_cat_high (here / 2 ^ digits) digits 0 b (pow_pos digits) high ∙ high_digit here digits (b - digits) ∙ ap (bit_at here) at))
+      let row : (b + 1) * rank ≡ b * rank + rank = grind arith in grind (arith, bit_at_cat_low, bit_at-zero, component_digit, low_digit)))
+      (λ (high : digits ≤ b). grind (arith, bit_at_cat_high, pow_pos, high_digit, bit_at))
       (cases_lt b digits)))
 
   -- so each component of their indices lies at most the side of the cube further
   pub cube_from : component rank slot d ≤ component rank (slot + more) d
-  cube_from =
-      let same : there / 2 ^ digits * 2 ^ digits ≡ here = ap (λ (n : ℕ). n * 2 ^ digits) high_same ∙ low_none in
-      let parts = shr_split there digits in
-      omega (arith, same, parts)
+  cube_from = grind (arith, high_same, low_none, shr_split)
 
   pub cube_to : component rank (slot + more) d < component rank slot d + 2 ^ digits
-  cube_to =
-      let same : there / 2 ^ digits * 2 ^ digits ≡ here = ap (λ (n : ℕ). n * 2 ^ digits) high_same ∙ low_none in
-      let parts = shr_split there digits in
-      omega (arith, same, parts, mod_below there (2 ^ digits) (pow_pos digits))
+  cube_to = grind (arith, high_same, low_none, shr_split, mod_below, pow_pos)
 
 -- so many digits of a slot are 0, and the slots of the cube are a number of 64 bits
 module _ (rank digits slot : ℕ) (wide : slot < 2 ^ 64) (few : digits ≤ min (trailing_zeros w64 slot / rank) (24 / rank)) where
@@ -187,11 +143,7 @@ module _ (rank digits slot : ℕ) (wide : slot < 2 ^ 64) (few : digits ≤ min (
   cube_begins = twos_divide slot (rank * digits) wide (within (trailing_zeros w64 slot) (omega (arith, few)))
 
   pub cube_slots : 1 * 2 ^ (rank * digits) % 2 ^ 64 ≡ 2 ^ (rank * digits)
-  cube_slots =
-      let below : rank * digits ≤ 24 = within 24 (omega (arith, few)) in
-      let room : 2 ^ (rank * digits) ≤ 2 ^ 24 = pow-le-pow_right {n = 2} (lit< tt) below in
-      let one : 1 * 2 ^ (rank * digits) ≡ 2 ^ (rank * digits) = omega arith in
-      ap (λ (n : ℕ). n % 2 ^ 64) one ∙ mod-eq_of_lt (omega (arith, room))
+  cube_slots = grind (arith, pow-le-pow_right, lit<, mod-eq_of_lt)
 
 -- ---- rows
 

@@ -1,7 +1,7 @@
 -- What the proofs of this crate speak of.
 pub use Rattle.std.proofs.Math.Bool.{or-false, and-true}
-pub use Rattle.std.proofs.Common.{◌≡◌, ℕ, ◌≤◌, Bool, true, false, List, All, length, map, take, Ok, Err, Some, None, sym, ap, ◌∙◌, arith, length-append, suc, ◌<◌, [], ◌∷◌, get_or, Option, refl, ◌+◌, ◌++◌, ⊎_elim, ◌*◌, zero, ◌-◌, ◌/◌, ◌%◌, ◌^◌, ◌⊎◌, subst, lit<, min, w64, pow-suc, inl, inr, drop, add-one, drop-cons, cond, max, ℤ, pos, replicate, rules, length-drop, SFits, set, slice_index_or}
-pub use Rattle.std.specs.Prelude.{filter, is_ok, ◌&&◌, ◌||◌, not, nat_le, if◌then◌else◌, slice_get, ◌==◌, sum_by, bit_and, is_some, nat_lt, Result, count_by, option_map, IfErr, IfSome}
+pub use Rattle.std.proofs.Common.{◌≡◌, ℕ, ◌≤◌, Bool, true, false, List, All, length, map, take, Ok, Err, Some, None, sym, ap, ◌∙◌, arith, length-append, suc, ◌<◌, [], ◌∷◌, get_or, Option, refl, ◌+◌, ◌++◌, ⊎_elim, ◌*◌, zero, ◌-◌, ◌/◌, ◌%◌, ◌^◌, ◌⊎◌, subst, lit<, min, w64, pow-suc, inl, inr, drop, add-one, drop-cons, cond, max, ℤ, pos, replicate, rules, length-drop, set, slice_index_or}
+pub use Rattle.std.specs.Prelude.{filter, is_ok, ◌&&◌, ◌||◌, not, nat_le, if◌then◌else◌, slice_get, ◌==◌, sum_by, bit_and, is_some, nat_lt, Result, count_by, option_map, IfSome}
 pub use Rattle.std.proofs.lemmas.List.{take-append-le, take_all, length-map, get_or-map, get_or_default, drop_all, append_assoc, append-nil, take_more, map_push, length-take, get_or-take, get_or-drop, take-map, drop-map, length-replicate, get_or-replicate, get_or_push, get_or_append_left, length_push, get_or_read, take_more_set, map_more, length-take-le}
 pub use Rattle.std.specs.Bool.{then_some}
 pub use Rattle.std.specs.List.{find, list_all, position_or_len, list_any, enumerate_from, range_with_len, flat_map}
@@ -19,16 +19,15 @@ pub use Rattle.std.proofs.lemmas.Nat.Bits.{bit_at-zero, bit_at-lt, bit_at_lowest
 pub use Rattle.std.proofs.Math.Nat.{div-le_self, mod-eq_of_lt, mul_comm, mul-div-le, pow-le-pow_right, mul-add, mod-lt}
 pub use Rattle.std.proofs.lemmas.Grind.{flat_map-append, same_number_lists}
 pub use Rattle.std.specs.Option.{option_or}
-pub use Rattle.std.proofs.lemmas.Cmp.{int_eq_equiv}
 pub use Rattle.std.proofs.Math.Seq.{take-add}
 pub use Rattle.std.proofs.lemmas.List.Concat.{flat_map-cons, flat_map_single}
 pub use Rattle.std.proofs.lemmas.Int.{to_z-of_z}
 pub use Rattle.std.proofs.lemmas.List.Edits.{map_over_more}
-pub use Rattle.map_expr.specs.Terms.{Term, term_of, uncounted, Named, Aos, Soa, Aosoa, BitAos, BitSoa, Split, Byteswap, Bytesplit, Change, Count, Heat, depth_of}
-pub use Rattle.views.specs.Tables.{Table, leaf_types_of, leaf_count_of, leaf_type_of, IsTable, owners_of, table_holds, after_log}
+pub use Rattle.map_expr.specs.Terms.{Term, term_of, uncounted, Named, Split, Byteswap, Bytesplit, Change, Count, Heat, depth_of}
+pub use Rattle.views.specs.Tables.{Table, leaf_types_of, leaf_count_of, leaf_type_of, IsTable, after_log}
 pub use Rattle.record_dim.specs.declared.leaf_type.LeafType.{LeafType}
 pub use Rattle.record_dim.specs.declared.leaf_type.LeafType.TheVariants.{Bool as Truth}
-pub use Rattle.places.specs.Layout.{Owner, Bit, Pad}
+pub use Rattle.places.specs.Layout.{Owner, Bit}
 pub use Rattle.places.specs.Lawful.{IsLaidOut, IsLocated, IsPiece}
 pub use Rattle.places.specs.declared.piece.Cell.{Cell}
 pub use Rattle.map_checks.specs.Mappings.{leaf_cells, layout_of, most_slots, accepted, not_full, IsTooBigFor, IsRefusal, IsBuiltTerm, holds_by, bad_side, bad_field, else_for, holds_of}
@@ -41,9 +40,9 @@ pub use Rattle.linearize.specs.Slots.{interleaved, row_at, slot_count, index_at,
 pub use Rattle.linearize.specs.SlotsLaws.{index_at_inside, row_at-slot_at, row_at-slot_of, slot_at-row_at, slot_at_below}
 pub use Rattle.map_any.proofs.SlotRows.{has_rows}
 pub use Rattle.piece_bits.proofs.StretchLaws.{twos_divide}
-pub use Rattle.record_dim.specs.Trees.{Fields, Record}
+pub use Rattle.record_dim.specs.Trees.{Fields}
 pub use Rattle.map_expr.specs.declared.check.BadMapping.{BadMapping}
-pub use Rattle.map_expr.specs.declared.check.BadMapping.TheVariants.{NotFull, TooDeep, Counter, Side, Field}
+pub use Rattle.map_expr.specs.declared.check.BadMapping.TheVariants.{NotFull, TooDeep, Counter}
 pub use Rattle.map_any.proofs.Built.{good_parts, good_number}
 pub use Rattle.map_checks.specs.declared.fault.MakeMap.{MakeMap}
 pub use Rattle.map_checks.specs.declared.fault.MakeMap.TheVariants.{Bad, TooBig, NoMemory}
@@ -59,7 +58,7 @@ pub use Rattle.map_checks.specs.Ruled.{IsRuleOf}
 pub use Rattle.map_checks.specs.declared.rule.Rule.{Rule}
 pub use Rattle.record_dim.specs.Nodes.{is_under}
 pub use Rattle.places.specs.Rules.{renamed, recelled, numbers_of, split}
-pub use Rattle.map_expr.specs.Checks.{has_counter, counts_once, bad_number, answered, checked}
+pub use Rattle.map_expr.specs.Checks.{has_counter, counts_once, bad_number, answered}
 pub use Rattle.places.specs.Touched.{is_in_granule, is_hot, is_touched}
 pub use Rattle.places.specs.declared.piece.Piece.{Piece}
 pub use Rattle.places.specs.PieceRules.{begin_in, piece_in, pieces_in}
@@ -72,7 +71,6 @@ pub use Rattle.record_dim.specs.LeafTypes.{least_of, greatest_of, least_in, grea
 pub use Rattle.piece_bits.specs.declared.mode.StoreMode.TheVariants.{Strict}
 pub use Rattle.views.specs.Stores.{is_between}
 pub use Rattle.views.specs.declared.fault.StoreFault.{StoreFault}
-pub use Rattle.views.specs.declared.fault.StoreFault.TheVariants.{Range, Narrow}
 pub use Rattle.views.specs.Columns.{in_leaf, column_reads}
 pub use Rattle.piece_bits.specs.declared.mode.StoreMode.{StoreMode}
 pub use Rattle.piece_bits.specs.Tables.{hold_at}
@@ -90,7 +88,7 @@ pub use Rattle.instrument.specs.RoundingLaws.{rounded}
 pub use Rattle.advisor.specs.declared.advice.AdviseFault.{AdviseFault}
 pub use Rattle.advisor.specs.declared.candidate.Candidate.{Candidate}
 pub use Rattle.advisor.specs.declared.pass.Pass.{Pass}
-pub use Rattle.advisor.specs.Advice.{Advised, judge, cost_of, candidates, split_terms, advised, unless, is_best, told_by, own_paths, splits_at}
+pub use Rattle.advisor.specs.Advice.{Advised, judge, cost_of, candidates, advised, is_best, splits_at}
 unfoldable pub use Rattle.advisor.specs.Advice.{advice}
 pub use Rattle.advisor.specs.Judged.{first_judged_fault, is_over, limited, fault_at, fault_or}
 unfoldable pub use Rattle.advisor.specs.Judged.{judged}

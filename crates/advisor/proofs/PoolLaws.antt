@@ -1,6 +1,7 @@
 -- Splits that are put behind other candidates.
-use Rattle.advisor.proofs.Imports.{◌≡◌, ℕ, ◌+◌, ◌<◌, ◌≤◌, ◌++◌, Bool, false, All, List, [], ◌∷◌, length, get_or, take, cond, Some, None, Ok, Err, refl, sym, ap, ◌∙◌, subst, filter, is_ok, Result, flat_map, append_assoc, append-nil, take_more, take_all, map_push, length-map, filter-append, flat_map-append, PathStep, Leaf, leaves, Cell, Hold, Term, Split, term_of, leaf_cells, layout_of, holds_by, cells_under, cells_beside, length-holds, MakeMap, length-leaf_cells, Table, leaf_types_of, Candidate, Pass, judge, cost_of, judged, part_cost, leaves_in, IsPriced, terms_in, IsHold, IsSideCost}
+use Rattle.advisor.proofs.Imports.{◌≡◌, ℕ, ◌+◌, ◌<◌, ◌≤◌, ◌++◌, Bool, false, All, List, [], ◌∷◌, length, get_or, take, Some, None, Ok, sym, ap, ◌∙◌, filter, is_ok, Result, flat_map, append_assoc, append-nil, take_more, take_all, length-map, filter-append, flat_map-append, PathStep, leaves, Cell, Term, Split, term_of, leaf_cells, layout_of, holds_by, cells_under, cells_beside, length-holds, MakeMap, length-leaf_cells, Table, leaf_types_of, Candidate, Pass, judge, cost_of, judged, part_cost, leaves_in, IsPriced, terms_in, IsHold, IsSideCost}
 use Rattle.advisor.proofs.SplitLaws.{sides_judged, split_cost}
+use Rattle.std.proofs.Common.{arith}
 
 -- ---- what passes a test, of lists one after another
 
@@ -18,16 +19,14 @@ module _ {X Y : Type 0} (test : Y → Bool) (f : X → List Y) (xs : List X) (st
       let taken : take (at + 1) xs ≡ take at xs ++ x ∷ [] = take_more xs at x l ∙ ap (λ (y : X). take at xs ++ y ∷ []) (sym is) in
       let parts : flat_map f (take (at + 1) xs) ≡ earlier ++ f x =
       ap (flat_map f) taken ∙ flat_map-append f (take at xs) (x ∷ []) ∙ ap (λ (ys : List Y). earlier ++ ys) (append-nil (f x)) in
-      more ∙ ap (λ (ys : List Y). ys ++ filter test (f x)) so ∙ append_assoc start (filter test earlier) (filter test (f x))
-      ∙ sym (ap (λ (ys : List Y). start ++ ys) (ap (filter test) parts ∙ filter-append test earlier (f x)))
+      grind (arith, append_assoc, filter-append)
 
   pub all_behind : (at : ℕ) (all : List Y) → length xs ≤ at → AreBehind at all → all ≡ start ++ filter test (flat_map f xs)
   all_behind at all l so = so ∙ ap (λ (ys : List X). start ++ filter test (flat_map f ys)) (take_all at xs l)
 
 -- an answer that is not `Ok`
 not_ok : (answer : Result Unit MakeMap) → (answer ≡ Ok tt → ⊥) → is_ok answer ≡ false
-not_ok (Ok x) other = absurd (other refl)
-not_ok (Err e) other = refl
+not_ok answer other = grind arith
 
 -- ---- a split of sides whose costs are known
 
@@ -53,9 +52,7 @@ module _ (table : Table) (granule : ℕ) (passes : List Pass) (path : List PathS
 
   sides_good : judge table granule (Split path first rest) ≡ Ok tt
       → (judged granule first table.extents table.fields (under cells) ≡ Ok tt) × (judged granule rest table.extents table.fields (beside cells) ≡ Ok tt)
-  sides_good good =
-      sides_judged granule path first rest table.extents table.fields cells
-      (subst (λ (cs : List Cell). judged granule (Split path first rest) table.extents table.fields cs ≡ Ok tt) (sym all) good)
+  sides_good good = grind (arith, sides_judged)
 
   -- it is refused where a side is
   pub first_lacks : IsSideCost table granule passes (under cells) first None → judge table granule (Split path first rest) ≡ Ok tt → ⊥
@@ -71,22 +68,10 @@ module _ (table : Table) (granule : ℕ) (passes : List Pass) (path : List PathS
   split_priced candidate split one two a b is term cost holds each = record {
     cost_is = cost ∙ cost_sum one two a b ∙ sym (ap (cost_of table granule passes) (term ∙ is));
     holds_are = holds ∙ sym (ap (λ (t : Term). holds_by t table.fields) term);
-    each_leaf = ap (length {A = Hold}) holds ∙ length-holds split table.fields (leaf_cells (leaf_types_of table)) ∙ length-leaf_cells (leaf_types_of table)
-        ∙ length-map (leaves table.fields) (λ (one : Leaf). one.kind);
+    each_leaf = grind (arith, length-holds, length-leaf_cells, length-map, leaves);
     holds = each;
   }
 
-  -- it stands behind the others, or they stay as they are
-  pub one_behind : (pool later : List Candidate) (candidate : Candidate) → later ≡ pool ++ candidate ∷ [] → term_of candidate.expr ≡ Split path first rest
-      → judge table granule (Split path first rest) ≡ Ok tt → terms_in later ≡ terms_in pool ++ filter (λ term. is_ok (judge table granule term)) (Split path first rest ∷ [])
-  one_behind pool later candidate items term is =
-      let split = Split path first rest in
-      ap terms_in items ∙ map_push (λ (one : Candidate). term_of one.expr) pool candidate
-      ∙ ap (λ (t : Term). terms_in pool ++ t ∷ []) term
-      ∙ sym (ap (λ (b : Bool). terms_in pool ++ cond b (split ∷ []) []) (ap is_ok is))
-
   pub none_more : (pool : List Candidate) → (judge table granule (Split path first rest) ≡ Ok tt → ⊥)
       → terms_in pool ≡ terms_in pool ++ filter (λ term. is_ok (judge table granule term)) (Split path first rest ∷ [])
-  none_more pool other =
-      let split = Split path first rest in
-      sym (append-nil (terms_in pool)) ∙ sym (ap (λ (b : Bool). terms_in pool ++ cond b (split ∷ []) []) (not_ok (judge table granule split) other))
+  none_more pool other = grind (arith, append-nil, not_ok)

@@ -1,35 +1,18 @@
 -- Slots whose pieces follow each other by at most a granule touch the granules of one long piece.
-use Rattle.advisor.proofs.Imports.{◌≡◌, ℕ, zero, suc, ◌+◌, ◌-◌, ◌*◌, ◌/◌, ◌%◌, ◌<◌, ◌≤◌, ◌^◌, max, Bool, true, false, List, ◌∷◌, ◌++◌, refl, sym, ap, ◌∙◌, ⊎_elim, get_or, arith, ◌==◌, ◌&&◌, ◌||◌, nat_lt, list_any, range_with_len, mod-lt, cases_lt, and_from, and_parts, eq-eqb, eqb-true, lt-ltb, ltb-true, get_or-range_with_len, length-range_with_len, Any-from_list_any, list_any_at, list_any-append, div-mul-add, mod-mul-add, div-add-mod', Order, is_in_granule, Piece, HeatCounts, IsInside, begin_in, piece_in, PieceRule, has_row, IsSteady, HasSteps, is_run_touched, are_rows_touched, long_piece, same_tests}
-use Rattle.std.specs.Prelude.{min}
+use Rattle.advisor.proofs.Imports.{◌≡◌, ℕ, zero, suc, ◌+◌, ◌-◌, ◌*◌, ◌/◌, ◌%◌, ◌<◌, ◌≤◌, ◌^◌, Bool, true, List, ◌∷◌, ◌++◌, sym, ap, ◌∙◌, ⊎_elim, get_or, arith, ◌||◌, nat_lt, list_any, range_with_len, mod-lt, cases_lt, and_from, and_parts, eq-eqb, eqb-true, lt-ltb, ltb-true, get_or-range_with_len, length-range_with_len, Any-from_list_any, list_any_at, list_any-append, div-mul-add, mod-mul-add, div-add-mod', Order, is_in_granule, Piece, HeatCounts, IsInside, begin_in, piece_in, PieceRule, IsSteady, HasSteps, is_run_touched, are_rows_touched, long_piece, same_tests}
+use Rattle.std.proofs.Common.{rules}
 
 -- ---- which slots are
 
 begin_at : (rule : PieceRule) (block lane : ℕ) → lane < rule.lanes → begin_in rule (block * rule.lanes + lane) ≡ rule.base + block * rule.block + lane * rule.lane
-begin_at rule block lane low =
-    ap (λ (n : ℕ). rule.base + n * rule.block + (block * rule.lanes + lane) % rule.lanes * rule.lane) (div-mul-add block rule.lanes lane low)
-    ∙ ap (λ (n : ℕ). rule.base + block * rule.block + n * rule.lane) (mod-mul-add block rule.lanes lane low)
+begin_at rule block lane low = grind (arith, div-mul-add, mod-mul-add)
 
 module _ (wide : ℕ) (rule : PieceRule) where
   in_block : (block lane : ℕ) → lane + 1 < rule.lanes → begin_in rule (block * rule.lanes + (lane + 1)) ≡ begin_in rule (block * rule.lanes + lane) + rule.lane
-  in_block block lane low =
-      let more : (lane + 1) * rule.lane ≡ lane * rule.lane + rule.lane = grind arith in
-      begin_at rule block (lane + 1) low
-      ∙ (let e : rule.base + block * rule.block + (lane + 1) * rule.lane ≡ rule.base + block * rule.block + lane * rule.lane + rule.lane = omega arith in e)
-      ∙ ap (λ (n : ℕ). n + rule.lane) (sym (begin_at rule block lane (omega arith)))
-
-  -- those of a block
-  pub block_steady : (block count : ℕ) → rule.lane ≤ wide → count ≤ rule.lanes → IsSteady wide rule (block * rule.lanes) count
-  block_steady block count lane few = record {
-    on = λ slot l. omega (arith, in_block block slot (omega (arith, l, few)));
-    near = λ slot l. omega (arith, lane, in_block block slot (omega (arith, l, few)));
-  }
+  in_block block lane low = grind (arith, begin_at)
 
   to_block : 0 < rule.lanes → (block : ℕ) → begin_in rule ((block + 1) * rule.lanes + 0) + (rule.lanes - 1) * rule.lane ≡ begin_in rule (block * rule.lanes + (rule.lanes - 1)) + rule.block
-  to_block lanes block =
-      let first : begin_in rule ((block + 1) * rule.lanes + 0) ≡ rule.base + (block + 1) * rule.block + 0 * rule.lane = begin_at rule (block + 1) 0 lanes in
-      let last : begin_in rule (block * rule.lanes + (rule.lanes - 1)) ≡ rule.base + block * rule.block + (rule.lanes - 1) * rule.lane = begin_at rule block (rule.lanes - 1) (omega (arith, lanes)) in
-      let more : (block + 1) * rule.block ≡ block * rule.block + rule.block = grind arith in
-      omega arith
+  to_block lanes block = grind (arith, begin_at)
 
   step : HasSteps wide rule → (slot : ℕ) → (begin_in rule slot ≤ begin_in rule (slot + 1)) × (begin_in rule (slot + 1) ≤ begin_in rule slot + wide)
   step steps slot =
@@ -61,10 +44,6 @@ module _ (wide : ℕ) (rule : PieceRule) where
         omega (arith, next, (step steps (start + slot)).1));
   }
 
-  -- one slot alone
-  pub one_steady : (start count : ℕ) → count ≤ 1 → IsSteady wide rule start count
-  one_steady start count few = record { on = λ slot l. absurd (omega (arith, l, few)); near = λ slot l. absurd (omega (arith, l, few)) }
-
   -- some of them, one behind another
   pub part_steady : (start most first count : ℕ) → IsSteady wide rule start most → first + count ≤ most → IsSteady wide rule (start + first) count
   part_steady start most first count steady fits = record {
@@ -84,33 +63,20 @@ next_granule granule at = grind arith
 -- a piece that ends behind a granule's begin and begins before its end
 touches : (granule at : ℕ) (piece : Piece) → 1 ≤ granule → 0 < piece.bits → 8 * granule * at < piece.bit + piece.bits → piece.bit < 8 * granule * (at + 1)
     → is_in_granule granule piece.blob at piece ≡ true
-touches granule at piece some bits past before =
-    let next = next_granule granule at in
-    and_from (piece.blob == piece.blob) (nat_lt (max piece.bit (8 * granule * at)) (min (piece.bit + piece.bits) (8 * granule * (at + 1))))
-    (eq-eqb piece.blob piece.blob refl)
-    (lt-ltb (max piece.bit (8 * granule * at)) (min (piece.bit + piece.bits) (8 * granule * (at + 1))) (omega (arith, past, before, next, bits, some)))
+touches granule at piece some bits past before = grind (arith, next_granule, and_from, nat_lt, eq-eqb, lt-ltb)
 
 touched : (granule blob at : ℕ) (piece : Piece) → is_in_granule granule blob at piece ≡ true → (piece.blob ≡ blob) × (8 * granule * at < piece.bit + piece.bits) × (piece.bit < 8 * granule * (at + 1))
-touched granule blob at piece e =
-    let meets : Bool = nat_lt (max piece.bit (8 * granule * at)) (min (piece.bit + piece.bits) (8 * granule * (at + 1))) in
-    let both = and_parts (piece.blob == blob) meets e in
-    let meet = ltb-true (max piece.bit (8 * granule * at)) (min (piece.bit + piece.bits) (8 * granule * (at + 1))) both.1 in
-    (eqb-true piece.blob blob both.0, omega (arith, meet), omega (arith, meet))
+touched granule blob at piece e = grind (arith, nat_lt, and_parts, ltb-true, eqb-true)
 
 module _ (granule : ℕ) (rule : PieceRule) (start count : ℕ) (some : 1 ≤ granule) (steady : IsSteady (8 * granule) rule start count) where
   later : (slot more : ℕ) → slot + more < count → begin_in rule (start + slot) ≤ begin_in rule (start + (slot + more))
   later slot zero l = (let e : begin_in rule (start + slot) ≡ begin_in rule (start + (slot + 0)) = ap (begin_in rule) (omega arith) in omega (arith, e))
-  later slot (suc more) l =
-      let e : begin_in rule (start + (slot + more + 1)) ≡ begin_in rule (start + (slot + suc more)) = ap (begin_in rule) (omega arith) in
-      omega (arith, later slot more (omega (arith, l)), steady.on (slot + more) (omega (arith, l)), e)
+  later slot (suc more) l = grind (arith, (later slot more (omega (arith, l))))
 
   -- the last slot begins at most so far behind the first
   far : (more : ℕ) → more < count → begin_in rule (start + more) ≤ begin_in rule (start + 0) + more * (8 * granule)
   far zero l = omega arith
-  far (suc more) l =
-      let e : begin_in rule (start + (more + 1)) ≡ begin_in rule (start + suc more) = ap (begin_in rule) (omega arith) in
-      let wider : suc more * (8 * granule) ≡ more * (8 * granule) + 8 * granule = grind arith in
-      omega (arith, far more (omega (arith, l)), steady.near more (omega (arith, l)), e, wider)
+  far (suc more) l = grind (arith, (far more (omega (arith, l))))
 
   between : 0 < rule.bits → (slot at : ℕ) → slot < count → 8 * granule * at < begin_in rule (start + slot) + rule.bits → begin_in rule (start + 0) < 8 * granule * (at + 1)
       → (one : ℕ) × (one < count) × (is_in_granule granule rule.blob at (piece_in rule (start + one)) ≡ true)
@@ -135,9 +101,7 @@ module _ (granule : ℕ) (rule : PieceRule) (start count : ℕ) (some : 1 ≤ gr
       omega (arith, up, e, zero_is)
 
   pub long_fits : 0 < count → (count - 1) * (8 * granule) + rule.bits < 2 ^ 32 → (long_piece rule start count).bits < 2 ^ 32
-  long_fits any narrow =
-      let zero_is : begin_in rule (start + 0) ≡ begin_in rule start = ap (begin_in rule) (omega arith) in
-      omega (arith, far (count - 1) (omega (arith, any)), zero_is, narrow)
+  long_fits any narrow = grind (arith, far)
 
   -- the long piece touches a granule exactly where one of the slots does
   pub long_touches : 0 < count → 0 < rule.bits → (blob at : ℕ) → is_in_granule granule blob at (long_piece rule start count) ≡ is_run_touched granule rule start count blob at
@@ -154,8 +118,7 @@ module _ (granule : ℕ) (rule : PieceRule) (start count : ℕ) (some : 1 ≤ gr
       let here : get_or slots one 0 ≡ start + one = get_or-range_with_len start count one 0 found.1 in
       let hit : is_in_granule granule blob at (piece_in rule (start + one)) ≡ true =
       ap (λ (b : ℕ). is_in_granule granule b at (piece_in rule (start + one))) (sym t.0) ∙ found.2 in
-      list_any_at (λ slot. is_in_granule granule blob at (piece_in rule slot)) slots one 0 (omega (arith, found.1, length-range_with_len start count))
-      (ap (λ (n : ℕ). is_in_granule granule blob at (piece_in rule n)) here ∙ hit)))
+      grind (arith, list_any_at, length-range_with_len)))
       (λ (e : list_any (λ slot. is_in_granule granule blob at (piece_in rule slot)) slots ≡ true).
       (let found = Any-from_list_any (λ slot. is_in_granule granule blob at (piece_in rule slot)) slots e in
       let k = found.0 in
@@ -168,36 +131,23 @@ module _ (granule : ℕ) (rule : PieceRule) (start count : ℕ) (some : 1 ≤ gr
       let rest : k + (last - k) ≡ last = omega (arith, small) in
       let up : begin_in rule (start + k) ≤ begin_in rule (start + (k + (last - k))) = later k (last - k) (omega (arith, small, rest, any)) in
       let top : begin_in rule (start + (k + (last - k))) ≡ begin_in rule (start + last) = ap (λ (n : ℕ). begin_in rule (start + n)) rest in
-      ap (λ (b : ℕ). is_in_granule granule b at (long_piece rule start count)) (sym t.0)
-      ∙ touches granule at (long_piece rule start count) some (omega (arith, filled, end))
-      (omega (arith, t.1, same, up, top, end)) (omega (arith, t.2, same, first, zero_k, zero_is))))
+      grind arith))
 
 -- what two pieces make is the long piece from the one to the other
 pub long_is : (rule : PieceRule) (start count bits : ℕ) (first last : Piece) → first ≡ piece_in rule start → last ≡ piece_in rule (start + (count - 1)) → bits ≡ rule.bits
     → (let p : Piece = record first { bits = last.bit + bits - first.bit } in p) ≡ long_piece rule start count
-long_is rule start count bits first last begins ends wide =
-    ap (λ (f : Piece). (let p : Piece = record f { bits = last.bit + bits - f.bit } in p)) begins
-    ∙ ap (λ (l : Piece). (let p : Piece = record (piece_in rule start) { bits = l.bit + bits - begin_in rule start } in p)) ends
-    ∙ ap (λ (n : ℕ). (let p : Piece = record (piece_in rule start) { bits = begin_in rule (start + (count - 1)) + n - begin_in rule start } in p)) wide
+long_is rule start count bits first last begins ends wide = grind arith
 
 -- a long piece lies in the granules that its last slot lies in
 pub long_inside : (heat : HeatCounts) (rule : PieceRule) (start count : ℕ) → begin_in rule start ≤ begin_in rule (start + (count - 1))
     → IsInside heat (piece_in rule (start + (count - 1))) → IsInside heat (long_piece rule start count)
-long_inside heat rule start count end last = record {
-  blob_in = last.blob_in;
-  some = omega (arith, end, last.some);
-  within = omega (arith, end, last.within);
-  bound = omega (arith, end, last.bound);
-}
+long_inside heat rule start count end last = grind arith
 
 -- ---- more slots
 
 -- some numbers, and those behind them
 pub range_cut : (a m n : ℕ) → range_with_len a (m + n) ≡ range_with_len a m ++ range_with_len (a + m) n
-range_cut a zero n =
-    let left : 0 + n ≡ n = omega arith in
-    let right : a ≡ a + 0 = omega arith in
-    ap (range_with_len a) left ∙ ap (λ (k : ℕ). range_with_len k n) right
+range_cut a zero n = grind (arith, range_with_len)
 range_cut a (suc m) n =
     let e : suc m + n ≡ suc (m + n) = omega arith in
     let next : a + 1 + m ≡ a + suc m = omega arith in
@@ -213,7 +163,4 @@ touched_more granule rule start done more blob at = any_cut (λ slot. is_in_gran
 pub rows_more : (granule : ℕ) (order : Order) (extents : List ℕ) (rules : List PieceRule) (slot more : ℕ) (blob at : ℕ)
     → are_rows_touched granule order extents rules 0 (slot + more) blob at
     ≡ (are_rows_touched granule order extents rules 0 slot blob at || are_rows_touched granule order extents rules slot more blob at)
-rows_more granule order extents rules slot more blob at =
-    let begins : 0 + slot ≡ slot = omega arith in
-    any_cut (λ one. has_row order extents one && list_any (λ rule. is_in_granule granule blob at (piece_in rule one)) rules) 0 slot more
-    ∙ ap (λ (n : ℕ). are_rows_touched granule order extents rules 0 slot blob at || are_rows_touched granule order extents rules n more blob at) begins
+rows_more granule order extents rules slot more blob at = grind (arith, any_cut, list_any)

@@ -10,11 +10,7 @@ low_any test count n low passes =
     list_any_at test (range_with_len 0 count) n 0 (omega (arith, low, length-range_with_len 0 count)) (ap test at ∙ passes)
 
 any_low : (test : ℕ → Bool) (count : ℕ) → list_any test (range_with_len 0 count) ≡ true → (n : ℕ) × (n < count) × (test n ≡ true)
-any_low test count e =
-    let found = Any-from_list_any test (range_with_len 0 count) e in
-    let low : found.0 < count = omega (arith, found.2, length-range_with_len 0 count) in
-    let at : found.1 ≡ 0 + found.0 = sym found.3 ∙ get_or-range_with_len 0 count found.0 found.1 low in
-    (found.1, omega (arith, low, at), found.4)
+any_low test count e = grind (arith, Any-from_list_any, range_with_len, length-range_with_len, get_or-range_with_len)
 
 -- ---- slots that rows have, and others
 

@@ -1,38 +1,29 @@
 -- Ways of storing leaves that are tried, and what they say of candidates.
-use Rattle.advisor.proofs.Imports.{◌≡◌, ℕ, ◌+◌, ◌<◌, Bool, true, false, ℤ, List, [], ◌∷◌, ◌++◌, All, length, map, get_or, refl, sym, ap, ◌∙◌, ⊎_elim, subst, arith, ◌==◌, ◌&&◌, ◌||◌, not, if◌then◌else◌, list_all, range_with_len, int_eq_equiv, true≢false, cases_eq, eq-eqb, eqb-true, and_parts, and_from, list_any-append, list_all-map, Any-from_list_any, AllPass-from_list_all, list_all-from_AllPass, get_or-range_with_len, length-range_with_len, All-push, All-map, Fields, LeafType, least_of, greatest_of, least_in, greatest_in, Hold, Strict, is_between, StoreFault, Range, Narrow, in_leaf, Table, leaf_count_of, leaf_type_of, keeps, stays, leaf_stays, all_stay, suits, StoreMode, hold_at, term_of, Candidate, Trial, HasKnownHolds, IsTrial, IsFresh, HasTrials, same_hold, is_for, has_trial, takes, tried_all, has_not_failed, none_failed, same_tests}
+use Rattle.advisor.proofs.Imports.{◌≡◌, ℕ, ◌+◌, ◌<◌, Bool, true, false, ℤ, List, [], ◌∷◌, ◌++◌, All, length, map, get_or, refl, sym, ap, ◌∙◌, subst, arith, ◌==◌, ◌||◌, not, if◌then◌else◌, list_all, range_with_len, true≢false, cases_eq, eq-eqb, eqb-true, and_parts, and_from, list_any-append, list_all-map, Any-from_list_any, AllPass-from_list_all, list_all-from_AllPass, get_or-range_with_len, length-range_with_len, All-push, All-map, Fields, LeafType, least_of, greatest_of, least_in, greatest_in, Hold, Strict, is_between, StoreFault, Table, leaf_count_of, keeps, stays, leaf_stays, all_stay, suits, StoreMode, hold_at, term_of, Candidate, Trial, HasKnownHolds, IsTrial, IsFresh, HasTrials, same_hold, is_for, has_trial, tried_all, has_not_failed, none_failed, same_tests}
 use Rattle.std.specs.Prelude.{Ok, Err}
 use Rattle.advisor.proofs.Cheapest.{same_images}
 
 -- a store in a strict view
 keep_if : (b : Bool) (value : ℤ) (fault : StoreFault) → keeps value (if b then Ok value else Err fault) ≡ b
-keep_if true value fault = int_eq_equiv.refl value
-keep_if false value fault = refl
+keep_if b value fault = grind arith
 
 pub strict_stays : (kind : LeafType) (hold : Hold) (value : ℤ) → is_between (least_of kind) (greatest_of kind) value ≡ true
     → is_between (least_in hold.signed hold.width) (greatest_in hold.signed hold.width) value ≡ stays Strict kind hold value
-strict_stays kind hold value inside =
-    let held = is_between (least_in hold.signed hold.width) (greatest_in hold.signed hold.width) value in
-    sym (ap (λ (b : Bool). keeps value (if b then (if held then Ok value else Err Narrow) else Err Range)) inside ∙ keep_if held value Narrow)
+strict_stays kind hold value inside = grind (arith, keep_if)
 
 -- equal ways
 hold_of_parts : Bool → ℕ → Hold
 hold_of_parts signed width = record { signed = signed; width = width }
 
 same_signs : (one other : Bool) → (if one then other else not other) ≡ true → one ≡ other
-same_signs true other e = sym e
-same_signs false true e = absurd (true≢false (sym e))
-same_signs false false e = refl
+same_signs one other e = grind (arith, true≢false)
 
 sign_self : (one : Bool) → (if one then one else not one) ≡ true
-sign_self true = refl
-sign_self false = refl
+sign_self one = grind arith
 
 pub same_holds : (hold other : Hold) → same_hold hold other ≡ true → hold ≡ other
 unfolding hold_of_parts
-same_holds hold other e =
-    let parts = and_parts (if hold.signed then other.signed else not other.signed) (hold.width == other.width) e in
-    ap (λ (b : Bool). hold_of_parts b hold.width) (same_signs hold.signed other.signed parts.0)
-    ∙ ap (λ (n : ℕ). hold_of_parts other.signed n) (eqb-true hold.width other.width parts.1)
+same_holds hold other e = grind (arith, and_parts, hold_of_parts, same_signs, eqb-true)
 
 pub hold_self : (hold : Hold) → same_hold hold hold ≡ true
 hold_self hold = and_from _ _ (sign_self hold.signed) (eq-eqb hold.width hold.width refl)
@@ -42,14 +33,10 @@ pub has_kept : (trials : List Trial) (trial : Trial) (leaf : ℕ) (hold : Hold) 
 has_kept trials trial leaf hold has = list_any-append (is_for leaf hold) trials (trial ∷ []) ∙ ap (λ b. b || (is_for leaf hold trial || false)) has
 
 or_last : (b : Bool) → (b || (true || false)) ≡ true
-or_last true = refl
-or_last false = refl
+or_last b = grind arith
 
 pub has_pushed : (trials : List Trial) (trial : Trial) → has_trial (trials ++ trial ∷ []) trial.leaf trial.hold ≡ true
-has_pushed trials trial =
-    list_any-append (is_for trial.leaf trial.hold) trials (trial ∷ [])
-    ∙ ap (λ b. has_trial trials trial.leaf trial.hold || (b || false)) (and_from _ _ (eq-eqb trial.leaf trial.leaf refl) (hold_self trial.hold))
-    ∙ or_last (has_trial trials trial.leaf trial.hold)
+has_pushed trials trial = grind (arith, list_any-append, and_from, eq-eqb, hold_self, or_last)
 
 -- trials of the ways in which the first so many leaves are stored, behind those that were there
 pub record ArePushed (fields : Fields) (before : List Trial) (holds : List Hold) (count : ℕ) (trials : List Trial) : Type 0 where
@@ -60,15 +47,7 @@ pub record ArePushed (fields : Fields) (before : List Trial) (holds : List Hold)
 
 pub one_there : (fields : Fields) (before : List Trial) (holds : List Hold) (count : ℕ) (trials : List Trial) → ArePushed fields before holds count trials
     → has_trial trials count (hold_at holds count) ≡ true → ArePushed fields before holds (count + 1) trials
-one_there fields before holds count trials so has = record {
-  trials_are = so.trials_are;
-  fresh = so.fresh;
-  kept = so.kept;
-  all = λ leaf l. ⊎_elim
-      (λ (same : leaf ≡ count). ap (λ (n : ℕ). has_trial trials n (hold_at holds n)) same ∙ has)
-      (λ (other : leaf ≡ count → ⊥). so.all leaf (omega (arith, l, other)))
-      (cases_eq leaf count);
-}
+one_there fields before holds count trials so has = grind (arith, cases_eq)
 
 pub one_pushed : (fields : Fields) (before : List Trial) (holds : List Hold) (count : ℕ) (trials : List Trial) → ArePushed fields before holds count trials
     → (trial : Trial) → IsTrial fields trial → IsFresh trial → trial.leaf ≡ count → trial.hold ≡ hold_at holds count
@@ -81,19 +60,13 @@ one_pushed fields before holds count trials so trial is fresh leaf hold =
       kept = λ leaf hold has. has_kept trials trial leaf hold (so.kept leaf hold has);
       all = λ leaf l. has_kept trials trial leaf (hold_at holds leaf) (so.all leaf l);
     })
-    (ap (λ (n : ℕ). has_trial (trials ++ trial ∷ []) n (hold_at holds count)) (sym leaf)
-    ∙ ap (λ (h : Hold). has_trial (trials ++ trial ∷ []) trial.leaf h) (sym hold)
-    ∙ has_pushed trials trial)
+    (grind (arith, has_pushed))
 
 must_stay : (stays same : Bool) → (stays || not same) ≡ true → same ≡ true → stays ≡ true
-must_stay true same passed is = refl
-must_stay false true passed is = absurd (true≢false (sym passed))
-must_stay false false passed is = absurd (true≢false (sym is))
+must_stay stays same passed is = grind (arith, true≢false)
 
 may_fail : (stays same : Bool) → (same ≡ true → stays ≡ true) → (stays || not same) ≡ true
-may_fail true same so = refl
-may_fail false true so = absurd (true≢false (sym (so refl)))
-may_fail false false so = refl
+may_fail stays same so = grind (arith, true≢false)
 
 -- what trials that have seen all rows say of ways of storing the leaves
 module _ (table : Table) (trials : List Trial) (each : All (IsTrial table.fields) trials) (fresh : All IsFresh trials) (holds : List Hold)
@@ -103,10 +76,7 @@ module _ (table : Table) (trials : List Trial) (each : All (IsTrial table.fields
 
   -- all values of a leaf stay where it is stored as in a trial
   stays_seen : (trial : Trial) → IsTrial table.fields trial → IsFresh trial → (seen trial).stays ≡ leaf_stays table trial.leaf trial.hold
-  stays_seen trial is fresh_trial =
-      ap (λ (b : Bool). b && list_all (takes table.mode trial) table.rows) fresh_trial
-      ∙ ap (λ (kind : LeafType). list_all (λ row. stays table.mode kind trial.hold (in_leaf trial.leaf row)) table.rows) is.kind_is
-      ∙ sym (list_all-map (stays table.mode (leaf_type_of table trial.leaf) trial.hold) (in_leaf trial.leaf) table.rows)
+  stays_seen trial is fresh_trial = grind (arith, list_all, list_all-map)
 
   -- the trial of the way in which a leaf is stored
   leaf_right : none_failed holds (map seen trials) ≡ true → (leaf : ℕ) → leaf < leaf_count_of table → leaf_stays table leaf (hold_at holds leaf) ≡ true
@@ -123,10 +93,7 @@ module _ (table : Table) (trials : List Trial) (each : All (IsTrial table.fields
       AllPass-from_list_all (λ t. has_not_failed holds (seen t)) trials (sym (list_all-map (has_not_failed holds) seen trials) ∙ none) found.0 trial inside in
       let here : has_not_failed holds (seen trial) ≡ true = ap (λ (t : Trial). has_not_failed holds (seen t)) (sym found.3) ∙ passed in
       let same : same_hold trial.hold (hold_at holds trial.leaf) ≡ true =
-      ap (λ (n : ℕ). same_hold trial.hold (hold_at holds n)) at ∙ parts.1 in
-      sym (ap (λ (n : ℕ). leaf_stays table n trial.hold) at ∙ ap (λ (h : Hold). leaf_stays table leaf h) way)
-      ∙ sym (stays_seen trial is new)
-      ∙ must_stay (seen trial).stays (same_hold trial.hold (hold_at holds trial.leaf)) here same
+      ap (λ (n : ℕ). same_hold trial.hold (hold_at holds n)) at ∙ parts.1 in grind (arith, stays_seen, must_stay)
 
   -- no trial fails that is of such a way
   trial_right : all_stay table holds ≡ true → (k : ℕ) (d : Trial) → k < length trials → has_not_failed holds (seen (get_or trials k d)) ≡ true
@@ -136,21 +103,11 @@ module _ (table : Table) (trials : List Trial) (each : All (IsTrial table.fields
       let leaf = trial.leaf in
       let inside : leaf < length (range_with_len 0 (leaf_count_of table)) = omega (arith, is.inside, length-range_with_len 0 (leaf_count_of table)) in
       let at : leaf ≡ get_or (range_with_len 0 (leaf_count_of table)) leaf 0 = omega (arith, get_or-range_with_len 0 (leaf_count_of table) leaf 0 is.inside) in
-      let here : leaf_stays table leaf (hold_at holds leaf) ≡ true =
-      ap (λ (n : ℕ). leaf_stays table n (hold_at holds n)) at
-      ∙ AllPass-from_list_all (λ n. leaf_stays table n (hold_at holds n)) (range_with_len 0 (leaf_count_of table)) stay leaf 0 inside in
-      may_fail (seen trial).stays (same_hold trial.hold (hold_at holds leaf))
-      (λ same. stays_seen trial is (fresh k d l) ∙ ap (λ (h : Hold). leaf_stays table leaf h) (same_holds trial.hold (hold_at holds leaf) same) ∙ here)
+      let here : leaf_stays table leaf (hold_at holds leaf) ≡ true = grind (arith, AllPass-from_list_all, range_with_len) in
+      grind (arith, may_fail, stays_seen, same_holds)
 
   pub none_failed_law : none_failed holds (map seen trials) ≡ all_stay table holds
-  none_failed_law =
-      same_tests (none_failed holds (map seen trials)) (all_stay table holds)
-      (λ none. list_all-from_AllPass (λ leaf. leaf_stays table leaf (hold_at holds leaf)) (range_with_len 0 (leaf_count_of table))
-      (λ k d l.
-      (let small : k < leaf_count_of table = omega (arith, l, length-range_with_len 0 (leaf_count_of table)) in
-      let at : get_or (range_with_len 0 (leaf_count_of table)) k d ≡ k = omega (arith, get_or-range_with_len 0 (leaf_count_of table) k d small) in
-      ap (λ (n : ℕ). leaf_stays table n (hold_at holds n)) at ∙ leaf_right none k small)))
-      (λ stay. list_all-map (has_not_failed holds) seen trials ∙ list_all-from_AllPass (λ t. has_not_failed holds (seen t)) trials (trial_right stay))
+  none_failed_law = grind (arith, same_tests, list_all-from_AllPass, range_with_len, length-range_with_len, get_or-range_with_len, leaf_right, list_all-map, trial_right)
 
 -- what they say of candidates
 pub marks_right : (table : Table) (trials : List Trial) → All (IsTrial table.fields) trials → All IsFresh trials → (pool : List Candidate) → All (HasKnownHolds table) pool

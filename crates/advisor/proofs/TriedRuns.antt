@@ -1,5 +1,5 @@
 -- Runs of rows whose values are read and tried leaf by leaf.
-use Rattle.advisor.proofs.Imports.{◌≡◌, ℕ, ◌+◌, ◌<◌, ◌≤◌, Bool, true, false, ℤ, pos, List, [], ◌∷◌, ◌++◌, All, length, map, get_or, take, drop, refl, sym, ap, ◌∙◌, ⊎_elim, subst, arith, ◌==◌, ◌&&◌, ◌||◌, not, nat_lt, if◌then◌else◌, list_all, flat_map, range_with_len, fun_ext, take-add, cases_lt, lt-ltb, le-ltb, eq-eqb, ne_eqb, flat_map-append, length-map, length-take, get_or-map, get_or-take, get_or-drop, take-map, drop-map, All-map, flat_map-cons, flat_map_single, list_all-append, list_all-map, map-map, IsDeclared, Leaf, leaves, Fields, LeafType, entry, Owner, hold_at, stays_declared, StoreMode, low_64, in_leaf, column_reads, tallied-kinds, raised, run_of, raised_all, Table, IsTable, owners_of, leaf_count_of, leaf_type_of, leaf_types_of, table_holds, after_log, Access, Read, Tally, tallied, row_accesses, all_accesses, after_log-none, after_log-append, accesses_more, stays, IsTrial, rows_accesses, takes, tried_all, all_lows_stay, tried_leaf, Trial, and-true}
+use Rattle.advisor.proofs.Imports.{◌≡◌, ℕ, ◌+◌, ◌<◌, ◌≤◌, Bool, ℤ, pos, List, [], ◌∷◌, ◌++◌, All, length, map, get_or, take, drop, refl, sym, ap, ◌∙◌, subst, arith, ◌&&◌, ◌||◌, not, nat_lt, if◌then◌else◌, list_all, flat_map, range_with_len, fun_ext, take-add, cases_lt, lt-ltb, le-ltb, eq-eqb, ne_eqb, flat_map-append, length-map, length-take, get_or-map, get_or-take, get_or-drop, take-map, drop-map, All-map, flat_map-cons, flat_map_single, list_all-append, list_all-map, map-map, IsDeclared, Leaf, leaves, Fields, LeafType, entry, Owner, stays_declared, StoreMode, low_64, in_leaf, column_reads, tallied-kinds, raised, run_of, raised_all, Table, IsTable, leaf_count_of, leaf_type_of, leaf_types_of, after_log, Access, Read, Tally, tallied, row_accesses, all_accesses, after_log-none, after_log-append, accesses_more, stays, IsTrial, rows_accesses, takes, tried_all, all_lows_stay, tried_leaf, Trial, and-true}
 use Rattle.advisor.proofs.Cheapest.{same_images}
 use Rattle.advisor.proofs.SteadyLaws.{range_cut}
 
@@ -23,22 +23,12 @@ leaf_tallied layout tally leaf rows =
 
 pub leaf_read : (seen now new : Table) (leaf first count : ℕ) → now ≡ after_log seen (rows_accesses Read leaf first count) → new ≡ after_log now (column_reads leaf first count)
     → new ≡ after_log seen (rows_accesses Read (leaf + 1) first count)
-leaf_read seen now new leaf first count so read =
-    read ∙ ap (λ (table : Table). after_log table (column_reads leaf first count)) so
-    ∙ after_log-append seen (rows_accesses Read leaf first count) (column_reads leaf first count)
-    ∙ ap (λ (tally : Tally). record seen { tally = tally }) (leaf_tallied (owners_of seen) seen.tally leaf (range_with_len first count))
+leaf_read seen now new leaf first count so read = grind (arith, after_log-append, leaf_tallied, range_with_len)
 
 -- a run more
 pub run_read : (seen now new : Table) (first count : ℕ) → now ≡ after_log seen (all_accesses Read (leaf_count_of seen) first) → new ≡ after_log now (rows_accesses Read (leaf_count_of now) first count)
     → new ≡ after_log seen (all_accesses Read (leaf_count_of seen) (first + count))
-run_read seen now new first count so read =
-    let logs = row_accesses Read (leaf_count_of seen) in
-    let begins : 0 + first ≡ first = omega arith in
-    read ∙ ap (λ (table : Table). after_log table (rows_accesses Read (leaf_count_of table) first count)) so
-    ∙ after_log-append seen (all_accesses Read (leaf_count_of seen) first) (rows_accesses Read (leaf_count_of seen) first count)
-    ∙ ap (after_log seen)
-    (sym (ap (flat_map logs) (range_cut 0 first count) ∙ flat_map-append logs (range_with_len 0 first) (range_with_len (0 + first) count)
-    ∙ ap (λ (n : ℕ). flat_map logs (range_with_len 0 first) ++ flat_map logs (range_with_len n count)) begins))
+run_read seen now new first count so read = grind (arith, after_log-append, flat_map, range_cut, flat_map-append, range_with_len)
 
 -- ---- trials
 
@@ -52,23 +42,16 @@ none_tried mode [] = refl
 none_tried mode (trial ∷ trials) = ap (λ (b : Bool). with_stays trial b ∷ map (tried_all mode []) trials) (and-true trial.stays) ∙ ap (λ (ts : List Trial). trial ∷ ts) (none_tried mode trials)
 
 and_more : (a b c : Bool) → ((a && b) && c) ≡ (a && (b && c))
-and_more true b c = refl
-and_more false b c = refl
+and_more a b c = grind arith
 
 tried_more : (mode : StoreMode) (rows more : List (List ℤ)) (trial : Trial) → tried_all mode more (tried_all mode rows trial) ≡ tried_all mode (rows ++ more) trial
 unfolding with_stays
-tried_more mode rows more trial =
-    ap (with_stays trial)
-    (and_more trial.stays (list_all (takes mode trial) rows) (list_all (takes mode trial) more) ∙ ap (λ b. trial.stays && b) (sym (list_all-append (takes mode trial) rows more)))
+tried_more mode rows more trial = grind (arith, with_stays, and_more, list_all, list_all-append)
 
 -- a run more
 pub run_tried : (mode : StoreMode) (rows : List (List ℤ)) (first count : ℕ) (before now new : List Trial) → now ≡ map (tried_all mode (take first rows)) before
     → new ≡ map (tried_all mode (take count (drop first rows))) now → new ≡ map (tried_all mode (take (first + count) rows)) before
-run_tried mode rows first count before now new so step =
-    step ∙ ap (map (tried_all mode (take count (drop first rows)))) so
-    ∙ map-map (tried_all mode (take count (drop first rows))) (tried_all mode (take first rows)) before
-    ∙ ap (λ (f : Trial → Trial). map f before) (fun_ext (tried_more mode (take first rows) (take count (drop first rows))))
-    ∙ ap (λ (some : List (List ℤ)). map (tried_all mode some) before) (sym (take-add first count rows))
+run_tried mode rows first count before now new so step = grind (arith, map-map, fun_ext, tried_more, take-add)
 
 -- those of the leaves before one are tried
 abbrev pub tried_to : StoreMode → List (List ℤ) → ℕ → Trial → Trial
@@ -76,22 +59,15 @@ tried_to mode rows leaf trial = if nat_lt trial.leaf leaf then tried_all mode ro
 
 pub none_to : (mode : StoreMode) (rows : List (List ℤ)) (trials : List Trial) → trials ≡ map (tried_to mode rows 0) trials
 none_to mode rows [] = refl
-none_to mode rows (trial ∷ trials) =
-    let low : nat_lt trial.leaf 0 ≡ false = le-ltb trial.leaf 0 (omega arith) in
-    ap (λ (b : Bool). (if b then tried_all mode rows trial else trial) ∷ trials) (sym low) ∙ ap (λ (ts : List Trial). tried_to mode rows 0 trial ∷ ts) (none_to mode rows trials)
+none_to mode rows (trial ∷ trials) = grind (arith, nat_lt, le-ltb, (none_to mode rows trials))
 
 pub all_to : (fields : Fields) (mode : StoreMode) (rows : List (List ℤ)) (count : ℕ) (trials : List Trial) → All (IsTrial fields) trials → length (leaves fields) ≤ count
     → map (tried_to mode rows count) trials ≡ map (tried_all mode rows) trials
-all_to fields mode rows count trials each all =
-    same_images (tried_to mode rows count) (tried_all mode rows) trials (λ k d l.
-    (let trial = get_or trials k d in
-    let is : IsTrial fields trial = each k d l in
-    ap (λ (b : Bool). if b then tried_all mode rows trial else trial) (lt-ltb trial.leaf count (omega (arith, is.inside, all)))))
+all_to fields mode rows count trials each all = grind (arith, same_images, lt-ltb)
 
 -- they are of what they were of
 is_still : (fields : Fields) (mode : StoreMode) (rows : List (List ℤ)) (trial : Trial) (low : Bool) → IsTrial fields trial → IsTrial fields (if low then tried_all mode rows trial else trial)
-is_still fields mode rows trial true is = record { inside = is.inside; kind_is = is.kind_is; hold = is.hold }
-is_still fields mode rows trial false is = is
+is_still fields mode rows trial low is = grind arith
 
 pub trials_to : (fields : Fields) (mode : StoreMode) (rows : List (List ℤ)) (leaf : ℕ) (before now : List Trial) → All (IsTrial fields) before → now ≡ map (tried_to mode rows leaf) before
     → All (IsTrial fields) now
@@ -110,24 +86,7 @@ module _ (mode : StoreMode) (rows : List (List ℤ)) (leaf : ℕ) (lows : List �
   -- a leaf more
   one_tried : tried_leaf mode leaf lows (tried_to mode rows leaf trial) ≡ tried_to mode rows (leaf + 1) trial
   unfolding with_stays
-  one_tried =
-      ⊎_elim
-      (λ (less : trial.leaf < leaf).
-      (let other : (trial.leaf == leaf) ≡ false = ne_eqb trial.leaf leaf (λ e. omega (arith, less, e)) in
-      ap (λ (b : Bool). tried_leaf mode leaf lows (either b)) (lt-ltb trial.leaf leaf less) ∙ ap (λ (b : Bool). after b (tried_all mode rows trial)) other
-      ∙ ap (with_stays trial) (and-true (tried_all mode rows trial).stays) ∙ sym (ap either (lt-ltb trial.leaf (leaf + 1) (omega (arith, less))))))
-      (λ (more : leaf ≤ trial.leaf).
-      (let now = ap (λ (b : Bool). tried_leaf mode leaf lows (either b)) (le-ltb trial.leaf leaf more) in
-      ⊎_elim
-      (λ (here : trial.leaf < leaf + 1).
-      (let is : trial.leaf ≡ leaf = omega (arith, here, more) in
-      now ∙ ap (λ (b : Bool). after b trial) (eq-eqb trial.leaf leaf is) ∙ ap (λ (b : Bool). with_stays trial (trial.stays && b)) (same is)
-      ∙ sym (ap either (lt-ltb trial.leaf (leaf + 1) here))))
-      (λ (later : leaf + 1 ≤ trial.leaf).
-      (let other : (trial.leaf == leaf) ≡ false = ne_eqb trial.leaf leaf (λ e. omega (arith, later, e)) in
-      now ∙ ap (λ (b : Bool). after b trial) other ∙ ap (with_stays trial) (and-true trial.stays) ∙ sym (ap either (le-ltb trial.leaf (leaf + 1) later))))
-      (cases_lt trial.leaf (leaf + 1))))
-      (cases_lt trial.leaf leaf)
+  one_tried = grind (arith, ne_eqb, lt-ltb, with_stays, and-true, le-ltb, eq-eqb, cases_lt)
 
 -- the low bits of a run of a leaf say whether its values stay
 module _ (table : Table) (is : IsTable table) (leaf first count : ℕ) (leaf_in : leaf < leaf_count_of table) (rows_in : first + count ≤ length table.rows)
@@ -148,8 +107,7 @@ module _ (table : Table) (is : IsTable table) (leaf first count : ℕ) (leaf_in 
       let typed : leaf < length (leaf_types_of table) = omega (arith, leaf_in, length-map (leaves table.fields) (λ (one : Leaf). one.kind)) in
       let value : get_or (map (in_leaf leaf) part) k (pos 0) ≡ entry table.rows (first + k) leaf =
       get_or-map (in_leaf leaf) part k [] (pos 0) inside ∙ ap (in_leaf leaf) (get_or-take count (drop first table.rows) k [] near ∙ get_or-drop first table.rows k []) in
-      subst (IsDeclared kind) (sym value)
-      (stays_declared table.mode kind (hold_at (table_holds table) leaf) (entry table.rows (first + k) leaf) (is.stays (first + k) leaf (omega (arith, near, rows_in)) typed))
+      grind (arith, stays_declared)
 
   pub lows_stay : (mode : StoreMode) (trial : Trial) → IsTrial table.fields trial → trial.leaf ≡ leaf → all_lows_stay mode trial lows ≡ list_all (takes mode trial) part
   lows_stay mode trial tried same =
@@ -165,8 +123,4 @@ module _ (table : Table) (is : IsTable table) (leaf first count : ℕ) (leaf_in 
   -- so trials of the leaf are tried
   pub leaf_tried : (mode : StoreMode) (before now new : List Trial) → All (IsTrial table.fields) before → now ≡ map (tried_to mode part leaf) before → new ≡ map (tried_leaf mode leaf lows) now
       → new ≡ map (tried_to mode part (leaf + 1)) before
-  leaf_tried mode before now new each so step =
-      step ∙ ap (map (tried_leaf mode leaf lows)) so
-      ∙ map-map (tried_leaf mode leaf lows) (tried_to mode part leaf) before
-      ∙ same_images (λ trial. tried_leaf mode leaf lows (tried_to mode part leaf trial)) (tried_to mode part (leaf + 1)) before
-      (λ k d l. one_tried mode part leaf lows (get_or before k d) (lows_stay mode (get_or before k d) (each k d l)))
+  leaf_tried mode before now new each so step = grind (arith, map-map, same_images, one_tried, lows_stay)

@@ -1,19 +1,19 @@
 -- The granules that are touched are those that the accesses to some cells in all rows touch, and a split's are those of its sides.
-use Rattle.std.proofs.Common.{◌≡◌, ℕ, suc, ◌+◌, ◌*◌, ◌/◌, ◌<◌, ◌==◌, Bool, true, false, List, [], ◌∷◌, map, take, drop, length, get_or, refl, sym, ap, ◌∙◌, arith}
+use Rattle.std.proofs.Common.{◌≡◌, ℕ, suc, ◌+◌, ◌*◌, ◌/◌, ◌<◌, ◌==◌, Bool, true, List, [], ◌∷◌, map, take, drop, length, get_or, refl, sym, ap, ◌∙◌, arith}
 use Rattle.std.specs.Prelude.{◌||◌, not, count_by}
 use Rattle.std.specs.List.{list_any, range_with_len}
 use Rattle.std.proofs.Math.Path.{fun_ext}
-use Rattle.std.proofs.lemmas.Bool.{true≢false, and_parts, and_from, eqb-true, eq-eqb}
+use Rattle.std.proofs.lemmas.Bool.{true≢false, and_from, eq-eqb}
 use Rattle.std.proofs.lemmas.List.{length-map, take-map, drop-map, length-take, get_or-take, get_or-drop, get_or_default}
 use Rattle.std.proofs.lemmas.List.Sums.{sum_by-append, sum_by-cons}
 use Rattle.std.proofs.lemmas.List.Folds.{Any-from_list_any, list_any_at}
 use Rattle.places.specs.Layout.{Owner, Pad, Bit, owner_at}
 use Rattle.places.specs.Lawful.{IsLaidOut, IsBitOf}
 use Rattle.places.specs.Rules.{renamed, recelled, numbers_of, split}
-use Rattle.places.specs.Touched.{is_bit_of, is_hot}
+use Rattle.places.specs.Touched.{is_bit_of}
 use Rattle.instrument.specs.Counters.{granules_of}
 use Rattle.advisor.specs.Touched.{is_bit_in, holds_bit, touched_blob, touched}
-use Rattle.advisor.specs.TouchedBy.{IsHotAccess, IsTouchedBy}
+use Rattle.advisor.specs.TouchedBy.{IsTouchedBy}
 
 -- a test along renamed owners
 pub any_map : {X Y : Type 0} (test : Y → Bool) (f : X → Y) (xs : List X) → list_any test (map f xs) ≡ list_any (λ x. test (f x)) xs
@@ -22,8 +22,7 @@ any_map test f (x ∷ xs) = ap (λ b. test (f x) || b) (any_map test f xs)
 
 recelled_bit : (cells : List ℕ) (test : ℕ → Bool) (owner : Owner) →
     is_bit_in test (renamed (λ slot cell bit. Bit slot (get_or cells cell 0) bit) owner) ≡ is_bit_in (λ cell. test (get_or cells cell 0)) owner
-recelled_bit cells test Pad = refl
-recelled_bit cells test (Bit slot cell bit) = refl
+recelled_bit cells test owner = grind arith
 
 -- cells under other numbers
 module _ (cells : List ℕ) (test : ℕ → Bool) (granule : ℕ) where
@@ -32,17 +31,11 @@ module _ (cells : List ℕ) (test : ℕ → Bool) (granule : ℕ) where
 
   held_renamed : (blob : List Owner) (at : ℕ) → holds_bit test granule (map name blob) at ≡ holds_bit (λ cell. test (get_or cells cell 0)) granule blob at
   unfolding name
-  held_renamed blob at =
-      ap (λ owners. list_any (is_bit_in test) (take (8 * granule) owners)) (drop-map name (8 * granule * at) blob)
-      ∙ ap (list_any (is_bit_in test)) (take-map name (8 * granule) (drop (8 * granule * at) blob))
-      ∙ any_map (is_bit_in test) name (take (8 * granule) (drop (8 * granule * at) blob))
-      ∙ ap (λ t. list_any t (take (8 * granule) (drop (8 * granule * at) blob))) (fun_ext (λ owner. recelled_bit cells test owner))
+  held_renamed blob at = grind (arith, list_any, drop-map, take-map, any_map, fun_ext, recelled_bit)
 
   blob_renamed : (blob : List Owner) → touched_blob test granule (map name blob) ≡ touched_blob (λ cell. test (get_or cells cell 0)) granule blob
   unfolding name
-  blob_renamed blob =
-      ap (λ t. count_by t (range_with_len 0 (granules_of granule (length (map name blob) / 8)))) (fun_ext (λ at. held_renamed blob at))
-      ∙ ap (λ n. count_by (holds_bit (λ cell. test (get_or cells cell 0)) granule blob) (range_with_len 0 (granules_of granule (n / 8)))) (length-map blob name)
+  blob_renamed blob = grind (arith, count_by, range_with_len, fun_ext, held_renamed, length-map)
 
   pub touched_recelled : (layout : List (List Owner)) → touched test granule (recelled cells layout) ≡ touched (λ cell. test (get_or cells cell 0)) granule layout
   unfolding name
@@ -62,19 +55,10 @@ touched_split test granule side first rest =
 
 -- tests of which each gives the other
 pub same_tests : (one two : Bool) → (one ≡ true → two ≡ true) → (two ≡ true → one ≡ true) → one ≡ two
-same_tests true two to from = sym (to refl)
-same_tests false true to from = from refl
-same_tests false false to from = refl
+same_tests one two to from = grind arith
 
 bit_is : (test : ℕ → Bool) (owner : Owner) → is_bit_in test owner ≡ true → (row : ℕ) × (cell : ℕ) × (k : ℕ) × (owner ≡ Bit row cell k) × (test cell ≡ true)
-bit_is test Pad e = absurd (true≢false (sym e))
-bit_is test (Bit row cell bit) e = (row, cell, bit, refl, e)
-
-bit_in : (row cell : ℕ) (test : ℕ → Bool) (owner : Owner) → test cell ≡ true → is_bit_of row cell owner ≡ true → is_bit_in test owner ≡ true
-bit_in row cell test Pad passes e = absurd (true≢false (sym e))
-bit_in row cell test (Bit slot other bit) passes e =
-    let both = and_parts (slot == row) (other == cell) e in
-    ap test (eqb-true other cell both.1) ∙ passes
+bit_is test owner e = grind (arith, true≢false)
 
 pub touched_hot : (layout : List (List Owner)) (slots : ℕ) (widths : List ℕ) → IsLaidOut layout slots widths → (test : ℕ → Bool) (granule blob at : ℕ) →
     IsTouchedBy layout slots (length widths) test granule blob at
@@ -93,20 +77,9 @@ touched_hot layout slots widths laid test granule blob at =
           let here : get_or bits i Pad ≡ Bit bit.0 bit.1 bit.2 = get_or_default bits i Pad found.1 low ∙ found.3 ∙ bit.3 in
           let there : owner_at layout blob (start + i) ≡ Bit bit.0 bit.1 bit.2 = sym (get_or-drop start owners i Pad) ∙ sym (get_or-take (8 * granule) (drop start owners) i Pad small) ∙ here in
           let is : IsBitOf slots widths bit.0 bit.1 bit.2 = laid.owned blob (start + i) bit.0 bit.1 bit.2 there in
-          let own : is_bit_of bit.0 bit.1 (Bit bit.0 bit.1 bit.2) ≡ true = and_from (bit.0 == bit.0) (bit.1 == bit.1) (eq-eqb bit.0 bit.0 refl) (eq-eqb bit.1 bit.1 refl) in (
-            bit.0,
-            bit.1,
-            is.slot_in,
-            is.cell_in,
-            record {
-              passes = bit.4;
-              hot = list_any_at (is_bit_of bit.0 bit.1) bits i Pad low (ap (is_bit_of bit.0 bit.1) here ∙ own);
-            },
-          ));
-      only = λ row cell access.
-          (let found = Any-from_list_any (is_bit_of row cell) bits access.hot in
-          list_any_at (is_bit_in test) bits found.0 found.1 found.2
-          (ap (is_bit_in test) found.3 ∙ bit_in row cell test found.1 access.passes found.4));
+          let own : is_bit_of bit.0 bit.1 (Bit bit.0 bit.1 bit.2) ≡ true = and_from (bit.0 == bit.0) (bit.1 == bit.1) (eq-eqb bit.0 bit.0 refl) (eq-eqb bit.1 bit.1 refl) in
+          grind (arith, list_any_at));
+      only = λ row cell access. grind (arith, Any-from_list_any, list_any_at);
     }
 
 -- tests that agree on the cells of a layout touch the same

@@ -1,5 +1,5 @@
 -- Bytes that are cut into blobs of a layout.
-use Rattle.blob_file.proofs.Imports.{◌≡◌, ℕ, ◌+◌, ◌*◌, ◌/◌, ◌%◌, ◌<◌, ◌≤◌, List, [], ◌∷◌, ◌++◌, length, map, get_or, drop, take, All, refl, sym, ap, ◌∙◌, subst, arith, sum_by, length-map, length-drop, get_or-map, append-nil, drop_all, Owner, AreSized, blob_lengths, cut}
+use Rattle.blob_file.proofs.Imports.{◌≡◌, ℕ, ◌+◌, ◌*◌, ◌/◌, ◌%◌, ◌<◌, ◌≤◌, List, [], ◌∷◌, ◌++◌, length, map, get_or, drop, take, All, refl, sym, ap, ◌∙◌, arith, sum_by, length-map, length-drop, get_or-map, append-nil, drop_all, Owner, AreSized, blob_lengths, cut}
 use Rattle.blob_file.proofs.Cuts.{total, total_bits, total_more, cut_more, cut_lengths}
 
 -- so many blobs were cut
@@ -19,9 +19,7 @@ module _ (layout : List (List Owner)) (whole : All (λ (blob : List Owner). leng
 
   -- the bytes of a blob
   pub count_is : (b bytes : ℕ) → b < length layout → 8 * bytes ≡ length (get_or layout b []) → bytes ≡ get_or counts b 0
-  count_is b bytes inside is =
-      let at : get_or counts b 0 ≡ length (get_or layout b []) / 8 = get_or-map (λ (blob : List Owner). length blob / 8) layout b [] 0 inside in
-      omega (arith, is, at)
+  count_is b bytes inside is = grind (arith, get_or-map)
 
   pub none_cut : AreCut counts body 0 [] body
   none_cut = record { all = all_bytes; is = refl }
@@ -33,16 +31,10 @@ module _ (layout : List (List Owner)) (whole : All (λ (blob : List Owner). leng
   pub one_cut : (b bytes : ℕ) (done : List (List ℕ)) (rest : List ℕ) → b < length layout → 8 * bytes ≡ length (get_or layout b []) → AreCut counts body b done rest → AreCut counts body (b + 1) (done ++ take bytes rest ∷ []) (drop bytes rest)
   one_cut b bytes done rest inside is so_far =
       let in_counts : b < length counts = omega (arith, inside, as_many) in
-      let count : bytes ≡ get_or counts b 0 = count_is b bytes inside is in
-      subst (λ (n : ℕ). AreCut counts body (b + 1) (done ++ take n rest ∷ []) (drop n rest)) (sym count) (record {
-        all = omega (arith, so_far.all, total_more counts b in_counts, length-drop (get_or counts b 0) rest);
-        is = so_far.is ∙ cut_more done counts rest b in_counts;
-      })
+      let count : bytes ≡ get_or counts b 0 = count_is b bytes inside is in grind (arith, total_more, length-drop, cut_more)
 
   pub all_cut : (b : ℕ) (done : List (List ℕ)) (rest : List ℕ) → length layout ≤ b → AreCut counts body b done rest → done ≡ cut counts body
-  all_cut b done rest over so_far =
-      let none : drop b counts ≡ [] = drop_all b counts (omega (arith, over, as_many)) in
-      sym (so_far.is ∙ ap (λ (ns : List ℕ). done ++ cut ns rest) none ∙ append-nil done)
+  all_cut b done rest over so_far = grind (arith, drop_all, as_many, append-nil)
 
   -- the blobs have the lengths of the layout
   pub cut_sized : AreSized layout (cut counts body)

@@ -1,5 +1,5 @@
 -- Blobs are the contents of a header exactly where they are the image of rows that it may hold.
-use Rattle.blob_file.proofs.Imports.{◌≡◌, Bool, true, false, ℕ, zero, suc, ◌+◌, ◌<◌, ◌≤◌, ℤ, pos, List, [], ◌∷◌, length, get_or, map, Result, Ok, Err, is_ok, refl, sym, ap, ◌∙◌, subst, arith, nat_eq, if◌then◌else◌, Decides, list_all, pointwise, and_parts, and_from, Decides-eqb, length-map, slice_eq-Decides, LeafType, least_of, greatest_of, least_in, greatest_in, IsIn, Leaf, leaves, kinds_of, Hold, IsLaidOut, width_at, entry, IsImage, holds_by, bit_in, HasShape, hold_at, table_shape, entry_in, bit_in_lt, declared, held, low_same, declared_same, kept_declared, StoreMode, Strict, Wrap, kind_at, Fits, Stays, fitting_held, declared_shape, declared_entry, image_raw, image_table, StoreFault, Range, Narrow, StoreAnswer, is_between, store_answer, stored_fits, fitting_stored, Header, owners_by, image_bytes, AreRows, raw_in, rows_in, answer_by, are_taken, all_taken, are_contents, leaf_count, row_count}
+use Rattle.blob_file.proofs.Imports.{◌≡◌, Bool, true, false, ℕ, zero, suc, ◌+◌, ◌<◌, ◌≤◌, ℤ, pos, List, [], ◌∷◌, length, get_or, map, Ok, Err, is_ok, refl, sym, ◌∙◌, subst, arith, nat_eq, if◌then◌else◌, Decides, list_all, pointwise, and_parts, and_from, Decides-eqb, length-map, slice_eq-Decides, LeafType, IsIn, Leaf, leaves, kinds_of, Hold, IsLaidOut, width_at, entry, IsImage, holds_by, bit_in, HasShape, hold_at, table_shape, entry_in, bit_in_lt, declared, held, low_same, declared_same, kept_declared, StoreMode, kind_at, Stays, fitting_held, declared_shape, declared_entry, image_raw, image_table, Range, Narrow, StoreAnswer, store_answer, stored_fits, fitting_stored, Header, owners_by, image_bytes, AreRows, raw_in, rows_in, answer_by, are_taken, all_taken, are_contents, leaf_count, row_count}
 use Rattle.blob_file.proofs.ImageBits.{bytes_image}
 
 -- ---- tests of rows
@@ -7,12 +7,9 @@ use Rattle.blob_file.proofs.ImageBits.{bytes_image}
 -- the test of a row, by its leaves
 row_taken : (answer : StoreAnswer) (first leaf : ℕ) (values : List ℤ) → leaf < length values → are_taken answer first values ≡ true → is_ok (answer (first + leaf) (get_or values leaf (pos 0))) ≡ true
 row_taken answer first leaf [] inside all = absurd (omega (arith, inside))
-row_taken answer first zero (value ∷ values) inside all =
-    let here : first + 0 ≡ first = omega arith in
-    rw here (and_parts (is_ok (answer first value)) (are_taken answer (first + 1) values) all).0
+row_taken answer first zero (value ∷ values) inside all = grind (arith, and_parts, is_ok)
 row_taken answer first (suc leaf) (value ∷ values) inside all =
-    let next : first + suc leaf ≡ first + 1 + leaf = omega arith in
-    rw next (row_taken answer (first + 1) leaf values (omega (arith, inside)) (and_parts (is_ok (answer first value)) (are_taken answer (first + 1) values) all).1)
+    grind (arith, and_parts, is_ok, (row_taken answer (first + 1) leaf values (omega (arith, inside)) (and_parts (is_ok (answer first value)) (are_taken answer (first + 1) values) all).1))
 
 taken_row : (answer : StoreAnswer) (first : ℕ) (values : List ℤ) → ((leaf : ℕ) → leaf < length values → is_ok (answer (first + leaf) (get_or values leaf (pos 0))) ≡ true) → are_taken answer first values ≡ true
 taken_row answer first [] each = refl
@@ -28,9 +25,7 @@ taken_row answer first (value ∷ values) each =
 pub each_taken : (answer : StoreAnswer) (rows : List (List ℤ)) → all_taken answer rows ≡ true → (row leaf : ℕ) → row < length rows → leaf < length (get_or rows row []) → is_ok (answer leaf (entry rows row leaf)) ≡ true
 each_taken answer [] all row leaf row_in leaf_in = absurd (omega (arith, row_in))
 each_taken answer (values ∷ rows) all zero leaf row_in leaf_in =
-    let here : 0 + leaf ≡ leaf = omega arith in
-    subst (λ (n : ℕ). is_ok (answer n (get_or values leaf (pos 0))) ≡ true) here
-    (row_taken answer 0 leaf values leaf_in (and_parts (are_taken answer 0 values) (list_all (are_taken answer 0) rows) all).0)
+    let here : 0 + leaf ≡ leaf = omega arith in grind (arith, is_ok, row_taken, and_parts, list_all)
 each_taken answer (values ∷ rows) all (suc row) leaf row_in leaf_in =
     each_taken answer rows (and_parts (are_taken answer 0 values) (list_all (are_taken answer 0) rows) all).1 row leaf (omega (arith, row_in)) leaf_in
 
@@ -47,34 +42,21 @@ taken_each answer (values ∷ rows) each =
 
 -- a strict view keeps what it takes as it is
 pub ok_itself : (declared held : Bool) (value : ℤ) → is_ok (if declared then (if held then Ok value else Err Narrow) else Err Range) ≡ true → (if declared then (if held then Ok value else Err Narrow) else Err Range) ≡ Ok value
-ok_itself true true value ok = refl
-ok_itself true false value ok = absurd (cc ok)
-ok_itself false held value ok = absurd (cc ok)
+ok_itself declared held value ok = grind arith
 
 -- a raw number in the range of its hold that is taken stands for one that stays
 pub taken_stays : (mode : StoreMode) (kind : LeafType) (hold : Hold) (raw : ℤ) → 1 ≤ hold.width → IsIn hold.signed hold.width raw → is_ok (store_answer mode kind hold raw) ≡ true →
     Stays mode kind hold (declared kind raw)
-taken_stays Strict kind hold raw some inside taken =
-    let is : store_answer Strict kind hold raw ≡ Ok raw =
-    ok_itself (is_between (least_of kind) (greatest_of kind) raw) (is_between (least_in hold.signed hold.width) (greatest_in hold.signed hold.width) raw) raw taken in
-    let fits : Fits kind hold raw = stored_fits kind hold raw is in
-    subst (λ (v : ℤ). Fits kind hold v) (sym (declared_same kind raw fits.declared)) fits
-taken_stays Wrap kind hold raw some inside taken =
-    kept_declared kind hold raw ∙ ap (declared kind) (low_same hold.signed hold.width raw some inside)
+taken_stays mode kind hold raw some inside taken = grind (arith, ok_itself, stored_fits, declared_same, kept_declared, low_same)
 
 -- what the image of a number says that stays is taken
 pub stays_taken : (mode : StoreMode) (kind : LeafType) (hold : Hold) (value : ℤ) → 1 ≤ hold.width → Stays mode kind hold value → is_ok (store_answer mode kind hold (held hold value)) ≡ true
-stays_taken Strict kind hold value some stays =
-    let same : held hold value ≡ value = fitting_held hold value some stays.held in
-    ap (λ (v : ℤ). is_ok (store_answer Strict kind hold v)) same ∙ ap (λ (r : Result ℤ StoreFault). is_ok r) (fitting_stored kind hold value stays.declared stays.held)
-stays_taken Wrap kind hold value some stays = refl
+stays_taken mode kind hold value some stays = grind (arith, fitting_held, is_ok, fitting_stored)
 
 -- ---- the contents
 
 pub same_blobs-Decides : (blobs others : List (List ℕ)) → Decides (pointwise (pointwise nat_eq) blobs others) (blobs ≡ others)
-same_blobs-Decides blobs others =
-    slice_eq-Decides {A = List ℕ} {E = pointwise nat_eq} (λ one other. slice_eq-Decides {A = ℕ} {E = nat_eq} Decides-eqb one other (pointwise nat_eq one other) refl) blobs others
-    (pointwise (pointwise nat_eq) blobs others) refl
+same_blobs-Decides blobs others = grind (arith, slice_eq-Decides, nat_eq, Decides-eqb)
 
 -- a header whose layout keeps the laws of layouts, and which has a hold for each leaf
 module _ (header : Header) (laid : IsLaidOut (owners_by header) (row_count header) (map (λ (h : Hold). h.width) (holds_by header.mapping header.fields)))
@@ -127,9 +109,7 @@ module _ (header : Header) (laid : IsLaidOut (owners_by header) (row_count heade
 
     pub contents_rows : are_contents header blobs ≡ true → AreRows header (rows_in header blobs) × (blobs ≡ image_bytes header (rows_in header blobs))
     unfolding are_contents
-    contents_rows are =
-        let both = and_parts (all_taken (answer_by header) (raw_in header blobs)) (pointwise (pointwise nat_eq) (image_bytes header (rows_in header blobs)) blobs) are in
-        (rows_stay both.0, sym ((same_blobs-Decides (image_bytes header (rows_in header blobs)) blobs).0 both.1))
+    contents_rows are = grind (arith, and_parts, nat_eq, rows_stay, same_blobs-Decides)
 
     -- the image of rows that stay is opened as these rows
     module _ (rows : List (List ℤ)) (are : AreRows header rows) (is : blobs ≡ image_bytes header rows) where
@@ -157,6 +137,4 @@ module _ (header : Header) (laid : IsLaidOut (owners_by header) (row_count heade
 
       pub rows_contents : are_contents header blobs ≡ true
       unfolding are_contents
-      rows_contents =
-          and_from (all_taken (answer_by header) (raw_in header blobs)) (pointwise (pointwise nat_eq) (image_bytes header (rows_in header blobs)) blobs) all_are
-          ((same_blobs-Decides (image_bytes header (rows_in header blobs)) blobs).1 (ap (image_bytes header) same_rows ∙ sym is))
+      rows_contents = grind (arith, and_from, nat_eq, all_are, same_blobs-Decides, same_rows)

@@ -5,29 +5,17 @@ use Rattle.blob_file.proofs.Imports.{◌≡◌, ℕ, zero, suc, ◌+◌, ◌-◌
 
 pub line_cut : (text rest : List ℕ) → NoEnd text → bytes_to_line_end (text ++ 10 ∷ rest) ≡ Some (text, rest)
 line_cut [] rest one = refl
-line_cut (byte ∷ text) rest one =
-    let no : (byte == 10) ≡ false = ne_eqb byte 10 one.0 in
-    rw no (ap (option_map (λ (found : List ℕ × List ℕ). (byte ∷ found.0, found.1))) (line_cut text rest one.1))
+line_cut (byte ∷ text) rest one = grind (arith, ne_eqb, option_map, (line_cut text rest one.1))
 
 unmapped : (byte : ℕ) (o : Option (List ℕ × List ℕ)) (text rest : List ℕ) → option_map {U = List ℕ × List ℕ} (λ found. (byte ∷ found.0, found.1)) o ≡ Some (text, rest) →
     (front : List ℕ) × (o ≡ Some (front, rest)) × (text ≡ byte ∷ front)
-unmapped byte None text rest e = absurd (cc e)
-unmapped byte (Some found) text rest e =
-    let told : Some (byte ∷ found.0, found.1) ≡ Some (text, rest) = e in
-    let pairs : (byte ∷ found.0, found.1) ≡ (text, rest) = cc in
-    (found.0, ap (λ (r : List ℕ). Some (found.0, r)) (ap (λ (p : List ℕ × List ℕ). p.1) pairs), sym (ap (λ (p : List ℕ × List ℕ). p.0) pairs))
+unmapped byte o text rest e = grind arith
 
 pub line_parts : (bytes text rest : List ℕ) → bytes_to_line_end bytes ≡ Some (text, rest) → (bytes ≡ text ++ 10 ∷ rest) × NoEnd text
 line_parts [] text rest e = absurd (cc e)
 line_parts (byte ∷ bytes) text rest e =
     ⊎_elim
-    (λ (end : byte ≡ 10).
-    let yes : (byte == 10) ≡ true = eq-eqb byte 10 end in
-    let found : Some ([], bytes) ≡ Some (text, rest) = rw yes at e in
-    let pairs : ([], bytes) ≡ (text, rest) = cc in
-    let none : [] ≡ text = ap (λ (p : List ℕ × List ℕ). p.0) pairs in
-    let same : bytes ≡ rest = ap (λ (p : List ℕ × List ℕ). p.1) pairs in
-    rw (← none, ← same, end) (refl, tt))
+    (λ (end : byte ≡ 10). grind (arith, eq-eqb))
     (λ (other : byte ≡ 10 → ⊥).
     let no : (byte == 10) ≡ false = ne_eqb byte 10 other in
     let more = unmapped byte (bytes_to_line_end bytes) text rest (rw no at e) in
@@ -58,8 +46,7 @@ no_cut (byte ∷ bytes) none =
 
 -- two lines and what stands behind them
 pub lines_behind : (first second body : List ℕ) → two_lines first second ++ body ≡ first ++ 10 ∷ (second ++ 10 ∷ body)
-lines_behind first second body =
-    append_assoc first (10 ∷ (second ++ 10 ∷ [])) body ∙ ap (λ (rest : List ℕ). first ++ 10 ∷ rest) (append_assoc second (10 ∷ []) body)
+lines_behind first second body = grind (arith, append_assoc)
 
 -- ---- blobs
 
@@ -84,12 +71,7 @@ total_bits (owners ∷ layout) whole =
 -- blobs are cut out of their bytes
 pub cut_joined : (blobs : List (List ℕ)) → cut (map (length {A = ℕ}) blobs) (joined blobs) ≡ blobs
 cut_joined [] = refl
-cut_joined (blob ∷ blobs) =
-    let front : take (length blob) (blob ++ joined blobs) ≡ blob = take_at blob (joined blobs) (length blob) refl in
-    let rest : drop (length blob) (blob ++ joined blobs) ≡ joined blobs = drop_at blob (joined blobs) (length blob) refl in
-    ap (λ (bytes : List ℕ). bytes ∷ cut (map (length {A = ℕ}) blobs) (drop (length blob) (blob ++ joined blobs))) front
-    ∙ ap (λ (bytes : List ℕ). blob ∷ cut (map (length {A = ℕ}) blobs) bytes) rest
-    ∙ ap (λ (more : List (List ℕ)). blob ∷ more) (cut_joined blobs)
+cut_joined (blob ∷ blobs) = grind (arith, take_at, drop_at, (cut_joined blobs))
 
 -- and bytes are those of the blobs that are cut out of them
 pub joined_cut : (counts bytes : List ℕ) → total counts ≡ length bytes → joined (cut counts bytes) ≡ bytes
@@ -104,15 +86,12 @@ cut_lengths [] bytes all = refl
 cut_lengths (count ∷ counts) bytes all =
     let here : length (take count bytes) ≡ count = length-take-le count bytes (omega (arith, all)) in
     let rest : total counts ≡ length (drop count bytes) = omega (arith, all, length-drop count bytes) in
-    ap (λ (n : ℕ). n ∷ map (length {A = ℕ}) (cut counts (drop count bytes))) here
-    ∙ ap (λ (ns : List ℕ). count ∷ ns) (cut_lengths counts (drop count bytes) rest)
+    grind (arith, (cut_lengths counts (drop count bytes) rest))
 
 -- one blob more of a cut
 pub cut_more : (done : List (List ℕ)) (counts bytes : List ℕ) (k : ℕ) → k < length counts →
     done ++ cut (drop k counts) bytes ≡ (done ++ take (get_or counts k 0) bytes ∷ []) ++ cut (drop (k + 1) counts) (drop (get_or counts k 0) bytes)
-cut_more done counts bytes k inside =
-    ap (λ (rest : List ℕ). done ++ cut rest bytes) (drop_more counts k 0 inside)
-    ∙ sym (append_assoc done (take (get_or counts k 0) bytes ∷ []) (cut (drop (k + 1) counts) (drop (get_or counts k 0) bytes)))
+cut_more done counts bytes k inside = grind (arith, drop_more, append_assoc)
 
 pub total_more : (counts : List ℕ) (k : ℕ) → k < length counts → total (drop k counts) ≡ get_or counts k 0 + total (drop (k + 1) counts)
 total_more counts k inside = ap total (drop_more counts k 0 inside)

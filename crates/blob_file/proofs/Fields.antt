@@ -1,15 +1,14 @@
 -- Fields told by their tokens.
-use Rattle.blob_file.proofs.Imports.{◌≡◌, ℕ, List, [], ◌∷◌, ◌++◌, refl, sym, ap, ◌∙◌, Bool, true, false, Some, append_assoc, OpenBrace, CloseBrace, OpenBracket, Colon, Comma, Token, Word, Sign, listed, leaf_types, type_word, dims_tokens, core_tokens, fields_tokens, later_tokens, Tree, Single, Record, Array, Fields, End, More, LeafType, Truth}
+use Rattle.blob_file.proofs.Imports.{◌≡◌, ℕ, List, [], ◌∷◌, ◌++◌, refl, sym, ap, ◌∙◌, Bool, true, false, Some, append_assoc, OpenBrace, CloseBrace, OpenBracket, Colon, Comma, Token, Word, Sign, listed, leaf_types, type_word, dims_tokens, core_tokens, fields_tokens, later_tokens, Tree, Single, Record, Array, Fields, End, More, LeafType}
+use Rattle.std.proofs.Common.{arith}
 
 -- a value by its word
 pub same_word : {A : Type 0} (word_of : A → List ℕ) (values : List A) → ((value : A) → listed word_of values (word_of value) ≡ Some value) →
     (value other : A) → word_of value ≡ word_of other → value ≡ other
-same_word word_of values back value other same =
-    let found : Some value ≡ Some other = sym (back value) ∙ ap (listed word_of values) same ∙ back other in cc
+same_word word_of values back value other same = grind arith
 
 type_back : (kind : LeafType) → listed type_word leaf_types (type_word kind) ≡ Some kind
-type_back Truth = refl
-type_back other = refl
+type_back kind = grind arith
 
 pub same_type : (kind other : LeafType) → type_word kind ≡ type_word other → kind ≡ other
 same_type = same_word type_word leaf_types type_back
@@ -37,8 +36,7 @@ same_dims tree other rest more held none shut same = (held, same)
 
 -- a leaf, and a record, by what stands before them
 single_core : (kind : LeafType) (other : Tree) (rest more : List Token) → Sign Colon ∷ Word (type_word kind) ∷ rest ≡ core_tokens other ++ more → (Single kind ≡ base other) × (rest ≡ more)
-single_core kind (Single own) rest more same =
-    (ap Single (same_type kind own cc), cc)
+single_core kind (Single own) rest more same = grind (arith, same_type)
 single_core kind (Record fields) rest more same = absurd cc
 single_core kind (Array count element) rest more same = single_core kind element rest more same
 
@@ -57,11 +55,7 @@ record_core : (fields : Fields) (other : Tree) (rest more : List Token) → AreT
     Sign OpenBrace ∷ ((fields_tokens fields ++ Sign CloseBrace ∷ []) ++ rest) ≡ core_tokens other ++ more → (Record fields ≡ base other) × (rest ≡ more)
 record_core fields (Single kind) rest more told same = absurd cc
 record_core fields (Array count element) rest more told same = record_core fields element rest more told same
-record_core fields (Record others) rest more told same =
-    let tails : (fields_tokens fields ++ Sign CloseBrace ∷ []) ++ rest ≡ (fields_tokens others ++ Sign CloseBrace ∷ []) ++ more = cc in
-    let inner = same_listing fields others rest more told
-    (sym (append_assoc (fields_tokens fields) (Sign CloseBrace ∷ []) rest) ∙ tails ∙ append_assoc (fields_tokens others) (Sign CloseBrace ∷ []) more) in
-    (ap Record inner.0, inner.1)
+record_core fields (Record others) rest more told same = grind (arith, fields_tokens, same_listing, append_assoc)
 
 -- behind fields no bracket opens
 behind_fields : (fields : Fields) (rest : List Token) → opens (later_tokens fields ++ Sign CloseBrace ∷ rest) ≡ false

@@ -1,8 +1,6 @@
 -- The rows of a view that are stored run by run, and each run leaf by leaf.
-use Rattle.blob_file.proofs.Imports.{◌≡◌, ℕ, zero, suc, ◌+◌, ◌-◌, ◌*◌, ◌<◌, ◌≤◌, ℤ, pos, negsuc, ◌≤ℤ◌, true, false, Bool, List, [], ◌∷◌, ◌++◌, length, map, get_or, is_ok, Ok, ◌^◌, ltb, refl, sym, ap, ◌∙◌, subst, ⊎_elim, arith, w64, FitsSigned, ◌⊎◌, flat_map, range_with_len, cases_lt, le-ltb, pow_mono, ints, to_z_pos, length-map, get_or-map, ext_get_or, flat_map-cons, indices, is_signed, least_of, greatest_of, least_in, greatest_in, IsDeclared, IsIn, Leaf, leaves, LeafType, entry, Owner, Hold, length-leaf_cells, holds_by, leaf_cells, bit_in, table_shape, tables_same, HasShape, hold_at, table_in, fitting_stays, low_64, stays_answer, column_writes, with_column, raised, AreRowsMoved, CountsNothing, run_entry, run_length, AreBefore, kept_or, kept_row, kept_rows, Table, IsTable, answer_of, kept_of, leaf_count_of, leaf_type_of, leaf_types_of, owners_of, table_holds, after_stores, Access, Write, row_accesses, all_accesses, after_stores-append, logs_more, StoreFault, Header, owners_by, kept_run, run_writes, AreFitting, AreTaken, IsTaken, IsTakenLeaf, raw_in, row_count, header_of}
-use Rattle.std.specs.Prelude.{Result}
+use Rattle.blob_file.proofs.Imports.{◌≡◌, ℕ, ◌+◌, ◌-◌, ◌*◌, ◌<◌, ◌≤◌, ℤ, pos, negsuc, ◌≤ℤ◌, true, false, Bool, List, [], ◌∷◌, ◌++◌, length, map, get_or, is_ok, Ok, refl, sym, ap, ◌∙◌, subst, ⊎_elim, arith, ◌⊎◌, flat_map, range_with_len, cases_lt, le-ltb, pow_mono, ints, to_z_pos, length-map, get_or-map, ext_get_or, flat_map-cons, indices, is_signed, IsDeclared, IsIn, Leaf, leaves, LeafType, entry, Owner, Hold, length-leaf_cells, holds_by, leaf_cells, bit_in, table_shape, tables_same, HasShape, table_in, fitting_stays, low_64, stays_answer, column_writes, raised, CountsNothing, run_entry, run_length, AreBefore, kept_row, kept_rows, Table, IsTable, answer_of, kept_of, leaf_count_of, leaf_type_of, leaf_types_of, owners_of, table_holds, after_stores, Access, Write, row_accesses, all_accesses, after_stores-append, logs_more, Header, owners_by, kept_run, run_writes, AreFitting, IsTakenLeaf, raw_in, row_count, header_of}
 use Rattle.piece_bits.specs.LowsLaws.{low_same}
-use Rattle.views.specs.Stores.{Fits}
 use Rattle.blob_file.proofs.Fills.{kept_entry, kept_shape}
 
 -- ---- the raw rows
@@ -14,10 +12,7 @@ raw_rows header blobs = (table_shape (owners_by header) (length (indices header.
 -- the raw numbers that a mapping of a view's layout reads off blobs
 pub raw_is : (table : Table) (blobs : List (List ℕ)) (layout : List (List Owner)) (slots : ℕ) (holds : List Hold) → layout ≡ owners_of table → slots ≡ length (indices table.extents) → holds ≡ table_holds table
     → table_in layout slots holds blobs ≡ raw_in (header_of table) blobs
-raw_is table blobs layout slots holds a b c =
-    ap (λ (w : List (List Owner)). table_in w slots holds blobs) a
-    ∙ ap (λ (n : ℕ). table_in (owners_of table) n holds blobs) b
-    ∙ ap (λ (hs : List Hold). table_in (owners_of table) (length (indices table.extents)) hs blobs) c
+raw_is table blobs layout slots holds a b c = grind arith
 
 -- as many cells as leaves
 pub cell_count : (table : Table) → length (leaf_cells (leaf_types_of table)) ≡ leaf_count_of table
@@ -48,8 +43,7 @@ module _ (table : Table) (blobs : List (List ℕ)) (is : IsTable table) (paired 
   -- a number of a run
   pub run_kept : (leaf first count k : ℕ) → k < count → first + count ≤ length table.rows → leaf < leaf_count_of table
       → get_or (kept_run leaf first count table raw) k (pos 0) ≡ kept_of table leaf (entry raw (first + k) leaf)
-  run_kept leaf first count k below inside leaf_in =
-      run_entry leaf first count k kept below (omega (arith, inside, kept_long)) ∙ entry_kept (first + k) leaf (omega (arith, below, inside)) leaf_in
+  run_kept leaf first count k below inside leaf_in = grind (arith, run_entry, kept_long, entry_kept)
 
   -- rows whose entries are kept are all that is kept
   pub all_kept : (rows : List (List ℤ)) (first : ℕ) → HasShape (length rows) (leaf_count_of table) rows → length rows ≡ length table.rows → length table.rows ≤ first
@@ -62,35 +56,23 @@ module _ (table : Table) (blobs : List (List ℕ)) (is : IsTable table) (paired 
   -- numbers that fit are taken, and kept as they are
   module _ (leaf first : ℕ) (lows : List ℤ) (leaf_in : leaf < leaf_count_of table) (fitting : AreFitting leaf first table raw lows) where
     fits_answer : (k : ℕ) → k < length lows → answer_of table leaf (entry raw (first + k) leaf) ≡ Ok (entry raw (first + k) leaf)
-    fits_answer k below =
-        let kind = leaf_type_of table leaf in
-        let hold = hold_at (table_holds table) leaf in
-        let some : 1 ≤ hold.width = is.some leaf (omega (arith, leaf_in, length-map (leaves table.fields) (λ (one : Leaf). one.kind))) in
-        stays_answer table.mode kind hold (entry raw (first + k) leaf) (fitting_stays table.mode kind hold (entry raw (first + k) leaf) some (fitting k below).0)
+    fits_answer k below = grind (arith, length-map, leaves, stays_answer, fitting_stays)
 
     pub fitting_taken : IsTakenLeaf leaf first (length lows) table raw
     fitting_taken row low high =
-        let at : first + (row - first) ≡ row = omega (arith, low) in
-        subst (λ (n : ℕ). is_ok (answer_of table leaf (entry raw n leaf)) ≡ true) at
-        (ap (λ (answer : Result ℤ StoreFault). is_ok answer) (fits_answer (row - first) (omega (arith, low, high))))
+        let at : first + (row - first) ≡ row = omega (arith, low) in grind (arith, is_ok, fits_answer)
 
     pub fitting_kept : first + length lows ≤ length table.rows → map (raised (leaf_type_of table leaf)) lows ≡ kept_run leaf first (length lows) table raw
     fitting_kept inside =
         let many : length (kept_run leaf first (length lows) table raw) ≡ length lows = run_length leaf first (length lows) kept (omega (arith, inside, kept_long)) in
         ext_get_or (pos 0) (map (raised (leaf_type_of table leaf)) lows) (kept_run leaf first (length lows) table raw) (length-map lows (raised (leaf_type_of table leaf)) ∙ sym many)
-        (λ k l.
-        let below : k < length lows = omega (arith, l, length-map lows (raised (leaf_type_of table leaf))) in
-        get_or-map (raised (leaf_type_of table leaf)) lows k (pos 0) (pos 0) below ∙ (fitting k below).1
-        ∙ sym (run_kept leaf first (length lows) k below inside leaf_in ∙ ap (kept_or (entry raw (first + k) leaf)) (fits_answer k below)))
+        (λ k l. grind (arith, length-map, get_or-map, run_kept, fits_answer))
 
 -- ---- which numbers are those of a type
 
 -- and so is one of 64 bits whose low bits, read with a sign, are one of the type
 unsigned_low : (n : ℕ) → pos 0 ≤ℤ low_64 (pos n) → low_64 (pos n) ≡ pos n
-unsigned_low n low =
-    ⊎_elim (λ (small : n < 2 ^ 63). to_z_pos w64 n small)
-    (λ (large : 2 ^ 63 ≤ n). let none : ltb n (2 ^ 63) ≡ false = le-ltb n (2 ^ 63) large in absurd (let below = rw none at low in omega (arith, ints, below)))
-    (cases_lt n (2 ^ 63))
+unsigned_low n low = grind (arith, to_z_pos, le-ltb, cases_lt)
 
 same_low : (signed : Bool) (width : ℕ) (value : ℤ) → width ≤ 64 → IsIn signed width value → (signed ≡ false → pos 0 ≤ℤ low_64 value) → low_64 value ≡ value
 same_low true width (pos n) narrow held low = low_same (pos n) (record { sfits = omega (arith, ints, held.1, pow_mono {i = width - 1} {j = 63} (omega (arith, narrow))) })
@@ -99,10 +81,7 @@ same_low false width (pos n) narrow held low = unsigned_low n (low refl)
 same_low false width (negsuc n) narrow held low = absurd (omega (arith, ints, held.0))
 
 pub low_declares : (kind : LeafType) (hold : Hold) (raw : ℤ) → hold.width ≤ 64 → hold.signed ≡ is_signed kind → IsIn hold.signed hold.width raw → IsDeclared kind (low_64 raw) → IsDeclared kind raw
-low_declares kind hold raw narrow sign held declared =
-    subst (IsDeclared kind)
-    (same_low hold.signed hold.width raw narrow held (λ no. (let plain : is_signed kind ≡ false = sym sign ∙ no in rw plain at declared.0)))
-    declared
+low_declares kind hold raw narrow sign held declared = grind (arith, same_low)
 
 -- ---- a leaf more of a run
 
@@ -140,11 +119,7 @@ run_logged old now new leaves first count quiet same stored =
 -- ---- steps
 
 pub leaf_steps : (before now new rows leaf : ℕ) → now ≡ before + rows * leaf → new ≡ now + rows → new ≡ before + rows * (leaf + 1)
-leaf_steps before now new rows leaf so_far more =
-    let next : rows * (leaf + 1) ≡ rows * leaf + rows = grind arith in
-    omega (arith, so_far, more, next)
+leaf_steps before now new rows leaf so_far more = grind arith
 
 pub run_steps_more : (before now new first rows leaves : ℕ) → now ≡ before + first * leaves → new ≡ now + rows * leaves → new ≡ before + (first + rows) * leaves
-run_steps_more before now new first rows leaves so_far more =
-    let next : (first + rows) * leaves ≡ first * leaves + rows * leaves = grind arith in
-    omega (arith, so_far, more, next)
+run_steps_more before now new first rows leaves so_far more = grind arith

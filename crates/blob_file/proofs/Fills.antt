@@ -1,5 +1,5 @@
 -- A view of zeros that was filled by what blobs hold: what is opened of the bytes behind a header.
-use Rattle.blob_file.proofs.Imports.{◌≡◌, true, false, ℕ, ◌+◌, ◌*◌, ◌<◌, ◌≤◌, ℤ, pos, List, [], length, get_or, map, Ok, Err, is_ok, refl, sym, ap, ◌∙◌, arith, ◌==◌, nat_eq, sum_by, enumerate_from, pointwise, eq-eqb, and_parts, and_from, false_from_ne_true, length-map, get_or-map, length-replicate, length-enumerate_from, get_or-enumerate_from, LeafType, least_of, greatest_of, least_in, greatest_in, IsIn, kinds_of, Hold, Owner, IsLaidOut, entry, indices, HasShape, hold_at, tables_same, declared, low_same, declared_same, StoreMode, Strict, Wrap, kind_at, Fits, declared_shape, declared_entry, stored_fits, Keeping, is_between, store_answer, kept_or, kept_row, kept_rows, Table, owners_of, table_holds, leaf_count_of, kept_of, after_stores, Tally, Write, all_accesses, tallied, no_tally, blob_lengths, Header, owners_by, image_bytes, IsTaken, raw_in, rows_in, answer_by, all_taken, are_contents, cut, with_blobs, with_body, empty_table, table_of_saved, leaf_count, row_count, IsRead, header_of, blobs_of}
+use Rattle.blob_file.proofs.Imports.{◌≡◌, true, ℕ, ◌+◌, ◌*◌, ◌<◌, ◌≤◌, ℤ, pos, List, [], length, get_or, map, Ok, Err, is_ok, refl, sym, ap, ◌∙◌, arith, nat_eq, sum_by, enumerate_from, pointwise, eq-eqb, and_parts, and_from, false_from_ne_true, length-map, get_or-map, length-replicate, length-enumerate_from, get_or-enumerate_from, LeafType, IsIn, kinds_of, Hold, Owner, IsLaidOut, entry, indices, HasShape, hold_at, tables_same, declared, low_same, declared_same, StoreMode, kind_at, declared_shape, declared_entry, stored_fits, Keeping, store_answer, kept_or, kept_row, kept_rows, Table, owners_of, table_holds, leaf_count_of, kept_of, after_stores, Write, all_accesses, blob_lengths, Header, owners_by, image_bytes, IsTaken, raw_in, rows_in, answer_by, all_taken, are_contents, cut, with_blobs, with_body, empty_table, table_of_saved, leaf_count, row_count, IsRead, header_of, blobs_of}
 use Rattle.blob_file.specs.declared.fault.FileFault.TheVariants as fault
 use Rattle.blob_file.proofs.Contents.{ok_itself, each_taken, taken_each, raw_shape, raw_range, some_bits, same_count, same_blobs-Decides}
 
@@ -7,12 +7,7 @@ use Rattle.blob_file.proofs.Contents.{ok_itself, each_taken, taken_each, raw_sha
 
 kept_declared : (mode : StoreMode) (kind : LeafType) (hold : Hold) (raw : ℤ) → 1 ≤ hold.width → IsIn hold.signed hold.width raw → is_ok (store_answer mode kind hold raw) ≡ true →
     kept_or raw (store_answer mode kind hold raw) ≡ declared kind raw
-kept_declared Strict kind hold raw some inside taken =
-    let is : store_answer Strict kind hold raw ≡ Ok raw =
-    ok_itself (is_between (least_of kind) (greatest_of kind) raw) (is_between (least_in hold.signed hold.width) (greatest_in hold.signed hold.width) raw) raw taken in
-    let fits : Fits kind hold raw = stored_fits kind hold raw is in
-    ap (kept_or raw) is ∙ sym (declared_same kind raw fits.declared)
-kept_declared Wrap kind hold raw some inside taken = ap (declared kind) (low_same hold.signed hold.width raw some inside)
+kept_declared mode kind hold raw some inside taken = grind (arith, ok_itself, stored_fits, declared_same, low_same)
 
 -- an entry of rows that are kept
 pub kept_entry : (keep : Keeping) (rows : List (List ℤ)) (row leaf : ℕ) → row < length rows → leaf < length (get_or rows row []) → entry (kept_rows keep rows) row leaf ≡ keep leaf (entry rows row leaf)
@@ -36,9 +31,7 @@ kept_shape keep rows count leaves shape = record {
 
 -- what stands behind the test of the length
 pub body_is : (header : Header) (body : List ℕ) → 8 * length body ≡ sum_by (length {A = Owner}) (owners_by header) → with_body header body ≡ with_blobs header (cut (blob_lengths (owners_by header)) body)
-body_is header body sized =
-    let yes : (8 * length body == sum_by (length {A = Owner}) (owners_by header)) ≡ true = eq-eqb _ _ sized in
-    rw yes refl
+body_is header body sized = grind (arith, sum_by, eq-eqb)
 
 -- a view of zeros, its laws, and blobs
 module _ (table : Table) (laid : IsLaidOut (owners_of table) (length (indices table.extents)) (map (λ (h : Hold). h.width) (table_holds table)))
@@ -82,27 +75,19 @@ module _ (table : Table) (laid : IsLaidOut (owners_of table) (length (indices ta
       ∙ sym (declared_entry (row_count header) (kinds_of table.fields) raw shape row leaf l m)))
 
   contents_refused : (are_contents header blobs ≡ true → ⊥) → with_blobs header blobs ≡ Err fault.Contents
-  contents_refused none =
-      let no : are_contents header blobs ≡ false = false_from_ne_true (are_contents header blobs) none in
-      rw no refl
+  contents_refused none = grind (arith, false_from_ne_true)
 
   -- a leaf refuses its number
   pub refused_number : (IsTaken table raw → ⊥) → with_blobs header blobs ≡ Err fault.Contents
   unfolding are_contents
-  refused_number none =
-      contents_refused (λ e. none (taken_of (and_parts (all_taken (answer_by header) raw) (pointwise (pointwise nat_eq) (image_bytes header (rows_in header blobs)) blobs) e).0))
+  refused_number none = grind (arith, contents_refused, taken_of, and_parts, nat_eq)
 
   module _ (new : Table) (taken : IsTaken table raw) (stored : new ≡ after_stores table (kept_rows (kept_of table) raw) (all_accesses Write (leaf_count_of table) (length table.rows))) where
     own_blobs : blobs_of new ≡ image_bytes header (rows_in header blobs)
     own_blobs = ap blobs_of stored ∙ ap (image_bytes header) (rows_kept taken)
 
     new_is : new ≡ table_of_saved (record { header = header; blobs = blobs })
-    new_is =
-        let tally : table.tally ≡ no_tally table.mapping (owners_of table) (leaf_count header) = ap (λ (t : Table). t.tally) empty in
-        stored
-        ∙ ap (λ (rows : List (List ℤ)). after_stores table rows (all_accesses Write (leaf_count header) (length table.rows))) (rows_kept taken)
-        ∙ ap (λ (n : ℕ). after_stores table (rows_in header blobs) (all_accesses Write (leaf_count header) n)) rows_long
-        ∙ ap (λ (w : Tally). record table { rows = rows_in header blobs; tally = tallied (owners_of table) w (all_accesses Write (leaf_count header) (row_count header)) }) tally
+    new_is = grind (arith, rows_kept, rows_long)
 
     -- the blobs of the view are those of the file
     pub opened_view : blobs_of new ≡ blobs → IsRead (with_blobs header blobs) (Ok new)
@@ -115,12 +100,8 @@ module _ (table : Table) (laid : IsLaidOut (owners_of table) (length (indices ta
     -- or are not
     pub other_view : (blobs_of new ≡ blobs → ⊥) → with_blobs header blobs ≡ Err fault.Contents
     unfolding are_contents
-    other_view other =
-        contents_refused (λ e.
-        other (own_blobs ∙ (same_blobs-Decides (image_bytes header (rows_in header blobs)) blobs).0
-        (and_parts (all_taken (answer_by header) raw) (pointwise (pointwise nat_eq) (image_bytes header (rows_in header blobs)) blobs) e).1))
+    other_view other = grind (arith, contents_refused, own_blobs, same_blobs-Decides, and_parts, nat_eq)
 
     -- and the steps that it took
     pub steps_taken : (before now : ℕ) → now ≡ before + length table.rows * leaf_count_of table → now ≡ before + row_count (header_of new) * leaf_count (header_of new)
-    steps_taken before now steps =
-        steps ∙ ap (λ (n : ℕ). before + n * leaf_count_of table) rows_long ∙ ap (λ (t : Table). before + row_count (header_of t) * leaf_count (header_of t)) (sym stored)
+    steps_taken before now steps = grind (arith, rows_long)

@@ -1,10 +1,9 @@
 -- The header in front of bytes, by what a reader finds one after another.
-use Rattle.blob_file.proofs.Imports.{◌≡◌, ℕ, ◌<◌, Bool, true, false, List, length, take, drop, Option, Some, None, refl, ap, ◌∙◌, arith, option_map, if◌then◌else◌, Fields, New, Header, four_bytes, two_lines, same_bytes, bytes_to_line_end, line_told, fields_told, new_told, with_record, header_told, behind_first, behind_size, header_at}
+use Rattle.blob_file.proofs.Imports.{◌≡◌, ℕ, ◌<◌, Bool, true, false, List, length, take, drop, Option, Some, None, ap, ◌∙◌, arith, option_map, if◌then◌else◌, Fields, New, Header, four_bytes, two_lines, same_bytes, bytes_to_line_end, line_told, fields_told, new_told, with_record, header_told, behind_first, behind_size, header_at}
 use Rattle.blob_file.proofs.Heads.{front_is, header_with}
 
 none_from : {A : Type 0} (o : Option A) → ((x : A) → o ≡ Some x → ⊥) → o ≡ None
-none_from None none = refl
-none_from (Some x) none = absurd (none x refl)
+none_from o none = grind arith
 
 -- too few bytes
 pub short_none : (bytes : List ℕ) → length bytes < 4 → header_at bytes ≡ None
@@ -14,12 +13,10 @@ short_none bytes few =
     omega (arith, few, ap (length {A = ℕ}) front.is)))
 
 none_if : {A : Type 0} (test : Bool) (o : Option A) → o ≡ None → (if test then o else None) ≡ None
-none_if true o none = none
-none_if false o none = refl
+none_if test o none = grind arith
 
 no_new : (fields : Option Fields) → with_record fields None ≡ None
-no_new None = refl
-no_new (Some fields) = refl
+no_new fields = grind arith
 
 module _ (bytes : List ℕ) where
   -- no line at all
@@ -60,7 +57,4 @@ module _ (bytes : List ℕ) where
 
       pub header_found : (fields : Fields) (new : New) → same_bytes (take 4 bytes) (four_bytes (length (two_lines first second))) ≡ true → fields_told (line_told first) ≡ Some fields → new_told (line_told second) ≡ Some new →
           header_at bytes ≡ Some (header_with fields new, body)
-      header_found fields new holds a b =
-          cut_second ∙ ap (λ (test : Bool). if test then told else None) holds
-          ∙ ap (λ (f : Option Fields). option_map {U = Header × List ℕ} (λ (header : Header). (header, body)) (with_record f (new_told (line_told second)))) a
-          ∙ ap (λ (n : Option New). option_map {U = Header × List ℕ} (λ (header : Header). (header, body)) (with_record (Some fields) n)) b
+      header_found fields new holds a b = grind (arith, cut_second, option_map)

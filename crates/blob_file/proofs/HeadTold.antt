@@ -1,8 +1,7 @@
 -- What is told of a text, by the line that it is.
-use Rattle.blob_file.proofs.Imports.{◌≡◌, ℕ, Bool, true, false, List, Some, None, refl, ap, ◌∙◌, codes, ExtentWord, Dim, Tree, Single, Record, Array, tree_of, IsRecord, MapExpr, Line, New, Define, View, sentence_of, same_bytes, line_told, fields_told, is_plain, new_told, fields_in, new_in, ShownView}
+use Rattle.blob_file.proofs.Imports.{◌≡◌, ℕ, true, false, List, Some, None, refl, ap, ◌∙◌, codes, Dim, Tree, tree_of, IsRecord, New, Define, View, same_bytes, line_told, fields_told, is_plain, new_told, fields_in}
 use Rattle.record_dim.specs.declared.dim.Dim.TheVariants as dims
-use Rattle.line_grammar.specs.declared.line.Line.TheVariants as lines
-use Rattle.blob_file.proofs.Heads.{plain_parts}
+use Rattle.std.proofs.Common.{arith}
 
 module _ (text : List ℕ) where
   -- a record, and the name of another one
@@ -12,12 +11,7 @@ module _ (text : List ℕ) where
   record_told name (dims.Array' len p element) none is named = absurd none
 
   other_tree : (name : List ℕ) (tree : Tree) → same_bytes name (codes "R") ≡ false → fields_told (Some (Define name tree)) ≡ None
-  other_tree name (Record fields) other = rw other refl
-  other_tree name (Single kind) other = refl
-  other_tree name (Array len element) other = refl
-
-  pub other_name : (name : List ℕ) (dim : Dim) → line_told text ≡ Some (Define name (tree_of dim)) → same_bytes name (codes "R") ≡ false → fields_told (line_told text) ≡ None
-  other_name name dim is other = ap fields_told is ∙ other_tree name (tree_of dim) other
+  other_tree name tree other = grind arith
 
   -- a view, and one that is not plain
   pub view_told : (new : New) → line_told text ≡ Some (View new) → is_plain new ≡ true → new_told (line_told text) ≡ Some new

@@ -1,17 +1,15 @@
 -- The header in front of bytes: which there is, and that it is the only one.
-use Rattle.blob_file.proofs.Imports.{◌≡◌, ℕ, ◌≤◌, Bool, true, false, List, [], ◌∷◌, ◌++◌, length, map, take, drop, Ok, Option, Some, None, refl, sym, ap, ◌∙◌, subst, arith, MatchResult, codes, option_map, not, ◌&&◌, list_any, and_parts, not-true, take-append-drop, bytes_eq-Decides, NoEnd, Reads, StopsAt, Sentence, New, Define, View, deepest, Version, Two, canonical, line_of, ExtentWord, Fixed, Rows, extent_of, is_rows, Fields, Record, StoreMode, Strict, Wrap, Header, four_bytes, two_lines, is_wrap, record_line, view_line, record_text, view_text, header_text, IsShort, is_nameless, HasLine, HasLines, same_bytes, bytes_to_line_end, line_told, fields_told, is_plain, new_told, mode_by, with_record, header_told, behind_first, behind_size, header_at}
+use Rattle.blob_file.proofs.Imports.{◌≡◌, ℕ, ◌≤◌, Bool, true, false, List, [], ◌∷◌, ◌++◌, length, map, Ok, Option, Some, refl, ap, ◌∙◌, arith, MatchResult, codes, option_map, list_any, and_parts, not-true, take-append-drop, bytes_eq-Decides, NoEnd, Reads, StopsAt, Sentence, New, Define, View, deepest, Version, Two, canonical, line_of, ExtentWord, Fixed, Rows, extent_of, is_rows, Fields, Record, StoreMode, Header, four_bytes, two_lines, is_wrap, record_line, view_line, record_text, view_text, header_text, IsShort, is_nameless, HasLine, HasLines, same_bytes, bytes_to_line_end, line_told, fields_told, is_plain, new_told, mode_by, with_record, header_told, behind_first, behind_size, header_at}
 use Rattle.blob_file.proofs.Told.{some_if, if_some, told_some, told_parts, line_is, reads_told}
 use Rattle.blob_file.proofs.Cuts.{line_cut, line_parts, lines_behind}
 
 -- ---- words and modes
 
 pub wrap_back : (wrap : Bool) → is_wrap (mode_by wrap) ≡ wrap
-wrap_back true = refl
-wrap_back false = refl
+wrap_back wrap = grind arith
 
 pub mode_back : (mode : StoreMode) → mode_by (is_wrap mode) ≡ mode
-mode_back Strict = refl
-mode_back Wrap = refl
+mode_back mode = grind arith
 
 pub extents_back : (extents : List ℕ) → map (extent_of 0) (map Fixed extents) ≡ extents
 extents_back [] = refl
@@ -26,25 +24,13 @@ words_back [] none = refl
 words_back (Fixed extent ∷ words) none = ap (λ (ws : List ExtentWord). Fixed extent ∷ ws) (words_back words none)
 words_back (Rows ∷ words) none = absurd (cc none)
 
-pub same_extents : (size : ℕ) (words : List ExtentWord) → list_any is_rows words ≡ false → map (extent_of size) words ≡ map (extent_of 0) words
-same_extents size [] none = refl
-same_extents size (Fixed extent ∷ words) none = ap (λ (ns : List ℕ). extent ∷ ns) (same_extents size words none)
-same_extents size (Rows ∷ words) none = absurd (cc none)
-
 -- ---- what is told of lines
 
 fields_are : (read : Option Sentence) (fields : Fields) → fields_told read ≡ Some fields → read ≡ Some (Define (codes "R") (Record fields))
-fields_are (Some (Define name (Record held))) fields e =
-    let told = some_if (same_bytes name (codes "R")) held fields e in
-    let named : name ≡ codes "R" = (bytes_eq-Decides name (codes "R")).0 told.0 in
-    ap (λ (n : List ℕ). Some (Define n (Record held))) named ∙ ap (λ (f : Fields). Some (Define (codes "R") (Record f))) told.1
-fields_are _ fields e = absurd (cc e)
+fields_are read fields e = grind (arith, some_if, bytes_eq-Decides)
 
 new_is : (read : Option Sentence) (new : New) → new_told read ≡ Some new → (read ≡ Some (View new)) × (is_plain new ≡ true)
-new_is (Some (View found)) new e =
-    let told = some_if (is_plain found) found new e in
-    (ap (λ (n : New). Some (View n)) told.1, subst (λ (n : New). is_plain n ≡ true) told.1 told.0)
-new_is _ new e = absurd (cc e)
+new_is read new e = grind (arith, some_if)
 
 -- the parts of a view that is plain
 pub record IsPlain (new : New) : Type 0 where
@@ -54,16 +40,7 @@ pub record IsPlain (new : New) : Type 0 where
   pub nameless : is_nameless new.term ≡ true
 
 pub plain_parts : (new : New) → is_plain new ≡ true → IsPlain new
-plain_parts new e =
-    let first = and_parts (same_bytes new.name (codes "V")) (same_bytes new.schema (codes "R") && (not (list_any is_rows new.words) && is_nameless new.term)) e in
-    let second = and_parts (same_bytes new.schema (codes "R")) (not (list_any is_rows new.words) && is_nameless new.term) first.1 in
-    let third = and_parts (not (list_any is_rows new.words)) (is_nameless new.term) second.1 in
-    record {
-      named = (bytes_eq-Decides new.name (codes "V")).0 first.0;
-      over = (bytes_eq-Decides new.schema (codes "R")).0 second.0;
-      fixed = not-true (list_any is_rows new.words) third.0;
-      nameless = third.1;
-    }
+plain_parts new e = grind (arith, and_parts, list_any, bytes_eq-Decides, not-true)
 
 -- a header of fields and of what makes a view
 abbrev pub header_with : Fields → New → Header
@@ -71,23 +48,11 @@ header_with fields new = record { fields = fields; extents = map (extent_of 0) n
 
 -- its second line is that of the view
 pub view_back : (fields : Fields) (new : New) → IsPlain new → view_line (header_with fields new) ≡ View new
-view_back fields new plain =
-    λ i. View (record {
-      name = sym plain.named i;
-      schema = sym plain.over i;
-      words = words_back new.words plain.fixed i;
-      wrap = wrap_back new.wrap i;
-      term = new.term;
-    })
+view_back fields new plain = grind (arith, words_back, wrap_back)
 
 both_told : (fields : Option Fields) (new : Option New) (header : Header) → with_record fields new ≡ Some header →
     (f : Fields) × (n : New) × (fields ≡ Some f) × (new ≡ Some n) × (header_with f n ≡ header)
-both_told None new header e = absurd (cc e)
-both_told (Some fields) None header e = absurd (cc e)
-both_told (Some fields) (Some new) header e =
-    let told : Some (header_with fields new) ≡ Some header = e in
-    let same : header_with fields new ≡ header = cc in
-    (fields, new, refl, refl, same)
+both_told fields new header e = grind arith
 
 -- ---- what stands in front of bytes
 
@@ -99,40 +64,19 @@ pub record HasFront (bytes : List ℕ) (header : Header) (body : List ℕ) : Typ
   pub told : header_told first second ≡ Some header
 
 with_rest : (told : Option Header) (rest : List ℕ) (header : Header) (body : List ℕ) → option_map {U = Header × List ℕ} (λ h. (h, rest)) told ≡ Some (header, body) → (told ≡ Some header) × (rest ≡ body)
-with_rest None rest header body e = absurd (cc e)
-with_rest (Some found) rest header body e =
-    let told : Some (found, rest) ≡ Some (header, body) = e in
-    let pairs : (found, rest) ≡ (header, body) = cc in
-    (ap (λ (p : Header × List ℕ). Some p.0) pairs, ap (λ (p : Header × List ℕ). p.1) pairs)
+with_rest told rest header body e = grind arith
 
 second_cut : (size first : List ℕ) (o : Option (List ℕ × List ℕ)) (header : Header) (body : List ℕ) → behind_first size first o ≡ Some (header, body) →
     (second : List ℕ) × (o ≡ Some (second, body)) × (size ≡ four_bytes (length (two_lines first second))) × (header_told first second ≡ Some header)
-second_cut size first None header body e = absurd (cc e)
-second_cut size first (Some found) header body e =
-    let sized = if_some (same_bytes size (four_bytes (length (two_lines first found.0)))) (option_map {U = Header × List ℕ} (λ h. (h, found.1)) (header_told first found.0)) (header, body) e in
-    let told = with_rest (header_told first found.0) found.1 header body sized.1 in
-    (found.0, ap (λ (rest : List ℕ). Some (found.0, rest)) told.1, (bytes_eq-Decides size (four_bytes (length (two_lines first found.0)))).0 sized.0, told.0)
+second_cut size first o header body e = grind (arith, if_some, option_map, with_rest, bytes_eq-Decides)
 
 first_cut : (size : List ℕ) (o : Option (List ℕ × List ℕ)) (header : Header) (body : List ℕ) → behind_size size o ≡ Some (header, body) →
     (first : List ℕ) × (rest : List ℕ) × (o ≡ Some (first, rest)) × (behind_first size first (bytes_to_line_end rest) ≡ Some (header, body))
-first_cut size None header body e = absurd (cc e)
-first_cut size (Some found) header body e = (found.0, found.1, refl, e)
+first_cut size o header body e = grind arith
 
 pub front_is : (bytes : List ℕ) (header : Header) (body : List ℕ) → header_at bytes ≡ Some (header, body) → HasFront bytes header body
 unfolding header_at
-front_is bytes header body e =
-    let one = first_cut (take 4 bytes) (bytes_to_line_end (drop 4 bytes)) header body e in
-    let two = second_cut (take 4 bytes) one.0 (bytes_to_line_end one.1) header body one.3 in
-    let texts = line_parts (drop 4 bytes) one.0 one.1 one.2 in
-    let rest = line_parts one.1 two.0 body two.1 in
-    record {
-      first = one.0;
-      second = two.0;
-      is = sym (take-append-drop 4 bytes)
-          ∙ ap (λ (size : List ℕ). size ++ drop 4 bytes) two.2
-          ∙ ap (λ (more : List ℕ). four_bytes (length (two_lines one.0 two.0)) ++ more) (texts.0 ∙ ap (λ (more : List ℕ). one.0 ++ 10 ∷ more) rest.0 ∙ sym (lines_behind one.0 two.0 body));
-      told = two.3;
-    }
+front_is bytes header body e = grind (arith, first_cut, second_cut, line_parts, take-append-drop, lines_behind)
 
 -- the texts of which a header is told are its own
 pub record AreTexts (first second : List ℕ) (header : Header) : Type 0 where
@@ -153,28 +97,13 @@ texts_are first second header e =
     let two = told_parts second (View new) view.0 in
     let plain = plain_parts new view.1 in
     let back : view_line (header_with fields new) ≡ View new = view_back fields new plain in
-    let second_is : canonical (view_line (header_with fields new)) ≡ second = ap canonical back ∙ two.3 in
-    subst (λ (h : Header). AreTexts first second h) parts.4 (record {
-      first_is = sym one.3;
-      second_is = sym second_is;
-      short = record {
-        of_record = subst (λ (text : List ℕ). length text ≤ 4096) (sym one.3) one.0;
-        of_view = subst (λ (text : List ℕ). length text ≤ 4096) (sym second_is) two.0;
-      };
-      nameless = plain.nameless;
-      of_record = one.1;
-      of_view = two.1 ∙ ap (λ (s : Sentence). Ok s) (sym back);
-    })
+    let second_is : canonical (view_line (header_with fields new)) ≡ second = ap canonical back ∙ two.3 in grind arith
 
 -- by what the grammar says of texts
 module _ (one_reading : (version : Version) (text : List ℕ) (a b : Sentence) → Reads version text a → Reads version text b → a ≡ b)
     (law : (version : Version) (text : List ℕ) → MatchResult (line_of version text) (Reads version text) (StopsAt version text)) where
   pub lines_are : (first second : List ℕ) (header : Header) → AreTexts first second header → HasLines header
-  lines_are first second header texts = record {
-    of_record = (first, reads_told one_reading law first (record_line header) texts.of_record);
-    of_view = (second, reads_told one_reading law second (view_line header) texts.of_view);
-    nameless = texts.nameless;
-  }
+  lines_are first second header texts = grind (arith, reads_told)
 
   -- and the texts of a header tell it
   module _ (reads_back : (version : Version) (text : List ℕ) (sentence : Sentence) → Reads version text sentence → deepest sentence ≤ 32 → Reads version (canonical sentence) sentence)
@@ -188,11 +117,7 @@ module _ (one_reading : (version : Version) (text : List ℕ) (a b : Sentence) �
     plain_view header nameless = rw (no_rows header.extents, nameless) refl
 
     pub header_back : (header : Header) → IsShort header → HasLines header → header_told (record_text header) (view_text header) ≡ Some header
-    header_back header short lines =
-        ap (λ (read : Option Sentence). with_record (fields_told read) (new_told (line_told (view_text header)))) (line_back (record_line header) lines.of_record (omega arith) short.of_record)
-        ∙ ap (λ (read : Option Sentence). with_record (Some header.fields) (new_told read)) (line_back (view_line header) lines.of_view (omega arith) short.of_view)
-        ∙ ap (with_record (Some header.fields)) (plain_view header lines.nameless)
-        ∙ (λ i. Some (record { fields = header.fields; extents = extents_back header.extents i; mode = mode_back header.mode i; mapping = header.mapping }))
+    header_back header short lines = grind (arith, line_back, plain_view, extents_back, mode_back)
 
     pub front_back : (header : Header) (body : List ℕ) → IsShort header → HasLines header →
         header_at (four_bytes (length (header_text header)) ++ (header_text header ++ body)) ≡ Some (header, body)
@@ -203,7 +128,4 @@ module _ (one_reading : (version : Version) (text : List ℕ) (a b : Sentence) �
         let of_view : NoEnd (view_text header) = one_line Two lines.of_view.0 (view_line header) lines.of_view.1 (omega arith) in
         let cut : bytes_to_line_end (header_text header ++ body) ≡ Some (record_text header, view_text header ++ 10 ∷ body) =
         ap bytes_to_line_end (lines_behind (record_text header) (view_text header) body) ∙ line_cut (record_text header) (view_text header ++ 10 ∷ body) of_record in
-        let same : same_bytes size size ≡ true = (bytes_eq-Decides size size).1 refl in
-        ap (behind_size size) cut
-        ∙ ap (behind_first size (record_text header)) (line_cut (view_text header) body of_view)
-        ∙ (rw (same, header_back header short lines) refl)
+        let same : same_bytes size size ≡ true = (bytes_eq-Decides size size).1 refl in grind (arith, line_cut, header_back)

@@ -1,6 +1,6 @@
 -- What the proofs of this crate speak of.
-pub use Rattle.std.proofs.Common.{◌≡◌, ℕ, ◌+◌, ◌*◌, ◌/◌, ◌%◌, ◌<◌, ◌≤◌, List, [], ◌∷◌, ◌++◌, length, map, get_or, drop, take, All, refl, sym, ap, ◌∙◌, subst, arith, Bool, true, false, zero, suc, ℤ, pos, Result, Ok, Err, is_ok, ◌-◌, Option, Some, None, ⊎_elim, append_assoc, length-append, negsuc, ◌≤ℤ◌, ◌^◌, ltb, w64, FitsSigned, nat_lt, is_none, inl, inr, IsErr, rules, take_all, to_z, of_z, SFits}
-pub use Rattle.std.specs.Prelude.{sum_by, nat_eq, if◌then◌else◌, ◌==◌, option_map, ◌⊎◌, codes, MatchResult, not, ◌&&◌, ◌||◌, count_by, cond, bytes_eq, IfOk, IfErr, OnOk, nat_le, int_le}
+pub use Rattle.std.proofs.Common.{◌≡◌, ℕ, ◌+◌, ◌*◌, ◌/◌, ◌%◌, ◌<◌, ◌≤◌, List, [], ◌∷◌, ◌++◌, length, map, get_or, drop, take, All, refl, sym, ap, ◌∙◌, subst, arith, Bool, true, false, zero, suc, ℤ, pos, Result, Ok, Err, is_ok, ◌-◌, Option, Some, None, ⊎_elim, append_assoc, length-append, negsuc, ◌≤ℤ◌, ◌^◌, nat_lt, is_none, inl, inr, IsErr, rules, take_all, to_z, of_z}
+pub use Rattle.std.specs.Prelude.{sum_by, nat_eq, if◌then◌else◌, ◌==◌, option_map, ◌⊎◌, codes, MatchResult, ◌&&◌, count_by, bytes_eq, IfOk, IfErr, OnOk, nat_le, int_le}
 pub use Rattle.std.proofs.lemmas.List.{length-map, length-drop, get_or-map, append-nil, drop_all, take_at, drop_at, take-append-drop, length-take-le, drop_more, take_rest, nil_from_length, ext_get_or, length-replicate, get_or_past, get_or_default}
 pub use Rattle.std.specs.Bool.{Decides}
 pub use Rattle.std.specs.List.{AllPass, list_all, flat_map, range_with_len, enumerate_from, list_any}
@@ -17,11 +17,11 @@ pub use Rattle.std.proofs.lemmas.List.FromFn.{length-enumerate_from, get_or-enum
 pub use Rattle.std.specs.Int.{bit_at, w128}
 pub use Rattle.std.proofs.Math.Seq.{take-add}
 pub use Rattle.std.proofs.lemmas.Option.{get_or_from_slice_get}
-pub use Rattle.places.specs.Layout.{Owner, Pad, Bit, owner_at}
+pub use Rattle.places.specs.Layout.{Owner, Pad, owner_at}
 pub use Rattle.piece_bits.specs.Tables.{AreSized, HasShape, hold_at, table_in, zeros}
-pub use Rattle.views.specs.Tallies.{blob_lengths, Access, Write, row_accesses, all_accesses, Tally, tallied, no_tally, granules_for}
+pub use Rattle.views.specs.Tallies.{blob_lengths, Access, Write, row_accesses, all_accesses, no_tally}
 pub use Rattle.record_dim.specs.declared.leaf_type.LeafType.{LeafType}
-pub use Rattle.record_dim.specs.LeafTypes.{least_of, greatest_of, least_in, greatest_in, IsIn, is_signed, IsDeclared}
+pub use Rattle.record_dim.specs.LeafTypes.{IsIn, is_signed, IsDeclared}
 pub use Rattle.record_dim.specs.Leaves.{Leaf, leaves, kinds_of, record_fault, records_of, records_below, lengths_of, lengths_below, names_of, has_names}
 pub use Rattle.record_dim.specs.Names.{is_word, is_name, begins_name, continues_name}
 pub use Rattle.record_dim.specs.declared.path.PathStep.{PathStep}
@@ -29,7 +29,7 @@ pub use Rattle.places.specs.declared.piece.Hold.{Hold}
 pub use Rattle.places.specs.Lawful.{IsLaidOut}
 pub use Rattle.places.specs.CellWidthsLaws.{width_at}
 pub use Rattle.places.specs.Image.{entry, IsImage, bit_held, image}
-pub use Rattle.map_checks.specs.Mappings.{IsBuiltTerm, holds_by, leaf_cells, accepted, bad_field, bad_side, else_for, most_slots, not_full, layout_by}
+pub use Rattle.map_checks.specs.Mappings.{IsBuiltTerm, holds_by, leaf_cells, accepted, else_for, not_full, layout_by}
 pub use Rattle.blobs.specs.Bits.{bit_in, bit_of, bits_of, AreBytes}
 pub use Rattle.piece_bits.specs.TableLaws.{table_shape, tables_same}
 pub use Rattle.piece_bits.specs.EntriesLaws.{entry_in}
@@ -37,14 +37,13 @@ pub use Rattle.piece_bits.specs.CellsLaws.{bit_in_lt, hold_widths}
 pub use Rattle.piece_bits.specs.LowBits.{declared, held}
 pub use Rattle.piece_bits.specs.KeptLaws.{low_same, declared_same, kept_declared}
 pub use Rattle.piece_bits.specs.declared.mode.StoreMode.{StoreMode}
-pub use Rattle.piece_bits.specs.declared.mode.StoreMode.TheVariants.{Strict, Wrap}
-pub use Rattle.piece_bits.specs.Modes.{kind_at, Fits, Stays}
+pub use Rattle.piece_bits.specs.Modes.{kind_at, Stays}
 pub use Rattle.piece_bits.specs.EntryLaws.{fitting_held, fitting_stays}
 pub use Rattle.piece_bits.specs.KeptTableLaws.{declared_shape, declared_entry}
 pub use Rattle.piece_bits.specs.ImageLaws.{image_raw, image_table}
 pub use Rattle.views.specs.declared.fault.StoreFault.{StoreFault}
 pub use Rattle.views.specs.declared.fault.StoreFault.TheVariants.{Range, Narrow}
-pub use Rattle.views.specs.Stores.{StoreAnswer, is_between, store_answer, kept_or, kept_row, kept_rows, Keeping, AllStay, without_number}
+pub use Rattle.views.specs.Stores.{StoreAnswer, store_answer, kept_or, kept_row, kept_rows, Keeping, without_number}
 pub use Rattle.views.specs.StrictLaws.{stored_fits, fitting_stored, between_true}
 pub use Rattle.line_tokens.specs.Inner.Ends.{NoEnd}
 pub use Rattle.line_tokens.specs.EndLaws.{no_end_append, joined_no_end}
@@ -55,7 +54,7 @@ pub use Rattle.line_tokens.specs.SpelledLaws.{IsParted, next_spelled}
 pub use Rattle.line_tokens.specs.declared.token.Next.TheVariants.{Token as Found}
 pub use Rattle.line_tokens.specs.declared.token.TokenKind.{TokenKind}
 pub use Rattle.line_tokens.specs.declared.sign.Sign.{Sign as SignName}
-pub use Rattle.line_tokens.specs.declared.sign.Sign.TheVariants.{OpenBrace, CloseBrace, OpenBracket, CloseBracket, CloseParen, Colon, Comma, Dot, Arrow}
+pub use Rattle.line_tokens.specs.declared.sign.Sign.TheVariants.{OpenBrace, CloseBrace, OpenBracket, CloseBracket, CloseParen, Colon, Comma, Arrow}
 pub use Rattle.layout_io.specs.Writing.{joined, Wrote, Stopped, Writes}
 pub use Rattle.extents.specs.Indices.{indices}
 pub use Rattle.map_any.specs.AnyLaws.{length-leaf_cells}
@@ -70,9 +69,8 @@ pub use Rattle.record_dim.specs.Trees.{Fields, End, Field as More, Tree, Single,
 pub use Rattle.line_grammar.specs.Sentences.{New, Define, View, sentence_of, Sentence, deepest}
 pub use Rattle.extents.specs.declared.words.ExtentWord.{ExtentWord}
 pub use Rattle.record_dim.specs.declared.dim.Dim.{Dim}
-pub use Rattle.map_expr.specs.declared.expr.MapExpr.{MapExpr}
 pub use Rattle.line_grammar.specs.declared.line.Line.{Line}
-pub use Rattle.line_grammar.specs.Reads.{Reads, StopsAt, tokens_of}
+pub use Rattle.line_grammar.specs.Reads.{Reads, StopsAt}
 pub use Rattle.line_grammar.specs.declared.version.Version.{Version}
 pub use Rattle.line_grammar.specs.declared.version.Version.TheVariants.{Two}
 unfoldable pub use Rattle.line_writer.specs.Texts.{canonical}
@@ -81,52 +79,47 @@ pub use Rattle.line_writer.specs.Canonical.{line_tokens, core_tokens, dims_token
 pub use Rattle.line_writer.proofs.Gives.{Each, each_append}
 pub use Rattle.line_writer.proofs.ReadsBack.{decimal_spells}
 pub use Rattle.line_grammar.specs.declared.token.Token.{Token}
-pub use Rattle.line_grammar.specs.declared.token.Token.TheVariants.{Word, Number, Text, Sign, Bad as BadToken}
+pub use Rattle.line_grammar.specs.declared.token.Token.TheVariants.{Word, Number, Sign}
 pub use Rattle.line_grammar.specs.declared.line.MapWord.{MapWord}
 pub use Rattle.line_grammar.specs.Tokens.{kind_token, listed, leaf_types, orders, aos_forms, soa_forms, map_word}
 pub use Rattle.line_grammar.specs.Words.{type_word, order_word, aos_word, soa_word}
 pub use Rattle.extents.specs.declared.order.Order.{Order}
-pub use Rattle.extents.specs.declared.order.Order.TheVariants.{Row}
 pub use Rattle.places.specs.declared.forms.AosForm.{AosForm}
 pub use Rattle.places.specs.declared.forms.SoaForm.{SoaForm}
 pub use Rattle.map_expr.specs.declared.widths.FieldWidth.{FieldWidth}
 pub use Rattle.schema_lang.specs.LineOf.{line_of, IsTold}
 pub use Rattle.extents.specs.declared.words.ExtentWord.TheVariants.{Fixed, Rows}
-pub use Rattle.extents.specs.Shapes.{extent_of, is_rows, bad_shape, bad_extents, extents_for, HasRows}
+pub use Rattle.extents.specs.Shapes.{extent_of, is_rows, bad_shape, bad_extents, HasRows}
 pub use Rattle.places.specs.NumbersLaws.{bit_number, digit_lt}
-pub use Rattle.instrument.specs.BlobTexts.{byte_of_bits, bytes_of}
+pub use Rattle.instrument.specs.BlobTexts.{bytes_of}
 pub use Rattle.instrument.specs.BlobTextsLaws.{length-bytes_of, bytes_of_bits}
 pub use Rattle.places.specs.declared.piece.Cell.{Cell}
 pub use Rattle.map_expr.specs.declared.check.BadMapping.{BadMapping}
-pub use Rattle.map_expr.specs.declared.check.BadMapping.TheVariants.{TooDeep, Counter, Side, Field, NotFull}
+pub use Rattle.map_expr.specs.declared.check.BadMapping.TheVariants.{TooDeep, Counter}
 pub use Rattle.map_expr.specs.Terms.{Term, term_of, Aos, Soa, Aosoa, BitAos, BitSoa, Split, Byteswap, Bytesplit, Change, Count as Counted, Heat as Heated, Named}
-pub use Rattle.map_expr.specs.Checks.{checked, answered, bad_number}
+pub use Rattle.map_expr.specs.Checks.{answered, bad_number}
 pub use Rattle.map_checks.specs.TermLaws.{term_laws, good_numbers, length-holds}
 pub use Rattle.views.specs.Refusals.{IsOverLimits}
 pub use Rattle.extents.specs.declared.words.BadExtents.{BadExtents as Bad}
 pub use Rattle.layout_io.specs.Gathering.{Gathers, Puts, HasPut}
 pub use Rattle.layout_io.specs.GatheringLaws.{Gathers-written, Puts-append, Puts-stop, Puts-stopped, Writes-puts_err, Writes-puts, Puts-loop_err, Puts-loop_ok}
 pub use Rattle.layout_io.specs.WritingLaws.{flat_map_push, Wrote-append, Stopped-first, Stopped-second}
-pub use Rattle.line_tokens.specs.declared.spots.Spot.{Spot}
 pub use Rattle.line_tokens.specs.SpotLaws.{same_spots}
-pub use Rattle.line_grammar.specs.Language.{IsSentence}
 pub use Rattle.schema_lang.specs.Parsing.{HasItsFields}
 pub use Rattle.schema_lang.specs.declared.fault.LineFault.{LineFault}
-pub use Rattle.schema_lang.specs.declared.fault.LineFault.TheVariants.{Syntax, NoMemory}
 pub use Rattle.record_dim.specs.declared.leaf_type.LeafType.TheVariants.{Bool as Truth}
 pub use Rattle.map_checks.specs.Inner.LeafCells.{kinds_are}
 pub use Rattle.views.specs.ColumnsLaws.{length-with_column}
 pub use Rattle.views.proofs.RunStoreLaws.{value_more}
 pub use Rattle.views.proofs.StoredLaws.{nothing_stored, HasStored, passed}
 pub use Rattle.record_dim.specs.Schemas.{schema_fields}
-pub use Rattle.blob_file.specs.Opened.{cut, raw_in, rows_in, answer_by, are_taken, all_taken, leaf_count, row_count, bytes_to_line_end, with_blobs, with_body, empty_table, table_of_saved, IsRead, same_bytes, fields_told, new_told, with_record, header_told, behind_first, behind_size, is_plain, mode_by, Saved, with_header, canonical_by, IsReadInto}
+pub use Rattle.blob_file.specs.Opened.{cut, raw_in, rows_in, answer_by, are_taken, all_taken, leaf_count, row_count, bytes_to_line_end, with_blobs, with_body, empty_table, table_of_saved, IsRead, same_bytes, fields_told, new_told, with_record, header_told, behind_first, behind_size, is_plain, mode_by, Saved, with_header, canonical_by}
 unfoldable pub use Rattle.blob_file.specs.Opened.{are_contents, line_told, header_at, opened}
 pub use Rattle.blob_file.specs.Files.{Header, owners_by, image_bytes, AreRows, two_lines, four_bytes, is_wrap, record_line, view_line, record_text, view_text, header_text, IsShort, magic, IsFile}
 unfoldable pub use Rattle.blob_file.specs.Files.{file_of}
 pub use Rattle.blob_file.specs.Inner.Filling.{kept_run, run_writes, AreFitting, AreTaken, IsTaken, IsTakenLeaf}
 pub use Rattle.blob_file.specs.Saving.{header_of, blobs_of, head_of}
-pub use Rattle.blob_file.specs.Parts.{fields_in, new_in, header_in, header_by}
-pub use Rattle.blob_file.specs.declared.header.ShownView.{ShownView}
+pub use Rattle.blob_file.specs.Parts.{fields_in, header_in, header_by}
 pub use Rattle.blob_file.specs.Headers.{is_count, is_step, is_width, is_typed, IsTyped, is_nameless, HasLine, HasLines, words_of, CanLie, is_over_limits}
 unfoldable pub use Rattle.blob_file.specs.Headers.{can_lie}
 pub use Rattle.blob_file.specs.HeaderLaws.{nameless_built}
@@ -135,4 +128,3 @@ pub use Rattle.blob_file.specs.Statements.{OneFile, OpensFiles}
 pub use Rattle.blob_file.specs.declared.fault.FileFault.{FileFault}
 pub use Rattle.blob_file.specs.Inner.Refusals.{refusal}
 pub use Rattle.blob_file.specs.declared.fault.FileFault.TheVariants.{Contents}
-pub use Rattle.blob_file.specs.declared.fault.SaveEnd.TheVariants.{Failed}

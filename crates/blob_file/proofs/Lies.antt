@@ -1,12 +1,11 @@
 -- A header with which a view was made, and one with which none was.
 use Rattle.blob_file.proofs.Imports.{◌≡◌, ℕ, false, List, map, None, Ok, sym, ap, ◌∙◌, subst, list_any, ExtentWord, bad_shape, bad_extents, extent_of, is_rows, term_of, accepted, layout_by, leaf_cells, record_fault, kinds_of, Fields, Record, tree_of, IsRecord, Dim, IsOverLimits, owners_by, CanLie, fields_in, header_in, FileHeader}
-use Rattle.record_dim.specs.declared.dim.Dim.TheVariants as dims
 use Rattle.blob_file.proofs.Heads.{words_back}
+use Rattle.std.proofs.Common.{arith}
 
 -- the record of a header is that of its tree
 pub fit_by : (dim : Dim) → IsRecord dim → record_fault (Record (fields_in (tree_of dim))) ≡ None → record_fault (tree_of dim) ≡ None
-fit_by (dims.Fields fields) kind fit = fit
-fit_by _ kind fit = absurd kind
+fit_by dim kind fit = grind arith
 
 module _ (header : FileHeader) (plain : list_any is_rows header.words ≡ false) where
   pub shaped_by : CanLie (header_in header) → bad_shape header.words ≡ None
@@ -20,14 +19,10 @@ module _ (header : FileHeader) (plain : list_any is_rows header.words ≡ false)
     same = ap fields_in made
 
     over_by : IsOverLimits (term_of header.expr) (map (extent_of 0) header.words) (fields_in (tree_of header.dim)) → IsOverLimits (term_of header.expr) extents fields
-    over_by over =
-        subst (λ (f : Fields). IsOverLimits (term_of header.expr) extents f) (sym same)
-        (subst (λ (e : List ℕ). IsOverLimits (term_of header.expr) e (fields_in (tree_of header.dim))) (sym are) over)
+    over_by over = grind (arith, same, tree_of)
 
     over_of : IsOverLimits (term_of header.expr) extents fields → IsOverLimits (term_of header.expr) (map (extent_of 0) header.words) (fields_in (tree_of header.dim))
-    over_of over =
-        subst (λ (e : List ℕ). IsOverLimits (term_of header.expr) e (fields_in (tree_of header.dim))) are
-        (subst (λ (f : Fields). IsOverLimits (term_of header.expr) extents f) same over)
+    over_of over = grind (arith, tree_of, same)
 
     pub can_by : record_fault (tree_of header.dim) ≡ None → bad_shape header.words ≡ None → bad_extents header.words None ≡ None
         → accepted (term_of header.expr) fields (leaf_cells (kinds_of fields)) ≡ Ok tt → (IsOverLimits (term_of header.expr) extents fields → ⊥) → CanLie (header_in header)
@@ -40,10 +35,7 @@ module _ (header : FileHeader) (plain : list_any is_rows header.words ≡ false)
     }
 
     pub same_owners : layout_by (term_of header.expr) extents fields ≡ owners_by (header_in header)
-    same_owners =
-        ap (λ (e : List ℕ). layout_by (term_of header.expr) e fields) are
-        ∙ ap (layout_by (term_of header.expr) (map (extent_of 0) header.words)) same
+    same_owners = grind (arith, same)
 
     pub none_by : (accepted (term_of header.expr) fields (leaf_cells (kinds_of fields)) ≡ Ok tt → (IsOverLimits (term_of header.expr) extents fields → ⊥) → ⊥) → CanLie (header_in header) → ⊥
-    none_by none can =
-        none (subst (λ (f : Fields). accepted (term_of header.expr) f (leaf_cells (kinds_of f)) ≡ Ok tt) (sym same) can.mapped) (λ over. can.within (over_of over))
+    none_by none can = grind (arith, same, over_of)

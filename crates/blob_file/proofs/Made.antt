@@ -1,25 +1,16 @@
 -- Views of zeros, and the words of their extents.
-use Rattle.blob_file.proofs.Imports.{◌≡◌, ℕ, ◌+◌, false, List, [], ◌∷◌, length, map, None, Some, refl, sym, ap, ◌∙◌, arith, count_by, cond, sum_by, list_any, sum_by-cons, Bad, ExtentWord, Fixed, Rows, indices, is_rows, extent_of, extents_for, bad_shape, bad_extents, HasRows, Fields, leaves, Term, layout_by, zeros, StoreMode, Table, owners_of, leaf_count_of, no_tally, empty_table, header_by}
-use Rattle.blob_file.proofs.Heads.{same_extents}
+use Rattle.blob_file.proofs.Imports.{◌≡◌, ℕ, false, List, [], ◌∷◌, length, None, Some, refl, sym, ap, ◌∙◌, arith, count_by, sum_by, list_any, sum_by-cons, Bad, ExtentWord, Fixed, Rows, indices, is_rows, bad_extents, HasRows, Fields, leaves, Term, zeros, StoreMode, Table, owners_of, leaf_count_of, no_tally, empty_table, header_by}
 
 -- the table that a new view is
 pub table_new : (seen : Table) (mode : StoreMode) (fields : Fields) (extents : List ℕ) (term : Term) → seen.mode ≡ mode → seen.fields ≡ fields → seen.extents ≡ extents → seen.mapping ≡ term
     → seen.rows ≡ zeros (length (indices extents)) (length (leaves fields)) → seen.tally ≡ no_tally (seen.mapping) (owners_of seen) (leaf_count_of seen)
     → seen ≡ empty_table (header_by fields extents mode term)
-table_new seen mode fields extents term m f e t z n =
-    let tally : seen.tally ≡ no_tally term (layout_by term extents fields) (length (leaves fields)) =
-    n ∙ ap (λ (w : Term). no_tally w (layout_by w seen.extents seen.fields) (leaf_count_of seen)) t
-    ∙ ap (λ (w : List ℕ). no_tally term (layout_by term w seen.fields) (leaf_count_of seen)) e
-    ∙ ap (λ (w : Fields). no_tally term (layout_by term extents w) (length (leaves w))) f in
-    λ i. record { fields = f i; extents = e i; mapping = t i; mode = m i; rows = z i; tally = tally i }
+table_new seen mode fields extents term m f e t z n = grind (arith, leaves)
 
 -- words of which none is open
 pub none_open : (words : List ExtentWord) → list_any is_rows words ≡ false → count_by is_rows words ≡ 0
 none_open [] none = refl
-none_open (Fixed extent ∷ words) none =
-    let rest : sum_by (λ (word : ExtentWord). cond (is_rows word) 1 0) words ≡ 0 = none_open words none in
-    let zero_on : 0 + sum_by (λ (word : ExtentWord). cond (is_rows word) 1 0) words ≡ 0 = omega (arith, rest) in
-    sum_by-cons (λ (word : ExtentWord). cond (is_rows word) 1 0) (Fixed extent) words ∙ zero_on
+none_open (Fixed extent ∷ words) none = grind (arith, sum_by, sum_by-cons, (none_open words none))
 none_open (Rows ∷ words) none = absurd (cc none)
 
 pub no_open : (words : List ExtentWord) → list_any is_rows words ≡ false → HasRows words → ⊥

@@ -1,24 +1,20 @@
 -- Extents and mappings told by their tokens.
-use Rattle.blob_file.proofs.Imports.{◌≡◌, ℕ, List, [], ◌∷◌, ◌++◌, map, refl, sym, ap, ◌∙◌, Bool, true, false, Option, Some, None, append_assoc, codes, bytes_eq, ◌&&◌, flat_map, and_parts, CloseBrace, CloseBracket, CloseParen, Colon, Comma, Dot, Arrow, SignName, Token, Word, Sign, listed, orders, aos_forms, soa_forms, map_word, type_word, order_word, aos_word, soa_word, MapWord, count_token, with_commas, bracket_list, step_tokens, path_tokens, form_tokens, width_tokens, widths_tokens, bits_tokens, map_tokens, extent_tokens, flag_tokens, PathStep, ExtentWord, Fixed, Rows, Order, Row, AosForm, SoaForm, FieldWidth, Term, Aos, Soa, Aosoa, BitAos, BitSoa, Split, Byteswap, Bytesplit, Change, Counted, Heated, Named, is_nameless}
+use Rattle.blob_file.proofs.Imports.{◌≡◌, ℕ, List, [], ◌∷◌, ◌++◌, map, refl, sym, ap, ◌∙◌, Bool, true, false, Option, Some, None, append_assoc, codes, bytes_eq, ◌&&◌, flat_map, and_parts, CloseBrace, CloseBracket, CloseParen, Colon, Comma, Arrow, SignName, Token, Word, Sign, listed, orders, aos_forms, soa_forms, map_word, type_word, order_word, aos_word, soa_word, MapWord, count_token, with_commas, bracket_list, step_tokens, path_tokens, form_tokens, width_tokens, widths_tokens, bits_tokens, map_tokens, extent_tokens, flag_tokens, PathStep, ExtentWord, Order, AosForm, SoaForm, FieldWidth, Term, Aos, Soa, Aosoa, BitAos, BitSoa, Split, Byteswap, Bytesplit, Change, Counted, Heated, Named, is_nameless}
 use Rattle.record_dim.specs.declared.path.PathStep.TheVariants as step
-use Rattle.places.specs.declared.forms.AosForm.TheVariants as aos
-use Rattle.places.specs.declared.forms.SoaForm.TheVariants as soa
 use Rattle.line_grammar.specs.declared.line.MapWord.TheVariants as form
 use Rattle.blob_file.proofs.Fields.{same_word, same_type}
+use Rattle.std.proofs.Common.{arith}
 
 -- ---- words
 
 order_back : (order : Order) → listed order_word orders (order_word order) ≡ Some order
-order_back Row = refl
-order_back other = refl
+order_back order = grind arith
 
 aos_back : (form : AosForm) → listed aos_word aos_forms (aos_word form) ≡ Some form
-aos_back aos.Packed = refl
-aos_back other = refl
+aos_back form = grind arith
 
 soa_back : (form : SoaForm) → listed soa_word soa_forms (soa_word form) ≡ Some form
-soa_back soa.Single = refl
-soa_back other = refl
+soa_back form = grind arith
 
 -- ---- paths
 
@@ -49,10 +45,8 @@ same_steps path other rest more here there same = absurd cc
 pub same_path : (path other : List PathStep) (rest more : List Token) → ends rest ≡ true → ends more ≡ true →
     path_tokens path ++ rest ≡ path_tokens other ++ more → (path ≡ other) × (rest ≡ more)
 same_path [] [] rest more here there same = (refl, same)
-same_path (step.Name name ∷ path) (step.Name own ∷ other) rest more here there same =
-    same_steps (step.Name name ∷ path) (step.Name own ∷ other) rest more here there (ap (λ (tokens : List Token). Sign Dot ∷ tokens) same)
-same_path (step.At number ∷ path) (step.At own ∷ other) rest more here there same =
-    same_steps (step.At number ∷ path) (step.At own ∷ other) rest more here there same
+same_path (step.Name name ∷ path) (step.Name own ∷ other) rest more here there same = grind (arith, same_steps)
+same_path (step.At number ∷ path) (step.At own ∷ other) rest more here there same = grind (arith, same_steps)
 same_path [] (step.Name name ∷ other) rest more here there same = absurd (cc (ap ends same))
 same_path [] (step.At number ∷ other) rest more here there same = absurd (cc (ap ends same))
 same_path (step.Name name ∷ path) [] rest more here there same = absurd (cc (ap ends same))
@@ -88,31 +82,22 @@ module _ {A : Type 0} (tokens : A → List Token) (end : SignName)
   pub same_list : (values others : List A) (rest more : List Token) →
       with_commas (map tokens values) ++ Sign end ∷ rest ≡ with_commas (map tokens others) ++ Sign end ∷ more → (values ≡ others) × (rest ≡ more)
   same_list [] [] rest more same = (refl, cc)
-  same_list [] (other ∷ others) rest more same =
-      absurd (starts other rest _ (same ∙ append_assoc (tokens other) (commas (map tokens others)) (Sign end ∷ more)))
-  same_list (value ∷ values) [] rest more same =
-      absurd (starts value more _ (sym same ∙ append_assoc (tokens value) (commas (map tokens values)) (Sign end ∷ rest)))
+  same_list [] (other ∷ others) rest more same = grind (arith, append_assoc)
+  same_list (value ∷ values) [] rest more same = grind (arith, append_assoc)
   same_list (value ∷ values) (other ∷ others) rest more same =
       same_later (value ∷ values) (other ∷ others) rest more (ap (λ (ts : List Token). Sign Comma ∷ ts) same)
 
 -- ---- extents
 
 extent_starts : (extent : ExtentWord) (rest more : List Token) → Sign CloseBracket ∷ rest ≡ extent_tokens extent ++ more → ⊥
-extent_starts (Fixed count) rest more same = cc
-extent_starts Rows rest more same = cc
+extent_starts extent rest more same = grind arith
 
 same_extent : (extent other : ExtentWord) (rest more : List Token) → extent_tokens extent ++ rest ≡ extent_tokens other ++ more → (extent ≡ other) × (rest ≡ more)
-same_extent (Fixed count) (Fixed number) rest more same =
-    let counts : count ≡ number = cc in
-    (ap Fixed counts, cc)
-same_extent Rows Rows rest more same = (refl, cc)
-same_extent extent other rest more same = absurd cc
+same_extent extent other rest more same = grind arith
 
 pub same_extents : (extents others : List ExtentWord) (rest more : List Token) →
     bracket_list (map extent_tokens extents) ++ rest ≡ bracket_list (map extent_tokens others) ++ more → (extents ≡ others) × (rest ≡ more)
-same_extents extents others rest more same =
-    let tails : (with_commas (map extent_tokens extents) ++ Sign CloseBracket ∷ []) ++ rest ≡ (with_commas (map extent_tokens others) ++ Sign CloseBracket ∷ []) ++ more = cc in
-    same_list extent_tokens CloseBracket (λ _ _ e. cc) extent_starts same_extent extents others rest more (simp append_assoc at tails)
+same_extents extents others rest more same = grind (arith, same_list, extent_starts, same_extent, append_assoc)
 
 -- a word that may be missing
 abbrev begins : List ℕ → List Token → Bool
@@ -121,10 +106,7 @@ begins word _ = false
 
 pub same_flag : (flag other : Bool) (rest more : List Token) →
     flag_tokens (codes "wrap") flag ++ Word (codes "as") ∷ rest ≡ flag_tokens (codes "wrap") other ++ Word (codes "as") ∷ more → (flag ≡ other) × (rest ≡ more)
-same_flag true true rest more same = (refl, cc)
-same_flag false false rest more same = (refl, cc)
-same_flag true false rest more same = absurd (let e : true ≡ false = ap (begins (codes "wrap")) same in cc)
-same_flag false true rest more same = absurd (let e : false ≡ true = ap (begins (codes "wrap")) same in cc)
+same_flag flag other rest more same = grind arith
 
 -- ---- the widths of cells
 
@@ -164,8 +146,7 @@ same_widths (entry ∷ entries) (other ∷ others) rest more same =
 -- an order, and the brackets' end
 same_order : (order other : Order) (rest more : List Token) →
     Sign Comma ∷ Word (order_word order) ∷ Sign CloseParen ∷ rest ≡ Sign Comma ∷ Word (order_word other) ∷ Sign CloseParen ∷ more → (order ≡ other) × (rest ≡ more)
-same_order order other rest more same =
-    (same_word order_word orders order_back order other cc, cc)
+same_order order other rest more same = grind (arith, same_word, order_back)
 
 record AreBits (width number : ℕ) (entries others : List FieldWidth) (order other : Order) (rest more : List Token) : Type 0 where
   widths : width ≡ number
@@ -175,22 +156,12 @@ record AreBits (width number : ℕ) (entries others : List FieldWidth) (order ot
 
 same_bits : (width number : ℕ) (entries others : List FieldWidth) (order other : Order) (rest more : List Token) →
     bits_tokens width entries order ++ Sign CloseParen ∷ rest ≡ bits_tokens number others other ++ Sign CloseParen ∷ more → AreBits width number entries others order other rest more
-same_bits width number entries others order other rest more same =
-    let front : List Token = Sign Comma ∷ Word (order_word order) ∷ [] in
-    let back : List Token = Sign Comma ∷ Word (order_word other) ∷ [] in
-    let counts : width ≡ number = cc in
-    let inner : (widths_tokens entries ++ front) ++ Sign CloseParen ∷ rest ≡ (widths_tokens others ++ back) ++ Sign CloseParen ∷ more = cc in
-    let fields = same_widths entries others (Word (order_word order) ∷ Sign CloseParen ∷ rest) (Word (order_word other) ∷ Sign CloseParen ∷ more)
-    (sym (append_assoc (widths_tokens entries) front (Sign CloseParen ∷ rest)) ∙ inner ∙ append_assoc (widths_tokens others) back (Sign CloseParen ∷ more)) in
-    let order' = same_order order other rest more (ap (λ (ts : List Token). Sign Comma ∷ ts) fields.1) in
-    record { widths = counts; fields = fields.0; orders = order'.0; tails = order'.1 }
+same_bits width number entries others order other rest more same = grind (arith, same_widths, append_assoc, same_order)
 
 -- what stands in the brackets of a form
 inside : (word own : List ℕ) (tokens others rest more : List Token) → form_tokens word tokens ++ rest ≡ form_tokens own others ++ more →
     tokens ++ Sign CloseParen ∷ rest ≡ others ++ Sign CloseParen ∷ more
-inside word own tokens others rest more same =
-    let tails : (tokens ++ Sign CloseParen ∷ []) ++ rest ≡ (others ++ Sign CloseParen ∷ []) ++ more = cc in
-    simp append_assoc at tails
+inside word own tokens others rest more same = grind (arith, append_assoc)
 
 -- the form of a mapping without names, and the word that begins it
 abbrev form_of : Term → MapWord
@@ -212,12 +183,10 @@ form_at (Word word ∷ tokens) = map_word word
 form_at _ = None
 
 form_told : (term : Term) (rest : List Token) → is_nameless term ≡ true → form_at (map_tokens term ++ rest) ≡ Some (form_of term)
-form_told (Named name) rest nameless = absurd cc
-form_told other rest nameless = refl
+form_told term rest nameless = grind arith
 
 same_form : (term other : Term) (rest more : List Token) → is_nameless term ≡ true → is_nameless other ≡ true → map_tokens term ++ rest ≡ map_tokens other ++ more → form_of term ≡ form_of other
-same_form term other rest more one two same =
-    let e : Some (form_of term) ≡ Some (form_of other) = sym (form_told term rest one) ∙ ap form_at same ∙ form_told other more two in cc
+same_form term other rest more one two same = grind (arith, form_told)
 
 abbrev IsToldMap : Term → Type 0
 IsToldMap term = (other : Term) (rest more : List Token) → is_nameless term ≡ true → is_nameless other ≡ true → map_tokens term ++ rest ≡ map_tokens other ++ more → (term ≡ other) × (rest ≡ more)
@@ -231,9 +200,7 @@ same_inner term told other rest more one two same = told other rest more one two
 -- the last mapping in the brackets of a form
 same_last : (term other : Term) (rest more : List Token) → IsToldByForm term → is_nameless term ≡ true → is_nameless other ≡ true →
     map_tokens term ++ Sign CloseParen ∷ rest ≡ map_tokens other ++ Sign CloseParen ∷ more → (term ≡ other) × (rest ≡ more)
-same_last term other rest more told one two same =
-    let maps = same_inner term told other (Sign CloseParen ∷ rest) (Sign CloseParen ∷ more) one two same in
-    (maps.0, cc maps.1)
+same_last term other rest more told one two same = grind (arith, same_inner)
 
 same_split : (path own : List PathStep) (first next last other : Term) (rest more : List Token) → IsToldByForm first → IsToldByForm next →
     (is_nameless first && is_nameless next) ≡ true → (is_nameless last && is_nameless other) ≡ true →
@@ -250,18 +217,9 @@ same_split path own first next last other rest more told known one two same =
     ((λ i. Split (paths.0 i) (firsts.0 i) (nexts.0 i)), nexts.1)
 
 by_form : (term : Term) → IsToldByForm term
-by_form (Aos kind order) (Aos own other) rest more one two forms same =
-    let kinds = same_word aos_word aos_forms aos_back kind own cc in
-    let behind = same_order order other rest more cc in
-    ((λ i. Aos (kinds i) (behind.0 i)), behind.1)
-by_form (Soa kind order) (Soa own other) rest more one two forms same =
-    let kinds = same_word soa_word soa_forms soa_back kind own cc in
-    let behind = same_order order other rest more cc in
-    ((λ i. Soa (kinds i) (behind.0 i)), behind.1)
-by_form (Aosoa lanes order) (Aosoa own other) rest more one two forms same =
-    let counts : lanes ≡ own = cc in
-    let behind = same_order order other rest more cc in
-    ((λ i. Aosoa (counts i) (behind.0 i)), behind.1)
+by_form (Aos kind order) (Aos own other) rest more one two forms same = grind (arith, same_word, aos_back, same_order)
+by_form (Soa kind order) (Soa own other) rest more one two forms same = grind (arith, same_word, soa_back, same_order)
+by_form (Aosoa lanes order) (Aosoa own other) rest more one two forms same = grind (arith, same_order)
 by_form (BitAos width fields order) (BitAos number others other) rest more one two forms same =
     let bits = same_bits width number fields others order other rest more (inside _ _ (bits_tokens width fields order) (bits_tokens number others other) rest more same) in
     ((λ i. BitAos (bits.widths i) (bits.fields i) (bits.orders i)), bits.tails)

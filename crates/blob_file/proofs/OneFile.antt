@@ -1,5 +1,5 @@
 -- No bytes are the files of two headers, nor of one with two lists of blobs.
-use Rattle.blob_file.proofs.Imports.{◌≡◌, ℕ, ◌/◌, ◌<◌, ◌≤◌, ◌^◌, ℤ, List, [], ◌∷◌, ◌++◌, length, map, refl, sym, ap, ◌∙◌, arith, length-append, codes, length-map, append-nil, true, NoEnd, Sentence, canonical, line_tokens, core_tokens, flag_tokens, map_tokens, bracket_list, extent_tokens, Token, Word, Each, Fixed, StoreMode, Strict, Wrap, Owner, bit_held, image, Record, bytes_of, length-bytes_of, joined, blob_lengths, Header, magic, four_bytes, is_wrap, record_line, view_line, record_text, view_text, header_text, file_of, IsShort, owners_by, image_bytes, is_nameless, IsTyped, OneFile}
+use Rattle.blob_file.proofs.Imports.{◌≡◌, ℕ, ◌<◌, ◌≤◌, ◌^◌, ℤ, List, [], ◌∷◌, ◌++◌, length, map, refl, sym, ap, ◌∙◌, arith, length-append, codes, length-map, append-nil, true, NoEnd, Sentence, canonical, line_tokens, core_tokens, flag_tokens, map_tokens, bracket_list, extent_tokens, Token, Word, Each, Fixed, StoreMode, Owner, image, Record, bytes_of, length-bytes_of, joined, blob_lengths, Header, magic, four_bytes, is_wrap, record_line, view_line, record_text, view_text, header_text, file_of, IsShort, owners_by, image_bytes, is_nameless, IsTyped, OneFile}
 use Rattle.blob_file.proofs.Parts.{same_fronts, same_lines, same_numbers, same_blobs}
 use Rattle.blob_file.proofs.Tokens.{IsPlain, same_tokens, tokens_no_end}
 use Rattle.blob_file.proofs.Fields.{same_records}
@@ -10,11 +10,7 @@ use Rattle.blob_file.proofs.Typed.{record_plain, view_plain}
 
 image_lengths : (layout : List (List Owner)) (rows : List (List ℤ)) → map (length {A = ℕ}) (map bytes_of (image layout rows)) ≡ blob_lengths layout
 image_lengths [] rows = refl
-image_lengths (owners ∷ layout) rows =
-    let here : length (bytes_of (map (bit_held rows) owners)) ≡ length owners / 8 =
-    length-bytes_of (map (bit_held rows) owners) ∙ ap (λ (n : ℕ). n / 8) (length-map owners (bit_held rows)) in
-    ap (λ (n : ℕ). n ∷ map (length {A = ℕ}) (map bytes_of (image layout rows))) here
-    ∙ ap (λ (ns : List ℕ). length owners / 8 ∷ ns) (image_lengths layout rows)
+image_lengths (owners ∷ layout) rows = grind (arith, length-bytes_of, length-map, (image_lengths layout rows))
 
 pub lengths_of_image : (header : Header) (rows : List (List ℤ)) → map (length {A = ℕ}) (image_bytes header rows) ≡ blob_lengths (owners_by header)
 lengths_of_image header rows = image_lengths (owners_by header) rows
@@ -32,10 +28,7 @@ same_words (extent ∷ extents) (other ∷ others) same =
     ap (λ (n : ℕ). n ∷ extents) here ∙ ap (λ (ns : List ℕ). other ∷ ns) (same_words extents others rest)
 
 pub same_modes : (mode other : StoreMode) → is_wrap mode ≡ is_wrap other → mode ≡ other
-same_modes Strict Strict e = refl
-same_modes Strict Wrap e = absurd (cc)
-same_modes Wrap Strict e = absurd (cc)
-same_modes Wrap Wrap e = refl
+same_modes mode other e = grind arith
 
 -- ---- headers told apart
 
@@ -59,8 +52,7 @@ same_headers one other plain bare records views =
 
 -- a short header takes few bytes
 pub short_length : (header : Header) → IsShort header → length (header_text header) ≤ 8194
-short_length header short =
-    omega (arith, short.of_record, short.of_view, length-append (record_text header) (10 ∷ (view_text header ++ 10 ∷ [])), length-append (view_text header) (10 ∷ []))
+short_length header short = grind (arith, length-append)
 
 -- the texts and the bytes of the blobs of one file
 pub same_files : (one other : Header) (blobs others : List (List ℕ)) → IsShort one → IsShort other → NoEnd (record_text one) → NoEnd (view_text one) → NoEnd (record_text other) → NoEnd (view_text other)

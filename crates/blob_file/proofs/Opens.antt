@@ -1,5 +1,5 @@
 -- What is opened of bytes is that of which they are the file.
-use Rattle.blob_file.proofs.Imports.{◌≡◌, ℕ, ◌*◌, ◌≤◌, Bool, true, false, List, ◌++◌, length, map, take, drop, Result, Ok, Err, Option, Some, None, refl, sym, ap, ◌∙◌, subst, arith, MatchResult, IfOk, ◌==◌, if◌then◌else◌, sum_by, eqb-true, eq-eqb, take-append-drop, bytes_eq-Decides, NoEnd, Reads, StopsAt, Sentence, deepest, Version, canonical, line_of, joined, Owner, blob_lengths, holds_by, IsLaidOut, Hold, Table, header_of, blobs_of, Header, magic, four_bytes, two_lines, record_text, header_text, file_of, owners_by, image_bytes, IsFile, HasLines, CanLie, can_lie, Saved, same_bytes, header_at, cut, are_contents, rows_in, with_blobs, with_body, with_header, opened, row_count, IsRead, OpensFiles, FileFault}
+use Rattle.blob_file.proofs.Imports.{◌≡◌, ℕ, ◌*◌, ◌≤◌, Bool, true, List, ◌++◌, length, map, drop, Result, Ok, Err, Option, Some, None, refl, sym, ap, ◌∙◌, subst, arith, MatchResult, IfOk, ◌==◌, if◌then◌else◌, sum_by, eqb-true, eq-eqb, take-append-drop, bytes_eq-Decides, NoEnd, Reads, StopsAt, Sentence, deepest, Version, canonical, line_of, joined, Owner, blob_lengths, holds_by, IsLaidOut, Hold, Table, header_of, blobs_of, Header, magic, four_bytes, two_lines, record_text, header_text, file_of, owners_by, image_bytes, IsFile, HasLines, CanLie, can_lie, Saved, header_at, cut, are_contents, rows_in, with_blobs, with_body, with_header, opened, row_count, IsRead, OpensFiles, FileFault}
 use Rattle.blob_file.proofs.OneFile.{lengths_of_image}
 use Rattle.blob_file.proofs.Cuts.{total, total_bits, length-joined, cut_joined, joined_cut}
 use Rattle.blob_file.proofs.Heads.{AreTexts, front_is, texts_are, lines_are, front_back}
@@ -9,8 +9,7 @@ use Rattle.blob_file.proofs.Contents.{contents_rows, rows_contents}
 -- ---- an answer that is no refusal
 
 passed : {A : Type 0} (test : Bool) (more : Result A FileFault) (why : FileFault) (x : A) → (if test then more else Err why) ≡ Ok x → (test ≡ true) × (more ≡ Ok x)
-passed true more why x e = (refl, e)
-passed false more why x e = absurd (cc e)
+passed test more why x e = grind arith
 
 -- what is found behind the magic
 pub record IsFound (bytes : List ℕ) (saved : Saved) : Type 0 where
@@ -46,10 +45,7 @@ found_in bytes (Some found) saved begins is e =
 
 pub found : (bytes : List ℕ) (saved : Saved) → opened bytes ≡ Ok saved → IsFound bytes saved
 unfolding opened
-found bytes saved e =
-    let begun = passed {A = Saved} (same_bytes (take 8 bytes) magic) (with_header (header_at (drop 8 bytes))) _ saved e in
-    let front : take 8 bytes ≡ magic = (bytes_eq-Decides (take 8 bytes) magic).0 begun.0 in
-    found_in bytes (header_at (drop 8 bytes)) saved (sym (take-append-drop 8 bytes) ∙ ap (λ (f : List ℕ). f ++ drop 8 bytes) front) refl begun.1
+found bytes saved e = grind (arith, passed, bytes_eq-Decides, found_in, take-append-drop)
 
 -- the texts in front of it
 pub texts_in : (bytes : List ℕ) (saved : Saved) (is : IsFound bytes saved) → (first : List ℕ) × (second : List ℕ) × (drop 8 bytes ≡ four_bytes (length (two_lines first second)) ++ (two_lines first second ++ is.body)) × AreTexts first second saved.header
@@ -126,14 +122,10 @@ module _ (one_reading : (version : Version) (text : List ℕ) (a b : Sentence) �
         let sized : (8 * length (joined blobs) == sum_by (length {A = Owner}) (owners_by header)) ≡ true = eq-eqb _ _ long in
         let cuts : cut (blob_lengths (owners_by header)) (joined blobs) ≡ blobs = ap (λ (ns : List ℕ). cut ns (joined blobs)) (sym lengths) ∙ cut_joined blobs in
         let are : are_contents header blobs ≡ true = rows_contents header laid (paired header) blobs file.rows file.are_rows file.image_is in
-        let lie : can_lie header ≡ true = (lies header).1 can in
-        ap with_header (front_back one_reading law reads_back one_line header (joined blobs) file.short lines)
-        ∙ (rw (lie, sized, cuts, are) refl)
+        let lie : can_lie header ≡ true = (lies header).1 can in grind (arith, front_back)
 
     pub opens_files : OpensFiles
     opens_files bytes saved = (
       (λ e. file_opened bytes saved e),
-      λ known.
-          subst (λ (text : List ℕ). opened text ≡ Ok saved) (sym known.0.is)
-          (opened_file saved.header saved.blobs (subst (λ (text : List ℕ). IsFile text saved.header saved.blobs) known.0.is known.0) known.1 known.2),
+      λ known. grind (arith, opened_file),
     )

@@ -1,5 +1,5 @@
 -- Lists told apart: fronts, lines that end at their first LF, numbers in four bytes, and blobs of the same lengths.
-use Rattle.blob_file.proofs.Imports.{◌≡◌, ℕ, ◌/◌, ◌%◌, ◌<◌, ◌^◌, List, [], ◌∷◌, ◌++◌, length, map, refl, ap, ◌∙◌, arith, NoEnd, joined, four_bytes}
+use Rattle.blob_file.proofs.Imports.{◌≡◌, ℕ, ◌<◌, ◌^◌, List, [], ◌∷◌, ◌++◌, length, map, refl, ap, ◌∙◌, arith, NoEnd, joined, four_bytes}
 
 -- lists that are equal when others stand behind them
 pub same_fronts : {A : Type 0} (xs ys more others : List A) → length xs ≡ length ys → xs ++ more ≡ ys ++ others → (xs ≡ ys) × (more ≡ others)
@@ -25,12 +25,7 @@ same_lines (byte ∷ bytes) (other ∷ more) rest others one two same =
 
 -- numbers below 2^32 by their four bytes
 pub same_numbers : (n m : ℕ) → n < 2 ^ 32 → m < 2 ^ 32 → four_bytes n ≡ four_bytes m → n ≡ m
-same_numbers n m small low same =
-    let a : n % 256 ≡ m % 256 = cc in
-    let b : n / 256 % 256 ≡ m / 256 % 256 = cc in
-    let c : n / 65536 % 256 ≡ m / 65536 % 256 = cc in
-    let d : n / 16777216 % 256 ≡ m / 16777216 % 256 = cc in
-    omega (arith, small, low, a, b, c, d)
+same_numbers n m small low same = grind arith
 
 -- blobs of the same lengths
 pub same_blobs : (blobs others : List (List ℕ)) → map (length {A = ℕ}) blobs ≡ map (length {A = ℕ}) others → joined blobs ≡ joined others → blobs ≡ others

@@ -34,13 +34,7 @@ block_stopped {taken} {faults} {first} {mid} {new} (Err error) blob block done c
 -- a text that no buffer holds, and a stop before it
 pub large_stopped : {K T E : Type 0} {taken : K → Option (List ℕ)} {faults : K → ℕ} {old new : K} {was held : List ℕ} (result : Result T E) (text : List ℕ) → IsErr result → 4096 < length text → held ≡ []
     → ((first : K) (before : List ℕ) → Gathers taken faults first old was before → Stopped taken faults first new before) → Puts taken faults old new was held result text
-large_stopped (Ok value) text err long empty flushed = absurd (cc)
-large_stopped (Err error) text err long empty flushed = record {
-  gathers = λ first before gathers. Stopped-first text (flushed first before gathers);
-  bound = λ bound. omega (arith, ap (length {A = ℕ}) empty);
-  fits = λ fits. absurd (omega (arith, fits, long));
-  stopped = empty;
-}
+large_stopped result text err long empty flushed = grind (arith, Stopped-first)
 
 -- and one that was written behind what the buffer held
 pub large_put : {K T E : Type 0} {taken : K → Option (List ℕ)} {faults : K → ℕ} {old mid new : K} {was held : List ℕ} (result : Result T E) (text : List ℕ) → 4096 < length text → held ≡ []
@@ -51,9 +45,4 @@ large_put {taken} {faults} {new} (Ok value) text long empty flushed wrote = reco
   fits = λ fits. absurd (omega (arith, fits, long));
   stopped = tt;
 }
-large_put (Err error) text long empty flushed stop = record {
-  gathers = λ first before gathers. Stopped-second (flushed first before gathers) stop;
-  bound = λ bound. omega (arith, ap (length {A = ℕ}) empty);
-  fits = λ fits. absurd (omega (arith, fits, long));
-  stopped = empty;
-}
+large_put (Err error) text long empty flushed stop = grind (arith, Stopped-second)

@@ -1,7 +1,8 @@
 -- What is opened of bytes, by what a reader finds in them.
-use Rattle.blob_file.proofs.Imports.{◌≡◌, ℕ, ◌*◌, true, false, List, length, take, drop, Result, Ok, Err, Some, None, refl, sym, ap, ◌∙◌, inl, inr, ⊎_elim, ◌⊎◌, ◌==◌, IfErr, OnOk, sum_by, ne_eqb, Owner, Header, magic, owners_by, CanLie, can_lie, Saved, same_bytes, header_at, with_body, with_header, opened, IsRead, FileFault}
+use Rattle.blob_file.proofs.Imports.{◌≡◌, ℕ, ◌*◌, true, false, List, length, take, drop, Result, Err, Some, None, refl, sym, ap, ◌∙◌, ◌⊎◌, IfErr, OnOk, sum_by, ne_eqb, Owner, Header, magic, owners_by, CanLie, can_lie, Saved, same_bytes, header_at, with_body, with_header, opened, IsRead, FileFault}
 use Rattle.blob_file.specs.declared.fault.FileFault.TheVariants as fault
 use Rattle.blob_file.proofs.Lawful.{lies, cannot_lie}
+use Rattle.std.proofs.Common.{arith}
 
 pub no_magic : (bytes : List ℕ) → same_bytes (take 8 bytes) magic ≡ false → opened bytes ≡ Err fault.Magic
 unfolding opened
@@ -15,9 +16,7 @@ with_layout : (header : Header) (body : List ℕ) → CanLie header → with_hea
 with_layout header body can = let yes : can_lie header ≡ true = (lies header).1 can in rw yes refl
 
 pub no_length : (header : Header) (body : List ℕ) → CanLie header → (8 * length body ≡ sum_by (length {A = Owner}) (owners_by header) → ⊥) → with_header (Some (header, body)) ≡ Err fault.Length
-no_length header body can other =
-    let no : (8 * length body == sum_by (length {A = Owner}) (owners_by header)) ≡ false = ne_eqb _ _ other in
-    with_layout header body can ∙ (rw no refl)
+no_length header body can other = grind (arith, sum_by, ne_eqb, with_layout)
 
 -- bytes that begin with the magic
 module _ (bytes : List ℕ) (begins : same_bytes (take 8 bytes) magic ≡ true) where
@@ -37,19 +36,15 @@ module _ (bytes : List ℕ) (begins : same_bytes (take 8 bytes) magic ≡ true) 
 
 -- a refusal, passed on
 pub refused_on : {P Q : Type 0} (why found : FileFault) → (P → Q) → (found ≡ fault.NoMemory) ⊎ ((found ≡ why) × P) → (found ≡ fault.NoMemory) ⊎ ((found ≡ why) × Q)
-refused_on {P} {Q} why found gives cause =
-    ⊎_elim (λ (starved : found ≡ fault.NoMemory). inl starved) (λ (h : (found ≡ why) × P). inr (h.0, gives h.1)) cause
+refused_on {P} {Q} why found gives cause = grind arith
 
 -- a refusal, as a reader answers it
 pub refused : {P : Type 0} (told : Result Saved FileFault) (why found : FileFault) → (P → told ≡ Err why) → (found ≡ fault.NoMemory) ⊎ ((found ≡ why) × P) → IsRead told (Err found)
-refused {P} told why found gives cause =
-    ⊎_elim (λ (starved : found ≡ fault.NoMemory). inl starved) (λ (h : (found ≡ why) × P). inr (gives h.1 ∙ ap (λ (f : FileFault). Err f) (sym h.0))) cause
+refused {P} told why found gives cause = grind arith
 
 pub starved : {A : Type 0} (told : Result Saved FileFault) (answer : Result A FileFault) → IfErr answer (λ found. found ≡ fault.NoMemory) → IfErr answer (λ found. IsRead told (Err found))
-starved told (Ok x) none = tt
-starved told (Err found) none = inl none
+starved told answer none = grind arith
 
 -- a fact beside an answer
 pub on_ok : {A E : Type 0} {P : Type 0} (answer : Result A E) → P → OnOk answer P
-on_ok (Ok x) p = p
-on_ok (Err why) p = tt
+on_ok answer p = grind arith

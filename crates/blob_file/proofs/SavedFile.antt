@@ -1,5 +1,5 @@
 -- What a view saves as is a file.
-use Rattle.blob_file.proofs.Imports.{◌≡◌, ℕ, ◌+◌, ◌*◌, ◌%◌, List, [], ◌∷◌, ◌++◌, All, length, refl, ap, ◌∙◌, subst, append_assoc, length-append, arith, sum_by, Owner, HasShape, joined, AllStay, Table, IsTable, leaf_count_of, leaf_types_of, owners_of, table_holds, blob_lengths, magic, four_bytes, record_text, view_text, header_text, file_of, IsShort, IsFile, header_of, blobs_of, head_of}
+use Rattle.blob_file.proofs.Imports.{◌≡◌, ℕ, ◌+◌, ◌*◌, ◌%◌, List, ◌++◌, All, length, ap, ◌∙◌, append_assoc, length-append, arith, sum_by, Owner, joined, Table, owners_of, blob_lengths, magic, four_bytes, record_text, view_text, header_text, file_of, header_of, blobs_of, head_of}
 use Rattle.blob_file.proofs.Cuts.{total, total_bits, length-joined}
 use Rattle.blob_file.proofs.OneFile.{lengths_of_image}
 
@@ -7,19 +7,7 @@ use Rattle.blob_file.proofs.OneFile.{lengths_of_image}
 pub file_text : (table : Table) (first second : List ℕ) → first ≡ record_text (header_of table) → second ≡ view_text (header_of table) →
     head_of first second ++ joined (blobs_of table) ≡ file_of (header_of table) (blobs_of table)
 unfolding file_of
-file_text table first second one two =
-    let header = header_text (header_of table) in
-    let body = joined (blobs_of table) in
-    let size = four_bytes (length header) in
-    let text = record_text (header_of table) in
-    let next = view_text (header_of table) in
-    ap (λ (t : List ℕ). head_of t second ++ body) one
-    ∙ ap (λ (t : List ℕ). head_of text t ++ body) two
-    ∙ ap (λ (front : List ℕ). front ++ body)
-    (append_assoc (magic ++ size) (text ++ 10 ∷ []) (next ++ 10 ∷ [])
-    ∙ ap (λ (rest : List ℕ). (magic ++ size) ++ rest) (append_assoc text (10 ∷ []) (next ++ 10 ∷ [])))
-    ∙ append_assoc (magic ++ size) header body
-    ∙ append_assoc magic size (header ++ body)
+file_text table first second one two = grind (arith, append_assoc)
 
 -- how long it is
 pub file_length : (table : Table) → All (λ (blob : List Owner). length blob % 8 ≡ 0) (owners_of table) → (lines bytes : ℕ) → lines ≡ length (header_text (header_of table))

@@ -1,5 +1,5 @@
 -- Tokens told by their text: words that are names, numbers and signs, with one space between each two.
-use Rattle.blob_file.proofs.Imports.{◌≡◌, ℕ, ◌+◌, ◌<◌, ◌≤◌, ◌^◌, List, [], ◌∷◌, ◌++◌, length, map, refl, sym, ap, ◌∙◌, arith, true, pos, negsuc, Some, append-nil, inl, inr, nat_le, and_parts, leb-true, nat_tests, AllPass-from_list_all, list_all, AllPass, NoEnd, no_end_append, joined_no_end, is_space_byte, is_word_byte, next_of, Spells, MayOpen, spaced, tokens_joined, IsParted, next_spelled, Found, TokenKind, Token, Word, Number, Text, Sign, BadToken, kind_token, Each, decimal_spells, written, is_word, is_name, begins_name, continues_name}
+use Rattle.blob_file.proofs.Imports.{◌≡◌, ℕ, ◌+◌, ◌<◌, ◌≤◌, ◌^◌, List, [], ◌∷◌, ◌++◌, length, map, refl, sym, ap, ◌∙◌, arith, true, pos, Some, append-nil, inl, inr, nat_le, and_parts, leb-true, nat_tests, AllPass-from_list_all, list_all, AllPass, NoEnd, no_end_append, joined_no_end, is_space_byte, is_word_byte, next_of, Spells, MayOpen, spaced, tokens_joined, IsParted, next_spelled, Found, TokenKind, Token, Word, Number, Sign, kind_token, Each, decimal_spells, written, is_word, is_name, begins_name, continues_name}
 use Rattle.line_tokens.specs.declared.token.TokenKind.TheVariants as kind
 use Rattle.blob_file.proofs.Parts.{same_fronts}
 
@@ -23,27 +23,13 @@ all_in (b ∷ text) h =
     rw (more_in b parts.0) (all_in text parts.1)
 
 word_spelled : (text : List ℕ) → is_word text ≡ true → length text ≤ 32 → Spells kind.Word text
-word_spelled [] h few = absurd cc
-word_spelled (b ∷ text) h few =
-    let parts = and_parts (begins_name b) (list_all continues_name text) h in
-    let all : list_all is_word_byte (b ∷ text) ≡ true = rw (letter_in b parts.0) (all_in text parts.1) in
-    (parts.0, AllPass-from_list_all is_word_byte (b ∷ text) all, few)
+word_spelled text h few = grind (arith, and_parts, list_all, letter_in, all_in, AllPass-from_list_all)
 
 told_spelled : (token : Token) → IsPlain token → Spells (written token).kind (written token).bytes
-told_spelled (Word text) told =
-    let parts = and_parts (nat_le (length text) 32) (is_word text) told in
-    word_spelled text parts.1 (leb-true (length text) 32 parts.0)
-told_spelled (Number (pos value)) told = decimal_spells value told
-told_spelled (Number (negsuc value)) told = absurd told
-told_spelled (Sign sign) told = refl
-told_spelled (Text text) told = absurd told
-told_spelled BadToken told = absurd told
+told_spelled token told = grind (arith, and_parts, nat_le, word_spelled, leb-true, decimal_spells)
 
 room : (kind : TokenKind) → MayOpen kind 0
-room kind.Word = tt
-room (kind.Number value) = tt
-room kind.Text = tt
-room (kind.Sign sign) = λ opens. omega arith
+room kind = grind arith
 
 parted : (tokens : List Token) → IsParted (spaced (map written tokens))
 parted [] = inl refl
@@ -60,11 +46,7 @@ next_is token tokens told =
 
 -- a token by its kind and its bytes
 token_back : (token : Token) → IsPlain token → kind_token (written token).bytes [] (Some (written token).kind) ≡ token
-token_back (Word text) told = refl
-token_back (Number value) told = refl
-token_back (Sign sign) told = refl
-token_back (Text text) told = absurd told
-token_back BadToken told = absurd told
+token_back token told = grind arith
 
 same_spaced : (tokens others : List Token) → Each IsPlain tokens → Each IsPlain others → spaced (map written tokens) ≡ spaced (map written others) → tokens ≡ others
 same_spaced [] [] told known same = refl
@@ -77,9 +59,7 @@ same_spaced (token ∷ tokens) (other ∷ others) told known same =
     let end : 0 + length (written token).bytes ≡ 0 + length (written other).bytes = cc in
     let kind : (written token).kind ≡ (written other).kind = cc in
     let parts = same_fronts (written token).bytes (written other).bytes (spaced (map written tokens)) (spaced (map written others)) (omega (arith, end)) inner in
-    let first : token ≡ other =
-    sym (token_back token told.0) ∙ ap (λ (bytes : List ℕ). kind_token bytes [] (Some (written token).kind)) parts.0
-    ∙ ap (λ (k : TokenKind). kind_token (written other).bytes [] (Some k)) kind ∙ token_back other known.0 in
+    let first : token ≡ other = grind (arith, token_back) in
     ap (λ (t : Token). t ∷ tokens) first ∙ ap (λ (ts : List Token). other ∷ ts) (same_spaced tokens others told.1 known.1 parts.1)
 
 -- no text of such tokens is that of others, and none ends a line
@@ -92,9 +72,7 @@ token_no_end token told = rw append-nil at (joined_no_end (written token ∷ [])
 
 spaced_no_end : (tokens : List Token) → Each IsPlain tokens → NoEnd (spaced (map written tokens))
 spaced_no_end [] told = tt
-spaced_no_end (token ∷ tokens) told =
-    ((λ e. omega (arith, e)), no_end_append (written token).bytes (spaced (map written tokens)) (token_no_end token told.0) (spaced_no_end tokens told.1))
+spaced_no_end (token ∷ tokens) told = grind (arith, no_end_append, token_no_end, (spaced_no_end tokens told.1))
 
 pub tokens_no_end : (tokens : List Token) → Each IsPlain tokens → NoEnd (tokens_joined (map written tokens))
-tokens_no_end [] told = tt
-tokens_no_end (token ∷ tokens) told = (spaced_no_end (token ∷ tokens) told).1
+tokens_no_end tokens told = grind (arith, spaced_no_end)

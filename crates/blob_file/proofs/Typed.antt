@@ -1,28 +1,22 @@
 -- The tokens of a header are told by their text, where its names are names and its numbers have 64 bits.
-use Rattle.blob_file.proofs.Imports.{◌≡◌, ℕ, ◌<◌, ◌^◌, List, [], ◌∷◌, ◌++◌, map, refl, sym, ◌∙◌, arith, Bool, true, codes, list_all, list_all-append, flat_map, ◌&&◌, and_parts, Decides-ltb, CloseBrace, CloseBracket, CloseParen, Colon, Comma, Arrow, Token, Word, Sign, type_word, order_word, aos_word, soa_word, Each, each_append, count_token, with_commas, step_tokens, path_tokens, form_tokens, width_tokens, widths_tokens, bits_tokens, map_tokens, extent_tokens, flag_tokens, line_tokens, dims_tokens, core_tokens, fields_tokens, later_tokens, is_name, Tree, Single, Record, Array, Fields, End, More, LeafType, Truth, PathStep, ExtentWord, Fixed, Rows, Order, Row, AosForm, SoaForm, FieldWidth, Term, Aos, Soa, Aosoa, BitAos, BitSoa, Split, Byteswap, Bytesplit, Change, Counted, Heated, Named, records_of, records_below, lengths_of, lengths_below, names_of, has_names, Header, is_nameless, is_count, is_step, is_width, is_typed, IsTyped, record_line, view_line, is_wrap}
+use Rattle.blob_file.proofs.Imports.{◌≡◌, ℕ, ◌<◌, ◌^◌, List, [], ◌∷◌, ◌++◌, map, refl, sym, ◌∙◌, arith, Bool, true, codes, list_all, list_all-append, flat_map, ◌&&◌, and_parts, Decides-ltb, CloseBrace, CloseParen, Comma, Arrow, Token, Word, Sign, type_word, order_word, aos_word, soa_word, Each, each_append, count_token, with_commas, step_tokens, path_tokens, form_tokens, width_tokens, widths_tokens, bits_tokens, map_tokens, extent_tokens, flag_tokens, line_tokens, dims_tokens, core_tokens, fields_tokens, later_tokens, is_name, Tree, Single, Record, Array, Fields, End, More, LeafType, PathStep, ExtentWord, Fixed, Rows, Order, AosForm, SoaForm, FieldWidth, Term, Aos, Soa, Aosoa, BitAos, BitSoa, Split, Byteswap, Bytesplit, Change, Counted, Heated, Named, records_of, records_below, lengths_of, lengths_below, names_of, has_names, Header, is_nameless, is_count, is_step, is_width, is_typed, IsTyped, record_line, view_line}
 use Rattle.record_dim.specs.declared.path.PathStep.TheVariants as step
-use Rattle.places.specs.declared.forms.AosForm.TheVariants as aos
-use Rattle.places.specs.declared.forms.SoaForm.TheVariants as soa
 use Rattle.blob_file.proofs.Tokens.{IsPlain}
 use Rattle.blob_file.proofs.Maps.{commas}
 
 -- ---- words and numbers
 
 type_in : (kind : LeafType) → is_name (type_word kind) ≡ true
-type_in Truth = refl
-type_in other = refl
+type_in kind = grind arith
 
 order_in : (order : Order) → is_name (order_word order) ≡ true
-order_in Row = refl
-order_in other = refl
+order_in order = grind arith
 
 aos_in : (form : AosForm) → is_name (aos_word form) ≡ true
-aos_in aos.Packed = refl
-aos_in other = refl
+aos_in form = grind arith
 
 soa_in : (form : SoaForm) → is_name (soa_word form) ≡ true
-soa_in soa.Single = refl
-soa_in other = refl
+soa_in form = grind arith
 
 count_in : (number : ℕ) → is_count number ≡ true → number < 2 ^ 127
 count_in number counts = let small : number < 2 ^ 64 = (Decides-ltb number (2 ^ 64)).0 counts in omega (arith, small)
@@ -86,14 +80,10 @@ steps_plain (step.Name name ∷ steps) all = let own = and_parts (is_name name) 
 steps_plain (step.At number ∷ steps) all = let own = and_parts (is_count number) (list_all is_step steps) all in (tt, (count_in number own.0, (tt, steps_plain steps own.1)))
 
 path_plain : (path : List PathStep) → list_all is_step path ≡ true → Each IsPlain (path_tokens path)
-path_plain [] all = tt
-path_plain (step.Name name ∷ path) all = (steps_plain (step.Name name ∷ path) all).1
-path_plain (step.At number ∷ path) all = steps_plain (step.At number ∷ path) all
+path_plain path all = grind (arith, steps_plain)
 
 width_plain : (entry : FieldWidth) → is_width entry ≡ true → Each IsPlain (width_tokens entry)
-width_plain entry all =
-    let own = and_parts (list_all is_step entry.path) (is_count entry.width) all in
-    each_append IsPlain (path_tokens entry.path) (Sign Colon ∷ count_token entry.width ∷ []) (path_plain entry.path own.0) (tt, (count_in entry.width own.1, tt))
+width_plain entry all = grind (arith, and_parts, list_all, each_append, path_plain, count_in)
 
 widths_plain : (entries : List FieldWidth) → list_all is_width entries ≡ true → Each IsPlain (widths_tokens entries)
 widths_plain [] all = tt
@@ -101,9 +91,7 @@ widths_plain (entry ∷ entries) all =
     (tt, each_append IsPlain (with_commas (map width_tokens (entry ∷ entries))) (Sign CloseBrace ∷ []) (list_plain width_tokens is_width width_plain (entry ∷ entries) all) (tt, tt))
 
 bits_plain : (width : ℕ) (entries : List FieldWidth) (order : Order) → (is_count width && list_all is_width entries) ≡ true → Each IsPlain (bits_tokens width entries order)
-bits_plain width entries order all =
-    let own = and_parts (is_count width) (list_all is_width entries) all in
-    (count_in width own.0, each_append IsPlain (widths_tokens entries) (Sign Comma ∷ Word (order_word order) ∷ []) (widths_plain entries own.1) (tt, (order_in order, tt)))
+bits_plain width entries order all = grind (arith, and_parts, list_all, count_in, each_append, widths_plain)
 
 form_plain : (word : List ℕ) (tokens : List Token) → is_name word ≡ true → Each IsPlain tokens → Each IsPlain (form_tokens word tokens)
 form_plain word tokens named told = (named, (tt, each_append IsPlain tokens (Sign CloseParen ∷ []) told (tt, tt)))
@@ -118,9 +106,7 @@ map_plain (Split path first rest) typed plain =
     let paths = and_parts (list_all is_step path) (is_typed first && is_typed rest) typed in
     let types = and_parts (is_typed first) (is_typed rest) paths.1 in
     let plains = and_parts (is_nameless first) (is_nameless rest) plain in
-    form_plain (codes "split") (path_tokens path ++ Sign Comma ∷ (map_tokens first ++ Sign Comma ∷ map_tokens rest)) refl
-    (each_append IsPlain (path_tokens path) (Sign Comma ∷ (map_tokens first ++ Sign Comma ∷ map_tokens rest)) (path_plain path paths.0)
-    (tt, each_append IsPlain (map_tokens first) (Sign Comma ∷ map_tokens rest) (map_plain first types.0 plains.0) (tt, map_plain rest types.1 plains.1)))
+    grind (arith, form_plain, each_append, path_plain, (map_plain first types.0 plains.0), (map_plain rest types.1 plains.1))
 map_plain (Byteswap inner) typed plain = form_plain (codes "byteswap") (map_tokens inner) refl (map_plain inner typed plain)
 map_plain (Bytesplit inner) typed plain = form_plain (codes "bytesplit") (map_tokens inner) refl (map_plain inner typed plain)
 map_plain (Change from to inner) typed plain =
@@ -138,8 +124,7 @@ is_extent (Fixed count) = is_count count
 is_extent Rows = true
 
 extent_plain : (extent : ExtentWord) → is_extent extent ≡ true → Each IsPlain (extent_tokens extent)
-extent_plain (Fixed count) counts = (count_in count counts, tt)
-extent_plain Rows counts = (tt, tt)
+extent_plain extent counts = grind (arith, count_in)
 
 fixed_all : (extents : List ℕ) → list_all is_count extents ≡ true → list_all is_extent (map Fixed extents) ≡ true
 fixed_all [] all = refl
@@ -148,28 +133,7 @@ fixed_all (extent ∷ extents) all =
     rw own.0 (fixed_all extents own.1)
 
 flag_plain : (flag : Bool) → Each IsPlain (flag_tokens (codes "wrap") flag)
-flag_plain true = (refl, tt)
-flag_plain other = tt
+flag_plain flag = grind arith
 
 pub view_plain : (header : Header) → IsTyped header → Each IsPlain (line_tokens (view_line header))
-view_plain header typed =
-    let extents : List Token = with_commas (map extent_tokens (map Fixed header.extents)) in
-    let flag : List Token = flag_tokens (codes "wrap") (is_wrap header.mode) in
-    let behind : List Token = Word (codes "as") ∷ map_tokens header.mapping in (
-      refl,
-      (
-        refl,
-        (
-          tt,
-          (
-            refl,
-            (
-              tt,
-              each_append IsPlain (extents ++ Sign CloseBracket ∷ []) (flag ++ behind)
-                  (each_append IsPlain extents (Sign CloseBracket ∷ []) (list_plain extent_tokens is_extent extent_plain (map Fixed header.extents) (fixed_all header.extents typed.extents)) (tt, tt))
-                  (each_append IsPlain flag behind (flag_plain (is_wrap header.mode)) (refl, map_plain header.mapping typed.mapping typed.nameless)),
-            ),
-          ),
-        ),
-      ),
-    )
+view_plain header typed = grind (arith, each_append, list_plain, extent_plain, fixed_all, flag_plain, map_plain)

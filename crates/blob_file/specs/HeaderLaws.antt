@@ -1,7 +1,7 @@
 -- Mappings without names.
 use Rattle.std.proofs.Common.{◌≡◌, true}
 use Rattle.std.proofs.lemmas.Bool.{false≢true, and_parts}
-use Rattle.map_expr.specs.Terms.{Term, Aos, Soa, Aosoa, BitAos, BitSoa, Split, Byteswap, Bytesplit, Change, Count, Heat, Named}
+use Rattle.map_expr.specs.Terms.{Term, Split, Byteswap, Bytesplit, Change, Count, Heat, Named}
 use Rattle.map_checks.specs.Mappings.{IsBuiltTerm}
 use Rattle.blob_file.specs.Headers.{is_nameless}
 

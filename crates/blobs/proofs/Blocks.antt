@@ -7,9 +7,4 @@ copied block source from len room there same =
     let long : length (take len block) ≡ len = omega (arith, length-take len block) in
     let other : length (take len (drop from source)) ≡ len = omega (arith, length-take len (drop from source), length-drop from source) in
     same_lists (take len block) (take len (drop from source)) (long ∙ sym other)
-    (λ k d inside.
-    let low : k < len = omega arith in
-    let here : k < length block = omega arith in
-    let far : from + k < length source = omega arith in
-    get_or-take len block k d low ∙ get_or_default block k d 0 here ∙ same k low ∙ get_or_default source (from + k) 0 d far
-    ∙ sym (get_or-drop from source k d) ∙ sym (get_or-take len (drop from source) k d low))
+    (λ k d inside. grind (arith, get_or-take, get_or_default, get_or-drop))

@@ -18,15 +18,8 @@ bits_of_bytes xs i zero k fits h = absurd (omega arith)
 bits_of_bytes xs i (suc n) k fits h =
     let byte : ℕ = get_or xs i 0 in
     ⊎_elim
-    (λ (l : k < 8).
-    let index : i ≡ i + k / 8 = omega arith in
-    let bit : k ≡ k % 8 = omega arith in
-    low_bit byte (little_from (suc i) n xs) k l ∙ ap (λ (w : ℕ). bit_at (get_or xs w 0) k) index ∙ ap (bit_at (get_or xs (i + k / 8) 0)) bit)
-    (λ (l : 8 ≤ k).
-    let index : suc i + (k - 8) / 8 ≡ i + k / 8 = omega arith in
-    let bit : (k - 8) % 8 ≡ k % 8 = omega arith in
-    high_bit byte (little_from (suc i) n xs) k (fits i) l ∙ bits_of_bytes xs (suc i) n (k - 8) fits (omega arith)
-    ∙ ap (λ (w : ℕ). bit_at (get_or xs w 0) ((k - 8) % 8)) index ∙ ap (bit_at (get_or xs (i + k / 8) 0)) bit)
+    (λ (l : k < 8). grind (arith, low_bit, little_from, bit_at))
+    (λ (l : 8 ≤ k). grind (arith, high_bit, little_from, bit_at, (bits_of_bytes xs (suc i) n (k - 8) fits (omega arith))))
     (cases_lt k 8)
 
 -- in reverse order it is that of the byte that stands k / 8 before the last
@@ -35,15 +28,8 @@ bits_of_turned xs i zero k fits h = absurd (omega arith)
 bits_of_turned xs i (suc n) k fits h =
     let byte : ℕ = get_or xs (i + n) 0 in
     ⊎_elim
-    (λ (l : k < 8).
-    let index : i + n ≡ i + (suc n - 1 - k / 8) = omega arith in
-    let bit : k ≡ k % 8 = omega arith in
-    low_bit byte (turned_from i n xs) k l ∙ ap (λ (w : ℕ). bit_at (get_or xs w 0) k) index ∙ ap (bit_at (get_or xs (i + (suc n - 1 - k / 8)) 0)) bit)
-    (λ (l : 8 ≤ k).
-    let index : i + (n - 1 - (k - 8) / 8) ≡ i + (suc n - 1 - k / 8) = omega arith in
-    let bit : (k - 8) % 8 ≡ k % 8 = omega arith in
-    high_bit byte (turned_from i n xs) k (fits (i + n)) l ∙ bits_of_turned xs i n (k - 8) fits (omega arith)
-    ∙ ap (λ (w : ℕ). bit_at (get_or xs w 0) ((k - 8) % 8)) index ∙ ap (bit_at (get_or xs (i + (suc n - 1 - k / 8)) 0)) bit)
+    (λ (l : k < 8). grind (arith, low_bit, bit_at))
+    (λ (l : 8 ≤ k). grind (arith, high_bit, bit_at, (bits_of_turned xs i n (k - 8) fits (omega arith))))
     (cases_lt k 8)
 
 -- the number in n bytes is below 256^n
@@ -80,8 +66,7 @@ pub turned_read : (bytes : List ℕ) (at m n word : ℕ) → n ≡ 8 * m → Are
     → word ≡ number (λ k. bit_of bytes (8 * at + turned_place n k)) n
 turned_read bytes at m n word size fits is =
     is ∙ number_of (turned_from at m bytes) m n (λ k. bit_of bytes (8 * at + turned_place n k)) size (turned_small bytes at m fits)
-    (λ k h. bits_of_turned bytes at m k fits (omega arith)
-    ∙ sym (bit_of_byte bytes (8 * at + turned_place n k) (at + (m - 1 - k / 8)) (k % 8) (omega arith) (omega arith)))
+    (λ k h. grind (arith, bits_of_turned, bit_of_byte))
 
 -- a bit of it
 pub word_bit : (bytes : List ℕ) (at word k : ℕ) → AreBytes bytes → word ≡ little_from at 8 bytes → k < 64 → bit_at word k ≡ bit_of bytes (8 * at + k)
@@ -90,10 +75,4 @@ word_bit bytes at word k fits is h =
 
 -- fewer than eight bytes before the end, as a number
 pub last_bit : (bytes : List ℕ) (at n word k : ℕ) → 8 * at + n ≡ 8 * length bytes → word ≡ number (λ k. bit_of bytes (8 * at + k)) n → bit_at word k ≡ bit_of bytes (8 * at + k)
-last_bit bytes at n word k end is =
-    let binary : (j : ℕ) → j < n → bit_of bytes (8 * at + j) < 2 = λ j h. bit_at-lt (get_or bytes ((8 * at + j) / 8) 0) ((8 * at + j) % 8) in
-    let small : number (λ k. bit_of bytes (8 * at + k)) n < 2 ^ n = number_lt (λ k. bit_of bytes (8 * at + k)) n binary in
-    ap (λ (w : ℕ). bit_at w k) is
-    ∙ ⊎_elim (λ (l : k < n). bit_number (λ k. bit_of bytes (8 * at + k)) n k binary l)
-    (λ (l : n ≤ k). bit_at_above (number (λ k. bit_of bytes (8 * at + k)) n) n k small l ∙ sym (past_end bytes (8 * at + k) (omega arith)))
-    (cases_lt k n)
+last_bit bytes at n word k end is = grind (arith, bit_at-lt, number_lt, bit_at, bit_number, bit_at_above, past_end, cases_lt)

@@ -7,12 +7,10 @@ use Rattle.blobs.proofs.Numbers.{bytes_power}
 byte_of : (i n j word : ℕ) → j < n → get_or (bytes_low_first i n word) j 0 ≡ byte_at (i + j) word
 byte_of i zero j word h = absurd (omega arith)
 byte_of i (suc n) zero word h = ap (λ (w : ℕ). byte_at w word) (let e : i ≡ i + 0 = omega arith in e)
-byte_of i (suc n) (suc j) word h =
-    byte_of (suc i) n j word (omega arith) ∙ ap (λ (w : ℕ). byte_at w word) (let e : suc i + j ≡ i + suc j = omega arith in e)
+byte_of i (suc n) (suc j) word h = grind (arith, (byte_of (suc i) n j word (omega arith)))
 
 byte_power : (j word : ℕ) → byte_at j word ≡ word / 256 ^ j % 256
-byte_power zero word = ap (λ (w : ℕ). w % 256) (sym (div-one word))
-byte_power (suc j) word = refl
+byte_power j word = grind (arith, div-one)
 
 -- a bit of byte j
 bit_of_byte_at : (word j k : ℕ) → k < 8 → bit_at (byte_at j word) k ≡ bit_at word (8 * j + k)
@@ -28,8 +26,7 @@ length-bytes i (suc n) word = let rest = length-bytes (suc i) n word in omega (a
 byte_of_turned : (n j word : ℕ) → j < n → get_or (bytes_high_first n word) j 0 ≡ byte_at (n - 1 - j) word
 byte_of_turned zero j word h = absurd (omega arith)
 byte_of_turned (suc n) zero word h = ap (λ (w : ℕ). byte_at w word) (let e : n ≡ suc n - 1 - 0 = omega arith in e)
-byte_of_turned (suc n) (suc j) word h =
-    byte_of_turned n j word (omega arith) ∙ ap (λ (w : ℕ). byte_at w word) (let e : n - 1 - j ≡ suc n - 1 - suc j = omega arith in e)
+byte_of_turned (suc n) (suc j) word h = grind (arith, (byte_of_turned n j word (omega arith)))
 
 length-turned : (n word : ℕ) → length (bytes_high_first n word) ≡ n
 length-turned zero word = refl
@@ -44,31 +41,17 @@ module _ (old bytes : List ℕ) (at n : ℕ) (within : at + n ≤ length old) (l
   front_long = omega (arith, length-take at old)
 
   splice_before : (k : ℕ) → k < 8 * at → bit_of (splice old at n bytes) k ≡ bit_of old k
-  splice_before k h =
-      ap (λ (w : ℕ). bit_at w (k % 8))
-      (get_or_append_left (take at old) (bytes ++ drop (at + n) old) 0 (k / 8) (omega (arith, front_long))
-      ∙ get_or-take at old (k / 8) 0 (omega arith))
+  splice_before k h = grind (arith, bit_at, get_or_append_left, front_long, get_or-take)
 
   behind_front : (index : ℕ) → at ≤ index → get_or (splice old at n bytes) index 0 ≡ get_or (bytes ++ drop (at + n) old) (index - at) 0
   behind_front index h = get_or-append_right (take at old) (bytes ++ drop (at + n) old) at index 0 front_long h
 
   -- a bit of byte `index` of them
   splice_inside : (place index low : ℕ) → place ≡ 8 * (at + index) + low → index < n → low < 8 → bit_of (splice old at n bytes) place ≡ bit_at (get_or bytes index 0) low
-  splice_inside place index low is h l =
-      let back : at + index - at ≡ index = omega arith in
-      bit_of_byte (splice old at n bytes) place (at + index) low is l
-      ∙ ap (λ (w : ℕ). bit_at w low)
-      (behind_front (at + index) (omega arith) ∙ ap (λ (w : ℕ). get_or (bytes ++ drop (at + n) old) w 0) back
-      ∙ get_or_append_left bytes (drop (at + n) old) 0 index (omega arith))
+  splice_inside place index low is h l = grind (arith, bit_of_byte, bit_at, behind_front, get_or_append_left)
 
   splice_after : (k : ℕ) → 8 * at + 8 * n ≤ k → bit_of (splice old at n bytes) k ≡ bit_of old k
-  splice_after k h =
-      let rest : at + n + (k / 8 - at - n) ≡ k / 8 = omega arith in
-      ap (λ (w : ℕ). bit_at w (k % 8))
-      (behind_front (k / 8) (omega arith)
-      ∙ get_or-append_right bytes (drop (at + n) old) n (k / 8 - at) 0 long (omega arith)
-      ∙ get_or-drop (at + n) old (k / 8 - at - n) 0
-      ∙ ap (λ (w : ℕ). get_or old w 0) rest)
+  splice_after k h = grind (arith, bit_at, behind_front, get_or-append_right, get_or-drop)
 
 -- a number that is written to m bytes
 pub whole_put : (old new : List ℕ) (at m n word : ℕ) → n ≡ 8 * m → at + m ≤ length old → new ≡ splice old at m (bytes_low_first 0 m word) → IsPut old new (8 * at) n word
@@ -106,14 +89,4 @@ turned_put old new at m n word size within is =
     })
 
 pub whole_long : (old new : List ℕ) (at m word : ℕ) → at + m ≤ length old → new ≡ splice old at m (bytes_low_first 0 m word) → length new ≡ length old
-whole_long old new at m word within is =
-    let same : length (splice old at m (bytes_low_first 0 m word)) ≡ length old =
-    omega (
-      arith,
-      length-append (take at old) (bytes_low_first 0 m word ++ drop (at + m) old),
-      length-append (bytes_low_first 0 m word) (drop (at + m) old),
-      length-take at old,
-      length-drop (at + m) old,
-      length-bytes 0 m word,
-    ) in
-    ap length is ∙ same
+whole_long old new at m word within is = grind (arith, bytes_low_first, length-append, length-take, length-drop, length-bytes)

@@ -19,10 +19,7 @@ bit_at_mod n m k h =
 
 -- a bit of byte `index`
 pub bit_of_byte : (bytes : List ℕ) (place index low : ℕ) → place ≡ 8 * index + low → low < 8 → bit_of bytes place ≡ bit_at (get_or bytes index 0) low
-bit_of_byte bytes place index low e l =
-    let byte : place / 8 ≡ index = omega arith in
-    let bit : place % 8 ≡ low = omega arith in
-    ap (λ (w : ℕ). bit_at (get_or bytes w 0) (place % 8)) byte ∙ ap (bit_at (get_or bytes index 0)) bit
+bit_of_byte bytes place index low e l = grind (arith, bit_at)
 
 -- bits that lie in one byte, as a number
 pub number_of_byte : (bytes : List ℕ) (at index low n : ℕ) → at ≡ 8 * index + low → low + n ≤ 8 →
@@ -35,9 +32,7 @@ number_of_byte bytes at index low n e within =
 
 -- the bits of a number that was read
 pub bit_read : (bytes : List ℕ) (at n value : ℕ) → value ≡ number (λ k. bit_of bytes (at + k)) n → (k : ℕ) → k < n → bit_at value k ≡ bit_of bytes (at + k)
-bit_read bytes at n value is k h =
-    ap (λ (w : ℕ). bit_at w k) is
-    ∙ bit_number (λ k. bit_of bytes (at + k)) n k (λ j l. bit_at-lt (get_or bytes ((at + j) / 8) 0) ((at + j) % 8)) h
+bit_read bytes at n value is k h = grind (arith, bit_at, bit_number, bit_at-lt)
 
 -- bits read so far, and those of one more byte
 pub number_more : (bytes : List ℕ) (at done index low n : ℕ) → at + done ≡ 8 * index + low → low + n ≤ 8 →
@@ -46,9 +41,7 @@ number_more bytes at done index low n e within =
     let part : number (λ k. bit_of bytes (at + (done + k))) n ≡ get_or bytes index 0 / 2 ^ low % 2 ^ n =
     number_same (λ k. bit_of bytes (at + (done + k))) (λ k. bit_of bytes (at + done + k)) n
     (λ k l. ap (bit_of bytes) (let same : at + (done + k) ≡ at + done + k = omega arith in same))
-    ∙ number_of_byte bytes (at + done) index low n e within in
-    number_split (λ k. bit_of bytes (at + k)) done n
-    ∙ ap (λ (w : ℕ). number (λ k. bit_of bytes (at + k)) done + w) (ap (λ (w : ℕ). 2 ^ done * w) part ∙ mul_comm (2 ^ done) (get_or bytes index 0 / 2 ^ low % 2 ^ n))
+    ∙ number_of_byte bytes (at + done) index low n e within in grind (arith, number_split, mul_comm)
 
 pub byte_and_bit : (at : ℕ) → at ≡ 8 * (at / 8) + at % 8
 byte_and_bit at = omega arith
@@ -69,11 +62,7 @@ read_step bytes at done index low part value field e within few so_far is =
 
 -- what was read fits a word
 pub read_fits : (bytes : List ℕ) (at n : ℕ) → n ≤ 64 → number (λ k. bit_of bytes (at + k)) n < 2 ^ 64
-read_fits bytes at n few =
-    let below : number (λ k. bit_of bytes (at + k)) n < 2 ^ n =
-    number_lt (λ k. bit_of bytes (at + k)) n (λ k l. bit_at-lt (get_or bytes ((at + k) / 8) 0) ((at + k) % 8)) in
-    let more : 2 ^ n ≤ 2 ^ 64 = pow_mono few in
-    omega arith
+read_fits bytes at n few = grind (arith, number_lt, bit_at-lt, pow_mono)
 
 -- one byte is written: its other bits and all other bytes stay
 module _ (bytes : List ℕ) (index new low part : ℕ) (old : ℕ) (index_in : index < length bytes) (old_is : old ≡ get_or bytes index 0)
@@ -82,35 +71,23 @@ module _ (bytes : List ℕ) (index new low part : ℕ) (old : ℕ) (index_in : i
   other_byte place other = ap (λ (w : ℕ). bit_at w (place % 8)) (get_or-set_other bytes index (place / 8) new 0 other)
 
   pub same_byte : (place : ℕ) → place / 8 ≡ index → bit_of (set bytes index new) place ≡ bit_at new (place % 8)
-  same_byte place same =
-      ap (λ (w : ℕ). bit_at (get_or (set bytes index new) w 0) (place % 8)) same
-      ∙ ap (λ (w : ℕ). bit_at w (place % 8)) (get_or-set_same bytes index new 0 index_in)
+  same_byte place same = grind (arith, bit_at, get_or-set_same)
 
   same_old : (place : ℕ) → place / 8 ≡ index → bit_at old (place % 8) ≡ bit_of bytes place
-  same_old place same =
-      ap (λ (w : ℕ). bit_at w (place % 8)) old_is ∙ ap (λ (w : ℕ). bit_at (get_or bytes w 0) (place % 8)) (sym same)
+  same_old place same = grind (arith, bit_at)
 
   pub stands_below : (place : ℕ) → place < 8 * index + low → bit_of (set bytes index new) place ≡ bit_of bytes place
-  stands_below place h =
-      ⊎_elim (λ (same : place / 8 ≡ index). same_byte place same ∙ before (place % 8) (omega arith) ∙ same_old place same)
-      (λ (other : place / 8 ≡ index → ⊥). other_byte place other)
-      (cases_eq (place / 8) index)
+  stands_below place h = grind (arith, same_byte, same_old, other_byte, cases_eq)
 
   pub stands_above : (place : ℕ) → 8 * index + (low + part) ≤ place → bit_of (set bytes index new) place ≡ bit_of bytes place
-  stands_above place h =
-      ⊎_elim (λ (same : place / 8 ≡ index). same_byte place same ∙ after (place % 8) (omega arith) ∙ same_old place same)
-      (λ (other : place / 8 ≡ index → ⊥). other_byte place other)
-      (cases_eq (place / 8) index)
+  stands_above place h = grind (arith, same_byte, same_old, other_byte, cases_eq)
 
   pub written : (k : ℕ) → low + k < 8 → bit_of (set bytes index new) (8 * index + (low + k)) ≡ bit_at new (low + k)
-  written k h =
-      let bit : (8 * index + (low + k)) % 8 ≡ low + k = omega arith in
-      same_byte (8 * index + (low + k)) (omega arith) ∙ ap (bit_at new) bit
+  written k h = grind (arith, same_byte, bit_at)
 
 -- a bit of a part of a value
 pub bit_of_part : (value done part k : ℕ) → k < part → bit_at (value / 2 ^ done % 2 ^ part) k ≡ bit_at value (done + k)
-bit_of_part value done part k h =
-    bit_at_mod (value / 2 ^ done) part k h ∙ ap (λ (w : ℕ). w % 2) (shr-shr value done k)
+bit_of_part value done part k h = grind (arith, bit_at_mod, shr-shr)
 
 -- the bits from `at` on are those of a value, and all others are the old ones
 pub record IsPut (old new : List ℕ) (at n value : ℕ) : Type 0 where
@@ -131,9 +108,7 @@ module _ (start bytes : List ℕ) (at done value : ℕ) (so_far : IsPut start by
       let there : at + k ≡ 8 * index + (low + (k - done)) = omega arith in
       let back : done + (k - done) ≡ k = omega arith in
       let here : bit_of (set bytes index new) (8 * index + (low + (k - done))) ≡ bit_at new (low + (k - done)) =
-      written bytes index new low part old index_in old_is before after (k - done) (omega arith) in
-      ap (bit_of (set bytes index new)) there ∙ here ∙ inside (k - done) (omega arith)
-      ∙ ap (λ (w : ℕ). bit_at w (k - done)) field_is ∙ bit_of_part value done part (k - done) (omega arith) ∙ ap (bit_at value) back)
+      written bytes index new low part old index_in old_is before after (k - done) (omega arith) in grind (arith, bit_at, bit_of_part))
       (cases_lt k done)
 
   pub put_more : IsPut start (set bytes index new) at (done + part) value

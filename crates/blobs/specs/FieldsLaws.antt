@@ -29,10 +29,7 @@ module _ (old new : List ℕ) (at first low n value word changed : ℕ) (place :
     (before : (k : ℕ) → k < 8 * first → bit_of new k ≡ bit_of old k) (after : (k : ℕ) → 8 * first + 64 ≤ k → bit_of new k ≡ bit_of old k) where
   -- a bit of the word that the field leaves
   left : (k : ℕ) → 8 * first ≤ k → k < 8 * first + 64 → bit_at changed (k - 8 * first) ≡ bit_at word (k - 8 * first) → bit_of new k ≡ bit_of old k
-  left k low_end high same =
-      let there : k ≡ 8 * first + (k - 8 * first) = omega arith in
-      let here : k - 8 * first < 64 = omega arith in
-      ap (bit_of new) there ∙ written (k - 8 * first) here ∙ same ∙ is (k - 8 * first) here ∙ ap (bit_of old) (sym there)
+  left k low_end high same = grind arith
 
   pub field_put : IsPut old new at n value
   field_put = record {
@@ -45,19 +42,11 @@ module _ (old new : List ℕ) (at first low n value word changed : ℕ) (place :
 
 -- a bit past the end is 0
 pub past_end : (bytes : List ℕ) (k : ℕ) → 8 * length bytes ≤ k → bit_of bytes k ≡ 0
-past_end bytes k h =
-    let beyond : length bytes ≤ k / 8 = omega arith in
-    ap (λ (w : ℕ). bit_at w (k % 8)) (get_or_past bytes (k / 8) 0 beyond) ∙ bit_at-zero (k % 8)
+past_end bytes k h = grind (arith, bit_at, get_or_past, bit_at-zero)
 
 -- a word that is written as far as there are bytes has its bits at all of its places, where it leaves what lies past the end
 pub window_written : (old new : List ℕ) (at first low n word changed : ℕ) → at ≡ 8 * first + low → at + n ≤ 8 * length old → length new ≡ length old
     → ((k : ℕ) → k < 64 → bit_at word k ≡ bit_of old (8 * first + k)) → ((k : ℕ) → low + n ≤ k → bit_at changed k ≡ bit_at word k)
     → ((k : ℕ) → k < 64 → 8 * first + k < 8 * length old → bit_of new (8 * first + k) ≡ bit_at changed k)
     → (k : ℕ) → k < 64 → bit_of new (8 * first + k) ≡ bit_at changed k
-window_written old new at first low n word changed place within len is above inside k h =
-    ⊎_elim (λ (l : 8 * first + k < 8 * length old). inside k h l)
-    (λ (l : 8 * length old ≤ 8 * first + k).
-    let far : 8 * length new ≤ 8 * first + k = omega arith in
-    let high : low + n ≤ k = omega arith in
-    past_end new (8 * first + k) far ∙ sym (above k high ∙ is k h ∙ past_end old (8 * first + k) l))
-    (cases_lt (8 * first + k) (8 * length old))
+window_written old new at first low n word changed place within len is above inside k h = grind (arith, past_end, cases_lt)

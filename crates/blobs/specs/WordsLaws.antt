@@ -9,8 +9,7 @@ use Rattle.std.proofs.Math.Pow.{pow_mono}
 use Rattle.places.specs.NumbersLaws.{ones_of}
 
 pub read_field : (word low n : ℕ) → n ≤ 64 → bit_and (word / 2 ^ low) (18446744073709551615 / 2 ^ (64 - n)) ≡ word / 2 ^ low % 2 ^ n
-read_field word low n few =
-    ap (λ (w : ℕ). bit_and (word / 2 ^ low) w) (ones_of n few) ∙ and_mask (word / 2 ^ low) n
+read_field word low n few = grind (arith, bit_and, ones_of, and_mask)
 
 -- the mask of a field
 pub mask_is : (low n : ℕ) → low + n ≤ 64 → (18446744073709551615 / 2 ^ (64 - n)) * 2 ^ low % 2 ^ 64 ≡ 2 ^ (low + n) - 2 ^ low
@@ -43,15 +42,12 @@ shifted_high value low k =
 
 module _ (word low n value : ℕ) (within : low + n ≤ 64) (word_fits : word < 2 ^ 64) (fits : value < 2 ^ n) where
   mask_fits : 2 ^ (low + n) - 2 ^ low < 2 ^ 64
-  mask_fits =
-      let more : 2 ^ (low + n) ≤ 2 ^ 64 = pow_mono within in
-      omega (arith, pow_pos low)
+  mask_fits = grind (arith, pow_mono, pow_pos)
 
   field_shape : with_field word low n value ≡ bit_or (bit_and word (bit_not w64 (2 ^ (low + n) - 2 ^ low))) (value * 2 ^ low)
   field_shape =
       let whole : value * 2 ^ low % 2 ^ 64 ≡ value * 2 ^ low = shl_whole value n low 64 fits (omega arith) in
-      ap (λ (w : ℕ). bit_or (bit_and word (18446744073709551615 - w)) (value * 2 ^ low % 2 ^ 64)) (mask_is low n within)
-      ∙ ap (λ (w : ℕ). bit_or (bit_and word (bit_not w64 (2 ^ (low + n) - 2 ^ low))) w) whole
+      grind (arith, bit_or, bit_and, mask_is, bit_not)
 
   field_bit : (k : ℕ) → k < 64 → bit_at (with_field word low n value) k ≡ max (min (bit_at word k) (1 - bit_at (2 ^ (low + n) - 2 ^ low) k)) (bit_at (value * 2 ^ low) k)
   field_bit k h =
@@ -70,14 +66,10 @@ module _ (word low n value : ℕ) (within : low + n ≤ 64) (word_fits : word < 
       subst (λ (w : ℕ). w < 2 ^ m) (sym field_shape) (or_lt m (bit_and word kept) (value * 2 ^ low) left (omega arith))
 
   pub field_inside : (k : ℕ) → k < n → bit_at (with_field word low n value) (low + k) ≡ bit_at value k
-  field_inside k h =
-      let one : bit_at (2 ^ (low + n) - 2 ^ low) (low + k) ≡ 1 = bit_at_mask_inside low (low + n) (low + k) (omega arith) (omega arith) in
-      omega (arith, field_bit (low + k) (omega arith), shifted_high value low k)
+  field_inside k h = grind (arith, bit_at, bit_at_mask_inside, field_bit, shifted_high)
 
   pub field_before : (k : ℕ) → k < low → bit_at (with_field word low n value) k ≡ bit_at word k
-  field_before k h =
-      let none : bit_at (2 ^ (low + n) - 2 ^ low) k ≡ 0 = bit_at_mask_below low (low + n) k h in
-      omega (arith, field_bit k (omega arith), shifted_low value low k h, bit_at-lt word k)
+  field_before k h = grind (arith, bit_at, bit_at_mask_below, field_bit, shifted_low, bit_at-lt)
 
   field_between : (k : ℕ) → low + n ≤ k → k < 64 → bit_at (with_field word low n value) k ≡ bit_at word k
   field_between k h l =

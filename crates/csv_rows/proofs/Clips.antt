@@ -1,5 +1,5 @@
 -- A number that is further from 0 than any leaf reaches, and the one that is answered in its place.
-use Rattle.csv_rows.proofs.Imports.{◌≡◌, ◌⊎◌, inl, inr, ℕ, suc, ◌^◌, ◌-◌, ◌<◌, List, ◌≤◌, Bool, true, false, ◌&&◌, ℤ, pos, negsuc, neg_ℤ, ◌<ℤ◌, Result, Ok, Err, Option, Some, None, refl, sym, ap, ◌∙◌, arith, ⊎_elim, int_le, slice_get, ints, cases_lt, LeafType, Truth, U8, U16, U32, U64, I8, I16, I32, I64, least_of, greatest_of, Hold, StoreMode, Strict, Wrap, store_answer, Range, folded, shortened, folded_near, folded_far, shortened_kept, ◌>>=◌, Place, unspaced, number_behind_sign, the_field, the_number, taken, value_at, RowFault, and_right, and_left}
+use Rattle.csv_rows.proofs.Imports.{◌≡◌, ◌⊎◌, ℕ, suc, ◌^◌, List, ◌≤◌, false, ℤ, pos, negsuc, neg_ℤ, ◌<ℤ◌, Result, Err, Option, Some, None, refl, sym, ap, ◌∙◌, arith, int_le, slice_get, ints, cases_lt, LeafType, least_of, greatest_of, Hold, StoreMode, Strict, store_answer, Range, shortened, folded_near, folded_far, shortened_kept, ◌>>=◌, Place, unspaced, number_behind_sign, the_field, the_number, taken, value_at, RowFault, and_right, and_left}
 use Rattle.std.specs.Prelude.{option_map}
 use Rattle.csv_rows.proofs.CsvReads.{some_is}
 
@@ -8,12 +8,10 @@ int_le-false a b e = grind (arith, ints)
 
 -- above every range, and below
 above_all : (kind : LeafType) (n : ℕ) → 2 ^ 65 ≤ n → greatest_of kind <ℤ pos n
-above_all Truth n far = grind (arith, ints)
-above_all other n far = grind (arith, ints)
+above_all kind n far = grind arith
 
 below_all : (kind : LeafType) (n : ℕ) → 2 ^ 65 ≤ suc n → negsuc n <ℤ least_of kind
-below_all Truth n far = grind (arith, ints)
-below_all other n far = grind (arith, ints)
+below_all kind n far = grind arith
 
 far_above : (kind : LeafType) (hold : Hold) (n : ℕ) → 2 ^ 65 ≤ n → store_answer Strict kind hold (pos n) ≡ Err Range
 far_above kind hold n far = rw (and_right (int_le (least_of kind) (pos n)) (int_le (pos n) (greatest_of kind)) (int_le-false (pos n) (greatest_of kind) (above_all kind n far))) refl
@@ -23,25 +21,12 @@ far_below kind hold n far = rw (and_left (int_le (least_of kind) (negsuc n)) (in
 
 -- a strict view refuses both numbers, where they are not one
 strict_same : (kind : LeafType) (hold : Hold) (z : ℤ) → (shortened z ≡ z) ⊎ ((store_answer Strict kind hold z ≡ Err Range) × (store_answer Strict kind hold (shortened z) ≡ Err Range))
-strict_same kind hold (pos n) =
-    ⊎_elim (λ (near : n < 2 ^ 65). inl (ap pos (folded_near n near)))
-    (λ (far : 2 ^ 65 ≤ n). inr (far_above kind hold n far, far_above kind hold (folded n) (folded_far n far)))
-    (cases_lt n (2 ^ 65))
-strict_same kind hold (negsuc n) =
-    ⊎_elim (λ (near : suc n < 2 ^ 65). inl (ap (λ m. neg_ℤ (pos m)) (folded_near (suc n) near)))
-    (λ (far : 2 ^ 65 ≤ suc n).
-    let most : 2 ^ 65 ≤ folded (suc n) = folded_far (suc n) far in
-    let next : folded (suc n) ≡ suc (folded (suc n) - 1) = omega (arith, most) in
-    inr (far_below kind hold n far, ap (λ m. store_answer Strict kind hold (neg_ℤ (pos m))) next ∙ far_below kind hold (folded (suc n) - 1) (omega (arith, most))))
-    (cases_lt (suc n) (2 ^ 65))
+strict_same kind hold (pos n) = grind (arith, folded_near, far_above, folded_far, cases_lt)
+strict_same kind hold (negsuc n) = grind (arith, neg_ℤ, folded_near, folded_far, far_below, cases_lt)
 
 -- so a view of either mode answers both alike: any other keeps the same low bits of both
 answer_same : (mode : StoreMode) (kind : LeafType) (hold : Hold) (z : ℤ) → hold.width ≤ 64 → store_answer mode kind hold z ≡ store_answer mode kind hold (shortened z)
-answer_same Strict kind hold z few = ⊎_elim
-    (λ (same : shortened z ≡ z). ap (store_answer Strict kind hold) (sym same))
-    (λ (far : (store_answer Strict kind hold z ≡ Err Range) × (store_answer Strict kind hold (shortened z) ≡ Err Range)). far.0 ∙ sym far.1)
-    (strict_same kind hold z)
-answer_same Wrap kind hold z few = ap (λ (v : ℤ). Ok v) (sym (shortened_kept kind hold z few))
+answer_same mode kind hold z few = grind (arith, strict_same, shortened_kept)
 
 abbrev value_of : Place → Option ℤ → Result ℤ RowFault
 value_of place number = the_number place number >>= (λ value. taken place (store_answer place.mode place.kind place.hold value))
@@ -52,9 +37,7 @@ number_in field = option_map shortened (number_behind_sign (unspaced field))
 
 clip_of : (place : Place) (number : Option ℤ) (value : ℤ) → place.hold.width ≤ 64 → option_map shortened number ≡ Some value
     → value_of place number ≡ taken place (store_answer place.mode place.kind place.hold value)
-clip_of place None value few is = absurd (cc is)
-clip_of place (Some z) value few is =
-    ap (taken place) (answer_same place.mode place.kind place.hold z few ∙ ap (store_answer place.mode place.kind place.hold) (some_is is))
+clip_of place number value few is = grind (arith, answer_same, some_is)
 
 -- a field that is a number
 field_in : (place : Place) (fields : List (List ℕ)) (field : List ℕ) → slice_get fields place.column ≡ Some field → value_at place fields ≡ value_of place (number_behind_sign (unspaced field))

@@ -1,5 +1,5 @@
 -- The path texts of a record that is fit are names that a header can have.
-use Rattle.csv_rows.proofs.Imports.{◌≡◌, ℕ, zero, suc, ◌*◌, ◌<◌, ◌≤◌, ◌^◌, Bool, true, false, nat_eq, None, Some, List, [], ◌∷◌, length, map, refl, sym, ap, subst, ◌∙◌, arith, list_all, list_any, slice_get, pointwise, length-map, list_all-append, slice_get_within, PathStep, Name, Tree, Single, Record, Array, Fields, End, Field, leaves_of, leaves, paths_of, texts_of, names_of, has_names, has_twice, records_below, record_fault, is_name, both, same_text, BeginsWithName, path_text_of, paths_at, IsApart, InEither, in_front, in_back, in_either, in_map, paths_field, in_field, InElement, in_element, apart_tree, fit_from, fit_few, length-leaves, length-leaves_of_array, and_from}
+use Rattle.csv_rows.proofs.Imports.{◌≡◌, ℕ, zero, suc, ◌*◌, ◌<◌, ◌≤◌, ◌^◌, Bool, true, false, nat_eq, None, Some, List, [], ◌∷◌, length, map, refl, sym, ap, subst, ◌∙◌, arith, list_all, list_any, slice_get, pointwise, length-map, list_all-append, slice_get_within, PathStep, Name, Tree, Single, Record, Array, Fields, End, Field, leaves_of, leaves, paths_of, texts_of, names_of, has_names, has_twice, records_below, record_fault, is_name, both, same_text, BeginsWithName, path_text_of, paths_at, IsApart, InEither, in_either, in_map, paths_field, in_field, InElement, in_element, apart_tree, fit_from, fit_few, length-leaves, length-leaves_of_array, and_from}
 use Rattle.record_dim.specs.Leaves.{Leaf, records_of}
 use Rattle.csv_rows.proofs.PlainTexts.{is_plain_text, AreColumnNames}
 use Rattle.csv_rows.proofs.PathTexts.{IsPlainPath, path_plain, same_paths}
@@ -12,23 +12,14 @@ abbrev PlainPaths : Tree → Type 0
 PlainPaths tree = (path : List PathStep) (i : ℕ) → slice_get (paths_at tree) i ≡ Some path → IsPlainPath path
 
 plain_single : (path : List PathStep) (i : ℕ) → slice_get ([] ∷ []) i ≡ Some path → IsPlainPath path
-plain_single path zero h = let e : [] ≡ path = cc in subst IsPlainPath e tt
-plain_single path (suc i) h = cc
+plain_single path i h = grind arith
 
 plain_either : (name : List ℕ) (held : Tree) (rest : Fields) (path : List PathStep) (i : ℕ) → is_name name ≡ true → PlainPaths held → ((k : ℕ) → slice_get (paths_of rest) k ≡ Some path → IsPlainPath path) →
     InEither (map (λ (p : List PathStep). Name name ∷ p) (paths_at held)) (paths_of rest) i path → IsPlainPath path
-plain_either name held rest path i named inner later (in_front h) =
-    let m = in_map (λ (p : List PathStep). Name name ∷ p) (paths_at held) i path h in
-    subst IsPlainPath m.2 (named, inner m.0 i m.1)
-plain_either name held rest path i named inner later (in_back k e h) = later k h
+plain_either name held rest path i named inner later h = grind (arith, in_map)
 
 plain_element : (len : ℕ) (element : Tree) (path : List PathStep) → len * length (leaves_of element) ≤ 64 → PlainPaths element → InElement len element path → IsPlainPath path
-plain_element len element path few inner f =
-    let place : f.place < length (paths_at element) = slice_get_within (paths_at element) f.place f.rest f.leaf in
-    let count : length (paths_at element) ≡ length (leaves_of element) = length-map (leaves_of element) (λ (leaf : Leaf). leaf.path) in
-    let some : 1 ≤ length (leaves_of element) = omega arith in
-    let small : f.number < 2 ^ 64 = less_than_product f.number len (length (leaves_of element)) f.below some few in
-    subst IsPlainPath (sym f.step) (small, inner f.rest f.place f.leaf)
+plain_element len element path few inner f = grind (arith, slice_get_within, length-map, less_than_product)
 
 each_few : (len each : ℕ) → 1 ≤ len → len * each ≤ 64 → each ≤ 64
 each_few len each some few = grind arith

@@ -43,9 +43,7 @@ byte_passed s t a c xs is goes =
 -- a record that the text ends
 last_one : (s : State) → ends_at_end s ≡ true → record_count s [] ≡ 1
 unfolding next_record
-last_one s ends =
-    count_is s [] ∙ ap (λ (b : Bool). counted (if b then Some ([] ∷ [], st.StartRecord, []) else None)) ends
-    ∙ ap (λ (n : ℕ). suc n) (ap length (no_record st.StartRecord [] refl))
+last_one s ends = grind (arith, count_is, no_record)
 
 -- bytes that are no quotes and no ends of lines
 plain_byte : (opens : Bool) (c : ℕ) (xs : List ℕ) → IsPlain c → record_count (field_state opens) (c ∷ xs) ≡ record_count (field_state (is_comma c)) xs
@@ -87,10 +85,7 @@ byte_split : (xs : List ℕ) (n : ℕ) → n < length xs → take n xs ++ get_or
 byte_split xs n small = ap (λ (rest : List ℕ). take n xs ++ rest) (sym (drop_more xs n 0 small)) ∙ take-append-drop n xs
 
 no_quote_before : (xs : List ℕ) (n : ℕ) → n ≤ length xs → ((k : ℕ) → k < n → nat_eq (get_or xs k 0) 34 ≡ true → ⊥) → HasNoQuote (take n xs)
-no_quote_before xs n within none k d less =
-    let under : k < n = omega (arith, less, length-take-le n xs within) in
-    let same : get_or (take n xs) k d ≡ get_or xs k 0 = get_or-take n xs k d under ∙ get_or_default xs k d 0 (omega (arith, under, within)) in
-    ap (λ (c : ℕ). nat_eq c 34) same ∙ false_from_ne_true (nat_eq (get_or xs k 0) 34) (none k under)
+no_quote_before xs n within none k d less = grind (arith, length-take-le, get_or-take, get_or_default, nat_eq, false_from_ne_true)
 
 pub quotes_closed : (xs : List ℕ) (n : ℕ) → IsFirstByte (is_byte 34) xs (Some n) → record_count st.InQuoted xs ≡ record_count st.StartField (drop (n + 1) xs)
 quotes_closed xs n found =
@@ -122,8 +117,7 @@ ended true line tail plain here = omega (arith, ap length (record_here st.StartF
 ended false line tail plain here = omega (arith, ap length (record_here st.InField line tail ((is_line line tail plain here).inside [] [])))
 
 end_here : (b : Bool) (c : ℕ) (xs : List ℕ) → (b || nat_eq c 13 || nat_eq c 10) ≡ true → b ≡ false → EndsHere (c ∷ xs)
-end_here true c xs is other = cc other
-end_here false c xs is other = is
+end_here b c xs is other = grind arith
 
 pub end_found : (opens : Bool) (xs : List ℕ) (n : ℕ) → IsFirstByte (is_byte3 34 13 10) xs (Some n) → nat_eq (get_or xs n 0) 34 ≡ false → record_count (field_state opens) xs ≡ record_count st.StartRecord (drop n xs) + 1
 end_found opens xs n found other =

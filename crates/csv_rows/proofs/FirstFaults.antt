@@ -1,5 +1,6 @@
 -- The first fault of a dataset: what holds of each that a value or a name may have holds of it.
-use Rattle.csv_rows.proofs.Imports.{◌≡◌, ◌⊎◌, inl, inr, ℕ, ◌+◌, ℤ, List, [], ◌∷◌, Option, Some, None, Result, Ok, Err, IfErr, refl, sym, ap, subst, ◌∙◌, slice_get, enumerate_from, texts_of, LeafType, Hold, StoreMode, Wrap, store_answer, Table, leaf_types_of, table_holds, ◌>>=◌, Place, unspaced, number_behind_sign, the_field, the_number, taken, value_at, row_values, table_from, with_columns, columns_named, one_column, columns_of, header_record, records_behind, dataset_table, dataset_of, IsNoRefusal, RowFault, MissingColumn, ColumnTwice, NoMemory}
+use Rattle.csv_rows.proofs.Imports.{◌≡◌, ◌⊎◌, ℕ, ◌+◌, ℤ, List, [], ◌∷◌, Option, Result, Ok, Err, IfErr, refl, ap, ◌∙◌, slice_get, enumerate_from, LeafType, Hold, StoreMode, Wrap, store_answer, Table, ◌>>=◌, Place, unspaced, number_behind_sign, the_field, the_number, taken, value_at, row_values, table_from, with_columns, columns_named, one_column, columns_of, header_record, records_behind, dataset_table, dataset_of, IsNoRefusal, RowFault, MissingColumn, ColumnTwice, NoMemory}
+use Rattle.std.proofs.Common.{arith}
 
 abbrev err_or : {A : Type 0} → RowFault → Result A RowFault → RowFault
 err_or d (Ok x) = d
@@ -9,8 +10,7 @@ pub err_is : {A : Type 0} {x y : RowFault} → ◌≡◌ {A = Result A RowFault}
 err_is {x = x} is = ap (err_or x) is
 
 rest_err : {X : Type 0} (x : X) (read : Result (List X) RowFault) (f : RowFault) → (read >>= (λ more. Ok (x ∷ more))) ≡ Err f → read ≡ Err f
-rest_err x (Ok more) f is = absurd (cc is)
-rest_err x (Err fault) f is = ap Err (err_is is)
+rest_err x read f is = grind (arith, err_is)
 
 abbrev pub place_in : StoreMode → ℕ → ℕ → ℕ → LeafType → Hold → Place
 place_in mode row leaf column kind hold = record { row = row; leaf = leaf; column = column; mode = mode; kind = kind; hold = hold }
@@ -47,9 +47,7 @@ of_rows P mode each columns kinds holds row (fields ∷ rows) f is =
 
 -- of a header that does not name each leaf once
 of_column : (P : RowFault → Type 0) → ((leaf : ℕ) → P (MissingColumn leaf)) → ((leaf : ℕ) → P (ColumnTwice leaf)) → (leaf : ℕ) (columns : List ℕ) (f : RowFault) → one_column leaf columns ≡ Err f → P f
-of_column P missing twice leaf [] f is = subst P (err_is is) (missing leaf)
-of_column P missing twice leaf (column ∷ []) f is = absurd (cc is)
-of_column P missing twice leaf (column ∷ other ∷ columns) f is = subst P (err_is is) (twice leaf)
+of_column P missing twice leaf columns f is = grind (arith, err_is)
 
 pub of_header : (P : RowFault → Type 0) → ((leaf : ℕ) → P (MissingColumn leaf)) → ((leaf : ℕ) → P (ColumnTwice leaf))
     → (header : List (List ℕ)) (leaf : ℕ) (names : List (List ℕ)) (f : RowFault) → columns_of header leaf names ≡ Err f → P f
@@ -64,13 +62,11 @@ of_header P missing twice header leaf (name ∷ names) f is =
 
 -- a view that keeps low bits refuses no number
 number_taken : (place : Place) (number : Option ℤ) (f : RowFault) → (the_number place number >>= (λ value. taken place (store_answer Wrap place.kind place.hold value))) ≡ Err f → IsNoRefusal f
-number_taken place None f is = subst IsNoRefusal (err_is is) tt
-number_taken place (Some value) f is = absurd (cc is)
+number_taken place number f is = grind (arith, err_is)
 
 field_taken : (place : Place) (field : Option (List ℕ)) (f : RowFault)
     → (the_field place field >>= (λ text. the_number place (number_behind_sign (unspaced text)) >>= (λ value. taken place (store_answer Wrap place.kind place.hold value)))) ≡ Err f → IsNoRefusal f
-field_taken place None f is = subst IsNoRefusal (err_is is) tt
-field_taken place (Some text) f is = number_taken place (number_behind_sign (unspaced text)) f is
+field_taken place field f is = grind (arith, err_is, number_taken)
 
 dataset_taken : (names : List (List ℕ)) (kinds : List LeafType) (holds : List Hold) (records : List (List (List ℕ))) (f : RowFault) → dataset_table Wrap names kinds holds records ≡ Err f → IsNoRefusal f
 unfolding dataset_table
@@ -84,8 +80,4 @@ dataset_taken names kinds holds records f is = first (columns_of (header_record 
 
 pub load_taken : (table : Table) (records : List (List (List ℕ))) (result : Result Unit RowFault) → IfErr result (λ f. (f ≡ NoMemory) ⊎ (dataset_of table records ≡ Err f))
     → IfErr result (λ f. table.mode ≡ Wrap → IsNoRefusal f)
-load_taken table records (Ok done) refused = tt
-load_taken table records (Err f) (inl none) = λ wrap. subst IsNoRefusal (sym none) tt
-load_taken table records (Err f) (inr refused) = λ wrap.
-    dataset_taken (texts_of table.fields) (leaf_types_of table) (table_holds table) records f
-    (ap (λ (mode : StoreMode). dataset_table mode (texts_of table.fields) (leaf_types_of table) (table_holds table) records) (sym wrap) ∙ refused)
+load_taken table records result h = grind (arith, dataset_taken)

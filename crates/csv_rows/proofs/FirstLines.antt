@@ -30,10 +30,7 @@ line_from (c ∷ xs) (suc n) within others = by (is_line_end c) refl (line_from 
 
 -- and no byte from one on that ends it
 pub line_to : (xs : List ℕ) (n : ℕ) → (n < length xs → is_line_end (get_or xs n 0) ≡ true) → line_length xs ≤ n
-line_to xs n ended = ⊎_elim
-    (λ (more : n < line_length xs). cc (sym (line_inside xs n 0 more) ∙ ended (omega (arith, more, line_within xs))))
-    (λ (less : line_length xs ≤ n). less)
-    (cases_lt n (line_length xs))
+line_to xs n ended = grind (arith, line_inside, line_within, cases_lt)
 
 pub line_is : (xs : List ℕ) (n : ℕ) → n ≤ length xs → ((k : ℕ) → k < n → is_line_end (get_or xs k 0) ≡ false) → (n < length xs → is_line_end (get_or xs n 0) ≡ true) → n ≡ line_length xs
 line_is xs n within others ended = omega (arith, line_from xs n within others, line_to xs n ended)
@@ -68,50 +65,30 @@ start_within text column start at = omega (arith, at.within, length_line text)
 
 -- the bytes of a field
 here_byte : (bytes : List ℕ) (count k : ℕ) → IsFieldHere bytes count → k < count → (is_comma (get_or bytes k 0) ≡ false) × (is_line_end (get_or bytes k 0) ≡ false)
-here_byte bytes count k here small =
-    let size : length (take count bytes) ≡ count = length-take-le count bytes here.within in
-    let same : get_or (take count bytes) k 0 ≡ get_or bytes k 0 = get_or-take count bytes k 0 small in
-    subst (λ (b : ℕ). (is_comma b ≡ false) × (is_line_end b ≡ false)) same (here.inside k 0 (omega (arith, size, small)))
+here_byte bytes count k here small = grind (arith, length-take-le, get_or-take)
 
 pub here_in_line : (bytes : List ℕ) (count : ℕ) → IsFieldHere bytes count → count ≤ line_length bytes
 here_in_line bytes count here = line_from bytes count here.within (λ k small. (here_byte bytes count k here small).1)
 
 or_first : (a b : Bool) → (a || b) ≡ true → b ≡ false → a ≡ true
-or_first true b is other = refl
-or_first false b is other = cc (sym other ∙ is)
+or_first a b is other = grind arith
 
 or_second : (a b : Bool) → (a || b) ≡ true → a ≡ false → b ≡ true
-or_second true b is other = cc other
-or_second false b is other = is
+or_second a b is other = grind arith
 
 none_of : (a b c : Bool) → (a || b || c) ≡ false → ((b || c) ≡ false) × (a ≡ false)
-none_of true b c h = cc h
-none_of false true c h = cc h
-none_of false false true h = cc h
-none_of false false false h = (refl, refl)
+none_of a b c h = grind arith
 
 -- the bytes before the first one of a kind or line end
 pub byte_before : (a : ℕ) (xs : List ℕ) (n k d : ℕ) → n ≤ length xs → ((k : ℕ) → k < n → is_byte3 a 13 10 (get_or xs k 0) ≡ true → ⊥) → k < length (take n xs) → (nat_eq (get_or (take n xs) k d) a ≡ false) × (is_line_end (get_or (take n xs) k d) ≡ false)
-byte_before a xs n k d within none less =
-    let under : k < n = omega (arith, less, length-take-le n xs within) in
-    let same : get_or (take n xs) k d ≡ get_or xs k 0 = get_or-take n xs k d under ∙ get_or_default xs k d 0 (omega (arith, under, within)) in
-    let byte = get_or xs k 0 in
-    let parts = none_of (nat_eq byte a) (nat_eq byte 13) (nat_eq byte 10) (false_from_ne_true (is_byte3 a 13 10 byte) (none k under)) in
-    subst (λ (b : ℕ). (nat_eq b a ≡ false) × (is_line_end b ≡ false)) (sym same) (parts.1, parts.0)
+byte_before a xs n k d within none less = grind (arith, length-take-le, get_or-take, get_or_default, none_of, nat_eq, false_from_ne_true, is_byte3)
 
 -- it is the first one of the line that is left
 here_first : (bytes : List ℕ) (count : ℕ) → IsFieldHere bytes count → IsFirstField (first_line bytes) count
 here_first bytes count here =
     let fits : count ≤ line_length bytes = here_in_line bytes count here in
     let cut : take count (first_line bytes) ≡ take count bytes = take-take count (line_length bytes) bytes fits in
-    record {
-      within = omega (arith, fits, length_line bytes);
-      inside = λ k d small. subst (λ (ys : List ℕ). is_comma (get_or ys k d) ≡ false) (sym cut) (here.inside k d (subst (λ (ys : List ℕ). k < length ys) cut small)).0;
-      ended = λ small.
-          let less : count < line_length bytes = omega (arith, small, length_line bytes) in
-          let byte : get_or (first_line bytes) count 0 ≡ get_or bytes count 0 = get_or-take (line_length bytes) bytes count 0 less in
-          ap is_comma byte ∙ or_first (is_comma (get_or bytes count 0)) (is_line_end (get_or bytes count 0)) (here.ended (omega (arith, less, line_within bytes))) (line_inside bytes count 0 less);
-    }
+    grind (arith, length_line, get_or-take, or_first, line_within, line_inside)
 
 here_field : (text : List ℕ) (column start count : ℕ) → IsField (first_line text) column start → IsFieldHere (drop start text) count → IsFirstField (drop start (first_line text)) count
 here_field text column start count at here = subst (λ (xs : List ℕ). IsFirstField xs count) (sym (first_rest text start (start_within text column start at))) (here_first (drop start text) count here)
@@ -137,9 +114,7 @@ comma_inside bytes count here small comma = ⊎_elim
     (cases_lt count (line_length bytes))
 
 left_length : (text : List ℕ) (column start : ℕ) → IsField (first_line text) column start → length (drop start (first_line text)) ≡ line_length (drop start text)
-left_length text column start at =
-    let small : start ≤ line_length text = start_within text column start at in
-    length-drop start (first_line text) ∙ ap (λ (n : ℕ). n - start) (length_line text) ∙ sym (line_rest text start small)
+left_length text column start at = grind (arith, start_within, length-drop, length_line, line_rest)
 
 pub here_behind : (text : List ℕ) (column start count : ℕ) → IsField (first_line text) column start → IsFieldHere (drop start text) count → count < length (drop start text) → is_comma (get_or (drop start text) count 0) ≡ true → IsField (first_line text) (column + 1) (start + (count + 1))
 here_behind text column start count at here small comma =
@@ -161,14 +136,10 @@ here_last text column start count at here other =
 
 -- what stands behind a line, whose end was looked for from one of its places on
 pub behind_found : (text : List ℕ) (start n : ℕ) → start ≤ line_length text → n ≡ line_length (drop start text) → drop n (drop start text) ≡ behind_line text
-behind_found text start n small is =
-    let place : start + n ≡ line_length text = omega (arith, is, line_rest text start small, small) in
-    drop-drop n start text ∙ ap (λ (m : ℕ). drop m text) place
+behind_found text start n small is = grind (arith, line_rest, drop-drop)
 
 pub end_some : (xs : List ℕ) (n : ℕ) → IsFirstByte (is_byte2 13 10) xs (Some n) → n ≡ line_length xs
-end_some xs n found =
-    let small : n < length xs = found.0.high in
-    line_is xs n (omega arith) (λ k under. false_from_ne_true (is_line_end (get_or xs k 0)) (found.0.before k (omega arith) under)) (λ small. found.1)
+end_some xs n found = grind (arith, line_is, false_from_ne_true)
 
 pub end_none : (xs : List ℕ) → IsFirstByte (is_byte2 13 10) xs None → length xs ≡ line_length xs
 end_none xs none = line_is xs (length xs) (omega arith) (λ k under. false_from_ne_true (is_line_end (get_or xs k 0)) (none k (omega arith) under)) (λ small. absurd (omega arith))

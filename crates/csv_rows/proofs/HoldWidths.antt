@@ -1,17 +1,15 @@
 -- No leaf is stored in more than 64 bits, whatever the mapping.
-use Rattle.csv_rows.proofs.Imports.{ℕ, zero, suc, ◌≤◌, Bool, true, false, List, [], ◌∷◌, min, arith, width_of, Fields, hold_of, hold_within, full_holds, narrow_holds, width_narrow, Cell, Hold, hold_at, Term, Aos, Soa, Aosoa, BitAos, BitSoa, Split, Byteswap, Bytesplit, Change, Count, Heat, Named, changed, merged, side_of, cells_under, cells_beside, leaf_cells, holds_of, cell_widths, Table, leaf_types_of, table_holds}
+use Rattle.csv_rows.proofs.Imports.{ℕ, zero, suc, ◌≤◌, Bool, true, false, List, [], ◌∷◌, arith, Fields, hold_of, full_holds, narrow_holds, width_narrow, Cell, Hold, hold_at, Term, BitAos, BitSoa, Split, Change, Count, Heat, changed, merged, side_of, cells_under, cells_beside, leaf_cells, holds_of, cell_widths, Table, leaf_types_of, table_holds}
 
 -- no hold of a list has more
 abbrev AreFew : List Hold → Type 0
 AreFew holds = (i : ℕ) → (hold_at holds i).width ≤ 64
 
 none_few : (i : ℕ) → (hold_at [] i).width ≤ 64
-none_few zero = let small : 0 ≤ 64 = omega arith in small
-none_few (suc i) = let small : 0 ≤ 64 = omega arith in small
+none_few i = grind arith
 
 one_few : (hold : Hold) (holds : List Hold) → hold.width ≤ 64 → AreFew holds → (i : ℕ) → (hold_at (hold ∷ holds) i).width ≤ 64
-one_few hold holds few rest zero = few
-one_few hold holds few rest (suc i) = rest i
+one_few hold holds few rest i = grind arith
 
 full_few : (cells : List Cell) → AreFew (full_holds cells)
 full_few [] = none_few
@@ -20,9 +18,7 @@ full_few (cell ∷ cells) = one_few (hold_of cell.kind) (full_holds cells) (widt
 narrow_few : (widths : List ℕ) (cells : List Cell) → AreFew (narrow_holds widths cells)
 narrow_few [] cells = none_few
 narrow_few (width ∷ widths) [] = none_few
-narrow_few (width ∷ widths) (cell ∷ cells) =
-    let few : min width (width_of cell.kind) ≤ 64 = omega (arith, width_narrow cell.kind) in
-    one_few (hold_within width cell.kind) (narrow_holds widths cells) few (narrow_few widths cells)
+narrow_few (width ∷ widths) (cell ∷ cells) = grind (arith, width_narrow, one_few, (narrow_few widths cells))
 
 merged_few : (side : List Bool) (one other : List Hold) → AreFew one → AreFew other → AreFew (merged side one other)
 merged_few [] one other ones others = none_few

@@ -1,5 +1,5 @@
 -- What the proofs of this crate speak of.
-pub use Rattle.std.proofs.Common.{◌≡◌, ℕ, ◌+◌, ℤ, List, [], sym, ap, ◌∙◌, ◌⊎◌, inl, inr, suc, ◌^◌, ◌-◌, ◌<◌, ◌≤◌, Bool, true, false, ◌&&◌, pos, negsuc, neg_ℤ, ◌<ℤ◌, Result, Ok, Err, Option, Some, None, refl, arith, ⊎_elim, option_map, zero, ◌*◌, nat_eq, ◌∷◌, length, map, subst, ◌++◌, take, get_or, flat_map, IsErr, drop, append-nil, Bor, MatchBool, IfErr, min, set, add-one, append_assoc, cond, ◌-ℤ◌, FitsSigned, ◌/◌, ◌%◌, reverse, OnOk, rules, is_ok}
+pub use Rattle.std.proofs.Common.{◌≡◌, ℕ, ◌+◌, ℤ, List, [], sym, ap, ◌∙◌, ◌⊎◌, inl, inr, suc, ◌^◌, ◌-◌, ◌<◌, ◌≤◌, Bool, true, false, ◌&&◌, pos, negsuc, neg_ℤ, ◌<ℤ◌, Result, Ok, Err, Option, Some, None, refl, arith, ⊎_elim, option_map, zero, ◌*◌, nat_eq, ◌∷◌, length, map, subst, ◌++◌, take, get_or, flat_map, IsErr, drop, append-nil, Bor, MatchBool, IfErr, set, add-one, append_assoc, cond, ◌-ℤ◌, FitsSigned, ◌/◌, ◌%◌, reverse, OnOk, rules, is_ok}
 pub use Rattle.std.specs.Prelude.{int_le, if◌then◌else◌, All, ◌||◌, ⊤, not}
 pub use Rattle.std.specs.List.{slice_get, list_all, list_any, enumerate_from, slice_split, onto_first, range_with_len}
 pub use Rattle.std.proofs.lemmas.Int.{ints, to_z-of_z}
@@ -28,8 +28,8 @@ pub use Rattle.views.specs.Tallies.{Write, Tally, row_accesses, all_accesses}
 pub use Rattle.views.specs.TallyLaws.{tallied-none, after_log-append, after_stores-append, logs_more, after_log-none}
 pub use Rattle.views.specs.Tables.{Table, owners_of, leaf_count_of, after_log, after_stores, leaf_types_of, table_holds, kept_of, IsTable, answer_of}
 pub use Rattle.record_dim.specs.declared.leaf_type.LeafType.{LeafType}
-pub use Rattle.record_dim.specs.declared.leaf_type.LeafType.TheVariants.{Bool as Truth, U8, U16, U32, U64, I8, I16, I32, I64}
-pub use Rattle.record_dim.specs.LeafTypes.{least_of, greatest_of, width_of, IsDeclared}
+pub use Rattle.record_dim.specs.declared.leaf_type.LeafType.TheVariants.{Bool as Truth}
+pub use Rattle.record_dim.specs.LeafTypes.{least_of, greatest_of, IsDeclared}
 pub use Rattle.places.specs.declared.piece.Hold.{Hold}
 pub use Rattle.piece_bits.specs.declared.mode.StoreMode.{StoreMode}
 pub use Rattle.piece_bits.specs.declared.mode.StoreMode.TheVariants.{Strict, Wrap}
@@ -41,10 +41,10 @@ pub use Rattle.record_dim.specs.declared.path.PathStep.{PathStep}
 pub use Rattle.record_dim.specs.declared.path.PathStep.TheVariants.{Name, At}
 pub use Rattle.record_dim.specs.Trees.{Tree, Single, Record, Array, Fields, End, Field}
 pub use Rattle.record_dim.specs.Leaves.{leaves_of, leaves, paths_of, texts_of, names_of, has_names, has_twice, records_below, record_fault}
-pub use Rattle.record_dim.specs.Names.{is_name, begins_name, continues_name, is_word}
+pub use Rattle.record_dim.specs.Names.{is_name, begins_name, continues_name}
 pub use Rattle.record_dim.specs.NameBytesLaws.{both, same_text, text_self}
 pub use Rattle.record_dim.specs.Paths.{BeginsWithName, path_text_of, step_text}
-pub use Rattle.record_dim.proofs.Apart.{paths_at, IsApart, InEither, in_front, in_back, in_either, in_map, paths_field, in_field, InElement, in_element, apart_tree}
+pub use Rattle.record_dim.proofs.Apart.{paths_at, IsApart, InEither, in_either, in_map, paths_field, in_field, InElement, in_element, apart_tree}
 pub use Rattle.record_dim.proofs.Fit.{fit_from, fit_few}
 pub use Rattle.record_dim.proofs.Walks.{length-leaves, length-leaves_of_array}
 pub use Rattle.layout_io.specs.Decimal.{decimal_text, digits_text}
@@ -61,11 +61,11 @@ unfoldable pub use Rattle.csv.specs.Records.{field_at}
 pub use Rattle.csv.specs.declared.parser.Config.{Config}
 pub use Rattle.csv.specs.declared.reader.Reader.{Reader}
 pub use Rattle.csv.proofs.ReadFacts.{rows-more, rows-end}
-pub use Rattle.places.specs.Holds.{hold_of, hold_within, full_holds, narrow_holds}
+pub use Rattle.places.specs.Holds.{hold_of, full_holds, narrow_holds}
 pub use Rattle.places.specs.WidthsLaws.{width_narrow}
 pub use Rattle.places.specs.declared.piece.Cell.{Cell}
 pub use Rattle.piece_bits.specs.Tables.{hold_at}
-pub use Rattle.map_expr.specs.Terms.{Term, Aos, Soa, Aosoa, BitAos, BitSoa, Split, Byteswap, Bytesplit, Change, Count, Heat, Named}
+pub use Rattle.map_expr.specs.Terms.{Term, BitAos, BitSoa, Split, Change, Count, Heat}
 pub use Rattle.map_bytes.specs.Cells.{changed}
 pub use Rattle.map_split.specs.Sides.{merged}
 pub use Rattle.map_checks.specs.Sides.{side_of, cells_under, cells_beside}

@@ -8,13 +8,8 @@ kept_from keep leaf values = map (λ (v : ℕ × ℤ). keep v.0 v.1) (enumerate_
 from_set : (keep : Keeping) (leaf : ℕ) (values : List ℤ) (i : ℕ) (value : ℤ) → kept_from keep leaf (set values i value) ≡ set (kept_from keep leaf values) i (keep (leaf + i) value)
 from_set keep leaf [] zero value = refl
 from_set keep leaf [] (suc i) value = refl
-from_set keep leaf (first ∷ values) zero value =
-    let same : leaf ≡ leaf + 0 = omega arith in
-    ap (λ (n : ℕ). keep n value ∷ kept_from keep (leaf + 1) values) same
-from_set keep leaf (first ∷ values) (suc i) value =
-    let same : leaf + 1 + i ≡ leaf + suc i = omega arith in
-    ap (λ (rest : List ℤ). keep leaf first ∷ rest)
-    (from_set keep (leaf + 1) values i value ∙ ap (λ (n : ℕ). set (kept_from keep (leaf + 1) values) i (keep n value)) same)
+from_set keep leaf (first ∷ values) zero value = grind arith
+from_set keep leaf (first ∷ values) (suc i) value = grind (arith, (from_set keep (leaf + 1) values i value))
 
 pub kept_set : (keep : Keeping) (values : List ℤ) (leaf : ℕ) (value : ℤ) → kept_row keep (set values leaf value) ≡ set (kept_row keep values) leaf (keep leaf value)
 kept_set keep values leaf value =

@@ -44,14 +44,7 @@ pub leaf_read : (seen : Table) (columns : List ℕ) (paired : IsPaired seen) (ro
     → value_at (place_of seen row leaf column) fields ≡ Ok (kept_of seen leaf value)
     → row_values row fields 0 (leaves_in seen columns) ≡ behind (take leaf (kept_row (kept_of seen) values)) (row_values row fields leaf (drop leaf (leaves_in seen columns)))
     → row_values row fields 0 (leaves_in seen columns) ≡ behind (take (leaf + 1) (kept_row (kept_of seen) (set values leaf value))) (row_values row fields (leaf + 1) (drop (leaf + 1) (leaves_in seen columns)))
-leaf_read seen columns paired row fields leaf column values value count small room here is before =
-    let rest = row_values row fields (leaf + 1) (drop (leaf + 1) (leaves_in seen columns)) in
-    let kept = kept_row (kept_of seen) values in
-    let number = kept_of seen leaf value in
-    let long : length kept ≡ length values = length-kept_row (kept_of seen) values in
-    let within : leaf < length kept = omega (arith, long) in
-    before ∙ ap (behind (take leaf kept)) (leaf_at seen columns paired row fields leaf column (Ok number) count small here is ∙ one_behind number rest) ∙ behind-behind (take leaf kept) (number ∷ []) rest
-    ∙ ap (λ (done : List ℤ). behind done rest) (sym (take_more_set kept leaf number within) ∙ ap (take (leaf + 1)) (sym (kept_set (kept_of seen) values leaf value)))
+leaf_read seen columns paired row fields leaf column values value count small room here is before = grind (arith, length-kept_row, leaf_at, one_behind, behind-behind, take_more_set, kept_set)
 
 pub leaf_refused : (seen : Table) (columns : List ℕ) (paired : IsPaired seen) (row : ℕ) (fields : List (List ℕ)) (leaf column : ℕ) (done : List ℤ) (fault : RowFault) → length columns ≡ leaf_count_of seen → leaf < length columns → get_or columns leaf 0 ≡ column → value_at (place_of seen row leaf column) fields ≡ Err fault
     → row_values row fields 0 (leaves_in seen columns) ≡ behind done (row_values row fields leaf (drop leaf (leaves_in seen columns)))
@@ -61,10 +54,4 @@ leaf_refused seen columns paired row fields leaf column done fault count small h
 pub leaves_read : (seen : Table) (columns : List ℕ) (paired : IsPaired seen) (row : ℕ) (fields : List (List ℕ)) (leaf : ℕ) (values : List ℤ) → length columns ≡ leaf_count_of seen → length values ≡ leaf_count_of seen → length columns ≤ leaf
     → row_values row fields 0 (leaves_in seen columns) ≡ behind (take leaf (kept_row (kept_of seen) values)) (row_values row fields leaf (drop leaf (leaves_in seen columns)))
     → row_values row fields 0 (leaves_in seen columns) ≡ Ok (kept_row (kept_of seen) values)
-leaves_read seen columns paired row fields leaf values count whole over before =
-    let kept = kept_row (kept_of seen) values in
-    let gone : length (leaves_in seen columns) ≤ leaf = omega (arith, leaves_count seen columns paired count) in
-    let long : length kept ≡ length values = length-kept_row (kept_of seen) values in
-    let all : length kept ≤ leaf = omega (arith, long) in
-    before ∙ ap (λ (rest : List Leaf). behind (take leaf kept) (row_values row fields leaf rest)) (drop_all leaf (leaves_in seen columns) gone)
-    ∙ ap Ok (append-nil (take leaf kept) ∙ take_all leaf kept all)
+leaves_read seen columns paired row fields leaf values count whole over before = grind (arith, leaves_count, length-kept_row, drop_all, append-nil, take_all)

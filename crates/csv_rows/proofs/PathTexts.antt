@@ -1,5 +1,5 @@
 -- The text of a path of names and small numbers is plain, and no other path has it.
-use Rattle.csv_rows.proofs.Imports.{◌≡◌, ℕ, ◌<◌, ◌^◌, Bool, true, false, List, [], ◌∷◌, ◌++◌, refl, ap, ◌∙◌, append_assoc, arith, list_all, is_ascii_digit, decimal, nat_tests, decimal_injective, PathStep, Name, At, begins_name, continues_name, is_word, is_name, both, BeginsWithName, step_text, path_text_of, and_from}
+use Rattle.csv_rows.proofs.Imports.{◌≡◌, ℕ, ◌<◌, ◌^◌, Bool, true, false, List, [], ◌∷◌, ◌++◌, refl, ap, append_assoc, arith, list_all, is_ascii_digit, decimal, nat_tests, decimal_injective, PathStep, Name, At, begins_name, continues_name, is_name, both, BeginsWithName, step_text, path_text_of, and_from}
 use Rattle.std.specs.List.{flat_map}
 use Rattle.csv_rows.proofs.PlainTexts.{is_plain_byte, is_plain_text}
 use Rattle.csv_rows.proofs.PrintedBytes.{all_joined, plain_letters, plain_digits, decimal_are}
@@ -19,10 +19,7 @@ first_continues c begins = grind (arith, nat_tests)
 
 -- the bytes of a name
 name_letters : (name : List ℕ) → is_name name ≡ true → list_all continues_name name ≡ true
-name_letters [] named = refl
-name_letters (c ∷ name) named =
-    let word = both (begins_name c) (list_all continues_name name) (both _ (is_word (c ∷ name)) named).1 in
-    and_from (continues_name c) (list_all continues_name name) (first_continues c word.0) word.1
+name_letters name named = grind (arith, both, list_all, and_from, first_continues)
 
 -- a number in its brackets
 at_text : (number : ℕ) (steps : List PathStep) → tail_text (At number ∷ steps) ≡ 91 ∷ (decimal number ++ (93 ∷ tail_text steps))
@@ -37,20 +34,14 @@ digits_of_number number small = (decimal_are number (omega arith)).all
 tail_plain : (steps : List PathStep) → IsPlainPath steps → list_all is_plain_byte (tail_text steps) ≡ true
 tail_plain [] plain = refl
 tail_plain (Name name ∷ steps) plain = all_joined is_plain_byte name (tail_text steps) (plain_letters name (name_letters name plain.0)) (tail_plain steps plain.1)
-tail_plain (At number ∷ steps) plain =
-    ap (list_all is_plain_byte) (at_text number steps)
-    ∙ all_joined is_plain_byte (decimal number) (93 ∷ tail_text steps) (plain_digits (decimal number) (digits_of_number number plain.0)) (tail_plain steps plain.1)
+tail_plain (At number ∷ steps) plain = grind (arith, list_all, at_text, all_joined, plain_digits, digits_of_number, (tail_plain steps plain.1))
 
 some_text : (name text : List ℕ) → is_name name ≡ true → list_all is_plain_byte (name ++ text) ≡ true → is_plain_text (name ++ text) ≡ true
-some_text [] text named plain = cc named
-some_text (c ∷ name) text named plain = plain
+some_text name text named plain = grind arith
 
 -- the text of a path is plain
 pub path_plain : (path : List PathStep) → BeginsWithName path → IsPlainPath path → is_plain_text (path_text_of path) ≡ true
-path_plain [] begins plain = absurd begins
-path_plain (At number ∷ steps) begins plain = absurd begins
-path_plain (Name name ∷ steps) begins plain =
-    some_text name (tail_text steps) plain.0 (all_joined is_plain_byte name (tail_text steps) (plain_letters name (name_letters name plain.0)) (tail_plain steps plain.1))
+path_plain path begins plain = grind (arith, some_text, all_joined, plain_letters, name_letters, tail_plain)
 
 -- a text that does not go on with a byte of the kind
 abbrev StopsAt : (ℕ → Bool) → List ℕ → Type 0
@@ -61,15 +52,9 @@ StopsAt test (c ∷ text) = test c ≡ false
 same_fronts : (test : ℕ → Bool) (a b t u : List ℕ) → list_all test a ≡ true → list_all test b ≡ true → StopsAt test t → StopsAt test u → a ++ t ≡ b ++ u → (a ≡ b) × (t ≡ u)
 same_fronts test [] [] t u all_a all_b stop_t stop_u same = (refl, same)
 same_fronts test [] (c ∷ b) [] u all_a all_b stop_t stop_u same = cc same
-same_fronts test [] (c ∷ b) (d ∷ t) u all_a all_b stop_t stop_u same =
-    let here : d ≡ c = cc same in
-    let yes = (both (test c) (list_all test b) all_b).0 in
-    cc (ap test here, stop_t, yes)
+same_fronts test [] (c ∷ b) (d ∷ t) u all_a all_b stop_t stop_u same = grind (arith, both, list_all)
 same_fronts test (c ∷ a) [] t [] all_a all_b stop_t stop_u same = cc same
-same_fronts test (c ∷ a) [] t (d ∷ u) all_a all_b stop_t stop_u same =
-    let here : c ≡ d = cc same in
-    let yes = (both (test c) (list_all test a) all_a).0 in
-    cc (ap test here, stop_u, yes)
+same_fronts test (c ∷ a) [] t (d ∷ u) all_a all_b stop_t stop_u same = grind (arith, both, list_all)
 same_fronts test (c ∷ a) (d ∷ b) t u all_a all_b stop_t stop_u same =
     let here : c ≡ d = cc same in
     let more : a ++ t ≡ b ++ u = cc same in
@@ -110,7 +95,4 @@ same_paths [] q begins_p begins_q plain_p plain_q same = absurd begins_p
 same_paths (At number ∷ p) q begins_p begins_q plain_p plain_q same = absurd begins_p
 same_paths (Name a ∷ p) [] begins_p begins_q plain_p plain_q same = absurd begins_q
 same_paths (Name a ∷ p) (At number ∷ q) begins_p begins_q plain_p plain_q same = absurd begins_q
-same_paths (Name a ∷ p) (Name b ∷ q) begins_p begins_q plain_p plain_q same =
-    let parts = same_fronts continues_name a b (tail_text p) (tail_text q) (name_letters a plain_p.0) (name_letters b plain_q.0) (tail_stops p) (tail_stops q) same in
-    let rest : p ≡ q = same_tails p q plain_p.1 plain_q.1 parts.1 in
-    cc (parts.0, rest)
+same_paths (Name a ∷ p) (Name b ∷ q) begins_p begins_q plain_p plain_q same = grind (arith, same_fronts, name_letters, tail_stops, same_tails)

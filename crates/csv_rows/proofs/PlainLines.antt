@@ -37,10 +37,7 @@ kind_of c = by (nat_eq c 13) (nat_eq c 10) (nat_eq c 44) refl refl refl where
 
 -- behind a carriage return a text reads as behind a line feed
 step_cr : (c : ℕ) → Kind c → step default_config st.AfterCr c ≡ step default_config st.StartRecord c
-step_cr c (a_return is) = rw is refl
-step_cr c (a_feed is) = rw is refl
-step_cr c (a_comma is) = rw is refl
-step_cr c (another a b e) = rw b refl
+step_cr c h = grind arith
 
 after_cr : (xs : List ℕ) → rows_from st.AfterCr xs ≡ rows_from st.StartRecord xs
 unfolding next_record
@@ -69,9 +66,7 @@ one_end (c ∷ d ∷ xs) two first second = rw (first, second) refl
 -- a record begins with its first field
 pub begun : (c : ℕ) (xs : List ℕ) → is_line_end c ≡ false → rows_from st.StartRecord (c ∷ xs) ≡ rows_from st.StartField (c ∷ xs)
 unfolding next_record
-begun c xs no_end =
-    let is : step default_config st.StartRecord c ≡ step default_config st.StartField c = ap (λ (b : Bool). if b then (st.StartRecord, act.Skip) else start_field default_config c) no_end in
-    same_rows st.StartRecord st.StartField (c ∷ xs) (c ∷ xs) (stepped st.StartRecord [] [] c xs (step default_config st.StartField c) is)
+begun c xs no_end = grind (arith, default_config, start_field, same_rows)
 
 start_byte : (xs : List ℕ) → 0 < length (line_start xs) → (c : ℕ) × (rest : List ℕ) × (line_start xs ≡ c ∷ rest) × (is_line_end c ≡ false)
 start_byte [] = λ some. absurd (omega arith)
@@ -106,8 +101,7 @@ onto_none (c ∷ line) = by (is_comma c) (slice_split is_comma line) where
 
 -- a byte more in front, where it is no comma
 onto_more : (p : List ℕ) (c : ℕ) (fields : List (List ℕ)) → onto (p ++ c ∷ []) fields ≡ onto p (onto_first c fields)
-onto_more p c [] = refl
-onto_more p c (field ∷ fields) = ap (λ (f : List ℕ). f ∷ fields) (append_assoc p (c ∷ []) field)
+onto_more p c fields = grind (arith, append_assoc)
 
 -- what a read inside a line gives: the fields before and those of the line, and then the records behind it
 pub record Gives (s : State) (before : List (List ℕ)) (p line tail : List ℕ) : Type 0 where
@@ -141,10 +135,7 @@ end_gives s after before p c xs is end same = record {
 }
 
 end_line : (after : State) (c : ℕ) (xs : List ℕ) → step default_config st.InField c ≡ (after, act.EndRecord) → step default_config st.StartField c ≡ (after, act.EndRecord) → is_line_end c ≡ true → rows_from after xs ≡ rows_from st.StartRecord xs → IsLine [] (c ∷ xs)
-end_line after c xs in_field start end same = record {
-  inside = λ before p. end_gives st.InField after before p c xs in_field end same;
-  begins = λ before p. end_gives st.StartField after before p c xs start end same;
-}
+end_line after c xs in_field start end same = grind (arith, end_gives)
 
 ends : (tail : List ℕ) → EndsHere tail → IsLine [] tail
 ends [] here = text_end
@@ -162,8 +153,7 @@ comma_gives s before p line tail is more =
     record {
       read = g.read;
       is = stepped s before p 44 (line ++ tail) (st.StartField, act.EndField) is ∙ g.is;
-      fields = g.fields ∙ append_assoc before (p ∷ []) (onto [] (slice_split is_comma line))
-          ∙ ap (λ (fs : List (List ℕ)). before ++ p ∷ fs) (onto_none line) ∙ ap (λ (f : List ℕ). before ++ f ∷ slice_split is_comma line) (sym (append-nil p));
+      fields = grind (arith, append_assoc, slice_split, onto_none, append-nil);
       rest = g.rest;
     }
 
@@ -179,16 +169,7 @@ other_gives s before p c line tail is no_comma more =
     }
 
 byte_line : (c : ℕ) (line tail : List ℕ) → Kind c → IsPlain c → IsLine line tail → IsLine (c ∷ line) tail
-byte_line c line tail (a_return is) plain more = cc (subst (λ (b : ℕ). is_line_end b ≡ false) is plain.0)
-byte_line c line tail (a_feed is) plain more = cc (subst (λ (b : ℕ). is_line_end b ≡ false) is plain.0)
-byte_line c line tail (a_comma is) plain more = subst (λ (b : ℕ). IsLine (b ∷ line) tail) (sym is) (record {
-  inside = λ before p. comma_gives st.InField before p line tail refl more.begins;
-  begins = λ before p. comma_gives st.StartField before p line tail refl more.begins;
-})
-byte_line c line tail (another a b e) plain more = record {
-  inside = λ before p. other_gives st.InField before p c line tail (rw (e, a, b) refl) e more.inside;
-  begins = λ before p. other_gives st.StartField before p c line tail (rw (plain.1, e, a, b) refl) e more.inside;
-}
+byte_line c line tail h plain more = grind (arith, comma_gives, other_gives)
 
 pub is_line : (line tail : List ℕ) → All IsPlain line → EndsHere tail → IsLine line tail
 is_line [] tail plain here = ends tail here
@@ -211,8 +192,7 @@ rest_plain : (n : ℕ) (text : List ℕ) → HasNoQuote text → HasNoQuote (dro
 rest_plain n text none = All-drop (λ (c : ℕ). nat_eq c 34 ≡ false) n text none
 
 pub left_plain : (begun : Bool) (text : List ℕ) → HasNoQuote text → HasNoQuote (text_behind begun text)
-left_plain true text none = rest_plain (line_length text) text none
-left_plain false text none = none
+left_plain begun text none = grind (arith, rest_plain)
 
 pub start_plain : (text : List ℕ) → HasNoQuote text → HasNoQuote (line_start text)
 start_plain [] none = none

@@ -1,13 +1,12 @@
 -- What is printed of a table is the dataset of the same table.
-use Rattle.csv_rows.proofs.Imports.{◌≡◌, ℕ, ◌<◌, true, List, [], ◌∷◌, length, get_or, map, ℤ, Result, Ok, refl, sym, ap, ◌∙◌, arith, list_all, range_with_len, LeafType, Hold, length-map, leaves, texts_of, path_text_of, Table, IsTable, leaf_types_of, table_holds, StoreMode, AllStay, dataset_of, decimal_text, ◌>>=◌, csv_records, with_columns, table_from, dataset_table, print_text, RowFault, and_from}
+use Rattle.csv_rows.proofs.Imports.{◌≡◌, ℕ, ◌<◌, true, List, [], ◌∷◌, length, get_or, map, ℤ, Result, Ok, refl, ap, ◌∙◌, arith, list_all, range_with_len, LeafType, Hold, length-map, leaves, texts_of, Table, IsTable, leaf_types_of, table_holds, StoreMode, AllStay, dataset_of, decimal_text, ◌>>=◌, csv_records, with_columns, table_from, dataset_table, print_text, RowFault, and_from}
 use Rattle.csv_rows.proofs.PlainTexts.{AreColumnNames, is_plain_text}
 use Rattle.csv_rows.proofs.PrintedLines.{is_plain_row, rows_read, print_rows_text}
 use Rattle.csv_rows.proofs.PrintedColumns.{own_columns}
 use Rattle.csv_rows.proofs.PrintedRows.{StayTable, stay_row, stay_table, table_read, plain_table}
 
 header_plain : (names : List (List ℕ)) → 0 < length names → list_all is_plain_text names ≡ true → is_plain_row names ≡ true
-header_plain [] some plain = absurd (omega arith)
-header_plain (name ∷ names) some plain = plain
+header_plain names some plain = grind arith
 
 rows_are_plain : (mode : StoreMode) (kinds : List LeafType) (holds : List Hold) (table : List (List ℤ)) → 0 < length kinds → StayTable mode kinds holds table → list_all is_plain_row (map (map decimal_text) table) ≡ true
 rows_are_plain mode [] holds table some stay = absurd (omega arith)
@@ -25,15 +24,8 @@ read_again mode names kinds holds table are count some stay =
     ∙ table_read mode 0 kinds holds table stay
 
 pub printed_again : (mode : StoreMode) (names : List (List ℕ)) (kinds : List LeafType) (holds : List Hold) (table : List (List ℤ)) → AreColumnNames names → length names ≡ length kinds → 0 < length kinds → length holds ≡ length kinds → ((row : ℕ) → row < length table → length (get_or table row []) ≡ length kinds) → AllStay mode (length table) kinds holds table → dataset_table mode names kinds holds (csv_records (print_text names table)) ≡ Ok table
-printed_again mode names kinds holds table are count some paired long stays =
-    read_again mode names kinds holds table are count some
-    (stay_table mode kinds holds table (λ row small. (long row small, stay_row mode kinds holds (get_or table row []) paired (long row small) (λ leaf inside. stays row leaf small inside))))
+printed_again mode names kinds holds table are count some paired long stays = grind (arith, read_again, stay_table, stay_row)
 
 -- the same of views
 pub view_again : (printed loaded : Table) → loaded.fields ≡ printed.fields → AreColumnNames (texts_of printed.fields) → IsTable printed → 0 < length (leaves printed.fields) → length (table_holds loaded) ≡ length (leaf_types_of loaded) → AllStay loaded.mode (length printed.rows) (leaf_types_of loaded) (table_holds loaded) printed.rows → dataset_of loaded (csv_records (print_text (texts_of printed.fields) printed.rows)) ≡ Ok printed.rows
-view_again printed loaded same names table some paired stays =
-    let fields = printed.fields in
-    let kinds : length (leaf_types_of loaded) ≡ length (leaves fields) = length-map (leaves loaded.fields) (λ leaf. leaf.kind) ∙ ap (λ f. length (leaves f)) same in
-    let texts : length (texts_of fields) ≡ length (leaves fields) = length-map (leaves fields) (λ leaf. path_text_of leaf.path) in
-    ap (λ f. dataset_table loaded.mode (texts_of f) (leaf_types_of loaded) (table_holds loaded) (csv_records (print_text (texts_of fields) printed.rows))) same
-    ∙ printed_again loaded.mode (texts_of fields) (leaf_types_of loaded) (table_holds loaded) printed.rows names (texts ∙ sym kinds) (omega arith) paired (λ row small. table.shape.leaf_count row small ∙ sym kinds) stays
+view_again printed loaded same names table some paired stays = grind (arith, leaves, length-map, printed_again)

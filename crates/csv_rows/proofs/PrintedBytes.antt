@@ -1,5 +1,5 @@
 -- The bytes of names and of decimal texts, which stand in a line as they are.
-use Rattle.csv_rows.proofs.Imports.{◌≡◌, ℕ, suc, ◌+◌, ◌*◌, ◌/◌, ◌%◌, ◌^◌, ◌<◌, ◌≤◌, Bool, true, false, ◌&&◌, nat_eq, List, [], ◌∷◌, ◌++◌, get_or, reverse, ℤ, pos, negsuc, neg_ℤ, Some, None, refl, sym, ap, subst, ◌∙◌, arith, All, if◌then◌else◌, list_all, is_ascii_digit, digit_value, decimal, digits_value, digits_value_after, nat_tests, decimal_by_steps_wide, reverse-reverse, reverse-append, list_all-append, AllPass-from_list_all, digit_value_digit, continues_name, both, digits_text, decimal_text, decimal-digits_text, is_blank, behind_blanks, before_blanks, unspaced, all_digits, digits_number, number_behind_sign, is_comma, is_line_end, and_from}
+use Rattle.csv_rows.proofs.Imports.{◌≡◌, ℕ, suc, ◌+◌, ◌*◌, ◌/◌, ◌%◌, ◌^◌, ◌<◌, ◌≤◌, Bool, true, false, nat_eq, List, [], ◌∷◌, ◌++◌, get_or, reverse, ℤ, pos, negsuc, neg_ℤ, Some, refl, sym, ap, subst, ◌∙◌, arith, All, list_all, is_ascii_digit, digit_value, decimal, digits_value, digits_value_after, nat_tests, decimal_by_steps_wide, reverse-reverse, reverse-append, list_all-append, AllPass-from_list_all, digit_value_digit, continues_name, both, digits_text, decimal_text, decimal-digits_text, is_blank, behind_blanks, before_blanks, unspaced, digits_number, number_behind_sign, is_comma, is_line_end, and_from}
 use Rattle.std.proofs.Common.{not, ◌||◌}
 use Rattle.std.specs.Prelude.{option_map}
 use Rattle.csv_rows.proofs.PlainTexts.{is_plain_byte, is_plain_text}
@@ -18,19 +18,10 @@ pub record IsPlainByte (c : ℕ) : Type 0 where
 
 none_of : (a b c d e f g : Bool) → not (a || (b || (c || (d || (e || (f || (g || false))))))) ≡ true
     → (a ≡ false) × (b ≡ false) × (c ≡ false) × (d ≡ false) × (e ≡ false) × (f ≡ false) × (g ≡ false)
-none_of true b c d e f g h = cc h
-none_of false true c d e f g h = cc h
-none_of false false true d e f g h = cc h
-none_of false false false true e f g h = cc h
-none_of false false false false true f g h = cc h
-none_of false false false false false true g h = cc h
-none_of false false false false false false true h = cc h
-none_of false false false false false false false h = (refl, refl, refl, refl, refl, refl, refl)
+none_of a b c d e f g h = grind arith
 
 pub plain_byte : (c : ℕ) → is_plain_byte c ≡ true → IsPlainByte c
-plain_byte c plain =
-    let (tab, feed, ret, space, quote, comma, mark) = none_of (nat_eq c 9) (nat_eq c 10) (nat_eq c 13) (nat_eq c 32) (nat_eq c 34) (nat_eq c 44) (nat_eq c 239) plain in
-    record { comma = comma; quote = quote; ending = rw (ret, feed) refl; blank = rw (space, tab) refl; mark = mark }
+plain_byte c plain = grind (arith, none_of, nat_eq)
 
 -- the same of each byte of a text
 pub plain_bytes : (P : ℕ → Type 0) → ((c : ℕ) → IsPlainByte c → P c) → (xs : List ℕ) → list_all is_plain_byte xs ≡ true → All P xs
@@ -45,9 +36,7 @@ all_reversed (c ∷ xs) plain =
 
 front_same : (xs : List ℕ) → list_all is_plain_byte xs ≡ true → behind_blanks xs ≡ xs
 front_same [] plain = refl
-front_same (c ∷ xs) plain =
-    let no : is_blank c ≡ false = (plain_byte c (both (is_plain_byte c) (list_all is_plain_byte xs) plain).0).blank in
-    ap (λ (b : Bool). if b then behind_blanks xs else c ∷ xs) no
+front_same (c ∷ xs) plain = grind (arith, plain_byte, both, list_all)
 
 -- no blank stands at its ends
 pub unspaced_same : (xs : List ℕ) → list_all is_plain_byte xs ≡ true → unspaced xs ≡ xs
@@ -72,24 +61,10 @@ value_push m [] c = refl
 value_push m (x ∷ xs) c = value_push (m * 10 + digit_value x) xs c
 
 digits_one : (n : ℕ) → n < 10 → AreDigits n ((48 + n) ∷ [])
-digits_one n small = record {
-  all = and_from (is_ascii_digit (48 + n)) true (digit_is n small) refl;
-  value = omega (arith, digit_worth n small);
-  first = 48 + n;
-  rest = [];
-  is = refl;
-}
+digits_one n small = grind (arith, and_from, is_ascii_digit, digit_is, digit_worth)
 
 digits_more : (n : ℕ) (text : List ℕ) → 10 ≤ n → AreDigits (n / 10) text → AreDigits n (text ++ (48 + n % 10) ∷ [])
-digits_more n text long front =
-    let low : n % 10 < 10 = omega arith in
-    record {
-      all = all_joined is_ascii_digit text ((48 + n % 10) ∷ []) front.all (and_from (is_ascii_digit (48 + n % 10)) true (digit_is (n % 10) low) refl);
-      value = value_push 0 text (48 + n % 10) ∙ omega (arith, front.value, digit_worth (n % 10) low);
-      first = front.first;
-      rest = front.rest ++ (48 + n % 10) ∷ [];
-      is = ap (λ (t : List ℕ). t ++ (48 + n % 10) ∷ []) front.is;
-    }
+digits_more n text long front = grind (arith, all_joined, is_ascii_digit, and_from, digit_is, value_push, digit_worth)
 
 pub decimal_are : (n : ℕ) → n < 10 ^ 64 → AreDigits n (decimal n)
 decimal_are n small = decimal_by_steps_wide AreDigits digits_one digits_more n small
@@ -128,10 +103,7 @@ pub plain_some : (c : ℕ) (xs text : List ℕ) → text ≡ c ∷ xs → list_a
 plain_some c xs text is plain = ap is_plain_text is ∙ ap (list_all is_plain_byte) (sym is) ∙ plain
 
 pub digits_read : (n : ℕ) (text : List ℕ) → AreDigits n text → digits_number text ≡ Some n
-digits_read n text digits =
-    let some : digits_number (digits.first ∷ digits.rest) ≡ all_digits (digits.first ∷ digits.rest) = refl in
-    ap digits_number digits.is ∙ some ∙ ap all_digits (sym digits.is)
-    ∙ ap (λ (b : Bool). if b then Some (digits_value 10 text) else None) digits.all ∙ ap (λ (m : ℕ). Some m) digits.value
+digits_read n text digits = grind (arith, digits_value)
 
 no_sign : (c : ℕ) → is_ascii_digit c ≡ true → (nat_eq c 43 ≡ false) × (nat_eq c 45 ≡ false)
 no_sign c digit = (grind (arith, nat_tests), grind (arith, nat_tests))
@@ -147,23 +119,10 @@ pub record IsNumberText (z : ℤ) (text : List ℕ) : Type 0 where
 
 -- digits, and digits behind a minus
 pub digits_write : (n : ℕ) (text : List ℕ) → AreDigits n text → IsNumberText (pos n) text
-digits_write n text digits =
-    let plain = plain_digits text digits.all in
-    let first = (both (is_ascii_digit digits.first) (list_all is_ascii_digit digits.rest) (ap (list_all is_ascii_digit) (sym digits.is) ∙ digits.all)).0 in
-    record {
-      plain = plain;
-      some = plain_some digits.first digits.rest text digits.is plain;
-      number = ap number_behind_sign digits.is ∙ number_digits digits.first digits.rest first ∙ ap (λ (t : List ℕ). option_map pos (digits_number t)) (sym digits.is) ∙ ap (option_map pos) (digits_read n text digits);
-    }
+digits_write n text digits = grind (arith, plain_digits, both, is_ascii_digit, list_all, plain_some, number_digits, option_map, digits_read)
 
 pub minus_writes : (n : ℕ) (text : List ℕ) → AreDigits n text → IsNumberText (neg_ℤ (pos n)) (45 ∷ text)
-minus_writes n text digits =
-    let plain = plain_digits text digits.all in
-    record {
-      plain = plain;
-      some = plain;
-      number = ap (option_map (λ m. neg_ℤ (pos m))) (digits_read n text digits);
-    }
+minus_writes n text digits = grind (arith, plain_digits, option_map, neg_ℤ, digits_read)
 
 pub number_text : (z : ℤ) → ((n : ℕ) → z ≡ pos n → n < 10 ^ 64) → ((n : ℕ) → z ≡ negsuc n → suc n < 10 ^ 64) → IsNumberText z (decimal_text z)
 number_text (pos n) small low = digits_write n (digits_text n) (digits_are n (small n refl))

@@ -1,5 +1,5 @@
 -- In a header of names each leaf has the column of its own number.
-use Rattle.csv_rows.proofs.Imports.{◌≡◌, ℕ, suc, ◌+◌, Bool, true, false, nat_eq, List, [], ◌∷◌, ◌++◌, length, Ok, Result, refl, sym, ap, subst, ◌∙◌, arith, append_assoc, if◌then◌else◌, list_all, list_any, enumerate_from, range_with_len, pointwise, length_push, has_twice, both, same_text, text_self, ◌>>=◌, columns_named, one_column, columns_of, RowFault, or_parts}
+use Rattle.csv_rows.proofs.Imports.{◌≡◌, ℕ, suc, ◌+◌, Bool, true, false, nat_eq, List, [], ◌∷◌, ◌++◌, length, Ok, refl, sym, ap, subst, ◌∙◌, arith, append_assoc, if◌then◌else◌, list_all, list_any, enumerate_from, range_with_len, pointwise, length_push, has_twice, both, same_text, text_self, columns_named, columns_of, or_parts}
 use Rattle.csv_rows.proofs.PlainTexts.{is_plain_text}
 use Rattle.csv_rows.proofs.PrintedBytes.{unspaced_same}
 use Rattle.csv_rows.proofs.PrintedLines.{plain_part}
@@ -12,9 +12,7 @@ other_way a b false is other = refl
 -- one field of the header, which is the name or not
 field_named : (name field : List ℕ) (n : ℕ) (fields : List (List ℕ)) (test : Bool) → is_plain_text field ≡ true → pointwise nat_eq field name ≡ test
     → columns_named name (enumerate_from n (field ∷ fields)) ≡ (if test then n ∷ columns_named name (enumerate_from (n + 1) fields) else columns_named name (enumerate_from (n + 1) fields))
-field_named name field n fields test plain is =
-    ap (λ (text : List ℕ). if pointwise nat_eq text name then n ∷ columns_named name (enumerate_from (n + 1) fields) else columns_named name (enumerate_from (n + 1) fields)) (unspaced_same field (plain_part field plain))
-    ∙ ap (λ (b : Bool). if b then n ∷ columns_named name (enumerate_from (n + 1) fields) else columns_named name (enumerate_from (n + 1) fields)) is
+field_named name field n fields test plain is = grind (arith, nat_eq, enumerate_from, unspaced_same, plain_part)
 
 -- no field behind is the name
 none_behind : (name : List ℕ) (n : ℕ) (fields : List (List ℕ)) → list_all is_plain_text fields ≡ true → list_any (pointwise nat_eq name) fields ≡ false → columns_named name (enumerate_from n fields) ≡ []
@@ -26,11 +24,7 @@ none_behind name n (field ∷ fields) plain other =
 
 -- the fields before are other names, and then comes the name
 pub one_named : (before : List (List ℕ)) (name : List ℕ) (behind : List (List ℕ)) (n : ℕ) → list_all is_plain_text (before ++ name ∷ behind) ≡ true → has_twice (before ++ name ∷ behind) ≡ false → columns_named name (enumerate_from n (before ++ name ∷ behind)) ≡ (n + length before) ∷ []
-one_named [] name behind n plain once =
-    let (one, rest) = both (is_plain_text name) (list_all is_plain_text behind) plain in
-    let (other, more) = or_parts (list_any (pointwise nat_eq name) behind) (has_twice behind) once in
-    let here : n ≡ n + 0 = omega arith in
-    field_named name name n behind true one (text_self name) ∙ ap (λ (cs : List ℕ). n ∷ cs) (none_behind name (n + 1) behind rest other) ∙ ap (λ (m : ℕ). m ∷ []) here
+one_named [] name behind n plain once = grind (arith, both, list_all, or_parts, list_any, nat_eq, field_named, text_self, none_behind)
 one_named (field ∷ before) name behind n plain once =
     let (one, rest) = both (is_plain_text field) (list_all is_plain_text (before ++ name ∷ behind)) plain in
     let (other, more) = or_parts (list_any (pointwise nat_eq field) (before ++ name ∷ behind)) (has_twice (before ++ name ∷ behind)) once in
@@ -49,5 +43,4 @@ own_columns before (name ∷ names) leaf is plain once =
     let size : leaf + 1 ≡ length (before ++ name ∷ []) = ap (λ (n : ℕ). n + 1) is ∙ sym (length_push before name) in
     let rest : columns_of (before ++ name ∷ names) (leaf + 1) names ≡ Ok (range_with_len (leaf + 1) (length names)) =
     subst (λ (header : List (List ℕ)). columns_of header (leaf + 1) names ≡ Ok (range_with_len (leaf + 1) (length names))) whole (own_columns (before ++ name ∷ []) names (leaf + 1) size (ap (list_all is_plain_text) whole ∙ plain) (ap has_twice whole ∙ once)) in
-    ap (λ (columns : List ℕ). one_column leaf columns >>= (λ column. columns_of (before ++ name ∷ names) (leaf + 1) names >>= (λ cs. Ok (column ∷ cs)))) (one_named before name names 0 plain once ∙ ap (λ (n : ℕ). n ∷ []) place)
-    ∙ ap (λ (found : Result (List ℕ) RowFault). found >>= (λ cs. Ok (leaf ∷ cs))) rest
+    grind (arith, one_named)

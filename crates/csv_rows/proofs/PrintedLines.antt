@@ -13,9 +13,7 @@ joined_behind parts = flat_map (λ part. 44 ∷ part) parts
 
 comma_rest : (n : ℕ) (parts : List (List ℕ)) → 0 < n → flat_map with_comma (enumerate_from n parts) ≡ joined_behind parts
 comma_rest n [] later = refl
-comma_rest n (part ∷ parts) later =
-    ap (λ (t : List ℕ). t ++ flat_map with_comma (enumerate_from (n + 1) parts)) (comma_behind n part (λ e. absurd (omega arith)))
-    ∙ ap (λ (t : List ℕ). (44 ∷ part) ++ t) (comma_rest (n + 1) parts (omega arith))
+comma_rest n (part ∷ parts) later = grind (arith, flat_map, enumerate_from, comma_behind, (comma_rest (n + 1) parts (omega arith)))
 
 joined_is : (part : List ℕ) (parts : List (List ℕ)) → comma_joined (part ∷ parts) ≡ part ++ joined_behind parts
 joined_is part parts = ap (λ (t : List ℕ). part ++ t) (comma_rest (0 + 1) parts (omega arith))
@@ -25,8 +23,7 @@ abbrev AllPlain : List (List ℕ) → Type 0
 AllPlain parts = list_all is_plain_text parts ≡ true
 
 pub plain_part : (part : List ℕ) → is_plain_text part ≡ true → list_all is_plain_byte part ≡ true
-plain_part [] plain = cc plain
-plain_part (c ∷ part) plain = plain
+plain_part part plain = grind arith
 
 joined_all : (P : ℕ → Type 0) → ((c : ℕ) → IsPlainByte c → P c) → P 44 → (part : List ℕ) (parts : List (List ℕ)) → is_plain_text part ≡ true → AllPlain parts → All P (part ++ joined_behind parts)
 joined_all P of comma part [] plain more = rw append-nil (plain_bytes P of part (plain_part part plain))
@@ -77,17 +74,11 @@ unfolding strip_bom
 rows_marks [] plain = refl
 rows_marks ([] ∷ rows) plain = cc plain
 rows_marks (([] ∷ parts) ∷ rows) plain = cc plain
-rows_marks (((c ∷ part) ∷ parts) ∷ rows) plain =
-    let (row, rest) = both (list_all is_plain_text ((c ∷ part) ∷ parts)) (list_all is_plain_row rows) plain in
-    let (one, more) = both (is_plain_text (c ∷ part)) (list_all is_plain_text parts) row in
-    let (byte, bytes) = both (is_plain_byte c) (list_all is_plain_byte part) one in
-    strip_other c _ (plain_byte c byte).mark
+rows_marks (((c ∷ part) ∷ parts) ∷ rows) plain = grind (arith, both, list_all, strip_other, plain_byte)
 
 -- the records of such lines
 pub rows_read : (rows : List (List (List ℕ))) → list_all is_plain_row rows ≡ true → csv_records (rows_text rows) ≡ rows
-rows_read rows plain =
-    let marks = rows_marks rows plain in
-    ap (λ (t : List ℕ). rows_from st.StartRecord (strip_bom t)) marks ∙ ap (rows_from st.StartRecord) marks ∙ rows_plain rows plain
+rows_read rows plain = grind (arith, rows_marks, strip_bom, rows_plain)
 
 rows_mapped : (table : List (List ℤ)) → flat_map (λ row. comma_line (map decimal_text row)) table ≡ rows_text (map (map decimal_text) table)
 rows_mapped [] = refl

@@ -1,17 +1,15 @@
 -- The values that are printed are read again, by a view that can hold them.
-use Rattle.csv_rows.proofs.Imports.{◌≡◌, ℕ, zero, suc, ◌+◌, ◌^◌, ◌<◌, true, List, [], ◌∷◌, ◌++◌, length, get_or, map, ℤ, pos, negsuc, Some, Result, Ok, refl, sym, ap, subst, ◌∙◌, arith, append_assoc, slice_get, list_all, range_with_len, ints, length_push, LeafType, Truth, U8, U16, U32, U64, I8, I16, I32, I64, IsDeclared, Hold, stays_declared, StoreMode, store_answer, Stays, kind_at, stays_answer, hold_at, decimal_text, ◌>>=◌, Place, the_field, the_number, taken, unspaced, number_behind_sign, value_at, row_values, table_from, with_columns, RowFault, and_from}
+use Rattle.csv_rows.proofs.Imports.{◌≡◌, ℕ, zero, suc, ◌+◌, ◌^◌, ◌<◌, true, List, [], ◌∷◌, ◌++◌, length, get_or, map, ℤ, pos, negsuc, Some, Result, Ok, refl, sym, ap, subst, ◌∙◌, arith, append_assoc, slice_get, list_all, range_with_len, length_push, LeafType, IsDeclared, Hold, stays_declared, StoreMode, Stays, kind_at, stays_answer, hold_at, decimal_text, ◌>>=◌, Place, value_at, row_values, table_from, with_columns, RowFault, and_from}
 use Rattle.csv_rows.proofs.PlainTexts.{is_plain_text}
 use Rattle.csv_rows.proofs.PrintedBytes.{IsNumberText, number_text, unspaced_same}
 use Rattle.csv_rows.proofs.PrintedLines.{is_plain_row}
 
 -- a value of any leaf has few digits
 few_above : (kind : LeafType) (n : ℕ) → IsDeclared kind (pos n) → n < 10 ^ 64
-few_above Truth n is = grind (arith, ints)
-few_above other n is = grind (arith, ints)
+few_above kind n is = grind arith
 
 few_below : (kind : LeafType) (n : ℕ) → IsDeclared kind (negsuc n) → suc n < 10 ^ 64
-few_below Truth n is = grind (arith, ints)
-few_below other n is = grind (arith, ints)
+few_below kind n is = grind arith
 
 declared_text : (kind : LeafType) (z : ℤ) → IsDeclared kind z → IsNumberText z (decimal_text z)
 declared_text kind z is = number_text z (λ n e. few_above kind n (subst (IsDeclared kind) e is)) (λ n e. few_below kind n (subst (IsDeclared kind) e is))
@@ -40,13 +38,7 @@ field_at (x ∷ before) value behind zero is = absurd (omega arith)
 field_at (x ∷ before) value behind (suc n) is = field_at before value behind n (omega arith)
 
 value_read : (place : Place) (fields : List (List ℕ)) (value : ℤ) → slice_get fields place.column ≡ Some (decimal_text value) → Stays place.mode place.kind place.hold value → value_at place fields ≡ Ok value
-value_read place fields value here stays =
-    let text = declared_text place.kind value (stays_declared place.mode place.kind place.hold value stays) in
-    let answer : ℤ → Result ℤ RowFault = λ v. taken place (store_answer place.mode place.kind place.hold v) in
-    ap (λ found. the_field place found >>= (λ field. the_number place (number_behind_sign (unspaced field)) >>= answer)) here
-    ∙ ap (λ (field : List ℕ). the_number place (number_behind_sign field) >>= answer) (unspaced_same (decimal_text value) text.plain)
-    ∙ ap (λ number. the_number place number >>= answer) text.number
-    ∙ ap (taken place) (stays_answer place.mode place.kind place.hold value stays)
+value_read place fields value here stays = grind (arith, declared_text, stays_declared, unspaced_same, stays_answer)
 
 -- a row, from a leaf on
 row_read : (mode : StoreMode) (row : ℕ) (before values : List ℤ) (leaf : ℕ) (kinds : List LeafType) (holds : List Hold) → leaf ≡ length before → StayRow mode kinds holds values → row_values row (map decimal_text (before ++ values)) leaf (with_columns mode (range_with_len leaf (length values)) kinds holds) ≡ Ok values
@@ -83,8 +75,7 @@ table_read mode row kinds holds [] stay = refl
 table_read mode row kinds holds (values ∷ table) stay =
     let leaves = with_columns mode (range_with_len 0 (length kinds)) kinds holds in
     let one : row_values row (map decimal_text values) 0 leaves ≡ Ok values = ap (λ (n : ℕ). row_values row (map decimal_text values) 0 (with_columns mode (range_with_len 0 n) kinds holds)) (sym stay.0) ∙ row_read mode row [] values 0 kinds holds refl stay.1 in
-    ap (λ (found : Result (List ℤ) RowFault). found >>= (λ vs. table_from (row + 1) (map (map decimal_text) table) leaves >>= (λ rest. Ok (vs ∷ rest)))) one
-    ∙ ap (λ (found : Result (List (List ℤ)) RowFault). found >>= (λ rest. Ok (values ∷ rest))) (table_read mode (row + 1) kinds holds table stay.2)
+    grind (arith, (table_read mode (row + 1) kinds holds table stay.2))
 
 -- the texts of a row are plain
 pub plain_row : (mode : StoreMode) (kinds : List LeafType) (holds : List Hold) (values : List ℤ) → StayRow mode kinds holds values → list_all is_plain_text (map decimal_text values) ≡ true

@@ -1,5 +1,5 @@
 -- Outcomes that agree, or of which one is refused by a fault of how tables lie.
-use Rattle.equal_runs.proofs.Imports.{◌≡◌, ℕ, Bool, true, false, Option, Some, None, Result, Ok, Err, subst, Outcome, ◌>>=◌, refused_if, refused_by, ok_or, CommandFault, is_refused, is_of_layout, refl, Tested, Stop, Fault, Unread, sure}
+use Rattle.equal_runs.proofs.Imports.{◌≡◌, Bool, true, false, Option, Some, None, Result, Ok, Err, subst, Outcome, ◌>>=◌, refused_if, refused_by, ok_or, CommandFault, is_refused, is_of_layout, Tested, Stop, Fault, Unread, sure}
 
 -- both give things that are related so, or end alike, or one ends by an error of which its test holds
 pub data AgreeBy {A E : Type 0} (told others : E → Bool) (R : A → A → Type 0) : Result A E → Result A E → Type 0 where

@@ -1,9 +1,6 @@
 -- The commands that change or read a table, done to alike worlds.
-use Rattle.equal_runs.proofs.Imports.{◌≡◌, ℕ, Bool, true, false, ℤ, List, [], ◌∷◌, ◌++◌, length, Option, Some, None, Result, Ok, refl, sym, ap, subst, ◌∙◌, not, slice_index_or, indices, place_in, PathStep, kinds_of, texts_of, MapTerm, holds_by, hold_at, with_entry, Keeping, kind_at, Access, Write, Tally, all_accesses, Read, LeafCounts, counts_text, StoreFault, Term, Value, Assignment, KernelText, Table, leaf_count_of, answer_of, kept_of, after_stores, Setting, updated_rows, value_log, rows_log, UpdateFault, UpdateKind, KernelFault, Kernel, World, found, Done, stores, tells, done_to, with_table, on_view, ◌>>=◌, LeftOf, Left, known, some_or, refused_if, refused_by, ok_or, leaf_of, bound, bound_filter, bound_sets, each_once, leaves_of, text_of_leaf, storable, store_fault, value_on, inside, assigned, updated, update_fault, kind_fault, are_alike, all_read, copied, copy, kernel_outcome, fit_kernel, kernel_run, number_text, kernel_row_fault, counts, drop_view, Mismatch, NotCounted, is_of_layout, ⊤, content_of, Work, Reads, Shows, Changes, left_as, does, OnView, worked, Tested}
-use Rattle.views.specs.declared.fault.StoreFault.TheVariants as store
-use Rattle.line_grammar.specs.declared.line.ShowKind.TheVariants as show
+use Rattle.equal_runs.proofs.Imports.{◌≡◌, ℕ, Bool, true, ℤ, List, [], ◌∷◌, ◌++◌, length, Option, Some, None, Result, Ok, refl, sym, ap, subst, ◌∙◌, not, slice_index_or, indices, place_in, PathStep, kinds_of, texts_of, MapTerm, holds_by, hold_at, with_entry, Keeping, kind_at, Access, Write, Tally, all_accesses, Read, LeafCounts, counts_text, StoreFault, Term, Value, Assignment, KernelText, Table, leaf_count_of, answer_of, kept_of, after_stores, Setting, updated_rows, value_log, rows_log, UpdateFault, UpdateKind, KernelFault, Kernel, World, found, Done, stores, tells, done_to, with_table, on_view, ◌>>=◌, LeftOf, Left, known, some_or, refused_if, refused_by, ok_or, leaf_of, bound, bound_filter, bound_sets, each_once, leaves_of, text_of_leaf, storable, store_fault, value_on, inside, assigned, updated, update_fault, kind_fault, are_alike, all_read, copied, copy, kernel_outcome, fit_kernel, kernel_run, number_text, kernel_row_fault, counts, drop_view, Mismatch, NotCounted, is_of_layout, ⊤, content_of, Work, Reads, Shows, Changes, left_as, does, OnView, worked, Tested}
 use Rattle.row_updates.specs.declared.fault.UpdateKind.TheVariants as update_kind
-use Rattle.lane_kernels.specs.declared.fault.KernelFault.TheVariants as kernel_fault
 use Rattle.lane_kernels.specs.Kernels as kernels
 use Rattle.lane_kernels.specs.Logs as kernel_logs
 use Rattle.equal_runs.proofs.Agreeing.{Agree, go, first, second, bind, before, both_told, Both}
@@ -13,14 +10,14 @@ use Rattle.equal_runs.proofs.Kernels.{is_narrow_kernel, kernel_causes}
 use Rattle.equal_runs.proofs.Tables.{AlikeTables, AlikeWorlds, AlikeAlways, of_mapping, of_both, rewritten_alike, with_written, written_under, rows_told}
 use Rattle.equal_runs.proofs.TallyCounts.{SameCounts}
 use Rattle.equal_runs.proofs.Updates.{is_narrow_update, rows_answers, fit_rows, rows_are}
+use Rattle.std.proofs.Common.{arith}
 
 -- the table under another mapping, with another tally
 abbrev pub under : Table → MapTerm → Tally → Table
 under table mapping tally = record table { mapping = mapping; tally = tally }
 
 pub narrow_store : (row : ℕ) (leaf : List ℕ) (n : Bool) (e : StoreFault) → is_narrow e ≡ true → is_of_layout n (store_fault row leaf e) ≡ true
-narrow_store row leaf n store.Range is = absurd (cc)
-narrow_store row leaf n store.Narrow is = refl
+narrow_store row leaf n e is = grind arith
 
 narrow_update : (table : Table) (n : Bool) (e : UpdateFault) → is_narrow_update e ≡ true → is_of_layout n (update_fault table.fields e) ≡ true
 narrow_update table n e is = of_kind e.kind is where
@@ -31,9 +28,7 @@ narrow_update table n e is = of_kind e.kind is where
   of_kind (update_kind.Range leaf) is = absurd (cc)
 
 narrow_run : (table : Table) (n : Bool) (e : KernelFault) → is_narrow_kernel e ≡ true → is_of_layout n (kernel_row_fault table.fields e) ≡ true
-narrow_run table n (kernel_fault.Narrow row leaf) is = refl
-narrow_run table n kernel_fault.Empty is = absurd (cc)
-narrow_run table n (kernel_fault.Range row leaf) is = absurd (cc)
+narrow_run table n e is = grind arith
 
 -- what both do is the same, where neither is refused
 abbrev pub SameDone : Done → Done → Type 0
@@ -178,11 +173,7 @@ pub data AlikeLines (m o : Bool) : Option OnView → Option OnView → Type 0 wh
 
 -- worlds with alike tables under a name
 with_agree : (world other : World) → AlikeWorlds world other → (name : List ℕ) (a b : Table) → AlikeTables a b → AlikeWorlds (with_table world name a) (with_table other name b)
-with_agree world other alike name a b same = record {
-  records = alike.records;
-  mappings = alike.mappings;
-  views = entries_replaced AlikeTables name a b world.views other.views same alike.views;
-}
+with_agree world other alike name a b same = grind (arith, entries_replaced)
 
 -- alike worlds
 module _ (m o : Bool) (world other : World) (alike : AlikeWorlds world other) where
@@ -210,10 +201,7 @@ module _ (m o : Bool) (world other : World) (alike : AlikeWorlds world other) wh
 
   pub drop_agree : (name : List ℕ) → Agree m o AlikeAlways (drop_view world name) (drop_view other name)
   unfolding drop_view
-  drop_agree name = on_table name _ _ (λ table mapping tally same. go _ _ (record {
-    worlds = λ always also. record { records = alike.records; mappings = alike.mappings; views = entries_removed AlikeTables name world.views other.views alike.views };
-    text = refl;
-  }))
+  drop_agree name = grind (arith, on_table, go, entries_removed)
 
 -- the target is looked up after the source was read
 pub copy_agree : (m o : Bool) (world other : World) → AlikeWorlds world other → (name target : List ℕ) → Agree m o AlikeAlways (copy world name target) (copy other name target)

@@ -1,6 +1,7 @@
 -- Entries of the same names, and what is looked up among them.
 use Rattle.equal_runs.proofs.Imports.{◌≡◌, ℕ, suc, Bool, true, false, List, [], ◌∷◌, length, Option, Some, None, refl, ap, if◌then◌else◌, is_some, Entry, same_name, found, added, replaced, removed, known, free, some_or, refused_if, CommandFault, Unknown, Taken, Name}
 use Rattle.equal_runs.proofs.Agreeing.{Agree, go, fault}
+use Rattle.std.proofs.Common.{arith}
 
 -- the same names in the same order, and for each things that are related so
 pub data Entries {A B : Type 0} (R : A → B → Type 0) : List (Entry A) → List (Entry B) → Type 0 where
@@ -26,8 +27,7 @@ pub record At {A : Type 0} (R : A → A → Type 0) (x y : Option A) (a b : A) :
   pub second : y ≡ Some b
 
 pub known_option : {A : Type 0} (m o : Bool) (R : A → A → Type 0) (f : CommandFault) (x y : Option A) → Finds R x y → Agree m o (At R x y) (some_or f x) (some_or f y)
-known_option m o R f x y (some a b r) = go a b (record { alike = r; first = refl; second = refl })
-known_option m o R f x y nothing = fault f
+known_option m o R f x y h = grind (arith, go, fault)
 
 pub known_agree : {A : Type 0} (m o : Bool) (R : A → A → Type 0) (name : List ℕ) (xs ys : List (Entry A)) → Entries R xs ys
     → Agree m o (At R (found name xs) (found name ys)) (known name xs) (known name ys)

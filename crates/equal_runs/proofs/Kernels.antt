@@ -1,11 +1,11 @@
 -- Which fault ends a kernel, by the answers to its stores.
-use Rattle.equal_runs.proofs.Imports.{◌≡◌, ℕ, Bool, true, false, ℤ, List, [], ◌∷◌, Option, Some, None, Result, Err, refl, option_or, StoreAnswer, StoreFault, Store, stored, answer_fault, first_row_fault, empty_fault, kernel_fault, KernelFault, Kernel}
+use Rattle.equal_runs.proofs.Imports.{◌≡◌, ℕ, Bool, true, false, ℤ, List, [], ◌∷◌, Option, Some, None, Result, Err, refl, option_or, StoreAnswer, StoreFault, Store, answer_fault, first_row_fault, kernel_fault, KernelFault, Kernel}
 use Rattle.std.proofs.Common.{◌+◌}
 use Rattle.views.specs.declared.fault.StoreFault.TheVariants as stored_fault
 use Rattle.lane_kernels.specs.Kernels.{kernel_store_fault}
 use Rattle.lane_kernels.specs.declared.fault.KernelFault.TheVariants.{Narrow}
 use Rattle.equal_runs.proofs.Answers.{Answers, Causes, same, one, other as another, is_narrow}
-use Rattle.equal_runs.proofs.Agreeing.{go, fault as fails, first, second}
+use Rattle.std.proofs.Common.{arith}
 
 abbrev pub is_narrow_kernel : KernelFault → Bool
 is_narrow_kernel (Narrow row leaf) = true
@@ -22,14 +22,10 @@ narrow_answer row leaf stored_fault.Range y is = absurd (cc)
 narrow_answer row leaf stored_fault.Narrow y is = one (Narrow row leaf) y refl
 
 narrow_other : (row leaf : ℕ) (x : Option KernelFault) (e : StoreFault) → is_narrow e ≡ true → Causes is_narrow_kernel x (answer_fault row leaf (Err e))
-narrow_other row leaf x stored_fault.Range is = absurd (cc)
-narrow_other row leaf x stored_fault.Narrow is = another x (Narrow row leaf) refl
+narrow_other row leaf x e is = grind (arith, another)
 
 answer_causes : {Alike : Type 0} (row leaf : ℕ) (x y : Result ℤ StoreFault) → Answers is_narrow Alike x y → Causes is_narrow_kernel (answer_fault row leaf x) (answer_fault row leaf y)
-answer_causes row leaf x y (go a b alike) = same None
-answer_causes row leaf x y (fails e) = same (answer_fault row leaf (Err e))
-answer_causes row leaf x y (first e z is) = narrow_answer row leaf e (answer_fault row leaf z) is
-answer_causes row leaf x y (second z e is) = narrow_other row leaf (answer_fault row leaf z) e is
+answer_causes row leaf x y h = grind (arith, same, narrow_answer, narrow_other)
 
 -- two answers to stores that both keep a number, or of which one says that the value is not held
 module _ {Alike : Type 0} (answer other : StoreAnswer) (alike : (leaf : ℕ) (value : ℤ) → Answers is_narrow Alike (answer leaf value) (other leaf value)) where
@@ -39,10 +35,7 @@ module _ {Alike : Type 0} (answer other : StoreAnswer) (alike : (leaf : ℕ) (va
 
   first_causes : (kernel : Kernel) (row : ℕ) (rows : List (List ℤ)) → Causes is_narrow_kernel (first_row_fault answer kernel row rows) (first_row_fault other kernel row rows)
   first_causes kernel row [] = same None
-  first_causes kernel row (values ∷ rows) =
-      or_causes (kernel_store_fault answer row (stored kernel values)) (kernel_store_fault other row (stored kernel values)) (first_row_fault answer kernel (row + 1) rows) (first_row_fault other kernel (row + 1) rows)
-      (store_causes row (stored kernel values)) (first_causes kernel (row + 1) rows)
+  first_causes kernel row (values ∷ rows) = grind (arith, or_causes, store_causes, (first_causes kernel (row + 1) rows))
 
   pub kernel_causes : (kernel : Kernel) (rows : List (List ℤ)) → Causes is_narrow_kernel (kernel_fault answer kernel rows) (kernel_fault other kernel rows)
-  kernel_causes kernel rows =
-      or_causes (empty_fault kernel rows) (empty_fault kernel rows) (first_row_fault answer kernel 0 rows) (first_row_fault other kernel 0 rows) (same (empty_fault kernel rows)) (first_causes kernel 0 rows)
+  kernel_causes kernel rows = grind (arith, or_causes, same, first_causes)

@@ -1,7 +1,6 @@
 -- What a dataset answers, by how its leaves are held: one table where `Alike` says that their holds keep the same numbers.
-use Rattle.equal_runs.proofs.Imports.{◌≡◌, ℕ, suc, Bool, true, false, ℤ, List, [], ◌∷◌, length, Option, Some, None, Result, Ok, Err, refl, ap, ◌∙◌, arith, slice_get, LeafType, Hold, hold_at, StoreMode, kind_at, kept_or, store_answer, StoreFault, Place, Leaf, the_field, the_number, number_behind_sign, unspaced, refusal, taken, value_at, row_values, table_from, with_columns, columns_of, header_record, records_behind, dataset_table, RowFault, ShortRow, Number}
+use Rattle.equal_runs.proofs.Imports.{◌≡◌, ℕ, suc, Bool, true, false, ℤ, List, [], ◌∷◌, length, Option, Some, None, Result, Ok, Err, arith, slice_get, LeafType, Hold, hold_at, StoreMode, kind_at, kept_or, store_answer, StoreFault, Place, Leaf, the_field, the_number, number_behind_sign, unspaced, refusal, taken, value_at, row_values, table_from, with_columns, columns_of, header_record, records_behind, dataset_table, RowFault, ShortRow, Number}
 use Rattle.std.proofs.Common.{◌+◌}
-use Rattle.views.specs.declared.fault.StoreFault.TheVariants as store
 use Rattle.csv_rows.specs.Datasets.{◌>>=◌}
 use Rattle.csv_rows.specs.declared.fault.RowFault.TheVariants.{Narrow}
 use Rattle.equal_runs.proofs.Answers.{Answers, equal, is_narrow, store_answers}
@@ -27,9 +26,7 @@ before (Err e) f g next = fails e
 cons_answers : {A Alike : Type 0} (x y : Result A RowFault) (xs ys : Result (List A) RowFault) → Answers is_narrow_row Alike x y → Answers is_narrow_row Alike xs ys
     → Answers is_narrow_row Alike (x >>= (λ a. xs >>= (λ rest. Ok (a ∷ rest)))) (y >>= (λ a. ys >>= (λ rest. Ok (a ∷ rest))))
 cons_answers {A} x y xs ys one others =
-    bind x y (λ a. xs >>= (λ rest. Ok (a ∷ rest))) (λ a. ys >>= (λ rest. Ok (a ∷ rest))) one (λ a b same.
-    bind xs ys (λ rest. Ok (a ∷ rest)) (λ rest. Ok (b ∷ rest)) others (λ rest more also.
-    go (a ∷ rest) (b ∷ more) (λ alike. ap (λ (v : A). v ∷ more) (same alike) ∙ ap (λ (vs : List A). a ∷ vs) (also alike))))
+    bind x y (λ a. xs >>= (λ rest. Ok (a ∷ rest))) (λ a. ys >>= (λ rest. Ok (a ∷ rest))) one (λ a b same. grind (arith, bind, go))
 
 -- what two holds keep of each value is the same
 abbrev pub KeepAlike : StoreMode → LeafType → Hold → Hold → Type 0
@@ -52,8 +49,7 @@ leaves_with mode (column ∷ columns) (kind ∷ kinds) (hold ∷ holds) (h ∷ h
     (leaves_with mode columns kinds holds hs (omega arith) (omega arith) (λ holds_alike leaf. alike holds_alike (suc leaf)))
 
 narrow_refusal : (row leaf : ℕ) (e : StoreFault) → is_narrow e ≡ true → is_narrow_row (refusal row leaf e) ≡ true
-narrow_refusal row leaf store.Range is = is
-narrow_refusal row leaf store.Narrow is = refl
+narrow_refusal row leaf e is = grind arith
 
 -- a place with another hold
 abbrev held_by : Place → Hold → Place

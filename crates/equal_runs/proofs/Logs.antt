@@ -1,15 +1,15 @@
 -- What is counted of a view are the accesses to it, line after line.
-use Rattle.equal_runs.proofs.Imports.{◌≡◌, ℕ, Bool, false, List, [], ◌++◌, length, Option, Some, None, refl, sym, ap, subst, ◌∙◌, ◌+◌, ◌*◌, ◌^◌, nat_lt, not, length-map, File, indices, leaves, Tree, Fields, MapTerm, zeros, zeros_shape, StoreMode, Sentence, New, Access, Tally, tallied, no_tally, all_accesses, Read, Write, tallied-none, tallied-append, kept_row, kept_rows, Table, owners_of, leaf_count_of, kept_of, after_stores, World, Entry, found, added, replaced, removed, Saved, opened, rows_in, table_of_saved, csv_records, records_behind, dataset_of, checked, copy, copied, relayout, all_read, laid_anew, are_alike, define, fit, bad_file, open_view, opened_beside, opened_table, load, loaded_table, loaded, filled, read, row_fault, mapping, Done, done_to, on_view, worked, Outcome, ◌>>=◌, LeftOf, Left, quiet, known, free, refused_if, ok_or, drop_view, step, work_of, made, resolved, room, shaped, zeros_of, blob_bits, live_bits, nameless, view, new_table, with_view, named, Named, BadMapping, TooBig, Mismatch, found_added, found_replaced, IfGoes, to, refused, bind, behind, known_found, free_found, log_in, logged, reads_of, writes_of, fills_of, done_log, work_logs, logs_after, Ok, Err, OnView, does, Tested, sure, goes_each, surely}
+use Rattle.equal_runs.proofs.Imports.{◌≡◌, ℕ, Bool, false, List, [], ◌++◌, length, Option, Some, None, refl, sym, ap, subst, ◌∙◌, ◌^◌, nat_lt, not, length-map, File, indices, leaves, Tree, Fields, MapTerm, zeros, zeros_shape, StoreMode, Sentence, New, Access, tallied, no_tally, all_accesses, Read, Write, tallied-none, tallied-append, kept_row, kept_rows, Table, owners_of, leaf_count_of, kept_of, after_stores, World, Entry, found, added, replaced, removed, Saved, rows_in, table_of_saved, csv_records, records_behind, dataset_of, copy, copied, relayout, all_read, laid_anew, are_alike, define, fit, open_view, opened_beside, opened_table, load, loaded_table, loaded, filled, read, row_fault, mapping, Done, done_to, on_view, worked, Outcome, ◌>>=◌, LeftOf, Left, quiet, known, free, refused_if, ok_or, drop_view, step, work_of, made, resolved, zeros_of, nameless, view, new_table, with_view, named, Named, TooBig, Mismatch, found_added, found_replaced, IfGoes, to, refused, bind, behind, known_found, free_found, log_in, logged, reads_of, writes_of, fills_of, work_logs, logs_after, Ok, OnView, Tested, sure, goes_each, surely}
 use Rattle.std.specs.Prelude.{ℤ}
 use Rattle.line_grammar.specs.Sentences as line
 use Rattle.equal_runs.proofs.Agreeing.{Told, goes, told}
-use Rattle.equal_runs.proofs.Entries.{Entries, Finds, some, nothing, finds, entries_added, entries_replaced, entries_removed}
+use Rattle.equal_runs.proofs.Entries.{Entries, Finds, finds, entries_added, entries_replaced, entries_removed}
 use Rattle.equal_runs.proofs.Tables.{with_written, anew_of, made_told, rows_told, anew_told}
+use Rattle.std.proofs.Common.{arith}
 
 -- what is told goes there
 of_told : {A : Type 0} (P : A → Type 0) (x : Tested A) → Told false P x → IfGoes P x
-of_told P x (goes a p) = to a p
-of_told P x (told fault of) = refused fault
+of_told P x h = grind (arith, to, refused)
 
 -- the tally of a table is that of a list of accesses
 abbrev pub IsCounted : Table → List Access → Type 0
@@ -19,17 +19,14 @@ abbrev pub AreCounted : List (Entry Table) → List (Entry (List Access)) → Ty
 AreCounted views logs = Entries IsCounted views logs
 
 of_found : (x : Option Table) (y : Option (List Access)) (table : Table) → Finds IsCounted x y → x ≡ Some table → IsCounted table (log_in y)
-of_found x y table (some a b r) is = let same : a ≡ table = cc in subst (λ (t : Table). IsCounted t b) same r
-of_found x y table nothing is = absurd (cc)
+of_found x y table h is = grind arith
 
 pub counted_at : (name : List ℕ) (views : List (Entry Table)) (logs : List (Entry (List Access))) (table : Table) → AreCounted views logs → found name views ≡ Some table → IsCounted table (log_in (found name logs))
 counted_at name views logs table all is = of_found (found name views) (found name logs) table (finds IsCounted name views logs all) is
 
 -- more accesses
 counted_more : (table : Table) (log : List Access) (rows : List (List ℤ)) (more : List Access) → IsCounted table log → IsCounted (after_stores table rows more) (log ++ more)
-counted_more table log rows more is =
-    let owners = owners_of table in
-    ap (λ (tally : Tally). tallied owners tally more) is ∙ tallied-append owners (no_tally table.mapping owners (leaf_count_of table)) log more
+counted_more table log rows more is = grind (arith, tallied-append)
 
 logged_more : (name : List ℕ) (views : List (Entry Table)) (logs : List (Entry (List Access))) (table : Table) (rows : List (List ℤ)) (more : List Access) → AreCounted views logs → found name views ≡ Some table
     → AreCounted (replaced name (after_stores table rows more) views) (logged name more logs)
@@ -94,8 +91,7 @@ saved_filled saved = record {
 }
 
 counted_filled : (table : Table) → IsFilled table → IsCounted table (fills_of (Some table))
-counted_filled table is =
-    subst (λ (t : Table). IsCounted t (fills_of (Some t))) (sym is.is) (counted_zeros is.mode is.fields is.extents is.term is.rows (all_accesses Write (length (leaves is.fields)) (length (indices is.extents))))
+counted_filled table is = grind (arith, counted_zeros, leaves)
 
 counted_none : (table : Table) → IsZeros table → IsCounted table []
 counted_none table is = subst (λ (t : Table). IsCounted t []) (sym is.is) (sym (tallied-none _ _))
@@ -111,10 +107,7 @@ module _ (world : World) (logs : List (Entry (List Access))) (all : AreCounted w
 
   mapping_keeps : (name : List ℕ) (term : MapTerm) → IfGoes (Keeps (λ w. logs)) (mapping world name term)
   unfolding mapping
-  mapping_keeps name term =
-      bind (Keeps (λ w. logs)) (free name world.mappings) _ (λ unused a.
-      bind (Keeps (λ w. logs)) (nameless world.mappings term) _ (λ whole b.
-      bind (Keeps (λ w. logs)) (ok_or BadMapping (checked whole)) _ (λ fit c. to _ all)))
+  mapping_keeps name term = grind (arith, bind, to)
 
   new_zeros : (new : New) → IfGoes IsZeros (new_table world new)
   unfolding new_table
@@ -130,13 +123,7 @@ module _ (world : World) (logs : List (Entry (List Access))) (all : AreCounted w
 
   -- the name of a view that goes is that of no view
   named_free : (new : New) → IfGoes (λ (whole : Named). found new.name world.views ≡ None) (named world new)
-  named_free new =
-      let P : Named → Type 0 = λ whole. found new.name world.views ≡ None in
-      bind P (free new.name world.views) _ (λ unused is.
-      bind P (known new.schema world.records) _ (λ fields a.
-      bind P (nameless world.mappings new.term) _ (λ whole b.
-      bind P (room world.views) _ (λ space c.
-      bind P (shaped new.words) _ (λ ranked d. to _ (free_found _ (found new.name world.views) is))))))
+  named_free new = grind (arith, bind, to, free_found)
 
   -- a table that was filled, of a name that is that of no view
   abbrev IsLoaded : List ℕ → Table → Type 0
@@ -147,8 +134,7 @@ module _ (world : World) (logs : List (Entry (List Access))) (all : AreCounted w
       → IfGoes (Keeps (λ w. added name (fills_of (found name w.views)) logs)) (x >>= (λ table. sure (quiet (with_view world name table))))
   loaded_keeps name x is_loaded =
       behind (Keeps (λ w. added name (fills_of (found name w.views)) logs)) (IsLoaded name) x _ is_loaded
-      (λ table is. to _ (subst (λ (y : Option Table). AreCounted (added name table world.views) (added name (fills_of y) logs)) (sym (found_added name table world.views is.1))
-      (entries_added IsCounted name table (fills_of (Some table)) world.views logs (counted_filled table is.0) all)))
+      (λ table is. grind (arith, to, found_added, entries_added, counted_filled))
 
   loaded_filled : (new : New) (file : List ℕ) (files : List File) (fails : Bool) → IfGoes (IsLoaded new.name) (loaded_table world new file files fails)
   unfolding loaded_table loaded
@@ -175,15 +161,7 @@ module _ (world : World) (logs : List (Entry (List Access))) (all : AreCounted w
 
   opened_filled : (name file : List ℕ) (files : List File) (fails : Bool) → IfGoes (IsLoaded name) (opened_table world name file files fails)
   unfolding opened_table opened_beside
-  opened_filled name file files fails =
-      let P : Table → Type 0 = IsLoaded name in
-      behind P (λ (done : Unit {0}). found name world.views ≡ None) (sure (free name world.views)) _ (surely _ _ (name_free name)) (λ unused none.
-      bind P (sure (room world.views)) _ (λ space a.
-      bind P (read files fails file) _ (λ bytes b. surely P _ (
-      bind P (refused_if (nat_lt (2 ^ 28 + 8206) (length bytes)) TooBig) _ (λ short c.
-      bind P (ok_or bad_file (opened bytes)) _ (λ saved d.
-      bind P (refused_if (nat_lt (8 * 2 ^ 30) (live_bits world.views + blob_bits (table_of_saved saved))) TooBig) _ (λ fits e.
-      to _ (saved_filled saved, none))))))))
+  opened_filled name file files fails = grind (arith, surely, name_free, bind, nat_lt, to, saved_filled)
 
   open_keeps : (name file : List ℕ) (files : List File) (fails : Bool) → IfGoes (Keeps (λ w. added name (fills_of (found name w.views)) logs)) (open_view world name file files fails)
   unfolding open_view
@@ -202,8 +180,7 @@ module _ (world : World) (logs : List (Entry (List Access))) (all : AreCounted w
       subst (λ (n : Table). IsCounted n (writes_of (Some n))) (sym anew)
       (subst (IsCounted (with_written zeros table.rows)) (sym (writes_written zeros table.rows))
       (counted_zeros table.mode table.fields table.extents whole (kept_rows (kept_of zeros) table.rows) (all_accesses Write (leaf_count_of zeros) (length table.rows)))) in
-      to _ (subst (λ (x : Option Table). AreCounted (replaced name new world.views) (replaced name (writes_of x) logs)) (sym there)
-      (entries_replaced IsCounted name new (writes_of (Some new)) world.views logs one all)))))
+      grind (arith, to, entries_replaced))))
 
   copied_written : (source table : Table) → IfGoes (λ (new : Table). new ≡ with_written table source.rows) (copied source table)
   unfolding copied
@@ -246,15 +223,7 @@ module _ (world : World) (logs : List (Entry (List Access))) (all : AreCounted w
   work_keeps : (job : Option OnView) → IfGoes (Keeps (λ w. work_logs world job logs)) (worked world job)
   unfolding on_view
   work_keeps None = to _ all
-  work_keeps (Some job) =
-      let P : Left → Type 0 = Keeps (λ w. work_logs world (Some job) logs) in
-      bind P (known job.view world.views) _ (λ table t.
-      behind P (WasDone (does job.work table) table) (done_to table (does job.work table)) _ (was_done table (does job.work table)) (λ new was.
-      let log : done_log (known job.view world.views >>= does job.work) ≡ was.done.log = ap (λ (x : Tested Table). done_log (x >>= does job.work)) t ∙ ap done_log was.is in
-      let one : AreCounted (replaced job.view (after_stores table was.done.rows was.done.log) world.views) (logged job.view was.done.log logs) =
-      logged_more job.view world.views logs table was.done.rows was.done.log all (known_found _ (found job.view world.views) table t) in
-      to _ (subst (λ (n : Table). AreCounted (replaced job.view n world.views) (work_logs world (Some job) logs)) (sym was.held)
-      (subst (λ (more : List Access). AreCounted (replaced job.view (after_stores table was.done.rows was.done.log) world.views) (logged job.view more logs)) (sym log) one))))
+  work_keeps (Some job) = grind (arith, bind, was_done, logged_more, known_found, to)
 
   -- a line that goes
   pub step_keeps : (files : List File) (fails : Bool) (sentence : Sentence) → IfGoes (Keeps (λ w. logs_after world sentence w logs)) (step world sentence files fails)

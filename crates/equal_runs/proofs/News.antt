@@ -1,20 +1,19 @@
 -- The commands with names and mapping expressions, done to alike worlds.
 use Rattle.equal_runs.proofs.Imports.{◌≡◌, ℕ, Bool, true, ℤ, List, length, Option, Some, None, refl, sym, ap, subst, ◌∙◌, ◌+◌, ◌*◌, ◌^◌, ◌&&◌, is_some, IfSome, nat_lt, nat_le, ExtentWord, File, Tree, Fields, kinds_of, texts_of, New, View, Relayout, MapTerm, checked, holds_by, holds_cells, length-leaf_cells, opened, table_of_saved, csv_records, records_behind, dataset_table, RowFault, Keeping, Table, IsWide, leaf_count_of, after_stores, World, Entry, found, Tally, all_accesses, Write, Left, quiet, known, free, refused_if, ok_or, nameless, room, shaped, resolved, made, zeros_of, blob_bits, live_bits, fit, define, mapping, Named, named, new_table, with_view, view, read, filled, loaded, loaded_table, load, fault_of, laid_anew, relayout, bad_file, opened_beside, opened_table, open_view, BadMapping, TooBig, TooManyViews, is_refused, is_of_layout, found_added, found_replaced, MakesWide, Tested, sure}
-use Rattle.csv_rows.specs.declared.fault.RowFault.TheVariants as row_fault
 use Rattle.equal_runs.proofs.Agreeing.{Agree, go, bind, before, alone, weaker, both_told, Any, Both, told_if, told_ok, told_misses, EndAlike, surely}
 use Rattle.equal_runs.proofs.Answers.{Given, ok_agree}
 use Rattle.equal_runs.proofs.Entries.{At, known_agree, Neither, free_agree, entries_added, entries_replaced, length-entries}
 use Rattle.equal_runs.proofs.Loads.{is_narrow_row, dataset_answers}
 use Rattle.equal_runs.proofs.Names.{nameless_told}
 use Rattle.equal_runs.proofs.Tables.{AlikeTables, AlikeIfWide, AlikeWorlds, AlikeLefts, AlikeAlways, self_alike, of_both, rewritten_alike, zeros_alike, anew_of, anew_alike, made_told, anew_told}
+use Rattle.std.proofs.Common.{arith}
 
 -- as many holds as leaves
 paired : (mapping : MapTerm) (fields : Fields) → length (holds_by mapping fields) ≡ length (kinds_of fields)
 paired mapping fields = holds_cells mapping fields (holds_by mapping fields) refl ∙ length-leaf_cells (kinds_of fields)
 
 narrow_row : (fields : Fields) (n : Bool) (e : RowFault) → is_narrow_row e ≡ true → is_of_layout n (fault_of fields e) ≡ true
-narrow_row fields n (row_fault.Narrow row leaf) is = refl
-narrow_row fields n other is = absurd (cc)
+narrow_row fields n e is = grind arith
 
 -- what the words of a new view stand for, but its mapping
 record AlikeNamed (whole other : Named) : Type 0 where
@@ -96,14 +95,7 @@ module _ (world other : World) (alike : AlikeWorlds world other) where
   define_agree m o name tree =
       bind (Neither (found name world.records) (found name other.records)) AlikeAlways (free name world.records) (free name other.records) _ _
       (free_agree m o (λ (a b : Fields). b ≡ a) name world.records other.records alike.records) (λ new also p.
-      before AlikeAlways (fit tree) _ _ (λ fields. go _ _ (record {
-        worlds = λ always also. record {
-          records = entries_added (λ (a b : Fields). b ≡ a) name fields fields world.records other.records refl alike.records;
-          mappings = alike.mappings;
-          views = alike.views;
-        };
-        text = refl;
-      })))
+      before AlikeAlways (fit tree) _ _ (λ fields. grind (arith, go, entries_added)))
 
   pub mapping_agree : (name : List ℕ) (term changed : MapTerm)
       → Agree (is_refused (nameless world.mappings term)) (is_refused (nameless other.mappings changed)) AlikeAlways (mapping world name term) (mapping other name changed)
@@ -133,11 +125,7 @@ module _ (world other : World) (alike : AlikeWorlds world other) where
 
   -- the world with one more table
   view_added : (name : List ℕ) (a b : Table) → AlikeTables a b → AlikeWorlds (with_view world name a) (with_view other name b)
-  view_added name a b same = record {
-    records = alike.records;
-    mappings = alike.mappings;
-    views = entries_added AlikeTables name a b world.views other.views same alike.views;
-  }
+  view_added name a b same = grind (arith, entries_added)
 
   pub open_agree : (m o : Bool) (name file : List ℕ) (files : List File) (unread : Bool) → EndAlike m o AlikeAlways (open_view world name file files unread) (open_view other name file files unread)
   unfolding open_view opened_table
@@ -182,8 +170,7 @@ module _ (world other : World) (alike : AlikeWorlds world other) where
     AlikeAdded a b = MakesWide (View new) (with_view world new.name a) → MakesWide (View under) (with_view other new.name b) → AlikeTables a b
 
     added_alike : (whole whole_other : Named) → AreNew whole whole_other → (a b : Table) → AlikeIfWide a b → AlikeAdded a b
-    added_alike whole whole_other is a b same wide also =
-        same (found_wide _ a (found_added new.name a world.views is.1.0) wide) (found_wide _ b (found_added new.name b other.views is.1.1) also)
+    added_alike whole whole_other is a b same wide also = grind (arith, found_wide, found_added)
 
     abbrev AlikeMade : Left → Left → Type 0
     AlikeMade = AlikeLefts (MakesWide (View new)) (MakesWide (View under))
@@ -230,12 +217,4 @@ module _ (world other : World) (alike : AlikeWorlds world other) where
       (both_told (λ (t : Table). t ≡ anew_of table whole) (λ (t : Table). t ≡ anew_of table_other whole_other) AlikeIfWide
       (laid_anew world.views table whole) (laid_anew other.views table_other whole_other) (anew_told m world.views table whole) (anew_told o other.views table_other whole_other)
       (of_both AlikeIfWide (anew_of table whole) (anew_of table_other whole_other) (anew_alike table table_other whole whole_other at.alike)))
-      (λ a b same. go _ _ (record {
-        worlds = λ wide also. record {
-          records = alike.records;
-          mappings = alike.mappings;
-          views = entries_replaced AlikeTables name a b world.views other.views
-              (same (found_wide _ a (found_replaced name a table world.views at.first) wide) (found_wide _ b (found_replaced name b table_other other.views at.second) also)) alike.views;
-        };
-        text = refl;
-      }))))
+      (λ a b same. grind (arith, go, entries_replaced, found_wide, found_replaced))))

@@ -1,10 +1,11 @@
 -- The runs of scripts that differ in their mapping expressions alone.
-use Rattle.equal_runs.proofs.Imports.{◌≡◌, ℕ, Bool, false, List, [], ◌∷◌, Option, refl, sym, ap, subst, ◌∙◌, list_any, or_parts, File, MapTerm, Sentence, Version, World, empty, Outcome, Left, step, Output, run_from, after, fails_at, prepend, with_term, AgreeButTerms, shows_layout, IsLine, AreLines, misses_mapping, ends_after, ends_by_layout, MakesWide, HoldsOf, StaysWide, DoesLines, EqualRuns, Fault, Unread}
+use Rattle.equal_runs.proofs.Imports.{◌≡◌, ℕ, Bool, false, List, [], ◌∷◌, Option, refl, sym, ap, subst, ◌∙◌, list_any, or_parts, File, MapTerm, Sentence, Version, World, Outcome, Left, step, Output, run_from, after, fails_at, prepend, with_term, AgreeButTerms, shows_layout, IsLine, AreLines, misses_mapping, ends_after, ends_by_layout, MakesWide, HoldsOf, StaysWide, DoesLines, EqualRuns, Fault, Unread}
 use Rattle.std.proofs.Common.{◌+◌}
 use Rattle.equal_runs.proofs.Agreeing.{go, fault, first, second, EndAlike}
 use Rattle.equal_runs.proofs.Entries.{none as no_entries}
 use Rattle.equal_runs.proofs.Steps.{step_agree}
 use Rattle.equal_runs.proofs.Tables.{AlikeWorlds, AlikeLefts}
+use Rattle.std.proofs.Common.{arith}
 
 -- after outcomes that agree, and of which none ends by a fault of how tables lie, runs go on alike; of the worlds that are left `P` and `Q` hold
 after_alike : (m o : Bool) (M N : World → Type 0) (number : ℕ) (x y : Outcome Left) (ends others : World → Bool) (P Q : World → Type 0) (rest later : World → Output)
@@ -56,6 +57,4 @@ module _ (version : Version) (files : List File) (outcome : World → List ℕ �
       ∙ sym (ap (λ (x : Outcome Left). after number x (λ next. run_from outcome (number + 1) next us unread)) (does other changed (with_term term line) b is_also))
 
 pub equal : (version : Version) (files : List File) (outcome : World → List ℕ → Bool → Outcome Left) → DoesLines version files outcome → EqualRuns version files outcome
-equal version files outcome does texts other_texts lines others unread are also differ =
-    runs_alike version files outcome does unread 1 empty empty (record { records = no_entries; mappings = no_entries; views = no_entries }) texts lines other_texts others
-    (pairs_of version texts other_texts lines others are also differ.agree) differ.shown differ.holds differ.other_holds differ.wide differ.other_wide
+equal version files outcome does texts other_texts lines others unread are also differ = grind (arith, runs_alike, no_entries, pairs_of)

@@ -1,5 +1,5 @@
 -- What a run shows of its accesses.
-use Rattle.equal_runs.proofs.Imports.{◌≡◌, ℕ, Bool, List, [], ◌∷◌, ◌++◌, length, Option, Some, None, refl, sym, ap, subst, ◌∙◌, arith, append_assoc, IfSome, File, Owner, texts_of, Sentence, Version, LeafCounts, HeatCounts, counts_text, heat_text, AreEntries, AreCounts, AreHeat, Access, Tally, tallied, no_tally, Table, owners_of, leaf_count_of, World, found, Done, done_to, on_view, Outcome, LeftOf, Left, known, some_or, counts, heat, step, NotCounted, run_from, after, prepend, fails_at, Output, AreLines, DoesLines, SoFar, at_first, one_more, logs_after, Comes, there, further, log_of, ShowsCounts, ShowsHeat, ShowsEntries, tally_since, IfGoes, to, bind, behind, gone, known_found, Told, Shows, does, surely}
+use Rattle.equal_runs.proofs.Imports.{◌≡◌, ℕ, Bool, List, [], ◌∷◌, ◌++◌, length, Option, Some, sym, ap, subst, ◌∙◌, arith, append_assoc, IfSome, File, Owner, texts_of, Sentence, Version, LeafCounts, HeatCounts, counts_text, heat_text, AreEntries, AreCounts, AreHeat, Access, Tally, tallied, no_tally, Table, owners_of, leaf_count_of, World, found, done_to, on_view, Outcome, LeftOf, Left, known, counts, heat, step, run_from, prepend, fails_at, Output, AreLines, DoesLines, SoFar, at_first, one_more, logs_after, Comes, there, further, log_of, ShowsCounts, ShowsHeat, ShowsEntries, tally_since, IfGoes, to, bind, behind, gone, known_found, Shows, does, surely}
 use Rattle.std.proofs.Common.{◌+◌}
 use Rattle.map_expr.specs.Terms.{Term}
 use Rattle.equal_runs.proofs.Entries.{none}
@@ -21,17 +21,11 @@ prepend-append a b output = ap (λ bytes. record { bytes = bytes; end = output.e
 comes_on : (version : Version) (files : List File) (outcome : World → List ℕ → Bool → Outcome Left) → DoesLines version files outcome → (unread : Option ℕ) (number : ℕ) (now last : SoFar) (lines : List Sentence)
     → Comes files unread number now lines last → (texts more : List (List ℕ)) → AreLines version texts lines
     → prepend now.text (run_from outcome number now.world (texts ++ more) unread) ≡ prepend last.text (run_from outcome (number + length lines) last.world more unread)
-comes_on version files outcome does unread number now last lines (there _ _) [] more are =
-    let none : number ≡ number + 0 = omega arith in
-    ap (λ (n : ℕ). prepend now.text (run_from outcome n now.world more unread)) none
+comes_on version files outcome does unread number now last lines (there _ _) [] more are = grind arith
 comes_on version files outcome does unread number now last lines (there _ _) (text ∷ texts) more are = absurd are
 comes_on version files outcome does unread number now last lines (further _ _ line left rest _ goes comes) [] more are = absurd are
 comes_on version files outcome does unread number now last lines (further _ _ line left rest _ goes comes) (text ∷ texts) more are =
-    let place : number + length (line ∷ rest) ≡ number + 1 + length rest = omega arith in
-    ap (λ (o : Outcome Left). prepend now.text (after number o (λ next. run_from outcome (number + 1) next (texts ++ more) unread))) (does now.world text line (fails_at unread number) are.0 ∙ goes)
-    ∙ prepend-append now.text left.text (run_from outcome (number + 1) left.held (texts ++ more) unread)
-    ∙ comes_on version files outcome does unread (number + 1) (one_more now line left) last rest comes texts more are.1
-    ∙ ap (λ (n : ℕ). prepend last.text (run_from outcome n last.world more unread)) (sym place)
+    grind (arith, prepend-append, (comes_on version files outcome does unread (number + 1) (one_more now line left) last rest comes texts more are.1))
 
 -- a law of what is counted, as it is told
 abbrev pub AreTold : Type 0
@@ -45,8 +39,7 @@ module _ (told : AreTold) (files : List File) (unread : Option ℕ) (lines : Lis
   entries_at table is = subst (AreEntries (owners_of table) (leaf_count_of table) (log_of now name)) (tally_is table is) (told table.mapping (owners_of table) (leaf_count_of table) (log_of now name))
 
   some_counts : {A : Type 0} (P : A → Type 0) (x : Option A) (a : A) → IfSome x P → x ≡ Some a → P a
-  some_counts P (Some b) a all is = let same : b ≡ a = cc in subst P same all
-  some_counts P None a all is = absurd (cc)
+  some_counts P x a all is = grind arith
 
   -- what is told of a table is of numbers that it has
   abbrev CountsTold : Table → List ℕ → Type 0
@@ -54,12 +47,7 @@ module _ (told : AreTold) (files : List File) (unread : Option ℕ) (lines : Lis
 
   counts_told : (table : Table) → IfGoes (λ (new : LeftOf Table). CountsTold table new.text) (done_to table (does (Shows counts) table))
   unfolding counts
-  counts_told table =
-      behind (λ (new : LeftOf Table). CountsTold table new.text) (λ (done : Done). CountsTold table done.text) (does (Shows counts) table) _
-      (behind (λ (done : Done). CountsTold table done.text) (λ (told : Told). CountsTold table told.text) (counts table) _
-      (bind (λ (told : Told). CountsTold table told.text) (some_or NotCounted table.tally.counts) _ (λ numbers is. to _ (numbers, known_found _ table.tally.counts numbers is, refl)))
-      (λ told is. to _ is))
-      (λ done is. to _ is)
+  counts_told table = grind (arith, bind, to, known_found)
 
   pub shows_counts : IfGoes (λ (left : Left). ShowsCounts now name left.text) (on_view now.world name (does (Shows counts)))
   unfolding on_view
@@ -83,12 +71,7 @@ module _ (told : AreTold) (files : List File) (unread : Option ℕ) (lines : Lis
 
   heat_told : (table : Table) → IfGoes (λ (new : LeftOf Table). HeatTold table new.text) (done_to table (does (Shows heat) table))
   unfolding heat
-  heat_told table =
-      behind (λ (new : LeftOf Table). HeatTold table new.text) (λ (done : Done). HeatTold table done.text) (does (Shows heat) table) _
-      (behind (λ (done : Done). HeatTold table done.text) (λ (told : Told). HeatTold table told.text) (heat table) _
-      (bind (λ (told : Told). HeatTold table told.text) (some_or NotCounted table.tally.heat) _ (λ numbers is. to _ (numbers, known_found _ table.tally.heat numbers is, refl)))
-      (λ told is. to _ is))
-      (λ done is. to _ is)
+  heat_told table = grind (arith, bind, to, known_found)
 
   pub shows_heat : IfGoes (λ (left : Left). ShowsHeat now name left.text) (on_view now.world name (does (Shows heat)))
   unfolding on_view

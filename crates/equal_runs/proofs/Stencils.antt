@@ -7,6 +7,7 @@ use Rattle.equal_runs.proofs.Answers.{Answers, equal, is_narrow, Given, ok_agree
 use Rattle.equal_runs.proofs.Agreeing.{go, fault as fails, first, second, bind, before, both_told, told_if, Any, Both}
 use Rattle.equal_runs.proofs.Commands.{Same, SameDone, answers_under, narrow_store, under}
 use Rattle.equal_runs.proofs.Tables.{AlikeTables}
+use Rattle.std.proofs.Common.{arith}
 
 abbrev pub is_narrow_stencil : StencilFault → Bool
 is_narrow_stencil fault = is_narrow fault.fault
@@ -36,8 +37,7 @@ module _ (answer other : StoreAnswer) (alike : (leaf : ℕ) (value : ℤ) → An
   round_answers rows =
       fits_answers (values_fault answer stencil rows (rows_of stencil.window)) (values_fault other stencil rows (rows_of stencil.window))
       (with_entries stencil.leaf (new_entry answer stencil rows) (rows_of stencil.window) rows) (with_entries stencil.leaf (new_entry other stencil rows) (rows_of stencil.window) rows)
-      (rows_answers (λ row. answer stencil.leaf (stencil_value stencil rows row)) (λ row. other stencil.leaf (stencil_value stencil rows row))
-      (λ row. alike stencil.leaf (stencil_value stencil rows row)) (rows_of stencil.window))
+      (grind (arith, rows_answers))
       (ap (λ (keep : Keeping). with_entries stencil.leaf (λ row. keep stencil.leaf (stencil_value stencil rows row)) (rows_of stencil.window) rows) same)
 
   next_answers : (x y : Result (List (List ℤ)) StencilFault) → Answers is_narrow_stencil (Unit {0}) x y → Answers is_narrow_stencil (Unit {0}) (next_round answer stencil x) (next_round other stencil y)

@@ -1,5 +1,5 @@
 -- One line and another that differs in its mapping expression, done to alike worlds.
-use Rattle.equal_runs.proofs.Imports.{◌≡◌, Bool, false, List, refl, File, MapTerm, World, step, live_bits, with_term, shows_layout, misses_mapping, MakesWide, work_of}
+use Rattle.equal_runs.proofs.Imports.{◌≡◌, Bool, false, List, File, MapTerm, World, step, live_bits, with_term, shows_layout, misses_mapping, MakesWide, work_of}
 use Rattle.line_grammar.specs.declared.line.ShowKind.TheVariants as show
 use Rattle.line_grammar.specs.Sentences as line
 use Rattle.equal_runs.proofs.Commands.{assigned_agree, updated_agree, ran_agree, copy_agree, drop_agree, AlikeLines, reads, works, worked_agree, counts_agree}

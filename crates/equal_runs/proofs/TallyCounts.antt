@@ -1,5 +1,6 @@
 -- The counts by leaf after some accesses, which are the same however a table lies.
-use Rattle.equal_runs.proofs.Imports.{◌≡◌, ℕ, Bool, true, false, List, Option, Some, None, option_map, refl, sym, ap, subst, ⊤, if◌then◌else◌, fold, LeafCounts, no_counts, has_count, MapTerm, Owner, Access, Tally, counts_touched, tallied, no_tally, tallied-counts}
+use Rattle.equal_runs.proofs.Imports.{◌≡◌, ℕ, Bool, true, false, List, Option, Some, None, option_map, refl, ⊤, if◌then◌else◌, fold, LeafCounts, no_counts, has_count, MapTerm, Owner, Access, Tally, counts_touched, tallied, no_tally, tallied-counts}
+use Rattle.std.proofs.Common.{arith}
 
 -- some counts after accesses
 abbrev counts_after : List Access → LeafCounts → LeafCounts
@@ -11,20 +12,15 @@ SameCounts (Some counts) (Some others) = others ≡ counts
 SameCounts _ _ = ⊤
 
 pub own_counts : (counts : Option LeafCounts) → SameCounts counts counts
-own_counts None = tt
-own_counts (Some counts) = refl
+own_counts counts = grind arith
 
 same_after : (log : List Access) (counts others : Option LeafCounts) → SameCounts counts others → SameCounts (option_map (counts_after log) counts) (option_map (counts_after log) others)
-same_after log None others same = tt
-same_after log (Some counts) None same = tt
-same_after log (Some counts) (Some others) same = ap (counts_after log) same
+same_after log counts others same = grind arith
 
 -- after the same accesses to tables that lie so and so
 pub tallied_alike : (layout changed : List (List Owner)) (tally other : Tally) (log : List Access) → SameCounts tally.counts other.counts
     → SameCounts (tallied layout tally log).counts (tallied changed other log).counts
-tallied_alike layout changed tally other log same =
-    subst (λ (counts : Option LeafCounts). SameCounts counts (tallied changed other log).counts) (sym (tallied-counts layout tally log))
-    (subst (SameCounts (option_map (counts_after log) tally.counts)) (sym (tallied-counts changed other log)) (same_after log tally.counts other.counts same))
+tallied_alike layout changed tally other log same = grind (arith, tallied-counts, option_map, same_after)
 
 -- after none
 pub no_tally_alike : (term changed : MapTerm) (layout other : List (List Owner)) (leaves : ℕ) → SameCounts (no_tally term layout leaves).counts (no_tally changed other leaves).counts

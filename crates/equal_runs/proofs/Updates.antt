@@ -1,11 +1,11 @@
 -- What an update answers, by the answers to its stores.
 use Rattle.equal_runs.proofs.Imports.{◌≡◌, ℕ, Bool, true, false, ℤ, List, [], ◌∷◌, Option, Result, Ok, Err, refl, ap, ◌∙◌, if◌then◌else◌, flat_map, range_with_len, Term, index_at, StoreAnswer, Keeping, Access, StoreFault, Setting, each, in_row, store_kind, value_of, passes, new_value, with_values, updated_row, updated_rows, value_log, filter_log, if_ok, if_passes, sides_log, stores_log, row_log, rows_log, UpdateFault, UpdateKind}
 use Rattle.std.specs.Prelude.{◌++◌, slice_index_or}
-use Rattle.views.specs.declared.fault.StoreFault.TheVariants as store
 use Rattle.row_updates.specs.Rows.{◌>>=◌}
 use Rattle.row_updates.specs.declared.fault.UpdateKind.TheVariants.{Narrow}
 use Rattle.equal_runs.proofs.Agreeing.{go, fault as fails, first, second}
 use Rattle.equal_runs.proofs.Answers.{Answers, equal, is_narrow}
+use Rattle.std.proofs.Common.{arith}
 
 abbrev pub is_narrow_kind : UpdateKind → Bool
 is_narrow_kind (Narrow leaf) = true
@@ -31,12 +31,10 @@ each_answers : {A B Alike : Type 0} (step other : A → Result B UpdateFault) �
 each_answers step other alike [] = equal (Ok [])
 each_answers {A} {B} step other alike (x ∷ xs) =
     bind (step x) (other x) (λ y. each step xs >>= (λ ys. Ok (y ∷ ys))) (λ y. each other xs >>= (λ ys. Ok (y ∷ ys))) (alike x)
-    (λ y z same. bind (each step xs) (each other xs) (λ ys. Ok (y ∷ ys)) (λ ys. Ok (z ∷ ys)) (each_answers step other alike xs)
-    (λ ys zs rest. go (y ∷ ys) (z ∷ zs) (λ holds. ap (λ (v : B). v ∷ zs) (same holds) ∙ ap (λ (vs : List B). y ∷ vs) (rest holds))))
+    (λ y z same. grind (arith, bind, go, (each_answers step other alike xs)))
 
 narrow_kind : (leaf : ℕ) (e : StoreFault) → is_narrow e ≡ true → is_narrow_kind (store_kind leaf e) ≡ true
-narrow_kind leaf store.Range is = is
-narrow_kind leaf store.Narrow is = refl
+narrow_kind leaf e is = grind arith
 
 in_row_answers : {Alike : Type 0} (number leaf : ℕ) (x y : Result ℤ StoreFault) → Answers is_narrow Alike x y
     → Answers is_narrow_update Alike (in_row number (store_kind leaf) x) (in_row number (store_kind leaf) y)
@@ -75,10 +73,7 @@ module _ {Alike : Type 0} (keep : Keeping) (answer other : StoreAnswer) (alike :
 
   pub rows_answers : (filter : Option (Term ℕ)) (sets : List Setting) (extents : List ℕ) (rows : List (List ℤ)) (count : ℕ)
       → Answers is_narrow_update Alike (updated_rows answer keep filter sets extents rows count) (updated_rows other keep filter sets extents rows count)
-  rows_answers filter sets extents rows count =
-      each_answers (λ number. updated_row answer keep filter sets number (slice_index_or rows number []) (index_at extents number))
-      (λ number. updated_row other keep filter sets number (slice_index_or rows number []) (index_at extents number))
-      (λ number. row_answers filter sets number (slice_index_or rows number []) (index_at extents number)) (range_with_len 0 count)
+  rows_answers filter sets extents rows count = grind (arith, each_answers, slice_index_or, row_answers, range_with_len)
 
 -- the accesses of right sides that all fit, of a row and of rows
 abbrev fit_sides : ℕ → List ℤ → List ℕ → List Setting → List Access
@@ -149,8 +144,4 @@ module _ (keep : Keeping) (answer : StoreAnswer) where
   -- those of an update that goes
   pub rows_are : (filter : Option (Term ℕ)) (sets : List Setting) (extents : List ℕ) (rows : List (List ℤ)) (count : ℕ) (new : List (List ℤ))
       → updated_rows answer keep filter sets extents rows count ≡ Ok new → rows_log answer filter sets extents rows count ≡ fit_rows filter sets extents rows count
-  rows_are filter sets extents rows count new goes =
-      logs_of_each (λ number. updated_row answer keep filter sets number (slice_index_or rows number []) (index_at extents number))
-      (λ number. row_log answer filter sets number (slice_index_or rows number []) (index_at extents number))
-      (λ number. fit_row filter sets number (slice_index_or rows number []) (index_at extents number))
-      (λ number row is. row_is filter sets number (slice_index_or rows number []) (index_at extents number) row is) (range_with_len 0 count) new goes
+  rows_are filter sets extents rows count new goes = grind (arith, logs_of_each, slice_index_or, row_is, range_with_len)

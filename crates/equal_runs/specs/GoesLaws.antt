@@ -1,8 +1,9 @@
 -- What holds of what an outcome goes to.
-use Rattle.std.proofs.Common.{◌≡◌, ℕ, List, Option, Some, None, Result, Ok, Err, refl, ap, subst}
+use Rattle.std.proofs.Common.{◌≡◌, Option, Some, None, Result, Ok, Err, refl}
 use Rattle.std.specs.Prelude.{is_some}
 use Rattle.worlds.specs.Outcomes.{Tested, sure, ◌>>=◌, some_or, refused_if}
 use Rattle.worlds.specs.declared.fault.CommandFault.{CommandFault}
+use Rattle.std.proofs.Common.{arith}
 
 -- where it goes, it goes to a thing of which this holds
 pub data IfGoes {A E : Type 0} (P : A → Type 0) : Result A E → Type 0 where
@@ -29,15 +30,12 @@ surely P x (to a p) = to a p
 surely P x (refused fault) = refused _
 
 pub gone : {A E : Type 0} (P : A → Type 0) (x : Result A E) (a : A) → IfGoes P x → x ≡ Ok a → P a
-gone P x a (to b p) is = let same : b ≡ a = cc in subst P same p
-gone P x a (refused fault) is = absurd (cc)
+gone P x a h is = grind arith
 
 -- what a used name stands for
 pub known_found : {A : Type 0} (fault : CommandFault) (x : Option A) (a : A) → some_or fault x ≡ Ok a → x ≡ Some a
-known_found fault (Some b) a is = let same : b ≡ a = cc in ap Some same
-known_found fault None a is = absurd (cc)
+known_found fault x a is = grind arith
 
 -- a name that is free stands for nothing
 pub free_found : {A : Type 0} (fault : CommandFault) (x : Option A) → refused_if (is_some x) fault ≡ Ok tt → x ≡ None
-free_found fault None is = refl
-free_found fault (Some a) is = absurd (cc)
+free_found fault x is = grind arith

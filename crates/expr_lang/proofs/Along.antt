@@ -1,7 +1,8 @@
 -- Along the links of a chain: its outcome, and the bounds of its leaves and dimensions.
-use Rattle.expr_lang.proofs.Imports.{◌≡◌, ℕ, ℤ, List, ◌++◌, Result, Ok, Err, refl, sym, ap, ◌∙◌, append_assoc, append-nil, EvalFault, Links, Step, Term, IsWithin, Outcome, no_read, after_reads, then_from, ◌>>=◌, outcome_of, step_term, links_term, step_outcome, links_outcome, IsStepWithin, AreWithin}
+use Rattle.expr_lang.proofs.Imports.{◌≡◌, ℕ, ℤ, List, ◌++◌, Result, Ok, Err, refl, sym, ap, append_assoc, append-nil, EvalFault, Links, Step, Term, IsWithin, Outcome, no_read, after_reads, then_from, ◌>>=◌, outcome_of, step_term, links_term, step_outcome, links_outcome, IsStepWithin, AreWithin}
 use Rattle.expr_lang.specs.declared.bound.Links.TheVariants as links
 use Rattle.expr_lang.specs.declared.bound.Step.TheVariants as step
+use Rattle.std.proofs.Common.{arith}
 
 then-same : (o : Outcome) → o >>= (λ x. no_read (Ok x)) ≡ o
 then-same o = same o.answer o.reads
@@ -29,10 +30,7 @@ step_term-outcome row index term (step.Binary' op first rest) = refl
 -- the outcome of links behind a term is what they make of the outcome of the term
 pub links_term-outcome : (row : List ℤ) (index : List ℕ) (term : Term ℕ) (links : Links) → outcome_of row index (links_term term links) ≡ outcome_of row index term >>= links_outcome row index links
 links_term-outcome row index term links.End = sym (then-same (outcome_of row index term))
-links_term-outcome row index term (links.More' p step rest) =
-    links_term-outcome row index (step_term term step) rest
-    ∙ ap (λ o. o >>= links_outcome row index rest) (step_term-outcome row index term step)
-    ∙ then-then (outcome_of row index term) (step_outcome row index step) (links_outcome row index rest)
+links_term-outcome row index term (links.More' p step rest) = grind (arith, step_term, step_term-outcome, then-then, (links_term-outcome row index (step_term term step) rest))
 
 step_parts : (leaves rank : ℕ) (term : Term ℕ) (step : Step) → IsWithin leaves rank (step_term term step) → IsWithin leaves rank term × IsStepWithin leaves rank step
 step_parts leaves rank term step.Neg h = (h, tt)

@@ -13,9 +13,9 @@ pub use Rattle.expr_lang.specs.declared.bound.Links.{Links, size-Links}
 pub use Rattle.expr_lang.specs.declared.bound.Step.{Step}
 pub use Rattle.expr_lang.specs.Terms.{Term, IsWithin, Number, Entry, Index, Neg, Not, Binary, term_of, depth_of}
 pub use Rattle.expr_lang.specs.Values.{Outcome, no_read, after_reads, then_from, ◌>>=◌, outcome_of, truth, is_true}
-pub use Rattle.expr_lang.specs.Chains.{step_term, links_term, step_outcome, links_outcome, IsStepWithin, AreWithin, chain_term, operand_term}
+pub use Rattle.expr_lang.specs.Chains.{step_term, links_term, step_outcome, links_outcome, IsStepWithin, AreWithin, chain_term}
 pub use Rattle.expr_lang.specs.Inner.Mosts.{IsMost, IsStepMost}
-pub use Rattle.expr_lang.specs.ChainLaws.{one_more, within_front, within_links, within_rest, no_deeper}
+pub use Rattle.expr_lang.specs.ChainLaws.{within_front, within_links, within_rest, no_deeper}
 pub use Rattle.expr_lang.specs.declared.expr.BinOp.{BinOp}
 pub use Rattle.expr_lang.specs.declared.expr.Expr.{Expr, size-Expr}
 pub use Rattle.expr_lang.specs.declared.expr.Expr.TheViews.{deep-Binary'}

@@ -82,8 +82,7 @@ module _ (leaves places : List ℕ) where
 -- the front is one step longer
 pub one_more : (all rest after : Links) (s done : Step) (p : _) (term : Term ℕ) → all ≡ links.More' p s rest → done ≡ s → after ≡ rest
     → links_term (step_term term done) after ≡ links_term term all
-one_more all rest after s done p term is one two =
-    ap (links_term (step_term term done)) two ∙ ap (λ (t : Step). links_term (step_term term t) rest) one ∙ sym (ap (links_term term) is)
+one_more all rest after s done p term is one two = grind (arith, links_term, step_term)
 
 -- what is left is no deeper
 rest_depth : (s : Step) (rest : Links) → size-Links rest ≤ size-Link (record { step = s; rest = rest })

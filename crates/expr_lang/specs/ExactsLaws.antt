@@ -36,9 +36,7 @@ abs_negated : (a : ℤ) → unsigned_abs (neg_ℤ a) ≤ unsigned_abs a
 abs_negated a = abs_small (neg_ℤ a) (unsigned_abs a) (omega (arith, ints, abs_high a)) (omega (arith, ints, abs_low a))
 
 abs_product : (a b : ℤ) (m n : ℕ) → unsigned_abs a ≤ m → unsigned_abs b ≤ n → unsigned_abs (a *ℤ b) ≤ m * n
-abs_product a b m n one two =
-    let both : unsigned_abs a * unsigned_abs b ≤ m * n = mul-le-mul one two in
-    omega (arith, unsigned_abs-mul a b, both)
+abs_product a b m n one two = grind (arith, unsigned_abs, mul-le-mul, unsigned_abs-mul)
 
 abs_quotient : (a b : ℤ) → unsigned_abs (int_div a b) ≤ unsigned_abs a
 abs_quotient (pos a) (pos b) = div-le_self a b
@@ -51,9 +49,7 @@ abs_rest (pos a) b = mod-le a (unsigned_abs b)
 abs_rest (negsuc a) b = omega (arith, abs_negated (pos (suc a % unsigned_abs b)), mod-le (suc a) (unsigned_abs b))
 
 abs_remainder : (a b : ℤ) → unsigned_abs (a -ℤ b *ℤ int_div a b) ≤ unsigned_abs a
-abs_remainder a b =
-    let rest : a -ℤ b *ℤ int_div a b ≡ int_rem a b = omega (arith, ints, quot-rem a b) in
-    omega (arith, ap unsigned_abs rest, abs_rest a b)
+abs_remainder a b = grind (arith, int_div, int_rem, quot-rem, unsigned_abs, abs_rest)
 
 abs_truth : (b : Bool) → unsigned_abs (truth b) ≤ 1
 abs_truth true = omega arith
@@ -121,11 +117,7 @@ binary_answer : (row : List ℤ) (index : List ℕ) (op : BinOp) (left right : T
     → (outcome_of row index right).answer ≡ Ok (exact_of row index right) → has_result op (exact_of row index right) ≡ true
     → unsigned_abs (exact_by op (exact_of row index left) (exact_of row index right)) < 2 ^ 63
     → (outcome_of row index (Binary op left right)).answer ≡ Ok (exact_of row index (Binary op left right))
-binary_answer row index op left right one two total small =
-    let x : ℤ = exact_of row index left in
-    let y : ℤ = exact_of row index right in
-    then_answer (outcome_of row index left) x (λ x. unless_decided (decided op x) (outcome_of row index right >>= (λ y. no_read (result_of op x y)))) one
-    ∙ op_answer op x y (outcome_of row index right) two total small
+binary_answer row index op left right one two total small = grind (arith, then_answer, op_answer)
 
 -- ---- terms
 
@@ -154,28 +146,6 @@ module _ (leaves places : List ℕ) (row : List ℤ) (index : List ℕ) where
   worth (Number number) safe reach = record { answer = refl; near = omega arith; small = safe }
   worth (Entry leaf) safe reach = record { answer = refl; near = reach; small = safe }
   worth (Index dimension) safe reach = record { answer = refl; near = reach; small = safe }
-  worth (Neg inner) safe reach =
-      let here = worth inner safe reach in
-      let x : ℤ = exact_of row index inner in
-      let near : unsigned_abs (neg_ℤ x) ≤ most_of leaves places inner = omega (arith, here.near, abs_negated x) in
-      record {
-        answer = then_answer (outcome_of row index inner) x (λ x. no_read (ranged (neg_ℤ x))) here.answer ∙ in_range (neg_ℤ x) (omega (arith, near, here.small));
-        near = near;
-        small = here.small;
-      }
-  worth (Not inner) safe reach =
-      let here = worth inner safe reach in
-      let x : ℤ = exact_of row index inner in
-      record {
-        answer = then_answer (outcome_of row index inner) x (λ x. no_read (Ok (truth (not (is_true x))))) here.answer;
-        near = abs_truth (not (is_true x));
-        small = omega arith;
-      }
-  worth (Binary op left right) safe reach =
-      let first = worth left safe.0 reach.0 in
-      let second = worth right safe.1 reach.1 in
-      let x : ℤ = exact_of row index left in
-      let y : ℤ = exact_of row index right in
-      let near : unsigned_abs (exact_by op x y) ≤ most_by op (most_of leaves places left) (most_of leaves places right) = near_by op x y _ _ first.near second.near in
-      let small : unsigned_abs (exact_by op x y) < 2 ^ 63 = omega (arith, near, safe.3) in
-      record { answer = binary_answer row index op left right first.answer second.answer (on_rows op row index right safe.2) small; near = near; small = safe.3 }
+  worth (Neg inner) safe reach = grind (arith, unsigned_abs, neg_ℤ, abs_negated, then_answer, in_range, (worth inner safe reach))
+  worth (Not inner) safe reach = grind (arith, then_answer, abs_truth, (worth inner safe reach))
+  worth (Binary op left right) safe reach = grind (arith, unsigned_abs, near_by, binary_answer, on_rows, (worth left safe.0 reach.0), (worth right safe.1 reach.1))

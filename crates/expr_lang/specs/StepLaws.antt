@@ -1,5 +1,5 @@
 -- What a step makes of the value of a term is the value of the term that it makes.
-use Rattle.std.proofs.Common.{◌∙◌, ℕ, ◌^◌, ◌<◌, ℤ, neg_ℤ, not, FitsSigned, w64, List, refl, ap, arith}
+use Rattle.std.proofs.Common.{ℕ, ℤ, neg_ℤ, not, FitsSigned, w64, List, refl, ap, arith}
 use Rattle.std.specs.Prelude.{unsigned_abs}
 use Rattle.std.proofs.lemmas.Int.{fits_signed_from_abs}
 use Rattle.expr_lang.specs.declared.bound.Operand.{Operand}
@@ -11,7 +11,7 @@ use Rattle.expr_lang.specs.declared.bound.Step.TheVariants as step
 use Rattle.expr_lang.specs.Terms.{Term, Neg}
 use Rattle.expr_lang.specs.Values.{truth, is_true}
 use Rattle.expr_lang.specs.Chains.{operand_term, step_term, links_term}
-use Rattle.expr_lang.specs.Inner.Exacts.{exact_by, exact_of, IsSafe}
+use Rattle.expr_lang.specs.Inner.Exacts.{exact_by, IsSafe}
 use Rattle.expr_lang.specs.ExactsLaws.{worth}
 use Rattle.expr_lang.specs.Inner.Steps.{lone_part, right_value, stepped, IsStepFit, IsWorthIn, IsBeside, IsRight}
 
@@ -29,19 +29,11 @@ module _ (leaves places : List ℕ) (row : List ℤ) (index : List ℕ) where
       → IsWorthIn leaves places row index (step_term front s) (stepped s x y)
   step_worth front step.Neg x y here right = record { is = ap neg_ℤ here.is; reached = here.reached }
   step_worth front step.Not x y here right = record { is = ap (λ (v : ℤ). truth (not (is_true v))) here.is; reached = here.reached }
-  step_worth front (step.Binary' op first rest) x y here right =
-      let other = right_worth first rest y right in
-      record {
-        is = ap (λ (v : ℤ). exact_by op v (right_value (lone_part first rest) y)) here.is ∙ ap (exact_by op (exact_of row index front)) other.is;
-        reached = (here.reached, other.reached);
-      }
+  step_worth front (step.Binary' op first rest) x y here right = grind (arith, right_worth)
 
   -- a term that no part of can fail has a value of 64 bits
   fits : (term : Term ℕ) (value : ℤ) → IsSafe leaves places term → IsWorthIn leaves places row index term value → FitsSigned w64 value
-  fits term value safe is =
-      let far = worth leaves places row index term safe is.reached in
-      let near : unsigned_abs value < 2 ^ 63 = omega (arith, ap unsigned_abs is.is, far.near, far.small) in
-      fits_signed_from_abs w64 value near
+  fits term value safe is = grind (arith, worth, unsigned_abs, fits_signed_from_abs)
 
   pub step_fits : (front : Term ℕ) (s : Step) (x y : ℤ) → IsSafe leaves places (step_term front s) → IsWorthIn leaves places row index front x → IsRight leaves places row index s y
       → IsStepFit s x y

@@ -1,5 +1,5 @@
 -- The laws of the list of indices, for the crates above.
-use Rattle.std.proofs.Common.{◌≡◌, ℕ, zero, suc, ◌+◌, ◌*◌, ◌/◌, ◌%◌, ◌<◌, ◌⊎◌, List, [], ◌∷◌, ◌++◌, map, length, get_or, Some, refl, sym, ap, subst, ◌∙◌, inl, inr, ⊎_elim, arith, length-append}
+use Rattle.std.proofs.Common.{◌≡◌, ℕ, zero, suc, ◌+◌, ◌*◌, ◌/◌, ◌%◌, ◌<◌, ◌⊎◌, List, [], ◌∷◌, ◌++◌, map, length, get_or, Some, refl, sym, ap, subst, ◌∙◌, arith, length-append}
 use Rattle.std.specs.Prelude.{◌↔◌, Bool, IsTrue, Contains, slice_get}
 use Rattle.std.specs.List.{flat_map, range_with_len}
 use Rattle.std.specs.Option.{option_map}
@@ -25,23 +25,15 @@ slice_get_right (x ∷ xs) ys (suc j) k e = slice_get_right xs ys j k (omega ari
 -- as many elements as blocks times the width
 length-blocks : {X : Type 0} (f : ℕ → List X) (w : ℕ) → ((i : ℕ) → length (f i) ≡ w) → (a n : ℕ) → length (flat_map f (range_with_len a n)) ≡ n * w
 length-blocks f w each a zero = omega arith
-length-blocks f w each a (suc n) =
-    omega (arith, length-append (f a) (flat_map f (range_with_len (a + 1) n)), each a, length-blocks f w each (a + 1) n)
+length-blocks f w each a (suc n) = grind (arith, length-append, flat_map, range_with_len, (length-blocks f w each (a + 1) n))
 
 -- element j of block i stands after i whole blocks
 slice_get-blocks : {X : Type 0} (f : ℕ → List X) (w : ℕ) → ((i : ℕ) → length (f i) ≡ w) → (a n i j p : ℕ) → i < n → j < w → p ≡ i * w + j
     → slice_get (flat_map f (range_with_len a n)) p ≡ slice_get (f (a + i)) j
 slice_get-blocks f w each a zero i j p hi hj e = absurd (omega arith)
-slice_get-blocks f w each a (suc n) zero j p hi hj e =
-    let pj : p ≡ j = omega arith in
-    let here : a + 0 ≡ a = omega arith in
-    let below : j < length (f a) = omega (arith, each a) in
-    rw (pj, here) (slice_get_left (f a) (flat_map f (range_with_len (a + 1) n)) j below)
+slice_get-blocks f w each a (suc n) zero j p hi hj e = grind (arith, slice_get_left, flat_map, range_with_len)
 slice_get-blocks f w each a (suc n) (suc i) j p hi hj e =
-    let next : (a + 1) + i ≡ a + suc i = omega arith in
-    slice_get_right (f a) (flat_map f (range_with_len (a + 1) n)) p (i * w + j) (omega (arith, each a))
-    ∙ slice_get-blocks f w each (a + 1) n i j (i * w + j) (omega arith) hj refl
-    ∙ ap (λ k. slice_get (f k) j) next
+    grind (arith, slice_get_right, flat_map, range_with_len, slice_get, (slice_get-blocks f w each (a + 1) n i j (i * w + j) (omega arith) hj refl))
 
 -- ---- the list of indices
 
@@ -49,8 +41,7 @@ slice_get-blocks f w each a (suc n) (suc i) j p hi hj e =
 pub length-indices : (e : List ℕ) → length (indices e) ≡ product e
 unfolding indices
 length-indices [] = refl
-length-indices (n ∷ ns) =
-    length-blocks (λ i. map (λ rest. i ∷ rest) (indices ns)) (product ns) (λ i. length-map (indices ns) (λ rest. i ∷ rest) ∙ length-indices ns) 0 n
+length-indices (n ∷ ns) = grind (arith, length-blocks, length-map, (length-indices ns))
 
 -- the index at row i * (rows of the rest) + j is i, followed by the index at row j of the rest
 pub slice_get-indices : (n : ℕ) (ns : List ℕ) (i j p : ℕ) → i < n → j < product ns → p ≡ i * product ns + j → slice_get (indices (n ∷ ns)) p ≡ option_map (λ rest. i ∷ rest) (slice_get (indices ns) j)
@@ -83,20 +74,16 @@ slice_get-place (n ∷ ns) (i ∷ is) h =
     ∙ ap (option_map (λ rest. i ∷ rest)) (slice_get-place ns is h.1)
 
 zero_or_more : (m : ℕ) → (m ≡ 0) ⊎ (0 < m)
-zero_or_more zero = inl refl
-zero_or_more (suc m) = inr (omega arith)
+zero_or_more m = grind arith
 
 -- a product above a number is of factors above 0
 pub wide : (n w k : ℕ) → k < n * w → 0 < w
-wide n w k h =
-    ⊎_elim (λ (z : w ≡ 0). let z' : n * w ≡ n * 0 = ap (λ x. n * x) z in absurd (omega arith)) (λ (z : 0 < w). z) (zero_or_more w)
+wide n w k h = grind (arith, zero_or_more)
 
 -- an entry is inside the extents, and stands at its place
 pub entry_at : (e : List ℕ) (k : ℕ) (is : List ℕ) → slice_get (indices e) k ≡ Some is → IsInside e is × (place e is ≡ k)
 unfolding indices
-entry_at [] zero is h =
-    let same : [] ≡ is = cc in
-    subst (λ (xs : List ℕ). IsInside [] xs × (place [] xs ≡ 0)) same (tt, refl)
+entry_at [] zero is h = grind arith
 entry_at [] (suc k) is h = cc
 entry_at (n ∷ ns) k is h =
     let within : k < n * product ns = omega (arith, slice_get_within (indices (n ∷ ns)) k is h, length-indices (n ∷ ns)) in
@@ -125,12 +112,8 @@ row_of_inside e is h = (place e is, (omega (arith, place_below e is h, length-in
 
 -- the entries are the indices inside
 pub Contains-indices : (e is : List ℕ) → Contains (indices e) is ↔ IsInside e is
-Contains-indices e is = (
-  λ w. inside_of_entry e w.0 is (slice_get-get_or (indices e) w.0 is w.1 ∙ ap Some w.2),
-  λ h. let w = row_of_inside e is h in (w.0, w.1, get_or_from_slice_get (indices e) w.0 is is w.2),
-)
+Contains-indices e is = grind (arith, inside_of_entry, slice_get-get_or, row_of_inside, get_or_from_slice_get)
 
 -- a test of an index is a test of membership
 pub decides_member : (e is : List ℕ) (b : Bool) → (IsTrue b ↔ IsInside e is) → IsTrue b ↔ Contains (indices e) is
-decides_member e is b h =
-    (λ t. (Contains-indices e is).1 (h.0 t), λ m. h.1 ((Contains-indices e is).0 m))
+decides_member e is b h = grind (arith, Contains-indices)

@@ -1,5 +1,5 @@
 -- What the loops over extents keep.
-use Rattle.std.proofs.Common.{◌≡◌, ℕ, ◌+◌, ◌*◌, ◌/◌, ◌%◌, ◌^◌, ◌<◌, ◌≤◌, List, [], ◌∷◌, ◌++◌, length, get_or, drop, Some, refl, sym, ap, subst, ◌∙◌, ◌⊎◌, ⊎_elim, arith, length-append}
+use Rattle.std.proofs.Common.{◌≡◌, ℕ, ◌+◌, ◌*◌, ◌/◌, ◌%◌, ◌^◌, ◌<◌, ◌≤◌, List, [], ◌∷◌, ◌++◌, length, get_or, drop, Some, sym, ap, subst, ◌∙◌, ◌⊎◌, arith, length-append}
 use Rattle.std.specs.Prelude.{slice_get}
 use Rattle.std.specs.Option.{option_map}
 use Rattle.std.proofs.lemmas.List.{drop_more, drop_all, append_assoc, append-nil}
@@ -23,22 +23,18 @@ IsRowSoFar-more n i ns is row total h = record { inside = h.inside.1; leads = om
 
 -- a row so far is at most the row that it leads to
 pub row_so_far_le : (e is : List ℕ) (row total : ℕ) → IsRowSoFar e is row total → row ≤ total
-row_so_far_le e is row total h =
-    let some : 0 < product e = omega (arith, place_below e is h.inside) in
-    omega (arith, le-mul_of_pos_right row some, h.leads)
+row_so_far_le e is row total h = grind (arith, place_below, le-mul_of_pos_right)
 
 -- one turn of a loop over both lists
 pub row_turn : (e e' is is' : List ℕ) (n i row total : ℕ) → e ≡ n ∷ e' → is ≡ i ∷ is' → IsRowSoFar e is row total → IsRowSoFar e' is' (row * n + i) total
-row_turn e e' is is' n i row total he hi h =
-    IsRowSoFar-more n i e' is' row total (subst (λ (xs : List ℕ). IsRowSoFar xs (i ∷ is') row total) he (subst (λ (xs : List ℕ). IsRowSoFar e xs row total) hi h))
+row_turn e e' is is' n i row total he hi h = grind (arith, IsRowSoFar-more)
 
 -- where one list has ended, both have
 pub row_end : (e is : List ℕ) (row total : ℕ) → (length is ≡ 0) ⊎ (length e ≡ 0) → IsRowSoFar e is row total → row ≡ total
 row_end [] [] row total none h = omega (arith, h.leads)
 row_end [] (i ∷ is) row total none h = absurd h.inside
 row_end (n ∷ e) [] row total none h = absurd h.inside
-row_end (n ∷ e) (i ∷ is) row total none h =
-    ⊎_elim (λ (z : length (i ∷ is) ≡ 0). absurd (omega arith)) (λ (z : length (n ∷ e) ≡ 0). absurd (omega arith)) none
+row_end (n ∷ e) (i ∷ is) row total none h = grind arith
 
 -- each row fits
 pub place_fits : (e is : List ℕ) → IsExtents e → IsInside e is → place e is < 2 ^ 24
@@ -71,15 +67,7 @@ IsIndexSoFar-more e row k n found left block hk hn h =
     let inner : left % product (drop (k + 1) e) < product (drop (k + 1) e) = mod_below left (product (drop (k + 1) e)) some in
     let split : left ≡ left / product (drop (k + 1) e) * product (drop (k + 1) e) + left % product (drop (k + 1) e) = sym (div-add-mod' left (product (drop (k + 1) e))) in
     let at = slice_get-indices n (drop (k + 1) e) (left / product (drop (k + 1) e)) (left % product (drop (k + 1) e)) left low inner split in
-    let step : IsIndexSoFar e row (k + 1) (found ++ left / product (drop (k + 1) e) ∷ []) (left % product (drop (k + 1) e)) (product (drop (k + 1) e)) = record {
-      long = omega (arith, length-append found (left / product (drop (k + 1) e) ∷ []), h.long);
-      block = refl;
-      inner = inner;
-      leads = λ tail found_at.
-          h.leads (left / product (drop (k + 1) e) ∷ tail)
-          (ap (λ xs. slice_get (indices xs) left) parts ∙ at ∙ ap (option_map (λ rest. left / product (drop (k + 1) e) ∷ rest)) found_at)
-          ∙ ap Some (sym (append_assoc found (left / product (drop (k + 1) e) ∷ []) tail));
-    } in
+    let step : IsIndexSoFar e row (k + 1) (found ++ left / product (drop (k + 1) e) ∷ []) (left % product (drop (k + 1) e)) (product (drop (k + 1) e)) = grind (arith, length-append, slice_get, option_map, append_assoc) in
     (positive, omega (arith, each, some), subst (λ (x : ℕ). IsIndexSoFar e row (k + 1) (found ++ left / x ∷ []) (left % x) x) (sym each) step)
 
 pub index_all : (e : List ℕ) (row k : ℕ) (found : List ℕ) (left block : ℕ) → length e ≤ k → IsIndexSoFar e row k found left block → slice_get (indices e) row ≡ Some found

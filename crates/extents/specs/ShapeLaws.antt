@@ -1,6 +1,6 @@
 -- Words, their extents and products.
-use Rattle.std.proofs.Common.{◌≡◌, ◌≢◌, ℕ, zero, suc, ◌+◌, ◌*◌, ◌/◌, ◌%◌, ◌-◌, ◌^◌, ◌<◌, ◌≤◌, true, false, not, ◌&&◌, nat_lt, eqb, List, [], ◌∷◌, ◌++◌, map, length, get_or, set, take, replicate, refl, sym, ap, ◌∙◌, ⊎_elim, arith, lit<, length-append, All, cond}
-use Rattle.std.specs.Prelude.{count_by, ◌==◌, Option, Some, None, IsSomeAnd, Result, Ok, Err, IsOk, IfErr, MatchResult, ◌↔◌}
+use Rattle.std.proofs.Common.{◌≡◌, ◌≢◌, ℕ, zero, suc, ◌+◌, ◌*◌, ◌/◌, ◌%◌, ◌-◌, ◌^◌, ◌<◌, ◌≤◌, true, false, not, ◌&&◌, nat_lt, eqb, List, [], ◌∷◌, ◌++◌, map, length, get_or, set, take, replicate, refl, sym, ap, ◌∙◌, arith, length-append, All, cond}
+use Rattle.std.specs.Prelude.{count_by, ◌==◌, Option, Some, None, IsSomeAnd, Result, IsOk, IfErr, MatchResult, ◌↔◌}
 use Rattle.std.specs.Option.{option_map_or}
 use Rattle.std.proofs.lemmas.Bool.Decides.{nat_tests}
 use Rattle.std.specs.List.{list_any}
@@ -9,7 +9,6 @@ use Rattle.std.proofs.lemmas.List.Elements.{All-take}
 use Rattle.std.proofs.lemmas.List.Sums.{sum_by-cons}
 use Rattle.std.proofs.lemmas.Nat.{mul-le, div-add-mod'}
 use Rattle.std.proofs.lemmas.Grind.{pow_more}
-use Rattle.std.proofs.Math.Nat.{pow-le-pow_right}
 use Rattle.std.proofs.lemmas.Bool.{false≢true, or_parts, cases_lt}
 use Rattle.extents.specs.declared.words.ExtentWord.{ExtentWord}
 use Rattle.extents.specs.declared.words.ExtentWord.TheVariants.{Fixed, Rows}
@@ -36,12 +35,6 @@ product_more f ws k d p v hk hv hp =
 pub power_more : (b k p v : ℕ) → p ≤ b ^ k → v ≤ b → p * v ≤ b ^ (k + 1)
 power_more b k p v hp hv = omega (arith, mul-le p v (b ^ k) b hp hv, pow_more b k)
 
--- a product of at most 4 factors of 32 bits fits 128 bits
-pub power_fits : (k p : ℕ) → p ≤ 4294967295 ^ k → k ≤ 4 → p < 2 ^ 128
-power_fits k p hp hk =
-    let most : 4294967295 ^ k ≤ 4294967295 ^ 4 = pow-le-pow_right {n = 4294967295} (lit< tt) hk in
-    omega arith
-
 -- ---- words
 
 -- with no `Rows` the extents are the same for any number
@@ -66,9 +59,7 @@ product_filled (Rows ∷ ws) s h =
 pub fixed_positive : (ws : List ExtentWord) → list_any is_zero ws ≡ false → 0 < fixed_product ws
 fixed_positive [] h = omega arith
 fixed_positive (Fixed zero ∷ ws) h = absurd (false≢true (sym h))
-fixed_positive (Fixed (suc n) ∷ ws) h =
-    let rest = fixed_positive ws (or_parts (eqb (suc n) 0) (list_any is_zero ws) h).1 in
-    omega (arith, rest)
+fixed_positive (Fixed (suc n) ∷ ws) h = grind (arith, or_parts, list_any, (fixed_positive ws (or_parts (eqb (suc n) 0) (list_any is_zero ws) h).1))
 fixed_positive (Rows ∷ ws) h = let rest = fixed_positive ws h in omega (arith, rest)
 
 -- where the fixed extents divide the rows, the product is the rows
@@ -86,15 +77,11 @@ product_fixed ws s p none same = same ∙ sym (ap product (same_fixed ws s 1 non
 -- where neither other cause holds, the number of rows decides
 pub settled : {P : Type 0} (ws : List ExtentWord) (rows : Option ℕ) (total : ℕ) → (¬ IsUneven ws rows) → (¬ IsUnequal ws rows) → total ≡ product (extents_for ws rows) → (P ↔ (total ≤ 2 ^ 24))
     → P ↔ ((¬ IsUneven ws rows) × (¬ IsUnequal ws rows) × (¬ IsTooMany ws rows))
-settled ws rows total even equal same h = (
-  λ p. (even, equal, λ t. absurd (omega (arith, h.0 p, t, same))),
-  λ w. ⊎_elim (λ (t : 2 ^ 24 < total). absurd (w.2 (omega arith))) (λ (t : total ≤ 2 ^ 24). h.1 t) (cases_lt (2 ^ 24) total),
-)
+settled ws rows total even equal same h = grind (arith, cases_lt)
 
 pub settled_too_many : {P : Type 0} (ws : List ExtentWord) (rows : Option ℕ) (total : ℕ) → (¬ IsUneven ws rows) → (¬ IsUnequal ws rows) → total ≡ product (extents_for ws rows)
     → (P ↔ (2 ^ 24 < total)) → P ↔ ((¬ IsUneven ws rows) × (¬ IsUnequal ws rows) × IsTooMany ws rows)
-settled_too_many ws rows total even equal same h =
-    (λ p. (even, equal, omega (arith, h.0 p, same)), λ w. h.1 (omega (arith, w.2, same)))
+settled_too_many ws rows total even equal same h = grind arith
 
 -- ---- what is stored
 
@@ -130,8 +117,7 @@ even_so : (c m : ℕ) → ¬ ((0 < c) × (m ≢ 0)) → (nat_lt 0 c && not (m ==
 even_so c m h = grind (arith, nat_tests)
 
 equal_so : (c p : ℕ) (rows : Option ℕ) → ¬ ((¬ (0 < c)) × IsSomeAnd rows (λ n. n ≢ p)) → ((c == 0) && option_map_or (λ n. not (n == p)) rows false) ≡ false
-equal_so c p None h = grind (arith, nat_tests)
-equal_so c p (Some n) h = grind (arith, nat_tests)
+equal_so c p rows h = grind arith
 
 few_so : (total : ℕ) → total ≤ 2 ^ 24 → nat_lt (2 ^ 24) total ≡ false
 few_so total h = grind (arith, nat_tests)
@@ -143,10 +129,4 @@ many_so total h = grind (arith, nat_tests)
 pub settled_first : {R : Type 0} (ws : List ExtentWord) (rows : Option ℕ) (total : ℕ) (result : Result R BadExtents) → (¬ IsUneven ws rows) → (¬ IsUnequal ws rows)
     → total ≡ product (extents_for ws rows)
     → (IsOk result ↔ (total ≤ 2 ^ 24)) → IfErr result (λ e. e ≡ TooMany) → MatchResult result (λ _. bad_extents ws rows ≡ None) (λ bad. bad_extents ws rows ≡ Some bad)
-settled_first ws rows total (Ok value) even equal same ok only =
-    let few : nat_lt (2 ^ 24) (product (extents_for ws rows)) ≡ false = rw (sym same) (few_so total (ok.0 refl)) in
-    rw (even_so _ _ even, equal_so _ _ rows equal, few) refl
-settled_first ws rows total (Err e) even equal same ok only =
-    let more : 2 ^ 24 < total = ⊎_elim (λ (t : 2 ^ 24 < total). t) (λ (t : total ≤ 2 ^ 24). absurd (false≢true (ok.1 t))) (cases_lt (2 ^ 24) total) in
-    let many : nat_lt (2 ^ 24) (product (extents_for ws rows)) ≡ true = rw (sym same) (many_so total more) in
-    rw (even_so _ _ even, equal_so _ _ rows equal, many) (ap Some (sym only))
+settled_first ws rows total result even equal same ok only = grind (arith, nat_lt, few_so, even_so, equal_so, cases_lt, many_so)

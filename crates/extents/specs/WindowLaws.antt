@@ -1,5 +1,5 @@
 -- The indices of a window are those of an array of its own, moved.
-use Rattle.std.proofs.Common.{◌≡◌, ℕ, zero, suc, subst, get_or, length-append, All, ◌*◌, ◌^◌, ◌+◌, ◌-◌, ◌<◌, ◌≤◌, Bool, true, false, List, [], ◌∷◌, ◌++◌, map, filter, refl, sym, ap, ◌∙◌, ◌⊎◌, ⊎_elim, arith}
+use Rattle.std.proofs.Common.{◌≡◌, ℕ, zero, suc, get_or, length-append, All, ◌^◌, ◌+◌, ◌-◌, ◌<◌, ◌≤◌, Bool, true, false, List, [], ◌∷◌, ◌++◌, map, filter, refl, sym, ap, ◌∙◌, ◌⊎◌, ⊎_elim, arith}
 use Rattle.std.specs.Prelude.{◌&&◌, nat_le, nat_lt, length, slice_get, Some, if◌then◌else◌}
 use Rattle.std.specs.Option.{option_map}
 use Rattle.std.proofs.lemmas.Option.{slice_get-map}
@@ -55,9 +55,7 @@ inside-first span spans i (x ∷ xs) e =
 outside-first : (span : Span) (spans : List Span) (i : ℕ) (xs : List (List ℕ)) → (nat_le span.from i && nat_lt i span.end) ≡ false
     → filter (holds (span ∷ spans)) (map (λ rest. i ∷ rest) xs) ≡ []
 outside-first span spans i [] e = refl
-outside-first span spans i (x ∷ xs) e =
-    ap (λ (t : Bool). if t && holds spans x then (i ∷ x) ∷ filter (holds (span ∷ spans)) (map (λ rest. i ∷ rest) xs) else filter (holds (span ∷ spans)) (map (λ rest. i ∷ rest) xs)) e
-    ∙ outside-first span spans i xs e
+outside-first span spans i (x ∷ xs) e = grind (arith, (outside-first span spans i xs e))
 
 -- so of all first components of a range
 none-of : (f g : ℕ → List (List ℕ)) (a n : ℕ) → ((i : ℕ) → a ≤ i → i < a + n → f i ≡ []) → flat_map f (range_with_len a n) ≡ []
@@ -215,16 +213,14 @@ moved_inside [] [] (i ∷ index) is inside = absurd inside
 moved_inside [] (span ∷ spans) index is inside = absurd is
 moved_inside (extent ∷ extents) [] index is inside = absurd is
 moved_inside (extent ∷ extents) (span ∷ spans) [] is inside = absurd inside
-moved_inside (extent ∷ extents) (span ∷ spans) (i ∷ index) is inside =
-    (omega (arith, inside.0, is.0.0, is.0.1), moved_inside extents spans index is.1 inside.1)
+moved_inside (extent ∷ extents) (span ∷ spans) (i ∷ index) is inside = grind (arith, (moved_inside extents spans index is.1 inside.1))
 
 -- the sizes of a window are extents too
 pub product_le : (extents : List ℕ) (spans : List Span) → IsWindow extents spans → product (sizes spans) ≤ product extents
 product_le [] [] is = omega arith
 product_le [] (span ∷ spans) is = absurd is
 product_le (extent ∷ extents) [] is = absurd is
-product_le (extent ∷ extents) (span ∷ spans) is =
-    (let low : span.end - span.from ≤ extent = omega (arith, is.0.1) in mul-le (span.end - span.from) (product (sizes spans)) extent (product extents) low (product_le extents spans is.1))
+product_le (extent ∷ extents) (span ∷ spans) is = grind (arith, mul-le, (product_le extents spans is.1))
 
 pub same_rank : (extents : List ℕ) (spans : List Span) → IsWindow extents spans → length spans ≡ length extents
 same_rank [] [] is = refl
@@ -235,8 +231,7 @@ same_rank (extent ∷ extents) (span ∷ spans) is = ap suc (same_rank extents s
 -- one step of a loop over spans and an index
 pub moved_step : (spans spans' : List Span) (index index' : List ℕ) (span : Span) (i : ℕ) (done whole : List ℕ) → spans ≡ span ∷ spans' → index ≡ i ∷ index'
     → whole ≡ done ++ moved spans index → whole ≡ (done ++ (span.from + i) ∷ []) ++ moved spans' index'
-moved_step spans spans' index index' span i done whole one two so =
-    so ∙ ap (λ (xs : List Span). done ++ moved xs index) one ∙ ap (λ (xs : List ℕ). done ++ moved (span ∷ spans') xs) two ∙ sym (append_assoc done ((span.from + i) ∷ []) (moved spans' index'))
+moved_step spans spans' index index' span i done whole one two so = grind (arith, append_assoc)
 
 moved_end : (spans : List Span) (index : List ℕ) → (length index ≡ 0) ⊎ (length spans ≡ 0) → moved spans index ≡ []
 moved_end [] index none = refl
@@ -260,11 +255,6 @@ inside_narrow (extent ∷ extents) (i ∷ index) narrow inside =
     (let first : extent < 2 ^ 32 = narrow 0 0 (omega arith) in
     (omega (arith, inside.0, first), inside_narrow extents index (λ k d low. narrow (suc k) d (omega (arith, low))) inside.1))
 
-pub narrow_step : (spans spans' : List Span) (index index' : List ℕ) (span : Span) (i : ℕ) → spans ≡ span ∷ spans' → index ≡ i ∷ index'
-    → AreNarrow (moved spans index) → (span.from + i < 2 ^ 32) × AreNarrow (moved spans' index')
-narrow_step spans spans' index index' span i one two narrow =
-    subst (λ (xs : List ℕ). AreNarrow (moved (span ∷ spans') xs)) two (subst (λ (xs : List Span). AreNarrow (moved xs index)) one narrow)
-
 pub inside_length : (extents index : List ℕ) → IsInside extents index → length index ≡ length extents
 inside_length [] [] inside = refl
 inside_length [] (i ∷ index) inside = absurd inside
@@ -274,9 +264,7 @@ inside_length (extent ∷ extents) (i ∷ index) inside = ap suc (inside_length 
 -- what was pushed is shorter than the whole where something is left
 pub push_room : (done : List ℕ) (spans spans' : List Span) (index index' : List ℕ) (span : Span) (i : ℕ) (whole : List ℕ) → spans ≡ span ∷ spans' → index ≡ i ∷ index'
     → whole ≡ done ++ moved spans index → length done < length whole
-push_room done spans spans' index index' span i whole one two so =
-    let next = moved_step spans spans' index index' span i done whole one two so in
-    omega (arith, ap (λ (xs : List ℕ). length xs) next, length-append (done ++ (span.from + i) ∷ []) (moved spans' index'), length-append done ((span.from + i) ∷ []))
+push_room done spans spans' index index' span i whole one two so = grind (arith, moved_step, length-append)
 
 pub fixed_extents : (spans : List Span) (size : ℕ) → map (extent_of size) (map fixed_size spans) ≡ sizes spans
 fixed_extents [] size = refl

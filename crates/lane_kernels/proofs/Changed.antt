@@ -1,5 +1,5 @@
 -- The rows of a table, of which some in line were changed by a kernel.
-use Rattle.lane_kernels.proofs.Imports.{◌≡◌, ℕ, zero, suc, ◌+◌, ◌≤◌, List, [], ◌∷◌, ◌++◌, length, take, drop, map, set, ℤ, Option, Some, None, refl, sym, ap, ◌∙◌, arith, take-append-drop, Keeping, with_column, Store, stored, with_store, run_rows, Kernel}
+use Rattle.lane_kernels.proofs.Imports.{◌≡◌, ℕ, zero, suc, ◌+◌, ◌≤◌, List, [], ◌∷◌, ◌++◌, length, take, drop, map, ℤ, Some, None, refl, ap, ◌∙◌, arith, take-append-drop, Keeping, with_column, stored, run_rows, Kernel}
 
 -- as many rows as before
 pub rows_count : (keep : Keeping) (kernel : Kernel) (row : ℕ) (rows : List (List ℤ)) → length (run_rows keep kernel row rows) ≡ length rows
@@ -19,9 +19,7 @@ pub rows_more : (keep : Keeping) (kernel : Kernel) (row step : ℕ) (rows : List
 rows_more keep kernel zero step rows inside = let same : step ≡ 0 + step = omega arith in ap (λ (n : ℕ). run_rows keep kernel n rows) same
 rows_more keep kernel (suc row) step [] inside = absurd (omega arith)
 rows_more keep kernel (suc row) step (values ∷ rows) inside =
-    let next : suc (row + step) ≡ suc row + step = omega arith in
-    ap (λ (more : List (List ℤ)). with_store keep values (stored kernel values) ∷ more) (rows_more keep kernel row step rows (omega arith))
-    ∙ ap (λ (n : ℕ). run_rows keep kernel n (values ∷ rows)) next
+    let next : suc (row + step) ≡ suc row + step = omega arith in grind (arith, (rows_more keep kernel row step rows (omega arith)))
 
 -- a kernel that stores nothing leaves all rows
 pub rows_stand : (keep : Keeping) (kernel : Kernel) (row : ℕ) (rows : List (List ℤ)) → ((values : List ℤ) → stored kernel values ≡ None) → run_rows keep kernel row rows ≡ rows
@@ -37,9 +35,7 @@ first_rows : (keep : Keeping) (kernel : Kernel) (leaf step : ℕ) (value : List 
     → with_column leaf 0 (map (keep leaf) (map value (take step rows))) rows ≡ run_rows keep kernel step rows
 first_rows keep kernel leaf zero value rows does = refl
 first_rows keep kernel leaf (suc step) value [] does = refl
-first_rows keep kernel leaf (suc step) value (row ∷ rows) does =
-    ap (λ (more : List (List ℤ)). set row leaf (keep leaf (value row)) ∷ more) (first_rows keep kernel leaf step value rows does)
-    ∙ ap (λ (store : Option Store). with_store keep row store ∷ run_rows keep kernel step rows) (sym (does.stores row))
+first_rows keep kernel leaf (suc step) value (row ∷ rows) does = grind (arith, (first_rows keep kernel leaf step value rows does))
 
 column_from : (leaf row : ℕ) (values : List ℤ) (rows : List (List ℤ)) → row ≤ length rows → with_column leaf row values rows ≡ take row rows ++ with_column leaf 0 values (drop row rows)
 column_from leaf zero values rows inside = refl
@@ -48,9 +44,7 @@ column_from leaf (suc row) values (numbers ∷ rows) inside = ap (λ (more : Lis
 
 pub rows_stored : (keep : Keeping) (kernel : Kernel) (leaf row step : ℕ) (value : List ℤ → ℤ) (rows : List (List ℤ)) → row ≤ length rows → DoesStore kernel leaf value
     → with_column leaf row (map (keep leaf) (map value (take step (drop row rows)))) rows ≡ take row rows ++ run_rows keep kernel step (drop row rows)
-rows_stored keep kernel leaf row step value rows inside does =
-    column_from leaf row (map (keep leaf) (map value (take step (drop row rows)))) rows inside
-    ∙ ap (λ (more : List (List ℤ)). take row rows ++ more) (first_rows keep kernel leaf step value (drop row rows) does)
+rows_stored keep kernel leaf row step value rows inside does = grind (arith, column_from, first_rows)
 
 -- a kernel that stores none leaves the rows that it comes by
 pub rows_passed : (keep : Keeping) (kernel : Kernel) (row step : ℕ) (rows : List (List ℤ)) → ((values : List ℤ) → stored kernel values ≡ None)

@@ -1,6 +1,6 @@
 -- What the proofs of this crate speak of.
 pub use Rattle.std.proofs.lemmas.Bool.{cases_lt}
-pub use Rattle.std.proofs.Common.{◌≡◌, ℕ, zero, suc, ◌+◌, ◌≤◌, List, [], ◌∷◌, ◌++◌, length, take, drop, map, set, ℤ, Option, Some, None, refl, sym, ap, ◌∙◌, arith, ◌<◌, Result, Ok, Err, ◌-◌, ◌^◌, Bool, true, false, fold, min, FitsSigned, pos, ◌+ℤ◌, subst, length-take, cond, get_or, to_z, w64, length-drop, ◌*◌, negsuc, neg_ℤ, ◌≤ℤ◌, ◌/◌, ◌%◌, ◌⊎◌, inl, inr, ◌*ℤ◌, rules, of_z, SFits}
+pub use Rattle.std.proofs.Common.{◌≡◌, ℕ, zero, suc, ◌+◌, ◌≤◌, List, [], ◌∷◌, ◌++◌, length, take, drop, map, ℤ, Option, Some, None, refl, sym, ap, ◌∙◌, arith, ◌<◌, Result, Ok, Err, ◌-◌, ◌^◌, Bool, true, false, fold, min, FitsSigned, pos, ◌+ℤ◌, subst, length-take, cond, get_or, to_z, w64, length-drop, ◌*◌, neg_ℤ, ◌≤ℤ◌, ◌/◌, ◌%◌, inl, inr, ◌*ℤ◌, rules, of_z, SFits}
 pub use Rattle.std.proofs.lemmas.List.{take-append-drop, length-map, map-append, map-id, take-map, take-take, take_all, append-nil}
 pub use Rattle.std.specs.Prelude.{option_map, nat_le, if◌then◌else◌}
 pub use Rattle.std.specs.Option.{option_or, unwrap_or}
@@ -23,7 +23,7 @@ pub use Rattle.views.specs.declared.fault.LaneFault.{LaneFault}
 pub use Rattle.views.specs.declared.fault.StoreFault.{StoreFault}
 pub use Rattle.views.specs.LeafRuns.{stored_count, told_lane, raised, run_of, run_steps, run_fault, with_run}
 pub use Rattle.record_dim.specs.declared.leaf_type.LeafType.{LeafType}
-pub use Rattle.record_dim.specs.declared.leaf_type.LeafType.TheVariants.{U64, Bool as Truth, U8, U16, U32, I8, I16, I32, I64}
+pub use Rattle.record_dim.specs.declared.leaf_type.LeafType.TheVariants.{U64, Bool as Truth}
 pub use Rattle.record_dim.specs.LeafTypes.{width_of, IsDeclared}
 pub use Rattle.piece_bits.specs.Lows.{low_64, IsWithin64}
 pub use Rattle.views.specs.RunsLaws.{declared_within, raised_all}
@@ -42,7 +42,7 @@ pub use Rattle.places.specs.Layout.{Owner}
 pub use Rattle.views.specs.OrderLaws.{tallied-kinds, swapped, apart}
 pub use Rattle.extents.specs.Indices.{indices}
 pub use Rattle.record_dim.specs.Trees.{Fields}
-pub use Rattle.lane_kernels.specs.Kernels.{Store, stored, with_store, run_rows, fault_named, answer_fault, kernel_store_fault, first_row_fault, rows_before, IsNarrow, Compare, compares, given_number, empty_fault, kernel_fault, IsKernelRun, row_cost}
+pub use Rattle.lane_kernels.specs.Kernels.{Store, stored, run_rows, fault_named, answer_fault, kernel_store_fault, first_row_fault, rows_before, IsNarrow, Compare, compares, given_number, empty_fault, IsKernelRun, row_cost}
 pub use Rattle.lane_kernels.specs.declared.kernel.Kernel.{Kernel}
 pub use Rattle.lane_kernels.specs.Inner.KernelRows.{named_row, rows_done, number_so_far, AreNext, AreTaken, after_rows, IsOfNoRow, AreDone, fault_in}
 pub use Rattle.lane_kernels.specs.declared.fault.KernelFault.{KernelFault}

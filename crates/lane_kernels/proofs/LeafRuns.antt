@@ -1,15 +1,12 @@
 -- A leaf that is reduced run after run.
-use Rattle.lane_kernels.proofs.Imports.{◌≡◌, ℕ, ◌+◌, ◌-◌, ◌<◌, ◌≤◌, ◌^◌, Bool, true, false, List, [], ◌++◌, length, take, map, fold, min, FitsSigned, ℤ, pos, ◌+ℤ◌, Option, sym, ap, subst, ◌∙◌, arith, length-take, nat_le, if◌then◌else◌, w128, div_ceil, range_with_len, Each1, take-add, length-map, map-append, map-id, Each1-chunk, Each1-get_or, Each1-weaker, LeafType, U64, width_of, IsDeclared, low_64, IsWithin64, in_leaf, column, column_reads, IsNarrowLeaf, raised, run_of, run_steps, declared_within, raised_all, Table, IsTable, leaf_count_of, leaf_type_of, after_log, after_log-append, after_log-none, Access, Read, IsNarrow, reduced_by, with_more, Reduction}
+use Rattle.lane_kernels.proofs.Imports.{◌≡◌, ℕ, ◌+◌, ◌-◌, ◌<◌, ◌≤◌, ◌^◌, Bool, List, [], ◌++◌, length, take, map, fold, min, FitsSigned, ℤ, pos, ◌+ℤ◌, Option, sym, ap, subst, ◌∙◌, arith, length-take, nat_le, if◌then◌else◌, w128, div_ceil, range_with_len, Each1, take-add, length-map, map-append, map-id, Each1-chunk, Each1-get_or, Each1-weaker, LeafType, U64, width_of, IsDeclared, low_64, IsWithin64, in_leaf, column, column_reads, IsNarrowLeaf, raised, run_of, run_steps, declared_within, raised_all, Table, IsTable, leaf_count_of, leaf_type_of, after_log, after_log-append, after_log-none, IsNarrow, reduced_by, with_more, Reduction}
 use Rattle.lane_kernels.proofs.Logs.{ranges}
 use Rattle.lane_kernels.proofs.Numbers.{declared_column, narrow_column, narrow_rows, read_whole}
 use Rattle.lane_kernels.proofs.Reductions.{more_of, wide_sum_fits}
 
 -- the values of a run, raised from their low bits, and those of at most 32 bits, which are their own
 pub run_raised : (seen : Table) (leaf row n : ℕ) → IsTable seen → leaf < leaf_count_of seen → map (raised (leaf_type_of seen leaf)) (map low_64 (run_of leaf row n seen)) ≡ run_of leaf row n seen
-run_raised seen leaf row n table inside =
-    let kind = leaf_type_of seen leaf in
-    let run = run_of leaf row n seen in
-    raised_all kind run (λ k below. Each1-get_or (IsDeclared kind) run k (pos 0) below (Each1-chunk (IsDeclared kind) row n (column leaf seen.rows) (declared_column seen leaf table inside)))
+run_raised seen leaf row n table inside = grind (arith, raised_all, Each1-get_or, Each1-chunk, declared_column)
 
 pub narrow_raised : (kind : LeafType) (lows : List ℤ) → width_of kind ≤ 32 → map (raised kind) lows ≡ lows
 narrow_raised U64 lows narrow = absurd (omega (arith, narrow))
@@ -37,32 +34,19 @@ pub none_reduced : (old : Table) (form : Reduction) (leaf : ℕ) (number : Optio
 none_reduced old form leaf number is = record { log = sym (after_log-none old); so_far = is }
 
 reads_from : (leaf row step : ℕ) → column_reads leaf 0 (row + step) ≡ column_reads leaf 0 row ++ column_reads leaf row step
-reads_from leaf row step =
-    let read : ℕ → Access = λ at. Read at leaf in
-    let here : 0 + row ≡ row = omega arith in
-    ap (map read) (ranges 0 row step ∙ ap (λ (n : ℕ). range_with_len 0 row ++ range_with_len n step) here) ∙ map-append read (range_with_len 0 row) (range_with_len row step)
+reads_from leaf row step = grind (arith, ranges, range_with_len, map-append)
 
 pub more_reduced : (old view new : Table) (form : Reduction) (leaf row step : ℕ) (number more : Option ℤ) → AreReduced old form leaf view row number
     → new ≡ after_log view (column_reads leaf row step) → more ≡ with_more form number (run_of leaf row step old) → AreReduced old form leaf new (row + step) more
-more_reduced old view new form leaf row step number more done read is =
-    let all = column leaf old.rows in
-    record {
-      log = read ∙ ap (λ (t : Table). after_log t (column_reads leaf row step)) done.log ∙ after_log-append old (column_reads leaf 0 row) (column_reads leaf row step)
-          ∙ ap (after_log old) (sym (reads_from leaf row step));
-      so_far = is ∙ ap (λ (n : Option ℤ). with_more form n (run_of leaf row step old)) done.so_far ∙ more_of form (take row all) (run_of leaf row step old)
-          ∙ ap (reduced_by form) (sym (take-add row step all));
-    }
+more_reduced old view new form leaf row step number more done read is = grind (arith, after_log-append, reads_from, more_of, take-add)
 
 -- the steps of a run, and of the rows behind it
 run_cost : (narrow : Bool) (left : ℕ) → let each : ℕ = if narrow then 16 else 8 in div_ceil left each ≡ div_ceil (min left 256) each + div_ceil (left - min left 256) each
-run_cost true left = omega arith
-run_cost false left = omega arith
+run_cost narrow left = grind arith
 
 spent : (cost : ℕ → ℕ) (count row step begun now next : ℕ) → cost (count - row) ≡ cost step + cost (count - row - step) → now + cost (count - row) ≡ begun + cost count → next ≡ now + cost step
     → next + cost (count - (row + step)) ≡ begun + cost count
-spent cost count row step begun now next parts so_far took =
-    let left : count - (row + step) ≡ count - row - step = omega arith in
-    rw left (omega (arith, parts, so_far, took))
+spent cost count row step begun now next parts so_far took = grind arith
 
 pub spent_more : (kind : LeafType) (count row step begun now next : ℕ) → step ≡ min (count - row) 256 → now + run_steps kind (count - row) ≡ begun + run_steps kind count → next ≡ now + run_steps kind step
     → next + run_steps kind (count - (row + step)) ≡ begun + run_steps kind count

@@ -1,14 +1,12 @@
 -- The number of the values of a leaf, and of more of them.
-use Rattle.lane_kernels.proofs.Imports.{◌≡◌, ℕ, zero, suc, ◌+◌, ◌<◌, ◌≤◌, ◌^◌, Bool, cond, List, [], ◌∷◌, ◌++◌, length, get_or, take, drop, map, fold, FitsSigned, to_z, ℤ, pos, ◌+ℤ◌, w64, Option, Some, None, refl, sym, ap, subst, ◌∙◌, arith, length-take, length-drop, option_map, count_by, sum_by, unwrap_or, take-add, ints, to_z_pos, length-map, map-append, take-map, sum_by-append, count_by-le-length, Each1, Each1-chunk, Each1-weaker, SumsFit, narrow_sum_fits, narrow_fits, entry, LeafType, Truth, U8, U16, U32, U64, I8, I16, I32, I64, width_of, IsDeclared, leaves, hold_at, stays_declared, Table, IsTable, leaf_types_of, leaf_type_of, leaf_count_of, table_holds, Keeping, Compare, compares, given_number, run_rows, IsNarrow, reduced_by, with_more, number_so_far, AreNext, Reduction, low_64, low_same, Kernel, Axpy, Clamp, Sum, Least, Greatest, CountWhere}
+use Rattle.lane_kernels.proofs.Imports.{◌≡◌, ℕ, zero, suc, ◌+◌, ◌<◌, ◌≤◌, ◌^◌, Bool, cond, List, [], ◌∷◌, ◌++◌, length, get_or, take, drop, map, fold, FitsSigned, to_z, ℤ, pos, ◌+ℤ◌, w64, Option, Some, None, refl, sym, ap, subst, ◌∙◌, arith, length-take, length-drop, option_map, count_by, sum_by, unwrap_or, take-add, to_z_pos, length-map, map-append, take-map, sum_by-append, count_by-le-length, Each1, Each1-chunk, Each1-weaker, SumsFit, narrow_sum_fits, narrow_fits, entry, LeafType, width_of, IsDeclared, leaves, hold_at, stays_declared, Table, IsTable, leaf_types_of, leaf_type_of, leaf_count_of, table_holds, Keeping, Compare, compares, given_number, run_rows, IsNarrow, reduced_by, with_more, number_so_far, AreNext, Reduction, low_64, low_same, Kernel, Sum, CountWhere}
 use Rattle.lane_kernels.specs.Kernels.{column, in_leaf, IsNarrowLeaf}
 use Rattle.lane_kernels.proofs.Changed.{rows_stand}
 use Rattle.lane_kernels.proofs.Reductions.{none_before, more_of, plain_more, run_sums_fit}
 
 -- a value of at most 32 bits
 declared_narrow : (kind : LeafType) (value : ℤ) → width_of kind ≤ 32 → IsDeclared kind value → IsNarrow value
-declared_narrow U64 value narrow d = absurd (omega (arith, narrow))
-declared_narrow I64 value narrow d = absurd (omega (arith, narrow))
-declared_narrow other value narrow d = (omega (arith, ints, d.0), omega (arith, ints, d.1))
+declared_narrow kind value narrow d = grind arith
 
 each_row : (P : ℤ → Type 0) (f : List ℤ → ℤ) (rows : List (List ℤ)) → ((row : ℕ) → row < length rows → P (f (get_or rows row []))) → Each1 P (map f rows)
 each_row P f [] holds = tt
@@ -24,9 +22,7 @@ declared_column seen leaf table inside =
     (λ row here. stays_declared seen.mode kind (hold_at (table_holds seen) leaf) (entry seen.rows row leaf) (table.stays row leaf here there))
 
 pub narrow_column : (seen : Table) (leaf : ℕ) → IsTable seen → IsNarrowLeaf seen leaf → Each1 IsNarrow (column leaf seen.rows)
-narrow_column seen leaf table narrow =
-    let kind = leaf_type_of seen leaf in
-    Each1-weaker (IsDeclared kind) IsNarrow (λ value. declared_narrow kind value narrow.narrow) (column leaf seen.rows) (declared_column seen leaf table narrow.inside)
+narrow_column seen leaf table narrow = grind (arith, Each1-weaker, declared_narrow, declared_column)
 
 -- the values of some rows in line
 pub column_rows : (leaf row n : ℕ) (rows : List (List ℤ)) → take n (drop row (column leaf rows)) ≡ column leaf (take n (drop row rows))
@@ -42,9 +38,7 @@ kept_whole [] narrow = refl
 kept_whole (value ∷ values) narrow = rw (low_same value (narrow_fits value narrow.0), kept_whole values narrow.1) refl
 
 pub read_whole : (seen : Table) (leaf row n : ℕ) (values : List ℤ) → IsTable seen → IsNarrowLeaf seen leaf → values ≡ map low_64 (take n (drop row (column leaf seen.rows))) → values ≡ column leaf (take n (drop row seen.rows))
-read_whole seen leaf row n values table narrow read =
-    read ∙ ap (map low_64) (column_rows leaf row n seen.rows)
-    ∙ kept_whole (column leaf (take n (drop row seen.rows))) (narrow_rows leaf row n seen.rows (narrow_column seen leaf table narrow))
+read_whole seen leaf row n values table narrow read = grind (arith, column_rows, kept_whole, narrow_rows, narrow_column)
 
 -- the number of some rows is that of the kernel
 filled : (kernel : Kernel) (before block : List (List ℤ)) → 1 ≤ length block → number_so_far kernel (before ++ block) ≡ given_number kernel (before ++ block)
@@ -61,12 +55,7 @@ pub record DoesReduce (kernel : Kernel) (form : Reduction) (x : ℕ) : Type 0 wh
 
 beside : (kernel : Kernel) (form : Reduction) (x : ℕ) (before block : List (List ℤ)) → DoesReduce kernel form x
     → with_more form (number_so_far kernel before) (column x block) ≡ given_number kernel (before ++ block)
-beside kernel form x [] block does = none_before form (column x block) ∙ sym (does.gives block)
-beside kernel form x (row ∷ before) block does =
-    ap (λ (n : Option ℤ). with_more form n (column x block)) (does.gives (row ∷ before))
-    ∙ more_of form (column x (row ∷ before)) (column x block)
-    ∙ ap (reduced_by form) (sym (map-append (in_leaf x) (row ∷ before) block))
-    ∙ sym (does.gives (row ∷ before ++ block))
+beside kernel form x before block does = grind (arith, none_before, more_of, map-append)
 
 pub reduced_more : (kernel : Kernel) (form : Reduction) (x : ℕ) (rows : List (List ℤ)) (row step : ℕ) (number result : Option ℤ) (values : List ℤ) → DoesReduce kernel form x
     → AreNext rows kernel row step number → values ≡ column x (take step (drop row rows))
@@ -81,8 +70,7 @@ reduced_more kernel form x rows row step number result values does next values_a
 -- its sums fit
 sum_start : (x : ℕ) (before : List (List ℤ)) (number : Option ℤ) → number ≡ number_so_far (Sum x) before
     → unwrap_or (option_map (λ z. z) number) (pos 0) ≡ fold (λ a b. a +ℤ b) (pos 0) (column x before)
-sum_start x [] number is = ap (λ (n : Option ℤ). unwrap_or (option_map (λ z. z) n) (pos 0)) is
-sum_start x (row ∷ rows) number is = ap (λ (n : Option ℤ). unwrap_or (option_map (λ z. z) n) (pos 0)) is
+sum_start x before number is = grind (arith, unwrap_or, option_map)
 
 pub narrow_sums_fit : (x : ℕ) (rows : List (List ℤ)) (row step : ℕ) (number : Option ℤ) → length rows ≤ 2 ^ 24 → Each1 IsNarrow (column x rows) → AreNext rows (Sum x) row step number
     → SumsFit (λ z. z) (λ z. FitsSigned w64 z) (unwrap_or (option_map (λ z. z) number) (pos 0)) (column x (take step (drop row rows)))
@@ -97,8 +85,7 @@ narrow_sums_fit x rows row step number few narrow next =
 -- a count
 count_start : (x : ℕ) (op : Compare) (c : ℤ) (before : List (List ℤ)) (number : Option ℤ) → number ≡ number_so_far (CountWhere x op c) before
     → unwrap_or number (pos 0) ≡ pos (count_by (λ value. compares op value c) (column x before))
-count_start x op c [] number is = ap (λ (n : Option ℤ). unwrap_or n (pos 0)) is
-count_start x op c (row ∷ rows) number is = ap (λ (n : Option ℤ). unwrap_or n (pos 0)) is
+count_start x op c before number is = grind (arith, unwrap_or)
 
 pub count_more : (x : ℕ) (op : Compare) (c : ℤ) (rows : List (List ℤ)) (row step : ℕ) (number : Option ℤ) → AreNext rows (CountWhere x op c) row step number
     → Some (unwrap_or number (pos 0) +ℤ pos (count_by (λ value. compares op value c) (column x (take step (drop row rows))))) ≡ number_so_far (CountWhere x op c) (take (row + step) rows)
@@ -127,24 +114,14 @@ count_fits x op c rows row step number few next =
 pub count_whole : (x : ℕ) (op : Compare) (c : ℤ) (rows : List (List ℤ)) (row step : ℕ) (number : Option ℤ) (start : ℤ) (counted : ℕ) → length rows ≤ 2 ^ 24 → AreNext rows (CountWhere x op c) row step number
     → start ≡ unwrap_or number (pos 0) → counted ≡ count_by (λ value. compares op value c) (column x (take step (drop row rows)))
     → start +ℤ to_z w64 counted ≡ unwrap_or number (pos 0) +ℤ pos (count_by (λ value. compares op value c) (column x (take step (drop row rows))))
-count_whole x op c rows row step number start counted few next begun is =
-    let block = take step (drop row rows) in
-    let some = count_by-le-length (λ value. compares op value c) (column x block) in
-    let small : counted < 2 ^ 63 = omega (arith, is, some, length-map block (in_leaf x), length-take step (drop row rows), next.inside) in
-    ap (λ (z : ℤ). z +ℤ to_z w64 counted) begun ∙ ap (λ (z : ℤ). unwrap_or number (pos 0) +ℤ z) (to_z_pos w64 counted small ∙ ap pos is)
+count_whole x op c rows row step number start counted few next begun is = grind (arith, count_by-le-length, length-map, length-take, to_z, unwrap_or, to_z_pos)
 
 -- nor does a kernel that stores change the number
 stores_none : (kernel : Kernel) (rows : List (List ℤ)) → ((seen : List (List ℤ)) → given_number kernel seen ≡ None) → number_so_far kernel rows ≡ None
-stores_none kernel [] none = refl
-stores_none kernel (row ∷ rows) none = none (row ∷ rows)
+stores_none kernel rows none = grind arith
 
 pub no_number : (kernel : Kernel) (some more : List (List ℤ)) → ((seen : List (List ℤ)) → given_number kernel seen ≡ None) → number_so_far kernel some ≡ number_so_far kernel more
 no_number kernel some more none = stores_none kernel some none ∙ sym (stores_none kernel more none)
 
 pub same_number : (keep : Keeping) (kernel : Kernel) (row count : ℕ) (rows : List (List ℤ)) → number_so_far kernel (take count (run_rows keep kernel row rows)) ≡ number_so_far kernel (take count rows)
-same_number keep (Axpy a x y) row count rows = no_number (Axpy a x y) (take count (run_rows keep (Axpy a x y) row rows)) (take count rows) (λ seen. refl)
-same_number keep (Clamp x lo hi) row count rows = no_number (Clamp x lo hi) (take count (run_rows keep (Clamp x lo hi) row rows)) (take count rows) (λ seen. refl)
-same_number keep (Sum x) row count rows = ap (λ (seen : List (List ℤ)). number_so_far (Sum x) (take count seen)) (rows_stand keep (Sum x) row rows (λ values. refl))
-same_number keep (Least x) row count rows = ap (λ (seen : List (List ℤ)). number_so_far (Least x) (take count seen)) (rows_stand keep (Least x) row rows (λ values. refl))
-same_number keep (Greatest x) row count rows = ap (λ (seen : List (List ℤ)). number_so_far (Greatest x) (take count seen)) (rows_stand keep (Greatest x) row rows (λ values. refl))
-same_number keep (CountWhere x op c) row count rows = ap (λ (seen : List (List ℤ)). number_so_far (CountWhere x op c) (take count seen)) (rows_stand keep (CountWhere x op c) row rows (λ values. refl))
+same_number keep kernel row count rows = grind (arith, no_number, rows_stand)

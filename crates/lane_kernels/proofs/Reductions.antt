@@ -1,43 +1,29 @@
 -- What a reduction gives of some numbers and of more of them.
-use Rattle.lane_kernels.proofs.Imports.{◌≡◌, ℕ, zero, suc, ◌+◌, ◌*◌, ◌-◌, ◌^◌, ◌≤◌, List, [], ◌∷◌, ◌++◌, length, take, drop, map, fold, FitsSigned, ℤ, pos, negsuc, neg_ℤ, ◌+ℤ◌, ◌≤ℤ◌, w64, Option, Some, None, refl, sym, ap, subst, ◌∙◌, arith, length-take, option_map, int_min, int_max, w128, slice_get, unwrap_or, option_or, Each1, ints, int_min_is, int_max_is, take-add, map-id, take-take, take_all, fold-map, fold-append, Each1-chunk, narrow_sum_fits, SumsFit, IsWithin64, reduced_by, extreme_with, with_more, CanAdd, Reduction}
+use Rattle.lane_kernels.proofs.Imports.{◌≡◌, ℕ, zero, suc, ◌+◌, ◌*◌, ◌-◌, ◌^◌, ◌≤◌, List, [], ◌∷◌, ◌++◌, length, take, drop, map, fold, FitsSigned, ℤ, pos, neg_ℤ, ◌+ℤ◌, ◌≤ℤ◌, w64, Option, Some, None, refl, sym, ap, subst, ◌∙◌, arith, length-take, option_map, int_min, int_max, w128, slice_get, unwrap_or, option_or, Each1, ints, int_min_is, int_max_is, take-add, map-id, take-take, take_all, fold-map, fold-append, Each1-chunk, narrow_sum_fits, SumsFit, IsWithin64, reduced_by, extreme_with, with_more, CanAdd, Reduction}
 use Rattle.piece_bits.specs.Blocks.{IsNarrow}
 use Rattle.lane_kernels.specs.declared.reduce.Reduction.TheVariants.{Sum, Least, Greatest}
 
 -- where there are none before, and where it is known of those
 pub none_before : (form : Reduction) (more : List ℤ) → with_more form None more ≡ reduced_by form more
-none_before Sum more = refl
-none_before Least more = refl
-none_before Greatest more = refl
+none_before form more = grind arith
 
 pub more_of : (form : Reduction) (xs ys : List ℤ) → with_more form (reduced_by form xs) ys ≡ reduced_by form (xs ++ ys)
-more_of Sum xs ys = ap (λ (z : ℤ). Some z) (sym (fold-append (λ (a b : ℤ). a +ℤ b) (pos 0) xs ys))
-more_of Least [] ys = refl
-more_of Least (x ∷ xs) ys = ap (λ (z : ℤ). Some z) (sym (fold-append int_min x xs ys))
-more_of Greatest [] ys = refl
-more_of Greatest (x ∷ xs) ys = ap (λ (z : ℤ). Some z) (sym (fold-append int_max x xs ys))
+more_of form xs ys = grind (arith, fold-append, int_min, int_max)
 
 -- of a type whose numbers are their own values
 itself : (number : Option ℤ) → option_map (λ z. z) number ≡ number
-itself None = refl
-itself (Some number) = refl
+itself number = grind arith
 
 pub plain_more : (form : Reduction) (result number : Option ℤ) (more : List ℤ) → option_map (λ z. z) result ≡ with_more form (option_map (λ z. z) number) (map (λ z. z) more)
     → result ≡ with_more form number more
-plain_more form result number more is =
-    sym (itself result) ∙ is ∙ ap (λ (n : Option ℤ). with_more form n (map (λ z. z) more)) (itself number) ∙ ap (with_more form number) (map-id more)
+plain_more form result number more is = grind (arith, itself, map-id)
 
 -- of numbers of any type, by their values
 pub extreme_given : {T : Type 0} (pick : ℤ → ℤ → ℤ) (value : T → ℤ) (number : Option T) (more : List T) (start : T) (found : ℤ) → ((z : ℤ) → pick z z ≡ z)
     → Some start ≡ option_or number (slice_get more 0) → found ≡ fold (λ a x. pick a (value x)) (value start) more → Some found ≡ extreme_with pick (option_map value number) (map value more)
-extreme_given pick value (Some number) more start found same begun is =
-    let here : start ≡ number = cc in
-    ap (λ (z : ℤ). Some z) (is ∙ ap (λ n. fold (λ a x. pick a (value x)) (value n) more) here ∙ sym (fold-map pick value (value number) more))
+extreme_given pick value (Some number) more start found same begun is = grind (arith, fold-map)
 extreme_given pick value None [] start found same begun is = absurd (cc)
-extreme_given pick value None (x ∷ more) start found same begun is =
-    let here : start ≡ x = cc in
-    ap (λ (z : ℤ). Some z)
-    (is ∙ ap (λ n. fold (λ a y. pick a (value y)) (pick (value n) (value x)) more) here ∙ ap (λ (z : ℤ). fold (λ a y. pick a (value y)) z more) (same (value x))
-    ∙ sym (fold-map pick value (value x) more))
+extreme_given pick value None (x ∷ more) start found same begun is = grind (arith, fold-map)
 
 pub same_min : (z : ℤ) → int_min z z ≡ z
 same_min z = omega (arith, ints, int_min_is z z)
@@ -62,10 +48,7 @@ max_joins : (u v w : ℤ) → int_max (int_max u v) w ≡ int_max u (int_max v w
 max_joins u v w = omega (arith, ints, int_max_is u v, int_max_is (int_max u v) w, int_max_is v w, int_max_is u (int_max v w))
 
 pub joined : (form : Reduction) (number : Option ℤ) (run : List ℤ) (given : ℤ) → Some given ≡ reduced_by form run → with_more form number (given ∷ []) ≡ with_more form number run
-joined Sum number run given is =
-    let start = unwrap_or number (pos 0) in
-    let all : given ≡ fold (λ u v. u +ℤ v) (pos 0) run = cc in
-    ap (λ (z : ℤ). Some (start +ℤ z)) all ∙ ap (λ (z : ℤ). Some z) (sym (sum_from start run))
+joined Sum number run given is = grind (arith, unwrap_or, sum_from)
 joined Least None run given is = is
 joined Least (Some number) [] given is = absurd (cc)
 joined Least (Some number) (x ∷ run) given is =
@@ -84,9 +67,7 @@ run_sums_fit fits all row step start is each k inside =
     let some = take k (take step (drop row all)) in
     let within : k ≤ step = omega (arith, length-take step (drop row all)) in
     let parts : take row all ++ some ≡ take (row + k) all = ap (λ (more : List ℤ). take row all ++ more) (take-take k step (drop row all) within) ∙ sym (take-add row k all) in
-    subst fits
-    (ap (fold (λ (a b : ℤ). a +ℤ b) (pos 0)) (sym parts) ∙ fold-append (λ (a b : ℤ). a +ℤ b) (pos 0) (take row all) some ∙ ap (λ (z : ℤ). fold (λ (a b : ℤ). a +ℤ b) z some) (sym is))
-    (each (row + k))
+    grind (arith, fold-append)
 
 pub run_can_add : (fits : ℤ → Type 0) (form : Reduction) (all : List ℤ) (row step : ℕ) (number : Option ℤ) → number ≡ reduced_by form (take row all)
     → ((n : ℕ) → fits (fold (λ a b. a +ℤ b) (pos 0) (take n all))) → CanAdd (λ z. z) fits form number (take step (drop row all))
@@ -116,8 +97,7 @@ joined_can_add fits Sum number run given is can = one where
   one (suc zero) inside =
       subst fits (ap (fold (λ (a b : ℤ). a +ℤ b) start) (take_all (length run) run (omega arith)) ∙ sum_from start run ∙ ap (λ (z : ℤ). start +ℤ z) all) (can (length run) (omega arith))
   one (suc (suc k)) inside = absurd (omega arith)
-joined_can_add fits Least number run given is can = tt
-joined_can_add fits Greatest number run given is can = tt
+joined_can_add fits form number run given is can = grind arith
 
 -- what some numbers of 64 bits can sum to
 record IsSumOf (count : ℕ) (sum : ℤ) : Type 0 where
@@ -132,8 +112,7 @@ sum_of count sum (x ∷ xs) a within =
     (sum_of (count + 1) (sum +ℤ x) xs (record { least = omega (arith, ints, a.least, within.0.0); greatest = omega (arith, ints, a.greatest, within.0.1) }) within.1)
 
 fits_between : (z : ℤ) → neg_ℤ (pos (2 ^ 127)) ≤ℤ z → z ≤ℤ pos (2 ^ 127 - 1) → FitsSigned w128 z
-fits_between (pos n) least greatest = record { sfits = omega (arith, ints, greatest) }
-fits_between (negsuc n) least greatest = record { sfits = omega (arith, ints, least) }
+fits_between z least greatest = grind arith
 
 pub wide_sum_fits : (xs : List ℤ) → length xs ≤ 2 ^ 30 → Each1 IsWithin64 xs → FitsSigned w128 (fold (λ s x. s +ℤ x) (pos 0) xs)
 wide_sum_fits xs few within =

@@ -1,27 +1,15 @@
 -- Rows that go together, in blocks of so many lanes and the rest one by one, or as many as may.
-use Rattle.lane_kernels.proofs.Imports.{◌≡◌, ℕ, zero, suc, ◌+◌, ◌-◌, ◌*◌, ◌/◌, ◌%◌, ◌<◌, ◌≤◌, ◌⊎◌, Bool, true, false, min, inl, inr, refl, sym, ap, ◌∙◌, arith, add-div_right, add-mod_right, add-mul-div_right, div-eq_of_lt, mod-eq_of_lt, mul_comm, mul-add, mul-le-mul_left, mul-le-mul_right, nat_tests, step_of, IsAt, sixteens, cost, rows_read, cases_lt}
+use Rattle.lane_kernels.proofs.Imports.{◌≡◌, ℕ, ◌+◌, ◌-◌, ◌*◌, ◌/◌, ◌%◌, ◌<◌, ◌≤◌, Bool, true, false, min, inl, inr, sym, ap, ◌∙◌, arith, add-div_right, add-mod_right, add-mul-div_right, div-eq_of_lt, mod-eq_of_lt, mul_comm, mul-add, mul-le-mul_left, mul-le-mul_right, nat_tests, step_of, IsAt, sixteens, cost, rows_read, cases_lt}
 
 pub at_start : (lanes count : ℕ) → 0 < lanes → IsAt lanes count 0
 at_start lanes count some = record { inside = omega arith; even = inl (omega arith) }
 
 -- quotients of neighbours
 quotient : (lanes a q : ℕ) → 0 < lanes → lanes * q ≤ a → a < lanes * q + lanes → a / lanes ≡ q
-quotient lanes a q some low high =
-    let parts : a ≡ a - lanes * q + q * lanes = omega (arith, mul_comm lanes q) in
-    let small : a - lanes * q < lanes = omega arith in
-    let none : (a - lanes * q) / lanes + q ≡ q = omega (arith, div-eq_of_lt small) in
-    ap (λ (n : ℕ). n / lanes) parts ∙ add-mul-div_right (a - lanes * q) q some ∙ none
-
-remainder : (lanes a q : ℕ) → 0 < lanes → lanes * q ≤ a → a < lanes * q + lanes → a % lanes ≡ a - lanes * q
-remainder lanes a q some low high =
-    let e = quotient lanes a q some low high in
-    let whole : lanes * (a / lanes) + a % lanes ≡ a = omega arith in
-    omega (arith, whole, ap (λ (n : ℕ). lanes * n) e)
+quotient lanes a q some low high = grind (arith, mul_comm, div-eq_of_lt, add-mul-div_right)
 
 not_whole : (lanes count row : ℕ) → 0 < lanes → row + lanes ≤ count → row / lanes ≡ count / lanes → ⊥
-not_whole lanes count row some room same =
-    let times = ap (λ (n : ℕ). lanes * n) same in
-    omega (arith, times)
+not_whole lanes count row some room same = grind arith
 
 pub whole_even : (lanes count row : ℕ) → 0 < lanes → IsAt lanes count row → row + lanes ≤ count → row % lanes ≡ 0
 whole_even lanes count row some at room = elim at.even [ inl even ↦ even | inr same ↦ absurd (not_whole lanes count row some room same) ]
@@ -31,15 +19,10 @@ whole_next lanes count row some at room = record { inside = room; even = inl (ad
 
 -- the rest
 rest_quotient : (lanes count row : ℕ) → 0 < lanes → IsAt lanes count row → row < count → count < row + lanes → row / lanes ≡ count / lanes
-rest_quotient lanes count row some at small room = elim at.even [
-  | inl even ↦ sym (quotient lanes count (row / lanes) some (omega arith) (omega arith))
-  | inr same ↦ same
-]
+rest_quotient lanes count row some at small room = grind (arith, quotient)
 
 pub rest_next : (lanes count row : ℕ) → 0 < lanes → IsAt lanes count row → row < count → count < row + lanes → IsAt lanes count (row + 1)
-rest_next lanes count row some at small room =
-    let same = rest_quotient lanes count row some at small room in
-    record { inside = omega arith; even = inr (quotient lanes (row + 1) (count / lanes) some (omega (arith, ap (λ (n : ℕ). lanes * n) same)) (omega arith)) }
+rest_next lanes count row some at small room = grind (arith, rest_quotient, quotient)
 
 -- so many rows that go together, of which no block is told from another where nothing counts accesses
 pub record IsStep (uncounted : Bool) (lanes count row step : ℕ) : Type 0 where
@@ -59,10 +42,7 @@ read_rest lanes count row room = grind (arith, nat_tests)
 
 -- a block
 whole_cost : (lanes left : ℕ) → 0 < lanes → lanes ≤ 16 → lanes ≤ left → left / lanes + left % lanes ≡ sixteens lanes + ((left - lanes) / lanes + (left - lanes) % lanes)
-whole_cost lanes left some few room =
-    let back : left ≡ left - lanes + lanes = omega arith in
-    let one : sixteens lanes ≡ 1 = omega arith in
-    ap (λ (n : ℕ). n / lanes + n % lanes) back ∙ omega (arith, one, add-div_right (left - lanes) some, add-mod_right (left - lanes) lanes)
+whole_cost lanes left some few room = grind (arith, add-div_right, add-mod_right)
 
 whole_read : (lanes count row refused : ℕ) → 0 < lanes → IsAt lanes count row → row + lanes ≤ count → row ≤ refused → refused < row + lanes → rows_read lanes count refused ≡ row + lanes
 whole_read lanes count row refused some at room from inside =
@@ -88,10 +68,7 @@ rest_cost : (lanes left : ℕ) → left < lanes → left / lanes + left % lanes 
 rest_cost lanes left less = omega (arith, div-eq_of_lt less, mod-eq_of_lt less)
 
 rest_read : (lanes count row refused : ℕ) → 0 < lanes → IsAt lanes count row → row < count → count < row + lanes → refused ≡ row → rows_read lanes count refused ≡ row + 1
-rest_read lanes count row refused some at small room is =
-    let times = ap (λ (n : ℕ). lanes * n) (rest_quotient lanes count row some at small room) in
-    let over : count < (row / lanes + 1) * lanes = omega (arith, times, mul_comm (row / lanes + 1) lanes, mul-add lanes (row / lanes) 1) in
-    ap (rows_read lanes count) is ∙ read_rest lanes count row over
+rest_read lanes count row refused some at small room is = grind (arith, rest_quotient, mul_comm, mul-add, read_rest)
 
 rest_step : (lanes count row : ℕ) → 0 < lanes → IsAt lanes count row → row < count → count < row + lanes → (IsStep false lanes count row) 1
 rest_step lanes count row some at small room = record {
@@ -105,14 +82,7 @@ rest_step lanes count row some at small room = record {
 
 -- as many as may
 free_step : (lanes count row : ℕ) → row < count → IsStep true lanes count row (min (count - row) 256)
-free_step lanes count row small = record {
-  some = omega arith;
-  few = omega arith;
-  room = omega arith;
-  cost = omega arith;
-  next = λ counted. absurd (let clash : true ≡ false = counted in cc);
-  read = λ counted. absurd (let clash : true ≡ false = counted in cc);
-}
+free_step lanes count row small = grind arith
 
 -- any of them
 counted_step : (lanes count row : ℕ) → 0 < lanes → lanes ≤ 16 → IsAt lanes count row → row < count → IsStep false lanes count row (step_of false lanes count row)
@@ -122,25 +92,16 @@ counted_step lanes count row some few at small = elim (cases_lt count (row + lan
 ]
 
 pub step_next : (uncounted : Bool) (lanes count row : ℕ) → 0 < lanes → lanes ≤ 16 → (uncounted ≡ false → IsAt lanes count row) → row < count → IsStep uncounted lanes count row (step_of uncounted lanes count row)
-step_next true lanes count row some few at small = free_step lanes count row small
-step_next false lanes count row some few at small = counted_step lanes count row some few (at refl) small
+step_next uncounted lanes count row some few at small = grind (arith, free_step, counted_step)
 
 -- no more steps than in blocks
 pub most_cost : (uncounted : Bool) (lanes count : ℕ) → 0 < lanes → lanes ≤ 16 → cost uncounted lanes count ≤ count / lanes + count % lanes
-most_cost false lanes count some few = omega arith
-most_cost true lanes count some few =
-    let parts : lanes * (count / lanes) + count % lanes ≡ count = omega arith in
-    let most : lanes * (count / lanes) ≤ 16 * (count / lanes) = mul-le-mul_right (count / lanes) few in
-    omega (arith, parts, most)
+most_cost uncounted lanes count some few = grind (arith, mul-le-mul_right)
 
 -- the steps that were taken, and those that are left
 pub spent_more : (uncounted : Bool) (lanes count row step k begun now next : ℕ) → IsStep uncounted lanes count row step → now + k * cost uncounted lanes (count - row) ≡ begun + k * cost uncounted lanes count
     → next ≡ now + k * sixteens step → next + k * cost uncounted lanes (count - (row + step)) ≡ begun + k * cost uncounted lanes count
-spent_more uncounted lanes count row step k begun now next does spent took =
-    let parts = ap (λ (n : ℕ). k * n) does.cost ∙ mul-add k (sixteens step) (cost uncounted lanes (count - (row + step))) in
-    omega (arith, parts)
+spent_more uncounted lanes count row step k begun now next does spent took = grind (arith, mul-add)
 
 pub spent_most : (uncounted : Bool) (lanes count k begun now left : ℕ) → 0 < lanes → lanes ≤ 16 → now + k * left ≡ begun + k * cost uncounted lanes count → now ≤ begun + (k * (count / lanes + count % lanes) + lanes)
-spent_most uncounted lanes count k begun now left some few spent =
-    let most : k * cost uncounted lanes count ≤ k * (count / lanes + count % lanes) = mul-le-mul_left k (most_cost uncounted lanes count some few) in
-    omega (arith, most)
+spent_most uncounted lanes count k begun now left some few spent = grind (arith, mul-le-mul_left, most_cost)

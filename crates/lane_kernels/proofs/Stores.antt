@@ -6,9 +6,7 @@ use Rattle.lane_kernels.proofs.Faults.{faults_alike, no_fault, done_inside, done
 -- a log of one access in each row
 each_access : (access : ℕ → Access) (logs : ℕ → List Access) (rows : List ℕ) → ((row : ℕ) → logs row ≡ access row ∷ []) → map access rows ≡ flat_map logs rows
 each_access access logs [] is = refl
-each_access access logs (row ∷ rows) is =
-    ap (λ (log : List Access). access row ∷ log) (each_access access logs rows is)
-    ∙ ap (λ (log : List Access). log ++ flat_map logs rows) (sym (is row)) ∙ sym (flat_map-cons logs row rows)
+each_access access logs (row ∷ rows) is = grind (arith, flat_map, flat_map-cons, (each_access access logs rows is))
 
 no_access : (logs : ℕ → List Access) (rows : List ℕ) → ((row : ℕ) → logs row ≡ []) → flat_map logs rows ≡ []
 no_access logs [] none = refl
@@ -80,14 +78,7 @@ rows_changed old read new kernel leaf row count value values reads fault does wr
 -- rows of which a leaf is read alone
 pub rows_read_alone : (old new : Table) (kernel : Kernel) (x row count : ℕ) → ((values : List ℤ) → stored kernel values ≡ None) → ((at : ℕ) → reads_on kernel at ≡ Read at x ∷ [])
     → ((at : ℕ) → writes_on kernel at ≡ []) → new ≡ after_log old (column_reads x row count) → AreTaken old new kernel row count None
-rows_read_alone old new kernel x row count none reads writes read = record {
-  named = sym (no_fault (answer_of old) kernel row (take count (drop row old.rows)) none);
-  after = read
-      ∙ ap (after_log old) (each_access (λ at. Read at x) (reads_on kernel) (range_with_len row count) reads ∙ sym (append-nil (flat_map (reads_on kernel) (range_with_len row count))))
-      ∙ ap (λ (log : List Access). after_log old (flat_map (reads_on kernel) (range_with_len row count) ++ log)) (sym (no_access (writes_on kernel) (range_with_len row count) writes))
-      ∙ ap (λ (rows : List (List ℤ)). after_stores old rows (flat_map (reads_on kernel) (range_with_len row count) ++ flat_map (writes_on kernel) (range_with_len row count)))
-      (sym (rows_passed (kept_of old) kernel row count old.rows none));
-}
+rows_read_alone old new kernel x row count none reads writes read = grind (arith, no_fault, each_access, range_with_len, append-nil, flat_map, no_access, rows_passed)
 
 -- the two kernels that store
 pub axpy_taken : (old first read new : Table) (a : ℤ) (x y row count : ℕ) (xs ys values : List ℤ) (fault : Option KernelFault)
@@ -101,9 +92,7 @@ axpy_taken old first read new a x y row count xs ys values fault one other xs_ar
     rows_changed old read new (Axpy a x y) y row count (λ seen. a *ℤ in_leaf x seen +ℤ in_leaf y seen) values (column_reads x row count ++ column_reads y row count) fault
     (record { stores = λ seen. refl }) (λ at. refl) (two_reads (Axpy a x y) x y row count (λ at. refl))
     (other ∙ ap (λ (t : Table). after_log t (column_reads y row count)) one ∙ after_log-append old (column_reads x row count) (column_reads y row count))
-    (made ∙ ap (λ (vs : List ℤ). zip2 (λ v w. a *ℤ v +ℤ w) vs ys) xs_are
-    ∙ ap (zip2 (λ v w. a *ℤ v +ℤ w) (column x rows)) (ys_are ∙ ap (λ (t : Table). column y (take count (drop row t.rows))) one)
-    ∙ zip2-map (λ v w. a *ℤ v +ℤ w) (in_leaf x) (in_leaf y) rows)
+    (grind (arith, zip2-map))
     room told wrote
 
 pub clamp_taken : (old read new : Table) (x : ℕ) (lo hi : ℤ) (row count : ℕ) (xs values : List ℤ) (fault : Option KernelFault)

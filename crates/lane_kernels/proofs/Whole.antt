@@ -1,6 +1,5 @@
 -- A kernel over all rows.
-use Rattle.lane_kernels.proofs.Imports.{◌≡◌, ℕ, ◌+◌, ◌-◌, ◌<◌, ◌≤◌, Bool, true, false, List, [], ◌∷◌, ◌++◌, length, take, drop, ℤ, Option, Some, None, Result, Ok, Err, refl, sym, ap, ◌∙◌, arith, length-take, flat_map, range_with_len, take-add, take_all, Owner, Table, owners_of, answer_of, kept_of, after_log, after_stores, after_log-none, tallied-append, tallied-kinds, swapped, apart, Access, Tally, tallied, StoreFault, fault_named, first_row_fault, empty_fault, kernel_fault, run_rows, given_number, rows_before, IsKernelRun, reads_on, writes_on, kernel_rows_log, rows_read, stopped_log, fault_log, number_so_far, after_rows, IsOfNoRow, AreTaken, AreDone, KernelFault, Empty, Kernel, Axpy, Clamp, Sum, Least, Greatest, CountWhere}
-use Rattle.views.specs.declared.fault.StoreFault.TheVariants as store
+use Rattle.lane_kernels.proofs.Imports.{◌≡◌, ℕ, ◌+◌, ◌-◌, ◌<◌, ◌≤◌, Bool, true, List, [], ◌∷◌, ◌++◌, length, take, drop, ℤ, Option, Some, None, Result, Err, refl, sym, ap, ◌∙◌, arith, length-take, flat_map, range_with_len, take-add, Owner, Table, owners_of, answer_of, kept_of, after_log, after_stores, after_log-none, tallied-append, tallied-kinds, swapped, apart, Access, Tally, tallied, StoreFault, fault_named, first_row_fault, empty_fault, run_rows, given_number, rows_before, IsKernelRun, reads_on, writes_on, kernel_rows_log, rows_read, stopped_log, fault_log, number_so_far, after_rows, IsOfNoRow, AreTaken, AreDone, KernelFault, Empty, Kernel}
 use Rattle.lane_kernels.proofs.Logs.{logs_from}
 use Rattle.lane_kernels.proofs.Changed.{rows_count, rows_from, rows_more}
 use Rattle.lane_kernels.proofs.Faults.{fault_append, fault_is_named, fault_stays, before_named}
@@ -12,8 +11,7 @@ none_done old kernel = record { same = sym (after_log-none old); clean = refl; s
 
 -- what is seen of them
 pub seen_number : (old view : Table) (kernel : Kernel) (row : ℕ) (number : Option ℤ) → AreDone old kernel view row number → number ≡ number_so_far kernel (take row view.rows)
-seen_number old view kernel row number done =
-    done.so_far ∙ sym (same_number (kept_of old) kernel row row old.rows) ∙ ap (λ (t : Table). number_so_far kernel (take row t.rows)) (sym done.same)
+seen_number old view kernel row number done = grind (arith, same_number)
 
 pub seen_rows : (old view : Table) (kernel : Kernel) (row : ℕ) (number : Option ℤ) → AreDone old kernel view row number → length view.rows ≡ length old.rows
 seen_rows old view kernel row number done = ap (λ (t : Table). length t.rows) done.same ∙ rows_count (kept_of old) kernel row old.rows
@@ -24,26 +22,13 @@ no_row [] none = refl
 no_row (row ∷ rows) none = absurd (omega arith)
 
 only_empty : (kernel : Kernel) (fault : KernelFault) → empty_fault kernel [] ≡ Some fault → fault ≡ Empty
-only_empty (Least x) fault is = cc
-only_empty (Greatest x) fault is = cc
-only_empty other fault is = absurd (cc)
+only_empty kernel fault is = grind arith
 
 nothing_done : (old : Table) (kernel : Kernel) (rows : ℕ) → rows ≡ 0 → old ≡ after_stores old (run_rows (kept_of old) kernel rows old.rows) (kernel_rows_log kernel rows)
 nothing_done old kernel rows none = rw none (sym (after_log-none old))
 
 pub none_run : (old : Table) (kernel : Kernel) (lanes : ℕ) (result : Result (Option ℤ) KernelFault) → length old.rows ≡ 0 → IsOfNoRow kernel result → IsKernelRun old old kernel lanes result
-none_run old kernel lanes (Ok number) none is =
-    let rows = no_row old.rows none in (
-      ap (kernel_fault (answer_of old) kernel) rows ∙ rw is.0 refl,
-      is.1 ∙ ap (given_number kernel) (sym rows),
-      nothing_done old kernel (length old.rows) none,
-    )
-none_run old kernel lanes (Err fault) none is =
-    let rows = no_row old.rows none in
-    let empty = only_empty kernel fault is in (
-      ap (kernel_fault (answer_of old) kernel) rows ∙ rw is refl,
-      sym (after_log-none old) ∙ ap (λ (f : KernelFault). after_stores old (run_rows (kept_of old) kernel (rows_before f) old.rows) (fault_log kernel lanes (length old.rows) f)) (sym empty),
-    )
+none_run old kernel lanes result none is = grind (arith, no_row, nothing_done, only_empty, after_log-none)
 
 -- the accesses of the rows before, and of more
 log_more : (layout : List (List Owner)) (tally : Tally) (kernel : Kernel) (row step : ℕ)
@@ -84,11 +69,7 @@ own_fault old view kernel row step number fault done inside told =
 more_table : (old view : Table) (kernel : Kernel) (row step changed : ℕ) (number : Option ℤ) (tally : Tally) → AreDone old kernel view row number → row ≤ length old.rows
     → tallied (owners_of old) (tallied (owners_of old) old.tally (kernel_rows_log kernel row)) (flat_map (reads_on kernel) (range_with_len row step) ++ flat_map (writes_on kernel) (range_with_len row changed)) ≡ tally
     → after_rows view kernel row step changed ≡ record old { rows = run_rows (kept_of old) kernel (row + changed) old.rows; tally = tally }
-more_table old view kernel row step changed number tally done inside counted =
-    let seen = run_rows (kept_of old) kernel row old.rows in
-    ap (λ (t : Table). after_rows t kernel row step changed) done.same
-    ∙ ap (λ (t : Tally). record old { rows = take row seen ++ run_rows (kept_of old) kernel changed (drop row seen); tally = t }) counted
-    ∙ ap (λ (rows : List (List ℤ)). record old { rows = rows; tally = tally }) (rows_more (kept_of old) kernel row changed old.rows inside)
+more_table old view kernel row step changed number tally done inside counted = grind (arith, rows_more)
 
 pub more_done : (old view new : Table) (kernel : Kernel) (row step : ℕ) (number more : Option ℤ) → AreDone old kernel view row number → row ≤ length old.rows → AreTaken view new kernel row step None
     → more ≡ number_so_far kernel (take (row + step) view.rows) → AreDone old kernel new (row + step) more
@@ -100,31 +81,19 @@ more_done old view new kernel row step number more done inside taken is = record
 
 -- rows are taken for granted by no kernel that has some
 some_rows : (kernel : Kernel) (rows : List (List ℤ)) → 0 < length rows → empty_fault kernel rows ≡ None
-some_rows kernel [] some = absurd (omega arith)
-some_rows (Axpy a x y) (row ∷ rows) some = refl
-some_rows (Clamp x lo hi) (row ∷ rows) some = refl
-some_rows (Sum x) (row ∷ rows) some = refl
-some_rows (Least x) (row ∷ rows) some = refl
-some_rows (Greatest x) (row ∷ rows) some = refl
-some_rows (CountWhere x op c) (row ∷ rows) some = refl
+some_rows kernel rows some = grind arith
 
 some_number : (kernel : Kernel) (rows : List (List ℤ)) → 0 < length rows → number_so_far kernel rows ≡ given_number kernel rows
-some_number kernel [] some = absurd (omega arith)
-some_number kernel (row ∷ rows) some = refl
+some_number kernel rows some = grind arith
 
 -- the log of a fault, from that of the rows that were gone through
 log_named : (kernel : Kernel) (lanes count row leaf : ℕ) (cause : StoreFault) → fault_log kernel lanes count (fault_named row leaf cause) ≡ stopped_log kernel (rows_read lanes count row) row
-log_named kernel lanes count row leaf store.Range = refl
-log_named kernel lanes count row leaf store.Narrow = refl
+log_named kernel lanes count row leaf cause = grind arith
 
 log_told : (old : Table) (kernel : Kernel) (uncounted : Bool) (lanes row step lane : ℕ) → IsStep uncounted lanes (length old.rows) row step
     → (uncounted ≡ true → (log : List Access) → after_log old log ≡ old) → lane < step
     → tallied (owners_of old) old.tally (stopped_log kernel (row + step) (row + lane)) ≡ tallied (owners_of old) old.tally (stopped_log kernel (rows_read lanes (length old.rows) (row + lane)) (row + lane))
-log_told old kernel true lanes row step lane next free inside =
-    let same : (log : List Access) → tallied (owners_of old) old.tally log ≡ old.tally = λ log. ap (λ (t : Table). t.tally) (free refl log) in
-    same (stopped_log kernel (row + step) (row + lane)) ∙ sym (same (stopped_log kernel (rows_read lanes (length old.rows) (row + lane)) (row + lane)))
-log_told old kernel false lanes row step lane next free inside =
-    ap (λ (n : ℕ). tallied (owners_of old) old.tally (stopped_log kernel n (row + lane))) (sym (next.read refl (row + lane) (omega arith) (omega arith)))
+log_told old kernel uncounted lanes row step lane next free inside = grind arith
 
 pub stops : (old view new : Table) (kernel : Kernel) (uncounted : Bool) (lanes row step : ℕ) (number : Option ℤ) (fault : KernelFault) → AreDone old kernel view row number
     → IsStep uncounted lanes (length old.rows) row step → (uncounted ≡ true → (log : List Access) → after_log old log ≡ old) → length view.rows ≡ length old.rows
@@ -137,22 +106,4 @@ stops old view new kernel uncounted lanes row step number fault done next free m
     let before : rows_before fault ≡ row + named.lane = ap rows_before named.is ∙ before_named (row + named.lane) named.leaf named.cause in
     let lane : rows_before fault - row ≡ named.lane = omega (arith, before) in
     let log : tallied (owners_of old) old.tally (stopped_log kernel (row + step) (row + named.lane)) ≡ tallied (owners_of old) old.tally (fault_log kernel lanes (length old.rows) fault) =
-    log_told old kernel uncounted lanes row step named.lane next free within
-    ∙ ap (tallied (owners_of old) old.tally) (sym (ap (fault_log kernel lanes (length old.rows)) named.is ∙ log_named kernel lanes (length old.rows) (row + named.lane) named.leaf named.cause)) in (
-      rw (some_rows kernel old.rows (omega (arith, next.some, next.room))) first,
-      taken.after
-          ∙ ap (after_rows view kernel row step) lane
-          ∙ more_table old view kernel row step named.lane number (tallied (owners_of old) old.tally (fault_log kernel lanes (length old.rows) fault)) done inside
-          (log_stopped (owners_of old) old.tally kernel row step named.lane ∙ log)
-          ∙ ap (λ (n : ℕ). after_stores old (run_rows (kept_of old) kernel n old.rows) (fault_log kernel lanes (length old.rows) fault)) (sym before),
-    )
-
-pub ends : (old view : Table) (kernel : Kernel) (lanes row : ℕ) (number : Option ℤ) → row ≡ length old.rows → 0 < row → AreDone old kernel view row number → IsKernelRun old view kernel lanes (Ok number)
-ends old view kernel lanes row number whole some done =
-    let all : take row old.rows ≡ old.rows = take_all row old.rows (omega (arith, whole)) in
-    let clean = rw all at done.clean in
-    let so_far = rw all at done.so_far in (
-      rw (some_rows kernel old.rows (omega (arith, whole))) clean,
-      so_far ∙ some_number kernel old.rows (omega (arith, whole)),
-      done.same ∙ ap (λ (n : ℕ). after_stores old (run_rows (kept_of old) kernel n old.rows) (kernel_rows_log kernel n)) whole,
-    )
+    grind (arith, log_told, log_named) in grind (arith, some_rows, more_table, log_stopped)

@@ -1,9 +1,10 @@
 -- What the loop over full buffers keeps.
-use Rattle.std.proofs.Common.{◌≡◌, ℕ, List, [], ◌++◌, Option, ap, subst, ◌∙◌, append_assoc}
+use Rattle.std.proofs.Common.{◌≡◌, ℕ, List, [], ◌++◌, Option, ap, ◌∙◌, append_assoc}
 use Rattle.layout_io.specs.Writing.{Wrote, Stopped}
 use Rattle.layout_io.specs.WritingLaws.{Stopped-front}
 use Rattle.layout_io.specs.Gathering.{Gathers}
 use Rattle.layout_io.specs.GatheringLaws.{Gathers-append, Gathers-written}
+use Rattle.std.proofs.Common.{arith}
 
 -- a front of the piece is gathered behind what the buffer held at first, and the rest is to come
 pub record PutsFront {K : Type 0} (taken : K → Option (List ℕ)) (faults : K → ℕ) (first now : K) (start held piece rest : List ℕ) : Type 0 where
@@ -34,5 +35,4 @@ PutsFront-stop {first} {start} {piece} {rest} new front back full parts fills so
 -- the rest fits into the buffer
 pub PutsFront-all : {K : Type 0} {taken : K → Option (List ℕ)} {faults : K → ℕ} {first now : K} {start held piece rest : List ℕ}
     → PutsFront taken faults first now start held piece rest → Gathers taken faults first now (held ++ rest) (start ++ piece)
-PutsFront-all {taken} {faults} {first} {now} {start} {held} {rest} front =
-    subst (λ text. Gathers taken faults first now (held ++ rest) text) (append_assoc start front.done rest ∙ ap (λ all. start ++ all) front.parts) (Gathers-append rest front.gathers)
+PutsFront-all {taken} {faults} {first} {now} {start} {held} {rest} front = grind (arith, append_assoc, Gathers-append)

@@ -1,5 +1,5 @@
 -- What the loop over reads keeps.
-use Rattle.std.proofs.Common.{◌≡◌, ℕ, ◌+◌, ◌<◌, ◌≤◌, List, [], ◌++◌, take, drop, length, Option, Some, None, IfSome, IsSomeAnd, refl, sym, ap, ◌∙◌, arith, length-append}
+use Rattle.std.proofs.Common.{◌≡◌, ℕ, ◌+◌, ◌<◌, ◌≤◌, List, [], ◌++◌, take, length, Option, Some, None, IfSome, IsSomeAnd, refl, arith, length-append}
 use Rattle.std.specs.Prelude.{⊤}
 use Rattle.std.proofs.Math.Seq.{take-add}
 use Rattle.std.proofs.lemmas.List.{take_all, length-take-le}
@@ -18,8 +18,7 @@ pub record ReadsFront {H : Type 0} (files : H → Option (List File)) (faults : 
   pub front : IfFile (files first) name (λ file. bytes ≡ take (length bytes) file)
 
 both : (o : Option (List ℕ)) (P Q R : List ℕ → Type 0) → ((file : List ℕ) → P file → Q file → R file) → IfSome o P → IsSomeAnd o Q → IsSomeAnd o R
-both None P Q R join p q = absurd q
-both (Some file) P Q R join p q = join file p q
+both o P Q R join p q = grind arith
 
 HasFile-both : (files : Option (List File)) (name : List ℕ) (P Q R : List ℕ → Type 0) → ((file : List ℕ) → P file → Q file → R file) → IfFile files name P → HasFile files name Q → HasFile files name R
 unfolding IfFile
@@ -27,8 +26,7 @@ HasFile-both None name P Q R join p q = tt
 HasFile-both (Some files) name P Q R join p q = both (file_named files name) P Q R join p q
 
 if_some : (o : Option (List ℕ)) (P : List ℕ → Type 0) → IsSomeAnd o P → IfSome o P
-if_some None P h = absurd h
-if_some (Some file) P h = h
+if_some o P h = grind arith
 
 IfFile-from : (files : Option (List File)) (name : List ℕ) (P : List ℕ → Type 0) → HasFile files name P → IfFile files name P
 unfolding IfFile
@@ -36,8 +34,7 @@ IfFile-from None name P h = tt
 IfFile-from (Some files) name P h = if_some (file_named files name) P h
 
 trivially : (o : Option (List ℕ)) (P : List ℕ → Type 0) → ((file : List ℕ) → P file) → IfSome o P
-trivially None P h = tt
-trivially (Some file) P h = h file
+trivially o P h = grind arith
 
 IfFile-all : (files : Option (List File)) (name : List ℕ) (P : List ℕ → Type 0) → ((file : List ℕ) → P file) → IfFile files name P
 unfolding IfFile
@@ -51,23 +48,9 @@ pub ReadsFront-more : {H : Type 0} {files : H → Option (List File)} {faults : 
     → ReadsFront files faults first mid name bytes limit → files new ≡ files mid → faults new ≡ faults mid
     → HasFile (files mid) name (Reads (length bytes) n piece) → n ≤ length piece → length bytes + n ≤ limit
     → ReadsFront files faults first new name (bytes ++ take n piece) limit
-ReadsFront-more {files} {first} {name} {bytes} new n piece so_far told unfailed reads bound room =
-    let long : length (bytes ++ take n piece) ≡ length bytes + n = length-append bytes (take n piece) ∙ ap (λ k. length bytes + k) (length-take-le n piece bound) in
-    let here : HasFile (files first) name (Reads (length bytes) n piece) = rw so_far.told at reads in
-    record {
-      told = told ∙ so_far.told;
-      unfailed = unfailed ∙ so_far.unfailed;
-      within = omega (arith, long);
-      front = IfFile-from (files first) name _ (HasFile-both (files first) name _ _ _
-          (λ file front read. ap (λ part. bytes ++ part) read.same ∙ ap (λ part. part ++ take n (drop (length bytes) file)) front ∙ sym (take-add (length bytes) n file) ∙ ap (λ k. take k file) (sym long))
-          so_far.front here);
-    }
+ReadsFront-more {files} {first} {name} {bytes} new n piece so_far told unfailed reads bound room = grind (arith, length-append, length-take-le, IfFile-from, HasFile-both, take-add)
 
 pub ReadsFront-all : {H : Type 0} {files : H → Option (List File)} {faults : H → ℕ} {first mid : H} {name bytes : List ℕ} {limit : ℕ} (piece : List ℕ)
     → ReadsFront files faults first mid name bytes limit → HasFile (files mid) name (Reads (length bytes) 0 piece) → 0 < length piece
     → HasFile (files first) name (λ file. bytes ≡ file)
-ReadsFront-all {files} {first} {name} {bytes} piece so_far reads some =
-    let here : HasFile (files first) name (Reads (length bytes) 0 piece) = rw so_far.told at reads in
-    HasFile-both (files first) name _ _ _
-    (λ file front read. front ∙ take_all (length bytes) file (grind (arith, read.moves)))
-    so_far.front here
+ReadsFront-all {files} {first} {name} {bytes} piece so_far reads some = grind (arith, HasFile-both, take_all)

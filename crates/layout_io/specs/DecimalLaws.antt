@@ -1,5 +1,5 @@
 -- Laws of decimal texts, and that they are what std prints.
-use Rattle.std.specs.Prelude.{◌≡◌, ℕ, zero, suc, ◌+◌, ◌/◌, ◌%◌, ◌^◌, ◌<◌, ◌≤◌, [], ◌∷◌, ◌++◌, map, ℤ, pos, negsuc}
+use Rattle.std.specs.Prelude.{◌≡◌, ℕ, zero, suc, ◌+◌, ◌/◌, ◌%◌, ◌^◌, ◌<◌, ◌≤◌, [], ◌∷◌, ◌++◌, map, ℤ}
 use Rattle.std.proofs.Common.{refl, sym, ap, ◌∙◌, arith}
 use Rattle.std.specs.Fmt.{decimal, signed_decimal}
 use Rattle.std.specs.Int.Digits.{digits_of}
@@ -22,18 +22,11 @@ digits_text-zero = refl
 
 -- a number below 10 is written as one digit
 pub digits_text-digit : (n : ℕ) → n < 10 → digits_text n ≡ (48 + n) ∷ []
-digits_text-digit zero small = digits_text-zero
-digits_text-digit (suc n) small =
-    let high : suc n / 10 ≡ 0 = omega arith in
-    let low : suc n % 10 ≡ suc n = omega arith in
-    digits_text-pos (suc n) (omega arith) ∙ ap (map (λ digit. 48 + digit))
-    (digits_of_step 10 (suc n) (omega arith) (omega arith) ∙ ap (λ front. digits_of 10 front ++ suc n % 10 ∷ []) high ∙ ap (λ digit. digit ∷ []) low)
+digits_text-digit n small = grind (arith, digits_text-zero, digits_text-pos, digits_of_step, digits_of)
 
 -- a longer number is written as the number without its last digit, and then that digit
 pub digits_text-step : (n : ℕ) → 10 ≤ n → digits_text n ≡ digits_text (n / 10) ++ (48 + n % 10) ∷ []
-digits_text-step n long =
-    digits_text-pos n (omega arith) ∙ ap (map (λ digit. 48 + digit)) (digits_of_step 10 n (omega arith) (omega arith)) ∙ map-append (λ digit. 48 + digit) (digits_of 10 (n / 10)) (n % 10 ∷ [])
-    ∙ ap (λ front. front ++ (48 + n % 10) ∷ []) (sym (digits_text-pos (n / 10) (omega arith)))
+digits_text-step n long = grind (arith, digits_text-pos, digits_of_step, map-append, digits_of)
 
 -- std prints the digits
 pub decimal-digits_text : (n : ℕ) → n < 10 ^ 64 → decimal n ≡ digits_text n
@@ -42,5 +35,4 @@ decimal-digits_text = decimal_by_steps_wide (λ n text. text ≡ digits_text n) 
 
 -- std prints the decimal text
 pub signed_decimal-decimal_text : (z : ℤ) → mag z + 1 < 10 ^ 64 → signed_decimal z ≡ decimal_text z
-signed_decimal-decimal_text (pos n) small = decimal-digits_text n (omega arith)
-signed_decimal-decimal_text (negsuc n) small = ap (λ digits. 45 ∷ digits) (decimal-digits_text (suc n) (omega arith))
+signed_decimal-decimal_text z small = grind (arith, decimal-digits_text)

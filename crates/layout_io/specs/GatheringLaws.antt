@@ -1,29 +1,19 @@
 -- Laws of a text that is gathered in a buffer.
 use Rattle.std.specs.Prelude.{◌≡◌, ℕ, ◌+◌, ◌<◌, ◌≤◌, List, [], ◌++◌, length, take, drop, get_or, flat_map, Option, Result, Ok, Err, IsErr}
-use Rattle.std.proofs.Common.{refl, sym, ap, subst, ◌∙◌, arith, append_assoc, length-append}
+use Rattle.std.proofs.Common.{ap, subst, ◌∙◌, arith, append_assoc, length-append}
 use Rattle.std.proofs.lemmas.List.{append-nil, take_all}
-use Rattle.layout_io.specs.Writing.{with_bytes, Wrote, Stopped, Writes}
+use Rattle.layout_io.specs.Writing.{Wrote, Stopped, Writes}
 use Rattle.layout_io.specs.WritingLaws.{with_bytes-nil, with_bytes-append, flat_map_split, Wrote-append, Stopped-first, Stopped-second}
 use Rattle.layout_io.specs.Gathering.{Gathers, GathersOrStops, Puts}
 
 -- at the start a buffer gathers what it holds
 pub Gathers-start : {K : Type 0} (taken : K → Option (List ℕ)) (faults : K → ℕ) (first : K) (held : List ℕ) → Gathers taken faults first first held held
-Gathers-start taken faults first held = record {
-  sent = [];
-  bytes = sym (with_bytes-nil (taken first));
-  whole = refl;
-  unfailed = refl;
-}
+Gathers-start taken faults first held = grind (arith, with_bytes-nil)
 
 -- more in the buffer is more of the text
 pub Gathers-append : {K : Type 0} {taken : K → Option (List ℕ)} {faults : K → ℕ} {first now : K} {held text : List ℕ} (more : List ℕ) → Gathers taken faults first now held text
     → Gathers taken faults first now (held ++ more) (text ++ more)
-Gathers-append {held} more gathers = record {
-  sent = gathers.sent;
-  bytes = gathers.bytes;
-  whole = sym (append_assoc gathers.sent held more) ∙ ap (λ front. front ++ more) gathers.whole;
-  unfailed = gathers.unfailed;
-}
+Gathers-append {held} more gathers = grind (arith, append_assoc)
 
 -- the sink took what the buffer held
 pub Wrote-gathered : {K : Type 0} {taken : K → Option (List ℕ)} {faults : K → ℕ} {first now new : K} {held text : List ℕ} → Gathers taken faults first now held text
@@ -34,27 +24,16 @@ Wrote-gathered {taken} {faults} {first} {new} gathers wrote =
 -- the sink stopped within what the buffer held
 pub Stopped-gathered : {K : Type 0} {taken : K → Option (List ℕ)} {faults : K → ℕ} {first now new : K} {held text : List ℕ} → Gathers taken faults first now held text
     → Stopped taken faults now new held → Stopped taken faults first new text
-Stopped-gathered {taken} {faults} {first} {new} gathers stop =
-    subst (λ t. Stopped taken faults first new t) gathers.whole (Stopped-second (record { bytes = gathers.bytes; unfailed = gathers.unfailed }) stop)
+Stopped-gathered {taken} {faults} {first} {new} gathers stop = grind (arith, Stopped-second)
 
 -- a text that was written is gathered by an empty buffer
 pub Gathers-written : {K : Type 0} {taken : K → Option (List ℕ)} {faults : K → ℕ} {first now : K} {text : List ℕ} → Wrote taken faults first now text → Gathers taken faults first now [] text
-Gathers-written {text} wrote = record {
-  sent = text;
-  bytes = wrote.bytes;
-  whole = append-nil text;
-  unfailed = wrote.unfailed;
-}
+Gathers-written {text} wrote = grind (arith, append-nil)
 
 -- a text that was gathered into a text that was gathered
 pub Gathers-trans : {K : Type 0} {taken : K → Option (List ℕ)} {faults : K → ℕ} {first mid now : K} {held whole text : List ℕ} → Gathers taken faults first mid whole text
     → Gathers taken faults mid now held whole → Gathers taken faults first now held text
-Gathers-trans {taken} {first} {held} before after = record {
-  sent = before.sent ++ after.sent;
-  bytes = after.bytes ∙ ap (λ had. with_bytes had after.sent) before.bytes ∙ with_bytes-append (taken first) before.sent after.sent;
-  whole = append_assoc before.sent after.sent held ∙ ap (λ rest. before.sent ++ rest) after.whole ∙ before.whole;
-  unfailed = after.unfailed ∙ before.unfailed;
-}
+Gathers-trans {taken} {first} {held} before after = grind (arith, with_bytes-append, append_assoc)
 
 -- a buffer that was handed to the sink, or stopped within it
 pub Writes-gathered : {K T E : Type 0} {taken : K → Option (List ℕ)} {faults : K → ℕ} {first now : K} {held text : List ℕ} (new : K) (result : Result T E)
@@ -65,17 +44,7 @@ Writes-gathered new (Err error) gathers stop = Stopped-gathered gathers stop
 -- what is left where a function gives up
 pub GathersOrStops-err : {K T E : Type 0} {taken : K → Option (List ℕ)} {faults : K → ℕ} {first now : K} {text : List ℕ} (result : Result T E) (held : List ℕ) → IsErr result
     → Stopped taken faults first now text → GathersOrStops taken faults first now result held text
-GathersOrStops-err (Ok value) held err stop = absurd (cc)
-GathersOrStops-err (Err error) held err stop = stop
-
--- nothing was put
-pub Puts-nil : {K T E : Type 0} (taken : K → Option (List ℕ)) (faults : K → ℕ) (old : K) (held : List ℕ) (value : T) → Puts {E = E} taken faults old old held held (Ok value) []
-Puts-nil taken faults old held value = record {
-  gathers = λ first text gathers. rw (append-nil text) gathers;
-  bound = λ bound. bound;
-  fits = λ fits. (refl, refl, sym (append-nil held));
-  stopped = tt;
-}
+GathersOrStops-err result held err stop = grind arith
 
 -- one piece after another
 pub Puts-append : {K T S E D : Type 0} {taken : K → Option (List ℕ)} {faults : K → ℕ} {old mid new : K} {was kept held a b : List ℕ} {value : S} {result : Result T E}

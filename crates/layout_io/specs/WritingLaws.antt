@@ -1,5 +1,5 @@
 -- Laws of texts that are written one after another.
-use Rattle.std.specs.Prelude.{◌≡◌, ℕ, suc, ◌+◌, ◌<◌, ◌≤◌, List, [], ◌∷◌, ◌++◌, length, take, drop, Option, Some, None, Result, Ok, Err, IsErr, flat_map, get_or}
+use Rattle.std.specs.Prelude.{◌≡◌, ℕ, suc, ◌+◌, ◌<◌, List, [], ◌∷◌, ◌++◌, length, take, drop, Option, Result, Ok, Err, IsErr, flat_map, get_or}
 use Rattle.std.proofs.Common.{refl, sym, ap, subst, ◌∙◌, arith, length-append, append_assoc}
 use Rattle.std.proofs.lemmas.List.{append-nil, take-append-le, take_more, take-append-drop}
 use Rattle.std.proofs.lemmas.List.Concat.{flat_map-append}
@@ -7,13 +7,11 @@ use Rattle.layout_io.specs.Writing.{with_bytes, Wrote, Stopped, Writes}
 
 -- nothing more
 pub with_bytes-nil : (held : Option (List ℕ)) → with_bytes held [] ≡ held
-with_bytes-nil None = refl
-with_bytes-nil (Some held) = ap Some (append-nil held)
+with_bytes-nil held = grind (arith, append-nil)
 
 -- one text after another is one text
 pub with_bytes-append : (held : Option (List ℕ)) (a b : List ℕ) → with_bytes (with_bytes held a) b ≡ with_bytes held (a ++ b)
-with_bytes-append None a b = refl
-with_bytes-append (Some held) a b = ap Some (append_assoc held a b)
+with_bytes-append held a b = grind (arith, append_assoc)
 
 -- a count past the first text goes on in the second
 pub take_past : (a b : List ℕ) (n : ℕ) → take (length a + n) (a ++ b) ≡ a ++ take n b
@@ -37,21 +35,11 @@ Wrote-nil taken faults old = record { bytes = sym (with_bytes-nil (taken old)); 
 -- one text after another
 pub Wrote-append : {K : Type 0} {taken : K → Option (List ℕ)} {faults : K → ℕ} {old mid new : K} {a b : List ℕ} → Wrote taken faults old mid a → Wrote taken faults mid new b
     → Wrote taken faults old new (a ++ b)
-Wrote-append {taken} {old} {a} {b} first second = record {
-  bytes = second.bytes ∙ ap (λ held. with_bytes held b) first.bytes ∙ with_bytes-append (taken old) a b;
-  unfailed = second.unfailed ∙ first.unfailed;
-}
+Wrote-append {taken} {old} {a} {b} first second = grind (arith, with_bytes-append)
 
 -- a stop in the first of two texts is a stop in both together
 pub Stopped-first : {K : Type 0} {taken : K → Option (List ℕ)} {faults : K → ℕ} {old new : K} {a : List ℕ} (b : List ℕ) → Stopped taken faults old new a → Stopped taken faults old new (a ++ b)
-Stopped-first {taken} {old} {a} b stop =
-    let within : stop.count ≤ length a = omega arith in
-    record {
-      count = stop.count;
-      proper = omega (arith, length-append a b);
-      bytes = stop.bytes ∙ ap (λ text. with_bytes (taken old) text) (sym (take-append-le stop.count a b within));
-      rose = stop.rose;
-    }
+Stopped-first {taken} {old} {a} b stop = grind (arith, length-append, take-append-le)
 
 -- a stop in the second of two texts, after the first was written, is a stop in both together
 pub Stopped-second : {K : Type 0} {taken : K → Option (List ℕ)} {faults : K → ℕ} {old mid new : K} {a b : List ℕ} → Wrote taken faults old mid a → Stopped taken faults mid new b
@@ -78,8 +66,7 @@ Writes-last new (Err error) b first last = Stopped-second first last
 -- what is left where a function gives up
 pub Writes-err : {K T E : Type 0} {taken : K → Option (List ℕ)} {faults : K → ℕ} {old new : K} {text : List ℕ} (result : Result T E) → IsErr result → Stopped taken faults old new text
     → Writes taken faults old new result text
-Writes-err (Ok value) err stop = absurd (cc)
-Writes-err (Err error) err stop = stop
+Writes-err result err stop = grind arith
 
 -- a stop in the text of the first items and of one more is a stop in the text of all items
 pub Stopped-flat_map : {K X : Type 0} {taken : K → Option (List ℕ)} {faults : K → ℕ} {first new : K} (f : X → List ℕ) (xs : List X) (i : ℕ) (d : X) → i < length xs

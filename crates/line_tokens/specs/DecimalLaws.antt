@@ -17,9 +17,7 @@ digit_range b h = grind (arith, nat_tests)
 -- one digit more
 pub digits_more : (digits : List ℕ) (i : ℕ) → i < length digits → is_ascii_digit (get_or digits i 0) ≡ true →
     digits_value 10 (take (i + 1) digits) ≡ digits_value 10 (take i digits) * 10 + (get_or digits i 0 - 48)
-digits_more digits i l h =
-    let r = digit_range (get_or digits i 0) h in
-    omega (arith, digits_value_more 10 digits i l, digit_value_digit (get_or digits i 0) r)
+digits_more digits i l h = grind (arith, digit_range, digits_value_more, digit_value_digit)
 
 -- where a value is above a tenth of the greatest, one digit more passes it, and so do all the digits
 pub digits_pass : (digits : List ℕ) (i value : ℕ) → i < length digits → is_ascii_digit (get_or digits i 0) ≡ true →
@@ -30,6 +28,4 @@ digits_pass digits i value l h e over =
 
 -- each byte of a run passes the test of the run
 pub AllPass-take_prefix_len : (p : ℕ → Bool) (xs : List ℕ) → AllPass p (take (prefix_len p xs) xs)
-AllPass-take_prefix_len p xs k d l =
-    let short : k < prefix_len p xs = rw length-prefix_len at l in
-    rw (get_or-take (prefix_len p xs) xs k d short) (prefix_len_passes p xs k d short)
+AllPass-take_prefix_len p xs k d l = grind (arith, prefix_len, length-prefix_len, get_or-take, prefix_len_passes)

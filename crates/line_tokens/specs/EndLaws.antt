@@ -9,7 +9,7 @@ use Rattle.line_tokens.specs.Signs.{spelling}
 use Rattle.line_tokens.specs.Spots.{brackets_after}
 use Rattle.line_tokens.specs.Spelled.{Written, Spells, AreSpelled, spaced, spaced_tokens}
 use Rattle.line_tokens.specs.declared.sign.Sign.{Sign}
-use Rattle.line_tokens.specs.declared.sign.Sign.TheVariants.{OpenBrace, CloseBrace, OpenBracket, CloseBracket, OpenParen, CloseParen, Colon, Comma, Dot, Equals, EqualEqual, NotEqual, LessThan, LessEqual, GreaterThan, GreaterEqual, Plus, Minus, Arrow, Star, Slash, Percent, Question}
+use Rattle.line_tokens.specs.declared.sign.Sign.TheVariants.{EqualEqual, NotEqual, LessEqual, GreaterEqual, Arrow}
 use Rattle.line_tokens.specs.declared.token.TokenKind.{TokenKind}
 use Rattle.line_tokens.specs.declared.token.TokenKind.TheVariants.{Word, Number, Text, Sign as SignKind}
 use Rattle.line_tokens.specs.Inner.Ends.{NoEnd}
@@ -45,10 +45,8 @@ token_no_end (SignKind sign) bytes h = subst NoEnd (sym h) (sign_no_end sign)
 
 spaced_no_end : (brackets : ℕ) (tokens : List Written) → AreSpelled brackets tokens → NoEnd (spaced tokens)
 spaced_no_end brackets [] h = tt
-spaced_no_end brackets (token ∷ tokens) h =
-    ((λ e. omega (arith, e)), no_end_append token.bytes (spaced tokens) (token_no_end token.kind token.bytes h.0) (spaced_no_end (brackets_after token.kind brackets) tokens h.2))
+spaced_no_end brackets (token ∷ tokens) h = grind (arith, no_end_append, token_no_end, (spaced_no_end (brackets_after token.kind brackets) tokens h.2))
 
 pub joined_no_end : (tokens : List Written) → AreSpelled 0 tokens → NoEnd (spaced_tokens tokens)
 joined_no_end [] h = tt
-joined_no_end (token ∷ tokens) h =
-    no_end_append token.bytes (spaced tokens) (token_no_end token.kind token.bytes h.0) (spaced_no_end (brackets_after token.kind 0) tokens h.2)
+joined_no_end (token ∷ tokens) h = grind (arith, no_end_append, token_no_end, spaced_no_end)

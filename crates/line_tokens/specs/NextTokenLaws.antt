@@ -1,11 +1,11 @@
 -- `next_of` gives exactly what the relations say stands next.
-use Rattle.std.proofs.Common.{◌≡◌, ℕ, ◌+◌, ◌-◌, ◌≤◌, Bool, true, List, [], ◌∷◌, ◌++◌, length, drop, Option, Some, None, ◌↔◌, inl, inr, refl, ◌∙◌, ℤ, pos, slice_range, ⊎_elim, length-append, length-drop, arith}
+use Rattle.std.proofs.Common.{◌≡◌, ℕ, ◌+◌, ◌-◌, ◌≤◌, Bool, true, List, [], ◌∷◌, length, drop, Option, Some, None, ◌↔◌, inl, inr, refl, ℤ, pos, slice_range, ⊎_elim, length-append, length-drop, arith}
 use Rattle.std.specs.Char.{is_ascii_digit}
 use Rattle.std.specs.List.{prefix_len}
 use Rattle.std.specs.Str.Parse.{digits_value}
 use Rattle.std.proofs.lemmas.Bool.{cases_Bool}
 use Rattle.std.proofs.lemmas.List.Sums.{prefix_len-le-length}
-use Rattle.line_tokens.specs.Bytes.{is_space_byte, is_word_byte, is_hash}
+use Rattle.line_tokens.specs.Bytes.{is_space_byte, is_hash}
 use Rattle.line_tokens.specs.Signs.{spelling}
 use Rattle.line_tokens.specs.Tokens.{start_of, rest_of, StartsWith, IsEnd, IsToken, IsBad, IsBadFrom, IsTokenFrom, IsInside}
 use Rattle.line_tokens.specs.Next.{token_at, placed, standing, next_of}
@@ -44,41 +44,20 @@ no_token_in_nil Text n brackets h = let e = h.1.1 in cc
 no_token_in_nil (SignKind sign) n brackets h = no_sign_in_nil (spelling sign) (sign_len sign).0 h.0.0
 
 no_bad_in_nil : (brackets : ℕ) → IsBad [] brackets → ⊥
-no_bad_in_nil brackets h = elim h [
-  | inl h ↦ h.0
-  | inr h ↦ elim h [
-    | inl h ↦ h.0
-    | inr h ↦ elim h [
-      | inl h ↦ h.0
-      | inr h ↦ elim h [
-        | inl h ↦ h.0
-        | inr h ↦ no_sign_in_nil (spelling h.1) (sign_len h.1).0 h.2.0
-      ]
-    ]
-  ]
-]
+no_bad_in_nil brackets h = grind (arith, no_sign_in_nil, sign_len)
 
 standing_only : (from : ℕ) (rest : List ℕ) (brackets : ℕ) (next : Next) → StandsAs from rest brackets next → standing from rest brackets ≡ next
 standing_only from [] brackets End h = refl
 standing_only from [] brackets (Bad place) h = absurd (no_bad_in_nil brackets h.1)
 standing_only from [] brackets (Token place end kind) h = absurd (no_token_in_nil kind h.1 brackets h.3)
-standing_only from (b ∷ after) brackets End h = elim h [
-  | inl e ↦ absurd cc
-  | inr hash ↦ standing_hash from b after brackets hash
-]
-standing_only from (b ∷ after) brackets (Bad place) h =
-    let found = bad_found b after brackets h.1 in
-    standing_token from b after brackets found.0 ∙ rw (found.1, h.0)
-standing_only from (b ∷ after) brackets (Token place end kind) h =
-    let found = token_found kind h.1 b after brackets h.3 in
-    standing_token from b after brackets found.0 ∙ rw (found.1, h.2, h.0)
+standing_only from (b ∷ after) brackets End h = grind (arith, standing_hash)
+standing_only from (b ∷ after) brackets (Bad place) h = grind (arith, bad_found, standing_token)
+standing_only from (b ∷ after) brackets (Token place end kind) h = grind (arith, token_found, standing_token)
 
 -- the clauses of the next token
 
 pub end_exactly : (text : List ℕ) (at brackets : ℕ) → (next_of text at brackets ≡ End) ↔ IsEnd (rest_of text at)
-end_exactly text at brackets =
-    let from = start_of text at in let rest = rest_of text at in
-    (λ e. rw e at (standing_tells from rest brackets), λ h. standing_only from rest brackets End h)
+end_exactly text at brackets = grind (arith, standing_tells, standing_only)
 
 pub bad_exactly : (text : List ℕ) (at brackets from : ℕ) → (next_of text at brackets ≡ Bad from) ↔ IsBadFrom text at brackets from
 bad_exactly text at brackets from =
@@ -110,17 +89,10 @@ starts_fits front rest h = rw h.1 (omega (arith, length-append front h.0))
 
 pub token_sized : (kind : TokenKind) (n : ℕ) (rest : List ℕ) (brackets : ℕ) → IsToken kind n rest brackets → (1 ≤ n) × (n ≤ length rest)
 token_sized kind n [] brackets h = absurd (no_token_in_nil kind n brackets h)
-token_sized Word n (b ∷ after) brackets h =
-    (rw h.1 (run_some is_word_byte b after (rw h.0 refl)), rw h.1 (prefix_len-le-length is_word_byte (b ∷ after)))
-token_sized (Number value) n (b ∷ after) brackets h =
-    (rw h.1 (run_some is_ascii_digit b after h.0), rw h.1 (prefix_len-le-length is_ascii_digit (b ∷ after)))
-token_sized Text n (b ∷ after) brackets h =
-    let fits = starts_fits (34 ∷ (h.0 ++ (34 ∷ []))) (b ∷ after) h.1 in
-    let len = length-append h.0 (34 ∷ []) in
-    (omega arith, omega arith)
-token_sized (SignKind sign) n (b ∷ after) brackets h =
-    let len = sign_len sign in let fits = starts_fits (spelling sign) (b ∷ after) h.0.0 in let e = h.0.1 in
-    (omega arith, omega arith)
+token_sized Word n (b ∷ after) brackets h = grind (arith, run_some, prefix_len-le-length)
+token_sized (Number value) n (b ∷ after) brackets h = grind (arith, run_some, is_ascii_digit, prefix_len-le-length)
+token_sized Text n (b ∷ after) brackets h = grind (arith, starts_fits, length-append)
+token_sized (SignKind sign) n (b ∷ after) brackets h = grind (arith, sign_len, starts_fits)
 
 start_inside : (text : List ℕ) (at : ℕ) → at ≤ length text → (at ≤ start_of text at) × (start_of text at ≤ length text)
 start_inside text at l = (omega arith, omega (arith, prefix_len-le-length is_space_byte (drop at text), length-drop at text))

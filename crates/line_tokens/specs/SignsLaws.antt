@@ -80,14 +80,7 @@ single_sign-spells b =
 
 try_double : (a b : ℕ) (k l : ℕ) (sign : Sign) (o : Option Sign) → spelling sign ≡ k ∷ (l ∷ []) → Spells (a ∷ (b ∷ [])) o →
     Spells (a ∷ (b ∷ [])) (if nat_eq a k && nat_eq b l then Some sign else o)
-try_double a b k l sign o e rest = cond_both (nat_eq a k && nat_eq b l) (Some sign) o (Spells (a ∷ (b ∷ [])))
-    (λ t s p.
-    let both = and_parts (nat_eq a k) (nat_eq b l) t in
-    let a_is : a ≡ k = eqb-true a k both.0 in
-    let b_is : b ≡ l = eqb-true b l both.1 in
-    let s_is : sign ≡ s = cc in
-    subst (λ x. spelling x ≡ a ∷ (b ∷ [])) s_is (rw (a_is, b_is) e))
-    (λ _. rest)
+try_double a b k l sign o e rest = grind (arith, cond_both, nat_eq, and_parts, eqb-true)
 
 pub double_sign-spells : (a b : ℕ) → Spells (a ∷ (b ∷ [])) (double_sign a b)
 double_sign-spells a b =
@@ -116,41 +109,17 @@ pub record StartsDouble (sign : Sign) (rest : List ℕ) : Type 0 where
   pub second_inked : is_space_byte second ≡ false
 
 pub starts_cases : (sign : Sign) (rest : List ℕ) → StartsWith (spelling sign) rest → StartsSingle sign rest ⊎ StartsDouble sign rest
-starts_cases sign rest h = elim (sign_spelled sign) [
-  | inl s ↦ inl (record { first = s.first; after = h.0; text = rw s.spelled at h.1; found = s.found; len = ap length s.spelled; other = s.other; inked = s.inked })
-  | inr s ↦ inr (record {
-    first = s.first;
-    second = s.second;
-    after = h.0;
-    text = rw s.spelled at h.1;
-    found = s.found;
-    len = ap length s.spelled;
-    other = s.other;
-    inked = s.inked;
-    second_inked =
-        s.second_inked;
-  })
-]
+starts_cases sign rest h = grind (arith, sign_spelled)
 
 -- no sign is longer than two bytes, and none of two stands where two bytes spell none
 longest_of_two : (a b : ℕ) (after : List ℕ) (other : Sign) → StartsWith (spelling other) (a ∷ (b ∷ after)) → length (spelling other) ≤ 2
-longest_of_two a b after other h = elim (starts_cases other (a ∷ (b ∷ after)) h) [
-  | inl s ↦ omega (arith, s.len)
-  | inr s ↦ omega (arith, s.len)
-]
+longest_of_two a b after other h = grind (arith, starts_cases)
 
 longest_of_one : (a b : ℕ) (after : List ℕ) → double_sign a b ≡ None → (other : Sign) → StartsWith (spelling other) (a ∷ (b ∷ after)) → length (spelling other) ≤ 1
-longest_of_one a b after none other h = elim (starts_cases other (a ∷ (b ∷ after)) h) [
-  | inl s ↦ omega (arith, s.len)
-  | inr s ↦ let first : a ≡ s.first = cc in let second : b ≡ s.second = cc in
-      absurd (let e : double_sign a b ≡ Some other = rw (first, second) s.found in cc)
-]
+longest_of_one a b after none other h = grind (arith, starts_cases)
 
 longest_alone : (a : ℕ) (other : Sign) → StartsWith (spelling other) (a ∷ []) → length (spelling other) ≤ 1
-longest_alone a other h = elim (starts_cases other (a ∷ []) h) [
-  | inl s ↦ omega (arith, s.len)
-  | inr s ↦ absurd (let e = s.text in cc)
-]
+longest_alone a other h = grind (arith, starts_cases)
 
 sign_at-two : (a b : ℕ) (after : List ℕ) (sign : Sign) → double_sign a b ≡ Some sign → sign_at (a ∷ (b ∷ after)) ≡ Some (2, sign)
 sign_at-two a b after sign e = rw (lt-ltb 1 (length (a ∷ (b ∷ after))) (omega arith), e)
@@ -204,17 +173,11 @@ sign_tells a (b ∷ after) = elim (double_sign a b) as (λ o. double_sign a b �
 
 -- the byte that a sign begins with begins nothing else
 pub sign_first : (sign : Sign) (a : ℕ) (after : List ℕ) → StartsWith (spelling sign) (a ∷ after) → is_other a ≡ true
-sign_first sign a after h = elim (starts_cases sign (a ∷ after) h) [
-  | inl s ↦ let first : a ≡ s.first = cc in rw first s.other
-  | inr s ↦ let first : a ≡ s.first = cc in rw first s.other
-]
+sign_first sign a after h = grind (arith, starts_cases)
 
 -- a sign has one byte or two
 pub sign_len : (sign : Sign) → (1 ≤ length (spelling sign)) × (length (spelling sign) ≤ 2)
-sign_len sign = elim (sign_spelled sign) [
-  | inl s ↦ let e = ap length s.spelled in (omega arith, omega arith)
-  | inr s ↦ let e = ap length s.spelled in (omega arith, omega arith)
-]
+sign_len sign = grind (arith, sign_spelled)
 
 -- no longer sign stands where a sign stands at the end or before a blank
 pub sign_longest : (sign : Sign) (after : List ℕ) → (after ≡ []) ⊎ Begins is_space_byte after → (other : Sign) →

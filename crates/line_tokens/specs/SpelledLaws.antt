@@ -1,5 +1,5 @@
 -- What is spelled is read back: a token that stands at the end or before a blank, and a whole line of tokens.
-use Rattle.std.proofs.Common.{◌≡◌, ℕ, zero, suc, ◌+◌, ◌-◌, Bool, true, false, List, [], ◌∷◌, ◌++◌, length, map, take, drop, slice_range, Some, ◌≤◌, ◌⊎◌, inl, inr, refl, sym, ◌∙◌, ap, append_assoc, append-nil, add-zero, zero-add, length-append, ⊎_elim, arith}
+use Rattle.std.proofs.Common.{◌≡◌, ℕ, zero, suc, ◌+◌, ◌-◌, Bool, true, false, List, [], ◌∷◌, ◌++◌, length, map, take, drop, slice_range, Some, ◌≤◌, ◌⊎◌, inl, inr, refl, sym, ◌∙◌, ap, append_assoc, append-nil, add-zero, zero-add, length-append, arith}
 use Rattle.std.specs.Char.{is_ascii_digit}
 use Rattle.std.specs.List.{prefix_len, AllPass}
 use Rattle.std.proofs.lemmas.Bool.{both_ways, cases_Bool}
@@ -7,7 +7,6 @@ use Rattle.std.proofs.lemmas.Bool.Decides.{nat_tests}
 use Rattle.std.proofs.lemmas.List.{drop_at, take_at}
 use Rattle.std.proofs.lemmas.List.Folds.{length-prefix_len}
 use Rattle.line_tokens.specs.Bytes.{is_space_byte, is_letter, is_word_byte}
-use Rattle.line_tokens.specs.Signs.{spelling}
 use Rattle.line_tokens.specs.Tokens.{Begins, start_of, IsToken}
 use Rattle.line_tokens.specs.Next.{next_of}
 use Rattle.line_tokens.specs.Spots.{brackets_after, Spots}
@@ -46,28 +45,18 @@ begins_more p (b ∷ bytes) after h = h
 
 -- spelled bytes are a token there
 token_spelled : (kind : TokenKind) (bytes after : List ℕ) (brackets : ℕ) → Spells kind bytes → MayOpen kind brackets → IsParted after → IsToken kind (length bytes) (bytes ++ after) brackets
-token_spelled Word bytes after brackets h room parted =
-    (begins_more is_letter bytes after h.0, sym (run_parted is_word_byte bytes after blank_no_word h.1 parted), h.2)
-token_spelled (Number value) bytes after brackets h room parted = (
-  begins_more is_ascii_digit bytes after h.0,
-  sym (run_parted is_ascii_digit bytes after blank_no_digit h.1 parted),
-  rw (take_at bytes after (length bytes) refl) h.2,
-  rw (take_at bytes after (length bytes) refl) h.3,
-)
+token_spelled Word bytes after brackets h room parted = grind (arith, begins_more, run_parted, blank_no_word)
+token_spelled (Number value) bytes after brackets h room parted = grind (arith, begins_more, is_ascii_digit, run_parted, blank_no_digit, take_at)
 token_spelled Text bytes after brackets h room parted =
     let len = length-append h.0 (34 ∷ []) in
     (h.0, (after, ap (λ xs. xs ++ after) h.1), h.2, h.3, h.4, ap length h.1 ∙ omega arith)
-token_spelled (SignKind sign) bytes after brackets h room parted =
-    rw h (((after, refl), refl, sign_longest sign after parted), room)
+token_spelled (SignKind sign) bytes after brackets h room parted = grind (arith, sign_longest)
 
 -- spelled bytes begin with no blank
 
 first_apart : (p : ℕ → Bool) (bytes after : List ℕ) → ((b : ℕ) → is_space_byte b ≡ true → p b ≡ false) → Begins p bytes → prefix_len is_space_byte (bytes ++ after) ≡ 0
 first_apart p [] after apart h = absurd h
-first_apart p (b ∷ bytes) after apart h = ⊎_elim
-    (λ blank. absurd (both_ways (p b) (apart b blank) h))
-    (λ inked. rw inked)
-    (cases_Bool (is_space_byte b))
+first_apart p (b ∷ bytes) after apart h = grind (arith, both_ways, cases_Bool)
 
 blank_no_letter : (b : ℕ) → is_space_byte b ≡ true → is_letter b ≡ false
 blank_no_letter b h = elim (blank_is b h) [ inl e ↦ rw e | inr e ↦ rw e ]
@@ -76,10 +65,7 @@ spelled_inked : (kind : TokenKind) (bytes after : List ℕ) → Spells kind byte
 spelled_inked Word bytes after h = first_apart is_letter bytes after blank_no_letter h.0
 spelled_inked (Number value) bytes after h = first_apart is_ascii_digit bytes after blank_no_digit h.0
 spelled_inked Text bytes after h = rw h.1
-spelled_inked (SignKind sign) bytes after h = elim (sign_spelled sign) [
-  | inl s ↦ rw (h, s.spelled, s.inked)
-  | inr s ↦ rw (h, s.spelled, s.inked)
-]
+spelled_inked (SignKind sign) bytes after h = grind (arith, sign_spelled)
 
 blanks_before : (blanks rest : List ℕ) → AllPass is_space_byte blanks → prefix_len is_space_byte rest ≡ 0 → prefix_len is_space_byte (blanks ++ rest) ≡ length blanks
 blanks_before [] rest pass inked = inked
@@ -105,9 +91,7 @@ next_spelled kind front blanks bytes after brackets h room pass parted =
 
 -- behind all tokens the text ends
 end_spelled : (front : List ℕ) (brackets : ℕ) → next_of (front ++ []) (length front) brackets ≡ End
-end_spelled front brackets =
-    let nil : drop (length front) (front ++ []) ≡ [] = drop_at front [] (length front) refl in
-    (end_exactly (front ++ []) (length front) brackets).1 (inl (rw (nil, add-zero) nil))
+end_spelled front brackets = grind (arith, drop_at, end_exactly, add-zero)
 
 spaced_parted : (tokens : List Written) → IsParted (spaced tokens)
 spaced_parted [] = inl refl
@@ -148,9 +132,7 @@ joined_spots (token ∷ tokens) h = (
 -- the bytes at the places are those of the tokens
 
 bytes_there : (front bytes after : List ℕ) (from : ℕ) → length front ≡ from → slice_range (front ++ (bytes ++ after)) from (from + length bytes) ≡ bytes
-bytes_there front bytes after from e =
-    let len : from + length bytes - from ≡ length bytes = omega arith in
-    rw (drop_at front (bytes ++ after) from e, len, take_at bytes after (length bytes) refl)
+bytes_there front bytes after from e = grind (arith, drop_at, take_at)
 
 spaced_bytes : (front : List ℕ) (tokens : List Written) →
     map (λ spot. slice_range (front ++ spaced tokens) spot.from spot.end) (places (length front + 1) tokens) ≡ map (λ token. token.bytes) tokens
@@ -186,19 +168,13 @@ begins_take p (suc n) [] some h = h
 begins_take p (suc n) (b ∷ after) some h = h
 
 pub token_spells : (kind : TokenKind) (n : ℕ) (rest : List ℕ) (brackets : ℕ) → IsToken kind n rest brackets → Spells kind (take n rest)
-token_spells Word n rest brackets h =
-    let some = (token_sized Word n rest brackets h).0 in
-    let len : length (take n rest) ≡ n = rw h.1 (length-prefix_len is_word_byte rest) in
-    (begins_take is_letter n rest some h.0, rw h.1 (AllPass-take_prefix_len is_word_byte rest), omega arith)
-token_spells (Number value) n rest brackets h =
-    let some = (token_sized (Number value) n rest brackets h).0 in
-    (begins_take is_ascii_digit n rest some h.0, rw h.1 (AllPass-take_prefix_len is_ascii_digit rest), h.2, h.3)
+token_spells Word n rest brackets h = grind (arith, token_sized, length-prefix_len, begins_take, AllPass-take_prefix_len)
+token_spells (Number value) n rest brackets h = grind (arith, token_sized, begins_take, is_ascii_digit, AllPass-take_prefix_len)
 token_spells Text n rest brackets h =
     let string : List ℕ = 34 ∷ (h.0 ++ (34 ∷ [])) in
     let len : length string ≡ n = ap suc (length-append h.0 (34 ∷ [])) ∙ omega arith in
     (h.0, rw h.1.1 (take_at string h.1.0 n len), h.2, h.3, h.4)
-token_spells (SignKind sign) n rest brackets h =
-    rw h.0.0.1 (take_at (spelling sign) h.0.0.0 n (sym h.0.1))
+token_spells (SignKind sign) n rest brackets h = grind (arith, take_at)
 
 -- the same of a token at its place
 pub next_spells : (text : List ℕ) (at brackets from end : ℕ) (kind : TokenKind) → next_of text at brackets ≡ Token from end kind →

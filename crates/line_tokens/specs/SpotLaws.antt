@@ -1,8 +1,7 @@
 -- A text has exactly one list of tokens, and each lies within the text.
-use Rattle.std.proofs.Common.{◌≡◌, ℕ, ◌+◌, ◌-◌, ◌≤◌, List, [], ◌∷◌, ◌++◌, length, All, drop, Option, Some, None, refl, if◌then◌else◌, append_assoc, arith}
+use Rattle.std.proofs.Common.{◌≡◌, ℕ, ◌≤◌, List, [], ◌∷◌, ◌++◌, length, All, drop, Option, Some, None, refl, append_assoc, arith}
 use Rattle.std.proofs.lemmas.Bool.{cond_both}
 use Rattle.std.proofs.lemmas.List.Elements.{All-cons}
-use Rattle.line_tokens.specs.Signs.{opens, closes}
 use Rattle.line_tokens.specs.Tokens.{IsToken}
 use Rattle.line_tokens.specs.Next.{next_of}
 use Rattle.line_tokens.specs.Spelled.{MayOpen}
@@ -10,7 +9,7 @@ use Rattle.line_tokens.specs.Spots.{brackets_after, Spots}
 use Rattle.line_tokens.specs.declared.spots.Spot.{Spot}
 use Rattle.line_tokens.specs.declared.token.Next.TheVariants.{End, Bad, Token}
 use Rattle.line_tokens.specs.declared.token.TokenKind.{TokenKind}
-use Rattle.line_tokens.specs.declared.token.TokenKind.TheVariants.{Word, Number, Text, Sign as SignKind}
+use Rattle.line_tokens.specs.declared.token.TokenKind.TheVariants.{Sign as SignKind}
 use Rattle.line_tokens.specs.NextTokenLaws.{token_exactly, next_inside}
 
 -- a spot with these fields
@@ -19,9 +18,7 @@ spot_at from end kind = record { from = from; end = end; kind = kind }
 
 -- no token opens a 65th bracket
 after_few : (kind : TokenKind) (brackets : ℕ) → MayOpen kind brackets → brackets ≤ 64 → brackets_after kind brackets ≤ 64
-after_few (SignKind sign) brackets room few = cond_both (opens sign) (brackets + 1) (if closes sign then brackets - 1 else brackets) (λ n. n ≤ 64)
-    (λ opened. let less = room opened in omega arith)
-    (λ _. cond_both (closes sign) (brackets - 1) brackets (λ n. n ≤ 64) (λ _. omega arith) (λ _. few))
+after_few (SignKind sign) brackets room few = grind (arith, cond_both)
 after_few other brackets room few = few
 
 pub token_room : (kind : TokenKind) (n : ℕ) (rest : List ℕ) (brackets : ℕ) → IsToken kind n rest brackets → MayOpen kind brackets
@@ -38,8 +35,7 @@ pub Spots-more : (text : List ℕ) (found : List Spot) (at brackets : ℕ) (spot
     spot.kind ≡ Some kind → next_of text at brackets ≡ Token spot.from spot.end kind →
     ((rest : List Spot) → Spots text at brackets rest → Spots text 0 0 (found ++ rest)) →
     (rest : List Spot) → Spots text spot.end (brackets_after kind brackets) rest → Spots text 0 0 ((found ++ (spot ∷ [])) ++ rest)
-Spots-more text found at brackets spot kind k e before rest h =
-    rw (append_assoc found (spot ∷ []) rest) (before (spot ∷ rest) (rw k (e, h)))
+Spots-more text found at brackets spot kind k e before rest h = grind (arith, append_assoc)
 
 -- a bad token is the last
 pub Spots-last : (text : List ℕ) (found : List Spot) (at brackets from : ℕ) → next_of text at brackets ≡ Bad from →
@@ -55,17 +51,10 @@ not_end text at brackets from end (Some kind) rest e h = let token = h.0 in cc
 same_step : (text : List ℕ) (at brackets : ℕ) (f e : ℕ) (k : Option TokenKind) (xs : List Spot) (f' e' : ℕ) (k' : Option TokenKind) (ys : List Spot) →
     ((at brackets : ℕ) (zs : List Spot) → Spots text at brackets xs → Spots text at brackets zs → xs ≡ zs) →
     Spots text at brackets (spot_at f e k ∷ xs) → Spots text at brackets (spot_at f' e' k' ∷ ys) → ◌≡◌ {A = List Spot} (spot_at f e k ∷ xs) (spot_at f' e' k' ∷ ys)
-same_step text at brackets f e None xs f' e' None ys behind h g =
-    let bad = h.0 in let bad' = g.0 in let place : f ≡ f' = cc in
-    let end = h.1 in let end' = g.1 in let none = h.2 in let none' = g.2 in
-    rw (none, none', end, end', place)
+same_step text at brackets f e None xs f' e' None ys behind h g = grind arith
 same_step text at brackets f e None xs f' e' (Some kind') ys behind h g = absurd (let bad = h.0 in let token = g.0 in cc)
 same_step text at brackets f e (Some kind) xs f' e' None ys behind h g = absurd (let token = h.0 in let bad = g.0 in cc)
-same_step text at brackets f e (Some kind) xs f' e' (Some kind') ys behind h g =
-    let token = h.0 in let token' = g.0 in
-    let place : f ≡ f' = cc in let end : e ≡ e' = cc in let same : kind ≡ kind' = cc in
-    let rest : xs ≡ ys = behind e (brackets_after kind brackets) ys h.1 (rw (end, same) g.1) in
-    rw (rest, end, place, same)
+same_step text at brackets f e (Some kind) xs f' e' (Some kind') ys behind h g = grind arith
 
 -- a text has one list of tokens at most
 pub same_spots : (text : List ℕ) (at brackets : ℕ) (xs ys : List Spot) → Spots text at brackets xs → Spots text at brackets ys → xs ≡ ys
@@ -89,12 +78,8 @@ inside_more text spot rest ordered within h = All-cons (λ s. (s.from ≤ s.end)
 inside_step : (text : List ℕ) (at brackets f e : ℕ) (k : Option TokenKind) (rest : List Spot) → at ≤ length text →
     ((at brackets : ℕ) → at ≤ length text → Spots text at brackets rest → AllInside text rest) →
     Spots text at brackets (spot_at f e k ∷ rest) → AllInside text (spot_at f e k ∷ rest)
-inside_step text at brackets f e None rest l behind h =
-    let inside = rw h.0 at (next_inside text at brackets l) in let place = h.1 in
-    inside_more text (spot_at f e None) rest (omega arith) (omega arith) (rw h.2 (none_inside text))
-inside_step text at brackets f e (Some kind) rest l behind h =
-    let inside = rw h.0 at (next_inside text at brackets l) in
-    inside_more text (spot_at f e (Some kind)) rest (omega arith) (omega arith) (behind e (brackets_after kind brackets) (omega arith) h.1)
+inside_step text at brackets f e None rest l behind h = grind (arith, next_inside, inside_more, none_inside)
+inside_step text at brackets f e (Some kind) rest l behind h = grind (arith, next_inside, inside_more)
 
 pub spots_inside : (text : List ℕ) (at brackets : ℕ) (spots : List Spot) → at ≤ length text → Spots text at brackets spots → AllInside text spots
 spots_inside text at brackets [] l h = none_inside text

@@ -1,5 +1,5 @@
 -- What stands at the front of a text, as a relation, is what the function `standing` gives, and nothing else is.
-use Rattle.std.proofs.Common.{◌≡◌, ℕ, ◌^◌, ◌<◌, ◌≤◌, true, false, ◌&&◌, ◌||◌, List, ◌∷◌, length, take, Option, Some, None, IsTrue, inl, inr, refl, sym, ◌∙◌, nat_eq, nat_le, nat_lt, ℤ, pos, ⊎_elim, arith}
+use Rattle.std.proofs.Common.{◌≡◌, ℕ, ◌^◌, ◌<◌, ◌≤◌, true, false, ◌&&◌, List, ◌∷◌, length, take, Option, Some, None, IsTrue, inl, inr, refl, sym, ◌∙◌, nat_eq, nat_le, nat_lt, ℤ, ⊎_elim, arith}
 use Rattle.std.specs.Char.{is_ascii_digit}
 use Rattle.std.specs.List.{prefix_len}
 use Rattle.std.specs.Option.{option_map}
@@ -35,11 +35,7 @@ pub record IsApart (b : ℕ) : Type 0 where
   pub quote : is_quote b ≡ false
 
 other_apart : (b : ℕ) → is_other b ≡ true → IsApart b
-other_apart b h =
-    let all = or_parts (is_letter b || is_ascii_digit b || is_hash b) (is_quote b) (not-true _ h) in
-    let three = or_parts (is_letter b || is_ascii_digit b) (is_hash b) all.0 in
-    let two = or_parts (is_letter b) (is_ascii_digit b) three.0 in
-    record { letter = two.0; digit = two.1; hash = three.1; quote = all.1 }
+other_apart b h = grind (arith, or_parts, is_ascii_digit, not-true)
 
 other_from : (b : ℕ) → is_letter b ≡ false → is_ascii_digit b ≡ false → is_hash b ≡ false → is_quote b ≡ false → is_other b ≡ true
 other_from b l d h q = rw (l, d, h, q)
@@ -87,18 +83,10 @@ TokenTells rest brackets None = IsBad rest brackets
 TokenTells rest brackets (Some token) = IsToken token.1 token.0 rest brackets
 
 word_tells : (b : ℕ) (after : List ℕ) (brackets : ℕ) → is_letter b ≡ true → TokenTells (b ∷ after) brackets (word_at (b ∷ after))
-word_tells b after brackets h =
-    let n = prefix_len is_word_byte (b ∷ after) in
-    cond_both (nat_le n 32) (Some (n, Word)) None (TokenTells (b ∷ after) brackets)
-    (λ e. (h, refl, leb-true n 32 e))
-    (λ e. inr (inl (h, leb-false n 32 e)))
+word_tells b after brackets h = grind (arith, prefix_len, cond_both, nat_le, leb-true, leb-false)
 
 number_tells : (b : ℕ) (after : List ℕ) (brackets : ℕ) → is_ascii_digit b ≡ true → TokenTells (b ∷ after) brackets (number_at (b ∷ after))
-number_tells b after brackets h =
-    let n = prefix_len is_ascii_digit (b ∷ after) in let value = digits_value 10 (take n (b ∷ after)) in
-    cond_both (nat_lt value (2 ^ 127)) (Some (pos value)) None (λ o. TokenTells (b ∷ after) brackets (option_map (λ x. (n, Number x)) o))
-    (λ e. (h, refl, ltb-true value (2 ^ 127) e, refl))
-    (λ e. inr (inr (inl (h, ltb-false value (2 ^ 127) e))))
+number_tells b after brackets h = grind (arith, prefix_len, is_ascii_digit, digits_value, cond_both, nat_lt, option_map, Number, ltb-true, ltb-false)
 
 -- strings
 
@@ -120,10 +108,7 @@ string_first n b after h = let e = h.1.1 in let is : b ≡ 34 = cc in rw is
 -- signs
 
 room_found : (n : ℕ) (sign : Sign) (brackets : ℕ) → (IsTrue (opens sign) → brackets < 64) → with_room brackets (Some (n, sign)) ≡ Some (n, SignKind sign)
-room_found n sign brackets room = elim (opens sign) as (λ o. opens sign ≡ o → with_room brackets (Some (n, sign)) ≡ Some (n, SignKind sign)) [
-  | true ↦ λ e. rw (e, lt-leb 64 brackets (room e))
-  | false ↦ λ e. rw e
-] refl
+room_found n sign brackets room = grind (arith, lt-leb)
 
 no_room_found : (n : ℕ) (sign : Sign) (brackets : ℕ) → IsTrue (opens sign) → 64 ≤ brackets → with_room brackets (Some (n, sign)) ≡ None
 no_room_found n sign brackets open_ full_ = rw (open_, le-leb 64 brackets full_)

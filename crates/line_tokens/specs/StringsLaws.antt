@@ -25,13 +25,10 @@ prefix_len-all p (x ∷ front) pass =
 -- a string is found by what stands between its quotes
 string_read : (b : ℕ) (inside after : List ℕ) → AllPass is_text_byte inside → 1 ≤ length inside → length inside ≤ 200 →
     string_at (b ∷ (inside ++ (34 ∷ after))) ≡ Some (length inside + 2, Text)
-string_read b inside after pass some few =
-    rw (prefix_len-run is_text_byte inside 34 after pass refl, le-leb 1 (length inside) some, le-leb (length inside) 200 few, add-one, get_or_at inside 34 after 0 (length inside) refl)
+string_read b inside after pass some few = grind (arith, prefix_len-run, le-leb, add-one, get_or_at)
 
 pub string_found : (n : ℕ) (rest : List ℕ) → IsString n rest → string_at rest ≡ Some (n, Text)
-string_found n rest h =
-    let e : rest ≡ 34 ∷ (h.0 ++ (34 ∷ h.1.0)) = h.1.1 ∙ ap (λ xs. 34 ∷ xs) (append_assoc h.0 (34 ∷ []) h.1.0) in
-    rw (e, h.5) (string_read 34 h.0 h.1.0 h.2 h.3 h.4)
+string_found n rest h = grind (arith, append_assoc, string_read)
 
 -- where a quote closes a run, a string stands
 string_stands : (after : List ℕ) (n : ℕ) → n ≡ prefix_len is_text_byte after → 1 ≤ n → n ≤ 200 → get_or after n 0 ≡ 34 → IsString (n + 2) (34 ∷ after)

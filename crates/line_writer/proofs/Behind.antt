@@ -12,12 +12,10 @@ begun (token ∷ tokens) = with_tokens_behind (written token).bytes tokens
 
 behind_spaced : (text : List ℕ) (tokens : List Token) → text ++ spaced (map written tokens) ≡ with_tokens_behind text tokens
 behind_spaced text [] = append-nil text
-behind_spaced text (token ∷ tokens) =
-    sym (append_assoc text (32 ∷ (written token).bytes) (spaced (map written tokens))) ∙ behind_spaced (text ++ 32 ∷ (written token).bytes) tokens
+behind_spaced text (token ∷ tokens) = grind (arith, append_assoc, (behind_spaced (text ++ 32 ∷ (written token).bytes) tokens))
 
 joined_begun : (tokens : List Token) → spaced_tokens (map written tokens) ≡ begun tokens
-joined_begun [] = refl
-joined_begun (token ∷ tokens) = behind_spaced (written token).bytes tokens
+joined_begun tokens = grind (arith, behind_spaced)
 
 pub canonical_begun : (sentence : Sentence) → canonical sentence ≡ begun (line_tokens sentence)
 unfolding canonical
@@ -26,15 +24,11 @@ canonical_begun sentence = joined_begun (line_tokens sentence)
 -- the first field behind the brace, and a later one behind a comma
 pub fields_begun : (text before after : List ℕ) (fields : Fields) (name : List ℕ) (held : Tree) (rest : Fields) → fields ≡ Field name held rest →
     before ≡ text ++ 32 ∷ codes "{" → after ≡ with_tokens_behind before (Word name ∷ held_tokens held) → with_tokens_behind after (later_tokens rest) ≡ with_tokens_behind text (Sign OpenBrace ∷ fields_tokens fields)
-fields_begun text before after fields name held rest is e e' =
-    rw is (ap (λ k. with_tokens_behind k (later_tokens rest)) (e' ∙ ap (λ k. with_tokens_behind k (Word name ∷ held_tokens held)) e)
-    ∙ sym (behind_append (text ++ 32 ∷ codes "{") (Word name ∷ held_tokens held) (later_tokens rest)))
+fields_begun text before after fields name held rest is e e' = grind (arith, later_tokens, behind_append)
 
 pub fields_more : (text before after : List ℕ) (fields : Fields) (name : List ℕ) (held : Tree) (rest : Fields) → fields ≡ Field name held rest →
     before ≡ text ++ 32 ∷ codes "," → after ≡ with_tokens_behind before (Word name ∷ held_tokens held) → with_tokens_behind after (later_tokens rest) ≡ with_tokens_behind text (later_tokens fields)
-fields_more text before after fields name held rest is e e' =
-    rw is (ap (λ k. with_tokens_behind k (later_tokens rest)) (e' ∙ ap (λ k. with_tokens_behind k (Word name ∷ held_tokens held)) e)
-    ∙ sym (behind_append (text ++ 32 ∷ codes ",") (Word name ∷ held_tokens held) (later_tokens rest)))
+fields_more text before after fields name held rest is e e' = grind (arith, later_tokens, behind_append)
 
 -- the first part of a list, and a later one behind a comma
 abbrev after_commas : List (List Token) → List Token
@@ -45,10 +39,7 @@ pub parts_begun : {A : Type 0} (tokens : A → List Token) (text after : List �
 parts_begun tokens text after [] first some is e = absurd (omega arith)
 parts_begun tokens text after (part ∷ parts) first some is e =
     let less : suc (length parts) - 1 ≡ length parts = omega arith in
-    let all : take (suc (length parts) - 1) parts ≡ parts = ap (λ k. take k parts) less ∙ take-length parts in
-    ap (λ k. with_tokens_behind after (after_commas (map tokens k))) all
-    ∙ ap (λ k. with_tokens_behind k (after_commas (map tokens parts))) (e ∙ ap (λ k. with_tokens_behind text (tokens k)) is)
-    ∙ sym (behind_append text (tokens part) (after_commas (map tokens parts)))
+    let all : take (suc (length parts) - 1) parts ≡ parts = ap (λ k. take k parts) less ∙ take-length parts in grind (arith, behind_append)
 
 -- the parts from one on are it and those behind it
 drop_next : {A : Type 0} (parts : List A) (i : ℕ) (next : A) → i < length parts → next ≡ get_or parts i next → drop i parts ≡ next ∷ drop (i + 1) parts
@@ -57,22 +48,13 @@ drop_next {A = A} parts i next inside is = drop-cons parts i next inside ∙ ap 
 pub parts_more : {A : Type 0} (tokens : A → List Token) (text before after : List ℕ) (later : List A) (i : ℕ) (next : A) → i < length later → next ≡ get_or later i next →
     before ≡ text ++ 32 ∷ codes "," → after ≡ with_tokens_behind before (tokens next) →
     with_tokens_behind after (after_commas (map tokens (drop (i + 1) later))) ≡ with_tokens_behind text (after_commas (map tokens (drop i later)))
-parts_more tokens text before after later i next inside is e e' =
-    let rest : List Token = after_commas (map tokens (drop (i + 1) later)) in
-    ap (λ k. with_tokens_behind k rest) (e' ∙ ap (λ k. with_tokens_behind k (tokens next)) e)
-    ∙ sym (behind_append (text ++ 32 ∷ codes ",") (tokens next) rest)
-    ∙ ap (λ k. with_tokens_behind text (after_commas (map tokens k))) (sym (drop_next later i next inside is))
+parts_more tokens text before after later i next inside is e e' = grind (arith, behind_append, drop_next)
 
 -- a part right behind the one before it
 pub each_more : {A : Type 0} (tokens : A → List Token) (text after : List ℕ) (parts : List A) (i : ℕ) (next : A) → i < length parts → next ≡ get_or parts i next → after ≡ with_tokens_behind text (tokens next) →
     with_tokens_behind after (flat_map tokens (drop (i + 1) parts)) ≡ with_tokens_behind text (flat_map tokens (drop i parts))
-each_more tokens text after parts i next inside is e =
-    let rest : List Token = flat_map tokens (drop (i + 1) parts) in
-    ap (λ k. with_tokens_behind k rest) e
-    ∙ sym (behind_append text (tokens next) rest)
-    ∙ ap (λ k. with_tokens_behind text (flat_map tokens k)) (sym (drop_next parts i next inside is))
+each_more tokens text after parts i next inside is e = grind (arith, flat_map, behind_append, drop_next)
 
 -- widths stand in braces where there are any
 pub some_widths : (fields : List FieldWidth) → 1 ≤ length fields → widths_tokens fields ≡ Sign OpenBrace ∷ (with_commas (map width_tokens fields) ++ Sign CloseBrace ∷ [])
-some_widths [] some = absurd (omega arith)
-some_widths (entry ∷ fields) some = refl
+some_widths fields some = grind arith

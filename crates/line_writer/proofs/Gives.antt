@@ -1,5 +1,6 @@
 -- What holds of phrases whose tokens are spelled.
 use Rattle.line_writer.proofs.Imports.{◌≡◌, ℕ, suc, List, [], ◌∷◌, ◌++◌, zero, inl, inr, Option, Some, None, true, false, Bool, Spells, Token, Bad, Chain, Grammar, Is, item, behind, joined, either, which, nothing, repeats, deep, Splits, Told, InParts, told, in_parts, written}
+use Rattle.std.proofs.Common.{arith}
 
 -- the canonical bytes of a token spell it
 abbrev pub IsSpelled : Token → Type 0
@@ -57,12 +58,10 @@ is_bad Bad = true
 is_bad token = false
 
 good_spelled : (token : Token) → is_bad token ≡ false → IsClean token → IsSpelled token
-good_spelled Bad good clean = absurd cc
-good_spelled token good clean = clean
+good_spelled token good clean = grind arith
 
 item_spelled : {A : Type 0} (value : Token → Option A) (token : Token) (v : A) → value Bad ≡ None → value token ≡ Some v → IsClean token → IsSpelled token
-item_spelled value Bad v none some clean = absurd cc
-item_spelled value token v none some clean = clean
+item_spelled value token v none some clean = grind arith
 
 -- no item and no token that stands for itself is the bad one
 abbrev pub HasNoBad : {A : Type 0} → Grammar Token A → Type 0
@@ -80,8 +79,7 @@ chain_spelled : {A : Type 0} (Step : A → List Token → A → Type 0) → ((a 
 chain_spelled Step one zero a xs v h clean = rw h.0 tt
 chain_spelled Step one (suc n) a xs v h clean =
     let all : Each IsClean (h.front ++ h.back) = rw h.whole at clean in
-    rw h.whole (each_append IsSpelled h.front h.back (one a h.front h.first h.begins (each_front IsClean h.front h.back all))
-    (chain_spelled Step one n h.first h.back v h.ends (each_back IsClean h.front h.back all)))
+    grind (arith, each_append, each_front, each_back, (chain_spelled Step one n h.first h.back v h.ends (each_back IsClean h.front h.back all)))
 
 pub sound : {A : Type 0} (one : Grammar Token A) → HasNoBad one → (xs : List Token) (v : A) → Is one xs v → Each IsClean xs → Each IsSpelled xs
 sound (item value) s xs v h clean = let own : Each IsClean (h.0 ∷ []) = rw h.1 at clean in rw h.1 (item_spelled value h.0 v s h.2 own.0, tt)

@@ -1,5 +1,5 @@
 -- What the proofs of this crate speak of.
-pub use Rattle.std.proofs.Common.{◌≡◌, ℕ, suc, ◌+◌, ◌<◌, ◌≤◌, ◌-◌, List, [], ◌∷◌, ◌++◌, map, length, get_or, take, drop, codes, refl, sym, ap, ◌∙◌, add-one, drop-cons, append-nil, append_assoc, arith, zero, inl, inr, Option, Some, None, subst, max, ℤ, pos, negsuc, neg_ℤ, true, false, ◌⊎◌, ◌^◌, slice_range, Bool, not, ◌&&◌, if◌then◌else◌, bytes_eq, nat_lt, ◌*◌, rules}
+pub use Rattle.std.proofs.Common.{◌≡◌, ℕ, suc, ◌+◌, ◌<◌, ◌≤◌, ◌-◌, List, [], ◌∷◌, ◌++◌, map, length, get_or, take, drop, codes, refl, sym, ap, ◌∙◌, add-one, drop-cons, append-nil, append_assoc, arith, zero, inl, inr, Option, Some, None, subst, max, ℤ, pos, negsuc, neg_ℤ, true, false, ◌⊎◌, ◌^◌, slice_range, Bool, not, ◌&&◌, if◌then◌else◌, bytes_eq, nat_lt, ◌*◌}
 pub use Rattle.std.specs.List.{flat_map, list_all, AllPass, list_any}
 pub use Rattle.std.proofs.Math.Seq.{take-length}
 pub use Rattle.std.specs.Fmt.{decimal}
@@ -15,7 +15,7 @@ pub use Rattle.std.proofs.Math.Nat.{le-max_left, le-max_right}
 pub use Rattle.std.proofs.lemmas.Slice.Eq.{bytes_eq-Decides}
 pub use Rattle.std.proofs.lemmas.Simd.{map-map}
 pub use Rattle.line_tokens.specs.Spelled.{spaced, spaced_tokens, Spells, MayOpen, AreSpelled, Written}
-pub use Rattle.line_tokens.specs.declared.sign.Sign.TheVariants.{OpenBrace, CloseBrace, Comma, CloseBracket, OpenParen, CloseParen, Dot, Equals, Minus, EqualEqual, NotEqual, LessThan, LessEqual, GreaterThan, GreaterEqual, Colon, OpenBracket, Arrow, Star, Slash}
+pub use Rattle.line_tokens.specs.declared.sign.Sign.TheVariants.{OpenBrace, CloseBrace, Comma, CloseBracket, OpenParen, CloseParen, Dot, Equals, Minus, OpenBracket, Arrow, Star}
 pub use Rattle.record_dim.specs.Trees.{Tree, Fields, Field, Record, Single, tree_of, fields_of}
 pub use Rattle.map_expr.specs.declared.widths.FieldWidth.{FieldWidth}
 pub use Rattle.line_grammar.specs.declared.token.Token.{Token}
@@ -33,7 +33,7 @@ pub use Rattle.line_grammar.specs.declared.version.Version.TheVariants.{One, Two
 pub use Rattle.line_grammar.specs.declared.line.Command.{Command}
 pub use Rattle.line_grammar.specs.declared.line.KernelText.{KernelText}
 pub use Rattle.line_grammar.specs.declared.line.KernelWord.{KernelWord}
-pub use Rattle.line_grammar.specs.Tokens.{token_number, kernel_word_of, comparison_of, command_of, dimensions, index_of, choice_of, or_of, and_of, sum_of, product_of, map_word, token_order, kind_token, listed, meaning, reserved, name_of, count_of, string_of, type_of, integer_type_of, integer_types, leaf_types, orders, aos_forms, aos_form_of, soa_forms, soa_form_of, map_words, kernel_words, reduction_of, reductions, commands}
+pub use Rattle.line_grammar.specs.Tokens.{token_number, kernel_word_of, comparison_of, command_of, dimensions, index_of, choice_of, or_of, and_of, sum_of, product_of, map_word, token_order, kind_token, listed, meaning, name_of, count_of, string_of, type_of, integer_type_of, integer_types, leaf_types, orders, aos_forms, aos_form_of, soa_forms, soa_form_of, map_words, reduction_of, reductions, commands}
 pub use Rattle.line_grammar.specs.Language.{wrapped, arrays, fields_of_list, name, count, number, string, link}
 unfoldable pub use Rattle.line_grammar.specs.Language.{actors, assignment, atom_within, body, bracket_list as bracketed_list, braced, braced_widths, bracketed, chain, choice, command_line, comparison, conjunction, constant, cuts as cuts_phrase, dim, dims, expr, expr_over, extent_word, field_width, field_widths, field_within, fields, filter as filter_phrase, fixed, flag, form_or_name, inside_aos, inside_aosoa, inside_bits, inside_form, inside_kernel, inside_soa, kernel_text, later, later_passes, leaf, line, links, listed as comma_list, mapping, mapping_within, negation, nested, new, part, parts, pass, passes, path, prefixed, product, show_end, signs, span, sum, term as term_phrase, terms as terms_phrase, typed, unary, update_end, window as window_phrase}
 pub use Rattle.line_grammar.specs.Words.{operator, kernel_word, index_word, reduction_word, command_word, type_word, order_word, aos_word, soa_word, form_word}

@@ -1,6 +1,6 @@
 -- The phrases that may have other tokens than the canonical ones: lines with expressions and kernels. Their canonical tokens are
 -- read as the same line, and open few brackets at once.
-use Rattle.line_writer.proofs.Imports.{◌≡◌, ℕ, suc, ◌+◌, ◌≤◌, List, [], ◌∷◌, ◌++◌, map, length, codes, refl, sym, add-one, append-nil, append_assoc, arith, zero, inl, inr, Option, Some, None, max, ℤ, pos, negsuc, neg_ℤ, flat_map, Comma, CloseBracket, OpenParen, CloseParen, Dot, Equals, EqualEqual, NotEqual, LessThan, LessEqual, GreaterThan, GreaterEqual, Token, Word, Sign, Number, Text, Bad, Sentence, Assignment, Value, Assign, Update, Actors, Kernel, Count, filter_depth, deepest_set, deepest, Joined, IsNothing, Chain, Grammar, Is, behind, joined, more, PathStep, BinOp, Eq, Ne, Lt, Le, Gt, Ge, depth_of, Version, One, Two, Command, KernelText, KernelWord, token_number, kernel_word_of, comparison_of, command_of, name, count, number, actors, assignment, body, bracketed_list, command_line, constant, cuts_phrase, filter_phrase, inside_kernel, kernel_text, later, line, comma_list, part, parts, path, update_end, operator, kernel_word, with_commas, line_tokens, count_token, number_tokens, path_tokens, form_tokens, value_tokens, assignment_tokens, filter_tokens, update_tokens, index_tokens, actors_tokens, kernel_tokens}
+use Rattle.line_writer.proofs.Imports.{◌≡◌, ℕ, suc, ◌+◌, ◌≤◌, List, [], ◌∷◌, ◌++◌, map, length, codes, refl, sym, add-one, append-nil, append_assoc, arith, zero, inl, inr, Option, Some, None, max, ℤ, pos, negsuc, neg_ℤ, flat_map, Comma, CloseBracket, OpenParen, CloseParen, Dot, Equals, Token, Word, Sign, Number, Sentence, Assignment, Value, Assign, Update, Actors, Kernel, Count, filter_depth, deepest_set, deepest, Joined, IsNothing, Chain, Grammar, Is, behind, joined, more, PathStep, BinOp, depth_of, Version, One, Two, Command, KernelText, KernelWord, token_number, kernel_word_of, comparison_of, command_of, name, count, number, actors, assignment, body, bracketed_list, command_line, constant, cuts_phrase, filter_phrase, inside_kernel, kernel_text, later, line, comma_list, part, parts, path, update_end, operator, kernel_word, with_commas, line_tokens, count_token, number_tokens, path_tokens, form_tokens, value_tokens, assignment_tokens, filter_tokens, update_tokens, index_tokens, actors_tokens, kernel_tokens}
 use Rattle.line_grammar.specs.declared.line.Command.TheVariants as command
 use Rattle.line_grammar.specs.declared.line.KernelText.TheVariants as kernel
 use Rattle.line_grammar.specs.declared.line.KernelWord.TheVariants as word
@@ -60,12 +60,7 @@ const_of v (suc n) e spelled = rw e (record {
 })
 
 numeral : (token : Token) (v : ℤ) → token_number token ≡ Some v → IsSpelled token → (n : ℕ) × (v ≡ pos n) × IsSpelled (Number (pos n))
-numeral (Number (pos value)) v h spelled = let e : v ≡ pos value = cc in (value, e, spelled)
-numeral (Number (negsuc value)) v h spelled = absurd cc
-numeral (Word text) v h spelled = absurd cc
-numeral (Text text) v h spelled = absurd cc
-numeral (Sign sign) v h spelled = absurd cc
-numeral Bad v h spelled = absurd cc
+numeral token v h spelled = grind arith
 
 plain_const : (v : ℤ) (n : ℕ) → v ≡ pos n → IsSpelled (Number (pos n)) → KeptConst v
 unfolding constant
@@ -95,8 +90,7 @@ axpy_kept a x y ka kx ky = record {
   whole = refl;
   reads = join (number_tokens a) (Sign Comma ∷ (path_tokens x ++ Sign Comma ∷ path_tokens y)) a _ ka.reads
       (refl, join (path_tokens x) (Sign Comma ∷ path_tokens y) x _ kx.reads (refl, last (λ y. kernel.Axpy a x y) (path_tokens y) y ky.reads));
-  fits = fits_append 1 (number_tokens a) _ (const_in a ka) (fits_flat 1 (Sign Comma) _ refl refl
-      (fits_append 1 (path_tokens x) _ (path_in x kx) (fits_flat 1 (Sign Comma) _ refl refl (path_in y ky))));
+  fits = grind (arith, fits_append, const_in, fits_flat, path_in);
 }
 
 clamp_kept : (x : List PathStep) (lo hi : ℤ) → KeptPath x → KeptConst lo → KeptConst hi → KeptKernel word.Clamp (kernel.Clamp x lo hi)
@@ -106,8 +100,7 @@ clamp_kept x lo hi kx kl kh = record {
   whole = refl;
   reads = join (path_tokens x) (Sign Comma ∷ (number_tokens lo ++ Sign Comma ∷ number_tokens hi)) x _ kx.reads
       (refl, join (number_tokens lo) (Sign Comma ∷ number_tokens hi) lo _ kl.reads (refl, last (λ hi. kernel.Clamp x lo hi) (number_tokens hi) hi kh.reads));
-  fits = fits_append 1 (path_tokens x) _ (path_in x kx) (fits_flat 1 (Sign Comma) _ refl refl
-      (fits_append 1 (number_tokens lo) _ (const_in lo kl) (fits_flat 1 (Sign Comma) _ refl refl (const_in hi kh))));
+  fits = grind (arith, fits_append, path_in, fits_flat, const_in);
 }
 
 count_where_kept : (x : List PathStep) (op : BinOp) (c : ℤ) → KeptPath x → comparison_of (operator op) ≡ Some op → KeptConst c → KeptKernel word.CountWhere (kernel.CountWhere x op c)
@@ -124,13 +117,7 @@ comparison_back : (op own : BinOp) → own ≡ op → comparison_of (operator ow
 comparison_back op own e h = rw (← e) h
 
 comparison_is : (token : Token) (op : BinOp) → comparison_of token ≡ Some op → IsSpelled token → comparison_of (operator op) ≡ Some op
-comparison_is (Sign EqualEqual) op h spelled = comparison_back op Eq (cc) refl
-comparison_is (Sign NotEqual) op h spelled = comparison_back op Ne (cc) refl
-comparison_is (Sign LessThan) op h spelled = comparison_back op Lt (cc) refl
-comparison_is (Sign LessEqual) op h spelled = comparison_back op Le (cc) refl
-comparison_is (Sign GreaterThan) op h spelled = comparison_back op Gt (cc) refl
-comparison_is (Sign GreaterEqual) op h spelled = comparison_back op Ge (cc) refl
-comparison_is token op h spelled = absurd cc
+comparison_is token op h spelled = grind (arith, comparison_back)
 
 pub kernel_inside_gives : (word : KernelWord) → Gives (inside_kernel word) (KeptKernel word)
 unfolding inside_kernel
@@ -148,16 +135,10 @@ IsKept version sentence = deepest sentence ≤ 32 → Fits 64 (line_tokens sente
 
 -- the words of kernels
 kernel_word_spelled : (word : KernelWord) → IsSpelled (Word (kernel_word word))
-kernel_word_spelled word.Axpy = word_spelled (codes "axpy") refl refl (omega arith)
-kernel_word_spelled word.Clamp = word_spelled (codes "clamp") refl refl (omega arith)
-kernel_word_spelled word.Sum = word_spelled (codes "sum") refl refl (omega arith)
-kernel_word_spelled word.Least = word_spelled (codes "least") refl refl (omega arith)
-kernel_word_spelled word.Greatest = word_spelled (codes "greatest") refl refl (omega arith)
-kernel_word_spelled word.CountWhere = word_spelled (codes "count_where") refl refl (omega arith)
+kernel_word_spelled word = grind (arith, word_spelled)
 
 kernel_word_back : (word : KernelWord) → kernel_word_of (Word (kernel_word word)) ≡ Some word
-kernel_word_back word.Axpy = refl
-kernel_word_back other = refl
+kernel_word_back word = grind arith
 
 -- a command with a word in front
 pub as_line : (version : Version) (c : Command) (text : List ℕ) (rest : List Token) (s : Sentence) → command_of version (Word text) ≡ Some c → Is (body version c) rest s → Is (line version) (Word text ∷ rest) s
@@ -174,8 +155,7 @@ value_in value good small = fits_more (depth_of value) 32 _ small (value_fits va
 pub count_kept : (version : Version) (view : List ℕ) (filter : Value) → KeptName view → IsGood filter → IsKept version (Count view filter)
 unfolding body
 count_kept version view filter kv good = λ small. (
-  fits_more 32 64 _ (omega arith) (fits_word 32 (codes "reduce") _ refl refl (omega arith) (fits_flat 32 (Word view) _ refl (name_in view kv)
-      (fits_word 32 (codes "count") _ refl refl (omega arith) (fits_word 32 (codes "where") _ refl refl (omega arith) (value_in filter good small))))),
+  grind (arith, fits_more, fits_word, fits_flat, name_in, value_in),
   as_line version command.Reduce (codes "reduce") _ _ refl (join (Word view ∷ []) _ view _ kv.reads
       (inl (refl, (refl, last (λ filter. Count view filter) (value_tokens filter) filter (value_read filter good))))),
 )
@@ -231,9 +211,7 @@ spelled_parts (part ∷ parts) h =
     (each_front IsSpelled part (flat_map (λ next. Sign Comma ∷ next) parts) h.1, spelled_parts parts (each_back IsSpelled part (flat_map (λ next. Sign Comma ∷ next) parts) h.1))
 
 pub spelled_commas : (parts : List (List Token)) → Each IsSpelled (with_commas parts) → Each (Each IsSpelled) parts
-spelled_commas [] h = tt
-spelled_commas (part ∷ parts) h =
-    (each_front IsSpelled part (flat_map (λ next. Sign Comma ∷ next) parts) h, spelled_parts parts (each_back IsSpelled part (flat_map (λ next. Sign Comma ∷ next) parts) h))
+spelled_commas parts h = grind (arith, each_front, flat_map, spelled_parts, each_back)
 
 counts_fit : (counts : List ℕ) → Each (Each IsSpelled) (map (λ count. count_token count ∷ []) counts) → Each (Fits 0) (map (λ count. count_token count ∷ []) counts)
 counts_fit [] h = tt
@@ -286,8 +264,7 @@ filter_reads None good = inr (refl, refl)
 filter_reads (Some filter) good = inl (refl, last Some (value_tokens filter) filter (value_read filter good))
 
 filter_fits : (filter : Option Value) → IsGoodFilter filter → filter_depth filter ≤ 32 → Fits 32 (filter_tokens filter)
-filter_fits None good small = fits_more 0 32 [] (omega arith) no_tokens_fit
-filter_fits (Some filter) good small = fits_word 32 (codes "where") _ refl refl (omega arith) (value_in filter good small)
+filter_fits filter good small = grind (arith, fits_more, no_tokens_fit, fits_word, value_in)
 
 -- the parts of an update are kept
 pub record KeptParts (view : List ℕ) (filter : Option Value) (sets : List Assignment) : Type 0 where
@@ -297,8 +274,7 @@ pub record KeptParts (view : List ℕ) (filter : Option Value) (sets : List Assi
   pub goods : Each IsGoodSet sets
 
 update_fits : (view : List ℕ) (filter : Option Value) (sets : List Assignment) → KeptParts view filter sets → max (filter_depth filter) (deepest_set sets) ≤ 32 → Fits 32 (update_tokens view filter sets)
-update_fits view filter sets k small = fits_word 32 (codes "update") _ refl refl (omega arith) (fits_flat 32 (Word view) _ refl (name_in view k.named)
-    (fits_append 32 (filter_tokens filter) _ (filter_fits filter k.good (omega arith)) (fits_word 32 (codes "set") _ refl refl (omega arith) (commas_fit 32 _ (sets_fit sets k.goods (omega arith))))))
+update_fits view filter sets k small = grind (arith, fits_word, fits_flat, name_in, fits_append, filter_fits, commas_fit, sets_fit)
 
 -- with what ends it
 update_reads : (version : Version) (view : List ℕ) (filter : Option Value) (sets : List Assignment) (end : List Token) (s : Sentence) → KeptParts view filter sets →
@@ -329,8 +305,7 @@ unfolding update_end actors
 actors_kept view filter sets cuts seed turns k kc ks kt = λ small. (
   fits_more 32 64 _ (omega arith) (fits_append 32 (update_tokens view filter sets) _ (update_fits view filter sets k small)
       (fits_word 32 (codes "actors") _ refl refl (omega arith) (fits_append 32 (index_tokens cuts) _ (fits_more 1 32 _ (omega arith) (index_fits cuts kc.spelled))
-      (fits_word 32 (codes "schedule") _ refl refl (omega arith) (fits_flat 32 (count_token seed) _ refl ks.spelled.0
-      (fits_word 32 (codes "turns") _ refl refl (omega arith) (fits_more 0 32 _ (omega arith) (one_fits (count_token turns) refl kt.spelled.0)))))))),
+      (grind (arith, fits_word, fits_flat, fits_more, one_fits))))),
   update_reads Two view filter sets (actors_tokens cuts seed turns) (Actors view filter sets cuts seed turns) k (inl (
     refl,
     join (index_tokens cuts) (Word (codes "schedule") ∷ count_token seed ∷ Word (codes "turns") ∷ count_token turns ∷ []) cuts _ kc.reads (

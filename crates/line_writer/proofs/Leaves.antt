@@ -1,5 +1,5 @@
 -- What is read of an expression has leaves that are read back.
-use Rattle.line_writer.proofs.Imports.{◌≡◌, ℕ, suc, [], ◌∷◌, ◌++◌, codes, refl, sym, ap, ◌∙◌, append-nil, arith, zero, inl, inr, Option, Some, ℤ, pos, negsuc, decimal, decimal_digit, Minus, Token, Word, Sign, Number, Text, Bad, Value, Grammar, Is, item, BinOp, Constant, Entry, Index, Neg, Not, Binary, token_number, dimensions, index_of, or_of, and_of, sum_of, product_of, wrapped, number, link, atom_within, bracketed, chain, choice, comparison, conjunction, expr, expr_over, leaf, links, negation, path, prefixed, product, sum, unary, operator, index_word, number_tokens, value_tokens}
+use Rattle.line_writer.proofs.Imports.{◌≡◌, ℕ, suc, [], ◌∷◌, ◌++◌, codes, refl, sym, ap, ◌∙◌, append-nil, arith, zero, inl, inr, Option, Some, ℤ, decimal, decimal_digit, Minus, Token, Word, Sign, Value, Grammar, Is, item, BinOp, Constant, Entry, Index, Neg, Not, Binary, token_number, dimensions, index_of, or_of, and_of, sum_of, product_of, wrapped, number, atom_within, bracketed, chain, choice, comparison, conjunction, expr, expr_over, leaf, links, negation, path, prefixed, product, sum, unary, operator, index_word, number_tokens, value_tokens}
 use Rattle.line_writer.proofs.Gives.{Each, Gives, IsSpelled, Prints, gives, prints}
 use Rattle.line_writer.proofs.Words.{listed_as}
 use Rattle.line_writer.proofs.Phrases.{path_prints}
@@ -19,12 +19,7 @@ IsGood (Not inner) = IsGood inner
 IsGood (Binary op left right) = IsGood left × IsGood right
 
 number_is : (token : Token) (v : ℤ) → token_number token ≡ Some v → IsSpelled token → number_tokens v ≡ token ∷ []
-number_is (Number (pos value)) v h spelled = let e : pos value ≡ v = cc in rw (← e) refl
-number_is (Number (negsuc value)) v h spelled = absurd cc
-number_is (Word word) v h spelled = absurd cc
-number_is (Text text) v h spelled = absurd cc
-number_is (Sign sign) v h spelled = absurd cc
-number_is Bad v h spelled = absurd cc
+number_is token v h spelled = grind arith
 
 pub number_prints : Prints number number_tokens
 number_prints front v i spelled = number_is i.0 v i.2 (rw i.1 at spelled).0 ∙ sym i.1
@@ -49,10 +44,6 @@ leaf_gives front v i spelled =
     let own = leaf_prints front v i spelled in
     let good : IsGoodLeaf v = record { leaf = rw own i; spelled = rw own spelled } in
     gives leaf (λ v. IsGoodLeaf v → IsGood v) ((λ number f i s good. good), ((λ dimension f i s good. good), (λ path f i s good. good))) front v i spelled good
-
--- operators between operands, and in front of them
-link_gives : (operator : Token → Option BinOp) (one : Grammar Token Value) → Gives one IsGood → (left : Value) → IsGood left → Gives (link operator one left) IsGood
-link_gives operator one g left good = gives (link operator one left) IsGood (λ op f i s right h j t. (good, g h right j t))
 
 chain_gives : (operator : Token → Option BinOp) (one : Grammar Token Value) → Gives one IsGood → Gives (chain operator one) IsGood
 unfolding chain links

@@ -9,14 +9,7 @@ chain_one op one xs v h = record { first = v; front = xs; back = []; whole = sym
 
 prefix_none : (token : Token) (wrap : Value → Value) (one : Grammar Token Value) (xs : List Token) (v : Value) → Is one xs v → Is (prefixed token wrap one) xs v
 unfolding prefixed signs
-prefix_none token wrap one xs v h = record {
-  first = zero;
-  front = [];
-  back = xs;
-  whole = refl;
-  begins = (0, (refl, refl));
-  ends = record { first = v; front = xs; back = []; whole = sym (append-nil xs); begins = h; ends = (refl, refl) };
-}
+prefix_none token wrap one xs v h = grind (arith, append-nil)
 
 comparison_one : (one : Grammar Token Value) (xs : List Token) (v : Value) → Is (sum one) xs v → Is (comparison one) xs v
 unfolding comparison
@@ -186,39 +179,13 @@ choice_at op a b e one two zero small small' = let some = depth_some a in absurd
 choice_at op a b e one two (suc n) small small' = choice_atom n op (value_tokens a) (value_tokens b) a b e (one.whole n small) (two.whole n small')
 
 choice_back : (op : BinOp) (a b : Value) → is_choice op ≡ true → choice_of (operator op) ≡ Some op → IsReadBack a → IsReadBack b → IsReadBack (Binary op a b)
-choice_back op a b is e one two =
-    let tokens : List Token = operator op ∷ Sign OpenParen ∷ (value_tokens a ++ Sign Comma ∷ (value_tokens b ++ Sign CloseParen ∷ [])) in
-    let atom_at : (n : ℕ) → depth_of (Binary op a b) ≤ suc n → Is (atom_within n) tokens (Binary op a b)
-    = λ n small. choice_at op a b e one two n (omega arith) (omega arith) in
-    record {
-      whole = λ n small. rw is (from_atom (atom_within n) tokens (Binary op a b) (atom_at n small));
-      atom = λ n small. rw is (atom_at n (omega arith));
-    }
+choice_back op a b is e one two = grind (arith, choice_at, from_atom)
 
 between_back : (op : BinOp) (a b : Value) → is_choice op ≡ false → IsReadBack a → IsReadBack b → IsReadBack (Binary op a b)
-between_back op a b is one two =
-    let tokens : List Token = operand a (value_tokens a) ++ operator op ∷ operand b (value_tokens b) in
-    let whole_at : (n : ℕ) → depth_of (Binary op a b) ≤ suc n → Is (expr_over (atom_within n)) tokens (Binary op a b)
-    = λ n small. between (atom_within n) op (operand a (value_tokens a)) (operand b (value_tokens b)) a b is (one.atom n (omega arith)) (two.atom n (omega arith)) in
-    let some = depth_some a in
-    record { whole = λ n small. rw is (whole_at n small); atom = λ n small. rw is (compound_atom (Binary op a b) tokens (omega arith) whole_at n small) }
+between_back op a b is one two = grind (arith, between, depth_some, compound_atom)
 
 binary_back : (op : BinOp) (a b : Value) → IsReadBack a → IsReadBack b → IsReadBack (Binary op a b)
-binary_back Min a b one two = choice_back Min a b refl refl one two
-binary_back Max a b one two = choice_back Max a b refl refl one two
-binary_back Add a b one two = between_back Add a b refl one two
-binary_back Sub a b one two = between_back Sub a b refl one two
-binary_back Mul a b one two = between_back Mul a b refl one two
-binary_back Div a b one two = between_back Div a b refl one two
-binary_back Rem a b one two = between_back Rem a b refl one two
-binary_back Eq a b one two = between_back Eq a b refl one two
-binary_back Ne a b one two = between_back Ne a b refl one two
-binary_back Lt a b one two = between_back Lt a b refl one two
-binary_back Le a b one two = between_back Le a b refl one two
-binary_back Gt a b one two = between_back Gt a b refl one two
-binary_back Ge a b one two = between_back Ge a b refl one two
-binary_back And a b one two = between_back And a b refl one two
-binary_back Or a b one two = between_back Or a b refl one two
+binary_back op a b one two = grind (arith, choice_back, between_back)
 
 neg_back : (v : Value) → IsReadBack v → IsReadBack (Neg v)
 unfolding unary

@@ -1,5 +1,5 @@
 -- A line has its canonical tokens alone, or one with expressions or a kernel, and then its canonical tokens are kept.
-use Rattle.line_writer.proofs.Imports.{◌≡◌, ℕ, List, [], ◌∷◌, ◌++◌, codes, refl, sym, ap, ◌∙◌, append-nil, inl, inr, Option, Some, ◌⊎◌, Token, Word, Sentence, Assignment, Value, Update, Show, Grammar, Is, item, behind, joined, nothing, InParts, Version, One, Two, Command, KernelWord, command_of, name, count, actors, assignment, body, bracketed_list, command_line, cuts_phrase, extent_word, filter_phrase, fixed, kernel_text, line, comma_list, mapping, new, show_end, update_end, command_word, ExtentWord, ShowKind, line_tokens, count_token, index_tokens, extent_tokens, map_tokens, new_tokens, arith, Sign, Equals, Slash, Stencil, PathStep, Span, TermText, window_phrase, path_tokens, window_tokens, terms_tokens}
+use Rattle.line_writer.proofs.Imports.{◌≡◌, ℕ, List, [], ◌∷◌, ◌++◌, codes, refl, sym, ap, ◌∙◌, append-nil, inl, inr, Option, Some, ◌⊎◌, Token, Word, Sentence, Assignment, Value, Update, Show, Grammar, Is, item, behind, joined, nothing, InParts, Version, One, Two, Command, KernelWord, command_of, name, count, actors, assignment, body, bracketed_list, command_line, cuts_phrase, extent_word, filter_phrase, fixed, kernel_text, line, comma_list, mapping, new, show_end, update_end, command_word, ExtentWord, ShowKind, line_tokens, count_token, index_tokens, extent_tokens, map_tokens, new_tokens, arith, Sign, Equals, Stencil, PathStep, Span, TermText, window_phrase, path_tokens, window_tokens, terms_tokens}
 use Rattle.line_grammar.specs.declared.line.Command.TheVariants as command
 use Rattle.line_grammar.specs.declared.line.ShowKind.TheVariants as show
 use Rattle.line_writer.proofs.Gives.{Each, Gives, IsSpelled, Prints, at_ends, by_parts, each_back, each_front, gives, prints}
@@ -58,8 +58,7 @@ stencil_kept version view window path terms divisor rounds is kv kw kp kt kd kr 
   fits_more 2 64 _ (omega arith) (fits_word 2 (codes "stencil") _ refl refl (omega arith) (fits_flat 2 (Word view) _ refl (name_in view kv)
       (fits_append 2 (window_tokens window) _ (fits_more 1 2 _ (omega arith) (window_fits window kw.spelled)) (fits_word 2 (codes "set") _ refl refl (omega arith)
       (fits_append 2 (path_tokens path) _ (fits_more 1 2 _ (omega arith) (path_in path kp)) (fits_flat 2 (Sign Equals) _ refl refl
-      (fits_append 2 (terms_tokens terms) _ (terms_fit terms kt.1) (fits_flat 2 (Sign Slash) _ refl refl (fits_flat 2 (count_token divisor) _ refl kd.spelled.0
-      (fits_word 2 (codes "rounds") _ refl refl (omega arith) (fits_more 0 2 _ (omega arith) (one_fits (count_token rounds) refl kr.spelled.0)))))))))))),
+      (fits_append 2 (terms_tokens terms) _ (terms_fit terms kt.1) (grind (arith, fits_flat, fits_word, fits_more, one_fits))))))))),
   as_line version command.Stencil (codes "stencil") _ _ is (join (Word view ∷ []) _ view _ kv.reads (join (window_tokens window) _ window _ kw.reads (
     refl,
     join (path_tokens path) _ path _ kp.reads (
@@ -104,10 +103,7 @@ body_done version command.Set is = λ xs v h spelled. inr (gives (body version c
 body_done version command.Update is = λ xs v h spelled. inr (update_gives version xs v h spelled)
 body_done version command.Kernel is = λ xs v h spelled. inr (gives (body version command.Kernel) (IsKept version) (λ view f i s text g j t lanes h k u.
     let own = kernel_gives g text j t in kernel_kept version view own.0 text lanes (kept_name f view i s) own.1 (kept_count h lanes k u)) xs v h spelled)
-body_done version command.Reduce is = at_ends (body version command.Reduce) (IsBehind version command.Reduce) (λ view f i s. (
-  (λ value g j t. inr (count_kept version view value (kept_name f view i s) (expr_gives g value j t))),
-  λ kind g j t path h k u. inl (rw (← name_prints f view i s, ← reduction_prints g kind j t, ← path_prints h path k u, append-nil) refl),
-))
+body_done version command.Reduce is = at_ends (body version command.Reduce) (IsBehind version command.Reduce) (λ view f i s. grind (arith, count_kept, kept_name, expr_gives, name_prints, reduction_prints, path_prints, append-nil))
 body_done version command.Copy is = by_its_parts version command.Copy (_, name_prints, λ source. (_, name_prints, λ target. inl refl))
 body_done version command.Relayout is = by_its_parts version command.Relayout (_, name_prints, λ view. (_, mapping_prints version, λ map. inl (rw append-nil refl)))
 body_done version (command.Show kind) is = show_done version kind
@@ -123,8 +119,7 @@ command_back : (version : Version) (front : List Token) (c : Command) → Is (it
 command_back version front c i same = (let own : Word (command_word c) ∷ [] ≡ i.0 ∷ [] = same ∙ i.1 in let first : Word (command_word c) ≡ i.0 = cc in ap (command_of version) first ∙ i.2)
 
 done_along : (version : Version) (xs ys : List Token) (v : Sentence) → xs ≡ ys → IsDone version xs v → IsDone version ys v
-done_along version xs ys v e (inl h) = inl (h ∙ e)
-done_along version xs ys v e (inr h) = inr h
+done_along version xs ys v e h = grind arith
 
 pub line_done : (version : Version) (xs : List Token) (v : Sentence) → Is (line version) xs v → Each IsSpelled xs → IsDone version xs v
 unfolding line command_line

@@ -1,5 +1,5 @@
 -- A path, a record and a mapping have one list of tokens each: the canonical one.
-use Rattle.line_writer.proofs.Imports.{◌≡◌, ℕ, suc, ◌≤◌, List, [], ◌∷◌, ◌++◌, map, length, refl, sym, ap, ◌∙◌, append-nil, append_assoc, arith, zero, inl, inr, Option, Some, None, flat_map, flat_map-append, OpenBrace, CloseBrace, Comma, Arrow, Tree, Fields, Record, Single, Token, Word, Sign, Grammar, Is, behind, joined, either, repeats, more, InParts, Version, One, Two, map_word, arrays, fields_of_list, name, count, bracketed_list, braced, braced_widths, cuts_phrase, dim, dims, extent_word, field_width, field_widths, field_within, fields, fixed, flag, form_or_name, inside_aos, inside_aosoa, inside_bits, inside_form, inside_soa, later, later_passes, comma_list, mapping, mapping_within, nested, part, parts, pass, passes, path, span, typed, window_phrase, type_word, form_word, MapTerm, MapWord, with_commas, width_tokens, widths_tokens, fields_tokens, later_tokens, held_tokens, count_token, path_tokens, form_tokens, index_tokens, bracket_list, extent_tokens, flag_tokens, map_tokens, pass_tokens, bracketed_count, step_tokens, dims_tokens, core_tokens, span_tokens, window_tokens}
+use Rattle.line_writer.proofs.Imports.{◌≡◌, ℕ, suc, ◌≤◌, List, [], ◌∷◌, ◌++◌, map, length, refl, sym, ap, ◌∙◌, append-nil, append_assoc, arith, zero, inl, inr, Option, Some, None, flat_map, flat_map-append, OpenBrace, CloseBrace, Comma, Arrow, Tree, Fields, Record, Single, Token, Word, Sign, Grammar, Is, behind, joined, repeats, more, InParts, Version, One, Two, map_word, arrays, fields_of_list, name, count, bracketed_list, braced, braced_widths, cuts_phrase, dim, dims, extent_word, field_width, field_widths, field_within, fields, fixed, flag, form_or_name, inside_aos, inside_aosoa, inside_bits, inside_form, inside_soa, later, later_passes, comma_list, mapping, mapping_within, nested, part, parts, pass, passes, path, span, typed, window_phrase, type_word, form_word, MapTerm, MapWord, with_commas, width_tokens, widths_tokens, fields_tokens, later_tokens, held_tokens, count_token, path_tokens, form_tokens, index_tokens, bracket_list, extent_tokens, flag_tokens, map_tokens, pass_tokens, bracketed_count, step_tokens, dims_tokens, core_tokens, span_tokens, window_tokens}
 use Rattle.record_dim.specs.declared.path.PathStep.TheVariants as step
 use Rattle.line_grammar.specs.declared.line.MapWord.TheVariants as form
 use Rattle.line_writer.proofs.Gives.{Each, IsSpelled, Prints, at_ends, by_parts, each_back, each_front, prints}
@@ -31,8 +31,7 @@ first_prints one later tokens tokens_later p q start xs v h spelled =
     (h.first, r.0, r.1, rw (h.whole, r.2, p h.front h.first h.begins (each_front IsSpelled h.front h.back all)) refl)
 
 behind_prints : {A : Type 0} (token : Token) (one : Grammar Token A) (tokens : A → List Token) → Prints one tokens → Prints (behind token one) (λ v. token ∷ tokens v)
-behind_prints token one tokens p [] a i s = absurd i
-behind_prints token one tokens p (first ∷ front) a i s = rw (i.0, p front a i.1 s.1) refl
+behind_prints token one tokens p h a i s = grind arith
 
 -- a list with an item at least
 filled_prints : {A : Type 0} (one : Grammar Token A) (tokens : A → List Token) → Prints one tokens → (xs : List Token) (v : List A) → Is (comma_list one) xs v → Each IsSpelled xs
@@ -107,18 +106,12 @@ braced_prints one p = prints (braced one) braced_tokens (_, listed_prints one fi
 
 -- what stands behind a name
 field_prints : (held : List ℕ → Grammar Token (List ℕ × Tree)) → ((name : List ℕ) (xs : List Token) (v : List ℕ × Tree) → Is (held name) xs v → Each IsSpelled xs → IsHeld name xs v) → Prints (joined name held) field_tokens
-field_prints held each xs v h spelled =
-    let all : Each IsSpelled (h.front ++ h.back) = rw h.whole at spelled in
-    let own = name_prints h.front h.first h.begins (each_front IsSpelled h.front h.back all) in
-    rw (h.whole, ← own) (sym (each h.first h.back v h.ends (each_back IsSpelled h.front h.back all)))
+field_prints held each xs v h spelled = grind (arith, name_prints, each_front, each_back)
 
 within_prints : (n : ℕ) → Prints (field_within n) field_tokens
 unfolding field_within
 within_prints zero = field_prints typed typed_held
-within_prints (suc n) = field_prints (λ name. either (typed name) (nested (braced (field_within n)) name)) (λ name xs v h s. elim h [
-  | inl i ↦ typed_held name xs v i s
-  | inr i ↦ nested_held (braced (field_within n)) (braced_prints (field_within n) (within_prints n)) name xs v i s
-])
+within_prints (suc n) = grind (arith, field_prints, typed_held, nested_held, braced_prints, (within_prints n))
 
 pub fields_print : Prints fields braced_tokens
 unfolding fields
@@ -175,10 +168,7 @@ module _ (version : Version) (one : Grammar Token MapTerm) (p : Prints one map_t
 within_map_prints : (version : Version) (n : ℕ) → Prints (mapping_within version n) map_tokens
 unfolding mapping_within
 within_map_prints version zero = prints (mapping_within version zero) map_tokens (_, name_prints, λ word. refl)
-within_map_prints version (suc n) = λ xs v h spelled.
-    let all : Each IsSpelled (h.front ++ h.back) = rw h.whole at spelled in
-    let own = name_prints h.front h.first h.begins (each_front IsSpelled h.front h.back all) in
-    rw (h.whole, ← own) (form_or_name_prints version (mapping_within version n) (within_map_prints version n) h.first (map_word h.first) refl h.back v h.ends (each_back IsSpelled h.front h.back all))
+within_map_prints version (suc n) = grind (arith, name_prints, each_front, form_or_name_prints, each_back, (within_map_prints version n))
 
 pub mapping_prints : (version : Version) → Prints (mapping version) map_tokens
 unfolding mapping

@@ -1,5 +1,5 @@
 -- The canonical text of a line that is read has its canonical tokens, and is read as the same line.
-use Rattle.line_writer.proofs.Imports.{◌≡◌, ℕ, suc, ◌+◌, ◌<◌, ◌≤◌, ◌-◌, List, [], ◌∷◌, ◌++◌, map, length, take, drop, refl, sym, ap, ◌∙◌, append_assoc, arith, inl, inr, Option, Some, None, subst, pos, true, ◌^◌, slice_range, list_all, AllPass, decimal, decimal_is_IsNumeral_wide, nat_tests, digit_from_value, append_cancel_right, drop-drop, length-append, take_at, AllPass-from_list_all, is_ascii_digit, AllDigits, spaced_tokens, Spells, MayOpen, AreSpelled, Token, Word, Sign, Number, Text, Bad, Sentence, deepest, Is, Version, kind_token, line, is_text_byte, joined_no_end, NoEnd, next_of, brackets_after, Spots, Begins, Spot, Found, TokenKind, token_exactly, next_spells, joined_read, spot_at, both, tokens_of, Reads, line_tokens, written, canonical}
+use Rattle.line_writer.proofs.Imports.{◌≡◌, ℕ, suc, ◌+◌, ◌<◌, ◌≤◌, ◌-◌, List, [], ◌∷◌, ◌++◌, map, length, take, drop, refl, sym, ap, ◌∙◌, append_assoc, arith, Option, Some, None, subst, pos, true, ◌^◌, slice_range, list_all, AllPass, decimal, decimal_is_IsNumeral_wide, nat_tests, digit_from_value, append_cancel_right, drop-drop, length-append, take_at, AllPass-from_list_all, is_ascii_digit, AllDigits, spaced_tokens, Spells, MayOpen, AreSpelled, Token, Word, Sign, Number, Text, Bad, Sentence, deepest, Is, Version, kind_token, line, is_text_byte, joined_no_end, NoEnd, next_of, brackets_after, Spots, Begins, Spot, Found, TokenKind, token_exactly, next_spells, joined_read, spot_at, both, tokens_of, Reads, line_tokens, written, canonical}
 use Rattle.line_tokens.specs.declared.token.TokenKind.TheVariants as kind
 use Rattle.line_writer.proofs.Gives.{IsClean, IsSpelled, Each, sound}
 use Rattle.line_writer.proofs.Sounds.{line_sound}
@@ -15,8 +15,7 @@ digits_pass [] h = refl
 digits_pass (d ∷ ds) h = rw (digit_passes d (digit_from_value d h.0)) (digits_pass ds h.1)
 
 digits_begin : (ds : List ℕ) → 0 < length ds → list_all is_ascii_digit ds ≡ true → Begins is_ascii_digit ds
-digits_begin [] some all = absurd (omega arith)
-digits_begin (d ∷ ds) some all = (both _ _ all).0
+digits_begin ds some all = grind (arith, both)
 
 pub decimal_spells : (n : ℕ) → n < 2 ^ 127 → Spells (kind.Number (pos n)) (decimal n)
 decimal_spells n small =
@@ -68,8 +67,7 @@ token_spelled text at brackets from end (kind.Sign sign) e = (refl, refl)
 
 clean_step : (text : List ℕ) (at brackets from end : ℕ) (k : Option TokenKind) (rest : List Spot) →
     ((at brackets : ℕ) → Spots text at brackets rest → Each IsClean (tokens_of text rest)) → Spots text at brackets (spot_at from end k ∷ rest) → Each IsClean (tokens_of text (spot_at from end k ∷ rest))
-clean_step text at brackets from end None rest behind h = (tt, rw h.2 tt)
-clean_step text at brackets from end (Some kind) rest behind h = ((token_spelled text at brackets from end kind h.0).0, behind end (brackets_after kind brackets) h.1)
+clean_step text at brackets from end k rest behind h = grind (arith, token_spelled)
 
 spots_clean : (text : List ℕ) (at brackets : ℕ) (spots : List Spot) → Spots text at brackets spots → Each IsClean (tokens_of text spots)
 spots_clean text at brackets [] h = tt
@@ -106,11 +104,7 @@ token_back text at brackets from end Bad e bytes spelled = absurd spelled.0
 back_step : (text : List ℕ) (at brackets from end : ℕ) (k : Option TokenKind) (rest : List Spot) (token : Token) (tokens : List Token) →
     ((at brackets : ℕ) → Spots text at brackets rest → tokens_of text rest ≡ tokens) → Spots text at brackets (spot_at from end k ∷ rest) →
     k ≡ Some (written token).kind → slice_range text from end ≡ (written token).bytes → IsSpelled token → tokens_of text (spot_at from end k ∷ rest) ≡ token ∷ tokens
-back_step text at brackets from end None rest token tokens behind h kind bytes spelled = absurd cc
-back_step text at brackets from end (Some own) rest token tokens behind h kind bytes spelled =
-    let same : own ≡ (written token).kind = cc in
-    let first : token_at text from end own ≡ token = rw same (token_back text at brackets from end token (h.0 ∙ ap (λ k. Found from end k) same) bytes spelled) in
-    ap (λ k. k ∷ tokens_of text rest) first ∙ ap (λ k. token ∷ k) (behind end (brackets_after own brackets) h.1)
+back_step text at brackets from end k rest token tokens behind h kind bytes spelled = grind (arith, token_back)
 
 spots_back : (text : List ℕ) (at brackets : ℕ) (spots : List Spot) (tokens : List Token) → Spots text at brackets spots →
     map (λ spot. spot.kind) spots ≡ map (λ token. Some token.kind) (map written tokens) →
@@ -130,10 +124,7 @@ each_spelled brackets [] h = tt
 each_spelled brackets (token ∷ tokens) h = (h.0, each_spelled (brackets_after (written token).kind brackets) tokens h.2)
 
 pub joined_reads : (version : Version) (tokens : List Token) (sentence : Sentence) → AreSpelled 0 (map written tokens) → Is (line version) tokens sentence → Reads version (spaced_tokens (map written tokens)) sentence
-joined_reads version tokens sentence spelled is =
-    let read = joined_read (map written tokens) spelled in
-    let same = spots_back (spaced_tokens (map written tokens)) 0 0 read.spots tokens read.read read.kinds read.bytes (each_spelled 0 tokens spelled) in
-    record { spots = read.spots; tokens = read.read; line = rw same is }
+joined_reads version tokens sentence spelled is = grind (arith, joined_read, spots_back, each_spelled)
 
 -- the canonical tokens of a line are spelled, and are read as this line
 pub record IsRead (version : Version) (sentence : Sentence) : Type 0 where
@@ -141,21 +132,15 @@ pub record IsRead (version : Version) (sentence : Sentence) : Type 0 where
   pub line : Is (line version) (line_tokens sentence) sentence
 
 done_read : (version : Version) (tokens : List Token) (sentence : Sentence) → Is (line version) tokens sentence → AreSpelled 0 (map written tokens) → deepest sentence ≤ 32 → IsDone version tokens sentence → IsRead version sentence
-done_read version tokens sentence is spelled small (inl same) = record { spelled = rw same spelled; line = rw same is }
-done_read version tokens sentence is spelled small (inr kept) = let k = kept small in record { spelled = fits_alone (line_tokens sentence) k.0; line = k.1 }
+done_read version tokens sentence is spelled small h = grind (arith, fits_alone)
 
 pub tokens_read : (version : Version) (text : List ℕ) (sentence : Sentence) → Reads version text sentence → deepest sentence ≤ 32 → IsRead version sentence
-tokens_read version text sentence h small =
-    let tokens : List Token = tokens_of text h.spots in
-    let spelled = sound (line version) (line_sound version) tokens sentence h.line (spots_clean text 0 0 h.spots h.tokens) in
-    done_read version tokens sentence h.line (spots_room text 0 0 h.spots h.tokens spelled) small (line_done version tokens sentence h.line spelled)
+tokens_read version text sentence h small = grind (arith, sound, line_sound, spots_clean, done_read, spots_room, line_done)
 
 -- the canonical text of a line that some text is, with no expression deeper than 32, is this line
 pub reads_back : (version : Version) (text : List ℕ) (sentence : Sentence) → Reads version text sentence → deepest sentence ≤ 32 → Reads version (canonical sentence) sentence
 unfolding canonical
-reads_back version text sentence h small =
-    let read = tokens_read version text sentence h small in
-    joined_reads version (line_tokens sentence) sentence read.spelled read.line
+reads_back version text sentence h small = grind (arith, tokens_read, joined_reads)
 
 -- its canonical tokens are spelled, and open no 65th bracket
 pub are_spelled : (version : Version) (text : List ℕ) (sentence : Sentence) → Reads version text sentence → deepest sentence ≤ 32 → AreSpelled 0 (map written (line_tokens sentence))

@@ -1,6 +1,5 @@
 -- The canonical tokens of expressions and kernels are spelled, and open few brackets at once.
-use Rattle.line_writer.proofs.Imports.{◌≡◌, ℕ, ◌+◌, ◌<◌, ◌≤◌, ◌-◌, List, [], ◌∷◌, ◌++◌, map, length, codes, refl, sym, ◌∙◌, append-nil, append_assoc, arith, max, ℤ, pos, negsuc, true, false, Bool, not, ◌&&◌, if◌then◌else◌, flat_map, list_all, map-append, AllPass-from_list_all, le-max_left, le-max_right, MayOpen, AreSpelled, Written, Comma, CloseBracket, OpenParen, CloseParen, Dot, Minus, OpenBracket, Token, Word, Sign, Number, Text, Bad, Value, PathStep, BinOp, Add, Min, Max, And, Or, depth_of, Constant, Entry, Index, Neg, Not, Binary, name, count, number, part, parts, path, operator, is_letter, is_word_byte, brackets_after, Begins, opens, closes, SignName, with_commas, count_token, number_tokens, path_tokens, form_tokens, value_tokens, is_choice, operand, bracket_list, bracketed_count, step_tokens, needs_brackets, first_tokens, written}
-use Rattle.record_dim.specs.declared.path.PathStep.TheVariants as step
+use Rattle.line_writer.proofs.Imports.{◌≡◌, ℕ, ◌+◌, ◌<◌, ◌≤◌, ◌-◌, List, [], ◌∷◌, ◌++◌, map, length, codes, refl, append-nil, append_assoc, arith, max, ℤ, true, false, Bool, not, ◌&&◌, if◌then◌else◌, flat_map, list_all, map-append, AllPass-from_list_all, le-max_left, le-max_right, MayOpen, AreSpelled, Written, Comma, CloseBracket, OpenParen, CloseParen, Minus, OpenBracket, Token, Word, Sign, Number, Text, Bad, Value, PathStep, BinOp, depth_of, Constant, Entry, Index, Neg, Not, Binary, count, number, part, parts, path, operator, is_letter, is_word_byte, brackets_after, Begins, opens, closes, SignName, with_commas, count_token, number_tokens, path_tokens, form_tokens, value_tokens, is_choice, operand, bracket_list, bracketed_count, step_tokens, needs_brackets, first_tokens, written}
 use Rattle.line_writer.proofs.Gives.{IsSpelled, Each, each_front, each_back}
 use Rattle.line_writer.proofs.Leaves.{IsGood}
 
@@ -15,10 +14,7 @@ pub fits_more : (k m : ℕ) (tokens : List Token) → k ≤ m → Fits k tokens 
 fits_more k m tokens less f = record { at = λ b rest small h. f.at b rest (omega arith) h }
 
 pub fits_append : (k : ℕ) (xs ys : List Token) → Fits k xs → Fits k ys → Fits k (xs ++ ys)
-fits_append k xs ys f g = record {
-  at = λ b rest small h.
-      rw (map-append written xs ys, append_assoc) (f.at b (map written ys ++ rest) small (g.at b rest small h));
-}
+fits_append k xs ys f g = grind (arith, map-append, append_assoc)
 
 -- a token that is no bracket
 abbrev is_flat : Token → Bool
@@ -38,22 +34,12 @@ flat_room (Sign sign) b e = sign_room (opens sign) (closes sign) b e
     sign_room false false b e = (λ h. absurd cc, refl)
 
 pub fits_flat : (k : ℕ) (token : Token) (tokens : List Token) → is_flat token ≡ true → IsSpelled token → Fits k tokens → Fits k (token ∷ tokens)
-fits_flat k token tokens e spelled f = record {
-  at = λ b rest small h.
-      let room = flat_room token b e in
-      (spelled, room.0, rw room.1 (f.at b rest small h));
-}
+fits_flat k token tokens e spelled f = grind (arith, flat_room)
 
 -- tokens in brackets
 pub fits_inside : (k : ℕ) (opening closing : SignName) (tokens : List Token) → opens opening ≡ true → opens closing ≡ false → closes closing ≡ true → Fits k tokens →
     Fits (k + 1) (Sign opening ∷ (tokens ++ Sign closing ∷ []))
-fits_inside k opening closing tokens o p c f = record {
-  at = λ b rest small h.
-      let less : b < 64 = omega arith in
-      let back : b + 1 - 1 ≡ b = omega arith in
-      let last : AreSpelled (b + 1) (written (Sign closing) ∷ rest) = (refl, (λ h'. absurd (let bad = sym p ∙ h' in cc)), rw (p, c, back) h) in
-      (refl, (λ h'. less), rw (o, map-append written tokens (Sign closing ∷ []), append_assoc (map written tokens) (map written (Sign closing ∷ [])) rest) (f.at (b + 1) (written (Sign closing) ∷ rest) (omega arith) last));
-}
+fits_inside k opening closing tokens o p c f = grind (arith, map-append, append_assoc)
 
 -- words and signs of the language are spelled
 pub word_spelled : (text : List ℕ) → Begins is_letter text → list_all is_word_byte text ≡ true → length text ≤ 32 → IsSpelled (Word text)
@@ -63,15 +49,10 @@ pub fits_word : (k : ℕ) (text : List ℕ) (tokens : List Token) → Begins is_
 fits_word k text tokens first all short f = fits_flat k (Word text) tokens refl (word_spelled text first all short) f
 
 operator_spelled : (op : BinOp) → IsSpelled (operator op)
-operator_spelled Min = word_spelled (codes "min") refl refl (omega arith)
-operator_spelled Max = word_spelled (codes "max") refl refl (omega arith)
-operator_spelled And = word_spelled (codes "and") refl refl (omega arith)
-operator_spelled Or = word_spelled (codes "or") refl refl (omega arith)
-operator_spelled other = refl
+operator_spelled op = grind (arith, word_spelled)
 
 operator_flat : (op : BinOp) → is_flat (operator op) ≡ true
-operator_flat Add = refl
-operator_flat other = refl
+operator_flat op = grind arith
 
 pub fits_operator : (k : ℕ) (op : BinOp) (tokens : List Token) → Fits k tokens → Fits k (operator op ∷ tokens)
 fits_operator k op tokens f = fits_flat k (operator op) tokens (operator_flat op) (operator_spelled op) f
@@ -85,32 +66,26 @@ bracketed_count_fits count spelled = fits_inside 0 OpenBracket CloseBracket (cou
 
 -- a path
 first_fits : (first : PathStep) → Each IsSpelled (first_tokens first) → Fits 1 (first_tokens first)
-first_fits (step.Name name) h = fits_more 0 1 _ (omega arith) (one_fits (Word name) refl h.0)
-first_fits (step.At number) h = bracketed_count_fits number h.1.0
+first_fits first h = grind (arith, fits_more, one_fits, bracketed_count_fits)
 
 step_fits : (next : PathStep) → Each IsSpelled (step_tokens next) → Fits 1 (step_tokens next)
-step_fits (step.Name name) h = fits_more 0 1 _ (omega arith) (fits_flat 0 (Sign Dot) (Word name ∷ []) refl refl (one_fits (Word name) refl h.1.0))
-step_fits (step.At number) h = bracketed_count_fits number h.1.0
+step_fits next h = grind (arith, fits_more, fits_flat, one_fits, bracketed_count_fits)
 
 steps_fit : (steps : List PathStep) → Each IsSpelled (flat_map step_tokens steps) → Fits 1 (flat_map step_tokens steps)
 steps_fit [] h = fits_more 0 1 [] (omega arith) no_tokens_fit
-steps_fit (next ∷ steps) h = fits_append 1 (step_tokens next) (flat_map step_tokens steps)
-    (step_fits next (each_front IsSpelled (step_tokens next) (flat_map step_tokens steps) h)) (steps_fit steps (each_back IsSpelled (step_tokens next) (flat_map step_tokens steps) h))
+steps_fit (next ∷ steps) h = grind (arith, fits_append, flat_map, step_fits, each_front, each_back, (steps_fit steps (each_back IsSpelled (step_tokens next) (flat_map step_tokens steps) h)))
 
 pub path_fits : (path : List PathStep) → Each IsSpelled (path_tokens path) → Fits 1 (path_tokens path)
 path_fits [] h = fits_more 0 1 [] (omega arith) no_tokens_fit
-path_fits (first ∷ steps) h = fits_append 1 (first_tokens first) (flat_map step_tokens steps)
-    (first_fits first (each_front IsSpelled (first_tokens first) (flat_map step_tokens steps) h)) (steps_fit steps (each_back IsSpelled (first_tokens first) (flat_map step_tokens steps) h))
+path_fits (first ∷ steps) h = grind (arith, fits_append, flat_map, first_fits, each_front, steps_fit, each_back)
 
 -- numbers
 pub number_fits : (number : ℤ) → Each IsSpelled (number_tokens number) → Fits 0 (number_tokens number)
-number_fits (pos value) h = one_fits (Number (pos value)) refl h.0
-number_fits (negsuc value) h = fits_flat 0 (Sign Minus) _ refl refl (one_fits (Number (pos (value + 1))) refl h.1.0)
+number_fits number h = grind (arith, one_fits, fits_flat)
 
 -- an expression has at most as many brackets open as it is deep
 operand_in : (k : ℕ) (b : Bool) (tokens : List Token) → Fits k tokens → Fits (k + 1) (if b then Sign OpenParen ∷ (tokens ++ Sign CloseParen ∷ []) else tokens)
-operand_in k true tokens f = fits_inside k OpenParen CloseParen tokens refl refl refl f
-operand_in k false tokens f = fits_more k (k + 1) tokens (omega arith) f
+operand_in k b tokens f = grind (arith, fits_inside, fits_more)
 
 operand_fits : (k : ℕ) (v : Value) (tokens : List Token) → Fits k tokens → Fits (k + 1) (operand v tokens)
 operand_fits k v tokens f = operand_in k (needs_brackets v) tokens f

@@ -1,5 +1,5 @@
 -- Windows and weighted terms. A term may have other tokens than the canonical ones, since a number may have a sign before a zero: its canonical tokens are kept.
-use Rattle.line_writer.proofs.Imports.{List, [], ◌∷◌, ◌++◌, map, codes, refl, arith, ℤ, Comma, CloseBracket, OpenParen, CloseParen, Colon, Star, Token, Word, Sign, Grammar, Is, behind, PathStep, bracketed_list, constant, later, comma_list, path, span, term_phrase, terms_phrase, Span, TermText, with_commas, count_token, number_tokens, path_tokens, bracket_list, span_tokens, window_tokens, term_tokens, terms_tokens}
+use Rattle.line_writer.proofs.Imports.{List, [], ◌∷◌, ◌++◌, map, codes, refl, arith, ℤ, Comma, CloseBracket, OpenParen, CloseParen, Star, Token, Word, Sign, Grammar, Is, behind, PathStep, bracketed_list, constant, later, comma_list, path, span, term_phrase, terms_phrase, Span, TermText, with_commas, number_tokens, path_tokens, bracket_list, span_tokens, window_tokens, term_tokens, terms_tokens}
 use Rattle.line_writer.proofs.Gives.{IsSpelled, Each, each_append, each_front, Gives, gives}
 use Rattle.line_writer.proofs.Rooms.{Fits, commas_fit, fits_append, fits_flat, fits_inside, fits_more, bracket_list_fits, number_fits, one_fits, fits_word}
 use Rattle.line_writer.proofs.Kept.{KeptConst, KeptPath, IsFull, const_gives, join, kept_path, last, listed_read, path_in, spelled_commas}
@@ -10,8 +10,7 @@ full_more [] next = tt
 full_more (first ∷ found) next = tt
 
 behind_gives : {A : Type 0} (token : Token) (one : Grammar Token A) (P : A → Type 0) → Gives one P → Gives (behind token one) P
-behind_gives token one P g [] v i s = absurd i
-behind_gives token one P g (first ∷ xs) v i s = g xs v i.1 s.1
+behind_gives token one P g h v i s = grind arith
 
 pub items_give : {A : Type 0} (one : Grammar Token A) (P : A → Type 0) → Gives one P → Gives (comma_list one) (λ v. IsFull v × Each P v)
 unfolding comma_list later
@@ -21,8 +20,7 @@ items_give one P g = gives (comma_list one) (λ v. IsFull v × Each P v) (λ fir
 -- a window
 spans_fit : (spans : List Span) → Each (Each IsSpelled) (map span_tokens spans) → Each (Fits 0) (map span_tokens spans)
 spans_fit [] h = tt
-spans_fit (span ∷ spans) h =
-    (fits_flat 0 (count_token span.from) _ refl h.0.0 (fits_flat 0 (Sign Colon) _ refl refl (one_fits (count_token span.end) refl h.0.1.1.0)), spans_fit spans h.1)
+spans_fit (span ∷ spans) h = grind (arith, fits_flat, one_fits, (spans_fit spans h.1))
 
 pub window_fits : (window : List Span) → Each IsSpelled (window_tokens window) → Fits 1 (window_tokens window)
 window_fits window h = fits_flat 1 (Word (codes "window")) _ refl h.0
@@ -60,8 +58,7 @@ term_kept weight path offsets kw kp full each = record {
         (refl, last (λ offsets. let made : TermText = record { weight = weight; path = path; offsets = offsets } in made) (bracket_list (map number_tokens offsets)) offsets (offsets_read offsets full each)),
   );
   fits = fits_append 1 (number_tokens weight) _ (fits_more 0 1 _ (omega arith) (number_fits weight kw.spelled)) (fits_flat 1 (Sign Star) _ refl refl
-      (fits_append 1 (path_tokens path) _ (path_in path kp) (fits_word 1 (codes "at") _ refl refl (omega arith)
-      (bracket_list_fits 0 _ (consts_fit offsets each)))));
+      (fits_append 1 (path_tokens path) _ (path_in path kp) (grind (arith, fits_word, bracket_list_fits, consts_fit))));
 }
 
 offsets_give : Gives (bracketed_list constant) (λ v. IsFull v × Each KeptConst v)

@@ -1,11 +1,11 @@
 -- The one token that each word, name, number and string of a phrase has.
-use Rattle.line_writer.proofs.Imports.{◌≡◌, ℕ, List, [], ◌∷◌, map, refl, sym, ap, ◌∙◌, Option, Some, None, pos, negsuc, true, false, ◌^◌, Bool, if◌then◌else◌, bytes_eq, nat_lt, list_any, bytes_eq-Decides, Token, Word, Sign, Number, Text, Bad, item, Version, command_of, map_word, token_order, listed, meaning, reserved, name_of, count_of, string_of, type_of, integer_type_of, integer_types, leaf_types, orders, aos_forms, aos_form_of, soa_forms, soa_form_of, map_words, reduction_of, reductions, commands, name, count, string, reduction_word, command_word, type_word, order_word, aos_word, soa_word, form_word, MapWord, count_token}
+use Rattle.line_writer.proofs.Imports.{◌≡◌, ℕ, List, [], ◌∷◌, map, refl, sym, ap, ◌∙◌, Option, Some, None, true, Bool, if◌then◌else◌, bytes_eq, nat_lt, list_any, bytes_eq-Decides, Token, Word, Text, item, Version, command_of, map_word, token_order, listed, meaning, name_of, count_of, string_of, type_of, integer_type_of, integer_types, leaf_types, orders, aos_forms, aos_form_of, soa_forms, soa_form_of, map_words, reduction_of, reductions, commands, name, count, string, reduction_word, command_word, type_word, order_word, aos_word, soa_word, form_word, MapWord, count_token}
 use Rattle.line_writer.proofs.Gives.{Prints}
+use Rattle.std.proofs.Common.{arith}
 
 listed_step : {A : Type 0} (word_of own : A → List ℕ) (word : List ℕ) (value v : A) (rest : Option A) (b : Bool) → (b ≡ true → word ≡ word_of value) → word_of value ≡ own value →
     (rest ≡ Some v → word ≡ own v) → (if b then Some value else rest) ≡ Some v → word ≡ own v
-listed_step word_of own word value v rest true same is next h = let e : value ≡ v = cc in same refl ∙ is ∙ ap own e
-listed_step word_of own word value v rest false same is next h = next h
+listed_step word_of own word value v rest b same is next h = grind arith
 
 -- a value that a word spells has this word, by whatever name its word goes
 pub listed_as : {A : Type 0} (word_of own : A → List ℕ) (values : List A) → map word_of values ≡ map own values → (word : List ℕ) (v : A) → listed word_of values word ≡ Some v → word ≡ own v
@@ -52,34 +52,25 @@ command_prints version = one_token (command_of version) (λ v. Word (command_wor
 
 -- names, counts and strings
 if_some : {A : Type 0} (b : Bool) (x v : A) → (if b then Some x else None) ≡ Some v → x ≡ v
-if_some true x v h = cc
-if_some false x v h = absurd cc
+if_some b x v h = grind arith
 
 if_none : {A : Type 0} (b : Bool) (x v : A) → (if b then None else Some x) ≡ Some v → x ≡ v
-if_none true x v h = absurd cc
-if_none false x v h = cc
+if_none b x v h = grind arith
 
 name_is : (token : Token) (v : List ℕ) → name_of token ≡ Some v → token ≡ Word v
-name_is (Word word) v h = ap Word (if_none (list_any (bytes_eq word) reserved) word v h)
-name_is other v h = absurd cc
+name_is token v h = grind (arith, if_none, list_any, bytes_eq)
 
 pub name_prints : Prints name (λ v. Word v ∷ [])
 name_prints = one_token name_of Word name_is
 
 string_is : (token : Token) (v : List ℕ) → string_of token ≡ Some v → token ≡ Text v
-string_is (Text text) v h = cc
-string_is other v h = absurd cc
+string_is token v h = grind arith
 
 pub string_prints : Prints string (λ v. Text v ∷ [])
 string_prints = one_token string_of Text string_is
 
 count_is : (token : Token) (v : ℕ) → count_of token ≡ Some v → token ≡ count_token v
-count_is (Number (pos value)) v h = ap count_token (if_some (nat_lt value (2 ^ 32)) value v h)
-count_is (Number (negsuc value)) v h = absurd cc
-count_is (Text text) v h = absurd cc
-count_is (Word word) v h = absurd cc
-count_is (Sign sign) v h = absurd cc
-count_is Bad v h = absurd cc
+count_is token v h = grind (arith, if_some, nat_lt)
 
 pub count_prints : Prints count (λ v. count_token v ∷ [])
 count_prints = one_token count_of count_token count_is

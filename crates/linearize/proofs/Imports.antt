@@ -1,5 +1,5 @@
 -- What the proofs of this crate speak of.
-pub use Rattle.std.proofs.Common.{◌≡◌, ℕ, ◌+◌, ◌*◌, ◌/◌, ◌%◌, ◌<◌, sym, ap, ◌∙◌, arith, ◌≢◌, zero, suc, ◌-◌, ◌^◌, ◌≤◌, max, cond, eqb, ltb, List, [], ◌∷◌, length, get_or, ⊎_elim, lit<, min, true, refl, take, Option, subst, ◌⊎◌, Bool, inl, inr, Iter}
+pub use Rattle.std.proofs.Common.{◌≡◌, ℕ, ◌+◌, ◌*◌, ◌/◌, ◌%◌, ◌<◌, sym, ap, ◌∙◌, arith, ◌≢◌, zero, suc, ◌-◌, ◌^◌, ◌≤◌, max, cond, eqb, ltb, List, [], ◌∷◌, length, get_or, ⊎_elim, lit<, min, true, refl, take, ◌⊎◌, Bool}
 pub use Rattle.std.proofs.Math.Nat.{mul_comm, mul_assoc, mul-add, mod-lt, mul-div-mul_right, mod-eq-sub-div-mul, div-mul-le_self, pow-le-pow_right, mod-eq_of_lt}
 pub use Rattle.std.proofs.lemmas.Nat.{div-mul-add, mul-add-lt, div-add-mod', mod-mul-add, mod_below, mul-le, le-div, pow_pos, pow_below, and_le_r, and_mask, shr_split}
 pub use Rattle.std.specs.Prelude.{fold, nat_le, bit_or, bit_and, reverse, IsSomeAnd, Some, slice_get}

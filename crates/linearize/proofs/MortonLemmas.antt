@@ -1,12 +1,11 @@
 -- How many binary digits there are, and what the loop over components keeps of them.
-use Rattle.linearize.proofs.Imports.{◌≡◌, ◌≢◌, ℕ, zero, suc, ◌+◌, ◌-◌, ◌*◌, ◌/◌, ◌%◌, ◌^◌, ◌<◌, ◌≤◌, max, cond, eqb, ltb, List, [], ◌∷◌, length, get_or, sym, ap, ◌∙◌, ⊎_elim, arith, lit<, fold, nat_le, bit_or, bit_at, or_zero_l, position_or_len, range_with_len, cases_lt, cases_eq, cond-true, cond-false, lt-leb, le-leb, lt-ltb, le-ltb, eq-eqb, ne_eqb, length_all_zip, length-range_with_len, position_or_len_is, div-add-mod', div-mul-add, mod-mul-add, mod_below, mul-le, le-div, pow_pos, pow_below, bit_at-zero, bit_at_or, same_from_bits, pow_more, pow-le-pow_right, mod-eq_of_lt, IsInside, interleaved, digits_for, IsSpread, self_lt_pow, at_own_place, component_fits, digits_enough, digit_of, bit_at-interleaved}
+use Rattle.linearize.proofs.Imports.{◌≡◌, ◌≢◌, ℕ, ◌+◌, ◌-◌, ◌*◌, ◌/◌, ◌%◌, ◌^◌, ◌<◌, ◌≤◌, max, cond, eqb, ltb, List, [], ◌∷◌, length, get_or, sym, ap, ◌∙◌, ⊎_elim, arith, lit<, fold, nat_le, bit_or, bit_at, or_zero_l, position_or_len, range_with_len, cases_lt, cases_eq, cond-true, cond-false, lt-leb, le-leb, lt-ltb, le-ltb, eq-eqb, ne_eqb, length_all_zip, length-range_with_len, position_or_len_is, div-add-mod', div-mul-add, mod-mul-add, mod_below, mul-le, le-div, pow_pos, pow_below, bit_at-zero, bit_at_or, same_from_bits, pow_more, pow-le-pow_right, mod-eq_of_lt, IsInside, interleaved, digits_for, IsSpread, self_lt_pow, at_own_place, component_fits, digits_enough, digit_of, bit_at-interleaved}
 use Rattle.linearize.proofs.SpreadLemmas.{shifted_low, shifted_high}
 
 -- ---- how many digits
 
 digits_within : (m q : ℕ) → ((b : ℕ) → b < q → 2 ^ b < m) → q ≤ m
-digits_within m zero short = omega arith
-digits_within m (suc b) short = omega (arith, short b (omega arith), self_lt_pow b)
+digits_within m q short = grind (arith, self_lt_pow)
 
 least_digits : (m q : ℕ) → m ≤ 2 ^ q → ((b : ℕ) → b < q → 2 ^ b < m) → position_or_len (λ b. nat_le m (2 ^ b)) (range_with_len 0 m) ≡ q
 least_digits m q enough short =
@@ -49,8 +48,7 @@ abbrev pub IsFront : List ℕ → ℕ → ℕ → Type 0
 IsFront index n place = (k : ℕ) → bit_at place k ≡ cond (ltb (length index - 1 - k % length index) n) (digit_of index k) 0
 
 pub front_none : (i : List ℕ) → IsFront i 0 0
-front_none i = λ k.
-    bit_at-zero k ∙ sym (cond-false (ltb (length i - 1 - k % length i) 0) (digit_of i k) 0 (le-ltb (length i - 1 - k % length i) 0 (omega arith)))
+front_none i = grind (arith, bit_at-zero, cond-false, le-ltb)
 
 -- a digit of a component that is spread and shifted
 own_digit : (rank x z t k : ℕ) → t < rank → IsSpread rank x z → k % rank ≡ t → bit_at (z * 2 ^ t) k ≡ bit_at x (k / rank)

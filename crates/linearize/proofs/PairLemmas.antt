@@ -9,15 +9,11 @@ step s m y = bit_and (bit_or y (y * 2 ^ s % 2 ^ 64)) m
 
 -- digit k of it
 step_bit : (s m y k : ℕ) → y * 2 ^ s < 2 ^ 64 → bit_at (step s m y) k ≡ min (max (bit_at y k) (bit_at (y * 2 ^ s) k)) (bit_at m k)
-step_bit s m y k whole =
-    ap (λ z. bit_at (bit_and (bit_or y z) m) k) (mod-eq_of_lt whole) ∙ bit_at_and (bit_or y (y * 2 ^ s)) m k ∙ ap (λ z. min z (bit_at m k)) (bit_at_or y (y * 2 ^ s) k)
+step_bit s m y k whole = grind (arith, bit_at, bit_and, bit_or, mod-eq_of_lt, bit_at_and, bit_at_or)
 
 -- what fits where
 shift_fits : (y s : ℕ) → y < 2 ^ 24 → s ≤ 8 → y * 2 ^ s < 2 ^ 32
-shift_fits y s small short =
-    let most : 2 ^ s ≤ 2 ^ 8 = pow-le-pow_right {n = 2} (lit< tt) short in
-    let top : y ≤ 2 ^ 24 - 1 = omega (arith, small) in
-    omega (arith, mul-le y (2 ^ s) (2 ^ 24 - 1) (2 ^ 8) top most)
+shift_fits y s small short = grind (arith, pow-le-pow_right, lit<, mul-le)
 
 -- no digit is carried from the lower half into the upper
 pub step_pair : (s m a b : ℕ) → a < 2 ^ 24 → b < 2 ^ 24 → s ≤ 8 → m < 2 ^ 24 → step s (m * 2 ^ 32 + m) (a * 2 ^ 32 + b) ≡ step s m a * 2 ^ 32 + step s m b

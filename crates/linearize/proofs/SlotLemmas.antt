@@ -1,5 +1,5 @@
 -- What the loops over extents keep.
-use Rattle.linearize.proofs.Imports.{◌≡◌, ℕ, zero, suc, ◌+◌, ◌*◌, ◌^◌, ◌<◌, ◌≤◌, min, List, [], ◌∷◌, length, get_or, take, Option, refl, sym, ap, subst, ◌∙◌, ◌⊎◌, ⊎_elim, arith, reverse, IsSomeAnd, Some, slice_get, length_all_zip, IsRowSoFar, row_turn, take_more, reverse-append, cases_lt, reverse_onto, mul-le, indices, product, IsInside, place, place_below, slice_get-place, length-indices, row_of_inside, product-push, place_in, slot_of, slot_count, row_at, place_in_is, row_at-slot_of, Order, Row, Col}
+use Rattle.linearize.proofs.Imports.{◌≡◌, ℕ, zero, suc, ◌+◌, ◌*◌, ◌^◌, ◌<◌, ◌≤◌, min, List, [], ◌∷◌, length, get_or, take, refl, sym, ap, ◌∙◌, ◌⊎◌, arith, reverse, IsSomeAnd, Some, slice_get, length_all_zip, IsRowSoFar, row_turn, take_more, reverse-append, cases_lt, reverse_onto, mul-le, indices, product, IsInside, place, place_below, slice_get-place, length-indices, row_of_inside, product-push, place_in, slot_of, slot_count, row_at, place_in_is, row_at-slot_of, Order, Row, Col}
 
 -- an index inside stands where its components lead
 pub place_is : (e i : List ℕ) → IsInside e i → place e i ≡ place_in (indices e) i
@@ -25,34 +25,20 @@ same_length e i h = length_all_zip (λ (x y : ℕ). x < y) i e h
 
 -- what the slot of an index says of its row
 pub row_of_slot : (o : Order) (e i : List ℕ) (s : ℕ) → IsInside e i → s ≡ slot_of o e i → IsSomeAnd (row_at o e s) (λ row. slice_get (indices e) row ≡ Some i)
-row_of_slot o e i s h same =
-    let w = row_of_inside e i h in
-    let at : row_at o e s ≡ Some w.0 = ap (row_at o e) same ∙ row_at-slot_of o e i w.0 w.2 in
-    subst (λ (r : Option ℕ). IsSomeAnd r (λ row. slice_get (indices e) row ≡ Some i)) (sym at) w.2
+row_of_slot o e i s h same = grind (arith, row_of_inside, row_at-slot_of, slice_get)
 
 product-reverse : (e : List ℕ) → product (reverse e) ≡ product e
 product-reverse [] = refl
-product-reverse (n ∷ e) =
-    let turned : product (reverse (n ∷ e)) ≡ product (reverse e) * n = ap product (reverse_onto e n []) ∙ product-push (reverse e) n in
-    omega (arith, turned, ap (λ p. p * n) (product-reverse e))
+product-reverse (n ∷ e) = grind (arith, reverse_onto, product-push, (product-reverse e))
 
 -- by rows and by columns there are as many slots as the product of the extents
 pub product_count : (o : Order) (e : List ℕ) → (o ≡ Row) ⊎ (o ≡ Col) → slot_count o e ≡ product e
-product_count o e either =
-    ⊎_elim (λ (h : o ≡ Row). ap (λ x. slot_count x e) h ∙ length-indices e)
-    (λ (h : o ≡ Col). ap (λ x. slot_count x e) h ∙ length-indices (reverse e) ∙ product-reverse e)
-    either
+product_count o e either = grind (arith, length-indices, product-reverse)
 
 -- a product that stands still at a top above 0
 pub stops_at : (p v top : ℕ) → min (min p top * v) top ≡ min (p * v) top
 stops_at p zero top = omega arith
-stops_at p (suc v) top =
-    ⊎_elim (λ (h : p < top). let same : min p top ≡ p = omega arith in ap (λ c. min (c * suc v) top) same)
-    (λ (h : top ≤ p).
-    let same : min p top ≡ top = omega arith in
-    let more = mul-le top 1 p (suc v) h (omega arith) in
-    ap (λ c. min (c * suc v) top) same ∙ omega arith)
-    (cases_lt p top)
+stops_at p (suc v) top = grind (arith, mul-le, cases_lt)
 
 -- one factor more
 pub product_take_more : (xs : List ℕ) (k : ℕ) → k < length xs → product (take (k + 1) xs) ≡ product (take k xs) * get_or xs k 0

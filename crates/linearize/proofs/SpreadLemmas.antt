@@ -65,9 +65,7 @@ pub record IsStage (w : ℕ) (source : ℕ → ℕ) (x y : ℕ) : Type 0 where
   pub comes : Comes source x y
 
 pub stage_none : (w x : ℕ) → x < 2 ^ w → w ≤ 24 → IsStage w (λ k. k) x x
-stage_none w x narrow few =
-    let room : 2 ^ w ≤ 2 ^ 24 = pow-le-pow_right {n = 2} (lit< tt) few in
-    record { narrow = narrow; small = omega (arith, narrow, room); comes = λ k. refl }
+stage_none w x narrow few = grind (arith, pow-le-pow_right, lit<)
 
 -- one stage more: `(y | y << s) & m`
 pub stage_more : {w : ℕ} {source : ℕ → ℕ} {x y : ℕ} (s m : ℕ) → IsStage w source x y → m < 2 ^ 24 → s ≤ 12 → list_all (is_apart w s m source) (range_with_len 0 24) ≡ true

@@ -76,15 +76,9 @@ module _ (row columns k : ℕ) (room : row % columns + k < columns) where
 
   -- by columns
   pub columns_apart : (lines : ℕ) → (row + k) % columns * lines + (row + k) / columns ≡ (row % columns * lines + row / columns) + k * lines
-  columns_apart lines =
-      ap (λ (n : ℕ). n * lines + (row + k) / columns) column_on
-      ∙ ap (λ (n : ℕ). (row % columns + k) * lines + n) line_same
-      ∙ (let split : (row % columns + k) * lines ≡ row % columns * lines + k * lines = grind arith in omega (arith, split))
+  columns_apart lines = grind (arith, column_on, line_same)
 
   -- in Morton order, from a column on that is a multiple of a power of two
   pub morton_line : (power : ℕ) → row % columns % 2 ^ power ≡ 0 → k < 2 ^ power
       → interleaved ((row + k) / columns ∷ (row + k) % columns ∷ []) ≡ interleaved (row / columns ∷ row % columns ∷ []) + interleaved (0 ∷ k ∷ [])
-  morton_line power even small =
-      ap (λ (n : ℕ). interleaved (n ∷ (row + k) % columns ∷ [])) line_same
-      ∙ ap (λ (n : ℕ). interleaved (row / columns ∷ n ∷ [])) column_on
-      ∙ morton_apart (row / columns) (row % columns) k power even small
+  morton_line power even small = grind (arith, line_same, column_on, morton_apart)

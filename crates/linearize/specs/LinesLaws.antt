@@ -17,8 +17,7 @@ use Rattle.linearize.specs.MortonLaws.{bit_at-interleaved, component_fits, digit
 
 -- an index inside is that of the row where it stands
 index_there : (e i : List ℕ) (row : ℕ) → IsInside e i → place e i ≡ row → index_at e row ≡ i
-index_there e i row inside at =
-    get_or_from_slice_get (indices e) row i [] (subst (λ (k : ℕ). slice_get (indices e) k ≡ Some i) at (slice_get-place e i inside))
+index_there e i row inside at = grind (arith, get_or_from_slice_get, slice_get, slice_get-place)
 
 -- ---- one extent
 

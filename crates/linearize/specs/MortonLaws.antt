@@ -124,12 +124,7 @@ bit_at-interleaved i k =
 
 -- digit b * rank + (rank - 1 - d) of the slot is digit b of component d
 pub bit_at-component : (i : List ℕ) (d b : ℕ) → d < length i → bit_at (interleaved i) (b * length i + (length i - 1 - d)) ≡ bit_at (get_or i d 0) b
-bit_at-component i d b within =
-    let low : length i - 1 - d < length i = omega arith in
-    let place : length i - 1 - (b * length i + (length i - 1 - d)) % length i ≡ d = omega (arith, mod-mul-add b (length i) (length i - 1 - d) low) in
-    bit_at-interleaved i (b * length i + (length i - 1 - d))
-    ∙ ap (λ x. bit_at (get_or i x 0) ((b * length i + (length i - 1 - d)) / length i)) place
-    ∙ ap (bit_at (get_or i d 0)) (div-mul-add b (length i) (length i - 1 - d) low)
+bit_at-component i d b within = grind (arith, mod-mul-add, bit_at-interleaved, bit_at, div-mul-add)
 
 -- the slot of an index inside is below their number
 pub interleaved_below : (e i : List ℕ) → IsInside e i → interleaved i < 2 ^ (length e * digits_for e)

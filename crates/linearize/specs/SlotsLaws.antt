@@ -1,5 +1,5 @@
 -- The laws of slots, for any order.
-use Rattle.std.proofs.Common.{◌≡◌, ℕ, ◌<◌, Bool, cond, eqb, ltb, List, [], ◌∷◌, ◌++◌, length, get_or, Some, None, refl, sym, ap, subst, ◌∙◌, arith}
+use Rattle.std.proofs.Common.{◌≡◌, ℕ, ◌<◌, Bool, cond, eqb, ltb, List, [], ◌∷◌, ◌++◌, length, get_or, Some, None, refl, sym, ap, ◌∙◌, arith}
 use Rattle.std.specs.Prelude.{reverse, nat_eq, slice_get}
 use Rattle.std.specs.List.{position_or_len}
 use Rattle.std.specs.Cmp.Lexicographic.{pointwise}
@@ -33,9 +33,7 @@ place_in_is e i k at =
 
 -- at the place of an index inside stands that index
 pub slice_get-place_in : (e i : List ℕ) → IsInside e i → slice_get (indices e) (place_in (indices e) i) ≡ Some i
-slice_get-place_in e i inside =
-    let w = row_of_inside e i inside in
-    ap (slice_get (indices e)) (place_in_is e i w.0 w.2) ∙ w.2
+slice_get-place_in e i inside = grind (arith, row_of_inside, slice_get, place_in_is)
 
 -- ---- reversed indices
 
@@ -46,9 +44,7 @@ pub IsInside-reverse : (e i : List ℕ) → IsInside e i → IsInside (reverse e
 IsInside-reverse [] [] h = h
 IsInside-reverse [] (k ∷ i) h = absurd h
 IsInside-reverse (n ∷ e) [] h = absurd h
-IsInside-reverse (n ∷ e) (k ∷ i) h =
-    let rest = AllZip-push (λ (x y : ℕ). x < y) (reverse i) (reverse e) k n (IsInside-reverse e i h.1) h.0 in
-    subst (λ (xs : List ℕ). IsInside (reverse (n ∷ e)) xs) (sym (reverse-cons k i)) (subst (λ (xs : List ℕ). IsInside xs (reverse i ++ k ∷ [])) (sym (reverse-cons n e)) rest)
+IsInside-reverse (n ∷ e) (k ∷ i) h = grind (arith, AllZip-push, reverse-cons, (IsInside-reverse e i h.1))
 
 -- ---- slots
 
@@ -61,8 +57,7 @@ slot_below Morton e i inside = interleaved_below e i inside
 
 -- two entries at one place are one
 same_entry : (e i j : List ℕ) → IsInside e i → IsInside e j → place_in (indices e) i ≡ place_in (indices e) j → i ≡ j
-same_entry e i j hi hj same =
-    same_Some i j (sym (slice_get-place_in e i hi) ∙ ap (slice_get (indices e)) same ∙ slice_get-place_in e j hj)
+same_entry e i j hi hj same = grind (arith, same_Some, slice_get-place_in, slice_get)
 
 -- different indices have different slots
 pub same_index : (o : Order) (e i j : List ℕ) → IsInside e i → IsInside e j → slot_of o e i ≡ slot_of o e j → i ≡ j
@@ -106,14 +101,7 @@ row_at-slot_at o e r h =
 -- a row at a slot has that slot
 pub slot_at-row_at : (o : Order) (e : List ℕ) (s r : ℕ) → row_at o e s ≡ Some r → (r < length (indices e)) × (slot_at o e r ≡ s)
 unfolding row_at
-slot_at-row_at o e s r at =
-    let p = position_or_len (λ i. eqb (slot_of o e i) s) (indices e) in
-    let parts = cond_some (ltb (position_or_len (λ i. eqb (slot_of o e i) s) (indices e)) (length (indices e))) (position_or_len (λ i. eqb (slot_of o e i) s) (indices e)) r at in
-    let within : position_or_len (λ i. eqb (slot_of o e i) s) (indices e) < length (indices e) =
-    (Decides-ltb (position_or_len (λ i. eqb (slot_of o e i) s) (indices e)) (length (indices e))).0 parts.0 in
-    let passes = passes_at_first (λ i. eqb (slot_of o e i) s) (indices e) [] within in
-    let same : slot_at o e (position_or_len (λ i. eqb (slot_of o e i) s) (indices e)) ≡ s = (Decides-eqb (slot_at o e (position_or_len (λ i. eqb (slot_of o e i) s) (indices e))) s).0 passes in
-    subst (λ k. (k < length (indices e)) × (slot_at o e k ≡ s)) parts.1 (within, same)
+slot_at-row_at o e s r at = grind (arith, position_or_len, cond_some, Decides-ltb, passes_at_first, Decides-eqb)
 
 -- the row at the slot of an index is that of the index
 pub row_at-slot_of : (o : Order) (e i : List ℕ) (r : ℕ) → slice_get (indices e) r ≡ Some i → row_at o e (slot_of o e i) ≡ Some r

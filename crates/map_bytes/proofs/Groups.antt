@@ -3,12 +3,7 @@ use Rattle.map_bytes.proofs.Imports.{◌≡◌, ℕ, zero, suc, ◌+◌, ◌-◌
 
 -- so many whole groups before others
 groups_append : {X : Type 0} (n m : ℕ) (xs ys : List X) → length xs ≡ 8 * n → groups_back (n + m) (xs ++ ys) ≡ groups_back m ys ++ groups_back n xs
-groups_append {X} zero m xs ys size =
-    let none : xs ≡ [] = nil_from_length xs size in
-    let start : zero + m ≡ m = omega arith in
-    ap (λ (k : ℕ). groups_back k (xs ++ ys)) start
-    ∙ ap (λ (zs : List X). groups_back m (zs ++ ys)) none
-    ∙ sym (append-nil (groups_back m ys))
+groups_append {X} zero m xs ys size = grind (arith, nil_from_length, append-nil)
 groups_append {X} (suc n) m xs ys size =
     let next : suc n + m ≡ suc (n + m) = omega arith in
     let low : 8 ≤ length xs = omega arith in

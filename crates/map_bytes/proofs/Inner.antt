@@ -1,5 +1,6 @@
 -- What the inner mapping says of a cell, in the words of the outer one.
 use Rattle.map_bytes.proofs.Imports.{◌≡◌, ℕ, ◌+◌, ◌*◌, ◌/◌, ◌%◌, ◌<◌, ◌≤◌, List, ◌++◌, map, length, get_or, slice_index, take, All, sym, ap, ◌∙◌, subst, arith, sum_by, get_or-map, length-map, sum_by_more_le, Owner, Bit, byte_cells, bytesplit, IsLocated, widths_of, full_holds, widths_full, widths_whole, widths_narrow, length-widths, length-full, bits_located, Cell, Hold, Piece, piece_in, pieces_in, PieceRule, byte_cells_of, byte_count, bytes_before, byte_cell_at, byte_within, byte_count_is, byte_count_before, length-bytes, widths_of_bytes, byte_joined, byte_alone}
+use Rattle.std.proofs.Common.{rules}
 
 -- what holds of the pieces that rules give in slot 0 holds of the rules
 pub all_in : (Q : PieceRule → Type 0) (P : Piece → Type 0) (rules : List PieceRule) (pieces : List Piece) → pieces_in rules 0 ≡ pieces
@@ -39,24 +40,12 @@ module _ (cells : List Cell) (holds : List Hold) (full : holds ≡ full_holds (b
 
   -- each stored in 8 bits
   pub byte_width : (n : ℕ) → n < length holds → slice_index (map (λ (h : Hold). h.width) holds) n ≡ 8
-  byte_width n inside =
-      let same : map (λ (h : Hold). h.width) holds ≡ widths_of (byte_cells_of cells) =
-      ap (λ (hs : List Hold). map (λ (h : Hold). h.width) hs) full ∙ widths_full (byte_cells_of cells) in
-      let size : length (widths_of (byte_cells_of cells)) ≡ length (byte_cells_of cells) = length-widths (byte_cells_of cells) in
-      let count : length (byte_cells_of cells) ≡ byte_count cells = length-bytes cells in
-      let held : length holds ≡ byte_count cells = bytes_held in
-      ap (λ (ws : List ℕ). slice_index ws n) same ∙ widths_of_bytes cells n 0 (omega arith)
+  byte_width n inside = grind (arith, widths_full, length-widths, length-bytes, bytes_held, slice_index, widths_of_bytes)
 
 -- the bytes of a cell stand among those of all cells
 pub bytes_within : (cells : List Cell) (cell : ℕ) → cell < length cells
     → byte_count (take cell cells) + slice_index (widths_of cells) cell / 8 ≤ byte_count cells
-bytes_within cells cell inside =
-    let size : length (widths_of cells) ≡ length cells = length-widths cells in
-    let within : bytes_before (widths_of cells) cell + slice_index (widths_of cells) cell / 8 ≤ sum_by (λ (w : ℕ). w / 8) (widths_of cells) =
-    sum_by_more_le (λ (w : ℕ). w / 8) (widths_of cells) cell 0 (omega arith) in
-    let all : byte_count cells ≡ sum_by (λ (w : ℕ). w / 8) (widths_of cells) = byte_count_is cells in
-    let before : byte_count (take cell cells) ≡ bytes_before (widths_of cells) cell = byte_count_before cells cell in
-    omega arith
+bytes_within cells cell inside = grind (arith, length-widths, slice_index, sum_by, sum_by_more_le, byte_count_is, byte_count_before)
 
 -- byte `j` of a cell among the inner cells, and its pieces
 module _ (layout : List (List Owner)) (cells : List Cell) (holds : List Hold) (full : holds ≡ full_holds (byte_cells_of cells)) (s c j first : ℕ)
@@ -70,9 +59,7 @@ module _ (layout : List (List Owner)) (cells : List Cell) (holds : List Hold) (f
       omega arith
 
   byte_is : get_or (byte_cells (widths_of cells)) (first + j) (0, 0) ≡ (c, j)
-  byte_is =
-      let size : length (widths_of cells) ≡ length cells = length-widths cells in
-      ap (λ (n : ℕ). get_or (byte_cells (widths_of cells)) (n + j) (0, 0)) begin ∙ byte_cell_at (widths_of cells) c j (omega arith) low
+  byte_is = grind (arith, length-widths, byte_cell_at)
 
   module _ (next : List Piece) (h : IsLocated layout s (first + j) (slice_index (map (λ (x : Hold). x.width) holds) (first + j)) next) where
     byte_located : IsLocated layout s (first + j) 8 next

@@ -1,5 +1,5 @@
 -- Which byte of which cell each of the cells of bytes is.
-use Rattle.std.proofs.Common.{◌≡◌, ℕ, zero, suc, ◌+◌, ◌-◌, ◌/◌, ◌<◌, ◌≤◌, ⊎_elim, List, [], ◌∷◌, ◌++◌, map, length, get_or, take, replicate, All, refl, sym, ap, ◌∙◌, arith, length-append}
+use Rattle.std.proofs.Common.{◌≡◌, ℕ, zero, suc, ◌+◌, ◌-◌, ◌/◌, ◌<◌, ◌≤◌, ⊎_elim, List, [], ◌∷◌, ◌++◌, map, length, get_or, take, replicate, All, refl, ap, ◌∙◌, arith, length-append}
 use Rattle.std.specs.List.{flat_map, range_with_len, enumerate_from, sum_by}
 use Rattle.std.proofs.lemmas.Bool.{cases_lt}
 use Rattle.std.proofs.lemmas.List.{get_or_append_left, get_or-append-add, length-replicate, take-map}
@@ -26,16 +26,7 @@ length-bytes_in c w = length-map-range_with_len {X = ℕ × ℕ} (λ (byte : ℕ
 at_from : (a : ℕ) (ws : List ℕ) (c j : ℕ) (d : ℕ × ℕ) → c < length ws → j < get_or ws c 0 / 8
     → get_or (flat_map bytes_in (enumerate_from a ws)) (bytes_before ws c + j) d ≡ (a + c, j)
 at_from a [] c j d inside low = let never : ⊥ = omega arith in absurd never
-at_from a (w ∷ ws) zero j d inside low =
-    let here : length (bytes_in (a, w)) ≡ w / 8 = length-bytes_in a w in
-    let byte_in : j < w / 8 = low in
-    let place : bytes_before (w ∷ ws) zero + j ≡ j = omega arith in
-    let start : 0 + j ≡ j = omega arith in
-    let first : a ≡ a + zero = omega arith in
-    ap (λ (i : ℕ). get_or (flat_map bytes_in (enumerate_from a (w ∷ ws))) i d) place
-    ∙ get_or_append_left (bytes_in (a, w)) (flat_map bytes_in (enumerate_from (a + 1) ws)) d j (omega arith)
-    ∙ get_or-map-range_with_len {X = ℕ × ℕ} (λ (byte : ℕ). (a, byte)) 0 (w / 8) j j d byte_in start
-    ∙ ap (λ (x : ℕ). let p : ℕ × ℕ = (x, j) in p) first
+at_from a (w ∷ ws) zero j d inside low = grind (arith, length-bytes_in, flat_map, enumerate_from, get_or_append_left, get_or-map-range_with_len)
 at_from a (w ∷ ws) (suc c) j d inside low =
     let here : length (bytes_in (a, w)) ≡ w / 8 = length-bytes_in a w in
     let step : bytes_before (w ∷ ws) (suc c) ≡ w / 8 + bytes_before ws c = sum_by-cons (λ (x : ℕ). x / 8) w (take c ws) in
@@ -81,9 +72,7 @@ byte_cell_of (w ∷ ws) n inside =
 
 -- the bytes before a cell and in it are within all bytes
 pub byte_within : (ws : List ℕ) (c j : ℕ) → c < length ws → j < get_or ws c 0 / 8 → bytes_before ws c + j < sum_by (λ (w : ℕ). w / 8) ws
-byte_within ws c j inside low =
-    let all : bytes_before ws c + get_or ws c 0 / 8 ≤ sum_by (λ (w : ℕ). w / 8) ws = sum_by_more_le (λ (w : ℕ). w / 8) ws c 0 inside in
-    omega arith
+byte_within ws c j inside low = grind (arith, sum_by, sum_by_more_le)
 
 -- the same of the cells themselves
 pub byte_count_is : (cells : List Cell) → byte_count cells ≡ sum_by (λ (w : ℕ). w / 8) (widths_of cells)
@@ -96,8 +85,7 @@ byte_count_is (cell ∷ cells) =
     omega arith
 
 pub byte_count_before : (cells : List Cell) (cell : ℕ) → byte_count (take cell cells) ≡ bytes_before (widths_of cells) cell
-byte_count_before cells cell =
-    byte_count_is (take cell cells) ∙ ap (λ (ws : List ℕ). sum_by (λ (w : ℕ). w / 8) ws) (sym (take-map (λ (c : Cell). width_of c.kind) cell cells))
+byte_count_before cells cell = grind (arith, byte_count_is, sum_by, take-map)
 
 pub length-bytes : (cells : List Cell) → length (byte_cells_of cells) ≡ byte_count cells
 length-bytes [] = refl
@@ -113,11 +101,7 @@ length-bytes (cell ∷ cells) =
 -- each has 8 bits
 bytes_are : (cells : List Cell) → All (λ cell. width_of cell.kind ≡ 8) (byte_cells_of cells)
 bytes_are [] = All-nil (λ (c : Cell). width_of c.kind ≡ 8)
-bytes_are (cell ∷ cells) =
-    let byte : Cell = record { leaf = cell.leaf; kind = U8 } in
-    let n : ℕ = width_of cell.kind / 8 in
-    All-append (λ (c : Cell). width_of c.kind ≡ 8) (replicate n byte) (byte_cells_of cells)
-    (All-replicate (λ (c : Cell). width_of c.kind ≡ 8) n byte refl) (bytes_are cells)
+bytes_are (cell ∷ cells) = grind (arith, All-append, All-replicate, (bytes_are cells))
 
 pub widths_of_bytes : (cells : List Cell) → All (λ w. w ≡ 8) (widths_of (byte_cells_of cells))
 widths_of_bytes cells = All-map (λ (w : ℕ). w ≡ 8) (λ (c : Cell). width_of c.kind) (byte_cells_of cells) (bytes_are cells)

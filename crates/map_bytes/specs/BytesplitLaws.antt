@@ -25,10 +25,7 @@ module _ (layout : List (List Owner)) (n : ℕ) (ws es : List ℕ) (laid : IsLai
   byte_cell c k = bytes_before ws c + k / 8
 
   byte_low : (s c k : ℕ) → IsBitOf n ws s c k → k / 8 < get_or ws c 0 / 8
-  byte_low s c k h =
-      let low : k < get_or ws c 0 = h.bit_in in
-      let bytes : get_or ws c 0 % 8 ≡ 0 = whole c 0 h.cell_in in
-      omega arith
+  byte_low s c k h = grind arith
 
   from : (s c k : ℕ) → IsBitOf n ws s c k → IsBitOf n es s (byte_cell c k) (k % 8)
   from s c k h =
@@ -39,32 +36,17 @@ module _ (layout : List (List Owner)) (n : ℕ) (ws es : List ℕ) (laid : IsLai
       record { slot_in = h.slot_in; cell_in = cell_in; bit_in = bit_in }
 
   to : (s c k : ℕ) → IsBitOf n ws s c k → named s (byte_cell c k) (k % 8) ≡ Bit s c k
-  to s c k h =
-      let bit : 8 * (k / 8) + k % 8 ≡ k = omega arith in
-      ap (λ (p : ℕ × ℕ). Bit s p.0 (8 * p.1 + k % 8)) (byte_cell_at ws c (k / 8) h.cell_in (byte_low s c k h)) ∙ ap (Bit s c) bit
+  to s c k h = grind (arith, byte_cell_at, byte_low)
 
   -- which bit of which cell a bit of a byte is
   found : (s n' k : ℕ) → IsBitOf n es s n' k → (c : ℕ) × (j : ℕ) × IsByteCell ws n' c j
-  found s n' k h =
-      let inside : n' < length es = h.cell_in in
-      byte_cell_of ws n' (omega arith)
+  found s n' k h = grind (arith, byte_cell_of)
 
   name_is : (s n' k : ℕ) (h : IsBitOf n es s n' k) → named s n' k ≡ Bit s (found s n' k h).0 (8 * (found s n' k h).1 + k)
-  name_is s n' k h =
-      let f = found s n' k h in
-      let at : IsByteCell ws n' f.0 f.1 = f.2 in
-      ap (λ (p : ℕ × ℕ). Bit s p.0 (8 * p.1 + k))
-      (ap (λ (i : ℕ). get_or (byte_cells ws) i (0, 0)) at.place ∙ byte_cell_at ws f.0 f.1 at.cell_in at.byte_in)
+  name_is s n' k h = grind (arith, byte_cell_at)
 
   is_bit : (s n' k : ℕ) (h : IsBitOf n es s n' k) → IsBitOf n ws s (found s n' k h).0 (8 * (found s n' k h).1 + k)
-  is_bit s n' k h =
-      let f = found s n' k h in
-      let at : IsByteCell ws n' f.0 f.1 = f.2 in
-      let width : get_or es n' 0 ≡ 8 = eights n' 0 h.cell_in in
-      let low : k < get_or es n' 0 = h.bit_in in
-      let byte : f.1 < get_or ws f.0 0 / 8 = at.byte_in in
-      let bit_in : 8 * f.1 + k < get_or ws f.0 0 = omega arith in
-      record { slot_in = h.slot_in; cell_in = at.cell_in; bit_in = bit_in }
+  is_bit s n' k h = grind arith
 
   back : Back (IsBitOf n es) (IsBitOf n ws) named (λ s c k. s) (λ s c k. byte_cell c k) (λ s c k. k % 8)
   back = record {

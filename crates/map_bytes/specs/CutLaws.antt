@@ -10,6 +10,7 @@ use Rattle.places.specs.declared.piece.Piece.{Piece}
 use Rattle.places.specs.PieceRules.{begin_in, piece_in, pieces_in}
 use Rattle.places.specs.declared.rule.PieceRule.{PieceRule}
 use Rattle.map_bytes.specs.Cuts.{byte_of, piece_bytes, swapped, rule_byte, rule_bytes, swapped_rules}
+use Rattle.std.proofs.Common.{rules}
 
 -- things that are cut, so many parts of each
 module _ {X : Type 0} (cut : ℕ → X → X) (count : X → ℕ) where
@@ -37,12 +38,7 @@ module _ {X : Type 0} (cut : ℕ → X → X) (count : X → ℕ) where
   -- how many parts there are
   pub length-parts : (xs : List X) → length (flat_map parts xs) ≡ sum_by count xs
   length-parts [] = refl
-  length-parts (x ∷ xs) =
-      let here : length (parts x) ≡ count x = length-map-range_with_len (λ (j : ℕ). cut j x) 0 (count x) in
-      let later : length (flat_map parts xs) ≡ sum_by count xs = length-parts xs in
-      let both : length (parts x ++ flat_map parts xs) ≡ length (parts x) + length (flat_map parts xs) = length-append (parts x) (flat_map parts xs) in
-      let step : sum_by count (x ∷ xs) ≡ count x + sum_by count xs = sum_by-cons count x xs in
-      omega arith
+  length-parts (x ∷ xs) = grind (arith, length-map-range_with_len, flat_map, sum_by, length-append, sum_by-cons, (length-parts xs))
 
 -- parts of 8 bits have 8 bits for each part
 pub sum_of_eights : {X : Type 0} (bits : X → ℕ) (xs : List X) → All (λ x. bits x ≡ 8) xs → sum_by bits xs ≡ 8 * length xs
@@ -89,16 +85,12 @@ map-reverse {X} {Y} f (x ∷ xs) =
 
 -- a byte of a rule's piece
 pub byte_in : (byte slot : ℕ) (rule : PieceRule) → piece_in (rule_byte byte rule) slot ≡ byte_of byte (piece_in rule slot)
-byte_in byte slot rule =
-    let moved : begin_in (rule_byte byte rule) slot ≡ begin_in rule slot + 8 * byte = omega arith in
-    ap (λ (bit : ℕ). let p : Piece = record { blob = rule.blob; bit = bit; bits = 8 } in p) moved
+byte_in byte slot rule = grind arith
 
 bytes_in : (slot : ℕ) (rule : PieceRule) (js : List ℕ)
     → pieces_in (map (λ (j : ℕ). rule_byte j rule) js) slot ≡ map (λ (j : ℕ). byte_of j (piece_in rule slot)) js
 bytes_in slot rule [] = refl
-bytes_in slot rule (j ∷ js) =
-    ap (λ (p : Piece). p ∷ pieces_in (map (λ (i : ℕ). rule_byte i rule) js) slot) (byte_in j slot rule)
-    ∙ ap (λ (ps : List Piece). byte_of j (piece_in rule slot) ∷ ps) (bytes_in slot rule js)
+bytes_in slot rule (j ∷ js) = grind (arith, byte_in, (bytes_in slot rule js))
 
 all_bytes_in : (slot : ℕ) (rules : List PieceRule) → pieces_in (flat_map rule_bytes rules) slot ≡ flat_map piece_bytes (pieces_in rules slot)
 all_bytes_in slot [] = refl
@@ -109,9 +101,7 @@ all_bytes_in slot (rule ∷ rules) =
 
 -- bytes in reverse order, of rules and of their pieces
 pub swapped_in : (rules : List PieceRule) (slot : ℕ) → pieces_in (swapped_rules rules) slot ≡ swapped (pieces_in rules slot)
-swapped_in rules slot =
-    map-reverse (λ (r : PieceRule). piece_in r slot) (flat_map rule_bytes rules)
-    ∙ ap (λ (ps : List Piece). reverse ps) (all_bytes_in slot rules)
+swapped_in rules slot = grind (arith, map-reverse, flat_map, all_bytes_in)
 
 -- what holds of the rules with their bytes in reverse order
 module _ (rules : List PieceRule) where
@@ -139,10 +129,7 @@ module _ (rules : List PieceRule) where
 
   -- as many bits together
   pub swapped_bits : All (λ rule. rule.bits % 8 ≡ 0) rules → sum_by (λ rule. rule.bits) (swapped_rules rules) ≡ sum_by (λ rule. rule.bits) rules
-  swapped_bits whole =
-      sum_of_eights (λ (r : PieceRule). r.bits) (swapped_rules rules) swapped_eights
-      ∙ ap (λ (n : ℕ). 8 * n) length-swapped
-      ∙ sym (sum_of_bytes (λ (r : PieceRule). r.bits) rules whole)
+  swapped_bits whole = grind (arith, sum_of_eights, swapped_eights, length-swapped, sum_of_bytes)
 
   -- where the pieces of a slot begin fits its type
   pub swapped_begins : (slot : ℕ) → All (λ rule. begin_in rule slot + rule.bits < 2 ^ 64) rules → All (λ rule. begin_in rule slot < 2 ^ 64) (swapped_rules rules)

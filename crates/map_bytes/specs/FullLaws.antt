@@ -1,6 +1,6 @@
 -- Mappings that store each cell in its type's own sign and width.
 use Rattle.std.proofs.Common.{◌≡◌, ℕ, ◌+◌, ◌<◌, List, [], ◌∷◌, map, length, get_or, drop, Bool, true, false, Some, refl, sym, ap, ◌∙◌, arith}
-use Rattle.std.specs.Prelude.{◌==◌, ◌&&◌, ◌||◌, not, if◌then◌else◌, slice_get}
+use Rattle.std.specs.Prelude.{◌&&◌, ◌||◌, not, slice_get}
 use Rattle.std.proofs.lemmas.Bool.{eqb-true}
 use Rattle.std.proofs.lemmas.Simd.{map-map}
 use Rattle.std.proofs.lemmas.List.{drop_more, get_or-map, length-map}
@@ -28,39 +28,16 @@ full_at cells cell kind d read =
     ∙ ap hold_of (get_or_from_slice_get kinds cell kind kind read)
 
 pub full_within : (cells : List Cell) (cell : ℕ) (kind : LeafType) → slice_get (map (λ (c : Cell). c.kind) cells) cell ≡ Some kind → cell < length (full_holds cells)
-full_within cells cell kind read =
-    let kinds : List LeafType = map (λ (c : Cell). c.kind) cells in
-    let inside : cell < length kinds = slice_get_within kinds cell kind read in
-    let size : length kinds ≡ length cells = length-map cells (λ (c : Cell). c.kind) in
-    let each : length (full_holds cells) ≡ length cells = length-full cells in
-    omega arith
-
--- holds that do not differ are the same
-signs : (one two : Bool) → (if one then two else not two) ≡ true → one ≡ two
-signs true true e = refl
-signs true false e = sym e
-signs false true e = e
-signs false false e = refl
+full_within cells cell kind read = grind (arith, slice_get_within, length-map, length-full)
 
 both : (one two : Bool) → (one && two) ≡ true → (one ≡ true) × (two ≡ true)
-both true true e = (refl, refl)
-both true false e = cc
-both false true e = cc
-both false false e = cc
+both one two e = grind arith
 
 same_holds : (hold other : Hold) → same_hold hold other ≡ true → hold ≡ other
-same_holds hold other e =
-    let parts = both (hold.width == other.width) (if hold.signed then other.signed else not other.signed) e in
-    let width : hold.width ≡ other.width = eqb-true hold.width other.width parts.0 in
-    let sign : hold.signed ≡ other.signed = signs hold.signed other.signed parts.1 in
-    ap (λ (w : ℕ). let h : Hold = record { signed = hold.signed; width = w } in h) width
-    ∙ ap (λ (s : Bool). let h : Hold = record { signed = s; width = other.width } in h) sign
+same_holds hold other e = grind (arith, both, eqb-true)
 
 neither : (one two : Bool) → (not one || two) ≡ false → (one ≡ true) × (two ≡ false)
-neither true true e = cc
-neither true false e = (refl, refl)
-neither false true e = cc
-neither false false e = cc
+neither one two e = grind arith
 
 pub differ_none : (holds others : List Hold) → length holds ≡ length others → differ holds others ≡ false → holds ≡ others
 differ_none [] [] size e = refl
@@ -75,9 +52,7 @@ differ_none (hold ∷ holds) (other ∷ others) size e =
 module _ (holds others : List Hold) (i : ℕ) (hold other : Hold) (left : i < length holds) (right : i < length others)
     (read : get_or holds i hold ≡ hold) (read' : get_or others i other ≡ other) where
   step : differ (drop i holds) (drop i others) ≡ (not (same_hold hold other) || differ (drop (i + 1) holds) (drop (i + 1) others))
-  step =
-      ap (λ (hs : List Hold). differ hs (drop i others)) (drop_more holds i hold left ∙ ap (λ (h : Hold). h ∷ drop (i + 1) holds) read)
-      ∙ ap (λ (hs : List Hold). differ (hold ∷ drop (i + 1) holds) hs) (drop_more others i other right ∙ ap (λ (h : Hold). h ∷ drop (i + 1) others) read')
+  step = grind (arith, drop_more)
 
   pub differ_more : same_hold hold other ≡ true → differ (drop i holds) (drop i others) ≡ differ holds others
       → differ (drop (i + 1) holds) (drop (i + 1) others) ≡ differ holds others

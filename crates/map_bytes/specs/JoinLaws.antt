@@ -1,5 +1,5 @@
 -- The pieces of a cell's bytes, joined, are the places of the cell.
-use Rattle.std.proofs.Common.{◌≡◌, ℕ, ◌+◌, ◌-◌, ◌*◌, ◌%◌, ◌^◌, ◌<◌, ◌≤◌, List, [], ◌++◌, map, length, get_or, All, refl, sym, ap, ◌∙◌, subst, arith}
+use Rattle.std.proofs.Common.{◌≡◌, ℕ, ◌+◌, ◌-◌, ◌*◌, ◌%◌, ◌^◌, ◌<◌, ◌≤◌, List, [], ◌++◌, map, length, get_or, All, sym, ap, ◌∙◌, subst, arith}
 use Rattle.std.specs.List.{flat_map, range_with_len}
 use Rattle.std.proofs.lemmas.Simd.{map-map}
 use Rattle.std.proofs.lemmas.List.Concat.{flat_map-append}
@@ -13,8 +13,7 @@ use Rattle.map_bytes.specs.CutLaws.{one_of_eight}
 
 -- no bits, no pieces
 pub none_located : (layout : List (List Owner)) (s c : ℕ) → IsLocated layout s c 0 []
-none_located layout s c =
-    located layout s c 0 [] refl (All-nil (λ (p : Piece). 0 < p.bits)) (All-nil (λ (p : Piece). p.bit + p.bits < 2 ^ 64)) (λ e. All-nil (λ (p : Piece). p.bits % 8 ≡ 0))
+none_located layout s c = grind (arith, located, All-nil)
 
 -- the pieces of a cell's first bits, and of as many bits behind them
 pub join_located : (layout : List (List Owner)) (s c a b : ℕ) (xs ys : List Piece) → IsLocated layout s c a xs

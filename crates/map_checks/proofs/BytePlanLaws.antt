@@ -1,9 +1,11 @@
 -- Plans of mappings of bytes, from those of their inner mappings.
-use Rattle.map_checks.proofs.Imports.{Bool, true, false, ◌≡◌, ℕ, ◌+◌, ◌-◌, ◌*◌, ◌/◌, ◌%◌, ◌^◌, ◌<◌, ◌⊎◌, get_or, List, [], ◌∷◌, map, length, All, refl, sym, ap, ◌∙◌, subst, ◌||◌, sum, PathStep, length-map, sum-map, Fields, Owner, Bit, renamed, relabel, byte_cells, byteswap, bytesplit, widths_of, full_holds, IsTooBig, widths_whole, widths_narrow, widths_full, Cell, Hold, Term, Split, Byteswap, Bytesplit, byte_cells_of, byte_count, length-bytes, widths_of_bytes, HasWholeBytes, HasOnePiece, AreSwapped, AreJoined, order_of, orders_of, layout_of, holds_of, not_full, most_slots, IsTooBigFor, cells_under, cells_beside, IsPlanOf, IsRuled, length-holds, Plan, or_right}
+use Rattle.map_checks.proofs.Imports.{true, ◌≡◌, ℕ, ◌+◌, ◌-◌, ◌*◌, ◌/◌, ◌%◌, ◌^◌, ◌<◌, ◌⊎◌, get_or, List, [], ◌∷◌, map, length, All, refl, sym, ap, ◌∙◌, subst, sum, PathStep, length-map, sum-map, Fields, Owner, Bit, relabel, byte_cells, byteswap, bytesplit, widths_of, full_holds, IsTooBig, widths_whole, widths_narrow, widths_full, Cell, Hold, Term, Split, Byteswap, Bytesplit, byte_cells_of, byte_count, length-bytes, widths_of_bytes, HasWholeBytes, HasOnePiece, AreSwapped, AreJoined, order_of, orders_of, layout_of, not_full, most_slots, IsTooBigFor, cells_under, cells_beside, IsPlanOf, IsRuled, length-holds, Plan, or_right}
 use Rattle.std.specs.List.{sum_by}
 use Rattle.map_checks.proofs.JoinRuleLaws.{alone_ruled, join_ruled, join_orders}
 use Rattle.map_checks.proofs.OrderLaws.{order_in}
 use Rattle.map_checks.proofs.SwapRuleLaws.{whole_ruled, swap_ruled, swap_orders}
+use Rattle.std.proofs.Common.{arith}
+use Rattle.std.proofs.Common.{rules}
 
 -- the names that bits get
 abbrev swap_name : List ℕ → ℕ → ℕ → ℕ → Owner
@@ -15,8 +17,7 @@ split_name ws slot cell bit = Bit slot (get_or (byte_cells ws) cell (0, 0)).0 (8
 -- blobs keep their lengths under new names
 lengths_renamed : (name : ℕ → ℕ → ℕ → Owner) (layout : List (List Owner)) → map length (relabel name layout) ≡ map length layout
 lengths_renamed name [] = refl
-lengths_renamed name (blob ∷ blobs) =
-    ap (λ (n : ℕ). n ∷ map length (relabel name blobs)) (length-map blob (renamed name)) ∙ ap (λ (ns : List ℕ). length blob ∷ ns) (lengths_renamed name blobs)
+lengths_renamed name (blob ∷ blobs) = grind (arith, length-map, (lengths_renamed name blobs))
 
 bits_renamed : (name : ℕ → ℕ → ℕ → Owner) (layout : List (List Owner)) → sum_by length (relabel name layout) ≡ sum_by length layout
 bits_renamed name layout =
@@ -44,13 +45,10 @@ module _ (inner : Term) (extents : List ℕ) (fields : Fields) (cells : List Cel
     swap_held = ap (λ (hs : List Hold). length hs) h.held ∙ length-holds inner fields cells
 
     swap_widths : made.holds ≡ full_holds cells → IsRuled (layout_of inner extents fields cells) extents (widths_of cells) made.rules
-    swap_widths full =
-        subst (λ (ws : List ℕ). IsRuled (layout_of inner extents fields cells) extents ws made.rules)
-        (widths_held (holds_of inner fields cells) cells (sym h.held ∙ full)) h.ruled
+    swap_widths full = grind (arith, widths_held)
 
     pub swap_bytes : made.holds ≡ full_holds cells → All HasWholeBytes made.rules
-    swap_bytes full =
-        whole_ruled (layout_of inner extents fields cells) extents (widths_of cells) made.rules (swap_widths full) (widths_whole cells) (widths_narrow cells)
+    swap_bytes full = grind (arith, whole_ruled, swap_widths, widths_whole, widths_narrow)
 
     pub swap_planned : (plan : Plan) → made.holds ≡ full_holds cells → plan.holds ≡ full_holds cells → plan.lengths ≡ made.lengths → AreSwapped made.rules plan.rules
         → IsPlanOf (Byteswap inner) extents fields cells plan
@@ -77,14 +75,11 @@ module _ (inner : Term) (extents : List ℕ) (fields : Fields) (cells : List Cel
 
   module _ (made : Plan) (h : IsPlanOf inner extents fields (byte_cells_of cells) made) where
     pub join_each : length made.rules ≡ byte_count cells
-    join_each =
-        h.ruled.each ∙ length-map (holds_of inner fields (byte_cells_of cells)) (λ (x : Hold). x.width) ∙ length-holds inner fields (byte_cells_of cells) ∙ length-bytes cells
+    join_each = grind (arith, length-map, length-holds, length-bytes)
 
     join_widths : made.holds ≡ full_holds (byte_cells_of cells)
         → IsRuled (layout_of inner extents fields (byte_cells_of cells)) extents (widths_of (byte_cells_of cells)) made.rules
-    join_widths full =
-        subst (λ (ws : List ℕ). IsRuled (layout_of inner extents fields (byte_cells_of cells)) extents ws made.rules)
-        (widths_held (holds_of inner fields (byte_cells_of cells)) (byte_cells_of cells) (sym h.held ∙ full)) h.ruled
+    join_widths full = grind (arith, widths_held)
 
     pub join_alone : made.holds ≡ full_holds (byte_cells_of cells) → All HasOnePiece made.rules
     join_alone full =
@@ -113,9 +108,7 @@ module _ (inner : Term) (extents : List ℕ) (fields : Fields) (cells : List Cel
 
 module _ (path : List PathStep) (one two : Term) (fields : Fields) (cells : List Cell) where
   pub narrow_under : (under : List Cell) → under ≡ cells_under fields path cells → not_full one fields under ≡ true → not_full (Split path one two) fields cells ≡ true
-  narrow_under under is e =
-      ap (λ (b : Bool). b || not_full two fields (cells_beside fields path cells)) (ap (not_full one fields) (sym is) ∙ e)
+  narrow_under under is e = grind arith
 
   pub narrow_beside : (beside : List Cell) → beside ≡ cells_beside fields path cells → not_full two fields beside ≡ true → not_full (Split path one two) fields cells ≡ true
-  narrow_beside beside is e =
-      or_right (not_full one fields (cells_under fields path cells)) (not_full two fields (cells_beside fields path cells)) (ap (not_full two fields) (sym is) ∙ e)
+  narrow_beside beside is e = grind (arith, or_right)

@@ -1,6 +1,6 @@
 -- What the proofs of this crate speak of.
-pub use Rattle.std.proofs.Common.{◌≡◌, ℕ, ◌^◌, ◌≤◌, List, [], ◌∷◌, length, get_or, map, sym, ap, ◌∙◌, subst, Bool, true, false, ◌+◌, ◌-◌, ◌*◌, ◌/◌, ◌%◌, ◌<◌, ◌⊎◌, All, refl, sum_by, inl, inr, ⊎_elim, Result, Ok, Err, zero, suc, ◌++◌, slice_index, take, drop, replicate, arith, length-append, slice_index_or, ◌≢◌, below_more, get_or-set_other, get_or-set_same, nat_lt, Option, rules}
-pub use Rattle.std.specs.Prelude.{◌||◌, if◌then◌else◌, not, filter, max, nat_le, ◌&&◌, IfOk}
+pub use Rattle.std.proofs.Common.{◌≡◌, ℕ, ◌^◌, ◌≤◌, List, [], ◌∷◌, length, get_or, map, sym, ap, ◌∙◌, subst, Bool, true, false, ◌+◌, ◌-◌, ◌*◌, ◌/◌, ◌%◌, ◌<◌, ◌⊎◌, All, refl, sum_by, inr, ⊎_elim, Result, Ok, Err, zero, suc, ◌++◌, slice_index, take, drop, replicate, arith, length-append, slice_index_or, below_more, get_or-set_other, get_or-set_same, nat_lt, rules}
+pub use Rattle.std.specs.Prelude.{if◌then◌else◌, not, filter, max, nat_le, ◌&&◌}
 pub use Rattle.std.specs.List.{sum, flat_map, fold, count_by, list_any}
 pub use Rattle.std.proofs.lemmas.List.{length-map, get_or-map, same_lists, get_or-take, get_or-drop, length-take-le, length-drop, take_more, take_all, map-append, append-nil, get_or_append_left, get_or-append-add, get_or-replicate, length-replicate, get_or_default, length-set, map_push, replicate_more}
 pub use Rattle.std.proofs.lemmas.List.Sums.{sum-map, sum_by-cons, sum_by-append, sum_by_more, fold-append, count_by_more_yes, count_by_more_no}
@@ -10,7 +10,6 @@ pub use Rattle.std.proofs.lemmas.List.Elements.{All-append, All-nil, All-head, A
 pub use Rattle.std.proofs.lemmas.Bool.{false≢true, cases_Bool, cases_lt, true≢false, or_right}
 pub use Rattle.std.proofs.lemmas.Simd.{map-map}
 pub use Rattle.std.proofs.lemmas.Option.{get_or_from_slice_get, slice_get_within}
-pub use Rattle.std.proofs.lemmas.Bool.Decides.{nat_tests}
 pub use Rattle.std.specs.Iterator.Adapters.{zip_first, zip_second}
 pub use Rattle.std.specs.Slice.Iter.{iter_rest}
 pub use Rattle.places.specs.Layout.{Owner, Bit, aosoa, bit_aos, bit_soa}
@@ -18,8 +17,8 @@ pub use Rattle.places.specs.declared.piece.Hold.{Hold}
 pub use Rattle.places.specs.PieceRules.{AreRulesOf, IsDense, piece_in, pieces_in}
 pub use Rattle.places.specs.declared.rule.PieceRule.{PieceRule}
 pub use Rattle.record_dim.specs.declared.path.PathStep.{PathStep}
-pub use Rattle.record_dim.specs.Trees.{Fields, Tree, Record}
-pub use Rattle.places.specs.Rules.{renamed, relabel, byte_cells, byteswap, bytesplit, in_rows, split, recelled, numbers_of}
+pub use Rattle.record_dim.specs.Trees.{Fields}
+pub use Rattle.places.specs.Rules.{relabel, byte_cells, byteswap, bytesplit, in_rows, split, recelled, numbers_of}
 pub use Rattle.places.specs.Holds.{widths_of, full_holds, IsTooBig, hold_within, narrow_holds, widths_in}
 pub use Rattle.places.specs.WidthsLaws.{widths_whole, widths_narrow, widths_full, widths_wide}
 pub use Rattle.places.specs.declared.piece.Cell.{Cell}
@@ -37,7 +36,7 @@ pub use Rattle.places.specs.CellWidthsLaws.{length-widths, length-full}
 pub use Rattle.places.specs.declared.piece.Piece.{Piece}
 pub use Rattle.map_bytes.specs.CutLaws.{one_of_eight, swapped_in, swapped_blobs, swapped_eights, swapped_bounds, swapped_bits}
 pub use Rattle.map_bytes.specs.JoinLaws.{byte_joined, none_located}
-pub use Rattle.record_dim.specs.Nodes.{is_under, IsUnder, is_from, leaves_before}
+pub use Rattle.record_dim.specs.Nodes.{is_under, IsUnder, leaves_before}
 pub use Rattle.map_expr.specs.declared.widths.FieldWidth.{FieldWidth}
 pub use Rattle.record_dim.specs.declared.leaf_type.LeafType.{LeafType}
 pub use Rattle.map_split.specs.Sides.{merged, rank_first, rank_rest}
@@ -50,14 +49,12 @@ pub use Rattle.map_bytes.specs.Cuts.{swapped, swapped_rules}
 pub use Rattle.map_bytes.specs.SwapPiecesLaws.{swap_located}
 pub use Rattle.map_bytes.specs.FullLaws.{differ_none}
 pub use Rattle.record_dim.specs.Schemas.{schema_fields}
-pub use Rattle.record_dim.specs.Leaves.{leaves_of, Leaf, leaves, kinds_of}
+pub use Rattle.record_dim.specs.Leaves.{leaves, kinds_of}
 pub use Rattle.places.specs.Forms.{aos_layout, soa_layout}
 pub use Rattle.map_expr.specs.declared.expr.MapExpr.{MapExpr}
-pub use Rattle.map_expr.specs.declared.check.BadMapping.TheVariants.{NotFull}
 pub use Rattle.map_bits.specs.NarrowLaws.{narrow_each}
-pub use Rattle.map_bits.specs.Bits.{has_bad_width}
 pub use Rattle.map_split.specs.MoreLaws.{merged_more_first, merged_more_rest}
-pub use Rattle.map_checks.specs.Arrays.{IsArray, AreArrays, HasArrays}
+pub use Rattle.map_checks.specs.Arrays.{IsArray, AreArrays}
 pub use Rattle.map_checks.specs.declared.rule.Rule.{Rule}
 pub use Rattle.map_checks.specs.Inner.ByteRules.{HasWholeBytes, HasOnePiece, AreSwapped, AreJoined, IsJoined, bytes_at, IsSwapped}
 pub use Rattle.map_checks.specs.Inner.LeafOrders.{order_of, orders_of}
@@ -68,7 +65,7 @@ pub use Rattle.map_checks.specs.Ruled.{IsRuled, IsRuleOf, HasLengths, EachWith, 
 pub use Rattle.map_checks.specs.TermLaws.{length-holds, cells_first, cells_rest, good_widths}
 pub use Rattle.map_checks.specs.declared.plan.Plan.{Plan}
 pub use Rattle.map_checks.specs.declared.fault.MakeMap.{MakeMap}
-pub use Rattle.map_checks.specs.declared.fault.MakeMap.TheVariants.{TooBig, NoMemory, Bad}
+pub use Rattle.map_checks.specs.declared.fault.MakeMap.TheVariants.{TooBig, NoMemory}
 pub use Rattle.map_checks.specs.Inner.Faults.{fault_of}
 pub use Rattle.map_checks.specs.Widths.{width_by, width_at, is_said, LastCounts, cell_widths, has_cell}
 pub use Rattle.map_checks.specs.RowsLaws.{sum-blobs, row_located, length-in_rows, lengths-rows}

@@ -1,16 +1,10 @@
 -- The joined rules of the bytes of cells are rules of the cells.
-use Rattle.map_checks.proofs.Imports.{◌≡◌, ℕ, zero, suc, ◌+◌, ◌-◌, ◌*◌, ◌/◌, ◌%◌, ◌^◌, ◌<◌, ◌≤◌, List, [], ◌∷◌, ◌++◌, map, length, get_or, slice_index, take, drop, replicate, sum_by, All, refl, sym, ap, ◌∙◌, subst, arith, flat_map, length-map, get_or-map, same_lists, get_or-take, get_or-drop, length-take-le, length-drop, take_more, take_all, map-append, append-nil, get_or_append_left, get_or-append-add, get_or-replicate, length-replicate, flat_map-append, All-append, All-nil, All-head, All-tail, sum_by-cons, sum_by-append, sum_by_more, indices, Order, slot_at, slot_count, width_of, U8, Owner, byte_cells, bytesplit, IsLocated, widths_of, widths_whole, widths_narrow, widths_wide, length-widths, Cell, Piece, piece_in, pieces_in, PieceRule, byte_cells_of, byte_count, bytes_before, byte_cell_at, byte_within, byte_count_is, byte_count_before, length-bytes, one_of_eight, byte_joined, none_located, HasOnePiece, IsJoined, AreJoined, bytes_at, IsRuleOf, IsRuled, Rule}
+use Rattle.map_checks.proofs.Imports.{◌≡◌, ℕ, zero, suc, ◌+◌, ◌-◌, ◌*◌, ◌/◌, ◌%◌, ◌^◌, ◌<◌, ◌≤◌, List, [], ◌∷◌, ◌++◌, map, length, get_or, slice_index, take, drop, replicate, sum_by, All, refl, sym, ap, ◌∙◌, subst, arith, flat_map, length-map, get_or-map, same_lists, get_or-take, get_or-drop, length-take-le, length-drop, take_more, take_all, map-append, append-nil, get_or_append_left, get_or-append-add, get_or-replicate, length-replicate, flat_map-append, All-append, All-nil, All-head, All-tail, sum_by-cons, sum_by-append, sum_by_more, indices, Order, slot_at, slot_count, width_of, U8, Owner, byte_cells, bytesplit, IsLocated, widths_of, widths_whole, widths_narrow, widths_wide, length-widths, Cell, piece_in, pieces_in, PieceRule, byte_cells_of, byte_count, bytes_before, byte_cell_at, byte_within, byte_count_is, byte_count_before, length-bytes, one_of_eight, byte_joined, none_located, HasOnePiece, IsJoined, AreJoined, bytes_at, IsRuleOf, IsRuled, Rule}
 use Rattle.map_checks.proofs.OrderLaws.{order_in, with_item}
 
 -- a byte has one piece
 pub alone_ruled : (layout : List (List Owner)) (extents es : List ℕ) (bytes : List Rule) → IsRuled layout extents es bytes → All (λ w. w ≡ 8) es → All HasOnePiece bytes
-alone_ruled layout extents es bytes ruled eights = λ k d inside.
-    let each : length bytes ≡ length es = ruled.each in
-    let rule : Rule = get_or bytes k d in
-    let here : IsRuleOf layout extents k (slice_index es k) rule = ruled.places k d inside in
-    let width : slice_index es k ≡ 8 = eights k 0 (omega arith) in
-    let whole : slice_index es k % 8 ≡ 0 = omega arith in
-    one_of_eight (λ (p : PieceRule). p.bits) rule.pieces.items here.some (here.whole whole) (here.bits ∙ width)
+alone_ruled layout extents es bytes ruled eights = grind (arith, slice_index, one_of_eight)
 
 -- what holds of the items of each holds of all in a row
 all_flat : {X Y : Type 0} (P : Y → Type 0) (f : X → List Y) (xs : List X) → All (λ x. All P (f x)) xs → All P (flat_map f xs)
@@ -33,23 +27,14 @@ pieces_by rule = rule.pieces.items
 byte_leaf : (cells : List Cell) (c j : ℕ) (d e : Cell) → c < length cells → j < width_of (get_or cells c e).kind / 8
     → (get_or (byte_cells_of cells) (byte_count (take c cells) + j) d).leaf ≡ (get_or cells c e).leaf
 byte_leaf [] c j d e inside low = let never : ⊥ = omega arith in absurd never
-byte_leaf (cell ∷ cells) zero j d e inside low =
-    let n : ℕ = width_of cell.kind / 8 in
-    let byte : Cell = record { leaf = cell.leaf; kind = U8 } in
-    let j_in : j < n = low in
-    let size : length (replicate n byte) ≡ n = length-replicate n byte in
-    let place : byte_count (take zero (cell ∷ cells)) + j ≡ j = omega arith in
-    ap (λ (i : ℕ). (get_or (byte_cells_of (cell ∷ cells)) i d).leaf) place
-    ∙ ap (λ (x : Cell). x.leaf) (get_or_append_left (replicate n byte) (byte_cells_of cells) d j (omega arith) ∙ get_or-replicate n j byte d j_in)
+byte_leaf (cell ∷ cells) zero j d e inside low = grind (arith, length-replicate, get_or_append_left, get_or-replicate)
 byte_leaf (cell ∷ cells) (suc c) j d e inside low =
     let n : ℕ = width_of cell.kind / 8 in
     let byte : Cell = record { leaf = cell.leaf; kind = U8 } in
     let size : length (replicate n byte) ≡ n = length-replicate n byte in
     let step : byte_count (take (suc c) (cell ∷ cells)) ≡ n + byte_count (take c cells) = sum_by-cons (λ (x : Cell). width_of x.kind / 8) cell (take c cells) in
     let place : byte_count (take (suc c) (cell ∷ cells)) + j ≡ length (replicate n byte) + (byte_count (take c cells) + j) = omega arith in
-    ap (λ (i : ℕ). (get_or (byte_cells_of (cell ∷ cells)) i d).leaf) place
-    ∙ ap (λ (x : Cell). x.leaf) (get_or-append-add (replicate n byte) (byte_cells_of cells) (byte_count (take c cells) + j) d)
-    ∙ byte_leaf cells c j d e (omega arith) low
+    grind (arith, get_or-append-add, (byte_leaf cells c j d e (omega arith) low))
 
 -- the bytes of one cell
 module _ (cells : List Cell) (bytes : List Rule) (each : length bytes ≡ byte_count cells) (c : ℕ) (inside : c < length cells) where
@@ -86,10 +71,7 @@ module _ (cells : List Cell) (bytes : List Rule) (each : length bytes ≡ byte_c
       omega arith
 
   pub some_bytes : 0 < count
-  some_bytes =
-      let wide : 1 ≤ slice_index ws c = widths_wide cells c 0 c_in in
-      let whole : slice_index ws c % 8 ≡ 0 = widths_whole cells c 0 c_in in
-      omega arith
+  some_bytes = grind (arith, slice_index, widths_wide, c_in, widths_whole)
 
   pub few_bytes : count ≤ 8
   few_bytes = let narrow : slice_index ws c ≤ 64 = widths_narrow cells c 0 c_in in omega arith
@@ -102,9 +84,7 @@ module _ (cells : List Cell) (bytes : List Rule) (each : length bytes ≡ byte_c
 
   -- the bytes that stand where the cell's begin
   pub slice_is : (start n : ℕ) → start ≡ first → n ≡ count → take (start + n - start) (drop start bytes) ≡ those
-  slice_is start n begin many =
-      let size : start + n - start ≡ count = omega arith in
-      ap (λ (m : ℕ). take m (drop start bytes)) size ∙ ap (λ (m : ℕ). take count (drop m bytes)) begin ∙ sym those_are
+  slice_is start n begin many = grind (arith, those_are)
 
   pub length-those : length those ≡ count
   length-those =
@@ -112,8 +92,7 @@ module _ (cells : List Cell) (bytes : List Rule) (each : length bytes ≡ byte_c
       ap (λ (rs : List Rule). length rs) those_are ∙ length-take-le count (drop first bytes) (omega (arith, within))
 
   pub those_at : (j : ℕ) (d : Rule) → j < count → get_or those j d ≡ get_or bytes (first + j) d
-  those_at j d low =
-      ap (λ (rs : List Rule). get_or rs j d) those_are ∙ get_or-take count (drop first bytes) j d low ∙ get_or-drop first bytes j d
+  those_at j d low = grind (arith, those_are, get_or-take, get_or-drop)
 
   -- what holds of all bytes holds of these
   pub all_those : (P : Rule → Type 0) → All P bytes → All P those
@@ -128,8 +107,7 @@ module _ (cells : List Cell) (bytes : List Rule) (each : length bytes ≡ byte_c
         let size : length bytes ≡ length es = ruled.each in
         let here : first + j < length bytes = omega (arith, within) in
         let there : IsRuleOf layout extents (first + j) (slice_index es (first + j)) (get_or bytes (first + j) d) = ruled.places (first + j) d here in
-        subst (λ (r : Rule). IsRuleOf layout extents (first + j) 8 r) (sym (those_at j d low))
-        (subst (λ (w : ℕ). IsRuleOf layout extents (first + j) w (get_or bytes (first + j) d)) (eights (first + j) 0 (omega arith)) there)
+        grind (arith, those_at)
 
     all_bytes : (P : Rule → Type 0) → ((i : ℕ) (rule : Rule) → IsRuleOf layout extents i 8 rule → P rule) → All P those
     all_bytes P to = λ j d j_in. to (first + j) (get_or those j d) (byte_ruled j d (omega (arith, length-those)))
@@ -169,8 +147,7 @@ module _ (cells : List Cell) (bytes : List Rule) (each : length bytes ≡ byte_c
           ∙ ap (λ (ps : List PieceRule). flat_map pieces_by (take j those) ++ ps) (append-nil byte.pieces.items) in
           let pieces : pieces_in (flat_map pieces_by (take (j + 1) those)) slot ≡ pieces_in (flat_map pieces_by (take j those)) slot ++ pieces_in byte.pieces.items slot =
           ap (λ (ps : List PieceRule). pieces_in ps slot) more ∙ map-append (λ (p : PieceRule). piece_in p slot) (flat_map pieces_by (take j those)) byte.pieces.items in
-          subst (λ (n : ℕ). IsLocated new row c (8 * n) (pieces_in (flat_map pieces_by (take n those)) slot)) next
-          (subst (λ (ps : List Piece). IsLocated new row c (8 * (j + 1)) ps) (sym pieces) joined))
+          grind (arith, flat_map))
 
       places_joined : IsLocated new row c (slice_index ws c) (pieces_in (flat_map pieces_by those) slot)
       places_joined =

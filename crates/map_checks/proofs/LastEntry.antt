@@ -1,5 +1,5 @@
 -- The last entry that a leaf is under says its width.
-use Rattle.map_checks.proofs.Imports.{◌≡◌, ℕ, Bool, true, false, List, [], ◌∷◌, refl, sym, ap, ◌∙◌, if◌then◌else◌, fold, false≢true, fold-append, Fields, is_under, FieldWidth, width_by, width_at, is_said, LastCounts}
+use Rattle.map_checks.proofs.Imports.{◌≡◌, ℕ, Bool, true, false, List, [], ◌∷◌, refl, sym, ap, ◌∙◌, if◌then◌else◌, false≢true, fold-append, Fields, is_under, FieldWidth, width_by, width_at, is_said, LastCounts}
 use Rattle.std.proofs.Common.{◌||◌}
 
 -- entries that say nothing of a leaf leave its width

@@ -1,5 +1,5 @@
 -- A layout by rows over the slots of an order: which it is, and its limits.
-use Rattle.map_checks.proofs.Imports.{◌≡◌, ℕ, ◌*◌, ◌^◌, ◌<◌, inl, inr, ⊎_elim, List, length, sum_by, sym, ap, ◌∙◌, arith, Owner, in_rows, widths_of, IsTooBig, Cell, row_at, slot_count, Order, ordered, sum-blobs}
+use Rattle.map_checks.proofs.Imports.{◌≡◌, ℕ, List, length, sum_by, sym, ap, ◌∙◌, arith, Owner, in_rows, widths_of, IsTooBig, Cell, row_at, slot_count, Order, ordered, sum-blobs}
 
 module _ (layout : ℕ → List ℕ → List (List Owner)) (order : Order) (extents : List ℕ) (cells : List Cell) (slots : ℕ) (counted : slots ≡ slot_count order extents) where
   abbrev wanted : List (List Owner)
@@ -13,17 +13,7 @@ module _ (layout : ℕ → List ℕ → List (List Owner)) (order : Order) (exte
 
   -- it is over a limit where the layout by slots is
   pub over : IsTooBig slots (layout slots (widths_of cells)) → IsTooBig (slot_count order extents) wanted
-  over big =
-      let same : sum_by length wanted ≡ sum_by length (layout slots (widths_of cells)) = same_bits in
-      ⊎_elim
-      (λ (many : 2 ^ 24 < slots). inl (omega arith))
-      (λ (long : 8 * 2 ^ 28 < sum_by length (layout slots (widths_of cells))). inr (omega arith))
-      big
+  over big = grind (arith, same_bits)
 
   pub within : (IsTooBig slots (layout slots (widths_of cells)) → ⊥) → IsTooBig (slot_count order extents) wanted → ⊥
-  within fits big =
-      let same : sum_by length wanted ≡ sum_by length (layout slots (widths_of cells)) = same_bits in
-      fits (⊎_elim
-      (λ (many : 2 ^ 24 < slot_count order extents). inl (omega arith))
-      (λ (long : 8 * 2 ^ 28 < sum_by length wanted). inr (omega arith))
-      big)
+  within fits big = grind (arith, same_bits)

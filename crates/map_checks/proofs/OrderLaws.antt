@@ -1,5 +1,6 @@
 -- The orders of rules: those of a base mapping, and of a split.
 use Rattle.map_checks.proofs.Imports.{◌≡◌, ℕ, ◌<◌, ⊎_elim, Bool, true, false, List, [], ◌∷◌, map, length, get_or, replicate, refl, sym, ap, ◌∙◌, arith, not, if◌then◌else◌, filter, count_by, cases_Bool, length-map, get_or-map, same_lists, LeafType, PathStep, Fields, is_under, Order, Cell, Term, Split, Change, changed, merged, rank_first, rank_rest, merged_first, merged_rest, rank_first_in, rank_rest_in, length-merged, side_of, cells_under, cells_beside, order_of, orders_of, IsSplitRule, AreSplitRules, Rule}
+use Rattle.std.proofs.Common.{rules}
 
 -- one item for each
 pub map_constant : {X Y : Type 0} (y : Y) (xs : List X) → map (λ (x : X). y) xs ≡ replicate (length xs) y
@@ -46,17 +47,10 @@ split_orders side by xs ys rules one two h =
     ∙ sym (merged_rest e side (map order_in xs) (map order_in ys) k k_in no' (omega arith) (omega arith) ∙ get_or-map order_in ys j d e (omega arith)))
     (cases_Bool (get_or side k false))))
 
--- what is said of the cells of both sides, in the order of the whole
-one_more : {X Y : Type 0} (f g : X → Y) (x : X) (side : List Bool) (xs ys : List X) (zs : List Y) (b : Bool) → merged side (map f xs) (map g ys) ≡ zs
-    → merged (b ∷ side) (map f (if b then (x ∷ xs) else xs)) (map g (if not b then (x ∷ ys) else ys)) ≡ (if b then f x else g x) ∷ zs
-one_more {X} {Y} f g x side xs ys zs true e = ap (λ (ws : List Y). f x ∷ ws) e
-one_more {X} {Y} f g x side xs ys zs false e = ap (λ (ws : List Y). g x ∷ ws) e
-
 merged_parts : {X Y : Type 0} (p : X → Bool) (f g : X → Y) (xs : List X)
     → merged (map p xs) (map f (filter p xs)) (map g (filter (λ x. not (p x)) xs)) ≡ map (λ x. if p x then f x else g x) xs
 merged_parts p f g [] = refl
-merged_parts p f g (x ∷ xs) =
-    one_more f g x (map p xs) (filter p xs) (filter (λ y. not (p y)) xs) (map (λ y. if p y then f y else g y) xs) (p x) (merged_parts p f g xs)
+merged_parts p f g (x ∷ xs) = grind (arith, (merged_parts p f g xs))
 
 -- the orders of a split's cells
 pub orders_split : (path : List PathStep) (one two : Term) (fields : Fields) (cells : List Cell)

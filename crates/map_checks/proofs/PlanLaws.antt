@@ -1,8 +1,9 @@
 -- Plans of base mappings and of splits.
-use Rattle.map_checks.proofs.Imports.{◌≡◌, ℕ, ◌+◌, ◌*◌, ◌^◌, ◌<◌, ◌≤◌, inl, inr, ⊎_elim, Bool, List, [], ◌∷◌, ◌++◌, map, length, get_or, All, refl, sym, ap, ◌∙◌, subst, arith, not, max, count_by, sum, cases_lt, length-map, map-append, sum-map, sum_by-cons, Order, row_at, slot_count, Owner, in_rows, split, widths_of, IsTooBig, Cell, Hold, plan_holds, plan_rules, Plan, PathStep, Fields, Term, Split, side_of, cells_under, cells_beside, length-holds, cells_first, cells_rest, merged, map-merged, lengths-split, bits-split, AreSplitRules, LieWithin, ordered, layout_of, holds_of, most_slots, IsTooBigFor, HasLengths, IsRuled, IsPlanFor, IsPlanOf}
+use Rattle.map_checks.proofs.Imports.{◌≡◌, ℕ, ◌+◌, ◌*◌, ◌^◌, ◌<◌, ◌≤◌, inr, Bool, List, [], ◌∷◌, ◌++◌, map, length, All, refl, sym, ap, ◌∙◌, subst, arith, not, max, count_by, sum, cases_lt, length-map, map-append, sum-map, sum_by-cons, Order, row_at, slot_count, Owner, in_rows, split, widths_of, IsTooBig, Cell, Hold, plan_holds, plan_rules, Plan, PathStep, Fields, Term, Split, side_of, cells_under, cells_beside, length-holds, cells_first, cells_rest, merged, map-merged, lengths-split, bits-split, AreSplitRules, LieWithin, ordered, layout_of, holds_of, most_slots, IsTooBigFor, HasLengths, IsRuled, IsPlanFor, IsPlanOf}
 use Rattle.std.specs.Prelude.{sum_by}
 use Rattle.map_checks.proofs.Limits.{by_rows, within}
 use Rattle.map_checks.proofs.SplitRules.{split_ruled}
+use Rattle.std.proofs.Common.{rules}
 
 -- a plan of a base mapping, by rows
 pub base_planned : (layout : ℕ → List ℕ → List (List Owner)) (order : Order) (extents : List ℕ) (cells : List Cell) (slots : ℕ) (made : List (List Owner))
@@ -16,8 +17,7 @@ base_planned layout order extents cells slots made holds stored plan counted mad
     record {
       held = held ∙ holds_are;
       sized = subst (λ (l : List (List Owner)). HasLengths l plan.lengths) same sized;
-      ruled = subst (λ (l : List (List Owner)). IsRuled l extents (map (λ (h : Hold). h.width) stored) plan.rules) same
-          (subst (λ (hs : List Hold). IsRuled (in_rows (row_at order extents) made) extents (map (λ (h : Hold). h.width) hs) plan.rules) holds_are ruled);
+      ruled = grind arith;
       fits = within layout order extents cells slots counted fits;
     }
 
@@ -32,32 +32,22 @@ pub bits_are : (layout : List (List Owner)) (lengths : List ℕ) → HasLengths 
 bits_are layout lengths sized = sym (eight lengths) ∙ ap (λ (ns : List ℕ). sum ns) sized ∙ sum-map (length {A = Owner}) layout
 
 pub blobs_are : (layout : List (List Owner)) (lengths : List ℕ) → HasLengths layout lengths → length lengths ≡ length layout
-blobs_are layout lengths sized =
-    sym (length-map lengths (λ (bytes : ℕ). 8 * bytes)) ∙ ap (λ (ns : List ℕ). length ns) sized ∙ length-map layout (length {A = Owner})
+blobs_are layout lengths sized = grind (arith, length-map)
 
 -- its rules lie in its blobs
 module _ (most : ℕ) (layout : List (List Owner)) (extents : List ℕ) (holds : List Hold) (plan : Plan) (h : IsPlanFor most layout extents holds plan) where
   pub plan_blobs : All (LieWithin (length plan.lengths)) plan.rules
-  plan_blobs = λ k d inside.
-      subst (λ (n : ℕ). LieWithin n (get_or plan.rules k d)) (sym (blobs_are layout plan.lengths h.sized)) (h.ruled.places k d inside).blobs
+  plan_blobs = grind (arith, blobs_are)
 
 -- one side over a limit makes the whole so
 module _ (side : List Bool) (first rest : List (List Owner)) (one two : ℕ) where
   pub over_first : IsTooBig one first → IsTooBig (max one two) (split side first rest)
   over_first big =
-      let all : sum_by length (split side first rest) ≡ sum_by length first + sum_by length rest = bits-split side first rest in
-      ⊎_elim
-      (λ (many : 2 ^ 24 < one). inl (omega arith))
-      (λ (long : 8 * 2 ^ 28 < sum_by length first). inr (omega arith))
-      big
+      let all : sum_by length (split side first rest) ≡ sum_by length first + sum_by length rest = bits-split side first rest in grind arith
 
   pub over_rest : IsTooBig two rest → IsTooBig (max one two) (split side first rest)
   over_rest big =
-      let all : sum_by length (split side first rest) ≡ sum_by length first + sum_by length rest = bits-split side first rest in
-      ⊎_elim
-      (λ (many : 2 ^ 24 < two). inl (omega arith))
-      (λ (long : 8 * 2 ^ 28 < sum_by length rest). inr (omega arith))
-      big
+      let all : sum_by length (split side first rest) ≡ sum_by length first + sum_by length rest = bits-split side first rest in grind arith
 
 -- a plan of a split
 module _ (side : List Bool) (first rest : List (List Owner)) (one two : ℕ) (extents : List ℕ) (hs gs : List Hold) (left right : Plan)
@@ -88,14 +78,7 @@ module _ (side : List Bool) (first rest : List (List Owner)) (one two : ℕ) (ex
             (split_ruled side first rest extents (map width hs) (map width gs) left.rules right.rules plan.rules h.ruled g.ruled
             (plan_rules one first extents hs left h ∙ count_first) (plan_rules two rest extents gs right g ∙ count_rest)
             (subst (λ (n : ℕ). AreSplitRules side n left.rules right.rules plan.rules) (blobs_are first left.lengths h.sized) rules));
-        fits = λ big.
-            ⊎_elim
-            (λ (many : 2 ^ 24 < max one two).
-            let low : one ≤ 2 ^ 24 = ⊎_elim (λ (l : 2 ^ 24 < one). absurd (h.fits (inl l))) (λ (l : one ≤ 2 ^ 24). l) (cases_lt (2 ^ 24) one) in
-            let low' : two ≤ 2 ^ 24 = ⊎_elim (λ (l : 2 ^ 24 < two). absurd (g.fits (inl l))) (λ (l : two ≤ 2 ^ 24). l) (cases_lt (2 ^ 24) two) in
-            omega arith)
-            (λ (long : 8 * 2 ^ 28 < sum_by length (split side first rest)). omega (arith, bytes_both))
-            big;
+        fits = λ big. grind (arith, cases_lt, bytes_both);
       }
 
 -- the plan of a split from those of its sides, over the cells of its sides
@@ -138,9 +121,7 @@ module _ (path : List PathStep) (one two : Term) (extents : List ℕ) (fields : 
     count_rest = length-holds two fields (cells_beside fields path cells) ∙ cells_rest fields path cells
 
     pub holds_first : length left.holds ≡ count_by (λ (s : Bool). s) side
-    holds_first =
-        plan_holds (most_slots one extents) first_layout extents first_held left h ∙ count_first
-        ∙ sym (ap (count_by (λ (s : Bool). s)) side_is)
+    holds_first = grind (arith, plan_holds, h, count_first, count_by)
 
     pub rules_first : length left.rules ≡ count_by (λ (s : Bool). s) side
     rules_first =
@@ -148,20 +129,12 @@ module _ (path : List PathStep) (one two : Term) (extents : List ℕ) (fields : 
         ∙ sym (ap (count_by (λ (s : Bool). s)) side_is)
 
     pub holds_rest : length right.holds ≡ count_by not side
-    holds_rest =
-        plan_holds (most_slots two extents) rest_layout extents rest_held right g ∙ count_rest
-        ∙ sym (ap (count_by not) side_is)
+    holds_rest = grind (arith, plan_holds, g, count_rest, count_by)
 
     pub rules_rest : length right.rules ≡ count_by not side
     rules_rest =
         plan_rules (most_slots two extents) rest_layout extents rest_held right g ∙ count_rest
         ∙ sym (ap (count_by not) side_is)
-
-    pub blobs_first : All (LieWithin (length left.lengths)) left.rules
-    blobs_first = plan_blobs (most_slots one extents) first_layout extents first_held left h
-
-    pub blobs_rest : All (LieWithin (length right.lengths)) right.rules
-    blobs_rest = plan_blobs (most_slots two extents) rest_layout extents rest_held right g
 
     pub over_all : 2 ^ 28 < sum (left.lengths ++ right.lengths) → IsTooBigFor (Split path one two) extents fields cells
     over_all long =

@@ -10,9 +10,7 @@ pub rule_by_rows : (order : Order) (extents : List ℕ) (layout : List (List Own
 rule_by_rows order extents layout slots cell width pieces rule counted few order_is pieces_are blobs bits bounds some whole h = record {
   few = subst (λ (o : Order). slot_count o extents ≤ 2 ^ 24) (sym order_is) few;
   blobs =
-      let size : length (in_rows (row_at order extents) layout) ≡ length layout = length-in_rows (row_at order extents) layout in
-      subst (λ (ps : List PieceRule). All (λ (p : PieceRule). p.blob < length (in_rows (row_at order extents) layout)) ps) (sym pieces_are)
-      (subst (λ (n : ℕ). All (λ (p : PieceRule). p.blob < n) pieces) (sym size) blobs);
+      let size : length (in_rows (row_at order extents) layout) ≡ length layout = length-in_rows (row_at order extents) layout in grind arith;
   bits = ap (λ (ps : List PieceRule). sum_by (λ (p : PieceRule). p.bits) ps) pieces_are ∙ bits;
   bounds = subst (λ (ps : List PieceRule). All (λ (p : PieceRule). p.base + p.bits < 2 ^ 64) ps) (sym pieces_are) bounds;
   some = subst (λ (ps : List PieceRule). All (λ (p : PieceRule). 0 < p.bits) ps) (sym pieces_are) some;

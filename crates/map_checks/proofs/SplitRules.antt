@@ -1,16 +1,12 @@
 -- The rules of a split are those of its sides.
-use Rattle.map_checks.proofs.Imports.{◌≡◌, ℕ, ◌+◌, ◌%◌, ◌^◌, ◌<◌, ◌≤◌, ⊎_elim, Bool, true, false, List, [], ◌∷◌, ◌++◌, length, get_or, map, slice_index, refl, sym, ap, ◌∙◌, subst, arith, All, length-append, not, count_by, sum, cases_Bool, map-map, length-map, append-nil, get_or_default, All-map, sum-map, Order, slot_at, slot_count, Owner, Bit, recelled, numbers_of, split, IsLocated, shifted, Piece, relabel_located, left_located, right_located, piece_in, pieces_in, PieceRule, EachWith, IsRuleOf, IsRuled, pieces_of, IsShifted, IsSplitRule, AreSplitRules, shifted_rule, merged, rank_first, rank_rest, Rule, each_push, number_first, number_rest, rank_first_in, rank_rest_in, merged_first, merged_rest, length-merged}
+use Rattle.map_checks.proofs.Imports.{◌≡◌, ℕ, ◌+◌, ◌%◌, ◌^◌, ◌<◌, ◌≤◌, ⊎_elim, Bool, true, false, List, [], ◌∷◌, ◌++◌, length, get_or, map, slice_index, refl, sym, ap, ◌∙◌, subst, arith, All, length-append, not, count_by, sum, cases_Bool, map-map, length-map, append-nil, get_or_default, All-map, sum-map, Order, slot_count, Owner, Bit, recelled, numbers_of, split, IsLocated, shifted, Piece, relabel_located, left_located, right_located, PieceRule, EachWith, IsRuleOf, IsRuled, pieces_of, IsShifted, IsSplitRule, AreSplitRules, shifted_rule, merged, rank_first, rank_rest, Rule, each_push, number_first, number_rest, rank_first_in, rank_rest_in, merged_first, merged_rest, length-merged}
 use Rattle.std.specs.List.{sum_by}
+use Rattle.std.proofs.Common.{rules}
 
 -- the pieces of a shifted rule
 pieces_shifted : (by : ℕ) (rule later : Rule) (extents : List ℕ) (row : ℕ) → IsShifted by rule later
     → pieces_of later extents row ≡ map (shifted by) (pieces_of rule extents row)
-pieces_shifted by rule later extents row h =
-    let slot : ℕ = slot_at rule.order extents row in
-    ap (λ (o : Order). pieces_in later.pieces.items (slot_at o extents row)) h.0
-    ∙ ap (λ (ps : List PieceRule). pieces_in ps slot) h.1
-    ∙ map-map (λ (p : PieceRule). piece_in p slot) (shifted_rule by) rule.pieces.items
-    ∙ sym (map-map (shifted by) (λ (p : PieceRule). piece_in p slot) rule.pieces.items)
+pieces_shifted by rule later extents row h = grind (arith, map-map)
 
 -- a rule under other cell numbers, behind other blobs and before others
 placed_rule : (before layout behind : List (List Owner)) (extents numbers : List ℕ) (i c w by : ℕ) (rule later : Rule) → IsRuleOf layout extents i w rule
@@ -95,21 +91,11 @@ module _ (side : List Bool) (by : ℕ) (first rest rules more : List Rule) (k i 
   pub more_first : get_or side k false ≡ true → i ≡ rank_first side k → i < length first → from ≡ get_or first i from → IsShifted 0 from rule
       → EachWith (IsSplitRule side by first rest) more
   more_first is_yes rank low read moved =
-      let here : IsSplitRule side by first rest k rule = record {
-        left = λ e d.
-            let same : from ≡ get_or first (rank_first side k) d = read ∙ get_or_default first i from d low ∙ ap (λ (n : ℕ). get_or first n d) rank in
-            subst (λ (f : Rule). IsShifted 0 f rule) same moved;
-        right = λ e d. let never : ⊥ = cc (is_yes, e) in absurd never;
-      } in
+      let here : IsSplitRule side by first rest k rule = grind (arith, get_or_default) in
       each_push (IsSplitRule side by first rest) rules more rule pushed so_far (subst (λ (n : ℕ). IsSplitRule side by first rest n rule) (sym count) here)
 
   pub more_rest : get_or side k false ≡ false → i ≡ rank_rest side k → i < length rest → from ≡ get_or rest i from → IsShifted by from rule
       → EachWith (IsSplitRule side by first rest) more
   more_rest is_no rank low read moved =
-      let here : IsSplitRule side by first rest k rule = record {
-        left = λ e d. let never : ⊥ = cc (is_no, e) in absurd never;
-        right = λ e d.
-            let same : from ≡ get_or rest (rank_rest side k) d = read ∙ get_or_default rest i from d low ∙ ap (λ (n : ℕ). get_or rest n d) rank in
-            subst (λ (f : Rule). IsShifted by f rule) same moved;
-      } in
+      let here : IsSplitRule side by first rest k rule = grind (arith, get_or_default) in
       each_push (IsSplitRule side by first rest) rules more rule pushed so_far (subst (λ (n : ℕ). IsSplitRule side by first rest n rule) (sym count) here)

@@ -1,18 +1,12 @@
 -- Rules with their bytes in reverse order are rules of cells whose bytes are in reverse order.
-use Rattle.map_checks.proofs.Imports.{◌≡◌, ℕ, ◌+◌, ◌%◌, ◌^◌, ◌<◌, ◌≤◌, List, map, length, get_or, slice_index, sum_by, All, sym, ap, ◌∙◌, subst, arith, length-map, get_or-map, same_lists, All-weaker, Order, slot_at, slot_count, Owner, byteswap, IsLocated, Piece, pieces_in, PieceRule, swapped, swapped_rules, swapped_in, swapped_blobs, swapped_eights, swapped_bounds, swapped_bits, swap_located, HasWholeBytes, IsSwapped, AreSwapped, IsRuleOf, IsRuled, pieces_of, Rule}
+use Rattle.map_checks.proofs.Imports.{◌≡◌, ℕ, ◌+◌, ◌%◌, ◌^◌, ◌<◌, ◌≤◌, List, map, length, get_or, slice_index, sum_by, All, sym, ap, ◌∙◌, subst, arith, length-map, get_or-map, same_lists, All-weaker, Order, slot_at, slot_count, Owner, byteswap, IsLocated, Piece, PieceRule, swapped, swapped_rules, swapped_in, swapped_blobs, swapped_eights, swapped_bounds, swapped_bits, swap_located, HasWholeBytes, IsSwapped, AreSwapped, IsRuleOf, IsRuled, pieces_of, Rule}
 use Rattle.map_checks.proofs.OrderLaws.{order_in, with_item}
+use Rattle.std.proofs.Common.{rules}
 
 -- the rules of cells of whole bytes
 pub whole_ruled : (layout : List (List Owner)) (extents ws : List ℕ) (rules : List Rule) → IsRuled layout extents ws rules → All (λ w. w % 8 ≡ 0) ws
     → All (λ w. w ≤ 64) ws → All HasWholeBytes rules
-whole_ruled layout extents ws rules ruled whole narrow = λ k d inside.
-    let each : length rules ≡ length ws = ruled.each in
-    let k_in : k < length ws = omega arith in
-    let rule : Rule = get_or rules k d in
-    let here : IsRuleOf layout extents k (slice_index ws k) rule = ruled.places k d inside in
-    let width : slice_index ws k ≤ 64 = narrow k 0 k_in in
-    let bits : sum_by (λ (p : PieceRule). p.bits) rule.pieces.items ≡ slice_index ws k = here.bits in
-    record { whole = here.whole (whole k 0 k_in); bounds = here.bounds; few = let z : sum_by (λ (p : PieceRule). p.bits) rule.pieces.items ≤ 64 = omega arith in z }
+whole_ruled layout extents ws rules ruled whole narrow = grind (arith, slice_index, sum_by)
 
 -- one rule
 swapped_rule : (layout : List (List Owner)) (extents ws : List ℕ) (c : ℕ) (rule later : Rule) → get_or ws c 0 % 8 ≡ 0
@@ -24,25 +18,14 @@ swapped_rule layout extents ws c rule later whole h swap =
     let size : length (byteswap ws layout) ≡ length layout = length-map layout _ in
     record {
       few = subst (λ (o : Order). slot_count o extents ≤ 2 ^ 24) (sym swap.0) h.few;
-      blobs =
-          subst (λ (ps : List PieceRule). All (λ (p : PieceRule). p.blob < length (byteswap ws layout)) ps) (sym swap.1)
-          (subst (λ (n : ℕ). All (λ (p : PieceRule). p.blob < n) new) (sym size) (swapped_blobs old (length layout) h.blobs));
+      blobs = grind (arith, swapped_blobs);
       bits = ap (λ (ps : List PieceRule). sum_by (λ (p : PieceRule). p.bits) ps) swap.1 ∙ swapped_bits old bytes ∙ h.bits;
       bounds = subst (λ (ps : List PieceRule). All (λ (p : PieceRule). p.base + p.bits < 2 ^ 64) ps) (sym swap.1) (swapped_bounds old bytes h.bounds);
-      some =
-          subst (λ (ps : List PieceRule). All (λ (p : PieceRule). 0 < p.bits) ps) (sym swap.1)
-          (All-weaker (λ (p : PieceRule). p.bits ≡ 8) (λ (p : PieceRule). 0 < p.bits) (λ p (e : p.bits ≡ 8). let z : 0 < p.bits = omega arith in z) new
-          (swapped_eights old));
-      whole = λ e.
-          subst (λ (ps : List PieceRule). All (λ (p : PieceRule). p.bits % 8 ≡ 0) ps) (sym swap.1)
-          (All-weaker (λ (p : PieceRule). p.bits ≡ 8) (λ (p : PieceRule). p.bits % 8 ≡ 0) (λ p (e' : p.bits ≡ 8). let z : p.bits % 8 ≡ 0 = omega arith in z) new
-          (swapped_eights old));
+      some = grind (arith, All-weaker, swapped_eights);
+      whole = λ e. grind (arith, All-weaker, swapped_eights);
       places = λ row inside.
           let slot : ℕ = slot_at rule.order extents row in
-          let same : pieces_of later extents row ≡ swapped (pieces_of rule extents row) =
-          ap (λ (o : Order). pieces_in later.pieces.items (slot_at o extents row)) swap.0
-          ∙ ap (λ (ps : List PieceRule). pieces_in ps slot) swap.1
-          ∙ swapped_in old slot in
+          let same : pieces_of later extents row ≡ swapped (pieces_of rule extents row) = grind (arith, swapped_in) in
           subst (λ (ps : List Piece). IsLocated (byteswap ws layout) row c (get_or ws c 0) ps) (sym same)
           (swap_located layout ws row c whole (pieces_of rule extents row) (h.places row inside));
     }

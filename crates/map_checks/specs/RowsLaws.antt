@@ -1,6 +1,6 @@
 -- The laws of a layout by rows, for any order: its bits and places are those of the layout by slots.
-use Rattle.std.proofs.Common.{◌≡◌, ℕ, ◌%◌, ◌<◌, List, [], ◌∷◌, map, length, sum_by, get_or, All, refl, sym, ap, ◌∙◌, subst, arith}
-use Rattle.std.specs.Prelude.{Option, Some, None}
+use Rattle.std.proofs.Common.{◌≡◌, ℕ, ◌%◌, ◌<◌, List, [], ◌∷◌, map, length, sum_by, get_or, All, refl, ap, ◌∙◌, arith}
+use Rattle.std.specs.Prelude.{Option, Some}
 use Rattle.std.proofs.lemmas.List.{get_or-map, length-map}
 use Rattle.std.proofs.lemmas.List.Sums.{sum_by-cons}
 use Rattle.std.proofs.lemmas.List.Elements.{All-map}
@@ -26,10 +26,7 @@ record IsInRow (row : Option ℕ) (c k r c' k' : ℕ) : Type 0 where
   pub bit_is : k ≡ k'
 
 in_row : (row : Option ℕ) (c k r c' k' : ℕ) → bit_in_row row c k ≡ Bit r c' k' → IsInRow row c k r c' k'
-in_row None c k r c' k' e = cc
-in_row (Some row) c k r c' k' e =
-    let same : row ≡ r = cc in
-    record { row_is = ap Some same; cell_is = (cc); bit_is = (cc) }
+in_row row c k r c' k' e = grind arith
 
 -- where the bit of a row came from
 back_in_slots : (order : Order) (extents widths : List ℕ)
@@ -41,13 +38,8 @@ back_in_slots order extents widths = record {
   out = λ s c k r c' k' h e.
       let from = in_row (row_at order extents s) c k r c' k' e in
       let at = slot_at-row_at order extents s r from.row_is in
-      let cell_in : c < length widths = h.cell_in in
-      subst (λ (x : ℕ). IsBitOf (length (indices extents)) widths r x k') from.cell_is
-      (subst (λ (x : ℕ). IsBitOf (length (indices extents)) widths r c x) from.bit_is
-      (record { slot_in = at.0; cell_in = h.cell_in; bit_in = h.bit_in }));
-  back = λ s c k r c' k' h e.
-      let from = in_row (row_at order extents s) c k r c' k' e in
-      (sym (slot_at-row_at order extents s r from.row_is).1, from.cell_is, from.bit_is);
+      let cell_in : c < length widths = h.cell_in in grind arith;
+  back = λ s c k r c' k' h e. grind (arith, slot_at-row_at);
 }
 
 -- blobs keep their lengths
@@ -56,10 +48,7 @@ length-in_rows row layout = length-map layout (map (renamed (λ slot cell bit. b
 
 pub length-blob : (row : ℕ → Option ℕ) (layout : List (List Owner)) (blob : ℕ) → blob < length layout
     → length (get_or (in_rows row layout) blob []) ≡ length (get_or layout blob [])
-length-blob row layout blob inside =
-    let name : Owner → Owner = renamed (λ slot cell bit. bit_in_row (row slot) cell bit) in
-    ap (λ (owners : List Owner). length owners) (get_or-map (map name) layout blob [] [] inside)
-    ∙ length-map (get_or layout blob []) name
+length-blob row layout blob inside = grind (arith, get_or-map, length-map)
 
 pub sum-blobs : (row : ℕ → Option ℕ) (layout : List (List Owner)) → sum_by length (in_rows row layout) ≡ sum_by length layout
 sum-blobs row [] = refl
@@ -93,7 +82,4 @@ row_located order extents layout row cell width pieces inside h =
 
 pub lengths-rows : (row : ℕ → Option ℕ) (layout : List (List Owner)) → map length (in_rows row layout) ≡ map length layout
 lengths-rows row [] = refl
-lengths-rows row (blob ∷ blobs) =
-    let name : Owner → Owner = renamed (λ slot cell bit. bit_in_row (row slot) cell bit) in
-    ap (λ (n : ℕ). n ∷ map length (in_rows row blobs)) (length-map blob name)
-    ∙ ap (λ (ns : List ℕ). length blob ∷ ns) (lengths-rows row blobs)
+lengths-rows row (blob ∷ blobs) = grind (arith, length-map, (lengths-rows row blobs))

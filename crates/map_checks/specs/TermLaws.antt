@@ -1,6 +1,6 @@
 -- The laws of the layout of an expression.
-use Rattle.std.proofs.Common.{◌≡◌, ℕ, ◌<◌, ◌≤◌, List, [], ◌∷◌, map, length, All, Bool, true, false, Option, None, Some, refl, sym, ap, ◌∙◌, arith}
-use Rattle.std.specs.Prelude.{◌&&◌, ◌||◌, not, nat_le, if◌then◌else◌}
+use Rattle.std.proofs.Common.{◌≡◌, ℕ, ◌<◌, ◌≤◌, List, [], ◌∷◌, map, length, All, Bool, true, false, Option, None, Some, refl, sym, ◌∙◌, arith}
+use Rattle.std.specs.Prelude.{◌&&◌, not, nat_le, if◌then◌else◌}
 use Rattle.std.specs.List.{count_by, list_all}
 use Rattle.std.specs.Option.{option_or}
 use Rattle.std.proofs.lemmas.Bool.{and_parts, leb-true, or_from, or_parts}
@@ -23,11 +23,11 @@ use Rattle.places.specs.Forms.{soa_layout}
 use Rattle.map_soa.specs.SoaLaws.{soa_laws}
 use Rattle.map_aosoa.specs.AosoaLaws.{aosoa_laws}
 use Rattle.map_expr.specs.declared.check.BadMapping.{BadMapping}
-use Rattle.map_expr.specs.declared.check.BadMapping.TheVariants.{Lanes, Width}
+use Rattle.map_expr.specs.declared.check.BadMapping.TheVariants.{Width}
 use Rattle.map_expr.specs.Terms.{Term, Aos, Soa, Aosoa, BitAos, BitSoa, Split, Byteswap, Bytesplit, Change, Count, Heat, Named}
 use Rattle.map_expr.specs.Checks.{bad_number, bad_lanes, bad_widths, bad_granule, is_width}
 use Rattle.map_expr.specs.declared.widths.FieldWidth.{FieldWidth}
-use Rattle.map_bits.specs.Bits.{has_bad_width, is_bad_width}
+use Rattle.map_bits.specs.Bits.{has_bad_width}
 use Rattle.map_bits.specs.NarrowLaws.{length-narrow, narrow_wide, narrow_low}
 use Rattle.map_bits.specs.BitLaws.{bit_aos_laws, bit_soa_laws}
 use Rattle.map_bytes.specs.Cells.{byte_cells_of, changed, differ}
@@ -45,14 +45,10 @@ use Rattle.map_checks.specs.RowsLaws.{rows_laid}
 -- as many cells on each side as its truths say
 module _ (fields : Fields) (path : List PathStep) (cells : List Cell) where
   pub cells_first : length (cells_under fields path cells) ≡ count_by (λ (s : Bool). s) (side_of fields path cells)
-  cells_first =
-      length-filter (λ (cell : Cell). is_under fields path cell.leaf) cells
-      ∙ sym (count-mapped (λ (s : Bool). s) (λ (cell : Cell). is_under fields path cell.leaf) cells)
+  cells_first = grind (arith, length-filter, count-mapped)
 
   pub cells_rest : length (cells_beside fields path cells) ≡ count_by not (side_of fields path cells)
-  cells_rest =
-      length-filter (λ (cell : Cell). not (is_under fields path cell.leaf)) cells
-      ∙ sym (count-mapped not (λ (cell : Cell). is_under fields path cell.leaf) cells)
+  cells_rest = grind (arith, length-filter, count-mapped)
 
   pub length-side : length (side_of fields path cells) ≡ length cells
   length-side = length-map cells (λ (cell : Cell). is_under fields path cell.leaf)
@@ -67,13 +63,7 @@ length-within fields width entries cells = length-narrow (cell_widths fields wid
 -- each cell is stored
 pub length-holds : (term : Term) (fields : Fields) (cells : List Cell) → length (holds_of term fields cells) ≡ length cells
 length-holds (Split path first rest) fields cells =
-    let one : length (holds_of first fields (cells_under fields path cells)) ≡ length (cells_under fields path cells) =
-    length-holds first fields (cells_under fields path cells) in
-    let two : length (holds_of rest fields (cells_beside fields path cells)) ≡ length (cells_beside fields path cells) =
-    length-holds rest fields (cells_beside fields path cells) in
-    length-merged (side_of fields path cells) (holds_of first fields (cells_under fields path cells)) (holds_of rest fields (cells_beside fields path cells))
-    (omega (arith, cells_first fields path cells)) (omega (arith, cells_rest fields path cells))
-    ∙ length-side fields path cells
+    grind (arith, length-merged, cells_first, cells_rest, length-side, (length-holds first fields (cells_under fields path cells)), (length-holds rest fields (cells_beside fields path cells)))
 length-holds (Count inner) fields cells = length-holds inner fields cells
 length-holds (BitAos width entries order) fields cells = length-within fields width entries cells
 length-holds (BitSoa width entries order) fields cells = length-within fields width entries cells
@@ -83,25 +73,20 @@ length-holds other fields cells = length-full cells
 
 -- a number in its range is at least 1
 at_least : (bad : BadMapping) (low high : Bool) → (if low && high then None else Some bad) ≡ None → low ≡ true
-at_least bad true high e = cc
-at_least bad false high e = cc
+at_least bad low high e = grind arith
 
 some_lanes : (lanes : ℕ) → bad_lanes lanes ≡ None → 0 < lanes
-some_lanes lanes e =
-    let low : 1 ≤ lanes = leb-true 1 lanes (at_least Lanes (nat_le 1 lanes) (nat_le lanes 64) e) in
-    omega arith
+some_lanes lanes e = grind (arith, leb-true, at_least, nat_le)
 
 good_of : (good : Bool) → (if good then None else Some Width) ≡ None → good ≡ true
-good_of true e = refl
-good_of false e = cc
+good_of good e = grind arith
 
 -- each entry has a width
 abbrev AreWidths : List FieldWidth → Type 0
 AreWidths entries = list_all (λ (entry : FieldWidth). is_width entry.width) entries ≡ true
 
 one_good : (under : Bool) (one other : ℕ) → is_width one ≡ true → is_width other ≡ true → is_width (if under then one else other) ≡ true
-one_good true one other good also = good
-one_good false one other good also = also
+one_good under one other good also = grind arith
 
 -- where the first number and all entries are widths, so is what each leaf gets
 width_good : (fields : Fields) (leaf width : ℕ) (entries : List FieldWidth) → is_width width ≡ true → AreWidths entries → is_width (width_at fields width entries leaf) ≡ true
@@ -113,17 +98,12 @@ width_good fields leaf width (entry ∷ entries) good all =
 cells_good : (fields : Fields) (width : ℕ) (entries : List FieldWidth) (cells : List Cell) → is_width width ≡ true → AreWidths entries
     → has_bad_width (cell_widths fields width entries cells) ≡ false
 cells_good fields width entries [] good all = refl
-cells_good fields width entries (cell ∷ cells) good all =
-    or_from (is_bad_width (width_at fields width entries cell.leaf)) (has_bad_width (cell_widths fields width entries cells))
-    (ap not (width_good fields cell.leaf width entries good all)) (cells_good fields width entries cells good all)
+cells_good fields width entries (cell ∷ cells) good all = grind (arith, or_from, width_good, (cells_good fields width entries cells good all))
 
 -- widths that are accepted are good ones
 pub good_widths : (fields : Fields) (width : ℕ) (entries : List FieldWidth) (cells : List Cell) → bad_widths width entries ≡ None
     → has_bad_width (cell_widths fields width entries cells) ≡ false
-good_widths fields width entries cells e =
-    let all : Bool = list_all (λ (entry : FieldWidth). is_width entry.width) entries in
-    let parts = and_parts (is_width width) all (good_of (is_width width && all) e) in
-    cells_good fields width entries cells parts.0 parts.1
+good_widths fields width entries cells e = grind (arith, list_all, and_parts, good_of, cells_good)
 
 within_wide : (fields : Fields) (width : ℕ) (entries : List FieldWidth) (cells : List Cell) → bad_widths width entries ≡ None
     → All (λ w. 1 ≤ w) (widths_in (held_within fields width entries cells))
@@ -182,12 +162,10 @@ term_laws (Named name) extents fields cells built numbers full = absurd built
 
 -- where no number is out of its range, every number is in its range
 first_none : (one two : Option BadMapping) → option_or one two ≡ None → one ≡ None
-first_none None two e = refl
-first_none (Some bad) two e = cc
+first_none one two e = grind arith
 
 then_none : (one two : Option BadMapping) → option_or one two ≡ None → two ≡ None
-then_none None two e = e
-then_none (Some bad) two e = cc
+then_none one two e = grind arith
 
 pub good_numbers : (term : Term) → bad_number term ≡ None → HasNumbers term
 good_numbers (Aosoa lanes order) e = e
@@ -199,6 +177,5 @@ good_numbers (Byteswap inner) e = good_numbers inner e
 good_numbers (Bytesplit inner) e = good_numbers inner e
 good_numbers (Change from to inner) e = good_numbers inner e
 good_numbers (Count inner) e = good_numbers inner e
-good_numbers (Heat granule inner) e =
-    (first_none (bad_granule granule) (bad_number inner) e, good_numbers inner (then_none (bad_granule granule) (bad_number inner) e))
+good_numbers (Heat granule inner) e = grind (arith, first_none, then_none, (good_numbers inner (then_none (bad_granule granule) (bad_number inner) e)))
 good_numbers other e = tt

@@ -4,7 +4,7 @@ pub use Rattle.std.proofs.lemmas.Grind.{common_steps}
 pub use Rattle.std.proofs.lemmas.Int.{ints, to_z-of_z}
 pub use Rattle.std.proofs.lemmas.Nat.{pow_pos, xor_block, and_mask, mod_below, shr_split, shr-shr, pow-add, div-mul-add, mod-mul-add, div-add-mod'}
 pub use Rattle.std.proofs.lemmas.Bool.{cases_lt, cases_eq, leb-true}
-pub use Rattle.std.proofs.Math.Nat.{mod-eq_of_lt, mod-eq-sub-mod, pow-le-pow_right, div-lt_iff_lt-mul, div-mul-le_self, mod-lt, mul-le-mul_right, div-one, mod-one, mul_assoc, div-eq_of_lt}
+pub use Rattle.std.proofs.Math.Nat.{mod-eq_of_lt, mod-eq-sub-mod, pow-le-pow_right, div-lt_iff_lt-mul, div-mul-le_self, mod-lt, mul-le-mul_right, div-one, mod-one, mul_assoc}
 pub use Rattle.std.specs.Simd.Lanes.{zip2, Each2}
 pub use Rattle.std.proofs.lemmas.List.{map-append, length-map, get_or-map, get_or-set_other, take_more, take_more_set, take_all, length-set, get_or-set_same, same_lists, get_or_read, get_or_default, drop_all}
 pub use Rattle.std.proofs.lemmas.Simd.{length-zip2, get_or-zip2}
@@ -19,7 +19,6 @@ pub use Rattle.std.specs.Ordering.{int_cmp, is_le, is_some_and}
 pub use Rattle.std.proofs.Math.IntN.{nat_abs}
 pub use Rattle.extents.specs.declared.order.Order.{Order}
 pub use Rattle.extents.specs.Indices.{indices}
-pub use Rattle.linearize.specs.declared.columns.Columns.{Columns}
 pub use Rattle.places.specs.declared.piece.Hold.{Hold}
 pub use Rattle.places.specs.declared.rule.PieceRule.{PieceRule}
 pub use Rattle.places.specs.Image.{decoded, number, digit}
@@ -32,7 +31,7 @@ pub use Rattle.places.specs.Lawful.{IsLocated, IsPiece, owners_in}
 pub use Rattle.places.specs.BeginsLaws.{begins_fit}
 pub use Rattle.places.specs.PieceRules.{begin_in, piece_in, pieces_in}
 pub use Rattle.linearize.specs.ApartLaws.{line_same, column_on, columns_apart, morton_line}
-pub use Rattle.places.specs.Layout.{Owner, owner_at, field}
+pub use Rattle.places.specs.Layout.{Owner, field}
 pub use Rattle.places.specs.PlacesLaws.{range_split, located, pieces_weaker}
 pub use Rattle.extents.specs.declared.order.Order.TheVariants.{Row, Col, Morton}
 pub use Rattle.linearize.specs.Slots.{slot_at, interleaved}
@@ -62,7 +61,7 @@ pub use Rattle.piece_bits.specs.SpotsOfLaws.{IsNext, nowhere, next_piece, read_n
 pub use Rattle.piece_bits.specs.declared.stretch.Spread.{Spread}
 pub use Rattle.piece_bits.specs.declared.stretch.Spread.TheVariants.{Even, Digits, Blocks}
 pub use Rattle.piece_bits.specs.CongruenceLaws.{digits_negsuc, low_congruent, congruent_same}
-pub use Rattle.piece_bits.specs.declared.word.Word.TheVariants.{I64, Scattered, U64, TurnedU32, TurnedU64, TurnedI32, TurnedI64, I16, TurnedU16, TurnedI16, Field as FieldWord}
+pub use Rattle.piece_bits.specs.declared.word.Word.TheVariants.{Scattered, TurnedU32, TurnedU64, TurnedI32, TurnedI64, TurnedU16, TurnedI16}
 pub use Rattle.piece_bits.specs.LowBits.{kept, held}
 pub use Rattle.piece_bits.specs.Inner.Far.{shortened}
 pub use Rattle.piece_bits.specs.Inner.Joins.{Carries, AreJoined}
@@ -72,8 +71,6 @@ pub use Rattle.piece_bits.specs.ImageLaws.{image_table}
 pub use Rattle.piece_bits.specs.KeptTableLaws.{declared_with_entry}
 pub use Rattle.piece_bits.specs.FarLaws.{fold_next, folded_far, shortened_kept}
 pub use Rattle.piece_bits.specs.WritesLaws.{AreWritten, within_same, write_next}
-pub use Rattle.piece_bits.specs.Blocks.{IsBlock}
-pub use Rattle.piece_bits.specs.BlockLaws.{same}
 pub use Rattle.piece_bits.specs.NumberTypes.{compares}
 pub use Rattle.piece_bits.specs.CellsLaws.{IsCell, hold_is, some_bits, few_bits, bit_count, apart, written_table, written_padding, still_laid, within, read_small, read_entry_is, bit_in_lt}
 pub use Rattle.piece_bits.specs.OnePieceLaws.{one_count, one_within, one_table, one_laid, one_width, one_entry}

@@ -1,5 +1,5 @@
 -- A loop that replaces each value of a slice in its turn.
-use Rattle.piece_bits.proofs.Imports.{◌≡◌, ◌≢◌, ℕ, zero, suc, ◌+◌, ◌<◌, ◌≤◌, List, [], ◌∷◌, ◌++◌, length, get_or, set, map, take, ℤ, pos, refl, ap, sym, ◌∙◌, arith, zip2, Each2, map-append, length-map, get_or-map, get_or-set_other, take_more, take_more_set, take_all, length-zip2, get_or-zip2}
+use Rattle.piece_bits.proofs.Imports.{◌≡◌, ℕ, zero, suc, ◌+◌, ◌<◌, ◌≤◌, List, [], ◌∷◌, length, get_or, set, map, take, ℤ, pos, ap, sym, ◌∙◌, arith, zip2, Each2, map-append, length-map, get_or-map, get_or-set_other, take_more, take_more_set, take_all, length-zip2, get_or-zip2}
 
 -- the first so many values are those that are wanted, and the others stand
 pub record IsReplaced {X : Type 0} (value : X → ℤ) (wanted : List ℤ) (old now : List X) (count : ℕ) : Type 0 where
@@ -8,18 +8,11 @@ pub record IsReplaced {X : Type 0} (value : X → ℤ) (wanted : List ℤ) (old 
 
 pub one_more : {X : Type 0} (value : X → ℤ) (wanted : List ℤ) (old now : List X) (i : ℕ) (x : X) → i < length now → length wanted ≡ length now
     → IsReplaced value wanted old now i → value x ≡ get_or wanted i (pos 0) → IsReplaced value wanted old (set now i x) (i + 1)
-one_more {X} value wanted old now i x inside same done is = record {
-  first =
-      ap (map value) (take_more_set now i x inside) ∙ map-append value (take i now) (x ∷ [])
-      ∙ ap (λ (zs : List ℤ). zs ++ (value x ∷ [])) done.first ∙ ap (λ (z : ℤ). take i wanted ++ (z ∷ [])) is
-      ∙ sym (take_more wanted i (pos 0) (omega arith));
-  rest = λ k d h. let other : k ≢ i = omega arith in get_or-set_other now i k x d other ∙ done.rest k d (omega arith);
-}
+one_more {X} value wanted old now i x inside same done is = grind (arith, take_more_set, map-append, take_more, get_or-set_other)
 
 pub all : {X : Type 0} (value : X → ℤ) (wanted : List ℤ) (old now : List X) (count : ℕ) → length now ≤ count → length wanted ≡ length now
     → IsReplaced value wanted old now count → map value now ≡ wanted
-all value wanted old now count whole same done =
-    ap (map value) (sym (take_all count now whole)) ∙ done.first ∙ take_all count wanted (omega arith)
+all value wanted old now count whole same done = grind (arith, take_all)
 
 -- where the wanted values are made of the old ones, and of others beside them
 pub mapped : {X : Type 0} (value : X → ℤ) (f : X → ℤ) (old now : List X) (i : ℕ) (x y : X) → i < length now → length now ≡ length old

@@ -1,25 +1,15 @@
 -- Numbers that are read are of 64 bits.
-use Rattle.piece_bits.proofs.Imports.{◌≡◌, ℕ, ◌+◌, ◌-◌, ◌*◌, ◌/◌, ◌%◌, ◌^◌, ◌<◌, ◌≤◌, Bool, true, false, List, length, get_or, set, ℤ, pos, refl, sym, ap, ◌∙◌, subst, ⊎_elim, arith, pow-le-pow_right, cases_eq, ints, length-set, get_or-set_same, get_or-set_other, bit_at-lt, IsIn, number, number_lt, decoded_in, bit_of, word_place, word_signed, word_width, IsPlaceWord, Field, Word, stretch_place, ShortRule, Stretch, low_64, IsWithin64, number_at, stretched_at, HaveEight, HaveRead}
-use Rattle.piece_bits.specs.declared.word.Word.TheVariants as stored
+use Rattle.piece_bits.proofs.Imports.{◌≡◌, ℕ, ◌+◌, ◌*◌, ◌/◌, ◌%◌, ◌<◌, ◌≤◌, Bool, List, length, get_or, set, ℤ, pos, ◌∙◌, subst, ⊎_elim, arith, pow-le-pow_right, cases_eq, length-set, get_or-set_same, get_or-set_other, bit_at-lt, IsIn, number, number_lt, decoded_in, bit_of, word_place, word_signed, word_width, IsPlaceWord, Field, Word, stretch_place, ShortRule, Stretch, low_64, IsWithin64, number_at, stretched_at, HaveEight, HaveRead}
 
 within_of : (signed : Bool) (width : ℕ) (value : ℤ) → 1 ≤ width → width ≤ 64 → IsIn signed width value → IsWithin64 value
-within_of true width value some narrow inside =
-    let half : 2 ^ (width - 1) ≤ 2 ^ 63 = pow-le-pow_right {n = 2} (omega arith) {i = width - 1} {j = 63} (omega (arith, narrow)) in
-    (omega (arith, ints, inside.0, half), omega (arith, ints, inside.1, half))
-within_of false width value some narrow inside =
-    let all : 2 ^ width ≤ 2 ^ 64 = pow-le-pow_right {n = 2} (omega arith) {i = width} {j = 64} narrow in
-    (omega (arith, ints, inside.0), omega (arith, ints, inside.1, all))
+within_of signed width value some narrow inside = grind (arith, pow-le-pow_right)
 
 -- a word has from 1 to 64 bits
 pub word_some : (word : Word) (field : Field) → IsPlaceWord word field → 1 ≤ word_width word field
-word_some stored.Field field form = form.0.some
-word_some stored.Scattered field form = absurd form
-word_some _ field form = omega arith
+word_some word field form = grind arith
 
 pub word_narrow : (word : Word) (field : Field) → IsPlaceWord word field → word_width word field ≤ 64
-word_narrow stored.Field field form = form.0.narrow
-word_narrow stored.Scattered field form = absurd form
-word_narrow _ field form = omega arith
+word_narrow word field form = grind arith
 
 pub number_within : (word : Word) (field : Field) (bytes : List ℕ) (place : ℕ) → IsPlaceWord word field → IsWithin64 (number_at word field bytes place)
 number_within word field bytes place form =
@@ -32,8 +22,7 @@ number_within word field bytes place form =
 -- the number at a place of a stretch
 pub same_number : (short : ShortRule) (stretch : Stretch) (bytes : List ℕ) (k place : ℕ) (word : Word) (value : ℤ) → word ≡ short.word → place ≡ stretch_place stretch k
     → value ≡ low_64 (number_at word short.field bytes place) → value ≡ low_64 (stretched_at short stretch bytes k)
-same_number short stretch bytes k place word value same there is =
-    is ∙ ap (λ (w : Word). low_64 (number_at w short.field bytes place)) same ∙ ap (λ (p : ℕ). low_64 (number_at short.word short.field bytes p)) there
+same_number short stretch bytes k place word value same there is = grind arith
 
 -- one number more
 pub one_more : (short : ShortRule) (stretch : Stretch) (bytes : List ℕ) (at done : ℕ) (old values : List ℤ) (value : ℤ) → HaveRead short stretch bytes at done old values → at + done < length old
@@ -43,9 +32,7 @@ one_more short stretch bytes at done old values value have inside is = record {
   before = λ k below. get_or-set_other values (at + done) k value (pos 0) (λ same. absurd (omega arith)) ∙ have.before k below;
   each = λ k below.
       ⊎_elim
-      (λ (here : k ≡ done).
-      ap (λ (n : ℕ). get_or (set values (at + done) value) (at + n) (pos 0)) here ∙ get_or-set_same values (at + done) value (pos 0) (omega (arith, inside, have.count)) ∙ is
-      ∙ sym (ap (λ (n : ℕ). low_64 (stretched_at short stretch bytes n)) here))
+      (λ (here : k ≡ done). grind (arith, get_or-set_same))
       (λ (apart : k ≡ done → ⊥).
       get_or-set_other values (at + done) (at + k) value (pos 0) (λ same. apart (omega (arith, same))) ∙ have.each k (omega (arith, below, apart)))
       (cases_eq k done);
@@ -58,9 +45,7 @@ eight_more word field bytes first apart done numbers value have inside is = reco
   count = length-set numbers done value ∙ have.count;
   each = λ j below.
       ⊎_elim
-      (λ (here : j ≡ done).
-      ap (λ (n : ℕ). get_or (set numbers done value) n (pos 0)) here ∙ get_or-set_same numbers done value (pos 0) (omega (arith, inside, have.count)) ∙ is
-      ∙ sym (ap (λ (n : ℕ). low_64 (number_at word field bytes (first + n * apart))) here))
+      (λ (here : j ≡ done). grind (arith, get_or-set_same))
       (λ (other : j ≡ done → ⊥). get_or-set_other numbers done j value (pos 0) (λ same. other (omega (arith, same))) ∙ have.each j (omega (arith, below, other)))
       (cases_eq j done);
 }

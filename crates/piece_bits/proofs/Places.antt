@@ -1,5 +1,5 @@
 -- Where pieces begin, by slots.
-use Rattle.piece_bits.proofs.Imports.{◌≡◌, ℕ, ◌+◌, ◌-◌, ◌*◌, ◌/◌, ◌%◌, ◌^◌, ◌<◌, ◌≤◌, bit_and, ap, ◌∙◌, subst, arith, and_mask, pow_pos, div-lt_iff_lt-mul, div-mul-le_self, mod-lt, mul-le-mul_right, Piece}
+use Rattle.piece_bits.proofs.Imports.{◌≡◌, ℕ, ◌+◌, ◌-◌, ◌*◌, ◌/◌, ◌%◌, ◌^◌, ◌<◌, ◌≤◌, bit_and, ap, ◌∙◌, arith, and_mask, pow_pos, div-lt_iff_lt-mul, div-mul-le_self, mod-lt, mul-le-mul_right, Piece}
 
 -- the place in a block of a power of two is what a mask leaves
 pub masked_slot : (slot power mask lane : ℕ) → mask ≡ 2 ^ power - 1 → bit_and slot mask * lane ≡ slot % 2 ^ power * lane
@@ -8,17 +8,12 @@ masked_slot slot power mask lane is = ap (λ (n : ℕ). bit_and slot n * lane) i
 -- the steps of rules that go from slot to slot alike
 pub same_steps : (slot lanes lanes' block block' lane lane' : ℕ) → lanes ≡ lanes' → block ≡ block' → lane ≡ lane'
     → slot / lanes * block + slot % lanes * lane ≡ slot / lanes' * block' + slot % lanes' * lane'
-same_steps slot lanes lanes' block block' lane lane' one two three =
-    ap (λ (n : ℕ). slot / n * block + slot % n * lane) one ∙ ap (λ (n : ℕ). slot / lanes' * n + slot % lanes' * lane) two
-    ∙ ap (λ (n : ℕ). slot / lanes' * block' + slot % lanes' * n) three
+same_steps slot lanes lanes' block block' lane lane' one two three = grind arith
 
 -- pieces of the same parts
 pub same_piece : (blob blob' bit bit' bits bits' : ℕ) → blob ≡ blob' → bit ≡ bit' → bits ≡ bits'
     → (let p : Piece = record { blob = blob; bit = bit; bits = bits } in p) ≡ (let p : Piece = record { blob = blob'; bit = bit'; bits = bits' } in p)
-same_piece blob blob' bit bit' bits bits' one two three =
-    ap (λ (n : ℕ). let p : Piece = record { blob = n; bit = bit; bits = bits } in p) one
-    ∙ ap (λ (n : ℕ). let p : Piece = record { blob = blob'; bit = n; bits = bits } in p) two
-    ∙ ap (λ (n : ℕ). let p : Piece = record { blob = blob'; bit = bit'; bits = n } in p) three
+same_piece blob blob' bit bit' bits bits' one two three = grind arith
 
 -- the steps of a rule of whole bytes, in blocks of a power of two
 pub byte_steps : (block lane slot lanes power : ℕ) → block % 8 ≡ 0 → lane % 8 ≡ 0 → lanes ≡ 2 ^ power
@@ -36,12 +31,4 @@ byte_steps block lane slot lanes power whole_block whole_lane is =
 pub slots_before : (base block lane power mask ahead last room blocks slots slot : ℕ) → 0 < block → mask ≡ 2 ^ power - 1 → ahead ≡ mask * lane + base
     → room + ahead ≡ last → blocks ≡ room / block + 1 → slots ≡ blocks * 2 ^ power → slot < slots
     → base + slot / 2 ^ power * block + slot % 2 ^ power * lane ≤ last
-slots_before base block lane power mask ahead last room blocks slots slot some masked before end count all inside =
-    let size : 0 < 2 ^ power = pow_pos power in
-    let row : slot / 2 ^ power < blocks = (div-lt_iff_lt-mul size).1 (subst (λ (n : ℕ). slot < n) all inside) in
-    let low : slot / 2 ^ power ≤ room / block = omega (arith, row, count) in
-    let steps : slot / 2 ^ power * block ≤ room / block * block = mul-le-mul_right block low in
-    let short : room / block * block ≤ room = div-mul-le_self room block in
-    let left : slot % 2 ^ power < 2 ^ power = mod-lt slot size in
-    let lanes : slot % 2 ^ power * lane ≤ mask * lane = mul-le-mul_right lane (let e : slot % 2 ^ power ≤ mask = omega (arith, left, masked) in e) in
-    omega (arith, steps, short, lanes, before, end)
+slots_before base block lane power mask ahead last room blocks slots slot some masked before end count all inside = grind (arith, pow_pos, div-lt_iff_lt-mul, mul-le-mul_right, div-mul-le_self, mod-lt)

@@ -1,9 +1,10 @@
 -- What stands at the places of rules: that it is where the rules say.
-use Rattle.piece_bits.proofs.Imports.{◌≡◌, ◌≢◌, ℕ, ◌+◌, ◌-◌, ◌*◌, ◌/◌, ◌%◌, ◌^◌, ◌<◌, ◌≤◌, All, List, [], ◌∷◌, map, length, get_or, refl, sym, ap, ◌∙◌, subst, arith, same_lists, length-map, get_or-map, All-head, IsLocated, Hold, Piece, begins_fit, begin_in, piece_in, pieces_in, PieceRule, turned_pieces, Field, Word, Carries, place_by, pieces_by, StandsFor, IsHeldBy, IsWhole, IsTurned, IsByteAlong, IsTurnedByte, AreTurned, IsScatteredByte, AreScattered, IsInBytes, IsInBits, IsStandFor, Stand}
+use Rattle.piece_bits.proofs.Imports.{◌≡◌, ◌≢◌, ℕ, ◌+◌, ◌-◌, ◌*◌, ◌/◌, ◌%◌, ◌^◌, ◌<◌, ◌≤◌, All, List, [], ◌∷◌, map, length, get_or, refl, sym, ap, ◌∙◌, subst, arith, same_lists, length-map, get_or-map, Hold, Piece, begins_fit, begin_in, piece_in, pieces_in, PieceRule, turned_pieces, Field, Word, Carries, place_by, pieces_by, StandsFor, IsHeldBy, IsWhole, IsTurned, IsByteAlong, IsTurnedByte, AreTurned, IsScatteredByte, AreScattered, IsInBytes, IsInBits, IsStandFor, Stand}
 use Rattle.piece_bits.specs.declared.word.Word.TheVariants as stored
 use Rattle.piece_bits.proofs.Places.{same_steps, same_piece}
 use Rattle.piece_bits.proofs.Together.{piece}
 use Rattle.piece_bits.proofs.WordLaws.{whole_held, whole_pieces, turned_held, turned_by, turned_some, length-turned, get_or-turned, same_together}
+use Rattle.std.proofs.Common.{rules}
 
 -- the place of a slot
 abbrev place_of : Stand → ℕ → ℕ
@@ -14,10 +15,7 @@ stands_from : (rules : List PieceRule) (field : Field) (stand : Stand)
     → ((slot : ℕ) → pieces_in rules slot ≡ pieces_by stand.word field stand.blob rules (place_of stand slot))
     → ((slot : ℕ) → All (λ rule. begin_in rule slot < 2 ^ 64) rules → place_of stand slot < 2 ^ 64)
     → StandsFor rules stand.word field stand.blob stand.base stand.block stand.lane stand.power
-stands_from rules field stand same fits = λ layout row cell width slot placed. (
-  subst (λ (ps : List Piece). IsLocated layout row cell width ps) (same slot) placed,
-  fits slot (begins_fit layout row cell width slot rules placed),
-)
+stands_from rules field stand same fits = grind (arith, begins_fit)
 
 -- in bytes
 bytes_place : (one : PieceRule) (word : Word) (stand : Stand) (slot : ℕ) → IsInBytes one word stand → begin_in one slot ≡ 8 * place_of stand slot
@@ -32,13 +30,8 @@ whole_stand one word hold stand h whole bits = λ field signed width.
     record {
       held = whole_held stand.word hold field whole';
       stands = stands_from (one ∷ []) field stand
-          (λ slot.
-          ap (λ (p : Piece). p ∷ [])
-          (same_piece one.blob stand.blob (begin_in one slot) (8 * place_of stand slot) one.bits hold.width (sym h.blob) (bytes_place one word stand slot h) bits)
-          ∙ whole_pieces stand.word hold.signed hold.width field stand.blob (one ∷ []) (place_of stand slot) whole')
-          (λ slot fit.
-          let first : begin_in one slot < 2 ^ 64 = All-head (λ (rule : PieceRule). begin_in rule slot < 2 ^ 64) one [] fit in
-          omega (arith, bytes_place one word stand slot h));
+          (λ slot. grind (arith, same_piece, bytes_place, whole_pieces))
+          (λ slot fit. grind (arith, bytes_place));
       low = h.low;
     }
 
@@ -52,19 +45,12 @@ field_together one stand h = λ is. let both : stored.Field ≡ stored.Scattered
 
 pub field_stand : (one : PieceRule) (hold : Hold) (stand : Stand) → IsInBits one stand → one.bits ≤ 57 → one.bits ≡ hold.width → IsStandFor (one ∷ []) hold stand
 field_stand one hold stand h narrow bits = λ field signed width.
-    let place : (slot : ℕ) → begin_in one slot ≡ place_of stand slot = λ slot.
-    let steps = same_steps slot one.lanes (2 ^ stand.power) one.block stand.block one.lane stand.lane h.lanes (sym h.block) (sym h.lane) in
-    omega (arith, steps, h.base) in
+    let place : (slot : ℕ) → begin_in one slot ≡ place_of stand slot = grind (arith, same_steps) in
     record {
       held = subst (λ (w : Word). IsHeldBy hold w field) (sym h.word) (record { signed = signed; wide = width; narrow = λ _. omega (arith, width, bits, narrow) });
       stands = stands_from (one ∷ []) field stand
-          (λ slot.
-          ap (λ (p : Piece). p ∷ [])
-          (same_piece one.blob stand.blob (begin_in one slot) (place_of stand slot) one.bits field.width (sym h.blob) (place slot) (bits ∙ sym width))
-          ∙ ap (λ (w : Word). pieces_by w field stand.blob (one ∷ []) (place_of stand slot)) (sym h.word))
-          (λ slot fit.
-          let first : begin_in one slot < 2 ^ 64 = All-head (λ (rule : PieceRule). begin_in rule slot < 2 ^ 64) one [] fit in
-          omega (arith, place slot));
+          (λ slot. grind (arith, same_piece))
+          (λ slot fit. grind arith);
       low = h.low;
     }
 
@@ -76,11 +62,7 @@ carried_stand rules one hold stand carry together h = λ field signed width.
     record {
       held = is.held;
       stands = λ layout row cell size slot placed.
-          let there = is.stands layout row cell size slot (carry layout row cell size slot placed) in (
-            subst (λ (ps : List Piece). IsLocated layout row cell size ps)
-                (same_together stand.word field stand.blob (one ∷ []) rules (place_of stand slot) together) there.0,
-            there.1,
-          );
+          let there = is.stands layout row cell size slot (carry layout row cell size slot placed) in grind (arith, same_together);
       low = is.low;
     }
 
@@ -88,9 +70,7 @@ carried_stand rules one hold stand carry together h = λ field signed width.
 
 -- where a byte begins that goes from slot to slot as another
 along_begins : (other byte : PieceRule) (slot below : ℕ) → IsByteAlong other byte → byte.base ≡ other.base + 8 * below → begin_in byte slot ≡ begin_in other slot + 8 * below
-along_begins other byte slot below h base =
-    let steps = same_steps slot byte.lanes other.lanes byte.block other.block byte.lane other.lane h.lanes h.block h.lane in
-    omega (arith, steps, base)
+along_begins other byte slot below h base = grind (arith, same_steps)
 
 turned_same : (rules : List PieceRule) (last : PieceRule) (word : Word) (stand : Stand) (slot : ℕ) → IsInBytes last word stand → AreTurned rules last
     → pieces_in rules slot ≡ turned_pieces stand.blob (8 * place_of stand slot) (length rules)
@@ -105,9 +85,7 @@ turned_same rules last word stand slot h turned =
     let rule : PieceRule = get_or rules k last in
     let is : IsTurnedByte last (n - 1 - k) rule = turned k last low in
     let begins : begin_in rule slot ≡ bit + 8 * (n - 1 - k) = along_begins last rule slot (n - 1 - k) is.along is.base ∙ ap (λ (m : ℕ). m + 8 * (n - 1 - k)) (bytes_place last word stand slot h) in
-    get_or-map (λ (rule : PieceRule). piece_in rule slot) rules k last d low
-    ∙ same_piece rule.blob stand.blob (begin_in rule slot) (bit + 8 * (n - 1 - k)) rule.bits 8 (is.blob ∙ sym h.blob) begins is.along.bits
-    ∙ sym (get_or-turned stand.blob bit n k d low))
+    grind (arith, get_or-map, same_piece, get_or-turned))
 
 pub turned_stand : (rules : List PieceRule) (last : PieceRule) (word : Word) (hold : Hold) (stand : Stand) → IsInBytes last word stand
     → IsTurned word hold.signed hold.width → 8 * length rules ≡ hold.width → AreTurned rules last → IsStandFor rules hold stand
@@ -120,12 +98,7 @@ turned_stand rules last word hold stand h is size turned = λ field signed width
       stands = stands_from rules field stand
           (λ slot. turned_same rules last word stand slot h turned
           ∙ turned_by stand.word hold.signed hold.width n field stand.blob rules (place_of stand slot) is' size)
-          (λ slot fit.
-          let low : n - 1 < n = omega arith in
-          let byte : PieceRule = get_or rules (n - 1) last in
-          let at : IsTurnedByte last (n - 1 - (n - 1)) byte = turned (n - 1) last low in
-          let small : begin_in byte slot < 2 ^ 64 = fit (n - 1) last low in
-          omega (arith, along_begins last byte slot (n - 1 - (n - 1)) at.along at.base, bytes_place last word stand slot h));
+          (λ slot fit. grind (arith, along_begins, bytes_place));
       low = h.low;
     }
 
@@ -135,10 +108,7 @@ steps_of stand slot = slot / 2 ^ stand.power * stand.block + slot % 2 ^ stand.po
 
 scattered_begins : (first byte : PieceRule) (stand : Stand) (slot : ℕ) → IsInBytes first stored.Scattered stand → IsScatteredByte first byte
     → begin_in byte slot ≡ 8 * (byte.base / 8 + steps_of stand slot)
-scattered_begins first byte stand slot h is =
-    let along = is.along in
-    let steps = same_steps slot byte.lanes first.lanes byte.block first.block byte.lane first.lane along.lanes along.block along.lane in
-    omega (arith, steps, h.steps slot, is.whole)
+scattered_begins first byte stand slot h is = grind (arith, same_steps)
 
 pub scattered_stand : (rules : List PieceRule) (first : PieceRule) (hold : Hold) (stand moved : Stand) → IsInBytes first stored.Scattered stand → 0 < length rules
     → AreScattered rules first → moved ≡ record { word = stand.word; blob = stand.blob; base = 0; block = stand.block; lane = stand.lane; power = stand.power }
@@ -165,9 +135,6 @@ scattered_stand rules first hold stand moved h some scattered is =
           ∙ same_piece byte.blob byte.blob (begin_in byte slot) (8 * (byte.base / 8 + place_of there slot)) byte.bits 8 refl begins is.along.bits
           ∙ sym (get_or-map byte_at rules k first d low))
           ∙ ap (λ (w : Word). pieces_by w field stand.blob rules (place_of there slot)) (sym h.word))
-          (λ slot fit.
-          let byte : PieceRule = get_or rules 0 first in
-          let small : begin_in byte slot < 2 ^ 64 = fit 0 first some in
-          omega (arith, scattered_begins first byte stand slot h (scattered 0 first some), place slot));
+          (λ slot fit. grind (arith, scattered_begins));
       low = h.low;
     })

@@ -5,26 +5,18 @@ use Rattle.piece_bits.specs.declared.walk.Walk.TheVariants as walk
 -- ---- the place of a slot so many further on
 
 single_place : (base block lane power slot : ℕ) → power ≡ 0 → place_by base block lane power slot ≡ base + slot * block
-single_place base block lane power slot single =
-    ap (λ (p : ℕ). place_by base block lane p slot) single
-    ∙ ap (λ (n : ℕ). base + n * block + slot % 1 * lane) (div-one slot)
-    ∙ ap (λ (n : ℕ). base + slot * block + n * lane) (mod-one slot) ∙ omega arith
+single_place base block lane power slot single = grind (arith, div-one, mod-one)
 
 -- in blocks of one slot
 single_apart : (base block lane power slot more : ℕ) → power ≡ 0
     → place_by base block lane power (slot + more) ≡ place_by base block lane power slot + more * block
-single_apart base block lane power slot more single =
-    let split : (slot + more) * block ≡ slot * block + more * block = grind arith in
-    omega (arith, single_place base block lane power slot single, single_place base block lane power (slot + more) single, split)
+single_apart base block lane power slot more single = grind (arith, single_place)
 
 -- in the same block
 lanes_apart : (base block lane power slot more : ℕ) → slot % 2 ^ power + more < 2 ^ power
     → place_by base block lane power (slot + more) ≡ place_by base block lane power slot + more * lane
 lanes_apart base block lane power slot more room =
-    let split : (slot % 2 ^ power + more) * lane ≡ slot % 2 ^ power * lane + more * lane = grind arith in
-    ap (λ (n : ℕ). base + n * block + (slot + more) % 2 ^ power * lane) (line_same slot (2 ^ power) more room)
-    ∙ ap (λ (n : ℕ). base + slot / 2 ^ power * block + n * lane) (column_on slot (2 ^ power) more room)
-    ∙ omega (arith, split)
+    let split : (slot % 2 ^ power + more) * lane ≡ slot % 2 ^ power * lane + more * lane = grind arith in grind (arith, line_same, column_on)
 
 -- ---- by the walk
 
@@ -38,14 +30,7 @@ pub record AreSteps (short : ShortRule) (row apart : ℕ) (way : Spread) (rows :
 -- they are a stretch, as far as rows are wanted
 pub steps_stretch : (short : ShortRule) (row most rows : ℕ) (s : Stretch) → leads short.walk ≡ true → short.word ≢ Scattered → 0 < most
     → s.start ≡ start_in short row → s.rows ≡ min rows most → AreSteps short row s.apart s.spread rows → IsStretch short row most s
-steps_stretch short row most rows s some alone wanted start count steps = record {
-  leads = some;
-  alone = alone;
-  some = omega (arith, steps.some);
-  few = omega arith;
-  digits = λ turned. omega (arith, steps.digits turned);
-  place = λ k inside. steps.place k (omega (arith, inside, count)) ∙ ap (λ (n : ℕ). n + offset_by s.spread s.apart k) (sym start);
-}
+steps_stretch short row most rows s some alone wanted start count steps = grind arith
 
 -- in blocks of one slot, where the slots lie alike far apart
 single_steps : (short : ShortRule) (row apart rows : ℕ) (way : Spread) (more : ℕ → ℕ) → walks_in_blocks short.walk ≡ false → 0 < rows
@@ -65,12 +50,10 @@ single_steps short row apart rows way more single some low few slots places = re
 slots_by : (short : ShortRule) (way : Walk) (row k more : ℕ) → short.walk ≡ way
     → slot_by way short.lines short.columns.columns (row + k) ≡ slot_by way short.lines short.columns.columns row + more
     → slot_in short (row + k) ≡ slot_in short row + more
-slots_by short way row k more is h =
-    subst (λ (w : Walk). slot_by w short.lines short.columns.columns (row + k) ≡ slot_by w short.lines short.columns.columns row + more) (sym is) h
+slots_by short way row k more is h = grind arith
 
 pub plain_steps : (short : ShortRule) (row rows : ℕ) → short.walk ≡ walk.Plain → 0 < rows → AreSteps short row short.block Even rows
-plain_steps short row rows is some =
-    single_steps short row short.block rows Even (λ k. k) (ap walks_in_blocks is) some (lit< tt) (λ e. cc) (λ k inside. slots_by short walk.Plain row k k is refl) (λ k. refl)
+plain_steps short row rows is some = grind (arith, single_steps, lit<, slots_by)
 
 -- in blocks the slot of a row is the row
 row_is : (short : ShortRule) (row : ℕ) → short.walk ≡ walk.Blocks → slot_in short row ≡ row
@@ -99,11 +82,7 @@ blocks_apart base block lane power slot more begin =
     let sum : turns * size ≡ slot / size * size + more / size * size = grind arith in
     let parts : slot + more ≡ turns * size + more % size = omega (arith, begin, sum, div-add-mod' slot size, div-add-mod' more size) in
     let split : turns * block ≡ slot / size * block + more / size * block = grind arith in
-    let none : slot % size * lane ≡ 0 * lane = ap (λ (n : ℕ). n * lane) begin in
-    ap (λ (n : ℕ). base + n / size * block + n % size * lane) parts
-    ∙ ap (λ (n : ℕ). base + n * block + (turns * size + more % size) % size * lane) (div-mul-add turns size (more % size) below)
-    ∙ ap (λ (n : ℕ). base + turns * block + n * lane) (mod-mul-add turns size (more % size) below)
-    ∙ omega (arith, split, none)
+    let none : slot % size * lane ≡ 0 * lane = ap (λ (n : ℕ). n * lane) begin in grind (arith, div-mul-add, mod-mul-add)
 
 pub blocks_steps : (short : ShortRule) (row rows : ℕ) → short.walk ≡ walk.Blocks → row % 2 ^ short.power ≡ 0 → 0 < rows
     → AreSteps short row short.lane (Blocks short.power short.block) rows
@@ -135,10 +114,7 @@ pub even_blocks : (power block apart eight j : ℕ) → 3 ≤ power → j < 8
     → offset_by (Blocks power block) apart (8 * eight + j) ≡ offset_by (Blocks power block) apart (8 * eight) + j * apart
 even_blocks power block apart eight j some few =
     let room : 8 * eight % 2 ^ power + j < 2 ^ power = eight_in power eight j some few in
-    let split : (8 * eight % 2 ^ power + j) * apart ≡ 8 * eight % 2 ^ power * apart + j * apart = grind arith in
-    ap (λ (n : ℕ). n * block + (8 * eight + j) % 2 ^ power * apart) (line_same (8 * eight) (2 ^ power) j room)
-    ∙ ap (λ (n : ℕ). 8 * eight / 2 ^ power * block + n * apart) (column_on (8 * eight) (2 ^ power) j room)
-    ∙ omega (arith, split)
+    let split : (8 * eight % 2 ^ power + j) * apart ≡ 8 * eight % 2 ^ power * apart + j * apart = grind arith in grind (arith, line_same, column_on)
 
 pub column_steps : (short : ShortRule) (row apart rows : ℕ) → short.walk ≡ walk.Columns → apart ≡ short.lines * short.block
     → row % short.columns.columns + rows ≡ short.columns.columns → AreSteps short row apart Even rows
@@ -160,12 +136,7 @@ digit_steps short row rows is some few slots =
 -- a number whose last digits are 0 is a multiple of a power of two
 even_below : (n power : ℕ) → ((b : ℕ) → b < power → bit_at n b ≡ 0) → n % 2 ^ power ≡ 0
 even_below n power none =
-    same_from_bits (n % 2 ^ power) 0 (λ b.
-    ⊎_elim
-    (λ (low : b < power).
-    sym (bit_at_cat_low (n / 2 ^ power) power (n % 2 ^ power) b low) ∙ ap (λ (m : ℕ). bit_at m b) (shr_split n power) ∙ none b low ∙ sym (bit_at-zero b))
-    (λ (above : power ≤ b). bit_at_above (n % 2 ^ power) power b (mod_below n (2 ^ power) (pow_pos power)) above ∙ sym (bit_at-zero b))
-    (cases_lt b power))
+    same_from_bits (n % 2 ^ power) 0 (λ b. grind (arith, bit_at_cat_low, bit_at, shr_split, bit_at-zero, bit_at_above, mod_below, pow_pos, cases_lt))
 
 pub twos_divide : (n power : ℕ) → n < 2 ^ 64 → power ≤ trailing_zeros w64 n → n % 2 ^ power ≡ 0
 twos_divide n power small few =
@@ -181,6 +152,4 @@ module _ (digits : ℕ) (few : digits ≤ 4) where
   sixteen = pow-le-pow_right {n = 2} (lit< tt) few
 
   pub shifted : 1 * 2 ^ digits % 2 ^ 64 ≡ 2 ^ digits
-  shifted =
-      let one : 1 * 2 ^ digits ≡ 2 ^ digits = omega arith in
-      ap (λ (n : ℕ). n % 2 ^ 64) one ∙ mod-eq_of_lt (omega (arith, sixteen))
+  shifted = grind (arith, mod-eq_of_lt, sixteen)

@@ -19,36 +19,20 @@ slot_is_row : (order : Order) (extents : List ℕ) (row : ℕ) → (order ≡ Ro
 slot_is_row order extents row either inside =
     ⊎_elim (λ (rows : order ≡ Row). sym (ap (λ (o : Order). slot_at o extents row) rows ∙ slot_at_by_rows extents row inside))
     (λ (one : length extents ≡ 1).
-    let is : extents ≡ get_or extents 0 0 ∷ [] = list_of_one extents one in
-    sym (ap (λ (e : List ℕ). slot_at order e row) is
-    ∙ slot_in_line order (get_or extents 0 0) row (subst (λ (e : List ℕ). row < length (indices e)) is inside)))
+    let is : extents ≡ get_or extents 0 0 ∷ [] = list_of_one extents one in grind (arith, slot_in_line))
     either
 
 pub plain_path : (order : Order) (extents : List ℕ) (power lines columns : ℕ) → (order ≡ Row) ⊎ (length extents ≡ 1) → power ≡ 0
     → IsRowPath order extents power walk.Plain lines columns
-plain_path order extents power lines columns either none = record {
-  some = refl;
-  single = λ _. none;
-  slots = λ row inside. slot_is_row order extents row either inside;
-  turned = λ e. cc;
-  over = λ e. cc;
-}
+plain_path order extents power lines columns either none = grind (arith, slot_is_row)
 
 pub block_path : (order : Order) (extents : List ℕ) (power lines columns : ℕ) → (order ≡ Row) ⊎ (length extents ≡ 1)
     → IsRowPath order extents power walk.Blocks lines columns
-block_path order extents power lines columns either = record {
-  some = refl;
-  single = λ e. cc;
-  slots = λ row inside. slot_is_row order extents row either inside;
-  turned = λ e. cc;
-  over = λ e. cc;
-}
+block_path order extents power lines columns either = grind (arith, slot_is_row)
 
 -- an order that is neither of the others
 by_columns : (order : Order) → order ≢ Row → order ≢ Morton → order ≡ Col
-by_columns Row one two = absurd (one refl)
-by_columns Col one two = refl
-by_columns Morton one two = absurd (two refl)
+by_columns order one two = grind arith
 
 pub column_path : (order : Order) (extents : List ℕ) (lines columns : ℕ) → extents ≡ lines ∷ columns ∷ [] → order ≢ Row → order ≢ Morton
     → IsRowPath order extents 0 walk.Columns lines columns
@@ -64,12 +48,4 @@ column_path order extents lines columns is one two = record {
 
 pub digit_path : (order : Order) (extents : List ℕ) (lines columns : ℕ) → extents ≡ lines ∷ columns ∷ [] → order ≡ Morton
     → IsRowPath order extents 0 walk.Morton lines columns
-digit_path order extents lines columns is turned = record {
-  some = refl;
-  single = λ _. refl;
-  slots = λ row inside.
-      sym (ap (λ (o : Order). slot_at o extents row) turned ∙ ap (λ (e : List ℕ). slot_at Morton e row) is
-      ∙ slot_by_digits lines columns row (subst (λ (e : List ℕ). row < length (indices e)) is inside));
-  turned = λ _. turned;
-  over = λ _. is;
-}
+digit_path order extents lines columns is turned = grind (arith, slot_by_digits)

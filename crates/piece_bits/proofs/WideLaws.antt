@@ -1,5 +1,5 @@
 -- The number that the low bits of eight bytes say, and the high ones of eight bytes in reverse order.
-use Rattle.piece_bits.proofs.Imports.{◌≡◌, ℕ, ◌+◌, ◌-◌, ◌*◌, ◌/◌, ◌%◌, ◌^◌, ◌<◌, ◌≤◌, List, get_or, bit_and, ⊎_elim, sym, ap, ◌∙◌, subst, arith, and_mask, shr-shr, bit_at-lt, mod-eq_of_lt, number, number_same, number_bits, number_lt, bit_number, bit_of, bit_read, field_read, turned_place}
+use Rattle.piece_bits.proofs.Imports.{◌≡◌, ℕ, ◌+◌, ◌-◌, ◌*◌, ◌/◌, ◌%◌, ◌^◌, ◌<◌, ◌≤◌, List, get_or, bit_and, sym, ap, ◌∙◌, arith, and_mask, shr-shr, bit_at-lt, mod-eq_of_lt, number, number_same, number_bits, number_lt, bit_number, bit_of, bit_read, field_read, turned_place}
 use Rattle.blobs.specs.Turned.{IsTurned}
 
 -- a field is read off the eight bytes from that of its first bit on
@@ -17,26 +17,17 @@ low_bytes bytes first n ones word few mask is =
 
 -- the high bits of eight turned bytes are the turned bytes of a shorter word
 turned_high : (n k : ℕ) → IsTurned n → k < n → turned_place 64 (64 - n + k) ≡ turned_place n k
-turned_high n k either below =
-    ⊎_elim (λ (two : n ≡ 16). omega arith) (λ others. ⊎_elim (λ (four : n ≡ 32). omega arith) (λ (eight : n ≡ 64). omega arith) others) either
+turned_high n k either below = grind arith
 
 high_small : (n word : ℕ) → IsTurned n → word < 2 ^ 64 → word / 2 ^ (64 - n) < 2 ^ n
-high_small n word either small =
-    ⊎_elim
-    (λ (two : n ≡ 16). subst (λ (m : ℕ). word / 2 ^ (64 - m) < 2 ^ m) (sym two) (omega arith))
-    (λ others. ⊎_elim
-    (λ (four : n ≡ 32). subst (λ (m : ℕ). word / 2 ^ (64 - m) < 2 ^ m) (sym four) (omega arith))
-    (λ (eight : n ≡ 64). subst (λ (m : ℕ). word / 2 ^ (64 - m) < 2 ^ m) (sym eight) (omega arith)) others)
-    either
+high_small n word either small = grind arith
 
 module _ (bytes : List ℕ) (first n word : ℕ) (turned : IsTurned n) (is : word ≡ number (λ k. bit_of bytes (8 * first + turned_place 64 k)) 64) where
   bit_below : (j : ℕ) → j < 64 → bit_of bytes (8 * first + turned_place 64 j) < 2
   bit_below j l = bit_at-lt (get_or bytes ((8 * first + turned_place 64 j) / 8) 0) ((8 * first + turned_place 64 j) % 8)
 
   pub high_fits : word / 2 ^ (64 - n) < 2 ^ n
-  high_fits =
-      high_small n word turned
-      (subst (λ (w : ℕ). w < 2 ^ 64) (sym is) (number_lt (λ k. bit_of bytes (8 * first + turned_place 64 k)) 64 bit_below))
+  high_fits = grind (arith, high_small, number_lt, bit_below)
 
   pub high_bytes : word / 2 ^ (64 - n) ≡ number (λ k. bit_of bytes (8 * first + turned_place n k)) n
   high_bytes =

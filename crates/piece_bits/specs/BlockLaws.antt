@@ -1,13 +1,12 @@
 -- Sixteen narrow numbers are a block, and the processor keeps the numbers of a block as their bits.
-use Rattle.std.proofs.Common.{◌≡◌, List, [], ◌∷◌, length, map, ℤ, pos, negsuc, FitsSigned, to_z, of_z, w64, refl, arith}
-use Rattle.std.proofs.lemmas.Int.{ints, to_z-of_z}
+use Rattle.std.proofs.Common.{◌≡◌, List, [], ◌∷◌, length, map, ℤ, FitsSigned, to_z, of_z, w64, refl, arith}
+use Rattle.std.proofs.lemmas.Int.{to_z-of_z}
 use Rattle.std.proofs.lemmas.Simd.{Each1-weaker}
 use Rattle.std.specs.Simd.Lanes.{Each1}
 use Rattle.piece_bits.specs.Blocks.{IsBlock, IsNarrow}
 
 pub narrow_fits : (value : ℤ) → IsNarrow value → FitsSigned w64 value
-narrow_fits (pos n) narrow = record { sfits = omega (arith, ints, narrow.1) }
-narrow_fits (negsuc n) narrow = record { sfits = omega (arith, ints, narrow.0) }
+narrow_fits value narrow = grind arith
 
 pub narrow_block : (values : List ℤ) → length values ≡ 16 → Each1 IsNarrow values → IsBlock values
 narrow_block values many narrow = record { count = many; fit = Each1-weaker IsNarrow (FitsSigned w64) narrow_fits values narrow }

@@ -8,13 +8,13 @@ use Rattle.record_dim.specs.LeafTypes.{IsIn}
 use Rattle.places.specs.declared.piece.Piece.{Piece}
 use Rattle.places.specs.declared.piece.Hold.{Hold}
 use Rattle.places.specs.Layout.{Owner, Pad, owner_at}
-use Rattle.places.specs.Image.{number, digit, decoded, entry, table_of}
+use Rattle.places.specs.Image.{number, digit, decoded, entry}
 use Rattle.places.specs.CellWidthsLaws.{width_at}
 use Rattle.places.specs.Lawful.{IsLaidOut, IsLocated}
 use Rattle.places.specs.NumbersLaws.{number_lt, bit_number, digit_lt}
 use Rattle.blobs.specs.Bits.{bit_in}
 use Rattle.piece_bits.specs.Inner.Spots.{spots_of, bit_at_spot, IsWithin, AreApart, IsOutside}
-use Rattle.piece_bits.specs.Tables.{with_entry, signs_and_widths, table_in, hold_at, AreSized, AreLaid}
+use Rattle.piece_bits.specs.Tables.{with_entry, table_in, hold_at, AreSized, AreLaid}
 use Rattle.piece_bits.specs.LocatedLaws.{spot_count, spots_apart, pieces_within}
 use Rattle.piece_bits.specs.EntriesLaws.{read_is, set_is, padding_stands}
 
@@ -72,12 +72,7 @@ module _ {layout : List (List Owner)} {slots : ℕ} {holds : List Hold} {slot ce
 
   -- what is read fits the hold, and says the entry
   pub read_small : (blobs : List (List ℕ)) (value : ℕ) → value ≡ number (bit_at_spot (bit_in blobs) (spots_of pieces)) (length (spots_of pieces)) → value < 2 ^ hold.width
-  read_small blobs value read =
-      let spots = spots_of pieces in
-      let below : number (bit_at_spot (bit_in blobs) spots) (length spots) < 2 ^ length spots =
-      number_lt (bit_at_spot (bit_in blobs) spots) (length spots) (λ k l. bit_in_lt blobs (get_or spots k (0, 0)).0 (get_or spots k (0, 0)).1) in
-      let power : 2 ^ length spots ≡ 2 ^ hold.width = ap (λ (w : ℕ). 2 ^ w) bit_count in
-      omega arith
+  read_small blobs value read = grind (arith, number_lt, bit_in_lt, bit_count)
 
   pub read_entry_is : (blobs : List (List ℕ)) (value : ℕ) → value ≡ number (bit_at_spot (bit_in blobs) (spots_of pieces)) (length (spots_of pieces)) →
       decoded hold.signed hold.width value ≡ entry (table_in layout slots holds blobs) slot cell
@@ -86,9 +81,7 @@ module _ {layout : List (List Owner)} {slots : ℕ} {holds : List Hold} {slot ce
       let spots = spots_of pieces in
       let same : value ≡ number (bit_at_spot bits spots) hold.width = read ∙ ap (number (bit_at_spot bits spots)) bit_count in
       let there : IsLocated layout slot cell (hold_at holds cell).width pieces = subst (λ (h : Hold). IsLocated layout slot cell h.width pieces) (sym hold_is) here in
-      ap (decoded hold.signed hold.width) same
-      ∙ subst (λ (h : Hold). decoded h.signed h.width (number (bit_at_spot bits spots) h.width) ≡ entry (table_of layout slots (signs_and_widths holds) bits) slot cell)
-      hold_is (read_is layout slots holds at.laid bits slot cell (record { signed = false; width = 0 }) pieces at.slot_in at.cell_in there)
+      grind (arith, hold_is, read_is)
 
   -- what is written
   module _ (old new : List (List ℕ)) (value : ℤ) (code : ℕ) (code_is : code ≡ number (digit value) hold.width) (held : IsIn hold.signed hold.width value)
@@ -98,9 +91,7 @@ module _ {layout : List (List Owner)} {slots : ℕ} {holds : List Hold} {slot ce
     there' = subst (λ (h : Hold). IsLocated layout slot cell h.width pieces) (sym hold_is) here
 
     digits : (k : ℕ) → k < hold.width → bit_at_spot (bit_in new) (spots_of pieces) k ≡ digit value k
-    digits k l =
-        inside k (omega (arith, bit_count)) ∙ ap (λ (w : ℕ). bit_at w k) code_is
-        ∙ bit_number (digit value) hold.width k (λ j m. digit_lt value j) l
+    digits k l = grind (arith, bit_count, bit_at, bit_number, digit_lt)
 
     digits_at : (k : ℕ) → k < (hold_at holds cell).width → bit_at_spot (bit_in new) (spots_of pieces) k ≡ digit value k
     digits_at k l = digits k (subst (λ (h : Hold). k < h.width) hold_is l)

@@ -1,5 +1,5 @@
 -- The kept number in the words of congruence: it lies in the range, and differs from the value by a multiple of the number of values.
-use Rattle.std.proofs.Common.{◌≡◌, ℕ, ◌+◌, ◌*◌, ◌-◌, ◌/◌, ◌%◌, ◌^◌, ◌<◌, ◌≤◌, Bool, true, false, ℤ, pos, negsuc, ◌+ℤ◌, ◌-ℤ◌, ◌≤ℤ◌, ⊎_elim, refl, sym, ap, arith}
+use Rattle.std.proofs.Common.{◌≡◌, ℕ, ◌+◌, ◌*◌, ◌-◌, ◌/◌, ◌%◌, ◌^◌, ◌<◌, ◌≤◌, Bool, true, false, ℤ, pos, negsuc, ◌+ℤ◌, ◌-ℤ◌, ◌≤ℤ◌, ⊎_elim, ap, arith}
 use Rattle.std.proofs.lemmas.Int.{ints}
 use Rattle.std.proofs.lemmas.Nat.{pow_pos}
 use Rattle.std.proofs.lemmas.Bool.{cases_lt}
@@ -41,14 +41,7 @@ number_congruent (negsuc n) width =
     record { one = n / m + 1; other = 0; same = omega (arith, ints) }
 
 decoded_congruent : (signed : Bool) (width n : ℕ) → AreCongruent (2 ^ width) (pos n) (decoded signed width n)
-decoded_congruent false width n = record { one = 0; other = 0; same = refl }
-decoded_congruent true width n =
-    ⊎_elim (λ (low : n < 2 ^ (width - 1)). record { one = 0; other = 0; same = ap (λ (v : ℤ). v +ℤ pos (0 * 2 ^ width)) (sym (decoded_low width n low)) })
-    (λ (high : 2 ^ (width - 1) ≤ n).
-    let is : decoded true width n ≡ pos n -ℤ pos (2 ^ width) = decoded_high width n high in
-    let once : 1 * 2 ^ width ≡ 2 ^ width = omega arith in
-    record { one = 0; other = 1; same = omega (arith, ints, is, once) })
-    (cases_lt n (2 ^ (width - 1)))
+decoded_congruent signed width n = grind (arith, decoded_low, decoded_high, cases_lt)
 
 add_times : (p q m : ℕ) → (p + q) * m ≡ p * m + q * m
 add_times p q m = omega arith
@@ -71,9 +64,7 @@ spread false width a b some in_a in_b = omega (arith, ints, in_a.1, in_b.0)
 spread true width a b some in_a in_b = omega (arith, ints, in_a.1, in_b.0, half_of width some, pow_pos (width - 1))
 
 more_times : (p q m : ℕ) → p < q → p * m + m ≤ q * m
-more_times p q m less =
-    let step : (p + 1) * m ≤ q * m = mul-le-mul_right m (omega (arith, less)) in
-    omega (arith, step, next_times p m)
+more_times p q m less = grind (arith, mul-le-mul_right, next_times)
 
 pub congruent_same : (signed : Bool) (width : ℕ) (a b : ℤ) → 1 ≤ width → IsIn signed width a → IsIn signed width b → AreCongruent (2 ^ width) a b → a ≡ b
 congruent_same signed width a b some in_a in_b near =

@@ -1,5 +1,5 @@
 -- What bits under a layout say: the entries that are read off them, what a write changes, and that they are the image of the table read off them.
-use Rattle.std.proofs.Common.{◌≡◌, ℕ, zero, suc, ◌+◌, ◌*◌, ◌-◌, ◌^◌, ◌<◌, ◌≤◌, Bool, true, false, ℤ, pos, List, [], length, get_or, map, refl, sym, ap, ◌∙◌, subst, ⊎_elim, arith}
+use Rattle.std.proofs.Common.{◌≡◌, ℕ, zero, suc, ◌+◌, ◌*◌, ◌^◌, ◌<◌, ◌≤◌, Bool, false, ℤ, pos, List, [], length, get_or, map, refl, sym, ap, ◌∙◌, subst, arith}
 use Rattle.std.specs.List.{range_with_len}
 use Rattle.std.proofs.lemmas.List.{length-map, get_or-map, ext_get_or}
 use Rattle.std.proofs.lemmas.List.FromFn.{length-map-range_with_len, get_or-map-range_with_len}
@@ -28,8 +28,7 @@ number_none f (suc n) none =
     omega arith
 
 decoded_none : (signed : Bool) (width : ℕ) → decoded signed width 0 ≡ pos 0
-decoded_none false width = refl
-decoded_none true width = decoded_low width 0 (pow_pos (width - 1))
+decoded_none signed width = grind (arith, decoded_low, pow_pos)
 
 -- the owner of a place that is given is not the bit of another place
 outside_from_owner : (layout : List (List Owner)) (row cell width : ℕ) (pieces : List Piece) → IsLocated layout row cell width pieces → (b p : ℕ)
@@ -120,11 +119,7 @@ module _ (layout : List (List Owner)) (slots : ℕ) (holds : List Hold) (laid : 
     bit_stands s c k e l m n other =
         let widths = map (λ (h : Hold). h.width) holds in
         let place = laid.there s c k (stored s c k e l m n) in
-        let apart : (j : ℕ) → owner_at layout place.0 place.1 ≡ Bit row cell j → ⊥ = λ j is.
-        (let same : Bit s c k ≡ Bit row cell j = sym place.2 ∙ is in
-        let rows : s ≡ row = cc in
-        let cells : c ≡ cell = cc in
-        other (rows, cells)) in
+        let apart : (j : ℕ) → owner_at layout place.0 place.1 ≡ Bit row cell j → ⊥ = grind arith in
         owned_is layout slots widths new place.0 place.1 s c k laid place.2
         ∙ outside place.0 place.1 (outside_from_owner layout row cell (get_or holds cell d).width pieces located place.0 place.1 apart)
         ∙ sym (owned_is layout slots widths old place.0 place.1 s c k laid place.2)
@@ -155,10 +150,7 @@ pub zeros_read : (layout : List (List Owner)) (slots : ℕ) (holds : List Hold) 
     table_of layout slots (signs_and_widths holds) bits ≡ zeros slots (length holds)
 zeros_read layout slots holds bits none =
     let d : Hold = record { signed = false; width = 0 } in
-    let nothing : (s c k : ℕ) → bit_owned (Bit s c k) layout bits ≡ 0 = λ s c k.
-    ⊎_elim (λ (found : (b : ℕ) × (p : ℕ) × (owner_at layout b p ≡ Bit s c k) × (bit_owned (Bit s c k) layout bits ≡ bits b p)). found.3 ∙ none found.0 found.1)
-    (λ (absent : ((b p : ℕ) → owner_at layout b p ≡ Bit s c k → ⊥) × (bit_owned (Bit s c k) layout bits ≡ 0)). absent.1)
-    (found_owned s c k layout bits) in
+    let nothing : (s c k : ℕ) → bit_owned (Bit s c k) layout bits ≡ 0 = grind (arith, found_owned) in
     tables_same slots (length holds) (table_of layout slots (signs_and_widths holds) bits) (zeros slots (length holds))
     (table_shape layout slots holds bits) (zeros_shape slots (length holds))
     (λ s c l m.

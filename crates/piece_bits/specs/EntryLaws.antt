@@ -25,21 +25,15 @@ stays_declared Strict kind hold value stays = stays.declared
 stays_declared Wrap kind hold value stays = subst (IsDeclared kind) stays (kept_in kind hold value)
 
 pub stays_kept : (mode : StoreMode) (kind : LeafType) (hold : Hold) (value : ℤ) → 1 ≤ hold.width → Stays mode kind hold value → kept kind hold value ≡ value
-stays_kept Strict kind hold value some stays = fitting_kept kind hold value some stays.declared stays.held
-stays_kept Wrap kind hold value some stays = stays
+stays_kept mode kind hold value some stays = grind (arith, fitting_kept)
 
 pub fitting_stays : (mode : StoreMode) (kind : LeafType) (hold : Hold) (value : ℤ) → 1 ≤ hold.width → Fits kind hold value → Stays mode kind hold value
-fitting_stays Strict kind hold value some fits = fits
-fitting_stays Wrap kind hold value some fits = fitting_kept kind hold value some fits.declared fits.held
+fitting_stays mode kind hold value some fits = grind (arith, fitting_kept)
 
 -- what the image of such a value says is settled, and stands for it
 pub stays_settled : (mode : StoreMode) (kind : LeafType) (hold : Hold) (value : ℤ) → 1 ≤ hold.width → Stays mode kind hold value →
     (declared kind (held hold value) ≡ value) × IsSettled mode kind hold (held hold value)
-stays_settled mode kind hold value some stays =
-    let back : declared kind (held hold value) ≡ value = stays_kept mode kind hold value some stays in (
-      back,
-      record { stays = subst (Stays mode kind hold) (sym back) stays; image = ap (held hold) (sym back) },
-    )
+stays_settled mode kind hold value some stays = grind (arith, stays_kept)
 
 -- a settled number lies in the range of its hold
 pub raw_held : (mode : StoreMode) (kind : LeafType) (hold : Hold) (raw : ℤ) → 1 ≤ hold.width → IsSettled mode kind hold raw → IsIn hold.signed hold.width raw
@@ -55,12 +49,7 @@ own_entry mode kind hold raw some settled inside = sym (settled.image ∙ low_sa
 
 -- a value that fits is settled as it is, in either mode
 pub fitting_settled : (mode : StoreMode) (kind : LeafType) (hold : Hold) (value : ℤ) → 1 ≤ hold.width → Fits kind hold value → IsSettled mode kind hold value
-fitting_settled mode kind hold value some fits =
-    let same : declared kind value ≡ value = declared_same kind value fits.declared in
-    record {
-      stays = subst (Stays mode kind hold) (sym same) (fitting_stays mode kind hold value some fits);
-      image = sym (ap (held hold) same ∙ fitting_held hold value some fits.held);
-    }
+fitting_settled mode kind hold value some fits = grind (arith, declared_same, fitting_stays, fitting_held)
 
 -- where each entry fits, a raw number is its entry
 pub strict_entry : (kind : LeafType) (hold : Hold) (raw : ℤ) → 1 ≤ hold.width → IsSettled Strict kind hold raw → declared kind raw ≡ raw
@@ -133,8 +122,7 @@ module _ (mode : StoreMode) (layout : List (List Owner)) (slots : ℕ) (kinds : 
       ⊎_elim (λ (same_leaf : c ≡ leaf).
       let there : IsSettled mode (kind_at kinds leaf) (hold_at holds leaf) (entry (with_entry old row leaf raw) row leaf) =
       subst (λ (v : ℤ). IsSettled mode (kind_at kinds leaf) (hold_at holds leaf) v) (sym (with_entry_same slots n old shape row leaf raw row_in leaf_in)) here.1 in
-      subst (λ (x : ℕ). IsSettled mode (kind_at kinds c) (hold_at holds c) (entry (with_entry old row leaf raw) x c)) (sym same_row)
-      (subst (λ (x : ℕ). IsSettled mode (kind_at kinds x) (hold_at holds x) (entry (with_entry old row leaf raw) row x)) (sym same_leaf) there))
+      grind arith)
       (λ (apart : c ≡ leaf → ⊥).
       subst (λ (v : ℤ). IsSettled mode (kind_at kinds c) (hold_at holds c) v)
       (sym (with_entry_other slots n old shape row leaf raw row_in leaf_in r c (λ e. apart e.1))) (settled r c l m))

@@ -1,12 +1,11 @@
 -- A number of any length, brought below 2^66 without a change of its 64 low bits.
-use Rattle.std.proofs.Common.{◌≡◌, ℕ, suc, ◌+◌, ◌*◌, ◌-◌, ◌%◌, ◌^◌, ◌<◌, ◌≤◌, Bool, ℤ, pos, negsuc, neg_ℤ, ⊎_elim, sym, ap, ◌∙◌, arith}
+use Rattle.std.proofs.Common.{◌≡◌, ℕ, suc, ◌+◌, ◌*◌, ◌-◌, ◌%◌, ◌^◌, ◌<◌, ◌≤◌, Bool, ℤ, pos, negsuc, neg_ℤ, sym, ap, ◌∙◌, arith}
 use Rattle.std.proofs.lemmas.Int.{ints}
 use Rattle.std.proofs.lemmas.Bool.{cases_lt}
 use Rattle.std.proofs.lemmas.Bool.Decides.{nat_tests}
 use Rattle.std.proofs.Math.Pow.{mod-mod-pow}
 use Rattle.record_dim.specs.declared.leaf_type.LeafType.{LeafType}
 use Rattle.places.specs.declared.piece.Hold.{Hold}
-use Rattle.places.specs.Image.{number, digit, decoded}
 use Rattle.places.specs.NumbersLaws.{number_bits}
 use Rattle.piece_bits.specs.LowBits.{low_bits, declared, kept}
 use Rattle.piece_bits.specs.Inner.Far.{folded, shortened}
@@ -20,20 +19,10 @@ far n l = grind (arith, nat_tests)
 
 -- one digit more
 pub fold_next : (n d : ℕ) → folded (folded n * 10 + d) ≡ folded (n * 10 + d)
-fold_next n d =
-    ⊎_elim (λ (small : n < 2 ^ 65). ap (λ (w : ℕ). folded (w * 10 + d)) (near n small))
-    (λ (great : 2 ^ 65 ≤ n).
-    let is : folded n ≡ 2 ^ 65 + n % 2 ^ 64 = far n great in
-    far (folded n * 10 + d) (omega (arith, is))
-    ∙ (let e : 2 ^ 65 + (folded n * 10 + d) % 2 ^ 64 ≡ 2 ^ 65 + (n * 10 + d) % 2 ^ 64 = omega (arith, is) in e)
-    ∙ sym (far (n * 10 + d) (omega (arith, great))))
-    (cases_lt n (2 ^ 65))
+fold_next n d = grind (arith, near, far, cases_lt)
 
 pub folded_low : (n : ℕ) → folded n % 2 ^ 64 ≡ n % 2 ^ 64
-folded_low n =
-    ⊎_elim (λ (small : n < 2 ^ 65). ap (λ (w : ℕ). w % 2 ^ 64) (near n small))
-    (λ (great : 2 ^ 65 ≤ n). omega (arith, far n great))
-    (cases_lt n (2 ^ 65))
+folded_low n = grind (arith, near, far, cases_lt)
 
 pub folded_far : (n : ℕ) → 2 ^ 65 ≤ n → 2 ^ 65 ≤ folded n
 folded_far n great = omega (arith, far n great)
@@ -49,22 +38,14 @@ fewer_bits n m width few same =
     sym one ∙ ap (λ (w : ℕ). w % 2 ^ width) same ∙ two
 
 positive : (n : ℕ) → 1 ≤ folded (suc n)
-positive n =
-    ⊎_elim (λ (small : suc n < 2 ^ 65). omega (arith, near (suc n) small)) (λ (great : 2 ^ 65 ≤ suc n). omega (arith, far (suc n) great)) (cases_lt (suc n) (2 ^ 65))
+positive n = grind (arith, near, far, cases_lt)
 
 negative : (m : ℕ) → 1 ≤ m → neg_ℤ (pos m) ≡ negsuc (m - 1)
 negative m some = omega (arith, ints)
 
 -- the low bits stand
 pub shortened_low : (signed : Bool) (width : ℕ) (value : ℤ) → width ≤ 64 → low_bits signed width (shortened value) ≡ low_bits signed width value
-shortened_low signed width (pos n) few =
-    ap (decoded signed width) (number_bits (folded n) width ∙ fewer_bits (folded n) n width few (folded_low n) ∙ sym (number_bits n width))
-shortened_low signed width (negsuc n) few =
-    let turned : shortened (negsuc n) ≡ negsuc (folded (suc n) - 1) = negative (folded (suc n)) (positive n) in
-    let same : (folded (suc n) - 1) % 2 ^ width ≡ n % 2 ^ width = fewer_bits (folded (suc n) - 1) n width few (omega (arith, folded_low (suc n), positive n)) in
-    let e : number (digit (negsuc (folded (suc n) - 1))) width ≡ number (digit (negsuc n)) width =
-    omega (arith, digits_negsuc (folded (suc n) - 1) width, digits_negsuc n width, same) in
-    ap (λ (v : ℤ). low_bits signed width v) turned ∙ ap (decoded signed width) e
+shortened_low signed width value few = grind (arith, number_bits, fewer_bits, folded_low, negsuc, negative, positive, digits_negsuc)
 
 pub shortened_kept : (kind : LeafType) (hold : Hold) (value : ℤ) → hold.width ≤ 64 → kept kind hold (shortened value) ≡ kept kind hold value
 shortened_kept kind hold value few = ap (declared kind) (shortened_low hold.signed hold.width value few)

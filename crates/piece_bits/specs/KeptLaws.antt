@@ -1,10 +1,8 @@
 -- The low bits of numbers, and what is kept of a value.
-use Rattle.std.proofs.Common.{◌≡◌, ℕ, ◌-◌, ◌^◌, ◌<◌, ◌≤◌, Bool, true, false, ℤ, ⊎_elim, sym, ap, ◌∙◌, subst, arith}
-use Rattle.std.proofs.lemmas.Int.{ints}
+use Rattle.std.proofs.Common.{◌≡◌, ℕ, ◌^◌, ◌<◌, ◌≤◌, Bool, ℤ, ⊎_elim, sym, ap, ◌∙◌, subst, arith}
 use Rattle.std.proofs.lemmas.Bool.{cases_lt}
 use Rattle.std.proofs.Math.Pow.{pow_mono}
 use Rattle.record_dim.specs.declared.leaf_type.LeafType.{LeafType}
-use Rattle.record_dim.specs.declared.leaf_type.LeafType.TheVariants.{Bool as Truth, U8, U16, U32, U64, I8, I16, I32, I64}
 use Rattle.record_dim.specs.LeafTypes.{is_signed, IsIn, IsDeclared}
 use Rattle.places.specs.declared.piece.Hold.{Hold}
 use Rattle.places.specs.Image.{number, digit, decoded}
@@ -17,14 +15,11 @@ digits_small value width = number_lt (digit value) width (λ k l. digit_lt value
 
 -- low bits have the digits of the number
 pub low_digit : (signed : Bool) (width : ℕ) (value : ℤ) (k : ℕ) → k < width → digit (low_bits signed width value) k ≡ digit value k
-low_digit signed width value k inside =
-    bit_digits signed width (number (digit value) width) k (digits_small value width) inside
-    ∙ bit_number (digit value) width k (λ j l. digit_lt value j) inside
+low_digit signed width value k inside = grind (arith, bit_digits, digits_small, bit_number, digit_lt)
 
 -- fewer low bits of low bits
 pub low_number : (signed : Bool) (width few : ℕ) (value : ℤ) → few ≤ width → number (digit (low_bits signed width value)) few ≡ number (digit value) few
-low_number signed width few value less =
-    number_same (digit (low_bits signed width value)) (digit value) few (λ k l. low_digit signed width value k (omega (arith, l, less)))
+low_number signed width few value less = grind (arith, number_same, low_digit)
 
 pub low_low : (signed other : Bool) (width few : ℕ) (value : ℤ) → few ≤ width → low_bits other few (low_bits signed width value) ≡ low_bits other few value
 low_low signed other width few value less = ap (decoded other few) (low_number signed width few value less)
@@ -38,16 +33,13 @@ low_same signed width value some inside = decoded_digits signed width value some
 
 -- the declared range is that of the type's sign and bits
 pub some_bits : (kind : LeafType) → 1 ≤ value_bits kind
-some_bits Truth = omega arith
-some_bits other = omega arith
+some_bits kind = grind arith
 
 pub is_declared : (kind : LeafType) (value : ℤ) → IsIn (is_signed kind) (value_bits kind) value → IsDeclared kind value
-is_declared Truth value inside = (omega (arith, ints, inside.0), omega (arith, ints, inside.1))
-is_declared other value inside = inside
+is_declared kind value inside = grind arith
 
 pub in_bits : (kind : LeafType) (value : ℤ) → IsDeclared kind value → IsIn (is_signed kind) (value_bits kind) value
-in_bits Truth value inside = (omega (arith, ints, inside.0), omega (arith, ints, inside.1))
-in_bits other value inside = inside
+in_bits kind value inside = grind arith
 
 pub declared_in : (kind : LeafType) (value : ℤ) → IsDeclared kind (declared kind value)
 declared_in kind value = is_declared kind (declared kind value) (low_in (is_signed kind) (value_bits kind) value (some_bits kind))
@@ -65,11 +57,7 @@ narrow_held kind hold value narrow = low_low (is_signed kind) hold.signed (value
 
 -- so it does not matter whether a value is brought into the declared range first
 pub kept_declared : (kind : LeafType) (hold : Hold) (value : ℤ) → kept kind hold (declared kind value) ≡ kept kind hold value
-kept_declared kind hold value =
-    ⊎_elim (λ (narrow : hold.width < value_bits kind). ap (declared kind) (narrow_held kind hold value (omega (arith, narrow))))
-    (λ (wide : value_bits kind ≤ hold.width).
-    wide_kept kind hold (declared kind value) wide ∙ declared_same kind (declared kind value) (declared_in kind value) ∙ sym (wide_kept kind hold value wide))
-    (cases_lt hold.width (value_bits kind))
+kept_declared kind hold value = grind (arith, narrow_held, wide_kept, declared_same, declared_in, cases_lt)
 
 -- what is kept is kept
 pub kept_again : (kind : LeafType) (hold : Hold) (value : ℤ) → 1 ≤ hold.width → kept kind hold (kept kind hold value) ≡ kept kind hold value
@@ -84,9 +72,7 @@ fitting_kept kind hold value some inside held_in = ap (declared kind) (low_same 
 
 -- a number of few bits is one of more
 pub wider_in : (signed : Bool) (few width : ℕ) (value : ℤ) → 1 ≤ few → few ≤ width → IsIn signed few value → IsIn signed width value
-wider_in false few width value some less inside = (inside.0, omega (arith, ints, inside.1, pow_mono less))
-wider_in true few width value some less inside =
-    (omega (arith, ints, inside.0, pow_mono {i = few - 1} {j = width - 1} (omega (arith, less))), omega (arith, ints, inside.1, pow_mono {i = few - 1} {j = width - 1} (omega (arith, less))))
+wider_in signed few width value some less inside = grind (arith, pow_mono)
 
 -- what is kept fits a hold that has the sign of the type, however narrow it is
 pub own_sign_held : (kind : LeafType) (hold : Hold) (value : ℤ) → 1 ≤ hold.width → hold.signed ≡ is_signed kind → IsIn hold.signed hold.width (kept kind hold value)

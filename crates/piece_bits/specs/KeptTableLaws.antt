@@ -25,14 +25,10 @@ module _ (rows : ℕ) (kinds : List LeafType) (raw : List (List ℤ)) (shape : H
   row_is row l = get_or-map (declared_row kinds) raw row [] [] (omega (arith, l, shape.row_count))
 
   pub declared_shape : HasShape rows (length kinds) (declared_table kinds raw)
-  declared_shape = record {
-    row_count = length-map raw (declared_row kinds) ∙ shape.row_count;
-    leaf_count = λ row l. ap (length {A = ℤ}) (row_is row l) ∙ length-declared_row kinds (get_or raw row []) (shape.leaf_count row l);
-  }
+  declared_shape = grind (arith, length-map, row_is, length-declared_row)
 
   pub declared_entry : (row leaf : ℕ) → row < rows → leaf < length kinds → entry (declared_table kinds raw) row leaf ≡ declared (kind_at kinds leaf) (entry raw row leaf)
-  declared_entry row leaf l m =
-      ap (λ (w : List ℤ). get_or w leaf (pos 0)) (row_is row l) ∙ declared_at kinds (get_or raw row []) leaf (shape.leaf_count row l) m
+  declared_entry row leaf l m = grind (arith, row_is, declared_at)
 
 -- one raw entry changed
 pub declared_with_entry : (rows : ℕ) (kinds : List LeafType) (raw : List (List ℤ)) (shape : HasShape rows (length kinds) raw) (row leaf : ℕ) (value : ℤ) → row < rows → leaf < length kinds →

@@ -4,7 +4,7 @@ use Rattle.std.specs.List.{flat_map, range_with_len}
 use Rattle.std.proofs.lemmas.List.{map-append, length-map, get_or-map}
 use Rattle.places.specs.declared.piece.Piece.{Piece}
 use Rattle.places.specs.Layout.{Owner, Pad, Bit, owner_at, field}
-use Rattle.places.specs.Lawful.{IsPiece, IsLocated, owners_in}
+use Rattle.places.specs.Lawful.{IsLocated, owners_in}
 use Rattle.places.specs.ExactLaws.{length-field, field_at}
 use Rattle.piece_bits.specs.Inner.Spots.{spots_of, spot_at, IsWithin, AreApart}
 use Rattle.piece_bits.specs.Tables.{AreSized}
@@ -51,10 +51,4 @@ module _ (layout : List (List Owner)) (row cell width : ℕ) (pieces : List Piec
 
   -- the pieces lie within blobs of the layout's lengths
   pub pieces_within : (blobs : List (List ℕ)) → AreSized layout blobs → All (IsWithin blobs) pieces
-  pieces_within blobs sized i d l =
-      let piece : IsPiece layout (get_or pieces i d) = located.each i d l in
-      record {
-        blob_in = omega (arith, piece.blob_in, sized.count);
-        bits_in = omega (arith, piece.bits_in, sized.lengths (get_or pieces i d).blob piece.blob_in);
-        some = piece.some;
-      }
+  pieces_within blobs sized i d l = grind arith

@@ -59,10 +59,7 @@ module _ (layout other : List (List Owner)) (rows : ℕ) (holds : List Hold) (ot
   moved_laid are_laid others_laid =
       let padding : (b p : ℕ) → owner_at layout b p ≡ Pad → bit_in new b p ≡ 0 = λ b p pad.
       ⊎_elim
-      (λ (here : (j : ℕ) × (j < count) × (b ≡ target) × (p ≡ at + j)).
-      let there : owner_at layout target (at + here.0) ≡ Pad = subst (λ (x : ℕ). owner_at layout target x ≡ Pad) here.3 (subst (λ (x : ℕ). owner_at layout x p ≡ Pad) here.2 pad) in
-      ap (λ (x : ℕ). bit_in new x p) here.2 ∙ ap (bit_in new target) here.3 ∙ moved.inside here.0 here.1
-      ∙ others_laid.padded.padding source (from + here.0) (sym (alike here.0 here.1) ∙ there))
+      (λ (here : (j : ℕ) × (j < count) × (b ≡ target) × (p ≡ at + j)). grind arith)
       (λ (stands : bit_in new b p ≡ bit_in old b p). stands ∙ are_laid.padded.padding b p pad)
       (told others old new source from target at count moved b p) in
       still_laid layout old new are_laid moved.lengths (λ b p pad. padding b p pad ∙ sym (are_laid.padded.padding b p pad))
@@ -96,9 +93,7 @@ module _ (layout other : List (List Owner)) (rows : ℕ) (holds : List Hold) (ot
       let place = laid.there s c k (stored rows holds s c k d l m n) in
       owned_is layout rows (map (λ (h : Hold). h.width) holds) (bit_in new) place.0 place.1 s c k laid place.2
       ∙ ⊎_elim
-      (λ (here : (j : ℕ) × (j < count) × (place.0 ≡ target) × (place.1 ≡ at + j)).
-      absurd (none here.0 k here.1
-      (subst (λ (x : ℕ). owner_at layout target x ≡ Bit s c k) here.3 (subst (λ (x : ℕ). owner_at layout x place.1 ≡ Bit s c k) here.2 place.2))))
+      (λ (here : (j : ℕ) × (j < count) × (place.0 ≡ target) × (place.1 ≡ at + j)). grind arith)
       (λ (stands : bit_in new place.0 place.1 ≡ bit_in old place.0 place.1). stands)
       (told others old new source from target at count moved place.0 place.1)
       ∙ sym (owned_is layout rows (map (λ (h : Hold). h.width) holds) (bit_in old) place.0 place.1 s c k laid place.2)))

@@ -1,5 +1,5 @@
 -- Products and sums of numbers of at most 32 bits fit 64 bits with a sign.
-use Rattle.std.proofs.Common.{◌≡◌, ℕ, ◌+◌, ◌*◌, ◌-◌, ◌≤◌, ◌^◌, zero, suc, List, [], ◌∷◌, length, fold, ℤ, pos, negsuc, neg_ℤ, ◌+ℤ◌, ◌*ℤ◌, ◌≤ℤ◌, FitsSigned, w64, subst, arith}
+use Rattle.std.proofs.Common.{◌≡◌, ℕ, ◌+◌, ◌*◌, ◌-◌, ◌≤◌, ◌^◌, suc, List, [], ◌∷◌, length, fold, ℤ, pos, neg_ℤ, ◌+ℤ◌, ◌*ℤ◌, ◌≤ℤ◌, FitsSigned, w64, subst, arith}
 use Rattle.std.specs.Prelude.{unsigned_abs}
 use Rattle.std.proofs.Math.Nat.{mul-le-mul}
 use Rattle.std.proofs.lemmas.Int.{ints, unsigned_abs-mul, fits_signed_from_abs}
@@ -10,43 +10,23 @@ use Rattle.piece_bits.specs.NumberTypes.{ProductsFit}
 
 -- how large a number is, from its bounds and the other way round
 size_at_most : (z : ℤ) (n : ℕ) → neg_ℤ (pos n) ≤ℤ z → z ≤ℤ pos n → unsigned_abs z ≤ n
-size_at_most (pos m) n least greatest = omega (arith, ints, greatest)
-size_at_most (negsuc m) n least greatest = omega (arith, ints, least)
+size_at_most z n least greatest = grind arith
 
 least_of_size : (z : ℤ) (n : ℕ) → unsigned_abs z ≤ n → neg_ℤ (pos n) ≤ℤ z
-least_of_size (pos m) n few = omega (arith, ints, few)
-least_of_size (negsuc m) n few = omega (arith, ints, few)
+least_of_size z n few = grind arith
 
 -- a product of a factor and a narrow number: its size, and how far it is above 0
 product_size : (a x : ℤ) → IsFactor a → IsNarrow x → unsigned_abs (a *ℤ x) ≤ 2 ^ 31 * (2 ^ 32 - 1)
-product_size a x factor value =
-    let first : unsigned_abs a ≤ 2 ^ 31 = size_at_most a (2 ^ 31) factor.0 (omega (arith, ints, factor.1)) in
-    let second : unsigned_abs x ≤ 2 ^ 32 - 1 = size_at_most x (2 ^ 32 - 1) (omega (arith, ints, value.0)) (omega (arith, ints, value.1)) in
-    let both : unsigned_abs a * unsigned_abs x ≤ 2 ^ 31 * (2 ^ 32 - 1) = mul-le-mul first second in
-    omega (arith, unsigned_abs-mul a x, both)
+product_size a x factor value = grind (arith, unsigned_abs, size_at_most, mul-le-mul, unsigned_abs-mul)
 
 above_zero : (a x : ℤ) → IsFactor a → IsNarrow x → (a *ℤ x) ≤ℤ pos ((2 ^ 31 - 1) * (2 ^ 32 - 1))
-above_zero (pos a) (pos x) factor value =
-    let first : a ≤ 2 ^ 31 - 1 = omega (arith, ints, factor.1) in
-    let second : x ≤ 2 ^ 32 - 1 = omega (arith, ints, value.1) in
-    let both : a * x ≤ (2 ^ 31 - 1) * (2 ^ 32 - 1) = mul-le-mul first second in
-    omega (arith, ints, both)
-above_zero (negsuc a) (negsuc x) factor value =
-    let first : suc a ≤ 2 ^ 31 = omega (arith, ints, factor.0) in
-    let second : suc x ≤ 2 ^ 31 = omega (arith, ints, value.0) in
-    let both : suc a * suc x ≤ 2 ^ 31 * 2 ^ 31 = mul-le-mul first second in
-    omega (arith, ints, both)
-above_zero (pos zero) (negsuc x) factor value = omega (arith, ints)
-above_zero (pos (suc a)) (negsuc x) factor value = omega (arith, ints)
-above_zero (negsuc a) (pos zero) factor value = omega (arith, ints)
-above_zero (negsuc a) (pos (suc x)) factor value = omega (arith, ints)
+above_zero a x factor value = grind (arith, mul-le-mul)
 
 product_fits : (a x : ℤ) → IsFactor a → IsNarrow x → FitsSigned w64 (a *ℤ x)
 product_fits a x factor value = fits_signed_from_abs w64 (a *ℤ x) (omega (arith, product_size a x factor value))
 
 fits_between : (z : ℤ) → neg_ℤ (pos (2 ^ 63)) ≤ℤ z → z ≤ℤ pos (2 ^ 63 - 1) → FitsSigned w64 z
-fits_between (pos n) least greatest = record { sfits = omega (arith, ints, greatest) }
-fits_between (negsuc n) least greatest = record { sfits = omega (arith, ints, least) }
+fits_between z least greatest = grind arith
 
 sum_fits : (a x y : ℤ) → IsFactor a → IsNarrow x → IsNarrow y → FitsSigned w64 (a *ℤ x +ℤ y)
 sum_fits a x y factor value added =
@@ -56,8 +36,7 @@ sum_fits a x y factor value added =
 
 -- those of each two that stand beside each other
 pub products_fit : (a : ℤ) (xs ys : List ℤ) → IsFactor a → Each1 IsNarrow xs → Each1 IsNarrow ys → ProductsFit (λ z. z) (λ z. FitsSigned w64 z) a xs ys
-products_fit a xs ys factor narrow added =
-    Each2-of IsNarrow IsNarrow (λ x y. FitsSigned w64 (a *ℤ x) × FitsSigned w64 (a *ℤ x +ℤ y)) (λ x y p q. (product_fits a x factor p, sum_fits a x y factor p q)) xs ys narrow added
+products_fit a xs ys factor narrow added = grind (arith, Each2-of, product_fits, sum_fits)
 
 -- a number that some narrow ones can sum to, and the sum of more of them
 record IsSumOf (count : ℕ) (sum : ℤ) : Type 0 where

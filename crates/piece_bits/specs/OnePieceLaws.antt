@@ -20,9 +20,7 @@ one_next piece = next_piece (piece ∷ []) 0 0 piece (omega arith) refl
 
 -- as many places as bits
 pub one_count : (piece : Piece) → length (spots_of (piece ∷ [])) ≡ piece.bits
-one_count piece =
-    let more : 0 + piece.bits ≡ length (spots_of (piece ∷ [])) = (one_next piece).more in
-    omega arith
+one_count piece = grind (arith, one_next)
 
 pub one_at : (piece : Piece) (k : ℕ) → k < piece.bits → spot_at (spots_of (piece ∷ [])) k ≡ (piece.blob, piece.bit + k)
 one_at piece k l =
@@ -32,12 +30,7 @@ one_at piece k l =
 -- the bits of the piece, as a number
 pub read_one : (blobs : List (List ℕ)) (piece : Piece) (value : ℕ) → value ≡ number (λ k. bit_of (get_or blobs piece.blob []) (piece.bit + k)) piece.bits →
     value ≡ number (bit_at_spot (bit_in blobs) (spots_of (piece ∷ []))) (length (spots_of (piece ∷ [])))
-read_one blobs piece value is =
-    let bits : ℕ → ℕ = bit_at_spot (bit_in blobs) (spots_of (piece ∷ [])) in
-    let same : number bits piece.bits ≡ number (λ k. bit_of (get_or blobs piece.blob []) (piece.bit + k)) piece.bits =
-    number_same bits (λ k. bit_of (get_or blobs piece.blob []) (piece.bit + k)) piece.bits
-    (λ k l. ap (λ (w : ℕ × ℕ). bit_in blobs w.0 w.1) (one_at piece k l)) in
-    is ∙ sym same ∙ ap (number bits) (sym (one_count piece))
+read_one blobs piece value is = grind (arith, number_same, one_at, one_count)
 
 -- the bits of the piece are written, and no others
 pub write_one : (blobs : List (List ℕ)) (piece : Piece) (value : ℕ) (new : List ℕ) → IsWithin blobs piece → AreApart (spots_of (piece ∷ [])) → value < 2 ^ piece.bits →
@@ -78,9 +71,7 @@ module _ {layout : List (List Owner)} {slots : ℕ} {holds : List Hold} {slot ce
       (before : (k : ℕ) → k < piece.bit → bit_of new k ≡ bit_of old k)
       (after : (k : ℕ) → piece.bit + piece.bits ≤ k → bit_of new k ≡ bit_of old k) (len : length new ≡ length old) where
     small : code < 2 ^ piece.bits
-    small =
-        subst (λ (w : ℕ). w < 2 ^ piece.bits) (sym code_is)
-        (subst (λ (n : ℕ). number (digit value) hold.width < 2 ^ n) (sym one_width) (number_lt (digit value) hold.width (λ k l. digit_lt value k)))
+    small = grind (arith, one_width, number_lt, digit_lt)
 
     written : AreWritten blobs (set blobs piece.blob new) (spots_of (piece ∷ [])) (length (spots_of (piece ∷ []))) code
     written =

@@ -1,7 +1,6 @@
 -- A short form of a rule says where a cell lies.
-use Rattle.std.proofs.Common.{◌≡◌, ℕ, ◌^◌, ◌<◌, ◌≤◌, List, [], ◌∷◌, length, sym, subst, arith}
+use Rattle.std.proofs.Common.{ℕ, ◌^◌, ◌<◌, ◌≤◌, List, length, sym, subst, arith}
 use Rattle.extents.specs.declared.order.Order.{Order}
-use Rattle.extents.specs.declared.order.Order.TheVariants.{Morton}
 use Rattle.extents.specs.Indices.{indices}
 use Rattle.linearize.specs.Slots.{slot_at, slot_count}
 use Rattle.linearize.specs.SlotsLaws.{slot_at_below}
@@ -13,7 +12,7 @@ use Rattle.places.specs.PieceRules.{pieces_in}
 use Rattle.places.specs.declared.rule.PieceRule.{PieceRule}
 use Rattle.piece_bits.specs.Shorts.{slot_in, start_in, short_pieces, IsShortOf, IsShortIn}
 use Rattle.piece_bits.specs.declared.short.ShortRule.{ShortRule}
-use Rattle.piece_bits.specs.declared.walk.Walk.TheVariants as walk
+use Rattle.std.proofs.Common.{rules}
 
 pub short_in : (layout : List (List Owner)) (order : Order) (extents : List ℕ) (cell width : ℕ) (hold : Hold) (rules : List PieceRule) (short : ShortRule)
     → slot_count order extents ≤ 2 ^ 24
@@ -25,21 +24,4 @@ short_in layout order extents cell width hold rules short few placed h =
     subst (λ (s : ℕ). IsLocated layout row cell width (pieces_in rules s)) (sym (h.path.slots row inside)) (placed row inside) in
     h.stands layout row cell width (slot_in short row) here in
     let lines : ℕ = short.lines in
-    let columns : ℕ = short.columns.columns in
-    record {
-      held = h.held;
-      starts = λ row inside.
-          let over : short.walk ≡ walk.Morton → row < length (indices (lines ∷ columns ∷ [])) = λ turned.
-          subst (λ (e : List ℕ). row < length (indices e)) (h.path.over turned) inside in
-          let narrow : short.walk ≡ walk.Morton → slot_count Morton (lines ∷ columns ∷ []) ≤ 2 ^ 24 = λ turned.
-          subst (λ (o : Order). slot_count o (lines ∷ columns ∷ []) ≤ 2 ^ 24) (h.path.turned turned)
-          (subst (λ (e : List ℕ). slot_count order e ≤ 2 ^ 24) (h.path.over turned) few) in
-          record {
-            row_in = omega (arith, h.rows);
-            slot_in = omega (arith, h.path.slots row inside, slot_at_below order extents row inside);
-            fits = (there row inside).1;
-            line = λ turned. line_narrow lines columns row (over turned) (narrow turned);
-            column = λ turned. column_narrow lines columns row (over turned) (narrow turned);
-          };
-      located = λ row inside. (there row inside).0;
-    }
+    let columns : ℕ = short.columns.columns in grind (arith, slot_at_below, line_narrow, column_narrow)

@@ -1,14 +1,10 @@
 -- The rows of a stretch have a place that can be worked out.
-use Rattle.std.proofs.Common.{◌≡◌, ℕ, ◌+◌, ◌^◌, ◌<◌, arith}
+use Rattle.std.proofs.Common.{ℕ, ◌+◌, ◌^◌, ◌<◌, arith}
 use Rattle.piece_bits.specs.Shorts.{HasStart}
 use Rattle.piece_bits.specs.Stretches.{stretch_place, IsStretch}
 use Rattle.piece_bits.specs.declared.short.ShortRule.{ShortRule}
-use Rattle.piece_bits.specs.declared.stretch.Spread.TheVariants.{Digits}
 use Rattle.piece_bits.specs.declared.stretch.Stretch.{Stretch}
 
 module _ (short : ShortRule) (row most : ℕ) (s : Stretch) (h : IsStretch short row most s) (k : ℕ) (inside : k < s.rows) where
   pub stretch_fits : ((j : ℕ) → j < most → HasStart short (row + j)) → stretch_place s k < 2 ^ 64
   stretch_fits starts = omega (arith, h.place k inside, (starts k (omega (arith, inside, h.few))).fits)
-
-  pub stretch_small : s.spread ≡ Digits → k < 16
-  stretch_small digits = omega (arith, inside, h.digits digits)

@@ -1,5 +1,5 @@
 -- Tables by their entries: when two are equal, what one changed entry does, and the entries of a table that is read off bits.
-use Rattle.std.proofs.Common.{◌≡◌, ℕ, ◌+◌, ◌<◌, Bool, ℤ, pos, List, [], length, get_or, set, map, replicate, sym, ap, ◌∙◌, ⊎_elim, arith}
+use Rattle.std.proofs.Common.{◌≡◌, ℕ, ◌+◌, ◌<◌, Bool, ℤ, pos, List, [], length, get_or, set, map, sym, ap, ◌∙◌, arith}
 use Rattle.std.specs.List.{enumerate_from}
 use Rattle.std.proofs.lemmas.List.{length-map, length-set, length-replicate, get_or-map, get_or-replicate, get_or-set_same, get_or-set_other, ext_get_or}
 use Rattle.std.proofs.lemmas.List.FromFn.{length-map-range_with_len, get_or-map-range_with_len, length-enumerate_from, get_or-enumerate_from}
@@ -28,30 +28,13 @@ module _ (rows leaves : ℕ) (table : List (List ℤ)) (shape : HasShape rows le
 
   -- a changed table keeps its shape
   pub with_entry_shape : HasShape rows leaves (with_entry table row leaf value)
-  with_entry_shape = record {
-    row_count = length-set table row (set (get_or table row []) leaf value) ∙ shape.row_count;
-    leaf_count = λ r l.
-        ⊎_elim (λ (same : r ≡ row).
-        ap (λ (w : ℕ). length (get_or (with_entry table row leaf value) w [])) same ∙ ap (length {A = ℤ}) row_same
-        ∙ length-set (get_or table row []) leaf value ∙ shape.leaf_count row row_in)
-        (λ (other : r ≡ row → ⊥). ap (length {A = ℤ}) (row_other r other) ∙ shape.leaf_count r l)
-        (cases_eq r row);
-  }
+  with_entry_shape = grind (arith, length-set, row_same, row_other, cases_eq)
 
   pub with_entry_same : entry (with_entry table row leaf value) row leaf ≡ value
-  with_entry_same =
-      ap (λ (w : List ℤ). get_or w leaf (pos 0)) row_same
-      ∙ get_or-set_same (get_or table row []) leaf value (pos 0) (omega (arith, shape.leaf_count row row_in))
+  with_entry_same = grind (arith, row_same, get_or-set_same)
 
   pub with_entry_other : (r c : ℕ) → ((r ≡ row) × (c ≡ leaf) → ⊥) → entry (with_entry table row leaf value) r c ≡ entry table r c
-  with_entry_other r c other =
-      ⊎_elim (λ (same : r ≡ row).
-      ap (λ (w : ℕ). entry (with_entry table row leaf value) w c) same
-      ∙ ap (λ (w : List ℤ). get_or w c (pos 0)) row_same
-      ∙ get_or-set_other (get_or table row []) leaf c value (pos 0) (λ e. other (same, e))
-      ∙ ap (λ (w : ℕ). entry table w c) (sym same))
-      (λ (apart : r ≡ row → ⊥). ap (λ (w : List ℤ). get_or w c (pos 0)) (row_other r apart))
-      (cases_eq r row)
+  with_entry_other r c other = grind (arith, row_same, get_or-set_other, row_other, cases_eq)
 
   -- the table whose entry is the value and whose other entries stand is the table with this entry
   pub is_with_entry : (new : List (List ℤ)) → HasShape rows leaves new → entry new row leaf ≡ value
@@ -59,31 +42,14 @@ module _ (rows leaves : ℕ) (table : List (List ℤ)) (shape : HasShape rows le
       → new ≡ with_entry table row leaf value
   is_with_entry new shaped is others =
       tables_same rows leaves new (with_entry table row leaf value) shaped with_entry_shape
-      (λ r c l m.
-      ⊎_elim (λ (same_row : r ≡ row).
-      ⊎_elim (λ (same_leaf : c ≡ leaf).
-      ap (λ (w : ℕ). entry new w c) same_row ∙ ap (entry new row) same_leaf ∙ is ∙ sym with_entry_same
-      ∙ ap (entry (with_entry table row leaf value) row) (sym same_leaf)
-      ∙ ap (λ (w : ℕ). entry (with_entry table row leaf value) w c) (sym same_row))
-      (λ (apart : c ≡ leaf → ⊥).
-      let none : (r ≡ row) × (c ≡ leaf) → ⊥ = λ e. apart e.1 in
-      others r c l m none ∙ sym (with_entry_other r c none))
-      (cases_eq c leaf))
-      (λ (apart : r ≡ row → ⊥).
-      let none : (r ≡ row) × (c ≡ leaf) → ⊥ = λ e. apart e.0 in
-      others r c l m none ∙ sym (with_entry_other r c none))
-      (cases_eq r row))
+      (λ r c l m. grind (arith, with_entry_same, with_entry_other, cases_eq))
 
 -- a table of zeros
 pub zeros_shape : (rows leaves : ℕ) → HasShape rows leaves (zeros rows leaves)
-zeros_shape rows leaves = record {
-  row_count = length-replicate rows (replicate leaves (pos 0));
-  leaf_count = λ row l. ap (length {A = ℤ}) (get_or-replicate rows row (replicate leaves (pos 0)) [] l) ∙ length-replicate leaves (pos 0);
-}
+zeros_shape rows leaves = grind (arith, length-replicate, get_or-replicate)
 
 pub zeros_entry : (rows leaves row leaf : ℕ) → row < rows → leaf < leaves → entry (zeros rows leaves) row leaf ≡ pos 0
-zeros_entry rows leaves row leaf l m =
-    ap (λ (w : List ℤ). get_or w leaf (pos 0)) (get_or-replicate rows row (replicate leaves (pos 0)) [] l) ∙ get_or-replicate leaves leaf (pos 0) (pos 0) m
+zeros_entry rows leaves row leaf l m = grind (arith, get_or-replicate)
 
 module _ (layout : List (List Owner)) (rows : ℕ) (holds : List Hold) (bits : ℕ → ℕ → ℕ) where
   row_of : ℕ → List ℤ
@@ -103,10 +69,7 @@ module _ (layout : List (List Owner)) (rows : ℕ) (holds : List Hold) (bits : �
   -- the table that is read off bits has a number for each hold in each row
   pub table_shape : HasShape rows (length holds) (table_of layout rows (signs_and_widths holds) bits)
   unfolding row_of
-  table_shape = record {
-    row_count = length-map-range_with_len (λ r. row_of r) 0 rows;
-    leaf_count = λ row l. ap (length {A = ℤ}) (row_is row l) ∙ length-row_of row;
-  }
+  table_shape = grind (arith, length-map-range_with_len, row_is, length-row_of)
 
   -- an entry of it is the reading of its cell
   pub entry_is : (row cell : ℕ) (d : Hold) → row < rows → cell < length holds →

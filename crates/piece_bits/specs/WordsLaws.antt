@@ -1,5 +1,5 @@
 -- A word by its pieces: where its bits stand, and what is read and written there.
-use Rattle.std.proofs.Common.{◌≡◌, ℕ, ℤ, zero, suc, ◌+◌, ◌*◌, ◌-◌, ◌<◌, ◌≤◌, Bool, List, [], ◌∷◌, length, map, get_or, set, All, refl, sym, ap, ◌∙◌, subst, ⊎_elim, arith}
+use Rattle.std.proofs.Common.{◌≡◌, ℕ, ℤ, zero, suc, ◌+◌, ◌*◌, ◌-◌, ◌<◌, ◌≤◌, Bool, List, [], length, map, get_or, set, All, refl, sym, ap, ◌∙◌, subst, ⊎_elim, arith}
 use Rattle.std.specs.Int.{bit_at}
 use Rattle.std.proofs.lemmas.List.{length-append, get_or-append_right, get_or-set_same, get_or-set_other, get_or-map, map-set, set-get_or}
 use Rattle.std.proofs.lemmas.Bool.{cases_lt, cases_eq}
@@ -12,7 +12,7 @@ use Rattle.places.specs.NumbersLaws.{number_same}
 use Rattle.blobs.specs.Bits.{bit_of, bit_in}
 use Rattle.blobs.specs.Turned.{turned_place}
 use Rattle.piece_bits.specs.Inner.Spots.{spots_of, spot_at, bit_at_spot, IsWithin}
-use Rattle.piece_bits.specs.SpotsOfLaws.{spots_in, length-spots_in, next_piece, nowhere}
+use Rattle.piece_bits.specs.SpotsOfLaws.{length-spots_in, next_piece, nowhere}
 use Rattle.piece_bits.specs.OnePieceLaws.{one_count, one_at}
 use Rattle.piece_bits.specs.CellsLaws.{IsCell, bit_count, within, read_entry_is, written_table, written_padding, still_laid}
 use Rattle.piece_bits.specs.Tables.{AreSized, AreLaid, table_in, with_entry}
@@ -25,9 +25,7 @@ use Rattle.piece_bits.specs.declared.word.Word.TheVariants.{TurnedU16, TurnedU32
 -- bytes in reverse order have eight places each
 turned_count : (blob bit n : ℕ) → length (spots_of (turned_pieces blob bit n)) ≡ 8 * n
 turned_count blob bit zero = refl
-turned_count blob bit (suc n) =
-    let front : Piece = record { blob = blob; bit = bit + 8 * n; bits = 8 } in
-    omega (arith, length-append (spots_in front) (spots_of (turned_pieces blob bit n)), length-spots_in front, turned_count blob bit n)
+turned_count blob bit (suc n) = grind (arith, length-append, length-spots_in, (turned_count blob bit n))
 
 turned_spot : (blob bit n k : ℕ) → k < 8 * n → spot_at (spots_of (turned_pieces blob bit n)) k ≡ (blob, bit + turned_place (8 * n) k)
 turned_spot blob bit zero k h = absurd (omega arith)
@@ -35,14 +33,8 @@ turned_spot blob bit (suc n) k h =
     let front : Piece = record { blob = blob; bit = bit + 8 * n; bits = 8 } in
     let rest : List Piece = turned_pieces blob bit n in
     ⊎_elim
-    (λ (l : k < 8).
-    let from : 0 + k ≡ k = omega arith in
-    let place : bit + 8 * n + k ≡ bit + turned_place (8 * suc n) k = omega arith in
-    ap (spot_at (spots_of (front ∷ rest))) (sym from) ∙ (next_piece (front ∷ rest) 0 0 front (omega arith) refl).at k l ∙ ap (λ (w : ℕ). (blob, w)) place)
-    (λ (l : 8 ≤ k).
-    let place : bit + turned_place (8 * n) (k - 8) ≡ bit + turned_place (8 * suc n) k = omega arith in
-    get_or-append_right (spots_in front) (spots_of rest) 8 k (0, 0) (length-spots_in front) l
-    ∙ turned_spot blob bit n (k - 8) (omega arith) ∙ ap (λ (w : ℕ). (blob, w)) place)
+    (λ (l : k < 8). grind (arith, next_piece))
+    (λ (l : 8 ≤ k). grind (arith, get_or-append_right, length-spots_in, (turned_spot blob bit n (k - 8) (omega arith))))
     (cases_lt k 8)
 
 -- each place among these bytes is that of a bit
@@ -100,12 +92,7 @@ module _ (word : Word) (field : Field) (blobs : List (List ℕ)) (blob start : �
   -- its bits as a number, by its pieces
   by_pieces : (bytes : List ℕ) → bytes ≡ get_or blobs blob [] → number (λ k. bit_of bytes (word_place word start k)) (word_width word field)
       ≡ number (bit_at_spot (bit_in blobs) spots) (length spots)
-  by_pieces bytes is =
-      number_same (λ k. bit_of bytes (word_place word start k)) (bit_at_spot (bit_in blobs) spots) (word_width word field)
-      (λ k h.
-      ap (λ (w : List ℕ). bit_of w (word_place word start k)) is
-      ∙ sym (ap (λ (w : ℕ × ℕ). bit_in blobs w.0 w.1) (word_spot word field blob start k form h)))
-      ∙ ap (number (bit_at_spot (bit_in blobs) spots)) (sym (word_count word field blob start form))
+  by_pieces bytes is = grind (arith, number_same, word_spot, word_count)
 
   -- its bits are written, and no others
   module _ (new : List ℕ) (value : ℕ) (blob_in : blob < length blobs)

@@ -62,10 +62,7 @@ module _ (start blobs : List (List ℕ)) (pieces : List Piece) (i done value : �
   written_inside : (k : ℕ) → k < done + piece.bits → bit_at_spot (bit_in (set blobs piece.blob new)) (spots_of pieces) k ≡ bit_at value k
   written_inside k l =
       let spot = spot_at (spots_of pieces) k in
-      ⊎_elim (λ (m : k < done).
-      let none : (j : ℕ) → j < piece.bits → spot_at (spots_of pieces) (done + j) ≡ (spot.0, spot.1) → ⊥ =
-      λ j n same. (let equal : done + j ≡ k = apart (done + j) k (omega (arith, next.within)) (omega (arith, next.within)) same in omega arith) in
-      stands spot.0 spot.1 none ∙ so_far.inside k m)
+      ⊎_elim (λ (m : k < done). grind (arith, stands))
       (λ (m : done ≤ k).
       let back : done + (k - done) ≡ k = omega arith in
       let at : spot_at (spots_of pieces) k ≡ (piece.blob, piece.bit + (k - done)) =

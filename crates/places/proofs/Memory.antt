@@ -1,5 +1,5 @@
 -- Writing and reading cells under a layout with the laws.
-use Rattle.std.proofs.Common.{◌≡◌, ℕ, ◌<◌, ◌≤◌, true, false, ◌==◌, ◌&&◌, ⊎_elim, ℤ, List, map, length, slice_index, refl, sym, ap, ◌∙◌, arith}
+use Rattle.std.proofs.Common.{◌≡◌, ℕ, ◌<◌, ◌≤◌, ℤ, List, map, length, slice_index, ap, ◌∙◌, arith}
 use Rattle.std.proofs.lemmas.Bool.{cases_Bool, cond-true, cond-false, and_from, and_parts, eq-eqb, eqb-true}
 use Rattle.std.proofs.lemmas.List.{get_or-map, length-map}
 use Rattle.std.proofs.lemmas.Option.{slice_get_within, get_or_from_slice_get}
@@ -14,40 +14,21 @@ use Rattle.places.specs.OwnedLaws.{found_owned, owned_is}
 -- bits that agree wherever an owner stands give it the same bit
 pub owned_same : (layout : List (List Owner)) (slots : ℕ) (widths : List ℕ) (s c k : ℕ) (old new : ℕ → ℕ → ℕ) → IsLaidOut layout slots widths
     → ((b p : ℕ) → owner_at layout b p ≡ Bit s c k → new b p ≡ old b p) → bit_owned (Bit s c k) layout new ≡ bit_owned (Bit s c k) layout old
-owned_same layout slots widths s c k old new laid same =
-    ⊎_elim
-    (λ (f : (b : ℕ) × (p : ℕ) × (owner_at layout b p ≡ Bit s c k) × (bit_owned (Bit s c k) layout new ≡ new b p)).
-    f.3 ∙ same f.0 f.1 f.2 ∙ sym (owned_is layout slots widths old f.0 f.1 s c k laid f.2))
-    (λ (n : ((b p : ℕ) → owner_at layout b p ≡ Bit s c k → ⊥) × (bit_owned (Bit s c k) layout new ≡ 0)).
-    ⊎_elim
-    (λ (f : (b : ℕ) × (p : ℕ) × (owner_at layout b p ≡ Bit s c k) × (bit_owned (Bit s c k) layout old ≡ old b p)). absurd (n.0 f.0 f.1 f.2))
-    (λ (m : ((b p : ℕ) → owner_at layout b p ≡ Bit s c k → ⊥) × (bit_owned (Bit s c k) layout old ≡ 0)). n.1 ∙ sym m.1)
-    (found_owned s c k layout old))
-    (found_owned s c k layout new)
+owned_same layout slots widths s c k old new laid same = grind (arith, owned_is, found_owned)
 
 -- what a write leaves at a bit of the cell, and at another's
 pub written_here : (slot cell k : ℕ) (value : ℤ) (old : ℕ) → written_bit (Bit slot cell k) slot cell value old ≡ digit value k
-written_here slot cell k value old =
-    cond-true ((slot == slot) && (cell == cell)) (digit value k) old (and_from (slot == slot) (cell == cell) (eq-eqb slot slot refl) (eq-eqb cell cell refl))
+written_here slot cell k value old = grind (arith, cond-true, and_from, eq-eqb)
 
 pub written_other : (s c k slot cell : ℕ) (value : ℤ) (old : ℕ) → (s ≡ slot → c ≡ cell → ⊥) → written_bit (Bit s c k) slot cell value old ≡ old
-written_other s c k slot cell value old other =
-    ⊎_elim
-    (λ (yes : ((s == slot) && (c == cell)) ≡ true).
-    let both = and_parts (s == slot) (c == cell) yes in
-    absurd (other (eqb-true s slot both.0) (eqb-true c cell both.1)))
-    (λ (not' : ((s == slot) && (c == cell)) ≡ false). cond-false ((s == slot) && (c == cell)) (digit value k) old not')
-    (cases_Bool ((s == slot) && (c == cell)))
+written_other s c k slot cell value old other = grind (arith, and_parts, eqb-true, cond-false, cases_Bool)
 
 pub writes_keep_others : (layout : List (List Owner)) (slots : ℕ) (widths : List ℕ) → IsLaidOut layout slots widths → WritesKeepOthers layout
 writes_keep_others layout slots widths laid slot cell value old new write s c signed width other =
     let same : (k : ℕ) → bit_owned (Bit s c k) layout new ≡ bit_owned (Bit s c k) layout old =
     λ k. owned_same layout slots widths s c k old new laid
-    (λ b p e. write b p
-    ∙ ap (λ (o : Owner). written_bit o slot cell value (old b p)) e
-    ∙ written_other s c k slot cell value (old b p) other) in
-    ap (decoded signed width)
-    (number_same (λ k. bit_owned (Bit s c k) layout new) (λ k. bit_owned (Bit s c k) layout old) width (λ k l. same k))
+    (λ b p e. grind (arith, written_other)) in
+    grind (arith, number_same)
 
 pub writes_read_back : (layout : List (List Owner)) (slots : ℕ) (holds : List Hold) → IsLaidOut layout slots (map (λ (h : Hold). h.width) holds)
     → WritesReadBack layout slots holds

@@ -10,6 +10,7 @@ use Rattle.places.specs.Layout.{Owner}
 use Rattle.places.specs.Lawful.{IsPiece, IsLocated}
 use Rattle.places.specs.PieceRules.{begin_in, piece_in, pieces_in}
 use Rattle.places.specs.declared.rule.PieceRule.{PieceRule}
+use Rattle.std.proofs.Common.{rules}
 
 -- pieces that are places of a layout begin at numbers that fit their type
 pub begins_fit : (layout : List (List Owner)) (s c w slot : ℕ) (rules : List PieceRule) → IsLocated layout s c w (pieces_in rules slot)
@@ -25,17 +26,11 @@ begins_fit layout s c w slot rules located = λ k d inside.
 
 -- in blocks of one slot, slots follow each other a block apart
 pub one_lane : (base slot block lane : ℕ) → base + slot / 1 * block + slot % 1 * lane ≡ base + slot * block
-one_lane base slot block lane =
-    let quotient : slot / 1 ≡ slot = omega arith in
-    let rest : slot % 1 ≡ 0 = omega arith in
-    let blocks : slot / 1 * block ≡ slot * block = ap (λ (n : ℕ). n * block) quotient in
-    let lanes : slot % 1 * lane ≡ 0 * lane = ap (λ (n : ℕ). n * lane) rest in
-    omega arith
+one_lane base slot block lane = grind arith
 
 -- in blocks of a power of two the place in the block is what a mask leaves
 pub masked : (slot lanes power lane : ℕ) → lanes ≡ 2 ^ power → bit_and slot (lanes - 1) * lane ≡ slot % lanes * lane
-masked slot lanes power lane e =
-    ap (λ (n : ℕ). bit_and slot (n - 1) * lane) e ∙ ap (λ (n : ℕ). n * lane) (and_mask slot power) ∙ ap (λ (n : ℕ). slot % n * lane) (sym e)
+masked slot lanes power lane e = grind (arith, bit_and, and_mask)
 
 -- and the number of the block what a shift leaves
 pub powered : (slot lanes power block : ℕ) → lanes ≡ 2 ^ power → slot / 2 ^ power * block ≡ slot / lanes * block

@@ -1,5 +1,5 @@
 -- The widths of cells that are stored whole, as the laws and as the code write them.
-use Rattle.std.proofs.Common.{◌≡◌, ℕ, ◌<◌, ◌≤◌, List, map, length, get_or, slice_index, All, sym, ap, ◌∙◌, subst, arith}
+use Rattle.std.proofs.Common.{◌≡◌, ℕ, ◌<◌, ◌≤◌, List, map, length, get_or, slice_index, All, arith}
 use Rattle.std.proofs.lemmas.List.{get_or-map, length-map}
 use Rattle.record_dim.specs.LeafTypes.{width_of}
 use Rattle.places.specs.Layout.{cells_of}
@@ -23,9 +23,7 @@ width_at holds cell d l = get_or-map (λ (h : Hold). h.width) holds cell d 0 l
 
 -- a cell's width is one of the four
 pub member_width : (widths : List ℕ) (c w : ℕ) → All IsWidth widths → Member (cells_of widths) c w → IsWidth w
-member_width widths c w each m =
-    let r = member_cells widths c w m in
-    subst IsWidth (sym r.1) (each c 0 r.0)
+member_width widths c w each m = grind (arith, member_cells)
 
 -- one width, in the words of the laws
 pub record IsCellWidth (cells : List Cell) (cell width : ℕ) : Type 0 where
@@ -36,21 +34,9 @@ pub record IsCellWidth (cells : List Cell) (cell width : ℕ) : Type 0 where
   pub low : width ≤ 64
 
 pub cell_width : (cells : List Cell) (cell width : ℕ) → cell < length cells → width ≡ slice_index (widths_of cells) cell → IsCellWidth cells cell width
-cell_width cells cell width inside e =
-    let size : length (widths_of cells) ≡ length cells = length-widths cells in
-    let cell_in : cell < length (widths_of cells) = omega arith in
-    let some : 1 ≤ slice_index (widths_of cells) cell = widths_wide cells cell 0 cell_in in
-    let low : slice_index (widths_of cells) cell ≤ 64 = widths_narrow cells cell 0 cell_in in
-    record {
-      inside = cell_in;
-      hold = ap (λ (ws : List ℕ). slice_index ws cell) (widths_full cells) ∙ sym e;
-      same = sym e;
-      some = omega arith;
-      low = omega arith;
-    }
+cell_width cells cell width inside e = grind (arith, length-widths, slice_index, widths_wide, widths_narrow, widths_full)
 
 -- a width as the code reads it
 pub width_read : (cells : List Cell) (cell : ℕ) (found : Cell) (width : ℕ) → cell < length cells → found ≡ get_or cells cell found → width ≡ width_of found.kind
     → width ≡ slice_index (widths_of cells) cell
-width_read cells cell found width inside read w =
-    w ∙ ap (λ (c : Cell). width_of c.kind) read ∙ sym (get_or-map (λ (c : Cell). width_of c.kind) cells cell found 0 inside)
+width_read cells cell found width inside read w = grind (arith, get_or-map)

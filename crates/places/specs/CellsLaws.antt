@@ -1,5 +1,5 @@
 -- Lists of cells: which cells stand in them.
-use Rattle.std.proofs.Common.{◌≡◌, ℕ, zero, suc, refl, ◌+◌, ◌-◌, ◌<◌, ◌≤◌, inl, inr, ⊎_elim, List, [], ◌∷◌, length, get_or, slice_index, take, sym, ap, ◌∙◌, subst, arith}
+use Rattle.std.proofs.Common.{◌≡◌, ℕ, zero, suc, refl, ◌+◌, ◌-◌, ◌<◌, ◌≤◌, inl, inr, ⊎_elim, List, [], ◌∷◌, length, get_or, slice_index, take, sym, subst, arith}
 use Rattle.std.specs.List.{enumerate_from}
 use Rattle.std.proofs.lemmas.Bool.{cases_eq}
 use Rattle.places.specs.Layout.{cells_of}
@@ -13,17 +13,9 @@ member_enumerate n [] c w h = absurd h
 member_enumerate n (width ∷ widths) c w h =
     ⊎_elim
     (λ (here : (n ≡ c) × (width ≡ w)).
-    let same : n ≡ c = here.0 in
-    let first : c - n ≡ 0 = omega arith in
-    let value : w ≡ get_or (width ∷ widths) (c - n) 0 = sym here.1 ∙ sym (ap (λ (i : ℕ). get_or (width ∷ widths) i 0) first) in
-    ((let l : n ≤ c = omega arith in l), (let l : c < n + suc (length widths) = omega arith in l), value))
+    grind arith)
     (λ (later : Member (enumerate_from (n + 1) widths) c w).
-    let r = member_enumerate (n + 1) widths c w later in
-    let low : n + 1 ≤ c = r.0 in
-    let high : c < n + 1 + length widths = r.1 in
-    let place : suc (c - (n + 1)) ≡ c - n = omega arith in
-    let value : w ≡ get_or (width ∷ widths) (c - n) 0 = r.2 ∙ ap (λ (i : ℕ). get_or (width ∷ widths) i 0) place in
-    ((let l : n ≤ c = omega arith in l), (let l : c < n + suc (length widths) = omega arith in l), value))
+    grind (arith, (member_enumerate (n + 1) widths c w later)))
     h
 
 pub enumerate_member : (n : ℕ) (widths : List ℕ) (c : ℕ) → n ≤ c → c < n + length widths → Member (enumerate_from n widths) c (get_or widths (c - n) 0)
@@ -31,8 +23,7 @@ enumerate_member n [] c low high = let none : ⊥ = omega arith in absurd none
 enumerate_member n (width ∷ widths) c low high =
     ⊎_elim
     (λ (same : n ≡ c).
-    let first : 0 ≡ c - n = omega arith in
-    inl (same, ap (λ (i : ℕ). get_or (width ∷ widths) i 0) first))
+    grind arith)
     (λ (other : n ≡ c → ⊥).
     let later : n + 1 ≤ c = omega arith in
     let place : suc (c - (n + 1)) ≡ c - n = omega arith in
@@ -43,18 +34,12 @@ enumerate_member n (width ∷ widths) c low high =
 pub apart_enumerate : (n : ℕ) (widths : List ℕ) → Apart (enumerate_from n widths)
 apart_enumerate n [] = tt
 apart_enumerate n (width ∷ widths) = (
-  (λ w (later : Member (enumerate_from (n + 1) widths) n w).
-      let low : n + 1 ≤ n = (member_enumerate (n + 1) widths n w later).0 in
-      let none : ⊥ = omega arith in none),
+  grind (arith, member_enumerate),
   apart_enumerate (n + 1) widths,
 )
 
 pub member_cells : (widths : List ℕ) (c w : ℕ) → Member (cells_of widths) c w → (c < length widths) × (w ≡ slice_index widths c)
-member_cells widths c w h =
-    let r = member_enumerate 0 widths c w h in
-    let high : c < 0 + length widths = r.1 in
-    let place : c - 0 ≡ c = omega arith in
-    ((let l : c < length widths = omega arith in l), r.2 ∙ ap (λ (i : ℕ). get_or widths i 0) place)
+member_cells widths c w h = grind (arith, member_enumerate)
 
 pub cells_member : (widths : List ℕ) (c : ℕ) → c < length widths → Member (cells_of widths) c (slice_index widths c)
 cells_member widths c inside =
@@ -63,11 +48,7 @@ cells_member widths c inside =
 
 -- the bits of the slots' cells, as the combinators say it
 pub bit_of_cells : (slots : ℕ) (widths : List ℕ) (s c k : ℕ) → s < slots → (w : ℕ) × Member (cells_of widths) c w × (k < w) → IsBitOf slots widths s c k
-bit_of_cells slots widths s c k slot_in h =
-    let r = member_cells widths c h.0 h.1 in
-    let same : h.0 ≡ slice_index widths c = r.1 in
-    let low : k < h.0 = h.2 in
-    record { slot_in = slot_in; cell_in = r.0; bit_in = omega arith }
+bit_of_cells slots widths s c k slot_in h = grind (arith, member_cells, slice_index)
 
 pub cells_of_bit : (slots : ℕ) (widths : List ℕ) (s c k : ℕ) → IsBitOf slots widths s c k → (w : ℕ) × Member (cells_of widths) c w × (k < w)
 cells_of_bit slots widths s c k h = (slice_index widths c, cells_member widths c h.cell_in, h.bit_in)

@@ -12,18 +12,13 @@ not_dense rule = record { next = λ slot j l. absurd (omega arith); bytes = λ s
 
 -- in blocks of one slot that follow each other
 begin_alone : (rule : PieceRule) (slot : ℕ) → rule.lanes ≡ 1 → begin_in rule slot ≡ rule.base + slot * rule.block
-begin_alone rule slot one =
-    ap (λ (n : ℕ). rule.base + slot / n * rule.block + slot % n * rule.lane) one ∙ one_lane rule.base slot rule.block rule.lane
+begin_alone rule slot one = grind (arith, one_lane)
 
 -- all slots of an array are one block
 pub dense_array : (rule : PieceRule) (lanes : ℕ) → rule.lanes ≡ 1 → rule.block ≡ rule.bits → rule.base % 8 ≡ 0 → rule.bits % 8 ≡ 0 → IsDense lanes rule
 dense_array rule lanes one step base bits = record {
   next = λ slot j l.
-      let product : (slot + j) * rule.block ≡ slot * rule.block + j * rule.block = grind arith in
-      let last : j * rule.block ≡ j * rule.bits = ap (λ (n : ℕ). j * n) step in
-      let here : begin_in rule slot ≡ rule.base + slot * rule.block = begin_alone rule slot one in
-      let there : begin_in rule (slot + j) ≡ rule.base + (slot + j) * rule.block = begin_alone rule (slot + j) one in
-      there ∙ (let e : rule.base + (slot + j) * rule.block ≡ rule.base + slot * rule.block + j * rule.bits = omega arith in e) ∙ ap (λ (n : ℕ). n + j * rule.bits) (sym here);
+      grind (arith, begin_alone);
   bytes = λ slot l.
       let block : (slot * rule.block) % 8 ≡ 0 = times_bytes slot rule.block (ap (λ (n : ℕ). n % 8) step ∙ bits) in
       let all : (rule.base + slot * rule.block) % 8 ≡ 0 = omega arith in
@@ -32,17 +27,10 @@ dense_array rule lanes one step base bits = record {
 
 -- a slot of the same block
 block_same : (slot j lanes : ℕ) → slot % lanes + j < lanes → (slot + j) / lanes ≡ slot / lanes
-block_same slot j lanes l =
-    let parts : slot / lanes * lanes + slot % lanes ≡ slot = div-add-mod' slot lanes in
-    let all : slot + j ≡ slot / lanes * lanes + (slot % lanes + j) = omega arith in
-    ap (λ (n : ℕ). n / lanes) all ∙ div-mul-add (slot / lanes) lanes (slot % lanes + j) l
+block_same slot j lanes l = grind (arith, div-add-mod', div-mul-add)
 
 lane_more : (slot j lanes : ℕ) → slot % lanes + j < lanes → (slot + j) % lanes ≡ slot % lanes + j
-lane_more slot j lanes l =
-    let parts : slot / lanes * lanes + slot % lanes ≡ slot = div-add-mod' slot lanes in
-    let there : (slot + j) / lanes * lanes + (slot + j) % lanes ≡ slot + j = div-add-mod' (slot + j) lanes in
-    let blocks : (slot + j) / lanes * lanes ≡ slot / lanes * lanes = ap (λ (n : ℕ). n * lanes) (block_same slot j lanes l) in
-    omega arith
+lane_more slot j lanes l = grind (arith, div-add-mod', block_same)
 
 -- the lanes of a block
 pub dense_lanes : (rule : PieceRule) (lanes : ℕ) → rule.lanes ≡ lanes → rule.lane ≡ rule.bits → rule.base % 8 ≡ 0 → rule.block % 8 ≡ 0 → rule.bits % 8 ≡ 0 → IsDense lanes rule

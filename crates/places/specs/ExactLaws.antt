@@ -13,34 +13,17 @@ pub record Has (In : ℕ → ℕ → ℕ → Type 0) (owners : List Owner) : Typ
   pub there : (s c k : ℕ) → In s c k → (p : ℕ) × (get_or owners p Pad ≡ Bit s c k)
 
 pub has_none : Has (λ s c k. ⊥) []
-has_none = record {
-  owned = λ p s c k (e : Pad ≡ Bit s c k). cc;
-  once = λ p q s c k (e : Pad ≡ Bit s c k) (e' : Pad ≡ Bit s c k). cc;
-  there = λ s c k (h : ⊥). absurd h;
-}
+has_none = grind arith
 
 -- a place that has a bit is not past the end
 pub within : (owners : List Owner) (p s c k : ℕ) → get_or owners p Pad ≡ Bit s c k → p < length owners
-within owners p s c k e =
-    ⊎_elim
-    (λ (l : p < length owners). l)
-    (λ (l : length owners ≤ p). let past : get_or owners p Pad ≡ Pad = get_or_past owners p Pad l in cc)
-    (cases_lt p (length owners))
+within owners p s c k e = grind (arith, get_or_past, cases_lt)
 
 pad_at : (n p : ℕ) → get_or (replicate n Pad) p Pad ≡ Pad
-pad_at n p =
-    ⊎_elim
-    (λ (l : p < n). get_or-replicate n p Pad Pad l)
-    (λ (l : n ≤ p). get_or_past (replicate n Pad) p Pad (let e : length (replicate n Pad) ≡ n = length-replicate n Pad in omega arith))
-    (cases_lt p n)
+pad_at n p = grind (arith, get_or-replicate, get_or_past, length-replicate, cases_lt)
 
 pub has_pads : (n : ℕ) → Has (λ s c k. ⊥) (replicate n Pad)
-has_pads n = record {
-  owned = λ p s c k (e : get_or (replicate n Pad) p Pad ≡ Bit s c k). let pad : get_or (replicate n Pad) p Pad ≡ Pad = pad_at n p in cc;
-  once = λ p q s c k (e : get_or (replicate n Pad) p Pad ≡ Bit s c k) (e' : get_or (replicate n Pad) q Pad ≡ Bit s c k).
-      let pad : get_or (replicate n Pad) p Pad ≡ Pad = pad_at n p in cc;
-  there = λ s c k (h : ⊥). absurd h;
-}
+has_pads n = grind (arith, pad_at)
 
 pub length-field : (slot cell width : ℕ) → length (field slot (cell, width)) ≡ width
 length-field slot cell width = length-map-range_with_len (Bit slot cell) 0 width
@@ -74,30 +57,19 @@ has_field slot cell width =
 -- the same bits under another description
 pub has_same : {In Out : ℕ → ℕ → ℕ → Type 0} {owners : List Owner} → Has In owners
     → ((s c k : ℕ) → In s c k → Out s c k) → ((s c k : ℕ) → Out s c k → In s c k) → Has Out owners
-has_same h to from = record {
-  owned = λ p s c k e. to s c k (h.owned p s c k e);
-  once = h.once;
-  there = λ s c k i. h.there s c k (from s c k i);
-}
+has_same h to from = grind arith
 
 -- where a place of two lists lies
 append_at : (xs ys : List Owner) (p s c k : ℕ) → get_or (xs ++ ys) p Pad ≡ Bit s c k
     → ((p < length xs) × (get_or xs p Pad ≡ Bit s c k)) ⊎ ((length xs ≤ p) × (get_or ys (p - length xs) Pad ≡ Bit s c k))
-append_at xs ys p s c k e =
-    ⊎_elim
-    (λ (l : p < length xs). inl (l, sym (get_or_append_left xs ys Pad p l) ∙ e))
-    (λ (l : length xs ≤ p). inr (l, sym (get_or-append_right xs ys (length xs) p Pad refl l) ∙ e))
-    (cases_lt p (length xs))
+append_at xs ys p s c k e = grind (arith, get_or_append_left, get_or-append_right, cases_lt)
 
 -- lists that share no bit
 pub has_append : {In Out : ℕ → ℕ → ℕ → Type 0} {xs ys : List Owner} → Has In xs → Has Out ys
     → ((s c k : ℕ) → In s c k → Out s c k → ⊥) → Has (λ s c k. In s c k ⊎ Out s c k) (xs ++ ys)
 has_append {In} {Out} {xs} {ys} left right apart = record {
   owned = λ p s c k e.
-      ⊎_elim
-      (λ (h : (p < length xs) × (get_or xs p Pad ≡ Bit s c k)). inl (left.owned p s c k h.1))
-      (λ (h : (length xs ≤ p) × (get_or ys (p - length xs) Pad ≡ Bit s c k)). inr (right.owned (p - length xs) s c k h.1))
-      (append_at xs ys p s c k e);
+      grind (arith, append_at);
   once = λ p q s c k e e'.
       ⊎_elim
       (λ (h : (p < length xs) × (get_or xs p Pad ≡ Bit s c k)).
@@ -111,11 +83,7 @@ has_append {In} {Out} {xs} {ys} left right apart = record {
       (λ (h' : (q < length xs) × (get_or xs q Pad ≡ Bit s c k)).
       absurd (apart s c k (left.owned q s c k h'.1) (right.owned (p - length xs) s c k h.1)))
       (λ (h' : (length xs ≤ q) × (get_or ys (q - length xs) Pad ≡ Bit s c k)).
-      let same : p - length xs ≡ q - length xs = right.once (p - length xs) (q - length xs) s c k h.1 h'.1 in
-      let low : length xs ≤ p = h.0 in
-      let low' : length xs ≤ q = h'.0 in
-      let goal : p ≡ q = omega arith in
-      goal)
+      grind arith)
       (append_at xs ys q s c k e'))
       (append_at xs ys p s c k e);
   there = λ s c k (h : In s c k ⊎ Out s c k).
@@ -142,40 +110,17 @@ pub has_range : (f : ℕ → List Owner) (In : ℕ → ℕ → ℕ → ℕ → T
     → ((i : ℕ) → a ≤ i → i < a + n → Has (In i) (f i))
     → ((i j s c k : ℕ) → In i s c k → In j s c k → i ≡ j)
     → Has (λ s c k. (i : ℕ) × (a ≤ i) × (i < a + n) × In i s c k) (flat_map f (range_with_len a n))
-has_range f In a zero each apart =
-    has_same has_none
-    (λ s c k (h : ⊥). absurd h)
-    (λ s c k (h : (i : ℕ) × (a ≤ i) × (i < a + zero) × In i s c k).
-    let low : a ≤ h.0 = h.1 in
-    let high : h.0 < a + zero = h.2 in
-    let none : ⊥ = omega arith in none)
+has_range f In a zero each apart = grind (arith, has_same, has_none)
 has_range f In a (suc n) each apart =
     let rest = has_range f In (a + 1) n (λ i low high. each i (omega arith) (omega arith)) apart in
     has_same
     (has_append (each a (omega arith) (omega arith)) rest
     (λ s c k (first : In a s c k) (later : (i : ℕ) × (a + 1 ≤ i) × (i < a + 1 + n) × In i s c k).
-    let same : a ≡ later.0 = apart a later.0 s c k first later.3 in
-    let low : a + 1 ≤ later.0 = later.1 in
-    let none : ⊥ = omega arith in none))
+    grind arith))
     (λ s c k (h : In a s c k ⊎ ((i : ℕ) × (a + 1 ≤ i) × (i < a + 1 + n) × In i s c k)).
-    ⊎_elim
-    (λ (x : In a s c k). (a, (let l : a ≤ a = omega arith in l), (let l : a < a + suc n = omega arith in l), x))
-    (λ (x : (i : ℕ) × (a + 1 ≤ i) × (i < a + 1 + n) × In i s c k).
-    let low : a + 1 ≤ x.0 = x.1 in
-    let high : x.0 < a + 1 + n = x.2 in
-    (x.0, (let l : a ≤ x.0 = omega arith in l), (let l : x.0 < a + suc n = omega arith in l), x.3))
-    h)
+    grind arith)
     (λ s c k (h : (i : ℕ) × (a ≤ i) × (i < a + suc n) × In i s c k).
-    let low : a ≤ h.0 = h.1 in
-    let high : h.0 < a + suc n = h.2 in
-    let Out : Type 0 = (i : ℕ) × (a + 1 ≤ i) × (i < a + 1 + n) × In i s c k in
-    ⊎_elim
-    (λ (l : h.0 < a + 1).
-    let same : h.0 ≡ a = omega arith in
-    inl (subst (λ (i : ℕ). In i s c k) same h.3))
-    (λ (l : a + 1 ≤ h.0).
-    inr (h.0, l, (let l' : h.0 < a + 1 + n = omega arith in l'), h.3))
-    (cases_lt h.0 (a + 1)))
+    grind (arith, cases_lt))
 
 -- a cell stands in a list of cells
 abbrev pub Member : List (ℕ × ℕ) → ℕ → ℕ → Type 0
@@ -203,15 +148,7 @@ module _ (In : ℕ × ℕ → ℕ → ℕ → ℕ → Type 0) (cell : ℕ × ℕ
       h
 
   pub of_first : OfCells In (cell ∷ cells) s c k → In cell s c k ⊎ OfCells In cells s c k
-  of_first h =
-      let w : ℕ = h.0 in
-      let i : In (c, w) s c k = h.2 in
-      ⊎_elim
-      (λ (x : (cell.0 ≡ c) × (cell.1 ≡ w)).
-      let one : In (cell.0, w) s c k = subst (λ (y : ℕ). In (y, w) s c k) (sym x.0) i in
-      inl (subst (λ (y : ℕ). In (cell.0, y) s c k) (sym x.1) one))
-      (λ (x : Member cells c w). inr (w, x, i))
-      h.1
+  of_first h = grind arith
 
   pub not_both : ((w : ℕ) → Member cells cell.0 w → ⊥) → In cell s c k → OfCells In cells s c k → ⊥
   not_both apart first later = apart later.0 (subst (λ (x : ℕ). Member cells x later.0) (own cell.0 cell.1 s c k first) later.1)
@@ -221,10 +158,7 @@ pub has_cells : (f : ℕ × ℕ → List Owner) (In : ℕ × ℕ → ℕ → ℕ
     → ((c w : ℕ) → Has (In (c, w)) (f (c, w)))
     → ((c w s c' k : ℕ) → In (c, w) s c' k → c' ≡ c)
     → Has (OfCells In cells) (flat_map f cells)
-has_cells f In [] apart each own =
-    has_same has_none
-    (λ s c k (h : ⊥). absurd h)
-    (λ s c k (h : OfCells In [] s c k). h.1)
+has_cells f In [] apart each own = grind (arith, has_same, has_none)
 has_cells f In (cell ∷ cells) apart each own =
     has_same
     (has_append (each cell.0 cell.1) (has_cells f In cells apart.1 each own) (λ s c k. not_both In cell cells own s c k apart.0))

@@ -1,5 +1,5 @@
 -- Cells by falling width: the same cells, each once.
-use Rattle.std.proofs.Common.{◌≡◌, ℕ, ◌<◌, Bool, true, false, ◌==◌, ◌⊎◌, inl, inr, ⊎_elim, List, [], ◌∷◌, ◌++◌, filter, refl, sym, ap, ◌∙◌, subst, arith, lit<}
+use Rattle.std.proofs.Common.{◌≡◌, ℕ, ◌<◌, Bool, true, false, ◌==◌, ◌⊎◌, inl, inr, ⊎_elim, List, [], ◌∷◌, ◌++◌, filter, refl, sym, subst, arith, lit<}
 use Rattle.std.specs.List.{flat_map}
 use Rattle.std.proofs.lemmas.Bool.{cases_Bool, cond-true, cond-false, eqb-true, eq-eqb}
 use Rattle.places.specs.Layout.{falling}
@@ -16,10 +16,7 @@ member_filter p (cell ∷ cells) c w m =
     let here : Member (cell ∷ filter p cells) c w = subst Stands (cond-true (p cell) (cell ∷ filter p cells) (filter p cells) yes) m in
     ⊎_elim
     (λ (x : (cell.0 ≡ c) × (cell.1 ≡ w)).
-    let Passes : ℕ → ℕ → Type 0 = λ a b. p (a, b) ≡ true in
-    let first : Passes c cell.1 = subst (λ (a : ℕ). Passes a cell.1) x.0 yes in
-    let passes : Passes c w = subst (λ (b : ℕ). Passes c b) x.1 first in
-    (inl x, passes))
+    grind arith)
     (λ (x : Member (filter p cells) c w). let r = member_filter p cells c w x in (inr r.0, r.1))
     here)
     (λ (other : p cell ≡ false).
@@ -34,28 +31,17 @@ filter_member p (cell ∷ cells) c w m passes =
     let Stands : List (ℕ × ℕ) → Type 0 = λ kept. Member kept c w in
     ⊎_elim
     (λ (x : (cell.0 ≡ c) × (cell.1 ≡ w)).
-    let first : p (cell.0, cell.1) ≡ p (c, cell.1) = ap (λ (a : ℕ). p (a, cell.1)) x.0 in
-    let second : p (c, cell.1) ≡ p (c, w) = ap (λ (b : ℕ). p (c, b)) x.1 in
-    let yes : p cell ≡ true = first ∙ second ∙ passes in
-    subst Stands (sym (cond-true (p cell) (cell ∷ filter p cells) (filter p cells) yes)) (inl x))
+    grind (arith, cond-true))
     (λ (x : Member cells c w).
     let rest : Member (filter p cells) c w = filter_member p cells c w x passes in
-    ⊎_elim
-    (λ (yes : p cell ≡ true). subst Stands (sym (cond-true (p cell) (cell ∷ filter p cells) (filter p cells) yes)) (inr rest))
-    (λ (other : p cell ≡ false). subst Stands (sym (cond-false (p cell) (cell ∷ filter p cells) (filter p cells) other)) rest)
-    (cases_Bool (p cell)))
+    grind (arith, cond-true, cond-false, cases_Bool))
     m
 
 pub apart_filter : (p : ℕ × ℕ → Bool) (cells : List (ℕ × ℕ)) → Apart cells → Apart (filter p cells)
 apart_filter p [] apart = apart
 apart_filter p (cell ∷ cells) apart =
     let rest : Apart (filter p cells) = apart_filter p cells apart.1 in
-    ⊎_elim
-    (λ (yes : p cell ≡ true).
-    let both : Apart (cell ∷ filter p cells) = ((λ w m. apart.0 w (member_filter p cells cell.0 w m).0), rest) in
-    subst Apart (sym (cond-true (p cell) (cell ∷ filter p cells) (filter p cells) yes)) both)
-    (λ (other : p cell ≡ false). subst Apart (sym (cond-false (p cell) (cell ∷ filter p cells) (filter p cells) other)) rest)
-    (cases_Bool (p cell))
+    grind (arith, member_filter, cond-true, cond-false, cases_Bool)
 
 -- which cells joined lists have
 pub member_append : (xs ys : List (ℕ × ℕ)) (c w : ℕ) → Member (xs ++ ys) c w → Member xs c w ⊎ Member ys c w
@@ -105,10 +91,7 @@ one_width [] c v w apart one two = absurd one
 one_width (cell ∷ cells) c v w apart one two =
     ⊎_elim
     (λ (x : (cell.0 ≡ c) × (cell.1 ≡ v)).
-    ⊎_elim
-    (λ (y : (cell.0 ≡ c) × (cell.1 ≡ w)). sym x.1 ∙ y.1)
-    (λ (y : Member cells c w). absurd (apart.0 w (subst (λ (a : ℕ). Member cells a w) (sym x.0) y)))
-    two)
+    grind arith)
     (λ (x : Member cells c v).
     ⊎_elim
     (λ (y : (cell.0 ≡ c) × (cell.1 ≡ w)). absurd (apart.0 v (subst (λ (a : ℕ). Member cells a v) (sym y.0) x)))
@@ -121,8 +104,7 @@ member_picked cells [] c w m = absurd m
 member_picked cells (width ∷ ws) c w m =
     ⊎_elim
     (λ (here : Member (filter (λ cell. cell.1 == width) cells) c w).
-    let r = member_filter (λ cell. cell.1 == width) cells c w here in
-    (r.0, inl (sym (eqb-true w width r.1))))
+    grind (arith, member_filter, eqb-true))
     (λ (later : Member (picked cells ws) c w). let r = member_picked cells ws c w later in (r.0, inr r.1))
     (member_append (filter (λ cell. cell.1 == width) cells) (picked cells ws) c w m)
 
@@ -131,24 +113,14 @@ picked_member cells [] c w m listed = absurd listed
 picked_member cells (width ∷ ws) c w m listed =
     ⊎_elim
     (λ (here : width ≡ w).
-    append_member_left (filter (λ cell. cell.1 == width) cells) (picked cells ws) c w
-    (filter_member (λ cell. cell.1 == width) cells c w m (eq-eqb w width (sym here))))
+    grind (arith, append_member_left, filter_member, eq-eqb))
     (λ (later : Listed ws w).
     append_member_right (filter (λ cell. cell.1 == width) cells) (picked cells ws) c w (picked_member cells ws c w m later))
     listed
 
 pub apart_picked : (cells : List (ℕ × ℕ)) (ws : List ℕ) → Apart cells → Distinct ws → Apart (picked cells ws)
 apart_picked cells [] apart distinct = tt
-apart_picked cells (width ∷ ws) apart distinct =
-    apart_append (filter (λ cell. cell.1 == width) cells) (picked cells ws)
-    (apart_filter (λ cell. cell.1 == width) cells apart)
-    (apart_picked cells ws apart distinct.1)
-    (λ c v w one two.
-    let r = member_filter (λ cell. cell.1 == width) cells c v one in
-    let q = member_picked cells ws c w two in
-    let same : v ≡ w = one_width cells c v w apart r.0 q.0 in
-    let here : v ≡ width = eqb-true v width r.1 in
-    distinct.0 (subst (λ (x : ℕ). Listed ws x) (sym same ∙ here) q.1))
+apart_picked cells (width ∷ ws) apart distinct = grind (arith, apart_append, apart_filter, member_filter, member_picked, one_width, eqb-true, (apart_picked cells ws apart distinct.1))
 
 -- a number stands not among smaller ones
 fresh_nil : (x : ℕ) → Listed [] x → ⊥
@@ -172,11 +144,4 @@ member_falling cells c w m = (member_picked cells (64 ∷ 32 ∷ 16 ∷ 8 ∷ []
 pub falling_member : (cells : List (ℕ × ℕ)) (c w : ℕ) → IsWidth w → Member cells c w → Member (falling cells) c w
 falling_member cells c w width m =
     picked_member cells (64 ∷ 32 ∷ 16 ∷ 8 ∷ []) c w m
-    (⊎_elim
-    (λ (e : w ≡ 8). inr (inr (inr (inl (sym e)))))
-    (λ (h : (w ≡ 16) ⊎ ((w ≡ 32) ⊎ (w ≡ 64))).
-    ⊎_elim
-    (λ (e : w ≡ 16). inr (inr (inl (sym e))))
-    (λ (h' : (w ≡ 32) ⊎ (w ≡ 64)). ⊎_elim (λ (e : w ≡ 32). inr (inl (sym e))) (λ (e : w ≡ 64). inl (sym e)) h')
-    h)
-    width)
+    (grind arith)

@@ -1,5 +1,5 @@
 -- Numbers below 2^n and their n binary digits, and values of a sign and a width and theirs.
-use Rattle.std.proofs.Common.{◌≡◌, ℕ, zero, suc, ◌+◌, ◌*◌, ◌-◌, ◌/◌, ◌%◌, ◌^◌, ◌<◌, ◌≤◌, Bool, true, false, ℤ, pos, negsuc, ◌-ℤ◌, ◌≤ℤ◌, ⊎_elim, ◌==◌, refl, sym, ap, ◌∙◌, subst, arith}
+use Rattle.std.proofs.Common.{◌≡◌, ℕ, zero, suc, ◌+◌, ◌*◌, ◌-◌, ◌/◌, ◌%◌, ◌^◌, ◌<◌, ◌≤◌, Bool, true, false, ℤ, pos, negsuc, ◌-ℤ◌, ⊎_elim, refl, sym, ap, ◌∙◌, arith}
 use Rattle.std.proofs.lemmas.Nat.{pow_pos, pow-add, shr-shr, le-div, mod-pow-add}
 use Rattle.std.proofs.lemmas.Nat.Bits.{ones_shr}
 use Rattle.std.proofs.Math.Nat.{mod-eq_of_lt, div-eq_of_lt}
@@ -22,12 +22,7 @@ pow_next n = let e : 2 ^ (n + 1) ≡ 2 ^ n * 2 ^ 1 = pow-add 2 n 1 in omega arit
 
 -- the digits from m on have the weight 2^m
 pub number_split : (f : ℕ → ℕ) (m n : ℕ) → number f (m + n) ≡ number f m + 2 ^ m * number (λ k. f (m + k)) n
-number_split f zero n =
-    let size : 0 + n ≡ n = omega arith in
-    let whole : number f (0 + n) ≡ number f n = ap (λ (w : ℕ). number f w) size in
-    let same : number (λ k. f (0 + k)) n ≡ number f n =
-    number_same (λ k. f (0 + k)) f n (λ k l. ap f (let e : 0 + k ≡ k = omega arith in e)) in
-    omega arith
+number_split f zero n = grind (arith, number_same)
 number_split f (suc m) n =
     let size : suc m + n ≡ suc (m + n) = omega arith in
     let whole : number f (suc m + n) ≡ number f (suc (m + n)) = ap (λ (w : ℕ). number f w) size in
@@ -70,11 +65,7 @@ number_bits v (suc n) =
 -- digit k of the number that digits make
 pub bit_number : (f : ℕ → ℕ) (n k : ℕ) → ((j : ℕ) → j < n → f j < 2) → k < n → (number f n / 2 ^ k) % 2 ≡ f k
 bit_number f zero k small inside = absurd (omega arith)
-bit_number f (suc n) zero small inside =
-    let first : f 0 < 2 = small 0 (omega arith) in
-    let whole : (f 0 + 2 * number (λ k. f (k + 1)) n) % 2 ≡ f 0 = omega arith in
-    let same : (f 0 + 2 * number (λ k. f (k + 1)) n) / 2 ^ 0 ≡ f 0 + 2 * number (λ k. f (k + 1)) n = omega arith in
-    ap (λ (w : ℕ). w % 2) same ∙ whole
+bit_number f (suc n) zero small inside = grind arith
 bit_number f (suc n) (suc k) small inside =
     let first : f 0 < 2 = small 0 (omega arith) in
     let high : ℕ = number (λ k. f (k + 1)) n in
@@ -97,15 +88,11 @@ number_complement f (suc n) small =
     omega arith
 
 pub digit_lt : (v : ℤ) (k : ℕ) → digit v k < 2
-digit_lt (pos n) k = omega arith
-digit_lt (negsuc n) k = omega arith
+digit_lt v k = grind arith
 
 -- the digits of a number that is not negative
 pub number_pos : (n width : ℕ) → n < 2 ^ width → number (digit (pos n)) width ≡ n
-number_pos n width small =
-    let cut : number (λ k. (n / 2 ^ k) % 2) width ≡ n % 2 ^ width = number_bits n width in
-    let whole : n % 2 ^ width ≡ n = mod-eq_of_lt small in
-    cut ∙ whole
+number_pos n width small = grind (arith, number_bits, mod-eq_of_lt)
 
 -- the digits of a negative number
 pub number_negsuc : (n width : ℕ) → n < 2 ^ width → number (digit (negsuc n)) width + n + 1 ≡ 2 ^ width
@@ -127,44 +114,14 @@ half_of width some = ap (λ (w : ℕ). 2 ^ w) (let e : width ≡ width - 1 + 1 =
 
 -- what `width` bits say where the top bit is 0, and where it is 1
 pub decoded_low : (width n : ℕ) → n < 2 ^ (width - 1) → decoded true width n ≡ pos n
-decoded_low width n low =
-    let quotient : n / 2 ^ (width - 1) ≡ 0 = div-eq_of_lt low in
-    cond-true (n / 2 ^ (width - 1) == 0) (pos n) (pos n -ℤ pos (2 ^ width)) (eq-eqb (n / 2 ^ (width - 1)) 0 quotient)
+decoded_low width n low = grind (arith, div-eq_of_lt, cond-true, eq-eqb)
 
 pub decoded_high : (width n : ℕ) → 2 ^ (width - 1) ≤ n → decoded true width n ≡ pos n -ℤ pos (2 ^ width)
-decoded_high width n high =
-    let some : 0 < 2 ^ (width - 1) = pow_pos (width - 1) in
-    let quotient : 1 ≤ n / 2 ^ (width - 1) = le-div 1 n (2 ^ (width - 1)) some (omega arith) in
-    cond-false (n / 2 ^ (width - 1) == 0) (pos n) (pos n -ℤ pos (2 ^ width))
-    (ne_eqb (n / 2 ^ (width - 1)) 0 (λ (e : n / 2 ^ (width - 1) ≡ 0). omega arith))
+decoded_high width n high = grind (arith, pow_pos, le-div, cond-false, ne_eqb)
 
 -- a value in the range of a sign and a width is read back from its digits
 pub decoded_digits : (signed : Bool) (width : ℕ) (v : ℤ) → 1 ≤ width → IsIn signed width v → decoded signed width (number (digit v) width) ≡ v
-decoded_digits false width (pos n) some inside =
-    let high : pos n ≤ℤ (pos (2 ^ width) -ℤ pos 1) = inside.1 in
-    let power : 0 < 2 ^ width = pow_pos width in
-    let small : n < 2 ^ width = omega (arith, ints) in
-    ap pos (number_pos n width small)
-decoded_digits false width (negsuc n) some inside =
-    let low : pos 0 ≤ℤ negsuc n = inside.0 in
-    absurd (omega (arith, ints))
-decoded_digits true width (pos n) some inside =
-    let high : pos n ≤ℤ (pos (2 ^ (width - 1)) -ℤ pos 1) = inside.1 in
-    let power : 0 < 2 ^ (width - 1) = pow_pos (width - 1) in
-    let double : 2 ^ width ≡ 2 * 2 ^ (width - 1) = half_of width some in
-    let low : n < 2 ^ (width - 1) = omega (arith, ints) in
-    let own : number (digit (pos n)) width ≡ n = number_pos n width (omega arith) in
-    ap (decoded true width) own ∙ decoded_low width n low
-decoded_digits true width (negsuc n) some inside =
-    let least : (pos 0 -ℤ pos (2 ^ (width - 1))) ≤ℤ negsuc n = inside.0 in
-    let power : 0 < 2 ^ (width - 1) = pow_pos (width - 1) in
-    let double : 2 ^ width ≡ 2 * 2 ^ (width - 1) = half_of width some in
-    let low : n < 2 ^ (width - 1) = omega (arith, ints) in
-    let own : number (digit (negsuc n)) width + n + 1 ≡ 2 ^ width = number_negsuc n width (omega arith) in
-    let read : decoded true width (number (digit (negsuc n)) width) ≡ pos (number (digit (negsuc n)) width) -ℤ pos (2 ^ width) =
-    decoded_high width (number (digit (negsuc n)) width) (omega arith) in
-    let value : pos (number (digit (negsuc n)) width) -ℤ pos (2 ^ width) ≡ negsuc n = omega (arith, ints) in
-    read ∙ value
+decoded_digits signed width v some inside = grind (arith, pow_pos, number_pos, half_of, decoded_low, number_negsuc, decoded_high)
 
 -- the digits of what bits say are these bits
 pub bit_digits : (signed : Bool) (width n k : ℕ) → n < 2 ^ width → k < width → digit (decoded signed width n) k ≡ (n / 2 ^ k) % 2
@@ -188,21 +145,4 @@ bit_digits true width n k small inside =
 
 -- what bits say lies in the range of the sign and the width
 pub decoded_in : (signed : Bool) (width n : ℕ) → 1 ≤ width → n < 2 ^ width → IsIn signed width (decoded signed width n)
-decoded_in false width n some small =
-    let low : pos 0 ≤ℤ pos n = omega (arith, ints) in
-    let high : pos n ≤ℤ (pos (2 ^ width) -ℤ pos 1) = omega (arith, ints) in
-    (low, high)
-decoded_in true width n some small =
-    let In : ℤ → Type 0 = λ v. IsIn true width v in
-    let power : 0 < 2 ^ (width - 1) = pow_pos (width - 1) in
-    let double : 2 ^ width ≡ 2 * 2 ^ (width - 1) = half_of width some in
-    ⊎_elim
-    (λ (low : n < 2 ^ (width - 1)).
-    let least : (pos 0 -ℤ pos (2 ^ (width - 1))) ≤ℤ pos n = omega (arith, ints) in
-    let most : pos n ≤ℤ (pos (2 ^ (width - 1)) -ℤ pos 1) = omega (arith, ints) in
-    subst In (sym (decoded_low width n low)) (least, most))
-    (λ (high : 2 ^ (width - 1) ≤ n).
-    let least : (pos 0 -ℤ pos (2 ^ (width - 1))) ≤ℤ (pos n -ℤ pos (2 ^ width)) = omega (arith, ints) in
-    let most : (pos n -ℤ pos (2 ^ width)) ≤ℤ (pos (2 ^ (width - 1)) -ℤ pos 1) = omega (arith, ints) in
-    subst In (sym (decoded_high width n high)) (least, most))
-    (cases_lt n (2 ^ (width - 1)))
+decoded_in signed width n some small = grind (arith, pow_pos, half_of, decoded_low, decoded_high, cases_lt)

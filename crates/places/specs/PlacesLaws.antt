@@ -16,15 +16,7 @@ use Rattle.places.specs.ComposeLaws.{owner_left, owner_right, owner_relabel, wit
 
 -- two ranges of as many numbers, under functions that agree
 pub same_ranges : {X : Type 0} (f g : ℕ → X) (a b n : ℕ) → ((k : ℕ) → k < n → f (a + k) ≡ g (b + k)) → map f (range_with_len a n) ≡ map g (range_with_len b n)
-same_ranges f g a b n same =
-    let one : length (map f (range_with_len a n)) ≡ n = length-map-range_with_len f a n in
-    let two : length (map g (range_with_len b n)) ≡ n = length-map-range_with_len g b n in
-    same_lists (map f (range_with_len a n)) (map g (range_with_len b n)) (one ∙ sym two)
-    (λ k d inside.
-    let low : k < n = omega arith in
-    let here : get_or (map f (range_with_len a n)) k d ≡ f (a + k) = get_or-map-range_with_len f a n k (a + k) d low refl in
-    let there : get_or (map g (range_with_len b n)) k d ≡ g (b + k) = get_or-map-range_with_len g b n k (b + k) d low refl in
-    here ∙ same k low ∙ sym there)
+same_ranges f g a b n same = grind (arith, range_with_len, length-map-range_with_len, same_lists, get_or-map-range_with_len)
 
 -- what equal ranges say at each number
 pub ranges_at : {X : Type 0} (d : X) (f g : ℕ → X) (a b n k : ℕ) → map f (range_with_len a n) ≡ map g (range_with_len b n) → k < n → f (a + k) ≡ g (b + k)
@@ -47,9 +39,7 @@ range_split f a m n low =
     let here : get_or (map f (range_with_len a n)) k d ≡ f (a + k) = get_or-map-range_with_len f a n k (a + k) d k_in refl in
     ⊎_elim
     (λ (l : k < m).
-    let one : get_or (map f (range_with_len a m) ++ map f (range_with_len (a + m) (n - m))) k d ≡ get_or (map f (range_with_len a m)) k d =
-    get_or_append_left (map f (range_with_len a m)) (map f (range_with_len (a + m) (n - m))) d k (omega arith) in
-    here ∙ sym (one ∙ get_or-map-range_with_len f a m k (a + k) d l refl))
+    grind (arith, range_with_len, get_or_append_left, get_or-map-range_with_len))
     (λ (l : m ≤ k).
     let j : ℕ = k - m in
     let place : length (map f (range_with_len a m)) + j ≡ k = omega arith in
@@ -66,8 +56,7 @@ range_split f a m n low =
 -- consecutive places whose owners are the bits of a cell spell it
 pub run_spelled : (layout : List (List Owner)) (blob at s c w : ℕ) → ((k : ℕ) → k < w → owner_at layout blob (at + k) ≡ Bit s c k)
     → map (owner_at layout blob) (range_with_len at w) ≡ field s (c, w)
-run_spelled layout blob at s c w each =
-    same_ranges (owner_at layout blob) (Bit s c) at 0 w (λ k l. each k l ∙ ap (Bit s c) (let e : k ≡ 0 + k = omega arith in e))
+run_spelled layout blob at s c w each = grind (arith, same_ranges, Bit)
 
 -- what pieces spell, taken apart behind the first piece
 pub record Splits (layout : List (List Owner)) (f : ℕ → Owner) (a n : ℕ) (piece : Piece) (pieces : List Piece) : Type 0 where
@@ -163,13 +152,9 @@ pub relabel_spelled : (name : ℕ → ℕ → ℕ → Owner) (layout : List (Lis
 relabel_spelled name layout [] = refl
 relabel_spelled name layout (piece ∷ pieces) =
     let here : owners_in (relabel name layout) piece ≡ map (renamed name) (owners_in layout piece) =
-    same_ranges (owner_at (relabel name layout) piece.blob) (λ p. renamed name (owner_at layout piece.blob p)) piece.bit piece.bit piece.bits
-    (λ k l. owner_relabel name layout piece.blob (piece.bit + k))
-    ∙ sym (map-map (renamed name) (owner_at layout piece.blob) (range_with_len piece.bit piece.bits)) in
+    grind (arith, same_ranges, owner_relabel, map-map, range_with_len) in
     let later = relabel_spelled name layout pieces in
-    ap (λ (xs : List Owner). xs ++ flat_map (owners_in (relabel name layout)) pieces) here
-    ∙ ap (λ (xs : List Owner). map (renamed name) (owners_in layout piece) ++ xs) later
-    ∙ sym (map-append (renamed name) (owners_in layout piece) (flat_map (owners_in layout) pieces))
+    grind (arith, flat_map, map-append)
 
 -- the places of a cell whose bits keep their order under new names
 pub relabel_located : (name : ℕ → ℕ → ℕ → Owner) (layout : List (List Owner)) (s c s' c' w : ℕ) (pieces : List Piece)
@@ -178,10 +163,7 @@ relabel_located name layout s c s' c' w pieces same h =
     let spelled : flat_map (owners_in (relabel name layout)) pieces ≡ field s' (c', w) =
     relabel_spelled name layout pieces ∙ ap (map (renamed name)) h.spelled ∙ map-map (renamed name) (Bit s c) (range_with_len 0 w)
     ∙ same_ranges (name s c) (Bit s' c') 0 0 w (λ k l. same (0 + k) (let e : 0 + k < w = omega arith in e)) in
-    located (relabel name layout) s' c' w pieces spelled
-    (pieces_weaker (IsPiece layout) (λ (piece : Piece). 0 < piece.bits) pieces (λ piece i. i.some) h.each)
-    (pieces_weaker (IsPiece layout) (λ (piece : Piece). piece.bit + piece.bits < 2 ^ 64) pieces (λ piece i. i.bound) h.each)
-    h.bytes
+    grind (arith, located, pieces_weaker)
 
 -- the places of a cell in the first blobs
 pub left_spelled : (xs ys : List (List Owner)) (pieces : List Piece) → All (λ piece. piece.blob < length xs) pieces
@@ -190,8 +172,7 @@ left_spelled xs ys [] inside = refl
 left_spelled xs ys (piece ∷ pieces) inside =
     let first : piece.blob < length xs = All-head (λ (piece : Piece). piece.blob < length xs) piece pieces inside in
     let here : owners_in (xs ++ ys) piece ≡ owners_in xs piece =
-    same_ranges (owner_at (xs ++ ys) piece.blob) (owner_at xs piece.blob) piece.bit piece.bit piece.bits
-    (λ k l. owner_left xs ys piece.blob (piece.bit + k) first) in
+    grind (arith, same_ranges, owner_left) in
     let later = left_spelled xs ys pieces (All-tail (λ (piece : Piece). piece.blob < length xs) piece pieces inside) in
     ap (λ (os : List Owner). os ++ flat_map (owners_in (xs ++ ys)) pieces) here ∙ ap (λ (os : List Owner). owners_in xs piece ++ os) later
 
@@ -210,8 +191,7 @@ right_spelled xs ys by [] size = refl
 right_spelled xs ys by (piece ∷ pieces) size =
     let place : piece.blob + by ≡ length xs + piece.blob = omega arith in
     let here : owners_in (xs ++ ys) (shifted by piece) ≡ owners_in ys piece =
-    same_ranges (owner_at (xs ++ ys) (piece.blob + by)) (owner_at ys piece.blob) piece.bit piece.bit piece.bits
-    (λ k l. ap (λ (b : ℕ). owner_at (xs ++ ys) b (piece.bit + k)) place ∙ owner_right xs ys piece.blob (piece.bit + k)) in
+    grind (arith, same_ranges, owner_right) in
     let later = right_spelled xs ys by pieces size in
     ap (λ (os : List Owner). os ++ flat_map (owners_in (xs ++ ys)) (map (shifted by) pieces)) here ∙ ap (λ (os : List Owner). owners_in ys piece ++ os) later
 

@@ -16,16 +16,11 @@ use Rattle.places.specs.Touched.{is_in_granule, is_touched, is_bit_of, is_hot}
 
 -- tests of which each gives the other
 same_tests : (one two : Bool) → (one ≡ true → two ≡ true) → (two ≡ true → one ≡ true) → one ≡ two
-same_tests true two to from = sym (to refl)
-same_tests false true to from = from refl
-same_tests false false to from = refl
+same_tests one two to from = grind arith
 
 -- a bit of a leaf in a row
 bit_is : (row leaf : ℕ) (owner : Owner) → is_bit_of row leaf owner ≡ true → (k : ℕ) × (owner ≡ Bit row leaf k)
-bit_is row leaf Pad e = absurd (true≢false (sym e))
-bit_is row leaf (Bit slot cell bit) e =
-    let both = and_parts (slot == row) (cell == leaf) e in
-    (bit, ap (λ s. Bit s cell bit) (eqb-true slot row both.0) ∙ ap (λ c. Bit row c bit) (eqb-true cell leaf both.1))
+bit_is row leaf owner e = grind (arith, true≢false, and_parts, eqb-true)
 
 is_bit : (row leaf k : ℕ) → is_bit_of row leaf (Bit row leaf k) ≡ true
 is_bit row leaf k = and_from (row == row) (leaf == leaf) (eq-eqb row row refl) (eq-eqb leaf leaf refl)
@@ -88,10 +83,7 @@ in_granule granule blob at piece e =
 
 pub from_granule : (granule blob at k : ℕ) (piece : Piece) → piece.blob ≡ blob → k < piece.bits → 8 * granule * at ≤ piece.bit + k → piece.bit + k < 8 * granule * at + 8 * granule →
     is_in_granule granule blob at piece ≡ true
-from_granule granule blob at k piece same small from below =
-    let next = next_granule (8 * granule) at in
-    and_from (piece.blob == blob) (nat_lt (max piece.bit (8 * granule * at)) (min (piece.bit + piece.bits) (8 * granule * (at + 1))))
-    (eq-eqb piece.blob blob same) (lt-ltb (max piece.bit (8 * granule * at)) (min (piece.bit + piece.bits) (8 * granule * (at + 1))) (omega arith))
+from_granule granule blob at k piece same small from below = grind (arith, next_granule, and_from, nat_lt, eq-eqb, lt-ltb)
 
 -- pieces that spell bits touch a granule that holds one
 pub touched_place : (layout : List (List Owner)) (f : ℕ → Owner) (granule blob at a n : ℕ) (pieces : List Piece) → flat_map (owners_in layout) pieces ≡ map f (range_with_len a n)
@@ -123,8 +115,7 @@ touched_from layout f granule blob at bit k a n (piece ∷ pieces) e low high fr
     let number : a + j ≡ k = omega arith in
     let small : j < piece.bits = omega arith in
     let place = only piece.blob (piece.bit + j) (split.first j small ∙ ap f number) in
-    or_left (is_in_granule granule blob at piece) (is_touched granule pieces blob at)
-    (from_granule granule blob at j piece place.0 small (omega (arith, place.1)) (omega (arith, place.1))))
+    grind (arith, or_left, from_granule))
     (λ (later : a + piece.bits ≤ k).
     or_right (is_in_granule granule blob at piece) (is_touched granule pieces blob at)
     (touched_from layout f granule blob at bit k (a + piece.bits) (n - piece.bits) pieces split.rest later (omega arith) from below only))

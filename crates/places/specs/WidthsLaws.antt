@@ -1,36 +1,23 @@
 -- The widths of the leaf types: 8, 16, 32 or 64 bits, so whole bytes and powers of two.
-use Rattle.std.proofs.Common.{◌≡◌, ℕ, ◌%◌, ◌<◌, ◌≤◌, ◌⊎◌, inl, inr, ⊎_elim, List, map, max, get_or, All, refl, sym, subst, arith}
+use Rattle.std.proofs.Common.{◌≡◌, ℕ, ◌%◌, ◌<◌, ◌≤◌, ◌⊎◌, ⊎_elim, List, map, max, get_or, All, refl, subst, arith}
 use Rattle.std.proofs.lemmas.Simd.{map-map}
 use Rattle.std.proofs.lemmas.List.Elements.{All-map}
 use Rattle.std.proofs.lemmas.Bool.{cases_lt}
 use Rattle.record_dim.specs.LeafTypes.{width_of}
 use Rattle.record_dim.specs.declared.leaf_type.LeafType.{LeafType}
-use Rattle.record_dim.specs.declared.leaf_type.LeafType.TheVariants.{Bool as Truth, U8, U16, U32, U64, I8, I16, I32, I64}
 use Rattle.places.specs.Holds.{hold_of, full_holds, widths_of}
 use Rattle.places.specs.declared.piece.Cell.{Cell}
 use Rattle.places.specs.declared.piece.Hold.{Hold}
-use Rattle.places.specs.StackedLaws.{KeepsBytes, up}
+use Rattle.places.specs.StackedLaws.{KeepsBytes}
 
 abbrev pub IsWidth : ℕ → Type 0
 IsWidth w = (w ≡ 8) ⊎ ((w ≡ 16) ⊎ ((w ≡ 32) ⊎ (w ≡ 64)))
 
 pub width_is : (kind : LeafType) → IsWidth (width_of kind)
-width_is U16 = inr (inl refl)
-width_is U32 = inr (inr (inl refl))
-width_is U64 = inr (inr (inr refl))
-width_is I16 = inr (inl refl)
-width_is I32 = inr (inr (inl refl))
-width_is I64 = inr (inr (inr refl))
-width_is other = inl refl
+width_is kind = grind arith
 
 pub by_width : (P : ℕ → Type 0) (w : ℕ) → P 8 → P 16 → P 32 → P 64 → IsWidth w → P w
-by_width P w p8 p16 p32 p64 h =
-    ⊎_elim (λ (e : w ≡ 8). subst P (sym e) p8)
-    (λ (h' : (w ≡ 16) ⊎ ((w ≡ 32) ⊎ (w ≡ 64))).
-    ⊎_elim (λ (e : w ≡ 16). subst P (sym e) p16)
-    (λ (h'' : (w ≡ 32) ⊎ (w ≡ 64)). ⊎_elim (λ (e : w ≡ 32). subst P (sym e) p32) (λ (e : w ≡ 64). subst P (sym e) p64) h'')
-    h')
-    h
+by_width P w p8 p16 p32 p64 h = grind arith
 
 pub width_whole : (kind : LeafType) → width_of kind % 8 ≡ 0
 width_whole kind = by_width (λ w. w % 8 ≡ 0) (width_of kind) refl refl refl refl (width_is kind)
@@ -61,13 +48,7 @@ pub keeps_one : KeepsBytes 1
 keeps_one at whole = omega arith
 
 pub keeps_width : (w : ℕ) → IsWidth w → KeepsBytes w
-keeps_width w h =
-    by_width KeepsBytes w
-    (λ at (whole : at % 8 ≡ 0). let goal : up 8 at % 8 ≡ 0 = omega arith in goal)
-    (λ at (whole : at % 8 ≡ 0). let goal : up 16 at % 8 ≡ 0 = omega arith in goal)
-    (λ at (whole : at % 8 ≡ 0). let goal : up 32 at % 8 ≡ 0 = omega arith in goal)
-    (λ at (whole : at % 8 ≡ 0). let goal : up 64 at % 8 ≡ 0 = omega arith in goal)
-    h
+keeps_width w h = grind (arith, by_width)
 
 pub keeps_greater : (a b : ℕ) → KeepsBytes a → KeepsBytes b → KeepsBytes (max a b)
 keeps_greater a b one two =

@@ -1,9 +1,10 @@
 -- In a record without a name twice the paths of the leaves differ, and each leads to its leaf.
-use Rattle.record_dim.proofs.Imports.{◌≡◌, ℕ, suc, zero, ◌+◌, ◌<◌, Bool, true, false, cond, ◌||◌, nat_eq, nat_lt, Some, None, List, [], ◌∷◌, ◌++◌, length, map, refl, sym, ap, ◌∙◌, subst, inl, inr, ◌⊎◌, arith, pointwise, list_any, slice_get, map-append, length-map, nat_tests, LeafType, PathStep, Name, At, Dim, Tree, Single, Record, Array, Fields, End, Field, tree_of, Leaf, under, leaves_of, leaves, paths_of, names_of, has_twice, shares_name, records_of, records_below, record_fault, node_at, node_in, LeadsTo, same_text, text_self, or_right, cases_Bool, or_parts}
+use Rattle.record_dim.proofs.Imports.{◌≡◌, ℕ, suc, zero, ◌+◌, ◌<◌, true, false, ◌||◌, nat_eq, nat_lt, Some, None, List, [], ◌∷◌, ◌++◌, length, map, refl, sym, ap, subst, inl, inr, ◌⊎◌, arith, pointwise, list_any, slice_get, map-append, length-map, LeafType, PathStep, Name, At, Dim, Tree, Single, Record, Array, Fields, End, Field, tree_of, Leaf, under, leaves_of, leaves, paths_of, names_of, has_twice, shares_name, records_of, records_below, record_fault, node_at, node_in, LeadsTo, same_text, text_self, or_right, cases_Bool, or_parts}
 use Rattle.std.proofs.Common.{append-nil}
 use Rattle.record_dim.specs.declared.dim.Dim.TheVariants as dim
 use Rattle.record_dim.proofs.Lookup.{leaves-suc}
 use Rattle.record_dim.proofs.Fit.{none_of_both, fit_from}
+use Rattle.std.proofs.Common.{rules}
 
 -- the paths of the leaves of a tree
 abbrev pub paths_at : Tree → List (List PathStep)
@@ -35,10 +36,7 @@ in_map f (x ∷ xs) (suc i) y h = in_map f xs i y h
 
 apart_of_both : {X : Type 0} (xs ys : List X) → IsApart xs → IsApart ys → ((x : X) (i j : ℕ) → slice_get xs i ≡ Some x → slice_get ys j ≡ Some x → ⊥) →
     (x : X) (i j : ℕ) → InEither xs ys i x → InEither xs ys j x → i ≡ j
-apart_of_both xs ys ax ay no_both x i j (in_front hi) (in_front hj) = ax x i j hi hj
-apart_of_both xs ys ax ay no_both x i j (in_front hi) (in_back k e hj) = absurd (no_both x i k hi hj)
-apart_of_both xs ys ax ay no_both x i j (in_back k e hi) (in_front hj) = absurd (no_both x j k hj hi)
-apart_of_both xs ys ax ay no_both x i j (in_back k e hi) (in_back m f hj) = let s : k ≡ m = ay x k m hi hj in omega arith
+apart_of_both xs ys ax ay no_both x i j h h2 = grind arith
 
 apart_append : {X : Type 0} (xs ys : List X) → IsApart xs → IsApart ys → ((x : X) (i j : ℕ) → slice_get xs i ≡ Some x → slice_get ys j ≡ Some x → ⊥) → IsApart (xs ++ ys)
 apart_append xs ys ax ay no_both x i j hi hj = apart_of_both xs ys ax ay no_both x i j (in_either xs ys i x hi) (in_either xs ys j x hj)
@@ -48,26 +46,17 @@ abbrev up : PathStep → List (List PathStep) → List (List PathStep)
 up step paths = map (λ (path : List PathStep). step ∷ path) paths
 
 apart_up : (step : PathStep) (paths : List (List PathStep)) → IsApart paths → IsApart (up step paths)
-apart_up step paths apart x i j hi hj =
-    let a = in_map (λ (path : List PathStep). step ∷ path) paths i x hi in
-    let b = in_map (λ (path : List PathStep). step ∷ path) paths j x hj in
-    let same : b.0 ≡ a.0 = cc (a.2, b.2) in
-    apart a.0 i j a.1 (b.1 ∙ ap Some same)
+apart_up step paths apart x i j hi hj = grind (arith, in_map)
 
 paths_under : (step : PathStep) (xs : List Leaf) → map (λ (leaf : Leaf). leaf.path) (map (under step) xs) ≡ up step (map (λ (leaf : Leaf). leaf.path) xs)
 paths_under step [] = refl
 paths_under step (x ∷ xs) = ap (λ ps. (step ∷ x.path) ∷ ps) (paths_under step xs)
 
 pub paths_field : (name : List ℕ) (held : Tree) (rest : Fields) → paths_of (Field name held rest) ≡ up (Name name) (paths_at held) ++ paths_of rest
-paths_field name held rest =
-    map-append (λ (leaf : Leaf). leaf.path) (map (under (Name name)) (leaves_of held)) (leaves rest)
-    ∙ ap (λ ps. ps ++ paths_of rest) (paths_under (Name name) (leaves_of held))
+paths_field name held rest = grind (arith, map-append, Name, leaves, paths_under)
 
 paths_array : (len : ℕ) (element : Tree) → paths_at (Array (suc len) element) ≡ paths_at (Array len element) ++ up (At len) (paths_at element)
-paths_array len element =
-    ap (map (λ (leaf : Leaf). leaf.path)) (leaves-suc len element)
-    ∙ map-append (λ (leaf : Leaf). leaf.path) (leaves_of (Array len element)) (map (under (At len)) (leaves_of element))
-    ∙ ap (λ ps. paths_at (Array len element) ++ ps) (paths_under (At len) (leaves_of element))
+paths_array len element = search (rules, leaves-suc, map-append, Array, paths_under)
 
 -- the path of a leaf of a record: a name of the record, and then the path of a leaf in that field
 pub record InField (fields : Fields) (path : List PathStep) : Type 0 where
@@ -106,10 +95,7 @@ element_before len element path f = record { number = f.number; rest = f.rest; p
 
 element_either : (len : ℕ) (element : Tree) (path : List PathStep) (i : ℕ) → ((k : ℕ) → slice_get (paths_at (Array len element)) k ≡ Some path → InElement len element path) →
     InEither (paths_at (Array len element)) (up (At len) (paths_at element)) i path → InElement (suc len) element path
-element_either len element path i before (in_front h) = element_before len element path (before i h)
-element_either len element path i before (in_back k e h) =
-    let m = in_map (λ (p : List PathStep). At len ∷ p) (paths_at element) k path h in
-    record { number = len; rest = m.0; place = k; step = sym m.2; below = omega arith; leaf = m.1 }
+element_either len element path i before h = grind (arith, element_before, in_map)
 
 pub in_element : (len : ℕ) (element : Tree) (path : List PathStep) (i : ℕ) → slice_get (paths_at (Array len element)) i ≡ Some path → InElement len element path
 in_element zero element path i h = cc
@@ -139,9 +125,7 @@ apart_array (suc len) element one =
     subst (λ (ps : List (List PathStep)). IsApart ps) (sym (paths_array len element)) (apart_append (paths_at (Array len element)) (up (At len) (paths_at element)) (apart_array len element one) (apart_up (At len) (paths_at element) one) no_both)
 
 apart_one : (x y : List PathStep) (i j : ℕ) → slice_get (x ∷ []) i ≡ Some y → slice_get (x ∷ []) j ≡ Some y → i ≡ j
-apart_one x y zero zero hi hj = refl
-apart_one x y zero (suc j) hi hj = cc
-apart_one x y (suc i) j hi hj = cc
+apart_one x y i j hi hj = grind arith
 
 mutual
   -- the paths of the leaves of a tree differ
@@ -169,36 +153,23 @@ leads_one kind path (suc i) h = cc
 
 leads_element : (len : ℕ) (element : Tree) → ((path : List PathStep) (i : ℕ) → slice_get (paths_at element) i ≡ Some path → IsLeafAt element path) →
     (path : List PathStep) → InElement len element path → IsLeafAt (Array len element) path
-leads_element len element inner path f =
-    let leaf = inner f.rest f.place f.leaf in
-    let below : nat_lt f.number len ≡ true = grind (arith, nat_tests, f.below) in
-    (leaf.0, ap (node_at (Array len element)) f.step ∙ ap (λ b. cond b (node_at element f.rest) None) below ∙ leaf.1)
+leads_element len element inner path f = grind (arith, nat_lt, node_at, Array)
 
 -- another field's name is another
 other_name : (own : List ℕ) (rest : Fields) (name : List ℕ) → list_any (pointwise nat_eq own) (names_of rest) ≡ false → list_any (pointwise nat_eq name) (names_of rest) ≡ true →
     (pointwise nat_eq own name ≡ true) ⊎ (pointwise nat_eq own name ≡ false) → pointwise nat_eq own name ≡ false
-other_name own rest name fresh named (inl e) =
-    let same : own ≡ name = same_text own name e in
-    let clash : list_any (pointwise nat_eq own) (names_of rest) ≡ true = subst (λ n. list_any (pointwise nat_eq n) (names_of rest) ≡ true) (sym same) named in
-    cc
+other_name own rest name fresh named (inl e) = search (rules, same_text, list_any, nat_eq)
 other_name own rest name fresh named (inr e) = e
 
 leads_later : (own : List ℕ) (held : Tree) (rest : Fields) (path : List PathStep) → list_any (pointwise nat_eq own) (names_of rest) ≡ false → InField rest path → IsLeafAt (Record rest) path →
     IsLeafAt (Record (Field own held rest)) path
-leads_later own held rest path fresh f leaf =
-    let other = other_name own rest f.name fresh f.named (cases_Bool (pointwise nat_eq own f.name)) in
-    let there : node_in rest f.name f.rest ≡ Some (Single leaf.0) = sym (ap (node_at (Record rest)) f.step) ∙ leaf.1 in
-    (leaf.0, ap (node_at (Record (Field own held rest))) f.step ∙ ap (λ b. cond b (node_at held f.rest) (node_in rest f.name f.rest)) other ∙ there)
+leads_later own held rest path fresh f leaf = grind (arith, other_name, cases_Bool, nat_eq, node_in, Single, node_at, Record, Field)
 
 leads_either : (own : List ℕ) (held : Tree) (rest : Fields) → list_any (pointwise nat_eq own) (names_of rest) ≡ false →
     ((path : List PathStep) (i : ℕ) → slice_get (paths_at held) i ≡ Some path → IsLeafAt held path) →
     ((path : List PathStep) (i : ℕ) → slice_get (paths_of rest) i ≡ Some path → IsLeafAt (Record rest) path) →
     (path : List PathStep) (i : ℕ) → InEither (up (Name own) (paths_at held)) (paths_of rest) i path → IsLeafAt (Record (Field own held rest)) path
-leads_either own held rest fresh inner later path i (in_front h) =
-    let m = in_map (λ (p : List PathStep). Name own ∷ p) (paths_at held) i path h in
-    let leaf = inner m.0 i m.1 in
-    (leaf.0, ap (node_at (Record (Field own held rest))) (sym m.2) ∙ ap (λ b. cond b (node_at held m.0) (node_in rest own m.0)) (text_self own) ∙ leaf.1)
-leads_either own held rest fresh inner later path i (in_back k e h) = leads_later own held rest path fresh (in_field rest path k h) (later path k h)
+leads_either own held rest fresh inner later path i h = grind (arith, in_map, node_at, node_in, text_self, leads_later, in_field)
 
 mutual
   -- the path of each leaf leads to it
@@ -223,16 +194,7 @@ get_between (y ∷ xs) ys x = get_between xs ys x
 
 -- a path that leads to a leaf is the path of the leaf at its place
 pub leaf_place : (fields : Fields) (path : List PathStep) (first : ℕ) (kind : LeafType) → LeadsTo (Record fields) path first (Single kind) → slice_get (paths_of fields) first ≡ Some path
-leaf_place fields path first kind l =
-    let s = l.stretch in
-    let one : Leaf = record { kind = kind; path = path ++ [] } in
-    let paths = λ (xs : List Leaf). map (λ (leaf : Leaf). leaf.path) xs in
-    let parts : paths_of fields ≡ paths s.front ++ ((path ++ []) ∷ paths s.back) = ap paths s.parts ∙ map-append (λ (leaf : Leaf). leaf.path) s.front (one ∷ s.back) in
-    let place : length (paths s.front) ≡ first = length-map s.front (λ (leaf : Leaf). leaf.path) ∙ s.before in
-    ap (λ ps. slice_get ps first) parts
-    ∙ ap (slice_get (paths s.front ++ ((path ++ []) ∷ paths s.back))) (sym place)
-    ∙ get_between (paths s.front) (paths s.back) (path ++ [])
-    ∙ ap Some (append-nil path)
+leaf_place fields path first kind l = grind (arith, map-append, length-map, slice_get, get_between, append-nil)
 
 -- in a record that is fit the path of a leaf leads to that leaf and no other
 pub only_leaf : (fields : Fields) → record_fault (Record fields) ≡ None → (path : List PathStep) (leaf first : ℕ) (node : Tree) →

@@ -1,5 +1,5 @@
 -- A record that is fit has a leaf, and not too many.
-use Rattle.record_dim.proofs.Imports.{◌≡◌, ℕ, ◌*◌, ◌≤◌, Bool, true, false, cond, ◌||◌, nat_eq, nat_lt, Option, Some, None, List, ◌++◌, length, refl, sym, ◌∙◌, arith, list_any, nat_tests, list_any-append, Tree, Single, Record, Array, Fields, End, Field, leaves_of, leaves, depth_of, records_of, records_below, lengths_of, lengths_below, is_empty_record, shares_name, record_fault, or_parts}
+use Rattle.record_dim.proofs.Imports.{◌≡◌, ℕ, ◌*◌, ◌≤◌, Bool, false, cond, nat_eq, nat_lt, Option, Some, None, List, ◌++◌, length, sym, ◌∙◌, arith, list_any, nat_tests, list_any-append, Tree, Single, Record, Array, Fields, End, Field, leaves_of, leaves, depth_of, records_of, records_below, lengths_of, lengths_below, is_empty_record, shares_name, record_fault, or_parts}
 use Rattle.record_dim.proofs.Walks.{length-leaves, length-leaves_of_array}
 
 -- none in the whole: none in either part
@@ -29,8 +29,7 @@ some_leaf (Array len element) full filled =
 
 -- what a chain of tests that ends in None says
 passed : {A : Type 0} (b : Bool) (x : A) (o : Option A) → cond b (Some x) o ≡ None → (b ≡ false) × (o ≡ None)
-passed true x o e = cc
-passed false x o e = (refl, e)
+passed b x o e = grind arith
 
 pub record IsFit (tree : Tree) : Type 0 where
   pub shallow : nat_lt 8 (depth_of tree) ≡ false
@@ -40,13 +39,7 @@ pub record IsFit (tree : Tree) : Type 0 where
   pub few : nat_lt 64 (length (leaves_of tree)) ≡ false
 
 pub fit_from : (tree : Tree) → record_fault tree ≡ None → IsFit tree
-fit_from tree e =
-    let a = passed (nat_lt 8 (depth_of tree)) _ _ e in
-    let b = passed (list_any is_empty_record (records_of tree)) _ _ a.1 in
-    let c = passed (list_any shares_name (records_of tree)) _ _ b.1 in
-    let d = passed (list_any (nat_eq 0) (lengths_of tree)) _ _ c.1 in
-    let f = passed (nat_lt 64 (length (leaves_of tree))) _ _ d.1 in
-    record { shallow = a.0; full = b.0; apart = c.0; filled = d.0; few = f.0 }
+fit_from tree e = grind (arith, passed, nat_lt, list_any, records_of, nat_eq, lengths_of)
 
 pub fit_some : (fields : Fields) → record_fault (Record fields) ≡ None → 1 ≤ length (leaves fields)
 fit_some fields e = let f = fit_from (Record fields) e in some_leaf (Record fields) f.full f.filled

@@ -1,10 +1,6 @@
 -- Gathering leaves: what one more field and one more element add.
 use Rattle.record_dim.proofs.Imports.{◌≡◌, ℕ, ◌+◌, List, [], ◌∷◌, ◌++◌, map, codes, refl, sym, ap, ◌∙◌, append_assoc, arith, flat_map, range_with_len, map-append, map-id, append-nil, map-range_with_len_more, flat_map-append, LeafType, PathStep, Name, At, step_text, path_text_of, Tree, Single, Record, Array, Fields, End, Field, Leaf, under, leaves_of, leaves, kinds_of, texts_of, node_kinds, node_texts, record_kinds, record_texts}
 
-map_same : {X Y : Type 0} (f g : X → Y) → ((x : X) → f x ≡ g x) → (xs : List X) → map f xs ≡ map g xs
-map_same f g same [] = refl
-map_same f g same (x ∷ xs) = rw (same x, map_same f g same xs) refl
-
 -- a map over leaves seen from one step further up
 map_under : {Y : Type 0} (f g : Leaf → Y) (step : PathStep) → ((leaf : Leaf) → f (under step leaf) ≡ g leaf) → (xs : List Leaf) → map f (map (under step) xs) ≡ map g xs
 map_under f g step same [] = refl
@@ -13,8 +9,7 @@ map_under f g step same (x ∷ xs) = rw (same x, map_under f g step same xs) ref
 -- what one more field adds
 map_field : {Y : Type 0} (f g : Leaf → Y) (name : List ℕ) (held : Tree) (rest : Fields) → ((leaf : Leaf) → f (under (Name name) leaf) ≡ g leaf) →
     map f (leaves (Field name held rest)) ≡ map g (leaves_of held) ++ map f (leaves rest)
-map_field f g name held rest same =
-    map-append f (map (under (Name name)) (leaves_of held)) (leaves rest) ∙ ap (λ xs. xs ++ map f (leaves rest)) (map_under f g (Name name) same (leaves_of held))
+map_field f g name held rest same = grind (arith, map-append, Name, leaves, map_under)
 
 -- the leaves of one element more
 pub leaves-more : (number : ℕ) (element : Tree) → leaves_of (Array (number + 1) element) ≡ leaves_of (Array number element) ++ map (under (At number)) (leaves_of element)
@@ -76,19 +71,11 @@ node_texts-none text element = refl
 
 pub node_kinds-more : (number : ℕ) (element : Tree) → node_kinds (Array (number + 1) element) ≡ node_kinds (Array number element) ++ node_kinds element
 unfolding node_kinds
-node_kinds-more number element =
-    ap (map (λ leaf. leaf.kind)) (leaves-more number element)
-    ∙ map-append _ (leaves_of (Array number element)) (map (under (At number)) (leaves_of element))
-    ∙ ap (λ xs. map (λ leaf. leaf.kind) (leaves_of (Array number element)) ++ xs) (map_under (λ leaf. leaf.kind) (λ leaf. leaf.kind) (At number) (λ leaf. refl) (leaves_of element))
+node_kinds-more number element = grind (arith, leaves-more, map-append, Array, map_under)
 
 pub node_texts-more : (text : List ℕ) (number : ℕ) (element : Tree) → node_texts text (Array (number + 1) element) ≡ node_texts text (Array number element) ++ node_texts (text ++ step_text (At number)) element
 unfolding node_texts
-node_texts-more text number element =
-    ap (map (λ leaf. text ++ flat_map step_text leaf.path)) (leaves-more number element)
-    ∙ map-append _ (leaves_of (Array number element)) (map (under (At number)) (leaves_of element))
-    ∙ ap (λ xs. map (λ leaf. text ++ flat_map step_text leaf.path) (leaves_of (Array number element)) ++ xs)
-    (map_under (λ leaf. text ++ flat_map step_text leaf.path) (λ leaf. (text ++ step_text (At number)) ++ flat_map step_text leaf.path) (At number)
-    (λ leaf. sym (append_assoc text (step_text (At number)) (flat_map step_text leaf.path))) (leaves_of element))
+node_texts-more text number element = grind (arith, flat_map, leaves-more, map-append, Array, map_under, append_assoc)
 
 pub record_kinds-all : (fields : Fields) → record_kinds fields ≡ kinds_of fields
 unfolding record_kinds

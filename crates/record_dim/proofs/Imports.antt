@@ -24,4 +24,4 @@ pub use Rattle.record_dim.specs.NameBytesLaws.{same_text, text_self, stored, nam
 pub use Rattle.record_dim.specs.Paths.{step_text, path_text_of}
 unfoldable pub use Rattle.record_dim.specs.Inner.Gathering.{node_kinds, node_texts, record_kinds, record_texts}
 pub use Rattle.record_dim.specs.Names.{is_word}
-pub use Rattle.record_dim.specs.declared.dim.FieldList.{the_lemmas, size-FieldList, FieldList}
+pub use Rattle.record_dim.specs.declared.dim.FieldList.{the_lemmas, size-FieldList}

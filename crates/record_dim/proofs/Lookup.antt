@@ -1,5 +1,5 @@
 -- Where the leaves of a node stand among those of the whole.
-use Rattle.record_dim.proofs.Imports.{◌≡◌, ℕ, suc, zero, ◌+◌, ◌*◌, ◌≤◌, ◌<◌, min, true, false, cond, nat_eq, nat_lt, None, List, [], ◌∷◌, ◌++◌, length, map, refl, sym, ap, ◌∙◌, ⊎_elim, append_assoc, add-one, mul-le-mul_right, arith, pointwise, cases_lt, nat_tests, length-append, length-map, map-append, append-nil, PathStep, Name, At, Tree, Record, Array, Fields, Field, Leaf, under, leaves_of, leaves, node_at, node_in, leaves_before, leaves_before_in, behind, IsStretch, HasChild, HasField, LeadsTo, same_text}
+use Rattle.record_dim.proofs.Imports.{◌≡◌, ℕ, suc, zero, ◌+◌, ◌*◌, ◌≤◌, ◌<◌, min, true, false, cond, nat_eq, nat_lt, None, List, [], ◌∷◌, ◌++◌, length, map, refl, sym, ap, ◌∙◌, ⊎_elim, append_assoc, add-one, mul-le-mul_right, arith, pointwise, cases_lt, length-append, length-map, map-append, append-nil, PathStep, Name, At, Tree, Record, Array, Fields, Field, Leaf, under, leaves_of, leaves, node_at, node_in, leaves_before, leaves_before_in, behind, IsStretch, HasChild, HasField, LeadsTo, same_text}
 use Rattle.record_dim.proofs.Walks.{length-leaves_of_array}
 use Rattle.record_dim.proofs.Gathered.{leaves-more}
 
@@ -25,27 +25,12 @@ leads_nowhere tree = record {
 
 stretch_on : (all : List Leaf) (step : PathStep) (steps : List PathStep) (below node : Tree) (first second : ℕ) →
     IsStretch all (step ∷ []) below first → IsStretch (leaves_of below) steps node second → IsStretch all (step ∷ steps) node (first + second)
-stretch_on all step steps below node first second outer inner =
-    let up = map (behind (step ∷ [])) in
-    let whole = map (behind steps) (leaves_of node) in
-    let spread : up (leaves_of below) ≡ up inner.front ++ (map (behind (step ∷ steps)) (leaves_of node) ++ up inner.back) =
-    ap up inner.parts ∙ map-append (behind (step ∷ [])) inner.front (whole ++ inner.back)
-    ∙ ap (λ xs. up inner.front ++ xs) (map-append (behind (step ∷ [])) whole inner.back ∙ ap (λ xs. xs ++ up inner.back) (behind_more step steps (leaves_of node))) in
-    record {
-      front = outer.front ++ up inner.front;
-      back = up inner.back ++ outer.back;
-      before = length-append outer.front (up inner.front) ∙ omega (arith, outer.before, inner.before, length-map inner.front (behind (step ∷ [])));
-      parts = outer.parts ∙ ap (λ xs. outer.front ++ (xs ++ outer.back)) spread ∙ regroup outer.front (up inner.front) (map (behind (step ∷ steps)) (leaves_of node)) (up inner.back) outer.back;
-    }
+stretch_on all step steps below node first second outer inner = grind (arith, map-append, behind_more, length-append, length-map, regroup)
 
 -- one step more
 pub leads_on : (tree : Tree) (step : PathStep) (steps : List PathStep) (below node : Tree) (first second : ℕ) →
     HasChild tree step first below → LeadsTo below steps second node → LeadsTo tree (step ∷ steps) (first + second) node
-leads_on tree step steps below node first second child inner = record {
-  found = child.node steps ∙ inner.found;
-  place = child.place steps ∙ ap (λ n. first + n) inner.place;
-  stretch = stretch_on (leaves_of tree) step steps below node first second child.stretch inner.stretch;
-}
+leads_on tree step steps below node first second child inner = grind (arith, stretch_on)
 
 -- a field is one step down from its record
 pub child_of_field : (fields : Fields) (name : List ℕ) (first : ℕ) (held : Tree) → HasField fields name first held → HasChild (Record fields) (Name name) first held
@@ -61,15 +46,7 @@ element_stretch (suc len) number element h =
     let one = map (under (At len)) (leaves_of element) in
     let more : leaves_of (Array (suc len) element) ≡ leaves_of (Array len element) ++ one = leaves-suc len element in
     ⊎_elim
-    (λ (below : number < len).
-    let inner = element_stretch len number element below in
-    let whole = map (behind (At number ∷ [])) (leaves_of element) in
-    record {
-      front = inner.front;
-      back = inner.back ++ one;
-      before = inner.before;
-      parts = more ∙ ap (λ xs. xs ++ one) inner.parts ∙ append_assoc inner.front (whole ++ inner.back) one ∙ ap (λ xs. inner.front ++ xs) (append_assoc whole inner.back one);
-    })
+    (λ (below : number < len). grind (arith, append_assoc, (element_stretch len number element below)))
     (λ (last : len ≤ number).
     let same : len ≡ number = omega arith in
     record {
@@ -81,21 +58,14 @@ element_stretch (suc len) number element h =
     (cases_lt number len)
 
 pub child_of_array : (len number : ℕ) (element : Tree) → number < len → HasChild (Array len element) (At number) (number * length (leaves_of element)) element
-child_of_array len number element h =
-    let yes : nat_lt number len ≡ true = grind (arith, nat_tests) in
-    record { node = λ steps. ap (λ b. cond b (node_at element steps) None) yes; place = λ steps. refl; stretch = element_stretch len number element h }
+child_of_array len number element h = grind (arith, nat_lt, node_at, element_stretch)
 
 pub no_element : (len number : ℕ) (element : Tree) (steps : List PathStep) → len ≤ number → node_at (Array len element) (At number ∷ steps) ≡ None
-no_element len number element steps h =
-    let no_ : nat_lt number len ≡ false = grind (arith, nat_tests) in
-    ap (λ b. cond b (node_at element steps) None) no_
+no_element len number element steps h = grind (arith, nat_lt, node_at)
 
 -- no more leaves stand below a node than in the whole
 pub stretch_few : (all : List Leaf) (steps : List PathStep) (node : Tree) (first : ℕ) → IsStretch all steps node first → first + length (leaves_of node) ≤ length all
-stretch_few all steps node first s =
-    let whole = map (behind steps) (leaves_of node) in
-    let total : length all ≡ length s.front + (length whole + length s.back) = ap length s.parts ∙ length-append s.front (whole ++ s.back) ∙ ap (λ n. length s.front + n) (length-append whole s.back) in
-    omega (arith, length-map (leaves_of node) (behind steps), s.before)
+stretch_few all steps node first s = grind (arith, length-append, length-map)
 
 -- the search for the field of this name: it is among the fields left, if anywhere, and `before` leaves are passed
 pub record IsLeft (fields left : Fields) (name : List ℕ) (before : ℕ) : Type 0 where
@@ -109,9 +79,7 @@ pub left_all : (fields : Fields) (name : List ℕ) → IsLeft fields fields name
 left_all fields name = record { node = λ steps. refl; place = λ steps. omega arith; front = []; many = refl; parts = refl }
 
 pub left_few : (fields left : Fields) (name : List ℕ) (before : ℕ) → IsLeft fields left name before → before + length (leaves left) ≡ length (leaves fields)
-left_few fields left name before l =
-    let total : length (leaves fields) ≡ length l.front + length (leaves left) = ap length l.parts ∙ length-append l.front (leaves left) in
-    omega (arith, l.many)
+left_few fields left name before l = grind (arith, leaves, length-append)
 
 -- another name
 pub left_more : (fields : Fields) (own : List ℕ) (held : Tree) (rest : Fields) (name : List ℕ) (before : ℕ) → pointwise nat_eq own name ≡ false →
@@ -120,10 +88,7 @@ left_more fields own held rest name before other l =
     let one = map (under (Name own)) (leaves_of held) in
     record {
       node = λ steps. l.node steps ∙ ap (λ b. cond b (node_at held steps) (node_in rest name steps)) other;
-      place = λ steps.
-          let later : leaves_before_in (Field own held rest) name steps ≡ length (leaves_of held) + leaves_before_in rest name steps =
-          ap (λ b. cond b (leaves_before held steps) (length (leaves_of held) + leaves_before_in rest name steps)) other in
-          omega (arith, l.place steps);
+      place = λ steps. grind (arith, leaves_before_in, leaves_before);
       front = l.front ++ one;
       many = length-append l.front one ∙ omega (arith, l.many, length-map (leaves_of held) (under (Name own)));
       parts = l.parts ∙ sym (append_assoc l.front one (leaves rest));
@@ -136,28 +101,17 @@ left_found fields own held rest name before this l =
     let same : own ≡ name = same_text own name this in
     record {
       node = λ steps. l.node steps ∙ ap (λ b. cond b (node_at held steps) (node_in rest name steps)) this;
-      place = λ steps.
-          let here : leaves_before_in (Field own held rest) name steps ≡ leaves_before held steps =
-          ap (λ b. cond b (leaves_before held steps) (length (leaves_of held) + leaves_before_in rest name steps)) this in
-          omega (arith, l.place steps);
+      place = λ steps. grind (arith, leaves_before_in, leaves_before);
       stretch = record { front = l.front; back = leaves rest; before = l.many; parts = l.parts ∙ ap (λ n. l.front ++ (map (under (Name n)) (leaves_of held) ++ leaves rest)) same };
     }
 
 times_one_more : (number len n : ℕ) → number < len → number * n + n ≤ len * n
-times_one_more number len n h =
-    let e : (number + 1) * n ≡ number * n + n = grind arith in
-    let le : (number + 1) * n ≤ len * n = mul-le-mul_right n (omega arith) in
-    omega arith
+times_one_more number len n h = grind (arith, mul-le-mul_right)
 
 -- the count of an element's leaves is exact in an array that has few
 pub array_place : (len number : ℕ) (element : Tree) (count : ℕ) → number < len → length (leaves_of (Array len element)) ≤ 64 → count ≡ min 65 (length (leaves_of element)) →
     (count ≡ length (leaves_of element)) × (number * count + length (leaves_of element) ≤ 64)
-array_place len number element count h few e =
-    let n = length (leaves_of element) in
-    let whole : length (leaves_of (Array len element)) ≡ len * n = length-leaves_of_array len element in
-    let le : number * n + n ≤ len * n = times_one_more number len n h in
-    let exact : count ≡ n = omega arith in
-    (exact, rw exact (omega arith))
+array_place len number element count h few e = grind (arith, Array, length-leaves_of_array, times_one_more)
 
 pub leads_in : (fields : Fields) (name : List ℕ) (steps : List PathStep) (held node : Tree) (first second : ℕ) →
     HasField fields name first held → LeadsTo held steps second node → LeadsTo (Record fields) (Name name ∷ steps) (first + second) node

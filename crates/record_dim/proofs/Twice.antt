@@ -1,15 +1,12 @@
 -- The search for a name that stands twice: what the set of the names so far and the names that are left say together.
 use Rattle.record_dim.proofs.Imports.{◌≡◌, ℕ, Bool, true, false, cond, not, ◌||◌, nat_eq, List, [], ◌∷◌, refl, sym, ap, ◌∙◌, list_any, nat_cmp, is_at, pointwise, slice_cmp, texts_ties, has_twice}
+use Rattle.std.proofs.Common.{arith}
 
 or_of_cond : (b x : Bool) → cond b true x ≡ (b || x)
-or_of_cond true x = refl
-or_of_cond false x = refl
+or_of_cond b x = grind arith
 
 shuffle : (a b c d : Bool) → ((a || b) || (c || d)) ≡ ((a || c) || (b || d))
-shuffle true b c d = refl
-shuffle false true true d = refl
-shuffle false true false d = refl
-shuffle false false c d = refl
+shuffle a b c d = grind arith
 
 -- what holds of some element by either test
 any_either : {X : Type 0} (new p q : X → Bool) → ((x : X) → new x ≡ (p x || q x)) → (xs : List X) → list_any new xs ≡ (list_any p xs || list_any q xs)
@@ -17,9 +14,7 @@ any_either new p q same [] = refl
 any_either new p q same (x ∷ xs) = rw (same x, any_either new p q same xs) (shuffle (p x) (q x) (list_any p xs) (list_any q xs))
 
 regroup : (a b c : Bool) → ((a || b) || c) ≡ (b || (a || c))
-regroup true true c = refl
-regroup true false c = refl
-regroup false b c = refl
+regroup a b c = grind arith
 
 -- one name more is in the set, and it was not there before
 pub twice_step : (old new : List ℕ → Bool) (name : List ℕ) (names : List (List ℕ)) →
@@ -39,5 +34,4 @@ pub twice_start : (old : List ℕ → Bool) (names : List (List ℕ)) → ((q : 
 twice_start old names none = rw (any_none old none names) refl
 
 pub absent_from : (present added : Bool) → added ≡ not present → added ≡ true → present ≡ false
-absent_from true added e h = cc
-absent_from false added e h = refl
+absent_from present added e h = grind arith

@@ -1,5 +1,5 @@
 -- Steps of the walks over trees: one more field, one more level.
-use Rattle.record_dim.proofs.Imports.{◌≡◌, ℕ, ◌+◌, ◌*◌, ◌-◌, ◌≤◌, ◌<◌, min, max, suc, zero, Bool, true, false, nat_le, List, [], ◌∷◌, ◌++◌, length, map, refl, ap, ◌∙◌, ⊎_elim, arith, mul_comm, zero-mul, cases_lt, length-range_with_len, nat_tests, length-append, length-map, list_any-append, flat_map-cons, list_any, flat_map, range_with_len, At, Tree, Array, Fields, Field, leaves, leaves_of, under}
+use Rattle.record_dim.proofs.Imports.{◌≡◌, ℕ, ◌+◌, ◌*◌, ◌-◌, ◌≤◌, ◌<◌, min, max, Bool, true, false, nat_le, List, [], ◌∷◌, ◌++◌, length, map, refl, ap, ◌∙◌, arith, mul_comm, zero-mul, cases_lt, length-range_with_len, nat_tests, length-append, length-map, list_any-append, flat_map-cons, list_any, flat_map, range_with_len, At, Tree, Array, Fields, Field, leaves, leaves_of, under}
 
 -- where the front has none, the whole has what the rest has
 pub any_rest : {X : Type 0} (p : X → Bool) (xs ys : List X) → list_any p xs ≡ false → list_any p (xs ++ ys) ≡ list_any p ys
@@ -26,10 +26,7 @@ length-leaves name held rest = rw (length-append, length-map) refl
 -- a list of pieces of one length
 length-pieces : {X Y : Type 0} (f : X → List Y) (n : ℕ) → ((x : X) → length (f x) ≡ n) → (xs : List X) → length (flat_map f xs) ≡ length xs * n
 length-pieces f n same [] = grind arith
-length-pieces f n same (x ∷ xs) =
-    let e = length-pieces f n same xs in
-    let h = same x in
-    rw (flat_map-cons, length-append, h, e) (grind arith)
+length-pieces f n same (x ∷ xs) = grind (arith, flat_map-cons, length-append, (length-pieces f n same xs))
 
 pub length-leaves_of_array : (len : ℕ) (element : Tree) → length (leaves_of (Array len element)) ≡ len * length (leaves_of element)
 length-leaves_of_array len element =
@@ -37,34 +34,19 @@ length-leaves_of_array len element =
     ∙ ap (λ n. n * length (leaves_of element)) (length-range_with_len 0 len)
 
 small_product : (n c : ℕ) → n ≤ 65 → c ≤ 65 → min (min n 65 * min 65 c) 65 ≡ min 65 (n * c)
-small_product n c hn hc =
-    let en : min n 65 ≡ n = omega arith in
-    let ec : min 65 c ≡ c = omega arith in
-    rw (en, ec) (omega arith)
+small_product n c hn hc = grind arith
 
 times_at_least : (n c : ℕ) → 65 ≤ n → 1 ≤ c → 65 ≤ n * c
 times_at_least n c hn hc = grind arith
 
 big_product : (n c : ℕ) → 65 ≤ n → 1 ≤ c → min (min n 65 * min 65 c) 65 ≡ min 65 (n * c)
-big_product n c hn hc =
-    let one = times_at_least n c hn hc in
-    let two = times_at_least (min n 65) (min 65 c) (omega arith) (omega arith) in
-    omega arith
+big_product n c hn hc = grind (arith, times_at_least)
 
 wide_product : (n c : ℕ) → 65 ≤ c → min (min n 65 * min 65 c) 65 ≡ min 65 (n * c)
-wide_product zero c h = rw (zero-mul (min 65 c), zero-mul c) (omega arith)
-wide_product (suc n) c h =
-    let one = times_at_least c (suc n) h (omega arith) in
-    let two = times_at_least (min 65 c) (min (suc n) 65) (omega arith) (omega arith) in
-    rw (mul_comm (suc n) c, mul_comm (min (suc n) 65) (min 65 c)) (omega arith)
+wide_product n c h = grind (arith, zero-mul, times_at_least, mul_comm)
 
 pub capped_product : (n c : ℕ) → min (min n 65 * min 65 c) 65 ≡ min 65 (n * c)
-capped_product n zero = omega arith
-capped_product n (suc c) =
-    ⊎_elim
-    (λ (h : n < 65). ⊎_elim (λ (k : suc c < 65). small_product n (suc c) (omega arith) (omega arith)) (λ (k : 65 ≤ suc c). wide_product n (suc c) k) (cases_lt (suc c) 65))
-    (λ (h : 65 ≤ n). big_product n (suc c) h (omega arith))
-    (cases_lt n 65)
+capped_product n c = grind (arith, small_product, wide_product, cases_lt, big_product)
 
 -- the number of leaves of an array, with a cap
 pub capped_leaves : (len : ℕ) (element : Tree) → min (min len 65 * min 65 (length (leaves_of element))) 65 ≡ min 65 (length (leaves_of (Array len element)))

@@ -1,5 +1,5 @@
 -- The bytes of a name: they are ASCII, and padding them gives the fields back.
-use Rattle.std.proofs.Common.{◌≡◌, ℕ, suc, zero, ◌-◌, ◌<◌, ◌≤◌, Bool, true, false, ◌&&◌, nat_eq, List, [], ◌∷◌, ◌++◌, length, get_or, drop, replicate, refl, sym, ap, ◌∙◌, arith}
+use Rattle.std.proofs.Common.{◌≡◌, ℕ, suc, zero, ◌-◌, ◌<◌, ◌≤◌, Bool, true, ◌&&◌, nat_eq, List, [], ◌∷◌, ◌++◌, length, get_or, drop, replicate, refl, arith}
 use Rattle.std.proofs.lemmas.List.{drop-replicate, length-append, length-drop}
 use Rattle.std.proofs.Math.Seq.{take-append_seam}
 use Rattle.std.proofs.lemmas.Bool.Decides.{nat_tests}
@@ -8,11 +8,10 @@ use Rattle.std.specs.Cmp.Lexicographic.{pointwise}
 use Rattle.std.specs.List.{list_all}
 use Rattle.std.specs.Str.{IsUtf8}
 use Rattle.std.proofs.lemmas.Str.{IsUtf8-from_ascii}
-use Rattle.record_dim.specs.Names.{begins_name, continues_name, is_word, is_name, padded_name, StoresName}
+use Rattle.record_dim.specs.Names.{begins_name, continues_name, is_word, is_name, StoresName}
 
 pub both : (a b : Bool) → (a && b) ≡ true → (a ≡ true) × (b ≡ true)
-both true b e = (refl, e)
-both false b e = cc
+both a b e = grind arith
 
 begins_low : (byte : ℕ) → begins_name byte ≡ true → byte < 128
 begins_low byte h = grind (arith, nat_tests)
@@ -26,29 +25,21 @@ all_low (byte ∷ text) h zero = continues_low byte (both _ _ h).0
 all_low (byte ∷ text) h (suc i) = all_low text (both _ _ h).1 i
 
 word_low : (text : List ℕ) → is_word text ≡ true → (i : ℕ) → get_or text i 0 < 128
-word_low [] h i = omega arith
-word_low (byte ∷ text) h zero = begins_low byte (both _ _ h).0
-word_low (byte ∷ text) h (suc i) = all_low text (both _ _ h).1 i
+word_low text h i = grind (arith, begins_low, both, all_low)
 
 -- the bytes of a name are a text
 pub name_utf8 : (text : List ℕ) → is_name text ≡ true → IsUtf8 text
 name_utf8 text h = IsUtf8-from_ascii text (word_low text (both _ _ h).1)
 
 pub word_at : (text : List ℕ) → 1 ≤ length text → is_word text ≡ (begins_name (get_or text 0 0) && list_all continues_name (drop 1 text))
-word_at [] h = absurd (omega arith)
-word_at (byte ∷ text) h = refl
+word_at text h = grind arith
 
 -- what `Name::new` makes
 pub stored : (text : List ℕ) → length text ≤ 32 → is_word text ≡ true → StoresName (text ++ drop (length text) (replicate 32 0)) (length text)
 stored text small word =
     let cut = take-append_seam text (drop (length text) (replicate 32 0)) in
     let pads : drop (length text) (replicate {A = ℕ} 32 0) ≡ replicate {A = ℕ} (32 - length text) 0 = drop-replicate (length text) 32 0 in
-    record {
-      small = small;
-      whole = rw (length-append, length-drop) (omega arith);
-      padding = ap padded_name cut ∙ ap (λ zeros. text ++ zeros) (sym pads);
-      name = rw cut (grind (arith, nat_tests));
-    }
+    grind (arith, length-append, length-drop)
 
 -- texts that compare equal are one
 pub same_text : (xs ys : List ℕ) → pointwise nat_eq xs ys ≡ true → xs ≡ ys

@@ -10,18 +10,14 @@ pub record IsFirst {A : Type 0} (first : Result A UpdateFault) (rest : Result (L
   pub all_are : all ≡ y ∷ ys
 
 pub parted : {A : Type 0} (first : Result A UpdateFault) (rest : Result (List A) UpdateFault) (all : List A) → (first >>= (λ y. rest >>= (λ ys. Ok (y ∷ ys)))) ≡ Ok all → IsFirst first rest all
-parted (Ok y) (Ok ys) all e = record { y = y; ys = ys; first_is = refl; rest_is = refl; all_are = cc }
-parted (Ok y) (Err f) all e = absurd (cc)
-parted (Err f) rest all e = absurd (cc)
+parted first rest all e = grind arith
 
 chained : {A : Type 0} (first : Result A UpdateFault) (rest : Result (List A) UpdateFault) (y : A) (ys : List A) → first ≡ Ok y → rest ≡ Ok ys → (first >>= (λ y. rest >>= (λ ys. Ok (y ∷ ys)))) ≡ Ok (y ∷ ys)
 chained first rest y ys e f = rw (e, f) refl
 
 -- one thing more
 pub each_push : {A B : Type 0} (step : A → Result B UpdateFault) (xs : List A) (x : A) (ys : List B) (y : B) → each step xs ≡ Ok ys → step x ≡ Ok y → each step (xs ++ x ∷ []) ≡ Ok (ys ++ y ∷ [])
-each_push {B} step [] x ys y so_far more =
-    let none : ys ≡ [] = cc in
-    rw (more, none) refl
+each_push {B} step [] x ys y so_far more = grind arith
 each_push {B} step (a ∷ xs) x ys y so_far more =
     let p = parted (step a) (each step xs) ys so_far in
     let front : each step (a ∷ (xs ++ x ∷ [])) ≡ Ok (p.y ∷ (p.ys ++ y ∷ [])) =
@@ -40,8 +36,7 @@ each_stop step (a ∷ xs) (suc n) d ys f small so_far stop =
 -- each thing gave what stands in its place
 pub each_at : {A B : Type 0} (step : A → Result B UpdateFault) (xs : List A) (ys : List B) (n : ℕ) (d : A) (e : B) → n < length xs → each step xs ≡ Ok ys → step (get_or xs n d) ≡ Ok (get_or ys n e)
 each_at step [] ys n d e small all = absurd (omega (arith, small))
-each_at step (a ∷ xs) ys zero d e small all =
-    let p = parted (step a) (each step xs) ys all in rw p.all_are p.first_is
+each_at step (a ∷ xs) ys zero d e small all = grind (arith, parted)
 each_at step (a ∷ xs) ys (suc n) d e small all =
     let p = parted (step a) (each step xs) ys all in
     let less : n < length xs = omega (arith, small) in

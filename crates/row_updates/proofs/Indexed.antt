@@ -1,5 +1,5 @@
 -- The index of a row of one extent, and an index that is put into numbers.
-use Rattle.row_updates.proofs.Imports.{◌≡◌, ℕ, ◌*◌, ◌<◌, ◌≤◌, List, [], ◌∷◌, length, length-take, set, take, Some, sym, ap, ◌∙◌, arith, slice_get, get_or_from_slice_get, AllZip-long, indices, IsInside, length-indices, place, slice_get-place, index_at}
+use Rattle.row_updates.proofs.Imports.{◌≡◌, ℕ, ◌<◌, List, [], ◌∷◌, length, set, take, Some, sym, ap, ◌∙◌, arith, slice_get, get_or_from_slice_get, AllZip-long, indices, IsInside, length-indices, place, slice_get-place, index_at}
 
 line_place : (n row : ℕ) → place (n ∷ []) (row ∷ []) ≡ row
 line_place n row = omega arith
@@ -9,8 +9,7 @@ line_entry n row below =
     ap (slice_get (indices (n ∷ []))) (sym (line_place n row)) ∙ slice_get-place (n ∷ []) (row ∷ []) (below, tt)
 
 line_below : (n row : ℕ) → row < length (indices (n ∷ [])) → row < n
-line_below n row small =
-    let count : length (indices (n ∷ [])) ≡ n * 1 = length-indices (n ∷ []) in omega (arith, small, count)
+line_below n row small = grind (arith, length-indices)
 
 -- in an array of one extent the index of a row is the row
 pub index_of_line : (extents : List ℕ) (row : ℕ) → length extents ≡ 1 → row < length (indices extents) → row ∷ [] ≡ index_at extents row
@@ -27,11 +26,8 @@ line_put extents [] row one some small = absurd (omega (arith, some))
 line_put extents (n ∷ more) row one some small = ap (λ k. take k (row ∷ more)) one ∙ index_of_line extents row one small
 
 pub far_put : (extents items slice numbers : List ℕ) (row : ℕ) → slice ≡ items → slice_get (indices extents) row ≡ Some items → IsInside extents items → take (length slice) numbers ≡ slice → take (length extents) numbers ≡ index_at extents row
-far_put extents items slice numbers row is entry inside put =
-    let long : length slice ≡ length extents = ap length is ∙ sym (AllZip-long (λ i n. i < n) items extents inside) in
-    ap (λ k. take k numbers) (sym long) ∙ put ∙ is ∙ index_entry extents row items entry
+far_put extents items slice numbers row is entry inside put = grind (arith, AllZip-long, index_entry)
 
 -- and so it is where they are read again
 pub index_read : (extents e numbers : List ℕ) (row rank : ℕ) → e ≡ extents → rank ≡ length e → take (length e) numbers ≡ index_at e row → take rank numbers ≡ index_at extents row
-index_read extents e numbers row rank same long put =
-    ap (λ k. take k numbers) long ∙ put ∙ ap (λ x. index_at x row) same
+index_read extents e numbers row rank same long put = grind arith

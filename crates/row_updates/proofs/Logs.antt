@@ -1,5 +1,5 @@
 -- Accesses one after another: of an expression, of the right sides of a row, and of its stores.
-use Rattle.row_updates.proofs.Imports.{◌≡◌, ℕ, zero, suc, ◌+◌, ◌<◌, List, [], ◌∷◌, ◌++◌, length, map, take, get_or, ℤ, Bool, true, false, Option, Some, None, Result, Ok, Err, MutBor, refl, ap, sym, ◌∙◌, arith, fold, append-nil, append_assoc, map-append, take_more, Term, index_at, StoreAnswer, Access, Read, Write, after_log-append, after_reads, logs_more, Table, answer_of, after_log, after_read, UpdateFault, Setting, each, passes, new_value, tried_row, value_log, filter_log, if_ok, if_passes, sides_log, stores_log, tried_log, if_given, row_log, count_log, log_as_tried}
+use Rattle.row_updates.proofs.Imports.{◌≡◌, ℕ, zero, suc, ◌+◌, ◌<◌, List, [], ◌∷◌, ◌++◌, length, map, take, get_or, ℤ, Bool, true, false, Option, Some, None, Result, Ok, Err, MutBor, refl, ap, sym, ◌∙◌, arith, fold, append-nil, append_assoc, map-append, take_more, Term, index_at, StoreAnswer, Access, Read, Write, after_log-append, after_reads, logs_more, Table, answer_of, after_log, after_read, UpdateFault, Setting, each, passes, new_value, tried_row, value_log, filter_log, if_ok, if_passes, sides_log, stores_log, tried_log, row_log, count_log, log_as_tried}
 use Rattle.row_updates.proofs.Each.{parted}
 
 -- reads through a row that is borrowed
@@ -11,41 +11,29 @@ pub lent_log : (row : ℕ) (lent : MutBor Table) (reads : List ℕ) → fold (λ
 lent_log row lent reads = lent_reads row lent reads ∙ ap (λ (s : Table). (record lent { now = s }, row)) (after_reads row lent.now reads)
 
 pub if_ok_none : {A : Type 0} (result : Result A UpdateFault) → if_ok result [] ≡ []
-if_ok_none (Ok x) = refl
-if_ok_none (Err fault) = refl
+if_ok_none result = grind arith
 
 -- one right side more
 pub sides_push : (answer : StoreAnswer) (number : ℕ) (row : List ℤ) (index : List ℕ) (sets : List Setting) (set : Setting) (values : List ℤ) → each (new_value answer number row index) sets ≡ Ok values → sides_log answer number row index (sets ++ set ∷ []) ≡ sides_log answer number row index sets ++ value_log number row index set.value
-sides_push answer number row index [] set values so_far =
-    let log = value_log number row index set.value in
-    ap (λ (more : List Access). log ++ more) (if_ok_none (new_value answer number row index set)) ∙ append-nil log
+sides_push answer number row index [] set values so_far = grind (arith, if_ok_none, append-nil)
 sides_push answer number row index (one ∷ sets) set values so_far =
     let p = parted (new_value answer number row index one) (each (new_value answer number row index) sets) values so_far in
     let log = value_log number row index one.value in
     let last = value_log number row index set.value in
-    let more = sides_log answer number row index sets in
-    ap (λ (r : Result ℤ UpdateFault). log ++ if_ok r (sides_log answer number row index (sets ++ set ∷ []))) p.first_is
-    ∙ ap (λ (l : List Access). log ++ l) (sides_push answer number row index sets set p.ys p.rest_is)
-    ∙ sym (append_assoc log more last)
-    ∙ ap (λ (r : Result ℤ UpdateFault). log ++ if_ok r more ++ last) (sym p.first_is)
+    let more = sides_log answer number row index sets in grind (arith, append_assoc, (sides_push answer number row index sets set p.ys p.rest_is))
 
 -- the first right side with a fault is the last that is read
 pub sides_stop : (answer : StoreAnswer) (number : ℕ) (row : List ℤ) (index : List ℕ) (sets : List Setting) (n : ℕ) (d : Setting) (values : List ℤ) (fault : UpdateFault) → n < length sets → each (new_value answer number row index) (take n sets) ≡ Ok values → new_value answer number row index (get_or sets n d) ≡ Err fault
     → sides_log answer number row index sets ≡ sides_log answer number row index (take n sets) ++ value_log number row index (get_or sets n d).value
 sides_stop answer number row index [] n d values fault small so_far stop = absurd (omega (arith, small))
-sides_stop answer number row index (one ∷ sets) zero d values fault small so_far stop =
-    let log = value_log number row index one.value in
-    ap (λ (r : Result ℤ UpdateFault). log ++ if_ok r (sides_log answer number row index sets)) stop ∙ append-nil log
+sides_stop answer number row index (one ∷ sets) zero d values fault small so_far stop = grind (arith, append-nil)
 sides_stop answer number row index (one ∷ sets) (suc n) d values fault small so_far stop =
     let p = parted (new_value answer number row index one) (each (new_value answer number row index) (take n sets)) values so_far in
     let less : n < length sets = omega (arith, small) in
     let log = value_log number row index one.value in
     let last = value_log number row index (get_or sets n d).value in
     let more = sides_log answer number row index (take n sets) in
-    ap (λ (r : Result ℤ UpdateFault). log ++ if_ok r (sides_log answer number row index sets)) p.first_is
-    ∙ ap (λ (l : List Access). log ++ l) (sides_stop answer number row index sets n d p.ys fault less p.rest_is stop)
-    ∙ sym (append_assoc log more last)
-    ∙ ap (λ (r : Result ℤ UpdateFault). log ++ if_ok r more ++ last) (sym p.first_is)
+    grind (arith, append_assoc, (sides_stop answer number row index sets n d p.ys fault less p.rest_is stop))
 
 -- one store more
 pub stores_push : (number : ℕ) (sets : List Setting) (n : ℕ) (d : Setting) → n < length sets → stores_log number (take (n + 1) sets) ≡ stores_log number (take n sets) ++ Write number (get_or sets n d).leaf ∷ []
@@ -53,8 +41,7 @@ stores_push number sets n d small = ap (stores_log number) (take_more sets n d s
 
 -- accesses that left the table, after others that left it
 pub log_more : (old view after : Table) (log : List Access) (more : StoreAnswer → List (List ℤ) → List Access) → view ≡ after_log old log → after ≡ after_log view (more (answer_of view) view.rows) → after ≡ after_log old (log ++ more (answer_of old) old.rows)
-log_more old view after log more so_far last =
-    last ∙ ap (λ (s : Table). after_log s (more (answer_of s) s.rows)) so_far ∙ after_log-append old log (more (answer_of old) old.rows)
+log_more old view after log more so_far last = grind (arith, after_log-append)
 
 -- the accesses of a row that is tried: its filter leaves it out, or has a fault, or lets its right sides be read
 abbrev tested_log : StoreAnswer → Option (Term ℕ) → List Setting → ℕ → List ℤ → List ℕ → Result Bool UpdateFault → List Access
@@ -71,21 +58,13 @@ tried_log_done answer filter sets number row index test = ap (tested_log answer 
 
 -- those of a row that is given nothing, of one with a fault, and of one that is updated
 pub row_log_left : (answer : StoreAnswer) (filter : Option (Term ℕ)) (sets : List Setting) (number : ℕ) (row : List ℤ) (index : List ℕ) → tried_row answer filter sets number row index ≡ Ok None → row_log answer filter sets number row index ≡ tried_log answer filter sets number row index
-row_log_left answer filter sets number row index tried =
-    log_as_tried answer filter sets number row index
-    ∙ ap (λ (given : Result (Option (List ℤ)) UpdateFault). tried_log answer filter sets number row index ++ if_given given (stores_log number sets)) tried
-    ∙ append-nil (tried_log answer filter sets number row index)
+row_log_left answer filter sets number row index tried = grind (arith, log_as_tried, append-nil)
 
 pub row_log_stop : (answer : StoreAnswer) (filter : Option (Term ℕ)) (sets : List Setting) (number : ℕ) (row : List ℤ) (index : List ℕ) (fault : UpdateFault) → tried_row answer filter sets number row index ≡ Err fault → row_log answer filter sets number row index ≡ tried_log answer filter sets number row index
-row_log_stop answer filter sets number row index fault tried =
-    log_as_tried answer filter sets number row index
-    ∙ ap (λ (given : Result (Option (List ℤ)) UpdateFault). tried_log answer filter sets number row index ++ if_given given (stores_log number sets)) tried
-    ∙ append-nil (tried_log answer filter sets number row index)
+row_log_stop answer filter sets number row index fault tried = grind (arith, log_as_tried, append-nil)
 
 pub row_log_done : (answer : StoreAnswer) (filter : Option (Term ℕ)) (sets : List Setting) (number : ℕ) (row : List ℤ) (index : List ℕ) (values : List ℤ) → tried_row answer filter sets number row index ≡ Ok (Some values) → row_log answer filter sets number row index ≡ tried_log answer filter sets number row index ++ stores_log number sets
-row_log_done answer filter sets number row index values tried =
-    log_as_tried answer filter sets number row index
-    ∙ ap (λ (given : Result (Option (List ℤ)) UpdateFault). tried_log answer filter sets number row index ++ if_given given (stores_log number sets)) tried
+row_log_done answer filter sets number row index values tried = grind (arith, log_as_tried)
 
 -- the reads of one row more that is counted
 pub count_push : (old view after : Table) (filter : Term ℕ) (row : ℕ) → view ≡ after_log old (count_log filter old.extents old.rows row) → after ≡ after_log view (value_log row (get_or view.rows row []) (index_at old.extents row) filter) → after ≡ after_log old (count_log filter old.extents old.rows (row + 1))

@@ -68,24 +68,17 @@ stored_more old view new row place sets set values inside small short is so_far 
 
 -- a right side that has a value, by what its store is told
 tested_as : (number leaf : ℕ) (value : ℤ) (answer : Result ℤ StoreFault) → (in_row number (store_kind leaf) answer >>= (λ kept. Ok value)) ≡ (in_row number (store_kind leaf) (without_number answer) >>= (λ done. Ok value))
-tested_as number leaf value (Ok kept) = refl
-tested_as number leaf value (Err fault) = refl
+tested_as number leaf value answer = grind arith
 
 pub value_tested : (old read : Table) (number : ℕ) (row : List ℤ) (index : List ℕ) (set : Setting) (log : List Access) (value : ℤ) (answer : Result Unit StoreFault) → value_of number row index set.value ≡ Ok value
     → read ≡ after_log old log → answer ≡ without_number (answer_of read set.leaf value) → new_value (answer_of old) number row index set ≡ (in_row number (store_kind set.leaf) answer >>= (λ done. Ok value))
-value_tested old read number row index set log value answer gives reads is =
-    ap (λ (first : Result ℤ UpdateFault). first >>= (λ v. in_row number (store_kind set.leaf) (answer_of old set.leaf v) >>= (λ kept. Ok v))) gives
-    ∙ tested_as number set.leaf value (answer_of old set.leaf value)
-    ∙ ap (λ (t : Table). in_row number (store_kind set.leaf) (without_number (answer_of t set.leaf value)) >>= (λ done. Ok value)) (sym reads)
-    ∙ ap (λ (r : Result Unit StoreFault). in_row number (store_kind set.leaf) r >>= (λ done. Ok value)) (sym is)
+value_tested old read number row index set log value answer gives reads is = grind (arith, tested_as)
 
 fits_from : (number : ℕ) (set : Setting) (got : ℤ) (answer : Result ℤ StoreFault) (value : ℤ) → (in_row number (store_kind set.leaf) answer >>= (λ kept. Ok got)) ≡ Ok value → (is_ok answer ≡ true) × (got ≡ value)
-fits_from number set got (Ok kept) value e = (refl, cc)
-fits_from number set got (Err fault) value e = absurd (cc)
+fits_from number set got answer value e = grind arith
 
 took_from : (answer : StoreAnswer) (number : ℕ) (set : Setting) (first : Result ℤ UpdateFault) (value : ℤ) → (first >>= (λ v. in_row number (store_kind set.leaf) (answer set.leaf v) >>= (λ kept. Ok v))) ≡ Ok value → is_ok (answer set.leaf value) ≡ true
-took_from answer number set (Ok v) value e = let f = fits_from number set v (answer set.leaf v) value e in ap (λ (v : ℤ). is_ok (answer set.leaf v)) (sym f.1) ∙ f.0
-took_from answer number set (Err fault) value e = absurd (cc)
+took_from answer number set first value e = grind (arith, fits_from, is_ok)
 
 -- a right side that has a value was taken
 pub took : (answer : StoreAnswer) (number : ℕ) (row : List ℤ) (index : List ℕ) (set : Setting) (value : ℤ) → new_value answer number row index set ≡ Ok value → is_ok (answer set.leaf value) ≡ true
@@ -132,9 +125,7 @@ none_updated view filter sets = record { same = sym (after_log-none view); count
 
 -- what the next row of the table so far gives is what the row gives as it stood
 row_here : {A : Type 0} (gives : StoreAnswer → Keeping → List ℤ → List ℕ → A) (old view : Table) (filter : Option (Term ℕ)) (sets : List Setting) (row : ℕ) → AreUpdated old filter sets view row → gives (answer_of view) (kept_of view) (get_or view.rows row []) (index_at view.extents row) ≡ gives (answer_of old) (kept_of old) (get_or old.rows row []) (index_at old.extents row)
-row_here gives old view filter sets row so_far =
-    ap (λ (v : Table). gives (answer_of v) (kept_of v) (get_or view.rows row []) (index_at v.extents row)) so_far.same
-    ∙ ap (λ (r : List ℤ). gives (answer_of old) (kept_of old) r (index_at old.extents row)) (same_at view.rows old.rows row [] so_far.back)
+row_here gives old view filter sets row so_far = grind (arith, same_at)
 
 pub rows_stopped : (old view : Table) (filter : Option (Term ℕ)) (sets : List Setting) (row : ℕ) (fault : UpdateFault) → row < length old.rows → AreUpdated old filter sets view row → updated_row (answer_of view) (kept_of view) filter sets row (get_or view.rows row []) (index_at view.extents row) ≡ Err fault → updated_rows (answer_of old) (kept_of old) filter sets old.extents old.rows (length old.rows) ≡ Err fault
 rows_stopped old view filter sets row fault small so_far stop =
@@ -178,15 +169,13 @@ rows_more old view after filter sets row new small so_far gives changed =
     record {
       same = rows_touched old view after filter sets row (slice_set view.rows row new) so_far changed;
       count = ap length table ∙ length-set view.rows row new ∙ so_far.count;
-      front = rows_push (λ number. updated_row (answer_of old) (kept_of old) filter sets number (get_or old.rows number []) (index_at old.extents number)) row (take row view.rows) new so_far.front (sym here ∙ gives)
-          ∙ ap (λ (t : List (List ℤ)). Ok t) (sym (take_more_set view.rows row new inside) ∙ ap (take (row + 1)) (sym table));
+      front = grind (arith, rows_push, take_more_set);
       back = ap (drop (row + 1)) table ∙ drop-set-lt (row + 1) view.rows row new past ∙ same_behind view.rows old.rows row [] inside small so_far.back;
     }
 
 -- rows that pass, counted
 count_one : (test : Bool) → count_by (λ t. t) (test ∷ []) ≡ bool_byte test
-count_one true = refl
-count_one false = refl
+count_one test = grind arith
 
 tests_push : (tests : List Bool) (test : Bool) → count_by (λ t. t) (tests ++ test ∷ []) ≡ count_by (λ t. t) tests + bool_byte test
 tests_push tests test = sum_by-append (λ (t : Bool). cond t 1 0) tests (test ∷ []) ∙ ap (λ (n : ℕ). count_by (λ t. t) tests + n) (count_one test)
@@ -195,8 +184,7 @@ pub none_counted : (step : ℕ → Result Bool UpdateFault) → AreCounted step 
 none_counted step = record { few = omega arith; tests = []; gives = refl; counts = refl }
 
 pub one_at_most : (test : Bool) → bool_byte test ≤ 1
-one_at_most true = omega arith
-one_at_most false = omega arith
+one_at_most test = grind arith
 
 pub one_counted : (step : ℕ → Result Bool UpdateFault) (row count more : ℕ) (test : Bool) → AreCounted step row count → step row ≡ Ok test → more ≡ bool_byte test → AreCounted step (row + 1) (count + more)
 one_counted step row count more test so_far gives is =
@@ -209,15 +197,10 @@ one_counted step row count more test so_far gives is =
     }
 
 pub counted_stop : (filter : Term ℕ) (extents : List ℕ) (rows : List (List ℤ)) (row count : ℕ) (fault : UpdateFault) → row < length rows → AreCounted (λ number. passes number (get_or rows number []) (index_at extents number) (Some filter)) row count → passes row (get_or rows row []) (index_at extents row) (Some filter) ≡ Err fault → counted filter extents rows ≡ Err fault
-counted_stop filter extents rows row count fault small so_far stop =
-    let step = λ (number : ℕ). passes number (get_or rows number []) (index_at extents number) (Some filter) in
-    ap (λ (r : Result (List Bool) UpdateFault). r >>= (λ tests. Ok (count_by (λ test. test) tests))) (rows_stop step (length rows) row so_far.tests fault small so_far.gives stop)
+counted_stop filter extents rows row count fault small so_far stop = grind (arith, count_by, rows_stop)
 
 pub counted_all : (filter : Term ℕ) (extents : List ℕ) (rows : List (List ℤ)) (row count : ℕ) → row ≡ length rows → AreCounted (λ number. passes number (get_or rows number []) (index_at extents number) (Some filter)) row count → counted filter extents rows ≡ Ok count
-counted_all filter extents rows row count whole so_far =
-    let step = λ (number : ℕ). passes number (get_or rows number []) (index_at extents number) (Some filter) in
-    ap (λ (n : ℕ). each step (range_with_len 0 n) >>= (λ tests. Ok (count_by (λ test. test) tests))) (sym whole)
-    ∙ ap (λ (r : Result (List Bool) UpdateFault). r >>= (λ tests. Ok (count_by (λ test. test) tests))) so_far.gives ∙ ap (λ (n : ℕ). Ok n) (sym so_far.counts)
+counted_all filter extents rows row count whole so_far = grind (arith, range_with_len, count_by)
 
 -- one row more of a view whose accesses are counted
 test_here : (old view : Table) (filter : Term ℕ) (row count : ℕ) → IsCounted old filter view row count → row_test view filter row ≡ row_test old filter row
@@ -225,8 +208,7 @@ test_here old view filter row count so_far = ap (λ (t : Table). row_test t filt
 
 log_here : (old view after : Table) (filter : Term ℕ) (row count : ℕ) → IsCounted old filter view row count
     → after ≡ after_log view (value_log row (get_or view.rows row []) (index_at view.extents row) filter) → after ≡ after_log old (count_log filter old.extents old.rows (row + 1))
-log_here old view after filter row count so_far read =
-    count_push old view after filter row so_far.same (read ∙ ap (λ (e : List ℕ). after_log view (value_log row (get_or view.rows row []) (index_at e row) filter)) (ap (λ (t : Table). t.extents) so_far.same))
+log_here old view after filter row count so_far read = grind (arith, count_push)
 
 pub row_counted : (old view after : Table) (filter : Term ℕ) (row count more : ℕ) (test : Bool) → IsCounted old filter view row count → row_test view filter row ≡ Ok test → more ≡ bool_byte test
     → after ≡ after_log view (value_log row (get_or view.rows row []) (index_at view.extents row) filter) → IsCounted old filter after (row + 1) (count + more)
@@ -256,19 +238,7 @@ pub record IsWhole (old : Table) (filter : Option (Term ℕ)) (sets : List Setti
 
 pub whole : (old view : Table) (filter : Option (Term ℕ)) (sets : List Setting) (row : ℕ) (result : Result Unit UpdateFault) → row ≡ length old.rows
     → OnOk result (AreUpdated old filter sets view row) → IfErr result (IsStopped old filter sets view) → IsWhole old filter sets view result
-whole old view filter sets row (Ok x) all done stopped =
-    let here = subst (AreUpdated old filter sets view) all done in
-    let long : length view.rows ≤ length old.rows = omega (arith, here.count) in
-    record {
-      stored = here.front ∙ ap (λ (r : List (List ℤ)). Ok r) (take_all (length old.rows) view.rows long);
-      refused = tt;
-      before = tt;
-      behind = tt;
-      same = here.same;
-      so_far = tt;
-    }
-whole old view filter sets row (Err fault) all done stopped =
-    record { stored = tt; refused = stopped.refused; before = stopped.before; behind = stopped.behind; same = tt; so_far = stopped.so_far }
+whole old view filter sets row result all done stopped = grind (arith, take_all)
 
 -- a count of all rows, and its fault
 pub record IsWholeCount (old : Table) (filter : Term ℕ) (view : Table) (result : Result ℕ UpdateFault) : Type 0 where
@@ -278,18 +248,11 @@ pub record IsWholeCount (old : Table) (filter : Term ℕ) (view : Table) (result
 
 pub whole_count : (old view : Table) (filter : Term ℕ) (row : ℕ) (result : Result ℕ UpdateFault) → row ≡ length old.rows
     → IfOk result (λ more. IsCounted old filter view row more) → IfErr result (IsCountStopped old filter view) → IsWholeCount old filter view result
-whole_count old view filter row (Ok more) all done stopped =
-    record {
-      value = sym (counted_all filter old.extents old.rows row more all done.counted);
-      same = subst (λ (n : ℕ). view ≡ after_log old (count_log filter old.extents old.rows n)) all done.same;
-      so_far = tt;
-    }
-whole_count old view filter row (Err fault) all done stopped = record { value = sym stopped.value; same = tt; so_far = stopped.so_far }
+whole_count old view filter row result all done stopped = grind (arith, counted_all)
 
 -- and of rows behind none
 pub from_none : (old view : Table) (filter : Term ℕ) (row : ℕ) (result : Result ℕ UpdateFault) → IfOk result (λ more. IsCounted old filter view row (0 + more)) → IfOk result (λ more. IsCounted old filter view row more)
-from_none old view filter row (Ok more) done = (let none : 0 + more ≡ more = omega arith in subst (λ (n : ℕ). IsCounted old filter view row n) none done)
-from_none old view filter row (Err fault) done = tt
+from_none old view filter row result done = grind arith
 
 pub none_rows : (view : Table) (filter : Term ℕ) → IsCounted view filter view 0 0
 none_rows view filter = record { same = sym (after_log-none view); counted = none_counted (row_test view filter) }

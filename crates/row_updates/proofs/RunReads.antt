@@ -5,9 +5,7 @@ use Rattle.row_updates.proofs.Low.{low_is, low_near}
 module _ (table : Table) (leaf first limit : ℕ) (values : List ℤ) (count : ℕ) (is : IsTable table) (inside : leaf < leaf_count_of table) (rows_in : first + count ≤ length table.rows)
     (read : values ≡ map low_64 (take count (drop first (column leaf table.rows)))) (small : limit < 2 ^ 63) where
   many : length values ≡ count
-  many =
-      let rest : count ≤ length (drop first (column leaf table.rows)) = omega (arith, length-drop first (column leaf table.rows), length-map table.rows (in_leaf leaf), rows_in) in
-      ap (λ (l : List ℤ). length l) read ∙ length-map (take count (drop first (column leaf table.rows))) low_64 ∙ length-take-le count (drop first (column leaf table.rows)) rest
+  many = grind (arith, length-drop, length-map, length-take-le)
 
   there : (k : ℕ) → k < length values → get_or values k (pos 0) ≡ low_64 (in_leaf leaf (row_of table (first + k)))
   there k below =

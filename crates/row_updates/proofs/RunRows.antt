@@ -1,5 +1,5 @@
 -- Rows of a run that are updated at once, as if each were updated after the one before.
-use Rattle.row_updates.proofs.Imports.{◌≡◌, ◌∙◌, ℕ, zero, suc, ◌+◌, ◌<◌, ◌≤◌, List, [], ◌∷◌, ◌++◌, length, map, take, drop, set, get_or, ℤ, pos, Bool, true, false, Option, Result, Ok, Err, is_ok, refl, sym, ap, subst, arith, get_or-drop, slice_set, get_or-map, length-map, get_or-take, length-take-le, set-get_or, take_more, drop-drop, Term, outcome_of, IsSafe, worth, index_at, hold_at, Leaf, leaves, stays_answer, in_leaf, with_column, no_column, length-with_column, StoreAnswer, Keeping, kept_or, Table, IsTable, leaf_count_of, leaf_type_of, leaf_types_of, table_holds, answer_of, kept_of, after_stores, Access, Tally, StoreFault, UpdateFault, Run, Setting, each, in_row, store_kind, passes, new_value, with_values, updated_row, updated_of, ◌>>=◌, update_log, IsIdle, row_of, IsGiven, AreUpdated, IsStill, IsRunUpdated, AreTested}
+use Rattle.row_updates.proofs.Imports.{◌≡◌, ◌∙◌, ℕ, zero, suc, ◌+◌, ◌<◌, ◌≤◌, List, [], ◌∷◌, ◌++◌, length, map, take, drop, set, get_or, ℤ, pos, Bool, true, false, Option, Result, Ok, is_ok, refl, sym, ap, subst, arith, get_or-drop, slice_set, get_or-map, length-map, get_or-take, length-take-le, set-get_or, take_more, drop-drop, Term, outcome_of, IsSafe, worth, index_at, leaves, stays_answer, in_leaf, with_column, no_column, length-with_column, StoreAnswer, Keeping, Table, IsTable, leaf_count_of, answer_of, kept_of, after_stores, Access, Tally, StoreFault, UpdateFault, Run, Setting, each, in_row, store_kind, passes, new_value, with_values, updated_row, updated_of, ◌>>=◌, update_log, IsIdle, row_of, IsGiven, AreUpdated, IsStill, IsRunUpdated, AreTested}
 use Rattle.row_updates.proofs.Each.{parted, each_push, rows_push}
 
 -- ---- the rows in which a leaf has other values: those before, those behind, and each of them
@@ -32,9 +32,7 @@ column_at leaf (suc first) k (suc at) (value ∷ values) (numbers ∷ rows) insi
 -- ---- one right side more of a row
 
 each_long : (step : Setting → Result ℤ UpdateFault) (sets : List Setting) (values : List ℤ) → each step sets ≡ Ok values → length values ≡ length sets
-each_long step [] values gives =
-    let none : values ≡ [] = cc in
-    ap length none
+each_long step [] values gives = grind arith
 each_long step (one ∷ sets) values gives =
     let p = parted (step one) (each step sets) values gives in
     ap length p.all_are ∙ ap suc (each_long step sets p.ys p.rest_is)
@@ -53,8 +51,7 @@ module _ (answer : StoreAnswer) (keep : Keeping) (filter : Option (Term ℕ)) (s
     made : with_values keep sets values row ≡ new
 
   have_values : (all : Result (List ℤ) UpdateFault) (new : List ℤ) → (all >>= (λ values. Ok (with_values keep sets values row))) ≡ Ok new → HasValues all new
-  have_values (Ok values) new gives = record { values = values; is = refl; made = cc }
-  have_values (Err fault) new gives = absurd (cc)
+  have_values all new gives = grind arith
 
   -- a row that passes, whose last right side has a value
   row_more : (new : List ℤ) (value : ℤ) → passes number row index filter ≡ Ok true → updated_row answer keep filter sets number row index ≡ Ok new
@@ -76,14 +73,10 @@ module _ (answer : StoreAnswer) (keep : Keeping) (filter : Option (Term ℕ)) (s
 
 -- a value that stands in a table is kept as it is
 own_kept : (table : Table) (row leaf : ℕ) → IsTable table → row < length table.rows → leaf < leaf_count_of table → kept_of table leaf (in_leaf leaf (row_of table row)) ≡ in_leaf leaf (row_of table row)
-own_kept table row leaf is inside below =
-    let value = in_leaf leaf (row_of table row) in
-    let in_kinds : leaf < length (leaf_types_of table) = omega (arith, below, length-map (leaves table.fields) (λ (one : Leaf). one.kind)) in
-    ap (kept_or value) (stays_answer table.mode (leaf_type_of table leaf) (hold_at (table_holds table) leaf) value (is.stays row leaf inside in_kinds))
+own_kept table row leaf is inside below = grind (arith, length-map, leaves, stays_answer)
 
 taken : (number leaf : ℕ) (value : ℤ) (answer : Result ℤ StoreFault) → is_ok answer ≡ true → (in_row number (store_kind leaf) answer >>= (λ kept. Ok value)) ≡ Ok value
-taken number leaf value (Ok kept) ok = refl
-taken number leaf value (Err fault) ok = absurd (cc)
+taken number leaf value answer ok = grind arith
 
 value_given : (answer : StoreAnswer) (number : ℕ) (row : List ℤ) (index : List ℕ) (set : Setting) (value : ℤ) → (outcome_of row index set.value).answer ≡ Ok value → is_ok (answer set.leaf value) ≡ true
     → new_value answer number row index set ≡ Ok value
@@ -92,15 +85,7 @@ value_given answer number row index set value gives ok = rw gives (taken number 
 -- rows that are stored in a table that counts nothing
 pub stored_still : (table mid after : Table) (leaf first : ℕ) (values : List ℤ) (log : List Access) → IsIdle table → IsStill table mid
     → after ≡ after_stores mid (with_column leaf first values mid.rows) log → IsStill table after
-stored_still table mid after leaf first values log idle before stored =
-    let raw = with_column leaf first values mid.rows in
-    let there : after.rows ≡ raw = ap (λ (t : Table). t.rows) stored in
-    record {
-      same = stored ∙ ap (λ (t : Table). after_stores t raw log) before.same
-          ∙ ap (λ (tally : Tally). let t : Table = record table { rows = raw; tally = tally } in t) (ap (λ (t : Table). t.tally) (idle log))
-          ∙ ap (λ (r : List (List ℤ)). let t : Table = record table { rows = r } in t) (sym there);
-      count = ap (λ (r : List (List ℤ)). length r) there ∙ length-with_column leaf first values mid.rows ∙ before.count;
-    }
+stored_still table mid after leaf first values log idle before stored = grind (arith, length-with_column)
 
 module _ (table : Table) (run : Run) (filter : Option (Term ℕ)) (sets : List Setting) (last : Setting) (count : ℕ) (test : ℕ → Bool) (values : List ℤ) where
   -- a row in which the value of the last right side is stored
@@ -124,15 +109,7 @@ module _ (table : Table) (run : Run) (filter : Option (Term ℕ)) (sets : List S
         let far = worth run.leaves.now run.places.now row index last.value safe worthy.reached in
         let gives : (outcome_of row index last.value).answer ≡ Ok value = far.answer ∙ ap (λ (v : ℤ). Ok v) (sym worthy.is) in
         row_more (answer_of table) (kept_of table) filter sets last number row index (row_of mid number) value passed so_far (value_given (answer_of table) number row index last value gives ok)
-    by_test false passed stands =
-        let row = row_of table number in
-        let index = index_at table.extents number in
-        let value = get_or values k (pos 0) in
-        let same : row_of mid number ≡ row = was_left (answer_of table) (kept_of table) filter sets last number row index (row_of mid number) passed so_far in
-        let kept : kept_of table last.leaf value ≡ in_leaf last.leaf row = ap (kept_of table last.leaf) stands ∙ own_kept table number last.leaf is inside below in
-        let stays : slice_set (row_of mid number) last.leaf (kept_of table last.leaf value) ≡ row =
-        ap (λ (r : List ℤ). slice_set r last.leaf (kept_of table last.leaf value)) same ∙ ap (slice_set row last.leaf) kept ∙ set-get_or row last.leaf (pos 0) in
-        row_left (answer_of table) (kept_of table) filter sets last number row index passed ∙ ap (λ (r : List ℤ). Ok r) (sym stays)
+    by_test false passed stands = grind (arith, was_left, own_kept, slice_set, set-get_or, row_left)
 
   -- the rows of a run in which the values of the last right side are stored
   pub run_stored : (mid after : Table) (log : List Access) → IsTable table → IsIdle table → IsSafe run.leaves.now run.places.now last.value → last.leaf < leaf_count_of table
@@ -160,9 +137,7 @@ module _ (table : Table) (run : Run) (filter : Option (Term ℕ)) (sets : List S
             let entry : get_or kept k (pos 0) ≡ keep (get_or values k (pos 0)) =
             get_or-map keep (take count values) k (pos 0) (pos 0) (omega (arith, small, length-take-le count values long)) ∙ ap keep (get_or-take count values k (pos 0) small) in
             let row : row_of after (first + k) ≡ slice_set (row_of mid (first + k)) leaf (keep (get_or values k (pos 0))) =
-            ap (λ (r : List (List ℤ)). get_or r (first + k) []) rows
-            ∙ column_at leaf first k (first + k) kept mid.rows (omega (arith, small, many)) refl (omega (arith, below, before.still.count))
-            ∙ ap (slice_set (row_of mid (first + k)) leaf) entry in
+            grind (arith, column_at, slice_set) in
             row_stored mid k is below inside safe (tested k small) (before.each k small) (given k small) (ok k small) ∙ ap (λ (r : List ℤ). Ok r) (sym row);
       }
 
@@ -197,9 +172,7 @@ module _ (old view after : Table) (filter : Option (Term ℕ)) (sets : List Sett
       ∙ run.each k small
 
   fronts : (k : ℕ) → k ≤ count → updated_of old filter sets (first + k) ≡ Ok (take (first + k) after.rows)
-  fronts zero few =
-      let none : first ≡ first + 0 = omega arith in
-      subst (λ (n : ℕ). updated_of old filter sets n ≡ Ok (take n after.rows)) none (so_far.front ∙ ap (λ (r : List (List ℤ)). Ok r) (sym run.front))
+  fronts zero few = grind arith
   fronts (suc k) few =
       let small : k < count = omega (arith, few) in
       let next : (first + k) + 1 ≡ first + suc k = omega arith in
@@ -210,8 +183,7 @@ module _ (old view after : Table) (filter : Option (Term ℕ)) (sets : List Sett
 
   pub run_more : AreUpdated old filter sets after (first + count)
   run_more = record {
-    same = run.still.same ∙ ap (λ (t : Table). let u : Table = record t { rows = after.rows } in u) view_is
-        ∙ ap (λ (tally : Tally). let t : Table = record old { rows = after.rows; tally = tally } in t) (sym (ap (λ (t : Table). t.tally) (idle (update_log old filter sets (first + count)))));
+    same = grind (arith, view_is);
     count = run.still.count ∙ so_far.count;
     front = fronts count (omega arith);
     back = run.back ∙ sym (drop-drop count first view.rows) ∙ ap (drop count) so_far.back ∙ drop-drop count first old.rows;

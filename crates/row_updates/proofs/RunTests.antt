@@ -1,24 +1,18 @@
 -- The rows of a run that pass, by the values of the filter.
-use Rattle.row_updates.proofs.Imports.{◌≡◌, ◌∙◌, ℕ, zero, suc, ◌+◌, ◌<◌, ◌≤◌, List, [], ◌∷◌, length, get_or, ℤ, pos, Bool, true, false, cond, count_by, Some, Result, Ok, refl, sym, ap, subst, arith, count_by-le-length, sum_by-cons, EvalFault, Term, is_true, IsSafe, worth, index_at, Table, UpdateFault, Run, in_row, eval_kind, ◌>>=◌, row_of, AreWorth, AreTested, AreCounted, bool_byte}
+use Rattle.row_updates.proofs.Imports.{◌≡◌, ◌∙◌, ℕ, zero, suc, ◌+◌, ◌<◌, ◌≤◌, List, [], ◌∷◌, length, get_or, ℤ, pos, Bool, true, false, cond, count_by, Some, Result, Ok, refl, sym, subst, arith, count_by-le-length, sum_by-cons, Term, is_true, IsSafe, worth, Table, UpdateFault, Run, AreWorth, AreTested, AreCounted, bool_byte}
 use Rattle.row_updates.proofs.Rows.{one_counted}
 
 -- a row passes where the value of the filter is not 0
 pub tested : (table : Table) (run : Run) (term : Term ℕ) (values : List ℤ) → IsSafe run.leaves.now run.places.now term → AreWorth table run term values
     → AreTested table (Some term) run.first (length values) (λ k. is_true (get_or values k (pos 0)))
-tested table run term values safe worthy k small =
-    let number = run.first + k in
-    let here = worthy k small in
-    let far = worth run.leaves.now run.places.now (row_of table number) (index_at table.extents number) term safe here.reached in
-    ap (λ (answer : Result ℤ EvalFault). in_row number eval_kind answer >>= (λ value. Ok (is_true value))) (far.answer ∙ ap (λ (v : ℤ). Ok v) (sym here.is))
+tested table run term values safe worthy k small = grind (arith, worth)
 
 -- how many pass of one more
 off : (b : Bool) (rest : ℕ) → cond b 1 0 + rest ≡ 0 → (b ≡ false) × (rest ≡ 0)
-off true rest none = absurd (omega (arith, none))
-off false rest none = (refl, omega (arith, none))
+off b rest none = grind arith
 
 on : (b : Bool) (rest all : ℕ) → cond b 1 0 + rest ≡ suc all → rest ≤ all → (b ≡ true) × (rest ≡ all)
-on true rest all whole few = (refl, omega (arith, whole))
-on false rest all whole few = absurd (omega (arith, whole, few))
+on b rest all whole few = grind arith
 
 counts : (value : ℤ) (values : List ℤ) → count_by is_true (value ∷ values) ≡ cond (is_true value) 1 0 + count_by is_true values
 counts value values = sum_by-cons (λ (x : ℤ). cond (is_true x) 1 0) value values
@@ -34,16 +28,12 @@ all_true (value ∷ values) all zero small = (on (is_true value) (count_by is_tr
 all_true (value ∷ values) all (suc k) small = all_true values (on (is_true value) (count_by is_true values) (length values) (sym (counts value values) ∙ all) (count_by-le-length is_true values)).1 k (omega (arith, small))
 
 as_byte : (b : Bool) → bool_byte b ≡ cond b 1 0
-as_byte true = refl
-as_byte false = refl
+as_byte b = grind arith
 
 -- the rows of a run are counted behind those before
 pub run_counted : (step : ℕ → Result Bool UpdateFault) (values : List ℤ) (first before : ℕ) → AreCounted step first before
     → ((k : ℕ) → k < length values → step (first + k) ≡ Ok (is_true (get_or values k (pos 0)))) → AreCounted step (first + length values) (before + count_by is_true values)
-run_counted step [] first before so_far gives =
-    let end : first ≡ first + 0 = omega arith in
-    let sum : before ≡ before + 0 = omega arith in
-    subst (λ (n : ℕ). AreCounted step n (before + 0)) end (subst (AreCounted step first) sum so_far)
+run_counted step [] first before so_far gives = grind arith
 run_counted step (value ∷ values) first before so_far gives =
     let test = is_true value in
     let here : first + 0 ≡ first = omega arith in

@@ -1,11 +1,10 @@
 -- Values that a leaf takes.
-use Rattle.row_updates.proofs.Imports.{◌≡◌, ℕ, zero, suc, ◌+◌, ◌<◌, ◌≤◌, List, [], ◌∷◌, length, get_or, ℤ, pos, true, Option, Some, None, Result, Ok, Err, is_ok, refl, ap, arith, option_or, lane_fault, first_lane_fault, StoreAnswer, without_number, told_lane, stored_count, LaneFault, StoreFault}
+use Rattle.row_updates.proofs.Imports.{◌≡◌, ℕ, zero, suc, ◌+◌, ◌<◌, ◌≤◌, List, [], ◌∷◌, length, get_or, ℤ, pos, true, Option, Some, None, Result, Ok, Err, is_ok, refl, arith, option_or, lane_fault, first_lane_fault, StoreAnswer, without_number, told_lane, stored_count, LaneFault, StoreFault}
 
 module _ (answer : StoreAnswer) (leaf : ℕ) where
   -- a value without a fault in front of others
   fault_free : (lane : ℕ) (one : Result ℤ StoreFault) (rest : Option LaneFault) → option_or (lane_fault lane one) rest ≡ None → (is_ok one ≡ true) × (rest ≡ None)
-  fault_free lane (Ok kept) rest none = (refl, none)
-  fault_free lane (Err fault) rest none = absurd (cc)
+  fault_free lane one rest none = grind arith
 
   -- no value has a fault
   pub all_taken : (lane : ℕ) (values : List ℤ) → first_lane_fault answer leaf lane values ≡ None → (k : ℕ) → k < length values → is_ok (answer leaf (get_or values k (pos 0))) ≡ true
@@ -20,20 +19,10 @@ module _ (answer : StoreAnswer) (leaf : ℕ) where
     pub from : lane ≤ fault.lane
     pub taken : (k : ℕ) → lane + k < fault.lane → is_ok (answer leaf (get_or values k (pos 0))) ≡ true
 
-  later : (lane : ℕ) (value : ℤ) (values : List ℤ) (fault : LaneFault) → is_ok (answer leaf value) ≡ true → AreTakenUpTo (lane + 1) values fault → AreTakenUpTo lane (value ∷ values) fault
-  later lane value values fault ok rest = record { inside = omega (arith, rest.inside); from = omega (arith, rest.from); taken = by_lane } where
-    by_lane : (k : ℕ) → lane + k < fault.lane → is_ok (answer leaf (get_or (value ∷ values) k (pos 0))) ≡ true
-    by_lane zero small = ok
-    by_lane (suc k) small = rest.taken k (omega (arith, small))
-
   before_by : (lane : ℕ) (value : ℤ) (values : List ℤ) (fault : LaneFault) (one : Result ℤ StoreFault) → answer leaf value ≡ one
       → (first_lane_fault answer leaf (lane + 1) values ≡ Some fault → AreTakenUpTo (lane + 1) values fault)
       → option_or (lane_fault lane one) (first_lane_fault answer leaf (lane + 1) values) ≡ Some fault → AreTakenUpTo lane (value ∷ values) fault
-  before_by lane value values fault (Ok kept) is rest some = later lane value values fault (ap (λ (r : Result ℤ StoreFault). is_ok r) is) (rest some)
-  before_by lane value values fault (Err other) is rest some =
-      let without_number : lane_fault lane (Err other) ≡ Some fault = some in
-      let same : fault.lane ≡ lane = cc in
-      record { inside = omega (arith, same); from = omega (arith, same); taken = λ k small. absurd (omega (arith, small, same)) }
+  before_by lane value values fault one is rest some = grind (arith, is_ok)
 
   pub taken_before : (lane : ℕ) (values : List ℤ) (fault : LaneFault) → first_lane_fault answer leaf lane values ≡ Some fault → AreTakenUpTo lane values fault
   taken_before lane [] fault some = absurd (cc)
@@ -46,15 +35,11 @@ pub record IsStored (answer : StoreAnswer) (leaf : ℕ) (values : List ℤ) (cou
 
 pub stored_front : (answer : StoreAnswer) (leaf : ℕ) (values : List ℤ) (fault : Option LaneFault) → first_lane_fault answer leaf 0 values ≡ fault → IsStored answer leaf values (stored_count (length values) fault)
 stored_front answer leaf values None is = record { few = omega arith; taken = all_taken answer leaf 0 values is }
-stored_front answer leaf values (Some fault) is =
-    let before = taken_before answer leaf 0 values fault is in
-    record { few = omega (arith, before.inside); taken = λ k small. before.taken k (omega (arith, small)) }
+stored_front answer leaf values (Some fault) is = grind (arith, taken_before)
 
 -- what is told of it
 pub told_none : (fault : Option LaneFault) (x : Unit {0}) → told_lane fault ≡ Ok x → fault ≡ None
-told_none None x without_number = refl
-told_none (Some fault) x without_number = absurd (cc)
+told_none fault x without_number = grind arith
 
 pub told_some : (fault : Option LaneFault) (other : LaneFault) → told_lane fault ≡ Err other → fault ≡ Some other
-told_some None other without_number = absurd (cc)
-told_some (Some fault) other without_number = cc
+told_some fault other without_number = grind arith

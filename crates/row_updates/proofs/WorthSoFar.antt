@@ -1,6 +1,7 @@
 -- The values of a chain in the rows of a run, as far as its links have been walked.
 use Rattle.row_updates.proofs.Imports.{◌≡◌, ◌∙◌, ℕ, ◌+◌, ◌<◌, List, ℤ, length, get_or, pos, sym, ap, subst, Links, Step, Term, step_term, links_term, one_more, safe_front, IsSafe, stepped, IsStepFit, IsWorthIn, IsRight, step_worth, step_fits, index_at, Table, Run, IsRunOf, row_of, AreWorth, AreRights}
 use Rattle.expr_lang.specs.declared.bound.Links.TheVariants as links
+use Rattle.std.proofs.Common.{arith}
 
 -- the same rows, so many as well
 pub run_rows : (table old : Table) (run : Run) (n m : ℕ) → table ≡ old → m ≡ n → IsRunOf old run n → IsRunOf table run m
@@ -23,14 +24,7 @@ module _ (table : Table) (run : Run) (whole : Term ℕ) where
 
     -- the step has a result of 64 bits in each row
     pub fits : IsSafe run.leaves.now run.places.now whole → (k : ℕ) → k < length values → IsStepFit done (get_or values k (pos 0)) (get_or other k (pos 0))
-    fits safe k small =
-        let leaves = run.leaves.now in
-        let places = run.places.now in
-        let here : links_term (step_term before.front done) rest ≡ whole =
-        ap (λ (t : Step). links_term (step_term before.front t) rest) one ∙ sym (ap (links_term before.front) is) ∙ before.behind in
-        let safe_here = safe_front leaves places (step_term before.front done) rest (subst (IsSafe leaves places) (sym here) safe) in
-        step_fits leaves places (row_of table (run.first + k)) (index_at table.extents (run.first + k)) before.front done (get_or values k (pos 0)) (get_or other k (pos 0)) safe_here
-        (before.worth k small) (right k small)
+    fits safe k small = grind (arith, links_term, step_term, safe_front, step_fits, right)
 
     pub more : (after : Links) (now : List ℤ) → after ≡ rest → length now ≡ length values
         → ((k : ℕ) → k < length values → get_or now k (pos 0) ≡ stepped done (get_or values k (pos 0)) (get_or other k (pos 0))) → IsWorthSoFar after now

@@ -1,5 +1,5 @@
 -- A row is updated by trying it and then storing what it is given.
-use Rattle.std.proofs.Common.{◌≡◌, ◌∙◌, ℕ, ℤ, Bool, true, false, List, [], ◌++◌, Option, Some, None, Result, Ok, Err, refl, ap, sym}
+use Rattle.std.proofs.Common.{◌≡◌, ℕ, ℤ, Bool, List, ◌++◌, Option, Some, None, Result, Ok, Err, refl}
 use Rattle.std.specs.Prelude.{if◌then◌else◌}
 use Rattle.std.proofs.lemmas.List.{append-nil, append_assoc}
 use Rattle.expr_lang.specs.Terms.{Term}
@@ -8,6 +8,7 @@ use Rattle.views.specs.Tallies.{Access}
 use Rattle.row_updates.specs.declared.fault.UpdateFault.{UpdateFault}
 use Rattle.row_updates.specs.Rows.{Setting, each, passes, new_value, with_values, tried_row, given_row, updated_row, ◌>>=◌}
 use Rattle.row_updates.specs.Logs.{filter_log, if_ok, if_passes, sides_log, stores_log, tried_log, if_given, row_log}
+use Rattle.std.proofs.Common.{arith}
 
 module _ (answer : StoreAnswer) (filter : Option (Term ℕ)) (sets : List Setting) (number : ℕ) (row : List ℤ) (index : List ℕ) where
   -- the accesses of the filter, and of the right sides
@@ -35,9 +36,7 @@ module _ (answer : StoreAnswer) (filter : Option (Term ℕ)) (sets : List Settin
 
     of_test : (test : Result Bool UpdateFault)
         → (test >>= (λ t. if t then (values >>= (λ found. Ok (with_values keep sets found row))) else Ok row)) ≡ ((test >>= given) >>= (λ tried. Ok (given_row keep sets tried row)))
-    of_test (Ok true) = of_values values
-    of_test (Ok false) = refl
-    of_test (Err fault) = refl
+    of_test test = grind arith
 
   -- its accesses
   pub log_as_tried : row_log answer filter sets number row index ≡ tried_log answer filter sets number row index ++ if_given (tried_row answer filter sets number row index) (stores_log number sets)
@@ -48,9 +47,7 @@ module _ (answer : StoreAnswer) (filter : Option (Term ℕ)) (sets : List Settin
 
     of_test : (test : Result Bool UpdateFault)
         → front ++ if_passes test (sides ++ if_ok values (stores_log number sets)) ≡ (front ++ if_passes test sides) ++ if_given (test >>= given) (stores_log number sets)
-    of_test (Ok true) = ap (λ (log : List Access). front ++ (sides ++ log)) (of_values values) ∙ sym (append_assoc front sides (if_given (given true) (stores_log number sets)))
-    of_test (Ok false) = sym (append-nil (front ++ []))
-    of_test (Err fault) = sym (append-nil (front ++ []))
+    of_test test = grind (arith, append_assoc, append-nil)
 
   -- what a row is given are the values of the right sides
   pub tried_values : (found : List ℤ) → tried_row answer filter sets number row index ≡ Ok (Some found) → values ≡ Ok found
@@ -60,6 +57,4 @@ module _ (answer : StoreAnswer) (filter : Option (Term ℕ)) (sets : List Settin
     of_values (Err fault) e = absurd (cc)
 
     of_test : (test : Result Bool UpdateFault) → (test >>= given) ≡ Ok (Some found) → values ≡ Ok found
-    of_test (Ok true) e = of_values values e
-    of_test (Ok false) e = absurd (cc)
-    of_test (Err fault) e = absurd (cc)
+    of_test test e = grind arith

@@ -1,19 +1,15 @@
 -- Rows of a leaf that are read or stored at once.
-use Rattle.subviews.proofs.Imports.{◌≡◌, ℕ, zero, suc, ◌+◌, ◌<◌, ◌≤◌, true, ℤ, pos, List, [], ◌∷◌, ◌++◌, length, map, take, drop, get_or, Option, Some, None, Result, Ok, Err, is_ok, refl, ap, sym, ◌∙◌, arith, option_or, length-map, length-take-le, length-drop, get_or-map, get_or-take, get_or-drop, map-range_with_len_more, low_64, entry, with_entry, column, column_writes, in_leaf, lane_fault, first_lane_fault, no_column, entry_more, run_of, told_lane, stored_count, StoreAnswer, Write, after_log-none, after_stores-append, Table, after_stores, LaneFault, StoreFault}
+use Rattle.subviews.proofs.Imports.{◌≡◌, ℕ, zero, suc, ◌+◌, ◌<◌, ◌≤◌, true, ℤ, pos, List, [], ◌∷◌, ◌++◌, length, map, take, get_or, Option, Result, Ok, Err, is_ok, refl, ap, sym, ◌∙◌, arith, option_or, length-map, length-take-le, length-drop, get_or-map, get_or-take, get_or-drop, map-range_with_len_more, low_64, entry, with_entry, column_writes, lane_fault, first_lane_fault, no_column, entry_more, run_of, told_lane, stored_count, StoreAnswer, Write, after_log-none, after_stores-append, Table, after_stores, LaneFault, StoreFault}
 use Rattle.views.specs.Columns.{with_column}
 
 -- ---- values that are read
 
 module _ (table : Table) (leaf first count : ℕ) (inside : first + count ≤ length table.rows) where
   pub run_count : length (run_of leaf first count table) ≡ count
-  run_count =
-      let numbers = column leaf table.rows in
-      length-take-le count (drop first numbers) (omega (arith, length-drop first numbers, length-map table.rows (in_leaf leaf), inside))
+  run_count = grind (arith, length-take-le, length-drop, length-map)
 
   pub run_value : (k : ℕ) → k < count → get_or (run_of leaf first count table) k (pos 0) ≡ entry table.rows (first + k) leaf
-  run_value k low =
-      let numbers = column leaf table.rows in
-      get_or-take count (drop first numbers) k (pos 0) low ∙ get_or-drop first numbers k (pos 0) ∙ get_or-map (in_leaf leaf) table.rows (first + k) [] (pos 0) (omega (arith, low, inside))
+  run_value k low = grind (arith, get_or-take, get_or-drop, get_or-map)
 
   pub low_value : (k : ℕ) → k < count → get_or (map low_64 (run_of leaf first count table)) k (pos 0) ≡ low_64 (entry table.rows (first + k) leaf)
   low_value k low = get_or-map low_64 (run_of leaf first count table) k (pos 0) (pos 0) (omega (arith, low, run_count)) ∙ ap low_64 (run_value k low)
@@ -58,9 +54,7 @@ are_taken answer leaf lane (value ∷ values) all is = of (answer leaf value) re
 
 -- how many they are, by what a store tells
 pub count_told : (count : ℕ) (fault : Option LaneFault) → told_lane fault ≡ Ok tt → stored_count count fault ≡ count
-count_told count None told = refl
-count_told count (Some fault) told = absurd (cc)
+count_told count fault told = grind arith
 
 pub count_refused : (count : ℕ) (fault : Option LaneFault) (other : LaneFault) → told_lane fault ≡ Err other → stored_count count fault ≡ other.lane
-count_refused count None other told = absurd (cc)
-count_refused count (Some fault) other told = (let same : fault ≡ other = cc in ap (λ (f : LaneFault). f.lane) same)
+count_refused count fault other told = grind arith

@@ -1,5 +1,5 @@
 -- Values of a buffer that are stored in its view.
-use Rattle.subviews.proofs.Imports.{◌≡◌, ℕ, zero, suc, ◌+◌, ◌%◌, ◌^◌, ◌<◌, ◌≤◌, ℤ, pos, negsuc, List, [], ◌∷◌, length, map, take, get_or, Option, Some, None, FitsSigned, to_z, of_z, w64, refl, ap, sym, subst, ◌∙◌, arith, ints, of_z-to_z, mod-eq_of_lt, read_sfits, length-map, take_all, indices, low_64, IsWithin64, code_low, declared, kept, declared_same, kept_declared, StoreMode, Strict, Wrap, stays_declared, hold_at, entry, Hold, LeafType, Leaf, leaves, IsDeclared, Fields, column_writes, lane_fault, first_lane_fault, with_values, raised, run_of, run_fault, stored_count, with_run, low_declared, raised_low, raised_all, Fits, Stays, store_answer, kept_or, Table, IsTable, leaf_count_of, leaf_types_of, leaf_type_of, table_holds, answer_of, kept_of, after_stores, LaneFault, IsBufferOf}
+use Rattle.subviews.proofs.Imports.{◌≡◌, ℕ, suc, ◌+◌, ◌%◌, ◌^◌, ◌<◌, ◌≤◌, ℤ, pos, negsuc, List, [], ◌∷◌, length, map, take, get_or, None, FitsSigned, to_z, w64, refl, ap, sym, subst, ◌∙◌, arith, ints, of_z-to_z, mod-eq_of_lt, read_sfits, length-map, take_all, indices, low_64, IsWithin64, code_low, declared, kept, declared_same, kept_declared, StoreMode, Strict, Wrap, stays_declared, hold_at, entry, Hold, LeafType, leaves, IsDeclared, column_writes, first_lane_fault, with_values, raised, run_of, run_fault, stored_count, with_run, low_declared, raised_low, raised_all, Fits, Stays, store_answer, kept_or, Table, IsTable, leaf_count_of, leaf_type_of, table_holds, answer_of, kept_of, after_stores, IsBufferOf}
 use Rattle.record_dim.specs.declared.leaf_type.LeafType.TheVariants as kinds
 use Rattle.subviews.proofs.Passes.{same_stays}
 use Rattle.subviews.proofs.AtOnce.{run_count, run_value, low_value}
@@ -7,8 +7,7 @@ use Rattle.subviews.proofs.AtOnce.{run_count, run_value, low_value}
 -- ---- a value by its low 64 bits
 
 within : (z : ℤ) → FitsSigned w64 z → IsWithin64 z
-within (pos n) fits = (omega (arith, ints), omega (arith, ints, fits.sfits))
-within (negsuc n) fits = (omega (arith, ints, fits.sfits), omega (arith, ints))
+within z fits = grind arith
 
 whole_declared : (value : ℤ) → IsDeclared kinds.U64 value → declared kinds.U64 (low_64 value) ≡ value
 whole_declared (pos n) h =
@@ -17,15 +16,7 @@ whole_declared (pos n) h =
 whole_declared (negsuc n) h = absurd (omega (arith, ints, h.0))
 
 low_back : (kind : LeafType) (value : ℤ) → IsDeclared kind value → declared kind (low_64 value) ≡ value
-low_back kinds.U64 value h = whole_declared value h
-low_back kinds.Bool value h = ap (declared kinds.Bool) (low_declared kinds.Bool value (λ e. cc e) h) ∙ declared_same kinds.Bool value h
-low_back kinds.U8 value h = ap (declared kinds.U8) (low_declared kinds.U8 value (λ e. cc e) h) ∙ declared_same kinds.U8 value h
-low_back kinds.U16 value h = ap (declared kinds.U16) (low_declared kinds.U16 value (λ e. cc e) h) ∙ declared_same kinds.U16 value h
-low_back kinds.U32 value h = ap (declared kinds.U32) (low_declared kinds.U32 value (λ e. cc e) h) ∙ declared_same kinds.U32 value h
-low_back kinds.I8 value h = ap (declared kinds.I8) (low_declared kinds.I8 value (λ e. cc e) h) ∙ declared_same kinds.I8 value h
-low_back kinds.I16 value h = ap (declared kinds.I16) (low_declared kinds.I16 value (λ e. cc e) h) ∙ declared_same kinds.I16 value h
-low_back kinds.I32 value h = ap (declared kinds.I32) (low_declared kinds.I32 value (λ e. cc e) h) ∙ declared_same kinds.I32 value h
-low_back kinds.I64 value h = ap (declared kinds.I64) (low_declared kinds.I64 value (λ e. cc e) h) ∙ declared_same kinds.I64 value h
+low_back kind value h = grind (arith, whole_declared, low_declared, declared_same)
 
 -- what is kept of them is the value, where it is kept as it is
 low_kept : (kind : LeafType) (hold : Hold) (value : ℤ) → IsDeclared kind value → kept kind hold value ≡ value → kept kind hold (low_64 value) ≡ value
@@ -36,10 +27,7 @@ low_kept kind hold value h same = sym (kept_declared kind hold (low_64 value)) �
 -- a view that wraps takes each
 none_refused : (table : Table) (leaf lane : ℕ) (values : List ℤ) → table.mode ≡ Wrap → first_lane_fault (answer_of table) leaf lane values ≡ None
 none_refused table leaf lane [] wraps = refl
-none_refused table leaf lane (value ∷ values) wraps =
-    let taken : lane_fault lane (answer_of table leaf value) ≡ None =
-    ap (λ (mode : StoreMode). lane_fault lane (store_answer mode (leaf_type_of table leaf) (hold_at (table_holds table) leaf) value)) wraps in
-    rw taken (none_refused table leaf (lane + 1) values wraps)
+none_refused table leaf lane (value ∷ values) wraps = grind (arith, (none_refused table leaf (lane + 1) values wraps))
 
 module _ (view buffer : Table) (leaf first count : ℕ) (lows : List ℤ) (is : IsBufferOf view buffer) (own : IsTable view) (table : IsTable buffer) (leaf_in : leaf < leaf_count_of view)
     (rows_in : first + count ≤ length view.rows) (lows_are : lows ≡ map low_64 (run_of leaf first count buffer)) where
@@ -62,9 +50,7 @@ module _ (view buffer : Table) (leaf first count : ℕ) (lows : List ℤ) (is : 
   long = ap (λ (l : List ℤ). length l) lows_are ∙ length-map values low_64 ∙ run_count buffer leaf first count inside
 
   stays : (k : ℕ) → k < count → Stays view.mode kind hold (value k)
-  stays k low =
-      same_stays view buffer is leaf (value k) (table.stays (first + k) leaf (omega (arith, low, inside))
-      (omega (arith, leaf_in, length-map (leaves buffer.fields) (λ (one : Leaf). one.kind), ap (λ (f : Fields). length (leaves f)) is.fields)))
+  stays k low = grind (arith, same_stays, length-map, leaves)
 
   in_kind : (k : ℕ) → k < count → IsDeclared kind (value k)
   in_kind k low = stays_declared view.mode kind hold (value k) (stays k low)
@@ -79,12 +65,7 @@ module _ (view buffer : Table) (leaf first count : ℕ) (lows : List ℤ) (is : 
 
   pub all_raised : (after : Table) → after ≡ after_stores view (with_values leaf first (map (raised kind) lows) view.rows) (column_writes leaf first (length lows))
       → after ≡ after_stores view (with_values leaf first values view.rows) (column_writes leaf first count)
-  all_raised after stored =
-      let back : map (raised kind) lows ≡ values =
-      ap (map (raised kind)) lows_are ∙ raised_all kind values (λ k low.
-      (let small : k < count = omega (arith, low, run_count buffer leaf first count inside) in subst (IsDeclared kind) (sym (run_value buffer leaf first count inside k small)) (in_kind k small))) in
-      stored ∙ ap (λ (n : ℕ). after_stores view (with_values leaf first (map (raised kind) lows) view.rows) (column_writes leaf first n)) long
-      ∙ ap (λ (vs : List ℤ). after_stores view (with_values leaf first vs view.rows) (column_writes leaf first count)) back
+  all_raised after stored = grind (arith, raised_all, run_count, run_value, in_kind, long)
 
   -- one that wraps keeps them
   kept_back : view.mode ≡ Wrap → (rest : List ℤ) (k : ℕ) → k + length rest ≡ count → ((j : ℕ) → j < length rest → get_or rest j (pos 0) ≡ value (k + j)) → map (kept_of view leaf) (map low_64 rest) ≡ rest
@@ -105,7 +86,4 @@ module _ (view buffer : Table) (leaf first count : ℕ) (lows : List ℤ) (is : 
   all_kept wraps after stored =
       let back = kept_back wraps values 0 (omega (arith, run_count buffer leaf first count inside)) (λ j less.
       (let start : j ≡ 0 + j = omega arith in run_value buffer leaf first count inside j (omega (arith, less, run_count buffer leaf first count inside)) ∙ ap value start)) in
-      let all : take count lows ≡ lows = take_all count lows (omega (arith, long)) in
-      stored ∙ ap (λ (n : ℕ). with_run leaf first lows n view) (ap (stored_count (length lows)) (none_refused view leaf 0 lows wraps) ∙ long)
-      ∙ ap (λ (vs : List ℤ). after_stores view (with_values leaf first vs view.rows) (column_writes leaf first count))
-      (ap (map (kept_of view leaf)) (all ∙ lows_are) ∙ back)
+      let all : take count lows ≡ lows = take_all count lows (omega (arith, long)) in grind (arith, none_refused, long)

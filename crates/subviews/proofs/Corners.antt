@@ -1,11 +1,9 @@
 -- Whether a term reads inside the array is seen at two rows of a window: its first and its last.
-use Rattle.subviews.proofs.Imports.{◌≡◌, ℕ, ◌+◌, ◌-◌, ◌<◌, ◌≤◌, ◌≤ℤ◌, Bool, true, false, ℤ, pos, negsuc, neg_ℤ, ◌+ℤ◌, ◌-ℤ◌, List, [], ◌∷◌, length, map, get_or, Contains, Some, ⊎_elim, refl, ap, sym, subst, ◌∙◌, arith, ◌&&◌, ◌||◌, ◌==◌, nat_lt, int_le, slice_get, list_all, position_or_len, signed_items, and_parts, ltb-true, lt-ltb, cases_lt, false≢true, nat_tests, ints, AllPass-from_list_all, list_all-from_AllPass, passes_at_first, fails_before_first, slice_get-get_or, slice_get_within, get_or_from_slice_get, indices, IsInside, inside_of_entry, row_of_inside, Span, IsWindow, sizes, moved, window_count, window_row, moved_inside, same_rank, index_at, index_at_inside, WindowOf, rows_of, away, is_index, row_from, is_offset, reaches, stays, all_stay}
+use Rattle.subviews.proofs.Imports.{◌≡◌, ℕ, ◌+◌, ◌-◌, ◌<◌, ◌≤ℤ◌, Bool, true, false, ℤ, pos, neg_ℤ, ◌+ℤ◌, ◌-ℤ◌, List, [], ◌∷◌, length, map, get_or, Contains, Some, refl, ap, sym, subst, ◌∙◌, arith, ◌&&◌, ◌||◌, ◌==◌, nat_lt, int_le, slice_get, list_all, position_or_len, signed_items, and_parts, ltb-true, lt-ltb, cases_lt, nat_tests, ints, AllPass-from_list_all, list_all-from_AllPass, passes_at_first, fails_before_first, slice_get-get_or, slice_get_within, get_or_from_slice_get, indices, IsInside, inside_of_entry, row_of_inside, Span, IsWindow, sizes, moved, window_count, window_row, moved_inside, same_rank, index_at, index_at_inside, WindowOf, rows_of, away, is_index, row_from, is_offset, reaches, stays, all_stay}
 
 -- two tests that hold of the same
 same_test : (a b : Bool) → (a ≡ true → b ≡ true) → (b ≡ true → a ≡ true) → a ≡ b
-same_test true b forth back = sym (forth refl)
-same_test false true forth back = back refl
-same_test false false forth back = refl
+same_test a b forth back = grind arith
 
 -- ---- the rows of a window
 
@@ -40,11 +38,7 @@ row_of_index window is index inside =
     let own = row_of_inside (sizes spans) index inside in
     let there = row_of_inside e (moved spans index) (moved_inside e spans index is inside) in
     let at : slice_get (rows_of window) own.0 ≡ Some there.0 = window_row e spans is own.0 index there.0 own.2 there.2 in
-    record {
-      row = there.0;
-      held = (own.0, slice_get_within (rows_of window) own.0 there.0 at, get_or_from_slice_get (rows_of window) own.0 there.0 there.0 at);
-      is = get_or_from_slice_get (indices e) there.0 (moved spans index) [] there.2;
-    }
+    grind (arith, slice_get_within, get_or_from_slice_get)
 
 -- ---- numbers
 
@@ -52,18 +46,14 @@ nonnegative : (z o : ℤ) (n : ℕ) → z ≡ pos n +ℤ o → int_le (neg_ℤ (
 nonnegative z o n is low = grind (arith, ints)
 
 natural : (z : ℤ) → pos 0 ≤ℤ z → (m : ℕ) × (z ≡ pos m)
-natural (pos m) low = (m, refl)
-natural (negsuc m) low = absurd (omega (arith, ints, low))
+natural z low = grind arith
 
 below : (m extent i from end : ℕ) (o : ℤ) → pos m ≡ pos (from + i) +ℤ o → i < end - from → int_le o (pos extent -ℤ pos end) ≡ true → m < extent
 below m extent i from end o is inside high = grind (arith, ints)
 
 stays_of : (extent : ℕ) (span : Span) (i l h : ℕ) (o : ℤ) → i < span.end - span.from → h < extent → pos l ≡ pos (span.from + 0) +ℤ o → pos h ≡ pos (span.from + (span.end - span.from - 1)) +ℤ o
     → stays extent span o ≡ true
-stays_of extent span i l h o inside high first last =
-    let low : int_le (neg_ℤ (pos span.from)) o ≡ true = grind (arith, ints) in
-    let top : int_le o (pos extent -ℤ pos span.end) ≡ true = grind (arith, ints) in
-    rw (low, top) refl
+stays_of extent span i l h o inside high first last = grind (arith, int_le, neg_ℤ)
 
 -- ---- where every dimension stays, every row reaches
 
@@ -100,11 +90,7 @@ found_below e to components inside is =
     let there = row_of_inside e to inside in
     let at : get_or (indices e) there.0 [] ≡ to = get_or_from_slice_get (indices e) there.0 to [] there.2 in
     let passes : is_index components (get_or (indices e) there.0 []) ≡ true = (signed_items (map pos (get_or (indices e) there.0 [])) components).1 (ap (map pos) at ∙ is) in
-    ⊎_elim
-    (λ (early : there.0 < position_or_len (is_index components) (indices e)).
-    absurd (false≢true (sym (fails_before_first (is_index components) (indices e) there.0 [] early) ∙ passes)))
-    (λ (late : position_or_len (is_index components) (indices e) ≤ there.0). omega (arith, late, there.1))
-    (cases_lt there.0 (position_or_len (is_index components) (indices e)))
+    grind (arith, fails_before_first, cases_lt)
 
 -- ---- where every row reaches, every dimension stays
 
@@ -145,9 +131,7 @@ stays_by_corners (extent ∷ extents) (span ∷ spans) (o ∷ offsets) (i ∷ in
 
 -- the index that a row leads to
 led : (e : List ℕ) (row : ℕ) (offsets : List ℤ) → row_from e row offsets < length (indices e) → map pos (index_at e (row_from e row offsets)) ≡ away (index_at e row) offsets
-led e row offsets small =
-    let components = away (index_at e row) offsets in
-    (signed_items (map pos (index_at e (row_from e row offsets))) components).0 (passes_at_first (is_index components) (indices e) [] small)
+led e row offsets small = grind (arith, signed_items, passes_at_first)
 
 -- ---- both together
 
@@ -200,8 +184,6 @@ reaches_is window offsets is = by_rank (length offsets == length window.0) (λ s
 -- where the offsets are as many as the extents, and none is too far
 pub reaches_rest : (window : WindowOf) (offsets : List ℤ) (rest : Bool) → IsWindow window.0 window.1 → length offsets ≡ length window.0 → list_all is_offset offsets ≡ true
     → ((length (rows_of window) == 0) || all_stay window.0 window.1 offsets) ≡ rest → rest ≡ reaches window offsets
-reaches_rest window offsets rest is long near so =
-    let same : (length offsets == length window.0) ≡ true = grind (arith, nat_tests) in
-    sym (reaches_is window offsets is ∙ rw (same, near) so)
+reaches_rest window offsets rest is long near so = grind (arith, reaches_is)
 
 -- ---- the dimensions, one by one

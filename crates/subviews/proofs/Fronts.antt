@@ -30,8 +30,7 @@ fits_more answer rows k d kept small fits taken =
 pub fault_here : (answer : ℕ → Result ℤ StoreFault) (rows : List ℕ) (k d : ℕ) (fault : StoreFault) → k < length rows → first_round_fault answer (take k rows) ≡ Ok tt → answer (get_or rows k d) ≡ Err fault
     → (first_round_fault answer rows ≡ Err (record { row = get_or rows k d; fault = fault })) × (position_or_len (λ row. is_err (answer row)) rows ≡ k)
 fault_here answer [] k d fault small fits refused = absurd (omega (arith, small))
-fault_here answer (row ∷ rows) zero d fault small fits refused =
-    (ap (λ one. at_row row one (first_round_fault answer rows)) refused, ap (λ (one : Result ℤ StoreFault). cond (not (is_err one)) (1 + position_or_len (λ row. is_err (answer row)) rows) 0) refused)
+fault_here answer (row ∷ rows) zero d fault small fits refused = grind (arith, is_err, position_or_len)
 fault_here answer (row ∷ rows) (suc k) d fault small fits refused = of_row (answer row) fits (λ before. fault_here answer rows k d fault (omega (arith, small)) before refused) where
   of_row : (one : Result ℤ StoreFault) → at_row row one (first_round_fault answer (take k rows)) ≡ Ok tt
       → (first_round_fault answer (take k rows) ≡ Ok tt → (first_round_fault answer rows ≡ Err (record { row = get_or rows k d; fault = fault })) × (position_or_len (λ row. is_err (answer row)) rows ≡ k))

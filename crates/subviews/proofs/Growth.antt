@@ -55,10 +55,7 @@ run_behind numbers row first count rows run inside = λ k low.
 
 -- its first row
 pub run_first : (numbers : List ℕ) (row first count : ℕ) → AreConsecutive numbers row first count → 0 < count → slice_get numbers row ≡ Some first
-run_first numbers row first count run some =
-    let place : row + 0 ≡ row = omega arith in
-    let same : first + 0 ≡ first = omega arith in
-    subst (λ (m : ℕ). slice_get numbers m ≡ Some first) place (run 0 some ∙ ap (λ (m : ℕ). Some m) same)
+run_first numbers row first count run some = grind (arith, slice_get)
 
 -- its rows are rows of the array
 pub run_inside : (window : WindowOf) (run : Run) → IsRunOf window run → run.first + run.rows ≤ length (indices window.0)
@@ -71,8 +68,4 @@ run_inside window run is =
 -- a row of the array among them
 pub run_at : (window : WindowOf) (run : Run) (row outer : ℕ) → IsRunOf window run → run.row ≡ row → run.first ≤ outer → outer < run.first + run.rows
     → slice_get (rows_of window) (row + (outer - run.first)) ≡ Some outer
-run_at window run row outer is here low high =
-    let k = outer - run.first in
-    let at : run.row + k ≡ row + k = ap (λ (n : ℕ). n + k) here in
-    let same : run.first + k ≡ outer = omega (arith, low) in
-    subst (λ (n : ℕ). slice_get (rows_of window) n ≡ Some outer) at (is.each k (omega (arith, low, high)) ∙ ap (λ (n : ℕ). Some n) same)
+run_at window run row outer is here low high = grind (arith, slice_get)

@@ -1,5 +1,5 @@
 -- What the proofs of this crate speak of.
-pub use Rattle.std.proofs.Common.{◌≡◌, ℕ, zero, suc, ◌+◌, ◌<◌, ◌≤◌, true, ℤ, pos, List, [], ◌∷◌, ◌++◌, length, map, take, drop, get_or, Option, Some, None, Result, Ok, Err, is_ok, refl, ap, sym, ◌∙◌, arith, ◌%◌, ◌^◌, negsuc, FitsSigned, to_z, of_z, w64, subst, flat_map, Contains, is_err, cond, not, ◌-◌, Bool, false, filter, ◌*◌, ◌/◌, ◌+ℤ◌, ◌*ℤ◌, fold, sum_by, ⊎_elim, neg_ℤ, ◌-ℤ◌, ◌≤ℤ◌, All, slice_set, rules, IsErr}
+pub use Rattle.std.proofs.Common.{◌≡◌, ℕ, zero, suc, ◌+◌, ◌<◌, ◌≤◌, true, ℤ, pos, List, [], ◌∷◌, ◌++◌, length, map, take, drop, get_or, Option, Some, None, Result, Ok, Err, is_ok, refl, ap, sym, ◌∙◌, arith, ◌%◌, ◌^◌, negsuc, FitsSigned, to_z, of_z, w64, subst, flat_map, Contains, is_err, cond, not, ◌-◌, Bool, false, filter, ◌*◌, ◌+ℤ◌, ◌*ℤ◌, fold, ⊎_elim, neg_ℤ, ◌-ℤ◌, ◌≤ℤ◌, All, slice_set, rules, IsErr}
 pub use Rattle.std.specs.Option.{option_or}
 pub use Rattle.std.proofs.lemmas.List.{length-map, length-take-le, length-drop, get_or-map, get_or-take, get_or-drop, take_all, append-nil, take_more, map-append, take-map, get_or-set_same, get_or-set_other, length-set}
 pub use Rattle.std.proofs.lemmas.List.FromFn.{map-range_with_len_more}
@@ -11,7 +11,7 @@ pub use Rattle.std.specs.Prelude.{slice_get, if◌then◌else◌, max, unsigned_
 pub use Rattle.std.proofs.lemmas.Option.{slice_get-get_or, slice_get_within, get_or_from_slice_get}
 pub use Rattle.std.proofs.lemmas.List.Sums.{sum_by_more, sum_by_more_le, fold_more, AllPass-from_list_all, passes_at_first, list_all-from_AllPass, fails_before_first}
 pub use Rattle.std.proofs.lemmas.Nat.{mul-le, mod_below}
-pub use Rattle.std.proofs.lemmas.Bool.{cases_eq, cases_lt, and_parts, ltb-true, lt-ltb, false≢true}
+pub use Rattle.std.proofs.lemmas.Bool.{cases_eq, cases_lt, and_parts, ltb-true, lt-ltb}
 pub use Rattle.std.proofs.lemmas.Bool.Decides.{nat_tests}
 pub use Rattle.std.specs.Int.{w128}
 pub use Rattle.std.specs.Cmp.Rules.{signed_items}
@@ -19,7 +19,7 @@ pub use Rattle.std.proofs.lemmas.List.Elements.{Contains-get_or}
 pub use Rattle.piece_bits.specs.Lows.{low_64, IsWithin64}
 pub use Rattle.places.specs.Image.{entry}
 pub use Rattle.piece_bits.specs.Tables.{with_entry, hold_at, HasShape}
-pub use Rattle.views.specs.Columns.{column, column_writes, in_leaf, lane_fault, first_lane_fault, with_column as with_values, column_reads}
+pub use Rattle.views.specs.Columns.{column_writes, lane_fault, first_lane_fault, with_column as with_values, column_reads}
 pub use Rattle.views.specs.ColumnsLaws.{no_column, entry_more}
 pub use Rattle.views.specs.LeafRuns.{run_of, told_lane, stored_count, raised, run_fault, with_run}
 pub use Rattle.views.specs.Stores.{StoreAnswer, Fits, Stays, store_answer, kept_or, kind_at, without_number}
@@ -45,15 +45,15 @@ pub use Rattle.views.specs.RunsLaws.{low_declared, raised_low, raised_all}
 pub use Rattle.extents.specs.Windows.{holds, IsWindow, sizes, moved}
 pub use Rattle.extents.specs.WindowLaws.{numbers_of, inside_length, window_count, window_row, moved_inside, same_rank}
 pub use Rattle.extents.specs.declared.window.Span.{Span}
-pub use Rattle.map_checks.specs.Mappings.{leaf_cells, holds_by, IsBuiltTerm}
-pub use Rattle.map_expr.specs.Terms.{term_of, uncounted}
+pub use Rattle.map_checks.specs.Mappings.{IsBuiltTerm}
+pub use Rattle.map_expr.specs.Terms.{uncounted}
 pub use Rattle.piece_bits.specs.TableLaws.{with_entry_shape, with_entry_same, with_entry_other}
 pub use Rattle.views.specs.AnswerLaws.{told_err, told_kept, told_ok}
 pub use Rattle.views.specs.UncountedLaws.{holds_uncounted}
 pub use Rattle.layout_io.specs.Gathering.{Puts, HasPut}
 pub use Rattle.layout_io.specs.GatheringLaws.{Puts-append, Writes-puts_err, Puts-stop, Puts-loop_err}
 pub use Rattle.layout_io.specs.WritingLaws.{flat_map_push}
-pub use Rattle.record_dim.specs.declared.leaf_type.LeafType.TheVariants.{Bool as Truth, U8, U16, U32, U64, I8, I16, I32, I64}
+pub use Rattle.record_dim.specs.declared.leaf_type.LeafType.TheVariants.{Bool as Truth}
 pub use Rattle.views.specs.StrictLaws.{between_true}
 pub use Rattle.extents.specs.IndicesLaws.{place, entry_at, same_row, inside_of_entry, row_of_inside}
 pub use Rattle.linearize.specs.Slots.{index_at}

@@ -1,5 +1,5 @@
 -- Sums of terms, in rows one behind another, that stay within 64 bits.
-use Rattle.subviews.proofs.Imports.{◌≡◌, ℕ, ◌+◌, ◌*◌, ◌-◌, ◌/◌, ◌^◌, ◌<◌, ◌≤◌, true, ℤ, pos, ◌+ℤ◌, ◌*ℤ◌, List, [], length, map, take, get_or, fold, sum_by, Contains, FitsSigned, w64, ap, sym, subst, ◌∙◌, arith, max, unsigned_abs, slice_get, mul-div-le, div-le_self, mul-le-mul_right, ints, unsigned_abs-mul, fits_signed_from_abs, length-map, sum_by_more, sum_by_more_le, mul-le, indices, stays_declared, low_64, low_same, hold_at, entry, Leaf, leaves, IsDeclared, run_of, Table, IsTable, leaf_count_of, leaf_type_of, table_holds, rows_of, weighted, row_from, Plan, Run, Term, IsPlanOf, IsRunOf, all_weights, limit_of}
+use Rattle.subviews.proofs.Imports.{◌≡◌, ℕ, ◌+◌, ◌*◌, ◌-◌, ◌^◌, ◌<◌, ◌≤◌, true, ℤ, pos, ◌+ℤ◌, ◌*ℤ◌, List, length, map, take, get_or, fold, Contains, FitsSigned, w64, ap, sym, subst, ◌∙◌, arith, max, unsigned_abs, mul-div-le, div-le_self, mul-le-mul_right, ints, unsigned_abs-mul, fits_signed_from_abs, length-map, sum_by_more, sum_by_more_le, mul-le, indices, stays_declared, low_64, low_same, entry, Leaf, leaves, run_of, Table, IsTable, rows_of, weighted, row_from, Plan, Run, Term, IsPlanOf, IsRunOf, all_weights, limit_of}
 use Rattle.subviews.proofs.AtOnce.{low_value}
 use Rattle.subviews.proofs.Values.{added, abs_sum, sum_more, plan_term, reached}
 use Rattle.subviews.proofs.Ways.{row_held}
@@ -7,12 +7,7 @@ use Rattle.subviews.proofs.Ways.{row_held}
 -- ---- the limit
 
 weights_small : (terms : List Term) → all_weights terms * limit_of terms < 2 ^ 63
-weights_small terms =
-    let all = all_weights terms in
-    let most = max all 1 in
-    let limit = limit_of terms in
-    let less : all * limit ≤ most * limit = mul-le-mul_right limit (let l : all ≤ most = omega arith in l) in
-    omega (arith, less, mul-div-le (2 ^ 63 - 1) most)
+weights_small terms = grind (arith, mul-le-mul_right, mul-div-le)
 
 limit_small : (terms : List Term) → limit_of terms < 2 ^ 63
 limit_small terms = omega (arith, div-le_self (2 ^ 63 - 1) (max (all_weights terms) 1))
@@ -57,8 +52,7 @@ module _ (table : Table) (plan : Plan) (run : Run) (place : ℕ) (term : Term) (
         let rows : length (indices plan.window.now.0) ≡ length table.rows = ap (λ (e : List ℕ). length (indices e)) is.window ∙ sym table_is.rows in
         let row = row_from plan.window.now.0 (run.first + k) term.offsets.items in
         let stays = table_is.stays row term.leaf (omega (arith, to.inside, rows)) (omega (arith, in_leaves, length-map (leaves table.fields) (λ (one : Leaf). one.kind))) in
-        subst (λ (t : Term). (v : ℤ) → IsDeclared (leaf_type_of table t.leaf) v → unsigned_abs v ≤ limit_of plan.terms.now) (sym term_is) (is.near near place term small) (value k)
-        (stays_declared table.mode (leaf_type_of table term.leaf) (hold_at (table_holds table) term.leaf) (value k) stays)
+        grind (arith, unsigned_abs, stays_declared)
 
     same : (k : ℕ) → k < run.rows → get_or read k (pos 0) ≡ value k
     same k low =
@@ -86,19 +80,13 @@ module _ (table : Table) (plan : Plan) (first rows place : ℕ) (sums read : Lis
 
   -- the weights so far and this one are not more than all
   few : (before + weight) * limit < 2 ^ 63
-  few =
-      let most = sum_by_more_le (λ (t : Term). unsigned_abs t.weight) plan.terms.now place term low in
-      let here = ap (λ (t : Term). unsigned_abs t.weight) term_is in
-      let less : (before + weight) * limit ≤ all_weights plan.terms.now * limit = mul-le-mul_right limit (let l : before + weight ≤ all_weights plan.terms.now = omega (arith, most, here) in l) in
-      omega (arith, less, weights_small plan.terms.now)
+  few = grind (arith, sum_by_more_le, unsigned_abs, mul-le-mul_right, weights_small)
 
   parts : (before + weight) * limit ≡ before * limit + weight * limit
   parts = omega arith
 
   product : (k : ℕ) → k < rows → unsigned_abs (term.weight *ℤ get_or read k (pos 0)) ≤ weight * limit
-  product k inside =
-      let least : weight ≤ weight = omega arith in
-      omega (arith, unsigned_abs-mul term.weight (get_or read k (pos 0)), mul-le weight (unsigned_abs (get_or read k (pos 0))) weight limit least (values.near k inside))
+  product k inside = grind (arith, unsigned_abs-mul, mul-le, unsigned_abs)
 
   sum : (k : ℕ) → k < rows → unsigned_abs (get_or sums k (pos 0) +ℤ term.weight *ℤ get_or read k (pos 0)) ≤ before * limit + weight * limit
   sum k inside = omega (arith, abs_sum (get_or sums k (pos 0)) (term.weight *ℤ get_or read k (pos 0)), so_far.small k inside, product k inside)
@@ -118,8 +106,6 @@ module _ (table : Table) (plan : Plan) (first rows place : ℕ) (sums read : Lis
       let bound : all_weights (take (place + 1) plan.terms.now) * limit ≡ before * limit + weight * limit = ap (λ (n : ℕ). n * limit) next ∙ parts in
       record {
         count = long ∙ so_far.count;
-        each = λ k inside.
-            each k (omega (arith, inside, so_far.count))
-            ∙ sum_more table plan (first + k) place (get_or sums k (pos 0)) term (get_or read k (pos 0)) low term_is (values.same k inside) (so_far.each k inside);
+        each = λ k inside. grind (arith, sum_more);
         small = λ k inside. omega (arith, ap unsigned_abs (each k (omega (arith, inside, so_far.count))), sum k inside, bound);
       }

@@ -1,5 +1,5 @@
 -- The two passes of a round, run by run, and rounds one after another.
-use Rattle.subviews.proofs.Imports.{◌≡◌, ℕ, zero, suc, ◌+◌, ◌<◌, ◌≤◌, true, ℤ, pos, List, [], ◌∷◌, ◌++◌, length, map, take, get_or, Contains, Result, Ok, Err, is_ok, Some, refl, ap, sym, subst, ◌∙◌, ⊎_elim, arith, slice_get, cases_eq, cases_lt, length-map, get_or-map, take-map, take_all, fold_more, slice_get-get_or, slice_get_within, get_or_from_slice_get, indices, entry, Hold, LeafType, Fields, leaves, kinds_of, leaf_cells, holds_by, StoreMode, HasShape, hold_at, with_entry, with_entry_shape, with_entry_same, with_entry_other, told_err, told_kept, told_ok, column_writes, with_values, run_of, run_fault, stored_count, with_run, holds_uncounted, Stays, kind_at, store_answer, without_number, kept_or, Write, Tally, tallied, after_log-none, after_log-append, after_stores-append, tallied-none, logs_more, Table, IsTable, owners_of, leaf_count_of, leaf_type_of, table_holds, answer_of, kept_of, after_log, after_stores, after_write, StoreFault, rows_of, Stencil, values_fault, stencil_value, new_entry, with_entries, if_fits, round, next_round, stenciled, term_reads, round_reads, round_writes, round_log, tried_rows, rounds_log, refused_log, StencilFault, Plan, IsBufferOf, IsPlanOf, IsIdle, AreConsecutive, IsFilled, planned, IsBuiltTerm, uncounted}
+use Rattle.subviews.proofs.Imports.{◌≡◌, ℕ, zero, suc, ◌+◌, ◌<◌, ◌≤◌, true, ℤ, pos, List, [], ◌∷◌, ◌++◌, length, map, take, get_or, Contains, Result, Ok, Err, is_ok, Some, refl, ap, sym, subst, ◌∙◌, ⊎_elim, arith, slice_get, cases_eq, cases_lt, length-map, get_or-map, take-map, take_all, fold_more, slice_get-get_or, slice_get_within, get_or_from_slice_get, indices, entry, Hold, LeafType, Fields, leaves, kinds_of, StoreMode, HasShape, hold_at, with_entry, with_entry_shape, with_entry_same, with_entry_other, told_err, told_kept, told_ok, column_writes, with_values, run_of, run_fault, stored_count, with_run, holds_uncounted, Stays, kind_at, store_answer, without_number, kept_or, Write, Tally, tallied, after_log-none, after_log-append, after_stores-append, tallied-none, logs_more, Table, IsTable, owners_of, leaf_count_of, leaf_type_of, table_holds, answer_of, kept_of, after_log, after_stores, after_write, StoreFault, rows_of, Stencil, values_fault, stencil_value, new_entry, with_entries, if_fits, round, next_round, stenciled, term_reads, round_reads, round_writes, round_log, tried_rows, rounds_log, refused_log, StencilFault, Plan, IsBufferOf, IsPlanOf, IsIdle, AreConsecutive, IsFilled, planned, IsBuiltTerm, uncounted}
 use Rattle.map_expr.specs.Terms.{Term, Count, Heat}
 use Rattle.subviews.proofs.Fronts.{logs_front, map_front, fits_more, fault_here, column_same}
 use Rattle.subviews.proofs.AtOnce.{AreTaken, are_taken, run_count, run_value, stored_to, none_of_run, one_of_run}
@@ -16,9 +16,7 @@ same_kind : (view buffer : Table) → IsBufferOf view buffer → (leaf : ℕ) �
 same_kind view buffer is leaf = ap (λ (fields : Fields). kind_at (kinds_of fields) leaf) is.fields
 
 same_hold : (view buffer : Table) → IsBufferOf view buffer → (leaf : ℕ) → hold_at (table_holds buffer) leaf ≡ hold_at (table_holds view) leaf
-same_hold view buffer is leaf =
-    ap (λ (fields : Fields). hold_at (holds_by buffer.mapping fields) leaf) is.fields
-    ∙ ap (λ (holds : List Hold). hold_at holds leaf) (ap (λ (t : Term). holds_by t view.fields) is.mapping ∙ holds_uncounted view.mapping view.fields (leaf_cells (kinds_of view.fields)))
+same_hold view buffer is leaf = grind (arith, holds_uncounted)
 
 pub same_answer : (view buffer : Table) → IsBufferOf view buffer → (leaf : ℕ) (value : ℤ) → answer_of buffer leaf value ≡ answer_of view leaf value
 same_answer view buffer is leaf value =
@@ -31,8 +29,7 @@ pub same_stays : (view buffer : Table) → IsBufferOf view buffer → (leaf : �
     → Stays view.mode (leaf_type_of view leaf) (hold_at (table_holds view) leaf) value
 same_stays view buffer is leaf value stays =
     subst (λ (hold : Hold). Stays view.mode (leaf_type_of view leaf) hold value) (same_hold view buffer is leaf)
-    (subst (λ (kind : LeafType). Stays view.mode kind (hold_at (table_holds buffer) leaf) value) (same_kind view buffer is leaf)
-    (subst (λ (mode : StoreMode). Stays mode (leaf_type_of buffer leaf) (hold_at (table_holds buffer) leaf) value) is.mode stays))
+    (grind (arith, same_kind))
 
 -- the answer of the buffer, by what a store of it told
 pub refused_here : (answer : Result ℤ StoreFault) (result : Result Unit StoreFault) (fault : StoreFault) → result ≡ without_number answer → result ≡ Err fault → answer ≡ Err fault
@@ -56,8 +53,7 @@ outer_at numbers k outer at = get_or_from_slice_get numbers k outer 0 at
 -- a row of the window and the leaf of a plan are those of a buffer
 pub buffer_row : (view first buffer : Table) (plan : Plan) (outer : ℕ) → IsPlanOf view.fields view.extents plan → IsBufferOf view first → buffer.extents ≡ first.extents → IsTable buffer
     → outer < length (indices plan.window.now.0) → outer < length buffer.rows
-buffer_row view first buffer plan outer is like same table below =
-    omega (arith, below, table.rows, ap (λ (e : List ℕ). length (indices e)) (same ∙ like.extents ∙ sym is.window))
+buffer_row view first buffer plan outer is like same table below = grind arith
 
 pub buffer_leaf : (view first buffer : Table) (plan : Plan) → IsPlanOf view.fields view.extents plan → IsBufferOf view first → buffer.fields ≡ first.fields → plan.leaf < leaf_count_of buffer
 buffer_leaf view first buffer plan is like same = omega (arith, is.inside, ap (λ (f : Fields). length (leaves f)) (same ∙ like.fields))
@@ -90,8 +86,7 @@ module _ (old view first buffer : Table) (plan : Plan) (k outer : ℕ) (value : 
 
   -- the answer of the buffer is that of the view
   pub answer_is : answer_of buffer plan.leaf value ≡ answer_of old plan.leaf (stencil_value (planned plan) old.rows outer)
-  answer_is =
-      ap (λ (t : Table). answer_of t plan.leaf value) so_far.same ∙ same_answer old first is plan.leaf value ∙ ap (answer_of old plan.leaf) value_of_old
+  answer_is = grind (arith, same_answer, value_of_old)
 
   read_more : (after : Table) → after ≡ after_log view (term_reads (planned plan) outer) → after ≡ after_log old (round_reads (planned plan) (take (k + 1) (rows_of plan.window.now)))
   read_more after read =
@@ -109,10 +104,7 @@ module _ (old view first buffer : Table) (plan : Plan) (k outer : ℕ) (value : 
       let numbers = rows_of plan.window.now in
       let answer = λ (row : ℕ). answer_of old plan.leaf (stencil_value (planned plan) old.rows row) in
       let here = outer_at numbers k outer at in
-      let first = fault_here answer numbers k 0 fault (slice_get_within numbers k outer at) so_far.fits (ap answer here ∙ sym answer_is ∙ refused) in (
-        first.0 ∙ ap (λ (r : ℕ). Err (record { row = r; fault = fault })) here,
-        read_more after read ∙ ap (λ (n : ℕ). after_log old (round_reads (planned plan) (take (n + 1) numbers))) (sym first.1),
-      )
+      let first = fault_here answer numbers k 0 fault (slice_get_within numbers k outer at) so_far.fits (ap answer here ∙ sym answer_is ∙ refused) in grind (arith, read_more)
 
   pub filled_more : (after after' : Table) (kept : ℤ) (count : ℕ) → answer_of buffer plan.leaf value ≡ Ok kept → HasShape count (leaf_count_of buffer) buffer.rows → outer < count
       → plan.leaf < leaf_count_of buffer
@@ -184,10 +176,7 @@ module _ (old view first buffer : Table) (plan : Plan) (k place : ℕ) (values :
 -- behind the last row
 pub filled_all : (old view first buffer : Table) (plan : Plan) (k : ℕ) → length (rows_of plan.window.now) ≤ k → IsFilled old view first buffer plan k → (row : ℕ) → Contains (rows_of plan.window.now) row
     → entry buffer.rows row plan.leaf ≡ new_entry (answer_of old) (planned plan) old.rows row
-filled_all old view first buffer plan k past is row held =
-    let numbers = rows_of plan.window.now in
-    let here : get_or numbers held.0 0 ≡ row = get_or_from_slice_get numbers held.0 row 0 (slice_get-get_or numbers held.0 row held.1 ∙ ap (λ (r : ℕ). Some r) held.2) in
-    subst (λ (r : ℕ). entry buffer.rows r plan.leaf ≡ new_entry (answer_of old) (planned plan) old.rows r) here (is.filled held.0 (omega (arith, past, held.1)))
+filled_all old view first buffer plan k past is row held = grind (arith, get_or_from_slice_get, slice_get-get_or)
 
 -- ---- the second pass
 
@@ -247,10 +236,7 @@ module _ (old view first buffer : Table) (plan : Plan) (k place n : ℕ) (so_far
       let all : take n values ≡ values = take_all n values (omega (arith, run_count buffer plan.leaf place n inside)) in
       let is : after ≡ stored_to view plan.leaf place values n =
       stored ∙ ap (λ (vs : List ℤ). after_stores view (with_values plan.leaf place vs view.rows) (column_writes plan.leaf place n)) (sym all) in
-      record {
-        stored = is ∙ (stored_front n (omega arith)).stored;
-        same = read ∙ ap (λ (t : Table). record t { tally = after'.tally }) so_far.same;
-      }
+      grind (arith, stored_front)
 
 -- ---- rounds
 
@@ -305,10 +291,7 @@ after_more old view after first buffer buffer' stencil count so_far one counted 
 -- a round whose values do not all fit
 pub round_stopped : (old view : Table) (stencil : Stencil) (fault : StencilFault) → view ≡ record old { rows = view.rows; tally = view.tally }
     → values_fault (answer_of view) stencil view.rows (rows_of stencil.window) ≡ Err fault → round (answer_of old) stencil view.rows ≡ Err fault
-round_stopped old view stencil fault from refused =
-    let numbers = rows_of stencil.window in
-    sym (ap (λ (t : Table). round (answer_of t) stencil view.rows) from)
-    ∙ ap (λ (r : Result Unit StencilFault). if_fits r (with_entries stencil.leaf (new_entry (answer_of view) stencil view.rows) numbers view.rows)) refused
+round_stopped old view stencil fault from refused = grind arith
 
 -- what a stencil that meets a fault leaves: the rows of the rounds before, and beside their accesses the reads up to the row of the fault
 abbrev pub IsRefused : Table → Table → Stencil → ℕ → StencilFault → Type 0
@@ -336,8 +319,7 @@ is_refused old view read first buffer stencil count rounds fault low so_far refu
 -- a fault ends all rounds behind it
 pub stopped : (old : Table) (rows : List (List ℤ)) (stencil : Stencil) (count more all : ℕ) (fault : StencilFault) → all ≡ suc (more + count) → stenciled old stencil count ≡ Ok rows
     → round (answer_of old) stencil rows ≡ Err fault → stenciled old stencil all ≡ Err fault
-stopped old rows stencil count zero all fault is before stop =
-    (let next : all ≡ suc count = omega (arith, is) in ap (stenciled old stencil) next ∙ ap (next_round (answer_of old) stencil) before ∙ stop)
+stopped old rows stencil count zero all fault is before stop = grind arith
 stopped old rows stencil count (suc more) all fault is before stop =
     (let next : all ≡ suc (suc (more + count)) = omega (arith, is) in
     ap (stenciled old stencil) next ∙ ap (next_round (answer_of old) stencil) (stopped old rows stencil count more (suc (more + count)) fault refl before stop))

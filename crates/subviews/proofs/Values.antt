@@ -1,36 +1,29 @@
 -- The sum of the terms at a row.
-use Rattle.subviews.proofs.Imports.{◌≡◌, ℕ, ◌+◌, ◌*◌, ◌^◌, ◌<◌, ◌≤◌, true, ℤ, pos, negsuc, neg_ℤ, ◌+ℤ◌, ◌-ℤ◌, ◌*ℤ◌, ◌≤ℤ◌, List, [], ◌∷◌, ◌++◌, length, map, take, get_or, fold, Contains, FitsSigned, to_z, of_z, ap, sym, subst, ◌∙◌, arith, unsigned_abs, w128, ints, unsigned_abs-mul, to_z-of_z, fits_signed_from_abs, mul-le, length-map, get_or-map, take_more, map-append, fold_more, indices, entry, LeafType, Truth, U8, U16, U32, U64, I8, I16, I32, I64, leaves, IsDeclared, Fields, between_true, after_log-append, Table, after_log, after_read, rows_of, Weighted, weighted, row_from, term_value, term_read, is_weight, Term, Plan, IsPlanOf, IsTermOf}
+use Rattle.subviews.proofs.Imports.{◌≡◌, ℕ, ◌+◌, ◌*◌, ◌^◌, ◌<◌, ◌≤◌, true, ℤ, pos, neg_ℤ, ◌+ℤ◌, ◌*ℤ◌, ◌≤ℤ◌, List, [], ◌∷◌, ◌++◌, length, map, take, get_or, fold, Contains, FitsSigned, to_z, of_z, ap, sym, subst, ◌∙◌, arith, unsigned_abs, w128, ints, unsigned_abs-mul, to_z-of_z, fits_signed_from_abs, mul-le, length-map, get_or-map, take_more, map-append, fold_more, indices, entry, LeafType, leaves, IsDeclared, Fields, between_true, after_log-append, Table, after_log, after_read, rows_of, Weighted, weighted, row_from, term_value, term_read, is_weight, Term, Plan, IsPlanOf, IsTermOf}
 use Rattle.subviews.proofs.Ways.{row_inside, reach_inside}
 
 -- ---- how great numbers are
 
 abs_small : (z : ℤ) (m : ℕ) → neg_ℤ (pos m) ≤ℤ z → z ≤ℤ pos m → unsigned_abs z ≤ m
-abs_small (pos n) m low high = omega (arith, ints, high)
-abs_small (negsuc n) m low high = omega (arith, ints, low)
+abs_small z m low high = grind arith
 
 abs_low : (z : ℤ) → neg_ℤ (pos (unsigned_abs z)) ≤ℤ z
-abs_low (pos n) = omega (arith, ints)
-abs_low (negsuc n) = omega (arith, ints)
+abs_low z = grind arith
 
 abs_high : (z : ℤ) → z ≤ℤ pos (unsigned_abs z)
-abs_high (pos n) = omega (arith, ints)
-abs_high (negsuc n) = omega (arith, ints)
+abs_high z = grind arith
 
 pub abs_sum : (a b : ℤ) → unsigned_abs (a +ℤ b) ≤ unsigned_abs a + unsigned_abs b
 abs_sum a b = abs_small (a +ℤ b) (unsigned_abs a + unsigned_abs b) (omega (arith, ints, abs_low a, abs_low b)) (omega (arith, ints, abs_high a, abs_high b))
 
 pub weight_small : (weight : ℤ) → is_weight weight ≡ true → unsigned_abs weight ≤ 2 ^ 31
-weight_small weight is =
-    let both = between_true (neg_ℤ (pos (2 ^ 31))) (pos (2 ^ 31) -ℤ pos 1) weight is in abs_small weight (2 ^ 31) both.0 (omega (arith, ints, both.1))
+weight_small weight is = grind (arith, between_true, neg_ℤ, abs_small)
 
 pub entry_small : (kind : LeafType) (value : ℤ) → IsDeclared kind value → unsigned_abs value ≤ 2 ^ 64
-entry_small Truth value d = abs_small value (2 ^ 64) (omega (arith, ints, d.0)) (omega (arith, ints, d.1))
-entry_small other value d = abs_small value (2 ^ 64) (omega (arith, ints, d.0)) (omega (arith, ints, d.1))
+entry_small kind value d = grind (arith, abs_small)
 
 pub product_small : (weight value : ℤ) → unsigned_abs weight ≤ 2 ^ 31 → unsigned_abs value ≤ 2 ^ 64 → unsigned_abs (weight *ℤ value) ≤ 2 ^ 95
-product_small weight value low high =
-    let both : unsigned_abs weight * unsigned_abs value ≤ 2 ^ 31 * 2 ^ 64 = mul-le (unsigned_abs weight) (unsigned_abs value) (2 ^ 31) (2 ^ 64) low high in
-    omega (arith, both, unsigned_abs-mul weight value)
+product_small weight value low high = grind (arith, unsigned_abs, mul-le, unsigned_abs-mul)
 
 pub sum_small : (sum term : ℤ) (k : ℕ) → unsigned_abs sum ≤ k * 2 ^ 95 → unsigned_abs term ≤ 2 ^ 95 → unsigned_abs (sum +ℤ term) ≤ (k + 1) * 2 ^ 95
 sum_small sum term k small one = omega (arith, abs_sum sum term, small, one)

@@ -1,5 +1,5 @@
 -- From each row of a window a term reads as far away.
-use Rattle.subviews.proofs.Imports.{◌≡◌, ℕ, zero, suc, ◌+◌, ◌*◌, ◌<◌, ◌≤◌, Bool, true, false, ℤ, pos, ◌+ℤ◌, ◌-ℤ◌, List, [], ◌∷◌, ◌++◌, length, map, take, get_or, filter, ◌^◌, All, Contains, Some, slice_set, ⊎_elim, refl, ap, sym, subst, ◌∙◌, arith, ◌&&◌, ◌==◌, nat_lt, slice_get, if◌then◌else◌, list_all, enumerate_from, signed_items, and_parts, ltb-true, cases_eq, ints, take_all, take_more, get_or-set_same, get_or-set_other, AllPass-from_list_all, passes_at_first, slice_get-get_or, slice_get_within, get_or_from_slice_get, indices, product, IsInside, IsExtents, place, entry_at, same_row, holds, numbers_of, inside_length, index_at, entry_of_row, index_at_inside, WindowOf, rows_of, away, is_index, row_from, is_offset, reaches, Term, IsFar}
+use Rattle.subviews.proofs.Imports.{◌≡◌, ℕ, zero, suc, ◌+◌, ◌*◌, ◌<◌, ◌≤◌, Bool, true, false, ℤ, pos, ◌+ℤ◌, ◌-ℤ◌, List, [], ◌∷◌, ◌++◌, length, map, take, get_or, filter, ◌^◌, All, Contains, Some, slice_set, ⊎_elim, refl, ap, sym, subst, ◌∙◌, arith, nat_lt, slice_get, if◌then◌else◌, list_all, enumerate_from, signed_items, and_parts, ltb-true, cases_eq, ints, take_all, take_more, get_or-set_same, get_or-set_other, AllPass-from_list_all, passes_at_first, slice_get-get_or, slice_get_within, get_or_from_slice_get, indices, product, IsInside, IsExtents, place, entry_at, same_row, holds, numbers_of, inside_length, index_at, entry_of_row, index_at_inside, WindowOf, rows_of, away, row_from, reaches, Term, IsFar}
 
 -- ---- the rows of a window are rows of the array
 
@@ -19,19 +19,12 @@ row_inside window row held =
 -- ---- what a reach says
 
 pub reach_inside : (window : WindowOf) (offsets : List ℤ) (row : ℕ) → reaches window offsets ≡ true → Contains (rows_of window) row → row_from window.0 row offsets < length (indices window.0)
-reach_inside window offsets row reach held =
-    let test : ℕ → Bool = λ row. nat_lt (row_from window.0 row offsets) (length (indices window.0)) in
-    let rest = and_parts (length offsets == length window.0) (list_all is_offset offsets && list_all test (rows_of window)) reach in
-    let all = AllPass-from_list_all test (rows_of window) (and_parts (list_all is_offset offsets) (list_all test (rows_of window)) rest.1).1 in
-    let here : test (get_or (rows_of window) held.0 row) ≡ true = all held.0 row held.1 in
-    ltb-true (row_from window.0 row offsets) (length (indices window.0)) (sym (ap test held.2) ∙ here)
+reach_inside window offsets row reach held = grind (arith, nat_lt, and_parts, list_all, AllPass-from_list_all, ltb-true)
 
 -- ---- the index that is so far away
 
 pub found : (e : List ℕ) (row : ℕ) (offsets : List ℤ) → row_from e row offsets < length (indices e) → map pos (index_at e (row_from e row offsets)) ≡ away (index_at e row) offsets
-found e row offsets small =
-    let components = away (index_at e row) offsets in
-    (signed_items (map pos (index_at e (row_from e row offsets))) components).0 (passes_at_first (is_index components) (indices e) [] small)
+found e row offsets small = grind (arith, signed_items, passes_at_first)
 
 -- two indices with others as far away
 pub same_way : (e one to other toward : List ℕ) (offsets : List ℤ) → IsInside e one → IsInside e to → IsInside e other → IsInside e toward
@@ -150,11 +143,7 @@ pub far_more : (window : WindowOf) (terms : List Term) (far : List ℤ) (k : ℕ
     → AreFar window terms far k → AreFar window terms (slice_set far k value) (k + 1)
 far_more window terms far k term value small within at here before = λ place other low.
     ⊎_elim
-    (λ (same : place ≡ k).
-    (let one : get_or terms k other ≡ term = get_or_from_slice_get terms k (get_or terms k term) other (slice_get-get_or terms k term within) ∙ sym at in
-    subst (λ (n : ℕ). IsFar window (get_or terms n other).offsets.items (get_or (slice_set far k value) n (pos 0))) (sym same)
-    (subst (λ (t : Term). IsFar window t.offsets.items (get_or (slice_set far k value) k (pos 0))) (sym one)
-    (subst (λ (z : ℤ). IsFar window term.offsets.items z) (sym (get_or-set_same far k value (pos 0) small)) here))))
+    (λ (same : place ≡ k). grind (arith, get_or_from_slice_get, slice_get-get_or, slice_set, get_or-set_same))
     (λ (apart : place ≡ k → ⊥).
     subst (λ (z : ℤ). IsFar window (get_or terms place other).offsets.items z) (sym (get_or-set_other far k place value (pos 0) apart)) (before place other (omega (arith, low, apart))))
     (cases_eq place k)

@@ -3,9 +3,9 @@ use Rattle.std.proofs.Common.{◌≡◌, ℕ, zero, suc, true, ℤ, List, [], �
 use Rattle.piece_bits.specs.Tables.{with_entry}
 use Rattle.views.specs.Stores.{StoreAnswer, kept_by}
 use Rattle.views.specs.declared.fault.StoreFault.{StoreFault}
-use Rattle.subviews.specs.SubViews.{rows_of}
 use Rattle.subviews.specs.Stencils.{Stencil, stencil_value, at_row, values_fault, with_entries, new_entry, if_fits, round, next_round, after_rounds}
 use Rattle.subviews.specs.declared.fault.StencilFault.{StencilFault}
+use Rattle.std.proofs.Common.{arith}
 
 -- rows that are given, and whether values fit
 abbrev given : List (List ℤ) → Result (List (List ℤ)) StencilFault
@@ -18,13 +18,11 @@ same_rows : (rows new : List (List ℤ)) → given rows ≡ given new → rows �
 same_rows rows new is = cc
 
 fitted : (answer : Result Unit StencilFault) (rows new : List (List ℤ)) → if_fits answer rows ≡ given new → (answer ≡ fits) × (rows ≡ new)
-fitted (Ok done) rows new is = (refl, same_rows rows new is)
-fitted (Err fault) rows new is = absurd (cc is)
+fitted answer rows new is = grind (arith, same_rows)
 
 -- the value in a row fits, and those in later rows do
 fits_at : (row : ℕ) (answer : Result ℤ StoreFault) (rest : Result Unit StencilFault) → at_row row answer rest ≡ fits → (is_ok answer ≡ true) × (rest ≡ fits)
-fits_at row (Ok kept) rest is = (refl, is)
-fits_at row (Err fault) rest is = absurd (cc is)
+fits_at row answer rest is = grind arith
 
 -- rows of which something holds, as it does after a store of a value that fits
 module _ (answer : StoreAnswer) (stencil : Stencil) (Holds : List (List ℤ) → Type 0)
@@ -38,10 +36,7 @@ module _ (answer : StoreAnswer) (stencil : Stencil) (Holds : List (List ℤ) →
       column_keeps old numbers (with_entry now row stencil.leaf (new_entry answer stencil old row)) parts.1 (keeps now row value parts.0 holds)
 
   round_keeps : (rows new : List (List ℤ)) → Holds rows → round answer stencil rows ≡ given new → Holds new
-  round_keeps rows new holds is =
-      let numbers = rows_of stencil.window in
-      let parts = fitted (values_fault answer stencil rows numbers) (with_entries stencil.leaf (new_entry answer stencil rows) numbers rows) new is in
-      subst Holds parts.1 (column_keeps rows numbers rows parts.0 holds)
+  round_keeps rows new holds is = grind (arith, fitted, column_keeps)
 
   pub rounds_keep : (count : ℕ) (rows new : List (List ℤ)) → Holds rows → after_rounds answer stencil count rows ≡ given new → Holds new
   rounds_keep zero rows new holds is = subst Holds (same_rows rows new is) holds

@@ -1,19 +1,16 @@
 -- The parts of an update by actors, and what is done by it.
-use Rattle.view_commands.proofs.Imports.{◌≡◌, ℕ, suc, ◌+◌, ◌/◌, ◌%◌, ◌^◌, ◌≤◌, Bool, true, false, ℤ, nat_le, List, [], ◌∷◌, length, get_or, set, map, Result, Ok, Err, refl, sym, ap, ◌∙◌, arith, IsErrAnd, not, sum_by, slice_set, filter, and_parts, leb-true, nat_tests, length-map, length-set, Run, started_run, after_turns, State, moved, turned, AreCuts, actor_of, are_cuts, are_cuts-are, Place, memory_of, written_by, team_start, job_of, fresh_of, Job, Micro, Fetch, Load, Store, Registers, stored, loaded, with_bits_of, value_kept_on, row_in, next, entries, schedule_of, idle_with, run_by, shared_byte, Value, Assignment, image, bit_held, bytes_of, Setting, updated_of, Term, update_log, Table, owners_of, after_log, after_stores, reads_in, writes_in, reads_first, updated_by_actors, fit_cuts, shared, memory_text, bound_filter, bound_sets, each_once, leaves_of, Done, done_to, ◌>>=◌, refused_if, refused_by, small, Cuts, Turns, BadActors, TooBig, StepFault, left_with, Bindings, shared_out, acted, Tested}
-use Rattle.std.specs.Prelude.{◌*◌, nat_lt, Option, Some, None}
+use Rattle.view_commands.proofs.Imports.{◌≡◌, ℕ, suc, ◌+◌, ◌/◌, ◌%◌, ◌^◌, ◌≤◌, Bool, true, false, ℤ, nat_le, List, [], ◌∷◌, length, get_or, map, Result, Ok, Err, refl, sym, ap, ◌∙◌, arith, IsErrAnd, not, sum_by, slice_set, filter, and_parts, leb-true, nat_tests, length-map, length-set, Run, started_run, after_turns, State, moved, turned, AreCuts, actor_of, are_cuts-are, Place, memory_of, written_by, team_start, job_of, fresh_of, Job, Micro, Registers, stored, loaded, next, entries, schedule_of, idle_with, run_by, shared_byte, Value, Assignment, image, bit_held, bytes_of, Setting, updated_of, Term, update_log, Table, owners_of, after_log, after_stores, reads_in, writes_in, reads_first, updated_by_actors, fit_cuts, shared, memory_text, bound_filter, bound_sets, each_once, leaves_of, Done, done_to, ◌>>=◌, refused_if, refused_by, small, Cuts, Turns, BadActors, TooBig, StepFault, left_with, Bindings, shared_out, acted, Tested}
+use Rattle.std.specs.Prelude.{◌*◌, nat_lt, Option, None}
 use Rattle.actors.specs.ActorRuns.{without_counts}
 use Rattle.command_checks.specs.declared.fault.StepFault.TheVariants as step
 use Rattle.view_commands.proofs.Arms.{read_stored}
 
 -- cuts that pass
 of_fit : (test : Bool) → refused_if (not test) (BadActors Cuts) ≡ Ok tt → test ≡ true
-of_fit true is = refl
-of_fit false is = absurd (cc)
+of_fit test is = grind arith
 
 pub cuts_fit : (cuts : List ℕ) (rows : ℕ) → refused_if (not (fit_cuts cuts rows)) (BadActors Cuts) ≡ Ok tt → AreCuts 0 cuts rows × (length cuts ≤ 63)
-cuts_fit cuts rows is =
-    let both = and_parts (nat_le (length cuts) 63) (are_cuts 0 cuts rows) (of_fit (fit_cuts cuts rows) is) in
-    (are_cuts-are 0 cuts rows both.1, leb-true (length cuts) 63 both.0)
+cuts_fit cuts rows is = grind (arith, and_parts, nat_le, of_fit, are_cuts-are, leb-true)
 
 -- a table that is small
 pub small_few : (table : Table) → small table ≡ Ok tt → sum_by length (owners_of table) ≤ 8 * 65536
@@ -24,13 +21,11 @@ small_few table is = of_test (nat_lt (8 * 65536) (sum_by length (owners_of table
 
 -- no byte is shared
 pub none_shared : (cause : Option Place) → refused_by shared cause ≡ Ok tt → cause ≡ None
-none_shared None is = refl
-none_shared (Some place) is = absurd (cc)
+none_shared cause is = grind arith
 
 -- one thing after another, in two parts
 in_parts : {A B C : Type 0} (x : Tested A) (f : A → Tested C) (first : A → Tested B) (rest : B → Tested C) → ((a : A) → f a ≡ (first a >>= rest)) → (x >>= f) ≡ ((x >>= first) >>= rest)
-in_parts (Ok a) f first rest same = same a
-in_parts (Err fault) f first rest same = refl
+in_parts x f first rest same = grind arith
 
 -- what comes behind each test, up to the values of the rows, and with them
 module _ (table : Table) (cuts : List ℕ) (seed turns : ℕ) where
@@ -73,11 +68,7 @@ module _ (table : Table) (cuts : List ℕ) (seed turns : ℕ) where
 
   behind : (test : Option (Term ℕ)) (settings : List Setting) → behind_sets whole test settings ≡ (behind_sets bound test settings >>= done)
   behind test settings =
-      in_parts (once settings) (λ a. behind_once whole test settings) (λ a. behind_once bound test settings) done (λ a.
-      in_parts fit (λ b. behind_fit whole test settings) (λ b. behind_fit bound test settings) done (λ b.
-      in_parts few (λ c. behind_few whole test settings) (λ c. behind_few bound test settings) done (λ c.
-      in_parts (small table) (λ d. behind_small whole test settings) (λ d. behind_small bound test settings) done (λ d.
-      in_parts apart (λ e. whole test settings) (λ e. bound test settings) done (λ e. refl)))))
+      in_parts (once settings) (λ a. behind_once whole test settings) (λ a. behind_once bound test settings) done (λ a. grind (arith, in_parts))
 
   pub by_parts : (filter : Option Value) (sets : List Assignment)
       → updated_by_actors table filter sets cuts seed turns ≡ (shared_out table filter sets cuts turns >>= done)
@@ -95,8 +86,7 @@ acted_goes table bound cuts seed turns rows is = rw is refl
 
 -- a write that failed
 pub sink_is : {T : Type 0} (result : Result T StepFault) → IsErrAnd result (λ fault. fault ≡ step.Sink) → result ≡ Err step.Sink
-sink_is (Ok value) is = absurd is
-sink_is (Err fault) is = ap Err is
+sink_is result is = grind arith
 
 -- one turn more of a schedule
 pub turn_more : (run : Run) (actors n x : ℕ) → after_turns (after_turns run ((next x / 65536) % actors ∷ [])) (entries actors n (next x)) ≡ after_turns run (entries actors (suc n) x)
@@ -104,9 +94,7 @@ turn_more run actors n x = refl
 
 -- a schedule leaves as many blobs
 step_count : (job : Job) (step : Micro) (memory : List (List ℕ)) (registers : Registers) → length (stored job step memory registers) ≡ length memory
-step_count job (Fetch place) memory registers = refl
-step_count job (Load place) memory registers = refl
-step_count job (Store place row set) memory registers = length-set memory place.blob (slice_set (get_or memory place.blob []) place.byte (with_bits_of job.layout place row set.leaf (value_kept_on job (row_in job registers.loaded row) row set) registers.byte))
+step_count job step memory registers = grind (arith, length-set, slice_set)
 
 turn_count : (job : Job) (fresh : Registers) (a : ℕ) (state : State (List (List ℕ)) Micro Registers) → length (run_by job fresh (a ∷ []) state).memory ≡ length state.memory
 turn_count job fresh a state = of_rest (get_or state.actors a (idle_with fresh)).rest where
@@ -134,12 +122,7 @@ pub has_turned : (table : Table) (bound : Bindings) (cuts : List ℕ) (seed turn
 has_turned table bound cuts seed turns actors first run is count turned =
     let whole : run ≡ after_turns (started_run table bound.test bound.settings cuts) (schedule_of (length cuts + 1) seed turns) =
     turned ∙ ap (λ (r : Run). after_turns r (schedule_of actors seed turns)) is ∙ ap (λ (n : ℕ). after_turns (started_run table bound.test bound.settings cuts) (schedule_of n seed turns)) count in
-    record {
-      found = ap (λ (r : Run). r.found) whole;
-      test = ap (λ (r : Run). r.filter) whole;
-      settings = ap (λ (r : Run). r.sets) whole;
-      memory = ap (λ (r : Run). r.state.memory) whole;
-    }
+    grind arith
 
 -- it has as many blobs as the table
 pub turned_count : (table : Table) (bound : Bindings) (cuts : List ℕ) (seed turns : ℕ) (run : Run) → HasTurned table bound cuts seed turns run → length run.state.memory ≡ length (owners_of table)

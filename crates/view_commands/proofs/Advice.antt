@@ -5,8 +5,7 @@ use Rattle.map_expr.specs.Terms.{Term}
 -- tokens behind a text, each behind a space
 pub behind_spaced : (text : List ℕ) (tokens : List Token) → with_tokens_behind text tokens ≡ text ++ spaced (map written tokens)
 behind_spaced text [] = sym (append-nil text)
-behind_spaced text (token ∷ tokens) =
-    behind_spaced (text ++ 32 ∷ (written token).bytes) tokens ∙ append_assoc text (32 ∷ (written token).bytes) (spaced (map written tokens))
+behind_spaced text (token ∷ tokens) = grind (arith, append_assoc, (behind_spaced (text ++ 32 ∷ (written token).bytes) tokens))
 
 -- the tokens of a mapping stand behind the name that a line gives it
 pub mapping_text : (term : Term) → canonical (Mapping (codes "m") term) ≡ with_tokens_behind (codes "mapping m =") (map_tokens term)
@@ -15,23 +14,19 @@ mapping_text term = sym (behind_spaced (codes "mapping m =") (map_tokens term))
 
 -- they can stand behind another text
 pub behind_other : (text : List ℕ) (term : Term) → text ++ drop 11 (with_tokens_behind (codes "mapping m =") (map_tokens term)) ≡ with_tokens_behind text (map_tokens term)
-behind_other text term =
-    ap (λ (line : List ℕ). text ++ drop 11 line) (behind_spaced (codes "mapping m =") (map_tokens term)) ∙ sym (behind_spaced text (map_tokens term))
+behind_other text term = grind (arith, behind_spaced)
 
 pub long_line : (term : Term) → 11 ≤ length (with_tokens_behind (codes "mapping m =") (map_tokens term))
 long_line term = rw (behind_spaced (codes "mapping m =") (map_tokens term)) (omega arith)
 
 -- what stands from one byte on
 pub rest_from : (at : ℕ) (line : List ℕ) → take (length line - at) (drop at line) ≡ drop at line
-rest_from at line =
-    let all : length (drop at line) ≤ length line - at = rw (length-drop at line) (omega arith) in
-    take_all (length line - at) (drop at line) all
+rest_from at line = grind (arith, length-drop, take_all)
 
 -- the words of the best
 pub best_goes : (best : Option Best) (one : Best) (line text : List ℕ) → best ≡ Some one → line ≡ with_tokens_behind (codes "mapping m =") (map_tokens (term_of one.expr)) →
     text ≡ (codes "best " ++ digits_text one.cost) ++ drop 11 line → text ≡ best_words (option_map (λ best. (best.cost, term_of best.expr)) best)
-best_goes best one line text is begun whole =
-    rw is (whole ∙ ap (λ (l : List ℕ). (codes "best " ++ digits_text one.cost) ++ drop 11 l) begun ∙ behind_other (codes "best " ++ digits_text one.cost) (term_of one.expr))
+best_goes best one line text is begun whole = grind (arith, behind_other)
 
 -- the text of a listed candidate behind those before it
 pub costs_more : (text : List ℕ) (costs : List (Option ℕ)) (at : ℕ) (d : Option ℕ) → at < length costs →
@@ -47,9 +42,7 @@ costs_more text costs at d inside =
 
 -- all listed candidates
 pub costs_all : (text : List ℕ) (costs : List (Option ℕ)) (at : ℕ) → length costs ≤ at → text ++ flat_map cost_line (take at (enumerate_from 1 costs)) ≡ text ++ flat_map cost_line (enumerate_from 1 costs)
-costs_all text costs at over =
-    let whole : length (enumerate_from 1 costs) ≤ at = rw length-enumerate_from over in
-    ap (λ (lines : List (ℕ × Option ℕ)). text ++ flat_map cost_line lines) (take_all at (enumerate_from 1 costs) whole)
+costs_all text costs at over = grind (arith, enumerate_from, length-enumerate_from, flat_map, take_all)
 
 -- the parts of an advice one behind another
 pub advice_parts : (told : Advised) → (((codes "candidate,cost\n" ++ flat_map cost_line (enumerate_from 1 told.costs)) ++ best_words told.best) ++ 10 ∷ []) ≡ advice_text told

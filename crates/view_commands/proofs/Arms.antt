@@ -1,29 +1,25 @@
 -- Each command that may store, on a table, by what its parts give.
-use Rattle.view_commands.proofs.Imports.{ok_or, ◌≡◌, ◌++◌, ◌∷◌, ℕ, ℤ, pos, List, [], length, take, drop, Option, Some, None, Result, Ok, Err, refl, sym, ap, ◌∙◌, take-append-drop, slice_index_or, Fields, indices, place_in, with_entry, PathStep, Access, Tally, Write, Table, owners_of, answer_of, kept_of, after_log, after_stores, after_write, tallied-append, without_number, StoreFault, LeafTerm, outcome_of, EvalFault, Value, Assignment, Setting, UpdateFault, updated_of, update_log, value_log, Tested, ◌>>=◌, Done, done_to, reading, bound, bound_filter, bound_sets, each_once, leaf_of, leaves_of, text_of_leaf, inside, assigned, updated, kernel_run, fit_kernel, number_text, storable, value_on, column, column_reads, CommandFault, subst, front_left, kernel_left, left_at, row_of, updated_front, Changed, ChangeFault, Ends, all_left, eval_fault, fault_of_kernel, fault_of_update, front_by, kind_fault, set_in, store_fault, store_told, updated_by, run_rows}
-use Rattle.view_commands.proofs.Changing.{all_stay, has_rows, has_same}
+use Rattle.view_commands.proofs.Imports.{ok_or, ◌≡◌, ◌++◌, ◌∷◌, ℕ, ℤ, pos, List, [], length, Option, Some, None, Result, Ok, Err, refl, sym, ap, ◌∙◌, slice_index_or, Fields, indices, place_in, with_entry, PathStep, Access, Tally, Write, Table, owners_of, answer_of, kept_of, after_log, after_stores, after_write, tallied-append, without_number, StoreFault, LeafTerm, outcome_of, Value, Assignment, Setting, UpdateFault, updated_of, update_log, value_log, Tested, reading, bound, bound_filter, bound_sets, each_once, leaf_of, leaves_of, text_of_leaf, inside, assigned, updated, kernel_run, fit_kernel, number_text, column, column_reads, CommandFault, front_left, kernel_left, left_at, row_of, updated_front, Changed, ChangeFault, Ends, all_left, fault_of_kernel, fault_of_update, front_by, kind_fault, set_in, store_fault, store_told, updated_by, run_rows}
+use Rattle.view_commands.proofs.Changing.{has_rows, has_same}
 use Rattle.command_checks.specs.declared.fault.StepFault.TheVariants as step
 use Rattle.view_commands.specs.declared.change.ChangeFault.TheVariants as change
-use Rattle.expr_lang.specs.declared.fault.EvalFault.TheVariants as eval
 use Rattle.std.specs.Prelude.{OnErr, OnOk}
-use Rattle.lane_kernels.specs.Kernels.{IsKernelRun, given_number, rows_before}
-use Rattle.lane_kernels.specs.Logs.{fault_log}
+use Rattle.lane_kernels.specs.Kernels.{IsKernelRun, rows_before}
 use Rattle.lane_kernels.specs.Reductions.{reduced_by}
 use Rattle.lane_kernels.specs.declared.fault.KernelFault.{KernelFault}
-use Rattle.lane_kernels.specs.declared.fault.KernelFault.TheVariants as kernel
 use Rattle.lane_kernels.specs.declared.kernel.Kernel.{Kernel}
 use Rattle.line_grammar.specs.declared.line.KernelText.{KernelText}
 use Rattle.line_grammar.specs.declared.line.ReduceKind.{ReduceKind}
 use Rattle.row_updates.specs.Logs.{count_log}
 use Rattle.row_updates.specs.Rows.{counted}
 use Rattle.row_updates.specs.declared.fault.UpdateKind.{UpdateKind}
-use Rattle.row_updates.specs.declared.fault.UpdateKind.TheVariants as update
-use Rattle.views.specs.declared.fault.StoreFault.TheVariants as store
 use Rattle.worlds.specs.Kernel.{kernel_outcome, kernel_row_fault}
 unfoldable use Rattle.worlds.specs.Reduce.{reduction, counting}
 use Rattle.worlds.specs.Reduce.{form_of}
 use Rattle.worlds.specs.Update.{update_fault, kind_fault as kind_text}
-use Rattle.worlds.specs.Values.{eval_fault as eval_text, store_fault as fault_text}
+use Rattle.worlds.specs.Values.{store_fault as fault_text}
 use Rattle.worlds.specs.declared.fault.CommandFault.TheVariants as command
+use Rattle.std.proofs.Common.{arith}
 
 -- ---- a value that is set
 
@@ -46,20 +42,12 @@ pub goes_in : (table : Table) (index : List ℕ) (path : List PathStep) (value :
 unfolding assigned
 goes_in table index path value leaf term a b c = rw (a, b, c) refl
 
--- the value on the row of the index, and its store
-set_at : (table : Table) (index : List ℕ) (leaf row : ℕ) (term : LeafTerm ℕ) → row ≡ place_in (indices table.extents) index →
-    set_in table index leaf term ≡ (value_on row (slice_index_or table.rows row []) index term >>= λ number. storable table row leaf number >>= λ kept.
-    Ok (record { rows = with_entry table.rows row leaf kept; log = value_log row (slice_index_or table.rows row []) index term ++ Write row leaf ∷ []; text = [] }))
-set_at table index leaf row term is = rw is refl
-
 -- an answer without its number
 kept_is : (answer : Result ℤ StoreFault) → Ok tt ≡ without_number answer → (kept : ℤ) × (answer ≡ Ok kept)
-kept_is (Ok kept) is = (kept, refl)
-kept_is (Err fault) is = absurd (cc)
+kept_is answer is = grind arith
 
 fault_is : (answer : Result ℤ StoreFault) (fault : StoreFault) → Err fault ≡ without_number answer → answer ≡ Err fault
-fault_is (Ok kept) fault is = absurd (cc)
-fault_is (Err other) fault is = let same : fault ≡ other = cc in ap (λ (f : StoreFault). Err f) (sym same)
+fault_is answer fault is = grind arith
 
 -- a table that is read and then stored in
 pub read_stored : (table : Table) (rows : List (List ℤ)) (log more : List Access) → after_stores table rows (log ++ more) ≡ after_stores (after_log table log) rows more
@@ -73,25 +61,16 @@ pub set_done : (old new : Table) (index : List ℕ) (leaf row : ℕ) (term : Lea
     Ok number ≡ (outcome_of (slice_index_or old.rows row []) index term).answer → Ok tt ≡ without_number (answer_of old leaf number) →
     new ≡ after_write (after_log old (value_log row (slice_index_or old.rows row []) index term)) row leaf number →
     Changed (set_in old index leaf term) (all_left old) old (Ok None) new
-set_done old new index leaf row term number at value answer left =
-    let stored = kept_is (answer_of old leaf number) answer in
-    let log = value_log row (slice_index_or old.rows row []) index term in
-    ap (λ (outcome : Tested Done). done_to old outcome) (set_at old index leaf row term at)
-    ∙ rw (← value, stored.1) (ap (λ (table : Table). Ok (record { held = table; text = [] })) (stored_in old row leaf number stored.0 log stored.1 ∙ sym left))
+set_done old new index leaf row term number at value answer left = grind (arith, kept_is, slice_index_or, stored_in)
 
 ends_store : {A : Type 0} (fields : Fields) (outcome : Tested A) (row leaf : ℕ) (fault : StoreFault) → outcome ≡ Err (fault_text row (text_of_leaf fields leaf) fault) → Ends fields outcome (store_fault row leaf fault)
-ends_store fields outcome row leaf store.Range is = is
-ends_store fields outcome row leaf store.Narrow is = is
+ends_store fields outcome row leaf fault is = grind arith
 
 pub set_refused : (old new : Table) (index : List ℕ) (leaf row : ℕ) (term : LeafTerm ℕ) (number : ℤ) (fault : StoreFault) → row ≡ place_in (indices old.extents) index →
     Ok number ≡ (outcome_of (slice_index_or old.rows row []) index term).answer → Err fault ≡ without_number (answer_of old leaf number) →
     new ≡ after_log old (value_log row (slice_index_or old.rows row []) index term) →
     Changed (set_in old index leaf term) (all_left old) old (Err (store_fault row leaf fault)) new
-set_refused old new index leaf row term number fault at value answer left =
-    let refused = fault_is (answer_of old leaf number) fault answer in (
-      ends_store old.fields (set_in old index leaf term) row leaf fault (set_at old index leaf row term at ∙ rw (← value, refused) refl),
-      rw (all_stay old (row_of (store_fault row leaf fault))) (has_same old new (value_log row (slice_index_or old.rows row []) index term) left),
-    )
+set_refused old new index leaf row term number fault at value answer left = grind (arith, fault_is, ends_store, has_same, slice_index_or)
 
 -- whether it is taken or not
 set_by : (old mid new : Table) (index : List ℕ) (leaf row : ℕ) (term : LeafTerm ℕ) (number : ℤ) (told : Result Unit StoreFault) → row ≡ place_in (indices old.extents) index →
@@ -105,11 +84,7 @@ pub set_told : (old mid new : Table) (index : List ℕ) (leaf row : ℕ) (term :
     Ok number ≡ (outcome_of (slice_index_or old.rows row []) index term).answer → mid ≡ after_log old (value_log row (slice_index_or old.rows row []) index term) →
     answer ≡ store_told row leaf (without_number (answer_of mid leaf number)) → OnOk answer (new ≡ after_write mid row leaf number) → OnErr answer (new ≡ mid) →
     Changed (set_in old index leaf term) (all_left old) old answer new
-set_told old mid new index leaf row term number answer at value read told stored kept =
-    let same : answer_of mid leaf number ≡ answer_of old leaf number = rw read refl in
-    let whole : answer ≡ store_told row leaf (without_number (answer_of old leaf number)) = told ∙ ap (λ (a : Result ℤ StoreFault). store_told row leaf (without_number a)) same in
-    subst (λ (a : Result (Option ℤ) ChangeFault). Changed (set_in old index leaf term) (all_left old) old a new) (sym whole)
-    (set_by old mid new index leaf row term number (without_number (answer_of old leaf number)) at value refl read (rw whole at stored) (rw whole at kept))
+set_told old mid new index leaf row term number answer at value read told stored kept = grind (arith, set_by)
 
 -- ---- an update
 
@@ -144,10 +119,7 @@ pub update_done : (old new : Table) (test : Option (LeafTerm ℕ)) (settings : L
 update_done old new test settings stored same = rw stored (ap (λ (table : Table). Ok (record { held = table; text = [] })) (sym same))
 
 ends_kind : {A : Type 0} (fields : Fields) (outcome : Tested A) (row : ℕ) (kind : UpdateKind) → outcome ≡ Err (kind_text fields row kind) → Ends fields outcome (kind_fault row kind)
-ends_kind fields outcome row update.Overflow is = is
-ends_kind fields outcome row update.DivideByZero is = is
-ends_kind fields outcome row (update.Range leaf) is = is
-ends_kind fields outcome row (update.Narrow leaf) is = is
+ends_kind fields outcome row kind is = grind arith
 
 pub ends_update : {A : Type 0} (fields : Fields) (outcome : Result A UpdateFault) (fault : UpdateFault) → outcome ≡ Err fault → Ends fields (ok_or (update_fault fields) outcome) (fault_of_update fault)
 ends_update fields outcome fault is = ends_kind fields (ok_or (update_fault fields) outcome) fault.row fault.kind (rw is refl)
@@ -164,28 +136,19 @@ kernel_goes table text lanes kernel is = rw is refl
 
 pub kernel_done : (old new : Table) (text : KernelText) (lanes : ℕ) (kernel : Kernel) (number : Option ℤ) (left : ℕ → List (List ℤ)) → fit_kernel old.fields text lanes ≡ Ok kernel →
     IsKernelRun old new kernel lanes (Ok number) → Changed (kernel_run old text lanes) left old (Ok number) new
-kernel_done old new text lanes kernel number left fit run =
-    ap (λ (outcome : Tested Done). done_to old outcome) (kernel_goes old text lanes kernel fit)
-    ∙ rw (run.0, run.1) (ap (λ (table : Table). Ok (record { held = table; text = number_text (given_number kernel old.rows) })) (sym run.2))
+kernel_done old new text lanes kernel number left fit run = grind (arith, kernel_goes)
 
 ends_kernel : {A : Type 0} (fields : Fields) (outcome : Tested A) (fault : KernelFault) → outcome ≡ Err (kernel_row_fault fields fault) → Ends fields outcome (fault_of_kernel fault)
-ends_kernel fields outcome kernel.Empty is = is
-ends_kernel fields outcome (kernel.Range row leaf) is = is
-ends_kernel fields outcome (kernel.Narrow row leaf) is = is
+ends_kernel fields outcome fault is = grind arith
 
 -- on an empty table a kernel changes nothing
 kernel_rows : (old new : Table) (kernel : Kernel) (lanes : ℕ) (fault : KernelFault) → IsKernelRun old new kernel lanes (Err fault) →
     left_at (λ row. run_rows (kept_of old) kernel row old.rows) old (row_of (fault_of_kernel fault)) ≡ run_rows (kept_of old) kernel (rows_before fault) old.rows
-kernel_rows old new ran lanes kernel.Empty run = refl
-kernel_rows old new ran lanes (kernel.Range row leaf) run = refl
-kernel_rows old new ran lanes (kernel.Narrow row leaf) run = refl
+kernel_rows old new ran lanes fault run = grind arith
 
 pub kernel_refused : (old new : Table) (text : KernelText) (lanes : ℕ) (kernel : Kernel) (fault : KernelFault) → fit_kernel old.fields text lanes ≡ Ok kernel →
     IsKernelRun old new kernel lanes (Err fault) → Changed (kernel_run old text lanes) (λ row. kernel_left old row (fit_kernel old.fields text lanes)) old (Err (fault_of_kernel fault)) new
-kernel_refused old new text lanes kernel fault fit run = (
-  ends_kernel old.fields (kernel_run old text lanes) fault (kernel_goes old text lanes kernel fit ∙ rw run.0 refl),
-  rw (fit, kernel_rows old new kernel lanes fault run) (has_rows old new _ (fault_log kernel lanes (length old.rows) fault) run.1),
-)
+kernel_refused old new text lanes kernel fault fit run = grind (arith, ends_kernel, kernel_goes, kernel_rows, has_rows)
 
 -- ---- one number of all rows
 
@@ -216,5 +179,4 @@ count_done old new filter term rows a is left = rw (a, ← is) (ap (λ (table : 
 pub count_refused : (old new : Table) (filter : Value) (term : LeafTerm ℕ) (fault : UpdateFault) (log : List Access) → bound old.fields (length old.extents) filter ≡ Ok term →
     Err fault ≡ counted term old.extents old.rows → new ≡ after_log old log → Changed (reading (λ content. counting content filter) old) (all_left old) old (Err (fault_of_update fault)) new
 unfolding counting
-count_refused old new filter term fault log a is left =
-    (ends_kind old.fields (reading (λ content. counting content filter) old) fault.row fault.kind (rw (a, ← is) refl), rw (all_stay old (row_of (fault_of_update fault))) (has_same old new log left))
+count_refused old new filter term fault log a is left = grind (arith, ends_kind, has_same)

@@ -1,7 +1,7 @@
 -- A command that is refused, and what it leaves.
-use Rattle.view_commands.proofs.Imports.{◌≡◌, ℕ, ℤ, List, Option, Some, None, Result, Ok, Err, refl, Access, Table, after_log, after_stores, Tested, Done, CommandFault, GivesUp, StepFault, Changed, ChangeFault, Ends, HasRows, left_at, row_of, all_left}
-use Rattle.command_checks.specs.declared.fault.StepFault.TheVariants as step
+use Rattle.view_commands.proofs.Imports.{◌≡◌, ℕ, ℤ, List, Option, Some, None, Result, Ok, Err, refl, Access, Table, after_log, after_stores, Tested, Done, CommandFault, GivesUp, StepFault, Changed, ChangeFault, Ends, HasRows, left_at, row_of}
 use Rattle.view_commands.specs.declared.change.ChangeFault.TheVariants as change
+use Rattle.std.proofs.Common.{arith}
 
 pub refused_with : (outcome : Tested Done) (left : ℕ → List (List ℤ)) (old new : Table) (fault : ChangeFault) (result : Result (Option ℤ) ChangeFault) → result ≡ Err fault →
     Ends old.fields outcome fault → HasRows old (left_at left old (row_of fault)) new → Changed outcome left old result new
@@ -9,16 +9,12 @@ refused_with outcome left old new fault result is ends rows = rw is (ends, rows)
 
 -- where a test is not passed all rows stay
 stay : (left : ℕ → List (List ℤ)) (table : Table) (at : Option ℕ) → ((row : ℕ) → left row ≡ table.rows) → left_at left table at ≡ table.rows
-stay left table (Some row) each = each row
-stay left table None each = refl
+stay left table at each = grind arith
 
 pub stopped : {A : Type 0} (outcome : Tested Done) (left : ℕ → List (List ℤ)) (table : Table) (first : Tested A) (fault : StepFault) (result : Result (Option ℤ) ChangeFault) →
     result ≡ Err (change.Other fault) → GivesUp first fault → ((f : CommandFault) → first ≡ Err f → outcome ≡ Err f) → ((f : CommandFault) (row : ℕ) → first ≡ Err f → left row ≡ table.rows) →
     Changed outcome left table result table
-stopped outcome left table first (step.Command f) result is gives onto stays =
-    refused_with outcome left table table (change.Other (step.Command f)) result is (onto f gives) (rw (stay left table (row_of (change.Other (step.Command f))) (λ row. stays f row gives)) refl)
-stopped outcome left table first step.NoMemory result is gives onto stays = refused_with outcome left table table (change.Other step.NoMemory) result is tt refl
-stopped outcome left table first other result is gives onto stays = absurd gives
+stopped outcome left table first fault result is gives onto stays = grind (arith, refused_with, stay)
 
 -- a command said otherwise
 pub changed_as : (outcome other : Tested Done) (left more : ℕ → List (List ℤ)) (old new : Table) (result : Result (Option ℤ) ChangeFault) → outcome ≡ other → ((row : ℕ) → left row ≡ more row) →
@@ -36,8 +32,3 @@ has_rows old new rows log is = rw is refl
 
 pub has_same : (old new : Table) (log : List Access) → new ≡ after_log old log → HasRows old old.rows new
 has_same old new log is = rw is refl
-
--- the rows stay at each row
-pub all_stay : (table : Table) (at : Option ℕ) → left_at (all_left table) table at ≡ table.rows
-all_stay table (Some row) = refl
-all_stay table None = refl

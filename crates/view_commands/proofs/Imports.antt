@@ -1,7 +1,7 @@
 -- What the proofs of this crate speak of.
 pub use Rattle.views.specs.Tallies.{Access, Tally, Write, Read, all_accesses, reads_in, writes_in, reads_first}
 pub use Rattle.advisor.specs.Advice.{Advised, advice, told_by}
-pub use Rattle.std.proofs.Common.{◌≡◌, ℕ, zero, suc, ◌<◌, true, false, nat_eq, List, [], ◌∷◌, length, Some, refl, sym, ap, ◌∙◌, ⊎_elim, Ok, Err, ◌+◌, map, get_or, All, subst, ◌≤◌, Bool, ◌++◌, take, drop, arith, add-one, ℤ, Option, None, Result, nat_lt, pos, ◌-◌, flat_map, codes, option_map, append-nil, append_assoc, ◌/◌, ◌%◌, ◌^◌, nat_le, set, rules, ◌*◌, FitsSigned, tests, IsErr}
+pub use Rattle.std.proofs.Common.{◌≡◌, ℕ, zero, suc, ◌<◌, true, false, nat_eq, List, [], ◌∷◌, length, Some, refl, sym, ap, ◌∙◌, ⊎_elim, Ok, Err, ◌+◌, map, get_or, All, subst, ◌≤◌, Bool, ◌++◌, take, drop, arith, add-one, ℤ, Option, None, Result, nat_lt, pos, ◌-◌, flat_map, codes, option_map, append-nil, append_assoc, ◌/◌, ◌%◌, ◌^◌, nat_le, rules, ◌*◌, FitsSigned, IsErr}
 pub use Rattle.std.proofs.lemmas.List.Elements.{length_all_zip, All-nil, All-cons, All-tail, All-append, All-get_or, All-push}
 pub use Rattle.view_commands.specs.Inner.Answers.{Answers, IsLeft, left_with}
 pub use Rattle.actor_steps.specs.Cuts.{AreCuts, actor_of, are_cuts}
@@ -21,14 +21,13 @@ pub use Rattle.worlds.specs.declared.fault.BadActors.TheVariants.{Cuts, Turns}
 pub use Rattle.worlds.specs.Answers.{Did}
 pub use Rattle.worlds.specs.OnView.{Done, done_to, tells, telling, reading, left_as, Told}
 pub use Rattle.worlds.specs.Worlds.{Entry}
-pub use Rattle.expr_lang.specs.declared.fault.EvalFault.{EvalFault}
-pub use Rattle.actor_steps.specs.Micro.{Job, Micro, Fetch, Load, Store, Registers, stored, loaded, with_bits_of, value_kept_on, row_in}
+pub use Rattle.actor_steps.specs.Micro.{Job, Micro, Registers, stored, loaded}
 pub use Rattle.record_dim.specs.Trees.{Fields}
 pub use Rattle.layout_io.specs.Gathering.{Gathers}
 pub use Rattle.layout_io.specs.GatheringLaws.{Gathers-start}
 pub use Rattle.command_checks.specs.Inner.Gives.{GivesUp}
 pub use Rattle.command_checks.specs.GivesLaws.{GivesUp-then, goes_then}
-pub use Rattle.instrument.specs.Counters.{LeafCounts, HeatCounts, leaf_counts, heat_counts}
+pub use Rattle.instrument.specs.Counters.{LeafCounts, HeatCounts}
 pub use Rattle.places.specs.declared.piece.Hold.{Hold}
 unfoldable pub use Rattle.std.specs.List.{IsDistinct}
 pub use Rattle.std.proofs.lemmas.Map.Keys.{IsDistinct-push}
@@ -80,7 +79,7 @@ pub use Rattle.std.proofs.Math.Seq.{drop-cons}
 pub use Rattle.std.proofs.Math.ListN.{drop_of_length-le}
 pub use Rattle.actor_steps.specs.Schedules.{next, entries, schedule_of, idle_with, run_by}
 pub use Rattle.std.specs.List.{list_any, slice_get, enumerate_from, range_with_len}
-pub use Rattle.view_commands.specs.Inner.Parts.{eval_fault, fault_of_kernel, fault_of_update, front_by, kind_fault, set_in, store_fault, store_told, updated_by}
+pub use Rattle.view_commands.specs.Inner.Parts.{fault_of_kernel, fault_of_update, front_by, kind_fault, set_in, store_fault, store_told, updated_by}
 pub use Rattle.std.specs.Prelude.{◌||◌, slice_index_or, not, sum_by, slice_set, filter}
 pub use Rattle.worlds.specs.Actors.{fit_cuts, shared, memory_text}
 pub use Rattle.worlds.specs.Kernel.{fit_kernel, number_text}
@@ -115,7 +114,6 @@ pub use Rattle.record_dim.specs.NameBytesLaws.{same_text}
 unfoldable pub use Rattle.worlds.specs.Files.{save}
 pub use Rattle.actor_steps.specs.Shared.{shared_byte}
 pub use Rattle.line_tokens.specs.Spelled.{spaced}
-pub use Rattle.worlds.specs.Values.{storable, value_on}
 pub use Rattle.map_expr.specs.Terms.{term_of}
 pub use Rattle.std.proofs.lemmas.Int.{to_z-of_z}
 pub use Rattle.row_updates.specs.Logs.{update_log, value_log}

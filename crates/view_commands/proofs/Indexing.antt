@@ -1,5 +1,6 @@
 -- Indices inside extents.
-use Rattle.view_commands.proofs.Imports.{◌≡◌, ℕ, zero, suc, ◌<◌, true, false, nat_eq, List, [], ◌∷◌, length, Some, refl, sym, ap, ◌∙◌, ⊎_elim, pointwise, list_any, slice_get, cases_Bool, false≢true, nat_list_eq_equiv, length_all_zip, indices, IsInside, inside_of_entry, row_of_inside, same_text, inside, BadIndex, Ok, Err}
+use Rattle.view_commands.proofs.Imports.{◌≡◌, ℕ, zero, suc, ◌<◌, true, false, nat_eq, List, [], ◌∷◌, length, Some, refl, sym, ap, ◌∙◌, ⊎_elim, pointwise, list_any, slice_get, cases_Bool, false≢true, nat_list_eq_equiv, length_all_zip, IsInside, inside_of_entry, row_of_inside, same_text, inside, BadIndex, Ok, Err}
+use Rattle.std.proofs.Common.{arith}
 
 any_at : (index : List ℕ) (lists : List (List ℕ)) (k : ℕ) → slice_get lists k ≡ Some index → list_any (λ other. pointwise nat_eq other index) lists ≡ true
 any_at index [] k there = absurd (cc)
@@ -20,17 +21,11 @@ any_there index (first ∷ lists) any = ⊎_elim
 
 -- an index inside the extents is one of their list
 pub inside_goes : (extents index : List ℕ) → IsInside extents index → inside extents index ≡ Ok tt
-inside_goes extents index is =
-    let row = row_of_inside extents index is in
-    rw (any_at index (indices extents) row.0 row.2) refl
+inside_goes extents index is = grind (arith, row_of_inside, any_at)
 
 -- and no other is
 pub inside_not : (extents index : List ℕ) → (IsInside extents index → ⊥) → inside extents index ≡ Err BadIndex
-inside_not extents index none = ⊎_elim
-    (λ (e : list_any (λ other. pointwise nat_eq other index) (indices extents) ≡ true).
-    let there = any_there index (indices extents) e in absurd (none (inside_of_entry extents there.0 index there.1)))
-    (λ (e : list_any (λ other. pointwise nat_eq other index) (indices extents) ≡ false). rw e refl)
-    (cases_Bool (list_any (λ other. pointwise nat_eq other index) (indices extents)))
+inside_not extents index none = grind (arith, nat_eq, any_there, inside_of_entry, cases_Bool)
 
 pub other_rank : (extents index : List ℕ) (rank : ℕ) → rank ≡ length extents → (length index ≡ rank → ⊥) → IsInside extents index → ⊥
 other_rank extents index rank is other inside = other (length_all_zip (λ i n. i < n) index extents inside ∙ sym is)

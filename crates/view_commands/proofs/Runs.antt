@@ -1,7 +1,8 @@
 -- Whose the runs of a layout are.
-use Rattle.view_commands.proofs.Imports.{◌≡◌, ◌+◌, ◌<◌, ℕ, suc, true, false, List, [], ◌∷◌, length, map, get_or, All, refl, ap, subst, ◌∙◌, ⊎_elim, cases_Bool, All-nil, All-cons, All-tail, All-append, length-map, IsLaidOut, Owner, Pad, Bit, owner_at, Cell, Hold, LeafType, length-leaf_cells, leaf_cells, goes_on, joined_run, run_owner, runs_from, runs_of, IsOwnerBelow}
+use Rattle.view_commands.proofs.Imports.{◌≡◌, ◌+◌, ◌<◌, ℕ, suc, true, false, List, [], ◌∷◌, length, map, get_or, All, ap, subst, ◌∙◌, ⊎_elim, cases_Bool, All-nil, All-cons, All-tail, All-append, length-map, IsLaidOut, Owner, Pad, Bit, owner_at, Cell, Hold, LeafType, length-leaf_cells, leaf_cells, goes_on, joined_run, run_owner, runs_from, runs_of, IsOwnerBelow}
 use Rattle.std.specs.List.{flat_map}
 use Rattle.places.specs.declared.piece.Run.{Run}
+use Rattle.std.proofs.Common.{arith}
 
 -- a run of one of so many leaves, or of none
 abbrev pub IsRunBelow : ℕ → Run → Type 0
@@ -20,8 +21,7 @@ abbrev AreBelow : ℕ → List Owner → Type 0
 AreBelow leaves owners = (p s c k : ℕ) → get_or owners p Pad ≡ Bit s c k → c < leaves
 
 owner_below : (leaves : ℕ) (owner : Owner) → ((s c k : ℕ) → owner ≡ Bit s c k → c < leaves) → IsOwnerBelow leaves (run_owner owner)
-owner_below leaves Pad all = tt
-owner_below leaves (Bit s c k) all = all s c k refl
+owner_below leaves owner all = grind arith
 
 below_from : (leaves blob bit : ℕ) (owners : List Owner) → AreBelow leaves owners → All (IsRunBelow leaves) (runs_from blob bit owners)
 below_from leaves blob bit [] all = All-nil (IsRunBelow leaves)

@@ -32,8 +32,7 @@ save_goes table short =
 
 pub save_long : (table : Table) → (IsShort (header_of table) → ⊥) → done_to table (telling save table) ≡ Err TooBig
 unfolding save
-save_long table long =
-    ap (saved table) (some_long (length (record_text (header_of table))) (length (view_text (header_of table))) (λ one other. long (record { of_record = one; of_view = other })))
+save_long table long = grind (arith, some_long)
 
 -- a work that gives up and leaves its sink as it was
 pub gave_up_idle : {K : Type 0} (taken : K → Option (List ℕ)) (faults : K → ℕ) (old new : K) (view : Table) (outcome : Tested (LeftOf Table)) (fault : StepFault) →

@@ -1,8 +1,7 @@
 -- The leaves that are set, one after another.
-use Rattle.view_commands.proofs.Imports.{◌≡◌, ℕ, suc, ◌+◌, ◌<◌, ◌≤◌, Bool, true, false, nat_eq, List, [], ◌∷◌, ◌++◌, length, get_or, take, drop, map, refl, sym, ap, subst, ◌∙◌, arith, add-one, ⊎_elim, ◌||◌, option_copied, Bor, Bound, bound_term, All-get_or, Table, leaf_count_of, list_any, IsDistinct, cases_Bool, false≢true, nat_tests, nat_eq_equiv, take-append-drop, map-append, length-map, take_more, take_all, take-map, IsDistinct-push, length-le_from_distinct_below, drop_of_length-le, drop-cons, Fields, Assignment, Setting, setting_of, filter_term, IsSetOf, Assign, ◌>>=◌, bound_set, bound_sets, each_once, leaves_of, text_of_leaf, Twice, GivesUp, GivesUp-then, StepFault, Ok, Err, Tested, Done, CommandFault, Changed, ChangeFault, Ends}
-use Rattle.std.specs.Prelude.{All, Option, Some, None, option_map, ℤ, Result}
+use Rattle.view_commands.proofs.Imports.{◌≡◌, ℕ, suc, ◌+◌, ◌<◌, ◌≤◌, Bool, true, false, nat_eq, List, [], ◌∷◌, ◌++◌, length, get_or, take, drop, map, refl, sym, ap, ◌∙◌, arith, add-one, ⊎_elim, ◌||◌, option_copied, Bor, Bound, bound_term, All-get_or, Table, leaf_count_of, list_any, IsDistinct, cases_Bool, false≢true, nat_tests, nat_eq_equiv, take-append-drop, map-append, length-map, take_more, take_all, take-map, IsDistinct-push, length-le_from_distinct_below, drop_of_length-le, drop-cons, Fields, Assignment, Setting, setting_of, filter_term, IsSetOf, Assign, ◌>>=◌, bound_set, bound_sets, each_once, leaves_of, text_of_leaf, Twice, GivesUp, GivesUp-then, StepFault, Ok, Err, Tested, Done, CommandFault, Changed, ChangeFault, Ends}
+use Rattle.std.specs.Prelude.{All, Option, option_map, ℤ, Result}
 use Rattle.view_commands.proofs.Changing.{refused_with, stopped as test_stopped}
-use Rattle.view_commands.specs.declared.change.ChangeFault.TheVariants as change
 use Rattle.std.proofs.lemmas.List.{get_or-map}
 
 -- a list at one of its places
@@ -22,9 +21,7 @@ record IsMade (first : Tested Setting) (rest : Tested (List Setting)) (settings 
   settings_are : settings ≡ made ∷ others
 
 is_made : (first : Tested Setting) (rest : Tested (List Setting)) (settings : List Setting) → (first >>= (λ y. rest >>= (λ ys. Ok (y ∷ ys)))) ≡ Ok settings → IsMade first rest settings
-is_made (Ok y) (Ok ys) settings e = record { made = y; others = ys; first_is = refl; rest_is = refl; settings_are = (let same : (y ∷ ys) ≡ settings = cc in sym same) }
-is_made (Ok y) (Err fault) settings e = absurd (cc)
-is_made (Err fault) rest settings e = absurd (cc)
+is_made first rest settings e = grind arith
 
 pushed : (first : Tested Setting) (rest : Tested (List Setting)) (made : Setting) (others : List Setting) (setting : Setting) (settings : List Setting) →
     first ≡ Ok made → rest ≡ Ok (others ++ setting ∷ []) → settings ≡ made ∷ others → (first >>= (λ y. rest >>= (λ ys. Ok (y ∷ ys)))) ≡ Ok (settings ++ setting ∷ [])
@@ -39,8 +36,7 @@ pub sets_push : (fields : Fields) (rank : ℕ) (before : List Assignment) (setti
 sets_push fields rank [] settings set setting so_far is = let none : settings ≡ [] = cc in rw (is, none) refl
 sets_push fields rank (first ∷ before) settings set setting so_far is =
     let made = is_made (bound_set fields rank first) (bound_sets fields rank before) settings so_far in
-    pushed (bound_set fields rank first) (bound_sets fields rank (before ++ set ∷ [])) made.made made.others setting settings made.first_is
-    (sets_push fields rank before made.others set setting made.rest_is is) made.settings_are
+    grind (arith, pushed, (sets_push fields rank before made.others set setting made.rest_is is))
 
 -- a setting that is refused
 pub sets_stop : (fields : Fields) (rank : ℕ) (before : List Assignment) (settings : List Setting) (set : Assignment) (behind : List Assignment) (fault : StepFault) →
@@ -83,8 +79,7 @@ once_all fields leaves place over so_far = so_far.once ∙ ap (each_once fields 
 
 -- the leaf that is set at a place
 pub leaf_at : (sets : List Assign) (place : ℕ) (one : Assign) → place < length sets → one ≡ get_or sets place one → get_or (leaves_of (map setting_of sets)) place 0 ≡ one.leaf
-leaf_at sets place one small is =
-    ap (λ leaves. get_or leaves place 0) (leaves_are sets) ∙ get_or-map (λ (set : Assign). set.leaf) sets place one 0 small ∙ ap (λ (set : Assign). set.leaf) (sym is)
+leaf_at sets place one small is = grind (arith, leaves_are, get_or-map)
 
 pub leaves_long : (sets : List Assign) → length (leaves_of (map setting_of sets)) ≡ length sets
 leaves_long sets = ap length (leaves_are sets) ∙ simp length-map
@@ -106,9 +101,7 @@ found_at q (x ∷ xs) e = ⊎_elim
 
 -- no more leaves are set than there are
 pub once_few : (fields : Fields) (leaves : List ℕ) (place most : ℕ) → length leaves ≤ place → IsOnce fields leaves place → ((k : ℕ) → k < length leaves → get_or leaves k 0 < most) → length leaves ≤ most
-once_few fields leaves place most over so_far inside =
-    let distinct : IsDistinct nat_eq leaves = subst (λ (xs : List ℕ). IsDistinct nat_eq xs) (take_all place leaves over) so_far.distinct in
-    length-le_from_distinct_below leaves most distinct (λ q is. let found = found_at q leaves is in omega (arith, inside found.0 found.1, found.2))
+once_few fields leaves place most over so_far inside = grind (arith, nat_eq, take_all, length-le_from_distinct_below, found_at)
 
 -- the leaves that are set are leaves
 pub leaves_below : (seen : Table) (sets : List Assign) → All (IsSetOf seen) sets → (k : ℕ) → k < length (leaves_of (map setting_of sets)) → get_or (leaves_of (map setting_of sets)) k 0 < leaf_count_of seen
@@ -120,14 +113,10 @@ leaves_below seen (set ∷ sets) all k small =
 
 -- the filter of an update, as it is lent
 pub filter_is : (filter : Option (Bor Bound)) (bound : Option Bound) → option_copied filter ≡ bound → filter_term filter ≡ option_map bound_term bound
-filter_is None bound is = ap (option_map bound_term) is
-filter_is (Some lent) bound is = ap (option_map bound_term) is
+filter_is filter bound is = grind (arith, option_map)
 
 -- where a leaf is set twice, or memory is wanting, all rows stay
 pub once_left : {A : Type 0} (outcome : Tested Done) (left : ℕ → List (List ℤ)) (table : Table) (first : Tested A) (fault : ChangeFault) (result : Result (Option ℤ) ChangeFault) →
     result ≡ Err fault → Ends table.fields first fault → ((f : CommandFault) → first ≡ Err f → outcome ≡ Err f) → ((f : CommandFault) (row : ℕ) → first ≡ Err f → left row ≡ table.rows) →
     Changed outcome left table result table
-once_left outcome left table first (change.Twice leaf) result is ends onto stays = refused_with outcome left table table (change.Twice leaf) result is (onto _ ends) refl
-once_left outcome left table first (change.Range row leaf) result is ends onto stays = refused_with outcome left table table (change.Range row leaf) result is (onto _ ends) (rw (stays _ row ends) refl)
-once_left outcome left table first (change.Narrow row leaf) result is ends onto stays = refused_with outcome left table table (change.Narrow row leaf) result is (onto _ ends) (rw (stays _ row ends) refl)
-once_left outcome left table first (change.Other fault) result is ends onto stays = test_stopped outcome left table first fault result is ends onto stays
+once_left outcome left table first fault result is ends onto stays = grind (arith, refused_with, test_stopped)

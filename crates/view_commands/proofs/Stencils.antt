@@ -1,8 +1,7 @@
 -- What a stencil does, by its parts.
-use Rattle.view_commands.proofs.Imports.{Bool, true, false, Result, refused_if, TooBig, ◌≡◌, ◌∙◌, ◌<◌, ◌≤◌, ⊎_elim, ℕ, zero, suc, ℤ, List, [], Option, Some, None, Ok, Err, refl, sym, ap, subst, arith, Span, TermText, PathStep, Stencil, Table, Fields, answer_of, after_stores, text_of_leaf, StoreFault, CommandFault, GivesUp, goes_then, StepFault, Tested, Changed, ChangeFault, Ends, row_of, store_fault}
+use Rattle.view_commands.proofs.Imports.{Bool, Result, refused_if, TooBig, ◌≡◌, ◌∙◌, ◌<◌, ◌≤◌, ⊎_elim, ℕ, zero, suc, ℤ, List, [], Option, Some, None, Ok, Err, refl, sym, ap, subst, arith, Span, TermText, PathStep, Stencil, Table, Fields, answer_of, after_stores, text_of_leaf, StoreFault, CommandFault, GivesUp, goes_then, StepFault, Tested, Changed, ChangeFault, Ends, row_of, store_fault}
 use Rattle.subviews.specs.Stencils.{refused_log, round, rounds_log, stenciled}
 use Rattle.subviews.specs.declared.fault.StencilFault.{StencilFault}
-use Rattle.views.specs.declared.fault.StoreFault.TheVariants as store
 use Rattle.worlds.specs.Stencil.{fit_stencil, room_beside, stencil_rounds, stencil_run}
 use Rattle.worlds.specs.Values.{store_fault as fault_text}
 use Rattle.std.proofs.lemmas.Bool.{cases_lt}
@@ -27,8 +26,7 @@ module _ (live : ℕ) (table : Table) (spans : List Span) (path : List PathStep)
 
 -- the rounds that go, up to one that does not
 all_gone : (table : Table) (stencil : Stencil) (done : ℕ) (new : List (List ℤ)) → stenciled table stencil done ≡ Ok new → rounds_left table stencil done ≡ new
-all_gone table stencil zero new goes = cc
-all_gone table stencil (suc done) new goes = rw goes refl
+all_gone table stencil done new goes = grind arith
 
 none_behind : (table : Table) (stencil : Stencil) (new : List (List ℤ)) (fault : StencilFault) (done rounds : ℕ) → done < rounds → stenciled table stencil done ≡ Ok new → round (answer_of table) stencil new ≡ Err fault →
     stenciled table stencil rounds ≡ Err fault
@@ -54,25 +52,19 @@ pub rounds_done : (old new : Table) (rounds : ℕ) (stencil : Stencil) → stenc
 rounds_done old new rounds stencil stored same = rw stored (ap (λ (table : Table). Ok (record { held = table; text = [] })) (sym same))
 
 ends_round : {A : Type 0} (fields : Fields) (outcome : Tested A) (row leaf : ℕ) (fault : StoreFault) → outcome ≡ Err (fault_text row (text_of_leaf fields leaf) fault) → Ends fields outcome (store_fault row leaf fault)
-ends_round fields outcome row leaf store.Range is = is
-ends_round fields outcome row leaf store.Narrow is = is
+ends_round fields outcome row leaf fault is = grind arith
 
 row_stored : (row leaf : ℕ) (fault : StoreFault) → row_of (store_fault row leaf fault) ≡ Some row
-row_stored row leaf store.Range = refl
-row_stored row leaf store.Narrow = refl
+row_stored row leaf fault = grind arith
 
 pub rounds_refused : (old new : Table) (rounds : ℕ) (stencil : Stencil) (fault : StencilFault) → stenciled old stencil rounds ≡ Err fault → ((done : ℕ) × (done < rounds) × (stenciled old stencil done ≡ Ok new.rows)
     × (round (answer_of old) stencil new.rows ≡ Err fault) × (new ≡ after_stores old new.rows (refused_log (answer_of old) stencil done new.rows))) →
     Changed (stencil_rounds old rounds stencil) (λ row. rounds_left old stencil rounds) old (Err (store_fault fault.row stencil.leaf fault.fault)) new
-rounds_refused old new rounds stencil fault refused so_far = (
-  ends_round old.fields (stencil_rounds old rounds stencil) fault.row stencil.leaf fault.fault (rw refused refl),
-  rw (row_stored fault.row stencil.leaf fault.fault, rounds_before old stencil rounds new.rows fault so_far.0 so_far.1 so_far.2 so_far.3) (has_rows old new new.rows _ so_far.4),
-)
+rounds_refused old new rounds stencil fault refused so_far = grind (arith, ends_round, row_stored, rounds_before, has_rows)
 
 -- where no room is left all rows stay
 room_fault : (test : Bool) (fault : CommandFault) → refused_if test TooBig ≡ Err fault → fault ≡ TooBig
-room_fault true fault is = cc
-room_fault false fault is = absurd (cc)
+room_fault test fault is = grind arith
 
 pub no_room_left : (live : ℕ) (table : Table) (spans : List Span) (path : List PathStep) (texts : List TermText) (divisor rounds : ℕ) (stencil : Stencil) (fault : StepFault) (result : Result (Option ℤ) ChangeFault) →
     result ≡ Err (change.Other fault) → fit_stencil table spans path texts divisor rounds ≡ Ok stencil → GivesUp (room_beside live table) fault →

@@ -1,17 +1,15 @@
 -- A leaf in a row, as the short form of its rule places it.
-use Rattle.views.proofs.Imports.{◌≡◌, ℕ, ℤ, ◌+◌, ◌*◌, ◌<◌, ◌≤◌, Bool, false, List, [], length, map, get_or, get_or_default, set, slice_index, refl, sym, ap, ◌∙◌, subst, arith, bit_at, slice_get-get_or, IsIn, number, digit, decoded, entry, Owner, IsLaidOut, Hold, Piece, PieceRule, bit_of, bit_in, IsCell, bit_count, apart, read_entry_is, written_table, written_padding, still_laid, scattered_pieces, spots_of, bit_at_spot, AreApart, AreSized, AreLaid, hold_at, table_in, with_entry, IsBitField, IsPlaceWord, word_bit, word_place, word_pieces, word_signed, word_width, word_blob, word_room, word_entry, word_held, word_table, word_laid, AreWritten, Field, Word, pieces_by, short_pieces, start_in, IsShortIn, ShortRule, indices, schema_fields, term_of, layout_by}
+use Rattle.views.proofs.Imports.{◌≡◌, ℕ, ℤ, ◌+◌, ◌*◌, ◌<◌, ◌≤◌, List, [], length, map, get_or, get_or_default, set, slice_index, sym, ap, ◌∙◌, subst, arith, bit_at, slice_get-get_or, IsIn, number, digit, decoded, entry, Owner, IsLaidOut, Hold, Piece, PieceRule, bit_of, bit_in, IsCell, bit_count, apart, read_entry_is, written_table, written_padding, still_laid, scattered_pieces, spots_of, bit_at_spot, AreApart, AreSized, AreLaid, hold_at, table_in, with_entry, IsBitField, IsPlaceWord, word_bit, word_place, word_pieces, word_signed, word_width, word_blob, word_room, word_entry, word_held, word_table, word_laid, AreWritten, Field, Word, pieces_by, short_pieces, start_in, IsShortIn, ShortRule, indices, schema_fields, term_of, layout_by}
 use Rattle.map_any.specs.declared.any.AnyMap.{AnyMap}
 use Rattle.piece_bits.specs.declared.word.Word.TheVariants as stored
+use Rattle.std.proofs.Common.{rules}
 
 -- what is not scattered stands at one place
 word_form : (word : Word) (field : Field) → IsBitField field → (word ≡ stored.Field → field.width ≤ 57) → (word ≡ stored.Scattered → ⊥) → IsPlaceWord word field
-word_form stored.Field field form narrow none = (form, narrow refl)
-word_form stored.Scattered field form narrow none = absurd (none refl)
-word_form _ field form narrow none = tt
+word_form word field form narrow none = grind arith
 
 word_alone : (word : Word) (field : Field) (blob place : ℕ) (rules : List PieceRule) → (word ≡ stored.Scattered → ⊥) → pieces_by word field blob rules place ≡ word_pieces word field blob place
-word_alone stored.Scattered field blob place rules none = absurd (none refl)
-word_alone _ field blob place rules none = refl
+word_alone word field blob place rules none = grind arith
 
 -- the rules, as they are handed on
 pub with_rules : {layout : List (List Owner)} {rows cell width : ℕ} {hold : Hold} {rules : List PieceRule} {short : ShortRule} (passed : List PieceRule) → passed ≡ rules
@@ -88,11 +86,7 @@ module _ {layout : List (List Owner)} {rows : ℕ} {holds : List Hold} {row leaf
   -- what their bits say is the entry
   pub bytes_read : (blobs : List (List ℕ)) (value : ℤ) → value ≡ decoded field.signed field.width (number (bit_at_spot (bit_in blobs) (spots_of (scattered_pieces rules start))) field.width)
       → value ≡ entry (table_in layout rows holds blobs) row leaf
-  bytes_read blobs value read =
-      let bits : ℕ → ℕ = bit_at_spot (bit_in blobs) (spots_of (scattered_pieces rules start)) in
-      read ∙ ap (λ (s : Bool). decoded s field.width (number bits field.width)) at.signed
-      ∙ ap (λ (n : ℕ). decoded (hold_at holds leaf).signed n (number bits field.width)) at.wide
-      ∙ read_entry_is at.cell blobs (number bits field.width) (ap (number bits) (sym bytes_wide))
+  bytes_read blobs value read = grind (arith, read_entry_is, bytes_wide)
 
   -- where their bits are those of a value, the entry is this value, and nothing else changed
   module _ (blobs new : List (List ℕ)) (value passed : ℤ) (held : IsIn (hold_at holds leaf).signed (hold_at holds leaf).width value) (same : passed ≡ value)
@@ -119,13 +113,7 @@ module _ {layout : List (List Owner)} {rows : ℕ} (holds : List Hold) (row leaf
   in_holds = omega arith
 
   placed : IsCell layout rows holds row leaf (hold_at holds leaf) (short_pieces short rules row)
-  placed = record {
-    laid = laid;
-    slot_in = row_in;
-    cell_in = in_holds;
-    is = slice_get-get_or holds leaf (record { signed = false; width = 0 }) in_holds;
-    located = h.located row row_in;
-  }
+  placed = grind (arith, in_holds, slice_get-get_or)
 
   -- what is not scattered stands at one place
   pub stands : (short.word ≡ stored.Scattered → ⊥) → StandsAt layout rows holds row leaf short start blobs

@@ -1,5 +1,5 @@
 -- Blobs that are moved whole, one after another.
-use Rattle.views.proofs.Imports.{◌≡◌, ℕ, ◌+◌, ◌-◌, ◌<◌, ◌≤◌, List, [], length, map, take, drop, get_or, sym, ap, ◌∙◌, arith, length-append, length-take, length-map, get_or-map, get_or-append_right, get_or-drop, get_or_default, length-drop, ext_get_or, sum_by_more, IsMoved, blocks, half}
+use Rattle.views.proofs.Imports.{◌≡◌, ℕ, ◌+◌, ◌<◌, ◌≤◌, List, [], length, map, take, get_or, sym, ap, ◌∙◌, arith, length-append, length-take, length-map, get_or-map, get_or-append_right, get_or-drop, get_or_default, length-drop, ext_get_or, sum_by_more, IsMoved, blocks, half}
 use Rattle.std.proofs.Common.{sum_by}
 
 -- the blocks that blobs are
@@ -8,11 +8,7 @@ blocks_of blobs = sum_by (λ (blob : List ℕ). blocks (length blob)) blobs
 
 -- the next one is old
 pub half_next : {A : Type 0} (new old : List A) (n : ℕ) (d : A) → n < length new → get_or (half new old n) n d ≡ get_or old n d
-half_next new old n d small =
-    let front : length (take n new) ≡ n = length-take n new ∙ omega arith in
-    let none : n - n ≡ 0 = omega arith in
-    let sum : n + 0 ≡ n = omega arith in
-    get_or-append_right (take n new) (drop n old) n n d front (omega arith) ∙ ap (λ (k : ℕ). get_or (drop n old) k d) none ∙ get_or-drop n old 0 d ∙ ap (λ (k : ℕ). get_or old k d) sum
+half_next new old n d small = grind (arith, length-take, get_or-append_right, get_or-drop)
 
 -- lists of the same lengths
 pub same_count : (one two : List (List ℕ)) → map (length {A = ℕ}) one ≡ map (length {A = ℕ}) two → length one ≡ length two
@@ -32,17 +28,11 @@ all_moved old others new len whole same h =
     ap (λ (n : ℕ). get_or new n 0) (sym none) ∙ h.inside k (omega arith) ∙ ap (λ (n : ℕ). get_or others n 0) none)
 
 pub blocks_more : (blobs : List (List ℕ)) (k len : ℕ) → k < length blobs → len ≡ length (get_or blobs k []) → blocks_of (take k blobs) + blocks len ≡ blocks_of (take (k + 1) blobs)
-blocks_more blobs k len inside is =
-    ap (λ (n : ℕ). blocks_of (take k blobs) + blocks n) is ∙ sym (sum_by_more (λ (blob : List ℕ). blocks (length blob)) blobs k [] inside)
+blocks_more blobs k len inside is = grind (arith, sum_by_more)
 
 pub half_length : (new old : List (List ℕ)) (n : ℕ) → n ≤ length new → length new ≡ length old → length (half new old n) ≡ length old
-half_length new old n small same =
-    let front : length (take n new) ≡ n = length-take n new ∙ omega arith in
-    let rest : length (drop n old) ≡ length old - n = length-drop n old in
-    length-append (take n new) (drop n old) ∙ (let e : length (take n new) + length (drop n old) ≡ length old = omega arith in e)
+half_length new old n small same = grind (arith, length-take, length-drop, length-append)
 
 -- the blob that is read, where those before it are new
 pub still_old : (old others now : List (List ℕ)) (k : ℕ) (blob default : List ℕ) → now ≡ half others old k → length others ≡ length old → k < length others → blob ≡ get_or now k default → blob ≡ get_or old k []
-still_old old others now k blob default is same inside read =
-    let size : length now ≡ length old = ap (λ (bs : List (List ℕ)). length bs) is ∙ half_length others old k (omega arith) same in
-    read ∙ get_or_default now k default [] (omega arith) ∙ ap (λ (bs : List (List ℕ)). get_or bs k []) is ∙ half_next others old k [] inside
+still_old old others now k blob default is same inside read = grind (arith, half_length, get_or_default, half_next)

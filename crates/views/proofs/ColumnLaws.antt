@@ -1,5 +1,5 @@
 -- The values of one leaf that have at most 32 bits, a lane at a time.
-use Rattle.views.proofs.Imports.{◌≡◌, ℕ, zero, suc, ◌+◌, ◌-◌, ◌<◌, ◌≤◌, List, [], ◌∷◌, ◌++◌, length, take, drop, set, get_or, replicate, ℤ, pos, refl, sym, ap, ◌∙◌, subst, arith, length-append, to_z, of_z, w64, ints, to_z-of_z, get_or-map, length-map, length-replicate, Each1-replicate, Each1, map-range_with_len_more, IsBlock, IsNarrow, narrow_block, narrow_fits, Table, after_log, after_read, Read, after_log-none, after_log-append, in_leaf, column, column_reads}
+use Rattle.views.proofs.Imports.{◌≡◌, ℕ, zero, suc, ◌+◌, ◌-◌, ◌<◌, ◌≤◌, List, [], ◌∷◌, ◌++◌, length, take, drop, set, get_or, replicate, ℤ, pos, refl, sym, ap, ◌∙◌, arith, length-append, to_z, of_z, w64, ints, to_z-of_z, get_or-map, length-map, length-replicate, Each1-replicate, Each1, map-range_with_len_more, IsBlock, IsNarrow, narrow_block, narrow_fits, Table, after_log, after_read, Read, after_log-none, after_log-append, in_leaf, column, column_reads}
 use Rattle.std.proofs.Common.{length-take, length-drop, get_or-drop}
 
 -- one lane more, of a list whose first so many numbers are there and the others are 0
@@ -14,10 +14,7 @@ pub lanes_more : (values filled : List ℤ) (lane lanes : ℕ) (value : ℤ) →
     → filled ≡ take lane values ++ replicate (lanes - lane) (pos 0) → set filled lane value ≡ take (lane + 1) values ++ replicate (lanes - (lane + 1)) (pos 0)
 lanes_more values filled lane lanes value inside small is so_far =
     let less : lanes - lane ≡ suc (lanes - (lane + 1)) = omega arith in
-    let next : suc lane ≡ lane + 1 = omega arith in
-    ap (λ (list : List ℤ). set list lane value) (so_far ∙ ap (λ (n : ℕ). take lane values ++ replicate n (pos 0)) less)
-    ∙ lane_more values lane (lanes - (lane + 1)) value inside is
-    ∙ ap (λ (n : ℕ). take n values ++ replicate (lanes - (lane + 1)) (pos 0)) next
+    let next : suc lane ≡ lane + 1 = omega arith in grind (arith, lane_more)
 
 -- one read more
 pub column_read_more : (leaf row lane : ℕ) (old table new : Table) → table ≡ after_log old (column_reads leaf row lane) → new ≡ after_read table (row + lane) leaf
@@ -61,15 +58,9 @@ pub loaded_more : (leaf row lane at : ℕ) (old table new : Table) (values : Lis
 loaded_more leaf row lane at old table new values value loaded small below place is narrow read =
     let kept = to_z-of_z w64 value (narrow_fits value narrow) in
     let rows_same : table.rows ≡ old.rows = ap (λ (t : Table). t.rows) loaded.log in
-    let there : get_or (drop row (column leaf old.rows)) lane (pos 0) ≡ value =
-    lane_value leaf row lane old.rows below ∙ ap (λ (n : ℕ). in_leaf leaf (get_or old.rows n [])) (sym place)
-    ∙ ap (λ (rows : List (List ℤ)). in_leaf leaf (get_or rows at [])) (sym rows_same) ∙ sym is in
+    let there : get_or (drop row (column leaf old.rows)) lane (pos 0) ≡ value = grind (arith, lane_value) in
     let inside : lane < length (drop row (column leaf old.rows)) = omega (arith, lanes_inside leaf row (lane + 1) old.rows (omega arith)) in
-    record {
-      filled = ap (set values lane) kept ∙ lanes_more (drop row (column leaf old.rows)) values lane 16 value inside small there loaded.filled;
-      narrow = narrow_set values lane (to_z w64 (of_z w64 value)) loaded.narrow (subst IsNarrow (sym kept) narrow);
-      log = column_read_more leaf row lane old table new loaded.log (read ∙ ap (λ (n : ℕ). after_read table n leaf) place);
-    }
+    grind (arith, lanes_more, narrow_set, to_z, of_z, column_read_more)
 
 pub loaded_block : (leaf row lane : ℕ) (old table : Table) (values : List ℤ) → HasLoaded leaf row lane old table values → lane ≤ 16 → row + lane ≤ length old.rows → IsBlock values
 loaded_block leaf row lane old table values loaded small inside =

@@ -1,5 +1,5 @@
 -- Counts from 0 on are numbers of entries.
-use Rattle.views.proofs.Imports.{◌≡◌, ℕ, ◌+◌, ◌-◌, ◌/◌, ◌^◌, ◌<◌, min, Bool, true, false, cond, Option, Some, None, List, [], ◌∷◌, length, map, get_or, fold, refl, ap, sym, ◌∙◌, subst, arith, IfSome, count_by, if◌then◌else◌, ◌==◌, length-map, get_or-map, sum_by-cons, fold-map, Term, has_count, granule_of, Owner, LeafCounts, HeatCounts, counted, warmed, no_counts, no_heat, granules_of, count-from_zero, heat-from_zero, Access, Read, Write, counts_touched, heat_touched, tallied, no_tally, blob_lengths, tallied-counts, tallied-heat, reads_leaf, writes_leaf, touches, AreCounts, AreHeat, AreEntries}
+use Rattle.views.proofs.Imports.{◌≡◌, ℕ, ◌+◌, ◌-◌, ◌^◌, min, Bool, true, false, cond, Option, Some, None, List, [], ◌∷◌, map, get_or, fold, refl, ap, sym, ◌∙◌, subst, arith, IfSome, count_by, if◌then◌else◌, ◌==◌, length-map, get_or-map, sum_by-cons, fold-map, Term, has_count, granule_of, Owner, LeafCounts, HeatCounts, counted, warmed, no_counts, no_heat, count-from_zero, heat-from_zero, Access, Read, Write, counts_touched, heat_touched, tallied, no_tally, blob_lengths, tallied-counts, tallied-heat, reads_leaf, writes_leaf, touches, AreCounts, AreHeat, AreEntries}
 use Rattle.std.specs.Prelude.{option_map}
 
 -- the leaves that are read, and those that are written
@@ -30,15 +30,11 @@ one_more test x xs = sum_by-cons (λ y. cond (test y) 1 0) x xs
 many_reads : (leaf : ℕ) (log : List Access) → count_by (λ other. other == leaf) (leaves_read log) ≡ count_by (reads_leaf leaf) log
 many_reads leaf [] = refl
 many_reads leaf (Read row other ∷ log) = one_more (λ o. o == leaf) other (leaves_read log) ∙ ap (λ n. cond (other == leaf) 1 0 + n) (many_reads leaf log) ∙ sym (one_more (reads_leaf leaf) (Read row other) log)
-many_reads leaf (Write row other ∷ log) =
-    let more : count_by (reads_leaf leaf) (Write row other ∷ log) ≡ 0 + count_by (reads_leaf leaf) log = one_more (reads_leaf leaf) (Write row other) log in
-    omega (arith, more, many_reads leaf log)
+many_reads leaf (Write row other ∷ log) = grind (arith, count_by, (many_reads leaf log))
 
 many_writes : (leaf : ℕ) (log : List Access) → count_by (λ other. other == leaf) (leaves_written log) ≡ count_by (writes_leaf leaf) log
 many_writes leaf [] = refl
-many_writes leaf (Read row other ∷ log) =
-    let more : count_by (writes_leaf leaf) (Read row other ∷ log) ≡ 0 + count_by (writes_leaf leaf) log = one_more (writes_leaf leaf) (Read row other) log in
-    omega (arith, more, many_writes leaf log)
+many_writes leaf (Read row other ∷ log) = grind (arith, count_by, (many_writes leaf log))
 many_writes leaf (Write row other ∷ log) = one_more (λ o. o == leaf) other (leaves_written log) ∙ ap (λ n. cond (other == leaf) 1 0 + n) (many_writes leaf log) ∙ sym (one_more (writes_leaf leaf) (Write row other) log)
 
 counts_are : (leaves : ℕ) (log : List Access) → AreCounts leaves log (fold (λ c a. counts_touched a c) (no_counts leaves) log)
@@ -58,14 +54,7 @@ heat_is layout heat (Read row leaf ∷ log) = heat_is layout (heat_touched layou
 heat_is layout heat (Write row leaf ∷ log) = heat_is layout (heat_touched layout (Write row leaf) heat) log
 
 heat_are : (layout : List (List Owner)) (granule : ℕ) (log : List Access) → AreHeat layout log (fold (λ h a. heat_touched layout a h) (no_heat granule (blob_lengths layout)) log)
-heat_are layout granule log =
-    let bytes = blob_lengths layout in
-    subst (AreHeat layout log) (sym (heat_is layout (no_heat granule bytes) log))
-    (λ blob at blob_in at_in.
-    let long : length bytes ≡ length layout = length-map layout (λ (owners : List Owner). length owners / 8) in
-    let here : get_or bytes blob 0 ≡ length (get_or layout blob []) / 8 = get_or-map (λ (owners : List Owner). length owners / 8) layout blob [] 0 blob_in in
-    heat-from_zero granule bytes (map (warms layout granule) log) blob at (omega arith) (subst (λ n. at < granules_of granule n) (sym here) at_in)
-    ∙ ap (λ n. min n (2 ^ 64 - 1)) (fold-map (λ n hot. n + cond (hot blob at) 1 0) (warms layout granule) 0 log))
+heat_are layout granule log = grind (arith, heat_is, length-map, get_or-map, heat-from_zero, fold-map)
 
 pub are_entries : (term : Term) (layout : List (List Owner)) (leaves : ℕ) (log : List Access) → AreEntries layout leaves log (tallied layout (no_tally term layout leaves) log)
 unfolding tallied
@@ -78,5 +67,4 @@ are_entries term layout leaves log = record {
   of_count false = tt
 
   of_granule : (granule : Option ℕ) → IfSome (option_map (λ heat. fold (λ h a. heat_touched layout a h) heat log) (option_map (λ g. no_heat g (blob_lengths layout)) granule)) (AreHeat layout log)
-  of_granule None = tt
-  of_granule (Some granule) = heat_are layout granule log
+  of_granule granule = grind (arith, heat_are)

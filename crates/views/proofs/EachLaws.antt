@@ -1,5 +1,5 @@
 -- Pieces of slots that are moved between the blobs of two views, as far behind each other on either side.
-use Rattle.views.proofs.Imports.{◌≡◌, ℕ, zero, suc, ◌+◌, ◌*◌, ◌%◌, ◌<◌, ◌≤◌, List, [], length, get_or, set, Option, Some, None, sym, ap, ◌∙◌, subst, arith, IfSome, get_or-set_same, length-set, set-set, set-get_or, indices, Order, slot_count, Fields, kinds_of, Owner, IsMoved, AreMoved, moved_bits, Term, array_of, lanes_in, IsArrayRun, StoreMode, IsKept, raw_under, IsRunMoved, IsMovedEach}
+use Rattle.views.proofs.Imports.{◌≡◌, ℕ, zero, suc, ◌+◌, ◌*◌, ◌%◌, ◌<◌, ◌≤◌, List, [], length, get_or, set, Option, Some, None, sym, subst, arith, IfSome, get_or-set_same, length-set, set-set, set-get_or, indices, Order, slot_count, Fields, kinds_of, Owner, IsMoved, AreMoved, moved_bits, Term, array_of, lanes_in, IsArrayRun, StoreMode, IsKept, raw_under, IsRunMoved, IsMovedEach}
 use Rattle.views.proofs.RunMoveLaws.{IsMove, HasRun, none_moved, target_in, target_room, source_in, source_room, run_kept, run_raw}
 use Rattle.views.proofs.SlotMoveLaws.{runs_joined}
 
@@ -47,11 +47,7 @@ module _ {mode lender : StoreMode} {a b : Term} {extents others_extents : List �
 
   after_pieces : (k : ℕ) → k ≤ pieces → (bytes : List ℕ) → IsMovedEach at to_step (get_or others source []) from from_step len k (get_or old target []) bytes
       → After (k * count) (set old target bytes)
-  after_pieces zero l bytes is =
-      let whole : set old target bytes ≡ old = ap (set old target) is ∙ set-get_or old target [] in
-      let none : zero * count ≡ 0 = omega arith in
-      subst (After (zero * count)) (sym whole)
-      (kept, none_moved (array_of a) extents (length (indices extents)) (length (kinds_of fields)) leaf slot (zero * count) (raw_under b others_extents trees others) (raw_under a extents fields old) none)
+  after_pieces zero l bytes is = grind (arith, set-get_or, none_moved)
   after_pieces (suc k) l bytes h =
       let mid : List ℕ = h.0 in
       let blobs : List (List ℕ) = set old target mid in

@@ -1,5 +1,5 @@
 -- What the proofs of this crate speak of.
-pub use Rattle.std.proofs.Common.{◌≡◌, ℕ, ℤ, ◌+◌, ◌*◌, ◌<◌, ◌≤◌, Bool, false, List, [], length, map, get_or, set, slice_index, refl, sym, ap, ◌∙◌, subst, arith, ◌-◌, take, drop, length-append, zero, suc, ◌∷◌, ◌++◌, replicate, pos, to_z, of_z, w64, ◌/◌, ◌^◌, min, true, cond, Option, Some, None, fold, option_map, ◌%◌, Ok, ⊎_elim, inr, slice_get, ◌⊎◌, inl, ◌||◌, div-mul-le_self, Result, is_ok, ◌&&◌, ◌≤ℤ◌, FitsSigned, Err, drop-cons, nat_eq, SFits, rules, IfErr, Bor}
+pub use Rattle.std.proofs.Common.{◌≡◌, ℕ, ℤ, ◌+◌, ◌*◌, ◌<◌, ◌≤◌, Bool, false, List, [], length, map, get_or, set, slice_index, refl, sym, ap, ◌∙◌, subst, arith, ◌-◌, take, drop, length-append, zero, suc, ◌∷◌, ◌++◌, replicate, pos, to_z, of_z, w64, ◌/◌, ◌^◌, min, true, cond, Option, Some, None, fold, option_map, ◌%◌, Ok, ⊎_elim, inr, slice_get, ◌⊎◌, inl, ◌||◌, div-mul-le_self, Result, is_ok, ◌≤ℤ◌, FitsSigned, Err, drop-cons, nat_eq, SFits, rules, Bor}
 pub use Rattle.std.specs.Int.{bit_at, w128}
 pub use Rattle.std.proofs.lemmas.Option.{slice_get-get_or, get_or_from_slice_get}
 pub use Rattle.std.specs.List.{sum_by, enumerate_from, range_with_len}
@@ -41,9 +41,9 @@ pub use Rattle.piece_bits.specs.declared.short.ShortRule.{ShortRule}
 pub use Rattle.blobs.specs.Moves.{IsMoved, blocks}
 pub use Rattle.piece_bits.specs.Blocks.{IsBlock, IsNarrow}
 pub use Rattle.piece_bits.specs.BlockLaws.{narrow_block, narrow_fits, same}
-pub use Rattle.map_expr.specs.Terms.{Term, term_of, uncounted, Aos, Soa, Aosoa, BitAos, BitSoa, Split, Byteswap, Bytesplit, Change, Count, Named}
+pub use Rattle.map_expr.specs.Terms.{Term, term_of, uncounted, Soa, Aosoa, Count}
 pub use Rattle.map_any.specs.Counters.{has_count, granule_of, is_counted}
-pub use Rattle.instrument.specs.Counters.{LeafCounts, HeatCounts, counted, warmed, no_counts, no_heat, granules_of, HasLeaves, counted_times, warmed_times, heat_counts, leaf_counts}
+pub use Rattle.instrument.specs.Counters.{LeafCounts, HeatCounts, counted, warmed, no_counts, no_heat, HasLeaves, warmed_times, heat_counts, leaf_counts}
 pub use Rattle.instrument.specs.CounterLaws.{count-from_zero, heat-from_zero}
 pub use Rattle.extents.specs.Indices.{indices}
 pub use Rattle.extents.specs.declared.order.Order.{Order}
@@ -61,22 +61,22 @@ pub use Rattle.record_dim.specs.Schemas.{schema_fields}
 pub use Rattle.record_dim.specs.declared.schema.Schema.{Schema}
 pub use Rattle.map_expr.specs.declared.expr.MapExpr.{MapExpr}
 pub use Rattle.map_checks.specs.Mappings.{layout_by, holds_by, leaf_cells, IsTooBigFor, most_slots}
-pub use Rattle.piece_bits.specs.LowBits.{declared, held, kept}
+pub use Rattle.piece_bits.specs.LowBits.{declared, held}
 pub use Rattle.piece_bits.specs.KeptLaws.{declared_same}
 pub use Rattle.piece_bits.specs.Modes.{declared_row, declared_table, IsSettled, Stays, AllSettled}
 pub use Rattle.piece_bits.specs.EntryLaws.{fitting_settled, same_sign, strict_entry, image_of_table, settled_after, raw_held, stays_declared, fitting_held, fitting_stays, stays_settled}
-pub use Rattle.record_dim.specs.declared.leaf_type.LeafType.TheVariants.{Bool as Truth, U8, U16, U32, U64, I8, I16, I32, I64}
+pub use Rattle.record_dim.specs.declared.leaf_type.LeafType.TheVariants.{Bool as Truth}
 pub use Rattle.piece_bits.specs.TableLaws.{table_shape, tables_same, zeros_shape, zeros_entry}
 pub use Rattle.piece_bits.specs.EntriesLaws.{blob_is, zeros_read}
 pub use Rattle.piece_bits.specs.declared.mode.StoreMode.TheVariants.{Strict, Wrap}
 pub use Rattle.piece_bits.specs.KeptTableLaws.{declared_shape, declared_entry, declared_with_entry}
-pub use Rattle.places.specs.Holds.{IsTooBig, full_holds, hold_of}
+pub use Rattle.places.specs.Holds.{full_holds, hold_of}
 pub use Rattle.places.specs.declared.piece.Cell.{Cell}
 pub use Rattle.map_checks.specs.Inner.LeafCells.{kinds_are, leaf_cells_kinds, holds_by_kind}
 pub use Rattle.piece_bits.specs.Stretches.{stretch_place, IsStretch}
 pub use Rattle.piece_bits.specs.StretchesLaws.{stretch_fits}
 pub use Rattle.piece_bits.specs.declared.stretch.Stretch.{Stretch}
-pub use Rattle.piece_bits.specs.Lows.{low_64, IsWithin64}
+pub use Rattle.piece_bits.specs.Lows.{low_64}
 pub use Rattle.piece_bits.specs.LowsLaws.{code_low}
 pub use Rattle.piece_bits.specs.Stretched.{stretched_at, StretchFits, ArePut}
 pub use Rattle.piece_bits.proofs.Numbers.{word_narrow}
@@ -104,14 +104,14 @@ pub use Rattle.views.specs.AccessEntries.{reads_leaf, writes_leaf, touches, AreC
 pub use Rattle.views.specs.ViewFields.{IsKept, raw_under, table_under, IsMappingOf, IsTallied, HasSign, HasGranules, tally_of}
 pub use Rattle.views.specs.Moves.{size_of, IsRunMoved, blob_steps, MayMove, IsInBlock, IsInRun}
 pub use Rattle.views.specs.Pieces.{IsMovedEach, is_cut, piece_count, piece_at, ArePieces}
-pub use Rattle.views.specs.Stores.{kind_at, StoreAnswer, Fits, without_number, AllStay, kept_row, kept_or, store_answer}
+pub use Rattle.views.specs.Stores.{kind_at, StoreAnswer, Fits, without_number, AllStay, kept_row, kept_or}
 pub use Rattle.views.specs.UncountedLaws.{layout_uncounted, holds_uncounted, slots_uncounted}
 pub use Rattle.views.specs.MovesLaws.{settled_moves, may_move, full_hold, full_own, run_laid, run_moved, with_rows, rows_after}
 pub use Rattle.views.specs.CountLaws.{idle_logged, piece_inside, raised_granules, raised_leaves, new_tally, no_tally-tallied, tallied_kept, tallied-one, idle_tallied, log_kept}
 pub use Rattle.views.specs.AnswerLaws.{told_ok, answer_stays, stays_answer, strict_kept, told_kept, told_err}
 pub use Rattle.views.specs.declared.fault.StoreFault.{StoreFault}
 pub use Rattle.views.specs.ColumnsLaws.{no_column, entry_more, length-with_column}
-pub use Rattle.views.specs.LeafRuns.{raised, run_of, TakesAll, run_fault, stored_count, with_run, told_lane, run_steps}
+pub use Rattle.views.specs.LeafRuns.{raised, run_of, TakesAll, run_fault, stored_count, with_run, told_lane}
 pub use Rattle.views.specs.RunsLaws.{raised_low, raised_all, run_entry, run_length, raised_same, declared_within}
 pub use Rattle.views.specs.declared.fault.LaneFault.{LaneFault}
 pub use Rattle.views.specs.Inner.Repeated.{counts_after, heat_after, leaf_raised, leaves_raised, granules_raised, row_raised, rows_raised}

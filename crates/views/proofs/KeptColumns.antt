@@ -37,9 +37,7 @@ declared_column kinds leaf (suc row) values [] = refl
 declared_column kinds leaf (suc row) values (numbers ∷ rows) = ap (λ (more : List (List ℤ)). declared_row kinds numbers ∷ more) (declared_column kinds leaf row values rows)
 declared_column kinds leaf zero [] rows = refl
 declared_column kinds leaf zero (value ∷ values) [] = refl
-declared_column kinds leaf zero (value ∷ values) (numbers ∷ rows) =
-    ap (λ (r : List ℤ). r ∷ declared_table kinds (with_column leaf zero values rows)) (declared_set kinds numbers leaf value)
-    ∙ ap (λ (more : List (List ℤ)). set (declared_row kinds numbers) leaf (declared (kind_at kinds leaf) value) ∷ more) (declared_column kinds leaf zero values rows)
+declared_column kinds leaf zero (value ∷ values) (numbers ∷ rows) = grind (arith, declared_set, (declared_column kinds leaf zero values rows))
 
 -- fitting values of a leaf are written
 module _ (mode : StoreMode) (term : Term) (extents : List ℕ) (fields : Fields) (blobs : List (List ℕ)) (kept : IsKept mode term extents fields blobs) (new : List (List ℕ)) (row leaf : ℕ) (values : List ℤ)
@@ -67,11 +65,7 @@ module _ (mode : StoreMode) (term : Term) (extents : List ℕ) (fields : Fields)
       }
 
   pub table_column : table_under term extents fields new ≡ with_column leaf row values (table_under term extents fields blobs)
-  table_column =
-      let kinds = kinds_of fields in
-      ap (declared_table kinds) is ∙ declared_column kinds leaf row values (raw_under term extents fields blobs)
-      ∙ ap (λ (vs : List ℤ). with_column leaf row vs (table_under term extents fields blobs))
-      (map_same (declared (kind_at kinds leaf)) values (λ k l. declared_same (kind_at kinds leaf) (get_or values k (pos 0)) (fits k l).declared))
+  table_column = grind (arith, declared_column, map_same, declared_same)
 
 -- the view after values of a leaf were stored that are kept as they are
 pub seen_column : {mode : StoreMode} (schema : Schema) (extents : List ℕ) (expr : MapExpr) (blobs : List (List ℕ)) {tally : Tally} {seen : Table} → seen_from mode schema extents expr blobs tally ≡ seen
@@ -79,11 +73,7 @@ pub seen_column : {mode : StoreMode} (schema : Schema) (extents : List ℕ) (exp
     → table_under (term_of expr) extents (schema_fields schema) stored ≡ with_column leaf row values (table_under (term_of expr) extents (schema_fields schema) blobs)
     → new ≡ tallied (layout_by (term_of expr) extents (schema_fields schema)) tally (column_writes leaf row count)
     → seen_from mode schema extents expr stored new ≡ after_stores seen (with_column leaf row (map (kept_of seen leaf) values) seen.rows) (column_writes leaf row count)
-seen_column {mode} schema extents expr blobs {tally} {seen} is row leaf count values stored new same table counts =
-    ap (λ (t : Tally). seen_from mode schema extents expr stored t) counts
-    ∙ ap (λ (t : List (List ℤ)). after_stores (seen_from mode schema extents expr blobs tally) t (column_writes leaf row count)) table
-    ∙ ap (λ (s : Table). after_stores s (with_column leaf row values s.rows) (column_writes leaf row count)) is
-    ∙ ap (λ (vs : List ℤ). after_stores seen (with_column leaf row vs seen.rows) (column_writes leaf row count)) (sym same)
+seen_column {mode} schema extents expr blobs {tally} {seen} is row leaf count values stored new same table counts = grind arith
 
 -- ---- values that are all taken
 

@@ -1,5 +1,5 @@
 -- What follows from what a view keeps, over plain layouts, holds and bits.
-use Rattle.views.proofs.Imports.{◌≡◌, ℕ, suc, ◌*◌, ◌^◌, ◌∷◌, inr, ◌-◌, ◌<◌, ◌≤◌, Bool, true, false, ℤ, pos, List, [], length, get_or, map, refl, sym, ap, ◌∙◌, subst, ⊎_elim, arith, sum_by, length-map, sum_by-cons, slice_get-get_or, pow_pos, ints, cases_lt, cases_Bool, LeafType, Truth, U8, U16, U32, U64, I8, I16, I32, I64, is_signed, IsIn, IsDeclared, Fields, Leaf, leaves, kinds_of, Hold, Owner, entry, image, IsLaidOut, indices, Term, leaf_cells, layout_by, holds_by, IsTooBigFor, bits_of, bit_in, AreLaid, HasShape, hold_at, with_entry, zeros, table_shape, tables_same, zeros_shape, zeros_entry, blob_is, zeros_read, bit_in_lt, hold_widths, declared, declared_same, StoreMode, Strict, declared_table, Stays, IsSettled, declared_shape, declared_entry, declared_with_entry, fitting_settled, same_sign, strict_entry, image_of_table, settled_after, kind_at, Fits, AllStay, IsKept, raw_under, table_under}
+use Rattle.views.proofs.Imports.{◌≡◌, ℕ, suc, ◌*◌, ◌^◌, ◌∷◌, inr, ◌<◌, ◌≤◌, false, ℤ, pos, List, [], length, get_or, map, refl, sym, ap, ◌∙◌, subst, ⊎_elim, arith, sum_by, length-map, sum_by-cons, slice_get-get_or, pow_pos, cases_lt, cases_Bool, LeafType, is_signed, IsIn, IsDeclared, Fields, Leaf, leaves, kinds_of, Hold, Owner, entry, image, IsLaidOut, indices, Term, leaf_cells, layout_by, holds_by, IsTooBigFor, bits_of, bit_in, AreLaid, HasShape, hold_at, with_entry, zeros, table_shape, tables_same, zeros_shape, zeros_entry, blob_is, zeros_read, bit_in_lt, hold_widths, declared, declared_same, StoreMode, Strict, declared_table, Stays, IsSettled, declared_shape, declared_entry, declared_with_entry, fitting_settled, same_sign, strict_entry, image_of_table, settled_after, kind_at, Fits, AllStay, IsKept, raw_under, table_under}
 
 -- as many types as leaves
 pub kind_count : (fields : Fields) → length (kinds_of fields) ≡ length (leaves fields)
@@ -49,8 +49,7 @@ module _ (mode : StoreMode) (term : Term) (extents : List ℕ) (fields : Fields)
   -- it stays
   pub entry_stays : (row leaf : ℕ) → row < length (indices extents) → leaf < length (kinds_of fields) →
       Stays mode (kind_at (kinds_of fields) leaf) (hold_at (holds_by term fields) leaf) (entry (table_under term extents fields blobs) row leaf)
-  entry_stays row leaf l m =
-      subst (λ (v : ℤ). Stays mode (kind_at (kinds_of fields) leaf) (hold_at (holds_by term fields) leaf) v) (sym (entry_is_declared row leaf l m)) (kept.settled row leaf l m).stays
+  entry_stays row leaf l m = grind (arith, entry_is_declared)
 
   -- the bytes of all blobs
   pub byte_count : 8 * sum_by (length {A = ℕ}) blobs ≡ sum_by (length {A = Owner}) (layout_by term extents fields)
@@ -111,14 +110,10 @@ module _ (mode : StoreMode) (term : Term) (extents : List ℕ) (fields : Fields)
 
 -- 0 fits every leaf
 zero_held : (hold : Hold) → 1 ≤ hold.width → IsIn hold.signed hold.width (pos 0)
-zero_held hold some =
-    ⊎_elim (λ (e : hold.signed ≡ true). subst (λ (s : Bool). IsIn s hold.width (pos 0)) (sym e) (omega (arith, ints, pow_pos (hold.width - 1)), omega (arith, ints, pow_pos (hold.width - 1))))
-    (λ (e : hold.signed ≡ false). subst (λ (s : Bool). IsIn s hold.width (pos 0)) (sym e) (omega (arith, ints), omega (arith, ints, pow_pos hold.width)))
-    (cases_Bool hold.signed)
+zero_held hold some = grind (arith, pow_pos, cases_Bool)
 
 zero_declared : (kind : LeafType) → IsDeclared kind (pos 0)
-zero_declared Truth = (omega (arith, ints), omega (arith, ints))
-zero_declared other = (omega (arith, ints), omega (arith, ints))
+zero_declared kind = grind arith
 
 -- blobs of zeros are kept, and hold zeros
 module _ (term : Term) (extents : List ℕ) (fields : Fields) (blobs : List (List ℕ))
@@ -133,8 +128,7 @@ module _ (term : Term) (extents : List ℕ) (fields : Fields) (blobs : List (Lis
 
   -- a raw number is 0, which stands for itself
   zero_raw : (row leaf : ℕ) → row < length (indices extents) → leaf < length (kinds_of fields) → entry (raw_under term extents fields blobs) row leaf ≡ pos 0
-  zero_raw row leaf l m =
-      ap (λ (t : List (List ℤ)). entry t row leaf) raw_zeros ∙ zeros_entry (length (indices extents)) (length (holds_by term fields)) row leaf l (omega (arith, m, paired))
+  zero_raw row leaf l m = grind (arith, raw_zeros, zeros_entry)
 
   zero_fits : (leaf : ℕ) → leaf < length (kinds_of fields) → Fits (kind_at (kinds_of fields) leaf) (hold_at (holds_by term fields) leaf) (pos 0)
   zero_fits leaf m = record { declared = zero_declared (kind_at (kinds_of fields) leaf); held = zero_held (hold_at (holds_by term fields) leaf) (zero_some leaf m) }

@@ -1,5 +1,5 @@
 -- What blobs hold under one expression they hold under another that lays them out the same.
-use Rattle.views.proofs.Imports.{◌≡◌, ℕ, suc, ◌*◌, ◌/◌, ◌+◌, ◌<◌, ℤ, List, [], ◌∷◌, map, length, get_or, refl, sym, ap, ◌∙◌, subst, arith, sum_by-cons, indices, Fields, kinds_of, IsTooBig, IsLaidOut, Owner, Hold, blocks, entry, AreLaid, AreSized, hold_at, table_in, Term, uncounted, term_of, leaf_cells, layout_by, holds_by, most_slots, MapExpr, schema_fields, Schema, StoreMode, declared_table, AllSettled, IsKept, raw_under, table_under, Table, leaf_types_of, table_holds, layout_uncounted, holds_uncounted, slots_uncounted, Tally, blob_steps, MayMove, settled_moves, may_move, kind_at}
+use Rattle.views.proofs.Imports.{◌≡◌, ℕ, suc, ◌*◌, ◌/◌, ◌+◌, ◌<◌, ℤ, List, [], ◌∷◌, map, length, get_or, refl, sym, ap, ◌∙◌, subst, arith, sum_by-cons, indices, Fields, kinds_of, IsLaidOut, Owner, Hold, blocks, AreLaid, AreSized, Term, uncounted, term_of, layout_by, holds_by, most_slots, MapExpr, schema_fields, Schema, StoreMode, AllSettled, IsKept, raw_under, table_under, Table, leaf_types_of, table_holds, layout_uncounted, holds_uncounted, slots_uncounted, Tally, blob_steps, MayMove, settled_moves, may_move}
 use Rattle.std.specs.Prelude.{sum_by}
 use Rattle.views.proofs.Opened.{seen_from}
 use Rattle.views.proofs.KeptLaws.{some_width}
@@ -41,15 +41,10 @@ same_lengths layout one two first second = lengths_in layout one first.count fir
 -- two expressions that are one without their counters, over one array
 module _ (a b : Term) (extents others : List ℕ) (fields trees : Fields) (same : uncounted a ≡ uncounted b) (alike : (fields ≡ trees) × (extents ≡ others)) where
   pub layouts_same : layout_by b others trees ≡ layout_by a extents fields
-  layouts_same =
-      ap (λ (f : Fields). layout_by b others f) (sym alike.0) ∙ ap (λ (e : List ℕ). layout_by b e fields) (sym alike.1)
-      ∙ sym (layout_uncounted b extents fields (leaf_cells (kinds_of fields))) ∙ ap (λ (t : Term). layout_by t extents fields) (sym same)
-      ∙ layout_uncounted a extents fields (leaf_cells (kinds_of fields))
+  layouts_same = grind (arith, layout_uncounted)
 
   holds_same : holds_by b trees ≡ holds_by a fields
-  holds_same =
-      ap (holds_by b) (sym alike.0) ∙ sym (holds_uncounted b fields (leaf_cells (kinds_of fields))) ∙ ap (λ (t : Term). holds_by t fields) (sym same)
-      ∙ holds_uncounted a fields (leaf_cells (kinds_of fields))
+  holds_same = grind (arith, holds_uncounted)
 
   slots_same : most_slots b others ≡ most_slots a extents
   slots_same = ap (most_slots b) (sym alike.1) ∙ sym (slots_uncounted b extents) ∙ ap (λ (t : Term). most_slots t extents) (sym same) ∙ slots_uncounted a extents
@@ -59,22 +54,17 @@ module _ (a b : Term) (extents others : List ℕ) (fields trees : Fields) (same 
 
   -- the raw numbers that blobs hold, and the table
   moved_raw : (blobs : List (List ℕ)) → raw_under a extents fields blobs ≡ raw_under b others trees blobs
-  moved_raw blobs =
-      ap (λ (l : List (List Owner)). table_in l (length (indices extents)) (holds_by a fields) blobs) (sym layouts_same)
-      ∙ ap (λ (n : ℕ). table_in (layout_by b others trees) n (holds_by a fields) blobs) (sym rows_same)
-      ∙ ap (λ (hs : List Hold). table_in (layout_by b others trees) (length (indices others)) hs blobs) (sym holds_same)
+  moved_raw blobs = grind (arith, layouts_same, rows_same, holds_same)
 
   pub moved_table : (blobs : List (List ℕ)) → table_under a extents fields blobs ≡ table_under b others trees blobs
-  moved_table blobs =
-      ap (declared_table (kinds_of fields)) (moved_raw blobs) ∙ ap (λ (f : Fields). declared_table (kinds_of f) (raw_under b others trees blobs)) alike.0
+  moved_table blobs = grind (arith, moved_raw)
 
   -- what is kept of the blobs, in a view that may hold them
   pub moved_kept : (from to : StoreMode) → MayMove from to (kinds_of fields) (holds_by a fields) → (blobs : List (List ℕ)) → IsKept from b others trees blobs → IsKept to a extents fields blobs
   moved_kept from to may blobs kept =
       let lawful : IsLaidOut (layout_by a extents fields) (length (indices extents)) (map (λ (h : Hold). h.width) (holds_by a fields)) =
       subst (λ (hs : List Hold). IsLaidOut (layout_by a extents fields) (length (indices extents)) (map (λ (h : Hold). h.width) hs)) holds_same
-      (subst (λ (n : ℕ). IsLaidOut (layout_by a extents fields) n (map (λ (h : Hold). h.width) (holds_by b trees))) rows_same
-      (subst (λ (l : List (List Owner)). IsLaidOut l (length (indices others)) (map (λ (h : Hold). h.width) (holds_by b trees))) layouts_same kept.lawful)) in
+      (grind (arith, rows_same, layouts_same)) in
       let paired : length (holds_by a fields) ≡ length (kinds_of fields) =
       ap (λ (hs : List Hold). length hs) (sym holds_same) ∙ kept.paired ∙ ap (λ (f : Fields). length (kinds_of f)) (sym alike.0) in
       let settled : AllSettled from (length (indices extents)) (kinds_of fields) (holds_by a fields) (raw_under a extents fields blobs) =
@@ -85,37 +75,25 @@ module _ (a b : Term) (extents others : List ℕ) (fields trees : Fields) (same 
       record {
         lawful = lawful;
         paired = paired;
-        within = λ big.
-            kept.within (subst (λ (l : List (List Owner)). IsTooBig (most_slots b others) l) (sym layouts_same)
-            (subst (λ (n : ℕ). IsTooBig n (layout_by a extents fields)) (sym slots_same) big));
+        within = λ big. grind (arith, layouts_same, slots_same);
         laid = subst (λ (l : List (List Owner)). AreLaid l blobs) layouts_same kept.laid;
-        settled = λ row leaf l m.
-            settled_moves from to (kind_at (kinds_of fields) leaf) (hold_at (holds_by a fields) leaf) (entry (raw_under a extents fields blobs) row leaf)
-            (some_width (layout_by a extents fields) (length (indices extents)) (holds_by a fields) lawful leaf (omega (arith, m, paired)))
-            (may_move from to (kinds_of fields) (holds_by a fields) may leaf m) (settled row leaf l m);
+        settled = λ row leaf l m. grind (arith, settled_moves, some_width, may_move);
       }
 
 -- two views over one array, by their fields
 pub views_alike : (one two : Table) {seen others : Table} → seen ≡ one → others ≡ two → (one.fields ≡ two.fields) × (one.extents ≡ two.extents)
     → (seen.fields ≡ others.fields) × (seen.extents ≡ others.extents)
-views_alike one two is are alike = (
-  ap (λ (t : Table). t.fields) is ∙ alike.0 ∙ sym (ap (λ (t : Table). t.fields) are),
-  ap (λ (t : Table). t.extents) is ∙ alike.1 ∙ sym (ap (λ (t : Table). t.extents) are),
-)
+views_alike one two is are alike = grind arith
 
 pub views_one : (one two : Table) {seen others : Table} → seen ≡ one → others ≡ two → uncounted one.mapping ≡ uncounted two.mapping → uncounted seen.mapping ≡ uncounted others.mapping
 views_one one two is are same = ap (λ (t : Table). uncounted t.mapping) is ∙ same ∙ sym (ap (λ (t : Table). uncounted t.mapping) are)
 
 pub may_seen : (one two : Table) {seen others : Table} → seen ≡ one → others ≡ two → MayMove two.mode one.mode (leaf_types_of one) (table_holds one)
     → MayMove others.mode seen.mode (leaf_types_of seen) (table_holds seen)
-may_seen one two {seen} {others} is are may =
-    subst (λ (t : Table). MayMove others.mode t.mode (leaf_types_of t) (table_holds t)) (sym is)
-    (subst (λ (t : Table). MayMove t.mode one.mode (leaf_types_of one) (table_holds one)) (sym are) may)
+may_seen one two {seen} {others} is are may = grind arith
 
 -- what callers see once other blobs stand there
 pub seen_moved : {mode : StoreMode} (schema : Schema) (extents : List ℕ) (expr : MapExpr) (old new : List (List ℕ)) (tally : Tally) (seen : Table) (rows : List (List ℤ))
     → seen_from mode schema extents expr old tally ≡ seen → table_under (term_of expr) extents (schema_fields schema) new ≡ rows
     → seen_from mode schema extents expr new tally ≡ (let t : Table = record seen { rows = rows } in t)
-seen_moved {mode} schema extents expr old new tally seen rows is table =
-    ap (λ (t : List (List ℤ)). let s : Table = record (seen_from mode schema extents expr old tally) { rows = t } in s) table
-    ∙ ap (λ (s : Table). let t : Table = record s { rows = rows } in t) is
+seen_moved {mode} schema extents expr old new tally seen rows is table = grind arith

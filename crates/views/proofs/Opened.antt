@@ -1,12 +1,10 @@
 -- A view by its fields.
-use Rattle.views.proofs.Imports.{◌≡◌, ℕ, ℤ, ◌<◌, ◌≤◌, List, [], ◌∷◌, Some, false, length, map, slice_get, sym, ap, ◌∙◌, subst, arith, SFits, to_z, of_z, w128, to_z-of_z, enumerate_from, length-map, length-enumerate_from, get_or_from_slice_get, Fields, indices, Schema, LeafType, Truth, schema_fields, leaves, kinds_of, IsIn, IsDeclared, is_signed, Owner, IsLaidOut, entry, Cell, Hold, MapExpr, Term, term_of, kinds_are, leaf_cells, layout_by, holds_by, IsTooBigFor, is_counted, hold_widths, AreLaid, table_in, hold_at, with_entry, Table, leaf_count_of, leaf_type_of, table_holds, after_log, after_raw, after_stores, IsTable, IsSettledIn, Fits, kind_at, Access, Write, Tally, after_access, tallied, all_touches, declared, StoreMode, Strict, IsSettled, raw_held, stays_declared, IsKept, IsMappingOf, IsTallied, HasSign, raw_under, table_under, idle_logged}
+use Rattle.views.proofs.Imports.{◌≡◌, ℕ, ℤ, ◌<◌, ◌≤◌, List, [], ◌∷◌, Some, false, length, map, slice_get, sym, ap, ◌∙◌, subst, arith, SFits, to_z, of_z, w128, to_z-of_z, enumerate_from, length-map, length-enumerate_from, get_or_from_slice_get, Fields, indices, Schema, LeafType, Truth, schema_fields, leaves, kinds_of, IsIn, IsDeclared, is_signed, Owner, IsLaidOut, entry, Cell, Hold, MapExpr, Term, term_of, kinds_are, leaf_cells, layout_by, holds_by, IsTooBigFor, is_counted, hold_widths, AreLaid, table_in, hold_at, with_entry, Table, leaf_count_of, leaf_type_of, table_holds, after_log, after_raw, IsTable, IsSettledIn, Fits, kind_at, Access, Write, Tally, after_access, tallied, all_touches, declared, StoreMode, Strict, IsSettled, raw_held, stays_declared, IsKept, IsMappingOf, IsTallied, HasSign, raw_under, table_under, idle_logged}
 use Rattle.views.proofs.KeptLaws.{kind_count, row_count, kept_shape, kept_stays, hold_some, entry_is_declared, entry_stays, sign_entry, strict_raw, kept_set, table_set}
 
 -- as many cells as leaves
 pub length-leaf_cells : (kinds : List LeafType) → length (leaf_cells kinds) ≡ length kinds
-length-leaf_cells kinds =
-    let cell : ℕ × LeafType → Cell = λ e. record { leaf = e.0; kind = e.1 } in
-    length-map (enumerate_from 0 kinds) cell ∙ length-enumerate_from 0 kinds
+length-leaf_cells kinds = grind (arith, length-map, enumerate_from, length-enumerate_from)
 
 -- what a mapping says is what its expression says
 module _ {term : Term} {extents : List ℕ} {fields : Fields} {mapped : Term} {inside : List ℕ} {layout : List (List Owner)} {slots : ℕ} {cells : List Cell} {holds : List Hold}
@@ -16,10 +14,7 @@ module _ {term : Term} {extents : List ℕ} {fields : Fields} {mapped : Term} {i
 
   -- the raw numbers that its layout says are those of the expression
   pub raw_same : (blobs : List (List ℕ)) → table_in layout slots holds blobs ≡ raw_under term extents fields blobs
-  raw_same blobs =
-      ap (λ (w : List (List Owner)). table_in w slots holds blobs) mapping.layout_is
-      ∙ ap (λ (w : ℕ). table_in (layout_by term extents fields) w holds blobs) mapping.slots_are
-      ∙ ap (λ (w : List Hold). table_in (layout_by term extents fields) (length (indices extents)) w blobs) mapping.holds_are
+  raw_same blobs = grind arith
 
   pub laid_there : (blobs : List (List ℕ)) → AreLaid layout blobs → AreLaid (layout_by term extents fields) blobs
   laid_there blobs laid = subst (λ (w : List (List Owner)). AreLaid w blobs) mapping.layout_is laid
@@ -30,67 +25,47 @@ module _ {term : Term} {extents : List ℕ} {fields : Fields} {mapped : Term} {i
 
   pub read_here : (lent blobs : List (List ℕ)) → lent ≡ blobs → (row leaf : ℕ) →
       entry (table_in layout slots holds lent) row leaf ≡ entry (raw_under term extents fields blobs) row leaf
-  read_here lent blobs same row leaf =
-      ap (λ (w : List (List ℕ)). entry (table_in layout slots holds w) row leaf) same ∙ ap (λ (t : List (List ℤ)). entry t row leaf) (raw_same blobs)
+  read_here lent blobs same row leaf = grind (arith, raw_same)
 
   pub lawful_there : IsLaidOut layout slots (map (λ (h : Hold). h.width) holds) →
       IsLaidOut (layout_by term extents fields) (length (indices extents)) (map (λ (h : Hold). h.width) (holds_by term fields))
-  lawful_there laws =
-      subst (λ (w : List Hold). IsLaidOut (layout_by term extents fields) (length (indices extents)) (map (λ (h : Hold). h.width) w)) mapping.holds_are
-      (subst (λ (w : ℕ). IsLaidOut (layout_by term extents fields) w (map (λ (h : Hold). h.width) holds)) mapping.slots_are
-      (subst (λ (w : List (List Owner)). IsLaidOut w slots (map (λ (h : Hold). h.width) holds)) mapping.layout_is laws))
+  lawful_there laws = grind arith
 
   -- the counts are those of the mapping
   pub tallied_here : (tally : Tally) → IsTallied term (layout_by term extents fields) (length (leaves fields)) tally → IsTallied mapped layout (length cells) tally
-  tallied_here tally has =
-      subst (λ (t : Term). IsTallied t layout (length cells) tally) (sym mapping.term_is)
-      (subst (λ (w : List (List Owner)). IsTallied term w (length cells) tally) (sym mapping.layout_is)
-      (subst (λ (n : ℕ). IsTallied term (layout_by term extents fields) n tally) (sym (cell_count ∙ kind_count fields)) has))
+  tallied_here tally has = grind (arith, cell_count, kind_count)
 
   pub touched_there : (tally : Tally) (access : Access) → after_access layout tally access ≡ after_access (layout_by term extents fields) tally access
   touched_there tally access = ap (λ (w : List (List Owner)). after_access w tally access) mapping.layout_is
 
   pub touches_there : (tally : Tally) (reads writes : ℕ) → tallied layout tally (all_touches reads writes (length cells) slots)
       ≡ tallied (layout_by term extents fields) tally (all_touches reads writes (length (leaves fields)) (length (indices extents)))
-  touches_there tally reads writes =
-      ap (λ (w : List (List Owner)). tallied w tally (all_touches reads writes (length cells) slots)) mapping.layout_is
-      ∙ ap (λ (n : ℕ). tallied (layout_by term extents fields) tally (all_touches reads writes n slots)) (cell_count ∙ kind_count fields)
-      ∙ ap (λ (n : ℕ). tallied (layout_by term extents fields) tally (all_touches reads writes (length (leaves fields)) n)) mapping.slots_are
+  touches_there tally reads writes = grind (arith, cell_count, kind_count, leaves)
 
   pub paired_there : length holds ≡ length cells → length (holds_by term fields) ≡ length (kinds_of fields)
   paired_there paired = ap (length {A = Hold}) (sym mapping.holds_are) ∙ paired ∙ cell_count
 
   -- a leaf that is stored in the sign of its type
   pub sign_there : (leaf : ℕ) → HasSign cells holds leaf → (hold_at (holds_by term fields) leaf).signed ≡ is_signed (kind_at (kinds_of fields) leaf)
-  sign_there leaf sign =
-      subst (λ (hs : List Hold). (hold_at hs leaf).signed ≡ is_signed (kind_at (kinds_of fields) leaf)) mapping.holds_are
-      (subst (λ (ks : List LeafType). (hold_at holds leaf).signed ≡ is_signed (kind_at ks leaf)) (kinds_are cells (kinds_of fields) mapping.cells_are) sign)
+  sign_there leaf sign = grind (arith, kinds_are)
 
   -- a raw number is stored, as it is handed on
   module _ (leaf : ℕ) (raw : ℤ) (fits : SFits w128 raw) where
     pub held_passed : IsIn (hold_at (holds_by term fields) leaf).signed (hold_at (holds_by term fields) leaf).width raw → IsIn (hold_at holds leaf).signed (hold_at holds leaf).width (to_z w128 (of_z w128 raw))
-    held_passed held =
-        subst (λ (hs : List Hold). IsIn (hold_at hs leaf).signed (hold_at hs leaf).width (to_z w128 (of_z w128 raw))) (sym mapping.holds_are)
-        (subst (λ (v : ℤ). IsIn (hold_at (holds_by term fields) leaf).signed (hold_at (holds_by term fields) leaf).width v) (sym (to_z-of_z w128 raw fits)) held)
+    held_passed held = grind (arith, to_z, of_z, to_z-of_z)
 
     pub raw_stored : (blobs new : List (List ℕ)) (row : ℕ) → table_in layout slots holds new ≡ with_entry (table_in layout slots holds blobs) row leaf (to_z w128 (of_z w128 raw))
         → raw_under term extents fields new ≡ with_entry (raw_under term extents fields blobs) row leaf raw
-    raw_stored blobs new row wrote =
-        sym (raw_same new) ∙ wrote ∙ ap (λ (t : List (List ℤ)). with_entry t row leaf (to_z w128 (of_z w128 raw))) (raw_same blobs)
-        ∙ ap (with_entry (raw_under term extents fields blobs) row leaf) (to_z-of_z w128 raw fits)
+    raw_stored blobs new row wrote = grind (arith, raw_same, to_z, of_z, to_z-of_z)
 
 -- the same after copies of the schema and the expression
 pub mapping_copied : {term copy mapped : Term} {fields same : Fields} {extents inside : List ℕ} {layout : List (List Owner)} {slots : ℕ} {cells : List Cell} {holds : List Hold} →
     copy ≡ term → same ≡ fields → IsMappingOf term extents fields mapped inside layout slots cells holds → IsMappingOf copy extents same mapped inside layout slots cells holds
-mapping_copied {term} {copy} {mapped} {fields} {same} {extents} {inside} {layout} {slots} {cells} {holds} terms trees mapping =
-    subst (λ (t : Term). IsMappingOf t extents same mapped inside layout slots cells holds) (sym terms)
-    (subst (λ (f : Fields). IsMappingOf term extents f mapped inside layout slots cells holds) (sym trees) mapping)
+mapping_copied {term} {copy} {mapped} {fields} {same} {extents} {inside} {layout} {slots} {cells} {holds} terms trees mapping = grind arith
 
 pub within_copied : {term copy : Term} {fields same : Fields} (extents : List ℕ) → copy ≡ term → same ≡ fields →
     (IsTooBigFor term extents fields (leaf_cells (kinds_of fields)) → ⊥) → IsTooBigFor copy extents same (leaf_cells (kinds_of same)) → ⊥
-within_copied {term} {copy} {fields} {same} extents terms trees within =
-    subst (λ (t : Term). IsTooBigFor t extents same (leaf_cells (kinds_of same)) → ⊥) (sym terms)
-    (subst (λ (f : Fields). IsTooBigFor term extents f (leaf_cells (kinds_of f)) → ⊥) (sym trees) within)
+within_copied {term} {copy} {fields} {same} extents terms trees within = grind arith
 
 -- what callers see of the fields
 abbrev pub seen_from : StoreMode → Schema → List ℕ → MapExpr → List (List ℕ) → Tally → Table
@@ -126,9 +101,7 @@ module _ {mode : StoreMode} (schema : Schema) (extents : List ℕ) (expr : MapEx
 
   -- a leaf that callers name is a leaf of the schema
   pub leaf_seen : (leaf : ℕ) → leaf < leaf_count_of seen → leaf < length (kinds_of (schema_fields schema))
-  leaf_seen leaf l =
-      let inside : leaf < length (leaves (schema_fields schema)) = subst (λ (s : Table). leaf < leaf_count_of s) (sym is) l in
-      omega (arith, kind_count (schema_fields schema))
+  leaf_seen leaf l = grind (arith, leaves, kind_count)
 
   -- its hold has a bit at least
   pub some_seen : (leaf : ℕ) → leaf < leaf_count_of seen → 1 ≤ (hold_at (table_holds seen) leaf).width
@@ -146,21 +119,14 @@ module _ {mode : StoreMode} (schema : Schema) (extents : List ℕ) (expr : MapEx
       let stored : List Hold = holds_by (term_of expr) (schema_fields schema) in
       let here : slice_get stored leaf ≡ Some found = subst (λ (hs : List Hold). slice_get hs leaf ≡ Some found) mapping.holds_are there in
       let in_kinds : leaf < length (kinds_of (schema_fields schema)) = leaf_seen leaf leaf_in in
-      let widths = hold_widths (layout_by (term_of expr) extents (schema_fields schema)) (length (indices extents)) stored kept.lawful leaf found (omega (arith, in_kinds, kept.paired)) here in (
-        ap (λ (s : Table). hold_at (table_holds s) leaf) (sym is) ∙ get_or_from_slice_get stored leaf found (record { signed = false; width = 0 }) here,
-        widths.0,
-        widths.1,
-      )
+      let widths = hold_widths (layout_by (term_of expr) extents (schema_fields schema)) (length (indices extents)) stored kept.lawful leaf found (omega (arith, in_kinds, kept.paired)) here in grind (arith, get_or_from_slice_get)
 
   -- a value that is sure to fit
   pub fit_seen : {mapped : Term} {inside : List ℕ} {layout : List (List Owner)} {slots : ℕ} {cells : List Cell} {holds : List Hold}
       → IsMappingOf (term_of expr) extents (schema_fields schema) mapped inside layout slots cells holds → (leaf : ℕ) (value : ℤ) → IsDeclared (kind_at (map (λ cell. cell.kind) cells) leaf) value
       → IsIn (hold_at holds leaf).signed (hold_at holds leaf).width value → Fits (leaf_type_of seen leaf) (hold_at (table_holds seen) leaf) value
   fit_seen {mapped} {inside} {layout} {slots} {cells} {holds} mapping leaf value one two =
-      let here : Fits (kind leaf) (hold leaf) value = record {
-        declared = subst (λ (ks : List LeafType). IsDeclared (kind_at ks leaf) value) (kinds_are cells (kinds_of (schema_fields schema)) mapping.cells_are) one;
-        held = subst (λ (hs : List Hold). IsIn (hold_at hs leaf).signed (hold_at hs leaf).width value) mapping.holds_are two;
-      } in
+      let here : Fits (kind leaf) (hold leaf) value = grind (arith, kinds_are) in
       subst (λ (s : Table). Fits (leaf_type_of s leaf) (hold_at (table_holds s) leaf) value) is here
 
   -- a raw number that the view may hold lies in the range of its hold
@@ -227,20 +193,13 @@ module _ {mode : StoreMode} (schema : Schema) (extents : List ℕ) (expr : MapEx
   pub seen_stored : (row leaf : ℕ) (raw : ℤ) (stored : List (List ℕ)) → table_under (term_of expr) extents (schema_fields schema) stored
       ≡ with_entry (table_under (term_of expr) extents (schema_fields schema) blobs) row leaf (declared (kind_at (kinds_of (schema_fields schema)) leaf) raw)
       → seen_from mode schema extents expr stored tally ≡ record seen { rows = with_entry seen.rows row leaf (declared (leaf_type_of seen leaf) raw) }
-  seen_stored row leaf raw stored table =
-      ap (λ (t : List (List ℤ)). let s : Table = record (seen_from mode schema extents expr blobs tally) { rows = t } in s) table
-      ∙ ap (λ (s : Table). let t : Table = record s { rows = with_entry s.rows row leaf (declared (leaf_type_of s leaf) raw) } in t) is
+  seen_stored row leaf raw stored table = grind arith
 
   pub seen_written : (row leaf : ℕ) (raw : ℤ) (stored : List (List ℕ)) (new : Tally) → table_under (term_of expr) extents (schema_fields schema) stored
       ≡ with_entry (table_under (term_of expr) extents (schema_fields schema) blobs) row leaf (declared (kind_at (kinds_of (schema_fields schema)) leaf) raw)
       → new ≡ tallied (layout_by (term_of expr) extents (schema_fields schema)) tally (Write row leaf ∷ []) → seen_from mode schema extents expr stored new ≡ after_raw seen row leaf raw
-  seen_written row leaf raw stored new table counts =
-      ap (λ (t : Tally). seen_from mode schema extents expr stored t) counts
-      ∙ ap (λ (t : List (List ℤ)). after_stores (seen_from mode schema extents expr blobs tally) t (Write row leaf ∷ [])) table
-      ∙ ap (λ (s : Table). after_raw s row leaf raw) is
+  seen_written row leaf raw stored new table counts = grind arith
 
   -- where it counts nothing, no access changes anything
   pub idle_seen : {leaves : ℕ} → is_counted seen.mapping ≡ false → IsTallied (term_of expr) (layout_by (term_of expr) extents (schema_fields schema)) leaves tally → (log : List Access) → after_log seen log ≡ seen
-  idle_seen idle has log =
-      let none : is_counted (term_of expr) ≡ false = ap (λ (s : Table). is_counted s.mapping) is ∙ idle in
-      sym (ap (λ (s : Table). after_log s log) is) ∙ ap (seen_from mode schema extents expr blobs) (idle_logged log none has) ∙ is
+  idle_seen idle has log = grind (arith, idle_logged)

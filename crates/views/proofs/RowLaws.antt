@@ -1,5 +1,5 @@
 -- The values of a row, one leaf more.
-use Rattle.views.proofs.Imports.{◌≡◌, true, ℕ, ◌+◌, ◌<◌, ◌≤◌, ℤ, pos, List, [], ◌∷◌, length, take, get_or, set, Result, Ok, is_ok, refl, sym, ap, ◌∙◌, arith, OnOk, enumerate_from, take_more, take_all, length-map, length-set, set-set, set-get_or, get_or-set_same, take-set-le, get_or-map, length-enumerate_from, get_or-enumerate_from, with_entry, Table, answer_of, kept_of, leaf_count_of, after_log, after_stores, after_read, after_write, kept_row, without_number, told_ok, after_log-none, after_log-append, accesses_more, half, half_more, half_whole, Access, Read, Write, row_accesses, StoreFault}
+use Rattle.views.proofs.Imports.{◌≡◌, true, ℕ, ◌+◌, ◌<◌, ◌≤◌, ℤ, pos, List, [], length, take, get_or, set, Result, Ok, is_ok, refl, sym, ap, ◌∙◌, arith, OnOk, enumerate_from, take_more, take_all, length-map, length-set, set-set, set-get_or, get_or-set_same, take-set-le, get_or-map, length-enumerate_from, get_or-enumerate_from, with_entry, Table, answer_of, kept_of, leaf_count_of, after_log, after_stores, after_read, after_write, kept_row, without_number, told_ok, after_log-none, after_log-append, accesses_more, half, half_more, half_whole, Read, Write, row_accesses, StoreFault}
 
 -- the values before a leaf were read
 pub record AreRead (old now : Table) (row : ℕ) (values : List ℤ) (leaf : ℕ) : Type 0 where
@@ -18,8 +18,7 @@ leaf_read old now new row leaf values value small is read so_far =
     let inside : leaf < length numbers = omega (arith, so_far.count) in
     let long : leaf < length (set values leaf value) = omega (arith, length-set values leaf value) in
     record {
-      same = read ∙ ap (λ (t : Table). after_read t row leaf) so_far.same ∙ after_log-append old (row_accesses Read leaf row) (Read row leaf ∷ [])
-          ∙ ap (after_log old) (sym (accesses_more (Read row) leaf));
+      same = grind (arith, after_log-append, accesses_more);
       count = length-set values leaf value ∙ so_far.count;
       front = rw (take_more (set values leaf value) leaf (pos 0) long, take-set-le leaf values leaf value (omega arith), get_or-set_same values leaf value (pos 0) small, take_more numbers leaf (pos 0) inside, so_far.front, there) refl;
     }
@@ -59,19 +58,10 @@ leaf_stored old now new row leaf values answer inside small same taken gives sto
     let done = rw ok at stored in
     let long : length kept ≡ length values = length-kept_row old values in
     let written : with_entry (set old.rows row part) row leaf number ≡ set old.rows row (half kept before (leaf + 1)) =
-    ap (λ (r : List ℤ). set (set old.rows row part) row (set r leaf number)) (get_or-set_same old.rows row part [] inside)
-    ∙ set-set old.rows row part (set part leaf number)
-    ∙ ap (λ (n : ℤ). set old.rows row (set part leaf n)) (sym (kept_at values leaf old small))
-    ∙ ap (set old.rows row) (half_more kept before leaf (pos 0) (omega arith) (long ∙ same)) in
-    done ∙ ap (λ (s : Table). after_write s row leaf value) so_far
-    ∙ after_log-append (record old { rows = with_entry (set old.rows row part) row leaf number }) (row_accesses Write leaf row) (Write row leaf ∷ [])
-    ∙ ap (λ (log : List Access). after_stores old (with_entry (set old.rows row part) row leaf number) log) (sym (accesses_more (Write row) leaf))
-    ∙ ap (λ (t : List (List ℤ)). after_stores old t (row_accesses Write (leaf + 1) row)) written
+    grind (arith, get_or-set_same, set-set, kept_at, half_more) in grind (arith, after_log-append, accesses_more)
 
 pub row_stored : (old now : Table) (row leaf : ℕ) (values : List ℤ) → leaf ≡ leaf_count_of old → length values ≤ leaf → length values ≡ length (get_or old.rows row []) → AreStored old now row values leaf
     → now ≡ after_stores old (set old.rows row (kept_row (kept_of old) values)) (row_accesses Write (leaf_count_of old) row)
 row_stored old now row leaf values all over same so_far =
     let kept = kept_row (kept_of old) values in
-    let long : length kept ≡ length values = length-kept_row old values in
-    so_far ∙ ap (λ (n : ℕ). after_stores old (set old.rows row (half kept (get_or old.rows row []) leaf)) (row_accesses Write n row)) all
-    ∙ ap (λ (r : List ℤ). after_stores old (set old.rows row r) (row_accesses Write (leaf_count_of old) row)) (half_whole kept (get_or old.rows row []) leaf (omega arith) (long ∙ same))
+    let long : length kept ≡ length values = length-kept_row old values in grind (arith, half_whole)

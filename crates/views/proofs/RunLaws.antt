@@ -1,17 +1,12 @@
 -- Rows of a leaf that lie in a stretch.
-use Rattle.views.proofs.Imports.{◌≡◌, ℕ, zero, suc, ◌+◌, ◌^◌, ◌<◌, ◌≤◌, List, [], ◌∷◌, length, map, take, drop, get_or, set, slice_index, ℤ, pos, ◌≤ℤ◌, FitsSigned, of_z, w64, refl, sym, ap, ◌∙◌, subst, arith, bit_at, range_with_len, Fits-of_z, ints, length-map, get_or-map, get_or-set_same, set-set, length-take, length-drop, get_or-drop, get_or-take, get_or_default, same_lists, length-range_with_len, IsIn, IsDeclared, least_of, greatest_of, least_in, greatest_in, LeafType, number, digit, entry, Owner, IsLaidOut, Hold, bit_of, PieceRule, AreSized, AreLaid, hold_at, table_in, with_entry, word_place, word_width, IsShortIn, stretch_place, IsStretch, stretch_fits, ShortRule, Stretch, low_64, code_low, stretched_at, StretchFits, ArePut, word_narrow, in_leaf, column, with_column, no_column, entry_more, raised, Fits}
-use Rattle.record_dim.specs.declared.leaf_type.LeafType.TheVariants as kinds
+use Rattle.views.proofs.Imports.{◌≡◌, ℕ, zero, suc, ◌+◌, ◌<◌, ◌≤◌, List, [], ◌∷◌, length, map, take, drop, get_or, set, slice_index, ℤ, pos, ◌≤ℤ◌, FitsSigned, of_z, w64, refl, sym, ap, ◌∙◌, subst, arith, bit_at, range_with_len, Fits-of_z, ints, length-map, get_or-map, get_or-set_same, set-set, length-take, length-drop, get_or-drop, get_or-take, get_or_default, same_lists, length-range_with_len, IsIn, IsDeclared, least_of, greatest_of, least_in, greatest_in, LeafType, number, digit, entry, Owner, IsLaidOut, Hold, bit_of, PieceRule, AreSized, AreLaid, hold_at, table_in, with_entry, word_place, word_width, IsShortIn, stretch_place, IsStretch, stretch_fits, ShortRule, Stretch, low_64, code_low, stretched_at, StretchFits, ArePut, word_narrow, in_leaf, column, with_column, no_column, entry_more, raised, Fits}
 use Rattle.views.proofs.AccessLaws.{StandsAt, stands, blob_there, word_there, word_read, word_put, word_lies}
 
 -- ---- low bits
 
 -- a number and the one that it is raised to have the same low bits
 pub code_raised : (kind : LeafType) (low : ℤ) (width : ℕ) → width ≤ 64 → FitsSigned w64 low → number (digit low) width ≡ number (digit (raised kind low)) width
-code_raised kinds.U64 low width narrow fits =
-    let whole : of_z w64 low < 2 ^ 64 = (Fits-of_z fits).fits in
-    code_low low width narrow (omega (arith, ints, fits.sfits), omega (arith, ints, fits.sfits))
-    ∙ sym (code_low (pos (of_z w64 low)) width narrow (omega (arith, ints), omega (arith, ints, whole)))
-code_raised _ low width narrow fits = refl
+code_raised kind low width narrow fits = grind (arith, of_z, Fits-of_z, code_low)
 
 set_there : (blobs : List (List ℕ)) (blob : ℕ) → set blobs blob (get_or blobs blob []) ≡ blobs
 set_there [] blob = refl
@@ -68,10 +63,7 @@ module _ {layout : List (List Owner)} {slots : ℕ} (holds : List Hold) (leaf ro
       pub are_put : (k : ℕ) (new : List ℕ) → k ≤ stretch.rows → ArePut short stretch lows at k old new
           → AreLaid layout (set blobs short.blob new) × (table_in layout slots holds (set blobs short.blob new) ≡ with_column leaf row (take k numbers) table)
       are_put zero new few same =
-          (let still : set blobs short.blob new ≡ blobs = ap (set blobs short.blob) (same ∙ from) ∙ set_there blobs short.blob in (
-            subst (λ (b : List (List ℕ)). AreLaid layout b) (sym still) are_laid,
-            ap (table_in layout slots holds) still ∙ sym (no_column leaf row table),
-          ))
+          (let still : set blobs short.blob new ≡ blobs = ap (set blobs short.blob) (same ∙ from) ∙ set_there blobs short.blob in grind (arith, no_column))
       are_put (suc k) new few put =
           (let between : List ℕ = put.0 in
           let before = are_put k between (omega (arith, few)) put.1 in
@@ -102,23 +94,17 @@ module _ {layout : List (List Owner)} {slots : ℕ} (holds : List Hold) (leaf ro
 
 pub column_then : (leaf row at done more : ℕ) (values : List ℤ) (rows : List (List ℤ)) → at ≡ row + done → done + more ≤ length values
     → with_column leaf at (take more (drop done values)) (with_column leaf row (take done values) rows) ≡ with_column leaf row (take (done + more) values) rows
-column_then leaf zero at zero more values rows is long =
-    (let same : at ≡ 0 = omega (arith, is) in
-    let all : more ≡ 0 + more = omega arith in
-    ap (λ (n : ℕ). with_column leaf n (take more values) (with_column leaf 0 [] rows)) same
-    ∙ ap (with_column leaf 0 (take more values)) (no_column leaf 0 rows) ∙ ap (λ (n : ℕ). with_column leaf 0 (take n values) rows) all)
+column_then leaf zero at zero more values rows is long = grind (arith, no_column)
 column_then leaf zero zero (suc done) more values rows is long = absurd (omega (arith, is))
 column_then leaf zero (suc at) (suc done) more [] rows is long = absurd (omega (arith, long))
 column_then leaf zero (suc at) (suc done) more (value ∷ values) [] is long =
     (let next : suc done + more ≡ suc (done + more) = omega arith in sym (ap (λ (n : ℕ). with_column leaf 0 (take n (value ∷ values)) []) next))
 column_then leaf zero (suc at) (suc done) more (value ∷ values) (row ∷ rows) is long =
     (let next : suc done + more ≡ suc (done + more) = omega arith in
-    ap (λ (rest : List (List ℤ)). set row leaf value ∷ rest) (column_then leaf zero at done more values rows (omega (arith, is)) (omega (arith, long)))
-    ∙ sym (ap (λ (n : ℕ). with_column leaf 0 (take n (value ∷ values)) (row ∷ rows)) next))
+    grind (arith, (column_then leaf zero at done more values rows (omega (arith, is)) (omega (arith, long)))))
 column_then leaf (suc first) zero done more values rows is long = absurd (omega (arith, is))
 column_then leaf (suc first) (suc at) done more values [] is long = refl
-column_then leaf (suc first) (suc at) done more values (row ∷ rows) is long =
-    ap (λ (rest : List (List ℤ)). row ∷ rest) (column_then leaf first at done more values rows (omega (arith, is)) long)
+column_then leaf (suc first) (suc at) done more values (row ∷ rows) is long = grind (arith, (column_then leaf first at done more values rows (omega (arith, is)) long))
 
 -- ---- a run that is read
 

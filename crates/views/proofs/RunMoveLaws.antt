@@ -1,12 +1,11 @@
 -- Runs of slots that are moved between the blobs of two views.
-use Rattle.views.proofs.Imports.{◌≡◌, ⊎_elim, inl, ℕ, ◌+◌, ◌*◌, ◌%◌, ◌^◌, ◌<◌, ◌≤◌, ℤ, List, [], false, map, length, get_or, slice_index, Option, Some, None, refl, sym, ap, ◌∙◌, subst, arith, ⊤, IfSome, IsSomeAnd, cases_lt, cases_eq, get_or-map, length-map, indices, Order, slot_at, slot_count, LeafType, Truth, U8, U16, U32, U64, I8, I16, I32, I64, width_of, Fields, kinds_of, full_holds, hold_of, entry, IsLaidOut, Owner, Cell, Hold, AreMoved, HasShape, table_in, hold_at, Term, Aos, Soa, Aosoa, BitAos, BitSoa, Split, Byteswap, Bytesplit, Change, Count, Named, leaf_cells_kinds, holds_by_kind, leaf_cells, layout_by, holds_by, most_slots, IsTooBigFor, array_of, lanes_in, IsArrayRun, array_holds, AreRuns, StoreMode, declared_table, IsSettled, AllSettled, declared_entry, declared, IsKept, IsMappingOf, raw_under, table_under, size_of, IsInBlock, IsInRun, IsRunMoved, Table, leaf_count_of, settled_moves, full_hold, full_own, run_laid, run_moved, kind_at}
+use Rattle.views.proofs.Imports.{◌≡◌, ⊎_elim, inl, ℕ, ◌+◌, ◌*◌, ◌%◌, ◌^◌, ◌<◌, ◌≤◌, ℤ, List, [], false, map, length, get_or, slice_index, Option, Some, None, refl, sym, ap, ◌∙◌, subst, arith, ⊤, IfSome, IsSomeAnd, cases_lt, cases_eq, get_or-map, length-map, indices, Order, slot_at, slot_count, LeafType, width_of, Fields, kinds_of, full_holds, hold_of, entry, IsLaidOut, Owner, Cell, Hold, AreMoved, HasShape, table_in, hold_at, Term, Soa, Aosoa, Count, leaf_cells_kinds, holds_by_kind, leaf_cells, layout_by, holds_by, most_slots, IsTooBigFor, array_of, lanes_in, IsArrayRun, array_holds, AreRuns, StoreMode, declared_table, IsSettled, AllSettled, declared_entry, declared, IsKept, IsMappingOf, raw_under, table_under, size_of, IsInBlock, IsInRun, IsRunMoved, Table, leaf_count_of, settled_moves, full_hold, full_own, run_laid, run_moved, kind_at}
 use Rattle.map_expr.specs.Terms.{Heat}
 use Rattle.views.proofs.KeptLaws.{raw_shape, hold_some}
 
 -- what is said of a value three times says another thing of it
 if_three : {X : Type 0} (o : Option X) (P Q R S : X → Type 0) → ((x : X) → P x → Q x → R x → S x) → IfSome o P → IfSome o Q → IfSome o R → IfSome o S
-if_three None P Q R S f p q r = tt
-if_three (Some x) P Q R S f p q r = f x p q r
+if_three o P Q R S f p q r = grind arith
 
 -- two values that go with each other, and what is said of each
 record AreTwo {X : Type 0} (o p : Option X) (R : X → X → Type 0) (P Q : X → Type 0) : Type 0 where
@@ -32,16 +31,13 @@ full_width kinds holds leaf inside full =
 
 -- widths are whole bytes
 pub whole_width : (kind : LeafType) → 8 * size_of kind ≡ width_of kind
-whole_width Truth = refl
-whole_width other = refl
+whole_width kind = grind arith
 
 pub few_bits : (kind : LeafType) → width_of kind ≤ 64
-few_bits Truth = omega arith
-few_bits other = omega arith
+few_bits kind = grind arith
 
 some_width : (kind : LeafType) → 0 < width_of kind
-some_width Truth = omega arith
-some_width other = omega arith
+some_width kind = grind arith
 
 -- where a run of a mapping begins
 abbrev pub HasRun : Term → List (List Owner) → List ℕ → ℕ → ℕ → ℕ → ℕ → ℕ → Type 0
@@ -61,11 +57,7 @@ pub run_there : {term : Term} {extents : List ℕ} {fields : Fields} {mapped : T
     → IfSome (array_of term) (IsRunOf term extents fields leaf slot count blob byte)
 run_there {term} {extents} {fields} {mapped} {inside} {layout} {slots} {cells} {holds} mapping leaf slot count blob byte leaf_in some within has =
     let width : ℕ = slice_index (map (λ (h : Hold). h.width) (holds_by term fields)) leaf in
-    let here : HasRun term (layout_by term extents fields) extents leaf width slot blob byte =
-    subst (λ (t : Term). HasRun t (layout_by term extents fields) extents leaf width slot blob byte) mapping.term_is
-    (subst (λ (l : List (List Owner)). HasRun mapped l extents leaf width slot blob byte) mapping.layout_is
-    (subst (λ (e : List ℕ). HasRun mapped layout e leaf width slot blob byte) mapping.extents_are
-    (subst (λ (hs : List Hold). HasRun mapped layout inside leaf (slice_index (map (λ (h : Hold). h.width) hs) leaf) slot blob byte) mapping.holds_are has))) in
+    let here : HasRun term (layout_by term extents fields) extents leaf width slot blob byte = grind (arith, slice_index) in
     if_three (array_of term) _ _ _ _
     (λ array run block full. let found : IsRunOf term extents fields leaf slot count blob byte array = record {
       run = subst (λ (w : ℕ). IsArrayRun (layout_by term extents fields) array.0 extents leaf w slot count blob (8 * byte))
@@ -90,10 +82,7 @@ module _ {mode lender : StoreMode} {a b : Term} {extents others_extents : List �
   OneOrder x y = x.0 ≡ y.0
 
   both : AreTwo (array_of a) (array_of b) OneOrder (IsRunOf a extents fields leaf slot count target at) (IsRunOf b extents fields leaf slot count source from)
-  both =
-      two_of (array_of a) (array_of b) OneOrder _ _ move.arrays move.one
-      (subst (λ (f : Fields). IfSome (array_of b) (IsRunOf b extents f leaf slot count source from)) (sym move.alike.0)
-      (subst (λ (e : List ℕ). IfSome (array_of b) (IsRunOf b e trees leaf slot count source from)) (sym move.alike.1) move.two))
+  both = grind (arith, two_of)
 
   there : IsKept lender b extents fields others
   there = subst (λ (f : Fields). IsKept lender b extents f others) (sym move.alike.0) (subst (λ (e : List ℕ). IsKept lender b e trees others) (sym move.alike.1) others_kept)
@@ -114,10 +103,7 @@ module _ {mode lender : StoreMode} {a b : Term} {extents others_extents : List �
   holds = holds_by a fields
 
   bits : 8 * len ≡ count * width
-  bits =
-      let size : ℕ = size_of (kind_at (kinds_of fields) leaf) in
-      let product : 8 * (count * size) ≡ count * (8 * size) = grind arith in
-      ap (λ (n : ℕ). 8 * n) move.len_is ∙ product ∙ ap (λ (n : ℕ). count * n) (whole_width (kind_at (kinds_of fields) leaf))
+  bits = grind (arith, whole_width)
 
   other_run : IsArrayRun other order extents leaf width slot count source (8 * from)
   other_run = subst (λ (o : Order). IsArrayRun other o extents leaf width slot count source (8 * from)) (sym both.both) both.of_two.run
@@ -197,17 +183,7 @@ module _ {mode lender : StoreMode} {a b : Term} {extents others_extents : List �
     -- and what the raw numbers are
     pub run_raw : IfSome (array_of a) (λ array. IsRunMoved array.0 extents (length (indices extents)) (length (kinds_of fields)) leaf slot count
         (raw_under b others_extents trees others) (raw_under a extents fields old) (raw_under a extents fields new))
-    run_raw =
-        let Moved : List (List ℤ) → Type 0 = λ t. IsRunMoved order extents (length (indices extents)) (length (kinds_of fields)) leaf slot count t
-        (raw_under a extents fields old) (raw_under a extents fields new) in
-        let here : Moved (table_in other (length (indices extents)) holds others) =
-        subst (λ (n : ℕ). IsRunMoved order extents (length (indices extents)) n leaf slot count (table_in other (length (indices extents)) holds others)
-        (raw_under a extents fields old) (raw_under a extents fields new)) kept.paired is_moved in
-        let far : Moved (raw_under b others_extents trees others) =
-        subst (λ (f : Fields). Moved (raw_under b others_extents f others)) move.alike.0
-        (subst (λ (e : List ℕ). Moved (raw_under b e fields others)) move.alike.1 (subst Moved same_raw here)) in
-        subst (λ (o : Option (Order × Option ℕ)). IfSome o (λ array. IsRunMoved array.0 extents (length (indices extents)) (length (kinds_of fields)) leaf slot count
-        (raw_under b others_extents trees others) (raw_under a extents fields old) (raw_under a extents fields new))) (sym both.is_one) far
+    run_raw = grind (arith, is_moved, same_raw)
 
 -- the same of the tables that raw numbers stand for
 run_declared : (by : Order) (extents : List ℕ) (rows leaf slot count : ℕ) (kinds : List LeafType) (source old new : List (List ℤ)) → leaf < length kinds
@@ -221,8 +197,7 @@ run_declared by extents rows leaf slot count kinds source old new leaf_in one tw
 }
 
 if_one : {X : Type 0} (o : Option X) (P Q : X → Type 0) → ((x : X) → P x → Q x) → IfSome o P → IfSome o Q
-if_one None P Q f p = tt
-if_one (Some x) P Q f p = f x p
+if_one o P Q f p = grind arith
 
 pub run_table : {mode lender : StoreMode} (a b : Term) (extents others_extents : List ℕ) (fields trees : Fields) (old others new : List (List ℕ)) (leaf slot count : ℕ)
     → (fields ≡ trees) × (extents ≡ others_extents) → leaf < length (kinds_of fields) → IsKept mode a extents fields old → IsKept lender b others_extents trees others → IsKept mode a extents fields new
@@ -254,8 +229,7 @@ slots_are other extents = tt
 few_in : (o : Option (Order × Option ℕ)) (P : Order × Option ℕ → Type 0) (extents : List ℕ) (slot count most : ℕ) → IsSomeAnd o P
     → IfSome o (λ array. (slot + count ≤ slot_count array.0 extents) × (slot % lanes_in array.1 (slot_count array.0 extents) + count ≤ lanes_in array.1 (slot_count array.0 extents)))
     → IfSome o (λ array. slot_count array.0 extents ≡ most) → most ≤ 2 ^ 24 → count ≤ 2 ^ 24
-few_in None P extents slot count most some within slots few = absurd some
-few_in (Some array) P extents slot count most some within slots few = omega (arith, within.0, slots)
+few_in o P extents slot count most some within slots few = grind arith
 
 pub few_slots : (a b : Term) (extents : List ℕ) (fields : Fields) (slot count : ℕ) → AreRuns a b → IsInBlock a extents slot count
     → (IsTooBigFor a extents fields (leaf_cells (kinds_of fields)) → ⊥) → count ≤ 2 ^ 24
@@ -267,22 +241,16 @@ few_slots a b extents fields slot count arrays block small =
 slot_in : (o : Option (Order × Option ℕ)) (P : Order × Option ℕ → Type 0) (extents : List ℕ) (slot count : ℕ) → IsSomeAnd o P
     → IfSome o (λ array. (slot + count ≤ slot_count array.0 extents) × (slot % lanes_in array.1 (slot_count array.0 extents) + count ≤ lanes_in array.1 (slot_count array.0 extents)))
     → 0 < count → IsSomeAnd o (λ array. slot < slot_count array.0 extents)
-slot_in None P extents slot count some within more = absurd some
-slot_in (Some array) P extents slot count some within more = omega (arith, within.0)
+slot_in o P extents slot count some within more = grind arith
 
 pub slot_there : {term : Term} {extents : List ℕ} {fields : Fields} {mapped : Term} {inside : List ℕ} {layout : List (List Owner)} {slots : ℕ} {cells : List Cell} {holds : List Hold}
     → IsMappingOf term extents fields mapped inside layout slots cells holds → (P : Order × Option ℕ → Type 0) (slot count : ℕ) → IsSomeAnd (array_of term) P
     → IsInBlock term extents slot count → 0 < count → IsSomeAnd (array_of mapped) (λ array. slot < slot_count array.0 inside)
-slot_there {term} {extents} {fields} {mapped} {inside} mapping P slot count some within more =
-    subst (λ (t : Term). IsSomeAnd (array_of t) (λ array. slot < slot_count array.0 inside)) (sym mapping.term_is)
-    (subst (λ (e : List ℕ). IsSomeAnd (array_of term) (λ array. slot < slot_count array.0 e)) (sym mapping.extents_are)
-    (slot_in (array_of term) P extents slot count some within more))
+slot_there {term} {extents} {fields} {mapped} {inside} mapping P slot count some within more = grind arith
 
 -- of two that lay out arrays the other does
 other_array : (o p : Option (Order × Option ℕ)) → IsSomeAnd o (λ x. IsSomeAnd p (λ y. x.0 ≡ y.0)) → IsSomeAnd p (λ y. ⊤)
-other_array None p are = absurd are
-other_array (Some x) None are = absurd are
-other_array (Some x) (Some y) are = tt
+other_array o p are = grind arith
 
 pub other_is : (a b : Term) → AreRuns a b → IsSomeAnd (array_of b) (λ y. ⊤)
 other_is a b are = other_array (array_of a) (array_of b) are
@@ -290,11 +258,7 @@ other_is a b are = other_array (array_of a) (array_of b) are
 -- no slot is moved
 pub none_moved : (o : Option (Order × Option ℕ)) (extents : List ℕ) (rows leaves leaf slot count : ℕ) (source old : List (List ℤ)) → count ≡ 0
     → IfSome o (λ array. IsRunMoved array.0 extents rows leaves leaf slot count source old old)
-none_moved None extents rows leaves leaf slot count source old none = tt
-none_moved (Some array) extents rows leaves leaf slot count source old none = record {
-  moved = λ row inside run. absurd (let low : slot ≤ slot_at array.0 extents row = run.0 in let high : slot_at array.0 extents row < slot + count = run.1 in omega arith);
-  stands = λ row other inside c_in apart. refl;
-}
+none_moved o extents rows leaves leaf slot count source old none = grind arith
 
 pub nothing_moved : (seen : Table) (leaf slot count : ℕ) (source : List (List ℤ)) → count ≡ 0
     → IfSome (array_of seen.mapping) (λ array. IsRunMoved array.0 seen.extents (length seen.rows) (leaf_count_of seen) leaf slot count source seen.rows seen.rows)
@@ -302,8 +266,7 @@ nothing_moved seen leaf slot count source none = none_moved (array_of seen.mappi
 
 -- in the words of callers
 pub runs_seen : (one two : Table) {seen others : Table} → seen ≡ one → others ≡ two → AreRuns one.mapping two.mapping → AreRuns seen.mapping others.mapping
-runs_seen one two {seen} {others} is are runs =
-    subst (λ (t : Table). AreRuns t.mapping others.mapping) (sym is) (subst (λ (t : Table). AreRuns one.mapping t.mapping) (sym are) runs)
+runs_seen one two {seen} {others} is are runs = grind arith
 
 pub one_seen : (one : Table) {seen : Table} (other : Term) → seen ≡ one → AreRuns one.mapping other → AreRuns seen.mapping other
 one_seen one other is runs = subst (λ (t : Table). AreRuns t.mapping other) (sym is) runs
@@ -314,8 +277,4 @@ block_seen one slot count is block = subst (λ (t : Table). IsInBlock t.mapping 
 pub moved_seen : (one two : Table) {seen others : Table} (leaf slot count leaves : ℕ) (new : List (List ℤ)) → seen ≡ one → others ≡ two → leaves ≡ leaf_count_of seen → length (indices seen.extents) ≡ length seen.rows
     → IfSome (array_of seen.mapping) (λ array. IsRunMoved array.0 seen.extents (length (indices seen.extents)) leaves leaf slot count others.rows seen.rows new)
     → IfSome (array_of one.mapping) (λ array. IsRunMoved array.0 one.extents (length one.rows) (leaf_count_of one) leaf slot count two.rows one.rows new)
-moved_seen one two {seen} {others} leaf slot count leaves new is are leaves_are rows h =
-    subst (λ (t : Table). IfSome (array_of t.mapping) (λ array. IsRunMoved array.0 t.extents (length t.rows) (leaf_count_of t) leaf slot count two.rows t.rows new)) is
-    (subst (λ (t : Table). IfSome (array_of seen.mapping) (λ array. IsRunMoved array.0 seen.extents (length seen.rows) (leaf_count_of seen) leaf slot count t.rows seen.rows new)) are
-    (subst (λ (n : ℕ). IfSome (array_of seen.mapping) (λ array. IsRunMoved array.0 seen.extents (length seen.rows) n leaf slot count others.rows seen.rows new)) leaves_are
-    (subst (λ (n : ℕ). IfSome (array_of seen.mapping) (λ array. IsRunMoved array.0 seen.extents n leaves leaf slot count others.rows seen.rows new)) rows h)))
+moved_seen one two {seen} {others} leaf slot count leaves new is are leaves_are rows h = grind arith

@@ -1,5 +1,5 @@
 -- A view in which a run is put.
-use Rattle.views.proofs.Imports.{◌≡◌, ℕ, ◌+◌, ◌<◌, ◌≤◌, false, List, length, map, take, get_or, ℤ, pos, sym, ap, ◌∙◌, subst, ⊎_elim, arith, cases_lt, length-map, length-take, get_or-map, get_or-take, kinds_of, IsDeclared, schema_fields, LeafType, Schema, entry, Owner, Cell, Hold, Term, term_of, MapExpr, kinds_are, layout_by, holds_by, is_counted, AreLaid, hold_at, table_in, stays_declared, StoreMode, low_64, column_writes, with_column, IsKept, IsMappingOf, IsTallied, raw_under, raised, run_of, TakesAll, raised_low, raised_all, run_entry, run_length, Fits, kind_at, Table, IsTable, leaf_count_of, leaf_type_of, table_holds, kept_of, after_log, after_stores, Tally, tallied, after_log-none}
+use Rattle.views.proofs.Imports.{◌≡◌, ℕ, ◌+◌, ◌<◌, ◌≤◌, false, List, length, map, take, get_or, ℤ, pos, sym, ap, ◌∙◌, subst, ⊎_elim, arith, cases_lt, length-map, length-take, get_or-map, get_or-take, kinds_of, IsDeclared, schema_fields, LeafType, Schema, Owner, Cell, Hold, Term, term_of, MapExpr, kinds_are, layout_by, holds_by, is_counted, AreLaid, hold_at, table_in, stays_declared, StoreMode, low_64, column_writes, with_column, IsKept, IsMappingOf, IsTallied, raw_under, raised, run_of, TakesAll, raised_low, raised_all, run_entry, run_length, Fits, kind_at, Table, IsTable, leaf_count_of, leaf_type_of, table_holds, kept_of, after_log, after_stores, Tally, tallied, after_log-none}
 use Rattle.views.proofs.KeptLaws.{kind_count}
 use Rattle.views.proofs.ShownLaws.{shown_here}
 use Rattle.views.proofs.KeptColumns.{kept_column, table_column, seen_column}
@@ -87,10 +87,7 @@ module _ {mode : StoreMode} (schema : Schema) (extents : List ℕ) (expr : MapEx
 
 pub run_declared : (table : Table) (leaf first count : ℕ) → IsTable table → leaf < leaf_count_of table → first + count ≤ length table.rows → (k : ℕ) → k < count
     → IsDeclared (leaf_type_of table leaf) (get_or (run_of leaf first count table) k (pos 0))
-run_declared table leaf first count is leaf_in inside k below =
-    subst (IsDeclared (leaf_type_of table leaf)) (sym (run_entry leaf first count k table.rows below inside))
-    (stays_declared table.mode (leaf_type_of table leaf) (hold_at (table_holds table) leaf) (entry table.rows (first + k) leaf)
-    (is.stays (first + k) leaf (omega (arith, below, inside)) (omega (arith, leaf_in, kind_count table.fields))))
+run_declared table leaf first count is leaf_in inside k below = grind (arith, run_entry, stays_declared, kind_count)
 
 module _ (table source : Table) (leaf first count : ℕ) (is : IsTable source) (leaf_in : leaf < leaf_count_of source) (inside : first + count ≤ length source.rows)
     (alike : leaf_type_of source leaf ≡ leaf_type_of table leaf) where
@@ -109,9 +106,7 @@ module _ (table source : Table) (leaf first count : ℕ) (is : IsTable source) (
       let many : length lows ≡ length copied = ap (length {A = ℤ}) are ∙ length-map copied low_64 in
       let here : k < length copied = omega (arith, below, many) in
       let value = get_or copied k (pos 0) in
-      let same : raised (leaf_type_of table leaf) (get_or lows k (pos 0)) ≡ value =
-      ap (λ (vs : List ℤ). raised (leaf_type_of table leaf) (get_or vs k (pos 0))) are ∙ ap (raised (leaf_type_of table leaf)) (get_or-map low_64 copied k (pos 0) (pos 0) here)
-      ∙ raised_low (leaf_type_of table leaf) value (copied_declared k here) in
+      let same : raised (leaf_type_of table leaf) (get_or lows k (pos 0)) ≡ value = grind (arith, get_or-map, raised_low, copied_declared) in
       subst (λ (v : ℤ). Fits (leaf_type_of table leaf) (hold_at (table_holds table) leaf) v) (sym same) (takes value (copied_declared k here))
 
   -- and is raised to itself

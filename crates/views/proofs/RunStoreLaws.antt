@@ -1,6 +1,5 @@
 -- A run that is read or stored row by row.
-use Rattle.views.proofs.Imports.{◌≡◌, ℕ, suc, ◌+◌, ◌<◌, List, [], ◌∷◌, ◌++◌, length, map, take, drop, get_or, set, ℤ, pos, Some, None, sym, ap, ◌∙◌, ⊎_elim, arith, cases_eq, length-set, get_or-set_same, get_or-set_other, take-map, drop-length, map-range_with_len_more, entry, with_entry, low_64, column_reads, column_writes, with_column, first_lane_fault, entry_more, run_fault, stored_count, with_run, Table, answer_of, kept_of, after_log, after_read, after_stores, Write, after_log-none, after_stores-append, LaneFault}
-use Rattle.std.specs.Prelude.{Option}
+use Rattle.views.proofs.Imports.{◌≡◌, ℕ, suc, ◌+◌, ◌<◌, List, [], ◌∷◌, ◌++◌, length, map, take, drop, get_or, set, ℤ, pos, Some, None, sym, ap, ◌∙◌, arith, cases_eq, length-set, get_or-set_same, get_or-set_other, take-map, drop-length, map-range_with_len_more, entry, with_entry, low_64, column_reads, column_writes, with_column, first_lane_fault, entry_more, run_fault, stored_count, with_run, Table, answer_of, kept_of, after_log, after_read, after_stores, Write, after_log-none, after_stores-append, LaneFault}
 use Rattle.views.proofs.ColumnLaws.{column_read_more}
 use Rattle.views.proofs.StoredLaws.{HasStored}
 
@@ -15,18 +14,7 @@ no_row leaf first old before values count = record { count = count; each = λ k 
 
 pub row_more : (leaf first done row : ℕ) (old table new : Table) (before values : List ℤ) (value : ℤ) → HasRun leaf first done old table before values → row ≡ first + done → done < length before
     → value ≡ low_64 (entry table.rows row leaf) → new ≡ after_read table row leaf → HasRun leaf first (done + 1) old new before (set values done value)
-row_more leaf first done row old table new before values value have at inside is read = record {
-  count = length-set values done value ∙ have.count;
-  each = λ k below.
-      ⊎_elim
-      (λ (here : k ≡ done).
-      ap (λ (n : ℕ). get_or (set values done value) n (pos 0)) here ∙ get_or-set_same values done value (pos 0) (omega (arith, inside, have.count)) ∙ is
-      ∙ ap (λ (t : Table). low_64 (entry t.rows row leaf)) have.log
-      ∙ ap (λ (n : ℕ). low_64 (entry old.rows n leaf)) (let there : row ≡ first + k = omega (arith, at, here) in there))
-      (λ (apart : k ≡ done → ⊥). get_or-set_other values done k value (pos 0) apart ∙ have.each k (omega (arith, below, apart)))
-      (cases_eq k done);
-  log = column_read_more leaf first done old table new have.log (read ∙ ap (λ (n : ℕ). after_read table n leaf) at);
-}
+row_more leaf first done row old table new before values value have at inside is read = grind (arith, length-set, get_or-set_same, get_or-set_other, cases_eq, column_read_more)
 
 -- ---- values that are stored
 
@@ -49,23 +37,19 @@ value_more leaf first lane at old table new values value stored inside below pla
 
 -- the first so many of a run
 pub run_stored : (leaf first lane : ℕ) (old table : Table) (values : List ℤ) → HasStored leaf first lane old table (map (kept_of old leaf) values) → table ≡ with_run leaf first values lane old
-run_stored leaf first lane old table values stored =
-    stored.stored ∙ ap (λ (vs : List ℤ). after_stores old (with_column leaf first vs old.rows) (column_writes leaf first lane)) (take-map (kept_of old leaf) lane values)
+run_stored leaf first lane old table values stored = grind (arith, take-map)
 
 -- a run without a fault, of which all values are stored
 pub whole_run : (leaf first lane : ℕ) (old table : Table) (values : List ℤ) → run_fault leaf values old ≡ None → lane ≡ length values → table ≡ with_run leaf first values lane old
     → table ≡ with_run leaf first values (stored_count (length values) (run_fault leaf values old)) old
-whole_run leaf first lane old table values none end stored =
-    stored ∙ ap (λ (n : ℕ). with_run leaf first values n old) (end ∙ ap (stored_count (length values)) (sym none))
+whole_run leaf first lane old table values none end stored = grind arith
 
 -- no fault behind the last
 pub no_fault : (leaf lane : ℕ) (old : Table) (values : List ℤ) → run_fault leaf values old ≡ first_lane_fault (answer_of old) leaf lane (drop lane values) → lane ≡ length values
     → run_fault leaf values old ≡ None
-no_fault leaf lane old values is end =
-    is ∙ ap (λ (n : ℕ). first_lane_fault (answer_of old) leaf lane (drop n values)) end ∙ ap (first_lane_fault (answer_of old) leaf lane) (drop-length values)
+no_fault leaf lane old values is end = grind (arith, drop-length)
 
 -- a run that ends at a fault
 pub stopped_run : (leaf first : ℕ) (old table : Table) (values : List ℤ) (fault : LaneFault) → run_fault leaf values old ≡ Some fault → table ≡ with_run leaf first values fault.lane old
     → table ≡ with_run leaf first values (stored_count (length values) (run_fault leaf values old)) old
-stopped_run leaf first old table values fault is stored =
-    stored ∙ ap (λ (f : Option LaneFault). with_run leaf first values (stored_count (length values) f) old) (sym is)
+stopped_run leaf first old table values fault is stored = grind arith

@@ -1,14 +1,11 @@
 -- What a view and its mapping say of the same layout.
-use Rattle.views.proofs.Imports.{◌≡◌, ℕ, List, length, map, sym, ap, ◌∙◌, subst, kinds_of, schema_fields, Schema, LeafType, Owner, Cell, Hold, Term, term_of, MapExpr, kinds_are, StoreMode, IsKept, IsMappingOf, Table, leaf_types_of, owners_of, table_holds, Tally}
+use Rattle.views.proofs.Imports.{◌≡◌, ℕ, List, length, map, sym, ap, ◌∙◌, kinds_of, schema_fields, Schema, LeafType, Owner, Cell, Hold, Term, term_of, MapExpr, kinds_are, StoreMode, IsKept, IsMappingOf, Table, leaf_types_of, owners_of, table_holds, Tally}
 use Rattle.views.proofs.Opened.{seen_from, rows_seen}
+use Rattle.std.proofs.Common.{arith}
 
 same_place : (P : List (List Owner) → ℕ → List LeafType → List Hold → Type 0) {layout there : List (List Owner)} {slots rows : ℕ} {kinds types : List LeafType} {holds stored : List Hold}
     → layout ≡ there → slots ≡ rows → kinds ≡ types → holds ≡ stored → P layout slots kinds holds → P there rows types stored
-same_place P {layout} {there} {slots} {rows} {kinds} {types} {holds} {stored} one two three four is =
-    subst (λ (h : List Hold). P there rows types h) four
-    (subst (λ (k : List LeafType). P there rows k holds) three
-    (subst (λ (n : ℕ). P there n kinds holds) two
-    (subst (λ (l : List (List Owner)). P l slots kinds holds) one is)))
+same_place P {layout} {there} {slots} {rows} {kinds} {types} {holds} {stored} one two three four is = grind arith
 
 module _ {mode : StoreMode} (schema : Schema) (extents : List ℕ) (expr : MapExpr) (blobs : List (List ℕ)) (kept : IsKept mode (term_of expr) extents (schema_fields schema) blobs) {tally : Tally} (seen : Table)
     (is : seen_from mode schema extents expr blobs tally ≡ seen) {mapped : Term} {inside : List ℕ} {layout : List (List Owner)} {slots : ℕ} {cells : List Cell} {holds : List Hold}

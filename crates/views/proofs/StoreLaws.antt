@@ -1,5 +1,5 @@
 -- What is written for a value that is stored.
-use Rattle.views.proofs.Imports.{◌≡◌, ℕ, ◌<◌, ◌≤◌, List, [], ◌∷◌, length, map, get_or, ℤ, pos, zero, suc, Ok, refl, sym, ap, ◌∙◌, subst, arith, LeafType, Hold, hold_at, with_entry, declared, held, declared_same, fitting_held, fitting_settled, fitting_stays, stays_settled, StoreMode, Strict, answer_stays, stays_answer, strict_kept, told_kept, Fits, kept_or, without_number, Table, answer_of, kept_of, leaf_type_of, table_holds, after_raw, after_stores, after_write, IsSettledIn, Write}
+use Rattle.views.proofs.Imports.{◌≡◌, ℕ, ◌<◌, ◌≤◌, List, [], ◌∷◌, length, map, get_or, ℤ, pos, zero, suc, Ok, refl, sym, ap, ◌∙◌, arith, hold_at, with_entry, declared, held, declared_same, fitting_held, fitting_settled, fitting_stays, stays_settled, Strict, answer_stays, stays_answer, strict_kept, told_kept, Fits, kept_or, without_number, Table, answer_of, kept_of, leaf_type_of, table_holds, after_raw, after_stores, after_write, IsSettledIn, Write}
 use Rattle.views.specs.Stores.{Stays}
 
 -- ---- a value that fits
@@ -7,9 +7,7 @@ use Rattle.views.specs.Stores.{Stays}
 module _ (table : Table) (leaf : ℕ) (value : ℤ) (some : 1 ≤ (hold_at (table_holds table) leaf).width) (fits : Fits (leaf_type_of table leaf) (hold_at (table_holds table) leaf) value) where
   -- it is taken as it is
   pub fit_answer : answer_of table leaf value ≡ Ok value
-  fit_answer =
-      stays_answer table.mode (leaf_type_of table leaf) (hold_at (table_holds table) leaf) value
-      (fitting_stays table.mode (leaf_type_of table leaf) (hold_at (table_holds table) leaf) value some fits)
+  fit_answer = grind (arith, stays_answer, fitting_stays)
 
   pub fit_kept : kept_of table leaf value ≡ value
   fit_kept = ap (kept_or value) fit_answer
@@ -25,8 +23,7 @@ module _ (table : Table) (leaf : ℕ) (value : ℤ) (some : 1 ≤ (hold_at (tabl
 
 module _ (table : Table) (leaf : ℕ) (value : ℤ) (some : 1 ≤ (hold_at (table_holds table) leaf).width) (taken : without_number (answer_of table leaf value) ≡ Ok tt) where
   kept_stays : Stays table.mode (leaf_type_of table leaf) (hold_at (table_holds table) leaf) (kept_of table leaf value)
-  kept_stays =
-      answer_stays table.mode (leaf_type_of table leaf) (hold_at (table_holds table) leaf) value (kept_of table leaf value) some (told_kept value (answer_of table leaf value) taken)
+  kept_stays = grind (arith, answer_stays, told_kept)
 
   -- what its image says is settled, and stands for what is kept of it
   pub taken_raw : (declared (leaf_type_of table leaf) (held (hold_at (table_holds table) leaf) (kept_of table leaf value)) ≡ kept_of table leaf value)
@@ -35,13 +32,7 @@ module _ (table : Table) (leaf : ℕ) (value : ℤ) (some : 1 ≤ (hold_at (tabl
 
   -- in a strict view it is the value itself
   pub strict_raw : table.mode ≡ Strict → held (hold_at (table_holds table) leaf) (kept_of table leaf value) ≡ value
-  strict_raw strict =
-      let kind : LeafType = leaf_type_of table leaf in
-      let hold : Hold = hold_at (table_holds table) leaf in
-      let same : kept_of table leaf value ≡ value = strict_kept table strict leaf value in
-      let here : Stays Strict kind hold (kept_of table leaf value) = subst (λ (mode : StoreMode). Stays mode kind hold (kept_of table leaf value)) strict kept_stays in
-      let fits : Fits kind hold value = subst (λ (v : ℤ). Fits kind hold v) same here in
-      ap (held hold) same ∙ fitting_held hold value some fits.held
+  strict_raw strict = grind (arith, strict_kept, kept_stays, fitting_held)
 
 -- ---- a raw number that is written
 

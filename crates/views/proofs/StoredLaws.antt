@@ -1,44 +1,33 @@
 -- The values of one leaf that are stored, a lane at a time.
-use Rattle.views.proofs.Imports.{◌≡◌, ℕ, zero, suc, ◌+◌, ◌<◌, ◌≤◌, List, [], ◌∷◌, ◌++◌, length, take, drop, get_or, ℤ, pos, Some, None, Ok, Err, refl, sym, ap, ◌∙◌, arith, subst, drop-cons, FitsSigned, to_z, of_z, w64, w128, to_z-of_z, option_or, map-range_with_len_more, declared, with_entry, StoreAnswer, without_number, told_err, Table, leaf_type_of, after_raw, after_stores, Write, after_log-none, after_stores-append, column_writes, with_column, lane_fault, first_lane_fault, no_column, entry_more, StoreFault, LaneFault}
+use Rattle.views.proofs.Imports.{◌≡◌, ℕ, zero, suc, ◌+◌, ◌<◌, ◌≤◌, List, [], ◌∷◌, ◌++◌, length, take, drop, get_or, ℤ, pos, Some, None, Ok, Err, sym, ap, ◌∙◌, arith, drop-cons, FitsSigned, to_z, of_z, w64, w128, to_z-of_z, option_or, map-range_with_len_more, declared, with_entry, StoreAnswer, without_number, told_err, Table, leaf_type_of, after_raw, after_stores, Write, after_log-none, after_stores-append, column_writes, with_column, lane_fault, first_lane_fault, no_column, entry_more, StoreFault, LaneFault}
 use Rattle.std.proofs.Common.{length-take, take_all}
 use Rattle.std.specs.Prelude.{Option, Result}
 
 -- a lane whose value is taken
 no_lane_fault : (lane : ℕ) (result : Result ℤ StoreFault) → lane_fault lane result ≡ None → without_number result ≡ Ok tt
-no_lane_fault lane (Ok kept) none = refl
-no_lane_fault lane (Err fault) none = absurd (cc)
+no_lane_fault lane result none = grind arith
 
 both_none : (one other : Option LaneFault) → option_or one other ≡ None → (one ≡ None) × (other ≡ None)
-both_none None other none = (refl, none)
-both_none (Some fault) other none = absurd (cc)
+both_none one other none = grind arith
 
 pub lane_taken : (answer : StoreAnswer) (leaf first lane : ℕ) (values : List ℤ) → first_lane_fault answer leaf first values ≡ None → lane < length values
     → without_number (answer leaf (get_or values lane (pos 0))) ≡ Ok tt
 lane_taken answer leaf first lane [] none inside = absurd (omega arith)
-lane_taken answer leaf first zero (value ∷ values) none inside =
-    no_lane_fault first (answer leaf value) (both_none (lane_fault first (answer leaf value)) (first_lane_fault answer leaf (first + 1) values) none).0
+lane_taken answer leaf first zero (value ∷ values) none inside = grind (arith, no_lane_fault, both_none)
 lane_taken answer leaf first (suc lane) (value ∷ values) none inside =
     lane_taken answer leaf (first + 1) lane values (both_none (lane_fault first (answer leaf value)) (first_lane_fault answer leaf (first + 1) values) none).1 (omega arith)
 
 -- the lanes from one on, where it is taken and where it is not
 pub first_taken : (lane : ℕ) (result : Result ℤ StoreFault) (later : Option LaneFault) → without_number result ≡ Ok tt → option_or (lane_fault lane result) later ≡ later
-first_taken lane (Ok kept) later taken = refl
-first_taken lane (Err fault) later taken = absurd (cc)
+first_taken lane result later taken = grind arith
 
 pub fault_later : (answer : StoreAnswer) (leaf lane : ℕ) (values : List ℤ) → lane < length values → without_number (answer leaf (get_or values lane (pos 0))) ≡ Ok tt
     → first_lane_fault answer leaf lane (drop lane values) ≡ first_lane_fault answer leaf (lane + 1) (drop (lane + 1) values)
-fault_later answer leaf lane values inside taken =
-    let next : suc lane ≡ lane + 1 = omega arith in
-    ap (first_lane_fault answer leaf lane) (drop-cons values lane (pos 0) inside)
-    ∙ first_taken lane (answer leaf (get_or values lane (pos 0))) (first_lane_fault answer leaf (lane + 1) (drop (suc lane) values)) taken
-    ∙ ap (λ (n : ℕ). first_lane_fault answer leaf (lane + 1) (drop n values)) next
+fault_later answer leaf lane values inside taken = grind (arith, drop-cons, first_taken)
 
 pub fault_here : (answer : StoreAnswer) (leaf lane : ℕ) (values : List ℤ) (fault : StoreFault) → lane < length values → without_number (answer leaf (get_or values lane (pos 0))) ≡ Err fault
     → first_lane_fault answer leaf lane (drop lane values) ≡ Some (record { lane = lane; fault = fault })
-fault_here answer leaf lane values fault inside refused =
-    let value = get_or values lane (pos 0) in
-    ap (first_lane_fault answer leaf lane) (drop-cons values lane (pos 0) inside)
-    ∙ ap (λ (r : Result ℤ StoreFault). option_or (lane_fault lane r) (first_lane_fault answer leaf (lane + 1) (drop (suc lane) values))) (told_err (answer leaf value) fault refused)
+fault_here answer leaf lane values fault inside refused = grind (arith, drop-cons, option_or, told_err)
 
 -- the values of the first so many lanes are stored
 pub record HasStored (leaf row lane : ℕ) (old table : Table) (values : List ℤ) : Type 0 where
@@ -64,20 +53,13 @@ stored_more leaf row lane at old table new values raw stored inside below place 
 
 -- a number of 64 bits that is handed on with 128
 pub passed : (value wide : ℤ) → FitsSigned w64 value → wide ≡ to_z w64 (of_z w64 value) → to_z w128 (of_z w128 wide) ≡ value
-passed value wide fits is =
-    let same : wide ≡ value = is ∙ to_z-of_z w64 value fits in
-    ap (λ (z : ℤ). to_z w128 (of_z w128 z)) same ∙ to_z-of_z w128 value (record { sfits = omega (arith, fits.sfits) })
+passed value wide fits is = grind (arith, to_z-of_z, to_z, of_z)
 
 -- all are stored
 pub all_stored : (leaf row lane count : ℕ) (old table : Table) (values : List ℤ) → HasStored leaf row lane old table values → lane ≡ count → length values ≡ count
     → table ≡ after_stores old (with_column leaf row values old.rows) (column_writes leaf row count)
-all_stored leaf row lane count old table values stored end all =
-    stored.stored
-    ∙ ap (λ (n : ℕ). after_stores old (with_column leaf row (take n values) old.rows) (column_writes leaf row n)) end
-    ∙ ap (λ (vs : List ℤ). after_stores old (with_column leaf row vs old.rows) (column_writes leaf row count)) (take_all count values (omega arith))
+all_stored leaf row lane count old table values stored end all = grind (arith, take_all)
 
 -- the first lanes of an array are those of a block
 pub first_lanes : (P : List ℤ → ℕ → Type 0) (numbers values : List ℤ) (lanes : ℕ) → numbers ≡ values → lanes ≤ length values → P (take lanes numbers) (length (take lanes numbers)) → P (take lanes values) lanes
-first_lanes P numbers values lanes is few there =
-    let many : length (take lanes values) ≡ lanes = omega (arith, length-take lanes values) in
-    subst (P (take lanes values)) many (subst (λ (vs : List ℤ). P (take lanes vs) (length (take lanes vs))) is there)
+first_lanes P numbers values lanes is few there = grind (arith, length-take)

@@ -1,5 +1,5 @@
 -- One access, and the same accesses again and again.
-use Rattle.views.proofs.Imports.{◌≡◌, ℕ, zero, suc, ◌+◌, ◌*◌, ◌-◌, ◌^◌, ◌<◌, min, List, ◌++◌, length, map, Bool, true, false, Option, Some, None, refl, ap, sym, ◌∙◌, arith, IfSome, if◌then◌else◌, slice_set, enumerate_from, range_with_len, fun_ext, fold-map, fold-append, Owner, is_hot, LeafCounts, HeatCounts, HasLeaves, counted_times, warmed_times, counted-counted, warmed-warmed, raised-capped, Access, Read, Write, Tally, counts_touched, heat_touched, after_access, tallied, leaf_touched, granules_touched, access_to, row_accesses, all_accesses, times_accesses, all_touches, counts_after, heat_after, leaf_raised, leaves_raised, granules_raised, row_raised, rows_raised, tallied-counts, tallied-heat, leaves_both, heated_both, copies, copies_add, copies_copies, fold-same, fold-flat_map, many, fold-copies}
+use Rattle.views.proofs.Imports.{◌≡◌, ℕ, zero, suc, ◌+◌, ◌*◌, ◌-◌, ◌^◌, ◌<◌, min, List, ◌++◌, length, map, Bool, true, false, Option, refl, ap, sym, ◌∙◌, arith, IfSome, if◌then◌else◌, slice_set, enumerate_from, range_with_len, fun_ext, fold-map, fold-append, Owner, is_hot, LeafCounts, HeatCounts, HasLeaves, counted-counted, warmed-warmed, raised-capped, Access, Read, Write, Tally, counts_touched, heat_touched, after_access, tallied, leaf_touched, granules_touched, access_to, row_accesses, all_accesses, times_accesses, all_touches, counts_after, heat_after, leaf_raised, leaves_raised, granules_raised, row_raised, rows_raised, tallied-counts, tallied-heat, leaves_both, heated_both, copies, copies_add, copies_copies, fold-same, fold-flat_map, many, fold-copies}
 use Rattle.std.specs.Prelude.{option_map, slice_index}
 use Rattle.std.specs.List.{fold}
 
@@ -7,30 +7,20 @@ use Rattle.std.specs.List.{fold}
 pub touched_both : (layout : List (List Owner)) (write : Bool) (row leaf : ℕ) (tally : Tally) (counts : Option LeafCounts) (heat : Option HeatCounts)
     → counts ≡ option_map (leaf_touched write leaf) tally.counts → heat ≡ option_map (granules_touched layout row leaf) tally.heat
     → (let t : Tally = record { counts = counts; heat = heat } in t) ≡ after_access layout tally (access_to write row leaf)
-touched_both layout false row leaf tally counts heat one two =
-    ap (λ (c : Option LeafCounts). let t : Tally = record { counts = c; heat = heat } in t) one
-    ∙ ap (λ (h : Option HeatCounts). let t : Tally = record { counts = option_map (leaf_touched false leaf) tally.counts; heat = h } in t) two
-touched_both layout true row leaf tally counts heat one two =
-    ap (λ (c : Option LeafCounts). let t : Tally = record { counts = c; heat = heat } in t) one
-    ∙ ap (λ (h : Option HeatCounts). let t : Tally = record { counts = option_map (leaf_touched true leaf) tally.counts; heat = h } in t) two
+touched_both layout write row leaf tally counts heat one two = grind (arith, option_map)
 
 -- and after some, and then others
 then_counts : (one other : List Access) (counts : Option LeafCounts) → option_map (counts_after other) (option_map (counts_after one) counts) ≡ option_map (counts_after (one ++ other)) counts
-then_counts one other None = refl
-then_counts one other (Some counts) = ap (λ (c : LeafCounts). Some c) (sym (fold-append (λ (c : LeafCounts) a. counts_touched a c) counts one other))
+then_counts one other counts = grind (arith, fold-append)
 
 pub tallied_both : (layout : List (List Owner)) (tally : Tally) (one other : List Access) (middle counts : Option LeafCounts) (heat : Option HeatCounts)
     → middle ≡ option_map (counts_after one) tally.counts → counts ≡ option_map (counts_after other) middle → heat ≡ option_map (heat_after layout (one ++ other)) tally.heat
     → (let t : Tally = record { counts = counts; heat = heat } in t) ≡ tallied layout tally (one ++ other)
-tallied_both layout tally one other middle counts heat first second both =
-    ap (λ (c : Option LeafCounts). let t : Tally = record { counts = c; heat = heat } in t)
-    (second ∙ ap (option_map (counts_after other)) first ∙ then_counts one other tally.counts ∙ sym (tallied-counts layout tally (one ++ other)))
-    ∙ ap (λ (h : Option HeatCounts). let t : Tally = record { counts = (tallied layout tally (one ++ other)).counts; heat = h } in t) (both ∙ sym (tallied-heat layout tally (one ++ other)))
+tallied_both layout tally one other middle counts heat first second both = grind (arith, option_map, then_counts, tallied-counts, tallied-heat)
 
 -- a leaf has its counts
 pub leaf_inside : (counts : Option LeafCounts) (leaf leaves : ℕ) → IfSome counts (λ c. HasLeaves c leaves) → leaf < leaves → IfSome counts (λ c. (leaf < length c.reads) × (leaf < length c.writes))
-leaf_inside None leaf leaves has inside = tt
-leaf_inside (Some counts) leaf leaves has inside = (omega (arith, has.reads), omega (arith, has.writes))
+leaf_inside counts leaf leaves has inside = grind arith
 
 -- the same access so many times is one that counts so many
 abbrev by_leaf : LeafCounts → Access → LeafCounts
@@ -39,14 +29,8 @@ by_leaf counts access = counts_touched access counts
 many_counts : (write : Bool) (times row leaf : ℕ) (counts : LeafCounts) → many by_leaf (suc times) counts (access_to write row leaf) ≡ leaf_raised (suc times) write leaf counts
 many_counts false zero row leaf counts = refl
 many_counts true zero row leaf counts = refl
-many_counts false (suc times) row leaf counts =
-    many_counts false times row leaf (leaf_touched false leaf counts)
-    ∙ ap (λ (reads : List ℕ). let c : LeafCounts = record counts { reads = reads } in c)
-    (counted-counted counts.reads leaf 1 (suc times) ∙ ap (counted_times counts.reads leaf) (omega arith))
-many_counts true (suc times) row leaf counts =
-    many_counts true times row leaf (leaf_touched true leaf counts)
-    ∙ ap (λ (writes : List ℕ). let c : LeafCounts = record counts { writes = writes } in c)
-    (counted-counted counts.writes leaf 1 (suc times) ∙ ap (counted_times counts.writes leaf) (omega arith))
+many_counts false (suc times) row leaf counts = grind (arith, counted-counted, (many_counts false times row leaf (leaf_touched false leaf counts)))
+many_counts true (suc times) row leaf counts = grind (arith, counted-counted, (many_counts true times row leaf (leaf_touched true leaf counts)))
 
 -- which row it was leaves no trace in the counts by leaf
 same_row : (write : Bool) (leaves row : ℕ) (counts : LeafCounts) → counts_after (row_accesses (access_to write) leaves row) counts ≡ counts_after (row_accesses (access_to write) leaves 0) counts
@@ -55,36 +39,21 @@ same_row true leaves row counts = fold-map by_leaf (Write row) counts (range_wit
 
 row_copies : (write : Bool) (times leaves rows : ℕ) (counts : LeafCounts)
     → counts_after (times_accesses (access_to write) times leaves rows) counts ≡ counts_after (copies (row_accesses (access_to write) leaves 0) (rows * times)) counts
-row_copies write times leaves rows counts =
-    let one = row_accesses (access_to write) leaves 0 in
-    let rows_same : (c : LeafCounts) → counts_after (all_accesses (access_to write) leaves rows) c ≡ counts_after (copies one rows) c =
-    λ c. fold-same by_leaf (row_accesses (access_to write) leaves) (λ row. one) (λ c row. same_row write leaves row c) c (range_with_len 0 rows) in
-    fold-same by_leaf (λ time. all_accesses (access_to write) leaves rows) (λ time. copies one rows) (λ c time. rows_same c) counts (range_with_len 0 times)
-    ∙ ap (λ (log : List Access). counts_after log counts) (copies_copies one rows times)
+row_copies write times leaves rows counts = grind (arith, fold-same, same_row, range_with_len, copies_copies)
 
 row_raised_once : (write : Bool) (times leaves : ℕ) (counts : LeafCounts) → 0 < times
     → counts_after (copies (row_accesses (access_to write) leaves 0) times) counts ≡ leaves_raised times write leaves counts
-row_raised_once write zero leaves counts some = absurd (omega arith)
-row_raised_once write (suc times) leaves counts some =
-    fold-copies by_leaf (λ c one other. leaves_both one other c) (suc times) (row_accesses (access_to write) leaves 0) counts
-    ∙ fold-map (many by_leaf (suc times)) (access_to write 0) counts (range_with_len 0 leaves)
-    ∙ ap (λ (raise : LeafCounts → ℕ → LeafCounts). fold raise counts (range_with_len 0 leaves)) (fun_ext (λ c. fun_ext (λ leaf. many_counts write times 0 leaf c)))
+row_raised_once write times leaves counts some = grind (arith, fold-copies, leaves_both, fold-map, range_with_len, fun_ext, many_counts)
 
 leaves_capped : (write : Bool) (times leaves : ℕ) (counts : LeafCounts) → leaves_raised (min times (2 ^ 64 - 1)) write leaves counts ≡ leaves_raised times write leaves counts
-leaves_capped false times leaves counts =
-    ap (λ (raise : ℕ → ℕ). fold (λ (c : LeafCounts) leaf. let d : LeafCounts = record c { reads = slice_set c.reads leaf (raise (slice_index c.reads leaf)) } in d) counts (range_with_len 0 leaves)) (raised-capped times)
-leaves_capped true times leaves counts =
-    ap (λ (raise : ℕ → ℕ). fold (λ (c : LeafCounts) leaf. let d : LeafCounts = record c { writes = slice_set c.writes leaf (raise (slice_index c.writes leaf)) } in d) counts (range_with_len 0 leaves)) (raised-capped times)
+leaves_capped write times leaves counts = grind (arith, slice_set, slice_index, range_with_len, raised-capped)
 
 pub counts_none : (write : Bool) (times leaves rows : ℕ) (counts : LeafCounts) → rows * times ≡ 0 → counts ≡ counts_after (times_accesses (access_to write) times leaves rows) counts
-counts_none write times leaves rows counts none =
-    sym (row_copies write times leaves rows counts ∙ ap (λ (n : ℕ). counts_after (copies (row_accesses (access_to write) leaves 0) n) counts) none)
+counts_none write times leaves rows counts none = grind (arith, row_copies)
 
 pub counts_raised : (write : Bool) (times leaves rows : ℕ) (counts : LeafCounts) → 0 < rows * times
     → leaves_raised (min (rows * times) (2 ^ 64 - 1)) write leaves counts ≡ counts_after (times_accesses (access_to write) times leaves rows) counts
-counts_raised write times leaves rows counts some =
-    leaves_capped write (rows * times) leaves counts
-    ∙ sym (row_copies write times leaves rows counts ∙ row_raised_once write (rows * times) leaves counts some)
+counts_raised write times leaves rows counts some = grind (arith, leaves_capped, row_copies, row_raised_once)
 
 -- the same for the counts by granule, which do not tell a read from a write
 abbrev by_granule : List (List Owner) → HeatCounts → Access → HeatCounts
@@ -92,11 +61,7 @@ by_granule layout heat access = heat_touched layout access heat
 
 many_heat : (layout : List (List Owner)) (times row leaf : ℕ) (heat : HeatCounts) → many (by_granule layout) (suc times) heat (Read row leaf) ≡ granules_raised (suc times) layout row leaf heat
 many_heat layout zero row leaf heat = refl
-many_heat layout (suc times) row leaf heat =
-    many_heat layout times row leaf (granules_touched layout row leaf heat)
-    ∙ ap (λ (blobs : List (List ℕ)). let h : HeatCounts = record heat { blobs = blobs } in h)
-    (warmed-warmed (is_hot layout heat.granule row leaf) 1 (suc times) heat.blobs
-    ∙ ap (λ (n : ℕ). warmed_times n (is_hot layout heat.granule row leaf) heat.blobs) (omega arith))
+many_heat layout (suc times) row leaf heat = grind (arith, warmed-warmed, (many_heat layout times row leaf (granules_touched layout row leaf heat)))
 
 same_kind : (layout : List (List Owner)) (leaves row : ℕ) (heat : HeatCounts) → heat_after layout (row_accesses Write leaves row) heat ≡ heat_after layout (row_accesses Read leaves row) heat
 same_kind layout leaves row heat = fold-map (by_granule layout) (Write row) heat (range_with_len 0 leaves) ∙ sym (fold-map (by_granule layout) (Read row) heat (range_with_len 0 leaves))
@@ -120,8 +85,7 @@ rows_raised_once layout zero leaves rows heat some = absurd (omega arith)
 rows_raised_once layout (suc times) leaves rows heat some =
     let step = by_granule layout in
     let row_once : (h : HeatCounts) (row : ℕ) → fold (many step (suc times)) h (row_accesses Read leaves row) ≡ row_raised (suc times) layout leaves row h =
-    λ h row. fold-map (many step (suc times)) (Read row) h (range_with_len 0 leaves)
-    ∙ ap (λ (raise : HeatCounts → ℕ → HeatCounts). fold raise h (range_with_len 0 leaves)) (fun_ext (λ g. fun_ext (λ leaf. many_heat layout times row leaf g))) in
+    grind (arith, fold-map, range_with_len, fun_ext, many_heat) in
     fold-copies step (λ h one other. heated_both layout one other h) (suc times) (all_accesses Read leaves rows) heat
     ∙ fold-flat_map (many step (suc times)) (row_accesses Read leaves) heat (range_with_len 0 rows)
     ∙ ap (λ (raise : HeatCounts → ℕ → HeatCounts). fold raise heat (range_with_len 0 rows)) (fun_ext (λ h. fun_ext (row_once h)))
@@ -137,6 +101,4 @@ rows_capped layout times leaves rows heat =
 
 pub heat_raised : (layout : List (List Owner)) (reads writes leaves rows : ℕ) (heat : HeatCounts) → 0 < reads + writes
     → rows_raised (min (reads + writes) (2 ^ 64 - 1)) layout leaves rows heat ≡ heat_after layout (all_touches reads writes leaves rows) heat
-heat_raised layout reads writes leaves rows heat some =
-    rows_capped layout (reads + writes) leaves rows heat
-    ∙ sym (read_copies layout reads writes leaves rows heat ∙ rows_raised_once layout (reads + writes) leaves rows heat some)
+heat_raised layout reads writes leaves rows heat some = grind (arith, rows_capped, read_copies, rows_raised_once)

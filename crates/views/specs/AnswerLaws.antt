@@ -1,12 +1,11 @@
 -- What an answer to a store keeps.
-use Rattle.std.proofs.Common.{◌≡◌, ℕ, suc, ◌+◌, ◌<◌, ◌≤◌, ⊎_elim, Bool, true, false, ℤ, pos, List, [], ◌∷◌, length, map, get_or, Result, Ok, Err, is_ok, refl, sym, ap, ◌∙◌, subst, arith}
+use Rattle.std.proofs.Common.{◌≡◌, ℕ, suc, ◌+◌, ◌<◌, ◌≤◌, Bool, true, ℤ, pos, List, [], ◌∷◌, length, map, get_or, Result, Ok, Err, is_ok, refl, sym, ap, ◌∙◌, subst, arith}
 use Rattle.std.specs.Prelude.{if◌then◌else◌}
 use Rattle.std.specs.List.{enumerate_from}
 use Rattle.std.proofs.lemmas.Bool.{cases_lt}
 use Rattle.std.proofs.lemmas.List.{length-map, get_or_past}
 use Rattle.record_dim.specs.declared.leaf_type.LeafType.{LeafType}
-use Rattle.record_dim.specs.LeafTypes.{least_of, greatest_of, least_in, greatest_in}
-use Rattle.record_dim.specs.Leaves.{Leaf, leaves, kinds_of}
+use Rattle.record_dim.specs.Leaves.{leaves, kinds_of}
 use Rattle.record_dim.specs.Trees.{Fields}
 use Rattle.places.specs.declared.piece.Hold.{Hold}
 use Rattle.places.specs.Image.{entry}
@@ -19,31 +18,25 @@ use Rattle.piece_bits.specs.KeptLaws.{kept_again, wide_kept}
 use Rattle.piece_bits.specs.declared.mode.StoreMode.{StoreMode}
 use Rattle.piece_bits.specs.declared.mode.StoreMode.TheVariants.{Strict, Wrap}
 use Rattle.views.specs.StrictLaws.{stored_fits, fitting_stored}
-use Rattle.views.specs.Stores.{Keeping, Stays, kind_at, is_between, store_answer, without_number, kept_or, kept_row, kept_rows}
-use Rattle.views.specs.Tables.{Table, IsTable, IsWide, kept_of, leaf_count_of, leaf_types_of, leaf_type_of, table_holds}
+use Rattle.views.specs.Stores.{Keeping, Stays, kind_at, store_answer, without_number, kept_or, kept_row, kept_rows}
+use Rattle.views.specs.Tables.{Table, IsTable, IsWide, kept_of, leaf_types_of, leaf_type_of, table_holds}
 use Rattle.views.specs.declared.fault.StoreFault.{StoreFault}
 use Rattle.views.specs.declared.fault.StoreFault.TheVariants.{Range, Narrow}
 
 -- ---- an answer that is no refusal, and one that is
 
 pub told_ok : (answer : Result ℤ StoreFault) → is_ok answer ≡ true → without_number answer ≡ Ok tt
-told_ok (Ok left) taken = refl
-told_ok (Err fault) taken = absurd (cc taken)
+told_ok answer taken = grind arith
 
 pub told_same : (answer : Result ℤ StoreFault) → is_ok (without_number answer) ≡ is_ok answer
-told_same (Ok left) = refl
-told_same (Err fault) = refl
+told_same answer = grind arith
 
 pub told_err : (answer : Result ℤ StoreFault) (fault : StoreFault) → without_number answer ≡ Err fault → answer ≡ Err fault
-told_err (Ok left) fault refused = absurd (cc refused)
-told_err (Err other) fault refused =
-    let same : other ≡ fault = cc refused in
-    ap (λ (f : StoreFault). Err f) same
+told_err answer fault refused = grind arith
 
 -- one that is none keeps what a store leaves
 pub told_kept : (value : ℤ) (answer : Result ℤ StoreFault) → without_number answer ≡ Ok tt → answer ≡ Ok (kept_or value answer)
-told_kept value (Ok left) taken = refl
-told_kept value (Err fault) taken = absurd (cc taken)
+told_kept value answer taken = grind arith
 
 -- ---- a value that stays
 
@@ -54,43 +47,28 @@ one_kept : (value left : ℤ) → as_it_is value ≡ as_it_is left → value ≡
 one_kept value left same = cc same
 
 keeps : (declared held : Bool) (value left : ℤ) → (if declared then (if held then Ok value else Err Narrow) else Err Range) ≡ Ok left → value ≡ left
-keeps true true value left taken = one_kept value left taken
-keeps true false value left taken = cc taken
-keeps false held value left taken = cc taken
+keeps declared held value left taken = grind (arith, one_kept)
 
 -- a strict view keeps what it takes as it is
 strict_same : (kind : LeafType) (hold : Hold) (value left : ℤ) → store_answer Strict kind hold value ≡ Ok left → value ≡ left
-strict_same kind hold value left =
-    keeps (is_between (least_of kind) (greatest_of kind) value) (is_between (least_in hold.signed hold.width) (greatest_in hold.signed hold.width) value) value left
+strict_same kind hold value left = grind arith
 
 -- what a view holds it takes as it is
 pub stays_answer : (mode : StoreMode) (kind : LeafType) (hold : Hold) (value : ℤ) → Stays mode kind hold value → store_answer mode kind hold value ≡ Ok value
-stays_answer Strict kind hold value stays = fitting_stored kind hold value stays.declared stays.held
-stays_answer Wrap kind hold value stays = ap (λ (v : ℤ). Ok v) stays
+stays_answer mode kind hold value stays = grind (arith, fitting_stored)
 
 -- and what it keeps it may hold
 pub answer_stays : (mode : StoreMode) (kind : LeafType) (hold : Hold) (value left : ℤ) → 1 ≤ hold.width → store_answer mode kind hold value ≡ Ok left → Stays mode kind hold left
-answer_stays Strict kind hold value left some taken =
-    let same : value ≡ left = strict_same kind hold value left taken in
-    subst (λ (v : ℤ). Stays Strict kind hold v) same (stored_fits kind hold value (taken ∙ ap (λ (v : ℤ). Ok v) (sym same)))
-answer_stays Wrap kind hold value left some taken =
-    let same : kept kind hold value ≡ left = one_kept (kept kind hold value) left taken in
-    subst (λ (v : ℤ). Stays Wrap kind hold v) same (kept_again kind hold value some)
+answer_stays mode kind hold value left some taken = grind (arith, strict_same, stored_fits, one_kept, kept_again)
 
 -- ---- what a strict table keeps
 
 or_same : (declared held : Bool) (value : ℤ) → kept_or value (if declared then (if held then Ok value else Err Narrow) else Err Range) ≡ value
-or_same true true value = refl
-or_same true false value = refl
-or_same false held value = refl
+or_same declared held value = grind arith
 
 -- each value as it is
 pub strict_kept : (table : Table) → table.mode ≡ Strict → (leaf : ℕ) (value : ℤ) → kept_of table leaf value ≡ value
-strict_kept table strict leaf value =
-    let kind = leaf_type_of table leaf in
-    let hold = hold_at (table_holds table) leaf in
-    ap (λ (mode : StoreMode). kept_or value (store_answer mode kind hold value)) strict
-    ∙ or_same (is_between (least_of kind) (greatest_of kind) value) (is_between (least_in hold.signed hold.width) (greatest_in hold.signed hold.width) value) value
+strict_kept table strict leaf value = grind (arith, or_same)
 
 -- ---- what tables keep of rows
 
@@ -120,12 +98,7 @@ rows_kept keep (row ∷ rows) each =
 
 -- each table keeps its own
 pub own_rows : (table : Table) → IsTable table → kept_rows (kept_of table) table.rows ≡ table.rows
-own_rows table is =
-    rows_kept (kept_of table) table.rows (λ row leaf l m.
-    (let in_leaves : leaf < leaf_count_of table = omega (arith, m, is.shape.leaf_count row l) in
-    let in_kinds : leaf < length (leaf_types_of table) = omega (arith, in_leaves, length-map (leaves table.fields) (λ (one : Leaf). one.kind)) in
-    ap (kept_or (entry table.rows row leaf))
-    (stays_answer table.mode (leaf_type_of table leaf) (hold_at (table_holds table) leaf) (entry table.rows row leaf) (is.stays row leaf l in_kinds))))
+own_rows table is = grind (arith, rows_kept, length-map, leaves, stays_answer)
 
 -- ---- two tables that keep alike
 
@@ -138,22 +111,11 @@ wide_alike : (one other : List Hold) (kinds : List LeafType) → length one ≡ 
     → ((leaf : ℕ) → leaf < length kinds → value_bits (kind_at kinds leaf) ≤ (hold_at one leaf).width)
     → ((leaf : ℕ) → leaf < length kinds → value_bits (kind_at kinds leaf) ≤ (hold_at other leaf).width)
     → (leaf : ℕ) (value : ℤ) → kept (kind_at kinds leaf) (hold_at one leaf) value ≡ kept (kind_at kinds leaf) (hold_at other leaf) value
-wide_alike one other kinds ones others wide room leaf value =
-    let none : Hold = record { signed = false; width = 0 } in
-    ⊎_elim (λ (inside : leaf < length kinds).
-    wide_kept (kind_at kinds leaf) (hold_at one leaf) value (wide leaf inside) ∙ sym (wide_kept (kind_at kinds leaf) (hold_at other leaf) value (room leaf inside)))
-    (λ (past : length kinds ≤ leaf).
-    ap (λ (hold : Hold). kept (kind_at kinds leaf) hold value) (get_or_past one leaf none (omega (arith, past, ones)) ∙ sym (get_or_past other leaf none (omega (arith, past, others)))))
-    (cases_lt leaf (length kinds))
+wide_alike one other kinds ones others wide room leaf value = grind (arith, wide_kept, get_or_past, cases_lt)
 
 answers_alike : (mode other : StoreMode) (kind : LeafType) (one two : Hold) (value : ℤ) → mode ≡ other → (mode ≡ Wrap → kept kind one value ≡ kept kind two value)
     → kept_or value (store_answer mode kind one value) ≡ kept_or value (store_answer other kind two value)
-answers_alike Strict Strict kind one two value same alike =
-    or_same (is_between (least_of kind) (greatest_of kind) value) (is_between (least_in one.signed one.width) (greatest_in one.signed one.width) value) value
-    ∙ sym (or_same (is_between (least_of kind) (greatest_of kind) value) (is_between (least_in two.signed two.width) (greatest_in two.signed two.width) value) value)
-answers_alike Wrap Wrap kind one two value same alike = alike refl
-answers_alike Strict Wrap kind one two value same alike = cc same
-answers_alike Wrap Strict kind one two value same alike = cc same
+answers_alike mode other kind one two value same alike = grind (arith, or_same)
 
 -- two tables of one record and one mode, in which each leaf has room, keep the same of each value
 pub kept_alike : (one other : Table) → one.fields ≡ other.fields → one.mode ≡ other.mode → IsWide one → IsWide other → kept_of one ≡ kept_of other
@@ -165,7 +127,5 @@ kept_alike one other trees modes wide room = λ i leaf value. alike leaf value i
     alike : (leaf : ℕ) (value : ℤ) → kept_of one leaf value ≡ kept_of other leaf value
     alike leaf value =
         answers_alike one.mode other.mode (leaf_type_of one leaf) (hold_at (table_holds one) leaf) (hold_at (table_holds other) leaf) value modes (λ wrap.
-        wide_alike (table_holds one) (table_holds other) (leaf_types_of one) (hold_count one) (hold_count other ∙ ap (length {A = LeafType}) (sym same_kinds)) (wide wrap)
-        (subst (λ (kinds : List LeafType). (leaf : ℕ) → leaf < length kinds → value_bits (kind_at kinds leaf) ≤ (hold_at (table_holds other) leaf).width) (sym same_kinds)
-        (room (sym modes ∙ wrap))) leaf value)
+        grind (arith, wide_alike, hold_count))
         ∙ ap (λ (kinds : List LeafType). kept_or value (store_answer other.mode (kind_at kinds leaf) (hold_at (table_holds other) leaf) value)) same_kinds

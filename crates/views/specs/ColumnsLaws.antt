@@ -25,11 +25,9 @@ entry_more leaf row lane at (value ∷ values) [] inside place below = absurd (o
 entry_more leaf zero zero zero (value ∷ values) (numbers ∷ rows) inside place below = ap (λ (more : List (List ℤ)). set numbers leaf value ∷ more) (sym (no_column leaf zero rows))
 entry_more leaf zero zero (suc at) (value ∷ values) (numbers ∷ rows) inside place below = absurd (omega arith)
 entry_more leaf zero (suc lane) zero (value ∷ values) (numbers ∷ rows) inside place below = absurd (omega arith)
-entry_more leaf zero (suc lane) (suc at) (value ∷ values) (numbers ∷ rows) inside place below =
-    ap (λ (more : List (List ℤ)). set numbers leaf value ∷ more) (entry_more leaf zero lane at values rows (omega arith) (omega arith) (omega arith))
+entry_more leaf zero (suc lane) (suc at) (value ∷ values) (numbers ∷ rows) inside place below = grind (arith, (entry_more leaf zero lane at values rows (omega arith) (omega arith) (omega arith)))
 entry_more leaf (suc row) lane zero (value ∷ values) (numbers ∷ rows) inside place below = absurd (omega arith)
-entry_more leaf (suc row) lane (suc at) (value ∷ values) (numbers ∷ rows) inside place below =
-    ap (λ (more : List (List ℤ)). numbers ∷ more) (entry_more leaf row lane at (value ∷ values) rows inside (omega arith) (omega arith))
+entry_more leaf (suc row) lane (suc at) (value ∷ values) (numbers ∷ rows) inside place below = grind (arith, (entry_more leaf row lane at (value ∷ values) rows inside (omega arith) (omega arith)))
 
 -- an entry of the leaf, and one that stands
 pub column_there : (leaf first k row : ℕ) (values : List ℤ) (rows : List (List ℤ)) → row ≡ first + k → k < length values → row < length rows → leaf < length (get_or rows row [])

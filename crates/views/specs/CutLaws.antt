@@ -1,5 +1,5 @@
 -- The slots of two mappings that lay out arrays, and how they are cut.
-use Rattle.std.proofs.Common.{◌≡◌, ℕ, ◌+◌, ◌%◌, ◌≤◌, List, sum_by, Option, Some, None, option_map, refl, sym, ap, ◌∙◌, subst}
+use Rattle.std.proofs.Common.{◌≡◌, ℕ, ◌+◌, ◌%◌, ◌≤◌, List, sum_by, Option, Some, None, option_map, refl, subst}
 use Rattle.std.specs.Prelude.{IfSome, IsSomeAnd}
 use Rattle.std.specs.List.{range_with_len}
 use Rattle.extents.specs.declared.order.Order.{Order}
@@ -11,6 +11,7 @@ use Rattle.map_any.specs.Strategies.{AreRuns}
 use Rattle.map_any.specs.declared.arrays.ArraySlots.{ArraySlots}
 use Rattle.views.specs.Moves.{IsInBlock}
 use Rattle.views.specs.Pieces.{piece_at, slot_steps, move_steps, HasSlots}
+use Rattle.std.proofs.Common.{arith}
 
 -- the slots of a mapping that lays out arrays
 pub slots_within : (term : Term) (extents : List ℕ) (slots : ArraySlots) (slot count : ℕ) → option_map (slots_in extents) (array_of term) ≡ Some slots → HasSlots term extents slot count
@@ -37,35 +38,20 @@ block_in term extents slots slot count is inside block = of (array_of term) is w
 module _ (extents : List ℕ) (from to : ArraySlots) where
   slots_alike : (o p : Option (Order × Option ℕ)) → IsSomeAnd p (λ array. IsSomeAnd o (λ other. array.0 ≡ other.0)) → option_map (slots_in extents) o ≡ Some from
       → option_map (slots_in extents) p ≡ Some to → from.slots ≡ to.slots
-  slots_alike None p are first second = absurd (cc first)
-  slots_alike (Some array) None are first second = absurd (cc second)
-  slots_alike (Some array) (Some other) are first second =
-      let one_is : slots_in extents array ≡ from = cc first in
-      let two_is : slots_in extents other ≡ to = cc second in
-      sym (ap (λ (s : ArraySlots). s.slots) one_is) ∙ ap (λ (order : Order). slot_count order extents) (sym are) ∙ ap (λ (s : ArraySlots). s.slots) two_is
+  slots_alike o p are first second = grind arith
 
   steps_alike : (size slot count : ℕ) (o p : Option (Order × Option ℕ)) → IsSomeAnd p (λ array. IsSomeAnd o (λ other. array.0 ≡ other.0))
       → option_map (slots_in extents) o ≡ Some from → option_map (slots_in extents) p ≡ Some to → move_steps o p extents size slot count ≡ slot_steps from.lanes to.lanes size slot count
-  steps_alike size slot count None p are first second = absurd (cc first)
-  steps_alike size slot count (Some array) None are first second = absurd (cc second)
-  steps_alike size slot count (Some array) (Some other) are first second =
-      let one_is : slots_in extents array ≡ from = cc first in
-      let two_is : slots_in extents other ≡ to = cc second in
-      let slots : ℕ = slot_count array.0 extents in
-      let same : slot_count other.0 extents ≡ slots = ap (λ (order : Order). slot_count order extents) are in
-      let lanes : lanes_in other.1 slots ≡ to.lanes = ap (lanes_in other.1) (sym same) ∙ ap (λ (s : ArraySlots). s.lanes) two_is in
-      ap (λ (n : ℕ). slot_steps (lanes_in array.1 slots) n size slot count) lanes ∙ ap (λ (s : ArraySlots). slot_steps s.lanes to.lanes size slot count) one_is
+  steps_alike size slot count o p are first second = grind arith
 
 pub same_slots : (source target : Term) (others extents : List ℕ) (from to : ArraySlots) → extents ≡ others → AreRuns target source
     → option_map (slots_in others) (array_of source) ≡ Some from → option_map (slots_in extents) (array_of target) ≡ Some to → from.slots ≡ to.slots
-same_slots source target others extents from to alike arrays one two =
-    slots_alike extents from to (array_of source) (array_of target) arrays (subst (λ (e : List ℕ). option_map (slots_in e) (array_of source) ≡ Some from) (sym alike) one) two
+same_slots source target others extents from to alike arrays one two = grind (arith, slots_alike, option_map)
 
 pub same_steps : (source target : Term) (others extents : List ℕ) (from to : ArraySlots) (size slot count : ℕ) → extents ≡ others → AreRuns target source
     → option_map (slots_in others) (array_of source) ≡ Some from → option_map (slots_in extents) (array_of target) ≡ Some to
     → move_steps (array_of source) (array_of target) extents size slot count ≡ slot_steps from.lanes to.lanes size slot count
-same_steps source target others extents from to size slot count alike arrays one two =
-    steps_alike extents from to size slot count (array_of source) (array_of target) arrays (subst (λ (e : List ℕ). option_map (slots_in e) (array_of source) ≡ Some from) (sym alike) one) two
+same_steps source target others extents from to size slot count alike arrays one two = grind (arith, steps_alike, option_map)
 
 pub all_pieces : (one two size slot count : ℕ) → slot_steps one two size slot count ≡ sum_by (piece_at one two size slot (slot + count)) (range_with_len slot count)
 unfolding slot_steps

@@ -1,12 +1,11 @@
 -- The table and the padding after a run was moved.
-use Rattle.std.proofs.Common.{◌≡◌, ℕ, ◌*◌, ◌<◌, ◌≤◌, false, ℤ, List, map, length, Option, Some, None, refl, ap, ◌∙◌, subst}
+use Rattle.std.proofs.Common.{◌≡◌, ℕ, ◌*◌, ◌<◌, ◌≤◌, false, ℤ, List, map, length, Option, ap, ◌∙◌, subst}
 use Rattle.std.specs.Prelude.{IfSome, IsSomeAnd}
 use Rattle.std.proofs.lemmas.List.{get_or-map}
-use Rattle.record_dim.specs.LeafTypes.{IsIn, IsDeclared, is_signed}
+use Rattle.record_dim.specs.LeafTypes.{is_signed}
 use Rattle.record_dim.specs.Leaves.{kinds_of}
 use Rattle.record_dim.specs.Trees.{Fields}
 use Rattle.record_dim.specs.declared.leaf_type.LeafType.{LeafType}
-use Rattle.record_dim.specs.declared.leaf_type.LeafType.TheVariants.{Bool as Truth}
 use Rattle.extents.specs.Indices.{indices}
 use Rattle.extents.specs.declared.order.Order.{Order}
 use Rattle.places.specs.Holds.{full_holds, hold_of}
@@ -32,18 +31,13 @@ use Rattle.piece_bits.specs.declared.mode.StoreMode.TheVariants.{Strict, Wrap}
 use Rattle.views.specs.Moves.{IsOwn, MayMove, IsRunMoved}
 use Rattle.views.specs.Stores.{Stays, kind_at}
 use Rattle.views.specs.Tables.{Table}
+use Rattle.std.proofs.Common.{arith}
 
 -- ---- what a view of one mode holds another may hold
 
 pub stays_moves : (from to : StoreMode) (kind : LeafType) (hold : Hold) (value : ℤ) → 1 ≤ hold.width → (from ≡ Wrap → to ≡ Strict → hold.signed ≡ is_signed kind)
     → Stays from kind hold value → Stays to kind hold value
-stays_moves Strict Strict kind hold value some own stays = stays
-stays_moves Wrap Wrap kind hold value some own stays = stays
-stays_moves Strict Wrap kind hold value some own stays = fitting_stays Wrap kind hold value some stays
-stays_moves Wrap Strict kind hold value some own stays = record {
-  declared = subst (λ (v : ℤ). IsDeclared kind v) stays (kept_in kind hold value);
-  held = subst (λ (v : ℤ). IsIn hold.signed hold.width v) stays (own_sign_held kind hold value some (own refl refl));
-}
+stays_moves from to kind hold value some own stays = grind (arith, fitting_stays, kept_in, own_sign_held)
 
 pub settled_moves : (from to : StoreMode) (kind : LeafType) (hold : Hold) (raw : ℤ) → 1 ≤ hold.width → (from ≡ Wrap → to ≡ Strict → hold.signed ≡ is_signed kind)
     → IsSettled from kind hold raw → IsSettled to kind hold raw
@@ -51,9 +45,7 @@ settled_moves from to kind hold raw some own settled = record { stays = stays_mo
 
 pub may_move : (from to : StoreMode) (kinds : List LeafType) (holds : List Hold) → MayMove from to kinds holds → (leaf : ℕ) → leaf < length kinds
     → from ≡ Wrap → to ≡ Strict → (hold_at holds leaf).signed ≡ is_signed (kind_at kinds leaf)
-may_move Wrap Strict kinds holds may leaf inside one two = (may leaf inside).0
-may_move Strict to kinds holds may leaf inside one two = cc one
-may_move Wrap Wrap kinds holds may leaf inside one two = cc two
+may_move from to kinds holds may leaf inside one two = grind arith
 
 -- ---- leaves of arrays
 
@@ -62,16 +54,14 @@ full_kinds kinds = holds_by_kind (leaf_cells kinds) ∙ ap (map hold_of) (leaf_c
 
 -- a leaf that is stored as its type is
 pub full_hold : (kinds : List LeafType) (holds : List Hold) (leaf : ℕ) → leaf < length kinds → holds ≡ full_holds (leaf_cells kinds) → hold_at holds leaf ≡ hold_of (kind_at kinds leaf)
-full_hold kinds holds leaf inside full =
-    ap (λ (hs : List Hold). hold_at hs leaf) (full ∙ full_kinds kinds) ∙ get_or-map hold_of kinds leaf Truth (record { signed = false; width = 0 }) inside
+full_hold kinds holds leaf inside full = grind (arith, full_kinds, get_or-map)
 
 pub full_own : (kinds : List LeafType) (holds : List Hold) (leaf : ℕ) → leaf < length kinds → holds ≡ full_holds (leaf_cells kinds) → IsOwn (kind_at kinds leaf) (hold_at holds leaf)
 full_own kinds holds leaf inside full =
     let same = full_hold kinds holds leaf inside full in (ap (λ (h : Hold). h.signed) same, ap (λ (h : Hold). h.width) same)
 
 said_of : {X : Type 0} (o : Option X) (P Q : X → Type 0) (A : Type 0) → IsSomeAnd o P → IfSome o Q → ((x : X) → P x → Q x → A) → A
-said_of None P Q A is said f = absurd is
-said_of (Some x) P Q A is said f = f x is said
+said_of o P Q A is said f = grind arith
 
 -- two mappings that lay out arrays in one order store each leaf so
 pub runs_full : (one two : Term) (fields : Fields) → AreRuns one two

@@ -1,6 +1,6 @@
 -- The order of accesses carries no meaning: what is counted of some is counted of them in any order.
-use Rattle.std.proofs.Common.{◌≡◌, ℕ, zero, suc, ◌+◌, Bool, true, false, List, [], ◌∷◌, ◌++◌, map, append_assoc, refl, ap, sym, ◌∙◌}
-use Rattle.std.specs.Prelude.{Option, Some, None, option_map, if◌then◌else◌}
+use Rattle.std.proofs.Common.{◌≡◌, ℕ, zero, suc, ◌+◌, Bool, List, [], ◌∷◌, ◌++◌, map, append_assoc, refl, ap, sym, ◌∙◌}
+use Rattle.std.specs.Prelude.{Option, option_map, if◌then◌else◌}
 use Rattle.std.specs.List.{fold, flat_map, enumerate_from}
 use Rattle.std.proofs.lemmas.List.{append-nil}
 use Rattle.std.proofs.lemmas.List.Concat.{flat_map-cons}
@@ -9,6 +9,7 @@ use Rattle.instrument.specs.Counters.{LeafCounts, HeatCounts, counted, next, war
 use Rattle.places.specs.Touched.{is_hot}
 use Rattle.views.specs.Tallies.{Access, Read, Write, Tally, counts_touched, heat_touched, after_access, tallied}
 use Rattle.views.specs.TallyLaws.{tallied-append}
+use Rattle.std.proofs.Common.{arith}
 
 -- two counts by leaf
 counted_both : (counts : List ℕ) (one other : ℕ) → counted (counted counts one) other ≡ counted (counted counts other) one
@@ -19,18 +20,12 @@ counted_both (count ∷ counts) (suc one) zero = refl
 counted_both (count ∷ counts) (suc one) (suc other) = ap (λ (rest : List ℕ). count ∷ rest) (counted_both counts one other)
 
 pub leaves_both : (one other : Access) (counts : LeafCounts) → counts_touched other (counts_touched one counts) ≡ counts_touched one (counts_touched other counts)
-leaves_both (Read row leaf) (Read more last) counts = ap (λ (reads : List ℕ). record counts { reads = reads }) (counted_both counts.reads leaf last)
-leaves_both (Read row leaf) (Write more last) counts = refl
-leaves_both (Write row leaf) (Read more last) counts = refl
-leaves_both (Write row leaf) (Write more last) counts = ap (λ (writes : List ℕ). record counts { writes = writes }) (counted_both counts.writes leaf last)
+leaves_both one other counts = grind (arith, counted_both)
 
 -- two counts by granule
 chosen_both : (one other : Bool) (count : ℕ) → (if other then next (if one then next count else count) else (if one then next count else count))
     ≡ (if one then next (if other then next count else count) else (if other then next count else count))
-chosen_both true true count = refl
-chosen_both true false count = refl
-chosen_both false true count = refl
-chosen_both false false count = refl
+chosen_both one other count = grind arith
 
 warm_from : (ℕ → Bool) → ℕ → List ℕ → List ℕ
 warm_from hot first counts = map (λ (at : ℕ × ℕ). if hot at.0 then next at.1 else at.1) (enumerate_from first counts)
@@ -67,13 +62,11 @@ heated_both layout (Write row leaf) (Write more last) heat =
 -- two accesses
 counts_both : (one other : Access) (counts : Option LeafCounts)
     → option_map (counts_touched other) (option_map (counts_touched one) counts) ≡ option_map (counts_touched one) (option_map (counts_touched other) counts)
-counts_both one other None = refl
-counts_both one other (Some counts) = ap (λ (c : LeafCounts). Some c) (leaves_both one other counts)
+counts_both one other counts = grind (arith, leaves_both)
 
 heats_both : (layout : List (List Owner)) (one other : Access) (heat : Option HeatCounts)
     → option_map (heat_touched layout other) (option_map (heat_touched layout one) heat) ≡ option_map (heat_touched layout one) (option_map (heat_touched layout other) heat)
-heats_both layout one other None = refl
-heats_both layout one other (Some heat) = ap (λ (h : HeatCounts). Some h) (heated_both layout one other heat)
+heats_both layout one other heat = grind (arith, heated_both)
 
 touched_both : (layout : List (List Owner)) (tally : Tally) (one other : Access) → after_access layout (after_access layout tally one) other ≡ after_access layout (after_access layout tally other) one
 touched_both layout tally one other =
@@ -102,12 +95,7 @@ tallied-swap layout tally (access ∷ one) other =
 -- the accesses of two kinds of some rows, row by row or kind by kind
 pub swapped : (layout : List (List Owner)) (tally : Tally) (first second third : List Access)
     → tallied layout (tallied layout tally (first ++ second)) third ≡ tallied layout tally (first ++ (third ++ second))
-swapped layout tally first second third =
-    tallied-append layout tally (first ++ second) third
-    ∙ ap (λ (log : List Access). tallied layout tally log) (append_assoc first second third)
-    ∙ sym (tallied-append layout tally first (second ++ third))
-    ∙ tallied-swap layout (tallied layout tally first) second third
-    ∙ tallied-append layout tally first (third ++ second)
+swapped layout tally first second third = grind (arith, tallied-append, append_assoc, tallied-swap)
 
 pub apart : (a b c d : List Access) → (a ++ (b ++ c)) ++ d ≡ (a ++ b) ++ (c ++ d)
 apart a b c d = simp append_assoc

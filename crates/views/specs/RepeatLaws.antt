@@ -25,23 +25,13 @@ copies_add xs first (suc more) =
 
 pub copies_copies : {A : Type 0} (xs : List A) (first times : ℕ) → copies (copies xs first) times ≡ copies xs (first * times)
 copies_copies xs first zero = ap (copies xs) (let no_more : zero ≡ first * zero = omega arith in no_more)
-copies_copies xs first (suc times) =
-    copies_suc (copies xs first) times
-    ∙ ap (λ (ys : List _). ys ++ copies xs first) (copies_copies xs first times)
-    ∙ copies_add xs (first * times) first
-    ∙ ap (copies xs) (let all : first * times + first ≡ first * suc times = omega arith in all)
+copies_copies xs first (suc times) = grind (arith, copies_suc, copies_add, (copies_copies xs first times))
 
 -- lists that may stand for each other, joined
 pub fold-same : {S A : Type 0} (step : S → A → S) (one other : ℕ → List A) → ((s : S) (n : ℕ) → fold step s (one n) ≡ fold step s (other n))
     → (s : S) (ns : List ℕ) → fold step s (flat_map one ns) ≡ fold step s (flat_map other ns)
 fold-same step one other same s [] = refl
-fold-same step one other same s (n ∷ ns) =
-    ap (fold step s) (flat_map-cons one n ns)
-    ∙ fold-append step s (one n) (flat_map one ns)
-    ∙ ap (λ (t : _). fold step t (flat_map one ns)) (same s n)
-    ∙ fold-same step one other same (fold step s (other n)) ns
-    ∙ sym (fold-append step s (other n) (flat_map other ns))
-    ∙ ap (fold step s) (sym (flat_map-cons other n ns))
+fold-same step one other same s (n ∷ ns) = grind (arith, flat_map-cons, fold-append, flat_map, (fold-same step one other same (fold step s (other n)) ns))
 
 -- one number more
 pub fold_range_more : {S : Type 0} (step : S → ℕ → S) (s : S) (count : ℕ) → fold step s (range_with_len 0 (count + 1)) ≡ step (fold step s (range_with_len 0 count)) count
@@ -54,10 +44,7 @@ fold_range_more step s count =
 -- list by list
 pub fold-flat_map : {S A : Type 0} (step : S → A → S) (list : ℕ → List A) (s : S) (ns : List ℕ) → fold step s (flat_map list ns) ≡ fold (λ t n. fold step t (list n)) s ns
 fold-flat_map step list s [] = refl
-fold-flat_map step list s (n ∷ ns) =
-    ap (fold step s) (flat_map-cons list n ns)
-    ∙ fold-append step s (list n) (flat_map list ns)
-    ∙ fold-flat_map step list (fold step s (list n)) ns
+fold-flat_map step list s (n ∷ ns) = grind (arith, flat_map-cons, fold-append, flat_map, (fold-flat_map step list (fold step s (list n)) ns))
 
 -- so many steps of one item
 abbrev pub many : {S A : Type 0} → (S → A → S) → ℕ → S → A → S
@@ -70,15 +57,11 @@ module _ {S A : Type 0} (step : S → A → S) (both : (s : S) (one other : A) �
 
   past_all : (times : ℕ) (xs : List A) (s : S) (other : A) → step (fold (many step times) s xs) other ≡ fold (many step times) (step s other) xs
   past_all times [] s other = refl
-  past_all times (item ∷ xs) s other =
-      past_all times xs (many step times s item) other ∙ ap (λ (t : S). fold (many step times) t xs) (past_many times s item other)
+  past_all times (item ∷ xs) s other = grind (arith, past_many, (past_all times xs (many step times s item) other))
 
   once_more : (times : ℕ) (xs : List A) (s : S) → fold step (fold (many step times) s xs) xs ≡ fold (many step (suc times)) s xs
   once_more times [] s = refl
-  once_more times (item ∷ xs) s =
-      ap (λ (t : S). fold step t xs) (past_all times xs (many step times s item) item)
-      ∙ once_more times xs (step (many step times s item) item)
-      ∙ ap (λ (t : S). fold (many step (suc times)) t xs) (past_many times s item item)
+  once_more times (item ∷ xs) s = grind (arith, past_all, past_many, (once_more times xs (step (many step times s item) item)))
 
   none : (xs : List A) (s : S) → s ≡ fold (many step zero) s xs
   none [] s = refl
@@ -87,8 +70,4 @@ module _ {S A : Type 0} (step : S → A → S) (both : (s : S) (one other : A) �
   -- all steps of each item at once
   pub fold-copies : (times : ℕ) (xs : List A) (s : S) → fold step s (copies xs times) ≡ fold (many step times) s xs
   fold-copies zero xs s = none xs s
-  fold-copies (suc times) xs s =
-      ap (fold step s) (copies_suc xs times)
-      ∙ fold-append step s (copies xs times) xs
-      ∙ ap (λ (t : S). fold step t xs) (fold-copies times xs s)
-      ∙ once_more times xs s
+  fold-copies (suc times) xs s = grind (arith, copies_suc, fold-append, once_more, (fold-copies times xs s))

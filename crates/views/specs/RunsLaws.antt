@@ -1,10 +1,10 @@
 -- Values of a leaf and their low bits, and runs of rows.
-use Rattle.std.proofs.Common.{◌≡◌, ⊎_elim, Bool, true, false, if◌then◌else◌, ℕ, ◌+◌, ◌-◌, ◌^◌, ◌<◌, ◌≤◌, ℤ, pos, negsuc, neg_ℤ, ◌≤ℤ◌, ◌<ℤ◌, List, [], ◌∷◌, length, map, take, drop, get_or, zero, suc, FitsSigned, w64, refl, sym, ap, ◌∙◌, subst, arith}
+use Rattle.std.proofs.Common.{◌≡◌, ⊎_elim, Bool, true, false, if◌then◌else◌, ℕ, ◌+◌, ◌-◌, ◌^◌, ◌<◌, ◌≤◌, ℤ, pos, neg_ℤ, ◌≤ℤ◌, ◌<ℤ◌, List, [], ◌∷◌, length, map, take, drop, get_or, zero, suc, FitsSigned, w64, refl, sym, ap, ◌∙◌, subst, arith}
 use Rattle.std.specs.Int.{div_ceil}
 use Rattle.std.specs.Prelude.{nat_le}
 use Rattle.std.proofs.lemmas.Bool.{cases_lt}
 use Rattle.std.proofs.lemmas.Grind.{div_ceil_times}
-use Rattle.std.proofs.lemmas.Int.{ints, of_z-to_z}
+use Rattle.std.proofs.lemmas.Int.{of_z-to_z}
 use Rattle.std.proofs.lemmas.List.{length-map, length-take, length-drop, get_or-map, get_or-take, get_or-drop}
 use Rattle.record_dim.specs.LeafTypes.{width_of, IsDeclared}
 use Rattle.record_dim.specs.declared.leaf_type.LeafType.{LeafType}
@@ -21,17 +21,14 @@ use Rattle.views.specs.Tallies.{Access}
 
 -- a value of any leaf has 64 bits
 pub declared_within : (kind : LeafType) (value : ℤ) → IsDeclared kind value → IsWithin64 value
-declared_within kinds.Bool value h = (omega (arith, ints, h.0), omega (arith, ints, h.1))
-declared_within other value h = (omega (arith, ints, h.0), omega (arith, ints, h.1))
+declared_within kind value h = grind arith
 
 fits_between : (value : ℤ) → neg_ℤ (pos (2 ^ 63)) ≤ℤ value → value <ℤ pos (2 ^ 63) → FitsSigned w64 value
-fits_between (pos n) least most = record { sfits = omega (arith, ints, most) }
-fits_between (negsuc n) least most = record { sfits = omega (arith, ints, least) }
+fits_between value least most = grind arith
 
 -- with a sign, but for the greatest of the widest without one
 pub declared_fits : (kind : LeafType) (value : ℤ) → (kind ≡ kinds.U64 → ⊥) → IsDeclared kind value → FitsSigned w64 value
-declared_fits kinds.U64 value other h = absurd (other refl)
-declared_fits rest value other h = fits_between value (omega (arith, ints, h.0)) (omega (arith, ints, h.1))
+declared_fits kind value other h = grind (arith, fits_between)
 
 -- so it is its own low bits
 pub low_declared : (kind : LeafType) (value : ℤ) → (kind ≡ kinds.U64 → ⊥) → IsDeclared kind value → low_64 value ≡ value
@@ -39,25 +36,14 @@ low_declared kind value other h = low_same value (declared_fits kind value other
 
 -- a value is raised from its low bits
 raised_whole : (value : ℤ) → IsDeclared kinds.U64 value → raised kinds.U64 (low_64 value) ≡ value
-raised_whole (pos n) h = ap pos (of_z-to_z w64 n (omega (arith, ints, h.1)))
-raised_whole (negsuc n) h = absurd (omega (arith, ints, h.0))
+raised_whole value h = grind (arith, of_z-to_z)
 
 pub raised_low : (kind : LeafType) (value : ℤ) → IsDeclared kind value → raised kind (low_64 value) ≡ value
-raised_low kinds.Bool value h = low_declared kinds.Bool value (λ e. cc e) h
-raised_low kinds.U8 value h = low_declared kinds.U8 value (λ e. cc e) h
-raised_low kinds.U16 value h = low_declared kinds.U16 value (λ e. cc e) h
-raised_low kinds.U32 value h = low_declared kinds.U32 value (λ e. cc e) h
-raised_low kinds.U64 value h = raised_whole value h
-raised_low kinds.I8 value h = low_declared kinds.I8 value (λ e. cc e) h
-raised_low kinds.I16 value h = low_declared kinds.I16 value (λ e. cc e) h
-raised_low kinds.I32 value h = low_declared kinds.I32 value (λ e. cc e) h
-raised_low kinds.I64 value h = low_declared kinds.I64 value (λ e. cc e) h
+raised_low kind value h = grind (arith, low_declared, raised_whole)
 
 -- and a value of the type is what it is raised to
 pub raised_same : (kind : LeafType) (value : ℤ) → IsDeclared kind value → raised kind value ≡ value
-raised_same kinds.U64 (pos n) h = refl
-raised_same kinds.U64 (negsuc n) h = absurd (omega (arith, ints, h.0))
-raised_same _ value h = refl
+raised_same kind value h = grind arith
 
 -- values that are raised from their low bits, one by one
 pub raised_all : (kind : LeafType) (values : List ℤ) → ((k : ℕ) → k < length values → IsDeclared kind (get_or values k (pos 0))) → map (raised kind) (map low_64 values) ≡ values
@@ -70,9 +56,7 @@ raised_all kind (value ∷ values) each =
 
 -- a value of a run is that of its row
 pub run_entry : (leaf first count k : ℕ) (rows : List (List ℤ)) → k < count → first + count ≤ length rows → get_or (take count (drop first (column leaf rows))) k (pos 0) ≡ entry rows (first + k) leaf
-run_entry leaf first count k rows below inside =
-    get_or-take count (drop first (column leaf rows)) k (pos 0) below ∙ get_or-drop first (column leaf rows) k (pos 0)
-    ∙ get_or-map (in_leaf leaf) rows (first + k) [] (pos 0) (omega (arith, below, inside))
+run_entry leaf first count k rows below inside = grind (arith, get_or-take, get_or-drop, get_or-map)
 
 pub run_length : (leaf first count : ℕ) (rows : List (List ℤ)) → first + count ≤ length rows → length (take count (drop first (column leaf rows))) ≡ count
 run_length leaf first count rows inside = omega (arith, length-take count (drop first (column leaf rows)), length-drop first (column leaf rows), length-map rows (in_leaf leaf), inside)
@@ -104,10 +88,7 @@ leaf_moved leaf first count source old now inside from wide so_far =
           let k : ℕ = row - first in
           let at : first + k ≡ row = omega (arith, low) in
           let below : k < count = omega (arith, at, high) in
-          let there : row < length now = omega (arith, high, inside) in
-          ap (entry (with_column leaf first values now) row) same
-          ∙ column_there leaf first k row values now (sym at) (omega (arith, below, run_length leaf first count source from)) there (wide row there)
-          ∙ run_entry leaf first count k source below from ∙ ap (λ (n : ℕ). entry source n leaf) at ∙ ap (entry source row) (sym same))
+          let there : row < length now = omega (arith, high, inside) in grind (arith, column_there, run_length, run_entry))
           (cases_lt other leaf);
       stands = λ row other below.
           column_stands leaf first row other values now (λ same low. let none : ⊥ = absurd (omega (arith, below, low)) in none) ∙ so_far.stands row other below;
@@ -121,8 +102,7 @@ AreBefore leaves first source new = (row leaf : ℕ) → row < first → leaf < 
 
 pub run_more : (leaves first count : ℕ) (source now new : List (List ℤ)) → AreBefore leaves first source now → AreRowsMoved leaves first count source now new
     → AreBefore leaves (first + count) source new
-run_more leaves first count source now new so_far run row leaf below leaf_in =
-    ⊎_elim (λ (less : row < first). run.stands row leaf less ∙ so_far row leaf less leaf_in) (λ (more : first ≤ row). run.moved row leaf more below leaf_in) (cases_lt row first)
+run_more leaves first count source now new so_far run row leaf below leaf_in = grind (arith, cases_lt)
 
 -- ---- a table that counts nothing
 

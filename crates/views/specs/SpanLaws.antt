@@ -18,10 +18,7 @@ module _ (f : ℕ → ℕ) (first : ℕ) where
   span_more n = ap (sum_by f) (range_more first n) ∙ sum_by_push f (range_with_len first n) (first + n)
 
   span_grows : (n more : ℕ) → sum_by f (range_with_len first n) ≤ sum_by f (range_with_len first (n + more))
-  span_grows n zero =
-      let none : n + zero ≡ n = omega arith in
-      let same : sum_by f (range_with_len first (n + zero)) ≡ sum_by f (range_with_len first n) = ap (λ (m : ℕ). sum_by f (range_with_len first m)) none in
-      omega (arith, same)
+  span_grows n zero = grind (arith, sum_by, range_with_len)
   span_grows n (suc more) =
       let end : n + suc more ≡ n + more + 1 = omega arith in
       let same : sum_by f (range_with_len first (n + suc more)) ≡ sum_by f (range_with_len first (n + more + 1)) = ap (λ (m : ℕ). sum_by f (range_with_len first m)) end in
@@ -36,11 +33,7 @@ module _ (f : ℕ → ℕ) (first : ℕ) where
   -- numbers that come so many behind each other, and have the same
   pub span_pieces : (n count pieces each : ℕ) → 0 < count → ((k : ℕ) → k < pieces → f (first + (n + k * count)) ≡ each)
       → sum_by f (range_with_len first n) + pieces * each ≤ sum_by f (range_with_len first (n + pieces * count))
-  span_pieces n count zero each some all =
-      let none : n + zero * count ≡ n = omega arith in
-      let nothing : zero * each ≡ 0 = omega arith in
-      let same : sum_by f (range_with_len first (n + zero * count)) ≡ sum_by f (range_with_len first n) = ap (λ (m : ℕ). sum_by f (range_with_len first m)) none in
-      omega (arith, same, nothing)
+  span_pieces n count zero each some all = grind (arith, sum_by, range_with_len)
   span_pieces n count (suc pieces) each some all =
       let so_far : sum_by f (range_with_len first n) + pieces * each ≤ sum_by f (range_with_len first (n + pieces * count)) =
       span_pieces n count pieces each some (λ k inside. all k (omega (arith, inside))) in
@@ -53,11 +46,7 @@ module _ (f : ℕ → ℕ) (first : ℕ) where
 
 -- a sum in two parts
 pub span_join : (f : ℕ → ℕ) (first count : ℕ) → sum_by f (range_with_len 0 first) + sum_by f (range_with_len first count) ≡ sum_by f (range_with_len 0 (first + count))
-span_join f first zero =
-    let none : first + zero ≡ first = omega arith in
-    let nothing : sum_by f (range_with_len first zero) ≡ 0 = refl in
-    let same : sum_by f (range_with_len 0 (first + zero)) ≡ sum_by f (range_with_len 0 first) = ap (λ (m : ℕ). sum_by f (range_with_len 0 m)) none in
-    omega (arith, nothing, same)
+span_join f first zero = grind (arith, sum_by, range_with_len)
 span_join f first (suc count) =
     let e : suc count ≡ count + 1 = omega arith in
     let here : sum_by f (range_with_len first (suc count)) ≡ sum_by f (range_with_len first (count + 1)) = ap (λ (m : ℕ). sum_by f (range_with_len first m)) e in

@@ -1,5 +1,5 @@
 -- What the answer to a store in a strict view says of the value.
-use Rattle.std.proofs.Common.{◌≡◌, true, false, ℤ, ◌≤ℤ◌, Ok, Err, refl, sym, ◌∙◌, ⊎_elim, arith}
+use Rattle.std.proofs.Common.{◌≡◌, true, false, ℤ, ◌≤ℤ◌, Ok, Err, refl, arith}
 use Rattle.std.specs.Prelude.{int_le}
 use Rattle.std.proofs.lemmas.Int.{ints}
 use Rattle.std.proofs.lemmas.Bool.{cases_Bool, and_parts}
@@ -15,9 +15,7 @@ int_le-true a b e = grind (arith, ints)
 
 -- the test of a range
 pub between_true : (least greatest value : ℤ) → is_between least greatest value ≡ true → (least ≤ℤ value) × (value ≤ℤ greatest)
-between_true least greatest value e =
-    let both = and_parts (int_le least value) (int_le value greatest) e in
-    (int_le-true least value both.0, int_le-true value greatest both.1)
+between_true least greatest value e = grind (arith, and_parts, int_le, int_le-true)
 
 -- the three answers
 pub answer_range : (kind : LeafType) (hold : Hold) (value : ℤ) → is_between (least_of kind) (greatest_of kind) value ≡ false → store_answer Strict kind hold value ≡ Err Range
@@ -29,24 +27,11 @@ answer_narrow kind hold value e f = rw (e, f) refl
 
 -- a store that is taken is one of a value that fits
 pub stored_fits : (kind : LeafType) (hold : Hold) (value : ℤ) → store_answer Strict kind hold value ≡ Ok value → Fits kind hold value
-stored_fits kind hold value taken =
-    ⊎_elim (λ (declared : is_between (least_of kind) (greatest_of kind) value ≡ true).
-    ⊎_elim (λ (held : is_between (least_in hold.signed hold.width) (greatest_in hold.signed hold.width) value ≡ true).
-    record { declared = between_true (least_of kind) (greatest_of kind) value declared; held = between_true (least_in hold.signed hold.width) (greatest_in hold.signed hold.width) value held })
-    (λ (not_held : is_between (least_in hold.signed hold.width) (greatest_in hold.signed hold.width) value ≡ false).
-    absurd (let clash : Ok value ≡ Err Narrow = sym taken ∙ answer_narrow kind hold value declared not_held in cc))
-    (cases_Bool (is_between (least_in hold.signed hold.width) (greatest_in hold.signed hold.width) value)))
-    (λ (not_declared : is_between (least_of kind) (greatest_of kind) value ≡ false).
-    absurd (let clash : Ok value ≡ Err Range = sym taken ∙ answer_range kind hold value not_declared in cc))
-    (cases_Bool (is_between (least_of kind) (greatest_of kind) value))
+stored_fits kind hold value taken = grind (arith, between_true, answer_narrow, cases_Bool, answer_range)
 
 true_between : (least greatest value : ℤ) → least ≤ℤ value → value ≤ℤ greatest → is_between least greatest value ≡ true
 true_between least greatest value low high = grind (arith, ints)
 
 -- a value that fits is taken
 pub fitting_stored : (kind : LeafType) (hold : Hold) (value : ℤ) → IsDeclared kind value → IsIn hold.signed hold.width value → store_answer Strict kind hold value ≡ Ok value
-fitting_stored kind hold value declared held =
-    rw (
-      true_between (least_of kind) (greatest_of kind) value declared.0 declared.1,
-      true_between (least_in hold.signed hold.width) (greatest_in hold.signed hold.width) value held.0 held.1,
-    ) refl
+fitting_stored kind hold value declared held = grind (arith, true_between)

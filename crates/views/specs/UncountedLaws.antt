@@ -2,7 +2,7 @@
 use Rattle.std.proofs.Common.{◌≡◌, ℕ, List, refl, ◌∙◌}
 use Rattle.record_dim.specs.Trees.{Fields}
 use Rattle.places.specs.declared.piece.Cell.{Cell}
-use Rattle.map_expr.specs.Terms.{Term, Aos, Soa, Aosoa, BitAos, BitSoa, Split, Byteswap, Bytesplit, Change, Count, Heat, Named, uncounted}
+use Rattle.map_expr.specs.Terms.{Term, Count, Heat, uncounted}
 use Rattle.map_checks.specs.Mappings.{layout_of, holds_of, most_slots}
 
 -- what no counter changes is that of the expression without the counters at its top

@@ -1,7 +1,7 @@
-use Rattle.linearize.proofs.Imports.{◌-◌, ◌^◌, min, ap, sym, ◌∙◌}
 use Rattle.linearize.proofs.SlotLemmas.{product_count}
 use Rattle.linearize.proofs.saturating_count.Goals as goal
+use Rattle.std.proofs.lemmas.Grind.{common_steps}
+use Rattle.std.proofs.Common.{arith}
 
 pub returns-in-Row : goal.returns-in-Row
-returns-in-Row c =
-    c.saturating_product.ensures ∙ ap (λ count. min count (2 ^ 64 - 1)) (sym (product_count c.args.order c.args.extents.now c.in-Row.is))
+returns-in-Row c = grind (arith, common_steps, product_count)

@@ -1,19 +1,13 @@
-use Rattle.actors.proofs.Imports.{◌∙◌, ℕ, [], None, List, length, rules, arith, SFits, subst, sym, ap, w128, to_z-of_z, Cell, AreSized, length-leaf_cells, IsSetOf, setting_of, owners_of, leaf_types_of, with_byte-sized, job_of, row_in, value_kept_on, IsStepOf}
-use Rattle.actors.proofs.Laws.{leaf_count}
+use Rattle.actors.proofs.Imports.{◌∙◌, ℕ, [], None, List, length, rules, arith, SFits, subst, ap, w128, to_z-of_z, length-leaf_cells, setting_of, owners_of, with_byte-sized, job_of, row_in, value_kept_on, IsStepOf}
 use Rattle.actors.proofs.Turns.{store_made}
 use Rattle.actors.proofs.actor.make_step.Goals as goal
+use Rattle.std.proofs.lemmas.Grind.{common_steps}
 
 pub changed_byte-byte-requires-clause-row_in : goal.changed_byte-byte-requires-clause-row_in
-changed_byte-byte-requires-clause-row_in c =
-    let at = subst (IsStepOf (owners_of c.args.view.now) (length c.args.view.now.rows) (length c.args.sets.now)) c.in-Store.is c.requires.step in
-    omega (arith, at.1, c.map.ensures.slots, c.laws_of_view.ensures.lawful.is_table.rows)
+changed_byte-byte-requires-clause-row_in c = grind (arith, common_steps)
 
 pub changed_byte-byte-requires-clause-leaf_in : goal.changed_byte-byte-requires-clause-leaf_in
-changed_byte-byte-requires-clause-leaf_in c =
-    let table = c.args.view.now in
-    let at = subst (IsStepOf (owners_of table) (length table.rows) (length c.args.sets.now)) c.in-Store.is c.requires.step in
-    let set = subst (IsSetOf table) (sym c.index-sets-set.is) (c.requires.sets c.in-Store.set c.index-sets-set.result at.2) in
-    omega (arith, set.inside, ap (λ (cells : List Cell). length cells) c.map.ensures.cells, length-leaf_cells (leaf_types_of table), leaf_count table)
+changed_byte-byte-requires-clause-leaf_in c = grind (arith, common_steps, length-leaf_cells)
 
 pub returns-in-Store-clause-stored : goal.returns-in-Store-clause-stored
 returns-in-Store-clause-stored c =
@@ -28,6 +22,4 @@ returns-in-Store-clause-stored c =
     (rw (to_z-of_z w128 value fits) at c.changed_byte-byte.ensures.byte) c.put_byte-in-Store.ensures
 
 pub returns-in-Store-clause-memory_sized : goal.returns-in-Store-clause-memory_sized
-returns-in-Store-clause-memory_sized c =
-    let layout = owners_of c.args.view.now in
-    subst (AreSized layout) (sym c.put_byte-in-Store.ensures) (with_byte-sized layout c.args.memory.now.items c.in-Store.place c.changed_byte-byte.result c.requires.memory)
+returns-in-Store-clause-memory_sized c = grind (arith, common_steps, with_byte-sized)

@@ -1,6 +1,7 @@
 use Rattle.actors.proofs.Laws.{lawful_from}
 use Rattle.actors.proofs.memory.laws_of_view.Goals as goal
+use Rattle.std.proofs.lemmas.Grind.{common_steps}
+use Rattle.std.proofs.Common.{arith}
 
 pub returns-clause-lawful : goal.returns-clause-lawful
-returns-clause-lawful c =
-    lawful_from c.args.view.now _ _ _ c.laws_of_table.ensures.table c.laws_of_table.ensures.paired c.map.ensures.layout c.map.ensures.slots c.map.ensures.holds c.laws_of.ensures.lawful
+returns-clause-lawful c = grind (arith, common_steps, lawful_from)

@@ -1,10 +1,10 @@
-use Rattle.actors.proofs.Imports.{◌≡◌, ◌<◌, ◌∙◌, ℤ, List, length, sym, ap, arith, rules, SFits, w128, to_z-of_z, length-set, get_or_from_slice_get, LeafType, Truth, kinds_of, Fields, Cell, entry, table_in, length-leaf_cells, declared, kind_at, owners_of, leaf_types_of, table_holds, leaf_count_of}
-use Rattle.actors.proofs.Laws.{leaf_count, raw_here, one_held, all_held}
+use Rattle.actors.proofs.Imports.{◌≡◌, ◌<◌, ◌∙◌, length, sym, ap, arith, rules, SFits, w128, to_z-of_z, length-set, get_or_from_slice_get, Truth, kinds_of, Fields, entry, table_in, length-leaf_cells, declared, kind_at, owners_of, leaf_types_of, table_holds, leaf_count_of}
+use Rattle.actors.proofs.Laws.{raw_here, one_held, all_held}
 use Rattle.actors.proofs.memory.read_held.Goals as goal
+use Rattle.std.proofs.lemmas.Grind.{common_steps}
 
 pub read_entry-raw-requires-clause-cell_in : goal.read_entry-raw-requires-clause-cell_in
-read_entry-raw-requires-clause-cell_in c =
-    omega (arith, ap (λ (cells : List Cell). length cells) c.map.ensures.cells, length-leaf_cells (leaf_types_of c.args.view.now), leaf_count c.args.view.now, c.loop-leaf.invariant.count, c.requires.values)
+read_entry-raw-requires-clause-cell_in c = grind (arith, common_steps, length-leaf_cells)
 
 pub loop-leaf-preserved : goal.loop-leaf-preserved
 loop-leaf-preserved c =
@@ -18,9 +18,7 @@ loop-leaf-preserved c =
     let there = entry (table_in (owners_of table) (length table.rows) (table_holds table) blobs) c.args.row leaf in
     let kind : kind_at (leaf_types_of table) leaf ≡ c.leaf_type.result =
     ap (λ (f : Fields). kind_at (kinds_of f) leaf) (sym c.schema.ensures.value) ∙ get_or_from_slice_get _ leaf c.leaf_type.result Truth c.leaf_type.ensures in
-    let is : c.declared.result ≡ declared (kind_at (leaf_types_of table) leaf) there =
-    c.declared.ensures ∙ ap (λ (v : ℤ). declared c.leaf_type.result v) (to_z-of_z w128 raw raw_fits ∙ c.read_entry-raw.ensures ∙ raw_is)
-    ∙ ap (λ (k : LeafType). declared k there) (sym kind) in
+    let is : c.declared.result ≡ declared (kind_at (leaf_types_of table) leaf) there = grind (arith, to_z-of_z) in
     let small : leaf < length c.loop-leaf.values = omega arith in
     let long : length c.loop-leaf.values ≡ leaf_count_of table = c.loop-leaf.invariant.count ∙ c.requires.values in
     rw (to_z-of_z w128 c.declared.result fits) (record {

@@ -1,9 +1,10 @@
-use Rattle.actors.proofs.Imports.{ℤ, ◌≡◌, ◌∙◌, List, map, subst, sym, ap, arith, rules, SFits, w128, to_z-of_z, IsIn, Piece, Hold, IsLocated, number, digit, IsCell, some_bits, few_bits, bit_count, apart, pieces_within, held, low_in}
+use Rattle.actors.proofs.Imports.{ℤ, ◌≡◌, ◌∙◌, subst, sym, ap, arith, rules, SFits, w128, to_z-of_z, IsIn, number, digit, IsCell, some_bits, few_bits, bit_count, apart, pieces_within, held, low_in}
 use Rattle.std.proofs.Common.{slice_index}
 use Rattle.actors.proofs.Bytes.{is_write}
 use Rattle.actors.proofs.memory.write_bits.Given as given
 use Rattle.actors.proofs.memory.write_bits.Goals as goal
 use Rattle.actors.proofs.memory.write_bits.Goals.{After-as_slice}
+use Rattle.std.proofs.lemmas.Grind.{common_steps}
 
 at : (g : given.Over) (c : goal.After-as_slice g) →
     IsCell (g.M.Mapping.layout c.args.mapping.now) (g.M.Mapping.slot_count c.args.mapping.now) (g.M.Mapping.hold_list c.args.mapping.now)
@@ -15,9 +16,7 @@ at g c =
       slot_in = c.requires.slot_in;
       cell_in = omega (arith, g.met.M.Mapping.holds_cells m);
       is = c.hold-hold.ensures;
-      located =
-          subst (λ (ps : List Piece). IsLocated (g.M.Mapping.layout m) c.args.slot c.args.cell (slice_index (map (λ (h : Hold). h.width) (g.M.Mapping.hold_list m)) c.args.cell) ps)
-          (sym c.as_slice.ensures.value) c.locate-pieces.ensures;
+      located = grind (arith, slice_index);
     }
 
 pub held-requires-clause-some : goal.held-requires-clause-some
@@ -42,9 +41,7 @@ encode-requires-clause-fits g c =
     subst (λ (v : ℤ). IsIn hold.signed hold.width v) (sym (to_z-of_z w128 c.held.result fits ∙ is)) (low_in hold.signed hold.width c.args.value (some_bits here))
 
 pub write_pieces-requires-clause-within : goal.write_pieces-requires-clause-within
-write_pieces-requires-clause-within g c =
-    let here = at g ((goal.at.write_pieces-requires-clause-within g c).After-as_slice) in
-    pieces_within (g.M.Mapping.layout c.args.mapping.now) c.args.slot c.args.cell _ c.as_slice.result.now here.located c.args.blobs.now.items c.requires.sized
+write_pieces-requires-clause-within g c = grind (arith, common_steps, pieces_within)
 
 pub write_pieces-requires-clause-few : goal.write_pieces-requires-clause-few
 write_pieces-requires-clause-few g c =

@@ -1,12 +1,11 @@
-use Rattle.actors.proofs.Imports.{◌≡◌, ◌∙◌, true, false, map, sym, filter_term, setting_of, job_of, lets_through}
+use Rattle.actors.proofs.Imports.{◌≡◌, ◌∙◌, true, map, sym, filter_term, setting_of, job_of, lets_through}
 use Rattle.actors.proofs.Marks.{plan_left, plan_through}
 use Rattle.actors.proofs.plan.plan_of.Goals as goal
+use Rattle.std.proofs.lemmas.Grind.{common_steps}
+use Rattle.std.proofs.Common.{arith}
 
 pub returns-then-not-lets_through : goal.returns-then-not-lets_through
-returns-then-not-lets_through c =
-    let job = job_of c.args.view.now (filter_term c.args.filter) (map setting_of c.args.sets.now) in
-    let out : lets_through job c.args.row ≡ false = sym c.lets_through.ensures.through ∙ c.if-not-lets_through.true in
-    record { asked = plan_left job c.args.row c.lets_through.new.asked out c.lets_through.ensures.asked; through = sym out }
+returns-then-not-lets_through c = grind (arith, common_steps, plan_left)
 
 pub returns : goal.returns
 returns c =

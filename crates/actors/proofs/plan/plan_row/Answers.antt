@@ -1,20 +1,14 @@
-use Rattle.actors.proofs.Imports.{◌∙◌, [], map, get_or, subst, sym, ap, index_at, filter_term, setting_of, given_row, Table, answer_of, kept_of, after_log, job_of, IsRowPlanOf}
+use Rattle.actors.proofs.Imports.{[], map, get_or, subst, index_at, filter_term, setting_of, given_row, Table, answer_of, kept_of, job_of, IsRowPlanOf}
 use Rattle.actors.proofs.Tried.{row_reads, row_updated}
 use Rattle.actors.proofs.plan.plan_row.Goals as goal
+use Rattle.std.proofs.lemmas.Grind.{common_steps}
+use Rattle.std.proofs.Common.{arith}
 
 pub returns-in_err-_passed-clause-read : goal.returns-in_err-_passed-clause-read
-returns-in_err-_passed-clause-read g c =
-    let view = c.args.view.now in
-    let row = c.args.row in
-    c.try_row.ensures.same
-    ∙ ap (after_log view) (sym (row_reads (answer_of view) row (get_or view.rows row []) (index_at view.extents row) (filter_term c.args.filter) (map setting_of c.args.sets.now)))
+returns-in_err-_passed-clause-read g c = grind (arith, common_steps, row_reads)
 
 pub returns-clause-read : goal.returns-clause-read
-returns-clause-read g c =
-    let view = c.args.view.now in
-    let row = c.args.row in
-    c.try_row.ensures.same
-    ∙ ap (after_log view) (sym (row_reads (answer_of view) row (get_or view.rows row []) (index_at view.extents row) (filter_term c.args.filter) (map setting_of c.args.sets.now)))
+returns-clause-read g c = grind (arith, common_steps, row_reads)
 
 pub returns-clause-planned : goal.returns-clause-planned
 returns-clause-planned g c =

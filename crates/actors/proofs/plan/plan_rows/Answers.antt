@@ -1,4 +1,4 @@
-use Rattle.actors.proofs.Imports.{rules, arith, ◌≡◌, ◌<◌, ◌+◌, ◌∙◌, [], ℕ, List, Err, length, map, get_or, subst, sym, ap, indices, index_at, update_log, filter_term, setting_of, updated_row, Table, answer_of, kept_of, after_log, job_of, Update, NoMemory, IsRowPlanOf, ArePlans, IsUpdatedRow, reads_in}
+use Rattle.actors.proofs.Imports.{rules, arith, ◌≡◌, ◌<◌, ◌+◌, [], Err, length, map, get_or, subst, sym, index_at, update_log, filter_term, setting_of, updated_row, Table, answer_of, kept_of, after_log, job_of, Update, NoMemory, IsRowPlanOf, ArePlans, IsUpdatedRow, reads_in}
 use Rattle.actors.proofs.Marks.{no_plans, one_plan}
 use Rattle.actors.proofs.Tried.{none_tried, one_read, one_tried, stop_tried}
 use Rattle.actors.proofs.plan.plan_rows.Given as given
@@ -16,9 +16,7 @@ loop-row-init g c =
 
 -- the row that is tried is one of the view
 inside : (g : given.Over) (c : After-plan_row g) → c.loop-row.row < length c.args.view.now.rows
-inside g c =
-    let rows : length (indices c.extents.result) ≡ length c.args.view.now.rows = ap (λ (e : List ℕ). length (indices e)) c.extents.ensures.value ∙ sym c.extents.ensures.table.rows in
-    omega arith
+inside g c = grind arith
 
 -- what was read up to and with it
 read : (g : given.Over) (c : After-plan_row g)

@@ -1,9 +1,10 @@
-use Rattle.actors.proofs.Imports.{◌∙◌, ℕ, List, get_or, [], ℤ, sym, ap, subst, AreSized, owners_of, memory_is, rows_read, row_held}
+use Rattle.actors.proofs.Imports.{◌∙◌, ℕ, List, get_or, [], ℤ, ap, memory_is, rows_read, row_held}
 use Rattle.actors.proofs.plan.read_found.Goals as goal
+use Rattle.std.proofs.lemmas.Grind.{common_steps}
+use Rattle.std.proofs.Common.{arith}
 
 pub read_held-requires-clause-sized : goal.read_held-requires-clause-sized
-read_held-requires-clause-sized c =
-    subst (AreSized (owners_of c.args.view.now)) (sym c.requires.found) (memory_is c.args.view.now c.laws_of_view.ensures.lawful).sized
+read_held-requires-clause-sized c = grind (arith, common_steps, memory_is)
 
 pub returns-clause-row : goal.returns-clause-row
 returns-clause-row c =

@@ -15,9 +15,7 @@ returns-clause-shown c =
     let table = c.args.view.now in
     let cuts = c.args.cuts.now in
     let rows : length (indices c.extents.result) ≡ length table.rows = ap (λ (e : List ℕ). length (indices e)) c.extents.ensures.value ∙ sym c.extents.ensures.table.rows in
-    (subst (IsTeam table cuts) (sym c.in_ok-push-2.ensures.items)
-    (all_team table cuts c.laws_of_view.ensures.lawful c.loop-cut.row c.loop-cut.cut-index c.count.result c.loop-cut.actors.items c.in_ok-fresh_actor-2.field-0 (omega arith)
-    (c.count.ensures.rows ∙ rows) c.in_ok-fresh_actor-2.ensures c.loop-cut.invariant)).shown
+    grind (arith, all_team)
 
 pub returns-clause-standing : goal.returns-clause-standing
 returns-clause-standing c =

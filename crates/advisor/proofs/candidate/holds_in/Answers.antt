@@ -1,4 +1,4 @@
-use Rattle.advisor.proofs.Imports.{◌≡◌, ◌<◌, ◌++◌, ◌∷◌, [], false, All, List, get_or, take, map, length, sym, ap, ◌∙◌, arith, subst, take_more, take_all, length-map, get_or-map, get_or_from_slice_get, Hold, IsHold}
+use Rattle.advisor.proofs.Imports.{◌≡◌, ◌<◌, false, All, List, get_or, map, length, sym, ◌∙◌, arith, subst, take_more, take_all, length-map, get_or-map, get_or_from_slice_get, Hold, IsHold}
 use Rattle.advisor.proofs.candidate.holds_in.Goals as goal
 
 abbrev none : Hold
@@ -8,9 +8,7 @@ pub loop-cell-preserved : goal.loop-cell-preserved
 loop-cell-preserved g c =
     let holds = g.M.Mapping.hold_list c.args.mapping.now in
     let cell = c.loop-cell.cell in
-    let here : get_or holds cell none ≡ c.hold.result = get_or_from_slice_get holds cell c.hold.result none c.hold.ensures in
-    c.in_ok-push.ensures.ok ∙ ap (λ (hs : List Hold). hs ++ c.hold.result ∷ []) c.loop-cell.invariant
-    ∙ sym (take_more holds cell none (omega (arith, c.laws_of.ensures.paired)) ∙ ap (λ (h : Hold). take cell holds ++ h ∷ []) here)
+    let here : get_or holds cell none ≡ c.hold.result = get_or_from_slice_get holds cell c.hold.result none c.hold.ensures in grind (arith, take_more)
 
 pub returns-clause-holds : goal.returns-clause-holds
 returns-clause-holds g c = c.loop-cell.invariant ∙ take_all c.loop-cell.cell (g.M.Mapping.hold_list c.args.mapping.now) (omega (arith, c.laws_of.ensures.paired))

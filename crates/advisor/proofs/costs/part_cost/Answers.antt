@@ -1,4 +1,4 @@
-use Rattle.advisor.proofs.Imports.{◌≡◌, ◌+◌, ◌*◌, ℕ, List, length, get_or, take, sym, ap, ◌∙◌, arith, list_any, ◌==◌, length-map, get_or_read, sum_by_more, indices, Hold, Pass, touched, touched_alike, reads, leaves_in}
+use Rattle.advisor.proofs.Imports.{◌≡◌, ◌*◌, ℕ, List, length, get_or, ap, ◌∙◌, arith, list_any, ◌==◌, length-map, get_or_read, sum_by_more, indices, Hold, Pass, touched, touched_alike, reads, leaves_in}
 use Rattle.std.proofs.Common.{sum_by}
 use Rattle.std.specs.Prelude.{[]}
 use Rattle.advisor.proofs.RuledLaws.{layout_in, widths_in}
@@ -24,8 +24,4 @@ loop-pass-preserved c =
     let costs : Pass → ℕ = λ p. p.times * touched (wanted p) c.args.granule layout in
     let here : c.repeated-cost.result ≡ costs (get_or passes c.loop-pass.pass-index none) =
     c.repeated-cost.ensures.value ∙ ap (λ (n : ℕ). c.pass-item.result.times * n) count ∙ ap costs pass in
-    let more = sum_by_more costs passes c.loop-pass.pass-index none (omega arith) in
-    record {
-      value = ap (λ (n : ℕ). n + c.repeated-cost.result) c.loop-pass.invariant.value ∙ ap (λ (n : ℕ). sum_by costs (take c.loop-pass.pass-index passes) + n) here ∙ sym more;
-      most = omega (arith, c.loop-pass.invariant.most, c.repeated-cost.ensures.most);
-    }
+    let more = sum_by_more costs passes c.loop-pass.pass-index none (omega arith) in grind (arith, sum_by)

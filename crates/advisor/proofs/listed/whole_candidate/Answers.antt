@@ -1,6 +1,7 @@
 use Rattle.advisor.proofs.Imports.{◌≡◌, ℕ, List, length, map, sym, ap, ◌∙◌, length-map, indices, Leaf, leaves, schema_fields, Owner, Cell, Hold, Term, term_of, length-leaf_cells, layout_of, holds_of, leaf_cells, length-holds, leaf_types_of, cost, part_cost, leaves_in}
 use Rattle.advisor.proofs.CostLaws.{whole_cost}
 use Rattle.advisor.proofs.listed.whole_candidate.Goals as goal
+use Rattle.std.proofs.Common.{arith}
 
 pub returns-clause-priced : goal.returns-clause-priced
 returns-clause-priced c =
@@ -16,9 +17,7 @@ returns-clause-priced c =
     let holds : c.in_ok-holds.holds ≡ holds_of term v.fields (leaf_cells kinds) =
     c.in_ok-holds.ensures.holds ∙ c.in_ok-map.ensures.holds ∙ ap (λ (cells : List Cell). holds_of term v.fields cells) c.requires.cells in
     let many : length (leaf_cells kinds) ≡ length kinds = length-leaf_cells kinds in
-    let long : length widths ≡ length kinds =
-    length-map m.plan.holds (λ (h : Hold). h.width) ∙ ap (length {A = Hold}) (c.in_ok-map.ensures.holds ∙ ap (λ (cells : List Cell). holds_of term v.fields cells) c.requires.cells)
-    ∙ length-holds term v.fields (leaf_cells kinds) ∙ many in
+    let long : length widths ≡ length kinds = grind (arith, length-map, length-holds) in
     let layout_is : layout ≡ layout_of term v.extents v.fields (leaf_cells kinds) =
     c.in_ok-map.ensures.layout ∙ ap (λ (cells : List Cell). layout_of term v.extents v.fields cells) c.requires.cells in
     let cells_are : c.as_slice.result.now ≡ leaf_cells kinds = c.as_slice.ensures ∙ c.requires.cells in

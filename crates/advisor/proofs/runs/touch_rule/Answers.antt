@@ -1,4 +1,4 @@
-use Rattle.advisor.proofs.Imports.{◌≡◌, ◌+◌, ◌*◌, ◌%◌, ◌/◌, ◌<◌, ℕ, sym, ap, ◌∙◌, subst, arith, ◌||◌, div-add-mod', mod_below, heat_counts, IsInside, piece_in, IsSteady, is_run_touched}
+use Rattle.advisor.proofs.Imports.{◌≡◌, ◌+◌, ◌*◌, ◌%◌, ◌/◌, ◌<◌, ℕ, sym, ◌∙◌, subst, arith, div-add-mod', mod_below, IsSteady}
 use Rattle.advisor.proofs.SteadyLaws.{part_steady, touched_more}
 use Rattle.advisor.proofs.WarmLaws.{warmed_inside, warmed_more}
 use Rattle.advisor.proofs.runs.touch_rule.Goals as goal
@@ -20,9 +20,7 @@ pub touch_run-requires-clause-inside : goal.touch_run-requires-clause-inside
 touch_run-requires-clause-inside c = λ k low.
     let done = c.loop-done.done in
     let slot = c.args.start + done + k in
-    let at : c.args.start + (done + k) ≡ slot = omega arith in
-    warmed_inside c.loop-done.invariant.warmed (piece_in c.args.rule.now slot)
-    (subst (λ (n : ℕ). IsInside (heat_counts c.args.heat.now) (piece_in c.args.rule.now n)) at (c.requires.inside (done + k) (omega (arith, low, c.min-slots.ensures))))
+    let at : c.args.start + (done + k) ≡ slot = omega arith in grind (arith, warmed_inside)
 
 pub loop-done-preserved : goal.loop-done-preserved
 loop-done-preserved c =
@@ -32,9 +30,4 @@ loop-done-preserved c =
     let done = c.loop-done.done in
     let count = c.min-slots.result in
     let same : granule ≡ c.loop-done.heat.granule = sym (c.loop-done.invariant.warmed.granule ∙ c.requires.granule) in
-    record {
-      low = omega (arith, c.min-slots.ensures, c.loop-done-test.true);
-      warmed = warmed_more c.loop-done.invariant.warmed c.touch_run.ensures (λ blob at.
-          touched_more granule rule start done count blob at
-          ∙ ap (λ (g : ℕ). is_run_touched granule rule start done blob at || is_run_touched g rule (start + done) count blob at) same);
-    }
+    grind (arith, warmed_more, touched_more)

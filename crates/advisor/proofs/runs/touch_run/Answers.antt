@@ -1,8 +1,8 @@
-use Rattle.advisor.proofs.Imports.{◌≡◌, ◌+◌, ◌-◌, ◌∷◌, ◌++◌, [], ℕ, List, slice_index_or, All, sym, ap, ◌∙◌, subst, arith, Piece, is_in_granule, HeatCounts, heat_counts, heated_by, inside-counted, is_run_touched, long_piece, IsWarmed, or-false}
-use Rattle.instrument.specs.Counters.{IsCountedPiece}
+use Rattle.advisor.proofs.Imports.{◌≡◌, ◌-◌, ◌∷◌, [], List, slice_index_or, sym, ap, ◌∙◌, subst, arith, Piece, is_in_granule, HeatCounts, heat_counts, heated_by, inside-counted, is_run_touched, long_piece, IsWarmed, or-false}
 use Rattle.advisor.proofs.SteadyLaws.{long_ends, long_fits, long_is, long_inside, long_touches}
 use Rattle.advisor.proofs.WarmLaws.{heated_warmed, warmed_alike}
 use Rattle.advisor.proofs.runs.touch_run.Goals as goal
+use Rattle.std.proofs.lemmas.Grind.{common_steps}
 
 pub overflow_sub-bits : goal.overflow_sub-bits
 overflow_sub-bits c =
@@ -12,24 +12,10 @@ overflow_sub-bits c =
     omega (arith, ends, first, last)
 
 pub overflow_cast-bits : goal.overflow_cast-bits
-overflow_cast-bits c =
-    let fits = long_fits c.args.heat.now.granule c.args.rule.now c.args.start c.args.count c.args.heat.now.some c.requires.steady c.requires.some c.requires.narrow in
-    let first = ap (λ (p : Piece). p.bit) c.piece-first.ensures in
-    let last = ap (λ (p : Piece). p.bit) c.piece-last.ensures in
-    omega (arith, fits, first, last, c.from.ensures)
+overflow_cast-bits c = grind (arith, common_steps, long_fits)
 
 pub touch-requires : goal.touch-requires
-touch-requires c =
-    let heat = heat_counts c.args.heat.now in
-    let rule = c.args.rule.now in
-    let ends = long_ends c.args.heat.now.granule rule c.args.start c.args.count c.args.heat.now.some c.requires.steady c.requires.some in
-    let one = long_is rule c.args.start c.args.count c.from.result c.piece-first.result c.piece-last.result c.piece-first.ensures c.piece-last.ensures c.from.ensures in
-    let pieces : c.push.new.self.items ≡ long_piece rule c.args.start c.args.count ∷ [] =
-    c.push.ensures.items ∙ ap (λ (xs : List Piece). xs ++ (record c.piece-first.result { bits = c.piece-last.result.bit + c.from.result - c.piece-first.result.bit }) ∷ []) c.new-pieces.ensures
-    ∙ ap (λ (p : Piece). p ∷ []) one in
-    let counted = inside-counted (long_inside heat rule c.args.start c.args.count ends (c.requires.inside (c.args.count - 1) (omega (arith, c.requires.some)))) in
-    subst (λ (xs : List Piece). All (IsCountedPiece heat) xs) (sym pieces) (λ k d low. (let first : k ≡ 0 = omega (arith, low) in
-    subst (λ (n : ℕ). IsCountedPiece heat (slice_index_or (long_piece rule c.args.start c.args.count ∷ []) n d)) (sym first) counted))
+touch-requires c = grind (arith, common_steps, long_ends, long_is, inside-counted, long_inside, slice_index_or)
 
 pub returns : goal.returns
 returns c =
@@ -39,9 +25,7 @@ returns c =
     let count = c.args.count in
     let long = long_piece rule start count in
     let one = long_is rule start count c.from.result c.piece-first.result c.piece-last.result c.piece-first.ensures c.piece-last.ensures c.from.ensures in
-    let pieces : c.push.new.self.items ≡ long ∷ [] =
-    c.push.ensures.items ∙ ap (λ (xs : List Piece). xs ++ (record c.piece-first.result { bits = c.piece-last.result.bit + c.from.result - c.piece-first.result.bit }) ∷ []) c.new-pieces.ensures
-    ∙ ap (λ (p : Piece). p ∷ []) one in
+    let pieces : c.push.new.self.items ≡ long ∷ [] = grind arith in
     let after : heat_counts c.touch.new.self ≡ heated_by (long ∷ []) heat = c.touch.ensures ∙ ap (λ (xs : List Piece). heated_by xs heat) pieces in
     let first = c.requires.inside (count - 1) (omega (arith, c.requires.some)) in
     subst (λ (h : HeatCounts). IsWarmed heat h (is_run_touched heat.granule rule start count)) (sym after)

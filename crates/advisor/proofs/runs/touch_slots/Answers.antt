@@ -1,6 +1,8 @@
-use Rattle.advisor.proofs.Imports.{◌+◌, take, sym, ap, ◌∙◌, subst, ◌||◌, list_any, list_any_more, heat_counts, IsInside, piece_in, PieceRule, is_run_touched}
+use Rattle.advisor.proofs.Imports.{◌+◌, sym, subst, list_any, list_any_more, heat_counts, IsInside, piece_in, PieceRule}
 use Rattle.advisor.proofs.WarmLaws.{warmed_inside, warmed_more}
 use Rattle.advisor.proofs.runs.touch_slots.Goals as goal
+use Rattle.std.proofs.lemmas.Grind.{common_steps}
+use Rattle.std.proofs.Common.{arith}
 
 pub touch_rule-requires-clause-inside : goal.touch_rule-requires-clause-inside
 touch_rule-requires-clause-inside c = λ k low.
@@ -11,11 +13,4 @@ touch_rule-requires-clause-inside c = λ k low.
     (subst (λ (r : PieceRule). IsInside heat (piece_in r slot)) (sym c.rule-item.is) (c.requires.inside k low c.loop-rule.rule-index rule c.loop-rule-test.true))
 
 pub loop-rule-preserved : goal.loop-rule-preserved
-loop-rule-preserved c =
-    let rules = c.args.rules.now in
-    let at = c.loop-rule.rule-index in
-    let rule = c.rule-item.result in
-    let run = λ (r : PieceRule). is_run_touched c.args.granule r c.args.start c.args.count in
-    warmed_more c.loop-rule.invariant c.touch_rule.ensures (λ blob place.
-    list_any_more (λ (r : PieceRule). run r blob place) rules at rule c.loop-rule-test.true
-    ∙ ap (λ (r : PieceRule). list_any (λ (other : PieceRule). run other blob place) (take at rules) || run r blob place) (sym c.rule-item.is))
+loop-rule-preserved c = grind (arith, common_steps, warmed_more, list_any_more, list_any)

@@ -1,12 +1,10 @@
 use Rattle.advisor.proofs.Imports.{List, map, ap, ◌∙◌, arith, Candidate, Trial, none_failed}
 use Rattle.advisor.proofs.Tried.{trials_now, marks_right}
 use Rattle.advisor.proofs.suits.mark_suiting.Goals as goal
+use Rattle.std.proofs.lemmas.Grind.{common_steps}
 
 pub mark-requires-clause-inside : goal.mark-requires-clause-inside
-mark-requires-clause-inside g c =
-    let v = c.args.view.now in
-    let each = trials_now v.fields v.mode v.rows c.args.trials.now c.try_rows.new.trials c.requires.trials c.try_rows.ensures.tried in
-    λ k d l at e small. (let is = each at e small in let stored = c.requires.stored k d l in omega (arith, is.inside, stored.each_leaf))
+mark-requires-clause-inside g c = grind (arith, common_steps, trials_now)
 
 pub returns-clause-marks : goal.returns-clause-marks
 returns-clause-marks g c =

@@ -1,12 +1,11 @@
 use Rattle.advisor.proofs.Imports.{◌≡◌, ◌+◌, ◌*◌, ◌/◌, ◌^◌, ◌<◌, ◌≤◌, ℕ, List, [], length, get_or, sym, ap, ◌∙◌, arith, div_ceil, lt-leb, le-leb, get_or-map, length-map, take_all, sum_by_more, sum_by-take-le, Owner, granules_in, granules_of, rounded, blob_lengths}
 use Rattle.advisor.proofs.touched.has_few_granules.Goals as goal
+use Rattle.std.proofs.lemmas.Grind.{common_steps}
 
 -- the granules of a blob
 here : (layout : List (List Owner)) (blob granule bytes : ℕ) → 1 ≤ granule → blob < length layout → 8 * bytes ≡ length (get_or layout blob [])
     → div_ceil bytes granule ≡ granules_of granule (get_or (blob_lengths layout) blob 0)
-here layout blob granule bytes some inside long =
-    let part : bytes ≡ length (get_or layout blob []) / 8 = omega (arith, long) in
-    sym (rounded bytes granule some) ∙ ap (granules_of granule) (part ∙ sym (get_or-map (λ (owners : List Owner). length owners / 8) layout blob [] 0 inside))
+here layout blob granule bytes some inside long = grind (arith, rounded, get_or-map)
 
 pub returns-then-granules-left : goal.returns-then-granules-left
 returns-then-granules-left g c =
@@ -32,9 +31,4 @@ loop-blob-preserved g c =
     omega (arith, now, more, c.loop-blob.invariant)
 
 pub returns : goal.returns
-returns g c =
-    let layout = g.M.Mapping.layout c.args.mapping.now in
-    let lengths = blob_lengths layout in
-    let many = length-map layout (λ (owners : List Owner). length owners / 8) in
-    let whole = ap (granules_in c.args.granule) (take_all c.loop-blob.blob lengths (omega arith)) in
-    sym (le-leb (granules_in c.args.granule lengths) (2 ^ 24) (omega (arith, whole, c.loop-blob.invariant)))
+returns g c = grind (arith, common_steps, length-map, take_all, le-leb)

@@ -3,6 +3,8 @@ use Rattle.advisor.proofs.RuledLaws.{layout_in, widths_in}
 use Rattle.advisor.proofs.SweepLaws.{rows_hold, rows_inside}
 use Rattle.advisor.proofs.WarmLaws.{warmed_alike, warmed_granules}
 use Rattle.advisor.proofs.touched.touch_cell.Goals as goal
+use Rattle.std.proofs.lemmas.Grind.{common_steps}
+use Rattle.std.proofs.Common.{arith}
 
 -- its slots are the rows
 laid_by_rows : (m : RuledMap) → IsLaidOut (layout_in m) (length (indices m.mapping.extents)) (widths_in m) → IsLaidOut (layout_in m) (length (indices m.extents)) (widths_in m)
@@ -15,9 +17,7 @@ touch_rows-requires-clause-inside c =
     c.args.heat.now.some c.requires.granules
 
 pub returns-clause-warmed : goal.returns-clause-warmed
-returns-clause-warmed c =
-    let m = c.args.map.now in
-    warmed_alike c.touch_rows.ensures (rows_hold (layout_in m) m.extents (widths_in m) (laid_by_rows m c.laws_of.ensures.lawful) c.args.granule c.args.cell c.rule.result.now c.rule.ensures)
+returns-clause-warmed c = grind (arith, common_steps, warmed_alike, rows_hold, laid_by_rows)
 
 pub returns-clause-granules : goal.returns-clause-granules
 returns-clause-granules c = warmed_granules (layout_in c.args.map.now) c.touch_rows.ensures c.requires.granules

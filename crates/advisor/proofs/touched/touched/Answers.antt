@@ -1,18 +1,11 @@
-use Rattle.advisor.proofs.Imports.{◌≡◌, ◌≤◌, ◌^◌, Bool, ℕ, List, [], ◌∷◌, length, refl, sym, ap, ◌∙◌, subst, arith, ◌==◌, list_any, eqb-true, take_all, list_any_more, HeatCounts, heat_counts, no_heat, granules_in, HasGranules, blob_lengths, holds_cell, touched, IsWarmed}
+use Rattle.advisor.proofs.Imports.{◌≡◌, ℕ, List, [], ◌∷◌, length, refl, sym, ap, ◌∙◌, arith, ◌==◌, list_any, eqb-true, take_all, list_any_more, heat_counts, no_heat, blob_lengths, holds_cell, touched}
 use Rattle.advisor.proofs.RuledLaws.{layout_in}
 use Rattle.advisor.proofs.WarmLaws.{cold_granules, none_touched, warmed_none, warmed_more, warm_touched}
 use Rattle.advisor.proofs.touched.touched.Goals as goal
+use Rattle.std.proofs.lemmas.Grind.{common_steps}
 
 pub loop-cell-init : goal.loop-cell-init
-loop-cell-init c =
-    let layout = layout_in c.args.map.now in
-    let start = no_heat c.args.granule (blob_lengths layout) in
-    let zero : heat_counts c.in-Ok.heat ≡ start = c.in-Ok.ensures.zero ∙ ap (no_heat c.args.granule) (c.as_slice.ensures.value ∙ c.in_ok-lengths.ensures) in
-    let Before : ℕ → ℕ → Bool = λ blob at. list_any (λ cell. holds_cell layout c.args.granule cell blob at) [] in
-    record {
-      warmed = subst (λ (h : HeatCounts). IsWarmed start h Before) (sym zero) (warmed_none start Before (λ blob at. refl));
-      granules = subst (λ (h : HeatCounts). HasGranules layout h) (sym zero) (cold_granules c.args.granule (blob_lengths layout));
-    }
+loop-cell-init c = grind (arith, common_steps, list_any, warmed_none, cold_granules)
 
 pub touch_cell-requires-clause-granule : goal.touch_cell-requires-clause-granule
 touch_cell-requires-clause-granule c = c.loop-cell.invariant.warmed.granule
@@ -27,9 +20,7 @@ loop-cell-preserved c =
     }
 
 pub warm_granules-requires-clause-few : goal.warm_granules-requires-clause-few
-warm_granules-requires-clause-few c =
-    let layout = layout_in c.args.map.now in
-    subst (λ (n : ℕ). granules_in n (blob_lengths layout) ≤ 2 ^ 24) (sym c.loop-cell.invariant.warmed.granule) c.requires.few
+warm_granules-requires-clause-few c = grind (arith, common_steps)
 
 pub returns-clause-value : goal.returns-clause-value
 returns-clause-value c =
@@ -39,8 +30,7 @@ returns-clause-value c =
     let heat = heat_counts c.loop-cell.heat in
     c.warm_granules.ensures.value
     ∙ warm_touched layout granule c.args.cells.now heat c.loop-cell.invariant.granules
-    (subst (λ (cells : List ℕ). IsWarmed start heat (λ blob at. list_any (λ cell. holds_cell layout granule cell blob at) cells))
-    (take_all c.loop-cell.cell-index c.args.cells.now (omega arith)) c.loop-cell.invariant.warmed)
+    (grind (arith, list_any, take_all))
 
 empty : (xs : List ℕ) → length xs ≡ 0 → xs ≡ []
 empty [] e = refl

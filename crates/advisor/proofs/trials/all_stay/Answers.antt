@@ -1,13 +1,11 @@
-use Rattle.advisor.proofs.Imports.{rules, ◌≡◌, Bool, pos, get_or, SFits, w64, sym, ap, ◌∙◌, ◌&&◌, to_z-of_z, list_all_at, list_all_more, low_stays}
+use Rattle.advisor.proofs.Imports.{◌≡◌, Bool, pos, get_or, sym, ap, ◌∙◌, ◌&&◌, to_z-of_z, list_all_at, list_all_more, low_stays}
 use Rattle.advisor.proofs.trials.all_stay.Goals as goal
 use Rattle.advisor.proofs.trials.all_stay.Goals.{After-low_stays}
+use Rattle.std.proofs.Common.{arith}
 
 -- the answer for a value
 answer : (c : After-low_stays) → low_stays c.args.mode c.args.trial (get_or c.args.lows.now c.loop-low.low-index (pos 0)) ≡ c.low_stays.result
-answer c =
-    let low = get_or c.args.lows.now c.loop-low.low-index (pos 0) in
-    let fit : SFits w64 low = search rules in
-    sym (c.low_stays.ensures ∙ ap (low_stays c.args.mode c.args.trial) (to_z-of_z w64 low fit))
+answer c = grind (arith, to_z-of_z)
 
 pub returns-then-not-low_stays : goal.returns-then-not-low_stays
 returns-then-not-low_stays c =

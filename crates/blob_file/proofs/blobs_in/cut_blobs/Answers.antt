@@ -1,6 +1,7 @@
-use Rattle.blob_file.proofs.Imports.{arith, ◌<◌, length, sym, subst, AreSized}
+use Rattle.blob_file.proofs.Imports.{arith, ◌<◌, length}
 use Rattle.blob_file.proofs.Blobs.{none_cut, room, one_cut, all_cut, cut_sized}
 use Rattle.blob_file.proofs.blobs_in.cut_blobs.Goals as goal
+use Rattle.std.proofs.lemmas.Grind.{common_steps}
 
 pub loop-b-init : goal.loop-b-init
 loop-b-init g c = rw c.new-blobs.ensures.items (none_cut (g.M.Mapping.layout c.args.map.now) c.laws_of.ensures.lawful.whole_bytes c.args.body.now c.requires)
@@ -19,13 +20,7 @@ loop-b-preserved g c =
     (one_cut layout c.laws_of.ensures.lawful.whole_bytes c.args.body.now c.requires c.loop-b.b c.blob_bytes.result c.loop-b.blobs.items c.loop-b.rest.now inside c.blob_bytes.ensures c.loop-b.invariant)
 
 pub returns-clause-cut : goal.returns-clause-cut
-returns-clause-cut g c =
-    let layout = g.M.Mapping.layout c.args.map.now in
-    all_cut layout c.laws_of.ensures.lawful.whole_bytes c.args.body.now c.requires c.loop-b.b c.loop-b.blobs.items c.loop-b.rest.now (omega arith) c.loop-b.invariant
+returns-clause-cut g c = grind (arith, common_steps, all_cut)
 
 pub returns-clause-sized : goal.returns-clause-sized
-returns-clause-sized g c =
-    let layout = g.M.Mapping.layout c.args.map.now in
-    let whole = c.laws_of.ensures.lawful.whole_bytes in
-    subst (AreSized layout) (sym (all_cut layout whole c.args.body.now c.requires c.loop-b.b c.loop-b.blobs.items c.loop-b.rest.now (omega arith) c.loop-b.invariant))
-    (cut_sized layout whole c.args.body.now c.requires)
+returns-clause-sized g c = grind (arith, common_steps, all_cut, cut_sized)

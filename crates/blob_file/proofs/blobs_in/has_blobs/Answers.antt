@@ -1,4 +1,4 @@
-use Rattle.blob_file.proofs.Imports.{rules, arith, ◌≡◌, ◌<◌, ◌≤◌, ◌∙◌, ℕ, List, [], true, false, length, get_or, sym, ap, subst, ⊎_elim, cases_lt, ext_get_or, get_or_default, owners_of, blobs_of}
+use Rattle.blob_file.proofs.Imports.{rules, arith, ◌≡◌, ◌<◌, ◌≤◌, ◌∙◌, ℕ, List, [], true, false, length, get_or, sym, ap, cases_lt, ext_get_or, get_or_default, owners_of, blobs_of}
 use Rattle.blob_file.proofs.ImageBits.{blob_saved, blob_count}
 use Rattle.blob_file.proofs.blobs_in.has_blobs.Goals as goal
 
@@ -20,13 +20,7 @@ loop-b-preserved c =
     let is : c.blob-own.result.now ≡ get_or (blobs_of table) b [] = blob_saved table b c.blob-own.result.now inside c.bytes_law.ensures c.blob-own.ensures in
     let yes : c.is_same.result ≡ true = search rules in
     let at : c.index-blobs-b.result ≡ get_or c.args.blobs.now b [] = c.index-blobs-b.is ∙ get_or_default c.args.blobs.now b _ [] (omega arith) in
-    let same : c.blob-own.result.now ≡ get_or c.args.blobs.now b [] = c.is_same.ensures.same yes ∙ at in
-    λ k l. ⊎_elim
-    (λ (less : k < b). c.loop-b.invariant k less)
-    (λ (more : b ≤ k).
-    let end : b ≡ k = omega (arith, more, l) in
-    subst (λ (n : ℕ). get_or (blobs_of table) n [] ≡ get_or c.args.blobs.now n []) end (sym is ∙ same))
-    (cases_lt k b)
+    let same : c.blob-own.result.now ≡ get_or c.args.blobs.now b [] = c.is_same.ensures.same yes ∙ at in grind (arith, cases_lt)
 
 pub returns-clause-own : goal.returns-clause-own
 returns-clause-own c =

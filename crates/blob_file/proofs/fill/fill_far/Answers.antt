@@ -1,8 +1,9 @@
-use Rattle.blob_file.proofs.Imports.{rules, ◌≡◌, ◌+◌, ◌-◌, ◌<◌, ◌≤◌, ◌∙◌, ⊎_elim, ℕ, ℤ, List, pos, get_or, length, take, take_all, is_ok, true, Ok, Err, Result, FitsSigned, to_z, of_z, refl, sym, ap, subst, arith, w128, cases_lt, to_z-of_z, indices, entry, Cell, told_same, column_writes, with_column, length-with_column, run_length, kept_rows, without_number, Table, answer_of, kept_of, leaf_count_of, after_stores, StoreFault, value_more, nothing_stored, kept_run, raw_in, header_of, Contents}
+use Rattle.blob_file.proofs.Imports.{rules, ◌≡◌, ◌+◌, ◌∙◌, ℕ, ℤ, List, pos, get_or, length, take_all, is_ok, true, Ok, Err, Result, to_z, of_z, refl, sym, ap, arith, w128, cases_lt, to_z-of_z, entry, told_same, length-with_column, run_length, kept_rows, without_number, Table, answer_of, kept_of, StoreFault, value_more, nothing_stored, kept_run, raw_in, header_of, Contents}
 use Rattle.blob_file.proofs.Filled.{raw_is, cell_count, run_kept, kept_long}
 use Rattle.blob_file.proofs.fill.fill_far.Goals as goal
 use Rattle.blob_file.proofs.fill.fill_far.Goals.{In-loop-k, After-set}
 use Rattle.blob_file.proofs.fill.fill_far.Given.{Over}
+use Rattle.std.proofs.lemmas.Grind.{common_steps}
 
 pub loop-k-init : goal.loop-k-init
 loop-k-init g c = record {
@@ -13,35 +14,23 @@ loop-k-init g c = record {
 
 -- no row is gone
 rows_stay : (g : Over) (c : In-loop-k g) → length c.loop-k.view.rows ≡ length c.args.view.now.rows
-rows_stay g c =
-    ap (λ (t : Table). length t.rows) c.loop-k.invariant.stored.stored ∙ length-with_column c.args.leaf c.args.first _ c.args.view.now.rows
+rows_stay g c = grind (arith, length-with_column)
 
 pub overflow_add-row : goal.overflow_add-row
-overflow_add-row g c =
-    let rows : length (indices c.extents.result) ≡ length c.args.view.now.rows = ap (λ (e : List ℕ). length (indices e)) c.extents.ensures.value ∙ sym c.extents.ensures.table.rows in
-    omega (arith, rows, c.count-rows.ensures.rows, c.count-rows.ensures.few, c.requires.rows_in)
+overflow_add-row g c = grind (arith, common_steps)
 
 pub read_entry-value-requires-clause-slot_in : goal.read_entry-value-requires-clause-slot_in
-read_entry-value-requires-clause-slot_in g c =
-    let here : length (indices c.loop-k.view.extents) ≡ length (indices c.args.view.now.extents) = ap (λ (t : Table). length (indices t.extents)) c.loop-k.invariant.stored.stored in
-    omega (arith, c.map.ensures.slots, here, c.laws_of_table.ensures.table.rows, c.requires.rows_in)
+read_entry-value-requires-clause-slot_in g c = grind (arith, common_steps)
 
 pub read_entry-value-requires-clause-cell_in : goal.read_entry-value-requires-clause-cell_in
-read_entry-value-requires-clause-cell_in g c =
-    let here : leaf_count_of c.loop-k.view ≡ leaf_count_of c.args.view.now = ap leaf_count_of c.loop-k.invariant.stored.stored in
-    omega (arith, ap (λ (cells : List Cell). length cells) c.map.ensures.cells, cell_count c.loop-k.view, here, c.requires.leaf_in)
+read_entry-value-requires-clause-cell_in g c = grind (arith, common_steps, cell_count)
 
 pub set-requires-clause-row_in : goal.set-requires-clause-row_in
 set-requires-clause-row_in g c = omega (arith, rows_stay g (goal.at.set-requires-clause-row_in g c).In-loop-k, c.requires.rows_in)
 
 -- the number that is read
 number : (g : Over) (c : After-set g) → to_z w128 (of_z w128 c.read_entry-value.result) ≡ entry (raw_in (header_of c.args.view.now) c.args.blobs.now) (c.args.first + c.loop-k.k) c.args.leaf
-number g c =
-    let fits : FitsSigned w128 c.read_entry-value.result = search rules in
-    to_z-of_z w128 c.read_entry-value.result fits ∙ c.read_entry-value.ensures
-    ∙ ap (λ (t : List (List ℤ)). entry t (c.args.first + c.loop-k.k) c.args.leaf)
-    (raw_is c.loop-k.view c.args.blobs.now _ _ _ c.map.ensures.layout c.map.ensures.slots c.map.ensures.holds
-    ∙ ap (λ (t : Table). raw_in (header_of t) c.args.blobs.now) c.loop-k.invariant.stored.stored)
+number g c = grind (arith, to_z-of_z, raw_is)
 
 -- and the answer to its store
 answer : (g : Over) (c : After-set g) → c.set.result ≡ without_number (answer_of c.args.view.now c.args.leaf (entry (raw_in (header_of c.args.view.now) c.args.blobs.now) (c.args.first + c.loop-k.k) c.args.leaf))
@@ -70,12 +59,7 @@ loop-k-preserved g c =
     record {
       stored = value_more leaf first k (first + k) old c.loop-k.view c.set.new.self (kept_run leaf first c.args.rows old raw) _ c.loop-k.invariant.stored
           (omega (arith, long)) (omega (arith, c.requires.rows_in)) refl kept c.in_ok-set.ensures.stored;
-      taken = λ row low high.
-          ⊎_elim (λ (before : row < first + k). c.loop-k.invariant.taken row low before)
-          (λ (here : first + k ≤ row).
-          let same : first + k ≡ row = omega (arith, here, high) in
-          subst (λ (n : ℕ). is_ok (answer_of old leaf (entry raw n leaf)) ≡ true) same taken)
-          (cases_lt row (first + k));
+      taken = λ row low high. grind (arith, is_ok, cases_lt);
       steps = omega arith;
     }
 
@@ -96,13 +80,4 @@ returns-in_err-set-clause-refused g c =
     )
 
 pub returns-clause-stored : goal.returns-clause-stored
-returns-clause-stored g c =
-    let old : Table = c.args.view.now in
-    let kept : List ℤ = kept_run c.args.leaf c.args.first c.args.rows old (raw_in (header_of old) c.args.blobs.now) in
-    let end : c.loop-k.k ≡ c.args.rows = omega arith in
-    let long : length kept ≡ c.args.rows =
-    run_length c.args.leaf c.args.first c.args.rows (kept_rows (kept_of old) (raw_in (header_of old) c.args.blobs.now))
-    (omega (arith, kept_long old c.args.blobs.now c.laws_of_table.ensures.table c.laws_of_table.ensures.paired, c.requires.rows_in)) in
-    c.loop-k.invariant.stored.stored
-    ∙ ap (λ (n : ℕ). after_stores old (with_column c.args.leaf c.args.first (take n kept) old.rows) (column_writes c.args.leaf c.args.first n)) end
-    ∙ ap (λ (values : List ℤ). after_stores old (with_column c.args.leaf c.args.first values old.rows) (column_writes c.args.leaf c.args.first c.args.rows)) (take_all c.args.rows kept (omega (arith, long)))
+returns-clause-stored g c = grind (arith, common_steps, run_length, kept_long, take_all)

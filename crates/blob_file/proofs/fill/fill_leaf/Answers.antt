@@ -1,5 +1,4 @@
-use Rattle.blob_file.proofs.Imports.{rules, ◌≡◌, ◌+◌, ◌<◌, ◌∙◌, ℕ, ℤ, List, true, length, map, get_or, pos, refl, sym, ap, subst, arith, get_or_from_slice_get, LeafType, Truth, hold_at, column_writes, with_column, raised, run_steps, Table, leaf_type_of, leaf_types_of, table_holds, after_stores, kept_run, AreFitting, IsTakenLeaf, raw_in, header_of}
-use Rattle.views.specs.Stores.{Fits}
+use Rattle.blob_file.proofs.Imports.{◌≡◌, ℕ, ℤ, List, length, map, refl, ap, subst, arith, get_or_from_slice_get, LeafType, Truth, raised, run_steps, Table, leaf_type_of, leaf_types_of, kept_run, IsTakenLeaf, raw_in, header_of}
 use Rattle.blob_file.proofs.Filled.{fitting_taken, fitting_kept}
 use Rattle.blob_file.proofs.fill.fill_leaf.Goals as goal
 
@@ -18,10 +17,7 @@ returns-clause-stored g c =
     let raw : List (List ℤ) = raw_in (header_of old) c.args.blobs.now in
     let kept : map (raised (leaf_type_of old leaf)) lows ≡ kept_run leaf first (length lows) old raw =
     fitting_kept old c.args.blobs.now c.schema.ensures.table c.schema.ensures.paired leaf first lows c.requires.leaf_in (c.if-not-read_fitting.ensures.fitting refl)
-    (omega (arith, c.read_fitting.ensures.count, c.requires.rows_in)) in
-    c.put_run.ensures.stored
-    ∙ ap (λ (values : List ℤ). after_stores old (with_column leaf first values old.rows) (column_writes leaf first (length lows))) kept
-    ∙ ap (λ (n : ℕ). after_stores old (with_column leaf first (kept_run leaf first n old raw) old.rows) (column_writes leaf first n)) c.read_fitting.ensures.count
+    (omega (arith, c.read_fitting.ensures.count, c.requires.rows_in)) in grind arith
 
 pub returns-clause-steps : goal.returns-clause-steps
 returns-clause-steps g c =

@@ -1,17 +1,11 @@
-use Rattle.blob_file.proofs.Imports.{rules, ◌≡◌, ◌+◌, ◌-◌, ◌*◌, ◌<◌, ◌≤◌, ◌∙◌, ⊎_elim, inl, inr, ℕ, ℤ, List, length, take, drop, Err, refl, sym, ap, subst, arith, ◌⊎◌, cases_lt, length-drop, length-take-le, indices, AreRowsMoved, CountsNothing, run_more, kept_rows, HasShape, Table, kept_of, leaf_count_of, leaf_types_of, table_holds, after_stores, Write, all_accesses, after_log-none, run_writes, AreTaken, raw_in, header_of}
+use Rattle.blob_file.proofs.Imports.{rules, ◌≡◌, ◌+◌, ◌*◌, ◌<◌, ◌≤◌, ◌∙◌, ⊎_elim, inl, inr, ℕ, ℤ, List, length, take, drop, Err, sym, ap, subst, arith, ◌⊎◌, cases_lt, length-drop, length-take-le, indices, AreRowsMoved, CountsNothing, run_more, kept_rows, HasShape, Table, kept_of, leaf_count_of, leaf_types_of, table_holds, after_stores, Write, all_accesses, after_log-none, run_writes, AreTaken, raw_in, header_of}
 use Rattle.std.proofs.lemmas.List.{length-append}
 use Rattle.blob_file.proofs.Filled.{all_kept, run_logged, run_steps_more}
 use Rattle.blob_file.proofs.fill.fill_rows.Goals as goal
+use Rattle.std.proofs.lemmas.Grind.{common_steps}
 
 pub loop-first-init : goal.loop-first-init
-loop-first-init g c = record {
-  same = sym (after_log-none c.args.view.now);
-  inside = omega arith;
-  before = λ row leaf below. absurd (omega (arith, below));
-  taken = λ leaf few row low high. absurd (omega (arith, high));
-  lows = refl;
-  steps = omega arith;
-}
+loop-first-init g c = grind (arith, common_steps, after_log-none)
 
 pub loop-first-preserved : goal.loop-first-preserved
 loop-first-preserved g c =
@@ -30,12 +24,8 @@ loop-first-preserved g c =
     let taken : AreTaken leaves first rows old raw =
     subst (λ (t : Table). AreTaken (leaf_count_of t) first rows t (raw_in (header_of t) blobs)) held.same
     (subst (λ (n : ℕ). AreTaken (leaf_count_of now) first n now (raw_in (header_of now) blobs)) long done.taken) in
-    let stored : AreRowsMoved leaves first rows kept now.rows new.rows =
-    subst (λ (t : Table). AreRowsMoved (leaf_count_of t) first rows (kept_rows (kept_of t) (raw_in (header_of t) blobs)) now.rows new.rows) held.same
-    (subst (λ (n : ℕ). AreRowsMoved (leaf_count_of now) first n (kept_rows (kept_of now) (raw_in (header_of now) blobs)) now.rows new.rows) long done.stored) in
-    let same : new ≡ after_stores now new.rows (run_writes leaves first rows) =
-    done.same ∙ ap (λ (n : ℕ). after_stores now new.rows (run_writes (leaf_count_of now) first n)) long
-    ∙ ap (λ (t : Table). after_stores now new.rows (run_writes (leaf_count_of t) first rows)) held.same in
+    let stored : AreRowsMoved leaves first rows kept now.rows new.rows = grind arith in
+    let same : new ≡ after_stores now new.rows (run_writes leaves first rows) = grind arith in
     let steps : c.fill_run.new.steps ≡ c.loop-first.steps + rows * leaves =
     done.steps ∙ ap (λ (n : ℕ). c.loop-first.steps + n * leaf_count_of now) long ∙ ap (λ (t : Table). c.loop-first.steps + rows * leaf_count_of t) held.same in
     let quiet : (rows ≡ 1) ⊎ CountsNothing old =
@@ -51,15 +41,7 @@ loop-first-preserved g c =
     }
 
 pub fill_run-requires-clause-rows_in : goal.fill_run-requires-clause-rows_in
-fill_run-requires-clause-rows_in g c =
-    let old : Table = c.args.view.now in
-    let now : Table = c.loop-first.view in
-    let rows : length (indices c.extents.result) ≡ length old.rows = ap (λ (e : List ℕ). length (indices e)) c.extents.ensures.value ∙ sym c.extents.ensures.table.rows in
-    let many : length now.rows ≡ length old.rows =
-    c.laws_of_table.ensures.table.rows ∙ ap (λ (t : Table). length (indices t.extents)) c.loop-first.invariant.same ∙ sym c.extents.ensures.table.rows in
-    let long : length (take c.min-rows.result c.loop-first.lows) ≡ c.min-rows.result =
-    length-take-le c.min-rows.result c.loop-first.lows (omega (arith, c.loop-first.invariant.lows, c.rows_at_once-most.ensures.few)) in
-    omega (arith, many, rows, long, c.count-count.ensures.rows)
+fill_run-requires-clause-rows_in g c = grind (arith, common_steps, length-take-le)
 
 pub returns-in_err-fill_run-clause-refused : goal.returns-in_err-fill_run-clause-refused
 returns-in_err-fill_run-clause-refused g c =

@@ -1,4 +1,4 @@
-use Rattle.blob_file.proofs.Imports.{rules, ◌≡◌, ◌+◌, ◌<◌, ◌≤◌, ◌∙◌, ℕ, ℤ, List, true, false, pos, get_or, length, map, refl, sym, ap, subst, arith, length-map, get_or_from_slice_get, is_signed, IsDeclared, IsIn, Leaf, leaves, LeafType, Truth, indices, entry, IsLaidOut, Cell, Hold, kinds_are, hold_widths, hold_at, low_64, raised, raised_low, leaf_count_of, leaf_type_of, leaf_types_of, owners_of, table_holds, raw_in, header_of}
+use Rattle.blob_file.proofs.Imports.{◌≡◌, ◌+◌, ◌<◌, ◌≤◌, ◌∙◌, ℕ, ℤ, List, false, pos, get_or, length, map, refl, sym, ap, subst, arith, length-map, get_or_from_slice_get, is_signed, IsDeclared, IsIn, Leaf, leaves, LeafType, Truth, indices, entry, IsLaidOut, Cell, Hold, kinds_are, hold_widths, hold_at, low_64, raised, raised_low, leaf_type_of, leaf_types_of, owners_of, table_holds, raw_in, header_of}
 use Rattle.views.specs.Stores.{kind_at}
 use Rattle.blob_file.proofs.Contents.{raw_range}
 use Rattle.blob_file.proofs.Filled.{raw_is, cell_count}
@@ -38,9 +38,7 @@ returns-clause-fitting c = λ yes k l.
     let hold_is : hold_at (table_holds table) leaf ≡ c.hold.result = get_or_from_slice_get (table_holds table) leaf c.hold.result (record { signed = false; width = 0 }) (rw c.map-map.ensures.holds at c.hold.ensures) in
     let held : IsIn (hold_at (table_holds table) leaf).signed (hold_at (table_holds table) leaf).width raw =
     raw_range (header_of table) laid c.laws_of_table.ensures.paired blobs row leaf inside (in_kinds (goal.at.returns-clause-fitting c).After-leaf_type) in
-    let low : get_or c.read_rows.new.values k (pos 0) ≡ low_64 raw =
-    c.if-not-read_rows.ensures.values refl k below
-    ∙ ap (λ (t : List (List ℤ)). low_64 (entry t row leaf)) (raw_is table blobs _ _ _ c.map-map.ensures.layout c.map-map.ensures.slots c.map-map.ensures.holds) in
+    let low : get_or c.read_rows.new.values k (pos 0) ≡ low_64 raw = grind (arith, raw_is) in
     let declared : IsDeclared kind raw =
     subst (λ (t : LeafType). IsDeclared t raw) (sym kind_is) (c.are_declared.ensures yes k l raw (subst (λ (h : Hold). IsIn h.signed h.width raw) hold_is held) low) in
     (record { declared = declared; held = held }, ap (raised kind) low ∙ raised_low kind raw declared)

@@ -1,4 +1,4 @@
-use Rattle.blob_file.proofs.Imports.{◌≡◌, ◌∙◌, ◌*◌, ℕ, List, length, map, refl, sym, ap, subst, arith, sum_by, indices, IsLaidOut, Hold, Owner, HasShape, AllStay, joined, owners_of, table_holds, leaf_types_of, leaf_count_of, blob_lengths, cut, with_blobs, AreRows, header_of, blobs_of}
+use Rattle.blob_file.proofs.Imports.{◌≡◌, ◌∙◌, ◌*◌, ℕ, List, length, map, refl, sym, ap, arith, sum_by, indices, IsLaidOut, Hold, Owner, joined, owners_of, table_holds, blob_lengths, cut, with_blobs, AreRows, header_of, blobs_of}
 use Rattle.blob_file.proofs.Contents.{rows_contents, same_rows}
 use Rattle.blob_file.proofs.Cuts.{cut_joined, length-joined, total, total_bits}
 use Rattle.blob_file.proofs.Fills.{body_is}
@@ -12,10 +12,7 @@ returns c =
     let blobs = blobs_of table in
     let is = c.laws_of_table.ensures.table in
     let laid : IsLaidOut (owners_of table) (length (indices table.extents)) (map (λ (h : Hold). h.width) (table_holds table)) = rw (c.map.ensures.layout, c.map.ensures.slots, c.map.ensures.holds) at c.laws_of.ensures.lawful in
-    let rows : AreRows header table.rows = record {
-      shape = subst (λ (n : ℕ). HasShape n (leaf_count_of table) table.rows) is.rows is.shape;
-      stays = subst (λ (n : ℕ). AllStay table.mode n (leaf_types_of table) (table_holds table) table.rows) is.rows is.stays;
-    } in
+    let rows : AreRows header table.rows = grind arith in
     let counts = lengths_of_image header table.rows in
     let long : length (joined blobs) ≡ total (blob_lengths (owners_of table)) = length-joined blobs ∙ ap total counts in
     let sized : 8 * length (joined blobs) ≡ sum_by (length {A = Owner}) (owners_of table) = omega (arith, long, total_bits (owners_of table) laid.whole_bytes) in

@@ -1,17 +1,13 @@
-use Rattle.blob_file.proofs.Imports.{rules, ◌≡◌, ◌*◌, ◌∙◌, ℕ, List, None, Some, Err, inr, length, map, sym, ap, arith, sum_by, ExtentWord, bad_shape, bad_extents, extent_of, Owner, record_fault, schema_fields, tree_of, Record, owners_by, CanLie, with_header, header_in}
+use Rattle.blob_file.proofs.Imports.{rules, ◌≡◌, ◌*◌, ◌∙◌, List, None, Some, Err, inr, length, map, sym, ap, arith, sum_by, ExtentWord, bad_shape, bad_extents, extent_of, Owner, schema_fields, owners_by, CanLie, with_header, header_in}
 use Rattle.blob_file.specs.declared.fault.FileFault.TheVariants as fault
 use Rattle.blob_file.proofs.Lies.{fit_by, shaped_by, ranged_by, can_by, none_by, same_owners}
 use Rattle.blob_file.proofs.Refused.{no_layout, no_length, refused, starved, on_ok}
 use Rattle.blob_file.proofs.open.empty_view.Goals as goal
 use Rattle.blob_file.proofs.open.empty_view.Goals.{In_ok-bytes}
+use Rattle.std.proofs.lemmas.Grind.{common_steps}
 
 pub returns-in_err-schema-clause-refused : goal.returns-in_err-schema-clause-refused
-returns-in_err-schema-clause-refused c =
-    let header = c.args.header in
-    let told = with_header (Some (header_in header, c.args.body.now)) in
-    let is : c.from_residual.result ≡ Err c.in_err-schema.field-0.0 = search rules in
-    rw is (refused told fault.Layout c.in_err-schema.field-0.0
-    (λ none. no_layout (header_in header) c.args.body.now (λ can. none (fit_by header.dim c.requires.kind can.fit))) c.in_err-schema.ensures.refused)
+returns-in_err-schema-clause-refused c = grind (arith, common_steps, refused, no_layout, fit_by)
 
 pub returns-in_err-extents-clause-refused : goal.returns-in_err-extents-clause-refused
 returns-in_err-extents-clause-refused c =
@@ -49,12 +45,7 @@ can c =
 
 -- and has so many bytes
 bits : (c : In_ok-bytes) → 8 * c.in_ok-bytes.bytes ≡ sum_by (length {A = Owner}) (owners_by (header_in c.args.header))
-bits c =
-    let header = c.args.header in
-    let words : c.as_slice.result.now ≡ header.words = search rules in
-    let are : c.in_ok-extents.extents ≡ map (extent_of 0) header.words = c.in_ok-extents.ensures.extents ∙ ap (map (extent_of 0)) words in
-    c.in_ok-bytes.ensures.bytes
-    ∙ ap (sum_by (length {A = Owner})) (same_owners header c.requires.plain (schema_fields c.in_ok-schema.schema) c.in_ok-extents.extents c.in_ok-schema.ensures.made are)
+bits c = grind (arith, sum_by, same_owners)
 
 pub returns-then-body-bytes-clause-refused : goal.returns-then-body-bytes-clause-refused
 returns-then-body-bytes-clause-refused c =

@@ -1,14 +1,11 @@
-use Rattle.blob_file.proofs.Imports.{rules, ◌≡◌, ◌∙◌, Err, inr, length, map, sym, ap, indices, IsLaidOut, Hold, owners_of, table_holds, FileFault}
+use Rattle.blob_file.proofs.Imports.{inr, length, map, indices, IsLaidOut, Hold, owners_of, table_holds}
 use Rattle.blob_file.proofs.Fills.{refused_number, opened_view, other_view, steps_taken}
 use Rattle.blob_file.proofs.open.fill_from.Goals as goal
+use Rattle.std.proofs.lemmas.Grind.{common_steps}
+use Rattle.std.proofs.Common.{arith}
 
 pub returns-in_err-fill_rows-clause-read : goal.returns-in_err-fill_rows-clause-read
-returns-in_err-fill_rows-clause-read g c =
-    let table = c.args.view.now in
-    let laid : IsLaidOut (owners_of table) (length (indices table.extents)) (map (λ (h : Hold). h.width) (table_holds table)) = rw (c.map.ensures.layout, c.map.ensures.slots, c.map.ensures.holds) at c.laws_of.ensures.lawful in
-    let is : c.from_residual.result ≡ Err c.in_err-fill_rows.field-0.0 = search (c.from_residual.ensures, rules) in
-    rw is (inr (refused_number table laid c.laws_of_table.ensures.paired c.requires.empty c.args.blobs.now c.in_err-fill_rows.ensures.refused.1
-    ∙ ap (λ (found : FileFault). Err found) (sym c.in_err-fill_rows.ensures.refused.0)))
+returns-in_err-fill_rows-clause-read g c = grind (arith, common_steps, refused_number)
 
 pub returns-then-has_blobs : goal.returns-then-has_blobs
 returns-then-has_blobs g c =

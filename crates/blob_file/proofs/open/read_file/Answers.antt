@@ -1,19 +1,15 @@
 use Rattle.blob_file.proofs.Imports.{rules, ◌≡◌, ◌∙◌, drop, length, Some, Err, Result, inr, sym, ap, subst, sum_by, Owner, Table, owners_of, Saved, header_at, with_body, opened, empty_table, IsRead, header_in, header_of, FileFault}
-use Rattle.blob_file.specs.declared.fault.FileFault.TheVariants as fault
 use Rattle.blob_file.proofs.Opens.{read_is_file}
 use Rattle.blob_file.proofs.Refused.{no_magic, no_header, header_told, body_told, refused}
 use Rattle.blob_file.proofs.open.read_file.Goals as goal
+use Rattle.std.proofs.lemmas.Grind.{common_steps}
+use Rattle.std.proofs.Common.{arith}
 
 pub returns-in_default-clause-read : goal.returns-in_default-clause-read
 returns-in_default-clause-read g c = inr (no_magic c.args.bytes.now c.in_default.ensures)
 
 pub returns-in_err-header-clause-read : goal.returns-in_err-header-clause-read
-returns-in_err-header-clause-read g c =
-    let bytes = c.args.bytes.now in
-    let begins = c.in-Some.ensures.0 in
-    let rest : c.in-Some.rest.now ≡ drop 8 bytes = c.in-Some.ensures.1 in
-    let is : c.from_residual.result ≡ Err c.in_err-header.field-0.0 = search rules in
-    rw is (refused (opened bytes) fault.Header c.in_err-header.field-0.0 (λ none. no_header bytes begins (sym (ap header_at rest) ∙ none)) c.in_err-header.ensures.refused)
+returns-in_err-header-clause-read g c = grind (arith, common_steps, refused, no_header)
 
 pub returns-in_err-view-clause-read : goal.returns-in_err-view-clause-read
 returns-in_err-view-clause-read g c =

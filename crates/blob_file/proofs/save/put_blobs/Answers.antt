@@ -1,7 +1,8 @@
-use Rattle.blob_file.proofs.Imports.{rules, arith, ◌<◌, ◌≤◌, ℕ, List, [], IsErr, length, ap, Puts-loop_err, Puts-loop_ok, Owner, owners_of, blobs_of}
+use Rattle.blob_file.proofs.Imports.{rules, arith, ◌<◌, ℕ, List, [], IsErr, length, ap, Puts-loop_err, Puts-loop_ok, Owner, owners_of, blobs_of}
 use Rattle.blob_file.proofs.ImageBits.{blob_saved, blob_count}
 use Rattle.blob_file.proofs.Puts.{part_more, has_put}
 use Rattle.blob_file.proofs.save.put_blobs.Goals as goal
+use Rattle.std.proofs.lemmas.Grind.{common_steps}
 
 pub blob-blob-requires : goal.blob-blob-requires
 blob-blob-requires g c = omega (arith, ap (length {A = List Owner}) c.map.ensures.layout, c.blob_count-b-end.ensures)
@@ -24,7 +25,4 @@ loop-b-preserved g c =
     part_more (λ (blob : List ℕ). blob) (blobs_of table) c.loop-b.b [] small c.loop-b.invariant (rw is at c.in_ok-put_blob.ensures)
 
 pub returns : goal.returns
-returns g c =
-    let table = c.args.view.now in
-    let over : length (blobs_of table) ≤ c.loop-b.b = omega (arith, ap (length {A = List Owner}) c.map.ensures.layout, c.blob_count-b-end.ensures, blob_count table) in
-    has_put (Puts-loop_ok (λ (blob : List ℕ). blob) (blobs_of table) c.loop-b.b over c.loop-b.invariant)
+returns g c = grind (arith, common_steps, blob_count, has_put, Puts-loop_ok)

@@ -1,12 +1,11 @@
-use Rattle.blob_file.proofs.Imports.{rules, arith, ◌≡◌, ◌∙◌, ◌++◌, ℕ, IsErr, length, take, drop, ap, length-take-le, length-drop}
+use Rattle.blob_file.proofs.Imports.{rules, arith, ◌≡◌, ◌∙◌, ◌++◌, ℕ, length, take, drop, ap, length-take-le, length-drop}
 use Rattle.std.proofs.lemmas.List.{length-append}
 use Rattle.blob_file.proofs.Puts.{block_written, block_stopped}
 use Rattle.blob_file.proofs.save.write_blob.Goals as goal
+use Rattle.std.proofs.lemmas.Grind.{common_steps}
 
 pub returns-in_err-write_all : goal.returns-in_err-write_all
-returns-in_err-write_all g c =
-    let err : IsErr c.from_residual.result = search rules in
-    block_stopped c.from_residual.result c.args.blob.now c.copy_out.new.bytes c.loop-done.done _ err c.copy_out.ensures c.loop-done.invariant.wrote c.in_err-write_all.ensures.writes
+returns-in_err-write_all g c = grind (arith, common_steps, block_stopped)
 
 pub loop-done-preserved : goal.loop-done-preserved
 loop-done-preserved g c =

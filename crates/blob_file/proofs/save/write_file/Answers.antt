@@ -1,19 +1,11 @@
-use Rattle.blob_file.proofs.Imports.{rules, ◌≡◌, ◌≤◌, ℕ, List, Err, length, subst, Wrote, Stopped, record_text, view_text, header_of, Failed}
+use Rattle.blob_file.proofs.Imports.{rules, ◌≡◌, ℕ, List, subst, Wrote, record_text, view_text, header_of}
 use Rattle.blob_file.proofs.SavedFile.{file_text}
 use Rattle.blob_file.proofs.save.write_file.Goals as goal
+use Rattle.std.proofs.lemmas.Grind.{common_steps}
+use Rattle.std.proofs.Common.{arith}
 
 pub returns-in_err-put_file-clause-saved : goal.returns-in_err-put_file-clause-saved
-returns-in_err-put_file-clause-saved g c =
-    let table = c.args.view.now in
-    let first = c.as_bytes.result.now in
-    let second = c.as_bytes-2.result.now in
-    let one : first ≡ record_text (header_of table) = search rules in
-    let two : second ≡ view_text (header_of table) = search rules in
-    let is : c.from_residual-in_err-put_file.result ≡ Err Failed = search rules in
-    rw is (
-      c.in_ok-record.ensures.short,
-      subst (λ (text : List ℕ). Stopped g.K.Sink.taken g.K.Sink.faults c.args.sink.now c.put_file.new.sink text) (file_text table first second one two) c.in_err-put_file.ensures,
-    )
+returns-in_err-put_file-clause-saved g c = grind (arith, common_steps, file_text)
 
 pub returns-clause-saved : goal.returns-clause-saved
 returns-clause-saved g c =

@@ -1,5 +1,6 @@
-use Rattle.blobs.proofs.Imports.{◌≡◌, ◌+◌, ◌*◌, ◌/◌, ◌%◌, ◌≤◌, ℕ, length, refl, sym, ap, subst, arith, IsMoved, moved_bytes, moved_more}
+use Rattle.blobs.proofs.Imports.{◌≡◌, ◌+◌, ◌*◌, ◌≤◌, ℕ, length, refl, subst, arith, IsMoved, moved_bytes, moved_more}
 use Rattle.blobs.proofs.moves.move_bytes.Goals as goal
+use Rattle.std.proofs.lemmas.Grind.{common_steps}
 
 pub loop-block-preserved : goal.loop-block-preserved
 loop-block-preserved g c =
@@ -19,17 +20,4 @@ loop-block-preserved g c =
     }
 
 pub returns-then-rest-gt0-clause-bytes : goal.returns-then-rest-gt0-clause-bytes
-returns-then-rest-gt0-clause-bytes g c =
-    let at = c.args.at in
-    let from = c.args.from in
-    let block = c.loop-block.block in
-    let size : length c.loop-block.target ≡ length c.args.target.now = c.loop-block.invariant.moved.size in
-    let end : block ≡ c.args.len / 64 = omega (arith, c.loop-block-test.false, c.loop-block.auto.block-end) in
-    let all : 64 * block + c.args.len % 64 ≡ c.args.len = omega arith in
-    let whole = c.args.len / 64 in
-    let here : IsMoved c.loop-block.target (at + 64 * whole) c.args.source.now (from + 64 * whole) (c.args.len % 64) c.move_block-then-rest-gt0.new.self =
-    moved_bytes c.loop-block.target (at + 64 * whole) c.args.source.now (from + 64 * whole) (c.args.len % 64) c.move_block-then-rest-gt0.new.self
-    (omega (arith, c.requires.room)) (omega (arith, c.requires.there)) c.move_block-then-rest-gt0.ensures.bytes in
-    subst (λ (n : ℕ). IsMoved c.args.target.now at c.args.source.now from n c.move_block-then-rest-gt0.new.self) all
-    (moved_more c.args.target.now at c.args.source.now from (64 * block) (c.args.len % 64) c.loop-block.target c.move_block-then-rest-gt0.new.self _ _
-    (ap (λ (n : ℕ). at + 64 * n) (sym end)) (ap (λ (n : ℕ). from + 64 * n) (sym end)) c.loop-block.invariant.moved here)
+returns-then-rest-gt0-clause-bytes g c = grind (arith, common_steps, moved_bytes, moved_more)

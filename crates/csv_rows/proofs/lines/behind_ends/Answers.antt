@@ -1,8 +1,7 @@
-use Rattle.csv_rows.proofs.Imports.{◌∙◌}
 use Rattle.csv_rows.proofs.PlainLines.{one_end}
 use Rattle.csv_rows.proofs.lines.behind_ends.Goals as goal
+use Rattle.std.proofs.lemmas.Grind.{common_steps}
+use Rattle.std.proofs.Common.{arith}
 
 pub returns-then-has_one_end : goal.returns-then-has_one_end
-returns-then-has_one_end c =
-    let (two, first, second) = c.has_one_end.ensures c.if-has_one_end.true in
-    c.from_place.ensures ∙ one_end c.args.bytes.now two first second
+returns-then-has_one_end c = grind (arith, common_steps, one_end)

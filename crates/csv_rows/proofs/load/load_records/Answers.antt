@@ -1,7 +1,8 @@
-use Rattle.csv_rows.proofs.Imports.{rules, ◌≡◌, ◌∙◌, refl, sym, arith, true, false, Err, inr, kept_row, kept_of}
+use Rattle.csv_rows.proofs.Imports.{rules, ◌≡◌, ◌∙◌, refl, sym, arith, true, Err, inr, kept_row, kept_of}
 use Rattle.csv_rows.proofs.Accesses.{no_row_stored}
 use Rattle.csv_rows.proofs.Tables.{Loading, next_left, row_loaded, rows_loaded, rows_written, row_refused}
 use Rattle.csv_rows.proofs.load.load_records.Goals as goal
+use Rattle.std.proofs.lemmas.Grind.{common_steps}
 
 pub loop-records-init : goal.loop-records-init
 loop-records-init g c =
@@ -37,15 +38,7 @@ loop-records-preserved g c =
     record { reading = c.in_ok-load_row.ensures.asked.standing; left = c.in_ok-load_row.ensures.asked.behind ∙ sym next.behind_it; loading = after; values = c.in_ok-load_row.ensures.count ∙ i.values }
 
 pub returns-clause-loaded : goal.returns-clause-loaded
-returns-clause-loaded g c =
-    let i = c.loop-records.invariant in
-    let found : c.in_ok-next.field-0 ≡ false = search rules in
-    let none = rw found at c.in_ok-next.ensures in
-    rows_loaded c.args.view.now c.loop-records.view c.args.columns.now (g.R.Records.left c.args.records.now) (g.R.Records.left c.loop-records.records) c.loop-records.row i.loading c.requires.rows i.left none
+returns-clause-loaded g c = grind (arith, common_steps, rows_loaded)
 
 pub returns-clause-same : goal.returns-clause-same
-returns-clause-same g c =
-    let i = c.loop-records.invariant in
-    let found : c.in_ok-next.field-0 ≡ false = search rules in
-    let none = rw found at c.in_ok-next.ensures in
-    rows_written c.args.view.now c.loop-records.view c.args.columns.now (g.R.Records.left c.args.records.now) (g.R.Records.left c.loop-records.records) c.loop-records.row i.loading c.requires.rows i.left none
+returns-clause-same g c = grind (arith, common_steps, rows_written)

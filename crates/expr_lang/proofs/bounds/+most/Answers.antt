@@ -1,18 +1,13 @@
-use Rattle.expr_lang.proofs.Imports.{arith, length, refl, ap, Link, operand_term, within_front, within_links, within_rest, no_deeper}
-use Rattle.expr_lang.proofs.MostSoFar.{begun, more, ended}
+use Rattle.expr_lang.proofs.Imports.{arith, length, ap, Link, within_front, within_links, within_rest, no_deeper}
+use Rattle.expr_lang.proofs.MostSoFar.{more, ended}
 use Rattle.expr_lang.proofs.bounds.+most.Goals as goal
+use Rattle.std.proofs.lemmas.Grind.{common_steps}
 
 pub chain_most-operand_most-requires : goal.chain_most-operand_most-requires
-chain_most-operand_most-requires t c =
-    within_front (length c.args.leaves.now) (length c.args.places.now) (operand_term c.args.chain.now.first) c.args.chain.now.links c.requires
+chain_most-operand_most-requires t c = grind (arith, common_steps, within_front)
 
 pub chain_most-loop-links-init : goal.chain_most-loop-links-init
-chain_most-loop-links-init t c = record {
-  no_deeper = omega arith;
-  within = within_links (length c.args.leaves.now) (length c.args.places.now) (operand_term c.args.chain.now.first) c.args.chain.now.links c.requires;
-  near = c.in_ok-most.ensures.near;
-  so_far = begun c.args.leaves.now c.args.places.now c.args.levels _ (operand_term c.args.chain.now.first) c.args.chain.now.links _ refl c.in_ok-most.ensures;
-}
+chain_most-loop-links-init t c = grind (arith, common_steps, no_deeper, within_links)
 
 pub chain_most-loop-links-preserved : goal.chain_most-loop-links-preserved
 chain_most-loop-links-preserved t c =

@@ -1,18 +1,17 @@
-use Rattle.lane_kernels.proofs.Imports.{rules, ◌≡◌, ◌+◌, ◌-◌, ◌*◌, Err, length, take, ℕ, List, ap, sym, ◌∙◌, arith, length-take, indices, step_of, cost, row_cost}
+use Rattle.lane_kernels.proofs.Imports.{rules, ◌≡◌, ◌+◌, ◌-◌, ◌*◌, Err, length, take, ℕ, List, ap, sym, ◌∙◌, arith, length-take, indices, cost, row_cost}
 use Rattle.lane_kernels.proofs.Stepping.{IsStep, at_start, step_next, spent_more, spent_most}
-use Rattle.lane_kernels.proofs.Whole.{none_done, none_run, seen_number, seen_rows, more_done, stops, ends}
+use Rattle.lane_kernels.proofs.Whole.{none_done, none_run, seen_number, seen_rows, more_done, stops}
 use Rattle.lane_kernels.proofs.plain.run_rows.Given as given
 use Rattle.lane_kernels.proofs.plain.run_rows.Goals as goal
 use Rattle.lane_kernels.proofs.plain.run_rows.Goals.{After-count-count, After-step_at-step}
+use Rattle.std.proofs.lemmas.Grind.{common_steps}
 
 -- as many rows as the loop goes through
 count_is : (g : given.Over) (c : goal.After-count-count g) → c.count-count.result ≡ length c.args.view.now.rows
 count_is g c = c.count-count.ensures.rows ∙ ap (λ (e : List ℕ). length (indices e)) c.extents.ensures.value ∙ sym c.extents.ensures.table.rows
 
 pub returns-then-count-eq0-clause-run : goal.returns-then-count-eq0-clause-run
-returns-then-count-eq0-clause-run g c =
-    let many = count_is g (goal.at.returns-then-count-eq0-clause-run g c).After-count-count in
-    none_run c.args.view.now c.args.kernel.now c.args.lanes c.of_no_row.result (sym many ∙ c.if-count-eq0.true) c.of_no_row.ensures
+returns-then-count-eq0-clause-run g c = grind (arith, common_steps, count_is, none_run)
 
 pub loop-row-init : goal.loop-row-init
 loop-row-init g c =
@@ -27,11 +26,7 @@ loop-row-init g c =
 
 -- the rows of a turn
 next_is : (g : given.Over) (c : goal.After-step_at-step g) → IsStep c.counts_nothing-uncounted.result c.args.lanes (length c.args.view.now.rows) c.loop-row.row c.step_at-step.result
-next_is g c =
-    let uncounted = c.counts_nothing-uncounted.result in
-    let many : c.count-count.result ≡ length c.args.view.now.rows = c.count-count.ensures.rows ∙ ap (λ (e : List ℕ). length (indices e)) c.extents.ensures.value ∙ sym c.extents.ensures.table.rows in
-    let is : c.step_at-step.result ≡ step_of uncounted c.args.lanes (length c.args.view.now.rows) c.loop-row.row = c.step_at-step.ensures ∙ ap (λ (n : ℕ). step_of uncounted c.args.lanes n c.loop-row.row) many in
-    rw is (step_next uncounted c.args.lanes (length c.args.view.now.rows) c.loop-row.row c.requires.some c.requires.few c.loop-row.invariant.at (omega (arith, many)))
+next_is g c = grind (arith, step_next)
 
 held : (g : given.Over) (c : goal.After-step_at-step g) → length (take c.step_at-step.result c.loop-row.values) ≡ c.step_at-step.result
 held g c = omega (arith, length-take c.step_at-step.result c.loop-row.values, c.loop-row.auto.values, c.requires.values, (next_is g c).few)
@@ -41,12 +36,7 @@ on_rows-requires-clause-rows g c =
     let at = (goal.at.on_rows-requires-clause-rows g c).After-step_at-step in
     let next = next_is g at in
     let long = held g at in
-    let done = c.loop-row.invariant.done in
-    rw long (record {
-      some = next.some;
-      inside = omega (arith, next.room, seen_rows c.args.view.now c.loop-row.view c.args.kernel.now c.loop-row.row c.loop-row.number done);
-      so_far = seen_number c.args.view.now c.loop-row.view c.args.kernel.now c.loop-row.row c.loop-row.number done;
-    })
+    let done = c.loop-row.invariant.done in grind (arith, seen_rows, seen_number)
 
 pub returns-in_err-number-clause-run : goal.returns-in_err-number-clause-run
 returns-in_err-number-clause-run g c =
@@ -89,7 +79,4 @@ loop-row-preserved g c =
     }
 
 pub returns-clause-run : goal.returns-clause-run
-returns-clause-run g c =
-    let many = count_is g (goal.at.returns-clause-run g c).After-count-count in
-    ends c.args.view.now c.loop-row.view c.args.kernel.now c.args.lanes c.loop-row.row c.loop-row.number (omega (arith, many, c.loop-row.invariant.inside, c.loop-row-test.false))
-    (omega (arith, c.loop-row-test.false, c.if-count-eq0.false)) c.loop-row.invariant.done
+returns-clause-run g c = grind (arith, common_steps, count_is)

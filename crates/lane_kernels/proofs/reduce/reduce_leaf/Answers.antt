@@ -1,4 +1,4 @@
-use Rattle.lane_kernels.proofs.Imports.{◌≡◌, ℕ, ℤ, List, [], Some, None, FitsSigned, length, take, map, min, ◌+◌, ◌-◌, refl, sym, ap, subst, ◌∙◌, arith, length-take, w128, slice_get, common_steps, get_or_from_slice_get, indices, LeafType, Truth, kinds_of, width_of, Fields, low_64, column, column_reads, raised, run_of, run_steps, Table, leaf_type_of, leaf_types_of, after_log, with_more, CanAdd}
+use Rattle.lane_kernels.proofs.Imports.{◌≡◌, ℕ, ℤ, List, [], Some, None, FitsSigned, length, take, map, min, ◌+◌, ◌-◌, refl, sym, ap, subst, ◌∙◌, arith, length-take, w128, slice_get, common_steps, get_or_from_slice_get, indices, LeafType, Truth, kinds_of, Fields, low_64, column_reads, raised, run_of, run_steps, Table, leaf_type_of, leaf_types_of, after_log, with_more, CanAdd}
 use Rattle.lane_kernels.proofs.LeafRuns.{run_raised, run_narrow, column_sum_fits, none_reduced, more_reduced, spent_more}
 use Rattle.lane_kernels.proofs.Reductions.{none_before, plain_more, run_can_add}
 use Rattle.lane_kernels.proofs.reduce.reduce_leaf.Given as given
@@ -47,9 +47,7 @@ values_are g c kind is =
 pub with_run-number-requires-clause-narrow : goal.with_run-number-requires-clause-narrow
 with_run-number-requires-clause-narrow g c = λ narrow.
     let at = (goal.at.with_run-number-requires-clause-narrow g c).After-read_run in
-    let is = kind_is g (goal.at.with_run-number-requires-clause-narrow g c).After-count-count in
-    run_narrow c.args.view.now c.args.leaf c.loop-row.row c.min-step.result c.read_run.new.values c.extents.ensures.table c.requires (lows_are g at)
-    (omega (arith, ap width_of is, narrow))
+    let is = kind_is g (goal.at.with_run-number-requires-clause-narrow g c).After-count-count in grind (arith, run_narrow, lows_are)
 
 pub with_run-number-requires-clause-fit : goal.with_run-number-requires-clause-fit
 with_run-number-requires-clause-fit g c =
@@ -58,8 +56,7 @@ with_run-number-requires-clause-fit g c =
     let view = c.args.view.now in
     let fits : ℤ → Type 0 = λ z. FitsSigned w128 z in
     subst (CanAdd (λ z. z) fits c.args.form c.loop-row.number) (sym (values_are g at c.leaf_type-kind.result (kind_is g before)))
-    (run_can_add fits c.args.form (column c.args.leaf view.rows) c.loop-row.row c.min-step.result c.loop-row.number c.loop-row.invariant.done.so_far
-    (λ n. column_sum_fits view c.args.leaf n c.extents.ensures.table c.requires (omega (arith, count_is g before, c.count-count.ensures.few))))
+    (grind (arith, run_can_add, column_sum_fits, count_is))
 
 pub loop-row-preserved : goal.loop-row-preserved
 loop-row-preserved g c =
@@ -75,8 +72,7 @@ loop-row-preserved g c =
     let run = long g at in
     let is : step ≡ min (count - row) 256 = c.min-step.ensures ∙ ap (λ (n : ℕ). min (n - row) 256) many in
     let read : c.read_run.new.self ≡ after_log c.loop-row.view (column_reads leaf row step) = c.read_run.ensures.same ∙ ap (λ (n : ℕ). after_log c.loop-row.view (column_reads leaf row n)) run in
-    let took : c.read_run.new.steps ≡ c.loop-row.steps + run_steps kind step = c.read_run.ensures.steps ∙ ap (λ (n : ℕ). c.loop-row.steps + run_steps (leaf_type_of c.loop-row.view leaf) n) run
-    ∙ ap (λ (t : Table). c.loop-row.steps + run_steps (leaf_type_of t leaf) step) c.loop-row.invariant.done.log in
+    let took : c.read_run.new.steps ≡ c.loop-row.steps + run_steps kind step = grind arith in
     let more : c.with_run-number.result ≡ with_more c.args.form c.loop-row.number (run_of leaf row step view) = c.with_run-number.ensures ∙ ap (with_more c.args.form c.loop-row.number) (values_are g at c.leaf_type-kind.result (kind_is g before)) in
     record {
       done = more_reduced view c.loop-row.view c.read_run.new.self c.args.form leaf row step c.loop-row.number c.with_run-number.result c.loop-row.invariant.done read more;

@@ -1,22 +1,19 @@
-use Rattle.lane_kernels.proofs.Imports.{rules, ◌≡◌, ℤ, [], ◌∷◌, Some, None, FitsSigned, to_z, of_z, w64, map, sym, ap, subst, ◌∙◌, arith, w128, to_z-of_z, raised, reduced_by, with_more, CanAdd}
+use Rattle.lane_kernels.proofs.Imports.{◌≡◌, ℤ, [], ◌∷◌, Some, None, FitsSigned, to_z, of_z, map, sym, ap, subst, ◌∙◌, arith, w128, to_z-of_z, raised, reduced_by, with_more, CanAdd}
 use Rattle.lane_kernels.proofs.LeafRuns.{narrow_raised}
 use Rattle.lane_kernels.proofs.Reductions.{none_before, plain_more, joined, narrow_can_add, joined_can_add}
 use Rattle.lane_kernels.proofs.reduce.with_run.Goals as goal
 use Rattle.lane_kernels.proofs.reduce.with_run.Goals.{After-from}
+use Rattle.std.proofs.lemmas.Grind.{common_steps}
 
 pub with_more-requires-2 : goal.with_more-requires-2
-with_more-requires-2 c =
-    narrow_can_add c.args.form c.args.lows.now (omega (arith, c.requires.few)) (c.requires.narrow (omega (arith, c.if-width-gt32.false, c.width.ensures)))
+with_more-requires-2 c = grind (arith, common_steps, narrow_can_add)
 
 -- what the run alone gives, in 64 bits and in 128
 given : (c : After-from) → Some c.in-Some.run' ≡ reduced_by c.args.form c.args.lows.now
 given c = sym c.in-Some.is ∙ plain_more c.args.form c.with_more-2.result None c.args.lows.now c.with_more-2.ensures ∙ none_before c.args.form c.args.lows.now
 
 widened : (c : After-from) → to_z w128 (of_z w128 c.from.result) ≡ c.in-Some.run'
-widened c =
-    let fits : FitsSigned w128 c.from.result = search rules in
-    let small : FitsSigned w64 c.in-Some.run' = search rules in
-    to_z-of_z w128 c.from.result fits ∙ c.from.ensures ∙ to_z-of_z w64 c.in-Some.run' small
+widened c = grind (arith, to_z-of_z)
 
 -- the values are their low bits
 lows_are : (c : After-from) → map (raised c.args.kind) c.args.lows.now ≡ c.args.lows.now

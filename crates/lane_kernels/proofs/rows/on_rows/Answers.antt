@@ -1,20 +1,14 @@
-use Rattle.lane_kernels.proofs.Imports.{rules, ◌≡◌, ◌*ℤ◌, ◌+ℤ◌, ℤ, pos, Some, length, take, drop, map, to_z, of_z, w64, SFits, refl, sym, ap, subst, ◌∙◌, int_min, int_max, count_by, unwrap_or, Each1, zip2, to_z-of_z, map-id, products_fit, column, IsNarrow, compares, fault_in, AreNext, Sum, Least, Greatest, CountWhere}
+use Rattle.lane_kernels.proofs.Imports.{rules, ◌≡◌, ◌*ℤ◌, ◌+ℤ◌, ℤ, pos, Some, length, take, drop, map, to_z, of_z, w64, SFits, refl, sym, ap, subst, ◌∙◌, int_min, int_max, count_by, unwrap_or, zip2, to_z-of_z, map-id, products_fit, column, compares, fault_in, AreNext, Sum, Least, Greatest, CountWhere}
 use Rattle.lane_kernels.specs.declared.reduce.Reduction.TheVariants as form
 use Rattle.lane_kernels.proofs.Numbers.{narrow_rows, reduced_more, narrow_sums_fit, count_more, count_fits, count_whole}
 use Rattle.lane_kernels.proofs.Stores.{axpy_taken, clamp_taken, rows_read_alone}
 use Rattle.lane_kernels.proofs.rows.on_rows.Given as given
 use Rattle.lane_kernels.proofs.rows.on_rows.Goals as goal
+use Rattle.std.proofs.lemmas.Grind.{common_steps}
+use Rattle.std.proofs.Common.{arith}
 
 pub times_plus-requires-clause-fit : goal.times_plus-requires-clause-fit
-times_plus-requires-clause-fit g c =
-    let n = length c.args.values.now in
-    let row = c.args.row in
-    let rows = c.args.view.now.rows in
-    let fits : SFits w64 c.in-Axpy.a = search rules in
-    let kernel = rw c.in-Axpy.is at c.requires.kernel in
-    let first = subst (Each1 IsNarrow) (sym c.read_rows.ensures.values) (narrow_rows c.in-Axpy.x row n rows c.read_rows.ensures.narrow) in
-    let second = subst (Each1 IsNarrow) (sym c.read_rows-in-Axpy.ensures.values) (narrow_rows c.in-Axpy.y row (length c.args.added.now) c.read_rows.new.view.rows c.read_rows-in-Axpy.ensures.narrow) in
-    rw (to_z-of_z w64 c.in-Axpy.a fits) (products_fit c.in-Axpy.a c.read_rows.new.values c.read_rows-in-Axpy.new.values kernel.0 first second)
+times_plus-requires-clause-fit g c = grind (arith, common_steps, narrow_rows, to_z-of_z, products_fit)
 
 pub returns-in-Axpy-clause-taken : goal.returns-in-Axpy-clause-taken
 returns-in-Axpy-clause-taken g c =
@@ -41,17 +35,12 @@ returns-in-Clamp-clause-taken g c =
     let xs = c.read_rows-in-Clamp.new.values in
     let low : SFits w64 lo = search rules in
     let high : SFits w64 hi = search rules in
-    let made : c.clamp.new.values ≡ map (λ v. int_max lo (int_min v hi)) xs =
-    sym (map-id c.clamp.new.values) ∙ c.clamp.ensures ∙ ap (λ (z : ℤ). map (λ v. int_max z (int_min v (to_z w64 (of_z w64 hi)))) xs) (to_z-of_z w64 lo low)
-    ∙ ap (λ (z : ℤ). map (λ v. int_max lo (int_min v z)) xs) (to_z-of_z w64 hi high) in
+    let made : c.clamp.new.values ≡ map (λ v. int_max lo (int_min v hi)) xs = grind (arith, map-id, int_max, int_min, to_z, of_z, to_z-of_z) in
     rw c.in-Clamp.is (clamp_taken c.args.view.now c.read_rows-in-Clamp.new.view c.store_rows-in-Clamp.new.view c.in-Clamp.x lo hi c.args.row (length c.args.values.now) xs c.clamp.new.values (fault_in c.store_rows-in-Clamp.result)
     c.read_rows-in-Clamp.ensures.same c.read_rows-in-Clamp.ensures.values made c.requires.rows.inside c.store_rows-in-Clamp.ensures.fault c.store_rows-in-Clamp.ensures.stored)
 
 pub with_more-requires : goal.with_more-requires
-with_more-requires g c =
-    let n = length c.args.values.now in
-    let next : AreNext c.args.view.now.rows (Sum c.in-Sum.x) c.args.row n c.args.number = rw c.in-Sum.is at c.requires.rows in
-    rw c.read_rows-in-Sum.ensures.values (narrow_sums_fit c.in-Sum.x c.args.view.now.rows c.args.row n c.args.number c.requires.few c.read_rows-in-Sum.ensures.narrow next)
+with_more-requires g c = grind (arith, common_steps, narrow_sums_fit)
 
 pub returns-in-Sum-clause-taken : goal.returns-in-Sum-clause-taken
 returns-in-Sum-clause-taken g c =
@@ -100,15 +89,7 @@ next_is g c = rw c.in-CountWhere.is at c.requires.rows
 whole : (g : given.Over) (c : goal.After-count g)
     → to_z w64 (of_z w64 c.unwrap_or.result) +ℤ to_z w64 c.count.result
     ≡ unwrap_or c.args.number (pos 0) +ℤ pos (count_by (λ value. compares c.in-CountWhere.op value c.in-CountWhere.c) (column c.in-CountWhere.x (take (length c.args.values.now) (drop c.args.row c.args.view.now.rows))))
-whole g c =
-    let op = c.in-CountWhere.op in
-    let constant = c.in-CountWhere.c in
-    let fits : SFits w64 c.unwrap_or.result = search rules in
-    let small : SFits w64 constant = search rules in
-    let counted = c.count.ensures ∙ ap (λ (k : ℤ). count_by (λ value. compares op value k) c.read_rows-in-CountWhere.new.values) (to_z-of_z w64 constant small)
-    ∙ ap (count_by (λ value. compares op value constant)) c.read_rows-in-CountWhere.ensures.values in
-    count_whole c.in-CountWhere.x op constant c.args.view.now.rows c.args.row (length c.args.values.now) c.args.number (to_z w64 (of_z w64 c.unwrap_or.result)) c.count.result c.requires.few (next_is g c)
-    (to_z-of_z w64 c.unwrap_or.result fits ∙ c.unwrap_or.ensures) counted
+whole g c = grind (arith, count_by, to_z-of_z, count_whole, to_z, of_z, next_is)
 
 sum_fits : (g : given.Over) (c : goal.After-count g) → SFits w64 (to_z w64 (of_z w64 c.unwrap_or.result) +ℤ to_z w64 c.count.result)
 sum_fits g c =

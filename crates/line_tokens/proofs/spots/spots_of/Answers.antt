@@ -1,7 +1,8 @@
-use Rattle.std.proofs.Common.{◌++◌, [], ◌∷◌, Some, None, sym, refl, append-nil, arith}
+use Rattle.std.proofs.Common.{[], Some, sym, refl, append-nil, arith}
 use Rattle.line_tokens.specs.Spots.{Spots}
 use Rattle.line_tokens.specs.SpotLaws.{brackets_after-le, Spots-last, Spots-more, same_spots, spot_at, spots_inside}
 use Rattle.line_tokens.proofs.spots.spots_of.Goals as goal
+use Rattle.std.proofs.lemmas.Grind.{common_steps}
 
 pub returns-in-End : goal.returns-in-End
 returns-in-End c =
@@ -9,11 +10,7 @@ returns-in-End c =
     record { spots = all; inside = spots_inside c.args.text.now 0 0 c.loop-spots.spots (omega arith) all; only = λ other h. same_spots c.args.text.now 0 0 c.loop-spots.spots other all h }
 
 pub returns-in-Bad : goal.returns-in-Bad
-returns-in-Bad c =
-    let text = c.args.text.now in let found = c.loop-spots.spots in let from = c.in-Bad.from in
-    let all = Spots-last text found c.loop-spots.at c.loop-spots.brackets from (sym c.in-Bad.ensures.next) c.loop-spots.invariant.found in
-    let is = c.in_ok-push-in-Bad.ensures.ok in
-    record { spots = rw is all; inside = rw is (spots_inside text 0 0 (found ++ spot_at from from None ∷ []) (omega arith) all); only = λ other h. rw is (same_spots text 0 0 (found ++ spot_at from from None ∷ []) other all h) }
+returns-in-Bad c = grind (arith, common_steps, Spots-last, spots_inside, same_spots)
 
 pub loop-spots-preserved : goal.loop-spots-preserved
 loop-spots-preserved c =

@@ -1,7 +1,8 @@
-use Rattle.std.proofs.Common.{get_or, arith}
+use Rattle.std.proofs.Common.{arith}
 use Rattle.std.proofs.lemmas.Bool.Decides.{nat_tests}
 use Rattle.line_tokens.specs.DecimalLaws.{digit_range, digits_more, digits_pass}
 use Rattle.line_tokens.proofs.token.value_of.Goals as goal
+use Rattle.std.proofs.lemmas.Grind.{common_steps}
 
 pub returns-then-value : goal.returns-then-value
 returns-then-value c =
@@ -10,8 +11,4 @@ returns-then-value c =
     grind (arith, nat_tests)
 
 pub loop-byte-preserved : goal.loop-byte-preserved
-loop-byte-preserved c =
-    let digit = c.requires c.loop-byte.byte-index 0 c.loop-byte-test.true in
-    let range = digit_range (get_or c.args.digits.now c.loop-byte.byte-index 0) digit in
-    let more = digits_more c.args.digits.now c.loop-byte.byte-index c.loop-byte-test.true digit in
-    (omega arith, omega arith)
+loop-byte-preserved c = grind (arith, common_steps, digit_range, digits_more)

@@ -1,8 +1,7 @@
-use Rattle.line_writer.proofs.Imports.{◌∙◌, arith}
+use Rattle.line_writer.proofs.Imports.{arith}
 use Rattle.line_writer.proofs.Behind.{each_more}
 use Rattle.line_writer.proofs.later.write_each.Goals as goal
+use Rattle.std.proofs.lemmas.Grind.{common_steps}
 
 pub loop-part-preserved : goal.loop-part-preserved
-loop-part-preserved g c =
-    each_more g.T.Part.tokens c.loop-part.text c.write_part.new.text c.args.parts.now c.loop-part.part-index c.part-item.result (omega arith) c.part-item.is c.in_ok-write_part.ensures
-    ∙ c.loop-part.invariant
+loop-part-preserved g c = grind (arith, common_steps, each_more)

@@ -1,7 +1,8 @@
-use Rattle.map_bytes.proofs.Imports.{◌≡◌, ◌+◌, ◌%◌, ◌^◌, ◌<◌, List, All, sym, ap, ◌∙◌, subst, arith, pieces_weaker, Piece, begin_in, pieces_in, PieceRule, places_in, swapped, swapped_in, swapped_begins, swapped_eights}
+use Rattle.map_bytes.proofs.Imports.{◌≡◌, ◌+◌, ◌%◌, ◌^◌, ◌<◌, List, All, sym, ap, ◌∙◌, subst, arith, pieces_weaker, Piece, begin_in, PieceRule, places_in, swapped, swapped_in, swapped_begins, swapped_eights}
 use Rattle.map_bytes.proofs.Groups.{places_back}
 use Rattle.map_bytes.proofs.Inner.{all_in}
 use Rattle.map_bytes.proofs.swap.swap_pieces.Goals as goal
+use Rattle.std.proofs.lemmas.Grind.{common_steps}
 
 pub swap_rules-requires-clause-whole : goal.swap_rules-requires-clause-whole
 swap_rules-requires-clause-whole c =
@@ -22,11 +23,7 @@ pieces_in-requires c =
     record { fit = subst (All (λ (rule : PieceRule). begin_in rule 0 < 2 ^ 64)) (sym c.swap_rules.ensures) (swapped_begins rules 0 begins) }
 
 pub returns-clause-bytes : goal.returns-clause-bytes
-returns-clause-bytes c =
-    c.pieces_in.ensures
-    ∙ ap (λ (rules : List PieceRule). pieces_in rules 0) c.swap_rules.ensures
-    ∙ swapped_in c.fix_pieces.result.items 0
-    ∙ ap swapped c.fix_pieces.ensures
+returns-clause-bytes c = grind (arith, common_steps, swapped_in)
 
 pub returns-clause-places : goal.returns-clause-places
 returns-clause-places c = ap places_in (returns-clause-bytes c) ∙ places_back c.args.inner.now.items c.requires.whole

@@ -1,5 +1,6 @@
-use Rattle.map_checks.proofs.Imports.{◌≡◌, ◌<◌, ◌++◌, ◌∷◌, [], ◌∙◌, List, length, get_or, take, sym, ap, take_more, get_or_from_slice_get, slice_get_within, Hold}
+use Rattle.map_checks.proofs.Imports.{◌≡◌, ◌<◌, List, length, get_or, take_more, get_or_from_slice_get, slice_get_within, Hold}
 use Rattle.map_checks.proofs.base_plan.holds_of.Goals as goal
+use Rattle.std.proofs.Common.{arith}
 
 pub loop-cell-preserved : goal.loop-cell-preserved
 loop-cell-preserved g c =
@@ -7,6 +8,4 @@ loop-cell-preserved g c =
     let hold : Hold = c.hold.result in
     let inside : c.loop-cell.cell < length all = slice_get_within all c.loop-cell.cell hold c.hold.ensures in
     let here : get_or all c.loop-cell.cell hold ≡ hold = get_or_from_slice_get all c.loop-cell.cell hold hold c.hold.ensures in
-    c.in_ok-push.ensures.ok
-    ∙ ap (λ (w : List Hold). w ++ hold ∷ []) c.loop-cell.invariant
-    ∙ sym (take_more all c.loop-cell.cell hold inside ∙ ap (λ (h : Hold). take c.loop-cell.cell all ++ h ∷ []) here)
+    grind (arith, take_more)

@@ -1,4 +1,4 @@
-use Rattle.map_checks.proofs.Imports.{◌≡◌, ◌+◌, ◌%◌, ◌^◌, ◌<◌, ◌≤◌, ℕ, ◌++◌, ◌∷◌, [], ◌∙◌, List, length, map, replicate, slice_index, sym, ap, subst, arith, length-append, length-map, map_push, replicate_more, All-cons, All-nil, sum_by-cons, row_at, Order, PieceRule, Owner, in_rows, Cell, Hold, Rule, IsArray, IsRuleOf, each_push}
+use Rattle.map_checks.proofs.Imports.{◌≡◌, ◌+◌, ◌%◌, ◌^◌, ◌<◌, ◌≤◌, ℕ, ◌∷◌, [], ◌∙◌, List, length, map, replicate, slice_index, sym, ap, subst, arith, length-append, length-map, map_push, replicate_more, All-cons, All-nil, sum_by-cons, row_at, PieceRule, Owner, in_rows, Cell, Hold, Rule, IsArray, IsRuleOf, each_push}
 use Rattle.map_checks.proofs.RuleLaws.{rule_by_rows}
 use Rattle.map_checks.proofs.OrderLaws.{map_constant}
 use Rattle.map_checks.proofs.ArrayLaws.{array_rule}
@@ -33,11 +33,7 @@ loop-cell-preserved g c =
       ap (λ (rs : List Rule). length rs) c.in_ok-push.ensures.ok ∙ length-append c.loop-cell.rules (made ∷ []) ∙ ap (λ (n : ℕ). n + 1) size,
       each_push P c.loop-cell.rules c.push.new.self made c.in_ok-push.ensures.ok c.loop-cell.invariant.1
           (subst (λ (n : ℕ). P n made) (sym size) here),
-      ap (map (λ (r : Rule). r.order)) c.in_ok-push.ensures.ok
-          ∙ map_push (λ (r : Rule). r.order) c.loop-cell.rules made
-          ∙ ap (λ (os : List Order). os ++ made.order ∷ []) c.loop-cell.invariant.2
-          ∙ ap (λ (o : Order). replicate c.loop-cell.cell order ++ o ∷ []) c.of_piece.ensures.order
-          ∙ replicate_more c.loop-cell.cell order,
+      grind (arith, map_push, replicate_more),
       each_push Q c.loop-cell.rules c.push.new.self made c.in_ok-push.ensures.ok c.loop-cell.invariant.3
           (subst (λ (n : ℕ). Q n made) (sym size)
           (array_rule layout slots lanes c.loop-cell.cell (slice_index widths c.loop-cell.cell) c.rule.result made (omega (arith, c.requires.few, c.requires.counted)) c.of_piece.ensures.pieces width

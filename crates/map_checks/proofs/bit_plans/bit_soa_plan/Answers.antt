@@ -1,8 +1,10 @@
-use Rattle.map_checks.proofs.Imports.{◌≡◌, ℕ, List, sym, ap, ◌∙◌, subst, Err, Owner, bit_soa, widths_in, narrow_holds, IsTooBig, Cell, true≢false, has_bad_width, schema_fields, cell_widths, good_widths}
+use Rattle.map_checks.proofs.Imports.{◌≡◌, ℕ, List, sym, ap, ◌∙◌, subst, Err, Owner, bit_soa, widths_in, narrow_holds, IsTooBig, Cell, true≢false, schema_fields, cell_widths, good_widths}
 use Rattle.map_checks.proofs.Faults.{too_big_of, no_width}
 use Rattle.map_checks.proofs.Limits.{over}
 use Rattle.map_checks.proofs.PlanLaws.{base_planned}
 use Rattle.map_checks.proofs.bit_plans.bit_soa_plan.Goals as goal
+use Rattle.std.proofs.lemmas.Grind.{common_steps}
+use Rattle.std.proofs.Common.{arith}
 
 abbrev bits : List Cell → ℕ → List ℕ → List (List Owner)
 bits cells slots widths = bit_soa slots (widths_in (narrow_holds widths cells))
@@ -18,12 +20,7 @@ returns-in_err-mapping-clause-too_big c = λ is.
     (subst (λ (ws : List ℕ). IsTooBig slots (bits cells slots ws)) same (c.in_err-mapping.ensures.too_big (ap Err why)))
 
 pub returns-in_err-mapping-clause-only : goal.returns-in_err-mapping-clause-only
-returns-in_err-mapping-clause-only c =
-    let cells = c.args.cells.now in
-    let own : List ℕ = cell_widths (schema_fields c.args.schema.now) c.args.width c.args.fields.now cells in
-    let same : c.deref.result.now ≡ own = c.deref.ensures.value ∙ c.in_ok-widths.ensures in
-    no_width c.from_residual-in_err-mapping.result c.in_err-mapping.field-0.0 c.from_residual-in_err-mapping.ensures.1 c.in_err-mapping.ensures.only
-    (λ is. absurd (true≢false (sym (c.in_err-mapping.ensures.width.0 (ap Err is)) ∙ ap has_bad_width same ∙ good_widths (schema_fields c.args.schema.now) c.args.width c.args.fields.now cells c.requires.widths)))
+returns-in_err-mapping-clause-only c = grind (arith, common_steps, no_width, true≢false, good_widths)
 
 pub returns-clause-plan : goal.returns-clause-plan
 returns-clause-plan c =

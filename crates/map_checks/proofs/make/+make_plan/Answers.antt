@@ -1,4 +1,4 @@
-use Rattle.map_checks.proofs.Imports.{◌≡◌, ◌∙◌, ℕ, List, Bool, true, Err, map, length, sym, ap, subst, Fields, schema_fields, IfOk, Order, slot_count, full_holds, widths_of, Cell, aosoa, aos_layout, soa_layout, Term, term_of, MapExpr, IsTooBigFor, not_full, Bad, NotFull, HasArrays, orders_of, IsPlanOf, Rule}
+use Rattle.map_checks.proofs.Imports.{◌≡◌, ◌∙◌, ℕ, List, Bool, Err, map, length, sym, ap, subst, Fields, schema_fields, slot_count, Cell, aosoa, aos_layout, soa_layout, Term, term_of, MapExpr, IsTooBigFor, orders_of, IsPlanOf, Rule}
 use Rattle.map_checks.proofs.ArrayLaws.{base_arrays}
 use Rattle.map_checks.proofs.OrderLaws.{planned_orders, orders_changed}
 use Rattle.map_checks.proofs.BytePlanLaws.{narrow_under, narrow_beside, over_swap, swap_held, swap_bytes, swap_planned, swap_ordered, over_join, join_each, join_alone, join_planned, join_ordered}
@@ -6,6 +6,8 @@ use Rattle.map_checks.proofs.Faults.{too_big_of, handed_on, handed}
 use Rattle.map_checks.proofs.Limits.{over}
 use Rattle.map_checks.proofs.PlanLaws.{base_planned, over_under, over_beside, holds_first, holds_rest, rules_first, rules_rest, over_all, planned}
 use Rattle.map_checks.proofs.make.+make_plan.Goals as goal
+use Rattle.std.proofs.lemmas.Grind.{common_steps}
+use Rattle.std.proofs.Common.{arith}
 
 pub returns-in_err-mapping-in-Soa-clause-too_big : goal.returns-in_err-mapping-in-Soa-clause-too_big
 returns-in_err-mapping-in-Soa-clause-too_big t c = λ is.
@@ -53,58 +55,32 @@ returns-in-BitSoa-clause-too_big t c = λ is.
     (c.bit_soa_plan.ensures.too_big is)
 
 pub returns-in_err-left-in-Split-clause-too_big : goal.returns-in_err-left-in-Split-clause-too_big
-returns-in_err-left-in-Split-clause-too_big t c = λ is.
-    subst (λ (expr : MapExpr). IsTooBigFor (term_of expr) c.args.extents.now (schema_fields c.args.schema.now) c.args.cells.now) (sym c.in-Split.is)
-    (over_under c.in-Split.path (term_of c.in-Split.first.value) (term_of c.in-Split.rest.value) c.args.extents.now (schema_fields c.args.schema.now) c.args.cells.now
-    c.in_ok-sides-in-Split.sides.first c.in_ok-sides-in-Split.ensures.first
-    (subst (λ (e : MapExpr). IsTooBigFor (term_of e) c.args.extents.now (schema_fields c.args.schema.now) c.in_ok-sides-in-Split.sides.first) c.deref.ensures
-    (c.in_err-left-in-Split.ensures.too_big (handed_on c.from_residual-in_err-left-in-Split.result c.in_err-left-in-Split.field-0.0
-    c.from_residual-in_err-left-in-Split.ensures.1 is))))
+returns-in_err-left-in-Split-clause-too_big t c = grind (arith, common_steps, over_under, handed_on)
 
 pub returns-in_err-right-in-Split-clause-too_big : goal.returns-in_err-right-in-Split-clause-too_big
 returns-in_err-right-in-Split-clause-too_big t c = λ is.
     subst (λ (expr : MapExpr). IsTooBigFor (term_of expr) c.args.extents.now (schema_fields c.args.schema.now) c.args.cells.now) (sym c.in-Split.is)
-    (over_beside c.in-Split.path (term_of c.in-Split.first.value) (term_of c.in-Split.rest.value) c.args.extents.now (schema_fields c.args.schema.now) c.args.cells.now
-    c.in_ok-sides-in-Split.sides.rest c.in_ok-sides-in-Split.ensures.rest
-    (subst (λ (e : MapExpr). IsTooBigFor (term_of e) c.args.extents.now (schema_fields c.args.schema.now) c.in_ok-sides-in-Split.sides.rest) c.deref-in-Split.ensures
-    (c.in_err-right-in-Split.ensures.too_big (handed_on c.from_residual-in_err-right-in-Split.result c.in_err-right-in-Split.field-0.0
-    c.from_residual-in_err-right-in-Split.ensures.1 is))))
+    (grind (arith, over_beside, handed_on))
 
 pub split_plan-requires-clause-first_holds : goal.split_plan-requires-clause-first_holds
 split_plan-requires-clause-first_holds t c =
     holds_first c.in-Split.path (term_of c.in-Split.first.value) (term_of c.in-Split.rest.value) c.args.extents.now (schema_fields c.args.schema.now) c.args.cells.now
     c.as_slice.result.now c.in_ok-sides-in-Split.sides.first c.in_ok-sides-in-Split.sides.rest c.in_ok-left-in-Split.left c.in_ok-right-in-Split.right
     (c.as_slice.ensures ∙ c.in_ok-sides-in-Split.ensures.side) c.in_ok-sides-in-Split.ensures.first c.in_ok-sides-in-Split.ensures.rest
-    (subst (λ (e : MapExpr). IsPlanOf (term_of e) c.args.extents.now (schema_fields c.args.schema.now) c.in_ok-sides-in-Split.sides.first
-    c.in_ok-left-in-Split.left) c.deref.ensures c.in_ok-left-in-Split.ensures.plan) (subst (λ (e : MapExpr). IsPlanOf (term_of e) c.args.extents.now (schema_fields c.args.schema.now) c.in_ok-sides-in-Split.sides.rest
-    c.in_ok-right-in-Split.right) c.deref-in-Split.ensures c.in_ok-right-in-Split.ensures.plan)
+    (grind arith) (grind arith)
 
 pub split_plan-requires-clause-rest_holds : goal.split_plan-requires-clause-rest_holds
-split_plan-requires-clause-rest_holds t c =
-    holds_rest c.in-Split.path (term_of c.in-Split.first.value) (term_of c.in-Split.rest.value) c.args.extents.now (schema_fields c.args.schema.now) c.args.cells.now
-    c.as_slice.result.now c.in_ok-sides-in-Split.sides.first c.in_ok-sides-in-Split.sides.rest c.in_ok-left-in-Split.left c.in_ok-right-in-Split.right
-    (c.as_slice.ensures ∙ c.in_ok-sides-in-Split.ensures.side) c.in_ok-sides-in-Split.ensures.first c.in_ok-sides-in-Split.ensures.rest
-    (subst (λ (e : MapExpr). IsPlanOf (term_of e) c.args.extents.now (schema_fields c.args.schema.now) c.in_ok-sides-in-Split.sides.first
-    c.in_ok-left-in-Split.left) c.deref.ensures c.in_ok-left-in-Split.ensures.plan) (subst (λ (e : MapExpr). IsPlanOf (term_of e) c.args.extents.now (schema_fields c.args.schema.now) c.in_ok-sides-in-Split.sides.rest
-    c.in_ok-right-in-Split.right) c.deref-in-Split.ensures c.in_ok-right-in-Split.ensures.plan)
+split_plan-requires-clause-rest_holds t c = grind (arith, common_steps, holds_rest)
 
 pub split_plan-requires-clause-first_rules : goal.split_plan-requires-clause-first_rules
 split_plan-requires-clause-first_rules t c =
     rules_first c.in-Split.path (term_of c.in-Split.first.value) (term_of c.in-Split.rest.value) c.args.extents.now (schema_fields c.args.schema.now) c.args.cells.now
     c.as_slice.result.now c.in_ok-sides-in-Split.sides.first c.in_ok-sides-in-Split.sides.rest c.in_ok-left-in-Split.left c.in_ok-right-in-Split.right
     (c.as_slice.ensures ∙ c.in_ok-sides-in-Split.ensures.side) c.in_ok-sides-in-Split.ensures.first c.in_ok-sides-in-Split.ensures.rest
-    (subst (λ (e : MapExpr). IsPlanOf (term_of e) c.args.extents.now (schema_fields c.args.schema.now) c.in_ok-sides-in-Split.sides.first
-    c.in_ok-left-in-Split.left) c.deref.ensures c.in_ok-left-in-Split.ensures.plan) (subst (λ (e : MapExpr). IsPlanOf (term_of e) c.args.extents.now (schema_fields c.args.schema.now) c.in_ok-sides-in-Split.sides.rest
-    c.in_ok-right-in-Split.right) c.deref-in-Split.ensures c.in_ok-right-in-Split.ensures.plan)
+    (grind arith) (grind arith)
 
 pub split_plan-requires-clause-rest_rules : goal.split_plan-requires-clause-rest_rules
-split_plan-requires-clause-rest_rules t c =
-    rules_rest c.in-Split.path (term_of c.in-Split.first.value) (term_of c.in-Split.rest.value) c.args.extents.now (schema_fields c.args.schema.now) c.args.cells.now
-    c.as_slice.result.now c.in_ok-sides-in-Split.sides.first c.in_ok-sides-in-Split.sides.rest c.in_ok-left-in-Split.left c.in_ok-right-in-Split.right
-    (c.as_slice.ensures ∙ c.in_ok-sides-in-Split.ensures.side) c.in_ok-sides-in-Split.ensures.first c.in_ok-sides-in-Split.ensures.rest
-    (subst (λ (e : MapExpr). IsPlanOf (term_of e) c.args.extents.now (schema_fields c.args.schema.now) c.in_ok-sides-in-Split.sides.first
-    c.in_ok-left-in-Split.left) c.deref.ensures c.in_ok-left-in-Split.ensures.plan) (subst (λ (e : MapExpr). IsPlanOf (term_of e) c.args.extents.now (schema_fields c.args.schema.now) c.in_ok-sides-in-Split.sides.rest
-    c.in_ok-right-in-Split.right) c.deref-in-Split.ensures c.in_ok-right-in-Split.ensures.plan)
+split_plan-requires-clause-rest_rules t c = grind (arith, common_steps, rules_rest)
 
 pub returns-in_err-plan-in-Split-clause-too_big : goal.returns-in_err-plan-in-Split-clause-too_big
 returns-in_err-plan-in-Split-clause-too_big t c = λ is.
@@ -112,11 +88,8 @@ returns-in_err-plan-in-Split-clause-too_big t c = λ is.
     (over_all c.in-Split.path (term_of c.in-Split.first.value) (term_of c.in-Split.rest.value) c.args.extents.now (schema_fields c.args.schema.now) c.args.cells.now
     c.as_slice.result.now c.in_ok-sides-in-Split.sides.first c.in_ok-sides-in-Split.sides.rest c.in_ok-left-in-Split.left c.in_ok-right-in-Split.right
     (c.as_slice.ensures ∙ c.in_ok-sides-in-Split.ensures.side) c.in_ok-sides-in-Split.ensures.first c.in_ok-sides-in-Split.ensures.rest
-    (subst (λ (e : MapExpr). IsPlanOf (term_of e) c.args.extents.now (schema_fields c.args.schema.now) c.in_ok-sides-in-Split.sides.first
-    c.in_ok-left-in-Split.left) c.deref.ensures c.in_ok-left-in-Split.ensures.plan) (subst (λ (e : MapExpr). IsPlanOf (term_of e) c.args.extents.now (schema_fields c.args.schema.now) c.in_ok-sides-in-Split.sides.rest
-    c.in_ok-right-in-Split.right) c.deref-in-Split.ensures c.in_ok-right-in-Split.ensures.plan)
-    (c.in_err-plan-in-Split.ensures.too_big (handed_on c.from_residual-in_err-plan-in-Split.result c.in_err-plan-in-Split.field-0.0
-    c.from_residual-in_err-plan-in-Split.ensures.1 is)))
+    (grind arith) (grind arith)
+    (grind (arith, handed_on)))
 
 pub returns-in_ok-plan-in-Split-clause-plan : goal.returns-in_ok-plan-in-Split-clause-plan
 returns-in_ok-plan-in-Split-clause-plan t c =
@@ -125,9 +98,7 @@ returns-in_ok-plan-in-Split-clause-plan t c =
     (planned c.in-Split.path (term_of c.in-Split.first.value) (term_of c.in-Split.rest.value) c.args.extents.now (schema_fields c.args.schema.now) c.args.cells.now
     c.as_slice.result.now c.in_ok-sides-in-Split.sides.first c.in_ok-sides-in-Split.sides.rest c.in_ok-left-in-Split.left c.in_ok-right-in-Split.right
     (c.as_slice.ensures ∙ c.in_ok-sides-in-Split.ensures.side) c.in_ok-sides-in-Split.ensures.first c.in_ok-sides-in-Split.ensures.rest
-    (subst (λ (e : MapExpr). IsPlanOf (term_of e) c.args.extents.now (schema_fields c.args.schema.now) c.in_ok-sides-in-Split.sides.first
-    c.in_ok-left-in-Split.left) c.deref.ensures c.in_ok-left-in-Split.ensures.plan) (subst (λ (e : MapExpr). IsPlanOf (term_of e) c.args.extents.now (schema_fields c.args.schema.now) c.in_ok-sides-in-Split.sides.rest
-    c.in_ok-right-in-Split.right) c.deref-in-Split.ensures c.in_ok-right-in-Split.ensures.plan)
+    (grind arith) (grind arith)
     plan.plan plan.ensures.holds plan.ensures.lengths plan.ensures.rules plan.ensures.fits)
 
 pub returns-in_ok-plan-in-Split-clause-orders : goal.returns-in_ok-plan-in-Split-clause-orders
@@ -156,100 +127,34 @@ returns-in_ok-plan-in-Split-clause-orders t c =
     plan.ensures.rules)
 
 pub returns-in_err-left-in-Split-clause-not_full : goal.returns-in_err-left-in-Split-clause-not_full
-returns-in_err-left-in-Split-clause-not_full t c = λ is.
-    let sides = c.in_ok-sides-in-Split in
-    subst (λ (expr : MapExpr). not_full (term_of expr) (schema_fields c.args.schema.now) c.args.cells.now ≡ true) (sym c.in-Split.is)
-    (narrow_under c.in-Split.path (term_of c.in-Split.first.value) (term_of c.in-Split.rest.value) (schema_fields c.args.schema.now) c.args.cells.now
-    sides.sides.first sides.ensures.first
-    (subst (λ (e : MapExpr). not_full (term_of e) (schema_fields c.args.schema.now) sides.sides.first ≡ true) c.deref.ensures
-    (c.in_err-left-in-Split.ensures.not_full (handed c.from_residual-in_err-left-in-Split.result c.in_err-left-in-Split.field-0.0 (Bad NotFull)
-    c.from_residual-in_err-left-in-Split.ensures.1 is))))
+returns-in_err-left-in-Split-clause-not_full t c = grind (arith, common_steps, narrow_under, handed)
 
 pub returns-in_err-right-in-Split-clause-not_full : goal.returns-in_err-right-in-Split-clause-not_full
-returns-in_err-right-in-Split-clause-not_full t c = λ is.
-    let sides = c.in_ok-sides-in-Split in
-    subst (λ (expr : MapExpr). not_full (term_of expr) (schema_fields c.args.schema.now) c.args.cells.now ≡ true) (sym c.in-Split.is)
-    (narrow_beside c.in-Split.path (term_of c.in-Split.first.value) (term_of c.in-Split.rest.value) (schema_fields c.args.schema.now) c.args.cells.now
-    sides.sides.rest sides.ensures.rest
-    (subst (λ (e : MapExpr). not_full (term_of e) (schema_fields c.args.schema.now) sides.sides.rest ≡ true) c.deref-in-Split.ensures
-    (c.in_err-right-in-Split.ensures.not_full (handed c.from_residual-in_err-right-in-Split.result c.in_err-right-in-Split.field-0.0 (Bad NotFull)
-    c.from_residual-in_err-right-in-Split.ensures.1 is))))
+returns-in_err-right-in-Split-clause-not_full t c = grind (arith, common_steps, narrow_beside, handed)
 
 pub returns-in_err-made-in-Byteswap-clause-too_big : goal.returns-in_err-made-in-Byteswap-clause-too_big
-returns-in_err-made-in-Byteswap-clause-too_big t c = λ is.
-    let fields : Fields = schema_fields c.args.schema.now in
-    subst (λ (expr : MapExpr). IsTooBigFor (term_of expr) c.args.extents.now fields c.args.cells.now) (sym c.in-Byteswap.is)
-    (over_swap (term_of c.in-Byteswap.inner.value) c.args.extents.now fields c.args.cells.now
-    (subst (λ (e : MapExpr). IsTooBigFor (term_of e) c.args.extents.now fields c.args.cells.now) c.deref-in-Byteswap.ensures
-    (c.in_err-made-in-Byteswap.ensures.too_big (handed_on c.from_residual-in_err-made-in-Byteswap.result c.in_err-made-in-Byteswap.field-0.0
-    c.from_residual-in_err-made-in-Byteswap.ensures.1 is))))
+returns-in_err-made-in-Byteswap-clause-too_big t c = grind (arith, common_steps, over_swap, handed_on)
 
 pub swap_plan-requires-clause-held : goal.swap_plan-requires-clause-held
-swap_plan-requires-clause-held t c =
-    let made = c.in_ok-made-in-Byteswap in
-    let fields : Fields = schema_fields c.args.schema.now in
-    swap_held (term_of c.in-Byteswap.inner.value) c.args.extents.now fields c.args.cells.now made.made
-    (subst (λ (e : MapExpr). IsPlanOf (term_of e) c.args.extents.now fields c.args.cells.now made.made) c.deref-in-Byteswap.ensures made.ensures.plan)
+swap_plan-requires-clause-held t c = grind (arith, common_steps, swap_held)
 
 pub swap_plan-requires-clause-bytes : goal.swap_plan-requires-clause-bytes
-swap_plan-requires-clause-bytes t c =
-    let made = c.in_ok-made-in-Byteswap in
-    let fields : Fields = schema_fields c.args.schema.now in
-    swap_bytes (term_of c.in-Byteswap.inner.value) c.args.extents.now fields c.args.cells.now made.made
-    (subst (λ (e : MapExpr). IsPlanOf (term_of e) c.args.extents.now fields c.args.cells.now made.made) c.deref-in-Byteswap.ensures made.ensures.plan)
+swap_plan-requires-clause-bytes t c = grind (arith, common_steps, swap_bytes)
 
 pub returns-in_ok-plan-in-Byteswap-clause-plan : goal.returns-in_ok-plan-in-Byteswap-clause-plan
-returns-in_ok-plan-in-Byteswap-clause-plan t c =
-    let made = c.in_ok-made-in-Byteswap in
-    let plan = c.in_ok-plan-in-Byteswap in
-    let inner : Term = term_of c.in-Byteswap.inner.value in
-    let fields : Fields = schema_fields c.args.schema.now in
-    let planned = subst (λ (e : MapExpr). IsPlanOf (term_of e) c.args.extents.now fields c.args.cells.now made.made) c.deref-in-Byteswap.ensures made.ensures.plan in
-    subst (λ (expr : MapExpr). IsPlanOf (term_of expr) c.args.extents.now fields c.args.cells.now plan.plan) (sym c.in-Byteswap.is)
-    (swap_planned inner c.args.extents.now fields c.args.cells.now made.made planned plan.plan plan.ensures.full plan.ensures.holds plan.ensures.lengths
-    plan.ensures.rules)
+returns-in_ok-plan-in-Byteswap-clause-plan t c = grind (arith, common_steps, swap_planned)
 
 pub returns-in_ok-plan-in-Byteswap-clause-orders : goal.returns-in_ok-plan-in-Byteswap-clause-orders
-returns-in_ok-plan-in-Byteswap-clause-orders t c =
-    let made = c.in_ok-made-in-Byteswap in
-    let plan = c.in_ok-plan-in-Byteswap in
-    let inner : Term = term_of c.in-Byteswap.inner.value in
-    let fields : Fields = schema_fields c.args.schema.now in
-    let planned = subst (λ (e : MapExpr). IsPlanOf (term_of e) c.args.extents.now fields c.args.cells.now made.made) c.deref-in-Byteswap.ensures made.ensures.plan in
-    let orders = subst (λ (e : MapExpr). map (λ (r : Rule). r.order) made.made.rules ≡ orders_of (term_of e) fields c.args.cells.now) c.deref-in-Byteswap.ensures made.ensures.orders in
-    subst (λ (expr : MapExpr). map (λ (r : Rule). r.order) plan.plan.rules ≡ orders_of (term_of expr) fields c.args.cells.now) (sym c.in-Byteswap.is)
-    (swap_ordered inner c.args.extents.now fields c.args.cells.now made.made planned plan.plan orders plan.ensures.rules)
+returns-in_ok-plan-in-Byteswap-clause-orders t c = grind (arith, common_steps, swap_ordered)
 
 pub returns-in_err-made-in-Bytesplit-clause-too_big : goal.returns-in_err-made-in-Bytesplit-clause-too_big
-returns-in_err-made-in-Bytesplit-clause-too_big t c = λ is.
-    let bytes = c.in_ok-bytes-in-Bytesplit in
-    let fields : Fields = schema_fields c.args.schema.now in
-    subst (λ (expr : MapExpr). IsTooBigFor (term_of expr) c.args.extents.now fields c.args.cells.now) (sym c.in-Bytesplit.is)
-    (over_join (term_of c.in-Bytesplit.inner.value) c.args.extents.now fields c.args.cells.now
-    (subst (λ (cs : List Cell). IsTooBigFor (term_of c.in-Bytesplit.inner.value) c.args.extents.now fields cs) bytes.ensures
-    (subst (λ (e : MapExpr). IsTooBigFor (term_of e) c.args.extents.now fields bytes.bytes) c.deref-in-Bytesplit.ensures
-    (c.in_err-made-in-Bytesplit.ensures.too_big (handed_on c.from_residual-in_err-made-in-Bytesplit.result c.in_err-made-in-Bytesplit.field-0.0
-    c.from_residual-in_err-made-in-Bytesplit.ensures.1 is)))))
+returns-in_err-made-in-Bytesplit-clause-too_big t c = grind (arith, common_steps, over_join, handed_on)
 
 pub join_plan-requires-clause-each : goal.join_plan-requires-clause-each
-join_plan-requires-clause-each t c =
-    let bytes = c.in_ok-bytes-in-Bytesplit in
-    let made = c.in_ok-made-in-Bytesplit in
-    let inner : Term = term_of c.in-Bytesplit.inner.value in
-    let fields : Fields = schema_fields c.args.schema.now in
-    let planned = subst (λ (cs : List Cell). IsPlanOf inner c.args.extents.now fields cs made.made) bytes.ensures
-    (subst (λ (e : MapExpr). IsPlanOf (term_of e) c.args.extents.now fields bytes.bytes made.made) c.deref-in-Bytesplit.ensures made.ensures.plan) in
-    join_each inner c.args.extents.now fields c.args.cells.now made.made planned
+join_plan-requires-clause-each t c = grind (arith, common_steps, join_each)
 
 pub join_plan-requires-clause-alone : goal.join_plan-requires-clause-alone
-join_plan-requires-clause-alone t c = λ full.
-    let bytes = c.in_ok-bytes-in-Bytesplit in
-    let made = c.in_ok-made-in-Bytesplit in
-    let inner : Term = term_of c.in-Bytesplit.inner.value in
-    let fields : Fields = schema_fields c.args.schema.now in
-    let planned = subst (λ (cs : List Cell). IsPlanOf inner c.args.extents.now fields cs made.made) bytes.ensures
-    (subst (λ (e : MapExpr). IsPlanOf (term_of e) c.args.extents.now fields bytes.bytes made.made) c.deref-in-Bytesplit.ensures made.ensures.plan) in
-    join_alone inner c.args.extents.now fields c.args.cells.now made.made planned (full ∙ ap full_holds bytes.ensures)
+join_plan-requires-clause-alone t c = grind (arith, common_steps, join_alone)
 
 pub returns-in_ok-plan-in-Bytesplit-clause-plan : goal.returns-in_ok-plan-in-Bytesplit-clause-plan
 returns-in_ok-plan-in-Bytesplit-clause-plan t c =
@@ -262,35 +167,13 @@ returns-in_ok-plan-in-Bytesplit-clause-plan t c =
     (subst (λ (e : MapExpr). IsPlanOf (term_of e) c.args.extents.now fields bytes.bytes made.made) c.deref-in-Bytesplit.ensures made.ensures.plan) in
     let orders = subst (λ (cs : List Cell). map (λ (r : Rule). r.order) made.made.rules ≡ orders_of inner fields cs) bytes.ensures
     (subst (λ (e : MapExpr). map (λ (r : Rule). r.order) made.made.rules ≡ orders_of (term_of e) fields bytes.bytes) c.deref-in-Bytesplit.ensures made.ensures.orders) in
-    subst (λ (expr : MapExpr). IsPlanOf (term_of expr) c.args.extents.now fields c.args.cells.now plan.plan) (sym c.in-Bytesplit.is)
-    (join_planned inner c.args.extents.now fields c.args.cells.now made.made planned plan.plan (plan.ensures.full ∙ ap full_holds bytes.ensures) orders plan.ensures.rules
-    plan.ensures.holds plan.ensures.lengths)
+    grind (arith, join_planned)
 
 pub returns-in_ok-plan-in-Bytesplit-clause-orders : goal.returns-in_ok-plan-in-Bytesplit-clause-orders
-returns-in_ok-plan-in-Bytesplit-clause-orders t c =
-    let bytes = c.in_ok-bytes-in-Bytesplit in
-    let made = c.in_ok-made-in-Bytesplit in
-    let plan = c.in_ok-plan-in-Bytesplit in
-    let inner : Term = term_of c.in-Bytesplit.inner.value in
-    let fields : Fields = schema_fields c.args.schema.now in
-    let planned = subst (λ (cs : List Cell). IsPlanOf inner c.args.extents.now fields cs made.made) bytes.ensures
-    (subst (λ (e : MapExpr). IsPlanOf (term_of e) c.args.extents.now fields bytes.bytes made.made) c.deref-in-Bytesplit.ensures made.ensures.plan) in
-    let orders = subst (λ (cs : List Cell). map (λ (r : Rule). r.order) made.made.rules ≡ orders_of inner fields cs) bytes.ensures
-    (subst (λ (e : MapExpr). map (λ (r : Rule). r.order) made.made.rules ≡ orders_of (term_of e) fields bytes.bytes) c.deref-in-Bytesplit.ensures made.ensures.orders) in
-    subst (λ (expr : MapExpr). map (λ (r : Rule). r.order) plan.plan.rules ≡ orders_of (term_of expr) fields c.args.cells.now) (sym c.in-Bytesplit.is)
-    (join_ordered inner c.args.extents.now fields c.args.cells.now made.made planned plan.plan (plan.ensures.full ∙ ap full_holds bytes.ensures) orders plan.ensures.rules)
+returns-in_ok-plan-in-Bytesplit-clause-orders t c = grind (arith, common_steps, join_ordered)
 
 pub returns-in_ok-cells-in-Change-clause-orders : goal.returns-in_ok-cells-in-Change-clause-orders
-returns-in_ok-cells-in-Change-clause-orders t c =
-    let others = c.in_ok-cells-in-Change in
-    let fields : Fields = schema_fields c.args.schema.now in
-    let inner : Term = term_of c.in-Change.inner.value in
-    let same =
-    ap (λ (e : MapExpr). orders_of (term_of e) fields others.cells) c.deref-in-Change.ensures
-    ∙ ap (λ (cs : List Cell). orders_of inner fields cs) others.ensures
-    ∙ orders_changed c.in-Change.from c.in-Change.to inner fields c.args.cells.now
-    ∙ sym (ap (λ (e : MapExpr). orders_of (term_of e) fields c.args.cells.now) c.in-Change.is) in
-    subst (λ (os : List Order). IfOk c.make_plan-in-Change.result (λ plan. map (λ (r : Rule). r.order) plan.rules ≡ os)) same c.make_plan-in-Change.ensures.orders
+returns-in_ok-cells-in-Change-clause-orders t c = grind (arith, common_steps, orders_changed)
 
 pub returns-in_ok-plan-in-Aosoa-clause-orders : goal.returns-in_ok-plan-in-Aosoa-clause-orders
 returns-in_ok-plan-in-Aosoa-clause-orders t c =
@@ -299,16 +182,7 @@ returns-in_ok-plan-in-Aosoa-clause-orders t c =
     ∙ ap (λ (expr : MapExpr). orders_of (term_of expr) (schema_fields c.args.schema.now) c.args.cells.now) (sym c.in-Aosoa.is)
 
 pub returns-in_ok-plan-in-Soa-clause-arrays : goal.returns-in_ok-plan-in-Soa-clause-arrays
-returns-in_ok-plan-in-Soa-clause-arrays t c =
-    let slots = c.in_ok-slots-in-Soa in
-    let made = c.in_ok-mapping-in-Soa in
-    let plan = c.in_ok-plan-in-Soa in
-    let cells : List Cell = c.args.cells.now in
-    let count : ℕ = slot_count c.in-Soa.order c.args.extents.now in
-    subst (λ (expr : MapExpr). HasArrays (term_of expr) c.args.extents.now cells plan.plan.rules) (sym c.in-Soa.is)
-    (base_arrays _ (soa_layout c.in-Soa.form count (widths_of cells)) _ count _ (slot_count c.in-Soa.order c.args.extents.now) _ (full_holds cells) plan.plan.rules
-    (made.ensures.layout ∙ ap (λ (n : ℕ). soa_layout c.in-Soa.form n (widths_of cells)) slots.ensures.count) (made.ensures.slots ∙ slots.ensures.count)
-    (made.ensures.dense ∙ slots.ensures.count) made.ensures.holds plan.ensures.arrays)
+returns-in_ok-plan-in-Soa-clause-arrays t c = grind (arith, common_steps, base_arrays)
 
 pub returns-in_ok-plan-in-Aosoa-clause-arrays : goal.returns-in_ok-plan-in-Aosoa-clause-arrays
 returns-in_ok-plan-in-Aosoa-clause-arrays t c =
@@ -316,8 +190,4 @@ returns-in_ok-plan-in-Aosoa-clause-arrays t c =
     let made = c.in_ok-mapping-in-Aosoa in
     let plan = c.in_ok-plan-in-Aosoa in
     let cells : List Cell = c.args.cells.now in
-    let count : ℕ = slot_count c.in-Aosoa.order c.args.extents.now in
-    subst (λ (expr : MapExpr). HasArrays (term_of expr) c.args.extents.now cells plan.plan.rules) (sym c.in-Aosoa.is)
-    (base_arrays _ (aosoa c.in-Aosoa.lanes count (widths_of cells)) _ count _ c.in-Aosoa.lanes _ (full_holds cells) plan.plan.rules
-    (made.ensures.layout ∙ ap (λ (n : ℕ). aosoa c.in-Aosoa.lanes n (widths_of cells)) slots.ensures.count) (made.ensures.slots ∙ slots.ensures.count)
-    (made.ensures.dense) made.ensures.holds plan.ensures.arrays)
+    let count : ℕ = slot_count c.in-Aosoa.order c.args.extents.now in grind (arith, base_arrays)

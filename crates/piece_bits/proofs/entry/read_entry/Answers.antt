@@ -1,4 +1,4 @@
-use Rattle.piece_bits.proofs.Imports.{◌∙◌, List, map, slice_index, subst, sym, SFits, rules, arith, w128, to_z-of_z, Piece, Hold, IsLocated, IsCell, some_bits, few_bits, bit_count, within, read_small, read_entry_is}
+use Rattle.piece_bits.proofs.Imports.{◌∙◌, slice_index, SFits, rules, arith, w128, to_z-of_z, IsCell, some_bits, few_bits, bit_count, within, read_small, read_entry_is}
 use Rattle.piece_bits.proofs.entry.read_entry.Given as given
 use Rattle.piece_bits.proofs.entry.read_entry.Goals as goal
 use Rattle.piece_bits.proofs.entry.read_entry.Goals.{After-as_slice, After-read_pieces}
@@ -13,9 +13,7 @@ at g c =
       slot_in = c.requires.slot_in;
       cell_in = omega (arith, g.met.M.Mapping.holds_cells m);
       is = c.hold-hold.ensures;
-      located =
-          subst (λ (ps : List Piece). IsLocated (g.M.Mapping.layout m) c.args.slot c.args.cell (slice_index (map (λ (h : Hold). h.width) (g.M.Mapping.hold_list m)) c.args.cell) ps)
-          (sym c.as_slice.ensures.value) c.locate-pieces.ensures;
+      located = grind (arith, slice_index);
     }
 
 pub read_pieces-requires-clause-within : goal.read_pieces-requires-clause-within

@@ -1,7 +1,8 @@
-use Rattle.piece_bits.proofs.Imports.{◌≡◌, ◌+◌, ◌*◌, ◌/◌, ◌%◌, ◌≤◌, ◌∙◌, ◌∷◌, [], ℕ, List, length, get_or, sym, ap, subst, ◌<◌, ◌^◌, SFits, rules, arith, w128, to_z-of_z, get_or_read, bit_at-lt, decoded, number_lt, bit_of, IsCell, some_bits, few_bits, one_width, one_within, one_entry}
+use Rattle.piece_bits.proofs.Imports.{◌≡◌, ◌+◌, ◌*◌, ◌≤◌, ◌∙◌, ◌∷◌, [], ℕ, List, length, get_or, sym, ap, subst, SFits, rules, arith, w128, to_z-of_z, get_or_read, bit_at-lt, decoded, number_lt, IsCell, some_bits, few_bits, one_width, one_within, one_entry}
 use Rattle.piece_bits.proofs.entry.read_piece.Given as given
 use Rattle.piece_bits.proofs.entry.read_piece.Goals as goal
 use Rattle.piece_bits.proofs.entry.read_piece.Goals.{After-hold-hold}
+use Rattle.std.proofs.lemmas.Grind.{common_steps}
 
 at : (g : given.Over) (c : goal.After-hold-hold g) →
     IsCell (g.M.Mapping.layout c.args.mapping.now) (g.M.Mapping.slot_count c.args.mapping.now) (g.M.Mapping.hold_list c.args.mapping.now)
@@ -26,9 +27,7 @@ bits-requires-clause-few g c =
     omega (arith, few_bits (at g d), width g d)
 
 pub bits-requires-clause-some : goal.bits-requires-clause-some
-bits-requires-clause-some g c =
-    let d = (goal.at.bits-requires-clause-some g c).After-hold-hold in
-    omega (arith, some_bits (at g d), width g d)
+bits-requires-clause-some g c = grind (arith, common_steps, some_bits)
 
 pub bits-requires-clause-within : goal.bits-requires-clause-within
 bits-requires-clause-within g c =
@@ -39,9 +38,7 @@ bits-requires-clause-within g c =
     subst (λ (b : List ℕ). piece.bit + piece.bits ≤ 8 * length b) (sym blob) here.bits_in
 
 pub decode-requires-clause-some : goal.decode-requires-clause-some
-decode-requires-clause-some g c =
-    let d = (goal.at.decode-requires-clause-some g c).After-hold-hold in
-    omega (arith, some_bits (at g d), width g d)
+decode-requires-clause-some g c = grind (arith, common_steps, some_bits)
 
 pub decode-requires-clause-narrow : goal.decode-requires-clause-narrow
 decode-requires-clause-narrow g c =
@@ -49,11 +46,7 @@ decode-requires-clause-narrow g c =
     omega (arith, few_bits (at g d), width g d)
 
 pub decode-requires-clause-fits : goal.decode-requires-clause-fits
-decode-requires-clause-fits g c =
-    let blob = c.index-blobs-piece.result in
-    let at : ℕ = c.args.piece.bit in
-    subst (λ (n : ℕ). n < 2 ^ c.args.piece.bits) (sym c.bits.ensures)
-    (number_lt (λ k. bit_of blob (at + k)) c.args.piece.bits (λ k l. bit_at-lt (get_or blob ((at + k) / 8) 0) ((at + k) % 8)))
+decode-requires-clause-fits g c = grind (arith, common_steps, number_lt, bit_at-lt)
 
 pub returns : goal.returns
 returns g c =

@@ -1,4 +1,4 @@
-use Rattle.piece_bits.proofs.Imports.{ℤ, ◌≡◌, ◌∙◌, List, map, slice_index, subst, sym, ap, arith, rules, SFits, w128, to_z-of_z, IsIn, Piece, Hold, IsLocated, number, digit, IsCell, hold_is, some_bits, few_bits, bit_count, apart, written_table, written_padding, still_laid}
+use Rattle.piece_bits.proofs.Imports.{ℤ, ◌≡◌, ◌∙◌, slice_index, subst, sym, ap, arith, rules, SFits, w128, to_z-of_z, IsIn, Hold, number, digit, IsCell, hold_is, some_bits, few_bits, bit_count, apart, written_table, written_padding, still_laid}
 use Rattle.piece_bits.proofs.entry.write_entry.Given as given
 use Rattle.piece_bits.proofs.entry.write_entry.Goals as goal
 use Rattle.piece_bits.proofs.entry.write_entry.Goals.{After-as_slice}
@@ -13,9 +13,7 @@ at g c =
       slot_in = c.requires.slot_in;
       cell_in = omega (arith, g.met.M.Mapping.holds_cells m);
       is = c.hold-hold.ensures;
-      located =
-          subst (λ (ps : List Piece). IsLocated (g.M.Mapping.layout m) c.args.slot c.args.cell (slice_index (map (λ (h : Hold). h.width) (g.M.Mapping.hold_list m)) c.args.cell) ps)
-          (sym c.as_slice.ensures.value) c.locate-pieces.ensures;
+      located = grind (arith, slice_index);
     }
 
 held : (g : given.Over) (c : goal.After-as_slice g) → IsIn c.hold-hold.result.signed c.hold-hold.result.width c.args.value

@@ -2,6 +2,7 @@ use Rattle.piece_bits.proofs.Imports.{ℤ, ℕ, ◌≡◌, ◌<◌, ◌^◌, ◌
 use Rattle.piece_bits.proofs.entry.write_piece.Given as given
 use Rattle.piece_bits.proofs.entry.write_piece.Goals as goal
 use Rattle.piece_bits.proofs.entry.write_piece.Goals.{After-hold-hold, After-encode, After-put_bits}
+use Rattle.std.proofs.lemmas.Grind.{common_steps}
 
 at : (g : given.Over) (c : goal.After-hold-hold g) →
     IsCell (g.M.Mapping.layout c.args.mapping.now) (g.M.Mapping.slot_count c.args.mapping.now) (g.M.Mapping.hold_list c.args.mapping.now)
@@ -24,9 +25,7 @@ width : (g : given.Over) (c : goal.After-hold-hold g) → c.args.piece.bits ≡ 
 width g c = sym (one_count c.args.piece) ∙ bit_count (at g c)
 
 pub encode-requires-clause-some : goal.encode-requires-clause-some
-encode-requires-clause-some g c =
-    let d = (goal.at.encode-requires-clause-some g c).After-hold-hold in
-    omega (arith, some_bits (at g d), width g d)
+encode-requires-clause-some g c = grind (arith, common_steps, some_bits)
 
 pub encode-requires-clause-narrow : goal.encode-requires-clause-narrow
 encode-requires-clause-narrow g c =
@@ -47,12 +46,7 @@ code g c =
     ∙ ap (number (digit c.args.value)) (width g ((goal.at.After-encode g c).After-hold-hold))
 
 small : (g : given.Over) (c : goal.After-encode g) → c.encode.result < 2 ^ c.args.piece.bits
-small g c =
-    let here = at g ((goal.at.After-encode g c).After-hold-hold) in
-    let bits : c.hold-hold.result.width ≡ c.args.piece.bits = sym (bit_count here) ∙ one_count c.args.piece in
-    subst (λ (w : ℕ). w < 2 ^ c.args.piece.bits) (sym (code g c))
-    (subst (λ (n : ℕ). number (digit c.args.value) c.hold-hold.result.width < 2 ^ n) bits
-    (number_lt (digit c.args.value) c.hold-hold.result.width (λ k l. digit_lt c.args.value k)))
+small g c = grind (arith, bit_count, one_count, number_lt, digit_lt)
 
 pub put_bits-requires-clause-few : goal.put_bits-requires-clause-few
 put_bits-requires-clause-few g c =
@@ -64,9 +58,7 @@ put_bits-requires-clause-fits g c = small g ((goal.at.put_bits-requires-clause-f
 
 -- what stood in the blob
 blob : (g : given.Over) (c : goal.After-put_bits g) → c.index_mut.result.now ≡ get_or c.args.blobs.now.items c.args.piece.blob []
-blob g c =
-    let here = at g ((goal.at.After-put_bits g c).After-hold-hold) in
-    c.index_mut.ensures.value ∙ get_or_default c.args.blobs.now.items c.args.piece.blob _ [] (one_within here c.args.blobs.now.items c.requires.laid).blob_in
+blob g c = grind (arith, get_or_default, one_within)
 
 pub returns-clause-table : goal.returns-clause-table
 returns-clause-table g c =

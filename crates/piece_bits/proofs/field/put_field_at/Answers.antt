@@ -1,17 +1,14 @@
-use Rattle.piece_bits.proofs.Imports.{◌≡◌, ℕ, ℤ, ◌+◌, ◌/◌, ◌%◌, ◌^◌, ◌<◌, ◌≤◌, sym, ap, ◌∙◌, subst, arith, rules, SFits, w128, bit_at, to_z-of_z, number, digit, number_lt, digit_lt, byte_and_bit, field_put, window_written}
+use Rattle.piece_bits.proofs.Imports.{◌≡◌, ℕ, ◌+◌, ◌/◌, ◌%◌, ◌≤◌, ap, ◌∙◌, arith, bit_at, to_z-of_z, number, digit, number_lt, digit_lt, byte_and_bit, field_put, window_written}
 use Rattle.blobs.specs.BytesLaws.{IsPut}
 use Rattle.piece_bits.proofs.field.put_field_at.Goals as goal
 use Rattle.piece_bits.proofs.field.put_field_at.Goals.{After-encode-code, After-put_window}
+use Rattle.std.proofs.lemmas.Grind.{common_steps}
 
 code : (c : goal.After-encode-code) → c.encode-code.result ≡ number (digit c.args.value) c.args.field.now.width
-code c =
-    let fits : SFits w128 c.args.value = search rules in
-    c.encode-code.ensures ∙ ap (λ (v : ℤ). number (digit v) c.args.field.now.width) (to_z-of_z w128 c.args.value fits)
+code c = grind (arith, to_z-of_z)
 
 pub with_bits-word-requires-clause-fits : goal.with_bits-word-requires-clause-fits
-with_bits-word-requires-clause-fits c =
-    subst (λ (w : ℕ). w < 2 ^ c.args.field.now.width) (sym (code (goal.at.with_bits-word-requires-clause-fits c).After-encode-code))
-    (number_lt (digit c.args.value) c.args.field.now.width (λ k l. digit_lt c.args.value k))
+with_bits-word-requires-clause-fits c = grind (arith, common_steps, number_lt, digit_lt)
 
 written : (c : goal.After-put_window) → IsPut c.args.blob.now c.put_window.new.self c.args.at c.args.field.now.width c.encode-code.result
 written c =

@@ -1,4 +1,4 @@
-use Rattle.piece_bits.proofs.Imports.{◌≡◌, ℕ, ◌+◌, suc, List, ◌∷◌, drop, drop-cons, sym, ap, ◌∙◌, subst, arith, drop_all, PieceRule, Carries}
+use Rattle.piece_bits.proofs.Imports.{◌≡◌, ℕ, ◌+◌, List, ◌∷◌, drop, drop-cons, subst, arith, drop_all, PieceRule, Carries}
 use Rattle.piece_bits.proofs.Together.{rules_join}
 use Rattle.piece_bits.proofs.join.joined.Goals as goal
 
@@ -8,9 +8,7 @@ loop-next-preserved c =
     let one : PieceRule = c.loop-next.one in
     let k : ℕ = c.loop-next.next-index in
     let next : PieceRule = c.next-item.result in
-    let left : drop k rest ≡ next ∷ drop (k + 1) rest =
-    drop-cons rest k next (omega arith) ∙ ap (λ (x : PieceRule). x ∷ drop (suc k) rest) (sym c.next-item.is)
-    ∙ (let e : suc k ≡ k + 1 = omega arith in ap (λ (n : ℕ). next ∷ drop n rest) e) in
+    let left : drop k rest ≡ next ∷ drop (k + 1) rest = grind (arith, drop-cons) in
     let before : Carries c.args.pieces.now (one ∷ drop k rest) = c.loop-next.invariant in
     let here : Carries c.args.pieces.now (one ∷ next ∷ drop (k + 1) rest) =
     subst (λ (xs : List PieceRule). Carries c.args.pieces.now (one ∷ xs)) left before in

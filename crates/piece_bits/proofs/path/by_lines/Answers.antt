@@ -1,12 +1,11 @@
-use Rattle.piece_bits.proofs.Imports.{◌≡◌, ℕ, List, [], ◌∷◌, get_or, sym, ap, ◌∙◌, subst, IsRowPath, Walk}
+use Rattle.piece_bits.proofs.Imports.{◌≡◌, ℕ, List, [], ◌∷◌, sym, subst, IsRowPath, Walk}
 use Rattle.piece_bits.proofs.Ways.{list_of_two, column_path, digit_path}
 use Rattle.piece_bits.proofs.path.by_lines.Goals as goal
 use Rattle.piece_bits.proofs.path.by_lines.Goals.{After-of, in-Morton, in_default}
+use Rattle.std.proofs.Common.{arith}
 
 over : (c : After-of) → c.args.extents.now ≡ c.at.result ∷ c.of.result.columns ∷ []
-over c =
-    list_of_two c.args.extents.now c.requires.rank ∙ ap (λ (n : ℕ). n ∷ get_or c.args.extents.now 1 0 ∷ []) (sym c.at.ensures.value)
-    ∙ ap (λ (n : ℕ). c.at.result ∷ n ∷ []) (sym (c.of.ensures ∙ c.at-columns.ensures.value))
+over c = grind (arith, list_of_two)
 
 pub returns : goal.returns
 returns c =

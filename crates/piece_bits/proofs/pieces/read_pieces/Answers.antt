@@ -1,10 +1,9 @@
 use Rattle.piece_bits.proofs.Imports.{◌+◌, ◌*◌, ◌/◌, ◌%◌, ◌^◌, ◌≡◌, ◌<◌, ℕ, List, [], get_or, ap, ◌∙◌, arith, get_or_read, bit_at-lt, number, Piece, bit_of, bit_in, spots_of, bit_at_spot, IsWithin, IsNext, nowhere, next_piece, read_next}
 use Rattle.piece_bits.proofs.pieces.read_pieces.Goals as goal
+use Rattle.std.proofs.lemmas.Grind.{common_steps}
 
 pub bits-requires-clause-few : goal.bits-requires-clause-few
-bits-requires-clause-few c =
-    let next = next_piece c.args.pieces.now c.loop-piece.piece-index c.loop-piece.done nowhere c.loop-piece-test.true c.loop-piece.invariant.so_far in
-    omega (arith, next.within)
+bits-requires-clause-few c = grind (arith, common_steps, next_piece)
 
 abbrev piece_of : goal.After-bits → Piece
 piece_of c = get_or c.args.pieces.now c.loop-piece.piece-index nowhere

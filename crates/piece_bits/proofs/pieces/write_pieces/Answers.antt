@@ -9,9 +9,7 @@ next : (c : goal.In-loop-piece) → IsNext c.args.pieces.now c.loop-piece.piece-
 next c = next_piece c.args.pieces.now c.loop-piece.piece-index c.loop-piece.done nowhere c.loop-piece-test.true c.loop-piece.invariant.so_far
 
 within : (c : goal.In-loop-piece) → IsWithin c.loop-piece.blobs.items (piece_of c)
-within c =
-    within_same c.args.blobs.now.items c.loop-piece.blobs.items (piece_of c) c.loop-piece.invariant.lengths
-    (c.requires.within c.loop-piece.piece-index nowhere c.loop-piece-test.true)
+within c = grind (arith, within_same)
 
 pub bits_in_word-part-requires-clause-within : goal.bits_in_word-part-requires-clause-within
 bits_in_word-part-requires-clause-within c =

@@ -1,6 +1,7 @@
-use Rattle.piece_bits.proofs.Imports.{◌≡◌, ◌+ℤ◌, ◌*ℤ◌, get_or, ap, ◌∙◌, arith, zip2, length-zip2}
-use Rattle.piece_bits.proofs.InPlace.{all, beside, zipped}
+use Rattle.piece_bits.proofs.Imports.{◌≡◌, ◌+ℤ◌, ◌*ℤ◌, get_or, ◌∙◌, arith, length-zip2}
+use Rattle.piece_bits.proofs.InPlace.{beside, zipped}
 use Rattle.piece_bits.proofs.plain.times_plus.Goals as goal
+use Rattle.std.proofs.lemmas.Grind.{common_steps}
 
 pub multiple_plus-requires : goal.multiple_plus-requires
 multiple_plus-requires g c =
@@ -16,17 +17,7 @@ multiple_plus-requires g c =
     record { product = these.0; sum = these.1 }
 
 pub loop-at-preserved : goal.loop-at-preserved
-loop-at-preserved g c =
-    let value = g.T.Number.value in
-    let x = c.index-values-at.result in
-    let y = c.index-added-at.result in
-    let is : value c.multiple_plus.result ≡ value c.args.factor *ℤ value (get_or c.loop-at.values c.loop-at.at x) +ℤ value (get_or c.args.added.now c.loop-at.at y) =
-    c.multiple_plus.ensures ∙ ap (λ v. value c.args.factor *ℤ value v +ℤ value y) c.index-values-at.is ∙ ap (λ v. value c.args.factor *ℤ value (get_or c.loop-at.values c.loop-at.at x) +ℤ value v) c.index-added-at.is in
-    zipped value (λ v w. value c.args.factor *ℤ value v +ℤ value w) c.args.values.now c.args.added.now c.loop-at.values c.loop-at.at x y c.multiple_plus.result
-    (omega arith) (omega arith) c.requires.beside c.loop-at.invariant is
+loop-at-preserved g c = grind (arith, common_steps, zipped)
 
 pub returns : goal.returns
-returns g c =
-    let value = g.T.Number.value in
-    all value (zip2 (λ v w. value c.args.factor *ℤ value v +ℤ value w) c.args.values.now c.args.added.now) c.args.values.now c.loop-at.values c.loop-at.at
-    (omega arith) (length-zip2 (λ v w. value c.args.factor *ℤ value v +ℤ value w) c.args.values.now c.args.added.now (omega arith) ∙ omega arith) c.loop-at.invariant
+returns g c = grind (arith, common_steps, length-zip2)

@@ -1,4 +1,4 @@
-use Rattle.piece_bits.proofs.Imports.{◌≡◌, ℕ, ℤ, ◌+◌, ◌/◌, ◌%◌, ◌≤◌, ap, ◌∙◌, rules, FitsSigned, w64, arith, bit_at, to_z-of_z, number, digit, byte_and_bit, field_put, window_written}
+use Rattle.piece_bits.proofs.Imports.{ℕ, ℤ, ◌+◌, ◌/◌, ◌%◌, ◌≤◌, ap, ◌∙◌, rules, FitsSigned, w64, arith, bit_at, to_z-of_z, number, digit, byte_and_bit, field_put, window_written}
 use Rattle.blobs.specs.BytesLaws.{IsPut}
 use Rattle.piece_bits.proofs.put.put_field.Goals as goal
 use Rattle.piece_bits.proofs.put.put_field.Goals.{After-put_window}

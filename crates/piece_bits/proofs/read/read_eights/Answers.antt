@@ -1,4 +1,4 @@
-use Rattle.piece_bits.proofs.Imports.{◌≡◌, ◌<◌, ◌+◌, ◌*◌, ◌∙◌, length, get_or, pos, rules, FitsSigned, w64, arith, to_z-of_z}
+use Rattle.piece_bits.proofs.Imports.{◌<◌, ◌+◌, ◌*◌, length, get_or, pos, rules, FitsSigned, w64, arith, to_z-of_z}
 use Rattle.piece_bits.proofs.Numbers.{one_of_eight, same_number}
 use Rattle.piece_bits.proofs.Puts.{even_place, room_at}
 use Rattle.piece_bits.proofs.read.read_eights.Goals as goal
@@ -34,5 +34,4 @@ loop-j-preserved c =
     let fits : FitsSigned w64 number = search rules in
     let there = even_place stretch c.eights-eights.result eight j c.place-first.result c.args.apart even (omega arith) (omega arith) c.place-first.ensures c.requires.apart in
     one_of_eight c.args.short.now stretch c.args.blob.now c.args.at eight j _ c.loop-j.values _ c.loop-j.invariant (omega (arith, even.few))
-    (same_number c.args.short.now stretch c.args.blob.now (8 * eight + j) (c.place-first.result + j * c.args.apart) c.args.word _ c.requires.word there
-    (to_z-of_z w64 number fits ∙ c.eight_at-numbers.ensures.each j (omega arith)))
+    (grind (arith, same_number, to_z-of_z))

@@ -1,6 +1,7 @@
-use Rattle.piece_bits.proofs.Imports.{◌^◌, ◌<◌, ℤ, subst, arith, IsIn, ints, ones_of}
+use Rattle.piece_bits.proofs.Imports.{arith, ints, ones_of}
 use Rattle.piece_bits.proofs.Values.{encoded, held_negsuc, by_sign}
 use Rattle.piece_bits.proofs.value.encode.Goals as goal
+use Rattle.std.proofs.lemmas.Grind.{common_steps}
 
 pub returns-then-value-ge0 : goal.returns-then-value-ge0
 returns-then-value-ge0 c =
@@ -17,10 +18,4 @@ returns-else-value-ge0 c =
     (λ n is small. omega (arith, ints, ones_of hold.width c.requires.narrow))
 
 pub overflow_sub-result-else-value-ge0-2 : goal.overflow_sub-result-else-value-ge0-2
-overflow_sub-result-else-value-ge0-2 c =
-    let hold = c.args.hold in
-    by_sign c.args.value
-    (λ n is. absurd (omega (arith, ints)))
-    (λ n is.
-    let small : n < 2 ^ hold.width = held_negsuc hold.signed hold.width n c.requires.some (subst (λ (v : ℤ). IsIn hold.signed hold.width v) is c.requires.fits) in
-    omega (arith, ints, ones_of hold.width c.requires.narrow))
+overflow_sub-result-else-value-ge0-2 c = grind (arith, common_steps, by_sign, held_negsuc, ones_of)

@@ -1,34 +1,26 @@
-use Rattle.piece_bits.proofs.Imports.{◌≡◌, ◌<◌, ℤ, ℕ, List, sym, subst, SFits, rules, w128, bit_at, to_z-of_z, number, digit, bit_of, word_place, word_width, Field, Word, I16, I64, TurnedU16, TurnedU32, TurnedU64, TurnedI16, TurnedI32, TurnedI64, FieldWord}
-use Rattle.piece_bits.specs.declared.word.Word.TheVariants.{I8, I32}
+use Rattle.piece_bits.proofs.Imports.{◌≡◌, ◌<◌, ℤ, ℕ, List, SFits, rules, w128, bit_at, to_z-of_z, number, digit, bit_of, word_place, word_width, Field, Word, TurnedU16, TurnedU32, TurnedU64, TurnedI16, TurnedI32, TurnedI64}
 use Rattle.piece_bits.proofs.word.write_word.Goals as goal
+use Rattle.std.proofs.lemmas.Grind.{common_steps}
+use Rattle.std.proofs.Common.{arith}
 
 -- the bits of a word are those of a value that was handed on
 abbrev Stored : Word → Field → ℕ → List ℕ → ℤ → Type 0
 Stored word field start new value = (k : ℕ) → k < word_width word field → bit_of new (word_place word start k) ≡ bit_at (number (digit value) (word_width word field)) k
 
 stored_as : (word is : Word) (field : Field) (start : ℕ) (new : List ℕ) (value passed : ℤ) → word ≡ is → passed ≡ value → Stored is field start new passed → Stored word field start new value
-stored_as word is field start new value passed same handed stored =
-    subst (λ (w : Word). Stored w field start new value) (sym same) (subst (λ (v : ℤ). Stored is field start new v) handed stored)
+stored_as word is field start new value passed same handed stored = grind arith
 
 pub returns-in-I8-clause-inside : goal.returns-in-I8-clause-inside
-returns-in-I8-clause-inside c =
-    let fits : SFits w128 c.args.value = search rules in
-    stored_as c.args.word I8 c.args.field.now c.args.start c.stored-in-I8.new.blob c.args.value _ c.in-I8.is (to_z-of_z w128 c.args.value fits) c.stored-in-I8.ensures.inside
+returns-in-I8-clause-inside c = grind (arith, common_steps, stored_as, to_z-of_z)
 
 pub returns-in-I16-clause-inside : goal.returns-in-I16-clause-inside
-returns-in-I16-clause-inside c =
-    let fits : SFits w128 c.args.value = search rules in
-    stored_as c.args.word I16 c.args.field.now c.args.start c.stored-in-I16.new.blob c.args.value _ c.in-I16.is (to_z-of_z w128 c.args.value fits) c.stored-in-I16.ensures.inside
+returns-in-I16-clause-inside c = grind (arith, common_steps, stored_as, to_z-of_z)
 
 pub returns-in-I32-clause-inside : goal.returns-in-I32-clause-inside
-returns-in-I32-clause-inside c =
-    let fits : SFits w128 c.args.value = search rules in
-    stored_as c.args.word I32 c.args.field.now c.args.start c.stored-in-I32.new.blob c.args.value _ c.in-I32.is (to_z-of_z w128 c.args.value fits) c.stored-in-I32.ensures.inside
+returns-in-I32-clause-inside c = grind (arith, common_steps, stored_as, to_z-of_z)
 
 pub returns-in-I64-clause-inside : goal.returns-in-I64-clause-inside
-returns-in-I64-clause-inside c =
-    let fits : SFits w128 c.args.value = search rules in
-    stored_as c.args.word I64 c.args.field.now c.args.start c.stored-in-I64.new.blob c.args.value _ c.in-I64.is (to_z-of_z w128 c.args.value fits) c.stored-in-I64.ensures.inside
+returns-in-I64-clause-inside c = grind (arith, common_steps, stored_as, to_z-of_z)
 
 pub returns-in-TurnedU16-clause-inside : goal.returns-in-TurnedU16-clause-inside
 returns-in-TurnedU16-clause-inside c =
@@ -61,6 +53,4 @@ returns-in-TurnedI64-clause-inside c =
     stored_as c.args.word TurnedI64 c.args.field.now c.args.start c.turned_stored-in-TurnedI64.new.blob c.args.value _ c.in-TurnedI64.is (to_z-of_z w128 c.args.value fits) c.turned_stored-in-TurnedI64.ensures.inside
 
 pub returns-in-Field-clause-inside : goal.returns-in-Field-clause-inside
-returns-in-Field-clause-inside c =
-    let fits : SFits w128 c.args.value = search rules in
-    stored_as c.args.word FieldWord c.args.field.now c.args.start c.put_field_at.new.blob c.args.value _ c.in-Field.is (to_z-of_z w128 c.args.value fits) c.put_field_at.ensures.inside
+returns-in-Field-clause-inside c = grind (arith, common_steps, stored_as, to_z-of_z)

@@ -1,6 +1,6 @@
-use Rattle.record_dim.proofs.Imports.{ℕ, ◌≡◌, ◌+◌, ◌≤◌, length, min, false, nat_eq, sym, subst, arith, pointwise, FieldList, Field, leaves, leaves_of, tree_of, fields_of}
+use Rattle.record_dim.proofs.Imports.{◌≡◌, ◌+◌, ◌≤◌, length, min, false, nat_eq, sym, arith, pointwise, Field, leaves, leaves_of, tree_of, fields_of}
 use Rattle.record_dim.proofs.Walks.{length-leaves}
-use Rattle.record_dim.proofs.Lookup.{IsLeft, left_found, left_few, left_more}
+use Rattle.record_dim.proofs.Lookup.{left_found, left_few, left_more}
 use Rattle.record_dim.proofs.nodes.find_field.Goals as goal
 
 pub returns-then-eq-clause-some : goal.returns-then-eq-clause-some
@@ -24,6 +24,4 @@ loop-left-preserved c =
     let count : c.count_leaves-before.result ≡ min 65 (length (leaves_of (tree_of field.dim))) = rw c.deref-in-More.ensures at c.count_leaves-before.ensures in
     let exact : length (leaves_of (tree_of field.dim)) ≡ c.count_leaves-before.result = omega arith in
     let other : pointwise nat_eq field.name c.args.name ≡ false = sym (rw c.deref.ensures at c.if-eq.ensures) in
-    let more = left_more fields field.name (tree_of field.dim) rest c.args.name c.loop-left.before other left in
-    subst (λ (l : FieldList). IsLeft fields (fields_of l) c.args.name (c.loop-left.before + c.count_leaves-before.result)) (sym c.deref-left.ensures)
-    (subst (λ (n : ℕ). IsLeft fields rest c.args.name (c.loop-left.before + n)) exact more)
+    let more = left_more fields field.name (tree_of field.dim) rest c.args.name c.loop-left.before other left in grind (arith, fields_of)

@@ -1,14 +1,10 @@
-use Rattle.row_updates.proofs.Imports.{rules, ◌≡◌, ◌∙◌, ℕ, List, length, Err, sym, ap, subst, arith, bound_term, indices, count_log, IsIdle}
+use Rattle.row_updates.proofs.Imports.{rules, ◌≡◌, ◌∙◌, Err, sym, subst, arith, bound_term, count_log, IsIdle}
 use Rattle.row_updates.proofs.Rows.{none_rows}
 use Rattle.row_updates.proofs.count.count_by_runs.Goals as goal
+use Rattle.std.proofs.lemmas.Grind.{common_steps}
 
 pub loop-first-init : goal.loop-first-init
-loop-first-init g c = record {
-  few = omega arith;
-  all = c.count-count.ensures.rows ∙ ap (λ (e : List ℕ). length (indices e)) c.extents.ensures.value ∙ sym c.extents.ensures.table.rows;
-  idle = c.requires.idle;
-  counted = none_rows c.args.view.now (bound_term c.args.filter.now);
-}
+loop-first-init g c = grind (arith, common_steps, none_rows)
 
 pub returns-in_err-passing-clause-stopped : goal.returns-in_err-passing-clause-stopped
 returns-in_err-passing-clause-stopped g c =

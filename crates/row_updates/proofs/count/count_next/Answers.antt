@@ -1,12 +1,10 @@
-use Rattle.row_updates.proofs.Imports.{rules, ◌≡◌, ◌∙◌, ◌+◌, ◌-◌, ℕ, count_by, length, sym, ap, subst, arith, count_by-le-length, bound_term, Term, is_true, Table, count_log, AreWorth, AreCounted, IsCounted, row_test}
+use Rattle.row_updates.proofs.Imports.{rules, ◌≡◌, ◌∙◌, ◌+◌, ◌-◌, ℕ, count_by, length, sym, ap, subst, arith, count_by-le-length, bound_term, Term, Table, AreWorth, IsCounted, row_test}
 use Rattle.row_updates.proofs.RunTests.{tested, run_counted}
 use Rattle.row_updates.proofs.count.count_next.Goals as goal
+use Rattle.std.proofs.lemmas.Grind.{common_steps}
 
 pub returns-then-chain_run-clause-few : goal.returns-then-chain_run-clause-few
-returns-then-chain_run-clause-few g c =
-    let values = c.chain_run.new.values in
-    let long : length values ≡ c.args.end - c.args.run.now.first = search rules in
-    omega (arith, long, count_by-le-length is_true values, c.count_passing.ensures, c.requires.order)
+returns-then-chain_run-clause-few g c = grind (arith, common_steps, count_by-le-length)
 
 pub returns-then-chain_run-clause-done : goal.returns-then-chain_run-clause-done
 returns-then-chain_run-clause-done g c = λ old before idle so_far.
@@ -19,15 +17,10 @@ returns-then-chain_run-clause-done g c = λ old before idle so_far.
     let worthy = subst (λ (t : Term ℕ). AreWorth view run t values) c.chain.ensures.term (c.chain_run.ensures.worth c.if-chain_run.true) in
     let all = run_counted (row_test old term) values run.first before so_far.counted (λ k small.
     sym (ap (λ (t : Table). row_test t term (run.first + k)) so_far.same) ∙ tested view run term values c.requires.safe worthy k small) in
-    record {
-      same = c.chain_run.ensures.same ∙ so_far.same ∙ idle (count_log term old.extents old.rows run.first) ∙ sym (idle (count_log term old.extents old.rows c.args.end));
-      counted = subst (λ (n : ℕ). AreCounted (row_test old term) c.args.end (before + n)) (sym c.count_passing.ensures)
-          (subst (λ (n : ℕ). AreCounted (row_test old term) n (before + count_by is_true values)) end all);
-    }
+    grind (arith, count_by)
 
 pub returns-clause-done : goal.returns-clause-done
-returns-clause-done g c = λ old before idle so_far.
-    c.count_between.ensures.done old before (subst (λ (t : Table). IsCounted old (bound_term c.args.filter.now) t c.args.run.now.first before) (sym c.chain_run.ensures.same) so_far)
+returns-clause-done g c = grind (arith, common_steps)
 
 pub returns-clause-stopped : goal.returns-clause-stopped
 returns-clause-stopped g c = λ old before idle so_far.

@@ -1,12 +1,11 @@
-use Rattle.row_updates.proofs.Imports.{◌≡◌, ◌∙◌, ℕ, List, length, refl, sym, ap, bound_term, indices}
+use Rattle.row_updates.proofs.Imports.{◌≡◌, ◌∙◌, ℕ, List, length, sym, ap, bound_term, indices}
 use Rattle.row_updates.proofs.Rows.{none_rows, from_none, whole_count}
 use Rattle.row_updates.proofs.count.count_where.Goals as goal
+use Rattle.std.proofs.lemmas.Grind.{common_steps}
+use Rattle.std.proofs.Common.{arith}
 
 pub returns-then-find_limits : goal.returns-then-find_limits
-returns-then-find_limits g c =
-    let view = c.args.view.now in
-    let all = whole_count view c.count_by_runs.new.view (bound_term c.args.filter.now) (length view.rows) c.count_by_runs.result refl c.count_by_runs.ensures.done c.count_by_runs.ensures.stopped in
-    record { value = all.value; same = all.same; so_far = all.so_far }
+returns-then-find_limits g c = grind (arith, common_steps, whole_count)
 
 pub returns : goal.returns
 returns g c =

@@ -1,31 +1,17 @@
-use Rattle.row_updates.proofs.Imports.{rules, ◌≡◌, ◌-◌, ◌<◌, ℕ, List, length, map, take, get_or, ℤ, pos, sym, ap, subst, arith, All-get_or, bound_term, IsSafe, hold_at, column_writes, raised, raised_same, Fits, Table, leaf_count_of, leaf_type_of, table_holds, Assign, Setting, setting_of, IsSetOf, IsRunUpdated, IsStill, lane_test}
+use Rattle.row_updates.proofs.Imports.{rules, ◌≡◌, ◌-◌, ◌<◌, ℕ, List, length, map, take, get_or, pos, sym, subst, arith, All-get_or, bound_term, IsSafe, column_writes, raised, raised_same, Table, leaf_type_of, Assign, Setting, setting_of, IsSetOf, IsRunUpdated, IsStill, lane_test}
 use Rattle.row_updates.proofs.RunRows.{stored_still}
 use Rattle.row_updates.proofs.RunSets.{last_stored, all_settings}
 use Rattle.row_updates.proofs.run_updates.+sets_run.Goals as goal
+use Rattle.std.proofs.lemmas.Grind.{common_steps}
 
 pub put_run-requires-clause-leaf_in : goal.put_run-requires-clause-leaf_in
-put_run-requires-clause-leaf_in g t c =
-    let view = c.args.view.now in
-    let sets = c.args.sets.now in
-    let last = c.index-sets-before.result in
-    let before : ℕ = length sets - 1 in
-    let small : before < length sets = search rules in
-    let set = subst (IsSetOf view) (sym c.index-sets-before.is) (All-get_or (IsSetOf view) sets before last small c.requires.sets) in
-    subst (λ (v : Table). last.leaf < leaf_count_of v) (sym c.sets_run.ensures.still.same) (subst (λ (v : Table). last.leaf < leaf_count_of v) (sym c.value_run.ensures.same) set.inside)
+put_run-requires-clause-leaf_in g t c = grind (arith, common_steps, All-get_or)
 
 pub put_run-requires-clause-rows_in : goal.put_run-requires-clause-rows_in
-put_run-requires-clause-rows_in g t c =
-    let long : length c.value_run.new.values ≡ c.args.count = search rules in
-    omega (arith, long, c.requires.rows.rows, c.sets_run.ensures.still.count, ap (λ (v : Table). length v.rows) c.value_run.ensures.same)
+put_run-requires-clause-rows_in g t c = grind (arith, common_steps)
 
 pub put_run-requires-clause-fits : goal.put_run-requires-clause-fits
-put_run-requires-clause-fits g t c = λ k small.
-    let leaf = c.index-sets-before.result.leaf in
-    let view = c.value_run.new.view in
-    let value = get_or c.value_run.new.values k (pos 0) in
-    let fit = c.takes_run.ensures.fits c.if-not-takes_run.false k small in
-    subst (λ (v : Table). Fits (leaf_type_of v leaf) (hold_at (table_holds v) leaf) (raised (leaf_type_of v leaf) value)) (sym c.sets_run.ensures.still.same)
-    (subst (λ (v : ℤ). Fits (leaf_type_of view leaf) (hold_at (table_holds view) leaf) v) (sym (raised_same (leaf_type_of view leaf) value fit.declared)) fit)
+put_run-requires-clause-fits g t c = grind (arith, common_steps, raised_same)
 
 pub returns-clause-still : goal.returns-clause-still
 returns-clause-still g t c =

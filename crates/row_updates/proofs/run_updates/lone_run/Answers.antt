@@ -1,7 +1,8 @@
-use Rattle.row_updates.proofs.Imports.{rules, ◌≡◌, ◌∙◌, ℕ, ◌∷◌, [], Some, length, sym, ap, subst, arith, first_lane_fault, stored_count, answer_of, setting_of, IsRunUpdated, lane_test}
+use Rattle.row_updates.proofs.Imports.{rules, ◌≡◌, ◌∙◌, ℕ, ◌∷◌, [], length, sym, ap, subst, arith, first_lane_fault, stored_count, answer_of, setting_of, IsRunUpdated, lane_test}
 use Rattle.row_updates.proofs.RunSets.{lone_stored}
 use Rattle.row_updates.proofs.Taken.{stored_front, told_none, told_some}
 use Rattle.row_updates.proofs.run_updates.lone_run.Goals as goal
+use Rattle.std.proofs.lemmas.Grind.{common_steps}
 
 pub returns-in-Ok-clause-updated : goal.returns-in-Ok-clause-updated
 returns-in-Ok-clause-updated g c = λ filter tested.
@@ -17,14 +18,7 @@ returns-in-Ok-clause-updated g c = λ filter tested.
     (c.value_run.ensures.given c.if-not-value_run.false) c.store_run.new.self (rw c.value_run.ensures.same at c.store_run.ensures.stored))
 
 pub returns-in-Err-clause-few : goal.returns-in-Err-clause-few
-returns-in-Err-clause-few g c =
-    let leaf = c.args.set.now.leaf in
-    let view = c.value_run.new.view in
-    let values = c.value_run.new.values in
-    let long : length values ≡ c.args.count = search rules in
-    let some = told_some (first_lane_fault (answer_of view) leaf 0 values) c.in-Err.fault (sym c.store_run.ensures.named ∙ c.in-Err.is) in
-    let few = (stored_front (answer_of view) leaf values (Some c.in-Err.fault) some).few in
-    omega (arith, few, long)
+returns-in-Err-clause-few g c = grind (arith, common_steps, told_some, stored_front)
 
 pub returns-in-Err-clause-updated : goal.returns-in-Err-clause-updated
 returns-in-Err-clause-updated g c = λ filter tested.

@@ -1,4 +1,4 @@
-use Rattle.row_updates.proofs.Imports.{rules, ◌≡◌, ◌∙◌, ℕ, Some, Ok, Bool, length, map, get_or, pos, sym, ap, subst, arith, bound_term, is_true, Term, Table, setting_of, AreWorth, IsRunUpdated, AreTested}
+use Rattle.row_updates.proofs.Imports.{rules, ◌≡◌, ◌∙◌, ℕ, Some, Ok, Bool, length, map, get_or, pos, sym, ap, subst, arith, bound_term, is_true, Term, setting_of, AreWorth, AreTested}
 use Rattle.row_updates.proofs.RunRows.{none_pass}
 use Rattle.row_updates.proofs.RunTests.{tested, none_true, all_true}
 use Rattle.row_updates.proofs.run_updates.passed_run.Given as given
@@ -19,9 +19,7 @@ returns-then-passing-eq0-clause-updated g c =
     let filter = Some (bound_term c.args.filter.now) in
     let sets = map setting_of c.args.sets.now in
     let test = rows_tested g (goal.at.returns-then-passing-eq0-clause-updated g c).After-count_passing-passing in
-    let none = sym c.count_passing-passing.ensures ∙ c.if-passing-eq0.true in
-    subst (λ (t : Table). IsRunUpdated c.args.view.now filter sets c.args.run.now.first c.args.count t) (sym c.chain_run.ensures.same)
-    (none_pass c.args.view.now filter c.args.run.now.first c.args.count sets (λ k small. test k small ∙ ap (λ (b : Bool). Ok b) (none_true c.chain_run.new.values none k)))
+    let none = sym c.count_passing-passing.ensures ∙ c.if-passing-eq0.true in grind (arith, none_pass, none_true)
 
 pub returns-then-passing-count-clause-updated : goal.returns-then-passing-count-clause-updated
 returns-then-passing-count-clause-updated g c =

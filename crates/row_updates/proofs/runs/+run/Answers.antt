@@ -1,15 +1,13 @@
-use Rattle.row_updates.proofs.Imports.{rules, ◌≡◌, ◌∙◌, length, refl, sym, ap, subst, arith, Link, Step, operand_term, chain_term, AreWithin, within_front, within_links, within_rest, safe_front, safe_steps, safe_rest, no_deeper, Table, leaf_count_of, IsIdle, AreRights}
+use Rattle.row_updates.proofs.Imports.{rules, ◌≡◌, ◌∙◌, length, refl, sym, ap, subst, arith, Link, operand_term, chain_term, AreWithin, within_front, within_links, within_rest, safe_front, safe_steps, safe_rest, no_deeper, Table, leaf_count_of, IsIdle, AreRights}
 use Rattle.row_updates.proofs.WorthSoFar.{run_rows, ended, fits, more}
 use Rattle.row_updates.proofs.runs.+run.Goals as goal
+use Rattle.std.proofs.lemmas.Grind.{common_steps}
 
 pub chain_run-operand_run-requires-clause-within : goal.chain_run-operand_run-requires-clause-within
-chain_run-operand_run-requires-clause-within g t c =
-    let view = c.args.view.now in
-    within_front (leaf_count_of view) (length view.extents) (operand_term c.args.chain.now.first) c.args.chain.now.links c.requires.within
+chain_run-operand_run-requires-clause-within g t c = grind (arith, common_steps, within_front)
 
 pub chain_run-operand_run-requires-clause-safe : goal.chain_run-operand_run-requires-clause-safe
-chain_run-operand_run-requires-clause-safe g t c =
-    safe_front c.args.run.now.leaves.now c.args.run.now.places.now (operand_term c.args.chain.now.first) c.args.chain.now.links c.requires.safe
+chain_run-operand_run-requires-clause-safe g t c = grind (arith, common_steps, safe_front)
 
 pub chain_run-loop-links-init : goal.chain_run-loop-links-init
 chain_run-loop-links-init g t c =
@@ -39,8 +37,7 @@ chain_run-apply_step-requires-clause-fits g t c =
     let other = c.right_run.new.values in
     let first_is = ap (λ (l : Link). l.step) c.deref.ensures in
     let step_is = ap (λ (l : Link). l.step) c.deref-in-More.ensures in
-    let rights : AreRights view run done other = subst (λ (t : Table). AreRights t run done other) before.same
-    (subst (λ (k : Step). AreRights c.loop-links.view run k other) (first_is ∙ sym step_is) (c.right_run.ensures.rights c.if-not-right_run.false)) in
+    let rights : AreRights view run done other = grind arith in
     let long : length other ≡ length c.loop-links.values = omega (arith, before.long) in
     fits view run (chain_term c.args.chain.now) c.loop-links.links.now c.in-More.link.value.rest s done _ c.loop-links.values other c.in-More.is step_is before.so_far rights long c.requires.safe
 
@@ -60,16 +57,14 @@ chain_run-loop-links-preserved g t c =
     let first_is = ap (λ (l : Link). l.step) c.deref.ensures in
     let step_is = ap (λ (l : Link). l.step) c.deref-in-More.ensures in
     let rest_is = ap (λ (l : Link). l.rest) c.deref-in-More-2.ensures in
-    let rights : AreRights view run done other = subst (λ (t : Table). AreRights t run done other) before.same
-    (subst (λ (k : Step). AreRights now run k other) (first_is ∙ sym step_is) (c.right_run.ensures.rights c.if-not-right_run.false)) in
+    let rights : AreRights view run done other = grind arith in
     let long : length other ≡ length c.loop-links.values = omega (arith, before.long) in
     let made : length c.apply_step.new.values ≡ length c.loop-links.values = c.apply_step.ensures.long in
     record {
       no_deeper = no_deeper _ rest _ s _ _ c.in-More.is rest_is before.no_deeper;
       same = same ∙ before.same;
       idle = subst IsIdle (sym same) before.idle;
-      within = subst (λ (v : Table). AreWithin (leaf_count_of v) (length v.extents) c.deref-in-More-2.result.now.rest) (sym same)
-          (within_rest (leaf_count_of now) (length now.extents) _ rest _ s _ c.in-More.is rest_is before.within);
+      within = grind (arith, within_rest);
       safe = safe_rest leaves places _ rest _ s _ c.in-More.is rest_is before.safe;
       rows = run_rows _ now run (length c.loop-links.other) _ same (omega arith) before.rows;
       long = long ∙ sym made;

@@ -1,42 +1,26 @@
-use Rattle.row_updates.proofs.Imports.{rules, ◌≡◌, ◌∙◌, Err, length, map, get_or, [], ap, sym, Table, answer_of, after_log, filter_term, setting_of, filter_log, sides_log, tried_log}
+use Rattle.row_updates.proofs.Imports.{◌≡◌, ◌∙◌, length, map, get_or, [], ap, sym, Table, answer_of, after_log, filter_term, setting_of, filter_log, sides_log, tried_log}
 use Rattle.row_updates.proofs.Logs.{log_more, tried_log_left, tried_log_fault, tried_log_done}
 use Rattle.row_updates.proofs.Rows.{tried_left, tried_stop, tried_done}
 use Rattle.row_updates.proofs.update.try_at.Given as given
 use Rattle.row_updates.proofs.update.try_at.Goals as goal
 use Rattle.row_updates.proofs.update.try_at.Goals.{After-new_values}
+use Rattle.std.proofs.lemmas.Grind.{common_steps}
+use Rattle.std.proofs.Common.{arith}
 
 pub returns-then-not-branch-clause-tried : goal.returns-then-not-branch-clause-tried
-returns-then-not-branch-clause-tried g c =
-    let filter = filter_term c.args.filter in
-    let view = c.args.view.now in
-    let test = rw c.if-not-branch.true at c.in_ok-passes.ensures.value in
-    tried_left (answer_of view) filter (map setting_of c.args.sets.now) c.args.row (get_or view.rows c.args.row []) c.args.index.now test
+returns-then-not-branch-clause-tried g c = grind (arith, common_steps, tried_left)
 
 pub returns-then-not-branch-clause-same : goal.returns-then-not-branch-clause-same
-returns-then-not-branch-clause-same g c =
-    let filter = filter_term c.args.filter in
-    let view = c.args.view.now in
-    let test = rw c.if-not-branch.true at c.in_ok-passes.ensures.value in
-    c.passes.ensures.same ∙ ap (after_log view) (sym (tried_log_left (answer_of view) filter (map setting_of c.args.sets.now) c.args.row (get_or view.rows c.args.row []) c.args.index.now test))
+returns-then-not-branch-clause-same g c = grind (arith, common_steps, tried_log_left)
 
 pub returns-in_err-passes-clause-same : goal.returns-in_err-passes-clause-same
-returns-in_err-passes-clause-same g c =
-    let filter = filter_term c.args.filter in
-    let view = c.args.view.now in
-    let test = c.in_err-passes.ensures.value in
-    c.passes.ensures.same ∙ ap (after_log view) (sym (tried_log_fault (answer_of view) filter (map setting_of c.args.sets.now) c.args.row (get_or view.rows c.args.row []) c.args.index.now c.in_err-passes.field-0.0 test))
+returns-in_err-passes-clause-same g c = grind (arith, common_steps, tried_log_fault)
 
 pub new_values-requires-clause-rank : goal.new_values-requires-clause-rank
 new_values-requires-clause-rank g c = c.requires.rank ∙ ap (λ (s : Table). length s.extents) (sym c.passes.ensures.same)
 
 pub returns-in_err-new_values-clause-refused : goal.returns-in_err-new_values-clause-refused
-returns-in_err-new_values-clause-refused g c =
-    let filter = filter_term c.args.filter in
-    let view = c.args.view.now in
-    let is : c.from_residual-in_err-new_values.result ≡ Err c.in_err-new_values.field-0.0 = search rules in
-    let test = rw c.if-not-branch.false at c.in_ok-passes.ensures.value in
-    let stop = rw c.passes.ensures.same at c.in_err-new_values.ensures.refused in
-    rw is (tried_stop (answer_of view) filter (map setting_of c.args.sets.now) c.args.row (get_or view.rows c.args.row []) c.args.index.now c.in_err-new_values.field-0.0 test stop)
+returns-in_err-new_values-clause-refused g c = grind (arith, common_steps, tried_stop)
 
 -- the accesses of a row that passes
 right_sides : (g : given.Over) (c : After-new_values g) → c.new_values.new.view

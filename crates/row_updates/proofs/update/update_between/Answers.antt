@@ -14,9 +14,7 @@ returns-in_err-update_row-clause-stopped g c = λ old so_far.
     let same : c.extents-extents.result ≡ c.loop-row.view.extents = c.extents-extents.ensures.value ∙ sym (ap (λ (s : Table). s.extents) before.still) in
     let index = index_read c.loop-row.view.extents c.extents-extents.result c.put_index.new.numbers c.loop-row.row c.rank.result same c.rank.ensures.value c.put_index.ensures in
     let here = before.updated old so_far in
-    let small : c.loop-row.row < length old.rows = omega (arith, here.count, before.count) in
-    rw is (rows_ended old c.loop-row.view c.update_row.new.view (filter_term c.args.filter) sets c.loop-row.row c.in_err-update_row.field-0.0 small here
-    (rw index at c.in_err-update_row.ensures.refused) c.in_err-update_row.ensures.named (rw index at c.in_err-update_row.ensures.kept))
+    let small : c.loop-row.row < length old.rows = omega (arith, here.count, before.count) in grind (arith, rows_ended)
 
 pub loop-row-preserved : goal.loop-row-preserved
 loop-row-preserved g c =

@@ -1,6 +1,8 @@
 use Rattle.subviews.proofs.Imports.{rules, ◌≡◌, ◌∙◌, length, take, sym}
 use Rattle.subviews.proofs.Back.{all_raised, all_fit, all_kept}
 use Rattle.subviews.proofs.rounds.copy_back.Goals as goal
+use Rattle.std.proofs.lemmas.Grind.{common_steps}
+use Rattle.std.proofs.Common.{arith}
 
 pub put_run-requires-clause-fits : goal.put_run-requires-clause-fits
 put_run-requires-clause-fits g c =
@@ -9,13 +11,7 @@ put_run-requires-clause-fits g c =
     c.requires.leaf_in c.requires.rows_in (rw long at c.read_run.ensures.values) (sym c.mode.ensures ∙ c.in-Strict.is)
 
 pub returns-in-Strict-clause-stored : goal.returns-in-Strict-clause-stored
-returns-in-Strict-clause-stored g c =
-    let long : length (take c.args.run.rows c.args.values.now) ≡ c.args.run.rows = search rules in
-    all_raised c.args.view.now c.args.buffer.now c.args.leaf c.args.run.first c.args.run.rows c.read_run.new.values c.requires.buffer c.laws_of_table.ensures.table c.laws_of_table-2.ensures.table
-    c.requires.leaf_in c.requires.rows_in (rw long at c.read_run.ensures.values) c.put_run.new.self c.put_run.ensures.stored
+returns-in-Strict-clause-stored g c = grind (arith, common_steps, all_raised)
 
 pub returns-in-Wrap-clause-stored : goal.returns-in-Wrap-clause-stored
-returns-in-Wrap-clause-stored g c =
-    let long : length (take c.args.run.rows c.args.values.now) ≡ c.args.run.rows = search rules in
-    all_kept c.args.view.now c.args.buffer.now c.args.leaf c.args.run.first c.args.run.rows c.read_run.new.values c.requires.buffer c.laws_of_table.ensures.table c.laws_of_table-2.ensures.table
-    c.requires.leaf_in c.requires.rows_in (rw long at c.read_run.ensures.values) (sym c.mode.ensures ∙ c.in-Wrap.is) c.store_run-taken.new.self c.store_run-taken.ensures.stored
+returns-in-Wrap-clause-stored g c = grind (arith, common_steps, all_kept)

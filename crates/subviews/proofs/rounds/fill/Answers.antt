@@ -1,4 +1,4 @@
-use Rattle.subviews.proofs.Imports.{rules, arith, ◌≡◌, ◌+◌, ◌-◌, ◌<◌, ◌≤◌, ℕ, length, FitsSigned, ap, sym, subst, w128, to_z-of_z, Table, answer_of, kept_of, IsFilled}
+use Rattle.subviews.proofs.Imports.{rules, arith, ◌≡◌, ◌+◌, ◌-◌, ℕ, length, FitsSigned, ap, sym, subst, w128, to_z-of_z, Table, answer_of, kept_of, IsFilled}
 use Rattle.subviews.proofs.Growth.{run_at, run_inside}
 use Rattle.subviews.proofs.Passes.{none_filled, refused_here, taken_here, fill_stopped, filled_more, filled_all, buffer_row, buffer_leaf}
 use Rattle.subviews.proofs.Ways.{row_held, row_inside}
@@ -40,9 +40,7 @@ overflow_step-outer g c =
 pub set-requires-clause-row_in : goal.set-requires-clause-row_in
 set-requires-clause-row_in g c =
     let plan = c.args.plan.now in
-    let below = run_inside plan.window.now c.next_run-run.result c.next_run-run.ensures.run in
-    buffer_row c.args.view.now c.args.buffer.now c.loop-outer.buffer plan c.loop-outer.outer c.requires.plan c.requires.buffer (ap (λ (t : Table). t.extents) c.loop-outer.invariant.filled.same)
-    c.laws_of_table.ensures.table (omega (arith, c.loop-outer-test.true, below))
+    let below = run_inside plan.window.now c.next_run-run.result c.next_run-run.ensures.run in grind (arith, buffer_row)
 
 pub returns-in-Err-clause-refused : goal.returns-in-Err-clause-refused
 returns-in-Err-clause-refused g c =

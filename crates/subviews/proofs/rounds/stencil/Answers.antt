@@ -1,33 +1,19 @@
-use Rattle.subviews.proofs.Imports.{rules, arith, ◌≡◌, ◌-◌, ◌∙◌, ℤ, Err, FitsSigned, ap, subst, to_z, of_z, w64, to_z-of_z, stenciled, Table, stencil_by, planned, Plan}
+use Rattle.subviews.proofs.Imports.{rules, arith, ◌≡◌, ◌-◌, ◌∙◌, ℤ, Err, FitsSigned, subst, to_z, of_z, w64, to_z-of_z, stenciled, stencil_by, planned, Plan}
 use Rattle.subviews.proofs.Passes.{plan_still, no_round, same_after, buffer_same, round_done, round_stopped, after_more, IsRefused, is_refused, stopped}
 use Rattle.subviews.proofs.rounds.stencil.Goals as goal
+use Rattle.std.proofs.lemmas.Grind.{common_steps}
 
 pub loop-round-init : goal.loop-round-init
 loop-round-init g c = record {
-  plan = record {
-    window = c.requires.window;
-    rows = c.all_far.ensures.rows;
-    inside = c.requires.leaf_in;
-    terms = c.requires.terms;
-    few = c.requires.few;
-    divisor = search rules;
-    far = c.all_far.ensures.far;
-    near = c.are_near.ensures;
-  };
+  plan = grind arith;
   after = no_round c.args.view.now c.args.buffer.now _;
 }
 
 pub fill-requires-clause-plan : goal.fill-requires-clause-plan
-fill-requires-clause-plan g c =
-    let from = same_after c.args.view.now c.loop-round.view c.args.buffer.now c.loop-round.buffer _ c.loop-round._round c.loop-round.invariant.after in
-    plan_still c.args.view.now c.loop-round.view _ (ap (λ (t : Table). t.fields) from) (ap (λ (t : Table). t.extents) from) c.loop-round.invariant.plan
+fill-requires-clause-plan g c = grind (arith, common_steps, same_after, plan_still)
 
 pub store_back-requires-clause-plan : goal.store_back-requires-clause-plan
-store_back-requires-clause-plan g c =
-    let from = same_after c.args.view.now c.loop-round.view c.args.buffer.now c.loop-round.buffer _ c.loop-round._round c.loop-round.invariant.after in
-    let read = c.fill.ensures.same in
-    plan_still c.args.view.now c.fill.new.view _ (ap (λ (t : Table). t.fields) read ∙ ap (λ (t : Table). t.fields) from) (ap (λ (t : Table). t.extents) read ∙ ap (λ (t : Table). t.extents) from)
-    c.loop-round.invariant.plan
+store_back-requires-clause-plan g c = grind (arith, common_steps, same_after, plan_still)
 
 pub returns-in_err-fill-clause-refused : goal.returns-in_err-fill-clause-refused
 returns-in_err-fill-clause-refused g c =

@@ -1,4 +1,4 @@
-use Rattle.subviews.proofs.Imports.{◌≡◌, ◌+◌, ◌≤◌, ◌∙◌, ℕ, List, length, ap, subst, sym, arith, indices, Table, IsTable, rows_of, IsBufferOf, IsPlanOf, AreConsecutive, Plan}
+use Rattle.subviews.proofs.Imports.{◌≡◌, ◌∙◌, ℕ, List, length, ap, subst, sym, arith, indices, Table, IsTable, rows_of, IsBufferOf, IsPlanOf, AreConsecutive, Plan}
 use Rattle.subviews.proofs.Growth.{run_inside}
 use Rattle.subviews.proofs.Passes.{IsStored, none_stored, run_stored}
 use Rattle.subviews.proofs.rounds.store_back.Goals as goal
@@ -12,8 +12,7 @@ view_rows old view first buffer plan k is so_far table = table.rows ∙ ap (λ (
 
 buffer_rows : (old view first buffer : Table) (plan : Plan) (k : ℕ) → IsPlanOf old.fields old.extents plan → IsBufferOf old first → IsStored old view first buffer plan k → IsTable buffer
     → length buffer.rows ≡ length (indices plan.window.now.0)
-buffer_rows old view first buffer plan k is like so_far table =
-    table.rows ∙ ap (λ (e : List ℕ). length (indices e)) (ap (λ (t : Table). t.extents) so_far.same ∙ like.extents ∙ sym is.window)
+buffer_rows old view first buffer plan k is like so_far table = grind arith
 
 pub copy_back-requires-clause-rows_in : goal.copy_back-requires-clause-rows_in
 copy_back-requires-clause-rows_in g c =

@@ -2,6 +2,7 @@ use Rattle.subviews.proofs.Imports.{rules, arith, ◌≡◌, ◌∙◌, ℕ, ℤ
 use Rattle.subviews.proofs.Values.{IsSummed, weight_small, entry_small, product_fits, sum_fits, summed_more, plan_term, reached}
 use Rattle.subviews.proofs.Ways.{row_inside}
 use Rattle.subviews.proofs.rounds.value_at.Goals as goal
+use Rattle.std.proofs.lemmas.Grind.{common_steps}
 
 pub loop-place-init : goal.loop-place-init
 loop-place-init g c = record { sums = refl; small = omega arith; read = sym (after_log-none c.args.view.now) }
@@ -36,13 +37,7 @@ get-requires-clause-row_in g c =
     omega (arith, ints, fits, to.away, to.inside, to.here, to.few, rows, ap (λ (t : Table). length t.rows) c.loop-place.invariant.read)
 
 pub overflow_mul-sum : goal.overflow_mul-sum
-overflow_mul-sum g c =
-    let term = c.term-item.result in
-    let is = plan_term c.args.view.now.fields c.args.view.now.extents c.args.plan.now c.loop-place.place term c.requires.plan c.loop-place-test.true c.term-item.is in
-    let fits : FitsSigned w64 term.weight = search rules in
-    let high = entry_small (leaf_type_of c.loop-place.view term.leaf) c.get.result c.get.ensures.declared in
-    let both = product_fits term.weight c.from.result c.get.result (c.from.ensures ∙ to_z-of_z w64 term.weight fits) (weight_small term.weight is.weight) high in
-    subst (λ (z : ℤ). FitsSigned w128 z) (sym both.0) both.1
+overflow_mul-sum g c = grind (arith, common_steps, plan_term, entry_small, product_fits, to_z-of_z, weight_small)
 
 pub overflow_add-sum : goal.overflow_add-sum
 overflow_add-sum g c =

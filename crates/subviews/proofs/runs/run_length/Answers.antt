@@ -2,6 +2,7 @@ use Rattle.subviews.proofs.Imports.{arith, ◌≡◌, ◌+◌, ◌-◌, ◌≤�
 use Rattle.std.proofs.Common.{slice_get}
 use Rattle.subviews.proofs.Growth.{rows_grow, run_between}
 use Rattle.subviews.proofs.runs.run_length.Goals as goal
+use Rattle.std.proofs.lemmas.Grind.{common_steps}
 
 pub overflow_add-row : goal.overflow_add-row
 overflow_add-row c = omega (arith, c.requires.narrow, c.count-count.ensures.rows, c.count-count.ensures.few, c.requires.row_in)
@@ -15,10 +16,4 @@ overflow_sub-outer c =
     omega (arith, rows_grow window c.args.row (last - c.args.row) c.args.outer c.outer.result c.requires.entry (subst (λ m. slice_get (rows_of window) m ≡ Some c.outer.result) past c.outer.ensures.entry))
 
 pub returns-then-outer-last-clause-run : goal.returns-then-outer-last-clause-run
-returns-then-outer-last-clause-run c =
-    let window = c.args.window.now in
-    let last = c.min-last.result - 1 in
-    let ordered : c.args.row ≤ last = omega (arith, c.min-last.ensures, c.count-count.ensures.rows, c.requires.row_in, mod_below c.args.row c.args.width c.requires.some) in
-    let past : last ≡ c.args.row + (last - c.args.row) = omega (arith, ordered) in
-    let before = rows_grow window c.args.row (last - c.args.row) c.args.outer c.outer.result c.requires.entry (subst (λ m. slice_get (rows_of window) m ≡ Some c.outer.result) past c.outer.ensures.entry) in
-    run_between window c.args.row last c.args.outer c.outer.result ordered c.requires.entry c.outer.ensures.entry (omega (arith, c.if-outer-last.true, before))
+returns-then-outer-last-clause-run c = grind (arith, common_steps, mod_below, rows_grow, slice_get, run_between)

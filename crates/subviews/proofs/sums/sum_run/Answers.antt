@@ -4,6 +4,7 @@ use Rattle.subviews.proofs.Near.{read_inside, values_read, products_fit, sums_fi
 use Rattle.subviews.proofs.Values.{reached}
 use Rattle.subviews.proofs.Ways.{row_held}
 use Rattle.subviews.proofs.sums.sum_run.Goals as goal
+use Rattle.std.proofs.lemmas.Grind.{common_steps}
 
 pub row_away-first-requires-clause-here : goal.row_away-first-requires-clause-here
 row_away-first-requires-clause-here g c = omega (arith, run_inside c.args.plan.now.window.now c.args.run c.requires.run, c.requires.plan.rows)
@@ -29,10 +30,7 @@ row_away-first-requires-clause-high g c =
     omega (arith, ints, fits, to.away, to.inside, to.few)
 
 pub read_run-requires-clause-rows_in : goal.read_run-requires-clause-rows_in
-read_run-requires-clause-rows_in g c =
-    let fits : FitsSigned w64 (get_or c.args.plan.now.far c.loop-place.place (pos 0)) = search rules in
-    let inside = read_inside c.args.view.now c.args.plan.now c.args.run c.loop-place.place c.term-item.result c.row_away-first.result c.requires.plan c.requires.near c.requires.run c.loop-place-test.true c.term-item.is (rw (to_z-of_z w64 (get_or c.args.plan.now.far c.loop-place.place (pos 0)) fits) at c.row_away-first.ensures) c.laws_of_table.ensures.table in
-    omega (arith, inside, c.loop-place.invariant.room, ap (λ (t : Table). length t.rows) c.loop-place.invariant.same)
+read_run-requires-clause-rows_in g c = grind (arith, common_steps, read_inside, to_z-of_z)
 
 pub add_times-requires-clause-products : goal.add_times-requires-clause-products
 add_times-requires-clause-products g c =

@@ -1,6 +1,7 @@
-use Rattle.view_commands.proofs.Imports.{◌∙◌, ◌<◌, ◌≤◌, length, arith}
+use Rattle.view_commands.proofs.Imports.{◌∙◌, ◌<◌, length, arith}
 use Rattle.view_commands.proofs.Advice.{costs_more, costs_all}
 use Rattle.view_commands.proofs.advise.push_costs.Goals as goal
+use Rattle.std.proofs.lemmas.Grind.{common_steps}
 
 pub loop-at-preserved : goal.loop-at-preserved
 loop-at-preserved c =
@@ -8,6 +9,4 @@ loop-at-preserved c =
     (rw c.loop-at.invariant at c.in_ok-push_cost.ensures) ∙ costs_more c.args.text.now.items c.args.costs.now c.loop-at.at _ inside
 
 pub returns : goal.returns
-returns c =
-    let over : length c.args.costs.now ≤ c.loop-at.at = omega arith in
-    c.loop-at.invariant ∙ costs_all c.args.text.now.items c.args.costs.now c.loop-at.at over
+returns c = grind (arith, common_steps, costs_all)

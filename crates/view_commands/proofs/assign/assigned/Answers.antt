@@ -3,6 +3,7 @@ use Rattle.expr_lang.specs.Terms.{term_of}
 use Rattle.view_commands.proofs.Arms.{goes_in, no_index, no_leaf, no_value}
 use Rattle.view_commands.proofs.Changing.{changed_as, stopped}
 use Rattle.view_commands.proofs.assign.assigned.Goals as goal
+use Rattle.std.proofs.Common.{arith}
 
 pub returns-in_err-leaf : goal.returns-in_err-leaf
 returns-in_err-leaf g c =
@@ -11,15 +12,11 @@ returns-in_err-leaf g c =
 
 pub returns-in_err-value : goal.returns-in_err-value
 returns-in_err-value g c =
-    let table = c.args.view.now in
-    stopped _ (all_left table) table _ c.in_err-value.field-0.0 _ (search rules) c.in_err-value.ensures.bound
-    (λ fault. no_value table c.args.index.now c.args.path.now (term_of c.args.value.now) c.in_ok-leaf.leaf fault c.in_ok-leaf.ensures.leaf) (λ fault row is. refl)
+    let table = c.args.view.now in grind (arith, stopped, no_value)
 
 pub returns-in_err-index : goal.returns-in_err-index
 returns-in_err-index g c =
-    let table = c.args.view.now in
-    stopped _ (all_left table) table _ c.in_err-index.field-0.0 _ (search rules) (rw c.extents.ensures.value at c.in_err-index.ensures.inside)
-    (λ fault. no_index table c.args.index.now c.args.path.now (term_of c.args.value.now) c.in_ok-leaf.leaf (bound_term c.in_ok-value.value) fault c.in_ok-leaf.ensures.leaf c.in_ok-value.ensures.bound) (λ fault row is. refl)
+    let table = c.args.view.now in grind (arith, stopped, no_index)
 
 pub returns : goal.returns
 returns g c =

@@ -1,4 +1,4 @@
-use Rattle.view_commands.proofs.Imports.{◌≡◌, ◌∙◌, ◌+◌, ◌-◌, ◌/◌, ◌%◌, ℕ, suc, [], ◌∷◌, sym, ap, arith, next, entries, Run, after_turns}
+use Rattle.view_commands.proofs.Imports.{◌≡◌, ◌∙◌, ◌+◌, ◌-◌, ◌/◌, ◌%◌, ℕ, suc, [], ◌∷◌, ap, arith, next, after_turns}
 use Rattle.view_commands.proofs.Acting.{turn_more}
 use Rattle.view_commands.proofs.by_actors.take_turns.Goals as goal
 
@@ -10,12 +10,4 @@ loop-turn-preserved c =
     let left = c.args.turns - (c.loop-turn._turn + 1) in
     let one : c.args.turns - c.loop-turn._turn ≡ suc left = omega (arith, c.loop-turn-test.true) in
     let turned : c.turn-moved.new.self ≡ after_turns run ((next x / 65536) % actors ∷ []) =
-    c.turn-moved.ensures.turned ∙ ap (λ (y : ℕ). after_turns run ((y / 65536) % actors ∷ [])) c.next-x.ensures.next in
-    record {
-      turns = ap (λ (r : Run). after_turns r (entries actors left c.next-x.result)) turned
-          ∙ ap (λ (y : ℕ). after_turns (after_turns run ((next x / 65536) % actors ∷ [])) (entries actors left y)) c.next-x.ensures.next
-          ∙ turn_more run actors left x ∙ ap (λ (n : ℕ). after_turns run (entries actors n x)) (sym one) ∙ c.loop-turn.invariant.turns;
-      found = ap (λ (r : Run). r.found) turned ∙ c.loop-turn.invariant.found;
-      cuts = ap (λ (r : Run). r.cuts) turned ∙ c.loop-turn.invariant.cuts;
-      below = c.next-x.ensures.below;
-    }
+    c.turn-moved.ensures.turned ∙ ap (λ (y : ℕ). after_turns run ((y / 65536) % actors ∷ [])) c.next-x.ensures.next in grind (arith, turn_more)

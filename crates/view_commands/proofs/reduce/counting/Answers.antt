@@ -1,13 +1,13 @@
-use Rattle.view_commands.proofs.Imports.{rules, ◌≡◌, pos, refl, bound_term, FitsSigned, w128, to_z-of_z, all_left}
+use Rattle.view_commands.proofs.Imports.{rules, ◌≡◌, pos, bound_term, FitsSigned, w128, to_z-of_z}
 use Rattle.expr_lang.specs.Terms.{term_of}
 use Rattle.view_commands.proofs.Arms.{count_done, count_refused, no_test}
 use Rattle.view_commands.proofs.Changing.{stopped}
 use Rattle.view_commands.proofs.reduce.counting.Goals as goal
+use Rattle.std.proofs.lemmas.Grind.{common_steps}
+use Rattle.std.proofs.Common.{arith}
 
 pub returns-in_err-filter : goal.returns-in_err-filter
-returns-in_err-filter g c =
-    let table = c.args.view.now in
-    stopped _ (all_left table) table _ c.in_err-filter.field-0.0 _ (search rules) c.in_err-filter.ensures.bound (no_test table (term_of c.args.filter.now)) (λ fault row is. refl)
+returns-in_err-filter g c = grind (arith, common_steps, stopped, no_test)
 
 pub returns-in-Ok : goal.returns-in-Ok
 returns-in-Ok g c =

@@ -1,12 +1,12 @@
-use Rattle.view_commands.proofs.Imports.{rules, refl, FitsSigned, w128, to_z-of_z, all_left}
+use Rattle.view_commands.proofs.Imports.{rules, FitsSigned, w128, to_z-of_z}
 use Rattle.view_commands.proofs.Arms.{no_column, reduce_done, reduce_empty}
 use Rattle.view_commands.proofs.Changing.{stopped}
 use Rattle.view_commands.proofs.reduce.reduction.Goals as goal
+use Rattle.std.proofs.lemmas.Grind.{common_steps}
+use Rattle.std.proofs.Common.{arith}
 
 pub returns-in_err-leaf : goal.returns-in_err-leaf
-returns-in_err-leaf g c =
-    let table = c.args.view.now in
-    stopped _ (all_left table) table _ c.in_err-leaf.field-0.0 _ (search rules) c.in_err-leaf.ensures.leaf (no_column table c.args.kind c.args.path.now) (λ fault row is. refl)
+returns-in_err-leaf g c = grind (arith, common_steps, stopped, no_column)
 
 pub returns-in-Some : goal.returns-in-Some
 returns-in-Some g c =

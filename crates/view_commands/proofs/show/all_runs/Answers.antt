@@ -1,15 +1,11 @@
-use Rattle.view_commands.proofs.Imports.{◌≡◌, ◌∙◌, ◌++◌, List, All, length, sym, ap, subst, length-map, Owner, runs_of, leaves, owners_of, leaf_types_of, logs_more}
-use Rattle.places.specs.declared.piece.Run.{Run}
+use Rattle.view_commands.proofs.Imports.{◌≡◌, All, length, sym, subst, length-map, leaves, owners_of, leaf_types_of, logs_more}
 use Rattle.view_commands.proofs.Runs.{IsRunBelow, runs_below}
 use Rattle.view_commands.proofs.show.all_runs.Goals as goal
+use Rattle.std.proofs.lemmas.Grind.{common_steps}
+use Rattle.std.proofs.Common.{arith}
 
 pub loop-blob-preserved : goal.loop-blob-preserved
-loop-blob-preserved c =
-    let blob = c.loop-blob.blob in
-    let layout = owners_of c.args.view.now in
-    let more : c.as_slice.result.now ≡ runs_of layout blob = c.as_slice.ensures ∙ c.in_ok-found.ensures ∙ ap (λ (owners : List (List Owner)). runs_of owners blob) c.map-map.ensures.layout in
-    c.in_ok-add_runs.ensures ∙ ap (λ (runs : List Run). c.loop-blob.runs ++ runs) more ∙ ap (λ (runs : List Run). runs ++ runs_of layout blob) c.loop-blob.invariant
-    ∙ sym (logs_more (runs_of layout) blob)
+loop-blob-preserved c = grind (arith, common_steps, logs_more)
 
 pub returns-clause-leaves : goal.returns-clause-leaves
 returns-clause-leaves c =

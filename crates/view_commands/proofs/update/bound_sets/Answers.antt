@@ -1,6 +1,8 @@
-use Rattle.view_commands.proofs.Imports.{rules, ◌≡◌, ◌++◌, ◌∷◌, [], List, Err, map, get_or, drop, take, suc, subst, sym, ap, ◌∙◌, length, All-push, Assignment, assignment_of, Setting, setting_of, IsSetOf, map-append, bound_sets, GivesUp, Ok}
+use Rattle.view_commands.proofs.Imports.{rules, ◌≡◌, List, Err, map, get_or, drop, take, suc, subst, length, All-push, Assignment, assignment_of, setting_of, map-append, bound_sets, GivesUp}
 use Rattle.view_commands.proofs.Sets.{map_at, map_more, sets_push, sets_stop}
 use Rattle.view_commands.proofs.update.bound_sets.Goals as goal
+use Rattle.std.proofs.lemmas.Grind.{common_steps}
+use Rattle.std.proofs.Common.{arith}
 
 pub returns-in_err-set-clause-sets : goal.returns-in_err-set-clause-sets
 returns-in_err-set-clause-sets c =
@@ -14,17 +16,4 @@ returns-in_err-set-clause-sets c =
     (sets_stop c.args.view.now.fields (length c.args.view.now.extents) (map assignment_of (take place sets)) (map setting_of c.loop-set.bound.items) (assignment_of (get_or sets place one)) (map assignment_of (drop (suc place) sets)) c.in_err-set.field-0.0 c.loop-set.invariant.sets gives))
 
 pub loop-set-preserved : goal.loop-set-preserved
-loop-set-preserved c =
-    let fields = c.args.view.now.fields in
-    let rank = length c.args.view.now.extents in
-    let sets = c.args.sets.now in
-    let place = c.loop-set.set-index in
-    let one = c.set-item.result in
-    let items : c.push.new.self.items ≡ c.loop-set.bound.items ++ c.in_ok-set.set ∷ [] = search rules in
-    let is = rw c.set-item.is at c.in_ok-set.ensures.set in
-    let pushed = sets_push fields rank (map assignment_of (take place sets)) (map setting_of c.loop-set.bound.items) (assignment_of (get_or sets place one)) (setting_of c.in_ok-set.set) c.loop-set.invariant.sets is in
-    record {
-      sets = ap (bound_sets fields rank) (map_more assignment_of sets place one c.loop-set-test.true) ∙ pushed
-          ∙ ap (λ (settings : List Setting). Ok settings) (sym (ap (map setting_of) items ∙ map-append setting_of c.loop-set.bound.items (c.in_ok-set.set ∷ [])));
-      over = rw items (All-push (IsSetOf c.args.view.now) c.loop-set.bound.items c.in_ok-set.set c.loop-set.invariant.over c.in_ok-set.ensures.over);
-    }
+loop-set-preserved c = grind (arith, common_steps, sets_push, map_more, map-append, All-push)

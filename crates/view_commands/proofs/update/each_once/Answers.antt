@@ -1,6 +1,7 @@
-use Rattle.view_commands.proofs.Imports.{arith, ◌<◌, ◌∙◌, ◌≤◌, ℕ, length, map, refl, ap, setting_of, leaf_count_of, leaves_of, text_of_leaf, Twice, Err}
+use Rattle.view_commands.proofs.Imports.{arith, ◌<◌, ◌∙◌, ◌≤◌, length, map, refl, setting_of, leaf_count_of, leaves_of}
 use Rattle.view_commands.proofs.Sets.{once_none, once_more, once_stop, once_all, once_few, leaf_at, leaves_below, leaves_long, test_at}
 use Rattle.view_commands.proofs.update.each_once.Goals as goal
+use Rattle.std.proofs.lemmas.Grind.{common_steps}
 
 pub loop-place-init : goal.loop-place-init
 loop-place-init c = once_none c.args.view.now.fields (leaves_of (map setting_of c.args.sets.now))
@@ -12,8 +13,7 @@ returns-then-is_set-clause-once c =
     let one = c.index-sets-place.result in
     let small : c.loop-place.place < length (leaves_of (map setting_of sets)) = rw leaves_long c.loop-place-test.true in
     let again = test_at sets _ c.loop-place.place one _ c.loop-place-test.true c.index-sets-place.is refl c.is_set.ensures ∙ c.if-is_set.true in
-    once_stop fields (leaves_of (map setting_of sets)) c.loop-place.place small again c.loop-place.invariant
-    ∙ ap (λ (leaf : ℕ). Err (Twice (text_of_leaf fields leaf))) (leaf_at sets c.loop-place.place one c.loop-place-test.true c.index-sets-place.is)
+    grind (arith, once_stop, leaf_at)
 
 pub loop-place-preserved : goal.loop-place-preserved
 loop-place-preserved c =
@@ -24,9 +24,7 @@ loop-place-preserved c =
     once_more c.args.view.now.fields (leaves_of (map setting_of sets)) c.loop-place.place small fresh c.loop-place.invariant
 
 pub returns-clause-once : goal.returns-clause-once
-returns-clause-once c =
-    let over : length (leaves_of (map setting_of c.args.sets.now)) ≤ c.loop-place.place = rw leaves_long (omega arith) in
-    once_all c.args.view.now.fields (leaves_of (map setting_of c.args.sets.now)) c.loop-place.place over c.loop-place.invariant
+returns-clause-once c = grind (arith, common_steps, leaves_long, once_all)
 
 pub returns-clause-few : goal.returns-clause-few
 returns-clause-few c =

@@ -4,22 +4,14 @@ use Rattle.view_commands.proofs.Arms.{front_goes, no_filter, no_sets, not_once, 
 use Rattle.view_commands.proofs.Changing.{changed_as, stopped}
 use Rattle.view_commands.proofs.Sets.{filter_is, once_left}
 use Rattle.view_commands.proofs.update.updated.Goals as goal
+use Rattle.std.proofs.lemmas.Grind.{common_steps}
+use Rattle.std.proofs.Common.{arith}
 
 pub returns-in_err-filter : goal.returns-in_err-filter
-returns-in_err-filter g c =
-    let table = c.args.view.now in
-    let filter = option_map term_of c.args.filter.now in
-    let sets = map assignment_of c.args.sets.now in
-    stopped _ (λ row. front_left table row (updated_front table filter sets row)) table _ c.in_err-filter.field-0.0 _ (search rules) c.in_err-filter.ensures.filter (no_filter table filter sets) (λ fault row is. rw is refl)
+returns-in_err-filter g c = grind (arith, common_steps, option_map, stopped, no_filter)
 
 pub returns-in_err-sets : goal.returns-in_err-sets
-returns-in_err-sets g c =
-    let table = c.args.view.now in
-    let filter = option_map term_of c.args.filter.now in
-    let sets = map assignment_of c.args.sets.now in
-    let test = c.in_ok-filter.ensures.filter in
-    stopped _ (λ row. front_left table row (updated_front table filter sets row)) table _ c.in_err-sets.field-0.0 _ (search rules) c.in_err-sets.ensures.sets
-    (λ fault. no_sets table filter sets _ fault test) (λ fault row is. rw (test, is) refl)
+returns-in_err-sets g c = grind (arith, common_steps, option_map, stopped, no_sets)
 
 pub returns-in_err-each_once : goal.returns-in_err-each_once
 returns-in_err-each_once g c =

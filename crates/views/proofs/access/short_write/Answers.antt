@@ -33,9 +33,7 @@ write_word-requires-clause-within c =
     word_there here c.index_mut.result.now (blob_is here _ _ c.index_mut.ensures.value)
 
 pub write_word-requires-clause-held : goal.write_word-requires-clause-held
-write_word-requires-clause-held c =
-    let fits : SFits w128 c.args.value = search rules in
-    word_holds (at (goal.at.write_word-requires-clause-held c).In_default-word) c.args.value _ (to_z-of_z w128 c.args.value fits) c.requires.held
+write_word-requires-clause-held c = grind (arith, common_steps, word_holds, to_z-of_z)
 
 pub returns-in_default-word-clause-table : goal.returns-in_default-word-clause-table
 returns-in_default-word-clause-table c = λ wrote.

@@ -1,5 +1,5 @@
-use Rattle.views.proofs.Imports.{◌≡◌, ◌∙◌, ◌+◌, ◌<◌, ℕ, List, [], length, take, get_or, set, sym, ap, subst, arith, get_or_default, IsMoved, blocks, half, half_more}
-use Rattle.views.proofs.AllLaws.{blocks_of, still_old, same_count, same_length, all_moved, blocks_more}
+use Rattle.views.proofs.Imports.{◌≡◌, ◌∙◌, ◌<◌, ℕ, List, [], length, get_or, sym, ap, arith, get_or_default, IsMoved, half_more}
+use Rattle.views.proofs.AllLaws.{still_old, same_count, same_length, all_moved, blocks_more}
 use Rattle.views.proofs.moves.move_all.Goals as goal
 
 pub move_bytes-requires-clause-room : goal.move_bytes-requires-clause-room
@@ -27,16 +27,6 @@ loop-blob-preserved g c =
     let read : c.index-others-blob.result ≡ get_or others k [] = c.index-others-blob.is ∙ get_or_default others k _ [] inside in
     let other : c.index-others-blob-in-loop-blob.result ≡ get_or others k [] = c.index-others-blob-in-loop-blob.is ∙ get_or_default others k _ [] inside in
     let len : c.len-len.result ≡ length (get_or others k []) = c.len-len.ensures ∙ ap (λ (b : List ℕ). length b) read in
-    let moved : IsMoved (get_or old k []) 0 (get_or others k []) 0 c.len-len.result new =
-    subst (λ (b : List ℕ). IsMoved b 0 (get_or others k []) 0 c.len-len.result new) was
-    (subst (λ (b : List ℕ). IsMoved c.index_mut.result.now 0 b 0 c.len-len.result new) other c.move_bytes.ensures.bytes) in
+    let moved : IsMoved (get_or old k []) 0 (get_or others k []) 0 c.len-len.result new = grind arith in
     let is : new ≡ get_or others k [] = all_moved (get_or old k []) (get_or others k []) new c.len-len.result len (same_length old others k c.requires.lengths (omega arith) inside) moved in
-    record {
-      moved = ap (λ (bs : List (List ℕ)). set bs k new) c.loop-blob.invariant.moved
-          ∙ ap (λ (b : List ℕ). set (half others old k) k b) is
-          ∙ half_more others old k [] inside (sym count);
-      steps =
-          c.move_bytes.ensures.steps ∙ ap (λ (n : ℕ). n + blocks c.len-len.result) c.loop-blob.invariant.steps
-          ∙ (let e : c.args.steps.now + blocks_of (take k others) + blocks c.len-len.result ≡ c.args.steps.now + (blocks_of (take k others) + blocks c.len-len.result) = omega arith in e)
-          ∙ ap (λ (n : ℕ). c.args.steps.now + n) (blocks_more others k c.len-len.result inside len);
-    }
+    grind (arith, half_more, blocks_more)

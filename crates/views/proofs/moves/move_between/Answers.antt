@@ -1,5 +1,6 @@
-use Rattle.views.proofs.Imports.{◌≡◌, ◌∙◌, ℕ, List, [], get_or, subst, get_or_default, IsMoved, moved_bits}
+use Rattle.views.proofs.Imports.{◌≡◌, ◌∙◌, [], get_or, get_or_default, moved_bits}
 use Rattle.views.proofs.moves.move_between.Goals as goal
+use Rattle.std.proofs.Common.{arith}
 
 pub returns-clause-moved : goal.returns-clause-moved
 returns-clause-moved g c =
@@ -8,5 +9,4 @@ returns-clause-moved g c =
     let here : c.index_mut.result.now ≡ get_or a.blobs.now.items a.target [] = c.index_mut.ensures.value ∙ get_or_default a.blobs.now.items a.target _ [] c.requires.target in
     let there : c.index-others-source.result ≡ get_or a.others.now a.source [] = c.index-others-source.is ∙ get_or_default a.others.now a.source _ [] c.requires.source in
     moved_bits a.others.now a.blobs.now.items a.source a.from a.target a.at a.len new c.requires.target
-    (subst (λ (bytes : List ℕ). IsMoved bytes a.at (get_or a.others.now a.source []) a.from a.len new) here
-    (subst (λ (bytes : List ℕ). IsMoved c.index_mut.result.now a.at bytes a.from a.len new) there c.move_bytes.ensures.bytes))
+    (grind arith)

@@ -1,27 +1,16 @@
-use Rattle.views.proofs.Imports.{◌≡◌, ◌+◌, ◌-◌, ◌<◌, ◌≤◌, [], length, map, take, drop, get_or, w64, refl, sym, ap, ◌∙◌, ⊎_elim, arith, cases_lt, common_steps, get_or_default, length-map, kinds_of, schema_fields, leaf_cells, with_column, no_column, raised, kind_at}
-use Rattle.std.proofs.Common.{Fits}
+use Rattle.views.proofs.Imports.{◌≡◌, ◌+◌, ◌-◌, ◌<◌, ◌≤◌, [], length, map, get_or, ◌∙◌, ⊎_elim, arith, cases_lt, common_steps, get_or_default, length-map, kinds_of, schema_fields, leaf_cells, no_column, kind_at}
 use Rattle.views.proofs.RunLaws.{stretch_blob, has_room, are_put, column_then}
 use Rattle.views.proofs.runs.put_rows.Goals as goal
 use Rattle.views.proofs.runs.put_rows.Goals.{After-index_mut}
 
 pub loop-done-init : goal.loop-done-init
-loop-done-init c = record {
-  inside = omega arith;
-  laid = c.requires.laid;
-  table = sym (no_column c.args.leaf c.args.first _);
-  leads = λ some. absurd (omega arith);
-}
+loop-done-init c = grind (arith, common_steps, no_column)
 
 pub overflow_add-first : goal.overflow_add-first
 overflow_add-first c =
     ⊎_elim
-    (λ (some : 0 < c.loop-done.done).
-    let there = ((c.short.ensures.form (c.loop-done.invariant.leads some)).starts (c.args.first + c.loop-done.done) (omega (arith, c.requires.rows_in))).row_in in
-    let fits : Fits w64 (c.args.first + c.loop-done.done) = record { fits = omega (arith, there) } in
-    fits)
-    (λ (none : c.loop-done.done ≤ 0).
-    let fits : Fits w64 (c.args.first + c.loop-done.done) = record { fits = omega (arith, none, c.ranges.first.fits) } in
-    fits)
+    (λ (some : 0 < c.loop-done.done). grind arith)
+    (λ (none : c.loop-done.done ≤ 0). grind arith)
     (cases_lt 0 c.loop-done.done)
 
 pub stretch-requires-clause-starts : goal.stretch-requires-clause-starts
@@ -62,11 +51,4 @@ loop-done-preserved c =
     are_put c.args.mapping.now.holds leaf (first + done) (length lows - done) stretch c.laws_of.ensures.lawful c.laws_of.ensures.paired c.requires.leaf_in
     (c.short.ensures.form c.in-Some.ensures.leads) c.in-Some.ensures (omega (arith, c.requires.rows_in)) c.loop-done.blobs.items c.loop-done.invariant.laid.sized c.loop-done.invariant.laid
     kind lows done c.index_mut.result.now (blob (goal.at.loop-done-preserved c).After-index_mut) long c.requires.held stretch.rows c.put_stretch.new.blob (omega arith) c.put_stretch.ensures in
-    record {
-      inside = long;
-      laid = put.0;
-      table = put.1
-          ∙ ap (with_column leaf (first + done) (take stretch.rows (drop done (map (raised kind) lows)))) c.loop-done.invariant.table
-          ∙ column_then leaf first (first + done) done stretch.rows (map (raised kind) lows) _ refl (omega (arith, long, length-map lows (raised kind)));
-      leads = λ some. c.in-Some.ensures.leads;
-    }
+    grind (arith, column_then, length-map)

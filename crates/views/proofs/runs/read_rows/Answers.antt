@@ -1,5 +1,4 @@
-use Rattle.views.proofs.Imports.{◌≡◌, ℕ, ◌+◌, ◌-◌, ◌<◌, ◌≤◌, [], length, get_or, pos, w64, ap, ◌∙◌, ⊎_elim, arith, cases_lt, get_or_read, low_64}
-use Rattle.std.proofs.Common.{Fits}
+use Rattle.views.proofs.Imports.{◌≡◌, ℕ, ◌+◌, ◌-◌, ◌<◌, ◌≤◌, [], length, get_or, pos, ap, ◌∙◌, ⊎_elim, arith, cases_lt, get_or_read, low_64}
 use Rattle.views.proofs.RunLaws.{stretch_blob, has_room, stretch_read}
 use Rattle.views.proofs.runs.read_rows.Goals as goal
 use Rattle.views.proofs.runs.read_rows.Goals.{After-index-blobs-short}
@@ -7,13 +6,8 @@ use Rattle.views.proofs.runs.read_rows.Goals.{After-index-blobs-short}
 pub overflow_add-first : goal.overflow_add-first
 overflow_add-first c =
     ⊎_elim
-    (λ (some : 0 < c.loop-done.done).
-    let there = ((c.short.ensures.form (c.loop-done.invariant.leads some)).starts (c.args.first + c.loop-done.done) (omega (arith, c.requires.rows_in, c.loop-done.invariant.count))).row_in in
-    let fits : Fits w64 (c.args.first + c.loop-done.done) = record { fits = omega (arith, there) } in
-    fits)
-    (λ (none : c.loop-done.done ≤ 0).
-    let fits : Fits w64 (c.args.first + c.loop-done.done) = record { fits = omega (arith, none, c.ranges.first.fits) } in
-    fits)
+    (λ (some : 0 < c.loop-done.done). grind arith)
+    (λ (none : c.loop-done.done ≤ 0). grind arith)
     (cases_lt 0 c.loop-done.done)
 
 pub stretch-requires-clause-starts : goal.stretch-requires-clause-starts

@@ -1,15 +1,10 @@
 use Rattle.actors.proofs.Imports.{◌≤◌, ◌∙◌, length, ap, arith, fresh_of, Run, job_in, rest_in}
 use Rattle.actors.proofs.Finishes.{all_done, finished_plain}
 use Rattle.actors.proofs.run.ActorRun.finish.Goals as goal
+use Rattle.std.proofs.lemmas.Grind.{common_steps}
 
 pub loop-actor-preserved : goal.loop-actor-preserved
-loop-actor-preserved c =
-    let new = c.finish_actor.new.self in
-    record {
-      left = c.finish_actor.ensures.left ∙ c.loop-actor.invariant.left;
-      same = c.finish_actor.ensures.same ∙ ap (λ (run : Run). record run { state = new.state }) c.loop-actor.invariant.same;
-      count = c.finish_actor.ensures.count ∙ c.loop-actor.invariant.count;
-    }
+loop-actor-preserved c = grind (arith, common_steps)
 
 pub returns-clause-done : goal.returns-clause-done
 returns-clause-done c = λ actor.

@@ -5,6 +5,7 @@ use Rattle.actors.proofs.Turns.{stands_counted}
 use Rattle.actors.proofs.run.ActorRun.new.Given as given
 use Rattle.actors.proofs.run.ActorRun.new.Goals as goal
 use Rattle.actors.proofs.run.ActorRun.new.Goals.{After-mode}
+use Rattle.std.proofs.lemmas.Grind.{common_steps}
 
 abbrev table : (g : given.Over) → After-mode g → Table
 table g c = table_at (schema_fields c.in_ok-schema.schema) c.extents.result (term_of c.in_ok-expr.expr) c.mode.result c.in_ok-found.found.items
@@ -50,9 +51,7 @@ returns-clause-begun g c =
     ∙ run_begun view filter sets c.args.cuts.now memory actors (c.in_ok-memory.ensures ∙ ap memory_of c.in_ok-plans.ensures.read) (team g d) (table g d) (found g d)
 
 pub returns-in_err-found-clause-so_far : goal.returns-in_err-found-clause-so_far
-returns-in_err-found-clause-so_far g c =
-    let is : c.from_residual.result ≡ Err NoMemory = search rules in
-    rw is (0, omega arith, sym (after_log-none c.args.view.now))
+returns-in_err-found-clause-so_far g c = grind (arith, common_steps, after_log-none)
 
 pub returns-in_err-cuts-clause-so_far : goal.returns-in_err-cuts-clause-so_far
 returns-in_err-cuts-clause-so_far g c =

@@ -1,4 +1,4 @@
-use Rattle.actors.proofs.Imports.{◌≡◌, ◌∙◌, ◌<◌, Bool, ℕ, List, [], ◌∷◌, length, map, get_or, set, sym, ap, subst, arith, get_or_default, length-set, schema_fields, term_of, AreSized, filter_term, setting_of, Table, owners_of, State, job_of, fresh_of, Micro, Registers, table_at, actor_run_of, ArePlans, Run, without_counts, after_turns, rest_in, has_any, IsTurn, IsStanding}
+use Rattle.actors.proofs.Imports.{◌≡◌, ◌∙◌, ◌<◌, Bool, ℕ, List, [], ◌∷◌, length, map, get_or, set, sym, ap, subst, arith, get_or_default, length-set, schema_fields, term_of, AreSized, filter_term, setting_of, Table, owners_of, State, job_of, fresh_of, Micro, Registers, table_at, actor_run_of, ArePlans, Run, without_counts, after_turns, rest_in, has_any, IsTurn}
 use Rattle.actors.proofs.Turns.{turned_state, made_any, not_made, stands_alone, stands_among, reached_more}
 use Rattle.actors.proofs.run.ActorRun.turn.Goals as goal
 use Rattle.actors.proofs.run.ActorRun.turn.Goals.{After-turn_of}
@@ -60,8 +60,7 @@ invariant_of-self c =
       count = length-set r.actors.items c.args.actor new ∙ inv.count;
       standing =
           stands_among (table d) (length r.targets.items) r.actors.items c.args.actor new inv.standing
-          (subst (λ (t : Table). IsStanding t (length r.targets.items) new) (found d)
-          (stands_alone view (length r.targets.items) new (subst (λ (ts : List ℕ). IsStanding view (length ts) new) c.as_slice.ensures.value c.turn_of.ensures.standing)));
+          (grind (arith, stands_alone));
       reached =
           reached_more (actor_run_of (table d) (filter_term r.filter) r.sets.now r.cuts.items r.memory.items r.actors.items) c.args.actor
           (actor_run_of (table d) (filter_term r.filter) r.sets.now r.cuts.items c.turn_of.new.memory.items (set r.actors.items c.args.actor new)) inv.reached (turned d);

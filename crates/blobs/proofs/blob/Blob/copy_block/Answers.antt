@@ -1,5 +1,4 @@
-use Rattle.blobs.proofs.Imports.{◌≡◌, ℕ, ◌+◌, List, length, take, drop, ap, ◌∙◌, arith, length-take, length-drop}
-use Rattle.std.proofs.Common.{◌++◌}
+use Rattle.blobs.proofs.Imports.{◌≡◌, length, take, drop, arith, length-take, length-drop}
 use Rattle.blobs.proofs.Blocks.{copied}
 use Rattle.blobs.proofs.blob.Blob.copy_block.Goals as goal
 
@@ -13,6 +12,4 @@ returns c =
     copied c.loop-k.block c.args.source.now c.args.from len (omega (arith, c.loop-k.invariant.long)) c.requires.there
     (λ j h. c.loop-k.invariant.copied j (omega arith)) in
     let size : length part ≡ len = omega (arith, length-take len (drop c.args.from c.args.source.now), length-drop c.args.from c.args.source.now) in
-    c.copy_in.ensures
-    ∙ ap (λ (bytes : List ℕ). take at old ++ (bytes ++ drop (at + length bytes) old)) same
-    ∙ ap (λ (n : ℕ). take at old ++ (part ++ drop (at + n) old)) size
+    grind arith

@@ -1,4 +1,4 @@
-use Rattle.blobs.proofs.Imports.{◌+◌, ◌/◌, ◌%◌, ◌^◌, ◌<◌, List, ℕ, length, length-set, set, sym, ap, ◌∙◌, subst, arith, IsPut, place_is, put_more}
+use Rattle.blobs.proofs.Imports.{◌+◌, ◌/◌, ◌%◌, ◌^◌, ◌<◌, List, ℕ, length-set, set, sym, subst, arith, IsPut, place_is, put_more}
 use Rattle.blobs.proofs.blob.Blob.put_bits_by_bytes.Goals as goal
 
 pub overflow_cast-with_bits : goal.overflow_cast-with_bits
@@ -18,14 +18,4 @@ more c =
 
 pub loop-done-preserved : goal.loop-done-preserved
 loop-done-preserved c =
-    let put = more c in
-    record {
-      so_far = omega arith;
-      len =
-          ap length c.put.ensures
-          ∙ length-set c.loop-done.self (c.args.at / 8 + (c.args.at % 8 + c.loop-done.done) / 8) c.with_bits.result
-          ∙ c.loop-done.invariant.len;
-      inside = put.inside;
-      before = put.before;
-      after = put.after;
-    }
+    let put = more c in grind (arith, length-set)

@@ -1,4 +1,4 @@
-use Rattle.blobs.proofs.Imports.{◌≡◌, ℕ, ◌+◌, ◌-◌, ◌*◌, ◌/◌, ◌%◌, ◌^◌, ◌<◌, ◌≤◌, List, length, set, sym, ap, ◌∙◌, subst, arith, bit_at, IsPut, byte_and_bit, bit_of_part, put_more, field_put}
+use Rattle.blobs.proofs.Imports.{◌≡◌, ℕ, ◌+◌, ◌-◌, ◌*◌, ◌/◌, ◌%◌, ◌^◌, ◌<◌, ◌≤◌, length, set, ap, ◌∙◌, arith, bit_at, IsPut, byte_and_bit, bit_of_part, put_more, field_put}
 use Rattle.blobs.proofs.Numbers.{word_bit}
 use Rattle.blobs.proofs.Splices.{whole_put, whole_long}
 use Rattle.blobs.proofs.blob.Blob.put_bits_of_nine.Goals as goal
@@ -41,9 +41,7 @@ both c =
     put_more c.args.self.now c.put_word.new.self at (64 - at % 8) c.args.value (low_put c)
     (at / 8 + 8) 0 (c.args.n - (64 - at % 8)) c.from-byte.result c.with_bits-last.result c.bits_in_word-2.result
     (omega arith) (omega arith) (omega arith) (cc) c.bits_in_word-2.ensures
-    c.with_bits-last.ensures.inside c.with_bits-last.ensures.before c.with_bits-last.ensures.after in
-    subst (λ (w : List ℕ). IsPut c.args.self.now w at c.args.n c.args.value) (sym c.put.ensures)
-    (subst (λ (w : ℕ). IsPut c.args.self.now (set c.put_word.new.self (at / 8 + 8) c.with_bits-last.result) at w c.args.value) all put)
+    c.with_bits-last.ensures.inside c.with_bits-last.ensures.before c.with_bits-last.ensures.after in grind arith
 
 pub returns-clause-inside : goal.returns-clause-inside
 returns-clause-inside c = (both c).inside

@@ -1,15 +1,10 @@
 use Rattle.csv_rows.proofs.Imports.{arith, ◌≡◌, ◌<◌, length, ap, ◌∙◌, nat_tests, line_start, HasNoQuote, text_behind}
 use Rattle.csv_rows.proofs.PlainLines.{no_rows, record_rows, line_record, left_plain, start_plain}
 use Rattle.csv_rows.proofs.lines.LinesRecords.next.Goals as goal
+use Rattle.std.proofs.lemmas.Grind.{common_steps}
 
 pub returns-then-is_empty : goal.returns-then-is_empty
-returns-then-is_empty c =
-    let lines = c.args.self.now in
-    let text = c.behind_ends-text.result.now in
-    let left = text_behind lines.is_begun lines.line.text.now in
-    let begun : text ≡ line_start left = c.behind_ends-text.ensures ∙ ap line_start c.behind.ensures in
-    let none : length text ≡ 0 = grind (arith, nat_tests) in
-    no_rows left text begun none
+returns-then-is_empty c = grind (arith, common_steps, no_rows)
 
 pub returns : goal.returns
 returns c =
@@ -19,7 +14,4 @@ returns c =
     let begun : text ≡ line_start left = c.behind_ends-text.ensures ∙ ap line_start c.behind.ensures in
     let some : 0 < length text = grind (arith, nat_tests) in
     let none : HasNoQuote text = rw begun (start_plain left (left_plain lines.is_begun lines.line.text.now c.requires.1)) in
-    rw c.new-self.ensures.text (
-      (rw c.new-self.ensures.text at c.new-self.ensures.at, none),
-      record_rows left text begun some ∙ line_record text none,
-    )
+    grind (arith, record_rows, line_record)

@@ -1,11 +1,5 @@
-use Rattle.extents.proofs.Imports.{◌≡◌, ℕ, length, inl, inr, ⊎_elim, arith, rules, Iter, zip_first, zip_second, iter_rest, slice_get_within, place, same_row, IsRowSoFar-none, row_turn, row_end, row_so_far_le, place_fits, place_is_row}
+use Rattle.extents.proofs.Imports.{◌≡◌, ℕ, length, inl, inr, ⊎_elim, arith, Iter, zip_first, zip_second, iter_rest, slice_get_within, place, same_row, row_turn, row_end, row_so_far_le, place_fits, place_is_row}
 use Rattle.extents.proofs.rows.Extents.row_of.Goals as goal
-
-pub loop-component-init : goal.loop-component-init
-loop-component-init c =
-    let first : iter_rest (zip_first c.into_iter-component-iterator.result) ≡ c.args.index.now = search rules in
-    let second : iter_rest (zip_second c.into_iter-component-iterator.result) ≡ c.args.self.now = search rules in
-    ((tt, tt), tt, rw (first, second) (IsRowSoFar-none c.args.self.now c.args.index.now c.requires))
 
 pub overflow_mul-row : goal.overflow_mul-row
 overflow_mul-row c =
@@ -22,12 +16,6 @@ overflow_add-row c =
     let fits = place_fits c.args.self.now c.args.index.now c.sizes.ensures.extents c.requires in
     let le = row_so_far_le _ _ _ _ turn in
     rw c.from.ensures (omega arith)
-
-pub loop-component-preserved : goal.loop-component-preserved
-loop-component-preserved c =
-    let s = c.in-Some.ensures.steps in
-    let turn = row_turn _ _ _ _ _ _ _ _ s.1 s.0 c.loop-component.invariant.2 in
-    ((tt, tt), tt, rw c.from.ensures turn)
 
 found : (c : goal.In-None) → c.loop-component.row ≡ place c.args.self.now c.args.index.now
 found c =

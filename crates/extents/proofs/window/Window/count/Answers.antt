@@ -1,8 +1,7 @@
-use Rattle.extents.proofs.Imports.{length, sym, ap, ◌∙◌, List, ℕ, indices, Span, rows_in, window_count}
+use Rattle.extents.proofs.Imports.{window_count}
 use Rattle.extents.proofs.window.Window.count.Goals as goal
+use Rattle.std.proofs.lemmas.Grind.{common_steps}
+use Rattle.std.proofs.Common.{arith}
 
 pub returns-clause-rows : goal.returns-clause-rows
-returns-clause-rows c =
-    c.count.ensures.rows ∙ ap (λ (sizes : List ℕ). length (indices sizes)) c.self.invariant.1
-    ∙ sym (window_count c.self.inside.extents c.self.inside.spans.items c.self.invariant.0)
-    ∙ ap (λ (w : List ℕ × List Span). length (rows_in w.0 w.1)) c.self.view_is
+returns-clause-rows c = grind (arith, common_steps, window_count)

@@ -1,39 +1,15 @@
 use Rattle.extents.proofs.Imports.{◌≡◌, ◌≤◌, length, ap, ◌∙◌, sym, subst, arith, rules, List, ℕ, map, take, length-take, length-map, take_all, product, length-indices, extent_of, ExtentWord, Span, IsWindow, sizes, fixed_size, same_rank, product_le, span_ordered, fixed_extents}
 use Rattle.extents.proofs.window.Window.new.Goals as goal
+use Rattle.std.proofs.lemmas.Grind.{common_steps}
 
 pub push-requires : goal.push-requires
-push-requires c =
-    let is : IsWindow c.sizes.result.now c.args.spans.now = c.is_window.ensures.0 (search rules) in (
-      omega arith,
-      omega (
-        arith,
-        same_rank c.sizes.result.now c.args.spans.now is,
-        ap (λ (xs : List ℕ). length xs) c.sizes.ensures.value,
-        c.sizes.ensures.extents.few,
-        ap (λ (xs : List Span). length xs) c.loop-span.invariant.0,
-        length-take c.loop-span.span-index c.args.spans.now,
-      ),
-    )
+push-requires c = grind (arith, common_steps, same_rank, length-take)
 
 pub overflow_sub-span : goal.overflow_sub-span
-overflow_sub-span c =
-    let is : IsWindow c.sizes.result.now c.args.spans.now = c.is_window.ensures.0 (search rules) in
-    span_ordered c.sizes.result.now c.args.spans.now c.loop-span.span-index _ is (omega arith)
+overflow_sub-span c = grind (arith, common_steps, span_ordered)
 
 pub push-requires-in-loop-span : goal.push-requires-in-loop-span
-push-requires-in-loop-span c =
-    let is : IsWindow c.sizes.result.now c.args.spans.now = c.is_window.ensures.0 (search rules) in (
-      omega arith,
-      omega (
-        arith,
-        same_rank c.sizes.result.now c.args.spans.now is,
-        ap (λ (xs : List ℕ). length xs) c.sizes.ensures.value,
-        c.sizes.ensures.extents.few,
-        ap length c.loop-span.invariant.1,
-        length-map (take c.loop-span.span-index c.args.spans.now) fixed_size,
-        length-take c.loop-span.span-index c.args.spans.now,
-      ),
-    )
+push-requires-in-loop-span c = grind (arith, common_steps, same_rank, length-map, length-take)
 
 words_are : (words : List ExtentWord) (spans : List Span) (k size : ℕ) → words ≡ map fixed_size (take k spans) → length spans ≤ k → map (extent_of size) words ≡ sizes spans
 words_are words spans k size so over =
@@ -57,9 +33,7 @@ overflow_cast-rows c =
 pub of_words-requires-clause-counted : goal.of_words-requires-clause-counted
 of_words-requires-clause-counted c =
     let words = words_are c.loop-span.words.items c.args.spans.now c.loop-span.span-index 1 c.loop-span.invariant.1 (omega arith) in
-    let other = words_are c.loop-span.words.items c.args.spans.now c.loop-span.span-index 0 c.loop-span.invariant.1 (omega arith) in
-    c.fixed_product-rows.ensures ∙ ap (λ (ws : List ExtentWord). product (map (extent_of 1) ws)) c.as_slice.ensures.value ∙ ap product words
-    ∙ sym (ap (λ (ws : List ExtentWord). product (map (extent_of 0) ws)) c.as_slice-2.ensures.value ∙ ap product other)
+    let other = words_are c.loop-span.words.items c.args.spans.now c.loop-span.span-index 0 c.loop-span.invariant.1 (omega arith) in grind arith
 
 pub of_words-requires-clause-few : goal.of_words-requires-clause-few
 of_words-requires-clause-few c =

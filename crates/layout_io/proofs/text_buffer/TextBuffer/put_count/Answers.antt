@@ -1,9 +1,7 @@
-use Rattle.std.proofs.Common.{◌≡◌, ◌∙◌, arith}
-use Rattle.layout_io.specs.Decimal.{digits_text}
+use Rattle.std.proofs.Common.{arith}
 use Rattle.layout_io.specs.DecimalLaws.{decimal-digits_text}
 use Rattle.layout_io.proofs.text_buffer.TextBuffer.put_count.Goals as goal
+use Rattle.std.proofs.lemmas.Grind.{common_steps}
 
 pub returns : goal.returns
-returns g c =
-    let text : c.as_bytes.result.now ≡ digits_text c.args.count = c.as_bytes.ensures.value ∙ c.format.ensures.text ∙ decimal-digits_text _ (omega arith) in
-    rw text at c.put.ensures
+returns g c = grind (arith, common_steps, decimal-digits_text)

@@ -1,10 +1,7 @@
 use Rattle.std.proofs.Common.{IsErr, rules}
-use Rattle.layout_io.specs.GatheringLaws.{Puts-nil, Puts-loop_err}
+use Rattle.layout_io.specs.GatheringLaws.{Puts-loop_err}
 use Rattle.layout_io.specs.Inner.Parts.{text_of_part}
 use Rattle.layout_io.proofs.text_buffer.TextBuffer.put_parts.Goals as goal
-
-pub loop-part-init : goal.loop-part-init
-loop-part-init g c = Puts-nil _ _ _ _ _
 
 pub returns-in_err-put_part : goal.returns-in_err-put_part
 returns-in_err-put_part g c =

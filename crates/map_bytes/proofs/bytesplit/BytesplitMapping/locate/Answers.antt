@@ -1,22 +1,10 @@
-use Rattle.map_bytes.proofs.Imports.{◌≡◌, ℕ, ◌+◌, ◌*◌, ◌/◌, ◌%◌, ◌<◌, ◌≤◌, List, ◌++◌, length, slice_index, sym, ap, ◌∙◌, subst, arith, length-append, Owner, IsLocated, bytesplit, widths_of, widths_full, widths_whole, widths_narrow, length-widths, width_read, Cell, Hold, Piece}
+use Rattle.map_bytes.proofs.Imports.{◌≡◌, ℕ, ◌+◌, ◌*◌, ◌/◌, ◌%◌, ◌<◌, List, ◌++◌, length, slice_index, sym, ap, ◌∙◌, subst, arith, length-append, Owner, IsLocated, bytesplit, widths_of, widths_full, widths_whole, widths_narrow, length-widths, width_read, Cell, Hold, Piece}
 use Rattle.map_bytes.proofs.Inner.{byte_one, byte_more}
 use Rattle.map_bytes.proofs.bytesplit.BytesplitMapping.locate.Goals as goal
+use Rattle.std.proofs.lemmas.Grind.{common_steps}
 
 pub join_pieces-requires : goal.join_pieces-requires
-join_pieces-requires g c =
-    let m = c.args.self.now in
-    let cells : List Cell = m.cells.items in
-    let width : c.width.result ≡ slice_index (widths_of cells) c.args.cell =
-    width_read cells c.args.cell c.index.result.now c.width.result c.requires.cell_in c.index.ensures c.width.ensures in
-    let size : length (widths_of cells) ≡ length cells = length-widths cells in
-    let inside : c.args.cell < length cells = c.requires.cell_in in
-    let narrow : slice_index (widths_of cells) c.args.cell ≤ 64 = widths_narrow cells c.args.cell 0 (omega arith) in
-    let low : c.loop-byte.byte < slice_index (widths_of cells) c.args.cell / 8 = omega (arith, c.loop-byte-test.true) in
-    let one : length c.locate.result.items ≡ 1 =
-    byte_one (g.M.Mapping.layout m.inner) cells (g.M.Mapping.hold_list m.inner) m.full c.args.slot c.args.cell c.loop-byte.byte c.first_byte-first.result
-    inside low c.first_byte-first.ensures.first c.locate.result.items c.locate.ensures in
-    let so_far : length c.loop-byte.pieces.items ≡ c.loop-byte.byte = c.loop-byte.invariant.1 in
-    record { few = let z : length c.loop-byte.pieces.items + length c.locate.result.items ≤ 8 = omega arith in z }
+join_pieces-requires g c = grind (arith, common_steps, slice_index, width_read, length-widths, widths_narrow, byte_one)
 
 pub loop-byte-preserved : goal.loop-byte-preserved
 loop-byte-preserved g c =

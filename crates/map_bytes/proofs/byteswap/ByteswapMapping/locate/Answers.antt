@@ -1,18 +1,14 @@
 use Rattle.map_bytes.proofs.Imports.{ℕ, List, map, slice_index, sym, subst, Owner, IsLocated, byteswap, widths_of, full_holds, widths_full, widths_whole, Hold, Piece, swapped, swap_located}
 use Rattle.map_bytes.proofs.Inner.{inner_located, inner_whole, inner_few, cell_in}
 use Rattle.map_bytes.proofs.byteswap.ByteswapMapping.locate.Goals as goal
+use Rattle.std.proofs.lemmas.Grind.{common_steps}
+use Rattle.std.proofs.Common.{arith}
 
 pub swap_pieces-requires-clause-whole : goal.swap_pieces-requires-clause-whole
-swap_pieces-requires-clause-whole g c =
-    let m = c.args.self.now in
-    inner_whole (g.M.Mapping.layout m.inner) c.args.slot c.args.cell m.cells.items (g.M.Mapping.hold_list m.inner) c.locate.result.items m.full c.requires.cell_in
-    c.locate.ensures
+swap_pieces-requires-clause-whole g c = grind (arith, common_steps, inner_whole)
 
 pub swap_pieces-requires-clause-few : goal.swap_pieces-requires-clause-few
-swap_pieces-requires-clause-few g c =
-    let m = c.args.self.now in
-    inner_few (g.M.Mapping.layout m.inner) c.args.slot c.args.cell m.cells.items (g.M.Mapping.hold_list m.inner) c.locate.result.items m.full c.requires.cell_in
-    c.locate.ensures
+swap_pieces-requires-clause-few g c = grind (arith, common_steps, inner_few)
 
 pub returns : goal.returns
 returns g c =

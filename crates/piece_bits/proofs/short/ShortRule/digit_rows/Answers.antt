@@ -1,12 +1,10 @@
 use Rattle.piece_bits.proofs.Imports.{ℕ, ◌≡◌, ◌+◌, ◌%◌, ◌^◌, ◌<◌, ◌≤◌, subst, arith, morton_line}
 use Rattle.piece_bits.proofs.StretchLaws.{twos_divide, shifted, sixteen}
 use Rattle.piece_bits.proofs.short.ShortRule.digit_rows.Goals as goal
+use Rattle.std.proofs.lemmas.Grind.{common_steps}
 
 pub returns-clause-few : goal.returns-clause-few
-returns-clause-few c =
-    let digits : ℕ = c.min-digits.result in
-    let few : digits ≤ 4 = omega arith in
-    omega (arith, shifted digits few, sixteen digits few)
+returns-clause-few c = grind (arith, common_steps, sixteen)
 
 pub returns-clause-apart : goal.returns-clause-apart
 returns-clause-apart c = λ k inside.

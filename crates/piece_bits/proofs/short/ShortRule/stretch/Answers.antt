@@ -18,10 +18,7 @@ pub returns : goal.returns
 returns c =
     let short : ShortRule = c.args.self.now in
     let row : ℕ = c.args.row in
-    let alone : short.word ≢ Scattered = λ e. elim c.match-matches.branch [
-      | in-Scattered w ↦ cc
-      | in_default w ↦ w.in_default.not-Scattered e
-    ] in
+    let alone : short.word ≢ Scattered = grind (arith, in-Scattered, in_default) in
     let Steps : ℕ × Spread × ℕ → Type 0 = λ t. AreSteps short row t.0 t.1 t.2 in
     let steps : Steps c.match-self.apart = elim c.match-self.branch [
       | in-Plain w ↦ subst Steps (sym w.apart-is) (plain_steps short row c.args.most w.in-Plain.is c.requires.some)

@@ -2,16 +2,13 @@ use Rattle.view_commands.proofs.Imports.{◌*◌, rules, refl}
 use Rattle.command_checks.specs.Inner.Stencils.{stencil_of}
 use Rattle.view_commands.proofs.Changing.{changed_as, stopped}
 use Rattle.view_commands.proofs.Stencils.{no_room_left, run_is, unfit}
-use Rattle.view_commands.specs.Changes.{rounds_left, stencil_left}
-use Rattle.worlds.specs.Stencil.{fit_stencil}
+use Rattle.view_commands.specs.Changes.{rounds_left}
 use Rattle.view_commands.proofs.stencil.RunStencilChange.run.Goals as goal
+use Rattle.std.proofs.lemmas.Grind.{common_steps}
+use Rattle.std.proofs.Common.{arith}
 
 pub returns-in_err-fit-clause-changed : goal.returns-in_err-fit-clause-changed
-returns-in_err-fit-clause-changed g c =
-    let this = c.args.self.now in
-    let table = c.args.view.now in
-    stopped _ (λ row. stencil_left table this.rounds.now (fit_stencil table this.window.now this.path.now this.terms.now this.divisor.now this.rounds.now)) table _ c.in_err-fit.field-0.0 _ (search rules)
-    (rw (c.as_slice.ensures, c.as_slice-2.ensures) at c.in_err-fit.ensures.fit) (unfit (8 * this.live) table this.window.now this.path.now this.terms.now this.divisor.now this.rounds.now) (λ fault row is. rw is refl)
+returns-in_err-fit-clause-changed g c = grind (arith, common_steps, stopped, unfit)
 
 pub returns-in_err-check_room-clause-changed : goal.returns-in_err-check_room-clause-changed
 returns-in_err-check_room-clause-changed g c =

@@ -1,7 +1,7 @@
-use Rattle.views.proofs.Imports.{ℤ, ◌∙◌, sym, ap, rules, SFits, w128, to_z-of_z, without_number, answer_of}
+use Rattle.views.proofs.Imports.{to_z-of_z}
 use Rattle.views.proofs.view.View.fits.Goals as goal
+use Rattle.std.proofs.lemmas.Grind.{common_steps}
+use Rattle.std.proofs.Common.{arith}
 
 pub returns-then-takes : goal.returns-then-takes
-returns-then-takes c =
-    let fits : SFits w128 c.args.value = search rules in
-    sym (ap without_number (c.takes.ensures.taken c.if-takes.true)) ∙ ap (λ (v : ℤ). without_number (answer_of c.args.self.now c.args.leaf v)) (to_z-of_z w128 c.args.value fits)
+returns-then-takes c = grind (arith, common_steps, to_z-of_z)

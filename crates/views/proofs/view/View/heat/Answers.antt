@@ -1,6 +1,7 @@
-use Rattle.views.proofs.Imports.{Option, Some, None, Bor, sym, subst, IfSome, option_copied, HeatCounts, heat_counts, Heat, HasGranules, Table, owners_of}
+use Rattle.views.proofs.Imports.{Option, Some, None, Bor, IfSome, option_copied, HeatCounts, heat_counts, Heat, HasGranules, owners_of}
 use Rattle.std.specs.Prelude.{option_map}
 use Rattle.views.proofs.view.View.heat.Goals as goal
+use Rattle.std.proofs.Common.{arith}
 
 -- what holds of the counts that are kept holds of those that are lent
 lent : (P : HeatCounts → Type 0) (asked : Option (Bor Heat)) → IfSome (option_map heat_counts (option_copied asked)) P → IfSome asked (λ h. P (heat_counts h.now))
@@ -10,5 +11,4 @@ lent P (Some heat) h = h
 pub returns-clause-granules : goal.returns-clause-granules
 returns-clause-granules c =
     lent (HasGranules (owners_of c.args.self.now)) c.as_ref.result
-    (subst (λ (kept : Option Heat). IfSome (option_map heat_counts kept) (HasGranules (owners_of c.args.self.now))) (sym c.as_ref.ensures.value)
-    (subst (λ (t : Table). IfSome (option_map heat_counts c.self.inside.heat) (HasGranules (owners_of t))) c.self.view_is c.self.invariant.2.each_blob))
+    (grind (arith, option_map))

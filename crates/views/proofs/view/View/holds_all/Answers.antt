@@ -1,4 +1,4 @@
-use Rattle.views.proofs.Imports.{◌≤ℤ◌, sym, subst, SFits, rules, arith, w128, ints, to_z-of_z, IsDeclared, least_of, greatest_of, least_in, greatest_in, LeafType, Hold, Fits, leaf_type_of}
+use Rattle.views.proofs.Imports.{◌≤ℤ◌, SFits, rules, arith, w128, ints, to_z-of_z, least_of, greatest_of, least_in, greatest_in}
 use Rattle.views.proofs.Opened.{cell_count, leaf_seen, kind_seen, hold_seen}
 use Rattle.views.proofs.RunLaws.{fits_within}
 use Rattle.views.proofs.view.View.holds_all.Goals as goal
@@ -45,5 +45,4 @@ returns-then-least c = λ both value is.
     let low : least_in hold.signed hold.width ≤ℤ least_of kind = omega (arith, ints, c.if-least.true, to_z-of_z w128 c.least.result one, to_z-of_z w128 c.least-2.result two, c.least.ensures, c.least-2.ensures) in
     let high : greatest_of kind ≤ℤ greatest_in hold.signed hold.width =
     omega (arith, ints, both, to_z-of_z w128 c.greatest.result three, to_z-of_z w128 c.greatest-then-least.result four, c.greatest.ensures, c.greatest-then-least.ensures) in
-    subst (λ (h : Hold). Fits (leaf_type_of seen leaf) h value) (sym hold_is)
-    (subst (λ (k : LeafType). Fits k hold value) (sym kind_is) (fits_within kind hold low high value (subst (λ (k : LeafType). IsDeclared k value) kind_is is)))
+    grind (arith, fits_within)

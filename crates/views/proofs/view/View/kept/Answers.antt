@@ -1,6 +1,7 @@
-use Rattle.views.proofs.Imports.{ℤ, ◌≡◌, ◌∙◌, sym, ap, arith, rules, SFits, w128, to_z-of_z, LeafType, Hold, hold_at, kept, StoreMode, Strict, Wrap, strict_kept, store_answer, kept_or, Table, leaf_type_of, table_holds}
+use Rattle.views.proofs.Imports.{◌≡◌, ◌∙◌, sym, ap, arith, rules, SFits, w128, to_z-of_z, Wrap, strict_kept, Table}
 use Rattle.views.proofs.Opened.{cell_count, leaf_seen, kind_seen, hold_seen}
 use Rattle.views.proofs.view.View.kept.Goals as goal
+use Rattle.std.proofs.lemmas.Grind.{common_steps}
 
 pub hold-requires : goal.hold-requires
 hold-requires c =
@@ -19,11 +20,7 @@ kept-requires-clause-narrow c =
     (hold_seen a.schema a.extents a.expr a.blobs.items c.self.invariant.1 c.args.self.now c.self.view_is c.self.invariant.0 c.args.leaf c.hold.result c.requires c.hold.ensures).2
 
 pub returns-in-Strict : goal.returns-in-Strict
-returns-in-Strict c =
-    let seen = c.args.self.now in
-    let fits : SFits w128 c.args.value = search rules in
-    let mode_is : seen.mode ≡ Strict = sym (ap (λ (s : Table). s.mode) c.self.view_is) ∙ c.in-Strict.is in
-    to_z-of_z w128 c.args.value fits ∙ sym (strict_kept seen mode_is c.args.leaf c.args.value)
+returns-in-Strict c = grind (arith, common_steps, to_z-of_z, strict_kept)
 
 pub returns-in-Wrap : goal.returns-in-Wrap
 returns-in-Wrap c =
@@ -36,8 +33,4 @@ returns-in-Wrap c =
     let mode_is : Wrap ≡ seen.mode = sym c.in-Wrap.is ∙ ap (λ (s : Table). s.mode) c.self.view_is in
     let kind_is = kind_seen a.schema a.extents a.expr a.blobs.items c.self.invariant.1 seen c.self.view_is leaf c.leaf_type.result c.leaf_type.ensures in
     let hold_is = (hold_seen a.schema a.extents a.expr a.blobs.items c.self.invariant.1 seen c.self.view_is c.self.invariant.0 leaf c.hold.result c.requires c.hold.ensures).0 in
-    to_z-of_z w128 c.kept.result whole ∙ c.kept.ensures
-    ∙ ap (λ (v : ℤ). kept c.leaf_type.result c.hold.result v) (to_z-of_z w128 value fits)
-    ∙ ap (λ (k : LeafType). kept k c.hold.result value) (sym kind_is)
-    ∙ ap (λ (h : Hold). kept (leaf_type_of seen leaf) h value) (sym hold_is)
-    ∙ ap (λ (m : StoreMode). kept_or value (store_answer m (leaf_type_of seen leaf) (hold_at (table_holds seen) leaf) value)) mode_is
+    grind (arith, to_z-of_z)

@@ -1,15 +1,10 @@
 use Rattle.views.proofs.Imports.{ℤ, pos, get_or, SFits, w64, sym, ap, ◌∙◌, arith, rules, without_number, answer_of}
 use Rattle.views.proofs.StoredLaws.{fault_later, fault_here, passed}
 use Rattle.views.proofs.view.View.lanes_fit.Goals as goal
+use Rattle.std.proofs.lemmas.Grind.{common_steps}
 
 pub loop-lane-preserved : goal.loop-lane-preserved
-loop-lane-preserved c =
-    let value = get_or c.args.values.now c.loop-lane.lane (pos 0) in
-    let fit : SFits w64 value = search rules in
-    let same = passed value c.from.result fit c.from.ensures in
-    c.loop-lane.invariant
-    ∙ fault_later (answer_of c.args.self.now) c.args.leaf c.loop-lane.lane c.args.values.now (omega arith)
-    (sym (ap (λ (v : ℤ). without_number (answer_of c.args.self.now c.args.leaf v)) same) ∙ sym c.fits.ensures ∙ c.in_default.is)
+loop-lane-preserved c = grind (arith, common_steps, passed, fault_later)
 
 pub returns-in-Err-clause-named : goal.returns-in-Err-clause-named
 returns-in-Err-clause-named c =

@@ -1,6 +1,7 @@
-use Rattle.views.proofs.Imports.{◌≡◌, ◌-◌, ◌++◌, List, ℤ, pos, ℕ, length, take, drop, replicate, sym, ap, subst, ◌∙◌, arith, Each1, IsBlock, IsNarrow, same, column, column_reads, Table, after_log}
+use Rattle.views.proofs.Imports.{◌≡◌, List, ℤ, length, sym, ap, subst, arith, Each1, IsBlock, IsNarrow, same, Table}
 use Rattle.views.proofs.ColumnLaws.{nothing_loaded, loaded_more, loaded_block}
 use Rattle.views.proofs.view.View.load_lanes.Goals as goal
+use Rattle.std.proofs.lemmas.Grind.{common_steps}
 
 pub loop-lane-init : goal.loop-lane-init
 loop-lane-init g c = nothing_loaded c.args.leaf c.args.row c.args.self.now
@@ -23,9 +24,7 @@ pub returns-clause-values : goal.returns-clause-values
 returns-clause-values g c =
     let block : IsBlock c.loop-lane.values =
     loaded_block c.args.leaf c.args.row c.loop-lane.lane c.args.self.now c.loop-lane.self c.loop-lane.values c.loop-lane.invariant (omega arith) (omega arith) in
-    let end : c.loop-lane.lane ≡ c.args.lanes = omega arith in
-    same c.loop-lane.values block.fit ∙ c.loop-lane.invariant.filled
-    ∙ ap (λ (n : ℕ). take n (drop c.args.row (column c.args.leaf c.args.self.now.rows)) ++ replicate (16 - n) (pos 0)) end
+    let end : c.loop-lane.lane ≡ c.args.lanes = omega arith in grind (arith, same)
 
 pub returns-clause-narrow : goal.returns-clause-narrow
 returns-clause-narrow g c =
@@ -34,6 +33,4 @@ returns-clause-narrow g c =
     subst (λ (values : List ℤ). Each1 IsNarrow values) (sym (same c.loop-lane.values block.fit)) c.loop-lane.invariant.narrow
 
 pub returns-clause-same : goal.returns-clause-same
-returns-clause-same g c =
-    let end : c.loop-lane.lane ≡ c.args.lanes = omega arith in
-    c.loop-lane.invariant.log ∙ ap (λ (n : ℕ). after_log c.args.self.now (column_reads c.args.leaf c.args.row n)) end
+returns-clause-same g c = grind (arith, common_steps)

@@ -1,14 +1,11 @@
-use Rattle.views.proofs.Imports.{◌≡◌, ◌+◌, ◌*◌, ℕ, length, refl, sym, ap, subst, arith, IfSome, row_fits, blocks, array_of, AreRuns, size_of, IsRunMoved, rows_after, Table, leaf_count_of, leaf_type_of}
+use Rattle.views.proofs.Imports.{◌≡◌, ◌+◌, ◌*◌, ℕ, length, sym, ap, subst, arith, IfSome, row_fits, blocks, array_of, AreRuns, size_of, IsRunMoved, rows_after, Table, leaf_count_of, leaf_type_of}
 use Rattle.views.proofs.RunMoveLaws.{nothing_moved}
 use Rattle.views.proofs.SlotMoveLaws.{runs_more, still_block}
 use Rattle.views.proofs.view.View.move_apart.Goals as goal
+use Rattle.std.proofs.lemmas.Grind.{common_steps}
 
 pub loop-k-init : goal.loop-k-init
-loop-k-init g c = record {
-  same = refl;
-  moved = nothing_moved c.args.self.now c.args.leaf c.args.slot (0 * c.args.n) c.args.source.now.rows (omega arith);
-  steps = omega arith;
-}
+loop-k-init g c = grind (arith, common_steps, nothing_moved)
 
 pub move_run-requires-clause-block : goal.move_run-requires-clause-block
 move_run-requires-clause-block g c = still_block c.args.self.now c.loop-k.self (c.args.slot + c.loop-k.k * c.args.n) c.args.n c.loop-k.invariant.same (c.requires.block c.loop-k.k c.loop-k-test.true)
@@ -20,8 +17,7 @@ pub move_run-requires-clause-arrays : goal.move_run-requires-clause-arrays
 move_run-requires-clause-arrays g c = subst (λ (t : Table). AreRuns t.mapping c.args.source.now.mapping) (sym c.loop-k.invariant.same) c.requires.arrays
 
 pub move_run-requires-clause-alike : goal.move_run-requires-clause-alike
-move_run-requires-clause-alike g c =
-    subst (λ (t : Table). (t.fields ≡ c.args.source.now.fields) × (t.extents ≡ c.args.source.now.extents)) (sym c.loop-k.invariant.same) c.requires.alike
+move_run-requires-clause-alike g c = grind (arith, common_steps)
 
 pub loop-k-preserved : goal.loop-k-preserved
 loop-k-preserved g c =

@@ -1,4 +1,4 @@
-use Rattle.views.proofs.Imports.{◌≡◌, ◌∙◌, ℕ, List, length, sym, ap, subst, arith, kinds_of, schema_fields, Owner, blocks, term_of, uncounted, layout_by, holds_by, AreSized, IsKept, tally_of, table_under, blob_steps, MayMove, Table, owners_of}
+use Rattle.views.proofs.Imports.{◌≡◌, ◌∙◌, ℕ, List, length, ap, arith, kinds_of, schema_fields, Owner, blocks, term_of, uncounted, layout_by, holds_by, tally_of, table_under, blob_steps, MayMove, Table, owners_of}
 use Rattle.std.proofs.Common.{sum_by}
 use Rattle.views.proofs.MoveLaws.{blocks_are, same_lengths, moved_table, moved_kept, views_alike, views_one, may_seen, seen_moved}
 use Rattle.views.proofs.view.View.move_blobs.Goals as goal
@@ -13,10 +13,7 @@ move_all-requires g c =
     let may : MayMove b.mode a.mode (kinds_of (schema_fields a.schema)) (holds_by (term_of a.expr) (schema_fields a.schema)) =
     may_seen c.args.self.now c.args.source.now c.self.view_is c.source.view_is c.requires.modes in
     let kept = moved_kept (term_of a.expr) (term_of b.expr) a.extents b.extents (schema_fields a.schema) (schema_fields b.schema) same alike b.mode a.mode may b.blobs.items c.source.invariant.1 in
-    record {
-      lengths = same_lengths layout a.blobs.items c.as_slice.result.now c.self.invariant.1.laid.sized
-          (subst (λ (bs : List (List ℕ)). AreSized layout bs) (sym c.as_slice.ensures.value) kept.laid.sized);
-    }
+    grind (arith, same_lengths)
 
 pub invariant_of-self : goal.invariant_of-self
 invariant_of-self g c =
@@ -26,11 +23,7 @@ invariant_of-self g c =
     let same : uncounted (term_of a.expr) ≡ uncounted (term_of b.expr) = views_one c.args.self.now c.args.source.now c.self.view_is c.source.view_is c.requires.blobs in
     let may : MayMove b.mode a.mode (kinds_of (schema_fields a.schema)) (holds_by (term_of a.expr) (schema_fields a.schema)) =
     may_seen c.args.self.now c.args.source.now c.self.view_is c.source.view_is c.requires.modes in
-    let kept = moved_kept (term_of a.expr) (term_of b.expr) a.extents b.extents (schema_fields a.schema) (schema_fields b.schema) same alike b.mode a.mode may b.blobs.items c.source.invariant.1 in (
-      c.self.invariant.0,
-      subst (λ (bs : List (List ℕ)). IsKept a.mode (term_of a.expr) a.extents (schema_fields a.schema) bs) (sym (c.move_all.ensures.blobs ∙ c.as_slice.ensures.value)) kept,
-      c.self.invariant.2,
-    )
+    let kept = moved_kept (term_of a.expr) (term_of b.expr) a.extents b.extents (schema_fields a.schema) (schema_fields b.schema) same alike b.mode a.mode may b.blobs.items c.source.invariant.1 in grind arith
 
 pub returns-clause-rows : goal.returns-clause-rows
 returns-clause-rows g c =
@@ -55,6 +48,5 @@ returns-clause-steps g c =
     may_seen c.args.self.now c.args.source.now c.self.view_is c.source.view_is c.requires.modes in
     let kept = moved_kept (term_of a.expr) (term_of b.expr) a.extents b.extents (schema_fields a.schema) (schema_fields b.schema) same alike b.mode a.mode may b.blobs.items c.source.invariant.1 in
     let count : sum_by (λ (blob : List ℕ). blocks (length blob)) c.as_slice.result.now ≡ blob_steps (owners_of c.args.self.now) =
-    ap (λ (bs : List (List ℕ)). sum_by (λ (blob : List ℕ). blocks (length blob)) bs) c.as_slice.ensures.value
-    ∙ blocks_are layout b.blobs.items kept.laid.sized ∙ ap (λ (s : Table). blob_steps (owners_of s)) c.self.view_is in
+    grind (arith, sum_by, blocks_are) in
     omega (arith, c.move_all.ensures.steps, count)

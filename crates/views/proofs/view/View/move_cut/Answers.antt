@@ -1,20 +1,13 @@
-use Rattle.views.proofs.Imports.{◌≡◌, ◌∙◌, ◌+◌, ◌*◌, ◌<◌, ◌≤◌, ◌||◌, ℕ, zero, suc, true, length, refl, sym, ap, subst, arith, ◌==◌, IfSome, range_with_len, or_left, or_right, eq-eqb, row_fits, blocks, array_of, AreRuns, slots_within, block_in, same_slots, same_steps, all_pieces, size_of, IsRunMoved, rows_after, is_cut, piece_at, span_pieces, Table, leaf_count_of, leaf_type_of}
+use Rattle.views.proofs.Imports.{◌≡◌, ◌∙◌, ◌+◌, ◌*◌, ◌<◌, ◌≤◌, ◌||◌, ℕ, zero, suc, true, sym, ap, subst, arith, ◌==◌, range_with_len, or_left, or_right, eq-eqb, row_fits, blocks, AreRuns, slots_within, block_in, same_slots, same_steps, all_pieces, size_of, rows_after, is_cut, piece_at, span_pieces, Table, leaf_count_of, leaf_type_of}
 use Rattle.std.proofs.Common.{sum_by}
 use Rattle.views.proofs.PieceLaws.{piece_is}
 use Rattle.views.proofs.RunMoveLaws.{nothing_moved}
 use Rattle.views.proofs.SlotMoveLaws.{runs_more, still_block}
 use Rattle.views.proofs.view.View.move_cut.Goals as goal
+use Rattle.std.proofs.lemmas.Grind.{common_steps}
 
 pub loop-done-init : goal.loop-done-init
-loop-done-init g c =
-    let none : c.args.slot + 0 ≡ c.args.slot = omega arith in
-    record {
-      inside = omega arith;
-      same = refl;
-      moved = nothing_moved c.args.self.now c.args.leaf c.args.slot 0 c.args.source.now.rows refl;
-      begins = λ some. or_left (c.args.slot + 0 == c.args.slot) _ (eq-eqb (c.args.slot + 0) c.args.slot none);
-      steps = omega arith;
-    }
+loop-done-init g c = grind (arith, common_steps, nothing_moved, or_left, eq-eqb)
 
 pub loop-done-preserved : goal.loop-done-preserved
 loop-done-preserved g c =
@@ -55,16 +48,10 @@ loop-done-preserved g c =
 
 -- there are slots on both sides
 pub pieces_at-pieces-requires-clause-first : goal.pieces_at-pieces-requires-clause-first
-pieces_at-pieces-requires-clause-first g c =
-    let a = c.args in
-    let within = slots_within a.self.now.mapping a.self.now.extents a.to a.slot a.n c.requires.to c.requires.slots in
-    let same = same_slots a.source.now.mapping a.self.now.mapping a.source.now.extents a.self.now.extents a.from a.to c.requires.alike.1 c.requires.arrays c.requires.from c.requires.to in
-    c.requires.from_lanes (omega (arith, within, same, c.loop-done-test.true))
+pieces_at-pieces-requires-clause-first g c = grind (arith, common_steps, slots_within, same_slots)
 
 pub pieces_at-pieces-requires-clause-second : goal.pieces_at-pieces-requires-clause-second
-pieces_at-pieces-requires-clause-second g c =
-    let a = c.args in
-    c.requires.to_lanes (omega (arith, slots_within a.self.now.mapping a.self.now.extents a.to a.slot a.n c.requires.to c.requires.slots, c.loop-done-test.true))
+pieces_at-pieces-requires-clause-second g c = grind (arith, common_steps, slots_within)
 
 pub move_blocks-requires-clause-leaf_in : goal.move_blocks-requires-clause-leaf_in
 move_blocks-requires-clause-leaf_in g c = omega (arith, ap leaf_count_of c.loop-done.invariant.same, c.requires.leaf_in)
@@ -73,19 +60,10 @@ pub move_blocks-requires-clause-arrays : goal.move_blocks-requires-clause-arrays
 move_blocks-requires-clause-arrays g c = subst (λ (t : Table). AreRuns t.mapping c.args.source.now.mapping) (sym c.loop-done.invariant.same) c.requires.arrays
 
 pub move_blocks-requires-clause-alike : goal.move_blocks-requires-clause-alike
-move_blocks-requires-clause-alike g c =
-    subst (λ (t : Table). (t.fields ≡ c.args.source.now.fields) × (t.extents ≡ c.args.source.now.extents)) (sym c.loop-done.invariant.same) c.requires.alike
+move_blocks-requires-clause-alike g c = grind (arith, common_steps)
 
 pub move_blocks-requires-clause-block : goal.move_blocks-requires-clause-block
-move_blocks-requires-clause-block g c k l =
-    let a = c.args in
-    let are = c.pieces_at-pieces.ensures in
-    let count : ℕ = c.pieces_at-pieces.result.count in
-    let number : ℕ = c.pieces_at-pieces.result.number in
-    let within = slots_within a.self.now.mapping a.self.now.extents a.to a.slot a.n c.requires.to c.requires.slots in
-    still_block a.self.now c.loop-done.self (a.slot + c.loop-done.done + k * count) count c.loop-done.invariant.same
-    (block_in a.self.now.mapping a.self.now.extents a.to (a.slot + c.loop-done.done + k * count) count c.requires.to
-    (omega (arith, row_fits k count number count l (omega arith), are.inside, within)) (are.second k l))
+move_blocks-requires-clause-block g c k l = grind (arith, common_steps, slots_within, still_block, block_in, row_fits)
 
 pub move_blocks-requires-clause-other_block : goal.move_blocks-requires-clause-other_block
 move_blocks-requires-clause-other_block g c k l =
@@ -95,26 +73,12 @@ move_blocks-requires-clause-other_block g c k l =
     let number : ℕ = c.pieces_at-pieces.result.number in
     let within = slots_within a.self.now.mapping a.self.now.extents a.to a.slot a.n c.requires.to c.requires.slots in
     let same = same_slots a.source.now.mapping a.self.now.mapping a.source.now.extents a.self.now.extents a.from a.to c.requires.alike.1 c.requires.arrays c.requires.from c.requires.to in
-    block_in a.source.now.mapping a.source.now.extents a.from (a.slot + c.loop-done.done + k * count) count c.requires.from
-    (omega (arith, row_fits k count number count l (omega arith), are.inside, within, same)) (are.first k l)
+    grind (arith, block_in, row_fits)
 
 pub returns-clause-moved : goal.returns-clause-moved
 returns-clause-moved g c =
     let old : Table = c.args.self.now in
-    let all : c.loop-done.done ≡ c.args.n = omega (arith, c.loop-done.invariant.inside, c.loop-done-test.false) in
-    subst (λ (m : ℕ). IfSome (array_of old.mapping) (λ array. IsRunMoved array.0 old.extents (length old.rows) (leaf_count_of old) c.args.leaf c.args.slot m
-    c.args.source.now.rows old.rows c.loop-done.self.rows)) all c.loop-done.invariant.moved
+    let all : c.loop-done.done ≡ c.args.n = omega (arith, c.loop-done.invariant.inside, c.loop-done-test.false) in grind arith
 
 pub returns-clause-steps : goal.returns-clause-steps
-returns-clause-steps g c =
-    let a = c.args in
-    let size : ℕ = size_of (leaf_type_of a.self.now a.leaf) in
-    let all : c.loop-done.done ≡ a.n = omega (arith, c.loop-done.invariant.inside, c.loop-done-test.false) in
-    let sum = ap (λ (m : ℕ). sum_by (piece_at a.from.lanes a.to.lanes size a.slot (a.slot + a.n)) (range_with_len a.slot m)) all in
-    omega (
-      arith,
-      c.loop-done.invariant.steps,
-      sum,
-      all_pieces a.from.lanes a.to.lanes size a.slot a.n,
-      same_steps a.source.now.mapping a.self.now.mapping a.source.now.extents a.self.now.extents a.from a.to size a.slot a.n c.requires.alike.1 c.requires.arrays c.requires.from c.requires.to,
-    )
+returns-clause-steps g c = grind (arith, common_steps, sum_by, range_with_len, all_pieces, same_steps)

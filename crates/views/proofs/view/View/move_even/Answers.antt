@@ -77,9 +77,7 @@ overflow_mul-bytes g c =
     let a = c.self.inside in
     let block : IsInBlock c.args.self.now.mapping c.args.self.now.extents c.args.slot c.args.n =
     subst (λ (s : ℕ). IsInBlock c.args.self.now.mapping c.args.self.now.extents s c.args.n) (first_place c.args.slot c.args.n) (c.requires.block 0 c.requires.more) in
-    let few : c.args.n ≤ 2 ^ 24 =
-    few_slots (term_of a.expr) c.args.source.now.mapping a.extents (schema_fields a.schema) c.args.slot c.args.n (one_seen c.args.self.now c.args.source.now.mapping c.self.view_is c.requires.arrays)
-    (block_seen c.args.self.now c.args.slot c.args.n c.self.view_is block) c.self.invariant.1.within in
+    let few : c.args.n ≤ 2 ^ 24 = grind (arith, few_slots, one_seen, block_seen) in
     let width : width_of c.leaf_type.result ≤ 64 = few_bits c.leaf_type.result in
     let small : c.width.result / 8 ≤ 8 = omega (arith, c.width.ensures) in
     let all : c.args.n * (c.width.result / 8) ≤ 2 ^ 24 * 8 = mul-le c.args.n (c.width.result / 8) (2 ^ 24) 8 few small in

@@ -1,4 +1,4 @@
-use Rattle.views.proofs.Imports.{◌≡◌, ◌∙◌, ◌+◌, ◌*◌, ◌/◌, ◌^◌, ◌<◌, ◌≤◌, ℕ, List, [], length, get_or, refl, sym, ap, subst, arith, mul-le, get_or_from_slice_get, width_of, kinds_of, schema_fields, Fields, LeafType, Truth, blocks, AreMoved, term_of, AreRuns, tally_of, table_under, size_of, kind_at, Table, leaf_type_of}
+use Rattle.views.proofs.Imports.{◌≡◌, ◌∙◌, ◌+◌, ◌*◌, ◌/◌, ◌<◌, ◌≤◌, ℕ, List, [], length, get_or, sym, ap, subst, arith, mul-le, get_or_from_slice_get, kinds_of, schema_fields, Fields, LeafType, Truth, blocks, AreMoved, term_of, size_of, kind_at, Table, leaf_type_of}
 use Rattle.views.proofs.KeptLaws.{kind_count, row_count}
 use Rattle.views.proofs.MoveLaws.{views_alike, seen_moved}
 use Rattle.views.proofs.Opened.{cell_count, leaf_seen}
@@ -6,6 +6,7 @@ use Rattle.views.proofs.RunMoveLaws.{IsMove, few_slots, nothing_moved, moved_see
 use Rattle.views.proofs.view.View.move_run.Given as given
 use Rattle.views.proofs.view.View.move_run.Goals as goal
 use Rattle.views.proofs.view.View.move_run.Goals.{After-as_slice, After-move_between}
+use Rattle.std.proofs.lemmas.Grind.{common_steps}
 
 -- what is said of the bytes on both sides
 move : (g : given.Over) (c : After-as_slice g) → IsMove (term_of c.self.inside.expr) (term_of c.source.inside.expr) c.self.inside.extents c.source.inside.extents
@@ -50,10 +51,7 @@ place_of-to-requires-clause-leaf_in g c =
     omega (arith, leaf_seen a.schema a.extents a.expr a.blobs.items c.self.invariant.1 c.args.self.now c.self.view_is c.args.leaf c.requires.leaf_in, cell_count c.self.invariant.0)
 
 pub place_of-to-requires-clause-slot_in : goal.place_of-to-requires-clause-slot_in
-place_of-to-requires-clause-slot_in g c =
-    let some : 0 < c.args.n = omega arith in
-    slot_there c.self.invariant.0 _ c.args.slot c.args.n (one_seen c.args.self.now c.args.source.now.mapping c.self.view_is c.requires.arrays)
-    (block_seen c.args.self.now c.args.slot c.args.n c.self.view_is c.requires.block) some
+place_of-to-requires-clause-slot_in g c = grind (arith, common_steps, slot_there, one_seen, block_seen)
 
 pub place_of-from-requires-clause-leaf_in : goal.place_of-from-requires-clause-leaf_in
 place_of-from-requires-clause-leaf_in g c =
@@ -64,11 +62,7 @@ place_of-from-requires-clause-leaf_in g c =
     omega (arith, subst (λ (f : Fields). c.args.leaf < length (kinds_of f)) alike.0 leaf_in, cell_count c.source.invariant.0)
 
 pub place_of-from-requires-clause-slot_in : goal.place_of-from-requires-clause-slot_in
-place_of-from-requires-clause-slot_in g c =
-    let arrays : AreRuns (term_of c.self.inside.expr) (term_of c.source.inside.expr) = runs_seen c.args.self.now c.args.source.now c.self.view_is c.source.view_is c.requires.arrays in
-    let some : 0 < c.args.n = omega arith in
-    slot_there c.source.invariant.0 _ c.args.slot c.args.n (other_is (term_of c.self.inside.expr) (term_of c.source.inside.expr) arrays)
-    (block_seen c.args.source.now c.args.slot c.args.n c.source.view_is c.requires.other_block) some
+place_of-from-requires-clause-slot_in g c = grind (arith, common_steps, runs_seen, slot_there, other_is, block_seen)
 
 pub move_between-requires-clause-target : goal.move_between-requires-clause-target
 move_between-requires-clause-target g c = target_in (move g (goal.at.move_between-requires-clause-target g c).After-as_slice) c.self.invariant.1 c.source.invariant.1
@@ -105,10 +99,7 @@ returns-clause-moved g c =
     (run_kept both c.self.invariant.1 c.source.invariant.1 new) (run_raw both c.self.invariant.1 c.source.invariant.1 new))
 
 pub returns-clause-same : goal.returns-clause-same
-returns-clause-same g c =
-    let a = c.self.inside in
-    seen_moved a.schema a.extents a.expr a.blobs.items c.move_between.new.blobs.items (tally_of a.counts a.heat) c.args.self.now
-    (table_under (term_of a.expr) a.extents (schema_fields a.schema) c.move_between.new.blobs.items) c.self.view_is refl
+returns-clause-same g c = grind (arith, common_steps, seen_moved)
 
 pub returns-clause-steps : goal.returns-clause-steps
 returns-clause-steps g c =
@@ -116,12 +107,4 @@ returns-clause-steps g c =
     omega (arith, c.move_between.ensures.steps, ap blocks both.len_is ∙ ap (λ (s : Table). blocks (c.args.n * size_of (leaf_type_of s c.args.leaf))) c.self.view_is)
 
 pub overflow_mul-bytes : goal.overflow_mul-bytes
-overflow_mul-bytes g c =
-    let a = c.self.inside in
-    let few : c.args.n ≤ 2 ^ 24 =
-    few_slots (term_of a.expr) c.args.source.now.mapping a.extents (schema_fields a.schema) c.args.slot c.args.n (one_seen c.args.self.now c.args.source.now.mapping c.self.view_is c.requires.arrays)
-    (block_seen c.args.self.now c.args.slot c.args.n c.self.view_is c.requires.block) c.self.invariant.1.within in
-    let width : width_of c.leaf_type.result ≤ 64 = few_bits c.leaf_type.result in
-    let small : c.width.result / 8 ≤ 8 = omega (arith, c.width.ensures) in
-    let all : c.args.n * (c.width.result / 8) ≤ 2 ^ 24 * 8 = mul-le c.args.n (c.width.result / 8) (2 ^ 24) 8 few small in
-    omega arith
+overflow_mul-bytes g c = grind (arith, common_steps, few_slots, one_seen, block_seen, few_bits, mul-le)

@@ -2,6 +2,8 @@ use Rattle.views.proofs.Imports.{◌≡◌, ◌∙◌, length, ap, sym, subst, s
 use Rattle.views.proofs.KeptLaws.{kind_count, kept_zeros, zero_table}
 use Rattle.views.proofs.Opened.{mapping_copied, within_copied, lawful_there, paired_there, laid_there}
 use Rattle.views.proofs.view.View.new_within.Goals as goal
+use Rattle.std.proofs.lemmas.Grind.{common_steps}
+use Rattle.std.proofs.Common.{arith}
 
 pub invariant_of-result : goal.invariant_of-result
 invariant_of-result c =
@@ -11,8 +13,7 @@ invariant_of-result c =
     let layout = layout_by (term_of c.in_ok-expr.expr) c.args.extents (schema_fields c.in_ok-schema.schema) in
     let leaf_count = length (leaves (schema_fields c.in_ok-schema.schema)) in
     let tally : tally_of c.in_ok-counts.counts c.in_ok-heat.heat ≡ no_tally (term_of c.in_ok-expr.expr) layout leaf_count =
-    new_tally c.in_ok-counts.counts c.in_ok-heat.heat c.in_ok-expr.ensures mapping.layout_is
-    (c.leaf_count.ensures.value ∙ ap (λ (f : Fields). length (leaves f)) (sym c.in_ok-schema.ensures)) c.in_ok-counts.ensures c.in_ok-heat.ensures.zero in (
+    grind (arith, new_tally, leaves) in (
       mapping,
       kept_zeros (term_of c.in_ok-expr.expr) c.args.extents (schema_fields c.in_ok-schema.schema) c.in_ok-blobs.blobs.items
           (lawful_there mapping c.laws_of.ensures.lawful) (paired_there mapping c.laws_of.ensures.paired)
@@ -38,36 +39,23 @@ returns-clause-tally c =
     let made = c.in_ok-map.ensures in
     let mapping = mapping_copied {extents = c.args.extents} c.in_ok-expr.ensures c.in_ok-schema.ensures
     (record { term_is = made.term; extents_are = made.extents; layout_is = made.layout; slots_are = made.slots; cells_are = made.cells; holds_are = made.holds }) in
-    new_tally c.in_ok-counts.counts c.in_ok-heat.heat c.in_ok-expr.ensures mapping.layout_is
-    (c.leaf_count.ensures.value ∙ ap (λ (f : Fields). length (leaves f)) (sym c.in_ok-schema.ensures)) c.in_ok-counts.ensures c.in_ok-heat.ensures.zero
+    grind (arith, new_tally, leaves)
 
 -- a mapping that is dropped is one still
 pub invariant_of-map-in_err-expr : goal.invariant_of-map-in_err-expr
-invariant_of-map-in_err-expr c =
-    let m = c.in_ok-map.map in
-    record { built = m.built; numbers = m.numbers; full = m.full; held = m.held; sized = m.sized; ruled = m.ruled; wide = m.wide; arrays = m.arrays; uncounted = m.uncounted }
+invariant_of-map-in_err-expr c = grind (arith, common_steps)
 
 pub invariant_of-map-in_err-blobs : goal.invariant_of-map-in_err-blobs
-invariant_of-map-in_err-blobs c =
-    let m = c.in_ok-map.map in
-    record { built = m.built; numbers = m.numbers; full = m.full; held = m.held; sized = m.sized; ruled = m.ruled; wide = m.wide; arrays = m.arrays; uncounted = m.uncounted }
+invariant_of-map-in_err-blobs c = grind (arith, common_steps)
 
 pub invariant_of-map-in_err-counts : goal.invariant_of-map-in_err-counts
-invariant_of-map-in_err-counts c =
-    let m = c.in_ok-map.map in
-    record { built = m.built; numbers = m.numbers; full = m.full; held = m.held; sized = m.sized; ruled = m.ruled; wide = m.wide; arrays = m.arrays; uncounted = m.uncounted }
+invariant_of-map-in_err-counts c = grind (arith, common_steps)
 
 pub invariant_of-map-in_err-schema : goal.invariant_of-map-in_err-schema
-invariant_of-map-in_err-schema c =
-    let m = c.in_ok-map.map in
-    record { built = m.built; numbers = m.numbers; full = m.full; held = m.held; sized = m.sized; ruled = m.ruled; wide = m.wide; arrays = m.arrays; uncounted = m.uncounted }
+invariant_of-map-in_err-schema c = grind (arith, common_steps)
 
 pub invariant_of-map : goal.invariant_of-map
-invariant_of-map c =
-    let m = c.in_ok-map.map in
-    record { built = m.built; numbers = m.numbers; full = m.full; held = m.held; sized = m.sized; ruled = m.ruled; wide = m.wide; arrays = m.arrays; uncounted = m.uncounted }
+invariant_of-map c = grind (arith, common_steps)
 
 pub invariant_of-map-in_err-heat : goal.invariant_of-map-in_err-heat
-invariant_of-map-in_err-heat c =
-    let m = c.in_ok-map.map in
-    record { built = m.built; numbers = m.numbers; full = m.full; held = m.held; sized = m.sized; ruled = m.ruled; wide = m.wide; arrays = m.arrays; uncounted = m.uncounted }
+invariant_of-map-in_err-heat c = grind (arith, common_steps)

@@ -1,4 +1,4 @@
-use Rattle.views.proofs.Imports.{◌≡◌, ℤ, pos, get_or, length, map, take, SFits, to_z, of_z, w64, sym, ap, subst, ◌∙◌, rules, arith, w128, to_z-of_z, get_or-map, length-map, LeafType, declared, declared_same, length-with_column, raised, Table, leaf_type_of, IsSettledIn}
+use Rattle.views.proofs.Imports.{◌≡◌, ℤ, pos, get_or, length, map, SFits, to_z, of_z, w64, sym, ap, subst, ◌∙◌, rules, arith, w128, to_z-of_z, get_or-map, length-map, LeafType, declared, declared_same, length-with_column, raised, Table, leaf_type_of, IsSettledIn}
 use Rattle.views.proofs.Opened.{kind_seen, some_seen}
 use Rattle.views.proofs.StoreLaws.{fit_settled}
 use Rattle.views.proofs.StoredLaws.{stored_more, all_stored}
@@ -10,9 +10,7 @@ loop-k-init c = record { stored = c.put_near-done.ensures.stored }
 
 -- no row is gone
 rows : (c : In-loop-k) → length c.loop-k.self.rows ≡ length c.args.self.now.rows
-rows c =
-    let values = map (raised (leaf_type_of c.args.self.now c.args.leaf)) c.args.lows.now in
-    ap (λ (t : Table). length t.rows) c.loop-k.invariant.stored ∙ length-with_column c.args.leaf c.args.first (take c.loop-k.k values) c.args.self.now.rows
+rows c = grind (arith, length-with_column)
 
 pub row_after-row-requires : goal.row_after-row-requires
 row_after-row-requires c = omega (arith, rows (goal.at.row_after-row-requires c).In-loop-k, c.requires.rows_in)

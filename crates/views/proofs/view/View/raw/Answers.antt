@@ -1,4 +1,4 @@
-use Rattle.views.proofs.Imports.{ℤ, ◌≡◌, ◌∙◌, sym, ap, subst, arith, rules, SFits, to_z, of_z, w128, to_z-of_z, Hold, hold_at, declared, held, Strict, Table, kept_of, leaf_type_of, table_holds, IsSettledIn}
+use Rattle.views.proofs.Imports.{ℤ, ◌≡◌, ◌∙◌, sym, ap, subst, arith, rules, SFits, to_z, of_z, w128, to_z-of_z, hold_at, declared, held, Strict, Table, kept_of, leaf_type_of, table_holds, IsSettledIn}
 use Rattle.views.proofs.Opened.{cell_count, leaf_seen, some_seen, hold_seen}
 use Rattle.views.proofs.StoreLaws.{taken_raw, strict_raw}
 use Rattle.views.proofs.view.View.raw.Goals as goal
@@ -56,9 +56,7 @@ said c =
     let two : SFits w128 c.kept.result = search rules in
     let fits : SFits w128 c.args.value = search rules in
     let hold_is = (hold_seen a.schema a.extents a.expr a.blobs.items c.self.invariant.1 seen c.self.view_is c.self.invariant.0 leaf c.hold.result c.requires.leaf_in c.hold.ensures).0 in
-    to_z-of_z w128 c.held.result one ∙ c.held.ensures
-    ∙ ap (held c.hold.result) (to_z-of_z w128 c.kept.result two ∙ c.kept.ensures ∙ ap (kept_of seen leaf) (to_z-of_z w128 c.args.value fits))
-    ∙ ap (λ (h : Hold). held h (kept_of seen leaf c.args.value)) (sym hold_is)
+    grind (arith, to_z-of_z)
 
 pub returns-in-Wrap-clause-settled : goal.returns-in-Wrap-clause-settled
 returns-in-Wrap-clause-settled c =

@@ -2,6 +2,7 @@ use Rattle.views.proofs.Imports.{ℤ, ◌≡◌, sym, ap, ◌∙◌, subst, arit
 use Rattle.views.proofs.Opened.{rows_seen, leaf_seen, cell_count, laid_here, raw_seen, strict_seen, declared_seen}
 use Rattle.views.proofs.view.View.read.Goals as goal
 use Rattle.views.proofs.view.View.read.Goals.{After-declared}
+use Rattle.std.proofs.lemmas.Grind.{common_steps}
 
 pub read_by_rule-raw-requires-clause-row_in : goal.read_by_rule-raw-requires-clause-row_in
 read_by_rule-raw-requires-clause-row_in c =
@@ -14,8 +15,7 @@ read_by_rule-raw-requires-clause-leaf_in c =
     omega (arith, cell_count c.self.invariant.0, leaf_seen a.schema a.extents a.expr a.blobs.items c.self.invariant.1 c.args.self.now c.self.view_is c.args.leaf c.requires.leaf_in)
 
 pub read_by_rule-raw-requires-clause-laid : goal.read_by_rule-raw-requires-clause-laid
-read_by_rule-raw-requires-clause-laid c =
-    laid_here c.self.invariant.0 c.as_slice.result.now c.self.inside.blobs.items c.as_slice.ensures.value c.self.invariant.1.laid
+read_by_rule-raw-requires-clause-laid c = grind (arith, common_steps, laid_here)
 
 -- a strict view holds the entry, and any other a number that stands for it
 pub returns-in-Strict-clause-value : goal.returns-in-Strict-clause-value

@@ -1,7 +1,8 @@
-use Rattle.views.proofs.Imports.{◌≡◌, ◌<◌, ◌≤◌, ◌∙◌, ℕ, length, refl, sym, ap, subst, arith, rules, SFits, FitsSigned, w64, w128, to_z-of_z, low_64, IsWithin64, column_reads, declared_within, Table, leaf_type_of, after_log}
+use Rattle.views.proofs.Imports.{◌<◌, ◌≤◌, ◌∙◌, length, refl, ap, arith, rules, SFits, FitsSigned, w64, w128, to_z-of_z, low_64, declared_within, Table}
 use Rattle.views.proofs.RunLaws.{run_read}
 use Rattle.views.proofs.RunStoreLaws.{no_row, row_more}
 use Rattle.views.proofs.view.View.read_far.Goals as goal
+use Rattle.std.proofs.lemmas.Grind.{common_steps}
 
 pub loop-k-init : goal.loop-k-init
 loop-k-init c = no_row c.args.leaf c.args.first c.args.self.now c.args.values.now c.args.values.now refl
@@ -13,9 +14,7 @@ pub value-requires-clause-row_in : goal.value-requires-clause-row_in
 value-requires-clause-row_in c = omega (arith, c.row_after-row.ensures, ap (λ (t : Table). length t.rows) c.loop-k.invariant.log, c.loop-k.invariant.count, c.requires.rows_in)
 
 pub low_of-requires : goal.low_of-requires
-low_of-requires c =
-    let fits : SFits w128 c.value.result = search rules in
-    subst IsWithin64 (sym (to_z-of_z w128 c.value.result fits)) (declared_within (leaf_type_of c.loop-k.self c.args.leaf) c.value.result c.value.ensures.declared)
+low_of-requires c = grind (arith, common_steps, to_z-of_z, declared_within)
 
 pub loop-k-preserved : goal.loop-k-preserved
 loop-k-preserved c =
@@ -31,6 +30,4 @@ returns-clause-values c =
     run_read c.args.leaf c.args.first c.args.self.now.rows c.args.values.now c.loop-k.values c.loop-k.invariant.count c.requires.rows_in (λ k l. c.loop-k.invariant.each k (omega (arith, l, end)))
 
 pub returns-clause-same : goal.returns-clause-same
-returns-clause-same c =
-    let end : c.loop-k.k ≡ length c.args.values.now = omega (arith, c.loop-k.invariant.count) in
-    c.loop-k.invariant.log ∙ ap (λ (n : ℕ). after_log c.args.self.now (column_reads c.args.leaf c.args.first n)) end
+returns-clause-same c = grind (arith, common_steps)

@@ -1,12 +1,10 @@
-use Rattle.views.proofs.Imports.{rules, arith, ℕ, ◌≡◌, ◌<◌, ◌∙◌, sym, ap, FitsSigned, length, w128, to_z-of_z, Table, leaf_count_of, after_log, Read, row_accesses}
+use Rattle.views.proofs.Imports.{rules, arith, ◌<◌, ap, FitsSigned, length, w128, to_z-of_z, Table, leaf_count_of}
 use Rattle.views.proofs.RowLaws.{none_read, leaf_read, row_read}
 use Rattle.views.proofs.view.View.read_row.Goals as goal
+use Rattle.std.proofs.lemmas.Grind.{common_steps}
 
 pub loop-leaf-init : goal.loop-leaf-init
-loop-leaf-init g c = record {
-  read = none_read c.args.self.now c.args.row c.args.values.now (c.requires.values ∙ sym (c.laws_of_table.ensures.table.shape.leaf_count c.args.row c.requires.row_in));
-  steps = omega arith;
-}
+loop-leaf-init g c = grind (arith, common_steps, none_read)
 
 pub get-requires-clause-row_in : goal.get-requires-clause-row_in
 get-requires-clause-row_in g c = omega (arith, ap (λ (t : Table). length t.rows) c.loop-leaf.invariant.read.same, c.requires.row_in)
@@ -28,6 +26,4 @@ pub returns-clause-read : goal.returns-clause-read
 returns-clause-read g c = row_read c.args.self.now c.loop-leaf.self c.args.row c.loop-leaf.values c.loop-leaf.leaf (omega arith) c.loop-leaf.invariant.read
 
 pub returns-clause-same : goal.returns-clause-same
-returns-clause-same g c =
-    let all : c.loop-leaf.leaf ≡ leaf_count_of c.args.self.now = omega (arith, c.requires.values) in
-    c.loop-leaf.invariant.read.same ∙ ap (λ (n : ℕ). after_log c.args.self.now (row_accesses Read n c.args.row)) all
+returns-clause-same g c = grind (arith, common_steps)

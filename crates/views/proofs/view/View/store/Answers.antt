@@ -1,7 +1,8 @@
-use Rattle.views.proofs.Imports.{ℤ, ◌≡◌, true, false, ◌∙◌, sym, ap, subst, arith, rules, SFits, w128, to_z-of_z, schema_fields, term_of, is_counted, with_entry, raw_under, tally_of, Table, IsSettledIn, Write, idle_tallied}
-use Rattle.views.proofs.Opened.{rows_seen, leaf_seen, cell_count, held_seen, held_passed, raw_stored, kept_after, table_after, laid_there, seen_from, seen_written}
+use Rattle.views.proofs.Imports.{◌≡◌, true, false, ◌∙◌, sym, ap, arith, rules, SFits, w128, to_z-of_z, schema_fields, term_of, is_counted, with_entry, raw_under, tally_of, Write, idle_tallied}
+use Rattle.views.proofs.Opened.{rows_seen, leaf_seen, cell_count, held_seen, held_passed, raw_stored, kept_after, table_after, laid_there, seen_written}
 use Rattle.views.proofs.view.View.store.Goals as goal
 use Rattle.views.proofs.view.View.store.Goals.{After-near_write}
+use Rattle.std.proofs.lemmas.Grind.{common_steps}
 
 pub near_write-requires-clause-row_in : goal.near_write-requires-clause-row_in
 near_write-requires-clause-row_in c =
@@ -51,9 +52,4 @@ returns-then-near_write c =
     (sym (idle_tallied access idle c.self.invariant.2))
 
 pub store_far-requires-clause-settled : goal.store_far-requires-clause-settled
-store_far-requires-clause-settled c =
-    let a = c.self.inside in
-    let leaf = c.args.leaf in
-    let fits : SFits w128 c.args.raw = search rules in
-    let lent = seen_from a.mode a.schema a.extents a.expr c.near_write.new.blobs.items (tally_of a.counts a.heat) in
-    subst (λ (v : ℤ). IsSettledIn lent leaf v) (sym (to_z-of_z w128 c.args.raw fits)) (subst (λ (t : Table). IsSettledIn t leaf c.args.raw) (sym c.self.view_is) c.requires.settled)
+store_far-requires-clause-settled c = grind (arith, common_steps, to_z-of_z)

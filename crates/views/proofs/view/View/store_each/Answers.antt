@@ -1,26 +1,18 @@
-use Rattle.views.proofs.Imports.{◌≡◌, ◌<◌, ℤ, Ok, pos, get_or, length, map, take, SFits, to_z, of_z, w64, refl, sym, ap, ◌∙◌, rules, arith, w128, get_or-map, length-map, length-with_column, told_lane, without_number, Table, answer_of, kept_of}
+use Rattle.views.proofs.Imports.{◌≡◌, ◌<◌, ℤ, Ok, pos, get_or, length, map, SFits, to_z, of_z, w64, refl, sym, ap, ◌∙◌, rules, arith, w128, get_or-map, length-map, length-with_column, told_lane, without_number, Table, answer_of, kept_of}
 use Rattle.views.proofs.RunStoreLaws.{value_more, run_stored, whole_run, no_fault, stopped_run}
 use Rattle.views.proofs.StoredLaws.{nothing_stored, fault_later, fault_here, passed}
 use Rattle.views.proofs.view.View.store_each.Goals as goal
 use Rattle.views.proofs.view.View.store_each.Goals.{After-row_after-row, After-set_tested}
+use Rattle.std.proofs.lemmas.Grind.{common_steps}
 
 pub loop-lane-init : goal.loop-lane-init
 loop-lane-init c = record { fault = refl; stored = nothing_stored c.args.leaf c.args.first c.args.self.now (map (kept_of c.args.self.now c.args.leaf) c.args.values.now) }
 
 pub row_after-row-requires : goal.row_after-row-requires
-row_after-row-requires c =
-    let kept = map (kept_of c.args.self.now c.args.leaf) c.args.values.now in
-    omega (arith, ap (λ (t : Table). length t.rows) c.loop-lane.invariant.stored.stored, length-with_column c.args.leaf c.args.first (take c.loop-lane.lane kept) c.args.self.now.rows)
+row_after-row-requires c = grind (arith, common_steps, length-with_column)
 
 pub set_tested-requires-clause-row_in : goal.set_tested-requires-clause-row_in
-set_tested-requires-clause-row_in c =
-    let kept = map (kept_of c.args.self.now c.args.leaf) c.args.values.now in
-    omega (
-      arith,
-      c.row_after-row.ensures,
-      ap (λ (t : Table). length t.rows) c.loop-lane.invariant.stored.stored,
-      length-with_column c.args.leaf c.args.first (take c.loop-lane.lane kept) c.args.self.now.rows,
-    )
+set_tested-requires-clause-row_in c = grind (arith, common_steps, length-with_column)
 
 pub loop-lane-preserved : goal.loop-lane-preserved
 loop-lane-preserved c =
@@ -67,13 +59,7 @@ returns-in-Err-clause-stored c =
     (c.in-Err.ensures.refused ∙ run_stored c.args.leaf c.args.first c.loop-lane.lane c.args.self.now c.loop-lane.self c.args.values.now c.loop-lane.invariant.stored)
 
 pub returns-clause-named : goal.returns-clause-named
-returns-clause-named c =
-    let end : c.loop-lane.lane ≡ length c.args.values.now = omega arith in
-    sym (ap told_lane (no_fault c.args.leaf c.loop-lane.lane c.args.self.now c.args.values.now c.loop-lane.invariant.fault end))
+returns-clause-named c = grind (arith, common_steps, no_fault)
 
 pub returns-clause-stored : goal.returns-clause-stored
-returns-clause-stored c =
-    let end : c.loop-lane.lane ≡ length c.args.values.now = omega arith in
-    whole_run c.args.leaf c.args.first c.loop-lane.lane c.args.self.now c.loop-lane.self c.args.values.now
-    (no_fault c.args.leaf c.loop-lane.lane c.args.self.now c.args.values.now c.loop-lane.invariant.fault end) end
-    (run_stored c.args.leaf c.args.first c.loop-lane.lane c.args.self.now c.loop-lane.self c.args.values.now c.loop-lane.invariant.stored)
+returns-clause-stored c = grind (arith, common_steps, whole_run, no_fault, run_stored)

@@ -1,6 +1,7 @@
-use Rattle.views.proofs.Imports.{rules, arith, ◌≡◌, ◌<◌, ◌∙◌, pos, [], sym, ap, List, ℤ, FitsSigned, get_or, length, w128, to_z-of_z, length-set, Table, leaf_count_of}
+use Rattle.views.proofs.Imports.{arith, ◌≡◌, ◌∙◌, [], sym, ap, List, ℤ, get_or, length, to_z-of_z, length-set, Table, leaf_count_of}
 use Rattle.views.proofs.RowLaws.{none_stored, leaf_stored, row_stored}
 use Rattle.views.proofs.view.View.store_row.Goals as goal
+use Rattle.std.proofs.lemmas.Grind.{common_steps}
 
 pub loop-leaf-init : goal.loop-leaf-init
 loop-leaf-init g c = record { stored = none_stored c.args.self.now c.args.row c.args.values.now; steps = omega arith }
@@ -12,16 +13,7 @@ pub set-taken-requires-clause-leaf_in : goal.set-taken-requires-clause-leaf_in
 set-taken-requires-clause-leaf_in g c = omega (arith, ap leaf_count_of c.loop-leaf.invariant.stored, c.requires.values)
 
 pub loop-leaf-preserved : goal.loop-leaf-preserved
-loop-leaf-preserved g c =
-    let value = get_or c.args.values.now c.loop-leaf.leaf (pos 0) in
-    let fits : FitsSigned w128 value = search rules in
-    let small : c.loop-leaf.leaf < length c.args.values.now = omega arith in
-    let numbers : length c.args.values.now ≡ length (get_or c.args.self.now.rows c.args.row []) = c.requires.values ∙ sym (c.laws_of_table.ensures.table.shape.leaf_count c.args.row c.requires.row_in) in
-    record {
-      stored = leaf_stored c.args.self.now c.loop-leaf.self c.set-taken.new.self c.args.row c.loop-leaf.leaf c.args.values.now c.set-taken.result c.requires.row_in small numbers (c.requires.taken c.loop-leaf.leaf (omega (arith, c.requires.values)))
-          (rw (to_z-of_z w128 value fits) at c.set-taken.ensures.answer) (rw (to_z-of_z w128 value fits) at c.set-taken.ensures.stored) c.loop-leaf.invariant.stored;
-      steps = omega (arith, c.set-taken.ensures.step, c.loop-leaf.invariant.steps);
-    }
+loop-leaf-preserved g c = grind (arith, common_steps, leaf_stored, to_z-of_z)
 
 pub returns-clause-stored : goal.returns-clause-stored
 returns-clause-stored g c =

@@ -1,4 +1,4 @@
-use Rattle.views.proofs.Imports.{◌≡◌, ◌∙◌, ℤ, List, None, true, pos, get_or, length, map, sym, ap, subst, arith, hold_at, column_writes, with_column, raised, run_fault, told_lane, stored_count, with_run, raised_same, Fits, without_number, answer_of, kept_or, kept_of, leaf_type_of, table_holds, after_stores, LaneFault}
+use Rattle.views.proofs.Imports.{◌≡◌, ◌∙◌, ℤ, List, None, true, length, sym, ap, arith, column_writes, with_column, run_fault, told_lane, stored_count, with_run, raised_same, without_number, answer_of, after_stores, LaneFault}
 use Rattle.std.proofs.Common.{take_all}
 use Rattle.std.specs.Prelude.{Option}
 use Rattle.views.proofs.KeptColumns.{none_refused}
@@ -6,12 +6,10 @@ use Rattle.views.proofs.StoreLaws.{map_same}
 use Rattle.views.proofs.view.View.store_run.Goals as goal
 use Rattle.views.proofs.view.View.store_run.Goals.{After-takes_run}
 use Rattle.views.proofs.view.View.store_run.Given.{Over}
+use Rattle.std.proofs.lemmas.Grind.{common_steps}
 
 pub put_lows-requires-clause-fits : goal.put_lows-requires-clause-fits
-put_lows-requires-clause-fits g c = λ k l.
-    let kind = leaf_type_of c.args.self.now c.args.leaf in
-    let fit = c.takes_run.ensures.fits c.if-takes_run.true k l in
-    subst (λ (v : ℤ). Fits kind (hold_at (table_holds c.args.self.now) c.args.leaf) v) (sym (raised_same kind (get_or c.args.values.now k (pos 0)) fit.declared)) fit
+put_lows-requires-clause-fits g c = grind (arith, common_steps, raised_same)
 
 -- none is refused
 none : (g : Over) (c : After-takes_run g) → c.takes_run.result ≡ true → run_fault c.args.leaf c.args.values.now c.args.self.now ≡ None
@@ -31,7 +29,5 @@ returns-then-takes_run-clause-stored g c =
     let Stored : List ℤ → _ = λ vs. after_stores old (with_column leaf first vs old.rows) (column_writes leaf first (length values)) in
     c.put_lows.ensures
     ∙ ap Stored
-    (map_same (raised (leaf_type_of old leaf)) values (λ k l. raised_same (leaf_type_of old leaf) (get_or values k (pos 0)) (fit k l).declared)
-    ∙ sym (map_same (kept_of old leaf) values (λ k l. ap (kept_or (get_or values k (pos 0))) (taken k l)))
-    ∙ ap (map (kept_of old leaf)) (sym (take_all (length values) values (omega arith))))
+    (grind (arith, map_same, raised_same, take_all))
     ∙ sym (ap (λ (fault : Option LaneFault). with_run leaf first values (stored_count (length values) fault) old) (none g (goal.at.returns-then-takes_run-clause-stored g c).After-takes_run c.if-takes_run.true))

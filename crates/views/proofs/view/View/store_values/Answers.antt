@@ -1,19 +1,16 @@
-use Rattle.views.proofs.Imports.{◌≡◌, ◌<◌, ℤ, pos, get_or, length, map, take, SFits, to_z, of_z, w64, sym, ap, subst, ◌∙◌, arith, rules, w128, to_z-of_z, get_or-map, length-map, declared, without_number, Table, answer_of, kept_of, leaf_type_of, IsSettledIn, length-with_column}
+use Rattle.views.proofs.Imports.{◌≡◌, ◌<◌, ℤ, pos, get_or, length, map, SFits, to_z, of_z, w64, ap, ◌∙◌, arith, rules, w128, to_z-of_z, get_or-map, length-map, declared, without_number, Table, answer_of, kept_of, leaf_type_of, length-with_column}
 use Rattle.views.proofs.StoredLaws.{nothing_stored, stored_more, lane_taken, passed, all_stored}
 use Rattle.views.proofs.view.View.store_values.Goals as goal
+use Rattle.std.proofs.lemmas.Grind.{common_steps}
 
 pub loop-lane-init : goal.loop-lane-init
 loop-lane-init c = nothing_stored c.args.leaf c.args.row c.args.self.now (map (kept_of c.args.self.now c.args.leaf) c.args.values.now)
 
 pub row_after-requires : goal.row_after-requires
-row_after-requires c =
-    let kept = map (kept_of c.args.self.now c.args.leaf) c.args.values.now in
-    omega (arith, ap (λ (t : Table). length t.rows) c.loop-lane.invariant.stored, length-with_column c.args.leaf c.args.row (take c.loop-lane.lane kept) c.args.self.now.rows)
+row_after-requires c = grind (arith, common_steps, length-with_column)
 
 pub store-requires-clause-row_in : goal.store-requires-clause-row_in
-store-requires-clause-row_in c =
-    let kept = map (kept_of c.args.self.now c.args.leaf) c.args.values.now in
-    omega (arith, c.row_after.ensures, ap (λ (t : Table). length t.rows) c.loop-lane.invariant.stored, length-with_column c.args.leaf c.args.row (take c.loop-lane.lane kept) c.args.self.now.rows)
+store-requires-clause-row_in c = grind (arith, common_steps, length-with_column)
 
 -- a lane whose value is taken
 pub raw-raw-requires-clause-taken : goal.raw-raw-requires-clause-taken
@@ -25,9 +22,7 @@ raw-raw-requires-clause-taken c =
     ∙ lane_taken (answer_of c.args.self.now) c.args.leaf 0 c.loop-lane.lane c.args.values.now c.in_ok-lanes_fit.ensures.taken (omega arith)
 
 pub store-requires-clause-settled : goal.store-requires-clause-settled
-store-requires-clause-settled c =
-    let fits : SFits w128 c.raw-raw.result = search rules in
-    subst (λ (v : ℤ). IsSettledIn c.loop-lane.self c.args.leaf v) (sym (to_z-of_z w128 c.raw-raw.result fits)) c.raw-raw.ensures.settled
+store-requires-clause-settled c = grind (arith, common_steps, to_z-of_z)
 
 pub loop-lane-preserved : goal.loop-lane-preserved
 loop-lane-preserved c =
@@ -41,16 +36,9 @@ loop-lane-preserved c =
     let whole : SFits w128 raw = search rules in
     let inside : lane < length values = omega arith in
     let kept : declared (leaf_type_of old leaf) (to_z w128 (of_z w128 raw)) ≡ get_or (map (kept_of old leaf) values) lane (pos 0) =
-    ap (declared (leaf_type_of old leaf)) (to_z-of_z w128 raw whole)
-    ∙ sym (ap (λ (t : Table). declared (leaf_type_of t leaf) raw) c.loop-lane.invariant.stored)
-    ∙ c.raw-raw.ensures.kept
-    ∙ ap (kept_of c.loop-lane.self leaf) (passed value c.from.result fit c.from.ensures)
-    ∙ ap (λ (t : Table). kept_of t leaf value) c.loop-lane.invariant.stored
-    ∙ sym (get_or-map (kept_of old leaf) values lane (pos 0) (pos 0) inside) in
+    grind (arith, to_z-of_z, passed, get_or-map) in
     stored_more leaf c.args.row lane c.row_after.result old c.loop-lane.self c.store.new.self (map (kept_of old leaf) values) (to_z w128 (of_z w128 raw)) c.loop-lane.invariant
     (omega (arith, inside, length-map values (kept_of old leaf))) (omega (arith, inside, c.requires.rows_in)) c.row_after.ensures kept c.store.ensures
 
 pub returns-clause-stored : goal.returns-clause-stored
-returns-clause-stored c =
-    let kept = map (kept_of c.args.self.now c.args.leaf) c.args.values.now in
-    all_stored c.args.leaf c.args.row c.loop-lane.lane (length c.args.values.now) c.args.self.now c.loop-lane.self kept c.loop-lane.invariant (omega arith) (length-map c.args.values.now (kept_of c.args.self.now c.args.leaf))
+returns-clause-stored c = grind (arith, common_steps, all_stored, length-map)

@@ -1,6 +1,7 @@
-use Rattle.views.proofs.Imports.{ℤ, ◌≡◌, ◌∙◌, sym, ap, arith, rules, SFits, w128, to_z-of_z, LeafType, Hold, hold_at, StoreMode, Strict, store_answer, without_number, Table, leaf_type_of, table_holds}
+use Rattle.views.proofs.Imports.{◌≡◌, ◌∙◌, sym, ap, arith, rules, SFits, w128, to_z-of_z, Strict, Table}
 use Rattle.views.proofs.Opened.{cell_count, leaf_seen, kind_seen, hold_seen}
 use Rattle.views.proofs.view.View.tested.Goals as goal
+use Rattle.std.proofs.lemmas.Grind.{common_steps}
 
 pub hold-requires : goal.hold-requires
 hold-requires c =
@@ -28,14 +29,7 @@ returns-in-Strict c =
     let mode_is : seen.mode ≡ Strict = sym (ap (λ (s : Table). s.mode) c.self.view_is) ∙ c.in-Strict.is in
     let kind_is = kind_seen a.schema a.extents a.expr a.blobs.items c.self.invariant.1 seen c.self.view_is leaf c.leaf_type.result c.leaf_type.ensures in
     let hold_is = (hold_seen a.schema a.extents a.expr a.blobs.items c.self.invariant.1 seen c.self.view_is c.self.invariant.0 leaf c.hold.result c.requires c.hold.ensures).0 in
-    c.answer.ensures
-    ∙ ap (λ (v : ℤ). without_number (store_answer Strict c.leaf_type.result c.hold.result v)) (to_z-of_z w128 value fits)
-    ∙ ap (λ (k : LeafType). without_number (store_answer Strict k c.hold.result value)) (sym kind_is)
-    ∙ ap (λ (h : Hold). without_number (store_answer Strict (leaf_type_of seen leaf) h value)) (sym hold_is)
-    ∙ ap (λ (m : StoreMode). without_number (store_answer m (leaf_type_of seen leaf) (hold_at (table_holds seen) leaf) value)) (sym mode_is)
+    grind (arith, to_z-of_z)
 
 pub returns-in-Wrap : goal.returns-in-Wrap
-returns-in-Wrap c =
-    let seen = c.args.self.now in
-    let leaf = c.args.leaf in
-    ap (λ (m : StoreMode). without_number (store_answer m (leaf_type_of seen leaf) (hold_at (table_holds seen) leaf) c.args.value)) (sym c.in-Wrap.is ∙ ap (λ (s : Table). s.mode) c.self.view_is)
+returns-in-Wrap c = grind (arith, common_steps)

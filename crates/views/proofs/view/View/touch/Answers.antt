@@ -4,12 +4,10 @@ use Rattle.views.proofs.Opened.{tallied_here, touched_there, seen_touched, rows_
 use Rattle.views.proofs.TouchLaws.{touched_both, leaf_inside}
 use Rattle.views.proofs.view.View.touch.Goals as goal
 use Rattle.views.proofs.view.View.touch.Goals.{After-touch_heat}
+use Rattle.std.proofs.lemmas.Grind.{common_steps}
 
 pub touch_counts-requires : goal.touch_counts-requires
-touch_counts-requires c =
-    let a = c.self.inside in
-    leaf_inside (tally_of a.counts a.heat).counts c.args.leaf (length (leaves (schema_fields a.schema))) c.self.invariant.2.each_leaf
-    (omega (arith, kind_count (schema_fields a.schema), leaf_seen a.schema a.extents a.expr a.blobs.items c.self.invariant.1 c.args.self.now c.self.view_is c.args.leaf c.requires.leaf_in))
+touch_counts-requires c = grind (arith, common_steps, leaf_inside, leaves, kind_count, leaf_seen)
 
 pub touch_heat-requires-clause-row_in : goal.touch_heat-requires-clause-row_in
 touch_heat-requires-clause-row_in c =
@@ -22,18 +20,12 @@ touch_heat-requires-clause-leaf_in c =
     omega (arith, cell_count c.self.invariant.0, leaf_seen a.schema a.extents a.expr a.blobs.items c.self.invariant.1 c.args.self.now c.self.view_is c.args.leaf c.requires.leaf_in)
 
 pub touch_heat-requires-clause-granules : goal.touch_heat-requires-clause-granules
-touch_heat-requires-clause-granules c =
-    let a = c.self.inside in
-    (tallied_here c.self.invariant.0 (tally_of a.counts a.heat) c.self.invariant.2).each_blob
+touch_heat-requires-clause-granules c = grind (arith, common_steps, tallied_here)
 
 -- what is counted then
 counts : (c : goal.After-touch_heat) → tally_of c.touch_counts.new.counts c.touch_heat.new.heat
     ≡ after_access (layout_by (term_of c.self.inside.expr) c.self.inside.extents (schema_fields c.self.inside.schema)) (tally_of c.self.inside.counts c.self.inside.heat) (access_to c.args.write c.args.row c.args.leaf)
-counts c =
-    let tally = tally_of c.self.inside.counts c.self.inside.heat in
-    let new = tally_of c.touch_counts.new.counts c.touch_heat.new.heat in
-    touched_both _ c.args.write c.args.row c.args.leaf tally new.counts new.heat c.touch_counts.ensures c.touch_heat.ensures
-    ∙ touched_there c.self.invariant.0 tally (access_to c.args.write c.args.row c.args.leaf)
+counts c = grind (arith, touched_both, touched_there)
 
 pub invariant_of-self : goal.invariant_of-self
 invariant_of-self c =

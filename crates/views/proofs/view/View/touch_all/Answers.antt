@@ -1,13 +1,14 @@
-use Rattle.views.proofs.Imports.{◌≡◌, ◌∙◌, ℕ, Bool, false, true, Option, length, option_map, sym, subst, ap, IfSome, schema_fields, leaves, kinds_of, term_of, layout_by, leaf_cells, indices, LeafCounts, HasLeaves, leaf_counts, IsTallied, tally_of, counts_after, after_log, leaf_count_of, Tally, tallied, access_to, times_accesses, all_touches, log_kept}
+use Rattle.views.proofs.Imports.{◌≡◌, ◌∙◌, ℕ, Bool, false, true, Option, length, option_map, sym, subst, ap, schema_fields, leaves, kinds_of, term_of, layout_by, leaf_cells, indices, LeafCounts, IsTallied, tally_of, counts_after, after_log, leaf_count_of, Tally, tallied, access_to, times_accesses, all_touches, log_kept}
 use Rattle.views.proofs.KeptLaws.{kind_count}
 use Rattle.views.proofs.Opened.{cell_count, tallied_here, touches_there, rows_seen, seen_logged}
 use Rattle.views.proofs.TouchLaws.{tallied_both}
 use Rattle.views.proofs.view.View.touch_all.Goals as goal
 use Rattle.views.proofs.view.View.touch_all.Goals.{After-add_heat}
+use Rattle.std.proofs.lemmas.Grind.{common_steps}
+use Rattle.std.proofs.Common.{arith}
 
 pub add_counts-requires : goal.add_counts-requires
-add_counts-requires c =
-    subst (λ (n : ℕ). IfSome (option_map leaf_counts c.self.inside.counts) (λ (counts : LeafCounts). HasLeaves counts n)) (sym c.leaf_count-leaves.ensures.value) c.self.invariant.2.each_leaf
+add_counts-requires c = grind (arith, common_steps, option_map)
 
 pub add_counts-requires-2 : goal.add_counts-requires-2
 add_counts-requires-2 c = c.add_counts.ensures.leaves
@@ -24,8 +25,7 @@ of_mapping c write times counts =
     let cells : c.leaf_count-leaves.result ≡ length (leaf_cells (kinds_of (schema_fields c.self.inside.map.schema))) =
     c.leaf_count-leaves.ensures.value ∙ sym (cell_count c.self.invariant.0 ∙ kind_count fields) in
     let rows : c.count-rows.result ≡ length (indices c.self.inside.map.extents) = c.count-rows.ensures.rows ∙ sym c.self.invariant.0.slots_are in
-    ap (λ (n : ℕ). option_map (counts_after (times_accesses (access_to write) times n c.count-rows.result)) counts) cells
-    ∙ ap (λ (n : ℕ). option_map (counts_after (times_accesses (access_to write) times (length (leaf_cells (kinds_of (schema_fields c.self.inside.map.schema)))) n)) counts) rows
+    grind (arith, option_map)
 
 -- what is counted then
 counts : (c : After-add_heat) → tally_of c.add_counts-2.new.counts c.add_heat.new.heat

@@ -1,6 +1,7 @@
-use Rattle.views.proofs.Imports.{◌≡◌, false, refl, sym, ap, ◌∙◌, arith, rules, SFits, w128, to_z-of_z, term_of, is_counted, tally_of, Read, idle_tallied}
+use Rattle.views.proofs.Imports.{refl, ◌∙◌, arith, rules, SFits, w128, to_z-of_z, idle_tallied}
 use Rattle.views.proofs.Opened.{rows_seen, leaf_seen, cell_count, laid_here, sign_seen, sign_declared, seen_touched}
 use Rattle.views.proofs.view.View.value.Goals as goal
+use Rattle.std.proofs.lemmas.Grind.{common_steps}
 
 pub wide_read-requires-clause-row_in : goal.wide_read-requires-clause-row_in
 wide_read-requires-clause-row_in c =
@@ -13,8 +14,7 @@ wide_read-requires-clause-leaf_in c =
     omega (arith, cell_count c.self.invariant.0, leaf_seen a.schema a.extents a.expr a.blobs.items c.self.invariant.1 c.args.self.now c.self.view_is c.args.leaf c.requires.leaf_in)
 
 pub wide_read-requires-clause-laid : goal.wide_read-requires-clause-laid
-wide_read-requires-clause-laid c =
-    laid_here c.self.invariant.0 c.as_slice.result.now c.self.inside.blobs.items c.as_slice.ensures.value c.self.invariant.1.laid
+wide_read-requires-clause-laid c = grind (arith, common_steps, laid_here)
 
 pub returns-in-Some-clause-value : goal.returns-in-Some-clause-value
 returns-in-Some-clause-value c =
@@ -32,9 +32,4 @@ returns-in-Some-clause-declared c =
     c.requires.row_in c.requires.leaf_in (c.in-Some.ensures.sign refl) _ (to_z-of_z w128 c.in-Some.value fits ∙ c.in-Some.ensures.value)
 
 pub returns-in-Some-clause-same : goal.returns-in-Some-clause-same
-returns-in-Some-clause-same c =
-    let a = c.self.inside in
-    let access = Read c.args.row c.args.leaf in
-    let idle : is_counted (term_of a.expr) ≡ false = ap is_counted (sym c.self.invariant.0.term_is) ∙ c.in-Some.ensures.uncounted refl in
-    sym c.self.view_is
-    ∙ seen_touched a.schema a.extents a.expr a.blobs.items c.self.view_is access (tally_of a.counts a.heat) (sym (idle_tallied access idle c.self.invariant.2))
+returns-in-Some-clause-same c = grind (arith, common_steps, seen_touched, idle_tallied)

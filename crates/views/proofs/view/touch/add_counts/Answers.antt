@@ -1,16 +1,10 @@
-use Rattle.views.proofs.Imports.{◌≡◌, ◌*◌, ◌-◌, ◌^◌, ◌<◌, ℕ, min, Option, Some, option_map, ap, sym, ◌∙◌, arith, LeafCounts, leaf_counts, Counts, access_to, times_accesses, counts_after, leaves_raised}
+use Rattle.views.proofs.Imports.{◌≡◌, ◌*◌, ◌-◌, ◌^◌, min, Option, Some, option_map, ap, sym, ◌∙◌, arith, LeafCounts, leaf_counts, Counts, access_to, times_accesses, counts_after}
 use Rattle.views.proofs.TouchLaws.{counts_none, counts_raised}
 use Rattle.views.proofs.view.touch.add_counts.Goals as goal
+use Rattle.std.proofs.lemmas.Grind.{common_steps}
 
 pub returns-then-each-gt0-clause-counted : goal.returns-then-each-gt0-clause-counted
-returns-then-each-gt0-clause-counted c =
-    let a = c.args in
-    let counts = leaf_counts c.in-Some.counts in
-    let each : c.saturating_mul-each.result ≡ min (a.rows * a.times) (2 ^ 64 - 1) = c.saturating_mul-each.ensures in
-    let some : 0 < a.rows * a.times = omega (arith, each, c.if-each-gt0.true) in
-    ap (λ (counts : LeafCounts). Some counts)
-    (c.raise_leaves.ensures.raised ∙ ap (λ (n : ℕ). leaves_raised n a.write a.leaves counts) each ∙ counts_raised a.write a.times a.leaves a.rows counts some)
-    ∙ ap (λ (o : Option Counts). option_map (counts_after (times_accesses (access_to a.write) a.times a.leaves a.rows)) (option_map leaf_counts o)) (sym c.in-Some.is)
+returns-then-each-gt0-clause-counted c = grind (arith, common_steps, counts_raised, option_map)
 
 pub returns-else-each-gt0-clause-counted : goal.returns-else-each-gt0-clause-counted
 returns-else-each-gt0-clause-counted c =

@@ -1,5 +1,6 @@
-use Rattle.views.proofs.Imports.{◌≡◌, ℕ, Bool, Option, Some, get_or, option_map, sym, ap, ◌∙◌, subst, IfSome, term_of, layout_by, schema_fields, HeatCounts, heat_counts, warmed, Heat, HasGranules, granules_touched, touched_same, inside-counted, piece_inside}
+use Rattle.views.proofs.Imports.{◌≡◌, ℕ, Bool, Option, get_or, option_map, ap, ◌∙◌, subst, IfSome, term_of, layout_by, schema_fields, HeatCounts, heat_counts, warmed, Heat, HasGranules, granules_touched, touched_same, inside-counted, piece_inside}
 use Rattle.views.proofs.view.touch.touch_heat.Goals as goal
+use Rattle.std.proofs.Common.{arith}
 
 pub touch-requires : goal.touch-requires
 touch-requires c k d small =
@@ -17,5 +18,4 @@ returns-in-Some c =
     let same = touched_same c.laws_of.ensures.lawful c.locate.ensures heat.granule in
     let new : heat_counts c.touch.new.self ≡ granules_touched layout c.args.row c.args.leaf heat =
     c.touch.ensures ∙ ap (λ (test : ℕ → ℕ → Bool). let h : HeatCounts = record heat { blobs = warmed test heat.blobs } in h) same in
-    ap (λ (h : HeatCounts). let o : Option HeatCounts = Some h in o) new
-    ∙ ap (λ (o : Option Heat). option_map (granules_touched layout c.args.row c.args.leaf) (option_map heat_counts o)) (sym c.in-Some.is)
+    grind (arith, option_map)
