@@ -1,12 +1,7 @@
 -- After every schedule the memory is that of the plain update.
-use Rattle.std.proofs.Common.{◌≡◌, ℕ, zero, suc, ◌+◌, ◌/◌, ◌%◌, ◌<◌, ◌≤◌, Bool, true, false, ℤ, List, [], ◌∷◌, length, map, filter, get_or, refl, sym, ap, ◌∙◌, subst, ⊎_elim, None, arith}
-use Rattle.std.specs.Prelude.{◌==◌, ◌&&◌, ◌||◌, if◌then◌else◌}
-use Rattle.std.specs.List.{flat_map, list_any, range_with_len}
-use Rattle.std.specs.Int.{bit_at}
-use Rattle.std.proofs.lemmas.Bool.{cases_lt, cases_eq, and_parts, eqb-true}
-use Rattle.std.proofs.lemmas.List.{get_or_past, get_or-map, length-map}
-use Rattle.places.specs.Layout.{Owner, Pad, Bit, owner_at}
-use Rattle.places.specs.Image.{entry, digit}
+use Rattle.std.specs.Prelude.{◌≡◌, ℕ, zero, suc, ◌+◌, ◌/◌, ◌%◌, ◌<◌, ◌≤◌, Bool, true, false, ℤ, List, [], ◌∷◌, length, map, filter, get_or, refl, None, ◌==◌, ◌&&◌, ◌||◌, if◌then◌else◌}
+use Rattle.record_dim.specs.Std.{sym, ap, ◌∙◌, subst, ⊎_elim, arith, flat_map, list_any, range_with_len, bit_at, cases_lt, cases_eq, and_parts, eqb-true, get_or_past, get_or-map, length-map}
+use Rattle.places.specs.Prelude.{Owner, Pad, Bit, owner_at, entry, digit}
 use Rattle.blobs.specs.Bits.{bit_in}
 use Rattle.row_updates.specs.Rows.{Setting}
 use Rattle.actor_steps.specs.Confluence.{Actor, State, scheduled}

@@ -1,11 +1,7 @@
 -- Actors that make micro-steps on bytes of their own: whatever the schedule, each byte is what its owner alone makes of it.
-use Rattle.std.proofs.Common.{◌≡◌, ℕ, ◌<◌, ◌≤◌, Bool, true, false, List, [], ◌∷◌, ◌++◌, length, get_or, set, refl, sym, ap, ◌∙◌, subst, ⊎_elim}
-use Rattle.std.specs.Prelude.{slice_index_or, if◌then◌else◌, ◌==◌}
-use Rattle.std.proofs.Math.Path.{fun_ext}
-use Rattle.std.proofs.lemmas.Bool.{cases_eq, cases_lt, eq-eqb, eqb-true}
-use Rattle.std.proofs.lemmas.List.{get_or-set_same, get_or-set_other, get_or_past}
+use Rattle.std.specs.Prelude.{◌≡◌, ℕ, ◌<◌, ◌≤◌, Bool, true, false, List, [], ◌∷◌, ◌++◌, length, get_or, set, refl, slice_index_or, if◌then◌else◌, ◌==◌}
+use Rattle.record_dim.specs.Std.{sym, ap, ◌∙◌, subst, ⊎_elim, fun_ext, cases_eq, cases_lt, eq-eqb, eqb-true, get_or-set_same, get_or-set_other, get_or_past, arith}
 use Rattle.actor_steps.specs.Confluence.{Actor, State, moved, turned, scheduled}
-use Rattle.std.proofs.Common.{arith}
 
 -- a fact of each item
 abbrev pub Each : {X : Type 0} → (X → Type 0) → List X → Type 0

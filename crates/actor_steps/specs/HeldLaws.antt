@@ -1,21 +1,9 @@
 -- Memory that holds the digits of entries, and what is read off it.
-use Rattle.std.proofs.Common.{◌≡◌, ℕ, ◌<◌, Bool, true, false, ℤ, pos, List, length, map, get_or, refl, sym, ap, ◌∙◌, subst, arith}
-use Rattle.std.specs.Prelude.{◌==◌, ◌&&◌, if◌then◌else◌}
-use Rattle.std.proofs.lemmas.Bool.{and_parts, eqb-true}
-use Rattle.std.proofs.lemmas.List.{length-map}
-use Rattle.places.specs.Layout.{Owner, Pad, Bit, owner_at}
-use Rattle.places.specs.Image.{digit, decoded, entry, bit_owned}
-use Rattle.places.specs.Lawful.{IsBitOf, IsLaidOut}
-use Rattle.places.specs.Writes.{written_bit}
-use Rattle.places.specs.CellWidthsLaws.{width_at}
-use Rattle.places.specs.NumbersLaws.{number_same}
-use Rattle.places.specs.OwnedLaws.{owned_is}
+use Rattle.std.specs.Prelude.{◌≡◌, ℕ, ◌<◌, Bool, true, false, ℤ, pos, List, length, map, get_or, refl, ◌==◌, ◌&&◌, if◌then◌else◌}
+use Rattle.record_dim.specs.Std.{sym, ap, ◌∙◌, subst, arith, and_parts, eqb-true, length-map}
+use Rattle.places.specs.Prelude.{Owner, Pad, Bit, owner_at, digit, decoded, entry, bit_owned, IsBitOf, IsLaidOut, written_bit, width_at, number_same, owned_is}
 use Rattle.places.specs.declared.piece.Hold.{Hold}
-use Rattle.piece_bits.specs.Tables.{HasShape, hold_at, table_in}
-use Rattle.piece_bits.specs.TableLaws.{table_shape, entry_is}
-use Rattle.piece_bits.specs.LowBits.{declared, held}
-use Rattle.piece_bits.specs.Modes.{kind_at}
-use Rattle.piece_bits.specs.KeptTableLaws.{declared_shape, declared_entry}
+use Rattle.piece_bits.specs.Prelude.{HasShape, hold_at, table_in, table_shape, entry_is, declared, held, kind_at, declared_shape, declared_entry}
 use Rattle.blobs.specs.Bits.{bit_in}
 use Rattle.actor_steps.specs.Micro.{Job, row_in}
 

@@ -21,3 +21,4 @@ pub mod Jobs
 pub mod Agree
 pub mod AgreeLaws
 pub mod Bytes
+pub mod Prelude

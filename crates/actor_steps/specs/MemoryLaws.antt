@@ -1,19 +1,13 @@
 -- The bytes of an image, and the memory that has its bits.
-use Rattle.std.proofs.Common.{◌≡◌, ℕ, ◌+◌, ◌*◌, ◌/◌, ◌%◌, ◌^◌, ◌<◌, ◌≤◌, All, ℤ, List, [], length, map, get_or, replicate, refl, sym, ap, ◌∙◌, subst, ⊎_elim, arith}
-use Rattle.std.specs.Int.{bit_at}
+use Rattle.std.specs.Prelude.{◌≡◌, ℕ, ◌+◌, ◌*◌, ◌/◌, ◌%◌, ◌^◌, ◌<◌, ◌≤◌, All, ℤ, List, [], length, map, get_or, replicate, refl}
+use Rattle.record_dim.specs.Std.{sym, ap, ◌∙◌, subst, ⊎_elim, arith, bit_at, cases_lt, length-map, length-replicate, get_or-replicate, get_or_past, ext_get_or, length-map-range_with_len, get_or-map-range_with_len, bit_at-zero}
 use Rattle.std.proofs.Math.ListN.{get_or-map}
-use Rattle.std.proofs.lemmas.Bool.{cases_lt}
-use Rattle.std.proofs.lemmas.List.{length-map, length-replicate, get_or-replicate, get_or_past, ext_get_or}
-use Rattle.std.proofs.lemmas.List.FromFn.{length-map-range_with_len, get_or-map-range_with_len}
-use Rattle.std.proofs.lemmas.Nat.Bits.{bit_at-zero}
-use Rattle.places.specs.Layout.{Owner, Pad, owner_at}
-use Rattle.places.specs.Image.{number, entry, bit_held, image, IsImage}
-use Rattle.places.specs.NumbersLaws.{number_same, number_lt, number_bits, bit_number, digit_lt}
+use Rattle.places.specs.Prelude.{Owner, Pad, owner_at, number, entry, bit_held, image, IsImage, number_same, number_lt, number_bits, bit_number, digit_lt}
 use Rattle.blobs.specs.Bits.{bit_of, bit_in, AreBytes}
 use Rattle.blobs.specs.BytesLaws.{bit_of_byte}
 use Rattle.instrument.specs.BlobTexts.{bytes_of}
-use Rattle.piece_bits.specs.Tables.{AreSized, AreLaid}
-use Rattle.views.specs.Tallies.{blob_lengths}
+use Rattle.piece_bits.specs.Prelude.{AreSized, AreLaid}
+use Rattle.views.specs.Prelude.{blob_lengths}
 use Rattle.actor_steps.specs.Bytes.{IsMemory}
 use Rattle.actor_steps.specs.HeldLaws.{digit_held, IsHeld}
 

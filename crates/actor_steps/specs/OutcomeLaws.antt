@@ -1,11 +1,9 @@
 -- The value of an expression depends on the leaves alone that it reads.
-use Rattle.std.proofs.Common.{◌≡◌, ℕ, ℤ, pos, List, [], ◌∷◌, ◌++◌, get_or, Result, Ok, Err, Option, Some, None, refl, sym, ap, ◌∙◌, subst}
-use Rattle.std.specs.Prelude.{neg_ℤ, not}
+use Rattle.std.specs.Prelude.{◌≡◌, ℕ, ℤ, pos, List, [], ◌∷◌, ◌++◌, get_or, Result, Ok, Err, Option, Some, None, refl, neg_ℤ, not}
+use Rattle.record_dim.specs.Std.{sym, ap, ◌∙◌, subst, arith}
 use Rattle.expr_lang.specs.declared.fault.EvalFault.{EvalFault}
-use Rattle.expr_lang.specs.Terms.{Term, Number, Entry, Index, Neg, Not, Binary}
-use Rattle.expr_lang.specs.Values.{Outcome, outcome_of, after_reads, then_from, unless_decided, no_read, ranged, truth, is_true, decided, result_of}
+use Rattle.expr_lang.specs.Prelude.{Term, Number, Entry, Index, Neg, Not, Binary, Outcome, outcome_of, after_reads, then_from, unless_decided, no_read, ranged, truth, is_true, decided, result_of}
 use Rattle.actor_steps.specs.ConfluenceLaws.{Each}
-use Rattle.std.proofs.Common.{arith}
 
 -- rows that agree on these leaves
 abbrev pub Agree : List ℤ → List ℤ → List ℕ → Type 0

@@ -1,17 +1,9 @@
 -- What an actor that is alone makes of its rows.
-use Rattle.std.proofs.Common.{◌≡◌, ℕ, ◌/◌, ◌<◌, ◌≤◌, Bool, true, false, ℤ, pos, List, [], ◌∷◌, ◌++◌, length, map, filter, get_or, refl, sym, ap, ◌∙◌, subst, ⊎_elim, arith}
-use Rattle.std.specs.Prelude.{◌==◌, ◌||◌, if◌then◌else◌}
-use Rattle.std.specs.List.{flat_map, range_with_len}
-use Rattle.std.proofs.lemmas.Bool.{cases_lt, eqb-true, eq-eqb, or_left, or_right}
-use Rattle.std.proofs.lemmas.List.{get_or_past}
-use Rattle.places.specs.Layout.{Bit, owner_at}
-use Rattle.places.specs.Image.{entry, digit}
-use Rattle.places.specs.Lawful.{IsLaidOut}
-use Rattle.places.specs.Writes.{written_bit}
+use Rattle.std.specs.Prelude.{◌≡◌, ℕ, ◌/◌, ◌<◌, ◌≤◌, Bool, true, false, ℤ, pos, List, [], ◌∷◌, ◌++◌, length, map, filter, get_or, refl, ◌==◌, ◌||◌, if◌then◌else◌}
+use Rattle.record_dim.specs.Std.{sym, ap, ◌∙◌, subst, ⊎_elim, arith, flat_map, range_with_len, cases_lt, eqb-true, eq-eqb, or_left, or_right, get_or_past}
+use Rattle.places.specs.Prelude.{Bit, owner_at, entry, digit, IsLaidOut, written_bit}
 use Rattle.blobs.specs.Bits.{bit_in}
-use Rattle.piece_bits.specs.Tables.{AreSized, HasShape, hold_at}
-use Rattle.piece_bits.specs.LowBits.{declared, kept}
-use Rattle.piece_bits.specs.Modes.{kind_at}
+use Rattle.piece_bits.specs.Prelude.{AreSized, HasShape, hold_at, declared, kept, kind_at}
 use Rattle.row_updates.specs.Rows.{Setting}
 use Rattle.actor_steps.specs.ConfluenceLaws.{Each, made_all, loaded_all, made_all-append, loaded_all-append}
 use Rattle.actor_steps.specs.Micro.{Place, Job, Micro, Fetch, Registers, row_in, row_as_it_stands, value_kept_on, stored, loaded, places_of, lets_through, filter_reads, set_reads, leaves_read, is_in, read_leaves, fetches, stores_of, row_steps}
@@ -50,8 +42,7 @@ rows_entries job (row ∷ rows) entries = rows_entries job rows (row_entries job
 
 each-in : (P : ℕ → Type 0) (xs : List ℕ) → ((x : ℕ) → is_in xs x ≡ true → P x) → Each P xs
 each-in P [] so = tt
-each-in P (x ∷ xs) so =
-    (so x (or_left (x == x) (is_in xs x) (eq-eqb x x refl)), each-in P xs (λ y e. so y (or_right (x == y) (is_in xs y) e)))
+each-in P (x ∷ xs) so = (so x (or_left (x == x) (is_in xs x) (eq-eqb x x refl)), each-in P xs (λ y e. so y (or_right (x == y) (is_in xs y) e)))
 
 each-left : (P : ℕ → Type 0) (xs ys : List ℕ) → Each P (xs ++ ys) → Each P xs
 each-left P [] ys all = tt

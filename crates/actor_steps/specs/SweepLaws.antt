@@ -1,16 +1,9 @@
 -- What an actor makes of one leaf of a row, byte after byte.
-use Rattle.std.proofs.Common.{◌≡◌, ℕ, ◌+◌, ◌*◌, ◌/◌, ◌%◌, ◌<◌, Bool, true, false, ℤ, List, [], ◌∷◌, map, get_or, refl, sym, ap, ◌∙◌, arith}
-use Rattle.std.specs.Prelude.{◌==◌, ◌&&◌, ◌||◌, if◌then◌else◌}
-use Rattle.std.specs.List.{flat_map, list_any}
-use Rattle.std.specs.Int.{bit_at}
-use Rattle.std.proofs.lemmas.Bool.{and_from, and_parts, eq-eqb, eqb-true}
-use Rattle.std.proofs.lemmas.Nat.Bits.{bit_at-lt}
-use Rattle.places.specs.Layout.{Owner, Pad, Bit, owner_at}
-use Rattle.places.specs.Image.{digit}
-use Rattle.places.specs.Writes.{written_bit}
-use Rattle.places.specs.NumbersLaws.{number_lt, bit_number, digit_lt}
+use Rattle.std.specs.Prelude.{◌≡◌, ℕ, ◌+◌, ◌*◌, ◌/◌, ◌%◌, ◌<◌, Bool, true, false, ℤ, List, [], ◌∷◌, map, get_or, refl, ◌==◌, ◌&&◌, ◌||◌, if◌then◌else◌}
+use Rattle.record_dim.specs.Std.{sym, ap, ◌∙◌, arith, flat_map, list_any, bit_at, and_from, and_parts, eq-eqb, eqb-true, bit_at-lt}
+use Rattle.places.specs.Prelude.{Owner, Pad, Bit, owner_at, digit, written_bit, number_lt, bit_number, digit_lt}
 use Rattle.blobs.specs.Bits.{bit_in}
-use Rattle.piece_bits.specs.Tables.{AreSized}
+use Rattle.piece_bits.specs.Prelude.{AreSized}
 use Rattle.actor_steps.specs.ConfluenceLaws.{Each, made_all, loaded_all}
 use Rattle.row_updates.specs.Rows.{Setting}
 use Rattle.actor_steps.specs.Micro.{Place, byte_at, with_byte, Job, Fetch, Load, Store, Registers, row_in, value_kept_on, with_bits_of, stored, loaded, changes}

@@ -1,14 +1,11 @@
 -- The bytes that the pieces of a leaf in a row touch are those that hold a bit of it, so the first of the ones is the first of the others.
-use Rattle.actor_tasks.proofs.Imports.{◌≡◌, ℕ, ◌+◌, ◌*◌, ◌<◌, ◌≤◌, max, Bool, true, false, List, [], ◌∷◌, length, filter, get_or, Option, Some, None, refl, sym, ap, ◌∙◌, ⊎_elim, inl, inr, arith, ◌⊎◌, IfSome, ◌==◌, ◌&&◌, ◌||◌, not, nat_lt, min, if◌then◌else◌, true≢false, cases_Bool, cases_lt, and_from, and_parts, or_left, or_right, eq-eqb, lt-ltb, nat_tests, Piece, Owner, IsLaidOut, IsLocated, within, within_blobs, is_in_granule, is_touched, hot_place, in_granule, touched_hot, Place, IsByte, all_bytes, is_before, ComesFrom, byte_holds_bit, IsHead, Touches, AnyTouches, IsNext, occurs-all, places_from-first, not-true}
+use Rattle.actor_tasks.proofs.Imports.{◌≡◌, ℕ, ◌<◌, ◌≤◌, Bool, true, false, List, [], ◌∷◌, length, filter, get_or, Option, Some, None, refl, sym, ap, ◌∙◌, ⊎_elim, inl, inr, arith, ◌⊎◌, IfSome, ◌&&◌, ◌||◌, not, nat_lt, if◌then◌else◌, true≢false, cases_Bool, cases_lt, and_from, and_parts, or_left, or_right, eq-eqb, lt-ltb, nat_tests, Piece, Owner, IsLaidOut, IsLocated, within, within_blobs, is_in_granule, is_touched, hot_place, in_granule, touched_hot, Place, IsByte, all_bytes, is_before, ComesFrom, byte_holds_bit, IsHead, Touches, AnyTouches, IsNext, occurs-all, places_from-first, not-true}
 
 -- a byte is a granule of one byte
 any-touched : (pieces : List Piece) (place : Place) → AnyTouches pieces place → is_touched 1 pieces place.blob place.byte ≡ true
 any-touched [] place any = absurd any
 any-touched (piece ∷ pieces) place any =
-    ⊎_elim (λ (t : Touches piece place).
-    or_left (is_in_granule 1 place.blob place.byte piece) (is_touched 1 pieces place.blob place.byte)
-    (and_from (piece.blob == place.blob) (nat_lt (max piece.bit (8 * 1 * place.byte)) (min (piece.bit + piece.bits) (8 * 1 * (place.byte + 1))))
-    (eq-eqb piece.blob place.blob t.blob) (lt-ltb (max piece.bit (8 * 1 * place.byte)) (min (piece.bit + piece.bits) (8 * 1 * (place.byte + 1))) (omega arith))))
+    ⊎_elim (λ (t : Touches piece place). grind (arith, or_left, and_from, nat_lt, eq-eqb, lt-ltb))
     (λ (rest : AnyTouches pieces place). or_right (is_in_granule 1 place.blob place.byte piece) (is_touched 1 pieces place.blob place.byte) (any-touched pieces place rest)) any
 
 touched-any : (pieces : List Piece) (place : Place) → is_touched 1 pieces place.blob place.byte ≡ true → AnyTouches pieces place
@@ -86,5 +83,4 @@ module _ (layout : List (List Owner)) (slots : ℕ) (widths : List ℕ) (laid : 
 
   -- and one of the layout
   pub found_inside : (from : Place) (result : Option Place) → IsNext (AnyTouches pieces) from result → IfSome result (IsByte layout)
-  found_inside from None none = tt
-  found_inside from (Some place) found = is_byte place (touches-hold place found.meets)
+  found_inside from result h2 = grind (arith, is_byte, touches-hold)

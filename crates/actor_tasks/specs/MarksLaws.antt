@@ -6,10 +6,10 @@ use Rattle.std.proofs.Math.ListN.{get_or-append}
 use Rattle.std.proofs.lemmas.List.{length-map, get_or-map, get_or-append_right, length-append}
 use Rattle.std.proofs.lemmas.List.{drop_all}
 use Rattle.std.proofs.lemmas.List.FromFn.{length-map-range_with_len, get_or-map-range_with_len}
-use Rattle.places.specs.Layout.{Owner}
+use Rattle.places.specs.Prelude.{Owner}
 use Rattle.row_updates.specs.Rows.{Setting}
 use Rattle.actor_steps.specs.declared.place.Place.{Place}
-use Rattle.actor_steps.specs.Micro.{Job, Micro}
+use Rattle.actor_steps.specs.Prelude.{Job, Micro}
 use Rattle.actor_tasks.specs.Places.{origin, places_from, byte_behind, IsHead}
 use Rattle.actor_tasks.specs.Tasks.{Task, Reads, Sets, all_tasks, is_asked, task_leaf, place_steps, task_steps, tasks_steps}
 use Rattle.actor_tasks.specs.TasksLaws.{next_place, next_task}
@@ -23,9 +23,7 @@ unasked job row from task e = ap (λ (t : Bool). if t then flat_map (place_steps
 -- one that it asks for has the bytes of its leaf
 asked : (job : Job) (row : ℕ) (from : Place) (task : Task) (result : Option Place) → is_asked job row task ≡ true → IsHead job.layout row (task_leaf task) from result
     → IsTaskNext job row from task result
-asked job row from task None e head =
-    ap (λ (t : Bool). if t then flat_map (place_steps row task) (places_from job.layout row (task_leaf task) from) else []) e ∙ ap (flat_map (place_steps row task)) head
-asked job row from task (Some place) e head = (e, head)
+asked job row from task result e head = grind (arith, flat_map)
 
 -- some leaf is set where one has this number
 some_set : (sets : List Setting) (n : ℕ) → n < length sets → Setting
@@ -36,9 +34,7 @@ module _ {job : Job} {layout : List (List Owner)} {leaves : ℕ} {sets : List �
     (is : IsRowOf job layout leaves sets marks through row) (from : Place) (result : Option Place) where
   -- first come the leaves that may be read, each in its place
   read_at : (task : ℕ) → task < leaves → task_at job task ≡ Reads task
-  read_at task low =
-      get_or-append (map Reads (range_with_len 0 (length job.holds))) (map Sets job.sets) (Reads 0) task (omega (arith, low, is.leaves_are, length-map-range_with_len Reads 0 (length job.holds)))
-      ∙ get_or-map-range_with_len Reads 0 (length job.holds) task task (Reads 0) (omega (arith, low, is.leaves_are)) (omega arith)
+  read_at task low = grind (arith, get_or-append, range_with_len, length-map-range_with_len, get_or-map-range_with_len)
 
   -- and then those that are set
   many_sets : length job.sets ≡ length sets
@@ -47,15 +43,11 @@ module _ {job : Job} {layout : List (List Owner)} {leaves : ℕ} {sets : List �
   set_at : (n : ℕ) (d : Setting) → n < length job.sets → task_at job (leaves + n) ≡ Sets (get_or job.sets n d)
   set_at n d inside =
       let front : length (map Reads (range_with_len 0 (length job.holds))) ≡ leaves = length-map-range_with_len Reads 0 (length job.holds) ∙ is.leaves_are in
-      let back : leaves + n - leaves ≡ n = omega arith in
-      get_or-append_right (map Reads (range_with_len 0 (length job.holds))) (map Sets job.sets) leaves (leaves + n) (Reads 0) front (omega arith)
-      ∙ ap (λ (w : ℕ). get_or (map Sets job.sets) w (Reads 0)) back ∙ get_or-map Sets job.sets n d (Reads 0) inside
+      let back : leaves + n - leaves ≡ n = omega arith in grind (arith, get_or-append_right, range_with_len, get_or, get_or-map)
 
   -- the next byte of a leaf that the row reads, and of one that it does not read
   pub read_task : (task : ℕ) → task < leaves → get_or marks task false ≡ true → IsHead layout row task from result → IsTaskNext job row from (task_at job task) result
-  read_task task low mark head =
-      subst (λ (t : Task). IsTaskNext job row from t result) (sym (read_at task low))
-      (asked job row from (Reads task) result (sym (is.asked_are task low) ∙ mark) (subst (λ (l : List (List Owner)). IsHead l row task from result) (sym is.layout_is) head))
+  read_task task low mark head = grind (arith, read_at, asked)
 
   pub no_read : (task : ℕ) → task < leaves → get_or marks task false ≡ false → IsTaskNext job row from (task_at job task) None
   no_read task low mark = ap (task_steps job row from) (read_at task low) ∙ unasked job row from (Reads task) (sym (is.asked_are task low) ∙ mark)
@@ -66,9 +58,7 @@ module _ {job : Job} {layout : List (List Owner)} {leaves : ℕ} {sets : List �
       let inside : n < length job.sets = omega (arith, low, many_sets) in
       let d = some_set job.sets n inside in
       let leaf : get_or sets n 0 ≡ (get_or job.sets n d).leaf = ap (λ (w : List ℕ). get_or w n 0) (sym is.sets_are) ∙ get_or-map (λ (s : Setting). s.leaf) job.sets n d 0 inside in
-      subst (λ (t : Task). IsTaskNext job row from t result) (sym (set_at n d inside))
-      (asked job row from (Sets (get_or job.sets n d)) result (sym is.through_is ∙ let_through)
-      (subst (λ (f : ℕ). IsHead job.layout row f from result) leaf (subst (λ (l : List (List Owner)). IsHead l row (get_or sets n 0) from result) (sym is.layout_is) head)))
+      grind (arith, set_at, asked, get_or)
 
   pub no_set : (n : ℕ) → n < length sets → through ≡ false → IsTaskNext job row from (task_at job (leaves + n)) None
   no_set n low left_out =
@@ -78,28 +68,21 @@ module _ {job : Job} {layout : List (List Owner)} {leaves : ℕ} {sets : List �
 
 -- the tasks from one of them on are this one and those behind it
 at_task : (tasks : List Task) (n : ℕ) (d : Task) → n < length tasks → drop n tasks ≡ get_or tasks n d ∷ drop (n + 1) tasks
-at_task [] n d low = absurd (let bad : ⊥ = omega (arith, low) in bad)
+at_task [] n d low = absurd (omega (arith, low))
 at_task (t ∷ tasks) zero d low = (let one : 0 + 1 ≡ suc 0 = omega arith in ap (λ (w : ℕ). t ∷ drop w (t ∷ tasks)) (sym one))
-at_task (t ∷ tasks) (suc n) d low =
-    (let one : suc n + 1 ≡ suc (n + 1) = omega arith in at_task tasks n d (omega (arith, low)) ∙ ap (λ (w : ℕ). get_or tasks n d ∷ drop w (t ∷ tasks)) (sym one))
+at_task (t ∷ tasks) (suc n) d low = grind (arith, get_or, (at_task tasks n d (omega (arith, low))))
 
 -- a task with a next byte: its micro-steps there are the next ones
 pub task_found : (job : Job) (row : ℕ) (from place : Place) (task : ℕ) (before : List Micro) (result : Option Place) → task < length (all_tasks job)
     → before ≡ tasks_steps job row from (drop task (all_tasks job)) → IsTaskNext job row from (task_at job task) result → result ≡ Some place
     → before ≡ place_steps row (task_at job task) place ++ tasks_steps job row (byte_behind place) (drop task (all_tasks job))
-task_found job row from place task before result low so_far found is =
-    let cut = at_task (all_tasks job) task (Reads 0) low in
-    let next : IsTaskNext job row from (task_at job task) (Some place) = subst (IsTaskNext job row from (task_at job task)) is found in
-    so_far ∙ ap (tasks_steps job row from) cut ∙ next_place job row from place (task_at job task) (drop (task + 1) (all_tasks job)) next.0 next.1
-    ∙ ap (λ (ts : List Task). place_steps row (task_at job task) place ++ tasks_steps job row (byte_behind place) ts) (sym cut)
+task_found job row from place task before result low so_far found is = grind (arith, at_task, next_place)
 
 -- and one without: what is left is that of the next task
 pub task_done : (job : Job) (row : ℕ) (from : Place) (task : ℕ) (before : List Micro) (result : Option Place) → task < length (all_tasks job)
     → before ≡ tasks_steps job row from (drop task (all_tasks job)) → IsTaskNext job row from (task_at job task) result → result ≡ None
     → before ≡ tasks_steps job row origin (drop (task + 1) (all_tasks job))
-task_done job row from task before result low so_far none is =
-    so_far ∙ ap (tasks_steps job row from) (at_task (all_tasks job) task (Reads 0) low)
-    ∙ next_task job row from (task_at job task) (drop (task + 1) (all_tasks job)) (subst (IsTaskNext job row from (task_at job task)) is none)
+task_done job row from task before result low so_far none is = grind (arith, at_task, next_task)
 
 -- behind the last task nothing is left
 pub none_left : (job : Job) (row : ℕ) (from : Place) (n : ℕ) (before : List Micro) → length (all_tasks job) ≤ n → before ≡ tasks_steps job row from (drop n (all_tasks job)) → before ≡ []
@@ -108,11 +91,7 @@ none_left job row from n before past so_far = so_far ∙ ap (tasks_steps job row
 -- how many tasks there are
 pub task_count : {job : Job} {layout : List (List Owner)} {leaves : ℕ} {sets : List ℕ} {marks : List Bool} {through : Bool} {row : ℕ}
     → IsRowOf job layout leaves sets marks through row → length (all_tasks job) ≡ leaves + length sets
-task_count {job} {layout} {leaves} {sets} is =
-    let reads : length (map Reads (range_with_len 0 (length job.holds))) ≡ length job.holds = length-map-range_with_len Reads 0 (length job.holds) in
-    let more : length (map Sets job.sets) ≡ length job.sets = length-map job.sets Sets in
-    let many : length job.sets ≡ length sets = sym (length-map job.sets (λ (s : Setting). s.leaf)) ∙ ap length is.sets_are in
-    omega (arith, length-append (map Reads (range_with_len 0 (length job.holds))) (map Sets job.sets), reads, more, many, is.leaves_are)
+task_count {job} {layout} {leaves} {sets} is = grind (arith, range_with_len, length-map-range_with_len, length-map, length-append)
 
 -- what is told of a row that is one of these
 pub row_told : {job : Job} {layout : List (List Owner)} {leaves : ℕ} {sets : List ℕ} {asks : ℕ → Asks} {rows : ℕ} → AreRowsOf job layout leaves sets asks rows

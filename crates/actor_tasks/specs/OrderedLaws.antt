@@ -3,6 +3,7 @@ use Rattle.std.proofs.Common.{◌≡◌, Bool, true, false, List, [], ◌∷◌,
 use Rattle.std.specs.Prelude.{◌⊎◌, ◌&&◌, if◌then◌else◌}
 use Rattle.std.proofs.lemmas.Bool.{cond-true, cond-false, and_right, false_from_ne_true}
 use Rattle.std.proofs.lemmas.List.Elements.{All-head, All-tail, All-append}
+use Rattle.std.proofs.Common.{arith}
 
 -- tests that agree on each item pick the same
 pub same_filter : {X : Type 0} (one two : X → Bool) (xs : List X) → All (λ x. one x ≡ two x) xs → filter one xs ≡ filter two xs
@@ -12,8 +13,7 @@ same_filter one two (x ∷ xs) all =
     ∙ ap (λ rest. if two x then x ∷ rest else rest) (same_filter one two xs (All-tail (λ x. one x ≡ two x) x xs all))
 
 and_true : (a b : Bool) → b ≡ true → a ≡ (a && b)
-and_true true b e = sym e
-and_true false b e = refl
+and_true a b e = grind arith
 
 module _ {X : Type 0} (before : X → X → Bool) where
   -- each item stands before all behind it
@@ -60,7 +60,6 @@ module _ {X : Type 0} (before : X → X → Bool) where
           let first : before y x ≡ true = fact_of (λ z. before y z ≡ true) x ys ordered.0 rest in
           let fails : test y ≡ false =
           false_from_ne_true (test y) (λ m. ⊎_elim (λ (e : y ≡ x). irreflexive x (ap (λ (w : X). before w x) (sym e) ∙ first)) (λ (b : before x y ≡ true). asymmetric x y b first) (least y m)) in
-          let picked : filter test (y ∷ ys) ≡ filter test ys = cond-false (test y) (y ∷ filter test ys) (filter test ys) fails in
           let left : filter (λ z. test z && before x z) (y ∷ ys) ≡ filter (λ z. test z && before x z) ys =
           cond-false (test y && before x y) (y ∷ filter (λ z. test z && before x z) ys) (filter (λ z. test z && before x z) ys) (ap (λ (t : Bool). t && before x y) fails) in
-          picked ∙ IH rest ∙ ap (λ (r : List X). x ∷ r) (sym left)
+          (cond-false (test y) (y ∷ filter test ys) (filter test ys) fails) ∙ IH rest ∙ ap (λ (r : List X). x ∷ r) (sym left)

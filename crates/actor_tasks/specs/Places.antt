@@ -1,10 +1,9 @@
 -- The bytes of a leaf in a row from a place on.
 use Rattle.std.specs.Prelude.{ℕ, ◌≡◌, ◌+◌, ◌≤◌, ◌<◌, ◌⊎◌, ◌==◌, ◌&&◌, ◌||◌, not, nat_lt, Bool, List, [], ◌∷◌, filter, Option, Some, None}
 use Rattle.std.specs.List.{list_any}
-use Rattle.places.specs.Layout.{Owner}
-use Rattle.places.specs.Touched.{is_bit_of}
+use Rattle.places.specs.Prelude.{Owner, is_bit_of}
 use Rattle.actor_steps.specs.declared.place.Place.{Place}
-use Rattle.actor_steps.specs.Micro.{all_bytes, owners_of_byte}
+use Rattle.actor_steps.specs.Prelude.{all_bytes, owners_of_byte}
 
 -- whether a byte stands before another: by blob, then byte
 abbrev pub is_before : Place → Place → Bool

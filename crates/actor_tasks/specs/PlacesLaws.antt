@@ -5,10 +5,9 @@ use Rattle.std.specs.List.{flat_map, range_with_len}
 use Rattle.std.proofs.lemmas.Bool.{cases_lt, and_from}
 use Rattle.std.proofs.lemmas.Bool.Decides.{nat_tests}
 use Rattle.std.proofs.lemmas.List.Elements.{All-nil, All-cons, All-append, All-map}
-use Rattle.places.specs.Layout.{Owner}
+use Rattle.places.specs.Prelude.{Owner}
 use Rattle.actor_steps.specs.declared.place.Place.{Place}
-use Rattle.actor_steps.specs.Bytes.{IsByte}
-use Rattle.actor_steps.specs.Micro.{bytes_in, all_bytes, places_of}
+use Rattle.actor_steps.specs.Prelude.{IsByte, bytes_in, all_bytes, places_of}
 use Rattle.actor_tasks.specs.Places.{is_before, origin, byte_behind, byte_holds_bit, places_from}
 use Rattle.actor_tasks.specs.OrderedLaws.{same_filter, IsOrdered, ordered-append, Occurs, split_first}
 
@@ -69,7 +68,7 @@ occurs-byte : (blob a n byte : ℕ) → a ≤ byte → byte < a + n → Occurs i
 occurs-byte blob a zero byte low high = absurd (omega arith)
 occurs-byte blob a (suc n) byte low high =
     ⊎_elim (λ (l : a < byte). inr (occurs-byte blob (a + 1) n byte (omega arith) (omega arith)))
-    (λ (l : byte ≤ a). (let same : a ≡ byte = omega arith in inl (ap (λ (i : ℕ). record { blob = blob; byte = i }) same))) (cases_lt a byte)
+    (λ (l : byte ≤ a). (inl (ap (λ (i : ℕ). record { blob = blob; byte = i }) (omega arith)))) (cases_lt a byte)
 
 occurs-blob : (layout : List (List Owner)) (a n : ℕ) (place : Place) → a ≤ place.blob → place.blob < a + n → place.byte < length (get_or layout place.blob []) / 8
     → Occurs is_before place (flat_map (bytes_in layout) (range_with_len a n))
@@ -99,9 +98,7 @@ places_from-first layout row leaf from first there holds low least =
     split_first is_before irreflexive asymmetric (λ place. byte_holds_bit layout row leaf place && not (is_before place from)) (all_bytes layout) first (all-ordered layout) there
     (and_from (byte_holds_bit layout row leaf first) (not (is_before first from)) holds (ap not low)) least
     ∙ ap (λ rest. first ∷ rest)
-    (same_filter (λ y. (byte_holds_bit layout row leaf y && not (is_before y from)) && is_before first y)
-    (λ y. byte_holds_bit layout row leaf y && not (is_before y (byte_behind first))) (all_bytes layout)
-    (λ k d inside. rest_test (byte_holds_bit layout row leaf (get_or (all_bytes layout) k d)) first from (get_or (all_bytes layout) k d) low))
+    (grind (arith, same_filter, rest_test, get_or))
 
 -- from the first byte on these are all
 pub places_from-origin : (layout : List (List Owner)) (row leaf : ℕ) → places_from layout row leaf origin ≡ places_of layout row leaf

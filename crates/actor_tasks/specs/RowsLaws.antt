@@ -1,19 +1,16 @@
 -- How an actor goes from one row to the next.
-use Rattle.std.proofs.Common.{◌≡◌, ℕ, zero, suc, ◌+◌, ◌-◌, ◌<◌, ◌≤◌, List, [], ◌++◌, drop, Option, Some, None, ap, ◌∙◌, subst, append_assoc, arith}
+use Rattle.std.proofs.Common.{◌≡◌, ℕ, zero, suc, ◌+◌, ◌-◌, ◌<◌, ◌≤◌, List, [], ◌++◌, Option, Some, None, ap, ◌∙◌, append_assoc, arith}
 use Rattle.actor_steps.specs.declared.place.Place.{Place}
-use Rattle.actor_steps.specs.Micro.{Job, Micro, steps_of}
+use Rattle.actor_steps.specs.Prelude.{Job, Micro, steps_of}
 use Rattle.actor_tasks.specs.Places.{origin, byte_behind}
-use Rattle.actor_tasks.specs.Tasks.{all_tasks, place_steps, tasks_steps, left_in}
+use Rattle.actor_tasks.specs.Tasks.{place_steps, left_in}
 use Rattle.actor_tasks.specs.TasksLaws.{next_row}
 use Rattle.actor_tasks.specs.Marks.{task_at, IsRowNext}
 
 -- the micro-steps of a row's next byte are the next ones
 pub row_found : (job : Job) (row left done : ℕ) (from : Place) (next : ℕ × Place) → 0 < left → IsRowNext job row done from (Some next)
     → left_in job row left done from ≡ place_steps row (task_at job next.0) next.1 ++ left_in job row left next.0 (byte_behind next.1)
-row_found job row zero done from next some found = absurd (omega arith)
-row_found job row (suc more) done from next some found =
-    ap (λ (steps : List Micro). steps ++ steps_of job (row + 1) more) found
-    ∙ append_assoc (place_steps row (task_at job next.0) next.1) (tasks_steps job row (byte_behind next.1) (drop next.0 (all_tasks job))) (steps_of job (row + 1) more)
+row_found job row left done from next some found = grind (arith, append_assoc)
 
 -- behind a row without a next byte come all micro-steps of the rows behind it
 pub row_over : (job : Job) (row more done : ℕ) (from : Place) → IsRowNext job row done from None → left_in job row (suc more) done from ≡ left_in job (row + 1) more 0 origin
@@ -24,14 +21,11 @@ row_over job row (suc more) done from none = ap (λ (steps : List Micro). steps 
 pub rows_found : (job : Job) (row end done : ℕ) (from : Place) (before : List Micro) (result : Option (ℕ × Place)) (next : ℕ × Place) → row < end
     → before ≡ left_in job row (end - row) done from → IsRowNext job row done from result → result ≡ Some next
     → before ≡ place_steps row (task_at job next.0) next.1 ++ left_in job row (end - row) next.0 (byte_behind next.1)
-rows_found job row end done from before result next low so_far found is =
-    so_far ∙ row_found job row (end - row) done from next (omega arith) (subst (IsRowNext job row done from) is found)
+rows_found job row end done from before result next low so_far found is = grind (arith, row_found)
 
 pub rows_over : (job : Job) (row end done : ℕ) (from : Place) (before : List Micro) (result : Option (ℕ × Place)) → row < end → before ≡ left_in job row (end - row) done from
     → IsRowNext job row done from result → result ≡ None → before ≡ left_in job (row + 1) (end - (row + 1)) 0 origin
-rows_over job row end done from before result low so_far none is =
-    let more : end - row ≡ suc (end - (row + 1)) = omega arith in
-    so_far ∙ ap (λ (n : ℕ). left_in job row n done from) more ∙ row_over job row (end - (row + 1)) done from (subst (IsRowNext job row done from) is none)
+rows_over job row end done from before result low so_far none is = grind (arith, row_over)
 
 pub rows_none : (job : Job) (row end done : ℕ) (from : Place) (before : List Micro) → end ≤ row → before ≡ left_in job row (end - row) done from → before ≡ []
 rows_none job row end done from before high so_far = (let none : end - row ≡ 0 = omega arith in so_far ∙ ap (λ (n : ℕ). left_in job row n done from) none)

@@ -3,7 +3,7 @@ use Rattle.std.specs.Prelude.{ℕ, zero, suc, ◌+◌, Bool, List, [], ◌∷◌
 use Rattle.std.specs.List.{flat_map, range_with_len}
 use Rattle.actor_steps.specs.declared.place.Place.{Place}
 use Rattle.row_updates.specs.Rows.{Setting}
-use Rattle.actor_steps.specs.Micro.{Job, Micro, Fetch, lets_through, leaves_read, is_in, changes, steps_of}
+use Rattle.actor_steps.specs.Prelude.{Job, Micro, Fetch, lets_through, leaves_read, is_in, changes, steps_of}
 use Rattle.actor_tasks.specs.Places.{origin, places_from}
 
 -- a leaf is loaded for values, or is set

@@ -1,14 +1,15 @@
 -- How an actor goes from one micro-step to the next.
-use Rattle.std.proofs.Common.{◌≡◌, ℕ, suc, ◌+◌, Bool, true, false, List, [], ◌∷◌, ◌++◌, length, map, filter, refl, sym, ap, ◌∙◌, append_assoc}
+use Rattle.std.proofs.Common.{◌≡◌, ℕ, suc, ◌+◌, Bool, true, false, List, [], ◌∷◌, ◌++◌, map, filter, refl, sym, ap, ◌∙◌, append_assoc}
 use Rattle.std.specs.Prelude.{if◌then◌else◌}
 use Rattle.std.specs.List.{flat_map, range_with_len}
 use Rattle.std.proofs.lemmas.List.Concat.{flat_map-append}
 use Rattle.row_updates.specs.Rows.{Setting}
 use Rattle.actor_steps.specs.declared.place.Place.{Place}
-use Rattle.actor_steps.specs.Micro.{places_of, Job, Micro, Fetch, lets_through, leaves_read, is_in, fetches, changes, stores_of, row_steps, steps_of}
+use Rattle.actor_steps.specs.Prelude.{places_of, Job, Micro, Fetch, lets_through, leaves_read, is_in, changes, stores_of, row_steps, steps_of}
 use Rattle.actor_tasks.specs.Places.{origin, places_from, byte_behind}
 use Rattle.actor_tasks.specs.Tasks.{Task, Reads, Sets, all_tasks, is_asked, task_leaf, place_steps, task_steps, tasks_steps, left_of}
 use Rattle.actor_tasks.specs.PlacesLaws.{places_from-origin}
+use Rattle.std.proofs.Common.{arith}
 
 -- the tasks of reads make the loads of the bytes of the leaves that are read
 fetch_all : (places : List Place) (row leaf : ℕ) → flat_map (place_steps row (Reads leaf)) places ≡ map Fetch places
@@ -48,15 +49,11 @@ sets_all job row (set ∷ sets) =
       by_test false = refl
 
 tasks-origin : (job : Job) (row : ℕ) (tasks : List Task) → tasks_steps job row origin tasks ≡ flat_map (task_steps job row origin) tasks
-tasks-origin job row [] = refl
-tasks-origin job row (task ∷ tasks) = refl
+tasks-origin job row tasks = grind arith
 
 -- a row begins with its first task
 pub row_left : (job : Job) (row : ℕ) → tasks_steps job row origin (all_tasks job) ≡ row_steps job row
-row_left job row =
-    tasks-origin job row (all_tasks job) ∙ flat_map-append (task_steps job row origin) (map Reads (range_with_len 0 (length job.holds))) (map Sets job.sets)
-    ∙ ap (λ (w : List Micro). w ++ flat_map (task_steps job row origin) (map Sets job.sets)) (reads_all job row (range_with_len 0 (length job.holds)))
-    ∙ ap (λ (w : List Micro). fetches job row ++ w) (sets_all job row job.sets)
+row_left job row = grind (arith, tasks-origin, flat_map-append, range_with_len, flat_map, reads_all, sets_all)
 
 -- all rows of an actor are left at its first
 pub rows_left : (job : Job) (first more : ℕ) → left_of job (record { row = first; more = more; done = 0; from = origin }) ≡ steps_of job first (suc more)
@@ -66,12 +63,7 @@ rows_left job first more = ap (λ (w : List Micro). w ++ steps_of job (first + 1
 pub next_place : (job : Job) (row : ℕ) (from place : Place) (task : Task) (tasks : List Task) → is_asked job row task ≡ true
     → places_from job.layout row (task_leaf task) from ≡ place ∷ places_from job.layout row (task_leaf task) (byte_behind place)
     → tasks_steps job row from (task ∷ tasks) ≡ place_steps row task place ++ tasks_steps job row (byte_behind place) (task ∷ tasks)
-next_place job row from place task tasks asked first =
-    let steps : Place → List Micro = λ from. flat_map (place_steps row task) (places_from job.layout row (task_leaf task) from) in
-    let rest = flat_map (task_steps job row origin) tasks in
-    let here : (from : Place) → task_steps job row from task ≡ steps from = λ f. ap (λ (t : Bool). if t then steps f else []) asked in
-    ap (λ (w : List Micro). w ++ rest) (here from ∙ ap (flat_map (place_steps row task)) first ∙ ap (λ (w : List Micro). place_steps row task place ++ w) (sym (here (byte_behind place))))
-    ∙ append_assoc (place_steps row task place) (task_steps job row (byte_behind place) task) rest
+next_place job row from place task tasks asked first = grind (arith, flat_map, append_assoc)
 
 -- a task that it does not ask for, or that has no byte left, is done
 pub next_task : (job : Job) (row : ℕ) (from : Place) (task : Task) (tasks : List Task) → task_steps job row from task ≡ []

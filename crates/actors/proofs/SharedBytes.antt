@@ -1,7 +1,6 @@
 -- The first shared byte of a layout, blob after blob.
-use Rattle.actors.proofs.Imports.{◌≡◌, ℕ, ◌+◌, ◌-◌, ◌*◌, ◌/◌, ◌<◌, Bool, List, [], ◌∷◌, length, map, get_or, take, drop, Option, Some, None, refl, ap, option_map, flat_map, range_with_len, fun_ext, length-map, drop-map, take-map, Owner, Pad, Bit, RunOwner, run_owner, Place, bytes_in, owners_of_byte, is_shared, first_of_all, owner_shown, shown_in_byte}
+use Rattle.actors.proofs.Imports.{◌≡◌, ℕ, ◌+◌, ◌-◌, ◌*◌, ◌/◌, ◌<◌, Bool, List, [], ◌∷◌, length, map, get_or, take, drop, Option, Some, None, refl, ap, option_map, flat_map, range_with_len, fun_ext, length-map, drop-map, take-map, Owner, Pad, Bit, RunOwner, run_owner, Place, bytes_in, owners_of_byte, is_shared, first_of_all, owner_shown, shown_in_byte, arith}
 use Rattle.actors.proofs.Firsts.{first-map, first-front, first-back, range_at}
-use Rattle.std.proofs.Common.{arith}
 
 -- the owners of bits, as the code has them, are told apart as they are
 shown_back : (owners : List Owner) → map owner_shown (map run_owner owners) ≡ owners

@@ -1,9 +1,7 @@
 -- Runs after turns.
-use Rattle.std.proofs.Common.{◌≡◌, ℕ, List, ◌++◌, sym, ap}
-use Rattle.actor_steps.specs.Confluence.{State}
-use Rattle.actor_steps.specs.Jobs.{fresh_of}
-use Rattle.actor_steps.specs.Micro.{Micro, Registers}
-use Rattle.actor_steps.specs.ScheduleLaws.{run_by-append}
+use Rattle.std.specs.Prelude.{◌≡◌, ℕ, List, ◌++◌}
+use Rattle.record_dim.specs.Std.{sym, ap}
+use Rattle.actor_steps.specs.Prelude.{State, fresh_of, Micro, Registers, run_by-append}
 use Rattle.actors.specs.ActorRuns.{Run, after_turns, job_in}
 
 -- one schedule behind another

@@ -1,8 +1,7 @@
 -- What the plain update gives and reads.
 use Rattle.std.specs.Prelude.{ℕ, ◌≡◌, ◌+◌, ◌≤◌, ℤ, List, length, Option, Result, Ok, Err}
-use Rattle.expr_lang.specs.Terms.{Term}
-use Rattle.views.specs.Tables.{Table, after_log}
-use Rattle.views.specs.Tallies.{reads_in}
+use Rattle.expr_lang.specs.Prelude.{Term}
+use Rattle.views.specs.Prelude.{Table, after_log, reads_in}
 use Rattle.row_updates.specs.declared.fault.UpdateFault.{UpdateFault}
 use Rattle.row_updates.specs.Logs.{update_log}
 use Rattle.row_updates.specs.Rows.{Setting}

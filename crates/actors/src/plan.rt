@@ -4,12 +4,10 @@ ghost use Rattle.std.specs.List.{flat_map};
 ghost use Rattle.linearize.specs.Slots.{index_at};
 ghost use Rattle.row_updates.specs.Logs.{row_log, update_log};
 ghost use Rattle.row_updates.specs.Rows.{IsBoundOver, IsSetOf, filter_term, setting_of, updated_row, updated_of};
-ghost use Rattle.views.specs.Tables.{answer_of, kept_of, after_log, leaf_count_of};
-ghost use Rattle.actor_steps.specs.Jobs.{job_of, memory_of};
-ghost use Rattle.actor_steps.specs.Micro.{test_of, filter_reads, set_reads};
+ghost use Rattle.views.specs.Prelude.{answer_of, kept_of, after_log, leaf_count_of, reads_in};
+ghost use Rattle.actor_steps.specs.Prelude.{job_of, memory_of, test_of, filter_reads, set_reads};
 ghost use Rattle.actors.specs.Rows.{IsRowPlanOf, ArePlans, marked};
 ghost use Rattle.actors.specs.Updates.{HasRead, IsUpdated, IsUpdatedRow, IsMet};
-ghost use Rattle.views.specs.Tallies.{reads_in};
 
 use crate::fault::ActorFault;
 use crate::memory::{laws_of_view, read_held};

@@ -2,15 +2,11 @@
 ghost use Rattle.std.specs.Prelude.{ℤ, List, ◌≡◌, ◌<◌, ◌≤◌, ◌+◌, ◌*◌, All, None, false, [], ◌∷◌, IfOk, IfErr, OnOk, OnErr, IfSome, length, map, sum_by, slice_index_or};
 ghost use Rattle.row_updates.specs.Logs.{update_log};
 ghost use Rattle.row_updates.specs.Rows.{IsBoundOver, IsSetOf, filter_term, setting_of, updated_of};
-ghost use Rattle.views.specs.Tables.{after_log, owners_of};
-ghost use Rattle.actor_steps.specs.Cuts.{AreCuts, actor_of};
-ghost use Rattle.actor_steps.specs.Agree.{IsParted};
-ghost use Rattle.actor_steps.specs.Schedules.{turns_left};
-ghost use Rattle.actor_steps.specs.Shared.{shared_byte};
+ghost use Rattle.views.specs.Prelude.{after_log, owners_of, reads_in};
+ghost use Rattle.actor_steps.specs.Prelude.{AreCuts, actor_of, IsParted, turns_left, shared_byte};
 ghost use Rattle.actors.specs.RunFields.{IsReached};
 ghost use Rattle.actors.specs.ActorRuns.{IsDone, IsPlain, IsStoredBack, without_counts, started_run, after_turns, finished_from, rest_in, has_any};
 ghost use Rattle.actors.specs.Updates.{HasRead, IsMet, IsUpdated};
-ghost use Rattle.views.specs.Tallies.{reads_in};
 
 use crate::actor::{Actor, turn_of};
 use crate::back::store_rows;

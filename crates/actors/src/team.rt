@@ -1,8 +1,6 @@
 // The actors of a run before their first micro-step, and the leaves that it sets.
 ghost use Rattle.std.specs.Prelude.{ℕ, ◌≡◌, ◌+◌, IfOk, length, map};
-ghost use Rattle.actor_steps.specs.Cuts.{AreCuts, parts_from, team_of};
-ghost use Rattle.actor_steps.specs.Jobs.{fresh_of};
-ghost use Rattle.actor_steps.specs.Micro.{Job};
+ghost use Rattle.actor_steps.specs.Prelude.{AreCuts, parts_from, team_of, fresh_of, Job};
 ghost use Rattle.actors.specs.RunFields.{AreStanding};
 ghost use Rattle.actors.specs.Standing.{IsFresh, actor_shown};
 

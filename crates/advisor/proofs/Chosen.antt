@@ -1,6 +1,5 @@
 -- Cells that are chosen one after another.
-use Rattle.advisor.proofs.Imports.{◌≡◌, ℕ, ◌+◌, ◌<◌, Bool, true, false, List, [], ◌∷◌, ◌++◌, All, get_or, arith, ◌||◌, list_any, ne_eqb, eq-eqb, cases_eq, All-push, list_any-append, list_any_none}
-use Rattle.std.proofs.Common.{◌==◌}
+use Rattle.advisor.proofs.Imports.{◌≡◌, ℕ, ◌+◌, ◌<◌, Bool, true, false, List, [], ◌∷◌, ◌++◌, All, get_or, arith, ◌||◌, list_any, ne_eqb, eq-eqb, cases_eq, All-push, list_any-append, list_any_none, ◌==◌}
 
 -- of the first so many cells those are in the list that are wanted
 pub record AreChosen (wanted : ℕ → Bool) (count : ℕ) (chosen : List ℕ) : Type 0 where

@@ -1,6 +1,5 @@
 -- What the answers of a mapping's constructor say of an expression with the limits of granules.
-use Rattle.advisor.proofs.Imports.{◌≡◌, ℕ, ◌*◌, ◌^◌, ◌<◌, ◌≤◌, ◌⊎◌, ⊎_elim, inl, inr, Bool, true, false, List, length, Ok, Err, refl, sym, nat_lt, nat_le, sum_by, Result, true≢false, or_left, or_right, or_from, lt-ltb, le-ltb, leb-false, cases_lt, Fields, Owner, Cell, Term, BadMapping, NotFull, good_parts, layout_of, most_slots, accepted, not_full, IsTooBigFor, IsRefusal, MakeMap, Bad, TooBig, NoMemory, granules_in, blob_lengths, is_over, limited, judged}
-use Rattle.std.proofs.Common.{arith}
+use Rattle.advisor.proofs.Imports.{◌≡◌, ℕ, ◌*◌, ◌^◌, ◌<◌, ◌≤◌, ◌⊎◌, ⊎_elim, inl, inr, Bool, true, false, List, length, Ok, Err, refl, sym, nat_lt, nat_le, sum_by, Result, true≢false, or_left, or_right, or_from, lt-ltb, le-ltb, leb-false, cases_lt, Fields, Owner, Cell, Term, BadMapping, NotFull, good_parts, layout_of, most_slots, accepted, not_full, IsTooBigFor, IsRefusal, MakeMap, Bad, TooBig, NoMemory, granules_in, blob_lengths, is_over, limited, judged, arith}
 
 limited_bad : (over : Bool) (bad : BadMapping) → limited over (Err bad) ≡ Err (Bad bad)
 limited_bad over bad = grind arith

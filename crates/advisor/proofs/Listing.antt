@@ -1,6 +1,5 @@
 -- Listed expressions, one after another.
-use Rattle.advisor.proofs.Imports.{◌≡◌, ℕ, ◌+◌, ◌<◌, ◌≤◌, List, length, map, get_or, drop, add-one, drop-cons, Option, None, Ok, sym, ap, ◌∙◌, Result, drop_all, Term, Count, Heat, uncounted, IsBuiltTerm, MakeMap, AdviseFault, fault_or, first_judged_fault}
-use Rattle.std.proofs.Common.{arith}
+use Rattle.advisor.proofs.Imports.{◌≡◌, ℕ, ◌+◌, ◌<◌, ◌≤◌, List, length, map, get_or, drop, add-one, drop-cons, Option, None, Ok, sym, ap, ◌∙◌, Result, drop_all, Term, Count, Heat, uncounted, IsBuiltTerm, MakeMap, AdviseFault, fault_or, first_judged_fault, arith}
 
 -- an expression that is built is so without its counters
 pub built_uncounted : (term : Term) → IsBuiltTerm term → IsBuiltTerm (uncounted term)

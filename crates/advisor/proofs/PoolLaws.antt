@@ -1,7 +1,6 @@
 -- Splits that are put behind other candidates.
-use Rattle.advisor.proofs.Imports.{◌≡◌, ℕ, ◌+◌, ◌<◌, ◌≤◌, ◌++◌, Bool, false, All, List, [], ◌∷◌, length, get_or, take, Some, None, Ok, sym, ap, ◌∙◌, filter, is_ok, Result, flat_map, append_assoc, append-nil, take_more, take_all, length-map, filter-append, flat_map-append, PathStep, leaves, Cell, Term, Split, term_of, leaf_cells, layout_of, holds_by, cells_under, cells_beside, length-holds, MakeMap, length-leaf_cells, Table, leaf_types_of, Candidate, Pass, judge, cost_of, judged, part_cost, leaves_in, IsPriced, terms_in, IsHold, IsSideCost}
+use Rattle.advisor.proofs.Imports.{◌≡◌, ℕ, ◌+◌, ◌<◌, ◌≤◌, ◌++◌, Bool, false, All, List, [], ◌∷◌, length, get_or, take, Some, None, Ok, sym, ap, ◌∙◌, filter, is_ok, Result, flat_map, append_assoc, append-nil, take_more, take_all, length-map, filter-append, flat_map-append, PathStep, leaves, Cell, Term, Split, term_of, leaf_cells, layout_of, holds_by, cells_under, cells_beside, length-holds, MakeMap, length-leaf_cells, Table, leaf_types_of, Candidate, Pass, judge, cost_of, judged, part_cost, leaves_in, IsPriced, terms_in, IsHold, IsSideCost, arith}
 use Rattle.advisor.proofs.SplitLaws.{sides_judged, split_cost}
-use Rattle.std.proofs.Common.{arith}
 
 -- ---- what passes a test, of lists one after another
 

@@ -1,6 +1,5 @@
 -- What a split is where its sides are known: whether it is accepted, its limits and what it costs.
-use Rattle.advisor.proofs.Imports.{◌≡◌, ℕ, ◌+◌, ◌*◌, ◌/◌, ◌^◌, ◌≤◌, Bool, true, false, List, [], ◌∷◌, length, map, get_or, max, None, Ok, Err, refl, ap, ◌∙◌, arith, cond, ◌||◌, not, nat_lt, sum_by, filter, Result, if◌then◌else◌, enumerate_from, option_or, ltb-false, le-ltb, or_from, length-map, map-map, sum_by-cons, sum_by-append, fold-map, mul-add, LeafType, PathStep, Fields, is_under, Owner, Bit, renamed, recelled, numbers_of, split, Cell, Term, Split, Byteswap, Bytesplit, Change, Count, Heat, depth_of, has_counter, counts_once, bad_number, answered, BadMapping, TooDeep, Counter, layout_of, most_slots, bad_side, bad_field, not_full, else_for, accepted, leaf_cells, side_of, cells_under, cells_beside, granules_of, granules_in, blob_lengths, Pass, touched, touched_split, reads, cost, part_cost, leaves_in, is_over, limited, judged, or_parts, not-true}
-use Rattle.std.specs.Prelude.{Option}
+use Rattle.advisor.proofs.Imports.{◌≡◌, ℕ, ◌+◌, ◌*◌, ◌/◌, ◌^◌, ◌≤◌, Bool, true, false, List, [], ◌∷◌, length, map, get_or, max, None, Ok, Err, refl, ap, ◌∙◌, arith, cond, ◌||◌, not, nat_lt, sum_by, filter, Result, if◌then◌else◌, enumerate_from, option_or, ltb-false, le-ltb, or_from, length-map, map-map, sum_by-cons, sum_by-append, fold-map, mul-add, LeafType, PathStep, Fields, is_under, Owner, Bit, renamed, recelled, numbers_of, split, Cell, Term, Split, Byteswap, Bytesplit, Change, Count, Heat, depth_of, has_counter, counts_once, bad_number, answered, BadMapping, TooDeep, Counter, layout_of, most_slots, bad_side, bad_field, not_full, else_for, accepted, leaf_cells, side_of, cells_under, cells_beside, granules_of, granules_in, blob_lengths, Pass, touched, touched_split, reads, cost, part_cost, leaves_in, is_over, limited, judged, or_parts, not-true, Option}
 
 -- ---- what is accepted has none of the causes
 

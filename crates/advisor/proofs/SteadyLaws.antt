@@ -1,6 +1,5 @@
 -- Slots whose pieces follow each other by at most a granule touch the granules of one long piece.
-use Rattle.advisor.proofs.Imports.{◌≡◌, ℕ, zero, suc, ◌+◌, ◌-◌, ◌*◌, ◌/◌, ◌%◌, ◌<◌, ◌≤◌, ◌^◌, Bool, true, List, ◌∷◌, ◌++◌, sym, ap, ◌∙◌, ⊎_elim, get_or, arith, ◌||◌, nat_lt, list_any, range_with_len, mod-lt, cases_lt, and_from, and_parts, eq-eqb, eqb-true, lt-ltb, ltb-true, get_or-range_with_len, length-range_with_len, Any-from_list_any, list_any_at, list_any-append, div-mul-add, mod-mul-add, div-add-mod', Order, is_in_granule, Piece, HeatCounts, IsInside, begin_in, piece_in, PieceRule, IsSteady, HasSteps, is_run_touched, are_rows_touched, long_piece, same_tests}
-use Rattle.std.proofs.Common.{rules}
+use Rattle.advisor.proofs.Imports.{◌≡◌, ℕ, zero, suc, ◌+◌, ◌-◌, ◌*◌, ◌/◌, ◌%◌, ◌<◌, ◌≤◌, ◌^◌, Bool, true, List, ◌∷◌, ◌++◌, sym, ap, ◌∙◌, ⊎_elim, get_or, arith, ◌||◌, nat_lt, list_any, range_with_len, mod-lt, cases_lt, and_from, and_parts, eq-eqb, eqb-true, lt-ltb, ltb-true, get_or-range_with_len, length-range_with_len, Any-from_list_any, list_any_at, list_any-append, div-mul-add, mod-mul-add, div-add-mod', Order, is_in_granule, Piece, HeatCounts, IsInside, begin_in, piece_in, PieceRule, IsSteady, HasSteps, is_run_touched, are_rows_touched, long_piece, same_tests, rules}
 
 -- ---- which slots are
 

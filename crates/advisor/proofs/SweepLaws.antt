@@ -1,6 +1,5 @@
 -- The granules that hold a bit of a cell are those that its rule touches in the slots of all rows.
-use Rattle.advisor.proofs.Imports.{◌≡◌, ℕ, zero, suc, ◌+◌, ◌<◌, ◌≤◌, Bool, true, false, List, All, Option, Some, None, length, get_or, refl, sym, ap, ◌∙◌, subst, arith, ◌&&◌, ◌||◌, is_some, list_any, range_with_len, true≢false, eq-eqb, eqb-true, and_parts, and_from, length-map, get_or-map, get_or-range_with_len, length-range_with_len, Any-from_list_any, list_any_at, indices, Order, row_at, slot_at, slot_count, row_at-slot_at, slot_at-row_at, slot_at_below, Owner, IsLaidOut, IsLocated, IsPiece, is_in_granule, is_hot, pieces_hot, piece_in, pieces_in, PieceRule, IsRuleOf, Rule, HeatCounts, IsInside, HasGranules, piece_inside, has_row, holds_cell, IsTouchedBy, same_tests, any_map, touched_hot, are_rows_touched, are_slots_touched}
-use Rattle.std.proofs.Common.{◌==◌}
+use Rattle.advisor.proofs.Imports.{◌≡◌, ℕ, zero, suc, ◌+◌, ◌<◌, ◌≤◌, Bool, true, false, List, All, Option, Some, None, length, get_or, refl, sym, ap, ◌∙◌, subst, arith, ◌&&◌, ◌||◌, is_some, list_any, range_with_len, true≢false, eq-eqb, eqb-true, and_parts, and_from, length-map, get_or-map, get_or-range_with_len, length-range_with_len, Any-from_list_any, list_any_at, indices, Order, row_at, slot_at, slot_count, row_at-slot_at, slot_at-row_at, slot_at_below, Owner, IsLaidOut, IsLocated, IsPiece, is_in_granule, is_hot, pieces_hot, piece_in, pieces_in, PieceRule, IsRuleOf, Rule, HeatCounts, IsInside, HasGranules, piece_inside, has_row, holds_cell, IsTouchedBy, same_tests, any_map, touched_hot, are_rows_touched, are_slots_touched, ◌==◌}
 use Rattle.advisor.proofs.WarmLaws.{any_swap}
 
 -- one of the first numbers passes a test

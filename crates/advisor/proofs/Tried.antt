@@ -1,6 +1,5 @@
 -- Ways of storing leaves that are tried, and what they say of candidates.
-use Rattle.advisor.proofs.Imports.{◌≡◌, ℕ, ◌+◌, ◌<◌, Bool, true, false, ℤ, List, [], ◌∷◌, ◌++◌, All, length, map, get_or, refl, sym, ap, ◌∙◌, subst, arith, ◌==◌, ◌||◌, not, if◌then◌else◌, list_all, range_with_len, true≢false, cases_eq, eq-eqb, eqb-true, and_parts, and_from, list_any-append, list_all-map, Any-from_list_any, AllPass-from_list_all, list_all-from_AllPass, get_or-range_with_len, length-range_with_len, All-push, All-map, Fields, LeafType, least_of, greatest_of, least_in, greatest_in, Hold, Strict, is_between, StoreFault, Table, leaf_count_of, keeps, stays, leaf_stays, all_stay, suits, StoreMode, hold_at, term_of, Candidate, Trial, HasKnownHolds, IsTrial, IsFresh, HasTrials, same_hold, is_for, has_trial, tried_all, has_not_failed, none_failed, same_tests}
-use Rattle.std.specs.Prelude.{Ok, Err}
+use Rattle.advisor.proofs.Imports.{◌≡◌, ℕ, ◌+◌, ◌<◌, Bool, true, false, ℤ, List, [], ◌∷◌, ◌++◌, All, length, map, get_or, refl, sym, ap, ◌∙◌, subst, arith, ◌==◌, ◌||◌, not, if◌then◌else◌, list_all, range_with_len, true≢false, cases_eq, eq-eqb, eqb-true, and_parts, and_from, list_any-append, list_all-map, Any-from_list_any, AllPass-from_list_all, list_all-from_AllPass, get_or-range_with_len, length-range_with_len, All-push, All-map, Fields, LeafType, least_of, greatest_of, least_in, greatest_in, Hold, Strict, is_between, StoreFault, Table, leaf_count_of, keeps, stays, leaf_stays, all_stay, suits, StoreMode, hold_at, term_of, Candidate, Trial, HasKnownHolds, IsTrial, IsFresh, HasTrials, same_hold, is_for, has_trial, tried_all, has_not_failed, none_failed, same_tests, Ok, Err}
 use Rattle.advisor.proofs.Cheapest.{same_images}
 
 -- a store in a strict view

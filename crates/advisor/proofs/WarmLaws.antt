@@ -1,6 +1,5 @@
 -- Granules that were accessed, after accesses of which each touches some.
-use Rattle.advisor.proofs.Imports.{◌≡◌, ℕ, suc, ◌<◌, ◌≤◌, ◌*◌, Bool, true, false, List, [], ◌∷◌, map, length, get_or, replicate, refl, sym, ap, ◌∙◌, cond, take, drop, arith, ◌||◌, count_by, if◌then◌else◌, list_any, range_with_len, fun_ext, ne_eqb, same_number_lists, length-map, length-replicate, get_or-map, get_or-replicate, get_or-range_with_len, length-range_with_len, Any-from_list_any, list_any_at, list_any_none, sum_by-cons, sum-map, sum_by-le-sum_by, count_by-le-length, Owner, is_touched, Piece, HeatCounts, IsInside, granules_of, granules_in, heated_by, no_heat, length-warmed, length-heated, get-warmed, get-warmed_blob, HasGranules, blob_lengths, blob_granules, is_bit_in, holds_bit, holds_cell, touched_blob, touched, same_tests, is_warm, IsCounted, warm_at, IsWarmed, or-false}
-use Rattle.std.proofs.Common.{◌==◌}
+use Rattle.advisor.proofs.Imports.{◌≡◌, ℕ, suc, ◌<◌, ◌≤◌, ◌*◌, Bool, true, false, List, [], ◌∷◌, map, length, get_or, replicate, refl, sym, ap, ◌∙◌, cond, take, drop, arith, ◌||◌, count_by, if◌then◌else◌, list_any, range_with_len, fun_ext, ne_eqb, same_number_lists, length-map, length-replicate, get_or-map, get_or-replicate, get_or-range_with_len, length-range_with_len, Any-from_list_any, list_any_at, list_any_none, sum_by-cons, sum-map, sum_by-le-sum_by, count_by-le-length, Owner, is_touched, Piece, HeatCounts, IsInside, granules_of, granules_in, heated_by, no_heat, length-warmed, length-heated, get-warmed, get-warmed_blob, HasGranules, blob_lengths, blob_granules, is_bit_in, holds_bit, holds_cell, touched_blob, touched, same_tests, is_warm, IsCounted, warm_at, IsWarmed, or-false, ◌==◌}
 use Rattle.std.specs.List.{sum_by}
 use Rattle.instrument.specs.Counters.{raised}
 

@@ -1,7 +1,7 @@
 -- How many granules of some bytes hold a bit of some cells.
 use Rattle.std.specs.Prelude.{ℕ, ◌*◌, ◌/◌, ◌==◌, Bool, false, List, [], length, take, drop, sum_by, count_by, slice_index_or}
-use Rattle.std.specs.List.{list_any, range_with_len}
-use Rattle.places.specs.Layout.{Owner, Pad, Bit}
+use Rattle.record_dim.specs.Std.{list_any, range_with_len}
+use Rattle.places.specs.Prelude.{Owner, Pad, Bit}
 use Rattle.instrument.specs.Counters.{granules_of}
 
 -- whether an owner is a bit of a cell that passes a test

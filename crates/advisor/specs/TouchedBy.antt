@@ -1,7 +1,6 @@
 -- By which accesses a granule is touched.
-use Rattle.std.proofs.Common.{◌≡◌, ℕ, ◌<◌, Bool, true, List, [], get_or}
-use Rattle.places.specs.Layout.{Owner}
-use Rattle.places.specs.Touched.{is_hot}
+use Rattle.std.specs.Prelude.{◌≡◌, ℕ, ◌<◌, Bool, true, List, [], get_or}
+use Rattle.places.specs.Prelude.{Owner, is_hot}
 use Rattle.advisor.specs.Touched.{holds_bit}
 
 -- an access to a cell that passes a test, and touches a granule of a blob

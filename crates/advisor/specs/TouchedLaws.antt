@@ -1,16 +1,7 @@
 -- The granules that are touched are those that the accesses to some cells in all rows touch, and a split's are those of its sides.
-use Rattle.std.proofs.Common.{◌≡◌, ℕ, suc, ◌+◌, ◌*◌, ◌/◌, ◌<◌, ◌==◌, Bool, true, List, [], ◌∷◌, map, take, drop, length, get_or, refl, sym, ap, ◌∙◌, arith}
-use Rattle.std.specs.Prelude.{◌||◌, not, count_by}
-use Rattle.std.specs.List.{list_any, range_with_len}
-use Rattle.std.proofs.Math.Path.{fun_ext}
-use Rattle.std.proofs.lemmas.Bool.{true≢false, and_from, eq-eqb}
-use Rattle.std.proofs.lemmas.List.{length-map, take-map, drop-map, length-take, get_or-take, get_or-drop, get_or_default}
-use Rattle.std.proofs.lemmas.List.Sums.{sum_by-append, sum_by-cons}
-use Rattle.std.proofs.lemmas.List.Folds.{Any-from_list_any, list_any_at}
-use Rattle.places.specs.Layout.{Owner, Pad, Bit, owner_at}
-use Rattle.places.specs.Lawful.{IsLaidOut, IsBitOf}
-use Rattle.places.specs.Rules.{renamed, recelled, numbers_of, split}
-use Rattle.places.specs.Touched.{is_bit_of}
+use Rattle.std.specs.Prelude.{◌≡◌, ℕ, suc, ◌+◌, ◌*◌, ◌/◌, ◌<◌, ◌==◌, Bool, true, List, [], ◌∷◌, map, take, drop, length, get_or, refl, ◌||◌, not, count_by}
+use Rattle.record_dim.specs.Std.{sym, ap, ◌∙◌, arith, list_any, range_with_len, fun_ext, true≢false, and_from, eq-eqb, length-map, take-map, drop-map, length-take, get_or-take, get_or-drop, get_or_default, sum_by-append, sum_by-cons, Any-from_list_any, list_any_at}
+use Rattle.places.specs.Prelude.{Owner, Pad, Bit, owner_at, IsLaidOut, IsBitOf, renamed, recelled, numbers_of, split, is_bit_of}
 use Rattle.instrument.specs.Counters.{granules_of}
 use Rattle.advisor.specs.Touched.{is_bit_in, holds_bit, touched_blob, touched}
 use Rattle.advisor.specs.TouchedBy.{IsTouchedBy}

@@ -2,7 +2,7 @@
 ghost use Rattle.std.specs.Prelude.{ℕ, ◌≡◌, ◌*◌, ◌<◌, ◌≤◌, ◌^◌, ◌==◌, All, IfOk, length, slice_index_or};
 ghost use Rattle.std.specs.List.{list_any};
 ghost use Rattle.instrument.specs.Counters.{granules_in};
-ghost use Rattle.views.specs.Tallies.{blob_lengths};
+ghost use Rattle.views.specs.Prelude.{blob_lengths};
 ghost use Rattle.advisor.specs.Passes.{reads, part_cost, leaves_in};
 
 use crate::mapped::RuledMap;

@@ -1,9 +1,7 @@
 // Ways of storing leaves, each tried with the values of all rows.
 ghost use Rattle.std.specs.Prelude.{ℕ, ◌&&◌, ◌||◌, ◌==◌, ◌≡◌, ◌<◌, All, true, not, IfOk, OnOk, length, map};
-ghost use Rattle.record_dim.specs.Leaves.{leaves};
-ghost use Rattle.record_dim.specs.Schemas.{schema_fields};
-ghost use Rattle.views.specs.LeafRuns.{raised};
-ghost use Rattle.views.specs.Stores.{is_between};
+ghost use Rattle.record_dim.specs.Prelude.{leaves, schema_fields};
+ghost use Rattle.views.specs.Prelude.{raised, is_between};
 ghost use Rattle.advisor.specs.Inner.SideCosts.{IsHold};
 ghost use Rattle.advisor.specs.Suits.{stays};
 ghost use Rattle.advisor.specs.Inner.Trials.{IsTrial, IsFresh, has_trial, HasTrials, low_stays, all_lows_stay, tried_leaf, has_not_failed, none_failed};

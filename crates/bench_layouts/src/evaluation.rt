@@ -1,5 +1,5 @@
 ghost use Rattle.std.specs.Prelude.{◌≡◌, ◌<◌};
-ghost use Rattle.expr_lang.specs.Bounds.{bound_leaves, bound_rank};
+ghost use Rattle.expr_lang.specs.Prelude.{bound_leaves, bound_rank};
 
 use crate::fault::BenchFault;
 use crate::formula::formula;

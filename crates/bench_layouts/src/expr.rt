@@ -1,8 +1,8 @@
 // The mapping expressions of the forms.
 ghost use Rattle.std.specs.Prelude.{IfOk, IsTrue};
-ghost use Rattle.record_dim.specs.Names.{is_name};
+ghost use Rattle.record_dim.specs.Prelude.{is_name};
 ghost use Rattle.map_expr.specs.Terms.{term_of};
-ghost use Rattle.map_checks.specs.Mappings.{IsBuiltTerm};
+ghost use Rattle.map_checks.specs.Prelude.{IsBuiltTerm};
 
 use crate::form::Form;
 use extents::Order;

@@ -1,5 +1,5 @@
 ghost use Rattle.std.specs.Prelude.{IfOk, IsTrue};
-ghost use Rattle.record_dim.specs.Names.{is_name};
+ghost use Rattle.record_dim.specs.Prelude.{is_name};
 ghost use Rattle.bench_layouts.specs.Inner.Formula.{IsFormula};
 
 use crate::fault::BenchFault;

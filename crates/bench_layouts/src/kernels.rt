@@ -1,6 +1,6 @@
 // A table over which a kernel is run.
 ghost use Rattle.std.specs.Prelude.{◌≡◌, ◌<◌, ◌≤◌, OnOk};
-ghost use Rattle.views.specs.Tables.{Table};
+ghost use Rattle.views.specs.Prelude.{Table};
 ghost use Rattle.lane_kernels.specs.Kernels.{IsKernelOf};
 ghost use Rattle.bench_layouts.specs.Inner.Tables.{measured_fields};
 

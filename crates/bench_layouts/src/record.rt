@@ -1,7 +1,6 @@
 ghost use Rattle.std.specs.Prelude.{◌≡◌, IfOk, IsTrue};
-ghost use Rattle.record_dim.specs.Names.{is_name};
-ghost use Rattle.record_dim.specs.Schemas.{schema_fields};
-ghost use Rattle.record_dim.specs.Trees.{Field as One, Single, fields_of};
+ghost use Rattle.record_dim.specs.Prelude.{is_name, schema_fields, Single, fields_of};
+ghost use Rattle.record_dim.specs.Trees.{Field as One};
 ghost use Rattle.bench_layouts.specs.Inner.Formula.{sample_fields};
 ghost use Rattle.bench_layouts.specs.Inner.Tables.{measured_fields};
 

@@ -1,6 +1,5 @@
 -- Fields told by their tokens.
-use Rattle.blob_file.proofs.Imports.{◌≡◌, ℕ, List, [], ◌∷◌, ◌++◌, refl, sym, ap, ◌∙◌, Bool, true, false, Some, append_assoc, OpenBrace, CloseBrace, OpenBracket, Colon, Comma, Token, Word, Sign, listed, leaf_types, type_word, dims_tokens, core_tokens, fields_tokens, later_tokens, Tree, Single, Record, Array, Fields, End, More, LeafType}
-use Rattle.std.proofs.Common.{arith}
+use Rattle.blob_file.proofs.Imports.{◌≡◌, ℕ, List, [], ◌∷◌, ◌++◌, refl, sym, ap, ◌∙◌, Bool, true, false, Some, append_assoc, OpenBrace, CloseBrace, OpenBracket, Colon, Comma, Token, Word, Sign, listed, leaf_types, type_word, dims_tokens, core_tokens, fields_tokens, later_tokens, Tree, Single, Record, Array, Fields, End, More, LeafType, arith}
 
 -- a value by its word
 pub same_word : {A : Type 0} (word_of : A → List ℕ) (values : List A) → ((value : A) → listed word_of values (word_of value) ≡ Some value) →

@@ -1,6 +1,6 @@
 -- The rows of a view that are stored run by run, and each run leaf by leaf.
 use Rattle.blob_file.proofs.Imports.{◌≡◌, ℕ, ◌+◌, ◌-◌, ◌*◌, ◌<◌, ◌≤◌, ℤ, pos, negsuc, ◌≤ℤ◌, true, false, Bool, List, [], ◌∷◌, ◌++◌, length, map, get_or, is_ok, Ok, refl, sym, ap, ◌∙◌, subst, ⊎_elim, arith, ◌⊎◌, flat_map, range_with_len, cases_lt, le-ltb, pow_mono, ints, to_z_pos, length-map, get_or-map, ext_get_or, flat_map-cons, indices, is_signed, IsDeclared, IsIn, Leaf, leaves, LeafType, entry, Owner, Hold, length-leaf_cells, holds_by, leaf_cells, bit_in, table_shape, tables_same, HasShape, table_in, fitting_stays, low_64, stays_answer, column_writes, raised, CountsNothing, run_entry, run_length, AreBefore, kept_row, kept_rows, Table, IsTable, answer_of, kept_of, leaf_count_of, leaf_type_of, leaf_types_of, owners_of, table_holds, after_stores, Access, Write, row_accesses, all_accesses, after_stores-append, logs_more, Header, owners_by, kept_run, run_writes, AreFitting, IsTakenLeaf, raw_in, row_count, header_of}
-use Rattle.piece_bits.specs.LowsLaws.{low_same}
+use Rattle.piece_bits.specs.Prelude.{low_same}
 use Rattle.blob_file.proofs.Fills.{kept_entry, kept_shape}
 
 -- ---- the raw rows

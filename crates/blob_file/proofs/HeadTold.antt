@@ -1,7 +1,6 @@
 -- What is told of a text, by the line that it is.
-use Rattle.blob_file.proofs.Imports.{◌≡◌, ℕ, true, false, List, Some, None, refl, ap, ◌∙◌, codes, Dim, Tree, tree_of, IsRecord, New, Define, View, same_bytes, line_told, fields_told, is_plain, new_told, fields_in}
+use Rattle.blob_file.proofs.Imports.{◌≡◌, ℕ, true, false, List, Some, None, refl, ap, ◌∙◌, codes, Dim, Tree, tree_of, IsRecord, New, Define, View, same_bytes, line_told, fields_told, is_plain, new_told, fields_in, arith}
 use Rattle.record_dim.specs.declared.dim.Dim.TheVariants as dims
-use Rattle.std.proofs.Common.{arith}
 
 module _ (text : List ℕ) where
   -- a record, and the name of another one

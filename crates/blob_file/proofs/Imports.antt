@@ -1,50 +1,18 @@
 -- What the proofs of this crate speak of.
-pub use Rattle.std.proofs.Common.{◌≡◌, ℕ, ◌+◌, ◌*◌, ◌/◌, ◌%◌, ◌<◌, ◌≤◌, List, [], ◌∷◌, ◌++◌, length, map, get_or, drop, take, All, refl, sym, ap, ◌∙◌, subst, arith, Bool, true, false, zero, suc, ℤ, pos, Result, Ok, Err, is_ok, ◌-◌, Option, Some, None, ⊎_elim, append_assoc, length-append, negsuc, ◌≤ℤ◌, ◌^◌, nat_lt, is_none, inl, inr, IsErr, rules, take_all, to_z, of_z}
-pub use Rattle.std.specs.Prelude.{sum_by, nat_eq, if◌then◌else◌, ◌==◌, option_map, ◌⊎◌, codes, MatchResult, ◌&&◌, count_by, bytes_eq, IfOk, IfErr, OnOk, nat_le, int_le}
-pub use Rattle.std.proofs.lemmas.List.{length-map, length-drop, get_or-map, append-nil, drop_all, take_at, drop_at, take-append-drop, length-take-le, drop_more, take_rest, nil_from_length, ext_get_or, length-replicate, get_or_past, get_or_default}
-pub use Rattle.std.specs.Bool.{Decides}
-pub use Rattle.std.specs.List.{AllPass, list_all, flat_map, range_with_len, enumerate_from, list_any}
-pub use Rattle.std.specs.Cmp.Lexicographic.{pointwise}
-pub use Rattle.std.proofs.lemmas.Bool.{and_parts, and_from, cases_eq, eq-eqb, ne_eqb, cases_lt, le-ltb, false_from_ne_true, not-true, eqb-true, and_left, and_right, leb-true, le-leb, lt-leb}
-pub use Rattle.std.proofs.lemmas.Bool.Decides.{nat_tests, Decides-eqb, Decides-and, Decides-or, Decides-not, Decides-like, Decides-ltb}
-pub use Rattle.std.proofs.lemmas.Slice.Eq.{slice_eq-Decides, bytes_eq-Decides}
-pub use Rattle.std.proofs.lemmas.List.Sums.{sum_by-cons, AllPass-from_list_all}
-pub use Rattle.std.proofs.lemmas.List.Folds.{list_all-append}
-pub use Rattle.std.proofs.Math.Pow.{pow_mono}
-pub use Rattle.std.proofs.lemmas.Int.{ints, to_z_pos, to_z-of_z}
-pub use Rattle.std.proofs.lemmas.List.Concat.{flat_map-cons}
-pub use Rattle.std.proofs.lemmas.List.FromFn.{length-enumerate_from, get_or-enumerate_from, get_or-map-range_with_len}
-pub use Rattle.std.specs.Int.{bit_at, w128}
-pub use Rattle.std.proofs.Math.Seq.{take-add}
-pub use Rattle.std.proofs.lemmas.Option.{get_or_from_slice_get}
-pub use Rattle.places.specs.Layout.{Owner, Pad, owner_at}
-pub use Rattle.piece_bits.specs.Tables.{AreSized, HasShape, hold_at, table_in, zeros}
-pub use Rattle.views.specs.Tallies.{blob_lengths, Access, Write, row_accesses, all_accesses, no_tally}
+pub use Rattle.record_dim.specs.Std.{◌≡◌, ℕ, ◌+◌, ◌*◌, ◌/◌, ◌%◌, ◌<◌, ◌≤◌, List, [], ◌∷◌, ◌++◌, length, map, get_or, drop, take, All, refl, sym, ap, ◌∙◌, subst, arith, Bool, true, false, zero, suc, ℤ, pos, Result, Ok, Err, is_ok, ◌-◌, Option, Some, None, ⊎_elim, append_assoc, length-append, negsuc, ◌≤ℤ◌, ◌^◌, nat_lt, is_none, inl, inr, IsErr, rules, take_all, to_z, of_z, sum_by, nat_eq, if◌then◌else◌, ◌==◌, option_map, ◌⊎◌, codes, MatchResult, ◌&&◌, count_by, bytes_eq, IfOk, IfErr, OnOk, nat_le, int_le, length-map, length-drop, get_or-map, append-nil, drop_all, take_at, drop_at, take-append-drop, length-take-le, drop_more, take_rest, nil_from_length, ext_get_or, length-replicate, get_or_past, get_or_default, Decides, AllPass, list_all, flat_map, range_with_len, enumerate_from, list_any, pointwise, and_parts, and_from, cases_eq, eq-eqb, ne_eqb, cases_lt, le-ltb, false_from_ne_true, not-true, eqb-true, and_left, and_right, leb-true, le-leb, lt-leb, nat_tests, Decides-eqb, Decides-and, Decides-or, Decides-not, Decides-like, Decides-ltb, slice_eq-Decides, bytes_eq-Decides, sum_by-cons, AllPass-from_list_all, list_all-append, pow_mono, ints, to_z_pos, to_z-of_z, flat_map-cons, length-enumerate_from, get_or-enumerate_from, get_or-map-range_with_len, bit_at, w128, take-add, get_or_from_slice_get, not, common_steps}
+pub use Rattle.places.specs.Prelude.{Owner, Pad, owner_at, IsLaidOut, width_at, entry, IsImage, bit_held, image, bit_number, digit_lt}
+pub use Rattle.piece_bits.specs.Prelude.{AreSized, HasShape, hold_at, table_in, zeros, table_shape, tables_same, entry_in, bit_in_lt, hold_widths, declared, held, declared_same, kept_declared, kind_at, Stays, fitting_held, fitting_stays, declared_shape, declared_entry, image_raw, image_table, low_64}
+pub use Rattle.views.specs.Prelude.{blob_lengths, Access, Write, row_accesses, all_accesses, no_tally, StoreAnswer, store_answer, kept_or, kept_row, kept_rows, Keeping, without_number, stored_fits, fitting_stored, between_true, stays_answer, told_same, column_writes, with_column, raised, AreRowsMoved, CountsNothing, run_steps, run_entry, run_length, AreBefore, raised_low, run_more, no_leaf_moved, leaf_moved, Table, IsTable, answer_of, kept_of, leaf_count_of, leaf_type_of, leaf_types_of, owners_of, table_holds, after_stores, blob_bits_of, after_stores-append, logs_more, after_log-none, IsOverLimits, length-with_column}
 pub use Rattle.record_dim.specs.declared.leaf_type.LeafType.{LeafType}
-pub use Rattle.record_dim.specs.LeafTypes.{IsIn, is_signed, IsDeclared}
-pub use Rattle.record_dim.specs.Leaves.{Leaf, leaves, kinds_of, record_fault, records_of, records_below, lengths_of, lengths_below, names_of, has_names}
-pub use Rattle.record_dim.specs.Names.{is_word, is_name, begins_name, continues_name}
+pub use Rattle.record_dim.specs.Prelude.{IsIn, is_signed, IsDeclared, Leaf, leaves, kinds_of, record_fault, records_of, records_below, lengths_of, lengths_below, names_of, has_names, is_word, is_name, begins_name, continues_name, Fields, End, Tree, Single, Record, Array, tree_of, IsRecord, schema_fields}
 pub use Rattle.record_dim.specs.declared.path.PathStep.{PathStep}
 pub use Rattle.places.specs.declared.piece.Hold.{Hold}
-pub use Rattle.places.specs.Lawful.{IsLaidOut}
-pub use Rattle.places.specs.CellWidthsLaws.{width_at}
-pub use Rattle.places.specs.Image.{entry, IsImage, bit_held, image}
-pub use Rattle.map_checks.specs.Mappings.{IsBuiltTerm, holds_by, leaf_cells, accepted, else_for, not_full, layout_by}
+pub use Rattle.map_checks.specs.Prelude.{IsBuiltTerm, holds_by, leaf_cells, accepted, else_for, not_full, layout_by, term_laws, good_numbers, length-holds, kinds_are}
 pub use Rattle.blobs.specs.Bits.{bit_in, bit_of, bits_of, AreBytes}
-pub use Rattle.piece_bits.specs.TableLaws.{table_shape, tables_same}
-pub use Rattle.piece_bits.specs.EntriesLaws.{entry_in}
-pub use Rattle.piece_bits.specs.CellsLaws.{bit_in_lt, hold_widths}
-pub use Rattle.piece_bits.specs.LowBits.{declared, held}
-pub use Rattle.piece_bits.specs.KeptLaws.{low_same, declared_same, kept_declared}
+pub use Rattle.piece_bits.specs.KeptLaws.{low_same}
 pub use Rattle.piece_bits.specs.declared.mode.StoreMode.{StoreMode}
-pub use Rattle.piece_bits.specs.Modes.{kind_at, Stays}
-pub use Rattle.piece_bits.specs.EntryLaws.{fitting_held, fitting_stays}
-pub use Rattle.piece_bits.specs.KeptTableLaws.{declared_shape, declared_entry}
-pub use Rattle.piece_bits.specs.ImageLaws.{image_raw, image_table}
 pub use Rattle.views.specs.declared.fault.StoreFault.{StoreFault}
 pub use Rattle.views.specs.declared.fault.StoreFault.TheVariants.{Range, Narrow}
-pub use Rattle.views.specs.Stores.{StoreAnswer, store_answer, kept_or, kept_row, kept_rows, Keeping, without_number}
-pub use Rattle.views.specs.StrictLaws.{stored_fits, fitting_stored, between_true}
 pub use Rattle.line_tokens.specs.Inner.Ends.{NoEnd}
 pub use Rattle.line_tokens.specs.EndLaws.{no_end_append, joined_no_end}
 pub use Rattle.line_tokens.specs.Bytes.{is_space_byte, is_word_byte}
@@ -55,22 +23,14 @@ pub use Rattle.line_tokens.specs.declared.token.Next.TheVariants.{Token as Found
 pub use Rattle.line_tokens.specs.declared.token.TokenKind.{TokenKind}
 pub use Rattle.line_tokens.specs.declared.sign.Sign.{Sign as SignName}
 pub use Rattle.line_tokens.specs.declared.sign.Sign.TheVariants.{OpenBrace, CloseBrace, OpenBracket, CloseBracket, CloseParen, Colon, Comma, Arrow}
-pub use Rattle.layout_io.specs.Writing.{joined, Wrote, Stopped, Writes}
+pub use Rattle.layout_io.specs.Prelude.{joined, Wrote, Stopped, Writes, Gathers, Puts, HasPut, Gathers-written, Puts-append, Puts-stop, Puts-stopped, Writes-puts_err, Writes-puts, Puts-loop_err, Puts-loop_ok, flat_map_push, Wrote-append, Stopped-first, Stopped-second}
 pub use Rattle.extents.specs.Indices.{indices}
 pub use Rattle.map_any.specs.AnyLaws.{length-leaf_cells}
-pub use Rattle.piece_bits.specs.Lows.{low_64}
-pub use Rattle.views.specs.AnswerLaws.{stays_answer, told_same}
-pub use Rattle.views.specs.Columns.{column_writes, with_column}
-pub use Rattle.views.specs.LeafRuns.{raised, AreRowsMoved, CountsNothing, run_steps}
-pub use Rattle.views.specs.RunsLaws.{run_entry, run_length, AreBefore, raised_low, run_more, no_leaf_moved, leaf_moved}
-pub use Rattle.views.specs.Tables.{Table, IsTable, answer_of, kept_of, leaf_count_of, leaf_type_of, leaf_types_of, owners_of, table_holds, after_stores, blob_bits_of}
-pub use Rattle.views.specs.TallyLaws.{after_stores-append, logs_more, after_log-none}
-pub use Rattle.record_dim.specs.Trees.{Fields, End, Field as More, Tree, Single, Record, Array, tree_of, IsRecord}
-pub use Rattle.line_grammar.specs.Sentences.{New, Define, View, sentence_of, Sentence, deepest}
+pub use Rattle.record_dim.specs.Trees.{Field as More}
+pub use Rattle.line_grammar.specs.Prelude.{New, Define, View, sentence_of, Sentence, deepest, Reads, StopsAt, kind_token, leaf_types, orders, aos_forms, soa_forms, map_word, type_word, order_word, aos_word, soa_word}
 pub use Rattle.extents.specs.declared.words.ExtentWord.{ExtentWord}
 pub use Rattle.record_dim.specs.declared.dim.Dim.{Dim}
 pub use Rattle.line_grammar.specs.declared.line.Line.{Line}
-pub use Rattle.line_grammar.specs.Reads.{Reads, StopsAt}
 pub use Rattle.line_grammar.specs.declared.version.Version.{Version}
 pub use Rattle.line_grammar.specs.declared.version.Version.TheVariants.{Two}
 unfoldable pub use Rattle.line_writer.specs.Texts.{canonical}
@@ -81,8 +41,7 @@ pub use Rattle.line_writer.proofs.ReadsBack.{decimal_spells}
 pub use Rattle.line_grammar.specs.declared.token.Token.{Token}
 pub use Rattle.line_grammar.specs.declared.token.Token.TheVariants.{Word, Number, Sign}
 pub use Rattle.line_grammar.specs.declared.line.MapWord.{MapWord}
-pub use Rattle.line_grammar.specs.Tokens.{kind_token, listed, leaf_types, orders, aos_forms, soa_forms, map_word}
-pub use Rattle.line_grammar.specs.Words.{type_word, order_word, aos_word, soa_word}
+pub use Rattle.line_grammar.specs.Tokens.{listed}
 pub use Rattle.extents.specs.declared.order.Order.{Order}
 pub use Rattle.places.specs.declared.forms.AosForm.{AosForm}
 pub use Rattle.places.specs.declared.forms.SoaForm.{SoaForm}
@@ -90,7 +49,6 @@ pub use Rattle.map_expr.specs.declared.widths.FieldWidth.{FieldWidth}
 pub use Rattle.schema_lang.specs.LineOf.{line_of, IsTold}
 pub use Rattle.extents.specs.declared.words.ExtentWord.TheVariants.{Fixed, Rows}
 pub use Rattle.extents.specs.Shapes.{extent_of, is_rows, bad_shape, bad_extents, HasRows}
-pub use Rattle.places.specs.NumbersLaws.{bit_number, digit_lt}
 pub use Rattle.instrument.specs.BlobTexts.{bytes_of}
 pub use Rattle.instrument.specs.BlobTextsLaws.{length-bytes_of, bytes_of_bits}
 pub use Rattle.places.specs.declared.piece.Cell.{Cell}
@@ -98,21 +56,13 @@ pub use Rattle.map_expr.specs.declared.check.BadMapping.{BadMapping}
 pub use Rattle.map_expr.specs.declared.check.BadMapping.TheVariants.{TooDeep, Counter}
 pub use Rattle.map_expr.specs.Terms.{Term, term_of, Aos, Soa, Aosoa, BitAos, BitSoa, Split, Byteswap, Bytesplit, Change, Count as Counted, Heat as Heated, Named}
 pub use Rattle.map_expr.specs.Checks.{answered, bad_number}
-pub use Rattle.map_checks.specs.TermLaws.{term_laws, good_numbers, length-holds}
-pub use Rattle.views.specs.Refusals.{IsOverLimits}
 pub use Rattle.extents.specs.declared.words.BadExtents.{BadExtents as Bad}
-pub use Rattle.layout_io.specs.Gathering.{Gathers, Puts, HasPut}
-pub use Rattle.layout_io.specs.GatheringLaws.{Gathers-written, Puts-append, Puts-stop, Puts-stopped, Writes-puts_err, Writes-puts, Puts-loop_err, Puts-loop_ok}
-pub use Rattle.layout_io.specs.WritingLaws.{flat_map_push, Wrote-append, Stopped-first, Stopped-second}
 pub use Rattle.line_tokens.specs.SpotLaws.{same_spots}
 pub use Rattle.schema_lang.specs.Parsing.{HasItsFields}
 pub use Rattle.schema_lang.specs.declared.fault.LineFault.{LineFault}
 pub use Rattle.record_dim.specs.declared.leaf_type.LeafType.TheVariants.{Bool as Truth}
-pub use Rattle.map_checks.specs.Inner.LeafCells.{kinds_are}
-pub use Rattle.views.specs.ColumnsLaws.{length-with_column}
 pub use Rattle.views.proofs.RunStoreLaws.{value_more}
 pub use Rattle.views.proofs.StoredLaws.{nothing_stored, HasStored, passed}
-pub use Rattle.record_dim.specs.Schemas.{schema_fields}
 pub use Rattle.blob_file.specs.Opened.{cut, raw_in, rows_in, answer_by, are_taken, all_taken, leaf_count, row_count, bytes_to_line_end, with_blobs, with_body, empty_table, table_of_saved, IsRead, same_bytes, fields_told, new_told, with_record, header_told, behind_first, behind_size, is_plain, mode_by, Saved, with_header, canonical_by}
 unfoldable pub use Rattle.blob_file.specs.Opened.{are_contents, line_told, header_at, opened}
 pub use Rattle.blob_file.specs.Files.{Header, owners_by, image_bytes, AreRows, two_lines, four_bytes, is_wrap, record_line, view_line, record_text, view_text, header_text, IsShort, magic, IsFile}

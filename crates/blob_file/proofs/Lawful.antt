@@ -1,7 +1,5 @@
 -- Headers with which a view can be made: the test of them, and the laws of their layouts.
-use Rattle.blob_file.proofs.Imports.{◌≡◌, Bool, true, false, List, length, map, nat_lt, Option, None, Result, Ok, Err, is_ok, is_none, ◌∙◌, ◌&&◌, if◌then◌else◌, Decides, Decides-and, Decides-or, Decides-not, Decides-like, Decides-ltb, false_from_ne_true, bad_shape, bad_extents, Fields, Record, kinds_of, record_fault, IsLaidOut, Cell, Hold, BadMapping, TooDeep, Counter, Term, answered, bad_number, length-leaf_cells, leaf_cells, accepted, else_for, holds_by, not_full, term_laws, good_numbers, length-holds, IsOverLimits, Header, owners_by, is_nameless, words_of, CanLie, is_over_limits, can_lie, nameless_built, row_count}
-use Rattle.std.proofs.Common.{not}
-use Rattle.std.proofs.Common.{arith}
+use Rattle.blob_file.proofs.Imports.{◌≡◌, Bool, true, false, List, length, map, nat_lt, Option, None, Result, Ok, Err, is_ok, is_none, ◌∙◌, ◌&&◌, if◌then◌else◌, Decides, Decides-and, Decides-or, Decides-not, Decides-like, Decides-ltb, false_from_ne_true, bad_shape, bad_extents, Fields, Record, kinds_of, record_fault, IsLaidOut, Cell, Hold, BadMapping, TooDeep, Counter, Term, answered, bad_number, length-leaf_cells, leaf_cells, accepted, else_for, holds_by, not_full, term_laws, good_numbers, length-holds, IsOverLimits, Header, owners_by, is_nameless, words_of, CanLie, is_over_limits, can_lie, nameless_built, row_count, not, arith}
 
 -- ---- the test
 

@@ -1,7 +1,6 @@
 -- A header with which a view was made, and one with which none was.
-use Rattle.blob_file.proofs.Imports.{◌≡◌, ℕ, false, List, map, None, Ok, sym, ap, ◌∙◌, subst, list_any, ExtentWord, bad_shape, bad_extents, extent_of, is_rows, term_of, accepted, layout_by, leaf_cells, record_fault, kinds_of, Fields, Record, tree_of, IsRecord, Dim, IsOverLimits, owners_by, CanLie, fields_in, header_in, FileHeader}
+use Rattle.blob_file.proofs.Imports.{◌≡◌, ℕ, false, List, map, None, Ok, sym, ap, ◌∙◌, subst, list_any, ExtentWord, bad_shape, bad_extents, extent_of, is_rows, term_of, accepted, layout_by, leaf_cells, record_fault, kinds_of, Fields, Record, tree_of, IsRecord, Dim, IsOverLimits, owners_by, CanLie, fields_in, header_in, FileHeader, arith}
 use Rattle.blob_file.proofs.Heads.{words_back}
-use Rattle.std.proofs.Common.{arith}
 
 -- the record of a header is that of its tree
 pub fit_by : (dim : Dim) → IsRecord dim → record_fault (Record (fields_in (tree_of dim))) ≡ None → record_fault (tree_of dim) ≡ None

@@ -1,8 +1,7 @@
 -- What is opened of bytes, by what a reader finds in them.
-use Rattle.blob_file.proofs.Imports.{◌≡◌, ℕ, ◌*◌, true, false, List, length, take, drop, Result, Err, Some, None, refl, sym, ap, ◌∙◌, ◌⊎◌, IfErr, OnOk, sum_by, ne_eqb, Owner, Header, magic, owners_by, CanLie, can_lie, Saved, same_bytes, header_at, with_body, with_header, opened, IsRead, FileFault}
+use Rattle.blob_file.proofs.Imports.{◌≡◌, ℕ, ◌*◌, true, false, List, length, take, drop, Result, Err, Some, None, refl, sym, ap, ◌∙◌, ◌⊎◌, IfErr, OnOk, sum_by, ne_eqb, Owner, Header, magic, owners_by, CanLie, can_lie, Saved, same_bytes, header_at, with_body, with_header, opened, IsRead, FileFault, arith}
 use Rattle.blob_file.specs.declared.fault.FileFault.TheVariants as fault
 use Rattle.blob_file.proofs.Lawful.{lies, cannot_lie}
-use Rattle.std.proofs.Common.{arith}
 
 pub no_magic : (bytes : List ℕ) → same_bytes (take 8 bytes) magic ≡ false → opened bytes ≡ Err fault.Magic
 unfolding opened

@@ -1,7 +1,6 @@
 -- The lines of a header: what is told of a text is what the grammar says.
-use Rattle.blob_file.proofs.Imports.{◌≡◌, ℕ, ◌<◌, ◌≤◌, Bool, true, false, List, length, Result, Ok, Err, Option, Some, None, refl, ap, MatchResult, IfOk, IfErr, OnOk, ◌⊎◌, nat_le, if◌then◌else◌, and_parts, and_left, and_right, leb-true, le-leb, lt-leb, bytes_eq-Decides, same_spots, Reads, StopsAt, Sentence, sentence_of, deepest, Line, Version, Two, canonical, line_of, IsTold, HasItsFields, LineFault, refusal, FileFault, same_bytes, canonical_by, line_told}
+use Rattle.blob_file.proofs.Imports.{◌≡◌, ℕ, ◌<◌, ◌≤◌, Bool, true, false, List, length, Result, Ok, Err, Option, Some, None, refl, ap, MatchResult, IfOk, IfErr, OnOk, ◌⊎◌, nat_le, if◌then◌else◌, and_parts, and_left, and_right, leb-true, le-leb, lt-leb, bytes_eq-Decides, same_spots, Reads, StopsAt, Sentence, sentence_of, deepest, Line, Version, Two, canonical, line_of, IsTold, HasItsFields, LineFault, refusal, FileFault, same_bytes, canonical_by, line_told, arith}
 use Rattle.blob_file.specs.declared.fault.FileFault.TheVariants as fault
-use Rattle.std.proofs.Common.{arith}
 
 -- a test in front of an answer
 pub some_if : {A : Type 0} (test : Bool) (x y : A) → (if test then Some x else None) ≡ Some y → (test ≡ true) × (x ≡ y)

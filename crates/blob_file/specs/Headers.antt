@@ -1,22 +1,18 @@
 -- Which headers a file can be opened with.
 use Rattle.std.specs.Prelude.{ℕ, ◌≡◌, ◌*◌, ◌^◌, Bool, true, false, not, ◌&&◌, ◌||◌, nat_lt, List, map, length, sum_by, is_ok, is_none, None, Ok}
-use Rattle.std.specs.List.{list_all}
+use Rattle.record_dim.specs.Std.{list_all}
 use Rattle.extents.specs.Shapes.{bad_shape, bad_extents}
 use Rattle.extents.specs.declared.words.ExtentWord.{ExtentWord}
 use Rattle.extents.specs.declared.words.ExtentWord.TheVariants.{Fixed}
-use Rattle.record_dim.specs.Trees.{Record}
-use Rattle.record_dim.specs.Leaves.{kinds_of, records_of, lengths_of, has_names, record_fault}
-use Rattle.record_dim.specs.Names.{is_name}
+use Rattle.record_dim.specs.Prelude.{Record, kinds_of, records_of, lengths_of, has_names, record_fault, is_name}
 use Rattle.record_dim.specs.declared.path.PathStep.{PathStep}
 use Rattle.record_dim.specs.declared.path.PathStep.TheVariants as step
 use Rattle.map_expr.specs.declared.widths.FieldWidth.{FieldWidth}
 use Rattle.map_expr.specs.Terms.{Term, Aosoa, BitAos, BitSoa, Split, Byteswap, Bytesplit, Change, Count, Heat, Named}
-use Rattle.map_checks.specs.Mappings.{leaf_cells, accepted, most_slots}
-use Rattle.line_grammar.specs.Sentences.{Sentence}
-use Rattle.line_grammar.specs.Reads.{Reads}
+use Rattle.map_checks.specs.Prelude.{leaf_cells, accepted, most_slots}
+use Rattle.line_grammar.specs.Prelude.{Sentence, Reads}
 use Rattle.line_grammar.specs.declared.version.Version.TheVariants.{Two}
-use Rattle.views.specs.Tallies.{granules_for}
-use Rattle.views.specs.Refusals.{IsOverLimits}
+use Rattle.views.specs.Prelude.{granules_for, IsOverLimits}
 use Rattle.blob_file.specs.Files.{Header, owners_by, record_line, view_line}
 
 -- no name stands in a mapping

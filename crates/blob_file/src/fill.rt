@@ -1,13 +1,8 @@
 // The rows of a view, stored by the raw numbers that blobs hold.
 ghost use Rattle.std.specs.Prelude.{ℕ, ℤ, ◌≡◌, ◌⊎◌, ◌+◌, ◌*◌, ◌<◌, ◌≤◌, pos, true, IfErr, OnOk, OnErr, length, slice_index_or};
-ghost use Rattle.record_dim.specs.LeafTypes.{is_signed, IsDeclared, IsIn};
-ghost use Rattle.piece_bits.specs.Lows.{low_64};
-ghost use Rattle.piece_bits.specs.Tables.{AreSized, hold_at};
-ghost use Rattle.views.specs.Columns.{column_writes, with_column};
-ghost use Rattle.views.specs.LeafRuns.{run_steps, AreRowsMoved, CountsNothing};
-ghost use Rattle.views.specs.Stores.{kept_rows};
-ghost use Rattle.views.specs.Tables.{kept_of, leaf_count_of, leaf_type_of, owners_of, table_holds, after_stores};
-ghost use Rattle.views.specs.Tallies.{Write, all_accesses};
+ghost use Rattle.record_dim.specs.Prelude.{is_signed, IsDeclared, IsIn};
+ghost use Rattle.piece_bits.specs.Prelude.{low_64, AreSized, hold_at};
+ghost use Rattle.views.specs.Prelude.{column_writes, with_column, run_steps, AreRowsMoved, CountsNothing, kept_rows, kept_of, leaf_count_of, leaf_type_of, owners_of, table_holds, after_stores, Write, all_accesses};
 ghost use Rattle.blob_file.specs.Opened.{raw_in};
 ghost use Rattle.blob_file.specs.Inner.Filling.{kept_run, run_writes, AreFitting, AreTaken, IsTaken, IsTakenLeaf};
 ghost use Rattle.blob_file.specs.Saving.{header_of};

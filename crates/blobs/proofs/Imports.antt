@@ -1,14 +1,8 @@
 -- What the proofs of this crate speak of.
-pub use Rattle.std.proofs.Common.{◌≡◌, ℕ, ◌+◌, ◌<◌, ◌≤◌, List, length, get_or, take, drop, sym, ◌∙◌, arith, zero, suc, ◌*◌, ◌-◌, ◌/◌, ◌%◌, ◌^◌, mod-eq_of_lt, refl, ap, subst, ⊎_elim, set, length-set}
-pub use Rattle.std.proofs.lemmas.List.{same_lists, get_or-take, get_or-drop, get_or_default, length-take, length-drop, get_or_append_left, get_or-append_right, length-append}
-pub use Rattle.std.specs.Int.{bit_at, byte_at, bytes_low_first, bytes_high_first}
-pub use Rattle.std.proofs.lemmas.Bool.{cases_lt}
-pub use Rattle.std.proofs.lemmas.Nat.{pow-add}
-pub use Rattle.std.proofs.lemmas.Nat.Bits.{bit_at-lt, bit_at_above, bit_at_cat_low, bit_at_cat_high}
-pub use Rattle.std.proofs.Math.Nat.{pow-suc, div-one}
+pub use Rattle.record_dim.specs.Std.{◌≡◌, ℕ, ◌+◌, ◌<◌, ◌≤◌, List, length, get_or, take, drop, sym, ◌∙◌, arith, zero, suc, ◌*◌, ◌-◌, ◌/◌, ◌%◌, ◌^◌, refl, ap, subst, ⊎_elim, set, length-set, same_lists, get_or-take, get_or-drop, get_or_default, length-take, length-drop, get_or_append_left, get_or-append_right, length-append, bit_at, byte_at, bytes_low_first, bytes_high_first, cases_lt, pow-add, bit_at-lt, bit_at_above, bit_at_cat_low, bit_at_cat_high, pow-suc, div-one, common_steps}
+pub use Rattle.std.proofs.Common.{mod-eq_of_lt}
 pub use Rattle.byteorder.specs.Endian.{little_from}
-pub use Rattle.places.specs.Image.{number}
-pub use Rattle.places.specs.NumbersLaws.{number_same, number_bits, number_lt, bit_number}
+pub use Rattle.places.specs.Prelude.{number, number_same, number_bits, number_lt, bit_number}
 pub use mathlib.Core.Bool.{Bool, true, false}
 pub use mathlib.Core.List.{[], ◌∷◌, ◌++◌}
 pub use lib.Dec.{T, lit<}

@@ -1,6 +1,5 @@
 -- Some bytes in the place of others, which are those of a number.
-use Rattle.blobs.proofs.Imports.{◌≡◌, ℕ, zero, suc, ◌+◌, ◌*◌, ◌-◌, ◌/◌, ◌%◌, ◌^◌, ◌<◌, ◌≤◌, List, length, get_or, take, drop, refl, sym, ap, ◌∙◌, subst, arith, bit_at, byte_at, bytes_low_first, bytes_high_first, get_or-drop, get_or-take, get_or_append_left, get_or-append_right, length-append, length-take, length-drop, div-one, bit_of, turned_place, bit_of_byte, bit_of_part, IsPut}
-use Rattle.std.proofs.Common.{◌++◌}
+use Rattle.blobs.proofs.Imports.{◌≡◌, ℕ, zero, suc, ◌+◌, ◌*◌, ◌-◌, ◌/◌, ◌%◌, ◌^◌, ◌<◌, ◌≤◌, List, length, get_or, take, drop, refl, sym, ap, ◌∙◌, subst, arith, bit_at, byte_at, bytes_low_first, bytes_high_first, get_or-drop, get_or-take, get_or_append_left, get_or-append_right, length-append, length-take, length-drop, div-one, bit_of, turned_place, bit_of_byte, bit_of_part, IsPut, ◌++◌}
 use Rattle.blobs.proofs.Numbers.{bytes_power}
 
 -- byte j of the bytes of a number, the least significant first

@@ -1,7 +1,6 @@
 -- The bits of bytes, and of several blobs.
 use Rattle.std.specs.Prelude.{ℕ, ◌≡◌, ◌⊎◌, ◌*◌, ◌/◌, ◌%◌, ◌<◌, List, [], length, map, slice_index_or}
-use Rattle.std.specs.Int.{bit_at}
-use Rattle.std.specs.List.{range_with_len}
+use Rattle.record_dim.specs.Std.{bit_at, range_with_len}
 
 -- bit `place` of some bytes is bit `place % 8` of byte `place / 8`; outside it is 0
 abbrev pub bit_of : List ℕ → ℕ → ℕ

@@ -1,14 +1,7 @@
 -- The bits of bytes: how those that lie in one byte are read and written.
-use Rattle.std.proofs.Common.{◌≡◌, ℕ, ◌+◌, ◌*◌, ◌-◌, ◌/◌, ◌%◌, ◌^◌, ◌<◌, ◌≤◌, List, length, get_or, set, sym, ap, ◌∙◌, ⊎_elim, arith}
-use Rattle.std.specs.Int.{bit_at}
-use Rattle.std.proofs.lemmas.Nat.{pow_pos, shr-shr, shr_split, shl_whole}
-use Rattle.std.proofs.lemmas.List.{get_or-set_same, get_or-set_other}
-use Rattle.std.proofs.lemmas.Nat.Bits.{bit_at-lt, bit_at_cat_low}
-use Rattle.std.proofs.lemmas.Bool.{cases_lt, cases_eq}
-use Rattle.std.proofs.Math.Pow.{pow_mono}
-use Rattle.std.proofs.Math.Nat.{mul_comm}
-use Rattle.places.specs.Image.{number}
-use Rattle.places.specs.NumbersLaws.{number_same, number_split, number_bits, number_lt, bit_number}
+use Rattle.std.specs.Prelude.{◌≡◌, ℕ, ◌+◌, ◌*◌, ◌-◌, ◌/◌, ◌%◌, ◌^◌, ◌<◌, ◌≤◌, List, length, get_or, set}
+use Rattle.record_dim.specs.Std.{sym, ap, ◌∙◌, ⊎_elim, arith, bit_at, pow_pos, shr-shr, shr_split, shl_whole, get_or-set_same, get_or-set_other, bit_at-lt, bit_at_cat_low, cases_lt, cases_eq, pow_mono, mul_comm}
+use Rattle.places.specs.Prelude.{number, number_same, number_split, number_bits, number_lt, bit_number}
 use Rattle.blobs.specs.Bits.{bit_of}
 
 -- the low bits of a number are those of what is left of it under a power of two

@@ -1,12 +1,7 @@
 -- A field of bits within one word of bytes, and such a word at the end of the bytes.
-use Rattle.std.proofs.Common.{◌≡◌, ℕ, ◌+◌, ◌*◌, ◌-◌, ◌/◌, ◌%◌, ◌^◌, ◌<◌, ◌≤◌, List, length, sym, ap, ◌∙◌, ⊎_elim, arith}
-use Rattle.std.specs.Int.{bit_at}
-use Rattle.std.proofs.lemmas.List.{get_or_past}
-use Rattle.std.proofs.lemmas.Nat.{shr-shr}
-use Rattle.std.proofs.lemmas.Nat.Bits.{bit_at-zero}
-use Rattle.std.proofs.lemmas.Bool.{cases_lt}
-use Rattle.places.specs.Image.{number}
-use Rattle.places.specs.NumbersLaws.{number_same, number_bits}
+use Rattle.std.specs.Prelude.{◌≡◌, ℕ, ◌+◌, ◌*◌, ◌-◌, ◌/◌, ◌%◌, ◌^◌, ◌<◌, ◌≤◌, List, length}
+use Rattle.record_dim.specs.Std.{sym, ap, ◌∙◌, ⊎_elim, arith, bit_at, get_or_past, shr-shr, bit_at-zero, cases_lt}
+use Rattle.places.specs.Prelude.{number, number_same, number_bits}
 use Rattle.blobs.specs.Bits.{bit_of}
 use Rattle.blobs.specs.BytesLaws.{IsPut}
 

@@ -1,12 +1,7 @@
 -- A field of bits within a word: how it is read and written by shifts and masks.
-use Rattle.std.proofs.Common.{◌≡◌, ℕ, ◌+◌, ◌*◌, ◌-◌, ◌/◌, ◌%◌, ◌^◌, ◌<◌, ◌≤◌, min, max, bit_and, bit_or, w64, sym, ap, ◌∙◌, subst, ⊎_elim, arith}
-use Rattle.std.specs.Int.{bit_at, bit_not}
-use Rattle.std.proofs.lemmas.Nat.{pow_pos, pow-add, and_mask, and_le_l, or_lt, shl_below, shl_whole}
-use Rattle.std.proofs.lemmas.Nat.Bits.{bit_at_and, bit_at_or, bit_at_not, bit_at-lt, bit_at_above, bit_at-zero, bit_at_cat_low, bit_at_cat_high, bit_at_mask_inside, bit_at_mask_below, bit_at_mask_above}
-use Rattle.std.proofs.lemmas.Bool.{cases_lt}
-use Rattle.std.proofs.Math.Nat.{mul_comm, mul-sub}
-use Rattle.std.proofs.Math.Pow.{pow_mono}
-use Rattle.places.specs.NumbersLaws.{ones_of}
+use Rattle.std.specs.Prelude.{◌≡◌, ℕ, ◌+◌, ◌*◌, ◌-◌, ◌/◌, ◌%◌, ◌^◌, ◌<◌, ◌≤◌, min, max, bit_and, bit_or}
+use Rattle.record_dim.specs.Std.{w64, sym, ap, ◌∙◌, subst, ⊎_elim, arith, bit_at, bit_not, pow_pos, pow-add, and_mask, and_le_l, or_lt, shl_below, shl_whole, bit_at_and, bit_at_or, bit_at_not, bit_at-lt, bit_at_above, bit_at-zero, bit_at_cat_low, bit_at_cat_high, bit_at_mask_inside, bit_at_mask_below, bit_at_mask_above, cases_lt, mul_comm, mul-sub, pow_mono}
+use Rattle.places.specs.Prelude.{ones_of}
 
 pub read_field : (word low n : ℕ) → n ≤ 64 → bit_and (word / 2 ^ low) (18446744073709551615 / 2 ^ (64 - n)) ≡ word / 2 ^ low % 2 ^ n
 read_field word low n few = grind (arith, bit_and, ones_of, and_mask)

@@ -1,7 +1,7 @@
 // Fields of bits in a blob: by whole bytes, by words, and by bytes only where no word is left.
 ghost use Rattle.std.specs.Prelude.{ℕ, ◌≡◌, ◌+◌, ◌*◌, ◌%◌, ◌^◌, ◌<◌, ◌≤◌, ◌↔◌, IsTrue, length};
 ghost use Rattle.std.specs.Int.{bit_at};
-ghost use Rattle.places.specs.Image.{number};
+ghost use Rattle.places.specs.Prelude.{number};
 ghost use Rattle.blobs.specs.Bits.{bit_of, IsWholeBytes};
 ghost use Rattle.blobs.specs.Turned.{turned_place, IsTurned};
 

@@ -1,11 +1,7 @@
 -- The rows of boxes.
-use Rattle.c_lines.proofs.Imports.{◌≡◌, ⊎_elim, ℕ, zero, suc, ◌+◌, ◌^◌, ◌<◌, ◌≤◌, Bool, true, false, nat_lt, List, [], ◌∷◌, length, map, take, get_or, All, Err, refl, sym, ap, ◌∙◌, arith, cases_Bool, false≢true, take_more, take_more_set, ◌++◌, list_all, take_all, indices}
-use Rattle.std.proofs.lemmas.Bool.{and_parts, leb-true, lt-ltb}
-use Rattle.std.specs.Prelude.{◌&&◌, filter, set, if◌then◌else◌, max, min, nat_le}
-use Rattle.std.specs.List.{enumerate_from}
+use Rattle.c_lines.proofs.Imports.{◌≡◌, ⊎_elim, ℕ, zero, suc, ◌+◌, ◌^◌, ◌<◌, ◌≤◌, Bool, true, false, nat_lt, List, [], ◌∷◌, length, map, take, get_or, All, Err, refl, sym, ap, ◌∙◌, arith, cases_Bool, false≢true, take_more, take_more_set, ◌++◌, list_all, take_all, indices, and_parts, leb-true, lt-ltb, ◌&&◌, filter, set, if◌then◌else◌, max, min, nat_le, enumerate_from, are_inside, windowed}
 use Rattle.extents.specs.Windows.{IsWindow, holds, rows_in}
 use Rattle.extents.specs.declared.window.Span.{Span}
-use Rattle.worlds.specs.Windows.{are_inside, windowed}
 use Rattle.worlds.specs.declared.fault.CommandFault.TheVariants.{BadWindow}
 use Rattle.c_lines.specs.Boxes.{spans_of}
 

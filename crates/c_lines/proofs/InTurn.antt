@@ -1,6 +1,5 @@
 -- Rows of a list in their turn.
-use Rattle.c_lines.proofs.Imports.{◌≡◌, ⊎_elim, ℕ, suc, ◌+◌, ◌<◌, ◌≤◌, Bool, true, false, ℤ, pos, List, [], ◌∷◌, ◌++◌, length, map, take, drop, get_or, Ok, Err, sym, ap, ◌∙◌, cases_Bool, drop-cons, drop_all, list_all, list_all_at, map-append, take_more, take_more_set, Table, kept_of, after_log, after_log-append, after_read, after_write, Access, Read, length-set, leaf_count_of, Answer, Refusal, Turned, done_after, in_turn, changed_by, OnOk, OnErr}
-use Rattle.std.specs.Prelude.{set}
+use Rattle.c_lines.proofs.Imports.{◌≡◌, ⊎_elim, ℕ, suc, ◌+◌, ◌<◌, ◌≤◌, Bool, true, false, ℤ, pos, List, [], ◌∷◌, ◌++◌, length, map, take, drop, get_or, Ok, Err, sym, ap, ◌∙◌, cases_Bool, drop-cons, drop_all, list_all, list_all_at, map-append, take_more, take_more_set, Table, kept_of, after_log, after_log-append, after_read, after_write, Access, Read, length-set, leaf_count_of, Answer, Refusal, Turned, done_after, in_turn, changed_by, OnOk, OnErr, set}
 
 -- a test that each number passes
 pub passes : (test : ℕ → Bool) (numbers : List ℕ) (k : ℕ) → list_all test numbers ≡ true → k < length numbers → test (get_or numbers k 0) ≡ true

@@ -1,9 +1,6 @@
 -- Runs that are read and stored part by part.
-use Rattle.c_lines.proofs.Imports.{◌≡◌, ℕ, suc, ◌+◌, ◌-◌, ◌^◌, ◌<◌, ◌≤◌, Bool, true, List, [], ◌∷◌, ◌++◌, length, map, take, drop, get_or, ℤ, pos, negsuc, ◌≤ℤ◌, Some, None, Result, Ok, Err, refl, sym, ap, subst, ◌∙◌, arith, length-drop, w64, cast_signed, cast_unsigned, range_with_len, option_or, take-add, ints, of_z-to_z, drop-drop, drop-map, get_or-map, get_or-take, length-map, length-take-le, take-append-drop, take-map, take-take, IsDeclared, is_signed, least_in, width_of, LeafType, range_split, hold_at, low_64, lane_inside, told_some, column, column_reads, column_writes, with_column, lane_fault, first_lane_fault, length-with_column, no_column, raised, run_of, stored_count, told_lane, with_run, TakesAll, declared_within, raised_all, run_length, Fits, Table, IsTable, answer_of, kept_of, leaf_count_of, leaf_type_of, table_holds, after_log, after_stores, after_write, Read, Write, after_log-none, after_log-append, after_stores-append, LaneFault, StoreFault, none_refused, kind_count, column_then, run_declared, run_stored, value_more, fault_here, first_taken, nothing_stored, fit_answer, fit_kept, map_same, store_refusal, after_run, told_run, IsFrontStored, IsSet, reads_signed, reads_unsigned, not-true}
-use Rattle.std.specs.Prelude.{Option}
+use Rattle.c_lines.proofs.Imports.{◌≡◌, ℕ, suc, ◌+◌, ◌-◌, ◌^◌, ◌<◌, ◌≤◌, Bool, true, List, [], ◌∷◌, ◌++◌, length, map, take, drop, get_or, ℤ, pos, negsuc, ◌≤ℤ◌, Some, None, Result, Ok, Err, refl, sym, ap, subst, ◌∙◌, arith, length-drop, w64, cast_signed, cast_unsigned, range_with_len, option_or, take-add, ints, of_z-to_z, drop-drop, drop-map, get_or-map, get_or-take, length-map, length-take-le, take-append-drop, take-map, take-take, IsDeclared, is_signed, least_in, width_of, LeafType, range_split, hold_at, low_64, lane_inside, told_some, column, column_reads, column_writes, with_column, lane_fault, first_lane_fault, length-with_column, no_column, raised, run_of, stored_count, told_lane, with_run, TakesAll, declared_within, raised_all, run_length, Fits, Table, IsTable, answer_of, kept_of, leaf_count_of, leaf_type_of, table_holds, after_log, after_stores, after_write, Read, Write, after_log-none, after_log-append, after_stores-append, LaneFault, StoreFault, none_refused, kind_count, column_then, run_declared, run_stored, value_more, fault_here, first_taken, nothing_stored, fit_answer, fit_kept, map_same, store_refusal, after_run, told_run, IsFrontStored, IsSet, reads_signed, reads_unsigned, not-true, Option, run_fault, StoreAnswer, without_number}
 use Rattle.record_dim.specs.declared.leaf_type.LeafType.TheVariants as kinds
-use Rattle.views.specs.LeafRuns.{run_fault}
-use Rattle.views.specs.Stores.{StoreAnswer, without_number}
 use Rattle.c_lines.specs.Answers as calls
 
 -- what is said of rows one after another, of those behind them too

@@ -1,13 +1,8 @@
 -- The words of a fault in its line.
-use Rattle.c_lines.proofs.Imports.{◌≡◌, ℕ, List, [], ◌++◌, ◌+◌, ◌-◌, ◌≤◌, length, take, drop, Some, Ok, Err, Refusal, inr, refl, subst, ◌∙◌, arith}
-use Rattle.layout_io.specs.Writing.{with_bytes}
-unfoldable use Rattle.layout_io.specs.Decimal.{digits_text}
-unfoldable use Rattle.worlds.specs.FaultTexts.{fault_text}
-use Rattle.worlds.specs.FaultTexts.{fault_words}
+use Rattle.c_lines.proofs.Imports.{◌≡◌, ℕ, List, [], ◌++◌, ◌+◌, ◌-◌, ◌≤◌, length, take, drop, Some, Ok, Err, Refusal, inr, refl, subst, ◌∙◌, arith, with_bytes, fault_words, codes, length-append, take-append_seam}
+unfoldable use Rattle.layout_io.specs.Prelude.{digits_text}
+unfoldable use Rattle.worlds.specs.Prelude.{fault_text}
 use Rattle.worlds.specs.declared.fault.CommandFault.{CommandFault}
-use Rattle.std.specs.Prelude.{codes}
-use Rattle.std.proofs.Common.{length-append}
-use Rattle.std.proofs.Math.Seq.{take-append_seam}
 use Rattle.c_lines.specs.Answers.{Answer}
 use Rattle.c_lines.specs.Buffers.{TellsPut, buffer_after, needed_after, put_told}
 

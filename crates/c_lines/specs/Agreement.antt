@@ -2,10 +2,9 @@
 use Rattle.std.specs.Prelude.{ℕ, ◌≡◌, ◌+◌, ◌*◌, ◌^◌, ◌≤◌, List, [], Ok}
 use Rattle.map_expr.specs.Terms.{Term}
 use Rattle.piece_bits.specs.declared.mode.StoreMode.{StoreMode}
-use Rattle.record_dim.specs.Trees.{Fields}
-use Rattle.views.specs.Tables.{Table}
-use Rattle.worlds.specs.Tables.{blob_bits, live_bits, made}
-use Rattle.worlds.specs.Worlds.{Entry}
+use Rattle.record_dim.specs.Prelude.{Fields}
+use Rattle.views.specs.Prelude.{Table}
+use Rattle.worlds.specs.Prelude.{blob_bits, live_bits, made, Entry}
 
 -- a table that a command makes leaves room for the largest one
 abbrev pub TablesLeaveRoom : Type 0

@@ -2,9 +2,8 @@
 use Rattle.std.specs.Prelude.{ℕ, List, [], ◌∷◌}
 use Rattle.extents.specs.declared.window.Span.{Span}
 use Rattle.subviews.specs.SubViews.{rows_of}
-use Rattle.views.specs.Tables.{Table}
-use Rattle.worlds.specs.Outcomes.{◌>>=◌}
-use Rattle.worlds.specs.Windows.{windowed}
+use Rattle.views.specs.Prelude.{Table}
+use Rattle.worlds.specs.Prelude.{◌>>=◌, windowed}
 use Rattle.c_lines.specs.Answers.{Answer, answer_map, given_or}
 use Rattle.c_lines.specs.Told.{told}
 

@@ -6,11 +6,10 @@ use Rattle.blob_file.specs.Saving.{blobs_of, header_of}
 use Rattle.blob_file.specs.declared.fault.FileFault.{FileFault}
 use Rattle.blob_file.specs.declared.fault.FileFault.TheVariants as fault
 use Rattle.csv_rows.specs.Texts.{print_text}
-use Rattle.layout_io.specs.Writing.{joined}
-use Rattle.record_dim.specs.Leaves.{texts_of}
-use Rattle.views.specs.Tables.{Table, owners_of}
-use Rattle.worlds.specs.Files.{is_long}
-use Rattle.worlds.specs.Outcomes.{◌>>=◌, ok_or}
+use Rattle.layout_io.specs.Prelude.{joined}
+use Rattle.record_dim.specs.Prelude.{texts_of}
+use Rattle.views.specs.Prelude.{Table, owners_of}
+use Rattle.worlds.specs.Prelude.{is_long, ◌>>=◌, ok_or}
 use Rattle.worlds.specs.declared.fault.BadFile.TheVariants as bad
 use Rattle.c_lines.specs.Answers.{Answer, given_or}
 use Rattle.c_lines.specs.declared.refusal.Refusal.{Refusal}

@@ -1,11 +1,9 @@
 -- One leaf of rows one after another, as numbers of the caller's type.
 use Rattle.std.specs.Prelude.{ℕ, ◌≡◌, ◌+◌, Bool, ℤ, List, length, take, Option, Some, None, Result, Ok, Err, if◌then◌else◌}
 use Rattle.record_dim.specs.declared.leaf_type.LeafType.{LeafType}
-use Rattle.views.specs.Columns.{column_reads}
-use Rattle.views.specs.LeafRuns.{run_of, run_fault, stored_count, with_run}
+use Rattle.views.specs.Prelude.{column_reads, run_of, run_fault, stored_count, with_run, Table, after_log}
 use Rattle.views.specs.declared.fault.LaneFault.{LaneFault}
-use Rattle.views.specs.Tables.{Table, after_log}
-use Rattle.worlds.specs.Outcomes.{refused_by}
+use Rattle.worlds.specs.Prelude.{refused_by}
 use Rattle.c_lines.specs.Answers.{Answer}
 use Rattle.c_lines.specs.Told.{store_refusal}
 use Rattle.c_lines.specs.Values.{is_run, read_by}

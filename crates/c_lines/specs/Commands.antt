@@ -1,16 +1,11 @@
 -- A line on one view: its command, in a script that has nothing but this view, by the name that the line gives it.
 use Rattle.std.specs.Prelude.{ℕ, ◌≡◌, ◌⊎◌, ◌&&◌, ℤ, pos, neg_ℤ, int_le, int_lt, ◌^◌, Bool, true, false, List, [], Option, Some, Ok, Err, if◌then◌else◌}
 use Rattle.line_grammar.specs.Sentences as line
-use Rattle.line_grammar.specs.Sentences.{Sentence}
-use Rattle.record_dim.specs.Trees.{Fields}
-use Rattle.views.specs.Tables.{Table}
+use Rattle.line_grammar.specs.Prelude.{Sentence}
+use Rattle.record_dim.specs.Prelude.{Fields}
+use Rattle.views.specs.Prelude.{Table}
 use Rattle.view_commands.specs.Changes.{HasRows, front_left, kernel_left, left_at, stencil_left, updated_front}
-use Rattle.worlds.specs.Kernel.{fit_kernel, number_text}
-use Rattle.worlds.specs.Names.{text_of_leaf}
-use Rattle.worlds.specs.Outcomes.{Left, Tested, ◌>>=◌}
-use Rattle.worlds.specs.Stencil.{fit_stencil}
-use Rattle.worlds.specs.Step.{done_by}
-use Rattle.worlds.specs.Worlds.{World, added, empty}
+use Rattle.worlds.specs.Prelude.{fit_kernel, number_text, text_of_leaf, Left, Tested, ◌>>=◌, fit_stencil, done_by, World, added, empty}
 use Rattle.worlds.specs.declared.fault.CommandFault.{CommandFault}
 use Rattle.worlds.specs.declared.fault.CommandFault.TheVariants as command
 use Rattle.c_lines.specs.Answers.{Answer}

@@ -1,9 +1,7 @@
 -- A copy of one table into another.
 use Rattle.std.specs.Prelude.{ℕ, ◌+◌, ◌++◌, List, length, take, drop, Ok, Err}
-use Rattle.views.specs.Stores.{kept_rows}
-use Rattle.views.specs.Tallies.{Access, Read, Write, all_accesses, row_accesses}
-use Rattle.views.specs.Tables.{Table, kept_of, leaf_count_of, after_log, after_stores}
-use Rattle.worlds.specs.Copy.{all_read, copied_by}
+use Rattle.views.specs.Prelude.{kept_rows, Access, Read, Write, all_accesses, row_accesses, Table, kept_of, leaf_count_of, after_log, after_stores}
+use Rattle.worlds.specs.Prelude.{all_read, copied_by}
 use Rattle.c_lines.specs.Answers.{Answer}
 use Rattle.c_lines.specs.declared.refusal.Refusal.TheVariants.{Narrow}
 use Rattle.c_lines.specs.Told.{done_of, in_numbers}

@@ -16,3 +16,4 @@ pub mod About
 pub mod Buffers
 pub mod Placed
 pub mod Inner
+pub mod Prelude

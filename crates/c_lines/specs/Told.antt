@@ -5,8 +5,7 @@ use Rattle.csv_rows.specs.declared.fault.RowFault.TheVariants as row
 use Rattle.layout_copy.specs.Copies.{Spot}
 use Rattle.views.specs.declared.fault.StoreFault.{StoreFault}
 use Rattle.views.specs.declared.fault.StoreFault.TheVariants as store
-use Rattle.worlds.specs.Outcomes.{Tested, ok_or}
-use Rattle.worlds.specs.Wordings.{Wording}
+use Rattle.worlds.specs.Prelude.{Tested, ok_or, Wording}
 use Rattle.worlds.specs.declared.fault.CommandFault.{CommandFault}
 use Rattle.worlds.specs.declared.fault.CommandFault.TheVariants as command
 use Rattle.c_lines.specs.Answers.{Answer, answer_map}

@@ -2,11 +2,10 @@
 ghost use Rattle.std.specs.Prelude.{◌≡◌, ◌<◌, IfOk, IfSome, OnOk, true, [], length};
 ghost use Rattle.csv_rows.specs.Datasets.{csv_records, records_behind};
 ghost use Rattle.extents.specs.Shapes.{IsShape};
-ghost use Rattle.line_grammar.specs.Sentences.{sentence_of};
+ghost use Rattle.line_grammar.specs.Prelude.{sentence_of};
 ghost use Rattle.schema_lang.specs.Parsing.{HasItsFields};
 ghost use Rattle.map_expr.specs.Terms.{term_of};
-ghost use Rattle.worlds.specs.Load.{filled_by, loaded_by};
-ghost use Rattle.worlds.specs.View.{named, new_table_by};
+ghost use Rattle.worlds.specs.Prelude.{filled_by, loaded_by, named, new_table_by};
 ghost use Rattle.command_checks.specs.Inner.Bases.{is_nameless};
 ghost use Rattle.c_lines.specs.Answers.{Tells};
 ghost use Rattle.c_lines.specs.Lines.{asked, described, loaded, new_answer, world_told};

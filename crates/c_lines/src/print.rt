@@ -1,7 +1,6 @@
 // The text of a table.
 ghost use Rattle.std.specs.Prelude.{◌≡◌, ◌<◌, ◌⊎◌, length, Ok, Err};
-ghost use Rattle.views.specs.Tables.{leaf_count_of, after_log};
-ghost use Rattle.views.specs.Tallies.{Read, all_accesses};
+ghost use Rattle.views.specs.Prelude.{leaf_count_of, after_log, Read, all_accesses};
 ghost use Rattle.c_lines.specs.declared.refusal.Refusal.TheVariants.{NoMemory};
 ghost use Rattle.c_lines.specs.Buffers.{printed, TellsPut};
 

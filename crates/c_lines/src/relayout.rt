@@ -1,7 +1,7 @@
 // A table that is laid out anew.
 ghost use Rattle.std.specs.Prelude.{◌≡◌, ◌<◌, ℕ, IfOk, List, true};
 ghost use Rattle.layout_copy.specs.Copies.{AreAlike};
-ghost use Rattle.line_grammar.specs.Sentences.{sentence_of};
+ghost use Rattle.line_grammar.specs.Prelude.{sentence_of};
 ghost use Rattle.map_expr.specs.Terms.{term_of};
 ghost use Rattle.command_checks.specs.Inner.Bases.{is_nameless};
 ghost use Rattle.c_lines.specs.Answers.{Tells, TellsLeft};

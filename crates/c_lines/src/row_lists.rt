@@ -2,7 +2,7 @@
 ghost use Rattle.std.specs.Prelude.{◌≡◌, ◌<◌, ℕ, List, length, nat_lt, slice_index_or};
 ghost use Rattle.std.specs.List.{list_all};
 ghost use Rattle.subviews.specs.SubViews.{rows_of};
-ghost use Rattle.views.specs.Tables.{Table};
+ghost use Rattle.views.specs.Prelude.{Table};
 
 use extents::Window;
 use views::View;

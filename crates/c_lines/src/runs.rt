@@ -1,7 +1,6 @@
 // One leaf of rows one after another, to and from an array.
 ghost use Rattle.std.specs.Prelude.{◌≡◌, ◌+◌, ◌<◌, ◌≤◌, length, map, OnOk, OnErr};
-ghost use Rattle.views.specs.LeafRuns.{run_of};
-ghost use Rattle.views.specs.Tables.{leaf_count_of};
+ghost use Rattle.views.specs.Prelude.{run_of, leaf_count_of};
 ghost use Rattle.c_lines.specs.CallerRuns.{after_run, was_set_run, after_set_run, IsSet};
 ghost use Rattle.c_lines.specs.Values.{read_by};
 

@@ -1,5 +1,6 @@
 -- Outcomes of a list, one after another.
-use Rattle.command_checks.proofs.Imports.{◌≡◌, ℕ, suc, ◌+◌, ◌<◌, List, [], ◌∷◌, ◌++◌, take, drop, get_or, length, refl, sym, ap, ◌∙◌, take-append-drop, take_more, drop-cons, ◌>>=◌, each, GivesUp, GivesUp-then, StepFault, Ok, Err, Tested}
+use Rattle.command_checks.proofs.Imports.{◌≡◌, ℕ, suc, ◌+◌, ◌<◌, List, [], ◌∷◌, ◌++◌, take, drop, get_or, length, refl, sym, ap, ◌∙◌, take-append-drop, take_more, drop-cons, ◌>>=◌, each, GivesUp, GivesUp-then, StepFault, Ok, Tested}
+use Rattle.std.proofs.Common.{arith}
 
 -- a list at one of its places
 pub parts_at : {X : Type 0} (xs : List X) (i : ℕ) (d : X) → i < length xs → take i xs ++ get_or xs i d ∷ drop (suc i) xs ≡ xs
@@ -14,9 +15,7 @@ record AllGo {B : Type 0} (first : Tested B) (rest : Tested (List B)) (all : Lis
   all_is : all ≡ one ∷ others
 
 all_go : {B : Type 0} (first : Tested B) (rest : Tested (List B)) (all : List B) → (first >>= (λ y. rest >>= (λ ys. Ok (y ∷ ys)))) ≡ Ok all → AllGo first rest all
-all_go (Ok y) (Ok ys) all e = record { one = y; others = ys; first_is = refl; rest_is = refl; all_is = (let same : (y ∷ ys) ≡ all = cc in sym same) }
-all_go (Ok y) (Err fault) all e = absurd (cc)
-all_go (Err fault) rest all e = absurd (cc)
+all_go first rest all e = grind arith
 
 behind : {B : Type 0} (first : Tested B) (rest : Tested (List B)) (one : B) (others all : List B) → first ≡ Ok one → rest ≡ Ok others → all ≡ one ∷ others
     → (first >>= (λ y. rest >>= (λ ys. Ok (y ∷ ys)))) ≡ Ok all
@@ -30,9 +29,7 @@ stopped first rest one fault a gives = rw a (GivesUp-then rest _ fault gives)
 pub each_push : {A B : Type 0} (f : A → Tested B) (before : List A) (all : List B) (x : A) (y : B) → each f before ≡ Ok all → f x ≡ Ok y → each f (before ++ x ∷ []) ≡ Ok (all ++ y ∷ [])
 each_push f [] all x y so_far is = let none : all ≡ [] = cc in rw (is, none) refl
 each_push {A} {B} f (first ∷ before) all x y so_far is =
-    let parts = all_go (f first) (each f before) all so_far in
-    behind (f first) (each f (before ++ x ∷ [])) parts.one (parts.others ++ y ∷ []) (all ++ y ∷ []) parts.first_is (each_push f before parts.others x y parts.rest_is is)
-    (ap (λ (ys : List B). ys ++ y ∷ []) parts.all_is)
+    let parts = all_go (f first) (each f before) all so_far in grind (arith, (each_push f before parts.others x y parts.rest_is is))
 
 -- one that does not
 pub each_stop : {A B : Type 0} (f : A → Tested B) (before : List A) (all : List B) (x : A) (more : List A) (fault : StepFault) → each f before ≡ Ok all → GivesUp (f x) fault

@@ -1,53 +1,29 @@
 -- What the proofs of this crate speak of.
-pub use Rattle.std.proofs.Common.{◌≡◌, ℕ, suc, ◌+◌, ◌<◌, List, [], ◌∷◌, ◌++◌, take, drop, get_or, length, refl, sym, ap, ◌∙◌, true, false, nat_le, ◌-◌, ◌*◌, ◌≤◌, ◌^◌, Bool, map, Ok, arith, inl, inr, cond, Option, Some, None, subst, ⊎_elim, zero, append_assoc, pos, not, rules, Err, length-append}
-pub use Rattle.std.proofs.lemmas.List.{take-append-drop, take_more, get_or-map, length-map, append-nil, map-append, length-take-le}
+pub use Rattle.record_dim.specs.Std.{◌≡◌, ℕ, suc, ◌+◌, ◌<◌, List, [], ◌∷◌, ◌++◌, take, drop, get_or, length, refl, sym, ap, ◌∙◌, true, false, nat_le, ◌-◌, ◌*◌, ◌≤◌, ◌^◌, Bool, map, Ok, arith, inl, inr, cond, Option, Some, None, subst, ⊎_elim, zero, append_assoc, pos, not, rules, Err, length-append, take-append-drop, take_more, get_or-map, length-map, append-nil, map-append, length-take-le, ◌&&◌, nat_lt, ◌||◌, int_le, All, and_parts, le-leb, leb-true, false≢true, lt-ltb, or_right, cases_Bool, nat_tests, sum_by_more, BTreeMap, Updates, slice_cmp, bytes_decides, texts_ties, position_from, range_with_len, option_or, nat_cmp, flat_map-append, ints, slice_get_within, All-push, All-nil, All-cons, All-head, All-tail}
 pub use Rattle.std.proofs.Math.Seq.{drop-cons}
-pub use Rattle.std.specs.Prelude.{◌&&◌, nat_lt, ◌||◌, int_le, All}
-pub use Rattle.std.proofs.lemmas.Bool.{and_parts, le-leb, leb-true, false≢true, lt-ltb, or_right, cases_Bool}
-pub use Rattle.std.proofs.lemmas.Bool.Decides.{nat_tests}
-pub use Rattle.std.proofs.lemmas.List.Sums.{sum_by_more}
-pub use Rattle.std.specs.BTreeMap.{BTreeMap, Updates}
-pub use Rattle.std.specs.Cmp.Lexicographic.{slice_cmp, bytes_decides, texts_ties}
-pub use Rattle.std.specs.List.{position_from, range_with_len}
-pub use Rattle.std.specs.Option.{option_or}
-pub use Rattle.std.specs.Ordering.{nat_cmp}
-pub use Rattle.std.proofs.lemmas.List.Concat.{flat_map-append}
-pub use Rattle.std.proofs.lemmas.Int.{ints}
-pub use Rattle.std.proofs.lemmas.Option.{slice_get_within}
-pub use Rattle.std.proofs.lemmas.List.Elements.{All-push, All-nil, All-cons, All-head, All-tail}
-pub use Rattle.worlds.specs.Outcomes.{Outcome, Goes, Faults, CannotRead, ◌>>=◌, each, refused_if, some_or, Tested}
+pub use Rattle.worlds.specs.Prelude.{Outcome, Goes, Faults, CannotRead, ◌>>=◌, each, refused_if, some_or, Tested, are_inside, windowed, Entry, same_name, made, zeros_of, blob_bits, live_bits, leaves_at, leaves_under, bound_pass, leaf_of, nameless, all_reach, all_weigh, weighted_term, fit_terms}
 pub use Rattle.extents.specs.declared.window.Span.{Span}
 pub use Rattle.extents.specs.Windows.{IsWindow}
-pub use Rattle.worlds.specs.Windows.{are_inside, windowed}
 pub use Rattle.extents.specs.Indices.{indices}
-pub use Rattle.record_dim.specs.Trees.{Fields}
-pub use Rattle.record_dim.specs.Leaves.{leaves, kinds_of, paths_of}
+pub use Rattle.record_dim.specs.Prelude.{Fields, leaves, kinds_of, paths_of, schema_fields}
 pub use Rattle.map_expr.specs.Terms.{Term as MapTerm, term_of}
-pub use Rattle.map_checks.specs.Mappings.{leaf_cells, layout_by, accepted, most_slots}
-pub use Rattle.piece_bits.specs.Tables.{zeros}
+pub use Rattle.map_checks.specs.Prelude.{leaf_cells, layout_by, accepted, most_slots}
+pub use Rattle.piece_bits.specs.Prelude.{zeros}
 pub use Rattle.piece_bits.specs.declared.mode.StoreMode.{StoreMode}
-pub use Rattle.views.specs.Tables.{Table, owners_of, leaf_count_of}
-pub use Rattle.views.specs.Tallies.{no_tally, granules_for}
-pub use Rattle.views.specs.Refusals.{IsOverLimits}
-pub use Rattle.worlds.specs.Worlds.{Entry, same_name}
-pub use Rattle.worlds.specs.Tables.{made, zeros_of, blob_bits, live_bits}
-pub use Rattle.layout_io.specs.Writing.{joined}
+pub use Rattle.views.specs.Prelude.{Table, owners_of, leaf_count_of, no_tally, granules_for, IsOverLimits}
+pub use Rattle.layout_io.specs.Prelude.{joined}
 pub use Rattle.record_dim.specs.declared.path.PathStep.{PathStep}
-pub use Rattle.worlds.specs.Advise.{leaves_at, leaves_under, bound_pass}
 pub use Rattle.subviews.specs.SubViews.{WindowOf}
 pub use Rattle.subviews.specs.Stencils.{reaches, Weighted, weighted, is_divisor, is_weight}
 pub use Rattle.line_grammar.specs.declared.line.TermText.{TermText}
 pub use Rattle.subviews.specs.Plans.{IsTermOf}
 pub use Rattle.subviews.specs.declared.term.Term.{Term}
-pub use Rattle.worlds.specs.Names.{leaf_of, nameless}
-pub use Rattle.worlds.specs.Stencil.{all_reach, all_weigh, weighted_term, fit_terms}
 pub use Rattle.worlds.specs.declared.fault.BadStencil.TheVariants.{Reach, Weight, Terms, Rounds}
 pub use Rattle.worlds.specs.declared.fault.CommandFault.TheVariants.{BadStencil, Unknown}
 pub use Rattle.advisor.specs.declared.pass.Pass.{Pass}
 pub use Rattle.extents.specs.declared.words.ExtentWord.{ExtentWord}
 pub use Rattle.extents.specs.Shapes.{HasRows}
-pub use Rattle.record_dim.specs.Schemas.{schema_fields}
-pub use Rattle.expr_lang.specs.BindingLaws.{leaf_number_is}
+pub use Rattle.expr_lang.specs.Prelude.{leaf_number_is}
 pub use Rattle.worlds.specs.declared.fault.UnknownName.TheVariants.{Path}
 pub use Rattle.command_checks.specs.Inner.Gives.{GivesUp}
 pub use Rattle.command_checks.specs.GivesLaws.{GivesUp-then}

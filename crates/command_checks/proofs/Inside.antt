@@ -1,12 +1,12 @@
 -- Spans that are a window.
-use Rattle.command_checks.proofs.Imports.{◌≡◌, ℕ, true, false, nat_le, List, [], ◌∷◌, refl, ◌&&◌, and_parts, le-leb, leb-true, false≢true, Span, IsWindow, are_inside, windowed, Ok, Err}
+use Rattle.command_checks.proofs.Imports.{◌≡◌, ℕ, true, nat_le, List, [], ◌∷◌, refl, ◌&&◌, and_parts, le-leb, leb-true, false≢true, Span, IsWindow, are_inside, windowed, Ok}
+use Rattle.std.proofs.Common.{arith}
 
 inside_true : (extents : List ℕ) (spans : List Span) → IsWindow extents spans → are_inside extents spans ≡ true
 inside_true [] [] is = refl
 inside_true [] (span ∷ spans) is = absurd is
 inside_true (extent ∷ extents) [] is = absurd is
-inside_true (extent ∷ extents) (span ∷ spans) is =
-    rw (le-leb span.from span.end is.0.0, le-leb span.end extent is.0.1, inside_true extents spans is.1) refl
+inside_true (extent ∷ extents) (span ∷ spans) is = grind (arith, le-leb, (inside_true extents spans is.1))
 
 is_window : (extents : List ℕ) (spans : List Span) → are_inside extents spans ≡ true → IsWindow extents spans
 is_window [] [] inside = tt

@@ -1,18 +1,12 @@
 -- New tables and their limits.
-use Rattle.command_checks.proofs.Imports.{◌≡◌, ℕ, ◌+◌, ◌-◌, ◌*◌, ◌<◌, ◌≤◌, ◌^◌, Bool, true, false, List, length, take, map, get_or, Ok, refl, sym, ap, ◌∙◌, arith, inl, inr, ◌||◌, false≢true, lt-ltb, or_right, nat_tests, get_or-map, length-map, sum_by_more, indices, Fields, leaves, kinds_of, MapTerm, leaf_cells, layout_by, accepted, most_slots, zeros, StoreMode, Table, owners_of, leaf_count_of, no_tally, granules_for, IsOverLimits, Entry, ◌>>=◌, refused_if, made, zeros_of, blob_bits, live_bits, view_of, ViewEntry, Err, Tested}
-use Rattle.std.proofs.Common.{nat_lt}
+use Rattle.command_checks.proofs.Imports.{◌≡◌, ℕ, ◌+◌, ◌-◌, ◌*◌, ◌<◌, ◌≤◌, ◌^◌, Bool, true, false, List, length, take, map, get_or, Ok, refl, sym, ap, ◌∙◌, arith, ◌||◌, lt-ltb, or_right, nat_tests, get_or-map, length-map, sum_by_more, indices, Fields, leaves, kinds_of, MapTerm, leaf_cells, layout_by, accepted, most_slots, zeros, StoreMode, Table, owners_of, leaf_count_of, no_tally, granules_for, IsOverLimits, Entry, ◌>>=◌, refused_if, made, zeros_of, blob_bits, live_bits, view_of, ViewEntry, Err, Tested, nat_lt}
 use Rattle.worlds.specs.declared.fault.CommandFault.TheVariants as fault
 
 -- the table that a new view is
 pub table_new : (seen : Table) (mode : StoreMode) (fields : Fields) (extents : List ℕ) (term : MapTerm) → seen.mode ≡ mode → seen.fields ≡ fields → seen.extents ≡ extents → seen.mapping ≡ term
     → seen.rows ≡ zeros (length (indices extents)) (length (leaves fields)) → seen.tally ≡ no_tally (seen.mapping) (owners_of seen) (leaf_count_of seen)
     → seen ≡ zeros_of mode fields extents term
-table_new seen mode fields extents term m f e t z n =
-    let tally : seen.tally ≡ no_tally term (layout_by term extents fields) (length (leaves fields)) =
-    n ∙ ap (λ (w : MapTerm). no_tally w (layout_by w seen.extents seen.fields) (leaf_count_of seen)) t
-    ∙ ap (λ (w : List ℕ). no_tally term (layout_by term w seen.fields) (leaf_count_of seen)) e
-    ∙ ap (λ (w : Fields). no_tally term (layout_by term extents w) (length (leaves w))) f in
-    λ i. record { fields = f i; extents = e i; mapping = t i; mode = m i; rows = z i; tally = tally i }
+table_new seen mode fields extents term m f e t z n = grind (arith, leaves)
 
 slots_within : (a b : ℕ) → (a < b → ⊥) → nat_lt a b ≡ false
 slots_within a b within = grind (arith, nat_tests)
@@ -30,11 +24,7 @@ limited_goes : (a b c d : Bool) (table : Table) → a ≡ false → b ≡ false 
 limited_goes a b c d table p q r s = rw (p, q, r, s) refl
 
 limited_over : (a b c d : Bool) (table : Table) → (a || (b || (c || d))) ≡ true → limited a b c d table ≡ Err fault.TooBig
-limited_over true b c d table over = refl
-limited_over false true c d table over = refl
-limited_over false false true d table over = refl
-limited_over false false false true table over = refl
-limited_over false false false false table over = absurd (false≢true over)
+limited_over a b c d table over = grind arith
 
 module _ (views : List (Entry Table)) (mode : StoreMode) (fields : Fields) (extents : List ℕ) (term : MapTerm) (good : accepted term fields (leaf_cells (kinds_of fields)) ≡ Ok tt) where
   abbrev slots : Bool
@@ -56,15 +46,10 @@ module _ (views : List (Entry Table)) (mode : StoreMode) (fields : Fields) (exte
   over_is over = made_is ∙ limited_over slots bits granules all (zeros_of mode fields extents term) over
 
   pub made_goes : (IsOverLimits term extents fields → ⊥) → (8 * 2 ^ 30 < live_bits views + blob_bits (zeros_of mode fields extents term) → ⊥) → made views mode fields extents term ≡ Ok (zeros_of mode fields extents term)
-  made_goes small room = made_is ∙ limited_goes slots bits granules all (zeros_of mode fields extents term)
-      (slots_within (2 ^ 24) (most_slots term extents) (λ over. small (inl (inl over))))
-      (slots_within (8 * 2 ^ 28) (blob_bits (zeros_of mode fields extents term)) (λ over. small (inl (inr over))))
-      (slots_within (2 ^ 24) (granules_for term (layout_by term extents fields)) (λ over. small (inr over)))
-      (slots_within (8 * 2 ^ 30) (live_bits views + blob_bits (zeros_of mode fields extents term)) room)
+  made_goes small room = grind (arith, made_is, limited_goes, slots_within)
 
   pub made_full : 8 * 2 ^ 30 < live_bits views + blob_bits (zeros_of mode fields extents term) → made views mode fields extents term ≡ Err fault.TooBig
-  made_full full =
-      over_is (or_right slots _ (or_right bits _ (or_right granules all (lt-ltb (8 * 2 ^ 30) (live_bits views + blob_bits (zeros_of mode fields extents term)) full))))
+  made_full full = grind (arith, over_is, or_right, lt-ltb)
 
 -- bytes against bits: too many live, and a view that fits beside those that live
 pub bits_over : (live bits more : ℕ) → 8 * live ≡ bits → 2 ^ 30 < live → 8 * 2 ^ 30 < bits + more

@@ -1,16 +1,13 @@
 -- Laws of tables that are alike: the tests of the model hold exactly where the records are one tree and the extents the same.
-use Rattle.std.proofs.Common.{◌≡◌, ◌∙◌, ℕ, true, false, nat_eq, refl, sym, ap, ⊎_elim}
-use Rattle.std.specs.Prelude.{◌&&◌, if◌then◌else◌}
-use Rattle.std.specs.Cmp.Lexicographic.{pointwise}
-use Rattle.std.proofs.lemmas.Bool.{false≢true, cases_Bool, eqb-true, eq-eqb}
-use Rattle.record_dim.specs.NameBytesLaws.{both, same_text, text_self}
+use Rattle.std.specs.Prelude.{◌≡◌, ℕ, true, false, nat_eq, refl, ◌&&◌, if◌then◌else◌}
+use Rattle.record_dim.specs.Std.{◌∙◌, sym, ap, ⊎_elim, pointwise, false≢true, cases_Bool, eqb-true, eq-eqb}
+use Rattle.record_dim.specs.Prelude.{both, same_text, text_self, Tree, Fields, Single, Record, Array, End, Field, kind_number}
 use Rattle.record_dim.specs.declared.leaf_type.LeafType.{LeafType}
 use Rattle.record_dim.specs.declared.leaf_type.LeafType.TheVariants.{Bool as Truth, U8, U16, U32, U64, I8, I16, I32, I64}
-use Rattle.record_dim.specs.Trees.{Tree, Fields, Single, Record, Array, End, Field}
-use Rattle.record_dim.specs.LeafTypes.{kind_number}
 use Rattle.layout_copy.specs.Copies.{AreAlike}
-use Rattle.views.specs.Tables.{Table}
-use Rattle.worlds.specs.Copy.{same_tree, same_fields, are_alike}
+use Rattle.views.specs.Prelude.{Table}
+use Rattle.worlds.specs.Prelude.{same_tree, same_fields, are_alike}
+use Rattle.std.proofs.Common.{arith}
 
 -- a type by its number
 abbrev kind_by : ℕ → LeafType
@@ -26,8 +23,7 @@ kind_by number =
     else Truth)))))))
 
 kind_back : (kind : LeafType) → kind_by (kind_number kind) ≡ kind
-kind_back Truth = refl
-kind_back other = refl
+kind_back kind = grind arith
 
 same_kind : (kind other : LeafType) → nat_eq (kind_number kind) (kind_number other) ≡ true → kind ≡ other
 same_kind kind other e = sym (kind_back kind) ∙ ap kind_by (eqb-true (kind_number kind) (kind_number other) e) ∙ kind_back other
@@ -72,15 +68,10 @@ mutual
 
 -- views of one record over the same extents are alike, and no others
 pub alike : (source target : Table) → AreAlike source target → are_alike source target ≡ true
-alike source target are =
-    let fields = target.fields in
-    let extents = target.extents in
-    rw (are.0, are.1, fields_self fields, text_self extents) refl
+alike source target are = grind (arith, fields_self, text_self)
 
 pub not_alike : (source target : Table) → (AreAlike source target → ⊥) → are_alike source target ≡ false
 not_alike source target differ = ⊎_elim
-    (λ (e : are_alike source target ≡ true).
-    let parts = both (same_fields source.fields target.fields) (pointwise nat_eq source.extents target.extents) e in
-    absurd (differ (fields_are source.fields target.fields parts.0, same_text source.extents target.extents parts.1)))
+    (λ (e : are_alike source target ≡ true). grind (arith, both, same_fields, nat_eq, fields_are, same_text))
     (λ (e : are_alike source target ≡ false). e)
     (cases_Bool (are_alike source target))

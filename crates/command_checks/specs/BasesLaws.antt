@@ -1,20 +1,18 @@
 -- Laws of mappings without names, and of the rows that words ask for.
-use Rattle.std.proofs.Common.{◌≡◌, ◌⊎◌, inl, inr, ℕ, zero, suc, ◌<◌, ◌/◌, ◌%◌, Bool, true, false, not, nat_lt, count_by, List, length, Option, Some, None, refl, sym, ap, ◌∙◌, arith, ⊎_elim, Ok, Err}
-use Rattle.std.specs.Prelude.{IsSome, IfSome, ◌==◌, ◌&&◌, if◌then◌else◌}
-use Rattle.std.proofs.lemmas.Bool.{false≢true, cases_Bool}
-use Rattle.std.proofs.lemmas.Bool.Decides.{nat_tests}
+use Rattle.std.specs.Prelude.{◌≡◌, ◌⊎◌, ℕ, zero, suc, ◌<◌, ◌/◌, ◌%◌, Bool, true, false, not, nat_lt, count_by, List, length, Option, Some, None, refl, Ok, Err, IsSome, IfSome, ◌==◌, ◌&&◌, if◌then◌else◌}
+use Rattle.record_dim.specs.Std.{inl, inr, sym, ap, ◌∙◌, arith, ⊎_elim, false≢true, cases_Bool, nat_tests}
 use Rattle.extents.specs.declared.words.ExtentWord.{ExtentWord}
 use Rattle.extents.specs.declared.words.BadExtents.{BadExtents as Bad}
 use Rattle.extents.specs.Indices.{indices, product}
 use Rattle.extents.specs.IndicesLaws.{length-indices}
 use Rattle.extents.specs.Shapes.{is_rows, HasRows, IsShape, bad_extents, extents_for, fixed_product}
 use Rattle.extents.specs.ShapeLaws.{product_divided, product_fixed}
-use Rattle.record_dim.specs.NameBytesLaws.{both}
+use Rattle.record_dim.specs.Prelude.{both}
 use Rattle.record_dim.specs.declared.path.PathStep.{PathStep}
-use Rattle.map_expr.specs.Terms.{Term, Aos, Soa, Aosoa, BitAos, BitSoa, Split, Byteswap, Bytesplit, Change, Count, Heat, Named}
+use Rattle.map_expr.specs.Terms.{Term, Split, Byteswap, Bytesplit, Change, Count, Heat, Named}
 use Rattle.map_expr.specs.Checks.{IsNameless}
 pub use Rattle.blob_file.specs.HeaderLaws.{nameless_built}
-use Rattle.worlds.specs.Tables.{resolved}
+use Rattle.worlds.specs.Prelude.{resolved}
 use Rattle.worlds.specs.declared.fault.CommandFault.TheVariants.{BadExtents}
 use Rattle.command_checks.specs.Inner.Bases.{is_nameless, rows_for}
 
@@ -37,9 +35,7 @@ nameless_split path first rest p q = rw (p, q) refl
 
 -- a number of rows is given where there is a `?`
 pub rows_for_some : (words : List ExtentWord) (rows : Option ℕ) → HasRows words → IsSome (rows_for words rows)
-rows_for_some words rows has =
-    let e : nat_lt 0 (count_by is_rows words) ≡ true = grind (arith, nat_tests) in
-    rw e refl
+rows_for_some words rows has = grind (arith, nat_lt, count_by, nat_tests)
 
 some_not_none : (n : ℕ) → nat_lt 0 n ≡ true → (n == 0) ≡ false
 some_not_none n e = grind (arith, nat_tests)
@@ -88,13 +84,10 @@ rows_of_shape words rows shape none =
     same_rows n rows fixed is e = grind (arith, nat_tests)
 
     first_false : (a : Bool) (x : Bad) (rest : Option Bad) → (if a then Some x else rest) ≡ None → a ≡ false
-    first_false true x rest e = absurd (cc)
-    first_false false x rest e = refl
+    first_false a x rest e = grind arith
 
     second_false : (a b : Bool) (x y : Bad) (rest : Option Bad) → (if a then Some x else (if b then Some y else rest)) ≡ None → b ≡ false
-    second_false true b x y rest e = absurd (cc)
-    second_false false true x y rest e = absurd (cc)
-    second_false false false x y rest e = refl
+    second_false a b x y rest e = grind arith
 
 pub rows_are : (words : List ExtentWord) (rows : Option ℕ) (extents : List ℕ) → IsShape words → bad_extents words (rows_for words rows) ≡ None → extents ≡ extents_for words (rows_for words rows)
     → IfSome rows (λ count. length (indices extents) ≡ count)

@@ -1,10 +1,7 @@
 -- Laws of names and the places of their entries.
-use Rattle.std.proofs.Common.{◌≡◌, ℕ, zero, suc, ◌+◌, ◌<◌, true, false, List, [], ◌∷◌, ◌++◌, length, map, take, drop, get_or, Some, None, refl, sym, ap, ◌∙◌, subst, arith, ⊎_elim, Ok, Err}
-use Rattle.std.specs.List.{position_from}
-use Rattle.std.proofs.lemmas.Bool.{cases_Bool}
-use Rattle.worlds.specs.Worlds.{Entry, same_name, found}
-use Rattle.std.specs.Prelude.{is_some}
-use Rattle.worlds.specs.Outcomes.{known, free, some_or, refused_if}
+use Rattle.std.specs.Prelude.{◌≡◌, ℕ, zero, suc, ◌+◌, ◌<◌, true, false, List, [], ◌∷◌, ◌++◌, length, map, take, drop, get_or, Some, None, refl, Ok, Err, is_some}
+use Rattle.record_dim.specs.Std.{sym, ap, ◌∙◌, subst, arith, ⊎_elim, position_from, cases_Bool}
+use Rattle.worlds.specs.Prelude.{Entry, same_name, found, known, free, some_or, refused_if}
 use Rattle.worlds.specs.declared.fault.CommandFault.TheVariants.{Unknown, Taken}
 use Rattle.worlds.specs.declared.fault.UnknownName.TheVariants.{Name}
 use Rattle.command_checks.specs.Inner.Places.{without, IsAt}

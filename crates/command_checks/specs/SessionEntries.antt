@@ -1,9 +1,8 @@
 -- What the entries of a session are in its world.
-use Rattle.record_dim.specs.Trees.{Fields}
-use Rattle.record_dim.specs.Schemas.{schema_fields}
+use Rattle.record_dim.specs.Prelude.{Fields, schema_fields}
 use Rattle.map_expr.specs.Terms.{Term as MapTerm, term_of}
-use Rattle.views.specs.Tables.{Table}
-use Rattle.worlds.specs.Worlds.{Entry}
+use Rattle.views.specs.Prelude.{Table}
+use Rattle.worlds.specs.Prelude.{Entry}
 use Rattle.command_checks.specs.declared.entries.RecordEntry.{RecordEntry}
 use Rattle.command_checks.specs.declared.entries.ViewEntry.{ViewEntry}
 use Rattle.command_checks.specs.declared.mapping_entry.MappingEntry.{MappingEntry}

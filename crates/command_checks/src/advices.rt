@@ -3,10 +3,8 @@ ghost use Rattle.std.specs.Prelude.{◌≡◌, ◌+◌, ◌++◌, ◌≤◌, All
 ghost use Rattle.std.specs.List.{range_with_len};
 ghost use Rattle.map_expr.specs.Checks.{bad_granule};
 ghost use Rattle.map_expr.specs.Terms.{term_of};
-ghost use Rattle.record_dim.specs.Schemas.{schema_fields};
-ghost use Rattle.worlds.specs.Advise.{asked, bound_pass, fit_advice, leaves_at, leaves_under};
-ghost use Rattle.worlds.specs.Names.{nameless};
-ghost use Rattle.worlds.specs.Outcomes.{each};
+ghost use Rattle.record_dim.specs.Prelude.{schema_fields};
+ghost use Rattle.worlds.specs.Prelude.{asked, bound_pass, fit_advice, leaves_at, leaves_under, nameless, each};
 ghost use Rattle.command_checks.specs.Inner.Bases.{is_nameless};
 ghost use Rattle.command_checks.specs.SessionEntries.{mapping_of};
 ghost use Rattle.command_checks.specs.Inner.Gives.{Gives};

@@ -1,7 +1,7 @@
 // Tables of names.
 ghost use Rattle.std.specs.Prelude.{◌≡◌, ℕ, List, Some, None, IfOk, IfErr, cond};
 ghost use Rattle.std.specs.Option.{option_or};
-ghost use Rattle.worlds.specs.Worlds.{same_name};
+ghost use Rattle.worlds.specs.Prelude.{same_name};
 ghost use Rattle.command_checks.specs.Inner.Indexed.{place_in};
 
 use crate::fault::StepFault;

@@ -1,11 +1,10 @@
 // Paths and expressions over the leaves of a view.
 ghost use Rattle.std.specs.Prelude.{◌≡◌, ◌<◌, ◌⊎◌, IfOk, IfErr, length};
-ghost use Rattle.expr_lang.specs.Terms.{term_of};
-ghost use Rattle.expr_lang.specs.Bounds.{bound_term};
-ghost use Rattle.record_dim.specs.Schemas.{schema_fields};
+ghost use Rattle.expr_lang.specs.Prelude.{term_of, bound_term};
+ghost use Rattle.record_dim.specs.Prelude.{schema_fields};
 ghost use Rattle.row_updates.specs.Rows.{IsBoundOver};
-ghost use Rattle.views.specs.Tables.{leaf_count_of};
-ghost use Rattle.worlds.specs.Names.{leaf_of, bound, text_of_leaf};
+ghost use Rattle.views.specs.Prelude.{leaf_count_of};
+ghost use Rattle.worlds.specs.Prelude.{leaf_of, bound, text_of_leaf};
 ghost use Rattle.command_checks.specs.Inner.Gives.{Gives};
 
 use crate::fault::StepFault;

@@ -1,9 +1,8 @@
 // Names that are taken, and names that stand for something.
 ghost use Rattle.std.specs.Prelude.{◌≡◌, IfOk, IfErr, is_some, map};
 ghost use Rattle.std.specs.List.{position_from};
-ghost use Rattle.record_dim.specs.Schemas.{schema_fields};
-ghost use Rattle.worlds.specs.Worlds.{same_name};
-ghost use Rattle.worlds.specs.Outcomes.{known, free, refused_if};
+ghost use Rattle.record_dim.specs.Prelude.{schema_fields};
+ghost use Rattle.worlds.specs.Prelude.{same_name, known, free, refused_if};
 ghost use Rattle.command_checks.specs.Inner.Places.{IsAt};
 ghost use Rattle.command_checks.specs.SessionEntries.{record_of, view_of};
 ghost use Rattle.command_checks.specs.Inner.Gives.{Gives, GivesUp};

@@ -3,10 +3,9 @@ ghost use Rattle.std.specs.Prelude.{◌≡◌, ◌-◌, ◌*◌, ◌^◌, ◌<�
 ghost use Rattle.extents.specs.Indices.{indices};
 ghost use Rattle.extents.specs.Shapes.{is_rows, IsShape};
 ghost use Rattle.map_expr.specs.Terms.{term_of};
-ghost use Rattle.record_dim.specs.Schemas.{schema_fields};
-ghost use Rattle.views.specs.Tables.{Table};
-ghost use Rattle.worlds.specs.Worlds.{Entry};
-ghost use Rattle.worlds.specs.Tables.{room, shaped, resolved, made, zeros_of, live_bits};
+ghost use Rattle.record_dim.specs.Prelude.{schema_fields};
+ghost use Rattle.views.specs.Prelude.{Table};
+ghost use Rattle.worlds.specs.Prelude.{Entry, room, shaped, resolved, made, zeros_of, live_bits};
 ghost use Rattle.command_checks.specs.Inner.Bases.{is_nameless, rows_for};
 ghost use Rattle.command_checks.specs.SessionEntries.{view_of};
 ghost use Rattle.command_checks.specs.Inner.Gives.{Gives};

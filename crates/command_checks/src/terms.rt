@@ -3,9 +3,8 @@ ghost use Rattle.std.specs.Prelude.{◌≡◌, ◌<◌, ◌≤◌, All, IfOk, tr
 ghost use Rattle.std.specs.List.{list_all};
 ghost use Rattle.extents.specs.Windows.{IsWindow};
 ghost use Rattle.subviews.specs.Stencils.{is_offset, is_weight, weighted};
-ghost use Rattle.views.specs.Tables.{leaf_count_of};
-ghost use Rattle.worlds.specs.Outcomes.{each};
-ghost use Rattle.worlds.specs.Stencil.{all_reach, all_weigh, weighted_term};
+ghost use Rattle.views.specs.Prelude.{leaf_count_of};
+ghost use Rattle.worlds.specs.Prelude.{each, all_reach, all_weigh, weighted_term};
 ghost use Rattle.command_checks.specs.Inner.Gives.{Gives};
 ghost use Rattle.command_checks.specs.Inner.Terms.{placed_term, weighted_at};
 

@@ -1,6 +1,6 @@
 -- Accesses to the rows, one after another.
 use Rattle.csv_rows.proofs.Imports.{◌≡◌, ℕ, ◌+◌, ℤ, List, [], sym, ap, ◌∙◌, Write, Tally, row_accesses, all_accesses, tallied-none, after_log-append, after_stores-append, logs_more, Table, owners_of, leaf_count_of, after_log, after_stores}
-use Rattle.views.specs.Tallies.{Read}
+use Rattle.views.specs.Prelude.{Read}
 
 -- no store
 pub after_stores-none : (seen : Table) → seen ≡ after_stores seen seen.rows []

@@ -1,6 +1,5 @@
 -- A number that is further from 0 than any leaf reaches, and the one that is answered in its place.
-use Rattle.csv_rows.proofs.Imports.{◌≡◌, ◌⊎◌, ℕ, suc, ◌^◌, List, ◌≤◌, false, ℤ, pos, negsuc, neg_ℤ, ◌<ℤ◌, Result, Err, Option, Some, None, refl, sym, ap, ◌∙◌, arith, int_le, slice_get, ints, cases_lt, LeafType, least_of, greatest_of, Hold, StoreMode, Strict, store_answer, Range, shortened, folded_near, folded_far, shortened_kept, ◌>>=◌, Place, unspaced, number_behind_sign, the_field, the_number, taken, value_at, RowFault, and_right, and_left}
-use Rattle.std.specs.Prelude.{option_map}
+use Rattle.csv_rows.proofs.Imports.{◌≡◌, ◌⊎◌, ℕ, suc, ◌^◌, List, ◌≤◌, false, ℤ, pos, negsuc, neg_ℤ, ◌<ℤ◌, Result, Err, Option, Some, None, refl, sym, ap, ◌∙◌, arith, int_le, slice_get, ints, cases_lt, LeafType, least_of, greatest_of, Hold, StoreMode, Strict, store_answer, Range, shortened, folded_near, folded_far, shortened_kept, ◌>>=◌, Place, unspaced, number_behind_sign, the_field, the_number, taken, value_at, RowFault, and_right, and_left, option_map}
 use Rattle.csv_rows.proofs.CsvReads.{some_is}
 
 int_le-false : (a b : ℤ) → b <ℤ a → int_le a b ≡ false

@@ -1,6 +1,6 @@
 -- The path texts of a record that is fit are names that a header can have.
-use Rattle.csv_rows.proofs.Imports.{◌≡◌, ℕ, zero, suc, ◌*◌, ◌<◌, ◌≤◌, ◌^◌, Bool, true, false, nat_eq, None, Some, List, [], ◌∷◌, length, map, refl, sym, ap, subst, ◌∙◌, arith, list_all, list_any, slice_get, pointwise, length-map, list_all-append, slice_get_within, PathStep, Name, Tree, Single, Record, Array, Fields, End, Field, leaves_of, leaves, paths_of, texts_of, names_of, has_names, has_twice, records_below, record_fault, is_name, both, same_text, BeginsWithName, path_text_of, paths_at, IsApart, InEither, in_either, in_map, paths_field, in_field, InElement, in_element, apart_tree, fit_from, fit_few, length-leaves, length-leaves_of_array, and_from}
-use Rattle.record_dim.specs.Leaves.{Leaf, records_of}
+use Rattle.csv_rows.proofs.Imports.{◌≡◌, ℕ, zero, suc, ◌*◌, ◌<◌, ◌≤◌, ◌^◌, Bool, true, false, nat_eq, None, Some, List, [], ◌∷◌, length, map, refl, sym, ap, subst, ◌∙◌, arith, list_all, list_any, slice_get, pointwise, length-map, list_all-append, slice_get_within, PathStep, Name, Tree, Single, Record, Array, Fields, End, Field, leaves_of, leaves, paths_of, texts_of, names_of, has_names, has_twice, records_below, record_fault, is_name, both, same_text, BeginsWithName, path_text_of, paths_at, IsApart, InEither, in_either, in_map, paths_field, in_field, InElement, in_element, apart_tree, fit_from, fit_few, length-leaves, length-leaves_of_array, and_from, records_of}
+use Rattle.record_dim.specs.Prelude.{Leaf}
 use Rattle.csv_rows.proofs.PlainTexts.{is_plain_text, AreColumnNames}
 use Rattle.csv_rows.proofs.PathTexts.{IsPlainPath, path_plain, same_paths}
 

@@ -1,6 +1,5 @@
 -- The first fault of a dataset: what holds of each that a value or a name may have holds of it.
-use Rattle.csv_rows.proofs.Imports.{◌≡◌, ◌⊎◌, ℕ, ◌+◌, ℤ, List, [], ◌∷◌, Option, Result, Ok, Err, IfErr, refl, ap, ◌∙◌, slice_get, enumerate_from, LeafType, Hold, StoreMode, Wrap, store_answer, Table, ◌>>=◌, Place, unspaced, number_behind_sign, the_field, the_number, taken, value_at, row_values, table_from, with_columns, columns_named, one_column, columns_of, header_record, records_behind, dataset_table, dataset_of, IsNoRefusal, RowFault, MissingColumn, ColumnTwice, NoMemory}
-use Rattle.std.proofs.Common.{arith}
+use Rattle.csv_rows.proofs.Imports.{◌≡◌, ◌⊎◌, ℕ, ◌+◌, ℤ, List, [], ◌∷◌, Option, Result, Ok, Err, IfErr, refl, ap, ◌∙◌, slice_get, enumerate_from, LeafType, Hold, StoreMode, Wrap, store_answer, Table, ◌>>=◌, Place, unspaced, number_behind_sign, the_field, the_number, taken, value_at, row_values, table_from, with_columns, columns_named, one_column, columns_of, header_record, records_behind, dataset_table, dataset_of, IsNoRefusal, RowFault, MissingColumn, ColumnTwice, NoMemory, arith}
 
 abbrev err_or : {A : Type 0} → RowFault → Result A RowFault → RowFault
 err_or d (Ok x) = d

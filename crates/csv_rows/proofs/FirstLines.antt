@@ -1,6 +1,5 @@
 -- The first line of a text, and its fields.
-use Rattle.csv_rows.proofs.Imports.{◌≡◌, ℕ, zero, suc, ◌+◌, ◌-◌, ◌<◌, ◌≤◌, Bool, true, false, List, [], ◌∷◌, length, take, drop, get_or, Some, None, refl, sym, ap, subst, ◌∙◌, ⊎_elim, arith, ◌||◌, if◌then◌else◌, slice_get, slice_split, cases_lt, false_from_ne_true, nat_tests, drop-take, drop-drop, take-take, length-take-le, length-drop, get_or-take, get_or_default, IsFirstByte, is_byte2, is_byte3, is_comma, is_line_end, line_length, first_line, behind_line, IsFirstField, IsField, IsFieldHere}
-use Rattle.std.specs.Prelude.{nat_eq}
+use Rattle.csv_rows.proofs.Imports.{◌≡◌, ℕ, zero, suc, ◌+◌, ◌-◌, ◌<◌, ◌≤◌, Bool, true, false, List, [], ◌∷◌, length, take, drop, get_or, Some, None, refl, sym, ap, subst, ◌∙◌, ⊎_elim, arith, ◌||◌, if◌then◌else◌, slice_get, slice_split, cases_lt, false_from_ne_true, nat_tests, drop-take, drop-drop, take-take, length-take-le, length-drop, get_or-take, get_or_default, IsFirstByte, is_byte2, is_byte3, is_comma, is_line_end, line_length, first_line, behind_line, IsFirstField, IsField, IsFieldHere, nat_eq}
 use Rattle.csv_rows.proofs.Fields.{field_found, field_behind, fields_end}
 
 -- a line lies in its text, none of its bytes ends it, and it ends at the text's end or where a byte ends it

@@ -1,6 +1,5 @@
 -- Numbers as most are written: digits, behind a minus or not.
-use Rattle.csv_rows.proofs.Imports.{◌≡◌, ℕ, suc, ◌+◌, ◌<◌, Bool, true, false, ℤ, pos, neg_ℤ, ◌-ℤ◌, FitsSigned, Option, List, [], ◌∷◌, length, take, drop, get_or, Some, None, refl, sym, ap, subst, ◌∙◌, arith, if◌then◌else◌, w128, is_ascii_digit, list_all, digits_value, ints, unspaced, all_digits, digits_number, number_behind_sign, folded, shortened, folded_near, is_comma, is_line_end, IsFieldHere}
-use Rattle.std.specs.Prelude.{option_map, ◌^◌}
+use Rattle.csv_rows.proofs.Imports.{◌≡◌, ℕ, suc, ◌+◌, ◌<◌, Bool, true, false, ℤ, pos, neg_ℤ, ◌-ℤ◌, FitsSigned, Option, List, [], ◌∷◌, length, take, drop, get_or, Some, None, refl, sym, ap, subst, ◌∙◌, arith, if◌then◌else◌, w128, is_ascii_digit, list_all, digits_value, ints, unspaced, all_digits, digits_number, number_behind_sign, folded, shortened, folded_near, is_comma, is_line_end, IsFieldHere, option_map, ◌^◌}
 use Rattle.csv_rows.proofs.CsvReads.{some_is}
 use Rattle.csv_rows.proofs.PrintedBytes.{AreDigits, unspaced_same, digits_write, minus_writes}
 

@@ -1,6 +1,5 @@
 -- Texts that stand in a line as they are.
-use Rattle.csv_rows.proofs.Imports.{not, list_all, list_any, has_twice}
-use Rattle.std.specs.Prelude.{ℕ, ◌≡◌, nat_eq, Bool, true, false, List, [], ◌∷◌}
+use Rattle.csv_rows.proofs.Imports.{not, list_all, list_any, has_twice, ℕ, ◌≡◌, nat_eq, Bool, true, false, List, [], ◌∷◌}
 
 -- a byte that neither ends nor quotes a field, is no blank, and begins no byte order mark
 abbrev pub is_plain_byte : ℕ → Bool

@@ -1,7 +1,5 @@
 -- The bytes of names and of decimal texts, which stand in a line as they are.
-use Rattle.csv_rows.proofs.Imports.{◌≡◌, ℕ, suc, ◌+◌, ◌*◌, ◌/◌, ◌%◌, ◌^◌, ◌<◌, ◌≤◌, Bool, true, false, nat_eq, List, [], ◌∷◌, ◌++◌, get_or, reverse, ℤ, pos, negsuc, neg_ℤ, Some, refl, sym, ap, subst, ◌∙◌, arith, All, list_all, is_ascii_digit, digit_value, decimal, digits_value, digits_value_after, nat_tests, decimal_by_steps_wide, reverse-reverse, reverse-append, list_all-append, AllPass-from_list_all, digit_value_digit, continues_name, both, digits_text, decimal_text, decimal-digits_text, is_blank, behind_blanks, before_blanks, unspaced, digits_number, number_behind_sign, is_comma, is_line_end, and_from}
-use Rattle.std.proofs.Common.{not, ◌||◌}
-use Rattle.std.specs.Prelude.{option_map}
+use Rattle.csv_rows.proofs.Imports.{◌≡◌, ℕ, suc, ◌+◌, ◌*◌, ◌/◌, ◌%◌, ◌^◌, ◌<◌, ◌≤◌, Bool, true, false, nat_eq, List, [], ◌∷◌, ◌++◌, get_or, reverse, ℤ, pos, negsuc, neg_ℤ, Some, refl, sym, ap, subst, ◌∙◌, arith, All, list_all, is_ascii_digit, digit_value, decimal, digits_value, digits_value_after, nat_tests, decimal_by_steps_wide, reverse-reverse, reverse-append, list_all-append, AllPass-from_list_all, digit_value_digit, continues_name, both, digits_text, decimal_text, decimal-digits_text, is_blank, behind_blanks, before_blanks, unspaced, digits_number, number_behind_sign, is_comma, is_line_end, and_from, not, ◌||◌, option_map}
 use Rattle.csv_rows.proofs.PlainTexts.{is_plain_byte, is_plain_text}
 
 -- what each byte of two texts is, each of both together is

@@ -1,14 +1,12 @@
 -- Datasets: the table that a list of bytes holds for some leaves, or the first fault.
 use Rattle.std.specs.Prelude.{ℕ, ℤ, pos, neg_ℤ, ◌+◌, ◌==◌, ◌||◌, nat_eq, Bool, List, [], ◌∷◌, drop, reverse, Option, Some, None, option_map, if◌then◌else◌, Result, Ok, Err}
-use Rattle.std.specs.List.{slice_get, list_all, enumerate_from}
-use Rattle.std.specs.Char.{is_ascii_digit}
-use Rattle.std.specs.Str.Parse.{digits_value}
-use Rattle.std.specs.Cmp.Lexicographic.{pointwise}
+use Rattle.record_dim.specs.Std.{list_all, enumerate_from, is_ascii_digit, digits_value, pointwise}
+use Rattle.std.specs.List.{slice_get}
 use Rattle.csv.specs.Reading.{records, default_config, strip_bom}
 use Rattle.record_dim.specs.declared.leaf_type.LeafType.{LeafType}
 use Rattle.places.specs.declared.piece.Hold.{Hold}
 use Rattle.piece_bits.specs.declared.mode.StoreMode.{StoreMode}
-use Rattle.views.specs.Stores.{store_answer}
+use Rattle.views.specs.Prelude.{store_answer}
 use Rattle.views.specs.declared.fault.StoreFault.{StoreFault}
 use Rattle.views.specs.declared.fault.StoreFault.TheVariants as store
 use Rattle.csv_rows.specs.declared.fault.RowFault.{RowFault}

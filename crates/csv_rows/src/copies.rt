@@ -1,6 +1,6 @@
 // The records of a dataset, copied by csv.
 ghost use Rattle.std.specs.Prelude.{◌≡◌, option_map};
-ghost use Rattle.piece_bits.specs.Inner.Far.{shortened};
+ghost use Rattle.piece_bits.specs.Prelude.{shortened};
 ghost use Rattle.csv_rows.specs.Datasets.{unspaced, number_behind_sign, csv_records};
 ghost use Rattle.csv_rows.specs.Inner.Readers.{rows_left, IsReading};
 

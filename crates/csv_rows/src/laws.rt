@@ -1,9 +1,7 @@
 // A law of what is printed and loaded.
 ghost use Rattle.std.specs.Prelude.{◌≡◌, Ok, length};
-ghost use Rattle.record_dim.specs.Schemas.{schema_fields};
-ghost use Rattle.record_dim.specs.Leaves.{texts_of};
-ghost use Rattle.views.specs.Tables.{leaf_types_of, table_holds};
-ghost use Rattle.views.specs.Stores.{AllStay};
+ghost use Rattle.record_dim.specs.Prelude.{schema_fields, texts_of};
+ghost use Rattle.views.specs.Prelude.{leaf_types_of, table_holds, AllStay};
 ghost use Rattle.csv_rows.specs.Datasets.{csv_records};
 ghost use Rattle.csv_rows.specs.Loads.{dataset_of};
 ghost use Rattle.csv_rows.specs.Texts.{print_text};

@@ -2,7 +2,7 @@
 ghost use Rattle.std.specs.Prelude.{◌≡◌, ◌+◌, ◌≤◌, ◌<◌, ◌^◌, None, MatchBool, IfSome, drop, length, get_or, true, false, option_map};
 ghost use Rattle.std.specs.List.{slice_get, slice_split};
 ghost use Rattle.csv_rows.specs.Datasets.{unspaced, number_behind_sign};
-ghost use Rattle.piece_bits.specs.Inner.Far.{shortened};
+ghost use Rattle.piece_bits.specs.Prelude.{shortened};
 ghost use Rattle.csv_rows.specs.Inner.Unquoted.{is_comma, is_line_end, line_length, first_line, behind_line, IsFieldHere, IsAt};
 
 use crate::number::{field_number, plain_number};

@@ -1,8 +1,7 @@
 // The table of a dataset, loaded into a view.
 ghost use Rattle.std.specs.Prelude.{◌≡◌, ◌⊎◌, IfErr, OnOk, Ok, Err, length};
 ghost use Rattle.piece_bits.specs.declared.mode.StoreMode.TheVariants.{Wrap};
-ghost use Rattle.views.specs.Tallies.{Write, all_accesses};
-ghost use Rattle.views.specs.Tables.{leaf_count_of, after_stores};
+ghost use Rattle.views.specs.Prelude.{Write, all_accesses, leaf_count_of, after_stores};
 ghost use Rattle.csv_rows.specs.Datasets.{csv_records, records_behind, table_from};
 ghost use Rattle.csv_rows.specs.Loads.{leaves_in, dataset_of, IsNoRefusal, Keeps, KeepsRows};
 ghost use Rattle.csv_rows.specs.Inner.Unquoted.{HasNoQuote};

@@ -2,7 +2,7 @@
 ghost use Rattle.std.specs.Prelude.{◌≡◌, ◌≤◌, ◌<◌, ◌^◌, ◌||◌, ℕ, pos, neg_ℤ, Some, true, false, IfSome, option_map, take, length, get_or};
 ghost use Rattle.std.specs.Char.{is_ascii_digit};
 ghost use Rattle.csv_rows.specs.Datasets.{is_blank, behind_blanks, before_blanks, unspaced, all_digits, digits_number, number_behind_sign};
-ghost use Rattle.piece_bits.specs.Inner.Far.{folded, shortened};
+ghost use Rattle.piece_bits.specs.Prelude.{folded, shortened};
 ghost use Rattle.csv_rows.specs.Inner.Unquoted.{is_comma, is_line_end, IsFieldHere};
 
 use crate::lines::is_line_end;

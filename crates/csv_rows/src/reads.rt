@@ -4,7 +4,7 @@ ghost use Rattle.std.specs.List.{slice_get};
 ghost use Rattle.std.specs.Cmp.Lexicographic.{pointwise};
 ghost use Rattle.csv.specs.Reading.{strip_bom};
 ghost use Rattle.csv_rows.specs.Datasets.{unspaced, number_behind_sign};
-ghost use Rattle.piece_bits.specs.Inner.Far.{shortened};
+ghost use Rattle.piece_bits.specs.Prelude.{shortened};
 ghost use Rattle.csv_rows.specs.Inner.Unquoted.{HasNoQuote};
 ghost use Rattle.csv_rows.specs.Inner.Readers.{IsAsked};
 

@@ -1,8 +1,6 @@
 // A record of a dataset, read into a row of a view.
 ghost use Rattle.std.specs.Prelude.{◌≡◌, ◌<◌, ℕ, pos, true, is_ok, IfOk, IfErr, OnOk, Ok, Err, length, slice_index_or, slice_set};
-ghost use Rattle.views.specs.Stores.{kept_row};
-ghost use Rattle.views.specs.Tallies.{Write, row_accesses};
-ghost use Rattle.views.specs.Tables.{leaf_count_of, answer_of, kept_of, after_stores};
+ghost use Rattle.views.specs.Prelude.{kept_row, Write, row_accesses, leaf_count_of, answer_of, kept_of, after_stores};
 ghost use Rattle.csv_rows.specs.Datasets.{refusal, value_at, row_values};
 ghost use Rattle.csv_rows.specs.Loads.{place_of, leaves_in};
 ghost use Rattle.csv_rows.specs.Inner.Readers.{IsAsked};

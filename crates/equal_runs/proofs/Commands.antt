@@ -1,5 +1,5 @@
 -- The commands that change or read a table, done to alike worlds.
-use Rattle.equal_runs.proofs.Imports.{◌≡◌, ℕ, Bool, true, ℤ, List, [], ◌∷◌, ◌++◌, length, Option, Some, None, Result, Ok, refl, sym, ap, subst, ◌∙◌, not, slice_index_or, indices, place_in, PathStep, kinds_of, texts_of, MapTerm, holds_by, hold_at, with_entry, Keeping, kind_at, Access, Write, Tally, all_accesses, Read, LeafCounts, counts_text, StoreFault, Term, Value, Assignment, KernelText, Table, leaf_count_of, answer_of, kept_of, after_stores, Setting, updated_rows, value_log, rows_log, UpdateFault, UpdateKind, KernelFault, Kernel, World, found, Done, stores, tells, done_to, with_table, on_view, ◌>>=◌, LeftOf, Left, known, some_or, refused_if, refused_by, ok_or, leaf_of, bound, bound_filter, bound_sets, each_once, leaves_of, text_of_leaf, storable, store_fault, value_on, inside, assigned, updated, update_fault, kind_fault, are_alike, all_read, copied, copy, kernel_outcome, fit_kernel, kernel_run, number_text, kernel_row_fault, counts, drop_view, Mismatch, NotCounted, is_of_layout, ⊤, content_of, Work, Reads, Shows, Changes, left_as, does, OnView, worked, Tested}
+use Rattle.equal_runs.proofs.Imports.{◌≡◌, ℕ, Bool, true, ℤ, List, [], ◌∷◌, ◌++◌, length, Option, Some, None, Result, Ok, refl, sym, ap, subst, ◌∙◌, not, slice_index_or, indices, place_in, PathStep, kinds_of, texts_of, MapTerm, holds_by, hold_at, with_entry, Keeping, kind_at, Access, Write, Tally, all_accesses, Read, LeafCounts, counts_text, StoreFault, Term, Value, Assignment, KernelText, Table, leaf_count_of, answer_of, kept_of, after_stores, Setting, updated_rows, value_log, rows_log, UpdateFault, UpdateKind, KernelFault, Kernel, World, found, Done, stores, tells, done_to, with_table, on_view, ◌>>=◌, LeftOf, Left, known, some_or, refused_if, refused_by, ok_or, leaf_of, bound, bound_filter, bound_sets, each_once, leaves_of, text_of_leaf, storable, store_fault, value_on, inside, assigned, updated, update_fault, kind_fault, are_alike, all_read, copied, copy, kernel_outcome, fit_kernel, kernel_run, number_text, kernel_row_fault, counts, drop_view, Mismatch, NotCounted, is_of_layout, ⊤, content_of, Work, Reads, Shows, Changes, left_as, does, OnView, worked, Tested, arith}
 use Rattle.row_updates.specs.declared.fault.UpdateKind.TheVariants as update_kind
 use Rattle.lane_kernels.specs.Kernels as kernels
 use Rattle.lane_kernels.specs.Logs as kernel_logs
@@ -10,7 +10,6 @@ use Rattle.equal_runs.proofs.Kernels.{is_narrow_kernel, kernel_causes}
 use Rattle.equal_runs.proofs.Tables.{AlikeTables, AlikeWorlds, AlikeAlways, of_mapping, of_both, rewritten_alike, with_written, written_under, rows_told}
 use Rattle.equal_runs.proofs.TallyCounts.{SameCounts}
 use Rattle.equal_runs.proofs.Updates.{is_narrow_update, rows_answers, fit_rows, rows_are}
-use Rattle.std.proofs.Common.{arith}
 
 -- the table under another mapping, with another tally
 abbrev pub under : Table → MapTerm → Tally → Table

@@ -1,7 +1,6 @@
 -- Entries of the same names, and what is looked up among them.
-use Rattle.equal_runs.proofs.Imports.{◌≡◌, ℕ, suc, Bool, true, false, List, [], ◌∷◌, length, Option, Some, None, refl, ap, if◌then◌else◌, is_some, Entry, same_name, found, added, replaced, removed, known, free, some_or, refused_if, CommandFault, Unknown, Taken, Name}
+use Rattle.equal_runs.proofs.Imports.{◌≡◌, ℕ, suc, Bool, true, false, List, [], ◌∷◌, length, Option, Some, None, refl, ap, if◌then◌else◌, is_some, Entry, same_name, found, added, replaced, removed, known, free, some_or, refused_if, CommandFault, Unknown, Taken, Name, arith}
 use Rattle.equal_runs.proofs.Agreeing.{Agree, go, fault}
-use Rattle.std.proofs.Common.{arith}
 
 -- the same names in the same order, and for each things that are related so
 pub data Entries {A B : Type 0} (R : A → B → Type 0) : List (Entry A) → List (Entry B) → Type 0 where

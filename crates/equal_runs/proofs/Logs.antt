@@ -1,11 +1,9 @@
 -- What is counted of a view are the accesses to it, line after line.
-use Rattle.equal_runs.proofs.Imports.{◌≡◌, ℕ, Bool, false, List, [], ◌++◌, length, Option, Some, None, refl, sym, ap, subst, ◌∙◌, ◌^◌, nat_lt, not, length-map, File, indices, leaves, Tree, Fields, MapTerm, zeros, zeros_shape, StoreMode, Sentence, New, Access, tallied, no_tally, all_accesses, Read, Write, tallied-none, tallied-append, kept_row, kept_rows, Table, owners_of, leaf_count_of, kept_of, after_stores, World, Entry, found, added, replaced, removed, Saved, rows_in, table_of_saved, csv_records, records_behind, dataset_of, copy, copied, relayout, all_read, laid_anew, are_alike, define, fit, open_view, opened_beside, opened_table, load, loaded_table, loaded, filled, read, row_fault, mapping, Done, done_to, on_view, worked, Outcome, ◌>>=◌, LeftOf, Left, quiet, known, free, refused_if, ok_or, drop_view, step, work_of, made, resolved, zeros_of, nameless, view, new_table, with_view, named, Named, TooBig, Mismatch, found_added, found_replaced, IfGoes, to, refused, bind, behind, known_found, free_found, log_in, logged, reads_of, writes_of, fills_of, work_logs, logs_after, Ok, OnView, Tested, sure, goes_each, surely}
-use Rattle.std.specs.Prelude.{ℤ}
+use Rattle.equal_runs.proofs.Imports.{◌≡◌, ℕ, Bool, false, List, [], ◌++◌, length, Option, Some, None, refl, sym, ap, subst, ◌∙◌, ◌^◌, nat_lt, not, length-map, File, indices, leaves, Tree, Fields, MapTerm, zeros, zeros_shape, StoreMode, Sentence, New, Access, tallied, no_tally, all_accesses, Read, Write, tallied-none, tallied-append, kept_row, kept_rows, Table, owners_of, leaf_count_of, kept_of, after_stores, World, Entry, found, added, replaced, removed, Saved, rows_in, table_of_saved, csv_records, records_behind, dataset_of, copy, copied, relayout, all_read, laid_anew, are_alike, define, fit, open_view, opened_beside, opened_table, load, loaded_table, loaded, filled, read, row_fault, mapping, Done, done_to, on_view, worked, Outcome, ◌>>=◌, LeftOf, Left, quiet, known, free, refused_if, ok_or, drop_view, step, work_of, made, resolved, zeros_of, nameless, view, new_table, with_view, named, Named, TooBig, Mismatch, found_added, found_replaced, IfGoes, to, refused, bind, behind, known_found, free_found, log_in, logged, reads_of, writes_of, fills_of, work_logs, logs_after, Ok, OnView, Tested, sure, goes_each, surely, ℤ, arith}
 use Rattle.line_grammar.specs.Sentences as line
 use Rattle.equal_runs.proofs.Agreeing.{Told, goes, told}
 use Rattle.equal_runs.proofs.Entries.{Entries, Finds, finds, entries_added, entries_replaced, entries_removed}
 use Rattle.equal_runs.proofs.Tables.{with_written, anew_of, made_told, rows_told, anew_told}
-use Rattle.std.proofs.Common.{arith}
 
 -- what is told goes there
 of_told : {A : Type 0} (P : A → Type 0) (x : Tested A) → Told false P x → IfGoes P x

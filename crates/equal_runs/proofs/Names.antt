@@ -1,8 +1,7 @@
 -- A mapping expression is refused for a name alone.
-use Rattle.equal_runs.proofs.Imports.{ℕ, true, List, Option, Some, None, refl, MapTerm, Split, Byteswap, Bytesplit, Change, Count, Heat, Entry, found, some_or, nameless, Unknown, Name}
+use Rattle.equal_runs.proofs.Imports.{ℕ, true, List, Option, Some, None, refl, MapTerm, Split, Byteswap, Bytesplit, Change, Count, Heat, Entry, found, some_or, nameless, Unknown, Name, arith}
 use Rattle.map_expr.specs.Terms.{Named}
 use Rattle.equal_runs.proofs.Agreeing.{Told, goes, told, Any, told_bind}
-use Rattle.std.proofs.Common.{arith}
 
 known_told : {A : Type 0} (name : List ℕ) (x : Option A) → Told true Any (some_or (Unknown (Name name)) x)
 known_told name None = told (Unknown (Name name)) refl

@@ -1,12 +1,11 @@
 -- The commands with names and mapping expressions, done to alike worlds.
-use Rattle.equal_runs.proofs.Imports.{◌≡◌, ℕ, Bool, true, ℤ, List, length, Option, Some, None, refl, sym, ap, subst, ◌∙◌, ◌+◌, ◌*◌, ◌^◌, ◌&&◌, is_some, IfSome, nat_lt, nat_le, ExtentWord, File, Tree, Fields, kinds_of, texts_of, New, View, Relayout, MapTerm, checked, holds_by, holds_cells, length-leaf_cells, opened, table_of_saved, csv_records, records_behind, dataset_table, RowFault, Keeping, Table, IsWide, leaf_count_of, after_stores, World, Entry, found, Tally, all_accesses, Write, Left, quiet, known, free, refused_if, ok_or, nameless, room, shaped, resolved, made, zeros_of, blob_bits, live_bits, fit, define, mapping, Named, named, new_table, with_view, view, read, filled, loaded, loaded_table, load, fault_of, laid_anew, relayout, bad_file, opened_beside, opened_table, open_view, BadMapping, TooBig, TooManyViews, is_refused, is_of_layout, found_added, found_replaced, MakesWide, Tested, sure}
+use Rattle.equal_runs.proofs.Imports.{◌≡◌, ℕ, Bool, true, ℤ, List, length, Option, Some, None, refl, sym, ap, subst, ◌∙◌, ◌+◌, ◌*◌, ◌^◌, ◌&&◌, is_some, IfSome, nat_lt, nat_le, ExtentWord, File, Tree, Fields, kinds_of, texts_of, New, View, Relayout, MapTerm, checked, holds_by, holds_cells, length-leaf_cells, opened, table_of_saved, csv_records, records_behind, dataset_table, RowFault, Keeping, Table, IsWide, leaf_count_of, after_stores, World, Entry, found, Tally, all_accesses, Write, Left, quiet, known, free, refused_if, ok_or, nameless, room, shaped, resolved, made, zeros_of, blob_bits, live_bits, fit, define, mapping, Named, named, new_table, with_view, view, read, filled, loaded, loaded_table, load, fault_of, laid_anew, relayout, bad_file, opened_beside, opened_table, open_view, BadMapping, TooBig, TooManyViews, is_refused, is_of_layout, found_added, found_replaced, MakesWide, Tested, sure, arith}
 use Rattle.equal_runs.proofs.Agreeing.{Agree, go, bind, before, alone, weaker, both_told, Any, Both, told_if, told_ok, told_misses, EndAlike, surely}
 use Rattle.equal_runs.proofs.Answers.{Given, ok_agree}
 use Rattle.equal_runs.proofs.Entries.{At, known_agree, Neither, free_agree, entries_added, entries_replaced, length-entries}
 use Rattle.equal_runs.proofs.Loads.{is_narrow_row, dataset_answers}
 use Rattle.equal_runs.proofs.Names.{nameless_told}
 use Rattle.equal_runs.proofs.Tables.{AlikeTables, AlikeIfWide, AlikeWorlds, AlikeLefts, AlikeAlways, self_alike, of_both, rewritten_alike, zeros_alike, anew_of, anew_alike, made_told, anew_told}
-use Rattle.std.proofs.Common.{arith}
 
 -- as many holds as leaves
 paired : (mapping : MapTerm) (fields : Fields) → length (holds_by mapping fields) ≡ length (kinds_of fields)

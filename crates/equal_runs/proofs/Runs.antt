@@ -1,11 +1,9 @@
 -- The runs of scripts that differ in their mapping expressions alone.
-use Rattle.equal_runs.proofs.Imports.{◌≡◌, ℕ, Bool, false, List, [], ◌∷◌, Option, refl, sym, ap, subst, ◌∙◌, list_any, or_parts, File, MapTerm, Sentence, Version, World, Outcome, Left, step, Output, run_from, after, fails_at, prepend, with_term, AgreeButTerms, shows_layout, IsLine, AreLines, misses_mapping, ends_after, ends_by_layout, MakesWide, HoldsOf, StaysWide, DoesLines, EqualRuns, Fault, Unread}
-use Rattle.std.proofs.Common.{◌+◌}
+use Rattle.equal_runs.proofs.Imports.{◌≡◌, ℕ, Bool, false, List, [], ◌∷◌, Option, refl, sym, ap, subst, ◌∙◌, list_any, or_parts, File, MapTerm, Sentence, Version, World, Outcome, Left, step, Output, run_from, after, fails_at, prepend, with_term, AgreeButTerms, shows_layout, IsLine, AreLines, misses_mapping, ends_after, ends_by_layout, MakesWide, HoldsOf, StaysWide, DoesLines, EqualRuns, Fault, Unread, ◌+◌, arith}
 use Rattle.equal_runs.proofs.Agreeing.{go, fault, first, second, EndAlike}
 use Rattle.equal_runs.proofs.Entries.{none as no_entries}
 use Rattle.equal_runs.proofs.Steps.{step_agree}
 use Rattle.equal_runs.proofs.Tables.{AlikeWorlds, AlikeLefts}
-use Rattle.std.proofs.Common.{arith}
 
 -- after outcomes that agree, and of which none ends by a fault of how tables lie, runs go on alike; of the worlds that are left `P` and `Q` hold
 after_alike : (m o : Bool) (M N : World → Type 0) (number : ℕ) (x y : Outcome Left) (ends others : World → Bool) (P Q : World → Type 0) (rest later : World → Output)

@@ -1,13 +1,11 @@
 -- What a stencil answers, by the answers to its stores, and stencils done to alike tables.
-use Rattle.equal_runs.proofs.Imports.{◌≡◌, ℕ, zero, suc, Bool, ℤ, List, [], ◌∷◌, Result, Ok, sym, ap, subst, StoreAnswer, Keeping, kept_by, StoreFault, StencilFault, true, refl, ◌+◌, ◌*◌, ◌^◌, nat_lt, ok_or, Span, PathStep, MapTerm, Tally, TermText, Table, answer_of, stores, text_of_leaf, blob_bits, TooBig, is_of_layout}
+use Rattle.equal_runs.proofs.Imports.{◌≡◌, ℕ, zero, suc, Bool, ℤ, List, [], ◌∷◌, Result, Ok, sym, ap, subst, StoreAnswer, Keeping, kept_by, StoreFault, StencilFault, true, refl, ◌+◌, ◌*◌, ◌^◌, nat_lt, ok_or, Span, PathStep, MapTerm, Tally, TermText, Table, answer_of, stores, text_of_leaf, blob_bits, TooBig, is_of_layout, fit_stencil, room_beside, stencil_fault, stencil_rounds, stencil_run, arith}
 use Rattle.subviews.specs.SubViews.{rows_of}
 use Rattle.subviews.specs.Stencils.{Stencil, stenciled, rounds_log, stencil_value, at_row, first_round_fault, values_fault, with_entries, new_entry, if_fits, round, next_round, after_rounds}
-use Rattle.worlds.specs.Stencil.{fit_stencil, room_beside, stencil_fault, stencil_rounds, stencil_run}
 use Rattle.equal_runs.proofs.Answers.{Answers, equal, is_narrow, Given, ok_agree}
 use Rattle.equal_runs.proofs.Agreeing.{go, fault as fails, first, second, bind, before, both_told, told_if, Any, Both}
 use Rattle.equal_runs.proofs.Commands.{Same, SameDone, answers_under, narrow_store, under}
 use Rattle.equal_runs.proofs.Tables.{AlikeTables}
-use Rattle.std.proofs.Common.{arith}
 
 abbrev pub is_narrow_stencil : StencilFault → Bool
 is_narrow_stencil fault = is_narrow fault.fault

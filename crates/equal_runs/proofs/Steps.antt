@@ -17,8 +17,8 @@ lines_agree m o world other term (line.Kernel name text lanes) plain = works nam
 lines_agree m o world other term (line.Stencil name spans path terms divisor rounds) plain =
     works name _ _ (λ table mapping tally same. stencil_agree m o table mapping tally same (live_bits world.views) (live_bits other.views) spans path terms divisor rounds)
 lines_agree m o world other term (line.Show show.Counts name) plain = works name _ _ (λ table mapping tally same. counts_agree m o table mapping tally same)
-lines_agree m o world other term (line.Show show.Heat name) plain = absurd (cc)
-lines_agree m o world other term (line.Show show.Layout name) plain = absurd (cc)
+lines_agree m o world other term (line.Show show.Print name) plain = reads _ tt
+lines_agree m o world other term (line.Show kind name) plain = absurd (cc)
 lines_agree m o world other term (line.Bytes name blob) plain = absurd (cc)
 lines_agree m o world other term (line.Save name) plain = absurd (cc)
 lines_agree m o world other term (line.Actors name filter sets cuts seed turns) plain = absurd (cc)

@@ -1,6 +1,5 @@
 -- Worlds of the same records and tables, under other mappings.
-use Rattle.equal_runs.proofs.Imports.{◌≡◌, ℕ, Bool, List, length, refl, sym, subst, Fields, leaves, kinds_of, MapTerm, leaf_cells, layout_by, most_slots, accepted, Access, Tally, all_accesses, granules_for, Write, refused_at, StoreMode, ◌+◌, ◌*◌, ◌^◌, nat_lt, ⊤, kept_alike, Keeping, kept_rows, Table, IsWide, owners_of, leaf_count_of, answer_of, kept_of, after_stores, World, Entry, Left, refused_by, refused_if, ok_or, made, zeros_of, blob_bits, live_bits, in_words, with_rows, laid_anew, narrow_fault, BadMapping, TooBig}
-use Rattle.std.specs.Prelude.{ℤ}
+use Rattle.equal_runs.proofs.Imports.{◌≡◌, ℕ, Bool, List, length, refl, sym, subst, Fields, leaves, kinds_of, MapTerm, leaf_cells, layout_by, most_slots, accepted, Access, Tally, all_accesses, granules_for, Write, refused_at, StoreMode, ◌+◌, ◌*◌, ◌^◌, nat_lt, ⊤, kept_alike, Keeping, kept_rows, Table, IsWide, owners_of, leaf_count_of, answer_of, kept_of, after_stores, World, Entry, Left, refused_by, refused_if, ok_or, made, zeros_of, blob_bits, live_bits, in_words, with_rows, laid_anew, narrow_fault, BadMapping, TooBig, ℤ}
 use Rattle.equal_runs.proofs.Agreeing.{Told, goes, Any, Both, told_bind, told_if, told_ok, told_by}
 use Rattle.equal_runs.proofs.Entries.{Entries}
 use Rattle.equal_runs.proofs.TallyCounts.{SameCounts, own_counts, tallied_alike, no_tally_alike}

@@ -1,6 +1,5 @@
 -- The counts by leaf after some accesses, which are the same however a table lies.
-use Rattle.equal_runs.proofs.Imports.{◌≡◌, ℕ, Bool, true, false, List, Option, Some, None, option_map, refl, ⊤, if◌then◌else◌, fold, LeafCounts, no_counts, has_count, MapTerm, Owner, Access, Tally, counts_touched, tallied, no_tally, tallied-counts}
-use Rattle.std.proofs.Common.{arith}
+use Rattle.equal_runs.proofs.Imports.{◌≡◌, ℕ, Bool, true, false, List, Option, Some, None, option_map, refl, ⊤, if◌then◌else◌, fold, LeafCounts, no_counts, has_count, MapTerm, Owner, Access, Tally, counts_touched, tallied, no_tally, tallied-counts, arith}
 
 -- some counts after accesses
 abbrev counts_after : List Access → LeafCounts → LeafCounts

@@ -1,7 +1,7 @@
 -- Lines that differ in their mapping expressions alone, and the texts that are lines.
 use Rattle.std.specs.Prelude.{ℕ, ◌≡◌, ◌≤◌, ⊤, Bool, true, false, List, [], ◌∷◌, length, Ok}
 use Rattle.map_expr.specs.Terms.{Term as MapTerm}
-use Rattle.line_grammar.specs.Sentences.{Sentence, Mapping, View, Load, Relayout, Show, Bytes, Save, Actors, Advise, deepest}
+use Rattle.line_grammar.specs.Prelude.{Sentence, Mapping, View, Load, Relayout, Show, Bytes, Save, Actors, Advise, deepest}
 use Rattle.line_grammar.specs.declared.line.ShowKind.TheVariants as show
 use Rattle.line_grammar.specs.declared.version.Version.{Version}
 use Rattle.schema_lang.specs.LineOf.{line_of}

@@ -1,8 +1,7 @@
 -- Along the links of a chain: its outcome, and the bounds of its leaves and dimensions.
-use Rattle.expr_lang.proofs.Imports.{◌≡◌, ℕ, ℤ, List, ◌++◌, Result, Ok, Err, refl, sym, ap, append_assoc, append-nil, EvalFault, Links, Step, Term, IsWithin, Outcome, no_read, after_reads, then_from, ◌>>=◌, outcome_of, step_term, links_term, step_outcome, links_outcome, IsStepWithin, AreWithin}
+use Rattle.expr_lang.proofs.Imports.{◌≡◌, ℕ, ℤ, List, ◌++◌, Result, Ok, Err, refl, sym, ap, append_assoc, append-nil, EvalFault, Links, Step, Term, IsWithin, Outcome, no_read, after_reads, then_from, ◌>>=◌, outcome_of, step_term, links_term, step_outcome, links_outcome, IsStepWithin, AreWithin, arith}
 use Rattle.expr_lang.specs.declared.bound.Links.TheVariants as links
 use Rattle.expr_lang.specs.declared.bound.Step.TheVariants as step
-use Rattle.std.proofs.Common.{arith}
 
 then-same : (o : Outcome) → o >>= (λ x. no_read (Ok x)) ≡ o
 then-same o = same o.answer o.reads

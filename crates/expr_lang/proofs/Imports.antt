@@ -1,13 +1,8 @@
 -- What the proofs of this crate speak of.
-pub use Rattle.std.proofs.Common.{◌≡◌, ℕ, ℤ, List, ◌++◌, Result, Ok, Err, refl, sym, ap, ◌∙◌, append_assoc, subst, arith, ◌≤◌, cond, Option, Some, None, [], ◌∷◌, is_some, ◌<◌, Bool, true, false, nat_lt, length, MatchOption, unwrap_or, fold, ◌^◌, get_or, pos, neg_ℤ, not, ◌+◌, ◌-◌, min, max}
-pub use Rattle.std.proofs.lemmas.List.{append-nil, length-map}
+pub use Rattle.record_dim.specs.Std.{◌≡◌, ℕ, ℤ, List, ◌++◌, Result, Ok, Err, refl, sym, ap, ◌∙◌, append_assoc, subst, arith, ◌≤◌, cond, Option, Some, None, [], ◌∷◌, is_some, ◌<◌, Bool, true, false, nat_lt, length, MatchOption, unwrap_or, fold, ◌^◌, get_or, pos, neg_ℤ, not, ◌+◌, ◌-◌, min, max, append-nil, length-map, option_or, ltb-true, slice_get_within, common_steps}
 pub use Rattle.std.specs.List.{slice_get}
-pub use Rattle.std.specs.Option.{option_or}
-pub use Rattle.std.proofs.lemmas.Bool.{ltb-true}
-pub use Rattle.std.proofs.lemmas.Option.{slice_get_within}
 pub use Rattle.record_dim.specs.declared.path.PathStep.{PathStep}
-pub use Rattle.record_dim.specs.Leaves.{paths_of, leaves}
-pub use Rattle.record_dim.specs.Schemas.{schema_fields}
+pub use Rattle.record_dim.specs.Prelude.{paths_of, leaves, schema_fields}
 pub use Rattle.expr_lang.specs.declared.fault.EvalFault.{EvalFault}
 pub use Rattle.expr_lang.specs.declared.bound.Links.{Links, size-Links}
 pub use Rattle.expr_lang.specs.declared.bound.Step.{Step}

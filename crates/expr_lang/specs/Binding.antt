@@ -1,7 +1,7 @@
 -- Binding: each path is replaced by the number of its leaf, or the first path or index that names nothing is told.
 use Rattle.std.specs.Prelude.{ℕ, ◌≡◌, Bool, false, nat_eq, nat_lt, if◌then◌else◌, List, [], ◌∷◌, ◌++◌, Option, Some, is_some, unwrap_or}
-use Rattle.std.specs.List.{slice_get, position_from}
-use Rattle.std.specs.Cmp.Lexicographic.{pointwise}
+use Rattle.record_dim.specs.Std.{position_from, pointwise}
+use Rattle.std.specs.List.{slice_get}
 use Rattle.record_dim.specs.declared.path.PathStep.{PathStep}
 use Rattle.record_dim.specs.declared.path.PathStep.TheVariants.{Name, At}
 use Rattle.expr_lang.specs.declared.fault.BindFault.{BindFault}

@@ -1,9 +1,7 @@
 -- Laws of the number of the leaf that has a path.
-use Rattle.std.proofs.Common.{◌≡◌, ℕ, zero, suc, ◌+◌, Bool, true, false, cond, Option, Some, None, List, [], ◌∷◌, MatchOption, IfSome, refl, sym, ap, ◌∙◌, arith}
-use Rattle.std.specs.Bool.{Decides}
-use Rattle.std.specs.List.{slice_get, position_from}
-use Rattle.std.specs.Cmp.Lexicographic.{pointwise, pointwise_decides, bytes_decides}
-use Rattle.std.proofs.lemmas.Bool.Decides.{Decides-like, Decides-eqb}
+use Rattle.std.specs.Prelude.{◌≡◌, ℕ, zero, suc, ◌+◌, Bool, true, false, cond, Option, Some, None, List, [], ◌∷◌, MatchOption, IfSome, refl}
+use Rattle.record_dim.specs.Std.{sym, ap, ◌∙◌, arith, Decides, position_from, pointwise, pointwise_decides, bytes_decides, Decides-like, Decides-eqb}
+use Rattle.std.specs.List.{slice_get}
 use Rattle.record_dim.specs.declared.path.PathStep.{PathStep}
 use Rattle.record_dim.specs.declared.path.PathStep.TheVariants.{Name, At}
 use Rattle.expr_lang.specs.Binding.{same_step, leaf_number}

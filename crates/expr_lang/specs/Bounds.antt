@@ -1,8 +1,7 @@
 -- What a bound expression shows: its term over numbers of leaves, and the number of leaves and the rank that it asks for.
 use Rattle.std.specs.Prelude.{◌≡◌, ℕ, List, length}
 use Rattle.record_dim.specs.declared.path.PathStep.{PathStep}
-use Rattle.record_dim.specs.Trees.{Fields}
-use Rattle.record_dim.specs.Leaves.{leaves, paths_of}
+use Rattle.record_dim.specs.Prelude.{Fields, leaves, paths_of}
 use Rattle.expr_lang.specs.declared.bound.Bound.{Bound}
 use Rattle.expr_lang.specs.Terms.{Term}
 use Rattle.expr_lang.specs.Chains.{chain_term}

@@ -1,5 +1,6 @@
 -- Along the links of a chain: what holds for all of it holds for its front, and how deep is what is left.
-use Rattle.std.proofs.Common.{◌≡◌, ◌∙◌, ℕ, ◌≤◌, pos, List, refl, sym, ap, subst, arith}
+use Rattle.std.specs.Prelude.{◌≡◌, ℕ, ◌≤◌, pos, List, refl}
+use Rattle.record_dim.specs.Std.{◌∙◌, sym, ap, subst, arith}
 use Rattle.expr_lang.specs.declared.bound.Operand.{Operand}
 use Rattle.expr_lang.specs.declared.bound.Operand.TheVariants as operand
 use Rattle.expr_lang.specs.declared.bound.Links.{Links, size-Links}

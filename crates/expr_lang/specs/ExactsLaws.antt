@@ -1,9 +1,6 @@
 -- Where no part of a term can fail, its value is the exact one.
-use Rattle.std.proofs.Common.{◌≡◌, ◌∙◌, ℕ, ◌+◌, ◌*◌, ◌^◌, ◌<◌, ◌≤◌, max, Bool, true, false, cond, not, ◌&&◌, ◌||◌, ℤ, pos, negsuc, neg_ℤ, ◌+ℤ◌, ◌-ℤ◌, ◌*ℤ◌, ◌≤ℤ◌, List, Some, None, Result, Ok, Err, refl, ap, arith}
-use Rattle.std.specs.Prelude.{suc, ◌/◌, ◌%◌, unsigned_abs, int_lt, int_div, int_rem, if◌then◌else◌}
-use Rattle.std.specs.Ordering.{int_eq}
-use Rattle.std.proofs.lemmas.Int.{ints, unsigned_abs-mul, quot-rem}
-use Rattle.std.proofs.Math.Nat.{mul-le-mul, div-le_self, mod-le}
+use Rattle.std.specs.Prelude.{◌≡◌, ℕ, ◌+◌, ◌*◌, ◌^◌, ◌<◌, ◌≤◌, max, Bool, true, false, cond, not, ◌&&◌, ◌||◌, ℤ, pos, negsuc, neg_ℤ, ◌+ℤ◌, ◌-ℤ◌, ◌*ℤ◌, ◌≤ℤ◌, List, Some, None, Result, Ok, Err, refl, suc, ◌/◌, ◌%◌, unsigned_abs, int_lt, int_div, int_rem, if◌then◌else◌}
+use Rattle.record_dim.specs.Std.{◌∙◌, ap, arith, int_eq, ints, unsigned_abs-mul, quot-rem, mul-le-mul, div-le_self, mod-le}
 use Rattle.expr_lang.specs.declared.expr.BinOp.{BinOp}
 use Rattle.expr_lang.specs.declared.expr.BinOp.TheVariants.{Add, Sub, Mul, Div, Rem, Min, Max, Eq, Ne, Lt, Le, Gt, Ge, And, Or}
 use Rattle.expr_lang.specs.declared.fault.EvalFault.{EvalFault}

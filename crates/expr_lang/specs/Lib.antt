@@ -8,3 +8,4 @@ pub mod ExactsLaws
 pub mod ChainLaws
 pub mod StepLaws
 pub mod Inner
+pub mod Prelude

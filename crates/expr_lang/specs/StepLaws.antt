@@ -1,7 +1,6 @@
 -- What a step makes of the value of a term is the value of the term that it makes.
-use Rattle.std.proofs.Common.{ℕ, ℤ, neg_ℤ, not, FitsSigned, w64, List, refl, ap, arith}
-use Rattle.std.specs.Prelude.{unsigned_abs}
-use Rattle.std.proofs.lemmas.Int.{fits_signed_from_abs}
+use Rattle.std.specs.Prelude.{ℕ, ℤ, neg_ℤ, not, FitsSigned, List, refl, unsigned_abs}
+use Rattle.record_dim.specs.Std.{w64, ap, arith, fits_signed_from_abs}
 use Rattle.expr_lang.specs.declared.bound.Operand.{Operand}
 use Rattle.expr_lang.specs.declared.bound.Operand.TheVariants as operand
 use Rattle.expr_lang.specs.declared.bound.Links.{Links}

@@ -1,6 +1,6 @@
 -- Expressions as terms without pointers, over paths or over the numbers of leaves, and the terms of the code's values.
 use Rattle.std.specs.Prelude.{ℕ, ◌+◌, ◌<◌, max, ℤ, List}
-use Rattle.std.specs.Coded.{×_prop, Unit-prop, le_prop}
+use Rattle.record_dim.specs.Std.{×_prop, Unit-prop, le_prop}
 use Rattle.record_dim.specs.declared.path.PathStep.{PathStep}
 use Rattle.expr_lang.specs.declared.expr.BinOp.{BinOp}
 use Rattle.expr_lang.specs.declared.expr.Expr.{Expr}

@@ -1,8 +1,7 @@
 ghost use Rattle.std.specs.Prelude.{◌≡◌, ℕ, [], unwrap_or, IfOk, OnOk, IfErr};
 ghost use Rattle.std.specs.List.{slice_get};
 ghost use Rattle.std.specs.Option.{option_or};
-ghost use Rattle.record_dim.specs.Leaves.{paths_of};
-ghost use Rattle.record_dim.specs.Schemas.{schema_fields};
+ghost use Rattle.record_dim.specs.Prelude.{paths_of, schema_fields};
 ghost use Rattle.expr_lang.specs.Terms.{Term, term_of};
 ghost use Rattle.expr_lang.specs.Chains.{operand_term, step_term, links_term, chain_term};
 ghost use Rattle.expr_lang.specs.Bounds.{IsBoundTo};

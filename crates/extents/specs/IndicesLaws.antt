@@ -61,8 +61,7 @@ place (n ∷ ns) (i ∷ is) = i * product ns + place ns is
 pub place_below : (e is : List ℕ) → IsInside e is → place e is < product e
 place_below [] is h = omega arith
 place_below (n ∷ ns) [] h = absurd h
-place_below (n ∷ ns) (i ∷ is) h =
-    omega (arith, mul-add-lt i (product ns) (place ns is) n h.0 (place_below ns is h.1))
+place_below (n ∷ ns) (i ∷ is) h = omega (arith, mul-add-lt i (product ns) (place ns is) n h.0 (place_below ns is h.1))
 
 pub slice_get-place : (e is : List ℕ) → IsInside e is → slice_get (indices e) (place e is) ≡ Some is
 unfolding indices

@@ -67,7 +67,8 @@ IsIndexSoFar-more e row k n found left block hk hn h =
     let inner : left % product (drop (k + 1) e) < product (drop (k + 1) e) = mod_below left (product (drop (k + 1) e)) some in
     let split : left ≡ left / product (drop (k + 1) e) * product (drop (k + 1) e) + left % product (drop (k + 1) e) = sym (div-add-mod' left (product (drop (k + 1) e))) in
     let at = slice_get-indices n (drop (k + 1) e) (left / product (drop (k + 1) e)) (left % product (drop (k + 1) e)) left low inner split in
-    let step : IsIndexSoFar e row (k + 1) (found ++ left / product (drop (k + 1) e) ∷ []) (left % product (drop (k + 1) e)) (product (drop (k + 1) e)) = grind (arith, length-append, slice_get, option_map, append_assoc) in
+    let step : IsIndexSoFar e row (k + 1) (found ++ left / product (drop (k + 1) e) ∷ []) (left % product (drop (k + 1) e)) (product (drop (k + 1) e)) =
+    grind (arith, length-append, slice_get, option_map, append_assoc) in
     (positive, omega (arith, each, some), subst (λ (x : ℕ). IsIndexSoFar e row (k + 1) (found ++ left / x ∷ []) (left % x) x) (sym each) step)
 
 pub index_all : (e : List ℕ) (row k : ℕ) (found : List ℕ) (left block : ℕ) → length e ≤ k → IsIndexSoFar e row k found left block → slice_get (indices e) row ≡ Some found

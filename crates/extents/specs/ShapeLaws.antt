@@ -40,8 +40,7 @@ power_more b k p v hp hv = omega (arith, mul-le p v (b ^ k) b hp hv, pow_more b 
 -- with no `Rows` the extents are the same for any number
 pub same_fixed : (ws : List ExtentWord) (s t : ℕ) → count_by is_rows ws ≡ 0 → map (extent_of s) ws ≡ map (extent_of t) ws
 same_fixed [] s t h = refl
-same_fixed (Fixed n ∷ ws) s t h =
-    ap (λ xs. n ∷ xs) (same_fixed ws s t (omega (arith, h, sum_by-cons (λ w. cond (is_rows w) 1 0) (Fixed n) ws)))
+same_fixed (Fixed n ∷ ws) s t h = ap (λ xs. n ∷ xs) (same_fixed ws s t (omega (arith, h, sum_by-cons (λ w. cond (is_rows w) 1 0) (Fixed n) ws)))
 same_fixed (Rows ∷ ws) s t h = absurd (omega (arith, h, sum_by-cons (λ w. cond (is_rows w) 1 0) Rows ws))
 
 -- with one `Rows` the product is that of the fixed extents times what it stands for

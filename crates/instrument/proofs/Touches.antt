@@ -1,18 +1,12 @@
 -- Accesses to pieces, step by step.
-use Rattle.instrument.proofs.Imports.{◌≡◌, ℕ, ◌+◌, ◌-◌, ◌*◌, ◌/◌, ◌%◌, ◌<◌, ◌≤◌, Bool, true, false, nat_eq, nat_lt, nat_le, List, [], length, get_or, set, map, take, sym, ap, refl, ◌∙◌, arith, ⊎_elim, ◌&&◌, ◌||◌, not, min, max, eq-eqb, ne_eqb, le-leb, lt-leb, lt-ltb, le-ltb, and_left, and_right, cases_eq, cases_lt, length-map, get_or-map, get_or_read, map-set, list_any_more, div-add-mod', mul-add-div, mul-lt-mul_of_pos_left, div-lt_iff_lt-mul, mul_comm, Piece, is_in_granule, is_touched, HeatCounts, raised, counted_times, warmed_times, heated_times, reaches, row_begin, AreGranulesOf, warmed_at, heated_besides}
+use Rattle.instrument.proofs.Imports.{◌≡◌, ℕ, ◌+◌, ◌-◌, ◌*◌, ◌/◌, ◌%◌, ◌<◌, ◌≤◌, Bool, true, false, nat_eq, nat_lt, nat_le, List, [], length, get_or, set, map, take, sym, ap, ◌∙◌, arith, ⊎_elim, ◌&&◌, ◌||◌, not, ne_eqb, lt-leb, lt-ltb, le-ltb, and_left, and_right, cases_eq, cases_lt, length-map, get_or-map, get_or_read, map-set, list_any_more, div-add-mod', mul-add-div, mul-lt-mul_of_pos_left, div-lt_iff_lt-mul, mul_comm, Piece, is_in_granule, is_touched, HeatCounts, raised, counted_times, warmed_times, heated_times, reaches, row_begin, AreGranulesOf, warmed_at, heated_besides}
 use Rattle.instrument.proofs.Warming.{warmed-same, warmed-none, warmed-besides, warmed-more}
 
 -- a count that is written back into its list
 pub written : {X : Type 0} (times : ℕ) (lists : List X) (items : X → List ℕ) (blob at : ℕ) (counts new : X) (count more : ℕ) → blob < length (map items lists) → at < length (get_or (map items lists) blob [])
     → counts ≡ get_or lists blob counts → count ≡ get_or (items counts) at count → more ≡ raised times count → items new ≡ set (items counts) at more
     → map items (set lists blob new) ≡ set (map items lists) blob (counted_times (get_or (map items lists) blob []) at times)
-written times lists items blob at counts new count more blob_in at_in counts_is count_is more_is new_is =
-    let inside : blob < length lists = omega (arith, length-map lists items) in
-    let is = ap items counts_is ∙ sym (get_or-map items lists blob counts [] inside) in
-    let small : at < length (items counts) = omega (arith, ap length is) in
-    map-set items lists blob new
-    ∙ ap (λ counts. set (map items lists) blob counts)
-    (new_is ∙ ap (λ n. set (items counts) at n) (more_is ∙ ap (raised times) (get_or_read (items counts) at count small count_is 0)) ∙ ap (λ counts. counted_times counts at times) is)
+written times lists items blob at counts new count more blob_in at_in counts_is count_is more_is new_is = grind (arith, length-map, get_or-map, map-set, get_or_read)
 
 -- the granules of a piece from `first` on and below `past`, but for those that others touch
 abbrev pub is_anew : ℕ → List Piece → Piece → ℕ → ℕ → ℕ → ℕ → Bool
@@ -23,14 +17,12 @@ heated_until times first past others piece heat = record heat { blobs = warmed_t
 
 -- none at the start
 pub none_between : (first at : ℕ) → (nat_le first at && nat_lt at first) ≡ false
-none_between first at =
-    ⊎_elim (λ (low : at < first). and_left (nat_le first at) (nat_lt at first) (lt-leb first at low)) (λ (high : first ≤ at). and_right (nat_le first at) (nat_lt at first) (le-ltb at first high)) (cases_lt at first)
+none_between first at = grind (arith, ⊎_elim, and_left, nat_le, nat_lt, lt-leb, and_right, le-ltb, cases_lt)
 
 pub until-start : (times : ℕ) (first : ℕ) (others : List Piece) (piece : Piece) (heat : HeatCounts) → heat ≡ heated_until times first first others piece heat
 until-start times first others piece heat =
     let none : (blob at : ℕ) → false ≡ is_anew heat.granule others piece first first blob at =
-    λ blob at. sym (and_left (nat_eq piece.blob blob && (nat_le first at && nat_lt at first)) (not (is_touched heat.granule others blob at))
-    (and_right (nat_eq piece.blob blob) (nat_le first at && nat_lt at first) (none_between first at))) in
+    grind (arith, and_left, nat_eq, nat_le, nat_lt, and_right, none_between) in
     ap (λ (blobs : List (List ℕ)). record heat { blobs = blobs }) (sym (warmed-none times heat.blobs) ∙ warmed-same times (λ blob at. false) (is_anew heat.granule others piece first first) heat.blobs none)
 
 -- the granules of a piece, whose end is counted from the first one on
@@ -41,88 +33,35 @@ last_from bit bits wide some wide_some =
 
 pub granules_are : (granule : ℕ) (piece : Piece) → 1 ≤ granule → 0 < piece.bits
     → AreGranulesOf granule piece (piece.bit / (8 * granule)) (piece.bit / (8 * granule) + (piece.bit % (8 * granule) + piece.bits - 1) / (8 * granule) + 1)
-granules_are granule piece some bits =
-    let wide = 8 * granule in
-    let first = piece.bit / wide in
-    let last = last_from piece.bit piece.bits wide bits (omega arith) in
-    record {
-      holds = λ at. ap (λ n. nat_le first at && nat_lt at (n + 1)) last ∙ sym (reaches piece.bit piece.bits wide at bits (omega arith));
-      rises = omega arith;
-      within = λ many low.
-          let below : (piece.bit + piece.bits - 1) / wide < many = (div-lt_iff_lt-mul (omega arith)).1 (omega (arith, mul_comm wide many)) in
-          omega (arith, last, below);
-    }
+granules_are granule piece some bits = grind (arith, last_from, nat_le, nat_lt, reaches, div-lt_iff_lt-mul, mul_comm)
 
 pub no_granules : (granule : ℕ) (piece : Piece) → 1 ≤ granule → piece.bits ≡ 0 → AreGranulesOf granule piece (piece.bit / (8 * granule)) (piece.bit / (8 * granule))
-no_granules granule piece some none =
-    let wide = 8 * granule in
-    record {
-      holds = λ at. none_between (piece.bit / wide) at ∙ sym (le-ltb (max piece.bit (wide * at)) (min (piece.bit + piece.bits) (wide * (at + 1))) (omega arith));
-      rises = omega arith;
-      within = λ many low.
-          let begin = row_begin piece.bit wide (omega arith) in
-          ⊎_elim (λ (over : many < piece.bit / wide). absurd (omega (arith, begin, low, mul-lt-mul_of_pos_left {k = wide} over (omega arith)))) (λ (fits : piece.bit / wide ≤ many). fits) (cases_lt many (piece.bit / wide));
-    }
+no_granules granule piece some none = grind (arith, none_between, le-ltb, row_begin, ⊎_elim, mul-lt-mul_of_pos_left, cases_lt)
 
 -- one granule more
 other_place : (first number at : ℕ) → (at ≡ number → ⊥) → (nat_le first at && nat_lt at (number + 1)) ≡ (nat_le first at && nat_lt at number)
-other_place first number at other =
-    ⊎_elim
-    (λ (low : at < number). ap (λ b. nat_le first at && b) (lt-ltb at (number + 1) (omega arith) ∙ sym (lt-ltb at number low)))
-    (λ (high : number ≤ at). ap (λ b. nat_le first at && b) (le-ltb at (number + 1) (omega arith) ∙ sym (le-ltb at number high)))
-    (cases_lt at number)
+other_place first number at other = grind (arith, ⊎_elim, nat_le, lt-ltb, le-ltb, cases_lt)
 
 beside_place : (granule first number : ℕ) (others : List Piece) (piece : Piece) (blob at : ℕ) → (at ≡ number → ⊥) → is_anew granule others piece first (number + 1) blob at ≡ is_anew granule others piece first number blob at
 beside_place granule first number others piece blob at other = ap (λ b. (nat_eq piece.blob blob && b) && not (is_touched granule others blob at)) (other_place first number at other)
 
 other_blob : (granule first past past' : ℕ) (others : List Piece) (piece : Piece) (blob at : ℕ) → (piece.blob ≡ blob → ⊥) → is_anew granule others piece first past blob at ≡ is_anew granule others piece first past' blob at
-other_blob granule first past past' others piece blob at other =
-    let no = ne_eqb piece.blob blob other in
-    ap (λ b. (b && (nat_le first at && nat_lt at past)) && not (is_touched granule others blob at)) no ∙ ap (λ b. (b && (nat_le first at && nat_lt at past')) && not (is_touched granule others blob at)) (sym no)
+other_blob granule first past past' others piece blob at other = grind (arith, ne_eqb, nat_le, nat_lt)
 
 -- one that others touch stays
 pub until-touched : (times : ℕ) (first number : ℕ) (others : List Piece) (piece : Piece) (heat : HeatCounts) → is_touched heat.granule others piece.blob number ≡ true
     → heated_until times first number others piece heat ≡ heated_until times first (number + 1) others piece heat
-until-touched times first number others piece heat touched =
-    let same : (blob at : ℕ) → is_anew heat.granule others piece first number blob at ≡ is_anew heat.granule others piece first (number + 1) blob at =
-    λ blob at. ⊎_elim
-    (λ (here : piece.blob ≡ blob). ⊎_elim
-    (λ (is : at ≡ number).
-    let at_blob : is_touched heat.granule others blob at ≡ true = ap (λ b. is_touched heat.granule others b at) (sym here) ∙ ap (λ n. is_touched heat.granule others piece.blob n) is ∙ touched in
-    let cold : not (is_touched heat.granule others blob at) ≡ false = ap not at_blob in
-    and_right (nat_eq piece.blob blob && (nat_le first at && nat_lt at number)) (not (is_touched heat.granule others blob at)) cold
-    ∙ sym (and_right (nat_eq piece.blob blob && (nat_le first at && nat_lt at (number + 1))) (not (is_touched heat.granule others blob at)) cold))
-    (λ (other : at ≡ number → ⊥). sym (beside_place heat.granule first number others piece blob at other))
-    (cases_eq at number))
-    (λ (other : piece.blob ≡ blob → ⊥). other_blob heat.granule first number (number + 1) others piece blob at other)
-    (cases_eq piece.blob blob) in
-    ap (λ (blobs : List (List ℕ)). record heat { blobs = blobs }) (warmed-same times (is_anew heat.granule others piece first number) (is_anew heat.granule others piece first (number + 1)) heat.blobs same)
+until-touched times first number others piece heat touched = grind (arith, ⊎_elim, and_right, nat_eq, nat_le, nat_lt, beside_place, cases_eq, other_blob, warmed-same)
 
 -- and another one gets one more
 pub until-more : (times : ℕ) (first number : ℕ) (others : List Piece) (piece : Piece) (heat : HeatCounts) → piece.blob < length heat.blobs → number < length (get_or heat.blobs piece.blob []) → first ≤ number
     → is_touched heat.granule others piece.blob number ≡ false → warmed_at times piece.blob number (heated_until times first number others piece heat) ≡ heated_until times first (number + 1) others piece heat
-until-more times first number others piece heat blob_in at_in from untouched =
-    let was : is_anew heat.granule others piece first number piece.blob number ≡ false =
-    and_left (nat_eq piece.blob piece.blob && (nat_le first number && nat_lt number number)) (not (is_touched heat.granule others piece.blob number))
-    (and_right (nat_eq piece.blob piece.blob) (nat_le first number && nat_lt number number) (and_right (nat_le first number) (nat_lt number number) (le-ltb number number (omega arith)))) in
-    let is : is_anew heat.granule others piece first (number + 1) piece.blob number ≡ true =
-    ap (λ b. (b && (nat_le first number && nat_lt number (number + 1))) && not (is_touched heat.granule others piece.blob number)) (eq-eqb piece.blob piece.blob refl)
-    ∙ ap (λ b. (b && nat_lt number (number + 1)) && not (is_touched heat.granule others piece.blob number)) (le-leb first number from)
-    ∙ ap (λ b. b && not (is_touched heat.granule others piece.blob number)) (lt-ltb number (number + 1) (omega arith))
-    ∙ ap not untouched in
-    ap (λ (blobs : List (List ℕ)). record heat { blobs = blobs })
-    (warmed-more times (is_anew heat.granule others piece first number) (is_anew heat.granule others piece first (number + 1)) heat.blobs piece.blob number blob_in at_in was is
-    (λ k other. beside_place heat.granule first number others piece piece.blob k other)
-    (λ blob other k. other_blob heat.granule first (number + 1) number others piece blob k (λ same. other (sym same))))
+until-more times first number others piece heat blob_in at_in from untouched = grind (arith, warmed-more, beside_place, other_blob)
 
 -- all granules of a piece
 pub until-end : (times first past : ℕ) (others : List Piece) (piece : Piece) (heat : HeatCounts) → AreGranulesOf heat.granule piece first past
     → heated_until times first past others piece heat ≡ heated_besides times others piece heat
-until-end times first past others piece heat granules =
-    let same : (blob at : ℕ) → is_anew heat.granule others piece first past blob at ≡ (is_in_granule heat.granule blob at piece && not (is_touched heat.granule others blob at)) =
-    λ blob at. ap (λ b. (nat_eq piece.blob blob && b) && not (is_touched heat.granule others blob at)) (granules.holds at) in
-    ap (λ (blobs : List (List ℕ)). record heat { blobs = blobs })
-    (warmed-same times (is_anew heat.granule others piece first past) (λ blob at. is_in_granule heat.granule blob at piece && not (is_touched heat.granule others blob at)) heat.blobs same)
+until-end times first past others piece heat granules = grind (arith, nat_eq, warmed-same)
 
 -- no piece, and one piece more
 pub heated-none : (times : ℕ) (heat : HeatCounts) → heat ≡ heated_times times [] heat

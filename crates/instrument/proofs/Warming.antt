@@ -22,19 +22,13 @@ warmed-none times blobs = none_from times 0 blobs
 -- some granules, and then others
 count_twice : (times : ℕ) (hot more : Bool) (count : ℕ) →
     (if more && not hot then raised times (if hot then raised times count else count) else (if hot then raised times count else count)) ≡ (if hot || more then raised times count else count)
-count_twice times true true count = refl
-count_twice times true false count = refl
-count_twice times false true count = refl
-count_twice times false false count = refl
+count_twice times hot more count = grind arith
 
 blob_twice : (times : ℕ) (hot more : ℕ → Bool) (n : ℕ) (counts : List ℕ) →
     map (λ (at : ℕ × ℕ). if more at.0 && not (hot at.0) then raised times at.1 else at.1) (enumerate_from n (map (λ (at : ℕ × ℕ). if hot at.0 then raised times at.1 else at.1) (enumerate_from n counts)))
     ≡ map (λ (at : ℕ × ℕ). if hot at.0 || more at.0 then raised times at.1 else at.1) (enumerate_from n counts)
 blob_twice times hot more n [] = refl
-blob_twice times hot more n (count ∷ counts) =
-    let first = count_twice times (hot n) (more n) count in
-    let rest = blob_twice times hot more (n + 1) counts in
-    cc
+blob_twice times hot more n (count ∷ counts) = grind (arith, count_twice, (blob_twice times hot more (n + 1) counts))
 
 twice_from : (times : ℕ) (hot more : ℕ → ℕ → Bool) (n : ℕ) (blobs : List (List ℕ)) →
     map (λ (blob : ℕ × List ℕ). warmed_blob times (λ at. more blob.0 at && not (hot blob.0 at)) blob.1) (enumerate_from n (map (λ (blob : ℕ × List ℕ). warmed_blob times (hot blob.0) blob.1) (enumerate_from n blobs)))
@@ -56,21 +50,7 @@ blob_more times hot hot' counts at small was is others =
     let long' = length-warmed_blob times hot' counts in
     let set_long = length-set (warmed_blob times hot counts) at (raised times (get_or (warmed_blob times hot counts) at 0)) in
     ext_get_or 0 (counted_times (warmed_blob times hot counts) at times) (warmed_blob times hot' counts) (set_long ∙ long ∙ sym long') (λ k within.
-    let inside : k < length counts = omega (arith, set_long, long) in
-    let before = get-warmed_blob times hot counts k inside in
-    let after = get-warmed_blob times hot' counts k inside in
-    ⊎_elim
-    (λ (here : k ≡ at).
-    let set_here = get_or-set_same (warmed_blob times hot counts) at (raised times (get_or (warmed_blob times hot counts) at 0)) 0 (omega (arith, long)) in
-    let first = get-warmed_blob times hot counts at small in
-    let second = get-warmed_blob times hot' counts at small in
-    let cold = ap (λ (b : Bool). if b then raised times (get_or counts at 0) else get_or counts at 0) was in
-    let warm = ap (λ (b : Bool). if b then raised times (get_or counts at 0) else get_or counts at 0) is in
-    ap (λ j. get_or (counted_times (warmed_blob times hot counts) at times) j 0) here ∙ set_here ∙ ap (raised times) (first ∙ cold) ∙ sym (second ∙ warm) ∙ ap (λ j. get_or (warmed_blob times hot' counts) j 0) (sym here))
-    (λ (other : k ≡ at → ⊥).
-    get_or-set_other (warmed_blob times hot counts) at k (raised times (get_or (warmed_blob times hot counts) at 0)) 0 other ∙ before
-    ∙ ap (λ (b : Bool). if b then raised times (get_or counts k 0) else get_or counts k 0) (sym (others k other)) ∙ sym after)
-    (cases_eq k at))
+    grind (arith, get-warmed_blob, ⊎_elim, get_or-set_same, get_or, get_or-set_other, cases_eq))
 
 pub warmed-more : (times : ℕ) (hot hot' : ℕ → ℕ → Bool) (blobs : List (List ℕ)) (blob at : ℕ) → blob < length blobs → at < length (get_or blobs blob []) → hot blob at ≡ false → hot' blob at ≡ true
     → ((k : ℕ) → (k ≡ at → ⊥) → hot' blob k ≡ hot blob k) → ((b : ℕ) → (b ≡ blob → ⊥) → (k : ℕ) → hot' b k ≡ hot b k)
@@ -81,18 +61,7 @@ warmed-more times hot hot' blobs blob at blob_in at_in was is beside others =
     let long' = length-warmed times hot' blobs in
     let set_long = length-set (warmed_times times hot blobs) blob new in
     ext_get_or [] (set (warmed_times times hot blobs) blob new) (warmed_times times hot' blobs) (set_long ∙ long ∙ sym long') (λ b within.
-    let inside : b < length blobs = omega (arith, set_long, long) in
-    ⊎_elim
-    (λ (here : b ≡ blob).
-    let set_here = get_or-set_same (warmed_times times hot blobs) blob new [] (omega (arith, long)) in
-    let first = get-warmed times hot blobs blob blob_in in
-    let second = get-warmed times hot' blobs blob blob_in in
-    ap (λ j. get_or (set (warmed_times times hot blobs) blob new) j []) here ∙ set_here ∙ ap (λ counts. counted_times counts at times) first
-    ∙ blob_more times (hot blob) (hot' blob) (get_or blobs blob []) at at_in was is beside ∙ sym second ∙ ap (λ j. get_or (warmed_times times hot' blobs) j []) (sym here))
-    (λ (other : b ≡ blob → ⊥).
-    get_or-set_other (warmed_times times hot blobs) blob b new [] other ∙ get-warmed times hot blobs b inside
-    ∙ ap (λ test. warmed_blob times test (get_or blobs b [])) (fun_ext (λ k. sym (others b other k))) ∙ sym (get-warmed times hot' blobs b inside))
-    (cases_eq b blob))
+    grind (arith, ⊎_elim, get_or-set_same, get-warmed, get_or, blob_more, get_or-set_other, fun_ext, cases_eq))
 
 -- the counts of one blob more
 pub made-more : {X : Type 0} (items : X → List ℕ) (lists all : List X) (new : X) (bytes : List ℕ) (granule at count : ℕ) → at < length bytes

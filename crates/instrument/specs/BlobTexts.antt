@@ -1,7 +1,7 @@
 -- The text of the bytes of a blob.
 use Rattle.std.specs.Prelude.{ℕ, ◌+◌, ◌*◌, ◌/◌, ◌%◌, ◌==◌, nat_lt, List, [], ◌∷◌, ◌++◌, length, map, slice_index_or, if◌then◌else◌}
-use Rattle.std.specs.List.{flat_map, enumerate_from, range_with_len}
-use Rattle.places.specs.Image.{number}
+use Rattle.record_dim.specs.Std.{flat_map, enumerate_from, range_with_len}
+use Rattle.places.specs.Prelude.{number}
 
 -- the bytes of bits: bit k of a byte is its binary digit k
 abbrev pub byte_of_bits : List ℕ → ℕ → ℕ

@@ -1,10 +1,7 @@
 -- The numbers that are shown: a count that began with 0 is the number of the entries that touch its place, or 2^64 - 1 where there are more.
-use Rattle.std.specs.Prelude.{◌≡◌, ℕ, ◌+◌, ◌-◌, ◌^◌, ◌<◌, ◌≤◌, ◌==◌, min, Bool, true, false, List, [], ◌∷◌, length, replicate, get_or, slice_index, slice_index_or, if◌then◌else◌}
+use Rattle.std.specs.Prelude.{◌≡◌, ℕ, ◌+◌, ◌-◌, ◌^◌, ◌<◌, ◌≤◌, ◌==◌, min, Bool, List, [], ◌∷◌, length, replicate, get_or, slice_index, slice_index_or, if◌then◌else◌, cond}
 use Rattle.std.specs.List.{fold, count_by}
-use Rattle.std.proofs.Common.{ap, sym, ◌∙◌, arith, ⊎_elim, cond}
-use Rattle.std.proofs.lemmas.Bool.{cases_Bool, cases_eq, eq-eqb, ne_eqb}
-use Rattle.std.proofs.lemmas.List.{length-set, length-map, length-replicate, get_or-set_same, get_or-set_other, get_or-replicate, get_or-map}
-use Rattle.std.proofs.lemmas.List.Sums.{sum_by-cons}
+use Rattle.record_dim.specs.Std.{ap, ◌∙◌, arith, ⊎_elim, cases_Bool, cases_eq, eq-eqb, ne_eqb, length-set, length-map, length-replicate, get_or-set_same, get_or-set_other, get_or-replicate, get_or-map, sum_by-cons}
 use Rattle.instrument.specs.Counters.{next, counted, granules_of, no_heat, warmed}
 use Rattle.instrument.specs.WarmingLaws.{length-warmed, length-heated, get-warmed, get-warmed_blob}
 
@@ -25,32 +22,15 @@ from_zero number = omega arith
 counts_by : {X : Type 0} (touches : X → Bool) (entry : X) (entries : List X) (count new : ℕ) → new ≡ (if touches entry then next count else count)
     → min (new + count_by touches entries) (2 ^ 64 - 1) ≡ min (count + count_by touches (entry ∷ entries)) (2 ^ 64 - 1)
 counts_by touches entry entries count new is =
-    let more = sum_by-cons (λ x. cond (touches x) 1 0) entry entries in
-    ⊎_elim
-    (λ (yes : touches entry ≡ true).
-    ap (λ n. min (n + count_by touches entries) (2 ^ 64 - 1)) (is ∙ ap (λ (b : Bool). if b then next count else count) yes) ∙ capped_more count (count_by touches entries)
-    ∙ ap (λ (b : Bool). min (count + (cond b 1 0 + count_by touches entries)) (2 ^ 64 - 1)) (sym yes) ∙ ap (λ n. min (count + n) (2 ^ 64 - 1)) (sym more))
-    (λ (no : touches entry ≡ false).
-    ap (λ n. min (n + count_by touches entries) (2 ^ 64 - 1)) (is ∙ ap (λ (b : Bool). if b then next count else count) no) ∙ capped_same count (count_by touches entries)
-    ∙ ap (λ (b : Bool). min (count + (cond b 1 0 + count_by touches entries)) (2 ^ 64 - 1)) (sym no) ∙ ap (λ n. min (count + n) (2 ^ 64 - 1)) (sym more))
-    (cases_Bool (touches entry))
+    let more = sum_by-cons (λ x. cond (touches x) 1 0) entry entries in grind (arith, ⊎_elim, count_by, capped_more, capped_same, cases_Bool)
 
 new_bound : (touched : Bool) (count new : ℕ) → count ≤ 2 ^ 64 - 1 → new ≡ (if touched then next count else count) → new ≤ 2 ^ 64 - 1
-new_bound true count new bound is = omega (arith, is)
-new_bound false count new bound is = omega (arith, is)
+new_bound touched count new bound is = grind arith
 
 -- a place after one touch of some place
 counted_at : (counts : List ℕ) (touch place : ℕ) → place < length counts
     → get_or (counted counts touch) place 0 ≡ (if touch == place then next (get_or counts place 0) else get_or counts place 0)
-counted_at counts touch place small =
-    ⊎_elim
-    (λ (here : touch ≡ place).
-    let new = next (get_or counts place 0) in
-    ap (λ t. get_or (counted counts t) place 0) here ∙ get_or-set_same counts place new 0 small ∙ ap (λ (b : Bool). if b then new else get_or counts place 0) (sym (eq-eqb touch place here)))
-    (λ (other : touch ≡ place → ⊥).
-    get_or-set_other counts touch place (next (get_or counts touch 0)) 0 (λ same. other (sym same))
-    ∙ ap (λ (b : Bool). if b then next (get_or counts place 0) else get_or counts place 0) (sym (ne_eqb touch place other)))
-    (cases_eq touch place)
+counted_at counts touch place small = grind (arith, ⊎_elim, get_or, get_or-set_same, eq-eqb, get_or-set_other, ne_eqb, cases_eq)
 
 counted_long : (counts : List ℕ) (touch : ℕ) → length (counted counts touch) ≡ length counts
 counted_long counts touch = length-set counts touch (next (get_or counts touch 0))
@@ -67,10 +47,7 @@ count-after (touch ∷ touches) counts leaf small bound =
 -- the count of a leaf is the number of the entries that touch it, or 2^64 - 1 where there are more
 pub count-from_zero : (leaves : ℕ) (touches : List ℕ) (leaf : ℕ) → leaf < leaves
     → slice_index (fold counted (replicate leaves 0) touches) leaf ≡ min (count_by (λ touch. touch == leaf) touches) (2 ^ 64 - 1)
-count-from_zero leaves touches leaf small =
-    let zero_there : get_or (replicate {A = ℕ} leaves 0) leaf 0 ≡ 0 = get_or-replicate leaves leaf 0 0 small in
-    count-after touches (replicate leaves 0) leaf (omega (arith, length-replicate {A = ℕ} leaves 0)) (omega (arith, zero_there))
-    ∙ ap (λ n. min (n + count_by (λ touch. touch == leaf) touches) (2 ^ 64 - 1)) zero_there ∙ from_zero (count_by (λ touch. touch == leaf) touches)
+count-from_zero leaves touches leaf small = grind (arith, get_or, get_or-replicate, count-after, length-replicate, count_by, from_zero)
 
 -- a granule after one access
 warmed_at : (hot : ℕ → ℕ → Bool) (blobs : List (List ℕ)) (blob at : ℕ) → blob < length blobs → at < length (get_or blobs blob [])
@@ -94,11 +71,4 @@ heat-after (hot ∷ accesses) blobs blob at blob_in at_in bound =
 pub heat-from_zero : (granule : ℕ) (bytes : List ℕ) (accesses : List (ℕ → ℕ → Bool)) (blob at : ℕ) → blob < length bytes → at < granules_of granule (slice_index bytes blob)
     → slice_index (slice_index_or (fold (λ blobs hot. warmed hot blobs) (no_heat granule bytes).blobs accesses) blob []) at
     ≡ min (count_by (λ hot. hot blob at) accesses) (2 ^ 64 - 1)
-heat-from_zero granule bytes accesses blob at blob_in at_in =
-    let blobs = (no_heat granule bytes).blobs in
-    let counts : get_or blobs blob [] ≡ replicate (granules_of granule (get_or bytes blob 0)) 0 = get_or-map (λ len. replicate (granules_of granule len) 0) bytes blob 0 [] blob_in in
-    let zero_there : get_or (get_or blobs blob []) at 0 ≡ 0 = ap (λ counts. get_or counts at 0) counts ∙ get_or-replicate (granules_of granule (get_or bytes blob 0)) at 0 0 at_in in
-    let long : length (get_or blobs blob []) ≡ granules_of granule (get_or bytes blob 0) = ap length counts ∙ length-replicate {A = ℕ} (granules_of granule (get_or bytes blob 0)) 0 in
-    let many : length blobs ≡ length bytes = length-map bytes (λ len. replicate (granules_of granule len) 0) in
-    heat-after accesses blobs blob at (omega (arith, many)) (omega (arith, long)) (omega (arith, zero_there))
-    ∙ ap (λ n. min (n + count_by (λ hot. hot blob at) accesses) (2 ^ 64 - 1)) zero_there ∙ from_zero (count_by (λ hot. hot blob at) accesses)
+heat-from_zero granule bytes accesses blob at blob_in at_in = grind (arith, get_or, get_or-map, get_or-replicate, length-replicate, length-map, heat-after, count_by, from_zero)

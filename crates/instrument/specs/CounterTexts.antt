@@ -1,7 +1,7 @@
 -- The texts of counts by leaf, of counts by granule, and of runs.
 use Rattle.std.specs.Prelude.{ℕ, ◌==◌, List, [], ◌∷◌, ◌++◌, codes, slice_index, slice_index_or, if◌then◌else◌}
-use Rattle.std.specs.List.{flat_map, enumerate_from}
-use Rattle.layout_io.specs.Decimal.{digits_text}
+use Rattle.record_dim.specs.Std.{flat_map, enumerate_from}
+use Rattle.layout_io.specs.Prelude.{digits_text}
 use Rattle.places.specs.declared.piece.Run.{Run}
 use Rattle.places.specs.declared.piece.RunOwner.{RunOwner}
 use Rattle.places.specs.declared.piece.RunOwner.TheVariants.{Pad, Leaf}

@@ -1,9 +1,8 @@
 -- Counts of accesses, by leaf and by granule of a blob's bytes.
-use Rattle.std.specs.Prelude.{◌≡◌, ℕ, ◌+◌, ◌-◌, ◌*◌, ◌/◌, ◌^◌, ◌<◌, ◌≤◌, min, Bool, if◌then◌else◌}
-use Rattle.std.specs.Prelude.{List, [], length, map, replicate, slice_index, slice_index_or, slice_set, sum_by}
-use Rattle.std.specs.List.{enumerate_from}
+use Rattle.std.specs.Prelude.{◌≡◌, ℕ, ◌+◌, ◌-◌, ◌*◌, ◌/◌, ◌^◌, ◌<◌, ◌≤◌, min, Bool, if◌then◌else◌, List, [], length, map, replicate, slice_index, slice_index_or, slice_set, sum_by}
+use Rattle.record_dim.specs.Std.{enumerate_from}
 use Rattle.places.specs.declared.piece.Piece.{Piece}
-use Rattle.places.specs.Touched.{is_touched}
+use Rattle.places.specs.Prelude.{is_touched}
 use Rattle.instrument.specs.declared.counts.Counts.{Counts}
 use Rattle.instrument.specs.declared.heat.Heat.{Heat}
 

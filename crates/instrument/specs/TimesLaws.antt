@@ -1,8 +1,6 @@
 -- Many more at once are as many one after another.
-use Rattle.std.specs.Prelude.{◌≡◌, ℕ, zero, suc, ◌+◌, ◌-◌, ◌^◌, min, Bool, true, false, List, [], ◌∷◌, map, if◌then◌else◌}
-use Rattle.std.specs.List.{enumerate_from}
-use Rattle.std.proofs.Common.{refl, ap, arith}
-use Rattle.std.proofs.Math.Path.{fun_ext}
+use Rattle.std.specs.Prelude.{◌≡◌, ℕ, zero, suc, ◌+◌, ◌-◌, ◌^◌, min, Bool, List, [], ◌∷◌, map, if◌then◌else◌, refl}
+use Rattle.record_dim.specs.Std.{enumerate_from, ap, arith, fun_ext}
 use Rattle.instrument.specs.Counters.{raised, counted_times, warmed_blob, warmed_times}
 
 -- more, and then more again
@@ -16,26 +14,19 @@ counted-counted (count ∷ counts) (suc place) first more = ap (λ (rest : List 
 
 chosen : (hot : Bool) (first more count : ℕ)
     → (if hot then raised more (if hot then raised first count else count) else (if hot then raised first count else count)) ≡ (if hot then raised (first + more) count else count)
-chosen true first more count = raised-raised first more count
-chosen false first more count = refl
+chosen hot first more count = grind (arith, raised-raised)
 
 blob_again : (hot : ℕ → Bool) (first more n : ℕ) (counts : List ℕ)
     → map (λ (at : ℕ × ℕ). if hot at.0 then raised more at.1 else at.1) (enumerate_from n (map (λ (at : ℕ × ℕ). if hot at.0 then raised first at.1 else at.1) (enumerate_from n counts)))
     ≡ map (λ (at : ℕ × ℕ). if hot at.0 then raised (first + more) at.1 else at.1) (enumerate_from n counts)
 blob_again hot first more n [] = refl
-blob_again hot first more n (count ∷ counts) =
-    let here = chosen (hot n) first more count in
-    let rest = blob_again hot first more (n + 1) counts in
-    cc
+blob_again hot first more n (count ∷ counts) = grind (arith, chosen, (blob_again hot first more (n + 1) counts))
 
 blobs_again : (hot : ℕ → ℕ → Bool) (first more n : ℕ) (blobs : List (List ℕ))
     → map (λ (blob : ℕ × List ℕ). warmed_blob more (hot blob.0) blob.1) (enumerate_from n (map (λ (blob : ℕ × List ℕ). warmed_blob first (hot blob.0) blob.1) (enumerate_from n blobs)))
     ≡ map (λ (blob : ℕ × List ℕ). warmed_blob (first + more) (hot blob.0) blob.1) (enumerate_from n blobs)
 blobs_again hot first more n [] = refl
-blobs_again hot first more n (counts ∷ blobs) =
-    let here = blob_again (hot n) first more 0 counts in
-    let rest = blobs_again hot first more (n + 1) blobs in
-    cc
+blobs_again hot first more n (counts ∷ blobs) = grind (arith, blob_again, (blobs_again hot first more (n + 1) blobs))
 
 pub warmed-warmed : (hot : ℕ → ℕ → Bool) (first more : ℕ) (blobs : List (List ℕ)) → warmed_times more hot (warmed_times first hot blobs) ≡ warmed_times (first + more) hot blobs
 warmed-warmed hot first more blobs = blobs_again hot first more 0 blobs

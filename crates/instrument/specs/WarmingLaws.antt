@@ -1,13 +1,7 @@
 -- Laws of counts by granule: their number stays, and which of them have more.
-use Rattle.std.specs.Prelude.{◌≡◌, ℕ, ◌+◌, ◌-◌, ◌*◌, ◌/◌, ◌<◌, ◌≤◌, Bool, List, [], length, get_or, map, if◌then◌else◌}
-use Rattle.std.specs.List.{enumerate_from}
-use Rattle.std.proofs.Common.{ap, subst, sym, ◌∙◌, arith}
-use Rattle.std.proofs.lemmas.List.{length-map, get_or-map}
-use Rattle.std.proofs.lemmas.List.FromFn.{get_or-enumerate_from, length-enumerate_from}
-use Rattle.std.proofs.lemmas.Nat.{div-add-mod', mod_below}
-use Rattle.std.proofs.Math.Nat.{mul_comm}
+use Rattle.std.specs.Prelude.{◌≡◌, ℕ, ◌+◌, ◌*◌, ◌<◌, ◌≤◌, Bool, List, [], length, get_or, map, if◌then◌else◌}
+use Rattle.record_dim.specs.Std.{enumerate_from, ap, ◌∙◌, arith, length-map, get_or-map, get_or-enumerate_from, length-enumerate_from, div-add-mod', mod_below, mul_comm}
 use Rattle.places.specs.declared.piece.Piece.{Piece}
-use Rattle.places.specs.Touched.{is_touched}
 use Rattle.instrument.specs.Counters.{HeatCounts, IsInside, IsCountedPiece, raised, granules_of, warmed_blob, warmed_times, heated_times}
 
 -- a function of each entry and its number
@@ -42,18 +36,11 @@ pub length-heated : (times : ℕ) (hot : ℕ → ℕ → Bool) (blobs : List (Li
 length-heated times hot blobs blob small = ap length (get-warmed times hot blobs blob small) ∙ length-warmed_blob times (hot blob) (get_or blobs blob [])
 
 pub counted_kept : (times : ℕ) (heat : HeatCounts) (pieces : List Piece) (piece : Piece) → IsCountedPiece heat piece → IsCountedPiece (heated_times times pieces heat) piece
-counted_kept times heat pieces piece counted =
-    let blobs = length-warmed times (is_touched heat.granule pieces) heat.blobs in
-    let long = length-heated times (is_touched heat.granule pieces) heat.blobs piece.blob counted.blob_in in
-    record {
-      blob_in = omega (arith, blobs, counted.blob_in);
-      within = subst (λ n. piece.bit + piece.bits ≤ 8 * heat.granule * n) (sym long) counted.within;
-    }
+counted_kept times heat pieces piece counted = grind (arith, length-warmed, length-heated)
 
 pub inside-counted : {heat : HeatCounts} {piece : Piece} → IsInside heat piece → IsCountedPiece heat piece
 inside-counted inside = record { blob_in = inside.blob_in; within = inside.within }
 
 -- what lies in the bytes of a blob lies in their granules
 pub bytes-in_granules : (granule bytes : ℕ) → 1 ≤ granule → bytes ≤ granule * granules_of granule bytes
-bytes-in_granules granule bytes some =
-    omega (arith, div-add-mod' (bytes + (granule - 1)) granule, mod_below (bytes + (granule - 1)) granule (omega arith), mul_comm ((bytes + (granule - 1)) / granule) granule)
+bytes-in_granules granule bytes some = grind (arith, div-add-mod', mod_below, mul_comm)

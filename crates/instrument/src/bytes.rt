@@ -1,8 +1,7 @@
 ghost use Rattle.std.specs.Prelude.{◌≡◌, ◌<◌, flat_map};
 ghost use Rattle.std.specs.List.{enumerate_from};
 ghost use Rattle.blobs.specs.Bits.{bits_of};
-ghost use Rattle.layout_io.specs.Gathering.{Puts};
-ghost use Rattle.layout_io.specs.Writing.{Writes};
+ghost use Rattle.layout_io.specs.Prelude.{Puts, Writes};
 ghost use Rattle.instrument.specs.BlobTexts.{bytes_of, hex_digit, byte_text, line_end, bytes_text};
 
 use blobs::Blob;

@@ -1,10 +1,7 @@
 ghost use Rattle.std.specs.Prelude.{◌≡◌, ◌<◌, [], ◌∷◌, flat_map, length};
 ghost use Rattle.std.specs.List.{enumerate_from};
-ghost use Rattle.record_dim.specs.Schemas.{schema_fields};
-ghost use Rattle.record_dim.specs.Leaves.{leaves, texts_of};
-ghost use Rattle.layout_io.specs.Decimal.{digits_text};
-ghost use Rattle.layout_io.specs.Gathering.{Puts};
-ghost use Rattle.layout_io.specs.Writing.{Writes};
+ghost use Rattle.record_dim.specs.Prelude.{schema_fields, leaves, texts_of};
+ghost use Rattle.layout_io.specs.Prelude.{digits_text, Puts, Writes};
 ghost use Rattle.instrument.specs.Counters.{leaf_counts, HasLeaves};
 ghost use Rattle.instrument.specs.CounterTexts.{fields_line, leaf_line, counts_text};
 

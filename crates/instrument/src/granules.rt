@@ -1,6 +1,6 @@
 // Which granules of a blob's bytes pieces have bits in.
 ghost use Rattle.std.specs.Prelude.{◌≡◌, ◌≤◌, ◌^◌, nat_le};
-ghost use Rattle.places.specs.Touched.{is_in_granule, is_touched};
+ghost use Rattle.places.specs.Prelude.{is_in_granule, is_touched};
 ghost use Rattle.instrument.specs.Counters.{granules_in};
 ghost use Rattle.instrument.specs.Inner.Touching.{AreGranulesOf};
 

@@ -1,7 +1,6 @@
 ghost use Rattle.std.specs.Prelude.{◌≡◌, ◌<◌, flat_map};
 ghost use Rattle.std.specs.List.{enumerate_from};
-ghost use Rattle.layout_io.specs.Gathering.{Puts};
-ghost use Rattle.layout_io.specs.Writing.{Writes};
+ghost use Rattle.layout_io.specs.Prelude.{Puts, Writes};
 ghost use Rattle.instrument.specs.Counters.{heat_counts};
 ghost use Rattle.instrument.specs.CounterTexts.{granule_line, blob_lines, heat_text};
 

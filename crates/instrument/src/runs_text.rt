@@ -1,10 +1,8 @@
 ghost use Rattle.std.specs.Prelude.{◌≡◌, ◌<◌, flat_map, All, length};
-ghost use Rattle.record_dim.specs.Schemas.{schema_fields};
-ghost use Rattle.record_dim.specs.Leaves.{leaves, texts_of};
-ghost use Rattle.layout_io.specs.Gathering.{Puts};
-ghost use Rattle.layout_io.specs.Writing.{Writes};
+ghost use Rattle.record_dim.specs.Prelude.{schema_fields, leaves, texts_of};
+ghost use Rattle.layout_io.specs.Prelude.{Puts, Writes};
 ghost use Rattle.instrument.specs.CounterTexts.{fields_line, owner_fields, run_line, runs_text};
-ghost use Rattle.places.specs.RunOwners.{IsOwnerBelow};
+ghost use Rattle.places.specs.Prelude.{IsOwnerBelow};
 
 use layout_io::{Failed, Part, Sink, TextBuffer};
 use places::{Run, RunList, RunOwner};

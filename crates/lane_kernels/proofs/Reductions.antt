@@ -1,6 +1,5 @@
 -- What a reduction gives of some numbers and of more of them.
-use Rattle.lane_kernels.proofs.Imports.{◌≡◌, ℕ, zero, suc, ◌+◌, ◌*◌, ◌-◌, ◌^◌, ◌≤◌, List, [], ◌∷◌, ◌++◌, length, take, drop, map, fold, FitsSigned, ℤ, pos, neg_ℤ, ◌+ℤ◌, ◌≤ℤ◌, w64, Option, Some, None, refl, sym, ap, subst, ◌∙◌, arith, length-take, option_map, int_min, int_max, w128, slice_get, unwrap_or, option_or, Each1, ints, int_min_is, int_max_is, take-add, map-id, take-take, take_all, fold-map, fold-append, Each1-chunk, narrow_sum_fits, SumsFit, IsWithin64, reduced_by, extreme_with, with_more, CanAdd, Reduction}
-use Rattle.piece_bits.specs.Blocks.{IsNarrow}
+use Rattle.lane_kernels.proofs.Imports.{◌≡◌, ℕ, zero, suc, ◌+◌, ◌*◌, ◌-◌, ◌^◌, ◌≤◌, List, [], ◌∷◌, ◌++◌, length, take, drop, map, fold, FitsSigned, ℤ, pos, neg_ℤ, ◌+ℤ◌, ◌≤ℤ◌, w64, Option, Some, None, refl, sym, ap, subst, ◌∙◌, arith, length-take, option_map, int_min, int_max, w128, slice_get, unwrap_or, option_or, Each1, ints, int_min_is, int_max_is, take-add, map-id, take-take, take_all, fold-map, fold-append, Each1-chunk, narrow_sum_fits, SumsFit, IsWithin64, reduced_by, extreme_with, with_more, CanAdd, Reduction, IsNarrow}
 use Rattle.lane_kernels.specs.declared.reduce.Reduction.TheVariants.{Sum, Least, Greatest}
 
 -- where there are none before, and where it is known of those

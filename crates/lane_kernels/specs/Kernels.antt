@@ -1,15 +1,12 @@
 -- What a kernel makes of the rows of a table, row by row, and which number it gives.
 use Rattle.std.specs.Prelude.{ℕ, ◌+◌, ◌*◌, ◌/◌, ◌%◌, ◌≡◌, ℤ, pos, ◌+ℤ◌, ◌*ℤ◌, ◌≤ℤ◌, List, [], ◌∷◌, ◌++◌, length, map, take, drop, slice_set, Option, Some, None, Result, Ok, Err}
-use Rattle.std.specs.Int.{int_min, int_max}
+use Rattle.record_dim.specs.Std.{int_min, int_max, option_or}
 use Rattle.std.specs.List.{count_by}
-use Rattle.std.specs.Option.{option_or}
-use Rattle.views.specs.Tables.{Table, answer_of, kept_of, after_stores}
-use Rattle.views.specs.Stores.{StoreAnswer, Keeping}
+use Rattle.views.specs.Prelude.{Table, answer_of, kept_of, after_stores, StoreAnswer, Keeping}
 use Rattle.views.specs.declared.fault.StoreFault.TheVariants as store
 use Rattle.views.specs.declared.fault.StoreFault.{StoreFault}
-pub use Rattle.views.specs.Columns.{in_leaf, column, IsNarrowLeaf}
-pub use Rattle.piece_bits.specs.Blocks.{IsFactor, IsNarrow}
-pub use Rattle.piece_bits.specs.NumberTypes.{compares}
+pub use Rattle.views.specs.Prelude.{in_leaf, column, IsNarrowLeaf}
+pub use Rattle.piece_bits.specs.Prelude.{IsFactor, IsNarrow, compares}
 pub use Rattle.piece_bits.specs.declared.compare.Compare.{Compare}
 pub use Rattle.piece_bits.specs.declared.compare.Compare.TheVariants.{Eq, Ne, Lt, Le, Gt, Ge}
 use Rattle.lane_kernels.specs.Logs.{kernel_rows_log, fault_log}

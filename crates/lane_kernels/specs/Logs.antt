@@ -1,7 +1,7 @@
 -- The accesses of a kernel, row by row: in each row its reads, then its write.
 use Rattle.std.specs.Prelude.{ℕ, ◌+◌, ◌*◌, ◌/◌, nat_le, List, [], ◌∷◌, ◌++◌, if◌then◌else◌}
-use Rattle.std.specs.List.{flat_map, range_with_len}
-use Rattle.views.specs.Tallies.{Access, Read, Write}
+use Rattle.record_dim.specs.Std.{flat_map, range_with_len}
+use Rattle.views.specs.Prelude.{Access, Read, Write}
 use Rattle.lane_kernels.specs.declared.fault.KernelFault.{KernelFault}
 use Rattle.lane_kernels.specs.declared.fault.KernelFault.TheVariants.{Empty, Range, Narrow}
 use Rattle.lane_kernels.specs.declared.kernel.Kernel.{Kernel}

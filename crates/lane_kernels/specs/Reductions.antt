@@ -1,8 +1,8 @@
 -- One number of many: their sum, the least or the greatest of them.
 use Rattle.std.specs.Prelude.{ℤ, pos, ◌+ℤ◌, List, [], ◌∷◌, fold, Option, Some, None, option_map}
-use Rattle.std.specs.Int.{int_min, int_max}
+use Rattle.record_dim.specs.Std.{int_min, int_max}
 use Rattle.std.specs.Option.{unwrap_or}
-use Rattle.piece_bits.specs.NumberTypes.{SumsFit}
+use Rattle.piece_bits.specs.Prelude.{SumsFit}
 use Rattle.lane_kernels.specs.declared.reduce.Reduction.{Reduction}
 use Rattle.lane_kernels.specs.declared.reduce.Reduction.TheVariants.{Sum, Least, Greatest}
 

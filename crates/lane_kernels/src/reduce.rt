@@ -3,10 +3,8 @@ ghost use Rattle.std.specs.Prelude.{◌≡◌, ◌+◌, ◌<◌, ◌≤◌, Fits
 ghost use Rattle.std.specs.Int.{w128};
 ghost use Rattle.std.specs.Option.{option_or};
 ghost use Rattle.std.specs.Simd.Lanes.{Each1};
-ghost use Rattle.record_dim.specs.LeafTypes.{width_of};
-ghost use Rattle.views.specs.Columns.{column, column_reads};
-ghost use Rattle.views.specs.LeafRuns.{raised, run_steps};
-ghost use Rattle.views.specs.Tables.{after_log, leaf_count_of, leaf_type_of};
+ghost use Rattle.record_dim.specs.Prelude.{width_of};
+ghost use Rattle.views.specs.Prelude.{column, column_reads, raised, run_steps, after_log, leaf_count_of, leaf_type_of};
 ghost use Rattle.lane_kernels.specs.Kernels.{IsNarrow};
 ghost use Rattle.lane_kernels.specs.Reductions.{reduced_by, with_more, CanAdd};
 

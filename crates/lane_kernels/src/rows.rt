@@ -1,9 +1,7 @@
 // What a kernel does with rows one after another.
 ghost use Rattle.std.specs.Prelude.{◌≡◌, ◌+◌, ◌*◌, ◌≤◌, ◌^◌, IfOk, None, option_map, length, map, take, drop};
 ghost use Rattle.std.specs.Simd.Lanes.{Each1};
-ghost use Rattle.views.specs.Columns.{column, column_reads};
-ghost use Rattle.views.specs.LeafRuns.{run_fault, stored_count, with_run};
-ghost use Rattle.views.specs.Tables.{after_log};
+ghost use Rattle.views.specs.Prelude.{column, column_reads, run_fault, stored_count, with_run, after_log};
 ghost use Rattle.lane_kernels.specs.Inner.Blocks.{sixteens};
 ghost use Rattle.lane_kernels.specs.Kernels.{IsNarrow, IsNarrowLeaf, IsKernelOf, row_cost};
 ghost use Rattle.lane_kernels.specs.Inner.KernelRows.{fault_in, named_row, number_so_far, AreNext, AreTaken};

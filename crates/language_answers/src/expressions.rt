@@ -1,6 +1,6 @@
 // The value of an expression over two leaves.
 ghost use Rattle.std.specs.Prelude.{◌≡◌, ◌<◌, length};
-ghost use Rattle.expr_lang.specs.Bounds.{bound_leaves, bound_rank};
+ghost use Rattle.expr_lang.specs.Prelude.{bound_leaves, bound_rank};
 ghost use Rattle.schema_lang.specs.Parsing.{HasItsFields};
 
 use crate::forms::{fault_answer, no_form};

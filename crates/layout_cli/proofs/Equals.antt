@@ -1,6 +1,5 @@
 -- The runs of scripts that are within the limits are those over their lines.
-use Rattle.layout_cli.proofs.Imports.{◌≡◌, ℕ, ◌≤◌, ◌^◌, Bool, false, ltb, List, length, Option, None, Some, sym, ap, ◌∙◌, arith, if◌then◌else◌, nat_tests, File, file_named, Sentence, deepest, Version, line_of, World, empty, Outcome, Faults, Left, step, LineTooLong, TooDeep, ScriptTooLong, run_from, fails_at, DoesLines, EqualRuns, step_text, step_line, run_form, run_headed, run_versioned, faulted, script_lines, version_line, version_said, without_version, run_file, run_script, IsScript, EqualScripts, RunsUnversioned}
-use Rattle.std.specs.Prelude.{Result}
+use Rattle.layout_cli.proofs.Imports.{◌≡◌, ℕ, ◌≤◌, ◌^◌, Bool, false, ltb, List, length, Option, None, Some, sym, ap, ◌∙◌, arith, if◌then◌else◌, nat_tests, File, file_named, Sentence, deepest, Version, line_of, World, empty, Outcome, Faults, Left, step, LineTooLong, TooDeep, ScriptTooLong, run_from, fails_at, DoesLines, EqualRuns, step_text, step_line, run_form, run_headed, run_versioned, faulted, script_lines, version_line, version_said, without_version, run_file, run_script, IsScript, EqualScripts, RunsUnversioned, Result}
 
 -- a text that is a line within the limits does what the line does
 pub text_does : (version : Version) (files : List File) → DoesLines version files (step_text version files)

@@ -1,6 +1,5 @@
 -- The run over the generated script reads no file that is not there, so it ends as a run that reads nothing.
-use Rattle.layout_cli.proofs.Imports.{◌≡◌, ℕ, ◌+◌, ◌≤◌, Bool, true, false, inl, ⊎_elim, List, [], ◌∷◌, get_or, drop, length, Option, None, Some, Result, Ok, Err, refl, sym, ap, subst, ◌∙◌, arith, lit≤, if◌then◌else◌, AllByRecursion, Rose, File, Sentence, deepest, line_of, World, empty, Outcome, Refusal, NotRead, Left, LineTooLong, TooDeep, ScriptTooLong, Output, End, Unread, Gives, IsText, run_from, after, Answers, IsRun, HasCause, HasSinkCause, Status, Done, CommandFault, Usage, SourceFault, SinkFault, NoMemory, script_text, dataset_text, generated_lines, generated_files, One, step_text, step_line, run_form, run_headed, script_lines, version_line, faulted, run, run_file, run_words, run_generated, script_name, gen_words, said_first}
-use Rattle.std.specs.Prelude.{nat_lt}
+use Rattle.layout_cli.proofs.Imports.{◌≡◌, ℕ, ◌+◌, ◌≤◌, Bool, true, false, inl, ⊎_elim, List, [], ◌∷◌, get_or, drop, length, Option, None, Some, Result, Ok, Err, refl, sym, ap, subst, ◌∙◌, arith, lit≤, if◌then◌else◌, AllByRecursion, Rose, File, Sentence, deepest, line_of, World, empty, Outcome, Refusal, NotRead, Left, LineTooLong, TooDeep, ScriptTooLong, Output, End, Unread, Gives, IsText, run_from, after, Answers, IsRun, HasCause, HasSinkCause, Status, Done, CommandFault, Usage, SourceFault, SinkFault, NoMemory, script_text, dataset_text, generated_lines, generated_files, One, step_text, step_line, run_form, run_headed, script_lines, version_line, faulted, run, run_file, run_words, run_generated, script_name, gen_words, said_first, nat_lt}
 use Rattle.layout_cli.proofs.ScriptLines.{script_lines_are}
 use Rattle.layout_cli.proofs.FileLines.{ReadsDataset, lines_read}
 use Rattle.layout_cli.proofs.Readable.{IsReadable, goes, faults, refused_or, step_reads}

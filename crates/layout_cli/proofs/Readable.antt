@@ -1,8 +1,7 @@
 -- Lines that can read what they read.
-use Rattle.layout_cli.proofs.Imports.{◌≡◌, ℕ, false, Bool, true, if◌then◌else◌, List, Option, Some, Ok, Err, sym, subst, IfSome, File, file_named, New, file_in, World, Tested, Outcome, Refusal, sure, Faults, free, quiet, load, loaded_table, loaded, read, there, open_view, opened_table, opened_beside, room, named, with_view, step}
+use Rattle.layout_cli.proofs.Imports.{◌≡◌, ℕ, false, Bool, true, if◌then◌else◌, List, Option, Some, Ok, Err, sym, subst, IfSome, File, file_named, New, file_in, World, Tested, Outcome, Refusal, sure, Faults, free, quiet, load, loaded_table, loaded, read, there, open_view, opened_table, opened_beside, room, named, with_view, step, ◌>>=◌}
 use Rattle.line_grammar.specs.Sentences as line
 use Rattle.worlds.specs.declared.fault.CommandFault.{CommandFault}
-use Rattle.worlds.specs.Outcomes.{◌>>=◌}
 
 -- it goes on or is refused, and is not that a file can't be read
 pub data IsReadable {A : Type 0} : Outcome A → Type 0 where

@@ -1,6 +1,5 @@
 -- The lines of the generated script are those that it is made of.
-use Rattle.layout_cli.proofs.Imports.{◌≡◌, ℕ, ◌+◌, ◌-◌, ◌%◌, ◌^◌, ◌<◌, ◌≤◌, Bool, true, false, nat_lt, ◌==◌, List, [], ◌∷◌, ◌++◌, map, length, take, codes, flat_map, refl, ap, ◌∙◌, append_assoc, arith, if◌then◌else◌, list_all, slice_split, AllByRecursion, AllPass, decimal, nat_tests, decimal_by_steps_wide, list_all-append, slice_split_at, AllPass-from_list_all, strip_bom, digits_text, decimal-digits_text, is_line_end, without_cr, ended_lines, lines_in, with_line_end, generated_lines, script_text}
-use Rattle.std.specs.Prelude.{slice_index_or}
+use Rattle.layout_cli.proofs.Imports.{◌≡◌, ℕ, ◌+◌, ◌-◌, ◌%◌, ◌^◌, ◌<◌, ◌≤◌, Bool, true, false, nat_lt, ◌==◌, List, [], ◌∷◌, ◌++◌, map, length, take, codes, flat_map, refl, ap, ◌∙◌, append_assoc, arith, if◌then◌else◌, list_all, slice_split, AllByRecursion, AllPass, decimal, nat_tests, decimal_by_steps_wide, list_all-append, slice_split_at, AllPass-from_list_all, strip_bom, digits_text, decimal-digits_text, is_line_end, without_cr, ended_lines, lines_in, with_line_end, generated_lines, script_text, slice_index_or}
 
 -- no byte that could be a part of the end of a line
 abbrev pub is_plain : List ℕ → Bool

@@ -1,6 +1,6 @@
 -- Texts that grow at their end.
 use Rattle.layout_cli.proofs.Imports.{◌≡◌, ℕ, suc, ◌+◌, ◌-◌, ◌<◌, ℤ, List, [], ◌∷◌, ◌++◌, codes, sym, ap, ◌∙◌, append_assoc, append-nil, arith, range_with_len, decimal_text, with_line_end, values_with_commas, row_text}
-use Rattle.std.specs.List.{flat_map}
+use Rattle.record_dim.specs.Std.{flat_map}
 
 -- one piece more was put
 pub more : (piece was now old : List ℕ) → now ≡ was ++ piece → was ≡ old → now ≡ old ++ piece

@@ -1,6 +1,5 @@
 -- What parsing a word tells of the number that it names.
-use Rattle.layout_cli.proofs.Imports.{◌≡◌, ℕ, Bool, true, false, nat_le, List, Option, Some, None, Result, bytes_eq, refl, sym, ap, ◌∙◌, arith, IfSome, result_unwrap_or, ParsesUnsigned, AllDigits, digits_value, nat_tests, bytes_eq-Decides, numerals_by_value, tells_digits, parse-decimal, digits_value-decimal, digits_text, decimal-digits_text, is_number_word, generated_rows, IsNumberWord}
-use Rattle.std.proofs.Common.{◌&&◌, if◌then◌else◌}
+use Rattle.layout_cli.proofs.Imports.{◌≡◌, ℕ, Bool, true, false, nat_le, List, Option, Some, None, Result, bytes_eq, refl, sym, ap, ◌∙◌, arith, IfSome, result_unwrap_or, ParsesUnsigned, AllDigits, digits_value, nat_tests, bytes_eq-Decides, numerals_by_value, tells_digits, parse-decimal, digits_value-decimal, digits_text, decimal-digits_text, is_number_word, generated_rows, IsNumberWord, ◌&&◌, if◌then◌else◌}
 
 tested : (a b c : Bool) → ((a && b) && c) ≡ true → (a ≡ true) × (b ≡ true) × (c ≡ true)
 tested true true true is = (refl, refl, refl)

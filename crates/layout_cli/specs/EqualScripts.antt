@@ -1,9 +1,9 @@
 -- Two scripts that differ in their mapping expressions alone, as the program is called on them.
 use Rattle.std.specs.Prelude.{ℕ, ◌≡◌, ◌≤◌, ◌^◌, false, List, length, Option, Some}
-use Rattle.layout_io.specs.Files.{File, file_named}
-use Rattle.line_grammar.specs.Sentences.{Sentence}
+use Rattle.layout_io.specs.Prelude.{File, file_named}
+use Rattle.line_grammar.specs.Prelude.{Sentence}
 use Rattle.line_grammar.specs.declared.version.Version.{Version}
-use Rattle.worlds.specs.Fold.{fails_at}
+use Rattle.worlds.specs.Prelude.{fails_at}
 use Rattle.equal_runs.specs.Lines.{AreLines}
 use Rattle.equal_runs.specs.EqualRuns.{DifferInTerms}
 use Rattle.session_runs.specs.Scripts.{script_lines, version_line, version_said, without_version}

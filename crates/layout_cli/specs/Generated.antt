@@ -1,8 +1,7 @@
 -- The script and the dataset that are made of a number.
 use Rattle.std.specs.Prelude.{ℕ, ◌*◌, ◌-◌, ◌%◌, ℤ, pos, neg_ℤ, List, [], ◌∷◌, ◌++◌, codes}
-use Rattle.std.specs.List.{flat_map, range_with_len}
-use Rattle.layout_io.specs.Decimal.{digits_text, decimal_text}
-use Rattle.layout_io.specs.Files.{File}
+use Rattle.record_dim.specs.Std.{flat_map, range_with_len}
+use Rattle.layout_io.specs.Prelude.{digits_text, decimal_text, File}
 
 -- a line with its end
 abbrev pub with_line_end : List ℕ → List ℕ

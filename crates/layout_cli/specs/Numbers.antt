@@ -1,7 +1,7 @@
 -- The words that name a number of rows.
 use Rattle.std.specs.Prelude.{◌≡◌, ℕ, ◌≤◌, Bool, ◌&&◌, nat_le, if◌then◌else◌, List, Option, Some, None, bytes_eq}
-use Rattle.std.specs.Str.Parse.{digits_value}
-use Rattle.layout_io.specs.Decimal.{digits_text}
+use Rattle.record_dim.specs.Std.{digits_value}
+use Rattle.layout_io.specs.Prelude.{digits_text}
 
 -- the word is the decimal text of this number, which is from 1 to 65,536
 abbrev pub is_number_word : List ℕ → ℕ → Bool

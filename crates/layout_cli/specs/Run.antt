@@ -1,12 +1,11 @@
 -- The run of the program on a list of words: what it writes and how it ends, over the files of its shelf.
 use Rattle.std.specs.Prelude.{ℕ, ◌≡◌, ◌^◌, List, ◌∷◌, [], length, Option, None, Some, codes, bytes_eq, nat_lt, if◌then◌else◌}
-use Rattle.layout_io.specs.Files.{File, file_named}
+use Rattle.layout_io.specs.Prelude.{File, file_named}
 use Rattle.layout_cli.specs.Generated.{script_text, dataset_text, generated_files}
 use Rattle.layout_cli.specs.Numbers.{generated_rows}
-use Rattle.worlds.specs.FaultTexts.{unread_text}
+use Rattle.worlds.specs.Prelude.{unread_text, Output, Misused, fails_at}
 use Rattle.worlds.specs.declared.fault.CommandFault.TheVariants.{ScriptTooLong}
-use Rattle.worlds.specs.Outcome.{Output, Misused, Unread}
-use Rattle.worlds.specs.Fold.{fails_at}
+use Rattle.worlds.specs.Outcome.{Unread}
 use Rattle.session_runs.specs.Scripts.{faulted, run_form}
 
 abbrev pub usage_text : List ℕ

@@ -1,5 +1,5 @@
 ghost use Rattle.std.specs.Prelude.{◌≡◌, ◌<◌, ◌≤◌, ◌++◌, pos, neg_ℤ, codes, OnOk, IfOk};
-ghost use Rattle.layout_io.specs.Decimal.{decimal_text};
+ghost use Rattle.layout_io.specs.Prelude.{decimal_text};
 ghost use Rattle.layout_cli.specs.Generated.{row_text, dataset_text};
 
 use crate::number::push_number;

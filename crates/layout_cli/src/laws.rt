@@ -1,7 +1,7 @@
 // Laws of the run of the program: of scripts that differ in their mapping expressions alone, of what is shown of accesses, and of version
 // lines and blank lines.
 ghost use Rattle.std.specs.Prelude.{ℕ, List};
-ghost use Rattle.layout_io.specs.Files.{File};
+ghost use Rattle.layout_io.specs.Prelude.{File};
 ghost use Rattle.equal_runs.specs.RunEntries.{ShowsEntries};
 ghost use Rattle.line_grammar.specs.declared.version.Version.{Version};
 ghost use Rattle.session_runs.specs.Heads.{PassesBlanks, RunsUnversioned};

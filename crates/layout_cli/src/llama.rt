@@ -1,8 +1,6 @@
 ghost use Rattle.std.specs.Prelude.{◌≡◌, ◌≢◌, ◌≤◌, ◌⊎◌, ℕ, List, Option, Some, None, map, string_bytes, option_map, IfSome};
-ghost use Rattle.layout_io.specs.Faults.{Rose};
-ghost use Rattle.layout_io.specs.Files.{File};
-ghost use Rattle.layout_io.specs.Writing.{Writes};
-ghost use Rattle.worlds.specs.RunAnswers.{IsRun, HasCause, HasSinkCause};
+ghost use Rattle.layout_io.specs.Prelude.{Rose, File, Writes};
+ghost use Rattle.worlds.specs.Prelude.{IsRun, HasCause, HasSinkCause};
 ghost use Rattle.layout_cli.specs.Run.{run, run_file, run_generated, script_name, gen_words, IsMisuse, usage_text};
 
 use crate::dataset::gen_dataset;

@@ -1,5 +1,5 @@
 ghost use Rattle.std.specs.Prelude.{◌≡◌, ℕ, Some, IfSome, OnOk, ◌++◌};
-ghost use Rattle.layout_io.specs.Decimal.{digits_text};
+ghost use Rattle.layout_io.specs.Prelude.{digits_text};
 ghost use Rattle.layout_cli.specs.Numbers.{generated_rows, is_number_word, IsNumberWord};
 
 use itoa::Buffer;

@@ -1,5 +1,5 @@
 ghost use Rattle.std.specs.Prelude.{◌≡◌, ◌≤◌, ◌++◌, OnOk, IfOk};
-ghost use Rattle.layout_io.specs.Decimal.{digits_text};
+ghost use Rattle.layout_io.specs.Prelude.{digits_text};
 ghost use Rattle.layout_cli.specs.Generated.{with_line_end, script_text};
 
 use crate::number::push_number;

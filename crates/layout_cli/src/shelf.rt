@@ -1,8 +1,7 @@
 // A shelf of a dataset alone.
 ghost use Rattle.std.specs.Prelude.{◌≡◌, ◌≤◌, ◌⊎◌, length, Some, IfOk, IsErr, OnOk, OnErr};
 ghost use Rattle.std.specs.Io.{ReadsAtMost};
-ghost use Rattle.layout_io.specs.Faults.{Rose};
-ghost use Rattle.layout_io.specs.Files.{IsMissing, HasFile, Reads};
+ghost use Rattle.layout_io.specs.Prelude.{Rose, IsMissing, HasFile, Reads};
 ghost use Rattle.layout_cli.specs.Generated.{generated_files};
 
 use layout_io::{Failed, Shelf};

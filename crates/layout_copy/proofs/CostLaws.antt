@@ -1,53 +1,27 @@
 -- Rounds of slots one after another.
-use Rattle.layout_copy.proofs.Imports.{◌≡◌, ⊎_elim, ℕ, ◌+◌, ◌*◌, ◌/◌, ◌%◌, ◌<◌, ◌≤◌, Bool, true, false, ◌||◌, List, [], ◌∷◌, map, take, length, get_or, sum_by, refl, sym, ap, ◌∙◌, arith, ◌==◌, min, if◌then◌else◌, range_with_len, mul-mod_left, div-add-mod', mul-le, cases_lt, eqb-true, or_right, length-map, get_or-map, sum_by-cons, sum_by_more, sum_by-le-sum_by, LeafType, Truth, blocks, all_pieces, size_of, is_cut, piece_count, piece_at, slot_steps, span_join, sum_both, kind_at, piece_steps, piece_steps_at, steps_before}
+use Rattle.layout_copy.proofs.Imports.{◌≡◌, ⊎_elim, ℕ, ◌+◌, ◌*◌, ◌/◌, ◌%◌, ◌<◌, ◌≤◌, Bool, true, false, ◌||◌, List, [], ◌∷◌, map, take, length, get_or, sum_by, sym, ap, ◌∙◌, arith, min, if◌then◌else◌, range_with_len, mul-mod_left, div-add-mod', mul-le, cases_lt, eqb-true, or_right, length-map, get_or-map, sum_by-cons, sum_by_more, sum_by-le-sum_by, LeafType, Truth, blocks, all_pieces, size_of, is_cut, piece_count, piece_at, slot_steps, span_join, sum_both, kind_at, piece_steps, piece_steps_at, steps_before}
 
 -- slots are cut at the multiples of the lesser of two numbers
 pub cut_at : (one two slot : ℕ) → slot % min one two ≡ 0 → is_cut one two slot ≡ true
-cut_at one two slot none =
-    ⊎_elim
-    (λ (l : one < two).
-    let least : min one two ≡ one = omega (arith, l) in
-    let here : slot % one ≡ 0 = sym (ap (λ (n : ℕ). slot % n) least) ∙ none in
-    let cut : is_cut one two slot ≡ true = rw here refl in cut)
-    (λ (l : two ≤ one).
-    let least : min one two ≡ two = omega (arith, l) in
-    let here : slot % two ≡ 0 = sym (ap (λ (n : ℕ). slot % n) least) ∙ none in
-    let cut : is_cut one two slot ≡ true = rw here (or_right (slot % one == 0) true refl) in cut)
-    (cases_lt one two)
+cut_at one two slot none = grind (arith, ⊎_elim, or_right, cases_lt)
 
 -- multiples behind a multiple
 pub multiple_on : (slot k n : ℕ) → slot % n ≡ 0 → (slot + k * n) % n ≡ 0
 multiple_on slot k n none =
     let whole : slot / n * n ≡ slot = omega (arith, div-add-mod' slot n, none) in
-    let sum : (slot / n + k) * n ≡ slot / n * n + k * n = grind arith in
-    ap (λ (m : ℕ). (m + k * n) % n) (sym whole) ∙ ap (λ (m : ℕ). m % n) (sym sum) ∙ mul-mod_left (slot / n + k) n
+    ap (λ (m : ℕ). (m + k * n) % n) (sym whole) ∙ ap (λ (m : ℕ). m % n) (sym (grind arith)) ∙ mul-mod_left (slot / n + k) n
 
 -- what is counted by one test is counted by another that it meets
 by_test : (one two : Bool) (less more : ℕ) → (one ≡ true → two ≡ true) → less ≤ more → (if one || two then less else 0) ≤ (if two then more else 0)
-by_test true true less more meets le = le
-by_test true false less more meets le = absurd (cc (meets refl))
-by_test false true less more meets le = le
-by_test false false less more meets le = omega arith
+by_test one two less more meets le = grind arith
 
 -- the pieces of a round are no more, and no longer, than those of all slots
 module _ (slots one two slot count : ℕ) (cut : is_cut one two slot ≡ true) (inside : slot + count ≤ slots) where
   at_most : (size at : ℕ) → piece_at one two size slot (slot + count) at ≤ piece_steps_at slots one two (size ∷ []) at
-  at_most size at =
-      let less : ℕ = piece_count (slot + count) one two at in
-      let more : ℕ = piece_count slots one two at in
-      let fewer : piece_count (slot + count) one two at ≤ piece_count slots one two at = omega (arith, inside) in
-      let bytes : less * size ≤ more * size = mul-le less size more size fewer (let same : size ≤ size = omega arith in same) in
-      let one_size : piece_steps (size ∷ []) more ≡ blocks (more * size) + 0 = sum_by-cons (λ (s : ℕ). blocks (more * s)) size [] in
-      let steps : blocks (less * size) ≤ piece_steps (size ∷ []) more = omega (arith, bytes, one_size) in
-      by_test (at == slot) (is_cut one two at) (blocks (less * size)) (piece_steps (size ∷ []) more) (λ same. ap (is_cut one two) (eqb-true at slot same) ∙ cut) steps
+  at_most size at = grind (arith, mul-le, sum_by-cons, by_test, eqb-true)
 
   leaf_round : (size : ℕ) → slot_steps one two size slot count ≤ sum_by (piece_steps_at slots one two (size ∷ [])) (range_with_len slot count)
-  leaf_round size =
-      omega (
-        arith,
-        all_pieces one two size slot count,
-        sum_by-le-sum_by (piece_at one two size slot (slot + count)) (piece_steps_at slots one two (size ∷ [])) (range_with_len slot count) (at_most size),
-      )
+  leaf_round size = grind (arith, all_pieces, sum_by-le-sum_by, range_with_len, at_most)
 
   one_more : (size : ℕ) (sizes : List ℕ) (at : ℕ) → piece_steps_at slots one two (size ∷ []) at + piece_steps_at slots one two sizes at ≤ piece_steps_at slots one two (size ∷ sizes) at
   one_more size sizes at = of (is_cut one two at) where
@@ -59,14 +33,13 @@ module _ (slots one two slot count : ℕ) (cut : is_cut one two slot ≡ true) (
     of false = omega arith
 
   leaves_round : (sizes : List ℕ) → sum_by (λ size. slot_steps one two size slot count) sizes ≤ sum_by (piece_steps_at slots one two sizes) (range_with_len slot count)
-  leaves_round [] = let none : sum_by (λ (size : ℕ). slot_steps one two size slot count) [] ≡ 0 = refl in omega (arith, none)
+  leaves_round [] = omega (arith)
   leaves_round (size ∷ sizes) =
       let f : ℕ → ℕ = piece_steps_at slots one two (size ∷ []) in
       let g : ℕ → ℕ = piece_steps_at slots one two sizes in
       let whole = sum_by-cons (λ (s : ℕ). slot_steps one two s slot count) size sizes in
-      let joined = sum_both f g (range_with_len slot count) in
       let less = sum_by-le-sum_by (λ (at : ℕ). f at + g at) (piece_steps_at slots one two (size ∷ sizes)) (range_with_len slot count) (one_more size sizes) in
-      omega (arith, whole, joined, less, leaf_round size, leaves_round sizes)
+      omega (arith, whole, (sum_both f g (range_with_len slot count)), less, leaf_round size, leaves_round sizes)
 
   pub round_counted : (sizes : List ℕ) → steps_before slots one two sizes slot + sum_by (λ size. slot_steps one two size slot count) sizes ≤ steps_before slots one two sizes (slot + count)
   unfolding steps_before
@@ -77,5 +50,4 @@ pub leaf_sum : (g : ℕ → ℕ) (kinds : List LeafType) (leaf : ℕ) → leaf <
     → sum_by g (take leaf (map size_of kinds)) + g (size_of (kind_at kinds leaf)) ≡ sum_by g (take (leaf + 1) (map size_of kinds))
 leaf_sum g kinds leaf inside =
     let size : get_or (map size_of kinds) leaf 0 ≡ size_of (kind_at kinds leaf) = get_or-map size_of kinds leaf Truth 0 inside in
-    ap (λ (n : ℕ). sum_by g (take leaf (map size_of kinds)) + g n) (sym size)
-    ∙ sym (sum_by_more g (map size_of kinds) leaf 0 (let l : leaf < length (map size_of kinds) = omega (arith, inside, length-map kinds size_of) in l))
+    grind (arith, sum_by, sum_by_more, length-map)

@@ -1,39 +1,22 @@
 -- Tables that are copied leaf after leaf of a piece of slots, and piece after piece.
-use Rattle.layout_copy.proofs.Imports.{◌≡◌, ⊎_elim, ℕ, ◌+◌, ◌<◌, ◌≤◌, ℤ, List, [], ◌∷◌, length, sum_by, Option, Some, None, option_map, refl, sym, ap, ◌∙◌, subst, arith, IfSome, IsSomeAnd, cases_lt, sum_by-cons, indices, Order, slot_at, slot_count, slot_at_below, entry, tables_same, HasShape, Term, array_of, lanes_in, slots_in, AreRuns, ArraySlots, same_steps, IsRunMoved, with_rows, slot_steps, move_steps, HasSlots, Table, IsTable, leaf_count_of, AreAlike, round_steps, slot_run_steps, steps_before, order_in, order_by, IsPieceMoved}
+use Rattle.layout_copy.proofs.Imports.{◌≡◌, ⊎_elim, ℕ, ◌+◌, ◌<◌, ◌≤◌, ℤ, List, [], ◌∷◌, length, sum_by, Option, Some, None, option_map, refl, sym, ap, ◌∙◌, subst, arith, IfSome, IsSomeAnd, cases_lt, sum_by-cons, indices, Order, slot_at, slot_count, slot_at_below, entry, tables_same, HasShape, Term, array_of, lanes_in, slots_in, AreRuns, ArraySlots, same_steps, IsRunMoved, with_rows, slot_steps, HasSlots, Table, IsTable, leaf_count_of, AreAlike, round_steps, slot_run_steps, steps_before, order_in, order_by, IsPieceMoved}
 
 -- what is said of the order of an array's slots
 in_order : (o : Option (Order × Option ℕ)) (P : Order → Type 0) (Q : Order × Option ℕ → Type 0) → IsSomeAnd o Q → IfSome o (λ array. P array.0) → P (order_in o)
-in_order None P Q some h = absurd some
-in_order (Some array) P Q some h = h
+in_order o P Q some h = grind arith
 
 -- a leaf more
 leaf_more : (order : Order) (extents : List ℕ) (leaves done slot count : ℕ) (source old now new : List (List ℤ)) → done < leaves
     → IsPieceMoved order extents leaves done slot count source old now
     → IsRunMoved order extents (length (indices extents)) leaves done slot count source now new → IsPieceMoved order extents leaves (done + 1) slot count source old new
-leaf_more order extents leaves done slot count source old now new inside so_far run = record {
-  moved = λ row leaf row_in low in_run.
-      ⊎_elim (λ (less : leaf < done).
-      run.stands row leaf row_in (omega (arith, less)) (λ same r. let none : ⊥ = absurd (omega (arith, same, less)) in none) ∙ so_far.moved row leaf row_in less in_run)
-      (λ (more : done ≤ leaf).
-      let same : leaf ≡ done = omega (arith, low, more) in
-      ap (entry new row) same ∙ run.moved row row_in in_run ∙ ap (entry source row) (sym same))
-      (cases_lt leaf done);
-  stands = λ row leaf row_in leaf_in apart.
-      run.stands row leaf row_in leaf_in (λ same r. apart (omega (arith, same)) r) ∙ so_far.stands row leaf row_in leaf_in (λ less r. apart (omega (arith, less)) r);
-}
+leaf_more order extents leaves done slot count source old now new inside so_far run = grind (arith, ⊎_elim, cases_lt)
 
 pub leaf_moved : (old now : Table) (leaf slot count : ℕ) (source new : List (List ℤ)) (other : Term) → now ≡ with_rows old now.rows → IsTable now
     → leaf < leaf_count_of old
     → AreRuns old.mapping other → IsPieceMoved (order_by old.mapping) old.extents (leaf_count_of old) leaf slot count source old.rows now.rows
     → IfSome (array_of now.mapping) (λ array. IsRunMoved array.0 now.extents (length now.rows) (leaf_count_of now) leaf slot count source now.rows new)
     → IsPieceMoved (order_by old.mapping) old.extents (leaf_count_of old) (leaf + 1) slot count source old.rows new
-leaf_moved old now leaf slot count source new other is table inside arrays so_far run =
-    let here : IfSome (array_of old.mapping) (λ array. IsRunMoved array.0 old.extents (length now.rows) (leaf_count_of old) leaf slot count source now.rows new) =
-    subst (λ (t : Table). IfSome (array_of t.mapping) (λ array. IsRunMoved array.0 t.extents (length now.rows) (leaf_count_of t) leaf slot count source now.rows new)) is run in
-    let rows : length now.rows ≡ length (indices old.extents) = table.rows ∙ ap (λ (t : Table). length (indices t.extents)) is in
-    leaf_more (order_by old.mapping) old.extents (leaf_count_of old) leaf slot count source old.rows now.rows new inside so_far
-    (subst (λ (n : ℕ). IsRunMoved (order_by old.mapping) old.extents n (leaf_count_of old) leaf slot count source now.rows new) rows
-    (in_order (array_of old.mapping) (λ order. IsRunMoved order old.extents (length now.rows) (leaf_count_of old) leaf slot count source now.rows new) _ arrays here))
+leaf_moved old now leaf slot count source new other is table inside arrays so_far run = grind (arith, leaf_more, in_order)
 
 -- the entries of all rows whose slots are below one are those of another table
 pub record AreBelow (order : Order) (extents : List ℕ) (leaves slot : ℕ) (source new : List (List ℤ)) : Type 0 where
@@ -42,21 +25,13 @@ pub record AreBelow (order : Order) (extents : List ℕ) (leaves slot : ℕ) (so
 -- a piece more
 piece_more : (order : Order) (extents : List ℕ) (leaves slot count : ℕ) (source now new : List (List ℤ)) → AreBelow order extents leaves slot source now
     → IsPieceMoved order extents leaves leaves slot count source now new → AreBelow order extents leaves (slot + count) source new
-piece_more order extents leaves slot count source now new so_far piece = record {
-  each = λ row leaf inside leaf_in low.
-      ⊎_elim (λ (less : slot_at order extents row < slot).
-      piece.stands row leaf inside leaf_in (λ l run. let none : ⊥ = absurd (omega (arith, run.0, less)) in none) ∙ so_far.each row leaf inside leaf_in less)
-      (λ (more : slot ≤ slot_at order extents row). piece.moved row leaf inside leaf_in (more, low))
-      (cases_lt (slot_at order extents row) slot);
-}
+piece_more order extents leaves slot count source now new so_far piece = grind (arith, ⊎_elim, cases_lt)
 
 pub piece_moved : (old now : Table) (slot count : ℕ) (source new : List (List ℤ)) → now ≡ with_rows old now.rows
     → AreBelow (order_by old.mapping) old.extents (leaf_count_of old) slot source now.rows
     → IsPieceMoved (order_by now.mapping) now.extents (leaf_count_of now) (leaf_count_of now) slot count source now.rows new
     → AreBelow (order_by old.mapping) old.extents (leaf_count_of old) (slot + count) source new
-piece_moved old now slot count source new is so_far piece =
-    piece_more (order_by old.mapping) old.extents (leaf_count_of old) slot count source now.rows new so_far
-    (subst (λ (t : Table). IsPieceMoved (order_by t.mapping) t.extents (leaf_count_of t) (leaf_count_of t) slot count source now.rows new) is piece)
+piece_moved old now slot count source new is so_far piece = grind (arith, piece_more)
 
 -- once all slots are below, the tables are one
 pub all_below : (source old new : Table) (slot : ℕ) → AreAlike old source → IsTable source → IsTable new → new ≡ with_rows old new.rows
@@ -65,7 +40,7 @@ all_below source old new slot alike is now same below all =
     let rows : ℕ = length (indices old.extents) in
     let order : Order = order_by old.mapping in
     let source_rows : length source.rows ≡ rows = is.rows ∙ ap (λ (e : List ℕ). length (indices e)) (sym alike.1) in
-    let source_leaves : leaf_count_of source ≡ leaf_count_of old = ap (λ f. leaf_count_of (let t : Table = record source { fields = f } in t)) (sym alike.0) in
+    let source_leaves : leaf_count_of source ≡ leaf_count_of old = ap (λ f. leaf_count_of (record source { fields = f })) (sym alike.0) in
     let new_rows : length new.rows ≡ rows = now.rows ∙ ap (λ (t : Table). length (indices t.extents)) same in
     let new_leaves : leaf_count_of new ≡ leaf_count_of old = ap leaf_count_of same in
     let one : HasShape rows (leaf_count_of old) new.rows =
@@ -74,16 +49,13 @@ all_below source old new slot alike is now same below all =
     subst (λ (n : ℕ). HasShape n (leaf_count_of old) source.rows) source_rows (subst (λ (l : ℕ). HasShape (length source.rows) l source.rows) source_leaves is.shape) in
     let table : new.rows ≡ source.rows =
     tables_same rows (leaf_count_of old) new.rows source.rows one two
-    (λ row leaf inside leaf_in. below.each row leaf inside leaf_in (let low : slot_at order old.extents row < slot = omega (arith, slot_at_below order old.extents row inside, all) in low)) in
+    (λ row leaf inside leaf_in. below.each row leaf inside leaf_in (omega (arith, slot_at_below order old.extents row inside, all))) in
     same ∙ ap (with_rows old) table
 
 -- the slots of a mapping that lays out arrays
 slots_are : (o : Option (Order × Option ℕ)) (extents : List ℕ) (slots : ArraySlots) → option_map (slots_in extents) o ≡ Some slots
     → slot_count (order_in o) extents ≡ slots.slots
-slots_are None extents slots is = absurd (cc is)
-slots_are (Some array) extents slots is =
-    let same : slots_in extents array ≡ slots = cc is in
-    ap (λ (s : ArraySlots). s.slots) same
+slots_are o extents slots is = grind arith
 
 pub order_slots : (table : Table) (slots : ArraySlots) → option_map (slots_in table.extents) (array_of table.mapping) ≡ Some slots
     → slot_count (order_by table.mapping) table.extents ≡ slots.slots
@@ -110,22 +82,16 @@ all_steps source target from to sizes alike arrays one two =
       of None p are first second = absurd (cc first)
       of (Some array) None are first second = absurd (cc second)
       of (Some array) (Some other) are first second =
-          let one_is : slots_in target.extents array ≡ from = cc first in
           let two_is : slots_in target.extents other ≡ to = cc second in
           let slots : ℕ = slot_count array.0 target.extents in
           let same : slot_count other.0 target.extents ≡ slots = ap (λ (order : Order). slot_count order target.extents) are in
           let lanes : lanes_in other.1 slots ≡ to.lanes = ap (lanes_in other.1) (sym same) ∙ ap (λ (s : ArraySlots). s.lanes) two_is in
           ap (λ (n : ℕ). steps_before slots (lanes_in array.1 slots) n sizes slots) lanes
-          ∙ ap (λ (s : ArraySlots). steps_before s.slots s.lanes to.lanes sizes s.slots) one_is
+          ∙ ap (λ (s : ArraySlots). steps_before s.slots s.lanes to.lanes sizes s.slots) (cc first)
 
 -- and those of a round
 pub steps_of_round : (source target : Table) (from to : ArraySlots) (sizes : List ℕ) (slot count : ℕ) → AreAlike target source → AreRuns target.mapping source.mapping
     → option_map (slots_in source.extents) (array_of source.mapping) ≡ Some from → option_map (slots_in target.extents) (array_of target.mapping) ≡ Some to
     → round_steps (array_of source.mapping) (array_of target.mapping) target.extents sizes slot count ≡ sum_by (λ size. slot_steps from.lanes to.lanes size slot count) sizes
 steps_of_round source target from to [] slot count alike arrays one two = refl
-steps_of_round source target from to (size ∷ sizes) slot count alike arrays one two =
-    let here = same_steps source.mapping target.mapping source.extents target.extents from to size slot count alike.1 arrays one two in
-    let rest = steps_of_round source target from to sizes slot count alike arrays one two in
-    let first = sum_by-cons (λ (s : ℕ). move_steps (array_of source.mapping) (array_of target.mapping) target.extents s slot count) size sizes in
-    let second = sum_by-cons (λ (s : ℕ). slot_steps from.lanes to.lanes s slot count) size sizes in
-    omega (arith, here, rest, first, second)
+steps_of_round source target from to (size ∷ sizes) slot count alike arrays one two = grind (arith, same_steps, sum_by-cons, (steps_of_round source target from to sizes slot count alike arrays one two))

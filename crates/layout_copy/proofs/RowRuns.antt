@@ -1,14 +1,11 @@
 -- Tables that are copied leaf after leaf of a run of rows, and run after run.
-use Rattle.layout_copy.proofs.Imports.{◌≡◌, ℕ, ◌+◌, ◌*◌, ◌<◌, ◌≤◌, List, length, sym, ap, ◌∙◌, arith, indices, slot_count, with_rows, AreBefore, Table, IsTable, leaf_count_of, AreAlike, order_by}
+use Rattle.layout_copy.proofs.Imports.{◌≡◌, ℕ, ◌+◌, ◌*◌, ◌≤◌, List, length, sym, ap, ◌∙◌, arith, indices, slot_count, with_rows, AreBefore, Table, IsTable, leaf_count_of, AreAlike, order_by}
 use Rattle.layout_copy.proofs.Pieces.{all_below}
 
 -- ---- tables that are alike
 
 pub alike_after : (source old from now : Table) → AreAlike source old → from ≡ source → now ≡ with_rows old now.rows → AreAlike from now
-alike_after source old from now alike read same = (
-  ap (λ (t : Table). t.fields) read ∙ alike.0 ∙ sym (ap (λ (t : Table). t.fields) same),
-  ap (λ (t : Table). t.extents) read ∙ alike.1 ∙ sym (ap (λ (t : Table). t.extents) same),
-)
+alike_after source old from now alike read same = grind arith
 
 pub same_rows : (source now : Table) → AreAlike source now → IsTable source → IsTable now → length now.rows ≡ length source.rows
 same_rows source now alike is to = to.rows ∙ sym (is.rows ∙ ap (λ (e : List ℕ). length (indices e)) alike.1)
@@ -17,9 +14,7 @@ same_rows source now alike is to = to.rows ∙ sym (is.rows ∙ ap (λ (e : List
 
 -- two steps more for each of its rows
 pub leaf_steps : (before now new rows leaf each : ℕ) → now ≤ before + 2 * (rows * leaf) → new ≡ now + 2 * each → each ≤ rows → new ≤ before + 2 * (rows * (leaf + 1))
-leaf_steps before now new rows leaf each so_far more few =
-    let next : rows * (leaf + 1) ≡ rows * leaf + rows = grind arith in
-    omega (arith, so_far, more, few, next)
+leaf_steps before now new rows leaf each so_far more few = grind arith
 
 -- once all rows are before, the tables are one
 pub all_before : (source old new : Table) (first : ℕ) → AreAlike source old → IsTable source → IsTable new → new ≡ with_rows old new.rows → length source.rows ≤ first

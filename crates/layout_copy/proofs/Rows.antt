@@ -1,6 +1,5 @@
 -- Rows that are read, stored and copied, one leaf or one row more.
-use Rattle.layout_copy.proofs.Imports.{◌≡◌, Bool, true, false, ℕ, zero, suc, ◌+◌, ◌*◌, ◌<◌, ◌≤◌, ℤ, pos, List, [], ◌∷◌, ◌++◌, length, take, drop, get_or, set, Option, Some, None, is_ok, refl, sym, ap, ◌∙◌, arith, length-map, get_or-map, at_drop_more, take_more, get_or-set_same, length-set, take-set-le, Table, answer_of, kept_of, leaf_count_of, after_log, after_stores, after_read, StoreAnswer, kept_row, kept_rows, half, half_more, after_log-none, after_log-append, logs_more, accesses_more, Access, Read, Write, row_accesses, all_accesses, refusing, refused_at, spot_or}
-use Rattle.std.proofs.Common.{if◌then◌else◌}
+use Rattle.layout_copy.proofs.Imports.{◌≡◌, Bool, true, false, ℕ, zero, suc, ◌+◌, ◌*◌, ◌<◌, ◌≤◌, ℤ, pos, List, [], ◌∷◌, ◌++◌, length, take, drop, get_or, set, Option, Some, None, is_ok, refl, sym, ap, ◌∙◌, arith, length-map, get_or-map, at_drop_more, take_more, get_or-set_same, length-set, take-set-le, Table, answer_of, kept_of, leaf_count_of, after_log, after_stores, after_read, StoreAnswer, kept_row, kept_rows, half, half_more, after_log-none, after_log-append, logs_more, accesses_more, Access, Read, Write, row_accesses, all_accesses, refusing, refused_at, spot_or, if◌then◌else◌}
 
 -- the leaves from one on are the one and those behind it
 leaf_at : (answer : StoreAnswer) (values : List ℤ) (leaf : ℕ) → leaf < length values → refusing answer leaf (drop leaf values) ≡ refusing answer leaf (get_or values leaf (pos 0) ∷ drop (leaf + 1) values)
@@ -24,14 +23,11 @@ leaf_read answer row values leaf value small is taken so_far =
     }
 
 pub leaf_refused : (answer : StoreAnswer) (row values : List ℤ) (leaf : ℕ) (value : ℤ) → leaf < length values → value ≡ get_or row leaf (pos 0) → is_ok (answer leaf value) ≡ false → AreRead answer row values leaf → Some leaf ≡ refusing answer 0 row
-leaf_refused answer row values leaf value small is refused so_far =
-    let inside : leaf < length row = omega (arith, small, so_far.count) in
-    sym (so_far.rest ∙ leaf_at answer row leaf inside ∙ (rw (← is, refused) refl))
+leaf_refused answer row values leaf value small is refused so_far = grind (arith, leaf_at)
 
 -- a read more of a row, and the reads of a row more
 pub read_more : (old now new : Table) (row leaf : ℕ) → now ≡ after_log old (row_accesses Read leaf row) → new ≡ after_read now row leaf → new ≡ after_log old (row_accesses Read (leaf + 1) row)
-read_more old now new row leaf so_far read =
-    rw (accesses_more (Read row) leaf) (read ∙ ap (λ (s : Table). after_read s row leaf) so_far ∙ after_log-append old (row_accesses Read leaf row) (Read row leaf ∷ []))
+read_more old now new row leaf so_far read = grind (arith, accesses_more, after_log-append)
 
 pub reads_after : (old now new : Table) (leaves row : ℕ) (log : List Access) → now ≡ after_log old (all_accesses Read leaves row) → new ≡ after_log now log → new ≡ after_log old (all_accesses Read leaves row ++ log)
 reads_after old now new leaves row log so_far read = read ∙ ap (λ (s : Table). after_log s log) so_far ∙ after_log-append old (all_accesses Read leaves row) log
@@ -41,14 +37,11 @@ row_read old now new leaves row so_far read = rw (logs_more (row_accesses Read l
 
 -- where no leaf refuses its value, each takes it
 none_refuses : (test : Bool) (rest : Option ℕ) (leaf : ℕ) → (if test then rest else Some leaf) ≡ None → (test ≡ true) × (rest ≡ None)
-none_refuses true rest leaf e = (refl, e)
-none_refuses false rest leaf e = absurd (cc e)
+none_refuses test rest leaf e = grind arith
 
 pub each_taken : (answer : StoreAnswer) (first leaf : ℕ) (values : List ℤ) → leaf < length values → refusing answer first values ≡ None → is_ok (answer (first + leaf) (get_or values leaf (pos 0))) ≡ true
 each_taken answer first leaf [] inside none = absurd (omega (arith, inside))
-each_taken answer first zero (value ∷ values) inside none =
-    let here : first + 0 ≡ first = omega arith in
-    rw here (none_refuses (is_ok (answer first value)) (refusing answer (first + 1) values) first none).0
+each_taken answer first zero (value ∷ values) inside none = grind (arith, none_refuses, is_ok)
 each_taken answer first (suc leaf) (value ∷ values) inside none =
     let less : leaf < length values = omega (arith, inside) in
     let next : first + suc leaf ≡ first + 1 + leaf = omega arith in
@@ -92,6 +85,4 @@ row_refused source old now row leaf small so_far refused =
 
 -- two steps more for each leaf of a row
 pub steps_more : (before now new row leaves : ℕ) → now ≤ before + 2 * (row * leaves) → new ≤ now + 2 * leaves → new ≤ before + 2 * ((row + 1) * leaves)
-steps_more before now new row leaves so_far more =
-    let next : (row + 1) * leaves ≡ row * leaves + leaves = grind arith in
-    omega (arith, so_far, more, next)
+steps_more before now new row leaves so_far more = grind arith

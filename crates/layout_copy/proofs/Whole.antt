@@ -1,5 +1,5 @@
 -- Tables that are copied whole: what they hold, what is counted, and the steps.
-use Rattle.layout_copy.proofs.Imports.{◌≡◌, ◌+◌, ◌*◌, ◌<◌, ◌≤◌, ℕ, ℤ, List, [], ◌++◌, append-nil, length, Option, Some, None, Ok, Err, refl, sym, ap, ◌∙◌, subst, arith, Result, IsErrOf, IsSomeAnd, indices, length-map, Leaf, leaves, kinds_of, Fields, entry, Hold, HasShape, hold_at, Term, uncounted, leaf_cells, holds_by, array_of, AreRuns, Strategy, fitting_stays, stays_declared, with_rows, stays_moves, may_move, runs_full, CountsNothing, AllStay, Table, IsTable, table_holds, leaf_count_of, leaf_type_of, leaf_types_of, after_log, after_stores, Read, Write, all_accesses, all_touches, holds_uncounted, AreAlike, IsCopied, copy_cost, IsWay, MayMoveTo, staying_held, staying_kept, AllTake, CopyFault, Mismatch, Narrow}
+use Rattle.layout_copy.proofs.Imports.{◌≡◌, ◌+◌, ◌*◌, ◌≤◌, ℕ, ℤ, List, append-nil, length, Option, Ok, sym, ap, ◌∙◌, subst, arith, IsSomeAnd, length-map, leaves, Fields, Hold, HasShape, Term, uncounted, holds_by, array_of, AreRuns, Strategy, fitting_stays, stays_declared, with_rows, stays_moves, may_move, runs_full, CountsNothing, AllStay, Table, IsTable, table_holds, leaf_count_of, leaf_types_of, after_log, after_stores, Write, all_accesses, all_touches, holds_uncounted, AreAlike, IsCopied, copy_cost, IsWay, MayMoveTo, staying_held, staying_kept, AllTake}
 use Rattle.map_any.specs.declared.strategy.Strategy.TheVariants as way
 use Rattle.layout_copy.proofs.WayLaws.{one_way}
 
@@ -7,25 +7,15 @@ use Rattle.layout_copy.proofs.WayLaws.{one_way}
 pub fields_steps : (source target : Table) (before after : ℕ) → IsTable source → AreAlike source target → IsWay source target way.Fields
     → after ≤ before + 2 * (length source.rows * leaf_count_of source)
     → (strategy : Strategy) → IsWay source target strategy → after ≤ before + copy_cost strategy source.mapping target.mapping target.fields target.extents
-fields_steps source target before after is alike fields bound strategy other =
-    let rows : length source.rows ≡ length (indices target.extents) = is.rows ∙ ap (λ (e : List ℕ). length (indices e)) alike.1 in
-    let count : length source.rows * leaf_count_of source ≡ length (indices target.extents) * length (leaves target.fields) =
-    ap (λ (n : ℕ). n * leaf_count_of source) rows ∙ ap (λ (f : Fields). length (indices target.extents) * length (leaves f)) alike.0 in
-    subst (λ (s : Strategy). after ≤ before + copy_cost s source.mapping target.mapping target.fields target.extents)
-    (one_way source target way.Fields strategy fields other)
-    (let all : after ≤ before + 2 * (length (indices target.extents) * length (leaves target.fields)) = omega (arith, bound, count) in all)
+fields_steps source target before after is alike fields bound strategy other = grind (arith, leaves, one_way)
 
 -- views of one expression, counters left out, store leaves the same
 blob_holds : (one two : Term) (fields : Fields) → uncounted one ≡ uncounted two → holds_by one fields ≡ holds_by two fields
-blob_holds one two fields same =
-    let cells = leaf_cells (kinds_of fields) in
-    sym (holds_uncounted one fields cells) ∙ ap (λ (t : Term). holds_by t fields) same ∙ holds_uncounted two fields cells
+blob_holds one two fields same = grind (arith, holds_uncounted)
 
 -- and so do those that lay out arrays: as the types are
 run_holds : (one two : Term) (fields : Fields) → AreRuns one two → holds_by one fields ≡ holds_by two fields
-run_holds one two fields are =
-    let full = runs_full one two fields are in
-    full.0 ∙ sym full.1
+run_holds one two fields are = grind (arith, runs_full)
 
 -- accesses of one kind
 only_writes : (leaves rows : ℕ) → all_touches 0 1 leaves rows ≡ all_accesses Write leaves rows
@@ -39,23 +29,14 @@ module _ (source old now new : Table) (is : IsTable source) (to : IsTable old) (
 
   -- what the source holds, by the types of the target's leaves
   there : (holds : List Hold) → table_holds source ≡ holds → AllStay source.mode (length source.rows) (leaf_types_of old) holds source.rows
-  there holds same =
-      subst (λ (f : Fields). AllStay source.mode (length source.rows) (kinds_of f) holds source.rows) alike.0
-      (subst (λ (hs : List Hold). AllStay source.mode (length source.rows) (leaf_types_of source) hs source.rows) same is.stays)
+  there holds same = grind arith
 
   -- it stays in the target where the leaves are stored alike, and where each takes all of its type
   moved_stay : MayMoveTo source old → table_holds source ≡ table_holds old → Stay
-  moved_stay may holds row leaf row_in leaf_in =
-      stays_moves source.mode old.mode (leaf_type_of old leaf) (hold_at (table_holds old) leaf) (entry source.rows row leaf) (to.some leaf leaf_in)
-      (may_move source.mode old.mode (leaf_types_of old) (table_holds old) may leaf leaf_in) (there (table_holds old) holds row leaf row_in leaf_in)
+  moved_stay may holds row leaf row_in leaf_in = grind (arith, stays_moves, may_move, there)
 
   taken_stay : AllTake old → Stay
-  taken_stay takes row leaf row_in leaf_in =
-      let value : ℤ = entry source.rows row leaf in
-      let inside : leaf < leaf_count_of old = omega (arith, leaf_in, length-map (leaves old.fields) (λ (one : Leaf). one.kind)) in
-      fitting_stays old.mode (leaf_type_of old leaf) (hold_at (table_holds old) leaf) value (to.some leaf leaf_in)
-      (takes leaf inside value
-      (stays_declared source.mode (leaf_type_of old leaf) (hold_at (table_holds source) leaf) value (there (table_holds source) refl row leaf row_in leaf_in)))
+  taken_stay takes row leaf row_in leaf_in = grind (arith, length-map, leaves, fitting_stays, stays_declared, there)
 
   whole_copied : Stay → IsCopied source old new (Ok tt)
   whole_copied stay =
@@ -86,9 +67,7 @@ rows_copied source old new is to alike nothing takes moved =
 
 -- arrays of one order, the other way round
 runs_turned : {X Y : Type 0} (o p : Option (X × Y)) → IsSomeAnd o (λ x. IsSomeAnd p (λ y. x.0 ≡ y.0)) → IsSomeAnd p (λ y. IsSomeAnd o (λ x. y.0 ≡ x.0))
-runs_turned None p are = absurd are
-runs_turned (Some x) None are = absurd are
-runs_turned (Some x) (Some y) are = sym are
+runs_turned o p are = grind arith
 
 pub runs_back : (one two : Term) → AreRuns one two → AreRuns two one
 runs_back one two are = runs_turned (array_of one) (array_of two) are

@@ -1,8 +1,6 @@
 -- What a copy of a table into another view answers, and what it leaves.
 use Rattle.std.specs.Prelude.{ℕ, ◌+◌, ◌≡◌, ℤ, List, [], ◌∷◌, ◌++◌, length, take, drop, Option, Some, None, Result, Ok, Err, is_ok, if◌then◌else◌}
-use Rattle.views.specs.Tables.{Table, answer_of, kept_of, leaf_count_of, after_stores}
-use Rattle.views.specs.Tallies.{Access, Read, Write, row_accesses, all_accesses}
-use Rattle.views.specs.Stores.{StoreAnswer, kept_rows}
+use Rattle.views.specs.Prelude.{Table, answer_of, kept_of, leaf_count_of, after_stores, Access, Read, Write, row_accesses, all_accesses, StoreAnswer, kept_rows}
 use Rattle.layout_copy.specs.declared.fault.CopyFault.{CopyFault}
 use Rattle.layout_copy.specs.declared.fault.CopyFault.TheVariants.{Mismatch, Narrow}
 

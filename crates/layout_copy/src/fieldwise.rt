@@ -1,8 +1,6 @@
 // A copy that goes by the leaves of one row after another, or by runs of rows.
 ghost use Rattle.std.specs.Prelude.{◌≡◌, ◌+◌, ◌*◌, ◌<◌, ◌≤◌, [], IfNone, IfSome, length, slice_index_or, slice_set};
-ghost use Rattle.views.specs.Stores.{kept_row};
-ghost use Rattle.views.specs.Tables.{leaf_count_of, answer_of, kept_of, after_log, after_stores};
-ghost use Rattle.views.specs.Tallies.{Read, Write, row_accesses, all_touches};
+ghost use Rattle.views.specs.Prelude.{kept_row, leaf_count_of, answer_of, kept_of, after_log, after_stores, Read, Write, row_accesses, all_touches};
 ghost use Rattle.layout_copy.specs.Copies.{AreAlike, IsCopied, refusing, source_log};
 
 use crate::fault::CopyFault;

@@ -1,7 +1,6 @@
 // A copy that goes by runs of rows, leaf after leaf.
 ghost use Rattle.std.specs.Prelude.{◌≡◌, ◌+◌, ◌*◌, ◌≤◌, true, length};
-ghost use Rattle.views.specs.LeafRuns.{AreRowsMoved, CountsNothing};
-ghost use Rattle.views.specs.Tables.{leaf_count_of};
+ghost use Rattle.views.specs.Prelude.{AreRowsMoved, CountsNothing, leaf_count_of};
 ghost use Rattle.layout_copy.specs.Copies.{AreAlike};
 ghost use Rattle.layout_copy.specs.Inner.RowRuns.{AllTake};
 

@@ -1,9 +1,7 @@
 // By which way a table is copied into another.
 ghost use Rattle.std.specs.Prelude.{ℕ, ◌≡◌, ◌<◌, ◌↔◌, IsTrue, length};
-ghost use Rattle.piece_bits.specs.Tables.{hold_at};
-ghost use Rattle.views.specs.Moves.{IsOwn};
-ghost use Rattle.views.specs.Stores.{kind_at};
-ghost use Rattle.views.specs.Tables.{leaf_types_of, table_holds};
+ghost use Rattle.piece_bits.specs.Prelude.{hold_at};
+ghost use Rattle.views.specs.Prelude.{IsOwn, kind_at, leaf_types_of, table_holds};
 ghost use Rattle.layout_copy.specs.Costs.{MayMoveTo, IsWay};
 
 use map_any::{AnyMap, Strategy};

@@ -8,3 +8,4 @@ pub mod Decimal
 pub mod Reading
 pub mod DecimalLaws
 pub mod Inner
+pub mod Prelude

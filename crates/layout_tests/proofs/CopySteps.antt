@@ -1,29 +1,21 @@
 -- What copies of 1,000 rows of one leaf of four bytes cost.
-use Rattle.std.proofs.Common.{◌≡◌, ◌≤◌, ◌+◌, ◌*◌, ◌∙◌, ℕ, List, [], ◌∷◌, length, sum_by, Option, Some, inl, refl, sym, ap, arith}
-use Rattle.std.specs.Prelude.{slice_get, unwrap_or}
-use Rattle.std.specs.List.{flat_map, range_with_len}
-use Rattle.std.proofs.lemmas.List.{length-map}
+use Rattle.record_dim.specs.Std.{◌≡◌, ◌≤◌, ◌+◌, ◌*◌, ◌∙◌, ℕ, List, [], ◌∷◌, length, sum_by, Option, Some, inl, refl, sym, ap, arith, slice_get, unwrap_or, flat_map, range_with_len, length-map}
 use Rattle.extents.specs.Indices.{indices}
 use Rattle.extents.specs.declared.order.Order.TheVariants.{Row}
 use Rattle.linearize.specs.Slots.{row_at}
-use Rattle.places.specs.Holds.{widths_of}
-use Rattle.places.specs.Layout.{Owner, cells_of, fields, packed_aos}
-use Rattle.places.specs.SlotsLaws.{length-parts}
+use Rattle.places.specs.Prelude.{widths_of, Owner, cells_of, fields, packed_aos, length-parts}
 use Rattle.places.specs.declared.forms.AosForm.TheVariants.{Packed}
 use Rattle.places.specs.declared.forms.SoaForm.TheVariants.{Multi}
-use Rattle.record_dim.specs.Leaves.{kinds_of, leaves}
-use Rattle.record_dim.specs.Trees.{Fields}
+use Rattle.record_dim.specs.Prelude.{kinds_of, leaves, Fields}
 use Rattle.record_dim.specs.declared.leaf_type.LeafType.{LeafType}
 use Rattle.record_dim.specs.declared.leaf_type.LeafType.TheVariants.{U32}
 use Rattle.piece_bits.specs.declared.mode.StoreMode.TheVariants.{Strict}
 use Rattle.map_expr.specs.Terms.{Aos, Soa, Aosoa}
-use Rattle.map_checks.specs.Mappings.{layout_by, leaf_cells}
-use Rattle.map_checks.specs.RowsLaws.{length-in_rows, sum-blobs}
+use Rattle.map_checks.specs.Prelude.{layout_by, leaf_cells, length-in_rows, sum-blobs}
 use Rattle.map_any.specs.Strategies.{IsStrategy}
 use Rattle.map_any.specs.declared.strategy.Strategy.{Strategy}
 use Rattle.map_any.specs.declared.strategy.Strategy.TheVariants as way
-use Rattle.views.specs.Moves.{blob_steps}
-use Rattle.views.specs.Tables.{Table}
+use Rattle.views.specs.Prelude.{blob_steps, Table}
 use Rattle.layout_copy.specs.Costs.{copy_cost, steps_before, IsWay, MayMoveTo}
 use Rattle.layout_tests.specs.Inner.Ways.{from_of, to_of, most_steps}
 

@@ -3,10 +3,9 @@
 ghost use Rattle.std.specs.Prelude.{◌≡◌, ◌+◌, ◌<◌, ◌≤◌, ◌∷◌, [], IfOk, IsTrue, length};
 ghost use Rattle.extents.specs.Indices.{indices};
 ghost use Rattle.record_dim.specs.declared.leaf_type.LeafType.TheVariants.{U32};
-ghost use Rattle.record_dim.specs.Leaves.{kinds_of};
-ghost use Rattle.record_dim.specs.Schemas.{schema_fields};
+ghost use Rattle.record_dim.specs.Prelude.{kinds_of, schema_fields};
 ghost use Rattle.map_expr.specs.Terms.{term_of};
-ghost use Rattle.map_checks.specs.Mappings.{IsBuiltTerm};
+ghost use Rattle.map_checks.specs.Prelude.{IsBuiltTerm};
 ghost use Rattle.piece_bits.specs.declared.mode.StoreMode.TheVariants.{Strict};
 ghost use Rattle.layout_tests.specs.Inner.Ways.{from_of, to_of, most_steps};
 

@@ -1,6 +1,6 @@
 // Expressions that are deeper than one of a line: they are made, bound, worked out and dropped without a long stack.
 ghost use Rattle.std.specs.Prelude.{◌≡◌, ◌<◌, length};
-ghost use Rattle.expr_lang.specs.Bounds.{bound_leaves, bound_rank};
+ghost use Rattle.expr_lang.specs.Prelude.{bound_leaves, bound_rank};
 
 use expr_lang::{BinOp, Bound, EvalFault, Expr, Row, bind, eval};
 use record_dim::{Dim, Field, FieldList, LeafType, Name, Path, Schema, Steps};

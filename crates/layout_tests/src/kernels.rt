@@ -1,7 +1,7 @@
 // Kernels by lanes: the steps that one takes at most, and what is read of a block in which a row is refused. No run sees a counter of
 // steps, so a bound on them is a clause of a function that a test calls; and after a refusal no run sees what was read.
 ghost use Rattle.std.specs.Prelude.{◌≡◌, ◌+◌, ◌<◌, ◌≤◌, IsTrue, length};
-ghost use Rattle.views.specs.Columns.{IsNarrowLeaf};
+ghost use Rattle.views.specs.Prelude.{IsNarrowLeaf};
 
 use crate::tables::{aos, number, set, view_of};
 use lane_kernels::{Kernel, KernelFault, run_lanes};

@@ -2,9 +2,9 @@
 ghost use Rattle.std.specs.Prelude.{◌≡◌, ◌<◌, IfOk, length};
 ghost use Rattle.extents.specs.declared.order.Order.TheVariants.{Row};
 ghost use Rattle.map_expr.specs.Terms.{Aos, Soa, Aosoa, term_of};
-ghost use Rattle.map_checks.specs.Mappings.{IsBuiltTerm};
+ghost use Rattle.map_checks.specs.Prelude.{IsBuiltTerm};
 ghost use Rattle.piece_bits.specs.declared.mode.StoreMode.TheVariants.{Strict};
-ghost use Rattle.views.specs.Tables.{leaf_count_of};
+ghost use Rattle.views.specs.Prelude.{leaf_count_of};
 
 use extents::{ExtentWord, Extents, Order, Shape};
 use map_any::MapExpr;

@@ -1,14 +1,8 @@
 -- Numbers stand at one place each, and groups that begin as others do lead where these lead.
-use Rattle.std.proofs.Common.{◌≡◌, ℕ, ◌+◌, ◌*◌, ◌/◌, ◌%◌, ◌<◌, ◌≤◌, Bool, Option, None, Some, IsSomeAnd, true, false, List, [], get_or, length, sym, ap, ◌∙◌, subst, ⊎_elim, arith, slice_index}
-use Rattle.std.proofs.lemmas.Bool.{cases_lt}
-use Rattle.std.proofs.lemmas.List.{get_or_past}
-use Rattle.std.proofs.lemmas.Nat.{div-add-mod'}
-use Rattle.std.proofs.Math.Nat.{div-one, mod-one, mod-eq_of_lt, div-eq_of_lt, div_self, mod_self}
-use Rattle.places.specs.Layout.{Owner, Pad, Bit, owner_at}
-use Rattle.places.specs.Lawful.{IsLaidOut, IsLocated}
+use Rattle.record_dim.specs.Std.{◌≡◌, ℕ, ◌+◌, ◌*◌, ◌<◌, ◌≤◌, Bool, Option, None, Some, IsSomeAnd, false, List, get_or, length, sym, ap, ◌∙◌, subst, ⊎_elim, arith, slice_index, cases_lt, get_or_past, div-add-mod', div-one, mod-one, mod-eq_of_lt, div-eq_of_lt, div_self, mod_self}
+use Rattle.places.specs.Prelude.{Owner, Bit, owner_at, IsLaidOut, IsLocated}
 use Rattle.places.specs.declared.piece.Piece.{Piece}
-use Rattle.piece_bits.specs.Inner.Spots.{spots_of, spot_at}
-use Rattle.piece_bits.specs.LocatedLaws.{spot_count, spot_owned}
+use Rattle.piece_bits.specs.Prelude.{spots_of, spot_at, spot_count, spot_owned}
 use Rattle.leaf_places.specs.Spots.{bit_by, first_by, spot_by}
 use Rattle.leaf_places.specs.Inner.Search.{place_in, IsBegun, IsSought, IsWay, StandAlong, StandsAt}
 use Rattle.leaf_places.specs.declared.grouped.Grouped.{Grouped}
@@ -32,24 +26,20 @@ bit_where {layout} lawful row leaf width pieces located k blob bit inside owned 
     pair_same spot blob bit same.0 same.1
 
 pub place_same : (in_bits : Bool) (place other : ℕ) → first_by in_bits place ≡ first_by in_bits other → place ≡ other
-place_same true place other e = e
-place_same false place other e = omega (arith, e)
+place_same in_bits place other e = grind arith
 
 bit_same : (turned : Bool) (first other width : ℕ) → bit_by turned first width 0 ≡ bit_by turned other width 0 → first ≡ other
-bit_same true first other width e = omega (arith, e)
-bit_same false first other width e = omega (arith, e)
+bit_same turned first other width e = grind arith
 
 -- ---- walks
 
 -- in one group
 pub in_one : (base lanes lane block row : ℕ) → row < lanes → spot_by false base lanes lane block row ≡ base + row * lane
-in_one base lanes lane block row inside =
-    ap (λ (n : ℕ). base + n * block + row % lanes * lane) (div-eq_of_lt inside) ∙ ap (λ (n : ℕ). base + 0 * block + n * lane) (mod-eq_of_lt inside) ∙ omega arith
+in_one base lanes lane block row inside = grind (arith, div-eq_of_lt, mod-eq_of_lt)
 
 -- in groups of one row
 in_ones : (base lane block row : ℕ) → spot_by false base 1 lane block row ≡ base + row * block
-in_ones base lane block row =
-    ap (λ (n : ℕ). base + n * block + row % 1 * lane) (div-one row) ∙ ap (λ (n : ℕ). base + row * block + n * lane) (mod-one row) ∙ omega arith
+in_ones base lane block row = grind (arith, div-one, mod-one)
 
 -- ---- one row
 
@@ -75,9 +65,7 @@ module _ {layout : List (List Owner)} {slots : ℕ} {widths : List ℕ} (lawful 
 
   pub stands_so : (blob first place : ℕ) → first_by sought.in_bits place ≡ first
       → ((k : ℕ) → k < sought.width → spot_at (spots_of pieces) k ≡ (blob, bit_by sought.is_turned first sought.width k)) → StandsAt layout sought row blob place
-  stands_so blob first place begins at k inside =
-      ap (λ (n : ℕ). owner_at layout blob (bit_by sought.is_turned n sought.width k)) begins
-      ∙ sym (ap (λ (s : ℕ × ℕ). owner_at layout s.0 s.1) (at k inside)) ∙ spot_owned layout row sought.leaf sought.width pieces own k inside
+  stands_so blob first place begins at k inside = grind (arith, spot_owned, own)
 
   -- its first bit is at the spot of the bit that stands first
   module _ (low blob first : ℕ) (low_in : low < sought.width) (low_first : (n : ℕ) → bit_by sought.is_turned n sought.width low ≡ n)
@@ -98,8 +86,7 @@ module _ {layout : List (List Owner)} {slots : ℕ} {widths : List ℕ} (lawful 
 -- ---- groups
 
 pub some_later : (o : Option ℕ) (C : Type 0) (P : ℕ → Type 0) → IsSomeAnd o P → IsSomeAnd o (λ n. C → P n)
-some_later None C P holds = absurd holds
-some_later (Some n) C P holds = λ c. holds
+some_later o C P holds = grind arith
 
 pub way_begins : (base lanes lane block : ℕ) → 0 < lanes → spot_by false base lanes lane block 0 ≡ base
 way_begins base lanes lane block some = in_one base lanes lane block 0 some ∙ omega arith
@@ -110,15 +97,12 @@ way_of sought rows blob base lanes lane block some along = record { stands = alo
 
 -- where the second group begins
 second_group : (base lanes lane block : ℕ) → 0 < lanes → spot_by false base lanes lane block lanes ≡ base + block
-second_group base lanes lane block some =
-    ap (λ (n : ℕ). base + n * block + lanes % lanes * lane) (div_self some) ∙ ap (λ (n : ℕ). base + 1 * block + n * lane) (mod_self lanes) ∙ omega arith
+second_group base lanes lane block some = grind (arith, div_self, mod_self)
 
 -- groups that follow each other evenly
 all_even : (base lanes lane row : ℕ) → spot_by false base lanes lane (lanes * lane) row ≡ base + row * lane
 all_even base lanes lane row =
-    let split : row / lanes * lanes + row % lanes ≡ row = div-add-mod' row lanes in
-    let spread : row / lanes * (lanes * lane) + row % lanes * lane ≡ (row / lanes * lanes + row % lanes) * lane = grind arith in
-    omega (arith, spread, ap (λ (n : ℕ). n * lane) split)
+    omega (arith, ap (λ (n : ℕ). n * lane) (div-add-mod' row lanes))
 
 -- groups that begin as others do, and leave an even walk at the same row, are these
 module _ (base lanes lane block : ℕ) (some : 0 < lanes) (first step led far : ℕ) (some_led : 0 < led)
@@ -129,11 +113,7 @@ module _ (base lanes lane block : ℕ) (some : 0 < lanes) (first step led far : 
   first_is = begins ∙ way_begins base lanes lane block some
 
   not_single : lanes ≡ 1 → ⊥
-  not_single single =
-      let in_ones_of : (row : ℕ) → spot_by false base lanes lane block row ≡ base + row * block = λ row.
-      ap (λ (n : ℕ). spot_by false base n lane block row) single ∙ in_ones base lane block row in
-      let same : step ≡ block = omega (arith, goes, in_ones_of 1, first_is) in
-      odd (ap (λ (n : ℕ). first + led * n) same ∙ ap (λ (n : ℕ). n + led * block) first_is ∙ sym (in_ones_of led))
+  not_single single = grind (arith, in_ones, first_is)
 
   module _ (more : 1 < lanes) where
     step_is : step ≡ lane
@@ -149,20 +129,16 @@ module _ (base lanes lane block : ℕ) (some : 0 < lanes) (first step led far : 
     not_above above =
         let there : first + lanes * step ≡ base + block = even lanes above ∙ second_group base lanes lane block some in
         let here : first + lanes * step ≡ base + lanes * lane = ap (λ (n : ℕ). first + lanes * n) step_is ∙ ap (λ (n : ℕ). n + lanes * lane) first_is in
-        let wide : block ≡ lanes * lane = omega (arith, there, here) in
-        odd (evenly led (ap (λ (n : ℕ). spot_by false base lanes lane n led) wide ∙ all_even base lanes lane led))
+        odd (evenly led (ap (λ (n : ℕ). spot_by false base lanes lane n led) (omega (arith, there, here)) ∙ all_even base lanes lane led))
 
     lanes_are : led ≡ lanes
-    lanes_are = ⊎_elim (λ (l : led < lanes). absurd (not_below l)) (λ (l : lanes ≤ led). ⊎_elim (λ (m : lanes < led). absurd (not_above m)) (λ (m : led ≤ lanes). omega (arith, l, m))
-        (cases_lt lanes led)) (cases_lt led lanes)
+    lanes_are = grind (arith, ⊎_elim, not_below, not_above, cases_lt)
 
     far_is : far ≡ block
     far_is = omega (arith, jumps, first_is, ap (λ (n : ℕ). spot_by false base lanes lane block n) lanes_are ∙ second_group base lanes lane block some)
 
     same_so : (row : ℕ) → spot_by false first led step far row ≡ spot_by false base lanes lane block row
-    same_so row =
-        ap (λ (n : ℕ). spot_by false n led step far row) first_is ∙ ap (λ (n : ℕ). spot_by false base n step far row) lanes_are
-        ∙ ap (λ (n : ℕ). spot_by false base lanes n far row) step_is ∙ ap (λ (n : ℕ). spot_by false base lanes lane n row) far_is
+    same_so row = grind (arith, first_is, lanes_are, step_is, far_is)
 
   same_way : (row : ℕ) → spot_by false first led step far row ≡ spot_by false base lanes lane block row
   same_way = ⊎_elim (λ (m : 1 < lanes). same_so m) (λ (l : lanes ≤ 1). absurd (not_single (omega (arith, l, some)))) (cases_lt 1 lanes)
@@ -171,16 +147,11 @@ module _ (base lanes lane block : ℕ) (some : 0 < lanes) (first step led far : 
 
 -- what has an owner lies in a blob
 pub blob_within : (layout : List (List Owner)) (blob place row leaf k : ℕ) → owner_at layout blob place ≡ Bit row leaf k → blob < length layout
-blob_within layout blob place row leaf k owned =
-    ⊎_elim (λ (l : blob < length layout). l)
-    (λ (past : length layout ≤ blob).
-    let none : Bit row leaf k ≡ Pad = sym owned ∙ ap (λ (owners : List Owner). get_or owners place Pad) (get_or_past layout blob [] past) in absurd (cc))
-    (cases_lt blob (length layout))
+blob_within layout blob place row leaf k owned = grind (arith, ⊎_elim, get_or, get_or_past, cases_lt)
 
 moved : (layout : List (List Owner)) (sought : Sought) (row blob place other elsewhere : ℕ) → blob ≡ other → place ≡ elsewhere
     → StandsAt layout sought row other elsewhere → StandsAt layout sought row blob place
-moved layout sought row blob place other elsewhere e f stands =
-    subst (λ (b : ℕ). StandsAt layout sought row b place) (sym e) (subst (λ (p : ℕ). StandsAt layout sought row other p) (sym f) stands)
+moved layout sought row blob place other elsewhere e f stands = grind arith
 
 -- a number stands at one place
 stands_once : {layout : List (List Owner)} {slots : ℕ} {widths : List ℕ} (lawful : IsLaidOut layout slots widths) (sought : Sought) (some : 0 < sought.width) (row blob place other elsewhere : ℕ)
@@ -204,9 +175,7 @@ module _ {layout : List (List Owner)} {slots : ℕ} {widths : List ℕ} (lawful 
   odd_at is = astray (stays led led_in is)
 
   pub leaves_later : 0 < led
-  leaves_later = ⊎_elim (λ (l : 0 < led). l) (λ (l : led ≤ 0).
-      let none : led ≡ 0 = omega (arith, l) in
-      absurd (odd_at (ap (λ (n : ℕ). one.base + n * one.lane) none ∙ omega (arith, begun.first) ∙ ap (spot_by false base lanes lane block) (sym none)))) (cases_lt 0 led)
+  leaves_later = grind (arith, ⊎_elim, odd_at, cases_lt)
 
   even_before : (row : ℕ) → row < led → one.base + row * one.lane ≡ spot_by false base lanes lane block row
   even_before row before =

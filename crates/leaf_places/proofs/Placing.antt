@@ -1,23 +1,17 @@
 -- Places of a leaf of a table, from where its bits stand.
-use Rattle.std.proofs.Common.{◌≡◌, ℕ, ◌*◌, ◌<◌, ◌≤◌, Bool, false, Some, List, [], length, get_or, slice_get, map, sym, ap, ◌∙◌, subst, arith}
-use Rattle.std.proofs.lemmas.List.{length-map}
-use Rattle.std.proofs.lemmas.Option.{get_or_from_slice_get}
-use Rattle.record_dim.specs.LeafTypes.{is_signed}
+use Rattle.record_dim.specs.Std.{◌≡◌, ℕ, ◌*◌, ◌<◌, ◌≤◌, Bool, false, Some, List, [], length, get_or, slice_get, map, sym, ap, ◌∙◌, subst, arith, length-map, get_or_from_slice_get}
+use Rattle.record_dim.specs.Prelude.{is_signed}
 use Rattle.extents.specs.Indices.{indices}
-use Rattle.places.specs.CellWidthsLaws.{width_at}
+use Rattle.places.specs.Prelude.{width_at, Owner, Bit, owner_at, entry}
 use Rattle.places.specs.declared.piece.Cell.{Cell}
 use Rattle.places.specs.declared.piece.Hold.{Hold}
-use Rattle.places.specs.Layout.{Owner, Bit, owner_at}
-use Rattle.places.specs.Image.{decoded, entry, number}
-use Rattle.blobs.specs.Bits.{bit_of}
-use Rattle.map_checks.specs.Mappings.{leaf_cells}
+use Rattle.map_checks.specs.Prelude.{leaf_cells}
 use Rattle.map_any.specs.AnyLaws.{length-leaf_cells}
-use Rattle.piece_bits.specs.Modes.{Stays}
-use Rattle.piece_bits.specs.Tables.{hold_at}
+use Rattle.piece_bits.specs.Prelude.{Stays, hold_at}
 use Rattle.views.proofs.KeptLaws.{kind_count}
-use Rattle.views.specs.Tables.{Table, leaf_count_of, leaf_type_of, leaf_types_of, owners_of, table_holds}
+use Rattle.views.specs.Prelude.{Table, leaf_count_of, leaf_type_of, leaf_types_of, owners_of, table_holds}
 use Rattle.leaf_places.specs.Places.{ArePlacesOf, IsDirect}
-use Rattle.leaf_places.specs.Spots.{bit_by, first_bit, first_by, spot_by, spot_in, IsForm}
+use Rattle.leaf_places.specs.Spots.{bit_by, first_bit, first_by, spot_by, IsForm}
 use Rattle.leaf_places.specs.Inner.Search.{IsSought, StandAlong}
 use Rattle.leaf_places.specs.declared.sought.Sought.{Sought}
 use Rattle.leaf_places.specs.declared.told.Places.{Places}
@@ -72,36 +66,23 @@ module _ (table : Table) (leaf : ℕ) (leaf_in : leaf < leaf_count_of table) (di
         let stand : (k : ℕ) → k < hold.width → owner_at (owners_of table) places.blob (bit_by places.is_turned (first_bit places row) hold.width k) ≡ Bit row leaf k =
         subst (λ (w : ℕ). (k : ℕ) → k < w → owner_at (owners_of table) places.blob (bit_by places.is_turned (first_bit places row) w k) ≡ Bit row leaf k) wide (λ k. owned row k row_in) in
         let said = says_number (owners_of table) rows table.mode (leaf_type_of table leaf) hold places.is_turned places.blob (first_bit places row) row leaf bytes blob_in own_sign some stand is stays in
-        ap (λ (s : Bool). decoded s places.width (number (λ k. bit_of bytes (bit_by places.is_turned (first_bit places row) places.width k)) places.width)) signed
-        ∙ ap (λ (w : ℕ). decoded hold.signed w (number (λ k. bit_of bytes (bit_by places.is_turned (first_bit places row) w k)) w)) wide ∙ said);
+        grind arith);
   }
 
 -- the owner of a bit, as it is told
 pub told_so : (layout other : List (List Owner)) (turned turned_told in_bits bits_told : Bool) (blob spot width row leaf k : ℕ) → layout ≡ other → turned_told ≡ turned → bits_told ≡ in_bits
     → owner_at layout blob (bit_by turned (first_by in_bits spot) width k) ≡ Bit row leaf k → owner_at other blob (bit_by turned_told (first_by bits_told spot) width k) ≡ Bit row leaf k
-told_so layout other turned turned_told in_bits bits_told blob spot width row leaf k same turned_is bits_are owned =
-    ap (λ (t : Bool). owner_at other blob (bit_by t (first_by bits_told spot) width k)) turned_is
-    ∙ ap (λ (b : Bool). owner_at other blob (bit_by turned (first_by b spot) width k)) bits_are
-    ∙ ap (λ (l : List (List Owner)). owner_at l blob (bit_by turned (first_by in_bits spot) width k)) (sym same) ∙ owned
+told_so layout other turned turned_told in_bits bits_told blob spot width row leaf k same turned_is bits_are owned = grind arith
 
 -- what is sought of a leaf stands where its places say
 module _ (table : Table) (leaf : ℕ) (layout : List (List Owner)) (layout_is : layout ≡ owners_of table) (rows : ℕ) (rows_are : rows ≡ length (indices table.extents))
     (sought : Sought) (leaf_is : sought.leaf ≡ leaf) where
   pub owned_so : (blob : ℕ) (way : ℕ → ℕ) → StandAlong layout sought rows blob way → (row k : ℕ) → row < length (indices table.extents) → k < sought.width
       → owner_at (owners_of table) blob (bit_by sought.is_turned (first_by sought.in_bits (way row)) sought.width k) ≡ Bit row leaf k
-  owned_so blob way along row k inside below =
-      subst (λ (l : List (List Owner)). owner_at l blob (bit_by sought.is_turned (first_by sought.in_bits (way row)) sought.width k) ≡ Bit row leaf k) layout_is
-      (along row (omega (arith, inside, rows_are)) k below ∙ ap (λ (n : ℕ). Bit row n k) leaf_is)
+  owned_so blob way along row k inside below = grind arith
 
   pub along_of : (places : Places) → ArePlacesOf leaf table places → places.in_digits ≡ false → places.in_bits ≡ sought.in_bits → places.is_turned ≡ sought.is_turned
       → places.width ≡ sought.width → StandAlong layout sought rows places.blob (spot_by false places.base places.lanes places.lane places.block)
   along_of places are even bits turned wide row inside k below =
       let here : owner_at (owners_of table) places.blob (bit_by places.is_turned (first_bit places row) places.width k) ≡ Bit row leaf k =
-      are.owned row k (omega (arith, inside, rows_are)) (omega (arith, below, wide)) in
-      ap (λ (l : List (List Owner)). owner_at l places.blob (bit_by sought.is_turned (first_by sought.in_bits (spot_by false places.base places.lanes places.lane places.block row)) sought.width k)) layout_is
-      ∙ ap (λ (d : Bool). owner_at (owners_of table) places.blob
-      (bit_by sought.is_turned (first_by sought.in_bits (spot_by d places.base places.lanes places.lane places.block row)) sought.width k)) (sym even)
-      ∙ ap (λ (b : Bool). owner_at (owners_of table) places.blob (bit_by sought.is_turned (first_by b (spot_in places row)) sought.width k)) (sym bits)
-      ∙ ap (λ (t : Bool). owner_at (owners_of table) places.blob (bit_by t (first_bit places row) sought.width k)) (sym turned)
-      ∙ ap (λ (w : ℕ). owner_at (owners_of table) places.blob (bit_by places.is_turned (first_bit places row) w k)) (sym wide) ∙ here
-      ∙ ap (λ (n : ℕ). Bit row n k) (sym leaf_is)
+      are.owned row k (omega (arith, inside, rows_are)) (omega (arith, below, wide)) in grind arith

@@ -1,13 +1,12 @@
 -- Where the numbers of a leaf lie, as callers are told it who read them with no call.
 use Rattle.std.specs.Prelude.{ℕ, ℤ, ◌≡◌, ◌*◌, ◌<◌, false, List, [], length, slice_index_or}
 use Rattle.extents.specs.Indices.{indices}
-use Rattle.record_dim.specs.LeafTypes.{is_signed}
-use Rattle.places.specs.Image.{number, decoded, entry}
-use Rattle.places.specs.Layout.{Bit, owner_at}
+use Rattle.record_dim.specs.Prelude.{is_signed}
+use Rattle.places.specs.Prelude.{number, decoded, entry, Bit, owner_at}
 use Rattle.blobs.specs.Bits.{bit_of, bits_of}
-use Rattle.piece_bits.specs.Tables.{hold_at}
+use Rattle.piece_bits.specs.Prelude.{hold_at}
 use Rattle.map_any.specs.Counters.{is_counted}
-use Rattle.views.specs.Tables.{Table, IsTable, blob_bits_of, leaf_count_of, leaf_type_of, owners_of, table_holds}
+use Rattle.views.specs.Prelude.{Table, IsTable, blob_bits_of, leaf_count_of, leaf_type_of, owners_of, table_holds}
 use Rattle.leaf_places.specs.Spots.{bit_by, first_bit, IsForm}
 use Rattle.leaf_places.specs.declared.told.Places.{Places}
 

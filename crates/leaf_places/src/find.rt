@@ -2,7 +2,7 @@ ghost use Rattle.std.specs.Prelude.{◌≡◌, ◌≢◌, ◌<◌, true, false, 
 ghost use Rattle.extents.specs.Indices.{indices};
 ghost use Rattle.map_expr.specs.Terms.{term_of};
 ghost use Rattle.map_any.specs.Counters.{is_counted};
-ghost use Rattle.views.specs.Tables.{leaf_count_of};
+ghost use Rattle.views.specs.Prelude.{leaf_count_of};
 ghost use Rattle.leaf_places.specs.Places.{ArePlacesOf, IsDirect, MustTell};
 
 use crate::form::{is_field, is_form, is_turned};

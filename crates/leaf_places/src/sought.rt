@@ -1,6 +1,6 @@
 // How the numbers of a leaf are to stand, and where that in a row does.
 ghost use Rattle.std.specs.Prelude.{ℕ, ◌≡◌, ◌+◌, ◌^◌, ◌<◌, All, IfSome, IsSomeAnd, Some, true, length, map};
-ghost use Rattle.piece_bits.specs.Inner.Spots.{spots_of, spot_at};
+ghost use Rattle.piece_bits.specs.Prelude.{spots_of, spot_at};
 ghost use Rattle.leaf_places.specs.Spots.{bit_by, first_by, IsForm};
 ghost use Rattle.leaf_places.specs.Inner.Search.{IsSought, StandsAt};
 

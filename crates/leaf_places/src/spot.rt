@@ -1,6 +1,6 @@
 // Where a bit lies, among the pieces of a number.
 ghost use Rattle.std.specs.Prelude.{◌≡◌, ◌+◌, ◌^◌, ◌<◌, All, length};
-ghost use Rattle.piece_bits.specs.Inner.Spots.{spots_of, spot_at};
+ghost use Rattle.piece_bits.specs.Prelude.{spots_of, spot_at};
 
 use places::Piece;
 

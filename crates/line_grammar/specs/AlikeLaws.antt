@@ -1,5 +1,6 @@
 -- Readers that answer alike on lists of at most so many tokens, and that composed readers then answer alike.
-use Rattle.std.proofs.Common.{◌≡◌, ℕ, zero, suc, ◌≤◌, Bool, true, false, if◌then◌else◌, List, [], ◌∷◌, length, Result, Ok, Err, refl, ap, ◌∙◌, arith}
+use Rattle.std.specs.Prelude.{◌≡◌, ℕ, zero, suc, ◌≤◌, Bool, true, false, if◌then◌else◌, List, [], ◌∷◌, length, Result, Ok, Err, refl}
+use Rattle.record_dim.specs.Std.{ap, ◌∙◌, arith}
 use Rattle.line_grammar.specs.Reading.{◌>>=◌, starts, past, behind_at, then_at, either_at, steps_within, steps_at}
 use Rattle.line_grammar.specs.RepeatedLaws.{bind_alike}
 
@@ -12,9 +13,7 @@ NoLonger {T = T} {A = A} read = (tokens : List T) (x : A × List T) → read tok
 
 pub then_alike : {T A B : Type 0} (n : ℕ) {read other : List T → Result (A × List T) ℕ} {next next_other : A → List T → Result (B × List T) ℕ} → NoLonger read →
     Alike n read other → ((a : A) → Alike n (next a) (next_other a)) → Alike n (then_at read next) (then_at other next_other)
-then_alike n {read = read} {next = next} {next_other = next_other} short one two tokens small =
-    bind_alike (read tokens) (λ x. next x.0 x.1) (λ x. next_other x.0 x.1) (λ x e. let less = short tokens x e in two x.0 x.1 (omega arith))
-    ∙ ap (λ r. r >>= λ x. next_other x.0 x.1) (one tokens small)
+then_alike n {read = read} {next = next} {next_other = next_other} short one two tokens small = grind (arith, bind_alike)
 
 pub behind_alike : {T A : Type 0} (n : ℕ) (test : T → Bool) {read other : List T → Result (A × List T) ℕ} → Alike n read other → Alike (suc n) (behind_at test read) (behind_at test other)
 behind_alike n test one [] small = refl
@@ -31,8 +30,7 @@ alike_below n m below one tokens small = one tokens (omega arith)
 
 pub either_alike : {T A : Type 0} (n : ℕ) (test : T → Bool) {read read_also other other_also : List T → Result (A × List T) ℕ} → Alike n read read_also → Alike n other other_also →
     Alike n (either_at test read other) (either_at test read_also other_also)
-either_alike n test {read_also = read_also} {other = other} one two tokens small =
-    ap (λ k. if starts test tokens then k else other tokens) (one tokens small) ∙ ap (λ k. if starts test tokens then read_also tokens else k) (two tokens small)
+either_alike n test {read_also = read_also} {other = other} one two tokens small = grind arith
 
 within_alike : {T A : Type 0} (n : ℕ) (test : T → Bool) {step other : A → List T → Result (A × List T) ℕ} → ((a : A) → NoLonger (step a)) → ((a : A) → Alike n (step a) (other a)) →
     (k : ℕ) (a : A) → Alike n (steps_within k test step a) (steps_within k test other a)

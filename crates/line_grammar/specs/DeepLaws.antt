@@ -1,6 +1,6 @@
 -- A phrase in which brackets nest to any depth is read with as much depth as there are tokens.
-use Rattle.std.proofs.Common.{◌≡◌, ℕ, suc, ◌≤◌, max, List, [], ◌∷◌, ◌++◌, length, Result, Ok, Err, refl, sym, ap, ◌∙◌, length-append, arith}
-use Rattle.std.proofs.Math.Nat.{le-max_left, le-max_right}
+use Rattle.std.specs.Prelude.{◌≡◌, ℕ, suc, ◌≤◌, max, List, [], ◌∷◌, ◌++◌, length, Result, Ok, Err, refl}
+use Rattle.record_dim.specs.Std.{sym, ap, ◌∙◌, length-append, arith, le-max_left, le-max_right}
 use Rattle.line_grammar.specs.ParsesLaws.{Parses, head_of}
 use Rattle.line_grammar.specs.WiderLaws.{Wider}
 use Rattle.line_grammar.specs.AlikeLaws.{Alike}
@@ -46,12 +46,7 @@ module _ {T A : Type 0} {IsAt : ℕ → List T → A → Type 0} {read_at : ℕ 
 
   pub deep_parses : Parses (IsAny IsAt) (by_length read_at) After
   deep_parses = record {
-    sound = λ tokens v rest e. let f = (parses (length tokens)).sound tokens v rest e in record {
-      front = f.front;
-      whole = f.whole;
-      phrase = (length tokens, f.phrase);
-      again = again_found tokens f.front rest v f.whole e;
-    };
+    sound = λ tokens v rest e. let f = (parses (length tokens)).sound tokens v rest e in grind (arith, again_found);
     full = λ xs v rest h after.
         let k = max (length (xs ++ rest)) h.0 in
         enough (xs ++ rest) k (le-max_left (length (xs ++ rest)) h.0) ∙ (parses k).full xs v rest (wider h.0 k (le-max_right (length (xs ++ rest)) h.0) xs v h.1) after;

@@ -1,14 +1,9 @@
 -- The bytes of the name of a file: they are ASCII, and padding them gives the fields back.
-use Rattle.std.proofs.Common.{◌≡◌, ℕ, suc, zero, ◌-◌, ◌<◌, true, ◌&&◌, nat_le, List, [], ◌∷◌, ◌++◌, length, get_or, drop, replicate, sym, ap, ◌∙◌, arith}
-use Rattle.std.proofs.lemmas.List.{drop-replicate, length-append, length-drop}
-use Rattle.std.proofs.Math.Seq.{take-append_seam}
-use Rattle.std.proofs.lemmas.Bool.Decides.{nat_tests}
-use Rattle.std.specs.List.{list_all}
-use Rattle.std.specs.Str.{IsUtf8}
-use Rattle.std.proofs.lemmas.Str.{IsUtf8-from_ascii}
+use Rattle.std.specs.Prelude.{◌≡◌, ℕ, suc, zero, ◌-◌, ◌<◌, true, ◌&&◌, nat_le, List, [], ◌∷◌, ◌++◌, length, get_or, drop, replicate}
+use Rattle.record_dim.specs.Std.{arith, drop-replicate, length-append, length-drop, take-append_seam, nat_tests, list_all, IsUtf8, IsUtf8-from_ascii}
 use Rattle.line_tokens.specs.Bytes.{is_text_byte}
-use Rattle.record_dim.specs.NameBytesLaws.{both}
-use Rattle.line_grammar.specs.Inner.FileNames.{is_file_name, padded_file_name, StoresFileName}
+use Rattle.record_dim.specs.Prelude.{both}
+use Rattle.line_grammar.specs.Inner.FileNames.{is_file_name, StoresFileName}
 
 text_low : (byte : ℕ) → is_text_byte byte ≡ true → byte < 128
 text_low byte h = grind (arith, nat_tests)
@@ -31,9 +26,4 @@ stored text h =
     let some = sizes.0 in
     let small = sizes.1 in
     let pads : drop (length text) (replicate {A = ℕ} 200 0) ≡ replicate {A = ℕ} (200 - length text) 0 = drop-replicate (length text) 200 0 in
-    record {
-      small = grind (arith, nat_tests);
-      whole = rw (length-append, length-drop) (grind (arith, nat_tests));
-      padding = ap padded_file_name cut ∙ ap (λ zeros. text ++ zeros) (sym pads);
-      name = rw cut h;
-    }
+    grind (arith, nat_tests, length-append, length-drop)

@@ -1,7 +1,8 @@
 -- A grammar that is read by first tokens alone: the first token of each alternative, and of what stands behind a phrase, tells how to
 -- read on. All of it is computed from the grammar down to conditions on single tokens. Then reading gives each phrase, and stops where
 -- no phrase goes on.
-use Rattle.std.proofs.Common.{◌≡◌, ℕ, zero, suc, ◌⊎◌, inl, inr, Bool, true, false, ◌||◌, List, [], ◌∷◌, ◌++◌, is_some, refl, sym, ap, ◌∙◌, subst, ◌≤◌, Some, append_assoc, Option}
+use Rattle.std.specs.Prelude.{◌≡◌, ℕ, zero, suc, ◌⊎◌, Bool, true, false, ◌||◌, List, [], ◌∷◌, ◌++◌, is_some, refl, ◌≤◌, Some, Option}
+use Rattle.record_dim.specs.Std.{inl, inr, sym, ap, ◌∙◌, subst, append_assoc, arith}
 use Rattle.line_grammar.specs.ParsesLaws.{Exact, Parses, behind_parses, either_parses, give_parses, item_parses, parses_before, then_parses, which_parses}
 use Rattle.line_grammar.specs.WiderLaws.{Wider}
 use Rattle.line_grammar.specs.AlikeLaws.{Alike}
@@ -85,19 +86,16 @@ or_starts test other (t ∷ ts) (inr h) = ap (λ b. test t || b) h ∙ or_true (
     or_true false = refl
 
 pub or_false : (a b : Bool) → (a || b) ≡ false → (a ≡ false) × (b ≡ false)
-or_false true b e = absurd cc
-or_false false b e = (refl, e)
+or_false a b e = grind arith
 
 pub starts_same : {T : Type 0} (test other : T → Bool) → ((t : T) → test t ≡ other t) → (ts : List T) → starts test ts ≡ starts other ts
-starts_same test other e [] = refl
-starts_same test other e (t ∷ ts) = e t
+starts_same test other e ts = grind arith
 
 -- a phrase behind a token begins with it, so does an item, and a phrase whose first part does
 
 behind_starts : {T A : Type 0} (test : T → Bool) (token : T) → test token ≡ true → (Is : List T → A → Type 0) (xs : List T) (v : A) (rest : List T)
     → Behind token Is xs v → starts test (xs ++ rest) ≡ true
-behind_starts test token e Is [] v rest h = absurd h
-behind_starts test token e Is (first ∷ xs) v rest h = ap test h.0 ∙ e
+behind_starts test token e Is xs v rest h = grind arith
 
 item_starts : {T A : Type 0} (value : T → Option A) (xs : List T) (v : A) (rest : List T) → IsItem value xs v → starts (λ t. is_some (value t)) (xs ++ rest) ≡ true
 item_starts value xs v rest h = ap (λ k. starts (λ t. is_some (value t)) (k ++ rest)) h.1 ∙ ap is_some h.2
@@ -112,10 +110,8 @@ pub solid_starts : {T A : Type 0} (same : T → T → Bool) (one : Grammar T A) 
 solid_starts same (item value) f s xs v rest h = item_starts value xs v rest h
 solid_starts same (behind token one) f s xs v rest h = behind_starts (same token) token f.0.passes (Is one) xs v rest h
 solid_starts same (joined one next) f s xs v rest h = joined_starts (first same one) (Is one) (λ a. Is (next a)) (solid_starts same one f.0 s) xs v rest h
-solid_starts same (either one other) f s xs v rest (inl h) =
-    or_starts (first same one) (first same other) (xs ++ rest) (inl (solid_starts same one f.0 (or_false (may_be_empty one) (may_be_empty other) s).0 xs v rest h))
-solid_starts same (either one other) f s xs v rest (inr h) =
-    or_starts (first same one) (first same other) (xs ++ rest) (inr (solid_starts same other f.1 (or_false (may_be_empty one) (may_be_empty other) s).1 xs v rest h))
+solid_starts same (either one other) f s xs v rest (inl h) = grind (arith, or_starts, or_false, (solid_starts same one f.0 (or_false (may_be_empty one) (may_be_empty other) s).0 xs v rest h))
+solid_starts same (either one other) f s xs v rest (inr h) = grind (arith, or_starts, or_false, (solid_starts same other f.1 (or_false (may_be_empty one) (may_be_empty other) s).1 xs v rest h))
 solid_starts same (which true one other) f s xs v rest h = solid_starts same one f.0 (or_false (may_be_empty one) (may_be_empty other) s).0 xs v rest h
 solid_starts same (which false one other) f s xs v rest h = solid_starts same other f.1 (or_false (may_be_empty one) (may_be_empty other) s).1 xs v rest h
 solid_starts same (nothing value) f s xs v rest h = absurd cc
@@ -151,10 +147,7 @@ front_cases {T = T} t more (u ∷ us) back e = inr (us, ap (λ (k : T). k ∷ us
 
 joined_opens : {T A B : Type 0} (Begins : List T → A → Type 0) (Next : A → List T → B → Type 0) (P : T → Type 0) (t : T) (more : List T) (v : B)
     → ((us : List T) (a : A) → Begins (t ∷ us) a → P t) → ((a : A) → Begins [] a → (us : List T) (v : B) → Next a (t ∷ us) v → P t) → Joined Begins Next (t ∷ more) v → P t
-joined_opens Begins Next P t more v one two h = elim (front_cases t more h.front h.back h.whole) [
-  | inl e ↦ two h.first (rw (← e.0) h.begins) more v (rw (← e.1) h.ends)
-  | inr e ↦ one e.0 h.first (rw (← e.1) h.begins)
-]
+joined_opens Begins Next P t more v one two h = grind (arith, front_cases)
 
 pub firsts : {T A : Type 0} (same : T → T → Bool) (one : Grammar T A) → Fine same one → (P : T → Type 0) → Firsts one P → (t : T) (more : List T) (v : A) → Is one (t ∷ more) v → P t
 firsts same (item value) f P o t more v h = let e : t ≡ h.0 = (let whole = h.1 in cc) in subst P (sym e) (o h.0 v h.2)
@@ -179,8 +172,7 @@ firsts same (deep of) f P o t more v h = firsts same (of h.0) (f.0 h.0) P (o h.0
 
 clear_more : {T A B : Type 0} (same : T → T → Bool) (one : Grammar T A) (other : Grammar T B) → ((t : T) → Quiet same one t → Quiet same other t) → (rest : List T)
     → Clear same one rest → Clear same other rest
-clear_more same one other more [] after = tt
-clear_more same one other more (t ∷ rest) after = more t after
+clear_more same one other more rest after = grind arith
 
 clear_between : {T A B : Type 0} (same : T → T → Bool) (one : Grammar T A) (next : A → Grammar T B) → ((a : A) → Fine same (next a) × Firsts (next a) (Quiet same one))
     → (a : A) (ys : List T) (v : B) (rest : List T) → Is (next a) ys v → Clear same (joined one next) rest → Clear same one (ys ++ rest)
@@ -200,17 +192,14 @@ abbrev Between : {T A : Type 0} → (T → T → Bool) → (A → Grammar T A) �
 Between {A = A} same step rest = (a : A) → Clear same (step a) rest
 
 repeat_ends : {T A : Type 0} (same : T → T → Bool) (step : A → Grammar T A) (value : A) (rest : List T) → Clear same (repeats step value) rest → starts (first same (step value)) rest ≡ false
-repeat_ends same step value [] after = refl
-repeat_ends same step value (t ∷ rest) after = after.1
+repeat_ends same step value rest after = grind arith
 
 repeat_last : {T A : Type 0} (same : T → T → Bool) (step : A → Grammar T A) (value : A) (rest : List T) → Clear same (repeats step value) rest → Between same step rest
-repeat_last same step value [] after = λ a. tt
-repeat_last same step value (t ∷ rest) after = after.0
+repeat_last same step value rest after = grind arith
 
 repeat_begins : {T A : Type 0} (same : T → T → Bool) (step : A → Grammar T A) (value : A) → Fine same (repeats step value)
     → (v : A) (xs : List T) (w : A) (rest : List T) → Is (step v) xs w → starts (first same (step value)) (xs ++ rest) ≡ true
-repeat_begins same step value f v xs w rest h =
-    sym (starts_same (first same (step v)) (first same (step value)) (f.1 v) (xs ++ rest)) ∙ solid_starts same (step v) (f.0 v).0 (f.0 v).1 xs w rest h
+repeat_begins same step value f v xs w rest h = grind (arith, starts_same, solid_starts)
 
 repeat_goes_on : {T A : Type 0} (same : T → T → Bool) (step : A → Grammar T A) (value : A) → Fine same (repeats step value)
     → (v : A) (xs : List T) (w : A) (rest : List T) → Is (step v) xs w → Between same step (xs ++ rest)

@@ -1,5 +1,6 @@
 -- What holds of the value of each phrase, and of its tokens, asked at the ends of the grammar alone.
-use Rattle.std.proofs.Common.{◌≡◌, ℕ, zero, suc, inl, inr, true, false, List, [], ◌∷◌, ◌++◌, append-nil, append_assoc, Some}
+use Rattle.std.specs.Prelude.{◌≡◌, ℕ, zero, suc, true, false, List, [], ◌∷◌, ◌++◌, Some}
+use Rattle.record_dim.specs.Std.{inl, inr, append-nil, append_assoc}
 use Rattle.line_grammar.specs.Grammar.{Grammar, item, behind, joined, either, which, nothing, repeats, deep, Is}
 use Rattle.line_grammar.specs.Phrases.{Chain}
 

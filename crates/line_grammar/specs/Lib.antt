@@ -23,3 +23,4 @@ pub mod TakesLaws
 pub mod UnderLaws
 pub mod WiderLaws
 pub mod Inner
+pub mod Prelude

@@ -1,5 +1,6 @@
 -- Reading all tokens as one phrase of a grammar: it gives each phrase, and stops at the first token with which the tokens begin none.
-use Rattle.std.proofs.Common.{◌≡◌, ℕ, Bool, List, [], ◌∷◌, ◌++◌, Result, Ok, Err, refl, sym, ap, ◌∙◌, append_assoc, append-nil}
+use Rattle.std.specs.Prelude.{◌≡◌, ℕ, Bool, List, [], ◌∷◌, ◌++◌, Result, Ok, Err, refl}
+use Rattle.record_dim.specs.Std.{sym, ap, ◌∙◌, append_assoc, append-nil}
 use Rattle.line_grammar.specs.Column.{Bars, IsStop}
 use Rattle.line_grammar.specs.Grammar.{Grammar, Is}
 use Rattle.line_grammar.specs.Reading.{◌>>=◌, at}

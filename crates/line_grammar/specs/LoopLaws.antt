@@ -1,5 +1,6 @@
 -- How the reading of a list goes on: of phrases one after another, and of phrases behind a token.
-use Rattle.std.proofs.Common.{◌≡◌, ℕ, Bool, true, false, List, [], ◌∷◌, ◌++◌, Ok, Err, refl, ap, ◌∙◌}
+use Rattle.std.specs.Prelude.{◌≡◌, ℕ, Bool, true, false, List, [], ◌∷◌, ◌++◌, Ok, Err, refl}
+use Rattle.record_dim.specs.Std.{ap, ◌∙◌}
 use Rattle.line_grammar.specs.Grammar.{Grammar, behind, repeats, more}
 use Rattle.line_grammar.specs.Reading.{◌>>=◌, first, at, give_at, starts, past}
 use Rattle.line_grammar.specs.FineLaws.{may_be_empty}

@@ -1,6 +1,6 @@
 -- What a reader of a phrase keeps, and that the readers of composed phrases keep it.
-use Rattle.std.proofs.lemmas.Bool.{cases_Bool}
-use Rattle.std.proofs.Common.{◌≡◌, ℕ, suc, ◌⊎◌, inl, inr, Bool, true, false, if◌then◌else◌, List, [], ◌∷◌, ◌++◌, length, Option, Some, None, Result, Ok, Err, refl, sym, ap, ◌∙◌, append_assoc}
+use Rattle.record_dim.specs.Std.{cases_Bool, inl, inr, sym, ap, ◌∙◌, append_assoc, arith}
+use Rattle.std.specs.Prelude.{◌≡◌, ℕ, suc, ◌⊎◌, Bool, true, false, if◌then◌else◌, List, [], ◌∷◌, ◌++◌, length, Option, Some, None, Result, Ok, Err, refl}
 use Rattle.line_grammar.specs.Phrases.{IsItem, Behind, Joined, IsEither, WhichIs, IsNothing}
 use Rattle.line_grammar.specs.Reading.{◌>>=◌, starts, item_or, item_at, behind_at, then_at, give_at, either_at, which_at}
 
@@ -41,9 +41,7 @@ abbrev pub Always : {T : Type 0} → List T → Type 0
 Always rest = Unit {0}
 
 pub ok_parts : {A B E : Type 0} {a b : A} {x y : B} → ◌≡◌ {A = Result (A × B) E} (Ok (a, x)) (Ok (b, y)) → (a ≡ b) × (x ≡ y)
-ok_parts {A = A} {B = B} {a = a} {b = b} {x = x} {y = y} e =
-    let p : ◌≡◌ {A = A × B} (a, x) (b, y) = cc in
-    (ap (λ (q : A × B). q.0) p, ap (λ (q : A × B). q.1) p)
+ok_parts {A = A} {B = B} {a = a} {b = b} {x = x} {y = y} e = grind arith
 
 -- the head of a list depends on what follows its front by the head of that alone
 pub same_head : {T : Type 0} (xs us vs : List T) → head_of us ≡ head_of vs → head_of (xs ++ us) ≡ head_of (xs ++ vs)
@@ -51,10 +49,7 @@ same_head [] us vs h = h
 same_head (x ∷ xs) us vs h = refl
 
 pub starts_alike : {T : Type 0} (test : T → Bool) (us vs : List T) → head_of us ≡ head_of vs → starts test us ≡ starts test vs
-starts_alike test [] [] h = refl
-starts_alike test [] (v ∷ vs) h = absurd cc
-starts_alike test (u ∷ us) [] h = absurd cc
-starts_alike test (u ∷ us) (v ∷ vs) h = let e : u ≡ v = cc in ap test e
+starts_alike test us vs h = grind arith
 
 -- a phrase of two parts
 
@@ -67,10 +62,7 @@ joined_found {Next = Next} {whole = whole} {tokens = tokens} {a = a} {middle = m
   front = f.front ++ g.front;
   whole = f.whole ∙ ap (λ k. f.front ++ k) g.whole ∙ sym (append_assoc f.front g.front rest);
   phrase = record { first = a; front = f.front; back = g.front; whole = refl; begins = f.phrase; ends = g.phrase };
-  again = λ other h.
-      let inner : head_of (g.front ++ other) ≡ head_of middle = same_head g.front other rest h ∙ sym (ap head_of g.whole) in
-      let outer : head_of (f.front ++ (g.front ++ other)) ≡ head_of tokens = same_head f.front (g.front ++ other) middle inner ∙ sym (ap head_of f.whole) in
-      ap whole (append_assoc f.front g.front other) ∙ goes (f.front ++ (g.front ++ other)) (g.front ++ other) outer (f.again (g.front ++ other) inner) ∙ g.again other h;
+  again = λ other h. grind (arith, same_head, append_assoc);
 }
 
 pub joined_stops_early : {T A B : Type 0} {Is : List T → A → Type 0} {Next : A → List T → B → Type 0} {read : List T → Result (A × List T) ℕ} {whole : List T → Result (B × List T) ℕ}
@@ -147,9 +139,7 @@ item_stop {T = T} {A = A} value some v shown token us left None is e = record {
   more = some ∷ [];
   value = v;
   begins = (some, refl, shown);
-  blocked = λ next behind other same.
-      let h : next ≡ token = cc in
-      ap (λ (o : Option A). item_or o (suc (length other)) other) (ap value h ∙ is);
+  blocked = λ next behind other same. grind arith;
 }
 
 item_stops : {T A : Type 0} (value : T → Option A) (some : T) (v : A) → value some ≡ Some v → (tokens : List T) (left : ℕ) → item_at value tokens ≡ Err left
@@ -191,10 +181,7 @@ then_parses {T = T} {A = A} {B = B} {read = read} {next = next} Between p q foll
     | inl h ↦ joined_found (p.sound tokens h.0.0 h.0.1 h.1) ((q h.0.0).sound h.0.1 v rest (sym h.2 ∙ e)) (λ us behind _ is. ap (λ (r : Result (A × List T) ℕ). r >>= λ x. next x.0 x.1) is)
     | inr h ↦ absurd (let bad = sym h.2 ∙ e in cc)
   ];
-  full = λ xs v rest h after.
-      ap (λ k. then_at read next (k ++ rest)) h.whole ∙ ap (then_at read next) (append_assoc h.front h.back rest)
-      ∙ ap (λ (r : Result (A × List T) ℕ). r >>= λ x. next x.0 x.1) (p.full h.front h.first (h.back ++ rest) h.begins (follows h.first h.back v rest h.ends after))
-      ∙ (q h.first).full h.back v rest h.ends after;
+  full = λ xs v rest h after. grind (arith, append_assoc);
   stops = λ tokens left e. elim (bind_cases (read tokens) (λ x. next x.0 x.1)) [
     | inl h ↦ joined_stops_late (p.sound tokens h.0.0 h.0.1 h.1) ((q h.0.0).stops h.0.1 left (sym h.2 ∙ e)) (λ us behind _ is. ap (λ (r : Result (A × List T) ℕ). r >>= λ x. next x.0 x.1) is)
     | inr h ↦ joined_stops_early (let n : h.0 ≡ left = (let same = sym h.2 ∙ e in cc) in p.stops tokens left (h.1 ∙ ap Err n))
@@ -249,9 +236,7 @@ behind_stop {read = read} {test = test} {some = some} exact p token us left fals
   more = some ∷ p.example;
   value = p.value;
   begins = (refl, p.shown);
-  blocked = λ next behind other same.
-      let h : next ≡ token = cc in
-      ap (λ b. one_past b read other) (ap test h ∙ is);
+  blocked = λ next behind other same. grind arith;
 }
 
 behind_stops : {T A : Type 0} {Is : List T → A → Type 0} {read : List T → Result (A × List T) ℕ} {After : List T → Type 0} {test : T → Bool} {some : T} → Exact test some → Parses Is read After →
@@ -271,8 +256,7 @@ behind_stops {test = test} exact p (token ∷ us) left e = behind_stop exact p t
 behind_full : {T A : Type 0} {Is : List T → A → Type 0} {read : List T → Result (A × List T) ℕ} {After : List T → Type 0} {test : T → Bool} {some : T} → Exact test some → Parses Is read After →
     (xs : List T) (v : A) (rest : List T) → Behind some Is xs v → After rest → behind_at test read (xs ++ rest) ≡ Ok (v, rest)
 behind_full exact p [] v rest h after = absurd h
-behind_full {read = read} {test = test} exact p (token ∷ xs) v rest h after =
-    ap (λ b. one_past b read (xs ++ rest)) (ap test h.0 ∙ exact.passes) ∙ p.full xs v rest h.1 after
+behind_full {read = read} {test = test} exact p (token ∷ xs) v rest h after = grind arith
 
 pub behind_parses : {T A : Type 0} {Is : List T → A → Type 0} {read : List T → Result (A × List T) ℕ} {After : List T → Type 0} {test : T → Bool} {some : T} → Exact test some → Parses Is read After →
     Parses (Behind some Is) (behind_at test read) After
@@ -288,26 +272,13 @@ behind_parses {some = some} exact p = record {
 -- no token
 
 pub give_parses : {T A : Type 0} (After : List T → Type 0) (given : A) → Parses {T = T} (IsNothing given) (give_at given) After
-give_parses {T = T} {A = A} After given = record {
-  sound = λ tokens v rest e. let p = ok_parts e in record {
-    front = [];
-    whole = p.1;
-    phrase = (refl, sym p.0);
-    again = λ other h. ap (λ (w : A). let r : Result (A × List T) ℕ = Ok (w, other) in r) p.0;
-  };
-  full = λ xs v rest h after. ap (λ k. give_at given (k ++ rest)) h.0 ∙ ap (λ (w : A). let r : Result (A × List T) ℕ = Ok (w, rest) in r) (sym h.1);
-  stops = λ tokens left e. absurd cc;
-  example = [];
-  value = given;
-  shown = (refl, refl);
-}
+give_parses {T = T} {A = A} After given = grind (arith, ok_parts)
 
 -- one phrase or the other, by a truth value
 
 pub which_parses : {T A : Type 0} {Is IsOther : List T → A → Type 0} {read other : List T → Result (A × List T) ℕ} {After : List T → Type 0} (holds : Bool) →
     Parses Is read After → Parses IsOther other After → Parses (WhichIs holds Is IsOther) (which_at holds read other) After
-which_parses true p q = p
-which_parses false p q = q
+which_parses holds p q = grind arith
 
 -- one phrase or the other, by the next token
 
@@ -333,10 +304,7 @@ either_parses {T = T} {Is = Is} {IsOther = IsOther} {read = read} {other = other
           (starts_alike test (f.front ++ us) tokens (same_head f.front us rest h ∙ sym (ap head_of f.whole)) ∙ falls) ∙ f.again us h;
     }
   ];
-  full = λ xs v rest h after. elim h [
-    | inl is ↦ ap (λ b. if b then read (xs ++ rest) else other (xs ++ rest)) (passes xs v rest is after) ∙ p.full xs v rest is after
-    | inr is ↦ ap (λ b. if b then read (xs ++ rest) else other (xs ++ rest)) (fails xs v rest is after) ∙ q.full xs v rest is after
-  ];
+  full = λ xs v rest h after. grind arith;
   stops = λ tokens left e. elim (cases_Bool (starts test tokens)) [
     | inl holds ↦ let s = p.stops tokens left (ap (λ b. if b then read tokens else other tokens) (sym holds) ∙ e) in record {
       front = s.front;
@@ -374,26 +342,10 @@ found_also {v = v} to f = record { front = f.front; whole = f.whole; phrase = to
 
 pub stopped_also : {T A : Type 0} {Is IsAlso : List T → A → Type 0} {read : List T → Result (A × List T) ℕ} {tokens : List T} {left : ℕ} →
     ((xs : List T) (v : A) → Is xs v → IsAlso xs v) → Stopped Is read tokens left → Stopped IsAlso read tokens left
-stopped_also to s = record {
-  front = s.front;
-  rest = s.rest;
-  whole = s.whole;
-  length_left = s.length_left;
-  more = s.more;
-  value = s.value;
-  begins = to (s.front ++ s.more) s.value s.begins;
-  blocked = s.blocked;
-}
+stopped_also to s = grind arith
 
 -- the same phrases, with fewer that may follow
 pub parses_before : {T A : Type 0} {Is : List T → A → Type 0} {read : List T → Result (A × List T) ℕ} {After : List T → Type 0} (Fewer : List T → Type 0)
     → ((rest : List T) → Fewer rest → After rest) → Parses Is read After →
     Parses Is read Fewer
-parses_before Fewer fewer p = record {
-  sound = p.sound;
-  full = λ xs v rest h after. p.full xs v rest h (fewer rest after);
-  stops = p.stops;
-  example = p.example;
-  value = p.value;
-  shown = p.shown;
-}
+parses_before Fewer fewer p = grind arith

@@ -1,6 +1,6 @@
 -- Phrases that repeat a step: how the reader goes on, that each repetition is read, and that reading stops where it must.
-use Rattle.std.proofs.lemmas.Bool.{cases_Bool}
-use Rattle.std.proofs.Common.{◌≡◌, ℕ, zero, suc, ◌≤◌, ◌<◌, Bool, true, false, if◌then◌else◌, inl, inr, List, [], ◌∷◌, ◌++◌, length, Result, Ok, Err, refl, sym, ap, ◌∙◌, append_assoc, length-append, arith}
+use Rattle.record_dim.specs.Std.{cases_Bool, inl, inr, sym, ap, ◌∙◌, append_assoc, length-append, arith}
+use Rattle.std.specs.Prelude.{◌≡◌, ℕ, zero, suc, ◌≤◌, ◌<◌, Bool, true, false, if◌then◌else◌, List, [], ◌∷◌, ◌++◌, length, Result, Ok, Err, refl}
 use Rattle.line_grammar.specs.Phrases.{Joined, Chain, Repeats}
 use Rattle.line_grammar.specs.Reading.{◌>>=◌, starts, steps_within, steps_at}
 use Rattle.line_grammar.specs.ParsesLaws.{head_of, Found, Stopped, Parses, bind_cases, found_also, joined_found, joined_stops_early, joined_stops_late, ok_parts, starts_alike, stopped_also}
@@ -28,8 +28,7 @@ steps_shrink {test = test} s v tokens x e =
     rw f.whole (shorter test f.front x.1 (s.begins v f.front x.0 [] f.phrase))
 
 pub bind_alike : {A B : Type 0} (r : Result A ℕ) (f g : A → Result B ℕ) → ((x : A) → r ≡ Ok x → f x ≡ g x) → (r >>= f) ≡ (r >>= g)
-bind_alike (Ok x) f g h = h x refl
-bind_alike (Err n) f g h = refl
+bind_alike r f g h = grind arith
 
 -- more steps than there are tokens change nothing
 steps_enough : {T A : Type 0} (test : T → Bool) (step : A → List T → Result (A × List T) ℕ) → Shrinks step → (n m : ℕ) (v : A) (tokens : List T) → length tokens ≤ n → length tokens ≤ m →
@@ -68,8 +67,7 @@ pub steps_end : {T A : Type 0} (test : T → Bool) (step : A → List T → Resu
     steps_at test step v tokens ≡ Ok (v, tokens)
 unfolding steps_at
 steps_end test step v [] falls = refl
-steps_end {T = T} {A = A} test step v (token ∷ us) falls =
-    ap (λ b. let r : Result (A × List T) ℕ = if b then (step v (token ∷ us) >>= λ x. steps_within (length us) test step x.0 x.1) else Ok (v, token ∷ us) in r) falls
+steps_end {T = T} {A = A} test step v (token ∷ us) falls = grind arith
 
 -- a step and any number of them behind it
 repeats_more : {T A : Type 0} (Step : A → List T → A → Type 0) (v : A) (xs : List T) (w : A) → Joined (Step v) (Repeats Step) xs w → Repeats Step v xs w
@@ -78,13 +76,7 @@ repeats_more Step v xs w h = (suc h.ends.0, record { first = h.first; front = h.
 steps_found_none : {T A : Type 0} {Step : A → List T → A → Type 0} (test : T → Bool) (step : A → List T → Result (A × List T) ℕ) (v : A) (tokens : List T) (w : A) (rest : List T)
     → starts test tokens ≡ false →
     ◌≡◌ {A = Result (A × List T) ℕ} (Ok (v, tokens)) (Ok (w, rest)) → Found (Repeats Step v) (steps_at test step v) tokens w rest
-steps_found_none {T = T} {A = A} test step v tokens w rest falls e = let p = ok_parts e in record {
-  front = [];
-  whole = p.1;
-  phrase = (zero, (refl, sym p.0));
-  again = λ other h. steps_end test step v other (starts_alike test other rest h ∙ ap (starts test) (sym p.1) ∙ falls)
-      ∙ ap (λ (k : A). let r : Result (A × List T) ℕ = Ok (k, other) in r) p.0;
-}
+steps_found_none {T = T} {A = A} test step v tokens w rest falls e = grind (arith, ok_parts, steps_end, starts_alike)
 
 module _ {T A : Type 0} {Step : A → List T → A → Type 0} {test : T → Bool} {step : A → List T → Result (A × List T) ℕ} {Between After : List T → Type 0} (s : Steps Step test step Between After) where
   goes : (v w : A) (tokens us behind : List T) → starts test tokens ≡ true → head_of us ≡ head_of tokens → step v us ≡ Ok (w, behind) → steps_at test step v us ≡ steps_at test step w behind
@@ -136,8 +128,7 @@ module _ {T A : Type 0} {Step : A → List T → A → Type 0} {test : T → Boo
   chain_between (suc k) v xs w rest h after = rw (h.whole, append_assoc h.front h.back rest) (s.goes_on v h.front h.first (h.back ++ rest) h.begins)
 
   steps_full : (k : ℕ) (v : A) (xs : List T) (w : A) (rest : List T) → Chain Step k v xs w → After rest → steps_at test step v (xs ++ rest) ≡ Ok (w, rest)
-  steps_full zero v xs w rest h after =
-      ap (λ k. steps_at test step v (k ++ rest)) h.0 ∙ steps_end test step v rest (s.ends rest after) ∙ ap (λ (k : A). let r : Result (A × List T) ℕ = Ok (k, rest) in r) (sym h.1)
+  steps_full zero v xs w rest h after = grind (arith, steps_end)
   steps_full (suc k) v xs w rest h after =
       ap (λ k. steps_at test step v (k ++ rest)) h.whole ∙ ap (steps_at test step v) (append_assoc h.front h.back rest)
       ∙ steps_stepped test step (steps_shrink s) v (h.front ++ (h.back ++ rest)) h.first (h.back ++ rest) (s.begins v h.front h.first (h.back ++ rest) h.begins)

@@ -1,10 +1,10 @@
 -- The lines of a script without pointers, and the lines of the code's values.
 use Rattle.std.specs.Prelude.{ℕ, max, Bool, List, [], ◌∷◌, map, Option, Some, None, option_map}
 use Rattle.record_dim.specs.declared.path.PathStep.{PathStep}
-use Rattle.record_dim.specs.Trees.{Tree, tree_of}
+use Rattle.record_dim.specs.Prelude.{Tree, tree_of}
 use Rattle.extents.specs.declared.window.Span.{Span}
 use Rattle.extents.specs.declared.words.ExtentWord.{ExtentWord}
-use Rattle.expr_lang.specs.Terms.{Term, term_of, depth_of}
+use Rattle.expr_lang.specs.Prelude.{Term, term_of, depth_of}
 use Rattle.map_expr.specs.Terms.{Term as MapTerm, term_of as map_of}
 use Rattle.line_grammar.specs.declared.line.KernelText.{KernelText}
 use Rattle.line_grammar.specs.declared.line.Line.{Line}

@@ -1,5 +1,6 @@
 -- What is left is no longer than what was given, and shorter behind a phrase that has a token.
-use Rattle.std.proofs.Common.{◌≡◌, ℕ, zero, suc, ◌+◌, ◌≤◌, ◌<◌, Bool, true, false, ◌||◌, if◌then◌else◌, List, [], ◌∷◌, length, Option, Some, None, Result, Ok, Err, refl, ap, arith}
+use Rattle.std.specs.Prelude.{◌≡◌, ℕ, zero, suc, ◌+◌, ◌≤◌, ◌<◌, Bool, true, false, ◌||◌, if◌then◌else◌, List, [], ◌∷◌, length, Option, Some, None, Result, Ok, Err, refl}
+use Rattle.record_dim.specs.Std.{ap, arith}
 use Rattle.line_grammar.specs.Grammar.{Grammar}
 use Rattle.line_grammar.specs.Grammar as grammar
 use Rattle.line_grammar.specs.Reading.{◌>>=◌, first, at, starts, past, item_or, item_at, steps_at, steps_within}
@@ -49,9 +50,7 @@ least true = 0
 least false = 1
 
 least_or : (a b : Bool) → (least (a || b) ≤ least a) × (least (a || b) ≤ least b)
-least_or true b = (omega arith, omega arith)
-least_or false true = (omega arith, omega arith)
-least_or false false = (omega arith, omega arith)
+least_or a b = grind arith
 
 shorter : {T A : Type 0} (same : T → T → Bool) (one : Grammar T A) (tokens : List T) (x : A × List T) → at same one tokens ≡ Ok x → least (may_be_empty one) + length x.1 ≤ length tokens
 unfolding steps_at

@@ -1,6 +1,6 @@
 -- The tokens of a line as its grammar sees them, and what each stands for.
 use Rattle.std.specs.Prelude.{ℕ, ◌^◌, ◌+◌, ◌-◌, Bool, false, bytes_eq, nat_lt, if◌then◌else◌, List, [], ◌∷◌, ◌++◌, map, Option, Some, None, codes, ℤ, pos, slice_range}
-use Rattle.std.specs.List.{list_any}
+use Rattle.record_dim.specs.Std.{list_any}
 use Rattle.line_tokens.specs.Signs.{spelling}
 use Rattle.line_tokens.specs.declared.sign.Sign.{Sign}
 use Rattle.line_tokens.specs.declared.spots.Spot.{Spot}

@@ -1,5 +1,6 @@
 -- A grammar that is another one with deeper brackets: it has each phrase of that, and lists of at most so many tokens are read alike.
-use Rattle.std.proofs.Common.{◌≡◌, ℕ, zero, suc, Bool, true, false, if◌then◌else◌, List, [], ◌∷◌, length, Result, Ok, Err, refl, ap, ◌∙◌, arith}
+use Rattle.std.specs.Prelude.{◌≡◌, ℕ, zero, suc, Bool, true, false, if◌then◌else◌, List, [], ◌∷◌, length, Result, Ok, Err, refl}
+use Rattle.record_dim.specs.Std.{ap, ◌∙◌, arith}
 use Rattle.line_grammar.specs.WiderLaws.{Wider, behind_wider, either_wider, joined_wider, repeats_wider}
 use Rattle.line_grammar.specs.Grammar.{Grammar, Is}
 use Rattle.line_grammar.specs.Reading.{first, at, ◌>>=◌, starts, steps_at, steps_within}
@@ -60,8 +61,7 @@ alike (empty w e) [] small = e
 alike (empty w e) (t ∷ us) small = absurd (omega arith)
 alike {same = same} (behind {n = n} {token = token} u) tokens small = behind_alike n (same token) (alike u) tokens small
 alike {same = same} {n = n} (joined {one = one} u next) tokens small = then_alike n (no_longer same one) (alike u) (λ a. alike (next a)) tokens small
-alike {same = same} {n = n} (either {one = one} {more = more} {other = other} {another = another} f u v) tokens small =
-    either_alike n (first same one) (alike u) (alike v) tokens small ∙ test_either (first same one) (first same more) f (at same more) (at same another) tokens
+alike {same = same} {n = n} (either {one = one} {more = more} {other = other} {another = another} f u v) tokens small = grind (arith, either_alike, test_either, (alike u), (alike v))
 alike (which {holds = true} u v) tokens small = alike u tokens small
 alike (which {holds = false} u v) tokens small = alike v tokens small
 alike {same = same} {n = n} (repeats {step = step} {more = more} {value = value} f u) tokens small =

@@ -1,6 +1,6 @@
 -- How a script spells the values of its enums: a word each, an operator a sign or a word.
 use Rattle.std.specs.Prelude.{ℕ, ◌+◌, List, [], ◌∷◌, ◌++◌, codes}
-use Rattle.std.specs.Str.{byte}
+use Rattle.record_dim.specs.Std.{byte}
 use Rattle.line_tokens.specs.declared.sign.Sign.TheVariants.{EqualEqual, NotEqual, LessThan, LessEqual, GreaterThan, GreaterEqual, Plus, Minus, Star, Slash, Percent}
 use Rattle.record_dim.specs.declared.leaf_type.LeafType.{LeafType}
 use Rattle.record_dim.specs.declared.leaf_type.LeafType.TheVariants.{Bool as Truth, U8, U16, U32, U64, I8, I16, I32, I64}

@@ -1,5 +1,5 @@
 -- How the reading of a chain goes on, and of what stands in front of a value.
-use Rattle.line_phrases.proofs.Imports.{◌≡◌, ℕ, suc, ◌+◌, true, false, List, Option, Some, Result, Ok, Err, refl, sym, ap, ◌∙◌, add-one, ◌>>=◌, starts, past, item_at, give_at, Shrinks, steps_end, steps_stepped, steps_stop, takes, behind, nothing, Grammar, BinOp, Binary, Token, is_same, Value, wrapped, read, link, links, signs, means, chain_behind}
+use Rattle.line_phrases.proofs.Imports.{◌≡◌, ℕ, suc, ◌+◌, true, false, List, Option, Some, Result, Ok, Err, refl, sym, ap, ◌∙◌, add-one, ◌>>=◌, starts, past, item_at, give_at, Shrinks, steps_end, steps_stepped, steps_stop, takes, behind, nothing, Grammar, BinOp, Binary, Token, is_same, Value, wrapped, read, link, links, signs, means, chain_behind, arith}
 
 -- an operator and an operand more, an operator that is none, and no operator
 
@@ -24,8 +24,7 @@ link_next operator one left tokens op us passes is = next_is operator one left t
 pub link_bare : (operator : Token → Option BinOp) (one : Grammar Token Value) (left : Value) (tokens : List Token) (k : ℕ) → starts (means operator) tokens ≡ true → item_at operator tokens ≡ Err k
     → read (links operator one left) tokens ≡ Err k
 unfolding links
-link_bare operator one left tokens k passes is = steps_stop (means operator) (λ l. read (link operator one l)) (shrinks operator one) left tokens k passes
-    (ap (λ r. r >>= λ x. (read one x.1 >>= λ y. give_at (Binary x.0 left y.0) y.1)) is)
+link_bare operator one left tokens k passes is = grind (arith, steps_stop, shrinks)
 
 pub link_end : (operator : Token → Option BinOp) (one : Grammar Token Value) (left : Value) (tokens : List Token) → starts (means operator) tokens ≡ false
     → read (links operator one left) tokens ≡ Ok (left, tokens)
@@ -44,8 +43,7 @@ counted token count tokens us passes is = rw add-one (steps_stepped (is_same tok
 
 pub count_bare : (token : Token) (count : ℕ) (tokens : List Token) (k : ℕ) → starts (is_same token) tokens ≡ true → past (is_same token) tokens ≡ Err k → read (signs token count) tokens ≡ Err k
 unfolding signs
-count_bare token count tokens k passes is = steps_stop (is_same token) (λ k. read (behind token (nothing (suc k)))) (sign_takes token) count tokens k passes
-    (ap (λ (r : Result (List Token) ℕ). r >>= give_at (suc count)) is)
+count_bare token count tokens k passes is = grind (arith, steps_stop, nothing, sign_takes)
 
 pub count_end : (token : Token) (count : ℕ) (tokens : List Token) → starts (is_same token) tokens ≡ false → read (signs token count) tokens ≡ Ok (count, tokens)
 unfolding signs

@@ -1,15 +1,12 @@
 -- The tokens of phrases: which one passes a test, an item of each kind, and how tightly a token binds.
-use Rattle.std.proofs.lemmas.Bool.{cases_Bool}
-use Rattle.std.proofs.Common.{◌≡◌, ℕ, Bool, false, if◌then◌else◌, inl, inr, List, Option, Some, None, codes, bytes_eq, pos, refl, ap, sym, ◌∙◌}
-use Rattle.line_grammar.specs.FineLaws.{Fine}
-use Rattle.line_grammar.specs.ParsesLaws.{Exact}
+use Rattle.record_dim.specs.Std.{cases_Bool}
+use Rattle.std.specs.Prelude.{◌≡◌, ℕ, Bool, false, if◌then◌else◌, List, Option, Some, None, codes, bytes_eq, pos, refl}
+use Rattle.line_grammar.specs.Prelude.{Fine, Exact, is_same, is_sign, is_word, name, number, count, sign_self, sign_only, word_self, word_only}
 use Rattle.line_tokens.specs.declared.sign.Sign.{Sign}
 use Rattle.line_tokens.specs.declared.sign.Sign.TheVariants.{OpenBracket, Dot, EqualEqual, NotEqual, LessThan, LessEqual, GreaterThan, GreaterEqual, Plus, Minus, Star, Slash, Percent}
 use Rattle.line_grammar.specs.declared.token.Token.{Token}
 use Rattle.line_grammar.specs.declared.token.Token.TheVariants.{Word, Number, Sign as Signed}
-use Rattle.line_grammar.specs.Tokens.{is_same, is_sign, is_word}
-use Rattle.line_grammar.specs.Language.{name, number, count}
-use Rattle.line_grammar.specs.SignsLaws.{sign_self, sign_only, word_self, word_only}
+use Rattle.record_dim.specs.Std.{arith}
 
 pub exact_sign : (sign : Sign) → Exact (is_sign sign) (Signed sign)
 exact_sign sign = record { passes = sign_self sign; only = sign_only sign }
@@ -46,7 +43,4 @@ level_of _ = 0
 
 -- what has a meaning is not a token without it
 pub apart : {A : Type 0} {test : Token → Bool} {some : Token} → Exact test some → (value : Token → Option A) → value some ≡ None → (token : Token) (v : A) → value token ≡ Some v → test token ≡ false
-apart {test = test} exact value none token v e = elim (cases_Bool (test token)) [
-  | inl passes ↦ absurd (let bad = sym e ∙ ap value (exact.only token passes) ∙ none in cc)
-  | inr falls ↦ falls
-]
+apart {test = test} exact value none token v e = grind (arith, cases_Bool)

@@ -1,22 +1,14 @@
 -- Expressions are read by first tokens, level by level, to any depth of brackets.
-use Rattle.std.proofs.lemmas.Bool.{cases_Bool}
-use Rattle.std.proofs.Common.{◌≡◌, ℕ, zero, suc, ◌<◌, Bool, true, false, if◌then◌else◌, inl, inr, List, [], ◌∷◌, Option, Some, None, is_some, bytes_eq, codes, ℤ, refl, sym, ap, ◌∙◌, arith}
-use Rattle.std.specs.List.{list_any}
-use Rattle.std.proofs.lemmas.Slice.Eq.{bytes_eq-Decides}
-use Rattle.line_grammar.specs.Grammar.{Grammar, item, either, nothing}
-use Rattle.line_grammar.specs.Reading.{first}
-use Rattle.line_grammar.specs.FineLaws.{Fine, Firsts, Quiet, Skips, anyway, firsts_any, firsts_more, skips_more}
-use Rattle.line_grammar.specs.ParsesLaws.{Exact}
-use Rattle.line_grammar.specs.UnderLaws.{alike, wider}
-use Rattle.line_tokens.specs.declared.sign.Sign.TheVariants.{OpenBrace, CloseBrace, OpenBracket, CloseBracket, OpenParen, CloseParen, Colon, Comma, Dot, Equals, EqualEqual, NotEqual, LessThan, LessEqual, GreaterThan, GreaterEqual, Plus, Minus, Arrow, Star, Slash, Percent, Question}
+use Rattle.record_dim.specs.Std.{cases_Bool, sym, ap, arith, list_any, bytes_eq-Decides}
+use Rattle.std.specs.Prelude.{◌≡◌, ℕ, zero, suc, ◌<◌, Bool, true, false, if◌then◌else◌, List, [], ◌∷◌, Option, Some, None, is_some, bytes_eq, codes, ℤ, refl}
+use Rattle.line_grammar.specs.Prelude.{Grammar, item, nothing, first, Fine, Firsts, Quiet, Skips, anyway, firsts_any, firsts_more, skips_more, Exact, alike, wider, is_same, is_sign, is_word, reserved, dimensions, name_of, token_number, index_of, choice_of, or_of, and_of, comparison_of, sum_of, product_of, index_word, Value, atom_within, bracketed, chain, choice, comparison, conjunction, expr, expr_over, leaf, link, links, negation, part, path, prefixed, product, signs, sum, unary}
+use Rattle.line_grammar.specs.Grammar.{either}
+use Rattle.line_tokens.specs.declared.sign.Sign.TheVariants.{OpenParen, EqualEqual, Plus, Minus, Star}
 use Rattle.expr_lang.specs.declared.expr.BinOp.{BinOp}
 use Rattle.expr_lang.specs.declared.expr.BinOp.TheVariants.{Add, Mul, Min, Max, Eq, And, Or}
 use Rattle.line_grammar.specs.declared.token.Token.{Token}
-use Rattle.line_grammar.specs.declared.token.Token.TheVariants.{Word, Number, Text, Sign as Signed, Bad}
-use Rattle.line_grammar.specs.Tokens.{is_same, is_sign, is_word, listed, reserved, dimensions, name_of, token_number, index_of, choice_of, or_of, and_of, comparison_of, sum_of, product_of}
-use Rattle.line_grammar.specs.Words.{index_word}
-use Rattle.line_grammar.specs.Sentences.{Value}
-use Rattle.line_grammar.specs.Language.{atom_within, bracketed, chain, choice, comparison, conjunction, expr, expr_over, leaf, link, links, negation, part, path, prefixed, product, signs, sum, unary}
+use Rattle.line_grammar.specs.declared.token.Token.TheVariants.{Word, Sign as Signed}
+use Rattle.line_grammar.specs.Tokens.{listed}
 use Rattle.line_phrases.specs.Inner.Exprs.{means}
 use Rattle.line_phrases.specs.BasicsLaws.{apart, exact_sign, exact_word, level_of, number_fine}
 use Rattle.line_phrases.specs.NestingLaws.{expr_under}
@@ -29,13 +21,12 @@ pub record Operator (operator : Token → Option BinOp) (level : ℕ) : Type 0 w
   pub op : BinOp
   pub shown : operator some ≡ Some op
 
-or_word : (token : Token) (b : Bool) → is_word (codes "or") token ≡ b → is_some (let o : Option BinOp = if b then Some Or else None in o) ≡ true → 1 ≡ level_of token
+or_word : (token : Token) (b : Bool) → is_word (codes "or") token ≡ b → is_some (if b then Some Or else None) ≡ true → 1 ≡ level_of token
 or_word token true e h = sym (ap level_of ((exact_word (codes "or")).only token e))
 or_word token false e h = absurd cc
 
-and_word : (token : Token) (b : Bool) → is_word (codes "and") token ≡ b → is_some (let o : Option BinOp = if b then Some And else None in o) ≡ true → 2 ≡ level_of token
-and_word token true e h = sym (ap level_of ((exact_word (codes "and")).only token e))
-and_word token false e h = absurd cc
+and_word : (token : Token) (b : Bool) → is_word (codes "and") token ≡ b → is_some (if b then Some And else None) ≡ true → 2 ≡ level_of token
+and_word token b e h = grind (arith, exact_word)
 
 pub or_operator : Operator or_of 1
 or_operator = record { levels = λ token h. or_word token (is_word (codes "or") token) refl h; some = Word (codes "or"); op = Or; shown = refl }
@@ -44,97 +35,19 @@ pub and_operator : Operator and_of 2
 and_operator = record { levels = λ token h. and_word token (is_word (codes "and") token) refl h; some = Word (codes "and"); op = And; shown = refl }
 
 pub comparison_levels : (token : Token) → means comparison_of token ≡ true → 3 ≡ level_of token
-comparison_levels (Signed OpenBrace) h = absurd cc
-comparison_levels (Signed CloseBrace) h = absurd cc
-comparison_levels (Signed OpenBracket) h = absurd cc
-comparison_levels (Signed CloseBracket) h = absurd cc
-comparison_levels (Signed OpenParen) h = absurd cc
-comparison_levels (Signed CloseParen) h = absurd cc
-comparison_levels (Signed Colon) h = absurd cc
-comparison_levels (Signed Comma) h = absurd cc
-comparison_levels (Signed Dot) h = absurd cc
-comparison_levels (Signed Equals) h = absurd cc
-comparison_levels (Signed EqualEqual) h = refl
-comparison_levels (Signed NotEqual) h = refl
-comparison_levels (Signed LessThan) h = refl
-comparison_levels (Signed LessEqual) h = refl
-comparison_levels (Signed GreaterThan) h = refl
-comparison_levels (Signed GreaterEqual) h = refl
-comparison_levels (Signed Plus) h = absurd cc
-comparison_levels (Signed Minus) h = absurd cc
-comparison_levels (Signed Arrow) h = absurd cc
-comparison_levels (Signed Star) h = absurd cc
-comparison_levels (Signed Slash) h = absurd cc
-comparison_levels (Signed Percent) h = absurd cc
-comparison_levels (Signed Question) h = absurd cc
-comparison_levels (Word w) h = absurd cc
-comparison_levels (Number v) h = absurd cc
-comparison_levels (Text t) h = absurd cc
-comparison_levels Bad h = absurd cc
+comparison_levels token h = grind arith
 
 pub comparison_operator : Operator comparison_of 3
 comparison_operator = record { levels = comparison_levels; some = Signed EqualEqual; op = Eq; shown = refl }
 
 sum_levels : (token : Token) → means sum_of token ≡ true → 4 ≡ level_of token
-sum_levels (Signed OpenBrace) h = absurd cc
-sum_levels (Signed CloseBrace) h = absurd cc
-sum_levels (Signed OpenBracket) h = absurd cc
-sum_levels (Signed CloseBracket) h = absurd cc
-sum_levels (Signed OpenParen) h = absurd cc
-sum_levels (Signed CloseParen) h = absurd cc
-sum_levels (Signed Colon) h = absurd cc
-sum_levels (Signed Comma) h = absurd cc
-sum_levels (Signed Dot) h = absurd cc
-sum_levels (Signed Equals) h = absurd cc
-sum_levels (Signed EqualEqual) h = absurd cc
-sum_levels (Signed NotEqual) h = absurd cc
-sum_levels (Signed LessThan) h = absurd cc
-sum_levels (Signed LessEqual) h = absurd cc
-sum_levels (Signed GreaterThan) h = absurd cc
-sum_levels (Signed GreaterEqual) h = absurd cc
-sum_levels (Signed Plus) h = refl
-sum_levels (Signed Minus) h = refl
-sum_levels (Signed Arrow) h = absurd cc
-sum_levels (Signed Star) h = absurd cc
-sum_levels (Signed Slash) h = absurd cc
-sum_levels (Signed Percent) h = absurd cc
-sum_levels (Signed Question) h = absurd cc
-sum_levels (Word w) h = absurd cc
-sum_levels (Number v) h = absurd cc
-sum_levels (Text t) h = absurd cc
-sum_levels Bad h = absurd cc
+sum_levels token h = grind arith
 
 pub sum_operator : Operator sum_of 4
 sum_operator = record { levels = sum_levels; some = Signed Plus; op = Add; shown = refl }
 
 product_levels : (token : Token) → means product_of token ≡ true → 5 ≡ level_of token
-product_levels (Signed OpenBrace) h = absurd cc
-product_levels (Signed CloseBrace) h = absurd cc
-product_levels (Signed OpenBracket) h = absurd cc
-product_levels (Signed CloseBracket) h = absurd cc
-product_levels (Signed OpenParen) h = absurd cc
-product_levels (Signed CloseParen) h = absurd cc
-product_levels (Signed Colon) h = absurd cc
-product_levels (Signed Comma) h = absurd cc
-product_levels (Signed Dot) h = absurd cc
-product_levels (Signed Equals) h = absurd cc
-product_levels (Signed EqualEqual) h = absurd cc
-product_levels (Signed NotEqual) h = absurd cc
-product_levels (Signed LessThan) h = absurd cc
-product_levels (Signed LessEqual) h = absurd cc
-product_levels (Signed GreaterThan) h = absurd cc
-product_levels (Signed GreaterEqual) h = absurd cc
-product_levels (Signed Plus) h = absurd cc
-product_levels (Signed Minus) h = absurd cc
-product_levels (Signed Arrow) h = absurd cc
-product_levels (Signed Star) h = refl
-product_levels (Signed Slash) h = refl
-product_levels (Signed Percent) h = refl
-product_levels (Signed Question) h = absurd cc
-product_levels (Word w) h = absurd cc
-product_levels (Number v) h = absurd cc
-product_levels (Text t) h = absurd cc
-product_levels Bad h = absurd cc
+product_levels token h = grind arith
 
 pub product_operator : Operator product_of 5
 product_operator = record { levels = product_levels; some = Signed Star; op = Mul; shown = refl }
@@ -156,13 +69,10 @@ module _ (k : ℕ) (operator : Token → Option BinOp) (o : Operator operator k)
   link_quiet left t less = λ op. ((λ right. (tt, p.quiet t less)), anyway one (λ right. tt))
 
   level : (t : Token) (op : BinOp) → operator t ≡ Some op → level_of t < suc k
-  level t op e = let same = o.levels t (ap is_some e) in omega (arith, same)
+  level t op e = omega (arith, (o.levels t (ap is_some e)))
 
   no_operator : (t : Token) → level_of t < k → is_some (operator t) ≡ false
-  no_operator t less = elim (cases_Bool (means operator t)) [
-    | inl h ↦ absurd (let same = o.levels t h in omega (arith, same, less))
-    | inr h ↦ h
-  ]
+  no_operator t less = grind (arith, cases_Bool)
 
   pub links_fine : (left : Value) → Fine is_same (links operator one left)
   unfolding links
@@ -184,14 +94,7 @@ module _ (k : ℕ) (operator : Token → Option BinOp) (o : Operator operator k)
 pub prefixed_operand : (k : ℕ) (token : Token) → Exact (is_same token) token → (wrap : Value → Value) (one : Grammar Token Value) → Operand k one → Firsts one (λ t. is_same token t ≡ false)
     → Operand k (prefixed token wrap one)
 unfolding prefixed signs
-prefixed_operand k token exact wrap one p other = record {
-  fine = (
-    ((λ n. ((exact, tt), refl)), (λ n t. refl), λ n m. tt),
-    λ n. ((p.fine, λ value. (tt, tt)), (firsts_more one (λ t e. ((λ n. tt), e)) other, anyway one (λ value. tt))),
-  );
-  quiet = λ t less n. ((λ value. (tt, p.quiet t less)), none one (Value → Quiet is_same (signs token zero) t) p.some);
-  some = λ n. none one (Value → ⊥) p.some;
-}
+prefixed_operand k token exact wrap one p other = grind (arith, firsts_more, anyway, none)
 
 prefixed_firsts : (token : Token) (wrap : Value → Value) (one : Grammar Token Value) (P : Token → Type 0) → P token → Firsts one P → Firsts (prefixed token wrap one) P
 unfolding prefixed signs
@@ -220,12 +123,11 @@ module _ (one : Grammar Token Value) (a : Atoms one) where
   unfolding comparison
   comparison_operand =
       let s = sum_operand in
-      let links = link_fine 3 comparison_of comparison_operator (sum one) s in
       let goes = link_quiet 3 comparison_of comparison_operator (sum one) s in
       let ends = no_operator 3 comparison_of comparison_operator (sum one) s in
       let opens = λ (t : Token) (op : BinOp) (e : comparison_of t ≡ Some op). s.quiet t (level 3 comparison_of comparison_operator (sum one) s t op e) in
       record {
-        fine = (s.fine, λ left. ((links left, tt, refl, tt), ((opens, tt), tt)));
+        fine = (s.fine, λ left. (((link_fine 3 comparison_of comparison_operator (sum one) s) left, tt, refl, tt), ((opens, tt), tt)));
         quiet = λ t less left. ((goes left t (omega (arith, less)), tt, ends t less), (tt, s.quiet t (omega (arith, less))));
         some = none (sum one) ((left : Value) → Skips (either (link comparison_of (sum one) left) (nothing left)) ⊥) s.some;
       }
@@ -261,10 +163,7 @@ AreReserved word_of (value ∷ values) = (list_any (bytes_eq (word_of value)) re
 
 unlisted : {A : Type 0} (word_of : A → List ℕ) (values : List A) (word : List ℕ) → AreReserved word_of values → list_any (bytes_eq word) reserved ≡ false → listed word_of values word ≡ None
 unlisted word_of [] word all free = refl
-unlisted word_of (value ∷ values) word all free = elim (cases_Bool (bytes_eq word (word_of value))) [
-  | inl same ↦ absurd (let e = (bytes_eq-Decides word (word_of value)).0 same in let bad = sym free ∙ ap (λ k. list_any (bytes_eq k) reserved) e ∙ all.0 in cc)
-  | inr falls ↦ ap (λ b. if b then Some value else listed word_of values word) falls ∙ unlisted word_of values word all.1 free
-]
+unlisted word_of (value ∷ values) word all free = grind (arith, cases_Bool, bytes_eq, bytes_eq-Decides, list_any, (unlisted word_of values word all.1 free))
 
 -- the words of `min` and `max`
 abbrev choice_word : BinOp → List ℕ
@@ -272,47 +171,31 @@ choice_word Max = codes "max"
 choice_word _ = codes "min"
 
 name_free : (word x : List ℕ) (b : Bool) → list_any (bytes_eq word) reserved ≡ b → ◌≡◌ {A = Option (List ℕ)} (if b then None else Some word) (Some x) → list_any (bytes_eq word) reserved ≡ false
-name_free word x true is e = absurd cc
-name_free word x false is e = is
+name_free word x b is e = grind arith
 
 name_no_number : (token : Token) (x : List ℕ) → name_of token ≡ Some x → means token_number token ≡ false
-name_no_number (Word word) x e = refl
-name_no_number other x e = absurd cc
+name_no_number token x e = grind arith
 
 name_no_index : (token : Token) (x : List ℕ) → name_of token ≡ Some x → means index_of token ≡ false
-name_no_index (Word word) x e = ap is_some (unlisted index_word dimensions word (refl, (refl, (refl, (refl, tt)))) (name_free word x (list_any (bytes_eq word) reserved) refl e))
-name_no_index other x e = refl
+name_no_index token x e = grind (arith, is_some, unlisted, name_free, list_any, bytes_eq)
 
 name_no_choice : (token : Token) (x : List ℕ) → name_of token ≡ Some x → means choice_of token ≡ false
-name_no_choice (Word word) x e = ap is_some (unlisted choice_word (Min ∷ Max ∷ []) word (refl, (refl, tt)) (name_free word x (list_any (bytes_eq word) reserved) refl e))
-name_no_choice other x e = refl
+name_no_choice token x e = grind (arith, is_some, unlisted, name_free, list_any, bytes_eq)
 
 index_no_number : (token : Token) (d : ℕ) → index_of token ≡ Some d → means token_number token ≡ false
-index_no_number (Word word) d e = refl
-index_no_number other d e = absurd cc
+index_no_number token d e = grind arith
 
 number_no_choice : (token : Token) (n : _) → token_number token ≡ Some n → means choice_of token ≡ false
-number_no_choice (Number value) n e = refl
-number_no_choice other n e = absurd cc
+number_no_choice token n e = grind arith
 
 two_words : (word : List ℕ) (d : ℕ) → listed index_word dimensions word ≡ Some d → listed choice_word (Min ∷ Max ∷ []) word ≡ None
-two_words word d e = elim (cases_Bool (bytes_eq word (codes "min"))) [
-  | inl least ↦ absurd (let same = (bytes_eq-Decides word (codes "min")).0 least in let bad = sym e ∙ ap (listed index_word dimensions) same in cc)
-  | inr falls ↦ elim (cases_Bool (bytes_eq word (codes "max"))) [
-    | inl most ↦ absurd (let same = (bytes_eq-Decides word (codes "max")).0 most in let bad = sym e ∙ ap (listed index_word dimensions) same in cc)
-    | inr fails ↦ ap (λ b. if b then Some Min else listed choice_word (Max ∷ []) word) falls ∙ ap (λ (b : Bool). let k : Option BinOp = if b then Some Max else None in k) fails
-  ]
-]
+two_words word d e = grind (arith, cases_Bool, bytes_eq, bytes_eq-Decides)
 
 index_no_choice : (token : Token) (d : ℕ) → index_of token ≡ Some d → means choice_of token ≡ false
-index_no_choice (Word word) d e = ap is_some (two_words word d e)
-index_no_choice other d e = absurd cc
+index_no_choice token d e = grind (arith, is_some, two_words)
 
 pub no_part : (t : Token) → level_of t < 6 → first is_same part t ≡ false
-no_part t less = elim (cases_Bool (first is_same part t)) [
-  | inl h ↦ absurd (let same = part_level t h in omega (arith, same, less))
-  | inr h ↦ h
-]
+no_part t less = grind (arith, cases_Bool, part_level)
 
 -- what holds of the tokens of the leaves holds of what begins a leaf
 leaf_firsts : (P : Token → Type 0) → ((t : Token) (n : ℤ) → token_number t ≡ Some n → P t) → ((t : Token) (d : ℕ) → index_of t ≡ Some d → P t)

@@ -1,16 +1,12 @@
 -- Lists behind commas and in brackets are read by first tokens, and how their reading goes on.
-use Rattle.std.proofs.Common.{◌≡◌, ℕ, true, false, List, [], ◌∷◌, ◌++◌, map, Ok, Err, sym, ap, ◌∙◌, refl}
-use Rattle.std.proofs.lemmas.List.{map-append}
-use Rattle.line_grammar.specs.Grammar.{Grammar}
-use Rattle.line_grammar.specs.Reading.{starts, past, item_at}
-use Rattle.line_grammar.specs.FineLaws.{Fine, Quiet}
-use Rattle.line_grammar.specs.LoopLaws.{behind_list_bare, behind_list_end, behind_list_stepped, behind_list_stop}
+use Rattle.std.specs.Prelude.{◌≡◌, ℕ, true, false, List, [], ◌∷◌, ◌++◌, map, Ok, Err, refl}
+use Rattle.record_dim.specs.Std.{map-append}
+use Rattle.line_grammar.specs.Prelude.{Grammar, starts, past, item_at, Fine, Quiet, behind_list_bare, behind_list_end, behind_list_stepped, behind_list_stop, is_same, is_sign, count_of, read, count, later, listed, bracket_list, cuts, fixed, extent_word}
 use Rattle.line_tokens.specs.declared.sign.Sign.TheVariants.{CloseBracket, Comma, Question}
 use Rattle.line_grammar.specs.declared.token.Token.{Token}
 use Rattle.line_grammar.specs.declared.token.Token.TheVariants.{Sign as Signed}
-use Rattle.line_grammar.specs.Tokens.{is_same, is_sign, count_of}
-use Rattle.line_grammar.specs.Language.{read, count, later, listed, bracket_list, cuts, fixed, extent_word}
 use Rattle.line_phrases.specs.BasicsLaws.{apart, count_fine, exact_sign}
+use Rattle.record_dim.specs.Std.{arith}
 
 -- a list of phrases that do not go on with a comma
 pub listed_fine : {A : Type 0} (one : Grammar Token A) → Fine is_same one → Quiet is_same one (Signed Comma) → Fine is_same (listed one)
@@ -92,7 +88,6 @@ pub ruleset count_steps = (count_stepped, count_stop, comma_bare, comma_end)
 -- the same where the list is that of the values of what was found
 pub viewed_stepped : {A B : Type 0} (view : B → A) (one : Grammar Token A) (found : List B) (tokens us : List Token) (next : B) (rest : List Token) → starts (is_sign Comma) tokens ≡ true
     → past (is_sign Comma) tokens ≡ Ok us → read one us ≡ Ok (view next, rest) → read (later one (map view found)) tokens ≡ read (later one (map view (found ++ next ∷ []))) rest
-viewed_stepped view one found tokens us next rest passes is then =
-    comma_stepped one (map view found) tokens us (view next) rest passes is then ∙ ap (λ k. read (later one k) rest) (sym (map-append view found (next ∷ [])))
+viewed_stepped view one found tokens us next rest passes is then = grind (arith, comma_stepped, map-append)
 
 pub ruleset viewed_steps = (viewed_stepped, comma_stop, comma_bare, comma_end)

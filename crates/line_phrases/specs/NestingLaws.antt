@@ -1,12 +1,10 @@
 -- Expressions with deeper brackets.
-use Rattle.std.proofs.Common.{ℕ, zero, suc, ◌≤◌, inr, Option, refl, arith}
-use Rattle.line_grammar.specs.Grammar.{Grammar}
-use Rattle.line_grammar.specs.UnderLaws.{Under, equal, empty, behind, joined, either, repeats, fewer}
+use Rattle.std.specs.Prelude.{ℕ, zero, suc, ◌≤◌, Option, refl}
+use Rattle.record_dim.specs.Std.{inr, arith}
+use Rattle.line_grammar.specs.Prelude.{Grammar, Under, equal, empty, behind, either, repeats, fewer, is_same, Value, atom_within, bracketed, chain, choice, comparison, conjunction, expr_over, leaf, links, negation, prefixed, product, sum, unary}
+use Rattle.line_grammar.specs.UnderLaws.{joined}
 use Rattle.expr_lang.specs.declared.expr.BinOp.{BinOp}
 use Rattle.line_grammar.specs.declared.token.Token.{Token}
-use Rattle.line_grammar.specs.Tokens.{is_same}
-use Rattle.line_grammar.specs.Sentences.{Value}
-use Rattle.line_grammar.specs.Language.{atom_within, bracketed, chain, choice, comparison, conjunction, expr_over, leaf, links, negation, prefixed, product, sum, unary}
 
 abbrev Deeper : ℕ → Grammar Token Value → Grammar Token Value → Type 1
 Deeper n one more = Under is_same Value n one more

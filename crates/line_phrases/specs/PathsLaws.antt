@@ -1,16 +1,11 @@
 -- A path is read by first tokens, and how its reading goes on.
-use Rattle.std.proofs.lemmas.Bool.{or_cases}
-use Rattle.std.proofs.Common.{◌≡◌, ℕ, true, false, inl, inr, List, [], ◌∷◌, ◌++◌, Ok, Err, refl, sym, ap}
-use Rattle.line_grammar.specs.Reading.{first, starts}
-use Rattle.line_grammar.specs.FineLaws.{Fine, Quiet, may_be_empty}
-use Rattle.line_grammar.specs.LoopLaws.{list_end, list_stepped, list_stop}
-use Rattle.line_tokens.specs.declared.sign.Sign.TheVariants.{OpenBracket, Dot}
+use Rattle.record_dim.specs.Std.{or_cases}
+use Rattle.std.specs.Prelude.{◌≡◌, ℕ, true, false, List, [], ◌∷◌, ◌++◌, Ok, Err, refl}
+use Rattle.line_grammar.specs.Prelude.{first, starts, Fine, Quiet, may_be_empty, list_end, list_stepped, list_stop, is_same, read, part, parts, path, sign_only}
 use Rattle.record_dim.specs.declared.path.PathStep.{PathStep}
 use Rattle.line_grammar.specs.declared.token.Token.{Token}
-use Rattle.line_grammar.specs.Tokens.{is_same, is_sign}
-use Rattle.line_grammar.specs.Language.{read, part, parts, path}
-use Rattle.line_grammar.specs.SignsLaws.{sign_only}
 use Rattle.line_phrases.specs.BasicsLaws.{count_fine, exact_sign, level_of, name_fine}
+use Rattle.record_dim.specs.Std.{arith}
 
 part_fine : Fine is_same part
 unfolding part
@@ -23,10 +18,7 @@ part_quiet t = search
 
 pub part_level : (t : Token) → first is_same part t ≡ true → 6 ≡ level_of t
 unfolding part
-part_level t h = elim (or_cases (is_sign Dot t) (is_sign OpenBracket t) h) [
-  | inl dot ↦ sym (ap level_of (sign_only Dot t dot))
-  | inr bracket ↦ sym (ap level_of (sign_only OpenBracket t bracket))
-]
+part_level t h = grind (arith, or_cases, sign_only)
 
 pub path_fine : Fine is_same path
 unfolding path parts part

@@ -1,7 +1,5 @@
 ghost use Rattle.std.specs.Prelude.{◌≡◌, ◌<◌, length, IfOk, OnOk, IfErr};
-ghost use Rattle.line_grammar.specs.Reading.{first, starts};
-ghost use Rattle.line_grammar.specs.Language.{read, part, path};
-ghost use Rattle.line_grammar.specs.Tokens.{is_same};
+ghost use Rattle.line_grammar.specs.Prelude.{first, starts, read, part, path, is_same};
 ghost use Rattle.line_phrases.specs.Inner.Gives.{Gives, IsSyntax};
 
 use crate::{ReadError, Tokens};

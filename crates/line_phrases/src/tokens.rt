@@ -1,6 +1,5 @@
 ghost use Rattle.std.specs.Prelude.{◌≡◌, ◌<◌, ◌≤ℤ◌, length, pos, IfOk, IfErr, OnOk};
-ghost use Rattle.line_grammar.specs.Reading.{past, starts, item_at};
-ghost use Rattle.line_grammar.specs.Tokens.{is_sign, is_word, token_number};
+ghost use Rattle.line_grammar.specs.Prelude.{past, starts, item_at, is_sign, is_word, token_number};
 ghost use Rattle.line_phrases.specs.Inner.Exprs.{means};
 ghost use Rattle.line_phrases.specs.Inner.Gives.{Gives, IsSyntax};
 

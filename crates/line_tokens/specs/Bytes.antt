@@ -1,8 +1,6 @@
 -- The classes of bytes that tokens are made of.
 use Rattle.std.specs.Prelude.{ℕ, Bool, ◌==◌, ◌&&◌, ◌||◌, not}
-use Rattle.std.specs.Char.{is_ascii_digit, is_ascii_alphabetic}
-use Rattle.std.specs.Int.{is_in_range}
-use Rattle.std.specs.Str.{byte}
+use Rattle.record_dim.specs.Std.{is_ascii_digit, is_ascii_alphabetic, is_in_range, byte}
 
 -- a space or a tab
 abbrev pub is_space_byte : ℕ → Bool

@@ -1,9 +1,6 @@
 -- Tokens as a writer puts them end no line.
-use Rattle.std.proofs.Common.{◌≡◌, ℕ, suc, true, false, Bool, List, [], ◌∷◌, ◌++◌, refl, sym, subst, ap, ◌∙◌, arith}
-use Rattle.std.specs.List.{AllPass}
-use Rattle.std.specs.Char.{is_ascii_digit}
-use Rattle.std.specs.Str.{byte}
-use Rattle.std.proofs.lemmas.Bool.{true≢false}
+use Rattle.std.specs.Prelude.{◌≡◌, ℕ, suc, true, false, Bool, List, [], ◌∷◌, ◌++◌, refl}
+use Rattle.record_dim.specs.Std.{sym, subst, ap, ◌∙◌, arith, AllPass, is_ascii_digit, byte, true≢false}
 use Rattle.line_tokens.specs.Bytes.{is_word_byte, is_text_byte}
 use Rattle.line_tokens.specs.Signs.{spelling}
 use Rattle.line_tokens.specs.Spots.{brackets_after}

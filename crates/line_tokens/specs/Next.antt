@@ -1,10 +1,7 @@
 -- The next token as a function of the bytes, by its first byte. None of an Option is a bad token.
 use Rattle.std.specs.Prelude.{ℕ, ◌+◌, ◌^◌, ◌==◌, ◌&&◌, ◌||◌, if◌then◌else◌, nat_eq, nat_le, nat_lt, length, List, take, drop, Option, Some, None, slice_index, ℤ, pos}
-use Rattle.std.specs.Char.{is_ascii_digit}
-use Rattle.std.specs.List.{prefix_len}
-use Rattle.std.specs.Option.{option_or, option_map}
-use Rattle.std.specs.Str.{byte}
-use Rattle.std.specs.Str.Parse.{digits_value}
+use Rattle.record_dim.specs.Std.{is_ascii_digit, prefix_len, option_or, byte, digits_value}
+use Rattle.std.specs.Option.{option_map}
 use Rattle.line_tokens.specs.Bytes.{is_letter, is_word_byte, is_hash, is_quote, is_text_byte}
 use Rattle.line_tokens.specs.Signs.{opens}
 use Rattle.line_tokens.specs.Tokens.{start_of, rest_of}

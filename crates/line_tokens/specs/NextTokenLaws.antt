@@ -1,10 +1,6 @@
 -- `next_of` gives exactly what the relations say stands next.
-use Rattle.std.proofs.Common.{◌≡◌, ℕ, ◌+◌, ◌-◌, ◌≤◌, Bool, true, List, [], ◌∷◌, length, drop, Option, Some, None, ◌↔◌, inl, inr, refl, ℤ, pos, slice_range, ⊎_elim, length-append, length-drop, arith}
-use Rattle.std.specs.Char.{is_ascii_digit}
-use Rattle.std.specs.List.{prefix_len}
-use Rattle.std.specs.Str.Parse.{digits_value}
-use Rattle.std.proofs.lemmas.Bool.{cases_Bool}
-use Rattle.std.proofs.lemmas.List.Sums.{prefix_len-le-length}
+use Rattle.std.specs.Prelude.{◌≡◌, ℕ, ◌+◌, ◌-◌, ◌≤◌, Bool, true, List, [], ◌∷◌, length, drop, Option, Some, None, ◌↔◌, refl, ℤ, pos, slice_range}
+use Rattle.record_dim.specs.Std.{inl, inr, ⊎_elim, length-append, length-drop, arith, is_ascii_digit, prefix_len, digits_value, cases_Bool, prefix_len-le-length}
 use Rattle.line_tokens.specs.Bytes.{is_space_byte, is_hash}
 use Rattle.line_tokens.specs.Signs.{spelling}
 use Rattle.line_tokens.specs.Tokens.{start_of, rest_of, StartsWith, IsEnd, IsToken, IsBad, IsBadFrom, IsTokenFrom, IsInside}

@@ -1,6 +1,6 @@
 -- What spells a sign, and the longest sign at the front of a text.
-use Rattle.std.proofs.Common.{◌≡◌, ℕ, ◌≤◌, true, false, List, [], ◌∷◌, ◌++◌, length, Option, Some, None, ◌⊎◌, inl, inr, refl, sym, ◌∙◌, ap, subst, if◌then◌else◌, nat_eq, ◌&&◌, arith}
-use Rattle.std.proofs.lemmas.Bool.{both_ways, cond_both, lt-ltb, eqb-true, and_parts}
+use Rattle.std.specs.Prelude.{◌≡◌, ℕ, ◌≤◌, true, false, List, [], ◌∷◌, ◌++◌, length, Option, Some, None, ◌⊎◌, refl, if◌then◌else◌, nat_eq, ◌&&◌}
+use Rattle.record_dim.specs.Std.{inl, inr, sym, ◌∙◌, ap, subst, arith, both_ways, cond_both, lt-ltb, eqb-true, and_parts}
 use Rattle.std.specs.Option.{option_map}
 use Rattle.line_tokens.specs.Bytes.{is_space_byte, is_other}
 use Rattle.line_tokens.specs.Signs.{spelling}

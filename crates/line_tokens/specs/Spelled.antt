@@ -1,9 +1,6 @@
 -- Tokens as a writer puts them: their bytes, with one space between each two.
 use Rattle.std.specs.Prelude.{ℕ, ◌≡◌, ◌+◌, ◌^◌, ◌<◌, ◌≤◌, IsTrue, ⊤, List, [], ◌∷◌, ◌++◌, length, map, slice_range, Some, pos}
-use Rattle.std.specs.Char.{is_ascii_digit}
-use Rattle.std.specs.List.{AllPass}
-use Rattle.std.specs.Str.{byte}
-use Rattle.std.specs.Str.Parse.{digits_value}
+use Rattle.record_dim.specs.Std.{is_ascii_digit, AllPass, byte, digits_value}
 use Rattle.line_tokens.specs.Bytes.{is_letter, is_word_byte, is_text_byte}
 use Rattle.line_tokens.specs.Signs.{spelling, opens}
 use Rattle.line_tokens.specs.Spots.{brackets_after, Spots}

@@ -1,11 +1,6 @@
 -- What is spelled is read back: a token that stands at the end or before a blank, and a whole line of tokens.
-use Rattle.std.proofs.Common.{◌≡◌, ℕ, zero, suc, ◌+◌, ◌-◌, Bool, true, false, List, [], ◌∷◌, ◌++◌, length, map, take, drop, slice_range, Some, ◌≤◌, ◌⊎◌, inl, inr, refl, sym, ◌∙◌, ap, append_assoc, append-nil, add-zero, zero-add, length-append, arith}
-use Rattle.std.specs.Char.{is_ascii_digit}
-use Rattle.std.specs.List.{prefix_len, AllPass}
-use Rattle.std.proofs.lemmas.Bool.{both_ways, cases_Bool}
-use Rattle.std.proofs.lemmas.Bool.Decides.{nat_tests}
-use Rattle.std.proofs.lemmas.List.{drop_at, take_at}
-use Rattle.std.proofs.lemmas.List.Folds.{length-prefix_len}
+use Rattle.std.specs.Prelude.{◌≡◌, ℕ, zero, suc, ◌+◌, ◌-◌, Bool, true, false, List, [], ◌∷◌, ◌++◌, length, map, take, drop, slice_range, Some, ◌≤◌, ◌⊎◌, refl}
+use Rattle.record_dim.specs.Std.{inl, inr, sym, ◌∙◌, ap, append_assoc, append-nil, add-zero, zero-add, length-append, arith, is_ascii_digit, prefix_len, AllPass, both_ways, cases_Bool, nat_tests, drop_at, take_at, length-prefix_len}
 use Rattle.line_tokens.specs.Bytes.{is_space_byte, is_letter, is_word_byte}
 use Rattle.line_tokens.specs.Tokens.{Begins, start_of, IsToken}
 use Rattle.line_tokens.specs.Next.{next_of}

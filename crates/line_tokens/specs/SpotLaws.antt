@@ -1,7 +1,6 @@
 -- A text has exactly one list of tokens, and each lies within the text.
-use Rattle.std.proofs.Common.{◌≡◌, ℕ, ◌≤◌, List, [], ◌∷◌, ◌++◌, length, All, drop, Option, Some, None, refl, append_assoc, arith}
-use Rattle.std.proofs.lemmas.Bool.{cond_both}
-use Rattle.std.proofs.lemmas.List.Elements.{All-cons}
+use Rattle.std.specs.Prelude.{◌≡◌, ℕ, ◌≤◌, List, [], ◌∷◌, ◌++◌, length, All, drop, Option, Some, None, refl}
+use Rattle.record_dim.specs.Std.{append_assoc, arith, cond_both, All-cons}
 use Rattle.line_tokens.specs.Tokens.{IsToken}
 use Rattle.line_tokens.specs.Next.{next_of}
 use Rattle.line_tokens.specs.Spelled.{MayOpen}

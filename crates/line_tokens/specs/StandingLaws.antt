@@ -1,11 +1,7 @@
 -- What stands at the front of a text, as a relation, is what the function `standing` gives, and nothing else is.
-use Rattle.std.proofs.Common.{◌≡◌, ℕ, ◌^◌, ◌<◌, ◌≤◌, true, false, ◌&&◌, List, ◌∷◌, length, take, Option, Some, None, IsTrue, inl, inr, refl, sym, ◌∙◌, nat_eq, nat_le, nat_lt, ℤ, ⊎_elim, arith}
-use Rattle.std.specs.Char.{is_ascii_digit}
-use Rattle.std.specs.List.{prefix_len}
+use Rattle.std.specs.Prelude.{◌≡◌, ℕ, ◌^◌, ◌<◌, ◌≤◌, true, false, ◌&&◌, List, ◌∷◌, length, take, Option, Some, None, IsTrue, refl, nat_eq, nat_le, nat_lt, ℤ}
+use Rattle.record_dim.specs.Std.{inl, inr, sym, ◌∙◌, ⊎_elim, arith, is_ascii_digit, prefix_len, digits_value, cond_both, true≢false, and_parts, and_cases, cases_Bool, lt-ltb, le-ltb, le-leb, lt-leb, leb-true, leb-false, ltb-true, ltb-false, ne_eqb, or_parts, not-true, nat_tests}
 use Rattle.std.specs.Option.{option_map}
-use Rattle.std.specs.Str.Parse.{digits_value}
-use Rattle.std.proofs.lemmas.Bool.{cond_both, true≢false, and_parts, and_cases, cases_Bool, lt-ltb, le-ltb, le-leb, lt-leb, leb-true, leb-false, ltb-true, ltb-false, ne_eqb, or_parts, not-true}
-use Rattle.std.proofs.lemmas.Bool.Decides.{nat_tests}
 use Rattle.line_tokens.specs.Bytes.{is_letter, is_word_byte, is_hash, is_quote, is_other}
 use Rattle.line_tokens.specs.Signs.{spelling, opens}
 use Rattle.line_tokens.specs.Tokens.{StartsWith, IsWord, IsDigits, IsString, IsToken, IsBad, IsLongWord, IsGreatNumber, IsLoneQuote}

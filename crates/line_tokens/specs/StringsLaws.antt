@@ -1,8 +1,6 @@
 -- A string at the front of a text.
-use Rattle.std.proofs.Common.{◌≡◌, ℕ, suc, ◌+◌, ◌≤◌, Bool, true, false, ◌&&◌, List, [], ◌∷◌, ◌++◌, length, take, drop, get_or, Some, None, ◌⊎◌, inl, inr, refl, sym, ◌∙◌, ap, nat_le, nat_eq, append_assoc, add-one, arith}
-use Rattle.std.specs.List.{prefix_len, AllPass}
-use Rattle.std.proofs.lemmas.Bool.{cond_both, cases_lt, le-leb, leb-true, eqb-true, and_parts}
-use Rattle.std.proofs.lemmas.List.{get_or_at, get_or_past, length-take-le, take-append-drop, drop_more}
+use Rattle.std.specs.Prelude.{◌≡◌, ℕ, suc, ◌+◌, ◌≤◌, Bool, true, false, ◌&&◌, List, [], ◌∷◌, ◌++◌, length, take, drop, get_or, Some, None, ◌⊎◌, refl, nat_le, nat_eq}
+use Rattle.record_dim.specs.Std.{inl, inr, sym, ◌∙◌, ap, append_assoc, add-one, arith, prefix_len, AllPass, cond_both, cases_lt, le-leb, leb-true, eqb-true, and_parts, get_or_at, get_or_past, length-take-le, take-append-drop, drop_more}
 use Rattle.line_tokens.specs.Bytes.{is_quote, is_text_byte}
 use Rattle.line_tokens.specs.Tokens.{IsString}
 use Rattle.line_tokens.specs.Next.{string_at}

@@ -1,10 +1,7 @@
 -- What stands at the front of a text that begins with no space and no tab: the end of the line, a token or a bad token.
 -- A token is the longest that fits: `prefix_len p rest` is how many bytes at the front of `rest` pass `p`.
 use Rattle.std.specs.Prelude.{ℕ, ◌≡◌, ◌+◌, ◌^◌, ◌<◌, ◌≤◌, Bool, IsTrue, ◌⊎◌, ⊤, List, [], ◌∷◌, ◌++◌, length, take, drop, ℤ, pos}
-use Rattle.std.specs.Char.{is_ascii_digit}
-use Rattle.std.specs.List.{prefix_len, AllPass}
-use Rattle.std.specs.Str.{byte}
-use Rattle.std.specs.Str.Parse.{digits_value}
+use Rattle.record_dim.specs.Std.{is_ascii_digit, prefix_len, AllPass, byte, digits_value}
 use Rattle.line_tokens.specs.Bytes.{is_space_byte, is_letter, is_word_byte, is_hash, is_quote, is_text_byte, is_other}
 use Rattle.line_tokens.specs.Signs.{spelling, opens}
 use Rattle.line_tokens.specs.declared.sign.Sign.{Sign}

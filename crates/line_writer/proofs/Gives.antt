@@ -1,6 +1,5 @@
 -- What holds of phrases whose tokens are spelled.
-use Rattle.line_writer.proofs.Imports.{◌≡◌, ℕ, suc, List, [], ◌∷◌, ◌++◌, zero, inl, inr, Option, Some, None, true, false, Bool, Spells, Token, Bad, Chain, Grammar, Is, item, behind, joined, either, which, nothing, repeats, deep, Splits, Told, InParts, told, in_parts, written}
-use Rattle.std.proofs.Common.{arith}
+use Rattle.line_writer.proofs.Imports.{◌≡◌, ℕ, suc, List, [], ◌∷◌, ◌++◌, zero, inl, inr, Option, Some, None, true, false, Bool, Spells, Token, Bad, Chain, Grammar, Is, item, behind, joined, either, which, nothing, repeats, deep, Splits, Told, InParts, told, in_parts, written, arith}
 
 -- the canonical bytes of a token spell it
 abbrev pub IsSpelled : Token → Type 0

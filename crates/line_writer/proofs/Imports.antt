@@ -1,42 +1,27 @@
 -- What the proofs of this crate speak of.
-pub use Rattle.std.proofs.Common.{◌≡◌, ℕ, suc, ◌+◌, ◌<◌, ◌≤◌, ◌-◌, List, [], ◌∷◌, ◌++◌, map, length, get_or, take, drop, codes, refl, sym, ap, ◌∙◌, add-one, drop-cons, append-nil, append_assoc, arith, zero, inl, inr, Option, Some, None, subst, max, ℤ, pos, negsuc, neg_ℤ, true, false, ◌⊎◌, ◌^◌, slice_range, Bool, not, ◌&&◌, if◌then◌else◌, bytes_eq, nat_lt, ◌*◌}
-pub use Rattle.std.specs.List.{flat_map, list_all, AllPass, list_any}
-pub use Rattle.std.proofs.Math.Seq.{take-length}
-pub use Rattle.std.specs.Fmt.{decimal}
-pub use Rattle.std.proofs.lemmas.Fmt.{decimal_digit, decimal_is_IsNumeral_wide}
-pub use Rattle.std.proofs.lemmas.Grind.{flat_map-append}
-pub use Rattle.std.proofs.lemmas.Bool.Decides.{nat_tests}
-pub use Rattle.std.proofs.lemmas.Str.Parse.{digit_from_value}
-pub use Rattle.std.proofs.lemmas.List.{append_cancel_right, drop-drop, length-append, take_at, map-append}
-pub use Rattle.std.proofs.lemmas.List.Sums.{AllPass-from_list_all}
-pub use Rattle.std.specs.Char.{is_ascii_digit}
-pub use Rattle.std.specs.Str.Parse.{AllDigits}
-pub use Rattle.std.proofs.Math.Nat.{le-max_left, le-max_right}
-pub use Rattle.std.proofs.lemmas.Slice.Eq.{bytes_eq-Decides}
-pub use Rattle.std.proofs.lemmas.Simd.{map-map}
+pub use Rattle.record_dim.specs.Std.{◌≡◌, ℕ, suc, ◌+◌, ◌<◌, ◌≤◌, ◌-◌, List, [], ◌∷◌, ◌++◌, map, length, get_or, take, drop, codes, refl, sym, ap, ◌∙◌, add-one, drop-cons, append-nil, append_assoc, arith, zero, inl, inr, Option, Some, None, subst, max, ℤ, pos, negsuc, neg_ℤ, true, false, ◌⊎◌, ◌^◌, slice_range, Bool, not, ◌&&◌, if◌then◌else◌, bytes_eq, nat_lt, ◌*◌, flat_map, list_all, AllPass, list_any, take-length, decimal, decimal_digit, decimal_is_IsNumeral_wide, flat_map-append, nat_tests, digit_from_value, append_cancel_right, drop-drop, length-append, take_at, map-append, AllPass-from_list_all, is_ascii_digit, AllDigits, le-max_left, le-max_right, bytes_eq-Decides, map-map, common_steps}
 pub use Rattle.line_tokens.specs.Spelled.{spaced, spaced_tokens, Spells, MayOpen, AreSpelled, Written}
 pub use Rattle.line_tokens.specs.declared.sign.Sign.TheVariants.{OpenBrace, CloseBrace, Comma, CloseBracket, OpenParen, CloseParen, Dot, Equals, Minus, OpenBracket, Arrow, Star}
-pub use Rattle.record_dim.specs.Trees.{Tree, Fields, Field, Record, Single, tree_of, fields_of}
+pub use Rattle.record_dim.specs.Prelude.{Tree, Fields, Field, Record, Single, tree_of, fields_of, both}
 pub use Rattle.map_expr.specs.declared.widths.FieldWidth.{FieldWidth}
 pub use Rattle.line_grammar.specs.declared.token.Token.{Token}
 pub use Rattle.line_grammar.specs.declared.token.Token.TheVariants.{Word, Sign, Number, Text, Bad}
-pub use Rattle.line_grammar.specs.Sentences.{Sentence, Assignment, Value, Assign, Update, Actors, Kernel, Count, filter_depth, deepest_set, deepest, Show, Stencil, assignment_of}
-pub use Rattle.line_grammar.specs.Phrases.{Joined, IsNothing, Chain}
-pub use Rattle.line_grammar.specs.Grammar.{Grammar, Is, item, behind, joined, either, which, nothing, repeats, deep, more}
-pub use Rattle.line_grammar.specs.LeavesLaws.{Splits, Told, Written as InParts, told, written as in_parts}
+pub use Rattle.line_grammar.specs.Prelude.{Sentence, Assignment, Value, Assign, Update, Actors, Kernel, Count, filter_depth, deepest_set, deepest, Show, Stencil, assignment_of, Joined, IsNothing, Chain, Grammar, Is, item, joined, which, nothing, deep, more, Splits, Told, told, token_number, kernel_word_of, comparison_of, command_of, dimensions, index_of, choice_of, or_of, and_of, sum_of, product_of, map_word, token_order, kind_token, meaning, name_of, count_of, string_of, type_of, integer_type_of, integer_types, leaf_types, orders, aos_forms, aos_form_of, soa_forms, soa_form_of, map_words, reduction_of, reductions, commands, wrapped, arrays, fields_of_list, name, count, number, string, link, operator, kernel_word, index_word, reduction_word, command_word, type_word, order_word, aos_word, soa_word, form_word, tokens_of, Reads}
+pub use Rattle.line_grammar.specs.Grammar.{behind, either, repeats}
+pub use Rattle.line_grammar.specs.LeavesLaws.{Written as InParts, written as in_parts}
 pub use Rattle.record_dim.specs.declared.path.PathStep.{PathStep}
 pub use Rattle.expr_lang.specs.declared.expr.BinOp.{BinOp}
 pub use Rattle.expr_lang.specs.declared.expr.BinOp.TheVariants.{Eq, Ne, Lt, Le, Gt, Ge, Add, Sub, Mul, Div, Rem, Min, Max, And, Or}
-pub use Rattle.expr_lang.specs.Terms.{depth_of, Number as Constant, Entry, Index, Neg, Not, Binary}
+pub use Rattle.expr_lang.specs.Prelude.{depth_of, Entry, Index, Neg, Not, Binary}
+pub use Rattle.expr_lang.specs.Terms.{Number as Constant}
 pub use Rattle.line_grammar.specs.declared.version.Version.{Version}
 pub use Rattle.line_grammar.specs.declared.version.Version.TheVariants.{One, Two}
 pub use Rattle.line_grammar.specs.declared.line.Command.{Command}
 pub use Rattle.line_grammar.specs.declared.line.KernelText.{KernelText}
 pub use Rattle.line_grammar.specs.declared.line.KernelWord.{KernelWord}
-pub use Rattle.line_grammar.specs.Tokens.{token_number, kernel_word_of, comparison_of, command_of, dimensions, index_of, choice_of, or_of, and_of, sum_of, product_of, map_word, token_order, kind_token, listed, meaning, name_of, count_of, string_of, type_of, integer_type_of, integer_types, leaf_types, orders, aos_forms, aos_form_of, soa_forms, soa_form_of, map_words, reduction_of, reductions, commands}
-pub use Rattle.line_grammar.specs.Language.{wrapped, arrays, fields_of_list, name, count, number, string, link}
-unfoldable pub use Rattle.line_grammar.specs.Language.{actors, assignment, atom_within, body, bracket_list as bracketed_list, braced, braced_widths, bracketed, chain, choice, command_line, comparison, conjunction, constant, cuts as cuts_phrase, dim, dims, expr, expr_over, extent_word, field_width, field_widths, field_within, fields, filter as filter_phrase, fixed, flag, form_or_name, inside_aos, inside_aosoa, inside_bits, inside_form, inside_kernel, inside_soa, kernel_text, later, later_passes, leaf, line, links, listed as comma_list, mapping, mapping_within, negation, nested, new, part, parts, pass, passes, path, prefixed, product, show_end, signs, span, sum, term as term_phrase, terms as terms_phrase, typed, unary, update_end, window as window_phrase}
-pub use Rattle.line_grammar.specs.Words.{operator, kernel_word, index_word, reduction_word, command_word, type_word, order_word, aos_word, soa_word, form_word}
+pub use Rattle.line_grammar.specs.Tokens.{listed}
+unfoldable pub use Rattle.line_grammar.specs.Prelude.{actors, assignment, atom_within, body, braced, braced_widths, bracketed, chain, choice, command_line, comparison, conjunction, constant, dim, dims, expr, expr_over, extent_word, field_width, field_widths, field_within, fields, fixed, flag, form_or_name, inside_aos, inside_aosoa, inside_bits, inside_form, inside_kernel, inside_soa, kernel_text, later, later_passes, leaf, line, links, mapping, mapping_within, negation, nested, new, part, parts, pass, passes, path, prefixed, product, show_end, signs, span, sum, typed, unary, update_end}
+unfoldable pub use Rattle.line_grammar.specs.Language.{bracket_list as bracketed_list, cuts as cuts_phrase, filter as filter_phrase, listed as comma_list, term as term_phrase, terms as terms_phrase, window as window_phrase}
 pub use Rattle.extents.specs.declared.words.ExtentWord.{ExtentWord}
 pub use Rattle.line_grammar.specs.declared.line.ShowKind.{ShowKind}
 pub use Rattle.map_expr.specs.Terms.{Term as MapTerm, term_of}
@@ -53,8 +38,6 @@ pub use Rattle.line_tokens.specs.declared.token.TokenKind.{TokenKind}
 pub use Rattle.line_tokens.specs.NextTokenLaws.{token_exactly}
 pub use Rattle.line_tokens.specs.SpelledLaws.{next_spells, joined_read}
 pub use Rattle.line_tokens.specs.SpotLaws.{spot_at}
-pub use Rattle.record_dim.specs.NameBytesLaws.{both}
-pub use Rattle.line_grammar.specs.Reads.{tokens_of, Reads}
 pub use Rattle.line_tokens.specs.Signs.{opens, closes}
 pub use Rattle.line_tokens.specs.declared.sign.Sign.{Sign as SignName}
 pub use Rattle.extents.specs.declared.window.Span.{Span}

@@ -83,9 +83,7 @@ show_done : (version : Version) (kind : ShowKind) (xs : List Token) (v : Sentenc
 unfolding body show_end
 show_done One kind = by_parts (joined name (λ view. nothing (Show kind view))) (IsBehind One (command.Show kind)) (_, name_prints, λ view. inl refl)
 show_done Two show.Print = by_parts (body Two (command.Show show.Print)) (IsBehind Two (command.Show show.Print)) (_, name_prints, λ view. (((_, window_prints, λ window. inl (rw append-nil refl)), inl refl), inl refl))
-show_done Two show.Counts = by_parts (joined name (λ view. nothing (Show show.Counts view))) (IsBehind Two (command.Show show.Counts)) (_, name_prints, λ view. inl refl)
-show_done Two show.Heat = by_parts (joined name (λ view. nothing (Show show.Heat view))) (IsBehind Two (command.Show show.Heat)) (_, name_prints, λ view. inl refl)
-show_done Two show.Layout = by_parts (joined name (λ view. nothing (Show show.Layout view))) (IsBehind Two (command.Show show.Layout)) (_, name_prints, λ view. inl refl)
+show_done Two kind = by_parts (joined name (λ view. nothing (Show kind view))) (IsBehind Two (command.Show kind)) (_, name_prints, λ view. inl refl)
 
 by_its_parts : (version : Version) (c : Command) → InParts (Each IsSpelled) (body version c) (IsBehind version c) → (xs : List Token) (v : Sentence) → Is (body version c) xs v → Each IsSpelled xs → IsBehind version c xs v
 by_its_parts version c = by_parts (body version c) (IsBehind version c)

@@ -1,7 +1,6 @@
 -- The one token that each word, name, number and string of a phrase has.
-use Rattle.line_writer.proofs.Imports.{◌≡◌, ℕ, List, [], ◌∷◌, map, refl, sym, ap, ◌∙◌, Option, Some, None, true, Bool, if◌then◌else◌, bytes_eq, nat_lt, list_any, bytes_eq-Decides, Token, Word, Text, item, Version, command_of, map_word, token_order, listed, meaning, name_of, count_of, string_of, type_of, integer_type_of, integer_types, leaf_types, orders, aos_forms, aos_form_of, soa_forms, soa_form_of, map_words, reduction_of, reductions, commands, name, count, string, reduction_word, command_word, type_word, order_word, aos_word, soa_word, form_word, MapWord, count_token}
+use Rattle.line_writer.proofs.Imports.{◌≡◌, ℕ, List, [], ◌∷◌, map, refl, sym, ap, ◌∙◌, Option, Some, None, true, Bool, if◌then◌else◌, bytes_eq, nat_lt, list_any, bytes_eq-Decides, Token, Word, Text, item, Version, command_of, map_word, token_order, listed, meaning, name_of, count_of, string_of, type_of, integer_type_of, integer_types, leaf_types, orders, aos_forms, aos_form_of, soa_forms, soa_form_of, map_words, reduction_of, reductions, commands, name, count, string, reduction_word, command_word, type_word, order_word, aos_word, soa_word, form_word, MapWord, count_token, arith}
 use Rattle.line_writer.proofs.Gives.{Prints}
-use Rattle.std.proofs.Common.{arith}
 
 listed_step : {A : Type 0} (word_of own : A → List ℕ) (word : List ℕ) (value v : A) (rest : Option A) (b : Bool) → (b ≡ true → word ≡ word_of value) → word_of value ≡ own value →
     (rest ≡ Some v → word ≡ own v) → (if b then Some value else rest) ≡ Some v → word ≡ own v

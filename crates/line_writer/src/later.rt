@@ -4,7 +4,7 @@ ghost use Rattle.std.specs.List.{flat_map};
 ghost use Rattle.map_expr.specs.Terms.{term_of as map_of};
 ghost use Rattle.line_tokens.specs.declared.sign.Sign.TheVariants.{Equals, Slash};
 ghost use Rattle.line_grammar.specs.declared.token.Token.TheVariants.{Word, Sign};
-ghost use Rattle.line_grammar.specs.Words.{command_word};
+ghost use Rattle.line_grammar.specs.Prelude.{command_word};
 ghost use Rattle.line_writer.specs.Canonical.{bracket_list, count_token, flag_tokens, map_tokens, number_tokens, pass_tokens, path_tokens, span_tokens, term_tokens, terms_tokens, window_tokens, with_commas};
 ghost use Rattle.line_writer.specs.Texts.{with_tokens_behind};
 

@@ -1,7 +1,7 @@
 // An expression.
 ghost use Rattle.std.specs.Prelude.{◌≡◌, OnOk};
-ghost use Rattle.expr_lang.specs.Terms.{term_of};
-ghost use Rattle.line_grammar.specs.Words.{operator};
+ghost use Rattle.expr_lang.specs.Prelude.{term_of};
+ghost use Rattle.line_grammar.specs.Prelude.{operator};
 ghost use Rattle.line_writer.specs.Canonical.{is_choice, needs_brackets, operand, value_tokens};
 ghost use Rattle.line_writer.specs.Texts.{with_tokens_behind, written};
 

@@ -1,5 +1,5 @@
 -- How many binary digits there are, and what the loop over components keeps of them.
-use Rattle.linearize.proofs.Imports.{◌≡◌, ◌≢◌, ℕ, ◌+◌, ◌-◌, ◌*◌, ◌/◌, ◌%◌, ◌^◌, ◌<◌, ◌≤◌, max, cond, eqb, ltb, List, [], ◌∷◌, length, get_or, sym, ap, ◌∙◌, ⊎_elim, arith, lit<, fold, nat_le, bit_or, bit_at, or_zero_l, position_or_len, range_with_len, cases_lt, cases_eq, cond-true, cond-false, lt-leb, le-leb, lt-ltb, le-ltb, eq-eqb, ne_eqb, length_all_zip, length-range_with_len, position_or_len_is, div-add-mod', div-mul-add, mod-mul-add, mod_below, mul-le, le-div, pow_pos, pow_below, bit_at-zero, bit_at_or, same_from_bits, pow_more, pow-le-pow_right, mod-eq_of_lt, IsInside, interleaved, digits_for, IsSpread, self_lt_pow, at_own_place, component_fits, digits_enough, digit_of, bit_at-interleaved}
+use Rattle.linearize.proofs.Imports.{◌≡◌, ◌≢◌, ℕ, ◌+◌, ◌-◌, ◌*◌, ◌/◌, ◌%◌, ◌^◌, ◌<◌, ◌≤◌, max, cond, eqb, ltb, List, [], ◌∷◌, length, get_or, sym, ap, ◌∙◌, ⊎_elim, arith, lit<, fold, nat_le, bit_or, bit_at, or_zero_l, position_or_len, range_with_len, cases_lt, cases_eq, cond-true, cond-false, lt-leb, le-leb, lt-ltb, le-ltb, eq-eqb, ne_eqb, length_all_zip, length-range_with_len, position_or_len_is, div-add-mod', div-mul-add, mod-mul-add, mul-le, le-div, pow_pos, pow_below, bit_at-zero, bit_at_or, same_from_bits, pow_more, pow-le-pow_right, mod-eq_of_lt, IsInside, interleaved, digits_for, IsSpread, self_lt_pow, at_own_place, component_fits, digits_enough, digit_of, bit_at-interleaved}
 use Rattle.linearize.proofs.SpreadLemmas.{shifted_low, shifted_high}
 
 -- ---- how many digits
@@ -38,8 +38,7 @@ component_narrow e i d some few inside =
     ⊎_elim (λ (h : 24 < length e * digits_for e). absurd (omega (arith, few, pow_below 24 (length e * digits_for e) h))) (λ (h : length e * digits_for e ≤ 24). h)
     (cases_lt 24 (length e * digits_for e)) in
     let each : digits_for e ≤ 24 / length i = le-div (digits_for e) 24 (length i) some (omega (arith, all, ap (λ x. x * digits_for e) long)) in
-    let room : 2 ^ digits_for e ≤ 2 ^ (24 / length i) = pow-le-pow_right {n = 2} (lit< tt) each in
-    omega (arith, room, component_fits e i 0 (digits_for e) d inside (digits_enough e))
+    omega (arith, (pow-le-pow_right {n = 2} (lit< tt) each), component_fits e i 0 (digits_for e) d inside (digits_enough e))
 
 -- ---- a slot by its components
 
@@ -53,15 +52,12 @@ front_none i = grind (arith, bit_at-zero, cond-false, le-ltb)
 -- a digit of a component that is spread and shifted
 own_digit : (rank x z t k : ℕ) → t < rank → IsSpread rank x z → k % rank ≡ t → bit_at (z * 2 ^ t) k ≡ bit_at x (k / rank)
 own_digit rank x z t k within spread same =
-    let split = div-add-mod' k rank in
-    let from : t ≤ k = omega (arith, split, same) in
-    let block : k - t ≡ k / rank * rank + 0 = omega (arith, split, same) in
+    let block : k - t ≡ k / rank * rank + 0 = omega (arith, same) in
     let even : (k - t) % rank ≡ 0 = ap (λ n. n % rank) block ∙ mod-mul-add (k / rank) rank 0 (omega arith) in
-    let digit : (k - t) / rank ≡ k / rank = ap (λ n. n / rank) block ∙ div-mul-add (k / rank) rank 0 (omega arith) in
-    shifted_high z t k from
+    shifted_high z t k (omega (arith, same))
     ∙ spread (k - t)
     ∙ cond-true (eqb ((k - t) % rank) 0) (bit_at x ((k - t) / rank)) 0 (eq-eqb ((k - t) % rank) 0 even)
-    ∙ ap (bit_at x) digit
+    ∙ ap (bit_at x) (ap (λ n. n / rank) block ∙ div-mul-add (k / rank) rank 0 (omega arith))
 
 -- and where another component has its digit, there is 0
 other_digit : (rank x z t k : ℕ) → t < rank → IsSpread rank x z → k % rank ≢ t → bit_at (z * 2 ^ t) k ≡ 0
@@ -71,8 +67,7 @@ other_digit rank x z t k within spread apart =
     shifted_high z t k l
     ∙ spread (k - t)
     ∙ cond-false (eqb ((k - t) % rank) 0) (bit_at x ((k - t) / rank)) 0 (ne_eqb ((k - t) % rank) 0 (λ even.
-    let block : k ≡ (k - t) / rank * rank + t = omega (arith, div-add-mod' (k - t) rank, even, l) in
-    apart (ap (λ n. n % rank) block ∙ mod-mul-add ((k - t) / rank) rank t within))))
+    apart (ap (λ n. n % rank) (omega (arith, div-add-mod' (k - t) rank, even, l)) ∙ mod-mul-add ((k - t) / rank) rank t within))))
     (cases_lt k t)
 
 -- one component more
@@ -82,7 +77,6 @@ front_more i d place z within few small front spread = λ k.
     let short : length i - 1 - d ≤ 3 = omega arith in
     let top : 2 ^ (length i - 1 - d) ≤ 2 ^ 3 = pow-le-pow_right {n = 2} (lit< tt) short in
     let whole : z * 2 ^ (length i - 1 - d) < 2 ^ 64 = omega (arith, small, mul-le z (2 ^ (length i - 1 - d)) (2 ^ 24) (2 ^ 3) (omega (arith, small)) top) in
-    let low : k % length i < length i = mod_below k (length i) (omega arith) in
     ap (λ y. bit_at (bit_or place y) k) (mod-eq_of_lt whole)
     ∙ bit_at_or place (z * 2 ^ (length i - 1 - d)) k
     ∙ ⊎_elim (λ (same : k % length i ≡ length i - 1 - d).
@@ -102,7 +96,7 @@ front_more i d place z within few small front spread = λ k.
     ∙ sym (cond-true (ltb (length i - 1 - k % length i) (d + 1)) (digit_of i k) 0 (lt-ltb (length i - 1 - k % length i) (d + 1) (omega arith))))
     (λ (l : d ≤ length i - 1 - k % length i).
     cond-false (ltb (length i - 1 - k % length i) d) (digit_of i k) 0 (le-ltb (length i - 1 - k % length i) d l)
-    ∙ sym (cond-false (ltb (length i - 1 - k % length i) (d + 1)) (digit_of i k) 0 (le-ltb (length i - 1 - k % length i) (d + 1) (omega (arith, l, apart, low)))))
+    ∙ sym (cond-false (ltb (length i - 1 - k % length i) (d + 1)) (digit_of i k) 0 (le-ltb (length i - 1 - k % length i) (d + 1) (omega (arith, l, apart)))))
     (cases_lt (length i - 1 - k % length i) d))
     (cases_eq (k % length i) (length i - 1 - d))
 
@@ -122,6 +116,5 @@ two_in_turn line column a b low low' one two =
     let first : IsFront i 1 (bit_or 0 (a * 2 % 2 ^ 64)) = front_more i 0 0 a (omega arith) (omega arith) low (front_none i) one in
     let both : IsFront i 2 (bit_or (bit_or 0 (a * 2 % 2 ^ 64)) (b * 1 % 2 ^ 64)) =
     front_more i 1 (bit_or 0 (a * 2 % 2 ^ 64)) b (omega arith) (omega arith) low' first two in
-    let same : b ≡ b * 1 % 2 ^ 64 = omega arith in
-    ap (λ (n : ℕ). bit_or n b) (sym (or_zero_l (a * 2 % 2 ^ 64))) ∙ ap (λ (n : ℕ). bit_or (bit_or 0 (a * 2 % 2 ^ 64)) n) same
+    ap (λ (n : ℕ). bit_or n b) (sym (or_zero_l (a * 2 % 2 ^ 64))) ∙ ap (λ (n : ℕ). bit_or (bit_or 0 (a * 2 % 2 ^ 64)) n) (omega arith)
     ∙ front_all i 2 (bit_or (bit_or 0 (a * 2 % 2 ^ 64)) (b * 1 % 2 ^ 64)) (omega arith) (omega arith) both

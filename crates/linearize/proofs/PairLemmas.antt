@@ -21,26 +21,22 @@ step_pair s m a b high low short small =
     let a_fits : a * 2 ^ s < 2 ^ 32 = shift_fits a s high short in
     let b_fits : b * 2 ^ s < 2 ^ 32 = shift_fits b s low short in
     let both : (a * 2 ^ 32 + b) * 2 ^ s ≡ a * 2 ^ s * 2 ^ 32 + b * 2 ^ s = omega arith in
-    let whole : (a * 2 ^ 32 + b) * 2 ^ s < 2 ^ 64 = omega (arith, both, a_fits, b_fits) in
     let part : step s m b < 2 ^ 32 = omega (arith, and_le_r (bit_or b (b * 2 ^ s % 2 ^ 64)) m, small) in
-    let a_whole : a * 2 ^ s < 2 ^ 64 = omega (arith, a_fits) in
-    let b_whole : b * 2 ^ s < 2 ^ 64 = omega (arith, b_fits) in
     let b_small : b < 2 ^ 32 = omega (arith, low) in
-    let m_small : m < 2 ^ 32 = omega (arith, small) in
     same_from_bits (step s (m * 2 ^ 32 + m) (a * 2 ^ 32 + b)) (step s m a * 2 ^ 32 + step s m b) (λ k.
-    step_bit s (m * 2 ^ 32 + m) (a * 2 ^ 32 + b) k whole
+    step_bit s (m * 2 ^ 32 + m) (a * 2 ^ 32 + b) k (omega (arith, both, a_fits, b_fits))
     ∙ ap (λ (n : ℕ). min (max (bit_at (a * 2 ^ 32 + b) k) (bit_at n k)) (bit_at (m * 2 ^ 32 + m) k)) both
     ∙ ⊎_elim
     (λ (l : k < 32).
     ap (λ (n : ℕ). min (max n (bit_at (a * 2 ^ s * 2 ^ 32 + b * 2 ^ s) k)) (bit_at (m * 2 ^ 32 + m) k)) (bit_at_cat_low a 32 b k l)
     ∙ ap (λ (n : ℕ). min (max (bit_at b k) n) (bit_at (m * 2 ^ 32 + m) k)) (bit_at_cat_low (a * 2 ^ s) 32 (b * 2 ^ s) k l)
     ∙ ap (λ (n : ℕ). min (max (bit_at b k) (bit_at (b * 2 ^ s) k)) n) (bit_at_cat_low m 32 m k l)
-    ∙ sym (bit_at_cat_low (step s m a) 32 (step s m b) k l ∙ step_bit s m b k b_whole))
+    ∙ sym (bit_at_cat_low (step s m a) 32 (step s m b) k l ∙ step_bit s m b k (omega (arith, b_fits))))
     (λ (l : 32 ≤ k).
     ap (λ (n : ℕ). min (max n (bit_at (a * 2 ^ s * 2 ^ 32 + b * 2 ^ s) k)) (bit_at (m * 2 ^ 32 + m) k)) (bit_at_cat_high a 32 b k b_small l)
     ∙ ap (λ (n : ℕ). min (max (bit_at a (k - 32)) n) (bit_at (m * 2 ^ 32 + m) k)) (bit_at_cat_high (a * 2 ^ s) 32 (b * 2 ^ s) k b_fits l)
-    ∙ ap (λ (n : ℕ). min (max (bit_at a (k - 32)) (bit_at (a * 2 ^ s) (k - 32))) n) (bit_at_cat_high m 32 m k m_small l)
-    ∙ sym (bit_at_cat_high (step s m a) 32 (step s m b) k part l ∙ step_bit s m a (k - 32) a_whole))
+    ∙ ap (λ (n : ℕ). min (max (bit_at a (k - 32)) (bit_at (a * 2 ^ s) (k - 32))) n) (bit_at_cat_high m 32 m k (omega (arith, small)) l)
+    ∙ sym (bit_at_cat_high (step s m a) 32 (step s m b) k part l ∙ step_bit s m a (k - 32) (omega (arith, a_fits))))
     (cases_lt k 32))
 
 -- two components side by side, their digits each at its place
@@ -84,22 +80,17 @@ pair_last {w} {source} {line} {column} {y} h wide there =
     let two : IsSpread 2 column b = stage_last 2 h.second (omega arith) wide there in
     let a_small : a < 2 ^ 24 = h.first.small in
     let b_small : b < 2 ^ 24 = h.second.small in
-    let a_half : a < 2 ^ 23 = spread_below w line a wide h.first.narrow one in
-    let twice : a * 2 % 2 ^ 64 ≡ a * 2 = mod-eq_of_lt (let l : a * 2 < 2 ^ 64 = omega (arith, a_small) in l) in
-    let down : y / 2 ^ 31 ≡ a * 2 = omega (arith, h.is, b_small) in
-    let wanted : bit_or (a * 2) b ≡ interleaved (line ∷ column ∷ []) = ap (λ (n : ℕ). bit_or n b) (sym twice) ∙ two_in_turn line column a b a_small b_small one two in
-    ap (λ (n : ℕ). bit_and (bit_or y n) (2 ^ 24 - 1)) down ∙ ap (λ (n : ℕ). bit_and (bit_or n (a * 2)) (2 ^ 24 - 1)) h.is
+    ap (λ (n : ℕ). bit_and (bit_or y n) (2 ^ 24 - 1)) (omega (arith, h.is, b_small)) ∙ ap (λ (n : ℕ). bit_and (bit_or n (a * 2)) (2 ^ 24 - 1)) h.is
     ∙ same_from_bits (bit_and (bit_or (a * 2 ^ 32 + b) (a * 2)) (2 ^ 24 - 1)) (bit_or (a * 2) b) (λ k.
     ap (λ (n : ℕ). bit_at n k) (and_mask (bit_or (a * 2 ^ 32 + b) (a * 2)) 24)
     ∙ ⊎_elim
     (λ (l : k < 24).
     low_bit (bit_or (a * 2 ^ 32 + b) (a * 2)) 24 k l ∙ bit_at_or (a * 2 ^ 32 + b) (a * 2) k
     ∙ ap (λ (n : ℕ). max n (bit_at (a * 2) k)) (bit_at_cat_low a 32 b k (omega arith))
-    ∙ (let e : max (bit_at b k) (bit_at (a * 2) k) ≡ max (bit_at (a * 2) k) (bit_at b k) = omega arith in e) ∙ sym (bit_at_or (a * 2) b k))
+    ∙ (omega arith) ∙ sym (bit_at_or (a * 2) b k))
     (λ (l : 24 ≤ k).
-    let none : bit_at (a * 2) k ≡ 0 = bit_at_above (a * 2) 24 k (omega (arith, a_half)) l in
-    let none' : bit_at b k ≡ 0 = bit_at_above b 24 k b_small l in
-    let nothing : bit_at (bit_or (a * 2) b) k ≡ 0 = bit_at_or (a * 2) b k ∙ (let e : max (bit_at (a * 2) k) (bit_at b k) ≡ 0 = omega (arith, none, none') in e) in
+    let none : bit_at (a * 2) k ≡ 0 = bit_at_above (a * 2) 24 k (omega (arith, (spread_below w line a wide h.first.narrow one))) l in
+    let nothing : bit_at (bit_or (a * 2) b) k ≡ 0 = bit_at_or (a * 2) b k ∙ (omega (arith, none, (bit_at_above b 24 k b_small l))) in
     bit_at_above (bit_or (a * 2 ^ 32 + b) (a * 2) % 2 ^ 24) 24 k (mod_below (bit_or (a * 2 ^ 32 + b) (a * 2)) (2 ^ 24) (lit< tt)) l ∙ sym nothing)
     (cases_lt k 24))
-    ∙ wanted
+    ∙ (ap (λ (n : ℕ). bit_or n b) (sym (mod-eq_of_lt (omega (arith, a_small)))) ∙ two_in_turn line column a b a_small b_small one two)

@@ -1,5 +1,5 @@
 -- What masks and shifts do to binary digits.
-use Rattle.linearize.proofs.Imports.{◌≡◌, ℕ, ◌+◌, ◌-◌, ◌*◌, ◌/◌, ◌%◌, ◌^◌, ◌<◌, ◌≤◌, max, min, Bool, true, cond, eqb, ltb, refl, sym, ap, ◌∙◌, ⊎_elim, arith, lit<, bit_and, bit_or, nat_le, bit_at, list_all, range_with_len, cases_lt, cond-true, cond-false, cond_both, eqb-true, eqb-false, ltb-true, ltb-false, leb-true, le-ltb, eq-eqb, All-get_or, length-range_with_len, AllPass-from_list_all, le-div, pow_pos, mul-le, and_le_r, bit_at-zero, bit_at-lt, bit_at_and, bit_at_or, bit_at_above, bit_at_cat_low, bit_at_cat_high, mod-eq_of_lt, pow-le-pow_right, at_own_place, IsSpread}
+use Rattle.linearize.proofs.Imports.{◌≡◌, ℕ, ◌-◌, ◌*◌, ◌/◌, ◌%◌, ◌^◌, ◌<◌, ◌≤◌, max, min, Bool, true, cond, eqb, ltb, refl, sym, ap, ◌∙◌, ⊎_elim, arith, lit<, bit_and, bit_or, nat_le, bit_at, list_all, range_with_len, cases_lt, cond-true, cond-false, cond_both, eqb-true, eqb-false, ltb-true, ltb-false, leb-true, le-ltb, eq-eqb, All-get_or, length-range_with_len, AllPass-from_list_all, le-div, pow_pos, mul-le, and_le_r, bit_at-zero, bit_at-lt, bit_at_and, bit_at_or, bit_at_above, bit_at_cat_low, bit_at_cat_high, mod-eq_of_lt, pow-le-pow_right, at_own_place, IsSpread}
 
 -- ---- one mask and shift
 
@@ -21,14 +21,10 @@ passes_below p n k all h =
     sym (ap p (at_own_place n k h)) ∙ All-get_or (λ x. p x ≡ true) (range_with_len 0 n) k 0 (omega (arith, h, length-range_with_len 0 n)) (AllPass-from_list_all p (range_with_len 0 n) all)
 
 pub shifted_low : (y s k : ℕ) → k < s → bit_at (y * 2 ^ s) k ≡ 0
-shifted_low y s k h =
-    let plain : y * 2 ^ s ≡ y * 2 ^ s + 0 = omega arith in
-    ap (λ n. bit_at n k) plain ∙ bit_at_cat_low y s 0 k h ∙ bit_at-zero k
+shifted_low y s k h = ap (λ n. bit_at n k) (omega arith) ∙ bit_at_cat_low y s 0 k h ∙ bit_at-zero k
 
 pub shifted_high : (y s k : ℕ) → s ≤ k → bit_at (y * 2 ^ s) k ≡ bit_at y (k - s)
-shifted_high y s k h =
-    let plain : y * 2 ^ s ≡ y * 2 ^ s + 0 = omega arith in
-    ap (λ n. bit_at n k) plain ∙ bit_at_cat_high y s 0 k (pow_pos s) h
+shifted_high y s k h = ap (λ n. bit_at n k) (omega arith) ∙ bit_at_cat_high y s 0 k (pow_pos s) h
 
 moved_bit : (w s m : ℕ) (source : ℕ → ℕ) (x y k : ℕ) → x < 2 ^ w → Comes source x y → is_apart w s m source k ≡ true
     → min (max (bit_at y k) (bit_at (y * 2 ^ s) k)) (bit_at m k) ≡ bit_at x (moved w s m source k)
@@ -38,7 +34,6 @@ moved_bit w s m source x y k fits comes apart =
     (λ cut. omega (arith, eqb-true (bit_at m k) 0 cut, none))
     (λ kept.
     let apart_ne = eqb-false (bit_at m k) 0 kept in
-    let one : bit_at m k ≡ 1 = omega (arith, bit_at-lt m k, apart_ne) in
     cond_both (ltb (source k) w) (source k) (cond (ltb k s) w (source (k - s))) (λ i. min (max (bit_at y k) (bit_at (y * 2 ^ s) k)) (bit_at m k) ≡ bit_at x i)
     (λ here.
     let alone : bit_at (y * 2 ^ s) k ≡ 0 =
@@ -51,12 +46,12 @@ moved_bit w s m source x y k fits comes apart =
     ∙ apart in
     shifted_high y s k l ∙ comes (k - s) ∙ bit_at_above x w (source (k - s)) fits (leb-true w (source (k - s)) away))
     (cases_lt k s) in
-    omega (arith, one, alone, comes k, bit_at-lt x (source k)))
+    omega (arith, alone, comes k, bit_at-lt x (source k)))
     (λ away.
     let nothing : bit_at y k ≡ 0 = comes k ∙ bit_at_above x w (source k) fits (ltb-false (source k) w away) in
     cond_both (ltb k s) w (source (k - s)) (λ i. min (max (bit_at y k) (bit_at (y * 2 ^ s) k)) (bit_at m k) ≡ bit_at x i)
-    (λ below. omega (arith, one, nothing, none, shifted_low y s k (ltb-true k s below)))
-    (λ from. omega (arith, one, nothing, shifted_high y s k (ltb-false k s from), comes (k - s), bit_at-lt x (source (k - s))))))
+    (λ below. omega (arith, nothing, none, shifted_low y s k (ltb-true k s below)))
+    (λ from. omega (arith, nothing, shifted_high y s k (ltb-false k s from), comes (k - s), bit_at-lt x (source (k - s))))))
 
 -- y has the digits of x, each at its place, and x has no digit from w on
 pub record IsStage (w : ℕ) (source : ℕ → ℕ) (x y : ℕ) : Type 0 where

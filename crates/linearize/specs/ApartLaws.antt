@@ -23,8 +23,7 @@ bits_apart n k power b even small =
     ⊎_elim
     (λ (low : b < power).
     let none : bit_at n b ≡ 0 = ap (λ (m : ℕ). bit_at m b) whole ∙ bit_at_cat_low high power 0 b low ∙ bit_at-zero b in
-    let own : bit_at (n + k) b ≡ bit_at k b = ap (λ (m : ℕ). bit_at m b) sum ∙ bit_at_cat_low high power k b low in
-    (omega (arith, none, own), omega (arith, none)))
+    (omega (arith, none, (ap (λ (m : ℕ). bit_at m b) sum ∙ bit_at_cat_low high power k b low)), omega (arith, none)))
     (λ (above : power ≤ b).
     let none : bit_at k b ≡ 0 = bit_at_above k power b small above in
     let own : bit_at (n + k) b ≡ bit_at n b = ap (λ (m : ℕ). bit_at m b) sum ∙ bit_at_cat_high high power k b small above

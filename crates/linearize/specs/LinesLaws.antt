@@ -22,9 +22,7 @@ index_there e i row inside at = grind (arith, get_or_from_slice_get, slice_get, 
 -- ---- one extent
 
 pub index_in_line : (n row : ℕ) → row < n → index_at (n ∷ []) row ≡ row ∷ []
-index_in_line n row low =
-    let here : place (n ∷ []) (row ∷ []) ≡ row = omega arith in
-    index_there (n ∷ []) (row ∷ []) row (low, tt) here
+index_in_line n row low = index_there (n ∷ []) (row ∷ []) row (low, tt) (omega arith)
 
 row_in_line : (n row : ℕ) → row < length (indices (n ∷ [])) → row < n
 row_in_line n row inside = omega (arith, length-indices (n ∷ []))

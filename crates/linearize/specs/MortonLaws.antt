@@ -20,14 +20,12 @@ abbrev number_by_digits : (ℕ → ℕ) → ℕ → ℕ
 number_by_digits digit n = sum_by (λ k. 2 ^ k * digit k) (range_with_len 0 n)
 
 range_more : (a n k : ℕ) → a + n ≡ k → range_with_len a (suc n) ≡ range_with_len a n ++ k ∷ []
-range_more a zero k e = let same : a ≡ k = omega arith in ap (λ x. x ∷ []) same
+range_more a zero k e = ap (λ x. x ∷ []) (omega arith)
 range_more a (suc n) k e = ap (λ xs. a ∷ xs) (range_more (a + 1) n k (omega arith))
 
 number_more : (digit : ℕ → ℕ) (n : ℕ) → number_by_digits digit (suc n) ≡ digit n * 2 ^ n + number_by_digits digit n
 number_more digit n =
-    let split : number_by_digits digit (suc n) ≡ number_by_digits digit n + 2 ^ n * digit n =
-    ap (sum_by (λ k. 2 ^ k * digit k)) (range_more 0 n n (omega arith)) ∙ sum_by_push (λ k. 2 ^ k * digit k) (range_with_len 0 n) n in
-    omega (arith, split)
+    omega (arith, (ap (sum_by (λ k. 2 ^ k * digit k)) (range_more 0 n n (omega arith)) ∙ sum_by_push (λ k. 2 ^ k * digit k) (range_with_len 0 n) n))
 
 number_lt : (digit : ℕ → ℕ) (n : ℕ) → ((k : ℕ) → digit k < 2) → number_by_digits digit n < 2 ^ n
 number_lt digit zero binary = omega arith

@@ -1,5 +1,5 @@
 -- The laws of slots, for any order.
-use Rattle.std.proofs.Common.{◌≡◌, ℕ, ◌<◌, Bool, cond, eqb, ltb, List, [], ◌∷◌, ◌++◌, length, get_or, Some, None, refl, sym, ap, ◌∙◌, arith}
+use Rattle.std.proofs.Common.{◌≡◌, ℕ, ◌<◌, cond, eqb, ltb, List, [], ◌∷◌, ◌++◌, length, get_or, Some, None, refl, sym, ap, ◌∙◌, arith}
 use Rattle.std.specs.Prelude.{reverse, nat_eq, slice_get}
 use Rattle.std.specs.List.{position_or_len}
 use Rattle.std.specs.Cmp.Lexicographic.{pointwise}
@@ -89,7 +89,6 @@ same_row_of_slot o e r r' h h' same =
 pub row_at-slot_at : (o : Order) (e : List ℕ) (r : ℕ) → r < length (indices e) → row_at o e (slot_at o e r) ≡ Some r
 unfolding row_at
 row_at-slot_at o e r h =
-    let test : List ℕ → Bool = λ i. eqb (slot_of o e i) (slot_at o e r) in
     let first : position_or_len (λ i. eqb (slot_of o e i) (slot_at o e r)) (indices e) ≡ r =
     position_or_len_is (λ i. eqb (slot_of o e i) (slot_at o e r)) (indices e) r [] (omega arith)
     (λ k below. false_from_ne_true (eqb (slot_at o e k) (slot_at o e r)) (λ t.

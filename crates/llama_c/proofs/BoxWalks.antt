@@ -34,8 +34,7 @@ pub use denote.Triple.Spec.{triple_of}
 pub use denote.Triple.Table.{framed}
 pub use denote.Triple.Walked.{says, Stays, stay_dropped, walk_of, ends_at}
 pub use Rattle.std.proofs.alloc.Calls.{token, handle_tells, Goes-blank}
-pub use Rattle.std.proofs.raw_atomic.Walks.{proved_at}
-pub use Rattle.std.specs.Box.Ownership.{box_owns}
+pub use Rattle.record_dim.specs.Std.{proved_at, box_owns}
 pub use Rattle.std.proofs.BoxSteps.Form.{Bx, D, τ, R, P, B, word, box_typed}
 pub use Rattle.std.proofs.BoxSteps.Steps.{box_out, box_in}
 

@@ -1,10 +1,8 @@
 -- What calls answer by what their handles held.
-use Rattle.std.proofs.Common.{◌≡◌, ⊎_elim, inl, inr, ℕ, ℤ, pos, Bool, List, Option, Some, None, Ok, Err, map, refl, sym, ap, subst, ◌∙◌}
-use Rattle.std.proofs.lemmas.List.{map-id}
-use Rattle.line_grammar.specs.Sentences.{Sentence}
-use Rattle.views.specs.Tables.{Table}
-use Rattle.c_lines.specs.Answers.{Answer, Tells, given_or, on_held}
-use Rattle.c_lines.specs.Faults.{fault_of}
+use Rattle.record_dim.specs.Std.{◌≡◌, ⊎_elim, inl, inr, ℕ, ℤ, pos, Bool, List, Option, Some, None, Ok, Err, map, refl, sym, ap, subst, ◌∙◌, map-id}
+use Rattle.line_grammar.specs.Prelude.{Sentence}
+use Rattle.views.specs.Prelude.{Table}
+use Rattle.c_lines.specs.Prelude.{Answer, Tells, given_or, on_held, fault_of}
 use Rattle.c_lines.specs.declared.refusal.Fault.{Fault}
 use Rattle.c_lines.specs.declared.refusal.Refusal.TheVariants.{NoView, NoMemory}
 use Rattle.llama_c.specs.Calls.{IsCallDone, IsLineDone, IsLineTold, IsMade, IsPutInto}

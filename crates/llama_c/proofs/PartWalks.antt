@@ -17,8 +17,7 @@ use Rattle.views.proofs.view.View.TheLaws as view_laws
 use Rattle.llama_c.specs.contracts.box_parts.Parts as parts
 pub use mathlib.Core.Path.{◌≡◌, refl, sym, subst, ap}
 pub use mathlib.Core.List.{List, [], ◌∷◌, ◌++◌}
-pub use Rattle.std.specs.Prelude.{Option, Some, None, IsSome}
-pub use Rattle.std.proofs.lemmas.Bool.{false≢true}
+pub use Rattle.record_dim.specs.Std.{Option, Some, None, IsSome, false≢true, proved_at}
 pub use mir.Val.{Val}
 pub use base.Logic.{emp, id⊢}
 pub use base.Fml.{ftrue, fsep}
@@ -37,7 +36,6 @@ pub use denote.Steps.{heard, nothing}
 pub use denote.Struct.Struct.{within}
 pub use denote.Struct.Owning.{shape, to}
 pub use denote.Triple.Walked.{says, Stays, stay_dropped, walk_of, ends_at, Goes-dropped}
-pub use Rattle.std.proofs.raw_atomic.Walks.{proved_at}
 pub use Rattle.std.proofs.alloc.Calls.{handle_tells}
 pub use Rattle.std.proofs.BoxSteps.Form.{D, B, word, box_typed}
 pub use Rattle.std.proofs.BoxSteps.Steps.{box_out, box_in}

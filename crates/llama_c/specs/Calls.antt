@@ -1,17 +1,11 @@
 -- What calls answer and leave, by what their handles held.
 use Rattle.std.specs.Prelude.{ℕ, ◌≡◌, ◌⊎◌, Bool, ℤ, List, length, Option, Some, None, Ok, Err}
-use Rattle.line_grammar.specs.Sentences.{Sentence}
-use Rattle.views.specs.Tables.{Table, leaf_count_of, owners_of, after_log}
-use Rattle.views.specs.Tallies.{Read, all_accesses}
-use Rattle.c_lines.specs.Answers.{Answer, Tells, TellsLeft, code_of, refusal_number, given_or}
-use Rattle.c_lines.specs.Commands.{DoesLine, IsToldInto, in_64}
-use Rattle.c_lines.specs.Faults.{fault_left}
+use Rattle.line_grammar.specs.Prelude.{Sentence}
+use Rattle.views.specs.Prelude.{Table, leaf_count_of, owners_of, after_log, Read, all_accesses}
+use Rattle.c_lines.specs.Prelude.{Answer, Tells, TellsLeft, code_of, refusal_number, given_or, DoesLine, IsToldInto, in_64, fault_left, TellsPut, TellsPlaces, source_after, target_after, was_copied}
 use Rattle.c_lines.specs.declared.refusal.Fault.{Fault}
 use Rattle.c_lines.specs.declared.refusal.Refusal.TheVariants.{NoView, NoMemory}
-use Rattle.c_lines.specs.Buffers.{TellsPut}
-use Rattle.c_lines.specs.Placed.{TellsPlaces}
 use Rattle.leaf_places.specs.declared.told.Places.{Places}
-use Rattle.c_lines.specs.Copies.{source_after, target_after, was_copied}
 
 -- how many rows, leaves and blobs a table has
 abbrev pub row_count_told : Table → Answer ℕ

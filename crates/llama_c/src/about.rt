@@ -1,9 +1,7 @@
 // What a view is.
 ghost use Rattle.std.specs.Prelude.{◌≡◌};
-ghost use Rattle.record_dim.specs.LeafTypes.{is_signed};
-ghost use Rattle.c_lines.specs.About.{counts_told, extents_told, path_told, reads_of, type_told, value_bits, writes_of};
-ghost use Rattle.c_lines.specs.Answers.{answer_map, code_of, given_or, on_held};
-ghost use Rattle.c_lines.specs.Buffers.{buffer_after, needed_after, put_told};
+ghost use Rattle.record_dim.specs.Prelude.{is_signed};
+ghost use Rattle.c_lines.specs.Prelude.{counts_told, extents_told, path_told, reads_of, type_told, value_bits, writes_of, answer_map, code_of, given_or, on_held, buffer_after, needed_after, put_told};
 
 use crate::answers::code;
 use crate::handle::Handle;

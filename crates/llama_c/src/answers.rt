@@ -1,8 +1,6 @@
 // Answers as C has them.
 ghost use Rattle.std.specs.Prelude.{◌≡◌};
-ghost use Rattle.c_lines.specs.Answers.{code_of};
-ghost use Rattle.c_lines.specs.Faults.{fault_of, fault_left};
-ghost use Rattle.c_lines.specs.Answers.{refusal_number};
+ghost use Rattle.c_lines.specs.Prelude.{code_of, fault_of, fault_left, refusal_number};
 
 use c_lines::{DONE, Fault, Refusal};
 

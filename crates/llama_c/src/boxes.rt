@@ -1,10 +1,6 @@
 // One leaf of the rows of a box.
 ghost use Rattle.std.specs.Prelude.{◌≡◌, pos, length, map, option_map};
-ghost use Rattle.c_lines.specs.Answers.{code_of, given_or, held_after, on_held};
-ghost use Rattle.c_lines.specs.Boxes.{after_box, on_box};
-ghost use Rattle.c_lines.specs.ByRows.{after_gather, after_scatter, gathered, put_there, was_scattered};
-ghost use Rattle.c_lines.specs.Faults.{fault_left};
-ghost use Rattle.c_lines.specs.Values.{reads_signed, reads_unsigned};
+ghost use Rattle.c_lines.specs.Prelude.{code_of, given_or, held_after, on_held, after_box, on_box, after_gather, after_scatter, gathered, put_there, was_scattered, fault_left, reads_signed, reads_unsigned};
 
 use crate::answers::{code, refused, told};
 use crate::handle::Handle;

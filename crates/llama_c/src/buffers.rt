@@ -1,7 +1,6 @@
 // What is copied into buffers of the caller.
 ghost use Rattle.std.specs.Prelude.{◌≡◌, Ok, None, pos, IfSome};
-ghost use Rattle.c_lines.specs.Answers.{code_of, on_held};
-ghost use Rattle.c_lines.specs.Buffers.{blob_told, buffer_after, file_told, lent, needed_after, printed, put_told, record_line, view_line, ReturnsSame};
+ghost use Rattle.c_lines.specs.Prelude.{code_of, on_held, blob_told, buffer_after, file_told, lent, needed_after, printed, put_told, record_line, view_line, ReturnsSame};
 ghost use Rattle.llama_c.specs.Calls.{IsPutInto, IsReadOnce};
 
 use crate::answers::code;

@@ -1,8 +1,6 @@
 // Calls that take one line of the language.
 ghost use Rattle.std.specs.Prelude.{◌≡◌};
-ghost use Rattle.c_lines.specs.Answers.{code_of};
-ghost use Rattle.c_lines.specs.Commands.{is_do, is_kernel};
-ghost use Rattle.c_lines.specs.Faults.{fault_left};
+ghost use Rattle.c_lines.specs.Prelude.{code_of, is_do, is_kernel, fault_left};
 ghost use Rattle.llama_c.specs.Calls.{IsLineDone, IsLineTold, number_or};
 
 use crate::answers::{refused, told};

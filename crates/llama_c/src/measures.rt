@@ -1,8 +1,8 @@
 // How large a view is, and where its rows and leaves are.
 ghost use Rattle.std.specs.Prelude.{◌≡◌, ◌⊎◌, pos, Some, None, IfSome, Contains, slice_get};
 ghost use Rattle.extents.specs.Indices.{indices};
-ghost use Rattle.record_dim.specs.Leaves.{texts_of};
-ghost use Rattle.c_lines.specs.Answers.{code_of, given_or, on_held};
+ghost use Rattle.record_dim.specs.Prelude.{texts_of};
+ghost use Rattle.c_lines.specs.Prelude.{code_of, given_or, on_held};
 ghost use Rattle.llama_c.specs.Calls.{blob_count_told, leaf_count_told, row_count_told};
 
 use crate::handle::Handle;

@@ -1,5 +1,5 @@
 // The words of answers.
-ghost use Rattle.c_lines.specs.Messages.{message_told};
+ghost use Rattle.c_lines.specs.Prelude.{message_told};
 ghost use Rattle.llama_c.specs.Calls.{IsPutInto};
 
 use crate::answers::code;

@@ -1,6 +1,6 @@
 // The pointer of a handle.
 ghost use Rattle.std.specs.Prelude.{◌≡◌, IsSome, Option, Some, None};
-ghost use Rattle.views.specs.Tables.{Table};
+ghost use Rattle.views.specs.Prelude.{Table};
 ghost use Rattle.llama_c.specs.Inner.Owned.{held_coded, part_owns};
 
 use crate::box_parts::Parts;

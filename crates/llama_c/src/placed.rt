@@ -1,7 +1,6 @@
 // Where numbers lie, for callers who read them with no call.
 ghost use Rattle.std.specs.Prelude.{◌≡◌};
-ghost use Rattle.c_lines.specs.Answers.{code_of, on_held};
-ghost use Rattle.c_lines.specs.Buffers.{blob_told, needed_after};
+ghost use Rattle.c_lines.specs.Prelude.{code_of, on_held, blob_told, needed_after};
 ghost use Rattle.llama_c.specs.Calls.{IsPlaced};
 
 use crate::answers::refused;

@@ -1,10 +1,6 @@
 // One leaf of rows one after another.
 ghost use Rattle.std.specs.Prelude.{◌≡◌, pos, length, map, option_map};
-ghost use Rattle.c_lines.specs.Answers.{code_of, given_or, held_after, on_held};
-ghost use Rattle.c_lines.specs.Faults.{fault_left};
-ghost use Rattle.c_lines.specs.CallerBytes.{after_run_as, after_set_run_as, got_run_as, was_set_run_as};
-ghost use Rattle.c_lines.specs.CallerRuns.{after_run, after_set_run, got_run, was_set_run};
-ghost use Rattle.c_lines.specs.Values.{reads_signed, reads_unsigned};
+ghost use Rattle.c_lines.specs.Prelude.{code_of, given_or, held_after, on_held, fault_left, after_run_as, after_set_run_as, got_run_as, was_set_run_as, after_run, after_set_run, got_run, was_set_run, reads_signed, reads_unsigned};
 
 use crate::answers::{code, refused, told};
 use crate::handle::Handle;

@@ -1,10 +1,6 @@
 // Calls on whole tables.
 ghost use Rattle.std.specs.Prelude.{◌≡◌};
-ghost use Rattle.c_lines.specs.Answers.{code_of};
-ghost use Rattle.c_lines.specs.Buffers.{after_return, returned};
-ghost use Rattle.c_lines.specs.Faults.{fault_left};
-ghost use Rattle.c_lines.specs.Relaid.{after_relaid, relaid};
-ghost use Rattle.c_lines.specs.Told.{done_of};
+ghost use Rattle.c_lines.specs.Prelude.{code_of, after_return, returned, fault_left, after_relaid, relaid, done_of};
 ghost use Rattle.llama_c.specs.Calls.{copy_told, source_left, target_left, IsCallDone};
 
 use crate::answers::{refused, told};

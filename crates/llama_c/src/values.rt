@@ -1,8 +1,7 @@
 // One value of a view.
 ghost use Rattle.std.specs.Prelude.{◌≡◌, pos};
-ghost use Rattle.views.specs.Tables.{after_read, after_write};
-ghost use Rattle.c_lines.specs.Answers.{code_of, given_or, held_after, on_held};
-ghost use Rattle.c_lines.specs.Values.{got, was_set, reads_signed, reads_unsigned};
+ghost use Rattle.views.specs.Prelude.{after_read, after_write};
+ghost use Rattle.c_lines.specs.Prelude.{code_of, given_or, held_after, on_held, got, was_set, reads_signed, reads_unsigned};
 
 use crate::answers::code;
 use crate::handle::Handle;

@@ -1,8 +1,6 @@
 // Views that are made and let go.
 ghost use Rattle.std.specs.Prelude.{◌≡◌, pos, None, IfOk};
-ghost use Rattle.c_lines.specs.Answers.{Tells};
-ghost use Rattle.c_lines.specs.Buffers.{opened_told};
-ghost use Rattle.c_lines.specs.Lines.{described, loaded};
+ghost use Rattle.c_lines.specs.Prelude.{Tells, opened_told, described, loaded};
 ghost use Rattle.llama_c.specs.Calls.{IsMade};
 
 use crate::answers::refused;

@@ -3,8 +3,7 @@ use Rattle.map_any.proofs.Imports.{◌≡◌, ℕ, ◌*◌, ◌<◌, ◌≤◌, 
 
 -- the number of blobs, and the bytes of each
 pub length-sized : (layout : List (List Owner)) (lengths : List ℕ) → HasLengths layout lengths → length lengths ≡ length layout
-length-sized layout lengths sized =
-    sym (length-map lengths (λ (bytes : ℕ). 8 * bytes)) ∙ ap (λ (ns : List ℕ). length ns) sized ∙ length-map layout (length {A = Owner})
+length-sized layout lengths sized = grind (arith, length-map)
 
 pub bytes_at : (layout : List (List Owner)) (lengths : List ℕ) (blob d : ℕ) → HasLengths layout lengths → blob < length layout
     → 8 * get_or lengths blob d ≡ length (get_or layout blob [])
@@ -21,15 +20,9 @@ bytes_of layout lengths blob bytes sized is =
     let count : length lengths ≡ length layout = length-sized layout lengths sized in
     ⊎_elim
     (λ (inside : blob < length layout). omega (arith, bytes_at layout lengths blob 0 sized inside))
-    (λ (outside : length layout ≤ blob).
-    let none : get_or layout blob [] ≡ [] = get_or_past layout blob [] outside in
-    let empty : length (get_or layout blob []) ≡ 0 = ap (length {A = Owner}) none in
-    let zero : get_or lengths blob 0 ≡ 0 = get_or_past lengths blob 0 (omega (arith, count, outside)) in
-    omega (arith, empty, zero))
+    (λ (outside : length layout ≤ blob). grind (arith, get_or, get_or_past))
     (cases_lt blob (length layout))
 
 -- each leaf has a hold
 pub hold_in : (term : Term) (fields : Fields) (holds : List Hold) (cell : ℕ) → holds ≡ holds_by term fields → cell < length (leaf_cells (kinds_of fields)) → cell < length holds
-hold_in term fields holds cell held inside =
-    let size : length holds ≡ length (leaf_cells (kinds_of fields)) = holds_cells term fields holds held in
-    omega arith
+hold_in term fields holds cell held inside = grind (arith, holds_cells)

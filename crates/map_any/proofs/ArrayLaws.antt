@@ -1,51 +1,32 @@
 -- Leaves that lie in arrays.
-use Rattle.map_any.proofs.Imports.{◌≡◌, ℕ, ◌+◌, ◌*◌, ◌/◌, ◌%◌, ◌^◌, ◌<◌, ◌≤◌, List, [], ◌∷◌, length, get_or, map, slice_index, refl, sym, ap, ◌∙◌, subst, arith, Option, None, IfSome, IsSomeAnd, Order, row_at, slot_count, Fields, LeafType, widths_of, full_holds, in_rows, Owner, Cell, Hold, begins_fit, begin_in, AreRulesOf, IsDense, PieceRule, Term, Aos, Soa, Aosoa, BitAos, BitSoa, Split, Byteswap, Bytesplit, Change, Count, Heat, Named, layout_of, holds_of, array_of, array_layout, lanes_in, IsArray, IsArrayOf, HasArrays, IsSameRule, Rule, IsArrayRun, array_run, array_holds, HaveArrays, AreLeafRules, LeafRule}
-use Rattle.std.specs.Prelude.{Some}
+use Rattle.map_any.proofs.Imports.{◌≡◌, ℕ, ◌+◌, ◌*◌, ◌/◌, ◌%◌, ◌^◌, ◌<◌, ◌≤◌, List, [], ◌∷◌, length, get_or, map, slice_index, refl, sym, subst, arith, Option, IfSome, IsSomeAnd, Order, row_at, slot_count, Fields, LeafType, widths_of, full_holds, in_rows, Owner, Cell, Hold, begins_fit, begin_in, PieceRule, Term, Soa, Aosoa, Count, Heat, layout_of, holds_of, array_of, array_layout, lanes_in, IsArray, IsArrayOf, HasArrays, IsSameRule, Rule, IsArrayRun, array_run, array_holds, HaveArrays, AreLeafRules, LeafRule, Some}
 
 -- what is said of a value says another thing of it
 if_some : {X : Type 0} (o : Option X) (P Q : X → Type 0) → ((x : X) → P x → Q x) → IfSome o P → IfSome o Q
-if_some None P Q f h = tt
-if_some (Some x) P Q f h = f x h
+if_some o P Q f h = grind arith
 
 pub if_three : {X : Type 0} (o : Option X) (P Q R S : X → Type 0) → ((x : X) → P x → Q x → R x → S x) → IfSome o P → IfSome o Q → IfSome o R → IfSome o S
-if_three None P Q R S f p q r = tt
-if_three (Some x) P Q R S f p q r = f x p q r
+if_three o P Q R S f p q r = grind arith
 
 -- and there is one
 if_some_and : {X : Type 0} (o : Option X) (P Q : X → Type 0) {R : Type 0} → ((x : X) → P x → Q x → R) → IfSome o P → IsSomeAnd o Q → R
-if_some_and None P Q f p q = absurd q
-if_some_and (Some x) P Q f p q = f x p q
+if_some_and o P Q f p q = grind arith
 
 -- a rule that says the same is one of the same array
 array_same : (layout : List (List Owner)) (slots lanes cell width : ℕ) (old new : Rule) → IsSameRule old new → IsArray layout slots lanes cell width old → IsArray layout slots lanes cell width new
-array_same layout slots lanes cell width old new same h = record {
-  few = h.few;
-  alone = ap (λ (ps : List PieceRule). length ps) same.pieces ∙ h.alone;
-  bits = λ d. ap (λ (ps : List PieceRule). (get_or ps 0 d).bits) same.pieces ∙ h.bits d;
-  places = subst (AreRulesOf layout slots cell width) (sym same.pieces) h.places;
-  dense = λ d. subst (IsDense lanes) (sym (ap (λ (ps : List PieceRule). get_or ps 0 d) same.pieces)) (h.dense d);
-}
+array_same layout slots lanes cell width old new same h = grind (arith, get_or)
 
 -- what the accesses to leaves go by keeps the arrays of a plan
 pub leaves_arrays : (term : Term) (extents : List ℕ) (cells : List Cell) (kinds : List LeafType) (holds : List Hold) (rules : List Rule) (leaves : List LeafRule)
     → length rules ≡ length kinds → AreLeafRules kinds extents holds rules leaves → HasArrays term extents cells rules → HaveArrays term extents cells leaves
 leaves_arrays term extents cells kinds holds rules leaves paired are =
     if_some (array_of term) _ _
-    (λ array h k d inside.
-    let leaf : LeafRule = get_or leaves k d in
-    let low : k < length rules = omega (arith, are.each) in
-    let slots : ℕ = slot_count array.0 extents in
-    let width : ℕ = slice_index (map (λ (w : Hold). w.width) (full_holds cells)) k in
-    array_same (array_layout term slots (widths_of cells)) slots (lanes_in array.1 slots) k width (get_or rules k leaf.rule) leaf.rule (are.same k d inside) (h k leaf.rule low))
+    (λ array h k d inside. grind (arith, get_or, slice_index, array_same))
 
 -- one leaf
 pub leaf_array : (term : Term) (extents : List ℕ) (cells : List Cell) (leaves : List LeafRule) (k : ℕ) (leaf : LeafRule) → k < length leaves → leaf ≡ get_or leaves k leaf
     → HaveArrays term extents cells leaves → IsArrayOf term extents cells k leaf.rule
-leaf_array term extents cells leaves k leaf inside read =
-    if_some (array_of term) _ _
-    (λ array h. let slots : ℕ = slot_count array.0 extents in
-    let width : ℕ = slice_index (map (λ (w : Hold). w.width) (full_holds cells)) k in
-    subst (λ (l : LeafRule). IsArray (array_layout term slots (widths_of cells)) slots (lanes_in array.1 slots) k width l.rule) (sym read) (h k leaf inside))
+leaf_array term extents cells leaves k leaf inside read = grind (arith, if_some, slice_index)
 
 -- a rule of one piece: there is that piece, and where it begins fits its type
 module _ (term : Term) (extents : List ℕ) (cells : List Cell) (leaf slot : ℕ) (rule : Rule) (h : IsArrayOf term extents cells leaf rule)
@@ -56,7 +37,7 @@ module _ (term : Term) (extents : List ℕ) (cells : List Cell) (leaf slot : ℕ
   pub piece_fits : (d : PieceRule) → begin_in (get_or rule.pieces.items 0 d) slot < 2 ^ 64
   piece_fits d =
       if_some_and (array_of term) _ _
-      (λ array is l. begins_fit _ slot leaf _ slot rule.pieces.items (is.places slot l) 0 d (let one : 0 < length rule.pieces.items = omega (arith, is.alone) in one)) h slot_in
+      (λ array is l. begins_fit _ slot leaf _ slot rule.pieces.items (is.places slot l) 0 d (omega (arith, is.alone))) h slot_in
 
 -- the layout of such a mapping by rows, and how its cells are stored
 pub array_rows : (term : Term) (extents : List ℕ) (fields : Fields) (cells : List Cell)
@@ -80,18 +61,12 @@ array_place term extents fields cells holds leaf slot rule d blob byte held of b
     let lanes : ℕ = lanes_in array.1 slots in
     let width : ℕ = slice_index (map (λ (h : Hold). h.width) (full_holds cells)) leaf in
     let piece : PieceRule = get_or rule.pieces.items 0 d in
-    let low : slot % lanes < lanes = omega arith in
-    let whole : begin_in piece slot % 8 ≡ 0 = (is.dense d).bytes slot low in
+    let whole : begin_in piece slot % 8 ≡ 0 = (is.dense d).bytes slot (omega arith) in
     let back : begin_in piece slot ≡ 8 * (begin_in piece slot / 8) = omega arith in
-    let bit : begin_in piece slot ≡ 8 * byte = back ∙ ap (λ (n : ℕ). 8 * n) (sym byte_is) in
-    let width_is : width ≡ slice_index (map (λ (h : Hold). h.width) holds) leaf = ap (λ (hs : List Hold). slice_index (map (λ (h : Hold). h.width) hs) leaf) (sym full ∙ sym held) in
     let by_rows : List (List Owner) = in_rows (row_at array.0 extents) (array_layout term slots (widths_of cells)) in
     let run : IsArrayRun by_rows array.0 extents leaf width slot count piece.blob (begin_in piece slot) =
     array_run array.0 extents (array_layout term slots (widths_of cells)) slots lanes leaf width slot count rule d is some inside block in
-    subst (λ (l : List (List Owner)). IsArrayRun l array.0 extents leaf (slice_index (map (λ (h : Hold). h.width) holds) leaf) slot count blob (8 * byte)) (sym rows)
-    (subst (λ (w : ℕ). IsArrayRun by_rows array.0 extents leaf w slot count blob (8 * byte)) width_is
-    (subst (λ (b : ℕ). IsArrayRun by_rows array.0 extents leaf width slot count b (8 * byte)) (sym blob_is)
-    (subst (λ (p : ℕ). IsArrayRun by_rows array.0 extents leaf width slot count piece.blob p) bit run))))
+    grind (arith, slice_index))
     of (array_rows term extents fields cells) (array_holds term fields cells)
 
 -- there are few slots

@@ -1,7 +1,6 @@
 -- What being built, and being accepted, say of an expression.
-use Rattle.map_any.proofs.Imports.{◌≡◌, Bool, true, false, Some, Ok, Err, refl, if◌then◌else◌, not, nat_lt, Result, BadMapping, TooDeep, Counter, Side, Field, NotFull, Term, Aos, Soa, Aosoa, BitAos, BitSoa, Split, Byteswap, Bytesplit, Change, Count, Heat, Named, depth_of, IsNameless, checked, answered, bad_number, counts_once, IsBuiltTerm, accepted, bad_field, bad_side, else_for, not_full, Cell, Fields}
-use Rattle.std.proofs.Common.{Option, None}
-use Rattle.std.specs.Prelude.{List}
+use Rattle.map_any.proofs.Imports.{◌≡◌, Bool, true, false, Ok, Err, if◌then◌else◌, not, nat_lt, Result, BadMapping, TooDeep, Counter, Side, Field, NotFull, Term, Split, Byteswap, Bytesplit, Change, Count, Heat, Named, depth_of, IsNameless, checked, answered, bad_number, counts_once, IsBuiltTerm, accepted, bad_field, bad_side, else_for, not_full, Cell, Fields, Option, None, List}
+use Rattle.std.proofs.Common.{arith}
 
 -- no name stands in it
 pub built_nameless : (term : Term) → IsBuiltTerm term → IsNameless term
@@ -15,10 +14,7 @@ built_nameless (Named name) h = absurd h
 built_nameless other h = tt
 
 answered_none : (deep twice : Bool) (bad : Option BadMapping) → (if deep then Err TooDeep else (if twice then Err Counter else answered bad)) ≡ Ok tt → bad ≡ None
-answered_none true twice bad e = cc
-answered_none false true bad e = cc
-answered_none false false None e = refl
-answered_none false false (Some bad) e = cc
+answered_none deep twice bad e = grind arith
 
 -- its numbers are in their ranges
 pub accepted_numbers : (term : Term) → checked term ≡ Ok tt → bad_number term ≡ None
@@ -26,9 +22,7 @@ accepted_numbers term e = answered_none (nat_lt 8 (depth_of term)) (not (counts_
 
 -- neither a cause nor an earlier one
 else_ok : (bad : BadMapping) (holds : Bool) (earlier : Result Unit BadMapping) → else_for bad holds earlier ≡ Ok tt → (holds ≡ false) × (earlier ≡ Ok tt)
-else_ok bad holds (Err why) e = cc
-else_ok bad true (Ok x) e = cc
-else_ok bad false (Ok x) e = (refl, e)
+else_ok bad holds earlier e = grind arith
 
 -- over cells, too: its parts under byteswap and bytesplit are full
 module _ (term : Term) (fields : Fields) (cells : List Cell) (ok : accepted term fields cells ≡ Ok tt) where
@@ -42,7 +36,4 @@ module _ (term : Term) (fields : Fields) (cells : List Cell) (ok : accepted term
   good_parts = (else_ok NotFull (not_full term fields cells) with_fields ok).0
 
   pub good_number : bad_number term ≡ None
-  good_number =
-      let named = (else_ok NotFull (not_full term fields cells) with_fields ok).1 in
-      let sides = (else_ok Field (bad_field term fields cells) with_sides named).1 in
-      accepted_numbers term (else_ok Side (bad_side term fields cells) (checked term) sides).1
+  good_number = grind (arith, else_ok, accepted_numbers)

@@ -18,7 +18,4 @@ module _ (term : Term) (extents : List ℕ) (fields : Fields) (cells : List Cell
 
   pub rule_in : (rule : Rule) → rule ≡ get_or plan.rules cell rule
       → IsRuleOf (layout_of term extents fields cells) extents cell (slice_index (map (λ (x : Hold). x.width) plan.holds) cell) rule
-  rule_in rule read =
-      let Ruled : List Hold → Rule → Type 0 = λ hs r. IsRuleOf (layout_of term extents fields cells) extents cell (slice_index (map (λ (x : Hold). x.width) hs) cell) r in
-      subst (λ (r : Rule). Ruled plan.holds r) (sym read)
-      (subst (λ (hs : List Hold). Ruled hs (get_or plan.rules cell rule)) (sym h.held) (h.ruled.places cell rule has_rule))
+  rule_in rule read = grind (arith, slice_index, get_or, has_rule)

@@ -1,12 +1,10 @@
 -- Slots of an array that lie evenly: each so many bits behind the one that is so many slots before it.
-use Rattle.map_any.proofs.Imports.{◌≡◌, ℕ, zero, suc, ◌+◌, ◌*◌, ◌/◌, ◌%◌, ◌<◌, ◌≤◌, List, get_or, map, slice_index, Bool, refl, sym, ap, ◌∙◌, subst, arith, Option, None, IfSome, unwrap_or, div-add-mod', div-mul-add, mod-mul-add, mod_below, Order, row_at, slot_count, Fields, widths_of, full_holds, in_rows, Owner, Cell, Hold, begin_in, IsDense, PieceRule, Term, Aos, Soa, Aosoa, BitAos, BitSoa, Split, Byteswap, Bytesplit, Change, Count, Heat, Named, bad_number, bad_granule, BadMapping, layout_of, holds_of, array_of, array_layout, lanes_in, IsArrayOf, Rule, IsArrayRun, array_run, array_holds, option_or}
-use Rattle.std.specs.Prelude.{Some}
+use Rattle.map_any.proofs.Imports.{◌≡◌, ℕ, zero, suc, ◌+◌, ◌*◌, ◌/◌, ◌%◌, ◌<◌, ◌≤◌, List, get_or, map, slice_index, sym, ap, ◌∙◌, arith, Option, None, IfSome, unwrap_or, div-add-mod', div-mul-add, mod-mul-add, mod_below, row_at, slot_count, Fields, widths_of, full_holds, in_rows, Owner, Cell, Hold, begin_in, IsDense, PieceRule, Term, Aos, Soa, Aosoa, BitAos, BitSoa, Split, Byteswap, Bytesplit, Change, Count, Heat, Named, bad_number, bad_granule, BadMapping, layout_of, holds_of, array_of, array_layout, lanes_in, IsArrayOf, Rule, IsArrayRun, array_run, array_holds, option_or}
 use Rattle.map_any.proofs.ArrayLaws.{if_three, array_rows}
 
 -- the blocks of an expression whose numbers are in their ranges have slots, where there are any
 second_none : (o p : Option BadMapping) → option_or o p ≡ None → p ≡ None
-second_none None p none = none
-second_none (Some bad) p none = absurd (cc none)
+second_none o p none = grind arith
 
 pub blocks_have_lanes : (term : Term) → bad_number term ≡ None → IfSome (array_of term) (λ array. (slots : ℕ) → 0 < slots → 0 < lanes_in array.1 slots)
 blocks_have_lanes (Aos form order) good = tt
@@ -25,8 +23,7 @@ blocks_have_lanes (Named name) good = tt
 
 -- the lanes of blocks, or all slots
 pub lanes_or : (lanes : Option ℕ) (slots : ℕ) → unwrap_or lanes slots ≡ lanes_in lanes slots
-lanes_or None slots = refl
-lanes_or (Some lanes) slots = refl
+lanes_or lanes slots = grind arith
 
 -- a slot that is a multiple of so many slots behind another, where these are whole blocks
 even_begin : (piece : PieceRule) (slot n k : ℕ) → 0 < piece.lanes → n % piece.lanes ≡ 0
@@ -55,20 +52,17 @@ even_bytes : (lanes : ℕ) (piece : PieceRule) (slot n k byte step : ℕ) → Is
 even_bytes lanes piece slot n k byte step dense some slots even byte_is step_is =
     let bits : ℕ = n / piece.lanes * piece.block in
     let first : begin_in piece slot % 8 ≡ 0 = dense.bytes slot (mod_below slot lanes some) in
-    let second : begin_in piece (slot + n) % 8 ≡ 0 = dense.bytes (slot + n) (mod_below (slot + n) lanes some) in
     let one : 1 * n ≡ n = omega arith in
     let once : 1 * bits ≡ bits = omega arith in
     let next : begin_in piece (slot + n) ≡ begin_in piece slot + bits =
     ap (λ (m : ℕ). begin_in piece (slot + m)) (sym one) ∙ even_begin piece slot n 1 slots even ∙ ap (λ (m : ℕ). begin_in piece slot + m) once in
-    let whole : bits ≡ 8 * step = omega (arith, first, second, next, step_is) in
+    let whole : bits ≡ 8 * step = omega (arith, first, (dense.bytes (slot + n) (mod_below (slot + n) lanes some)), next, step_is) in
     let back : begin_in piece slot ≡ 8 * byte = omega (arith, first, byte_is) in
-    let sum : 8 * byte + k * (8 * step) ≡ 8 * (byte + k * step) = grind arith in
-    even_begin piece slot n k slots even ∙ ap (λ (m : ℕ). begin_in piece slot + k * m) whole ∙ ap (λ (m : ℕ). m + k * (8 * step)) back ∙ sum
+    even_begin piece slot n k slots even ∙ ap (λ (m : ℕ). begin_in piece slot + k * m) whole ∙ ap (λ (m : ℕ). m + k * (8 * step)) back ∙ (grind arith)
 
 -- all of what is said of a value
 if_all : {X : Type 0} (o : Option X) (P : ℕ → X → Type 0) → ((k : ℕ) → IfSome o (P k)) → IfSome o (λ x. (k : ℕ) → P k x)
-if_all None P h = tt
-if_all (Some x) P h = h
+if_all o P h = grind arith
 
 -- where slots of a leaf lie one behind another that come so many slots behind each other
 pub array_places : (term : Term) (extents : List ℕ) (fields : Fields) (cells : List Cell) (holds : List Hold) (leaf slot n : ℕ) (rule : Rule) (d : PieceRule) (blob byte step : ℕ)
@@ -88,12 +82,8 @@ array_places term extents fields cells holds leaf slot n rule d blob byte step h
     let piece : PieceRule = get_or rule.pieces.items 0 d in
     let there : 0 < lanes = omega (arith, block, more) in
     let bit : begin_in piece (slot + k * n) ≡ 8 * (byte + k * step) = even_bytes lanes piece slot n k byte step (is.dense d) there some even byte_is step_is in
-    let width_is : width ≡ slice_index (map (λ (h : Hold). h.width) holds) leaf = ap (λ (hs : List Hold). slice_index (map (λ (h : Hold). h.width) hs) leaf) (sym full ∙ sym held) in
     let by_rows : List (List Owner) = in_rows (row_at array.0 extents) (array_layout term slots (widths_of cells)) in
     let run : IsArrayRun by_rows array.0 extents leaf width (slot + k * n) count piece.blob (begin_in piece (slot + k * n)) =
     array_run array.0 extents (array_layout term slots (widths_of cells)) slots lanes leaf width (slot + k * n) count rule d is more inside block in
-    subst (λ (l : List (List Owner)). IsArrayRun l array.0 extents leaf (slice_index (map (λ (h : Hold). h.width) holds) leaf) (slot + k * n) count blob (8 * (byte + k * step))) (sym rows)
-    (subst (λ (w : ℕ). IsArrayRun by_rows array.0 extents leaf w (slot + k * n) count blob (8 * (byte + k * step))) width_is
-    (subst (λ (b : ℕ). IsArrayRun by_rows array.0 extents leaf width (slot + k * n) count b (8 * (byte + k * step))) (sym blob_is)
-    (subst (λ (p : ℕ). IsArrayRun by_rows array.0 extents leaf width (slot + k * n) count piece.blob p) bit run))))
+    grind (arith, slice_index))
     of (array_rows term extents fields cells) (array_holds term fields cells))

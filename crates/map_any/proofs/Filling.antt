@@ -1,6 +1,5 @@
 -- What filling in keeps, and what it comes to.
-use Rattle.map_any.proofs.Imports.{◌≡◌, ℕ, ◌+◌, ◌-◌, ◌<◌, ◌≤◌, ◌⊎◌, inl, inr, ⊎_elim, List, [], ◌∷◌, map, length, get_or, replicate, All, refl, sym, ap, ◌∙◌, subst, arith, flat_map, range_with_len, cases_lt, get_or-map, get_or-replicate, get_or_default, length-map, length-replicate, same_lists, All-head, All-tail, indices, kinds_of, schema_fields, Owner, Bit, owner_at, NoOwner, owners_in, IsBitOf, IsLaidOut, Splits, spells_split, bits_located, Piece, RunOwner, Pad, Hold, term_of, AnyMap, any_laws, holds_cells, layout_by, leaf_cells, shown_at, IsShown, IsFilled, ShowBelow, Show, run_owner}
-use Rattle.std.specs.Prelude.{slice_index}
+use Rattle.map_any.proofs.Imports.{◌≡◌, ℕ, ◌+◌, ◌-◌, ◌<◌, ◌≤◌, ◌⊎◌, inl, inr, ⊎_elim, List, [], ◌∷◌, map, length, get_or, replicate, All, refl, sym, ap, ◌∙◌, arith, flat_map, range_with_len, cases_lt, get_or-map, get_or-replicate, get_or_default, length-map, length-replicate, same_lists, All-head, All-tail, indices, kinds_of, schema_fields, Owner, Bit, owner_at, owners_in, IsBitOf, IsLaidOut, Splits, spells_split, bits_located, Piece, RunOwner, Pad, Hold, term_of, AnyMap, any_laws, holds_cells, layout_by, leaf_cells, shown_at, IsShown, IsFilled, ShowBelow, Show, run_owner, slice_index}
 use Rattle.places.specs.declared.piece.RunOwner.TheVariants.{Leaf}
 
 -- the layout of a mapping, the width of a leaf, and the law
@@ -23,11 +22,7 @@ narrow_in m leaf inside =
 -- a leaf that has bits is one of the leaves
 pub leaf_in : (m : AnyMap) (row leaf bit : ℕ) → IsBitOf (length (indices m.extents)) (map (λ (h : Hold). h.width) m.holds) row leaf bit
     → leaf < length (leaf_cells (kinds_of (schema_fields m.schema)))
-leaf_in m row leaf bit of =
-    let inside : leaf < length (map (λ (h : Hold). h.width) m.holds) = of.cell_in in
-    let count : length (map (λ (h : Hold). h.width) m.holds) ≡ length m.holds = length-map m.holds (λ (h : Hold). h.width) in
-    let held : length m.holds ≡ length (leaf_cells (kinds_of (schema_fields m.schema))) = holds_cells (term_of m.expr) (schema_fields m.schema) m.holds m.held in
-    omega arith
+leaf_in m row leaf bit of = grind (arith, length-map, holds_cells)
 
 -- filling in nothing, and twice
 module _ (layout : List (List Owner)) (blob : ℕ) where
@@ -35,27 +30,12 @@ module _ (layout : List (List Owner)) (blob : ℕ) where
   filled_self shown = record { each = refl; right = λ place. inl refl }
 
   pub filled_twice : (one two three : List RunOwner) → IsFilled layout blob one two → IsFilled layout blob two three → IsFilled layout blob one three
-  filled_twice one two three first second = record {
-    each = second.each ∙ first.each;
-    right = λ place.
-        ⊎_elim
-        (λ (same : shown_at three place ≡ shown_at two place).
-        ⊎_elim
-        (λ (as_was : shown_at two place ≡ shown_at one place). inl (same ∙ as_was))
-        (λ (right : shown_at two place ≡ run_owner (owner_at layout blob place)). inr (same ∙ right))
-        (first.right place))
-        (λ (right : shown_at three place ≡ run_owner (owner_at layout blob place)). inr right)
-        (second.right place);
-  }
+  filled_twice one two three first second = grind (arith, ⊎_elim)
 
 -- a bit that shows whose it is goes on to
 module _ (layout : List (List Owner)) (blob row leaf : ℕ) (old new : List RunOwner) (filled : IsFilled layout blob old new) where
   pub still_right : (place bit : ℕ) → owner_at layout blob place ≡ Bit row leaf bit → shown_at old place ≡ Leaf row leaf bit → shown_at new place ≡ Leaf row leaf bit
-  still_right place bit owner was =
-      ⊎_elim
-      (λ (same : shown_at new place ≡ shown_at old place). same ∙ was)
-      (λ (right : shown_at new place ≡ run_owner (owner_at layout blob place)). right ∙ ap run_owner owner)
-      (filled.right place)
+  still_right place bit owner was = grind (arith, ⊎_elim)
 
   pub still_shown : Show layout blob row leaf old → Show layout blob row leaf new
   still_shown shown = λ place bit owner. still_right place bit owner (shown place bit owner)
@@ -64,11 +44,7 @@ module _ (layout : List (List Owner)) (blob row leaf : ℕ) (old new : List RunO
 pub shows_more : (layout : List (List Owner)) (blob leaf : ℕ) (old new : List RunOwner) → IsFilled layout blob old new
     → ((row l : ℕ) → l < leaf → Show layout blob row l old) → ((row : ℕ) → Show layout blob row leaf new)
     → (row l : ℕ) → l < leaf + 1 → Show layout blob row l new
-shows_more layout blob leaf old new filled so_far now row l below =
-    ⊎_elim
-    (λ (low : l < leaf). still_shown layout blob row l old new filled (so_far row l low))
-    (λ (high : leaf ≤ l). let same : leaf ≡ l = omega arith in subst (λ (k : ℕ). Show layout blob row k new) same (now row))
-    (cases_lt l leaf)
+shows_more layout blob leaf old new filled so_far now row l below = grind (arith, ⊎_elim, still_shown, cases_lt)
 
 -- a piece in the blob is filled in, whose bits are those of a leaf in a row from bit `low` on
 module _ (layout : List (List Owner)) (row leaf low n : ℕ) (piece : Piece) (pieces : List Piece) (split : Splits layout (Bit row leaf) low n piece pieces) where
@@ -106,9 +82,8 @@ module _ (layout : List (List Owner)) (row leaf low n : ℕ) (piece : Piece) (pi
       (λ (l : bit < low). still_right layout blob row leaf old new (piece_filled blob old new here shown) place bit owner (so_far place bit l owner))
       (λ (l : low ≤ bit).
       let k : ℕ = bit - low in
-      let at : low + k ≡ bit = omega arith in
       let only = only_here slots widths laid blob place bit l below owner in
-      ap (λ (p : ℕ). shown_at new p) only.1 ∙ shown.within k (omega arith) ∙ ap (Leaf row leaf) at)
+      ap (λ (p : ℕ). shown_at new p) only.1 ∙ shown.within k (omega arith) ∙ ap (Leaf row leaf) (omega arith))
       (cases_lt bit low)
 
   pub shows_other : (slots : ℕ) (widths : List ℕ) → IsLaidOut layout slots widths → (blob : ℕ) (shown : List RunOwner) → (piece.blob ≡ blob → ⊥)
@@ -130,11 +105,9 @@ pub not_here : (layout : List (List Owner)) (slots : ℕ) (widths : List ℕ) �
     → (place bit : ℕ) → low ≤ bit → bit < low + n → owner_at layout blob place ≡ Bit row leaf bit → ⊥
 not_here layout slots widths laid blob row leaf low n [] spelled others place bit above below owner =
     let none : 0 ≡ n = bits_located layout (Bit row leaf) low n [] spelled in
-    let no' : ⊥ = omega arith in
-    no'
+    omega arith
 not_here layout slots widths laid blob row leaf low n (piece ∷ pieces) spelled others place bit above below owner =
     let split = spells_split layout (Bit row leaf) low n piece pieces spelled in
-    let fits : piece.bits ≤ n = split.fits in
     ⊎_elim
     (λ (l : bit < low + piece.bits).
     All-head (λ (piece : Piece). piece.blob ≡ blob → ⊥) piece pieces others
@@ -147,8 +120,7 @@ not_here layout slots widths laid blob row leaf low n (piece ∷ pieces) spelled
 -- a bit that shows nobody or its owner, and its owner where it has one
 owner_shown : (owner : Owner) (shown : RunOwner) → (shown ≡ Pad) ⊎ (shown ≡ run_owner owner)
     → ((row leaf bit : ℕ) → owner ≡ Bit row leaf bit → shown ≡ Leaf row leaf bit) → shown ≡ run_owner owner
-owner_shown NoOwner shown either all = ⊎_elim (λ (x : shown ≡ Pad). x) (λ (x : shown ≡ Pad). x) either
-owner_shown (Bit row leaf bit) shown either all = all row leaf bit refl
+owner_shown owner shown either all = grind (arith, ⊎_elim)
 
 -- bits that all showed nobody and now each owner are the owners
 pub filled_all : (layout : List (List Owner)) (blob : ℕ) (shown : List RunOwner)
@@ -157,18 +129,6 @@ pub filled_all : (layout : List (List Owner)) (blob : ℕ) (shown : List RunOwne
 filled_all layout blob shown filled all =
     let owners : List Owner = get_or layout blob [] in
     let pads : List RunOwner = replicate (length owners) Pad in
-    let count : length pads ≡ length owners = length-replicate (length owners) Pad in
-    let size : length shown ≡ length owners = filled.each ∙ count in
+    let size : length shown ≡ length owners = filled.each ∙ (length-replicate (length owners) Pad) in
     same_lists shown (map run_owner owners) (size ∙ sym (length-map owners run_owner))
-    (λ k d inside.
-    let low : k < length owners = omega arith in
-    let here : get_or shown k d ≡ shown_at shown k = get_or_default shown k d Pad inside in
-    let there : get_or (map run_owner owners) k d ≡ run_owner (owner_at layout blob k) = get_or-map run_owner owners k NoOwner d low in
-    let right : shown_at shown k ≡ run_owner (owner_at layout blob k) =
-    owner_shown (owner_at layout blob k) (shown_at shown k)
-    (⊎_elim
-    (λ (same : shown_at shown k ≡ shown_at pads k). inl (same ∙ get_or-replicate (length owners) k Pad Pad low))
-    (λ (x : shown_at shown k ≡ run_owner (owner_at layout blob k)). inr x)
-    (filled.right k))
-    (λ row leaf bit owner. all row leaf k bit owner) in
-    here ∙ right ∙ sym there)
+    (λ k d inside. grind (arith, get_or, get_or_default, get_or-map, owner_shown, ⊎_elim, get_or-replicate))

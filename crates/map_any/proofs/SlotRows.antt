@@ -1,6 +1,5 @@
 -- By rows and by columns each slot is that of a row.
-use Rattle.map_any.proofs.Imports.{◌≡◌, ◌⊎◌, ⊎_elim, ℕ, ◌<◌, List, [], length, Some, inl, inr, refl, sym, ap, ◌∙◌, subst, arith, reverse, reverse-reverse, get_or_from_slice_get, indices, IsInside, inside_of_entry, row_of_inside, Order, Row, Col, product_count, slot_at, slot_count, index_at, place_in_is, slot_at_below, slot_at_by_rows, entry_of_row, IsInside-reverse}
-use Rattle.std.specs.Prelude.{slice_get}
+use Rattle.map_any.proofs.Imports.{◌≡◌, ◌⊎◌, ⊎_elim, ℕ, ◌<◌, List, [], length, Some, inl, inr, refl, sym, ap, ◌∙◌, subst, arith, reverse, reverse-reverse, get_or_from_slice_get, indices, IsInside, inside_of_entry, row_of_inside, Order, Row, Col, product_count, slot_at, slot_count, index_at, place_in_is, slot_at_by_rows, entry_of_row, IsInside-reverse, slice_get}
 
 -- there are as many slots as rows, and each is that of a row
 pub record HasRows (order : Order) (extents : List ℕ) : Type 0 where
@@ -12,7 +11,6 @@ by_rows extents = record { many = refl; row = λ slot low. (slot, low, slot_at_b
 
 by_columns : (extents : List ℕ) → HasRows Col extents
 by_columns extents =
-    let turned = reverse extents in
     let many : slot_count Col extents ≡ length (indices extents) = product_count Col extents (inr refl) ∙ sym (product_count Row extents (inl refl)) in
     record {
       many = many;

@@ -1,20 +1,15 @@
 -- The laws of a mapping that keeps how each cell of its expression is stored.
-use Rattle.std.proofs.Common.{◌≡◌, ℕ, List, map, length, false, None, sym, ap, ◌∙◌, subst}
-use Rattle.std.proofs.lemmas.List.{length-map}
+use Rattle.std.specs.Prelude.{◌≡◌, ℕ, List, map, length, false, None}
+use Rattle.record_dim.specs.Std.{sym, ap, ◌∙◌, subst, length-map}
 use Rattle.extents.specs.Indices.{indices}
 use Rattle.record_dim.specs.declared.leaf_type.LeafType.{LeafType}
-use Rattle.record_dim.specs.Trees.{Fields}
-use Rattle.record_dim.specs.Leaves.{kinds_of}
-use Rattle.places.specs.Lawful.{IsLaidOut}
+use Rattle.record_dim.specs.Prelude.{Fields, kinds_of}
+use Rattle.places.specs.Prelude.{IsLaidOut}
 use Rattle.places.specs.declared.piece.Cell.{Cell}
 use Rattle.places.specs.declared.piece.Hold.{Hold}
 use Rattle.map_expr.specs.Terms.{Term}
 use Rattle.map_expr.specs.Checks.{bad_number}
-use Rattle.map_checks.specs.Inner.LeafCells.{leaf_cells_kinds}
-use Rattle.map_checks.specs.Mappings.{leaf_cells, layout_of, holds_of, holds_by, most_slots, not_full, IsBuiltTerm}
-use Rattle.map_checks.specs.TermLaws.{term_laws, good_numbers, length-holds}
-use Rattle.map_checks.specs.Plans.{IsPlanOf}
-use Rattle.map_checks.specs.PlansLaws.{plan_holds, plan_rules}
+use Rattle.map_checks.specs.Prelude.{leaf_cells_kinds, leaf_cells, layout_of, holds_of, holds_by, most_slots, not_full, IsBuiltTerm, term_laws, good_numbers, length-holds, IsPlanOf, plan_holds, plan_rules}
 use Rattle.map_checks.specs.declared.plan.Plan.{Plan}
 
 pub any_laws : (term : Term) (extents : List ℕ) (fields : Fields) (cells : List Cell) (holds : List Hold) → IsBuiltTerm term → bad_number term ≡ None

@@ -1,31 +1,18 @@
 -- The slots of an array's block are a run; what runs say of the bits of rows.
-use Rattle.std.proofs.Common.{◌≡◌, ⊎_elim, ℕ, ◌+◌, ◌-◌, ◌*◌, ◌/◌, ◌%◌, ◌<◌, ◌≤◌, List, [], ◌∷◌, map, length, get_or, refl, sym, ap, ◌∙◌, subst, arith}
-use Rattle.std.specs.Prelude.{Option, Some, None, IfSome}
-use Rattle.std.specs.List.{flat_map, range_with_len}
-use Rattle.std.proofs.lemmas.List.{append-nil}
-use Rattle.std.proofs.lemmas.List.Concat.{flat_map-cons}
-use Rattle.std.proofs.lemmas.Nat.{row_fits, div-add-mod', mul-le}
-use Rattle.std.proofs.lemmas.Bool.{cases_lt}
+use Rattle.std.specs.Prelude.{◌≡◌, ℕ, ◌+◌, ◌-◌, ◌*◌, ◌/◌, ◌%◌, ◌<◌, ◌≤◌, List, [], ◌∷◌, map, length, get_or, refl, Option, Some, IfSome}
+use Rattle.record_dim.specs.Std.{⊎_elim, sym, ap, ◌∙◌, subst, arith, flat_map, range_with_len, append-nil, flat_map-cons, row_fits, div-add-mod', mul-le, cases_lt}
 use Rattle.extents.specs.Indices.{indices}
 use Rattle.extents.specs.declared.order.Order.{Order}
 use Rattle.linearize.specs.Slots.{slot_at, row_at}
 use Rattle.linearize.specs.SlotsLaws.{row_at-slot_at, slot_at-row_at}
-use Rattle.places.specs.Layout.{Owner, Pad, Bit, owner_at}
-use Rattle.places.specs.Rules.{renamed, in_rows, bit_in_row}
-use Rattle.places.specs.Lawful.{IsLocated, IsPiece, owners_in}
-use Rattle.places.specs.ComposeLaws.{owner_relabel}
-use Rattle.places.specs.PlacesLaws.{ranges_at}
+use Rattle.places.specs.Prelude.{Owner, Pad, Bit, owner_at, renamed, in_rows, bit_in_row, IsLocated, IsPiece, owners_in, owner_relabel, ranges_at, begin_in, piece_in, pieces_in, full_holds}
 use Rattle.places.specs.declared.piece.Piece.{Piece}
-use Rattle.places.specs.PieceRules.{begin_in, piece_in, pieces_in}
 use Rattle.places.specs.declared.rule.PieceRule.{PieceRule}
-use Rattle.record_dim.specs.Trees.{Fields}
-use Rattle.places.specs.Holds.{full_holds}
+use Rattle.record_dim.specs.Prelude.{Fields}
 use Rattle.places.specs.declared.piece.Cell.{Cell}
-use Rattle.map_expr.specs.Terms.{Term, Aos, Soa, Aosoa, BitAos, BitSoa, Split, Byteswap, Bytesplit, Change, Count, Heat, Named}
-use Rattle.map_checks.specs.Mappings.{holds_of}
-use Rattle.map_checks.specs.Arrays.{array_of, IsArray}
+use Rattle.map_expr.specs.Terms.{Term, Soa, Aosoa, Count, Heat}
+use Rattle.map_checks.specs.Prelude.{holds_of, array_of, IsArray, length-in_rows, length-blob}
 use Rattle.map_any.specs.Inner.ArrayRuns.{IsArrayRun}
-use Rattle.map_checks.specs.RowsLaws.{length-in_rows, length-blob}
 use Rattle.map_checks.specs.declared.rule.Rule.{Rule}
 
 -- the owners of the bits of one piece
@@ -35,8 +22,7 @@ piece_owner layout slot cell width k piece h bits inside =
     let one : flat_map (owners_in layout) (piece ∷ []) ≡ owners_in layout piece = flat_map-cons (owners_in layout) piece [] ∙ append-nil (owners_in layout piece) in
     let spelled : map (owner_at layout piece.blob) (range_with_len piece.bit width) ≡ map (Bit slot cell) (range_with_len 0 width) =
     subst (λ (n : ℕ). map (owner_at layout piece.blob) (range_with_len piece.bit n) ≡ map (Bit slot cell) (range_with_len 0 width)) bits (sym one ∙ h.spelled) in
-    let none : 0 + k ≡ k = omega arith in
-    ranges_at Pad (owner_at layout piece.blob) (Bit slot cell) piece.bit 0 width k spelled inside ∙ ap (Bit slot cell) none
+    ranges_at Pad (owner_at layout piece.blob) (Bit slot cell) piece.bit 0 width k spelled inside ∙ ap (Bit slot cell) (omega arith)
 
 -- one item
 one_item : {X : Type 0} (xs : List X) (d : X) → length xs ≡ 1 → xs ≡ get_or xs 0 d ∷ []
@@ -47,9 +33,8 @@ one_item (x ∷ y ∷ xs) d one = absurd (omega arith)
 -- all but one of so many widths, and one more
 one_more : (count width : ℕ) → 0 < count → (count - 1) * width + width ≡ count * width
 one_more count width some =
-    let e : (count - 1) + 1 ≡ count = omega arith in
     let p : ((count - 1) + 1) * width ≡ (count - 1) * width + width = grind arith in
-    sym p ∙ ap (λ (n : ℕ). n * width) e
+    sym p ∙ ap (λ (n : ℕ). n * width) (omega arith)
 
 -- slots of one block of an array, by rows
 pub array_run : (order : Order) (extents : List ℕ) (layout : List (List Owner)) (slots lanes cell width slot count : ℕ) (rule : Rule) (d : PieceRule)
@@ -70,25 +55,19 @@ array_run order extents layout slots lanes cell width slot count rule d h some i
     record {
       blob_in = omega arith;
       within =
-          let end : begin_in piece (slot + (count - 1)) + piece.bits ≤ length (get_or layout piece.blob []) = last.bits_in in
           let from : begin_in piece (slot + (count - 1)) ≡ begin_in piece slot + (count - 1) * width = begins (count - 1) (omega arith) in
           let product : (count - 1) * width + width ≡ count * width = one_more count width some in
           let bits : piece.bits ≡ width = h.bits d in
           omega arith;
       owners = λ j k l m.
-          let place : begin_in piece slot + (j * width + k) ≡ begin_in piece (slot + j) + k = (let b : begin_in piece (slot + j) ≡ begin_in piece slot + j * width = begins j l in omega arith) in
-          ap (owner_at rows piece.blob) place
+          ap (owner_at rows piece.blob) (let b : begin_in piece (slot + j) ≡ begin_in piece slot + j * width = begins j l in omega arith)
           ∙ owner_relabel (λ s c b. bit_in_row (row_at order extents s) c b) layout piece.blob (begin_in piece (slot + j) + k)
           ∙ ap (renamed (λ s c b. bit_in_row (row_at order extents s) c b)) (piece_owner layout (slot + j) cell width k (piece_in piece (slot + j)) (located j l) (h.bits d) m);
     }
 
 -- the row and the cell of a bit by rows
 of_row : (row : Option ℕ) (c k r c' k' : ℕ) → bit_in_row row c k ≡ Bit r c' k' → (row ≡ Some r) × (c ≡ c')
-of_row None c k r c' k' e = cc
-of_row (Some row) c k r c' k' e =
-    let same : row ≡ r = cc in
-    let cell : c ≡ c' = cc in
-    (ap Some same, cell)
+of_row row c k r c' k' e = grind arith
 
 -- the bits of a row whose slot lies in a run
 module _ (layout : List (List Owner)) (order : Order) (extents : List ℕ) (cell width slot count blob bit : ℕ) (run : IsArrayRun layout order extents cell width slot count blob bit) where
@@ -100,9 +79,8 @@ module _ (layout : List (List Owner)) (order : Order) (extents : List ℕ) (cell
       let same : slot + j ≡ slot_at order extents row = omega arith in
       let inside_all : j * width + width ≤ count * width = row_fits j width count width in_run (omega arith) in (
         j * width + k,
-        (let l : j * width + k < count * width = omega arith in l),
-        run.owners j k in_run l ∙ ap (λ (s : ℕ). bit_in_row (row_at order extents s) cell k) same
-            ∙ ap (λ (r : Option ℕ). bit_in_row r cell k) (row_at-slot_at order extents row inside),
+        (omega arith),
+        grind (arith, row_at-slot_at),
       )
 
   -- and of any other bit none lies there
@@ -110,32 +88,20 @@ module _ (layout : List (List Owner)) (order : Order) (extents : List ℕ) (cell
       → (c ≡ cell) × (slot ≤ slot_at order extents row) × (slot_at order extents row < slot + count)
   run_other row c i k some inside is =
       let j : ℕ = i / width in
-      let parts : j * width + i % width ≡ i = div-add-mod' i width in
-      let low : i % width < width = omega arith in
-      let in_run : j < count =
-      ⊎_elim (λ (l : j < count). l)
-      (λ (l : count ≤ j). let more : count * width ≤ j * width = mul-le count width j width l (omega arith) in absurd (omega arith))
-      (cases_lt j count) in
+      let in_run : j < count = grind (arith, ⊎_elim, mul-le, cases_lt) in
       let here : bit_in_row (row_at order extents (slot + j)) cell (i % width) ≡ Bit row c k =
-      sym (run.owners j (i % width) in_run low) ∙ ap (λ (n : ℕ). owner_at layout blob (bit + n)) parts ∙ is in
+      sym (run.owners j (i % width) in_run (omega arith)) ∙ ap (λ (n : ℕ). owner_at layout blob (bit + n)) (div-add-mod' i width) ∙ is in
       let of = of_row (row_at order extents (slot + j)) cell (i % width) row c k here in
       let at = (slot_at-row_at order extents (slot + j) row of.0).1 in
-      (sym of.1, (let l : slot ≤ slot_at order extents row = omega arith in l), (let l : slot_at order extents row < slot + count = omega arith in l))
+      (sym of.1, (omega arith), (omega arith))
 
 -- two runs of the same slots have the same owners
 pub runs_alike : (layout other : List (List Owner)) (order : Order) (extents : List ℕ) (cell width slot count blob bit source from : ℕ) → 0 < width
     → IsArrayRun layout order extents cell width slot count blob bit → IsArrayRun other order extents cell width slot count source from
     → (i : ℕ) → i < count * width → owner_at layout blob (bit + i) ≡ owner_at other source (from + i)
 runs_alike layout other order extents cell width slot count blob bit source from some one two i inside =
-    let j : ℕ = i / width in
-    let parts : j * width + i % width ≡ i = div-add-mod' i width in
-    let low : i % width < width = omega arith in
-    let in_run : j < count =
-    ⊎_elim (λ (l : j < count). l)
-    (λ (l : count ≤ j). let more : count * width ≤ j * width = mul-le count width j width l (omega arith) in absurd (omega arith))
-    (cases_lt j count) in
-    ap (λ (n : ℕ). owner_at layout blob (bit + n)) (sym parts) ∙ one.owners j (i % width) in_run low
-    ∙ sym (two.owners j (i % width) in_run low) ∙ ap (λ (n : ℕ). owner_at other source (from + n)) parts
+    let parts : (i / width) * width + i % width ≡ i = div-add-mod' i width in
+    grind arith
 
 -- where cells lie in arrays, each is stored as its type is
 pub array_holds : (term : Term) (fields : Fields) (cells : List Cell) → IfSome (array_of term) (λ array. holds_of term fields cells ≡ full_holds cells)

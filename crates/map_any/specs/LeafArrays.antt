@@ -1,11 +1,10 @@
 -- What is kept of the leaves of a mapping that lays out arrays.
 use Rattle.std.specs.Prelude.{ℕ, List, map, slice_index, IfSome}
 use Rattle.linearize.specs.Slots.{slot_count}
-use Rattle.places.specs.Holds.{widths_of, full_holds}
+use Rattle.places.specs.Prelude.{widths_of, full_holds}
 use Rattle.places.specs.declared.piece.Cell.{Cell}
 use Rattle.map_expr.specs.Terms.{Term}
-use Rattle.map_checks.specs.Arrays.{array_of, array_layout, lanes_in, IsArray}
-use Rattle.map_checks.specs.Ruled.{EachWith}
+use Rattle.map_checks.specs.Prelude.{array_of, array_layout, lanes_in, IsArray, EachWith}
 use Rattle.map_any.specs.declared.leaf_rule.LeafRule.{LeafRule}
 
 -- each leaf lies in an array; of another mapping nothing is said

@@ -1,14 +1,12 @@
 -- What accesses to leaves go by.
 use Rattle.std.specs.Prelude.{ℕ, ◌≡◌, ℤ, ◌≤ℤ◌, true, false, List, length, map, slice_index, slice_index_or}
-use Rattle.record_dim.specs.LeafTypes.{is_signed, IsIn, IsDeclared}
+use Rattle.record_dim.specs.Prelude.{is_signed, IsIn, IsDeclared}
 use Rattle.record_dim.specs.declared.leaf_type.LeafType.{LeafType}
 use Rattle.record_dim.specs.declared.leaf_type.LeafType.TheVariants.{Bool as Truth}
-use Rattle.places.specs.Layout.{Owner}
+use Rattle.places.specs.Prelude.{Owner}
 use Rattle.places.specs.declared.piece.Hold.{Hold}
-use Rattle.map_checks.specs.Ruled.{EachWith, IsRuleOf, IsSameRule}
-use Rattle.piece_bits.specs.Shorts.{IsShortOf}
-use Rattle.piece_bits.specs.Walks.{leads}
-use Rattle.piece_bits.specs.Wides.{AreReadWide}
+use Rattle.map_checks.specs.Prelude.{EachWith, IsRuleOf, IsSameRule}
+use Rattle.piece_bits.specs.Prelude.{IsShortOf, leads, AreReadWide}
 use Rattle.map_any.specs.declared.leaf_rule.LeafRule.{LeafRule}
 use Rattle.map_checks.specs.declared.rule.Rule.{Rule}
 

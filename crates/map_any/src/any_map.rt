@@ -1,20 +1,14 @@
 ghost use Rattle.std.specs.Prelude.{ℕ, ℤ, ◌≡◌, ◌<◌, ◌≤ℤ◌, ◌*◌, ◌∷◌, List, [], true, false, IfOk, OnOk, IfErr, IfSome, Ok, length, map, slice_index, slice_index_or};
 ghost use Rattle.extents.specs.Indices.{indices};
-ghost use Rattle.record_dim.specs.LeafTypes.{is_signed, IsIn, IsDeclared};
-ghost use Rattle.record_dim.specs.Schemas.{schema_fields};
-ghost use Rattle.record_dim.specs.Leaves.{kinds_of};
-ghost use Rattle.places.specs.Lawful.{IsLocated};
+ghost use Rattle.record_dim.specs.Prelude.{is_signed, IsIn, IsDeclared, schema_fields, kinds_of};
+ghost use Rattle.places.specs.Prelude.{IsLocated};
 ghost use Rattle.map_expr.specs.Terms.{term_of};
-ghost use Rattle.map_checks.specs.Mappings.{leaf_cells, layout_by, holds_by, accepted, IsBuiltTerm, IsTooBigFor, IsRefusal};
+ghost use Rattle.map_checks.specs.Prelude.{leaf_cells, layout_by, holds_by, accepted, IsBuiltTerm, IsTooBigFor, IsRefusal, IsArrayOf, IsRuleOf};
 ghost use Rattle.map_any.specs.AnyLaws.{any_laws, holds_cells};
 ghost use Rattle.map_any.specs.Counters.{is_counted};
 ghost use Rattle.map_any.specs.LeafRules.{kind_in, hold_in, IsLeafRule, IsWideIn};
 ghost use Rattle.map_any.specs.Maps.{extents_of, term_of_map};
-ghost use Rattle.map_checks.specs.Arrays.{IsArrayOf};
-ghost use Rattle.map_checks.specs.Ruled.{IsRuleOf};
-ghost use Rattle.piece_bits.specs.Shorts.{IsShortIn};
-ghost use Rattle.piece_bits.specs.Walks.{leads};
-ghost use Rattle.piece_bits.specs.Wides.{AreReadWide};
+ghost use Rattle.piece_bits.specs.Prelude.{IsShortIn, leads, AreReadWide};
 
 use crate::any::AnyMap;
 use crate::leaf_rule::LeafRule;

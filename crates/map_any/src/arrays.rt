@@ -2,7 +2,7 @@
 ghost use Rattle.std.specs.Prelude.{ℕ, ◌≡◌, ◌+◌, ◌*◌, ◌%◌, ◌<◌, ◌≤◌, IfSome, IsSomeAnd, length, map, option_map, slice_index};
 ghost use Rattle.linearize.specs.Slots.{slot_count};
 ghost use Rattle.map_expr.specs.Terms.{term_of};
-ghost use Rattle.map_checks.specs.Arrays.{array_of, lanes_in};
+ghost use Rattle.map_checks.specs.Prelude.{array_of, lanes_in};
 ghost use Rattle.map_any.specs.Inner.ArrayRuns.{IsArrayRun};
 ghost use Rattle.map_any.specs.Inner.ArraySlots.{slots_in};
 ghost use Rattle.map_any.specs.Maps.{extents_of, term_of_map};

@@ -1,11 +1,8 @@
 ghost use Rattle.std.specs.Prelude.{ℤ, ◌≡◌, ◌≤ℤ◌, true, false, IfOk, length, slice_index_or};
-ghost use Rattle.record_dim.specs.LeafTypes.{is_signed, IsIn, IsDeclared};
-ghost use Rattle.record_dim.specs.Schemas.{schema_fields};
-ghost use Rattle.record_dim.specs.Leaves.{kinds_of};
+ghost use Rattle.record_dim.specs.Prelude.{is_signed, IsIn, IsDeclared, schema_fields, kinds_of};
 ghost use Rattle.map_any.specs.LeafRules.{IsLeafRule, AreLeafRules, IsWideIn};
-ghost use Rattle.map_checks.specs.Ruled.{EachWith, IsSameRule};
-ghost use Rattle.piece_bits.specs.Shorts.{IsShortOf};
-ghost use Rattle.piece_bits.specs.Walks.{leads};
+ghost use Rattle.map_checks.specs.Prelude.{EachWith, IsSameRule};
+ghost use Rattle.piece_bits.specs.Prelude.{IsShortOf, leads};
 
 use crate::leaf_rule::{LeafRule, RuleList};
 use extents::Extents;

@@ -1,9 +1,7 @@
 ghost use Rattle.std.specs.Prelude.{◌≡◌, IfOk, OnOk, IfErr, Ok};
-ghost use Rattle.record_dim.specs.Schemas.{schema_fields};
+ghost use Rattle.record_dim.specs.Prelude.{schema_fields};
 ghost use Rattle.map_expr.specs.Terms.{term_of};
-ghost use Rattle.map_checks.specs.Mappings.{accepted, IsBuiltTerm, IsRefusal};
-ghost use Rattle.map_checks.specs.Arrays.{HasArrays};
-ghost use Rattle.map_checks.specs.Plans.{IsPlanOf};
+ghost use Rattle.map_checks.specs.Prelude.{accepted, IsBuiltTerm, IsRefusal, HasArrays, IsPlanOf};
 
 use extents::Extents;
 use map_checks::{MakeMap, Plan, has_bad_field, has_bad_side, has_part_not_full, make_plan};

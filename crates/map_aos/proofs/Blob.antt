@@ -1,5 +1,5 @@
 -- The blob of all slots: its length, and the places of a cell.
-use Rattle.map_aos.proofs.Imports.{◌≡◌, ℕ, zero, suc, ◌+◌, ◌-◌, ◌*◌, ◌/◌, ◌%◌, ◌^◌, ◌<◌, ◌≤◌, inr, ⊎_elim, List, [], ◌∷◌, ◌++◌, map, length, sum_by, get_or, slice_index, refl, sym, ap, ◌∙◌, subst, arith, length-append, flat_map, range_with_len, cases_lt, row_fits, get_or_read, length-map, width_of, Owner, Pad, Bit, owner_at, IsLocated, widths_of, full_holds, IsTooBig, Cell, Hold, Piece, within, length-parts, slot_at, one_piece, cell_width, aos_layout, LieInParts, part_of, aos_laws, layout_parts, AosForm}
+use Rattle.map_aos.proofs.Imports.{◌≡◌, ℕ, zero, suc, ◌+◌, ◌-◌, ◌*◌, ◌/◌, ◌%◌, ◌^◌, ◌<◌, ◌≤◌, ⊎_elim, List, [], ◌∷◌, map, length, sum_by, get_or, slice_index, refl, sym, ap, ◌∙◌, subst, arith, length-append, flat_map, range_with_len, cases_lt, row_fits, get_or_read, length-map, Owner, Bit, owner_at, IsLocated, widths_of, full_holds, IsTooBig, Cell, Hold, Piece, within, length-parts, slot_at, one_piece, cell_width, aos_layout, LieInParts, part_of, aos_laws, layout_parts, AosForm}
 
 abbrev blob_of : AosForm → ℕ → List ℕ → List Owner
 blob_of form slots widths = flat_map (part_of form widths) (range_with_len 0 slots)
@@ -7,15 +7,7 @@ blob_of form slots widths = flat_map (part_of form widths) (range_with_len 0 slo
 -- the length of the blob in bits
 pub blob_size : (form : AosForm) (slots : ℕ) (widths offsets : List ℕ) (stride : ℕ) → (0 < slots → LieInParts form widths offsets stride)
     → length (blob_of form slots widths) ≡ slots * stride
-blob_size form slots widths offsets stride h =
-    ⊎_elim
-    (λ (some : 0 < slots). length-parts (part_of form widths) stride (h some).size 0 slots)
-    (λ (none : slots ≤ 0).
-    let zero : slots ≡ 0 = omega arith in
-    let empty : length (blob_of form slots widths) ≡ 0 = ap (λ (n : ℕ). length (blob_of form n widths)) zero in
-    let product : slots * stride ≡ 0 = ap (λ (n : ℕ). n * stride) zero ∙ (let e : 0 * stride ≡ 0 = omega arith in e) in
-    empty ∙ sym product)
-    (cases_lt 0 slots)
+blob_size form slots widths offsets stride h = grind (arith, ⊎_elim, length-parts, cases_lt)
 
 pub layout_size : (form : AosForm) (slots : ℕ) (widths offsets : List ℕ) (stride : ℕ) → (0 < slots → LieInParts form widths offsets stride)
     → sum_by length (aos_layout form slots widths) ≡ slots * stride
@@ -46,14 +38,9 @@ pub cell_at : (form : AosForm) (slots : ℕ) (widths offsets : List ℕ) (stride
 cell_at form slots widths offsets stride slot cell bit h slot_in cell_in bit_in =
     let part : List Owner = part_of form widths slot in
     let place : ℕ = slice_index offsets cell + bit in
-    let here : get_or part place Pad ≡ Bit slot cell bit = h.here slot cell bit cell_in bit_in in
-    let low : place < length part = within part place slot cell bit here in
-    let size : length part ≡ stride = h.size slot in
+    let low : place < length part = within part place slot cell bit (h.here slot cell bit cell_in bit_in) in
     let grouped : slot * stride + slice_index offsets cell + bit ≡ slot * stride + place = omega arith in
-    ap (λ (layout : List (List Owner)). owner_at layout 0 (slot * stride + slice_index offsets cell + bit)) (layout_parts form slots widths)
-    ∙ ap (λ (p : ℕ). get_or (blob_of form slots widths) p Pad) grouped
-    ∙ slot_at Pad (part_of form widths) stride h.size slots slot place slot_in (omega arith)
-    ∙ here
+    grind (arith, slice_index, layout_parts, get_or, slot_at)
 
 -- a cell ends within the blob
 pub cell_end : (form : AosForm) (slots : ℕ) (widths offsets : List ℕ) (stride slot cell : ℕ) → LieInParts form widths offsets stride
@@ -62,9 +49,7 @@ cell_end form slots widths offsets stride slot cell h slot_in cell_in some =
     let part : List Owner = part_of form widths slot in
     let last : ℕ = slice_index widths cell - 1 in
     let place : ℕ = slice_index offsets cell + last in
-    let here : get_or part place Pad ≡ Bit slot cell last = h.here slot cell last cell_in (omega arith) in
-    let low : place < length part = within part place slot cell last here in
-    let size : length part ≡ stride = h.size slot in
+    let low : place < length part = within part place slot cell last (h.here slot cell last cell_in (omega arith)) in
     let fits : slot * stride + stride ≤ slots * stride = row_fits slot stride slots stride slot_in (omega arith) in
     omega arith
 
@@ -83,50 +68,29 @@ located_is form slots cells offsets stride slot cell piece h bound slot_in cell_
     let end : slot * stride + slice_index offsets cell + w ≤ slots * stride = cell_end form slots widths offsets stride slot cell stored slot_in width.inside some in
     let one : IsLocated layout slot cell w (piece ∷ []) =
     one_piece layout slot cell w piece bits (omega arith) (omega arith)
-    (λ k l.
-    ap (λ (b : ℕ). owner_at layout b (piece.bit + k)) blob
-    ∙ ap (λ (p : ℕ). owner_at layout 0 (p + k)) bit
-    ∙ cell_at form slots widths offsets stride slot cell k stored slot_in width.inside l) in
+    (λ k l. grind (arith, cell_at)) in
     subst (λ (n : ℕ). IsLocated layout slot cell n (piece ∷ [])) (sym width.hold) one
 
 -- a part that is too long makes the blob too long
 pub big_part : (form : AosForm) (slots : ℕ) (widths : List ℕ) → 0 < slots → ((slot : ℕ) → 2 ^ 31 < length (part_of form widths slot))
     → IsTooBig slots (aos_layout form slots widths)
-big_part form zero widths some long = let none : ⊥ = omega arith in absurd none
-big_part form (suc n) widths some long =
-    let part : List Owner = part_of form widths 0 in
-    let rest : List Owner = flat_map (part_of form widths) (range_with_len (0 + 1) n) in
-    let blob : List Owner = part ++ rest in
-    let both : length blob ≡ length part + length rest = length-append part rest in
-    let first : 2 ^ 31 < length part = long 0 in
-    let one : sum_by length (blob ∷ []) ≡ length blob = omega arith in
-    let all : sum_by length (aos_layout form (suc n) widths) ≡ length blob =
-    ap (λ (layout : List (List Owner)). sum_by length layout) (layout_parts form (suc n) widths) ∙ one in
-    inr (omega arith)
+big_part form zero widths some long = absurd (omega arith)
+big_part form (suc n) widths some long = grind (arith, flat_map, range_with_len, length-append, sum_by, layout_parts)
 
 -- the limits, where each part has `stride` bits
 pub big_blob : (form : AosForm) (slots : ℕ) (widths offsets : List ℕ) (stride : ℕ) → LieInParts form widths offsets stride → 2 ^ 31 < slots * stride
     → IsTooBig slots (aos_layout form slots widths)
-big_blob form slots widths offsets stride h long =
-    let size : sum_by length (aos_layout form slots widths) ≡ slots * stride = layout_size form slots widths offsets stride (λ some. h) in
-    inr (omega arith)
+big_blob form slots widths offsets stride h long = grind (arith, sum_by, layout_size)
 
 pub not_too_big : (form : AosForm) (slots : ℕ) (widths offsets : List ℕ) (stride : ℕ) → (0 < slots → LieInParts form widths offsets stride)
     → slots ≤ 2 ^ 24 → slots * stride ≤ 2 ^ 31 → IsTooBig slots (aos_layout form slots widths) → ⊥
 not_too_big form slots widths offsets stride h few small big =
-    let size : sum_by length (aos_layout form slots widths) ≡ slots * stride = layout_size form slots widths offsets stride h in
-    ⊎_elim
-    (λ (many : 2 ^ 24 < slots). let none : ⊥ = omega arith in none)
-    (λ (long : 8 * 2 ^ 28 < sum_by length (aos_layout form slots widths)). let none : ⊥ = omega arith in none)
-    big
+    let size : sum_by length (aos_layout form slots widths) ≡ slots * stride = layout_size form slots widths offsets stride h in grind (arith, ⊎_elim)
 
 -- an offset as the code reads it
 pub offset_read : (form : AosForm) (cells : List Cell) (offsets : List ℕ) (stride cell offset : ℕ) → LieInParts form (widths_of cells) offsets stride
     → cell < length cells → offset ≡ get_or offsets cell offset → offset ≡ slice_index offsets cell
-offset_read form cells offsets stride cell offset h inside read =
-    let count : length offsets ≡ length (widths_of cells) = h.each in
-    let size : length (widths_of cells) ≡ length cells = length-map cells (λ (c : Cell). width_of c.kind) in
-    get_or_read offsets cell offset (omega arith) read 0
+offset_read form cells offsets stride cell offset h inside read = grind (arith, length-map, get_or_read)
 
 -- an offset fits its type
 pub offset_fits : (form : AosForm) (slots : ℕ) (cells : List Cell) (offsets : List ℕ) (stride cell offset : ℕ)

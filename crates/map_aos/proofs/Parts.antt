@@ -1,5 +1,5 @@
 -- How the part of one slot is filled, cell after cell.
-use Rattle.map_aos.proofs.Imports.{◌≡◌, ℕ, ◌+◌, ◌-◌, ◌%◌, ◌<◌, ◌≤◌, ◌==◌, List, [], ◌∷◌, ◌++◌, map, filter, length, max, fold, replicate, get_or, set, take, slice_index, All, refl, sym, ap, ◌∙◌, subst, arith, lit≤, append-nil, append_assoc, take_more, take_all, get_or-map, length-map, get_or_append_left, length-enumerate_from, get_or-enumerate_from, width_of, Owner, Pad, Bit, cells_of, field, falling, widths_of, Cell, Member, length-field, field_at, within, member_width, member_at, member_cells, cells_member, fresh_at, stacked, up, IsFilled, filled_more, length-padded, stacked_take, IsWidth, by_width, widths_are, LieInParts, part_of, order_of, alignment, laid_fields, widest, part_is, apart_order, order_member, member_order, AosForm, Packed, Aligned, Min}
+use Rattle.map_aos.proofs.Imports.{◌≡◌, ℕ, ◌+◌, ◌-◌, ◌%◌, ◌<◌, ◌≤◌, ◌==◌, List, [], ◌∷◌, ◌++◌, map, filter, length, max, fold, get_or, set, take, slice_index, All, refl, sym, ap, ◌∙◌, subst, arith, append-nil, append_assoc, take_more, take_all, get_or-map, length-map, get_or_append_left, length-enumerate_from, get_or-enumerate_from, width_of, Owner, Pad, Bit, cells_of, field, falling, widths_of, Cell, Member, length-field, field_at, member_width, member_at, member_cells, cells_member, fresh_at, stacked, up, IsFilled, filled_more, length-padded, stacked_take, IsWidth, by_width, widths_are, LieInParts, part_of, order_of, alignment, laid_fields, widest, part_is, apart_order, order_member, member_order, AosForm}
 
 -- the numbered cells, one by one
 pub length-cells : (cells : List Cell) → length (cells_of (widths_of cells)) ≡ length cells
@@ -10,30 +10,18 @@ pub cells_more : (cells : List Cell) (i : ℕ) (d : Cell) → i < length cells
 cells_more cells i d inside =
     let size : length (cells_of (widths_of cells)) ≡ length cells = length-cells cells in
     let size' : length (widths_of cells) ≡ length cells = length-map cells (λ (cell : Cell). width_of cell.kind) in
-    let step : take (i + 1) (cells_of (widths_of cells)) ≡ take i (cells_of (widths_of cells)) ++ get_or (cells_of (widths_of cells)) i (0, 0) ∷ [] =
-    take_more (cells_of (widths_of cells)) i (0, 0) (omega arith) in
     let at : get_or (cells_of (widths_of cells)) i (0, 0) ≡ (0 + i, get_or (widths_of cells) i 0) =
     get_or-enumerate_from 0 (widths_of cells) i (0, 0) (omega arith) in
-    let number : 0 + i ≡ i = omega arith in
     let width : get_or (widths_of cells) i 0 ≡ width_of (get_or cells i d).kind =
     get_or-map (λ (cell : Cell). width_of cell.kind) cells i d 0 inside in
     let cell : (0 + i, get_or (widths_of cells) i 0) ≡ (i, width_of (get_or cells i d).kind) =
-    ap (λ (n : ℕ). (n, get_or (widths_of cells) i 0)) number ∙ ap (λ (w : ℕ). (i, w)) width in
-    step ∙ ap (λ (e : ℕ × ℕ). take i (cells_of (widths_of cells)) ++ e ∷ []) (at ∙ cell)
+    ap (λ (n : ℕ). (n, get_or (widths_of cells) i 0)) (omega arith) ∙ ap (λ (w : ℕ). (i, w)) width in
+    (take_more (cells_of (widths_of cells)) i (0, 0) (omega arith)) ∙ ap (λ (e : ℕ × ℕ). take i (cells_of (widths_of cells)) ++ e ∷ []) (at ∙ cell)
 
 -- four filters behind one another
 pub falling_is : (none : List (ℕ × ℕ)) (cells : List (ℕ × ℕ)) → none ≡ []
     → none ++ filter (λ cell. cell.1 == 64) cells ++ filter (λ cell. cell.1 == 32) cells ++ filter (λ cell. cell.1 == 16) cells ++ filter (λ cell. cell.1 == 8) cells ≡ falling cells
-falling_is none cells e =
-    let a : List (ℕ × ℕ) = filter (λ cell. cell.1 == 64) cells in
-    let b : List (ℕ × ℕ) = filter (λ cell. cell.1 == 32) cells in
-    let c : List (ℕ × ℕ) = filter (λ cell. cell.1 == 16) cells in
-    let d : List (ℕ × ℕ) = filter (λ cell. cell.1 == 8) cells in
-    ap (λ (xs : List (ℕ × ℕ)). xs ++ a ++ b ++ c ++ d) e
-    ∙ ap (λ (xs : List (ℕ × ℕ)). xs ++ d) (append_assoc a b c)
-    ∙ append_assoc a (b ++ c) d
-    ∙ ap (λ (xs : List (ℕ × ℕ)). a ++ xs) (append_assoc b c d)
-    ∙ ap (λ (xs : List (ℕ × ℕ)). a ++ (b ++ (c ++ xs))) (sym (append-nil d))
+falling_is none cells e = grind (arith, append_assoc, append-nil)
 
 -- every slot's cells, as far as they are placed
 pub record IsPlaced (form : AosForm) (order : List (ℕ × ℕ)) (offsets : List ℕ) (end : ℕ) : Type 0 where
@@ -84,9 +72,7 @@ widest_push form cells cell = widest_push_from form 1 cells cell
 -- what the end is aligned to, one cell more
 pub widest_more : (form : AosForm) (order : List (ℕ × ℕ)) (i : ℕ) (d : ℕ × ℕ) → i < length order
     → widest form (take (i + 1) order) ≡ max (widest form (take i order)) (alignment form (get_or order i d).1)
-widest_more form order i d l =
-    let step : take (i + 1) order ≡ take i order ++ get_or order i d ∷ [] = take_more order i d l in
-    ap (widest form) step ∙ widest_push form (take i order) (get_or order i d)
+widest_more form order i d l = ap (widest form) (take_more order i d l) ∙ widest_push form (take i order) (get_or order i d)
 
 -- all cells are placed
 pub stored : (form : AosForm) (widths offsets : List ℕ) (end : ℕ) → All IsWidth widths → length offsets ≡ length widths
@@ -104,13 +90,9 @@ stored form widths offsets end each size h =
           let w : ℕ = slice_index widths c in
           let m : Member order c w = order_member form widths c w each (cells_member widths c c_in) in
           let laid : List Owner = laid_fields form widths slot in
-          let place : ℕ = slice_index offsets c + k in
           let in_field : k < length (field slot (c, w)) = let e : length (field slot (c, w)) ≡ w = length-field slot c w in omega arith in
-          let owner : get_or laid place Pad ≡ Bit slot c k = (h.each slot).here c w k m in_field ∙ field_at slot c w k k_in in
-          let inside : place < length laid = within laid place slot c k owner in
-          ap (λ (owners : List Owner). get_or owners place Pad) (part_is form widths slot each)
-          ∙ get_or_append_left laid (replicate ((pad - length laid % pad) % pad) Pad) Pad place inside
-          ∙ owner;
+          let owner : get_or laid (slice_index offsets c + k) Pad ≡ Bit slot c k = (h.each slot).here c w k m in_field ∙ field_at slot c w k k_in in
+          grind (arith, get_or, part_is, get_or_append_left);
     }
 
 -- a part is at least as long as what is placed of it
@@ -129,16 +111,10 @@ placed_le form widths offsets end i slot each h =
 pub numbered_more : (cells : List Cell) (i : ℕ) (d : Cell) (w : ℕ) (old new : List (ℕ × ℕ)) → i < length cells
     → old ≡ take i (cells_of (widths_of cells)) → w ≡ width_of (get_or cells i d).kind → new ≡ old ++ (i, w) ∷ []
     → new ≡ take (i + 1) (cells_of (widths_of cells))
-numbered_more cells i d w old new inside was width pushed =
-    let all : List (ℕ × ℕ) = cells_of (widths_of cells) in
-    let one : new ≡ take i all ++ (i, w) ∷ [] = pushed ∙ ap (λ (xs : List (ℕ × ℕ)). xs ++ (i, w) ∷ []) was in
-    let two : new ≡ take i all ++ (i, width_of (get_or cells i d).kind) ∷ [] = one ∙ ap (λ (v : ℕ). take i all ++ (i, v) ∷ []) width in
-    two ∙ sym (cells_more cells i d inside)
+numbered_more cells i d w old new inside was width pushed = grind (arith, get_or, cells_more)
 
 alignment_some : (form : AosForm) (w : ℕ) → IsWidth w → (1 ≤ alignment form w) × (alignment form w ≤ 64)
-alignment_some Packed w h = ((let l : 1 ≤ 1 = omega arith in l), (let l : 1 ≤ 64 = omega arith in l))
-alignment_some Aligned w h = by_width (λ w. (1 ≤ w) × (w ≤ 64)) w (lit≤ tt, lit≤ tt) (lit≤ tt, lit≤ tt) (lit≤ tt, lit≤ tt) (lit≤ tt, lit≤ tt) h
-alignment_some Min w h = by_width (λ w. (1 ≤ w) × (w ≤ 64)) w (lit≤ tt, lit≤ tt) (lit≤ tt, lit≤ tt) (lit≤ tt, lit≤ tt) (lit≤ tt, lit≤ tt) h
+alignment_some form w h = grind (arith, by_width)
 
 -- what is known of the cell at a place of the order
 pub record IsNext (form : AosForm) (count : ℕ) (cell : ℕ × ℕ) : Type 0 where
@@ -148,53 +124,23 @@ pub record IsNext (form : AosForm) (count : ℕ) (cell : ℕ × ℕ) : Type 0 wh
 
 pub next_at : (form : AosForm) (cells : List Cell) (order : List (ℕ × ℕ)) (i : ℕ) (d : ℕ × ℕ) → order ≡ order_of form (cells_of (widths_of cells)) → i < length order
     → IsNext form (length cells) (get_or order i d)
-next_at form cells order i d e l =
-    let Next : List (ℕ × ℕ) → Type 0 = λ xs. i < length xs → IsNext form (length cells) (get_or xs i d) in
-    let widths : List ℕ = widths_of cells in
-    let there : Next (order_of form (cells_of widths)) = λ l.
-    let o = order_at form widths i d (widths_are cells) l in
-    let a = alignment_some form (get_or (order_of form (cells_of widths)) i d).1 o.width in
-    let same : length (widths_of cells) ≡ length cells = length-map cells (λ (cell : Cell). width_of cell.kind) in
-    let number : (get_or (order_of form (cells_of widths)) i d).0 < length widths = o.number in
-    record { number = omega arith; some = a.0; low = a.1 } in
-    subst Next (sym e) there l
+next_at form cells order i d e l = grind (arith, get_or, order_at, widths_are, alignment_some, length-map)
 
 pub placed_next : (form : AosForm) (cells : List Cell) (order : List (ℕ × ℕ)) (i : ℕ) (d : ℕ × ℕ) (offsets : List ℕ) (end align offset width : ℕ)
     → order ≡ order_of form (cells_of (widths_of cells)) → i < length order → length offsets ≡ length cells
     → align ≡ alignment form (get_or order i d).1 → offset ≡ end + (align - end % align) % align → width ≡ (get_or order i d).1
     → IsPlaced form (take i order) offsets end
     → IsPlaced form (take (i + 1) order) (set offsets (get_or order i d).0 offset) (offset + width)
-placed_next form cells order i d offsets end align offset width e l size a o w h =
-    let widths : List ℕ = widths_of cells in
-    let Placed : List (ℕ × ℕ) → Type 0 = λ xs. i < length xs → IsPlaced form (take i xs) offsets end
-    → IsPlaced form (take (i + 1) xs) (set offsets (get_or xs i d).0 (up (alignment form (get_or xs i d).1) end)) (up (alignment form (get_or xs i d).1) end + (get_or xs i d).1) in
-    let same : length (widths_of cells) ≡ length cells = length-map cells (λ (cell : Cell). width_of cell.kind) in
-    let there : Placed (order_of form (cells_of widths)) = λ l h. placed_more form widths offsets end i d (widths_are cells) (size ∙ sym same) l h in
-    let here = subst Placed (sym e) there l h in
-    let place : up (alignment form (get_or order i d).1) end ≡ offset = ap (λ (n : ℕ). up n end) (sym a) ∙ sym o in
-    let moved = subst (λ (n : ℕ). IsPlaced form (take (i + 1) order) (set offsets (get_or order i d).0 n) (n + (get_or order i d).1)) place here in
-    subst (λ (n : ℕ). IsPlaced form (take (i + 1) order) (set offsets (get_or order i d).0 offset) (offset + n)) (sym w) moved
+placed_next form cells order i d offsets end align offset width e l size a o w h = grind (arith, get_or, length-map, placed_more, widths_are)
 
 -- all cells of the order are placed
 pub stored_all : (form : AosForm) (cells : List Cell) (order : List (ℕ × ℕ)) (i : ℕ) (offsets : List ℕ) (end last size : ℕ)
     → order ≡ order_of form (cells_of (widths_of cells)) → length order ≤ i → length offsets ≡ length cells
     → last ≡ widest form (take i order) → size ≡ end + (last - end % last) % last
     → IsPlaced form (take i order) offsets end → LieInParts form (widths_of cells) offsets size
-stored_all form cells order i offsets end last size e all count l s h =
-    let widths : List ℕ = widths_of cells in
-    let Stored : List (ℕ × ℕ) → Type 0 = λ xs. IsPlaced form xs offsets end → LieInParts form widths offsets (up (widest form xs) end) in
-    let same : length (widths_of cells) ≡ length cells = length-map cells (λ (cell : Cell). width_of cell.kind) in
-    let whole : take i order ≡ order = take_all i order all in
-    let there : Stored (order_of form (cells_of widths)) = λ h. stored form widths offsets end (widths_are cells) (count ∙ sym same) h in
-    let here = subst Stored (sym (whole ∙ e)) there h in
-    let sized : up (widest form (take i order)) end ≡ size = ap (λ (n : ℕ). up n end) (sym l) ∙ sym s in
-    subst (λ (n : ℕ). LieInParts form widths offsets n) sized here
+stored_all form cells order i offsets end last size e all count l s h = grind (arith, length-map, take_all, stored, widths_are)
 
 -- what is placed is no longer than a part
 pub placed_below : (form : AosForm) (cells : List Cell) (order : List (ℕ × ℕ)) (i : ℕ) (offsets : List ℕ) (end slot : ℕ)
     → order ≡ order_of form (cells_of (widths_of cells)) → IsPlaced form (take i order) offsets end → end ≤ length (part_of form (widths_of cells) slot)
-placed_below form cells order i offsets end slot e h =
-    let widths : List ℕ = widths_of cells in
-    let Below : List (ℕ × ℕ) → Type 0 = λ xs. IsPlaced form (take i xs) offsets end → end ≤ length (part_of form widths slot) in
-    let there : Below (order_of form (cells_of widths)) = λ h. placed_le form widths offsets end i slot (widths_are cells) h in
-    subst Below (sym e) there h
+placed_below form cells order i offsets end slot e h = grind (arith, placed_le, widths_are)

@@ -1,6 +1,6 @@
 -- The layout of each form, and what a mapping keeps of it.
 use Rattle.std.specs.Prelude.{ℕ, ◌≡◌, ◌+◌, ◌<◌, List, length, slice_index, slice_index_or}
-use Rattle.places.specs.Layout.{Owner, Pad, Bit, cells_of, fields, falling, aligned_part}
+use Rattle.places.specs.Prelude.{Owner, Pad, Bit, cells_of, fields, falling, aligned_part}
 use Rattle.places.specs.declared.forms.AosForm.{AosForm}
 use Rattle.places.specs.declared.forms.AosForm.TheVariants.{Packed, Aligned, Min}
 

@@ -1,30 +1,16 @@
 -- The laws of each form: each bit of each cell has one place, and the blob is whole bytes.
-use Rattle.std.proofs.Common.{◌≡◌, ℕ, ◌+◌, ◌-◌, ◌%◌, ◌<◌, ◌≤◌, inl, inr, List, [], ◌∷◌, map, length, max, fold, All, refl, sym, ap, ◌∙◌, subst, arith}
-use Rattle.std.specs.List.{flat_map, range_with_len}
-use Rattle.std.proofs.lemmas.List.Elements.{All-cons, All-nil}
-use Rattle.places.specs.Layout.{Owner, cells_of, field, greatest, falling, aligned_fields, aligned_part, padded_to}
-use Rattle.places.specs.Lawful.{IsBitOf, IsLaidOut}
-use Rattle.places.specs.Holds.{widths_of, full_holds}
+use Rattle.std.specs.Prelude.{◌≡◌, ℕ, ◌+◌, ◌-◌, ◌%◌, ◌<◌, ◌≤◌, List, [], ◌∷◌, map, length, max, fold, All, refl}
+use Rattle.record_dim.specs.Std.{inl, inr, sym, ap, ◌∙◌, subst, arith, flat_map, range_with_len, All-cons, All-nil}
+use Rattle.places.specs.Prelude.{Owner, cells_of, field, greatest, falling, aligned_fields, aligned_part, padded_to, IsBitOf, IsLaidOut, widths_of, full_holds, Has, has_same, has_range, has_padded, has_field, length-field, Member, Apart, apart_falling, member_falling, falling_member, LaysOut, has_blob, laid_out, member_width, apart_enumerate, bit_of_cells, cells_of_bit, parts_bytes, stacked, flat_stacked, fields_stacked, length-padded, padded_one, has_all_stacked, stacked_bytes, KeepsBytes, IsWidth, by_width, widths_are, widths_narrow, widths_wide, widths_full, keeps_one, keeps_width, keeps_greater, aos_layout}
 use Rattle.places.specs.declared.piece.Cell.{Cell}
 use Rattle.places.specs.declared.piece.Hold.{Hold}
-use Rattle.places.specs.ExactLaws.{Has, has_same, has_range, has_padded, has_field, length-field, Member, Apart}
-use Rattle.places.specs.FallingLaws.{apart_falling, member_falling, falling_member}
-use Rattle.places.specs.ComposeLaws.{LaysOut, has_blob, laid_out}
-use Rattle.places.specs.CellWidthsLaws.{member_width}
-use Rattle.places.specs.CellsLaws.{apart_enumerate, bit_of_cells, cells_of_bit}
-use Rattle.places.specs.SlotsLaws.{parts_bytes}
-use Rattle.places.specs.StackedLaws.{stacked, flat_stacked, fields_stacked, length-padded, padded_one, has_all_stacked, stacked_bytes, KeepsBytes}
-use Rattle.places.specs.WidthsLaws.{IsWidth, by_width, widths_are, widths_narrow, widths_wide, widths_full, keeps_one, keeps_width, keeps_greater}
-use Rattle.places.specs.Forms.{aos_layout}
 use Rattle.map_aos.specs.Aos.{part_of, order_of, alignment}
 use Rattle.places.specs.declared.forms.AosForm.{AosForm}
 use Rattle.places.specs.declared.forms.AosForm.TheVariants.{Packed, Aligned, Min}
 
 -- slot after slot
 pub layout_parts : (form : AosForm) (slots : ℕ) (widths : List ℕ) → aos_layout form slots widths ≡ flat_map (part_of form widths) (range_with_len 0 slots) ∷ []
-layout_parts Packed slots widths = refl
-layout_parts Aligned slots widths = refl
-layout_parts Min slots widths = refl
+layout_parts form slots widths = grind arith
 
 -- the fields of one slot, without the padding behind them
 abbrev pub laid_fields : AosForm → List ℕ → ℕ → List Owner
@@ -36,9 +22,7 @@ widest form cells = fold max 1 (map (λ cell. alignment form cell.1) cells)
 
 -- where all are at least 1, to begin at 1 changes nothing
 widest_greatest : (cell : ℕ × ℕ) (cells : List (ℕ × ℕ)) → 1 ≤ cell.1 → fold max 1 (map (λ cell. cell.1) (cell ∷ cells)) ≡ greatest (cell ∷ cells)
-widest_greatest cell cells some =
-    let one : max 1 cell.1 ≡ max 0 cell.1 = omega arith in
-    ap (λ (n : ℕ). fold max n (map (λ (cell : ℕ × ℕ). cell.1) cells)) one
+widest_greatest cell cells some = grind arith
 
 ones : (cells : List (ℕ × ℕ)) → fold max 1 (map (λ (cell : ℕ × ℕ). 1) cells) ≡ 1
 ones [] = refl
@@ -48,9 +32,7 @@ some_width : (w : ℕ) → IsWidth w → 1 ≤ w
 some_width w h = by_width (λ w. 1 ≤ w) w (omega arith) (omega arith) (omega arith) (omega arith) h
 
 keeps_alignment : (form : AosForm) (w : ℕ) → IsWidth w → KeepsBytes (alignment form w)
-keeps_alignment Packed w h = keeps_one
-keeps_alignment Aligned w h = keeps_width w h
-keeps_alignment Min w h = keeps_width w h
+keeps_alignment form w h = grind (arith, keeps_one, keeps_width)
 
 aligned_is : (cells : List (ℕ × ℕ)) (slot : ℕ) → ((c w : ℕ) → Member cells c w → 1 ≤ w)
     → aligned_part cells slot ≡ padded_to (fold max 1 (map (λ (cell : ℕ × ℕ). cell.1) cells)) (stacked (λ w. w) (field slot) [] cells)
@@ -72,19 +54,13 @@ part_is Min widths slot each =
 
 -- the cells in their order are the cells, each once
 pub apart_order : (form : AosForm) (widths : List ℕ) → Apart (order_of form (cells_of widths))
-apart_order Packed widths = apart_enumerate 0 widths
-apart_order Aligned widths = apart_enumerate 0 widths
-apart_order Min widths = apart_falling (cells_of widths) (apart_enumerate 0 widths)
+apart_order form widths = grind (arith, apart_enumerate, apart_falling)
 
 pub order_member : (form : AosForm) (widths : List ℕ) (c w : ℕ) → All IsWidth widths → Member (cells_of widths) c w → Member (order_of form (cells_of widths)) c w
-order_member Packed widths c w each m = m
-order_member Aligned widths c w each m = m
-order_member Min widths c w each m = falling_member (cells_of widths) c w (member_width widths c w each m) m
+order_member form widths c w each m = grind (arith, falling_member, member_width)
 
 pub member_order : (form : AosForm) (widths : List ℕ) (c w : ℕ) → Member (order_of form (cells_of widths)) c w → Member (cells_of widths) c w
-member_order Packed widths c w m = m
-member_order Aligned widths c w m = m
-member_order Min widths c w m = member_falling (cells_of widths) c w m
+member_order form widths c w m = grind (arith, member_falling)
 
 -- the bits of one part
 abbrev BitOfPart : List ℕ → ℕ → ℕ → ℕ → ℕ → Type 0
@@ -92,13 +68,11 @@ BitOfPart widths slot s c k = (s ≡ slot) × ((w : ℕ) × Member (cells_of wid
 
 has_part : (form : AosForm) (widths : List ℕ) (slot : ℕ) → All IsWidth widths → Has (BitOfPart widths slot) (part_of form widths slot)
 has_part form widths slot each =
-    let Own : ℕ × ℕ → ℕ → ℕ → ℕ → Type 0 = λ cell s c k. (s ≡ slot) × (c ≡ cell.0) × (k < cell.1) in
     let cells : List (ℕ × ℕ) = order_of form (cells_of widths) in
-    let inner = has_all_stacked (alignment form) (field slot) Own cells (apart_order form widths)
+    let inner = has_all_stacked (alignment form) (field slot) (λ cell s c k. (s ≡ slot) × (c ≡ cell.0) × (k < cell.1)) cells (apart_order form widths)
     (λ c w. has_field slot c w) (λ c w s c' k o. o.1) in
     let end : ℕ = widest form cells in
-    let padded = has_padded ((end - length (laid_fields form widths slot) % end) % end) inner in
-    let same = has_same {Out = BitOfPart widths slot} padded
+    let same = has_same {Out = BitOfPart widths slot} (has_padded ((end - length (laid_fields form widths slot) % end) % end) inner)
     (λ s c k (h : (w : ℕ) × Member cells c w × ((s ≡ slot) × (c ≡ c) × (k < w))). (h.2.0, (h.0, member_order form widths c h.0 h.1, h.2.2)))
     (λ s c k (h : BitOfPart widths slot s c k). (h.1.0, order_member form widths c h.1.0 each h.1.1, (h.0, refl, h.1.2))) in
     subst (λ (owners : List Owner). Has (BitOfPart widths slot) owners) (sym (part_is form widths slot each)) same
@@ -116,15 +90,10 @@ part_bytes : (form : AosForm) (widths : List ℕ) (slot : ℕ) → All IsWidth w
 part_bytes form widths slot each =
     let cells : List (ℕ × ℕ) = order_of form (cells_of widths) in
     let inner : length (laid_fields form widths slot) % 8 ≡ 0 =
-    stacked_bytes (alignment form) (field slot) [] cells refl
-    (λ c w m.
-    let width : IsWidth w = member_width widths c w each (member_order form widths c w m) in
-    (keeps_alignment form w width, ap (λ (n : ℕ). n % 8) (length-field slot c w) ∙ by_width (λ w. w % 8 ≡ 0) w refl refl refl refl width)) in
+    grind (arith, stacked_bytes, member_width, member_order, keeps_alignment, length-field, by_width) in
     let keeps : KeepsBytes (widest form cells) =
     keeps_widest form cells 1 keeps_one (λ c w m. member_width widths c w each (member_order form widths c w m)) in
-    ap (λ (owners : List Owner). length owners % 8) (part_is form widths slot each)
-    ∙ ap (λ (n : ℕ). n % 8) (length-padded (widest form cells) (laid_fields form widths slot))
-    ∙ keeps (length (laid_fields form widths slot)) inner
+    grind (arith, part_is, length-padded)
 
 -- each bit of each cell in each slot has one place
 aos_lays_out : (form : AosForm) (slots : ℕ) (widths : List ℕ) → All IsWidth widths → LaysOut (IsBitOf slots widths) (aos_layout form slots widths)
@@ -134,12 +103,9 @@ aos_lays_out form slots widths each =
     (λ i j s c k (one : BitOfPart widths i s c k) (two : BitOfPart widths j s c k). sym one.0 ∙ two.0) in
     let blob = has_blob (has_same {Out = IsBitOf slots widths} all
     (λ s c k (h : (i : ℕ) × (0 ≤ i) × (i < 0 + slots) × BitOfPart widths i s c k).
-    let same : s ≡ h.0 = h.3.0 in
-    let high : h.0 < 0 + slots = h.2 in
     bit_of_cells slots widths s c k (omega arith) h.3.1)
     (λ s c k (h : IsBitOf slots widths s c k).
-    let inside : s < slots = h.slot_in in
-    (s, (let l : 0 ≤ s = omega arith in l), (let l : s < 0 + slots = omega arith in l), (refl, cells_of_bit slots widths s c k h)))) in
+    (s, (omega arith), (omega arith), (refl, cells_of_bit slots widths s c k h)))) in
     subst (λ (layout : List (List Owner)). LaysOut (IsBitOf slots widths) layout) (sym (layout_parts form slots widths)) blob
 
 pub aos_laws : (form : AosForm) (slots : ℕ) (cells : List Cell) → IsLaidOut (aos_layout form slots (widths_of cells)) slots (map (λ (h : Hold). h.width) (full_holds cells))
@@ -147,10 +113,7 @@ aos_laws form slots cells =
     let widths : List ℕ = widths_of cells in
     let each : All IsWidth widths = widths_are cells in
     let blob : List Owner = flat_map (part_of form widths) (range_with_len 0 slots) in
-    let bytes : All (λ blob. length blob % 8 ≡ 0) (blob ∷ []) =
-    All-cons (λ (blob : List Owner). length blob % 8 ≡ 0) blob []
-    (parts_bytes (part_of form widths) (λ s. part_bytes form widths s each) 0 slots)
-    (All-nil (λ (blob : List Owner). length blob % 8 ≡ 0)) in
+    let bytes : All (λ blob. length blob % 8 ≡ 0) (blob ∷ []) = grind (arith, All-cons, parts_bytes, part_bytes, All-nil) in
     let whole : All (λ blob. length blob % 8 ≡ 0) (aos_layout form slots widths) =
     subst (λ (layout : List (List Owner)). All (λ (blob : List Owner). length blob % 8 ≡ 0) layout) (sym (layout_parts form slots widths)) bytes in
     let laid : IsLaidOut (aos_layout form slots widths) slots widths =

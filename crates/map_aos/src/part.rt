@@ -1,6 +1,5 @@
 ghost use Rattle.std.specs.Prelude.{ℕ, ◌≡◌, ◌+◌, ◌*◌, ◌^◌, ◌<◌, ◌≤◌, ◌⊎◌, ◌++◌, ◌==◌, IfOk, IfErr, OnOk, IsErrOf, filter, length};
-ghost use Rattle.places.specs.Layout.{cells_of, falling};
-ghost use Rattle.places.specs.Holds.{widths_of};
+ghost use Rattle.places.specs.Prelude.{cells_of, falling, widths_of};
 ghost use Rattle.map_aos.specs.Aos.{LieInParts, alignment, order_of, part_of};
 
 use places::{AosForm, Cell, MAX_BLOB_BITS, NewMapping, up};

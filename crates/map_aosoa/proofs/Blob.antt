@@ -1,5 +1,5 @@
 -- The blob of all blocks: its length, and the places of a cell.
-use Rattle.map_aosoa.proofs.Imports.{◌≡◌, ℕ, zero, suc, ◌+◌, ◌-◌, ◌*◌, ◌/◌, ◌%◌, ◌^◌, ◌<◌, ◌≤◌, inr, ⊎_elim, List, [], ◌∷◌, ◌++◌, map, length, sum_by, get_or, slice_index, take, refl, sym, ap, ◌∙◌, subst, arith, length-append, flat_map, range_with_len, enumerate_from, sum, cases_lt, row_fits, div-add-mod', mul-le, get_or_read, get_or_append_left, get_or-append-add, sum_by-cons, Owner, Pad, Bit, owner_at, cells_of, lane, block_of, aosoa, IsLocated, widths_of, full_holds, IsTooBig, Cell, Hold, Piece, within, field_at, length-parts, slot_at, one_piece, cell_width, length-widths, LieInBlocks, block_count, lanes_of, lane_is, length-lane, in_blocks, aosoa_laws}
+use Rattle.map_aosoa.proofs.Imports.{◌≡◌, ℕ, zero, suc, ◌+◌, ◌-◌, ◌*◌, ◌/◌, ◌%◌, ◌^◌, ◌<◌, ◌≤◌, inr, ⊎_elim, List, [], ◌∷◌, ◌++◌, map, length, sum_by, get_or, slice_index, take, refl, sym, ap, ◌∙◌, subst, arith, length-append, flat_map, range_with_len, enumerate_from, sum, cases_lt, div-add-mod', mul-le, get_or_read, get_or_append_left, get_or-append-add, sum_by-cons, Owner, Pad, Bit, owner_at, cells_of, lane, block_of, aosoa, IsLocated, widths_of, full_holds, IsTooBig, Cell, Hold, Piece, within, field_at, length-parts, slot_at, one_piece, cell_width, length-widths, LieInBlocks, block_count, lanes_of, lane_is, length-lane, in_blocks, aosoa_laws}
 
 length-lanes : (lanes slots block c w : ℕ) → length (lanes_of lanes slots block (c, w)) ≡ lanes * w
 length-lanes lanes slots block c w = length-parts (λ l. lane slots (c, w) (block * lanes + l)) w (λ l. length-lane slots c w (block * lanes + l)) 0 lanes
@@ -13,46 +13,24 @@ cells_size lanes slots block n (w ∷ widths) =
     let both : length (first ++ rest) ≡ length first + length rest = length-append first rest in
     let one : length first ≡ lanes * w = length-lanes lanes slots block n w in
     let others : length rest ≡ lanes * sum widths = cells_size lanes slots block (n + 1) widths in
-    let all : sum (w ∷ widths) ≡ w + sum widths = sum_by-cons (λ (x : ℕ). x) w widths in
-    let product : lanes * (w + sum widths) ≡ lanes * w + lanes * sum widths = grind arith in
-    let joined : length (first ++ rest) ≡ lanes * (w + sum widths) = omega arith in
-    joined ∙ ap (λ (n : ℕ). lanes * n) (sym all)
+    (omega arith) ∙ ap (λ (n : ℕ). lanes * n) (sym (sum_by-cons (λ (x : ℕ). x) w widths))
 
 -- place j of the lanes of cell c
 cells_at : (lanes slots block n : ℕ) (widths : List ℕ) (c j : ℕ) → c < length widths → j < lanes * slice_index widths c
     → get_or (flat_map (lanes_of lanes slots block) (enumerate_from n widths)) (lanes * sum (take c widths) + j) Pad
     ≡ get_or (lanes_of lanes slots block (n + c, slice_index widths c)) j Pad
-cells_at lanes slots block n [] c j inside low = let none : ⊥ = omega arith in absurd none
-cells_at lanes slots block n (w ∷ widths) zero j inside low =
-    let first : List Owner = lanes_of lanes slots block (n, w) in
-    let rest : List Owner = flat_map (lanes_of lanes slots block) (enumerate_from (n + 1) widths) in
-    let one : length first ≡ lanes * w = length-lanes lanes slots block n w in
-    let place : lanes * sum (take zero (w ∷ widths)) + j ≡ j = omega arith in
-    let number : n ≡ n + zero = omega arith in
-    ap (λ (p : ℕ). get_or (first ++ rest) p Pad) place
-    ∙ get_or_append_left first rest Pad j (omega arith)
-    ∙ ap (λ (i : ℕ). get_or (lanes_of lanes slots block (i, w)) j Pad) number
+cells_at lanes slots block n [] c j inside low = absurd (omega arith)
+cells_at lanes slots block n (w ∷ widths) zero j inside low = grind (arith, flat_map, enumerate_from, length-lanes, get_or, get_or_append_left)
 cells_at lanes slots block n (w ∷ widths) (suc c) j inside low =
-    let first : List Owner = lanes_of lanes slots block (n, w) in
-    let rest : List Owner = flat_map (lanes_of lanes slots block) (enumerate_from (n + 1) widths) in
-    let one : length first ≡ lanes * w = length-lanes lanes slots block n w in
+    let one : length (lanes_of lanes slots block (n, w)) ≡ lanes * w = length-lanes lanes slots block n w in
     let all : sum (w ∷ take c widths) ≡ w + sum (take c widths) = sum_by-cons (λ (x : ℕ). x) w (take c widths) in
-    let product : lanes * (w + sum (take c widths)) ≡ lanes * w + lanes * sum (take c widths) = grind arith in
     let whole : lanes * sum (w ∷ take c widths) ≡ lanes * (w + sum (take c widths)) = ap (λ (s : ℕ). lanes * s) all in
-    let place : lanes * sum (w ∷ take c widths) + j ≡ length first + (lanes * sum (take c widths) + j) = omega arith in
-    let number : n + 1 + c ≡ n + suc c = omega arith in
-    ap (λ (p : ℕ). get_or (first ++ rest) p Pad) place
-    ∙ get_or-append-add first rest (lanes * sum (take c widths) + j) Pad
-    ∙ cells_at lanes slots block (n + 1) widths c j (omega arith) low
-    ∙ ap (λ (i : ℕ). get_or (lanes_of lanes slots block (i, slice_index widths c)) j Pad) number
+    grind (arith, get_or, get_or-append-add, slice_index, (cells_at lanes slots block (n + 1) widths c j (omega arith) low))
 
 -- bit k of a lane that has a slot
 lane_at : (lanes slots block c w l k : ℕ) → l < lanes → k < w → block * lanes + l < slots
     → get_or (lanes_of lanes slots block (c, w)) (l * w + k) Pad ≡ Bit (block * lanes + l) c k
-lane_at lanes slots block c w l k lane_in bit_in slot_in =
-    slot_at Pad (λ l. lane slots (c, w) (block * lanes + l)) w (λ l. length-lane slots c w (block * lanes + l)) lanes l k lane_in bit_in
-    ∙ ap (λ (owners : List Owner). get_or owners k Pad) (lane_is slots c w (block * lanes + l) slot_in)
-    ∙ field_at (block * lanes + l) c w k bit_in
+lane_at lanes slots block c w l k lane_in bit_in slot_in = grind (arith, slot_at, length-lane, get_or, lane_is, field_at)
 
 abbrev blob_of : ℕ → ℕ → List ℕ → List Owner
 blob_of lanes slots widths = flat_map (block_of lanes slots (cells_of widths)) (range_with_len 0 (block_count lanes slots))
@@ -63,37 +41,18 @@ block_size lanes slots widths offsets stride h block = cells_size lanes slots bl
 
 -- with no slot there is no block
 no_blocks : (lanes slots : ℕ) → 0 < lanes → slots ≤ 0 → block_count lanes slots ≡ 0
-no_blocks lanes slots some none =
-    let all : block_count lanes slots * lanes + (slots + (lanes - 1)) % lanes ≡ slots + (lanes - 1) = div-add-mod' (slots + (lanes - 1)) lanes in
-    ⊎_elim
-    (λ (l : 0 < block_count lanes slots).
-    let grows : 1 * lanes ≤ block_count lanes slots * lanes = mul-le 1 lanes (block_count lanes slots) lanes l (omega arith) in
-    let never : ⊥ = omega arith in
-    absurd never)
-    (λ (l : block_count lanes slots ≤ 0). let e : block_count lanes slots ≡ 0 = omega arith in e)
-    (cases_lt 0 (block_count lanes slots))
+no_blocks lanes slots some none = grind (arith, div-add-mod', ⊎_elim, mul-le, cases_lt)
 
 -- the length of the blob in bits
 pub blob_size : (lanes slots : ℕ) (widths offsets : List ℕ) (stride : ℕ) → 0 < lanes → (0 < slots → LieInBlocks lanes widths offsets stride)
     → length (blob_of lanes slots widths) ≡ block_count lanes slots * stride
-blob_size lanes slots widths offsets stride some h =
-    ⊎_elim
-    (λ (filled : 0 < slots).
-    length-parts (block_of lanes slots (cells_of widths)) stride (block_size lanes slots widths offsets stride (h filled)) 0 (block_count lanes slots))
-    (λ (none : slots ≤ 0).
-    let no_block : block_count lanes slots ≡ 0 = no_blocks lanes slots some none in
-    let empty : length (blob_of lanes slots widths) ≡ 0 =
-    ap (λ (n : ℕ). length (flat_map (block_of lanes slots (cells_of widths)) (range_with_len 0 n))) no_block in
-    let product : block_count lanes slots * stride ≡ 0 = ap (λ (n : ℕ). n * stride) no_block ∙ (let e : 0 * stride ≡ 0 = omega arith in e) in
-    empty ∙ sym product)
-    (cases_lt 0 slots)
+blob_size lanes slots widths offsets stride some h = grind (arith, ⊎_elim, length-parts, block_size, no_blocks, flat_map, range_with_len, cases_lt)
 
 pub layout_size : (lanes slots : ℕ) (widths offsets : List ℕ) (stride : ℕ) → 0 < lanes → (0 < slots → LieInBlocks lanes widths offsets stride)
     → sum_by length (aosoa lanes slots widths) ≡ block_count lanes slots * stride
 layout_size lanes slots widths offsets stride some h =
     let blob : List Owner = blob_of lanes slots widths in
-    let one : sum_by length (blob ∷ []) ≡ length blob = omega arith in
-    one ∙ blob_size lanes slots widths offsets stride some h
+    (omega arith) ∙ blob_size lanes slots widths offsets stride some h
 
 -- the length of the one blob in bytes
 pub blob_bytes_is : (lanes slots : ℕ) (cells : List Cell) (offsets : List ℕ) (stride blob : ℕ) → 0 < lanes
@@ -120,20 +79,11 @@ cell_at lanes slots widths offsets stride slot cell bit some h slot_in cell_in b
     let l : ℕ = slot % lanes in
     let w : ℕ = slice_index widths cell in
     let part : List Owner = block_of lanes slots (cells_of widths) block in
-    let parts : block * lanes + l ≡ slot = div-add-mod' slot lanes in
     let lane_in : l < lanes = omega arith in
-    let in_lanes : l * w + w ≤ lanes * w = row_fits l w lanes w lane_in (omega arith) in
-    let begin : slice_index offsets cell ≡ lanes * sum (take cell widths) = h.begins cell cell_in in
-    let number : 0 + cell ≡ cell = omega arith in
-    let at : get_or part (lanes * sum (take cell widths) + (l * w + bit)) Pad ≡ Bit slot cell bit =
-    cells_at lanes slots block 0 widths cell (l * w + bit) cell_in (omega arith)
-    ∙ ap (λ (i : ℕ). get_or (lanes_of lanes slots block (i, w)) (l * w + bit) Pad) number
-    ∙ lane_at lanes slots block cell w l bit lane_in bit_in (omega arith)
-    ∙ ap (λ (s : ℕ). Bit s cell bit) parts in
+    let at : get_or part (lanes * sum (take cell widths) + (l * w + bit)) Pad ≡ Bit slot cell bit = grind (arith, cells_at, get_or, lane_at) in
     let low : lanes * sum (take cell widths) + (l * w + bit) < length part = within part (lanes * sum (take cell widths) + (l * w + bit)) slot cell bit at in
     let size : length part ≡ stride = block_size lanes slots widths offsets stride h block in
-    let place : begin_of lanes widths offsets stride slot cell + bit ≡ block * stride + (lanes * sum (take cell widths) + (l * w + bit)) = omega arith in
-    ap (λ (p : ℕ). get_or (blob_of lanes slots widths) p Pad) place
+    ap (λ (p : ℕ). get_or (blob_of lanes slots widths) p Pad) (omega arith)
     ∙ slot_at Pad (block_of lanes slots (cells_of widths)) stride (block_size lanes slots widths offsets stride h) (block_count lanes slots) block
     (lanes * sum (take cell widths) + (l * w + bit)) (in_blocks lanes slots slot some slot_in) (omega arith)
     ∙ at
@@ -154,10 +104,7 @@ cell_end lanes slots widths offsets stride slot cell some h slot_in cell_in full
 -- an offset as the code reads it
 pub offset_read : (lanes : ℕ) (cells : List Cell) (offsets : List ℕ) (stride cell offset : ℕ) → LieInBlocks lanes (widths_of cells) offsets stride
     → cell < length cells → offset ≡ get_or offsets cell offset → offset ≡ slice_index offsets cell
-offset_read lanes cells offsets stride cell offset h inside read =
-    let count : length offsets ≡ length (widths_of cells) = h.each in
-    let size : length (widths_of cells) ≡ length cells = length-widths cells in
-    get_or_read offsets cell offset (omega arith) read 0
+offset_read lanes cells offsets stride cell offset h inside read = grind (arith, length-widths, get_or_read)
 
 -- an offset fits its type
 pub offset_fits : (lanes slots : ℕ) (cells : List Cell) (offsets : List ℕ) (stride cell offset : ℕ) → 0 < lanes
@@ -183,50 +130,35 @@ located_is lanes slots cells offsets stride slot cell offset piece some h bound 
     let stored : LieInBlocks lanes widths offsets stride = h (omega arith) in
     let same : offset ≡ slice_index offsets cell = offset_read lanes cells offsets stride cell offset stored cell_in read in
     let width = cell_width cells cell w cell_in refl in
-    let full : 1 ≤ w = width.some in
     let end : begin_of lanes widths offsets stride slot cell + w ≤ block_count lanes slots * stride =
-    cell_end lanes slots widths offsets stride slot cell some stored slot_in width.inside full in
+    cell_end lanes slots widths offsets stride slot cell some stored slot_in width.inside width.some in
     let product : slot % lanes * piece.bits ≡ slot % lanes * w = ap (λ (n : ℕ). slot % lanes * n) bits in
-    let begin : piece.bit ≡ begin_of lanes widths offsets stride slot cell = omega arith in
     let one : IsLocated layout slot cell w (piece ∷ []) =
     one_piece layout slot cell w piece bits (omega arith) (omega arith)
-    (λ k l.
-    ap (λ (b : ℕ). owner_at layout b (piece.bit + k)) blob
-    ∙ ap (λ (p : ℕ). owner_at layout 0 (p + k)) begin
-    ∙ cell_at lanes slots widths offsets stride slot cell k some stored slot_in width.inside l) in
+    (λ k l. grind (arith, cell_at)) in
     subst (λ (n : ℕ). IsLocated layout slot cell n (piece ∷ [])) (sym width.hold) one
 
 -- a block that is too long makes the blob too long
 pub big_block : (lanes slots : ℕ) (widths : List ℕ) → 0 < lanes → 0 < slots → 2 ^ 31 < lanes * sum widths → IsTooBig slots (aosoa lanes slots widths)
 big_block lanes slots widths some filled long =
     let count : 0 / lanes < block_count lanes slots = in_blocks lanes slots 0 some filled in
-    let blob : List Owner = blob_of lanes slots widths in
-    let size : length blob ≡ block_count lanes slots * (lanes * sum widths) =
+    let size : length (blob_of lanes slots widths) ≡ block_count lanes slots * (lanes * sum widths) =
     length-parts (block_of lanes slots (cells_of widths)) (lanes * sum widths) (λ b. cells_size lanes slots b 0 widths) 0 (block_count lanes slots) in
     let grows : 1 * (lanes * sum widths) ≤ block_count lanes slots * (lanes * sum widths) =
     mul-le 1 (lanes * sum widths) (block_count lanes slots) (lanes * sum widths) (omega arith) (omega arith) in
-    let one : sum_by length (blob ∷ []) ≡ length blob = omega arith in
     inr (omega arith)
 
 -- the limits, where each block has `stride` bits
 pub big_blob : (lanes slots : ℕ) (widths offsets : List ℕ) (stride : ℕ) → 0 < lanes → LieInBlocks lanes widths offsets stride
     → 2 ^ 31 < block_count lanes slots * stride → IsTooBig slots (aosoa lanes slots widths)
-big_blob lanes slots widths offsets stride some h long =
-    let size : sum_by length (aosoa lanes slots widths) ≡ block_count lanes slots * stride = layout_size lanes slots widths offsets stride some (λ filled. h) in
-    inr (omega arith)
+big_blob lanes slots widths offsets stride some h long = grind (arith, sum_by, layout_size)
 
 pub not_too_big : (lanes slots : ℕ) (widths offsets : List ℕ) (stride : ℕ) → 0 < lanes → (0 < slots → LieInBlocks lanes widths offsets stride)
     → slots ≤ 2 ^ 24 → block_count lanes slots * stride ≤ 2 ^ 31 → IsTooBig slots (aosoa lanes slots widths) → ⊥
 not_too_big lanes slots widths offsets stride some h few small big =
     let size : sum_by length (aosoa lanes slots widths) ≡ block_count lanes slots * stride = layout_size lanes slots widths offsets stride some h in
-    ⊎_elim
-    (λ (many : 2 ^ 24 < slots). let none : ⊥ = omega arith in none)
-    (λ (long : 8 * 2 ^ 28 < sum_by length (aosoa lanes slots widths)). let none : ⊥ = omega arith in none)
-    big
+    grind (arith, ⊎_elim)
 
 -- no slot is not too many
 pub none_fits : (lanes slots : ℕ) (widths : List ℕ) → 0 < lanes → slots ≡ 0 → IsTooBig slots (aosoa lanes slots widths) → ⊥
-none_fits lanes slots widths some none =
-    let no_block : block_count lanes slots ≡ 0 = no_blocks lanes slots some (omega arith) in
-    let product : block_count lanes slots * 0 ≡ 0 = omega arith in
-    not_too_big lanes slots widths [] 0 some (λ filled. let never : ⊥ = omega arith in absurd never) (omega arith) (omega arith)
+none_fits lanes slots widths some none = grind (arith, no_blocks, not_too_big)

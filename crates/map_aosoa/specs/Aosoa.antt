@@ -1,6 +1,6 @@
 -- What a mapping keeps of its layout.
 use Rattle.std.specs.Prelude.{ℕ, ◌≡◌, ◌+◌, ◌-◌, ◌*◌, ◌/◌, ◌<◌, List, length, slice_index, take}
-use Rattle.std.specs.List.{sum}
+use Rattle.record_dim.specs.Std.{sum}
 
 -- how many blocks of `lanes` slots so many slots take
 abbrev pub block_count : ℕ → ℕ → ℕ

@@ -1,21 +1,9 @@
 -- The laws of the layout: each bit of each cell has one place, and the blob is whole bytes.
-use Rattle.std.proofs.Common.{◌≡◌, ℕ, ◌+◌, ◌-◌, ◌*◌, ◌/◌, ◌%◌, ◌<◌, ◌≤◌, true, false, ⊎_elim, List, [], ◌∷◌, map, length, replicate, nat_lt, All, refl, sym, ap, ◌∙◌, subst, arith}
-use Rattle.std.specs.List.{flat_map, range_with_len}
-use Rattle.std.proofs.lemmas.Bool.{cases_lt, cases_Bool, cond-true, cond-false, ltb-true, lt-ltb, both_ways}
-use Rattle.std.proofs.lemmas.Nat.{div-mul-add, div-add-mod', mul-le}
-use Rattle.std.proofs.lemmas.List.{length-replicate}
-use Rattle.std.proofs.lemmas.List.Elements.{All-cons, All-nil}
-use Rattle.places.specs.Layout.{Owner, Pad, cells_of, field, lane, block_of, aosoa}
-use Rattle.places.specs.Lawful.{IsBitOf, IsLaidOut}
-use Rattle.places.specs.Holds.{widths_of, full_holds}
+use Rattle.std.specs.Prelude.{◌≡◌, ℕ, ◌+◌, ◌*◌, ◌/◌, ◌%◌, ◌<◌, ◌≤◌, true, false, List, [], ◌∷◌, map, length, replicate, nat_lt, All, refl}
+use Rattle.record_dim.specs.Std.{⊎_elim, sym, ap, ◌∙◌, subst, arith, flat_map, range_with_len, cases_lt, cases_Bool, cond-true, cond-false, ltb-true, lt-ltb, both_ways, div-mul-add, div-add-mod', mul-le, length-replicate, All-cons, All-nil}
+use Rattle.places.specs.Prelude.{Owner, Pad, cells_of, field, lane, block_of, aosoa, IsBitOf, IsLaidOut, widths_of, full_holds, Has, has_same, has_pads, has_field, has_range, has_cells, length-field, Member, LaysOut, has_blob, laid_out, apart_enumerate, member_cells, bit_of_cells, cells_of_bit, parts_bytes, stacked, flat_stacked, stacked_bytes, widths_whole, widths_narrow, widths_wide, widths_full, keeps_one}
 use Rattle.places.specs.declared.piece.Cell.{Cell}
 use Rattle.places.specs.declared.piece.Hold.{Hold}
-use Rattle.places.specs.ExactLaws.{Has, has_same, has_pads, has_field, has_range, has_cells, length-field, Member}
-use Rattle.places.specs.ComposeLaws.{LaysOut, has_blob, laid_out}
-use Rattle.places.specs.CellsLaws.{apart_enumerate, member_cells, bit_of_cells, cells_of_bit}
-use Rattle.places.specs.SlotsLaws.{parts_bytes}
-use Rattle.places.specs.StackedLaws.{stacked, flat_stacked, stacked_bytes}
-use Rattle.places.specs.WidthsLaws.{widths_whole, widths_narrow, widths_wide, widths_full, keeps_one}
 use Rattle.map_aosoa.specs.Aosoa.{block_count}
 
 -- the lanes of one cell in one block
@@ -30,13 +18,7 @@ pub lane_pads : (slots c w slot : ℕ) → nat_lt slot slots ≡ false → lane 
 lane_pads slots c w slot past = cond-false (nat_lt slot slots) (field slot (c, w)) (replicate w Pad) past
 
 pub length-lane : (slots c w slot : ℕ) → length (lane slots (c, w) slot) ≡ w
-length-lane slots c w slot =
-    ⊎_elim
-    (λ (yes : nat_lt slot slots ≡ true).
-    ap (λ (owners : List Owner). length owners) (lane_is slots c w slot (ltb-true slot slots yes)) ∙ length-field slot c w)
-    (λ (past : nat_lt slot slots ≡ false).
-    ap (λ (owners : List Owner). length owners) (lane_pads slots c w slot past) ∙ length-replicate w Pad)
-    (cases_Bool (nat_lt slot slots))
+length-lane slots c w slot = grind (arith, ⊎_elim, lane_is, ltb-true, length-field, lane_pads, length-replicate, cases_Bool)
 
 abbrev BitOfLane : ℕ → ℕ × ℕ → ℕ → ℕ → ℕ → ℕ → Type 0
 BitOfLane slots cell slot s c k = (s < slots) × (s ≡ slot) × (c ≡ cell.0) × (k < cell.1)
@@ -47,16 +29,13 @@ has_lane slots c w slot =
     (λ (yes : nat_lt slot slots ≡ true).
     let inside : slot < slots = ltb-true slot slots yes in
     let here = has_same {Out = BitOfLane slots (c, w) slot} (has_field slot c w)
-    (λ s c' k (h : (s ≡ slot) × (c' ≡ c) × (k < w)). let same : s ≡ slot = h.0 in ((let l : s < slots = omega arith in l), h.0, h.1, h.2))
+    (λ s c' k (h : (s ≡ slot) × (c' ≡ c) × (k < w)). ((omega arith), h.0, h.1, h.2))
     (λ s c' k (h : BitOfLane slots (c, w) slot s c' k). (h.1, h.2, h.3)) in
     subst (λ (owners : List Owner). Has (BitOfLane slots (c, w) slot) owners) (sym (lane_is slots c w slot inside)) here)
     (λ (past : nat_lt slot slots ≡ false).
     let here = has_same {Out = BitOfLane slots (c, w) slot} (has_pads w)
     (λ s c' k (h : ⊥). absurd h)
-    (λ s c' k (h : BitOfLane slots (c, w) slot s c' k).
-    let low : s < slots = h.0 in
-    let same : s ≡ slot = h.1 in
-    both_ways (nat_lt slot slots) past (lt-ltb slot slots (omega arith))) in
+    (λ s c' k (h : BitOfLane slots (c, w) slot s c' k). grind (arith, both_ways, nat_lt, lt-ltb)) in
     subst (λ (owners : List Owner). Has (BitOfLane slots (c, w) slot) owners) (sym (lane_pads slots c w slot past)) here)
     (cases_Bool (nat_lt slot slots))
 
@@ -68,22 +47,8 @@ has_lanes : (lanes slots block c w : ℕ) → 0 < lanes → Has (BitOfLanes lane
 has_lanes lanes slots block c w some =
     let all = has_range (λ l. lane slots (c, w) (block * lanes + l)) (λ l. BitOfLane slots (c, w) (block * lanes + l)) 0 lanes
     (λ l low high. has_lane slots c w (block * lanes + l))
-    (λ i j s c' k (one : BitOfLane slots (c, w) (block * lanes + i) s c' k) (two : BitOfLane slots (c, w) (block * lanes + j) s c' k).
-    let a : s ≡ block * lanes + i = one.1 in
-    let b : s ≡ block * lanes + j = two.1 in
-    omega arith) in
-    has_same {Out = BitOfLanes lanes slots block (c, w)} all
-    (λ s c' k (h : (l : ℕ) × (0 ≤ l) × (l < 0 + lanes) × BitOfLane slots (c, w) (block * lanes + l) s c' k).
-    let low : h.0 < lanes = let l : h.0 < 0 + lanes = h.2 in omega arith in
-    (h.3.0, ap (λ (x : ℕ). x / lanes) h.3.1 ∙ div-mul-add block lanes h.0 low, h.3.2, h.3.3))
-    (λ s c' k (h : BitOfLanes lanes slots block (c, w) s c' k).
-    let parts : s / lanes * lanes + s % lanes ≡ s = div-add-mod' s lanes in
-    let low : s % lanes < lanes = omega arith in (
-      s % lanes,
-      (let l : 0 ≤ s % lanes = omega arith in l),
-      (let l : s % lanes < 0 + lanes = omega arith in l),
-      (h.0, sym parts ∙ ap (λ (b : ℕ). b * lanes + s % lanes) h.1, h.2, h.3),
-    ))
+    (λ i j s c' k (one : BitOfLane slots (c, w) (block * lanes + i) s c' k) (two : BitOfLane slots (c, w) (block * lanes + j) s c' k). grind arith) in
+    grind (arith, has_same, div-mul-add, div-add-mod')
 
 -- the bits of one block
 abbrev BitOfBlock : ℕ → ℕ → List ℕ → ℕ → ℕ → ℕ → ℕ → Type 0
@@ -93,25 +58,11 @@ has_block : (lanes slots : ℕ) (widths : List ℕ) (block : ℕ) → 0 < lanes 
 has_block lanes slots widths block some =
     let all = has_cells (lanes_of lanes slots block) (BitOfLanes lanes slots block) (cells_of widths) (apart_enumerate 0 widths)
     (λ c w. has_lanes lanes slots block c w some)
-    (λ c w s c' k (h : BitOfLanes lanes slots block (c, w) s c' k). h.2) in
-    has_same {Out = BitOfBlock lanes slots widths block} all
-    (λ s c k (h : (w : ℕ) × Member (cells_of widths) c w × BitOfLanes lanes slots block (c, w) s c k). (h.2.0, h.2.1, (h.0, h.1, h.2.3)))
-    (λ s c k (h : BitOfBlock lanes slots widths block s c k). (h.2.0, h.2.1, (h.0, h.1, refl, h.2.2)))
+    (λ c w s c' k (h : BitOfLanes lanes slots block (c, w) s c' k). h.2) in grind (arith, has_same)
 
 -- each slot's block is one of the blocks
 pub in_blocks : (lanes slots slot : ℕ) → 0 < lanes → slot < slots → slot / lanes < block_count lanes slots
-in_blocks lanes slots slot some inside =
-    let count : ℕ = block_count lanes slots in
-    ⊎_elim
-    (λ (l : slot / lanes < count). l)
-    (λ (l : count ≤ slot / lanes).
-    let here : slot / lanes * lanes + slot % lanes ≡ slot = div-add-mod' slot lanes in
-    let all : count * lanes + (slots + (lanes - 1)) % lanes ≡ slots + (lanes - 1) = div-add-mod' (slots + (lanes - 1)) lanes in
-    let low : (slots + (lanes - 1)) % lanes < lanes = omega arith in
-    let grows : count * lanes ≤ slot / lanes * lanes = mul-le count lanes (slot / lanes) lanes l (omega arith) in
-    let none : ⊥ = omega arith in
-    absurd none)
-    (cases_lt (slot / lanes) count)
+in_blocks lanes slots slot some inside = grind (arith, ⊎_elim, div-add-mod', mul-le, cases_lt)
 
 -- each bit of each cell in each slot has one place
 aosoa_lays_out : (lanes slots : ℕ) (widths : List ℕ) → 0 < lanes → LaysOut (IsBitOf slots widths) (aosoa lanes slots widths)
@@ -124,23 +75,19 @@ aosoa_lays_out lanes slots widths some =
     (λ s c k (h : IsBitOf slots widths s c k).
     let inside : s / lanes < block_count lanes slots = in_blocks lanes slots s some h.slot_in in (
       s / lanes,
-      (let l : 0 ≤ s / lanes = omega arith in l),
-      (let l : s / lanes < 0 + block_count lanes slots = omega arith in l),
+      (omega arith),
+      (omega arith),
       (h.slot_in, refl, cells_of_bit slots widths s c k h),
     )))
 
 -- a block of whole bytes
 lanes_bytes : (lanes slots block c w : ℕ) → w % 8 ≡ 0 → length (lanes_of lanes slots block (c, w)) % 8 ≡ 0
-lanes_bytes lanes slots block c w whole =
-    parts_bytes (λ l. lane slots (c, w) (block * lanes + l)) (λ l. ap (λ (n : ℕ). n % 8) (length-lane slots c w (block * lanes + l)) ∙ whole) 0 lanes
+lanes_bytes lanes slots block c w whole = grind (arith, parts_bytes, length-lane)
 
 block_bytes : (lanes slots : ℕ) (widths : List ℕ) (block : ℕ) → All (λ w. w % 8 ≡ 0) widths → length (block_of lanes slots (cells_of widths) block) % 8 ≡ 0
 block_bytes lanes slots widths block whole =
     let bytes : length (stacked (λ w. 1) (lanes_of lanes slots block) [] (cells_of widths)) % 8 ≡ 0 =
-    stacked_bytes (λ w. 1) (lanes_of lanes slots block) [] (cells_of widths) refl
-    (λ c w m.
-    let r = member_cells widths c w m in
-    (keeps_one, lanes_bytes lanes slots block c w (ap (λ (n : ℕ). n % 8) r.1 ∙ whole c 0 r.0))) in
+    grind (arith, stacked_bytes, member_cells, keeps_one, lanes_bytes) in
     ap (λ (owners : List Owner). length owners % 8) (sym (flat_stacked (lanes_of lanes slots block) [] (cells_of widths))) ∙ bytes
 
 pub aosoa_laws : (lanes slots : ℕ) (cells : List Cell) → 0 < lanes

@@ -1,11 +1,9 @@
 ghost use Rattle.std.specs.Prelude.{ℕ, ◌≡◌, ◌*◌, ◌%◌, ◌^◌, ◌<◌, ◌≤◌, ◌⊎◌, ◌↔◌, IfOk, IfErr, OnOk, IsErrOf, List, length, slice_index};
-ghost use Rattle.places.specs.Holds.{widths_of, full_holds, IsTooBig};
+ghost use Rattle.places.specs.Prelude.{widths_of, full_holds, IsTooBig, Owner, aosoa, length-full};
 ghost use Rattle.places.specs.declared.piece.Cell.{Cell};
 ghost use Rattle.places.specs.declared.piece.Hold.{Hold};
-ghost use Rattle.places.specs.Layout.{Owner, aosoa};
 ghost use Rattle.map_aosoa.specs.Aosoa.{LieInBlocks, block_count};
 ghost use Rattle.map_aosoa.specs.AosoaLaws.{aosoa_laws};
-ghost use Rattle.places.specs.CellWidthsLaws.{length-full};
 
 use crate::block::{count_blocks, lay_out};
 use places::{

@@ -1,6 +1,6 @@
 ghost use Rattle.std.specs.Prelude.{◌≡◌, ◌*◌, ◌%◌, ◌^◌, ◌<◌, ◌≤◌, ◌⊎◌, IfOk, IfErr, IsErrOf};
 ghost use Rattle.std.specs.List.{sum};
-ghost use Rattle.places.specs.Holds.{widths_of};
+ghost use Rattle.places.specs.Prelude.{widths_of};
 ghost use Rattle.map_aosoa.specs.Aosoa.{LieInBlocks, block_count};
 
 use places::{Cell, MAX_BLOB_BITS, NewMapping};

@@ -4,8 +4,7 @@ use Rattle.map_bits.proofs.Widths.{IsTaken, taken_at}
 
 -- one blob: its length in bits, and its places
 array_size : (slots c w : ℕ) → length (padded_array slots (c, w)) ≡ up 64 (slots * w)
-array_size slots c w =
-    length-padded 64 (array slots (c, w)) ∙ ap (up 64) (length-parts (λ slot. field slot (c, w)) w (λ s. length-field s c w) 0 slots)
+array_size slots c w = grind (arith, length-padded, length-parts, length-field)
 
 array_at : (slots c w slot bit : ℕ) → slot < slots → bit < w → get_or (padded_array slots (c, w)) (slot * w + bit) Pad ≡ Bit slot c bit
 array_at slots c w slot bit slot_in bit_in =
@@ -23,50 +22,34 @@ blob_is : (slots : ℕ) (widths : List ℕ) (cell : ℕ) → cell < length width
     → get_or (bit_soa slots widths) cell [] ≡ padded_array slots (cell, slice_index widths cell)
 blob_is slots widths cell inside =
     let size : length (cells_of widths) ≡ length widths = length-enumerate_from 0 widths in
-    let number : 0 + cell ≡ cell = omega arith in
     let pair : get_or (cells_of widths) cell (0, 0) ≡ (cell, slice_index widths cell) =
-    get_or-enumerate_from 0 widths cell (0, 0) inside ∙ ap (λ (n : ℕ). (n, slice_index widths cell)) number in
+    get_or-enumerate_from 0 widths cell (0, 0) inside ∙ ap (λ (n : ℕ). (n, slice_index widths cell)) (omega arith) in
     get_or-map (padded_array slots) (cells_of widths) cell (0, 0) [] (omega arith) ∙ ap (padded_array slots) pair
 
 pub blob_size : (slots : ℕ) (widths : List ℕ) (cell : ℕ) → cell < length widths
     → length (get_or (bit_soa slots widths) cell []) ≡ up 64 (slots * slice_index widths cell)
-blob_size slots widths cell inside =
-    ap (λ (owners : List Owner). length owners) (blob_is slots widths cell inside) ∙ array_size slots cell (slice_index widths cell)
+blob_size slots widths cell inside = grind (arith, blob_is, array_size, slice_index)
 
 -- the places of a cell's bits
 pub cell_at : (slots : ℕ) (widths : List ℕ) (slot cell bit : ℕ) → slot < slots → cell < length widths → bit < slice_index widths cell
     → owner_at (bit_soa slots widths) cell (slot * slice_index widths cell + bit) ≡ Bit slot cell bit
-cell_at slots widths slot cell bit slot_in cell_in bit_in =
-    ap (λ (owners : List Owner). get_or owners (slot * slice_index widths cell + bit) Pad) (blob_is slots widths cell cell_in)
-    ∙ array_at slots cell (slice_index widths cell) slot bit slot_in bit_in
+cell_at slots widths slot cell bit slot_in cell_in bit_in = grind (arith, get_or, slice_index, blob_is, array_at)
 
 -- the places of a cell are one piece
 pub located_is : (slots : ℕ) (widths : List ℕ) (slot cell : ℕ) (piece : Piece) → IsTaken widths cell piece.bits → slots ≤ 2 ^ 24 → slot < slots
     → piece.blob ≡ cell → piece.bit ≡ slot * piece.bits → IsLocated (bit_soa slots widths) slot cell (slice_index widths cell) (piece ∷ [])
 located_is slots widths slot cell piece taken few slot_in blob bit =
     let layout : List (List Owner) = bit_soa slots widths in
-    let some : 1 ≤ piece.bits = taken.some in
-    let narrow : piece.bits ≤ 64 = taken.low in
-    let low : slot * piece.bits ≤ 2 ^ 24 * 64 = mul-le slot piece.bits (2 ^ 24) 64 (omega arith) narrow in
-    let begin : piece.bit ≡ slot * slice_index widths cell = bit ∙ ap (λ (n : ℕ). slot * n) taken.same in
+    let low : slot * piece.bits ≤ 2 ^ 24 * 64 = mul-le slot piece.bits (2 ^ 24) 64 (omega arith) taken.low in
     let one : IsLocated layout slot cell piece.bits (piece ∷ []) =
     one_piece layout slot cell piece.bits piece refl (omega arith) (omega arith)
-    (λ k l.
-    ap (λ (b : ℕ). owner_at layout b (piece.bit + k)) blob
-    ∙ ap (λ (p : ℕ). owner_at layout cell (p + k)) begin
-    ∙ cell_at slots widths slot cell k slot_in taken.inside (subst (λ (n : ℕ). k < n) taken.same l)) in
+    (λ k l. grind (arith, cell_at)) in
     subst (λ (n : ℕ). IsLocated layout slot cell n (piece ∷ [])) taken.same one
 
 -- the length of a blob in bytes
 pub blob_bytes_is : (slots : ℕ) (widths : List ℕ) (blob taken bits : ℕ) → IsLaidOut (bit_soa slots widths) slots widths → blob < length (bit_soa slots widths)
     → taken ≡ slice_index widths blob → bits ≡ up 64 (slots * taken) → 8 * (bits / 8) ≡ length (get_or (bit_soa slots widths) blob [])
-blob_bytes_is slots widths blob taken bits laid inside t padded =
-    let layout : List (List Owner) = bit_soa slots widths in
-    let count : length layout ≡ length widths = blob_each slots widths in
-    let same : bits ≡ length (get_or layout blob []) =
-    padded ∙ ap (λ (n : ℕ). up 64 (slots * n)) t ∙ sym (blob_size slots widths blob (omega arith)) in
-    let whole : length (get_or layout blob []) % 8 ≡ 0 = laid.whole_bytes blob [] inside in
-    omega arith
+blob_bytes_is slots widths blob taken bits laid inside t padded = grind (arith, blob_each, get_or, blob_size)
 
 -- there is a blob for each hold
 pub blob_count_is : (slots : ℕ) (holds : List Hold) → length (bit_soa slots (widths_in holds)) ≡ length holds
@@ -92,6 +75,4 @@ bits_below slots widths i = sum_by-take-le length (bit_soa slots widths) i
 
 -- and at the end those are all
 pub bits_all : (slots : ℕ) (holds : List Hold) (i : ℕ) → length holds ≤ i → take i (bit_soa slots (widths_in holds)) ≡ bit_soa slots (widths_in holds)
-bits_all slots holds i past =
-    let count : length (bit_soa slots (widths_in holds)) ≡ length holds = blob_count_is slots holds in
-    take_all i (bit_soa slots (widths_in holds)) (omega arith)
+bits_all slots holds i past = grind (arith, blob_count_is, take_all)

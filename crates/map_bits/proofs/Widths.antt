@@ -19,7 +19,6 @@ taken_at holds cell d inside = sym (get_or-map (λ (h : Hold). h.width) holds ce
 
 pub taken_is : (cells : List Cell) (holds : List Hold) (cell : ℕ) (found : Hold) → AreHolds cells holds → cell < length cells → found ≡ get_or holds cell found → IsTaken (widths_in holds) cell found.width
 taken_is cells holds cell found are inside read =
-    let here : cell < length holds = omega (arith, are.each) in
     let width_in : cell < length (widths_in holds) = omega (arith, count cells holds are) in
-    let same = taken_read holds cell found here read in
+    let same = taken_read holds cell found (omega (arith, are.each)) read in
     record { inside = width_in; same = same; some = omega (arith, same, are.some cell 0 width_in); low = omega (arith, same, are.low cell 0 width_in) }

@@ -1,19 +1,12 @@
 -- The laws of layouts packed to the bit: each bit of each cell has one place, and each blob is whole bytes.
-use Rattle.std.proofs.Common.{◌≡◌, ℕ, ◌+◌, ◌-◌, ◌%◌, ◌<◌, ◌≤◌, List, [], length, get_or, All, refl, sym, ◌∙◌, arith}
-use Rattle.std.proofs.lemmas.List.Elements.{All-cons, All-nil, All-map}
-use Rattle.places.specs.Layout.{Owner, cells_of, field, fields, array, padded_to, bit_aos, bit_soa}
-use Rattle.places.specs.Lawful.{IsBitOf, IsLaidOut}
-use Rattle.places.specs.ExactLaws.{Has, has_same, has_padded, has_field, has_range, has_cells, Member}
-use Rattle.places.specs.ComposeLaws.{LaysOut, lays_out_same, has_blob, blobs_of_cells, laid_out}
-use Rattle.places.specs.CellsLaws.{apart_enumerate, bit_of_cells, cells_of_bit}
-use Rattle.places.specs.StackedLaws.{up, length-padded}
+use Rattle.std.specs.Prelude.{◌≡◌, ℕ, ◌+◌, ◌-◌, ◌%◌, ◌<◌, ◌≤◌, List, [], length, get_or, All, refl}
+use Rattle.record_dim.specs.Std.{sym, ◌∙◌, arith, All-cons, All-nil, All-map}
+use Rattle.places.specs.Prelude.{Owner, cells_of, field, fields, array, padded_to, bit_aos, bit_soa, IsBitOf, IsLaidOut, Has, has_same, has_padded, has_field, has_range, has_cells, Member, LaysOut, lays_out_same, has_blob, blobs_of_cells, laid_out, apart_enumerate, bit_of_cells, cells_of_bit, length-padded}
 use Rattle.map_bits.specs.Bits.{packed_slots, padded_array}
 
 -- what is padded to 64 bits is whole bytes
 pub padded_bytes : (owners : List Owner) → length (padded_to 64 owners) % 8 ≡ 0
-padded_bytes owners =
-    let size : length (padded_to 64 owners) ≡ up 64 (length owners) = length-padded 64 owners in
-    omega arith
+padded_bytes owners = grind (arith, length-padded)
 
 -- the bits of one cell in one slot
 abbrev BitOfField : ℕ → ℕ × ℕ → ℕ → ℕ → ℕ → Type 0
@@ -26,10 +19,7 @@ BitOfSlot widths slot s c k = (s ≡ slot) × ((w : ℕ) × Member (cells_of wid
 has_fields : (widths : List ℕ) (slot : ℕ) → Has (BitOfSlot widths slot) (fields slot (cells_of widths))
 has_fields widths slot =
     let all = has_cells (field slot) (BitOfField slot) (cells_of widths) (apart_enumerate 0 widths)
-    (λ c w. has_field slot c w) (λ c w s c' k o. o.1) in
-    has_same {Out = BitOfSlot widths slot} all
-    (λ s c k (h : (w : ℕ) × Member (cells_of widths) c w × BitOfField slot (c, w) s c k). (h.2.0, (h.0, h.1, h.2.2)))
-    (λ s c k (h : BitOfSlot widths slot s c k). (h.1.0, h.1.1, (h.0, refl, h.1.2)))
+    (λ c w. has_field slot c w) (λ c w s c' k o. o.1) in grind (arith, has_same)
 
 -- the bits of slot after slot are those of the slots' cells
 has_slots : (slots : ℕ) (widths : List ℕ) → Has (IsBitOf slots widths) (packed_slots slots widths)
@@ -39,12 +29,9 @@ has_slots slots widths =
     (λ i j s c k (one : BitOfSlot widths i s c k) (two : BitOfSlot widths j s c k). sym one.0 ∙ two.0) in
     has_same {Out = IsBitOf slots widths} all
     (λ s c k (h : (i : ℕ) × (0 ≤ i) × (i < 0 + slots) × BitOfSlot widths i s c k).
-    let same : s ≡ h.0 = h.3.0 in
-    let high : h.0 < 0 + slots = h.2 in
     bit_of_cells slots widths s c k (omega arith) h.3.1)
     (λ s c k (h : IsBitOf slots widths s c k).
-    let inside : s < slots = h.slot_in in
-    (s, (let l : 0 ≤ s = omega arith in l), (let l : s < 0 + slots = omega arith in l), (refl, cells_of_bit slots widths s c k h)))
+    (s, (omega arith), (omega arith), (refl, cells_of_bit slots widths s c k h)))
 
 -- the laws of an array of structs, whatever each cell takes
 pub bit_aos_laws : (slots : ℕ) (widths : List ℕ) → All (λ w. w ≤ 64) widths → All (λ w. 1 ≤ w) widths → IsLaidOut (bit_aos slots widths) slots widths
@@ -63,15 +50,7 @@ has_array : (slots c w : ℕ) → Has (BitOfArray slots (c, w)) (array slots (c,
 has_array slots c w =
     let all = has_range (λ slot. field slot (c, w)) (λ slot. BitOfField slot (c, w)) 0 slots
     (λ i low high. has_field i c w)
-    (λ i j s c' k (one : BitOfField i (c, w) s c' k) (two : BitOfField j (c, w) s c' k). sym one.0 ∙ two.0) in
-    has_same {Out = BitOfArray slots (c, w)} all
-    (λ s c' k (h : (i : ℕ) × (0 ≤ i) × (i < 0 + slots) × BitOfField i (c, w) s c' k).
-    let same : s ≡ h.0 = h.3.0 in
-    let high : h.0 < 0 + slots = h.2 in
-    ((let l : s < slots = omega arith in l), h.3.1, h.3.2))
-    (λ s c' k (h : BitOfArray slots (c, w) s c' k).
-    let inside : s < slots = h.0 in
-    (s, (let l : 0 ≤ s = omega arith in l), (let l : s < 0 + slots = omega arith in l), (refl, h.1, h.2)))
+    (λ i j s c' k (one : BitOfField i (c, w) s c' k) (two : BitOfField j (c, w) s c' k). sym one.0 ∙ two.0) in grind (arith, has_same)
 
 has_padded_array : (slots c w : ℕ) → Has (BitOfArray slots (c, w)) (padded_array slots (c, w))
 has_padded_array slots c w = has_padded ((64 - length (array slots (c, w)) % 64) % 64) (has_array slots c w)

@@ -1,8 +1,7 @@
 -- The parts of layouts packed to the bit, and what a mapping keeps of them.
 use Rattle.std.specs.Prelude.{ℕ, ◌≡◌, ◌≤◌, not, ◌&&◌, nat_le, All, Bool, List, length, map, take}
-use Rattle.std.specs.List.{flat_map, range_with_len, sum, list_any}
-use Rattle.places.specs.Layout.{Owner, cells_of, fields, array, padded_to}
-use Rattle.places.specs.Holds.{widths_in}
+use Rattle.record_dim.specs.Std.{flat_map, range_with_len, sum, list_any}
+use Rattle.places.specs.Prelude.{Owner, cells_of, fields, array, padded_to, widths_in}
 use Rattle.places.specs.declared.piece.Cell.{Cell}
 use Rattle.places.specs.declared.piece.Hold.{Hold}
 

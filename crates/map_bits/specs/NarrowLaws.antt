@@ -1,10 +1,7 @@
 -- Cells that are stored each in at most its own number of bits.
-use Rattle.std.proofs.Common.{◌≡◌, ℕ, zero, suc, ◌+◌, ◌<◌, ◌≤◌, Bool, true, false, not, ◌&&◌, nat_le, List, [], ◌∷◌, ◌++◌, map, min, length, get_or, take, All, refl, sym, ap, ◌∙◌, subst, arith}
-use Rattle.std.proofs.lemmas.List.Elements.{All-cons, All-nil}
-use Rattle.std.proofs.lemmas.Bool.{or_parts, leb-true}
-use Rattle.record_dim.specs.LeafTypes.{width_of}
-use Rattle.places.specs.Holds.{hold_within, narrow_holds, widths_in}
-use Rattle.places.specs.WidthsLaws.{width_narrow, width_wide}
+use Rattle.std.specs.Prelude.{◌≡◌, ℕ, zero, suc, ◌+◌, ◌<◌, ◌≤◌, Bool, true, false, not, ◌&&◌, nat_le, List, [], ◌∷◌, ◌++◌, map, length, get_or, take, All, refl}
+use Rattle.record_dim.specs.Std.{sym, ap, ◌∙◌, subst, arith, All-cons, All-nil, or_parts, leb-true}
+use Rattle.places.specs.Prelude.{hold_within, narrow_holds, widths_in, width_narrow, width_wide}
 use Rattle.places.specs.declared.piece.Cell.{Cell}
 use Rattle.places.specs.declared.piece.Hold.{Hold}
 use Rattle.map_bits.specs.Bits.{is_bad_width, has_bad_width, AreHolds}
@@ -21,14 +18,10 @@ pub narrow_more : (widths : List ℕ) (cells : List Cell) (i : ℕ) (d : Cell) �
 narrow_more [] cells i d l m = absurd (omega (arith, l))
 narrow_more (width ∷ widths) [] i d l m = absurd (omega (arith, m))
 narrow_more (width ∷ widths) (cell ∷ cells) zero d l m = refl
-narrow_more (width ∷ widths) (cell ∷ cells) (suc i) d l m =
-    let e : suc i + 1 ≡ suc (i + 1) = omega arith in
-    ap (λ (k : ℕ). narrow_holds (take k (width ∷ widths)) (take k (cell ∷ cells))) e
-    ∙ ap (λ (hs : List Hold). hold_within width cell.kind ∷ hs) (narrow_more widths cells i d (omega (arith, l)) (omega (arith, m)))
+narrow_more (width ∷ widths) (cell ∷ cells) (suc i) d l m = grind (arith, (narrow_more widths cells i d (omega (arith, l)) (omega (arith, m))))
 
 low_of : (low high : Bool) → not (low && high) ≡ false → low ≡ true
-low_of true high e = refl
-low_of false high e = cc
+low_of low high e = grind arith
 
 good_width : (width : ℕ) → is_bad_width width ≡ false → 1 ≤ width
 good_width width good = leb-true 1 width (low_of (nat_le 1 width) (nat_le width 64) good)
@@ -43,16 +36,12 @@ pub narrow_wide : (widths : List ℕ) (cells : List Cell) → has_bad_width widt
 narrow_wide [] cells good = All-nil (λ w. 1 ≤ w)
 narrow_wide (width ∷ widths) [] good = All-nil (λ w. 1 ≤ w)
 narrow_wide (width ∷ widths) (cell ∷ cells) good =
-    let parts = or_parts (is_bad_width width) (has_bad_width widths) good in
-    All-cons (λ w. 1 ≤ w) (min width (width_of cell.kind)) (widths_in (narrow_holds widths cells))
-    (omega (arith, good_width width parts.0, width_wide cell.kind)) (narrow_wide widths cells parts.1)
+    grind (arith, All-cons, good_width, width_wide, (narrow_wide widths cells (or_parts (is_bad_width width) (has_bad_width widths) good).1))
 
 pub narrow_low : (widths : List ℕ) (cells : List Cell) → All (λ w. w ≤ 64) (widths_in (narrow_holds widths cells))
 narrow_low [] cells = All-nil (λ w. w ≤ 64)
 narrow_low (width ∷ widths) [] = All-nil (λ w. w ≤ 64)
-narrow_low (width ∷ widths) (cell ∷ cells) =
-    All-cons (λ w. w ≤ 64) (min width (width_of cell.kind)) (widths_in (narrow_holds widths cells))
-    (omega (arith, width_narrow cell.kind)) (narrow_low widths cells)
+narrow_low (width ∷ widths) (cell ∷ cells) = grind (arith, All-cons, width_narrow, (narrow_low widths cells))
 
 pub narrow_are : (widths : List ℕ) (cells : List Cell) → length widths ≡ length cells → has_bad_width widths ≡ false → AreHolds cells (narrow_holds widths cells)
 narrow_are widths cells same good = record { each = length-narrow widths cells same; some = narrow_wide widths cells good; low = narrow_low widths cells }

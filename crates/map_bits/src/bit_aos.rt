@@ -1,9 +1,8 @@
 ghost use Rattle.std.specs.Prelude.{ℕ, ◌≡◌, ◌*◌, ◌^◌, ◌<◌, ◌≤◌, ◌⊎◌, ◌↔◌, true, IfOk, IfErr, OnOk, IsErrOf, List, length, take};
 ghost use Rattle.std.specs.List.{sum};
-ghost use Rattle.places.specs.Holds.{IsTooBig, narrow_holds, widths_in};
+ghost use Rattle.places.specs.Prelude.{IsTooBig, narrow_holds, widths_in, Owner, bit_aos};
 ghost use Rattle.places.specs.declared.piece.Cell.{Cell};
 ghost use Rattle.places.specs.declared.piece.Hold.{Hold};
-ghost use Rattle.places.specs.Layout.{Owner, bit_aos};
 ghost use Rattle.map_bits.specs.Bits.{LieInBits, AreHolds, has_bad_width};
 ghost use Rattle.map_bits.specs.BitLaws.{bit_aos_laws};
 

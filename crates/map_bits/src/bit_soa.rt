@@ -1,8 +1,7 @@
 ghost use Rattle.std.specs.Prelude.{ℕ, ◌≡◌, ◌*◌, ◌^◌, ◌<◌, ◌≤◌, ◌⊎◌, ◌↔◌, true, IfOk, IfErr, OnOk, IsErrOf, IsTrue, List, length, sum_by};
-ghost use Rattle.places.specs.Holds.{IsTooBig, narrow_holds, widths_in};
+ghost use Rattle.places.specs.Prelude.{IsTooBig, narrow_holds, widths_in, Owner, bit_soa};
 ghost use Rattle.places.specs.declared.piece.Cell.{Cell};
 ghost use Rattle.places.specs.declared.piece.Hold.{Hold};
-ghost use Rattle.places.specs.Layout.{Owner, bit_soa};
 ghost use Rattle.map_bits.specs.Bits.{AreHolds, has_bad_width};
 ghost use Rattle.map_bits.specs.BitLaws.{bit_soa_laws};
 

@@ -1,5 +1,5 @@
 ghost use Rattle.std.specs.Prelude.{◌≡◌, IfOk, length};
-ghost use Rattle.places.specs.Holds.{narrow_holds};
+ghost use Rattle.places.specs.Prelude.{narrow_holds};
 ghost use Rattle.map_bits.specs.Bits.{is_bad_width, has_bad_width};
 
 use places::{Cell, Hold, MAX_WIDTH};

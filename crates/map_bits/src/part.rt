@@ -1,6 +1,6 @@
 ghost use Rattle.std.specs.Prelude.{◌≡◌, ◌^◌, ◌<◌, ◌≤◌, ◌⊎◌, IfOk, IfErr, IsErrOf};
 ghost use Rattle.std.specs.List.{sum};
-ghost use Rattle.places.specs.Holds.{widths_in};
+ghost use Rattle.places.specs.Prelude.{widths_in};
 ghost use Rattle.map_bits.specs.Bits.{LieInBits};
 
 use places::{Hold, MAX_BLOB_BITS, NewMapping};

@@ -1,6 +1,5 @@
 -- What the inner mapping says of a cell, in the words of the outer one.
-use Rattle.map_bytes.proofs.Imports.{◌≡◌, ℕ, ◌+◌, ◌*◌, ◌/◌, ◌%◌, ◌<◌, ◌≤◌, List, ◌++◌, map, length, get_or, slice_index, take, All, sym, ap, ◌∙◌, subst, arith, sum_by, get_or-map, length-map, sum_by_more_le, Owner, Bit, byte_cells, bytesplit, IsLocated, widths_of, full_holds, widths_full, widths_whole, widths_narrow, length-widths, length-full, bits_located, Cell, Hold, Piece, piece_in, pieces_in, PieceRule, byte_cells_of, byte_count, bytes_before, byte_cell_at, byte_within, byte_count_is, byte_count_before, length-bytes, widths_of_bytes, byte_joined, byte_alone}
-use Rattle.std.proofs.Common.{rules}
+use Rattle.map_bytes.proofs.Imports.{◌≡◌, ℕ, ◌+◌, ◌*◌, ◌/◌, ◌%◌, ◌<◌, ◌≤◌, List, ◌++◌, map, length, get_or, slice_index, take, All, sym, ap, ◌∙◌, subst, arith, sum_by, get_or-map, length-map, sum_by_more_le, Owner, Bit, byte_cells, bytesplit, IsLocated, widths_of, full_holds, widths_full, widths_whole, widths_narrow, length-widths, length-full, bits_located, Cell, Hold, Piece, piece_in, pieces_in, PieceRule, byte_cells_of, byte_count, bytes_before, byte_cell_at, byte_within, byte_count_is, byte_count_before, length-bytes, widths_of_bytes, byte_joined, byte_alone, rules}
 
 -- what holds of the pieces that rules give in slot 0 holds of the rules
 pub all_in : (Q : PieceRule → Type 0) (P : Piece → Type 0) (rules : List PieceRule) (pieces : List Piece) → pieces_in rules 0 ≡ pieces

@@ -1,15 +1,10 @@
 -- Which byte of which cell each of the cells of bytes is.
-use Rattle.std.proofs.Common.{◌≡◌, ℕ, zero, suc, ◌+◌, ◌-◌, ◌/◌, ◌<◌, ◌≤◌, ⊎_elim, List, [], ◌∷◌, ◌++◌, map, length, get_or, take, replicate, All, refl, ap, ◌∙◌, arith, length-append}
-use Rattle.std.specs.List.{flat_map, range_with_len, enumerate_from, sum_by}
-use Rattle.std.proofs.lemmas.Bool.{cases_lt}
-use Rattle.std.proofs.lemmas.List.{get_or_append_left, get_or-append-add, length-replicate, take-map}
-use Rattle.std.proofs.lemmas.List.FromFn.{get_or-map-range_with_len, length-map-range_with_len}
-use Rattle.std.proofs.lemmas.List.Elements.{All-nil, All-append, All-replicate, All-map}
-use Rattle.std.proofs.lemmas.List.Sums.{sum_by-cons, sum_by_more_le}
-use Rattle.record_dim.specs.LeafTypes.{width_of}
+use Rattle.std.specs.Prelude.{◌≡◌, ℕ, zero, suc, ◌+◌, ◌-◌, ◌/◌, ◌<◌, ◌≤◌, List, [], ◌∷◌, ◌++◌, map, length, get_or, take, replicate, All, refl}
+use Rattle.record_dim.specs.Std.{⊎_elim, ap, ◌∙◌, arith, length-append, flat_map, range_with_len, enumerate_from, cases_lt, get_or_append_left, get_or-append-add, length-replicate, take-map, get_or-map-range_with_len, length-map-range_with_len, All-nil, All-append, All-replicate, All-map, sum_by-cons, sum_by_more_le}
+use Rattle.std.specs.List.{sum_by}
+use Rattle.record_dim.specs.Prelude.{width_of}
 use Rattle.record_dim.specs.declared.leaf_type.LeafType.TheVariants.{U8}
-use Rattle.places.specs.Rules.{byte_cells}
-use Rattle.places.specs.Holds.{widths_of}
+use Rattle.places.specs.Prelude.{byte_cells, widths_of}
 use Rattle.places.specs.declared.piece.Cell.{Cell}
 use Rattle.map_bytes.specs.Cells.{byte_cells_of, byte_count}
 

@@ -1,17 +1,10 @@
 -- Every bit has exactly one place where the bytes of each cell are cells of their own.
-use Rattle.std.proofs.Common.{◌≡◌, ℕ, ◌+◌, ◌*◌, ◌/◌, ◌%◌, ◌<◌, ◌≤◌, List, map, length, get_or, All, sym, ap, ◌∙◌, subst, arith}
+use Rattle.std.specs.Prelude.{◌≡◌, ℕ, ◌+◌, ◌*◌, ◌/◌, ◌%◌, ◌<◌, ◌≤◌, List, map, length, get_or, All}
+use Rattle.record_dim.specs.Std.{sym, ap, ◌∙◌, subst, arith, length-map, All-map}
 use Rattle.std.specs.List.{sum_by}
-use Rattle.std.proofs.lemmas.List.{length-map}
-use Rattle.std.proofs.lemmas.List.Elements.{All-map}
-use Rattle.places.specs.Layout.{Owner, Bit}
-use Rattle.places.specs.Rules.{renamed, byte_cells, bytesplit}
-use Rattle.places.specs.Lawful.{IsBitOf, IsLaidOut}
-use Rattle.places.specs.Holds.{widths_of, full_holds}
+use Rattle.places.specs.Prelude.{Owner, Bit, renamed, byte_cells, bytesplit, IsBitOf, IsLaidOut, widths_of, full_holds, widths_whole, widths_wide, widths_narrow, widths_full, Back, relabel_lays_out, laid_out, lays_out, length-widths}
 use Rattle.places.specs.declared.piece.Cell.{Cell}
 use Rattle.places.specs.declared.piece.Hold.{Hold}
-use Rattle.places.specs.WidthsLaws.{widths_whole, widths_wide, widths_narrow, widths_full}
-use Rattle.places.specs.ComposeLaws.{Back, relabel_lays_out, laid_out, lays_out}
-use Rattle.places.specs.CellWidthsLaws.{length-widths}
 use Rattle.map_bytes.specs.Cells.{byte_cells_of}
 use Rattle.map_bytes.specs.ByteCellsLaws.{bytes_before, IsByteCell, byte_cell_at, byte_cell_of, byte_within, byte_count_is, length-bytes, widths_of_bytes}
 

@@ -1,16 +1,11 @@
 -- What holds of pieces and of rules that are cut into bytes; what is done to rules is done to their pieces.
-use Rattle.std.proofs.Common.{◌≡◌, ℕ, ◌+◌, ◌*◌, ◌/◌, ◌%◌, ◌^◌, ◌<◌, List, [], ◌∷◌, ◌++◌, map, length, get_or, All, reverse, refl, sym, ap, ◌∙◌, subst, arith, length-append}
-use Rattle.std.specs.List.{flat_map, range_with_len, sum_by}
-use Rattle.std.proofs.lemmas.List.{map-append, reverse-append, length-reverse}
-use Rattle.std.proofs.lemmas.List.Elements.{All-map, All-append, All-nil, All-head, All-tail}
-use Rattle.std.proofs.lemmas.List.FromFn.{get_or-range_with_len, length-range_with_len, length-map-range_with_len}
-use Rattle.std.proofs.lemmas.List.Sorted.{All-permutation, IsPermutation-reverse}
-use Rattle.std.proofs.lemmas.List.Sums.{sum_by-cons}
+use Rattle.std.specs.Prelude.{◌≡◌, ℕ, ◌+◌, ◌*◌, ◌/◌, ◌%◌, ◌^◌, ◌<◌, List, [], ◌∷◌, ◌++◌, map, length, get_or, All, reverse, refl}
+use Rattle.record_dim.specs.Std.{sym, ap, ◌∙◌, subst, arith, length-append, flat_map, range_with_len, map-append, reverse-append, length-reverse, All-map, All-append, All-nil, All-head, All-tail, get_or-range_with_len, length-range_with_len, length-map-range_with_len, All-permutation, IsPermutation-reverse, sum_by-cons, rules}
+use Rattle.std.specs.List.{sum_by}
 use Rattle.places.specs.declared.piece.Piece.{Piece}
-use Rattle.places.specs.PieceRules.{begin_in, piece_in, pieces_in}
+use Rattle.places.specs.Prelude.{begin_in, piece_in, pieces_in}
 use Rattle.places.specs.declared.rule.PieceRule.{PieceRule}
 use Rattle.map_bytes.specs.Cuts.{byte_of, piece_bytes, swapped, rule_byte, rule_bytes, swapped_rules}
-use Rattle.std.proofs.Common.{rules}
 
 -- things that are cut, so many parts of each
 module _ {X : Type 0} (cut : ℕ → X → X) (count : X → ℕ) where

@@ -1,14 +1,8 @@
 -- The pieces of a cell's bytes, joined, are the places of the cell.
-use Rattle.std.proofs.Common.{◌≡◌, ℕ, ◌+◌, ◌-◌, ◌*◌, ◌%◌, ◌^◌, ◌<◌, ◌≤◌, List, [], ◌++◌, map, length, get_or, All, sym, ap, ◌∙◌, subst, arith}
-use Rattle.std.specs.List.{flat_map, range_with_len}
-use Rattle.std.proofs.lemmas.Simd.{map-map}
-use Rattle.std.proofs.lemmas.List.Concat.{flat_map-append}
-use Rattle.std.proofs.lemmas.List.Elements.{All-nil, All-append}
-use Rattle.places.specs.Layout.{Owner, Bit, field}
-use Rattle.places.specs.Rules.{renamed, byte_cells, bytesplit}
-use Rattle.places.specs.Lawful.{IsPiece, IsLocated, owners_in}
+use Rattle.std.specs.Prelude.{◌≡◌, ℕ, ◌+◌, ◌-◌, ◌*◌, ◌%◌, ◌^◌, ◌<◌, ◌≤◌, List, [], ◌++◌, map, length, get_or, All}
+use Rattle.record_dim.specs.Std.{sym, ap, ◌∙◌, subst, arith, flat_map, range_with_len, map-map, flat_map-append, All-nil, All-append}
+use Rattle.places.specs.Prelude.{Owner, Bit, field, renamed, byte_cells, bytesplit, IsPiece, IsLocated, owners_in, same_ranges, range_split, bits_located, located, pieces_weaker, relabel_spelled}
 use Rattle.places.specs.declared.piece.Piece.{Piece}
-use Rattle.places.specs.PlacesLaws.{same_ranges, range_split, bits_located, located, pieces_weaker, relabel_spelled}
 use Rattle.map_bytes.specs.CutLaws.{one_of_eight}
 
 -- no bits, no pieces

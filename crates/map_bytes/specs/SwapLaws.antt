@@ -1,15 +1,9 @@
 -- Every bit has exactly one place where the bytes of each cell are in reverse order.
-use Rattle.std.proofs.Common.{◌≡◌, ℕ, ◌+◌, ◌-◌, ◌*◌, ◌/◌, ◌%◌, ◌<◌, List, map, length, get_or, All, sym, ap, ◌∙◌, subst, arith}
-use Rattle.std.proofs.lemmas.List.{length-map}
-use Rattle.std.proofs.lemmas.List.Elements.{All-map}
-use Rattle.places.specs.Layout.{Owner, Bit}
-use Rattle.places.specs.Rules.{renamed, byteswap}
-use Rattle.places.specs.Lawful.{IsBitOf, IsLaidOut}
-use Rattle.places.specs.Holds.{widths_of, full_holds}
+use Rattle.std.specs.Prelude.{◌≡◌, ℕ, ◌+◌, ◌-◌, ◌*◌, ◌/◌, ◌%◌, ◌<◌, List, map, length, get_or, All}
+use Rattle.record_dim.specs.Std.{sym, ap, ◌∙◌, subst, arith, length-map, All-map}
+use Rattle.places.specs.Prelude.{Owner, Bit, renamed, byteswap, IsBitOf, IsLaidOut, widths_of, full_holds, widths_whole, widths_full, Back, relabel_lays_out, laid_out, lays_out}
 use Rattle.places.specs.declared.piece.Cell.{Cell}
 use Rattle.places.specs.declared.piece.Hold.{Hold}
-use Rattle.places.specs.WidthsLaws.{widths_whole, widths_full}
-use Rattle.places.specs.ComposeLaws.{Back, relabel_lays_out, laid_out, lays_out}
 
 -- where a bit goes in a cell of so many bits
 abbrev pub swapped_bit : ℕ → ℕ → ℕ

@@ -1,16 +1,8 @@
 -- Pieces with their bytes in reverse order are the places of a cell whose bytes are in reverse order.
-use Rattle.std.proofs.Common.{◌≡◌, ℕ, zero, suc, ◌+◌, ◌-◌, ◌*◌, ◌/◌, ◌%◌, ◌^◌, ◌<◌, ◌≤◌, List, [], ◌∷◌, ◌++◌, map, length, get_or, All, reverse, refl, sym, ap, ◌∙◌, arith}
-use Rattle.std.specs.List.{flat_map, range_with_len}
-use Rattle.std.proofs.lemmas.List.{reverse-append}
-use Rattle.std.proofs.lemmas.List.Concat.{flat_map-append}
-use Rattle.std.proofs.lemmas.List.FromFn.{length-map-range_with_len, map-range_with_len_more}
-use Rattle.std.proofs.lemmas.List.Elements.{All-head, All-tail}
-use Rattle.places.specs.Layout.{Owner, Bit, owner_at}
-use Rattle.places.specs.Rules.{renamed, byteswap}
-use Rattle.places.specs.Lawful.{IsLocated, owners_in}
+use Rattle.std.specs.Prelude.{◌≡◌, ℕ, zero, suc, ◌+◌, ◌-◌, ◌*◌, ◌/◌, ◌%◌, ◌^◌, ◌<◌, ◌≤◌, List, [], ◌∷◌, ◌++◌, map, length, get_or, All, reverse, refl}
+use Rattle.record_dim.specs.Std.{sym, ap, ◌∙◌, arith, flat_map, range_with_len, reverse-append, flat_map-append, length-map-range_with_len, map-range_with_len_more, All-head, All-tail}
+use Rattle.places.specs.Prelude.{Owner, Bit, owner_at, renamed, byteswap, IsLocated, owners_in, owner_relabel, same_ranges, range_split, spells_split, located}
 use Rattle.places.specs.declared.piece.Piece.{Piece}
-use Rattle.places.specs.ComposeLaws.{owner_relabel}
-use Rattle.places.specs.PlacesLaws.{same_ranges, range_split, spells_split, located}
 use Rattle.map_bytes.specs.Cuts.{byte_of, piece_bytes, swapped}
 use Rattle.map_bytes.specs.CutLaws.{all_parts_back}
 

@@ -1,10 +1,7 @@
 ghost use Rattle.std.specs.Prelude.{ℕ, ◌≡◌, ◌⊎◌, ◌↔◌, IfOk, IfErr, IsErrOf, true, List, map};
-ghost use Rattle.places.specs.Holds.{widths_of, full_holds};
-ghost use Rattle.places.specs.Layout.{Owner};
-ghost use Rattle.places.specs.Rules.{byteswap};
+ghost use Rattle.places.specs.Prelude.{widths_of, full_holds, Owner, byteswap, length-full};
 ghost use Rattle.places.specs.declared.piece.Cell.{Cell};
 ghost use Rattle.places.specs.declared.piece.Hold.{Hold};
-ghost use Rattle.places.specs.CellWidthsLaws.{length-full};
 ghost use Rattle.map_bytes.specs.Cells.{differ};
 ghost use Rattle.map_bytes.specs.SwapLaws.{byteswap_laws};
 

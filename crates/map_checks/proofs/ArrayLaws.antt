@@ -1,7 +1,5 @@
 -- Rules of cells that lie in arrays.
-use Rattle.map_checks.proofs.Imports.{◌≡◌, ℕ, ◌^◌, ◌≤◌, List, [], ◌∷◌, map, Owner, Hold, AreRulesOf, IsDense, PieceRule, IsArray, AreArrays, Rule}
-use Rattle.std.proofs.Common.{arith}
-use Rattle.std.proofs.Common.{rules}
+use Rattle.map_checks.proofs.Imports.{◌≡◌, ℕ, ◌^◌, ◌≤◌, List, [], ◌∷◌, map, Owner, Hold, AreRulesOf, IsDense, PieceRule, IsArray, AreArrays, Rule, arith, rules}
 
 -- the rule of one piece
 pub array_rule : (layout : List (List Owner)) (slots lanes cell width : ℕ) (piece : PieceRule) (rule : Rule) → slots ≤ 2 ^ 24 → rule.pieces.items ≡ piece ∷ [] → piece.bits ≡ width

@@ -1,11 +1,9 @@
 -- Plans of mappings of bytes, from those of their inner mappings.
-use Rattle.map_checks.proofs.Imports.{true, ◌≡◌, ℕ, ◌+◌, ◌-◌, ◌*◌, ◌/◌, ◌%◌, ◌^◌, ◌<◌, ◌⊎◌, get_or, List, [], ◌∷◌, map, length, All, refl, sym, ap, ◌∙◌, subst, sum, PathStep, length-map, sum-map, Fields, Owner, Bit, relabel, byte_cells, byteswap, bytesplit, widths_of, full_holds, IsTooBig, widths_whole, widths_narrow, widths_full, Cell, Hold, Term, Split, Byteswap, Bytesplit, byte_cells_of, byte_count, length-bytes, widths_of_bytes, HasWholeBytes, HasOnePiece, AreSwapped, AreJoined, order_of, orders_of, layout_of, not_full, most_slots, IsTooBigFor, cells_under, cells_beside, IsPlanOf, IsRuled, length-holds, Plan, or_right}
+use Rattle.map_checks.proofs.Imports.{true, ◌≡◌, ℕ, ◌+◌, ◌-◌, ◌*◌, ◌/◌, ◌%◌, ◌^◌, ◌<◌, ◌⊎◌, get_or, List, [], ◌∷◌, map, length, All, refl, sym, ap, ◌∙◌, subst, sum, PathStep, length-map, sum-map, Fields, Owner, Bit, relabel, byte_cells, byteswap, bytesplit, widths_of, full_holds, IsTooBig, widths_whole, widths_narrow, widths_full, Cell, Hold, Term, Split, Byteswap, Bytesplit, byte_cells_of, byte_count, length-bytes, widths_of_bytes, HasWholeBytes, HasOnePiece, AreSwapped, AreJoined, order_of, orders_of, layout_of, not_full, most_slots, IsTooBigFor, cells_under, cells_beside, IsPlanOf, IsRuled, length-holds, Plan, or_right, arith, rules}
 use Rattle.std.specs.List.{sum_by}
 use Rattle.map_checks.proofs.JoinRuleLaws.{alone_ruled, join_ruled, join_orders}
 use Rattle.map_checks.proofs.OrderLaws.{order_in}
 use Rattle.map_checks.proofs.SwapRuleLaws.{whole_ruled, swap_ruled, swap_orders}
-use Rattle.std.proofs.Common.{arith}
-use Rattle.std.proofs.Common.{rules}
 
 -- the names that bits get
 abbrev swap_name : List ℕ → ℕ → ℕ → ℕ → Owner

@@ -1,7 +1,6 @@
 -- What the answers of the constructors say of an expression.
-use Rattle.map_checks.proofs.Imports.{◌≡◌, ◌⊎◌, Result, Err, IsErrAnd, IsErrOf, IfErr, NewMapping, MakeMap, TooBig, NoMemory, fault_of}
+use Rattle.map_checks.proofs.Imports.{◌≡◌, ◌⊎◌, Result, Err, IsErrAnd, IsErrOf, IfErr, NewMapping, MakeMap, TooBig, NoMemory, fault_of, arith}
 use Rattle.places.specs.declared.mapping.NewMapping.TheVariants as new
-use Rattle.std.proofs.Common.{arith}
 
 too_big_is : (why : NewMapping) → fault_of why ≡ TooBig → why ≡ new.TooBig
 too_big_is why e = grind arith

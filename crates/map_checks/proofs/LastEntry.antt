@@ -1,6 +1,5 @@
 -- The last entry that a leaf is under says its width.
-use Rattle.map_checks.proofs.Imports.{◌≡◌, ℕ, Bool, true, false, List, [], ◌∷◌, refl, sym, ap, ◌∙◌, if◌then◌else◌, false≢true, fold-append, Fields, is_under, FieldWidth, width_by, width_at, is_said, LastCounts}
-use Rattle.std.proofs.Common.{◌||◌}
+use Rattle.map_checks.proofs.Imports.{◌≡◌, ℕ, Bool, true, false, List, [], ◌∷◌, refl, sym, ap, ◌∙◌, if◌then◌else◌, false≢true, fold-append, Fields, is_under, FieldWidth, width_by, width_at, is_said, LastCounts, ◌||◌}
 
 -- entries that say nothing of a leaf leave its width
 stays : (fields : Fields) (leaf width : ℕ) (entries : List FieldWidth) → is_said fields leaf entries ≡ false → width_at fields width entries leaf ≡ width

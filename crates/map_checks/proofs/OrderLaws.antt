@@ -1,6 +1,5 @@
 -- The orders of rules: those of a base mapping, and of a split.
-use Rattle.map_checks.proofs.Imports.{◌≡◌, ℕ, ◌<◌, ⊎_elim, Bool, true, false, List, [], ◌∷◌, map, length, get_or, replicate, refl, sym, ap, ◌∙◌, arith, not, if◌then◌else◌, filter, count_by, cases_Bool, length-map, get_or-map, same_lists, LeafType, PathStep, Fields, is_under, Order, Cell, Term, Split, Change, changed, merged, rank_first, rank_rest, merged_first, merged_rest, rank_first_in, rank_rest_in, length-merged, side_of, cells_under, cells_beside, order_of, orders_of, IsSplitRule, AreSplitRules, Rule}
-use Rattle.std.proofs.Common.{rules}
+use Rattle.map_checks.proofs.Imports.{◌≡◌, ℕ, ◌<◌, ⊎_elim, Bool, true, false, List, [], ◌∷◌, map, length, get_or, replicate, refl, sym, ap, ◌∙◌, arith, not, if◌then◌else◌, filter, count_by, cases_Bool, length-map, get_or-map, same_lists, LeafType, PathStep, Fields, is_under, Order, Cell, Term, Split, Change, changed, merged, rank_first, rank_rest, merged_first, merged_rest, rank_first_in, rank_rest_in, length-merged, side_of, cells_under, cells_beside, order_of, orders_of, IsSplitRule, AreSplitRules, Rule, rules}
 
 -- one item for each
 pub map_constant : {X Y : Type 0} (y : Y) (xs : List X) → map (λ (x : X). y) xs ≡ replicate (length xs) y

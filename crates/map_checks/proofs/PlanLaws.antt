@@ -1,9 +1,7 @@
 -- Plans of base mappings and of splits.
-use Rattle.map_checks.proofs.Imports.{◌≡◌, ℕ, ◌+◌, ◌*◌, ◌^◌, ◌<◌, ◌≤◌, inr, Bool, List, [], ◌∷◌, ◌++◌, map, length, All, refl, sym, ap, ◌∙◌, subst, arith, not, max, count_by, sum, cases_lt, length-map, map-append, sum-map, sum_by-cons, Order, row_at, slot_count, Owner, in_rows, split, widths_of, IsTooBig, Cell, Hold, plan_holds, plan_rules, Plan, PathStep, Fields, Term, Split, side_of, cells_under, cells_beside, length-holds, cells_first, cells_rest, merged, map-merged, lengths-split, bits-split, AreSplitRules, LieWithin, ordered, layout_of, holds_of, most_slots, IsTooBigFor, HasLengths, IsRuled, IsPlanFor, IsPlanOf}
-use Rattle.std.specs.Prelude.{sum_by}
+use Rattle.map_checks.proofs.Imports.{◌≡◌, ℕ, ◌+◌, ◌*◌, ◌^◌, ◌<◌, ◌≤◌, inr, Bool, List, [], ◌∷◌, ◌++◌, map, length, All, refl, sym, ap, ◌∙◌, subst, arith, not, max, count_by, sum, cases_lt, length-map, map-append, sum-map, sum_by-cons, Order, row_at, slot_count, Owner, in_rows, split, widths_of, IsTooBig, Cell, Hold, plan_holds, plan_rules, Plan, PathStep, Fields, Term, Split, side_of, cells_under, cells_beside, length-holds, cells_first, cells_rest, merged, map-merged, lengths-split, bits-split, AreSplitRules, LieWithin, ordered, layout_of, holds_of, most_slots, IsTooBigFor, HasLengths, IsRuled, IsPlanFor, IsPlanOf, sum_by, rules}
 use Rattle.map_checks.proofs.Limits.{by_rows, within}
 use Rattle.map_checks.proofs.SplitRules.{split_ruled}
-use Rattle.std.proofs.Common.{rules}
 
 -- a plan of a base mapping, by rows
 pub base_planned : (layout : ℕ → List ℕ → List (List Owner)) (order : Order) (extents : List ℕ) (cells : List Cell) (slots : ℕ) (made : List (List Owner))

@@ -1,7 +1,6 @@
 -- The rules of a split are those of its sides.
-use Rattle.map_checks.proofs.Imports.{◌≡◌, ℕ, ◌+◌, ◌%◌, ◌^◌, ◌<◌, ◌≤◌, ⊎_elim, Bool, true, false, List, [], ◌∷◌, ◌++◌, length, get_or, map, slice_index, refl, sym, ap, ◌∙◌, subst, arith, All, length-append, not, count_by, sum, cases_Bool, map-map, length-map, append-nil, get_or_default, All-map, sum-map, Order, slot_count, Owner, Bit, recelled, numbers_of, split, IsLocated, shifted, Piece, relabel_located, left_located, right_located, PieceRule, EachWith, IsRuleOf, IsRuled, pieces_of, IsShifted, IsSplitRule, AreSplitRules, shifted_rule, merged, rank_first, rank_rest, Rule, each_push, number_first, number_rest, rank_first_in, rank_rest_in, merged_first, merged_rest, length-merged}
+use Rattle.map_checks.proofs.Imports.{◌≡◌, ℕ, ◌+◌, ◌%◌, ◌^◌, ◌<◌, ◌≤◌, ⊎_elim, Bool, true, false, List, [], ◌∷◌, ◌++◌, length, get_or, map, slice_index, refl, sym, ap, ◌∙◌, subst, arith, All, length-append, not, count_by, sum, cases_Bool, map-map, length-map, append-nil, get_or_default, All-map, sum-map, Order, slot_count, Owner, Bit, recelled, numbers_of, split, IsLocated, shifted, Piece, relabel_located, left_located, right_located, PieceRule, EachWith, IsRuleOf, IsRuled, pieces_of, IsShifted, IsSplitRule, AreSplitRules, shifted_rule, merged, rank_first, rank_rest, Rule, each_push, number_first, number_rest, rank_first_in, rank_rest_in, merged_first, merged_rest, length-merged, rules}
 use Rattle.std.specs.List.{sum_by}
-use Rattle.std.proofs.Common.{rules}
 
 -- the pieces of a shifted rule
 pieces_shifted : (by : ℕ) (rule later : Rule) (extents : List ℕ) (row : ℕ) → IsShifted by rule later

@@ -1,7 +1,6 @@
 -- Rules with their bytes in reverse order are rules of cells whose bytes are in reverse order.
-use Rattle.map_checks.proofs.Imports.{◌≡◌, ℕ, ◌+◌, ◌%◌, ◌^◌, ◌<◌, ◌≤◌, List, map, length, get_or, slice_index, sum_by, All, sym, ap, ◌∙◌, subst, arith, length-map, get_or-map, same_lists, All-weaker, Order, slot_at, slot_count, Owner, byteswap, IsLocated, Piece, PieceRule, swapped, swapped_rules, swapped_in, swapped_blobs, swapped_eights, swapped_bounds, swapped_bits, swap_located, HasWholeBytes, IsSwapped, AreSwapped, IsRuleOf, IsRuled, pieces_of, Rule}
+use Rattle.map_checks.proofs.Imports.{◌≡◌, ℕ, ◌+◌, ◌%◌, ◌^◌, ◌<◌, ◌≤◌, List, map, length, get_or, slice_index, sum_by, All, sym, ap, ◌∙◌, subst, arith, length-map, get_or-map, same_lists, All-weaker, Order, slot_at, slot_count, Owner, byteswap, IsLocated, Piece, PieceRule, swapped, swapped_rules, swapped_in, swapped_blobs, swapped_eights, swapped_bounds, swapped_bits, swap_located, HasWholeBytes, IsSwapped, AreSwapped, IsRuleOf, IsRuled, pieces_of, Rule, rules}
 use Rattle.map_checks.proofs.OrderLaws.{order_in, with_item}
-use Rattle.std.proofs.Common.{rules}
 
 -- the rules of cells of whole bytes
 pub whole_ruled : (layout : List (List Owner)) (extents ws : List ℕ) (rules : List Rule) → IsRuled layout extents ws rules → All (λ w. w % 8 ≡ 0) ws

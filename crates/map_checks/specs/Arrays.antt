@@ -2,11 +2,8 @@
 use Rattle.std.specs.Prelude.{ℕ, ◌≡◌, ◌^◌, ◌≤◌, List, [], length, map, Option, Some, None, IfSome, slice_index, slice_index_or}
 use Rattle.extents.specs.declared.order.Order.{Order}
 use Rattle.linearize.specs.Slots.{slot_count}
-use Rattle.places.specs.Layout.{Owner, aosoa}
-use Rattle.places.specs.Forms.{soa_layout}
-use Rattle.places.specs.Holds.{widths_of, full_holds}
+use Rattle.places.specs.Prelude.{Owner, aosoa, soa_layout, widths_of, full_holds, AreRulesOf, IsDense}
 use Rattle.places.specs.declared.piece.Cell.{Cell}
-use Rattle.places.specs.PieceRules.{AreRulesOf, IsDense}
 use Rattle.places.specs.declared.rule.PieceRule.{PieceRule}
 use Rattle.map_expr.specs.Terms.{Term, Soa, Aosoa, Count, Heat}
 use Rattle.map_checks.specs.Ruled.{EachWith}

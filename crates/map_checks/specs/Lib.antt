@@ -9,3 +9,4 @@ pub mod Plans
 pub mod PlansLaws
 pub mod Arrays
 pub mod Inner
+pub mod Prelude

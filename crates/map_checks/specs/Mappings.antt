@@ -1,17 +1,13 @@
 -- What an expression means over the leaves of a schema and the extents of an array: the layout by rows, and how each leaf is stored.
 use Rattle.std.specs.Prelude.{ℕ, ◌≡◌, ⊤, max, Bool, true, false, ◌||◌, List, [], map, None, Result, Ok, Err}
-use Rattle.std.specs.List.{enumerate_from}
+use Rattle.record_dim.specs.Std.{enumerate_from}
 use Rattle.record_dim.specs.declared.leaf_type.LeafType.{LeafType}
-use Rattle.record_dim.specs.Trees.{Fields}
-use Rattle.record_dim.specs.Leaves.{kinds_of}
+use Rattle.record_dim.specs.Prelude.{Fields, kinds_of}
 use Rattle.linearize.specs.Slots.{row_at, slot_count}
 use Rattle.extents.specs.declared.order.Order.{Order}
-use Rattle.places.specs.Layout.{Owner, aosoa, bit_aos, bit_soa}
-use Rattle.places.specs.Rules.{in_rows, split, byteswap, bytesplit}
-use Rattle.places.specs.Holds.{widths_of, widths_in, full_holds, narrow_holds, IsTooBig}
+use Rattle.places.specs.Prelude.{Owner, aosoa, bit_aos, bit_soa, in_rows, split, byteswap, bytesplit, widths_of, widths_in, full_holds, narrow_holds, IsTooBig, aos_layout, soa_layout}
 use Rattle.places.specs.declared.piece.Cell.{Cell}
 use Rattle.places.specs.declared.piece.Hold.{Hold}
-use Rattle.places.specs.Forms.{aos_layout, soa_layout}
 use Rattle.map_expr.specs.Terms.{Term, Aos, Soa, Aosoa, BitAos, BitSoa, Split, Byteswap, Bytesplit, Change, Count, Heat, Named}
 use Rattle.map_expr.specs.Checks.{checked, bad_lanes, bad_widths, bad_granule}
 use Rattle.map_expr.specs.declared.widths.FieldWidth.{FieldWidth}

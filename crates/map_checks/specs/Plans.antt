@@ -1,8 +1,7 @@
 -- What a plan is of.
 use Rattle.std.specs.Prelude.{ℕ, ◌≡◌, List, map}
-use Rattle.record_dim.specs.Trees.{Fields}
-use Rattle.places.specs.Layout.{Owner}
-use Rattle.places.specs.Holds.{IsTooBig}
+use Rattle.record_dim.specs.Prelude.{Fields}
+use Rattle.places.specs.Prelude.{Owner, IsTooBig}
 use Rattle.places.specs.declared.piece.Cell.{Cell}
 use Rattle.places.specs.declared.piece.Hold.{Hold}
 use Rattle.map_expr.specs.Terms.{Term}

@@ -1,19 +1,12 @@
 -- The laws of a layout by rows, for any order: its bits and places are those of the layout by slots.
-use Rattle.std.proofs.Common.{◌≡◌, ℕ, ◌%◌, ◌<◌, List, [], ◌∷◌, map, length, sum_by, get_or, All, refl, ap, ◌∙◌, arith}
-use Rattle.std.specs.Prelude.{Option, Some}
-use Rattle.std.proofs.lemmas.List.{get_or-map, length-map}
-use Rattle.std.proofs.lemmas.List.Sums.{sum_by-cons}
-use Rattle.std.proofs.lemmas.List.Elements.{All-map}
+use Rattle.std.specs.Prelude.{◌≡◌, ℕ, ◌%◌, ◌<◌, List, [], ◌∷◌, map, length, sum_by, get_or, All, refl, Option, Some}
+use Rattle.record_dim.specs.Std.{ap, ◌∙◌, arith, get_or-map, length-map, sum_by-cons, All-map}
 use Rattle.extents.specs.Indices.{indices}
 use Rattle.extents.specs.declared.order.Order.{Order}
 use Rattle.linearize.specs.Slots.{slot_at, slot_count, row_at}
 use Rattle.linearize.specs.SlotsLaws.{row_at-slot_at, slot_at-row_at, slot_at_below}
-use Rattle.places.specs.Layout.{Owner, Bit}
-use Rattle.places.specs.Rules.{renamed, in_rows, bit_in_row}
-use Rattle.places.specs.Lawful.{IsBitOf, IsLaidOut, IsLocated}
+use Rattle.places.specs.Prelude.{Owner, Bit, renamed, in_rows, bit_in_row, IsBitOf, IsLaidOut, IsLocated, Back, relabel_lays_out, laid_out, lays_out, relabel_located}
 use Rattle.places.specs.declared.piece.Piece.{Piece}
-use Rattle.places.specs.ComposeLaws.{Back, relabel_lays_out, laid_out, lays_out}
-use Rattle.places.specs.PlacesLaws.{relabel_located}
 
 -- the name that a bit of a slot has by rows
 abbrev by_row : Order → List ℕ → ℕ → ℕ → ℕ → Owner

@@ -2,10 +2,8 @@
 use Rattle.std.specs.Prelude.{ℕ, ◌≡◌, ◌+◌, ◌*◌, ◌%◌, ◌^◌, ◌<◌, ◌≤◌, All, List, length, map, slice_index, slice_index_or, sum_by}
 use Rattle.extents.specs.Indices.{indices}
 use Rattle.linearize.specs.Slots.{slot_at, slot_count}
-use Rattle.places.specs.Layout.{Owner}
-use Rattle.places.specs.Lawful.{IsLocated}
+use Rattle.places.specs.Prelude.{Owner, IsLocated, pieces_in}
 use Rattle.places.specs.declared.piece.Piece.{Piece}
-use Rattle.places.specs.PieceRules.{pieces_in}
 use Rattle.map_checks.specs.declared.rule.Rule.{Rule}
 
 -- each item of a list, with its number

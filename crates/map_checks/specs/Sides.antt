@@ -1,8 +1,7 @@
 -- The two sides of a split: which cells go to the first.
 use Rattle.std.specs.Prelude.{Bool, not, List, map, filter}
 use Rattle.record_dim.specs.declared.path.PathStep.{PathStep}
-use Rattle.record_dim.specs.Trees.{Fields}
-use Rattle.record_dim.specs.Nodes.{is_under}
+use Rattle.record_dim.specs.Prelude.{Fields, is_under}
 use Rattle.places.specs.declared.piece.Cell.{Cell}
 
 -- whether each cell's leaf is under the path, and the cells for which it is and is not

@@ -1,25 +1,15 @@
 -- The laws of the layout of an expression.
-use Rattle.std.proofs.Common.{◌≡◌, ℕ, ◌<◌, ◌≤◌, List, [], ◌∷◌, map, length, All, Bool, true, false, Option, None, Some, refl, sym, ◌∙◌, arith}
-use Rattle.std.specs.Prelude.{◌&&◌, not, nat_le, if◌then◌else◌}
-use Rattle.std.specs.List.{count_by, list_all}
-use Rattle.std.specs.Option.{option_or}
-use Rattle.std.proofs.lemmas.Bool.{and_parts, leb-true, or_from, or_parts}
-use Rattle.std.proofs.lemmas.List.{length-map}
-use Rattle.std.proofs.lemmas.List.Sums.{length-filter}
+use Rattle.std.specs.Prelude.{◌≡◌, ℕ, ◌<◌, ◌≤◌, List, [], ◌∷◌, map, length, All, Bool, true, false, Option, None, Some, refl, ◌&&◌, not, nat_le, if◌then◌else◌}
+use Rattle.record_dim.specs.Std.{sym, ◌∙◌, arith, list_all, option_or, and_parts, leb-true, or_from, or_parts, length-map, length-filter}
+use Rattle.std.specs.List.{count_by}
 use Rattle.extents.specs.Indices.{indices}
 use Rattle.linearize.specs.Slots.{slot_count}
 use Rattle.record_dim.specs.declared.path.PathStep.{PathStep}
-use Rattle.record_dim.specs.Trees.{Fields}
-use Rattle.record_dim.specs.Nodes.{is_under}
-use Rattle.places.specs.Layout.{aosoa, bit_aos, bit_soa}
-use Rattle.places.specs.Lawful.{IsLaidOut}
-use Rattle.places.specs.CellWidthsLaws.{length-full}
-use Rattle.places.specs.Holds.{widths_of, widths_in, full_holds}
+use Rattle.record_dim.specs.Prelude.{Fields, is_under}
+use Rattle.places.specs.Prelude.{aosoa, bit_aos, bit_soa, IsLaidOut, length-full, widths_of, widths_in, full_holds, aos_layout, soa_layout}
 use Rattle.places.specs.declared.piece.Cell.{Cell}
 use Rattle.places.specs.declared.piece.Hold.{Hold}
-use Rattle.places.specs.Forms.{aos_layout}
 use Rattle.map_aos.specs.AosLaws.{aos_laws}
-use Rattle.places.specs.Forms.{soa_layout}
 use Rattle.map_soa.specs.SoaLaws.{soa_laws}
 use Rattle.map_aosoa.specs.AosoaLaws.{aosoa_laws}
 use Rattle.map_expr.specs.declared.check.BadMapping.{BadMapping}

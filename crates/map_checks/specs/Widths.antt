@@ -1,8 +1,8 @@
 -- The width of each cell of a bit mapping, where some leaves have widths of their own.
 use Rattle.std.specs.Prelude.{ℕ, ◌≡◌, Bool, true, false, not, List, ◌∷◌, ◌++◌, map, if◌then◌else◌}
-use Rattle.std.specs.List.{fold, list_any}
-use Rattle.record_dim.specs.Trees.{Fields}
-use Rattle.record_dim.specs.Nodes.{is_under}
+use Rattle.record_dim.specs.Std.{list_any}
+use Rattle.std.specs.List.{fold}
+use Rattle.record_dim.specs.Prelude.{Fields, is_under}
 use Rattle.places.specs.declared.piece.Cell.{Cell}
 use Rattle.map_expr.specs.declared.widths.FieldWidth.{FieldWidth}
 

@@ -1,5 +1,5 @@
 ghost use Rattle.std.specs.Prelude.{◌≡◌, ◌⊎◌, true, IfErr, OnOk, IsErrOf, length};
-ghost use Rattle.places.specs.Holds.{full_holds};
+ghost use Rattle.places.specs.Prelude.{full_holds};
 ghost use Rattle.map_bytes.specs.Cells.{differ};
 
 use crate::fault::MakeMap;

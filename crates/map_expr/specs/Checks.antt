@@ -1,7 +1,6 @@
 -- Which expressions can be mappings, whatever their cells are.
 use Rattle.std.specs.Prelude.{ℕ, ◌^◌, Bool, true, false, not, ◌&&◌, ◌||◌, nat_eq, nat_le, nat_lt, if◌then◌else◌, ⊤, List, Option, Some, None, Result, Ok, Err}
-use Rattle.std.specs.List.{list_all, list_any, range_with_len}
-use Rattle.std.specs.Option.{option_or}
+use Rattle.record_dim.specs.Std.{list_all, list_any, range_with_len, option_or}
 use Rattle.map_expr.specs.declared.check.BadMapping.{BadMapping}
 use Rattle.map_expr.specs.declared.widths.FieldWidth.{FieldWidth}
 use Rattle.map_expr.specs.declared.check.BadMapping.TheVariants.{TooDeep, Counter, Lanes, Width, Granule}

@@ -5,11 +5,7 @@ use Rattle.map_soa.proofs.Placed.{length-array, cell_at, length-cells}
 -- a blob has no more bits than all blobs
 pub blob_le : (form : SoaForm) (slots : ℕ) (widths offsets : List ℕ) (size blob : ℕ) → LieInArrays form slots widths offsets size
     → blob < length (soa_layout form slots widths) → length (get_or (soa_layout form slots widths) blob []) ≤ size
-blob_le form slots widths offsets size blob h inside =
-    let all : sum_by length (soa_layout form slots widths) ≡ size = h.total in
-    let one : length (get_or (soa_layout form slots widths) blob []) ≤ sum_by length (soa_layout form slots widths) =
-    get_or-le-sum_by length (soa_layout form slots widths) blob [] inside in
-    omega arith
+blob_le form slots widths offsets size blob h inside = grind (arith, sum_by, get_or, get_or-le-sum_by)
 
 -- a cell ends within all bits
 pub cell_end : (form : SoaForm) (slots : ℕ) (widths offsets : List ℕ) (size slot cell : ℕ) → LieInArrays form slots widths offsets size
@@ -30,11 +26,9 @@ pub offset_fits : (form : SoaForm) (slots : ℕ) (cells : List Cell) (offsets : 
     → LieInArrays form slots (widths_of cells) offsets size → size ≤ 2 ^ 31 → 0 < slots → cell < length cells → offset ≡ get_or offsets cell offset → offset ≤ 2 ^ 31
 offset_fits form slots cells offsets size cell offset h bound some cell_in read =
     let width = cell_width cells cell (slice_index (widths_of cells) cell) cell_in refl in
-    let inside : cell < length (widths_of cells) = width.inside in
-    let each : length offsets ≡ length (widths_of cells) = h.each in
     let same : offset ≡ slice_index offsets cell = get_or_read offsets cell offset (omega arith) read 0 in
     let end : slice_index offsets cell + 0 * slice_index (widths_of cells) cell + slice_index (widths_of cells) cell ≤ size =
-    cell_end form slots (widths_of cells) offsets size 0 cell h some inside width.some in
+    cell_end form slots (widths_of cells) offsets size 0 cell h some width.inside width.some in
     omega arith
 
 -- the places of a cell are one piece
@@ -47,32 +41,23 @@ located_is form slots cells offsets size slot cell piece h bound slot_in cell_in
     let layout : List (List Owner) = soa_layout form slots widths in
     let w : ℕ = slice_index widths cell in
     let width = cell_width cells cell w cell_in refl in
-    let some : 1 ≤ w = width.some in
-    let end : slice_index offsets cell + slot * w + w ≤ size = cell_end form slots widths offsets size slot cell h slot_in width.inside some in
+    let end : slice_index offsets cell + slot * w + w ≤ size = cell_end form slots widths offsets size slot cell h slot_in width.inside width.some in
     let one : IsLocated layout slot cell w (piece ∷ []) =
     one_piece layout slot cell w piece bits (omega arith) (omega arith)
-    (λ k l.
-    ap (λ (b : ℕ). owner_at layout b (piece.bit + k)) blob
-    ∙ ap (λ (p : ℕ). owner_at layout (blob_of form cell) (p + k)) bit
-    ∙ h.here slot cell k slot_in width.inside l) in
+    (λ k l. grind arith) in
     subst (λ (n : ℕ). IsLocated layout slot cell n (piece ∷ [])) (sym width.hold) one
 
 -- how many blobs there are
 pub one_blob : (form : SoaForm) (slots : ℕ) (widths : List ℕ) → (form ≡ Single) ⊎ (form ≡ Aligned) → length (soa_layout form slots widths) ≡ 1
-one_blob Single slots widths h = refl
-one_blob Aligned slots widths h = refl
-one_blob Multi slots widths h = ⊎_elim (λ (e : Multi ≡ Single). cc) (λ (e : Multi ≡ Aligned). cc) h
+one_blob form slots widths h = grind (arith, ⊎_elim)
 
 pub blob_each : (form : SoaForm) (slots : ℕ) (cells : List Cell) → form ≡ Multi → length (soa_layout form slots (widths_of cells)) ≡ length cells
-blob_each Single slots cells e = cc
-blob_each Aligned slots cells e = cc
-blob_each Multi slots cells e =
-    length-map (cells_of (widths_of cells)) (array slots) ∙ length-cells (widths_of cells) ∙ length-map cells (λ (c : Cell). width_of c.kind)
+blob_each form slots cells e = grind (arith, length-map, length-cells)
 
 sum_one : (layout : List (List Owner)) → length layout ≡ 1 → sum_by length layout ≡ length (get_or layout 0 [])
-sum_one [] e = let none : ⊥ = omega arith in absurd none
+sum_one [] e = absurd (omega arith)
 sum_one (blob ∷ []) e = omega arith
-sum_one (blob ∷ next ∷ rest) e = let none : ⊥ = omega arith in absurd none
+sum_one (blob ∷ next ∷ rest) e = absurd (omega arith)
 
 -- the length of a blob in bytes, where it is the only one
 pub one_blob_bytes : (form : SoaForm) (slots : ℕ) (cells : List Cell) (offsets : List ℕ) (size blob : ℕ) → LieInArrays form slots (widths_of cells) offsets size
@@ -81,10 +66,8 @@ pub one_blob_bytes : (form : SoaForm) (slots : ℕ) (cells : List Cell) (offsets
 one_blob_bytes form slots cells offsets size blob h in_one inside =
     let layout : List (List Owner) = soa_layout form slots (widths_of cells) in
     let single : length layout ≡ 1 = one_blob form slots (widths_of cells) in_one in
-    let first : blob ≡ 0 = omega arith in
-    let all : sum_by length layout ≡ size = h.total in
     let here : sum_by length layout ≡ length (get_or layout 0 []) = sum_one layout single in
-    let same : length (get_or layout blob []) ≡ length (get_or layout 0 []) = ap (λ (b : ℕ). length (get_or layout b [])) first in
+    let same : length (get_or layout blob []) ≡ length (get_or layout 0 []) = ap (λ (b : ℕ). length (get_or layout b [])) (omega arith) in
     let whole : length (get_or layout blob []) % 8 ≡ 0 = (soa_laws form slots cells).whole_bytes blob [] inside in
     omega arith
 
@@ -102,11 +85,7 @@ array_bytes slots cells blob width inside w =
 -- the bits of a blob of its own
 pub own_blob : (form : SoaForm) (slots : ℕ) (cells : List Cell) (blob : ℕ) (found : Cell) (width : ℕ) → form ≡ Multi → blob < length (soa_layout form slots (widths_of cells))
     → found ≡ get_or cells blob found → width ≡ width_of found.kind → slots * width ≡ length (get_or (soa_layout form slots (widths_of cells)) blob [])
-own_blob form slots cells blob found width e inside read w =
-    let count : length (soa_layout form slots (widths_of cells)) ≡ length cells = blob_each form slots cells e in
-    let own : slots * width ≡ length (get_or (soa_layout Multi slots (widths_of cells)) blob []) =
-    array_bytes slots cells blob width (omega arith) (width_read cells blob found width (omega arith) read w) in
-    own ∙ ap (λ (f : SoaForm). length (get_or (soa_layout f slots (widths_of cells)) blob [])) (sym e)
+own_blob form slots cells blob found width e inside read w = grind (arith, blob_each, get_or, array_bytes, width_read)
 
 pub own_blob_bytes : (form : SoaForm) (slots : ℕ) (cells : List Cell) (blob bits : ℕ) → blob < length (soa_layout form slots (widths_of cells))
     → bits ≡ length (get_or (soa_layout form slots (widths_of cells)) blob []) → 8 * (bits / 8) ≡ length (get_or (soa_layout form slots (widths_of cells)) blob [])

@@ -1,13 +1,12 @@
 -- How the arrays are laid out, cell after cell.
-use Rattle.map_soa.proofs.Imports.{◌≡◌, ℕ, zero, suc, inl, inr, All, ◌+◌, ◌-◌, ◌*◌, ◌%◌, ◌<◌, ◌≤◌, ⊎_elim, List, [], ◌∷◌, ◌++◌, map, length, sum_by, replicate, get_or, take, drop, slice_index, refl, sym, ap, ◌∙◌, subst, arith, length-append, flat_map, cases_lt, take_more, take_all, take-append-drop, get_or_append_left, get_or-append-add, get_or_push, get_or_default, get_or-map, length-map, length-enumerate_from, get_or-enumerate_from, sum_by-cons, width_of, Owner, Pad, Bit, owner_at, cells_of, field, array, padded_to, widths_of, Cell, length-field, field_at, within, Member, IsWidth, widths_are, member_width, length-parts, slot_at, stacked, up, stacked_push, stacked_append, stacked_take, stacked_bytes, length-padded, flat_stacked, soa_layout, LieInArrays, blob_of, alignment, in_blob, laid_arrays, single_blob, aligned_blob, array_bytes, keeps_alignment, SoaForm, Single, Aligned, Multi}
+use Rattle.map_soa.proofs.Imports.{◌≡◌, ℕ, zero, suc, inl, inr, All, ◌+◌, ◌-◌, ◌*◌, ◌%◌, ◌<◌, ◌≤◌, ⊎_elim, List, [], ◌∷◌, ◌++◌, map, length, sum_by, replicate, get_or, take, drop, slice_index, refl, sym, ap, ◌∙◌, arith, length-append, flat_map, cases_lt, take_more, take_all, take-append-drop, get_or_append_left, get_or-append-add, get_or_push, get_or_default, get_or-map, length-map, length-enumerate_from, get_or-enumerate_from, sum_by-cons, width_of, Owner, Pad, Bit, owner_at, cells_of, field, array, padded_to, widths_of, Cell, length-field, field_at, within, Member, IsWidth, widths_are, member_width, length-parts, slot_at, stacked, up, stacked_push, stacked_append, stacked_take, stacked_bytes, length-padded, flat_stacked, soa_layout, LieInArrays, blob_of, alignment, in_blob, laid_arrays, single_blob, aligned_blob, array_bytes, keeps_alignment, SoaForm, Single, Aligned, Multi}
 
 -- the array of one cell: its length, and its places
 pub length-array : (slots c w : ℕ) → length (array slots (c, w)) ≡ slots * w
 length-array slots c w = length-parts (λ slot. field slot (c, w)) w (λ s. length-field s c w) 0 slots
 
 pub array_at : (slots c w slot bit : ℕ) → slot < slots → bit < w → get_or (array slots (c, w)) (slot * w + bit) Pad ≡ Bit slot c bit
-array_at slots c w slot bit slot_in bit_in =
-    slot_at Pad (λ slot. field slot (c, w)) w (λ s. length-field s c w) slots slot bit slot_in bit_in ∙ field_at slot c w bit bit_in
+array_at slots c w slot bit slot_in bit_in = grind (arith, slot_at, length-field, field_at)
 
 -- what lies behind lists leaves them as they are
 stacked_keeps : (align : ℕ → ℕ) (f : ℕ × ℕ → List Owner) (front : List Owner) (cells : List (ℕ × ℕ)) (p : ℕ) → p < length front
@@ -19,9 +18,7 @@ stacked_keeps align f front (cell ∷ cells) p l =
     let padded : List Owner = padded_to a front in
     let more : length padded ≡ length front + length pads = length-append front pads in
     let all : length (padded ++ f cell) ≡ length padded + length (f cell) = length-append padded (f cell) in
-    stacked_keeps align f (padded ++ f cell) cells p (omega arith)
-    ∙ get_or_append_left padded (f cell) Pad p (omega arith)
-    ∙ get_or_append_left front pads Pad p l
+    grind (arith, get_or_append_left, (stacked_keeps align f (padded ++ f cell) cells p (omega arith)))
 
 -- the place of a list among all: the next multiple of its alignment behind the lists before it
 stacked_at : (align : ℕ → ℕ) (f : ℕ × ℕ → List Owner) (cells : List (ℕ × ℕ)) (i : ℕ) (c w j : ℕ)
@@ -36,25 +33,15 @@ stacked_at align f cells i c w j step l =
     let front_is : front ≡ padded ++ f (c, w) = ap (stacked align f []) step ∙ stacked_push align f [] (take i cells) (c, w) in
     let size : length padded ≡ up (align w) (length before) = length-padded (align w) before in
     let both : length (padded ++ f (c, w)) ≡ length padded + length (f (c, w)) = length-append padded (f (c, w)) in
-    let same : length front ≡ length (padded ++ f (c, w)) = ap (λ (owners : List Owner). length owners) front_is in
     let place : ℕ = up (align w) (length before) + j in
-    let at : place ≡ length padded + j = ap (λ (n : ℕ). n + j) (sym size) in
-    ap (λ (owners : List Owner). get_or owners place Pad) whole
-    ∙ stacked_keeps align f front (drop (i + 1) cells) place (omega arith)
-    ∙ ap (λ (owners : List Owner). get_or owners place Pad) front_is
-    ∙ ap (λ (n : ℕ). get_or (padded ++ f (c, w)) n Pad) at
-    ∙ get_or-append-add padded (f (c, w)) j Pad
+    grind (arith, get_or, stacked_keeps, get_or-append-add)
 
 -- the numbered cells, one by one
 pub length-cells : (widths : List ℕ) → length (cells_of widths) ≡ length widths
 length-cells widths = length-enumerate_from 0 widths
 
 pub cell_at : (widths : List ℕ) (i : ℕ) (d : ℕ × ℕ) → i < length widths → get_or (cells_of widths) i d ≡ (i, slice_index widths i)
-cell_at widths i d inside =
-    let at : get_or (cells_of widths) i d ≡ (0 + i, get_or widths i d.1) = get_or-enumerate_from 0 widths i d inside in
-    let number : 0 + i ≡ i = omega arith in
-    let width : get_or widths i d.1 ≡ slice_index widths i = get_or_default widths i d.1 0 inside in
-    at ∙ ap (λ (n : ℕ). (n, get_or widths i d.1)) number ∙ ap (λ (w : ℕ). (i, w)) width
+cell_at widths i d inside = grind (arith, get_or, get_or-enumerate_from, slice_index, get_or_default)
 
 pub cells_more : (widths : List ℕ) (i : ℕ) → i < length widths → take (i + 1) (cells_of widths) ≡ take i (cells_of widths) ++ (i, slice_index widths i) ∷ []
 cells_more widths i inside =
@@ -83,28 +70,13 @@ placed_more form slots widths i offsets end w begin offset inside width b o h =
     let new : List Owner = laid_arrays form slots (take (i + 1) (cells_of widths)) in
     let new_is : new ≡ padded ++ array slots (i, v) =
     ap (laid_arrays form slots) (cells_more widths i inside) ∙ stacked_push (alignment form) (array slots) [] (take i (cells_of widths)) (i, v) in
-    let begins : begin ≡ begin_of form slots widths i =
-    b ∙ ap (λ (x : ℕ). up (alignment form x) end) width ∙ ap (up (alignment form v)) (sym h.size) in
     let padded_size : length padded ≡ begin_of form slots widths i = length-padded (alignment form v) before in
     let both : length (padded ++ array slots (i, v)) ≡ length padded + length (array slots (i, v)) = length-append padded (array slots (i, v)) in
     let one : length (array slots (i, v)) ≡ slots * v = length-array slots i v in
     let product : slots * w ≡ slots * v = ap (λ (x : ℕ). slots * x) width in
     let long : length new ≡ length (padded ++ array slots (i, v)) = ap (λ (owners : List Owner). length owners) new_is in
     let count : length (offsets ++ offset ∷ []) ≡ length offsets + 1 = length-append offsets (offset ∷ []) in
-    let was : length offsets ≡ i = h.each in
-    record {
-      size = omega arith;
-      each = omega arith;
-      here = λ cell l.
-          ⊎_elim
-          (λ (old : cell < i). get_or_append_left offsets (offset ∷ []) 0 cell (omega arith) ∙ h.here cell old)
-          (λ (last : i ≤ cell).
-          let same : i ≡ cell = omega arith in
-          let at : slice_index (offsets ++ offset ∷ []) i ≡ in_blob form (begin_of form slots widths i) =
-          get_or_push offsets offset 0 i was ∙ o ∙ ap (in_blob form) begins in
-          subst (λ (c : ℕ). slice_index (offsets ++ offset ∷ []) c ≡ in_blob form (begin_of form slots widths c)) same at)
-          (cases_lt cell i);
-    }
+    let was : length offsets ≡ i = h.each in grind (arith, ⊎_elim, get_or_append_left, slice_index, get_or_push, cases_lt)
 
 -- a blob for each array has as many bits as one blob for all
 arrays_size : (slots : ℕ) (cells : List (ℕ × ℕ)) → sum_by length (map (array slots) cells) ≡ length (flat_map (array slots) cells)
@@ -118,25 +90,15 @@ arrays_size slots (cell ∷ cells) =
     omega arith
 
 one_size : (layout : List (List Owner)) (blob : List Owner) → layout ≡ blob ∷ [] → sum_by length layout ≡ length blob
-one_size layout blob e =
-    let one : sum_by length (blob ∷ []) ≡ length blob = omega arith in
-    ap (λ (layout : List (List Owner)). sum_by length layout) e ∙ one
+one_size layout blob e = grind (arith, sum_by)
 
 pub layout_size : (form : SoaForm) (slots : ℕ) (widths : List ℕ) → sum_by length (soa_layout form slots widths) ≡ length (laid_arrays form slots (cells_of widths))
-layout_size Single slots widths = one_size (soa_layout Single slots widths) (laid_arrays Single slots (cells_of widths)) (single_blob slots widths)
-layout_size Aligned slots widths = one_size (soa_layout Aligned slots widths) (laid_arrays Aligned slots (cells_of widths)) (aligned_blob slots widths)
-layout_size Multi slots widths =
-    arrays_size slots (cells_of widths) ∙ ap (λ (owners : List Owner). length owners) (sym (flat_stacked (array slots) [] (cells_of widths)))
+layout_size form slots widths = grind (arith, one_size, single_blob, aligned_blob, arrays_size, flat_stacked)
 
 -- what is laid out is no longer than the whole
 pub placed_le : (form : SoaForm) (slots : ℕ) (widths : List ℕ) (count : ℕ) (offsets : List ℕ) (end : ℕ)
     → IsPlaced form slots widths count offsets end → end ≤ sum_by length (soa_layout form slots widths)
-placed_le form slots widths count offsets end h =
-    let here : length (laid_arrays form slots (take count (cells_of widths))) ≡ end = h.size in
-    let low : length (laid_arrays form slots (take count (cells_of widths))) ≤ length (laid_arrays form slots (cells_of widths)) =
-    stacked_take (alignment form) (array slots) (cells_of widths) count in
-    let all : sum_by length (soa_layout form slots widths) ≡ length (laid_arrays form slots (cells_of widths)) = layout_size form slots widths in
-    omega arith
+placed_le form slots widths count offsets end h = grind (arith, stacked_take, sum_by, layout_size)
 
 -- place j of a cell's array
 layout_at : (form : SoaForm) (slots : ℕ) (widths : List ℕ) (cell j : ℕ) → cell < length widths → j < length (array slots (cell, slice_index widths cell))
@@ -164,18 +126,10 @@ member_take (cell ∷ cells) (suc n) c w (inr there) = inr (member_take cells n 
 
 -- each array begins at a byte
 begin_bytes : (form : SoaForm) (slots : ℕ) (widths : List ℕ) (cell : ℕ) → All IsWidth widths → cell < length widths → begin_of form slots widths cell % 8 ≡ 0
-begin_bytes form slots widths cell each inside =
-    let width : IsWidth (slice_index widths cell) = each cell 0 inside in
-    keeps_alignment form (slice_index widths cell) width (length (laid_arrays form slots (take cell (cells_of widths))))
-    (stacked_bytes (alignment form) (array slots) [] (take cell (cells_of widths)) refl
-    (λ c w m.
-    let is : IsWidth w = member_width widths c w each (member_take (cells_of widths) cell c w m) in
-    (keeps_alignment form w is, array_bytes slots c w is)))
+begin_bytes form slots widths cell each inside = grind (arith, slice_index, keeps_alignment, stacked_bytes, member_width, member_take, array_bytes)
 
 blob_bytes : (form : SoaForm) (begin : ℕ) → begin % 8 ≡ 0 → in_blob form begin % 8 ≡ 0
-blob_bytes Single begin whole = whole
-blob_bytes Aligned begin whole = whole
-blob_bytes Multi begin whole = refl
+blob_bytes form begin whole = grind arith
 
 -- all cells are laid out
 pub stored_all : (form : SoaForm) (slots : ℕ) (widths : List ℕ) (count : ℕ) (offsets : List ℕ) (end : ℕ) → All IsWidth widths → count ≡ length widths
@@ -190,10 +144,8 @@ stored_all form slots widths count offsets end widths_are all h =
       total = layout_size form slots widths ∙ ap (λ (cells : List (ℕ × ℕ)). length (laid_arrays form slots cells)) (sym whole) ∙ h.size;
       here = λ slot cell bit slot_in cell_in bit_in.
           let w : ℕ = slice_index widths cell in
-          let offset : slice_index offsets cell ≡ in_blob form (begin_of form slots widths cell) = h.here cell (omega arith) in
-          let place : slice_index offsets cell + slot * w + bit ≡ in_blob form (begin_of form slots widths cell) + (slot * w + bit) = omega arith in
           let bit_here : get_or (array slots (cell, w)) (slot * w + bit) Pad ≡ Bit slot cell bit = array_at slots cell w slot bit slot_in bit_in in
-          ap (λ (p : ℕ). owner_at (soa_layout form slots widths) (blob_of form cell) p) place
+          ap (λ (p : ℕ). owner_at (soa_layout form slots widths) (blob_of form cell) p) (omega arith)
           ∙ layout_at form slots widths cell (slot * w + bit) cell_in (within (array slots (cell, w)) (slot * w + bit) slot cell bit bit_here)
           ∙ bit_here;
     }

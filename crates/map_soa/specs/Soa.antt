@@ -1,7 +1,6 @@
 -- The layout of each form, and what a mapping keeps of it.
 use Rattle.std.specs.Prelude.{ℕ, ◌≡◌, ◌+◌, ◌*◌, ◌%◌, ◌<◌, List, length, sum_by, slice_index}
-use Rattle.places.specs.Forms.{soa_layout}
-use Rattle.places.specs.Layout.{Bit, owner_at}
+use Rattle.places.specs.Prelude.{soa_layout, Bit, owner_at}
 use Rattle.places.specs.declared.forms.SoaForm.{SoaForm}
 use Rattle.places.specs.declared.forms.SoaForm.TheVariants.{Single, Aligned, Multi}
 

@@ -1,19 +1,9 @@
 -- The laws of each form: each bit of each cell has one place, and each blob is whole bytes.
-use Rattle.std.proofs.Common.{◌≡◌, ℕ, ◌+◌, ◌%◌, ◌<◌, ◌≤◌, List, [], ◌∷◌, map, length, get_or, All, refl, sym, ap, ◌∙◌, subst, arith}
-use Rattle.std.proofs.lemmas.List.Elements.{All-cons, All-nil, All-map}
-use Rattle.places.specs.Layout.{Owner, cells_of, field, array, single_soa, aligned_soa}
-use Rattle.places.specs.Lawful.{IsBitOf, IsLaidOut}
-use Rattle.places.specs.Holds.{widths_of, full_holds}
+use Rattle.std.specs.Prelude.{◌≡◌, ℕ, ◌%◌, ◌<◌, List, [], ◌∷◌, map, length, get_or, All, refl}
+use Rattle.record_dim.specs.Std.{sym, ap, ◌∙◌, subst, arith, All-cons, All-nil, All-map}
+use Rattle.places.specs.Prelude.{Owner, cells_of, field, array, single_soa, aligned_soa, IsBitOf, IsLaidOut, widths_of, full_holds, Has, has_same, has_range, has_field, length-field, Member, LaysOut, lays_out_same, has_blob, blobs_of_cells, laid_out, member_width, apart_enumerate, member_at, bit_of_cells, cells_of_bit, parts_bytes, stacked, flat_stacked, arrays_stacked, has_all_stacked, stacked_bytes, KeepsBytes, IsWidth, by_width, widths_are, widths_narrow, widths_wide, widths_full, keeps_one, keeps_width, soa_layout}
 use Rattle.places.specs.declared.piece.Cell.{Cell}
 use Rattle.places.specs.declared.piece.Hold.{Hold}
-use Rattle.places.specs.ExactLaws.{Has, has_same, has_range, has_field, length-field, Member}
-use Rattle.places.specs.ComposeLaws.{LaysOut, lays_out_same, has_blob, blobs_of_cells, laid_out}
-use Rattle.places.specs.CellWidthsLaws.{member_width}
-use Rattle.places.specs.CellsLaws.{apart_enumerate, member_at, bit_of_cells, cells_of_bit}
-use Rattle.places.specs.SlotsLaws.{parts_bytes}
-use Rattle.places.specs.StackedLaws.{stacked, flat_stacked, arrays_stacked, has_all_stacked, stacked_bytes, KeepsBytes}
-use Rattle.places.specs.WidthsLaws.{IsWidth, by_width, widths_are, widths_narrow, widths_wide, widths_full, keeps_one, keeps_width}
-use Rattle.places.specs.Forms.{soa_layout}
 use Rattle.map_soa.specs.Soa.{alignment}
 use Rattle.places.specs.declared.forms.SoaForm.{SoaForm}
 use Rattle.places.specs.declared.forms.SoaForm.TheVariants.{Single, Aligned, Multi}
@@ -37,25 +27,13 @@ has_array slots c w =
     let Own : ℕ → ℕ → ℕ → ℕ → Type 0 = λ slot s c' k. (s ≡ slot) × (c' ≡ c) × (k < w) in
     let all = has_range (λ slot. field slot (c, w)) Own 0 slots
     (λ i low high. has_field i c w)
-    (λ i j s c' k (one : Own i s c' k) (two : Own j s c' k). sym one.0 ∙ two.0) in
-    has_same {Out = BitOfArray slots (c, w)} all
-    (λ s c' k (h : (i : ℕ) × (0 ≤ i) × (i < 0 + slots) × Own i s c' k).
-    let same : s ≡ h.0 = h.3.0 in
-    let high : h.0 < 0 + slots = h.2 in
-    ((let l : s < slots = omega arith in l), h.3.1, h.3.2))
-    (λ s c' k (h : BitOfArray slots (c, w) s c' k).
-    let inside : s < slots = h.0 in
-    (s, (let l : 0 ≤ s = omega arith in l), (let l : s < 0 + slots = omega arith in l), (refl, h.1, h.2)))
+    (λ i j s c' k (one : Own i s c' k) (two : Own j s c' k). sym one.0 ∙ two.0) in grind (arith, has_same)
 
 pub array_bytes : (slots c w : ℕ) → IsWidth w → length (array slots (c, w)) % 8 ≡ 0
-array_bytes slots c w width =
-    parts_bytes (λ slot. field slot (c, w))
-    (λ s. ap (λ (n : ℕ). n % 8) (length-field s c w) ∙ by_width (λ w. w % 8 ≡ 0) w refl refl refl refl width) 0 slots
+array_bytes slots c w width = grind (arith, parts_bytes, length-field, by_width)
 
 pub keeps_alignment : (form : SoaForm) (w : ℕ) → IsWidth w → KeepsBytes (alignment form w)
-keeps_alignment Single w h = keeps_one
-keeps_alignment Aligned w h = keeps_width w h
-keeps_alignment Multi w h = keeps_one
+keeps_alignment form w h = grind (arith, keeps_one, keeps_width)
 
 -- the bits of the cells' arrays are the bits of the slots' cells
 abbrev BitOfArrays : ℕ → List ℕ → ℕ → ℕ → ℕ → Type 0
@@ -91,13 +69,7 @@ abbrev HasWholeBytes : List Owner → Type 0
 HasWholeBytes blob = length blob % 8 ≡ 0
 
 arrays_bytes : (form : SoaForm) (slots : ℕ) (widths : List ℕ) → All IsWidth widths → All HasWholeBytes (laid_arrays form slots (cells_of widths) ∷ [])
-arrays_bytes form slots widths each =
-    All-cons HasWholeBytes (laid_arrays form slots (cells_of widths)) []
-    (stacked_bytes (alignment form) (array slots) [] (cells_of widths) refl
-    (λ c w m.
-    let width : IsWidth w = member_width widths c w each m in
-    (keeps_alignment form w width, array_bytes slots c w width)))
-    (All-nil HasWholeBytes)
+arrays_bytes form slots widths each = grind (arith, All-cons, stacked_bytes, member_width, keeps_alignment, array_bytes, All-nil)
 
 soa_bytes : (form : SoaForm) (slots : ℕ) (widths : List ℕ) → All IsWidth widths → All HasWholeBytes (soa_layout form slots widths)
 soa_bytes Single slots widths each = subst (All HasWholeBytes) (sym (single_blob slots widths)) (arrays_bytes Single slots widths each)

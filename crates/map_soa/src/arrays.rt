@@ -1,6 +1,5 @@
 ghost use Rattle.std.specs.Prelude.{ℕ, ◌≡◌, ◌+◌, ◌*◌, ◌^◌, ◌<◌, ◌≤◌, ◌⊎◌, IfOk, IfErr, IsErrOf, length, sum_by};
-ghost use Rattle.places.specs.Holds.{widths_of};
-ghost use Rattle.places.specs.Forms.{soa_layout};
+ghost use Rattle.places.specs.Prelude.{widths_of, soa_layout};
 ghost use Rattle.map_soa.specs.Soa.{LieInArrays, alignment, in_blob};
 
 use places::{Cell, MAX_BLOB_BITS, NewMapping, SoaForm, up};

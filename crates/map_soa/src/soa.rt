@@ -1,12 +1,9 @@
 ghost use Rattle.std.specs.Prelude.{ℕ, ◌≡◌, ◌%◌, ◌^◌, ◌<◌, ◌≤◌, ◌⊎◌, IfOk, IfErr, OnOk, IsErrOf, List, length, slice_index};
-ghost use Rattle.places.specs.Holds.{widths_of, full_holds, IsTooBig};
+ghost use Rattle.places.specs.Prelude.{widths_of, full_holds, IsTooBig, Owner, soa_layout, length-full};
 ghost use Rattle.places.specs.declared.piece.Cell.{Cell};
 ghost use Rattle.places.specs.declared.piece.Hold.{Hold};
-ghost use Rattle.places.specs.Layout.{Owner};
-ghost use Rattle.places.specs.Forms.{soa_layout};
 ghost use Rattle.map_soa.specs.Soa.{LieInArrays, blob_of};
 ghost use Rattle.map_soa.specs.SoaLaws.{soa_laws};
-ghost use Rattle.places.specs.CellWidthsLaws.{length-full};
 
 use crate::arrays::lay_out;
 use places::{

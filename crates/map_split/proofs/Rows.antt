@@ -1,9 +1,6 @@
 -- One more item of a list that is mapped, and how a cell of a split is stored.
-use Rattle.std.proofs.Common.{◌≡◌, ℕ, ◌<◌, Bool, true, false, List, map, length, get_or, slice_get, Some, sym, ap, ◌∙◌, arith}
-use Rattle.std.specs.Prelude.{not}
+use Rattle.record_dim.specs.Std.{◌≡◌, ℕ, ◌<◌, Bool, true, false, List, map, length, get_or, slice_get, Some, ap, ◌∙◌, arith, not, length-map, slice_get-get_or, get_or_from_slice_get}
 use Rattle.std.specs.List.{count_by}
-use Rattle.std.proofs.lemmas.List.{length-map}
-use Rattle.std.proofs.lemmas.Option.{slice_get-get_or, get_or_from_slice_get}
 use Rattle.places.specs.declared.piece.Hold.{Hold}
 use Rattle.map_split.specs.Sides.{merged, rank_first, rank_rest}
 use Rattle.map_split.specs.SidesLaws.{map-merged, merged_first, merged_rest, length-merged}
@@ -18,27 +15,17 @@ module _ (side : List Bool) (hs gs : List Hold) (cell : ℕ) (inside : cell < le
   held_first hold goes e =
       let size : length (merged side hs gs) ≡ length side = length-merged side hs gs (omega (arith, left)) (omega (arith, right)) in
       slice_get-get_or (merged side hs gs) cell hold (omega arith)
-      ∙ ap Some (merged_first hold side hs gs cell inside goes (omega (arith, left)) (omega (arith, right))
-      ∙ get_or_from_slice_get hs (rank_first side cell) hold hold e)
+      ∙ ap Some (grind (arith, merged_first, get_or_from_slice_get))
 
   pub held_rest : (hold : Hold) → get_or side cell false ≡ false → slice_get gs (rank_rest side cell) ≡ Some hold → slice_get (merged side hs gs) cell ≡ Some hold
   held_rest hold stays e =
       let size : length (merged side hs gs) ≡ length side = length-merged side hs gs (omega (arith, left)) (omega (arith, right)) in
       slice_get-get_or (merged side hs gs) cell hold (omega arith)
-      ∙ ap Some (merged_rest hold side hs gs cell inside stays (omega (arith, left)) (omega (arith, right))
-      ∙ get_or_from_slice_get gs (rank_rest side cell) hold hold e)
+      ∙ ap Some (grind (arith, merged_rest, get_or_from_slice_get))
 
   -- and so is its width
   pub width_first : get_or side cell false ≡ true → get_or (map width hs) (rank_first side cell) 0 ≡ get_or (map width (merged side hs gs)) cell 0
-  width_first goes =
-      let one : length (map width hs) ≡ length hs = length-map hs width in
-      let two : length (map width gs) ≡ length gs = length-map gs width in
-      sym (ap (λ (ws : List ℕ). get_or ws cell 0) (map-merged width side hs gs)
-      ∙ merged_first 0 side (map width hs) (map width gs) cell inside goes (omega (arith, left)) (omega (arith, right)))
+  width_first goes = grind (arith, length-map, get_or, map-merged, merged_first)
 
   pub width_rest : get_or side cell false ≡ false → get_or (map width gs) (rank_rest side cell) 0 ≡ get_or (map width (merged side hs gs)) cell 0
-  width_rest stays =
-      let one : length (map width hs) ≡ length hs = length-map hs width in
-      let two : length (map width gs) ≡ length gs = length-map gs width in
-      sym (ap (λ (ws : List ℕ). get_or ws cell 0) (map-merged width side hs gs)
-      ∙ merged_rest 0 side (map width hs) (map width gs) cell inside stays (omega (arith, left)) (omega (arith, right)))
+  width_rest stays = grind (arith, length-map, get_or, map-merged, merged_rest)

@@ -1,7 +1,7 @@
 -- The two sides of a split: which cells go to the first, and what the whole has of both.
 use Rattle.std.specs.Prelude.{ℕ, ◌+◌, ◌*◌, ◌^◌, ◌<◌, Bool, true, false, not, ◌||◌, ◌==◌, List, [], ◌∷◌, length, map, take, sum_by}
 use Rattle.std.specs.List.{count_by}
-use Rattle.places.specs.Layout.{Owner}
+use Rattle.places.specs.Prelude.{Owner}
 
 -- the items of the cells that go to the first side, and of those that do not, each in order
 abbrev pub first_of : {X : Type 0} → List Bool → List X → List X

@@ -1,10 +1,7 @@
 -- Cells that go to two sides: their numbers, and items for them.
-use Rattle.std.proofs.Common.{◌≡◌, ℕ, zero, suc, ◌+◌, ◌<◌, ◌≤◌, ⊎_elim, Bool, true, false, List, [], ◌∷◌, length, get_or, map, take, All, refl, sym, ap, ◌∙◌, subst, arith}
-use Rattle.std.proofs.lemmas.Bool.{cases_Bool}
-use Rattle.std.specs.Prelude.{not, filter, if◌then◌else◌}
-use Rattle.std.specs.List.{count_by, enumerate_from}
-use Rattle.std.proofs.lemmas.List.{length-map}
-use Rattle.std.proofs.lemmas.List.Sums.{sum_by-cons}
+use Rattle.std.specs.Prelude.{◌≡◌, ℕ, zero, suc, ◌+◌, ◌<◌, ◌≤◌, Bool, true, false, List, [], ◌∷◌, length, get_or, map, take, All, refl, not, filter, if◌then◌else◌}
+use Rattle.record_dim.specs.Std.{⊎_elim, sym, ap, ◌∙◌, arith, cases_Bool, enumerate_from, length-map, sum_by-cons}
+use Rattle.std.specs.List.{count_by}
 use Rattle.map_split.specs.Sides.{first_of, side_rest, merged, rank_first, rank_rest}
 
 -- one more cell of each side
@@ -20,150 +17,100 @@ numbers_from n side = map (λ entry. entry.0) (filter (λ entry. entry.1) (enume
 
 -- the cell of a number
 pub number_first : (n : ℕ) (side : List Bool) (k : ℕ) → k < length side → get_or side k false ≡ true → get_or (numbers_from n side) (rank_first side k) 0 ≡ n + k
-number_first n [] k inside e = let none : ⊥ = omega arith in absurd none
+number_first n [] k inside e = absurd (omega arith)
 number_first n (true ∷ side) zero inside e = omega arith
 number_first n (false ∷ side) zero inside e = cc
 number_first n (true ∷ side) (suc k) inside e =
     let later : get_or (numbers_from (n + 1) side) (rank_first side k) 0 ≡ n + 1 + k = number_first (n + 1) side k (omega arith) e in
-    ap (λ (i : ℕ). get_or (numbers_from n (true ∷ side)) i 0) (yes_first (take k side)) ∙ later ∙ (let m : n + 1 + k ≡ n + suc k = omega arith in m)
-number_first n (false ∷ side) (suc k) inside e =
-    let later : get_or (numbers_from (n + 1) side) (rank_first side k) 0 ≡ n + 1 + k = number_first (n + 1) side k (omega arith) e in
-    omega arith
+    ap (λ (i : ℕ). get_or (numbers_from n (true ∷ side)) i 0) (yes_first (take k side)) ∙ later ∙ (omega arith)
+number_first n (false ∷ side) (suc k) inside e = grind (arith, get_or, (number_first (n + 1) side k (omega arith) e))
 
 pub number_rest : (n : ℕ) (side : List Bool) (k : ℕ) → k < length side → get_or side k false ≡ false → get_or (numbers_from n (map not side)) (rank_rest side k) 0 ≡ n + k
-number_rest n [] k inside e = let none : ⊥ = omega arith in absurd none
+number_rest n [] k inside e = absurd (omega arith)
 number_rest n (false ∷ side) zero inside e = omega arith
 number_rest n (true ∷ side) zero inside e = cc
-number_rest n (true ∷ side) (suc k) inside e =
-    let later : get_or (numbers_from (n + 1) (map not side)) (rank_rest side k) 0 ≡ n + 1 + k = number_rest (n + 1) side k (omega arith) e in
-    omega arith
-number_rest n (false ∷ side) (suc k) inside e =
-    let later : get_or (numbers_from (n + 1) (map not side)) (rank_rest side k) 0 ≡ n + 1 + k = number_rest (n + 1) side k (omega arith) e in
-    ap (λ (i : ℕ). get_or (numbers_from n (map not (false ∷ side))) i 0) (yes_rest (take k side)) ∙ later ∙ (let m : n + 1 + k ≡ n + suc k = omega arith in m)
+number_rest n (true ∷ side) (suc k) inside e = grind (arith, get_or, (number_rest (n + 1) side k (omega arith) e))
+number_rest n (false ∷ side) (suc k) inside e = grind (arith, get_or, yes_rest, (number_rest (n + 1) side k (omega arith) e))
 
 -- it stands among the cells of its side
 pub rank_first_in : (side : List Bool) (k : ℕ) → k < length side → get_or side k false ≡ true → rank_first side k < count_by (λ (s : Bool). s) side
-rank_first_in [] k inside e = let none : ⊥ = omega arith in absurd none
+rank_first_in [] k inside e = absurd (omega arith)
 rank_first_in (true ∷ side) zero inside e = omega (arith, yes_first side)
 rank_first_in (false ∷ side) zero inside e = cc
 rank_first_in (true ∷ side) (suc k) inside e =
     let later : rank_first side k < count_by (λ (s : Bool). s) side = rank_first_in side k (omega arith) e in
     omega (arith, yes_first side, yes_first (take k side))
-rank_first_in (false ∷ side) (suc k) inside e =
-    let later : rank_first side k < count_by (λ (s : Bool). s) side = rank_first_in side k (omega arith) e in
-    omega arith
+rank_first_in (false ∷ side) (suc k) inside e = grind (arith, count_by, (rank_first_in side k (omega arith) e))
 
 pub rank_rest_in : (side : List Bool) (k : ℕ) → k < length side → get_or side k false ≡ false → rank_rest side k < count_by not side
-rank_rest_in [] k inside e = let none : ⊥ = omega arith in absurd none
+rank_rest_in [] k inside e = absurd (omega arith)
 rank_rest_in (false ∷ side) zero inside e = omega (arith, yes_rest side)
 rank_rest_in (true ∷ side) zero inside e = cc
-rank_rest_in (true ∷ side) (suc k) inside e =
-    let later : rank_rest side k < count_by not side = rank_rest_in side k (omega arith) e in
-    omega arith
-rank_rest_in (false ∷ side) (suc k) inside e =
-    let later : rank_rest side k < count_by not side = rank_rest_in side k (omega arith) e in
-    omega (arith, yes_rest side, yes_rest (take k side))
+rank_rest_in (true ∷ side) (suc k) inside e = grind (arith, count_by, (rank_rest_in side k (omega arith) e))
+rank_rest_in (false ∷ side) (suc k) inside e = grind (arith, count_by, yes_rest, (rank_rest_in side k (omega arith) e))
 
 -- the item of a cell is that of its side
 pub merged_first : {X : Type 0} (d : X) (side : List Bool) (xs ys : List X) (k : ℕ) → k < length side → get_or side k false ≡ true
     → count_by (λ (s : Bool). s) side ≤ length xs → count_by not side ≤ length ys → get_or (merged side xs ys) k d ≡ get_or xs (rank_first side k) d
-merged_first d [] xs ys k inside e one two = let none : ⊥ = omega arith in absurd none
-merged_first d (true ∷ side) [] ys k inside e one two = let none : ⊥ = omega (arith, yes_first side) in absurd none
+merged_first d [] xs ys k inside e one two = absurd (omega arith)
+merged_first d (true ∷ side) [] ys k inside e one two = absurd (omega (arith, yes_first side))
 merged_first d (true ∷ side) (x ∷ xs) ys zero inside e one two = refl
 merged_first d (true ∷ side) (x ∷ xs) ys (suc k) inside e one two =
     merged_first d side xs ys k (omega arith) e (omega (arith, yes_first side)) (omega arith)
     ∙ sym (ap (λ (i : ℕ). get_or (x ∷ xs) i d) (yes_first (take k side)))
-merged_first d (false ∷ side) xs [] k inside e one two = let none : ⊥ = omega (arith, yes_rest side) in absurd none
+merged_first d (false ∷ side) xs [] k inside e one two = absurd (omega (arith, yes_rest side))
 merged_first d (false ∷ side) xs (y ∷ ys) zero inside e one two = cc
 merged_first d (false ∷ side) xs (y ∷ ys) (suc k) inside e one two = merged_first d side xs ys k (omega arith) e (omega arith) (omega (arith, yes_rest side))
 
 pub merged_rest : {X : Type 0} (d : X) (side : List Bool) (xs ys : List X) (k : ℕ) → k < length side → get_or side k false ≡ false
     → count_by (λ (s : Bool). s) side ≤ length xs → count_by not side ≤ length ys → get_or (merged side xs ys) k d ≡ get_or ys (rank_rest side k) d
-merged_rest d [] xs ys k inside e one two = let none : ⊥ = omega arith in absurd none
-merged_rest d (true ∷ side) [] ys k inside e one two = let none : ⊥ = omega (arith, yes_first side) in absurd none
+merged_rest d [] xs ys k inside e one two = absurd (omega arith)
+merged_rest d (true ∷ side) [] ys k inside e one two = absurd (omega (arith, yes_first side))
 merged_rest d (true ∷ side) (x ∷ xs) ys zero inside e one two = cc
 merged_rest d (true ∷ side) (x ∷ xs) ys (suc k) inside e one two = merged_rest d side xs ys k (omega arith) e (omega (arith, yes_first side)) (omega arith)
-merged_rest d (false ∷ side) xs [] k inside e one two = let none : ⊥ = omega (arith, yes_rest side) in absurd none
+merged_rest d (false ∷ side) xs [] k inside e one two = absurd (omega (arith, yes_rest side))
 merged_rest d (false ∷ side) xs (y ∷ ys) zero inside e one two = refl
-merged_rest d (false ∷ side) xs (y ∷ ys) (suc k) inside e one two =
-    merged_rest d side xs ys k (omega arith) e (omega arith) (omega (arith, yes_rest side))
-    ∙ sym (ap (λ (i : ℕ). get_or (y ∷ ys) i d) (yes_rest (take k side)))
+merged_rest d (false ∷ side) xs (y ∷ ys) (suc k) inside e one two = grind (arith, yes_rest, get_or, (merged_rest d side xs ys k (omega arith) e (omega arith) (omega (arith, yes_rest side))))
 
 pub length-merged : {X : Type 0} (side : List Bool) (xs ys : List X)
     → count_by (λ (s : Bool). s) side ≤ length xs → count_by not side ≤ length ys → length (merged side xs ys) ≡ length side
 length-merged [] xs ys one two = refl
-length-merged (true ∷ side) [] ys one two = let none : ⊥ = omega (arith, yes_first side) in absurd none
+length-merged (true ∷ side) [] ys one two = absurd (omega (arith, yes_first side))
 length-merged (true ∷ side) (x ∷ xs) ys one two = ap suc (length-merged side xs ys (omega (arith, yes_first side)) (omega arith))
-length-merged (false ∷ side) xs [] one two = let none : ⊥ = omega (arith, yes_rest side) in absurd none
+length-merged (false ∷ side) xs [] one two = absurd (omega (arith, yes_rest side))
 length-merged (false ∷ side) xs (y ∷ ys) one two = ap suc (length-merged side xs ys (omega arith) (omega (arith, yes_rest side)))
 
 -- each number is that of a cell of its side
 pub numbers_first : (n : ℕ) (side : List Bool) (i : ℕ) → i < count_by (λ (s : Bool). s) side
     → (c : ℕ) × (get_or (numbers_from n side) i 0 ≡ n + c) × (c < length side) × (get_or side c false ≡ true) × (rank_first side c ≡ i)
-numbers_first n [] i inside = let none : ⊥ = omega arith in absurd none
-numbers_first n (true ∷ side) zero inside =
-    let here : n ≡ n + 0 = omega arith in
-    let low : 0 < length (true ∷ side) = omega arith in
-    (0, here, low, refl, refl)
+numbers_first n [] i inside = absurd (omega arith)
+numbers_first n (true ∷ side) zero inside = grind arith
 numbers_first n (true ∷ side) (suc i) inside =
     let later = numbers_first (n + 1) side i (omega (arith, yes_first side)) in
     let c : ℕ = later.0 in
-    let number : get_or (numbers_from (n + 1) side) i 0 ≡ n + 1 + c = later.1 in
-    let low : c < length side = later.2 in
-    let rank : rank_first side c ≡ i = later.4 in
-    let number' : get_or (numbers_from (n + 1) side) i 0 ≡ n + suc c = omega arith in
-    let low' : suc c < length (true ∷ side) = omega arith in
-    let rank' : rank_first (true ∷ side) (suc c) ≡ suc i = yes_first (take c side) ∙ ap suc rank in
-    (suc c, number', low', later.3, rank')
+    (suc c, (omega arith), (omega arith), later.3, (yes_first (take c side) ∙ ap suc later.4))
 numbers_first n (false ∷ side) i inside =
     let later = numbers_first (n + 1) side i inside in
     let c : ℕ = later.0 in
-    let number : get_or (numbers_from (n + 1) side) i 0 ≡ n + 1 + c = later.1 in
-    let low : c < length side = later.2 in
-    let number' : get_or (numbers_from (n + 1) side) i 0 ≡ n + suc c = omega arith in
-    let low' : suc c < length (false ∷ side) = omega arith in
-    (suc c, number', low', later.3, later.4)
+    (suc c, (omega arith), (omega arith), later.3, later.4)
 
 pub numbers_rest : (n : ℕ) (side : List Bool) (i : ℕ) → i < count_by not side
     → (c : ℕ) × (get_or (numbers_from n (map not side)) i 0 ≡ n + c) × (c < length side) × (get_or side c false ≡ false) × (rank_rest side c ≡ i)
-numbers_rest n [] i inside = let none : ⊥ = omega arith in absurd none
-numbers_rest n (false ∷ side) zero inside =
-    let here : n ≡ n + 0 = omega arith in
-    let low : 0 < length (false ∷ side) = omega arith in
-    (0, here, low, refl, refl)
+numbers_rest n [] i inside = absurd (omega arith)
+numbers_rest n (false ∷ side) zero inside = grind arith
 numbers_rest n (false ∷ side) (suc i) inside =
     let later = numbers_rest (n + 1) side i (omega (arith, yes_rest side)) in
     let c : ℕ = later.0 in
-    let number : get_or (numbers_from (n + 1) (map not side)) i 0 ≡ n + 1 + c = later.1 in
-    let low : c < length side = later.2 in
-    let rank : rank_rest side c ≡ i = later.4 in
-    let number' : get_or (numbers_from (n + 1) (map not side)) i 0 ≡ n + suc c = omega arith in
-    let low' : suc c < length (false ∷ side) = omega arith in
-    let rank' : rank_rest (false ∷ side) (suc c) ≡ suc i = yes_rest (take c side) ∙ ap suc rank in
-    (suc c, number', low', later.3, rank')
+    (suc c, (omega arith), (omega arith), later.3, (yes_rest (take c side) ∙ ap suc later.4))
 numbers_rest n (true ∷ side) i inside =
     let later = numbers_rest (n + 1) side i inside in
     let c : ℕ = later.0 in
-    let number : get_or (numbers_from (n + 1) (map not side)) i 0 ≡ n + 1 + c = later.1 in
-    let low : c < length side = later.2 in
-    let number' : get_or (numbers_from (n + 1) (map not side)) i 0 ≡ n + suc c = omega arith in
-    let low' : suc c < length (true ∷ side) = omega arith in
-    (suc c, number', low', later.3, later.4)
+    (suc c, (omega arith), (omega arith), later.3, later.4)
 
 -- what holds of the items of both sides holds of all
 pub all_merged : {X : Type 0} (P : X → Type 0) (side : List Bool) (xs ys : List X) → length xs ≡ count_by (λ (s : Bool). s) side → length ys ≡ count_by not side
     → All P xs → All P ys → All P (merged side xs ys)
-all_merged {X} P side xs ys one two left right = λ k d inside.
-    let size : length (merged side xs ys) ≡ length side = length-merged side xs ys (omega arith) (omega arith) in
-    let k_in : k < length side = omega arith in
-    ⊎_elim
-    (λ (yes : get_or side k false ≡ true).
-    let low : rank_first side k < count_by (λ (s : Bool). s) side = rank_first_in side k k_in yes in
-    subst P (sym (merged_first d side xs ys k k_in yes (omega arith) (omega arith))) (left (rank_first side k) d (omega arith)))
-    (λ (no' : get_or side k false ≡ false).
-    let low : rank_rest side k < count_by not side = rank_rest_in side k k_in no' in
-    subst P (sym (merged_rest d side xs ys k k_in no' (omega arith) (omega arith))) (right (rank_rest side k) d (omega arith)))
-    (cases_Bool (get_or side k false))
+all_merged {X} P side xs ys one two left right = grind (arith, length-merged, ⊎_elim, count_by, rank_first_in, merged_first, rank_rest_in, merged_rest, cases_Bool)
 
 pub map-merged : {X Y : Type 0} (f : X → Y) (side : List Bool) (xs ys : List X) → map f (merged side xs ys) ≡ merged side (map f xs) (map f ys)
 map-merged f [] xs ys = refl
@@ -182,12 +129,10 @@ count-mapped {X} q p (x ∷ xs) =
 -- as many items on each side as its truths say
 pub length-first_of : {X : Type 0} (side : List Bool) (xs : List X) → length side ≡ length xs → length (first_of side xs) ≡ count_by (λ (s : Bool). s) side
 length-first_of [] xs e = refl
-length-first_of (true ∷ side) [] e = let none : ⊥ = omega arith in absurd none
+length-first_of (true ∷ side) [] e = absurd (omega arith)
 length-first_of (true ∷ side) (x ∷ xs) e = ap suc (length-first_of side xs (omega arith)) ∙ sym (yes_first side)
-length-first_of (false ∷ side) [] e = let none : ⊥ = omega arith in absurd none
+length-first_of (false ∷ side) [] e = absurd (omega arith)
 length-first_of (false ∷ side) (x ∷ xs) e = length-first_of side xs (omega arith)
 
 pub length-rest_of : {X : Type 0} (side : List Bool) (xs : List X) → length side ≡ length xs → length (side_rest side xs) ≡ count_by not side
-length-rest_of side xs e =
-    let size : length (map not side) ≡ length side = length-map side not in
-    length-first_of (map not side) xs (size ∙ e) ∙ count-mapped (λ (s : Bool). s) not side
+length-rest_of side xs e = grind (arith, length-map, length-first_of, count-mapped)

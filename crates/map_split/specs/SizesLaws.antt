@@ -1,24 +1,16 @@
 -- The blobs of a split: how many there are, and how long they are.
-use Rattle.std.proofs.Common.{◌≡◌, ℕ, ◌+◌, ◌-◌, ◌<◌, ◌≤◌, Bool, List, [], ◌∷◌, ◌++◌, map, length, length-append, get_or, refl, sym, ap, ◌∙◌, arith}
-use Rattle.std.specs.Prelude.{not, sum_by}
-use Rattle.std.specs.List.{sum}
-use Rattle.std.proofs.lemmas.List.{length-map, map-append, get_or-map, get_or_append_left, get_or-append_right}
-use Rattle.std.proofs.lemmas.List.Sums.{sum-map, sum_by-append}
-use Rattle.places.specs.Layout.{Owner, Bit}
-use Rattle.places.specs.Rules.{renamed, recelled, numbers_of, split}
+use Rattle.std.specs.Prelude.{◌≡◌, ℕ, ◌+◌, ◌-◌, ◌<◌, ◌≤◌, Bool, List, [], ◌∷◌, ◌++◌, map, length, get_or, refl, not, sum_by}
+use Rattle.record_dim.specs.Std.{length-append, ap, ◌∙◌, arith, length-map, map-append, get_or-map, get_or_append_left, get_or-append_right, sum-map, sum_by-append}
+use Rattle.places.specs.Prelude.{Owner, recelled, numbers_of, split}
 
 -- blobs under other cell numbers keep their lengths
 lengths-recelled : (numbers : List ℕ) (layout : List (List Owner)) → map length (recelled numbers layout) ≡ map length layout
 lengths-recelled numbers [] = refl
-lengths-recelled numbers (blob ∷ blobs) =
-    ap (λ (n : ℕ). n ∷ map length (recelled numbers blobs)) (length-map blob _)
-    ∙ ap (λ (ns : List ℕ). length blob ∷ ns) (lengths-recelled numbers blobs)
+lengths-recelled numbers (blob ∷ blobs) = grind (arith, length-map, (lengths-recelled numbers blobs))
 
 blob-recelled : (numbers : List ℕ) (layout : List (List Owner)) (b : ℕ) → b < length layout
     → length (get_or (recelled numbers layout) b []) ≡ length (get_or layout b [])
-blob-recelled numbers layout b inside =
-    let name : Owner → Owner = renamed (λ slot cell bit. Bit slot (get_or numbers cell 0) bit) in
-    ap (λ (owners : List Owner). length owners) (get_or-map (map name) layout b [] [] inside) ∙ length-map (get_or layout b []) name
+blob-recelled numbers layout b inside = grind (arith, get_or, get_or-map, length-map)
 
 module _ (side : List Bool) (first rest : List (List Owner)) where
   abbrev front : List (List Owner)
@@ -34,18 +26,10 @@ module _ (side : List Bool) (first rest : List (List Owner)) where
       ∙ ap (λ (ns : List ℕ). map length first ++ ns) (lengths-recelled (numbers_of (map not side)) rest)
 
   pub bits-split : sum_by length (split side first rest) ≡ sum_by length first + sum_by length rest
-  bits-split =
-      sym (sum-map (length {A = Owner}) (split side first rest))
-      ∙ ap (λ (ns : List ℕ). sum ns) (lengths-split ∙ sym (map-append (length {A = Owner}) first rest))
-      ∙ sum-map (length {A = Owner}) (first ++ rest)
-      ∙ sum_by-append (length {A = Owner}) first rest
+  bits-split = grind (arith, sum-map, lengths-split, map-append, sum_by-append)
 
   pub length-split : length (split side first rest) ≡ length first + length rest
-  length-split =
-      let one : length front ≡ length first = length-map first _ in
-      let two : length back ≡ length rest = length-map rest _ in
-      let all : length (front ++ back) ≡ length front + length back = length-append front back in
-      omega arith
+  length-split = grind (arith, length-map, length-append)
 
   -- a blob of the first side, and one of the rest
   pub blob_first : (b : ℕ) → b < length first → length (get_or (split side first rest) b []) ≡ length (get_or first b [])
@@ -56,6 +40,5 @@ module _ (side : List Bool) (first rest : List (List Owner)) where
   pub blob_rest : (b : ℕ) → length first ≤ b → b < length first + length rest
       → length (get_or (split side first rest) b []) ≡ length (get_or rest (b - length first) [])
   blob_rest b low inside =
-      let one : length front ≡ length first = length-map first _ in
-      ap (λ (owners : List Owner). length owners) (get_or-append_right front back (length first) b [] one low)
+      ap (λ (owners : List Owner). length owners) (get_or-append_right front back (length first) b [] (length-map first _) low)
       ∙ blob-recelled (numbers_of (map not side)) rest (b - length first) (omega arith)

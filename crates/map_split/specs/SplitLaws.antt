@@ -1,16 +1,10 @@
 -- Every bit of the cells of both sides has exactly one place in the layout of a split.
-use Rattle.std.proofs.Common.{◌≡◌, ℕ, ◌+◌, ◌%◌, ◌<◌, ◌≤◌, ◌⊎◌, inl, inr, ⊎_elim, Bool, true, false, List, map, length, get_or, All, sym, ap, ◌∙◌, subst, arith}
-use Rattle.std.specs.Prelude.{not}
+use Rattle.std.specs.Prelude.{◌≡◌, ℕ, ◌%◌, ◌<◌, ◌≤◌, ◌⊎◌, Bool, true, false, List, map, length, get_or, All, not}
+use Rattle.record_dim.specs.Std.{inl, inr, ⊎_elim, sym, ap, ◌∙◌, subst, arith, cases_Bool, length-map, All-map, All-append}
 use Rattle.std.specs.List.{count_by}
-use Rattle.std.proofs.lemmas.Bool.{cases_Bool}
-use Rattle.std.proofs.lemmas.List.{length-map}
-use Rattle.std.proofs.lemmas.List.Elements.{All-map, All-append}
-use Rattle.places.specs.Layout.{Owner, Bit}
-use Rattle.places.specs.Rules.{renamed, recelled, numbers_of, split}
-use Rattle.places.specs.Lawful.{IsBitOf, IsLaidOut}
+use Rattle.places.specs.Prelude.{Owner, Bit, renamed, recelled, numbers_of, split, IsBitOf, IsLaidOut, Back, relabel_lays_out, join_lays_out, lays_out_same, laid_out, lays_out}
 use Rattle.places.specs.declared.piece.Cell.{Cell}
 use Rattle.places.specs.declared.piece.Hold.{Hold}
-use Rattle.places.specs.ComposeLaws.{Back, relabel_lays_out, join_lays_out, lays_out_same, laid_out, lays_out}
 use Rattle.map_split.specs.Sides.{merged, rank_first, rank_rest}
 use Rattle.map_split.specs.SidesLaws.{number_first, number_rest, rank_first_in, rank_rest_in, merged_first, merged_rest, length-merged, map-merged, numbers_first, numbers_rest, all_merged}
 
@@ -45,7 +39,7 @@ module _ (side : List Bool) (first rest : List (List Owner)) (n : ℕ) (ws vs : 
       let cell_in : c < length ws = h.cell_in in
       let from = numbers_first 0 side c (omega (arith, left)) in
       let same : from.0 ≡ c' =
-      (let z : from.0 ≡ 0 + from.0 = omega arith in z) ∙ sym from.1 ∙ (let z : get_or (numbers_of side) c 0 ≡ c' = cc in z) in
+      (omega arith) ∙ sym from.1 ∙ (cc) in
       let slots : s ≡ s' = cc in
       let bits : k ≡ k' = cc in
       let there : from.0 < length side = from.2 in
@@ -63,7 +57,7 @@ module _ (side : List Bool) (first rest : List (List Owner)) (n : ℕ) (ws vs : 
       let cell_in : c < length vs = h.cell_in in
       let from = numbers_rest 0 side c (omega (arith, right)) in
       let same : from.0 ≡ c' =
-      (let z : from.0 ≡ 0 + from.0 = omega arith in z) ∙ sym from.1 ∙ (let z : get_or (numbers_of (map not side)) c 0 ≡ c' = cc in z) in
+      (omega arith) ∙ sym from.1 ∙ (let z : get_or (numbers_of (map not side)) c 0 ≡ c' = cc in z) in
       let slots : s ≡ s' = cc in
       let bits : k ≡ k' = cc in
       let there : from.0 < length side = from.2 in
@@ -77,32 +71,16 @@ module _ (side : List Bool) (first rest : List (List Owner)) (n : ℕ) (ws vs : 
 
   back_first : Back (IsBitOf n ws) (InSide true) (named (numbers_of side)) (λ s c k. s) (λ s c k. rank_first side c) (λ s c k. k)
   back_first = record {
-    from = λ s c k h.
-        let cell_in : c < length (merged side ws vs) = h.0.cell_in in
-        let c_in : c < length side = omega (arith, size) in
-        let bit_in : k < get_or (merged side ws vs) c 0 = h.0.bit_in in
-        let low : rank_first side c < count_by (λ (x : Bool). x) side = rank_first_in side c c_in h.1 in
-        record { slot_in = h.0.slot_in; cell_in = omega (arith, left); bit_in = omega (arith, width_first c c_in h.1) };
-    to = λ s c k h.
-        let cell_in : c < length (merged side ws vs) = h.0.cell_in in
-        let c_in : c < length side = omega (arith, size) in
-        ap (λ (x : ℕ). Bit s x k) (number_first 0 side c c_in h.1 ∙ (let z : 0 + c ≡ c = omega arith in z));
+    from = λ s c k h. grind (arith, size, get_or, count_by, rank_first_in, width_first);
+    to = λ s c k h. grind (arith, size, number_first);
     out = λ s c k s' c' k' h e. (to_first s c k s' c' k' h e).0;
     back = λ s c k s' c' k' h e. let r = to_first s c k s' c' k' h e in (r.1, r.2, r.3);
   }
 
   back_rest : Back (IsBitOf n vs) (InSide false) (named (numbers_of (map not side))) (λ s c k. s) (λ s c k. rank_rest side c) (λ s c k. k)
   back_rest = record {
-    from = λ s c k h.
-        let cell_in : c < length (merged side ws vs) = h.0.cell_in in
-        let c_in : c < length side = omega (arith, size) in
-        let bit_in : k < get_or (merged side ws vs) c 0 = h.0.bit_in in
-        let low : rank_rest side c < count_by not side = rank_rest_in side c c_in h.1 in
-        record { slot_in = h.0.slot_in; cell_in = omega (arith, right); bit_in = omega (arith, width_rest c c_in h.1) };
-    to = λ s c k h.
-        let cell_in : c < length (merged side ws vs) = h.0.cell_in in
-        let c_in : c < length side = omega (arith, size) in
-        ap (λ (x : ℕ). Bit s x k) (number_rest 0 side c c_in h.1 ∙ (let z : 0 + c ≡ c = omega arith in z));
+    from = λ s c k h. grind (arith, size, get_or, count_by, rank_rest_in, width_rest);
+    to = λ s c k h. grind (arith, size, number_rest);
     out = λ s c k s' c' k' h e. (to_rest s c k s' c' k' h e).0;
     back = λ s c k s' c' k' h e. let r = to_rest s c k s' c' k' h e in (r.1, r.2, r.3);
   }

@@ -1,5 +1,5 @@
 ghost use Rattle.std.specs.Prelude.{ℕ, ◌≡◌, ◌+◌, ◌^◌, ◌<◌, All, map};
-ghost use Rattle.places.specs.Lawful.{shifted};
+ghost use Rattle.places.specs.Prelude.{shifted};
 ghost use Rattle.map_split.specs.Inner.Shifts.{shifted_rule};
 
 use places::{Piece, PieceRule, PieceRules, Pieces};

@@ -1,6 +1,6 @@
 ghost use Rattle.std.specs.Prelude.{ℕ, ◌≡◌, ◌+◌, ◌^◌, ◌<◌, ◌⊎◌, ◌↔◌, true, not, IsTrue, IfOk, IfErr, OnOk, IsErrOf, length};
 ghost use Rattle.std.specs.List.{count_by};
-ghost use Rattle.places.specs.Rules.{split};
+ghost use Rattle.places.specs.Prelude.{split};
 ghost use Rattle.map_split.specs.Sides.{first_of, side_rest, merged, is_one_sided, IsTooLong};
 ghost use Rattle.map_split.specs.SplitLaws.{split_laws, length-cells};
 

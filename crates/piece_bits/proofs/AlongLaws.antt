@@ -1,7 +1,5 @@
 -- A short form that is put together of a path and what stands at its places.
-use Rattle.piece_bits.proofs.Imports.{◌≡◌, ℕ, ◌≤◌, ◌^◌, List, length, sym, subst, Order, indices, Hold, PieceRule, Field, Word, IsAlong, IsRowPath, StandsFor, IsHeldBy, IsShortOf, IsStandOf, IsStandFor, Path, ShortRule, Stand, Walk}
-use Rattle.std.proofs.Common.{arith}
-use Rattle.std.proofs.Common.{rules}
+use Rattle.piece_bits.proofs.Imports.{◌≡◌, ℕ, ◌≤◌, ◌^◌, List, length, sym, subst, Order, indices, Hold, PieceRule, Field, Word, IsAlong, IsRowPath, StandsFor, IsHeldBy, IsShortOf, IsStandOf, IsStandFor, Path, ShortRule, Stand, Walk, arith, rules}
 
 stands_along : (rules : List PieceRule) (field : Field) (word word' : Word) (blob blob' base base' block block' lane lane' power power' : ℕ) → word' ≡ word
     → blob' ≡ blob → base' ≡ base → block' ≡ block → lane' ≡ lane → power' ≡ power → StandsFor rules word field blob base block lane power

@@ -30,11 +30,10 @@ xored_half true width bits some small =
     let over : 2 ^ width ≤ bits + 2 ^ (width - 1) = omega (arith, double) in
     let fits : bits + 2 ^ (width - 1) - 2 ^ width < 2 ^ width = omega (arith, double) in
     let rest : ℕ = bits - 2 ^ (width - 1) in
-    let below : bits - 2 ^ (width - 1) < 2 ^ (width - 1) = omega (arith, double) in
     let left : 1 * 2 ^ (width - 1) + (bits - 2 ^ (width - 1)) ≡ bits = omega arith in
     let right : 1 * 2 ^ (width - 1) + 0 ≡ 2 ^ (width - 1) = omega arith in
     let block : bit_xor (1 * 2 ^ (width - 1) + (bits - 2 ^ (width - 1))) (1 * 2 ^ (width - 1) + 0) ≡ bit_xor 1 1 * 2 ^ (width - 1) + bit_xor (bits - 2 ^ (width - 1)) 0 =
-    xor_block (width - 1) 1 1 (bits - 2 ^ (width - 1)) 0 below power in
+    xor_block (width - 1) 1 1 (bits - 2 ^ (width - 1)) 0 (omega (arith, double)) power in
     let one : bit_xor 1 1 * 2 ^ (width - 1) + bit_xor (bits - 2 ^ (width - 1)) 0 ≡ bits + 2 ^ (width - 1) - 2 ^ width =
     omega (arith, double, xor_nothing (bits - 2 ^ (width - 1))) in grind (arith, bit_xor, mod-eq-sub-mod, mod-eq_of_lt))
     (cases_lt bits (2 ^ (width - 1)))

@@ -1,38 +1,16 @@
 -- What the proofs of this crate speak of.
-pub use Rattle.std.proofs.Common.{◌≡◌, ◌≤ℤ◌, bit_or, ℕ, ◌≤◌, ◌^◌, List, length, sym, ap, subst, ◌+◌, ◌-◌, ◌%◌, ◌<◌, ◌*◌, Bool, true, false, bit_xor, pos, ◌-ℤ◌, ◌∙◌, ⊎_elim, arith, ◌≢◌, zero, suc, [], ◌∷◌, ◌++◌, get_or, set, map, take, ℤ, refl, ◌/◌, All, bit_and, negsuc, w64, min, lit<, append_assoc, ◌⊎◌, rules, FitsSigned, SFits, Some, slice_index, ◌+ℤ◌, to_z, of_z, ◌*ℤ◌, fold, drop, drop-cons}
-pub use Rattle.std.proofs.lemmas.Grind.{common_steps}
-pub use Rattle.std.proofs.lemmas.Int.{ints, to_z-of_z}
-pub use Rattle.std.proofs.lemmas.Nat.{pow_pos, xor_block, and_mask, mod_below, shr_split, shr-shr, pow-add, div-mul-add, mod-mul-add, div-add-mod'}
-pub use Rattle.std.proofs.lemmas.Bool.{cases_lt, cases_eq, leb-true}
-pub use Rattle.std.proofs.Math.Nat.{mod-eq_of_lt, mod-eq-sub-mod, pow-le-pow_right, div-lt_iff_lt-mul, div-mul-le_self, mod-lt, mul-le-mul_right, div-one, mod-one, mul_assoc}
-pub use Rattle.std.specs.Simd.Lanes.{zip2, Each2}
-pub use Rattle.std.proofs.lemmas.List.{map-append, length-map, get_or-map, get_or-set_other, take_more, take_more_set, take_all, length-set, get_or-set_same, same_lists, get_or_read, get_or_default, drop_all}
-pub use Rattle.std.proofs.lemmas.Simd.{length-zip2, get_or-zip2}
-pub use Rattle.std.proofs.lemmas.Nat.Bits.{bit_at-lt, bit_at-zero, bit_at_above, bit_at_cat_low, bit_at-trailing_zeros, same_from_bits}
-pub use Rattle.std.proofs.lemmas.List.Elements.{All-head, All-cons, All-tail}
-pub use Rattle.std.specs.Int.{bit_at, trailing_zeros, w128, int_min, int_max}
-pub use Rattle.std.specs.List.{flat_map, range_with_len, count_by}
-pub use Rattle.std.proofs.Math.Pow.{pow-lt, pow_mono}
-pub use Rattle.std.specs.Prelude.{not, int_le}
-pub use Rattle.std.proofs.lemmas.Option.{IfSome_then, slice_get_within}
-pub use Rattle.std.specs.Ordering.{int_cmp, is_le, is_some_and}
-pub use Rattle.std.proofs.Math.IntN.{nat_abs}
+pub use Rattle.record_dim.specs.Std.{◌≡◌, ◌≤ℤ◌, bit_or, ℕ, ◌≤◌, ◌^◌, List, length, sym, ap, subst, ◌+◌, ◌-◌, ◌%◌, ◌<◌, ◌*◌, Bool, true, false, bit_xor, pos, ◌-ℤ◌, ◌∙◌, ⊎_elim, arith, ◌≢◌, zero, suc, [], ◌∷◌, ◌++◌, get_or, set, map, take, ℤ, refl, ◌/◌, All, bit_and, negsuc, w64, min, lit<, append_assoc, ◌⊎◌, rules, FitsSigned, SFits, Some, slice_index, ◌+ℤ◌, to_z, of_z, ◌*ℤ◌, fold, drop, drop-cons, common_steps, ints, to_z-of_z, pow_pos, xor_block, and_mask, mod_below, shr_split, shr-shr, pow-add, div-mul-add, mod-mul-add, div-add-mod', cases_lt, cases_eq, leb-true, mod-eq_of_lt, mod-eq-sub-mod, pow-le-pow_right, div-lt_iff_lt-mul, div-mul-le_self, mod-lt, mul-le-mul_right, div-one, mod-one, mul_assoc, zip2, Each2, map-append, length-map, get_or-map, get_or-set_other, take_more, take_more_set, take_all, length-set, get_or-set_same, same_lists, get_or_read, get_or_default, drop_all, length-zip2, get_or-zip2, bit_at-lt, bit_at-zero, bit_at_above, bit_at_cat_low, bit_at-trailing_zeros, same_from_bits, All-head, All-cons, All-tail, bit_at, trailing_zeros, w128, int_min, int_max, flat_map, range_with_len, pow-lt, pow_mono, not, int_le, IfSome_then, slice_get_within, int_cmp, is_le, is_some_and, nat_abs, le_or_l, le_or_r}
+pub use Rattle.std.specs.List.{count_by}
 pub use Rattle.extents.specs.declared.order.Order.{Order}
 pub use Rattle.extents.specs.Indices.{indices}
 pub use Rattle.places.specs.declared.piece.Hold.{Hold}
 pub use Rattle.places.specs.declared.rule.PieceRule.{PieceRule}
-pub use Rattle.places.specs.Image.{decoded, number, digit}
-pub use Rattle.places.specs.NumbersLaws.{decoded_low, decoded_high, half_of, number_lt, decoded_in, number_bits, number_pos, number_negsuc, number_same, bit_number, digit_lt, ones_of}
-pub use Rattle.record_dim.specs.LeafTypes.{IsIn}
+pub use Rattle.places.specs.Prelude.{decoded, number, digit, decoded_low, decoded_high, half_of, number_lt, decoded_in, number_bits, number_pos, number_negsuc, number_same, bit_number, digit_lt, ones_of, IsLocated, IsPiece, owners_in, begins_fit, begin_in, piece_in, pieces_in, Owner, field, range_split, located, pieces_weaker}
+pub use Rattle.record_dim.specs.Prelude.{IsIn}
 pub use Rattle.blobs.specs.Bits.{bit_of, bit_in}
 pub use Rattle.places.specs.declared.piece.Piece.{Piece}
-pub use Rattle.record_dim.specs.declared.leaf_type.LeafType.TheVariants.{Bool as Truth, U8, U16, I8, I32}
-pub use Rattle.places.specs.Lawful.{IsLocated, IsPiece, owners_in}
-pub use Rattle.places.specs.BeginsLaws.{begins_fit}
-pub use Rattle.places.specs.PieceRules.{begin_in, piece_in, pieces_in}
+pub use Rattle.record_dim.specs.declared.leaf_type.LeafType.TheVariants.{Bool as Truth, U8, U16, I8}
 pub use Rattle.linearize.specs.ApartLaws.{line_same, column_on, columns_apart, morton_line}
-pub use Rattle.places.specs.Layout.{Owner, field}
-pub use Rattle.places.specs.PlacesLaws.{range_split, located, pieces_weaker}
 pub use Rattle.extents.specs.declared.order.Order.TheVariants.{Row, Col, Morton}
 pub use Rattle.linearize.specs.Slots.{slot_at, interleaved}
 pub use Rattle.linearize.specs.SlotsLaws.{slot_at_by_rows}

@@ -55,8 +55,6 @@ pub one_of_eight : (short : ShortRule) (stretch : Stretch) (bytes : List ℕ) (a
     → at + (8 * eight + j) < length old → value ≡ low_64 (stretched_at short stretch bytes (8 * eight + j))
     → HaveRead short stretch bytes at (8 * eight + (j + 1)) old (set values (at + 8 * eight + j) value)
 one_of_eight short stretch bytes at eight j old values value have inside is =
-    let next : 8 * eight + j + 1 ≡ 8 * eight + (j + 1) = omega arith in
-    let here : at + (8 * eight + j) ≡ at + 8 * eight + j = omega arith in
-    subst (λ (n : ℕ). HaveRead short stretch bytes at n old (set values (at + 8 * eight + j) value)) next
-    (subst (λ (n : ℕ). HaveRead short stretch bytes at (8 * eight + j + 1) old (set values n value)) here
+    subst (λ (n : ℕ). HaveRead short stretch bytes at n old (set values (at + 8 * eight + j) value)) (omega arith)
+    (subst (λ (n : ℕ). HaveRead short stretch bytes at (8 * eight + j + 1) old (set values n value)) (omega arith)
     (one_more short stretch bytes at (8 * eight + j) old values value have inside is))

@@ -23,8 +23,8 @@ byte_steps block lane slot lanes power whole_block whole_lane is =
     let r : ℕ = slot % 2 ^ power in
     let blocks : slot / lanes * block ≡ q * block = ap (λ (n : ℕ). slot / n * block) is in
     let lanes' : slot % lanes * lane ≡ r * lane = ap (λ (n : ℕ). slot % n * lane) is in
-    let block' : q * block ≡ q * (8 * (block / 8)) = ap (λ (n : ℕ). q * n) (let e : block ≡ 8 * (block / 8) = omega arith in e) in
-    let lane' : r * lane ≡ r * (8 * (lane / 8)) = ap (λ (n : ℕ). r * n) (let e : lane ≡ 8 * (lane / 8) = omega arith in e) in
+    let block' : q * block ≡ q * (8 * (block / 8)) = ap (λ (n : ℕ). q * n) (omega arith) in
+    let lane' : r * lane ≡ r * (8 * (lane / 8)) = ap (λ (n : ℕ). r * n) (omega arith) in
     omega arith
 
 -- the slots of so many whole blocks begin at a place or before it, where those of the last block do

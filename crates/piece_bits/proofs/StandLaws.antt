@@ -1,10 +1,9 @@
 -- What stands at the places of rules: that it is where the rules say.
-use Rattle.piece_bits.proofs.Imports.{◌≡◌, ◌≢◌, ℕ, ◌+◌, ◌-◌, ◌*◌, ◌/◌, ◌%◌, ◌^◌, ◌<◌, ◌≤◌, All, List, [], ◌∷◌, map, length, get_or, refl, sym, ap, ◌∙◌, subst, arith, same_lists, length-map, get_or-map, Hold, Piece, begins_fit, begin_in, piece_in, pieces_in, PieceRule, turned_pieces, Field, Word, Carries, place_by, pieces_by, StandsFor, IsHeldBy, IsWhole, IsTurned, IsByteAlong, IsTurnedByte, AreTurned, IsScatteredByte, AreScattered, IsInBytes, IsInBits, IsStandFor, Stand}
+use Rattle.piece_bits.proofs.Imports.{◌≡◌, ◌≢◌, ℕ, ◌+◌, ◌-◌, ◌*◌, ◌/◌, ◌%◌, ◌^◌, ◌<◌, ◌≤◌, All, List, [], ◌∷◌, map, length, get_or, refl, sym, ap, ◌∙◌, subst, arith, same_lists, length-map, get_or-map, Hold, Piece, begins_fit, begin_in, piece_in, pieces_in, PieceRule, turned_pieces, Field, Word, Carries, place_by, pieces_by, StandsFor, IsHeldBy, IsWhole, IsTurned, IsByteAlong, IsTurnedByte, AreTurned, IsScatteredByte, AreScattered, IsInBytes, IsInBits, IsStandFor, Stand, rules}
 use Rattle.piece_bits.specs.declared.word.Word.TheVariants as stored
 use Rattle.piece_bits.proofs.Places.{same_steps, same_piece}
 use Rattle.piece_bits.proofs.Together.{piece}
-use Rattle.piece_bits.proofs.WordLaws.{whole_held, whole_pieces, turned_held, turned_by, turned_some, length-turned, get_or-turned, same_together}
-use Rattle.std.proofs.Common.{rules}
+use Rattle.piece_bits.proofs.WordLaws.{whole_held, whole_pieces, turned_held, turned_by, length-turned, get_or-turned, same_together}
 
 -- the place of a slot
 abbrev place_of : Stand → ℕ → ℕ
@@ -26,9 +25,8 @@ bytes_place one word stand slot h = omega (arith, h.base, h.steps slot)
 pub whole_stand : (one : PieceRule) (word : Word) (hold : Hold) (stand : Stand) → IsInBytes one word stand → IsWhole word hold.signed hold.width
     → one.bits ≡ hold.width → IsStandFor (one ∷ []) hold stand
 whole_stand one word hold stand h whole bits = λ field signed width.
-    let whole' : IsWhole stand.word hold.signed hold.width = subst (λ (w : Word). IsWhole w hold.signed hold.width) (sym h.word) whole in
     record {
-      held = whole_held stand.word hold field whole';
+      held = whole_held stand.word hold field (subst (λ (w : Word). IsWhole w hold.signed hold.width) (sym h.word) whole);
       stands = stands_from (one ∷ []) field stand
           (λ slot. grind (arith, same_piece, bytes_place, whole_pieces))
           (λ slot fit. grind (arith, bytes_place));
@@ -41,11 +39,10 @@ pub whole_together : (one : PieceRule) (word : Word) (hold : Hold) (stand : Stan
 whole_together one word hold stand h whole = λ is. subst (λ (w : Word). IsWhole w hold.signed hold.width) (sym h.word ∙ is) whole
 
 pub field_together : (one : PieceRule) (stand : Stand) → IsInBits one stand → stand.word ≢ stored.Scattered
-field_together one stand h = λ is. let both : stored.Field ≡ stored.Scattered = sym h.word ∙ is in cc
+field_together one stand h = λ is. cc
 
 pub field_stand : (one : PieceRule) (hold : Hold) (stand : Stand) → IsInBits one stand → one.bits ≤ 57 → one.bits ≡ hold.width → IsStandFor (one ∷ []) hold stand
 field_stand one hold stand h narrow bits = λ field signed width.
-    let place : (slot : ℕ) → begin_in one slot ≡ place_of stand slot = grind (arith, same_steps) in
     record {
       held = subst (λ (w : Word). IsHeldBy hold w field) (sym h.word) (record { signed = signed; wide = width; narrow = λ _. omega (arith, width, bits, narrow) });
       stands = stands_from (one ∷ []) field stand
@@ -78,26 +75,20 @@ turned_same rules last word stand slot h turned =
     let n : ℕ = length rules in
     let bit : ℕ = 8 * place_of stand slot in
     let here : length (pieces_in rules slot) ≡ n = length-map rules (λ (rule : PieceRule). piece_in rule slot) in
-    let there : length (turned_pieces stand.blob bit n) ≡ n = length-turned stand.blob bit n in
-    same_lists (pieces_in rules slot) (turned_pieces stand.blob bit n) (here ∙ sym there)
+    same_lists (pieces_in rules slot) (turned_pieces stand.blob bit n) (here ∙ sym (length-turned stand.blob bit n))
     (λ k d inside.
-    let low : k < n = omega (arith, here) in
-    let rule : PieceRule = get_or rules k last in
-    let is : IsTurnedByte last (n - 1 - k) rule = turned k last low in
-    let begins : begin_in rule slot ≡ bit + 8 * (n - 1 - k) = along_begins last rule slot (n - 1 - k) is.along is.base ∙ ap (λ (m : ℕ). m + 8 * (n - 1 - k)) (bytes_place last word stand slot h) in
+    let is : IsTurnedByte last (n - 1 - k) (get_or rules k last) = turned k last (omega (arith, here)) in
     grind (arith, get_or-map, same_piece, get_or-turned))
 
 pub turned_stand : (rules : List PieceRule) (last : PieceRule) (word : Word) (hold : Hold) (stand : Stand) → IsInBytes last word stand
     → IsTurned word hold.signed hold.width → 8 * length rules ≡ hold.width → AreTurned rules last → IsStandFor rules hold stand
 turned_stand rules last word hold stand h is size turned = λ field signed width.
     let is' : IsTurned stand.word hold.signed hold.width = subst (λ (w : Word). IsTurned w hold.signed hold.width) (sym h.word) is in
-    let n : ℕ = length rules in
-    let some : 0 < n = omega (arith, size, turned_some word hold.signed hold.width is) in
     record {
       held = turned_held stand.word hold field is';
       stands = stands_from rules field stand
           (λ slot. turned_same rules last word stand slot h turned
-          ∙ turned_by stand.word hold.signed hold.width n field stand.blob rules (place_of stand slot) is' size)
+          ∙ turned_by stand.word hold.signed hold.width (length rules) field stand.blob rules (place_of stand slot) is' size)
           (λ slot fit. grind (arith, along_begins, bytes_place));
       low = h.low;
     }
@@ -124,8 +115,7 @@ scattered_stand rules first hold stand moved h some scattered is =
           (λ slot.
           let byte_at : PieceRule → Piece = λ rule. piece rule.blob (8 * (rule.base / 8 + place_of there slot)) 8 in
           let here : length (pieces_in rules slot) ≡ length rules = length-map rules (λ (rule : PieceRule). piece_in rule slot) in
-          let alike : length (map byte_at rules) ≡ length rules = length-map rules byte_at in
-          same_lists (pieces_in rules slot) (map byte_at rules) (here ∙ sym alike)
+          same_lists (pieces_in rules slot) (map byte_at rules) (here ∙ sym (length-map rules byte_at))
           (λ k d inside.
           let low : k < length rules = omega (arith, here) in
           let byte : PieceRule = get_or rules k first in

@@ -142,8 +142,8 @@ pub twos_divide : (n power : ℕ) → n < 2 ^ 64 → power ≤ trailing_zeros w6
 twos_divide n power small few =
     even_below n power (λ b low.
     ⊎_elim
-    (λ (none : n < 1). let zero : n ≡ 0 = omega arith in ap (λ (m : ℕ). bit_at m b) zero ∙ bit_at-zero b)
-    (λ (some : 1 ≤ n). (bit_at-trailing_zeros w64 n (let s : 0 < n = omega arith in s) small).2 b (omega (arith, low, few)))
+    (λ (none : n < 1). ap (λ (m : ℕ). bit_at m b) (omega arith) ∙ bit_at-zero b)
+    (λ (some : 1 ≤ n). (bit_at-trailing_zeros w64 n (omega arith) small).2 b (omega (arith, low, few)))
     (cases_lt n 1))
 
 -- a shift by few digits

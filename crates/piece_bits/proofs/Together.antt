@@ -1,5 +1,5 @@
 -- Pieces that follow each other make one.
-use Rattle.piece_bits.proofs.Imports.{◌≡◌, ℕ, ◌+◌, ◌-◌, ◌%◌, ◌^◌, ◌<◌, All, List, ◌∷◌, ◌++◌, append_assoc, refl, sym, subst, arith, flat_map, range_with_len, All-cons, All-head, All-tail, Owner, field, IsPiece, IsLocated, owners_in, range_split, located, pieces_weaker, Piece, begin_in, pieces_in, PieceRule, AreJoined, Carries}
+use Rattle.piece_bits.proofs.Imports.{◌≡◌, ℕ, ◌+◌, ◌-◌, ◌%◌, ◌^◌, ◌<◌, All, List, ◌∷◌, ◌++◌, append_assoc, refl, sym, subst, arith, flat_map, range_with_len, All-cons, All-head, All-tail, Owner, IsPiece, IsLocated, owners_in, range_split, located, pieces_weaker, Piece, begin_in, pieces_in, PieceRule, AreJoined, Carries}
 use Rattle.piece_bits.proofs.Places.{same_steps, same_piece}
 
 abbrev pub piece : ℕ → ℕ → ℕ → Piece
@@ -20,8 +20,7 @@ pieces_join layout row cell width blob bit m n rest h =
     let last : bit + m + n < 2 ^ 64 = All-head Bound two rest (All-tail Bound one (two ∷ rest) bound) in
     let left : m + n - m ≡ n = omega arith in
     let parts : owners_in layout (piece blob bit (m + n)) ≡ owners_in layout one ++ owners_in layout two = grind (arith, range_split, range_with_len) in
-    let spelled : flat_map (owners_in layout) (piece blob bit (m + n) ∷ rest) ≡ field row (cell, width) = grind (arith, flat_map, append_assoc) in
-    located layout row cell width (piece blob bit (m + n) ∷ rest) spelled
+    located layout row cell width (piece blob bit (m + n) ∷ rest) (grind (arith, flat_map, append_assoc))
     (All-cons Some (piece blob bit (m + n)) rest (omega arith) (All-tail Some two rest (All-tail Some one (two ∷ rest) some)))
     (All-cons Bound (piece blob bit (m + n)) rest (omega arith) (All-tail Bound two rest (All-tail Bound one (two ∷ rest) bound)))
     (λ whole.

@@ -15,7 +15,7 @@ pub encoded : (signed : Bool) (width : ℕ) (value : ℤ) (bits : ℕ) → 1 ≤
 encoded signed width (pos n) bits some fits plain complement = grind (arith, held_pos, number_pos)
 encoded signed width (negsuc n) bits some fits plain complement =
     let small = held_negsuc signed width n some fits in
-    complement n refl small ∙ (let whole = number_negsuc n width small in omega (arith, whole))
+    complement n refl small ∙ (omega (arith, (number_negsuc n width small)))
 
 -- a number is at least 0, or below
 pub by_sign : {P : Type 0} (value : ℤ) → ((n : ℕ) → value ≡ pos n → P) → ((n : ℕ) → value ≡ negsuc n → P) → P

@@ -12,8 +12,7 @@ low_field bytes at first low n ones word place within mask is =
 pub low_bytes : (bytes : List ℕ) (first n ones word : ℕ) → n ≤ 64 → ones ≡ 2 ^ n - 1
     → word ≡ number (λ k. bit_of bytes (8 * first + k)) 64 → bit_and word ones ≡ number (λ k. bit_of bytes (8 * first + k)) n
 low_bytes bytes first n ones word few mask is =
-    let whole : word ≡ word / 2 ^ 0 = omega arith in
-    ap (λ (w : ℕ). bit_and w ones) whole ∙ low_field bytes (8 * first) first 0 n ones word (omega arith) (omega arith) mask is
+    ap (λ (w : ℕ). bit_and w ones) (omega arith) ∙ low_field bytes (8 * first) first 0 n ones word (omega arith) (omega arith) mask is
 
 -- the high bits of eight turned bytes are the turned bytes of a shorter word
 turned_high : (n k : ℕ) → IsTurned n → k < n → turned_place 64 (64 - n + k) ≡ turned_place n k
@@ -33,8 +32,7 @@ module _ (bytes : List ℕ) (first n word : ℕ) (turned : IsTurned n) (is : wor
   high_bytes =
       sym (number_same (λ k. bit_of bytes (8 * first + turned_place n k)) (λ k. (word / 2 ^ (64 - n) / 2 ^ k) % 2) n
       (λ k l.
-      let low : 64 - n + k < 64 = omega arith in
       ap (λ (p : ℕ). bit_of bytes (8 * first + p)) (sym (turned_high n k turned l))
-      ∙ sym (bit_number (λ j. bit_of bytes (8 * first + turned_place 64 j)) 64 (64 - n + k) bit_below low)
+      ∙ sym (bit_number (λ j. bit_of bytes (8 * first + turned_place 64 j)) 64 (64 - n + k) bit_below (omega arith))
       ∙ ap (λ (w : ℕ). (w / 2 ^ (64 - n + k)) % 2) (sym is) ∙ ap (λ (w : ℕ). w % 2) (sym (shr-shr word (64 - n) k)))
       ∙ number_bits (word / 2 ^ (64 - n)) n ∙ mod-eq_of_lt high_fits)

@@ -1,8 +1,7 @@
 -- Words of whole bytes, in their order or in reverse.
-use Rattle.piece_bits.proofs.Imports.{◌≡◌, ◌≢◌, ℕ, zero, suc, ◌+◌, ◌-◌, ◌*◌, ◌<◌, Bool, List, [], ◌∷◌, length, get_or, refl, ap, arith, Hold, Piece, PieceRule, turned_pieces, Field, Word, pieces_by, IsHeldBy, IsWhole, IsTurned}
+use Rattle.piece_bits.proofs.Imports.{◌≡◌, ◌≢◌, ℕ, zero, suc, ◌+◌, ◌-◌, ◌*◌, ◌<◌, Bool, List, [], ◌∷◌, length, get_or, refl, ap, arith, Hold, Piece, PieceRule, turned_pieces, Field, Word, pieces_by, IsHeldBy, IsWhole, IsTurned, rules}
 use Rattle.piece_bits.specs.declared.word.Word.TheVariants as stored
 use Rattle.piece_bits.proofs.Together.{piece}
-use Rattle.std.proofs.Common.{rules}
 
 -- ---- whole bytes
 
@@ -25,17 +24,13 @@ pub turned_by : (word : Word) (signed : Bool) (width n : ℕ) (field : Field) (b
     → 8 * n ≡ width → turned_pieces blob (8 * place) n ≡ pieces_by word field blob rules place
 turned_by word signed width n field blob rules place h e = grind (arith, so_many)
 
--- there are some
-pub turned_some : (word : Word) (signed : Bool) (width : ℕ) → IsTurned word signed width → 0 < width
-turned_some word signed width h = grind arith
-
 pub length-turned : (blob bit n : ℕ) → length (turned_pieces blob bit n) ≡ n
 length-turned blob bit zero = refl
 length-turned blob bit (suc n) = ap (λ (m : ℕ). suc m) (length-turned blob bit n)
 
 pub get_or-turned : (blob bit n k : ℕ) (d : Piece) → k < n → get_or (turned_pieces blob bit n) k d ≡ piece blob (bit + 8 * (n - 1 - k)) 8
 get_or-turned blob bit zero k d low = absurd (omega arith)
-get_or-turned blob bit (suc n) zero d low = let e : n ≡ suc n - 1 - 0 = omega arith in ap (λ (m : ℕ). piece blob (bit + 8 * m) 8) e
+get_or-turned blob bit (suc n) zero d low = ap (λ (m : ℕ). piece blob (bit + 8 * m) 8) (omega arith)
 get_or-turned blob bit (suc n) (suc k) d low = grind (arith, (get_or-turned blob bit n k d (omega arith)))
 
 -- ---- words that stand in one place

@@ -1,17 +1,10 @@
 -- One cell in one slot, as a mapping answers for it: its hold and its pieces.
-use Rattle.std.proofs.Common.{◌≡◌, ℕ, ◌*◌, ◌/◌, ◌%◌, ◌^◌, false, ◌<◌, ◌≤◌, ℤ, List, [], length, get_or, map, All, Some, sym, ap, ◌∙◌, subst, arith, slice_get, slice_index}
-use Rattle.std.specs.Int.{bit_at}
-use Rattle.std.proofs.lemmas.List.{length-map, get_or-map}
-use Rattle.std.proofs.lemmas.Option.{get_or_from_slice_get}
-use Rattle.std.proofs.lemmas.Nat.Bits.{bit_at-lt}
-use Rattle.record_dim.specs.LeafTypes.{IsIn}
+use Rattle.std.specs.Prelude.{◌≡◌, ℕ, ◌*◌, ◌/◌, ◌%◌, ◌^◌, false, ◌<◌, ◌≤◌, ℤ, List, [], length, get_or, map, All, Some, slice_get, slice_index}
+use Rattle.record_dim.specs.Std.{sym, ap, ◌∙◌, subst, arith, bit_at, length-map, get_or-map, get_or_from_slice_get, bit_at-lt}
+use Rattle.record_dim.specs.Prelude.{IsIn}
 use Rattle.places.specs.declared.piece.Piece.{Piece}
 use Rattle.places.specs.declared.piece.Hold.{Hold}
-use Rattle.places.specs.Layout.{Owner, Pad, owner_at}
-use Rattle.places.specs.Image.{number, digit, decoded, entry}
-use Rattle.places.specs.CellWidthsLaws.{width_at}
-use Rattle.places.specs.Lawful.{IsLaidOut, IsLocated}
-use Rattle.places.specs.NumbersLaws.{number_lt, bit_number, digit_lt}
+use Rattle.places.specs.Prelude.{Owner, Pad, owner_at, number, digit, decoded, entry, width_at, IsLaidOut, IsLocated, number_lt, bit_number, digit_lt}
 use Rattle.blobs.specs.Bits.{bit_in}
 use Rattle.piece_bits.specs.Inner.Spots.{spots_of, bit_at_spot, IsWithin, AreApart, IsOutside}
 use Rattle.piece_bits.specs.Tables.{with_entry, table_in, hold_at, AreSized, AreLaid}

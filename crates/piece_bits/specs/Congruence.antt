@@ -1,5 +1,5 @@
 -- When two numbers are equal but for multiples of a third.
-use Rattle.std.proofs.Common.{◌≡◌, ℕ, ◌*◌, ℤ, pos, ◌+ℤ◌}
+use Rattle.std.specs.Prelude.{◌≡◌, ℕ, ◌*◌, ℤ, pos, ◌+ℤ◌}
 
 -- two numbers are equal once multiples of m are added to both
 pub record AreCongruent (m : ℕ) (a b : ℤ) : Type 0 where

@@ -1,12 +1,8 @@
 -- The kept number in the words of congruence: it lies in the range, and differs from the value by a multiple of the number of values.
-use Rattle.std.proofs.Common.{◌≡◌, ℕ, ◌+◌, ◌*◌, ◌-◌, ◌/◌, ◌%◌, ◌^◌, ◌<◌, ◌≤◌, Bool, true, false, ℤ, pos, negsuc, ◌+ℤ◌, ◌-ℤ◌, ◌≤ℤ◌, ⊎_elim, ap, arith}
-use Rattle.std.proofs.lemmas.Int.{ints}
-use Rattle.std.proofs.lemmas.Nat.{pow_pos}
-use Rattle.std.proofs.lemmas.Bool.{cases_lt}
-use Rattle.std.proofs.Math.Nat.{mul-le-mul_right}
-use Rattle.record_dim.specs.LeafTypes.{IsIn}
-use Rattle.places.specs.Image.{number, digit, decoded}
-use Rattle.places.specs.NumbersLaws.{number_bits, number_complement, decoded_low, decoded_high, half_of}
+use Rattle.std.specs.Prelude.{◌≡◌, ℕ, ◌+◌, ◌*◌, ◌-◌, ◌/◌, ◌%◌, ◌^◌, ◌<◌, ◌≤◌, Bool, true, false, ℤ, pos, negsuc, ◌+ℤ◌, ◌-ℤ◌, ◌≤ℤ◌}
+use Rattle.record_dim.specs.Std.{⊎_elim, ap, arith, ints, pow_pos, cases_lt, mul-le-mul_right}
+use Rattle.record_dim.specs.Prelude.{IsIn}
+use Rattle.places.specs.Prelude.{number, digit, decoded, number_bits, number_complement, decoded_low, decoded_high, half_of}
 use Rattle.piece_bits.specs.LowBits.{low_bits}
 use Rattle.piece_bits.specs.Congruence.{AreCongruent}
 
@@ -43,14 +39,9 @@ number_congruent (negsuc n) width =
 decoded_congruent : (signed : Bool) (width n : ℕ) → AreCongruent (2 ^ width) (pos n) (decoded signed width n)
 decoded_congruent signed width n = grind (arith, decoded_low, decoded_high, cases_lt)
 
-add_times : (p q m : ℕ) → (p + q) * m ≡ p * m + q * m
-add_times p q m = omega arith
-
 congruent-then : (m : ℕ) (a b c : ℤ) → AreCongruent m a b → AreCongruent m b c → AreCongruent m a c
 congruent-then m a b c first second =
-    let left : (first.one + second.one) * m ≡ first.one * m + second.one * m = add_times first.one second.one m in
-    let right : (second.other + first.other) * m ≡ second.other * m + first.other * m = add_times second.other first.other m in
-    record { one = first.one + second.one; other = second.other + first.other; same = omega (arith, ints, first.same, second.same, left, right) }
+    record { one = first.one + second.one; other = second.other + first.other; same = omega (arith, ints, first.same, second.same) }
 
 -- low bits are congruent to the value
 pub low_congruent : (signed : Bool) (width : ℕ) (value : ℤ) → AreCongruent (2 ^ width) value (low_bits signed width value)

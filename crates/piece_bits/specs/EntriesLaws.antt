@@ -1,18 +1,10 @@
 -- What bits under a layout say: the entries that are read off them, what a write changes, and that they are the image of the table read off them.
-use Rattle.std.proofs.Common.{◌≡◌, ℕ, zero, suc, ◌+◌, ◌*◌, ◌^◌, ◌<◌, ◌≤◌, Bool, false, ℤ, pos, List, [], length, get_or, map, refl, sym, ap, ◌∙◌, subst, arith}
-use Rattle.std.specs.List.{range_with_len}
-use Rattle.std.proofs.lemmas.List.{length-map, get_or-map, ext_get_or}
-use Rattle.std.proofs.lemmas.List.FromFn.{length-map-range_with_len, get_or-map-range_with_len}
-use Rattle.std.proofs.lemmas.Nat.{pow_pos}
-use Rattle.record_dim.specs.LeafTypes.{IsIn}
+use Rattle.std.specs.Prelude.{◌≡◌, ℕ, zero, suc, ◌+◌, ◌*◌, ◌^◌, ◌<◌, ◌≤◌, Bool, false, ℤ, pos, List, [], length, get_or, map, refl}
+use Rattle.record_dim.specs.Std.{sym, ap, ◌∙◌, subst, arith, range_with_len, length-map, get_or-map, ext_get_or, length-map-range_with_len, get_or-map-range_with_len, pow_pos}
+use Rattle.record_dim.specs.Prelude.{IsIn}
 use Rattle.places.specs.declared.piece.Piece.{Piece}
 use Rattle.places.specs.declared.piece.Hold.{Hold}
-use Rattle.places.specs.Layout.{Owner, Pad, Bit, owner_at}
-use Rattle.places.specs.Image.{number, digit, decoded, entry, bit_held, image, IsImage, bit_owned, reading, table_of}
-use Rattle.places.specs.CellWidthsLaws.{width_at}
-use Rattle.places.specs.Lawful.{IsBitOf, IsLaidOut, IsLocated}
-use Rattle.places.specs.NumbersLaws.{number_same, number_lt, bit_number, decoded_low, decoded_digits, bit_digits, decoded_in}
-use Rattle.places.specs.OwnedLaws.{owned_is, found_owned}
+use Rattle.places.specs.Prelude.{Owner, Pad, Bit, owner_at, number, digit, decoded, entry, bit_held, image, IsImage, bit_owned, reading, table_of, width_at, IsBitOf, IsLaidOut, IsLocated, number_same, number_lt, bit_number, decoded_low, decoded_digits, bit_digits, decoded_in, owned_is, found_owned}
 use Rattle.blobs.specs.Bits.{bit_of, bits_of, bit_in}
 use Rattle.piece_bits.specs.Inner.Spots.{spots_of, spot_at, bit_at_spot, IsOutside}
 use Rattle.piece_bits.specs.Tables.{with_entry, zeros, signs_and_widths}
@@ -112,16 +104,15 @@ module _ (layout : List (List Owner)) (slots : ℕ) (holds : List Hold) (laid : 
     -- padding stands
     pub padding_stands : (b p : ℕ) → owner_at layout b p ≡ Pad → new b p ≡ old b p
     padding_stands b p pad =
-        outside b p (outside_from_owner layout row cell (get_or holds cell d).width pieces located b p (λ k e. (let clash : Pad ≡ Bit row cell k = sym pad ∙ e in cc)))
+        outside b p (outside_from_owner layout row cell (get_or holds cell d).width pieces located b p (λ k e. (cc)))
 
     bit_stands : (s c k : ℕ) (e : Hold) → s < slots → c < length holds → k < (get_or holds c e).width → ((s ≡ row) × (c ≡ cell) → ⊥) →
         bit_owned (Bit s c k) layout new ≡ bit_owned (Bit s c k) layout old
     bit_stands s c k e l m n other =
         let widths = map (λ (h : Hold). h.width) holds in
         let place = laid.there s c k (stored s c k e l m n) in
-        let apart : (j : ℕ) → owner_at layout place.0 place.1 ≡ Bit row cell j → ⊥ = grind arith in
         owned_is layout slots widths new place.0 place.1 s c k laid place.2
-        ∙ outside place.0 place.1 (outside_from_owner layout row cell (get_or holds cell d).width pieces located place.0 place.1 apart)
+        ∙ outside place.0 place.1 (outside_from_owner layout row cell (get_or holds cell d).width pieces located place.0 place.1 (grind arith))
         ∙ sym (owned_is layout slots widths old place.0 place.1 s c k laid place.2)
 
     entry_stands : (s c : ℕ) → s < slots → c < length holds → ((s ≡ row) × (c ≡ cell) → ⊥) →

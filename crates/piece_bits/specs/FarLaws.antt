@@ -1,12 +1,9 @@
 -- A number of any length, brought below 2^66 without a change of its 64 low bits.
-use Rattle.std.proofs.Common.{◌≡◌, ℕ, suc, ◌+◌, ◌*◌, ◌-◌, ◌%◌, ◌^◌, ◌<◌, ◌≤◌, Bool, ℤ, pos, negsuc, neg_ℤ, sym, ap, ◌∙◌, arith}
-use Rattle.std.proofs.lemmas.Int.{ints}
-use Rattle.std.proofs.lemmas.Bool.{cases_lt}
-use Rattle.std.proofs.lemmas.Bool.Decides.{nat_tests}
-use Rattle.std.proofs.Math.Pow.{mod-mod-pow}
+use Rattle.std.specs.Prelude.{◌≡◌, ℕ, suc, ◌+◌, ◌*◌, ◌-◌, ◌%◌, ◌^◌, ◌<◌, ◌≤◌, Bool, ℤ, pos, negsuc, neg_ℤ}
+use Rattle.record_dim.specs.Std.{sym, ap, ◌∙◌, arith, ints, cases_lt, nat_tests, mod-mod-pow}
 use Rattle.record_dim.specs.declared.leaf_type.LeafType.{LeafType}
 use Rattle.places.specs.declared.piece.Hold.{Hold}
-use Rattle.places.specs.NumbersLaws.{number_bits}
+use Rattle.places.specs.Prelude.{number_bits}
 use Rattle.piece_bits.specs.LowBits.{low_bits, declared, kept}
 use Rattle.piece_bits.specs.Inner.Far.{folded, shortened}
 use Rattle.piece_bits.specs.CongruenceLaws.{digits_negsuc}
@@ -34,8 +31,7 @@ fewer_bits : (n m width : ℕ) → width ≤ 64 → n % 2 ^ 64 ≡ m % 2 ^ 64 �
 fewer_bits n m width few same =
     let whole : 64 ≡ (64 - width) + width = omega (arith, few) in
     let one : n % 2 ^ 64 % 2 ^ width ≡ n % 2 ^ width = ap (λ (w : ℕ). n % 2 ^ w % 2 ^ width) whole ∙ mod-mod-pow n (64 - width) width in
-    let two : m % 2 ^ 64 % 2 ^ width ≡ m % 2 ^ width = ap (λ (w : ℕ). m % 2 ^ w % 2 ^ width) whole ∙ mod-mod-pow m (64 - width) width in
-    sym one ∙ ap (λ (w : ℕ). w % 2 ^ width) same ∙ two
+    sym one ∙ ap (λ (w : ℕ). w % 2 ^ width) same ∙ (ap (λ (w : ℕ). m % 2 ^ w % 2 ^ width) whole ∙ mod-mod-pow m (64 - width) width)
 
 positive : (n : ℕ) → 1 ≤ folded (suc n)
 positive n = grind (arith, near, far, cases_lt)

@@ -1,14 +1,9 @@
 -- What is read off the image of a table.
-use Rattle.std.proofs.Common.{◌≡◌, ℕ, ◌<◌, ◌≤◌, false, ℤ, List, length, map, sym, ap, ◌∙◌, subst, arith}
-use Rattle.std.proofs.lemmas.List.{length-map}
+use Rattle.std.specs.Prelude.{◌≡◌, ℕ, ◌<◌, ◌≤◌, false, ℤ, List, length, map}
+use Rattle.record_dim.specs.Std.{sym, ap, ◌∙◌, subst, arith, length-map}
 use Rattle.record_dim.specs.declared.leaf_type.LeafType.{LeafType}
 use Rattle.places.specs.declared.piece.Hold.{Hold}
-use Rattle.places.specs.Layout.{Owner, Bit}
-use Rattle.places.specs.Image.{digit, decoded, entry, bit_held, bit_owned, IsImage, table_of}
-use Rattle.places.specs.CellWidthsLaws.{width_at}
-use Rattle.places.specs.NumbersLaws.{number_same}
-use Rattle.places.specs.OwnedLaws.{owned_is}
-use Rattle.places.specs.Lawful.{IsLaidOut, IsBitOf}
+use Rattle.places.specs.Prelude.{Owner, Bit, digit, decoded, entry, bit_held, bit_owned, IsImage, table_of, width_at, number_same, owned_is, IsLaidOut, IsBitOf}
 use Rattle.piece_bits.specs.Tables.{HasShape, hold_at, signs_and_widths}
 use Rattle.piece_bits.specs.TableLaws.{table_shape, entry_is, tables_same}
 use Rattle.piece_bits.specs.LowBits.{declared, held}

@@ -1,12 +1,10 @@
 -- The low bits of numbers, and what is kept of a value.
-use Rattle.std.proofs.Common.{◌≡◌, ℕ, ◌^◌, ◌<◌, ◌≤◌, Bool, ℤ, ⊎_elim, sym, ap, ◌∙◌, subst, arith}
-use Rattle.std.proofs.lemmas.Bool.{cases_lt}
-use Rattle.std.proofs.Math.Pow.{pow_mono}
+use Rattle.std.specs.Prelude.{◌≡◌, ℕ, ◌^◌, ◌<◌, ◌≤◌, Bool, ℤ}
+use Rattle.record_dim.specs.Std.{⊎_elim, sym, ap, ◌∙◌, subst, arith, cases_lt, pow_mono}
 use Rattle.record_dim.specs.declared.leaf_type.LeafType.{LeafType}
-use Rattle.record_dim.specs.LeafTypes.{is_signed, IsIn, IsDeclared}
+use Rattle.record_dim.specs.Prelude.{is_signed, IsIn, IsDeclared}
 use Rattle.places.specs.declared.piece.Hold.{Hold}
-use Rattle.places.specs.Image.{number, digit, decoded}
-use Rattle.places.specs.NumbersLaws.{number_same, number_lt, bit_number, bit_digits, digit_lt, decoded_digits, decoded_in}
+use Rattle.places.specs.Prelude.{number, digit, decoded, number_same, number_lt, bit_number, bit_digits, digit_lt, decoded_digits, decoded_in}
 use Rattle.piece_bits.specs.LowBits.{low_bits, value_bits, declared, held, kept}
 
 -- digits make a number below 2^width

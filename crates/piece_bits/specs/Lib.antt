@@ -35,3 +35,4 @@ pub mod NumberTypes
 pub mod NarrowLaws
 pub mod Congruence
 pub mod Inner
+pub mod Prelude

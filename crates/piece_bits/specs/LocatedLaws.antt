@@ -1,11 +1,8 @@
 -- The places of a cell's pieces: their owners are the cell's bits, in order.
-use Rattle.std.proofs.Common.{◌≡◌, ℕ, zero, suc, ◌+◌, ◌<◌, List, [], ◌∷◌, ◌++◌, length, get_or, map, All, refl, sym, ap, ◌∙◌, arith}
-use Rattle.std.specs.List.{flat_map, range_with_len}
-use Rattle.std.proofs.lemmas.List.{map-append, length-map, get_or-map}
+use Rattle.std.specs.Prelude.{◌≡◌, ℕ, zero, suc, ◌+◌, ◌<◌, List, [], ◌∷◌, ◌++◌, length, get_or, map, All, refl}
+use Rattle.record_dim.specs.Std.{sym, ap, ◌∙◌, arith, flat_map, range_with_len, map-append, length-map, get_or-map}
 use Rattle.places.specs.declared.piece.Piece.{Piece}
-use Rattle.places.specs.Layout.{Owner, Pad, Bit, owner_at, field}
-use Rattle.places.specs.Lawful.{IsLocated, owners_in}
-use Rattle.places.specs.ExactLaws.{length-field, field_at}
+use Rattle.places.specs.Prelude.{Owner, Pad, Bit, owner_at, field, IsLocated, owners_in, length-field, field_at}
 use Rattle.piece_bits.specs.Inner.Spots.{spots_of, spot_at, IsWithin, AreApart}
 use Rattle.piece_bits.specs.Tables.{AreSized}
 use Rattle.piece_bits.specs.SpotsOfLaws.{spots_in}
@@ -38,8 +35,7 @@ module _ (layout : List (List Owner)) (row cell width : ℕ) (pieces : List Piec
   -- place k is that of bit k
   pub spot_owned : (k : ℕ) → k < width → owner_at layout (spot_at (spots_of pieces) k).0 (spot_at (spots_of pieces) k).1 ≡ Bit row cell k
   spot_owned k l =
-      let long : k < length (spots_of pieces) = omega (arith, spot_count) in
-      sym (get_or-map (spot_owner layout) (spots_of pieces) k (0, 0) Pad long)
+      sym (get_or-map (spot_owner layout) (spots_of pieces) k (0, 0) Pad (omega (arith, spot_count)))
       ∙ ap (λ (w : List Owner). get_or w k Pad) spelled ∙ field_at row cell width k l
 
   -- no two places are the same

@@ -1,7 +1,6 @@
 -- Bytes of one blob that are moved, as bits of blobs.
-use Rattle.std.proofs.Common.{◌≡◌, ℕ, ◌+◌, ◌*◌, ◌/◌, ◌%◌, ◌<◌, List, [], length, get_or, set, map, sym, ap, ◌∙◌, arith}
-use Rattle.std.specs.Int.{bit_at}
-use Rattle.std.proofs.lemmas.List.{get_or-map, get_or-set_same, get_or-set_other, map-set, set-get_or}
+use Rattle.std.specs.Prelude.{◌≡◌, ℕ, ◌+◌, ◌*◌, ◌/◌, ◌%◌, ◌<◌, List, [], length, get_or, set, map}
+use Rattle.record_dim.specs.Std.{sym, ap, ◌∙◌, arith, bit_at, get_or-map, get_or-set_same, get_or-set_other, map-set, set-get_or}
 use Rattle.blobs.specs.Bits.{bit_of}
 use Rattle.blobs.specs.BytesLaws.{bit_of_byte}
 use Rattle.blobs.specs.Moves.{IsMoved}
@@ -15,7 +14,6 @@ same_bit one two place other index there low p o l same = grind (arith, bit_of_b
 pub moved_bits : (others old : List (List ℕ)) (source from target at len : ℕ) (new : List ℕ) → target < length old
     → IsMoved (get_or old target []) at (get_or others source []) from len new → AreMoved others old (set old target new) source (8 * from) target (8 * at) (8 * len)
 moved_bits others old source from target at len new target_in h =
-    let blob : List ℕ = get_or old target [] in
     let here : get_or (set old target new) target [] ≡ new = get_or-set_same old target new [] target_in in
     record {
       inside = λ j l.

@@ -1,14 +1,8 @@
 -- What bits that are moved from other blobs say: the entries whose bits they are become those of the other table, and all others stand.
-use Rattle.std.proofs.Common.{◌≡◌, ◌⊎◌, inl, inr, ℕ, ◌+◌, ◌-◌, ◌<◌, ◌≤◌, List, length, get_or, map, sym, ap, ◌∙◌, subst, ⊎_elim, arith}
-use Rattle.std.proofs.lemmas.List.{length-map}
-use Rattle.std.proofs.lemmas.Bool.{cases_lt, cases_eq}
+use Rattle.std.specs.Prelude.{◌≡◌, ◌⊎◌, ℕ, ◌+◌, ◌-◌, ◌<◌, ◌≤◌, List, length, get_or, map}
+use Rattle.record_dim.specs.Std.{inl, inr, sym, ap, ◌∙◌, subst, ⊎_elim, arith, length-map, cases_lt, cases_eq}
 use Rattle.places.specs.declared.piece.Hold.{Hold}
-use Rattle.places.specs.Layout.{Owner, Pad, Bit, owner_at}
-use Rattle.places.specs.Image.{decoded, entry, bit_owned}
-use Rattle.places.specs.CellWidthsLaws.{width_at}
-use Rattle.places.specs.Lawful.{IsBitOf, IsLaidOut}
-use Rattle.places.specs.NumbersLaws.{number_same}
-use Rattle.places.specs.OwnedLaws.{owned_is}
+use Rattle.places.specs.Prelude.{Owner, Pad, Bit, owner_at, decoded, entry, bit_owned, width_at, IsBitOf, IsLaidOut, number_same, owned_is}
 use Rattle.blobs.specs.Bits.{bit_in}
 use Rattle.piece_bits.specs.Tables.{AreLaid, table_in}
 use Rattle.piece_bits.specs.TableLaws.{entry_is}
@@ -36,7 +30,7 @@ told others old new source from target at count moved b p =
     (λ (same : b ≡ target).
     ⊎_elim (λ (low : p < at). inr (ap (λ (x : ℕ). bit_in new x p) same ∙ moved.before p low ∙ ap (λ (x : ℕ). bit_in old x p) (sym same)))
     (λ (high : at ≤ p).
-    ⊎_elim (λ (in_front : p < at + count). inl (p - at, (let l : p - at < count = omega arith in l), same, (let e : p ≡ at + (p - at) = omega arith in e)))
+    ⊎_elim (λ (in_front : p < at + count). inl (p - at, (omega arith), same, (omega arith)))
     (λ (past : at + count ≤ p). inr (ap (λ (x : ℕ). bit_in new x p) same ∙ moved.behind p past ∙ ap (λ (x : ℕ). bit_in old x p) (sym same)))
     (cases_lt p (at + count)))
     (cases_lt p at))

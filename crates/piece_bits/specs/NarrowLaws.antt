@@ -1,10 +1,6 @@
 -- Products and sums of numbers of at most 32 bits fit 64 bits with a sign.
-use Rattle.std.proofs.Common.{◌≡◌, ℕ, ◌+◌, ◌*◌, ◌-◌, ◌≤◌, ◌^◌, suc, List, [], ◌∷◌, length, fold, ℤ, pos, neg_ℤ, ◌+ℤ◌, ◌*ℤ◌, ◌≤ℤ◌, FitsSigned, w64, subst, arith}
-use Rattle.std.specs.Prelude.{unsigned_abs}
-use Rattle.std.proofs.Math.Nat.{mul-le-mul}
-use Rattle.std.proofs.lemmas.Int.{ints, unsigned_abs-mul, fits_signed_from_abs}
-use Rattle.std.proofs.lemmas.Simd.{Each2-of}
-use Rattle.std.specs.Simd.Lanes.{Each1}
+use Rattle.std.specs.Prelude.{ℕ, ◌+◌, ◌*◌, ◌-◌, ◌≤◌, ◌^◌, List, [], ◌∷◌, length, fold, ℤ, pos, neg_ℤ, ◌+ℤ◌, ◌*ℤ◌, ◌≤ℤ◌, FitsSigned, unsigned_abs}
+use Rattle.record_dim.specs.Std.{w64, subst, arith, mul-le-mul, ints, unsigned_abs-mul, fits_signed_from_abs, Each2-of, Each1}
 use Rattle.piece_bits.specs.Blocks.{IsFactor, IsNarrow}
 use Rattle.piece_bits.specs.NumberTypes.{ProductsFit}
 
@@ -31,8 +27,7 @@ fits_between z least greatest = grind arith
 sum_fits : (a x y : ℤ) → IsFactor a → IsNarrow x → IsNarrow y → FitsSigned w64 (a *ℤ x +ℤ y)
 sum_fits a x y factor value added =
     let least = least_of_size (a *ℤ x) (2 ^ 31 * (2 ^ 32 - 1)) (product_size a x factor value) in
-    let greatest = above_zero a x factor value in
-    fits_between (a *ℤ x +ℤ y) (omega (arith, ints, least, added.0)) (omega (arith, ints, greatest, added.1))
+    fits_between (a *ℤ x +ℤ y) (omega (arith, ints, least, added.0)) (omega (arith, ints, (above_zero a x factor value), added.1))
 
 -- those of each two that stand beside each other
 pub products_fit : (a : ℤ) (xs ys : List ℤ) → IsFactor a → Each1 IsNarrow xs → Each1 IsNarrow ys → ProductsFit (λ z. z) (λ z. FitsSigned w64 z) a xs ys
@@ -44,10 +39,9 @@ record IsSumOf (count : ℕ) (sum : ℤ) : Type 0 where
   pub greatest : sum ≤ℤ pos (count * 2 ^ 32)
 
 sum_of : (count : ℕ) (sum : ℤ) (xs : List ℤ) → IsSumOf count sum → Each1 IsNarrow xs → IsSumOf (count + length xs) (fold (λ s x. s +ℤ x) sum xs)
-sum_of count sum [] a narrow = let none : count ≡ count + 0 = omega arith in subst (λ (n : ℕ). IsSumOf n sum) none a
+sum_of count sum [] a narrow = subst (λ (n : ℕ). IsSumOf n sum) (omega arith) a
 sum_of count sum (x ∷ xs) a narrow =
-    let next : count + 1 + length xs ≡ count + suc (length xs) = omega arith in
-    subst (λ (n : ℕ). IsSumOf n (fold (λ s x. s +ℤ x) (sum +ℤ x) xs)) next
+    subst (λ (n : ℕ). IsSumOf n (fold (λ s x. s +ℤ x) (sum +ℤ x) xs)) (omega arith)
     (sum_of (count + 1) (sum +ℤ x) xs (record { least = omega (arith, ints, a.least, narrow.0.0); greatest = omega (arith, ints, a.greatest, narrow.0.1) }) narrow.1)
 
 pub narrow_sum_fits : (xs : List ℤ) → length xs ≤ 2 ^ 30 → Each1 IsNarrow xs → FitsSigned w64 (fold (λ s x. s +ℤ x) (pos 0) xs)

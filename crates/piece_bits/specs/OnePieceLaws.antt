@@ -1,13 +1,10 @@
 -- One piece alone: its places, and what is read and written there.
-use Rattle.std.proofs.Common.{◌≡◌, ℕ, ℤ, ◌+◌, ◌/◌, ◌%◌, ◌^◌, ◌<◌, ◌≤◌, List, [], ◌∷◌, length, get_or, set, refl, sym, ap, ◌∙◌, subst, arith}
-use Rattle.std.specs.Int.{bit_at}
-use Rattle.std.proofs.Math.Nat.{mod-eq_of_lt}
+use Rattle.std.specs.Prelude.{◌≡◌, ℕ, ℤ, ◌+◌, ◌/◌, ◌%◌, ◌^◌, ◌<◌, ◌≤◌, List, [], ◌∷◌, length, get_or, set, refl}
+use Rattle.record_dim.specs.Std.{sym, ap, ◌∙◌, subst, arith, bit_at, mod-eq_of_lt}
 use Rattle.places.specs.declared.piece.Piece.{Piece}
-use Rattle.record_dim.specs.LeafTypes.{IsIn}
+use Rattle.record_dim.specs.Prelude.{IsIn}
 use Rattle.places.specs.declared.piece.Hold.{Hold}
-use Rattle.places.specs.Layout.{Owner}
-use Rattle.places.specs.Image.{number, digit, decoded, entry}
-use Rattle.places.specs.NumbersLaws.{number_same, number_lt, digit_lt}
+use Rattle.places.specs.Prelude.{Owner, number, digit, decoded, entry, number_same, number_lt, digit_lt}
 use Rattle.blobs.specs.Bits.{bit_of, bit_in}
 use Rattle.piece_bits.specs.CellsLaws.{IsCell, bit_count, apart, within, read_entry_is, written_table, written_padding, still_laid}
 use Rattle.piece_bits.specs.Inner.Spots.{spots_of, spot_at, bit_at_spot, IsWithin, AreApart}
@@ -24,8 +21,7 @@ one_count piece = grind (arith, one_next)
 
 pub one_at : (piece : Piece) (k : ℕ) → k < piece.bits → spot_at (spots_of (piece ∷ [])) k ≡ (piece.blob, piece.bit + k)
 one_at piece k l =
-    let from : 0 + k ≡ k = omega arith in
-    ap (spot_at (spots_of (piece ∷ []))) (sym from) ∙ (one_next piece).at k l
+    ap (spot_at (spots_of (piece ∷ []))) (sym (omega arith)) ∙ (one_next piece).at k l
 
 -- the bits of the piece, as a number
 pub read_one : (blobs : List (List ℕ)) (piece : Piece) (value : ℕ) → value ≡ number (λ k. bit_of (get_or blobs piece.blob []) (piece.bit + k)) piece.bits →
@@ -42,10 +38,8 @@ pub write_one : (blobs : List (List ℕ)) (piece : Piece) (value : ℕ) (new : L
 write_one blobs piece value new within apart small inside before after len =
     let start : AreWritten blobs blobs (spots_of (piece ∷ [])) 0 value =
     record { inside = λ k l. absurd (omega arith); outside = λ b p none. refl; lengths = refl } in
-    let whole : value / 2 ^ 0 ≡ value = omega arith in
-    let part : value ≡ value / 2 ^ 0 % 2 ^ piece.bits = sym (ap (λ (w : ℕ). w % 2 ^ piece.bits) whole ∙ mod-eq_of_lt small) in
-    let more : 0 + piece.bits ≡ length (spots_of (piece ∷ [])) = (one_next piece).more in
-    subst (λ (n : ℕ). AreWritten blobs (set blobs piece.blob new) (spots_of (piece ∷ [])) n value) more
+    let part : value ≡ value / 2 ^ 0 % 2 ^ piece.bits = sym (ap (λ (w : ℕ). w % 2 ^ piece.bits) (omega arith) ∙ mod-eq_of_lt small) in
+    subst (λ (n : ℕ). AreWritten blobs (set blobs piece.blob new) (spots_of (piece ∷ [])) n value) ((one_next piece).more)
     (write_next blobs blobs (piece ∷ []) 0 0 value piece start (one_next piece) within apart new value part inside before after len)
 
 -- a cell that lies in the piece alone

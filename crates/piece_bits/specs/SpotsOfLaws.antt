@@ -1,14 +1,7 @@
 -- The places of pieces: how many there are before a piece, and which it adds.
-use Rattle.std.proofs.Common.{◌≡◌, ℕ, ◌+◌, ◌*◌, ◌%◌, ◌^◌, ◌<◌, ◌≤◌, List, [], ◌∷◌, ◌++◌, length, get_or, take, drop, map, refl, sym, ap, ◌∙◌, subst, arith}
-use Rattle.std.specs.List.{range_with_len}
-use Rattle.std.proofs.lemmas.List.{take-append-drop, take_more, length-append}
-use Rattle.std.proofs.lemmas.List.Concat.{flat_map-append, get_or-flat_map}
-use Rattle.std.proofs.lemmas.List.FromFn.{length-map-range_with_len, get_or-map-range_with_len}
-use Rattle.std.proofs.lemmas.Nat.{shl_whole}
-use Rattle.std.proofs.Math.Nat.{mul_comm}
-use Rattle.std.proofs.Math.Pow.{pow_mono}
-use Rattle.places.specs.Image.{number}
-use Rattle.places.specs.NumbersLaws.{number_same, number_split, number_lt}
+use Rattle.std.specs.Prelude.{◌≡◌, ℕ, ◌+◌, ◌*◌, ◌%◌, ◌^◌, ◌<◌, ◌≤◌, List, [], ◌∷◌, ◌++◌, length, get_or, take, drop, map, refl}
+use Rattle.record_dim.specs.Std.{sym, ap, ◌∙◌, subst, arith, range_with_len, take-append-drop, take_more, length-append, flat_map-append, get_or-flat_map, length-map-range_with_len, get_or-map-range_with_len, shl_whole, mul_comm, pow_mono}
+use Rattle.places.specs.Prelude.{number, number_same, number_split, number_lt}
 use Rattle.places.specs.declared.piece.Piece.{Piece}
 use Rattle.piece_bits.specs.Inner.Spots.{spots_of, spot_at, bit_at_spot}
 
@@ -42,14 +35,11 @@ length-spots_more : (pieces : List Piece) (i : ℕ) (d : Piece) → i < length p
     length (spots_of (take (i + 1) pieces)) ≡ length (spots_of (take i pieces)) + (get_or pieces i d).bits
 length-spots_more pieces i d inside =
     let piece : Piece = get_or pieces i d in
-    let more : take (i + 1) pieces ≡ take i pieces ++ piece ∷ [] = take_more pieces i d inside in
-    let joined : spots_of (take i pieces ++ piece ∷ []) ≡ spots_of (take i pieces) ++ spots_of (piece ∷ []) =
-    flat_map-append spots_in (take i pieces) (piece ∷ []) in
     let one : length (spots_in piece ++ []) ≡ length (spots_in piece) + 0 = length-append (spots_in piece) [] in
     let both : length (spots_of (take i pieces) ++ (spots_in piece ++ [])) ≡ length (spots_of (take i pieces)) + length (spots_in piece ++ []) =
     length-append (spots_of (take i pieces)) (spots_in piece ++ []) in
     let whole : length (spots_of (take (i + 1) pieces)) ≡ length (spots_of (take i pieces) ++ (spots_in piece ++ [])) =
-    ap (λ (w : List Piece). length (spots_of w)) more ∙ ap length joined in
+    ap (λ (w : List Piece). length (spots_of w)) (take_more pieces i d inside) ∙ ap length (flat_map-append spots_in (take i pieces) (piece ∷ [])) in
     omega (arith, length-spots_in piece)
 
 pub next_piece : (pieces : List Piece) (i done : ℕ) (d : Piece) → i < length pieces → done ≡ length (spots_of (take i pieces)) →
@@ -61,9 +51,8 @@ next_piece pieces i done d inside so_far =
       more = omega arith;
       within = omega (arith, length-spots_front pieces (i + 1));
       at = λ k l.
-          let long : k < length (spots_in piece) = omega (arith, length-spots_in piece) in
           ap (λ (w : ℕ). spot_at (spots_of pieces) (w + k)) so_far
-          ∙ get_or-flat_map spots_in pieces i k d (0, 0) inside long
+          ∙ get_or-flat_map spots_in pieces i k d (0, 0) inside (omega (arith, length-spots_in piece))
           ∙ get_or-map-range_with_len {X = ℕ × ℕ} (λ bit. (piece.blob, bit)) piece.bit piece.bits k (piece.bit + k) (0, 0) l refl;
     }
 

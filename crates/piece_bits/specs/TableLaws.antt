@@ -1,11 +1,7 @@
 -- Tables by their entries: when two are equal, what one changed entry does, and the entries of a table that is read off bits.
-use Rattle.std.proofs.Common.{◌≡◌, ℕ, ◌+◌, ◌<◌, Bool, ℤ, pos, List, [], length, get_or, set, map, sym, ap, ◌∙◌, arith}
-use Rattle.std.specs.List.{enumerate_from}
-use Rattle.std.proofs.lemmas.List.{length-map, length-set, length-replicate, get_or-map, get_or-replicate, get_or-set_same, get_or-set_other, ext_get_or}
-use Rattle.std.proofs.lemmas.List.FromFn.{length-map-range_with_len, get_or-map-range_with_len, length-enumerate_from, get_or-enumerate_from}
-use Rattle.std.proofs.lemmas.Bool.{cases_eq}
-use Rattle.places.specs.Layout.{Owner}
-use Rattle.places.specs.Image.{entry, reading, table_of}
+use Rattle.std.specs.Prelude.{◌≡◌, ℕ, ◌+◌, ◌<◌, Bool, ℤ, pos, List, [], length, get_or, set, map}
+use Rattle.record_dim.specs.Std.{sym, ap, ◌∙◌, arith, enumerate_from, length-map, length-set, length-replicate, get_or-map, get_or-replicate, get_or-set_same, get_or-set_other, ext_get_or, length-map-range_with_len, get_or-map-range_with_len, length-enumerate_from, get_or-enumerate_from, cases_eq}
+use Rattle.places.specs.Prelude.{Owner, entry, reading, table_of}
 use Rattle.places.specs.declared.piece.Hold.{Hold}
 use Rattle.piece_bits.specs.Tables.{with_entry, zeros, HasShape, signs_and_widths}
 
@@ -79,12 +75,11 @@ module _ (layout : List (List Owner)) (rows : ℕ) (holds : List Hold) (bits : �
       let default : ℕ × (Bool × ℕ) = (0, (d.signed, d.width)) in
       let read : ℕ × (Bool × ℕ) → ℤ = λ e. reading layout bits row e.0 (e.1).0 (e.1).1 in
       let long : cell < length (signs_and_widths holds) = omega (arith, length-map {B = Bool × ℕ} holds (λ (h : Hold). (h.signed, h.width))) in
-      let inside : cell < length (enumerate_from 0 (signs_and_widths holds)) = omega (arith, length-pairs) in
       let zero_on : 0 + cell ≡ cell = omega arith in
       let pair_is : get_or (signs_and_widths holds) cell (d.signed, d.width) ≡ ((get_or holds cell d).signed, (get_or holds cell d).width) =
       get_or-map (λ (h : Hold). (h.signed, h.width)) holds cell d (d.signed, d.width) m in
       ap (λ (w : List ℤ). get_or w cell (pos 0)) (row_is row l)
-      ∙ get_or-map read (enumerate_from 0 (signs_and_widths holds)) cell default (pos 0) inside
+      ∙ get_or-map read (enumerate_from 0 (signs_and_widths holds)) cell default (pos 0) (omega (arith, length-pairs))
       ∙ ap read (get_or-enumerate_from 0 (signs_and_widths holds) cell default long)
       ∙ ap (λ (w : ℕ). reading layout bits row w (get_or (signs_and_widths holds) cell (d.signed, d.width)).0 (get_or (signs_and_widths holds) cell (d.signed, d.width)).1) zero_on
       ∙ ap (λ (w : Bool × ℕ). reading layout bits row cell w.0 w.1) pair_is

@@ -1,14 +1,9 @@
 -- A word by its pieces: where its bits stand, and what is read and written there.
-use Rattle.std.proofs.Common.{◌≡◌, ℕ, ℤ, zero, suc, ◌+◌, ◌*◌, ◌-◌, ◌<◌, ◌≤◌, Bool, List, [], length, map, get_or, set, All, refl, sym, ap, ◌∙◌, subst, ⊎_elim, arith}
-use Rattle.std.specs.Int.{bit_at}
-use Rattle.std.proofs.lemmas.List.{length-append, get_or-append_right, get_or-set_same, get_or-set_other, get_or-map, map-set, set-get_or}
-use Rattle.std.proofs.lemmas.Bool.{cases_lt, cases_eq}
-use Rattle.record_dim.specs.LeafTypes.{IsIn}
-use Rattle.places.specs.declared.piece.Piece.{Piece}
+use Rattle.std.specs.Prelude.{◌≡◌, ℕ, ℤ, zero, suc, ◌+◌, ◌*◌, ◌-◌, ◌<◌, ◌≤◌, Bool, List, [], length, map, get_or, set, All, refl}
+use Rattle.record_dim.specs.Std.{sym, ap, ◌∙◌, subst, ⊎_elim, arith, bit_at, length-append, get_or-append_right, get_or-set_same, get_or-set_other, get_or-map, map-set, set-get_or, cases_lt, cases_eq}
+use Rattle.record_dim.specs.Prelude.{IsIn}
 use Rattle.places.specs.declared.piece.Hold.{Hold}
-use Rattle.places.specs.Layout.{Owner}
-use Rattle.places.specs.Image.{number, digit, decoded, entry}
-use Rattle.places.specs.NumbersLaws.{number_same}
+use Rattle.places.specs.Prelude.{Owner, number, digit, decoded, entry, number_same}
 use Rattle.blobs.specs.Bits.{bit_of, bit_in}
 use Rattle.blobs.specs.Turned.{turned_place}
 use Rattle.piece_bits.specs.Inner.Spots.{spots_of, spot_at, bit_at_spot, IsWithin}
@@ -30,8 +25,6 @@ turned_count blob bit (suc n) = grind (arith, length-append, length-spots_in, (t
 turned_spot : (blob bit n k : ℕ) → k < 8 * n → spot_at (spots_of (turned_pieces blob bit n)) k ≡ (blob, bit + turned_place (8 * n) k)
 turned_spot blob bit zero k h = absurd (omega arith)
 turned_spot blob bit (suc n) k h =
-    let front : Piece = record { blob = blob; bit = bit + 8 * n; bits = 8 } in
-    let rest : List Piece = turned_pieces blob bit n in
     ⊎_elim
     (λ (l : k < 8). grind (arith, next_piece))
     (λ (l : 8 ≤ k). grind (arith, get_or-append_right, length-spots_in, (turned_spot blob bit n (k - 8) (omega arith))))

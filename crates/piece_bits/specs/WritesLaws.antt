@@ -1,8 +1,6 @@
 -- One more piece of a value is written into blobs.
-use Rattle.std.proofs.Common.{◌≡◌, ℕ, ◌+◌, ◌-◌, ◌/◌, ◌%◌, ◌^◌, ◌<◌, ◌≤◌, List, [], length, get_or, set, map, sym, ap, ◌∙◌, ⊎_elim, arith}
-use Rattle.std.specs.Int.{bit_at}
-use Rattle.std.proofs.lemmas.List.{get_or-set_same, get_or-set_other, get_or-map, length-map, map-set, set-get_or}
-use Rattle.std.proofs.lemmas.Bool.{cases_lt, cases_eq}
+use Rattle.std.specs.Prelude.{◌≡◌, ℕ, ◌+◌, ◌-◌, ◌/◌, ◌%◌, ◌^◌, ◌<◌, ◌≤◌, List, [], length, get_or, set, map}
+use Rattle.record_dim.specs.Std.{sym, ap, ◌∙◌, ⊎_elim, arith, bit_at, get_or-set_same, get_or-set_other, get_or-map, length-map, map-set, set-get_or, cases_lt, cases_eq}
 use Rattle.places.specs.declared.piece.Piece.{Piece}
 use Rattle.blobs.specs.Bits.{bit_of, bit_in}
 use Rattle.blobs.specs.BytesLaws.{bit_of_part}
@@ -49,9 +47,8 @@ module _ (start blobs : List (List ℕ)) (pieces : List Piece) (i done value : �
       ⊎_elim (λ (l : p < piece.bit). moved ∙ before p l ∙ sym there)
       (λ (l : piece.bit ≤ p).
       ⊎_elim (λ (m : p < piece.bit + piece.bits).
-      let back : piece.bit + (p - piece.bit) ≡ p = omega arith in
       let spot : spot_at (spots_of pieces) (done + (p - piece.bit)) ≡ (b, p) =
-      next.at (p - piece.bit) (omega arith) ∙ ap (λ (w : ℕ). (piece.blob, w)) back ∙ ap (λ (w : ℕ). (w, p)) (sym same) in
+      next.at (p - piece.bit) (omega arith) ∙ ap (λ (w : ℕ). (piece.blob, w)) (omega arith) ∙ ap (λ (w : ℕ). (w, p)) (sym same) in
       absurd (none (p - piece.bit) (omega arith) spot))
       (λ (m : piece.bit + piece.bits ≤ p). moved ∙ after p m ∙ sym there)
       (cases_lt p (piece.bit + piece.bits)))
@@ -65,9 +62,7 @@ module _ (start blobs : List (List ℕ)) (pieces : List Piece) (i done value : �
       ⊎_elim (λ (m : k < done). grind (arith, stands))
       (λ (m : done ≤ k).
       let back : done + (k - done) ≡ k = omega arith in
-      let at : spot_at (spots_of pieces) k ≡ (piece.blob, piece.bit + (k - done)) =
-      ap (spot_at (spots_of pieces)) (sym back) ∙ next.at (k - done) (omega arith) in
-      ap (λ (w : ℕ × ℕ). bit_in (set blobs piece.blob new) w.0 w.1) at
+      ap (λ (w : ℕ × ℕ). bit_in (set blobs piece.blob new) w.0 w.1) (ap (spot_at (spots_of pieces)) (sym back) ∙ next.at (k - done) (omega arith))
       ∙ here (piece.bit + (k - done)) ∙ inside (k - done) (omega arith)
       ∙ ap (λ (w : ℕ). bit_at w (k - done)) part_is ∙ bit_of_part value done piece.bits (k - done) (omega arith) ∙ ap (bit_at value) back)
       (cases_lt k done)

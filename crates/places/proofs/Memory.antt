@@ -1,11 +1,8 @@
 -- Writing and reading cells under a layout with the laws.
-use Rattle.std.proofs.Common.{◌≡◌, ℕ, ◌<◌, ◌≤◌, ℤ, List, map, length, slice_index, ap, ◌∙◌, arith}
-use Rattle.std.proofs.lemmas.Bool.{cases_Bool, cond-true, cond-false, and_from, and_parts, eq-eqb, eqb-true}
-use Rattle.std.proofs.lemmas.List.{get_or-map, length-map}
-use Rattle.std.proofs.lemmas.Option.{slice_get_within, get_or_from_slice_get}
+use Rattle.record_dim.specs.Std.{◌≡◌, ℕ, ◌<◌, ℤ, List, map, length, slice_index, ap, ◌∙◌, arith, cases_Bool, cond-true, cond-false, and_from, and_parts, eq-eqb, eqb-true, get_or-map, length-map, slice_get_within, get_or_from_slice_get}
 use Rattle.places.specs.Layout.{Owner, Bit, owner_at}
-use Rattle.places.specs.Image.{digit, number, decoded, bit_owned, reading}
-use Rattle.places.specs.Lawful.{IsBitOf, IsLaidOut}
+use Rattle.places.specs.Image.{digit, number, decoded, bit_owned}
+use Rattle.places.specs.Lawful.{IsLaidOut}
 use Rattle.places.specs.Writes.{written_bit, WritesKeepOthers, WritesReadBack}
 use Rattle.places.specs.declared.piece.Hold.{Hold}
 use Rattle.places.specs.NumbersLaws.{number_same, decoded_digits}
@@ -38,19 +35,13 @@ writes_read_back layout slots holds laid slot cell hold value old new slot_in fo
     let size : length widths ≡ length holds = length-map holds (λ (h : Hold). h.width) in
     let width : slice_index widths cell ≡ hold.width =
     get_or-map (λ (h : Hold). h.width) holds cell hold 0 cell_in ∙ ap (λ (h : Hold). h.width) (get_or_from_slice_get holds cell hold hold found) in
-    let low : cell < length widths = omega arith in
-    let wide : 1 ≤ slice_index widths cell = laid.wide cell 0 low in
     let bit : (k : ℕ) → k < hold.width → bit_owned (Bit slot cell k) layout new ≡ digit value k =
     λ k l.
-    let stored : IsBitOf slots widths slot cell k = record { slot_in = slot_in; cell_in = low; bit_in = omega arith } in
-    let at = laid.there slot cell k stored in
+    let at = laid.there slot cell k (record { slot_in = slot_in; cell_in = (omega arith); bit_in = omega arith }) in
     owned_is layout slots widths new at.0 at.1 slot cell k laid at.2
     ∙ write at.0 at.1
     ∙ ap (λ (o : Owner). written_bit o slot cell value (old at.0 at.1)) at.2
     ∙ written_here slot cell k value (old at.0 at.1) in
     let digits : number (λ k. bit_owned (Bit slot cell k) layout new) hold.width ≡ number (digit value) hold.width =
     number_same (λ k. bit_owned (Bit slot cell k) layout new) (digit value) hold.width bit in
-    let whole : reading layout new slot cell hold.signed hold.width ≡ decoded hold.signed hold.width (number (digit value) hold.width) =
-    ap (decoded hold.signed hold.width) digits in
-    let back : decoded hold.signed hold.width (number (digit value) hold.width) ≡ value = decoded_digits hold.signed hold.width value (omega arith) inside in
-    whole ∙ back
+    (ap (decoded hold.signed hold.width) digits) ∙ (decoded_digits hold.signed hold.width value (omega arith) inside)

@@ -1,27 +1,19 @@
 -- Where pieces begin: within their type, and as the code works it out.
-use Rattle.std.proofs.Common.{◌≡◌, ℕ, ◌+◌, ◌-◌, ◌*◌, ◌/◌, ◌%◌, ◌^◌, ◌<◌, List, length, get_or, All, w64, bit_and, sym, ap, ◌∙◌, subst, arith}
-use Rattle.std.specs.Int.{trailing_zeros}
-use Rattle.std.proofs.Math.Nat.{mod-lt, mod-eq_of_lt}
-use Rattle.std.proofs.Math.Pow.{pow-lt}
-use Rattle.std.proofs.lemmas.List.{length-map, get_or-map}
-use Rattle.std.proofs.lemmas.Nat.{and_mask}
-use Rattle.std.proofs.lemmas.Nat.Bits.{bit_at-trailing_zeros}
+use Rattle.std.specs.Prelude.{◌≡◌, ℕ, ◌+◌, ◌-◌, ◌*◌, ◌/◌, ◌%◌, ◌^◌, ◌<◌, List, length, get_or, All, bit_and}
+use Rattle.record_dim.specs.Std.{w64, sym, ap, ◌∙◌, subst, arith, trailing_zeros, mod-eq_of_lt, pow-lt, length-map, get_or-map, and_mask, bit_at-trailing_zeros, rules}
 use Rattle.places.specs.Layout.{Owner}
 use Rattle.places.specs.Lawful.{IsPiece, IsLocated}
 use Rattle.places.specs.PieceRules.{begin_in, piece_in, pieces_in}
 use Rattle.places.specs.declared.rule.PieceRule.{PieceRule}
-use Rattle.std.proofs.Common.{rules}
 
 -- pieces that are places of a layout begin at numbers that fit their type
 pub begins_fit : (layout : List (List Owner)) (s c w slot : ℕ) (rules : List PieceRule) → IsLocated layout s c w (pieces_in rules slot)
     → All (λ rule. begin_in rule slot < 2 ^ 64) rules
 begins_fit layout s c w slot rules located = λ k d inside.
     let size : length (pieces_in rules slot) ≡ length rules = length-map rules (λ (rule : PieceRule). piece_in rule slot) in
-    let each : IsPiece layout (get_or (pieces_in rules slot) k (piece_in d slot)) = located.each k (piece_in d slot) (omega arith) in
     let same : get_or (pieces_in rules slot) k (piece_in d slot) ≡ piece_in (get_or rules k d) slot =
     get_or-map (λ (rule : PieceRule). piece_in rule slot) rules k d (piece_in d slot) inside in
-    let here : IsPiece layout (piece_in (get_or rules k d) slot) = subst (IsPiece layout) same each in
-    let bound : begin_in (get_or rules k d) slot + (get_or rules k d).bits < 2 ^ 64 = here.bound in
+    let here : IsPiece layout (piece_in (get_or rules k d) slot) = subst (IsPiece layout) same (located.each k (piece_in d slot) (omega arith)) in
     omega arith
 
 -- in blocks of one slot, slots follow each other a block apart
@@ -40,9 +32,4 @@ powered slot lanes power block e = ap (λ (n : ℕ). slot / n * block) (sym e)
 pub power_is : (lanes : ℕ) → 0 < lanes → lanes ≡ (1 * 2 ^ trailing_zeros w64 lanes) % 2 ^ 64 → lanes ≡ 2 ^ trailing_zeros w64 lanes
 power_is lanes some e =
     let power : ℕ = trailing_zeros w64 lanes in
-    let below : (1 * 2 ^ power) % 2 ^ 64 < 2 ^ 64 = mod-lt (1 * 2 ^ power) (omega arith) in
-    let small : lanes < 2 ^ 64 = omega arith in
-    let low : power < 64 = (bit_at-trailing_zeros w64 lanes some small).0 in
-    let fits : 2 ^ power < 2 ^ 64 = pow-lt low in
-    let one : 1 * 2 ^ power ≡ 2 ^ power = omega arith in
-    e ∙ ap (λ (n : ℕ). n % 2 ^ 64) one ∙ mod-eq_of_lt fits
+    e ∙ ap (λ (n : ℕ). n % 2 ^ 64) (omega arith) ∙ mod-eq_of_lt (pow-lt ((bit_at-trailing_zeros w64 lanes some (omega arith)).0))

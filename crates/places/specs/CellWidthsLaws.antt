@@ -1,7 +1,7 @@
 -- The widths of cells that are stored whole, as the laws and as the code write them.
-use Rattle.std.proofs.Common.{◌≡◌, ℕ, ◌<◌, ◌≤◌, List, map, length, get_or, slice_index, All, arith}
-use Rattle.std.proofs.lemmas.List.{get_or-map, length-map}
-use Rattle.record_dim.specs.LeafTypes.{width_of}
+use Rattle.std.specs.Prelude.{◌≡◌, ℕ, ◌<◌, ◌≤◌, List, map, length, get_or, slice_index, All}
+use Rattle.record_dim.specs.Std.{arith, get_or-map, length-map}
+use Rattle.record_dim.specs.Prelude.{width_of}
 use Rattle.places.specs.Layout.{cells_of}
 use Rattle.places.specs.Holds.{widths_of, full_holds, hold_of}
 use Rattle.places.specs.declared.piece.Cell.{Cell}

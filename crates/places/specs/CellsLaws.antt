@@ -1,7 +1,6 @@
 -- Lists of cells: which cells stand in them.
-use Rattle.std.proofs.Common.{◌≡◌, ℕ, zero, suc, refl, ◌+◌, ◌-◌, ◌<◌, ◌≤◌, inl, inr, ⊎_elim, List, [], ◌∷◌, length, get_or, slice_index, take, sym, subst, arith}
-use Rattle.std.specs.List.{enumerate_from}
-use Rattle.std.proofs.lemmas.Bool.{cases_eq}
+use Rattle.std.specs.Prelude.{◌≡◌, ℕ, zero, suc, refl, ◌+◌, ◌-◌, ◌<◌, ◌≤◌, List, [], ◌∷◌, length, get_or, slice_index, take}
+use Rattle.record_dim.specs.Std.{inl, inr, ⊎_elim, sym, subst, arith, enumerate_from, cases_eq}
 use Rattle.places.specs.Layout.{cells_of}
 use Rattle.places.specs.Lawful.{IsBitOf}
 use Rattle.places.specs.ExactLaws.{Member, Apart}
@@ -43,8 +42,7 @@ member_cells widths c w h = grind (arith, member_enumerate)
 
 pub cells_member : (widths : List ℕ) (c : ℕ) → c < length widths → Member (cells_of widths) c (slice_index widths c)
 cells_member widths c inside =
-    let place : c - 0 ≡ c = omega arith in
-    subst (λ (i : ℕ). Member (cells_of widths) c (get_or widths i 0)) place (enumerate_member 0 widths c (omega arith) (omega arith))
+    subst (λ (i : ℕ). Member (cells_of widths) c (get_or widths i 0)) (omega arith) (enumerate_member 0 widths c (omega arith) (omega arith))
 
 -- the bits of the slots' cells, as the combinators say it
 pub bit_of_cells : (slots : ℕ) (widths : List ℕ) (s c k : ℕ) → s < slots → (w : ℕ) × Member (cells_of widths) c w × (k < w) → IsBitOf slots widths s c k
@@ -55,13 +53,13 @@ cells_of_bit slots widths s c k h = (slice_index widths c, cells_member widths c
 
 -- the cell at a place of a list
 pub member_at : (cells : List (ℕ × ℕ)) (i : ℕ) (d : ℕ × ℕ) → i < length cells → Member cells (get_or cells i d).0 (get_or cells i d).1
-member_at [] i d l = let none : ⊥ = omega arith in absurd none
+member_at [] i d l = absurd (omega arith)
 member_at (cell ∷ cells) zero d l = inl (refl, refl)
 member_at (cell ∷ cells) (suc i) d l = inr (member_at cells i d (omega arith))
 
 -- the cell at a place stands not before it
 pub fresh_at : (cells : List (ℕ × ℕ)) (i : ℕ) (d : ℕ × ℕ) (v : ℕ) → Apart cells → i < length cells → Member (take i cells) (get_or cells i d).0 v → ⊥
-fresh_at [] i d v apart l m = let none : ⊥ = omega arith in none
+fresh_at [] i d v apart l m = omega arith
 fresh_at (cell ∷ cells) zero d v apart l m = m
 fresh_at (cell ∷ cells) (suc i) d v apart l m =
     ⊎_elim

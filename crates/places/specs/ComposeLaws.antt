@@ -1,7 +1,6 @@
 -- 'Exactly once' over the blobs of a layout: blobs are joined, owners are renamed.
-use Rattle.std.proofs.Common.{◌≡◌, ℕ, ◌+◌, ◌-◌, ◌%◌, ◌<◌, ◌≤◌, ◌⊎◌, ⊎_elim, List, [], ◌∷◌, ◌++◌, map, length, get_or, All, sym, ap, ◌∙◌, arith}
-use Rattle.std.proofs.lemmas.Bool.{cases_lt}
-use Rattle.std.proofs.lemmas.List.{get_or_append_left, get_or-append_right, get_or-append-add, get_or_past, get_or-map, length-map}
+use Rattle.std.specs.Prelude.{◌≡◌, ℕ, ◌+◌, ◌-◌, ◌%◌, ◌<◌, ◌≤◌, ◌⊎◌, List, [], ◌∷◌, ◌++◌, map, length, get_or, All}
+use Rattle.record_dim.specs.Std.{⊎_elim, sym, ap, ◌∙◌, arith, cases_lt, get_or_append_left, get_or-append_right, get_or-append-add, get_or_past, get_or-map, length-map}
 use Rattle.places.specs.Layout.{Owner, Pad, Bit, owner_at}
 use Rattle.places.specs.Rules.{renamed, relabel}
 use Rattle.places.specs.Lawful.{IsBitOf, IsLaidOut}
@@ -116,10 +115,6 @@ relabel_lays_out {In} {Out} name slot cell bit layout back h =
     λ b p s' c' k' e.
     let o = old b p s' c' k' e in
     let f = back.back o.0 o.1 o.2 s' c' k' (h.owned b p o.0 o.1 o.2 o.3) o.4 in
-    let one : owner_at layout b p ≡ Bit o.0 o.1 o.2 = o.3 in
-    let x : o.0 ≡ slot s' c' k' = f.0 in
-    let y : o.1 ≡ cell s' c' k' = f.1 in
-    let z : o.2 ≡ bit s' c' k' = f.2 in
     cc in
     record {
       owned = λ b p s' c' k' e.

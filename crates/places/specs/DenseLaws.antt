@@ -1,6 +1,6 @@
 -- Pieces that lie one behind another.
-use Rattle.std.proofs.Common.{◌≡◌, ℕ, ◌+◌, ◌*◌, ◌/◌, ◌%◌, ◌<◌, sym, ap, ◌∙◌, arith}
-use Rattle.std.proofs.lemmas.Nat.{div-mul-add, div-add-mod'}
+use Rattle.std.specs.Prelude.{◌≡◌, ℕ, ◌+◌, ◌*◌, ◌/◌, ◌%◌, ◌<◌}
+use Rattle.record_dim.specs.Std.{sym, ap, ◌∙◌, arith, div-mul-add, div-add-mod'}
 use Rattle.places.specs.SlotsLaws.{times_bytes}
 use Rattle.places.specs.PieceRules.{begin_in, IsDense}
 use Rattle.places.specs.BeginsLaws.{one_lane}
@@ -21,8 +21,7 @@ dense_array rule lanes one step base bits = record {
       grind (arith, begin_alone);
   bytes = λ slot l.
       let block : (slot * rule.block) % 8 ≡ 0 = times_bytes slot rule.block (ap (λ (n : ℕ). n % 8) step ∙ bits) in
-      let all : (rule.base + slot * rule.block) % 8 ≡ 0 = omega arith in
-      ap (λ (n : ℕ). n % 8) (begin_alone rule slot one) ∙ all;
+      ap (λ (n : ℕ). n % 8) (begin_alone rule slot one) ∙ (omega arith);
 }
 
 -- a slot of the same block
@@ -39,13 +38,11 @@ dense_lanes rule lanes same step base block bits = record {
       let begins : (s : ℕ) → begin_in rule s ≡ rule.base + s / lanes * rule.block + s % lanes * rule.lane = λ s. ap (λ (n : ℕ). rule.base + s / n * rule.block + s % n * rule.lane) same in
       let blocks : (slot + j) / lanes * rule.block ≡ slot / lanes * rule.block = ap (λ (n : ℕ). n * rule.block) (block_same slot j lanes l) in
       let moved : (slot + j) % lanes * rule.lane ≡ (slot % lanes + j) * rule.lane = ap (λ (n : ℕ). n * rule.lane) (lane_more slot j lanes l) in
-      let product : (slot % lanes + j) * rule.lane ≡ slot % lanes * rule.lane + j * rule.lane = grind arith in
       let last : j * rule.lane ≡ j * rule.bits = ap (λ (n : ℕ). j * n) step in
       let all : rule.base + (slot + j) / lanes * rule.block + (slot + j) % lanes * rule.lane ≡ rule.base + slot / lanes * rule.block + slot % lanes * rule.lane + j * rule.bits = omega arith in
       begins (slot + j) ∙ all ∙ ap (λ (n : ℕ). n + j * rule.bits) (sym (begins slot));
   bytes = λ slot l.
       let one : (slot / lanes * rule.block) % 8 ≡ 0 = times_bytes (slot / lanes) rule.block block in
       let two : (slot % lanes * rule.lane) % 8 ≡ 0 = times_bytes (slot % lanes) rule.lane (ap (λ (n : ℕ). n % 8) step ∙ bits) in
-      let all : (rule.base + slot / lanes * rule.block + slot % lanes * rule.lane) % 8 ≡ 0 = omega arith in
-      ap (λ (n : ℕ). (rule.base + slot / n * rule.block + slot % n * rule.lane) % 8) same ∙ all;
+      ap (λ (n : ℕ). (rule.base + slot / n * rule.block + slot % n * rule.lane) % 8) same ∙ (omega arith);
 }

@@ -1,9 +1,6 @@
 -- 'Exactly once', put together along the concatenations that make a layout, with no arithmetic on places.
-use Rattle.std.proofs.Common.{◌≡◌, ℕ, zero, suc, ◌+◌, ◌-◌, ◌<◌, ◌≤◌, ◌⊎◌, inl, inr, ⊎_elim, List, [], ◌∷◌, ◌++◌, length, replicate, get_or, refl, sym, ◌∙◌, subst, arith}
-use Rattle.std.specs.List.{flat_map, range_with_len}
-use Rattle.std.proofs.lemmas.Bool.{cases_lt}
-use Rattle.std.proofs.lemmas.List.{get_or_append_left, get_or-append_right, get_or-append-add, get_or_past, get_or-replicate, length-replicate}
-use Rattle.std.proofs.lemmas.List.FromFn.{get_or-map-range_with_len, length-map-range_with_len}
+use Rattle.std.specs.Prelude.{◌≡◌, ℕ, zero, suc, ◌+◌, ◌-◌, ◌<◌, ◌≤◌, ◌⊎◌, List, [], ◌∷◌, ◌++◌, length, replicate, get_or, refl}
+use Rattle.record_dim.specs.Std.{inl, inr, ⊎_elim, sym, ◌∙◌, subst, arith, flat_map, range_with_len, cases_lt, get_or_append_left, get_or-append_right, get_or-append-add, get_or_past, get_or-replicate, length-replicate, get_or-map-range_with_len, length-map-range_with_len}
 use Rattle.places.specs.Layout.{Owner, Pad, Bit, field}
 
 -- a list of owners has exactly the bits with `In`, each at one place
@@ -44,7 +41,7 @@ has_field slot cell width =
     let three : k ≡ p = cc in
     (one, two, three, low) in
     record {
-      owned = λ p s c k e. let f = place p s c k e in (f.0, f.1, let low : p < width = f.3 in let same : k ≡ p = f.2 in omega arith);
+      owned = λ p s c k e. let f = place p s c k e in (f.0, f.1, omega arith);
       once = λ p q s c k e e'. let one : k ≡ p = (place p s c k e).2 in let two : k ≡ q = (place q s c k e').2 in omega arith;
       there = λ s c k (h : (s ≡ slot) × (c ≡ cell) × (k < width)).
           let here : get_or (field slot (cell, width)) k Pad ≡ Bit slot cell k = field_at slot cell width k h.2 in
@@ -90,8 +87,7 @@ has_append {In} {Out} {xs} {ys} left right apart = record {
       ⊎_elim
       (λ (i : In s c k).
       let at = left.there s c k i in
-      let inside : at.0 < length xs = within xs at.0 s c k at.1 in
-      (at.0, get_or_append_left xs ys Pad at.0 inside ∙ at.1))
+      (at.0, get_or_append_left xs ys Pad at.0 (within xs at.0 s c k at.1) ∙ at.1))
       (λ (i : Out s c k).
       let at = right.there s c k i in
       (length xs + at.0, get_or-append-add xs ys at.0 Pad ∙ at.1))
@@ -112,9 +108,8 @@ pub has_range : (f : ℕ → List Owner) (In : ℕ → ℕ → ℕ → ℕ → T
     → Has (λ s c k. (i : ℕ) × (a ≤ i) × (i < a + n) × In i s c k) (flat_map f (range_with_len a n))
 has_range f In a zero each apart = grind (arith, has_same, has_none)
 has_range f In a (suc n) each apart =
-    let rest = has_range f In (a + 1) n (λ i low high. each i (omega arith) (omega arith)) apart in
     has_same
-    (has_append (each a (omega arith) (omega arith)) rest
+    (has_append (each a (omega arith) (omega arith)) (has_range f In (a + 1) n (λ i low high. each i (omega arith) (omega arith)) apart)
     (λ s c k (first : In a s c k) (later : (i : ℕ) × (a + 1 ≤ i) × (i < a + 1 + n) × In i s c k).
     grind arith))
     (λ s c k (h : In a s c k ⊎ ((i : ℕ) × (a + 1 ≤ i) × (i < a + 1 + n) × In i s c k)).

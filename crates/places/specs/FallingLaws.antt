@@ -1,7 +1,6 @@
 -- Cells by falling width: the same cells, each once.
-use Rattle.std.proofs.Common.{◌≡◌, ℕ, ◌<◌, Bool, true, false, ◌==◌, ◌⊎◌, inl, inr, ⊎_elim, List, [], ◌∷◌, ◌++◌, filter, refl, sym, subst, arith, lit<}
-use Rattle.std.specs.List.{flat_map}
-use Rattle.std.proofs.lemmas.Bool.{cases_Bool, cond-true, cond-false, eqb-true, eq-eqb}
+use Rattle.std.specs.Prelude.{◌≡◌, ℕ, ◌<◌, Bool, true, false, ◌==◌, ◌⊎◌, List, [], ◌∷◌, ◌++◌, filter, refl}
+use Rattle.record_dim.specs.Std.{inl, inr, ⊎_elim, sym, subst, arith, lit<, flat_map, cases_Bool, cond-true, cond-false, eqb-true, eq-eqb}
 use Rattle.places.specs.Layout.{falling}
 use Rattle.places.specs.ExactLaws.{Member, Apart}
 use Rattle.places.specs.WidthsLaws.{IsWidth}
@@ -13,22 +12,19 @@ member_filter p (cell ∷ cells) c w m =
     let Stands : List (ℕ × ℕ) → Type 0 = λ kept. Member kept c w in
     ⊎_elim
     (λ (yes : p cell ≡ true).
-    let here : Member (cell ∷ filter p cells) c w = subst Stands (cond-true (p cell) (cell ∷ filter p cells) (filter p cells) yes) m in
     ⊎_elim
     (λ (x : (cell.0 ≡ c) × (cell.1 ≡ w)).
     grind arith)
     (λ (x : Member (filter p cells) c w). let r = member_filter p cells c w x in (inr r.0, r.1))
-    here)
+    (subst Stands (cond-true (p cell) (cell ∷ filter p cells) (filter p cells) yes) m))
     (λ (other : p cell ≡ false).
-    let later : Member (filter p cells) c w = subst Stands (cond-false (p cell) (cell ∷ filter p cells) (filter p cells) other) m in
-    let r = member_filter p cells c w later in
+    let r = member_filter p cells c w (subst Stands (cond-false (p cell) (cell ∷ filter p cells) (filter p cells) other) m) in
     (inr r.0, r.1))
     (cases_Bool (p cell))
 
 pub filter_member : (p : ℕ × ℕ → Bool) (cells : List (ℕ × ℕ)) (c w : ℕ) → Member cells c w → p (c, w) ≡ true → Member (filter p cells) c w
 filter_member p [] c w m passes = absurd m
 filter_member p (cell ∷ cells) c w m passes =
-    let Stands : List (ℕ × ℕ) → Type 0 = λ kept. Member kept c w in
     ⊎_elim
     (λ (x : (cell.0 ≡ c) × (cell.1 ≡ w)).
     grind (arith, cond-true))
@@ -127,16 +123,15 @@ fresh_nil : (x : ℕ) → Listed [] x → ⊥
 fresh_nil x l = l
 
 fresh_cons : (y : ℕ) (xs : List ℕ) (x : ℕ) → y < x → (Listed xs x → ⊥) → Listed (y ∷ xs) x → ⊥
-fresh_cons y xs x small fresh l = ⊎_elim (λ (e : y ≡ x). let none : ⊥ = omega arith in none) fresh l
+fresh_cons y xs x small fresh l = ⊎_elim (λ (e : y ≡ x). omega arith) fresh l
 
 -- cells of whole-byte widths by falling width
 pub apart_falling : (cells : List (ℕ × ℕ)) → Apart cells → Apart (falling cells)
 apart_falling cells apart =
-    let one : Listed (8 ∷ []) 16 → ⊥ = fresh_cons 8 [] 16 (lit< tt) (fresh_nil 16) in
     let two : Listed (16 ∷ 8 ∷ []) 32 → ⊥ = fresh_cons 16 (8 ∷ []) 32 (lit< tt) (fresh_cons 8 [] 32 (lit< tt) (fresh_nil 32)) in
     let three : Listed (32 ∷ 16 ∷ 8 ∷ []) 64 → ⊥ =
     fresh_cons 32 (16 ∷ 8 ∷ []) 64 (lit< tt) (fresh_cons 16 (8 ∷ []) 64 (lit< tt) (fresh_cons 8 [] 64 (lit< tt) (fresh_nil 64))) in
-    apart_picked cells (64 ∷ 32 ∷ 16 ∷ 8 ∷ []) apart (three, (two, (one, (fresh_nil 8, tt))))
+    apart_picked cells (64 ∷ 32 ∷ 16 ∷ 8 ∷ []) apart (three, (two, ((fresh_cons 8 [] 16 (lit< tt) (fresh_nil 16)), (fresh_nil 8, tt))))
 
 pub member_falling : (cells : List (ℕ × ℕ)) (c w : ℕ) → Member (falling cells) c w → Member cells c w
 member_falling cells c w m = (member_picked cells (64 ∷ 32 ∷ 16 ∷ 8 ∷ []) c w m).0

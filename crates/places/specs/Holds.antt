@@ -1,6 +1,6 @@
 -- How cells are stored, and the limits of a mapping.
 use Rattle.std.specs.Prelude.{ℕ, ◌*◌, ◌^◌, ◌<◌, ◌⊎◌, List, [], ◌∷◌, length, map, min, sum_by}
-use Rattle.record_dim.specs.LeafTypes.{width_of, is_signed}
+use Rattle.record_dim.specs.Prelude.{width_of, is_signed}
 use Rattle.record_dim.specs.declared.leaf_type.LeafType.{LeafType}
 use Rattle.places.specs.Layout.{Owner}
 use Rattle.places.specs.declared.piece.Cell.{Cell}

@@ -1,6 +1,6 @@
 -- The bits that a table leaves under a layout, and the number that is read off them.
 use Rattle.std.specs.Prelude.{ℕ, zero, suc, ◌+◌, ◌-◌, ◌*◌, ◌/◌, ◌%◌, ◌^◌, ◌≡◌, ℤ, pos, negsuc, ◌-ℤ◌, Bool, true, false, List, [], ◌∷◌, map, slice_index_or, if◌then◌else◌, ◌==◌, ◌&&◌}
-use Rattle.std.specs.List.{range_with_len, enumerate_from}
+use Rattle.record_dim.specs.Std.{range_with_len, enumerate_from}
 use Rattle.places.specs.Layout.{Owner, Pad, Bit, owner_at}
 
 -- binary digit k of a whole number: floor(value / 2^k) mod 2 (two's complement)

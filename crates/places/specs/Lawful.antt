@@ -1,6 +1,6 @@
 -- What a layout and its places keep: the laws that every layer above a mapping stands on.
 use Rattle.std.specs.Prelude.{ℕ, ◌+◌, ◌%◌, ◌^◌, ◌<◌, ◌≤◌, ◌≡◌, List, [], length, map, All, slice_index, slice_index_or}
-use Rattle.std.specs.List.{flat_map, range_with_len}
+use Rattle.record_dim.specs.Std.{flat_map, range_with_len}
 use Rattle.places.specs.Layout.{Owner, Bit, owner_at, field}
 use Rattle.places.specs.declared.piece.Piece.{Piece}
 

@@ -1,7 +1,7 @@
 -- What a layout is, and the layouts of the base mappings, each made by concatenation alone.
 -- (LLAMA, Gruber et al. 2023, on mappings; the choices that it leaves open are this project's.)
 use Rattle.std.specs.Prelude.{ℕ, ◌+◌, ◌-◌, ◌*◌, ◌/◌, ◌%◌, List, [], ◌∷◌, ◌++◌, length, map, filter, max, fold, replicate, slice_index_or, if◌then◌else◌, nat_lt, ◌==◌}
-use Rattle.std.specs.List.{flat_map, range_with_len, enumerate_from}
+use Rattle.record_dim.specs.Std.{flat_map, range_with_len, enumerate_from}
 
 -- who owns one bit of a blob: nobody, or bit `bit` of cell `cell` in slot `slot`
 pub data Owner : Type 0 where

@@ -22,3 +22,4 @@ pub mod WidthsLaws
 pub mod PieceRules
 pub mod BeginsLaws
 pub mod DenseLaws
+pub mod Prelude

@@ -1,18 +1,13 @@
 -- Numbers below 2^n and their n binary digits, and values of a sign and a width and theirs.
-use Rattle.std.proofs.Common.{◌≡◌, ℕ, zero, suc, ◌+◌, ◌*◌, ◌-◌, ◌/◌, ◌%◌, ◌^◌, ◌<◌, ◌≤◌, Bool, true, false, ℤ, pos, negsuc, ◌-ℤ◌, ⊎_elim, refl, sym, ap, ◌∙◌, arith}
-use Rattle.std.proofs.lemmas.Nat.{pow_pos, pow-add, shr-shr, le-div, mod-pow-add}
-use Rattle.std.proofs.lemmas.Nat.Bits.{ones_shr}
-use Rattle.std.proofs.Math.Nat.{mod-eq_of_lt, div-eq_of_lt}
-use Rattle.std.proofs.lemmas.Int.{ints}
-use Rattle.std.proofs.lemmas.Bool.{cases_lt, cond-true, cond-false, eq-eqb, ne_eqb}
-use Rattle.record_dim.specs.LeafTypes.{IsIn}
+use Rattle.std.specs.Prelude.{◌≡◌, ℕ, zero, suc, ◌+◌, ◌*◌, ◌-◌, ◌/◌, ◌%◌, ◌^◌, ◌<◌, ◌≤◌, Bool, true, false, ℤ, pos, negsuc, ◌-ℤ◌, refl}
+use Rattle.record_dim.specs.Std.{⊎_elim, sym, ap, ◌∙◌, arith, pow_pos, pow-add, shr-shr, le-div, mod-pow-add, ones_shr, mod-eq_of_lt, div-eq_of_lt, ints, cases_lt, cond-true, cond-false, eq-eqb, ne_eqb}
+use Rattle.record_dim.specs.Prelude.{IsIn}
 use Rattle.places.specs.Image.{number, digit, decoded}
 
 -- only the digits below the width count
 pub number_same : (f g : ℕ → ℕ) (n : ℕ) → ((k : ℕ) → k < n → f k ≡ g k) → number f n ≡ number g n
 number_same f g zero same = refl
 number_same f g (suc n) same =
-    let first : f 0 ≡ g 0 = same 0 (omega arith) in
     let rest : number (λ k. f (k + 1)) n ≡ number (λ k. g (k + 1)) n =
     number_same (λ k. f (k + 1)) (λ k. g (k + 1)) n (λ k l. same (k + 1) (omega arith)) in
     omega arith
@@ -33,23 +28,17 @@ number_split f (suc m) n =
     let high : ℕ = number (λ k. f (suc m + k)) n in
     let moved : 2 ^ m * number (λ k. f (m + k + 1)) n ≡ 2 ^ m * high = ap (λ (w : ℕ). 2 ^ m * w) same in
     let power : 2 ^ suc m * high ≡ 2 * 2 ^ m * high = ap (λ (w : ℕ). w * high) (ap (λ (w : ℕ). 2 ^ w) (let e : suc m ≡ m + 1 = omega arith in e) ∙ pow_next m) in
-    let grouped : 2 * 2 ^ m * high ≡ 2 * (2 ^ m * high) = omega arith in
     omega arith
 
 -- digits make a number of their width
 pub number_lt : (f : ℕ → ℕ) (n : ℕ) → ((k : ℕ) → k < n → f k < 2) → number f n < 2 ^ n
 number_lt f zero small = omega arith
 number_lt f (suc n) small =
-    let first : f 0 < 2 = small 0 (omega arith) in
     let rest : number (λ k. f (k + 1)) n < 2 ^ n = number_lt (λ k. f (k + 1)) n (λ k l. small (k + 1) (omega arith)) in
-    let power : 2 ^ suc n ≡ 2 * 2 ^ n = ap (λ (w : ℕ). 2 ^ w) (let e : suc n ≡ n + 1 = omega arith in e) ∙ pow_next n in
     omega arith
 
 halves : (v k : ℕ) → v / 2 ^ (k + 1) ≡ v / 2 / 2 ^ k
-halves v k =
-    let turned : k + 1 ≡ 1 + k = omega arith in
-    let split : v / 2 ^ 1 / 2 ^ k ≡ v / 2 ^ (1 + k) = shr-shr v 1 k in
-    ap (λ (w : ℕ). v / 2 ^ w) turned ∙ sym split
+halves v k = ap (λ (w : ℕ). v / 2 ^ w) (omega arith) ∙ sym (shr-shr v 1 k)
 
 -- the number of a number's own digits
 pub number_bits : (v n : ℕ) → number (λ k. (v / 2 ^ k) % 2) n ≡ v % 2 ^ n
@@ -59,7 +48,7 @@ number_bits v (suc n) =
     let same : number (λ k. (v / 2 ^ (k + 1)) % 2) n ≡ number (λ k. (v / 2 / 2 ^ k) % 2) n =
     number_same (λ k. (v / 2 ^ (k + 1)) % 2) (λ k. (v / 2 / 2 ^ k) % 2) n (λ k l. ap (λ (w : ℕ). w % 2) (halves v k)) in
     let split : v % 2 ^ (n + 1) ≡ (v / 2 ^ 1 % 2 ^ n) * 2 ^ 1 + v % 2 ^ 1 = mod-pow-add v n 1 in
-    let turned : v % 2 ^ suc n ≡ v % 2 ^ (n + 1) = ap (λ (w : ℕ). v % 2 ^ w) (let e : suc n ≡ n + 1 = omega arith in e) in
+    let turned : v % 2 ^ suc n ≡ v % 2 ^ (n + 1) = ap (λ (w : ℕ). v % 2 ^ w) (omega arith) in
     omega arith
 
 -- digit k of the number that digits make
@@ -67,24 +56,19 @@ pub bit_number : (f : ℕ → ℕ) (n k : ℕ) → ((j : ℕ) → j < n → f j 
 bit_number f zero k small inside = absurd (omega arith)
 bit_number f (suc n) zero small inside = grind arith
 bit_number f (suc n) (suc k) small inside =
-    let first : f 0 < 2 = small 0 (omega arith) in
     let high : ℕ = number (λ k. f (k + 1)) n in
-    let half : (f 0 + 2 * high) / 2 ≡ high = omega arith in
     let rest : (high / 2 ^ k) % 2 ≡ f (k + 1) =
     bit_number (λ k. f (k + 1)) n k (λ j l. small (j + 1) (omega arith)) (omega arith) in
     let power : (f 0 + 2 * high) / 2 ^ suc k ≡ (f 0 + 2 * high) / 2 / 2 ^ k =
-    ap (λ (w : ℕ). (f 0 + 2 * high) / 2 ^ w) (let e : suc k ≡ k + 1 = omega arith in e) ∙ halves (f 0 + 2 * high) k in
-    let there : (f 0 + 2 * high) / 2 / 2 ^ k ≡ high / 2 ^ k = ap (λ (w : ℕ). w / 2 ^ k) half in
-    ap (λ (w : ℕ). w % 2) (power ∙ there) ∙ rest ∙ ap f (let e : k + 1 ≡ suc k = omega arith in e)
+    ap (λ (w : ℕ). (f 0 + 2 * high) / 2 ^ w) (omega arith) ∙ halves (f 0 + 2 * high) k in
+    ap (λ (w : ℕ). w % 2) (power ∙ (ap (λ (w : ℕ). w / 2 ^ k) (omega arith))) ∙ rest ∙ ap f (omega arith)
 
 -- the digits of the complement
 pub number_complement : (f : ℕ → ℕ) (n : ℕ) → ((k : ℕ) → k < n → f k < 2) → number f n + number (λ k. 1 - f k) n + 1 ≡ 2 ^ n
 number_complement f zero small = omega arith
 number_complement f (suc n) small =
-    let first : f 0 < 2 = small 0 (omega arith) in
     let rest : number (λ k. f (k + 1)) n + number (λ k. 1 - f (k + 1)) n + 1 ≡ 2 ^ n =
     number_complement (λ k. f (k + 1)) n (λ k l. small (k + 1) (omega arith)) in
-    let power : 2 ^ suc n ≡ 2 * 2 ^ n = ap (λ (w : ℕ). 2 ^ w) (let e : suc n ≡ n + 1 = omega arith in e) ∙ pow_next n in
     omega arith
 
 pub digit_lt : (v : ℤ) (k : ℕ) → digit v k < 2
@@ -104,13 +88,10 @@ number_negsuc n width small =
 
 -- n ones
 pub ones_of : (n : ℕ) → n ≤ 64 → 18446744073709551615 / 2 ^ (64 - n) ≡ 2 ^ n - 1
-ones_of n few =
-    let e : 64 - (64 - n) ≡ n = omega arith in
-    let all : (2 ^ 64 - 1) / 2 ^ (64 - n) ≡ 2 ^ (64 - (64 - n)) - 1 = ones_shr 64 (64 - n) (omega arith) in
-    all ∙ ap (λ (w : ℕ). 2 ^ w - 1) e
+ones_of n few = (ones_shr 64 (64 - n) (omega arith)) ∙ ap (λ (w : ℕ). 2 ^ w - 1) (omega arith)
 
 pub half_of : (width : ℕ) → 1 ≤ width → 2 ^ width ≡ 2 * 2 ^ (width - 1)
-half_of width some = ap (λ (w : ℕ). 2 ^ w) (let e : width ≡ width - 1 + 1 = omega arith in e) ∙ pow_next (width - 1)
+half_of width some = ap (λ (w : ℕ). 2 ^ w) (omega arith) ∙ pow_next (width - 1)
 
 -- what `width` bits say where the top bit is 0, and where it is 1
 pub decoded_low : (width n : ℕ) → n < 2 ^ (width - 1) → decoded true width n ≡ pos n

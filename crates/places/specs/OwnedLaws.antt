@@ -1,6 +1,6 @@
 -- The bit that an owner has, among bits that lie under a layout.
-use Rattle.std.proofs.Common.{◌≡◌, ℕ, ◌+◌, true, false, ◌⊎◌, inl, inr, ⊎_elim, List, [], ◌∷◌, get_or, refl, arith}
-use Rattle.std.proofs.lemmas.Bool.{cases_Bool, both_ways, cond-true, cond-false, and_parts, and_from, eqb-true, eq-eqb}
+use Rattle.std.specs.Prelude.{◌≡◌, ℕ, ◌+◌, true, false, ◌⊎◌, List, [], ◌∷◌, get_or, refl}
+use Rattle.record_dim.specs.Std.{inl, inr, ⊎_elim, arith, cases_Bool, both_ways, cond-true, and_parts, and_from, eqb-true, eq-eqb}
 use Rattle.places.specs.Layout.{Owner, Pad, Bit, owner_at}
 use Rattle.places.specs.Image.{same_owner, bit_along, bit_owned}
 use Rattle.places.specs.Lawful.{IsLaidOut}
@@ -26,8 +26,6 @@ found_along s c k (here ∷ owners) bits rest =
     (λ (yes : same_owner here (Bit s c k) ≡ true).
     grind (arith, same_owner_true, cond-true))
     (λ (no' : same_owner here (Bit s c k) ≡ false).
-    let step : bit_along (Bit s c k) (here ∷ owners) bits rest ≡ bit_along (Bit s c k) owners next rest =
-    cond-false (same_owner here (Bit s c k)) (bits 0) (bit_along (Bit s c k) owners next rest) no' in
     ⊎_elim
     (λ (found : (p : ℕ) × (get_or owners p Pad ≡ Bit s c k) × (bit_along (Bit s c k) owners next rest ≡ next p)).
     grind arith)

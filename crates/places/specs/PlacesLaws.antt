@@ -1,12 +1,7 @@
 -- The places of a cell's bits: pieces that spell them, taken apart, put together and renamed.
-use Rattle.std.proofs.Common.{◌≡◌, ℕ, ◌+◌, ◌-◌, ◌%◌, ◌^◌, ◌<◌, ◌≤◌, ⊎_elim, List, [], ◌∷◌, ◌++◌, map, length, get_or, take, drop, All, refl, sym, ap, ◌∙◌, arith, length-append}
-use Rattle.std.specs.List.{flat_map, range_with_len, sum_by}
-use Rattle.std.proofs.lemmas.Simd.{map-map}
-use Rattle.std.proofs.lemmas.Bool.{cases_lt}
-use Rattle.std.proofs.lemmas.List.{append-nil, get_or_append_left, get_or-append-add, map-append, take_at, drop_at, same_lists}
-use Rattle.std.proofs.lemmas.List.Elements.{All-cons, All-nil, All-head, All-tail, All-map}
-use Rattle.std.proofs.lemmas.List.Sums.{sum_by-cons}
-use Rattle.std.proofs.lemmas.List.FromFn.{get_or-map-range_with_len, length-map-range_with_len}
+use Rattle.std.specs.Prelude.{◌≡◌, ℕ, ◌+◌, ◌-◌, ◌%◌, ◌^◌, ◌<◌, ◌≤◌, List, [], ◌∷◌, ◌++◌, map, length, get_or, take, drop, All, refl}
+use Rattle.record_dim.specs.Std.{⊎_elim, sym, ap, ◌∙◌, arith, length-append, flat_map, range_with_len, map-map, cases_lt, append-nil, get_or_append_left, get_or-append-add, map-append, take_at, drop_at, same_lists, All-cons, All-nil, All-head, All-tail, All-map, sum_by-cons, get_or-map-range_with_len, length-map-range_with_len}
+use Rattle.std.specs.List.{sum_by}
 use Rattle.places.specs.Layout.{Owner, Pad, Bit, owner_at, field}
 use Rattle.places.specs.Rules.{renamed, relabel}
 use Rattle.places.specs.Lawful.{owners_in, shifted, IsPiece, IsLocated}
@@ -22,8 +17,7 @@ same_ranges f g a b n same = grind (arith, range_with_len, length-map-range_with
 pub ranges_at : {X : Type 0} (d : X) (f g : ℕ → X) (a b n k : ℕ) → map f (range_with_len a n) ≡ map g (range_with_len b n) → k < n → f (a + k) ≡ g (b + k)
 ranges_at {X} d f g a b n k e low =
     let here : get_or (map f (range_with_len a n)) k d ≡ f (a + k) = get_or-map-range_with_len f a n k (a + k) d low refl in
-    let there : get_or (map g (range_with_len b n)) k d ≡ g (b + k) = get_or-map-range_with_len g b n k (b + k) d low refl in
-    sym here ∙ ap (λ (xs : List X). get_or xs k d) e ∙ there
+    sym here ∙ ap (λ (xs : List X). get_or xs k d) e ∙ (get_or-map-range_with_len g b n k (b + k) d low refl)
 
 -- a range is its first m numbers and the rest
 pub range_split : {X : Type 0} (f : ℕ → X) (a m n : ℕ) → m ≤ n → map f (range_with_len a n) ≡ map f (range_with_len a m) ++ map f (range_with_len (a + m) (n - m))
@@ -35,22 +29,17 @@ range_split f a m n low =
     length-append (map f (range_with_len a m)) (map f (range_with_len (a + m) (n - m))) ∙ ap (λ (w : ℕ). w + length (map f (range_with_len (a + m) (n - m)))) left ∙ ap (λ (w : ℕ). m + w) right in
     same_lists (map f (range_with_len a n)) (map f (range_with_len a m) ++ map f (range_with_len (a + m) (n - m))) (omega arith)
     (λ k d inside.
-    let k_in : k < n = omega arith in
-    let here : get_or (map f (range_with_len a n)) k d ≡ f (a + k) = get_or-map-range_with_len f a n k (a + k) d k_in refl in
+    let here : get_or (map f (range_with_len a n)) k d ≡ f (a + k) = get_or-map-range_with_len f a n k (a + k) d (omega arith) refl in
     ⊎_elim
     (λ (l : k < m).
     grind (arith, range_with_len, get_or_append_left, get_or-map-range_with_len))
     (λ (l : m ≤ k).
     let j : ℕ = k - m in
-    let place : length (map f (range_with_len a m)) + j ≡ k = omega arith in
     let one : get_or (map f (range_with_len a m) ++ map f (range_with_len (a + m) (n - m))) (length (map f (range_with_len a m)) + j) d ≡ get_or (map f (range_with_len (a + m) (n - m))) j d =
     get_or-append-add (map f (range_with_len a m)) (map f (range_with_len (a + m) (n - m))) j d in
     let two : get_or (map f (range_with_len (a + m) (n - m))) j d ≡ f (a + k) =
     get_or-map-range_with_len f (a + m) (n - m) j (a + k) d (omega arith) (omega arith) in
-    let moved : get_or (map f (range_with_len a m) ++ map f (range_with_len (a + m) (n - m))) k d ≡ get_or (map f (range_with_len a m) ++ map f (range_with_len (a + m) (n - m)))
-    (length (map f (range_with_len a m)) + j) d =
-    ap (λ (w : ℕ). get_or (map f (range_with_len a m) ++ map f (range_with_len (a + m) (n - m))) w d) (sym place) in
-    here ∙ sym (moved ∙ one ∙ two))
+    here ∙ sym ((ap (λ (w : ℕ). get_or (map f (range_with_len a m) ++ map f (range_with_len (a + m) (n - m))) w d) (sym (omega arith))) ∙ one ∙ two))
     (cases_lt k m))
 
 -- consecutive places whose owners are the bits of a cell spell it
@@ -75,9 +64,8 @@ spells_split layout f a n piece pieces e =
     let both : length (here ++ later) ≡ length here + length later = length-append here later in
     let same : length (here ++ later) ≡ length (map f (range_with_len a n)) = ap (λ (xs : List Owner). length xs) e in
     let low : bits ≤ n = omega arith in
-    let split : map f (range_with_len a n) ≡ map f (range_with_len a bits) ++ map f (range_with_len (a + bits) (n - bits)) = range_split f a bits n low in
     let front : length (map f (range_with_len a bits)) ≡ bits = length-map-range_with_len f a bits in
-    let joined : here ++ later ≡ map f (range_with_len a bits) ++ map f (range_with_len (a + bits) (n - bits)) = e ∙ split in
+    let joined : here ++ later ≡ map f (range_with_len a bits) ++ map f (range_with_len (a + bits) (n - bits)) = e ∙ (range_split f a bits n low) in
     let left : here ≡ map f (range_with_len a bits) =
     sym (take_at here later bits size) ∙ ap (λ (xs : List Owner). take bits xs) joined ∙ take_at (map f (range_with_len a bits)) (map f (range_with_len (a + bits) (n - bits))) bits front in
     let right : later ≡ map f (range_with_len (a + bits) (n - bits)) =
@@ -91,13 +79,9 @@ spells_split layout f a n piece pieces e =
 -- pieces that spell n owners have n bits together
 pub bits_located : (layout : List (List Owner)) (f : ℕ → Owner) (a n : ℕ) (pieces : List Piece)
     → flat_map (owners_in layout) pieces ≡ map f (range_with_len a n) → sum_by (λ (piece : Piece). piece.bits) pieces ≡ n
-bits_located layout f a n [] e =
-    let whole : length (map f (range_with_len a n)) ≡ n = length-map-range_with_len f a n in
-    let same : 0 ≡ length (map f (range_with_len a n)) = ap (λ (xs : List Owner). length xs) e in
-    same ∙ whole
+bits_located layout f a n [] e = (ap (λ (xs : List Owner). length xs) e) ∙ (length-map-range_with_len f a n)
 bits_located layout f a n (piece ∷ pieces) e =
     let split = spells_split layout f a n piece pieces e in
-    let fits : piece.bits ≤ n = split.fits in
     let rest : sum_by (λ (piece : Piece). piece.bits) pieces ≡ n - piece.bits = bits_located layout f (a + piece.bits) (n - piece.bits) pieces split.rest in
     let step : sum_by (λ (piece : Piece). piece.bits) (piece ∷ pieces) ≡ piece.bits + sum_by (λ (piece : Piece). piece.bits) pieces = sum_by-cons (λ (piece : Piece). piece.bits) piece pieces in
     omega arith
@@ -114,8 +98,7 @@ pieces_inside layout s c a n (piece ∷ pieces) e some bound =
     let owner : owner_at layout piece.blob (piece.bit + last) ≡ Bit s c (a + last) = split.first last (omega arith) in
     let blob_in : piece.blob < length layout = within_blobs layout piece.blob (piece.bit + last) s c (a + last) owner in
     let place_in : piece.bit + last < length (get_or layout piece.blob []) = within (get_or layout piece.blob []) (piece.bit + last) s c (a + last) owner in
-    let here : IsPiece layout piece = record { blob_in = blob_in; bits_in = omega arith; bound = small; some = full } in
-    All-cons (IsPiece layout) piece pieces here
+    All-cons (IsPiece layout) piece pieces (record { blob_in = blob_in; bits_in = omega arith; bound = small; some = full })
     (pieces_inside layout s c (a + piece.bits) (n - piece.bits) pieces split.rest
     (All-tail (λ (piece : Piece). 0 < piece.bits) piece pieces some)
     (All-tail (λ (piece : Piece). piece.bit + piece.bits < 2 ^ 64) piece pieces bound))
@@ -136,8 +119,7 @@ pub one_piece : (layout : List (List Owner)) (s c w : ℕ) (piece : Piece) → p
 one_piece layout s c w piece size some bound each =
     let run : map (owner_at layout piece.blob) (range_with_len piece.bit w) ≡ field s (c, w) = run_spelled layout piece.blob piece.bit s c w each in
     let sized : owners_in layout piece ≡ field s (c, w) = ap (λ (n : ℕ). map (owner_at layout piece.blob) (range_with_len piece.bit n)) size ∙ run in
-    let spelled : flat_map (owners_in layout) (piece ∷ []) ≡ field s (c, w) = append-nil (owners_in layout piece) ∙ sized in
-    located layout s c w (piece ∷ []) spelled
+    located layout s c w (piece ∷ []) (append-nil (owners_in layout piece) ∙ sized)
     (All-cons (λ (piece : Piece). 0 < piece.bits) piece [] (omega arith) (All-nil (λ (piece : Piece). 0 < piece.bits)))
     (All-cons (λ (piece : Piece). piece.bit + piece.bits < 2 ^ 64) piece [] (omega arith) (All-nil (λ (piece : Piece). piece.bit + piece.bits < 2 ^ 64)))
     (λ whole. All-cons (λ (piece : Piece). piece.bits % 8 ≡ 0) piece [] (ap (λ (n : ℕ). n % 8) size ∙ whole) (All-nil (λ (piece : Piece). piece.bits % 8 ≡ 0)))
@@ -162,7 +144,7 @@ pub relabel_located : (name : ℕ → ℕ → ℕ → Owner) (layout : List (Lis
 relabel_located name layout s c s' c' w pieces same h =
     let spelled : flat_map (owners_in (relabel name layout)) pieces ≡ field s' (c', w) =
     relabel_spelled name layout pieces ∙ ap (map (renamed name)) h.spelled ∙ map-map (renamed name) (Bit s c) (range_with_len 0 w)
-    ∙ same_ranges (name s c) (Bit s' c') 0 0 w (λ k l. same (0 + k) (let e : 0 + k < w = omega arith in e)) in
+    ∙ same_ranges (name s c) (Bit s' c') 0 0 w (λ k l. same (0 + k) (omega arith)) in
     grind (arith, located, pieces_weaker)
 
 -- the places of a cell in the first blobs

@@ -1,6 +1,6 @@
 -- How a layout is made of other layouts: owners are renamed, blobs are joined.
 use Rattle.std.specs.Prelude.{ℕ, ◌+◌, ◌-◌, ◌*◌, ◌/◌, ◌%◌, Bool, not, List, ◌++◌, map, filter, Option, Some, None, slice_index_or}
-use Rattle.std.specs.List.{flat_map, range_with_len, enumerate_from}
+use Rattle.record_dim.specs.Std.{flat_map, range_with_len, enumerate_from}
 use Rattle.places.specs.Layout.{Owner, Pad, Bit, cells_of}
 
 -- an owner under a new name; pads stay

@@ -1,7 +1,6 @@
 -- One part after another, all of one length: the parts of slots, or of blocks.
-use Rattle.std.proofs.Common.{◌≡◌, ℕ, zero, suc, ◌+◌, ◌*◌, ◌%◌, ◌<◌, List, length, get_or, arith, length-append}
-use Rattle.std.specs.List.{flat_map, range_with_len}
-use Rattle.std.proofs.lemmas.List.{get_or_append_left, get_or-append-add}
+use Rattle.std.specs.Prelude.{◌≡◌, ℕ, zero, suc, ◌+◌, ◌*◌, ◌%◌, ◌<◌, List, length, get_or}
+use Rattle.record_dim.specs.Std.{arith, length-append, flat_map, range_with_len, get_or_append_left, get_or-append-add}
 
 -- the length of so many parts
 pub length-parts : {X : Type 0} (part : ℕ → List X) (stride : ℕ) → ((s : ℕ) → length (part s) ≡ stride)
@@ -12,7 +11,7 @@ length-parts {X} part stride size a (suc n) = grind (arith, flat_map, range_with
 -- place j of part i
 pub part_at : {X : Type 0} (d : X) (part : ℕ → List X) (stride : ℕ) → ((s : ℕ) → length (part s) ≡ stride)
     → (a n i j : ℕ) → i < n → j < stride → get_or (flat_map part (range_with_len a n)) (i * stride + j) d ≡ get_or (part (a + i)) j d
-part_at d part stride size a zero i j i_in j_in = let none : ⊥ = omega arith in absurd none
+part_at d part stride size a zero i j i_in j_in = absurd (omega arith)
 part_at {X} d part stride size a (suc n) zero j i_in j_in = grind (arith, flat_map, range_with_len, get_or_append_left)
 part_at {X} d part stride size a (suc n) (suc i) j i_in j_in = grind (arith, flat_map, range_with_len, get_or-append-add, (part_at d part stride size (a + 1) n i j (omega arith) j_in))
 

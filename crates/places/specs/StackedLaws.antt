@@ -1,7 +1,6 @@
 -- Lists of owners behind one another, one for each cell, each at the next multiple of an alignment.
-use Rattle.std.proofs.Common.{◌≡◌, ℕ, ◌+◌, ◌-◌, ◌%◌, ◌<◌, ◌≤◌, ◌⊎◌, inl, inr, ⊎_elim, List, [], ◌∷◌, ◌++◌, length, get_or, set, take, drop, refl, sym, ap, ◌∙◌, arith, length-append}
-use Rattle.std.specs.List.{flat_map}
-use Rattle.std.proofs.lemmas.List.{append-nil, take-append-drop, append_assoc, length-replicate, get_or_append_left, get_or-append-add, get_or-set_same, get_or-set_other}
+use Rattle.std.specs.Prelude.{◌≡◌, ℕ, ◌+◌, ◌-◌, ◌%◌, ◌<◌, ◌≤◌, ◌⊎◌, List, [], ◌∷◌, ◌++◌, length, get_or, set, take, drop, refl}
+use Rattle.record_dim.specs.Std.{inl, inr, ⊎_elim, sym, ap, ◌∙◌, arith, length-append, flat_map, append-nil, take-append-drop, append_assoc, length-replicate, get_or_append_left, get_or-append-add, get_or-set_same, get_or-set_other}
 use Rattle.places.specs.Layout.{Owner, Pad, field, array, padded_to, aligned_fields, aligned_arrays}
 use Rattle.places.specs.ExactLaws.{Has, has_none, has_same, has_append, has_padded, Member, Apart, OfCells, of_either, of_first}
 
@@ -51,8 +50,7 @@ has_stacked {In} align f Own front (cell ∷ cells) h apart each own fresh =
     let a : ℕ = align cell.1 in
     let next = has_append (has_padded ((a - length front % a) % a) h) (each cell.0 cell.1)
     (λ s c k (i : In s c k) (o : Own cell s c k).
-    let same : c ≡ cell.0 = own cell.0 cell.1 s c k o in
-    fresh s c k cell.1 i (inl (sym same, refl))) in
+    fresh s c k cell.1 i (inl (sym (own cell.0 cell.1 s c k o), refl))) in
     let later = has_stacked align f Own (padded_to a front ++ f cell) cells next apart.1 each own
     (λ s c k w (i : In s c k ⊎ Own cell s c k) (m : Member cells c w).
     grind arith) in
@@ -78,7 +76,6 @@ stacked_bytes align f front (cell ∷ cells) whole each =
     let here = each cell.0 cell.1 (inl (refl, refl)) in
     let padded : length (padded_to (align cell.1) front) ≡ up (align cell.1) (length front) = length-padded (align cell.1) front in
     let bytes : up (align cell.1) (length front) % 8 ≡ 0 = here.0 (length front) whole in
-    let field_bytes : length (f cell) % 8 ≡ 0 = here.1 in
     let both : length (padded_to (align cell.1) front ++ f cell) ≡ length (padded_to (align cell.1) front) + length (f cell) =
     length-append (padded_to (align cell.1) front) (f cell) in
     stacked_bytes align f (padded_to (align cell.1) front ++ f cell) cells (omega arith) (λ c w m. each c w (inr m))

@@ -1,6 +1,6 @@
 -- Which granules of a blob's bytes an access to a cell touches: those in which its pieces have bits.
 use Rattle.std.specs.Prelude.{ℕ, ◌+◌, ◌*◌, ◌==◌, ◌&&◌, nat_lt, min, max, Bool, false, List, [], take, drop, slice_index_or}
-use Rattle.std.specs.List.{list_any}
+use Rattle.record_dim.specs.Std.{list_any}
 use Rattle.places.specs.Layout.{Owner, Pad, Bit}
 use Rattle.places.specs.declared.piece.Piece.{Piece}
 

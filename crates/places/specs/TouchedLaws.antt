@@ -1,12 +1,6 @@
 -- The granules that the pieces of a leaf in a row touch are those that hold one of its bits.
-use Rattle.std.proofs.Common.{◌≡◌, ℕ, ◌+◌, ◌-◌, ◌*◌, ◌<◌, ◌≤◌, max, Bool, true, false, List, [], ◌∷◌, length, get_or, map, take, drop, refl, sym, ap, ◌∙◌, ⊎_elim, arith}
-use Rattle.std.specs.Prelude.{◌||◌, ◌==◌, nat_lt, min}
-use Rattle.std.specs.List.{flat_map, range_with_len}
-use Rattle.std.proofs.Math.Path.{fun_ext}
-use Rattle.std.proofs.lemmas.Bool.{true≢false, cases_Bool, cases_lt, and_parts, and_from, or_left, or_right, ltb-true, lt-ltb, eqb-true, eq-eqb}
-use Rattle.std.proofs.lemmas.List.{length-take, length-drop, get_or-take, get_or-drop, get_or_default}
-use Rattle.std.proofs.lemmas.List.FromFn.{length-map-range_with_len}
-use Rattle.std.proofs.lemmas.List.Folds.{Any-from_list_any, list_any_at}
+use Rattle.std.specs.Prelude.{◌≡◌, ℕ, ◌+◌, ◌-◌, ◌*◌, ◌<◌, ◌≤◌, max, Bool, true, false, List, [], ◌∷◌, length, get_or, map, take, drop, refl, ◌||◌, ◌==◌, nat_lt, min}
+use Rattle.record_dim.specs.Std.{sym, ap, ◌∙◌, ⊎_elim, arith, flat_map, range_with_len, fun_ext, true≢false, cases_Bool, cases_lt, and_parts, and_from, or_left, or_right, ltb-true, lt-ltb, eqb-true, eq-eqb, length-take, length-drop, get_or-take, get_or-drop, get_or_default, length-map-range_with_len, Any-from_list_any, list_any_at}
 use Rattle.places.specs.declared.piece.Piece.{Piece}
 use Rattle.places.specs.Layout.{Owner, Pad, Bit, owner_at}
 use Rattle.places.specs.Lawful.{IsLaidOut, IsLocated, owners_in}
@@ -78,7 +72,6 @@ pub in_granule : (granule blob at : ℕ) (piece : Piece) → is_in_granule granu
 in_granule granule blob at piece e =
     let both = and_parts (piece.blob == blob) (nat_lt (max piece.bit (8 * granule * at)) (min (piece.bit + piece.bits) (8 * granule * (at + 1)))) e in
     let meet = ltb-true (max piece.bit (8 * granule * at)) (min (piece.bit + piece.bits) (8 * granule * (at + 1))) both.1 in
-    let next = next_granule (8 * granule) at in
     (eqb-true piece.blob blob both.0, max piece.bit (8 * granule * at) - piece.bit, omega arith, omega arith, omega arith)
 
 pub from_granule : (granule blob at k : ℕ) (piece : Piece) → piece.blob ≡ blob → k < piece.bits → 8 * granule * at ≤ piece.bit + k → piece.bit + k < 8 * granule * at + 8 * granule →
@@ -112,9 +105,7 @@ touched_from layout f granule blob at bit k a n (piece ∷ pieces) e low high fr
     ⊎_elim
     (λ (here : k < a + piece.bits).
     let j = k - a in
-    let number : a + j ≡ k = omega arith in
-    let small : j < piece.bits = omega arith in
-    let place = only piece.blob (piece.bit + j) (split.first j small ∙ ap f number) in
+    let place = only piece.blob (piece.bit + j) (split.first j (omega arith) ∙ ap f (omega arith)) in
     grind (arith, or_left, from_granule))
     (λ (later : a + piece.bits ≤ k).
     or_right (is_in_granule granule blob at piece) (is_touched granule pieces blob at)

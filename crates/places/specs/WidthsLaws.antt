@@ -1,9 +1,7 @@
 -- The widths of the leaf types: 8, 16, 32 or 64 bits, so whole bytes and powers of two.
-use Rattle.std.proofs.Common.{◌≡◌, ℕ, ◌%◌, ◌<◌, ◌≤◌, ◌⊎◌, ⊎_elim, List, map, max, get_or, All, refl, subst, arith}
-use Rattle.std.proofs.lemmas.Simd.{map-map}
-use Rattle.std.proofs.lemmas.List.Elements.{All-map}
-use Rattle.std.proofs.lemmas.Bool.{cases_lt}
-use Rattle.record_dim.specs.LeafTypes.{width_of}
+use Rattle.std.specs.Prelude.{◌≡◌, ℕ, ◌%◌, ◌<◌, ◌≤◌, ◌⊎◌, List, map, max, get_or, All, refl}
+use Rattle.record_dim.specs.Std.{⊎_elim, subst, arith, map-map, All-map, cases_lt}
+use Rattle.record_dim.specs.Prelude.{width_of}
 use Rattle.record_dim.specs.declared.leaf_type.LeafType.{LeafType}
 use Rattle.places.specs.Holds.{hold_of, full_holds, widths_of}
 use Rattle.places.specs.declared.piece.Cell.{Cell}
@@ -53,6 +51,6 @@ keeps_width w h = grind (arith, by_width)
 pub keeps_greater : (a b : ℕ) → KeepsBytes a → KeepsBytes b → KeepsBytes (max a b)
 keeps_greater a b one two =
     ⊎_elim
-    (λ (l : a < b). let e : b ≡ max a b = omega arith in subst KeepsBytes e two)
-    (λ (l : b ≤ a). let e : a ≡ max a b = omega arith in subst KeepsBytes e one)
+    (λ (l : a < b). subst KeepsBytes (omega arith) two)
+    (λ (l : b ≤ a). subst KeepsBytes (omega arith) one)
     (cases_lt a b)

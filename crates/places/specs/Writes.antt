@@ -1,6 +1,6 @@
 -- What it is to write a cell, and the two laws of memory that every mapping keeps.
 use Rattle.std.specs.Prelude.{ℕ, ◌<◌, ◌≡◌, ℤ, Bool, List, if◌then◌else◌, ◌==◌, ◌&&◌, slice_get, Some}
-use Rattle.record_dim.specs.LeafTypes.{IsIn}
+use Rattle.record_dim.specs.Prelude.{IsIn}
 use Rattle.places.specs.Layout.{Owner, Pad, Bit, owner_at}
 use Rattle.places.specs.Image.{digit, reading}
 use Rattle.places.specs.declared.piece.Hold.{Hold}

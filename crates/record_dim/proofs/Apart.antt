@@ -1,10 +1,8 @@
 -- In a record without a name twice the paths of the leaves differ, and each leads to its leaf.
-use Rattle.record_dim.proofs.Imports.{◌≡◌, ℕ, suc, zero, ◌+◌, ◌<◌, true, false, ◌||◌, nat_eq, nat_lt, Some, None, List, [], ◌∷◌, ◌++◌, length, map, refl, sym, ap, subst, inl, inr, ◌⊎◌, arith, pointwise, list_any, slice_get, map-append, length-map, LeafType, PathStep, Name, At, Dim, Tree, Single, Record, Array, Fields, End, Field, tree_of, Leaf, under, leaves_of, leaves, paths_of, names_of, has_twice, shares_name, records_of, records_below, record_fault, node_at, node_in, LeadsTo, same_text, text_self, or_right, cases_Bool, or_parts}
-use Rattle.std.proofs.Common.{append-nil}
+use Rattle.record_dim.proofs.Imports.{◌≡◌, ℕ, suc, zero, ◌+◌, ◌<◌, true, false, ◌||◌, nat_eq, nat_lt, Some, None, List, [], ◌∷◌, ◌++◌, length, map, refl, sym, ap, subst, inl, inr, ◌⊎◌, arith, pointwise, list_any, slice_get, map-append, length-map, LeafType, PathStep, Name, At, Dim, Tree, Single, Record, Array, Fields, End, Field, tree_of, Leaf, under, leaves_of, leaves, paths_of, names_of, has_twice, shares_name, records_of, records_below, record_fault, node_at, node_in, LeadsTo, same_text, text_self, or_right, cases_Bool, or_parts, append-nil, rules}
 use Rattle.record_dim.specs.declared.dim.Dim.TheVariants as dim
 use Rattle.record_dim.proofs.Lookup.{leaves-suc}
 use Rattle.record_dim.proofs.Fit.{none_of_both, fit_from}
-use Rattle.std.proofs.Common.{rules}
 
 -- the paths of the leaves of a tree
 abbrev pub paths_at : Tree → List (List PathStep)

@@ -1,18 +1,7 @@
 -- What the proofs of this crate speak of.
-pub use Rattle.std.proofs.Common.{◌≡◌, ℕ, suc, zero, ◌+◌, ◌<◌, Bool, true, false, cond, ◌||◌, nat_eq, nat_lt, Some, None, List, [], ◌∷◌, ◌++◌, length, map, refl, sym, ap, ◌∙◌, subst, inl, inr, ◌⊎◌, arith, ◌*◌, ◌≤◌, Option, codes, append_assoc, min, ⊎_elim, add-one, mul-le-mul_right, not, ◌-◌, max, nat_le, rules}
-pub use Rattle.std.proofs.lemmas.List.{append-nil, map-append, length-map, map-id, length-append}
-pub use Rattle.std.specs.Cmp.Lexicographic.{pointwise, slice_cmp, texts_ties}
-pub use Rattle.std.specs.List.{list_any, slice_get, flat_map, range_with_len}
-pub use Rattle.std.proofs.lemmas.Bool.Decides.{nat_tests}
-pub use Rattle.std.proofs.lemmas.List.Folds.{list_any-append}
-pub use Rattle.std.proofs.lemmas.List.FromFn.{map-range_with_len_more, length-range_with_len}
-pub use Rattle.std.proofs.lemmas.Grind.{flat_map-append}
-pub use Rattle.std.proofs.lemmas.Bool.{cases_lt, or_right, cases_Bool, or_parts}
-pub use Rattle.std.specs.Ordering.{nat_cmp}
-pub use Rattle.std.specs.BTreeMap.{is_at}
-pub use Rattle.std.proofs.Math.Nat.{mul_comm, zero-mul}
-pub use Rattle.std.proofs.lemmas.List.Concat.{flat_map-cons}
-pub use Rattle.std.specs.BTreeSet.{contains}
+pub use Rattle.record_dim.specs.Std.{◌≡◌, ℕ, suc, zero, ◌+◌, ◌<◌, Bool, true, false, cond, ◌||◌, nat_eq, nat_lt, Some, None, List, [], ◌∷◌, ◌++◌, length, map, refl, sym, ap, ◌∙◌, subst, inl, inr, ◌⊎◌, arith, ◌*◌, ◌≤◌, Option, codes, append_assoc, min, ⊎_elim, add-one, not, ◌-◌, max, nat_le, rules, append-nil, map-append, length-map, map-id, length-append, pointwise, slice_cmp, texts_ties, list_any, flat_map, range_with_len, nat_tests, list_any-append, map-range_with_len_more, length-range_with_len, flat_map-append, cases_lt, or_right, cases_Bool, or_parts, nat_cmp, is_at, mul_comm, zero-mul, flat_map-cons, contains}
+pub use Rattle.std.proofs.Common.{mul-le-mul_right}
+pub use Rattle.std.specs.List.{slice_get}
 pub use Rattle.record_dim.specs.declared.leaf_type.LeafType.{LeafType}
 pub use Rattle.record_dim.specs.declared.path.PathStep.{PathStep}
 pub use Rattle.record_dim.specs.declared.path.PathStep.TheVariants.{Name, At}

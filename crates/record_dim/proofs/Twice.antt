@@ -1,6 +1,5 @@
 -- The search for a name that stands twice: what the set of the names so far and the names that are left say together.
-use Rattle.record_dim.proofs.Imports.{◌≡◌, ℕ, Bool, true, false, cond, not, ◌||◌, nat_eq, List, [], ◌∷◌, refl, sym, ap, ◌∙◌, list_any, nat_cmp, is_at, pointwise, slice_cmp, texts_ties, has_twice}
-use Rattle.std.proofs.Common.{arith}
+use Rattle.record_dim.proofs.Imports.{◌≡◌, ℕ, Bool, true, false, cond, not, ◌||◌, nat_eq, List, [], ◌∷◌, refl, sym, ap, ◌∙◌, list_any, nat_cmp, is_at, pointwise, slice_cmp, texts_ties, has_twice, arith}
 
 or_of_cond : (b x : Bool) → cond b true x ≡ (b || x)
 or_of_cond b x = grind arith

@@ -8,3 +8,5 @@ pub mod Schemas
 pub mod Trees
 pub mod NameBytesLaws
 pub mod Inner
+pub mod Std
+pub mod Prelude

@@ -1,13 +1,6 @@
 -- The bytes of a name: they are ASCII, and padding them gives the fields back.
-use Rattle.std.proofs.Common.{◌≡◌, ℕ, suc, zero, ◌-◌, ◌<◌, ◌≤◌, Bool, true, ◌&&◌, nat_eq, List, [], ◌∷◌, ◌++◌, length, get_or, drop, replicate, refl, arith}
-use Rattle.std.proofs.lemmas.List.{drop-replicate, length-append, length-drop}
-use Rattle.std.proofs.Math.Seq.{take-append_seam}
-use Rattle.std.proofs.lemmas.Bool.Decides.{nat_tests}
-use Rattle.std.proofs.lemmas.Bool.{eqb-true, eq-eqb}
-use Rattle.std.specs.Cmp.Lexicographic.{pointwise}
-use Rattle.std.specs.List.{list_all}
-use Rattle.std.specs.Str.{IsUtf8}
-use Rattle.std.proofs.lemmas.Str.{IsUtf8-from_ascii}
+use Rattle.std.specs.Prelude.{◌≡◌, ℕ, suc, zero, ◌-◌, ◌<◌, ◌≤◌, Bool, true, ◌&&◌, nat_eq, List, [], ◌∷◌, ◌++◌, length, get_or, drop, replicate, refl}
+use Rattle.record_dim.specs.Std.{arith, drop-replicate, length-append, length-drop, take-append_seam, nat_tests, eqb-true, eq-eqb, pointwise, list_all, IsUtf8, IsUtf8-from_ascii}
 use Rattle.record_dim.specs.Names.{begins_name, continues_name, is_word, is_name, StoresName}
 
 pub both : (a b : Bool) → (a && b) ≡ true → (a ≡ true) × (b ≡ true)

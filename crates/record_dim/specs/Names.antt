@@ -1,7 +1,6 @@
 -- What a name is, and how the fields of a `Name` give its bytes and come back from them.
 use Rattle.std.specs.Prelude.{◌≡◌, ℕ, ◌-◌, ◌≤◌, Bool, false, ◌&&◌, ◌||◌, ◌==◌, nat_le, List, [], ◌∷◌, ◌++◌, length, take, replicate, IsTrue}
-use Rattle.std.specs.List.{list_all}
-use Rattle.std.specs.Char.{is_ascii_alphabetic, is_ascii_alphanumeric}
+use Rattle.record_dim.specs.Std.{list_all, is_ascii_alphabetic, is_ascii_alphanumeric}
 
 -- a letter or `_`
 abbrev pub begins_name : ℕ → Bool

@@ -1,6 +1,6 @@
 -- The nodes of a record: where a path leads, and where the leaves below it stand.
 use Rattle.std.specs.Prelude.{◌≡◌, ℕ, ◌+◌, ◌-◌, ◌*◌, Bool, false, ◌&&◌, nat_eq, nat_le, nat_lt, if◌then◌else◌, List, [], ◌∷◌, ◌++◌, length, map, Option, Some, None}
-use Rattle.std.specs.Cmp.Lexicographic.{pointwise}
+use Rattle.record_dim.specs.Std.{pointwise}
 use Rattle.record_dim.specs.declared.path.PathStep.{PathStep}
 use Rattle.record_dim.specs.declared.path.PathStep.TheVariants.{Name, At}
 use Rattle.record_dim.specs.Trees.{Tree, Record, Array, Fields, End, Field}

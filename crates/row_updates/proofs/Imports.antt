@@ -1,53 +1,22 @@
 -- What the proofs of this crate speak of.
-pub use Rattle.std.proofs.Common.{◌≡◌, ℕ, zero, suc, ◌+◌, ◌<◌, ◌≤◌, List, [], ◌∷◌, ◌++◌, length, get_or, take, ℤ, Result, Ok, Err, refl, sym, ap, ◌∙◌, arith, set, Some, map, Bool, true, false, Option, None, MutBor, ◌≤ℤ◌, pos, neg_ℤ, FitsSigned, w64, take_all, drop, is_ok, subst, count_by, cond, get_or-drop, ◌^◌, length-drop, All, rules, ◌-◌, slice_index}
-pub use Rattle.std.specs.List.{range_with_len, slice_get, fold}
-pub use Rattle.std.specs.Prelude.{slice_set, unsigned_abs, if◌then◌else◌, OnOk, IfOk, IfErr}
-pub use Rattle.std.proofs.lemmas.List.FromFn.{get_or-range_with_len, length-range_with_len}
-pub use Rattle.std.proofs.lemmas.Option.{get_or_from_slice_get}
-pub use Rattle.std.proofs.lemmas.Slice.Zip.{AllZip-long}
-pub use Rattle.std.proofs.lemmas.List.{append-nil, append_assoc, map-append, take_more, take_more_set, drop-set-lt, drop_more, get_or-set_same, set-set, get_or-map, length-set, length-map, get_or-take, length-take-le, set-get_or, drop-drop, take-map}
-pub use Rattle.std.specs.Int.{w128}
-pub use Rattle.std.proofs.lemmas.Int.{to_z-of_z, fits_signed_from_abs}
-pub use Rattle.std.proofs.lemmas.List.Sums.{sum_by-append, count_by-le-length, sum_by-cons}
-pub use Rattle.std.specs.Option.{option_or}
-pub use Rattle.std.proofs.lemmas.List.Elements.{All-get_or}
-pub use Rattle.views.specs.Stores.{Keeping, StoreAnswer, without_number, kept_or}
+pub use Rattle.record_dim.specs.Std.{◌≡◌, ℕ, zero, suc, ◌+◌, ◌<◌, ◌≤◌, List, [], ◌∷◌, ◌++◌, length, get_or, take, ℤ, Result, Ok, Err, refl, sym, ap, ◌∙◌, arith, set, Some, map, Bool, true, false, Option, None, MutBor, ◌≤ℤ◌, pos, neg_ℤ, FitsSigned, w64, take_all, drop, is_ok, subst, count_by, cond, get_or-drop, ◌^◌, length-drop, All, rules, ◌-◌, slice_index, range_with_len, slice_set, unsigned_abs, if◌then◌else◌, OnOk, IfOk, IfErr, get_or-range_with_len, length-range_with_len, get_or_from_slice_get, AllZip-long, append-nil, append_assoc, map-append, take_more, take_more_set, drop-set-lt, drop_more, get_or-set_same, set-set, get_or-map, length-set, length-map, get_or-take, length-take-le, set-get_or, drop-drop, take-map, w128, to_z-of_z, fits_signed_from_abs, sum_by-append, count_by-le-length, sum_by-cons, option_or, All-get_or, common_steps}
+pub use Rattle.std.specs.List.{slice_get, fold}
+pub use Rattle.views.specs.Prelude.{Keeping, StoreAnswer, without_number, kept_or, Access, Read, Write, Tally, after_log-append, after_reads, logs_more, after_log-none, after_stores-append, Table, answer_of, after_log, after_read, kept_of, after_stores, after_write, IsTable, leaf_count_of, leaf_type_of, leaf_types_of, table_holds, raised, stored_count, told_lane, in_leaf, column, with_column, column_writes, first_lane_fault, lane_fault, raised_low, raised_same, stays_answer, told_ok, no_column, length-with_column}
 pub use Rattle.views.proofs.StoreLaws.{map_same}
 pub use Rattle.extents.specs.Indices.{indices, IsInside}
 pub use Rattle.extents.specs.IndicesLaws.{length-indices, place, slice_get-place}
 pub use Rattle.linearize.specs.Slots.{index_at}
-pub use Rattle.expr_lang.specs.Terms.{Term}
-pub use Rattle.views.specs.Tallies.{Access, Read, Write, Tally}
-pub use Rattle.views.specs.TallyLaws.{after_log-append, after_reads, logs_more, after_log-none, after_stores-append}
-pub use Rattle.views.specs.Tables.{Table, answer_of, after_log, after_read, kept_of, after_stores, after_write, IsTable, leaf_count_of, leaf_type_of, leaf_types_of, table_holds}
+pub use Rattle.expr_lang.specs.Prelude.{Term, outcome_of, is_true, IsSafe, worth, step_term, links_term, operand_term, chain_term, AreWithin, one_more, safe_front, within_front, within_links, within_rest, safe_steps, safe_rest, no_deeper, stepped, IsStepFit, IsWorthIn, IsRight, AreStepsSafe, step_worth, step_fits, bound_term}
 pub use Rattle.record_dim.specs.declared.leaf_type.LeafType.{LeafType}
 pub use Rattle.record_dim.specs.declared.leaf_type.LeafType.TheVariants.{Bool as Truth}
-pub use Rattle.record_dim.specs.LeafTypes.{is_signed, IsDeclared}
-pub use Rattle.views.specs.LeafRuns.{raised, stored_count, told_lane}
-pub use Rattle.piece_bits.specs.Tables.{with_entry, hold_at}
+pub use Rattle.record_dim.specs.Prelude.{is_signed, IsDeclared, Leaf, leaves, kinds_of, Fields}
+pub use Rattle.piece_bits.specs.Prelude.{with_entry, hold_at, low_64, low_same, stays_declared}
 pub use Rattle.views.specs.declared.fault.StoreFault.{StoreFault}
 pub use mir.Val.{bool_byte}
-pub use Rattle.piece_bits.specs.Lows.{low_64}
-pub use Rattle.piece_bits.specs.LowsLaws.{low_same}
-pub use Rattle.piece_bits.specs.EntryLaws.{stays_declared}
-pub use Rattle.record_dim.specs.Leaves.{Leaf, leaves, kinds_of}
-pub use Rattle.views.specs.Columns.{in_leaf, column, with_column, column_writes, first_lane_fault, lane_fault}
-pub use Rattle.views.specs.RunsLaws.{raised_low, raised_same}
-pub use Rattle.expr_lang.specs.Values.{outcome_of, is_true}
-pub use Rattle.expr_lang.specs.Inner.Exacts.{IsSafe}
-pub use Rattle.expr_lang.specs.ExactsLaws.{worth}
-pub use Rattle.views.specs.AnswerLaws.{stays_answer, told_ok}
-pub use Rattle.views.specs.ColumnsLaws.{no_column, length-with_column}
 pub use Rattle.views.specs.declared.fault.LaneFault.{LaneFault}
 pub use Rattle.expr_lang.specs.declared.bound.Links.{Links, size-Links}
 pub use Rattle.expr_lang.specs.declared.bound.Step.{Step}
-pub use Rattle.expr_lang.specs.Chains.{step_term, links_term, operand_term, chain_term, AreWithin}
-pub use Rattle.expr_lang.specs.ChainLaws.{one_more, safe_front, within_front, within_links, within_rest, safe_steps, safe_rest, no_deeper}
-pub use Rattle.expr_lang.specs.Inner.Steps.{stepped, IsStepFit, IsWorthIn, IsRight, AreStepsSafe}
-pub use Rattle.expr_lang.specs.StepLaws.{step_worth, step_fits}
-pub use Rattle.expr_lang.specs.Bounds.{bound_term}
 pub use Rattle.expr_lang.specs.declared.bound.Link.{Link}
-pub use Rattle.record_dim.specs.Trees.{Fields}
 pub use Rattle.row_updates.specs.declared.fault.UpdateFault.{UpdateFault}
 pub use Rattle.row_updates.specs.Rows.{each, ◌>>=◌, Setting, with_values, passes, new_value, tried_row, setting_of, in_row, store_kind, value_of, updated_row, updated_rows, updated_of, counted, filter_term, IsSetOf}
 pub use Rattle.row_updates.specs.Logs.{value_log, filter_log, if_ok, if_passes, sides_log, stores_log, tried_log, row_log, count_log, update_log}

@@ -5,8 +5,7 @@ line_place : (n row : ℕ) → place (n ∷ []) (row ∷ []) ≡ row
 line_place n row = omega arith
 
 line_entry : (n row : ℕ) → row < n → slice_get (indices (n ∷ [])) row ≡ Some (row ∷ [])
-line_entry n row below =
-    ap (slice_get (indices (n ∷ []))) (sym (line_place n row)) ∙ slice_get-place (n ∷ []) (row ∷ []) (below, tt)
+line_entry n row below = ap (slice_get (indices (n ∷ []))) (sym (line_place n row)) ∙ slice_get-place (n ∷ []) (row ∷ []) (below, tt)
 
 line_below : (n row : ℕ) → row < length (indices (n ∷ [])) → row < n
 line_below n row small = grind (arith, length-indices)

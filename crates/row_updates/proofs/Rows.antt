@@ -1,6 +1,5 @@
 -- Updates of rows, step by step.
-use Rattle.row_updates.proofs.Imports.{◌≡◌, ℕ, suc, ◌+◌, ◌<◌, ◌≤◌, List, [], ◌∷◌, ◌++◌, length, map, get_or, take, take_all, drop, set, ℤ, pos, Bool, true, false, Option, Some, None, Result, Ok, Err, is_ok, refl, sym, ap, subst, ◌∙◌, arith, count_by, cond, range_with_len, slice_set, OnOk, IfOk, IfErr, take_more, take_more_set, drop-set-lt, drop_more, get_or-set_same, set-set, get_or-map, length-set, length-map, get_or-take, sum_by-append, Term, index_at, with_entry, Access, Write, after_log-none, logs_more, Table, answer_of, kept_of, after_log, after_stores, after_write, StoreFault, UpdateFault, Assign, StoreAnswer, Keeping, without_number, Setting, setting_of, each, in_row, store_kind, value_of, passes, new_value, with_values, tried_row, updated_row, updated_rows, updated_of, counted, ◌>>=◌, updated_as_tried, AreUpdated, IsStopped, AreCounted, row_test, IsCounted, IsCountStopped, value_log, sides_log, stores_log, row_log, update_log, count_log, after_stores-append, bool_byte}
-use Rattle.std.proofs.lemmas.List.{get_or-drop}
+use Rattle.row_updates.proofs.Imports.{◌≡◌, ℕ, suc, ◌+◌, ◌<◌, ◌≤◌, List, [], ◌∷◌, ◌++◌, length, map, get_or, take, take_all, drop, set, ℤ, pos, Bool, true, false, Option, Some, None, Result, Ok, Err, is_ok, refl, sym, ap, subst, ◌∙◌, arith, count_by, cond, range_with_len, slice_set, OnOk, IfOk, IfErr, take_more, take_more_set, drop-set-lt, drop_more, get_or-set_same, set-set, get_or-map, length-set, length-map, get_or-take, sum_by-append, Term, index_at, with_entry, Access, Write, after_log-none, logs_more, Table, answer_of, kept_of, after_log, after_stores, after_write, StoreFault, UpdateFault, Assign, StoreAnswer, Keeping, without_number, Setting, setting_of, each, in_row, store_kind, value_of, passes, new_value, with_values, tried_row, updated_row, updated_rows, updated_of, counted, ◌>>=◌, updated_as_tried, AreUpdated, IsStopped, AreCounted, row_test, IsCounted, IsCountStopped, value_log, sides_log, stores_log, row_log, update_log, count_log, after_stores-append, bool_byte, get_or-drop}
 use Rattle.row_updates.proofs.Logs.{sides_push, sides_stop, stores_push, count_push}
 use Rattle.row_updates.proofs.Each.{each_push, each_stop, each_at, rows_push, rows_stop, with_values_push}
 

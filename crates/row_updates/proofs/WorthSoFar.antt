@@ -1,7 +1,6 @@
 -- The values of a chain in the rows of a run, as far as its links have been walked.
-use Rattle.row_updates.proofs.Imports.{◌≡◌, ◌∙◌, ℕ, ◌+◌, ◌<◌, List, ℤ, length, get_or, pos, sym, ap, subst, Links, Step, Term, step_term, links_term, one_more, safe_front, IsSafe, stepped, IsStepFit, IsWorthIn, IsRight, step_worth, step_fits, index_at, Table, Run, IsRunOf, row_of, AreWorth, AreRights}
+use Rattle.row_updates.proofs.Imports.{◌≡◌, ◌∙◌, ℕ, ◌+◌, ◌<◌, List, ℤ, length, get_or, pos, sym, ap, subst, Links, Step, Term, step_term, links_term, one_more, safe_front, IsSafe, stepped, IsStepFit, IsWorthIn, IsRight, step_worth, step_fits, index_at, Table, Run, IsRunOf, row_of, AreWorth, AreRights, arith}
 use Rattle.expr_lang.specs.declared.bound.Links.TheVariants as links
-use Rattle.std.proofs.Common.{arith}
 
 -- the same rows, so many as well
 pub run_rows : (table old : Table) (run : Run) (n m : ℕ) → table ≡ old → m ≡ n → IsRunOf old run n → IsRunOf table run m

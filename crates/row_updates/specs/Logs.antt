@@ -1,12 +1,9 @@
 -- The accesses of an update and of a count, in order.
 use Rattle.std.specs.Prelude.{ℕ, Bool, true, ℤ, List, [], ◌∷◌, ◌++◌, map, slice_index_or, Option, Some, None, Result, Ok, Err}
-use Rattle.std.specs.List.{flat_map, range_with_len}
-use Rattle.expr_lang.specs.Terms.{Term}
-use Rattle.expr_lang.specs.Values.{outcome_of}
+use Rattle.record_dim.specs.Std.{flat_map, range_with_len}
+use Rattle.expr_lang.specs.Prelude.{Term, outcome_of}
 use Rattle.linearize.specs.Slots.{index_at}
-use Rattle.views.specs.Tallies.{Access, Read, Write}
-use Rattle.views.specs.Tables.{Table, answer_of}
-use Rattle.views.specs.Stores.{StoreAnswer}
+use Rattle.views.specs.Prelude.{Access, Read, Write, Table, answer_of, StoreAnswer}
 use Rattle.row_updates.specs.declared.fault.UpdateFault.{UpdateFault}
 use Rattle.row_updates.specs.Rows.{Setting, each, passes, new_value}
 

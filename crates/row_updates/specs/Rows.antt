@@ -1,16 +1,12 @@
 -- What an update makes of the rows of a table, and which fault ends it.
 use Rattle.std.specs.Prelude.{ℕ, ◌≡◌, ◌<◌, Bool, true, ℤ, List, [], ◌∷◌, length, count_by, slice_index_or, slice_set, Option, Some, None, option_map, Result, Ok, Err, if◌then◌else◌}
-use Rattle.std.specs.Borrow.{Bor}
-use Rattle.std.specs.List.{range_with_len}
+use Rattle.record_dim.specs.Std.{Bor, range_with_len}
 use Rattle.expr_lang.specs.declared.fault.EvalFault.{EvalFault}
 use Rattle.expr_lang.specs.declared.fault.EvalFault.TheVariants as eval
 use Rattle.expr_lang.specs.declared.bound.Bound.{Bound}
-use Rattle.expr_lang.specs.Bounds.{bound_term, bound_leaves, bound_rank}
-use Rattle.expr_lang.specs.Terms.{Term}
-use Rattle.expr_lang.specs.Values.{outcome_of, is_true}
+use Rattle.expr_lang.specs.Prelude.{bound_term, bound_leaves, bound_rank, Term, outcome_of, is_true}
 use Rattle.linearize.specs.Slots.{index_at}
-use Rattle.views.specs.Tables.{Table, leaf_count_of, answer_of, kept_of}
-use Rattle.views.specs.Stores.{StoreAnswer, Keeping}
+use Rattle.views.specs.Prelude.{Table, leaf_count_of, answer_of, kept_of, StoreAnswer, Keeping}
 use Rattle.views.specs.declared.fault.StoreFault.{StoreFault}
 use Rattle.views.specs.declared.fault.StoreFault.TheVariants as store
 use Rattle.row_updates.specs.declared.fault.UpdateFault.{UpdateFault}

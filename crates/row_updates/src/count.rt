@@ -1,8 +1,7 @@
 // Rows where an expression is not 0, counted.
 ghost use Rattle.std.specs.Prelude.{◌≡◌, ◌+◌, ◌≤◌, ◌-◌, ℕ, OnOk, IfOk, IfErr, length};
-ghost use Rattle.expr_lang.specs.Bounds.{bound_term};
-ghost use Rattle.expr_lang.specs.Inner.Exacts.{IsSafe};
-ghost use Rattle.views.specs.Tables.{Table, leaf_count_of, after_log};
+ghost use Rattle.expr_lang.specs.Prelude.{bound_term, IsSafe};
+ghost use Rattle.views.specs.Prelude.{Table, leaf_count_of, after_log};
 ghost use Rattle.row_updates.specs.Rows.{IsBoundOver, counted};
 ghost use Rattle.row_updates.specs.Logs.{count_log};
 ghost use Rattle.row_updates.specs.Inner.ValueRuns.{IsIdle, IsRunOf};

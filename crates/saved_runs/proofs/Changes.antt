@@ -1,5 +1,5 @@
 -- The rows that updates, kernels and datasets leave.
-use Rattle.saved_runs.proofs.Imports.{◌≡◌, ℕ, zero, suc, ◌+◌, ◌<◌, ◌≤◌, Bool, true, false, ℤ, List, [], ◌∷◌, ◌++◌, length, map, get_or, drop, Option, Some, None, Result, Ok, Err, is_ok, if◌then◌else◌, refl, sym, ap, ◌∙◌, subst, arith, append-nil, range_with_len, option_or, length-map, drop_all, take-length, Term, index_at, kinds_of, holds_by, hold_at, kept_by, StoreFault, Setting, each, in_row, store_kind, value_of, passes, new_value, updated_row, with_values, UpdateFault, UpdateKind, Store, stored, with_store, run_rows, answer_fault, kernel_store_fault, first_row_fault, empty_fault, kernel_fault, KernelFault, Kernel, Each, Header, AreRows, answer_by}
+use Rattle.saved_runs.proofs.Imports.{◌≡◌, ℕ, zero, suc, ◌+◌, ◌<◌, ◌≤◌, Bool, true, false, ℤ, List, [], ◌∷◌, length, map, get_or, Option, Some, None, Result, Ok, is_ok, if◌then◌else◌, sym, ap, ◌∙◌, subst, arith, append-nil, range_with_len, option_or, length-map, drop_all, take-length, Term, index_at, kinds_of, holds_by, hold_at, kept_by, StoreFault, Setting, each, in_row, store_kind, value_of, passes, new_value, updated_row, with_values, UpdateFault, UpdateKind, Store, stored, with_store, run_rows, answer_fault, kernel_store_fault, first_row_fault, empty_fault, kernel_fault, KernelFault, Kernel, Each, Header, AreRows, answer_by}
 use Rattle.row_updates.specs.Rows.{◌>>=◌}
 use Rattle.saved_runs.proofs.Rows.{IsRow, each_at, each_row, are_rows, set_row, taken_stays}
 
@@ -10,8 +10,7 @@ record Ran {A B : Type 0} (x : Result A UpdateFault) (f : A → Result B UpdateF
   next : f thing ≡ Ok b
 
 ran : {A B : Type 0} (x : Result A UpdateFault) (f : A → Result B UpdateFault) (b : B) → (x >>= f) ≡ Ok b → Ran x f b
-ran (Ok a) f b is = record { thing = a; first = refl; next = is }
-ran (Err fault) f b is = absurd (cc is)
+ran x f b is = grind arith
 
 abbrev given : {A : Type 0} → A → Result A UpdateFault
 given x = Ok x
@@ -20,8 +19,7 @@ same_answers : {A : Type 0} (x y : A) → given x ≡ given y → x ≡ y
 same_answers x y is = cc
 
 taken_in : (number : ℕ) (kind : StoreFault → UpdateKind) (answer : Result ℤ StoreFault) (kept : ℤ) → in_row number kind answer ≡ Ok kept → is_ok answer ≡ true
-taken_in number kind (Ok left) kept is = refl
-taken_in number kind (Err fault) kept is = absurd (cc is)
+taken_in number kind answer kept is = grind arith
 
 -- a header whose holds have a bit at least
 module _ (header : Header) (wide : (leaf : ℕ) → leaf < length (kinds_of header.fields) → 1 ≤ (hold_at (holds_by header.mapping header.fields) leaf).width) where
@@ -39,8 +37,7 @@ module _ (header : Header) (wide : (leaf : ℕ) → leaf < length (kinds_of head
       let taken : is_ok (answer_by header set.leaf a.thing) ≡ true =
       subst (λ (v : ℤ). is_ok (answer_by header set.leaf v) ≡ true) value (taken_in number (store_kind set.leaf) (answer_by header set.leaf c.thing) d.thing d.first) in
       let stored_now = set_row header now set.leaf (kept_by (answer_by header) set.leaf a.thing) one (λ l. taken_stays header wide set.leaf a.thing l taken) in
-      subst (λ (vs : List ℤ). IsRow header (with_values (kept_by (answer_by header)) (set ∷ sets) vs now)) (same_answers (a.thing ∷ b.thing) values b.next)
-      (values_set number row index sets b.thing _ b.first stored_now)
+      grind (arith, same_answers, (values_set number row index sets b.thing _ b.first stored_now))
 
   row_updated : (filter : Option (Term ℕ)) (sets : List Setting) (number : ℕ) (row : List ℤ) (index : List ℕ) (new : List ℤ)
       → updated_row (answer_by header) (kept_by (answer_by header)) filter sets number row index ≡ Ok new → IsRow header row → IsRow header new
@@ -58,8 +55,7 @@ module _ (header : Header) (wide : (leaf : ℕ) → leaf < length (kinds_of head
   rows_updated : (filter : Option (Term ℕ)) (sets : List Setting) (extents : List ℕ) (rows : List (List ℤ)) → Each (IsRow header) rows → (first count : ℕ) (new : List (List ℤ)) → first + count ≤ length rows
       → each (λ number. updated_row (answer_by header) (kept_by (answer_by header)) filter sets number (get_or rows number []) (index_at extents number)) (range_with_len first count) ≡ Ok new
       → (length new ≡ count) × Each (IsRow header) new
-  rows_updated filter sets extents rows all first zero new inside is =
-      subst (λ (ys : List (List ℤ)). (length ys ≡ 0) × Each (IsRow header) ys) (same_answers [] new is) (refl, tt)
+  rows_updated filter sets extents rows all first zero new inside is = grind (arith, same_answers)
   rows_updated filter sets extents rows all first (suc count) new inside is =
       let a = ran (updated_row (answer_by header) (kept_by (answer_by header)) filter sets first (get_or rows first []) (index_at extents first)) _ new is in
       let b = ran (each (λ number. updated_row (answer_by header) (kept_by (answer_by header)) filter sets number (get_or rows number []) (index_at extents number)) (range_with_len (first + 1) count)) _ new a.next in
@@ -76,8 +72,7 @@ module _ (header : Header) (wide : (leaf : ℕ) → leaf < length (kinds_of head
   -- ---- kernels
 
   not_refused : (row leaf : ℕ) (answer : Result ℤ StoreFault) → answer_fault row leaf answer ≡ None → is_ok answer ≡ true
-  not_refused row leaf (Ok kept) is = refl
-  not_refused row leaf (Err fault) is = absurd (cc is)
+  not_refused row leaf answer is = grind arith
 
   store_stays : (row : ℕ) (values : List ℤ) (store : Option Store) → kernel_store_fault (answer_by header) row store ≡ None → IsRow header values → IsRow header (with_store (kept_by (answer_by header)) values store)
   store_stays row values None is one = one
@@ -86,8 +81,7 @@ module _ (header : Header) (wide : (leaf : ℕ) → leaf < length (kinds_of head
       (λ l. taken_stays header wide store.leaf store.value l (not_refused row store.leaf (answer_by header store.leaf store.value) is))
 
   neither : (one other : Option KernelFault) → option_or one other ≡ None → (one ≡ None) × (other ≡ None)
-  neither None other is = (refl, is)
-  neither (Some fault) other is = absurd (cc is)
+  neither one other is = grind arith
 
   rows_run : (kernel : Kernel) (row : ℕ) (rows : List (List ℤ)) → first_row_fault (answer_by header) kernel row rows ≡ None → Each (IsRow header) rows
       → Each (IsRow header) (map (λ values. with_store (kept_by (answer_by header)) values (stored kernel values)) rows)
@@ -101,7 +95,5 @@ module _ (header : Header) (wide : (leaf : ℕ) → leaf < length (kinds_of head
   kernel_stays kernel rows are is =
       let done : List ℤ → List ℤ = λ values. with_store (kept_by (answer_by header)) values (stored kernel values) in
       let parts = neither (empty_fault kernel rows) (first_row_fault (answer_by header) kernel 0 rows) is in
-      let all : run_rows (kept_by (answer_by header)) kernel (length rows) rows ≡ map done rows =
-      ap (λ (front : List (List ℤ)). map done front ++ drop (length rows) rows) (take-length rows)
-      ∙ ap (λ (back : List (List ℤ)). map done rows ++ back) (drop_all (length rows) rows (omega arith)) ∙ append-nil (map done rows) in
+      let all : run_rows (kept_by (answer_by header)) kernel (length rows) rows ≡ map done rows = grind (arith, take-length, drop_all, append-nil) in
       subst (AreRows header) (sym all) (are_rows header (map done rows) (length-map rows done ∙ are.shape.row_count) (rows_run kernel 0 rows parts.1 (each_row header rows are)))

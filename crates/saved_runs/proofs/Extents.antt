@@ -1,5 +1,5 @@
 -- The extents of a view that is made are those that the words of a line say in numbers.
-use Rattle.saved_runs.proofs.Imports.{◌≡◌, ◌⊎◌, ℕ, zero, suc, ◌*◌, ◌/◌, ◌%◌, ◌^◌, ◌<◌, ◌≤◌, Bool, true, false, not, ◌&&◌, nat_lt, List, [], ◌∷◌, map, length, Option, Some, None, if◌then◌else◌, inl, inr, ⊎_elim, refl, sym, ap, subst, arith, ◌||◌, ◌==◌, count_by, unwrap_or, list_any, option_map_or, le-ltb, ltb-false, nat_tests, length-map, mul-le-mul_left, product, is_rows, is_zero, extent_of, fixed_product, extents_for, bad_shape, bad_extents, same_fixed, product_filled, fixed_positive, product_fixed, product_divided, ExtentWord, Fixed, Rows, Each}
+use Rattle.saved_runs.proofs.Imports.{◌≡◌, ◌⊎◌, ℕ, ◌*◌, ◌/◌, ◌%◌, ◌^◌, ◌<◌, ◌≤◌, Bool, false, not, ◌&&◌, nat_lt, List, [], ◌∷◌, map, length, Option, Some, None, if◌then◌else◌, ⊎_elim, refl, sym, ap, subst, arith, ◌||◌, ◌==◌, count_by, unwrap_or, list_any, option_map_or, le-ltb, ltb-false, nat_tests, length-map, mul-le-mul_left, product, is_rows, is_zero, extent_of, fixed_product, extents_for, bad_shape, bad_extents, same_fixed, product_filled, fixed_positive, product_fixed, product_divided, ExtentWord, Fixed, Rows, Each}
 use Rattle.extents.specs.declared.words.BadExtents.TheVariants as bad
 use Rattle.saved_runs.proofs.Lines.{IsLow}
 
@@ -50,9 +50,7 @@ is_ranged words rows is =
     of_tests _ _ _ a b c is = absurd (cc is)
 
 at_most_one : (n : ℕ) → n ≤ 1 → (n ≡ 0) ⊎ (n ≡ 1)
-at_most_one zero few = inl refl
-at_most_one (suc zero) few = inr refl
-at_most_one (suc (suc n)) few = absurd (omega (arith, few))
+at_most_one n few = grind arith
 
 -- the product of the extents for a dataset is its number of rows
 equal_rows : (count rows size : ℕ) → count ≡ 0 → ((count == 0) && not (rows == size)) ≡ false → rows ≡ size
@@ -81,10 +79,7 @@ same_extents s [] = refl
 same_extents s (n ∷ extents) = ap (λ (ns : List ℕ). n ∷ ns) (same_extents s extents)
 
 numbers_shaped : (extents : List ℕ) → 1 ≤ length extents → length extents ≤ 4 → bad_shape (map Fixed extents) ≡ None
-numbers_shaped extents some few =
-    let long : length (map Fixed extents) ≡ length extents = length-map extents Fixed in
-    let rank : ((length extents == 0) || nat_lt 4 (length extents)) ≡ false = grind (arith, nat_tests) in
-    rw (long, rank, no_rows extents) refl
+numbers_shaped extents some few = grind (arith, length-map, nat_lt, nat_tests, no_rows)
 
 numbers_ranged : (extents : List ℕ) → product extents ≤ 2 ^ 24 → bad_extents (map Fixed extents) None ≡ None
 numbers_ranged extents few =
@@ -110,9 +105,7 @@ extents_low s words shape few all =
     beside n empty one apart = grind (arith, nat_tests)
 
     quotient_low : (s p : ℕ) → 0 < p → s * p ≤ 2 ^ 24 → s < 2 ^ 32
-    quotient_low s p some few =
-        let one : 1 ≤ p = omega (arith, some) in
-        omega (arith, mul-le-mul_left s one, few)
+    quotient_low s p some few = grind (arith, mul-le-mul_left)
 
 -- the extents of words are such extents
 pub are_extents : (words : List ExtentWord) (rows : Option ℕ) → bad_shape words ≡ None → bad_extents words rows ≡ None → Each IsLow words → AreExtents (extents_for words rows)

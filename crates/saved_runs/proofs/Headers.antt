@@ -1,6 +1,5 @@
 -- Lines that say the header of a table.
-use Rattle.saved_runs.proofs.Imports.{◌≡◌, ℕ, zero, suc, ◌+◌, ◌^◌, ◌<◌, ◌≤◌, Bool, true, false, not, ◌&&◌, List, [], ◌∷◌, ◌++◌, length, map, codes, nat_lt, Some, Result, Ok, Err, inl, refl, sym, ap, subst, append-nil, append_assoc, arith, ◌||◌, lt-ltb, ltb-false, Grammar, Is, AreSpelled, spaced_tokens, OpenBracket, CloseBracket, Colon, Comma, Fields, Record, Fixed, MapTerm, Aos, Soa, Aosoa, BitAos, BitSoa, Split, Byteswap, Bytesplit, Change, Counted, Heated, Named, depth_of, checked, has_counter, counts_once, bad_number, answered, accepted, else_for, bad_side, bad_field, not_full, Cell, Token, Word, Sign, Two, name_of, count_of, command_of, Sentence, New, Define, View, name, count, fixed, later, listed, bracket_list, flag, new, mapping_phrase, body, command_line, line, count_token, written, IsSpelled, Each, fits_more, fits_flat, one_fits, word_spelled, fits_alone, decimal_spells, joined_reads, Header, is_wrap, view_line, HasLine, or_parts, not-true}
-use Rattle.std.specs.Prelude.{if◌then◌else◌}
+use Rattle.saved_runs.proofs.Imports.{◌≡◌, ℕ, ◌+◌, ◌^◌, ◌<◌, ◌≤◌, Bool, true, false, not, ◌&&◌, List, [], ◌∷◌, ◌++◌, length, map, codes, nat_lt, Some, Result, Ok, Err, inl, refl, sym, ap, subst, append-nil, append_assoc, arith, lt-ltb, ltb-false, Grammar, Is, AreSpelled, spaced_tokens, OpenBracket, CloseBracket, Colon, Comma, Fields, Record, Fixed, MapTerm, Split, Byteswap, Bytesplit, Change, Counted, Heated, depth_of, checked, has_counter, counts_once, bad_number, answered, accepted, else_for, Cell, Token, Word, Sign, Two, name_of, count_of, command_of, Sentence, New, Define, View, name, count, fixed, later, listed, bracket_list, flag, new, mapping_phrase, body, command_line, line, count_token, written, IsSpelled, Each, fits_more, fits_flat, one_fits, word_spelled, fits_alone, decimal_spells, joined_reads, Header, is_wrap, view_line, HasLine, or_parts, not-true, if◌then◌else◌}
 use Rattle.map_expr.specs.declared.check.BadMapping.{BadMapping}
 use Rattle.map_expr.specs.declared.check.BadMapping.TheVariants as bad
 use Rattle.line_grammar.specs.declared.line.Command.TheVariants as command
@@ -15,8 +14,7 @@ one_if true = 1
 one_if false = 0
 
 and_true : (a b : Bool) → (a && b) ≡ true → (a ≡ true) × (b ≡ true)
-and_true true b is = (refl, is)
-and_true false b is = absurd (cc is)
+and_true a b is = grind arith
 
 uncounted_low : (term : MapTerm) → has_counter term ≡ false → height term ≤ depth_of term
 uncounted_low (Split path first rest) none =
@@ -57,16 +55,10 @@ checked_low term is = of_tests (nat_lt 8 (depth_of term)) (counts_once true true
     of_tests false true deep counts is = omega (arith, ltb-false 8 (depth_of term) deep, counted_low true true term counts)
 
 earlier : (why : BadMapping) (holds : Bool) (answer : Result Unit BadMapping) → else_for why holds answer ≡ Ok tt → answer ≡ Ok tt
-earlier why true (Ok done) is = absurd (cc is)
-earlier why false (Ok done) is = refl
-earlier why holds (Err found) is = absurd (cc is)
+earlier why holds answer is = grind arith
 
 pub accepted_low : (term : MapTerm) (fields : Fields) (cells : List Cell) → accepted term fields cells ≡ Ok tt → height term ≤ 10
-accepted_low term fields cells is =
-    let sides = else_for bad.Side (bad_side term fields cells) (checked term) in
-    let named = else_for bad.Field (bad_field term fields cells) sides in
-    checked_low term (earlier bad.Side (bad_side term fields cells) (checked term)
-    (earlier bad.Field (bad_field term fields cells) sides (earlier bad.NotFull (not_full term fields cells) named is)))
+accepted_low term fields cells is = grind (arith, checked_low, earlier)
 
 -- ---- tokens of numbers, words and lists
 

@@ -1,5 +1,5 @@
 -- What the lines of the language say of the records, mapping expressions and extents in them.
-use Rattle.saved_runs.proofs.Imports.{◌≡◌, ℕ, ◌+◌, ◌-◌, ◌^◌, ◌<◌, ◌≤◌, Bool, true, false, List, [], ◌∷◌, map, nat_lt, pos, Some, None, if◌then◌else◌, refl, arith, ltb-true, Grammar, Is, behind_token, Asked, as_asked, opens, closes, brackets_after, MayOpen, AreSpelled, Comma, TokenKind, Tree, Fields, Record, ExtentWord, Fixed, Rows, Token, Number, Sign, Two, Command, count_of, Sentence, New, Define, Mapping, View, Load, Relayout, IsSentence, actors, body, bracket_list, command_line, extent_word, fields, fixed, later, line, listed, new, show_end, update_end, written, Each, each_append}
+use Rattle.saved_runs.proofs.Imports.{◌≡◌, ℕ, ◌+◌, ◌-◌, ◌^◌, ◌<◌, ◌≤◌, Bool, true, false, List, [], ◌∷◌, map, nat_lt, Some, None, if◌then◌else◌, refl, arith, ltb-true, Grammar, Is, behind_token, Asked, as_asked, opens, closes, brackets_after, MayOpen, AreSpelled, TokenKind, Tree, Fields, Record, ExtentWord, Fixed, Rows, Token, Two, Command, count_of, Sentence, New, Define, Mapping, View, Load, Relayout, IsSentence, actors, body, bracket_list, command_line, extent_word, fields, fixed, later, line, listed, new, show_end, update_end, written, Each, each_append}
 use Rattle.line_tokens.specs.declared.token.TokenKind.TheVariants as kind
 use Rattle.line_grammar.specs.declared.line.Command.TheVariants as command
 use Rattle.saved_runs.proofs.Maps.{HasTokens, mapping_has}
@@ -13,15 +13,10 @@ IsLow (Fixed n) = n < 2 ^ 32
 IsLow Rows = Unit {0}
 
 below : (test : Bool) (n v : ℕ) → nat_lt n (2 ^ 32) ≡ test → (if test then Some n else None) ≡ Some v → v < 2 ^ 32
-below true n v low is =
-    let small : n < 2 ^ 32 = ltb-true n (2 ^ 32) low in
-    let same : n ≡ v = cc in
-    omega (arith, small, same)
-below false n v low is = absurd (cc is)
+below test n v low is = grind (arith, ltb-true)
 
 count_low : (token : Token) (v : ℕ) → count_of token ≡ Some v → v < 2 ^ 32
-count_low (Number (pos n)) v is = below (nat_lt n (2 ^ 32)) n v refl is
-count_low _ v is = absurd (cc is)
+count_low token v is = grind (arith, below, nat_lt)
 
 fixed_low : Asked Stand fixed (λ xs v. IsLow v)
 unfolding fixed
@@ -34,10 +29,7 @@ extents_low = (tt, fixed_low)
 -- each of the phrases of a list in brackets
 listed_each : {A : Type 0} (one : Grammar Token A) (P : A → Type 0) → Asked Stand one (λ xs v. P v) → (xs : List Token) (found : List A) → Is (listed one) xs found → Stand xs → Each P found
 unfolding listed later
-listed_each one P has = as_asked stand_splits (listed one) (λ xs v. Each P v) (λ first xs i s. (
-  (as_asked stand_splits one (λ us v. P v) has xs first i s, tt),
-  λ found front all next ys j t. each_append P found (next ∷ []) all (as_asked stand_splits (behind_token (Sign Comma) one) (λ us v. P v) has ys next j t, tt),
-))
+listed_each one P has = as_asked stand_splits (listed one) (λ xs v. Each P v) (λ first xs i s. grind (arith, as_asked, stand_splits, each_append, behind_token))
 
 bracketed_each : {A : Type 0} (one : Grammar Token A) (P : A → Type 0) → Asked Stand one (λ xs v. P v) → (xs : List Token) (found : List A) → Is (bracket_list one) xs found → Stand xs → Each P found
 unfolding bracket_list

@@ -1,5 +1,5 @@
 -- The rows that a dataset leaves in a table.
-use Rattle.saved_runs.proofs.Imports.{◌≡◌, ℕ, zero, suc, ◌+◌, ◌<◌, ◌≤◌, ℤ, pos, List, [], ◌∷◌, length, get_or, Result, Ok, Err, refl, sym, ap, ◌∙◌, subst, arith, slice_get, enumerate_from, length-map, indices, LeafType, Leaf, leaves, kinds_of, texts_of, path_text_of, Hold, holds_by, leaf_cells, length-holds, length-leaf_cells, hold_at, kind_at, Stays, StoreMode, answer_stays, store_answer, StoreFault, Place, records_behind, one_column, columns_named, columns_of, unspaced, number_behind_sign, the_field, the_number, taken, value_at, row_values, table_from, with_columns, dataset_table, RowFault, Each, Header, AreRows}
+use Rattle.saved_runs.proofs.Imports.{◌≡◌, ℕ, zero, suc, ◌+◌, ◌<◌, ◌≤◌, ℤ, pos, List, [], ◌∷◌, length, get_or, Result, Ok, refl, sym, ap, ◌∙◌, subst, arith, slice_get, enumerate_from, length-map, indices, LeafType, Leaf, leaves, kinds_of, texts_of, path_text_of, Hold, holds_by, leaf_cells, length-holds, length-leaf_cells, hold_at, kind_at, Stays, StoreMode, answer_stays, store_answer, StoreFault, Place, records_behind, one_column, columns_named, columns_of, unspaced, number_behind_sign, the_field, the_number, taken, value_at, row_values, table_from, with_columns, dataset_table, RowFault, Each, Header, AreRows}
 use Rattle.csv_rows.specs.Datasets.{◌>>=◌, header_record}
 use Rattle.saved_runs.proofs.Rows.{IsRow, are_rows}
 
@@ -10,8 +10,7 @@ record Ran {A B : Type 0} (x : Result A RowFault) (f : A → Result B RowFault) 
   next : f thing ≡ Ok b
 
 ran : {A B : Type 0} (x : Result A RowFault) (f : A → Result B RowFault) (b : B) → (x >>= f) ≡ Ok b → Ran x f b
-ran (Ok a) f b is = record { thing = a; first = refl; next = is }
-ran (Err fault) f b is = absurd (cc is)
+ran x f b is = grind arith
 
 abbrev given : {A : Type 0} → A → Result A RowFault
 given x = Ok x
@@ -20,8 +19,7 @@ same_answers : {A : Type 0} (x y : A) → given x ≡ given y → x ≡ y
 same_answers x y is = cc
 
 was_taken : (place : Place) (answer : Result ℤ StoreFault) (value : ℤ) → taken place answer ≡ Ok value → answer ≡ Ok value
-was_taken place (Ok kept) value is = let same : kept ≡ value = cc in ap Ok same
-was_taken place (Err fault) value is = absurd (cc is)
+was_taken place answer value is = grind arith
 
 -- a value that is kept stays
 value_stays : (place : Place) (fields : List (List ℕ)) (value : ℤ) → 1 ≤ place.hold.width → value_at place fields ≡ Ok value → Stays place.mode place.kind place.hold value
@@ -46,8 +44,7 @@ loaded_more mode kind kinds hold holds value values here later = record { long =
 row_loaded : (mode : StoreMode) (row : ℕ) (fields : List (List ℕ)) (leaf : ℕ) (columns : List ℕ) (kinds : List LeafType) (holds : List Hold) (values : List ℤ)
     → length columns ≡ length kinds → length holds ≡ length kinds → ((k : ℕ) → k < length kinds → 1 ≤ (hold_at holds k).width)
     → row_values row fields leaf (with_columns mode columns kinds holds) ≡ Ok values → IsLoaded mode kinds holds values
-row_loaded mode row fields leaf [] [] holds values few many wide is =
-    subst (IsLoaded mode [] holds) (same_answers [] values is) (record { long = refl; stays = λ k l. absurd (omega (arith, l)) })
+row_loaded mode row fields leaf [] [] holds values few many wide is = grind (arith, same_answers)
 row_loaded mode row fields leaf [] (kind ∷ kinds) holds values few many wide is = absurd (omega (arith, few))
 row_loaded mode row fields leaf (column ∷ columns) [] holds values few many wide is = absurd (omega (arith, few))
 row_loaded mode row fields leaf (column ∷ columns) (kind ∷ kinds) [] values few many wide is = absurd (omega (arith, many))
@@ -87,9 +84,7 @@ module _ (header : Header) (wide : (leaf : ℕ) → leaf < length (kinds_of head
       let a = ran (row_values row fields 0 (with_columns header.mode columns (kinds_of header.fields) (holds_by header.mapping header.fields))) _ table is in
       let b = ran (table_from (row + 1) rows (with_columns header.mode columns (kinds_of header.fields) (holds_by header.mapping header.fields))) _ table a.next in
       let here = row_loaded header.mode row fields 0 columns (kinds_of header.fields) (holds_by header.mapping header.fields) a.thing few holds_long wide a.first in
-      let later = rows_loaded columns few (row + 1) rows b.thing b.first in
-      subst (λ (t : List (List ℤ)). (length t ≡ suc (length rows)) × Each (IsRow header) t) (same_answers (a.thing ∷ b.thing) table b.next)
-      (ap suc later.0, (record { long = here.long ∙ kinds_long; stays = here.stays }, later.1))
+      let later = rows_loaded columns few (row + 1) rows b.thing b.first in grind (arith, same_answers, kinds_long)
 
   -- the table of a dataset with a row for each index
   pub dataset_stays : (records : List (List (List ℕ))) (table : List (List ℤ)) → length (records_behind records) ≡ length (indices header.extents)

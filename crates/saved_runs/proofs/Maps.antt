@@ -1,5 +1,5 @@
 -- The mapping expressions that lines say: their parts, and the tokens of such an expression.
-use Rattle.saved_runs.proofs.Imports.{◌≡◌, ℕ, zero, suc, ◌+◌, ◌≤◌, max, List, [], ◌∷◌, codes, Option, Some, None, refl, sym, subst, arith, le-max_left, le-max_right, Grammar, Is, item, behind_token, Asked, as_asked, OpenBrace, CloseBrace, OpenBracket, CloseBracket, OpenParen, CloseParen, Colon, Comma, Dot, Arrow, Order, FieldWidth, MapTerm, Aos, Soa, Aosoa, BitAos, BitSoa, Split, Byteswap, Bytesplit, Change, Counted, Heated, Named, Token, Word, Sign, Two, MapWord, name_of, count_of, type_of, integer_type_of, token_order, aos_form_of, soa_form_of, map_word, form_word, name, count, part, parts, path, field_width, field_widths, braced_widths, inside_aos, inside_soa, inside_aosoa, inside_bits, inside_form, form_or_name, mapping_phrase, mapping_within, IsSpelled, fits_flat, one_fits, word_spelled}
+use Rattle.saved_runs.proofs.Imports.{◌≡◌, ℕ, zero, suc, ◌+◌, ◌≤◌, max, List, [], ◌∷◌, Option, Some, None, refl, sym, subst, arith, le-max_left, le-max_right, Grammar, Is, item, behind_token, Asked, as_asked, OpenBrace, CloseBrace, OpenParen, CloseParen, Comma, Arrow, Order, FieldWidth, MapTerm, Aos, Soa, Aosoa, BitAos, BitSoa, Split, Byteswap, Bytesplit, Change, Counted, Heated, Named, Token, Word, Sign, Two, MapWord, name_of, count_of, type_of, integer_type_of, token_order, aos_form_of, soa_form_of, map_word, form_word, name, count, part, parts, path, field_width, field_widths, braced_widths, inside_aos, inside_soa, inside_aosoa, inside_bits, inside_form, form_or_name, mapping_phrase, mapping_within, IsSpelled, fits_flat, one_fits, word_spelled}
 use Rattle.record_dim.specs.declared.path.PathStep.TheVariants as step
 use Rattle.line_grammar.specs.declared.line.MapWord.TheVariants as form
 use Rattle.saved_runs.proofs.Told.{Told, told_more, told_nothing, told_item, told_behind, told_joined, told_first, told_second, told_inside, Keeps, keeps_nothing, keeps_item, keeps_behind, keeps_joined, keeps_either, keeps_which, keeps_each, keeps_inside, keeps_listed}
@@ -15,9 +15,7 @@ count_keeps k = keeps_item k count_of (λ sign. refl)
 
 part_keeps : Keeps 1 part
 unfolding part
-part_keeps = keeps_either 1
-    (keeps_behind 1 (Sign Dot) (λ xs f. fits_flat 1 (Sign Dot) xs refl refl f) (keeps_joined 1 (name_keeps 1) (λ name. keeps_nothing 1 (step.Name name))))
-    (keeps_inside 0 OpenBracket CloseBracket step.At refl refl refl (count_keeps 0))
+part_keeps = grind (arith, keeps_either, keeps_behind, fits_flat, keeps_joined, name_keeps, keeps_nothing, keeps_inside, count_keeps)
 
 path_keeps : Keeps 1 path
 unfolding path parts
@@ -25,8 +23,7 @@ path_keeps = keeps_joined 1 (name_keeps 1) (λ name. keeps_each 1 part_keeps (st
 
 width_keeps : Keeps 1 field_width
 unfolding field_width
-width_keeps = keeps_joined 1 path_keeps (λ path. keeps_behind 1 (Sign Colon) (λ xs f. fits_flat 1 (Sign Colon) xs refl refl f)
-    (keeps_joined 1 (count_keeps 1) (λ width. keeps_nothing 1 (record { path = path; width = width }))))
+width_keeps = grind (arith, keeps_joined, path_keeps, keeps_behind, fits_flat, count_keeps, keeps_nothing)
 
 widths_keep : Keeps 2 (field_widths Two)
 unfolding field_widths braced_widths
@@ -115,8 +112,7 @@ record IsFormWord (form : MapWord) : Type 0 where
   spelled : IsSpelled (Word (form_word form))
 
 form_words : (form : MapWord) → IsFormWord form
-form_words form.Aos = record { name = refl; meant = refl; spelled = word_spelled (codes "aos") refl refl (omega arith) }
-form_words other = record { name = refl; meant = refl; spelled = word_spelled (form_word other) refl refl (omega arith) }
+form_words form = grind (arith, word_spelled)
 
 -- a form around what stands in its brackets
 told_form : (n k m : ℕ) → k + 1 ≤ m → (form : MapWord) (term : MapTerm) → Told k (inside_form Two (mapping_within Two n) form) term → Told m (mapping_within Two (suc n)) term

@@ -1,9 +1,9 @@
 -- What a savable table saves is opened as the table.
-use Rattle.saved_runs.proofs.Imports.{◌≡◌, ℕ, ◌+◌, ◌*◌, ◌/◌, ◌^◌, ◌<◌, ◌≤◌, Bool, true, false, ℤ, List, [], ◌∷◌, ◌++◌, length, map, nat_lt, Option, Some, Result, Ok, inl, inr, refl, sym, ap, ◌∙◌, subst, length-append, arith, ◌||◌, is_some, sum_by, le-ltb, lt-leb, ltb-false, length-map, sum_by-cons, File, file_named, Owner, bit_held, image, bytes_of, length-bytes_of, indices, Open, Table, owners_of, leaf_count_of, Tally, Write, all_accesses, no_tally, tallied, Header, magic, four_bytes, record_text, view_text, header_text, IsShort, CanLie, Saved, opened, table_of_saved, rows_in, header_of, blobs_of, OpensFiles, HoldsRows, FileFault, World, found, free, quiet, refused_if, ok_or, tells, room, live_bits, blob_bits, with_view, there, read, is_long, save, open_view, opened_table, opened_beside, bad_file, step, CommandFault, Taken, TooBig, TooManyViews, IsSavable, once_written, OpensAs, sure, Told}
-use Rattle.layout_io.specs.Writing.{joined}
+use Rattle.saved_runs.proofs.Imports.{◌≡◌, ℕ, ◌+◌, ◌*◌, ◌/◌, ◌^◌, ◌<◌, ◌≤◌, Bool, true, false, ℤ, List, [], ◌∷◌, ◌++◌, length, map, nat_lt, Some, Ok, inl, inr, refl, sym, ap, ◌∙◌, subst, length-append, arith, ◌||◌, is_some, sum_by, le-ltb, lt-leb, ltb-false, length-map, sum_by-cons, File, file_named, Owner, bit_held, image, bytes_of, length-bytes_of, Open, Table, owners_of, Header, header_text, IsShort, CanLie, Saved, opened, table_of_saved, rows_in, header_of, blobs_of, OpensFiles, HoldsRows, World, quiet, refused_if, blob_bits, with_view, save, open_view, opened_table, opened_beside, step, CommandFault, IsSavable, once_written, OpensAs, sure, Told}
+use Rattle.layout_io.specs.Prelude.{joined}
 use Rattle.blob_file.specs.Files as saved_file
 use Rattle.saved_runs.specs.SavedRuns.{HasRoom}
-use Rattle.saved_runs.proofs.Went.{went, leads, unrefused, same_given}
+use Rattle.saved_runs.proofs.Went.{went, unrefused, same_given}
 
 -- ---- the file of a table
 
@@ -22,14 +22,7 @@ record WasSaved (table : Table) (text : List ℕ) : Type 0 where
 
 was_saved : (table : Table) (done : Told) → save table ≡ Ok done → WasSaved table done.text
 unfolding save
-was_saved table done goes =
-    let file : List ℕ = saved_file.file_of (header_of table) (blobs_of table) in
-    let a = went (refused_if (is_long table) TooBig) _ done goes in
-    let few = both_short (length (record_text (header_of table))) (length (view_text (header_of table))) (unrefused (is_long table) TooBig a.thing a.first) in
-    record {
-      short = record { of_record = few.0; of_view = few.1 };
-      is = ap (λ (d : Told). d.text) (sym (same_given (tells file) done a.next));
-    }
+was_saved table done goes = grind (arith, went, both_short, unrefused, same_given)
 
 -- ---- a file is not too long to be opened
 
@@ -46,14 +39,11 @@ image_length (owners ∷ layout) rows =
     subst (λ (n : ℕ). 8 * length (blob ++ rest) ≤ n) (sym (sum_by-cons (length {A = Owner}) owners layout)) step
 
 header_length : (header : Header) → IsShort header → length (header_text header) ≤ 8194
-header_length header short =
-    omega (arith, short.of_record, short.of_view, length-append (record_text header) (10 ∷ (view_text header ++ 10 ∷ [])), length-append (view_text header) (10 ∷ []))
+header_length header short = grind (arith, length-append)
 
 file_length : (header : Header) (blobs : List (List ℕ)) → length (saved_file.file_of header blobs) ≡ 12 + (length (header_text header) + length (joined blobs))
 unfolding saved_file.file_of
-file_length header blobs =
-    let size : List ℕ = four_bytes (length (header_text header)) in
-    omega (arith, length-append magic (size ++ (header_text header ++ joined blobs)), length-append size (header_text header ++ joined blobs), length-append (header_text header) (joined blobs))
+file_length header blobs = grind (arith, length-append)
 
 saved_length : (table : Table) → IsShort (header_of table) → CanLie (header_of table) → length (saved_file.file_of (header_of table) (blobs_of table)) ≤ 2 ^ 28 + 8206
 saved_length table short lies =
@@ -65,23 +55,10 @@ saved_length table short lies =
 
 -- ---- what is opened where there is room
 
-passes : (test : Bool) (fault : CommandFault) → test ≡ false → refused_if test fault ≡ Ok tt
-passes test fault is = ap (λ (t : Bool). refused_if t fault) is
-
 opens_there : (world : World) (name file : List ℕ) (files : List File) (bytes : List ℕ) (saved : Saved) → opened bytes ≡ Ok saved → length bytes ≤ 2 ^ 28 + 8206
     → HasRoom world name (table_of_saved saved) → file_named files file ≡ Some bytes → step world (Open name file) files false ≡ sure (quiet (with_view world name (table_of_saved saved)))
 unfolding step open_view opened_table opened_beside
-opens_there world name file files bytes saved opens short has is =
-    let table = table_of_saved saved in
-    leads (opened_table world name file files false) _ table _
-    (leads (sure (free name world.views)) _ tt _ (ap sure (passes (is_some (found name world.views)) (Taken name) (ap (λ (o : Option Table). is_some o) has.unused)))
-    (leads (sure (room world.views)) _ tt _ (ap sure (passes _ TooManyViews (lt-leb 64 (length world.views) has.few)))
-    (leads (read files false file) _ bytes _ (ap (there file) is) (ap sure
-    (leads (refused_if (nat_lt (2 ^ 28 + 8206) (length bytes)) TooBig) _ tt _ (passes _ TooBig (le-ltb (2 ^ 28 + 8206) (length bytes) short))
-    (leads (ok_or bad_file (opened bytes)) _ saved _ (ap (λ (r : Result Saved FileFault). ok_or bad_file r) opens)
-    (leads (refused_if (nat_lt (8 * 2 ^ 30) (live_bits world.views + blob_bits table)) TooBig) _ tt _
-    (passes _ TooBig (le-ltb (8 * 2 ^ 30) (live_bits world.views + blob_bits table) has.small)) refl)))))))
-    refl
+opens_there world name file files bytes saved opens short has is = grind (arith, is_some, lt-leb, nat_lt, le-ltb)
 
 module _ (opens_files : OpensFiles) (holds_rows : HoldsRows) (table : Table) (done : Told) (can : IsSavable table) (goes : save table ≡ Ok done) where
   abbrev header : Header
@@ -101,10 +78,7 @@ module _ (opens_files : OpensFiles) (holds_rows : HoldsRows) (table : Table) (do
   same_rows = holds_rows header table.rows can.lines can.lies can.rows
 
   same_table : table_of_saved saved ≡ once_written table
-  same_table =
-      let tally : ℕ → Tally = λ rows. tallied (owners_of table) (no_tally table.mapping (owners_of table) (leaf_count_of table)) (all_accesses Write (leaf_count_of table) rows) in
-      ap (λ (rows : List (List ℤ)). record table { rows = rows; tally = tally (length (indices table.extents)) }) same_rows
-      ∙ ap (λ (n : ℕ). record table { tally = tally n }) (sym can.rows.shape.row_count)
+  same_table = grind (arith, same_rows)
 
   pub saved_opens : OpensAs done.text (once_written table)
   saved_opens = record {

@@ -1,5 +1,5 @@
 -- Rows that a view of a header may hold, and those that commands make of them.
-use Rattle.saved_runs.proofs.Imports.{◌≡◌, ℕ, zero, suc, ◌+◌, ◌-◌, ◌<◌, ◌≤◌, ⊎_elim, Bool, true, false, ℤ, pos, List, [], ◌∷◌, length, map, get_or, set, Option, Some, None, Result, Ok, Err, is_ok, if◌then◌else◌, refl, sym, ◌∙◌, subst, arith, get_or-set_other, get_or-set_same, enumerate_from, cases_eq, ints, length-map, pow_pos, length-enumerate_from, length-set, indices, LeafType, Truth, Leaf, leaves, kinds_of, IsIn, IsDeclared, is_signed, width_of, holds_by, entry, HasShape, hold_at, with_entry, zeros, zeros_shape, zeros_entry, fitting_stays, kind_at, Stays, answer_stays, StoreAnswer, Keeping, kept_or, kept_by, kept_row, kept_rows, StoreFault, refusing, refused_at, spot_or, Spot, Each, Header, AreRows, answer_by}
+use Rattle.saved_runs.proofs.Imports.{◌≡◌, ℕ, zero, suc, ◌+◌, ◌<◌, ◌≤◌, ⊎_elim, Bool, true, ℤ, pos, List, [], ◌∷◌, length, map, get_or, set, Option, Some, None, Result, Ok, is_ok, if◌then◌else◌, sym, ◌∙◌, subst, arith, get_or-set_other, get_or-set_same, enumerate_from, cases_eq, length-map, pow_pos, length-enumerate_from, length-set, indices, LeafType, Leaf, leaves, kinds_of, IsIn, IsDeclared, holds_by, HasShape, hold_at, with_entry, zeros, zeros_shape, zeros_entry, fitting_stays, kind_at, Stays, answer_stays, StoreAnswer, Keeping, kept_or, kept_by, kept_row, kept_rows, StoreFault, refusing, refused_at, spot_or, Spot, Each, Header, AreRows, answer_by}
 
 -- ---- rows one by one
 
@@ -21,9 +21,7 @@ each_at P d (x ∷ xs) zero small all = all.0
 each_at P d (x ∷ xs) (suc k) small all = each_at P d xs k (omega (arith, small)) all.1
 
 pub each_row : (header : Header) (rows : List (List ℤ)) → AreRows header rows → Each (IsRow header) rows
-each_row header rows are = each_from (IsRow header) [] rows (λ row small.
-    (let inside : row < length (indices header.extents) = omega (arith, small, are.shape.row_count) in
-    record { long = are.shape.leaf_count row inside; stays = λ leaf l. are.stays row leaf inside l }))
+each_row header rows are = each_from (IsRow header) [] rows (λ row small. grind arith)
 
 pub are_rows : (header : Header) (rows : List (List ℤ)) → length rows ≡ length (indices header.extents) → Each (IsRow header) rows → AreRows header rows
 are_rows header rows count all = record {
@@ -50,9 +48,7 @@ set_row header values leaf value row stays = record {
       let inside : leaf < length values = omega (arith, here, kinds_long) in
       let number : get_or (set values leaf value) leaf (pos 0) ≡ value = get_or-set_same values leaf value (pos 0) inside in
       subst (λ (n : ℕ). stays_at header n (get_or (set values leaf value) n (pos 0))) (sym same) (subst (stays_at header leaf) (sym number) (stays here)))
-      (λ (apart : other ≡ leaf → ⊥).
-      let number : get_or (set values leaf value) other (pos 0) ≡ get_or values other (pos 0) = get_or-set_other values leaf other value (pos 0) apart in
-      subst (stays_at header other) (sym number) (row.stays other l))
+      (λ (apart : other ≡ leaf → ⊥). grind (arith, get_or, get_or-set_other))
       (cases_eq other leaf)
 
 each_set : {A : Type 0} (P : A → Type 0) (xs : List A) (k : ℕ) (x : A) → Each P xs → (k < length xs → P x) → Each P (set xs k x)
@@ -79,12 +75,10 @@ module _ (header : Header) (wide : (leaf : ℕ) → leaf < length (kinds_of head
   keep = kept_by (answer_by header)
 
   pub answered_stays : (leaf : ℕ) (value left : ℤ) → leaf < length (kinds_of header.fields) → answer_by header leaf value ≡ Ok left → stays_at header leaf left
-  answered_stays leaf value left l is =
-      answer_stays header.mode (kind_at (kinds_of header.fields) leaf) (hold_at (holds_by header.mapping header.fields) leaf) value left (wide leaf l) is
+  answered_stays leaf value left l is = grind (arith, answer_stays)
 
   of_answer : (value : ℤ) (r : Result ℤ StoreFault) → is_ok r ≡ true → r ≡ Ok (kept_or value r)
-  of_answer value (Ok left) taken = refl
-  of_answer value (Err fault) taken = absurd (cc taken)
+  of_answer value r taken = grind arith
 
   pub taken_stays : (leaf : ℕ) (value : ℤ) → leaf < length (kinds_of header.fields) → is_ok (answer_by header leaf value) ≡ true → stays_at header leaf (kept_by (answer_by header) leaf value)
   taken_stays leaf value l taken = answered_stays leaf value (kept_by (answer_by header) leaf value) l (of_answer value (answer_by header leaf value) taken)
@@ -94,8 +88,7 @@ module _ (header : Header) (wide : (leaf : ℕ) → leaf < length (kinds_of head
   kept_from leaf values = map (λ (v : ℕ × ℤ). kept_by (answer_by header) v.0 v.1) (enumerate_from leaf values)
 
   none_refused : (test : Bool) (leaf : ℕ) (rest : Option ℕ) → (if test then rest else Some leaf) ≡ None → (test ≡ true) × (rest ≡ None)
-  none_refused true leaf rest is = (refl, is)
-  none_refused false leaf rest is = absurd (cc is)
+  none_refused test leaf rest is = grind arith
 
   values_stay : (leaf : ℕ) (values : List ℤ) → refusing (answer_by header) leaf values ≡ None → (k : ℕ) → k < length values → leaf + k < length (kinds_of header.fields)
       → stays_at header (leaf + k) (get_or (kept_from leaf values) k (pos 0))
@@ -108,8 +101,7 @@ module _ (header : Header) (wide : (leaf : ℕ) → leaf < length (kinds_of head
   values_stay leaf (value ∷ values) none (suc k) small l =
       let next : leaf + 1 + k ≡ leaf + suc k = omega arith in
       let taken = none_refused (is_ok (answer_by header leaf value)) leaf (refusing (answer_by header) (leaf + 1) values) none in
-      subst (λ (n : ℕ). stays_at header n (get_or (kept_from (leaf + 1) values) k (pos 0))) next
-      (values_stay (leaf + 1) values taken.1 k (omega (arith, small)) (omega (arith, next, l)))
+      grind (arith, get_or, (values_stay (leaf + 1) values taken.1 k (omega (arith, small)) (omega (arith, next, l))))
 
   row_stays : (values : List ℤ) → length values ≡ length (leaves header.fields) → refusing (answer_by header) 0 values ≡ None → IsRow header (kept_row (kept_by (answer_by header)) values)
   row_stays values long none = record {
@@ -121,8 +113,7 @@ module _ (header : Header) (wide : (leaf : ℕ) → leaf < length (kinds_of head
   }
 
   no_spot : (row : ℕ) (found : Option ℕ) (later : Option Spot) → spot_or row found later ≡ None → (found ≡ None) × (later ≡ None)
-  no_spot row None later is = (refl, is)
-  no_spot row (Some leaf) later is = absurd (cc is)
+  no_spot row found later is = grind arith
 
   abbrev IsLong : List ℤ → Type 0
   IsLong values = length values ≡ length (leaves header.fields)
@@ -142,21 +133,13 @@ module _ (header : Header) (wide : (leaf : ℕ) → leaf < length (kinds_of head
 
   -- zeros
   zero_in : (signed : Bool) (width : ℕ) → IsIn signed width (pos 0)
-  zero_in true width = (omega (arith, ints, pow_pos (width - 1)), omega (arith, ints, pow_pos (width - 1)))
-  zero_in false width = (omega (arith, ints), omega (arith, ints, pow_pos width))
+  zero_in signed width = grind (arith, pow_pos)
 
   zero_declared : (kind : LeafType) → IsDeclared kind (pos 0)
-  zero_declared Truth = (omega (arith, ints), omega (arith, ints))
-  zero_declared kind = zero_in (is_signed kind) (width_of kind)
+  zero_declared kind = grind (arith, zero_in)
 
   pub zeros_stay : AreRows header (zeros (length (indices header.extents)) (length (leaves header.fields)))
   zeros_stay = record {
     shape = zeros_shape (length (indices header.extents)) (length (leaves header.fields));
-    stays = λ row leaf inside l.
-        (let kind = kind_at (kinds_of header.fields) leaf in
-        let hold = hold_at (holds_by header.mapping header.fields) leaf in
-        let in_leaves : leaf < length (leaves header.fields) = omega (arith, l, length-map (leaves header.fields) (λ (one : Leaf). one.kind)) in
-        let number : entry (zeros (length (indices header.extents)) (length (leaves header.fields))) row leaf ≡ pos 0 = zeros_entry (length (indices header.extents)) (length (leaves header.fields)) row leaf inside in_leaves in
-        subst (Stays header.mode kind hold) (sym number)
-        (fitting_stays header.mode kind hold (pos 0) (wide leaf l) (record { declared = zero_declared kind; held = zero_in hold.signed hold.width })));
+    stays = λ row leaf inside l. grind (arith, leaves, length-map, zeros_entry, fitting_stays, zero_declared, zero_in);
   }

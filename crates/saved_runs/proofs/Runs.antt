@@ -1,17 +1,15 @@
 -- Each table of a run can be said by a file.
-use Rattle.saved_runs.proofs.Imports.{ℕ, ◌+◌, List, [], ◌∷◌, Option, Result, subst, MatchResult, File, Reads, StopsAt, Sentence, Version, Two, line_of, line_tokens, tokens_read, OpensFiles, HoldsBits, HoldsRows, Left, step, fails_at, AreLines, SoFar, at_first, one_more, Comes, further, gone, RunsSavable, IsSavable}
+use Rattle.saved_runs.proofs.Imports.{ℕ, ◌+◌, List, [], ◌∷◌, Option, MatchResult, File, Reads, StopsAt, Sentence, Version, Two, line_of, tokens_read, OpensFiles, HoldsBits, HoldsRows, Left, step, fails_at, AreLines, SoFar, one_more, Comes, further, gone, RunsSavable}
 use Rattle.equal_runs.specs.Lines.{IsLine}
 use Rattle.equal_runs.specs.Logs.{there}
 use Rattle.saved_runs.proofs.Lines.{IsSaid, sentence_said}
 use Rattle.saved_runs.proofs.Worlds.{IsGoodWorld, of_found}
 use Rattle.saved_runs.proofs.Steps.{step_good}
+use Rattle.std.proofs.Common.{arith}
 
 module _ (opens_files : OpensFiles) (holds_rows : HoldsRows) (holds_bits : HoldsBits) (law : (version : Version) (text : List ℕ) → MatchResult (line_of version text) (Reads version text) (StopsAt version text)) where
   line_said : (text : List ℕ) (line : Sentence) → IsLine Two text line → IsSaid line
-  line_said text line is =
-      let reads : Reads Two text line = subst (λ (r : Result Sentence ℕ). MatchResult r (Reads Two text) (StopsAt Two text)) is.parsed (law Two text) in
-      let read = tokens_read Two text line reads is.shallow in
-      sentence_said (line_tokens line) line read.line read.spelled
+  line_said text line is = grind (arith, tokens_read, sentence_said)
 
   comes_good : (files : List File) (unread : Option ℕ) (number : ℕ) (now last : SoFar) (lines : List Sentence) → Comes files unread number now lines last
       → (texts : List (List ℕ)) → AreLines Two texts lines → IsGoodWorld now.world → IsGoodWorld last.world
@@ -22,7 +20,4 @@ module _ (opens_files : OpensFiles) (holds_rows : HoldsRows) (holds_bits : Holds
       (gone (λ (l : Left). IsGoodWorld l.held) (step now.world line files (fails_at unread number)) left (step_good holds_bits now.world good opens_files holds_rows files (fails_at unread number) line (line_said text line are.0)) goes)
 
   pub runs_savable : RunsSavable
-  runs_savable texts lines files unread now name table are comes is =
-      let good = comes_good files unread 1 at_first now lines comes texts are
-      (record { records = tt; mappings = tt; views = tt }) in
-      of_found IsSavable name now.world.views table good.views is
+  runs_savable texts lines files unread now name table are comes is = grind (arith, comes_good, of_found)

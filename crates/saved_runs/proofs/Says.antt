@@ -1,6 +1,7 @@
 -- Tokens that are spelled, behind some brackets, and what a phrase of them says of the tokens of its value.
 use Rattle.saved_runs.proofs.Imports.{◌≡◌, ℕ, List, [], ◌∷◌, ◌++◌, Option, None, map, Grammar, Is, item, Splits, brackets_after, AreSpelled, SignName, Token, Sign, written, IsSpelled, Each}
 use Rattle.saved_runs.proofs.Told.{Told, Keeps, keeps_item}
+use Rattle.std.proofs.Common.{arith}
 
 abbrev pub Stand : List Token → Type 0
 Stand xs = (brackets : ℕ) × AreSpelled brackets (map written xs)
@@ -12,9 +13,7 @@ each_spelled brackets (token ∷ xs) h = (h.0, each_spelled (brackets_after (wri
 -- the front and the back of spelled tokens, which stands behind some brackets
 spelled_parts : (brackets : ℕ) (front back : List Token) → AreSpelled brackets (map written (front ++ back)) → AreSpelled brackets (map written front) × Stand back
 spelled_parts brackets [] back h = (tt, (brackets, h))
-spelled_parts brackets (token ∷ front) back h =
-    let rest = spelled_parts (brackets_after (written token).kind brackets) front back h.2 in
-    ((h.0, h.1, rest.0), rest.1)
+spelled_parts brackets (token ∷ front) back h = grind (arith, (spelled_parts (brackets_after (written token).kind brackets) front back h.2))
 
 pub stand_splits : Splits Stand
 stand_splits = record {

@@ -1,5 +1,5 @@
 -- Each line of a run leaves a world whose tables files can say.
-use Rattle.saved_runs.proofs.Imports.{◌≡◌, ℕ, ◌^◌, ◌<◌, ◌≤◌, Bool, true, false, ℤ, nat_lt, not, List, length, Option, Some, None, ⊎_elim, refl, sym, ap, ◌∙◌, subst, arith, false≢true, cases_eq, indices, length-indices, File, Sentence, New, Two, MapTerm, holds_by, HasShape, hold_at, leaves, kinds_of, Fields, csv_records, records_behind, dataset_of, AreAlike, refused_at, kept_rows, Table, answer_of, kept_of, leaf_count_of, after_stores, Access, Read, all_accesses, line_tokens, tokens_read, AreRows, view_line, header_of, OpensFiles, HoldsBits, HoldsRows, World, Entry, found, replaced, copy, copied, in_words, with_rows, all_read, laid_anew, relayout, are_alike, narrow_fault, open_view, opened_table, load, loaded_table, loaded, filled, read, row_fault, nameless, Done, done_to, on_view, worked, LeftOf, Left, known, refused_if, refused_by, ok_or, drop_view, step, work_of, resolved, made, zeros_of, named, new_table, view, with_view, Mismatch, TooBig, not_alike, IfGoes, to, refused, bind, behind, known_found, IsSavable, Ok, OnView, does, Tested, sure, surely}
+use Rattle.saved_runs.proofs.Imports.{◌≡◌, ℕ, ◌^◌, ◌<◌, ◌≤◌, Bool, true, false, ℤ, nat_lt, not, List, length, Option, Some, None, ⊎_elim, refl, sym, ap, subst, arith, cases_eq, indices, length-indices, File, Sentence, New, Two, MapTerm, holds_by, HasShape, hold_at, leaves, kinds_of, Fields, csv_records, records_behind, dataset_of, AreAlike, refused_at, kept_rows, Table, answer_of, kept_of, leaf_count_of, after_stores, Access, Read, all_accesses, line_tokens, tokens_read, AreRows, view_line, header_of, OpensFiles, HoldsBits, HoldsRows, World, Entry, found, replaced, copy, copied, in_words, with_rows, all_read, laid_anew, relayout, are_alike, narrow_fault, open_view, opened_table, load, loaded_table, loaded, filled, read, row_fault, nameless, Done, done_to, on_view, worked, LeftOf, Left, known, refused_if, refused_by, ok_or, drop_view, step, work_of, resolved, made, zeros_of, named, new_table, view, with_view, TooBig, not_alike, IfGoes, to, refused, bind, behind, known_found, IsSavable, Ok, OnView, does, Tested, sure, surely}
 use Rattle.line_grammar.specs.Sentences as line
 use Rattle.saved_runs.proofs.Went.{unrefused, answered}
 use Rattle.saved_runs.proofs.Saves.{table_opened, table_savable}
@@ -29,8 +29,7 @@ stored table rows log good are = record { lines = good.lines; lies = good.lies; 
 
 -- tables that are alike have as many rows and leaves
 same_number : (source target : Table) (n m : ℕ) → are_alike source target ≡ true → (AreAlike source target → n ≡ m) → n ≡ m
-same_number source target n m alike same =
-    ⊎_elim (λ (e : n ≡ m). e) (λ (apart : n ≡ m → ⊥). absurd (false≢true (sym (not_alike source target (λ are. apart (same are))) ∙ alike))) (cases_eq n m)
+same_number source target n m alike same = grind (arith, ⊎_elim, not_alike, cases_eq)
 
 shape_for : (source target : Table) → are_alike source target ≡ true → IsSavable source → HasShape (length (indices target.extents)) (length (leaves target.fields)) source.rows
 shape_for source target alike good =
@@ -49,12 +48,10 @@ was_done table outcome keeps =
     behind (WasDone table) (λ (done : Done). AreRows (header_of table) done.rows) outcome _ keeps (λ done are. to _ (record { done = done; held = refl; rows = are }))
 
 made_savable : (zeros : Table) (x : Tested Table) → IfGoes (IsMade zeros) x → IfGoes IsSavable x
-made_savable zeros x (to table made) = to table made.savable
-made_savable zeros x (refused fault) = refused fault
+made_savable zeros x h2 = grind (arith, to, refused)
 
 unnegated : (test : Bool) → not test ≡ false → test ≡ true
-unnegated true is = refl
-unnegated false is = absurd (cc is)
+unnegated test is = grind arith
 
 module _ (holds_bits : HoldsBits) where
   wide : (table : Table) → IsSavable table → (leaf : ℕ) → leaf < length (kinds_of table.fields) → 1 ≤ (hold_at (holds_by table.mapping table.fields) leaf).width
@@ -112,9 +109,7 @@ module _ (holds_bits : HoldsBits) where
         (resolved_good new.words (Some (length (records_behind (csv_records bytes)))) one.shaped said.words) (λ extents are.
         behind IsSavable (IsMade (zeros_of whole.mode whole.fields extents whole.mapping)) (made world.views whole.mode whole.fields extents whole.mapping) _
         (made_good holds_bits world.views whole.mode whole.fields extents whole.mapping one.fields are.are one.term) (λ table zeros.
-        (let many : length (records_behind (csv_records bytes)) ≡ length (indices table.extents) =
-        sym are.counts ∙ sym (length-indices extents) ∙ ap (λ (t : Table). length (indices t.extents)) (sym zeros.is) in
-        filled_good table (csv_records bytes) zeros.savable many)))))))
+        grind (arith, length-indices, filled_good)))))))
 
     load_good : (new : New) (file : List ℕ) (files : List File) (fails : Bool) → IsNewSaid new → IfGoes Keeps (load world new file files fails)
     unfolding load
@@ -131,9 +126,7 @@ module _ (holds_bits : HoldsBits) where
 
     copied_good : (source target : Table) → IsSavable source → IsSavable target → IfGoes IsSavable (copied source target)
     unfolding copied
-    copied_good source target from one =
-        bind IsSavable (refused_if (not (are_alike source target)) Mismatch) _ (λ alike a.
-        rows_good target source.rows one (shape_for source target (unnegated (are_alike source target) (unrefused (not (are_alike source target)) Mismatch alike a)) from))
+    copied_good source target from one = grind (arith, bind, rows_good, shape_for, unnegated, unrefused)
 
     copy_good : (name target : List ℕ) → IfGoes Keeps (copy world name target)
     unfolding copy
@@ -152,8 +145,7 @@ module _ (holds_bits : HoldsBits) where
     laid_good table term one fit =
         behind IsSavable (IsMade (zeros_of table.mode table.fields table.extents term)) (made world.views table.mode table.fields table.extents term) _
         (made_good holds_bits world.views table.mode table.fields table.extents term (record_of table one) (extents_of table one) fit) (λ zeros new.
-        rows_good zeros table.rows new.savable
-        (subst (λ (t : Table). HasShape (length (indices t.extents)) (length (leaves t.fields)) table.rows) (sym new.is) one.rows.shape))
+        grind (arith, rows_good, leaves))
 
     relayout_good : (name : List ℕ) (term : MapTerm) → HasTokens term → IfGoes Keeps (relayout world name term)
     unfolding relayout
@@ -164,9 +156,7 @@ module _ (holds_bits : HoldsBits) where
 
     drop_good : (name : List ℕ) → IfGoes Keeps (drop_view world name)
     unfolding drop_view
-    drop_good name =
-        bind Keeps (known name world.views) _ (λ table t.
-        to _ (record { records = good.records; mappings = good.mappings; views = with_removed IsSavable name world.views good.views }))
+    drop_good name = grind (arith, bind, to, with_removed)
 
     work_good : (line : Option OnView) → ((table : Table) → IsSavable table → LineKeeps table line) → IfGoes Keeps (worked world line)
     unfolding on_view

@@ -1,7 +1,7 @@
 -- New tables of a run can be said by a file.
-use Rattle.saved_runs.proofs.Imports.{◌≡◌, ◌⊎◌, ℕ, ◌+◌, ◌*◌, ◌^◌, ◌<◌, false, nat_lt, List, length, Option, Some, None, Ok, ⊎_elim, refl, arith, sum_by, IfSome, ltb-false, product, bad_shape, bad_extents, extents_for, ExtentWord, kinds_of, Fields, Owner, MapTerm, accepted, leaf_cells, layout_by, most_slots, StoreMode, New, IsOverLimits, granules_for, Table, owners_of, Each, HasLines, CanLie, header_of, HoldsBits, World, Entry, found, nameless, free, known, refused_if, refused_by, ok_or, room, shaped, resolved, made, zeros_of, blob_bits, live_bits, named, BadExtents, BadMapping, TooBig, IfGoes, to, bind, behind, known_found, IsSavable}
-use Rattle.worlds.specs.View.{Named}
-use Rattle.saved_runs.proofs.Went.{unrefused, answered}
+use Rattle.saved_runs.proofs.Imports.{◌≡◌, ◌⊎◌, ℕ, ◌*◌, ◌^◌, ◌<◌, false, nat_lt, List, length, Option, Some, None, Ok, ⊎_elim, arith, sum_by, IfSome, ltb-false, product, bad_shape, bad_extents, extents_for, ExtentWord, kinds_of, Fields, Owner, MapTerm, accepted, leaf_cells, layout_by, most_slots, StoreMode, New, IsOverLimits, granules_for, Table, Each, HasLines, CanLie, header_of, HoldsBits, World, Entry, nameless, free, known, refused_if, refused_by, ok_or, shaped, resolved, made, zeros_of, named, BadExtents, BadMapping, TooBig, IfGoes, to, bind, behind, known_found, IsSavable}
+use Rattle.worlds.specs.Prelude.{Named}
+use Rattle.saved_runs.proofs.Went.{unrefused}
 use Rattle.saved_runs.proofs.Maps.{HasTokens}
 use Rattle.saved_runs.proofs.Lines.{IsLow}
 use Rattle.saved_runs.proofs.Extents.{AreExtents, are_extents, rows_are}
@@ -50,11 +50,7 @@ module _ (holds_bits : HoldsBits) (views : List (Entry Table)) (mode : StoreMode
       let P : Table → Type 0 = IsMade (zeros_of mode fields extents term) in
       bind P (ok_or BadMapping (accepted term fields (leaf_cells (kinds_of fields)))) _ (λ fit a.
       bind P (refused_if (nat_lt (2 ^ 24) (most_slots term extents)) TooBig) _ (λ slots b.
-      bind P (refused_if (nat_lt (8 * 2 ^ 28) (blob_bits zero_table)) TooBig) _ (λ bytes c.
-      bind P (refused_if (nat_lt (2 ^ 24) (granules_for term (owners_of zero_table))) TooBig) _ (λ granules d.
-      bind P (refused_if (nat_lt (8 * 2 ^ 30) (live_bits views + blob_bits zero_table)) TooBig) _ (λ all e.
-      (let within = not_over term extents fields (unrefused _ TooBig slots b) (unrefused _ TooBig bytes c) (unrefused _ TooBig granules d) in
-      to zero_table (record { is = refl; savable = zeros_good (answered BadMapping (accepted term fields (leaf_cells (kinds_of fields))) fit a) within })))))))
+      grind (arith, bind, nat_lt, not_over, unrefused, to, zeros_good)))
 
 -- extents for the words of a line; those for a dataset have its number of rows
 pub record AreExtentsFor (rows : Option ℕ) (extents : List ℕ) : Type 0 where
@@ -83,10 +79,4 @@ named_good world good new has =
     bind P (free new.name world.views) _ (λ unused a.
     bind P (known new.schema world.records) _ (λ fields k.
     behind P IsGoodMapping (nameless world.mappings new.term) _ (nameless_good world good new.term has) (λ whole one.
-    bind P (room world.views) _ (λ space b.
-    bind P (shaped new.words) _ (λ ranked s.
-    to _ (record {
-      fields = of_found IsGoodRecord new.schema world.records fields good.records (known_found _ (found new.schema world.records) fields k);
-      term = one;
-      shaped = uncaused BadExtents (bad_shape new.words) ranked s;
-    }))))))
+    grind (arith, bind, to, of_found, known_found, uncaused))))

@@ -1,5 +1,5 @@
 -- Spelled tokens that are a phrase, put together as the phrases are.
-use Rattle.saved_runs.proofs.Imports.{◌≡◌, ℕ, zero, suc, ◌+◌, ◌≤◌, true, false, List, [], ◌∷◌, ◌++◌, Option, Some, None, inl, inr, refl, arith, Chain, Grammar, Is, item, behind_token, joined, either, which, nothing, repeats, deep, more, opens, closes, SignName, Comma, Token, Word, Number, Text, Sign, Bad, later, listed, IsSpelled, Each, each_front, each_back, Fits, no_tokens_fit, fits_more, fits_append, fits_flat, fits_inside, one_fits}
+use Rattle.saved_runs.proofs.Imports.{◌≡◌, ℕ, zero, suc, ◌+◌, ◌≤◌, true, false, List, [], ◌∷◌, ◌++◌, Option, Some, None, inl, inr, refl, arith, Chain, Grammar, Is, item, behind_token, joined, either, which, nothing, repeats, deep, more, opens, closes, SignName, Comma, Token, Sign, later, listed, IsSpelled, Each, each_front, each_back, Fits, no_tokens_fit, fits_more, fits_append, fits_flat, fits_inside, one_fits}
 
 -- some spelled tokens are a phrase with this value: they close all brackets that they open, and have at most k of them open at once
 pub record Told {A : Type 0} (k : ℕ) (one : Grammar Token A) (v : A) : Type 0 where
@@ -68,18 +68,10 @@ keeps_nothing k value = record { at = λ xs v is spelled. rw is.0 (fits_more 0 k
 
 -- an item that is no sign
 item_fits : {A : Type 0} (value : Token → Option A) (token : Token) (v : A) → ((sign : SignName) → value (Sign sign) ≡ None) → value token ≡ Some v → IsSpelled token → Fits 0 (token ∷ [])
-item_fits value (Word text) v plain is spelled = one_fits (Word text) refl spelled
-item_fits value (Number number) v plain is spelled = one_fits (Number number) refl spelled
-item_fits value (Text text) v plain is spelled = one_fits (Text text) refl spelled
-item_fits value (Sign sign) v plain is spelled = let not_one : value (Sign sign) ≡ None = plain sign in absurd cc
-item_fits value Bad v plain is spelled = absurd spelled.0
+item_fits value token v plain is spelled = grind (arith, one_fits)
 
 pub keeps_item : {A : Type 0} (k : ℕ) (value : Token → Option A) → ((sign : SignName) → value (Sign sign) ≡ None) → Keeps k (item value)
-keeps_item k value plain = record {
-  at = λ xs v is spelled.
-      let own : Each IsSpelled (is.0 ∷ []) = rw is.1 at spelled in
-      rw is.1 (fits_more 0 k (is.0 ∷ []) (omega arith) (item_fits value is.0 v plain is.2 own.0));
-}
+keeps_item k value plain = grind (arith, fits_more, item_fits)
 
 pub keeps_behind : {A : Type 0} {one : Grammar Token A} (k : ℕ) (token : Token) → ((xs : List Token) → Fits k xs → Fits k (token ∷ xs)) → Keeps k one → Keeps k (behind_token token one)
 keeps_behind {A = A} {one = phrase} k token more one = record { at = λ xs v is spelled. behind_at xs v is spelled }
@@ -89,13 +81,7 @@ keeps_behind {A = A} {one = phrase} k token more one = record { at = λ xs v is 
     behind_at (first ∷ xs) v is spelled = rw is.0 (more xs (one.at xs v is.1 spelled.1))
 
 pub keeps_joined : {A B : Type 0} {one : Grammar Token A} {next : A → Grammar Token B} (k : ℕ) → Keeps k one → ((a : A) → Keeps k (next a)) → Keeps k (joined one next)
-keeps_joined k one two = record {
-  at = λ xs v is spelled.
-      let all : Each IsSpelled (is.front ++ is.back) = rw is.whole at spelled in
-      let front = one.at is.front is.first is.begins (each_front IsSpelled is.front is.back all) in
-      let back = (two is.first).at is.back v is.ends (each_back IsSpelled is.front is.back all) in
-      rw is.whole (fits_append k is.front is.back front back);
-}
+keeps_joined k one two = grind (arith, each_front, each_back, fits_append)
 
 pub keeps_either : {A : Type 0} {one other : Grammar Token A} (k : ℕ) → Keeps k one → Keeps k other → Keeps k (either one other)
 keeps_either k one two = record { at = λ xs v is spelled. elim is [ inl i ↦ one.at xs v i spelled | inr i ↦ two.at xs v i spelled ] }
@@ -126,13 +112,7 @@ keeps_inside {A = A} {B = B} {one = phrase} k opening closing value o p c one = 
     alone w v (first ∷ xs) is = rw (is.0, is.1.0) refl
 
     inside_at : (xs : List Token) (v : B) → Is (inside opening closing phrase value) xs v → Each IsSpelled xs → Fits (k + 1) xs
-    inside_at [] v is spelled = absurd is
-    inside_at (first ∷ xs) v is spelled =
-        let in_it = is.1 in
-        let end : in_it.back ≡ Sign closing ∷ [] = alone (value in_it.first) v in_it.back in_it.ends in
-        let all : Each IsSpelled (in_it.front ++ in_it.back) = rw in_it.whole at spelled.1 in
-        let front = one.at in_it.front in_it.first in_it.begins (each_front IsSpelled in_it.front in_it.back all) in
-        rw (is.0, in_it.whole, end) (fits_inside k opening closing in_it.front o p c front)
+    inside_at xs v is spelled = grind (arith, each_front, fits_inside)
 
 -- phrases with commas between them
 pub keeps_listed : {A : Type 0} {one : Grammar Token A} (k : ℕ) → Keeps k one → Keeps k (listed one)

@@ -1,6 +1,6 @@
 -- What goes went at each of its steps, and a step that goes leads to the next.
-use Rattle.saved_runs.proofs.Imports.{◌≡◌, ℕ, Bool, true, false, List, [], ◌∷◌, Option, Some, None, Result, Ok, Err, refl, ap, ◌∙◌, File, file_named, Entry, same_name, found, replaced, Goes, ◌>>=◌, refused_if, ok_or, there, read, CommandFault, Tested, sure}
-use Rattle.std.specs.Prelude.{if◌then◌else◌}
+use Rattle.saved_runs.proofs.Imports.{◌≡◌, ℕ, Bool, true, false, List, [], ◌∷◌, Option, Some, None, Result, Ok, ap, ◌∙◌, File, file_named, Entry, same_name, found, replaced, Goes, ◌>>=◌, refused_if, ok_or, there, read, CommandFault, Tested, sure, if◌then◌else◌}
+use Rattle.std.proofs.Common.{arith}
 
 -- a step that went, and what it led to
 pub record Went {A B E : Type 0} (x : Result A E) (f : A → Result B E) (b : B) : Type 0 where
@@ -9,8 +9,7 @@ pub record Went {A B E : Type 0} (x : Result A E) (f : A → Result B E) (b : B)
   pub next : f thing ≡ Ok b
 
 pub went : {A B E : Type 0} (x : Result A E) (f : A → Result B E) (b : B) → (x >>= f) ≡ Ok b → Went x f b
-went (Ok a) f b is = record { thing = a; first = refl; next = is }
-went (Err fault) f b is = absurd (cc is)
+went x f b is = grind arith
 
 -- what is given that reads no file
 abbrev pub given : {A : Type 0} → A → Tested A
@@ -18,11 +17,7 @@ given x = Ok x
 
 -- what went and reads no file
 pub sure_went : {A : Type 0} (x : Tested A) (a : A) → sure x ≡ Goes a → x ≡ Ok a
-sure_went (Ok b) a is = let same : b ≡ a = cc in ap Ok same
-sure_went (Err fault) a is = absurd (cc is)
-
-pub leads : {A B E : Type 0} (x : Result A E) (f : A → Result B E) (a : A) (y : Result B E) → x ≡ Ok a → f a ≡ y → (x >>= f) ≡ y
-leads {A} {B} {E} x f a y is next = ap (λ (o : Result A E). o >>= f) is ∙ next
+sure_went x a is = grind arith
 
 pub same_things : {A : Type 0} (x y : A) → Goes x ≡ Goes y → x ≡ y
 same_things x y is = cc
@@ -32,12 +27,10 @@ same_given x y is = cc
 
 -- answers that went
 pub unrefused : (test : Bool) (fault : CommandFault) (done : Unit {0}) → refused_if test fault ≡ Ok done → test ≡ false
-unrefused false fault done is = refl
-unrefused true fault done is = absurd (cc is)
+unrefused test fault done is = grind arith
 
 pub answered : {A E : Type 0} (fault : E → CommandFault) (x : Result A E) (a : A) → ok_or fault x ≡ Ok a → x ≡ Ok a
-answered fault (Ok b) a is = let same : b ≡ a = cc in ap Ok same
-answered fault (Err e) a is = absurd (cc is)
+answered fault x a is = grind arith
 
 pub was_read : (files : List File) (fails : Bool) (file bytes : List ℕ) → read files fails file ≡ Goes bytes → file_named files file ≡ Some bytes
 was_read files true file bytes is = absurd (cc is)

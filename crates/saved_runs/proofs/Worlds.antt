@@ -1,11 +1,10 @@
 -- What a run over lines of the language has in its world, line after line.
-use Rattle.saved_runs.proofs.Imports.{◌≡◌, ℕ, Bool, true, false, List, [], ◌∷◌, codes, Option, Some, None, refl, sym, subst, and_from, Tree, Fields, Record, MapTerm, Aos, Soa, Aosoa, BitAos, BitSoa, Split, Byteswap, Bytesplit, Change, Counted, Heated, NamedTerm, checked, Each, is_nameless, HasLine, World, Entry, same_name, found, added, replaced, removed, define, fit, fields_in, mapping, nameless, ◌>>=◌, Left, known, free, refused_by, ok_or, CommandFault, BadRecord, BadMapping, IfGoes, to, refused, bind, behind, known_found, IsSavable, Ok, Err, Tested}
-use Rattle.std.specs.Prelude.{if◌then◌else◌}
-use Rattle.record_dim.specs.Leaves.{record_fault}
+use Rattle.saved_runs.proofs.Imports.{◌≡◌, ℕ, Bool, true, false, List, [], ◌∷◌, codes, Option, Some, None, refl, subst, and_from, Tree, Fields, Record, MapTerm, Split, Byteswap, Bytesplit, Change, Counted, Heated, NamedTerm, Each, is_nameless, HasLine, World, Entry, same_name, found, added, replaced, removed, define, fit, mapping, nameless, ◌>>=◌, Left, known, refused_by, CommandFault, IfGoes, to, refused, bind, behind, known_found, IsSavable, Ok, Err, Tested, if◌then◌else◌, record_fault}
 use Rattle.line_grammar.specs.Sentences as line
 use Rattle.saved_runs.proofs.Maps.{HasTokens}
 use Rattle.saved_runs.proofs.Lines.{IsRecord}
 use Rattle.saved_runs.proofs.Headers.{record_has_line}
+use Rattle.std.proofs.Common.{arith}
 
 -- ---- what is kept
 
@@ -59,8 +58,7 @@ pub record IsGoodWorld (world : World) : Type 0 where
 
 -- a test that was passed
 pub uncaused : {E : Type 0} (fault : E → CommandFault) (cause : Option E) (done : Unit {0}) → refused_by fault cause ≡ Ok done → cause ≡ None
-uncaused fault None done is = refl
-uncaused fault (Some cause) done is = absurd (cc is)
+uncaused fault cause done is = grind arith
 
 -- ---- records and mappings
 
@@ -69,17 +67,11 @@ module _ (world : World) (good : IsGoodWorld world) where
   Keeps left = IsGoodWorld left.held
 
   record_fit : (tree : Tree) → IsRecord tree → IfGoes IsGoodRecord (fit tree)
-  record_fit tree is =
-      bind IsGoodRecord (refused_by BadRecord (record_fault tree)) _ (λ passed p.
-      to _ (subst (λ (t : Tree). record_fault t ≡ None → IsGoodRecord (fields_in t)) (sym is.is)
-      (λ fit. record { line = record_has_line is.fields is.are; fit = fit }) (uncaused BadRecord (record_fault tree) passed p)))
+  record_fit tree is = grind (arith, bind, to, record_has_line, uncaused)
 
   pub define_good : (name : List ℕ) (tree : Tree) → IsRecord tree → IfGoes Keeps (define world name tree)
   unfolding define
-  define_good name tree is =
-      bind Keeps (free name world.records) _ (λ unused a.
-      behind Keeps IsGoodRecord (fit tree) _ (record_fit tree is) (λ fields one.
-      to _ (record { records = with_added IsGoodRecord name fields world.records one good.records; mappings = good.mappings; views = good.views })))
+  define_good name tree is = grind (arith, bind, record_fit, to, with_added)
 
   wrapped : (wrap : MapTerm → MapTerm) (inner : MapTerm) → ((a : MapTerm) → IsGoodMapping a → IsGoodMapping (wrap a)) → IfGoes IsGoodMapping (nameless world.mappings inner)
       → IfGoes IsGoodMapping (nameless world.mappings inner >>= (λ a. Ok (wrap a)))
@@ -106,8 +98,4 @@ module _ (world : World) (good : IsGoodWorld world) where
 
   pub mapping_good : (name : List ℕ) (term : MapTerm) → HasTokens term → IfGoes Keeps (mapping world name term)
   unfolding mapping
-  mapping_good name term has =
-      bind Keeps (free name world.mappings) _ (λ unused a.
-      behind Keeps IsGoodMapping (nameless world.mappings term) _ (nameless_good term has) (λ whole one.
-      bind Keeps (ok_or BadMapping (checked whole)) _ (λ passed b.
-      to _ (record { records = good.records; mappings = with_added IsGoodMapping name whole world.mappings one good.mappings; views = good.views }))))
+  mapping_good name term has = grind (arith, bind, nameless_good, to, with_added)

@@ -1,12 +1,10 @@
 -- The tables of a run over lines of the language are opened as they were saved.
 use Rattle.std.specs.Prelude.{ℕ, ◌≡◌, Bool, List, Option, Some}
-use Rattle.layout_io.specs.Files.{File}
-use Rattle.line_grammar.specs.Sentences.{Sentence, Save}
+use Rattle.layout_io.specs.Prelude.{File}
+use Rattle.line_grammar.specs.Prelude.{Sentence, Save}
 use Rattle.line_grammar.specs.declared.version.Version.TheVariants.{Two}
-use Rattle.views.specs.Tables.{Table}
-use Rattle.worlds.specs.Worlds.{World, found}
-use Rattle.worlds.specs.Outcomes.{Goes, Left}
-use Rattle.worlds.specs.Step.{step}
+use Rattle.views.specs.Prelude.{Table}
+use Rattle.worlds.specs.Prelude.{World, found, Goes, Left, step}
 use Rattle.equal_runs.specs.Lines.{AreLines}
 use Rattle.equal_runs.specs.Logs.{SoFar, at_first, Comes}
 use Rattle.saved_runs.specs.SavedRuns.{IsSavable, once_written, OpensAs}

@@ -1,20 +1,13 @@
 -- What a view saves is opened as the same table, and what is opened saves as the same bytes.
 use Rattle.std.specs.Prelude.{ℕ, ◌≡◌, ◌+◌, ◌*◌, ◌^◌, ◌<◌, ◌≤◌, Bool, false, List, length, Some, None, Ok}
-use Rattle.layout_io.specs.Files.{File, file_named}
-use Rattle.line_grammar.specs.Sentences.{Save, Open}
-use Rattle.views.specs.Tallies.{Write, all_accesses, no_tally, tallied}
-use Rattle.views.specs.Tables.{Table, owners_of, leaf_count_of}
+use Rattle.layout_io.specs.Prelude.{File, file_named}
+use Rattle.line_grammar.specs.Prelude.{Save, Open}
+use Rattle.views.specs.Prelude.{Write, all_accesses, no_tally, tallied, Table, owners_of, leaf_count_of}
 use Rattle.blob_file.specs.Files.{AreRows}
 use Rattle.blob_file.specs.Headers.{HasLines, CanLie}
 use Rattle.blob_file.specs.Opened.{Saved, opened, table_of_saved}
 use Rattle.blob_file.specs.Saving.{header_of}
-use Rattle.worlds.specs.Worlds.{World, found}
-use Rattle.worlds.specs.Outcomes.{Goes, Left, sure, quiet, shows}
-use Rattle.worlds.specs.OnView.{Told}
-use Rattle.worlds.specs.Tables.{live_bits, blob_bits}
-use Rattle.worlds.specs.View.{with_view}
-use Rattle.worlds.specs.Files.{save}
-use Rattle.worlds.specs.Step.{step}
+use Rattle.worlds.specs.Prelude.{World, found, Goes, Left, sure, quiet, shows, Told, live_bits, blob_bits, with_view, save, step}
 
 -- a file has the bytes as which the table of a name is saved, and the save leaves the world as it is
 pub record SavesBack (files : List File) (file name : List ℕ) (world : World) : Type 0 where

@@ -1,21 +1,11 @@
 -- What the proofs of this crate speak of.
-pub use Rattle.std.proofs.Common.{◌≡◌, ℕ, true, false, List, [], ◌∷◌, ◌++◌, map, codes, Some, None, Ok, Err, refl, sym, ap, ◌∙◌, arith, ◌≤◌, Bool, inl, inr, Option, Result, is_some, max, ◌&&◌, nat_le, ◌-◌, length, zero, suc, ◌+◌, ◌<◌, take, drop, get_or, slice_range, All, length-append, ◌==◌, ◌⊎◌, if◌then◌else◌, subst, ⊎_elim}
-pub use Rattle.std.proofs.lemmas.Bool.Decides.{nat_tests}
-pub use Rattle.std.specs.Prelude.{MatchResult}
-pub use Rattle.std.proofs.Math.Seq.{take-append_seam}
-pub use Rattle.std.proofs.lemmas.List.{length-take, length-drop, take-take, drop-drop}
-pub use Rattle.std.proofs.lemmas.List.Elements.{All-cons}
-pub use Rattle.std.proofs.lemmas.List.Sums.{list_all-from_AllPass}
-pub use Rattle.std.specs.List.{list_all}
-pub use Rattle.std.specs.Str.{byte}
-pub use Rattle.std.proofs.lemmas.Bool.{cases_Bool}
+pub use Rattle.record_dim.specs.Std.{◌≡◌, ℕ, true, false, List, [], ◌∷◌, ◌++◌, map, codes, Some, None, Ok, Err, refl, sym, ap, ◌∙◌, arith, ◌≤◌, Bool, inl, inr, Option, Result, is_some, max, ◌&&◌, nat_le, ◌-◌, length, zero, suc, ◌+◌, ◌<◌, take, drop, get_or, slice_range, All, length-append, ◌==◌, ◌⊎◌, if◌then◌else◌, subst, ⊎_elim, nat_tests, MatchResult, take-append_seam, length-take, length-drop, take-take, drop-drop, All-cons, list_all-from_AllPass, list_all, byte, cases_Bool}
 pub use Rattle.line_tokens.specs.declared.sign.Sign.TheVariants.{Comma, Equals, OpenParen, Colon, Dot, EqualEqual, Slash}
 pub use Rattle.line_grammar.specs.declared.line.SetText.{SetText}
 pub use Rattle.line_grammar.specs.declared.token.Token.{Token}
 pub use Rattle.line_grammar.specs.declared.token.Token.TheVariants.{Word, Sign as Signed, Text, Sign}
-pub use Rattle.line_grammar.specs.Sentences.{Assignment, assignment_of, Sentence, Value, Blank, Define, deepest_set, sentence_of, deepest}
-pub use Rattle.line_grammar.specs.Tokens.{is_same, is_sign, is_word, comparison_of, reduction_of, command_of, kind_token, token_of, count_of}
-pub use Rattle.record_dim.specs.Trees.{Record, IsRecord, Single, Array, Tree, tree_of}
+pub use Rattle.line_grammar.specs.Prelude.{Assignment, assignment_of, Sentence, Value, Blank, Define, deepest_set, sentence_of, deepest, is_same, is_sign, is_word, comparison_of, reduction_of, command_of, kind_token, token_of, count_of, Reads, StopsAt, column_behind, tokens_of, ended_at, ended, is_file_name, file_name_utf8, Grammar, ◌>>=◌, first, item_or, ok_parts, Fine, Quiet, anyway, firsts_any, Leaves, leaves, line_found, line_full, line_stop, IsSentence, read, count, string, mapping}
+pub use Rattle.record_dim.specs.Prelude.{Record, IsRecord, Single, Array, Tree, tree_of, begins_name, continues_name, is_name, name_utf8}
 pub use Rattle.extents.specs.declared.words.ExtentWord.{ExtentWord}
 pub use Rattle.expr_lang.specs.declared.expr.BinOp.TheVariants.{Eq}
 pub use Rattle.expr_lang.specs.declared.expr.BinOp.{BinOp}
@@ -23,17 +13,14 @@ pub use Rattle.line_grammar.specs.declared.line.Command.{Command}
 pub use Rattle.line_grammar.specs.declared.line.KernelWord.{KernelWord}
 pub use Rattle.line_grammar.specs.declared.line.ShowKind.{ShowKind}
 pub use Rattle.line_grammar.specs.declared.version.Version.{Version}
-pub use Rattle.expr_lang.specs.Terms.{depth_of, term_of}
+pub use Rattle.expr_lang.specs.Prelude.{depth_of, term_of}
 pub use Rattle.line_tokens.specs.declared.spots.Spot.{Spot}
 pub use Rattle.line_tokens.specs.Spots.{Spots, brackets_after}
 pub use Rattle.line_tokens.specs.SpotLaws.{same_spots, spot_at}
-pub use Rattle.line_grammar.specs.Reads.{Reads, StopsAt, column_behind, tokens_of}
 pub use Rattle.line_tokens.specs.Next.{next_of}
 pub use Rattle.line_tokens.specs.declared.token.Next.{Next}
 pub use Rattle.line_tokens.specs.declared.token.Next.TheVariants.{End, Bad}
 pub use Rattle.line_tokens.specs.NextTokenLaws.{next_inside}
-pub use Rattle.line_grammar.specs.Ended.{ended_at, ended}
-pub use Rattle.record_dim.specs.Names.{begins_name, continues_name, is_name}
 pub use Rattle.line_tokens.specs.Bytes.{is_letter, is_word_byte, is_text_byte}
 pub use Rattle.line_tokens.specs.Spelled.{Spells}
 pub use Rattle.line_tokens.specs.declared.token.TokenKind.{TokenKind}
@@ -41,22 +28,12 @@ pub use Rattle.line_tokens.specs.declared.token.TokenKind.TheVariants.{Number, S
 pub use Rattle.line_tokens.specs.SpelledLaws.{next_spells}
 pub use Rattle.record_dim.specs.declared.dim.Dim.{Dim}
 pub use Rattle.line_grammar.specs.declared.line.Line.{Line}
-pub use Rattle.record_dim.specs.NameBytesLaws.{name_utf8}
-pub use Rattle.line_grammar.specs.Inner.FileNames.{is_file_name}
-pub use Rattle.line_grammar.specs.FileBytesLaws.{file_name_utf8}
 pub use Rattle.schema_lang.specs.LineOf.{line_or_column, spots_in, spots_within, spots_behind}
 unfoldable pub use Rattle.schema_lang.specs.LineOf.{line_at, line_of}
 pub use Rattle.schema_lang.specs.Inner.Spelled.{IsSpelled, IsSpelledAs}
 pub use Rattle.schema_lang.specs.Inner.NextTokens.{found_token, is_end, token_next}
 pub use Rattle.schema_lang.specs.Parsing.{HasItsFields}
-pub use Rattle.line_grammar.specs.Grammar.{Grammar}
-pub use Rattle.line_grammar.specs.Reading.{◌>>=◌, first, item_or}
-pub use Rattle.line_grammar.specs.ParsesLaws.{ok_parts}
-pub use Rattle.line_grammar.specs.FineLaws.{Fine, Quiet, anyway, firsts_any}
-pub use Rattle.line_grammar.specs.LeavesLaws.{Leaves, leaves}
-pub use Rattle.line_grammar.specs.LineLaws.{line_found, line_full, line_stop}
-pub use Rattle.line_grammar.specs.Language.{IsSentence, read, count, string, mapping}
-unfoldable pub use Rattle.line_grammar.specs.Language.{actors, assignment, body, bracket_list, command_line, filter, flag, inside_kernel, kernel_text, later, line, listed, new, part, show_end, update_end, window}
+unfoldable pub use Rattle.line_grammar.specs.Prelude.{actors, assignment, body, bracket_list, command_line, filter, flag, inside_kernel, kernel_text, later, line, listed, new, part, show_end, update_end, window}
 pub use Rattle.line_phrases.specs.BasicsLaws.{apart, count_fine, exact_sign, exact_word, level_of, name_fine}
 pub use Rattle.line_phrases.specs.FieldLaws.{fields_fine, fields_quiet}
 pub use Rattle.line_phrases.specs.LevelsLaws.{comparison_levels, expr_fine, expr_quiet, no_part}

@@ -6,10 +6,7 @@ use Rattle.line_tokens.specs.declared.spots.Spot.{Spot}
 use Rattle.line_tokens.specs.declared.token.Next.{Next}
 use Rattle.line_tokens.specs.declared.token.Next.TheVariants.{End, Bad, Token}
 use Rattle.line_grammar.specs.declared.line.Line.{Line}
-use Rattle.line_grammar.specs.Ended.{ended_at}
-use Rattle.line_grammar.specs.Language.{read, line}
-use Rattle.line_grammar.specs.Reads.{tokens_of, column_behind}
-use Rattle.line_grammar.specs.Sentences.{Sentence, sentence_of, deepest}
+use Rattle.line_grammar.specs.Prelude.{ended_at, read, line, tokens_of, column_behind, Sentence, sentence_of, deepest}
 use Rattle.line_grammar.specs.declared.token.Token as token
 use Rattle.line_grammar.specs.declared.version.Version.{Version}
 use Rattle.schema_lang.specs.declared.fault.LineFault.{LineFault}

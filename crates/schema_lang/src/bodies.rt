@@ -1,10 +1,7 @@
 ghost use Rattle.std.specs.Prelude.{◌≡◌, IfErr, map, option_map};
-ghost use Rattle.line_grammar.specs.Reading.{item_at};
-ghost use Rattle.expr_lang.specs.Terms.{term_of};
-ghost use Rattle.line_grammar.specs.Sentences.{assignment_of, sentence_of};
-ghost use Rattle.line_grammar.specs.Tokens.{command_of};
+ghost use Rattle.line_grammar.specs.Prelude.{item_at, assignment_of, sentence_of, command_of, read, actors, body, bracket_list, command_line, flag, new};
+ghost use Rattle.expr_lang.specs.Prelude.{term_of};
 ghost use Rattle.line_grammar.specs.declared.line.Command.TheVariants as command;
-ghost use Rattle.line_grammar.specs.Language.{read, actors, body, bracket_list, command_line, flag, new};
 ghost use Rattle.line_phrases.specs.Inner.Gives.{Gives, IsSyntax};
 ghost use Rattle.schema_lang.specs.Inner.Bodies.{common_body, extent_where, new_of};
 

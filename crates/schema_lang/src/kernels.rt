@@ -1,6 +1,6 @@
 ghost use Rattle.std.specs.Prelude.{◌≡◌};
 ghost use Rattle.line_grammar.specs.declared.line.KernelWord.TheVariants.{Axpy, Clamp, CountWhere};
-ghost use Rattle.line_grammar.specs.Language.{read, inside_kernel, kernel_text};
+ghost use Rattle.line_grammar.specs.Prelude.{read, inside_kernel, kernel_text};
 ghost use Rattle.line_phrases.specs.Inner.Gives.{Gives};
 
 use line_grammar::{Comparison, KernelText, KernelWord};

@@ -1,10 +1,8 @@
 // The tokens of a text, and the columns of their places.
 ghost use Rattle.std.specs.Prelude.{◌≡◌, ◌+◌, ◌-◌, ◌<◌, ◌≤◌, ◌^◌, length, All, IfOk, if◌then◌else◌, Some, None};
 ghost use Rattle.line_tokens.specs.declared.spots.Spot.{Spot};
-ghost use Rattle.record_dim.specs.Names.{is_name};
-ghost use Rattle.line_grammar.specs.Inner.FileNames.{is_file_name};
-ghost use Rattle.line_grammar.specs.Reads.{column_behind, tokens_of};
-ghost use Rattle.line_grammar.specs.Tokens.{token_of};
+ghost use Rattle.record_dim.specs.Prelude.{is_name};
+ghost use Rattle.line_grammar.specs.Prelude.{is_file_name, column_behind, tokens_of, token_of};
 ghost use Rattle.schema_lang.specs.Inner.Spelled.{IsSpelled};
 
 use line_grammar::{Quoted, Token};

@@ -1,7 +1,6 @@
 ghost use Rattle.std.specs.Prelude.{◌≡◌, ◌<◌, length, map, option_map, OnOk};
-ghost use Rattle.expr_lang.specs.Terms.{term_of};
-ghost use Rattle.line_grammar.specs.Sentences.{assignment_of};
-ghost use Rattle.line_grammar.specs.Language.{read, assignment, filter, listed};
+ghost use Rattle.expr_lang.specs.Prelude.{term_of};
+ghost use Rattle.line_grammar.specs.Prelude.{assignment_of, read, assignment, filter, listed};
 ghost use Rattle.line_phrases.specs.Inner.Gives.{Gives};
 
 use expr_lang::Expr;

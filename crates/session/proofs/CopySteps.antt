@@ -1,6 +1,5 @@
 -- The steps of copies, refused or not.
-use Rattle.session.proofs.Imports.{◌≡◌, ◌∙◌, ◌≤◌, ◌+◌, ⊎_elim, ℕ, zero, suc, true, false, List, [], ◌∷◌, map, get_or, Ok, Err, refl, sym, ap, subst, arith, IsErrOf, remove, false≢true, cases_Bool, cases_eq, get_or_default, same_text, MapTerm, Strategy, Table, AreAlike, IsCopied, copy_cost, IsWay, CopyFault, nameless, known, made, zeros_of, World, Entry, same_name, alike, view_of, goes_then, IsAt, IsFirst, known_place, ViewEntry, Pair, IsWithin, WithinCopy, WithinCost, WithinRelayout, copied_pair, laid_pair, paired, Tested}
-use Rattle.std.specs.Prelude.{Result}
+use Rattle.session.proofs.Imports.{◌≡◌, ◌∙◌, ◌≤◌, ◌+◌, ⊎_elim, ℕ, zero, suc, true, false, List, [], ◌∷◌, map, get_or, Ok, Err, refl, sym, ap, subst, arith, IsErrOf, remove, false≢true, cases_Bool, cases_eq, get_or_default, same_text, MapTerm, Strategy, Table, AreAlike, IsCopied, copy_cost, IsWay, CopyFault, nameless, known, made, zeros_of, World, Entry, same_name, alike, view_of, goes_then, IsAt, IsFirst, known_place, ViewEntry, Pair, IsWithin, WithinCopy, WithinCost, WithinRelayout, copied_pair, laid_pair, paired, Tested, Result}
 use Rattle.layout_copy.specs.declared.fault.CopyFault.TheVariants as copy
 use Rattle.session.proofs.Copies.{AreApart, still_there}
 

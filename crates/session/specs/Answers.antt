@@ -2,8 +2,9 @@
 use Rattle.std.specs.Prelude.{ℕ, ◌≡◌, List, Option, Result, Err}
 use Rattle.line_grammar.specs.declared.line.Line.{Line}
 use Rattle.line_grammar.specs.declared.line.Line.TheVariants as line
-use Rattle.record_dim.specs.Trees.{IsRecord}
-use Rattle.worlds.specs.Answers.{Ending, Refuses, Unread, Breaks, Starves}
+use Rattle.record_dim.specs.Prelude.{IsRecord}
+use Rattle.worlds.specs.Prelude.{Ending, Refuses, Breaks, Starves}
+use Rattle.worlds.specs.Answers.{Unread}
 use Rattle.command_checks.specs.declared.fault.StepFault.{StepFault}
 use Rattle.command_checks.specs.declared.fault.StepFault.TheVariants as fault
 

@@ -4,12 +4,8 @@ use Rattle.layout_copy.specs.Costs.{copy_cost, IsWay}
 use Rattle.line_grammar.specs.Sentences as line
 use Rattle.map_any.specs.declared.strategy.Strategy.{Strategy}
 use Rattle.map_expr.specs.Terms.{Term as MapTerm}
-use Rattle.views.specs.Tables.{Table}
-use Rattle.worlds.specs.Copy.{are_alike}
-use Rattle.worlds.specs.Names.{nameless}
-use Rattle.worlds.specs.Outcomes.{Tested, ◌>>=◌, known, refused_if}
-use Rattle.worlds.specs.Tables.{made}
-use Rattle.worlds.specs.Worlds.{World, found, same_name}
+use Rattle.views.specs.Prelude.{Table}
+use Rattle.worlds.specs.Prelude.{are_alike, nameless, Tested, ◌>>=◌, known, refused_if, made, World, found, same_name}
 use Rattle.worlds.specs.declared.fault.CommandFault.TheVariants.{Mismatch}
 use Rattle.view_commands.specs.Steps.{Within, kernel_steps}
 

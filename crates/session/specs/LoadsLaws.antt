@@ -1,11 +1,10 @@
 -- Which lines read a file, and what a shelf tells.
-use Rattle.std.specs.Prelude.{◌≡◌, List, Option, Some, None, Ok, Err}
-use Rattle.std.proofs.Common.{refl}
-use Rattle.layout_io.specs.Files.{File}
-use Rattle.line_grammar.specs.Sentences.{sentence_of, file_read_by}
+use Rattle.std.specs.Prelude.{◌≡◌, List, Option, Some, None, Ok, Err, refl}
+use Rattle.layout_io.specs.Prelude.{File}
+use Rattle.line_grammar.specs.Prelude.{sentence_of, file_read_by}
 use Rattle.line_grammar.specs.declared.line.Line.{Line}
 use Rattle.line_grammar.specs.declared.line.Line.TheVariants as line
-use Rattle.worlds.specs.Outcomes.{Outcome, Fault, Unread}
+use Rattle.worlds.specs.Prelude.{Outcome, Fault, Unread}
 use Rattle.session.specs.Loads.{ToldFor}
 
 -- a line that is no load and no open reads no file

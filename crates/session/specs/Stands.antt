@@ -1,7 +1,6 @@
 -- The world that a session stands for.
 use Rattle.std.specs.Prelude.{◌≡◌, List, [], map}
-use Rattle.worlds.specs.Worlds.{World}
-use Rattle.worlds.specs.Outcomes.{Left}
+use Rattle.worlds.specs.Prelude.{World, Left}
 use Rattle.command_checks.specs.SessionEntries.{record_of, mapping_of, view_of}
 use Rattle.command_checks.specs.declared.entries.RecordEntry.{RecordEntry}
 use Rattle.command_checks.specs.declared.entries.ViewEntry.{ViewEntry}

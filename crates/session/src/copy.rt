@@ -1,9 +1,8 @@
 // `copy V to W`.
 ghost use Rattle.std.specs.Prelude.{◌≡◌, ◌+◌, ◌<◌, OnOk, length, map, slice_index_or};
-ghost use Rattle.views.specs.Tables.{leaf_count_of, after_log};
-ghost use Rattle.views.specs.Tallies.{all_accesses, Read};
-ghost use Rattle.record_dim.specs.Schemas.{schema_fields};
-ghost use Rattle.worlds.specs.Copy.{copy, copied, all_read};
+ghost use Rattle.views.specs.Prelude.{leaf_count_of, after_log, all_accesses, Read};
+ghost use Rattle.record_dim.specs.Prelude.{schema_fields};
+ghost use Rattle.worlds.specs.Prelude.{copy, copied, all_read};
 ghost use Rattle.command_checks.specs.SessionEntries.{view_of};
 ghost use Rattle.command_checks.specs.Inner.Gives.{Gives};
 ghost use Rattle.command_checks.specs.declared.entries.ViewEntry.{ViewEntry};

@@ -1,5 +1,5 @@
 // `drop V`.
-ghost use Rattle.worlds.specs.Show.{drop_view};
+ghost use Rattle.worlds.specs.Prelude.{drop_view};
 ghost use Rattle.command_checks.specs.Inner.Gives.{Gives};
 
 use crate::session::Session;

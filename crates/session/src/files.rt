@@ -1,7 +1,6 @@
 // The files that lines read.
 ghost use Rattle.std.specs.Prelude.{◌≡◌, List, Some};
-ghost use Rattle.layout_io.specs.Faults.{Rose};
-ghost use Rattle.layout_io.specs.Files.{File};
+ghost use Rattle.layout_io.specs.Prelude.{Rose, File};
 ghost use Rattle.session.specs.Loads.{Loads, LoadCause, read_within};
 
 use command_checks::StepFault;

@@ -2,13 +2,11 @@
 ghost use Rattle.std.specs.Prelude.{◌≡◌, ◌<◌, IfOk, true, List, Some, length, map};
 ghost use Rattle.extents.specs.Indices.{indices};
 ghost use Rattle.extents.specs.Shapes.{IsShape};
-ghost use Rattle.layout_io.specs.Faults.{Rose};
-ghost use Rattle.layout_io.specs.Files.{File};
+ghost use Rattle.layout_io.specs.Prelude.{Rose, File};
 ghost use Rattle.map_expr.specs.Terms.{term_of};
-ghost use Rattle.record_dim.specs.Schemas.{schema_fields};
+ghost use Rattle.record_dim.specs.Prelude.{schema_fields};
 ghost use Rattle.csv_rows.specs.Datasets.{csv_records, records_behind};
-ghost use Rattle.worlds.specs.Load.{load, loaded_table, filled};
-ghost use Rattle.worlds.specs.Tables.{resolved};
+ghost use Rattle.worlds.specs.Prelude.{load, loaded_table, filled, resolved};
 ghost use Rattle.command_checks.specs.Inner.Bases.{is_nameless};
 ghost use Rattle.command_checks.specs.SessionEntries.{view_of};
 ghost use Rattle.command_checks.specs.Inner.Gives.{Gives};

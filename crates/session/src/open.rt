@@ -1,8 +1,7 @@
 // `open V from "F"`.
 ghost use Rattle.std.specs.Prelude.{◌≡◌, true, List, Some, map};
-ghost use Rattle.layout_io.specs.Faults.{Rose};
-ghost use Rattle.layout_io.specs.Files.{File};
-ghost use Rattle.worlds.specs.Files.{open_view, opened_table};
+ghost use Rattle.layout_io.specs.Prelude.{Rose, File};
+ghost use Rattle.worlds.specs.Prelude.{open_view, opened_table};
 ghost use Rattle.command_checks.specs.SessionEntries.{view_of};
 ghost use Rattle.command_checks.specs.Inner.Gives.{Gives};
 ghost use Rattle.session.specs.Loads.{Loads, LoadCause, UnreadOnly, ToldFor};

@@ -1,7 +1,7 @@
 // `relayout V as ..`.
 ghost use Rattle.std.specs.Prelude.{◌≡◌, ◌<◌, IfOk, length, map, slice_index_or, true};
 ghost use Rattle.map_expr.specs.Terms.{term_of};
-ghost use Rattle.worlds.specs.Copy.{copied, relayout};
+ghost use Rattle.worlds.specs.Prelude.{copied, relayout};
 ghost use Rattle.command_checks.specs.Inner.Bases.{is_nameless};
 ghost use Rattle.command_checks.specs.SessionEntries.{view_of};
 ghost use Rattle.command_checks.specs.Inner.Gives.{Gives};

@@ -1,11 +1,7 @@
 ghost use Rattle.std.specs.Prelude.{◌≡◌, Bool, true, List, None};
-ghost use Rattle.layout_io.specs.Faults.{Rose};
-ghost use Rattle.layout_io.specs.Files.{File};
-ghost use Rattle.line_grammar.specs.Sentences.{sentence_of, file_read_by};
-ghost use Rattle.worlds.specs.Answers.{StepsTo, StepCause};
-ghost use Rattle.worlds.specs.OnView.{on_view};
-ghost use Rattle.worlds.specs.Step.{step, done_by};
-ghost use Rattle.worlds.specs.Worlds.{empty, found};
+ghost use Rattle.layout_io.specs.Prelude.{Rose, File};
+ghost use Rattle.line_grammar.specs.Prelude.{sentence_of, file_read_by};
+ghost use Rattle.worlds.specs.Prelude.{StepsTo, StepCause, on_view, step, done_by, empty, found};
 
 use crate::view::New;
 use crate::work::work_on;

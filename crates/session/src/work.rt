@@ -1,7 +1,6 @@
 // Commands that work on one view.
 ghost use Rattle.std.specs.Prelude.{List};
-ghost use Rattle.worlds.specs.OnView.{on_view};
-ghost use Rattle.worlds.specs.Worlds.{found};
+ghost use Rattle.worlds.specs.Prelude.{on_view, found};
 ghost use Rattle.command_checks.specs.declared.entries.RecordEntry.{RecordEntry};
 ghost use Rattle.command_checks.specs.declared.mapping_entry.MappingEntry.{MappingEntry};
 ghost use Rattle.session.specs.Bounds.{most_on};

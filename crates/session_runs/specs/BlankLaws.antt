@@ -1,20 +1,14 @@
 -- Blank lines do nothing in a run.
-use Rattle.std.proofs.Common.{◌≡◌, ℕ, ◌+◌, ◌≤◌, ◌==◌, ltb, Bool, true, false, List, [], ◌∷◌, length, Result, Ok, ap, refl, ◌∙◌, arith}
-use Rattle.std.specs.Prelude.{if◌then◌else◌}
-use Rattle.std.proofs.lemmas.Bool.Decides.{nat_tests}
-use Rattle.layout_io.specs.Files.{File}
+use Rattle.std.specs.Prelude.{◌≡◌, ℕ, ◌+◌, ◌≤◌, ◌==◌, ltb, Bool, true, false, List, [], ◌∷◌, length, Result, Ok, refl, if◌then◌else◌}
+use Rattle.record_dim.specs.Std.{ap, ◌∙◌, arith, nat_tests}
+use Rattle.layout_io.specs.Prelude.{File}
 use Rattle.line_tokens.specs.declared.spots.Spot.{Spot}
-use Rattle.line_grammar.specs.Reads.{tokens_of}
-use Rattle.line_grammar.specs.Sentences.{Sentence, Blank}
+use Rattle.line_grammar.specs.Prelude.{tokens_of, Sentence, Blank, line}
 use Rattle.line_grammar.specs.declared.version.Version.{Version}
-use Rattle.line_grammar.specs.Language.{line}
 use Rattle.schema_lang.specs.LineOf.{line_at, line_of, line_or_column, spots_in}
 use Rattle.schema_lang.specs.VersionOf.{is_blank_line}
-use Rattle.worlds.specs.Worlds.{World}
-use Rattle.worlds.specs.Outcomes.{Outcome, Faults, Left, quiet, sure}
-use Rattle.worlds.specs.Step.{step}
+use Rattle.worlds.specs.Prelude.{World, Outcome, Faults, Left, quiet, sure, step, run_from, after, fails_at}
 use Rattle.worlds.specs.declared.fault.CommandFault.TheVariants.{LineTooLong}
-use Rattle.worlds.specs.Fold.{run_from, after, fails_at}
 use Rattle.session_runs.specs.Steps.{step_text, step_line}
 use Rattle.session_runs.specs.Heads.{PassesBlanks}
 

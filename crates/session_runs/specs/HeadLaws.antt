@@ -1,7 +1,6 @@
 -- The version line of lines, by their first.
-use Rattle.std.proofs.Common.{◌≡◌, ℕ, ◌+◌, ◌<◌, ◌≤◌, ltb, Bool, true, false, List, ◌∷◌, length, Option, None, option_map, ap, ◌∙◌, arith}
-use Rattle.std.specs.Prelude.{if◌then◌else◌}
-use Rattle.std.proofs.lemmas.Bool.Decides.{nat_tests}
+use Rattle.std.specs.Prelude.{◌≡◌, ℕ, ◌+◌, ◌<◌, ◌≤◌, ltb, Bool, true, false, List, ◌∷◌, length, Option, None, option_map, if◌then◌else◌}
+use Rattle.record_dim.specs.Std.{ap, ◌∙◌, arith, nat_tests}
 use Rattle.schema_lang.specs.VersionOf.{version_of, is_blank_line}
 use Rattle.session_runs.specs.Scripts.{version_line}
 

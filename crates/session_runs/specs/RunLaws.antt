@@ -1,7 +1,8 @@
 -- A run that is the same as another one, as far as reads fail there.
-use Rattle.std.proofs.Common.{◌≡◌, ℕ, inl, inr, ⊎_elim, List, Option, None, Some, ap, ◌∙◌}
-use Rattle.worlds.specs.Outcome.{Output, Unread, Gives, IsText}
-use Rattle.worlds.specs.RunAnswers.{Answers, IsRun}
+use Rattle.std.specs.Prelude.{◌≡◌, ℕ, List, Option, None, Some}
+use Rattle.record_dim.specs.Std.{inl, inr, ⊎_elim, ap, ◌∙◌}
+use Rattle.worlds.specs.Prelude.{Output, Gives, IsText, Answers, IsRun}
+use Rattle.worlds.specs.Outcome.{Unread}
 use Rattle.worlds.specs.declared.status.Status.{Status}
 use Rattle.worlds.specs.declared.status.Status.TheVariants.{Done, CommandFault, Usage, SourceFault, SinkFault, NoMemory}
 

@@ -1,18 +1,14 @@
 -- The run of a script that was read: its lines, in the version that its version line says.
 use Rattle.std.specs.Prelude.{ℕ, ◌+◌, List, ◌∷◌, [], length, slice_set, Option, None, Some, option_map, nat_lt, if◌then◌else◌}
 use Rattle.csv.specs.Reading.{strip_bom}
-use Rattle.layout_io.specs.Files.{File}
+use Rattle.layout_io.specs.Prelude.{File}
 use Rattle.line_grammar.specs.declared.version.Version.{Version}
 use Rattle.line_grammar.specs.declared.version.Version.TheVariants.{One}
-use Rattle.line_grammar.specs.Versions.{version_numbered}
+use Rattle.line_grammar.specs.Prelude.{version_numbered}
 use Rattle.schema_lang.specs.VersionOf.{version_of, is_blank_line}
-use Rattle.worlds.specs.Worlds.{empty}
-use Rattle.worlds.specs.FaultTexts.{fault_text}
+use Rattle.worlds.specs.Prelude.{empty, fault_text, Output, Faulted, lines_in, run_from}
 use Rattle.worlds.specs.declared.fault.CommandFault.{CommandFault}
 use Rattle.worlds.specs.declared.fault.CommandFault.TheVariants.{ScriptTooLong, BadVersion}
-use Rattle.worlds.specs.Outcome.{Output, Faulted}
-use Rattle.worlds.specs.Lines.{lines_in}
-use Rattle.worlds.specs.Fold.{run_from}
 use Rattle.session_runs.specs.Steps.{step_text}
 
 -- the run ends with a fault line

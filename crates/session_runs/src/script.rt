@@ -1,12 +1,8 @@
 // The run of a script that was read, in the version that its version line says.
 ghost use Rattle.std.specs.Prelude.{◌≡◌, ◌+◌, ◌^◌, ◌<◌, ◌≤◌, ℕ, List, Some, length};
 ghost use Rattle.csv.specs.Reading.{strip_bom};
-ghost use Rattle.layout_io.specs.Faults.{Rose};
-ghost use Rattle.layout_io.specs.Files.{File};
-ghost use Rattle.worlds.specs.RunAnswers.{IsRun, HasCause};
-ghost use Rattle.worlds.specs.Fold.{run_from};
-ghost use Rattle.worlds.specs.Lines.{lines_in};
-ghost use Rattle.worlds.specs.Worlds.{empty};
+ghost use Rattle.layout_io.specs.Prelude.{Rose, File};
+ghost use Rattle.worlds.specs.Prelude.{IsRun, HasCause, run_from, lines_in, empty};
 ghost use Rattle.session_runs.specs.Scripts.{run_form, run_headed, version_line};
 ghost use Rattle.session_runs.specs.Steps.{step_text};
 

@@ -1,6 +1,5 @@
 -- Rows of a leaf that are read or stored at once.
-use Rattle.subviews.proofs.Imports.{◌≡◌, ℕ, zero, suc, ◌+◌, ◌<◌, ◌≤◌, true, ℤ, pos, List, [], ◌∷◌, ◌++◌, length, map, take, get_or, Option, Result, Ok, Err, is_ok, refl, ap, sym, ◌∙◌, arith, option_or, length-map, length-take-le, length-drop, get_or-map, get_or-take, get_or-drop, map-range_with_len_more, low_64, entry, with_entry, column_writes, lane_fault, first_lane_fault, no_column, entry_more, run_of, told_lane, stored_count, StoreAnswer, Write, after_log-none, after_stores-append, Table, after_stores, LaneFault, StoreFault}
-use Rattle.views.specs.Columns.{with_column}
+use Rattle.subviews.proofs.Imports.{◌≡◌, ℕ, zero, suc, ◌+◌, ◌<◌, ◌≤◌, true, ℤ, pos, List, [], ◌∷◌, ◌++◌, length, map, take, get_or, Option, Result, Ok, Err, is_ok, refl, ap, sym, ◌∙◌, arith, option_or, length-map, length-take-le, length-drop, get_or-map, get_or-take, get_or-drop, map-range_with_len_more, low_64, entry, with_entry, column_writes, lane_fault, first_lane_fault, no_column, entry_more, run_of, told_lane, stored_count, StoreAnswer, Write, after_log-none, after_stores-append, Table, after_stores, LaneFault, StoreFault, with_column}
 
 -- ---- values that are read
 

@@ -1,7 +1,6 @@
 -- A command that is refused, and what it leaves.
-use Rattle.view_commands.proofs.Imports.{◌≡◌, ℕ, ℤ, List, Option, Some, None, Result, Ok, Err, refl, Access, Table, after_log, after_stores, Tested, Done, CommandFault, GivesUp, StepFault, Changed, ChangeFault, Ends, HasRows, left_at, row_of}
+use Rattle.view_commands.proofs.Imports.{◌≡◌, ℕ, ℤ, List, Option, Some, None, Result, Ok, Err, refl, Access, Table, after_log, after_stores, Tested, Done, CommandFault, GivesUp, StepFault, Changed, ChangeFault, Ends, HasRows, left_at, row_of, arith}
 use Rattle.view_commands.specs.declared.change.ChangeFault.TheVariants as change
-use Rattle.std.proofs.Common.{arith}
 
 pub refused_with : (outcome : Tested Done) (left : ℕ → List (List ℤ)) (old new : Table) (fault : ChangeFault) (result : Result (Option ℤ) ChangeFault) → result ≡ Err fault →
     Ends old.fields outcome fault → HasRows old (left_at left old (row_of fault)) new → Changed outcome left old result new

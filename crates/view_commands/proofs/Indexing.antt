@@ -1,6 +1,5 @@
 -- Indices inside extents.
-use Rattle.view_commands.proofs.Imports.{◌≡◌, ℕ, zero, suc, ◌<◌, true, false, nat_eq, List, [], ◌∷◌, length, Some, refl, sym, ap, ◌∙◌, ⊎_elim, pointwise, list_any, slice_get, cases_Bool, false≢true, nat_list_eq_equiv, length_all_zip, IsInside, inside_of_entry, row_of_inside, same_text, inside, BadIndex, Ok, Err}
-use Rattle.std.proofs.Common.{arith}
+use Rattle.view_commands.proofs.Imports.{◌≡◌, ℕ, zero, suc, ◌<◌, true, false, nat_eq, List, [], ◌∷◌, length, Some, refl, sym, ap, ◌∙◌, ⊎_elim, pointwise, list_any, slice_get, cases_Bool, false≢true, nat_list_eq_equiv, length_all_zip, IsInside, inside_of_entry, row_of_inside, same_text, inside, BadIndex, Ok, Err, arith}
 
 any_at : (index : List ℕ) (lists : List (List ℕ)) (k : ℕ) → slice_get lists k ≡ Some index → list_any (λ other. pointwise nat_eq other index) lists ≡ true
 any_at index [] k there = absurd (cc)

@@ -1,8 +1,6 @@
 -- The leaves that are set, one after another.
-use Rattle.view_commands.proofs.Imports.{◌≡◌, ℕ, suc, ◌+◌, ◌<◌, ◌≤◌, Bool, true, false, nat_eq, List, [], ◌∷◌, ◌++◌, length, get_or, take, drop, map, refl, sym, ap, ◌∙◌, arith, add-one, ⊎_elim, ◌||◌, option_copied, Bor, Bound, bound_term, All-get_or, Table, leaf_count_of, list_any, IsDistinct, cases_Bool, false≢true, nat_tests, nat_eq_equiv, take-append-drop, map-append, length-map, take_more, take_all, take-map, IsDistinct-push, length-le_from_distinct_below, drop_of_length-le, drop-cons, Fields, Assignment, Setting, setting_of, filter_term, IsSetOf, Assign, ◌>>=◌, bound_set, bound_sets, each_once, leaves_of, text_of_leaf, Twice, GivesUp, GivesUp-then, StepFault, Ok, Err, Tested, Done, CommandFault, Changed, ChangeFault, Ends}
-use Rattle.std.specs.Prelude.{All, Option, option_map, ℤ, Result}
+use Rattle.view_commands.proofs.Imports.{◌≡◌, ℕ, suc, ◌+◌, ◌<◌, ◌≤◌, Bool, true, false, nat_eq, List, [], ◌∷◌, ◌++◌, length, get_or, take, drop, map, refl, sym, ap, ◌∙◌, arith, add-one, ⊎_elim, ◌||◌, option_copied, Bor, Bound, bound_term, All-get_or, Table, leaf_count_of, list_any, IsDistinct, cases_Bool, false≢true, nat_tests, nat_eq_equiv, take-append-drop, map-append, length-map, take_more, take_all, take-map, IsDistinct-push, length-le_from_distinct_below, drop_of_length-le, drop-cons, Fields, Assignment, Setting, setting_of, filter_term, IsSetOf, Assign, ◌>>=◌, bound_set, bound_sets, each_once, leaves_of, text_of_leaf, Twice, GivesUp, GivesUp-then, StepFault, Ok, Err, Tested, Done, CommandFault, Changed, ChangeFault, Ends, All, Option, option_map, ℤ, Result, get_or-map}
 use Rattle.view_commands.proofs.Changing.{refused_with, stopped as test_stopped}
-use Rattle.std.proofs.lemmas.List.{get_or-map}
 
 -- a list at one of its places
 pub map_at : {X Y : Type 0} (f : X → Y) (xs : List X) (i : ℕ) (d : X) → i < length xs → map f (take i xs) ++ f (get_or xs i d) ∷ map f (drop (suc i) xs) ≡ map f xs

@@ -2,17 +2,13 @@
 use Rattle.std.specs.Prelude.{ℕ, zero, suc, ◌≡◌, ◌++◌, ℤ, List, [], length, drop, Option, Some, None, Result, Ok, Err}
 use Rattle.lane_kernels.specs.Kernels.{run_rows}
 use Rattle.lane_kernels.specs.declared.kernel.Kernel.{Kernel}
-use Rattle.line_grammar.specs.Sentences.{Value, Assignment}
-use Rattle.record_dim.specs.Trees.{Fields}
+use Rattle.line_grammar.specs.Prelude.{Value, Assignment}
+use Rattle.record_dim.specs.Prelude.{Fields}
 use Rattle.row_updates.specs.Rows.{updated_of}
 use Rattle.subviews.specs.Stencils.{Stencil, stenciled}
 use Rattle.subviews.specs.declared.fault.StencilFault.{StencilFault}
-use Rattle.views.specs.Tables.{Table, kept_of}
-use Rattle.worlds.specs.Kernel.{number_text}
-use Rattle.worlds.specs.Names.{bound_filter, bound_sets, each_once, leaves_of, text_of_leaf}
-use Rattle.worlds.specs.OnView.{Done, done_to}
-use Rattle.worlds.specs.Outcomes.{Tested, ◌>>=◌, ok_or}
-use Rattle.worlds.specs.Update.{update_fault}
+use Rattle.views.specs.Prelude.{Table, kept_of}
+use Rattle.worlds.specs.Prelude.{number_text, bound_filter, bound_sets, each_once, leaves_of, text_of_leaf, Done, done_to, Tested, ◌>>=◌, ok_or, update_fault}
 use Rattle.worlds.specs.declared.fault.CommandFault.TheVariants as command
 use Rattle.command_checks.specs.Inner.Gives.{GivesUp}
 use Rattle.command_checks.specs.declared.fault.StepFault.{StepFault}

@@ -1,8 +1,8 @@
 -- How a command ends, and its answer.
-use Rattle.std.proofs.Common.{◌≡◌, ℕ, List, [], Option, Result, Ok, Err, refl, sym, ap, ◌∙◌, arith}
-use Rattle.layout_io.specs.WritingLaws.{Wrote-nil, with_bytes-nil}
-use Rattle.worlds.specs.Answers.{Refused, Fronted, text_of}
-use Rattle.worlds.specs.Outcomes.{LeftOf, ◌>>=◌, Tested}
+use Rattle.std.specs.Prelude.{◌≡◌, ℕ, List, [], Option, Result, Ok, Err, refl}
+use Rattle.record_dim.specs.Std.{sym, ap, ◌∙◌, arith}
+use Rattle.layout_io.specs.Prelude.{Wrote-nil, with_bytes-nil}
+use Rattle.worlds.specs.Prelude.{Refused, Fronted, text_of, LeftOf, ◌>>=◌, Tested}
 use Rattle.worlds.specs.declared.fault.CommandFault.{CommandFault}
 use Rattle.command_checks.specs.Inner.Gives.{Gives, GivesUp}
 use Rattle.command_checks.specs.declared.fault.StepFault.{StepFault}

@@ -3,9 +3,8 @@ use Rattle.std.specs.Prelude.{ℕ, ◌+◌, ◌≤◌, length, Option, Some, Non
 use Rattle.lane_kernels.specs.Kernels.{kernel_cost}
 use Rattle.lane_kernels.specs.declared.kernel.Kernel.{Kernel}
 use Rattle.line_grammar.specs.declared.line.KernelText.{KernelText}
-use Rattle.views.specs.Tables.{Table}
-use Rattle.worlds.specs.Kernel.{fit_kernel}
-use Rattle.worlds.specs.Outcomes.{Tested}
+use Rattle.views.specs.Prelude.{Table}
+use Rattle.worlds.specs.Prelude.{fit_kernel, Tested}
 
 -- from one count of steps to another at most so many were taken; where no number stands, nothing is said
 abbrev pub Within : Option ℕ → ℕ → ℕ → Type 0

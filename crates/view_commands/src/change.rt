@@ -1,8 +1,7 @@
 // Commands that may store in one view, and write nothing but a number.
 ghost use Rattle.std.specs.Prelude.{ℕ, ℤ, ◌≡◌, IfErr, IfOk, List, Option, None};
-ghost use Rattle.views.specs.Tables.{Table};
-ghost use Rattle.worlds.specs.OnView.{Done};
-ghost use Rattle.worlds.specs.Outcomes.{Tested};
+ghost use Rattle.views.specs.Prelude.{Table};
+ghost use Rattle.worlds.specs.Prelude.{Done, Tested};
 ghost use Rattle.command_checks.specs.declared.fault.StepFault.TheVariants.{NoMemory};
 ghost use Rattle.view_commands.specs.Changes.{Changed, all_left, worded};
 ghost use Rattle.view_commands.specs.Steps.{Within};

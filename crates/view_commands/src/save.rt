@@ -1,6 +1,5 @@
 // `save V`.
-ghost use Rattle.worlds.specs.Files.{save};
-ghost use Rattle.worlds.specs.OnView.{telling};
+ghost use Rattle.worlds.specs.Prelude.{save, telling};
 
 use crate::work::Work;
 use blob_file::{SaveEnd, write_file};

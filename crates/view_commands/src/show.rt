@@ -2,10 +2,9 @@
 ghost use Rattle.std.specs.Prelude.{◌≡◌, ◌++◌, All, IfOk, OnOk};
 ghost use Rattle.blobs.specs.Bits.{bits_of};
 ghost use Rattle.instrument.specs.BlobTexts.{bytes_of, bytes_text};
-ghost use Rattle.places.specs.RunOwners.{IsOwnerBelow};
-ghost use Rattle.views.specs.Tables.{leaf_count_of, owners_of};
-ghost use Rattle.worlds.specs.OnView.{tells, reading, telling};
-ghost use Rattle.worlds.specs.Show.{print, counts, heat, layout, small, all_runs, bytes};
+ghost use Rattle.places.specs.Prelude.{IsOwnerBelow};
+ghost use Rattle.views.specs.Prelude.{leaf_count_of, owners_of};
+ghost use Rattle.worlds.specs.Prelude.{tells, reading, telling, print, counts, heat, layout, small, all_runs, bytes};
 ghost use Rattle.command_checks.specs.Inner.Gives.{Gives};
 
 use crate::work::Work;

@@ -1,7 +1,6 @@
 // `print V window [..]`.
 ghost use Rattle.std.specs.Prelude.{◌≡◌};
-ghost use Rattle.worlds.specs.OnView.{reading};
-ghost use Rattle.worlds.specs.Windows.{print_window};
+ghost use Rattle.worlds.specs.Prelude.{reading, print_window};
 
 use crate::work::Work;
 use command_checks::{StepFault, windowed};

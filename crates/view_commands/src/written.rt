@@ -1,9 +1,7 @@
 // A command that may store, as one that writes its number.
 ghost use Rattle.std.specs.Prelude.{false, flat_map};
-ghost use Rattle.layout_io.specs.Inner.Parts.{text_of_part};
-ghost use Rattle.layout_io.specs.Writing.{Writes};
-ghost use Rattle.worlds.specs.Kernel.{number_text};
-ghost use Rattle.worlds.specs.Texts.{number_line};
+ghost use Rattle.layout_io.specs.Prelude.{text_of_part, Writes};
+ghost use Rattle.worlds.specs.Prelude.{number_text, number_line};
 
 use crate::change::{Change, in_words};
 use crate::work::Work;

@@ -1,6 +1,5 @@
 -- The values of one leaf that have at most 32 bits, a lane at a time.
-use Rattle.views.proofs.Imports.{◌≡◌, ℕ, zero, suc, ◌+◌, ◌-◌, ◌<◌, ◌≤◌, List, [], ◌∷◌, ◌++◌, length, take, drop, set, get_or, replicate, ℤ, pos, refl, sym, ap, ◌∙◌, arith, length-append, to_z, of_z, w64, ints, to_z-of_z, get_or-map, length-map, length-replicate, Each1-replicate, Each1, map-range_with_len_more, IsBlock, IsNarrow, narrow_block, narrow_fits, Table, after_log, after_read, Read, after_log-none, after_log-append, in_leaf, column, column_reads}
-use Rattle.std.proofs.Common.{length-take, length-drop, get_or-drop}
+use Rattle.views.proofs.Imports.{◌≡◌, ℕ, zero, suc, ◌+◌, ◌-◌, ◌<◌, ◌≤◌, List, [], ◌∷◌, ◌++◌, length, take, drop, set, get_or, replicate, ℤ, pos, refl, sym, ap, ◌∙◌, arith, length-append, to_z, of_z, w64, ints, to_z-of_z, get_or-map, length-map, length-replicate, Each1-replicate, Each1, map-range_with_len_more, IsBlock, IsNarrow, narrow_block, narrow_fits, Table, after_log, after_read, Read, after_log-none, after_log-append, in_leaf, column, column_reads, length-take, length-drop, get_or-drop}
 
 -- one lane more, of a list whose first so many numbers are there and the others are 0
 lane_more : (values : List ℤ) (lane rest : ℕ) (value : ℤ) → lane < length values → get_or values lane (pos 0) ≡ value

@@ -1,6 +1,5 @@
 -- Counts from 0 on are numbers of entries.
-use Rattle.views.proofs.Imports.{◌≡◌, ℕ, ◌+◌, ◌-◌, ◌^◌, min, Bool, true, false, cond, Option, Some, None, List, [], ◌∷◌, map, get_or, fold, refl, ap, sym, ◌∙◌, subst, arith, IfSome, count_by, if◌then◌else◌, ◌==◌, length-map, get_or-map, sum_by-cons, fold-map, Term, has_count, granule_of, Owner, LeafCounts, HeatCounts, counted, warmed, no_counts, no_heat, count-from_zero, heat-from_zero, Access, Read, Write, counts_touched, heat_touched, tallied, no_tally, blob_lengths, tallied-counts, tallied-heat, reads_leaf, writes_leaf, touches, AreCounts, AreHeat, AreEntries}
-use Rattle.std.specs.Prelude.{option_map}
+use Rattle.views.proofs.Imports.{◌≡◌, ℕ, ◌+◌, ◌-◌, ◌^◌, min, Bool, true, false, cond, Option, Some, None, List, [], ◌∷◌, map, get_or, fold, refl, ap, sym, ◌∙◌, subst, arith, IfSome, count_by, if◌then◌else◌, ◌==◌, length-map, get_or-map, sum_by-cons, fold-map, Term, has_count, granule_of, Owner, LeafCounts, HeatCounts, counted, warmed, no_counts, no_heat, count-from_zero, heat-from_zero, Access, Read, Write, counts_touched, heat_touched, tallied, no_tally, blob_lengths, tallied-counts, tallied-heat, reads_leaf, writes_leaf, touches, AreCounts, AreHeat, AreEntries, option_map}
 
 -- the leaves that are read, and those that are written
 abbrev leaves_read : List Access → List ℕ

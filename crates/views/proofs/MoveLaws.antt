@@ -1,6 +1,6 @@
 -- What blobs hold under one expression they hold under another that lays them out the same.
 use Rattle.views.proofs.Imports.{◌≡◌, ℕ, suc, ◌*◌, ◌/◌, ◌+◌, ◌<◌, ℤ, List, [], ◌∷◌, map, length, get_or, refl, sym, ap, ◌∙◌, subst, arith, sum_by-cons, indices, Fields, kinds_of, IsLaidOut, Owner, Hold, blocks, AreLaid, AreSized, Term, uncounted, term_of, layout_by, holds_by, most_slots, MapExpr, schema_fields, Schema, StoreMode, AllSettled, IsKept, raw_under, table_under, Table, leaf_types_of, table_holds, layout_uncounted, holds_uncounted, slots_uncounted, Tally, blob_steps, MayMove, settled_moves, may_move}
-use Rattle.std.specs.Prelude.{sum_by}
+use Rattle.record_dim.specs.Std.{sum_by}
 use Rattle.views.proofs.Opened.{seen_from}
 use Rattle.views.proofs.KeptLaws.{some_width}
 

@@ -1,6 +1,5 @@
 -- Slots that are cut into pieces.
-use Rattle.views.proofs.Imports.{◌≡◌, ◌⊎◌, ⊎_elim, ℕ, ◌+◌, ◌-◌, ◌*◌, ◌/◌, ◌%◌, ◌<◌, ◌≤◌, true, ◌||◌, div-mul-le_self, refl, sym, ap, ◌∙◌, arith, ◌==◌, mul-mod_left, div-add-mod', mod-mul-add, mod_below, row_fits, le-div, cases_lt, or_right, blocks, is_cut, piece_count, piece_at, ArePieces}
-use Rattle.std.specs.Prelude.{min}
+use Rattle.views.proofs.Imports.{◌≡◌, ◌⊎◌, ⊎_elim, ℕ, ◌+◌, ◌-◌, ◌*◌, ◌/◌, ◌%◌, ◌<◌, ◌≤◌, true, ◌||◌, div-mul-le_self, refl, sym, ap, ◌∙◌, arith, ◌==◌, mul-mod_left, div-add-mod', mod-mul-add, mod_below, row_fits, le-div, cases_lt, or_right, blocks, is_cut, piece_count, piece_at, ArePieces, min}
 
 -- a rest that stays below its divisor
 mod_more : (slot more n : ℕ) → slot % n + more < n → (slot + more) % n ≡ slot % n + more

@@ -1,7 +1,6 @@
 -- What a view and its mapping say of the same layout.
-use Rattle.views.proofs.Imports.{◌≡◌, ℕ, List, length, map, sym, ap, ◌∙◌, kinds_of, schema_fields, Schema, LeafType, Owner, Cell, Hold, Term, term_of, MapExpr, kinds_are, StoreMode, IsKept, IsMappingOf, Table, leaf_types_of, owners_of, table_holds, Tally}
+use Rattle.views.proofs.Imports.{◌≡◌, ℕ, List, length, map, sym, ap, ◌∙◌, kinds_of, schema_fields, Schema, LeafType, Owner, Cell, Hold, Term, term_of, MapExpr, kinds_are, StoreMode, IsKept, IsMappingOf, Table, leaf_types_of, owners_of, table_holds, Tally, arith}
 use Rattle.views.proofs.Opened.{seen_from, rows_seen}
-use Rattle.std.proofs.Common.{arith}
 
 same_place : (P : List (List Owner) → ℕ → List LeafType → List Hold → Type 0) {layout there : List (List Owner)} {slots rows : ℕ} {kinds types : List LeafType} {holds stored : List Hold}
     → layout ≡ there → slots ≡ rows → kinds ≡ types → holds ≡ stored → P layout slots kinds holds → P there rows types stored

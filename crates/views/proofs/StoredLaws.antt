@@ -1,7 +1,5 @@
 -- The values of one leaf that are stored, a lane at a time.
-use Rattle.views.proofs.Imports.{◌≡◌, ℕ, zero, suc, ◌+◌, ◌<◌, ◌≤◌, List, [], ◌∷◌, ◌++◌, length, take, drop, get_or, ℤ, pos, Some, None, Ok, Err, sym, ap, ◌∙◌, arith, drop-cons, FitsSigned, to_z, of_z, w64, w128, to_z-of_z, option_or, map-range_with_len_more, declared, with_entry, StoreAnswer, without_number, told_err, Table, leaf_type_of, after_raw, after_stores, Write, after_log-none, after_stores-append, column_writes, with_column, lane_fault, first_lane_fault, no_column, entry_more, StoreFault, LaneFault}
-use Rattle.std.proofs.Common.{length-take, take_all}
-use Rattle.std.specs.Prelude.{Option, Result}
+use Rattle.views.proofs.Imports.{◌≡◌, ℕ, zero, suc, ◌+◌, ◌<◌, ◌≤◌, List, [], ◌∷◌, ◌++◌, length, take, drop, get_or, ℤ, pos, Some, None, Ok, Err, sym, ap, ◌∙◌, arith, drop-cons, FitsSigned, to_z, of_z, w64, w128, to_z-of_z, option_or, map-range_with_len_more, declared, with_entry, StoreAnswer, without_number, told_err, Table, leaf_type_of, after_raw, after_stores, Write, after_log-none, after_stores-append, column_writes, with_column, lane_fault, first_lane_fault, no_column, entry_more, StoreFault, LaneFault, length-take, take_all, Option, Result}
 
 -- a lane whose value is taken
 no_lane_fault : (lane : ℕ) (result : Result ℤ StoreFault) → lane_fault lane result ≡ None → without_number result ≡ Ok tt

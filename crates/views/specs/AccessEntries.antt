@@ -1,9 +1,8 @@
 -- What is counted of accesses: each number is that of its entries in the log, or 2^64 - 1 where there are more.
 use Rattle.std.specs.Prelude.{◌≡◌, ℕ, ◌-◌, ◌/◌, ◌^◌, ◌<◌, ◌==◌, min, Bool, false, IfSome, List, [], length, slice_index, slice_index_or, count_by}
-use Rattle.places.specs.Layout.{Owner}
+use Rattle.places.specs.Prelude.{Owner, is_hot}
 use Rattle.instrument.specs.Counters.{LeafCounts, HeatCounts, granules_of}
 use Rattle.views.specs.Tallies.{Access, Read, Write, Tally}
-use Rattle.places.specs.Touched.{is_hot}
 
 -- whether an access reads, or writes, a leaf
 abbrev pub reads_leaf : ℕ → Access → Bool

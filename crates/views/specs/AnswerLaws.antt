@@ -1,20 +1,13 @@
 -- What an answer to a store keeps.
-use Rattle.std.proofs.Common.{◌≡◌, ℕ, suc, ◌+◌, ◌<◌, ◌≤◌, Bool, true, ℤ, pos, List, [], ◌∷◌, length, map, get_or, Result, Ok, Err, is_ok, refl, sym, ap, ◌∙◌, subst, arith}
-use Rattle.std.specs.Prelude.{if◌then◌else◌}
-use Rattle.std.specs.List.{enumerate_from}
-use Rattle.std.proofs.lemmas.Bool.{cases_lt}
-use Rattle.std.proofs.lemmas.List.{length-map, get_or_past}
+use Rattle.std.specs.Prelude.{◌≡◌, ℕ, suc, ◌+◌, ◌<◌, ◌≤◌, Bool, true, ℤ, pos, List, [], ◌∷◌, length, map, get_or, Result, Ok, Err, is_ok, refl, if◌then◌else◌}
+use Rattle.record_dim.specs.Std.{sym, ap, ◌∙◌, subst, arith, enumerate_from, cases_lt, length-map, get_or_past}
 use Rattle.record_dim.specs.declared.leaf_type.LeafType.{LeafType}
-use Rattle.record_dim.specs.Leaves.{leaves, kinds_of}
-use Rattle.record_dim.specs.Trees.{Fields}
+use Rattle.record_dim.specs.Prelude.{leaves, kinds_of, Fields}
 use Rattle.places.specs.declared.piece.Hold.{Hold}
-use Rattle.places.specs.Image.{entry}
+use Rattle.places.specs.Prelude.{entry}
 use Rattle.map_any.specs.AnyLaws.{length-leaf_cells}
-use Rattle.map_checks.specs.Mappings.{leaf_cells}
-use Rattle.map_checks.specs.TermLaws.{length-holds}
-use Rattle.piece_bits.specs.Tables.{hold_at}
-use Rattle.piece_bits.specs.LowBits.{value_bits, kept}
-use Rattle.piece_bits.specs.KeptLaws.{kept_again, wide_kept}
+use Rattle.map_checks.specs.Prelude.{leaf_cells, length-holds}
+use Rattle.piece_bits.specs.Prelude.{hold_at, value_bits, kept, kept_again, wide_kept}
 use Rattle.piece_bits.specs.declared.mode.StoreMode.{StoreMode}
 use Rattle.piece_bits.specs.declared.mode.StoreMode.TheVariants.{Strict, Wrap}
 use Rattle.views.specs.StrictLaws.{stored_fits, fitting_stored}

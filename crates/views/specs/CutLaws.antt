@@ -1,17 +1,15 @@
 -- The slots of two mappings that lay out arrays, and how they are cut.
-use Rattle.std.proofs.Common.{◌≡◌, ℕ, ◌+◌, ◌%◌, ◌≤◌, List, sum_by, Option, Some, None, option_map, refl, subst}
-use Rattle.std.specs.Prelude.{IfSome, IsSomeAnd}
-use Rattle.std.specs.List.{range_with_len}
+use Rattle.std.specs.Prelude.{◌≡◌, ℕ, ◌+◌, ◌%◌, ◌≤◌, List, sum_by, Option, Some, None, option_map, refl, IfSome, IsSomeAnd}
+use Rattle.record_dim.specs.Std.{subst, range_with_len, arith}
 use Rattle.extents.specs.declared.order.Order.{Order}
 use Rattle.linearize.specs.Slots.{slot_count}
 use Rattle.map_expr.specs.Terms.{Term}
-use Rattle.map_checks.specs.Arrays.{array_of, lanes_in}
+use Rattle.map_checks.specs.Prelude.{array_of, lanes_in}
 use Rattle.map_any.specs.Inner.ArraySlots.{slots_in}
 use Rattle.map_any.specs.Strategies.{AreRuns}
 use Rattle.map_any.specs.declared.arrays.ArraySlots.{ArraySlots}
 use Rattle.views.specs.Moves.{IsInBlock}
 use Rattle.views.specs.Pieces.{piece_at, slot_steps, move_steps, HasSlots}
-use Rattle.std.proofs.Common.{arith}
 
 -- the slots of a mapping that lays out arrays
 pub slots_within : (term : Term) (extents : List ℕ) (slots : ArraySlots) (slot count : ℕ) → option_map (slots_in extents) (array_of term) ≡ Some slots → HasSlots term extents slot count

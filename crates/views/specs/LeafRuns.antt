@@ -1,12 +1,12 @@
 -- Many rows of one leaf at once.
 use Rattle.std.specs.Prelude.{ℕ, ◌+◌, ◌≡◌, ◌<◌, ◌≤◌, ℤ, pos, List, map, take, drop, nat_le, Option, Some, None, Result, Ok, Err, if◌then◌else◌}
-use Rattle.std.specs.Int.{cast_unsigned, div_ceil}
+use Rattle.record_dim.specs.Std.{cast_unsigned, div_ceil}
 use mir.Syntax.{w64}
-use Rattle.record_dim.specs.LeafTypes.{width_of, IsDeclared}
+use Rattle.record_dim.specs.Prelude.{width_of, IsDeclared}
 use Rattle.record_dim.specs.declared.leaf_type.LeafType.{LeafType}
 use Rattle.record_dim.specs.declared.leaf_type.LeafType.TheVariants.{U64}
-use Rattle.piece_bits.specs.Tables.{hold_at}
-use Rattle.places.specs.Image.{entry}
+use Rattle.piece_bits.specs.Prelude.{hold_at}
+use Rattle.places.specs.Prelude.{entry}
 use Rattle.views.specs.Columns.{column, column_writes, with_column, first_lane_fault}
 use Rattle.views.specs.Stores.{Fits}
 use Rattle.views.specs.Tables.{Table, leaf_type_of, table_holds, after_log, after_stores, answer_of, kept_of}

@@ -22,3 +22,4 @@ pub mod RepeatLaws
 pub mod LeafRuns
 pub mod RunsLaws
 pub mod Inner
+pub mod Prelude

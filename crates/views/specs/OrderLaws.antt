@@ -1,15 +1,11 @@
 -- The order of accesses carries no meaning: what is counted of some is counted of them in any order.
-use Rattle.std.proofs.Common.{◌≡◌, ℕ, zero, suc, ◌+◌, Bool, List, [], ◌∷◌, ◌++◌, map, append_assoc, refl, ap, sym, ◌∙◌}
-use Rattle.std.specs.Prelude.{Option, option_map, if◌then◌else◌}
-use Rattle.std.specs.List.{fold, flat_map, enumerate_from}
-use Rattle.std.proofs.lemmas.List.{append-nil}
-use Rattle.std.proofs.lemmas.List.Concat.{flat_map-cons}
-use Rattle.places.specs.Layout.{Owner}
+use Rattle.std.specs.Prelude.{◌≡◌, ℕ, zero, suc, ◌+◌, Bool, List, [], ◌∷◌, ◌++◌, map, refl, Option, option_map, if◌then◌else◌}
+use Rattle.record_dim.specs.Std.{append_assoc, ap, sym, ◌∙◌, flat_map, enumerate_from, append-nil, flat_map-cons, arith}
+use Rattle.std.specs.List.{fold}
+use Rattle.places.specs.Prelude.{Owner, is_hot}
 use Rattle.instrument.specs.Counters.{LeafCounts, HeatCounts, counted, next, warmed_blob}
-use Rattle.places.specs.Touched.{is_hot}
 use Rattle.views.specs.Tallies.{Access, Read, Write, Tally, counts_touched, heat_touched, after_access, tallied}
 use Rattle.views.specs.TallyLaws.{tallied-append}
-use Rattle.std.proofs.Common.{arith}
 
 -- two counts by leaf
 counted_both : (counts : List ℕ) (one other : ℕ) → counted (counted counts one) other ≡ counted (counted counts other) one

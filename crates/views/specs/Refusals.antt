@@ -1,9 +1,8 @@
 -- Why no view was made.
 use Rattle.std.specs.Prelude.{ℕ, ◌≡◌, ◌*◌, ◌<◌, ◌^◌, ◌⊎◌, ⊤, List, Ok, Err, length, sum_by}
-use Rattle.record_dim.specs.Trees.{Fields}
-use Rattle.record_dim.specs.Leaves.{kinds_of}
+use Rattle.record_dim.specs.Prelude.{Fields, kinds_of}
 use Rattle.map_expr.specs.Terms.{Term}
-use Rattle.map_checks.specs.Mappings.{leaf_cells, layout_by, accepted, IsTooBigFor}
+use Rattle.map_checks.specs.Prelude.{leaf_cells, layout_by, accepted, IsTooBigFor}
 use Rattle.map_checks.specs.declared.fault.MakeMap.{MakeMap}
 use Rattle.map_checks.specs.declared.fault.MakeMap.TheVariants as map
 use Rattle.instrument.specs.declared.heat.HeatFault.{HeatFault}

@@ -1,10 +1,7 @@
 -- Lists that are gone through again and again, by steps of which any two may change places.
-use Rattle.std.proofs.Common.{◌≡◌, ℕ, zero, suc, ◌+◌, ◌*◌, List, [], ◌∷◌, ◌++◌, map, replicate, append_assoc, add-one, refl, ap, sym, ◌∙◌, arith}
-use Rattle.std.specs.List.{fold, flat_map, range_with_len}
-use Rattle.std.proofs.lemmas.List.{append-nil}
-use Rattle.std.proofs.lemmas.List.Sums.{fold-append}
-use Rattle.std.proofs.lemmas.List.Folds.{fold-map}
-use Rattle.std.proofs.lemmas.List.Concat.{flat_map-cons}
+use Rattle.std.specs.Prelude.{◌≡◌, ℕ, zero, suc, ◌+◌, ◌*◌, List, [], ◌∷◌, ◌++◌, map, replicate, refl}
+use Rattle.record_dim.specs.Std.{append_assoc, add-one, ap, sym, ◌∙◌, arith, flat_map, range_with_len, append-nil, fold-append, fold-map, flat_map-cons}
+use Rattle.std.specs.List.{fold}
 use Rattle.views.specs.TallyLaws.{logs_more, accesses_more}
 
 -- a list so many times

@@ -1,10 +1,8 @@
 -- What the answer to a store in a strict view says of the value.
-use Rattle.std.proofs.Common.{◌≡◌, true, false, ℤ, ◌≤ℤ◌, Ok, Err, refl, arith}
-use Rattle.std.specs.Prelude.{int_le}
-use Rattle.std.proofs.lemmas.Int.{ints}
-use Rattle.std.proofs.lemmas.Bool.{cases_Bool, and_parts}
+use Rattle.std.specs.Prelude.{◌≡◌, true, false, ℤ, ◌≤ℤ◌, Ok, Err, refl, int_le}
+use Rattle.record_dim.specs.Std.{arith, ints, cases_Bool, and_parts}
 use Rattle.record_dim.specs.declared.leaf_type.LeafType.{LeafType}
-use Rattle.record_dim.specs.LeafTypes.{least_of, greatest_of, least_in, greatest_in, IsIn, IsDeclared}
+use Rattle.record_dim.specs.Prelude.{least_of, greatest_of, least_in, greatest_in, IsIn, IsDeclared}
 use Rattle.places.specs.declared.piece.Hold.{Hold}
 use Rattle.piece_bits.specs.declared.mode.StoreMode.TheVariants.{Strict}
 use Rattle.views.specs.Stores.{is_between, store_answer, Fits}

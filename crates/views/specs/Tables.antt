@@ -1,17 +1,13 @@
 -- What a view is to its callers: the leaves of a record, the extents of an array, how its records lie in memory, and a table of numbers.
 use Rattle.std.specs.Prelude.{ℕ, ◌≡◌, ◌<◌, ◌≤◌, ℤ, List, [], ◌∷◌, length, slice_index_or, Result}
 use Rattle.extents.specs.Indices.{indices}
-use Rattle.record_dim.specs.Trees.{Fields}
+use Rattle.record_dim.specs.Prelude.{Fields, leaves, kinds_of}
 use Rattle.record_dim.specs.declared.leaf_type.LeafType.{LeafType}
-use Rattle.record_dim.specs.Leaves.{leaves, kinds_of}
-use Rattle.places.specs.Layout.{Owner}
-use Rattle.places.specs.Image.{image}
+use Rattle.places.specs.Prelude.{Owner, image}
 use Rattle.places.specs.declared.piece.Hold.{Hold}
 use Rattle.map_expr.specs.Terms.{Term}
-use Rattle.map_checks.specs.Mappings.{layout_by, holds_by}
-use Rattle.piece_bits.specs.Tables.{HasShape, hold_at, with_entry}
-use Rattle.piece_bits.specs.LowBits.{value_bits, declared}
-use Rattle.piece_bits.specs.Modes.{IsSettled}
+use Rattle.map_checks.specs.Prelude.{layout_by, holds_by}
+use Rattle.piece_bits.specs.Prelude.{HasShape, hold_at, with_entry, value_bits, declared, IsSettled}
 use Rattle.piece_bits.specs.declared.mode.StoreMode.{StoreMode}
 use Rattle.piece_bits.specs.declared.mode.StoreMode.TheVariants.{Wrap}
 use Rattle.views.specs.Stores.{Keeping, kind_at, store_answer, kept_by, AllStay}

@@ -1,10 +1,9 @@
 -- What is counted of the accesses to a view.
 use Rattle.std.specs.Prelude.{ℕ, ◌/◌, Bool, true, false, List, length, map, fold, ◌++◌, filter, Option, Some, None, option_map, if◌then◌else◌}
-use Rattle.std.specs.List.{flat_map, range_with_len}
+use Rattle.record_dim.specs.Std.{flat_map, range_with_len}
 use Rattle.map_expr.specs.Terms.{Term}
 use Rattle.map_any.specs.Counters.{has_count, granule_of}
-use Rattle.places.specs.Layout.{Owner}
-use Rattle.places.specs.Touched.{is_hot}
+use Rattle.places.specs.Prelude.{Owner, is_hot}
 use Rattle.instrument.specs.Counters.{LeafCounts, HeatCounts, counted, warmed, no_counts, no_heat, granules_in}
 
 -- a leaf of a row is read or is written

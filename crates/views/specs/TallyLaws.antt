@@ -1,12 +1,8 @@
 -- Accesses one after another, and the logs of rows and leaves in order.
-use Rattle.std.proofs.Common.{◌≡◌, ℕ, ◌+◌, ℤ, List, [], ◌∷◌, ◌++◌, map, refl, ap, sym, ◌∙◌, arith}
-use Rattle.std.specs.List.{fold, flat_map, range_with_len}
-use Rattle.std.specs.Prelude.{Option, Some, None, option_map}
-use Rattle.std.proofs.lemmas.List.{append-nil}
-use Rattle.std.proofs.lemmas.List.Sums.{fold-append}
-use Rattle.std.proofs.lemmas.List.Concat.{flat_map-append, flat_map-cons}
-use Rattle.std.proofs.lemmas.List.FromFn.{map-range_with_len_more}
-use Rattle.places.specs.Layout.{Owner}
+use Rattle.std.specs.Prelude.{◌≡◌, ℕ, ◌+◌, ℤ, List, [], ◌∷◌, ◌++◌, map, refl, Option, Some, None, option_map}
+use Rattle.record_dim.specs.Std.{ap, sym, ◌∙◌, arith, flat_map, range_with_len, append-nil, fold-append, flat_map-append, flat_map-cons, map-range_with_len_more}
+use Rattle.std.specs.List.{fold}
+use Rattle.places.specs.Prelude.{Owner}
 use Rattle.instrument.specs.Counters.{LeafCounts, HeatCounts}
 use Rattle.views.specs.Tallies.{Access, Read, Tally, counts_touched, heat_touched, after_access, tallied}
 use Rattle.views.specs.Tables.{Table, owners_of, after_log, after_stores, after_read}

@@ -1,9 +1,8 @@
 // What a view would take.
 ghost use Rattle.std.specs.Prelude.{◌≡◌, ◌≤◌, ◌*◌, ◌^◌, length, sum_by, IfOk, OnOk, IfErr, Ok};
-ghost use Rattle.record_dim.specs.Leaves.{kinds_of};
-ghost use Rattle.record_dim.specs.Schemas.{schema_fields};
+ghost use Rattle.record_dim.specs.Prelude.{kinds_of, schema_fields};
 ghost use Rattle.map_expr.specs.Terms.{term_of};
-ghost use Rattle.map_checks.specs.Mappings.{leaf_cells, layout_by, accepted, IsBuiltTerm};
+ghost use Rattle.map_checks.specs.Prelude.{leaf_cells, layout_by, accepted, IsBuiltTerm};
 ghost use Rattle.views.specs.Refusals.{IsOverLimits, IsNoView};
 
 use crate::fault::MakeView;

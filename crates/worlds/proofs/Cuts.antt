@@ -1,5 +1,5 @@
 -- The first line of a script, and what stands behind it.
-use Rattle.worlds.proofs.Imports.{◌≡◌, ℕ, ◌+◌, ◌-◌, ◌<◌, ⊎_elim, Bool, true, false, not, cond, List, [], ◌∷◌, length, take, drop, map, ap, ◌∙◌, sym, refl, arith, slice_split, onto_first, position_or_len, cases_Bool, take_rest, slice_split_first, slice_split-cons_no, slice_split-cons_yes, lines_in, ended_lines, without_cr, is_line_end}
+use Rattle.worlds.proofs.Imports.{◌≡◌, ℕ, ◌+◌, ◌-◌, ◌<◌, ⊎_elim, Bool, true, false, not, cond, List, [], ◌∷◌, length, take, drop, ap, ◌∙◌, sym, refl, arith, slice_split, onto_first, position_or_len, cases_Bool, take_rest, slice_split_first, slice_split-cons_no, slice_split-cons_yes, lines_in, ended_lines, without_cr, is_line_end}
 
 -- a text in which no byte passes is one part
 pub split_none : (p : ℕ → Bool) (xs : List ℕ) → position_or_len p xs ≡ length xs → slice_split p xs ≡ xs ∷ []
@@ -16,8 +16,7 @@ split_cons : (part : List ℕ) (parts : List (List ℕ)) → (part ∷ parts) �
 split_cons part parts e = absurd (cc)
 
 onto_some : (x : ℕ) (parts : List (List ℕ)) → onto_first x parts ≡ [] → ⊥
-onto_some x [] e = absurd (cc)
-onto_some x (part ∷ parts) e = absurd (cc)
+onto_some x parts e = grind arith
 
 -- there is a first part
 split_some : (xs : List ℕ) → slice_split is_line_end xs ≡ [] → ⊥
@@ -25,29 +24,22 @@ split_some [] e = absurd (cc)
 split_some (x ∷ xs) e = ⊎_elim (λ (h : is_line_end x ≡ true). split_cons [] (slice_split is_line_end xs) (sym (slice_split-cons_yes is_line_end x xs h) ∙ e)) (λ (h : is_line_end x ≡ false). onto_some x (slice_split is_line_end xs) (sym (slice_split-cons_no is_line_end x xs h) ∙ e)) (cases_Bool (is_line_end x))
 
 ended_more : (front : List ℕ) (part : List ℕ) (parts : List (List ℕ)) → ended_lines (front ∷ part ∷ parts) ≡ front ∷ ended_lines (part ∷ parts)
-ended_more [] part parts = refl
-ended_more (x ∷ xs) part parts = refl
+ended_more front part parts = grind arith
 
 ended_some : (front : List ℕ) (parts : List (List ℕ)) → (parts ≡ [] → ⊥) → ended_lines (front ∷ parts) ≡ front ∷ ended_lines parts
-ended_some front [] some = absurd (some refl)
-ended_some front (part ∷ parts) some = ended_more front part parts
+ended_some front parts some = grind (arith, ended_more)
 
 -- a line that an LF ends
 pub ended_first : (front : List ℕ) (rest : List ℕ) → ended_lines (front ∷ slice_split is_line_end rest) ≡ front ∷ ended_lines (slice_split is_line_end rest)
 ended_first front rest = ended_some front (slice_split is_line_end rest) (split_some rest)
 
 pub line_first : (bytes : List ℕ) (n : ℕ) → n ≡ position_or_len is_line_end bytes → n < length bytes → lines_in bytes ≡ without_cr (take n bytes) ∷ lines_in (take (length bytes - (n + 1)) (drop (n + 1) bytes))
-line_first bytes n is small =
-    let rest = take (length bytes - (n + 1)) (drop (n + 1) bytes) in
-    ap (λ parts. map without_cr (ended_lines parts)) (split_first is_line_end bytes n is small) ∙ ap (map without_cr) (ended_first (take n bytes) rest)
+line_first bytes n is small = grind (arith, split_first, ended_first)
 
 -- a last line that no LF ends
 pub line_last : (bytes : List ℕ) → position_or_len is_line_end bytes ≡ length bytes → (length bytes ≡ 0 → ⊥) → lines_in bytes ≡ without_cr bytes ∷ []
-line_last [] none some = absurd (some refl)
-line_last (x ∷ xs) none some = ap (λ parts. map without_cr (ended_lines parts)) (split_none is_line_end (x ∷ xs) none)
+line_last bytes none some = grind (arith, split_none)
 
 -- behind the end stands nothing
 pub nothing_left : (bytes : List ℕ) (n : ℕ) → n ≡ length bytes → take (length bytes - n) (drop n bytes) ≡ []
-nothing_left bytes n is =
-    let none : length bytes - n ≡ 0 = omega arith in
-    rw none refl
+nothing_left bytes n is = grind arith

@@ -1,5 +1,5 @@
 -- How the lines that were done make a run of all lines.
-use Rattle.worlds.proofs.Imports.{◌≡◌, ℕ, ◌+◌, ◌≤◌, inl, inr, ⊎_elim, Bool, true, false, List, [], ◌∷◌, ◌++◌, length, take, Option, None, Some, Result, Ok, Err, refl, sym, ap, subst, ◌∙◌, arith, append_assoc, length-append, nat_tests, append-nil, take-append-le, ⊤, ◌⊎◌, with_bytes, Wrote, Writes, Wrote-append, Stopped-second, with_bytes-append, Writes-last, take_past, Stopped-front, World, Outcome, Goes, Faults, CannotRead, Left, fault_text, unread_text, Fault, Output, IsText, Gives, Unread, Finished, Answers, IsRun, ended_status, run_from, after, prepend, fails_at, Did, Refused, Unreadable, Broke, Fronted, text_of, Status, Done, CommandFault, SourceFault, SinkFault, NoMemory, Refusal, NotRead}
+use Rattle.worlds.proofs.Imports.{◌≡◌, ℕ, ◌+◌, ◌≤◌, inl, inr, ⊎_elim, Bool, true, false, List, [], ◌∷◌, ◌++◌, length, take, Option, None, Some, Result, Ok, Err, refl, sym, ap, subst, ◌∙◌, arith, append_assoc, length-append, nat_tests, append-nil, take-append-le, ⊤, ◌⊎◌, with_bytes, Wrote, Writes, Wrote-append, Stopped-second, with_bytes-append, Writes-last, take_past, Stopped-front, World, Outcome, Goes, Faults, CannotRead, Left, fault_text, unread_text, Fault, Output, IsText, Gives, Unread, Answers, IsRun, ended_status, run_from, after, prepend, fails_at, Did, Refused, Unreadable, Broke, Fronted, text_of, Status, Done, CommandFault, SourceFault, SinkFault, NoMemory, Refusal, NotRead}
 
 -- reading fails nowhere, or at this line or a later one
 abbrev pub IsAhead : ℕ → Option ℕ → Type 0
@@ -20,12 +20,10 @@ pub record SoFar {K : Type 0} (Stands : World → Type 0) (taken : K → Option 
 
 -- reading does not fail at a line before the one where it fails
 not_here : (number : ℕ) (unread : Option ℕ) → IsAhead (number + 1) unread → fails_at unread number ≡ false
-not_here number None ahead = refl
-not_here number (Some line) ahead = grind (arith, nat_tests)
+not_here number unread ahead = grind (arith, nat_tests)
 
 still_ahead : (number : ℕ) (unread : Option ℕ) → IsAhead (number + 1) unread → IsAhead number unread
-still_ahead number None ahead = tt
-still_ahead number (Some line) ahead = omega (arith, ahead)
+still_ahead number unread ahead = grind arith
 
 prepend-append : (a b : List ℕ) (output : Output) → prepend a (prepend b output) ≡ prepend (a ++ b) output
 prepend-append a b output = ap (λ bytes. record { bytes = bytes; end = output.end }) (sym (append_assoc a b output.bytes))
@@ -37,36 +35,20 @@ one_more Stands taken faults old mid new outcome run number line lines before ne
   written = so_far.written ++ did.left.text;
   stands = did.stands;
   wrote = Wrote-append so_far.wrote did.wrote;
-  goes = record {
-    on = λ unread ahead.
-        so_far.goes.on unread (still_ahead number unread ahead)
-        ∙ ap (λ (b : Bool). prepend so_far.written (after number (outcome so_far.world line b) (λ w. run_from outcome (number + 1) w lines unread))) (not_here number unread ahead)
-        ∙ ap (λ (o : Outcome Left). prepend so_far.written (after number o (λ w. run_from outcome (number + 1) w lines unread))) did.goes
-        ∙ prepend-append so_far.written did.left.text (run_from outcome (number + 1) did.left.held lines unread);
-  };
+  goes = grind (arith, still_ahead, not_here, prepend-append);
 }
 
 -- a text was written, or not to its end, and the run has this text and status
 pub run_by : {K T E : Type 0} (taken : K → Option (List ℕ)) (faults : K → ℕ) (old new : K) (run : Option ℕ → Output) (read_failed : Type 0) (text : List ℕ) (status : Status) (written : Result T E) → Writes taken faults old new written text → Answers run read_failed status text → IsText run read_failed text → IsRun taken old new run read_failed (ended_status written status)
-run_by taken faults old new run read_failed text status (Ok done) wrote answer is_text = record { out = text; bytes = wrote.bytes; answer = answer }
-run_by taken faults old new run read_failed text status (Err failed) stopped answer is_text = record {
-  out = take stopped.count text;
-  bytes = stopped.bytes;
-  answer = (text, is_text, stopped.count, stopped.proper, refl);
-}
+run_by taken faults old new run read_failed text status written h9 answer is_text = grind arith
 
 -- all lines were done
 pub at_end : {K : Type 0} {Stands : World → Type 0} (taken : K → Option (List ℕ)) (faults : K → ℕ) (old now : K) (outcome : World → List ℕ → Bool → Outcome Left) (run : Option ℕ → Output) (read_failed : Type 0) (number : ℕ) → SoFar Stands taken faults old now outcome run number [] → IsRun taken old now run read_failed Done
-at_end taken faults old now outcome run read_failed number so_far = record {
-  out = so_far.written;
-  bytes = so_far.wrote.bytes;
-  answer = so_far.goes.on None tt ∙ ap (λ bytes. record { bytes = bytes; end = Finished }) (append-nil so_far.written);
-}
+at_end taken faults old now outcome run read_failed number so_far = grind (arith, append-nil)
 
 -- the run where reading fails nowhere, at a line whose outcome is this
 run_at : {K : Type 0} {Stands : World → Type 0} {taken : K → Option (List ℕ)} {faults : K → ℕ} {old now : K} {outcome : World → List ℕ → Bool → Outcome Left} {run : Option ℕ → Output} {number : ℕ} {line : List ℕ} {lines : List (List ℕ)} (so_far : SoFar Stands taken faults old now outcome run number (line ∷ lines)) (o : Outcome Left) → outcome so_far.world line false ≡ o → run None ≡ prepend so_far.written (after number o (λ w. run_from outcome (number + 1) w lines None))
-run_at {outcome} {number} {lines} so_far o is =
-    so_far.goes.on None tt ∙ ap (λ (x : Outcome Left). prepend so_far.written (after number x (λ w. run_from outcome (number + 1) w lines None))) is
+run_at {outcome} {number} {lines} so_far o is = grind arith
 
 -- a command was refused
 pub at_fault : {K T E : Type 0} {Stands : World → Type 0} (taken : K → Option (List ℕ)) (faults : K → ℕ) (old mid ready new : K) (outcome : World → List ℕ → Bool → Outcome Left) (run : Option ℕ → Output) (read_failed : Type 0) (number : ℕ) (line : List ℕ) (lines : List (List ℕ)) (fault : Fault) (written : Result T E) → (so_far : SoFar Stands taken faults old mid outcome run number (line ∷ lines)) → Refused taken faults mid ready (outcome so_far.world line false) (Faults fault) → Writes taken faults ready new written (fault_text number fault) → IsRun taken old new run read_failed (ended_status written CommandFault)
@@ -81,10 +63,7 @@ at_unread taken faults old mid ready new outcome run read_failed number line lin
     let text = so_far.written ++ unread_text number name in
     let here : fails_at (Some number) number ≡ true = grind (arith, nat_tests) in
     let reflexive : number ≤ number = omega arith in
-    let failing : run (Some number) ≡ record { bytes = text; end = Unread number } =
-    so_far.goes.on (Some number) reflexive
-    ∙ ap (λ (b : Bool). prepend so_far.written (after number (outcome so_far.world line b) (λ w. run_from outcome (number + 1) w lines (Some number)))) here
-    ∙ ap (λ (x : Outcome Left). prepend so_far.written (after number x (λ w. run_from outcome (number + 1) w lines (Some number)))) unreadable.is in
+    let failing : run (Some number) ≡ record { bytes = text; end = Unread number } = grind arith in
     let before : Wrote taken faults old ready so_far.written = subst (λ t. Wrote taken faults old ready t) (append-nil so_far.written) (Wrote-append so_far.wrote unreadable.wrote) in
     let cause : read_failed ⊎ Gives (run None) text (Unread number) = ⊎_elim (λ (failed : read_failed). inl failed) (λ (always : outcome so_far.world line false ≡ CannotRead name). inr (run_at so_far (CannotRead name) always)) unreadable.cause in
     let is_text : IsText run read_failed text = ⊎_elim (λ (failed : read_failed). inr (failed, number, failing)) (λ (always : Gives (run None) text (Unread number)). inl (ap (λ (o : Output). o.bytes) always)) cause in
@@ -96,12 +75,7 @@ at_break taken faults old mid new outcome run read_failed number line lines so_f
     let is = run_at so_far (Goes broke.left) broke.goes in
     let rest = (run_from outcome (number + 1) broke.left.held lines None).bytes in
     let whole : (so_far.written ++ broke.left.text) ++ rest ≡ (run None).bytes = append_assoc so_far.written broke.left.text rest ∙ sym (ap (λ (o : Output). o.bytes) is) in
-    let stop = Stopped-front rest (run None).bytes whole (Stopped-second so_far.wrote broke.stopped) in
-    record {
-      out = take stop.count (run None).bytes;
-      bytes = stop.bytes;
-      answer = ((run None).bytes, inl refl, stop.count, stop.proper, refl);
-    }
+    let stop = Stopped-front rest (run None).bytes whole (Stopped-second so_far.wrote broke.stopped) in grind arith
 
 -- what stands behind the text of a line in the bytes of the run
 behind : (number : ℕ) (o : Outcome Left) (written : List ℕ) (rest : World → Output) → (more : List ℕ) × ((written ++ text_of o) ++ more ≡ (prepend written (after number o rest)).bytes)

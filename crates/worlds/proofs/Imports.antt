@@ -1,29 +1,18 @@
 -- What the proofs of this crate speak of.
-pub use Rattle.std.proofs.Common.{◌≡◌, ℕ, ◌+◌, ◌-◌, ◌<◌, ⊎_elim, Bool, true, false, not, cond, List, [], ◌∷◌, length, take, drop, map, ap, ◌∙◌, sym, refl, arith, ◌≤◌, inl, inr, ◌++◌, Option, None, Some, Result, Ok, Err, subst, append_assoc, length-append, ◌^◌, get_or, flat_map, rules, tests, IsErr}
-pub use Rattle.std.specs.List.{slice_split, onto_first, position_or_len}
-pub use Rattle.std.proofs.lemmas.Bool.{cases_Bool}
-pub use Rattle.std.proofs.lemmas.List.{take_rest, append-nil, take-append-le}
-pub use Rattle.std.proofs.lemmas.List.Splits.{slice_split_first, slice_split-cons_no, slice_split-cons_yes}
-pub use Rattle.std.proofs.lemmas.Bool.Decides.{nat_tests}
-pub use Rattle.std.specs.Prelude.{⊤, ◌⊎◌, codes}
-pub use Rattle.layout_io.specs.Writing.{with_bytes, Wrote, Writes, joined}
-pub use Rattle.layout_io.specs.WritingLaws.{Wrote-append, Stopped-second, with_bytes-append, Writes-last, take_past, Stopped-front, Writes-err}
-pub use Rattle.layout_io.specs.Decimal.{digits_text}
-pub use Rattle.layout_io.specs.DecimalLaws.{decimal-digits_text}
-pub use Rattle.record_dim.specs.Paths.{first_text, step_text, path_text_of}
+pub use Rattle.record_dim.specs.Std.{◌≡◌, ℕ, ◌+◌, ◌-◌, ◌<◌, ⊎_elim, Bool, true, false, not, cond, List, [], ◌∷◌, length, take, drop, ap, ◌∙◌, sym, refl, arith, ◌≤◌, inl, inr, ◌++◌, Option, None, Some, Result, Ok, Err, subst, append_assoc, length-append, ◌^◌, get_or, rules, tests, IsErr, slice_split, onto_first, position_or_len, cases_Bool, take_rest, append-nil, take-append-le, slice_split_first, slice_split-cons_no, slice_split-cons_yes, nat_tests, ⊤, ◌⊎◌, codes}
+pub use Rattle.std.proofs.Common.{flat_map}
+pub use Rattle.layout_io.specs.Prelude.{with_bytes, Wrote, Writes, joined, Wrote-append, Stopped-second, with_bytes-append, Writes-last, take_past, Stopped-front, Writes-err, digits_text, decimal-digits_text, Gathers, Puts, HasPut, Gathers-start, Writes-puts_err, Puts-stop, Puts-stopped, Puts-append, Puts-second, Puts-loop_err, File}
+pub use Rattle.record_dim.specs.Prelude.{first_text, step_text, path_text_of}
 pub use Rattle.record_dim.specs.declared.path.PathStep.{PathStep}
 pub use Rattle.record_dim.specs.declared.path.PathStep.TheVariants.{At}
-pub use Rattle.layout_io.specs.Gathering.{Gathers, Puts, HasPut}
-pub use Rattle.layout_io.specs.GatheringLaws.{Gathers-start, Writes-puts_err, Puts-stop, Puts-stopped, Puts-append, Puts-second, Puts-loop_err}
 pub use Rattle.layout_io.specs.declared.ends.Failed.{Failed}
-pub use Rattle.layout_io.specs.Files.{File}
 pub use Rattle.worlds.specs.Lines.{lines_in, ended_lines, without_cr, is_line_end}
 pub use Rattle.worlds.specs.Worlds.{World}
 pub use Rattle.worlds.specs.Outcomes.{Outcome, Goes, Faults, CannotRead, Left, Fault as Refusal, Unread as NotRead}
 pub use Rattle.worlds.specs.FaultTexts.{unread_text, fault_words}
 unfoldable pub use Rattle.worlds.specs.FaultTexts.{fault_text}
 pub use Rattle.worlds.specs.declared.fault.CommandFault.{CommandFault as Fault}
-pub use Rattle.worlds.specs.Outcome.{Output, IsText, Gives, Unread, Finished}
+pub use Rattle.worlds.specs.Outcome.{Output, IsText, Gives, Unread}
 pub use Rattle.worlds.specs.RunAnswers.{Answers, IsRun, ended_status}
 pub use Rattle.worlds.specs.Fold.{run_from, after, prepend, fails_at}
 pub use Rattle.worlds.specs.Answers.{Did, Refused, Unreadable, Broke, Fronted, text_of}

@@ -9,5 +9,4 @@ number_step number small = ap (λ (digits : List ℕ). 91 ∷ (digits ++ 93 ∷ 
 pub path_parts : (path : List PathStep) (first : PathStep) → first ≡ get_or path 0 first → 1 ≤ length path →
     first_text first ++ flat_map step_text (take (length path - 1) (drop 1 path)) ≡ path_text_of path
 path_parts [] first is some = absurd (omega (arith, some))
-path_parts (step ∷ steps) first is some =
-    rw take_rest (ap (λ s. first_text s ++ flat_map step_text steps) is)
+path_parts (step ∷ steps) first is some = rw take_rest (ap (λ s. first_text s ++ flat_map step_text steps) is)

@@ -1,7 +1,6 @@
 -- `record P { .. }` names a record.
 use Rattle.std.specs.Prelude.{ℕ, List, Ok}
-use Rattle.record_dim.specs.Trees.{Tree, Record, Fields, End}
-use Rattle.record_dim.specs.Leaves.{record_fault}
+use Rattle.record_dim.specs.Prelude.{Tree, Record, Fields, End, record_fault}
 use Rattle.worlds.specs.Worlds.{World, added}
 use Rattle.worlds.specs.Outcomes.{Tested, ◌>>=◌, Left, quiet, free, refused_by}
 use Rattle.worlds.specs.declared.fault.CommandFault.TheVariants.{BadRecord}

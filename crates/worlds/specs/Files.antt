@@ -1,7 +1,7 @@
 -- `save V` writes a table as the bytes of one file, and `open V from "F"` makes a table of such bytes.
 use Rattle.std.specs.Prelude.{ℕ, ◌+◌, ◌*◌, ◌^◌, Bool, ◌||◌, List, length, nat_lt, Ok}
-use Rattle.layout_io.specs.Files.{File}
-use Rattle.views.specs.Tables.{Table}
+use Rattle.layout_io.specs.Prelude.{File}
+use Rattle.views.specs.Prelude.{Table}
 use Rattle.blob_file.specs.Files.{record_text, view_text, file_of}
 use Rattle.blob_file.specs.Saving.{header_of, blobs_of}
 use Rattle.blob_file.specs.Opened.{opened, table_of_saved}

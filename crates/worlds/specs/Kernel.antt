@@ -1,13 +1,11 @@
 -- `kernel V .. lanes N` runs a kernel over the rows of a table, and writes the number of those that give one.
 use Rattle.std.specs.Prelude.{ℕ, ◌^◌, ◌&&◌, ◌||◌, Bool, true, not, ℤ, pos, neg_ℤ, int_le, int_lt, nat_eq, nat_lt, List, [], ◌∷◌, length, Option, Some, None, Ok}
-use Rattle.std.specs.List.{list_any}
+use Rattle.record_dim.specs.Std.{list_any}
 use Rattle.expr_lang.specs.declared.expr.BinOp.{BinOp}
 use Rattle.expr_lang.specs.declared.expr.BinOp.TheVariants as op
 use Rattle.record_dim.specs.declared.path.PathStep.{PathStep}
-use Rattle.record_dim.specs.LeafTypes.{width_of}
-use Rattle.record_dim.specs.Leaves.{kinds_of}
-use Rattle.record_dim.specs.Trees.{Fields}
-use Rattle.views.specs.Stores.{kind_at}
+use Rattle.record_dim.specs.Prelude.{width_of, kinds_of, Fields}
+use Rattle.views.specs.Prelude.{kind_at, Table, answer_of, kept_of}
 use Rattle.line_grammar.specs.declared.line.KernelText.{KernelText}
 use Rattle.line_grammar.specs.declared.line.KernelText.TheVariants as text
 use Rattle.lane_kernels.specs.declared.fault.KernelFault.{KernelFault}
@@ -17,7 +15,6 @@ use Rattle.lane_kernels.specs.declared.kernel.Kernel.TheVariants.{Axpy, Clamp, S
 use Rattle.lane_kernels.specs.Kernels as kernels
 use Rattle.lane_kernels.specs.Kernels.{Compare, Eq, Ne, Lt, Le, Gt, Ge}
 use Rattle.lane_kernels.specs.Logs.{kernel_rows_log}
-use Rattle.views.specs.Tables.{Table, answer_of, kept_of}
 use Rattle.worlds.specs.OnView.{Done}
 use Rattle.worlds.specs.Outcomes.{Tested, ◌>>=◌, refused_if, refused_by}
 use Rattle.worlds.specs.Names.{leaf_of, text_of_leaf}

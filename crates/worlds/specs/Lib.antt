@@ -30,3 +30,4 @@ pub mod RunAnswers
 pub mod Lines
 pub mod Fold
 pub mod Inner
+pub mod Prelude

@@ -1,9 +1,8 @@
 -- Commands that work on one view, by what each may see of its table and change in it.
 use Rattle.std.specs.Prelude.{ℕ, ℤ, List, [], Option, Some, None, Ok}
-use Rattle.record_dim.specs.Trees.{Fields}
+use Rattle.record_dim.specs.Prelude.{Fields}
 use Rattle.piece_bits.specs.declared.mode.StoreMode.{StoreMode}
-use Rattle.views.specs.Tallies.{Access}
-use Rattle.views.specs.Tables.{Table, after_stores}
+use Rattle.views.specs.Prelude.{Access, Table, after_stores}
 use Rattle.worlds.specs.Worlds.{World, replaced}
 use Rattle.worlds.specs.Outcomes.{Tested, ◌>>=◌, LeftOf, Left, quiet, shows, known}
 

@@ -1,6 +1,6 @@
 -- What a line does to a world.
 use Rattle.std.specs.Prelude.{Bool, List, Option, Some, None}
-use Rattle.layout_io.specs.Files.{File}
+use Rattle.layout_io.specs.Prelude.{File}
 use Rattle.line_grammar.specs.Sentences as line
 use Rattle.worlds.specs.Worlds.{World}
 use Rattle.worlds.specs.Outcomes.{Tested, Outcome, Left, sure}

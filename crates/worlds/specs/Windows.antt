@@ -2,7 +2,7 @@
 use Rattle.std.specs.Prelude.{ℕ, ◌&&◌, Bool, true, false, not, nat_le, List, [], ◌∷◌, length, Ok}
 use Rattle.csv_rows.specs.Texts.{print_text}
 use Rattle.extents.specs.declared.window.Span.{Span}
-use Rattle.record_dim.specs.Leaves.{texts_of, leaves}
+use Rattle.record_dim.specs.Prelude.{texts_of, leaves}
 use Rattle.subviews.specs.SubViews.{WindowOf, sub_table, sub_reads}
 use Rattle.worlds.specs.OnView.{Content, Told}
 use Rattle.worlds.specs.Outcomes.{Tested, ◌>>=◌, refused_if}

@@ -3,7 +3,7 @@ use Rattle.std.specs.Prelude.{Result}
 use Rattle.csv_rows.specs.declared.fault.RowFault.{RowFault}
 use Rattle.csv_rows.specs.declared.fault.RowFault.TheVariants as rows
 use Rattle.layout_copy.specs.Copies.{Spot}
-use Rattle.record_dim.specs.Trees.{Fields}
+use Rattle.record_dim.specs.Prelude.{Fields}
 use Rattle.worlds.specs.Names.{text_of_leaf}
 use Rattle.worlds.specs.Outcomes.{Tested}
 use Rattle.worlds.specs.declared.fault.CommandFault.{CommandFault}

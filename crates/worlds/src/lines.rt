@@ -1,8 +1,5 @@
 ghost use Rattle.std.specs.Prelude.{◌≡◌, ◌∷◌, [], codes, flat_map};
-ghost use Rattle.layout_io.specs.Decimal.{digits_text};
-ghost use Rattle.layout_io.specs.Gathering.{Puts};
-ghost use Rattle.layout_io.specs.Inner.Parts.{text_of_part};
-ghost use Rattle.layout_io.specs.Writing.{Writes};
+ghost use Rattle.layout_io.specs.Prelude.{digits_text, Puts, text_of_part, Writes};
 ghost use Rattle.worlds.specs.FaultTexts.{fault_text, unread_text};
 ghost use Rattle.worlds.specs.Inner.Details.{detail_text};
 

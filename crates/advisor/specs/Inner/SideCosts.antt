@@ -3,8 +3,8 @@ use Rattle.std.specs.Prelude.{ℕ, ◌≡◌, ◌≤◌, ◌^◌, List, [], leng
 use Rattle.places.specs.declared.piece.Cell.{Cell}
 use Rattle.places.specs.declared.piece.Hold.{Hold}
 use Rattle.map_expr.specs.Terms.{Term, Named}
-use Rattle.map_checks.specs.Mappings.{layout_of}
-use Rattle.views.specs.Tables.{Table}
+use Rattle.map_checks.specs.Prelude.{layout_of}
+use Rattle.views.specs.Prelude.{Table}
 use Rattle.advisor.specs.declared.pass.Pass.{Pass}
 use Rattle.advisor.specs.Judged.{judged}
 use Rattle.advisor.specs.Passes.{part_cost, leaves_in}

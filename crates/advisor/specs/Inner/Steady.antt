@@ -1,10 +1,9 @@
 -- Slots of a rule whose pieces follow each other closely, and the granules that they touch.
 use Rattle.std.specs.Prelude.{ℕ, ◌+◌, ◌-◌, ◌*◌, ◌<◌, ◌≤◌, ◌&&◌, Bool, List}
-use Rattle.std.specs.List.{list_any, range_with_len}
+use Rattle.record_dim.specs.Std.{list_any, range_with_len}
 use Rattle.extents.specs.declared.order.Order.{Order}
-use Rattle.places.specs.Touched.{is_in_granule}
+use Rattle.places.specs.Prelude.{is_in_granule, begin_in, piece_in}
 use Rattle.places.specs.declared.piece.Piece.{Piece}
-use Rattle.places.specs.PieceRules.{begin_in, piece_in}
 use Rattle.places.specs.declared.rule.PieceRule.{PieceRule}
 use Rattle.advisor.specs.Inner.Curve.{has_row}
 

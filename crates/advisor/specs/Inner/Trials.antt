@@ -1,15 +1,11 @@
 -- Ways of storing leaves, each tried with the values of all rows.
 use Rattle.std.specs.Prelude.{ℕ, ◌≡◌, ◌<◌, ◌==◌, ◌&&◌, ◌||◌, Bool, true, not, ℤ, List, length, if◌then◌else◌}
-use Rattle.std.specs.List.{list_any, list_all, flat_map, range_with_len}
-use Rattle.record_dim.specs.Trees.{Fields}
-use Rattle.record_dim.specs.Leaves.{leaves, kinds_of}
+use Rattle.record_dim.specs.Std.{list_any, list_all, flat_map, range_with_len}
+use Rattle.record_dim.specs.Prelude.{Fields, leaves, kinds_of}
 use Rattle.places.specs.declared.piece.Hold.{Hold}
-use Rattle.piece_bits.specs.Tables.{hold_at}
-use Rattle.piece_bits.specs.Modes.{kind_at}
+use Rattle.piece_bits.specs.Prelude.{hold_at, kind_at}
 use Rattle.piece_bits.specs.declared.mode.StoreMode.{StoreMode}
-use Rattle.views.specs.Columns.{in_leaf}
-use Rattle.views.specs.LeafRuns.{raised}
-use Rattle.views.specs.Tallies.{Access, row_accesses}
+use Rattle.views.specs.Prelude.{in_leaf, raised, Access, row_accesses}
 use Rattle.advisor.specs.Inner.SideCosts.{IsHold}
 use Rattle.advisor.specs.Suits.{stays}
 use Rattle.advisor.specs.declared.trials.Trial.{Trial}

@@ -1,9 +1,9 @@
 -- The expression that is measured, by the record that it is bound to.
 use Rattle.std.specs.Prelude.{◌≡◌, codes}
 use Rattle.record_dim.specs.declared.leaf_type.LeafType.TheVariants.{I64}
-use Rattle.record_dim.specs.Trees.{Fields, Single, End, Field}
+use Rattle.record_dim.specs.Prelude.{Fields, Single, End, Field}
 use Rattle.expr_lang.specs.declared.bound.Bound.{Bound}
-use Rattle.expr_lang.specs.Bounds.{bound_leaves, bound_rank}
+use Rattle.expr_lang.specs.Prelude.{bound_leaves, bound_rank}
 
 -- the record
 abbrev pub sample_fields : Fields

@@ -1,8 +1,8 @@
 -- The table that is measured.
 use Rattle.std.specs.Prelude.{◌≡◌, ℕ, codes, length}
 use Rattle.record_dim.specs.declared.leaf_type.LeafType.TheVariants.{I8, I16, I32, I64}
-use Rattle.record_dim.specs.Trees.{Fields, Single, End, Field}
-use Rattle.views.specs.Tables.{Table}
+use Rattle.record_dim.specs.Prelude.{Fields, Single, End, Field}
+use Rattle.views.specs.Prelude.{Table}
 
 -- its record: 15 bytes in four leaves
 abbrev pub measured_fields : Fields

@@ -1,13 +1,9 @@
 -- Raw numbers that the leaves of a view take, and the runs in which they are stored.
 use Rattle.std.specs.Prelude.{ℕ, ◌≡◌, ◌+◌, ◌<◌, ◌≤◌, true, ℤ, pos, List, length, take, drop, slice_index_or, is_ok}
-use Rattle.std.specs.List.{flat_map, range_with_len}
-use Rattle.places.specs.Image.{entry}
-use Rattle.piece_bits.specs.Tables.{hold_at}
-use Rattle.views.specs.Columns.{column, column_writes}
-use Rattle.views.specs.LeafRuns.{raised}
-use Rattle.views.specs.Stores.{kept_rows, Fits}
-use Rattle.views.specs.Tables.{Table, answer_of, kept_of, leaf_count_of, leaf_type_of, table_holds}
-use Rattle.views.specs.Tallies.{Access}
+use Rattle.record_dim.specs.Std.{flat_map, range_with_len}
+use Rattle.places.specs.Prelude.{entry}
+use Rattle.piece_bits.specs.Prelude.{hold_at}
+use Rattle.views.specs.Prelude.{column, column_writes, raised, kept_rows, Fits, Table, answer_of, kept_of, leaf_count_of, leaf_type_of, table_holds, Access}
 
 -- a leaf takes its number of each of so many rows from one on
 abbrev pub IsTakenLeaf : ℕ → ℕ → ℕ → Table → List (List ℤ) → Type 0

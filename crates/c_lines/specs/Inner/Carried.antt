@@ -4,13 +4,12 @@ use Rattle.command_checks.specs.declared.fault.StepFault.{StepFault}
 use Rattle.command_checks.specs.declared.fault.StepFault.TheVariants as step
 use Rattle.line_grammar.specs.declared.line.Line.{Line}
 use Rattle.line_grammar.specs.declared.line.Line.TheVariants as line
-use Rattle.record_dim.specs.Trees.{Fields}
+use Rattle.record_dim.specs.Prelude.{Fields}
 use Rattle.view_commands.specs.declared.change.ChangeFault.{ChangeFault}
 use Rattle.view_commands.specs.declared.change.ChangeFault.TheVariants as change
-use Rattle.views.specs.Tables.{Table}
+use Rattle.views.specs.Prelude.{Table}
 use Rattle.view_commands.specs.Changes.{HasRows, left_at}
-use Rattle.worlds.specs.OnView.{Done, done_to}
-use Rattle.worlds.specs.Outcomes.{Tested}
+use Rattle.worlds.specs.Prelude.{Done, done_to, Tested}
 use Rattle.c_lines.specs.Answers.{Answer}
 use Rattle.c_lines.specs.Commands.{Refuses, Says}
 use Rattle.c_lines.specs.Faults.{row_told}

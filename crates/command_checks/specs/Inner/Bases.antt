@@ -1,6 +1,6 @@
 -- Mappings without names, and the rows that words ask for.
 use Rattle.std.specs.Prelude.{Box, box_value, ℕ, nat_lt, count_by, List, Option, Some, unwrap_or, if◌then◌else◌}
-use Rattle.std.specs.Global.{Global}
+use Rattle.record_dim.specs.Std.{Global}
 use Rattle.extents.specs.Shapes.{is_rows}
 use Rattle.extents.specs.declared.words.ExtentWord.{ExtentWord}
 use Rattle.map_expr.specs.declared.expr.MapExpr.{MapExpr}

@@ -1,6 +1,6 @@
 -- The records that are left of a text, as csv reads them and in place.
 use Rattle.std.specs.Prelude.{ℕ, ◌≡◌, ◌+◌, Bool, true, false, List, [], length, Option, Some}
-use Rattle.std.specs.Borrow.{Bor}
+use Rattle.record_dim.specs.Std.{Bor}
 use Rattle.std.specs.Option.{unwrap_or}
 use Rattle.csv.specs.Reading.{records_from, default_config, source_of, reader_state, reader_trim, reader_config, is_flexible, Ready}
 use Rattle.csv.specs.declared.parser.State.{State}

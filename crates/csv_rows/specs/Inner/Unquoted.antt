@@ -1,6 +1,6 @@
 -- Lines without quotes, their fields, and the texts in which they stand.
 use Rattle.std.specs.Prelude.{ℕ, suc, ◌≡◌, ◌≤◌, ◌<◌, ◌==◌, ◌||◌, Bool, true, false, List, [], ◌∷◌, Option, IfSome, take, drop, length, get_or, All, if◌then◌else◌}
-use Rattle.std.specs.List.{slice_split}
+use Rattle.record_dim.specs.Std.{slice_split}
 
 abbrev pub is_comma : ℕ → Bool
 is_comma byte = byte == 44

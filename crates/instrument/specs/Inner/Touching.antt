@@ -1,7 +1,7 @@
 -- Which granules a piece touches, and what the steps of so many accesses at once leave.
 use Rattle.std.specs.Prelude.{◌≡◌, ℕ, ◌+◌, ◌*◌, ◌≤◌, nat_le, nat_lt, min, max, ◌&&◌, not, List, [], slice_index_or, slice_set}
 use Rattle.places.specs.declared.piece.Piece.{Piece}
-use Rattle.places.specs.Touched.{is_in_granule, is_touched}
+use Rattle.places.specs.Prelude.{is_in_granule, is_touched}
 use Rattle.instrument.specs.Counters.{HeatCounts, counted_times, warmed_times}
 
 -- the granules from `first` on and below `past` are those of its blob that hold a bit of a piece

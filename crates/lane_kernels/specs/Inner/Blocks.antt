@@ -1,6 +1,6 @@
 -- How many rows go together, and the steps that they take.
 use Rattle.std.specs.Prelude.{ℕ, ◌≡◌, ◌+◌, ◌-◌, ◌/◌, ◌%◌, ◌≤◌, ◌⊎◌, Bool, true, false, min, nat_le, if◌then◌else◌}
-use Rattle.std.specs.Int.{div_ceil}
+use Rattle.record_dim.specs.Std.{div_ceil}
 
 -- how many of so many rows go together from one on: where nothing counts accesses 256, and else a block, or one of the rest
 abbrev pub step_of : Bool → ℕ → ℕ → ℕ → ℕ

@@ -1,7 +1,7 @@
 -- What a kernel does with rows one after another.
 use Rattle.std.specs.Prelude.{ℕ, ◌≡◌, ◌+◌, ◌-◌, ◌≤◌, ℤ, List, [], ◌∷◌, ◌++◌, length, take, drop, Option, Some, None, Result, Ok, Err}
-use Rattle.std.specs.List.{flat_map, range_with_len}
-use Rattle.views.specs.Tables.{Table, answer_of, kept_of, after_stores}
+use Rattle.record_dim.specs.Std.{flat_map, range_with_len}
+use Rattle.views.specs.Prelude.{Table, answer_of, kept_of, after_stores}
 use Rattle.views.specs.declared.fault.LaneFault.{LaneFault}
 use Rattle.lane_kernels.specs.Kernels.{first_row_fault, empty_fault, fault_named, given_number, rows_before, run_rows}
 use Rattle.lane_kernels.specs.Logs.{reads_on, writes_on, kernel_rows_log}

@@ -3,10 +3,10 @@ use Rattle.std.specs.Prelude.{ℕ, ℤ, ◌≡◌, ◌<◌, List, length, Option
 use Rattle.extents.specs.Indices.{indices}
 use Rattle.extents.specs.declared.order.Order.{Order}
 use Rattle.extents.specs.declared.order.Order.TheVariants.{Row}
-use Rattle.places.specs.Image.{entry}
+use Rattle.places.specs.Prelude.{entry}
 use Rattle.map_expr.specs.Terms.{Term}
-use Rattle.map_checks.specs.Arrays.{array_of}
-use Rattle.views.specs.Moves.{IsInRun}
+use Rattle.map_checks.specs.Prelude.{array_of}
+use Rattle.views.specs.Prelude.{IsInRun}
 
 -- the order of the slots of a mapping that lays out arrays; of another one nothing is said
 abbrev pub order_in : Option (Order × Option ℕ) → Order

@@ -1,7 +1,6 @@
 -- Which tables are copied by runs of rows.
 use Rattle.std.specs.Prelude.{ℕ, ◌<◌}
-use Rattle.views.specs.LeafRuns.{TakesAll}
-use Rattle.views.specs.Tables.{Table, leaf_count_of}
+use Rattle.views.specs.Prelude.{TakesAll, Table, leaf_count_of}
 
 -- each leaf of a table takes each value of its type
 abbrev pub AllTake : Table → Type 0

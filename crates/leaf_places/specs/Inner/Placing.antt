@@ -1,7 +1,6 @@
 -- A place that says of rows what a short form does.
 use Rattle.std.specs.Prelude.{ℕ, ◌≡◌, ◌<◌, Bool, true, false}
-use Rattle.piece_bits.specs.Shorts.{start_in}
-use Rattle.piece_bits.specs.Walks.{leads}
+use Rattle.piece_bits.specs.Prelude.{start_in, leads}
 use Rattle.piece_bits.specs.declared.short.ShortRule.{ShortRule}
 use Rattle.piece_bits.specs.declared.word.Word.{Word}
 use Rattle.piece_bits.specs.declared.word.Word.TheVariants as stored

@@ -1,6 +1,6 @@
 -- What a search for the places of a leaf asks of rows, one by one.
 use Rattle.std.specs.Prelude.{ℕ, ◌≡◌, ◌+◌, ◌<◌, ◌≤◌, false, List, length, slice_index}
-use Rattle.places.specs.Layout.{Owner, Bit, owner_at}
+use Rattle.places.specs.Prelude.{Owner, Bit, owner_at}
 use Rattle.leaf_places.specs.Spots.{bit_by, first_by, spot_by, IsForm}
 use Rattle.leaf_places.specs.declared.sought.Sought.{Sought}
 use Rattle.leaf_places.specs.declared.grouped.Grouped.{Grouped}

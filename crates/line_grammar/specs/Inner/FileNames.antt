@@ -1,6 +1,6 @@
 -- What the name of a file is, and how the fields of a `FileName` give its bytes and come back from them.
 use Rattle.std.specs.Prelude.{◌≡◌, ℕ, ◌-◌, ◌≤◌, Bool, ◌&&◌, nat_le, List, ◌++◌, length, take, replicate, IsTrue}
-use Rattle.std.specs.List.{list_all}
+use Rattle.record_dim.specs.Std.{list_all}
 use Rattle.line_tokens.specs.Bytes.{is_text_byte}
 
 -- 1 to 200 bytes that may stand between the quotes of a string

@@ -1,6 +1,6 @@
 -- Mappings as they are read.
 use Rattle.std.specs.Prelude.{Box, box_value, ℕ, List}
-use Rattle.std.specs.Global.{Global}
+use Rattle.record_dim.specs.Std.{Global}
 use Rattle.extents.specs.declared.order.Order.{Order}
 use Rattle.map_expr.specs.declared.widths.FieldWidth.{FieldWidth}
 use Rattle.map_expr.specs.declared.expr.MapExpr.{MapExpr}

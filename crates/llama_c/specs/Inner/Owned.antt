@@ -1,8 +1,6 @@
 -- What a handle owns: the block of the view that it holds, or nothing.
 use Rattle.std.specs.Prelude.{Option, Some, None}
-use Rattle.std.specs.Coded.{coded_option}
-use Rattle.std.specs.Global.{Global}
-use Rattle.std.specs.Box.Ownership.{box_owns}
+use Rattle.record_dim.specs.Std.{coded_option, Global, box_owns}
 use base.Fml.{Fml, ftrue}
 use base.Stored.{Coded}
 use denote.RawPtr.{Ptr}

@@ -1,13 +1,10 @@
 -- The cells of leaves, and what the types of cells say of their widths and holds.
-use Rattle.std.proofs.Common.{◌≡◌, ℕ, ◌+◌, ◌<◌, List, [], ◌∷◌, ◌++◌, length, get_or, take, map, Some, refl, sym, ap, ◌∙◌, arith, slice_get}
-use Rattle.std.specs.List.{enumerate_from}
-use Rattle.std.proofs.lemmas.List.{take_more, length-take-le, map_push}
-use Rattle.std.proofs.lemmas.Simd.{map-map}
-use Rattle.std.proofs.lemmas.Option.{get_or_from_slice_get}
+use Rattle.std.specs.Prelude.{◌≡◌, ℕ, ◌+◌, ◌<◌, List, [], ◌∷◌, ◌++◌, length, get_or, take, map, Some, refl, slice_get}
+use Rattle.record_dim.specs.Std.{sym, ap, ◌∙◌, arith, enumerate_from, take_more, length-take-le, map_push, map-map, get_or_from_slice_get}
 use Rattle.record_dim.specs.declared.leaf_type.LeafType.{LeafType}
 use Rattle.record_dim.specs.declared.leaf_type.LeafType.TheVariants.{Bool as Truth}
-use Rattle.record_dim.specs.LeafTypes.{width_of}
-use Rattle.places.specs.Holds.{widths_of, full_holds, hold_of}
+use Rattle.record_dim.specs.Prelude.{width_of}
+use Rattle.places.specs.Prelude.{widths_of, full_holds, hold_of}
 use Rattle.places.specs.declared.piece.Cell.{Cell}
 use Rattle.map_checks.specs.Mappings.{leaf_cells}
 

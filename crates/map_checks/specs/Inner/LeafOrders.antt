@@ -1,7 +1,6 @@
 -- In which order the rows of each leaf lie.
 use Rattle.std.specs.Prelude.{ℕ, List, map, if◌then◌else◌}
-use Rattle.record_dim.specs.Trees.{Fields}
-use Rattle.record_dim.specs.Nodes.{is_under}
+use Rattle.record_dim.specs.Prelude.{Fields, is_under}
 use Rattle.extents.specs.declared.order.Order.{Order}
 use Rattle.extents.specs.declared.order.Order.TheVariants.{Row}
 use Rattle.places.specs.declared.piece.Cell.{Cell}

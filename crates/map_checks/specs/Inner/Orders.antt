@@ -1,5 +1,5 @@
 -- Being built, as the fact of a field.
-use Rattle.std.specs.Coded.{×_prop}
+use Rattle.record_dim.specs.Std.{×_prop}
 use Rattle.map_expr.specs.Terms.{Term, Aos, Soa, Aosoa, BitAos, BitSoa, Split, Byteswap, Bytesplit, Change, Count, Heat, Named}
 use Rattle.map_checks.specs.Mappings.{IsBuiltTerm}
 

@@ -1,12 +1,12 @@
 -- How the logic stores terms: a number for the case, then its parts.
-use Rattle.std.proofs.Common.{◌≡◌, List, ap, arith}
-use Rattle.std.specs.Coded.{Coded, coded_ℕ, coded_list}
+use Rattle.std.specs.Prelude.{◌≡◌, List}
+use Rattle.record_dim.specs.Std.{ap, arith, Coded, coded_ℕ, coded_list}
 use base.Stored.{Gv, gnum, gcons}
 use Rattle.extents.specs.contracts.order.Order as order
 use Rattle.places.specs.contracts.forms.AosForm as aos
 use Rattle.places.specs.contracts.forms.SoaForm as soa
 use Rattle.record_dim.specs.contracts.leaf_type.LeafType as kind
-use Rattle.record_dim.specs.Inner.Codes.{head, tail, apart, coded_path, coded_text}
+use Rattle.record_dim.specs.Prelude.{head, tail, apart, coded_path, coded_text}
 use Rattle.map_expr.specs.contracts.widths.FieldWidth as entry
 use Rattle.map_expr.specs.declared.widths.FieldWidth.{FieldWidth}
 use Rattle.map_expr.specs.Terms.{Term, Aos, Soa, Aosoa, BitAos, BitSoa, Split, Byteswap, Bytesplit, Change, Count, Heat, Named}

@@ -1,8 +1,6 @@
 -- Pieces that follow each other, as one.
 use Rattle.std.specs.Prelude.{ℕ, ◌≡◌, ◌+◌, List}
-use Rattle.places.specs.Layout.{Owner}
-use Rattle.places.specs.Lawful.{IsLocated}
-use Rattle.places.specs.PieceRules.{pieces_in}
+use Rattle.places.specs.Prelude.{Owner, IsLocated, pieces_in}
 use Rattle.places.specs.declared.rule.PieceRule.{PieceRule}
 
 -- a rule has the bits of two, of which the second begins where the first ends

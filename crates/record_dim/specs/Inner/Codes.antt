@@ -1,6 +1,6 @@
 -- How the logic stores paths, trees and fields: a number for the case, then its parts.
-use Rattle.std.proofs.Common.{◌≡◌, ◌≢◌, ℕ, List, refl, ap, arith}
-use Rattle.std.specs.Coded.{Coded, coded_ℕ, coded_list}
+use Rattle.std.specs.Prelude.{◌≡◌, ◌≢◌, ℕ, List, refl}
+use Rattle.record_dim.specs.Std.{ap, arith, Coded, coded_ℕ, coded_list}
 use base.Stored.{Gv, gnil, gnum, gcons}
 use Rattle.record_dim.specs.contracts.leaf_type.LeafType as kind
 use Rattle.record_dim.specs.contracts.path.PathStep as step

@@ -1,6 +1,6 @@
 -- The types and texts of the leaves below a node, as they are gathered.
 use Rattle.std.specs.Prelude.{ℕ, List, ◌++◌, map}
-use Rattle.std.specs.List.{flat_map}
+use Rattle.record_dim.specs.Std.{flat_map}
 use Rattle.record_dim.specs.declared.leaf_type.LeafType.{LeafType}
 use Rattle.record_dim.specs.Paths.{step_text, path_text_of}
 use Rattle.record_dim.specs.Trees.{Tree, Fields}

@@ -1,14 +1,10 @@
 -- The values of an expression in consecutive rows of a table that counts nothing.
 use Rattle.std.specs.Prelude.{ℕ, ◌≡◌, ◌+◌, ◌<◌, ◌≤◌, Bool, true, false, ℤ, pos, List, [], length, slice_index, slice_index_or, unsigned_abs}
 use Rattle.expr_lang.specs.declared.bound.Bound.{Bound}
-use Rattle.expr_lang.specs.Bounds.{bound_leaves, bound_rank}
+use Rattle.expr_lang.specs.Prelude.{bound_leaves, bound_rank, Term, IsWorthIn, IsRight}
 use Rattle.expr_lang.specs.declared.bound.Step.{Step}
-use Rattle.expr_lang.specs.Terms.{Term}
-use Rattle.expr_lang.specs.Inner.Steps.{IsWorthIn, IsRight}
 use Rattle.linearize.specs.Slots.{index_at}
-use Rattle.views.specs.Columns.{in_leaf}
-use Rattle.views.specs.Tables.{Table, leaf_count_of, after_log}
-use Rattle.views.specs.Tallies.{Access}
+use Rattle.views.specs.Prelude.{in_leaf, Table, leaf_count_of, after_log, Access}
 use Rattle.row_updates.specs.declared.runs.Run.{Run}
 use Rattle.row_updates.specs.Rows.{Setting}
 

@@ -1,11 +1,9 @@
 -- What is read of a line.
 use Rattle.std.specs.Prelude.{Bool, true, false}
-use Rattle.line_grammar.specs.Grammar.{Grammar}
+use Rattle.line_grammar.specs.Prelude.{Grammar, body, extent_word, fixed, New, Sentence}
 use Rattle.extents.specs.declared.words.ExtentWord.{ExtentWord}
 use Rattle.map_expr.specs.Terms.{term_of as map_of}
 use Rattle.line_grammar.specs.declared.token.Token.{Token}
-use Rattle.line_grammar.specs.Language.{body, extent_word, fixed}
-use Rattle.line_grammar.specs.Sentences.{New, Sentence}
 use Rattle.line_grammar.specs.declared.line.Command.{Command}
 use Rattle.line_grammar.specs.declared.version.Version.TheVariants.{Two}
 use Rattle.schema_lang.specs.declared.bodies.New as bodies

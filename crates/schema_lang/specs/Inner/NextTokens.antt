@@ -4,7 +4,7 @@ use Rattle.line_tokens.specs.Next.{next_of}
 use Rattle.line_tokens.specs.declared.token.Next.{Next}
 use Rattle.line_tokens.specs.declared.token.Next.TheVariants as next
 use Rattle.line_grammar.specs.declared.token.Token.{Token}
-use Rattle.line_grammar.specs.Tokens.{token_of}
+use Rattle.line_grammar.specs.Prelude.{token_of}
 
 -- a token, and the place behind it; a bad one is none
 abbrev pub found_token : List ℕ → Next → Option (Token × ℕ)

@@ -3,8 +3,8 @@ use Rattle.std.specs.Prelude.{ℕ, ◌≡◌, ◌+◌, ◌-◌, ◌≤◌, true,
 use Rattle.line_tokens.specs.declared.spots.Spot.{Spot}
 use Rattle.line_tokens.specs.declared.token.TokenKind.{TokenKind}
 use Rattle.line_tokens.specs.declared.token.TokenKind.TheVariants.{Word, Number, Text, Sign as SignKind}
-use Rattle.record_dim.specs.Names.{is_name}
-use Rattle.line_grammar.specs.Inner.FileNames.{is_file_name}
+use Rattle.record_dim.specs.Prelude.{is_name}
+use Rattle.line_grammar.specs.Prelude.{is_file_name}
 
 abbrev pub IsSpelledAs : List ℕ → ℕ → ℕ → TokenKind → Type 0
 IsSpelledAs text from end Word = is_name (slice_range text from end) ≡ true

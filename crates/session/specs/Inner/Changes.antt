@@ -1,30 +1,22 @@
 -- The parts of commands.
 use Rattle.std.specs.Prelude.{◌≡◌, ℕ, ℤ, List, [], ◌∷◌, length, slice_index_or, slice_set, Option, Result, Ok, Err}
-use Rattle.expr_lang.specs.Terms.{Term}
-use Rattle.piece_bits.specs.Tables.{with_entry}
-use Rattle.record_dim.specs.Trees.{Fields}
+use Rattle.expr_lang.specs.Prelude.{Term}
+use Rattle.piece_bits.specs.Prelude.{with_entry}
+use Rattle.record_dim.specs.Prelude.{Fields}
 use Rattle.map_expr.specs.Terms.{Term as MapTerm}
 use Rattle.map_expr.specs.Checks.{checked}
-use Rattle.views.specs.Tables.{Table, answer_of, kept_of, after_log, after_stores}
-use Rattle.worlds.specs.Worlds.{Entry}
-use Rattle.worlds.specs.Outcomes.{Tested, ◌>>=◌, LeftOf, ok_or}
-use Rattle.worlds.specs.OnView.{Done, stores}
+use Rattle.views.specs.Prelude.{Table, answer_of, kept_of, after_log, after_stores, Write}
+use Rattle.worlds.specs.Prelude.{Entry, Tested, ◌>>=◌, LeftOf, ok_or, Done, stores, narrow_fault, row_fault, update_fault, value_on, storable, all_read, copied, made, zeros_of}
 use Rattle.csv_rows.specs.declared.fault.RowFault.{RowFault}
 use Rattle.csv_rows.specs.declared.fault.RowFault.TheVariants as rows
-use Rattle.worlds.specs.Wordings.{narrow_fault, row_fault}
 use Rattle.row_updates.specs.Rows.{Setting, updated_rows}
 use Rattle.row_updates.specs.Logs.{value_log, rows_log}
-use Rattle.views.specs.Tallies.{Write}
-use Rattle.worlds.specs.Update.{update_fault}
-use Rattle.worlds.specs.Values.{value_on, storable}
 use Rattle.command_checks.specs.declared.fault.StepFault.{StepFault}
 use Rattle.command_checks.specs.declared.fault.StepFault.TheVariants as step
 use Rattle.worlds.specs.declared.fault.CommandFault.{CommandFault}
 use Rattle.worlds.specs.declared.fault.CommandFault.TheVariants.{BadMapping, Mismatch}
 use Rattle.layout_copy.specs.declared.fault.CopyFault.{CopyFault}
 use Rattle.layout_copy.specs.declared.fault.CopyFault.TheVariants as copy
-use Rattle.worlds.specs.Copy.{all_read, copied}
-use Rattle.worlds.specs.Tables.{made, zeros_of}
 
 -- an expression that can be a mapping, whatever its cells are
 abbrev pub mapping_fits : MapTerm → Tested (Unit {0})

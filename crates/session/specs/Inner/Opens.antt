@@ -3,11 +3,8 @@ use Rattle.std.specs.Prelude.{ℕ, ◌+◌, ◌*◌, ◌^◌, List, nat_lt, Ok}
 use Rattle.blob_file.specs.Opened.{opened, table_of_saved}
 use Rattle.blob_file.specs.declared.fault.FileFault.{FileFault}
 use Rattle.blob_file.specs.declared.fault.FileFault.TheVariants as cause
-use Rattle.views.specs.Tables.{Table}
-use Rattle.worlds.specs.Files.{bad_file}
-use Rattle.worlds.specs.Outcomes.{Tested, ◌>>=◌, refused_if, ok_or}
-use Rattle.worlds.specs.Tables.{live_bits, blob_bits}
-use Rattle.worlds.specs.Worlds.{Entry}
+use Rattle.views.specs.Prelude.{Table}
+use Rattle.worlds.specs.Prelude.{bad_file, Tested, ◌>>=◌, refused_if, ok_or, live_bits, blob_bits, Entry}
 use Rattle.worlds.specs.declared.fault.CommandFault.TheVariants.{TooBig}
 use Rattle.command_checks.specs.declared.fault.StepFault.{StepFault}
 use Rattle.command_checks.specs.declared.fault.StepFault.TheVariants as step

@@ -1,8 +1,7 @@
 -- What the answer of a command on a view says of its outcome, and of what was written.
 use Rattle.std.specs.Prelude.{ℕ, ◌≡◌, List, Option, Result, Ok, Err}
-use Rattle.views.specs.Tables.{Table}
-use Rattle.worlds.specs.Answers.{Did, Refused, Broke, Fronted, text_of}
-use Rattle.worlds.specs.Outcomes.{Tested, LeftOf}
+use Rattle.views.specs.Prelude.{Table}
+use Rattle.worlds.specs.Prelude.{Did, Refused, Broke, Fronted, text_of, Tested, LeftOf}
 use Rattle.command_checks.specs.declared.fault.StepFault.{StepFault}
 use Rattle.command_checks.specs.declared.fault.StepFault.TheVariants as fault
 

@@ -1,21 +1,12 @@
 -- The parts of an update by actors.
 use Rattle.std.specs.Prelude.{ℕ, ◌≡◌, ◌*◌, ◌^◌, ◌≤◌, not, nat_lt, All, IfSome, List, [], length, map, sum_by, Option, None, option_map, Ok}
-use Rattle.actor_steps.specs.Cuts.{AreCuts, actor_of}
-use Rattle.actor_steps.specs.Jobs.{written_by}
-use Rattle.actor_steps.specs.Shared.{shared_byte}
-use Rattle.expr_lang.specs.Bounds.{bound_term}
-use Rattle.expr_lang.specs.Terms.{Term}
-use Rattle.line_grammar.specs.Sentences.{Value, Assignment}
+use Rattle.actor_steps.specs.Prelude.{AreCuts, actor_of, written_by, shared_byte}
+use Rattle.expr_lang.specs.Prelude.{bound_term, Term}
+use Rattle.line_grammar.specs.Prelude.{Value, Assignment}
 use Rattle.row_updates.specs.Rows.{Setting, IsBoundOver, IsSetOf, setting_of, updated_of}
 use Rattle.row_updates.specs.Logs.{update_log}
-use Rattle.views.specs.Tables.{Table, owners_of}
-use Rattle.worlds.specs.Actors.{fit_cuts, shared, memory_text}
-use Rattle.views.specs.Tallies.{reads_first}
-use Rattle.worlds.specs.Names.{bound_filter, bound_sets, each_once, leaves_of}
-use Rattle.worlds.specs.OnView.{Done}
-use Rattle.worlds.specs.Outcomes.{Tested, ◌>>=◌, refused_if, refused_by, ok_or}
-use Rattle.worlds.specs.Show.{small}
-use Rattle.worlds.specs.Update.{update_fault}
+use Rattle.views.specs.Prelude.{Table, owners_of, reads_first}
+use Rattle.worlds.specs.Prelude.{fit_cuts, shared, memory_text, bound_filter, bound_sets, each_once, leaves_of, Done, Tested, ◌>>=◌, refused_if, refused_by, ok_or, small, update_fault}
 use Rattle.worlds.specs.declared.fault.BadActors.TheVariants.{Cuts, Turns}
 use Rattle.worlds.specs.declared.fault.CommandFault.TheVariants.{BadActors}
 use Rattle.view_commands.specs.declared.by_actors.Team.{Team}

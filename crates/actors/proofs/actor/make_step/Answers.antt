@@ -1,7 +1,6 @@
-use Rattle.actors.proofs.Imports.{◌∙◌, ℕ, [], None, List, length, rules, arith, SFits, subst, ap, w128, to_z-of_z, length-leaf_cells, setting_of, owners_of, with_byte-sized, job_of, row_in, value_kept_on, IsStepOf}
+use Rattle.actors.proofs.Imports.{◌∙◌, ℕ, [], None, List, length, rules, arith, SFits, subst, ap, w128, to_z-of_z, length-leaf_cells, setting_of, owners_of, with_byte-sized, job_of, row_in, value_kept_on, IsStepOf, common_steps}
 use Rattle.actors.proofs.Turns.{store_made}
 use Rattle.actors.proofs.actor.make_step.Goals as goal
-use Rattle.std.proofs.lemmas.Grind.{common_steps}
 
 pub changed_byte-byte-requires-clause-row_in : goal.changed_byte-byte-requires-clause-row_in
 changed_byte-byte-requires-clause-row_in c = grind (arith, common_steps)

@@ -1,7 +1,6 @@
-use Rattle.actors.proofs.Imports.{arith, length-leaf_cells}
+use Rattle.actors.proofs.Imports.{arith, length-leaf_cells, common_steps}
 use Rattle.actors.proofs.Turns.{cursor_over, targets_inside, plans_told}
 use Rattle.actors.proofs.actor.turn_of.Goals as goal
-use Rattle.std.proofs.lemmas.Grind.{common_steps}
 
 pub next_step-requires-clause-cursor : goal.next_step-requires-clause-cursor
 next_step-requires-clause-cursor c = grind (arith, common_steps, length-leaf_cells, cursor_over)

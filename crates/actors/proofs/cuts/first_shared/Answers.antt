@@ -1,7 +1,6 @@
-use Rattle.actors.proofs.Imports.{arith}
+use Rattle.actors.proofs.Imports.{arith, common_steps}
 use Rattle.actors.proofs.Firsts.{first_here, first_later}
 use Rattle.actors.proofs.cuts.first_shared.Goals as goal
-use Rattle.std.proofs.lemmas.Grind.{common_steps}
 
 pub returns-then-is_byte_shared : goal.returns-then-is_byte_shared
 returns-then-is_byte_shared c = grind (arith, common_steps, first_here)

@@ -1,8 +1,6 @@
-use Rattle.actors.proofs.Imports.{◌≡◌, ◌<◌, ◌∙◌, ℕ, List, SFits, rules, subst, ap, w128, to_z-of_z, IsWrite, bit_in, still_sized, byte_at, with_byte}
+use Rattle.actors.proofs.Imports.{◌≡◌, ◌<◌, ◌∙◌, ℕ, List, SFits, rules, subst, ap, w128, to_z-of_z, IsWrite, bit_in, still_sized, byte_at, with_byte, common_steps, arith}
 use Rattle.actors.proofs.Bytes.{byte_changed, there_still, put_lengths}
 use Rattle.actors.proofs.memory.changed_byte.Goals as goal
-use Rattle.std.proofs.lemmas.Grind.{common_steps}
-use Rattle.std.proofs.Common.{arith}
 
 pub byte_at-requires : goal.byte_at-requires
 byte_at-requires g c = grind (arith, common_steps, put_lengths, there_still)

@@ -1,7 +1,6 @@
 use Rattle.actors.proofs.Laws.{lawful_from}
 use Rattle.actors.proofs.memory.laws_of_view.Goals as goal
-use Rattle.std.proofs.lemmas.Grind.{common_steps}
-use Rattle.std.proofs.Common.{arith}
+use Rattle.record_dim.specs.Std.{common_steps, arith}
 
 pub returns-clause-lawful : goal.returns-clause-lawful
 returns-clause-lawful c = grind (arith, common_steps, lawful_from)

@@ -1,10 +1,8 @@
-use Rattle.actors.proofs.Imports.{ℤ, ◌≡◌, ◌∙◌, subst, sym, ap, arith, rules, SFits, w128, to_z-of_z, IsIn, number, digit, IsCell, some_bits, few_bits, bit_count, apart, pieces_within, held, low_in}
-use Rattle.std.proofs.Common.{slice_index}
+use Rattle.actors.proofs.Imports.{ℤ, ◌≡◌, ◌∙◌, subst, sym, ap, arith, rules, SFits, w128, to_z-of_z, IsIn, number, digit, IsCell, some_bits, few_bits, bit_count, apart, pieces_within, held, low_in, slice_index, common_steps}
 use Rattle.actors.proofs.Bytes.{is_write}
 use Rattle.actors.proofs.memory.write_bits.Given as given
 use Rattle.actors.proofs.memory.write_bits.Goals as goal
 use Rattle.actors.proofs.memory.write_bits.Goals.{After-as_slice}
-use Rattle.std.proofs.lemmas.Grind.{common_steps}
 
 at : (g : given.Over) (c : goal.After-as_slice g) →
     IsCell (g.M.Mapping.layout c.args.mapping.now) (g.M.Mapping.slot_count c.args.mapping.now) (g.M.Mapping.hold_list c.args.mapping.now)

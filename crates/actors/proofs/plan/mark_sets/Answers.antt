@@ -1,7 +1,6 @@
 use Rattle.actors.proofs.Marks.{one_set}
 use Rattle.actors.proofs.plan.mark_sets.Goals as goal
-use Rattle.std.proofs.lemmas.Grind.{common_steps}
-use Rattle.std.proofs.Common.{arith}
+use Rattle.record_dim.specs.Std.{common_steps, arith}
 
 pub loop-set-preserved : goal.loop-set-preserved
 loop-set-preserved c = grind (arith, common_steps, one_set)

@@ -1,8 +1,6 @@
-use Rattle.actors.proofs.Imports.{◌≡◌, ◌∙◌, true, map, sym, filter_term, setting_of, job_of, lets_through}
+use Rattle.actors.proofs.Imports.{◌≡◌, ◌∙◌, true, map, sym, filter_term, setting_of, job_of, lets_through, common_steps, arith}
 use Rattle.actors.proofs.Marks.{plan_left, plan_through}
 use Rattle.actors.proofs.plan.plan_of.Goals as goal
-use Rattle.std.proofs.lemmas.Grind.{common_steps}
-use Rattle.std.proofs.Common.{arith}
 
 pub returns-then-not-lets_through : goal.returns-then-not-lets_through
 returns-then-not-lets_through c = grind (arith, common_steps, plan_left)

@@ -1,7 +1,6 @@
-use Rattle.advisor.proofs.Imports.{arith, length-map}
+use Rattle.advisor.proofs.Imports.{arith, length-map, common_steps}
 use Rattle.advisor.proofs.Advising.{advice_given, advice_faulty, costs_known, holds_known, pool_holds}
 use Rattle.advisor.proofs.adviser.advise.Goals as goal
-use Rattle.std.proofs.lemmas.Grind.{common_steps}
 
 pub returns-in_err-pool-clause-fault : goal.returns-in_err-pool-clause-fault
 returns-in_err-pool-clause-fault g c = grind (arith, common_steps, advice_faulty)

@@ -1,6 +1,4 @@
-use Rattle.advisor.proofs.Imports.{◌≡◌, ◌*◌, ℕ, List, length, get_or, ap, ◌∙◌, arith, list_any, ◌==◌, length-map, get_or_read, sum_by_more, indices, Hold, Pass, touched, touched_alike, reads, leaves_in}
-use Rattle.std.proofs.Common.{sum_by}
-use Rattle.std.specs.Prelude.{[]}
+use Rattle.advisor.proofs.Imports.{◌≡◌, ◌*◌, ℕ, List, length, get_or, ap, ◌∙◌, arith, list_any, ◌==◌, length-map, get_or_read, sum_by_more, indices, Hold, Pass, touched, touched_alike, reads, leaves_in, sum_by, []}
 use Rattle.advisor.proofs.RuledLaws.{layout_in, widths_in}
 use Rattle.advisor.proofs.costs.part_cost.Goals as goal
 

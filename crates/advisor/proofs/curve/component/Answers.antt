@@ -1,7 +1,6 @@
-use Rattle.advisor.proofs.Imports.{arith}
+use Rattle.advisor.proofs.Imports.{arith, common_steps}
 use Rattle.advisor.proofs.CurveLaws.{few_digits, digit_more, digit_fits}
 use Rattle.advisor.proofs.curve.component.Goals as goal
-use Rattle.std.proofs.lemmas.Grind.{common_steps}
 
 pub overflow_add-component : goal.overflow_add-component
 overflow_add-component c = grind (arith, common_steps, few_digits, digit_fits)

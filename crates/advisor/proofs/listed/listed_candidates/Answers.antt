@@ -1,7 +1,6 @@
-use Rattle.advisor.proofs.Imports.{List, map, ap, ◌∙◌, arith, take_more, map_push, take_all, All-push, term_of, MapExpr}
+use Rattle.advisor.proofs.Imports.{List, map, ap, ◌∙◌, arith, take_more, map_push, take_all, All-push, term_of, MapExpr, common_steps}
 use Rattle.advisor.proofs.Listing.{good_passed, none_behind}
 use Rattle.advisor.proofs.listed.listed_candidates.Goals as goal
-use Rattle.std.proofs.lemmas.Grind.{common_steps}
 
 pub whole_candidate-requires-clause-built : goal.whole_candidate-requires-clause-built
 whole_candidate-requires-clause-built c = grind (arith, common_steps)

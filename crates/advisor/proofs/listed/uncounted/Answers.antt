@@ -1,7 +1,6 @@
-use Rattle.advisor.proofs.Imports.{arith, take_more, map_push, All-push}
+use Rattle.advisor.proofs.Imports.{arith, take_more, map_push, All-push, common_steps}
 use Rattle.advisor.proofs.Listing.{built_uncounted}
 use Rattle.advisor.proofs.listed.uncounted.Goals as goal
-use Rattle.std.proofs.lemmas.Grind.{common_steps}
 
 pub loop-at-preserved : goal.loop-at-preserved
 loop-at-preserved c = grind (arith, common_steps, take_more, map_push, All-push, built_uncounted)

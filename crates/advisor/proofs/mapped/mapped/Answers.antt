@@ -1,8 +1,6 @@
-use Rattle.advisor.proofs.Imports.{rules, ◌≡◌, Err, Result, leb-true, term_of, good_number, good_numbers, MakeMap, Plan, schema_fields}
+use Rattle.advisor.proofs.Imports.{rules, ◌≡◌, Err, Result, leb-true, term_of, good_number, good_numbers, MakeMap, Plan, schema_fields, common_steps, arith}
 use Rattle.advisor.proofs.JudgedLaws.{plan_refused, told_good, told_many, told_refused}
 use Rattle.advisor.proofs.mapped.mapped.Goals as goal
-use Rattle.std.proofs.lemmas.Grind.{common_steps}
-use Rattle.std.proofs.Common.{arith}
 
 pub returns-in_err-mapping-clause-refused : goal.returns-in_err-mapping-clause-refused
 returns-in_err-mapping-clause-refused c = grind (arith, common_steps, told_refused)

@@ -1,8 +1,6 @@
-use Rattle.advisor.proofs.Imports.{◌+◌, sym, subst, list_any, list_any_more, heat_counts, IsInside, piece_in, PieceRule}
+use Rattle.advisor.proofs.Imports.{◌+◌, sym, subst, list_any, list_any_more, heat_counts, IsInside, piece_in, PieceRule, common_steps, arith}
 use Rattle.advisor.proofs.WarmLaws.{warmed_inside, warmed_more}
 use Rattle.advisor.proofs.runs.touch_slots.Goals as goal
-use Rattle.std.proofs.lemmas.Grind.{common_steps}
-use Rattle.std.proofs.Common.{arith}
 
 pub touch_rule-requires-clause-inside : goal.touch_rule-requires-clause-inside
 touch_rule-requires-clause-inside c = λ k low.

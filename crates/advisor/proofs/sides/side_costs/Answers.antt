@@ -1,6 +1,5 @@
-use Rattle.advisor.proofs.Imports.{arith, cases_eq, get_or-map, get_or_push, get_or_append_left, length_push}
+use Rattle.advisor.proofs.Imports.{arith, cases_eq, get_or-map, get_or_push, get_or_append_left, length_push, common_steps}
 use Rattle.advisor.proofs.sides.side_costs.Goals as goal
-use Rattle.std.proofs.lemmas.Grind.{common_steps}
 
 pub side_cost-requires-clause-built : goal.side_cost-requires-clause-built
 side_cost-requires-clause-built c = grind (arith, common_steps)

@@ -1,7 +1,6 @@
-use Rattle.advisor.proofs.Imports.{List, [], ◌∷◌, ◌++◌, sym, ap, ◌∙◌, arith, filter, is_ok, get_or-map, flat_map_single, map-map, Term, Split, term_of, MapExpr, judge, terms_in}
+use Rattle.advisor.proofs.Imports.{List, [], ◌∷◌, ◌++◌, sym, ap, ◌∙◌, arith, filter, is_ok, get_or-map, flat_map_single, map-map, Term, Split, term_of, MapExpr, judge, terms_in, common_steps}
 use Rattle.advisor.proofs.PoolLaws.{more_behind, all_behind}
 use Rattle.advisor.proofs.splits.push_rests.Goals as goal
-use Rattle.std.proofs.lemmas.Grind.{common_steps}
 
 pub push_split-requires-clause-built_rest : goal.push_split-requires-clause-built_rest
 push_split-requires-clause-built_rest c = grind (arith, common_steps)

@@ -1,7 +1,6 @@
-use Rattle.advisor.proofs.Imports.{arith, is_ok, flat_map}
+use Rattle.advisor.proofs.Imports.{arith, is_ok, flat_map, common_steps}
 use Rattle.advisor.proofs.PoolLaws.{more_behind, all_behind}
 use Rattle.advisor.proofs.splits.push_splits.Goals as goal
-use Rattle.std.proofs.lemmas.Grind.{common_steps}
 
 pub loop-at-preserved : goal.loop-at-preserved
 loop-at-preserved c = grind (arith, common_steps, more_behind, is_ok)

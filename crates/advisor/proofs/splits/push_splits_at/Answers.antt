@@ -1,7 +1,6 @@
-use Rattle.advisor.proofs.Imports.{◌≡◌, ℕ, List, [], ◌++◌, None, Option, get_or, map, sym, ap, ◌∙◌, arith, filter, is_ok, get_or-map, get_or_default, flat_map-map, Fields, Cell, Term, Named, Split, term_of, MapExpr, cells_under, judge, terms_in, IsSideCost, term_at}
+use Rattle.advisor.proofs.Imports.{◌≡◌, ℕ, List, [], ◌++◌, None, Option, get_or, map, sym, ap, ◌∙◌, arith, filter, is_ok, get_or-map, get_or_default, flat_map-map, Fields, Cell, Term, Named, Split, term_of, MapExpr, cells_under, judge, terms_in, IsSideCost, term_at, common_steps}
 use Rattle.advisor.proofs.PoolLaws.{more_behind, all_behind}
 use Rattle.advisor.proofs.splits.push_splits_at.Goals as goal
-use Rattle.std.proofs.lemmas.Grind.{common_steps}
 
 pub push_rests-requires-clause-built_first : goal.push_rests-requires-clause-built_first
 push_rests-requires-clause-built_first c = grind (arith, common_steps)

@@ -1,6 +1,5 @@
-use Rattle.advisor.proofs.Imports.{arith, take_more_set, take_all, map_more}
+use Rattle.advisor.proofs.Imports.{arith, take_more_set, take_all, map_more, common_steps}
 use Rattle.advisor.proofs.suits.mark.Goals as goal
-use Rattle.std.proofs.lemmas.Grind.{common_steps}
 
 pub loop-at-preserved : goal.loop-at-preserved
 loop-at-preserved c = grind (arith, common_steps, take_more_set, map_more)

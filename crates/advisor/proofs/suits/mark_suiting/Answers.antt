@@ -1,7 +1,6 @@
-use Rattle.advisor.proofs.Imports.{List, map, ap, ◌∙◌, arith, Candidate, Trial, none_failed}
+use Rattle.advisor.proofs.Imports.{List, map, ap, ◌∙◌, arith, Candidate, Trial, none_failed, common_steps}
 use Rattle.advisor.proofs.Tried.{trials_now, marks_right}
 use Rattle.advisor.proofs.suits.mark_suiting.Goals as goal
-use Rattle.std.proofs.lemmas.Grind.{common_steps}
 
 pub mark-requires-clause-inside : goal.mark-requires-clause-inside
 mark-requires-clause-inside g c = grind (arith, common_steps, trials_now)

@@ -1,7 +1,6 @@
-use Rattle.advisor.proofs.Imports.{arith, leaves}
+use Rattle.advisor.proofs.Imports.{arith, leaves, common_steps}
 use Rattle.advisor.proofs.TriedRuns.{none_read, leaf_read, none_to, all_to, trials_to, leaf_tried}
 use Rattle.advisor.proofs.suits.try_run.Goals as goal
-use Rattle.std.proofs.lemmas.Grind.{common_steps}
 
 pub loop-leaf-init : goal.loop-leaf-init
 loop-leaf-init g c = grind (arith, common_steps, none_read, none_to)

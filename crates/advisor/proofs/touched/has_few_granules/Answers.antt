@@ -1,6 +1,5 @@
-use Rattle.advisor.proofs.Imports.{◌≡◌, ◌+◌, ◌*◌, ◌/◌, ◌^◌, ◌<◌, ◌≤◌, ℕ, List, [], length, get_or, sym, ap, ◌∙◌, arith, div_ceil, lt-leb, le-leb, get_or-map, length-map, take_all, sum_by_more, sum_by-take-le, Owner, granules_in, granules_of, rounded, blob_lengths}
+use Rattle.advisor.proofs.Imports.{◌≡◌, ◌+◌, ◌*◌, ◌/◌, ◌^◌, ◌<◌, ◌≤◌, ℕ, List, [], length, get_or, sym, ap, ◌∙◌, arith, div_ceil, lt-leb, le-leb, get_or-map, length-map, take_all, sum_by_more, sum_by-take-le, Owner, granules_in, granules_of, rounded, blob_lengths, common_steps}
 use Rattle.advisor.proofs.touched.has_few_granules.Goals as goal
-use Rattle.std.proofs.lemmas.Grind.{common_steps}
 
 -- the granules of a blob
 here : (layout : List (List Owner)) (blob granule bytes : ℕ) → 1 ≤ granule → blob < length layout → 8 * bytes ≡ length (get_or layout blob [])

@@ -1,10 +1,8 @@
-use Rattle.advisor.proofs.Imports.{ℕ, length, subst, indices, IsLaidOut, heat_counts, RuledMap}
+use Rattle.advisor.proofs.Imports.{ℕ, length, subst, indices, IsLaidOut, heat_counts, RuledMap, common_steps, arith}
 use Rattle.advisor.proofs.RuledLaws.{layout_in, widths_in}
 use Rattle.advisor.proofs.SweepLaws.{rows_hold, rows_inside}
 use Rattle.advisor.proofs.WarmLaws.{warmed_alike, warmed_granules}
 use Rattle.advisor.proofs.touched.touch_cell.Goals as goal
-use Rattle.std.proofs.lemmas.Grind.{common_steps}
-use Rattle.std.proofs.Common.{arith}
 
 -- its slots are the rows
 laid_by_rows : (m : RuledMap) → IsLaidOut (layout_in m) (length (indices m.mapping.extents)) (widths_in m) → IsLaidOut (layout_in m) (length (indices m.extents)) (widths_in m)

@@ -1,8 +1,7 @@
-use Rattle.advisor.proofs.Imports.{◌≡◌, ℕ, List, [], ◌∷◌, length, refl, sym, ap, ◌∙◌, arith, ◌==◌, list_any, eqb-true, take_all, list_any_more, heat_counts, no_heat, blob_lengths, holds_cell, touched}
+use Rattle.advisor.proofs.Imports.{◌≡◌, ℕ, List, [], ◌∷◌, length, refl, sym, ap, ◌∙◌, arith, ◌==◌, list_any, eqb-true, take_all, list_any_more, heat_counts, no_heat, blob_lengths, holds_cell, touched, common_steps}
 use Rattle.advisor.proofs.RuledLaws.{layout_in}
 use Rattle.advisor.proofs.WarmLaws.{cold_granules, none_touched, warmed_none, warmed_more, warm_touched}
 use Rattle.advisor.proofs.touched.touched.Goals as goal
-use Rattle.std.proofs.lemmas.Grind.{common_steps}
 
 pub loop-cell-init : goal.loop-cell-init
 loop-cell-init c = grind (arith, common_steps, list_any, warmed_none, cold_granules)

@@ -1,7 +1,6 @@
-use Rattle.advisor.proofs.Imports.{◌≡◌, Bool, pos, get_or, sym, ap, ◌∙◌, ◌&&◌, to_z-of_z, list_all_at, list_all_more, low_stays}
+use Rattle.advisor.proofs.Imports.{◌≡◌, Bool, pos, get_or, sym, ap, ◌∙◌, ◌&&◌, to_z-of_z, list_all_at, list_all_more, low_stays, arith}
 use Rattle.advisor.proofs.trials.all_stay.Goals as goal
 use Rattle.advisor.proofs.trials.all_stay.Goals.{After-low_stays}
-use Rattle.std.proofs.Common.{arith}
 
 -- the answer for a value
 answer : (c : After-low_stays) → low_stays c.args.mode c.args.trial (get_or c.args.lows.now c.loop-low.low-index (pos 0)) ≡ c.low_stays.result

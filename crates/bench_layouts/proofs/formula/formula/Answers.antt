@@ -1,6 +1,5 @@
-use Rattle.std.proofs.Common.{length, ap, ◌∙◌}
-use Rattle.record_dim.specs.Leaves.{leaves}
-use Rattle.record_dim.specs.Trees.{Fields}
+use Rattle.record_dim.specs.Std.{length, ap, ◌∙◌}
+use Rattle.record_dim.specs.Prelude.{leaves, Fields}
 use Rattle.bench_layouts.proofs.formula.formula.Goals as goal
 
 pub returns-in-Ok : goal.returns-in-Ok

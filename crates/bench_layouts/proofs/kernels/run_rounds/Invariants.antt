@@ -1,4 +1,4 @@
-use Rattle.std.proofs.Common.{◌≡◌}
+use Rattle.record_dim.specs.Std.{◌≡◌}
 use Rattle.bench_layouts.specs.Inner.Tables.{measured_fields}
 use Rattle.bench_layouts.proofs.kernels.run_rounds.Given as goal
 

@@ -1,7 +1,6 @@
-use Rattle.blob_file.proofs.Imports.{arith, ◌<◌, length}
+use Rattle.blob_file.proofs.Imports.{arith, ◌<◌, length, common_steps}
 use Rattle.blob_file.proofs.Blobs.{none_cut, room, one_cut, all_cut, cut_sized}
 use Rattle.blob_file.proofs.blobs_in.cut_blobs.Goals as goal
-use Rattle.std.proofs.lemmas.Grind.{common_steps}
 
 pub loop-b-init : goal.loop-b-init
 loop-b-init g c = rw c.new-blobs.ensures.items (none_cut (g.M.Mapping.layout c.args.map.now) c.laws_of.ensures.lawful.whole_bytes c.args.body.now c.requires)

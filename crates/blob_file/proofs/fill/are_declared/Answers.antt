@@ -1,7 +1,6 @@
-use Rattle.blob_file.proofs.Imports.{to_z, of_z, subst, arith, int_le, cases_lt, and_parts, and_from, to_z-of_z, IsDeclared, between_true, passed}
+use Rattle.blob_file.proofs.Imports.{to_z, of_z, subst, arith, int_le, cases_lt, and_parts, and_from, to_z-of_z, IsDeclared, between_true, passed, common_steps}
 use Rattle.blob_file.proofs.Filled.{low_declares}
 use Rattle.blob_file.proofs.fill.are_declared.Goals as goal
-use Rattle.std.proofs.lemmas.Grind.{common_steps}
 
 pub loop-low-preserved : goal.loop-low-preserved
 loop-low-preserved c = grind (arith, common_steps, to_z, of_z, and_parts, int_le, to_z-of_z, passed, between_true, and_from, cases_lt)

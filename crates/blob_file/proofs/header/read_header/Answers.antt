@@ -1,10 +1,8 @@
-use Rattle.blob_file.proofs.Imports.{rules, ◌≡◌, drop, Some, Err, inr, refl, tree_of, bytes_to_line_end}
+use Rattle.blob_file.proofs.Imports.{rules, ◌≡◌, drop, Some, Err, inr, refl, tree_of, bytes_to_line_end, common_steps, arith}
 use Rattle.blob_file.specs.declared.fault.FileFault.TheVariants as fault
 use Rattle.blob_file.proofs.HeadReads.{short_none, no_first, no_second, no_record, no_view, other_size, header_found}
 use Rattle.blob_file.proofs.Refused.{refused_on}
 use Rattle.blob_file.proofs.header.read_header.Goals as goal
-use Rattle.std.proofs.lemmas.Grind.{common_steps}
-use Rattle.std.proofs.Common.{arith}
 
 pub returns-then-bytes-lt4-clause-refused : goal.returns-then-bytes-lt4-clause-refused
 returns-then-bytes-lt4-clause-refused c = inr (refl, short_none c.args.bytes.now c.if-bytes-lt4.true)

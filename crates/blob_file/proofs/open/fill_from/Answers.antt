@@ -1,8 +1,6 @@
-use Rattle.blob_file.proofs.Imports.{inr, length, map, indices, IsLaidOut, Hold, owners_of, table_holds}
+use Rattle.blob_file.proofs.Imports.{inr, length, map, indices, IsLaidOut, Hold, owners_of, table_holds, common_steps, arith}
 use Rattle.blob_file.proofs.Fills.{refused_number, opened_view, other_view, steps_taken}
 use Rattle.blob_file.proofs.open.fill_from.Goals as goal
-use Rattle.std.proofs.lemmas.Grind.{common_steps}
-use Rattle.std.proofs.Common.{arith}
 
 pub returns-in_err-fill_rows-clause-read : goal.returns-in_err-fill_rows-clause-read
 returns-in_err-fill_rows-clause-read g c = grind (arith, common_steps, refused_number)

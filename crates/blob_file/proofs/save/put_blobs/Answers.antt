@@ -1,8 +1,7 @@
-use Rattle.blob_file.proofs.Imports.{rules, arith, ◌<◌, ℕ, List, [], IsErr, length, ap, Puts-loop_err, Puts-loop_ok, Owner, owners_of, blobs_of}
+use Rattle.blob_file.proofs.Imports.{rules, arith, ◌<◌, ℕ, List, [], IsErr, length, ap, Puts-loop_err, Puts-loop_ok, Owner, owners_of, blobs_of, common_steps}
 use Rattle.blob_file.proofs.ImageBits.{blob_saved, blob_count}
 use Rattle.blob_file.proofs.Puts.{part_more, has_put}
 use Rattle.blob_file.proofs.save.put_blobs.Goals as goal
-use Rattle.std.proofs.lemmas.Grind.{common_steps}
 
 pub blob-blob-requires : goal.blob-blob-requires
 blob-blob-requires g c = omega (arith, ap (length {A = List Owner}) c.map.ensures.layout, c.blob_count-b-end.ensures)

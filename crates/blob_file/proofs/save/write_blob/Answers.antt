@@ -1,8 +1,6 @@
-use Rattle.blob_file.proofs.Imports.{rules, arith, ◌≡◌, ◌∙◌, ◌++◌, ℕ, length, take, drop, ap, length-take-le, length-drop}
-use Rattle.std.proofs.lemmas.List.{length-append}
+use Rattle.blob_file.proofs.Imports.{rules, arith, ◌≡◌, ◌∙◌, ◌++◌, ℕ, length, take, drop, ap, length-take-le, length-drop, length-append, common_steps}
 use Rattle.blob_file.proofs.Puts.{block_written, block_stopped}
 use Rattle.blob_file.proofs.save.write_blob.Goals as goal
-use Rattle.std.proofs.lemmas.Grind.{common_steps}
 
 pub returns-in_err-write_all : goal.returns-in_err-write_all
 returns-in_err-write_all g c = grind (arith, common_steps, block_stopped)

@@ -1,8 +1,6 @@
-use Rattle.blob_file.proofs.Imports.{rules, ◌≡◌, ℕ, List, subst, Wrote, record_text, view_text, header_of}
+use Rattle.blob_file.proofs.Imports.{rules, ◌≡◌, ℕ, List, subst, Wrote, record_text, view_text, header_of, common_steps, arith}
 use Rattle.blob_file.proofs.SavedFile.{file_text}
 use Rattle.blob_file.proofs.save.write_file.Goals as goal
-use Rattle.std.proofs.lemmas.Grind.{common_steps}
-use Rattle.std.proofs.Common.{arith}
 
 pub returns-in_err-put_file-clause-saved : goal.returns-in_err-put_file-clause-saved
 returns-in_err-put_file-clause-saved g c = grind (arith, common_steps, file_text)

@@ -1,6 +1,5 @@
 use Rattle.blob_file.proofs.texts.view_text.Goals as goal
-use Rattle.std.proofs.lemmas.Grind.{common_steps}
-use Rattle.std.proofs.Common.{arith}
+use Rattle.record_dim.specs.Std.{common_steps, arith}
 
 pub returns : goal.returns
 returns c = grind (arith, common_steps)

@@ -1,6 +1,5 @@
-use Rattle.blobs.proofs.Imports.{◌≡◌, ◌+◌, ◌*◌, ◌≤◌, ℕ, length, refl, subst, arith, IsMoved, moved_bytes, moved_more}
+use Rattle.blobs.proofs.Imports.{◌≡◌, ◌+◌, ◌*◌, ◌≤◌, ℕ, length, refl, subst, arith, IsMoved, moved_bytes, moved_more, common_steps}
 use Rattle.blobs.proofs.moves.move_bytes.Goals as goal
-use Rattle.std.proofs.lemmas.Grind.{common_steps}
 
 pub loop-block-preserved : goal.loop-block-preserved
 loop-block-preserved g c =

@@ -1,6 +1,5 @@
-use Rattle.blobs.proofs.Imports.{field_inside, field_before, field_after, field_small}
+use Rattle.blobs.proofs.Imports.{field_inside, field_before, field_after, field_small, arith}
 use Rattle.blobs.proofs.word.with_bits.Goals as goal
-use Rattle.std.proofs.Common.{arith}
 
 pub returns : goal.returns
 returns c =

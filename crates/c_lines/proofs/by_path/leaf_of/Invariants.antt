@@ -1,5 +1,4 @@
-use Rattle.c_lines.proofs.Imports.{◌≡◌, ◌<◌, ℕ, Some, texts_of}
-use Rattle.std.proofs.Common.{slice_get}
+use Rattle.c_lines.proofs.Imports.{◌≡◌, ◌<◌, ℕ, Some, texts_of, slice_get}
 use Rattle.c_lines.proofs.by_path.leaf_of.Given as goal
 
 abbrev pub invariant-loop-leaf : goal.invariant-loop-leaf

@@ -1,9 +1,5 @@
-use Rattle.c_lines.proofs.Imports.{refl, assignment_of, map, option_map, number_text, is_do, numbered, reading}
-use Rattle.expr_lang.specs.Terms.{term_of}
-use Rattle.worlds.specs.Assign.{assigned}
-use Rattle.worlds.specs.Kernel.{kernel_run}
-use Rattle.worlds.specs.Reduce.{counting, reduction}
-use Rattle.worlds.specs.Update.{updated}
+use Rattle.c_lines.proofs.Imports.{refl, assignment_of, map, option_map, number_text, is_do, numbered, reading, assigned, kernel_run, counting, reduction, updated}
+use Rattle.expr_lang.specs.Prelude.{term_of}
 use Rattle.c_lines.proofs.Commanding.{line_does, line_is}
 use Rattle.c_lines.proofs.commands.do_command.Goals as goal
 

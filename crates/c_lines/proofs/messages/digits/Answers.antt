@@ -1,6 +1,4 @@
-use Rattle.c_lines.proofs.Imports.{◌≡◌, ◌∙◌, arith}
-use Rattle.layout_io.specs.Decimal.{digits_text}
-use Rattle.layout_io.specs.DecimalLaws.{decimal-digits_text}
+use Rattle.c_lines.proofs.Imports.{◌≡◌, ◌∙◌, arith, digits_text, decimal-digits_text}
 use Rattle.c_lines.proofs.messages.digits.Goals as goal
 
 pub returns : goal.returns

@@ -1,5 +1,4 @@
-use Rattle.c_lines.proofs.Imports.{◌≡◌, ◌∙◌}
-use Rattle.worlds.specs.FaultTexts.{fault_words}
+use Rattle.c_lines.proofs.Imports.{◌≡◌, ◌∙◌, fault_words}
 use Rattle.c_lines.proofs.Words.{line_taken, put_as}
 use Rattle.c_lines.proofs.messages.put_fault.Goals as goal
 

@@ -1,9 +1,5 @@
-use Rattle.c_lines.proofs.Imports.{refl, reading, is_tell, commanded, map, []}
+use Rattle.c_lines.proofs.Imports.{refl, reading, is_tell, commanded, map, [], advise, telling, bytes, counts, heat, layout, print, print_window}
 use Rattle.map_expr.specs.Terms.{term_of}
-use Rattle.worlds.specs.Advise.{advise}
-use Rattle.worlds.specs.OnView.{telling}
-use Rattle.worlds.specs.Show.{bytes, counts, heat, layout, print}
-use Rattle.worlds.specs.Windows.{print_window}
 use Rattle.c_lines.specs.Inner.Carried.{bytes_in}
 use Rattle.c_lines.proofs.Commanding.{line_does}
 use Rattle.c_lines.proofs.showing.tell_command.Goals as goal

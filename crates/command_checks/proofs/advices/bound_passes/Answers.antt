@@ -1,6 +1,8 @@
-use Rattle.command_checks.proofs.Imports.{rules, ◌≡◌, ◌++◌, ◌∷◌, [], List, Err, length-append, sym, ap, ◌∙◌, Pass, bound_pass, Ok}
+use Rattle.command_checks.proofs.Imports.{rules, ◌≡◌, Err, length-append, bound_pass}
 use Rattle.command_checks.proofs.Each.{each_more, each_ends}
 use Rattle.command_checks.proofs.advices.bound_passes.Goals as goal
+use Rattle.std.proofs.lemmas.Grind.{common_steps}
+use Rattle.std.proofs.Common.{arith}
 
 pub returns-in_err-pass-clause-passes : goal.returns-in_err-pass-clause-passes
 returns-in_err-pass-clause-passes c =
@@ -9,11 +11,4 @@ returns-in_err-pass-clause-passes c =
     rw is (each_ends (bound_pass c.args.view.now.fields) c.args.texts.now c.loop-text.text-index c.text-item.result c.loop-text.passes c.in_err-pass.field-0.0 c.loop-text-test.true c.loop-text.invariant.passes gives)
 
 pub loop-text-preserved : goal.loop-text-preserved
-loop-text-preserved c =
-    let items : c.push.new.self ≡ c.loop-text.passes ++ c.in_ok-pass.pass ∷ [] = search rules in
-    let is = rw c.text-item.is at c.in_ok-pass.ensures in
-    record {
-      passes = each_more (bound_pass c.args.view.now.fields) c.args.texts.now c.loop-text.text-index c.text-item.result c.loop-text.passes c.in_ok-pass.pass c.loop-text-test.true c.loop-text.invariant.passes is
-          ∙ ap (λ (passes : List Pass). Ok passes) (sym items);
-      long = rw items (simp (length-append, c.loop-text.invariant.long));
-    }
+loop-text-preserved c = grind (arith, common_steps, each_more, length-append)

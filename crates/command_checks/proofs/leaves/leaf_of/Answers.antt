@@ -1,5 +1,7 @@
-use Rattle.command_checks.proofs.Imports.{◌<◌, ◌∙◌, ap, length, length-map, slice_get_within, paths_of, leaf_number_is, some_or, Unknown, Path}
+use Rattle.command_checks.proofs.Imports.{◌∙◌, ap, length-map, slice_get_within, leaf_number_is, some_or, Unknown, Path}
 use Rattle.command_checks.proofs.leaves.leaf_of.Goals as goal
+use Rattle.std.proofs.lemmas.Grind.{common_steps}
+use Rattle.std.proofs.Common.{arith}
 
 pub returns-in-Some-clause-leaf : goal.returns-in-Some-clause-leaf
 returns-in-Some-clause-leaf c =
@@ -7,11 +9,7 @@ returns-in-Some-clause-leaf c =
     ap (some_or (Unknown (Path c.args.path.now))) (rw c.schema.ensures.value at number)
 
 pub returns-in-Some-clause-inside : goal.returns-in-Some-clause-inside
-returns-in-Some-clause-inside c =
-    let fields = c.args.view.now.fields in
-    let there = rw c.schema.ensures.value at c.in-Some.ensures.some in
-    let within : c.in-Some.leaf < length (paths_of fields) = slice_get_within (paths_of fields) c.in-Some.leaf c.args.path.now there in
-    rw length-map at within
+returns-in-Some-clause-inside c = grind (arith, common_steps, slice_get_within, length-map)
 
 pub returns-in_ok-copy-in-None-clause-leaf : goal.returns-in_ok-copy-in-None-clause-leaf
 returns-in_ok-copy-in-None-clause-leaf c =

@@ -1,6 +1,8 @@
 use Rattle.command_checks.proofs.Imports.{◌∙◌, sym, ap, term_of, schema_fields, Ok}
 use Rattle.command_checks.proofs.Limits.{table_new, made_goes, made_full, bits_over, bits_within}
 use Rattle.command_checks.proofs.tables.made_beside.Goals as goal
+use Rattle.std.proofs.lemmas.Grind.{common_steps}
+use Rattle.std.proofs.Common.{arith}
 
 pub returns-then-live-gt-MAX_LIVE_BYTES-clause-made : goal.returns-then-live-gt-MAX_LIVE_BYTES-clause-made
 returns-then-live-gt-MAX_LIVE_BYTES-clause-made c = λ views sum.
@@ -16,5 +18,4 @@ returns-else-live-gt-MAX_LIVE_BYTES-clause-made c = λ views sum.
     (bits_within c.args.live c.left_beside.result _ _ sum c.left_beside.ensures c.if-live-gt-MAX_LIVE_BYTES.false c.in-Ok.ensures.within) ∙ sym (ap Ok table)
 
 pub returns-else-live-gt-MAX_LIVE_BYTES-clause-zeros : goal.returns-else-live-gt-MAX_LIVE_BYTES-clause-zeros
-returns-else-live-gt-MAX_LIVE_BYTES-clause-zeros c =
-    table_new c.in-Ok.view c.args.mode (schema_fields c.args.schema.now) c.args.extents (term_of c.args.expr.now) c.in-Ok.ensures.mode c.in-Ok.ensures.schema c.in-Ok.ensures.extents c.in-Ok.ensures.expr c.in-Ok.ensures.table c.in-Ok.ensures.tally
+returns-else-live-gt-MAX_LIVE_BYTES-clause-zeros c = grind (arith, common_steps, table_new)

@@ -1,5 +1,7 @@
 use Rattle.command_checks.proofs.Imports.{◌∙◌, sym, subst, List, ExtentWord, HasRows, rows_for_some, rows_for_same, resolves, resolves_not, rows_are}
 use Rattle.command_checks.proofs.tables.resolved.Goals as goal
+use Rattle.std.proofs.lemmas.Grind.{common_steps}
+use Rattle.std.proofs.Common.{arith}
 
 pub resolve-requires : goal.resolve-requires
 resolve-requires c = λ rows. rw c.rows_for.ensures (rows_for_some c.args.words.now c.args.rows (subst (λ (words : List ExtentWord). HasRows words) c.requires.words rows))
@@ -10,10 +12,7 @@ returns-in-Ok-clause-extents c =
     sym (rows_for_same c.args.words.now c.args.rows) ∙ (rw (c.requires.words, c.rows_for.ensures) at told)
 
 pub returns-in-Ok-clause-rows : goal.returns-in-Ok-clause-rows
-returns-in-Ok-clause-rows c =
-    rows_are c.args.words.now c.args.rows c.in-Ok.extents c.requires.is_shape
-    (rw (c.requires.words, c.rows_for.ensures) at c.in-Ok.ensures.first)
-    (rw (c.requires.words, c.rows_for.ensures) at c.in-Ok.ensures.extents)
+returns-in-Ok-clause-rows c = grind (arith, common_steps, rows_are)
 
 pub returns-in-Err-clause-extents : goal.returns-in-Err-clause-extents
 returns-in-Err-clause-extents c =

@@ -1,5 +1,4 @@
-use Rattle.command_checks.proofs.Imports.{rules, ◌≡◌, ◌++◌, ◌∷◌, [], List, Err, ◌+◌, take, get_or, length-append, sym, ap, ◌∙◌, All-push, Weighted, leaf_count_of, weighted_term, placed_term, weighted_at, Ok}
-use Rattle.std.specs.Prelude.{◌<◌}
+use Rattle.command_checks.proofs.Imports.{rules, ◌≡◌, ◌++◌, ◌∷◌, [], List, Err, ◌+◌, take, get_or, length-append, sym, ap, ◌∙◌, All-push, Weighted, leaf_count_of, weighted_term, placed_term, weighted_at, Ok, ◌<◌}
 use Rattle.command_checks.proofs.Each.{each_more, each_ends}
 use Rattle.command_checks.proofs.WeightedTerms.{term_goes, term_ends, weighted_more}
 use Rattle.command_checks.proofs.terms.leaves_of.Goals as goal

@@ -1,7 +1,6 @@
-use Rattle.csv_rows.proofs.Imports.{arith, nat_eq, length-drop}
+use Rattle.csv_rows.proofs.Imports.{arith, nat_eq, length-drop, common_steps}
 use Rattle.csv_rows.proofs.Counts.{quote_found, end_found, no_end_found}
 use Rattle.csv_rows.proofs.count.behind_fields.Goals as goal
-use Rattle.std.proofs.lemmas.Grind.{common_steps}
 
 pub overflow_add-end : goal.overflow_add-end
 overflow_add-end c = omega (arith, c.in-Some.ensures.0.high)

@@ -1,7 +1,6 @@
-use Rattle.csv_rows.proofs.Imports.{arith}
+use Rattle.csv_rows.proofs.Imports.{arith, common_steps}
 use Rattle.csv_rows.proofs.PlainLines.{no_rows, record_rows}
 use Rattle.csv_rows.proofs.count.behind_record.Goals as goal
-use Rattle.std.proofs.lemmas.Grind.{common_steps}
 
 pub returns-then-is_empty-clause-none : goal.returns-then-is_empty-clause-none
 returns-then-is_empty-clause-none c = grind (arith, common_steps, no_rows)

@@ -1,8 +1,7 @@
-use Rattle.csv_rows.proofs.Imports.{arith, leaves}
+use Rattle.csv_rows.proofs.Imports.{arith, leaves, common_steps}
 use Rattle.csv_rows.proofs.ColumnNames.{column_names}
 use Rattle.csv_rows.proofs.PrintedAgain.{view_again}
 use Rattle.csv_rows.proofs.laws.printed_loads.Goals as goal
-use Rattle.std.proofs.lemmas.Grind.{common_steps}
 
 pub returns : goal.returns
 returns c = grind (arith, common_steps, leaves, column_names, view_again)

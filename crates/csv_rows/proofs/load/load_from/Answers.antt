@@ -1,7 +1,6 @@
-use Rattle.csv_rows.proofs.Imports.{rules, ◌≡◌, ◌<◌, ◌∙◌, List, ℕ, [], ◌∷◌, ap, sym, length, arith, true, false, inr, Err, length-map, texts_of, header_record, MissingColumn}
+use Rattle.csv_rows.proofs.Imports.{rules, ◌≡◌, ◌<◌, ◌∙◌, List, ℕ, [], ◌∷◌, ap, sym, length, arith, true, false, inr, Err, length-map, texts_of, header_record, MissingColumn, common_steps}
 use Rattle.csv_rows.proofs.Tables.{IsKnown, header_refused, no_header, dataset_loaded, dataset_refused, dataset_keeps}
 use Rattle.csv_rows.proofs.load.load_from.Goals as goal
-use Rattle.std.proofs.lemmas.Grind.{common_steps}
 
 pub returns-in_err-columns-clause-refused : goal.returns-in_err-columns-clause-refused
 returns-in_err-columns-clause-refused g c =

@@ -1,8 +1,7 @@
-use Rattle.csv_rows.proofs.Imports.{rules, ◌≡◌, ◌∙◌, refl, sym, arith, true, Err, inr, kept_row, kept_of}
+use Rattle.csv_rows.proofs.Imports.{rules, ◌≡◌, ◌∙◌, refl, sym, arith, true, Err, inr, kept_row, kept_of, common_steps}
 use Rattle.csv_rows.proofs.Accesses.{no_row_stored}
 use Rattle.csv_rows.proofs.Tables.{Loading, next_left, row_loaded, rows_loaded, rows_written, row_refused}
 use Rattle.csv_rows.proofs.load.load_records.Goals as goal
-use Rattle.std.proofs.lemmas.Grind.{common_steps}
 
 pub loop-records-init : goal.loop-records-init
 loop-records-init g c =

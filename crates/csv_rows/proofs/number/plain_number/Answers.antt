@@ -1,7 +1,6 @@
-use Rattle.csv_rows.proofs.Imports.{rules, arith, ◌≡◌, ◌<◌, neg_ℤ, drop, length, get_or, nat_tests, to_z-of_z, take_rest, IsFieldHere}
+use Rattle.csv_rows.proofs.Imports.{rules, arith, ◌≡◌, ◌<◌, neg_ℤ, drop, length, get_or, nat_tests, to_z-of_z, take_rest, IsFieldHere, common_steps}
 use Rattle.csv_rows.proofs.PlainNumbers.{plain_read, minus_field, minus_read}
 use Rattle.csv_rows.proofs.number.plain_number.Goals as goal
-use Rattle.std.proofs.lemmas.Grind.{common_steps}
 
 pub returns-then-bytes-eq45-clause-field : goal.returns-then-bytes-eq45-clause-field
 returns-then-bytes-eq45-clause-field c =

@@ -1,7 +1,6 @@
-use Rattle.csv_rows.proofs.Imports.{arith, option_map, to_z-of_z, take_rest}
+use Rattle.csv_rows.proofs.Imports.{arith, option_map, to_z-of_z, take_rest, common_steps}
 use Rattle.csv_rows.proofs.PlainNumbers.{given_fits, minus_number}
 use Rattle.csv_rows.proofs.number.signed_number.Goals as goal
-use Rattle.std.proofs.lemmas.Grind.{common_steps}
 
 pub returns-then-first-eq45 : goal.returns-then-first-eq45
 returns-then-first-eq45 c = grind (arith, common_steps, option_map, take_rest, given_fits, to_z-of_z, minus_number)

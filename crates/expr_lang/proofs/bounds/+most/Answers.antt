@@ -1,7 +1,6 @@
-use Rattle.expr_lang.proofs.Imports.{arith, length, ap, Link, within_front, within_links, within_rest, no_deeper}
+use Rattle.expr_lang.proofs.Imports.{arith, length, ap, Link, within_front, within_links, within_rest, no_deeper, common_steps}
 use Rattle.expr_lang.proofs.MostSoFar.{more, ended}
 use Rattle.expr_lang.proofs.bounds.+most.Goals as goal
-use Rattle.std.proofs.lemmas.Grind.{common_steps}
 
 pub chain_most-operand_most-requires : goal.chain_most-operand_most-requires
 chain_most-operand_most-requires t c = grind (arith, common_steps, within_front)

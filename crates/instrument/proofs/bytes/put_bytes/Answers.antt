@@ -1,15 +1,14 @@
-use Rattle.instrument.proofs.Imports.{rules, arith, ◌≡◌, ◌<◌, ◌∙◌, ℕ, IsErr, length, sym, ap, subst, List, flat_map, take, ◌++◌, ◌+◌, Err, refl, enumerate_from, Puts-loop_err, Puts-loop_ok, Puts-append, bits_of, Puts, HasPut, flat_map_push, Failed, bytes_of, byte_text}
+use Rattle.instrument.proofs.Imports.{rules, arith, ◌≡◌, ◌<◌, ◌∙◌, ℕ, length, sym, ap, subst, List, flat_map, take, ◌++◌, ◌+◌, Err, refl, enumerate_from, Puts-loop_err, Puts-loop_ok, Puts-append, bits_of, Puts, HasPut, flat_map_push, Failed, bytes_of, byte_text, common_steps}
 use Rattle.instrument.proofs.Entries.{byte_entry, entry_within, entries_over}
 use Rattle.instrument.proofs.bytes.put_bytes.Goals as goal
 
 pub returns-in_err-put_byte : goal.returns-in_err-put_byte
 returns-in_err-put_byte g c =
     let bytes = c.args.blob.now in
-    let err : IsErr c.from_residual.result = search rules in
     let small : c.loop-at.at < length bytes = omega arith in
     let entry = byte_entry bytes c.loop-at.at c.get.result small (search rules) c.get.ensures in
     let stop = subst (λ (e : ℕ × ℕ). Puts {T = Unit {0}} {E = Failed} g.K.Sink.taken g.K.Sink.faults c.loop-at.sink c.put_byte.new.sink c.loop-at.buffer c.put_byte.new.buffer (Err c.in_err-put_byte.field-0.0) (byte_text e)) (sym entry) c.in_err-put_byte.ensures in
-    Puts-loop_err c.from_residual.result byte_text (enumerate_from 0 (bytes_of (bits_of bytes))) c.loop-at.at (0, 0) (entry_within bytes c.loop-at.at small) err c.loop-at.invariant stop
+    Puts-loop_err c.from_residual.result byte_text (enumerate_from 0 (bytes_of (bits_of bytes))) c.loop-at.at (0, 0) (entry_within bytes c.loop-at.at small) (search rules) c.loop-at.invariant stop
 
 pub loop-at-preserved : goal.loop-at-preserved
 loop-at-preserved g c =
@@ -23,6 +22,4 @@ loop-at-preserved g c =
     subst (λ (t : List ℕ). HasPut g.K.Sink.taken g.K.Sink.faults c.args.sink.now c.put_byte.new.sink c.args.buffer.now c.put_byte.new.buffer t) text (Puts-append c.loop-at.invariant put)
 
 pub returns : goal.returns
-returns g c =
-    let all = Puts-loop_ok {E = Unit {0}} byte_text (enumerate_from 0 (bytes_of (bits_of c.args.blob.now))) c.loop-at.at (entries_over c.args.blob.now c.loop-at.at (omega arith)) c.loop-at.invariant in
-    record { gathers = all.gathers; bound = all.bound; fits = λ small. (refl, (all.fits small).1, (all.fits small).2); stopped = tt }
+returns g c = grind (arith, common_steps, Puts-loop_ok, enumerate_from, entries_over)

@@ -1,4 +1,4 @@
-use Rattle.instrument.proofs.Imports.{rules, arith, ◌<◌, ◌≤◌, [], IsErr, length, sym, heat_counts, blob_lines}
+use Rattle.instrument.proofs.Imports.{rules, arith, ◌<◌, [], IsErr, length, sym, heat_counts, blob_lines}
 use Rattle.instrument.proofs.Numbered.{numbered-more, numbered-err, numbered-all}
 use Rattle.instrument.proofs.heat_text.put_blobs.Goals as goal
 
@@ -18,5 +18,4 @@ loop-blob-preserved g c =
 pub returns : goal.returns
 returns g c =
     let blobs = (heat_counts c.args.heat.now).blobs in
-    let over : length blobs ≤ c.loop-blob.blob = omega (arith, c.blob_count-blob-end.ensures) in
-    numbered-all blob_lines blobs c.loop-blob.blob over c.loop-blob.invariant
+    numbered-all blob_lines blobs c.loop-blob.blob (omega (arith, c.blob_count-blob-end.ensures)) c.loop-blob.invariant

@@ -11,6 +11,5 @@ returns-in_err-put_parts g c =
 
 pub returns : goal.returns
 returns g c =
-    let names = texts_of (schema_fields c.args.schema.now) in
     subst (λ (text : List ℕ). Puts {T = Unit {0}} {E = Failed} g.K.Sink.taken g.K.Sink.faults c.args.sink.now c.put_owner.new.sink c.args.buffer.now c.put_owner.new.buffer c.put_owner.result text)
-    (run_parts names c.args.run.now) (Puts-append c.in_ok-put_parts.ensures c.put_owner.ensures)
+    (run_parts (texts_of (schema_fields c.args.schema.now)) c.args.run.now) (Puts-append c.in_ok-put_parts.ensures c.put_owner.ensures)

@@ -1,10 +1,9 @@
-use Rattle.lane_kernels.proofs.Imports.{rules, ◌≡◌, ◌+◌, ◌-◌, ◌*◌, Err, length, take, ℕ, List, ap, sym, ◌∙◌, arith, length-take, indices, cost, row_cost}
+use Rattle.lane_kernels.proofs.Imports.{rules, ◌≡◌, ◌+◌, ◌-◌, ◌*◌, Err, length, take, ℕ, List, ap, sym, ◌∙◌, arith, length-take, indices, cost, row_cost, common_steps}
 use Rattle.lane_kernels.proofs.Stepping.{IsStep, at_start, step_next, spent_more, spent_most}
 use Rattle.lane_kernels.proofs.Whole.{none_done, none_run, seen_number, seen_rows, more_done, stops}
 use Rattle.lane_kernels.proofs.plain.run_rows.Given as given
 use Rattle.lane_kernels.proofs.plain.run_rows.Goals as goal
 use Rattle.lane_kernels.proofs.plain.run_rows.Goals.{After-count-count, After-step_at-step}
-use Rattle.std.proofs.lemmas.Grind.{common_steps}
 
 -- as many rows as the loop goes through
 count_is : (g : given.Over) (c : goal.After-count-count g) → c.count-count.result ≡ length c.args.view.now.rows

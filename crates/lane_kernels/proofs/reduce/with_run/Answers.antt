@@ -1,9 +1,8 @@
-use Rattle.lane_kernels.proofs.Imports.{◌≡◌, ℤ, [], ◌∷◌, Some, None, FitsSigned, to_z, of_z, map, sym, ap, subst, ◌∙◌, arith, w128, to_z-of_z, raised, reduced_by, with_more, CanAdd}
+use Rattle.lane_kernels.proofs.Imports.{◌≡◌, ℤ, [], ◌∷◌, Some, None, FitsSigned, to_z, of_z, map, sym, ap, subst, ◌∙◌, arith, w128, to_z-of_z, raised, reduced_by, with_more, CanAdd, common_steps}
 use Rattle.lane_kernels.proofs.LeafRuns.{narrow_raised}
 use Rattle.lane_kernels.proofs.Reductions.{none_before, plain_more, joined, narrow_can_add, joined_can_add}
 use Rattle.lane_kernels.proofs.reduce.with_run.Goals as goal
 use Rattle.lane_kernels.proofs.reduce.with_run.Goals.{After-from}
-use Rattle.std.proofs.lemmas.Grind.{common_steps}
 
 pub with_more-requires-2 : goal.with_more-requires-2
 with_more-requires-2 c = grind (arith, common_steps, narrow_can_add)

@@ -1,11 +1,9 @@
-use Rattle.lane_kernels.proofs.Imports.{rules, ◌≡◌, ◌*ℤ◌, ◌+ℤ◌, ℤ, pos, Some, length, take, drop, map, to_z, of_z, w64, SFits, refl, sym, ap, subst, ◌∙◌, int_min, int_max, count_by, unwrap_or, zip2, to_z-of_z, map-id, products_fit, column, compares, fault_in, AreNext, Sum, Least, Greatest, CountWhere}
+use Rattle.lane_kernels.proofs.Imports.{rules, ◌≡◌, ◌*ℤ◌, ◌+ℤ◌, ℤ, pos, Some, length, take, drop, map, to_z, of_z, w64, SFits, refl, sym, ap, subst, ◌∙◌, int_min, int_max, count_by, unwrap_or, zip2, to_z-of_z, map-id, products_fit, column, compares, fault_in, AreNext, Sum, Least, Greatest, CountWhere, common_steps, arith}
 use Rattle.lane_kernels.specs.declared.reduce.Reduction.TheVariants as form
 use Rattle.lane_kernels.proofs.Numbers.{narrow_rows, reduced_more, narrow_sums_fit, count_more, count_fits, count_whole}
 use Rattle.lane_kernels.proofs.Stores.{axpy_taken, clamp_taken, rows_read_alone}
 use Rattle.lane_kernels.proofs.rows.on_rows.Given as given
 use Rattle.lane_kernels.proofs.rows.on_rows.Goals as goal
-use Rattle.std.proofs.lemmas.Grind.{common_steps}
-use Rattle.std.proofs.Common.{arith}
 
 pub times_plus-requires-clause-fit : goal.times_plus-requires-clause-fit
 times_plus-requires-clause-fit g c = grind (arith, common_steps, narrow_rows, to_z-of_z, products_fit)

@@ -1,6 +1,6 @@
 -- what is written so far, and the rows that are left, are all
 use Rattle.layout_cli.proofs.Imports.{◌≡◌, ◌++◌, ◌-◌, range_with_len, row_text, dataset_text}
-use Rattle.std.specs.List.{flat_map}
+use Rattle.record_dim.specs.Std.{flat_map}
 use Rattle.layout_cli.proofs.dataset.gen_dataset.Given as goal
 
 abbrev pub invariant-loop-row : goal.invariant-loop-row

@@ -1,9 +1,11 @@
-use Rattle.layout_copy.proofs.Imports.{rules, ◌∙◌, sym, subst, Strategy, Table, after_log-none, AreAlike, IsWay}
+use Rattle.layout_copy.proofs.Imports.{rules, ◌∙◌, sym, Table, after_log-none, AreAlike}
 use Rattle.map_any.specs.declared.strategy.Strategy.TheVariants as way
 use Rattle.layout_copy.proofs.WayLaws.{moved_way}
 use Rattle.layout_copy.proofs.Whole.{fields_steps, blobs_copied, runs_copied, runs_back}
 use Rattle.layout_copy.proofs.copies.copy.Goals as goal
 use Rattle.layout_copy.proofs.copies.copy.Goals.{in-Blobs, in-Runs}
+use Rattle.std.proofs.lemmas.Grind.{common_steps}
+use Rattle.std.proofs.Common.{arith}
 
 pub returns-then-not-are_alike-clause-source : goal.returns-then-not-are_alike-clause-source
 returns-then-not-are_alike-clause-source g c = sym (after_log-none c.args.source.now)
@@ -15,18 +17,10 @@ pub move_blobs-requires-clause-modes : goal.move_blobs-requires-clause-modes
 move_blobs-requires-clause-modes g c = (moved_way c.args.source.now c.args.target.now c.way_of-strategy.result way.Blobs c.in-Blobs.is (λ e. cc) c.way_of-strategy.ensures).0
 
 pub copy_runs-requires-clause-arrays : goal.copy_runs-requires-clause-arrays
-copy_runs-requires-clause-arrays g c =
-    let source : Table = c.args.source.now in
-    let target : Table = c.args.target.now in
-    runs_back source.mapping target.mapping (moved_way source target c.way_of-strategy.result way.Runs c.in-Runs.is (λ e. cc) c.way_of-strategy.ensures).1.1
+copy_runs-requires-clause-arrays g c = grind (arith, common_steps, runs_back, moved_way)
 
 pub returns-in-Fields-clause-steps : goal.returns-in-Fields-clause-steps
-returns-in-Fields-clause-steps g c =
-    let source : Table = c.args.source.now in
-    let target : Table = c.args.target.now in
-    let alike : AreAlike source target = search rules in
-    let fields : IsWay source target way.Fields = subst (λ (s : Strategy). IsWay source target s) c.in-Fields.is c.way_of-strategy.ensures in
-    fields_steps source target c.args.steps.now c.copy_fields.new.steps c.laws_of_table.ensures.table alike fields c.copy_fields.ensures.steps
+returns-in-Fields-clause-steps g c = grind (arith, common_steps, fields_steps)
 
 pub returns-clause-copied : goal.returns-clause-copied
 returns-clause-copied g c =

@@ -1,7 +1,8 @@
-use Rattle.layout_copy.proofs.Imports.{rules, arith, ◌≡◌, ◌<◌, ◌∙◌, ◌+◌, ℕ, List, length, refl, ap, sym, indices, leaf_count_of, after_log-none, Read, row_accesses}
+use Rattle.layout_copy.proofs.Imports.{arith, ◌≡◌, ◌<◌, ◌∙◌, ℕ, List, length, refl, ap, sym, indices, leaf_count_of, after_log-none}
 use Rattle.layout_copy.proofs.Rows.{reads_after, row_read, none_copied, row_copied, row_refused, steps_more}
 use Rattle.layout_copy.proofs.Whole.{rows_copied}
 use Rattle.layout_copy.proofs.fieldwise.copy_fields.Goals as goal
+use Rattle.std.proofs.lemmas.Grind.{common_steps}
 
 pub returns-then-may_go_by_runs-clause-copied : goal.returns-then-may_go_by_runs-clause-copied
 returns-then-may_go_by_runs-clause-copied g c =
@@ -11,27 +12,13 @@ returns-then-may_go_by_runs-clause-copied g c =
 pub returns-in-Some-clause-copied : goal.returns-in-Some-clause-copied
 returns-in-Some-clause-copied g c =
     let source = c.args.source.now in
-    let rows : length (indices c.extents.result) ≡ length source.rows = ap (λ (e : List ℕ). length (indices e)) c.extents.ensures.value ∙ sym c.extents.ensures.table.rows in
-    let small : c.loop-row.row < length source.rows = omega (arith, c.loop-row-test.true, c.count-row-end.ensures.rows, rows) in
-    let refused = sym (rw c.loop-row.invariant.source at c.in-Some.ensures.refused) in (
-      c.requires.alike,
-      row_refused source c.args.target.now c.loop-row.target c.loop-row.row c.in-Some.leaf small c.loop-row.invariant.copied refused,
-      c.in-Some.ensures.kept ∙ c.loop-row.invariant.copied.same,
-    )
+    grind (arith, row_refused)
 
 pub returns-in-Some-clause-source : goal.returns-in-Some-clause-source
-returns-in-Some-clause-source g c =
-    let source = c.args.source.now in
-    let row = c.loop-row.row in
-    reads_after source c.loop-row.source c.copy_row.new.source (leaf_count_of source) row (row_accesses Read (c.in-Some.leaf + 1) row) c.loop-row.invariant.source c.in-Some.ensures.some_read
+returns-in-Some-clause-source g c = grind (arith, common_steps, reads_after)
 
 pub loop-row-init : goal.loop-row-init
-loop-row-init g c = record {
-  source = sym (after_log-none c.args.source.now);
-  values = search rules;
-  copied = none_copied c.args.source.now c.args.target.now;
-  steps = omega arith;
-}
+loop-row-init g c = grind (arith, common_steps, after_log-none, none_copied)
 
 pub loop-row-preserved : goal.loop-row-preserved
 loop-row-preserved g c =

@@ -1,10 +1,10 @@
 use Rattle.layout_copy.proofs.Imports.{◌≡◌, ◌∙◌, ℕ, List, length, sym, ap, subst, arith, indices, CountsNothing, nothing_after, AllTake}
 use Rattle.layout_copy.proofs.RowRuns.{alike_after, all_before}
 use Rattle.layout_copy.proofs.row_runs.copy_row_runs.Goals as goal
+use Rattle.std.proofs.lemmas.Grind.{common_steps}
 
 pub copy_leaves-requires-clause-alike : goal.copy_leaves-requires-clause-alike
-copy_leaves-requires-clause-alike g c =
-    alike_after c.args.source.now c.args.target.now c.loop-first.source c.loop-first.target c.requires.alike c.loop-first.invariant.source c.loop-first.invariant.same
+copy_leaves-requires-clause-alike g c = grind (arith, common_steps, alike_after)
 
 pub copy_leaves-requires-clause-from : goal.copy_leaves-requires-clause-from
 copy_leaves-requires-clause-from g c = subst CountsNothing (sym c.loop-first.invariant.source) c.requires.from

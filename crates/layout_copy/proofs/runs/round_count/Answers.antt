@@ -1,9 +1,8 @@
-use Rattle.layout_copy.proofs.Imports.{◌≡◌, ◌∙◌, ◌+◌, ◌*◌, ◌%◌, ℕ, ap, arith, min}
+use Rattle.layout_copy.proofs.Imports.{◌∙◌, ◌+◌, ◌%◌, ℕ, ap, arith, min}
 use Rattle.layout_copy.proofs.CostLaws.{multiple_on}
 use Rattle.layout_copy.proofs.runs.round_count.Goals as goal
 
 pub returns-clause-whole : goal.returns-clause-whole
 returns-clause-whole c = λ more whole.
     let lanes : ℕ = min c.args.from.lanes c.args.to.lanes in
-    let is : c.min.result ≡ 64 * lanes = omega (arith, more) in
-    ap (λ (n : ℕ). (c.args.slot + n) % lanes) is ∙ multiple_on c.args.slot 64 lanes whole
+    ap (λ (n : ℕ). (c.args.slot + n) % lanes) (omega (arith, more)) ∙ multiple_on c.args.slot 64 lanes whole

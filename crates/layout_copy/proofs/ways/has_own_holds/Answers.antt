@@ -1,14 +1,11 @@
-use Rattle.layout_copy.proofs.Imports.{rules, arith, ◌≡◌, ◌<◌, ◌≤◌, ◌∙◌, ⊎_elim, ℕ, List, length, Some, sym, ap, subst, slice_get, cases_lt, length-map, Leaf, leaves, kinds_of, Fields, Cell, Hold, hold_at, length-leaf_cells, IsOwn, kind_at, leaf_types_of, table_holds}
+use Rattle.layout_copy.proofs.Imports.{rules, arith, ◌≡◌, ◌<◌, ◌∙◌, ⊎_elim, List, length, Some, sym, ap, slice_get, cases_lt, length-map, Leaf, leaves, kinds_of, Fields, Hold, length-leaf_cells, leaf_types_of, table_holds}
 use Rattle.layout_copy.proofs.WayLaws.{own_read, read_own}
 use Rattle.layout_copy.proofs.ways.has_own_holds.Goals as goal
 use Rattle.layout_copy.proofs.ways.has_own_holds.Goals.{After-of}
+use Rattle.std.proofs.lemmas.Grind.{common_steps}
 
 pub hold-requires : goal.hold-requires
-hold-requires c =
-    let view = c.args.view.now in
-    let cells = ap (λ (cs : List Cell). length cs) c.map-map.ensures.cells in
-    let count = ap (λ (f : Fields). length (leaves f)) c.schema-schema.ensures.value in
-    omega (arith, cells, count, length-leaf_cells (leaf_types_of view), length-map (leaves view.fields) (λ (one : Leaf). one.kind))
+hold-requires c = grind (arith, common_steps, leaves, length-leaf_cells, length-map)
 
 -- what is read at a leaf, as the lists of the view have it
 kind_is : (c : After-of) → slice_get (leaf_types_of c.args.view.now) c.loop-leaf.leaf ≡ Some c.leaf_type.result
@@ -27,8 +24,6 @@ returns-then-ne c =
       λ is. absurd (cc is),
       λ own.
           let both = read_own (leaf_types_of view) (table_holds view) leaf c.leaf_type.result c.hold.result c.of.result (kind_is here) (hold_is here) c.of.ensures (own leaf inside) in
-          let signed : c.hold.result.signed ≡ c.of.result.signed = both.0 in
-          let width : c.hold.result.width ≡ c.of.result.width = both.1 in
           search rules,
     )
 
@@ -39,9 +34,4 @@ loop-leaf-preserved c =
     let signed : c.hold.result.signed ≡ c.of.result.signed = search rules in
     let width : c.hold.result.width ≡ c.of.result.width = search rules in
     let own = own_read (leaf_types_of view) (table_holds view) c.loop-leaf.leaf c.leaf_type.result c.hold.result c.of.result (kind_is here) (hold_is here) c.of.ensures signed width in
-    λ leaf below.
-    ⊎_elim (λ (less : leaf < c.loop-leaf.leaf). c.loop-leaf.invariant leaf less)
-    (λ (more : c.loop-leaf.leaf ≤ leaf).
-    let same : c.loop-leaf.leaf ≡ leaf = omega (arith, below, more) in
-    subst (λ (l : ℕ). IsOwn (kind_at (leaf_types_of view) l) (hold_at (table_holds view) l)) same own)
-    (cases_lt leaf c.loop-leaf.leaf)
+    grind (arith, ⊎_elim, cases_lt)

@@ -1,6 +1,5 @@
-use Rattle.std.proofs.Common.{rules, ◌≡◌, length, arith}
-use Rattle.record_dim.specs.Leaves.{leaves}
-use Rattle.record_dim.specs.Schemas.{schema_fields}
+use Rattle.record_dim.specs.Std.{rules, ◌≡◌, length, arith}
+use Rattle.record_dim.specs.Prelude.{leaves, schema_fields}
 use Rattle.record_dim.specs.declared.leaf_type.LeafType.TheVariants.{U32}
 use Rattle.layout_tests.proofs.CopySteps.{one_leaf}
 use Rattle.layout_tests.proofs.copies.is_one_leaf.Goals as goal

@@ -1,5 +1,5 @@
 -- the view lies as at first, in the same mode
-use Rattle.std.proofs.Common.{◌≡◌}
+use Rattle.record_dim.specs.Std.{◌≡◌}
 use Rattle.layout_tests.proofs.tables.number.Given as goal
 
 abbrev pub invariant-loop-row : goal.invariant-loop-row

@@ -1,11 +1,11 @@
-use Rattle.std.proofs.Common.{◌≡◌, ℕ, Bool, refl, ap, sym, ◌∙◌, subst, arith, length, List, [], get_or}
-use Rattle.places.specs.Layout.{Owner}
+use Rattle.record_dim.specs.Std.{◌≡◌, ℕ, Bool, refl, ap, sym, ◌∙◌, subst, arith, length, List, [], get_or}
+use Rattle.places.specs.Prelude.{Owner}
 use Rattle.places.specs.declared.piece.Hold.{Hold}
-use Rattle.leaf_places.specs.Inner.Search.{place_in}
 use Rattle.leaf_places.specs.Spots.{IsForm}
 use Rattle.leaf_places.proofs.Leading.{blob_within, sought_some}
 use Rattle.leaf_places.proofs.Placing.{along_of, cell_in, hold_of, owned_so, placed, sought_of}
 use Rattle.leaf_places.proofs.find.places_sought.Goals as goal
+use Rattle.record_dim.specs.Std.{common_steps}
 
 pub hold-hold-requires : goal.hold-hold-requires
 hold-hold-requires c = cell_in c.args.view.now c.args.leaf _ c.map-map.ensures.cells c.requires.leaf_in
@@ -13,16 +13,12 @@ hold-hold-requires c = cell_in c.args.view.now c.args.leaf _ c.map-map.ensures.c
 pub returns-then-not-is_form-clause-told : goal.returns-then-not-is_form-clause-told
 returns-then-not-is_form-clause-told c places are even bits turned none =
     let hold = hold_of c.args.view.now c.args.leaf c.hold-hold.result _ c.map-map.ensures.holds c.hold-hold.ensures in
-    let wide : places.width ≡ c.hold-hold.result.width = are.wide ∙ ap (λ (h : Hold). h.width) (sym hold) in
-    let form = subst (λ (w : ℕ). IsForm c.args.in_bits c.args.is_turned w) wide
+    let form = subst (λ (w : ℕ). IsForm c.args.in_bits c.args.is_turned w) (are.wide ∙ ap (λ (h : Hold). h.width) (sym hold))
     (subst (λ (t : Bool). IsForm c.args.in_bits t places.width) turned (subst (λ (b : Bool). IsForm b places.is_turned places.width) bits are.form)) in
-    let due = c.is_form.ensures.no form in
-    absurd (cc (due, c.if-not-is_form.true))
+    absurd (cc ((c.is_form.ensures.no form), c.if-not-is_form.true))
 
 pub groups_sought-requires-clause-sought : goal.groups_sought-requires-clause-sought
-groups_sought-requires-clause-sought c =
-    sought_of c.args.view.now c.args.leaf c.hold-hold.result _ c.map-map.ensures.holds c.hold-hold.ensures c.args.is_turned c.args.in_bits
-    (omega (arith, cell_in c.args.view.now c.args.leaf _ c.map-map.ensures.cells c.requires.leaf_in, c.laws_of.ensures.paired)) (c.if-not-is_form.ensures.yes refl)
+groups_sought-requires-clause-sought c = grind (arith, common_steps, sought_of, cell_in)
 
 pub returns-in_err-groups-clause-told : goal.returns-in_err-groups-clause-told
 returns-in_err-groups-clause-told c places are even bits turned none =
@@ -49,6 +45,4 @@ returns-clause-places c =
     (hold_of c.args.view.now c.args.leaf c.hold-hold.result _ c.map-map.ensures.holds c.hold-hold.ensures) refl refl
     (omega (arith, inside, ap (length {A = List Owner}) c.map-map.ensures.layout))
     (c.blob_bytes.ensures ∙ ap (λ (l : List (List Owner)). length (get_or l c.in_ok-groups.groups.blob [])) c.map-map.ensures.layout) c.in_ok-groups.groups.some (c.if-not-is_form.ensures.yes refl)
-    (owned_so c.args.view.now c.args.leaf _ c.map-map.ensures.layout _ c.map-map.ensures.slots
-    (record { leaf = c.args.leaf; width = c.hold-hold.result.width; is_turned = c.args.is_turned; in_bits = c.args.in_bits }) refl c.in_ok-groups.groups.blob
-    (place_in c.in_ok-groups.groups) c.in_ok-groups.ensures.stand)
+    (grind (arith, owned_so))

@@ -1,8 +1,8 @@
-use Rattle.std.proofs.Common.{◌≡◌, Bool, refl, ap, sym, ◌∙◌, subst, arith, length, List, [], get_or}
+use Rattle.record_dim.specs.Std.{◌≡◌, Bool, refl, ap, sym, ◌∙◌, subst, arith, length, List, [], get_or}
 use Rattle.extents.specs.Indices.{indices}
-use Rattle.places.specs.Layout.{Owner}
+use Rattle.places.specs.Prelude.{Owner}
 use Rattle.piece_bits.specs.declared.word.Word.TheVariants.{Scattered}
-use Rattle.leaf_places.specs.Inner.Placing.{is_field, turns}
+use Rattle.leaf_places.specs.Inner.Placing.{is_field}
 use Rattle.leaf_places.specs.Spots.{IsForm}
 use Rattle.leaf_places.proofs.Placing.{cell_in, hold_of, listed, placed, told_so}
 use Rattle.leaf_places.proofs.Shorts.{short_form, short_owned}
@@ -19,10 +19,7 @@ returns c =
     let leaf = c.args.leaf in
     let short = c.short.result.now.short in
     let hold = c.hold-hold.result in
-    let alone : short.word ≡ Scattered → ⊥ = λ e. elim c.match-matches.branch [
-      | in-Scattered w ↦ cc
-      | in_default w ↦ w.in_default.not-Scattered e
-    ] in
+    let alone : short.word ≡ Scattered → ⊥ = grind (arith, in-Scattered, in_default) in
     let are = c.in_ok-groups.ensures in
     let is = c.short.ensures.form are.leads in
     let list = listed table leaf hold _ map.holds c.hold-hold.ensures in
@@ -35,5 +32,4 @@ returns c =
     (omega (arith, c.if-blob-blob_count.false, c.blob_count.ensures, ap (length {A = List Owner}) map.layout))
     (c.blob_bytes.ensures ∙ ap (λ (l : List (List Owner)). length (get_or l short.blob [])) map.layout) are.some
     (subst (λ (b : Bool). IsForm b c.is_turned.result hold.width) (sym c.is_field.ensures) (subst (λ (t : Bool). IsForm (is_field short.word) t hold.width) (sym c.is_turned.ensures) form))
-    (λ row k inside below. told_so _ _ (turns short.word) c.is_turned.result (is_field short.word) c.is_field.result short.blob _ hold.width row leaf k map.layout c.is_turned.ensures
-    c.is_field.ensures (owned row k (omega (arith, inside, map.slots)) below))
+    (λ row k inside below. grind (arith, told_so))

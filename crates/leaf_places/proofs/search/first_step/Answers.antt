@@ -1,4 +1,4 @@
-use Rattle.std.proofs.Common.{◌≡◌, ◌+◌, ◌<◌, arith}
+use Rattle.record_dim.specs.Std.{◌≡◌, ◌+◌, ◌<◌, arith}
 use Rattle.leaf_places.proofs.Leading.{some_later}
 use Rattle.leaf_places.proofs.search.first_step.Goals as goal
 

@@ -1,4 +1,4 @@
-use Rattle.std.proofs.Common.{refl}
+use Rattle.record_dim.specs.Std.{refl}
 use Rattle.leaf_places.proofs.search.one_group.Goals as goal
 
 pub returns-in_err-first : goal.returns-in_err-first

@@ -1,4 +1,4 @@
-use Rattle.std.proofs.Common.{refl, below_more}
+use Rattle.record_dim.specs.Std.{refl, below_more}
 use Rattle.leaf_places.proofs.search.rows_led.Goals as goal
 
 pub returns-then-not-is_led-clause-led : goal.returns-then-not-is_led-clause-led

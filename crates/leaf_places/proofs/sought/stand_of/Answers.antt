@@ -1,5 +1,5 @@
-use Rattle.std.proofs.Common.{List, map, slice_index, refl, sym, ◌∙◌, subst, arith}
-use Rattle.places.specs.Lawful.{IsLocated}
+use Rattle.record_dim.specs.Std.{List, map, slice_index, refl, sym, ◌∙◌, subst, arith}
+use Rattle.places.specs.Prelude.{IsLocated}
 use Rattle.places.specs.declared.piece.Piece.{Piece}
 use Rattle.places.specs.declared.piece.Hold.{Hold}
 use Rattle.leaf_places.proofs.Leading.{some_bits, as_many, stands_so, from_first, all_from, none_some, place_same}

@@ -1,7 +1,6 @@
-use Rattle.std.proofs.Common.{◌≡◌, ◌+◌, length, take, get_or, refl, sym, ap, ◌∙◌, arith, ℕ}
+use Rattle.record_dim.specs.Std.{◌+◌, length, take, get_or, refl, sym, ap, ◌∙◌, arith, ℕ}
 use Rattle.places.specs.declared.piece.Piece.{Piece}
-use Rattle.piece_bits.specs.Inner.Spots.{spots_of, spot_at}
-use Rattle.piece_bits.specs.SpotsOfLaws.{IsNext, nowhere, next_piece}
+use Rattle.piece_bits.specs.Prelude.{spots_of, spot_at, IsNext, nowhere, next_piece}
 use Rattle.leaf_places.proofs.spot.spot_in.Goals as goal
 use Rattle.leaf_places.proofs.spot.spot_in.Goals.{In-loop-piece}
 
@@ -15,11 +14,9 @@ pub returns-then-left-piece : goal.returns-then-left-piece
 returns-then-left-piece c =
     let d = (goal.at.returns-then-left-piece c).In-loop-piece in
     let piece : Piece = get_or c.args.pieces.now c.loop-piece.piece-index nowhere in
-    let place : c.args.k ≡ done d + c.loop-piece.left = omega (arith, c.loop-piece.invariant) in
-    ap (spot_at (spots_of c.args.pieces.now)) place ∙ (next d).at c.loop-piece.left c.if-left-piece.true
+    ap (spot_at (spots_of c.args.pieces.now)) (omega (arith, c.loop-piece.invariant)) ∙ (next d).at c.loop-piece.left c.if-left-piece.true
     ∙ ap (λ (n : ℕ). (piece.blob, piece.bit + n)) (sym c.from.ensures)
 
 pub loop-piece-preserved : goal.loop-piece-preserved
 loop-piece-preserved c =
-    let d = (goal.at.loop-piece-preserved c).In-loop-piece in
-    omega (arith, c.loop-piece.invariant, (next d).more, c.if-left-piece.false)
+    omega (arith, c.loop-piece.invariant, (next ((goal.at.loop-piece-preserved c).In-loop-piece)).more, c.if-left-piece.false)

@@ -1,6 +1,6 @@
 -- the bits of the pieces so far are behind
-use Rattle.std.proofs.Common.{◌≡◌, ◌+◌, length, take}
-use Rattle.piece_bits.specs.Inner.Spots.{spots_of}
+use Rattle.record_dim.specs.Std.{◌≡◌, ◌+◌, length, take}
+use Rattle.piece_bits.specs.Prelude.{spots_of}
 use Rattle.leaf_places.proofs.spot.spot_in.Given as goal
 
 abbrev pub invariant-loop-piece : goal.invariant-loop-piece

@@ -1,5 +1,5 @@
 -- the rest is shorter
-use Rattle.std.proofs.Common.{length}
+use Rattle.record_dim.specs.Std.{length}
 use Rattle.line_grammar.proofs.items.+operator_in.Given as goal
 
 abbrev pub decreases-operator_in : goal.decreases-operator_in

@@ -1,8 +1,7 @@
-use Rattle.std.proofs.Common.{[], Some, sym, refl, append-nil, arith}
+use Rattle.record_dim.specs.Std.{[], Some, sym, refl, append-nil, arith, common_steps}
 use Rattle.line_tokens.specs.Spots.{Spots}
 use Rattle.line_tokens.specs.SpotLaws.{brackets_after-le, Spots-last, Spots-more, same_spots, spot_at, spots_inside}
 use Rattle.line_tokens.proofs.spots.spots_of.Goals as goal
-use Rattle.std.proofs.lemmas.Grind.{common_steps}
 
 pub returns-in-End : goal.returns-in-End
 returns-in-End c =

@@ -1,4 +1,4 @@
-use Rattle.std.proofs.Common.{◌-◌, ◌≤◌, ◌++◌, List, length}
+use Rattle.record_dim.specs.Std.{◌-◌, ◌≤◌, ◌++◌, List, length}
 use Rattle.line_tokens.specs.Spots.{Spots}
 use Rattle.line_tokens.specs.declared.spots.Spot.{Spot}
 use Rattle.line_tokens.proofs.spots.spots_of.Given as goal

@@ -1,5 +1,4 @@
-use Rattle.std.proofs.Common.{◌≡◌, arith}
-use Rattle.std.proofs.lemmas.Grind.{common_steps}
+use Rattle.record_dim.specs.Std.{◌≡◌, arith, common_steps}
 use Rattle.line_tokens.specs.Next.{next_of}
 use Rattle.line_tokens.specs.NextTokenLaws.{end_exactly, bad_exactly, token_exactly, number_value, next_inside}
 use Rattle.line_tokens.proofs.token.next_token.Goals as goal

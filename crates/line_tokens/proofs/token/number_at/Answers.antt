@@ -1,4 +1,4 @@
-use Rattle.std.specs.Char.{is_ascii_digit}
+use Rattle.record_dim.specs.Std.{is_ascii_digit}
 use Rattle.line_tokens.specs.DecimalLaws.{AllPass-take_prefix_len}
 use Rattle.line_tokens.proofs.token.number_at.Goals as goal
 

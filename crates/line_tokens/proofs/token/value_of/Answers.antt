@@ -1,8 +1,6 @@
-use Rattle.std.proofs.Common.{arith}
-use Rattle.std.proofs.lemmas.Bool.Decides.{nat_tests}
+use Rattle.record_dim.specs.Std.{arith, nat_tests, common_steps}
 use Rattle.line_tokens.specs.DecimalLaws.{digit_range, digits_more, digits_pass}
 use Rattle.line_tokens.proofs.token.value_of.Goals as goal
-use Rattle.std.proofs.lemmas.Grind.{common_steps}
 
 pub returns-then-value : goal.returns-then-value
 returns-then-value c =

@@ -1,8 +1,6 @@
-use Rattle.line_writer.proofs.Imports.{the_lemmas, tree_of, fields_of}
+use Rattle.line_writer.proofs.Imports.{the_lemmas, tree_of, fields_of, common_steps, arith}
 use Rattle.line_writer.proofs.Behind.{fields_begun, fields_more}
 use Rattle.line_writer.proofs.record.+record.Goals as goal
-use Rattle.std.proofs.lemmas.Grind.{common_steps}
-use Rattle.std.proofs.Common.{arith}
 
 pub write_fields-loop-later-init : goal.write_fields-loop-later-init
 write_fields-loop-later-init t c = grind (arith, common_steps, fields_of, tree_of, the_lemmas, fields_begun)

@@ -17,5 +17,4 @@ returns c =
     let eights = pair_more 8 0x0f_00ff 0x000f_00ff_000f_00ff first refl (omega arith) (omega arith) refl in
     let fours = pair_more 4 0x0f_0f0f 0x000f_0f0f_000f_0f0f eights refl (omega arith) (omega arith) refl in
     let twos = pair_more 2 0x33_3333 0x0033_3333_0033_3333 fours refl (omega arith) (omega arith) refl in
-    let ones = pair_more 1 0x55_5555 0x0055_5555_0055_5555 twos refl (omega arith) (omega arith) refl in
-    pair_last ones refl refl
+    pair_last (pair_more 1 0x55_5555 0x0055_5555_0055_5555 twos refl (omega arith) (omega arith) refl) refl refl

@@ -4,9 +4,6 @@ use Rattle.linearize.proofs.digits.spread_by_two.Goals as goal
 
 pub returns-clause-digits : goal.returns-clause-digits
 returns-clause-digits c =
-    let first = stage_none 12 c.args.component c.requires (omega arith) in
-    let eights = stage_more 8 0x0f_00ff first (omega arith) (omega arith) refl in
-    let fours = stage_more 4 0x0f_0f0f eights (omega arith) (omega arith) refl in
-    let twos = stage_more 2 0x33_3333 fours (omega arith) (omega arith) refl in
-    let ones = stage_more 1 0x55_5555 twos (omega arith) (omega arith) refl in
-    stage_last 2 ones (omega arith) (omega arith) refl
+    let eights = stage_more 8 0x0f_00ff (stage_none 12 c.args.component c.requires (omega arith)) (omega arith) (omega arith) refl in
+    let twos = stage_more 2 0x33_3333 (stage_more 4 0x0f_0f0f eights (omega arith) (omega arith) refl) (omega arith) (omega arith) refl in
+    stage_last 2 (stage_more 1 0x55_5555 twos (omega arith) (omega arith) refl) (omega arith) (omega arith) refl

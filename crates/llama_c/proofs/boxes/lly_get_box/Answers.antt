@@ -1,7 +1,5 @@
-use Rattle.std.proofs.Common.{length}
-use Rattle.c_lines.specs.Boxes.{on_box}
-use Rattle.c_lines.specs.ByRows.{gathered}
-use Rattle.c_lines.specs.Values.{reads_signed}
+use Rattle.record_dim.specs.Std.{length}
+use Rattle.c_lines.specs.Prelude.{on_box, gathered, reads_signed}
 use Rattle.llama_c.proofs.Held.{numbers_given}
 use Rattle.llama_c.proofs.boxes.lly_get_box.Goals as goal
 

@@ -1,8 +1,6 @@
-use Rattle.std.proofs.Common.{rules, Option, ap, ◌∙◌, SFits, w32}
-use Rattle.std.proofs.lemmas.Int.{to_z-of_z}
-use Rattle.views.specs.Tables.{Table}
-use Rattle.c_lines.specs.Answers.{code_of, on_held}
-use Rattle.c_lines.specs.Buffers.{blob_told, buffer_after, needed_after, put_told}
+use Rattle.record_dim.specs.Std.{rules, Option, ap, ◌∙◌, SFits, w32, to_z-of_z}
+use Rattle.views.specs.Prelude.{Table}
+use Rattle.c_lines.specs.Prelude.{code_of, on_held, blob_told, buffer_after, needed_after, put_told}
 use Rattle.llama_c.proofs.buffers.lly_blob.Goals as goal
 
 pub returns-clause-answer : goal.returns-clause-answer

@@ -1,9 +1,6 @@
-use Rattle.std.proofs.Common.{rules, Option, Ok, ap, subst, ◌∙◌, SFits, w32}
-use Rattle.std.specs.Prelude.{IfSome}
-use Rattle.std.proofs.lemmas.Int.{to_z-of_z}
-use Rattle.views.specs.Tables.{Table}
-use Rattle.c_lines.specs.Answers.{code_of, on_held}
-use Rattle.c_lines.specs.Buffers.{buffer_after, lent, needed_after, put_told, ReturnsSame}
+use Rattle.record_dim.specs.Std.{rules, Option, Ok, ap, subst, ◌∙◌, SFits, w32, IfSome, to_z-of_z}
+use Rattle.views.specs.Prelude.{Table}
+use Rattle.c_lines.specs.Prelude.{code_of, on_held, buffer_after, lent, needed_after, put_told, ReturnsSame}
 use Rattle.llama_c.proofs.buffers.lly_lend.Goals as goal
 
 pub returns-clause-answer : goal.returns-clause-answer

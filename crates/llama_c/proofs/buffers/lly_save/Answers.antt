@@ -1,6 +1,5 @@
-use Rattle.std.proofs.Common.{rules, ◌∙◌, SFits, w32}
-use Rattle.std.proofs.lemmas.Int.{to_z-of_z}
-use Rattle.c_lines.specs.Buffers.{file_told}
+use Rattle.record_dim.specs.Std.{rules, ◌∙◌, SFits, w32, to_z-of_z}
+use Rattle.c_lines.specs.Prelude.{file_told}
 use Rattle.llama_c.proofs.Held.{none_put}
 use Rattle.llama_c.proofs.buffers.lly_save.Goals as goal
 

@@ -1,6 +1,5 @@
-use Rattle.std.proofs.Common.{length}
-use Rattle.c_lines.specs.ByRows.{gathered}
-use Rattle.c_lines.specs.Values.{reads_signed}
+use Rattle.record_dim.specs.Std.{length}
+use Rattle.c_lines.specs.Prelude.{gathered, reads_signed}
 use Rattle.llama_c.proofs.Held.{numbers_given}
 use Rattle.llama_c.proofs.by_rows.lly_gather.Goals as goal
 

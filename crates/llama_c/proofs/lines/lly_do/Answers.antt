@@ -1,6 +1,5 @@
-use Rattle.std.proofs.Common.{rules, ◌∙◌, SFits, w32}
-use Rattle.std.proofs.lemmas.Int.{to_z-of_z}
-use Rattle.c_lines.specs.Commands.{is_do}
+use Rattle.record_dim.specs.Std.{rules, ◌∙◌, SFits, w32, to_z-of_z}
+use Rattle.c_lines.specs.Prelude.{is_do}
 use Rattle.llama_c.proofs.Held.{none_line}
 use Rattle.llama_c.proofs.lines.lly_do.Goals as goal
 

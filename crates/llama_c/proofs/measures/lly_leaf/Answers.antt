@@ -1,7 +1,6 @@
-use Rattle.std.proofs.Common.{IfSome, Option, subst}
-use Rattle.std.specs.Prelude.{Contains}
-use Rattle.record_dim.specs.Leaves.{texts_of}
-use Rattle.views.specs.Tables.{Table}
+use Rattle.record_dim.specs.Std.{IfSome, Option, subst, Contains}
+use Rattle.record_dim.specs.Prelude.{texts_of}
+use Rattle.views.specs.Prelude.{Table}
 use Rattle.llama_c.proofs.measures.lly_leaf.Goals as goal
 
 pub returns-in-Err-clause-none : goal.returns-in-Err-clause-none

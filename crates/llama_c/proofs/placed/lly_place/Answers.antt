@@ -1,7 +1,6 @@
-use Rattle.std.proofs.Common.{Ok, Err, Option, refl, subst, ◌∙◌, rules, SFits, w32}
-use Rattle.std.proofs.lemmas.Int.{to_z-of_z}
-use Rattle.views.specs.Tables.{Table}
-use Rattle.c_lines.specs.Placed.{TellsPlaces}
+use Rattle.record_dim.specs.Std.{Ok, Err, Option, refl, subst, ◌∙◌, rules, SFits, w32, to_z-of_z}
+use Rattle.views.specs.Prelude.{Table}
+use Rattle.c_lines.specs.Prelude.{TellsPlaces}
 use Rattle.c_lines.specs.declared.refusal.Refusal.TheVariants.{NoView}
 use Rattle.llama_c.specs.Calls.{TellsPlacesOf}
 use Rattle.llama_c.proofs.placed.lly_place.Goals as goal

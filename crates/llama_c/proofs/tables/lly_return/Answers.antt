@@ -1,7 +1,5 @@
-use Rattle.std.proofs.Common.{rules, ◌∙◌, SFits, w32}
-use Rattle.std.proofs.lemmas.Int.{to_z-of_z}
-use Rattle.c_lines.specs.Buffers.{after_return, returned}
-use Rattle.c_lines.specs.Told.{done_of}
+use Rattle.record_dim.specs.Std.{rules, ◌∙◌, SFits, w32, to_z-of_z}
+use Rattle.c_lines.specs.Prelude.{after_return, returned, done_of}
 use Rattle.llama_c.proofs.Held.{none_done}
 use Rattle.llama_c.proofs.tables.lly_return.Goals as goal
 

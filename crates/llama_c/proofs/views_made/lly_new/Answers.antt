@@ -1,6 +1,5 @@
-use Rattle.std.proofs.Common.{rules, SFits, w32}
-use Rattle.std.proofs.lemmas.Int.{to_z-of_z}
-use Rattle.c_lines.specs.Lines.{described}
+use Rattle.record_dim.specs.Std.{rules, SFits, w32, to_z-of_z}
+use Rattle.c_lines.specs.Prelude.{described}
 use Rattle.llama_c.proofs.Held.{made_told}
 use Rattle.llama_c.proofs.views_made.lly_new.Goals as goal
 

@@ -1,6 +1,5 @@
-use Rattle.std.proofs.Common.{rules, SFits, w32}
-use Rattle.std.proofs.lemmas.Int.{to_z-of_z}
-use Rattle.c_lines.specs.Buffers.{opened_told}
+use Rattle.record_dim.specs.Std.{rules, SFits, w32, to_z-of_z}
+use Rattle.c_lines.specs.Prelude.{opened_told}
 use Rattle.llama_c.proofs.Held.{made_told}
 use Rattle.llama_c.proofs.views_made.lly_open.Goals as goal
 

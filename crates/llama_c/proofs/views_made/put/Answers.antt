@@ -1,5 +1,4 @@
-use Rattle.std.proofs.Common.{rules, Ok, Err, refl, ◌∙◌, SFits, w32}
-use Rattle.std.proofs.lemmas.Int.{to_z-of_z}
+use Rattle.record_dim.specs.Std.{rules, Ok, Err, refl, ◌∙◌, SFits, w32, to_z-of_z}
 use Rattle.llama_c.proofs.views_made.put.Goals as goal
 
 pub returns-in-Ok : goal.returns-in-Ok

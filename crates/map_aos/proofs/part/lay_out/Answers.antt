@@ -1,20 +1,12 @@
-use Rattle.map_aos.proofs.Imports.{◌≡◌, ◌+◌, ℕ, ◌∙◌, arith, length-set}
+use Rattle.map_aos.proofs.Imports.{◌≡◌, ◌+◌, ℕ, ◌∙◌, arith, length-set, common_steps}
 use Rattle.map_aos.proofs.Parts.{next_at, placed_next, widest_more, stored_all, placed_below}
 use Rattle.map_aos.proofs.part.lay_out.Goals as goal
 
 pub up-offset-requires-clause-some : goal.up-offset-requires-clause-some
-up-offset-requires-clause-some c =
-    let order = c.deref-cell-items.result.now in
-    let is : order ≡ _ = c.deref-cell-items.ensures.value ∙ c.in_ok-order.ensures in
-    let next = next_at c.args.form c.args.cells.now order c.loop-cell.cell-index (0, 0) is c.loop-cell-test.true in
-    omega (arith, next.some, c.align_of-align.ensures)
+up-offset-requires-clause-some c = grind (arith, common_steps, next_at)
 
 pub index_mut-requires : goal.index_mut-requires
-index_mut-requires c =
-    let order = c.deref-cell-items.result.now in
-    let is : order ≡ _ = c.deref-cell-items.ensures.value ∙ c.in_ok-order.ensures in
-    let next = next_at c.args.form c.args.cells.now order c.loop-cell.cell-index (0, 0) is c.loop-cell-test.true in
-    omega (arith, next.number, c.loop-cell.invariant.count, c.loop-cell.offsets.ok.0)
+index_mut-requires c = grind (arith, common_steps, next_at)
 
 pub returns-then-end-gt-MAX_BLOB_BITS-clause-too_big :
     goal.returns-then-end-gt-MAX_BLOB_BITS-clause-too_big
@@ -30,18 +22,8 @@ pub loop-cell-preserved : goal.loop-cell-preserved
 loop-cell-preserved c =
     let order = c.deref-cell-items.result.now in
     let i : ℕ = c.loop-cell.cell-index in
-    let is : order ≡ _ = c.deref-cell-items.ensures.value ∙ c.in_ok-order.ensures in
-    let next = next_at c.args.form c.args.cells.now order i (0, 0) is c.loop-cell-test.true in
-    let wide = widest_more c.args.form order i (0, 0) c.loop-cell-test.true in
-    record {
-      placed = placed_next c.args.form c.args.cells.now order i (0, 0) c.loop-cell.offsets.items c.loop-cell.end c.align_of-align.result c.up-offset.result c.from.result
-          is c.loop-cell-test.true c.loop-cell.invariant.count c.align_of-align.ensures c.up-offset.ensures c.from.ensures c.loop-cell.invariant.placed;
-      small = omega (arith, c.if-end-gt-MAX_BLOB_BITS.false);
-      widest = omega (arith, wide, c.max-widest.ensures, c.loop-cell.invariant.widest, c.align_of-align.ensures);
-      low = omega (arith, c.max-widest.ensures, c.loop-cell.invariant.low, next.low, c.align_of-align.ensures);
-      some = omega (arith, c.max-widest.ensures, c.loop-cell.invariant.some);
-      count = length-set c.loop-cell.offsets.items _ c.up-offset.result ∙ c.loop-cell.invariant.count;
-    }
+    let next = next_at c.args.form c.args.cells.now order i (0, 0) (c.deref-cell-items.ensures.value ∙ c.in_ok-order.ensures) c.loop-cell-test.true in
+    let wide = widest_more c.args.form order i (0, 0) c.loop-cell-test.true in grind (arith, placed_next, length-set)
 
 pub returns-then-size-gt-MAX_BLOB_BITS-clause-too_big :
     goal.returns-then-size-gt-MAX_BLOB_BITS-clause-too_big

@@ -1,4 +1,4 @@
-use Rattle.map_aos.proofs.Imports.{◌∙◌, arith, take_all, cells_of, widths_of}
+use Rattle.map_aos.proofs.Imports.{arith, take_all, common_steps}
 use Rattle.map_aos.proofs.Parts.{numbered_more, length-cells}
 use Rattle.map_aos.proofs.part.numbered.Goals as goal
 
@@ -7,7 +7,4 @@ loop-number-preserved c =
     numbered_more c.args.cells.now c.loop-number.number _ c.width.result c.loop-number.order.items _ c.loop-number-test.true c.loop-number.invariant c.width.ensures c.in_ok-push.ensures.items
 
 pub returns : goal.returns
-returns c =
-    let all = cells_of (widths_of c.args.cells.now) in
-    let size = length-cells c.args.cells.now in
-    c.loop-number.invariant ∙ take_all c.loop-number.number all (omega arith)
+returns c = grind (arith, common_steps, length-cells, take_all)

@@ -1,4 +1,4 @@
-use Rattle.map_bits.proofs.Imports.{◌+◌, ◌<◌, length, arith, widths_in}
+use Rattle.map_bits.proofs.Imports.{◌+◌, ◌<◌, length, arith, widths_in, common_steps}
 use Rattle.map_bits.proofs.Slots.{end_next, end_below, begins_more, stored_all}
 use Rattle.map_bits.proofs.part.lay_out.Goals as goal
 
@@ -20,6 +20,4 @@ loop-hold-preserved c =
     }
 
 pub returns-clause-stored : goal.returns-clause-stored
-returns-clause-stored c =
-    stored_all c.args.holds.now c.loop-hold.hold-index c.loop-hold.offsets.items c.loop-hold.end
-    (omega (arith, c.loop-hold.auto.hold-index-end)) c.loop-hold-test.false c.loop-hold.invariant.begins c.loop-hold.invariant.ends
+returns-clause-stored c = grind (arith, common_steps, stored_all)

@@ -1,6 +1,5 @@
-use Rattle.map_bytes.proofs.Imports.{◌≡◌, ℕ, ◌+◌, List, [], ◌∷◌, ◌++◌, map, sym, ap, ◌∙◌, arith, length-append, append_assoc, range_with_len, length-map-range_with_len, map-range_with_len_more, PieceRule, rule_byte}
+use Rattle.map_bytes.proofs.Imports.{◌≡◌, ℕ, ◌+◌, List, [], ◌∷◌, ◌++◌, map, sym, ap, ◌∙◌, arith, length-append, append_assoc, range_with_len, length-map-range_with_len, map-range_with_len_more, PieceRule, rule_byte, common_steps}
 use Rattle.map_bytes.proofs.swap.push_bytes.Goals as goal
-use Rattle.std.proofs.lemmas.Grind.{common_steps}
 
 pub push-requires : goal.push-requires
 push-requires c = grind (arith, common_steps, range_with_len, length-map-range_with_len, length-append)

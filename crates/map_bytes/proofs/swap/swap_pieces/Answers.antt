@@ -1,8 +1,7 @@
-use Rattle.map_bytes.proofs.Imports.{◌≡◌, ◌+◌, ◌%◌, ◌^◌, ◌<◌, List, All, sym, ap, ◌∙◌, subst, arith, pieces_weaker, Piece, begin_in, PieceRule, places_in, swapped, swapped_in, swapped_begins, swapped_eights}
+use Rattle.map_bytes.proofs.Imports.{◌≡◌, ◌+◌, ◌%◌, ◌^◌, ◌<◌, List, All, sym, ap, ◌∙◌, subst, arith, pieces_weaker, Piece, begin_in, PieceRule, places_in, swapped, swapped_in, swapped_begins, swapped_eights, common_steps}
 use Rattle.map_bytes.proofs.Groups.{places_back}
 use Rattle.map_bytes.proofs.Inner.{all_in}
 use Rattle.map_bytes.proofs.swap.swap_pieces.Goals as goal
-use Rattle.std.proofs.lemmas.Grind.{common_steps}
 
 pub swap_rules-requires-clause-whole : goal.swap_rules-requires-clause-whole
 swap_rules-requires-clause-whole c =

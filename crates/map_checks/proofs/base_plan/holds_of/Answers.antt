@@ -1,6 +1,5 @@
-use Rattle.map_checks.proofs.Imports.{◌≡◌, ◌<◌, List, length, get_or, take_more, get_or_from_slice_get, slice_get_within, Hold}
+use Rattle.map_checks.proofs.Imports.{◌≡◌, ◌<◌, List, length, get_or, take_more, get_or_from_slice_get, slice_get_within, Hold, arith}
 use Rattle.map_checks.proofs.base_plan.holds_of.Goals as goal
-use Rattle.std.proofs.Common.{arith}
 
 pub loop-cell-preserved : goal.loop-cell-preserved
 loop-cell-preserved g c =

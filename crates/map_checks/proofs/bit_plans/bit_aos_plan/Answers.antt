@@ -1,10 +1,8 @@
-use Rattle.map_checks.proofs.Imports.{◌≡◌, ℕ, List, ap, ◌∙◌, subst, Err, Owner, bit_aos, widths_in, narrow_holds, IsTooBig, Cell, true≢false, schema_fields, cell_widths, good_widths}
+use Rattle.map_checks.proofs.Imports.{◌≡◌, ℕ, List, ap, ◌∙◌, subst, Err, Owner, bit_aos, widths_in, narrow_holds, IsTooBig, Cell, true≢false, schema_fields, cell_widths, good_widths, common_steps, arith}
 use Rattle.map_checks.proofs.Faults.{too_big_of, no_width}
 use Rattle.map_checks.proofs.Limits.{over}
 use Rattle.map_checks.proofs.PlanLaws.{base_planned}
 use Rattle.map_checks.proofs.bit_plans.bit_aos_plan.Goals as goal
-use Rattle.std.proofs.lemmas.Grind.{common_steps}
-use Rattle.std.proofs.Common.{arith}
 
 abbrev bits : List Cell → ℕ → List ℕ → List (List Owner)
 bits cells slots widths = bit_aos slots (widths_in (narrow_holds widths cells))

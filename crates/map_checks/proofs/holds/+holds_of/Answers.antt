@@ -1,7 +1,5 @@
-use Rattle.map_checks.proofs.Imports.{count_by, length-holds, cells_first, cells_rest}
+use Rattle.map_checks.proofs.Imports.{count_by, length-holds, cells_first, cells_rest, common_steps, arith}
 use Rattle.map_checks.proofs.holds.+holds_of.Goals as goal
-use Rattle.std.proofs.lemmas.Grind.{common_steps}
-use Rattle.std.proofs.Common.{arith}
 
 pub merge_holds-requires-clause-first : goal.merge_holds-requires-clause-first
 merge_holds-requires-clause-first t c = grind (arith, common_steps, length-holds, cells_first, count_by)

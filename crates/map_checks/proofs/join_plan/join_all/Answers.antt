@@ -1,7 +1,6 @@
-use Rattle.map_checks.proofs.Imports.{◌≡◌, ◌+◌, ◌<◌, ◌≤◌, List, length, take, arith, rules, length-append, Cell, byte_count, each_push}
+use Rattle.map_checks.proofs.Imports.{◌≡◌, ◌+◌, ◌<◌, ◌≤◌, List, length, take, arith, rules, length-append, Cell, byte_count, each_push, common_steps}
 use Rattle.map_checks.proofs.JoinRuleLaws.{next_is, within, some_bytes, few_bytes, length-those, all_those, slice_is}
 use Rattle.map_checks.proofs.join_plan.join_all.Goals as goal
-use Rattle.std.proofs.lemmas.Grind.{common_steps}
 
 pub joined-requires-clause-some : goal.joined-requires-clause-some
 joined-requires-clause-some c = grind (arith, common_steps, slice_is, length-those, some_bytes)

@@ -1,6 +1,5 @@
-use Rattle.map_checks.proofs.Imports.{arith, length-append, flat_map, take_more, append-nil, flat_map-append}
+use Rattle.map_checks.proofs.Imports.{arith, length-append, flat_map, take_more, append-nil, flat_map-append, common_steps}
 use Rattle.map_checks.proofs.join_plan.joined.Goals as goal
-use Rattle.std.proofs.lemmas.Grind.{common_steps}
 
 pub join_rules-requires : goal.join_rules-requires
 join_rules-requires c = grind (arith, common_steps)

@@ -1,4 +1,4 @@
-use Rattle.map_checks.proofs.Imports.{◌≡◌, ◌∙◌, ℕ, List, Bool, Err, map, length, sym, ap, subst, Fields, schema_fields, slot_count, Cell, aosoa, aos_layout, soa_layout, Term, term_of, MapExpr, IsTooBigFor, orders_of, IsPlanOf, Rule}
+use Rattle.map_checks.proofs.Imports.{◌≡◌, ◌∙◌, ℕ, List, Bool, Err, map, length, sym, ap, subst, Fields, schema_fields, slot_count, Cell, aosoa, aos_layout, soa_layout, Term, term_of, MapExpr, IsTooBigFor, orders_of, IsPlanOf, Rule, common_steps, arith}
 use Rattle.map_checks.proofs.ArrayLaws.{base_arrays}
 use Rattle.map_checks.proofs.OrderLaws.{planned_orders, orders_changed}
 use Rattle.map_checks.proofs.BytePlanLaws.{narrow_under, narrow_beside, over_swap, swap_held, swap_bytes, swap_planned, swap_ordered, over_join, join_each, join_alone, join_planned, join_ordered}
@@ -6,8 +6,6 @@ use Rattle.map_checks.proofs.Faults.{too_big_of, handed_on, handed}
 use Rattle.map_checks.proofs.Limits.{over}
 use Rattle.map_checks.proofs.PlanLaws.{base_planned, over_under, over_beside, holds_first, holds_rest, rules_first, rules_rest, over_all, planned}
 use Rattle.map_checks.proofs.make.+make_plan.Goals as goal
-use Rattle.std.proofs.lemmas.Grind.{common_steps}
-use Rattle.std.proofs.Common.{arith}
 
 pub returns-in_err-mapping-in-Soa-clause-too_big : goal.returns-in_err-mapping-in-Soa-clause-too_big
 returns-in_err-mapping-in-Soa-clause-too_big t c = λ is.

@@ -1,6 +1,5 @@
-use Rattle.map_checks.proofs.Imports.{◌≡◌, ◌∙◌, ℕ, List, [], sym, ap, get_or_from_slice_get, indices, index_at, slot_at, slot_of, slot_at_below}
+use Rattle.map_checks.proofs.Imports.{◌≡◌, ◌∙◌, ℕ, List, [], sym, ap, get_or_from_slice_get, indices, index_at, slot_at, slot_of, slot_at_below, arith}
 use Rattle.map_checks.proofs.orders.slot_by_index.Goals as goal
-use Rattle.std.proofs.Common.{arith}
 
 pub returns : goal.returns
 returns c =

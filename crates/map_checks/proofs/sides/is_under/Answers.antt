@@ -1,6 +1,5 @@
-use Rattle.map_checks.proofs.Imports.{ℕ, ◌≡◌, ◌-◌, nat_lt, List, arith, nat_le, ◌&&◌, PathStep, Fields, IsUnder, is_under, leaves_before}
+use Rattle.map_checks.proofs.Imports.{ℕ, ◌≡◌, ◌-◌, nat_lt, List, arith, nat_le, ◌&&◌, PathStep, Fields, IsUnder, is_under, leaves_before, common_steps}
 use Rattle.map_checks.proofs.sides.is_under.Goals as goal
-use Rattle.std.proofs.lemmas.Grind.{common_steps}
 
 -- the leaves of a node follow one another
 under_is : (fields : Fields) (path : List PathStep) (first count leaf : ℕ) → IsUnder fields path first count

@@ -1,6 +1,5 @@
-use Rattle.map_checks.proofs.Imports.{arith, length-append, get_or_default, each_push}
+use Rattle.map_checks.proofs.Imports.{arith, length-append, get_or_default, each_push, common_steps}
 use Rattle.map_checks.proofs.swap_plan.swap_all.Goals as goal
-use Rattle.std.proofs.lemmas.Grind.{common_steps}
 
 pub swapped-requires : goal.swapped-requires
 swapped-requires c = grind (arith, common_steps)

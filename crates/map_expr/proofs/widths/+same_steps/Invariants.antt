@@ -1,4 +1,4 @@
-use Rattle.std.proofs.Common.{length}
+use Rattle.record_dim.specs.Std.{length}
 use Rattle.map_expr.proofs.widths.+same_steps.Given as goal
 
 -- a path gets shorter by its first step

@@ -1,4 +1,4 @@
-use Rattle.std.proofs.Common.{length}
+use Rattle.record_dim.specs.Std.{length}
 use Rattle.map_expr.proofs.widths.+same_widths.Given as goal
 
 -- a list gets shorter by its first entry

@@ -1,5 +1,5 @@
 -- the entries so far
-use Rattle.std.proofs.Common.{◌≡◌, take}
+use Rattle.record_dim.specs.Std.{◌≡◌, take}
 use Rattle.map_expr.proofs.widths.copy_widths.Given as goal
 
 abbrev pub invariant-loop-entry : goal.invariant-loop-entry

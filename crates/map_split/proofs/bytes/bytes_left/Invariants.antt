@@ -1,5 +1,5 @@
 -- what is left once the blobs so far are taken off
-use Rattle.std.proofs.Common.{◌≡◌, ◌+◌, ◌*◌, length, sum_by, take}
+use Rattle.record_dim.specs.Std.{◌≡◌, ◌+◌, ◌*◌, length, sum_by, take}
 use Rattle.map_split.proofs.bytes.bytes_left.Given as goal
 
 abbrev pub invariant-loop-blob : goal.invariant-loop-blob

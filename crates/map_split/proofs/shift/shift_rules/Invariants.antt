@@ -1,5 +1,5 @@
 -- the rules so far
-use Rattle.std.proofs.Common.{◌≡◌, map, take}
+use Rattle.record_dim.specs.Std.{◌≡◌, map, take}
 use Rattle.map_split.specs.Inner.Shifts.{shifted_rule}
 use Rattle.map_split.proofs.shift.shift_rules.Given as goal
 

@@ -1,4 +1,4 @@
-use Rattle.piece_bits.proofs.Imports.{◌∙◌, slice_index, SFits, rules, arith, w128, to_z-of_z, IsCell, some_bits, few_bits, bit_count, within, read_small, read_entry_is}
+use Rattle.piece_bits.proofs.Imports.{◌∙◌, slice_index, rules, arith, w128, to_z-of_z, IsCell, some_bits, few_bits, bit_count, within, read_small, read_entry_is}
 use Rattle.piece_bits.proofs.entry.read_entry.Given as given
 use Rattle.piece_bits.proofs.entry.read_entry.Goals as goal
 use Rattle.piece_bits.proofs.entry.read_entry.Goals.{After-as_slice, After-read_pieces}
@@ -34,6 +34,5 @@ decode-requires-clause-fits g c =
 
 pub returns : goal.returns
 returns g c =
-    let fits : SFits w128 c.decode.result = search rules in
-    to_z-of_z w128 c.decode.result fits ∙ c.decode.ensures
+    to_z-of_z w128 c.decode.result (search rules) ∙ c.decode.ensures
     ∙ read_entry_is (at g ((goal.at.returns g c).After-as_slice)) c.args.blobs.now c.read_pieces.result c.read_pieces.ensures

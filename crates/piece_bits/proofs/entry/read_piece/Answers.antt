@@ -1,8 +1,7 @@
-use Rattle.piece_bits.proofs.Imports.{◌≡◌, ◌+◌, ◌*◌, ◌≤◌, ◌∙◌, ◌∷◌, [], ℕ, List, length, get_or, sym, ap, subst, SFits, rules, arith, w128, to_z-of_z, get_or_read, bit_at-lt, decoded, number_lt, IsCell, some_bits, few_bits, one_width, one_within, one_entry}
+use Rattle.piece_bits.proofs.Imports.{◌≡◌, ◌+◌, ◌*◌, ◌≤◌, ◌∙◌, ◌∷◌, [], ℕ, List, length, get_or, sym, ap, subst, rules, arith, w128, to_z-of_z, get_or_read, bit_at-lt, decoded, number_lt, IsCell, some_bits, few_bits, one_width, one_within, one_entry, common_steps}
 use Rattle.piece_bits.proofs.entry.read_piece.Given as given
 use Rattle.piece_bits.proofs.entry.read_piece.Goals as goal
 use Rattle.piece_bits.proofs.entry.read_piece.Goals.{After-hold-hold}
-use Rattle.std.proofs.lemmas.Grind.{common_steps}
 
 at : (g : given.Over) (c : goal.After-hold-hold g) →
     IsCell (g.M.Mapping.layout c.args.mapping.now) (g.M.Mapping.slot_count c.args.mapping.now) (g.M.Mapping.hold_list c.args.mapping.now)
@@ -55,6 +54,5 @@ returns g c =
     let here = one_within (at g d) c.args.blobs.now c.requires.laid in
     let blob : c.index-blobs-piece.result ≡ get_or c.args.blobs.now piece.blob [] =
     get_or_read c.args.blobs.now piece.blob c.index-blobs-piece.result here.blob_in c.index-blobs-piece.is [] in
-    let fits : SFits w128 c.decode.result = search rules in
     one_entry (at g d) c.args.blobs.now c.requires.laid c.index-blobs-piece.result _ blob
-    (to_z-of_z w128 c.decode.result fits ∙ c.decode.ensures ∙ ap (decoded c.hold-hold.result.signed piece.bits) c.bits.ensures)
+    (to_z-of_z w128 c.decode.result (search rules) ∙ c.decode.ensures ∙ ap (decoded c.hold-hold.result.signed piece.bits) c.bits.ensures)

@@ -1,4 +1,4 @@
-use Rattle.piece_bits.proofs.Imports.{ℤ, ◌≡◌, ◌∙◌, slice_index, subst, sym, ap, arith, rules, SFits, w128, to_z-of_z, IsIn, Hold, number, digit, IsCell, hold_is, some_bits, few_bits, bit_count, apart, written_table, written_padding, still_laid}
+use Rattle.piece_bits.proofs.Imports.{ℤ, ◌≡◌, ◌∙◌, slice_index, subst, sym, ap, arith, rules, w128, to_z-of_z, IsIn, Hold, number, digit, IsCell, hold_is, some_bits, few_bits, bit_count, apart, written_table, written_padding, still_laid}
 use Rattle.piece_bits.proofs.entry.write_entry.Given as given
 use Rattle.piece_bits.proofs.entry.write_entry.Goals as goal
 use Rattle.piece_bits.proofs.entry.write_entry.Goals.{After-as_slice}
@@ -27,8 +27,7 @@ encode-requires-clause-narrow g c = few_bits (at g c)
 
 pub encode-requires-clause-fits : goal.encode-requires-clause-fits
 encode-requires-clause-fits g c =
-    let fits : SFits w128 c.args.value = search rules in
-    subst (λ (v : ℤ). IsIn c.hold-hold.result.signed c.hold-hold.result.width v) (sym (to_z-of_z w128 c.args.value fits)) (held g c)
+    subst (λ (v : ℤ). IsIn c.hold-hold.result.signed c.hold-hold.result.width v) (sym (to_z-of_z w128 c.args.value (search rules))) (held g c)
 
 pub write_pieces-requires-clause-few : goal.write_pieces-requires-clause-few
 write_pieces-requires-clause-few g c =
@@ -45,9 +44,8 @@ returns g c =
     let old = c.args.blobs.now.items in
     let new = c.write_pieces.new.blobs.items in
     let written = c.write_pieces.ensures in
-    let fits : SFits w128 c.args.value = search rules in
     let code : c.encode.result ≡ number (digit c.args.value) c.hold-hold.result.width =
-    c.encode.ensures ∙ ap (λ (v : ℤ). number (digit v) c.hold-hold.result.width) (to_z-of_z w128 c.args.value fits) in
+    c.encode.ensures ∙ ap (λ (v : ℤ). number (digit v) c.hold-hold.result.width) (to_z-of_z w128 c.args.value (search rules)) in
     record {
       table = written_table here old new c.args.value c.encode.result code (held g d) written.inside written.outside;
       still_laid = still_laid (g.M.Mapping.layout c.args.map.now) old new c.requires.laid written.lengths

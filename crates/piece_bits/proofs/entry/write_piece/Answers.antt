@@ -1,8 +1,7 @@
-use Rattle.piece_bits.proofs.Imports.{ℤ, ℕ, ◌≡◌, ◌<◌, ◌^◌, ◌∙◌, ◌∷◌, [], get_or, subst, sym, ap, arith, rules, SFits, w128, to_z-of_z, get_or_default, IsIn, Hold, number, digit, number_lt, digit_lt, IsCell, hold_is, some_bits, few_bits, bit_count, one_count, one_within, one_table, one_laid}
+use Rattle.piece_bits.proofs.Imports.{ℤ, ℕ, ◌≡◌, ◌<◌, ◌^◌, ◌∙◌, ◌∷◌, [], get_or, subst, sym, ap, arith, rules, w128, to_z-of_z, get_or_default, IsIn, Hold, number, digit, number_lt, digit_lt, IsCell, hold_is, some_bits, few_bits, bit_count, one_count, one_within, one_table, one_laid, common_steps}
 use Rattle.piece_bits.proofs.entry.write_piece.Given as given
 use Rattle.piece_bits.proofs.entry.write_piece.Goals as goal
 use Rattle.piece_bits.proofs.entry.write_piece.Goals.{After-hold-hold, After-encode, After-put_bits}
-use Rattle.std.proofs.lemmas.Grind.{common_steps}
 
 at : (g : given.Over) (c : goal.After-hold-hold g) →
     IsCell (g.M.Mapping.layout c.args.mapping.now) (g.M.Mapping.slot_count c.args.mapping.now) (g.M.Mapping.hold_list c.args.mapping.now)
@@ -35,14 +34,12 @@ encode-requires-clause-narrow g c =
 pub encode-requires-clause-fits : goal.encode-requires-clause-fits
 encode-requires-clause-fits g c =
     let d = (goal.at.encode-requires-clause-fits g c).After-hold-hold in
-    let fits : SFits w128 c.args.value = search rules in
-    subst (λ (v : ℤ). IsIn c.hold-hold.result.signed c.args.piece.bits v) (sym (to_z-of_z w128 c.args.value fits))
+    subst (λ (v : ℤ). IsIn c.hold-hold.result.signed c.args.piece.bits v) (sym (to_z-of_z w128 c.args.value (search rules)))
     (subst (λ (n : ℕ). IsIn c.hold-hold.result.signed n c.args.value) (sym (width g d)) (held g d))
 
 code : (g : given.Over) (c : goal.After-encode g) → c.encode.result ≡ number (digit c.args.value) c.hold-hold.result.width
 code g c =
-    let fits : SFits w128 c.args.value = search rules in
-    c.encode.ensures ∙ ap (λ (v : ℤ). number (digit v) c.args.piece.bits) (to_z-of_z w128 c.args.value fits)
+    c.encode.ensures ∙ ap (λ (v : ℤ). number (digit v) c.args.piece.bits) (to_z-of_z w128 c.args.value (search rules))
     ∙ ap (number (digit c.args.value)) (width g ((goal.at.After-encode g c).After-hold-hold))
 
 small : (g : given.Over) (c : goal.After-encode g) → c.encode.result < 2 ^ c.args.piece.bits

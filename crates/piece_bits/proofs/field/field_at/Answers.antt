@@ -1,4 +1,4 @@
-use Rattle.piece_bits.proofs.Imports.{◌≡◌, ℕ, ◌+◌, ◌/◌, ◌%◌, ◌^◌, bit_and, ap, ◌∙◌, arith, rules, SFits, w128, to_z-of_z, and_mask, number, decoded, bit_of, byte_and_bit, field_read}
+use Rattle.piece_bits.proofs.Imports.{◌≡◌, ℕ, ◌+◌, ◌/◌, ◌%◌, ◌^◌, bit_and, ap, ◌∙◌, arith, rules, w128, to_z-of_z, and_mask, number, decoded, bit_of, byte_and_bit, field_read}
 use Rattle.piece_bits.proofs.field.field_at.Goals as goal
 use Rattle.piece_bits.proofs.field.field_at.Goals.{After-window-word}
 
@@ -13,6 +13,5 @@ bits c =
 pub returns : goal.returns
 returns c =
     let field = c.args.field.now in
-    let fits : SFits w128 c.moved_back.result = search rules in
-    to_z-of_z w128 c.moved_back.result fits ∙ c.moved_back.ensures
+    to_z-of_z w128 c.moved_back.result (search rules) ∙ c.moved_back.ensures
     ∙ ap (λ (n : ℕ). decoded field.signed field.width n) (bits (goal.at.returns c).After-window-word)

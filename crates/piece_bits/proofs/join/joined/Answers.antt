@@ -19,5 +19,4 @@ pub returns : goal.returns
 returns c =
     let rest : List PieceRule = c.in_ok-first.rest.now in
     let k : ℕ = c.loop-next.next-index in
-    let before : Carries c.args.pieces.now (c.loop-next.one ∷ drop k rest) = c.loop-next.invariant in
-    subst (λ (xs : List PieceRule). Carries c.args.pieces.now (c.loop-next.one ∷ xs)) (drop_all k rest (omega arith)) before
+    subst (λ (xs : List PieceRule). Carries c.args.pieces.now (c.loop-next.one ∷ xs)) (drop_all k rest (omega arith)) c.loop-next.invariant

@@ -1,7 +1,6 @@
-use Rattle.piece_bits.proofs.Imports.{◌≡◌, ◌≤◌, ◌*◌, ◌%◌, ◌^◌, ℕ, negsuc, arith, to_z, of_z, nat_abs, to_z-of_z, pow_mono}
+use Rattle.piece_bits.proofs.Imports.{◌≡◌, ◌≤◌, ◌*◌, ◌%◌, ◌^◌, ℕ, negsuc, arith, to_z, of_z, nat_abs, to_z-of_z, pow_mono, common_steps}
 use Rattle.piece_bits.proofs.Remainders.{low_of, above_of}
 use Rattle.piece_bits.proofs.low.low_part.Goals as goal
-use Rattle.std.proofs.lemmas.Grind.{common_steps}
 
 -- so many numbers fit
 power : (width : ℕ) → width ≤ 64 → 1 * 2 ^ width % 340282366920938463463374607431768211456 ≡ 2 ^ width

@@ -1,8 +1,7 @@
-use Rattle.piece_bits.proofs.Imports.{◌≡◌, ℕ, List, [], ◌∷◌, sym, subst, IsRowPath, Walk}
+use Rattle.piece_bits.proofs.Imports.{◌≡◌, ℕ, List, [], ◌∷◌, sym, subst, IsRowPath, Walk, arith}
 use Rattle.piece_bits.proofs.Ways.{list_of_two, column_path, digit_path}
 use Rattle.piece_bits.proofs.path.by_lines.Goals as goal
 use Rattle.piece_bits.proofs.path.by_lines.Goals.{After-of, in-Morton, in_default}
-use Rattle.std.proofs.Common.{arith}
 
 over : (c : After-of) → c.args.extents.now ≡ c.at.result ∷ c.of.result.columns ∷ []
 over c = grind (arith, list_of_two)

@@ -13,13 +13,11 @@ within c = grind (arith, within_same)
 
 pub bits_in_word-part-requires-clause-within : goal.bits_in_word-part-requires-clause-within
 bits_in_word-part-requires-clause-within c =
-    let d = (goal.at.bits_in_word-part-requires-clause-within c).In-loop-piece in
-    omega (arith, (next d).within)
+    omega (arith, (next ((goal.at.bits_in_word-part-requires-clause-within c).In-loop-piece)).within)
 
 pub put_bits-requires-clause-few : goal.put_bits-requires-clause-few
 put_bits-requires-clause-few c =
-    let d = (goal.at.put_bits-requires-clause-few c).In-loop-piece in
-    omega (arith, (next d).within)
+    omega (arith, (next ((goal.at.put_bits-requires-clause-few c).In-loop-piece)).within)
 
 pub put_bits-requires-clause-within : goal.put_bits-requires-clause-within
 put_bits-requires-clause-within c =
@@ -30,8 +28,7 @@ put_bits-requires-clause-within c =
 
 pub overflow_add-done : goal.overflow_add-done
 overflow_add-done c =
-    let d = (goal.at.overflow_add-done c).In-loop-piece in
-    omega (arith, (next d).within)
+    omega (arith, (next ((goal.at.overflow_add-done c).In-loop-piece)).within)
 
 pub loop-piece-preserved : goal.loop-piece-preserved
 loop-piece-preserved c =

@@ -1,7 +1,6 @@
-use Rattle.piece_bits.proofs.Imports.{◌≡◌, ◌+ℤ◌, ◌*ℤ◌, get_or, ◌∙◌, arith, length-zip2}
+use Rattle.piece_bits.proofs.Imports.{◌≡◌, ◌+ℤ◌, ◌*ℤ◌, get_or, ◌∙◌, arith, length-zip2, common_steps}
 use Rattle.piece_bits.proofs.InPlace.{beside, zipped}
 use Rattle.piece_bits.proofs.plain.times_plus.Goals as goal
-use Rattle.std.proofs.lemmas.Grind.{common_steps}
 
 pub multiple_plus-requires : goal.multiple_plus-requires
 multiple_plus-requires g c =

@@ -1,21 +1,18 @@
-use Rattle.piece_bits.proofs.Imports.{◌≡◌, ◌<◌, ◌+◌, ◌*◌, get_or, pos, rules, FitsSigned, w64, arith, to_z-of_z}
+use Rattle.piece_bits.proofs.Imports.{◌≡◌, ◌+◌, ◌*◌, get_or, pos, rules, FitsSigned, w64, arith, to_z-of_z, common_steps}
 use Rattle.piece_bits.proofs.Puts.{even_place, put_more, room_left}
 use Rattle.piece_bits.proofs.put.put_eights.Goals as goal
-use Rattle.std.proofs.lemmas.Grind.{common_steps}
 
 pub overflow_mul-j : goal.overflow_mul-j
 overflow_mul-j c =
     let there = even_place c.args.stretch.now c.eights-eights.result c.loop-eight.eight c.loop-j.j c.place-first.result c.args.apart c.eights-eights.ensures (omega arith) (omega arith)
     c.place-first.ensures c.requires.apart in
-    let inside : 8 * c.loop-eight.eight + c.loop-j.j < c.args.stretch.now.rows = omega (arith, c.eights-eights.ensures.few) in
-    omega (arith, there, c.requires.room.places (8 * c.loop-eight.eight + c.loop-j.j) inside)
+    omega (arith, there, c.requires.room.places (8 * c.loop-eight.eight + c.loop-j.j) (omega (arith, c.eights-eights.ensures.few)))
 
 pub overflow_add-first : goal.overflow_add-first
 overflow_add-first c =
     let there = even_place c.args.stretch.now c.eights-eights.result c.loop-eight.eight c.loop-j.j c.place-first.result c.args.apart c.eights-eights.ensures (omega arith) (omega arith)
     c.place-first.ensures c.requires.apart in
-    let inside : 8 * c.loop-eight.eight + c.loop-j.j < c.args.stretch.now.rows = omega (arith, c.eights-eights.ensures.few) in
-    omega (arith, there, c.requires.room.places (8 * c.loop-eight.eight + c.loop-j.j) inside)
+    omega (arith, there, c.requires.room.places (8 * c.loop-eight.eight + c.loop-j.j) (omega (arith, c.eights-eights.ensures.few)))
 
 pub put_number-requires-clause-within : goal.put_number-requires-clause-within
 put_number-requires-clause-within c = grind (arith, common_steps, even_place, room_left)
@@ -25,6 +22,5 @@ loop-j-preserved c =
     let there = even_place c.args.stretch.now c.eights-eights.result c.loop-eight.eight c.loop-j.j c.place-first.result c.args.apart c.eights-eights.ensures (omega arith) (omega arith)
     c.place-first.ensures c.requires.apart in
     let k = 8 * c.loop-eight.eight + c.loop-j.j in
-    let value = get_or c.args.values.now (c.args.at + k) (pos 0) in
-    let fits : FitsSigned w64 value = search rules in
+    let fits : FitsSigned w64 (get_or c.args.values.now (c.args.at + k) (pos 0)) = search rules in
     let next : k + 1 ≡ 8 * c.loop-eight.eight + (c.loop-j.j + 1) = omega arith in grind (arith, put_more, to_z-of_z)

@@ -1,7 +1,5 @@
-use Rattle.piece_bits.proofs.Imports.{◌≡◌, ℤ, ℕ, sym, ap, ◌∙◌, subst, ⊎_elim, rules, FitsSigned, w64, bit_at, to_z-of_z, number, digit, Word, TurnedU32, TurnedU64, TurnedI32, TurnedI64, IsWordPut}
+use Rattle.piece_bits.proofs.Imports.{◌≡◌, ℤ, ℕ, sym, ap, ◌∙◌, subst, ⊎_elim, rules, FitsSigned, w64, bit_at, to_z-of_z, number, digit, Word, TurnedU32, TurnedU64, TurnedI32, TurnedI64, IsWordPut, common_steps, arith}
 use Rattle.piece_bits.proofs.put.put_number.Goals as goal
-use Rattle.std.proofs.lemmas.Grind.{common_steps}
-use Rattle.std.proofs.Common.{arith}
 
 pub returns-in-U64 : goal.returns-in-U64
 returns-in-U64 c = grind (arith, common_steps, to_z-of_z, bit_at)

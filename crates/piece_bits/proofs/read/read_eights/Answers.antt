@@ -1,4 +1,4 @@
-use Rattle.piece_bits.proofs.Imports.{◌<◌, ◌+◌, ◌*◌, length, get_or, pos, rules, FitsSigned, w64, arith, to_z-of_z}
+use Rattle.piece_bits.proofs.Imports.{◌<◌, ◌+◌, ◌*◌, length, get_or, pos, arith, to_z-of_z}
 use Rattle.piece_bits.proofs.Numbers.{one_of_eight, same_number}
 use Rattle.piece_bits.proofs.Puts.{even_place, room_at}
 use Rattle.piece_bits.proofs.read.read_eights.Goals as goal
@@ -8,11 +8,10 @@ eight_at-numbers-requires-clause-fits c =
     let stretch = c.args.stretch.now in
     let eight = c.loop-eight.eight in
     let even = c.eights-eights.ensures in
-    let inside : 8 * eight + 7 < stretch.rows = omega (arith, even.few) in
     omega (
       arith,
       even_place stretch c.eights-eights.result eight 7 c.place-first.result c.args.apart even (omega arith) (omega arith) c.place-first.ensures c.requires.apart,
-      c.requires.room.places (8 * eight + 7) inside,
+      c.requires.room.places (8 * eight + 7) (omega (arith, even.few)),
     )
 
 pub eight_at-numbers-requires-clause-within : goal.eight_at-numbers-requires-clause-within
@@ -31,7 +30,5 @@ loop-j-preserved c =
     let j = c.loop-j.j in
     let even = c.eights-eights.ensures in
     let number = get_or c.eight_at-numbers.result j (pos 0) in
-    let fits : FitsSigned w64 number = search rules in
-    let there = even_place stretch c.eights-eights.result eight j c.place-first.result c.args.apart even (omega arith) (omega arith) c.place-first.ensures c.requires.apart in
     one_of_eight c.args.short.now stretch c.args.blob.now c.args.at eight j _ c.loop-j.values _ c.loop-j.invariant (omega (arith, even.few))
     (grind (arith, same_number, to_z-of_z))

@@ -1,6 +1,5 @@
-use Rattle.piece_bits.proofs.Imports.{arith, to_z-of_z, number_lt, bit_in_lt}
+use Rattle.piece_bits.proofs.Imports.{arith, to_z-of_z, number_lt, bit_in_lt, common_steps}
 use Rattle.piece_bits.proofs.scattered.read_scattered.Goals as goal
-use Rattle.std.proofs.lemmas.Grind.{common_steps}
 
 pub read_bytes-requires-clause-few : goal.read_bytes-requires-clause-few
 read_bytes-requires-clause-few c = omega (arith, c.requires.wide, c.requires.form.narrow)

@@ -10,8 +10,7 @@ within c =
 
 pub index_mut-requires : goal.index_mut-requires
 index_mut-requires c =
-    let low : c.rule-item.result.blob < length c.loop-rule.blobs.items = (within (goal.at.index_mut-requires c).After-bits_in_word-byte).blob_in in
-    grind (arith, common_steps, low)
+    grind (arith, common_steps, ((within (goal.at.index_mut-requires c).After-bits_in_word-byte).blob_in))
 
 pub overflow_add-rule : goal.overflow_add-rule
 overflow_add-rule c =

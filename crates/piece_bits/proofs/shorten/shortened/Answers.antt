@@ -1,11 +1,10 @@
-use Rattle.piece_bits.proofs.Imports.{refl, Field}
+use Rattle.piece_bits.proofs.Imports.{refl}
 use Rattle.piece_bits.proofs.AlongLaws.{short_of}
 use Rattle.piece_bits.proofs.shorten.shortened.Goals as goal
 
 pub along-requires-clause-low : goal.along-requires-clause-low
 along-requires-clause-low c =
-    let field : Field = record { signed = c.args.hold.signed; width = c.args.hold.width; ones = 0; half = 0 } in
-    (c.in_ok-stand.ensures field refl refl).low
+    (c.in_ok-stand.ensures (record { signed = c.args.hold.signed; width = c.args.hold.width; ones = 0; half = 0 }) refl refl).low
 
 pub returns : goal.returns
 returns c =

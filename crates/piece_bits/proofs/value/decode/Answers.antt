@@ -1,6 +1,5 @@
-use Rattle.piece_bits.proofs.Imports.{◌≡◌, Bool, true, false, refl, arith, not}
+use Rattle.piece_bits.proofs.Imports.{◌≡◌, Bool, true, false, refl, arith, not, common_steps}
 use Rattle.piece_bits.proofs.value.decode.Goals as goal
-use Rattle.std.proofs.lemmas.Grind.{common_steps}
 
 is_false : (b : Bool) → not b ≡ true → b ≡ false
 is_false true e = cc

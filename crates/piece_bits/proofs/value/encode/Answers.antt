@@ -1,7 +1,6 @@
-use Rattle.piece_bits.proofs.Imports.{arith, ints, ones_of}
+use Rattle.piece_bits.proofs.Imports.{arith, ints, ones_of, common_steps}
 use Rattle.piece_bits.proofs.Values.{encoded, held_negsuc, by_sign}
 use Rattle.piece_bits.proofs.value.encode.Goals as goal
-use Rattle.std.proofs.lemmas.Grind.{common_steps}
 
 pub returns-then-value-ge0 : goal.returns-then-value-ge0
 returns-then-value-ge0 c =

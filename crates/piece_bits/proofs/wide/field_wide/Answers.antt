@@ -1,4 +1,4 @@
-use Rattle.piece_bits.proofs.Imports.{ℕ, ◌/◌, ◌%◌, ap, ◌∙◌, arith, rules, SFits, w128, to_z-of_z, decoded, byte_and_bit}
+use Rattle.piece_bits.proofs.Imports.{ℕ, ◌/◌, ◌%◌, ap, ◌∙◌, arith, rules, w128, to_z-of_z, decoded, byte_and_bit}
 use Rattle.piece_bits.proofs.WideLaws.{low_field}
 use Rattle.piece_bits.proofs.wide.field_wide.Goals as goal
 
@@ -6,8 +6,7 @@ pub returns : goal.returns
 returns c =
     let field = c.args.field.now in
     let at = c.args.at in
-    let fits : SFits w128 c.moved_back.result = search rules in
-    to_z-of_z w128 c.moved_back.result fits ∙ c.moved_back.ensures
+    to_z-of_z w128 c.moved_back.result (search rules) ∙ c.moved_back.ensures
     ∙ ap (λ (n : ℕ). decoded field.signed field.width n)
     (low_field c.args.blob.now at (at / 8) (at % 8) field.width field.ones c.whole.result (byte_and_bit at) (omega (arith, c.requires.narrow)) c.requires.form.ones
     c.whole.ensures)

@@ -1,4 +1,4 @@
-use Rattle.piece_bits.proofs.Imports.{ℕ, ap, ◌∙◌, rules, SFits, w128, to_z-of_z, decoded}
+use Rattle.piece_bits.proofs.Imports.{ℕ, ap, ◌∙◌, rules, w128, to_z-of_z, decoded}
 use Rattle.piece_bits.proofs.WideLaws.{high_fits, high_bytes}
 use Rattle.piece_bits.proofs.wide.turned_wide.Goals as goal
 
@@ -8,7 +8,6 @@ moved_back-requires-clause-small c = high_fits c.args.blob.now c.args.first c.ar
 pub returns : goal.returns
 returns c =
     let field = c.args.field.now in
-    let fits : SFits w128 c.moved_back.result = search rules in
-    to_z-of_z w128 c.moved_back.result fits ∙ c.moved_back.ensures
+    to_z-of_z w128 c.moved_back.result (search rules) ∙ c.moved_back.ensures
     ∙ ap (λ (n : ℕ). decoded field.signed field.width n)
     (high_bytes c.args.blob.now c.args.first field.width c.turned.result c.requires.turned c.turned.ensures)

@@ -1,11 +1,10 @@
-use Rattle.piece_bits.proofs.Imports.{ℕ, ap, ◌∙◌, rules, SFits, w128, to_z-of_z, decoded}
+use Rattle.piece_bits.proofs.Imports.{ℕ, ap, ◌∙◌, rules, w128, to_z-of_z, decoded}
 use Rattle.piece_bits.proofs.WideLaws.{low_bytes}
 use Rattle.piece_bits.proofs.wide.whole_wide.Goals as goal
 
 pub returns : goal.returns
 returns c =
     let field = c.args.field.now in
-    let fits : SFits w128 c.moved_back.result = search rules in
-    to_z-of_z w128 c.moved_back.result fits ∙ c.moved_back.ensures
+    to_z-of_z w128 c.moved_back.result (search rules) ∙ c.moved_back.ensures
     ∙ ap (λ (n : ℕ). decoded field.signed field.width n)
     (low_bytes c.args.blob.now c.args.first field.width field.ones c.whole.result c.requires.form.narrow c.requires.form.ones c.whole.ensures)

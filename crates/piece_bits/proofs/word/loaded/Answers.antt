@@ -1,8 +1,6 @@
-use Rattle.piece_bits.proofs.Imports.{bit_at-lt, number_lt}
+use Rattle.piece_bits.proofs.Imports.{bit_at-lt, number_lt, common_steps, arith}
 use Rattle.piece_bits.proofs.Wholes.{whole_some, whole_few}
 use Rattle.piece_bits.proofs.word.loaded.Goals as goal
-use Rattle.std.proofs.lemmas.Grind.{common_steps}
-use Rattle.std.proofs.Common.{arith}
 
 pub decode-requires-clause-some : goal.decode-requires-clause-some
 decode-requires-clause-some c = whole_some c.args.width c.requires.whole

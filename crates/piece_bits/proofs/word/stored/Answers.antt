@@ -1,9 +1,7 @@
-use Rattle.piece_bits.proofs.Imports.{◌≡◌, ◌∙◌, ℕ, ap, bit_at, to_z-of_z, number, digit, number_lt, digit_lt}
+use Rattle.piece_bits.proofs.Imports.{◌≡◌, ◌∙◌, ℕ, ap, bit_at, to_z-of_z, number, digit, number_lt, digit_lt, common_steps, arith}
 use Rattle.piece_bits.proofs.Wholes.{whole_some, whole_few}
 use Rattle.piece_bits.proofs.word.stored.Goals as goal
 use Rattle.piece_bits.proofs.word.stored.Goals.{After-encode}
-use Rattle.std.proofs.lemmas.Grind.{common_steps}
-use Rattle.std.proofs.Common.{arith}
 
 pub encode-requires-clause-some : goal.encode-requires-clause-some
 encode-requires-clause-some c = whole_some c.args.width c.requires.whole

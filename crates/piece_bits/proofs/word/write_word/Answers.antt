@@ -1,7 +1,5 @@
-use Rattle.piece_bits.proofs.Imports.{◌≡◌, ◌<◌, ℤ, ℕ, List, SFits, rules, w128, bit_at, to_z-of_z, number, digit, bit_of, word_place, word_width, Field, Word, TurnedU16, TurnedU32, TurnedU64, TurnedI16, TurnedI32, TurnedI64}
+use Rattle.piece_bits.proofs.Imports.{◌≡◌, ◌<◌, ℤ, ℕ, List, SFits, rules, w128, bit_at, to_z-of_z, number, digit, bit_of, word_place, word_width, Field, Word, TurnedU16, TurnedU32, TurnedU64, TurnedI16, TurnedI32, TurnedI64, common_steps, arith}
 use Rattle.piece_bits.proofs.word.write_word.Goals as goal
-use Rattle.std.proofs.lemmas.Grind.{common_steps}
-use Rattle.std.proofs.Common.{arith}
 
 -- the bits of a word are those of a value that was handed on
 abbrev Stored : Word → Field → ℕ → List ℕ → ℤ → Type 0

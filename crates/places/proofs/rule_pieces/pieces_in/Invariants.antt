@@ -1,5 +1,5 @@
 -- the pieces so far
-use Rattle.std.proofs.Common.{◌≡◌, take}
+use Rattle.record_dim.specs.Std.{◌≡◌, take}
 use Rattle.places.specs.PieceRules.{pieces_in}
 use Rattle.places.proofs.rule_pieces.pieces_in.Given as goal
 

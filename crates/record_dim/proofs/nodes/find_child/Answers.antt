@@ -1,7 +1,6 @@
-use Rattle.record_dim.proofs.Imports.{tree_of, fields_of}
+use Rattle.record_dim.proofs.Imports.{tree_of, fields_of, arith}
 use Rattle.record_dim.proofs.Lookup.{array_place, child_of_array, child_of_field}
 use Rattle.record_dim.proofs.nodes.find_child.Goals as goal
-use Rattle.std.proofs.Common.{arith}
 
 pub returns-in-Array-At-clause-few : goal.returns-in-Array-At-clause-few
 returns-in-Array-At-clause-few c = grind (arith, array_place, tree_of)

@@ -1,7 +1,6 @@
-use Rattle.row_updates.proofs.Imports.{rules, ◌≡◌, ◌∙◌, ◌+◌, ◌-◌, ℕ, count_by, length, sym, ap, subst, arith, count_by-le-length, bound_term, Term, Table, AreWorth, IsCounted, row_test}
+use Rattle.row_updates.proofs.Imports.{rules, ◌≡◌, ◌∙◌, ◌+◌, ◌-◌, ℕ, count_by, length, sym, ap, subst, arith, count_by-le-length, bound_term, Term, Table, AreWorth, IsCounted, row_test, common_steps}
 use Rattle.row_updates.proofs.RunTests.{tested, run_counted}
 use Rattle.row_updates.proofs.count.count_next.Goals as goal
-use Rattle.std.proofs.lemmas.Grind.{common_steps}
 
 pub returns-then-chain_run-clause-few : goal.returns-then-chain_run-clause-few
 returns-then-chain_run-clause-few g c = grind (arith, common_steps, count_by-le-length)

@@ -1,8 +1,7 @@
-use Rattle.row_updates.proofs.Imports.{rules, ◌≡◌, ◌-◌, ◌<◌, ℕ, List, length, map, take, get_or, pos, sym, subst, arith, All-get_or, bound_term, IsSafe, column_writes, raised, raised_same, Table, leaf_type_of, Assign, Setting, setting_of, IsSetOf, IsRunUpdated, IsStill, lane_test}
+use Rattle.row_updates.proofs.Imports.{rules, ◌≡◌, ◌-◌, ◌<◌, ℕ, List, length, map, take, get_or, pos, sym, subst, arith, All-get_or, bound_term, IsSafe, column_writes, raised, raised_same, Table, leaf_type_of, Assign, Setting, setting_of, IsSetOf, IsRunUpdated, IsStill, lane_test, common_steps}
 use Rattle.row_updates.proofs.RunRows.{stored_still}
 use Rattle.row_updates.proofs.RunSets.{last_stored, all_settings}
 use Rattle.row_updates.proofs.run_updates.+sets_run.Goals as goal
-use Rattle.std.proofs.lemmas.Grind.{common_steps}
 
 pub put_run-requires-clause-leaf_in : goal.put_run-requires-clause-leaf_in
 put_run-requires-clause-leaf_in g t c = grind (arith, common_steps, All-get_or)

@@ -1,8 +1,7 @@
-use Rattle.row_updates.proofs.Imports.{rules, ◌≡◌, ◌∙◌, ℕ, ◌∷◌, [], length, sym, ap, subst, arith, first_lane_fault, stored_count, answer_of, setting_of, IsRunUpdated, lane_test}
+use Rattle.row_updates.proofs.Imports.{rules, ◌≡◌, ◌∙◌, ℕ, ◌∷◌, [], length, sym, ap, subst, arith, first_lane_fault, stored_count, answer_of, setting_of, IsRunUpdated, lane_test, common_steps}
 use Rattle.row_updates.proofs.RunSets.{lone_stored}
 use Rattle.row_updates.proofs.Taken.{stored_front, told_none, told_some}
 use Rattle.row_updates.proofs.run_updates.lone_run.Goals as goal
-use Rattle.std.proofs.lemmas.Grind.{common_steps}
 
 pub returns-in-Ok-clause-updated : goal.returns-in-Ok-clause-updated
 returns-in-Ok-clause-updated g c = λ filter tested.

@@ -1,7 +1,6 @@
-use Rattle.row_updates.proofs.Imports.{arith}
+use Rattle.row_updates.proofs.Imports.{arith, common_steps}
 use Rattle.row_updates.proofs.RunRows.{run_more}
 use Rattle.row_updates.proofs.run_updates.update_next.Goals as goal
-use Rattle.std.proofs.lemmas.Grind.{common_steps}
 
 pub returns-clause-done : goal.returns-clause-done
 returns-clause-done g c = grind (arith, common_steps, run_more)

@@ -1,8 +1,6 @@
-use Rattle.row_updates.proofs.Imports.{to_z-of_z}
+use Rattle.row_updates.proofs.Imports.{to_z-of_z, common_steps, arith}
 use Rattle.row_updates.proofs.Rows.{value_tested}
 use Rattle.row_updates.proofs.update.new_value.Goals as goal
-use Rattle.std.proofs.lemmas.Grind.{common_steps}
-use Rattle.std.proofs.Common.{arith}
 
 pub returns-in-Ok-clause-value : goal.returns-in-Ok-clause-value
 returns-in-Ok-clause-value g c = grind (arith, common_steps, to_z-of_z, value_tested)

@@ -1,11 +1,9 @@
-use Rattle.row_updates.proofs.Imports.{◌≡◌, ◌∙◌, length, map, get_or, [], ap, sym, Table, answer_of, after_log, filter_term, setting_of, filter_log, sides_log, tried_log}
+use Rattle.row_updates.proofs.Imports.{◌≡◌, ◌∙◌, length, map, get_or, [], ap, sym, Table, answer_of, after_log, filter_term, setting_of, filter_log, sides_log, tried_log, common_steps, arith}
 use Rattle.row_updates.proofs.Logs.{log_more, tried_log_left, tried_log_fault, tried_log_done}
 use Rattle.row_updates.proofs.Rows.{tried_left, tried_stop, tried_done}
 use Rattle.row_updates.proofs.update.try_at.Given as given
 use Rattle.row_updates.proofs.update.try_at.Goals as goal
 use Rattle.row_updates.proofs.update.try_at.Goals.{After-new_values}
-use Rattle.std.proofs.lemmas.Grind.{common_steps}
-use Rattle.std.proofs.Common.{arith}
 
 pub returns-then-not-branch-clause-tried : goal.returns-then-not-branch-clause-tried
 returns-then-not-branch-clause-tried g c = grind (arith, common_steps, tried_left)

@@ -1,5 +1,5 @@
 use Rattle.session.proofs.Imports.{rules, ◌≡◌, ◌∙◌, ◌^◌, ℕ, false, List, Some, New, Table, loaded_table, read, ◌>>=◌, Named, named, World, goes_then, named_of, new_of, filled_table, world_in, Ok, refl, ap, sure}
-use Rattle.worlds.specs.Load.{loaded}
+use Rattle.worlds.specs.Prelude.{loaded}
 use Rattle.session.proofs.Reading.{IsOf, within_first, before_reading, told_of, loads_of, unloads_of, unread_of, unread_test, unread_gives}
 use Rattle.session.proofs.load.loaded_view.Goals as goal
 

@@ -1,7 +1,6 @@
-use Rattle.subviews.proofs.Imports.{arith, ◌≡◌, length, ℕ, false, List, ap, sym, ◌∙◌, ◌==◌, nat_tests, same_rank, rows_of}
+use Rattle.subviews.proofs.Imports.{arith, ◌≡◌, length, ℕ, false, List, ap, sym, ◌∙◌, ◌==◌, nat_tests, same_rank, rows_of, common_steps}
 use Rattle.subviews.proofs.Corners.{reaches_rest}
 use Rattle.subviews.proofs.reach.reaches.Goals as goal
-use Rattle.std.proofs.lemmas.Grind.{common_steps}
 
 pub all_stay-requires-clause-spans : goal.all_stay-requires-clause-spans
 all_stay-requires-clause-spans c = grind (arith, common_steps, same_rank)

@@ -1,8 +1,6 @@
-use Rattle.subviews.proofs.Imports.{rules, ◌≡◌, ◌∙◌, length, take, sym}
+use Rattle.subviews.proofs.Imports.{rules, ◌≡◌, ◌∙◌, length, take, sym, common_steps, arith}
 use Rattle.subviews.proofs.Back.{all_raised, all_fit, all_kept}
 use Rattle.subviews.proofs.rounds.copy_back.Goals as goal
-use Rattle.std.proofs.lemmas.Grind.{common_steps}
-use Rattle.std.proofs.Common.{arith}
 
 pub put_run-requires-clause-fits : goal.put_run-requires-clause-fits
 put_run-requires-clause-fits g c =

@@ -1,7 +1,6 @@
-use Rattle.subviews.proofs.Imports.{rules, arith, ◌≡◌, ◌-◌, ◌∙◌, ℤ, Err, FitsSigned, subst, to_z, of_z, w64, to_z-of_z, stenciled, stencil_by, planned, Plan}
+use Rattle.subviews.proofs.Imports.{rules, arith, ◌≡◌, ◌-◌, ◌∙◌, ℤ, Err, FitsSigned, subst, to_z, of_z, w64, to_z-of_z, stenciled, stencil_by, planned, Plan, common_steps}
 use Rattle.subviews.proofs.Passes.{plan_still, no_round, same_after, buffer_same, round_done, round_stopped, after_more, IsRefused, is_refused, stopped}
 use Rattle.subviews.proofs.rounds.stencil.Goals as goal
-use Rattle.std.proofs.lemmas.Grind.{common_steps}
 
 pub loop-round-init : goal.loop-round-init
 loop-round-init g c = record {

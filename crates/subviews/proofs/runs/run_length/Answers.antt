@@ -1,8 +1,6 @@
-use Rattle.subviews.proofs.Imports.{arith, ◌≡◌, ◌+◌, ◌-◌, ◌≤◌, Some, subst, mod_below, rows_of}
-use Rattle.std.proofs.Common.{slice_get}
+use Rattle.subviews.proofs.Imports.{arith, ◌≡◌, ◌+◌, ◌-◌, ◌≤◌, Some, subst, mod_below, rows_of, slice_get, common_steps}
 use Rattle.subviews.proofs.Growth.{rows_grow, run_between}
 use Rattle.subviews.proofs.runs.run_length.Goals as goal
-use Rattle.std.proofs.lemmas.Grind.{common_steps}
 
 pub overflow_add-row : goal.overflow_add-row
 overflow_add-row c = omega (arith, c.requires.narrow, c.count-count.ensures.rows, c.count-count.ensures.few, c.requires.row_in)

@@ -1,10 +1,9 @@
-use Rattle.subviews.proofs.Imports.{rules, arith, pos, FitsSigned, w64, get_or, length, ap, ◌∙◌, ints, to_z-of_z, column_reads, Table, after_log, rows_of}
+use Rattle.subviews.proofs.Imports.{rules, arith, pos, FitsSigned, w64, get_or, length, ap, ◌∙◌, ints, to_z-of_z, column_reads, Table, after_log, rows_of, common_steps}
 use Rattle.subviews.proofs.Growth.{run_first, run_inside}
 use Rattle.subviews.proofs.Near.{read_inside, values_read, products_fit, sums_fit, summed_run}
 use Rattle.subviews.proofs.Values.{reached}
 use Rattle.subviews.proofs.Ways.{row_held}
 use Rattle.subviews.proofs.sums.sum_run.Goals as goal
-use Rattle.std.proofs.lemmas.Grind.{common_steps}
 
 pub row_away-first-requires-clause-here : goal.row_away-first-requires-clause-here
 row_away-first-requires-clause-here g c = omega (arith, run_inside c.args.plan.now.window.now c.args.run c.requires.run, c.requires.plan.rows)

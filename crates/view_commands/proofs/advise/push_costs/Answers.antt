@@ -1,7 +1,6 @@
-use Rattle.view_commands.proofs.Imports.{◌∙◌, ◌<◌, length, arith}
+use Rattle.view_commands.proofs.Imports.{◌∙◌, ◌<◌, length, arith, common_steps}
 use Rattle.view_commands.proofs.Advice.{costs_more, costs_all}
 use Rattle.view_commands.proofs.advise.push_costs.Goals as goal
-use Rattle.std.proofs.lemmas.Grind.{common_steps}
 
 pub loop-at-preserved : goal.loop-at-preserved
 loop-at-preserved c =

@@ -1,9 +1,8 @@
-use Rattle.view_commands.proofs.Imports.{rules, refl, bound_term, all_left}
-use Rattle.expr_lang.specs.Terms.{term_of}
+use Rattle.view_commands.proofs.Imports.{rules, refl, bound_term, all_left, arith}
+use Rattle.expr_lang.specs.Prelude.{term_of}
 use Rattle.view_commands.proofs.Arms.{goes_in, no_index, no_leaf, no_value}
 use Rattle.view_commands.proofs.Changing.{changed_as, stopped}
 use Rattle.view_commands.proofs.assign.assigned.Goals as goal
-use Rattle.std.proofs.Common.{arith}
 
 pub returns-in_err-leaf : goal.returns-in_err-leaf
 returns-in_err-leaf g c =

@@ -1,6 +1,5 @@
-use Rattle.view_commands.proofs.Imports.{rules, arith, ◌≡◌, ◌<◌, IsErr, [], length, get_or, ap, ◌∙◌, Stopped-flat_map, Stopped-second, Writes-err, Wrote-append, flat_map_push, bytes_text, bytes_of_bits}
+use Rattle.view_commands.proofs.Imports.{rules, arith, ◌≡◌, ◌<◌, IsErr, [], length, get_or, ap, ◌∙◌, Stopped-flat_map, Stopped-second, Writes-err, Wrote-append, flat_map_push, bytes_text, bytes_of_bits, common_steps}
 use Rattle.view_commands.proofs.by_actors.write_memory.Goals as goal
-use Rattle.std.proofs.lemmas.Grind.{common_steps}
 
 pub returns-in_err-write_bytes : goal.returns-in_err-write_bytes
 returns-in_err-write_bytes g c =

@@ -1,10 +1,8 @@
-use Rattle.view_commands.proofs.Imports.{rules, ◌≡◌, pos, bound_term, FitsSigned, w128, to_z-of_z}
-use Rattle.expr_lang.specs.Terms.{term_of}
+use Rattle.view_commands.proofs.Imports.{rules, ◌≡◌, pos, bound_term, FitsSigned, w128, to_z-of_z, common_steps, arith}
+use Rattle.expr_lang.specs.Prelude.{term_of}
 use Rattle.view_commands.proofs.Arms.{count_done, count_refused, no_test}
 use Rattle.view_commands.proofs.Changing.{stopped}
 use Rattle.view_commands.proofs.reduce.counting.Goals as goal
-use Rattle.std.proofs.lemmas.Grind.{common_steps}
-use Rattle.std.proofs.Common.{arith}
 
 pub returns-in_err-filter : goal.returns-in_err-filter
 returns-in_err-filter g c = grind (arith, common_steps, stopped, no_test)

@@ -1,9 +1,7 @@
-use Rattle.view_commands.proofs.Imports.{rules, FitsSigned, w128, to_z-of_z}
+use Rattle.view_commands.proofs.Imports.{rules, FitsSigned, w128, to_z-of_z, common_steps, arith}
 use Rattle.view_commands.proofs.Arms.{no_column, reduce_done, reduce_empty}
 use Rattle.view_commands.proofs.Changing.{stopped}
 use Rattle.view_commands.proofs.reduce.reduction.Goals as goal
-use Rattle.std.proofs.lemmas.Grind.{common_steps}
-use Rattle.std.proofs.Common.{arith}
 
 pub returns-in_err-leaf : goal.returns-in_err-leaf
 returns-in_err-leaf g c = grind (arith, common_steps, stopped, no_column)

@@ -1,8 +1,6 @@
-use Rattle.view_commands.proofs.Imports.{◌≡◌, All, length, sym, subst, length-map, leaves, owners_of, leaf_types_of, logs_more}
+use Rattle.view_commands.proofs.Imports.{◌≡◌, All, length, sym, subst, length-map, leaves, owners_of, leaf_types_of, logs_more, common_steps, arith}
 use Rattle.view_commands.proofs.Runs.{IsRunBelow, runs_below}
 use Rattle.view_commands.proofs.show.all_runs.Goals as goal
-use Rattle.std.proofs.lemmas.Grind.{common_steps}
-use Rattle.std.proofs.Common.{arith}
 
 pub loop-blob-preserved : goal.loop-blob-preserved
 loop-blob-preserved c = grind (arith, common_steps, logs_more)

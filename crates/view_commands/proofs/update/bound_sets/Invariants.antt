@@ -1,5 +1,4 @@
-use Rattle.view_commands.proofs.Imports.{◌≡◌, length, map, take, assignment_of, IsSetOf, setting_of, bound_sets, Ok}
-use Rattle.std.specs.Prelude.{All}
+use Rattle.view_commands.proofs.Imports.{◌≡◌, length, map, take, assignment_of, IsSetOf, setting_of, bound_sets, Ok, All}
 use Rattle.view_commands.proofs.update.bound_sets.Given as goal
 
 abbrev pub invariant-loop-set : goal.invariant-loop-set

@@ -1,7 +1,6 @@
-use Rattle.view_commands.proofs.Imports.{arith, ◌<◌, ◌∙◌, ◌≤◌, length, map, refl, setting_of, leaf_count_of, leaves_of}
+use Rattle.view_commands.proofs.Imports.{arith, ◌<◌, ◌∙◌, ◌≤◌, length, map, refl, setting_of, leaf_count_of, leaves_of, common_steps}
 use Rattle.view_commands.proofs.Sets.{once_none, once_more, once_stop, once_all, once_few, leaf_at, leaves_below, leaves_long, test_at}
 use Rattle.view_commands.proofs.update.each_once.Goals as goal
-use Rattle.std.proofs.lemmas.Grind.{common_steps}
 
 pub loop-place-init : goal.loop-place-init
 loop-place-init c = once_none c.args.view.now.fields (leaves_of (map setting_of c.args.sets.now))

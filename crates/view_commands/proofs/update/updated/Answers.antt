@@ -1,11 +1,9 @@
-use Rattle.view_commands.proofs.Imports.{rules, refl, map, option_map, assignment_of, front_left, updated_front}
-use Rattle.expr_lang.specs.Terms.{term_of}
+use Rattle.view_commands.proofs.Imports.{rules, refl, map, option_map, assignment_of, front_left, updated_front, common_steps, arith}
+use Rattle.expr_lang.specs.Prelude.{term_of}
 use Rattle.view_commands.proofs.Arms.{front_goes, no_filter, no_sets, not_once, update_goes}
 use Rattle.view_commands.proofs.Changing.{changed_as, stopped}
 use Rattle.view_commands.proofs.Sets.{filter_is, once_left}
 use Rattle.view_commands.proofs.update.updated.Goals as goal
-use Rattle.std.proofs.lemmas.Grind.{common_steps}
-use Rattle.std.proofs.Common.{arith}
 
 pub returns-in_err-filter : goal.returns-in_err-filter
 returns-in_err-filter g c = grind (arith, common_steps, option_map, stopped, no_filter)

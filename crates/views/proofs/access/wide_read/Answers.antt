@@ -1,5 +1,4 @@
-use Rattle.views.proofs.Imports.{◌∙◌, [], length, get_or, SFits, rules, arith, w128, to_z-of_z}
-use Rattle.piece_bits.specs.Wides.{IsWholeWide, IsBlockWide, IsFieldWide, IsTurnedWide}
+use Rattle.views.proofs.Imports.{◌∙◌, [], length, get_or, SFits, rules, arith, w128, to_z-of_z, IsWholeWide, IsBlockWide, IsFieldWide, IsTurnedWide}
 use Rattle.views.proofs.AccessLaws.{StandsIn, stands, blob_there, blob_is, word_read}
 use Rattle.views.proofs.WideLaws.{plain_leads, blocks_lead, wide_seen, room_at, room_by_bit, said_whole, said_field, said_turned, field_alone, turned_is}
 use Rattle.views.proofs.access.wide_read.Goals as goal

@@ -1,6 +1,5 @@
-use Rattle.views.proofs.Imports.{arith, sum_by, lt-leb, le-leb, take_all, sum_by_more, sum_by-take-le}
+use Rattle.views.proofs.Imports.{arith, sum_by, lt-leb, le-leb, take_all, sum_by_more, sum_by-take-le, common_steps}
 use Rattle.views.proofs.fresh.is_within.Goals as goal
-use Rattle.std.proofs.lemmas.Grind.{common_steps}
 
 pub returns-then-bytes-left : goal.returns-then-bytes-left
 returns-then-bytes-left g c = grind (arith, common_steps, sum_by_more, sum_by-take-le, lt-leb, sum_by)

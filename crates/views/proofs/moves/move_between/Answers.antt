@@ -1,6 +1,5 @@
-use Rattle.views.proofs.Imports.{◌≡◌, ◌∙◌, [], get_or, get_or_default, moved_bits}
+use Rattle.views.proofs.Imports.{◌≡◌, ◌∙◌, [], get_or, get_or_default, moved_bits, arith}
 use Rattle.views.proofs.moves.move_between.Goals as goal
-use Rattle.std.proofs.Common.{arith}
 
 pub returns-clause-moved : goal.returns-clause-moved
 returns-clause-moved g c =

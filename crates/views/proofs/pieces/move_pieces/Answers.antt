@@ -1,7 +1,5 @@
-use Rattle.views.proofs.Imports.{get_or_default, get_or-set_same}
+use Rattle.views.proofs.Imports.{get_or_default, get_or-set_same, common_steps, arith}
 use Rattle.views.proofs.pieces.move_pieces.Goals as goal
-use Rattle.std.proofs.lemmas.Grind.{common_steps}
-use Rattle.std.proofs.Common.{arith}
 
 pub move_each-requires-clause-room : goal.move_each-requires-clause-room
 move_each-requires-clause-room g c k inside = grind (arith, common_steps, get_or_default)

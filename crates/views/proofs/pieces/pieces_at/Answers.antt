@@ -1,7 +1,6 @@
-use Rattle.views.proofs.Imports.{◌≡◌, arith, piece_count}
+use Rattle.views.proofs.Imports.{◌≡◌, arith, piece_count, common_steps}
 use Rattle.views.proofs.PieceLaws.{one_piece, first_whole, second_whole}
 use Rattle.views.proofs.pieces.pieces_at.Goals as goal
-use Rattle.std.proofs.lemmas.Grind.{common_steps}
 
 pub returns-then-count-two : goal.returns-then-count-two
 returns-then-count-two c = grind (arith, common_steps, second_whole)

@@ -1,6 +1,5 @@
 use Rattle.views.proofs.size.bytes_for.Goals as goal
-use Rattle.std.proofs.lemmas.Grind.{common_steps}
-use Rattle.std.proofs.Common.{arith}
+use Rattle.record_dim.specs.Std.{common_steps, arith}
 
 -- a mapping that is dropped is one still
 pub invariant_of-map-then-not-branch : goal.invariant_of-map-then-not-branch

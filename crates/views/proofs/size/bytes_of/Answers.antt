@@ -1,6 +1,5 @@
-use Rattle.views.proofs.Imports.{arith, sum_by, take_all, sum_by_more, sum_by-take-le}
+use Rattle.views.proofs.Imports.{arith, sum_by, take_all, sum_by_more, sum_by-take-le, common_steps}
 use Rattle.views.proofs.size.bytes_of.Goals as goal
-use Rattle.std.proofs.lemmas.Grind.{common_steps}
 
 pub overflow_add-bytes : goal.overflow_add-bytes
 overflow_add-bytes g c = grind (arith, common_steps, sum_by_more, sum_by-take-le)

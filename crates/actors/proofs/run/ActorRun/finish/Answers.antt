@@ -1,7 +1,6 @@
-use Rattle.actors.proofs.Imports.{◌≤◌, ◌∙◌, length, ap, arith, fresh_of, Run, job_in, rest_in}
+use Rattle.actors.proofs.Imports.{◌≤◌, ◌∙◌, length, ap, arith, fresh_of, Run, job_in, rest_in, common_steps}
 use Rattle.actors.proofs.Finishes.{all_done, finished_plain}
 use Rattle.actors.proofs.run.ActorRun.finish.Goals as goal
-use Rattle.std.proofs.lemmas.Grind.{common_steps}
 
 pub loop-actor-preserved : goal.loop-actor-preserved
 loop-actor-preserved c = grind (arith, common_steps)

@@ -1,7 +1,6 @@
-use Rattle.actors.proofs.Imports.{arith}
+use Rattle.actors.proofs.Imports.{arith, common_steps}
 use Rattle.actors.proofs.Finishes.{turn_made, actor_done}
 use Rattle.actors.proofs.run.ActorRun.finish_actor.Goals as goal
-use Rattle.std.proofs.lemmas.Grind.{common_steps}
 
 pub loop-preserved : goal.loop-preserved
 loop-preserved c = grind (arith, common_steps, turn_made)

@@ -1,11 +1,10 @@
-use Rattle.actors.proofs.Imports.{◌≡◌, ◌∙◌, ℕ, List, Err, length, get_or, sym, ap, subst, rules, arith, schema_fields, term_of, filter_term, Table, after_log-none, memory_of, fresh_of, NoMemory, table_at, actor_run_of, IsActorRun, without_counts}
+use Rattle.actors.proofs.Imports.{◌≡◌, ◌∙◌, ℕ, List, Err, length, get_or, sym, ap, subst, rules, arith, schema_fields, term_of, filter_term, Table, after_log-none, memory_of, fresh_of, NoMemory, table_at, actor_run_of, IsActorRun, without_counts, common_steps}
 use Rattle.actors.proofs.Begins.{table_same, run_begun, run_kept}
 use Rattle.actors.proofs.Teams.{IsTeam}
 use Rattle.actors.proofs.Turns.{stands_counted}
 use Rattle.actors.proofs.run.ActorRun.new.Given as given
 use Rattle.actors.proofs.run.ActorRun.new.Goals as goal
 use Rattle.actors.proofs.run.ActorRun.new.Goals.{After-mode}
-use Rattle.std.proofs.lemmas.Grind.{common_steps}
 
 abbrev table : (g : given.Over) → After-mode g → Table
 table g c = table_at (schema_fields c.in_ok-schema.schema) c.extents.result (term_of c.in_ok-expr.expr) c.mode.result c.in_ok-found.found.items

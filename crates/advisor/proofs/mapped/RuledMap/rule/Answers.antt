@@ -1,7 +1,6 @@
-use Rattle.advisor.proofs.Imports.{arith}
+use Rattle.advisor.proofs.Imports.{arith, common_steps}
 use Rattle.advisor.proofs.RuledLaws.{has_rule, rule_in}
 use Rattle.advisor.proofs.mapped.RuledMap.rule.Goals as goal
-use Rattle.std.proofs.lemmas.Grind.{common_steps}
 
 pub bounds-as_slice-cell : goal.bounds-as_slice-cell
 bounds-as_slice-cell c = grind (arith, common_steps, has_rule)

@@ -1,5 +1,5 @@
-use Rattle.instrument.proofs.Imports.{arith, ◌≡◌, ◌<◌, ℕ, true, false, [], length, get_or, sym, ap, ◌∙◌, is_touched, HeatCounts, heat_counts, warmed_at, length-warmed, length-heated}
-use Rattle.instrument.proofs.Touches.{is_anew, heated_until, until-start, until-touched, until-more, until-end}
+use Rattle.instrument.proofs.Imports.{arith, ◌≡◌, ◌<◌, ℕ, true, false, [], length, get_or, sym, ap, ◌∙◌, is_touched, HeatCounts, heat_counts, warmed_at, length-warmed, length-heated, common_steps}
+use Rattle.instrument.proofs.Touches.{heated_until, until-start, until-touched, until-more, until-end}
 use Rattle.instrument.proofs.heat.Heat.touch_piece.Goals as goal
 use Rattle.instrument.proofs.heat.Heat.touch_piece.Goals.{then-not-is_touched, else-not-is_touched}
 
@@ -7,20 +7,10 @@ pub loop-number-init : goal.loop-number-init
 loop-number-init c = until-start c.args.times c.granules_of-first.result.0 c.args.earlier.now c.args.piece.now (heat_counts c.args.self.now)
 
 pub warm-requires-clause-blob_in : goal.warm-requires-clause-blob_in
-warm-requires-clause-blob_in c =
-    let heat = heat_counts c.args.self.now in
-    let hot = is_anew heat.granule c.args.earlier.now c.args.piece.now c.granules_of-first.result.0 c.loop-number.number in
-    let blobs = ap (λ (heat : HeatCounts). length heat.blobs) c.loop-number.invariant ∙ length-warmed c.args.times hot heat.blobs in
-    omega (arith, blobs, c.requires.blob_in)
+warm-requires-clause-blob_in c = grind (arith, common_steps, length-warmed)
 
 pub warm-requires-clause-granule_in : goal.warm-requires-clause-granule_in
-warm-requires-clause-granule_in c =
-    let piece = c.args.piece.now in
-    let heat = heat_counts c.args.self.now in
-    let hot = is_anew heat.granule c.args.earlier.now piece c.granules_of-first.result.0 c.loop-number.number in
-    let long = ap (λ (heat : HeatCounts). length (get_or heat.blobs piece.blob [])) c.loop-number.invariant ∙ length-heated c.args.times hot heat.blobs piece.blob c.requires.blob_in in
-    let past = c.granules_of-first.ensures.within (length (get_or heat.blobs piece.blob [])) c.requires.within in
-    omega (arith, long, past, c.loop-number-test.true)
+warm-requires-clause-granule_in c = grind (arith, common_steps, get_or, length-heated)
 
 pub loop-number-preserved : goal.loop-number-preserved
 loop-number-preserved c =

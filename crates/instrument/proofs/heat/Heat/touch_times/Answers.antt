@@ -1,4 +1,4 @@
-use Rattle.instrument.proofs.Imports.{arith, ◌<◌, List, length, get_or, take, sym, ap, subst, ◌∙◌, take_all, get_or_default, All-get_or, HeatCounts, heat_counts, heated_times, IsCountedPiece, heated_besides, Piece, counted_kept}
+use Rattle.instrument.proofs.Imports.{arith, ◌<◌, List, length, get_or, take, ap, ◌∙◌, take_all, get_or_default, All-get_or, heat_counts, heated_times, IsCountedPiece, heated_besides, Piece, counted_kept}
 use Rattle.instrument.proofs.Touches.{heated-none, heated-more}
 use Rattle.instrument.proofs.heat.Heat.touch_times.Goals as goal
 
@@ -12,8 +12,7 @@ touch_piece-requires c =
     let heat = heat_counts c.args.self.now in
     let nowhere : Piece = record { blob = 0; bit = 0; bits = 0 } in
     let counted = counted_kept c.args.times heat (take at items) (get_or items at nowhere) (All-get_or (IsCountedPiece heat) items at nowhere (omega arith) c.requires) in
-    subst (λ (pieces : List Piece). IsCountedPiece (heat_counts c.loop-at.self) (get_or pieces at nowhere)) (sym c.as_slice-items.ensures.value)
-    (subst (λ (heat : HeatCounts). IsCountedPiece heat (get_or items at nowhere)) (sym c.loop-at.invariant) counted)
+    grind (arith, get_or)
 
 pub loop-at-preserved : goal.loop-at-preserved
 loop-at-preserved c =

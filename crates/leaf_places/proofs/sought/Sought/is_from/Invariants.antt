@@ -1,6 +1,6 @@
 -- the bits so far
-use Rattle.std.proofs.Common.{ℕ, ◌≡◌, ◌<◌}
-use Rattle.piece_bits.specs.Inner.Spots.{spots_of, spot_at}
+use Rattle.record_dim.specs.Std.{ℕ, ◌≡◌, ◌<◌}
+use Rattle.piece_bits.specs.Prelude.{spots_of, spot_at}
 use Rattle.leaf_places.specs.Spots.{bit_by}
 use Rattle.leaf_places.proofs.sought.Sought.is_from.Given as goal
 

@@ -2,6 +2,7 @@ use Rattle.map_any.proofs.Imports.{◌≡◌, ◌<◌, ◌∙◌, ℕ, List, len
 use Rattle.map_any.proofs.ArrayLaws.{leaf_array}
 use Rattle.map_any.proofs.LeafLaws.{leaf_placed, leaf_whole}
 use Rattle.map_any.proofs.any.AnyMap.leaf_rule.Goals as goal
+use Rattle.std.proofs.lemmas.Grind.{common_steps}
 
 in_kinds : (m : AnyMap) (leaf : ℕ) → leaf < length (leaf_cells (kinds_of (schema_fields m.schema))) → leaf < length (kinds_of (schema_fields m.schema))
 in_kinds m leaf low = omega (arith, length-leaf_cells (kinds_of (schema_fields m.schema)))
@@ -15,25 +16,21 @@ pub bounds-as_slice-leaf : goal.bounds-as_slice-leaf
 bounds-as_slice-leaf c = inside c.args.self.now c.as_slice.result.now c.args.leaf c.as_slice.ensures c.requires
 
 pub offset_bounds-as_slice-leaf : goal.offset_bounds-as_slice-leaf
-offset_bounds-as_slice-leaf c =
-    let low : c.args.leaf < length c.as_slice.result.now = inside c.args.self.now c.as_slice.result.now c.args.leaf c.as_slice.ensures c.requires in
-    omega arith
+offset_bounds-as_slice-leaf c = grind (arith, common_steps, inside)
 
 pub returns-clause-places : goal.returns-clause-places
 returns-clause-places c =
     let m = c.args.self.now in
     let item : LeafRule = c.index-as_slice-leaf.result in
-    let read : item ≡ get_or m.rules c.args.leaf item = c.index-as_slice-leaf.is ∙ ap (λ (rs : List LeafRule). get_or rs c.args.leaf item) c.as_slice.ensures in
     leaf_placed (layout_by (term_of m.expr) m.extents (schema_fields m.schema)) m.extents (kinds_of (schema_fields m.schema)) m.holds m.rules c.args.leaf item m.ruled
-    (in_kinds m c.args.leaf c.requires) read
+    (in_kinds m c.args.leaf c.requires) (c.index-as_slice-leaf.is ∙ ap (λ (rs : List LeafRule). get_or rs c.args.leaf item) c.as_slice.ensures)
 
 pub returns-clause-whole : goal.returns-clause-whole
 returns-clause-whole c =
     let m = c.args.self.now in
     let item : LeafRule = c.index-as_slice-leaf.result in
-    let read : item ≡ get_or m.rules c.args.leaf item = c.index-as_slice-leaf.is ∙ ap (λ (rs : List LeafRule). get_or rs c.args.leaf item) c.as_slice.ensures in
     leaf_whole (layout_by (term_of m.expr) m.extents (schema_fields m.schema)) m.extents (kinds_of (schema_fields m.schema)) m.holds m.rules c.args.leaf item m.ruled
-    (in_kinds m c.args.leaf c.requires) read
+    (in_kinds m c.args.leaf c.requires) (c.index-as_slice-leaf.is ∙ ap (λ (rs : List LeafRule). get_or rs c.args.leaf item) c.as_slice.ensures)
 
 pub returns-clause-wide : goal.returns-clause-wide
 returns-clause-wide c =

@@ -1,4 +1,4 @@
-use Rattle.map_any.proofs.Imports.{ℕ, ◌≡◌, ◌<◌, List, map, length, All, subst, arith, All-map, indices, slot_at, Hold, Piece, piece_in, PieceRule, pieces_of}
+use Rattle.map_any.proofs.Imports.{ℕ, ◌≡◌, List, map, length, All, subst, arith, All-map, indices, slot_at, Hold, Piece, piece_in, PieceRule, pieces_of}
 use Rattle.map_any.proofs.Filling.{layout_in, width_in, laid_in, not_here}
 use Rattle.map_any.proofs.any.AnyMap.lies_in.Goals as goal
 
@@ -12,7 +12,6 @@ returns c = λ no' row place bit owner.
     let Elsewhere : PieceRule → Type 0 = λ piece. piece.blob ≡ blob → ⊥ in
     let rules : All Elsewhere rule.pieces.items =
     subst (λ (pieces : List PieceRule). All Elsewhere pieces) c.as_slice.ensures.value (c.touches.ensures no') in
-    let bit_in : bit < width_in m c.args.leaf = of.bit_in in
     not_here (layout_in m) (length (indices m.extents)) (map (λ (h : Hold). h.width) m.holds) (laid_in m) blob row c.args.leaf 0 (width_in m c.args.leaf)
     (pieces_of rule m.extents row) (c.rule-rule.ensures.places row of.slot_in).spelled
     (All-map (λ (piece : Piece). piece.blob ≡ blob → ⊥) (λ (piece : PieceRule). piece_in piece slot) rule.pieces.items rules)

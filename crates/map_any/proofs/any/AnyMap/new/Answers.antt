@@ -1,20 +1,16 @@
-use Rattle.map_any.proofs.Imports.{◌≡◌, ◌∙◌, ℕ, List, Ok, false, map, length, refl, ap, subst, sym, schema_fields, kinds_of, Fields, Cell, Hold, Term, term_of, bad_number, leaf_cells, layout_by, accepted, not_full, IsBuiltTerm, is_counted, AreLeafRules, IsWideIn, HasArrays, EachWith, IsRuled, Rule, IsPlanOf}
+use Rattle.map_any.proofs.Imports.{◌≡◌, ◌∙◌, ℕ, List, Ok, false, map, refl, ap, subst, sym, schema_fields, kinds_of, Fields, Cell, Hold, Term, term_of, bad_number, leaf_cells, layout_by, accepted, not_full, IsBuiltTerm, is_counted, IsWideIn, EachWith, IsRuled, IsPlanOf}
 use Rattle.map_any.proofs.ArrayLaws.{leaves_arrays}
 use Rattle.map_any.proofs.LeafLaws.{leaves_ruled, whole_holds, whole_rules}
 use Rattle.map_any.proofs.Built.{good_parts, good_number}
 use Rattle.map_any.proofs.any.AnyMap.new.Goals as goal
+use Rattle.std.proofs.lemmas.Grind.{common_steps}
+use Rattle.std.proofs.Common.{arith}
 
 pub leaf_rules-requires-clause-holds : goal.leaf_rules-requires-clause-holds
-leaf_rules-requires-clause-holds c =
-    ap (λ (hs : List Hold). length hs) c.as_slice.ensures
-    ∙ whole_holds (term_of c.args.expr.now) c.args.extents.now (schema_fields c.args.schema.now) c.in_ok-cells.cells c.in_ok-plan.plan c.in_ok-plan.ensures.plan
-    c.in_ok-cells.ensures
+leaf_rules-requires-clause-holds c = grind (arith, common_steps, whole_holds)
 
 pub leaf_rules-requires-clause-rules : goal.leaf_rules-requires-clause-rules
-leaf_rules-requires-clause-rules c =
-    ap (λ (rs : List Rule). length rs) c.as_slice-2.ensures
-    ∙ whole_rules (term_of c.args.expr.now) c.args.extents.now (schema_fields c.args.schema.now) c.in_ok-cells.cells c.in_ok-plan.plan c.in_ok-plan.ensures.plan
-    c.in_ok-cells.ensures
+leaf_rules-requires-clause-rules c = grind (arith, common_steps, whole_rules)
 
 pub invariant_of-result : goal.invariant_of-result
 invariant_of-result c =
@@ -27,34 +23,24 @@ invariant_of-result c =
     let is_full : not_full term (schema_fields c.args.schema.now) c.in_ok-cells.cells ≡ false =
     good_parts term (schema_fields c.args.schema.now) c.in_ok-cells.cells ok in
     let same : copy ≡ term = c.in_ok-expr.ensures in
-    let trees : schema_fields c.args.schema.now ≡ fields = sym c.in_ok-schema.ensures in
     let one = subst (λ (cs : List Cell). IsPlanOf term extents (schema_fields c.args.schema.now) cs plan) c.in_ok-cells.ensures c.in_ok-plan.ensures.plan in
-    let two = subst (λ (f : Fields). IsPlanOf term extents f (leaf_cells (kinds_of f)) plan) trees one in
+    let two = subst (λ (f : Fields). IsPlanOf term extents f (leaf_cells (kinds_of f)) plan) (sym c.in_ok-schema.ensures) one in
     let planned : IsPlanOf copy extents fields (leaf_cells (kinds_of fields)) plan =
     subst (λ (t : Term). IsPlanOf t extents fields (leaf_cells (kinds_of fields)) plan) (sym same) two in
     record {
       built = subst IsBuiltTerm (sym same) c.requires.built;
       numbers = ap bad_number same ∙ good_number term (schema_fields c.args.schema.now) c.in_ok-cells.cells ok;
-      full =
-          subst (λ (t : Term). not_full t fields (leaf_cells (kinds_of fields)) ≡ false) (sym same)
-          (subst (λ (f : Fields). not_full term f (leaf_cells (kinds_of f)) ≡ false) trees
-          (subst (λ (cs : List Cell). not_full term (schema_fields c.args.schema.now) cs ≡ false) c.in_ok-cells.ensures is_full));
+      full = grind arith;
       held = planned.held;
       sized = planned.sized;
       ruled = leaves_ruled (layout_by copy extents fields) extents (kinds_of fields) plan.holds plan.rules c.in_ok-rules.rules
           (subst (λ (hs : List Hold). IsRuled (layout_by copy extents fields) extents (map (λ (h : Hold). h.width) hs) plan.rules) (sym planned.held) planned.ruled)
           (whole_holds copy extents fields (leaf_cells (kinds_of fields)) plan planned refl)
-          (subst (λ (f : Fields). AreLeafRules (kinds_of f) extents plan.holds plan.rules c.in_ok-rules.rules) trees
-          (subst (λ (hs : List Hold). AreLeafRules (kinds_of (schema_fields c.args.schema.now)) extents hs plan.rules c.in_ok-rules.rules) c.as_slice.ensures
-          (subst (λ (rs : List Rule). AreLeafRules (kinds_of (schema_fields c.args.schema.now)) extents c.as_slice.result.now rs c.in_ok-rules.rules) c.as_slice-2.ensures
-          c.in_ok-rules.ensures.whole)));
+          (grind arith);
       wide = subst (λ (ls : List ℕ). EachWith (λ k leaf. IsWideIn ls leaf) c.in_ok-rules.rules) c.as_slice-3.ensures c.in_ok-rules.ensures.wide;
       arrays = leaves_arrays copy extents (leaf_cells (kinds_of fields)) (kinds_of (schema_fields c.args.schema.now)) c.as_slice.result.now plan.rules c.in_ok-rules.rules
           (whole_rules term extents (schema_fields c.args.schema.now) c.in_ok-cells.cells plan c.in_ok-plan.ensures.plan c.in_ok-cells.ensures)
-          (subst (λ (rs : List Rule). AreLeafRules (kinds_of (schema_fields c.args.schema.now)) extents c.as_slice.result.now rs c.in_ok-rules.rules) c.as_slice-2.ensures
-          c.in_ok-rules.ensures.whole)
-          (subst (λ (t : Term). HasArrays t extents (leaf_cells (kinds_of fields)) plan.rules) (sym same)
-          (subst (λ (f : Fields). HasArrays term extents (leaf_cells (kinds_of f)) plan.rules) trees
-          (subst (λ (cs : List Cell). HasArrays term extents cs plan.rules) c.in_ok-cells.ensures c.in_ok-plan.ensures.arrays)));
+          (grind arith)
+          (grind arith);
       uncounted = λ counted. c.in_ok-rules.ensures.uncounted (c.is_counted.ensures ∙ ap is_counted (sym same) ∙ counted);
     }

@@ -13,9 +13,9 @@ pub slot_of_row-requires-clause-few : goal.slot_of_row-requires-clause-few
 slot_of_row-requires-clause-few c = c.leaf_rule.ensures.places.few
 
 one_item : (xs : List PieceRule) (x : PieceRule) → 1 ≤ length xs → length xs < 2 → x ≡ get_or xs 0 x → xs ≡ x ∷ []
-one_item [] x low high read = let none : ⊥ = omega arith in absurd none
+one_item [] x low high read = absurd (omega arith)
 one_item (y ∷ []) x low high read = ap (λ (z : PieceRule). z ∷ []) (sym read)
-one_item (y ∷ z ∷ zs) x low high read = let none : ⊥ = omega arith in absurd none
+one_item (y ∷ z ∷ zs) x low high read = absurd (omega arith)
 
 -- the one piece of the rule is the place of the leaf
 located : (c : goal.After-slot_of_row) → IsLocated (layout_in c.args.self.now) c.args.row c.args.leaf (width_in c.args.self.now c.args.leaf)
@@ -34,7 +34,7 @@ piece-requires c =
     let item : PieceRule = c.piece-item.result in
     record {
       fits = begins_fit (layout_in m) c.args.row c.args.leaf (width_in m c.args.leaf) c.slot_of_row.result (item ∷ [])
-          (located (goal.at.piece-requires c).After-slot_of_row) 0 item (let l : 0 < 1 = omega arith in l);
+          (located (goal.at.piece-requires c).After-slot_of_row) 0 item (omega arith);
     }
 
 pub returns : goal.returns

@@ -1,22 +1,16 @@
-use Rattle.map_any.proofs.Imports.{◌≡◌, ◌<◌, ◌∙◌, ◌^◌, ◌/◌, List, get_or, sym, ap, subst, kinds_of, schema_fields, Piece, begin_in, PieceRule, term_of, leaf_cells}
+use Rattle.map_any.proofs.Imports.{◌≡◌, ◌∙◌, ◌/◌, List, get_or, ap, kinds_of, schema_fields, Piece, begin_in, PieceRule, term_of, leaf_cells}
 use Rattle.map_any.proofs.ArrayLaws.{piece_fits, array_place}
 use Rattle.map_any.proofs.any.AnyMap.place_of.Goals as goal
 use Rattle.map_any.proofs.any.AnyMap.place_of.Goals.{After-index-as_slice-0}
+use Rattle.std.proofs.lemmas.Grind.{common_steps}
+use Rattle.std.proofs.Common.{arith}
 
 -- the rule that is read is the first of the leaf
 first : (c : goal.After-index-as_slice-0) → c.index-as_slice-0.result ≡ get_or c.leaf_rule.result.now.rule.pieces.items 0 c.index-as_slice-0.result
 first c = c.index-as_slice-0.is ∙ ap (λ (ps : List PieceRule). get_or ps 0 c.index-as_slice-0.result) c.as_slice.ensures.value
 
 pub piece-piece-requires : goal.piece-piece-requires
-piece-piece-requires c =
-    let m = c.args.self.now in
-    let piece : PieceRule = c.index-as_slice-0.result in
-    record {
-      fits =
-          subst (λ (p : PieceRule). begin_in p c.args.slot < 2 ^ 64) (sym (first (goal.at.piece-piece-requires c).After-index-as_slice-0))
-          (piece_fits (term_of m.expr) m.extents (leaf_cells (kinds_of (schema_fields m.schema))) c.args.leaf c.args.slot c.leaf_rule.result.now.rule c.leaf_rule.ensures.array
-          c.requires.slot_in piece);
-    }
+piece-piece-requires c = grind (arith, common_steps, piece_fits)
 
 pub returns : goal.returns
 returns c =

@@ -1,35 +1,26 @@
-use Rattle.map_any.proofs.Imports.{rules, ◌≡◌, ◌<◌, ◌∙◌, ◌*◌, ◌^◌, ◌/◌, ◌%◌, ℕ, get_or, sym, ap, subst, arith, kinds_of, schema_fields, Piece, begin_in, PieceRule, term_of, leaf_cells}
+use Rattle.map_any.proofs.Imports.{rules, ◌≡◌, ◌<◌, ◌∙◌, ◌*◌, ◌/◌, ◌%◌, ℕ, get_or, ap, subst, arith, kinds_of, schema_fields, Piece, begin_in, PieceRule, term_of, leaf_cells}
 use Rattle.map_any.proofs.ArrayLaws.{piece_fits}
 use Rattle.map_any.proofs.EvenLaws.{array_places}
 use Rattle.map_any.proofs.any.AnyMap.places_of.Goals as goal
 use Rattle.map_any.proofs.any.AnyMap.places_of.Goals.{After-index-as_slice-0}
+use Rattle.std.proofs.lemmas.Grind.{common_steps}
 
 -- the rule that is read is the first of the leaf
 first : (c : goal.After-index-as_slice-0) → c.index-as_slice-0.result ≡ get_or c.leaf_rule.result.now.rule.pieces.items 0 c.index-as_slice-0.result
 first c = c.index-as_slice-0.is ∙ ap (λ ps. get_or ps 0 c.index-as_slice-0.result) c.as_slice.ensures.value
 
 pub piece-first-requires : goal.piece-first-requires
-piece-first-requires c =
-    let m = c.args.self.now in
-    let piece : PieceRule = c.index-as_slice-0.result in
-    record {
-      fits =
-          subst (λ (p : PieceRule). begin_in p c.args.slot < 2 ^ 64) (sym (first (goal.at.piece-first-requires c).After-index-as_slice-0))
-          (piece_fits (term_of m.expr) m.extents (leaf_cells (kinds_of (schema_fields m.schema))) c.args.leaf c.args.slot c.leaf_rule.result.now.rule c.leaf_rule.ensures.array
-          c.requires.slot_in piece);
-    }
+piece-first-requires c = grind (arith, common_steps, piece_fits)
 
 pub returns : goal.returns
 returns c =
     let m = c.args.self.now in
     let piece : PieceRule = c.index-as_slice-0.result in
     let read : piece ≡ get_or c.leaf_rule.result.now.rule.pieces.items 0 piece = first (goal.at.returns c).After-index-as_slice-0 in
-    let even : c.args.n % piece.lanes ≡ 0 = omega arith in
-    let step : c.in_ok-step.step ≡ c.args.n / piece.lanes * piece.block = search rules in
     array_places (term_of m.expr) m.extents (schema_fields m.schema) (leaf_cells (kinds_of (schema_fields m.schema))) m.holds c.args.leaf c.args.slot c.args.n
     c.leaf_rule.result.now.rule piece _ _ _ m.held c.leaf_rule.ensures.array
     (subst (λ (p : PieceRule). 0 < p.lanes) read piece.some)
-    (subst (λ (p : PieceRule). c.args.n % p.lanes ≡ 0) read even)
+    (subst (λ (p : PieceRule). c.args.n % p.lanes ≡ 0) read (omega arith))
     (ap (λ (p : Piece). p.blob) c.piece-first.ensures ∙ ap (λ (p : PieceRule). p.blob) read)
     (ap (λ (p : Piece). p.bit / 8) c.piece-first.ensures ∙ ap (λ (p : PieceRule). begin_in p c.args.slot / 8) read)
-    (ap (λ (n : ℕ). n / 8) step ∙ ap (λ (p : PieceRule). c.args.n / p.lanes * p.block / 8) read)
+    (ap (λ (n : ℕ). n / 8) (search rules) ∙ ap (λ (p : PieceRule). c.args.n / p.lanes * p.block / 8) read)

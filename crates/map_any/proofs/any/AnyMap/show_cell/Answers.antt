@@ -1,20 +1,11 @@
-use Rattle.map_any.proofs.Imports.{◌≡◌, ℕ, ◌+◌, ◌-◌, ◌<◌, ◌≤◌, List, [], ◌∷◌, map, length, get_or, drop, sym, ap, ◌∙◌, subst, arith, flat_map, range_with_len, drop_more, drop_all, indices, Owner, Bit, owners_in, IsLaidOut, spells_split, bits_located, Hold, Piece, RunOwner, IsFilled, IsShown, ShowBelow}
+use Rattle.map_any.proofs.Imports.{◌≡◌, ℕ, ◌+◌, ◌-◌, ◌<◌, ◌≤◌, List, ◌∷◌, map, length, get_or, drop, sym, ap, ◌∙◌, subst, arith, flat_map, range_with_len, drop_more, drop_all, indices, Owner, Bit, owners_in, IsLaidOut, spells_split, bits_located, Hold, Piece, RunOwner, IsFilled, IsShown, ShowBelow}
 use Rattle.map_any.proofs.Filling.{layout_in, width_in, laid_in, narrow_in, filled_self, filled_twice, piece_filled, shows_piece, shows_other, shows_all}
 use Rattle.map_any.proofs.any.AnyMap.show_cell.Goals as goal
 use Rattle.map_any.proofs.any.AnyMap.show_cell.Goals.{then-piece-blob, else-piece-blob}
+use Rattle.std.proofs.lemmas.Grind.{common_steps}
 
 pub loop-piece-init : goal.loop-piece-init
-loop-piece-init c =
-    let m = c.args.self.now in
-    let layout : List (List Owner) = layout_in m in
-    let whole : width_in m c.args.leaf ≡ width_in m c.args.leaf - 0 = omega arith in
-    record {
-      fits = omega arith;
-      left = ap (λ (pieces : List Piece). flat_map (owners_in layout) pieces) c.as_slice-piece-items.ensures.value ∙ c.locate-pieces.ensures.spelled
-          ∙ ap (λ (n : ℕ). map (Bit c.args.row c.args.leaf) (range_with_len 0 n)) whole;
-      filled = filled_self layout c.args.blob c.args.owners.now;
-      shown = λ place bit (below : bit < 0) owner. let none : ⊥ = omega arith in absurd none;
-    }
+loop-piece-init c = grind (arith, common_steps, flat_map, range_with_len, filled_self)
 
 -- what stands outside of a list of pieces
 abbrev no_piece : Piece
@@ -24,8 +15,7 @@ no_piece = record { blob = 0; bit = 0; bits = 0 }
 split_at : (layout : List (List Owner)) (row leaf low width i : ℕ) (pieces : List Piece) (d : Piece) → i < length pieces
     → flat_map (owners_in layout) (drop i pieces) ≡ map (Bit row leaf) (range_with_len low (width - low))
     → flat_map (owners_in layout) (get_or pieces i d ∷ drop (i + 1) pieces) ≡ map (Bit row leaf) (range_with_len low (width - low))
-split_at layout row leaf low width i pieces d inside left =
-    sym (ap (λ (ps : List Piece). flat_map (owners_in layout) ps) (drop_more pieces i d inside)) ∙ left
+split_at layout row leaf low width i pieces d inside left = grind (arith, flat_map, drop_more)
 
 pub loop-piece-preserved : goal.loop-piece-preserved
 loop-piece-preserved c =
@@ -46,14 +36,11 @@ loop-piece-preserved c =
     let old : List RunOwner = c.loop-piece.owners in
     let new : List RunOwner = c.if-piece-blob.owners in
     let so_far = c.loop-piece.invariant in
-    let below : low ≤ width = so_far.fits in
     let split = spells_split layout (Bit row leaf) low (width - low) piece later
     (split_at layout row leaf low width i pieces no_piece c.loop-piece-test.true so_far.left) in
-    let bits : piece.bits ≤ width - low = split.fits in
     let fits : low + piece.bits ≤ width = omega arith in
-    let rest : width - low - piece.bits ≡ width - (low + piece.bits) = omega arith in
     let left : flat_map (owners_in layout) later ≡ map (Bit row leaf) (range_with_len (low + piece.bits) (width - (low + piece.bits))) =
-    split.rest ∙ ap (λ (n : ℕ). map (Bit row leaf) (range_with_len (low + piece.bits) n)) rest in
+    split.rest ∙ ap (λ (n : ℕ). map (Bit row leaf) (range_with_len (low + piece.bits) n)) (omega arith) in
     elim c.if-piece-blob.branch [
       | then-piece-blob w ↦
           let here : piece.blob ≡ blob = w.if-piece-blob.true in
@@ -107,11 +94,6 @@ returns-clause-shown c =
     let layout : List (List Owner) = layout_in m in
     let width : ℕ = width_in m c.args.leaf in
     let low : ℕ = c.loop-piece.low in
-    let below : low ≤ width = c.loop-piece.invariant.fits in
-    let none : 0 ≡ width - low =
-    bits_located layout (Bit c.args.row c.args.leaf) low (width - low) []
-    (sym (ap (λ (ps : List Piece). flat_map (owners_in layout) ps) (drop_all c.loop-piece.piece-index c.as_slice-piece-items.result.now c.loop-piece-test.false))
-    ∙ c.loop-piece.invariant.left) in
-    let all : low ≡ width = omega arith in
+    let none : 0 ≡ width - low = grind (arith, bits_located, flat_map, drop_all) in
     shows_all layout (length (indices m.extents)) (map (λ (h : Hold). h.width) m.holds) (laid_in m) c.args.blob c.args.row c.args.leaf c.loop-piece.owners
-    (subst (λ (n : ℕ). ShowBelow layout c.args.blob c.args.row c.args.leaf n c.loop-piece.owners) all c.loop-piece.invariant.shown)
+    (subst (λ (n : ℕ). ShowBelow layout c.args.blob c.args.row c.args.leaf n c.loop-piece.owners) (omega arith) c.loop-piece.invariant.shown)

@@ -8,5 +8,4 @@ returns-then-rule-near-clause-declared c = λ high.
 
 pub returns-then-rule-near-clause-held : goal.returns-then-rule-near-clause-held
 returns-then-rule-near-clause-held c = λ high.
-    let taken = c.leaf_rule-rule.ensures.whole.taken in
-    (taken c.args.value (search rules) (search rules)).1
+    (c.leaf_rule-rule.ensures.whole.taken c.args.value (search rules) (search rules)).1

@@ -1,6 +1,7 @@
-use Rattle.map_any.proofs.Imports.{ℕ, ◌≡◌, ◌<◌, ◌∙◌, List, length, slice_get, sym, ap, subst, arith, slice_get-get_or, schema_fields, kinds_of, Hold, term_of, AnyMap, leaf_cells}
+use Rattle.map_any.proofs.Imports.{ℕ, ◌≡◌, ◌<◌, List, length, slice_get, sym, subst, arith, slice_get-get_or, schema_fields, kinds_of, Hold, term_of, AnyMap, leaf_cells}
 use Rattle.map_any.proofs.AnyFacts.{hold_in}
 use Rattle.map_any.proofs.any_map.AnyMapMapping.hold.Goals as goal
+use Rattle.std.proofs.lemmas.Grind.{common_steps}
 
 inside : (m : AnyMap) (holds : List Hold) (cell : ℕ) → holds ≡ m.holds → cell < length (leaf_cells (kinds_of (schema_fields m.schema))) → cell < length holds
 inside m holds cell is low =
@@ -10,11 +11,7 @@ pub bounds-as_slice-cell : goal.bounds-as_slice-cell
 bounds-as_slice-cell c = inside c.args.self.now c.as_slice.result.now c.args.cell c.as_slice.ensures c.requires
 
 pub offset_bounds-as_slice-cell : goal.offset_bounds-as_slice-cell
-offset_bounds-as_slice-cell c =
-    let low : c.args.cell < length c.as_slice.result.now = inside c.args.self.now c.as_slice.result.now c.args.cell c.as_slice.ensures c.requires in
-    omega arith
+offset_bounds-as_slice-cell c = grind (arith, common_steps, inside)
 
 pub returns : goal.returns
-returns c =
-    ap (λ (hs : List Hold). slice_get hs c.args.cell) (sym c.as_slice.ensures)
-    ∙ slice_get-get_or c.as_slice.result.now c.args.cell _ (inside c.args.self.now c.as_slice.result.now c.args.cell c.as_slice.ensures c.requires)
+returns c = grind (arith, common_steps, slice_get, slice_get-get_or, inside)

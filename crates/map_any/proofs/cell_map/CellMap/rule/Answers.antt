@@ -1,19 +1,16 @@
 use Rattle.map_any.proofs.Imports.{◌≡◌, ◌<◌, ◌∙◌, ℕ, List, length, get_or, ap, arith, schema_fields, term_of, Rule, CellMap}
 use Rattle.map_any.proofs.CellFacts.{has_rule, rule_in}
 use Rattle.map_any.proofs.cell_map.CellMap.rule.Goals as goal
+use Rattle.std.proofs.lemmas.Grind.{common_steps}
 
 inside : (m : CellMap) (rules : List Rule) (cell : ℕ) → rules ≡ m.plan.rules → cell < length m.cells.items → cell < length rules
-inside m rules cell is low =
-    let same : length rules ≡ length m.plan.rules = ap (λ (rs : List Rule). length rs) is in
-    omega (arith, has_rule (term_of m.expr) m.extents (schema_fields m.schema) m.cells.items m.plan m.made cell low)
+inside m rules cell is low = grind (arith, has_rule)
 
 pub bounds-as_slice-cell : goal.bounds-as_slice-cell
 bounds-as_slice-cell c = inside c.args.self.now c.as_slice.result.now c.args.cell c.as_slice.ensures c.requires
 
 pub offset_bounds-as_slice-cell : goal.offset_bounds-as_slice-cell
-offset_bounds-as_slice-cell c =
-    let low : c.args.cell < length c.as_slice.result.now = inside c.args.self.now c.as_slice.result.now c.args.cell c.as_slice.ensures c.requires in
-    omega arith
+offset_bounds-as_slice-cell c = grind (arith, common_steps, inside)
 
 pub returns : goal.returns
 returns c =

@@ -1,9 +1,8 @@
-use Rattle.map_aos.proofs.Imports.{◌<◌, arith}
+use Rattle.map_aos.proofs.Imports.{arith}
 use Rattle.map_aos.proofs.Blob.{offset_fits}
 use Rattle.map_aos.proofs.aos.Aos.offset.Goals as goal
 
 pub returns-clause-low : goal.returns-clause-low
 returns-clause-low c =
     let m = c.args.self.now in
-    let some : 0 < m.slots = let h = c.if-self-eq0.false in omega arith in
-    offset_fits m.form m.slots m.cells.items m.offsets.items m.stride c.args.cell _ m.stored m.bound some c.requires c.index.ensures
+    offset_fits m.form m.slots m.cells.items m.offsets.items m.stride c.args.cell _ m.stored m.bound (omega arith) c.requires c.index.ensures

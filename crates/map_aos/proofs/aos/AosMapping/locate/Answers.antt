@@ -1,4 +1,4 @@
-use Rattle.map_aos.proofs.Imports.{ℕ, ◌<◌, List, [], ◌∷◌, map, slice_index, sym, subst, arith, widths_of, full_holds, IsLocated, Hold, Piece, aos_layout, begins_fit}
+use Rattle.map_aos.proofs.Imports.{[], ◌∷◌, slice_index, arith, widths_of, aos_layout, begins_fit, common_steps}
 use Rattle.map_aos.proofs.aos.AosMapping.locate.Goals as goal
 
 pub pieces-requires : goal.pieces-requires
@@ -7,12 +7,8 @@ pieces-requires c =
     let rule = c.rule.result in
     record {
       fits = begins_fit (aos_layout m.form m.slots (widths_of m.cells.items)) c.args.slot c.args.cell _ c.args.slot (rule ∷ [])
-          (c.rule.ensures.places c.args.slot c.requires.slot_in) 0 rule (let l : 0 < 1 = omega arith in l);
+          (c.rule.ensures.places c.args.slot c.requires.slot_in) 0 rule (omega arith);
     }
 
 pub returns : goal.returns
-returns c =
-    let m = c.args.self.now in
-    let width : ℕ = slice_index (map (λ (h : Hold). h.width) (full_holds m.cells.items)) c.args.cell in
-    subst (λ (pieces : List Piece). IsLocated (aos_layout m.form m.slots (widths_of m.cells.items)) c.args.slot c.args.cell width pieces)
-    (sym c.pieces.ensures) (c.rule.ensures.places c.args.slot c.requires.slot_in)
+returns c = grind (arith, common_steps, slice_index)

@@ -1,4 +1,4 @@
-use Rattle.map_aosoa.proofs.Imports.{ℕ, ◌<◌, List, [], ◌∷◌, map, slice_index, sym, subst, arith, widths_of, full_holds, IsLocated, Hold, Piece, aosoa, begins_fit}
+use Rattle.map_aosoa.proofs.Imports.{ℕ, List, [], ◌∷◌, map, slice_index, sym, subst, arith, widths_of, full_holds, IsLocated, Hold, Piece, aosoa, begins_fit}
 use Rattle.map_aosoa.proofs.aosoa.AosoaMapping.locate.Goals as goal
 
 pub pieces-requires : goal.pieces-requires
@@ -7,7 +7,7 @@ pieces-requires c =
     let rule = c.rule.result in
     record {
       fits = begins_fit (aosoa m.lanes m.slots (widths_of m.cells.items)) c.args.slot c.args.cell _ c.args.slot (rule ∷ [])
-          (c.rule.ensures.places c.args.slot c.requires.slot_in) 0 rule (let l : 0 < 1 = omega arith in l);
+          (c.rule.ensures.places c.args.slot c.requires.slot_in) 0 rule (omega arith);
     }
 
 pub returns : goal.returns

@@ -1,26 +1,19 @@
-use Rattle.map_bits.proofs.Imports.{ℕ, ◌<◌, List, ◌∙◌, arith, widths_in}
+use Rattle.map_bits.proofs.Imports.{ℕ, ◌<◌, List, ◌∙◌, arith, widths_in, common_steps}
 use Rattle.map_bits.proofs.Widths.{count}
 use Rattle.map_bits.proofs.Slots.{begin_at, begin_fits, begins_each}
 use Rattle.map_bits.proofs.bit_aos.BitAos.offset.Goals as goal
 
 pub index-requires : goal.index-requires
-index-requires c =
-    let m = c.args.self.now in
-    let widths : List ℕ = widths_in m.holds.items in
-    let some : 0 < m.slots = let h = c.if-self-eq0.false in omega arith in
-    omega (arith, begins_each widths m.offsets.items m.stride (m.stored some), count m.cells.items m.holds.items m.held, c.requires)
+index-requires c = grind (arith, common_steps, begins_each)
 
 pub returns-clause-place : goal.returns-clause-place
-returns-clause-place c = λ some.
-    let m = c.args.self.now in
-    let widths : List ℕ = widths_in m.holds.items in
-    c.index.ensures ∙ begin_at widths m.offsets.items m.stride c.args.cell _ (m.stored some) (omega (arith, count m.cells.items m.holds.items m.held, c.requires))
+returns-clause-place c = grind (arith, common_steps, begin_at)
 
 pub returns-clause-low : goal.returns-clause-low
 returns-clause-low c =
     let m = c.args.self.now in
     let widths : List ℕ = widths_in m.holds.items in
-    let some : 0 < m.slots = let h = c.if-self-eq0.false in omega arith in
+    let some : 0 < m.slots = omega arith in
     let stored = m.stored some in
     let place = c.index.ensures ∙ begin_at widths m.offsets.items m.stride c.args.cell _ stored (omega (arith, count m.cells.items m.holds.items m.held, c.requires)) in
     omega (arith, place, begin_fits m.slots widths m.stride c.args.cell stored.ends m.bound some)

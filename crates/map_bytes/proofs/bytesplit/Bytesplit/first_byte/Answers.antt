@@ -1,7 +1,6 @@
-use Rattle.map_bytes.proofs.Imports.{slice_index, arith, byte_count_before}
+use Rattle.map_bytes.proofs.Imports.{slice_index, arith, byte_count_before, common_steps}
 use Rattle.map_bytes.proofs.Inner.{bytes_held, bytes_within}
 use Rattle.map_bytes.proofs.bytesplit.Bytesplit.first_byte.Goals as goal
-use Rattle.std.proofs.lemmas.Grind.{common_steps}
 
 pub count_bytes-requires : goal.count_bytes-requires
 count_bytes-requires g c = grind (arith, common_steps, slice_index, bytes_within, bytes_held)

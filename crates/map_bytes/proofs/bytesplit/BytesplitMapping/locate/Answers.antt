@@ -1,7 +1,6 @@
-use Rattle.map_bytes.proofs.Imports.{◌≡◌, ℕ, ◌+◌, ◌*◌, ◌/◌, ◌%◌, ◌<◌, List, ◌++◌, length, slice_index, sym, ap, ◌∙◌, subst, arith, length-append, Owner, IsLocated, bytesplit, widths_of, widths_full, widths_whole, widths_narrow, length-widths, width_read, Cell, Hold, Piece}
+use Rattle.map_bytes.proofs.Imports.{◌≡◌, ℕ, ◌+◌, ◌*◌, ◌/◌, ◌%◌, ◌<◌, List, ◌++◌, length, slice_index, sym, ap, ◌∙◌, subst, arith, length-append, Owner, IsLocated, bytesplit, widths_of, widths_full, widths_whole, widths_narrow, length-widths, width_read, Cell, Hold, Piece, common_steps}
 use Rattle.map_bytes.proofs.Inner.{byte_one, byte_more}
 use Rattle.map_bytes.proofs.bytesplit.BytesplitMapping.locate.Goals as goal
-use Rattle.std.proofs.lemmas.Grind.{common_steps}
 
 pub join_pieces-requires : goal.join_pieces-requires
 join_pieces-requires g c = grind (arith, common_steps, slice_index, width_read, length-widths, widths_narrow, byte_one)

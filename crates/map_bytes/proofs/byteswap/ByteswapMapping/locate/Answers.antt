@@ -1,8 +1,6 @@
-use Rattle.map_bytes.proofs.Imports.{ℕ, List, map, slice_index, sym, subst, Owner, IsLocated, byteswap, widths_of, full_holds, widths_full, widths_whole, Hold, Piece, swapped, swap_located}
+use Rattle.map_bytes.proofs.Imports.{ℕ, List, map, slice_index, sym, subst, Owner, IsLocated, byteswap, widths_of, full_holds, widths_full, widths_whole, Hold, Piece, swapped, swap_located, common_steps, arith}
 use Rattle.map_bytes.proofs.Inner.{inner_located, inner_whole, inner_few, cell_in}
 use Rattle.map_bytes.proofs.byteswap.ByteswapMapping.locate.Goals as goal
-use Rattle.std.proofs.lemmas.Grind.{common_steps}
-use Rattle.std.proofs.Common.{arith}
 
 pub swap_pieces-requires-clause-whole : goal.swap_pieces-requires-clause-whole
 swap_pieces-requires-clause-whole g c = grind (arith, common_steps, inner_whole)

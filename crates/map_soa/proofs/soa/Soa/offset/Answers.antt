@@ -1,17 +1,14 @@
-use Rattle.map_soa.proofs.Imports.{ℕ, ◌≡◌, ◌%◌, ◌<◌, length, ap, ◌∙◌, arith, get_or_default, widths_of, length-widths}
+use Rattle.map_soa.proofs.Imports.{ℕ, ◌≡◌, ◌%◌, length, ap, ◌∙◌, arith, get_or_default, widths_of, length-widths}
 use Rattle.map_soa.proofs.Blobs.{offset_fits}
 use Rattle.map_soa.proofs.soa.Soa.offset.Goals as goal
 
 pub returns-clause-low : goal.returns-clause-low
 returns-clause-low c =
     let m = c.args.self.now in
-    let some : 0 < m.slots = let h = c.if-self-eq0.false in omega arith in
-    offset_fits m.form m.slots m.cells.items m.offsets.items m.size c.args.cell _ m.stored m.bound some c.requires c.index.ensures
+    offset_fits m.form m.slots m.cells.items m.offsets.items m.size c.args.cell _ m.stored m.bound (omega arith) c.requires c.index.ensures
 
 pub returns-clause-bytes : goal.returns-clause-bytes
 returns-clause-bytes c =
     let m = c.args.self.now in
     let size : length (widths_of m.cells.items) ≡ length m.cells.items = length-widths m.cells.items in
-    let each : length m.offsets.items ≡ length (widths_of m.cells.items) = m.stored.each in
-    let low : c.args.cell < length m.cells.items = c.requires in
     ap (λ (n : ℕ). n % 8) (c.index.ensures ∙ get_or_default m.offsets.items c.args.cell _ 0 (omega arith)) ∙ m.stored.bytes c.args.cell (omega arith)

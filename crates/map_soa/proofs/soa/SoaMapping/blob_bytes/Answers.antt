@@ -1,11 +1,9 @@
-use Rattle.map_soa.proofs.Imports.{◌∙◌, arith}
+use Rattle.map_soa.proofs.Imports.{◌∙◌, arith, common_steps}
 use Rattle.map_soa.proofs.Blobs.{one_blob_bytes, own_blob, own_blob_bytes, blob_each, blob_le}
 use Rattle.map_soa.proofs.soa.SoaMapping.blob_bytes.Goals as goal
 
 pub index-requires : goal.index-requires
-index-requires c =
-    let m = c.args.self.now in
-    omega (arith, blob_each m.form m.slots m.cells.items c.in-Multi.is, c.requires)
+index-requires c = grind (arith, common_steps, blob_each)
 
 pub overflow_mul-result : goal.overflow_mul-result
 overflow_mul-result c =
@@ -14,12 +12,7 @@ overflow_mul-result c =
     omega (arith, bits, blob_le m.form m.slots _ m.offsets.items m.size c.args.blob m.stored c.requires, m.bound)
 
 pub returns-in-Single : goal.returns-in-Single
-returns-in-Single c =
-    let m = c.args.self.now in
-    one_blob_bytes m.form m.slots m.cells.items m.offsets.items m.size c.args.blob m.stored c.in-Single.is c.requires
+returns-in-Single c = grind (arith, common_steps, one_blob_bytes)
 
 pub returns-in-Multi : goal.returns-in-Multi
-returns-in-Multi c =
-    let m = c.args.self.now in
-    own_blob_bytes m.form m.slots m.cells.items c.args.blob _ c.requires
-    (own_blob m.form m.slots m.cells.items c.args.blob c.index.result.now c.from.result c.in-Multi.is c.requires c.index.ensures (c.from.ensures ∙ c.width.ensures))
+returns-in-Multi c = grind (arith, common_steps, own_blob_bytes, own_blob)

@@ -1,7 +1,5 @@
-use Rattle.std.proofs.Common.{ℕ, ◌<◌, ◌∙◌, Bool, List, length, map, slice_index, sym, ap, subst, arith}
-use Rattle.places.specs.Layout.{Owner}
-use Rattle.places.specs.Lawful.{IsLocated, shifted}
-use Rattle.places.specs.Rules.{split}
+use Rattle.record_dim.specs.Std.{ℕ, ◌<◌, Bool, List, length, map, slice_index, subst, arith}
+use Rattle.places.specs.Prelude.{Owner, IsLocated, shifted, split}
 use Rattle.places.specs.declared.piece.Hold.{Hold}
 use Rattle.places.specs.declared.piece.Piece.{Piece}
 use Rattle.map_split.specs.Sides.{merged, rank_first, rank_rest}
@@ -47,6 +45,4 @@ returns-in-Rest g c =
     let moved : IsLocated (split side first rest) c.args.slot cell w (map (shifted (length first)) pieces) =
     rest_located side first rest c.args.slot cell w pieces inside seat.0
     (subst (λ (n : ℕ). IsLocated rest c.args.slot (rank_rest side cell) n pieces)
-    (width_rest side hs gs cell inside m.first_cells m.rest_cells seat.0) there) in
-    subst (λ (ps : List Piece). IsLocated (split side first rest) c.args.slot cell w ps)
-    (sym (c.shift_blobs.ensures ∙ ap (λ (n : ℕ). map (shifted n) pieces) c.blob_count.ensures)) moved
+    (width_rest side hs gs cell inside m.first_cells m.rest_cells seat.0) there) in grind arith

@@ -1,7 +1,6 @@
-use Rattle.piece_bits.proofs.Imports.{ℕ, ◌≡◌, ◌+◌, ◌%◌, ◌^◌, ◌<◌, ◌≤◌, subst, arith, morton_line}
+use Rattle.piece_bits.proofs.Imports.{ℕ, ◌≡◌, ◌%◌, ◌^◌, subst, arith, morton_line, common_steps}
 use Rattle.piece_bits.proofs.StretchLaws.{twos_divide, shifted, sixteen}
 use Rattle.piece_bits.proofs.short.ShortRule.digit_rows.Goals as goal
-use Rattle.std.proofs.lemmas.Grind.{common_steps}
 
 pub returns-clause-few : goal.returns-clause-few
 returns-clause-few c = grind (arith, common_steps, sixteen)
@@ -11,8 +10,6 @@ returns-clause-apart c = λ k inside.
     let columns : ℕ = c.args.self.now.columns.columns in
     let row : ℕ = c.args.row in
     let digits : ℕ = c.min-digits.result in
-    let few : digits ≤ 4 = omega arith in
-    let room : row % columns + k < columns = omega (arith, inside) in
     let even : row % columns % 2 ^ digits ≡ 0 =
     subst (λ (n : ℕ). n % 2 ^ digits ≡ 0) c.column-column.ensures (twos_divide c.column-column.result digits (omega arith) (omega arith)) in
-    morton_line row columns k room digits even (omega (arith, inside, shifted digits few))
+    morton_line row columns k (omega (arith, inside)) digits even (omega (arith, inside, shifted digits (omega arith)))

@@ -1,7 +1,6 @@
-use Rattle.piece_bits.proofs.Imports.{arith}
+use Rattle.piece_bits.proofs.Imports.{arith, common_steps}
 use Rattle.piece_bits.proofs.Places.{masked_slot}
 use Rattle.piece_bits.proofs.short.ShortRule.lane_start.Goals as goal
-use Rattle.std.proofs.lemmas.Grind.{common_steps}
 
 pub overflow_mul-result-2 : goal.overflow_mul-result-2
 overflow_mul-result-2 c = grind (arith, common_steps, masked_slot)

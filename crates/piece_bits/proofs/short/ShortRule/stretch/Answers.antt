@@ -1,12 +1,11 @@
-use Rattle.piece_bits.proofs.Imports.{ℕ, ◌≡◌, ◌≢◌, ◌+◌, ◌∙◌, sym, ap, subst, arith, bit_and, and_mask, Scattered, HasStart, ShortRule, Spread}
+use Rattle.piece_bits.proofs.Imports.{ℕ, ◌≢◌, ◌∙◌, sym, ap, subst, arith, bit_and, and_mask, Scattered, HasStart, ShortRule, Spread}
 use Rattle.piece_bits.proofs.StretchLaws.{AreSteps, steps_stretch, plain_steps, block_steps, blocks_steps, column_steps, digit_steps}
 use Rattle.piece_bits.proofs.short.ShortRule.stretch.Goals as goal
 use Rattle.piece_bits.proofs.short.ShortRule.stretch.Goals.{in-Plain, in-Blocks+then-row-self-eq0, in-Blocks+else-row-self-eq0, in-Columns+in_ok-apart-in-Columns, in-Morton, in-Scattered, in_default}
 
 pub start-requires : goal.start-requires
 start-requires c = λ some.
-    let first : c.args.row + 0 ≡ c.args.row = omega arith in
-    subst (λ (n : ℕ). HasStart c.args.self.now n) first (c.requires.starts some 0 c.requires.some)
+    subst (λ (n : ℕ). HasStart c.args.self.now n) (omega arith) (c.requires.starts some 0 c.requires.some)
 
 pub line_rows-requires : goal.line_rows-requires
 line_rows-requires c = omega (arith, (c.requires.starts c.in_ok-start.ensures.some 0 c.requires.some).row_in)

@@ -1,8 +1,6 @@
-use Rattle.std.proofs.Common.{arith}
-use Rattle.std.proofs.lemmas.Nat.{pow_pos}
+use Rattle.record_dim.specs.Std.{arith, pow_pos, common_steps}
 use Rattle.places.specs.NumbersLaws.{half_of, ones_of}
 use Rattle.places.proofs.piece.Hold.greatest.Goals as goal
-use Rattle.std.proofs.lemmas.Grind.{common_steps}
 
 pub returns-then-self : goal.returns-then-self
 returns-then-self c = grind (arith, common_steps, ones_of, pow_pos, half_of)

@@ -1,7 +1,5 @@
-use Rattle.std.proofs.Common.{◌≡◌, ◌-◌, true, ap, arith}
-use Rattle.std.proofs.lemmas.Int.{ints}
-use Rattle.std.proofs.lemmas.Nat.{pow_pos}
-use Rattle.record_dim.specs.LeafTypes.{least_in}
+use Rattle.record_dim.specs.Std.{◌≡◌, ◌-◌, true, ap, arith, ints, pow_pos}
+use Rattle.record_dim.specs.Prelude.{least_in}
 use Rattle.places.specs.NumbersLaws.{half_of, ones_of}
 use Rattle.places.proofs.piece.Hold.least.Goals as goal
 

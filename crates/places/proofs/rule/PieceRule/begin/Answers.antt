@@ -1,8 +1,6 @@
-use Rattle.std.proofs.Common.{arith}
-use Rattle.std.specs.Int.{trailing_zeros}
+use Rattle.record_dim.specs.Std.{arith, trailing_zeros, common_steps}
 use Rattle.places.specs.BeginsLaws.{masked, powered, power_is}
 use Rattle.places.proofs.rule.PieceRule.begin.Goals as goal
-use Rattle.std.proofs.lemmas.Grind.{common_steps}
 
 pub overflow_mul-result-then-self-power-2 : goal.overflow_mul-result-then-self-power-2
 overflow_mul-result-then-self-power-2 c = grind (arith, common_steps, trailing_zeros, power_is, masked)

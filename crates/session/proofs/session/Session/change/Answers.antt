@@ -1,5 +1,4 @@
-use Rattle.session.proofs.Imports.{◌≡◌, ◌*◌, ℕ, subst, on_view, live_bits, Answers, Stands, world_of}
-use Rattle.worlds.specs.Stencil.{stencil_run}
+use Rattle.session.proofs.Imports.{◌≡◌, ◌*◌, ℕ, subst, on_view, live_bits, Answers, Stands, world_of, stencil_run}
 use Rattle.session.proofs.Steps.{line_shows}
 use Rattle.session.proofs.session.Session.change.Goals as goal
 

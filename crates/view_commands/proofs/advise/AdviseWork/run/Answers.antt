@@ -1,9 +1,7 @@
-use Rattle.view_commands.proofs.Imports.{append-nil, GivesUp-then}
+use Rattle.view_commands.proofs.Imports.{append-nil, GivesUp-then, common_steps, arith}
 use Rattle.view_commands.specs.ExitsLaws.{gave_up}
 use Rattle.view_commands.proofs.Shown.{then_broke, then_wrote}
 use Rattle.view_commands.proofs.advise.AdviseWork.run.Goals as goal
-use Rattle.std.proofs.lemmas.Grind.{common_steps}
-use Rattle.std.proofs.Common.{arith}
 
 pub returns-in_err-text-clause-answers : goal.returns-in_err-text-clause-answers
 returns-in_err-text-clause-answers g c = grind (arith, common_steps, gave_up, GivesUp-then)

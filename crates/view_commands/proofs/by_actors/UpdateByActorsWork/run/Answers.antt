@@ -1,9 +1,7 @@
-use Rattle.view_commands.proofs.Imports.{option_map, GivesUp-then}
+use Rattle.view_commands.proofs.Imports.{option_map, GivesUp-then, common_steps, arith}
 use Rattle.view_commands.proofs.Acting.{by_parts}
 use Rattle.view_commands.specs.ExitsLaws.{gave_up}
 use Rattle.view_commands.proofs.by_actors.UpdateByActorsWork.run.Goals as goal
-use Rattle.std.proofs.lemmas.Grind.{common_steps}
-use Rattle.std.proofs.Common.{arith}
 
 pub returns-in_err-team-clause-answers : goal.returns-in_err-team-clause-answers
 returns-in_err-team-clause-answers g c = grind (arith, common_steps, by_parts, option_map, gave_up, GivesUp-then)

@@ -1,8 +1,7 @@
 use Rattle.view_commands.proofs.Saving.{gave_up_idle, save_goes, save_long}
 use Rattle.view_commands.proofs.Shown.{then_broke, then_wrote}
 use Rattle.view_commands.proofs.save.SaveWork.run.Goals as goal
-use Rattle.std.proofs.lemmas.Grind.{common_steps}
-use Rattle.std.proofs.Common.{arith}
+use Rattle.record_dim.specs.Std.{common_steps, arith}
 
 pub returns-in-Ok-clause-answers : goal.returns-in-Ok-clause-answers
 returns-in-Ok-clause-answers g c = grind (arith, common_steps, then_wrote, save_goes)

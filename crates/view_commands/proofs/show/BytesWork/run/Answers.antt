@@ -1,9 +1,7 @@
-use Rattle.view_commands.proofs.Imports.{ap, ◌∙◌, bits_of, bytes_of, bytes_text, done_to, GivesUp-then, Told, telling, Tested}
+use Rattle.view_commands.proofs.Imports.{ap, ◌∙◌, bits_of, bytes_of, bytes_text, done_to, GivesUp-then, Told, telling, Tested, common_steps, arith}
 use Rattle.view_commands.specs.ExitsLaws.{gave_up}
 use Rattle.view_commands.proofs.Shown.{tells_left, then_broke, then_wrote}
 use Rattle.view_commands.proofs.show.BytesWork.run.Goals as goal
-use Rattle.std.proofs.lemmas.Grind.{common_steps}
-use Rattle.std.proofs.Common.{arith}
 
 pub returns-in_err-blob-clause-answers : goal.returns-in_err-blob-clause-answers
 returns-in_err-blob-clause-answers g c = grind (arith, common_steps, gave_up, GivesUp-then)

@@ -1,8 +1,7 @@
 use Rattle.view_commands.specs.ExitsLaws.{refused}
 use Rattle.view_commands.proofs.Shown.{counts_goes, counts_none, then_broke, then_wrote}
 use Rattle.view_commands.proofs.show.CountsWork.run.Goals as goal
-use Rattle.std.proofs.lemmas.Grind.{common_steps}
-use Rattle.std.proofs.Common.{arith}
+use Rattle.record_dim.specs.Std.{common_steps, arith}
 
 pub returns-in_default-clause-answers : goal.returns-in_default-clause-answers
 returns-in_default-clause-answers g c = refused g.K.Sink.taken g.K.Sink.faults c.args.out.now _ _ (counts_none c.args.view.now (rw c.in_default.is at c.counts.ensures.value))

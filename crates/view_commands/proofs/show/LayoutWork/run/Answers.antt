@@ -1,10 +1,8 @@
-use Rattle.view_commands.proofs.Imports.{rules, layout, GivesUp-then, IsLeft}
+use Rattle.view_commands.proofs.Imports.{rules, layout, GivesUp-then, IsLeft, common_steps, arith}
 use Rattle.command_checks.specs.declared.fault.StepFault.TheVariants as step
 use Rattle.view_commands.specs.ExitsLaws.{gave_up}
 use Rattle.view_commands.proofs.Shown.{layout_goes, then_broke, then_wrote}
 use Rattle.view_commands.proofs.show.LayoutWork.run.Goals as goal
-use Rattle.std.proofs.lemmas.Grind.{common_steps}
-use Rattle.std.proofs.Common.{arith}
 
 pub returns-in_err-check_small-clause-answers : goal.returns-in_err-check_small-clause-answers
 unfolding layout

@@ -1,8 +1,6 @@
-use Rattle.view_commands.proofs.Imports.{print}
+use Rattle.view_commands.proofs.Imports.{print, common_steps, arith}
 use Rattle.view_commands.proofs.Shown.{then_broke, then_wrote}
 use Rattle.view_commands.proofs.show.PrintWork.run.Goals as goal
-use Rattle.std.proofs.lemmas.Grind.{common_steps}
-use Rattle.std.proofs.Common.{arith}
 
 pub returns-in_err-print_rows-clause-answers : goal.returns-in_err-print_rows-clause-answers
 unfolding print

@@ -1,11 +1,9 @@
-use Rattle.view_commands.proofs.Imports.{◌*◌, rules, refl}
+use Rattle.view_commands.proofs.Imports.{◌*◌, rules, refl, common_steps, arith}
 use Rattle.command_checks.specs.Inner.Stencils.{stencil_of}
 use Rattle.view_commands.proofs.Changing.{changed_as, stopped}
 use Rattle.view_commands.proofs.Stencils.{no_room_left, run_is, unfit}
 use Rattle.view_commands.specs.Changes.{rounds_left}
 use Rattle.view_commands.proofs.stencil.RunStencilChange.run.Goals as goal
-use Rattle.std.proofs.lemmas.Grind.{common_steps}
-use Rattle.std.proofs.Common.{arith}
 
 pub returns-in_err-fit-clause-changed : goal.returns-in_err-fit-clause-changed
 returns-in_err-fit-clause-changed g c = grind (arith, common_steps, stopped, unfit)

@@ -1,10 +1,8 @@
-use Rattle.view_commands.proofs.Imports.{rules, IsLeft}
+use Rattle.view_commands.proofs.Imports.{rules, IsLeft, common_steps, arith}
 use Rattle.view_commands.specs.ExitsLaws.{gave_up}
 use Rattle.view_commands.proofs.Shown.{then_broke, then_wrote}
 use Rattle.view_commands.proofs.Windows.{no_window, window_goes}
 use Rattle.view_commands.proofs.window.PrintWindowWork.run.Goals as goal
-use Rattle.std.proofs.lemmas.Grind.{common_steps}
-use Rattle.std.proofs.Common.{arith}
 
 pub returns-in_err-window-clause-answers : goal.returns-in_err-window-clause-answers
 returns-in_err-window-clause-answers g c =

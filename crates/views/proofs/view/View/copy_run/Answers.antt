@@ -1,9 +1,8 @@
-use Rattle.views.proofs.Imports.{◌≡◌, length, arith, length-map, run_length}
+use Rattle.views.proofs.Imports.{◌≡◌, length, arith, length-map, run_length, common_steps}
 use Rattle.views.proofs.RunSeenLaws.{copied_fits, copied_raised}
 use Rattle.views.proofs.view.View.copy_run.Goals as goal
 use Rattle.views.proofs.view.View.copy_run.Goals.{After-read_run}
 use Rattle.views.proofs.view.View.copy_run.Given.{Over}
-use Rattle.std.proofs.lemmas.Grind.{common_steps}
 
 pub put_lows-requires-clause-fits : goal.put_lows-requires-clause-fits
 put_lows-requires-clause-fits g c = grind (arith, common_steps, copied_fits)

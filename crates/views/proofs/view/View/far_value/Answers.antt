@@ -1,7 +1,6 @@
-use Rattle.views.proofs.Imports.{refl, ◌∙◌, arith, rules, SFits, w128, to_z-of_z, idle_tallied}
+use Rattle.views.proofs.Imports.{refl, ◌∙◌, arith, rules, SFits, w128, to_z-of_z, idle_tallied, common_steps}
 use Rattle.views.proofs.Opened.{rows_seen, leaf_seen, cell_count, laid_here, sign_seen, sign_declared, seen_touched}
 use Rattle.views.proofs.view.View.far_value.Goals as goal
-use Rattle.std.proofs.lemmas.Grind.{common_steps}
 
 pub short_read-requires-clause-row_in : goal.short_read-requires-clause-row_in
 short_read-requires-clause-row_in c =

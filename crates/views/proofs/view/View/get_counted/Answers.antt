@@ -1,6 +1,5 @@
-use Rattle.views.proofs.Imports.{length, ap, arith, to_z-of_z, Table, leaf_count_of}
+use Rattle.views.proofs.Imports.{length, ap, arith, to_z-of_z, Table, leaf_count_of, common_steps}
 use Rattle.views.proofs.view.View.get_counted.Goals as goal
-use Rattle.std.proofs.lemmas.Grind.{common_steps}
 
 pub read-requires-clause-row_in : goal.read-requires-clause-row_in
 read-requires-clause-row_in c = omega (arith, ap (λ (t : Table). length t.rows) c.touch.ensures, c.requires.row_in)

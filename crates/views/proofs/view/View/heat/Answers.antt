@@ -1,7 +1,5 @@
-use Rattle.views.proofs.Imports.{Option, Some, None, Bor, IfSome, option_copied, HeatCounts, heat_counts, Heat, HasGranules, owners_of}
-use Rattle.std.specs.Prelude.{option_map}
+use Rattle.views.proofs.Imports.{Option, Some, None, Bor, IfSome, option_copied, HeatCounts, heat_counts, Heat, HasGranules, owners_of, option_map, arith}
 use Rattle.views.proofs.view.View.heat.Goals as goal
-use Rattle.std.proofs.Common.{arith}
 
 -- what holds of the counts that are kept holds of those that are lent
 lent : (P : HeatCounts → Type 0) (asked : Option (Bor Heat)) → IfSome (option_map heat_counts (option_copied asked)) P → IfSome asked (λ h. P (heat_counts h.now))

@@ -1,7 +1,6 @@
-use Rattle.views.proofs.Imports.{ℤ, pos, get_or, SFits, w64, sym, ap, ◌∙◌, arith, rules, without_number, answer_of}
+use Rattle.views.proofs.Imports.{ℤ, pos, get_or, SFits, w64, sym, ap, ◌∙◌, arith, rules, without_number, answer_of, common_steps}
 use Rattle.views.proofs.StoredLaws.{fault_later, fault_here, passed}
 use Rattle.views.proofs.view.View.lanes_fit.Goals as goal
-use Rattle.std.proofs.lemmas.Grind.{common_steps}
 
 pub loop-lane-preserved : goal.loop-lane-preserved
 loop-lane-preserved c = grind (arith, common_steps, passed, fault_later)

@@ -1,7 +1,6 @@
-use Rattle.views.proofs.Imports.{◌≡◌, List, ℤ, length, sym, ap, subst, arith, Each1, IsBlock, IsNarrow, same, Table}
+use Rattle.views.proofs.Imports.{◌≡◌, List, ℤ, length, sym, ap, subst, arith, Each1, IsBlock, IsNarrow, same, Table, common_steps}
 use Rattle.views.proofs.ColumnLaws.{nothing_loaded, loaded_more, loaded_block}
 use Rattle.views.proofs.view.View.load_lanes.Goals as goal
-use Rattle.std.proofs.lemmas.Grind.{common_steps}
 
 pub loop-lane-init : goal.loop-lane-init
 loop-lane-init g c = nothing_loaded c.args.leaf c.args.row c.args.self.now

@@ -1,5 +1,5 @@
 use Rattle.views.proofs.view.View.map.Goals as goal
-use Rattle.std.proofs.Common.{arith}
+use Rattle.record_dim.specs.Std.{arith}
 
 pub returns : goal.returns
 returns c =

@@ -1,8 +1,7 @@
-use Rattle.views.proofs.Imports.{◌≡◌, ◌+◌, ◌*◌, ℕ, length, sym, ap, subst, arith, IfSome, row_fits, blocks, array_of, AreRuns, size_of, IsRunMoved, rows_after, Table, leaf_count_of, leaf_type_of}
+use Rattle.views.proofs.Imports.{◌≡◌, ◌+◌, ◌*◌, ℕ, length, sym, ap, subst, arith, IfSome, row_fits, blocks, array_of, AreRuns, size_of, IsRunMoved, rows_after, Table, leaf_count_of, leaf_type_of, common_steps}
 use Rattle.views.proofs.RunMoveLaws.{nothing_moved}
 use Rattle.views.proofs.SlotMoveLaws.{runs_more, still_block}
 use Rattle.views.proofs.view.View.move_apart.Goals as goal
-use Rattle.std.proofs.lemmas.Grind.{common_steps}
 
 pub loop-k-init : goal.loop-k-init
 loop-k-init g c = grind (arith, common_steps, nothing_moved)

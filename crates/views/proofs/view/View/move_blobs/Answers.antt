@@ -1,5 +1,5 @@
 use Rattle.views.proofs.Imports.{◌≡◌, ◌∙◌, ℕ, List, length, ap, arith, kinds_of, schema_fields, Owner, blocks, term_of, uncounted, layout_by, holds_by, tally_of, table_under, blob_steps, MayMove, Table, owners_of}
-use Rattle.std.proofs.Common.{sum_by}
+use Rattle.record_dim.specs.Std.{sum_by}
 use Rattle.views.proofs.MoveLaws.{blocks_are, same_lengths, moved_table, moved_kept, views_alike, views_one, may_seen, seen_moved}
 use Rattle.views.proofs.view.View.move_blobs.Goals as goal
 

@@ -1,10 +1,9 @@
-use Rattle.views.proofs.Imports.{◌≡◌, ◌∙◌, ◌+◌, ◌*◌, ◌<◌, ◌≤◌, ◌||◌, ℕ, zero, suc, true, sym, ap, subst, arith, ◌==◌, range_with_len, or_left, or_right, eq-eqb, row_fits, blocks, AreRuns, slots_within, block_in, same_slots, same_steps, all_pieces, size_of, rows_after, is_cut, piece_at, span_pieces, Table, leaf_count_of, leaf_type_of}
-use Rattle.std.proofs.Common.{sum_by}
+use Rattle.views.proofs.Imports.{◌≡◌, ◌∙◌, ◌+◌, ◌*◌, ◌<◌, ◌≤◌, ◌||◌, ℕ, zero, suc, true, sym, ap, subst, arith, ◌==◌, range_with_len, or_left, or_right, eq-eqb, row_fits, blocks, AreRuns, slots_within, block_in, same_slots, same_steps, all_pieces, size_of, rows_after, is_cut, piece_at, span_pieces, Table, leaf_count_of, leaf_type_of, common_steps}
+use Rattle.record_dim.specs.Std.{sum_by}
 use Rattle.views.proofs.PieceLaws.{piece_is}
 use Rattle.views.proofs.RunMoveLaws.{nothing_moved}
 use Rattle.views.proofs.SlotMoveLaws.{runs_more, still_block}
 use Rattle.views.proofs.view.View.move_cut.Goals as goal
-use Rattle.std.proofs.lemmas.Grind.{common_steps}
 
 pub loop-done-init : goal.loop-done-init
 loop-done-init g c = grind (arith, common_steps, nothing_moved, or_left, eq-eqb)

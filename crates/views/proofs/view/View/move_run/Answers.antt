@@ -1,4 +1,4 @@
-use Rattle.views.proofs.Imports.{◌≡◌, ◌∙◌, ◌+◌, ◌*◌, ◌/◌, ◌<◌, ◌≤◌, ℕ, List, [], length, get_or, sym, ap, subst, arith, mul-le, get_or_from_slice_get, kinds_of, schema_fields, Fields, LeafType, Truth, blocks, AreMoved, term_of, size_of, kind_at, Table, leaf_type_of}
+use Rattle.views.proofs.Imports.{◌≡◌, ◌∙◌, ◌+◌, ◌*◌, ◌/◌, ◌<◌, ◌≤◌, ℕ, List, [], length, get_or, sym, ap, subst, arith, mul-le, get_or_from_slice_get, kinds_of, schema_fields, Fields, LeafType, Truth, blocks, AreMoved, term_of, size_of, kind_at, Table, leaf_type_of, common_steps}
 use Rattle.views.proofs.KeptLaws.{kind_count, row_count}
 use Rattle.views.proofs.MoveLaws.{views_alike, seen_moved}
 use Rattle.views.proofs.Opened.{cell_count, leaf_seen}
@@ -6,7 +6,6 @@ use Rattle.views.proofs.RunMoveLaws.{IsMove, few_slots, nothing_moved, moved_see
 use Rattle.views.proofs.view.View.move_run.Given as given
 use Rattle.views.proofs.view.View.move_run.Goals as goal
 use Rattle.views.proofs.view.View.move_run.Goals.{After-as_slice, After-move_between}
-use Rattle.std.proofs.lemmas.Grind.{common_steps}
 
 -- what is said of the bytes on both sides
 move : (g : given.Over) (c : After-as_slice g) → IsMove (term_of c.self.inside.expr) (term_of c.source.inside.expr) c.self.inside.extents c.source.inside.extents

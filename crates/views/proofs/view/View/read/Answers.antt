@@ -1,8 +1,7 @@
-use Rattle.views.proofs.Imports.{ℤ, ◌≡◌, sym, ap, ◌∙◌, subst, arith, rules, SFits, to_z, of_z, w128, to_z-of_z, get_or_from_slice_get, LeafType, Truth, IsDeclared, kinds_of, schema_fields, entry, declared, kind_at, leaf_type_of}
+use Rattle.views.proofs.Imports.{ℤ, ◌≡◌, sym, ap, ◌∙◌, subst, arith, rules, SFits, to_z, of_z, w128, to_z-of_z, get_or_from_slice_get, LeafType, Truth, IsDeclared, kinds_of, schema_fields, entry, declared, kind_at, leaf_type_of, common_steps}
 use Rattle.views.proofs.Opened.{rows_seen, leaf_seen, cell_count, laid_here, raw_seen, strict_seen, declared_seen}
 use Rattle.views.proofs.view.View.read.Goals as goal
 use Rattle.views.proofs.view.View.read.Goals.{After-declared}
-use Rattle.std.proofs.lemmas.Grind.{common_steps}
 
 pub read_by_rule-raw-requires-clause-row_in : goal.read_by_rule-raw-requires-clause-row_in
 read_by_rule-raw-requires-clause-row_in c =

@@ -1,8 +1,7 @@
-use Rattle.views.proofs.Imports.{◌<◌, ◌≤◌, ◌∙◌, length, refl, ap, arith, rules, SFits, FitsSigned, w64, w128, to_z-of_z, low_64, declared_within, Table}
+use Rattle.views.proofs.Imports.{◌<◌, ◌≤◌, ◌∙◌, length, refl, ap, arith, rules, SFits, FitsSigned, w64, w128, to_z-of_z, low_64, declared_within, Table, common_steps}
 use Rattle.views.proofs.RunLaws.{run_read}
 use Rattle.views.proofs.RunStoreLaws.{no_row, row_more}
 use Rattle.views.proofs.view.View.read_far.Goals as goal
-use Rattle.std.proofs.lemmas.Grind.{common_steps}
 
 pub loop-k-init : goal.loop-k-init
 loop-k-init c = no_row c.args.leaf c.args.first c.args.self.now c.args.values.now c.args.values.now refl

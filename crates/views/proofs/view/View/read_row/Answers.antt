@@ -1,7 +1,6 @@
-use Rattle.views.proofs.Imports.{rules, arith, ◌<◌, ap, FitsSigned, length, w128, to_z-of_z, Table, leaf_count_of}
+use Rattle.views.proofs.Imports.{rules, arith, ◌<◌, ap, FitsSigned, length, w128, to_z-of_z, Table, leaf_count_of, common_steps}
 use Rattle.views.proofs.RowLaws.{none_read, leaf_read, row_read}
 use Rattle.views.proofs.view.View.read_row.Goals as goal
-use Rattle.std.proofs.lemmas.Grind.{common_steps}
 
 pub loop-leaf-init : goal.loop-leaf-init
 loop-leaf-init g c = grind (arith, common_steps, none_read)

@@ -8,5 +8,4 @@ returns-clause-table c =
     table_seen a.schema a.extents a.expr a.blobs.items c.self.invariant.1 c.args.self.now c.self.view_is
 
 pub returns-clause-paired : goal.returns-clause-paired
-returns-clause-paired c =
-    subst (λ (s : Table). length (table_holds s) ≡ length (leaf_types_of s)) c.self.view_is c.self.invariant.1.paired
+returns-clause-paired c = subst (λ (s : Table). length (table_holds s) ≡ length (leaf_types_of s)) c.self.view_is c.self.invariant.1.paired

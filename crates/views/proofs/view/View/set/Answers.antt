@@ -1,8 +1,6 @@
-use Rattle.views.proofs.Imports.{to_z, of_z, to_z-of_z}
+use Rattle.views.proofs.Imports.{to_z, of_z, to_z-of_z, common_steps, arith}
 use Rattle.views.proofs.StoreLaws.{raw_written}
 use Rattle.views.proofs.view.View.set.Goals as goal
-use Rattle.std.proofs.lemmas.Grind.{common_steps}
-use Rattle.std.proofs.Common.{arith}
 
 pub returns-then-takes-clause-answer : goal.returns-then-takes-clause-answer
 returns-then-takes-clause-answer g c = grind (arith, common_steps, to_z-of_z)

@@ -1,6 +1,5 @@
-use Rattle.views.proofs.Imports.{length, ap, arith, to_z, of_z, to_z-of_z, Table, leaf_count_of}
+use Rattle.views.proofs.Imports.{length, ap, arith, to_z, of_z, to_z-of_z, Table, leaf_count_of, common_steps}
 use Rattle.views.proofs.view.View.set_counted.Goals as goal
-use Rattle.std.proofs.lemmas.Grind.{common_steps}
 
 pub write-requires-clause-row_in : goal.write-requires-clause-row_in
 write-requires-clause-row_in c = omega (arith, ap (λ (t : Table). length t.rows) c.touch.ensures, c.requires.row_in)

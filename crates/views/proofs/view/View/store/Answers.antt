@@ -1,8 +1,7 @@
-use Rattle.views.proofs.Imports.{◌≡◌, true, false, ◌∙◌, sym, ap, arith, rules, SFits, w128, to_z-of_z, schema_fields, term_of, is_counted, with_entry, raw_under, tally_of, Write, idle_tallied}
+use Rattle.views.proofs.Imports.{◌≡◌, true, false, ◌∙◌, sym, ap, arith, rules, SFits, w128, to_z-of_z, schema_fields, term_of, is_counted, with_entry, raw_under, tally_of, Write, idle_tallied, common_steps}
 use Rattle.views.proofs.Opened.{rows_seen, leaf_seen, cell_count, held_seen, held_passed, raw_stored, kept_after, table_after, laid_there, seen_written}
 use Rattle.views.proofs.view.View.store.Goals as goal
 use Rattle.views.proofs.view.View.store.Goals.{After-near_write}
-use Rattle.std.proofs.lemmas.Grind.{common_steps}
 
 pub near_write-requires-clause-row_in : goal.near_write-requires-clause-row_in
 near_write-requires-clause-row_in c =

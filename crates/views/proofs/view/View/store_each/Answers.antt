@@ -1,9 +1,8 @@
-use Rattle.views.proofs.Imports.{◌≡◌, ◌<◌, ℤ, Ok, pos, get_or, length, map, SFits, to_z, of_z, w64, refl, sym, ap, ◌∙◌, rules, arith, w128, get_or-map, length-map, length-with_column, told_lane, without_number, Table, answer_of, kept_of}
+use Rattle.views.proofs.Imports.{◌≡◌, ◌<◌, ℤ, Ok, pos, get_or, length, map, SFits, to_z, of_z, w64, refl, sym, ap, ◌∙◌, rules, arith, w128, get_or-map, length-map, length-with_column, told_lane, without_number, Table, answer_of, kept_of, common_steps}
 use Rattle.views.proofs.RunStoreLaws.{value_more, run_stored, whole_run, no_fault, stopped_run}
 use Rattle.views.proofs.StoredLaws.{nothing_stored, fault_later, fault_here, passed}
 use Rattle.views.proofs.view.View.store_each.Goals as goal
 use Rattle.views.proofs.view.View.store_each.Goals.{After-row_after-row, After-set_tested}
-use Rattle.std.proofs.lemmas.Grind.{common_steps}
 
 pub loop-lane-init : goal.loop-lane-init
 loop-lane-init c = record { fault = refl; stored = nothing_stored c.args.leaf c.args.first c.args.self.now (map (kept_of c.args.self.now c.args.leaf) c.args.values.now) }

@@ -1,7 +1,6 @@
-use Rattle.views.proofs.Imports.{◌≡◌, List, ℤ, [], ◌∷◌, map, ap, refl, arith, to_z, of_z, w64, length-map, low_64}
+use Rattle.views.proofs.Imports.{◌≡◌, List, ℤ, [], ◌∷◌, map, ap, refl, arith, to_z, of_z, w64, length-map, low_64, common_steps}
 use Rattle.views.proofs.StoredLaws.{first_lanes}
 use Rattle.views.proofs.view.View.store_lanes.Goals as goal
-use Rattle.std.proofs.lemmas.Grind.{common_steps}
 
 -- the lanes of a vector, each by its bits
 lows : (values : List ℤ) → map (to_z w64) (map (of_z w64) values) ≡ map low_64 values

@@ -1,7 +1,6 @@
-use Rattle.views.proofs.Imports.{arith, ◌≡◌, ◌∙◌, [], sym, ap, List, ℤ, get_or, length, to_z-of_z, length-set, Table, leaf_count_of}
+use Rattle.views.proofs.Imports.{arith, ◌≡◌, ◌∙◌, [], sym, ap, List, ℤ, get_or, length, to_z-of_z, length-set, Table, leaf_count_of, common_steps}
 use Rattle.views.proofs.RowLaws.{none_stored, leaf_stored, row_stored}
 use Rattle.views.proofs.view.View.store_row.Goals as goal
-use Rattle.std.proofs.lemmas.Grind.{common_steps}
 
 pub loop-leaf-init : goal.loop-leaf-init
 loop-leaf-init g c = record { stored = none_stored c.args.self.now c.args.row c.args.values.now; steps = omega arith }

@@ -1,7 +1,6 @@
-use Rattle.views.proofs.Imports.{◌≡◌, ◌<◌, ℤ, pos, get_or, length, map, SFits, to_z, of_z, w64, ap, ◌∙◌, arith, rules, w128, to_z-of_z, get_or-map, length-map, declared, without_number, Table, answer_of, kept_of, leaf_type_of, length-with_column}
+use Rattle.views.proofs.Imports.{◌≡◌, ◌<◌, ℤ, pos, get_or, length, map, SFits, to_z, of_z, w64, ap, ◌∙◌, arith, rules, w128, to_z-of_z, get_or-map, length-map, declared, without_number, Table, answer_of, kept_of, leaf_type_of, length-with_column, common_steps}
 use Rattle.views.proofs.StoredLaws.{nothing_stored, stored_more, lane_taken, passed, all_stored}
 use Rattle.views.proofs.view.View.store_values.Goals as goal
-use Rattle.std.proofs.lemmas.Grind.{common_steps}
 
 pub loop-lane-init : goal.loop-lane-init
 loop-lane-init c = nothing_stored c.args.leaf c.args.row c.args.self.now (map (kept_of c.args.self.now c.args.leaf) c.args.values.now)

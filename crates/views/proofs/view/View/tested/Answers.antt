@@ -1,7 +1,6 @@
-use Rattle.views.proofs.Imports.{◌≡◌, ◌∙◌, sym, ap, arith, rules, SFits, w128, to_z-of_z, Strict, Table}
+use Rattle.views.proofs.Imports.{◌≡◌, ◌∙◌, sym, ap, arith, rules, SFits, w128, to_z-of_z, Strict, Table, common_steps}
 use Rattle.views.proofs.Opened.{cell_count, leaf_seen, kind_seen, hold_seen}
 use Rattle.views.proofs.view.View.tested.Goals as goal
-use Rattle.std.proofs.lemmas.Grind.{common_steps}
 
 pub hold-requires : goal.hold-requires
 hold-requires c =

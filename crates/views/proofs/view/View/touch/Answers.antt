@@ -1,10 +1,9 @@
-use Rattle.views.proofs.Imports.{◌≡◌, ◌∙◌, length, sym, subst, arith, schema_fields, leaves, term_of, layout_by, IsTallied, tally_of, Tally, after_access, access_to, tallied_kept, tallied-one}
+use Rattle.views.proofs.Imports.{◌≡◌, ◌∙◌, length, sym, subst, arith, schema_fields, leaves, term_of, layout_by, IsTallied, tally_of, Tally, after_access, access_to, tallied_kept, tallied-one, common_steps}
 use Rattle.views.proofs.KeptLaws.{kind_count}
 use Rattle.views.proofs.Opened.{tallied_here, touched_there, seen_touched, rows_seen, leaf_seen, cell_count}
 use Rattle.views.proofs.TouchLaws.{touched_both, leaf_inside}
 use Rattle.views.proofs.view.View.touch.Goals as goal
 use Rattle.views.proofs.view.View.touch.Goals.{After-touch_heat}
-use Rattle.std.proofs.lemmas.Grind.{common_steps}
 
 pub touch_counts-requires : goal.touch_counts-requires
 touch_counts-requires c = grind (arith, common_steps, leaf_inside, leaves, kind_count, leaf_seen)

@@ -1,11 +1,9 @@
-use Rattle.views.proofs.Imports.{◌≡◌, ◌∙◌, ℕ, Bool, false, true, Option, length, option_map, sym, subst, ap, schema_fields, leaves, kinds_of, term_of, layout_by, leaf_cells, indices, LeafCounts, IsTallied, tally_of, counts_after, after_log, leaf_count_of, Tally, tallied, access_to, times_accesses, all_touches, log_kept}
+use Rattle.views.proofs.Imports.{◌≡◌, ◌∙◌, ℕ, Bool, false, true, Option, length, option_map, sym, subst, ap, schema_fields, leaves, kinds_of, term_of, layout_by, leaf_cells, indices, LeafCounts, IsTallied, tally_of, counts_after, after_log, leaf_count_of, Tally, tallied, access_to, times_accesses, all_touches, log_kept, common_steps, arith}
 use Rattle.views.proofs.KeptLaws.{kind_count}
 use Rattle.views.proofs.Opened.{cell_count, tallied_here, touches_there, rows_seen, seen_logged}
 use Rattle.views.proofs.TouchLaws.{tallied_both}
 use Rattle.views.proofs.view.View.touch_all.Goals as goal
 use Rattle.views.proofs.view.View.touch_all.Goals.{After-add_heat}
-use Rattle.std.proofs.lemmas.Grind.{common_steps}
-use Rattle.std.proofs.Common.{arith}
 
 pub add_counts-requires : goal.add_counts-requires
 add_counts-requires c = grind (arith, common_steps, option_map)

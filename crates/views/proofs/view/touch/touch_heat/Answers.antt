@@ -1,6 +1,5 @@
-use Rattle.views.proofs.Imports.{◌≡◌, ℕ, Bool, Option, get_or, option_map, ap, ◌∙◌, subst, IfSome, term_of, layout_by, schema_fields, HeatCounts, heat_counts, warmed, Heat, HasGranules, granules_touched, touched_same, inside-counted, piece_inside}
+use Rattle.views.proofs.Imports.{◌≡◌, ℕ, Bool, Option, get_or, option_map, ap, ◌∙◌, subst, IfSome, term_of, layout_by, schema_fields, HeatCounts, heat_counts, warmed, Heat, HasGranules, granules_touched, touched_same, inside-counted, piece_inside, arith}
 use Rattle.views.proofs.view.touch.touch_heat.Goals as goal
-use Rattle.std.proofs.Common.{arith}
 
 pub touch-requires : goal.touch-requires
 touch-requires c k d small =
