@@ -3,7 +3,7 @@ pub use Rattle.record_dim.specs.Std.{◌≡◌, ℕ, suc, ◌+◌, ◌/◌, ◌%
 pub use Rattle.std.proofs.Common.{flat_map}
 pub use Rattle.std.specs.Prelude.{IsErrOf}
 pub use Rattle.std.specs.List.{slice_get}
-unfoldable pub use Rattle.record_dim.specs.Std.{IsDistinct}
+unfoldable pub use Rattle.std.specs.List.{IsDistinct}
 pub use Rattle.std.proofs.Math.ListN.{get_or-map}
 pub use Rattle.std.proofs.Math.Seq.{drop-cons}
 pub use Rattle.actors.specs.ActorRuns.{Run, started_run, after_turns}

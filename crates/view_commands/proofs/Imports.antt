@@ -24,7 +24,7 @@ pub use Rattle.command_checks.specs.Inner.Gives.{GivesUp}
 pub use Rattle.command_checks.specs.GivesLaws.{GivesUp-then, goes_then}
 pub use Rattle.instrument.specs.Counters.{LeafCounts, HeatCounts}
 pub use Rattle.places.specs.declared.piece.Hold.{Hold}
-unfoldable pub use Rattle.record_dim.specs.Std.{IsDistinct}
+unfoldable pub use Rattle.std.specs.List.{IsDistinct}
 pub use Rattle.extents.specs.Indices.{indices, IsInside}
 pub use Rattle.row_updates.specs.Rows.{Setting, setting_of, filter_term, IsSetOf, updated_of}
 pub use Rattle.blob_file.specs.Files.{IsShort, record_text, view_text}
