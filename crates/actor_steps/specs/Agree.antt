@@ -1,10 +1,6 @@
 -- No schedule of the actors of an update matters.
 use Rattle.std.specs.Prelude.{ℕ, ◌≡◌, ℤ, List, [], length, map, slice_index_or, Option, None, Ok}
-use Rattle.expr_lang.specs.Prelude.{Term}
-use Rattle.places.specs.Prelude.{IsLaidOut}
-use Rattle.piece_bits.specs.Prelude.{AreLaid, table_in, declared_table}
-use Rattle.views.specs.Prelude.{Table, IsTable, owners_of, leaf_types_of, table_holds}
-use Rattle.row_updates.specs.Rows.{Setting, updated_of}
+use Rattle.actor_steps.specs.Words.{Term, IsLaidOut, AreLaid, table_in, declared_table, Table, IsTable, owners_of, leaf_types_of, table_holds, Setting, updated_of}
 use Rattle.actor_steps.specs.Confluence.{State}
 use Rattle.actor_steps.specs.Micro.{Job, Micro, Registers}
 use Rattle.actor_steps.specs.Cuts.{AreCuts, actor_of}

@@ -1,10 +1,6 @@
 -- The actors of an update of a view's table.
 use Rattle.std.specs.Prelude.{ℕ, ◌+◌, List, length, map, replicate, Option}
-use Rattle.expr_lang.specs.Prelude.{Term}
-use Rattle.places.specs.Prelude.{image}
-use Rattle.instrument.specs.BlobTexts.{bytes_of}
-use Rattle.views.specs.Prelude.{Table, owners_of, leaf_types_of, table_holds, kept_of, blob_lengths}
-use Rattle.row_updates.specs.Rows.{Setting}
+use Rattle.actor_steps.specs.Words.{Term, image, bytes_of, Table, owners_of, leaf_types_of, table_holds, kept_of, blob_lengths, Setting}
 use Rattle.actor_steps.specs.Confluence.{State}
 use Rattle.actor_steps.specs.Micro.{Job, Micro, Registers}
 use Rattle.actor_steps.specs.Schedules.{schedule_of, started, run_by}

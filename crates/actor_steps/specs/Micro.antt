@@ -1,16 +1,7 @@
 -- What actors do to the bytes of a view in an update, one micro-step at a time.
 use Rattle.std.specs.Prelude.{ℕ, ◌+◌, ◌*◌, ◌/◌, ◌==◌, Bool, true, ℤ, pos, List, [], ◌∷◌, ◌++◌, length, map, filter, take, drop, slice_index_or, slice_set, Option, Some, None, Result, Ok, Err, if◌then◌else◌}
-use Rattle.record_dim.specs.Std.{flat_map, range_with_len, list_any, bit_at}
-use Rattle.record_dim.specs.declared.leaf_type.LeafType.{LeafType}
-use Rattle.expr_lang.specs.Prelude.{Term, outcome_of, is_true}
-use Rattle.expr_lang.specs.declared.fault.EvalFault.{EvalFault}
-use Rattle.linearize.specs.Slots.{index_at}
-use Rattle.places.specs.Prelude.{Owner, owner_at, number, written_bit}
+use Rattle.actor_steps.specs.Words.{flat_map, range_with_len, list_any, bit_at, LeafType, Term, outcome_of, is_true, EvalFault, index_at, Owner, owner_at, number, written_bit, Hold, table_in, declared_table, Keeping, Setting}
 pub use Rattle.places.specs.Prelude.{is_bit_of}
-use Rattle.places.specs.declared.piece.Hold.{Hold}
-use Rattle.piece_bits.specs.Prelude.{table_in, declared_table}
-use Rattle.views.specs.Prelude.{Keeping}
-use Rattle.row_updates.specs.Rows.{Setting}
 pub use Rattle.actor_steps.specs.declared.place.Place.{Place}
 
 -- the byte at a place; outside of the blobs it is 0

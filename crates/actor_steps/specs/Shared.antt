@@ -1,7 +1,6 @@
 -- Bytes that hold bits of rows of two actors.
 use Rattle.std.specs.Prelude.{ℕ, ◌==◌, Bool, false, not, List, [], ◌∷◌, Option, Some, None, if◌then◌else◌}
-use Rattle.record_dim.specs.Std.{list_any}
-use Rattle.places.specs.Prelude.{Owner, Pad, Bit}
+use Rattle.actor_steps.specs.Words.{list_any, Owner, Pad, Bit}
 use Rattle.actor_steps.specs.Micro.{Place, all_bytes, owners_of_byte}
 
 -- whether two bits are those of rows of two actors

@@ -1,15 +1,11 @@
 -- The next place of a task, and of all tasks of a row.
 use Rattle.std.proofs.Common.{◌≡◌, ℕ, zero, suc, ◌+◌, ◌-◌, ◌<◌, ◌≤◌, Bool, true, false, List, [], ◌∷◌, ◌++◌, length, map, drop, get_or, Option, Some, None, sym, ap, ◌∙◌, subst, arith}
 use Rattle.std.specs.Prelude.{if◌then◌else◌}
-use Rattle.std.specs.List.{flat_map, range_with_len}
+use Rattle.actor_tasks.specs.Words.{flat_map, range_with_len, Owner, Setting, Place, Job, Micro}
 use Rattle.std.proofs.Math.ListN.{get_or-append}
 use Rattle.std.proofs.lemmas.List.{length-map, get_or-map, get_or-append_right, length-append}
 use Rattle.std.proofs.lemmas.List.{drop_all}
 use Rattle.std.proofs.lemmas.List.FromFn.{length-map-range_with_len, get_or-map-range_with_len}
-use Rattle.places.specs.Prelude.{Owner}
-use Rattle.row_updates.specs.Rows.{Setting}
-use Rattle.actor_steps.specs.declared.place.Place.{Place}
-use Rattle.actor_steps.specs.Prelude.{Job, Micro}
 use Rattle.actor_tasks.specs.Places.{origin, places_from, byte_behind, IsHead}
 use Rattle.actor_tasks.specs.Tasks.{Task, Reads, Sets, all_tasks, is_asked, task_leaf, place_steps, task_steps, tasks_steps}
 use Rattle.actor_tasks.specs.TasksLaws.{next_place, next_task}

@@ -1,11 +1,6 @@
 -- Rows that blobs hold, and what an update asks of a row.
 use Rattle.std.specs.Prelude.{ℕ, ◌≡◌, ◌<◌, Bool, true, false, ℤ, pos, List, [], ◌∷◌, length, slice_index_or, slice_set}
-use Rattle.piece_bits.specs.Prelude.{declared_table, table_in}
-use Rattle.row_updates.specs.Rows.{Setting}
-use Rattle.actor_steps.specs.declared.place.Place.{Place}
-use Rattle.actor_steps.specs.Prelude.{Job, is_in, leaves_read, lets_through}
-use Rattle.actor_tasks.specs.declared.rows.Asks.{Asks}
-use Rattle.views.specs.Prelude.{Table, owners_of, leaf_types_of, table_holds}
+use Rattle.actors.specs.Words.{declared_table, table_in, Setting, Place, Job, is_in, leaves_read, lets_through, Asks, Table, owners_of, leaf_types_of, table_holds}
 
 -- a row of the table that blobs hold
 abbrev pub row_held : Table → List (List ℕ) → ℕ → List ℤ

@@ -1,15 +1,6 @@
 -- What the type of a run keeps of its fields.
 use Rattle.std.specs.Prelude.{ℕ, ◌≡◌, ◌+◌, ◌<◌, ◌≤◌, All, ℤ, List, Option, None, length, map, slice_index_or}
-use Rattle.record_dim.specs.Prelude.{Fields}
-use Rattle.expr_lang.specs.Prelude.{Term}
-use Rattle.map_expr.specs.Terms.{Term as Shape}
-use Rattle.piece_bits.specs.Prelude.{AreSized}
-use Rattle.piece_bits.specs.declared.mode.StoreMode.{StoreMode}
-use Rattle.views.specs.Prelude.{table_under, Table, owners_of}
-use Rattle.row_updates.specs.declared.update.Assign.{Assign}
-use Rattle.row_updates.specs.Rows.{setting_of, IsSetOf}
-use Rattle.actor_steps.specs.Prelude.{IsParted, job_of}
-use Rattle.actor_tasks.specs.declared.rows.Asks.{Asks}
+use Rattle.actors.specs.Words.{Fields, Term, Shape, AreSized, StoreMode, table_under, Table, owners_of, Assign, setting_of, IsSetOf, IsParted, job_of, Asks}
 use Rattle.actors.specs.declared.actor.Actor.{Actor as Standing}
 use Rattle.actors.specs.Rows.{ArePlans}
 use Rattle.actors.specs.ActorRuns.{Run, started_run, after_turns}

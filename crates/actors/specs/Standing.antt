@@ -1,15 +1,6 @@
 -- Where an actor stands, as the code has it, and what it does next.
 use Rattle.std.specs.Prelude.{ℕ, ◌≡◌, ◌+◌, ◌-◌, ◌<◌, ◌≤◌, pos, Bool, true, false, List, [], ◌∷◌, ◌++◌, length, map, slice_index_or, Option, Some, None}
-use Rattle.expr_lang.specs.Prelude.{Number}
-use Rattle.places.specs.Prelude.{Owner}
-use Rattle.piece_bits.specs.Prelude.{AreSized}
-use Rattle.views.specs.Prelude.{Table, owners_of, leaf_count_of}
-use Rattle.row_updates.specs.Rows.{Setting}
-use Rattle.actor_steps.specs.declared.place.Place.{Place}
-use Rattle.actor_steps.specs.Prelude.{IsByte, Actor, State, fresh_of, Job, Micro, Fetch, Load, Store, Registers, stored, loaded}
-use Rattle.actor_tasks.specs.Marks.{task_at}
-use Rattle.actor_tasks.specs.Places.{origin, byte_behind}
-use Rattle.actor_tasks.specs.Tasks.{Task, Reads, Sets, left_in}
+use Rattle.actors.specs.Words.{Number, Owner, AreSized, Table, owners_of, leaf_count_of, Setting, Place, IsByte, Actor, State, fresh_of, Job, Micro, Fetch, Load, Store, Registers, stored, loaded, task_at, origin, byte_behind, Task, Reads, Sets, left_in}
 use Rattle.actors.specs.declared.step.Cursor.{Cursor}
 use Rattle.actors.specs.declared.step.Step.{Step}
 use Rattle.actors.specs.declared.step.Step.TheVariants as step

@@ -1,10 +1,6 @@
 -- What the plain update gives and reads.
 use Rattle.std.specs.Prelude.{ℕ, ◌≡◌, ◌+◌, ◌≤◌, ℤ, List, length, Option, Result, Ok, Err}
-use Rattle.expr_lang.specs.Prelude.{Term}
-use Rattle.views.specs.Prelude.{Table, after_log, reads_in}
-use Rattle.row_updates.specs.declared.fault.UpdateFault.{UpdateFault}
-use Rattle.row_updates.specs.Logs.{update_log}
-use Rattle.row_updates.specs.Rows.{Setting}
+use Rattle.actors.specs.Words.{Term, Table, after_log, reads_in, UpdateFault, update_log, Setting}
 use Rattle.actors.specs.declared.fault.ActorFault.{ActorFault}
 use Rattle.actors.specs.declared.fault.ActorFault.TheVariants.{Update, NoMemory}
 

@@ -1,11 +1,7 @@
 // Actors, and one turn of one of them.
 ghost use Rattle.std.specs.Prelude.{◌≡◌, ◌<◌, ◌≤◌, All, None, Option, [], length, map};
-ghost use Rattle.actor_steps.specs.Prelude.{job_of, row_in, stored, loaded, value_kept_on};
-ghost use Rattle.piece_bits.specs.Prelude.{AreSized};
-ghost use Rattle.expr_lang.specs.Prelude.{Term};
+ghost use Rattle.actors.specs.Words.{job_of, row_in, stored, loaded, value_kept_on, AreSized, Term, IsSetOf, setting_of, owners_of};
 ghost use Rattle.std.specs.Prelude.{ℕ};
-ghost use Rattle.row_updates.specs.Rows.{IsSetOf, setting_of};
-ghost use Rattle.views.specs.Prelude.{owners_of};
 ghost use Rattle.actors.specs.Rows.{ArePlans};
 ghost use Rattle.actors.specs.Standing.{IsStanding, IsStepOf, IsTurn, bytes_shown, step_shown};
 

@@ -1,10 +1,6 @@
 // Blobs of a run: copies of those of a view, and single rows and bytes of them.
 ghost use Rattle.std.specs.Prelude.{◌≡◌, ◌<◌, ◌≤◌, IfOk, length, map};
-ghost use Rattle.blobs.specs.Bits.{bit_in};
-ghost use Rattle.places.specs.Prelude.{IsWrite};
-ghost use Rattle.piece_bits.specs.Prelude.{AreSized};
-ghost use Rattle.views.specs.Prelude.{leaf_count_of, owners_of};
-ghost use Rattle.actor_steps.specs.Prelude.{IsLawful, memory_of, fresh_of, byte_at, with_byte, with_bits_of};
+ghost use Rattle.actors.specs.Words.{bit_in, IsWrite, AreSized, leaf_count_of, owners_of, IsLawful, memory_of, fresh_of, byte_at, with_byte, with_bits_of};
 ghost use Rattle.actors.specs.Rows.{row_held, HasByte};
 
 use actor_steps::Place;

@@ -1,10 +1,6 @@
 // Values of expressions on numbers whose reads are noted.
 ghost use Rattle.std.specs.Prelude.{◌≡◌, ◌<◌, ◌≤◌, fold, length};
-ghost use Rattle.expr_lang.specs.Prelude.{bound_term, bound_leaves, bound_rank, outcome_of};
-ghost use Rattle.linearize.specs.Slots.{index_at};
-ghost use Rattle.row_updates.specs.Rows.{IsBoundOver};
-ghost use Rattle.views.specs.Prelude.{leaf_count_of};
-ghost use Rattle.actor_steps.specs.Prelude.{number_in};
+ghost use Rattle.actors.specs.Words.{bound_term, bound_leaves, bound_rank, outcome_of, index_at, IsBoundOver, leaf_count_of, number_in};
 ghost use Rattle.actors.specs.Rows.{marked};
 
 use expr_lang::{Bound, Row, eval};

@@ -1,8 +1,6 @@
 // Where an actor stands in its rows, and its next micro-step.
 ghost use Rattle.std.specs.Prelude.{◌≡◌, ◌<◌, ◌≤◌, All, IfSome, length};
-ghost use Rattle.actor_steps.specs.Prelude.{IsByte, Job};
-ghost use Rattle.actor_tasks.specs.Marks.{AreRowsOf};
-ghost use Rattle.actor_tasks.specs.Places.{byte_behind};
+ghost use Rattle.actors.specs.Words.{IsByte, Job, AreRowsOf, byte_behind};
 ghost use Rattle.actors.specs.Rows.{asks_at};
 ghost use Rattle.actors.specs.Standing.{IsCursor, IsStepOf, IsStepNext};
 

@@ -1,14 +1,7 @@
 -- Which expressions are layouts of cells within the limits.
 use Rattle.std.specs.Prelude.{ℕ, ◌+◌, ◌*◌, ◌^◌, Bool, true, false, ◌||◌, nat_lt, List, [], ◌∷◌, length, sum_by, Option, Some, None, Result, Ok, Err}
-use Rattle.record_dim.specs.Prelude.{Fields}
-use Rattle.places.specs.declared.piece.Cell.{Cell}
-use Rattle.map_expr.specs.Terms.{Term}
-use Rattle.map_expr.specs.declared.check.BadMapping.{BadMapping}
-use Rattle.map_checks.specs.Prelude.{layout_of, most_slots, accepted}
-use Rattle.map_checks.specs.declared.fault.MakeMap.{MakeMap}
+use Rattle.advisor.specs.Words.{Fields, Cell, Term, BadMapping, layout_of, most_slots, accepted, MakeMap, granules_in, blob_lengths}
 use Rattle.map_checks.specs.declared.fault.MakeMap.TheVariants as map
-use Rattle.instrument.specs.Counters.{granules_in}
-use Rattle.views.specs.Prelude.{blob_lengths}
 use Rattle.advisor.specs.declared.advice.AdviseFault.{AdviseFault}
 use Rattle.advisor.specs.declared.advice.AdviseFault.TheVariants.{Bad, TooBig, NoMemory}
 

@@ -1,14 +1,6 @@
 -- Which expressions suit the values of a table.
 use Rattle.std.specs.Prelude.{ℕ, Bool, false, ℤ, List, Result, Ok, Err}
-use Rattle.record_dim.specs.Std.{int_eq, list_all, range_with_len}
-use Rattle.record_dim.specs.declared.leaf_type.LeafType.{LeafType}
-use Rattle.places.specs.declared.piece.Hold.{Hold}
-use Rattle.piece_bits.specs.Prelude.{hold_at}
-use Rattle.map_expr.specs.Terms.{Term}
-use Rattle.map_checks.specs.Prelude.{holds_by}
-use Rattle.piece_bits.specs.declared.mode.StoreMode.{StoreMode}
-use Rattle.views.specs.Prelude.{column, store_answer, Table, leaf_count_of, leaf_type_of}
-use Rattle.views.specs.declared.fault.StoreFault.{StoreFault}
+use Rattle.advisor.specs.Words.{int_eq, list_all, range_with_len, LeafType, Hold, hold_at, Term, holds_by, StoreMode, column, store_answer, Table, leaf_count_of, leaf_type_of, StoreFault}
 
 -- an answer to a store keeps this value
 abbrev pub keeps : ℤ → Result ℤ StoreFault → Bool

@@ -1,9 +1,5 @@
 ghost use Rattle.std.specs.Prelude.{◌≡◌, ◌<◌, ◌≤◌, ◌^◌, ◌⊎◌, Ok, Err, IfOk, OnOk, IfErr, length, map, slice_index};
-ghost use Rattle.extents.specs.Indices.{indices};
-ghost use Rattle.map_expr.specs.Terms.{term_of};
-ghost use Rattle.map_checks.specs.Prelude.{layout_of, holds_of, IsBuiltTerm, IsRuled, IsRuleOf};
-ghost use Rattle.instrument.specs.Counters.{granules_in};
-ghost use Rattle.views.specs.Prelude.{blob_lengths};
+ghost use Rattle.advisor.specs.Words.{indices, term_of, layout_of, holds_of, IsBuiltTerm, IsRuled, IsRuleOf, granules_in, blob_lengths};
 ghost use Rattle.advisor.specs.Judged.{judged};
 
 use crate::touched::has_few_granules;

@@ -1,9 +1,6 @@
 // The candidates that split the record at one of its fields.
 ghost use Rattle.std.specs.Prelude.{ℕ, ◌≡◌, ◌<◌, ◌≤◌, ◌^◌, ◌++◌, ◌∷◌, [], All, Ok, None, IfOk, OnOk, IfSome, IfNone, length, map, filter, is_ok, slice_index_or};
-ghost use Rattle.record_dim.specs.Prelude.{Fields, tree_of, fields_of, IsRecord, Record};
-ghost use Rattle.map_expr.specs.Terms.{Split, term_of};
-ghost use Rattle.map_checks.specs.Prelude.{leaf_cells, holds_by, IsBuiltTerm, cells_under, cells_beside};
-ghost use Rattle.views.specs.Prelude.{leaf_types_of};
+ghost use Rattle.advisor.specs.Words.{Fields, tree_of, fields_of, IsRecord, Record, Split, term_of, leaf_cells, holds_by, IsBuiltTerm, cells_under, cells_beside, leaf_types_of};
 ghost use Rattle.advisor.specs.Advice.{judge, own_paths, splits_at, split_terms};
 ghost use Rattle.advisor.specs.Inner.Pools.{IsPriced, terms_in};
 ghost use Rattle.advisor.specs.Inner.SideCosts.{IsHold, IsPrice, IsSideCost, term_at};

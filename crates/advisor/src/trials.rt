@@ -1,7 +1,6 @@
 // Ways of storing leaves, each tried with the values of all rows.
 ghost use Rattle.std.specs.Prelude.{ℕ, ◌&&◌, ◌||◌, ◌==◌, ◌≡◌, ◌<◌, All, true, not, IfOk, OnOk, length, map};
-ghost use Rattle.record_dim.specs.Prelude.{leaves, schema_fields};
-ghost use Rattle.views.specs.Prelude.{raised, is_between};
+ghost use Rattle.advisor.specs.Words.{leaves, schema_fields, raised, is_between};
 ghost use Rattle.advisor.specs.Inner.SideCosts.{IsHold};
 ghost use Rattle.advisor.specs.Suits.{stays};
 ghost use Rattle.advisor.specs.Inner.Trials.{IsTrial, IsFresh, has_trial, HasTrials, low_stays, all_lows_stay, tried_leaf, has_not_failed, none_failed};

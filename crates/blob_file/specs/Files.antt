@@ -1,19 +1,6 @@
 -- Blob files: which bytes are the file of a header and of blobs. Nothing here is shared with what writes and reads them.
 use Rattle.std.specs.Prelude.{ℕ, ◌≡◌, ◌/◌, ◌%◌, ◌≤◌, Bool, true, false, ℤ, List, [], ◌∷◌, ◌++◌, length, map, codes}
-use Rattle.record_dim.specs.Prelude.{Fields, Record, leaves, kinds_of}
-use Rattle.extents.specs.Indices.{indices}
-use Rattle.extents.specs.declared.words.ExtentWord.TheVariants.{Fixed}
-use Rattle.map_expr.specs.Terms.{Term}
-use Rattle.map_checks.specs.Prelude.{layout_by, holds_by}
-use Rattle.places.specs.Prelude.{Owner, image}
-use Rattle.piece_bits.specs.Prelude.{HasShape}
-use Rattle.piece_bits.specs.declared.mode.StoreMode.{StoreMode}
-use Rattle.piece_bits.specs.declared.mode.StoreMode.TheVariants.{Strict, Wrap}
-use Rattle.views.specs.Prelude.{AllStay}
-use Rattle.layout_io.specs.Prelude.{joined}
-use Rattle.instrument.specs.BlobTexts.{bytes_of}
-use Rattle.line_grammar.specs.Prelude.{Sentence, Define, View}
-use Rattle.line_writer.specs.Texts.{canonical}
+use Rattle.blob_file.specs.Words.{Fields, Record, leaves, kinds_of, indices, Fixed, Term, layout_by, holds_by, Owner, image, HasShape, StoreMode, Strict, Wrap, AllStay, joined, bytes_of, Sentence, Define, View, canonical}
 
 -- what the header of a file tells: the fields of a record, the extents of an array, how a value is stored that does not fit, and how the
 -- records lie

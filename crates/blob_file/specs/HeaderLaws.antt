@@ -1,8 +1,6 @@
 -- Mappings without names.
 use Rattle.std.specs.Prelude.{◌≡◌, true}
-use Rattle.record_dim.specs.Std.{false≢true, and_parts}
-use Rattle.map_expr.specs.Terms.{Term, Split, Byteswap, Bytesplit, Change, Count, Heat, Named}
-use Rattle.map_checks.specs.Prelude.{IsBuiltTerm}
+use Rattle.blob_file.specs.Words.{false≢true, and_parts, Term, Split, Byteswap, Bytesplit, Change, Count, Heat, Named, IsBuiltTerm}
 use Rattle.blob_file.specs.Headers.{is_nameless}
 
 -- they have a layout

@@ -1,18 +1,7 @@
 -- Which headers a file can be opened with.
 use Rattle.std.specs.Prelude.{ℕ, ◌≡◌, ◌*◌, ◌^◌, Bool, true, false, not, ◌&&◌, ◌||◌, nat_lt, List, map, length, sum_by, is_ok, is_none, None, Ok}
-use Rattle.record_dim.specs.Std.{list_all}
-use Rattle.extents.specs.Shapes.{bad_shape, bad_extents}
-use Rattle.extents.specs.declared.words.ExtentWord.{ExtentWord}
-use Rattle.extents.specs.declared.words.ExtentWord.TheVariants.{Fixed}
-use Rattle.record_dim.specs.Prelude.{Record, kinds_of, records_of, lengths_of, has_names, record_fault, is_name}
-use Rattle.record_dim.specs.declared.path.PathStep.{PathStep}
+use Rattle.blob_file.specs.Words.{list_all, bad_shape, bad_extents, ExtentWord, Fixed, Record, kinds_of, records_of, lengths_of, has_names, record_fault, is_name, PathStep, FieldWidth, Term, Aosoa, BitAos, BitSoa, Split, Byteswap, Bytesplit, Change, Count, Heat, Named, leaf_cells, accepted, most_slots, Sentence, Reads, Two, granules_for, IsOverLimits}
 use Rattle.record_dim.specs.declared.path.PathStep.TheVariants as step
-use Rattle.map_expr.specs.declared.widths.FieldWidth.{FieldWidth}
-use Rattle.map_expr.specs.Terms.{Term, Aosoa, BitAos, BitSoa, Split, Byteswap, Bytesplit, Change, Count, Heat, Named}
-use Rattle.map_checks.specs.Prelude.{leaf_cells, accepted, most_slots}
-use Rattle.line_grammar.specs.Prelude.{Sentence, Reads}
-use Rattle.line_grammar.specs.declared.version.Version.TheVariants.{Two}
-use Rattle.views.specs.Prelude.{granules_for, IsOverLimits}
 use Rattle.blob_file.specs.Files.{Header, owners_by, record_line, view_line}
 
 -- no name stands in a mapping

@@ -1,18 +1,7 @@
 -- What is opened of a file, as a function of its bytes: a header and blobs, or the first refusal.
 use Rattle.std.specs.Prelude.{ℕ, ◌≡◌, ◌⊎◌, ◌+◌, ◌*◌, ◌==◌, Bool, true, false, not, ◌&&◌, nat_eq, nat_le, if◌then◌else◌, ℤ, List, [], ◌∷◌, length, map, take, drop, sum_by, codes, Option, None, Some, option_map, Result, Ok, Err, is_ok}
-use Rattle.record_dim.specs.Std.{list_all, list_any, pointwise}
-use Rattle.extents.specs.Indices.{indices}
-use Rattle.extents.specs.Shapes.{extent_of, is_rows}
-use Rattle.record_dim.specs.Prelude.{Fields, Record, leaves, kinds_of}
-use Rattle.map_checks.specs.Prelude.{holds_by}
-use Rattle.piece_bits.specs.Prelude.{hold_at, zeros, kind_at}
-use Rattle.piece_bits.specs.declared.mode.StoreMode.{StoreMode}
-use Rattle.piece_bits.specs.declared.mode.StoreMode.TheVariants.{Strict, Wrap}
-use Rattle.line_grammar.specs.Prelude.{New, Sentence, Define, View, deepest}
-use Rattle.line_grammar.specs.declared.version.Version.TheVariants.{Two}
-use Rattle.line_writer.specs.Texts.{canonical}
-use Rattle.schema_lang.specs.LineOf.{line_of}
-use Rattle.views.specs.Prelude.{raw_under, table_under, StoreAnswer, store_answer, Table, Write, all_accesses, tallied, no_tally, blob_lengths}
+use Rattle.record_dim.specs.Std.{list_any}
+use Rattle.blob_file.specs.Words.{list_all, pointwise, indices, extent_of, is_rows, Fields, Record, leaves, kinds_of, holds_by, hold_at, zeros, kind_at, StoreMode, Strict, Wrap, New, Sentence, Define, View, deepest, Two, canonical, line_of, raw_under, table_under, StoreAnswer, store_answer, Table, Write, all_accesses, tallied, no_tally, blob_lengths}
 use Rattle.blob_file.specs.Files.{Header, magic, four_bytes, two_lines, owners_by, image_bytes}
 use Rattle.blob_file.specs.Headers.{is_nameless, can_lie}
 use Rattle.blob_file.specs.declared.fault.FileFault.{FileFault}

@@ -1,12 +1,8 @@
 -- The parts of a header as the code has them.
 use Rattle.std.specs.Prelude.{ℕ, List, map, codes}
-use Rattle.extents.specs.Shapes.{extent_of}
-use Rattle.record_dim.specs.Prelude.{Tree, Fields, Record, End, tree_of}
-use Rattle.piece_bits.specs.declared.mode.StoreMode.{StoreMode}
-use Rattle.map_expr.specs.Terms.{Term, term_of}
+use Rattle.blob_file.specs.Words.{extent_of, Tree, Fields, Record, End, tree_of, StoreMode, Term, term_of, New}
 use Rattle.blob_file.specs.Files.{Header}
 use Rattle.blob_file.specs.Opened.{mode_by}
-use Rattle.line_grammar.specs.Prelude.{New}
 use Rattle.blob_file.specs.declared.header.FileHeader.{FileHeader}
 use Rattle.blob_file.specs.declared.header.ShownView.{ShownView}
 

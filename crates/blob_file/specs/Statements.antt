@@ -1,12 +1,8 @@
 -- The laws of blob files.
 use Rattle.std.specs.Prelude.{ℕ, ◌≡◌, ◌<◌, ◌≤◌, ◌↔◌, ℤ, List, length, Ok}
-use Rattle.record_dim.specs.Prelude.{kinds_of}
-use Rattle.map_checks.specs.Prelude.{holds_by}
-use Rattle.piece_bits.specs.Prelude.{hold_at}
+use Rattle.blob_file.specs.Words.{kinds_of, holds_by, hold_at, joined, Table}
 use Rattle.blob_file.specs.Files.{Header, AreRows, IsFile, image_bytes}
 use Rattle.blob_file.specs.Headers.{IsTyped, HasLines, CanLie}
-use Rattle.layout_io.specs.Prelude.{joined}
-use Rattle.views.specs.Prelude.{Table}
 use Rattle.blob_file.specs.Opened.{Saved, opened, rows_in, with_body}
 use Rattle.blob_file.specs.Saving.{blobs_of, header_of}
 

@@ -1,15 +1,9 @@
 // A file, opened as a view.
 ghost use Rattle.std.specs.Prelude.{◌≡◌, ◌≤◌, ◌+◌, ◌*◌, ◌⊎◌, false, true, IfOk, IfErr, OnOk, Ok, Err, Some, length, map, sum_by};
-ghost use Rattle.std.specs.List.{list_any};
-ghost use Rattle.extents.specs.Shapes.{bad_shape, bad_extents, extent_of, is_rows};
-ghost use Rattle.map_expr.specs.Terms.{term_of};
-ghost use Rattle.map_checks.specs.Prelude.{accepted, layout_by, leaf_cells, IsBuiltTerm};
-ghost use Rattle.record_dim.specs.Prelude.{record_fault, kinds_of, schema_fields, tree_of, Record, IsRecord};
+ghost use Rattle.blob_file.specs.Words.{list_any, bad_shape, bad_extents, extent_of, is_rows, term_of, accepted, layout_by, leaf_cells, IsBuiltTerm, record_fault, kinds_of, schema_fields, tree_of, Record, IsRecord, AreSized, IsOverLimits, owners_of};
 ghost use Rattle.blob_file.specs.Files.{owners_by, Header, IsFile};
 ghost use Rattle.blob_file.specs.Headers.{is_nameless, CanLie};
 ghost use Rattle.blob_file.specs.Opened.{empty_table, leaf_count, mode_by, opened, row_count, with_blobs, with_body, with_header, IsRead, IsReadInto};
-ghost use Rattle.piece_bits.specs.Prelude.{AreSized};
-ghost use Rattle.views.specs.Prelude.{IsOverLimits, owners_of};
 ghost use Rattle.blob_file.specs.Parts.{header_by, header_in};
 ghost use Rattle.blob_file.specs.Saving.{header_of, blobs_of};
 ghost use Rattle.blob_file.specs.declared.fault.FileFault.TheVariants as fault;

@@ -1,9 +1,6 @@
 // The two texts of a header, written.
 ghost use Rattle.std.specs.Prelude.{◌≡◌, IfOk, IsTrue, map};
-ghost use Rattle.extents.specs.declared.words.ExtentWord.TheVariants.{Fixed};
-ghost use Rattle.line_grammar.specs.Prelude.{sentence_of};
-ghost use Rattle.line_writer.specs.Texts.{canonical};
-ghost use Rattle.record_dim.specs.Prelude.{is_name};
+ghost use Rattle.blob_file.specs.Words.{Fixed, sentence_of, canonical, is_name};
 ghost use Rattle.blob_file.specs.Files.{is_wrap, record_text, view_text};
 ghost use Rattle.blob_file.specs.Saving.{header_of};
 

@@ -1,6 +1,5 @@
 -- Numbers as bytes, part by part.
-use Rattle.c_lines.proofs.Imports.{◌≡◌, ◌/◌, if◌then◌else◌, nat_eq, true, false, NoPlace, BadType, given_or, is_run, is_width, sized, was_set_run, after_set_run, was_set_run_as, after_set_run_as, ℕ, zero, suc, ◌+◌, ◌*◌, ◌<◌, ◌≤◌, ◌%◌, ◌^◌, Bool, ℤ, pos, negsuc, List, [], ◌∷◌, ◌++◌, length, map, take, drop, get_or, Option, Some, None, Ok, Err, w64, refl, sym, ap, ◌∙◌, arith, ints, cast_unsigned, of_z-to_z, drop-drop, get_or-take, length-drop, length-take-le, option_or, low_64, stored_count, with_run, Table, LaneFault, after_stores, column_writes, kept_of, with_column, take-take, answer_of, lane_inside, bytes_of_numbers, number_in, numbers_in, told_run, IsFrontStored, IsSet, ext_get_or, get_or-drop, get_or-map-range_with_len, length-map-range_with_len, Refusal, Answer, IsWithin64, run_fault}
-use Rattle.byteorder.specs.Endian.{little_bytes, low_bytes}
+use Rattle.c_lines.proofs.Imports.{◌≡◌, ◌/◌, if◌then◌else◌, nat_eq, true, false, NoPlace, BadType, given_or, is_run, is_width, sized, was_set_run, after_set_run, was_set_run_as, after_set_run_as, ℕ, zero, suc, ◌+◌, ◌*◌, ◌<◌, ◌≤◌, ◌%◌, ◌^◌, Bool, ℤ, pos, negsuc, List, [], ◌∷◌, ◌++◌, length, map, take, drop, get_or, Option, Some, None, Ok, Err, w64, refl, sym, ap, ◌∙◌, arith, ints, cast_unsigned, of_z-to_z, drop-drop, get_or-take, length-drop, length-take-le, option_or, low_64, stored_count, with_run, Table, LaneFault, after_stores, column_writes, kept_of, with_column, take-take, answer_of, lane_inside, bytes_of_numbers, number_in, numbers_in, told_run, IsFrontStored, IsSet, ext_get_or, get_or-drop, get_or-map-range_with_len, length-map-range_with_len, Refusal, Answer, IsWithin64, run_fault, little_bytes, low_bytes}
 use Rattle.c_lines.proofs.Parts.{fault_parts}
 
 -- ---- numbers that are read

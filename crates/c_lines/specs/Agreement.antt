@@ -1,10 +1,6 @@
 -- Where a call by lines and the command of a script differ: a call makes a table beside no other, and a script beside all of its views.
-use Rattle.std.specs.Prelude.{ℕ, ◌≡◌, ◌+◌, ◌*◌, ◌^◌, ◌≤◌, List, [], Ok}
-use Rattle.map_expr.specs.Terms.{Term}
-use Rattle.piece_bits.specs.declared.mode.StoreMode.{StoreMode}
-use Rattle.record_dim.specs.Prelude.{Fields}
-use Rattle.views.specs.Prelude.{Table}
-use Rattle.worlds.specs.Prelude.{blob_bits, live_bits, made, Entry}
+use Rattle.std.specs.Prelude.{◌≡◌, ◌+◌, ◌*◌, ◌^◌, ◌≤◌}
+use Rattle.c_lines.specs.Words.{ℕ, List, [], Ok, Term, StoreMode, Fields, Table, blob_bits, live_bits, made, Entry}
 
 -- a table that a command makes leaves room for the largest one
 abbrev pub TablesLeaveRoom : Type 0

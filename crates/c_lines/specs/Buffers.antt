@@ -1,15 +1,8 @@
 -- Bytes that are copied into the buffer of a caller, and what they are.
-use Rattle.std.specs.Prelude.{ℕ, ◌≡◌, ◌⊎◌, ◌++◌, List, [], length, drop, nat_le, nat_lt, slice_index_or, Result, Ok, Err, if◌then◌else◌}
-use Rattle.blob_file.specs.Files.{file_of, record_text, view_text}
+use Rattle.std.specs.Prelude.{◌≡◌, ◌⊎◌, ◌++◌, if◌then◌else◌}
+use Rattle.c_lines.specs.Words.{ℕ, List, [], length, drop, nat_le, nat_lt, slice_index_or, Result, Ok, Err, file_of, record_text, view_text, blobs_of, header_of, FileFault, print_text, joined, texts_of, Table, owners_of, is_long, ◌>>=◌, ok_or}
 use Rattle.blob_file.specs.Opened.{Saved, opened, table_of_saved, with_body}
-use Rattle.blob_file.specs.Saving.{blobs_of, header_of}
-use Rattle.blob_file.specs.declared.fault.FileFault.{FileFault}
 use Rattle.blob_file.specs.declared.fault.FileFault.TheVariants as fault
-use Rattle.csv_rows.specs.Texts.{print_text}
-use Rattle.layout_io.specs.Prelude.{joined}
-use Rattle.record_dim.specs.Prelude.{texts_of}
-use Rattle.views.specs.Prelude.{Table, owners_of}
-use Rattle.worlds.specs.Prelude.{is_long, ◌>>=◌, ok_or}
 use Rattle.worlds.specs.declared.fault.BadFile.TheVariants as bad
 use Rattle.c_lines.specs.Answers.{Answer, given_or}
 use Rattle.c_lines.specs.declared.refusal.Refusal.{Refusal}

@@ -1,12 +1,7 @@
 -- A line on one view: its command, in a script that has nothing but this view, by the name that the line gives it.
-use Rattle.std.specs.Prelude.{ℕ, ◌≡◌, ◌⊎◌, ◌&&◌, ℤ, pos, neg_ℤ, int_le, int_lt, ◌^◌, Bool, true, false, List, [], Option, Some, Ok, Err, if◌then◌else◌}
+use Rattle.std.specs.Prelude.{◌≡◌, ◌⊎◌, ◌&&◌, ◌^◌, if◌then◌else◌}
+use Rattle.c_lines.specs.Words.{ℕ, ℤ, pos, neg_ℤ, int_le, int_lt, Bool, true, false, List, [], Option, Some, Ok, Err, Sentence, Fields, Table, HasRows, front_left, kernel_left, left_at, stencil_left, updated_front, fit_kernel, number_text, text_of_leaf, Left, Tested, ◌>>=◌, fit_stencil, done_by, World, added, empty, CommandFault}
 use Rattle.line_grammar.specs.Sentences as line
-use Rattle.line_grammar.specs.Prelude.{Sentence}
-use Rattle.record_dim.specs.Prelude.{Fields}
-use Rattle.views.specs.Prelude.{Table}
-use Rattle.view_commands.specs.Changes.{HasRows, front_left, kernel_left, left_at, stencil_left, updated_front}
-use Rattle.worlds.specs.Prelude.{fit_kernel, number_text, text_of_leaf, Left, Tested, ◌>>=◌, fit_stencil, done_by, World, added, empty}
-use Rattle.worlds.specs.declared.fault.CommandFault.{CommandFault}
 use Rattle.worlds.specs.declared.fault.CommandFault.TheVariants as command
 use Rattle.c_lines.specs.Answers.{Answer}
 use Rattle.c_lines.specs.Buffers.{buffer_after, needed_after, put_told}

@@ -1,20 +1,12 @@
 -- What C learns of a refusal beside its number.
-use Rattle.std.specs.Prelude.{ℕ, ℤ, pos, Option, Some, None, Ok, Err}
-use Rattle.extents.specs.declared.words.BadExtents.{BadExtents}
+use Rattle.c_lines.specs.Words.{ℕ, ℤ, pos, Option, Some, None, Ok, Err, BadExtents, BadMapping, BadRecord, BadActors, BadAdvice, BadFile, BadKernel, BadStencil}
 use Rattle.extents.specs.declared.words.BadExtents.TheVariants as extents
-use Rattle.map_expr.specs.declared.check.BadMapping.{BadMapping}
 use Rattle.map_expr.specs.declared.check.BadMapping.TheVariants as mapping
-use Rattle.record_dim.specs.declared.fault.BadRecord.{BadRecord}
 use Rattle.record_dim.specs.declared.fault.BadRecord.TheVariants as fields
-use Rattle.worlds.specs.declared.fault.BadActors.{BadActors}
 use Rattle.worlds.specs.declared.fault.BadActors.TheVariants as actors
-use Rattle.worlds.specs.declared.fault.BadAdvice.{BadAdvice}
 use Rattle.worlds.specs.declared.fault.BadAdvice.TheVariants as advice
-use Rattle.worlds.specs.declared.fault.BadFile.{BadFile}
 use Rattle.worlds.specs.declared.fault.BadFile.TheVariants as file
-use Rattle.worlds.specs.declared.fault.BadKernel.{BadKernel}
 use Rattle.worlds.specs.declared.fault.BadKernel.TheVariants as kernel
-use Rattle.worlds.specs.declared.fault.BadStencil.{BadStencil}
 use Rattle.worlds.specs.declared.fault.BadStencil.TheVariants as stencil
 use Rattle.c_lines.specs.Answers.{Answer}
 use Rattle.c_lines.specs.declared.refusal.Fault.{Fault}

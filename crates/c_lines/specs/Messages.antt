@@ -1,11 +1,10 @@
 -- The words of an answer: those of the program where it has some, but a leaf is its number.
-use Rattle.std.specs.Prelude.{ℕ, ◌≡◌, ◌∷◌, ◌&&◌, ℤ, pos, Bool, List, [], codes, Option, Some, None, Ok, Err, if◌then◌else◌}
-use Rattle.record_dim.specs.Std.{find, int_eq}
+use Rattle.std.specs.Prelude.{◌≡◌, ◌∷◌, ◌&&◌, if◌then◌else◌}
+use Rattle.c_lines.specs.Words.{ℕ, ℤ, pos, Bool, List, [], codes, Option, Some, None, Ok, Err, int_eq, digits_text, fault_words}
+use Rattle.record_dim.specs.Std.{find}
 use Rattle.extents.specs.declared.words.BadExtents.TheVariants as extents
-use Rattle.layout_io.specs.Prelude.{digits_text}
 use Rattle.map_expr.specs.declared.check.BadMapping.TheVariants as mapping
 use Rattle.record_dim.specs.declared.fault.BadRecord.TheVariants as fields
-use Rattle.worlds.specs.Prelude.{fault_words}
 use Rattle.worlds.specs.declared.fault.BadActors.TheVariants as actors
 use Rattle.worlds.specs.declared.fault.BadAdvice.TheVariants as advice
 use Rattle.worlds.specs.declared.fault.BadFile.TheVariants as file

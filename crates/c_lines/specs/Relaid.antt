@@ -1,9 +1,5 @@
 -- A table that is laid out anew by a `relayout` line.
-use Rattle.std.specs.Prelude.{ℕ, List, [], Ok, Err}
-use Rattle.line_grammar.specs.Prelude.{Sentence, Relayout}
-use Rattle.map_expr.specs.Terms.{Term}
-use Rattle.views.specs.Prelude.{Table}
-use Rattle.worlds.specs.Prelude.{laid_anew_by, nameless, ◌>>=◌, made}
+use Rattle.c_lines.specs.Words.{ℕ, List, [], Ok, Err, Sentence, Relayout, Term, Table, laid_anew_by, nameless, ◌>>=◌, made}
 use Rattle.c_lines.specs.Answers.{Answer}
 use Rattle.c_lines.specs.declared.refusal.Refusal.TheVariants.{OtherLine}
 use Rattle.c_lines.specs.declared.refusal.TextOf.TheVariants.{First}

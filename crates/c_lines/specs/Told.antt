@@ -1,12 +1,7 @@
 -- Why a command of the model of scripts or a store is refused, as the answer of a call.
-use Rattle.std.specs.Prelude.{ℕ}
-use Rattle.csv_rows.specs.declared.fault.RowFault.{RowFault}
+use Rattle.c_lines.specs.Words.{ℕ, RowFault, Spot, StoreFault, Tested, ok_or, Wording, CommandFault}
 use Rattle.csv_rows.specs.declared.fault.RowFault.TheVariants as row
-use Rattle.layout_copy.specs.Copies.{Spot}
-use Rattle.views.specs.declared.fault.StoreFault.{StoreFault}
 use Rattle.views.specs.declared.fault.StoreFault.TheVariants as store
-use Rattle.worlds.specs.Prelude.{Tested, ok_or, Wording}
-use Rattle.worlds.specs.declared.fault.CommandFault.{CommandFault}
 use Rattle.worlds.specs.declared.fault.CommandFault.TheVariants as command
 use Rattle.c_lines.specs.Answers.{Answer, answer_map}
 use Rattle.c_lines.specs.declared.refusal.Refusal.{Refusal}

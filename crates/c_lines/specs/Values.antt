@@ -1,11 +1,6 @@
 -- One value of a table, as a number of the caller's type.
-use Rattle.std.specs.Prelude.{ℕ, ◌+◌, ◌&&◌, Bool, true, false, not, ℤ, length, nat_lt, nat_le, if◌then◌else◌, Ok, Err}
-use Rattle.record_dim.specs.declared.leaf_type.LeafType.{LeafType}
-use Rattle.record_dim.specs.declared.leaf_type.LeafType.TheVariants.{U64}
-use Rattle.record_dim.specs.Prelude.{is_signed}
-use Rattle.places.specs.Prelude.{entry}
-use Rattle.views.specs.Prelude.{without_number, Table, leaf_count_of, leaf_type_of, answer_of}
-use Rattle.worlds.specs.Prelude.{ok_or}
+use Rattle.std.specs.Prelude.{◌+◌, ◌&&◌, if◌then◌else◌}
+use Rattle.c_lines.specs.Words.{ℕ, Bool, true, false, not, ℤ, length, nat_lt, nat_le, Ok, Err, LeafType, U64, is_signed, entry, without_number, Table, leaf_count_of, leaf_type_of, answer_of, ok_or}
 use Rattle.c_lines.specs.Answers.{Answer}
 use Rattle.c_lines.specs.Told.{store_refusal}
 use Rattle.c_lines.specs.declared.refusal.Refusal.TheVariants.{NoPlace, BadType}

@@ -1,7 +1,6 @@
 // The line that a text of a call is.
-ghost use Rattle.std.specs.Prelude.{◌≡◌, ◌≤◌, IfOk};
-ghost use Rattle.line_grammar.specs.Prelude.{sentence_of};
-ghost use Rattle.schema_lang.specs.Parsing.{HasItsFields};
+ghost use Rattle.std.specs.Prelude.{◌≡◌, ◌≤◌};
+ghost use Rattle.c_lines.specs.Words.{IfOk, sentence_of, HasItsFields};
 ghost use Rattle.c_lines.specs.Answers.{Tells};
 ghost use Rattle.c_lines.specs.Lines.{line_answer};
 

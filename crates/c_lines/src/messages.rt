@@ -1,8 +1,6 @@
 // The words of answers.
-ghost use Rattle.std.specs.Prelude.{◌≡◌, ◌-◌, ◌≤◌, IfOk, Ok, drop, length, take};
-ghost use Rattle.std.specs.List.{find};
-ghost use Rattle.layout_io.specs.Prelude.{digits_text};
-ghost use Rattle.worlds.specs.Prelude.{fault_words};
+ghost use Rattle.std.specs.Prelude.{◌≡◌, ◌-◌, ◌≤◌};
+ghost use Rattle.c_lines.specs.Words.{IfOk, Ok, drop, length, take, find, digits_text, fault_words};
 ghost use Rattle.c_lines.specs.Answers.{answer_map};
 ghost use Rattle.c_lines.specs.Buffers.{TellsPut};
 ghost use Rattle.c_lines.specs.Faults.{leaf_named};

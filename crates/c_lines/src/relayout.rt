@@ -1,9 +1,6 @@
 // A table that is laid out anew.
-ghost use Rattle.std.specs.Prelude.{◌≡◌, ◌<◌, ℕ, IfOk, List, true};
-ghost use Rattle.layout_copy.specs.Copies.{AreAlike};
-ghost use Rattle.line_grammar.specs.Prelude.{sentence_of};
-ghost use Rattle.map_expr.specs.Terms.{term_of};
-ghost use Rattle.command_checks.specs.Inner.Bases.{is_nameless};
+ghost use Rattle.std.specs.Prelude.{◌≡◌, ◌<◌};
+ghost use Rattle.c_lines.specs.Words.{ℕ, IfOk, List, true, AreAlike, sentence_of, term_of, is_nameless};
 ghost use Rattle.c_lines.specs.Answers.{Tells, TellsLeft};
 ghost use Rattle.c_lines.specs.Copies.{was_copied};
 ghost use Rattle.c_lines.specs.Inner.Carried.{Gave};

@@ -1,8 +1,6 @@
 // Rows of a view, one after another: those of a list, or those of a window.
-ghost use Rattle.std.specs.Prelude.{◌≡◌, ◌<◌, ℕ, List, length, nat_lt, slice_index_or};
-ghost use Rattle.std.specs.List.{list_all};
-ghost use Rattle.subviews.specs.SubViews.{rows_of};
-ghost use Rattle.views.specs.Prelude.{Table};
+ghost use Rattle.std.specs.Prelude.{◌≡◌, ◌<◌};
+ghost use Rattle.c_lines.specs.Words.{ℕ, List, length, nat_lt, slice_index_or, list_all, rows_of, Table};
 
 use extents::Window;
 use views::View;

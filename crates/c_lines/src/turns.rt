@@ -1,7 +1,6 @@
 // What is done with each value of a list in its turn.
-ghost use Rattle.std.specs.Prelude.{◌≡◌, ◌<◌, ℕ, ℤ, length};
-ghost use Rattle.piece_bits.specs.Prelude.{IsWithin64};
-ghost use Rattle.views.specs.Prelude.{Table, leaf_count_of};
+ghost use Rattle.std.specs.Prelude.{◌≡◌, ◌<◌};
+ghost use Rattle.c_lines.specs.Words.{ℕ, ℤ, length, IsWithin64, Table, leaf_count_of};
 ghost use Rattle.c_lines.specs.ByRows.{Turned, add_there, put_there};
 
 use crate::refusal::Refusal;

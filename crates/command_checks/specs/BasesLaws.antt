@@ -1,19 +1,7 @@
 -- Laws of mappings without names, and of the rows that words ask for.
 use Rattle.std.specs.Prelude.{◌≡◌, ◌⊎◌, ℕ, zero, suc, ◌<◌, ◌/◌, ◌%◌, Bool, true, false, not, nat_lt, count_by, List, length, Option, Some, None, refl, Ok, Err, IsSome, IfSome, ◌==◌, ◌&&◌, if◌then◌else◌}
-use Rattle.record_dim.specs.Std.{inl, inr, sym, ap, ◌∙◌, arith, ⊎_elim, false≢true, cases_Bool, nat_tests}
-use Rattle.extents.specs.declared.words.ExtentWord.{ExtentWord}
-use Rattle.extents.specs.declared.words.BadExtents.{BadExtents as Bad}
-use Rattle.extents.specs.Indices.{indices, product}
-use Rattle.extents.specs.IndicesLaws.{length-indices}
-use Rattle.extents.specs.Shapes.{is_rows, HasRows, IsShape, bad_extents, extents_for, fixed_product}
-use Rattle.extents.specs.ShapeLaws.{product_divided, product_fixed}
-use Rattle.record_dim.specs.Prelude.{both}
-use Rattle.record_dim.specs.declared.path.PathStep.{PathStep}
-use Rattle.map_expr.specs.Terms.{Term, Split, Byteswap, Bytesplit, Change, Count, Heat, Named}
-use Rattle.map_expr.specs.Checks.{IsNameless}
+use Rattle.command_checks.specs.Words.{inl, inr, sym, ap, ◌∙◌, arith, ⊎_elim, false≢true, cases_Bool, nat_tests, ExtentWord, Bad, indices, product, length-indices, is_rows, HasRows, IsShape, bad_extents, extents_for, fixed_product, product_divided, product_fixed, both, PathStep, Term, Split, Byteswap, Bytesplit, Change, Count, Heat, Named, IsNameless, resolved, BadExtents}
 pub use Rattle.blob_file.specs.HeaderLaws.{nameless_built}
-use Rattle.worlds.specs.Prelude.{resolved}
-use Rattle.worlds.specs.declared.fault.CommandFault.TheVariants.{BadExtents}
 use Rattle.command_checks.specs.Inner.Bases.{is_nameless, rows_for}
 
 -- a mapping without names can be checked

@@ -1,8 +1,5 @@
 -- What the entries of a session are in its world.
-use Rattle.record_dim.specs.Prelude.{Fields, schema_fields}
-use Rattle.map_expr.specs.Terms.{Term as MapTerm, term_of}
-use Rattle.views.specs.Prelude.{Table}
-use Rattle.worlds.specs.Prelude.{Entry}
+use Rattle.command_checks.specs.Words.{Fields, schema_fields, MapTerm, term_of, Table, Entry}
 use Rattle.command_checks.specs.declared.entries.RecordEntry.{RecordEntry}
 use Rattle.command_checks.specs.declared.entries.ViewEntry.{ViewEntry}
 use Rattle.command_checks.specs.declared.mapping_entry.MappingEntry.{MappingEntry}

@@ -1,7 +1,6 @@
 // Lists of named entries.
 ghost use Rattle.std.specs.Prelude.{◌≡◌, ◌++◌, ◌∷◌, [], IfOk, IfErr, map};
-ghost use Rattle.std.specs.List.{position_from};
-ghost use Rattle.worlds.specs.Prelude.{same_name, known, free};
+ghost use Rattle.command_checks.specs.Words.{position_from, same_name, known, free};
 ghost use Rattle.command_checks.specs.Inner.Gives.{Gives};
 
 use crate::entries::RecordEntry;

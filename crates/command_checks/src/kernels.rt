@@ -1,9 +1,6 @@
 // Kernels that can run on a view.
 ghost use Rattle.std.specs.Prelude.{◌≡◌, ◌≤◌, ◌≤ℤ◌, ◌<ℤ◌, ◌^◌, ◌<◌, IfOk, OnOk, true, false, pos, neg_ℤ};
-ghost use Rattle.record_dim.specs.Prelude.{schema_fields};
-ghost use Rattle.lane_kernels.specs.Kernels.{IsFactor, IsKernelOf, IsNarrow};
-ghost use Rattle.views.specs.Prelude.{IsNarrowLeaf, leaf_count_of};
-ghost use Rattle.worlds.specs.Prelude.{are_bounds, are_lanes, compare_of, fit_kernel, fit_leaf, fits, is_constant, is_factor, is_wide};
+ghost use Rattle.command_checks.specs.Words.{schema_fields, IsFactor, IsKernelOf, IsNarrow, IsNarrowLeaf, leaf_count_of, are_bounds, are_lanes, compare_of, fit_kernel, fit_leaf, fits, is_constant, is_factor, is_wide};
 ghost use Rattle.command_checks.specs.Inner.Gives.{Gives};
 
 use crate::fault::StepFault;

@@ -1,8 +1,6 @@
 // What entries have in common.
 ghost use Rattle.std.specs.Prelude.{◌≡◌};
-ghost use Rattle.map_expr.specs.Terms.{Term as MapTerm};
-ghost use Rattle.record_dim.specs.Prelude.{Fields};
-ghost use Rattle.worlds.specs.Prelude.{Entry};
+ghost use Rattle.command_checks.specs.Words.{MapTerm, Fields, Entry};
 ghost use Rattle.command_checks.specs.SessionEntries.{record_of, mapping_of};
 
 use crate::entries::RecordEntry;

@@ -1,11 +1,6 @@
 // New views, and what refuses them.
 ghost use Rattle.std.specs.Prelude.{◌≡◌, ◌-◌, ◌*◌, ◌^◌, ◌<◌, ◌≤◌, IfOk, IfSome, List, OnOk, nat_lt, count_by, map, length, true};
-ghost use Rattle.extents.specs.Indices.{indices};
-ghost use Rattle.extents.specs.Shapes.{is_rows, IsShape};
-ghost use Rattle.map_expr.specs.Terms.{term_of};
-ghost use Rattle.record_dim.specs.Prelude.{schema_fields};
-ghost use Rattle.views.specs.Prelude.{Table};
-ghost use Rattle.worlds.specs.Prelude.{Entry, room, shaped, resolved, made, zeros_of, live_bits};
+ghost use Rattle.command_checks.specs.Words.{indices, is_rows, IsShape, term_of, schema_fields, Table, Entry, room, shaped, resolved, made, zeros_of, live_bits};
 ghost use Rattle.command_checks.specs.Inner.Bases.{is_nameless, rows_for};
 ghost use Rattle.command_checks.specs.SessionEntries.{view_of};
 ghost use Rattle.command_checks.specs.Inner.Gives.{Gives};

@@ -1,11 +1,6 @@
 -- The runs that end with a fault of how their tables lie.
-use Rattle.std.specs.Prelude.{ℕ, ◌+◌, ◌&&◌, Bool, true, false, is_some, List, [], ◌∷◌, Option, Ok, Err}
-use Rattle.layout_io.specs.Prelude.{File}
-use Rattle.line_grammar.specs.Prelude.{Sentence, Mapping, View, Load, Relayout, Advise}
-use Rattle.worlds.specs.Prelude.{World, found, Tested, Outcome, Fault, Unread, each, Left, nameless, step, fails_at}
-use Rattle.worlds.specs.declared.fault.CommandFault.{CommandFault}
-use Rattle.worlds.specs.declared.fault.CommandFault.TheVariants.{BadMapping, TooBig, Narrow, NotCounted, Unknown}
-use Rattle.worlds.specs.declared.fault.UnknownName.TheVariants.{Name}
+use Rattle.std.specs.Prelude.{◌+◌, ◌&&◌, ◌∷◌}
+use Rattle.equal_runs.specs.Words.{ℕ, Bool, true, false, is_some, List, [], Option, Ok, Err, File, Sentence, Mapping, View, Load, Relayout, Advise, World, found, Tested, Outcome, Fault, Unread, each, Left, nameless, step, fails_at, CommandFault, BadMapping, TooBig, Narrow, NotCounted, Unknown, Name}
 
 -- it does not go
 abbrev pub is_refused : {A : Type 0} → Tested A → Bool

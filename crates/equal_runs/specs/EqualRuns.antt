@@ -1,10 +1,6 @@
 -- A change of how tables lie changes no result.
-use Rattle.std.specs.Prelude.{ℕ, ◌≡◌, Bool, false, List, Option}
-use Rattle.record_dim.specs.Std.{list_any}
-use Rattle.layout_io.specs.Prelude.{File}
-use Rattle.line_grammar.specs.Prelude.{Sentence}
-use Rattle.line_grammar.specs.declared.version.Version.{Version}
-use Rattle.worlds.specs.Prelude.{World, empty, Outcome, Left, step, run_from}
+use Rattle.std.specs.Prelude.{◌≡◌}
+use Rattle.equal_runs.specs.Words.{ℕ, Bool, false, List, Option, list_any, File, Sentence, Version, World, empty, Outcome, Left, step, run_from}
 use Rattle.equal_runs.specs.Lines.{AgreeButTerms, shows_layout, IsLine, AreLines}
 use Rattle.equal_runs.specs.Endings.{ends_by_layout}
 use Rattle.equal_runs.specs.Widths.{StaysWide}

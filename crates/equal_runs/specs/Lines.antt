@@ -1,10 +1,7 @@
 -- Lines that differ in their mapping expressions alone, and the texts that are lines.
-use Rattle.std.specs.Prelude.{ℕ, ◌≡◌, ◌≤◌, ⊤, Bool, true, false, List, [], ◌∷◌, length, Ok}
-use Rattle.map_expr.specs.Terms.{Term as MapTerm}
-use Rattle.line_grammar.specs.Prelude.{Sentence, Mapping, View, Load, Relayout, Show, Bytes, Save, Actors, Advise, deepest}
+use Rattle.std.specs.Prelude.{◌≡◌, ◌≤◌, ◌∷◌}
+use Rattle.equal_runs.specs.Words.{ℕ, ⊤, Bool, true, false, List, [], length, Ok, MapTerm, Sentence, Mapping, View, Load, Relayout, Show, Bytes, Save, Actors, Advise, deepest, Version, line_of}
 use Rattle.line_grammar.specs.declared.line.ShowKind.TheVariants as show
-use Rattle.line_grammar.specs.declared.version.Version.{Version}
-use Rattle.schema_lang.specs.LineOf.{line_of}
 
 -- the line with this mapping expression in place of its own, where it has one; the candidates of an advice stay
 abbrev pub with_term : MapTerm → Sentence → Sentence

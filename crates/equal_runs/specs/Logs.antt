@@ -1,10 +1,6 @@
 -- The accesses to each view of a run since it was made.
-use Rattle.std.specs.Prelude.{ℕ, ◌+◌, ◌≡◌, List, [], ◌∷◌, ◌++◌, length, Option, Some, None, Ok}
-use Rattle.layout_io.specs.Prelude.{File}
-use Rattle.extents.specs.Indices.{indices}
-use Rattle.line_grammar.specs.Prelude.{Sentence, View, Load, Copy, Relayout, Drop, Open}
-use Rattle.views.specs.Prelude.{Access, all_accesses, Read, Write, Table, leaf_count_of}
-use Rattle.worlds.specs.Prelude.{World, Entry, empty, found, added, replaced, removed, Done, OnView, does, Tested, Goes, ◌>>=◌, Left, known, step, work_of, fails_at}
+use Rattle.std.specs.Prelude.{◌+◌, ◌≡◌, ◌∷◌, ◌++◌}
+use Rattle.equal_runs.specs.Words.{ℕ, List, [], length, Option, Some, None, Ok, File, indices, Sentence, View, Load, Copy, Relayout, Drop, Open, Access, all_accesses, Read, Write, Table, leaf_count_of, World, Entry, empty, found, added, replaced, removed, Done, OnView, does, Tested, Goes, ◌>>=◌, Left, known, step, work_of, fails_at}
 
 -- the accesses that are listed, and none where there is no list
 abbrev pub log_in : Option (List Access) → List Access

@@ -1,14 +1,6 @@
 -- What a run shows of its accesses is what it made of them.
-use Rattle.std.specs.Prelude.{ℕ, ◌+◌, ◌≡◌, Bool, List, ◌++◌, length, Option, Some}
-use Rattle.layout_io.specs.Prelude.{File}
-use Rattle.record_dim.specs.Prelude.{texts_of}
-use Rattle.line_grammar.specs.Prelude.{Sentence, Show}
-use Rattle.line_grammar.specs.declared.line.ShowKind.TheVariants.{Counts, Heat}
-use Rattle.line_grammar.specs.declared.version.Version.{Version}
-use Rattle.instrument.specs.Counters.{LeafCounts, HeatCounts}
-use Rattle.instrument.specs.CounterTexts.{counts_text, heat_text}
-use Rattle.views.specs.Prelude.{AreCounts, AreHeat, Table, owners_of, leaf_count_of, Access, Tally, tallied, no_tally}
-use Rattle.worlds.specs.Prelude.{World, empty, found, Outcome, Goes, Left, step, run_from, prepend}
+use Rattle.std.specs.Prelude.{◌+◌, ◌≡◌, ◌++◌}
+use Rattle.equal_runs.specs.Words.{ℕ, Bool, List, length, Option, Some, File, texts_of, Sentence, Show, Counts, Heat, Version, LeafCounts, HeatCounts, counts_text, heat_text, AreCounts, AreHeat, Table, owners_of, leaf_count_of, Access, Tally, tallied, no_tally, World, empty, found, Outcome, Goes, Left, step, run_from, prepend}
 use Rattle.equal_runs.specs.Lines.{AreLines}
 use Rattle.equal_runs.specs.Logs.{SoFar, at_first, Comes, log_of}
 

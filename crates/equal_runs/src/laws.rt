@@ -1,8 +1,5 @@
 // Laws of runs: of scripts that differ in their mapping expressions alone, and of what a run shows of its accesses.
-ghost use Rattle.std.specs.Prelude.{Bool, List, ℕ};
-ghost use Rattle.layout_io.specs.Prelude.{File};
-ghost use Rattle.line_grammar.specs.declared.version.Version.{Version};
-ghost use Rattle.worlds.specs.Prelude.{Outcome, Left, World};
+ghost use Rattle.equal_runs.specs.Words.{Bool, List, ℕ, File, Version, Outcome, Left, World};
 ghost use Rattle.equal_runs.specs.RunEntries.{ShowsEntries};
 ghost use Rattle.equal_runs.specs.EqualRuns.{DoesLines, EqualRuns};
 

@@ -25,3 +25,4 @@ pub use Rattle.layout_copy.specs.Copies.{AreAlike, refusing, refused_at, spot_or
 pub use Rattle.layout_copy.specs.Inner.CopiedRuns.{order_in, order_by, IsPieceMoved}
 pub use Rattle.layout_copy.specs.OwnLaws.{staying_held, staying_kept}
 pub use Rattle.layout_copy.specs.Inner.RowRuns.{AllTake}
+pub use Rattle.std.proofs.lemmas.Grind.{common_steps}

@@ -1,12 +1,6 @@
 -- The tokens of phrases: which one passes a test, an item of each kind, and how tightly a token binds.
-use Rattle.record_dim.specs.Std.{cases_Bool}
-use Rattle.std.specs.Prelude.{◌≡◌, ℕ, Bool, false, if◌then◌else◌, List, Option, Some, None, codes, bytes_eq, pos, refl}
-use Rattle.line_grammar.specs.Prelude.{Fine, Exact, is_same, is_sign, is_word, name, number, count, sign_self, sign_only, word_self, word_only}
-use Rattle.line_tokens.specs.declared.sign.Sign.{Sign}
-use Rattle.line_tokens.specs.declared.sign.Sign.TheVariants.{OpenBracket, Dot, EqualEqual, NotEqual, LessThan, LessEqual, GreaterThan, GreaterEqual, Plus, Minus, Star, Slash, Percent}
-use Rattle.line_grammar.specs.declared.token.Token.{Token}
-use Rattle.line_grammar.specs.declared.token.Token.TheVariants.{Word, Number, Sign as Signed}
-use Rattle.record_dim.specs.Std.{arith}
+use Rattle.line_phrases.specs.Words.{cases_Bool, ℕ, Bool, false, List, Option, Some, None, codes, bytes_eq, pos, refl, Fine, Exact, is_same, is_sign, is_word, name, number, count, sign_self, sign_only, word_self, word_only, Sign, OpenBracket, Dot, EqualEqual, NotEqual, LessThan, LessEqual, GreaterThan, GreaterEqual, Plus, Minus, Star, Slash, Percent, Token, Word, Number, Signed, arith}
+use Rattle.std.specs.Prelude.{◌≡◌, if◌then◌else◌}
 
 pub exact_sign : (sign : Sign) → Exact (is_sign sign) (Signed sign)
 exact_sign sign = record { passes = sign_self sign; only = sign_only sign }

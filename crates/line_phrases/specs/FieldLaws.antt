@@ -1,12 +1,6 @@
 -- The fields of a record are read by first tokens, and how their reading goes on.
-use Rattle.record_dim.specs.Std.{Global, inl, ap, arith}
-use Rattle.std.specs.Prelude.{Box, ◌≡◌, ℕ, zero, suc, ◌≤◌, true, false, List, [], ◌∷◌, ◌++◌, map, Ok, Err, refl}
-use Rattle.line_grammar.specs.Prelude.{Grammar, starts, Fine, Quiet, anyway, firsts_any, list_end, list_stepped, list_stop, Under, equal, empty, behind, either, repeats, fewer, alike, wider, joined_wider, is_same, is_sign, arrays, fields_of_list, read, later, listed, braced, dim, dims, field_within, fields, nested, typed}
-use Rattle.line_grammar.specs.UnderLaws.{joined}
-use Rattle.line_tokens.specs.declared.sign.Sign.TheVariants.{OpenBracket}
-use Rattle.record_dim.specs.declared.dim.Field.{Field as FieldValue}
-use Rattle.record_dim.specs.Prelude.{Tree, Fields, Array, End, Field}
-use Rattle.line_grammar.specs.declared.token.Token.{Token}
+use Rattle.line_phrases.specs.Words.{Global, inl, ap, arith, Box, ℕ, zero, suc, true, false, List, [], map, Ok, Err, refl, Grammar, starts, Fine, Quiet, anyway, firsts_any, list_end, list_stepped, list_stop, Under, equal, empty, behind, either, repeats, fewer, alike, wider, joined_wider, is_same, is_sign, arrays, fields_of_list, read, later, listed, braced, dim, dims, field_within, fields, nested, typed, joined, OpenBracket, FieldValue, Tree, Fields, Array, End, Field, Token}
+use Rattle.std.specs.Prelude.{◌≡◌, ◌≤◌, ◌∷◌, ◌++◌}
 use Rattle.line_phrases.specs.Inner.Fields.{boxed_field}
 use Rattle.line_phrases.specs.BasicsLaws.{count_fine, exact_sign, name_fine}
 use Rattle.line_phrases.specs.ListLaws.{listed_fine, listed_quiet}

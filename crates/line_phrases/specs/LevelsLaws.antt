@@ -1,13 +1,7 @@
 -- Expressions are read by first tokens, level by level, to any depth of brackets.
-use Rattle.record_dim.specs.Std.{cases_Bool, sym, ap, arith, list_any, bytes_eq-Decides}
-use Rattle.std.specs.Prelude.{◌≡◌, ℕ, zero, suc, ◌<◌, Bool, true, false, if◌then◌else◌, List, [], ◌∷◌, Option, Some, None, is_some, bytes_eq, codes, ℤ, refl}
-use Rattle.line_grammar.specs.Prelude.{Grammar, item, nothing, first, Fine, Firsts, Quiet, Skips, anyway, firsts_any, firsts_more, skips_more, Exact, alike, wider, is_same, is_sign, is_word, reserved, dimensions, name_of, token_number, index_of, choice_of, or_of, and_of, comparison_of, sum_of, product_of, index_word, Value, atom_within, bracketed, chain, choice, comparison, conjunction, expr, expr_over, leaf, link, links, negation, part, path, prefixed, product, signs, sum, unary}
+use Rattle.line_phrases.specs.Words.{cases_Bool, sym, ap, arith, list_any, bytes_eq-Decides, ℕ, zero, suc, Bool, true, false, List, [], Option, Some, None, is_some, bytes_eq, codes, ℤ, refl, Grammar, item, nothing, first, Fine, Firsts, Quiet, Skips, anyway, firsts_any, firsts_more, skips_more, Exact, alike, wider, is_same, is_sign, is_word, reserved, dimensions, name_of, token_number, index_of, choice_of, or_of, and_of, comparison_of, sum_of, product_of, index_word, Value, atom_within, bracketed, chain, choice, comparison, conjunction, expr, expr_over, leaf, link, links, negation, part, path, prefixed, product, signs, sum, unary, OpenParen, EqualEqual, Plus, Minus, Star, BinOp, Add, Mul, Min, Max, Eq, And, Or, Token, Word, Signed}
+use Rattle.std.specs.Prelude.{◌≡◌, ◌<◌, if◌then◌else◌, ◌∷◌}
 use Rattle.line_grammar.specs.Grammar.{either}
-use Rattle.line_tokens.specs.declared.sign.Sign.TheVariants.{OpenParen, EqualEqual, Plus, Minus, Star}
-use Rattle.expr_lang.specs.declared.expr.BinOp.{BinOp}
-use Rattle.expr_lang.specs.declared.expr.BinOp.TheVariants.{Add, Mul, Min, Max, Eq, And, Or}
-use Rattle.line_grammar.specs.declared.token.Token.{Token}
-use Rattle.line_grammar.specs.declared.token.Token.TheVariants.{Word, Sign as Signed}
 use Rattle.line_grammar.specs.Tokens.{listed}
 use Rattle.line_phrases.specs.Inner.Exprs.{means}
 use Rattle.line_phrases.specs.BasicsLaws.{apart, exact_sign, exact_word, level_of, number_fine}

@@ -1,12 +1,7 @@
 -- Lists behind commas and in brackets are read by first tokens, and how their reading goes on.
-use Rattle.std.specs.Prelude.{◌≡◌, ℕ, true, false, List, [], ◌∷◌, ◌++◌, map, Ok, Err, refl}
-use Rattle.record_dim.specs.Std.{map-append}
-use Rattle.line_grammar.specs.Prelude.{Grammar, starts, past, item_at, Fine, Quiet, behind_list_bare, behind_list_end, behind_list_stepped, behind_list_stop, is_same, is_sign, count_of, read, count, later, listed, bracket_list, cuts, fixed, extent_word}
-use Rattle.line_tokens.specs.declared.sign.Sign.TheVariants.{CloseBracket, Comma, Question}
-use Rattle.line_grammar.specs.declared.token.Token.{Token}
-use Rattle.line_grammar.specs.declared.token.Token.TheVariants.{Sign as Signed}
+use Rattle.std.specs.Prelude.{◌≡◌, ◌∷◌, ◌++◌}
+use Rattle.line_phrases.specs.Words.{ℕ, true, false, List, [], map, Ok, Err, refl, map-append, Grammar, starts, past, item_at, Fine, Quiet, behind_list_bare, behind_list_end, behind_list_stepped, behind_list_stop, is_same, is_sign, count_of, read, count, later, listed, bracket_list, cuts, fixed, extent_word, CloseBracket, Comma, Question, Token, Signed, arith}
 use Rattle.line_phrases.specs.BasicsLaws.{apart, count_fine, exact_sign}
-use Rattle.record_dim.specs.Std.{arith}
 
 -- a list of phrases that do not go on with a comma
 pub listed_fine : {A : Type 0} (one : Grammar Token A) → Fine is_same one → Quiet is_same one (Signed Comma) → Fine is_same (listed one)

@@ -1,22 +1,9 @@
 -- Mappings, and the widths of chosen leaves in them, are read by first tokens.
-use Rattle.std.specs.Prelude.{◌≡◌, ℕ, zero, suc, ◌≤◌, false, List, Option, Some, None, codes, refl}
-use Rattle.record_dim.specs.Std.{inr, arith}
-use Rattle.line_grammar.specs.Prelude.{Grammar, Is, item, nothing, Fine, Quiet, anyway, firsts_any, Under, equal, empty, behind, either, fewer, alike, wider, Wider, joined_wider, is_same, is_sign, map_word, type_of, integer_type_of, token_order, part, braced_widths, field_width, field_widths, inside_aos, inside_aosoa, inside_bits, inside_form, inside_soa, form_or_name, mapping, mapping_within}
-use Rattle.line_grammar.specs.UnderLaws.{joined}
-use Rattle.extents.specs.declared.order.Order.{Order}
-use Rattle.extents.specs.declared.order.Order.TheVariants.{Row}
-use Rattle.line_tokens.specs.declared.sign.Sign.{Sign}
-use Rattle.line_tokens.specs.declared.sign.Sign.TheVariants.{OpenBrace, OpenParen}
-use Rattle.record_dim.specs.declared.leaf_type.LeafType.TheVariants.{Bool as Truth, U8}
+use Rattle.std.specs.Prelude.{◌≡◌, ◌≤◌}
+use Rattle.line_phrases.specs.Words.{ℕ, zero, suc, false, List, Option, Some, None, codes, refl, inr, arith, Grammar, Is, item, nothing, Fine, Quiet, anyway, firsts_any, Under, equal, empty, behind, either, fewer, alike, wider, Wider, joined_wider, is_same, is_sign, map_word, type_of, integer_type_of, token_order, part, braced_widths, field_width, field_widths, inside_aos, inside_aosoa, inside_bits, inside_form, inside_soa, form_or_name, mapping, mapping_within, joined, Order, Row, Sign, OpenBrace, OpenParen, Truth, U8, FieldWidth, MapTerm, Named, MapWord, Token, Word, Version}
 use Rattle.places.specs.declared.forms.AosForm.TheVariants as aos
 use Rattle.places.specs.declared.forms.SoaForm.TheVariants as soa
-use Rattle.map_expr.specs.declared.widths.FieldWidth.{FieldWidth}
-use Rattle.map_expr.specs.Terms.{Term as MapTerm, Named}
-use Rattle.line_grammar.specs.declared.line.MapWord.{MapWord}
 use Rattle.line_grammar.specs.declared.line.MapWord.TheVariants as form
-use Rattle.line_grammar.specs.declared.token.Token.{Token}
-use Rattle.line_grammar.specs.declared.token.Token.TheVariants.{Word}
-use Rattle.line_grammar.specs.declared.version.Version.{Version}
 use Rattle.line_phrases.specs.BasicsLaws.{count_fine, exact_sign, name_fine}
 use Rattle.line_phrases.specs.ListLaws.{listed_fine, listed_quiet}
 use Rattle.line_phrases.specs.PathsLaws.{path_fine, path_quiet}

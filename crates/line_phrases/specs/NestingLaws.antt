@@ -1,10 +1,6 @@
 -- Expressions with deeper brackets.
-use Rattle.std.specs.Prelude.{ℕ, zero, suc, ◌≤◌, Option, refl}
-use Rattle.record_dim.specs.Std.{inr, arith}
-use Rattle.line_grammar.specs.Prelude.{Grammar, Under, equal, empty, behind, either, repeats, fewer, is_same, Value, atom_within, bracketed, chain, choice, comparison, conjunction, expr_over, leaf, links, negation, prefixed, product, sum, unary}
-use Rattle.line_grammar.specs.UnderLaws.{joined}
-use Rattle.expr_lang.specs.declared.expr.BinOp.{BinOp}
-use Rattle.line_grammar.specs.declared.token.Token.{Token}
+use Rattle.std.specs.Prelude.{◌≤◌}
+use Rattle.line_phrases.specs.Words.{ℕ, zero, suc, Option, refl, inr, arith, Grammar, Under, equal, empty, behind, either, repeats, fewer, is_same, Value, atom_within, bracketed, chain, choice, comparison, conjunction, expr_over, leaf, links, negation, prefixed, product, sum, unary, joined, BinOp, Token}
 
 abbrev Deeper : ℕ → Grammar Token Value → Grammar Token Value → Type 1
 Deeper n one more = Under is_same Value n one more

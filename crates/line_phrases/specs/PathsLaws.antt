@@ -1,11 +1,7 @@
 -- A path is read by first tokens, and how its reading goes on.
-use Rattle.record_dim.specs.Std.{or_cases}
-use Rattle.std.specs.Prelude.{◌≡◌, ℕ, true, false, List, [], ◌∷◌, ◌++◌, Ok, Err, refl}
-use Rattle.line_grammar.specs.Prelude.{first, starts, Fine, Quiet, may_be_empty, list_end, list_stepped, list_stop, is_same, read, part, parts, path, sign_only}
-use Rattle.record_dim.specs.declared.path.PathStep.{PathStep}
-use Rattle.line_grammar.specs.declared.token.Token.{Token}
+use Rattle.line_phrases.specs.Words.{or_cases, ℕ, true, false, List, [], Ok, Err, refl, first, starts, Fine, Quiet, may_be_empty, list_end, list_stepped, list_stop, is_same, read, part, parts, path, sign_only, PathStep, Token, arith}
+use Rattle.std.specs.Prelude.{◌≡◌, ◌∷◌, ◌++◌}
 use Rattle.line_phrases.specs.BasicsLaws.{count_fine, exact_sign, level_of, name_fine}
-use Rattle.record_dim.specs.Std.{arith}
 
 part_fine : Fine is_same part
 unfolding part

@@ -1,11 +1,7 @@
-ghost use Rattle.std.specs.Prelude.{◌≡◌, ◌<◌, ◌≤◌, length, OnOk, IfOk, IfErr};
-ghost use Rattle.expr_lang.specs.Prelude.{term_of, Binary, Neg, Not};
-ghost use Rattle.line_tokens.specs.declared.sign.Sign.TheVariants.{Minus};
-ghost use Rattle.line_grammar.specs.declared.token.Token.TheVariants.{Word, Sign as Signed};
-ghost use Rattle.line_grammar.specs.Prelude.{wrapped, read, atom_within, bracketed, choice, comparison, conjunction, expr, expr_over, leaf, negation, product, signs, sum, unary};
+ghost use Rattle.std.specs.Prelude.{◌≡◌, ◌<◌, ◌≤◌};
+ghost use Rattle.line_phrases.specs.Words.{length, OnOk, IfOk, IfErr, term_of, Binary, Neg, Not, Minus, Word, Signed, wrapped, read, atom_within, bracketed, choice, comparison, conjunction, expr, expr_over, leaf, negation, product, signs, sum, unary, codes, zero};
 ghost use Rattle.line_phrases.specs.Inner.Gives.{Gives, IsSyntax};
 ghost use Rattle.line_phrases.specs.Inner.Exprs.{behind_left, boxed_term, left_term};
-ghost use Rattle.std.specs.Prelude.{codes, zero};
 
 use crate::{ReadError, Tokens, read_path};
 use expr_lang::{BinOp, Expr};

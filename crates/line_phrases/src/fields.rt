@@ -1,6 +1,6 @@
-ghost use Rattle.std.specs.Prelude.{◌≡◌, ◌<◌, ◌≤◌, [], length, map, OnOk, IfOk, IfErr};
-ghost use Rattle.line_grammar.specs.Prelude.{joined, nothing, arrays, fields_of_list, read, braced, dim, dims, field_within, fields, listed, typed};
-ghost use Rattle.record_dim.specs.Prelude.{fields_of, tree_of};
+ghost use Rattle.std.specs.Prelude.{◌≡◌, ◌<◌, ◌≤◌};
+ghost use Rattle.line_phrases.specs.Words.{[], length, map, OnOk, IfOk, IfErr, nothing, arrays, fields_of_list, read, braced, dim, dims, field_within, fields, listed, typed, fields_of, tree_of};
+ghost use Rattle.line_grammar.specs.Prelude.{joined};
 ghost use Rattle.line_phrases.specs.Inner.Gives.{Gives, IsSyntax};
 ghost use Rattle.line_phrases.specs.Inner.Fields.{boxed_field};
 

@@ -1,7 +1,7 @@
-ghost use Rattle.std.specs.Prelude.{◌≡◌, ◌<◌, length, map, OnOk, IfOk};
-ghost use Rattle.map_expr.specs.Terms.{Named, term_of};
+ghost use Rattle.std.specs.Prelude.{◌≡◌, ◌<◌};
+ghost use Rattle.line_phrases.specs.Words.{length, map, OnOk, IfOk, Named, read, listed, inside_aos, inside_aosoa, inside_bits, inside_form, inside_soa, mapping, mapping_within};
+ghost use Rattle.map_expr.specs.Terms.{term_of};
 ghost use Rattle.line_grammar.specs.declared.line.MapWord.TheVariants as form;
-ghost use Rattle.line_grammar.specs.Prelude.{read, listed, inside_aos, inside_aosoa, inside_bits, inside_form, inside_soa, mapping, mapping_within};
 ghost use Rattle.line_phrases.specs.Inner.Gives.{Gives};
 ghost use Rattle.line_phrases.specs.Inner.Maps.{bits_of, boxed_map, over};
 

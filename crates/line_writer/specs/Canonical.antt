@@ -1,31 +1,14 @@
 -- The canonical tokens of a line: those of its grammar with no bracket that is not needed, and with no sign before a zero.
 use Rattle.std.specs.Prelude.{ℕ, ◌+◌, Bool, true, false, not, if◌then◌else◌, List, [], ◌∷◌, ◌++◌, map, Option, Some, None, codes, ℤ, pos, negsuc}
 use Rattle.record_dim.specs.Std.{decimal, flat_map}
-use Rattle.line_tokens.specs.declared.sign.Sign.TheVariants.{OpenBrace, CloseBrace, OpenBracket, CloseBracket, OpenParen, CloseParen, Colon, Comma, Dot, Equals, Minus, Star, Slash, Arrow, Question}
-use Rattle.record_dim.specs.declared.path.PathStep.{PathStep}
+use Rattle.line_writer.specs.Words.{OpenBrace, CloseBrace, OpenBracket, CloseBracket, OpenParen, CloseParen, Colon, Comma, Dot, Equals, Minus, Star, Slash, Arrow, Question, PathStep, Tree, Single, Record, Array, Fields, End, Field, Span, ExtentWord, Order, BinOp, Min, Max, Entry, Index, Neg, Not, Binary, Constant, FieldWidth, MapTerm, Aos, Soa, Aosoa, BitAos, BitSoa, Split, Byteswap, Bytesplit, Change, Counted, Heated, Named, Token, Word, Number, Text, Sign, KernelText, PassText, TermText, type_word, order_word, aos_word, soa_word, form_word, kernel_word, reduction_word, command_word, operator, Assignment, New, Sentence, Value, Blank, Define, Mapping, View, Load, Assign, Update, Actors, Kernel, Reduce, Count, Copy, Relayout, Show, Drop, Bytes, Save, Open, Advise, PrintWindow, Stencil}
 use Rattle.record_dim.specs.declared.path.PathStep.TheVariants as step
-use Rattle.record_dim.specs.Prelude.{Tree, Single, Record, Array, Fields, End, Field}
-use Rattle.extents.specs.declared.window.Span.{Span}
-use Rattle.extents.specs.declared.words.ExtentWord.{ExtentWord}
 use Rattle.extents.specs.declared.words.ExtentWord.TheVariants as extent
-use Rattle.extents.specs.declared.order.Order.{Order}
-use Rattle.expr_lang.specs.declared.expr.BinOp.{BinOp}
-use Rattle.expr_lang.specs.declared.expr.BinOp.TheVariants.{Min, Max}
-use Rattle.expr_lang.specs.Prelude.{Entry, Index, Neg, Not, Binary}
-use Rattle.expr_lang.specs.Terms.{Number as Constant}
-use Rattle.map_expr.specs.declared.widths.FieldWidth.{FieldWidth}
-use Rattle.map_expr.specs.Terms.{Term as MapTerm, Aos, Soa, Aosoa, BitAos, BitSoa, Split, Byteswap, Bytesplit, Change, Count as Counted, Heat as Heated, Named}
-use Rattle.line_grammar.specs.declared.token.Token.{Token}
-use Rattle.line_grammar.specs.declared.token.Token.TheVariants.{Word, Number, Text, Sign}
 use Rattle.line_grammar.specs.declared.line.Command.TheVariants as command
-use Rattle.line_grammar.specs.declared.line.KernelText.{KernelText}
 use Rattle.line_grammar.specs.declared.line.KernelText.TheVariants as kernel
 use Rattle.line_grammar.specs.declared.line.KernelWord.TheVariants as worded
 use Rattle.line_grammar.specs.declared.line.MapWord.TheVariants as map_form
-use Rattle.line_grammar.specs.declared.line.PassText.{PassText}
 use Rattle.line_grammar.specs.declared.line.ShowKind.TheVariants as show
-use Rattle.line_grammar.specs.declared.line.TermText.{TermText}
-use Rattle.line_grammar.specs.Prelude.{type_word, order_word, aos_word, soa_word, form_word, kernel_word, reduction_word, command_word, operator, Assignment, New, Sentence, Value, Blank, Define, Mapping, View, Load, Assign, Update, Actors, Kernel, Reduce, Count, Copy, Relayout, Show, Drop, Bytes, Save, Open, Advise, PrintWindow, Stencil}
 
 -- a number; the minus of a negative one is a token of its own
 abbrev pub number_tokens : ℤ → List Token

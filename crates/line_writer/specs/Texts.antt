@@ -1,12 +1,8 @@
 -- The canonical text of a line: its canonical tokens with exactly one space between each two.
 use Rattle.std.specs.Prelude.{ℕ, Bool, true, false, List, [], ◌∷◌, ◌++◌, map}
 use Rattle.record_dim.specs.Std.{signed_decimal, byte}
-use Rattle.line_tokens.specs.Signs.{spelling}
-use Rattle.line_tokens.specs.Spelled.{Written, spaced_tokens}
+use Rattle.line_writer.specs.Words.{spelling, Written, spaced_tokens, Token, Word, Number, Text, Sign, Bad, Sentence, Assign, Update, Actors, Kernel, Reduce, Count, Save, Open, Advise, PrintWindow, Stencil}
 use Rattle.line_tokens.specs.declared.token.TokenKind.TheVariants as kind
-use Rattle.line_grammar.specs.declared.token.Token.{Token}
-use Rattle.line_grammar.specs.declared.token.Token.TheVariants.{Word, Number, Text, Sign, Bad}
-use Rattle.line_grammar.specs.Prelude.{Sentence, Assign, Update, Actors, Kernel, Reduce, Count, Save, Open, Advise, PrintWindow, Stencil}
 use Rattle.line_writer.specs.Canonical.{line_tokens}
 
 -- a token with its bytes: a number has no leading zeros; no line has a bad token

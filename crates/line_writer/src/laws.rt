@@ -1,8 +1,5 @@
 ghost use Rattle.std.specs.Prelude.{ℕ, List, ◌≤◌, map};
-ghost use Rattle.line_tokens.specs.Inner.Ends.{NoEnd};
-ghost use Rattle.line_tokens.specs.Spelled.{AreSpelled};
-ghost use Rattle.line_grammar.specs.declared.version.Version.{Version};
-ghost use Rattle.line_grammar.specs.Prelude.{Sentence, deepest, Reads};
+ghost use Rattle.line_writer.specs.Words.{NoEnd, AreSpelled, Version, Sentence, deepest, Reads};
 ghost use Rattle.line_writer.specs.Canonical.{line_tokens};
 ghost use Rattle.line_writer.specs.Texts.{canonical, written};
 

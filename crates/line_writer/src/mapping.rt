@@ -1,8 +1,7 @@
 // A mapping.
 ghost use Rattle.std.specs.Prelude.{◌≡◌, ◌∷◌, [], OnOk};
-ghost use Rattle.line_tokens.specs.declared.sign.Sign.TheVariants.{OpenParen};
+ghost use Rattle.line_writer.specs.Words.{OpenParen, Word, Sign};
 ghost use Rattle.map_expr.specs.Terms.{term_of};
-ghost use Rattle.line_grammar.specs.declared.token.Token.TheVariants.{Word, Sign};
 ghost use Rattle.line_writer.specs.Canonical.{count_token, form_tokens, ordered_tokens, map_tokens};
 ghost use Rattle.line_writer.specs.Texts.{with_tokens_behind};
 

@@ -1,8 +1,6 @@
 // The fields of a record.
 ghost use Rattle.std.specs.Prelude.{◌≡◌, ◌++◌, ◌∷◌, [], OnOk};
-ghost use Rattle.record_dim.specs.Prelude.{tree_of, fields_of};
-ghost use Rattle.line_tokens.specs.declared.sign.Sign.TheVariants.{OpenBrace, CloseBrace};
-ghost use Rattle.line_grammar.specs.declared.token.Token.TheVariants.{Word, Sign};
+ghost use Rattle.line_writer.specs.Words.{tree_of, fields_of, OpenBrace, CloseBrace, Word, Sign};
 ghost use Rattle.line_writer.specs.Canonical.{dims_tokens, core_tokens, fields_tokens, held_tokens};
 ghost use Rattle.line_writer.specs.Texts.{with_tokens_behind};
 

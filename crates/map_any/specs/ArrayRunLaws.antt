@@ -1,19 +1,7 @@
 -- The slots of an array's block are a run; what runs say of the bits of rows.
-use Rattle.std.specs.Prelude.{◌≡◌, ℕ, ◌+◌, ◌-◌, ◌*◌, ◌/◌, ◌%◌, ◌<◌, ◌≤◌, List, [], ◌∷◌, map, length, get_or, refl, Option, Some, IfSome}
-use Rattle.record_dim.specs.Std.{⊎_elim, sym, ap, ◌∙◌, subst, arith, flat_map, range_with_len, append-nil, flat_map-cons, row_fits, div-add-mod', mul-le, cases_lt}
-use Rattle.extents.specs.Indices.{indices}
-use Rattle.extents.specs.declared.order.Order.{Order}
-use Rattle.linearize.specs.Slots.{slot_at, row_at}
-use Rattle.linearize.specs.SlotsLaws.{row_at-slot_at, slot_at-row_at}
-use Rattle.places.specs.Prelude.{Owner, Pad, Bit, owner_at, renamed, in_rows, bit_in_row, IsLocated, IsPiece, owners_in, owner_relabel, ranges_at, begin_in, piece_in, pieces_in, full_holds}
-use Rattle.places.specs.declared.piece.Piece.{Piece}
-use Rattle.places.specs.declared.rule.PieceRule.{PieceRule}
-use Rattle.record_dim.specs.Prelude.{Fields}
-use Rattle.places.specs.declared.piece.Cell.{Cell}
-use Rattle.map_expr.specs.Terms.{Term, Soa, Aosoa, Count, Heat}
-use Rattle.map_checks.specs.Prelude.{holds_of, array_of, IsArray, length-in_rows, length-blob}
+use Rattle.std.specs.Prelude.{◌≡◌, ◌+◌, ◌-◌, ◌*◌, ◌/◌, ◌%◌, ◌<◌, ◌≤◌, ◌∷◌}
+use Rattle.map_any.specs.Words.{ℕ, List, [], map, length, get_or, refl, Option, Some, IfSome, ⊎_elim, sym, ap, ◌∙◌, subst, arith, flat_map, range_with_len, append-nil, flat_map-cons, row_fits, div-add-mod', mul-le, cases_lt, indices, Order, slot_at, row_at, row_at-slot_at, slot_at-row_at, Owner, Pad, Bit, owner_at, renamed, in_rows, bit_in_row, IsLocated, IsPiece, owners_in, owner_relabel, ranges_at, begin_in, piece_in, pieces_in, full_holds, Piece, PieceRule, Fields, Cell, Term, Soa, Aosoa, Count, Heat, holds_of, array_of, IsArray, length-in_rows, length-blob, Rule}
 use Rattle.map_any.specs.Inner.ArrayRuns.{IsArrayRun}
-use Rattle.map_checks.specs.declared.rule.Rule.{Rule}
 
 -- the owners of the bits of one piece
 pub piece_owner : (layout : List (List Owner)) (slot cell width k : ℕ) (piece : Piece) → IsLocated layout slot cell width (piece ∷ []) → piece.bits ≡ width → k < width

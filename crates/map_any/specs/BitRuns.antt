@@ -1,8 +1,6 @@
 -- The bits of a blob as maximal runs of one owner.
-use Rattle.std.specs.Prelude.{ℕ, ◌+◌, ◌==◌, ◌&&◌, Bool, true, false, List, [], ◌∷◌, slice_index_or, if◌then◌else◌}
-use Rattle.places.specs.Prelude.{Owner, Pad, Bit}
-use Rattle.places.specs.declared.piece.Run.{Run}
-use Rattle.places.specs.declared.piece.RunOwner.{RunOwner}
+use Rattle.std.specs.Prelude.{◌+◌, ◌==◌, ◌&&◌, ◌∷◌, if◌then◌else◌}
+use Rattle.map_any.specs.Words.{ℕ, Bool, true, false, List, [], slice_index_or, Owner, Pad, Bit, Run, RunOwner}
 use Rattle.places.specs.declared.piece.RunOwner.TheVariants as run
 
 -- whose a run of this bit alone is

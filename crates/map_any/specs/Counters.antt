@@ -1,6 +1,5 @@
 -- The counters that stand at the top of an expression.
-use Rattle.std.specs.Prelude.{ℕ, Bool, true, false, Option, Some, None}
-use Rattle.map_expr.specs.Terms.{Term, Count, Heat}
+use Rattle.map_any.specs.Words.{ℕ, Bool, true, false, Option, Some, None, Term, Count, Heat}
 
 -- it counts accesses by leaf
 abbrev pub has_count : Term → Bool

@@ -1,10 +1,5 @@
 -- What is kept of the leaves of a mapping that lays out arrays.
-use Rattle.std.specs.Prelude.{ℕ, List, map, slice_index, IfSome}
-use Rattle.linearize.specs.Slots.{slot_count}
-use Rattle.places.specs.Prelude.{widths_of, full_holds}
-use Rattle.places.specs.declared.piece.Cell.{Cell}
-use Rattle.map_expr.specs.Terms.{Term}
-use Rattle.map_checks.specs.Prelude.{array_of, array_layout, lanes_in, IsArray, EachWith}
+use Rattle.map_any.specs.Words.{ℕ, List, map, slice_index, IfSome, slot_count, widths_of, full_holds, Cell, Term, array_of, array_layout, lanes_in, IsArray, EachWith}
 use Rattle.map_any.specs.declared.leaf_rule.LeafRule.{LeafRule}
 
 -- each leaf lies in an array; of another mapping nothing is said

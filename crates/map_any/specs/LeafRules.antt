@@ -1,14 +1,7 @@
 -- What accesses to leaves go by.
-use Rattle.std.specs.Prelude.{ℕ, ◌≡◌, ℤ, ◌≤ℤ◌, true, false, List, length, map, slice_index, slice_index_or}
-use Rattle.record_dim.specs.Prelude.{is_signed, IsIn, IsDeclared}
-use Rattle.record_dim.specs.declared.leaf_type.LeafType.{LeafType}
-use Rattle.record_dim.specs.declared.leaf_type.LeafType.TheVariants.{Bool as Truth}
-use Rattle.places.specs.Prelude.{Owner}
-use Rattle.places.specs.declared.piece.Hold.{Hold}
-use Rattle.map_checks.specs.Prelude.{EachWith, IsRuleOf, IsSameRule}
-use Rattle.piece_bits.specs.Prelude.{IsShortOf, leads, AreReadWide}
+use Rattle.std.specs.Prelude.{◌≡◌, ◌≤ℤ◌}
+use Rattle.map_any.specs.Words.{ℕ, ℤ, true, false, List, length, map, slice_index, slice_index_or, is_signed, IsIn, IsDeclared, LeafType, Truth, Owner, Hold, EachWith, IsRuleOf, IsSameRule, IsShortOf, leads, AreReadWide, Rule}
 use Rattle.map_any.specs.declared.leaf_rule.LeafRule.{LeafRule}
-use Rattle.map_checks.specs.declared.rule.Rule.{Rule}
 
 -- the type of a leaf, and how it is stored; outside of the lists any
 abbrev pub kind_in : List LeafType → ℕ → LeafType

@@ -1,7 +1,6 @@
 -- How the table of one mapping is copied into that of another.
-use Rattle.std.specs.Prelude.{◌≡◌, IsSomeAnd}
-use Rattle.map_expr.specs.Terms.{Term, uncounted}
-use Rattle.map_checks.specs.Prelude.{array_of}
+use Rattle.std.specs.Prelude.{◌≡◌}
+use Rattle.map_any.specs.Words.{IsSomeAnd, Term, uncounted, array_of}
 use Rattle.map_any.specs.declared.strategy.Strategy.{Strategy}
 use Rattle.map_any.specs.declared.strategy.Strategy.TheVariants.{Blobs, Runs, Fields}
 

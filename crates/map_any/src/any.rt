@@ -1,13 +1,8 @@
-ghost use Rattle.std.specs.Prelude.{◌≡◌, true, false, None};
-ghost use Rattle.std.proofs.Props.{props};
-ghost use Rattle.record_dim.specs.Prelude.{kinds_of, schema_fields};
-ghost use Rattle.map_expr.specs.Terms.{term_of};
-ghost use Rattle.map_expr.specs.Checks.{bad_number};
+ghost use Rattle.std.specs.Prelude.{◌≡◌};
+ghost use Rattle.map_any.specs.Words.{true, false, None, props, kinds_of, schema_fields, term_of, bad_number, layout_by, holds_by, leaf_cells, not_full, IsBuiltTerm, IsBuiltTerm-prop, EachWith, HasLengths, leads};
 ghost use Rattle.map_any.specs.Counters.{is_counted};
 ghost use Rattle.map_any.specs.LeafArrays.{HaveArrays};
 ghost use Rattle.map_any.specs.LeafRules.{AreRuled, IsWideIn};
-ghost use Rattle.map_checks.specs.Prelude.{layout_by, holds_by, leaf_cells, not_full, IsBuiltTerm, IsBuiltTerm-prop, EachWith, HasLengths};
-ghost use Rattle.piece_bits.specs.Prelude.{leads};
 
 use crate::leaf_rule::RuleList;
 use extents::Extents;

@@ -1,14 +1,9 @@
-ghost use Rattle.std.specs.Prelude.{ℕ, ℤ, ◌≡◌, ◌<◌, ◌≤ℤ◌, ◌*◌, ◌∷◌, List, [], true, false, IfOk, OnOk, IfErr, IfSome, Ok, length, map, slice_index, slice_index_or};
-ghost use Rattle.extents.specs.Indices.{indices};
-ghost use Rattle.record_dim.specs.Prelude.{is_signed, IsIn, IsDeclared, schema_fields, kinds_of};
-ghost use Rattle.places.specs.Prelude.{IsLocated};
-ghost use Rattle.map_expr.specs.Terms.{term_of};
-ghost use Rattle.map_checks.specs.Prelude.{leaf_cells, layout_by, holds_by, accepted, IsBuiltTerm, IsTooBigFor, IsRefusal, IsArrayOf, IsRuleOf};
+ghost use Rattle.std.specs.Prelude.{◌≡◌, ◌<◌, ◌≤ℤ◌, ◌*◌, ◌∷◌};
+ghost use Rattle.map_any.specs.Words.{ℕ, ℤ, List, [], true, false, IfOk, OnOk, IfErr, IfSome, Ok, length, map, slice_index, slice_index_or, indices, is_signed, IsIn, IsDeclared, schema_fields, kinds_of, IsLocated, term_of, leaf_cells, layout_by, holds_by, accepted, IsBuiltTerm, IsTooBigFor, IsRefusal, IsArrayOf, IsRuleOf, IsShortIn, leads, AreReadWide};
 ghost use Rattle.map_any.specs.AnyLaws.{any_laws, holds_cells};
 ghost use Rattle.map_any.specs.Counters.{is_counted};
 ghost use Rattle.map_any.specs.LeafRules.{kind_in, hold_in, IsLeafRule, IsWideIn};
 ghost use Rattle.map_any.specs.Maps.{extents_of, term_of_map};
-ghost use Rattle.piece_bits.specs.Prelude.{IsShortIn, leads, AreReadWide};
 
 use crate::any::AnyMap;
 use crate::leaf_rule::LeafRule;

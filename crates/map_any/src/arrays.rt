@@ -1,8 +1,6 @@
 // Mappings that lay out arrays of leaves: how many slots there are, and where those of a leaf begin.
-ghost use Rattle.std.specs.Prelude.{ℕ, ◌≡◌, ◌+◌, ◌*◌, ◌%◌, ◌<◌, ◌≤◌, IfSome, IsSomeAnd, length, map, option_map, slice_index};
-ghost use Rattle.linearize.specs.Slots.{slot_count};
-ghost use Rattle.map_expr.specs.Terms.{term_of};
-ghost use Rattle.map_checks.specs.Prelude.{array_of, lanes_in};
+ghost use Rattle.std.specs.Prelude.{◌≡◌, ◌+◌, ◌*◌, ◌%◌, ◌<◌, ◌≤◌};
+ghost use Rattle.map_any.specs.Words.{ℕ, IfSome, IsSomeAnd, length, map, option_map, slice_index, slot_count, term_of, array_of, lanes_in};
 ghost use Rattle.map_any.specs.Inner.ArrayRuns.{IsArrayRun};
 ghost use Rattle.map_any.specs.Inner.ArraySlots.{slots_in};
 ghost use Rattle.map_any.specs.Maps.{extents_of, term_of_map};

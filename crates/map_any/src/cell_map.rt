@@ -1,10 +1,6 @@
-ghost use Rattle.std.specs.Prelude.{◌≡◌, ◌<◌, false, None, IfOk, OnOk, IfErr, Ok, length, map, slice_index};
-ghost use Rattle.extents.specs.Indices.{indices};
-ghost use Rattle.record_dim.specs.Prelude.{schema_fields};
-ghost use Rattle.map_expr.specs.Terms.{term_of};
-ghost use Rattle.map_expr.specs.Checks.{bad_number};
+ghost use Rattle.std.specs.Prelude.{◌≡◌, ◌<◌};
+ghost use Rattle.map_any.specs.Words.{false, None, IfOk, OnOk, IfErr, Ok, length, map, slice_index, indices, schema_fields, term_of, bad_number, layout_of, holds_of, accepted, not_full, IsBuiltTerm, IsTooBigFor, IsRefusal, IsBuiltTerm-prop, IsPlanOf, IsRuleOf};
 ghost use Rattle.map_any.specs.AnyLaws.{any_laws, cell_holds};
-ghost use Rattle.map_checks.specs.Prelude.{layout_of, holds_of, accepted, not_full, IsBuiltTerm, IsTooBigFor, IsRefusal, IsBuiltTerm-prop, IsPlanOf, IsRuleOf};
 
 use crate::planned::planned;
 use extents::Extents;

@@ -1,8 +1,6 @@
-ghost use Rattle.std.specs.Prelude.{ℤ, ◌≡◌, ◌≤ℤ◌, true, false, IfOk, length, slice_index_or};
-ghost use Rattle.record_dim.specs.Prelude.{is_signed, IsIn, IsDeclared, schema_fields, kinds_of};
+ghost use Rattle.std.specs.Prelude.{◌≡◌, ◌≤ℤ◌};
+ghost use Rattle.map_any.specs.Words.{ℤ, true, false, IfOk, length, slice_index_or, is_signed, IsIn, IsDeclared, schema_fields, kinds_of, EachWith, IsSameRule, IsShortOf, leads};
 ghost use Rattle.map_any.specs.LeafRules.{IsLeafRule, AreLeafRules, IsWideIn};
-ghost use Rattle.map_checks.specs.Prelude.{EachWith, IsSameRule};
-ghost use Rattle.piece_bits.specs.Prelude.{IsShortOf, leads};
 
 use crate::leaf_rule::{LeafRule, RuleList};
 use extents::Extents;

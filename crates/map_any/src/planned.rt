@@ -1,7 +1,5 @@
-ghost use Rattle.std.specs.Prelude.{◌≡◌, IfOk, OnOk, IfErr, Ok};
-ghost use Rattle.record_dim.specs.Prelude.{schema_fields};
-ghost use Rattle.map_expr.specs.Terms.{term_of};
-ghost use Rattle.map_checks.specs.Prelude.{accepted, IsBuiltTerm, IsRefusal, HasArrays, IsPlanOf};
+ghost use Rattle.std.specs.Prelude.{◌≡◌};
+ghost use Rattle.map_any.specs.Words.{IfOk, OnOk, IfErr, Ok, schema_fields, term_of, accepted, IsBuiltTerm, IsRefusal, HasArrays, IsPlanOf};
 
 use extents::Extents;
 use map_checks::{MakeMap, Plan, has_bad_field, has_bad_side, has_part_not_full, make_plan};

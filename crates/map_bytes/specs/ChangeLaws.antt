@@ -1,10 +1,6 @@
 -- Cells that are stored as other types: as many as before.
 use Rattle.std.specs.Prelude.{◌≡◌, List, length, ◌==◌, if◌then◌else◌}
-use Rattle.record_dim.specs.Std.{◌∙◌, length-map}
-use Rattle.record_dim.specs.declared.leaf_type.LeafType.{LeafType}
-use Rattle.places.specs.declared.piece.Cell.{Cell}
-use Rattle.places.specs.declared.piece.Hold.{Hold}
-use Rattle.record_dim.specs.Prelude.{kind_number}
+use Rattle.map_bytes.specs.Words.{◌∙◌, length-map, LeafType, Cell, Hold, kind_number}
 use Rattle.map_bytes.specs.Cells.{changed}
 
 pub length-changed : (from to : LeafType) (cells : List Cell) → length (changed from to cells) ≡ length cells

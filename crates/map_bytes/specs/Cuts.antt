@@ -1,8 +1,6 @@
 -- Pieces cut into bytes and taken in another order, and the same of rules.
 use Rattle.std.specs.Prelude.{ℕ, zero, suc, ◌+◌, ◌*◌, ◌/◌, List, [], ◌++◌, map, reverse, take, drop}
-use Rattle.record_dim.specs.Std.{flat_map, range_with_len}
-use Rattle.places.specs.declared.piece.Piece.{Piece}
-use Rattle.places.specs.declared.rule.PieceRule.{PieceRule}
+use Rattle.map_bytes.specs.Words.{flat_map, range_with_len, Piece, PieceRule}
 
 -- one byte of a piece
 abbrev pub byte_of : ℕ → Piece → Piece

@@ -1,10 +1,6 @@
 -- Mappings that store each cell in its type's own sign and width.
 use Rattle.std.specs.Prelude.{◌≡◌, ℕ, ◌+◌, ◌<◌, List, [], ◌∷◌, map, length, get_or, drop, Bool, true, false, Some, refl, ◌&&◌, ◌||◌, not, slice_get}
-use Rattle.record_dim.specs.Std.{sym, ap, ◌∙◌, arith, eqb-true, map-map, drop_more, get_or-map, length-map, get_or_from_slice_get, slice_get_within}
-use Rattle.record_dim.specs.declared.leaf_type.LeafType.{LeafType}
-use Rattle.places.specs.Prelude.{hold_of, full_holds, length-full}
-use Rattle.places.specs.declared.piece.Cell.{Cell}
-use Rattle.places.specs.declared.piece.Hold.{Hold}
+use Rattle.map_bytes.specs.Words.{sym, ap, ◌∙◌, arith, eqb-true, map-map, drop_more, get_or-map, length-map, get_or_from_slice_get, slice_get_within, LeafType, hold_of, full_holds, length-full, Cell, Hold}
 use Rattle.map_bytes.specs.Cells.{same_hold, differ}
 
 -- cells of the same types are stored alike

@@ -1,7 +1,5 @@
 ghost use Rattle.std.specs.Prelude.{ℕ, ◌≡◌, ◌⊎◌, ◌↔◌, IfOk, IfErr, IsErrOf, true, List, map};
-ghost use Rattle.places.specs.Prelude.{widths_of, full_holds, Owner, byteswap, length-full};
-ghost use Rattle.places.specs.declared.piece.Cell.{Cell};
-ghost use Rattle.places.specs.declared.piece.Hold.{Hold};
+ghost use Rattle.map_bytes.specs.Words.{widths_of, full_holds, Owner, byteswap, length-full, Cell, Hold};
 ghost use Rattle.map_bytes.specs.Cells.{differ};
 ghost use Rattle.map_bytes.specs.SwapLaws.{byteswap_laws};
 

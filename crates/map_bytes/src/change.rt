@@ -1,7 +1,5 @@
 ghost use Rattle.std.specs.Prelude.{ℕ, ◌≡◌, IfOk, IfErr, List, length};
-ghost use Rattle.places.specs.Prelude.{Owner};
-ghost use Rattle.places.specs.declared.piece.Cell.{Cell};
-ghost use Rattle.places.specs.declared.piece.Hold.{Hold};
+ghost use Rattle.map_bytes.specs.Words.{Owner, Cell, Hold};
 ghost use Rattle.map_bytes.specs.Cells.{changed};
 ghost use Rattle.map_bytes.specs.ChangeLaws.{changed_holds};
 

@@ -1,20 +1,6 @@
 -- What an expression means over the leaves of a schema and the extents of an array: the layout by rows, and how each leaf is stored.
 use Rattle.std.specs.Prelude.{ℕ, ◌≡◌, ⊤, max, Bool, true, false, ◌||◌, List, [], map, None, Result, Ok, Err}
-use Rattle.record_dim.specs.Std.{enumerate_from}
-use Rattle.record_dim.specs.declared.leaf_type.LeafType.{LeafType}
-use Rattle.record_dim.specs.Prelude.{Fields, kinds_of}
-use Rattle.linearize.specs.Slots.{row_at, slot_count}
-use Rattle.extents.specs.declared.order.Order.{Order}
-use Rattle.places.specs.Prelude.{Owner, aosoa, bit_aos, bit_soa, in_rows, split, byteswap, bytesplit, widths_of, widths_in, full_holds, narrow_holds, IsTooBig, aos_layout, soa_layout}
-use Rattle.places.specs.declared.piece.Cell.{Cell}
-use Rattle.places.specs.declared.piece.Hold.{Hold}
-use Rattle.map_expr.specs.Terms.{Term, Aos, Soa, Aosoa, BitAos, BitSoa, Split, Byteswap, Bytesplit, Change, Count, Heat, Named}
-use Rattle.map_expr.specs.Checks.{checked, bad_lanes, bad_widths, bad_granule}
-use Rattle.map_expr.specs.declared.widths.FieldWidth.{FieldWidth}
-use Rattle.map_expr.specs.declared.check.BadMapping.{BadMapping}
-use Rattle.map_expr.specs.declared.check.BadMapping.TheVariants.{Side, Field, NotFull}
-use Rattle.map_bytes.specs.Cells.{byte_cells_of, changed, differ}
-use Rattle.map_split.specs.Sides.{merged, is_one_sided}
+use Rattle.map_checks.specs.Words.{enumerate_from, LeafType, Fields, kinds_of, row_at, slot_count, Order, Owner, aosoa, bit_aos, bit_soa, in_rows, split, byteswap, bytesplit, widths_of, widths_in, full_holds, narrow_holds, IsTooBig, aos_layout, soa_layout, Cell, Hold, Term, Aos, Soa, Aosoa, BitAos, BitSoa, Split, Byteswap, Bytesplit, Change, Count, Heat, Named, checked, bad_lanes, bad_widths, bad_granule, FieldWidth, BadMapping, Side, Field, NotFull, byte_cells_of, changed, differ, merged, is_one_sided}
 use Rattle.map_checks.specs.Sides.{side_of, cells_under, cells_beside}
 use Rattle.map_checks.specs.Widths.{cell_widths, has_empty}
 use Rattle.map_checks.specs.declared.fault.MakeMap.{MakeMap}

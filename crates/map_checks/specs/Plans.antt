@@ -1,10 +1,6 @@
 -- What a plan is of.
 use Rattle.std.specs.Prelude.{ℕ, ◌≡◌, List, map}
-use Rattle.record_dim.specs.Prelude.{Fields}
-use Rattle.places.specs.Prelude.{Owner, IsTooBig}
-use Rattle.places.specs.declared.piece.Cell.{Cell}
-use Rattle.places.specs.declared.piece.Hold.{Hold}
-use Rattle.map_expr.specs.Terms.{Term}
+use Rattle.map_checks.specs.Words.{Fields, Owner, IsTooBig, Cell, Hold, Term}
 use Rattle.map_checks.specs.Mappings.{layout_of, holds_of, most_slots}
 use Rattle.map_checks.specs.Ruled.{HasLengths, IsRuled}
 use Rattle.map_checks.specs.declared.plan.Plan.{Plan}

@@ -1,8 +1,6 @@
 -- What a plan has for each cell.
 use Rattle.std.specs.Prelude.{◌≡◌, ℕ, List, length}
-use Rattle.record_dim.specs.Std.{ap, ◌∙◌, length-map}
-use Rattle.places.specs.Prelude.{Owner}
-use Rattle.places.specs.declared.piece.Hold.{Hold}
+use Rattle.map_checks.specs.Words.{ap, ◌∙◌, length-map, Owner, Hold}
 use Rattle.map_checks.specs.Plans.{IsPlanFor}
 use Rattle.map_checks.specs.declared.plan.Plan.{Plan}
 

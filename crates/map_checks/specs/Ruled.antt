@@ -1,9 +1,6 @@
 -- What rules say of the cells of a layout by rows.
 use Rattle.std.specs.Prelude.{ℕ, ◌≡◌, ◌+◌, ◌*◌, ◌%◌, ◌^◌, ◌<◌, ◌≤◌, All, List, length, map, slice_index, slice_index_or, sum_by}
-use Rattle.extents.specs.Indices.{indices}
-use Rattle.linearize.specs.Slots.{slot_at, slot_count}
-use Rattle.places.specs.Prelude.{Owner, IsLocated, pieces_in}
-use Rattle.places.specs.declared.piece.Piece.{Piece}
+use Rattle.map_checks.specs.Words.{indices, slot_at, slot_count, Owner, IsLocated, pieces_in, Piece}
 use Rattle.map_checks.specs.declared.rule.Rule.{Rule}
 
 -- each item of a list, with its number

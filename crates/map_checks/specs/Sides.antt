@@ -1,8 +1,6 @@
 -- The two sides of a split: which cells go to the first.
 use Rattle.std.specs.Prelude.{Bool, not, List, map, filter}
-use Rattle.record_dim.specs.declared.path.PathStep.{PathStep}
-use Rattle.record_dim.specs.Prelude.{Fields, is_under}
-use Rattle.places.specs.declared.piece.Cell.{Cell}
+use Rattle.map_checks.specs.Words.{PathStep, Fields, is_under, Cell}
 
 -- whether each cell's leaf is under the path, and the cells for which it is and is not
 abbrev pub side_of : Fields → List PathStep → List Cell → List Bool

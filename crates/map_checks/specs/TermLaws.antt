@@ -1,34 +1,8 @@
 -- The laws of the layout of an expression.
 use Rattle.std.specs.Prelude.{◌≡◌, ℕ, ◌<◌, ◌≤◌, List, [], ◌∷◌, map, length, All, Bool, true, false, Option, None, Some, refl, ◌&&◌, not, nat_le, if◌then◌else◌}
-use Rattle.record_dim.specs.Std.{sym, ◌∙◌, arith, list_all, option_or, and_parts, leb-true, or_from, or_parts, length-map, length-filter}
-use Rattle.std.specs.List.{count_by}
-use Rattle.extents.specs.Indices.{indices}
-use Rattle.linearize.specs.Slots.{slot_count}
-use Rattle.record_dim.specs.declared.path.PathStep.{PathStep}
-use Rattle.record_dim.specs.Prelude.{Fields, is_under}
-use Rattle.places.specs.Prelude.{aosoa, bit_aos, bit_soa, IsLaidOut, length-full, widths_of, widths_in, full_holds, aos_layout, soa_layout}
-use Rattle.places.specs.declared.piece.Cell.{Cell}
-use Rattle.places.specs.declared.piece.Hold.{Hold}
-use Rattle.map_aos.specs.AosLaws.{aos_laws}
-use Rattle.map_soa.specs.SoaLaws.{soa_laws}
-use Rattle.map_aosoa.specs.AosoaLaws.{aosoa_laws}
-use Rattle.map_expr.specs.declared.check.BadMapping.{BadMapping}
-use Rattle.map_expr.specs.declared.check.BadMapping.TheVariants.{Width}
-use Rattle.map_expr.specs.Terms.{Term, Aos, Soa, Aosoa, BitAos, BitSoa, Split, Byteswap, Bytesplit, Change, Count, Heat, Named}
-use Rattle.map_expr.specs.Checks.{bad_number, bad_lanes, bad_widths, bad_granule, is_width}
-use Rattle.map_expr.specs.declared.widths.FieldWidth.{FieldWidth}
-use Rattle.map_bits.specs.Bits.{has_bad_width}
-use Rattle.map_bits.specs.NarrowLaws.{length-narrow, narrow_wide, narrow_low}
-use Rattle.map_bits.specs.BitLaws.{bit_aos_laws, bit_soa_laws}
-use Rattle.map_bytes.specs.Cells.{byte_cells_of, changed, differ}
-use Rattle.map_bytes.specs.FullLaws.{differ_none}
-use Rattle.map_bytes.specs.SwapLaws.{byteswap_laws}
-use Rattle.map_bytes.specs.BytesplitLaws.{bytesplit_laws}
-use Rattle.map_bytes.specs.ChangeLaws.{length-changed}
+use Rattle.map_checks.specs.Words.{sym, ◌∙◌, arith, list_all, option_or, and_parts, leb-true, or_from, or_parts, length-map, length-filter, count_by, indices, slot_count, PathStep, Fields, is_under, aosoa, bit_aos, bit_soa, IsLaidOut, length-full, widths_of, widths_in, full_holds, aos_layout, soa_layout, Cell, Hold, aos_laws, soa_laws, aosoa_laws, BadMapping, Width, Term, Aos, Soa, Aosoa, BitAos, BitSoa, Split, Byteswap, Bytesplit, Change, Count, Heat, Named, bad_number, bad_lanes, bad_widths, bad_granule, is_width, FieldWidth, has_bad_width, length-narrow, narrow_wide, narrow_low, bit_aos_laws, bit_soa_laws, byte_cells_of, changed, differ, differ_none, byteswap_laws, bytesplit_laws, length-changed, length-merged, count-mapped, split_laws}
 use Rattle.map_checks.specs.Sides.{side_of, cells_under, cells_beside}
 use Rattle.map_checks.specs.Widths.{cell_widths, width_at, width_by}
-use Rattle.map_split.specs.SidesLaws.{length-merged, count-mapped}
-use Rattle.map_split.specs.SplitLaws.{split_laws}
 use Rattle.map_checks.specs.Mappings.{layout_of, holds_of, held_within, not_full, IsBuiltTerm, HasNumbers}
 use Rattle.map_checks.specs.RowsLaws.{rows_laid}
 

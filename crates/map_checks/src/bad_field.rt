@@ -1,6 +1,5 @@
 ghost use Rattle.std.specs.Prelude.{◌≡◌, IfOk};
-ghost use Rattle.record_dim.specs.Prelude.{schema_fields};
-ghost use Rattle.map_expr.specs.Terms.{term_of};
+ghost use Rattle.map_checks.specs.Words.{schema_fields, term_of};
 ghost use Rattle.map_checks.specs.Mappings.{bad_field};
 
 use crate::inner_cells::{bytes_cells, changed_cells};

@@ -1,6 +1,5 @@
 ghost use Rattle.std.specs.Prelude.{ℕ, ◌≡◌, ◌^◌, ◌≤◌, IfOk, map};
-ghost use Rattle.linearize.specs.Slots.{row_at, slot_count};
-ghost use Rattle.places.specs.Prelude.{in_rows};
+ghost use Rattle.map_checks.specs.Words.{row_at, slot_count, in_rows};
 ghost use Rattle.map_checks.specs.Arrays.{AreArrays};
 ghost use Rattle.map_checks.specs.Ruled.{HasLengths, IsRuled};
 

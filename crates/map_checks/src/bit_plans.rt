@@ -1,8 +1,5 @@
 ghost use Rattle.std.specs.Prelude.{◌≡◌, ◌⊎◌, IfOk, IfErr, IsErrOf, None, map};
-ghost use Rattle.record_dim.specs.Prelude.{schema_fields};
-ghost use Rattle.linearize.specs.Slots.{slot_count};
-ghost use Rattle.places.specs.Prelude.{bit_aos, bit_soa, widths_in, IsTooBig};
-ghost use Rattle.map_expr.specs.Checks.{bad_widths};
+ghost use Rattle.map_checks.specs.Words.{schema_fields, slot_count, bit_aos, bit_soa, widths_in, IsTooBig, bad_widths};
 ghost use Rattle.map_checks.specs.Mappings.{ordered, held_within};
 ghost use Rattle.map_checks.specs.Plans.{IsPlanFor};
 

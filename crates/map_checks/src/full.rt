@@ -1,6 +1,5 @@
 ghost use Rattle.std.specs.Prelude.{◌≡◌, ◌⊎◌, true, IfErr, OnOk, IsErrOf, length};
-ghost use Rattle.places.specs.Prelude.{full_holds};
-ghost use Rattle.map_bytes.specs.Cells.{differ};
+ghost use Rattle.map_checks.specs.Words.{full_holds, differ};
 
 use crate::fault::MakeMap;
 use crate::hold_list::HoldList;

@@ -1,7 +1,5 @@
 ghost use Rattle.std.specs.Prelude.{◌≡◌, IfOk};
-ghost use Rattle.record_dim.specs.Prelude.{schema_fields};
-ghost use Rattle.places.specs.Prelude.{full_holds};
-ghost use Rattle.map_expr.specs.Terms.{term_of};
+ghost use Rattle.map_checks.specs.Words.{schema_fields, full_holds, term_of};
 ghost use Rattle.map_checks.specs.Mappings.{holds_of, held_within};
 
 use crate::hold_list::HoldList;

@@ -1,7 +1,5 @@
 ghost use Rattle.std.specs.Prelude.{◌≡◌, ◌++◌, ◌/◌, IfOk, OnOk, replicate};
-ghost use Rattle.record_dim.specs.Prelude.{width_of};
-ghost use Rattle.record_dim.specs.declared.leaf_type.LeafType.TheVariants.{U8};
-ghost use Rattle.map_bytes.specs.Cells.{byte_cells_of, changed};
+ghost use Rattle.map_checks.specs.Words.{width_of, U8, byte_cells_of, changed};
 ghost use Rattle.map_checks.specs.Inner.InnerCells.{changed_cell};
 
 use places::{Cell, CellList};

@@ -1,6 +1,5 @@
 ghost use Rattle.std.specs.Prelude.{◌≡◌, IfOk, length, not};
-ghost use Rattle.std.specs.List.{count_by};
-ghost use Rattle.map_split.specs.Sides.{merged};
+ghost use Rattle.map_checks.specs.Words.{count_by, merged};
 
 use crate::hold_list::{HoldList, hold_at};
 use places::Hold;

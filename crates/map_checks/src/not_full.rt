@@ -1,8 +1,5 @@
 ghost use Rattle.std.specs.Prelude.{◌≡◌, IfOk, length};
-ghost use Rattle.record_dim.specs.Prelude.{schema_fields};
-ghost use Rattle.places.specs.Prelude.{full_holds};
-ghost use Rattle.map_expr.specs.Terms.{term_of};
-ghost use Rattle.map_bytes.specs.Cells.{differ};
+ghost use Rattle.map_checks.specs.Words.{schema_fields, full_holds, term_of, differ};
 ghost use Rattle.map_checks.specs.Mappings.{holds_of, not_full};
 
 use crate::holds::{full_holds, holds_of};

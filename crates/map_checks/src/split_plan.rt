@@ -1,6 +1,5 @@
 ghost use Rattle.std.specs.Prelude.{ℕ, ◌≡◌, ◌⊎◌, ◌<◌, ◌≤◌, ◌^◌, ◌↔◌, ◌++◌, All, IsTrue, IfOk, IfErr, OnOk, IsErrOf, length, not};
-ghost use Rattle.std.specs.List.{count_by, sum};
-ghost use Rattle.map_split.specs.Sides.{merged};
+ghost use Rattle.map_checks.specs.Words.{count_by, sum, merged};
 ghost use Rattle.map_checks.specs.Inner.Splits.{AreSplitRules, LieWithin};
 
 use crate::plan::{LengthList, Plan};

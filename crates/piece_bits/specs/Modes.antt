@@ -1,10 +1,6 @@
 -- What a view of either mode keeps of its entries.
 use Rattle.std.specs.Prelude.{ℕ, ◌≡◌, ◌<◌, ℤ, List, [], ◌∷◌, length, map, slice_index_or}
-use Rattle.record_dim.specs.declared.leaf_type.LeafType.{LeafType}
-use Rattle.record_dim.specs.declared.leaf_type.LeafType.TheVariants.{Bool as Truth}
-use Rattle.record_dim.specs.Prelude.{IsIn, IsDeclared}
-use Rattle.places.specs.declared.piece.Hold.{Hold}
-use Rattle.places.specs.Prelude.{entry}
+use Rattle.piece_bits.specs.Words.{LeafType, Truth, IsIn, IsDeclared, Hold, entry}
 use Rattle.piece_bits.specs.Tables.{hold_at}
 use Rattle.piece_bits.specs.LowBits.{declared, held, kept}
 use Rattle.piece_bits.specs.declared.mode.StoreMode.{StoreMode}

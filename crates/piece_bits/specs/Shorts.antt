@@ -1,11 +1,6 @@
 -- Short forms: what they say of a row, and when they say what a rule says.
 use Rattle.std.specs.Prelude.{ℕ, ◌≡◌, ◌+◌, ◌*◌, ◌/◌, ◌%◌, ◌^◌, ◌<◌, ◌≤◌, List, length, map}
-use Rattle.extents.specs.declared.order.Order.{Order}
-use Rattle.extents.specs.Indices.{indices}
-use Rattle.places.specs.Prelude.{Owner, IsLocated, pieces_in}
-use Rattle.places.specs.declared.piece.Hold.{Hold}
-use Rattle.places.specs.declared.piece.Piece.{Piece}
-use Rattle.places.specs.declared.rule.PieceRule.{PieceRule}
+use Rattle.piece_bits.specs.Words.{Order, indices, Owner, IsLocated, pieces_in, Hold, Piece, PieceRule}
 use Rattle.piece_bits.specs.Words.{word_signed, word_width, word_pieces}
 use Rattle.piece_bits.specs.declared.field.Field.{Field}
 use Rattle.piece_bits.specs.declared.word.Word.{Word}

@@ -1,14 +1,6 @@
 -- A short form of a rule says where a cell lies.
 use Rattle.std.specs.Prelude.{ℕ, ◌^◌, ◌<◌, ◌≤◌, List, length}
-use Rattle.record_dim.specs.Std.{sym, subst, arith, rules}
-use Rattle.extents.specs.declared.order.Order.{Order}
-use Rattle.extents.specs.Indices.{indices}
-use Rattle.linearize.specs.Slots.{slot_at, slot_count}
-use Rattle.linearize.specs.SlotsLaws.{slot_at_below}
-use Rattle.linearize.specs.LinesLaws.{line_narrow, column_narrow}
-use Rattle.places.specs.Prelude.{Owner, IsLocated, pieces_in}
-use Rattle.places.specs.declared.piece.Hold.{Hold}
-use Rattle.places.specs.declared.rule.PieceRule.{PieceRule}
+use Rattle.piece_bits.specs.Words.{sym, subst, arith, rules, Order, indices, slot_at, slot_count, slot_at_below, line_narrow, column_narrow, Owner, IsLocated, pieces_in, Hold, PieceRule}
 use Rattle.piece_bits.specs.Shorts.{slot_in, start_in, short_pieces, IsShortOf, IsShortIn}
 use Rattle.piece_bits.specs.declared.short.ShortRule.{ShortRule}
 

@@ -1,9 +1,7 @@
 -- Numbers in the rows of a stretch, as a short form says that they are stored.
 use Rattle.std.specs.Prelude.{ℕ, zero, suc, ◌≡◌, ◌+◌, ◌*◌, ◌^◌, ◌<◌, ◌≤◌, ℤ, pos, List, FitsSigned, length, slice_index_or}
 use mir.Syntax.{w64}
-use Rattle.record_dim.specs.Std.{bit_at}
-use Rattle.places.specs.Prelude.{number, digit, decoded}
-use Rattle.blobs.specs.Bits.{bit_of}
+use Rattle.piece_bits.specs.Words.{bit_at, number, digit, decoded, bit_of}
 use Rattle.piece_bits.specs.Words.{word_bit, word_place, word_signed, word_width, IsPlaceWord}
 use Rattle.piece_bits.specs.declared.field.Field.{Field}
 use Rattle.piece_bits.specs.declared.word.Word.{Word}

@@ -1,9 +1,7 @@
 // A field of bits that lies in the eight bytes from the byte of its first bit on: a load or a store of a word, two shifts and a mask.
 ghost use Rattle.std.specs.Prelude.{ℕ, ◌≡◌, ◌+◌, ◌-◌, ◌*◌, ◌^◌, ◌<◌, ◌≤◌, length};
 ghost use Rattle.std.specs.Int.{bit_at};
-ghost use Rattle.record_dim.specs.Prelude.{IsIn};
-ghost use Rattle.places.specs.Prelude.{number, digit, decoded};
-ghost use Rattle.blobs.specs.Bits.{bit_of};
+ghost use Rattle.piece_bits.specs.Words.{IsIn, number, digit, decoded, bit_of};
 ghost use Rattle.piece_bits.specs.Words.{IsBitField};
 
 use crate::value::encode;

@@ -1,6 +1,5 @@
 ghost use Rattle.std.specs.Prelude.{◌≡◌, ◌≢◌, ◌⊎◌, IfSome, length};
-ghost use Rattle.extents.specs.declared.order.Order.{Order};
-ghost use Rattle.extents.specs.declared.order.Order.TheVariants.{Row};
+ghost use Rattle.piece_bits.specs.Words.{Order, Row};
 ghost use Rattle.piece_bits.specs.RowPaths.{IsRowPath};
 
 use crate::walk::Walk;

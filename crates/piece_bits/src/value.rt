@@ -1,6 +1,5 @@
 ghost use Rattle.std.specs.Prelude.{ℕ, ◌≡◌, ◌^◌, ◌<◌, ◌≤◌, true, pos, ◌-ℤ◌};
-ghost use Rattle.record_dim.specs.Prelude.{IsIn, least_in, greatest_in};
-ghost use Rattle.places.specs.Prelude.{number, digit, decoded};
+ghost use Rattle.piece_bits.specs.Words.{IsIn, least_in, greatest_in, number, digit, decoded};
 
 use places::Hold;
 

@@ -1,13 +1,7 @@
 -- What an update makes of the rows of a table, and which fault ends it.
 use Rattle.std.specs.Prelude.{ℕ, ◌≡◌, ◌<◌, Bool, true, ℤ, List, [], ◌∷◌, length, count_by, slice_index_or, slice_set, Option, Some, None, option_map, Result, Ok, Err, if◌then◌else◌}
-use Rattle.record_dim.specs.Std.{Bor, range_with_len}
-use Rattle.expr_lang.specs.declared.fault.EvalFault.{EvalFault}
+use Rattle.row_updates.specs.Words.{Bor, range_with_len, EvalFault, Bound, bound_term, bound_leaves, bound_rank, Term, outcome_of, is_true, index_at, Table, leaf_count_of, answer_of, kept_of, StoreAnswer, Keeping, StoreFault}
 use Rattle.expr_lang.specs.declared.fault.EvalFault.TheVariants as eval
-use Rattle.expr_lang.specs.declared.bound.Bound.{Bound}
-use Rattle.expr_lang.specs.Prelude.{bound_term, bound_leaves, bound_rank, Term, outcome_of, is_true}
-use Rattle.linearize.specs.Slots.{index_at}
-use Rattle.views.specs.Prelude.{Table, leaf_count_of, answer_of, kept_of, StoreAnswer, Keeping}
-use Rattle.views.specs.declared.fault.StoreFault.{StoreFault}
 use Rattle.views.specs.declared.fault.StoreFault.TheVariants as store
 use Rattle.row_updates.specs.declared.fault.UpdateFault.{UpdateFault}
 use Rattle.row_updates.specs.declared.fault.UpdateKind.{UpdateKind}

@@ -1,7 +1,6 @@
 // Rows where an expression is not 0, counted.
 ghost use Rattle.std.specs.Prelude.{◌≡◌, ◌+◌, ◌≤◌, ◌-◌, ℕ, OnOk, IfOk, IfErr, length};
-ghost use Rattle.expr_lang.specs.Prelude.{bound_term, IsSafe};
-ghost use Rattle.views.specs.Prelude.{Table, leaf_count_of, after_log};
+ghost use Rattle.row_updates.specs.Words.{bound_term, IsSafe, Table, leaf_count_of, after_log};
 ghost use Rattle.row_updates.specs.Rows.{IsBoundOver, counted};
 ghost use Rattle.row_updates.specs.Logs.{count_log};
 ghost use Rattle.row_updates.specs.Inner.ValueRuns.{IsIdle, IsRunOf};

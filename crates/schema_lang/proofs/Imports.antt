@@ -1,33 +1,21 @@
 -- What the proofs of this crate speak of.
+pub use Rattle.schema_lang.specs.Words.{Token, Record, IsRecord, Single, Array, Tree, tree_of, begins_name, continues_name, is_name, name_utf8, ExtentWord, Command, Version, depth_of, term_of, Spot, Spots, brackets_after, next_of, Next, TokenKind, Number, SignKind, Line}
 pub use Rattle.record_dim.specs.Std.{◌≡◌, ℕ, true, false, List, [], ◌∷◌, ◌++◌, map, codes, Some, None, Ok, Err, refl, sym, ap, ◌∙◌, arith, ◌≤◌, Bool, inl, inr, Option, Result, is_some, max, ◌&&◌, nat_le, ◌-◌, length, zero, suc, ◌+◌, ◌<◌, take, drop, get_or, slice_range, All, length-append, ◌==◌, ◌⊎◌, if◌then◌else◌, subst, ⊎_elim, nat_tests, MatchResult, take-append_seam, length-take, length-drop, take-take, drop-drop, All-cons, list_all-from_AllPass, list_all, byte, cases_Bool}
 pub use Rattle.line_tokens.specs.declared.sign.Sign.TheVariants.{Comma, Equals, OpenParen, Colon, Dot, EqualEqual, Slash}
 pub use Rattle.line_grammar.specs.declared.line.SetText.{SetText}
-pub use Rattle.line_grammar.specs.declared.token.Token.{Token}
 pub use Rattle.line_grammar.specs.declared.token.Token.TheVariants.{Word, Sign as Signed, Text, Sign}
 pub use Rattle.line_grammar.specs.Prelude.{Assignment, assignment_of, Sentence, Value, Blank, Define, deepest_set, sentence_of, deepest, is_same, is_sign, is_word, comparison_of, reduction_of, command_of, kind_token, token_of, count_of, Reads, StopsAt, column_behind, tokens_of, ended_at, ended, is_file_name, file_name_utf8, Grammar, ◌>>=◌, first, item_or, ok_parts, Fine, Quiet, anyway, firsts_any, Leaves, leaves, line_found, line_full, line_stop, IsSentence, read, count, string, mapping}
-pub use Rattle.record_dim.specs.Prelude.{Record, IsRecord, Single, Array, Tree, tree_of, begins_name, continues_name, is_name, name_utf8}
-pub use Rattle.extents.specs.declared.words.ExtentWord.{ExtentWord}
 pub use Rattle.expr_lang.specs.declared.expr.BinOp.TheVariants.{Eq}
 pub use Rattle.expr_lang.specs.declared.expr.BinOp.{BinOp}
-pub use Rattle.line_grammar.specs.declared.line.Command.{Command}
 pub use Rattle.line_grammar.specs.declared.line.KernelWord.{KernelWord}
 pub use Rattle.line_grammar.specs.declared.line.ShowKind.{ShowKind}
-pub use Rattle.line_grammar.specs.declared.version.Version.{Version}
-pub use Rattle.expr_lang.specs.Prelude.{depth_of, term_of}
-pub use Rattle.line_tokens.specs.declared.spots.Spot.{Spot}
-pub use Rattle.line_tokens.specs.Spots.{Spots, brackets_after}
 pub use Rattle.line_tokens.specs.SpotLaws.{same_spots, spot_at}
-pub use Rattle.line_tokens.specs.Next.{next_of}
-pub use Rattle.line_tokens.specs.declared.token.Next.{Next}
 pub use Rattle.line_tokens.specs.declared.token.Next.TheVariants.{End, Bad}
 pub use Rattle.line_tokens.specs.NextTokenLaws.{next_inside}
 pub use Rattle.line_tokens.specs.Bytes.{is_letter, is_word_byte, is_text_byte}
 pub use Rattle.line_tokens.specs.Spelled.{Spells}
-pub use Rattle.line_tokens.specs.declared.token.TokenKind.{TokenKind}
-pub use Rattle.line_tokens.specs.declared.token.TokenKind.TheVariants.{Number, Sign as SignKind}
 pub use Rattle.line_tokens.specs.SpelledLaws.{next_spells}
 pub use Rattle.record_dim.specs.declared.dim.Dim.{Dim}
-pub use Rattle.line_grammar.specs.declared.line.Line.{Line}
 pub use Rattle.schema_lang.specs.LineOf.{line_or_column, spots_in, spots_within, spots_behind}
 unfoldable pub use Rattle.schema_lang.specs.LineOf.{line_at, line_of}
 pub use Rattle.schema_lang.specs.Inner.Spelled.{IsSpelled, IsSpelledAs}

@@ -1,14 +1,8 @@
 -- The line that a text is in a version of the language, as a function of the text: what a run over texts is made of. `parse_line` says that it is the grammar's answer.
-use Rattle.std.specs.Prelude.{ℕ, zero, suc, ◌≡◌, ◌+◌, ◌-◌, ◌<◌, ◌≤◌, List, [], ◌∷◌, length, Some, None, Result, Ok, Err}
-use Rattle.line_tokens.specs.Next.{next_of}
-use Rattle.line_tokens.specs.Spots.{brackets_after}
-use Rattle.line_tokens.specs.declared.spots.Spot.{Spot}
-use Rattle.line_tokens.specs.declared.token.Next.{Next}
+use Rattle.std.specs.Prelude.{◌≡◌, ◌+◌, ◌-◌, ◌<◌, ◌≤◌, ◌∷◌}
+use Rattle.schema_lang.specs.Words.{ℕ, zero, suc, List, [], length, Some, None, Result, Ok, Err, next_of, brackets_after, Spot, Next, Line, ended_at, read, line, tokens_of, column_behind, Sentence, sentence_of, deepest, Version}
 use Rattle.line_tokens.specs.declared.token.Next.TheVariants.{End, Bad, Token}
-use Rattle.line_grammar.specs.declared.line.Line.{Line}
-use Rattle.line_grammar.specs.Prelude.{ended_at, read, line, tokens_of, column_behind, Sentence, sentence_of, deepest}
 use Rattle.line_grammar.specs.declared.token.Token as token
-use Rattle.line_grammar.specs.declared.version.Version.{Version}
 use Rattle.schema_lang.specs.declared.fault.LineFault.{LineFault}
 use Rattle.schema_lang.specs.declared.fault.LineFault.TheVariants.{Syntax, TooDeep, NoMemory}
 

@@ -1,10 +1,7 @@
 -- What a fault says of a text in a version of the language, and what an answer says where the text is a line.
-use Rattle.std.specs.Prelude.{ℕ, ◌≡◌, ◌<◌, List, Result, Ok, Err}
-use Rattle.record_dim.specs.Prelude.{IsRecord}
-use Rattle.line_grammar.specs.declared.line.Line.{Line}
+use Rattle.std.specs.Prelude.{◌≡◌, ◌<◌}
+use Rattle.schema_lang.specs.Words.{ℕ, List, Result, Ok, Err, IsRecord, Line, Version, Sentence, deepest, sentence_of, Reads, StopsAt}
 use Rattle.line_grammar.specs.declared.line.Line.TheVariants as line
-use Rattle.line_grammar.specs.declared.version.Version.{Version}
-use Rattle.line_grammar.specs.Prelude.{Sentence, deepest, sentence_of, Reads, StopsAt}
 use Rattle.schema_lang.specs.declared.fault.LineFault.{LineFault}
 use Rattle.schema_lang.specs.declared.fault.LineFault.TheVariants.{Syntax, TooDeep, NoMemory}
 

@@ -1,8 +1,6 @@
-ghost use Rattle.std.specs.Prelude.{◌≡◌, IfErr, map, option_map};
-ghost use Rattle.line_grammar.specs.Prelude.{item_at, assignment_of, sentence_of, command_of, read, actors, body, bracket_list, command_line, flag, new};
-ghost use Rattle.expr_lang.specs.Prelude.{term_of};
+ghost use Rattle.std.specs.Prelude.{◌≡◌};
+ghost use Rattle.schema_lang.specs.Words.{IfErr, map, option_map, item_at, assignment_of, sentence_of, command_of, read, actors, body, bracket_list, command_line, flag, new, term_of, Gives, IsSyntax};
 ghost use Rattle.line_grammar.specs.declared.line.Command.TheVariants as command;
-ghost use Rattle.line_phrases.specs.Inner.Gives.{Gives, IsSyntax};
 ghost use Rattle.schema_lang.specs.Inner.Bodies.{common_body, extent_where, new_of};
 
 use crate::kernels::read_kernel;

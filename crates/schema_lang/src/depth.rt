@@ -1,7 +1,5 @@
-ghost use Rattle.std.specs.Prelude.{◌≡◌, ◌≤◌, nat_le, map, option_map, List};
-ghost use Rattle.std.specs.List.{list_all};
-ghost use Rattle.expr_lang.specs.Prelude.{depth_of, term_of};
-ghost use Rattle.line_grammar.specs.Prelude.{assignment_of, deepest, deepest_set, filter_depth, sentence_of};
+ghost use Rattle.std.specs.Prelude.{◌≡◌, ◌≤◌};
+ghost use Rattle.schema_lang.specs.Words.{nat_le, map, option_map, List, list_all, depth_of, term_of, assignment_of, deepest, deepest_set, filter_depth, sentence_of};
 
 use expr_lang::Expr;
 use line_grammar::{Line, SetText};

@@ -1,7 +1,5 @@
 ghost use Rattle.std.specs.Prelude.{◌≡◌};
-ghost use Rattle.line_grammar.specs.declared.line.KernelWord.TheVariants.{Axpy, Clamp, CountWhere};
-ghost use Rattle.line_grammar.specs.Prelude.{read, inside_kernel, kernel_text};
-ghost use Rattle.line_phrases.specs.Inner.Gives.{Gives};
+ghost use Rattle.schema_lang.specs.Words.{Axpy, Clamp, CountWhere, read, inside_kernel, kernel_text, Gives};
 
 use line_grammar::{Comparison, KernelText, KernelWord};
 use line_phrases::{ReadError, Tokens, read_const, read_path};

@@ -1,8 +1,7 @@
 // Lines that the second version has, and what it shows of a view.
 ghost use Rattle.std.specs.Prelude.{◌≡◌};
-ghost use Rattle.line_grammar.specs.Prelude.{sentence_of, may_have_window, read, body};
+ghost use Rattle.schema_lang.specs.Words.{sentence_of, may_have_window, read, body, Gives};
 ghost use Rattle.line_grammar.specs.declared.line.Command.TheVariants as command;
-ghost use Rattle.line_phrases.specs.Inner.Gives.{Gives};
 ghost use Rattle.schema_lang.specs.Inner.Bodies.{common_body};
 
 use crate::bodies::read_flag;

@@ -1,7 +1,5 @@
-ghost use Rattle.std.specs.Prelude.{ℕ, List, ◌≡◌, ◌≤◌, [], length, IfOk, IfErr, MatchResult};
-ghost use Rattle.line_grammar.specs.declared.version.Version.{Version};
-ghost use Rattle.line_grammar.specs.Prelude.{Reads, StopsAt, Sentence, deepest, sentence_of};
-ghost use Rattle.line_phrases.specs.Inner.Gives.{Gives};
+ghost use Rattle.std.specs.Prelude.{◌≡◌, ◌≤◌};
+ghost use Rattle.schema_lang.specs.Words.{ℕ, List, [], length, IfOk, IfErr, MatchResult, Version, Reads, StopsAt, Sentence, deepest, sentence_of, Gives};
 ghost use Rattle.schema_lang.specs.LineOf.{IsTold, line_at, line_of};
 ghost use Rattle.schema_lang.specs.Parsing.{IsAnswer, IsFault, HasItsFields};
 

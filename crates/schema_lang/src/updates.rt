@@ -1,7 +1,5 @@
-ghost use Rattle.std.specs.Prelude.{◌≡◌, ◌<◌, length, map, option_map, OnOk};
-ghost use Rattle.expr_lang.specs.Prelude.{term_of};
-ghost use Rattle.line_grammar.specs.Prelude.{assignment_of, read, assignment, filter, listed};
-ghost use Rattle.line_phrases.specs.Inner.Gives.{Gives};
+ghost use Rattle.std.specs.Prelude.{◌≡◌, ◌<◌};
+ghost use Rattle.schema_lang.specs.Words.{length, map, option_map, OnOk, term_of, assignment_of, read, assignment, filter, listed, Gives};
 
 use expr_lang::Expr;
 use line_grammar::{SetList, SetText};

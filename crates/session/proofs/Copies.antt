@@ -1,8 +1,7 @@
 -- Tables that are copied from one place of a list to another.
-use Rattle.session.proofs.Imports.{◌≡◌, ◌⊎◌, ⊎_elim, inl, inr, ◌<◌, ◌≤◌, ◌+◌, ℕ, zero, suc, List, [], ◌∷◌, ◌++◌, length, map, get_or, Some, None, Ok, Err, refl, sym, ap, subst, ◌∙◌, arith, slice_set, insert, remove, length-map, length-set, get_or_default, get_or-set_same, get_or-set_other, set-set, map-set, get_or-map, get_or-remove_below, get_or-remove_above, length-remove, Fields, AreAlike, IsCopied, refused_at, own_held, CopyFault, Table, IsTable, leaf_count_of, answer_of, kept_of, after_log, Access, all_accesses, all_touches, Read, Write, after_log-append, kept_rows, own_rows, copy, copied, with_rows, all_read, laid_anew, in_words, narrow_fault, made, zeros_of, MapTerm, CommandFault, Unknown, Name, IsFirst, ◌>>=◌, quiet, known, some_or, World, Entry, replaced, alike, not_alike, view_of, GivesUp, GivesUp-then, goes_then, ViewEntry, StepFault, copied_at, made_like, zeros_like, TellsCopy, Tested, append-nil}
+use Rattle.session.proofs.Imports.{◌≡◌, ◌⊎◌, ⊎_elim, inl, inr, ◌<◌, ◌≤◌, ◌+◌, ℕ, zero, suc, List, [], ◌∷◌, ◌++◌, length, map, get_or, Some, None, Ok, Err, refl, sym, ap, subst, ◌∙◌, arith, slice_set, insert, remove, length-map, length-set, get_or_default, get_or-set_same, get_or-set_other, set-set, map-set, get_or-map, get_or-remove_below, get_or-remove_above, length-remove, Fields, AreAlike, IsCopied, refused_at, own_held, CopyFault, Table, IsTable, leaf_count_of, answer_of, kept_of, after_log, Access, all_accesses, all_touches, Read, Write, after_log-append, kept_rows, own_rows, copy, copied, with_rows, all_read, laid_anew, in_words, narrow_fault, made, zeros_of, MapTerm, CommandFault, Unknown, Name, IsFirst, ◌>>=◌, quiet, known, some_or, World, Entry, replaced, alike, not_alike, view_of, GivesUp, GivesUp-then, goes_then, ViewEntry, StepFault, copied_at, made_like, zeros_like, TellsCopy, Tested, append-nil, tells_gives}
 use Rattle.layout_copy.specs.declared.fault.CopyFault.TheVariants as copy
 use Rattle.worlds.specs.declared.fault.CommandFault.TheVariants as refusal
-use Rattle.view_commands.specs.ExitsLaws.{tells_gives}
 use Rattle.session.proofs.Named.{first_found, first_replaced, first_still}
 
 pub first_of : {E : Type 0} (xs : List E) (i : ℕ) → i < length xs → E

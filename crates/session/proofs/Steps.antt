@@ -1,8 +1,7 @@
 -- What the commands answer is what their lines answer.
-use Rattle.session.proofs.Imports.{◌≡◌, ℕ, Bool, true, false, List, Option, Some, Result, Ok, Err, refl, sym, subst, ◌∙◌, arith, File, Wrote-nil, with_bytes-nil, Sentence, sentence_of, Line, World, Did, text_of, StepsTo, StepCause, steps_same, Outcome, Left, step, command, Gives, RecordEntry, ViewEntry, StepFault, MappingEntry, Answers, TookNone, ending_of, Loads, ToldFor, UnreadOnly, AreLeft, Stands, left_of, world_in, world_of, Session, None, ap, Fronted, Tested, LeftOf, sure, done_by, file_read_by}
+use Rattle.session.proofs.Imports.{◌≡◌, ℕ, Bool, true, false, List, Option, Some, Result, Ok, Err, refl, sym, subst, ◌∙◌, arith, File, Wrote-nil, with_bytes-nil, Sentence, sentence_of, Line, World, Did, text_of, StepsTo, StepCause, steps_same, Outcome, Left, step, command, Gives, RecordEntry, ViewEntry, StepFault, MappingEntry, Answers, TookNone, ending_of, Loads, ToldFor, UnreadOnly, AreLeft, Stands, left_of, world_in, world_of, Session, None, ap, Fronted, Tested, LeftOf, sure, done_by, file_read_by, starved, answers_quiet}
 use Rattle.line_grammar.specs.Sentences as line
 use Rattle.command_checks.specs.declared.fault.StepFault.TheVariants as fault
-use Rattle.view_commands.specs.ExitsLaws.{starved, answers_quiet}
 use Rattle.session.proofs.Views.{session_left}
 
 -- a line is done by its command

@@ -1,11 +1,8 @@
 -- What the answer to a line says of what was read and written, and which lines work on one view.
 use Rattle.std.specs.Prelude.{ℕ, ◌≡◌, List, Option, Result, Err}
-use Rattle.line_grammar.specs.declared.line.Line.{Line}
+use Rattle.session.specs.Words.{Line, IsRecord, Ending, Refuses, Breaks, Starves, StepFault}
 use Rattle.line_grammar.specs.declared.line.Line.TheVariants as line
-use Rattle.record_dim.specs.Prelude.{IsRecord}
-use Rattle.worlds.specs.Prelude.{Ending, Refuses, Breaks, Starves}
 use Rattle.worlds.specs.Answers.{Unread}
-use Rattle.command_checks.specs.declared.fault.StepFault.{StepFault}
 use Rattle.command_checks.specs.declared.fault.StepFault.TheVariants as fault
 
 -- what a fault of a session is to a line that reads this file, if it reads one

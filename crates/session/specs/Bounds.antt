@@ -1,13 +1,7 @@
 -- The most steps that a line takes.
 use Rattle.std.specs.Prelude.{ℕ, ◌+◌, ◌≤◌, not, List, Option, Some, None, MatchBool, Ok}
-use Rattle.layout_copy.specs.Costs.{copy_cost, IsWay}
+use Rattle.session.specs.Words.{copy_cost, IsWay, Strategy, MapTerm, Table, are_alike, nameless, Tested, ◌>>=◌, known, refused_if, made, World, found, same_name, Mismatch, Within, kernel_steps}
 use Rattle.line_grammar.specs.Sentences as line
-use Rattle.map_any.specs.declared.strategy.Strategy.{Strategy}
-use Rattle.map_expr.specs.Terms.{Term as MapTerm}
-use Rattle.views.specs.Prelude.{Table}
-use Rattle.worlds.specs.Prelude.{are_alike, nameless, Tested, ◌>>=◌, known, refused_if, made, World, found, same_name}
-use Rattle.worlds.specs.declared.fault.CommandFault.TheVariants.{Mismatch}
-use Rattle.view_commands.specs.Steps.{Within, kernel_steps}
 
 -- the most steps of what is done to a table, and none where there is no table
 abbrev pub most_on : Option Table → (Table → Option ℕ) → Option ℕ

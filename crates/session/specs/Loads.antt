@@ -1,15 +1,7 @@
 -- What the answer to a line that reads a file says of its outcome, and of what was read.
 use Rattle.std.specs.Prelude.{ℕ, ◌≡◌, ◌≤◌, ◌⊎◌, Bool, true, false, nat_lt, List, length, Option, Some, IsSome, IsSomeAnd, Result, Ok, Err}
-use Rattle.layout_io.specs.Prelude.{Rose, File}
-use Rattle.record_dim.specs.Prelude.{schema_fields}
-use Rattle.map_expr.specs.Terms.{term_of}
-use Rattle.extents.specs.declared.words.ExtentWord.{ExtentWord}
-use Rattle.csv_rows.specs.Datasets.{csv_records, records_behind}
-use Rattle.views.specs.Prelude.{Table}
-use Rattle.worlds.specs.Prelude.{Entry, Tested, Outcome, Goes, Faults, CannotRead, Unread, sure, ◌>>=◌, refused_if, resolved, made, read, filled, Named}
+use Rattle.session.specs.Words.{Rose, File, schema_fields, term_of, ExtentWord, csv_records, records_behind, Table, Entry, Tested, Outcome, Goes, Faults, CannotRead, Unread, sure, ◌>>=◌, refused_if, resolved, made, read, filled, Named, TooBig, StepFault}
 use Rattle.line_grammar.specs.Sentences as line
-use Rattle.worlds.specs.declared.fault.CommandFault.TheVariants.{TooBig}
-use Rattle.command_checks.specs.declared.fault.StepFault.{StepFault}
 use Rattle.command_checks.specs.declared.fault.StepFault.TheVariants as fault
 use Rattle.session.specs.declared.view.Found.{Found}
 use Rattle.session.specs.declared.view.New.{New}

@@ -1,10 +1,7 @@
 -- Which lines read a file, and what a shelf tells.
 use Rattle.std.specs.Prelude.{◌≡◌, List, Option, Some, None, Ok, Err, refl}
-use Rattle.layout_io.specs.Prelude.{File}
-use Rattle.line_grammar.specs.Prelude.{sentence_of, file_read_by}
-use Rattle.line_grammar.specs.declared.line.Line.{Line}
+use Rattle.session.specs.Words.{File, sentence_of, file_read_by, Line, Outcome, Fault, Unread}
 use Rattle.line_grammar.specs.declared.line.Line.TheVariants as line
-use Rattle.worlds.specs.Prelude.{Outcome, Fault, Unread}
 use Rattle.session.specs.Loads.{ToldFor}
 
 -- a line that is no load and no open reads no file

@@ -1,10 +1,6 @@
 -- The world that a session stands for.
 use Rattle.std.specs.Prelude.{◌≡◌, List, [], map}
-use Rattle.worlds.specs.Prelude.{World, Left}
-use Rattle.command_checks.specs.SessionEntries.{record_of, mapping_of, view_of}
-use Rattle.command_checks.specs.declared.entries.RecordEntry.{RecordEntry}
-use Rattle.command_checks.specs.declared.entries.ViewEntry.{ViewEntry}
-use Rattle.command_checks.specs.declared.mapping_entry.MappingEntry.{MappingEntry}
+use Rattle.session.specs.Words.{World, Left, record_of, mapping_of, view_of, RecordEntry, ViewEntry, MappingEntry}
 use Rattle.session.specs.declared.session.Session.{Session}
 
 -- the world of these records, mappings and views

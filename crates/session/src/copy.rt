@@ -1,11 +1,6 @@
 // `copy V to W`.
 ghost use Rattle.std.specs.Prelude.{◌≡◌, ◌+◌, ◌<◌, OnOk, length, map, slice_index_or};
-ghost use Rattle.views.specs.Prelude.{leaf_count_of, after_log, all_accesses, Read};
-ghost use Rattle.record_dim.specs.Prelude.{schema_fields};
-ghost use Rattle.worlds.specs.Prelude.{copy, copied, all_read};
-ghost use Rattle.command_checks.specs.SessionEntries.{view_of};
-ghost use Rattle.command_checks.specs.Inner.Gives.{Gives};
-ghost use Rattle.command_checks.specs.declared.entries.ViewEntry.{ViewEntry};
+ghost use Rattle.session.specs.Words.{leaf_count_of, after_log, all_accesses, Read, schema_fields, copy, copied, all_read, view_of, Gives, ViewEntry};
 ghost use Rattle.session.specs.Bounds.{IsWithin, WithinCopy};
 ghost use Rattle.session.specs.Inner.Changes.{copied_at, TellsCopy};
 

@@ -1,10 +1,6 @@
 // `record P { .. }` and `mapping M = ..`.
 ghost use Rattle.std.specs.Prelude.{◌≡◌, true};
-ghost use Rattle.map_expr.specs.Terms.{term_of};
-ghost use Rattle.record_dim.specs.Prelude.{schema_fields, tree_of, IsRecord};
-ghost use Rattle.worlds.specs.Prelude.{define, fit, mapping};
-ghost use Rattle.command_checks.specs.Inner.Bases.{is_nameless};
-ghost use Rattle.command_checks.specs.Inner.Gives.{Gives};
+ghost use Rattle.session.specs.Words.{term_of, schema_fields, tree_of, IsRecord, define, fit, mapping, is_nameless, Gives};
 ghost use Rattle.session.specs.Inner.Changes.{mapping_fits};
 
 use crate::session::Session;

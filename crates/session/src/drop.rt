@@ -1,6 +1,5 @@
 // `drop V`.
-ghost use Rattle.worlds.specs.Prelude.{drop_view};
-ghost use Rattle.command_checks.specs.Inner.Gives.{Gives};
+ghost use Rattle.session.specs.Words.{drop_view, Gives};
 
 use crate::session::Session;
 use command_checks::{StepFault, known_view};

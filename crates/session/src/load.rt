@@ -1,15 +1,6 @@
 // `load V : P [..] wrap as .. from "F"`.
 ghost use Rattle.std.specs.Prelude.{◌≡◌, ◌<◌, IfOk, true, List, Some, length, map};
-ghost use Rattle.extents.specs.Indices.{indices};
-ghost use Rattle.extents.specs.Shapes.{IsShape};
-ghost use Rattle.layout_io.specs.Prelude.{Rose, File};
-ghost use Rattle.map_expr.specs.Terms.{term_of};
-ghost use Rattle.record_dim.specs.Prelude.{schema_fields};
-ghost use Rattle.csv_rows.specs.Datasets.{csv_records, records_behind};
-ghost use Rattle.worlds.specs.Prelude.{load, loaded_table, filled, resolved};
-ghost use Rattle.command_checks.specs.Inner.Bases.{is_nameless};
-ghost use Rattle.command_checks.specs.SessionEntries.{view_of};
-ghost use Rattle.command_checks.specs.Inner.Gives.{Gives};
+ghost use Rattle.session.specs.Words.{indices, IsShape, Rose, File, term_of, schema_fields, csv_records, records_behind, load, loaded_table, filled, resolved, is_nameless, view_of, Gives};
 ghost use Rattle.session.specs.Inner.Changes.{TellsRow};
 ghost use Rattle.session.specs.Loads.{named_of, new_of, filled_table, Loads, LoadCause, UnreadOnly, ToldFor};
 

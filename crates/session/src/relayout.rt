@@ -1,11 +1,6 @@
 // `relayout V as ..`.
 ghost use Rattle.std.specs.Prelude.{◌≡◌, ◌<◌, IfOk, length, map, slice_index_or, true};
-ghost use Rattle.map_expr.specs.Terms.{term_of};
-ghost use Rattle.worlds.specs.Prelude.{copied, relayout};
-ghost use Rattle.command_checks.specs.Inner.Bases.{is_nameless};
-ghost use Rattle.command_checks.specs.SessionEntries.{view_of};
-ghost use Rattle.command_checks.specs.Inner.Gives.{Gives};
-ghost use Rattle.command_checks.specs.declared.entries.ViewEntry.{ViewEntry};
+ghost use Rattle.session.specs.Words.{term_of, copied, relayout, is_nameless, view_of, Gives, ViewEntry};
 ghost use Rattle.session.specs.Bounds.{IsWithin, WithinRelayout};
 ghost use Rattle.session.specs.Inner.Changes.{made_like, zeros_like};
 

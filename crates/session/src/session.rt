@@ -1,7 +1,5 @@
 ghost use Rattle.std.specs.Prelude.{◌≡◌, Bool, true, List, None};
-ghost use Rattle.layout_io.specs.Prelude.{Rose, File};
-ghost use Rattle.line_grammar.specs.Prelude.{sentence_of, file_read_by};
-ghost use Rattle.worlds.specs.Prelude.{StepsTo, StepCause, on_view, step, done_by, empty, found};
+ghost use Rattle.session.specs.Words.{Rose, File, sentence_of, file_read_by, StepsTo, StepCause, on_view, step, done_by, empty, found};
 
 use crate::view::New;
 use crate::work::work_on;

@@ -1,10 +1,6 @@
 // `view V : P [..] wrap as ..`.
 ghost use Rattle.std.specs.Prelude.{◌≡◌, ◌<◌, IfOk, IfErr, OnOk, true, length};
-ghost use Rattle.extents.specs.Shapes.{IsShape};
-ghost use Rattle.map_expr.specs.Terms.{term_of};
-ghost use Rattle.worlds.specs.Prelude.{named, new_table, view, with_view};
-ghost use Rattle.command_checks.specs.Inner.Bases.{is_nameless};
-ghost use Rattle.command_checks.specs.Inner.Gives.{Gives};
+ghost use Rattle.session.specs.Words.{IsShape, term_of, named, new_table, view, with_view, is_nameless, Gives};
 
 use crate::session::Session;
 use blob_file::mode_by;

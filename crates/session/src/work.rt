@@ -1,12 +1,8 @@
 // Commands that work on one view.
 ghost use Rattle.std.specs.Prelude.{List};
-ghost use Rattle.worlds.specs.Prelude.{on_view, found};
-ghost use Rattle.command_checks.specs.declared.entries.RecordEntry.{RecordEntry};
-ghost use Rattle.command_checks.specs.declared.mapping_entry.MappingEntry.{MappingEntry};
+ghost use Rattle.session.specs.Words.{on_view, found, RecordEntry, MappingEntry, Answers, Within};
 ghost use Rattle.session.specs.Bounds.{most_on};
 ghost use Rattle.session.specs.Stands.{AreLeft, world_in};
-ghost use Rattle.view_commands.specs.Inner.Answers.{Answers};
-ghost use Rattle.view_commands.specs.Steps.{Within};
 
 use command_checks::{StepFault, ViewList, known_view};
 use layout_io::Sink;

@@ -1,24 +1,11 @@
 -- What the proofs of this crate speak of.
+pub use Rattle.session_runs.specs.Words.{File, Writes, Rose, Version, version_of, is_blank_line, World, empty, run_from, fault_text, Output, IsRun, ended_status, ending_of, Unreadable, EndsBy, EndCause, Outcome, Faults, Left, step, steps_same, lines_in, ScriptTooLong, BadVersion, LineTooLong, TooDeep, Status, CommandFault, version_numbered, Sentence, deepest, sentence_of, file_read_by, One, line_of, HasItsFields, StepFault, LineEnd, Stands, world_of}
 pub use Rattle.record_dim.specs.Std.{◌≡◌, ℕ, suc, ◌+◌, ◌≤◌, ltb, Bool, true, false, List, [], ◌∷◌, length, drop, Option, None, Some, option_map, refl, sym, ap, subst, ◌∙◌, arith, add-one, zero-add, drop-drop, ◌<◌, inl, take, Result, Ok, Err, if◌then◌else◌, slice_set, ◌⊎◌, IsSome, nat_tests}
-pub use Rattle.layout_io.specs.Prelude.{File, Writes, Rose}
-pub use Rattle.line_grammar.specs.declared.version.Version.{Version}
-pub use Rattle.schema_lang.specs.VersionOf.{version_of, is_blank_line}
-pub use Rattle.worlds.specs.Prelude.{World, empty, run_from, fault_text, Output, IsRun, ended_status, ending_of, Unreadable, EndsBy, EndCause, Outcome, Faults, Left, step, steps_same, lines_in}
 pub use Rattle.worlds.specs.declared.fault.CommandFault.{CommandFault as Fault}
-pub use Rattle.worlds.specs.declared.fault.CommandFault.TheVariants.{ScriptTooLong, BadVersion, LineTooLong, TooDeep}
-pub use Rattle.worlds.specs.declared.status.Status.{Status}
-pub use Rattle.worlds.specs.declared.status.Status.TheVariants.{CommandFault}
-pub use Rattle.line_grammar.specs.Prelude.{version_numbered, Sentence, deepest, sentence_of, file_read_by}
-pub use Rattle.line_grammar.specs.declared.version.Version.TheVariants.{One}
 pub use Rattle.line_grammar.specs.declared.line.Line.{Line}
-pub use Rattle.schema_lang.specs.LineOf.{line_of}
-pub use Rattle.schema_lang.specs.Parsing.{HasItsFields}
-pub use Rattle.command_checks.specs.declared.fault.StepFault.{StepFault}
-pub use Rattle.worlds.specs.declared.fold.LineEnd.{LineEnd}
 pub use Rattle.session.specs.Answers.{IsFit, ending_of as fault_ending}
 pub use Rattle.session.specs.Loads.{UnreadOnly}
 pub use Rattle.worlds.specs.Answers.{Unread}
-pub use Rattle.session.specs.Stands.{Stands, world_of}
 pub use Rattle.session.specs.LoadsLaws.{told_any}
 pub use Rattle.session.specs.declared.session.Session.{Session}
 pub use Rattle.session_runs.specs.Steps.{step_text, step_line, EndsAs, TellsFile}

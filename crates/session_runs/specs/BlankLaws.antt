@@ -1,14 +1,6 @@
 -- Blank lines do nothing in a run.
 use Rattle.std.specs.Prelude.{◌≡◌, ℕ, ◌+◌, ◌≤◌, ◌==◌, ltb, Bool, true, false, List, [], ◌∷◌, length, Result, Ok, refl, if◌then◌else◌}
-use Rattle.record_dim.specs.Std.{ap, ◌∙◌, arith, nat_tests}
-use Rattle.layout_io.specs.Prelude.{File}
-use Rattle.line_tokens.specs.declared.spots.Spot.{Spot}
-use Rattle.line_grammar.specs.Prelude.{tokens_of, Sentence, Blank, line}
-use Rattle.line_grammar.specs.declared.version.Version.{Version}
-use Rattle.schema_lang.specs.LineOf.{line_at, line_of, line_or_column, spots_in}
-use Rattle.schema_lang.specs.VersionOf.{is_blank_line}
-use Rattle.worlds.specs.Prelude.{World, Outcome, Faults, Left, quiet, sure, step, run_from, after, fails_at}
-use Rattle.worlds.specs.declared.fault.CommandFault.TheVariants.{LineTooLong}
+use Rattle.session_runs.specs.Words.{ap, ◌∙◌, arith, nat_tests, File, Spot, tokens_of, Sentence, Blank, line, Version, line_at, line_of, line_or_column, spots_in, is_blank_line, World, Outcome, Faults, Left, quiet, sure, step, run_from, after, fails_at, LineTooLong}
 use Rattle.session_runs.specs.Steps.{step_text, step_line}
 use Rattle.session_runs.specs.Heads.{PassesBlanks}
 

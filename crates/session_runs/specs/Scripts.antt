@@ -1,14 +1,7 @@
 -- The run of a script that was read: its lines, in the version that its version line says.
 use Rattle.std.specs.Prelude.{ℕ, ◌+◌, List, ◌∷◌, [], length, slice_set, Option, None, Some, option_map, nat_lt, if◌then◌else◌}
-use Rattle.csv.specs.Reading.{strip_bom}
-use Rattle.layout_io.specs.Prelude.{File}
-use Rattle.line_grammar.specs.declared.version.Version.{Version}
-use Rattle.line_grammar.specs.declared.version.Version.TheVariants.{One}
-use Rattle.line_grammar.specs.Prelude.{version_numbered}
-use Rattle.schema_lang.specs.VersionOf.{version_of, is_blank_line}
-use Rattle.worlds.specs.Prelude.{empty, fault_text, Output, Faulted, lines_in, run_from}
+use Rattle.session_runs.specs.Words.{strip_bom, File, Version, One, version_numbered, version_of, is_blank_line, empty, fault_text, Output, Faulted, lines_in, run_from, ScriptTooLong, BadVersion}
 use Rattle.worlds.specs.declared.fault.CommandFault.{CommandFault}
-use Rattle.worlds.specs.declared.fault.CommandFault.TheVariants.{ScriptTooLong, BadVersion}
 use Rattle.session_runs.specs.Steps.{step_text}
 
 -- the run ends with a fault line

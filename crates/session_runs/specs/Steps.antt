@@ -1,15 +1,8 @@
 -- What the text of a line does to a world.
 use Rattle.std.specs.Prelude.{ℕ, Bool, List, length, nat_lt, ◌≡◌, if◌then◌else◌, Option, IfSome, Result, Ok, Err}
-use Rattle.layout_io.specs.Prelude.{File}
-use Rattle.line_grammar.specs.Prelude.{Sentence, deepest}
-use Rattle.line_grammar.specs.declared.version.Version.{Version}
-use Rattle.schema_lang.specs.LineOf.{line_of}
-use Rattle.command_checks.specs.declared.fault.StepFault.{StepFault}
+use Rattle.session_runs.specs.Words.{File, Sentence, deepest, Version, line_of, StepFault, LineEnd, World, Outcome, Faults, Left, step, LineTooLong, Syntax, TooDeep}
 use Rattle.command_checks.specs.declared.fault.StepFault.TheVariants as fault
-use Rattle.worlds.specs.declared.fold.LineEnd.{LineEnd}
 use Rattle.worlds.specs.declared.fold.LineEnd.TheVariants as end
-use Rattle.worlds.specs.Prelude.{World, Outcome, Faults, Left, step}
-use Rattle.worlds.specs.declared.fault.CommandFault.TheVariants.{LineTooLong, Syntax, TooDeep}
 
 -- a text that is no line, or the line that it is; no expression is more than 32 deep
 abbrev pub step_line : List File → World → Result Sentence ℕ → Bool → Outcome Left

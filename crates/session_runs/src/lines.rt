@@ -1,10 +1,6 @@
 // The lines of a script, done by a session.
 ghost use Rattle.std.specs.Prelude.{◌≡◌, IfOk, IsSome, List, Some};
-ghost use Rattle.layout_io.specs.Prelude.{Rose, File};
-ghost use Rattle.line_grammar.specs.Prelude.{sentence_of, file_read_by};
-ghost use Rattle.schema_lang.specs.Parsing.{HasItsFields};
-ghost use Rattle.worlds.specs.Prelude.{ending_of, StepsTo, StepCause, step, World};
-ghost use Rattle.session.specs.Stands.{Stands};
+ghost use Rattle.session_runs.specs.Words.{Rose, File, sentence_of, file_read_by, HasItsFields, ending_of, StepsTo, StepCause, step, World, Stands};
 ghost use Rattle.session_runs.specs.Steps.{step_text, EndsAs, TellsFile};
 
 use layout_io::{Shelf, Sink};

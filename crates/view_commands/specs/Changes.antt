@@ -1,17 +1,7 @@
 -- How a command ends that may store: the number that it gives, why it is refused, and what it then leaves.
 use Rattle.std.specs.Prelude.{ℕ, zero, suc, ◌≡◌, ◌++◌, ℤ, List, [], length, drop, Option, Some, None, Result, Ok, Err}
-use Rattle.lane_kernels.specs.Kernels.{run_rows}
-use Rattle.lane_kernels.specs.declared.kernel.Kernel.{Kernel}
-use Rattle.line_grammar.specs.Prelude.{Value, Assignment}
-use Rattle.record_dim.specs.Prelude.{Fields}
-use Rattle.row_updates.specs.Rows.{updated_of}
-use Rattle.subviews.specs.Stencils.{Stencil, stenciled}
-use Rattle.subviews.specs.declared.fault.StencilFault.{StencilFault}
-use Rattle.views.specs.Prelude.{Table, kept_of}
-use Rattle.worlds.specs.Prelude.{number_text, bound_filter, bound_sets, each_once, leaves_of, text_of_leaf, Done, done_to, Tested, ◌>>=◌, ok_or, update_fault}
+use Rattle.view_commands.specs.Words.{run_rows, Kernel, Value, Assignment, Fields, updated_of, Stencil, stenciled, StencilFault, Table, kept_of, number_text, bound_filter, bound_sets, each_once, leaves_of, text_of_leaf, Done, done_to, Tested, ◌>>=◌, ok_or, update_fault, GivesUp, StepFault}
 use Rattle.worlds.specs.declared.fault.CommandFault.TheVariants as command
-use Rattle.command_checks.specs.Inner.Gives.{GivesUp}
-use Rattle.command_checks.specs.declared.fault.StepFault.{StepFault}
 use Rattle.command_checks.specs.declared.fault.StepFault.TheVariants as step
 use Rattle.view_commands.specs.declared.change.ChangeFault.{ChangeFault}
 use Rattle.view_commands.specs.declared.change.ChangeFault.TheVariants as change

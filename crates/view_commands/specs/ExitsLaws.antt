@@ -1,11 +1,6 @@
 -- How a command ends, and its answer.
 use Rattle.std.specs.Prelude.{◌≡◌, ℕ, List, [], Option, Result, Ok, Err, refl}
-use Rattle.record_dim.specs.Std.{sym, ap, ◌∙◌, arith}
-use Rattle.layout_io.specs.Prelude.{Wrote-nil, with_bytes-nil}
-use Rattle.worlds.specs.Prelude.{Refused, Fronted, text_of, LeftOf, ◌>>=◌, Tested}
-use Rattle.worlds.specs.declared.fault.CommandFault.{CommandFault}
-use Rattle.command_checks.specs.Inner.Gives.{Gives, GivesUp}
-use Rattle.command_checks.specs.declared.fault.StepFault.{StepFault}
+use Rattle.view_commands.specs.Words.{sym, ap, ◌∙◌, arith, Wrote-nil, with_bytes-nil, Refused, Fronted, text_of, LeftOf, ◌>>=◌, Tested, CommandFault, Gives, GivesUp, StepFault}
 use Rattle.view_commands.specs.Inner.Answers.{Answers}
 use Rattle.command_checks.specs.declared.fault.StepFault.TheVariants as step
 

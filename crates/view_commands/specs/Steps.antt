@@ -1,10 +1,6 @@
 -- The most steps that a command takes.
 use Rattle.std.specs.Prelude.{ℕ, ◌+◌, ◌≤◌, length, Option, Some, None, Ok}
-use Rattle.lane_kernels.specs.Kernels.{kernel_cost}
-use Rattle.lane_kernels.specs.declared.kernel.Kernel.{Kernel}
-use Rattle.line_grammar.specs.declared.line.KernelText.{KernelText}
-use Rattle.views.specs.Prelude.{Table}
-use Rattle.worlds.specs.Prelude.{fit_kernel, Tested}
+use Rattle.view_commands.specs.Words.{kernel_cost, Kernel, KernelText, Table, fit_kernel, Tested}
 
 -- from one count of steps to another at most so many were taken; where no number stands, nothing is said
 abbrev pub Within : Option ℕ → ℕ → ℕ → Type 0

@@ -1,17 +1,8 @@
 // `advise V granule G pass .. times N .. among M, ..`.
 ghost use Rattle.std.specs.Prelude.{◌≡◌, ◌≤◌, ◌++◌, IfOk, IsTrue, OnOk, codes, flat_map, length, map, option_map};
-ghost use Rattle.std.specs.List.{enumerate_from};
+ghost use Rattle.view_commands.specs.Words.{enumerate_from, digits_text, map_tokens, with_tokens_behind, is_name, leaf_count_of, after_log, Read, all_accesses, telling, advise, advise_fault, advice_text, best_words, cost_line, cost_words, ok_or, mapping_of, Gives, IsQuestion};
 ghost use Rattle.advisor.specs.Advice.{advice, told_by};
-ghost use Rattle.layout_io.specs.Prelude.{digits_text};
-ghost use Rattle.line_writer.specs.Canonical.{map_tokens};
-ghost use Rattle.line_writer.specs.Texts.{with_tokens_behind};
 ghost use Rattle.map_expr.specs.Terms.{term_of};
-ghost use Rattle.record_dim.specs.Prelude.{is_name};
-ghost use Rattle.views.specs.Prelude.{leaf_count_of, after_log, Read, all_accesses};
-ghost use Rattle.worlds.specs.Prelude.{telling, advise, advise_fault, advice_text, best_words, cost_line, cost_words, ok_or};
-ghost use Rattle.command_checks.specs.SessionEntries.{mapping_of};
-ghost use Rattle.command_checks.specs.Inner.Gives.{Gives};
-ghost use Rattle.command_checks.specs.Inner.Questions.{IsQuestion};
 
 use crate::work::Work;
 use advisor::{Advice, AdviseFault, Best, advise};

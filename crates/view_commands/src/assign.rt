@@ -1,12 +1,6 @@
 // `set V[..].path = ..`.
 ghost use Rattle.std.specs.Prelude.{◌≡◌, ◌<◌, ◌≤◌, IfOk, OnErr, OnOk, length};
-ghost use Rattle.expr_lang.specs.Prelude.{bound_term, term_of};
-ghost use Rattle.extents.specs.Indices.{indices, IsInside};
-ghost use Rattle.linearize.specs.Slots.{place_in};
-ghost use Rattle.row_updates.specs.Rows.{IsBoundOver};
-ghost use Rattle.views.specs.Prelude.{without_number, after_write, answer_of, leaf_count_of};
-ghost use Rattle.worlds.specs.Prelude.{assigned, inside};
-ghost use Rattle.command_checks.specs.Inner.Gives.{Gives};
+ghost use Rattle.view_commands.specs.Words.{bound_term, term_of, indices, IsInside, place_in, IsBoundOver, without_number, after_write, answer_of, leaf_count_of, assigned, inside, Gives};
 ghost use Rattle.view_commands.specs.Changes.{Changed, all_left};
 ghost use Rattle.view_commands.specs.Inner.Parts.{eval_fault, set_in, store_told};
 

@@ -1,16 +1,6 @@
 // `update V where .. set .. = .., .. actors [..] schedule S turns N`.
 ghost use Rattle.std.specs.Prelude.{◌≡◌, ◌<◌, ◌≤◌, ◌+◌, ◌^◌, All, [], IfOk, IfErr, OnErr, OnOk, length, map, not, nat_lt, option_map};
-ghost use Rattle.actor_steps.specs.Prelude.{AreCuts, actor_of, are_cuts, next, schedule_of, shared_byte};
-ghost use Rattle.actors.specs.ActorRuns.{without_counts, started_run, after_turns};
-ghost use Rattle.actors.specs.Updates.{IsUpdated};
-ghost use Rattle.views.specs.Prelude.{reads_in, owners_of, after_log};
-ghost use Rattle.expr_lang.specs.Prelude.{term_of};
-ghost use Rattle.layout_io.specs.Prelude.{Writes};
-ghost use Rattle.line_grammar.specs.Prelude.{assignment_of};
-ghost use Rattle.row_updates.specs.Rows.{IsSetOf, setting_of, updated_of};
-ghost use Rattle.row_updates.specs.Logs.{update_log};
-ghost use Rattle.worlds.specs.Prelude.{updated_by_actors, fit_cuts, shared, memory_text, each_once, leaves_of, done_to, ok_or, refused_by, refused_if, small, update_fault};
-ghost use Rattle.command_checks.specs.Inner.Gives.{Gives, GivesUp};
+ghost use Rattle.view_commands.specs.Words.{AreCuts, actor_of, are_cuts, next, schedule_of, shared_byte, without_counts, started_run, after_turns, IsUpdated, reads_in, owners_of, after_log, term_of, Writes, assignment_of, IsSetOf, setting_of, updated_of, update_log, updated_by_actors, fit_cuts, shared, memory_text, each_once, leaves_of, done_to, ok_or, refused_by, refused_if, small, update_fault, Gives, GivesUp};
 ghost use Rattle.view_commands.specs.Inner.Answers.{Answers, IsLeft};
 ghost use Rattle.view_commands.specs.Inner.Teams.{IsTeamOf, bindings_of, shared_out, acted};
 

@@ -1,11 +1,7 @@
 // `print V`, `counts V`, `heat V`, `layout V` and `bytes V B`.
 ghost use Rattle.std.specs.Prelude.{◌≡◌, ◌++◌, All, IfOk, OnOk};
-ghost use Rattle.blobs.specs.Bits.{bits_of};
+ghost use Rattle.view_commands.specs.Words.{bits_of, IsOwnerBelow, leaf_count_of, owners_of, tells, reading, telling, print, counts, heat, layout, small, all_runs, bytes, Gives};
 ghost use Rattle.instrument.specs.BlobTexts.{bytes_of, bytes_text};
-ghost use Rattle.places.specs.Prelude.{IsOwnerBelow};
-ghost use Rattle.views.specs.Prelude.{leaf_count_of, owners_of};
-ghost use Rattle.worlds.specs.Prelude.{tells, reading, telling, print, counts, heat, layout, small, all_runs, bytes};
-ghost use Rattle.command_checks.specs.Inner.Gives.{Gives};
 
 use crate::work::Work;
 use blobs::Blob;

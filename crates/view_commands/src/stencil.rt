@@ -1,8 +1,6 @@
 // `stencil V window [..] set .. = (..) / D rounds N`.
 ghost use Rattle.std.specs.Prelude.{◌*◌};
-ghost use Rattle.worlds.specs.Prelude.{fit_stencil, room_beside, stencil_rounds, stencil_run};
-ghost use Rattle.command_checks.specs.Inner.Gives.{Gives};
-ghost use Rattle.command_checks.specs.Inner.Stencils.{IsStencilOf, stencil_of};
+ghost use Rattle.view_commands.specs.Words.{fit_stencil, room_beside, stencil_rounds, stencil_run, Gives, IsStencilOf, stencil_of};
 ghost use Rattle.view_commands.specs.Changes.{Changed, rounds_left, stencil_left};
 
 use crate::change::{Change, ChangeFault};

@@ -1,15 +1,6 @@
 -- What an answer to a store keeps.
 use Rattle.std.specs.Prelude.{◌≡◌, ℕ, suc, ◌+◌, ◌<◌, ◌≤◌, Bool, true, ℤ, pos, List, [], ◌∷◌, length, map, get_or, Result, Ok, Err, is_ok, refl, if◌then◌else◌}
-use Rattle.record_dim.specs.Std.{sym, ap, ◌∙◌, subst, arith, enumerate_from, cases_lt, length-map, get_or_past}
-use Rattle.record_dim.specs.declared.leaf_type.LeafType.{LeafType}
-use Rattle.record_dim.specs.Prelude.{leaves, kinds_of, Fields}
-use Rattle.places.specs.declared.piece.Hold.{Hold}
-use Rattle.places.specs.Prelude.{entry}
-use Rattle.map_any.specs.AnyLaws.{length-leaf_cells}
-use Rattle.map_checks.specs.Prelude.{leaf_cells, length-holds}
-use Rattle.piece_bits.specs.Prelude.{hold_at, value_bits, kept, kept_again, wide_kept}
-use Rattle.piece_bits.specs.declared.mode.StoreMode.{StoreMode}
-use Rattle.piece_bits.specs.declared.mode.StoreMode.TheVariants.{Strict, Wrap}
+use Rattle.views.specs.Words.{sym, ap, ◌∙◌, subst, arith, enumerate_from, cases_lt, length-map, get_or_past, LeafType, leaves, kinds_of, Fields, Hold, entry, length-leaf_cells, leaf_cells, length-holds, hold_at, value_bits, kept, kept_again, wide_kept, StoreMode, Strict, Wrap}
 use Rattle.views.specs.StrictLaws.{stored_fits, fitting_stored}
 use Rattle.views.specs.Stores.{Keeping, Stays, kind_at, store_answer, without_number, kept_or, kept_row, kept_rows}
 use Rattle.views.specs.Tables.{Table, IsTable, IsWide, kept_of, leaf_types_of, leaf_type_of, table_holds}

@@ -1,13 +1,6 @@
 -- The slots of two mappings that lay out arrays, and how they are cut.
 use Rattle.std.specs.Prelude.{◌≡◌, ℕ, ◌+◌, ◌%◌, ◌≤◌, List, sum_by, Option, Some, None, option_map, refl, IfSome, IsSomeAnd}
-use Rattle.record_dim.specs.Std.{subst, range_with_len, arith}
-use Rattle.extents.specs.declared.order.Order.{Order}
-use Rattle.linearize.specs.Slots.{slot_count}
-use Rattle.map_expr.specs.Terms.{Term}
-use Rattle.map_checks.specs.Prelude.{array_of, lanes_in}
-use Rattle.map_any.specs.Inner.ArraySlots.{slots_in}
-use Rattle.map_any.specs.Strategies.{AreRuns}
-use Rattle.map_any.specs.declared.arrays.ArraySlots.{ArraySlots}
+use Rattle.views.specs.Words.{subst, range_with_len, arith, Order, slot_count, Term, array_of, lanes_in, slots_in, AreRuns, ArraySlots}
 use Rattle.views.specs.Moves.{IsInBlock}
 use Rattle.views.specs.Pieces.{piece_at, slot_steps, move_steps, HasSlots}
 

@@ -1,12 +1,7 @@
 -- Many rows of one leaf at once.
 use Rattle.std.specs.Prelude.{ℕ, ◌+◌, ◌≡◌, ◌<◌, ◌≤◌, ℤ, pos, List, map, take, drop, nat_le, Option, Some, None, Result, Ok, Err, if◌then◌else◌}
-use Rattle.record_dim.specs.Std.{cast_unsigned, div_ceil}
+use Rattle.views.specs.Words.{cast_unsigned, div_ceil, width_of, IsDeclared, LeafType, U64, hold_at, entry}
 use mir.Syntax.{w64}
-use Rattle.record_dim.specs.Prelude.{width_of, IsDeclared}
-use Rattle.record_dim.specs.declared.leaf_type.LeafType.{LeafType}
-use Rattle.record_dim.specs.declared.leaf_type.LeafType.TheVariants.{U64}
-use Rattle.piece_bits.specs.Prelude.{hold_at}
-use Rattle.places.specs.Prelude.{entry}
 use Rattle.views.specs.Columns.{column, column_writes, with_column, first_lane_fault}
 use Rattle.views.specs.Stores.{Fits}
 use Rattle.views.specs.Tables.{Table, leaf_type_of, table_holds, after_log, after_stores, answer_of, kept_of}

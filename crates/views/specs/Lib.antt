@@ -23,3 +23,4 @@ pub mod LeafRuns
 pub mod RunsLaws
 pub mod Inner
 pub mod Prelude
+pub mod Words

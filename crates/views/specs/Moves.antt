@@ -1,17 +1,6 @@
 -- What a table is after bytes were moved from another, and what that takes.
 use Rattle.std.specs.Prelude.{ℕ, ℤ, ◌≡◌, ◌+◌, ◌%◌, ◌/◌, ◌<◌, ◌≤◌, ⊤, List, length, sum_by, IfSome}
-use Rattle.extents.specs.declared.order.Order.{Order}
-use Rattle.linearize.specs.Slots.{slot_at, slot_count}
-use Rattle.record_dim.specs.Prelude.{width_of, is_signed}
-use Rattle.record_dim.specs.declared.leaf_type.LeafType.{LeafType}
-use Rattle.places.specs.Prelude.{entry, Owner}
-use Rattle.places.specs.declared.piece.Hold.{Hold}
-use Rattle.piece_bits.specs.Prelude.{hold_at, kind_at}
-use Rattle.piece_bits.specs.declared.mode.StoreMode.{StoreMode}
-use Rattle.piece_bits.specs.declared.mode.StoreMode.TheVariants.{Strict, Wrap}
-use Rattle.blobs.specs.Moves.{blocks}
-use Rattle.map_expr.specs.Terms.{Term}
-use Rattle.map_checks.specs.Prelude.{array_of, lanes_in}
+use Rattle.views.specs.Words.{Order, slot_at, slot_count, width_of, is_signed, LeafType, entry, Owner, Hold, hold_at, kind_at, StoreMode, Strict, Wrap, blocks, Term, array_of, lanes_in}
 
 -- the blocks of at most 64 bytes that all blobs of a layout are
 abbrev pub blob_steps : List (List Owner) → ℕ

@@ -1,21 +1,6 @@
 -- The table and the padding after a run was moved.
 use Rattle.std.specs.Prelude.{◌≡◌, ℕ, ◌*◌, ◌<◌, ◌≤◌, false, ℤ, List, map, length, Option, IfSome, IsSomeAnd}
-use Rattle.record_dim.specs.Std.{ap, ◌∙◌, subst, get_or-map, arith}
-use Rattle.record_dim.specs.Prelude.{is_signed, kinds_of, Fields}
-use Rattle.record_dim.specs.declared.leaf_type.LeafType.{LeafType}
-use Rattle.extents.specs.Indices.{indices}
-use Rattle.extents.specs.declared.order.Order.{Order}
-use Rattle.places.specs.Prelude.{full_holds, hold_of, Owner, IsLaidOut}
-use Rattle.places.specs.declared.piece.Cell.{Cell}
-use Rattle.places.specs.declared.piece.Hold.{Hold}
-use Rattle.map_expr.specs.Terms.{Term}
-use Rattle.map_checks.specs.Prelude.{leaf_cells_kinds, holds_by_kind, leaf_cells, holds_by, array_of}
-use Rattle.piece_bits.specs.Prelude.{AreLaid, table_in, hold_at, AreMoved, moved_laid, moved_entry, kept_entry, declared, kept_in, own_sign_held, fitting_stays, IsSettled}
-use Rattle.map_any.specs.Inner.ArrayRuns.{IsArrayRun}
-use Rattle.map_any.specs.ArrayRunLaws.{array_holds, run_row, run_other, runs_alike}
-use Rattle.map_any.specs.Strategies.{AreRuns}
-use Rattle.piece_bits.specs.declared.mode.StoreMode.{StoreMode}
-use Rattle.piece_bits.specs.declared.mode.StoreMode.TheVariants.{Strict, Wrap}
+use Rattle.views.specs.Words.{ap, ◌∙◌, subst, get_or-map, arith, is_signed, kinds_of, Fields, LeafType, indices, Order, full_holds, hold_of, Owner, IsLaidOut, Cell, Hold, Term, leaf_cells_kinds, holds_by_kind, leaf_cells, holds_by, array_of, AreLaid, table_in, hold_at, AreMoved, moved_laid, moved_entry, kept_entry, declared, kept_in, own_sign_held, fitting_stays, IsSettled, IsArrayRun, array_holds, run_row, run_other, runs_alike, AreRuns, StoreMode, Strict, Wrap}
 use Rattle.views.specs.Moves.{IsOwn, MayMove, IsRunMoved}
 use Rattle.views.specs.Stores.{Stays, kind_at}
 use Rattle.views.specs.Tables.{Table}

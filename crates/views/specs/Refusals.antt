@@ -1,11 +1,7 @@
 -- Why no view was made.
 use Rattle.std.specs.Prelude.{ℕ, ◌≡◌, ◌*◌, ◌<◌, ◌^◌, ◌⊎◌, ⊤, List, Ok, Err, length, sum_by}
-use Rattle.record_dim.specs.Prelude.{Fields, kinds_of}
-use Rattle.map_expr.specs.Terms.{Term}
-use Rattle.map_checks.specs.Prelude.{leaf_cells, layout_by, accepted, IsTooBigFor}
-use Rattle.map_checks.specs.declared.fault.MakeMap.{MakeMap}
+use Rattle.views.specs.Words.{Fields, kinds_of, Term, leaf_cells, layout_by, accepted, IsTooBigFor, MakeMap, HeatFault}
 use Rattle.map_checks.specs.declared.fault.MakeMap.TheVariants as map
-use Rattle.instrument.specs.declared.heat.HeatFault.{HeatFault}
 use Rattle.instrument.specs.declared.heat.HeatFault.TheVariants as heat
 use Rattle.views.specs.Tallies.{granules_for}
 use Rattle.views.specs.declared.fault.MakeView.{MakeView}

@@ -1,10 +1,6 @@
 -- What the answer to a store in a strict view says of the value.
 use Rattle.std.specs.Prelude.{◌≡◌, true, false, ℤ, ◌≤ℤ◌, Ok, Err, refl, int_le}
-use Rattle.record_dim.specs.Std.{arith, ints, cases_Bool, and_parts}
-use Rattle.record_dim.specs.declared.leaf_type.LeafType.{LeafType}
-use Rattle.record_dim.specs.Prelude.{least_of, greatest_of, least_in, greatest_in, IsIn, IsDeclared}
-use Rattle.places.specs.declared.piece.Hold.{Hold}
-use Rattle.piece_bits.specs.declared.mode.StoreMode.TheVariants.{Strict}
+use Rattle.views.specs.Words.{arith, ints, cases_Bool, and_parts, LeafType, least_of, greatest_of, least_in, greatest_in, IsIn, IsDeclared, Hold, Strict}
 use Rattle.views.specs.Stores.{is_between, store_answer, Fits}
 use Rattle.views.specs.declared.fault.StoreFault.TheVariants.{Range, Narrow}
 

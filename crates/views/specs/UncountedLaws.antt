@@ -1,10 +1,6 @@
 -- What counters leave as it is.
 use Rattle.std.specs.Prelude.{◌≡◌, ℕ, List, refl}
-use Rattle.record_dim.specs.Std.{◌∙◌}
-use Rattle.record_dim.specs.Prelude.{Fields}
-use Rattle.places.specs.declared.piece.Cell.{Cell}
-use Rattle.map_expr.specs.Terms.{Term, Count, Heat, uncounted}
-use Rattle.map_checks.specs.Prelude.{layout_of, holds_of, most_slots}
+use Rattle.views.specs.Words.{◌∙◌, Fields, Cell, Term, Count, Heat, uncounted, layout_of, holds_of, most_slots}
 
 -- what no counter changes is that of the expression without the counters at its top
 same_uncounted : {A : Type 0} (f : Term → A) → ((inner : Term) → f inner ≡ f (Count inner)) → ((granule : ℕ) (inner : Term) → f inner ≡ f (Heat granule inner))

@@ -1,19 +1,8 @@
 -- What the type of a view keeps of its fields.
 use Rattle.std.specs.Prelude.{ℕ, ℤ, ◌≡◌, List, length, map, Option, option_map, is_some, IfSome}
-use Rattle.extents.specs.Indices.{indices}
-use Rattle.record_dim.specs.Prelude.{Fields, is_signed, kinds_of}
-use Rattle.places.specs.Prelude.{Owner, IsLaidOut}
-use Rattle.places.specs.declared.piece.Cell.{Cell}
-use Rattle.places.specs.declared.piece.Hold.{Hold}
-use Rattle.map_expr.specs.Terms.{Term}
-use Rattle.map_checks.specs.Prelude.{leaf_cells, layout_by, holds_by, IsTooBigFor}
-use Rattle.map_any.specs.Counters.{has_count, granule_of}
-use Rattle.piece_bits.specs.Prelude.{AreLaid, hold_at, table_in, kind_at, declared_table, AllSettled}
-use Rattle.instrument.specs.Counters.{HeatCounts, leaf_counts, heat_counts, granules_of, HasLeaves}
-use Rattle.instrument.specs.declared.counts.Counts.{Counts}
+use Rattle.views.specs.Words.{indices, Fields, is_signed, kinds_of, Owner, IsLaidOut, Cell, Hold, Term, leaf_cells, layout_by, holds_by, IsTooBigFor, has_count, granule_of, AreLaid, hold_at, table_in, kind_at, declared_table, AllSettled, HeatCounts, leaf_counts, heat_counts, granules_of, HasLeaves, Counts, StoreMode}
 use Rattle.instrument.specs.declared.heat.Heat.{Heat}
 use Rattle.views.specs.Tallies.{Tally, blob_lengths}
-use Rattle.piece_bits.specs.declared.mode.StoreMode.{StoreMode}
 
 -- a mapping is of an expression over an array, and has its layout, rows, leaves and holds
 pub record IsMappingOf (term : Term) (extents : List ℕ) (fields : Fields) (mapped : Term) (mapped_extents : List ℕ)

@@ -1,9 +1,5 @@
 ghost use Rattle.std.specs.Prelude.{◌≡◌, ◌<◌, true, false, is_some, IfSome, length};
-ghost use Rattle.record_dim.specs.Prelude.{IsIn};
-ghost use Rattle.places.specs.Prelude.{entry};
-ghost use Rattle.map_any.specs.Counters.{is_counted};
-ghost use Rattle.map_any.specs.Maps.{term_of_map};
-ghost use Rattle.piece_bits.specs.Prelude.{AreLaid, hold_at, table_in, with_entry};
+ghost use Rattle.views.specs.Words.{IsIn, entry, is_counted, term_of_map, AreLaid, hold_at, table_in, with_entry};
 ghost use Rattle.views.specs.ViewFields.{HasSign};
 
 use crate::view::BlobList;

@@ -1,10 +1,5 @@
 ghost use Rattle.std.specs.Prelude.{ℕ, ◌≡◌, ◌*◌, ◌<◌, ◌≤◌, ◌^◌, nat_le, length, sum_by, Some, None, IfOk, OnOk, IsErrOf, IfSome, option_map, if◌then◌else◌};
-ghost use Rattle.blobs.specs.Bits.{bit_in};
-ghost use Rattle.piece_bits.specs.Prelude.{AreLaid};
-ghost use Rattle.instrument.specs.Counters.{leaf_counts, heat_counts, no_counts, no_heat};
-ghost use Rattle.map_expr.specs.Terms.{term_of};
-ghost use Rattle.map_expr.specs.Checks.{bad_number};
-ghost use Rattle.map_any.specs.Counters.{has_count, granule_of};
+ghost use Rattle.views.specs.Words.{bit_in, AreLaid, leaf_counts, heat_counts, no_counts, no_heat, term_of, bad_number, has_count, granule_of};
 ghost use Rattle.views.specs.Tallies.{blob_lengths, granules_for};
 
 use crate::view::BlobList;

@@ -1,7 +1,6 @@
 // Laws that do nothing when they run.
 ghost use Rattle.std.specs.Prelude.{◌≡◌, ℕ, List, length};
-ghost use Rattle.map_expr.specs.Terms.{Term};
-ghost use Rattle.places.specs.Prelude.{Owner};
+ghost use Rattle.views.specs.Words.{Term, Owner};
 ghost use Rattle.views.specs.AccessEntries.{AreEntries};
 ghost use Rattle.views.specs.Tables.{IsTable, leaf_types_of, table_holds};
 ghost use Rattle.views.specs.Tallies.{Access, tallied, no_tally};

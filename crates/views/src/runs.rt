@@ -1,10 +1,6 @@
 // Many rows of one leaf in blobs, stretch by stretch.
 ghost use Rattle.std.specs.Prelude.{ℕ, ◌≡◌, ◌+◌, ◌<◌, ◌≤◌, pos, true, false, length, map, take, slice_index_or};
-ghost use Rattle.record_dim.specs.Prelude.{IsIn};
-ghost use Rattle.places.specs.Prelude.{entry};
-ghost use Rattle.map_any.specs.Counters.{is_counted};
-ghost use Rattle.map_any.specs.Maps.{term_of_map};
-ghost use Rattle.piece_bits.specs.Prelude.{AreSized, AreLaid, hold_at, table_in, low_64};
+ghost use Rattle.views.specs.Words.{IsIn, entry, is_counted, term_of_map, AreSized, AreLaid, hold_at, table_in, low_64};
 ghost use Rattle.views.specs.Columns.{with_column};
 ghost use Rattle.views.specs.ViewFields.{HasSign};
 ghost use Rattle.views.specs.LeafRuns.{raised};

@@ -1,13 +1,6 @@
 ghost use Rattle.std.specs.Prelude.{ℕ, ◌≡◌, ◌+◌, ◌*◌, ◌^◌, ◌<◌, ◌≤◌, IfOk, OnOk, IfErr, OnErr, IfSome, Ok, List, true, false, is_some, option_map, length, sum_by};
-ghost use Rattle.extents.specs.Indices.{indices};
-ghost use Rattle.map_expr.specs.Terms.{term_of};
-ghost use Rattle.map_checks.specs.Prelude.{leaf_cells, layout_by, accepted, IsBuiltTerm};
-ghost use Rattle.map_any.specs.Counters.{has_count, granule_of, is_counted};
-ghost use Rattle.instrument.specs.Counters.{leaf_counts, heat_counts, HasLeaves};
+ghost use Rattle.views.specs.Words.{indices, term_of, leaf_cells, layout_by, accepted, IsBuiltTerm, has_count, granule_of, is_counted, leaf_counts, heat_counts, HasLeaves, entry, bits_of, zeros, with_entry};
 ghost use Rattle.views.specs.Tallies.{Access, no_tally};
-ghost use Rattle.places.specs.Prelude.{entry};
-ghost use Rattle.blobs.specs.Bits.{bits_of};
-ghost use Rattle.piece_bits.specs.Prelude.{zeros, with_entry};
 
 use crate::access::{near_write, read_by_rule, short_read, short_write, wide_read, write_by_rule};
 use crate::fault::{MakeView, StoreFault};

@@ -1,20 +1,9 @@
 -- `advise V granule G pass .. times N .. among .. splits` writes what mappings cost for some passes, and the cheapest of them.
-use Rattle.std.specs.Prelude.{ℕ, Bool, nat_lt, is_some, List, [], ◌∷◌, ◌++◌, length, codes, Option, Some, None, Ok}
-use Rattle.record_dim.specs.Std.{flat_map, range_with_len, enumerate_from}
+use Rattle.std.specs.Prelude.{◌∷◌, ◌++◌}
+use Rattle.worlds.specs.Words.{ℕ, Bool, nat_lt, is_some, List, [], length, codes, Option, Some, None, Ok, range_with_len, enumerate_from, AdviseFault, Pass, comma_line, digits_text, joined, PassText, map_tokens, with_tokens_behind, bad_granule, MapTerm, PathStep, leaves_of, node_of, leaves_before, Fields, Record, Table, leaf_count_of, Read, all_accesses}
+use Rattle.record_dim.specs.Std.{flat_map}
 use Rattle.advisor.specs.Advice.{Advised, advice}
-use Rattle.advisor.specs.declared.advice.AdviseFault.{AdviseFault}
 use Rattle.advisor.specs.declared.advice.AdviseFault.TheVariants as cause
-use Rattle.advisor.specs.declared.pass.Pass.{Pass}
-use Rattle.csv_rows.specs.Texts.{comma_line}
-use Rattle.layout_io.specs.Prelude.{digits_text, joined}
-use Rattle.line_grammar.specs.declared.line.PassText.{PassText}
-use Rattle.line_writer.specs.Canonical.{map_tokens}
-use Rattle.line_writer.specs.Texts.{with_tokens_behind}
-use Rattle.map_expr.specs.Checks.{bad_granule}
-use Rattle.map_expr.specs.Terms.{Term as MapTerm}
-use Rattle.record_dim.specs.declared.path.PathStep.{PathStep}
-use Rattle.record_dim.specs.Prelude.{leaves_of, node_of, leaves_before, Fields, Record}
-use Rattle.views.specs.Prelude.{Table, leaf_count_of, Read, all_accesses}
 use Rattle.worlds.specs.Worlds.{Entry}
 use Rattle.worlds.specs.OnView.{Told}
 use Rattle.worlds.specs.Outcomes.{Tested, ◌>>=◌, each, refused_if, some_or, ok_or}

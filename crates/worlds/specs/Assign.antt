@@ -1,14 +1,6 @@
 -- `set V[..].path = ..` stores a value in one row.
-use Rattle.std.specs.Prelude.{ℕ, List, [], ◌∷◌, ◌++◌, not, nat_eq, length, Ok}
-use Rattle.record_dim.specs.Std.{list_any, pointwise}
-use Rattle.std.specs.List.{slice_index_or}
-use Rattle.extents.specs.Indices.{indices}
-use Rattle.linearize.specs.Slots.{place_in}
-use Rattle.line_grammar.specs.Prelude.{Value}
-use Rattle.piece_bits.specs.Prelude.{with_entry}
-use Rattle.record_dim.specs.declared.path.PathStep.{PathStep}
-use Rattle.row_updates.specs.Logs.{value_log}
-use Rattle.views.specs.Prelude.{Write, Table}
+use Rattle.std.specs.Prelude.{◌∷◌, ◌++◌}
+use Rattle.worlds.specs.Words.{ℕ, List, [], not, nat_eq, length, Ok, list_any, pointwise, slice_index_or, indices, place_in, Value, with_entry, PathStep, value_log, Write, Table}
 use Rattle.worlds.specs.OnView.{Done, stores}
 use Rattle.worlds.specs.Outcomes.{Tested, ◌>>=◌, refused_if}
 use Rattle.worlds.specs.Names.{leaf_of, bound}

@@ -1,10 +1,6 @@
 -- `copy V to W` makes the table of W what W keeps of that of V, and `relayout V as ..` lays a table out anew.
-use Rattle.std.specs.Prelude.{ℕ, ℤ, ◌&&◌, Bool, true, false, not, nat_eq, List, length, Result, Ok}
-use Rattle.record_dim.specs.Std.{pointwise}
-use Rattle.record_dim.specs.Prelude.{Tree, Fields, Single, Record, Array, End, Field, kind_number}
-use Rattle.map_expr.specs.Terms.{Term as MapTerm}
-use Rattle.layout_copy.specs.Copies.{refused_at}
-use Rattle.views.specs.Prelude.{Read, Write, all_accesses, Table, leaf_count_of, after_log, after_stores, answer_of, kept_of, kept_rows}
+use Rattle.std.specs.Prelude.{◌&&◌}
+use Rattle.worlds.specs.Words.{ℕ, ℤ, Bool, true, false, not, nat_eq, List, length, Result, Ok, pointwise, Tree, Fields, Single, Record, Array, End, Field, kind_number, MapTerm, refused_at, Read, Write, all_accesses, Table, leaf_count_of, after_log, after_stores, answer_of, kept_of, kept_rows}
 use Rattle.worlds.specs.Worlds.{World, Entry}
 use Rattle.worlds.specs.Outcomes.{Tested, ◌>>=◌, Left, quiet, known, refused_if, refused_by}
 use Rattle.worlds.specs.Names.{nameless}

@@ -1,11 +1,7 @@
 -- `save V` writes a table as the bytes of one file, and `open V from "F"` makes a table of such bytes.
-use Rattle.std.specs.Prelude.{ℕ, ◌+◌, ◌*◌, ◌^◌, Bool, ◌||◌, List, length, nat_lt, Ok}
-use Rattle.layout_io.specs.Prelude.{File}
-use Rattle.views.specs.Prelude.{Table}
+use Rattle.std.specs.Prelude.{◌+◌, ◌*◌, ◌^◌, ◌||◌}
+use Rattle.worlds.specs.Words.{ℕ, Bool, List, length, nat_lt, Ok, File, Table, header_of, blobs_of, opened, table_of_saved, FileFault}
 use Rattle.blob_file.specs.Files.{record_text, view_text, file_of}
-use Rattle.blob_file.specs.Saving.{header_of, blobs_of}
-use Rattle.blob_file.specs.Opened.{opened, table_of_saved}
-use Rattle.blob_file.specs.declared.fault.FileFault.{FileFault}
 use Rattle.blob_file.specs.declared.fault.FileFault.TheVariants as cause
 use Rattle.worlds.specs.Worlds.{World, Entry}
 use Rattle.worlds.specs.Outcomes.{Tested, ◌>>=◌, Left, quiet, refused_if, ok_or, free, Outcome, sure}

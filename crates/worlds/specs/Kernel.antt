@@ -1,20 +1,10 @@
 -- `kernel V .. lanes N` runs a kernel over the rows of a table, and writes the number of those that give one.
-use Rattle.std.specs.Prelude.{ℕ, ◌^◌, ◌&&◌, ◌||◌, Bool, true, not, ℤ, pos, neg_ℤ, int_le, int_lt, nat_eq, nat_lt, List, [], ◌∷◌, length, Option, Some, None, Ok}
-use Rattle.record_dim.specs.Std.{list_any}
-use Rattle.expr_lang.specs.declared.expr.BinOp.{BinOp}
+use Rattle.std.specs.Prelude.{◌^◌, ◌&&◌, ◌||◌, ◌∷◌}
+use Rattle.worlds.specs.Words.{ℕ, Bool, true, not, ℤ, pos, neg_ℤ, int_le, int_lt, nat_eq, nat_lt, List, [], length, Option, Some, None, Ok, list_any, BinOp, PathStep, width_of, kinds_of, Fields, kind_at, Table, answer_of, kept_of, KernelText, KernelFault, Kernel, Axpy, Clamp, Sum, Least, Greatest, CountWhere, Compare, Eq, Ne, Lt, Le, Gt, Ge, kernel_rows_log}
 use Rattle.expr_lang.specs.declared.expr.BinOp.TheVariants as op
-use Rattle.record_dim.specs.declared.path.PathStep.{PathStep}
-use Rattle.record_dim.specs.Prelude.{width_of, kinds_of, Fields}
-use Rattle.views.specs.Prelude.{kind_at, Table, answer_of, kept_of}
-use Rattle.line_grammar.specs.declared.line.KernelText.{KernelText}
 use Rattle.line_grammar.specs.declared.line.KernelText.TheVariants as text
-use Rattle.lane_kernels.specs.declared.fault.KernelFault.{KernelFault}
 use Rattle.lane_kernels.specs.declared.fault.KernelFault.TheVariants as kernel_fault
-use Rattle.lane_kernels.specs.declared.kernel.Kernel.{Kernel}
-use Rattle.lane_kernels.specs.declared.kernel.Kernel.TheVariants.{Axpy, Clamp, Sum, Least, Greatest, CountWhere}
 use Rattle.lane_kernels.specs.Kernels as kernels
-use Rattle.lane_kernels.specs.Kernels.{Compare, Eq, Ne, Lt, Le, Gt, Ge}
-use Rattle.lane_kernels.specs.Logs.{kernel_rows_log}
 use Rattle.worlds.specs.OnView.{Done}
 use Rattle.worlds.specs.Outcomes.{Tested, ◌>>=◌, refused_if, refused_by}
 use Rattle.worlds.specs.Names.{leaf_of, text_of_leaf}

@@ -1,15 +1,7 @@
 -- The names, paths and indices of a command: the first that stands for nothing refuses it.
-use Rattle.std.specs.Prelude.{ℕ, List, [], ◌∷◌, ◌++◌, map, nat_eq, Option, Some, None, if◌then◌else◌, Ok, Err}
-use Rattle.record_dim.specs.Std.{list_any}
-use Rattle.std.specs.List.{slice_get, slice_index_or}
-use Rattle.record_dim.specs.declared.path.PathStep.{PathStep}
-use Rattle.record_dim.specs.Prelude.{paths_of, texts_of, Fields}
-use Rattle.expr_lang.specs.Prelude.{Term, leaf_number, numbered, unknowns}
-use Rattle.expr_lang.specs.declared.fault.BindFault.{BindFault}
+use Rattle.std.specs.Prelude.{◌∷◌, ◌++◌, if◌then◌else◌}
+use Rattle.worlds.specs.Words.{ℕ, List, [], map, nat_eq, Option, Some, None, Ok, Err, list_any, slice_get, slice_index_or, PathStep, paths_of, texts_of, Fields, Term, leaf_number, numbered, unknowns, BindFault, Value, Assignment, MapTerm, Split, Byteswap, Bytesplit, Change, Count, Heat, Named, Setting}
 use Rattle.expr_lang.specs.declared.fault.BindFault.TheVariants as bind
-use Rattle.line_grammar.specs.Prelude.{Value, Assignment}
-use Rattle.map_expr.specs.Terms.{Term as MapTerm, Split, Byteswap, Bytesplit, Change, Count, Heat, Named}
-use Rattle.row_updates.specs.Rows.{Setting}
 use Rattle.worlds.specs.Worlds.{Entry}
 use Rattle.worlds.specs.Outcomes.{Tested, ◌>>=◌, known, some_or, refused_by}
 use Rattle.worlds.specs.declared.fault.CommandFault.{CommandFault}

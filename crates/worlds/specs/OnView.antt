@@ -1,8 +1,5 @@
 -- Commands that work on one view, by what each may see of its table and change in it.
-use Rattle.std.specs.Prelude.{ℕ, ℤ, List, [], Option, Some, None, Ok}
-use Rattle.record_dim.specs.Prelude.{Fields}
-use Rattle.piece_bits.specs.declared.mode.StoreMode.{StoreMode}
-use Rattle.views.specs.Prelude.{Access, Table, after_stores}
+use Rattle.worlds.specs.Words.{ℕ, ℤ, List, [], Option, Some, None, Ok, Fields, StoreMode, Access, Table, after_stores}
 use Rattle.worlds.specs.Worlds.{World, replaced}
 use Rattle.worlds.specs.Outcomes.{Tested, ◌>>=◌, LeftOf, Left, quiet, shows, known}
 

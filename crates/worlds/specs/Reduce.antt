@@ -1,18 +1,10 @@
 -- `reduce V sum|min|max path` and `reduce V count where ..` write one number of all rows.
-use Rattle.std.specs.Prelude.{ℕ, ℤ, pos, List, length, Ok}
-use Rattle.line_grammar.specs.Prelude.{Value}
-use Rattle.line_grammar.specs.declared.line.ReduceKind.{ReduceKind}
+use Rattle.worlds.specs.Words.{ℕ, ℤ, pos, List, length, Ok, Value, ReduceKind, PathStep, column_reads, Access, reduced_by, Reduction, counted, count_log}
 use Rattle.line_grammar.specs.declared.line.ReduceKind.TheVariants.{Sum, Min, Max}
-use Rattle.record_dim.specs.declared.path.PathStep.{PathStep}
 pub use Rattle.views.specs.Prelude.{column}
-use Rattle.views.specs.Prelude.{column_reads, Access}
-use Rattle.lane_kernels.specs.Reductions.{reduced_by}
-use Rattle.lane_kernels.specs.declared.reduce.Reduction.{Reduction}
 use Rattle.lane_kernels.specs.declared.reduce.Reduction.TheVariants as form
 use Rattle.worlds.specs.Outcomes.{Tested, ◌>>=◌, ok_or, some_or}
 use Rattle.worlds.specs.Names.{leaf_of, bound}
-use Rattle.row_updates.specs.Rows.{counted}
-use Rattle.row_updates.specs.Logs.{count_log}
 use Rattle.worlds.specs.Update.{update_fault}
 use Rattle.worlds.specs.Texts.{number_line}
 use Rattle.worlds.specs.declared.fault.CommandFault.TheVariants.{Empty}

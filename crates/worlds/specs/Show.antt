@@ -1,21 +1,12 @@
 -- `print V`, `counts V`, `heat V`, `layout V`, `bytes V B` and `drop V`.
-use Rattle.std.specs.Prelude.{ℕ, ◌*◌, List, [], length, nat_lt, nat_le, Ok}
-use Rattle.record_dim.specs.Std.{flat_map, range_with_len}
-use Rattle.std.specs.List.{slice_index_or}
-use Rattle.places.specs.Prelude.{Owner, image}
-use Rattle.places.specs.declared.piece.Run.{Run}
-use Rattle.record_dim.specs.Prelude.{texts_of, leaves}
-use Rattle.map_any.specs.BitRuns.{runs_of}
-use Rattle.line_grammar.specs.declared.line.ShowKind.{ShowKind}
+use Rattle.std.specs.Prelude.{◌*◌}
+use Rattle.worlds.specs.Words.{ℕ, List, [], length, nat_lt, nat_le, Ok, range_with_len, slice_index_or, Owner, image, Run, texts_of, leaves, runs_of, ShowKind, bytes_of, bytes_text, counts_text, heat_text, runs_text, Table, owners_of, all_accesses, Read, print_text}
+use Rattle.record_dim.specs.Std.{flat_map}
 use Rattle.line_grammar.specs.declared.line.ShowKind.TheVariants as show
-use Rattle.instrument.specs.BlobTexts.{bytes_of, bytes_text}
-use Rattle.instrument.specs.CounterTexts.{counts_text, heat_text, runs_text}
-use Rattle.views.specs.Prelude.{Table, owners_of, all_accesses, Read}
 use Rattle.worlds.specs.Worlds.{World, removed}
 use Rattle.worlds.specs.OnView.{tells, Content, Told, Work, Reads, Shows}
 use Rattle.worlds.specs.Outcomes.{Tested, ◌>>=◌, Left, quiet, known, some_or, refused_if}
 use Rattle.worlds.specs.Tables.{blob_bits}
-use Rattle.csv_rows.specs.Texts.{print_text}
 use Rattle.worlds.specs.declared.fault.CommandFault.TheVariants.{BadIndex, NotCounted, TooBig}
 
 -- each value is read once

@@ -1,14 +1,6 @@
 -- `stencil V window [..] set path = (..) / D rounds N` sets a leaf in each row of a window to a sum over its neighbours, so many times.
-use Rattle.std.specs.Prelude.{ℕ, ◌+◌, ◌*◌, ◌^◌, ◌&&◌, Bool, not, nat_lt, pos, List, length, Ok}
-use Rattle.record_dim.specs.Std.{list_all}
-use Rattle.extents.specs.declared.window.Span.{Span}
-use Rattle.line_grammar.specs.declared.line.TermText.{TermText}
-use Rattle.record_dim.specs.declared.path.PathStep.{PathStep}
-use Rattle.record_dim.specs.Prelude.{Fields}
-use Rattle.subviews.specs.declared.fault.StencilFault.{StencilFault}
-use Rattle.subviews.specs.Stencils.{Weighted, Stencil, stenciled, rounds_log, reaches, is_weight, is_divisor}
-use Rattle.subviews.specs.SubViews.{WindowOf}
-use Rattle.views.specs.Prelude.{Table}
+use Rattle.std.specs.Prelude.{◌+◌, ◌*◌, ◌^◌, ◌&&◌}
+use Rattle.worlds.specs.Words.{ℕ, Bool, not, nat_lt, pos, List, length, Ok, list_all, Span, TermText, PathStep, Fields, StencilFault, Weighted, Stencil, stenciled, rounds_log, reaches, is_weight, is_divisor, WindowOf, Table}
 use Rattle.worlds.specs.OnView.{Done, stores}
 use Rattle.worlds.specs.Outcomes.{Tested, ◌>>=◌, each, refused_if, ok_or}
 use Rattle.worlds.specs.Names.{leaf_of, text_of_leaf}

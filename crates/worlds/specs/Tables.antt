@@ -1,14 +1,6 @@
 -- New tables, and what refuses them.
-use Rattle.std.specs.Prelude.{ℕ, ◌+◌, ◌*◌, ◌^◌, List, length, sum_by, nat_lt, nat_le, Option, Ok}
-use Rattle.extents.specs.Shapes.{extents_for, bad_shape, bad_extents}
-use Rattle.extents.specs.declared.words.ExtentWord.{ExtentWord}
-use Rattle.record_dim.specs.Prelude.{Fields, kinds_of}
-use Rattle.map_expr.specs.Terms.{Term as MapTerm}
-use Rattle.map_checks.specs.Prelude.{leaf_cells, most_slots, accepted}
-use Rattle.piece_bits.specs.declared.mode.StoreMode.{StoreMode}
-use Rattle.views.specs.Prelude.{granules_for, Table, owners_of}
-use Rattle.blob_file.specs.Opened.{empty_table}
-use Rattle.blob_file.specs.Parts.{header_by}
+use Rattle.std.specs.Prelude.{◌+◌, ◌*◌, ◌^◌}
+use Rattle.worlds.specs.Words.{ℕ, List, length, sum_by, nat_lt, nat_le, Option, Ok, extents_for, bad_shape, bad_extents, ExtentWord, Fields, kinds_of, MapTerm, leaf_cells, most_slots, accepted, StoreMode, granules_for, Table, owners_of, empty_table, header_by}
 pub use Rattle.blob_file.specs.Opened.{mode_by}
 use Rattle.worlds.specs.Worlds.{Entry}
 use Rattle.worlds.specs.Outcomes.{Tested, ◌>>=◌, refused_if, refused_by, ok_or}

@@ -1,6 +1,6 @@
 -- What commands write.
-use Rattle.std.specs.Prelude.{ℕ, ℤ, List, [], ◌∷◌, ◌++◌}
-use Rattle.layout_io.specs.Prelude.{decimal_text}
+use Rattle.std.specs.Prelude.{◌∷◌, ◌++◌}
+use Rattle.worlds.specs.Words.{ℕ, ℤ, List, [], decimal_text}
 
 -- a number as a line
 unfoldable pub number_line : ℤ → List ℕ

@@ -1,13 +1,6 @@
 -- `update V where .. set .. = .., ..` stores values in each row where the filter is not 0.
-use Rattle.std.specs.Prelude.{ℕ, List, [], length, Option, Ok}
-use Rattle.line_grammar.specs.Prelude.{Value, Assignment}
-use Rattle.record_dim.specs.Prelude.{Fields}
-use Rattle.row_updates.specs.Rows.{updated_rows}
-use Rattle.row_updates.specs.Logs.{rows_log}
-use Rattle.row_updates.specs.declared.fault.UpdateFault.{UpdateFault}
-use Rattle.row_updates.specs.declared.fault.UpdateKind.{UpdateKind}
+use Rattle.worlds.specs.Words.{ℕ, List, [], length, Option, Ok, Value, Assignment, Fields, updated_rows, rows_log, UpdateFault, UpdateKind, Table, answer_of, kept_of}
 use Rattle.row_updates.specs.declared.fault.UpdateKind.TheVariants as kind
-use Rattle.views.specs.Prelude.{Table, answer_of, kept_of}
 use Rattle.worlds.specs.OnView.{Done, stores}
 use Rattle.worlds.specs.Outcomes.{Tested, ◌>>=◌, ok_or}
 use Rattle.worlds.specs.Names.{text_of_leaf, bound_filter, bound_sets, each_once, leaves_of}

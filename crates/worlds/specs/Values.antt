@@ -1,11 +1,7 @@
 -- The values of expressions on the rows of a table, and what can be stored in a leaf.
-use Rattle.std.specs.Prelude.{ℕ, ℤ, List}
-use Rattle.expr_lang.specs.Prelude.{Term, outcome_of}
-use Rattle.expr_lang.specs.declared.fault.EvalFault.{EvalFault}
+use Rattle.worlds.specs.Words.{ℕ, ℤ, List, Term, outcome_of, EvalFault, StoreFault, Table, answer_of}
 use Rattle.expr_lang.specs.declared.fault.EvalFault.TheVariants as eval
-use Rattle.views.specs.declared.fault.StoreFault.{StoreFault}
 use Rattle.views.specs.declared.fault.StoreFault.TheVariants as store
-use Rattle.views.specs.Prelude.{Table, answer_of}
 use Rattle.worlds.specs.Outcomes.{Tested, ok_or}
 use Rattle.worlds.specs.Names.{text_of_leaf}
 use Rattle.worlds.specs.declared.fault.CommandFault.{CommandFault}

@@ -1,10 +1,5 @@
 -- `view V : P [..] as ..` makes a table of zeros.
-use Rattle.std.specs.Prelude.{ℕ, List, None, Result, Ok}
-use Rattle.record_dim.specs.Prelude.{Fields}
-use Rattle.map_expr.specs.Terms.{Term as MapTerm}
-use Rattle.line_grammar.specs.Prelude.{New}
-use Rattle.piece_bits.specs.declared.mode.StoreMode.{StoreMode}
-use Rattle.views.specs.Prelude.{Table}
+use Rattle.worlds.specs.Words.{ℕ, List, None, Result, Ok, Fields, MapTerm, New, StoreMode, Table}
 use Rattle.worlds.specs.Worlds.{World, added}
 use Rattle.worlds.specs.Outcomes.{Tested, ◌>>=◌, Left, quiet, free, known}
 use Rattle.worlds.specs.Names.{nameless}

@@ -1,9 +1,6 @@
 -- How it is said why a command is refused: in the words of a script, where a leaf is its path text, or as a caller of the library has it.
-use Rattle.std.specs.Prelude.{Result}
-use Rattle.csv_rows.specs.declared.fault.RowFault.{RowFault}
+use Rattle.worlds.specs.Words.{Result, RowFault, Spot, Fields}
 use Rattle.csv_rows.specs.declared.fault.RowFault.TheVariants as rows
-use Rattle.layout_copy.specs.Copies.{Spot}
-use Rattle.record_dim.specs.Prelude.{Fields}
 use Rattle.worlds.specs.Names.{text_of_leaf}
 use Rattle.worlds.specs.Outcomes.{Tested}
 use Rattle.worlds.specs.declared.fault.CommandFault.{CommandFault}

@@ -1,7 +1,5 @@
 // The text of a path.
-ghost use Rattle.std.specs.Prelude.{flat_map};
-ghost use Rattle.layout_io.specs.Prelude.{Puts};
-ghost use Rattle.record_dim.specs.Prelude.{first_text, step_text, path_text_of};
+ghost use Rattle.worlds.specs.Words.{flat_map, Puts, first_text, step_text, path_text_of};
 
 use layout_io::{Failed, Part, Sink, TextBuffer};
 use record_dim::{Path, PathStep};

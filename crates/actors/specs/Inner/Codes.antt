@@ -1,10 +1,8 @@
 -- How the logic stores terms of bound expressions: a number for the case, then its parts.
 use Rattle.std.specs.Prelude.{◌≡◌, ℕ}
-use Rattle.record_dim.specs.Std.{ap, arith, Coded, coded_ℕ, coded_ℤ}
+use Rattle.actors.specs.Words.{ap, arith, Coded, coded_ℕ, coded_ℤ, head, tail, apart, Term, Number, Entry, Index, Neg, Not, Binary}
 use base.Stored.{Gv, gnum, gcons}
-use Rattle.record_dim.specs.Prelude.{head, tail, apart}
 use Rattle.expr_lang.specs.contracts.expr.BinOp as op
-use Rattle.expr_lang.specs.Prelude.{Term, Number, Entry, Index, Neg, Not, Binary}
 
 abbrev pub term_code : Term ℕ → Gv
 term_code (Number a0) = gcons (gnum 0) (coded_ℤ.code a0)

@@ -1,8 +1,6 @@
 -- Slots that rows have, and the index of a slot on the Morton curve.
 use Rattle.std.specs.Prelude.{ℕ, zero, suc, ◌+◌, ◌-◌, ◌*◌, ◌/◌, ◌^◌, ◌<◌, ◌≤◌, Bool, List, length, is_some, slice_index_or}
-use Rattle.record_dim.specs.Std.{bit_at}
-use Rattle.extents.specs.declared.order.Order.{Order}
-use Rattle.linearize.specs.Slots.{row_at}
+use Rattle.advisor.specs.Words.{bit_at, Order, row_at}
 
 -- a slot is that of a row
 abbrev pub has_row : Order → List ℕ → ℕ → Bool

@@ -1,11 +1,6 @@
 -- Ways of storing leaves, each tried with the values of all rows.
 use Rattle.std.specs.Prelude.{ℕ, ◌≡◌, ◌<◌, ◌==◌, ◌&&◌, ◌||◌, Bool, true, not, ℤ, List, length, if◌then◌else◌}
-use Rattle.record_dim.specs.Std.{list_any, list_all, flat_map, range_with_len}
-use Rattle.record_dim.specs.Prelude.{Fields, leaves, kinds_of}
-use Rattle.places.specs.declared.piece.Hold.{Hold}
-use Rattle.piece_bits.specs.Prelude.{hold_at, kind_at}
-use Rattle.piece_bits.specs.declared.mode.StoreMode.{StoreMode}
-use Rattle.views.specs.Prelude.{in_leaf, raised, Access, row_accesses}
+use Rattle.advisor.specs.Words.{list_any, list_all, flat_map, range_with_len, Fields, leaves, kinds_of, Hold, hold_at, kind_at, StoreMode, in_leaf, raised, Access, row_accesses}
 use Rattle.advisor.specs.Inner.SideCosts.{IsHold}
 use Rattle.advisor.specs.Suits.{stays}
 use Rattle.advisor.specs.declared.trials.Trial.{Trial}

@@ -1,6 +1,5 @@
 -- The fault of a file whose text is no line.
-use Rattle.schema_lang.specs.declared.fault.LineFault.{LineFault}
-use Rattle.schema_lang.specs.declared.fault.LineFault.TheVariants.{Syntax, TooDeep, NoMemory}
+use Rattle.blob_file.specs.Words.{LineFault, Syntax, TooDeep, NoMemory}
 use Rattle.blob_file.specs.declared.fault.FileFault.{FileFault}
 use Rattle.blob_file.specs.declared.fault.FileFault.TheVariants as fault
 

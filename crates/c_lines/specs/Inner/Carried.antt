@@ -1,15 +1,9 @@
 -- What the parts of a command say of it.
-use Rattle.std.specs.Prelude.{ℕ, ◌≡◌, ◌⊎◌, ℤ, List, Ok, Err}
-use Rattle.command_checks.specs.declared.fault.StepFault.{StepFault}
+use Rattle.std.specs.Prelude.{◌≡◌, ◌⊎◌}
+use Rattle.c_lines.specs.Words.{ℕ, ℤ, List, Ok, Err, StepFault, Line, Fields, ChangeFault, Table, HasRows, left_at, Done, done_to, Tested}
 use Rattle.command_checks.specs.declared.fault.StepFault.TheVariants as step
-use Rattle.line_grammar.specs.declared.line.Line.{Line}
 use Rattle.line_grammar.specs.declared.line.Line.TheVariants as line
-use Rattle.record_dim.specs.Prelude.{Fields}
-use Rattle.view_commands.specs.declared.change.ChangeFault.{ChangeFault}
 use Rattle.view_commands.specs.declared.change.ChangeFault.TheVariants as change
-use Rattle.views.specs.Prelude.{Table}
-use Rattle.view_commands.specs.Changes.{HasRows, left_at}
-use Rattle.worlds.specs.Prelude.{Done, done_to, Tested}
 use Rattle.c_lines.specs.Answers.{Answer}
 use Rattle.c_lines.specs.Commands.{Refuses, Says}
 use Rattle.c_lines.specs.Faults.{row_told}

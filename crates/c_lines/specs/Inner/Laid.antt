@@ -1,9 +1,5 @@
 -- A table that is laid out anew in a script that has nothing but its view.
-use Rattle.std.specs.Prelude.{ℕ, ℤ, List, [], Option}
-use Rattle.line_grammar.specs.Prelude.{Relayout}
-use Rattle.map_expr.specs.Terms.{Term}
-use Rattle.views.specs.Prelude.{Table}
-use Rattle.worlds.specs.Prelude.{number_text, nameless, Tested, ◌>>=◌, made}
+use Rattle.c_lines.specs.Words.{ℕ, ℤ, List, [], Option, Relayout, Term, Table, number_text, nameless, Tested, ◌>>=◌, made}
 use Rattle.c_lines.specs.Answers.{Answer}
 use Rattle.c_lines.specs.Commands.{Does, alone, numbered}
 

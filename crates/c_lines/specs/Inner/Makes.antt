@@ -1,14 +1,8 @@
 -- What the code has of two lines, as the model of scripts has it.
-use Rattle.std.specs.Prelude.{ℕ, List, [], Option}
-use Rattle.extents.specs.declared.words.ExtentWord.{ExtentWord}
-use Rattle.line_grammar.specs.Prelude.{New}
-use Rattle.map_expr.specs.Terms.{term_of}
-use Rattle.record_dim.specs.Prelude.{schema_fields}
-use Rattle.worlds.specs.Prelude.{◌>>=◌, made, resolved, Named, World, empty, added}
+use Rattle.c_lines.specs.Words.{ℕ, List, [], Option, ExtentWord, New, term_of, schema_fields, ◌>>=◌, made, resolved, Named, World, empty, added, Table}
 use Rattle.c_lines.specs.Lines as lines
 use Rattle.c_lines.specs.Answers.{Answer}
 use Rattle.c_lines.specs.Told.{told}
-use Rattle.views.specs.Prelude.{Table}
 use Rattle.c_lines.specs.declared.make.Asked.{Asked}
 use Rattle.c_lines.specs.declared.make.Found.{Found}
 use Rattle.c_lines.specs.declared.make.NamedRecord.{NamedRecord}

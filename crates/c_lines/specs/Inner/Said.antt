@@ -1,6 +1,5 @@
 -- What is said of a refusal, as its words.
-use Rattle.std.specs.Prelude.{ℕ, List}
-use Rattle.worlds.specs.Prelude.{fault_words}
+use Rattle.c_lines.specs.Words.{ℕ, List, fault_words}
 use Rattle.c_lines.specs.declared.messages.Said.{Said}
 use Rattle.c_lines.specs.declared.messages.Said.TheVariants as said
 

@@ -1,8 +1,6 @@
 -- The refusal of a test of a command, as that of a call; the tests here neither read a file nor write.
-use Rattle.std.specs.Prelude.{Result}
-use Rattle.command_checks.specs.declared.fault.StepFault.{StepFault}
+use Rattle.c_lines.specs.Words.{Result, StepFault, ok_or}
 use Rattle.command_checks.specs.declared.fault.StepFault.TheVariants as step
-use Rattle.worlds.specs.Prelude.{ok_or}
 use Rattle.c_lines.specs.Answers.{Answer}
 use Rattle.c_lines.specs.declared.refusal.Refusal.{Refusal}
 use Rattle.c_lines.specs.declared.refusal.Refusal.TheVariants.{NoMemory}

@@ -1,11 +1,6 @@
 -- Expressions as they are read, and what is left of a chain behind a left side.
-use Rattle.std.specs.Prelude.{Box, box_value, Bool, Option, None, Some, is_some}
-use Rattle.record_dim.specs.Std.{Global}
-use Rattle.line_grammar.specs.Prelude.{Grammar, joined, Value, links}
-use Rattle.expr_lang.specs.declared.expr.BinOp.{BinOp}
-use Rattle.expr_lang.specs.declared.expr.Expr.{Expr}
-use Rattle.expr_lang.specs.Prelude.{Binary, term_of}
-use Rattle.line_grammar.specs.declared.token.Token.{Token}
+use Rattle.line_phrases.specs.Words.{Box, box_value, Bool, Option, None, Some, is_some, Global, Grammar, Value, links, BinOp, Expr, Binary, term_of, Token}
+use Rattle.line_grammar.specs.Prelude.{joined}
 
 -- whether a token has a meaning
 abbrev pub means : {A : Type 0} → (Token → Option A) → Token → Bool

@@ -1,11 +1,6 @@
 -- Mappings as they are read.
-use Rattle.std.specs.Prelude.{Box, box_value, ℕ, List}
-use Rattle.record_dim.specs.Std.{Global}
-use Rattle.extents.specs.declared.order.Order.{Order}
-use Rattle.map_expr.specs.declared.widths.FieldWidth.{FieldWidth}
-use Rattle.map_expr.specs.declared.expr.MapExpr.{MapExpr}
-use Rattle.map_expr.specs.Terms.{Term as MapTerm, BitAos, BitSoa, Byteswap, Bytesplit, Count, term_of}
-use Rattle.line_grammar.specs.declared.line.MapWord.{MapWord}
+use Rattle.line_phrases.specs.Words.{Box, box_value, ℕ, List, Global, Order, FieldWidth, MapExpr, MapTerm, BitAos, BitSoa, Byteswap, Bytesplit, Count, MapWord}
+use Rattle.map_expr.specs.Terms.{term_of}
 use Rattle.line_grammar.specs.declared.line.MapWord.TheVariants as form
 use Rattle.line_phrases.specs.declared.maps.BitForm.{BitForm}
 use Rattle.line_phrases.specs.declared.maps.BitForm.TheVariants as bits

@@ -1,8 +1,5 @@
 -- The slots of mappings that lay out arrays.
-use Rattle.std.specs.Prelude.{ℕ, List, Option}
-use Rattle.extents.specs.declared.order.Order.{Order}
-use Rattle.linearize.specs.Slots.{slot_count}
-use Rattle.map_checks.specs.Prelude.{lanes_in}
+use Rattle.map_any.specs.Words.{ℕ, List, Option, Order, slot_count, lanes_in}
 use Rattle.map_any.specs.declared.arrays.ArraySlots.{ArraySlots}
 
 -- how many there are over an array's extents, and how many a block has

@@ -1,7 +1,6 @@
 -- What the answer of a mapping's constructor says of the expression.
-use Rattle.places.specs.declared.mapping.NewMapping.{NewMapping}
+use Rattle.map_checks.specs.Words.{NewMapping, Lanes, Width, NotFull, Side}
 use Rattle.places.specs.declared.mapping.NewMapping.TheVariants as new
-use Rattle.map_expr.specs.declared.check.BadMapping.TheVariants.{Lanes, Width, NotFull, Side}
 use Rattle.map_checks.specs.declared.fault.MakeMap.{MakeMap}
 use Rattle.map_checks.specs.declared.fault.MakeMap.TheVariants.{Bad, TooBig, NoMemory}
 

@@ -1,10 +1,6 @@
 -- In which order the rows of each leaf lie.
 use Rattle.std.specs.Prelude.{ℕ, List, map, if◌then◌else◌}
-use Rattle.record_dim.specs.Prelude.{Fields, is_under}
-use Rattle.extents.specs.declared.order.Order.{Order}
-use Rattle.extents.specs.declared.order.Order.TheVariants.{Row}
-use Rattle.places.specs.declared.piece.Cell.{Cell}
-use Rattle.map_expr.specs.Terms.{Term, Aos, Soa, Aosoa, BitAos, BitSoa, Split, Byteswap, Bytesplit, Change, Count, Heat, Named}
+use Rattle.map_checks.specs.Words.{Fields, is_under, Order, Row, Cell, Term, Aos, Soa, Aosoa, BitAos, BitSoa, Split, Byteswap, Bytesplit, Change, Count, Heat, Named}
 
 -- the order of the base mapping to which the cells of a leaf go
 abbrev pub order_of : Term → Fields → ℕ → Order

@@ -1,7 +1,6 @@
 -- Bytes that stand each by itself, alike from slot to slot.
 use Rattle.std.specs.Prelude.{ℕ, ◌+◌, ◌*◌, ◌/◌, List, map}
-use Rattle.places.specs.declared.piece.Piece.{Piece}
-use Rattle.places.specs.declared.rule.PieceRule.{PieceRule}
+use Rattle.piece_bits.specs.Words.{Piece, PieceRule}
 
 -- the byte that stands a place behind the first one of a rule
 abbrev pub byte_of : ℕ → PieceRule → Piece

@@ -1,11 +1,5 @@
 -- What is read of a line.
-use Rattle.std.specs.Prelude.{Bool, true, false}
-use Rattle.line_grammar.specs.Prelude.{Grammar, body, extent_word, fixed, New, Sentence}
-use Rattle.extents.specs.declared.words.ExtentWord.{ExtentWord}
-use Rattle.map_expr.specs.Terms.{term_of as map_of}
-use Rattle.line_grammar.specs.declared.token.Token.{Token}
-use Rattle.line_grammar.specs.declared.line.Command.{Command}
-use Rattle.line_grammar.specs.declared.version.Version.TheVariants.{Two}
+use Rattle.schema_lang.specs.Words.{Bool, true, false, Grammar, body, extent_word, fixed, New, Sentence, ExtentWord, map_of, Token, Command, Two}
 use Rattle.schema_lang.specs.declared.bodies.New as bodies
 
 -- what makes a view

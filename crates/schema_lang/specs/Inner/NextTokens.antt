@@ -1,10 +1,6 @@
 -- The token that stands next in a text, where no bracket is open.
-use Rattle.std.specs.Prelude.{ℕ, Bool, true, false, List, Option, Some, None}
-use Rattle.line_tokens.specs.Next.{next_of}
-use Rattle.line_tokens.specs.declared.token.Next.{Next}
+use Rattle.schema_lang.specs.Words.{ℕ, Bool, true, false, List, Option, Some, None, next_of, Next, Token, token_of}
 use Rattle.line_tokens.specs.declared.token.Next.TheVariants as next
-use Rattle.line_grammar.specs.declared.token.Token.{Token}
-use Rattle.line_grammar.specs.Prelude.{token_of}
 
 -- a token, and the place behind it; a bad one is none
 abbrev pub found_token : List ℕ → Next → Option (Token × ℕ)

@@ -1,21 +1,8 @@
 -- The parts of commands.
 use Rattle.std.specs.Prelude.{◌≡◌, ℕ, ℤ, List, [], ◌∷◌, length, slice_index_or, slice_set, Option, Result, Ok, Err}
-use Rattle.expr_lang.specs.Prelude.{Term}
-use Rattle.piece_bits.specs.Prelude.{with_entry}
-use Rattle.record_dim.specs.Prelude.{Fields}
-use Rattle.map_expr.specs.Terms.{Term as MapTerm}
-use Rattle.map_expr.specs.Checks.{checked}
-use Rattle.views.specs.Prelude.{Table, answer_of, kept_of, after_log, after_stores, Write}
-use Rattle.worlds.specs.Prelude.{Entry, Tested, ◌>>=◌, LeftOf, ok_or, Done, stores, narrow_fault, row_fault, update_fault, value_on, storable, all_read, copied, made, zeros_of}
-use Rattle.csv_rows.specs.declared.fault.RowFault.{RowFault}
+use Rattle.session.specs.Words.{Term, with_entry, Fields, MapTerm, checked, Table, answer_of, kept_of, after_log, after_stores, Write, Entry, Tested, ◌>>=◌, LeftOf, ok_or, Done, stores, narrow_fault, row_fault, update_fault, value_on, storable, all_read, copied, made, zeros_of, RowFault, Setting, updated_rows, value_log, rows_log, StepFault, CommandFault, BadMapping, Mismatch, CopyFault}
 use Rattle.csv_rows.specs.declared.fault.RowFault.TheVariants as rows
-use Rattle.row_updates.specs.Rows.{Setting, updated_rows}
-use Rattle.row_updates.specs.Logs.{value_log, rows_log}
-use Rattle.command_checks.specs.declared.fault.StepFault.{StepFault}
 use Rattle.command_checks.specs.declared.fault.StepFault.TheVariants as step
-use Rattle.worlds.specs.declared.fault.CommandFault.{CommandFault}
-use Rattle.worlds.specs.declared.fault.CommandFault.TheVariants.{BadMapping, Mismatch}
-use Rattle.layout_copy.specs.declared.fault.CopyFault.{CopyFault}
 use Rattle.layout_copy.specs.declared.fault.CopyFault.TheVariants as copy
 
 -- an expression that can be a mapping, whatever its cells are

@@ -1,12 +1,8 @@
 -- The parts of an open, behind the reading of its file.
 use Rattle.std.specs.Prelude.{ℕ, ◌+◌, ◌*◌, ◌^◌, List, nat_lt, Ok}
 use Rattle.blob_file.specs.Opened.{opened, table_of_saved}
-use Rattle.blob_file.specs.declared.fault.FileFault.{FileFault}
+use Rattle.session.specs.Words.{FileFault, Table, bad_file, Tested, ◌>>=◌, refused_if, ok_or, live_bits, blob_bits, Entry, TooBig, StepFault}
 use Rattle.blob_file.specs.declared.fault.FileFault.TheVariants as cause
-use Rattle.views.specs.Prelude.{Table}
-use Rattle.worlds.specs.Prelude.{bad_file, Tested, ◌>>=◌, refused_if, ok_or, live_bits, blob_bits, Entry}
-use Rattle.worlds.specs.declared.fault.CommandFault.TheVariants.{TooBig}
-use Rattle.command_checks.specs.declared.fault.StepFault.{StepFault}
 use Rattle.command_checks.specs.declared.fault.StepFault.TheVariants as step
 
 -- a table, where its blobs have room beside those of these views

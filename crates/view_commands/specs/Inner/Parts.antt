@@ -1,22 +1,10 @@
 -- The parts of commands that may store.
 use Rattle.std.specs.Prelude.{ℕ, ◌++◌, ◌∷◌, ℤ, List, [], length, slice_index_or, Option, None, Result, Ok, Err}
-use Rattle.expr_lang.specs.Prelude.{Term}
-use Rattle.expr_lang.specs.declared.fault.EvalFault.{EvalFault}
+use Rattle.view_commands.specs.Words.{Term, EvalFault, indices, KernelFault, place_in, with_entry, rows_log, value_log, Setting, updated_of, UpdateFault, UpdateKind, Write, Table, answer_of, StoreFault, Done, stores, Tested, ◌>>=◌, ok_or, update_fault, storable, value_on}
 use Rattle.expr_lang.specs.declared.fault.EvalFault.TheVariants as eval
-use Rattle.extents.specs.Indices.{indices}
-use Rattle.lane_kernels.specs.declared.fault.KernelFault.{KernelFault}
 use Rattle.lane_kernels.specs.declared.fault.KernelFault.TheVariants as kernel
-use Rattle.linearize.specs.Slots.{place_in}
-use Rattle.piece_bits.specs.Prelude.{with_entry}
-use Rattle.row_updates.specs.Logs.{rows_log, value_log}
-use Rattle.row_updates.specs.Rows.{Setting, updated_of}
-use Rattle.row_updates.specs.declared.fault.UpdateFault.{UpdateFault}
-use Rattle.row_updates.specs.declared.fault.UpdateKind.{UpdateKind}
 use Rattle.row_updates.specs.declared.fault.UpdateKind.TheVariants as update
-use Rattle.views.specs.Prelude.{Write, Table, answer_of}
-use Rattle.views.specs.declared.fault.StoreFault.{StoreFault}
 use Rattle.views.specs.declared.fault.StoreFault.TheVariants as store
-use Rattle.worlds.specs.Prelude.{Done, stores, Tested, ◌>>=◌, ok_or, update_fault, storable, value_on}
 use Rattle.worlds.specs.declared.fault.CommandFault.TheVariants as command
 use Rattle.command_checks.specs.declared.fault.StepFault.TheVariants as step
 use Rattle.view_commands.specs.Changes.{front_left}

@@ -1,14 +1,6 @@
 -- The parts of an update by actors.
 use Rattle.std.specs.Prelude.{ℕ, ◌≡◌, ◌*◌, ◌^◌, ◌≤◌, not, nat_lt, All, IfSome, List, [], length, map, sum_by, Option, None, option_map, Ok}
-use Rattle.actor_steps.specs.Prelude.{AreCuts, actor_of, written_by, shared_byte}
-use Rattle.expr_lang.specs.Prelude.{bound_term, Term}
-use Rattle.line_grammar.specs.Prelude.{Value, Assignment}
-use Rattle.row_updates.specs.Rows.{Setting, IsBoundOver, IsSetOf, setting_of, updated_of}
-use Rattle.row_updates.specs.Logs.{update_log}
-use Rattle.views.specs.Prelude.{Table, owners_of, reads_first}
-use Rattle.worlds.specs.Prelude.{fit_cuts, shared, memory_text, bound_filter, bound_sets, each_once, leaves_of, Done, Tested, ◌>>=◌, refused_if, refused_by, ok_or, small, update_fault}
-use Rattle.worlds.specs.declared.fault.BadActors.TheVariants.{Cuts, Turns}
-use Rattle.worlds.specs.declared.fault.CommandFault.TheVariants.{BadActors}
+use Rattle.view_commands.specs.Words.{AreCuts, actor_of, written_by, shared_byte, bound_term, Term, Value, Assignment, Setting, IsBoundOver, IsSetOf, setting_of, updated_of, update_log, Table, owners_of, reads_first, fit_cuts, shared, memory_text, bound_filter, bound_sets, each_once, leaves_of, Done, Tested, ◌>>=◌, refused_if, refused_by, ok_or, small, update_fault, Cuts, Turns, BadActors}
 use Rattle.view_commands.specs.declared.by_actors.Team.{Team}
 
 -- what the words of an update stand for: its filter, and the leaves that are set

@@ -1,9 +1,6 @@
 // Tables that are moved from view to view, with no look at their numbers.
 ghost use Rattle.std.specs.Prelude.{◌≡◌, ◌+◌, ◌*◌, ◌<◌, ◌≤◌, IfSome, length};
-ghost use Rattle.blobs.specs.Moves.{blocks};
-ghost use Rattle.map_expr.specs.Terms.{uncounted};
-ghost use Rattle.map_checks.specs.Prelude.{array_of};
-ghost use Rattle.map_any.specs.Strategies.{AreRuns};
+ghost use Rattle.views.specs.Words.{blocks, uncounted, array_of, AreRuns};
 ghost use Rattle.views.specs.Moves.{blob_steps, size_of, IsInBlock, IsRunMoved, MayMove};
 
 use super::View;

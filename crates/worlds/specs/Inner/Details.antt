@@ -1,7 +1,6 @@
 -- The texts of the details of faults.
-use Rattle.std.specs.Prelude.{ℕ, List, [], ◌++◌, codes}
-use Rattle.layout_io.specs.Prelude.{digits_text}
-use Rattle.record_dim.specs.Prelude.{path_text_of}
+use Rattle.std.specs.Prelude.{◌++◌}
+use Rattle.worlds.specs.Words.{ℕ, List, [], codes, digits_text, path_text_of}
 use Rattle.worlds.specs.declared.detail.Detail.{Detail}
 use Rattle.worlds.specs.declared.detail.Detail.TheVariants.{Nothing, Text, Count, Place, Byte, Path}
 

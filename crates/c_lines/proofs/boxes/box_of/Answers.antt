@@ -1,8 +1,6 @@
-use Rattle.c_lines.proofs.Imports.{◌<◌, ℕ, List, Ok, length, length-set, Answer, refl, sym, ap, subst, ◌∙◌, arith, false≢true, told, Tested, windowed}
+use Rattle.c_lines.proofs.Imports.{◌<◌, ℕ, List, Ok, length, length-set, Answer, refl, sym, ap, subst, ◌∙◌, arith, false≢true, told, Tested, windowed, IsWindow, Span}
 use Rattle.command_checks.proofs.Inside.{windowed_goes}
 use Rattle.extents.specs.WindowLaws.{same_rank}
-use Rattle.extents.specs.Windows.{IsWindow}
-use Rattle.extents.specs.declared.window.Span.{Span}
 use Rattle.subviews.specs.SubViews.{WindowOf, rows_of}
 use Rattle.c_lines.specs.Answers.{answer_map}
 use Rattle.c_lines.specs.Boxes.{spans_of}

@@ -1,5 +1,4 @@
-use Rattle.c_lines.proofs.Imports.{rules, ◌≡◌, ◌+◌, ◌-◌, ◌*◌, ◌<◌, ◌≤◌, ◌++◌, ℕ, ℤ, pos, List, get_or, length, map, take, drop, refl, sym, ap, ◌∙◌, arith, mul-le-mul_left, length-drop, length-take-le, flat_map-append, take-put_mid, low_64, column_reads, run_of, Table, after_log, after_log-none, bytes_of_numbers, leaf_type_of, run_declared, run_length, declared_within, IsWithin64}
-use Rattle.byteorder.specs.Endian.{little_bytes, low_bytes}
+use Rattle.c_lines.proofs.Imports.{rules, ◌≡◌, ◌+◌, ◌-◌, ◌*◌, ◌<◌, ◌≤◌, ◌++◌, ℕ, ℤ, pos, List, get_or, length, map, take, drop, refl, sym, ap, ◌∙◌, arith, mul-le-mul_left, length-drop, length-take-le, flat_map-append, take-put_mid, low_64, column_reads, run_of, Table, after_log, after_log-none, bytes_of_numbers, leaf_type_of, run_declared, run_length, declared_within, IsWithin64, little_bytes, low_bytes}
 use Rattle.std.specs.Int.{w64}
 use Rattle.c_lines.proofs.CallerBytes.{bytes_of_lows}
 use Rattle.c_lines.proofs.Parts.{run_more, log_more}

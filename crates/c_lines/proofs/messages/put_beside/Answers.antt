@@ -1,5 +1,4 @@
-use Rattle.c_lines.proofs.Imports.{rules, ◌∙◌, ap, List, ℕ, Ok, SFits, to_z-of_z}
-use Rattle.std.specs.Int.{w32}
+use Rattle.c_lines.proofs.Imports.{rules, ◌∙◌, ap, List, ℕ, Ok, SFits, to_z-of_z, w32}
 use Rattle.c_lines.specs.Messages.{words_beside}
 use Rattle.c_lines.proofs.Words.{put_as, put_refused, put_told_as}
 use Rattle.c_lines.proofs.messages.put_beside.Goals as goal

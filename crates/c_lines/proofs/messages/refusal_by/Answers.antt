@@ -1,5 +1,4 @@
-use Rattle.c_lines.proofs.Imports.{rules, SFits, to_z-of_z}
-use Rattle.std.specs.Int.{w32}
+use Rattle.c_lines.proofs.Imports.{rules, SFits, to_z-of_z, w32}
 use Rattle.c_lines.proofs.messages.refusal_by.Goals as goal
 
 pub returns : goal.returns

@@ -1,5 +1,4 @@
-use Rattle.c_lines.proofs.Imports.{rules}
-use Rattle.map_expr.specs.Terms.{term_of}
+use Rattle.c_lines.proofs.Imports.{rules, term_of}
 use Rattle.c_lines.proofs.Anew.{none_made, relaid_done, relaid_not}
 use Rattle.c_lines.proofs.relayout.relaid.Goals as goal
 

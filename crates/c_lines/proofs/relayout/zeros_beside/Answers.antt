@@ -1,5 +1,4 @@
-use Rattle.c_lines.proofs.Imports.{◌≡◌, ◌∙◌, ◌*◌, [], alone, live_bits}
-use Rattle.map_expr.specs.Terms.{term_of}
+use Rattle.c_lines.proofs.Imports.{◌≡◌, ◌∙◌, ◌*◌, [], alone, live_bits, term_of}
 use Rattle.c_lines.proofs.Anew.{alone_bits, gave_answered}
 use Rattle.c_lines.proofs.Answering.{goes_ok}
 use Rattle.c_lines.proofs.relayout.zeros_beside.Goals as goal

@@ -1,7 +1,6 @@
-use Rattle.command_checks.proofs.Imports.{◌∙◌, sym, ap, term_of, schema_fields, Ok}
+use Rattle.command_checks.proofs.Imports.{◌∙◌, sym, ap, term_of, schema_fields, Ok, common_steps}
 use Rattle.command_checks.proofs.Limits.{table_new, made_goes, made_full, bits_over, bits_within}
 use Rattle.command_checks.proofs.tables.made_beside.Goals as goal
-use Rattle.std.proofs.lemmas.Grind.{common_steps}
 use Rattle.std.proofs.Common.{arith}
 
 pub returns-then-live-gt-MAX_LIVE_BYTES-clause-made : goal.returns-then-live-gt-MAX_LIVE_BYTES-clause-made

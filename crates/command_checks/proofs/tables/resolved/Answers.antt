@@ -1,6 +1,5 @@
-use Rattle.command_checks.proofs.Imports.{◌∙◌, sym, subst, List, ExtentWord, HasRows, rows_for_some, rows_for_same, resolves, resolves_not, rows_are}
+use Rattle.command_checks.proofs.Imports.{◌∙◌, sym, subst, List, ExtentWord, HasRows, rows_for_some, rows_for_same, resolves, resolves_not, rows_are, common_steps}
 use Rattle.command_checks.proofs.tables.resolved.Goals as goal
-use Rattle.std.proofs.lemmas.Grind.{common_steps}
 use Rattle.std.proofs.Common.{arith}
 
 pub resolve-requires : goal.resolve-requires

@@ -1,10 +1,9 @@
-use Rattle.layout_copy.proofs.Imports.{rules, ◌∙◌, sym, Table, after_log-none, AreAlike}
+use Rattle.layout_copy.proofs.Imports.{rules, ◌∙◌, sym, Table, after_log-none, AreAlike, common_steps}
 use Rattle.map_any.specs.declared.strategy.Strategy.TheVariants as way
 use Rattle.layout_copy.proofs.WayLaws.{moved_way}
 use Rattle.layout_copy.proofs.Whole.{fields_steps, blobs_copied, runs_copied, runs_back}
 use Rattle.layout_copy.proofs.copies.copy.Goals as goal
 use Rattle.layout_copy.proofs.copies.copy.Goals.{in-Blobs, in-Runs}
-use Rattle.std.proofs.lemmas.Grind.{common_steps}
 use Rattle.std.proofs.Common.{arith}
 
 pub returns-then-not-are_alike-clause-source : goal.returns-then-not-are_alike-clause-source

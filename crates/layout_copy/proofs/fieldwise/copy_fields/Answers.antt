@@ -1,8 +1,7 @@
-use Rattle.layout_copy.proofs.Imports.{arith, ◌≡◌, ◌<◌, ◌∙◌, ℕ, List, length, refl, ap, sym, indices, leaf_count_of, after_log-none}
+use Rattle.layout_copy.proofs.Imports.{arith, ◌≡◌, ◌<◌, ◌∙◌, ℕ, List, length, refl, ap, sym, indices, leaf_count_of, after_log-none, common_steps}
 use Rattle.layout_copy.proofs.Rows.{reads_after, row_read, none_copied, row_copied, row_refused, steps_more}
 use Rattle.layout_copy.proofs.Whole.{rows_copied}
 use Rattle.layout_copy.proofs.fieldwise.copy_fields.Goals as goal
-use Rattle.std.proofs.lemmas.Grind.{common_steps}
 
 pub returns-then-may_go_by_runs-clause-copied : goal.returns-then-may_go_by_runs-clause-copied
 returns-then-may_go_by_runs-clause-copied g c =

@@ -1,7 +1,6 @@
-use Rattle.layout_copy.proofs.Imports.{arith, get_or, is_ok, to_z-of_z, told_same, after_log-none}
+use Rattle.layout_copy.proofs.Imports.{arith, get_or, is_ok, to_z-of_z, told_same, after_log-none, common_steps}
 use Rattle.layout_copy.proofs.Rows.{leaf_read, leaf_refused, read_more}
 use Rattle.layout_copy.proofs.fieldwise.read_row.Goals as goal
-use Rattle.std.proofs.lemmas.Grind.{common_steps}
 
 pub loop-leaf-init : goal.loop-leaf-init
 loop-leaf-init g c = grind (arith, common_steps, after_log-none)

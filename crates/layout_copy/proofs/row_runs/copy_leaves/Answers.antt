@@ -1,9 +1,8 @@
-use Rattle.layout_copy.proofs.Imports.{◌≡◌, length, get_or, refl, ap, arith, no_leaf_moved, leaf_moved, stores_quiet, steps_few, Table, AreAlike}
+use Rattle.layout_copy.proofs.Imports.{◌≡◌, length, get_or, refl, ap, arith, no_leaf_moved, leaf_moved, stores_quiet, steps_few, Table, AreAlike, common_steps}
 use Rattle.layout_copy.proofs.RowRuns.{alike_after, same_rows, leaf_steps}
 use Rattle.layout_copy.proofs.row_runs.copy_leaves.Goals as goal
 use Rattle.layout_copy.proofs.row_runs.copy_leaves.Goals.{After-laws_of_table-in-loop-leaf}
 use Rattle.layout_copy.proofs.row_runs.copy_leaves.Given.{Over}
-use Rattle.std.proofs.lemmas.Grind.{common_steps}
 
 alike_here : (g : Over) (c : After-laws_of_table-in-loop-leaf g) → AreAlike c.args.source.now c.loop-leaf.target
 alike_here g c = alike_after c.args.source.now c.args.target.now c.args.source.now c.loop-leaf.target c.requires.alike refl c.loop-leaf.invariant.same

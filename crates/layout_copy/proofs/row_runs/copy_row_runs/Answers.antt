@@ -1,7 +1,6 @@
-use Rattle.layout_copy.proofs.Imports.{◌≡◌, ◌∙◌, ℕ, List, length, sym, ap, subst, arith, indices, CountsNothing, nothing_after, AllTake}
+use Rattle.layout_copy.proofs.Imports.{◌≡◌, ◌∙◌, ℕ, List, length, sym, ap, subst, arith, indices, CountsNothing, nothing_after, AllTake, common_steps}
 use Rattle.layout_copy.proofs.RowRuns.{alike_after, all_before}
 use Rattle.layout_copy.proofs.row_runs.copy_row_runs.Goals as goal
-use Rattle.std.proofs.lemmas.Grind.{common_steps}
 
 pub copy_leaves-requires-clause-alike : goal.copy_leaves-requires-clause-alike
 copy_leaves-requires-clause-alike g c = grind (arith, common_steps, alike_after)

@@ -1,8 +1,7 @@
-use Rattle.layout_copy.proofs.Imports.{ℕ, List, arith, same_slots, rows_after, Table, leaf_sizes}
+use Rattle.layout_copy.proofs.Imports.{ℕ, List, arith, same_slots, rows_after, Table, leaf_sizes, common_steps}
 use Rattle.layout_copy.proofs.CostLaws.{cut_at, round_counted}
 use Rattle.layout_copy.proofs.Pieces.{piece_moved, all_below, order_slots, has_slots, all_steps, steps_of_round}
 use Rattle.layout_copy.proofs.runs.copy_rounds.Goals as goal
-use Rattle.std.proofs.lemmas.Grind.{common_steps}
 
 pub round_count-count-requires-clause-to_lanes : goal.round_count-count-requires-clause-to_lanes
 round_count-count-requires-clause-to_lanes g c = grind (arith, common_steps, same_slots)

@@ -1,8 +1,7 @@
-use Rattle.layout_copy.proofs.Imports.{rules, arith, ◌≡◌, ◌<◌, ◌∙◌, ⊎_elim, List, length, Some, sym, ap, slice_get, cases_lt, length-map, Leaf, leaves, kinds_of, Fields, Hold, length-leaf_cells, leaf_types_of, table_holds}
+use Rattle.layout_copy.proofs.Imports.{rules, arith, ◌≡◌, ◌<◌, ◌∙◌, ⊎_elim, List, length, Some, sym, ap, slice_get, cases_lt, length-map, Leaf, leaves, kinds_of, Fields, Hold, length-leaf_cells, leaf_types_of, table_holds, common_steps}
 use Rattle.layout_copy.proofs.WayLaws.{own_read, read_own}
 use Rattle.layout_copy.proofs.ways.has_own_holds.Goals as goal
 use Rattle.layout_copy.proofs.ways.has_own_holds.Goals.{After-of}
-use Rattle.std.proofs.lemmas.Grind.{common_steps}
 
 pub hold-requires : goal.hold-requires
 hold-requires c = grind (arith, common_steps, leaves, length-leaf_cells, length-map)

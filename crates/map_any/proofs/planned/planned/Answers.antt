@@ -1,7 +1,6 @@
-use Rattle.map_any.proofs.Imports.{term_of, good_numbers}
+use Rattle.map_any.proofs.Imports.{term_of, good_numbers, common_steps}
 use Rattle.map_any.proofs.Built.{accepted_numbers, built_nameless}
 use Rattle.map_any.proofs.planned.planned.Goals as goal
-use Rattle.std.proofs.lemmas.Grind.{common_steps}
 use Rattle.std.proofs.Common.{arith}
 
 pub check-requires : goal.check-requires

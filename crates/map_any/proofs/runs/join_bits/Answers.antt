@@ -1,8 +1,7 @@
-use Rattle.map_any.proofs.Imports.{get_or, append_assoc, arith, drop_more}
+use Rattle.map_any.proofs.Imports.{get_or, append_assoc, arith, drop_more, common_steps}
 use Rattle.map_any.proofs.RunLaws.{run_longer, run_ends}
 use Rattle.map_any.proofs.runs.join_bits.Goals as goal
 use Rattle.map_any.proofs.runs.join_bits.Goals.{then-is_next, else-is_next+in_ok-push}
-use Rattle.std.proofs.lemmas.Grind.{common_steps}
 
 pub loop-bit-preserved : goal.loop-bit-preserved
 loop-bit-preserved c = grind (arith, common_steps, get_or, drop_more, then-is_next, run_longer, else-is_next+in_ok-push, append_assoc, run_ends)

@@ -1,8 +1,7 @@
-use Rattle.map_any.proofs.Imports.{◌≡◌, ◌∙◌, ◌/◌, List, get_or, ap, kinds_of, schema_fields, Piece, begin_in, PieceRule, term_of, leaf_cells}
+use Rattle.map_any.proofs.Imports.{◌≡◌, ◌∙◌, ◌/◌, List, get_or, ap, kinds_of, schema_fields, Piece, begin_in, PieceRule, term_of, leaf_cells, common_steps}
 use Rattle.map_any.proofs.ArrayLaws.{piece_fits, array_place}
 use Rattle.map_any.proofs.any.AnyMap.place_of.Goals as goal
 use Rattle.map_any.proofs.any.AnyMap.place_of.Goals.{After-index-as_slice-0}
-use Rattle.std.proofs.lemmas.Grind.{common_steps}
 use Rattle.std.proofs.Common.{arith}
 
 -- the rule that is read is the first of the leaf

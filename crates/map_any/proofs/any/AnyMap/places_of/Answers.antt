@@ -1,9 +1,8 @@
-use Rattle.map_any.proofs.Imports.{rules, ◌≡◌, ◌<◌, ◌∙◌, ◌*◌, ◌/◌, ◌%◌, ℕ, get_or, ap, subst, arith, kinds_of, schema_fields, Piece, begin_in, PieceRule, term_of, leaf_cells}
+use Rattle.map_any.proofs.Imports.{rules, ◌≡◌, ◌<◌, ◌∙◌, ◌*◌, ◌/◌, ◌%◌, ℕ, get_or, ap, subst, arith, kinds_of, schema_fields, Piece, begin_in, PieceRule, term_of, leaf_cells, common_steps}
 use Rattle.map_any.proofs.ArrayLaws.{piece_fits}
 use Rattle.map_any.proofs.EvenLaws.{array_places}
 use Rattle.map_any.proofs.any.AnyMap.places_of.Goals as goal
 use Rattle.map_any.proofs.any.AnyMap.places_of.Goals.{After-index-as_slice-0}
-use Rattle.std.proofs.lemmas.Grind.{common_steps}
 
 -- the rule that is read is the first of the leaf
 first : (c : goal.After-index-as_slice-0) → c.index-as_slice-0.result ≡ get_or c.leaf_rule.result.now.rule.pieces.items 0 c.index-as_slice-0.result

@@ -1,8 +1,7 @@
-use Rattle.map_any.proofs.Imports.{◌≡◌, ℕ, ◌+◌, ◌-◌, ◌<◌, ◌≤◌, List, ◌∷◌, map, length, get_or, drop, sym, ap, ◌∙◌, subst, arith, flat_map, range_with_len, drop_more, drop_all, indices, Owner, Bit, owners_in, IsLaidOut, spells_split, bits_located, Hold, Piece, RunOwner, IsFilled, IsShown, ShowBelow}
+use Rattle.map_any.proofs.Imports.{◌≡◌, ℕ, ◌+◌, ◌-◌, ◌<◌, ◌≤◌, List, ◌∷◌, map, length, get_or, drop, sym, ap, ◌∙◌, subst, arith, flat_map, range_with_len, drop_more, drop_all, indices, Owner, Bit, owners_in, IsLaidOut, spells_split, bits_located, Hold, Piece, RunOwner, IsFilled, IsShown, ShowBelow, common_steps}
 use Rattle.map_any.proofs.Filling.{layout_in, width_in, laid_in, narrow_in, filled_self, filled_twice, piece_filled, shows_piece, shows_other, shows_all}
 use Rattle.map_any.proofs.any.AnyMap.show_cell.Goals as goal
 use Rattle.map_any.proofs.any.AnyMap.show_cell.Goals.{then-piece-blob, else-piece-blob}
-use Rattle.std.proofs.lemmas.Grind.{common_steps}
 
 pub loop-piece-init : goal.loop-piece-init
 loop-piece-init c = grind (arith, common_steps, flat_map, range_with_len, filled_self)

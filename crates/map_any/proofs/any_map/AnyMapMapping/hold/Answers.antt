@@ -1,7 +1,6 @@
-use Rattle.map_any.proofs.Imports.{ℕ, ◌≡◌, ◌<◌, List, length, slice_get, sym, subst, arith, slice_get-get_or, schema_fields, kinds_of, Hold, term_of, AnyMap, leaf_cells}
+use Rattle.map_any.proofs.Imports.{ℕ, ◌≡◌, ◌<◌, List, length, slice_get, sym, subst, arith, slice_get-get_or, schema_fields, kinds_of, Hold, term_of, AnyMap, leaf_cells, common_steps}
 use Rattle.map_any.proofs.AnyFacts.{hold_in}
 use Rattle.map_any.proofs.any_map.AnyMapMapping.hold.Goals as goal
-use Rattle.std.proofs.lemmas.Grind.{common_steps}
 
 inside : (m : AnyMap) (holds : List Hold) (cell : ℕ) → holds ≡ m.holds → cell < length (leaf_cells (kinds_of (schema_fields m.schema))) → cell < length holds
 inside m holds cell is low =

@@ -1,6 +1,5 @@
-use Rattle.map_any.proofs.Imports.{slice_get, arith, length-map, leaves, length-leaf_cells, leaf_cells_kinds}
+use Rattle.map_any.proofs.Imports.{slice_get, arith, length-map, leaves, length-leaf_cells, leaf_cells_kinds, common_steps}
 use Rattle.map_any.proofs.any_map.AnyMapMapping.kind.Goals as goal
-use Rattle.std.proofs.lemmas.Grind.{common_steps}
 
 pub leaf_type-requires : goal.leaf_type-requires
 leaf_type-requires c = grind (arith, common_steps, leaves, length-leaf_cells, length-map)

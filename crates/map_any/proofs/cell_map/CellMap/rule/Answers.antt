@@ -1,7 +1,6 @@
-use Rattle.map_any.proofs.Imports.{◌≡◌, ◌<◌, ◌∙◌, ℕ, List, length, get_or, ap, arith, schema_fields, term_of, Rule, CellMap}
+use Rattle.map_any.proofs.Imports.{◌≡◌, ◌<◌, ◌∙◌, ℕ, List, length, get_or, ap, arith, schema_fields, term_of, Rule, CellMap, common_steps}
 use Rattle.map_any.proofs.CellFacts.{has_rule, rule_in}
 use Rattle.map_any.proofs.cell_map.CellMap.rule.Goals as goal
-use Rattle.std.proofs.lemmas.Grind.{common_steps}
 
 inside : (m : CellMap) (rules : List Rule) (cell : ℕ) → rules ≡ m.plan.rules → cell < length m.cells.items → cell < length rules
 inside m rules cell is low = grind (arith, has_rule)

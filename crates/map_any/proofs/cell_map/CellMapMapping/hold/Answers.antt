@@ -1,6 +1,5 @@
-use Rattle.map_any.proofs.Imports.{◌∙◌, List, slice_get, sym, ap, arith, Hold, cell_holds}
+use Rattle.map_any.proofs.Imports.{◌∙◌, List, slice_get, sym, ap, arith, Hold, cell_holds, common_steps}
 use Rattle.map_any.proofs.cell_map.CellMapMapping.hold.Goals as goal
-use Rattle.std.proofs.lemmas.Grind.{common_steps}
 
 pub hold_at-requires : goal.hold_at-requires
 hold_at-requires c = grind (arith, common_steps, cell_holds)

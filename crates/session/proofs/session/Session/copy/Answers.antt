@@ -1,5 +1,4 @@
-use Rattle.session.proofs.Imports.{rules, ◌≡◌, ◌∙◌, map, Err, refl, sym, subst, copy, Left, view_of, GivesUp, GivesUp-then, goes_then, IsAt, known_place, world_of, Tested}
-use Rattle.view_commands.specs.ExitsLaws.{goes_gives}
+use Rattle.session.proofs.Imports.{rules, ◌≡◌, ◌∙◌, map, Err, refl, sym, subst, copy, Left, view_of, GivesUp, GivesUp-then, goes_then, IsAt, known_place, world_of, Tested, goes_gives}
 use Rattle.session.proofs.Copies.{first_of, copy_in}
 use Rattle.session.proofs.CopySteps.{copy_within, no_copy}
 use Rattle.session.proofs.Named.{gives_up_still}

@@ -1,5 +1,4 @@
-use Rattle.session.proofs.Imports.{rules, ◌≡◌, ◌∙◌, List, [], Err, refl, sym, ap, subst, term_of, Table, relayout, laid_anew, Entry, view_of, GivesUp, GivesUp-then, goes_then, IsAt, known_at, known_place, ViewEntry, world_of, laid_pair, Ok, Tested}
-use Rattle.view_commands.specs.ExitsLaws.{goes_gives}
+use Rattle.session.proofs.Imports.{rules, ◌≡◌, ◌∙◌, List, [], Err, refl, sym, ap, subst, term_of, Table, relayout, laid_anew, Entry, view_of, GivesUp, GivesUp-then, goes_then, IsAt, known_at, known_place, ViewEntry, world_of, laid_pair, Ok, Tested, goes_gives}
 use Rattle.session.proofs.Named.{table_changed}
 use Rattle.session.proofs.Copies.{first_of, laid_at, made_at}
 use Rattle.session.proofs.CopySteps.{laid_within, none_taken}
