@@ -4,3 +4,4 @@ pub mod MortonLemmas
 pub mod PairLemmas
 pub mod SlotLemmas
 pub mod SpreadLemmas
+pub mod Auto

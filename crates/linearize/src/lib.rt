@@ -1,5 +1,5 @@
 //! Orders: where the index of an array stands among the slots of memory. Nothing here takes memory.
-#![tactic(auto)]
+#![tactic(auto, using(std::proofs::lemmas::Grind::common_steps, crate::proofs::Auto::steps))]
 
 ghost use Rattle.std.specs.Prelude.{◌≡◌, ◌-◌, ◌*◌, ◌^◌, ◌<◌, ◌≤◌, ◌↔◌, ℕ, List, length, fold, max, min, reverse, All, IfSome, IsNone, IsSomeAnd, Some, slice_get};
 ghost use Rattle.extents.specs.Indices.{indices, product, IsInside};

@@ -1,11 +1,7 @@
 use Rattle.linearize.proofs.Imports.{arith}
-use Rattle.linearize.proofs.MortonLemmas.{digits_for_is, digits_from_log}
+use Rattle.linearize.proofs.MortonLemmas.{digits_for_is}
 use Rattle.linearize.proofs.digits_for.Goals as goal
-use Rattle.std.proofs.lemmas.Grind.{common_steps}
 
 pub returns-then-greatest-le1-clause-value : goal.returns-then-greatest-le1-clause-value
 returns-then-greatest-le1-clause-value c =
     digits_for_is c.args.extents.now c.greatest-greatest.result 0 c.greatest-greatest.ensures (omega arith) (λ b none. absurd (omega arith))
-
-pub returns-else-greatest-le1-clause-value : goal.returns-else-greatest-le1-clause-value
-returns-else-greatest-le1-clause-value c = grind (arith, common_steps, digits_from_log)

@@ -1,7 +1,6 @@
-use Rattle.linearize.proofs.Imports.{arith, row_turn, row_end, row_so_far_le}
-use Rattle.linearize.proofs.SlotLemmas.{place_is, place_fits}
+use Rattle.linearize.proofs.Imports.{arith, row_turn, row_so_far_le}
+use Rattle.linearize.proofs.SlotLemmas.{place_fits}
 use Rattle.linearize.proofs.place_by_rows.Goals as goal
-use Rattle.std.proofs.lemmas.Grind.{common_steps}
 
 pub overflow_mul-place : goal.overflow_mul-place
 overflow_mul-place c =
@@ -14,6 +13,3 @@ overflow_add-place c =
     let s = c.in-Some.ensures.steps in
     let turn = row_turn _ _ _ _ _ _ _ _ s.1 s.0 c.loop-component.invariant.2 in
     omega (arith, row_so_far_le _ _ _ _ turn, place_fits c.args.extents.now c.args.index.now c.requires.few c.requires.inside)
-
-pub returns : goal.returns
-returns c = grind (arith, common_steps, row_end, place_is)
