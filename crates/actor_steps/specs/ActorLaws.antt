@@ -1,6 +1,6 @@
 -- After every schedule the memory is that of the plain update.
 use Rattle.std.specs.Prelude.{◌≡◌, ℕ, zero, suc, ◌+◌, ◌/◌, ◌%◌, ◌<◌, ◌≤◌, Bool, true, false, ℤ, List, [], ◌∷◌, length, map, filter, get_or, refl, None, ◌==◌, ◌&&◌, ◌||◌, if◌then◌else◌}
-use Rattle.actor_steps.specs.Words.{sym, ap, ◌∙◌, subst, ⊎_elim, arith, flat_map, list_any, range_with_len, bit_at, cases_lt, cases_eq, and_parts, eqb-true, get_or_past, get_or-map, length-map, Owner, Pad, Bit, owner_at, entry, digit, bit_in, Setting}
+use Rattle.actor_steps.specs.Imports.{sym, ap, ◌∙◌, subst, ⊎_elim, arith, flat_map, list_any, range_with_len, bit_at, cases_lt, cases_eq, and_parts, eqb-true, get_or_past, get_or-map, length-map, Owner, Pad, Bit, owner_at, entry, digit, bit_in, Setting}
 use Rattle.actor_steps.specs.Confluence.{Actor, State, scheduled}
 use Rattle.actor_steps.specs.ConfluenceLaws.{Each, Alone, made_all, loaded_all, made_all-append, loaded_all-append, ended, IsMerged, merged-schedule, ended-schedule}
 use Rattle.actor_steps.specs.Micro.{Place, byte_at, Job, Micro, Fetch, Load, Store, Registers, row_in, row_as_it_stands, value_kept_on, with_bits_of, stored, loaded, all_bytes, is_bit_of, owners_of_byte, places_of, lets_through, read_leaves, fetches, changes, stores_of, row_steps, steps_of}

@@ -1,6 +1,6 @@
 -- No schedule of the actors of an update matters.
 use Rattle.std.specs.Prelude.{ℕ, ◌≡◌, ℤ, List, [], length, map, slice_index_or, Option, None, Ok}
-use Rattle.actor_steps.specs.Words.{Term, IsLaidOut, AreLaid, table_in, declared_table, Table, IsTable, owners_of, leaf_types_of, table_holds, Setting, updated_of}
+use Rattle.actor_steps.specs.Imports.{Term, IsLaidOut, AreLaid, table_in, declared_table, Table, IsTable, owners_of, leaf_types_of, table_holds, Setting, updated_of}
 use Rattle.actor_steps.specs.Confluence.{State}
 use Rattle.actor_steps.specs.Micro.{Job, Micro, Registers}
 use Rattle.actor_steps.specs.Cuts.{AreCuts, actor_of}

@@ -1,6 +1,6 @@
 -- After every schedule and what it left the bytes are those of the plain update.
 use Rattle.std.specs.Prelude.{◌≡◌, ℕ, ◌<◌, ℤ, List, [], length, map, get_or, Option, Ok, refl}
-use Rattle.actor_steps.specs.Words.{sym, ap, ◌∙◌, subst, arith, length-map, Term, index_at, Leaf, leaves, Owner, Pad, Bit, owner_at, digit, entry, bit_held, IsImage, IsLaidOut, Hold, bit_in, HasShape, hold_at, table_in, kind_at, declared_table, Stays, stays_kept, image_table, Table, owners_of, leaf_types_of, table_holds, leaf_count_of, answer_of, kept_of, answer_stays, Setting, updated_of}
+use Rattle.actor_steps.specs.Imports.{sym, ap, ◌∙◌, subst, arith, length-map, Term, index_at, Leaf, leaves, Owner, Pad, Bit, owner_at, digit, entry, bit_held, IsImage, IsLaidOut, Hold, bit_in, HasShape, hold_at, table_in, kind_at, declared_table, Stays, stays_kept, image_table, Table, owners_of, leaf_types_of, table_holds, leaf_count_of, answer_of, kept_of, answer_stays, Setting, updated_of}
 use Rattle.actor_steps.specs.Bytes.{IsMemory}
 use Rattle.actor_steps.specs.HeldLaws.{digit_held, IsHeld}
 use Rattle.actor_steps.specs.RowLaws.{IsSound, IsWork, row_entries}

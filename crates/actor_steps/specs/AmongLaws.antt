@@ -1,6 +1,6 @@
 -- Which bytes hold a bit of a leaf in a row.
 use Rattle.std.specs.Prelude.{◌≡◌, ℕ, zero, suc, ◌+◌, ◌*◌, ◌/◌, ◌%◌, ◌<◌, ◌≤◌, Bool, true, false, List, [], ◌∷◌, ◌++◌, length, map, filter, get_or, All, refl, ◌==◌, ◌||◌, if◌then◌else◌}
-use Rattle.actor_steps.specs.Words.{sym, ap, ◌∙◌, ⊎_elim, arith, flat_map, list_any, range_with_len, cases_eq, cases_lt, cases_Bool, and_from, and_parts, or_left, or_right, eq-eqb, eqb-true, cond-true, cond-false, length-take, length-drop, get_or-take, get_or-drop, get_or_past, list_any-append, list_any_at, Owner, Pad, Bit, owner_at}
+use Rattle.actor_steps.specs.Imports.{sym, ap, ◌∙◌, ⊎_elim, arith, flat_map, list_any, range_with_len, cases_eq, cases_lt, cases_Bool, and_from, and_parts, or_left, or_right, eq-eqb, eqb-true, cond-true, cond-false, length-take, length-drop, get_or-take, get_or-drop, get_or_past, list_any-append, list_any_at, Owner, Pad, Bit, owner_at}
 use Rattle.actor_steps.specs.Micro.{Place, bytes_in, all_bytes, is_bit_of, owners_of_byte, places_of}
 use Rattle.actor_steps.specs.Bytes.{IsByte}
 use Rattle.actor_steps.specs.SweepLaws.{is_place, is_among, AreBytesOf}

@@ -1,6 +1,6 @@
 -- The bytes of a layout, and memory that has them.
 use Rattle.std.specs.Prelude.{ℕ, ◌+◌, ◌*◌, ◌<◌, ◌≤◌, List, [], length, get_or}
-use Rattle.actor_steps.specs.Words.{Owner, AreBytes, AreSized}
+use Rattle.actor_steps.specs.Imports.{Owner, AreBytes, AreSized}
 use Rattle.actor_steps.specs.Micro.{Place}
 
 -- a place is one of the bytes of a layout

@@ -1,6 +1,6 @@
 -- One byte of memory and its bits.
 use Rattle.std.specs.Prelude.{◌≡◌, ℕ, ◌<◌, List, [], get_or, set}
-use Rattle.actor_steps.specs.Words.{arith, cases_eq, cases_lt, get_or-set_same, get_or-set_other, length-set, set_past, Owner, AreBytes, AreSized}
+use Rattle.actor_steps.specs.Imports.{arith, cases_eq, cases_lt, get_or-set_same, get_or-set_other, length-set, set_past, Owner, AreBytes, AreSized}
 use Rattle.actor_steps.specs.Micro.{Place, byte_at, with_byte}
 use Rattle.actor_steps.specs.Bytes.{IsByte}
 

@@ -1,6 +1,6 @@
 -- Actors that make micro-steps on bytes of their own: whatever the schedule, each byte is what its owner alone makes of it.
 use Rattle.std.specs.Prelude.{◌≡◌, ℕ, ◌<◌, ◌≤◌, Bool, true, false, List, [], ◌∷◌, ◌++◌, length, get_or, set, refl, slice_index_or, if◌then◌else◌, ◌==◌}
-use Rattle.actor_steps.specs.Words.{sym, ap, ◌∙◌, subst, ⊎_elim, fun_ext, cases_eq, cases_lt, eq-eqb, eqb-true, get_or-set_same, get_or-set_other, get_or_past, arith}
+use Rattle.actor_steps.specs.Imports.{sym, ap, ◌∙◌, subst, ⊎_elim, fun_ext, cases_eq, cases_lt, eq-eqb, eqb-true, get_or-set_same, get_or-set_other, get_or_past, arith}
 use Rattle.actor_steps.specs.Confluence.{Actor, State, moved, turned, scheduled}
 
 -- a fact of each item

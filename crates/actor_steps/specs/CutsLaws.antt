@@ -1,6 +1,6 @@
 -- Cuts of the rows among actors, and the micro-steps that are left of a run.
 use Rattle.std.specs.Prelude.{◌≡◌, ℕ, zero, suc, ◌+◌, ◌<◌, ◌≤◌, Bool, true, false, List, [], ◌∷◌, ◌++◌, length, get_or, set, replicate, refl, nat_le, ◌==◌, if◌then◌else◌, slice_index_or}
-use Rattle.actor_steps.specs.Words.{sym, ap, ◌∙◌, ⊎_elim, arith, and_parts, leb-true, cases_lt, cases_eq, le-leb, lt-leb, eq-eqb, eqb-true, get_or-set_same, get_or-set_other, get_or_past}
+use Rattle.actor_steps.specs.Imports.{sym, ap, ◌∙◌, ⊎_elim, arith, and_parts, leb-true, cases_lt, cases_eq, le-leb, lt-leb, eq-eqb, eqb-true, get_or-set_same, get_or-set_other, get_or_past}
 use Rattle.actor_steps.specs.Confluence.{Actor, State, moved, turned, scheduled}
 use Rattle.actor_steps.specs.Cuts.{actor_of, AreCuts, are_cuts, parts_from}
 use Rattle.actor_steps.specs.Schedules.{turns_from, turns_left}

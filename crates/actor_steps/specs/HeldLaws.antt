@@ -1,6 +1,6 @@
 -- Memory that holds the digits of entries, and what is read off it.
 use Rattle.std.specs.Prelude.{◌≡◌, ℕ, ◌<◌, Bool, true, false, ℤ, pos, List, length, map, get_or, refl, ◌==◌, ◌&&◌, if◌then◌else◌}
-use Rattle.actor_steps.specs.Words.{sym, ap, ◌∙◌, subst, arith, and_parts, eqb-true, length-map, Owner, Pad, Bit, owner_at, digit, decoded, entry, bit_owned, IsBitOf, IsLaidOut, written_bit, width_at, number_same, owned_is, Hold, HasShape, hold_at, table_in, table_shape, entry_is, declared, held, kind_at, declared_shape, declared_entry, bit_in}
+use Rattle.actor_steps.specs.Imports.{sym, ap, ◌∙◌, subst, arith, and_parts, eqb-true, length-map, Owner, Pad, Bit, owner_at, digit, decoded, entry, bit_owned, IsBitOf, IsLaidOut, written_bit, width_at, number_same, owned_is, Hold, HasShape, hold_at, table_in, table_shape, entry_is, declared, held, kind_at, declared_shape, declared_entry, bit_in}
 use Rattle.actor_steps.specs.Micro.{Job, row_in}
 
 -- the digit that an owner holds of some entries

@@ -1,6 +1,6 @@
 -- The actors of an update of a view's table.
 use Rattle.std.specs.Prelude.{ℕ, ◌+◌, List, length, map, replicate, Option}
-use Rattle.actor_steps.specs.Words.{Term, image, bytes_of, Table, owners_of, leaf_types_of, table_holds, kept_of, blob_lengths, Setting}
+use Rattle.actor_steps.specs.Imports.{Term, image, bytes_of, Table, owners_of, leaf_types_of, table_holds, kept_of, blob_lengths, Setting}
 use Rattle.actor_steps.specs.Confluence.{State}
 use Rattle.actor_steps.specs.Micro.{Job, Micro, Registers}
 use Rattle.actor_steps.specs.Schedules.{schedule_of, started, run_by}

@@ -1,6 +1,6 @@
 -- Padding stays 0: memory, and the bytes that are loaded of it, after any schedule.
 use Rattle.std.specs.Prelude.{◌≡◌, ℕ, zero, suc, ◌+◌, ◌*◌, ◌/◌, ◌%◌, ◌<◌, Bool, true, false, ℤ, List, [], ◌∷◌, ◌++◌, map, get_or, set, refl, ◌==◌, if◌then◌else◌, slice_index_or}
-use Rattle.actor_steps.specs.Words.{ap, ◌∙◌, arith, flat_map, range_with_len, bit_at, cases_eq, cases_lt, and_parts, eqb-true, get_or-set_same, get_or-set_other, set_past, Owner, Pad, owner_at, bit_in, bit_of_byte, AreLaid, Setting}
+use Rattle.actor_steps.specs.Imports.{ap, ◌∙◌, arith, flat_map, range_with_len, bit_at, cases_eq, cases_lt, and_parts, eqb-true, get_or-set_same, get_or-set_other, set_past, Owner, Pad, owner_at, bit_in, bit_of_byte, AreLaid, Setting}
 use Rattle.actor_steps.specs.Confluence.{Actor, State, moved, turned}
 use Rattle.actor_steps.specs.Micro.{Place, byte_at, with_byte, Job, Micro, Fetch, Load, Store, Registers, row_in, value_kept_on, with_bits_of, stored, loaded, places_of, lets_through, read_leaves, fetches, changes, stores_of, row_steps, steps_of}
 use Rattle.actor_steps.specs.Bytes.{IsByte}

@@ -22,4 +22,4 @@ pub mod Agree
 pub mod AgreeLaws
 pub mod Bytes
 pub mod Prelude
-pub mod Words
+pub mod Imports

@@ -1,6 +1,6 @@
 -- The bytes of an image, and the memory that has its bits.
 use Rattle.std.specs.Prelude.{◌≡◌, ℕ, ◌+◌, ◌*◌, ◌/◌, ◌%◌, ◌^◌, ◌<◌, ◌≤◌, All, ℤ, List, [], length, map, get_or, replicate, refl}
-use Rattle.actor_steps.specs.Words.{sym, ap, ◌∙◌, subst, ⊎_elim, arith, bit_at, cases_lt, length-map, length-replicate, get_or-replicate, get_or_past, ext_get_or, length-map-range_with_len, get_or-map-range_with_len, bit_at-zero, Owner, Pad, owner_at, number, entry, bit_held, image, IsImage, number_same, number_lt, number_bits, bit_number, digit_lt, bit_of, bit_in, AreBytes, bit_of_byte, bytes_of, AreSized, AreLaid, blob_lengths}
+use Rattle.actor_steps.specs.Imports.{sym, ap, ◌∙◌, subst, ⊎_elim, arith, bit_at, cases_lt, length-map, length-replicate, get_or-replicate, get_or_past, ext_get_or, length-map-range_with_len, get_or-map-range_with_len, bit_at-zero, Owner, Pad, owner_at, number, entry, bit_held, image, IsImage, number_same, number_lt, number_bits, bit_number, digit_lt, bit_of, bit_in, AreBytes, bit_of_byte, bytes_of, AreSized, AreLaid, blob_lengths}
 use Rattle.std.proofs.Math.ListN.{get_or-map}
 use Rattle.actor_steps.specs.Bytes.{IsMemory}
 use Rattle.actor_steps.specs.HeldLaws.{digit_held, IsHeld}

@@ -1,6 +1,6 @@
 -- What actors do to the bytes of a view in an update, one micro-step at a time.
 use Rattle.std.specs.Prelude.{ℕ, ◌+◌, ◌*◌, ◌/◌, ◌==◌, Bool, true, ℤ, pos, List, [], ◌∷◌, ◌++◌, length, map, filter, take, drop, slice_index_or, slice_set, Option, Some, None, Result, Ok, Err, if◌then◌else◌}
-use Rattle.actor_steps.specs.Words.{flat_map, range_with_len, list_any, bit_at, LeafType, Term, outcome_of, is_true, EvalFault, index_at, Owner, owner_at, number, written_bit, Hold, table_in, declared_table, Keeping, Setting}
+use Rattle.actor_steps.specs.Imports.{flat_map, range_with_len, list_any, bit_at, LeafType, Term, outcome_of, is_true, EvalFault, index_at, Owner, owner_at, number, written_bit, Hold, table_in, declared_table, Keeping, Setting}
 pub use Rattle.places.specs.Prelude.{is_bit_of}
 pub use Rattle.actor_steps.specs.declared.place.Place.{Place}
 

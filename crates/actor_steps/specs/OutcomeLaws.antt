@@ -1,6 +1,6 @@
 -- The value of an expression depends on the leaves alone that it reads.
 use Rattle.std.specs.Prelude.{◌≡◌, ℕ, ℤ, pos, List, [], ◌∷◌, ◌++◌, get_or, Result, Ok, Err, Option, Some, None, refl, neg_ℤ, not}
-use Rattle.actor_steps.specs.Words.{sym, ap, ◌∙◌, subst, arith, EvalFault, Term, Number, Entry, Index, Neg, Not, Binary, Outcome, outcome_of, after_reads, then_from, unless_decided, no_read, ranged, truth, is_true, decided, result_of}
+use Rattle.actor_steps.specs.Imports.{sym, ap, ◌∙◌, subst, arith, EvalFault, Term, Number, Entry, Index, Neg, Not, Binary, Outcome, outcome_of, after_reads, then_from, unless_decided, no_read, ranged, truth, is_true, decided, result_of}
 use Rattle.actor_steps.specs.ConfluenceLaws.{Each}
 
 -- rows that agree on these leaves

@@ -1,6 +1,6 @@
 -- What an actor that is alone makes of its rows.
 use Rattle.std.specs.Prelude.{◌≡◌, ℕ, ◌/◌, ◌<◌, ◌≤◌, Bool, true, false, ℤ, pos, List, [], ◌∷◌, ◌++◌, length, map, filter, get_or, refl, ◌==◌, ◌||◌, if◌then◌else◌}
-use Rattle.actor_steps.specs.Words.{sym, ap, ◌∙◌, subst, ⊎_elim, arith, flat_map, range_with_len, cases_lt, eqb-true, eq-eqb, or_left, or_right, get_or_past, Bit, owner_at, entry, digit, IsLaidOut, written_bit, bit_in, AreSized, HasShape, hold_at, declared, kept, kind_at, Setting}
+use Rattle.actor_steps.specs.Imports.{sym, ap, ◌∙◌, subst, ⊎_elim, arith, flat_map, range_with_len, cases_lt, eqb-true, eq-eqb, or_left, or_right, get_or_past, Bit, owner_at, entry, digit, IsLaidOut, written_bit, bit_in, AreSized, HasShape, hold_at, declared, kept, kind_at, Setting}
 use Rattle.actor_steps.specs.ConfluenceLaws.{Each, made_all, loaded_all, made_all-append, loaded_all-append}
 use Rattle.actor_steps.specs.Micro.{Place, Job, Micro, Fetch, Registers, row_in, row_as_it_stands, value_kept_on, stored, loaded, places_of, lets_through, filter_reads, set_reads, leaves_read, is_in, read_leaves, fetches, stores_of, row_steps}
 use Rattle.actor_steps.specs.SweepLaws.{is_among, AreBytesOf, sweep, sweep_sized, sweep_loaded, fetch, fetch_memory, fetch_sized}

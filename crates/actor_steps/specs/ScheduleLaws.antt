@@ -1,6 +1,6 @@
 -- Memory after any schedule and what it left.
 use Rattle.std.specs.Prelude.{◌≡◌, ℕ, List, [], ◌∷◌, None, length, refl, ◌++◌, slice_index_or}
-use Rattle.actor_steps.specs.Words.{ap, ◌∙◌, subst, arith, entry}
+use Rattle.actor_steps.specs.Imports.{ap, ◌∙◌, subst, arith, entry}
 use Rattle.actor_steps.specs.Confluence.{State, turned}
 use Rattle.actor_steps.specs.Micro.{Job, Micro, Registers, stored, loaded}
 use Rattle.actor_steps.specs.Bytes.{IsMemory}

@@ -1,6 +1,6 @@
 -- Bytes that hold bits of rows of two actors.
 use Rattle.std.specs.Prelude.{ℕ, ◌==◌, Bool, false, not, List, [], ◌∷◌, Option, Some, None, if◌then◌else◌}
-use Rattle.actor_steps.specs.Words.{list_any, Owner, Pad, Bit}
+use Rattle.actor_steps.specs.Imports.{list_any, Owner, Pad, Bit}
 use Rattle.actor_steps.specs.Micro.{Place, all_bytes, owners_of_byte}
 
 -- whether two bits are those of rows of two actors

@@ -1,6 +1,6 @@
 -- Bytes that hold bits of rows of two actors, and the actor of a byte that does not.
 use Rattle.std.specs.Prelude.{◌≡◌, ℕ, zero, suc, ◌<◌, Bool, true, false, List, [], ◌∷◌, length, get_or, Some, None, refl, ◌==◌, if◌then◌else◌}
-use Rattle.actor_steps.specs.Words.{ap, ◌∙◌, arith, list_any, cases_Bool, and_parts, eqb-true, list_any_at, Any-from_list_any, get_or_default, Owner, Pad, Bit}
+use Rattle.actor_steps.specs.Imports.{ap, ◌∙◌, arith, list_any, cases_Bool, and_parts, eqb-true, list_any_at, Any-from_list_any, get_or_default, Owner, Pad, Bit}
 use Rattle.actor_steps.specs.ConfluenceLaws.{Each}
 use Rattle.actor_steps.specs.Micro.{is_bit_of}
 use Rattle.actor_steps.specs.Shared.{is_shared, first_of_all}

@@ -1,6 +1,6 @@
 -- What an actor makes of one leaf of a row, byte after byte.
 use Rattle.std.specs.Prelude.{◌≡◌, ℕ, ◌+◌, ◌*◌, ◌/◌, ◌%◌, ◌<◌, Bool, true, false, ℤ, List, [], ◌∷◌, map, get_or, refl, ◌==◌, ◌&&◌, ◌||◌, if◌then◌else◌}
-use Rattle.actor_steps.specs.Words.{sym, ap, ◌∙◌, arith, flat_map, list_any, bit_at, and_from, and_parts, eq-eqb, eqb-true, bit_at-lt, Owner, Pad, Bit, owner_at, digit, written_bit, number_lt, bit_number, digit_lt, bit_in, AreSized, Setting}
+use Rattle.actor_steps.specs.Imports.{sym, ap, ◌∙◌, arith, flat_map, list_any, bit_at, and_from, and_parts, eq-eqb, eqb-true, bit_at-lt, Owner, Pad, Bit, owner_at, digit, written_bit, number_lt, bit_number, digit_lt, bit_in, AreSized, Setting}
 use Rattle.actor_steps.specs.ConfluenceLaws.{Each, made_all, loaded_all}
 use Rattle.actor_steps.specs.Micro.{Place, byte_at, with_byte, Job, Fetch, Load, Store, Registers, row_in, value_kept_on, with_bits_of, stored, loaded, changes}
 use Rattle.actor_steps.specs.Bytes.{IsByte}

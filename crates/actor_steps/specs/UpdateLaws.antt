@@ -1,6 +1,6 @@
 -- What an actor makes of a row is what the plain update makes of it.
 use Rattle.std.specs.Prelude.{◌≡◌, ℕ, zero, suc, ◌+◌, ◌<◌, Bool, true, false, ℤ, pos, List, [], ◌∷◌, length, get_or, set, Result, Ok, Err, Option, refl, ◌==◌, ◌&&◌, if◌then◌else◌}
-use Rattle.actor_steps.specs.Words.{sym, ap, ◌∙◌, subst, ⊎_elim, arith, range_with_len, cases_eq, and_from, and_parts, eq-eqb, eqb-true, length-set, get_or-set_same, get_or-set_other, get_or-range_with_len, length-range_with_len, Term, outcome_of, is_true, EvalFault, index_at, entry, StoreAnswer, Keeping, kept_or, kept_by, StoreFault, UpdateFault, Setting, each, ◌>>=◌, in_row, eval_kind, store_kind, passes, new_value, with_values, updated_row, updated_rows}
+use Rattle.actor_steps.specs.Imports.{sym, ap, ◌∙◌, subst, ⊎_elim, arith, range_with_len, cases_eq, and_from, and_parts, eq-eqb, eqb-true, length-set, get_or-set_same, get_or-set_other, get_or-range_with_len, length-range_with_len, Term, outcome_of, is_true, EvalFault, index_at, entry, StoreAnswer, Keeping, kept_or, kept_by, StoreFault, UpdateFault, Setting, each, ◌>>=◌, in_row, eval_kind, store_kind, passes, new_value, with_values, updated_row, updated_rows}
 use Rattle.actor_steps.specs.Micro.{Job, row_as_it_stands, number_in, value_kept_on, test_of}
 use Rattle.actor_steps.specs.HeldLaws.{with_value}
 use Rattle.actor_steps.specs.RowLaws.{set_entries, row_entries}

@@ -1,5 +1,5 @@
 -- What the proofs of this crate speak of.
-pub use Rattle.actor_tasks.specs.Words.{Piece, Place, Owner, IsLaidOut, IsLocated, within, within_blobs, is_in_granule, is_touched, hot_place, in_granule, touched_hot, IsByte, all_bytes, Job}
+pub use Rattle.actor_tasks.specs.Imports.{Piece, Place, Owner, IsLaidOut, IsLocated, within, within_blobs, is_in_granule, is_touched, hot_place, in_granule, touched_hot, IsByte, all_bytes, Job}
 pub use Rattle.std.proofs.Common.{◌≡◌, ℕ, zero, suc, ◌+◌, ◌<◌, ◌≤◌, List, [], ◌∷◌, length, get_or, take, Option, Some, None, sym, subst, ⊎_elim, inl, inr, arith, Bool, true, false, filter, refl, ap, ◌∙◌, ◌-◌, drop, map}
 pub use Rattle.std.specs.Prelude.{◌⊎◌, IfSome, ◌&&◌, ◌||◌, not, nat_lt, if◌then◌else◌}
 pub use Rattle.std.proofs.lemmas.Bool.{true≢false, cases_Bool, cases_lt, and_from, and_parts, or_left, or_right, eq-eqb, lt-ltb, not-true}

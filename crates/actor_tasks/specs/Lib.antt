@@ -7,4 +7,4 @@ pub mod TasksLaws
 pub mod MarksLaws
 pub mod RowsLaws
 pub mod Inner
-pub mod Words
+pub mod Imports

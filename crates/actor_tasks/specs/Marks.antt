@@ -1,6 +1,6 @@
 -- What an actor knows of its rows, and the next byte of a task, of a row and of all rows.
 use Rattle.std.specs.Prelude.{ℕ, ◌≡◌, ◌-◌, ◌<◌, Bool, true, false, List, [], ◌∷◌, ◌++◌, length, map, drop, slice_index_or, Option, Some, None}
-use Rattle.actor_tasks.specs.Words.{Owner, Place, Job, lets_through, leaves_read, is_in}
+use Rattle.actor_tasks.specs.Imports.{Owner, Place, Job, lets_through, leaves_read, is_in}
 use Rattle.actor_tasks.specs.Places.{places_from, byte_behind}
 use Rattle.actor_tasks.specs.Tasks.{Task, Reads, all_tasks, is_asked, task_leaf, place_steps, task_steps, tasks_steps, left_in}
 use Rattle.actor_tasks.specs.declared.rows.Asks.{Asks}

@@ -1,7 +1,7 @@
 -- The next place of a task, and of all tasks of a row.
 use Rattle.std.proofs.Common.{◌≡◌, ℕ, zero, suc, ◌+◌, ◌-◌, ◌<◌, ◌≤◌, Bool, true, false, List, [], ◌∷◌, ◌++◌, length, map, drop, get_or, Option, Some, None, sym, ap, ◌∙◌, subst, arith}
 use Rattle.std.specs.Prelude.{if◌then◌else◌}
-use Rattle.actor_tasks.specs.Words.{flat_map, range_with_len, Owner, Setting, Place, Job, Micro}
+use Rattle.actor_tasks.specs.Imports.{flat_map, range_with_len, Owner, Setting, Place, Job, Micro}
 use Rattle.std.proofs.Math.ListN.{get_or-append}
 use Rattle.std.proofs.lemmas.List.{length-map, get_or-map, get_or-append_right, length-append}
 use Rattle.std.proofs.lemmas.List.{drop_all}

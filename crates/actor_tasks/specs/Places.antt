@@ -1,6 +1,6 @@
 -- The bytes of a leaf in a row from a place on.
 use Rattle.std.specs.Prelude.{ℕ, ◌≡◌, ◌+◌, ◌≤◌, ◌<◌, ◌⊎◌, ◌==◌, ◌&&◌, ◌||◌, not, nat_lt, Bool, List, [], ◌∷◌, filter, Option, Some, None}
-use Rattle.actor_tasks.specs.Words.{list_any, Owner, is_bit_of, Place, all_bytes, owners_of_byte}
+use Rattle.actor_tasks.specs.Imports.{list_any, Owner, is_bit_of, Place, all_bytes, owners_of_byte}
 
 -- whether a byte stands before another: by blob, then byte
 abbrev pub is_before : Place → Place → Bool

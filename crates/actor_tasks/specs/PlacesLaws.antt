@@ -1,7 +1,7 @@
 -- The bytes of a leaf in a row from a place on: the first of them, and those behind it.
 use Rattle.std.proofs.Common.{◌≡◌, ℕ, zero, suc, ◌+◌, ◌/◌, ◌<◌, Bool, true, false, List, [], ◌∷◌, ◌++◌, length, map, get_or, All, ap, ◌∙◌, subst, ⊎_elim, inl, inr, arith}
 use Rattle.std.specs.Prelude.{◌≤◌, ◌⊎◌, ◌&&◌, not}
-use Rattle.actor_tasks.specs.Words.{flat_map, range_with_len, Owner, Place, IsByte, bytes_in, all_bytes, places_of}
+use Rattle.actor_tasks.specs.Imports.{flat_map, range_with_len, Owner, Place, IsByte, bytes_in, all_bytes, places_of}
 use Rattle.std.proofs.lemmas.Bool.{cases_lt, and_from}
 use Rattle.std.proofs.lemmas.Bool.Decides.{nat_tests}
 use Rattle.std.proofs.lemmas.List.Elements.{All-nil, All-cons, All-append, All-map}

@@ -1,6 +1,6 @@
 -- How an actor goes from one row to the next.
 use Rattle.std.proofs.Common.{◌≡◌, ℕ, zero, suc, ◌+◌, ◌-◌, ◌<◌, ◌≤◌, List, [], ◌++◌, Option, Some, None, ap, ◌∙◌, append_assoc, arith}
-use Rattle.actor_tasks.specs.Words.{Place, Job, Micro, steps_of}
+use Rattle.actor_tasks.specs.Imports.{Place, Job, Micro, steps_of}
 use Rattle.actor_tasks.specs.Places.{origin, byte_behind}
 use Rattle.actor_tasks.specs.Tasks.{place_steps, left_in}
 use Rattle.actor_tasks.specs.TasksLaws.{next_row}

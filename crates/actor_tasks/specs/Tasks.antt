@@ -1,6 +1,6 @@
 -- Where an actor stands in its rows, and what is left from there on.
 use Rattle.std.specs.Prelude.{ℕ, zero, suc, ◌+◌, Bool, List, [], ◌∷◌, ◌++◌, length, map, drop, if◌then◌else◌}
-use Rattle.actor_tasks.specs.Words.{flat_map, range_with_len, Place, Setting, Job, Micro, Fetch, lets_through, leaves_read, is_in, changes, steps_of}
+use Rattle.actor_tasks.specs.Imports.{flat_map, range_with_len, Place, Setting, Job, Micro, Fetch, lets_through, leaves_read, is_in, changes, steps_of}
 use Rattle.actor_tasks.specs.Places.{origin, places_from}
 
 -- a leaf is loaded for values, or is set

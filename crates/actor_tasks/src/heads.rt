@@ -1,6 +1,6 @@
 // The bytes of a leaf in a row, one after another.
 ghost use Rattle.std.specs.Prelude.{◌≡◌, ◌+◌, ◌^◌, ◌<◌, IfSome, length};
-ghost use Rattle.actor_tasks.specs.Words.{IsByte};
+ghost use Rattle.actor_tasks.specs.Imports.{IsByte};
 ghost use Rattle.actor_tasks.specs.Places.{IsHead, byte_behind};
 
 use crate::next::next_byte;

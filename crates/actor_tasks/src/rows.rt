@@ -1,6 +1,6 @@
 // The next byte of the rows of an actor.
 ghost use Rattle.std.specs.Prelude.{ℕ, ◌≡◌, ◌+◌, ◌<◌, ◌≤◌, All, IfSome, length};
-ghost use Rattle.actor_tasks.specs.Words.{IsByte, Job};
+ghost use Rattle.actor_tasks.specs.Imports.{IsByte, Job};
 ghost use Rattle.actor_tasks.specs.Marks.{AreRowsOf, IsRowsNext};
 ghost use Rattle.actor_tasks.specs.declared.rows.Asks.{Asks};
 

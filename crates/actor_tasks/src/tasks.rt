@@ -1,6 +1,6 @@
 // The next place of the tasks of a row.
 ghost use Rattle.std.specs.Prelude.{◌+◌, ◌<◌, ◌≤◌, All, IfSome, length};
-ghost use Rattle.actor_tasks.specs.Words.{IsByte, Job};
+ghost use Rattle.actor_tasks.specs.Imports.{IsByte, Job};
 ghost use Rattle.actor_tasks.specs.Marks.{IsRowOf, IsTaskNext, IsRowNext, task_at};
 
 use crate::heads::leaf_byte;

@@ -1,5 +1,5 @@
 -- What the proofs of this crate speak of.
-pub use Rattle.actors.specs.Words.{Term, outcome_of, is_true, index_at, entry, bit_held, image, number, digit, Owner, Pad, Bit, owner_at, IsBitOf, IsLaidOut, number_same, number_bits, bit_number, digit_lt, written_bit, IsWrite, UpdateFault, Assign, stores_log, if_given, row_log, update_log, value_log, filter_log, if_ok, if_passes, sides_log, tried_log, Fields, Leaf, leaves, kinds_of, schema_fields, IsIn, Shape, term_of, StoreMode, Asks, bits_of, AreBytes, bit_in, Place, RunOwner, IsRowOf, task_at, AreRowsOf, byte_behind, origin, Reads, Sets, place_steps, left_in}
+pub use Rattle.actors.specs.Imports.{Term, outcome_of, is_true, index_at, entry, bit_held, image, number, digit, Owner, Pad, Bit, owner_at, IsBitOf, IsLaidOut, number_same, number_bits, bit_number, digit_lt, written_bit, IsWrite, UpdateFault, Assign, stores_log, if_given, row_log, update_log, value_log, filter_log, if_ok, if_passes, sides_log, tried_log, Fields, Leaf, leaves, kinds_of, schema_fields, IsIn, Shape, term_of, StoreMode, Asks, bits_of, AreBytes, bit_in, Place, RunOwner, IsRowOf, task_at, AreRowsOf, byte_behind, origin, Reads, Sets, place_steps, left_in}
 pub use Rattle.record_dim.specs.Std.{◌≡◌, ℕ, ◌+◌, ◌-◌, ◌<◌, ◌≤◌, All, Bool, true, false, ℤ, pos, List, [], ◌∷◌, ◌++◌, length, map, get_or, set, take, drop, Option, Some, None, Result, Ok, Err, refl, sym, ap, ◌∙◌, subst, ⊎_elim, arith, append_assoc, length-append, ◌*◌, ◌/◌, replicate, ◌%◌, ◌^◌, suc, zero, fold, rules, SFits, FitsSigned, ◌==◌, ◌||◌, if◌then◌else◌, ◌&&◌, slice_index, slice_set, option_map, not, cases_eq, eq-eqb, eqb-true, and_from, and_parts, cond-true, cond-false, cases_lt, or_parts, append-nil, get_or-map, get_or-set_same, get_or-set_other, get_or-append_right, get_or-drop, length-map, length-set, length-take, length-drop, take_more, take_all, drop_all, drop_more, ext_get_or, map-append, set-get_or, set-set, map-set, drop-set, length-replicate, drop-map, take-map, get_or_default, filter-append, bit_at, w128, range_with_len, flat_map, list_any, get_or-append, get_or-append_seam, flat_map-append, fold-append, fun_ext, nat_tests, list_any_none, length-map-range_with_len, get_or-map-range_with_len, to_z-of_z, get_or_from_slice_get, common_steps}
 pub use Rattle.expr_lang.specs.declared.fault.EvalFault.{EvalFault}
 pub use Rattle.piece_bits.specs.Prelude.{AreSized, table_in, with_entry, declared_table, kind_at, IsCell, bit_count, some_bits, few_bits, apart, still_sized, spot_count, spot_owned, pieces_within, spots_of, spot_at, bit_at_spot, IsOutside, held, declared, held_digit, low_in}

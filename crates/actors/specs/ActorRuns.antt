@@ -1,6 +1,6 @@
 -- A run of the actors of an update: what it keeps, and how far its actors are.
 use Rattle.std.specs.Prelude.{ℕ, ◌≡◌, Bool, true, false, ℤ, List, [], ◌∷◌, length, drop, Option, None, Ok, slice_index_or}
-use Rattle.actors.specs.Words.{Term, Table, after_stores, writes_in, update_log, Setting, updated_of, State, job_of, memory_of, fresh_of, team_start, Job, Micro, Registers, idle_with, run_by, turns_from}
+use Rattle.actors.specs.Imports.{Term, Table, after_stores, writes_in, update_log, Setting, updated_of, State, job_of, memory_of, fresh_of, team_start, Job, Micro, Registers, idle_with, run_by, turns_from}
 
 -- the table as the run found it, with no counts; the filter and the leaves that are set; the cuts; the memory and the actors over it
 pub record Run : Type 0 where

@@ -1,6 +1,6 @@
 -- What the owners of bits tell of the bytes that two actors share.
 use Rattle.std.specs.Prelude.{ℕ, ◌≡◌, ◌*◌, List, map, take, drop, Option, Some}
-use Rattle.actors.specs.Words.{Owner, Pad, Bit, RunOwner, Place}
+use Rattle.actors.specs.Imports.{Owner, Pad, Bit, RunOwner, Place}
 use Rattle.places.specs.declared.piece.RunOwner.TheVariants as run
 use Rattle.actors.specs.declared.fault.CutFault.{CutFault}
 use Rattle.actors.specs.declared.fault.CutFault.TheVariants.{SharedByte, NoMemory}

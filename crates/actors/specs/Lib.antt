@@ -6,4 +6,4 @@ pub mod Updates
 pub mod RunFields
 pub mod RunLaws
 pub mod Inner
-pub mod Words
+pub mod Imports

@@ -1,6 +1,6 @@
 -- Rows that blobs hold, and what an update asks of a row.
 use Rattle.std.specs.Prelude.{ℕ, ◌≡◌, ◌<◌, Bool, true, false, ℤ, pos, List, [], ◌∷◌, length, slice_index_or, slice_set}
-use Rattle.actors.specs.Words.{declared_table, table_in, Setting, Place, Job, is_in, leaves_read, lets_through, Asks, Table, owners_of, leaf_types_of, table_holds}
+use Rattle.actors.specs.Imports.{declared_table, table_in, Setting, Place, Job, is_in, leaves_read, lets_through, Asks, Table, owners_of, leaf_types_of, table_holds}
 
 -- a row of the table that blobs hold
 abbrev pub row_held : Table → List (List ℕ) → ℕ → List ℤ

@@ -1,6 +1,6 @@
 -- What the type of a run keeps of its fields.
 use Rattle.std.specs.Prelude.{ℕ, ◌≡◌, ◌+◌, ◌<◌, ◌≤◌, All, ℤ, List, Option, None, length, map, slice_index_or}
-use Rattle.actors.specs.Words.{Fields, Term, Shape, AreSized, StoreMode, table_under, Table, owners_of, Assign, setting_of, IsSetOf, IsParted, job_of, Asks}
+use Rattle.actors.specs.Imports.{Fields, Term, Shape, AreSized, StoreMode, table_under, Table, owners_of, Assign, setting_of, IsSetOf, IsParted, job_of, Asks}
 use Rattle.actors.specs.declared.actor.Actor.{Actor as Standing}
 use Rattle.actors.specs.Rows.{ArePlans}
 use Rattle.actors.specs.ActorRuns.{Run, started_run, after_turns}

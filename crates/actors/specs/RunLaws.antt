@@ -1,6 +1,6 @@
 -- Runs after turns.
 use Rattle.std.specs.Prelude.{◌≡◌, ℕ, List, ◌++◌}
-use Rattle.actors.specs.Words.{sym, ap, State, fresh_of, Micro, Registers, run_by-append}
+use Rattle.actors.specs.Imports.{sym, ap, State, fresh_of, Micro, Registers, run_by-append}
 use Rattle.actors.specs.ActorRuns.{Run, after_turns, job_in}
 
 -- one schedule behind another

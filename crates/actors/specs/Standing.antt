@@ -1,6 +1,6 @@
 -- Where an actor stands, as the code has it, and what it does next.
 use Rattle.std.specs.Prelude.{ℕ, ◌≡◌, ◌+◌, ◌-◌, ◌<◌, ◌≤◌, pos, Bool, true, false, List, [], ◌∷◌, ◌++◌, length, map, slice_index_or, Option, Some, None}
-use Rattle.actors.specs.Words.{Number, Owner, AreSized, Table, owners_of, leaf_count_of, Setting, Place, IsByte, Actor, State, fresh_of, Job, Micro, Fetch, Load, Store, Registers, stored, loaded, task_at, origin, byte_behind, Task, Reads, Sets, left_in}
+use Rattle.actors.specs.Imports.{Number, Owner, AreSized, Table, owners_of, leaf_count_of, Setting, Place, IsByte, Actor, State, fresh_of, Job, Micro, Fetch, Load, Store, Registers, stored, loaded, task_at, origin, byte_behind, Task, Reads, Sets, left_in}
 use Rattle.actors.specs.declared.step.Cursor.{Cursor}
 use Rattle.actors.specs.declared.step.Step.{Step}
 use Rattle.actors.specs.declared.step.Step.TheVariants as step

@@ -1,6 +1,6 @@
 -- What the plain update gives and reads.
 use Rattle.std.specs.Prelude.{ℕ, ◌≡◌, ◌+◌, ◌≤◌, ℤ, List, length, Option, Result, Ok, Err}
-use Rattle.actors.specs.Words.{Term, Table, after_log, reads_in, UpdateFault, update_log, Setting}
+use Rattle.actors.specs.Imports.{Term, Table, after_log, reads_in, UpdateFault, update_log, Setting}
 use Rattle.actors.specs.declared.fault.ActorFault.{ActorFault}
 use Rattle.actors.specs.declared.fault.ActorFault.TheVariants.{Update, NoMemory}
 

@@ -1,6 +1,6 @@
 // Actors, and one turn of one of them.
 ghost use Rattle.std.specs.Prelude.{◌≡◌, ◌<◌, ◌≤◌, All, None, Option, [], length, map};
-ghost use Rattle.actors.specs.Words.{job_of, row_in, stored, loaded, value_kept_on, AreSized, Term, IsSetOf, setting_of, owners_of};
+ghost use Rattle.actors.specs.Imports.{job_of, row_in, stored, loaded, value_kept_on, AreSized, Term, IsSetOf, setting_of, owners_of};
 ghost use Rattle.std.specs.Prelude.{ℕ};
 ghost use Rattle.actors.specs.Rows.{ArePlans};
 ghost use Rattle.actors.specs.Standing.{IsStanding, IsStepOf, IsTurn, bytes_shown, step_shown};

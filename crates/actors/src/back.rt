@@ -1,6 +1,6 @@
 // Rows that a memory holds, stored in a view.
 ghost use Rattle.std.specs.Prelude.{ℕ, ◌≡◌, ◌<◌, All, true, false, Ok, pos, [], length, map, slice_index_or, slice_set};
-ghost use Rattle.actors.specs.Words.{AreSized, stores_log, IsSetOf, filter_term, setting_of, after_stores, answer_of, leaf_count_of, owners_of, job_of};
+ghost use Rattle.actors.specs.Imports.{AreSized, stores_log, IsSetOf, filter_term, setting_of, after_stores, answer_of, leaf_count_of, owners_of, job_of};
 ghost use Rattle.actors.specs.Rows.{ArePlans, row_held, with_held};
 ghost use Rattle.actors.specs.ActorRuns.{IsPlainMemory, IsStoredBack};
 

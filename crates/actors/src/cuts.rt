@@ -1,6 +1,6 @@
 // Cuts of the rows among actors, and bytes that hold bits of rows of two of them.
 ghost use Rattle.std.specs.Prelude.{◌≡◌, ◌*◌, ◌/◌, ◌+◌, ◌<◌, ◌≤◌, None, OnOk, IfErr, length, map, sum_by, take, drop};
-ghost use Rattle.actors.specs.Words.{range_with_len, owners_of, AreCuts, actor_of, is_shared, first_of_all, shared_byte};
+ghost use Rattle.actors.specs.Imports.{range_with_len, owners_of, AreCuts, actor_of, is_shared, first_of_all, shared_byte};
 ghost use Rattle.actors.specs.Cuts.{IsCutFault, owner_shown, shown_in_byte};
 
 use crate::fault::CutFault;

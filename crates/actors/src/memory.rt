@@ -1,6 +1,6 @@
 // Blobs of a run: copies of those of a view, and single rows and bytes of them.
 ghost use Rattle.std.specs.Prelude.{◌≡◌, ◌<◌, ◌≤◌, IfOk, length, map};
-ghost use Rattle.actors.specs.Words.{bit_in, IsWrite, AreSized, leaf_count_of, owners_of, IsLawful, memory_of, fresh_of, byte_at, with_byte, with_bits_of};
+ghost use Rattle.actors.specs.Imports.{bit_in, IsWrite, AreSized, leaf_count_of, owners_of, IsLawful, memory_of, fresh_of, byte_at, with_byte, with_bits_of};
 ghost use Rattle.actors.specs.Rows.{row_held, HasByte};
 
 use actor_steps::Place;

@@ -1,6 +1,6 @@
 // Values of expressions on numbers whose reads are noted.
 ghost use Rattle.std.specs.Prelude.{◌≡◌, ◌<◌, ◌≤◌, fold, length};
-ghost use Rattle.actors.specs.Words.{bound_term, bound_leaves, bound_rank, outcome_of, index_at, IsBoundOver, leaf_count_of, number_in};
+ghost use Rattle.actors.specs.Imports.{bound_term, bound_leaves, bound_rank, outcome_of, index_at, IsBoundOver, leaf_count_of, number_in};
 ghost use Rattle.actors.specs.Rows.{marked};
 
 use expr_lang::{Bound, Row, eval};

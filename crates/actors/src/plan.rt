@@ -1,6 +1,6 @@
 // What an update asks of each row, found once before an actor moves.
 ghost use Rattle.std.specs.Prelude.{◌≡◌, ◌<◌, ◌≤◌, All, None, Err, [], fold, length, map, slice_index_or, IfSome, IfOk, IfErr, OnOk, OnErr};
-ghost use Rattle.actors.specs.Words.{flat_map, index_at, row_log, update_log, IsBoundOver, IsSetOf, filter_term, setting_of, updated_row, updated_of, answer_of, kept_of, after_log, leaf_count_of, reads_in, job_of, memory_of, test_of, filter_reads, set_reads};
+ghost use Rattle.actors.specs.Imports.{flat_map, index_at, row_log, update_log, IsBoundOver, IsSetOf, filter_term, setting_of, updated_row, updated_of, answer_of, kept_of, after_log, leaf_count_of, reads_in, job_of, memory_of, test_of, filter_reads, set_reads};
 ghost use Rattle.actors.specs.Rows.{IsRowPlanOf, ArePlans, marked};
 ghost use Rattle.actors.specs.Updates.{HasRead, IsUpdated, IsUpdatedRow, IsMet};
 

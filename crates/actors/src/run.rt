@@ -1,6 +1,6 @@
 // Runs of the actors of an update.
 ghost use Rattle.std.specs.Prelude.{ℤ, List, ◌≡◌, ◌<◌, ◌≤◌, ◌+◌, ◌*◌, All, None, false, [], ◌∷◌, IfOk, IfErr, OnOk, OnErr, IfSome, length, map, sum_by, slice_index_or};
-ghost use Rattle.actors.specs.Words.{update_log, IsBoundOver, IsSetOf, filter_term, setting_of, updated_of, after_log, owners_of, reads_in, AreCuts, actor_of, IsParted, turns_left, shared_byte};
+ghost use Rattle.actors.specs.Imports.{update_log, IsBoundOver, IsSetOf, filter_term, setting_of, updated_of, after_log, owners_of, reads_in, AreCuts, actor_of, IsParted, turns_left, shared_byte};
 ghost use Rattle.actors.specs.RunFields.{IsReached};
 ghost use Rattle.actors.specs.ActorRuns.{IsDone, IsPlain, IsStoredBack, without_counts, started_run, after_turns, finished_from, rest_in, has_any};
 ghost use Rattle.actors.specs.Updates.{HasRead, IsMet, IsUpdated};

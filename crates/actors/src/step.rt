@@ -1,6 +1,6 @@
 // Where an actor stands in its rows, and its next micro-step.
 ghost use Rattle.std.specs.Prelude.{◌≡◌, ◌<◌, ◌≤◌, All, IfSome, length};
-ghost use Rattle.actors.specs.Words.{IsByte, Job, AreRowsOf, byte_behind};
+ghost use Rattle.actors.specs.Imports.{IsByte, Job, AreRowsOf, byte_behind};
 ghost use Rattle.actors.specs.Rows.{asks_at};
 ghost use Rattle.actors.specs.Standing.{IsCursor, IsStepOf, IsStepNext};
 

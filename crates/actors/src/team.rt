@@ -1,6 +1,6 @@
 // The actors of a run before their first micro-step, and the leaves that it sets.
 ghost use Rattle.std.specs.Prelude.{ℕ, ◌≡◌, ◌+◌, IfOk, length, map};
-ghost use Rattle.actors.specs.Words.{AreCuts, parts_from, team_of, fresh_of, Job};
+ghost use Rattle.actors.specs.Imports.{AreCuts, parts_from, team_of, fresh_of, Job};
 ghost use Rattle.actors.specs.RunFields.{AreStanding};
 ghost use Rattle.actors.specs.Standing.{IsFresh, actor_shown};
 

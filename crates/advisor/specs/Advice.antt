@@ -1,6 +1,6 @@
 -- What candidates cost a table, and which of them is the best.
 use Rattle.std.specs.Prelude.{ℕ, Bool, true, false, not, ◌&&◌, ◌||◌, nat_le, if◌then◌else◌, List, [], ◌∷◌, ◌++◌, map, filter, is_ok, Option, Some, None, option_map, Result, Ok, Err}
-use Rattle.advisor.specs.Words.{flat_map, list_all, find, PathStep, Name, Fields, names_of, Term, Split, term_of, uncounted, leaf_cells, layout_by, MakeMap, Table, leaf_types_of}
+use Rattle.advisor.specs.Imports.{flat_map, list_all, find, PathStep, Name, Fields, names_of, Term, Split, term_of, uncounted, leaf_cells, layout_by, MakeMap, Table, leaf_types_of}
 use Rattle.advisor.specs.declared.advice.Advice.{Advice}
 use Rattle.advisor.specs.declared.advice.AdviseFault.{AdviseFault}
 use Rattle.advisor.specs.declared.pass.Pass.{Pass}

@@ -1,6 +1,6 @@
 -- Which expressions are layouts of cells within the limits.
 use Rattle.std.specs.Prelude.{ℕ, ◌+◌, ◌*◌, ◌^◌, Bool, true, false, ◌||◌, nat_lt, List, [], ◌∷◌, length, sum_by, Option, Some, None, Result, Ok, Err}
-use Rattle.advisor.specs.Words.{Fields, Cell, Term, BadMapping, layout_of, most_slots, accepted, MakeMap, granules_in, blob_lengths}
+use Rattle.advisor.specs.Imports.{Fields, Cell, Term, BadMapping, layout_of, most_slots, accepted, MakeMap, granules_in, blob_lengths}
 use Rattle.map_checks.specs.declared.fault.MakeMap.TheVariants as map
 use Rattle.advisor.specs.declared.advice.AdviseFault.{AdviseFault}
 use Rattle.advisor.specs.declared.advice.AdviseFault.TheVariants.{Bad, TooBig, NoMemory}

@@ -6,4 +6,4 @@ pub mod Suits
 pub mod Advice
 pub mod TouchedBy
 pub mod Inner
-pub mod Words
+pub mod Imports

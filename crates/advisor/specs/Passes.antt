@@ -1,6 +1,6 @@
 -- What passes over a layout cost.
 use Rattle.std.specs.Prelude.{ℕ, ◌*◌, ◌==◌, Bool, List, map, sum_by, slice_index_or}
-use Rattle.advisor.specs.Words.{list_any, Owner, Cell}
+use Rattle.advisor.specs.Imports.{list_any, Owner, Cell}
 use Rattle.advisor.specs.declared.pass.Pass.{Pass}
 use Rattle.advisor.specs.Touched.{touched}
 

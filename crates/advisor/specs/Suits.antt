@@ -1,6 +1,6 @@
 -- Which expressions suit the values of a table.
 use Rattle.std.specs.Prelude.{ℕ, Bool, false, ℤ, List, Result, Ok, Err}
-use Rattle.advisor.specs.Words.{int_eq, list_all, range_with_len, LeafType, Hold, hold_at, Term, holds_by, StoreMode, column, store_answer, Table, leaf_count_of, leaf_type_of, StoreFault}
+use Rattle.advisor.specs.Imports.{int_eq, list_all, range_with_len, LeafType, Hold, hold_at, Term, holds_by, StoreMode, column, store_answer, Table, leaf_count_of, leaf_type_of, StoreFault}
 
 -- an answer to a store keeps this value
 abbrev pub keeps : ℤ → Result ℤ StoreFault → Bool

@@ -1,6 +1,6 @@
 -- How many granules of some bytes hold a bit of some cells.
 use Rattle.std.specs.Prelude.{ℕ, ◌*◌, ◌/◌, ◌==◌, Bool, false, List, [], length, take, drop, sum_by, count_by, slice_index_or}
-use Rattle.advisor.specs.Words.{list_any, range_with_len, Owner, Pad, Bit, granules_of}
+use Rattle.advisor.specs.Imports.{list_any, range_with_len, Owner, Pad, Bit, granules_of}
 
 -- whether an owner is a bit of a cell that passes a test
 abbrev pub is_bit_in : (ℕ → Bool) → Owner → Bool

@@ -1,6 +1,6 @@
 -- By which accesses a granule is touched.
 use Rattle.std.specs.Prelude.{◌≡◌, ℕ, ◌<◌, Bool, true, List, [], get_or}
-use Rattle.advisor.specs.Words.{Owner, is_hot}
+use Rattle.advisor.specs.Imports.{Owner, is_hot}
 use Rattle.advisor.specs.Touched.{holds_bit}
 
 -- an access to a cell that passes a test, and touches a granule of a blob

@@ -1,6 +1,6 @@
 -- The granules that are touched are those that the accesses to some cells in all rows touch, and a split's are those of its sides.
 use Rattle.std.specs.Prelude.{◌≡◌, ℕ, suc, ◌+◌, ◌*◌, ◌/◌, ◌<◌, ◌==◌, Bool, true, List, [], ◌∷◌, map, take, drop, length, get_or, refl, ◌||◌, not, count_by}
-use Rattle.advisor.specs.Words.{sym, ap, ◌∙◌, arith, list_any, range_with_len, fun_ext, true≢false, and_from, eq-eqb, length-map, take-map, drop-map, length-take, get_or-take, get_or-drop, get_or_default, sum_by-append, sum_by-cons, Any-from_list_any, list_any_at, Owner, Pad, Bit, owner_at, IsLaidOut, IsBitOf, renamed, recelled, numbers_of, split, is_bit_of, granules_of}
+use Rattle.advisor.specs.Imports.{sym, ap, ◌∙◌, arith, list_any, range_with_len, fun_ext, true≢false, and_from, eq-eqb, length-map, take-map, drop-map, length-take, get_or-take, get_or-drop, get_or_default, sum_by-append, sum_by-cons, Any-from_list_any, list_any_at, Owner, Pad, Bit, owner_at, IsLaidOut, IsBitOf, renamed, recelled, numbers_of, split, is_bit_of, granules_of}
 use Rattle.advisor.specs.Touched.{is_bit_in, holds_bit, touched_blob, touched}
 use Rattle.advisor.specs.TouchedBy.{IsTouchedBy}
 

@@ -1,6 +1,6 @@
 // The advice for some passes over a view.
 ghost use Rattle.std.specs.Prelude.{ℕ, ◌≡◌, ◌≤◌, ◌⊎◌, All, Ok, Err, Some, None, IfOk, OnOk, IfErr, length, map, take};
-ghost use Rattle.advisor.specs.Words.{Term, term_of, uncounted, IsBuiltTerm, leaf_count_of, after_log, Read, all_accesses};
+ghost use Rattle.advisor.specs.Imports.{Term, term_of, uncounted, IsBuiltTerm, leaf_count_of, after_log, Read, all_accesses};
 ghost use Rattle.advisor.specs.Advice.{judge, candidates, advised, advice, told_by};
 ghost use Rattle.advisor.specs.Judged.{first_judged_fault};
 ghost use Rattle.advisor.specs.Inner.Pools.{IsPriced, HasKnownHolds, terms_in};

@@ -1,6 +1,6 @@
 // The advice of candidates, each of which is marked where it suits.
 ghost use Rattle.std.specs.Prelude.{ℕ, ◌≡◌, ◌<◌, ◌≤◌, Bool, Some, None, IfOk, IfSome, if◌then◌else◌, length, map, take};
-ghost use Rattle.advisor.specs.Words.{Term, term_of};
+ghost use Rattle.advisor.specs.Imports.{Term, term_of};
 ghost use Rattle.advisor.specs.Advice.{advised, told_by};
 ghost use Rattle.advisor.specs.Inner.Choices.{costs_in, AreMarked, IsCheapest, undercuts};
 ghost use Rattle.advisor.specs.Inner.Pools.{terms_in};

@@ -1,6 +1,6 @@
 // Which slots rows have: all slots by rows and by columns, and on the Morton curve those of cubes that lie in the array.
 ghost use Rattle.std.specs.Prelude.{ℕ, ◌≡◌, ◌+◌, ◌<◌, ◌≤◌, ◌^◌, IfSome, IsNone, length};
-ghost use Rattle.advisor.specs.Words.{slot_count};
+ghost use Rattle.advisor.specs.Imports.{slot_count};
 ghost use Rattle.advisor.specs.Inner.Curve.{component, has_row, IsFarFromEnds, IsOutside};
 
 use extents::Extents;

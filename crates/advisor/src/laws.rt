@@ -1,6 +1,6 @@
 // What holds of the granules that are touched.
 ghost use Rattle.std.specs.Prelude.{ℕ, Bool, ◌≡◌, ◌+◌, List, map, not, length, slice_index_or};
-ghost use Rattle.advisor.specs.Words.{Owner, IsLaidOut, numbers_of, split};
+ghost use Rattle.advisor.specs.Imports.{Owner, IsLaidOut, numbers_of, split};
 ghost use Rattle.advisor.specs.Touched.{touched};
 ghost use Rattle.advisor.specs.TouchedBy.{IsTouchedBy};
 

@@ -1,6 +1,6 @@
 // The listed candidates.
 ghost use Rattle.std.specs.Prelude.{◌≡◌, ◌⊎◌, All, Ok, Err, Some, None, IfOk, OnOk, IfErr, map};
-ghost use Rattle.advisor.specs.Words.{term_of, uncounted, leaf_cells, IsBuiltTerm, leaf_types_of};
+ghost use Rattle.advisor.specs.Imports.{term_of, uncounted, leaf_cells, IsBuiltTerm, leaf_types_of};
 ghost use Rattle.advisor.specs.Advice.{judge};
 ghost use Rattle.advisor.specs.Judged.{fault_at, first_judged_fault};
 ghost use Rattle.advisor.specs.Inner.Pools.{IsPriced, terms_in};

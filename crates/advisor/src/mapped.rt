@@ -1,5 +1,5 @@
 ghost use Rattle.std.specs.Prelude.{◌≡◌, ◌<◌, ◌≤◌, ◌^◌, ◌⊎◌, Ok, Err, IfOk, OnOk, IfErr, length, map, slice_index};
-ghost use Rattle.advisor.specs.Words.{indices, term_of, layout_of, holds_of, IsBuiltTerm, IsRuled, IsRuleOf, granules_in, blob_lengths};
+ghost use Rattle.advisor.specs.Imports.{indices, term_of, layout_of, holds_of, IsBuiltTerm, IsRuled, IsRuleOf, granules_in, blob_lengths};
 ghost use Rattle.advisor.specs.Judged.{judged};
 
 use crate::touched::has_few_granules;

@@ -1,6 +1,6 @@
 // The granules that a cell touches in the slots of all rows, by runs of slots.
 ghost use Rattle.std.specs.Prelude.{ℕ, ◌≡◌, ◌+◌, ◌-◌, ◌*◌, ◌<◌, ◌≤◌, ◌^◌, All, true};
-ghost use Rattle.advisor.specs.Words.{slot_count, heat_counts, IsInside, piece_in};
+ghost use Rattle.advisor.specs.Imports.{slot_count, heat_counts, IsInside, piece_in};
 ghost use Rattle.advisor.specs.Inner.Curve.{has_row};
 ghost use Rattle.advisor.specs.Inner.Steady.{IsSteady, HasSteps, is_run_touched, are_slots_touched, are_rows_touched};
 ghost use Rattle.advisor.specs.Inner.Warm.{IsWarmed};

@@ -1,6 +1,6 @@
 // What expressions cost over the leaves of one side of a split.
 ghost use Rattle.std.specs.Prelude.{ℕ, ◌≡◌, ◌<◌, All, None, IfOk, length, map, slice_index_or};
-ghost use Rattle.advisor.specs.Words.{term_of, IsBuiltTerm};
+ghost use Rattle.advisor.specs.Imports.{term_of, IsBuiltTerm};
 ghost use Rattle.advisor.specs.Inner.SideCosts.{IsPrice, IsSideCost, term_at};
 
 use crate::costs::part_cost;

@@ -1,6 +1,6 @@
 // The candidates that split the record at one of its fields.
 ghost use Rattle.std.specs.Prelude.{ℕ, ◌≡◌, ◌<◌, ◌≤◌, ◌^◌, ◌++◌, ◌∷◌, [], All, Ok, None, IfOk, OnOk, IfSome, IfNone, length, map, filter, is_ok, slice_index_or};
-ghost use Rattle.advisor.specs.Words.{Fields, tree_of, fields_of, IsRecord, Record, Split, term_of, leaf_cells, holds_by, IsBuiltTerm, cells_under, cells_beside, leaf_types_of};
+ghost use Rattle.advisor.specs.Imports.{Fields, tree_of, fields_of, IsRecord, Record, Split, term_of, leaf_cells, holds_by, IsBuiltTerm, cells_under, cells_beside, leaf_types_of};
 ghost use Rattle.advisor.specs.Advice.{judge, own_paths, splits_at, split_terms};
 ghost use Rattle.advisor.specs.Inner.Pools.{IsPriced, terms_in};
 ghost use Rattle.advisor.specs.Inner.SideCosts.{IsHold, IsPrice, IsSideCost, term_at};

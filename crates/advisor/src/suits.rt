@@ -1,6 +1,6 @@
 // Which candidates the values of a view suit.
 ghost use Rattle.std.specs.Prelude.{◌≡◌, ◌+◌, ◌<◌, ◌≤◌, All, IfOk, OnOk, OnErr, length, map, take, drop};
-ghost use Rattle.advisor.specs.Words.{term_of, leaf_count_of, after_log, Read, all_accesses};
+ghost use Rattle.advisor.specs.Imports.{term_of, leaf_count_of, after_log, Read, all_accesses};
 ghost use Rattle.advisor.specs.Inner.Pools.{HasKnownHolds};
 ghost use Rattle.advisor.specs.Suits.{suits};
 ghost use Rattle.advisor.specs.Inner.Trials.{IsTrial, IsFresh, HasTrials, rows_accesses, tried_all, none_failed};

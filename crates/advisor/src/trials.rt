@@ -1,6 +1,6 @@
 // Ways of storing leaves, each tried with the values of all rows.
 ghost use Rattle.std.specs.Prelude.{ℕ, ◌&&◌, ◌||◌, ◌==◌, ◌≡◌, ◌<◌, All, true, not, IfOk, OnOk, length, map};
-ghost use Rattle.advisor.specs.Words.{leaves, schema_fields, raised, is_between};
+ghost use Rattle.advisor.specs.Imports.{leaves, schema_fields, raised, is_between};
 ghost use Rattle.advisor.specs.Inner.SideCosts.{IsHold};
 ghost use Rattle.advisor.specs.Suits.{stays};
 ghost use Rattle.advisor.specs.Inner.Trials.{IsTrial, IsFresh, has_trial, HasTrials, low_stays, all_lows_stay, tried_leaf, has_not_failed, none_failed};

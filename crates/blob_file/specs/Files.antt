@@ -1,6 +1,6 @@
 -- Blob files: which bytes are the file of a header and of blobs. Nothing here is shared with what writes and reads them.
 use Rattle.std.specs.Prelude.{ℕ, ◌≡◌, ◌/◌, ◌%◌, ◌≤◌, Bool, true, false, ℤ, List, [], ◌∷◌, ◌++◌, length, map, codes}
-use Rattle.blob_file.specs.Words.{Fields, Record, leaves, kinds_of, indices, Fixed, Term, layout_by, holds_by, Owner, image, HasShape, StoreMode, Strict, Wrap, AllStay, joined, bytes_of, Sentence, Define, View, canonical}
+use Rattle.blob_file.specs.Imports.{Fields, Record, leaves, kinds_of, indices, Fixed, Term, layout_by, holds_by, Owner, image, HasShape, StoreMode, Strict, Wrap, AllStay, joined, bytes_of, Sentence, Define, View, canonical}
 
 -- what the header of a file tells: the fields of a record, the extents of an array, how a value is stored that does not fit, and how the
 -- records lie

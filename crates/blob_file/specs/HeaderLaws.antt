@@ -1,6 +1,6 @@
 -- Mappings without names.
 use Rattle.std.specs.Prelude.{◌≡◌, true}
-use Rattle.blob_file.specs.Words.{false≢true, and_parts, Term, Split, Byteswap, Bytesplit, Change, Count, Heat, Named, IsBuiltTerm}
+use Rattle.blob_file.specs.Imports.{false≢true, and_parts, Term, Split, Byteswap, Bytesplit, Change, Count, Heat, Named, IsBuiltTerm}
 use Rattle.blob_file.specs.Headers.{is_nameless}
 
 -- they have a layout

@@ -1,6 +1,6 @@
 -- Which headers a file can be opened with.
 use Rattle.std.specs.Prelude.{ℕ, ◌≡◌, ◌*◌, ◌^◌, Bool, true, false, not, ◌&&◌, ◌||◌, nat_lt, List, map, length, sum_by, is_ok, is_none, None, Ok}
-use Rattle.blob_file.specs.Words.{list_all, bad_shape, bad_extents, ExtentWord, Fixed, Record, kinds_of, records_of, lengths_of, has_names, record_fault, is_name, PathStep, FieldWidth, Term, Aosoa, BitAos, BitSoa, Split, Byteswap, Bytesplit, Change, Count, Heat, Named, leaf_cells, accepted, most_slots, Sentence, Reads, Two, granules_for, IsOverLimits}
+use Rattle.blob_file.specs.Imports.{list_all, bad_shape, bad_extents, ExtentWord, Fixed, Record, kinds_of, records_of, lengths_of, has_names, record_fault, is_name, PathStep, FieldWidth, Term, Aosoa, BitAos, BitSoa, Split, Byteswap, Bytesplit, Change, Count, Heat, Named, leaf_cells, accepted, most_slots, Sentence, Reads, Two, granules_for, IsOverLimits}
 use Rattle.record_dim.specs.declared.path.PathStep.TheVariants as step
 use Rattle.blob_file.specs.Files.{Header, owners_by, record_line, view_line}
 

@@ -6,4 +6,4 @@ pub mod Opened
 pub mod Parts
 pub mod Statements
 pub mod Inner
-pub mod Words
+pub mod Imports

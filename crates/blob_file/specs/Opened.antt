@@ -1,7 +1,7 @@
 -- What is opened of a file, as a function of its bytes: a header and blobs, or the first refusal.
 use Rattle.std.specs.Prelude.{ℕ, ◌≡◌, ◌⊎◌, ◌+◌, ◌*◌, ◌==◌, Bool, true, false, not, ◌&&◌, nat_eq, nat_le, if◌then◌else◌, ℤ, List, [], ◌∷◌, length, map, take, drop, sum_by, codes, Option, None, Some, option_map, Result, Ok, Err, is_ok}
 use Rattle.record_dim.specs.Std.{list_any}
-use Rattle.blob_file.specs.Words.{list_all, pointwise, indices, extent_of, is_rows, Fields, Record, leaves, kinds_of, holds_by, hold_at, zeros, kind_at, StoreMode, Strict, Wrap, New, Sentence, Define, View, deepest, Two, canonical, line_of, raw_under, table_under, StoreAnswer, store_answer, Table, Write, all_accesses, tallied, no_tally, blob_lengths}
+use Rattle.blob_file.specs.Imports.{list_all, pointwise, indices, extent_of, is_rows, Fields, Record, leaves, kinds_of, holds_by, hold_at, zeros, kind_at, StoreMode, Strict, Wrap, New, Sentence, Define, View, deepest, Two, canonical, line_of, raw_under, table_under, StoreAnswer, store_answer, Table, Write, all_accesses, tallied, no_tally, blob_lengths}
 use Rattle.blob_file.specs.Files.{Header, magic, four_bytes, two_lines, owners_by, image_bytes}
 use Rattle.blob_file.specs.Headers.{is_nameless, can_lie}
 use Rattle.blob_file.specs.declared.fault.FileFault.{FileFault}

@@ -1,6 +1,6 @@
 -- The parts of a header as the code has them.
 use Rattle.std.specs.Prelude.{ℕ, List, map, codes}
-use Rattle.blob_file.specs.Words.{extent_of, Tree, Fields, Record, End, tree_of, StoreMode, Term, term_of, New}
+use Rattle.blob_file.specs.Imports.{extent_of, Tree, Fields, Record, End, tree_of, StoreMode, Term, term_of, New}
 use Rattle.blob_file.specs.Files.{Header}
 use Rattle.blob_file.specs.Opened.{mode_by}
 use Rattle.blob_file.specs.declared.header.FileHeader.{FileHeader}

@@ -1,6 +1,6 @@
 -- What a view saves as, and what the call that saves it leaves in a sink.
 use Rattle.std.specs.Prelude.{ℕ, ◌≡◌, List, [], ◌∷◌, ◌++◌, length, Option, Result, Ok, Err}
-use Rattle.blob_file.specs.Words.{Wrote, Stopped, Table}
+use Rattle.blob_file.specs.Imports.{Wrote, Stopped, Table}
 use Rattle.blob_file.specs.Files.{Header, magic, four_bytes, two_lines, IsShort, file_of, image_bytes}
 use Rattle.blob_file.specs.declared.fault.SaveEnd.{SaveEnd}
 use Rattle.blob_file.specs.declared.fault.SaveEnd.TheVariants.{TooBig, Failed, NoMemory}

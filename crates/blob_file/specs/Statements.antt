@@ -1,6 +1,6 @@
 -- The laws of blob files.
 use Rattle.std.specs.Prelude.{ℕ, ◌≡◌, ◌<◌, ◌≤◌, ◌↔◌, ℤ, List, length, Ok}
-use Rattle.blob_file.specs.Words.{kinds_of, holds_by, hold_at, joined, Table}
+use Rattle.blob_file.specs.Imports.{kinds_of, holds_by, hold_at, joined, Table}
 use Rattle.blob_file.specs.Files.{Header, AreRows, IsFile, image_bytes}
 use Rattle.blob_file.specs.Headers.{IsTyped, HasLines, CanLie}
 use Rattle.blob_file.specs.Opened.{Saved, opened, rows_in, with_body}

@@ -1,6 +1,6 @@
 // The bytes behind a header as blobs, and the blobs of a view against them.
 ghost use Rattle.std.specs.Prelude.{◌≡◌, ◌*◌, true, false, IfOk, length, sum_by};
-ghost use Rattle.blob_file.specs.Words.{AreSized, owners_of, blob_lengths};
+ghost use Rattle.blob_file.specs.Imports.{AreSized, owners_of, blob_lengths};
 ghost use Rattle.blob_file.specs.Opened.{cut};
 ghost use Rattle.blob_file.specs.Saving.{blobs_of};
 

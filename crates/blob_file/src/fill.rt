@@ -1,6 +1,6 @@
 // The rows of a view, stored by the raw numbers that blobs hold.
 ghost use Rattle.std.specs.Prelude.{ℕ, ℤ, ◌≡◌, ◌⊎◌, ◌+◌, ◌*◌, ◌<◌, ◌≤◌, pos, true, IfErr, OnOk, OnErr, length, slice_index_or};
-ghost use Rattle.blob_file.specs.Words.{is_signed, IsDeclared, IsIn, low_64, AreSized, hold_at, column_writes, with_column, run_steps, AreRowsMoved, CountsNothing, kept_rows, kept_of, leaf_count_of, leaf_type_of, owners_of, table_holds, after_stores, Write, all_accesses};
+ghost use Rattle.blob_file.specs.Imports.{is_signed, IsDeclared, IsIn, low_64, AreSized, hold_at, column_writes, with_column, run_steps, AreRowsMoved, CountsNothing, kept_rows, kept_of, leaf_count_of, leaf_type_of, owners_of, table_holds, after_stores, Write, all_accesses};
 ghost use Rattle.blob_file.specs.Opened.{raw_in};
 ghost use Rattle.blob_file.specs.Inner.Filling.{kept_run, run_writes, AreFitting, AreTaken, IsTaken, IsTakenLeaf};
 ghost use Rattle.blob_file.specs.Saving.{header_of};

@@ -1,6 +1,6 @@
 // The header of a file, read.
 ghost use Rattle.std.specs.Prelude.{ℕ, ◌≡◌, ◌≤◌, ◌⊎◌, false, true, take, drop, length, codes, not, ◌&&◌, IfOk, IfErr, OnOk, Some, None, MatchOption, IsTrue};
-ghost use Rattle.blob_file.specs.Words.{list_any, is_rows, term_of, is_name, tree_of, Record, IsRecord};
+ghost use Rattle.blob_file.specs.Imports.{list_any, is_rows, term_of, is_name, tree_of, Record, IsRecord};
 ghost use Rattle.blob_file.specs.Headers.{is_nameless};
 ghost use Rattle.blob_file.specs.Opened.{fields_told, header_at, header_told, line_told, new_told, same_bytes};
 ghost use Rattle.blob_file.specs.Parts.{fields_in, header_in, new_in};

@@ -1,6 +1,6 @@
 // Laws of blob files. The functions do nothing: their contracts are the laws.
 ghost use Rattle.std.specs.Prelude.{◌≡◌, ◌*◌, length, sum_by};
-ghost use Rattle.blob_file.specs.Words.{joined, owners_of};
+ghost use Rattle.blob_file.specs.Imports.{joined, owners_of};
 ghost use Rattle.blob_file.specs.Saving.{blobs_of};
 ghost use Rattle.blob_file.specs.Statements.{HoldsBits, HoldsRows, OneFile, OpensFiles, ReadsBack};
 

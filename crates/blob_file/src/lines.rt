@@ -1,6 +1,6 @@
 // The lines of a header, cut and read.
 ghost use Rattle.std.specs.Prelude.{ℕ, ◌≡◌, ◌≢◌, ◌<◌, ◌≤◌, ◌⊎◌, MatchOption, IfNone, IfSome, IfOk, IfErr, OnOk, Some, None, true, false, length, slice_index};
-ghost use Rattle.blob_file.specs.Words.{sentence_of, canonical, HasItsFields};
+ghost use Rattle.blob_file.specs.Imports.{sentence_of, canonical, HasItsFields};
 ghost use Rattle.blob_file.specs.Opened.{bytes_to_line_end, line_told, same_bytes};
 ghost use Rattle.blob_file.specs.Inner.Refusals.{refusal};
 ghost use Rattle.blob_file.specs.declared.fault.FileFault.TheVariants as fault;

@@ -1,6 +1,6 @@
 // A file, opened as a view.
 ghost use Rattle.std.specs.Prelude.{◌≡◌, ◌≤◌, ◌+◌, ◌*◌, ◌⊎◌, false, true, IfOk, IfErr, OnOk, Ok, Err, Some, length, map, sum_by};
-ghost use Rattle.blob_file.specs.Words.{list_any, bad_shape, bad_extents, extent_of, is_rows, term_of, accepted, layout_by, leaf_cells, IsBuiltTerm, record_fault, kinds_of, schema_fields, tree_of, Record, IsRecord, AreSized, IsOverLimits, owners_of};
+ghost use Rattle.blob_file.specs.Imports.{list_any, bad_shape, bad_extents, extent_of, is_rows, term_of, accepted, layout_by, leaf_cells, IsBuiltTerm, record_fault, kinds_of, schema_fields, tree_of, Record, IsRecord, AreSized, IsOverLimits, owners_of};
 ghost use Rattle.blob_file.specs.Files.{owners_by, Header, IsFile};
 ghost use Rattle.blob_file.specs.Headers.{is_nameless, CanLie};
 ghost use Rattle.blob_file.specs.Opened.{empty_table, leaf_count, mode_by, opened, row_count, with_blobs, with_body, with_header, IsRead, IsReadInto};

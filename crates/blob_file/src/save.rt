@@ -1,6 +1,6 @@
 // A view, written as a file.
 ghost use Rattle.std.specs.Prelude.{◌≡◌, ◌⊎◌, ◌+◌, ◌≤◌, [], ◌∷◌, ◌++◌, length, take, drop, IfOk, IfErr, OnOk};
-ghost use Rattle.blob_file.specs.Words.{Puts, Writes, joined};
+ghost use Rattle.blob_file.specs.Imports.{Puts, Writes, joined};
 ghost use Rattle.blob_file.specs.Files.{four_bytes, two_lines, file_of, record_text, view_text, IsShort, IsFile};
 ghost use Rattle.blob_file.specs.Saving.{header_of, blobs_of, head_of, IsSaved};
 ghost use Rattle.blob_file.specs.declared.fault.SaveEnd.TheVariants.{TooBig, NoMemory};

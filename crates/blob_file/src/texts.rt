@@ -1,6 +1,6 @@
 // The two texts of a header, written.
 ghost use Rattle.std.specs.Prelude.{◌≡◌, IfOk, IsTrue, map};
-ghost use Rattle.blob_file.specs.Words.{Fixed, sentence_of, canonical, is_name};
+ghost use Rattle.blob_file.specs.Imports.{Fixed, sentence_of, canonical, is_name};
 ghost use Rattle.blob_file.specs.Files.{is_wrap, record_text, view_text};
 ghost use Rattle.blob_file.specs.Saving.{header_of};
 

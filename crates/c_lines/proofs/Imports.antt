@@ -1,6 +1,6 @@
 -- What the proofs of this crate speak of.
-pub use Rattle.c_lines.specs.Words.{Fields, text_self, same_text, texts_of, IsDeclared, is_signed, least_in, width_of, schema_fields, AreAlike, refused_at, Spot, IsCopied, source_log, Sentence, sentence_of, New, assignment_of, Term, term_of, csv_records, records_behind, StepFault, bit_held, image, entry, range_split, header_of, blobs_of, LeafType, StoreFault, ExtentWord, hold_at, low_64, IsWithin64, LaneFault, indices, U64, Line, CommandFault, joined, flat_map_push, with_bytes, decimal-digits_text, HasRows, left_at, Changed, Ends, row_of, all_left, stencil_left, ChangeFault}
-unfoldable pub use Rattle.c_lines.specs.Words.{digits_text}
+pub use Rattle.c_lines.specs.Imports.{Fields, text_self, same_text, texts_of, IsDeclared, is_signed, least_in, width_of, schema_fields, AreAlike, refused_at, Spot, IsCopied, source_log, Sentence, sentence_of, New, assignment_of, Term, term_of, csv_records, records_behind, StepFault, bit_held, image, entry, range_split, header_of, blobs_of, LeafType, StoreFault, ExtentWord, hold_at, low_64, IsWithin64, LaneFault, indices, U64, Line, CommandFault, joined, flat_map_push, with_bytes, decimal-digits_text, HasRows, left_at, Changed, Ends, row_of, all_left, stencil_left, ChangeFault}
+unfoldable pub use Rattle.c_lines.specs.Imports.{digits_text}
 pub use Rattle.record_dim.specs.Std.{◌≡◌, ℕ, ◌+◌, ◌-◌, ◌<◌, ◌≤◌, nat_lt, true, List, [], ◌++◌, length, take, drop, length-drop, append_assoc, get_or, map, Ok, sym, ap, ◌∙◌, arith, ℤ, refl, inl, inr, Err, ◌⊎◌, nat_eq, Bool, Option, None, subst, suc, ◌^◌, ◌∷◌, pos, negsuc, ◌≤ℤ◌, Some, Result, w64, ⊎_elim, zero, false, All, take_all, ◌*◌, ◌%◌, not, rules, length-append, IfSome, SFits, to_z, of_z, FitsSigned, option_map, not-true, cases_Bool, false≢true, ltb-true, OnOk, OnErr, ◌/◌, if◌then◌else◌, IfOk, ◌+ℤ◌, nat_tests, take_at, drop_at, drop_all, drop-drop, take_rest, append-nil, length-map, get_or-map, drop-map, get_or-take, length-take-le, take-append-drop, take-map, take-take, take_more, take_more_set, map-append, length-set, ext_get_or, get_or-drop, map-id, length-take, range_with_len, list_all, pointwise, cast_signed, cast_unsigned, w128, option_or, take-add, ints, of_z-to_z, to_z-of_z, take-put_mid, flat_map-append, get_or-map-range_with_len, length-map-range_with_len, length-flat_map-take, list_all_at, and_parts, leb-true, lt-ltb, ◌&&◌, filter, set, max, min, nat_le, enumerate_from, codes, take-append_seam, slice_get, find}
 pub use Rattle.std.proofs.Common.{mul-le-mul_left}
 pub use Rattle.std.proofs.Math.Seq.{drop-cons}

@@ -1,6 +1,6 @@
 -- What a table is: its extents, the paths and the types of its leaves, and what it counts of them.
 use Rattle.std.specs.Prelude.{if◌then◌else◌}
-use Rattle.c_lines.specs.Words.{ℕ, List, [], nat_lt, slice_index_or, Option, Some, None, Ok, Err, LeafCounts, texts_of, LeafType, Table, leaf_count_of, leaf_type_of}
+use Rattle.c_lines.specs.Imports.{ℕ, List, [], nat_lt, slice_index_or, Option, Some, None, Ok, Err, LeafCounts, texts_of, LeafType, Table, leaf_count_of, leaf_type_of}
 pub use Rattle.piece_bits.specs.Prelude.{value_bits}
 use Rattle.c_lines.specs.Answers.{Answer}
 use Rattle.c_lines.specs.declared.refusal.Refusal.TheVariants.{NoPlace}

@@ -1,6 +1,6 @@
 -- Where a call by lines and the command of a script differ: a call makes a table beside no other, and a script beside all of its views.
 use Rattle.std.specs.Prelude.{◌≡◌, ◌+◌, ◌*◌, ◌^◌, ◌≤◌}
-use Rattle.c_lines.specs.Words.{ℕ, List, [], Ok, Term, StoreMode, Fields, Table, blob_bits, live_bits, made, Entry}
+use Rattle.c_lines.specs.Imports.{ℕ, List, [], Ok, Term, StoreMode, Fields, Table, blob_bits, live_bits, made, Entry}
 
 -- a table that a command makes leaves room for the largest one
 abbrev pub TablesLeaveRoom : Type 0

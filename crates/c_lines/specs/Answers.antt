@@ -1,6 +1,6 @@
 -- The answers of calls: what comes of a table, or why nothing does, and their numbers in C.
 use Rattle.std.specs.Prelude.{◌≡◌, ◌⊎◌}
-use Rattle.c_lines.specs.Words.{ℤ, pos, Option, Some, None, option_map, Result, Ok, Err, Table}
+use Rattle.c_lines.specs.Imports.{ℤ, pos, Option, Some, None, option_map, Result, Ok, Err, Table}
 use Rattle.c_lines.specs.declared.refusal.Refusal.{Refusal}
 use Rattle.c_lines.specs.declared.refusal.Refusal.TheVariants.{NoView, NoPlace, NoMemory, NoRoom, BadType, Range, Narrow, Mismatch, Syntax, TooDeep, OtherLine, LineTooLong, Unknown, BadRecord, BadExtents, BadMapping, TooBig, BadKernel, Empty, MissingColumn, ColumnTwice, ShortRow, Number, BadFile, Twice, Overflow, DivideByZero, NotCounted, BadWindow, Irregular, BadStencil, BadActors, BadAdvice, SharedByte}
 

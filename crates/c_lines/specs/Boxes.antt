@@ -1,6 +1,6 @@
 -- Calls on the rows of a box: of a window with a low and a high bound for each extent, as `print V window [..]` has it.
 use Rattle.std.specs.Prelude.{◌∷◌}
-use Rattle.c_lines.specs.Words.{ℕ, List, [], Span, rows_of, Table, ◌>>=◌, windowed}
+use Rattle.c_lines.specs.Imports.{ℕ, List, [], Span, rows_of, Table, ◌>>=◌, windowed}
 use Rattle.c_lines.specs.Answers.{Answer, answer_map, given_or}
 use Rattle.c_lines.specs.Told.{told}
 

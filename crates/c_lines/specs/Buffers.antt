@@ -1,6 +1,6 @@
 -- Bytes that are copied into the buffer of a caller, and what they are.
 use Rattle.std.specs.Prelude.{◌≡◌, ◌⊎◌, ◌++◌, if◌then◌else◌}
-use Rattle.c_lines.specs.Words.{ℕ, List, [], length, drop, nat_le, nat_lt, slice_index_or, Result, Ok, Err, file_of, record_text, view_text, blobs_of, header_of, FileFault, print_text, joined, texts_of, Table, owners_of, is_long, ◌>>=◌, ok_or}
+use Rattle.c_lines.specs.Imports.{ℕ, List, [], length, drop, nat_le, nat_lt, slice_index_or, Result, Ok, Err, file_of, record_text, view_text, blobs_of, header_of, FileFault, print_text, joined, texts_of, Table, owners_of, is_long, ◌>>=◌, ok_or}
 use Rattle.blob_file.specs.Opened.{Saved, opened, table_of_saved, with_body}
 use Rattle.blob_file.specs.declared.fault.FileFault.TheVariants as fault
 use Rattle.worlds.specs.declared.fault.BadFile.TheVariants as bad

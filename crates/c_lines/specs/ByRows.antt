@@ -1,6 +1,6 @@
 -- Values of one leaf in the rows of a list, in the order of the list. A row may stand in it more than once.
 use Rattle.std.specs.Prelude.{◌&&◌, ◌+ℤ◌, ◌∷◌, if◌then◌else◌}
-use Rattle.c_lines.specs.Words.{ℕ, Bool, ℤ, List, length, map, nat_eq, nat_lt, Ok, Err, LeafType, entry, Table, leaf_count_of, leaf_type_of, after_log, after_read, after_write, Read}
+use Rattle.c_lines.specs.Imports.{ℕ, Bool, ℤ, List, length, map, nat_eq, nat_lt, Ok, Err, LeafType, entry, Table, leaf_count_of, leaf_type_of, after_log, after_read, after_write, Read}
 use Rattle.record_dim.specs.Std.{list_all}
 use Rattle.c_lines.specs.Answers.{Answer, changed_by}
 use Rattle.c_lines.specs.Values.{read_if, store_told}

@@ -1,6 +1,6 @@
 -- One leaf of rows one after another, as the bytes of numbers of any width of the caller's. The least significant byte of a number is the first.
 use Rattle.std.specs.Prelude.{◌+◌, ◌*◌, ◌/◌, ◌%◌, ◌&&◌, ◌||◌, if◌then◌else◌}
-use Rattle.c_lines.specs.Words.{ℕ, Bool, ℤ, pos, List, length, map, drop, nat_eq, nat_le, Ok, Err, w64, flat_map, range_with_len, little_bytes, little_number, low_bytes, twos_complement, value_bits, is_signed, LeafType, Table}
+use Rattle.c_lines.specs.Imports.{ℕ, Bool, ℤ, pos, List, length, map, drop, nat_eq, nat_le, Ok, Err, w64, flat_map, range_with_len, little_bytes, little_number, low_bytes, twos_complement, value_bits, is_signed, LeafType, Table}
 use Rattle.c_lines.specs.Answers.{Answer, answer_map, given_or}
 use Rattle.c_lines.specs.CallerRuns.{after_run, after_set_run, got_run, was_set_run}
 use Rattle.c_lines.specs.declared.refusal.Refusal.TheVariants.{NoPlace, BadType}

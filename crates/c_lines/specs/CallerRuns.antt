@@ -1,6 +1,6 @@
 -- One leaf of rows one after another, as numbers of the caller's type.
 use Rattle.std.specs.Prelude.{◌≡◌, ◌+◌, if◌then◌else◌}
-use Rattle.c_lines.specs.Words.{ℕ, Bool, ℤ, List, length, take, Option, Some, None, Result, Ok, Err, LeafType, column_reads, run_of, run_fault, stored_count, with_run, Table, after_log, LaneFault, refused_by}
+use Rattle.c_lines.specs.Imports.{ℕ, Bool, ℤ, List, length, take, Option, Some, None, Result, Ok, Err, LeafType, column_reads, run_of, run_fault, stored_count, with_run, Table, after_log, LaneFault, refused_by}
 use Rattle.c_lines.specs.Answers.{Answer}
 use Rattle.c_lines.specs.Told.{store_refusal}
 use Rattle.c_lines.specs.Values.{is_run, read_by}

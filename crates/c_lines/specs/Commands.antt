@@ -1,6 +1,6 @@
 -- A line on one view: its command, in a script that has nothing but this view, by the name that the line gives it.
 use Rattle.std.specs.Prelude.{◌≡◌, ◌⊎◌, ◌&&◌, ◌^◌, if◌then◌else◌}
-use Rattle.c_lines.specs.Words.{ℕ, ℤ, pos, neg_ℤ, int_le, int_lt, Bool, true, false, List, [], Option, Some, Ok, Err, Sentence, Fields, Table, HasRows, front_left, kernel_left, left_at, stencil_left, updated_front, fit_kernel, number_text, text_of_leaf, Left, Tested, ◌>>=◌, fit_stencil, done_by, World, added, empty, CommandFault}
+use Rattle.c_lines.specs.Imports.{ℕ, ℤ, pos, neg_ℤ, int_le, int_lt, Bool, true, false, List, [], Option, Some, Ok, Err, Sentence, Fields, Table, HasRows, front_left, kernel_left, left_at, stencil_left, updated_front, fit_kernel, number_text, text_of_leaf, Left, Tested, ◌>>=◌, fit_stencil, done_by, World, added, empty, CommandFault}
 use Rattle.line_grammar.specs.Sentences as line
 use Rattle.worlds.specs.declared.fault.CommandFault.TheVariants as command
 use Rattle.c_lines.specs.Answers.{Answer}

@@ -1,6 +1,6 @@
 -- A copy of one table into another.
 use Rattle.std.specs.Prelude.{◌+◌, ◌++◌}
-use Rattle.c_lines.specs.Words.{ℕ, List, length, take, drop, Ok, Err, kept_rows, Access, Read, Write, all_accesses, row_accesses, Table, kept_of, leaf_count_of, after_log, after_stores, all_read, copied_by}
+use Rattle.c_lines.specs.Imports.{ℕ, List, length, take, drop, Ok, Err, kept_rows, Access, Read, Write, all_accesses, row_accesses, Table, kept_of, leaf_count_of, after_log, after_stores, all_read, copied_by}
 use Rattle.c_lines.specs.Answers.{Answer}
 use Rattle.c_lines.specs.declared.refusal.Refusal.TheVariants.{Narrow}
 use Rattle.c_lines.specs.Told.{done_of, in_numbers}

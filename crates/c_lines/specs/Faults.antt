@@ -1,5 +1,5 @@
 -- What C learns of a refusal beside its number.
-use Rattle.c_lines.specs.Words.{ℕ, ℤ, pos, Option, Some, None, Ok, Err, BadExtents, BadMapping, BadRecord, BadActors, BadAdvice, BadFile, BadKernel, BadStencil}
+use Rattle.c_lines.specs.Imports.{ℕ, ℤ, pos, Option, Some, None, Ok, Err, BadExtents, BadMapping, BadRecord, BadActors, BadAdvice, BadFile, BadKernel, BadStencil}
 use Rattle.extents.specs.declared.words.BadExtents.TheVariants as extents
 use Rattle.map_expr.specs.declared.check.BadMapping.TheVariants as mapping
 use Rattle.record_dim.specs.declared.fault.BadRecord.TheVariants as fields

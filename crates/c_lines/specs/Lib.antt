@@ -17,4 +17,4 @@ pub mod Buffers
 pub mod Placed
 pub mod Inner
 pub mod Prelude
-pub mod Words
+pub mod Imports

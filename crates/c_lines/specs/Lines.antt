@@ -1,6 +1,6 @@
 -- What the lines of a call describe: they are lines of the second version of the language, and mean what they mean in a script.
 use Rattle.std.specs.Prelude.{if◌then◌else◌}
-use Rattle.c_lines.specs.Words.{ℕ, Bool, true, false, List, length, nat_lt, Result, Ok, Err, Sentence, New, Define, View, Load, deepest, Two, line_of, Table, define, loaded_by, ◌>>=◌, named, new_table_by, World, empty}
+use Rattle.c_lines.specs.Imports.{ℕ, Bool, true, false, List, length, nat_lt, Result, Ok, Err, Sentence, New, Define, View, Load, deepest, Two, line_of, Table, define, loaded_by, ◌>>=◌, named, new_table_by, World, empty}
 use Rattle.c_lines.specs.Answers.{Answer}
 use Rattle.c_lines.specs.declared.refusal.Refusal.TheVariants.{LineTooLong, Syntax, TooDeep, OtherLine}
 use Rattle.c_lines.specs.declared.refusal.TextOf.{TextOf}

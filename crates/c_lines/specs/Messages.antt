@@ -1,6 +1,6 @@
 -- The words of an answer: those of the program where it has some, but a leaf is its number.
 use Rattle.std.specs.Prelude.{◌≡◌, ◌∷◌, ◌&&◌, if◌then◌else◌}
-use Rattle.c_lines.specs.Words.{ℕ, ℤ, pos, Bool, List, [], codes, Option, Some, None, Ok, Err, int_eq, digits_text, fault_words}
+use Rattle.c_lines.specs.Imports.{ℕ, ℤ, pos, Bool, List, [], codes, Option, Some, None, Ok, Err, int_eq, digits_text, fault_words}
 use Rattle.record_dim.specs.Std.{find}
 use Rattle.extents.specs.declared.words.BadExtents.TheVariants as extents
 use Rattle.map_expr.specs.declared.check.BadMapping.TheVariants as mapping

@@ -1,6 +1,6 @@
 -- Where the numbers of a leaf lie, as a call answers it.
 use Rattle.std.specs.Prelude.{◌≡◌, ◌<◌, ◌≤◌}
-use Rattle.c_lines.specs.Words.{ℕ, Ok, Err, ArePlacesOf, IsDirect, MustTell, Places, Table, leaf_count_of}
+use Rattle.c_lines.specs.Imports.{ℕ, Ok, Err, ArePlacesOf, IsDirect, MustTell, Places, Table, leaf_count_of}
 use Rattle.c_lines.specs.Answers.{Answer}
 use Rattle.c_lines.specs.declared.refusal.Refusal.{Refusal}
 use Rattle.c_lines.specs.declared.refusal.Refusal.TheVariants.{NoPlace, Irregular}

@@ -1,5 +1,5 @@
 -- A table that is laid out anew by a `relayout` line.
-use Rattle.c_lines.specs.Words.{ℕ, List, [], Ok, Err, Sentence, Relayout, Term, Table, laid_anew_by, nameless, ◌>>=◌, made}
+use Rattle.c_lines.specs.Imports.{ℕ, List, [], Ok, Err, Sentence, Relayout, Term, Table, laid_anew_by, nameless, ◌>>=◌, made}
 use Rattle.c_lines.specs.Answers.{Answer}
 use Rattle.c_lines.specs.declared.refusal.Refusal.TheVariants.{OtherLine}
 use Rattle.c_lines.specs.declared.refusal.TextOf.TheVariants.{First}

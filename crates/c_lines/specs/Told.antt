@@ -1,5 +1,5 @@
 -- Why a command of the model of scripts or a store is refused, as the answer of a call.
-use Rattle.c_lines.specs.Words.{ℕ, RowFault, Spot, StoreFault, Tested, ok_or, Wording, CommandFault}
+use Rattle.c_lines.specs.Imports.{ℕ, RowFault, Spot, StoreFault, Tested, ok_or, Wording, CommandFault}
 use Rattle.csv_rows.specs.declared.fault.RowFault.TheVariants as row
 use Rattle.views.specs.declared.fault.StoreFault.TheVariants as store
 use Rattle.worlds.specs.declared.fault.CommandFault.TheVariants as command

@@ -1,6 +1,6 @@
 -- One value of a table, as a number of the caller's type.
 use Rattle.std.specs.Prelude.{◌+◌, ◌&&◌, if◌then◌else◌}
-use Rattle.c_lines.specs.Words.{ℕ, Bool, true, false, not, ℤ, length, nat_lt, nat_le, Ok, Err, LeafType, U64, is_signed, entry, without_number, Table, leaf_count_of, leaf_type_of, answer_of, ok_or}
+use Rattle.c_lines.specs.Imports.{ℕ, Bool, true, false, not, ℤ, length, nat_lt, nat_le, Ok, Err, LeafType, U64, is_signed, entry, without_number, Table, leaf_count_of, leaf_type_of, answer_of, ok_or}
 use Rattle.c_lines.specs.Answers.{Answer}
 use Rattle.c_lines.specs.Told.{store_refusal}
 use Rattle.c_lines.specs.declared.refusal.Refusal.TheVariants.{NoPlace, BadType}

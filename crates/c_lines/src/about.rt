@@ -1,6 +1,6 @@
 // What a view is.
 ghost use Rattle.std.specs.Prelude.{◌≡◌, ◌<◌, ◌≤◌, ◌++◌};
-ghost use Rattle.c_lines.specs.Words.{drop, length, value_bits};
+ghost use Rattle.c_lines.specs.Imports.{drop, length, value_bits};
 ghost use Rattle.c_lines.specs.About.{counts_told, extents_told, path_told, type_told};
 ghost use Rattle.c_lines.specs.Buffers.{buffer_after, needed_after, put_told};
 

@@ -1,6 +1,6 @@
 // Where the bytes of a blob lie.
 ghost use Rattle.std.specs.Prelude.{◌≡◌};
-ghost use Rattle.c_lines.specs.Words.{length};
+ghost use Rattle.c_lines.specs.Imports.{length};
 ghost use Rattle.c_lines.specs.Answers.{answer_map};
 ghost use Rattle.c_lines.specs.Buffers.{blob_told};
 

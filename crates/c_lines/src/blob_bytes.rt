@@ -1,6 +1,6 @@
 // The blobs of a view.
 ghost use Rattle.std.specs.Prelude.{◌≡◌, ◌<◌, ◌≤◌, ◌++◌};
-ghost use Rattle.c_lines.specs.Words.{Ok, drop, length, owners_of};
+ghost use Rattle.c_lines.specs.Imports.{Ok, drop, length, owners_of};
 ghost use Rattle.c_lines.specs.Buffers.{blob_told, buffer_after, lent, needed_after, put_told, ReturnsSame};
 
 use crate::refusal::Refusal;

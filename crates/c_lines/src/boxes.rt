@@ -1,6 +1,6 @@
 // One leaf of the rows of a box, to and from an array.
 ghost use Rattle.std.specs.Prelude.{◌≡◌, ◌<◌};
-ghost use Rattle.c_lines.specs.Words.{length, map, IfOk, rows_of};
+ghost use Rattle.c_lines.specs.Imports.{length, map, IfOk, rows_of};
 ghost use Rattle.c_lines.specs.Answers.{answer_map, changed_by, given_or};
 ghost use Rattle.c_lines.specs.Boxes.{after_box, box_rows, on_box};
 ghost use Rattle.c_lines.specs.ByRows.{after_gather, after_scatter, gathered, put_there, was_scattered};

@@ -1,6 +1,6 @@
 // Rows by their indices.
 ghost use Rattle.std.specs.Prelude.{◌≡◌};
-ghost use Rattle.c_lines.specs.Words.{IfOk, IfErr, Some, Contains, slice_get, indices};
+ghost use Rattle.c_lines.specs.Imports.{IfOk, IfErr, Some, Contains, slice_get, indices};
 ghost use Rattle.c_lines.specs.declared.refusal.Refusal.TheVariants.{NoPlace};
 
 use crate::refusal::Refusal;

@@ -1,6 +1,6 @@
 // Leaves by their paths.
 ghost use Rattle.std.specs.Prelude.{◌≡◌};
-ghost use Rattle.c_lines.specs.Words.{IfOk, IfErr, Some, Contains, slice_get, texts_of};
+ghost use Rattle.c_lines.specs.Imports.{IfOk, IfErr, Some, Contains, slice_get, texts_of};
 ghost use Rattle.c_lines.specs.declared.refusal.Refusal.TheVariants.{NoPlace};
 
 use crate::refusal::Refusal;

@@ -1,6 +1,6 @@
 // One leaf of rows one after another, those of a list or of a window, to and from an array.
 ghost use Rattle.std.specs.Prelude.{◌≡◌, ◌<◌};
-ghost use Rattle.c_lines.specs.Words.{ℕ, true, length, map, slice_index_or, LeafType, leaf_count_of, leaf_type_of};
+ghost use Rattle.c_lines.specs.Imports.{ℕ, true, length, map, slice_index_or, LeafType, leaf_count_of, leaf_type_of};
 ghost use Rattle.c_lines.specs.Answers.{changed_by, given_or};
 ghost use Rattle.c_lines.specs.ByRows.{add_there, after_gather, after_scatter, are_rows, gathered, in_turn, put_there, values_at, was_scattered};
 ghost use Rattle.c_lines.specs.Told.{done_of};

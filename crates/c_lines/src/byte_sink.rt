@@ -1,6 +1,6 @@
 // What is written, in memory.
 ghost use Rattle.std.specs.Prelude.{◌≡◌};
-ghost use Rattle.c_lines.specs.Words.{[], Some};
+ghost use Rattle.c_lines.specs.Imports.{[], Some};
 
 use layout_io::{Failed, Sink};
 use std::alloc::Global;

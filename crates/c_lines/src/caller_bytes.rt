@@ -1,6 +1,6 @@
 // One leaf of rows one after another, to and from the bytes of numbers of any width of the caller's.
 ghost use Rattle.std.specs.Prelude.{◌≡◌, ◌+◌, ◌*◌, ◌/◌, ◌<◌, ◌≤◌};
-ghost use Rattle.c_lines.specs.Words.{Ok, length, map, IfOk, OnErr, OnOk, run_of, leaf_count_of};
+ghost use Rattle.c_lines.specs.Imports.{Ok, length, map, IfOk, OnErr, OnOk, run_of, leaf_count_of};
 ghost use Rattle.c_lines.specs.Answers.{answer_map};
 ghost use Rattle.c_lines.specs.CallerBytes.{after_run_as, after_set_run_as, bytes_of_numbers, got_run_as, numbers_in, reads_as, sized, was_set_run_as};
 ghost use Rattle.c_lines.specs.CallerRuns.{after_run, IsSet};

@@ -1,6 +1,6 @@
 // Lines that change a view, or give a number of it.
 ghost use Rattle.std.specs.Prelude.{◌≡◌, ◌<◌};
-ghost use Rattle.c_lines.specs.Words.{sentence_of, number_text};
+ghost use Rattle.c_lines.specs.Imports.{sentence_of, number_text};
 ghost use Rattle.c_lines.specs.Commands.{DoesLine, OnLine, in_64, is_do, is_kernel, is_signed_64, numbered, taken};
 ghost use Rattle.c_lines.specs.Inner.Carried.{Carried, IsRounds, change_refusal};
 

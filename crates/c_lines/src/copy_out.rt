@@ -1,6 +1,6 @@
 // Bytes in the buffer of a caller.
 ghost use Rattle.std.specs.Prelude.{◌≡◌};
-ghost use Rattle.c_lines.specs.Words.{Ok};
+ghost use Rattle.c_lines.specs.Imports.{Ok};
 ghost use Rattle.c_lines.specs.Buffers.{buffer_after, needed_after, put_told};
 
 use crate::refusal::Refusal;

@@ -1,6 +1,6 @@
 // A view as the bytes of a file or of its blobs and as the lines that make it, and the view of such bytes.
 ghost use Rattle.std.specs.Prelude.{◌≡◌, ◌<◌};
-ghost use Rattle.c_lines.specs.Words.{Ok, length, MatchResult, file_of, blobs_of, header_of};
+ghost use Rattle.c_lines.specs.Imports.{Ok, length, MatchResult, file_of, blobs_of, header_of};
 ghost use Rattle.c_lines.specs.Answers.{Tells, TellsLeft};
 ghost use Rattle.c_lines.specs.Buffers.{after_return, file_refusal, file_told, opened_told, record_line, returned, view_line, TellsPut};
 ghost use Rattle.c_lines.specs.Told.{done_of};

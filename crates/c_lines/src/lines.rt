@@ -1,6 +1,6 @@
 // The line that a text of a call is.
 ghost use Rattle.std.specs.Prelude.{◌≡◌, ◌≤◌};
-ghost use Rattle.c_lines.specs.Words.{IfOk, sentence_of, HasItsFields};
+ghost use Rattle.c_lines.specs.Imports.{IfOk, sentence_of, HasItsFields};
 ghost use Rattle.c_lines.specs.Answers.{Tells};
 ghost use Rattle.c_lines.specs.Lines.{line_answer};
 

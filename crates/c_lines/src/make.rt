@@ -1,6 +1,6 @@
 // A view of the two lines that describe it, and of a dataset.
 ghost use Rattle.std.specs.Prelude.{◌≡◌, ◌<◌};
-ghost use Rattle.c_lines.specs.Words.{IfOk, IfSome, OnOk, true, [], length, csv_records, records_behind, IsShape, sentence_of, HasItsFields, term_of, filled_by, loaded_by, named, new_table_by, is_nameless};
+ghost use Rattle.c_lines.specs.Imports.{IfOk, IfSome, OnOk, true, [], length, csv_records, records_behind, IsShape, sentence_of, HasItsFields, term_of, filled_by, loaded_by, named, new_table_by, is_nameless};
 ghost use Rattle.c_lines.specs.Answers.{Tells};
 ghost use Rattle.c_lines.specs.Lines.{asked, described, loaded, new_answer, world_told};
 ghost use Rattle.c_lines.specs.Inner.Makes.{asked_filled, asked_of, named_of, new_of, world_of, zeros_for};

@@ -1,6 +1,6 @@
 // The words of answers.
 ghost use Rattle.std.specs.Prelude.{◌≡◌, ◌-◌, ◌≤◌};
-ghost use Rattle.c_lines.specs.Words.{IfOk, Ok, drop, length, take, find, digits_text, fault_words};
+ghost use Rattle.c_lines.specs.Imports.{IfOk, Ok, drop, length, take, find, digits_text, fault_words};
 ghost use Rattle.c_lines.specs.Answers.{answer_map};
 ghost use Rattle.c_lines.specs.Buffers.{TellsPut};
 ghost use Rattle.c_lines.specs.Faults.{leaf_named};

@@ -1,6 +1,6 @@
 // Whole numbers as callers have them.
 ghost use Rattle.std.specs.Prelude.{◌≡◌, ◌+◌, ◌<◌, ◌≤◌};
-ghost use Rattle.c_lines.specs.Words.{ℤ, Bool, true, length, map, IfOk, IsDeclared, LeafType, IsWithin64, run_of, leaf_count_of, leaf_type_of};
+ghost use Rattle.c_lines.specs.Imports.{ℤ, Bool, true, length, map, IfOk, IsDeclared, LeafType, IsWithin64, run_of, leaf_count_of, leaf_type_of};
 ghost use Rattle.c_lines.specs.CallerBytes.{number_in};
 ghost use Rattle.c_lines.specs.CallerRuns.{after_run, IsFrontStored};
 ghost use Rattle.c_lines.specs.Values.{reads_signed};

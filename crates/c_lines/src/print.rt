@@ -1,6 +1,6 @@
 // The text of a table.
 ghost use Rattle.std.specs.Prelude.{◌≡◌, ◌<◌, ◌⊎◌};
-ghost use Rattle.c_lines.specs.Words.{length, Ok, Err, leaf_count_of, after_log, Read, all_accesses};
+ghost use Rattle.c_lines.specs.Imports.{length, Ok, Err, leaf_count_of, after_log, Read, all_accesses};
 ghost use Rattle.c_lines.specs.declared.refusal.Refusal.TheVariants.{NoMemory};
 ghost use Rattle.c_lines.specs.Buffers.{printed, TellsPut};
 

@@ -1,6 +1,6 @@
 // A table that is laid out anew.
 ghost use Rattle.std.specs.Prelude.{◌≡◌, ◌<◌};
-ghost use Rattle.c_lines.specs.Words.{ℕ, IfOk, List, true, AreAlike, sentence_of, term_of, is_nameless};
+ghost use Rattle.c_lines.specs.Imports.{ℕ, IfOk, List, true, AreAlike, sentence_of, term_of, is_nameless};
 ghost use Rattle.c_lines.specs.Answers.{Tells, TellsLeft};
 ghost use Rattle.c_lines.specs.Copies.{was_copied};
 ghost use Rattle.c_lines.specs.Inner.Carried.{Gave};

@@ -1,6 +1,6 @@
 // Rows of a view, one after another: those of a list, or those of a window.
 ghost use Rattle.std.specs.Prelude.{◌≡◌, ◌<◌};
-ghost use Rattle.c_lines.specs.Words.{ℕ, List, length, nat_lt, slice_index_or, list_all, rows_of, Table};
+ghost use Rattle.c_lines.specs.Imports.{ℕ, List, length, nat_lt, slice_index_or, list_all, rows_of, Table};
 
 use extents::Window;
 use views::View;

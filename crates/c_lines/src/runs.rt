@@ -1,6 +1,6 @@
 // One leaf of rows one after another, to and from an array.
 ghost use Rattle.std.specs.Prelude.{◌≡◌, ◌+◌, ◌<◌, ◌≤◌};
-ghost use Rattle.c_lines.specs.Words.{length, map, OnOk, OnErr, run_of, leaf_count_of};
+ghost use Rattle.c_lines.specs.Imports.{length, map, OnOk, OnErr, run_of, leaf_count_of};
 ghost use Rattle.c_lines.specs.CallerRuns.{after_run, was_set_run, after_set_run, IsSet};
 ghost use Rattle.c_lines.specs.Values.{read_by};
 

@@ -1,6 +1,6 @@
 // Lines that show something of a view.
 ghost use Rattle.std.specs.Prelude.{◌≡◌, ◌<◌, ◌⊎◌};
-ghost use Rattle.c_lines.specs.Words.{true, sentence_of, all_left};
+ghost use Rattle.c_lines.specs.Imports.{true, sentence_of, all_left};
 ghost use Rattle.c_lines.specs.Commands.{IsToldInto, OnLine, commanded, is_tell, line_taken, taken};
 ghost use Rattle.c_lines.specs.Inner.Carried.{Carried, SaysStep, bytes_in};
 

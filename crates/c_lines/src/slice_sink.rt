@@ -1,6 +1,6 @@
 // What is written, in a slice of a caller.
 ghost use Rattle.std.specs.Prelude.{◌≡◌, ◌∷◌, ◌<◌, ◌≤◌};
-ghost use Rattle.c_lines.specs.Words.{Some, length, take};
+ghost use Rattle.c_lines.specs.Imports.{Some, length, take};
 
 use layout_io::{Failed, Sink};
 

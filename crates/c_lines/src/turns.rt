@@ -1,6 +1,6 @@
 // What is done with each value of a list in its turn.
 ghost use Rattle.std.specs.Prelude.{◌≡◌, ◌<◌};
-ghost use Rattle.c_lines.specs.Words.{ℕ, ℤ, length, IsWithin64, Table, leaf_count_of};
+ghost use Rattle.c_lines.specs.Imports.{ℕ, ℤ, length, IsWithin64, Table, leaf_count_of};
 ghost use Rattle.c_lines.specs.ByRows.{Turned, add_there, put_there};
 
 use crate::refusal::Refusal;

@@ -1,6 +1,6 @@
 // Numbers without a sign. A view reads and stores runs of numbers of 64 bits with one, so these go by their low bits.
 ghost use Rattle.std.specs.Prelude.{◌≡◌, ◌<◌, ◌≤◌};
-ghost use Rattle.c_lines.specs.Words.{true, false, pos, length, map, take, U64, low_64, raised, TakesAll, leaf_count_of, leaf_type_of};
+ghost use Rattle.c_lines.specs.Imports.{true, false, pos, length, map, take, U64, low_64, raised, TakesAll, leaf_count_of, leaf_type_of};
 ghost use Rattle.c_lines.specs.Values.{reads_unsigned};
 
 use crate::number::Number64;

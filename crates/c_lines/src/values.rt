@@ -1,6 +1,6 @@
 // One value of a view, as a number of the caller's type.
 ghost use Rattle.std.specs.Prelude.{◌≡◌, ◌+◌, ◌<◌, ◌≤◌};
-ghost use Rattle.c_lines.specs.Words.{true, length, OnOk, OnErr, leaf_count_of, leaf_type_of, after_read, after_write};
+ghost use Rattle.c_lines.specs.Imports.{true, length, OnOk, OnErr, leaf_count_of, leaf_type_of, after_read, after_write};
 ghost use Rattle.c_lines.specs.Answers.{answer_map};
 ghost use Rattle.c_lines.specs.Values.{is_run, got, store_told, was_set};
 

@@ -1,6 +1,6 @@
 -- Tests one after another.
 use Rattle.std.specs.Prelude.{◌≡◌, refl, Result, Ok}
-use Rattle.command_checks.specs.Words.{Tested, ◌>>=◌}
+use Rattle.command_checks.specs.Imports.{Tested, ◌>>=◌}
 use Rattle.command_checks.specs.Inner.Gives.{GivesUp}
 use Rattle.command_checks.specs.declared.fault.StepFault.{StepFault}
 use Rattle.std.proofs.Common.{arith}

@@ -4,4 +4,4 @@ pub mod SessionEntries
 pub mod PlacesLaws
 pub mod GivesLaws
 pub mod Inner
-pub mod Words
+pub mod Imports

@@ -1,5 +1,5 @@
 -- What the entries of a session are in its world.
-use Rattle.command_checks.specs.Words.{Fields, schema_fields, MapTerm, term_of, Table, Entry}
+use Rattle.command_checks.specs.Imports.{Fields, schema_fields, MapTerm, term_of, Table, Entry}
 use Rattle.command_checks.specs.declared.entries.RecordEntry.{RecordEntry}
 use Rattle.command_checks.specs.declared.entries.ViewEntry.{ViewEntry}
 use Rattle.command_checks.specs.declared.mapping_entry.MappingEntry.{MappingEntry}

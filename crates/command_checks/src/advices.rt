@@ -1,6 +1,6 @@
 // What an adviser is asked.
 ghost use Rattle.std.specs.Prelude.{◌≡◌, ◌+◌, ◌++◌, ◌≤◌, All, IfOk, OnOk, is_some, length, map, not, true};
-ghost use Rattle.command_checks.specs.Words.{range_with_len, bad_granule, term_of, schema_fields, asked, bound_pass, fit_advice, leaves_at, leaves_under, nameless, each};
+ghost use Rattle.command_checks.specs.Imports.{range_with_len, bad_granule, term_of, schema_fields, asked, bound_pass, fit_advice, leaves_at, leaves_under, nameless, each};
 ghost use Rattle.command_checks.specs.Inner.Bases.{is_nameless};
 ghost use Rattle.command_checks.specs.SessionEntries.{mapping_of};
 ghost use Rattle.command_checks.specs.Inner.Gives.{Gives};

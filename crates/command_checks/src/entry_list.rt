@@ -1,6 +1,6 @@
 // Lists of named entries.
 ghost use Rattle.std.specs.Prelude.{◌≡◌, ◌++◌, ◌∷◌, [], IfOk, IfErr, map};
-ghost use Rattle.command_checks.specs.Words.{position_from, same_name, known, free};
+ghost use Rattle.command_checks.specs.Imports.{position_from, same_name, known, free};
 ghost use Rattle.command_checks.specs.Inner.Gives.{Gives};
 
 use crate::entries::RecordEntry;

@@ -1,6 +1,6 @@
 // Tables of names.
 ghost use Rattle.std.specs.Prelude.{◌≡◌, ℕ, List, Some, None, IfOk, IfErr, cond};
-ghost use Rattle.command_checks.specs.Words.{option_or, same_name};
+ghost use Rattle.command_checks.specs.Imports.{option_or, same_name};
 ghost use Rattle.command_checks.specs.Inner.Indexed.{place_in};
 
 use crate::fault::StepFault;

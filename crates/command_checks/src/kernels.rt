@@ -1,6 +1,6 @@
 // Kernels that can run on a view.
 ghost use Rattle.std.specs.Prelude.{◌≡◌, ◌≤◌, ◌≤ℤ◌, ◌<ℤ◌, ◌^◌, ◌<◌, IfOk, OnOk, true, false, pos, neg_ℤ};
-ghost use Rattle.command_checks.specs.Words.{schema_fields, IsFactor, IsKernelOf, IsNarrow, IsNarrowLeaf, leaf_count_of, are_bounds, are_lanes, compare_of, fit_kernel, fit_leaf, fits, is_constant, is_factor, is_wide};
+ghost use Rattle.command_checks.specs.Imports.{schema_fields, IsFactor, IsKernelOf, IsNarrow, IsNarrowLeaf, leaf_count_of, are_bounds, are_lanes, compare_of, fit_kernel, fit_leaf, fits, is_constant, is_factor, is_wide};
 ghost use Rattle.command_checks.specs.Inner.Gives.{Gives};
 
 use crate::fault::StepFault;

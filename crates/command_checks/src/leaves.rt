@@ -1,7 +1,7 @@
 // Paths and expressions over the leaves of a view.
 ghost use Rattle.std.specs.Prelude.{◌≡◌, ◌<◌, ◌⊎◌, IfOk, IfErr, length};
 ghost use Rattle.expr_lang.specs.Prelude.{term_of, bound_term};
-ghost use Rattle.command_checks.specs.Words.{schema_fields, IsBoundOver, leaf_count_of, leaf_of, bound, text_of_leaf};
+ghost use Rattle.command_checks.specs.Imports.{schema_fields, IsBoundOver, leaf_count_of, leaf_of, bound, text_of_leaf};
 ghost use Rattle.command_checks.specs.Inner.Gives.{Gives};
 
 use crate::fault::StepFault;

@@ -1,5 +1,5 @@
 ghost use Rattle.std.specs.Prelude.{◌≡◌, true};
-ghost use Rattle.command_checks.specs.Words.{term_of};
+ghost use Rattle.command_checks.specs.Imports.{term_of};
 ghost use Rattle.command_checks.specs.Inner.Bases.{is_nameless};
 
 use map_expr::MapExpr;

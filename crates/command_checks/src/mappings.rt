@@ -1,6 +1,6 @@
 // Mapping expressions without names.
 ghost use Rattle.std.specs.Prelude.{◌≡◌, IfOk, map, true};
-ghost use Rattle.command_checks.specs.Words.{Named, Split, term_of, nameless};
+ghost use Rattle.command_checks.specs.Imports.{Named, Split, term_of, nameless};
 ghost use Rattle.command_checks.specs.Inner.Bases.{around, boxed_term, is_nameless};
 ghost use Rattle.command_checks.specs.SessionEntries.{mapping_of};
 ghost use Rattle.command_checks.specs.Inner.Gives.{Gives};

@@ -1,6 +1,6 @@
 // What entries have in common.
 ghost use Rattle.std.specs.Prelude.{◌≡◌};
-ghost use Rattle.command_checks.specs.Words.{MapTerm, Fields, Entry};
+ghost use Rattle.command_checks.specs.Imports.{MapTerm, Fields, Entry};
 ghost use Rattle.command_checks.specs.SessionEntries.{record_of, mapping_of};
 
 use crate::entries::RecordEntry;

@@ -1,6 +1,6 @@
 // Names that are taken, and names that stand for something.
 ghost use Rattle.std.specs.Prelude.{◌≡◌, IfOk, IfErr, is_some, map};
-ghost use Rattle.command_checks.specs.Words.{position_from, schema_fields, same_name, known, free, refused_if};
+ghost use Rattle.command_checks.specs.Imports.{position_from, schema_fields, same_name, known, free, refused_if};
 ghost use Rattle.command_checks.specs.Inner.Places.{IsAt};
 ghost use Rattle.command_checks.specs.SessionEntries.{record_of, view_of};
 ghost use Rattle.command_checks.specs.Inner.Gives.{Gives, GivesUp};

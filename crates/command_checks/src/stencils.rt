@@ -1,6 +1,6 @@
 // Stencils that may be made.
 ghost use Rattle.std.specs.Prelude.{◌≡◌, IfOk};
-ghost use Rattle.command_checks.specs.Words.{IsWindow, fit_stencil, fit_terms};
+ghost use Rattle.command_checks.specs.Imports.{IsWindow, fit_stencil, fit_terms};
 ghost use Rattle.command_checks.specs.Inner.Gives.{Gives};
 ghost use Rattle.command_checks.specs.Inner.Stencils.{IsStencilOf, stencil_of};
 

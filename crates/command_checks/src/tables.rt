@@ -1,6 +1,6 @@
 // New views, and what refuses them.
 ghost use Rattle.std.specs.Prelude.{◌≡◌, ◌-◌, ◌*◌, ◌^◌, ◌<◌, ◌≤◌, IfOk, IfSome, List, OnOk, nat_lt, count_by, map, length, true};
-ghost use Rattle.command_checks.specs.Words.{indices, is_rows, IsShape, term_of, schema_fields, Table, Entry, room, shaped, resolved, made, zeros_of, live_bits};
+ghost use Rattle.command_checks.specs.Imports.{indices, is_rows, IsShape, term_of, schema_fields, Table, Entry, room, shaped, resolved, made, zeros_of, live_bits};
 ghost use Rattle.command_checks.specs.Inner.Bases.{is_nameless, rows_for};
 ghost use Rattle.command_checks.specs.SessionEntries.{view_of};
 ghost use Rattle.command_checks.specs.Inner.Gives.{Gives};

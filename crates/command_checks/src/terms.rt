@@ -1,6 +1,6 @@
 // Weighted terms, tested and with the leaves that they read.
 ghost use Rattle.std.specs.Prelude.{◌≡◌, ◌<◌, ◌≤◌, All, IfOk, true, length, map};
-ghost use Rattle.command_checks.specs.Words.{list_all, IsWindow, is_offset, is_weight, weighted, leaf_count_of, each, all_reach, all_weigh, weighted_term};
+ghost use Rattle.command_checks.specs.Imports.{list_all, IsWindow, is_offset, is_weight, weighted, leaf_count_of, each, all_reach, all_weigh, weighted_term};
 ghost use Rattle.command_checks.specs.Inner.Gives.{Gives};
 ghost use Rattle.command_checks.specs.Inner.Terms.{placed_term, weighted_at};
 

@@ -1,6 +1,6 @@
 // Windows of a view.
 ghost use Rattle.std.specs.Prelude.{◌≡◌, IfOk};
-ghost use Rattle.command_checks.specs.Words.{IsWindow, windowed};
+ghost use Rattle.command_checks.specs.Imports.{IsWindow, windowed};
 ghost use Rattle.command_checks.specs.Inner.Gives.{Gives};
 
 use crate::fault::StepFault;

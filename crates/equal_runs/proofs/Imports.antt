@@ -1,5 +1,5 @@
 -- What the proofs of this crate speak of.
-pub use Rattle.equal_runs.specs.Words.{CommandFault, least_of, greatest_of, least_in, greatest_in, kinds_of, texts_of, leaves, Tree, Fields, indices, LeafCounts, HeatCounts, no_counts, counts_text, heat_text, Value, Assignment, Sentence, New, View, Relayout, Mismatch, NotCounted, TooBig, Unknown, Taken, BadMapping, TooManyViews, Name, File, Version}
+pub use Rattle.equal_runs.specs.Imports.{CommandFault, least_of, greatest_of, least_in, greatest_in, kinds_of, texts_of, leaves, Tree, Fields, indices, LeafCounts, HeatCounts, no_counts, counts_text, heat_text, Value, Assignment, Sentence, New, View, Relayout, Mismatch, NotCounted, TooBig, Unknown, Taken, BadMapping, TooManyViews, Name, File, Version}
 pub use Rattle.record_dim.specs.Std.{◌≡◌, ℕ, Bool, true, false, List, Option, Some, None, Result, Ok, Err, subst, ℤ, refl, [], ◌∷◌, ◌++◌, length, sym, ap, ◌∙◌, suc, arith, append_assoc, zero, option_map, if◌then◌else◌, ◌+◌, ◌*◌, ◌^◌, not, nat_lt, is_some, ◌&&◌, IfSome, nat_le, ⊤, list_any, flat_map, range_with_len, option_or, length-map, or_parts}
 pub use Rattle.std.specs.List.{slice_index_or, slice_get, fold}
 pub use Rattle.worlds.specs.Prelude.{Outcome, ◌>>=◌, refused_if, refused_by, ok_or, LeftOf, Left, known, some_or, free, quiet, Tested, Stop, Fault, Unread, sure, World, found, Entry, same_name, added, replaced, removed, Done, stores, tells, done_to, with_table, Work, worked, content_of, Reads, Shows, Changes, left_as, does, OnView, leaf_of, bound, bound_filter, bound_sets, each_once, leaves_of, text_of_leaf, nameless, storable, store_fault, value_on, inside, update_fault, kind_fault, are_alike, all_read, kernel_outcome, fit_kernel, number_text, kernel_row_fault, blob_bits, made, resolved, room, shaped, zeros_of, live_bits, fit, bad_file, filled, read, in_words, narrow_fault, row_fault, work_of, with_view, named, Named, Output, run_from, after, fails_at, prepend, fit_stencil, room_beside, stencil_fault, stencil_rounds}

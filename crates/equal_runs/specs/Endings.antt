@@ -1,6 +1,6 @@
 -- The runs that end with a fault of how their tables lie.
 use Rattle.std.specs.Prelude.{◌+◌, ◌&&◌, ◌∷◌}
-use Rattle.equal_runs.specs.Words.{ℕ, Bool, true, false, is_some, List, [], Option, Ok, Err, File, Sentence, Mapping, View, Load, Relayout, Advise, World, found, Tested, Outcome, Fault, Unread, each, Left, nameless, step, fails_at, CommandFault, BadMapping, TooBig, Narrow, NotCounted, Unknown, Name}
+use Rattle.equal_runs.specs.Imports.{ℕ, Bool, true, false, is_some, List, [], Option, Ok, Err, File, Sentence, Mapping, View, Load, Relayout, Advise, World, found, Tested, Outcome, Fault, Unread, each, Left, nameless, step, fails_at, CommandFault, BadMapping, TooBig, Narrow, NotCounted, Unknown, Name}
 
 -- it does not go
 abbrev pub is_refused : {A : Type 0} → Tested A → Bool

@@ -1,6 +1,6 @@
 -- What is found among entries after a change.
 use Rattle.std.specs.Prelude.{◌≡◌, ◌∷◌, if◌then◌else◌}
-use Rattle.equal_runs.specs.Words.{ℕ, Bool, true, false, List, [], Some, None, refl, nat_eq, arith, nat_tests, Entry, same_name, found, added, replaced}
+use Rattle.equal_runs.specs.Imports.{ℕ, Bool, true, false, List, [], Some, None, refl, nat_eq, arith, nat_tests, Entry, same_name, found, added, replaced}
 
 -- another thing under a name is found there, and so is one thing more
 pub found_replaced : {A : Type 0} (name : List ℕ) (new old : A) (entries : List (Entry A)) → found name entries ≡ Some old → found name (replaced name new entries) ≡ Some new

@@ -1,6 +1,6 @@
 -- A change of how tables lie changes no result.
 use Rattle.std.specs.Prelude.{◌≡◌}
-use Rattle.equal_runs.specs.Words.{ℕ, Bool, false, List, Option, list_any, File, Sentence, Version, World, empty, Outcome, Left, step, run_from}
+use Rattle.equal_runs.specs.Imports.{ℕ, Bool, false, List, Option, list_any, File, Sentence, Version, World, empty, Outcome, Left, step, run_from}
 use Rattle.equal_runs.specs.Lines.{AgreeButTerms, shows_layout, IsLine, AreLines}
 use Rattle.equal_runs.specs.Endings.{ends_by_layout}
 use Rattle.equal_runs.specs.Widths.{StaysWide}

@@ -1,6 +1,6 @@
 -- What holds of what an outcome goes to.
 use Rattle.std.specs.Prelude.{◌≡◌}
-use Rattle.equal_runs.specs.Words.{Option, Some, None, Result, Ok, Err, refl, is_some, Tested, sure, ◌>>=◌, some_or, refused_if, CommandFault, arith}
+use Rattle.equal_runs.specs.Imports.{Option, Some, None, Result, Ok, Err, refl, is_some, Tested, sure, ◌>>=◌, some_or, refused_if, CommandFault, arith}
 
 -- where it goes, it goes to a thing of which this holds
 pub data IfGoes {A E : Type 0} (P : A → Type 0) : Result A E → Type 0 where

@@ -6,4 +6,4 @@ pub mod Logs
 pub mod RunEntries
 pub mod GoesLaws
 pub mod EntryLaws
-pub mod Words
+pub mod Imports

@@ -1,6 +1,6 @@
 -- Lines that differ in their mapping expressions alone, and the texts that are lines.
 use Rattle.std.specs.Prelude.{◌≡◌, ◌≤◌, ◌∷◌}
-use Rattle.equal_runs.specs.Words.{ℕ, ⊤, Bool, true, false, List, [], length, Ok, MapTerm, Sentence, Mapping, View, Load, Relayout, Show, Bytes, Save, Actors, Advise, deepest, Version, line_of}
+use Rattle.equal_runs.specs.Imports.{ℕ, ⊤, Bool, true, false, List, [], length, Ok, MapTerm, Sentence, Mapping, View, Load, Relayout, Show, Bytes, Save, Actors, Advise, deepest, Version, line_of}
 use Rattle.line_grammar.specs.declared.line.ShowKind.TheVariants as show
 
 -- the line with this mapping expression in place of its own, where it has one; the candidates of an advice stay

@@ -1,6 +1,6 @@
 -- The accesses to each view of a run since it was made.
 use Rattle.std.specs.Prelude.{◌+◌, ◌≡◌, ◌∷◌, ◌++◌}
-use Rattle.equal_runs.specs.Words.{ℕ, List, [], length, Option, Some, None, Ok, File, indices, Sentence, View, Load, Copy, Relayout, Drop, Open, Access, all_accesses, Read, Write, Table, leaf_count_of, World, Entry, empty, found, added, replaced, removed, Done, OnView, does, Tested, Goes, ◌>>=◌, Left, known, step, work_of, fails_at}
+use Rattle.equal_runs.specs.Imports.{ℕ, List, [], length, Option, Some, None, Ok, File, indices, Sentence, View, Load, Copy, Relayout, Drop, Open, Access, all_accesses, Read, Write, Table, leaf_count_of, World, Entry, empty, found, added, replaced, removed, Done, OnView, does, Tested, Goes, ◌>>=◌, Left, known, step, work_of, fails_at}
 
 -- the accesses that are listed, and none where there is no list
 abbrev pub log_in : Option (List Access) → List Access

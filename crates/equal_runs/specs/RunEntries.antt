@@ -1,6 +1,6 @@
 -- What a run shows of its accesses is what it made of them.
 use Rattle.std.specs.Prelude.{◌+◌, ◌≡◌, ◌++◌}
-use Rattle.equal_runs.specs.Words.{ℕ, Bool, List, length, Option, Some, File, texts_of, Sentence, Show, Counts, Heat, Version, LeafCounts, HeatCounts, counts_text, heat_text, AreCounts, AreHeat, Table, owners_of, leaf_count_of, Access, Tally, tallied, no_tally, World, empty, found, Outcome, Goes, Left, step, run_from, prepend}
+use Rattle.equal_runs.specs.Imports.{ℕ, Bool, List, length, Option, Some, File, texts_of, Sentence, Show, Counts, Heat, Version, LeafCounts, HeatCounts, counts_text, heat_text, AreCounts, AreHeat, Table, owners_of, leaf_count_of, Access, Tally, tallied, no_tally, World, empty, found, Outcome, Goes, Left, step, run_from, prepend}
 use Rattle.equal_runs.specs.Lines.{AreLines}
 use Rattle.equal_runs.specs.Logs.{SoFar, at_first, Comes, log_of}
 

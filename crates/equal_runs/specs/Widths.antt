@@ -1,6 +1,6 @@
 -- The runs in which each line that lays a table out gives it room for all bits of each value, where it keeps low bits.
 use Rattle.std.specs.Prelude.{◌+◌, ◌∷◌}
-use Rattle.equal_runs.specs.Words.{ℕ, ⊤, List, [], Option, IfSome, Ok, File, Sentence, View, Load, Relayout, IsWide, World, found, Outcome, Left, step, fails_at}
+use Rattle.equal_runs.specs.Imports.{ℕ, ⊤, List, [], Option, IfSome, Ok, File, Sentence, View, Load, Relayout, IsWide, World, found, Outcome, Left, step, fails_at}
 
 -- the table that a line makes with its mapping expression, if it keeps low bits, has room for all bits of the types of its leaves
 abbrev pub MakesWide : Sentence → World → Type 0

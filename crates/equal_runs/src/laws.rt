@@ -1,5 +1,5 @@
 // Laws of runs: of scripts that differ in their mapping expressions alone, and of what a run shows of its accesses.
-ghost use Rattle.equal_runs.specs.Words.{Bool, List, ℕ, File, Version, Outcome, Left, World};
+ghost use Rattle.equal_runs.specs.Imports.{Bool, List, ℕ, File, Version, Outcome, Left, World};
 ghost use Rattle.equal_runs.specs.RunEntries.{ShowsEntries};
 ghost use Rattle.equal_runs.specs.EqualRuns.{DoesLines, EqualRuns};
 

@@ -1,5 +1,5 @@
 -- The tokens of phrases: which one passes a test, an item of each kind, and how tightly a token binds.
-use Rattle.line_phrases.specs.Words.{cases_Bool, ℕ, Bool, false, List, Option, Some, None, codes, bytes_eq, pos, refl, Fine, Exact, is_same, is_sign, is_word, name, number, count, sign_self, sign_only, word_self, word_only, Sign, OpenBracket, Dot, EqualEqual, NotEqual, LessThan, LessEqual, GreaterThan, GreaterEqual, Plus, Minus, Star, Slash, Percent, Token, Word, Number, Signed, arith}
+use Rattle.line_phrases.specs.Imports.{cases_Bool, ℕ, Bool, false, List, Option, Some, None, codes, bytes_eq, pos, refl, Fine, Exact, is_same, is_sign, is_word, name, number, count, sign_self, sign_only, word_self, word_only, Sign, OpenBracket, Dot, EqualEqual, NotEqual, LessThan, LessEqual, GreaterThan, GreaterEqual, Plus, Minus, Star, Slash, Percent, Token, Word, Number, Signed, arith}
 use Rattle.std.specs.Prelude.{◌≡◌, if◌then◌else◌}
 
 pub exact_sign : (sign : Sign) → Exact (is_sign sign) (Signed sign)

@@ -1,5 +1,5 @@
 -- The fields of a record are read by first tokens, and how their reading goes on.
-use Rattle.line_phrases.specs.Words.{Global, inl, ap, arith, Box, ℕ, zero, suc, true, false, List, [], map, Ok, Err, refl, Grammar, starts, Fine, Quiet, anyway, firsts_any, list_end, list_stepped, list_stop, Under, equal, empty, behind, either, repeats, fewer, alike, wider, joined_wider, is_same, is_sign, arrays, fields_of_list, read, later, listed, braced, dim, dims, field_within, fields, nested, typed, joined, OpenBracket, FieldValue, Tree, Fields, Array, End, Field, Token}
+use Rattle.line_phrases.specs.Imports.{Global, inl, ap, arith, Box, ℕ, zero, suc, true, false, List, [], map, Ok, Err, refl, Grammar, starts, Fine, Quiet, anyway, firsts_any, list_end, list_stepped, list_stop, Under, equal, empty, behind, either, repeats, fewer, alike, wider, joined_wider, is_same, is_sign, arrays, fields_of_list, read, later, listed, braced, dim, dims, field_within, fields, nested, typed, joined, OpenBracket, FieldValue, Tree, Fields, Array, End, Field, Token}
 use Rattle.std.specs.Prelude.{◌≡◌, ◌≤◌, ◌∷◌, ◌++◌}
 use Rattle.line_phrases.specs.Inner.Fields.{boxed_field}
 use Rattle.line_phrases.specs.BasicsLaws.{count_fine, exact_sign, name_fine}

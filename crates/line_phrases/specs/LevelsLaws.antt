@@ -1,5 +1,5 @@
 -- Expressions are read by first tokens, level by level, to any depth of brackets.
-use Rattle.line_phrases.specs.Words.{cases_Bool, sym, ap, arith, list_any, bytes_eq-Decides, ℕ, zero, suc, Bool, true, false, List, [], Option, Some, None, is_some, bytes_eq, codes, ℤ, refl, Grammar, item, nothing, first, Fine, Firsts, Quiet, Skips, anyway, firsts_any, firsts_more, skips_more, Exact, alike, wider, is_same, is_sign, is_word, reserved, dimensions, name_of, token_number, index_of, choice_of, or_of, and_of, comparison_of, sum_of, product_of, index_word, Value, atom_within, bracketed, chain, choice, comparison, conjunction, expr, expr_over, leaf, link, links, negation, part, path, prefixed, product, signs, sum, unary, OpenParen, EqualEqual, Plus, Minus, Star, BinOp, Add, Mul, Min, Max, Eq, And, Or, Token, Word, Signed}
+use Rattle.line_phrases.specs.Imports.{cases_Bool, sym, ap, arith, list_any, bytes_eq-Decides, ℕ, zero, suc, Bool, true, false, List, [], Option, Some, None, is_some, bytes_eq, codes, ℤ, refl, Grammar, item, nothing, first, Fine, Firsts, Quiet, Skips, anyway, firsts_any, firsts_more, skips_more, Exact, alike, wider, is_same, is_sign, is_word, reserved, dimensions, name_of, token_number, index_of, choice_of, or_of, and_of, comparison_of, sum_of, product_of, index_word, Value, atom_within, bracketed, chain, choice, comparison, conjunction, expr, expr_over, leaf, link, links, negation, part, path, prefixed, product, signs, sum, unary, OpenParen, EqualEqual, Plus, Minus, Star, BinOp, Add, Mul, Min, Max, Eq, And, Or, Token, Word, Signed}
 use Rattle.std.specs.Prelude.{◌≡◌, ◌<◌, if◌then◌else◌, ◌∷◌}
 use Rattle.line_grammar.specs.Grammar.{either}
 use Rattle.line_grammar.specs.Tokens.{listed}

@@ -8,4 +8,4 @@ pub mod PassLaws
 pub mod PathsLaws
 pub mod WindowLaws
 pub mod Inner
-pub mod Words
+pub mod Imports

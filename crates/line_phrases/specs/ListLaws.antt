@@ -1,6 +1,6 @@
 -- Lists behind commas and in brackets are read by first tokens, and how their reading goes on.
 use Rattle.std.specs.Prelude.{◌≡◌, ◌∷◌, ◌++◌}
-use Rattle.line_phrases.specs.Words.{ℕ, true, false, List, [], map, Ok, Err, refl, map-append, Grammar, starts, past, item_at, Fine, Quiet, behind_list_bare, behind_list_end, behind_list_stepped, behind_list_stop, is_same, is_sign, count_of, read, count, later, listed, bracket_list, cuts, fixed, extent_word, CloseBracket, Comma, Question, Token, Signed, arith}
+use Rattle.line_phrases.specs.Imports.{ℕ, true, false, List, [], map, Ok, Err, refl, map-append, Grammar, starts, past, item_at, Fine, Quiet, behind_list_bare, behind_list_end, behind_list_stepped, behind_list_stop, is_same, is_sign, count_of, read, count, later, listed, bracket_list, cuts, fixed, extent_word, CloseBracket, Comma, Question, Token, Signed, arith}
 use Rattle.line_phrases.specs.BasicsLaws.{apart, count_fine, exact_sign}
 
 -- a list of phrases that do not go on with a comma

@@ -1,6 +1,6 @@
 -- Mappings, and the widths of chosen leaves in them, are read by first tokens.
 use Rattle.std.specs.Prelude.{◌≡◌, ◌≤◌}
-use Rattle.line_phrases.specs.Words.{ℕ, zero, suc, false, List, Option, Some, None, codes, refl, inr, arith, Grammar, Is, item, nothing, Fine, Quiet, anyway, firsts_any, Under, equal, empty, behind, either, fewer, alike, wider, Wider, joined_wider, is_same, is_sign, map_word, type_of, integer_type_of, token_order, part, braced_widths, field_width, field_widths, inside_aos, inside_aosoa, inside_bits, inside_form, inside_soa, form_or_name, mapping, mapping_within, joined, Order, Row, Sign, OpenBrace, OpenParen, Truth, U8, FieldWidth, MapTerm, Named, MapWord, Token, Word, Version}
+use Rattle.line_phrases.specs.Imports.{ℕ, zero, suc, false, List, Option, Some, None, codes, refl, inr, arith, Grammar, Is, item, nothing, Fine, Quiet, anyway, firsts_any, Under, equal, empty, behind, either, fewer, alike, wider, Wider, joined_wider, is_same, is_sign, map_word, type_of, integer_type_of, token_order, part, braced_widths, field_width, field_widths, inside_aos, inside_aosoa, inside_bits, inside_form, inside_soa, form_or_name, mapping, mapping_within, joined, Order, Row, Sign, OpenBrace, OpenParen, Truth, U8, FieldWidth, MapTerm, Named, MapWord, Token, Word, Version}
 use Rattle.places.specs.declared.forms.AosForm.TheVariants as aos
 use Rattle.places.specs.declared.forms.SoaForm.TheVariants as soa
 use Rattle.line_grammar.specs.declared.line.MapWord.TheVariants as form

@@ -1,6 +1,6 @@
 -- Expressions with deeper brackets.
 use Rattle.std.specs.Prelude.{◌≤◌}
-use Rattle.line_phrases.specs.Words.{ℕ, zero, suc, Option, refl, inr, arith, Grammar, Under, equal, empty, behind, either, repeats, fewer, is_same, Value, atom_within, bracketed, chain, choice, comparison, conjunction, expr_over, leaf, links, negation, prefixed, product, sum, unary, joined, BinOp, Token}
+use Rattle.line_phrases.specs.Imports.{ℕ, zero, suc, Option, refl, inr, arith, Grammar, Under, equal, empty, behind, either, repeats, fewer, is_same, Value, atom_within, bracketed, chain, choice, comparison, conjunction, expr_over, leaf, links, negation, prefixed, product, sum, unary, joined, BinOp, Token}
 
 abbrev Deeper : ℕ → Grammar Token Value → Grammar Token Value → Type 1
 Deeper n one more = Under is_same Value n one more

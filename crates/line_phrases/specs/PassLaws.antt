@@ -1,6 +1,6 @@
 -- The passes that a layout is chosen for are read by first tokens, and how their reading goes on.
 use Rattle.std.specs.Prelude.{◌≡◌, ◌∷◌, ◌++◌}
-use Rattle.line_phrases.specs.Words.{ℕ, true, false, List, [], codes, Ok, Err, refl, starts, Fine, Quiet, list_end, list_stepped, list_stop, is_same, is_word, read, later_passes, part, pass, passes, path, PassText, Token}
+use Rattle.line_phrases.specs.Imports.{ℕ, true, false, List, [], codes, Ok, Err, refl, starts, Fine, Quiet, list_end, list_stepped, list_stop, is_same, is_word, read, later_passes, part, pass, passes, path, PassText, Token}
 use Rattle.line_phrases.specs.BasicsLaws.{count_fine, exact_word}
 use Rattle.line_phrases.specs.ListLaws.{listed_fine, listed_quiet}
 use Rattle.line_phrases.specs.PathsLaws.{path_fine, path_quiet}

@@ -1,5 +1,5 @@
 -- A path is read by first tokens, and how its reading goes on.
-use Rattle.line_phrases.specs.Words.{or_cases, ℕ, true, false, List, [], Ok, Err, refl, first, starts, Fine, Quiet, may_be_empty, list_end, list_stepped, list_stop, is_same, read, part, parts, path, sign_only, PathStep, Token, arith}
+use Rattle.line_phrases.specs.Imports.{or_cases, ℕ, true, false, List, [], Ok, Err, refl, first, starts, Fine, Quiet, may_be_empty, list_end, list_stepped, list_stop, is_same, read, part, parts, path, sign_only, PathStep, Token, arith}
 use Rattle.std.specs.Prelude.{◌≡◌, ◌∷◌, ◌++◌}
 use Rattle.line_phrases.specs.BasicsLaws.{count_fine, exact_sign, level_of, name_fine}
 

@@ -1,5 +1,5 @@
 -- A number with its sign, a window and weighted terms are read by first tokens.
-use Rattle.line_phrases.specs.Words.{refl, Fine, Quiet, is_same, token_number, constant, part, span, term, terms, window, Minus, Star, Token, Signed}
+use Rattle.line_phrases.specs.Imports.{refl, Fine, Quiet, is_same, token_number, constant, part, span, term, terms, window, Minus, Star, Token, Signed}
 use Rattle.line_phrases.specs.BasicsLaws.{apart, count_fine, exact_sign, exact_word, number_fine}
 use Rattle.line_phrases.specs.ListLaws.{bracket_list_fine, bracket_list_quiet, listed_fine, listed_quiet}
 use Rattle.line_phrases.specs.PathsLaws.{path_fine, path_quiet}

@@ -1,5 +1,5 @@
 ghost use Rattle.std.specs.Prelude.{◌≡◌, ◌<◌};
-ghost use Rattle.line_phrases.specs.Words.{length, OnOk, IfErr, read, count, listed, bracket_list, cuts, fixed, extent_word};
+ghost use Rattle.line_phrases.specs.Imports.{length, OnOk, IfErr, read, count, listed, bracket_list, cuts, fixed, extent_word};
 ghost use Rattle.line_phrases.specs.Inner.Gives.{Gives, IsSyntax};
 
 use crate::{ReadError, Tokens};

@@ -1,5 +1,5 @@
 ghost use Rattle.std.specs.Prelude.{◌≡◌, ◌<◌};
-ghost use Rattle.line_phrases.specs.Words.{length, IfErr, OnOk, read, constant};
+ghost use Rattle.line_phrases.specs.Imports.{length, IfErr, OnOk, read, constant};
 ghost use Rattle.line_phrases.specs.Inner.Gives.{Gives, IsSyntax};
 
 use crate::{ReadError, Tokens};

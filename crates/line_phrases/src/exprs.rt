@@ -1,5 +1,5 @@
 ghost use Rattle.std.specs.Prelude.{◌≡◌, ◌<◌, ◌≤◌};
-ghost use Rattle.line_phrases.specs.Words.{length, OnOk, IfOk, IfErr, term_of, Binary, Neg, Not, Minus, Word, Signed, wrapped, read, atom_within, bracketed, choice, comparison, conjunction, expr, expr_over, leaf, negation, product, signs, sum, unary, codes, zero};
+ghost use Rattle.line_phrases.specs.Imports.{length, OnOk, IfOk, IfErr, term_of, Binary, Neg, Not, Minus, Word, Signed, wrapped, read, atom_within, bracketed, choice, comparison, conjunction, expr, expr_over, leaf, negation, product, signs, sum, unary, codes, zero};
 ghost use Rattle.line_phrases.specs.Inner.Gives.{Gives, IsSyntax};
 ghost use Rattle.line_phrases.specs.Inner.Exprs.{behind_left, boxed_term, left_term};
 

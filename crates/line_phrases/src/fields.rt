@@ -1,5 +1,5 @@
 ghost use Rattle.std.specs.Prelude.{◌≡◌, ◌<◌, ◌≤◌};
-ghost use Rattle.line_phrases.specs.Words.{[], length, map, OnOk, IfOk, IfErr, nothing, arrays, fields_of_list, read, braced, dim, dims, field_within, fields, listed, typed, fields_of, tree_of};
+ghost use Rattle.line_phrases.specs.Imports.{[], length, map, OnOk, IfOk, IfErr, nothing, arrays, fields_of_list, read, braced, dim, dims, field_within, fields, listed, typed, fields_of, tree_of};
 ghost use Rattle.line_grammar.specs.Prelude.{joined};
 ghost use Rattle.line_phrases.specs.Inner.Gives.{Gives, IsSyntax};
 ghost use Rattle.line_phrases.specs.Inner.Fields.{boxed_field};

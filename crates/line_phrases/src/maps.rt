@@ -1,5 +1,5 @@
 ghost use Rattle.std.specs.Prelude.{◌≡◌, ◌<◌};
-ghost use Rattle.line_phrases.specs.Words.{length, map, OnOk, IfOk, Named, read, listed, inside_aos, inside_aosoa, inside_bits, inside_form, inside_soa, mapping, mapping_within};
+ghost use Rattle.line_phrases.specs.Imports.{length, map, OnOk, IfOk, Named, read, listed, inside_aos, inside_aosoa, inside_bits, inside_form, inside_soa, mapping, mapping_within};
 ghost use Rattle.map_expr.specs.Terms.{term_of};
 ghost use Rattle.line_grammar.specs.declared.line.MapWord.TheVariants as form;
 ghost use Rattle.line_phrases.specs.Inner.Gives.{Gives};

@@ -1,6 +1,6 @@
 // The passes that a layout is chosen for.
 ghost use Rattle.std.specs.Prelude.{◌≡◌, ◌<◌};
-ghost use Rattle.line_phrases.specs.Words.{length, OnOk, read, listed, pass, passes, path};
+ghost use Rattle.line_phrases.specs.Imports.{length, OnOk, read, listed, pass, passes, path};
 ghost use Rattle.line_phrases.specs.Inner.Gives.{Gives};
 
 use crate::{ReadError, Tokens, read_path};

@@ -1,5 +1,5 @@
 ghost use Rattle.std.specs.Prelude.{◌≡◌, ◌<◌};
-ghost use Rattle.line_phrases.specs.Words.{length, IfOk, OnOk, IfErr, first, starts, read, part, path, is_same};
+ghost use Rattle.line_phrases.specs.Imports.{length, IfOk, OnOk, IfErr, first, starts, read, part, path, is_same};
 ghost use Rattle.line_phrases.specs.Inner.Gives.{Gives, IsSyntax};
 
 use crate::{ReadError, Tokens};

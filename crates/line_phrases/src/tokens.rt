@@ -1,5 +1,5 @@
 ghost use Rattle.std.specs.Prelude.{◌≡◌, ◌<◌, ◌≤ℤ◌};
-ghost use Rattle.line_phrases.specs.Words.{length, pos, IfOk, IfErr, OnOk, past, starts, item_at, is_sign, is_word, token_number};
+ghost use Rattle.line_phrases.specs.Imports.{length, pos, IfOk, IfErr, OnOk, past, starts, item_at, is_sign, is_word, token_number};
 ghost use Rattle.line_phrases.specs.Inner.Exprs.{means};
 ghost use Rattle.line_phrases.specs.Inner.Gives.{Gives, IsSyntax};
 

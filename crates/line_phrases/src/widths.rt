@@ -1,5 +1,5 @@
 ghost use Rattle.std.specs.Prelude.{◌≡◌, ◌<◌, ◌≤◌};
-ghost use Rattle.line_phrases.specs.Words.{length, OnOk, read, field_width, field_widths, listed};
+ghost use Rattle.line_phrases.specs.Imports.{length, OnOk, read, field_width, field_widths, listed};
 ghost use Rattle.line_phrases.specs.Inner.Gives.{Gives};
 
 use crate::{ReadError, Tokens, read_path};

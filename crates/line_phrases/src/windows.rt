@@ -1,6 +1,6 @@
 // A window, and weighted terms.
 ghost use Rattle.std.specs.Prelude.{◌≡◌, ◌<◌};
-ghost use Rattle.line_phrases.specs.Words.{length, OnOk, IfErr, read, constant, listed, span, term, terms, window};
+ghost use Rattle.line_phrases.specs.Imports.{length, OnOk, IfErr, read, constant, listed, span, term, terms, window};
 ghost use Rattle.line_phrases.specs.Inner.Gives.{Gives, IsSyntax};
 
 use crate::{ReadError, Tokens, read_const, read_path};

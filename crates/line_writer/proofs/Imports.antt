@@ -1,5 +1,5 @@
 -- What the proofs of this crate speak of.
-pub use Rattle.line_writer.specs.Words.{spaced, spaced_tokens, Spells, MayOpen, AreSpelled, Written, OpenBrace, CloseBrace, Comma, CloseBracket, OpenParen, CloseParen, Dot, Equals, Minus, OpenBracket, Arrow, Star, Tree, Fields, Field, Record, Single, tree_of, fields_of, both, FieldWidth, Token, Word, Sign, Number, Text, Bad, PathStep, BinOp, Eq, Ne, Lt, Le, Gt, Ge, Add, Sub, Mul, Div, Rem, Min, Max, And, Or, depth_of, Entry, Index, Neg, Not, Binary, Constant, Version, KernelText, ExtentWord, NoEnd, opens, closes, Span, TermText}
+pub use Rattle.line_writer.specs.Imports.{spaced, spaced_tokens, Spells, MayOpen, AreSpelled, Written, OpenBrace, CloseBrace, Comma, CloseBracket, OpenParen, CloseParen, Dot, Equals, Minus, OpenBracket, Arrow, Star, Tree, Fields, Field, Record, Single, tree_of, fields_of, both, FieldWidth, Token, Word, Sign, Number, Text, Bad, PathStep, BinOp, Eq, Ne, Lt, Le, Gt, Ge, Add, Sub, Mul, Div, Rem, Min, Max, And, Or, depth_of, Entry, Index, Neg, Not, Binary, Constant, Version, KernelText, ExtentWord, NoEnd, opens, closes, Span, TermText}
 pub use Rattle.record_dim.specs.Std.{◌≡◌, ℕ, suc, ◌+◌, ◌<◌, ◌≤◌, ◌-◌, List, [], ◌∷◌, ◌++◌, map, length, get_or, take, drop, codes, refl, sym, ap, ◌∙◌, add-one, drop-cons, append-nil, append_assoc, arith, zero, inl, inr, Option, Some, None, subst, max, ℤ, pos, negsuc, neg_ℤ, true, false, ◌⊎◌, ◌^◌, slice_range, Bool, not, ◌&&◌, if◌then◌else◌, bytes_eq, nat_lt, ◌*◌, flat_map, list_all, AllPass, list_any, take-length, decimal, decimal_digit, decimal_is_IsNumeral_wide, flat_map-append, nat_tests, digit_from_value, append_cancel_right, drop-drop, length-append, take_at, map-append, AllPass-from_list_all, is_ascii_digit, AllDigits, le-max_left, le-max_right, bytes_eq-Decides, map-map, common_steps}
 pub use Rattle.line_grammar.specs.Prelude.{Sentence, Assignment, Value, Assign, Update, Actors, Kernel, Count, filter_depth, deepest_set, deepest, Show, Stencil, assignment_of, Joined, IsNothing, Chain, Grammar, Is, item, joined, which, nothing, deep, more, Splits, Told, told, token_number, kernel_word_of, comparison_of, command_of, dimensions, index_of, choice_of, or_of, and_of, sum_of, product_of, map_word, token_order, kind_token, meaning, name_of, count_of, string_of, type_of, integer_type_of, integer_types, leaf_types, orders, aos_forms, aos_form_of, soa_forms, soa_form_of, map_words, reduction_of, reductions, commands, wrapped, arrays, fields_of_list, name, count, number, string, link, operator, kernel_word, index_word, reduction_word, command_word, type_word, order_word, aos_word, soa_word, form_word, tokens_of, Reads}
 pub use Rattle.line_grammar.specs.Grammar.{behind, either, repeats}

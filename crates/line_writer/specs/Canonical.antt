@@ -1,7 +1,7 @@
 -- The canonical tokens of a line: those of its grammar with no bracket that is not needed, and with no sign before a zero.
 use Rattle.std.specs.Prelude.{ℕ, ◌+◌, Bool, true, false, not, if◌then◌else◌, List, [], ◌∷◌, ◌++◌, map, Option, Some, None, codes, ℤ, pos, negsuc}
 use Rattle.record_dim.specs.Std.{decimal, flat_map}
-use Rattle.line_writer.specs.Words.{OpenBrace, CloseBrace, OpenBracket, CloseBracket, OpenParen, CloseParen, Colon, Comma, Dot, Equals, Minus, Star, Slash, Arrow, Question, PathStep, Tree, Single, Record, Array, Fields, End, Field, Span, ExtentWord, Order, BinOp, Min, Max, Entry, Index, Neg, Not, Binary, Constant, FieldWidth, MapTerm, Aos, Soa, Aosoa, BitAos, BitSoa, Split, Byteswap, Bytesplit, Change, Counted, Heated, Named, Token, Word, Number, Text, Sign, KernelText, PassText, TermText, type_word, order_word, aos_word, soa_word, form_word, kernel_word, reduction_word, command_word, operator, Assignment, New, Sentence, Value, Blank, Define, Mapping, View, Load, Assign, Update, Actors, Kernel, Reduce, Count, Copy, Relayout, Show, Drop, Bytes, Save, Open, Advise, PrintWindow, Stencil}
+use Rattle.line_writer.specs.Imports.{OpenBrace, CloseBrace, OpenBracket, CloseBracket, OpenParen, CloseParen, Colon, Comma, Dot, Equals, Minus, Star, Slash, Arrow, Question, PathStep, Tree, Single, Record, Array, Fields, End, Field, Span, ExtentWord, Order, BinOp, Min, Max, Entry, Index, Neg, Not, Binary, Constant, FieldWidth, MapTerm, Aos, Soa, Aosoa, BitAos, BitSoa, Split, Byteswap, Bytesplit, Change, Counted, Heated, Named, Token, Word, Number, Text, Sign, KernelText, PassText, TermText, type_word, order_word, aos_word, soa_word, form_word, kernel_word, reduction_word, command_word, operator, Assignment, New, Sentence, Value, Blank, Define, Mapping, View, Load, Assign, Update, Actors, Kernel, Reduce, Count, Copy, Relayout, Show, Drop, Bytes, Save, Open, Advise, PrintWindow, Stencil}
 use Rattle.record_dim.specs.declared.path.PathStep.TheVariants as step
 use Rattle.extents.specs.declared.words.ExtentWord.TheVariants as extent
 use Rattle.line_grammar.specs.declared.line.Command.TheVariants as command

@@ -1,3 +1,3 @@
 pub mod Canonical
 pub mod Texts
-pub mod Words
+pub mod Imports

@@ -1,7 +1,7 @@
 -- The canonical text of a line: its canonical tokens with exactly one space between each two.
 use Rattle.std.specs.Prelude.{ℕ, Bool, true, false, List, [], ◌∷◌, ◌++◌, map}
 use Rattle.record_dim.specs.Std.{signed_decimal, byte}
-use Rattle.line_writer.specs.Words.{spelling, Written, spaced_tokens, Token, Word, Number, Text, Sign, Bad, Sentence, Assign, Update, Actors, Kernel, Reduce, Count, Save, Open, Advise, PrintWindow, Stencil}
+use Rattle.line_writer.specs.Imports.{spelling, Written, spaced_tokens, Token, Word, Number, Text, Sign, Bad, Sentence, Assign, Update, Actors, Kernel, Reduce, Count, Save, Open, Advise, PrintWindow, Stencil}
 use Rattle.line_tokens.specs.declared.token.TokenKind.TheVariants as kind
 use Rattle.line_writer.specs.Canonical.{line_tokens}
 

@@ -1,6 +1,6 @@
 // The lines of the commands, at the end of a text.
 ghost use Rattle.std.specs.Prelude.{◌≡◌, ◌++◌, ◌∷◌, [], map, codes, OnOk, Option, option_map};
-ghost use Rattle.line_writer.specs.Words.{term_of, map_of, tree_of, Dot, Equals, Word, Sign, Quoted, assignment_of, command_word, kernel_word, operator, reduction_word};
+ghost use Rattle.line_writer.specs.Imports.{term_of, map_of, tree_of, Dot, Equals, Word, Sign, Quoted, assignment_of, command_word, kernel_word, operator, reduction_word};
 ghost use Rattle.line_writer.specs.Canonical.{count_token, number_tokens, path_tokens, held_tokens, map_tokens, index_tokens, with_commas, assignment_tokens, filter_tokens, actors_tokens, value_tokens, flag_tokens, new_tokens, form_tokens, kernel_tokens};
 ghost use Rattle.line_writer.specs.Texts.{with_tokens_behind};
 

@@ -1,6 +1,6 @@
 // The lines of commands that came with the second version, at the end of a text.
 ghost use Rattle.std.specs.Prelude.{◌≡◌, ◌++◌, ◌∷◌, [], map, codes, OnOk};
-ghost use Rattle.line_writer.specs.Words.{flat_map, map_of, Equals, Slash, Word, Sign, command_word};
+ghost use Rattle.line_writer.specs.Imports.{flat_map, map_of, Equals, Slash, Word, Sign, command_word};
 ghost use Rattle.line_writer.specs.Canonical.{bracket_list, count_token, flag_tokens, map_tokens, number_tokens, pass_tokens, path_tokens, span_tokens, term_tokens, terms_tokens, window_tokens, with_commas};
 ghost use Rattle.line_writer.specs.Texts.{with_tokens_behind};
 

@@ -1,5 +1,5 @@
 ghost use Rattle.std.specs.Prelude.{ℕ, List, ◌≤◌, map};
-ghost use Rattle.line_writer.specs.Words.{NoEnd, AreSpelled, Version, Sentence, deepest, Reads};
+ghost use Rattle.line_writer.specs.Imports.{NoEnd, AreSpelled, Version, Sentence, deepest, Reads};
 ghost use Rattle.line_writer.specs.Canonical.{line_tokens};
 ghost use Rattle.line_writer.specs.Texts.{canonical, written};
 

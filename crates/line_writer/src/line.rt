@@ -1,5 +1,5 @@
 ghost use Rattle.std.specs.Prelude.{ℕ, List, ◌≡◌, ◌≤◌, ◌||◌, [], IfOk, IsTrue, OnOk};
-ghost use Rattle.line_writer.specs.Words.{Version, sentence_of, deepest, Reads};
+ghost use Rattle.line_writer.specs.Imports.{Version, sentence_of, deepest, Reads};
 ghost use Rattle.line_writer.specs.Texts.{canonical, is_later, is_on_rows};
 
 use crate::commands::{

@@ -1,6 +1,6 @@
 // A mapping.
 ghost use Rattle.std.specs.Prelude.{◌≡◌, ◌∷◌, [], OnOk};
-ghost use Rattle.line_writer.specs.Words.{OpenParen, Word, Sign};
+ghost use Rattle.line_writer.specs.Imports.{OpenParen, Word, Sign};
 ghost use Rattle.map_expr.specs.Terms.{term_of};
 ghost use Rattle.line_writer.specs.Canonical.{count_token, form_tokens, ordered_tokens, map_tokens};
 ghost use Rattle.line_writer.specs.Texts.{with_tokens_behind};

@@ -1,6 +1,6 @@
 // Lists with a comma between each two items.
 ghost use Rattle.std.specs.Prelude.{◌≡◌, ◌∷◌, [], map, OnOk};
-ghost use Rattle.line_writer.specs.Words.{assignment_of};
+ghost use Rattle.line_writer.specs.Imports.{assignment_of};
 ghost use Rattle.line_writer.specs.Canonical.{count_token, bracket_list, with_commas, extent_tokens, index_tokens, assignment_tokens};
 ghost use Rattle.line_writer.specs.Texts.{with_tokens_behind};
 

@@ -1,6 +1,6 @@
 // The fields of a record.
 ghost use Rattle.std.specs.Prelude.{◌≡◌, ◌++◌, ◌∷◌, [], OnOk};
-ghost use Rattle.line_writer.specs.Words.{tree_of, fields_of, OpenBrace, CloseBrace, Word, Sign};
+ghost use Rattle.line_writer.specs.Imports.{tree_of, fields_of, OpenBrace, CloseBrace, Word, Sign};
 ghost use Rattle.line_writer.specs.Canonical.{dims_tokens, core_tokens, fields_tokens, held_tokens};
 ghost use Rattle.line_writer.specs.Texts.{with_tokens_behind};
 

@@ -1,6 +1,6 @@
 // Tokens and short phrases at the end of a text, each token behind a space.
 ghost use Rattle.std.specs.Prelude.{◌≡◌, ◌++◌, ◌∷◌, [], OnOk, codes};
-ghost use Rattle.line_writer.specs.Words.{decimal, byte};
+ghost use Rattle.line_writer.specs.Imports.{decimal, byte};
 ghost use Rattle.line_writer.specs.Canonical.{number_tokens, bracketed_count, step_tokens, path_tokens};
 ghost use Rattle.line_writer.specs.Texts.{with_tokens_behind};
 

@@ -1,6 +1,6 @@
 // An expression.
 ghost use Rattle.std.specs.Prelude.{◌≡◌, OnOk};
-ghost use Rattle.line_writer.specs.Words.{term_of, operator};
+ghost use Rattle.line_writer.specs.Imports.{term_of, operator};
 ghost use Rattle.line_writer.specs.Canonical.{is_choice, needs_brackets, operand, value_tokens};
 ghost use Rattle.line_writer.specs.Texts.{with_tokens_behind, written};
 

@@ -1,6 +1,6 @@
 -- The laws of a mapping that keeps how each cell of its expression is stored.
 use Rattle.std.specs.Prelude.{◌≡◌}
-use Rattle.map_any.specs.Words.{ℕ, List, map, length, false, None, sym, ap, ◌∙◌, subst, length-map, indices, LeafType, Fields, kinds_of, IsLaidOut, Cell, Hold, Term, bad_number, leaf_cells_kinds, leaf_cells, layout_of, holds_of, holds_by, most_slots, not_full, IsBuiltTerm, term_laws, good_numbers, length-holds, IsPlanOf, plan_holds, plan_rules, Plan}
+use Rattle.map_any.specs.Imports.{ℕ, List, map, length, false, None, sym, ap, ◌∙◌, subst, length-map, indices, LeafType, Fields, kinds_of, IsLaidOut, Cell, Hold, Term, bad_number, leaf_cells_kinds, leaf_cells, layout_of, holds_of, holds_by, most_slots, not_full, IsBuiltTerm, term_laws, good_numbers, length-holds, IsPlanOf, plan_holds, plan_rules, Plan}
 
 pub any_laws : (term : Term) (extents : List ℕ) (fields : Fields) (cells : List Cell) (holds : List Hold) → IsBuiltTerm term → bad_number term ≡ None
     → not_full term fields cells ≡ false → holds ≡ holds_of term fields cells

@@ -1,6 +1,6 @@
 -- The slots of an array's block are a run; what runs say of the bits of rows.
 use Rattle.std.specs.Prelude.{◌≡◌, ◌+◌, ◌-◌, ◌*◌, ◌/◌, ◌%◌, ◌<◌, ◌≤◌, ◌∷◌}
-use Rattle.map_any.specs.Words.{ℕ, List, [], map, length, get_or, refl, Option, Some, IfSome, ⊎_elim, sym, ap, ◌∙◌, subst, arith, flat_map, range_with_len, append-nil, flat_map-cons, row_fits, div-add-mod', mul-le, cases_lt, indices, Order, slot_at, row_at, row_at-slot_at, slot_at-row_at, Owner, Pad, Bit, owner_at, renamed, in_rows, bit_in_row, IsLocated, IsPiece, owners_in, owner_relabel, ranges_at, begin_in, piece_in, pieces_in, full_holds, Piece, PieceRule, Fields, Cell, Term, Soa, Aosoa, Count, Heat, holds_of, array_of, IsArray, length-in_rows, length-blob, Rule}
+use Rattle.map_any.specs.Imports.{ℕ, List, [], map, length, get_or, refl, Option, Some, IfSome, ⊎_elim, sym, ap, ◌∙◌, subst, arith, flat_map, range_with_len, append-nil, flat_map-cons, row_fits, div-add-mod', mul-le, cases_lt, indices, Order, slot_at, row_at, row_at-slot_at, slot_at-row_at, Owner, Pad, Bit, owner_at, renamed, in_rows, bit_in_row, IsLocated, IsPiece, owners_in, owner_relabel, ranges_at, begin_in, piece_in, pieces_in, full_holds, Piece, PieceRule, Fields, Cell, Term, Soa, Aosoa, Count, Heat, holds_of, array_of, IsArray, length-in_rows, length-blob, Rule}
 use Rattle.map_any.specs.Inner.ArrayRuns.{IsArrayRun}
 
 -- the owners of the bits of one piece

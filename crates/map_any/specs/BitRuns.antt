@@ -1,6 +1,6 @@
 -- The bits of a blob as maximal runs of one owner.
 use Rattle.std.specs.Prelude.{◌+◌, ◌==◌, ◌&&◌, ◌∷◌, if◌then◌else◌}
-use Rattle.map_any.specs.Words.{ℕ, Bool, true, false, List, [], slice_index_or, Owner, Pad, Bit, Run, RunOwner}
+use Rattle.map_any.specs.Imports.{ℕ, Bool, true, false, List, [], slice_index_or, Owner, Pad, Bit, Run, RunOwner}
 use Rattle.places.specs.declared.piece.RunOwner.TheVariants as run
 
 -- whose a run of this bit alone is

@@ -1,5 +1,5 @@
 -- The counters that stand at the top of an expression.
-use Rattle.map_any.specs.Words.{ℕ, Bool, true, false, Option, Some, None, Term, Count, Heat}
+use Rattle.map_any.specs.Imports.{ℕ, Bool, true, false, Option, Some, None, Term, Count, Heat}
 
 -- it counts accesses by leaf
 abbrev pub has_count : Term → Bool

@@ -1,5 +1,5 @@
 -- What is kept of the leaves of a mapping that lays out arrays.
-use Rattle.map_any.specs.Words.{ℕ, List, map, slice_index, IfSome, slot_count, widths_of, full_holds, Cell, Term, array_of, array_layout, lanes_in, IsArray, EachWith}
+use Rattle.map_any.specs.Imports.{ℕ, List, map, slice_index, IfSome, slot_count, widths_of, full_holds, Cell, Term, array_of, array_layout, lanes_in, IsArray, EachWith}
 use Rattle.map_any.specs.declared.leaf_rule.LeafRule.{LeafRule}
 
 -- each leaf lies in an array; of another mapping nothing is said

@@ -1,6 +1,6 @@
 -- What accesses to leaves go by.
 use Rattle.std.specs.Prelude.{◌≡◌, ◌≤ℤ◌}
-use Rattle.map_any.specs.Words.{ℕ, ℤ, true, false, List, length, map, slice_index, slice_index_or, is_signed, IsIn, IsDeclared, LeafType, Truth, Owner, Hold, EachWith, IsRuleOf, IsSameRule, IsShortOf, leads, AreReadWide, Rule}
+use Rattle.map_any.specs.Imports.{ℕ, ℤ, true, false, List, length, map, slice_index, slice_index_or, is_signed, IsIn, IsDeclared, LeafType, Truth, Owner, Hold, EachWith, IsRuleOf, IsSameRule, IsShortOf, leads, AreReadWide, Rule}
 use Rattle.map_any.specs.declared.leaf_rule.LeafRule.{LeafRule}
 
 -- the type of a leaf, and how it is stored; outside of the lists any

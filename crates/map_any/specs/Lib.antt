@@ -12,4 +12,4 @@ pub use Rattle.map_checks.specs.TermLaws
 pub use Rattle.map_checks.specs.Ruled
 pub use Rattle.map_checks.specs.Arrays
 pub mod Inner
-pub mod Words
+pub mod Imports

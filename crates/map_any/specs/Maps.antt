@@ -1,5 +1,5 @@
 -- What a mapping of run time shows of its array.
-use Rattle.map_any.specs.Words.{ℕ, List, Term, term_of}
+use Rattle.map_any.specs.Imports.{ℕ, List, Term, term_of}
 use Rattle.map_any.specs.declared.any.AnyMap.{AnyMap}
 
 -- the extents of the array that it maps

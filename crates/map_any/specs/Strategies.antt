@@ -1,6 +1,6 @@
 -- How the table of one mapping is copied into that of another.
 use Rattle.std.specs.Prelude.{◌≡◌}
-use Rattle.map_any.specs.Words.{IsSomeAnd, Term, uncounted, array_of}
+use Rattle.map_any.specs.Imports.{IsSomeAnd, Term, uncounted, array_of}
 use Rattle.map_any.specs.declared.strategy.Strategy.{Strategy}
 use Rattle.map_any.specs.declared.strategy.Strategy.TheVariants.{Blobs, Runs, Fields}
 

@@ -1,5 +1,5 @@
 ghost use Rattle.std.specs.Prelude.{◌≡◌};
-ghost use Rattle.map_any.specs.Words.{true, false, None, props, kinds_of, schema_fields, term_of, bad_number, layout_by, holds_by, leaf_cells, not_full, IsBuiltTerm, IsBuiltTerm-prop, EachWith, HasLengths, leads};
+ghost use Rattle.map_any.specs.Imports.{true, false, None, props, kinds_of, schema_fields, term_of, bad_number, layout_by, holds_by, leaf_cells, not_full, IsBuiltTerm, IsBuiltTerm-prop, EachWith, HasLengths, leads};
 ghost use Rattle.map_any.specs.Counters.{is_counted};
 ghost use Rattle.map_any.specs.LeafArrays.{HaveArrays};
 ghost use Rattle.map_any.specs.LeafRules.{AreRuled, IsWideIn};

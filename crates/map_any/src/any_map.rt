@@ -1,5 +1,5 @@
 ghost use Rattle.std.specs.Prelude.{◌≡◌, ◌<◌, ◌≤ℤ◌, ◌*◌, ◌∷◌};
-ghost use Rattle.map_any.specs.Words.{ℕ, ℤ, List, [], true, false, IfOk, OnOk, IfErr, IfSome, Ok, length, map, slice_index, slice_index_or, indices, is_signed, IsIn, IsDeclared, schema_fields, kinds_of, IsLocated, term_of, leaf_cells, layout_by, holds_by, accepted, IsBuiltTerm, IsTooBigFor, IsRefusal, IsArrayOf, IsRuleOf, IsShortIn, leads, AreReadWide};
+ghost use Rattle.map_any.specs.Imports.{ℕ, ℤ, List, [], true, false, IfOk, OnOk, IfErr, IfSome, Ok, length, map, slice_index, slice_index_or, indices, is_signed, IsIn, IsDeclared, schema_fields, kinds_of, IsLocated, term_of, leaf_cells, layout_by, holds_by, accepted, IsBuiltTerm, IsTooBigFor, IsRefusal, IsArrayOf, IsRuleOf, IsShortIn, leads, AreReadWide};
 ghost use Rattle.map_any.specs.AnyLaws.{any_laws, holds_cells};
 ghost use Rattle.map_any.specs.Counters.{is_counted};
 ghost use Rattle.map_any.specs.LeafRules.{kind_in, hold_in, IsLeafRule, IsWideIn};

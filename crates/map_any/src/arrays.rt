@@ -1,6 +1,6 @@
 // Mappings that lay out arrays of leaves: how many slots there are, and where those of a leaf begin.
 ghost use Rattle.std.specs.Prelude.{◌≡◌, ◌+◌, ◌*◌, ◌%◌, ◌<◌, ◌≤◌};
-ghost use Rattle.map_any.specs.Words.{ℕ, IfSome, IsSomeAnd, length, map, option_map, slice_index, slot_count, term_of, array_of, lanes_in};
+ghost use Rattle.map_any.specs.Imports.{ℕ, IfSome, IsSomeAnd, length, map, option_map, slice_index, slot_count, term_of, array_of, lanes_in};
 ghost use Rattle.map_any.specs.Inner.ArrayRuns.{IsArrayRun};
 ghost use Rattle.map_any.specs.Inner.ArraySlots.{slots_in};
 ghost use Rattle.map_any.specs.Maps.{extents_of, term_of_map};

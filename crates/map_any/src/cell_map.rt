@@ -1,5 +1,5 @@
 ghost use Rattle.std.specs.Prelude.{◌≡◌, ◌<◌};
-ghost use Rattle.map_any.specs.Words.{false, None, IfOk, OnOk, IfErr, Ok, length, map, slice_index, indices, schema_fields, term_of, bad_number, layout_of, holds_of, accepted, not_full, IsBuiltTerm, IsTooBigFor, IsRefusal, IsBuiltTerm-prop, IsPlanOf, IsRuleOf};
+ghost use Rattle.map_any.specs.Imports.{false, None, IfOk, OnOk, IfErr, Ok, length, map, slice_index, indices, schema_fields, term_of, bad_number, layout_of, holds_of, accepted, not_full, IsBuiltTerm, IsTooBigFor, IsRefusal, IsBuiltTerm-prop, IsPlanOf, IsRuleOf};
 ghost use Rattle.map_any.specs.AnyLaws.{any_laws, cell_holds};
 
 use crate::planned::planned;

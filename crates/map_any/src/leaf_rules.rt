@@ -1,5 +1,5 @@
 ghost use Rattle.std.specs.Prelude.{◌≡◌, ◌≤ℤ◌};
-ghost use Rattle.map_any.specs.Words.{ℤ, true, false, IfOk, length, slice_index_or, is_signed, IsIn, IsDeclared, schema_fields, kinds_of, EachWith, IsSameRule, IsShortOf, leads};
+ghost use Rattle.map_any.specs.Imports.{ℤ, true, false, IfOk, length, slice_index_or, is_signed, IsIn, IsDeclared, schema_fields, kinds_of, EachWith, IsSameRule, IsShortOf, leads};
 ghost use Rattle.map_any.specs.LeafRules.{IsLeafRule, AreLeafRules, IsWideIn};
 
 use crate::leaf_rule::{LeafRule, RuleList};

@@ -1,5 +1,5 @@
 ghost use Rattle.std.specs.Prelude.{◌≡◌};
-ghost use Rattle.map_any.specs.Words.{IfOk, OnOk, IfErr, Ok, schema_fields, term_of, accepted, IsBuiltTerm, IsRefusal, HasArrays, IsPlanOf};
+ghost use Rattle.map_any.specs.Imports.{IfOk, OnOk, IfErr, Ok, schema_fields, term_of, accepted, IsBuiltTerm, IsRefusal, HasArrays, IsPlanOf};
 
 use extents::Extents;
 use map_checks::{MakeMap, Plan, has_bad_field, has_bad_side, has_part_not_full, make_plan};

@@ -1,5 +1,5 @@
 ghost use Rattle.std.specs.Prelude.{◌≡◌, ◌+◌, ◌*◌, ◌<◌, ◌≤◌, ◌==◌};
-ghost use Rattle.map_any.specs.Words.{ℕ, All, false, [], IfOk, length, map, slice_index_or, Bit, owner_at};
+ghost use Rattle.map_any.specs.Imports.{ℕ, All, false, [], IfOk, length, map, slice_index_or, Bit, owner_at};
 ghost use Rattle.map_any.specs.Inner.Filling.{IsFilled, IsShown, Show, runs_along};
 ghost use Rattle.map_any.specs.BitRuns.{goes_on, run_owner, runs_of};
 

@@ -1,6 +1,6 @@
 -- Which byte of which cell each of the cells of bytes is.
 use Rattle.std.specs.Prelude.{◌≡◌, ℕ, zero, suc, ◌+◌, ◌-◌, ◌/◌, ◌<◌, ◌≤◌, List, [], ◌∷◌, ◌++◌, map, length, get_or, take, replicate, All, refl}
-use Rattle.map_bytes.specs.Words.{⊎_elim, ap, ◌∙◌, arith, length-append, flat_map, range_with_len, enumerate_from, cases_lt, get_or_append_left, get_or-append-add, length-replicate, take-map, get_or-map-range_with_len, length-map-range_with_len, All-nil, All-append, All-replicate, All-map, sum_by-cons, sum_by_more_le, sum_by, width_of, U8, byte_cells, widths_of, Cell}
+use Rattle.map_bytes.specs.Imports.{⊎_elim, ap, ◌∙◌, arith, length-append, flat_map, range_with_len, enumerate_from, cases_lt, get_or_append_left, get_or-append-add, length-replicate, take-map, get_or-map-range_with_len, length-map-range_with_len, All-nil, All-append, All-replicate, All-map, sum_by-cons, sum_by_more_le, sum_by, width_of, U8, byte_cells, widths_of, Cell}
 use Rattle.map_bytes.specs.Cells.{byte_cells_of, byte_count}
 
 -- how many bytes the cells before this one have

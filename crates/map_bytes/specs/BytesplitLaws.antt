@@ -1,6 +1,6 @@
 -- Every bit has exactly one place where the bytes of each cell are cells of their own.
 use Rattle.std.specs.Prelude.{◌≡◌, ℕ, ◌+◌, ◌*◌, ◌/◌, ◌%◌, ◌<◌, ◌≤◌, List, map, length, get_or, All}
-use Rattle.map_bytes.specs.Words.{sym, ap, ◌∙◌, subst, arith, length-map, All-map, sum_by, Owner, Bit, renamed, byte_cells, bytesplit, IsBitOf, IsLaidOut, widths_of, full_holds, widths_whole, widths_wide, widths_narrow, widths_full, Back, relabel_lays_out, laid_out, lays_out, length-widths, Cell, Hold}
+use Rattle.map_bytes.specs.Imports.{sym, ap, ◌∙◌, subst, arith, length-map, All-map, sum_by, Owner, Bit, renamed, byte_cells, bytesplit, IsBitOf, IsLaidOut, widths_of, full_holds, widths_whole, widths_wide, widths_narrow, widths_full, Back, relabel_lays_out, laid_out, lays_out, length-widths, Cell, Hold}
 use Rattle.map_bytes.specs.Cells.{byte_cells_of}
 use Rattle.map_bytes.specs.ByteCellsLaws.{bytes_before, IsByteCell, byte_cell_at, byte_cell_of, byte_within, byte_count_is, length-bytes, widths_of_bytes}
 

@@ -1,6 +1,6 @@
 -- The cells that a mapping hands to the one inside it, and whether that one holds them whole.
 use Rattle.std.specs.Prelude.{ℕ, ◌/◌, ◌==◌, ◌&&◌, ◌||◌, Bool, false, not, if◌then◌else◌, List, ◌∷◌, map, replicate}
-use Rattle.map_bytes.specs.Words.{flat_map, sum_by, kind_number, width_of, LeafType, U8, Cell, Hold}
+use Rattle.map_bytes.specs.Imports.{flat_map, sum_by, kind_number, width_of, LeafType, U8, Cell, Hold}
 
 -- the bytes of cells as cells of their own, least significant first
 abbrev pub byte_cells_of : List Cell → List Cell

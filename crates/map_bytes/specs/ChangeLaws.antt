@@ -1,6 +1,6 @@
 -- Cells that are stored as other types: as many as before.
 use Rattle.std.specs.Prelude.{◌≡◌, List, length, ◌==◌, if◌then◌else◌}
-use Rattle.map_bytes.specs.Words.{◌∙◌, length-map, LeafType, Cell, Hold, kind_number}
+use Rattle.map_bytes.specs.Imports.{◌∙◌, length-map, LeafType, Cell, Hold, kind_number}
 use Rattle.map_bytes.specs.Cells.{changed}
 
 pub length-changed : (from to : LeafType) (cells : List Cell) → length (changed from to cells) ≡ length cells

@@ -1,6 +1,6 @@
 -- What holds of pieces and of rules that are cut into bytes; what is done to rules is done to their pieces.
 use Rattle.std.specs.Prelude.{◌≡◌, ℕ, ◌+◌, ◌*◌, ◌/◌, ◌%◌, ◌^◌, ◌<◌, List, [], ◌∷◌, ◌++◌, map, length, get_or, All, reverse, refl}
-use Rattle.map_bytes.specs.Words.{sym, ap, ◌∙◌, subst, arith, length-append, flat_map, range_with_len, map-append, reverse-append, length-reverse, All-map, All-append, All-nil, All-head, All-tail, get_or-range_with_len, length-range_with_len, length-map-range_with_len, All-permutation, IsPermutation-reverse, sum_by-cons, rules, sum_by, Piece, begin_in, piece_in, pieces_in, PieceRule}
+use Rattle.map_bytes.specs.Imports.{sym, ap, ◌∙◌, subst, arith, length-append, flat_map, range_with_len, map-append, reverse-append, length-reverse, All-map, All-append, All-nil, All-head, All-tail, get_or-range_with_len, length-range_with_len, length-map-range_with_len, All-permutation, IsPermutation-reverse, sum_by-cons, rules, sum_by, Piece, begin_in, piece_in, pieces_in, PieceRule}
 use Rattle.map_bytes.specs.Cuts.{byte_of, piece_bytes, swapped, rule_byte, rule_bytes, swapped_rules}
 
 -- things that are cut, so many parts of each

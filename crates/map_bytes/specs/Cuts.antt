@@ -1,6 +1,6 @@
 -- Pieces cut into bytes and taken in another order, and the same of rules.
 use Rattle.std.specs.Prelude.{ℕ, zero, suc, ◌+◌, ◌*◌, ◌/◌, List, [], ◌++◌, map, reverse, take, drop}
-use Rattle.map_bytes.specs.Words.{flat_map, range_with_len, Piece, PieceRule}
+use Rattle.map_bytes.specs.Imports.{flat_map, range_with_len, Piece, PieceRule}
 
 -- one byte of a piece
 abbrev pub byte_of : ℕ → Piece → Piece

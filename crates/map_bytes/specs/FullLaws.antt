@@ -1,6 +1,6 @@
 -- Mappings that store each cell in its type's own sign and width.
 use Rattle.std.specs.Prelude.{◌≡◌, ℕ, ◌+◌, ◌<◌, List, [], ◌∷◌, map, length, get_or, drop, Bool, true, false, Some, refl, ◌&&◌, ◌||◌, not, slice_get}
-use Rattle.map_bytes.specs.Words.{sym, ap, ◌∙◌, arith, eqb-true, map-map, drop_more, get_or-map, length-map, get_or_from_slice_get, slice_get_within, LeafType, hold_of, full_holds, length-full, Cell, Hold}
+use Rattle.map_bytes.specs.Imports.{sym, ap, ◌∙◌, arith, eqb-true, map-map, drop_more, get_or-map, length-map, get_or_from_slice_get, slice_get_within, LeafType, hold_of, full_holds, length-full, Cell, Hold}
 use Rattle.map_bytes.specs.Cells.{same_hold, differ}
 
 -- cells of the same types are stored alike

@@ -1,6 +1,6 @@
 -- The pieces of a cell's bytes, joined, are the places of the cell.
 use Rattle.std.specs.Prelude.{◌≡◌, ℕ, ◌+◌, ◌-◌, ◌*◌, ◌%◌, ◌^◌, ◌<◌, ◌≤◌, List, [], ◌++◌, map, length, get_or, All}
-use Rattle.map_bytes.specs.Words.{sym, ap, ◌∙◌, subst, arith, flat_map, range_with_len, map-map, flat_map-append, All-nil, All-append, Owner, Bit, field, renamed, byte_cells, bytesplit, IsPiece, IsLocated, owners_in, same_ranges, range_split, bits_located, located, pieces_weaker, relabel_spelled, Piece}
+use Rattle.map_bytes.specs.Imports.{sym, ap, ◌∙◌, subst, arith, flat_map, range_with_len, map-map, flat_map-append, All-nil, All-append, Owner, Bit, field, renamed, byte_cells, bytesplit, IsPiece, IsLocated, owners_in, same_ranges, range_split, bits_located, located, pieces_weaker, relabel_spelled, Piece}
 use Rattle.map_bytes.specs.CutLaws.{one_of_eight}
 
 -- no bits, no pieces

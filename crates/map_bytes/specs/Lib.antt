@@ -8,4 +8,4 @@ pub mod ByteCellsLaws
 pub mod BytesplitLaws
 pub mod JoinLaws
 pub mod ChangeLaws
-pub mod Words
+pub mod Imports

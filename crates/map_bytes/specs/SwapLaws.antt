@@ -1,6 +1,6 @@
 -- Every bit has exactly one place where the bytes of each cell are in reverse order.
 use Rattle.std.specs.Prelude.{◌≡◌, ℕ, ◌+◌, ◌-◌, ◌*◌, ◌/◌, ◌%◌, ◌<◌, List, map, length, get_or, All}
-use Rattle.map_bytes.specs.Words.{sym, ap, ◌∙◌, subst, arith, length-map, All-map, Owner, Bit, renamed, byteswap, IsBitOf, IsLaidOut, widths_of, full_holds, widths_whole, widths_full, Back, relabel_lays_out, laid_out, lays_out, Cell, Hold}
+use Rattle.map_bytes.specs.Imports.{sym, ap, ◌∙◌, subst, arith, length-map, All-map, Owner, Bit, renamed, byteswap, IsBitOf, IsLaidOut, widths_of, full_holds, widths_whole, widths_full, Back, relabel_lays_out, laid_out, lays_out, Cell, Hold}
 
 -- where a bit goes in a cell of so many bits
 abbrev pub swapped_bit : ℕ → ℕ → ℕ

@@ -1,6 +1,6 @@
 -- Pieces with their bytes in reverse order are the places of a cell whose bytes are in reverse order.
 use Rattle.std.specs.Prelude.{◌≡◌, ℕ, zero, suc, ◌+◌, ◌-◌, ◌*◌, ◌/◌, ◌%◌, ◌^◌, ◌<◌, ◌≤◌, List, [], ◌∷◌, ◌++◌, map, length, get_or, All, reverse, refl}
-use Rattle.map_bytes.specs.Words.{sym, ap, ◌∙◌, arith, flat_map, range_with_len, reverse-append, flat_map-append, length-map-range_with_len, map-range_with_len_more, All-head, All-tail, Owner, Bit, owner_at, renamed, byteswap, IsLocated, owners_in, owner_relabel, same_ranges, range_split, spells_split, located, Piece}
+use Rattle.map_bytes.specs.Imports.{sym, ap, ◌∙◌, arith, flat_map, range_with_len, reverse-append, flat_map-append, length-map-range_with_len, map-range_with_len_more, All-head, All-tail, Owner, Bit, owner_at, renamed, byteswap, IsLocated, owners_in, owner_relabel, same_ranges, range_split, spells_split, located, Piece}
 use Rattle.map_bytes.specs.Cuts.{byte_of, piece_bytes, swapped}
 use Rattle.map_bytes.specs.CutLaws.{all_parts_back}
 

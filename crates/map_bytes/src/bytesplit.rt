@@ -1,5 +1,5 @@
 ghost use Rattle.std.specs.Prelude.{ℕ, ◌≡◌, ◌+◌, ◌/◌, ◌^◌, ◌<◌, ◌≤◌, ◌⊎◌, ◌↔◌, IfOk, IfErr, IsErrOf, true, List, length, slice_index};
-ghost use Rattle.map_bytes.specs.Words.{widths_of, full_holds, Owner, bytesplit, length-full, Cell, Hold};
+ghost use Rattle.map_bytes.specs.Imports.{widths_of, full_holds, Owner, bytesplit, length-full, Cell, Hold};
 ghost use Rattle.map_bytes.specs.Cells.{differ, byte_cells_of, byte_count};
 ghost use Rattle.map_bytes.specs.ByteCellsLaws.{bytes_before};
 ghost use Rattle.map_bytes.specs.BytesplitLaws.{bytesplit_laws};

@@ -1,5 +1,5 @@
 ghost use Rattle.std.specs.Prelude.{ℕ, ◌≡◌, ◌⊎◌, ◌↔◌, IfOk, IfErr, IsErrOf, true, List, map};
-ghost use Rattle.map_bytes.specs.Words.{widths_of, full_holds, Owner, byteswap, length-full, Cell, Hold};
+ghost use Rattle.map_bytes.specs.Imports.{widths_of, full_holds, Owner, byteswap, length-full, Cell, Hold};
 ghost use Rattle.map_bytes.specs.Cells.{differ};
 ghost use Rattle.map_bytes.specs.SwapLaws.{byteswap_laws};
 

@@ -1,5 +1,5 @@
 ghost use Rattle.std.specs.Prelude.{ℕ, ◌≡◌, IfOk, IfErr, List, length};
-ghost use Rattle.map_bytes.specs.Words.{Owner, Cell, Hold};
+ghost use Rattle.map_bytes.specs.Imports.{Owner, Cell, Hold};
 ghost use Rattle.map_bytes.specs.Cells.{changed};
 ghost use Rattle.map_bytes.specs.ChangeLaws.{changed_holds};
 

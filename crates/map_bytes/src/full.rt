@@ -1,5 +1,5 @@
 ghost use Rattle.std.specs.Prelude.{◌≡◌};
-ghost use Rattle.map_bytes.specs.Words.{full_holds};
+ghost use Rattle.map_bytes.specs.Imports.{full_holds};
 ghost use Rattle.map_bytes.specs.Cells.{same_hold, differ};
 
 use places::{Hold, Mapping};

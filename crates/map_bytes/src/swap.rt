@@ -1,5 +1,5 @@
 ghost use Rattle.std.specs.Prelude.{◌≡◌, ◌+◌, ◌*◌, ◌/◌, ◌%◌, ◌^◌, ◌<◌, ◌≤◌, ◌++◌, All, length, sum_by};
-ghost use Rattle.map_bytes.specs.Words.{piece_in, pieces_in};
+ghost use Rattle.map_bytes.specs.Imports.{piece_in, pieces_in};
 ghost use Rattle.map_bytes.specs.Cuts.{rule_byte, rule_bytes, swapped, swapped_rules, places_in, groups_back};
 
 use places::{Piece, PieceRule, PieceRules, Pieces, pieces_in};

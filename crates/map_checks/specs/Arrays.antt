@@ -1,6 +1,6 @@
 -- Mappings whose cells lie in arrays: which these are, and what their rules say of each cell in every slot, also in one that no row has.
 use Rattle.std.specs.Prelude.{ℕ, ◌≡◌, ◌^◌, ◌≤◌, List, [], length, map, Option, Some, None, IfSome, slice_index, slice_index_or}
-use Rattle.map_checks.specs.Words.{Order, slot_count, Owner, aosoa, soa_layout, widths_of, full_holds, AreRulesOf, IsDense, Cell, PieceRule, Term, Soa, Aosoa, Count, Heat}
+use Rattle.map_checks.specs.Imports.{Order, slot_count, Owner, aosoa, soa_layout, widths_of, full_holds, AreRulesOf, IsDense, Cell, PieceRule, Term, Soa, Aosoa, Count, Heat}
 use Rattle.map_checks.specs.Ruled.{EachWith}
 use Rattle.map_checks.specs.declared.rule.Rule.{Rule}
 

@@ -10,4 +10,4 @@ pub mod PlansLaws
 pub mod Arrays
 pub mod Inner
 pub mod Prelude
-pub mod Words
+pub mod Imports

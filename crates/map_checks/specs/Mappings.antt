@@ -1,6 +1,6 @@
 -- What an expression means over the leaves of a schema and the extents of an array: the layout by rows, and how each leaf is stored.
 use Rattle.std.specs.Prelude.{ℕ, ◌≡◌, ⊤, max, Bool, true, false, ◌||◌, List, [], map, None, Result, Ok, Err}
-use Rattle.map_checks.specs.Words.{enumerate_from, LeafType, Fields, kinds_of, row_at, slot_count, Order, Owner, aosoa, bit_aos, bit_soa, in_rows, split, byteswap, bytesplit, widths_of, widths_in, full_holds, narrow_holds, IsTooBig, aos_layout, soa_layout, Cell, Hold, Term, Aos, Soa, Aosoa, BitAos, BitSoa, Split, Byteswap, Bytesplit, Change, Count, Heat, Named, checked, bad_lanes, bad_widths, bad_granule, FieldWidth, BadMapping, Side, Field, NotFull, byte_cells_of, changed, differ, merged, is_one_sided}
+use Rattle.map_checks.specs.Imports.{enumerate_from, LeafType, Fields, kinds_of, row_at, slot_count, Order, Owner, aosoa, bit_aos, bit_soa, in_rows, split, byteswap, bytesplit, widths_of, widths_in, full_holds, narrow_holds, IsTooBig, aos_layout, soa_layout, Cell, Hold, Term, Aos, Soa, Aosoa, BitAos, BitSoa, Split, Byteswap, Bytesplit, Change, Count, Heat, Named, checked, bad_lanes, bad_widths, bad_granule, FieldWidth, BadMapping, Side, Field, NotFull, byte_cells_of, changed, differ, merged, is_one_sided}
 use Rattle.map_checks.specs.Sides.{side_of, cells_under, cells_beside}
 use Rattle.map_checks.specs.Widths.{cell_widths, has_empty}
 use Rattle.map_checks.specs.declared.fault.MakeMap.{MakeMap}

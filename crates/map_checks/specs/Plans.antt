@@ -1,6 +1,6 @@
 -- What a plan is of.
 use Rattle.std.specs.Prelude.{ℕ, ◌≡◌, List, map}
-use Rattle.map_checks.specs.Words.{Fields, Owner, IsTooBig, Cell, Hold, Term}
+use Rattle.map_checks.specs.Imports.{Fields, Owner, IsTooBig, Cell, Hold, Term}
 use Rattle.map_checks.specs.Mappings.{layout_of, holds_of, most_slots}
 use Rattle.map_checks.specs.Ruled.{HasLengths, IsRuled}
 use Rattle.map_checks.specs.declared.plan.Plan.{Plan}

@@ -1,6 +1,6 @@
 -- What a plan has for each cell.
 use Rattle.std.specs.Prelude.{◌≡◌, ℕ, List, length}
-use Rattle.map_checks.specs.Words.{ap, ◌∙◌, length-map, Owner, Hold}
+use Rattle.map_checks.specs.Imports.{ap, ◌∙◌, length-map, Owner, Hold}
 use Rattle.map_checks.specs.Plans.{IsPlanFor}
 use Rattle.map_checks.specs.declared.plan.Plan.{Plan}
 

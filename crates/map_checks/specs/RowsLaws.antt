@@ -1,6 +1,6 @@
 -- The laws of a layout by rows, for any order: its bits and places are those of the layout by slots.
 use Rattle.std.specs.Prelude.{◌≡◌, ℕ, ◌%◌, ◌<◌, List, [], ◌∷◌, map, length, sum_by, get_or, All, refl, Option, Some}
-use Rattle.map_checks.specs.Words.{ap, ◌∙◌, arith, get_or-map, length-map, sum_by-cons, All-map, indices, Order, slot_at, slot_count, row_at, row_at-slot_at, slot_at-row_at, slot_at_below, Owner, Bit, renamed, in_rows, bit_in_row, IsBitOf, IsLaidOut, IsLocated, Back, relabel_lays_out, laid_out, lays_out, relabel_located, Piece}
+use Rattle.map_checks.specs.Imports.{ap, ◌∙◌, arith, get_or-map, length-map, sum_by-cons, All-map, indices, Order, slot_at, slot_count, row_at, row_at-slot_at, slot_at-row_at, slot_at_below, Owner, Bit, renamed, in_rows, bit_in_row, IsBitOf, IsLaidOut, IsLocated, Back, relabel_lays_out, laid_out, lays_out, relabel_located, Piece}
 
 -- the name that a bit of a slot has by rows
 abbrev by_row : Order → List ℕ → ℕ → ℕ → ℕ → Owner

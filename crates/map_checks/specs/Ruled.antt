@@ -1,6 +1,6 @@
 -- What rules say of the cells of a layout by rows.
 use Rattle.std.specs.Prelude.{ℕ, ◌≡◌, ◌+◌, ◌*◌, ◌%◌, ◌^◌, ◌<◌, ◌≤◌, All, List, length, map, slice_index, slice_index_or, sum_by}
-use Rattle.map_checks.specs.Words.{indices, slot_at, slot_count, Owner, IsLocated, pieces_in, Piece}
+use Rattle.map_checks.specs.Imports.{indices, slot_at, slot_count, Owner, IsLocated, pieces_in, Piece}
 use Rattle.map_checks.specs.declared.rule.Rule.{Rule}
 
 -- each item of a list, with its number

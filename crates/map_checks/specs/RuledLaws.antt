@@ -1,6 +1,6 @@
 -- What holds of each item of a list, and of one more.
 use Rattle.std.specs.Prelude.{◌≡◌, ℕ, List, [], ◌∷◌, ◌++◌, length}
-use Rattle.map_checks.specs.Words.{arith, length-append, get_or-append_seam, cases_lt, get_or_append_left}
+use Rattle.map_checks.specs.Imports.{arith, length-append, get_or-append_seam, cases_lt, get_or_append_left}
 use Rattle.map_checks.specs.Ruled.{EachWith}
 
 -- one more item

@@ -1,6 +1,6 @@
 -- The two sides of a split: which cells go to the first.
 use Rattle.std.specs.Prelude.{Bool, not, List, map, filter}
-use Rattle.map_checks.specs.Words.{PathStep, Fields, is_under, Cell}
+use Rattle.map_checks.specs.Imports.{PathStep, Fields, is_under, Cell}
 
 -- whether each cell's leaf is under the path, and the cells for which it is and is not
 abbrev pub side_of : Fields → List PathStep → List Cell → List Bool

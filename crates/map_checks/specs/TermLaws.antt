@@ -1,6 +1,6 @@
 -- The laws of the layout of an expression.
 use Rattle.std.specs.Prelude.{◌≡◌, ℕ, ◌<◌, ◌≤◌, List, [], ◌∷◌, map, length, All, Bool, true, false, Option, None, Some, refl, ◌&&◌, not, nat_le, if◌then◌else◌}
-use Rattle.map_checks.specs.Words.{sym, ◌∙◌, arith, list_all, option_or, and_parts, leb-true, or_from, or_parts, length-map, length-filter, count_by, indices, slot_count, PathStep, Fields, is_under, aosoa, bit_aos, bit_soa, IsLaidOut, length-full, widths_of, widths_in, full_holds, aos_layout, soa_layout, Cell, Hold, aos_laws, soa_laws, aosoa_laws, BadMapping, Width, Term, Aos, Soa, Aosoa, BitAos, BitSoa, Split, Byteswap, Bytesplit, Change, Count, Heat, Named, bad_number, bad_lanes, bad_widths, bad_granule, is_width, FieldWidth, has_bad_width, length-narrow, narrow_wide, narrow_low, bit_aos_laws, bit_soa_laws, byte_cells_of, changed, differ, differ_none, byteswap_laws, bytesplit_laws, length-changed, length-merged, count-mapped, split_laws}
+use Rattle.map_checks.specs.Imports.{sym, ◌∙◌, arith, list_all, option_or, and_parts, leb-true, or_from, or_parts, length-map, length-filter, count_by, indices, slot_count, PathStep, Fields, is_under, aosoa, bit_aos, bit_soa, IsLaidOut, length-full, widths_of, widths_in, full_holds, aos_layout, soa_layout, Cell, Hold, aos_laws, soa_laws, aosoa_laws, BadMapping, Width, Term, Aos, Soa, Aosoa, BitAos, BitSoa, Split, Byteswap, Bytesplit, Change, Count, Heat, Named, bad_number, bad_lanes, bad_widths, bad_granule, is_width, FieldWidth, has_bad_width, length-narrow, narrow_wide, narrow_low, bit_aos_laws, bit_soa_laws, byte_cells_of, changed, differ, differ_none, byteswap_laws, bytesplit_laws, length-changed, length-merged, count-mapped, split_laws}
 use Rattle.map_checks.specs.Sides.{side_of, cells_under, cells_beside}
 use Rattle.map_checks.specs.Widths.{cell_widths, width_at, width_by}
 use Rattle.map_checks.specs.Mappings.{layout_of, holds_of, held_within, not_full, IsBuiltTerm, HasNumbers}

@@ -1,6 +1,6 @@
 -- The width of each cell of a bit mapping, where some leaves have widths of their own.
 use Rattle.std.specs.Prelude.{ℕ, ◌≡◌, Bool, true, false, not, List, ◌∷◌, ◌++◌, map, if◌then◌else◌}
-use Rattle.map_checks.specs.Words.{list_any, fold, Fields, is_under, Cell, FieldWidth}
+use Rattle.map_checks.specs.Imports.{list_any, fold, Fields, is_under, Cell, FieldWidth}
 
 -- an entry says the width of a leaf that is under its path
 abbrev pub width_by : Fields → ℕ → ℕ → FieldWidth → ℕ

@@ -1,5 +1,5 @@
 ghost use Rattle.std.specs.Prelude.{◌≡◌, IfOk};
-ghost use Rattle.map_checks.specs.Words.{schema_fields, term_of};
+ghost use Rattle.map_checks.specs.Imports.{schema_fields, term_of};
 ghost use Rattle.map_checks.specs.Mappings.{bad_side};
 
 use crate::inner_cells::{bytes_cells, changed_cells};

@@ -1,5 +1,5 @@
 ghost use Rattle.std.specs.Prelude.{ℕ, ◌≡◌, ◌^◌, ◌≤◌, IfOk, map};
-ghost use Rattle.map_checks.specs.Words.{row_at, slot_count, in_rows};
+ghost use Rattle.map_checks.specs.Imports.{row_at, slot_count, in_rows};
 ghost use Rattle.map_checks.specs.Arrays.{AreArrays};
 ghost use Rattle.map_checks.specs.Ruled.{HasLengths, IsRuled};
 

@@ -1,5 +1,5 @@
 ghost use Rattle.std.specs.Prelude.{◌≡◌, ◌⊎◌, IfOk, IfErr, IsErrOf, None, map};
-ghost use Rattle.map_checks.specs.Words.{schema_fields, slot_count, bit_aos, bit_soa, widths_in, IsTooBig, bad_widths};
+ghost use Rattle.map_checks.specs.Imports.{schema_fields, slot_count, bit_aos, bit_soa, widths_in, IsTooBig, bad_widths};
 ghost use Rattle.map_checks.specs.Mappings.{ordered, held_within};
 ghost use Rattle.map_checks.specs.Plans.{IsPlanFor};
 

@@ -1,5 +1,5 @@
 ghost use Rattle.std.specs.Prelude.{◌≡◌, ◌<◌, Some, IfOk, length, map, slice_get};
-ghost use Rattle.map_checks.specs.Words.{schema_fields, kinds_of};
+ghost use Rattle.map_checks.specs.Imports.{schema_fields, kinds_of};
 ghost use Rattle.map_checks.specs.Mappings.{leaf_cells};
 
 use places::{Cell, CellList};

@@ -1,5 +1,5 @@
 ghost use Rattle.std.specs.Prelude.{◌≡◌, ◌⊎◌, true, IfErr, OnOk, IsErrOf, length};
-ghost use Rattle.map_checks.specs.Words.{full_holds, differ};
+ghost use Rattle.map_checks.specs.Imports.{full_holds, differ};
 
 use crate::fault::MakeMap;
 use crate::hold_list::HoldList;

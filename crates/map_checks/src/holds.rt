@@ -1,5 +1,5 @@
 ghost use Rattle.std.specs.Prelude.{◌≡◌, IfOk};
-ghost use Rattle.map_checks.specs.Words.{schema_fields, full_holds, term_of};
+ghost use Rattle.map_checks.specs.Imports.{schema_fields, full_holds, term_of};
 ghost use Rattle.map_checks.specs.Mappings.{holds_of, held_within};
 
 use crate::hold_list::HoldList;

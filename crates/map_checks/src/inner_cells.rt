@@ -1,5 +1,5 @@
 ghost use Rattle.std.specs.Prelude.{◌≡◌, ◌++◌, ◌/◌, IfOk, OnOk, replicate};
-ghost use Rattle.map_checks.specs.Words.{width_of, U8, byte_cells_of, changed};
+ghost use Rattle.map_checks.specs.Imports.{width_of, U8, byte_cells_of, changed};
 ghost use Rattle.map_checks.specs.Inner.InnerCells.{changed_cell};
 
 use places::{Cell, CellList};

@@ -1,5 +1,5 @@
 ghost use Rattle.std.specs.Prelude.{◌≡◌, ◌/◌, ◌⊎◌, ◌<◌, ◌≤◌, All, true, IfOk, IfErr, OnOk, IsErrOf, length, slice_index};
-ghost use Rattle.map_checks.specs.Words.{full_holds, widths_of, differ, byte_cells_of, byte_count};
+ghost use Rattle.map_checks.specs.Imports.{full_holds, widths_of, differ, byte_cells_of, byte_count};
 ghost use Rattle.map_checks.specs.Inner.ByteRules.{HasOnePiece, IsJoined, AreJoined};
 
 use crate::plan::Plan;

@@ -1,5 +1,5 @@
 ghost use Rattle.std.specs.Prelude.{◌≡◌, ◌⊎◌, IfOk, IfErr, IsErrOf, true, map};
-ghost use Rattle.map_checks.specs.Words.{schema_fields, term_of};
+ghost use Rattle.map_checks.specs.Imports.{schema_fields, term_of};
 ghost use Rattle.map_checks.specs.Mappings.{IsBuiltTerm, HasNumbers, IsTooBigFor, not_full};
 ghost use Rattle.map_checks.specs.Arrays.{HasArrays};
 ghost use Rattle.map_checks.specs.Inner.LeafOrders.{orders_of};

@@ -1,5 +1,5 @@
 ghost use Rattle.std.specs.Prelude.{◌≡◌, IfOk, length, not};
-ghost use Rattle.map_checks.specs.Words.{count_by, merged};
+ghost use Rattle.map_checks.specs.Imports.{count_by, merged};
 
 use crate::hold_list::{HoldList, hold_at};
 use places::Hold;

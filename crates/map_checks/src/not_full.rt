@@ -1,5 +1,5 @@
 ghost use Rattle.std.specs.Prelude.{◌≡◌, IfOk, length};
-ghost use Rattle.map_checks.specs.Words.{schema_fields, full_holds, term_of, differ};
+ghost use Rattle.map_checks.specs.Imports.{schema_fields, full_holds, term_of, differ};
 ghost use Rattle.map_checks.specs.Mappings.{holds_of, not_full};
 
 use crate::holds::{full_holds, holds_of};

@@ -1,5 +1,5 @@
 ghost use Rattle.std.specs.Prelude.{ℕ, ◌≡◌, ◌<◌, ◌≤◌, ◌^◌, All, IfOk, IfErr, OnOk, length};
-ghost use Rattle.map_checks.specs.Words.{indices, IsInside, slot_at, slot_count, slot_of};
+ghost use Rattle.map_checks.specs.Imports.{indices, IsInside, slot_at, slot_count, slot_of};
 
 use crate::MakeMap;
 use extents::Extents;

@@ -1,5 +1,5 @@
 ghost use Rattle.std.specs.Prelude.{◌≡◌, IfOk};
-ghost use Rattle.map_checks.specs.Words.{schema_fields, is_under};
+ghost use Rattle.map_checks.specs.Imports.{schema_fields, is_under};
 ghost use Rattle.map_checks.specs.Sides.{side_of, cells_under, cells_beside};
 
 use places::CellList;

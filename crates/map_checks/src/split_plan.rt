@@ -1,5 +1,5 @@
 ghost use Rattle.std.specs.Prelude.{ℕ, ◌≡◌, ◌⊎◌, ◌<◌, ◌≤◌, ◌^◌, ◌↔◌, ◌++◌, All, IsTrue, IfOk, IfErr, OnOk, IsErrOf, length, not};
-ghost use Rattle.map_checks.specs.Words.{count_by, sum, merged};
+ghost use Rattle.map_checks.specs.Imports.{count_by, sum, merged};
 ghost use Rattle.map_checks.specs.Inner.Splits.{AreSplitRules, LieWithin};
 
 use crate::plan::{LengthList, Plan};

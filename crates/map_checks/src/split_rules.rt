@@ -1,5 +1,5 @@
 ghost use Rattle.std.specs.Prelude.{◌≡◌, All, IfOk, length, not};
-ghost use Rattle.map_checks.specs.Words.{count_by};
+ghost use Rattle.map_checks.specs.Imports.{count_by};
 ghost use Rattle.map_checks.specs.Inner.Splits.{AreSplitRules, HasBlobRoom, IsShifted};
 
 use crate::rule::{PlanRules, Rule};

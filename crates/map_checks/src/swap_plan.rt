@@ -1,5 +1,5 @@
 ghost use Rattle.std.specs.Prelude.{◌≡◌, ◌⊎◌, All, true, IfOk, IfErr, OnOk, IsErrOf, length};
-ghost use Rattle.map_checks.specs.Words.{full_holds, differ};
+ghost use Rattle.map_checks.specs.Imports.{full_holds, differ};
 ghost use Rattle.map_checks.specs.Inner.ByteRules.{HasWholeBytes, IsSwapped, AreSwapped};
 
 use crate::plan::Plan;

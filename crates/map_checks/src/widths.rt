@@ -1,5 +1,5 @@
 ghost use Rattle.std.specs.Prelude.{◌≡◌, ℕ, IfOk};
-ghost use Rattle.map_checks.specs.Words.{schema_fields, Fields};
+ghost use Rattle.map_checks.specs.Imports.{schema_fields, Fields};
 ghost use Rattle.map_checks.specs.Widths.{LastCounts, width_at, cell_widths, has_cell, has_empty};
 
 use crate::sides::is_under;

@@ -1,5 +1,5 @@
 -- What the proofs of this crate speak of.
-pub use Rattle.piece_bits.specs.Words.{Order, indices, Hold, PieceRule, IsIn, bit_of, bit_in, Piece, Truth, U8, U16, I8, Row, Col, Morton, slot_at, interleaved, slot_at_by_rows, slot_in_line, slot_by_columns, slot_by_digits, bit_read, byte_and_bit, turned_place}
+pub use Rattle.piece_bits.specs.Imports.{Order, indices, Hold, PieceRule, IsIn, bit_of, bit_in, Piece, Truth, U8, U16, I8, Row, Col, Morton, slot_at, interleaved, slot_at_by_rows, slot_in_line, slot_by_columns, slot_by_digits, bit_read, byte_and_bit, turned_place}
 pub use Rattle.record_dim.specs.Std.{◌≡◌, ◌≤ℤ◌, bit_or, ℕ, ◌≤◌, ◌^◌, List, length, sym, ap, subst, ◌+◌, ◌-◌, ◌%◌, ◌<◌, ◌*◌, Bool, true, false, bit_xor, pos, ◌-ℤ◌, ◌∙◌, ⊎_elim, arith, ◌≢◌, zero, suc, [], ◌∷◌, ◌++◌, get_or, set, map, take, ℤ, refl, ◌/◌, All, bit_and, negsuc, w64, min, lit<, append_assoc, ◌⊎◌, rules, FitsSigned, SFits, Some, slice_index, ◌+ℤ◌, to_z, of_z, ◌*ℤ◌, fold, drop, drop-cons, common_steps, ints, to_z-of_z, pow_pos, xor_block, and_mask, mod_below, shr_split, shr-shr, pow-add, div-mul-add, mod-mul-add, div-add-mod', cases_lt, cases_eq, leb-true, mod-eq_of_lt, mod-eq-sub-mod, pow-le-pow_right, div-lt_iff_lt-mul, div-mul-le_self, mod-lt, mul-le-mul_right, div-one, mod-one, mul_assoc, zip2, Each2, map-append, length-map, get_or-map, get_or-set_other, take_more, take_more_set, take_all, length-set, get_or-set_same, same_lists, get_or_read, get_or_default, drop_all, length-zip2, get_or-zip2, bit_at-lt, bit_at-zero, bit_at_above, bit_at_cat_low, bit_at-trailing_zeros, same_from_bits, All-head, All-cons, All-tail, bit_at, trailing_zeros, w128, int_min, int_max, flat_map, range_with_len, pow-lt, pow_mono, not, int_le, IfSome_then, slice_get_within, int_cmp, is_le, is_some_and, nat_abs, le_or_l, le_or_r}
 pub use Rattle.std.specs.List.{count_by}
 pub use Rattle.places.specs.Prelude.{decoded, number, digit, decoded_low, decoded_high, half_of, number_lt, decoded_in, number_bits, number_pos, number_negsuc, number_same, bit_number, digit_lt, ones_of, IsLocated, IsPiece, owners_in, begins_fit, begin_in, piece_in, pieces_in, Owner, field, range_split, located, pieces_weaker}

@@ -1,6 +1,6 @@
 -- Sixteen narrow numbers are a block, and the processor keeps the numbers of a block as their bits.
 use Rattle.std.specs.Prelude.{◌≡◌, List, [], ◌∷◌, length, map, ℤ, FitsSigned, refl}
-use Rattle.piece_bits.specs.Words.{to_z, of_z, w64, arith, to_z-of_z, Each1-weaker, Each1}
+use Rattle.piece_bits.specs.Imports.{to_z, of_z, w64, arith, to_z-of_z, Each1-weaker, Each1}
 use Rattle.piece_bits.specs.Blocks.{IsBlock, IsNarrow}
 
 pub narrow_fits : (value : ℤ) → IsNarrow value → FitsSigned w64 value

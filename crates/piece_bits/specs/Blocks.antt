@@ -1,6 +1,6 @@
 -- Sixteen numbers side by side, and numbers of at most 32 bits.
 use Rattle.std.specs.Prelude.{◌≡◌, ◌^◌, ℤ, pos, neg_ℤ, ◌≤ℤ◌, ◌<ℤ◌, List, length, FitsSigned}
-use Rattle.piece_bits.specs.Words.{Each1}
+use Rattle.piece_bits.specs.Imports.{Each1}
 use mir.Syntax.{w64}
 
 -- a block: sixteen numbers that fit 64 bits with a sign

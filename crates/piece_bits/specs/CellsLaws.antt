@@ -1,6 +1,6 @@
 -- One cell in one slot, as a mapping answers for it: its hold and its pieces.
 use Rattle.std.specs.Prelude.{◌≡◌, ℕ, ◌*◌, ◌/◌, ◌%◌, ◌^◌, false, ◌<◌, ◌≤◌, ℤ, List, [], length, get_or, map, All, Some, slice_get, slice_index}
-use Rattle.piece_bits.specs.Words.{sym, ap, ◌∙◌, subst, arith, bit_at, length-map, get_or-map, get_or_from_slice_get, bit_at-lt, IsIn, Piece, Hold, Owner, Pad, owner_at, number, digit, decoded, entry, width_at, IsLaidOut, IsLocated, number_lt, bit_number, digit_lt, bit_in}
+use Rattle.piece_bits.specs.Imports.{sym, ap, ◌∙◌, subst, arith, bit_at, length-map, get_or-map, get_or_from_slice_get, bit_at-lt, IsIn, Piece, Hold, Owner, Pad, owner_at, number, digit, decoded, entry, width_at, IsLaidOut, IsLocated, number_lt, bit_number, digit_lt, bit_in}
 use Rattle.piece_bits.specs.Inner.Spots.{spots_of, bit_at_spot, IsWithin, AreApart, IsOutside}
 use Rattle.piece_bits.specs.Tables.{with_entry, table_in, hold_at, AreSized, AreLaid}
 use Rattle.piece_bits.specs.LocatedLaws.{spot_count, spots_apart, pieces_within}

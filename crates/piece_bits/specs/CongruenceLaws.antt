@@ -1,6 +1,6 @@
 -- The kept number in the words of congruence: it lies in the range, and differs from the value by a multiple of the number of values.
 use Rattle.std.specs.Prelude.{◌≡◌, ℕ, ◌+◌, ◌*◌, ◌-◌, ◌/◌, ◌%◌, ◌^◌, ◌<◌, ◌≤◌, Bool, true, false, ℤ, pos, negsuc, ◌+ℤ◌, ◌-ℤ◌, ◌≤ℤ◌}
-use Rattle.piece_bits.specs.Words.{⊎_elim, ap, arith, ints, pow_pos, cases_lt, mul-le-mul_right, IsIn, number, digit, decoded, number_bits, number_complement, decoded_low, decoded_high, half_of}
+use Rattle.piece_bits.specs.Imports.{⊎_elim, ap, arith, ints, pow_pos, cases_lt, mul-le-mul_right, IsIn, number, digit, decoded, number_bits, number_complement, decoded_low, decoded_high, half_of}
 use Rattle.piece_bits.specs.LowBits.{low_bits}
 use Rattle.piece_bits.specs.Congruence.{AreCongruent}
 

@@ -1,6 +1,6 @@
 -- What bits under a layout say: the entries that are read off them, what a write changes, and that they are the image of the table read off them.
 use Rattle.std.specs.Prelude.{◌≡◌, ℕ, zero, suc, ◌+◌, ◌*◌, ◌^◌, ◌<◌, ◌≤◌, Bool, false, ℤ, pos, List, [], length, get_or, map, refl}
-use Rattle.piece_bits.specs.Words.{sym, ap, ◌∙◌, subst, arith, range_with_len, length-map, get_or-map, ext_get_or, length-map-range_with_len, get_or-map-range_with_len, pow_pos, IsIn, Piece, Hold, Owner, Pad, Bit, owner_at, number, digit, decoded, entry, bit_held, image, IsImage, bit_owned, reading, table_of, width_at, IsBitOf, IsLaidOut, IsLocated, number_same, number_lt, bit_number, decoded_low, decoded_digits, bit_digits, decoded_in, owned_is, found_owned, bit_of, bits_of, bit_in}
+use Rattle.piece_bits.specs.Imports.{sym, ap, ◌∙◌, subst, arith, range_with_len, length-map, get_or-map, ext_get_or, length-map-range_with_len, get_or-map-range_with_len, pow_pos, IsIn, Piece, Hold, Owner, Pad, Bit, owner_at, number, digit, decoded, entry, bit_held, image, IsImage, bit_owned, reading, table_of, width_at, IsBitOf, IsLaidOut, IsLocated, number_same, number_lt, bit_number, decoded_low, decoded_digits, bit_digits, decoded_in, owned_is, found_owned, bit_of, bits_of, bit_in}
 use Rattle.piece_bits.specs.Inner.Spots.{spots_of, spot_at, bit_at_spot, IsOutside}
 use Rattle.piece_bits.specs.Tables.{with_entry, zeros, signs_and_widths}
 use Rattle.piece_bits.specs.LocatedLaws.{spot_owner, spot_count, spot_owned}

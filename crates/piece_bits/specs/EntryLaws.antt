@@ -1,6 +1,6 @@
 -- Bits whose raw numbers are settled are the image of the table, and a store keeps them settled.
 use Rattle.std.specs.Prelude.{◌≡◌, ℕ, ◌<◌, ◌≤◌, Bool, false, ℤ, List, length, map, refl}
-use Rattle.piece_bits.specs.Words.{sym, ap, ◌∙◌, subst, ⊎_elim, arith, length-map, cases_eq, cases_lt, LeafType, is_signed, IsIn, IsDeclared, Hold, Owner, Pad, Bit, owner_at, digit, entry, bit_held, IsImage, table_of, width_at, IsLaidOut, IsBitOf}
+use Rattle.piece_bits.specs.Imports.{sym, ap, ◌∙◌, subst, ⊎_elim, arith, length-map, cases_eq, cases_lt, LeafType, is_signed, IsIn, IsDeclared, Hold, Owner, Pad, Bit, owner_at, digit, entry, bit_held, IsImage, table_of, width_at, IsLaidOut, IsBitOf}
 use Rattle.piece_bits.specs.Tables.{with_entry, HasShape, hold_at, signs_and_widths}
 use Rattle.piece_bits.specs.TableLaws.{table_shape, with_entry_same, with_entry_other}
 use Rattle.piece_bits.specs.EntriesLaws.{image_from_padding}

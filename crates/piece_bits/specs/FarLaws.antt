@@ -1,6 +1,6 @@
 -- A number of any length, brought below 2^66 without a change of its 64 low bits.
 use Rattle.std.specs.Prelude.{◌≡◌, ℕ, suc, ◌+◌, ◌*◌, ◌-◌, ◌%◌, ◌^◌, ◌<◌, ◌≤◌, Bool, ℤ, pos, negsuc, neg_ℤ}
-use Rattle.piece_bits.specs.Words.{sym, ap, ◌∙◌, arith, ints, cases_lt, nat_tests, mod-mod-pow, LeafType, Hold, number_bits}
+use Rattle.piece_bits.specs.Imports.{sym, ap, ◌∙◌, arith, ints, cases_lt, nat_tests, mod-mod-pow, LeafType, Hold, number_bits}
 use Rattle.piece_bits.specs.LowBits.{low_bits, declared, kept}
 use Rattle.piece_bits.specs.Inner.Far.{folded, shortened}
 use Rattle.piece_bits.specs.CongruenceLaws.{digits_negsuc}

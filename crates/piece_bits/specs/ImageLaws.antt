@@ -1,6 +1,6 @@
 -- What is read off the image of a table.
 use Rattle.std.specs.Prelude.{◌≡◌, ℕ, ◌<◌, ◌≤◌, false, ℤ, List, length, map}
-use Rattle.piece_bits.specs.Words.{sym, ap, ◌∙◌, subst, arith, length-map, LeafType, Hold, Owner, Bit, digit, decoded, entry, bit_held, bit_owned, IsImage, table_of, width_at, number_same, owned_is, IsLaidOut, IsBitOf}
+use Rattle.piece_bits.specs.Imports.{sym, ap, ◌∙◌, subst, arith, length-map, LeafType, Hold, Owner, Bit, digit, decoded, entry, bit_held, bit_owned, IsImage, table_of, width_at, number_same, owned_is, IsLaidOut, IsBitOf}
 use Rattle.piece_bits.specs.Tables.{HasShape, hold_at, signs_and_widths}
 use Rattle.piece_bits.specs.TableLaws.{table_shape, entry_is, tables_same}
 use Rattle.piece_bits.specs.LowBits.{declared, held}

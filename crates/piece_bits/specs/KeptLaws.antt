@@ -1,6 +1,6 @@
 -- The low bits of numbers, and what is kept of a value.
 use Rattle.std.specs.Prelude.{◌≡◌, ℕ, ◌^◌, ◌<◌, ◌≤◌, Bool, ℤ}
-use Rattle.piece_bits.specs.Words.{⊎_elim, sym, ap, ◌∙◌, subst, arith, cases_lt, pow_mono, LeafType, is_signed, IsIn, IsDeclared, Hold, number, digit, decoded, number_same, number_lt, bit_number, bit_digits, digit_lt, decoded_digits, decoded_in}
+use Rattle.piece_bits.specs.Imports.{⊎_elim, sym, ap, ◌∙◌, subst, arith, cases_lt, pow_mono, LeafType, is_signed, IsIn, IsDeclared, Hold, number, digit, decoded, number_same, number_lt, bit_number, bit_digits, digit_lt, decoded_digits, decoded_in}
 use Rattle.piece_bits.specs.LowBits.{low_bits, value_bits, declared, held, kept}
 
 -- digits make a number below 2^width

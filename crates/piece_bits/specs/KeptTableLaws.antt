@@ -1,6 +1,6 @@
 -- The table that a raw table stands for.
 use Rattle.std.specs.Prelude.{◌≡◌, ℕ, zero, suc, ◌<◌, ℤ, pos, List, [], ◌∷◌, length, get_or, refl}
-use Rattle.piece_bits.specs.Words.{sym, ap, ◌∙◌, arith, length-map, get_or-map, LeafType, entry}
+use Rattle.piece_bits.specs.Imports.{sym, ap, ◌∙◌, arith, length-map, get_or-map, LeafType, entry}
 use Rattle.piece_bits.specs.Tables.{with_entry, HasShape}
 use Rattle.piece_bits.specs.TableLaws.{with_entry_shape, with_entry_same, with_entry_other, is_with_entry}
 use Rattle.piece_bits.specs.LowBits.{declared}

@@ -36,4 +36,4 @@ pub mod NarrowLaws
 pub mod Congruence
 pub mod Inner
 pub mod Prelude
-pub mod Words
+pub mod Imports

@@ -1,6 +1,6 @@
 -- The places of a cell's pieces: their owners are the cell's bits, in order.
 use Rattle.std.specs.Prelude.{◌≡◌, ℕ, zero, suc, ◌+◌, ◌<◌, List, [], ◌∷◌, ◌++◌, length, get_or, map, All, refl}
-use Rattle.piece_bits.specs.Words.{sym, ap, ◌∙◌, arith, flat_map, range_with_len, map-append, length-map, get_or-map, Piece, Owner, Pad, Bit, owner_at, field, IsLocated, owners_in, length-field, field_at}
+use Rattle.piece_bits.specs.Imports.{sym, ap, ◌∙◌, arith, flat_map, range_with_len, map-append, length-map, get_or-map, Piece, Owner, Pad, Bit, owner_at, field, IsLocated, owners_in, length-field, field_at}
 use Rattle.piece_bits.specs.Inner.Spots.{spots_of, spot_at, IsWithin, AreApart}
 use Rattle.piece_bits.specs.Tables.{AreSized}
 use Rattle.piece_bits.specs.SpotsOfLaws.{spots_in}

@@ -1,6 +1,6 @@
 -- The low 64 bits of a number.
 use Rattle.std.specs.Prelude.{ℤ, pos, neg_ℤ, ◌≤ℤ◌, ◌<ℤ◌, ◌^◌}
-use Rattle.piece_bits.specs.Words.{cast_signed, cast_unsigned}
+use Rattle.piece_bits.specs.Imports.{cast_signed, cast_unsigned}
 use mir.Syntax.{w64}
 
 -- a number by its low 64 bits, read with a sign: itself, where it lies from -2^63 to 2^63 - 1, and one less 2^64 from there on

@@ -1,6 +1,6 @@
 -- Numbers and their low bits.
 use Rattle.std.specs.Prelude.{◌≡◌, ℕ, suc, ◌+◌, ◌-◌, ◌*◌, ◌/◌, ◌%◌, ◌^◌, ◌<◌, ◌≤◌, ℤ, pos, negsuc, FitsSigned}
-use Rattle.piece_bits.specs.Words.{of_z, w64, ap, ◌∙◌, ⊎_elim, arith, mul-le-mul_right, cases_lt, to_z-of_z, ints, mod_low, pow-add, pow_pos, number, digit, number_bits, number_complement}
+use Rattle.piece_bits.specs.Imports.{of_z, w64, ap, ◌∙◌, ⊎_elim, arith, mul-le-mul_right, cases_lt, to_z-of_z, ints, mod_low, pow-add, pow_pos, number, digit, number_bits, number_complement}
 use Rattle.piece_bits.specs.Lows.{low_64, IsWithin64}
 
 -- the low bits of a number of 64 bits with a sign are its own

@@ -1,6 +1,6 @@
 -- What a view of either mode keeps of its entries.
 use Rattle.std.specs.Prelude.{ℕ, ◌≡◌, ◌<◌, ℤ, List, [], ◌∷◌, length, map, slice_index_or}
-use Rattle.piece_bits.specs.Words.{LeafType, Truth, IsIn, IsDeclared, Hold, entry}
+use Rattle.piece_bits.specs.Imports.{LeafType, Truth, IsIn, IsDeclared, Hold, entry}
 use Rattle.piece_bits.specs.Tables.{hold_at}
 use Rattle.piece_bits.specs.LowBits.{declared, held, kept}
 use Rattle.piece_bits.specs.declared.mode.StoreMode.{StoreMode}

@@ -1,6 +1,6 @@
 -- Bytes of one blob that are moved, as bits of blobs.
 use Rattle.std.specs.Prelude.{◌≡◌, ℕ, ◌+◌, ◌*◌, ◌/◌, ◌%◌, ◌<◌, List, [], length, get_or, set, map}
-use Rattle.piece_bits.specs.Words.{sym, ap, ◌∙◌, arith, bit_at, get_or-map, get_or-set_same, get_or-set_other, map-set, set-get_or, bit_of, bit_of_byte, IsMoved}
+use Rattle.piece_bits.specs.Imports.{sym, ap, ◌∙◌, arith, bit_at, get_or-map, get_or-set_same, get_or-set_other, map-set, set-get_or, bit_of, bit_of_byte, IsMoved}
 use Rattle.piece_bits.specs.MovedLaws.{AreMoved}
 
 -- the bit of a byte that is another

@@ -1,6 +1,6 @@
 -- What bits that are moved from other blobs say: the entries whose bits they are become those of the other table, and all others stand.
 use Rattle.std.specs.Prelude.{◌≡◌, ◌⊎◌, ℕ, ◌+◌, ◌-◌, ◌<◌, ◌≤◌, List, length, get_or, map}
-use Rattle.piece_bits.specs.Words.{inl, inr, sym, ap, ◌∙◌, subst, ⊎_elim, arith, length-map, cases_lt, cases_eq, Hold, Owner, Pad, Bit, owner_at, decoded, entry, bit_owned, width_at, IsBitOf, IsLaidOut, number_same, owned_is, bit_in}
+use Rattle.piece_bits.specs.Imports.{inl, inr, sym, ap, ◌∙◌, subst, ⊎_elim, arith, length-map, cases_lt, cases_eq, Hold, Owner, Pad, Bit, owner_at, decoded, entry, bit_owned, width_at, IsBitOf, IsLaidOut, number_same, owned_is, bit_in}
 use Rattle.piece_bits.specs.Tables.{AreLaid, table_in}
 use Rattle.piece_bits.specs.TableLaws.{entry_is}
 use Rattle.piece_bits.specs.CellsLaws.{still_laid}

@@ -1,6 +1,6 @@
 -- Products and sums of numbers of at most 32 bits fit 64 bits with a sign.
 use Rattle.std.specs.Prelude.{ℕ, ◌+◌, ◌*◌, ◌-◌, ◌≤◌, ◌^◌, List, [], ◌∷◌, length, fold, ℤ, pos, neg_ℤ, ◌+ℤ◌, ◌*ℤ◌, ◌≤ℤ◌, FitsSigned, unsigned_abs}
-use Rattle.piece_bits.specs.Words.{w64, subst, arith, mul-le-mul, ints, unsigned_abs-mul, fits_signed_from_abs, Each2-of, Each1}
+use Rattle.piece_bits.specs.Imports.{w64, subst, arith, mul-le-mul, ints, unsigned_abs-mul, fits_signed_from_abs, Each2-of, Each1}
 use Rattle.piece_bits.specs.Blocks.{IsFactor, IsNarrow}
 use Rattle.piece_bits.specs.NumberTypes.{ProductsFit}
 

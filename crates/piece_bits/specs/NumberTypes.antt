@@ -1,6 +1,6 @@
 -- What loops over numbers of one integer type make of them; `value` and `fits` are the type's.
 use Rattle.std.specs.Prelude.{ℕ, ◌≤◌, Bool, not, ℤ, ◌+ℤ◌, ◌*ℤ◌, int_lt, int_le, List, length, take, fold}
-use Rattle.piece_bits.specs.Words.{int_eq, Each2}
+use Rattle.piece_bits.specs.Imports.{int_eq, Each2}
 use Rattle.piece_bits.specs.declared.compare.Compare.{Compare}
 use Rattle.piece_bits.specs.declared.compare.Compare.TheVariants.{Eq, Ne, Lt, Le, Gt, Ge}
 

@@ -1,6 +1,6 @@
 -- One piece alone: its places, and what is read and written there.
 use Rattle.std.specs.Prelude.{◌≡◌, ℕ, ℤ, ◌+◌, ◌/◌, ◌%◌, ◌^◌, ◌<◌, ◌≤◌, List, [], ◌∷◌, length, get_or, set, refl}
-use Rattle.piece_bits.specs.Words.{sym, ap, ◌∙◌, subst, arith, bit_at, mod-eq_of_lt, Piece, IsIn, Hold, Owner, number, digit, decoded, entry, number_same, number_lt, digit_lt, bit_of, bit_in}
+use Rattle.piece_bits.specs.Imports.{sym, ap, ◌∙◌, subst, arith, bit_at, mod-eq_of_lt, Piece, IsIn, Hold, Owner, number, digit, decoded, entry, number_same, number_lt, digit_lt, bit_of, bit_in}
 use Rattle.piece_bits.specs.CellsLaws.{IsCell, bit_count, apart, within, read_entry_is, written_table, written_padding, still_laid}
 use Rattle.piece_bits.specs.Inner.Spots.{spots_of, spot_at, bit_at_spot, IsWithin, AreApart}
 use Rattle.piece_bits.specs.SpotsOfLaws.{IsNext, next_piece, nowhere}

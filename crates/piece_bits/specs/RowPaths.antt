@@ -1,6 +1,6 @@
 -- How rows become slots over the extents of an array.
 use Rattle.std.specs.Prelude.{ℕ, ◌≡◌, ◌<◌, true, false, List, [], ◌∷◌, length}
-use Rattle.piece_bits.specs.Words.{Order, Morton, indices, slot_at}
+use Rattle.piece_bits.specs.Imports.{Order, Morton, indices, slot_at}
 use Rattle.piece_bits.specs.Walks.{leads, walks_in_blocks, slot_by}
 use Rattle.piece_bits.specs.declared.walk.Walk.{Walk}
 use Rattle.piece_bits.specs.declared.walk.Walk.TheVariants as walk

@@ -1,6 +1,6 @@
 -- Short forms: what they say of a row, and when they say what a rule says.
 use Rattle.std.specs.Prelude.{ℕ, ◌≡◌, ◌+◌, ◌*◌, ◌/◌, ◌%◌, ◌^◌, ◌<◌, ◌≤◌, List, length, map}
-use Rattle.piece_bits.specs.Words.{Order, indices, Owner, IsLocated, pieces_in, Hold, Piece, PieceRule}
+use Rattle.piece_bits.specs.Imports.{Order, indices, Owner, IsLocated, pieces_in, Hold, Piece, PieceRule}
 use Rattle.piece_bits.specs.Words.{word_signed, word_width, word_pieces}
 use Rattle.piece_bits.specs.declared.field.Field.{Field}
 use Rattle.piece_bits.specs.declared.word.Word.{Word}

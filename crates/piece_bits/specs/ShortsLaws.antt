@@ -1,6 +1,6 @@
 -- A short form of a rule says where a cell lies.
 use Rattle.std.specs.Prelude.{ℕ, ◌^◌, ◌<◌, ◌≤◌, List, length}
-use Rattle.piece_bits.specs.Words.{sym, subst, arith, rules, Order, indices, slot_at, slot_count, slot_at_below, line_narrow, column_narrow, Owner, IsLocated, pieces_in, Hold, PieceRule}
+use Rattle.piece_bits.specs.Imports.{sym, subst, arith, rules, Order, indices, slot_at, slot_count, slot_at_below, line_narrow, column_narrow, Owner, IsLocated, pieces_in, Hold, PieceRule}
 use Rattle.piece_bits.specs.Shorts.{slot_in, start_in, short_pieces, IsShortOf, IsShortIn}
 use Rattle.piece_bits.specs.declared.short.ShortRule.{ShortRule}
 

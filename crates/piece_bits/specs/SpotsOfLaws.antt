@@ -1,6 +1,6 @@
 -- The places of pieces: how many there are before a piece, and which it adds.
 use Rattle.std.specs.Prelude.{◌≡◌, ℕ, ◌+◌, ◌*◌, ◌%◌, ◌^◌, ◌<◌, ◌≤◌, List, [], ◌∷◌, ◌++◌, length, get_or, take, drop, map, refl}
-use Rattle.piece_bits.specs.Words.{sym, ap, ◌∙◌, subst, arith, range_with_len, take-append-drop, take_more, length-append, flat_map-append, get_or-flat_map, length-map-range_with_len, get_or-map-range_with_len, shl_whole, mul_comm, pow_mono, number, number_same, number_split, number_lt, Piece}
+use Rattle.piece_bits.specs.Imports.{sym, ap, ◌∙◌, subst, arith, range_with_len, take-append-drop, take_more, length-append, flat_map-append, get_or-flat_map, length-map-range_with_len, get_or-map-range_with_len, shl_whole, mul_comm, pow_mono, number, number_same, number_split, number_lt, Piece}
 use Rattle.piece_bits.specs.Inner.Spots.{spots_of, spot_at, bit_at_spot}
 
 -- the piece that a slice of pieces has past its end

@@ -1,6 +1,6 @@
 -- How the rows of a stretch lie from the first one.
 use Rattle.std.specs.Prelude.{ℕ, ◌+◌, ◌*◌, ◌/◌, ◌%◌, ◌^◌, [], ◌∷◌}
-use Rattle.piece_bits.specs.Words.{interleaved}
+use Rattle.piece_bits.specs.Imports.{interleaved}
 use Rattle.piece_bits.specs.declared.stretch.Spread.{Spread}
 use Rattle.piece_bits.specs.declared.stretch.Spread.TheVariants as spread
 

@@ -1,7 +1,7 @@
 -- Numbers in the rows of a stretch, as a short form says that they are stored.
 use Rattle.std.specs.Prelude.{ℕ, zero, suc, ◌≡◌, ◌+◌, ◌*◌, ◌^◌, ◌<◌, ◌≤◌, ℤ, pos, List, FitsSigned, length, slice_index_or}
 use mir.Syntax.{w64}
-use Rattle.piece_bits.specs.Words.{bit_at, number, digit, decoded, bit_of}
+use Rattle.piece_bits.specs.Imports.{bit_at, number, digit, decoded, bit_of}
 use Rattle.piece_bits.specs.Words.{word_bit, word_place, word_signed, word_width, IsPlaceWord}
 use Rattle.piece_bits.specs.declared.field.Field.{Field}
 use Rattle.piece_bits.specs.declared.word.Word.{Word}

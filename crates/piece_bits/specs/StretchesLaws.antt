@@ -1,6 +1,6 @@
 -- The rows of a stretch have a place that can be worked out.
 use Rattle.std.specs.Prelude.{ℕ, ◌+◌, ◌^◌, ◌<◌}
-use Rattle.piece_bits.specs.Words.{arith}
+use Rattle.piece_bits.specs.Imports.{arith}
 use Rattle.piece_bits.specs.Shorts.{HasStart}
 use Rattle.piece_bits.specs.Stretches.{stretch_place, IsStretch}
 use Rattle.piece_bits.specs.declared.short.ShortRule.{ShortRule}

@@ -1,6 +1,6 @@
 -- Tables by their entries: when two are equal, what one changed entry does, and the entries of a table that is read off bits.
 use Rattle.std.specs.Prelude.{◌≡◌, ℕ, ◌+◌, ◌<◌, Bool, ℤ, pos, List, [], length, get_or, set, map}
-use Rattle.piece_bits.specs.Words.{sym, ap, ◌∙◌, arith, enumerate_from, length-map, length-set, length-replicate, get_or-map, get_or-replicate, get_or-set_same, get_or-set_other, ext_get_or, length-map-range_with_len, get_or-map-range_with_len, length-enumerate_from, get_or-enumerate_from, cases_eq, Owner, entry, reading, table_of, Hold}
+use Rattle.piece_bits.specs.Imports.{sym, ap, ◌∙◌, arith, enumerate_from, length-map, length-set, length-replicate, get_or-map, get_or-replicate, get_or-set_same, get_or-set_other, ext_get_or, length-map-range_with_len, get_or-map-range_with_len, length-enumerate_from, get_or-enumerate_from, cases_eq, Owner, entry, reading, table_of, Hold}
 use Rattle.piece_bits.specs.Tables.{with_entry, zeros, HasShape, signs_and_widths}
 
 -- tables of one shape with the same entries are the same

@@ -1,6 +1,6 @@
 -- Tables of numbers, and the table that blobs hold.
 use Rattle.std.specs.Prelude.{ℕ, ◌<◌, ◌≡◌, ◌*◌, Bool, false, ℤ, pos, List, [], length, map, replicate, slice_index_or, slice_set}
-use Rattle.piece_bits.specs.Words.{Owner, Pad, owner_at, table_of, Hold, bit_in}
+use Rattle.piece_bits.specs.Imports.{Owner, Pad, owner_at, table_of, Hold, bit_in}
 
 -- a table with one entry changed
 abbrev pub with_entry : List (List ℤ) → ℕ → ℕ → ℤ → List (List ℤ)

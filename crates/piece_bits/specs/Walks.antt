@@ -1,6 +1,6 @@
 -- How rows become slots.
 use Rattle.std.specs.Prelude.{ℕ, ◌+◌, ◌*◌, ◌/◌, ◌%◌, Bool, true, false, [], ◌∷◌}
-use Rattle.piece_bits.specs.Words.{interleaved}
+use Rattle.piece_bits.specs.Imports.{interleaved}
 use Rattle.piece_bits.specs.declared.walk.Walk.{Walk}
 use Rattle.piece_bits.specs.declared.walk.Walk.TheVariants as walk
 

@@ -1,6 +1,6 @@
 -- Rows whose value is read by one load of eight bytes, which lie within the blob.
 use Rattle.std.specs.Prelude.{ℕ, ◌≡◌, ◌≢◌, ◌+◌, ◌*◌, ◌/◌, ◌<◌, ◌≤◌, Bool, true, nat_eq, ◌||◌}
-use Rattle.piece_bits.specs.Words.{turned_place}
+use Rattle.piece_bits.specs.Imports.{turned_place}
 use Rattle.piece_bits.specs.Words.{word_place, word_signed, word_width}
 use Rattle.piece_bits.specs.declared.field.Field.{Field}
 use Rattle.piece_bits.specs.declared.word.Word.{Word}

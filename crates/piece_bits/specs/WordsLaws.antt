@@ -1,6 +1,6 @@
 -- A word by its pieces: where its bits stand, and what is read and written there.
 use Rattle.std.specs.Prelude.{◌≡◌, ℕ, ℤ, zero, suc, ◌+◌, ◌*◌, ◌-◌, ◌<◌, ◌≤◌, Bool, List, [], length, map, get_or, set, All, refl}
-use Rattle.piece_bits.specs.Words.{sym, ap, ◌∙◌, subst, ⊎_elim, arith, bit_at, length-append, get_or-append_right, get_or-set_same, get_or-set_other, get_or-map, map-set, set-get_or, cases_lt, cases_eq, IsIn, Hold, Owner, number, digit, decoded, entry, number_same, bit_of, bit_in, turned_place}
+use Rattle.piece_bits.specs.Imports.{sym, ap, ◌∙◌, subst, ⊎_elim, arith, bit_at, length-append, get_or-append_right, get_or-set_same, get_or-set_other, get_or-map, map-set, set-get_or, cases_lt, cases_eq, IsIn, Hold, Owner, number, digit, decoded, entry, number_same, bit_of, bit_in, turned_place}
 use Rattle.piece_bits.specs.Inner.Spots.{spots_of, spot_at, bit_at_spot, IsWithin}
 use Rattle.piece_bits.specs.SpotsOfLaws.{length-spots_in, next_piece, nowhere}
 use Rattle.piece_bits.specs.OnePieceLaws.{one_count, one_at}

@@ -1,6 +1,6 @@
 -- One more piece of a value is written into blobs.
 use Rattle.std.specs.Prelude.{◌≡◌, ℕ, ◌+◌, ◌-◌, ◌/◌, ◌%◌, ◌^◌, ◌<◌, ◌≤◌, List, [], length, get_or, set, map}
-use Rattle.piece_bits.specs.Words.{sym, ap, ◌∙◌, ⊎_elim, arith, bit_at, get_or-set_same, get_or-set_other, get_or-map, length-map, map-set, set-get_or, cases_lt, cases_eq, Piece, bit_of, bit_in, bit_of_part}
+use Rattle.piece_bits.specs.Imports.{sym, ap, ◌∙◌, ⊎_elim, arith, bit_at, get_or-set_same, get_or-set_other, get_or-map, length-map, map-set, set-get_or, cases_lt, cases_eq, Piece, bit_of, bit_in, bit_of_part}
 use Rattle.piece_bits.specs.Inner.Spots.{spots_of, spot_at, bit_at_spot, IsWithin, AreApart}
 use Rattle.piece_bits.specs.SpotsOfLaws.{IsNext}
 

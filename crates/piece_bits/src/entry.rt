@@ -1,5 +1,5 @@
 ghost use Rattle.std.specs.Prelude.{◌≡◌, ◌<◌, ◌∷◌, [], length, map, slice_index};
-ghost use Rattle.piece_bits.specs.Words.{IsIn, entry, IsLocated};
+ghost use Rattle.piece_bits.specs.Imports.{IsIn, entry, IsLocated};
 ghost use Rattle.piece_bits.specs.Tables.{AreSized, AreLaid, hold_at, table_in, with_entry};
 
 use crate::pieces::{read_pieces, write_pieces};

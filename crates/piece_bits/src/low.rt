@@ -1,6 +1,6 @@
 // The low bits of a number, as a hold and as a type say them.
 ghost use Rattle.std.specs.Prelude.{ℕ, ◌≡◌, ◌≤◌, ◌<◌, ◌^◌};
-ghost use Rattle.piece_bits.specs.Words.{number, digit};
+ghost use Rattle.piece_bits.specs.Imports.{number, digit};
 ghost use Rattle.piece_bits.specs.LowBits.{value_bits, declared, held, kept};
 
 use crate::decode;

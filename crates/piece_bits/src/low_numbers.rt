@@ -1,7 +1,7 @@
 // The low 64 bits of numbers.
 ghost use Rattle.std.specs.Prelude.{◌≡◌, ◌≤◌, ◌<◌, ◌^◌};
 ghost use Rattle.piece_bits.specs.Lows.{low_64, IsWithin64};
-ghost use Rattle.piece_bits.specs.Words.{number, digit};
+ghost use Rattle.piece_bits.specs.Imports.{number, digit};
 
 use blobs::bits_in_word;
 

@@ -1,5 +1,5 @@
 ghost use Rattle.std.specs.Prelude.{◌≡◌, ◌≢◌, ◌⊎◌, IfSome, length};
-ghost use Rattle.piece_bits.specs.Words.{Order, Row};
+ghost use Rattle.piece_bits.specs.Imports.{Order, Row};
 ghost use Rattle.piece_bits.specs.RowPaths.{IsRowPath};
 
 use crate::walk::Walk;

@@ -1,6 +1,6 @@
 // Loops over numbers of any integer type, which the compiler turns into vector code.
 ghost use Rattle.std.specs.Prelude.{◌≡◌, ◌+ℤ◌, ◌*ℤ◌, length, map, fold, count_by};
-ghost use Rattle.piece_bits.specs.Words.{int_min, int_max, zip2};
+ghost use Rattle.piece_bits.specs.Imports.{int_min, int_max, zip2};
 ghost use Rattle.piece_bits.specs.NumberTypes.{compares, SumsFit, ProductsFit};
 
 use crate::compare::Compare;

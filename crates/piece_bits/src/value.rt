@@ -1,5 +1,5 @@
 ghost use Rattle.std.specs.Prelude.{ℕ, ◌≡◌, ◌^◌, ◌<◌, ◌≤◌, true, pos, ◌-ℤ◌};
-ghost use Rattle.piece_bits.specs.Words.{IsIn, least_in, greatest_in, number, digit, decoded};
+ghost use Rattle.piece_bits.specs.Imports.{IsIn, least_in, greatest_in, number, digit, decoded};
 
 use places::Hold;
 

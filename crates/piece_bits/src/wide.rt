@@ -1,6 +1,6 @@
 // What stands at a place from which on eight bytes lie within the blob: one load, and no test of a sign or a width.
 ghost use Rattle.std.specs.Prelude.{ℕ, ◌≡◌, ◌+◌, ◌*◌, ◌/◌, ◌≤◌, length};
-ghost use Rattle.piece_bits.specs.Words.{number, decoded, bit_of, turned_place, IsTurned};
+ghost use Rattle.piece_bits.specs.Imports.{number, decoded, bit_of, turned_place, IsTurned};
 ghost use Rattle.piece_bits.specs.Words.{IsBitField};
 
 use crate::field::{Field, moved_back};

@@ -1,6 +1,6 @@
 -- The accesses of an update and of a count, in order.
 use Rattle.std.specs.Prelude.{ℕ, Bool, true, ℤ, List, [], ◌∷◌, ◌++◌, map, slice_index_or, Option, Some, None, Result, Ok, Err}
-use Rattle.row_updates.specs.Words.{flat_map, range_with_len, Term, outcome_of, index_at, Access, Read, Write, Table, answer_of, StoreAnswer}
+use Rattle.row_updates.specs.Imports.{flat_map, range_with_len, Term, outcome_of, index_at, Access, Read, Write, Table, answer_of, StoreAnswer}
 use Rattle.row_updates.specs.declared.fault.UpdateFault.{UpdateFault}
 use Rattle.row_updates.specs.Rows.{Setting, each, passes, new_value}
 

@@ -1,6 +1,6 @@
 -- What an update makes of the rows of a table, and which fault ends it.
 use Rattle.std.specs.Prelude.{ℕ, ◌≡◌, ◌<◌, Bool, true, ℤ, List, [], ◌∷◌, length, count_by, slice_index_or, slice_set, Option, Some, None, option_map, Result, Ok, Err, if◌then◌else◌}
-use Rattle.row_updates.specs.Words.{Bor, range_with_len, EvalFault, Bound, bound_term, bound_leaves, bound_rank, Term, outcome_of, is_true, index_at, Table, leaf_count_of, answer_of, kept_of, StoreAnswer, Keeping, StoreFault}
+use Rattle.row_updates.specs.Imports.{Bor, range_with_len, EvalFault, Bound, bound_term, bound_leaves, bound_rank, Term, outcome_of, is_true, index_at, Table, leaf_count_of, answer_of, kept_of, StoreAnswer, Keeping, StoreFault}
 use Rattle.expr_lang.specs.declared.fault.EvalFault.TheVariants as eval
 use Rattle.views.specs.declared.fault.StoreFault.TheVariants as store
 use Rattle.row_updates.specs.declared.fault.UpdateFault.{UpdateFault}

@@ -1,6 +1,6 @@
 -- A row is updated by trying it and then storing what it is given.
 use Rattle.std.specs.Prelude.{◌≡◌, ℕ, ℤ, Bool, List, ◌++◌, Option, Some, None, Result, Ok, Err, refl, if◌then◌else◌}
-use Rattle.row_updates.specs.Words.{append-nil, append_assoc, arith, Term, StoreAnswer, Keeping, Access}
+use Rattle.row_updates.specs.Imports.{append-nil, append_assoc, arith, Term, StoreAnswer, Keeping, Access}
 use Rattle.row_updates.specs.declared.fault.UpdateFault.{UpdateFault}
 use Rattle.row_updates.specs.Rows.{Setting, each, passes, new_value, with_values, tried_row, given_row, updated_row, ◌>>=◌}
 use Rattle.row_updates.specs.Logs.{filter_log, if_ok, if_passes, sides_log, stores_log, tried_log, if_given, row_log}

@@ -1,6 +1,6 @@
 // Rows where an expression is not 0, counted.
 ghost use Rattle.std.specs.Prelude.{◌≡◌, ◌+◌, ◌≤◌, ◌-◌, ℕ, OnOk, IfOk, IfErr, length};
-ghost use Rattle.row_updates.specs.Words.{bound_term, IsSafe, Table, leaf_count_of, after_log};
+ghost use Rattle.row_updates.specs.Imports.{bound_term, IsSafe, Table, leaf_count_of, after_log};
 ghost use Rattle.row_updates.specs.Rows.{IsBoundOver, counted};
 ghost use Rattle.row_updates.specs.Logs.{count_log};
 ghost use Rattle.row_updates.specs.Inner.ValueRuns.{IsIdle, IsRunOf};

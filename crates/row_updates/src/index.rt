@@ -1,6 +1,6 @@
 // The index of a row.
 ghost use Rattle.std.specs.Prelude.{◌≡◌, ◌<◌, ◌≤◌, length, take};
-ghost use Rattle.row_updates.specs.Words.{indices, index_at};
+ghost use Rattle.row_updates.specs.Imports.{indices, index_at};
 
 use extents::Extents;
 

@@ -1,6 +1,6 @@
 // How far from 0 the values of leaves and the numbers of indices may lie, so that no part of some expressions can fail.
 ghost use Rattle.std.specs.Prelude.{◌≡◌, ◌≤◌, true, IfSome, All, length};
-ghost use Rattle.row_updates.specs.Words.{bound_term, bound_leaves, bound_rank, IsSafe, leaf_count_of};
+ghost use Rattle.row_updates.specs.Imports.{bound_term, bound_leaves, bound_rank, IsSafe, leaf_count_of};
 ghost use Rattle.row_updates.specs.Rows.{IsBoundOver, IsSetOf};
 ghost use Rattle.row_updates.specs.Inner.ValueRuns.{IsIdle, IsSized};
 

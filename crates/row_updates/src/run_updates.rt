@@ -1,6 +1,6 @@
 // Updates of many rows at once, in a view that counts nothing.
 ghost use Rattle.std.specs.Prelude.{ℕ, ◌≡◌, ◌+◌, ◌<◌, ◌≤◌, true, false, pos, OnOk, IfErr, IfSome, Option, Some, None, All, [], ◌∷◌, count_by, length, map, slice_index_or, if◌then◌else◌, ◌-◌};
-ghost use Rattle.row_updates.specs.Words.{bound_term, Term, is_true, IsSafe, in_leaf, Table, leaf_count_of};
+ghost use Rattle.row_updates.specs.Imports.{bound_term, Term, is_true, IsSafe, in_leaf, Table, leaf_count_of};
 ghost use Rattle.row_updates.specs.Rows.{IsBoundOver, IsSetOf, setting_of, filter_term};
 ghost use Rattle.row_updates.specs.Inner.ValueRuns.{IsIdle, IsRunOf, AreGiven, row_of};
 ghost use Rattle.row_updates.specs.Inner.Updated.{AreUpdated, IsStopped, IsStill, IsRunUpdated, lane_test, AreTested};

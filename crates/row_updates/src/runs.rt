@@ -1,6 +1,6 @@
 // The values of an expression in consecutive rows at once, where no part of it can fail.
 ghost use Rattle.std.specs.Prelude.{ℕ, ◌≡◌, ◌+◌, ◌^◌, ◌<◌, ◌≤◌, ◌≤ℤ◌, true, ℤ, pos, neg_ℤ, unsigned_abs, length, slice_index_or, if◌then◌else◌};
-ghost use Rattle.row_updates.specs.Words.{chain_term, operand_term, IsStepWithin, IsWithin, IsSafe, IsStepSafe, IsDeclared, leaf_count_of};
+ghost use Rattle.row_updates.specs.Imports.{chain_term, operand_term, IsStepWithin, IsWithin, IsSafe, IsStepSafe, IsDeclared, leaf_count_of};
 ghost use Rattle.row_updates.specs.Inner.ValueRuns.{IsIdle, IsRunOf, AreWorth, AreRights, AreNear, ArePlaces};
 
 use crate::index::put_index;

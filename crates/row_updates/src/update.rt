@@ -1,6 +1,6 @@
 // New values of leaves, row by row.
 ghost use Rattle.std.specs.Prelude.{◌≡◌, ◌<◌, ◌≤◌, ◌+◌, ℕ, ℤ, pos, true, is_ok, Ok, OnOk, OnErr, IfOk, IfErr, IfSome, Some, None, if◌then◌else◌, All, [], ◌∷◌, List, length, map, take, drop, slice_index_or, slice_set};
-ghost use Rattle.row_updates.specs.Words.{bound_term, Table, answer_of, kept_of, after_log, after_stores, index_at};
+ghost use Rattle.row_updates.specs.Imports.{bound_term, Table, answer_of, kept_of, after_log, after_stores, index_at};
 ghost use Rattle.row_updates.specs.Rows.{IsBoundOver, IsSetOf, Setting, setting_of, filter_term, each, store_kind, new_value, with_values, tried_row, updated_row, updated_of};
 ghost use Rattle.row_updates.specs.Logs.{value_log, sides_log, stores_log, tried_log, row_log, update_log};
 ghost use Rattle.row_updates.specs.Inner.Updated.{AreUpdated, IsStopped};

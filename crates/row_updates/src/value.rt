@@ -1,6 +1,6 @@
 // The value of an expression on a row of a view.
 ghost use Rattle.std.specs.Prelude.{◌≡◌, ◌<◌, IfErr, IfSome, [], length, slice_index_or};
-ghost use Rattle.row_updates.specs.Words.{bound_term, bound_leaves, bound_rank, outcome_of, leaf_count_of, after_log};
+ghost use Rattle.row_updates.specs.Imports.{bound_term, bound_leaves, bound_rank, outcome_of, leaf_count_of, after_log};
 ghost use Rattle.row_updates.specs.Rows.{IsBoundOver, filter_term, eval_kind, value_of, passes};
 ghost use Rattle.row_updates.specs.Logs.{value_log, filter_log};
 

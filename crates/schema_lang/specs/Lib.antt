@@ -2,4 +2,4 @@ pub mod Parsing
 pub mod LineOf
 pub mod VersionOf
 pub mod Inner
-pub mod Words
+pub mod Imports

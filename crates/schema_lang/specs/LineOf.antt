@@ -1,6 +1,6 @@
 -- The line that a text is in a version of the language, as a function of the text: what a run over texts is made of. `parse_line` says that it is the grammar's answer.
 use Rattle.std.specs.Prelude.{◌≡◌, ◌+◌, ◌-◌, ◌<◌, ◌≤◌, ◌∷◌}
-use Rattle.schema_lang.specs.Words.{ℕ, zero, suc, List, [], length, Some, None, Result, Ok, Err, next_of, brackets_after, Spot, Next, Line, ended_at, read, line, tokens_of, column_behind, Sentence, sentence_of, deepest, Version}
+use Rattle.schema_lang.specs.Imports.{ℕ, zero, suc, List, [], length, Some, None, Result, Ok, Err, next_of, brackets_after, Spot, Next, Line, ended_at, read, line, tokens_of, column_behind, Sentence, sentence_of, deepest, Version}
 use Rattle.line_tokens.specs.declared.token.Next.TheVariants.{End, Bad, Token}
 use Rattle.line_grammar.specs.declared.token.Token as token
 use Rattle.schema_lang.specs.declared.fault.LineFault.{LineFault}

@@ -1,6 +1,6 @@
 -- What a fault says of a text in a version of the language, and what an answer says where the text is a line.
 use Rattle.std.specs.Prelude.{◌≡◌, ◌<◌}
-use Rattle.schema_lang.specs.Words.{ℕ, List, Result, Ok, Err, IsRecord, Line, Version, Sentence, deepest, sentence_of, Reads, StopsAt}
+use Rattle.schema_lang.specs.Imports.{ℕ, List, Result, Ok, Err, IsRecord, Line, Version, Sentence, deepest, sentence_of, Reads, StopsAt}
 use Rattle.line_grammar.specs.declared.line.Line.TheVariants as line
 use Rattle.schema_lang.specs.declared.fault.LineFault.{LineFault}
 use Rattle.schema_lang.specs.declared.fault.LineFault.TheVariants.{Syntax, TooDeep, NoMemory}

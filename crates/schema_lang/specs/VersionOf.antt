@@ -1,6 +1,6 @@
 -- The version line of a script, and blank lines, as functions of a text.
 use Rattle.std.specs.Prelude.{◌==◌, ◌∷◌, if◌then◌else◌}
-use Rattle.schema_lang.specs.Words.{ℕ, Bool, List, [], length, codes, Option, None, Token, tokens_of, is_word, count_of}
+use Rattle.schema_lang.specs.Imports.{ℕ, Bool, List, [], length, codes, Option, None, Token, tokens_of, is_word, count_of}
 use Rattle.schema_lang.specs.LineOf.{spots_in}
 
 -- the number of a version line: the word `version` and a COUNT are all of its tokens

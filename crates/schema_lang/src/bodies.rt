@@ -1,5 +1,5 @@
 ghost use Rattle.std.specs.Prelude.{◌≡◌};
-ghost use Rattle.schema_lang.specs.Words.{IfErr, map, option_map, item_at, assignment_of, sentence_of, command_of, read, actors, body, bracket_list, command_line, flag, new, term_of, Gives, IsSyntax};
+ghost use Rattle.schema_lang.specs.Imports.{IfErr, map, option_map, item_at, assignment_of, sentence_of, command_of, read, actors, body, bracket_list, command_line, flag, new, term_of, Gives, IsSyntax};
 ghost use Rattle.line_grammar.specs.declared.line.Command.TheVariants as command;
 ghost use Rattle.schema_lang.specs.Inner.Bodies.{common_body, extent_where, new_of};
 

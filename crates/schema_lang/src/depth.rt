@@ -1,5 +1,5 @@
 ghost use Rattle.std.specs.Prelude.{◌≡◌, ◌≤◌};
-ghost use Rattle.schema_lang.specs.Words.{nat_le, map, option_map, List, list_all, depth_of, term_of, assignment_of, deepest, deepest_set, filter_depth, sentence_of};
+ghost use Rattle.schema_lang.specs.Imports.{nat_le, map, option_map, List, list_all, depth_of, term_of, assignment_of, deepest, deepest_set, filter_depth, sentence_of};
 
 use expr_lang::Expr;
 use line_grammar::{Line, SetText};

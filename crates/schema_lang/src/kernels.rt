@@ -1,5 +1,5 @@
 ghost use Rattle.std.specs.Prelude.{◌≡◌};
-ghost use Rattle.schema_lang.specs.Words.{Axpy, Clamp, CountWhere, read, inside_kernel, kernel_text, Gives};
+ghost use Rattle.schema_lang.specs.Imports.{Axpy, Clamp, CountWhere, read, inside_kernel, kernel_text, Gives};
 
 use line_grammar::{Comparison, KernelText, KernelWord};
 use line_phrases::{ReadError, Tokens, read_const, read_path};

@@ -1,6 +1,6 @@
 // Lines that the second version has, and what it shows of a view.
 ghost use Rattle.std.specs.Prelude.{◌≡◌};
-ghost use Rattle.schema_lang.specs.Words.{sentence_of, may_have_window, read, body, Gives};
+ghost use Rattle.schema_lang.specs.Imports.{sentence_of, may_have_window, read, body, Gives};
 ghost use Rattle.line_grammar.specs.declared.line.Command.TheVariants as command;
 ghost use Rattle.schema_lang.specs.Inner.Bodies.{common_body};
 

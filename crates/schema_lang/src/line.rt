@@ -1,5 +1,5 @@
 ghost use Rattle.std.specs.Prelude.{◌≡◌, ◌≤◌};
-ghost use Rattle.schema_lang.specs.Words.{ℕ, List, [], length, IfOk, IfErr, MatchResult, Version, Reads, StopsAt, Sentence, deepest, sentence_of, Gives};
+ghost use Rattle.schema_lang.specs.Imports.{ℕ, List, [], length, IfOk, IfErr, MatchResult, Version, Reads, StopsAt, Sentence, deepest, sentence_of, Gives};
 ghost use Rattle.schema_lang.specs.LineOf.{IsTold, line_at, line_of};
 ghost use Rattle.schema_lang.specs.Parsing.{IsAnswer, IsFault, HasItsFields};
 

@@ -1,6 +1,6 @@
 // The tokens of a text, and the columns of their places.
 ghost use Rattle.std.specs.Prelude.{◌≡◌, ◌+◌, ◌-◌, ◌<◌, ◌≤◌, ◌^◌, if◌then◌else◌};
-ghost use Rattle.schema_lang.specs.Words.{length, All, IfOk, Some, None, Spot, is_name, is_file_name, column_behind, tokens_of, token_of};
+ghost use Rattle.schema_lang.specs.Imports.{length, All, IfOk, Some, None, Spot, is_name, is_file_name, column_behind, tokens_of, token_of};
 ghost use Rattle.schema_lang.specs.Inner.Spelled.{IsSpelled};
 
 use line_grammar::{Quoted, Token};

@@ -1,5 +1,5 @@
 ghost use Rattle.std.specs.Prelude.{◌≡◌, ◌<◌};
-ghost use Rattle.schema_lang.specs.Words.{length, map, option_map, OnOk, term_of, assignment_of, read, assignment, filter, listed, Gives};
+ghost use Rattle.schema_lang.specs.Imports.{length, map, option_map, OnOk, term_of, assignment_of, read, assignment, filter, listed, Gives};
 
 use expr_lang::Expr;
 use line_grammar::{SetList, SetText};

@@ -1,6 +1,6 @@
 // The version line of a script, and blank lines.
 ghost use Rattle.std.specs.Prelude.{◌≡◌, ◌≤◌};
-ghost use Rattle.schema_lang.specs.Words.{length, IfSome, next_of};
+ghost use Rattle.schema_lang.specs.Imports.{length, IfSome, next_of};
 ghost use Rattle.schema_lang.specs.Inner.NextTokens.{is_end, token_next};
 ghost use Rattle.schema_lang.specs.VersionOf.{is_blank_line, version_of};
 

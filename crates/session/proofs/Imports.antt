@@ -1,5 +1,5 @@
 -- What the proofs of this crate speak of.
-pub use Rattle.session.specs.Words.{term_of, MapTerm, Value, Assignment, Mapping, Sentence, sentence_of, New, assignment_of, file_read_by, Setting, updated_of, setting_of, filter_term, IsSetOf, Term, bound_term, update_log, value_log, BadActors, TooBig, Unknown, BadIndex, Twice, NotCounted, StepFault, GivesUp, Gives, Fields, same_text, texts_of, leaves, CopyFault, CommandFault, view_of, mapping_of, ViewEntry, Strategy, copy_cost, IsWay, with_entry, FileFault, Line, RecordEntry, MappingEntry, Answers, IsLeft, left_with}
+pub use Rattle.session.specs.Imports.{term_of, MapTerm, Value, Assignment, Mapping, Sentence, sentence_of, New, assignment_of, file_read_by, Setting, updated_of, setting_of, filter_term, IsSetOf, Term, bound_term, update_log, value_log, BadActors, TooBig, Unknown, BadIndex, Twice, NotCounted, StepFault, GivesUp, Gives, Fields, same_text, texts_of, leaves, CopyFault, CommandFault, view_of, mapping_of, ViewEntry, Strategy, copy_cost, IsWay, with_entry, FileFault, Line, RecordEntry, MappingEntry, Answers, IsLeft, left_with}
 pub use Rattle.record_dim.specs.Std.{◌≡◌, ℕ, suc, ◌+◌, ◌/◌, ◌%◌, ◌^◌, ◌≤◌, Bool, true, false, ℤ, nat_le, List, [], ◌∷◌, length, get_or, set, map, Result, Ok, Err, refl, sym, ap, ◌∙◌, arith, ◌*◌, nat_lt, Option, Some, None, ◌-◌, ◌<◌, ◌++◌, take, drop, codes, option_map, append-nil, append_assoc, ◌⊎◌, ⊎_elim, inl, inr, zero, subst, nat_eq, All, add-one, rules, FitsSigned, tests, IsErr, pos, IsErrAnd, not, sum_by, slice_set, filter, IsSomeAnd, ◌||◌, IfOk, slice_index_or, and_parts, leb-true, false≢true, cases_Bool, cases_eq, nat_tests, length-map, length-set, take_all, length-drop, get_or_default, get_or-set_same, get_or-set_other, set-set, map-set, take-append-drop, map-append, take_more, take-map, enumerate_from, insert, remove, list_any, range_with_len, get_or-enumerate_from, length-enumerate_from, drop_of_length-le, get_or-remove_below, get_or-remove_above, length-remove, pointwise, nat_list_eq_equiv, nat_eq_equiv, length_all_zip, All-nil, All-cons, All-tail, All-append, All-get_or, All-push, option_copied, Bor, IsDistinct-push, length-le_from_distinct_below, w128, to_z-of_z}
 pub use Rattle.std.proofs.Common.{flat_map}
 pub use Rattle.std.specs.Prelude.{IsErrOf}

@@ -1,6 +1,6 @@
 -- What the answer to a line says of what was read and written, and which lines work on one view.
 use Rattle.std.specs.Prelude.{ℕ, ◌≡◌, List, Option, Result, Err}
-use Rattle.session.specs.Words.{Line, IsRecord, Ending, Refuses, Breaks, Starves, StepFault}
+use Rattle.session.specs.Imports.{Line, IsRecord, Ending, Refuses, Breaks, Starves, StepFault}
 use Rattle.line_grammar.specs.declared.line.Line.TheVariants as line
 use Rattle.worlds.specs.Answers.{Unread}
 use Rattle.command_checks.specs.declared.fault.StepFault.TheVariants as fault

@@ -1,6 +1,6 @@
 -- The most steps that a line takes.
 use Rattle.std.specs.Prelude.{ℕ, ◌+◌, ◌≤◌, not, List, Option, Some, None, MatchBool, Ok}
-use Rattle.session.specs.Words.{copy_cost, IsWay, Strategy, MapTerm, Table, are_alike, nameless, Tested, ◌>>=◌, known, refused_if, made, World, found, same_name, Mismatch, Within, kernel_steps}
+use Rattle.session.specs.Imports.{copy_cost, IsWay, Strategy, MapTerm, Table, are_alike, nameless, Tested, ◌>>=◌, known, refused_if, made, World, found, same_name, Mismatch, Within, kernel_steps}
 use Rattle.line_grammar.specs.Sentences as line
 
 -- the most steps of what is done to a table, and none where there is no table

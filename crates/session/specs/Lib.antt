@@ -4,4 +4,4 @@ pub mod Answers
 pub mod Bounds
 pub mod LoadsLaws
 pub mod Inner
-pub mod Words
+pub mod Imports

@@ -1,6 +1,6 @@
 -- What the answer to a line that reads a file says of its outcome, and of what was read.
 use Rattle.std.specs.Prelude.{ℕ, ◌≡◌, ◌≤◌, ◌⊎◌, Bool, true, false, nat_lt, List, length, Option, Some, IsSome, IsSomeAnd, Result, Ok, Err}
-use Rattle.session.specs.Words.{Rose, File, schema_fields, term_of, ExtentWord, csv_records, records_behind, Table, Entry, Tested, Outcome, Goes, Faults, CannotRead, Unread, sure, ◌>>=◌, refused_if, resolved, made, read, filled, Named, TooBig, StepFault}
+use Rattle.session.specs.Imports.{Rose, File, schema_fields, term_of, ExtentWord, csv_records, records_behind, Table, Entry, Tested, Outcome, Goes, Faults, CannotRead, Unread, sure, ◌>>=◌, refused_if, resolved, made, read, filled, Named, TooBig, StepFault}
 use Rattle.line_grammar.specs.Sentences as line
 use Rattle.command_checks.specs.declared.fault.StepFault.TheVariants as fault
 use Rattle.session.specs.declared.view.Found.{Found}

@@ -1,6 +1,6 @@
 -- Which lines read a file, and what a shelf tells.
 use Rattle.std.specs.Prelude.{◌≡◌, List, Option, Some, None, Ok, Err, refl}
-use Rattle.session.specs.Words.{File, sentence_of, file_read_by, Line, Outcome, Fault, Unread}
+use Rattle.session.specs.Imports.{File, sentence_of, file_read_by, Line, Outcome, Fault, Unread}
 use Rattle.line_grammar.specs.declared.line.Line.TheVariants as line
 use Rattle.session.specs.Loads.{ToldFor}
 

@@ -1,6 +1,6 @@
 -- The world that a session stands for.
 use Rattle.std.specs.Prelude.{◌≡◌, List, [], map}
-use Rattle.session.specs.Words.{World, Left, record_of, mapping_of, view_of, RecordEntry, ViewEntry, MappingEntry}
+use Rattle.session.specs.Imports.{World, Left, record_of, mapping_of, view_of, RecordEntry, ViewEntry, MappingEntry}
 use Rattle.session.specs.declared.session.Session.{Session}
 
 -- the world of these records, mappings and views

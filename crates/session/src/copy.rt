@@ -1,6 +1,6 @@
 // `copy V to W`.
 ghost use Rattle.std.specs.Prelude.{◌≡◌, ◌+◌, ◌<◌, OnOk, length, map, slice_index_or};
-ghost use Rattle.session.specs.Words.{leaf_count_of, after_log, all_accesses, Read, schema_fields, copy, copied, all_read, view_of, Gives, ViewEntry};
+ghost use Rattle.session.specs.Imports.{leaf_count_of, after_log, all_accesses, Read, schema_fields, copy, copied, all_read, view_of, Gives, ViewEntry};
 ghost use Rattle.session.specs.Bounds.{IsWithin, WithinCopy};
 ghost use Rattle.session.specs.Inner.Changes.{copied_at, TellsCopy};
 

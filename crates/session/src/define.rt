@@ -1,6 +1,6 @@
 // `record P { .. }` and `mapping M = ..`.
 ghost use Rattle.std.specs.Prelude.{◌≡◌, true};
-ghost use Rattle.session.specs.Words.{term_of, schema_fields, tree_of, IsRecord, define, fit, mapping, is_nameless, Gives};
+ghost use Rattle.session.specs.Imports.{term_of, schema_fields, tree_of, IsRecord, define, fit, mapping, is_nameless, Gives};
 ghost use Rattle.session.specs.Inner.Changes.{mapping_fits};
 
 use crate::session::Session;

@@ -1,5 +1,5 @@
 // `drop V`.
-ghost use Rattle.session.specs.Words.{drop_view, Gives};
+ghost use Rattle.session.specs.Imports.{drop_view, Gives};
 
 use crate::session::Session;
 use command_checks::{StepFault, known_view};

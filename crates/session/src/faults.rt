@@ -1,5 +1,5 @@
 // The refusals of a value that does not fit the leaf of a row.
-ghost use Rattle.session.specs.Words.{text_of_leaf};
+ghost use Rattle.session.specs.Imports.{text_of_leaf};
 ghost use Rattle.session.specs.Inner.Changes.{Tells};
 
 use command_checks::{StepFault, leaf_text};

@@ -1,6 +1,6 @@
 // The files that lines read.
 ghost use Rattle.std.specs.Prelude.{◌≡◌, List, Some};
-ghost use Rattle.session.specs.Words.{Rose, File};
+ghost use Rattle.session.specs.Imports.{Rose, File};
 ghost use Rattle.session.specs.Loads.{Loads, LoadCause, read_within};
 
 use command_checks::StepFault;

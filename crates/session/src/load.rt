@@ -1,6 +1,6 @@
 // `load V : P [..] wrap as .. from "F"`.
 ghost use Rattle.std.specs.Prelude.{◌≡◌, ◌<◌, IfOk, true, List, Some, length, map};
-ghost use Rattle.session.specs.Words.{indices, IsShape, Rose, File, term_of, schema_fields, csv_records, records_behind, load, loaded_table, filled, resolved, is_nameless, view_of, Gives};
+ghost use Rattle.session.specs.Imports.{indices, IsShape, Rose, File, term_of, schema_fields, csv_records, records_behind, load, loaded_table, filled, resolved, is_nameless, view_of, Gives};
 ghost use Rattle.session.specs.Inner.Changes.{TellsRow};
 ghost use Rattle.session.specs.Loads.{named_of, new_of, filled_table, Loads, LoadCause, UnreadOnly, ToldFor};
 

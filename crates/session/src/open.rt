@@ -1,6 +1,6 @@
 // `open V from "F"`.
 ghost use Rattle.std.specs.Prelude.{◌≡◌, true, List, Some, map};
-ghost use Rattle.session.specs.Words.{Rose, File, open_view, opened_table, view_of, Gives};
+ghost use Rattle.session.specs.Imports.{Rose, File, open_view, opened_table, view_of, Gives};
 ghost use Rattle.session.specs.Loads.{Loads, LoadCause, UnreadOnly, ToldFor};
 ghost use Rattle.session.specs.Inner.Opens.{file_fault, placed_table, with_room};
 

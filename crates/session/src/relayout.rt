@@ -1,6 +1,6 @@
 // `relayout V as ..`.
 ghost use Rattle.std.specs.Prelude.{◌≡◌, ◌<◌, IfOk, length, map, slice_index_or, true};
-ghost use Rattle.session.specs.Words.{term_of, copied, relayout, is_nameless, view_of, Gives, ViewEntry};
+ghost use Rattle.session.specs.Imports.{term_of, copied, relayout, is_nameless, view_of, Gives, ViewEntry};
 ghost use Rattle.session.specs.Bounds.{IsWithin, WithinRelayout};
 ghost use Rattle.session.specs.Inner.Changes.{made_like, zeros_like};
 

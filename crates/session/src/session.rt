@@ -1,5 +1,5 @@
 ghost use Rattle.std.specs.Prelude.{◌≡◌, Bool, true, List, None};
-ghost use Rattle.session.specs.Words.{Rose, File, sentence_of, file_read_by, StepsTo, StepCause, on_view, step, done_by, empty, found};
+ghost use Rattle.session.specs.Imports.{Rose, File, sentence_of, file_read_by, StepsTo, StepCause, on_view, step, done_by, empty, found};
 
 use crate::view::New;
 use crate::work::work_on;

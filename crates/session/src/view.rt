@@ -1,6 +1,6 @@
 // `view V : P [..] wrap as ..`.
 ghost use Rattle.std.specs.Prelude.{◌≡◌, ◌<◌, IfOk, IfErr, OnOk, true, length};
-ghost use Rattle.session.specs.Words.{IsShape, term_of, named, new_table, view, with_view, is_nameless, Gives};
+ghost use Rattle.session.specs.Imports.{IsShape, term_of, named, new_table, view, with_view, is_nameless, Gives};
 
 use crate::session::Session;
 use blob_file::mode_by;

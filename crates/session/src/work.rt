@@ -1,6 +1,6 @@
 // Commands that work on one view.
 ghost use Rattle.std.specs.Prelude.{List};
-ghost use Rattle.session.specs.Words.{on_view, found, RecordEntry, MappingEntry, Answers, Within};
+ghost use Rattle.session.specs.Imports.{on_view, found, RecordEntry, MappingEntry, Answers, Within};
 ghost use Rattle.session.specs.Bounds.{most_on};
 ghost use Rattle.session.specs.Stands.{AreLeft, world_in};
 

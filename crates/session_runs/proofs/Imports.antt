@@ -1,5 +1,5 @@
 -- What the proofs of this crate speak of.
-pub use Rattle.session_runs.specs.Words.{File, Writes, Rose, Version, version_of, is_blank_line, World, empty, run_from, fault_text, Output, IsRun, ended_status, ending_of, Unreadable, EndsBy, EndCause, Outcome, Faults, Left, step, steps_same, lines_in, ScriptTooLong, BadVersion, LineTooLong, TooDeep, Status, CommandFault, version_numbered, Sentence, deepest, sentence_of, file_read_by, One, line_of, HasItsFields, StepFault, LineEnd, Stands, world_of}
+pub use Rattle.session_runs.specs.Imports.{File, Writes, Rose, Version, version_of, is_blank_line, World, empty, run_from, fault_text, Output, IsRun, ended_status, ending_of, Unreadable, EndsBy, EndCause, Outcome, Faults, Left, step, steps_same, lines_in, ScriptTooLong, BadVersion, LineTooLong, TooDeep, Status, CommandFault, version_numbered, Sentence, deepest, sentence_of, file_read_by, One, line_of, HasItsFields, StepFault, LineEnd, Stands, world_of}
 pub use Rattle.record_dim.specs.Std.{◌≡◌, ℕ, suc, ◌+◌, ◌≤◌, ltb, Bool, true, false, List, [], ◌∷◌, length, drop, Option, None, Some, option_map, refl, sym, ap, subst, ◌∙◌, arith, add-one, zero-add, drop-drop, ◌<◌, inl, take, Result, Ok, Err, if◌then◌else◌, slice_set, ◌⊎◌, IsSome, nat_tests}
 pub use Rattle.worlds.specs.declared.fault.CommandFault.{CommandFault as Fault}
 pub use Rattle.line_grammar.specs.declared.line.Line.{Line}

@@ -1,6 +1,6 @@
 -- Blank lines do nothing in a run.
 use Rattle.std.specs.Prelude.{◌≡◌, ℕ, ◌+◌, ◌≤◌, ◌==◌, ltb, Bool, true, false, List, [], ◌∷◌, length, Result, Ok, refl, if◌then◌else◌}
-use Rattle.session_runs.specs.Words.{ap, ◌∙◌, arith, nat_tests, File, Spot, tokens_of, Sentence, Blank, line, Version, line_at, line_of, line_or_column, spots_in, is_blank_line, World, Outcome, Faults, Left, quiet, sure, step, run_from, after, fails_at, LineTooLong}
+use Rattle.session_runs.specs.Imports.{ap, ◌∙◌, arith, nat_tests, File, Spot, tokens_of, Sentence, Blank, line, Version, line_at, line_of, line_or_column, spots_in, is_blank_line, World, Outcome, Faults, Left, quiet, sure, step, run_from, after, fails_at, LineTooLong}
 use Rattle.session_runs.specs.Steps.{step_text, step_line}
 use Rattle.session_runs.specs.Heads.{PassesBlanks}
 

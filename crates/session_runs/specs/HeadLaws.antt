@@ -1,6 +1,6 @@
 -- The version line of lines, by their first.
 use Rattle.std.specs.Prelude.{◌≡◌, ℕ, ◌+◌, ◌<◌, ◌≤◌, ltb, Bool, true, false, List, ◌∷◌, length, Option, None, option_map, if◌then◌else◌}
-use Rattle.session_runs.specs.Words.{ap, ◌∙◌, arith, nat_tests, version_of, is_blank_line}
+use Rattle.session_runs.specs.Imports.{ap, ◌∙◌, arith, nat_tests, version_of, is_blank_line}
 use Rattle.session_runs.specs.Scripts.{version_line}
 
 -- the version line behind a blank line

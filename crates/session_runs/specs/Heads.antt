@@ -1,6 +1,6 @@
 -- Blank lines and version lines in a run.
 use Rattle.std.specs.Prelude.{ℕ, ◌≡◌, ◌+◌, ◌≤◌, true, List, ◌∷◌, length, Option, None, Some, option_map, nat_lt, if◌then◌else◌}
-use Rattle.session_runs.specs.Words.{File, Version, One, is_blank_line, World, empty, run_from, ScriptTooLong}
+use Rattle.session_runs.specs.Imports.{File, Version, One, is_blank_line, World, empty, run_from, ScriptTooLong}
 use Rattle.session_runs.specs.Steps.{step_text}
 use Rattle.session_runs.specs.Scripts.{script_lines, version_line, run_form, faulted}
 use Rattle.session_runs.specs.declared.version.FirstLine.{FirstLine}

@@ -4,4 +4,4 @@ pub mod Heads
 pub mod BlankLaws
 pub mod HeadLaws
 pub mod RunLaws
-pub mod Words
+pub mod Imports

@@ -1,6 +1,6 @@
 -- A run that is the same as another one, as far as reads fail there.
 use Rattle.std.specs.Prelude.{◌≡◌, ℕ, List, Option, None, Some}
-use Rattle.session_runs.specs.Words.{inl, inr, ⊎_elim, ap, ◌∙◌, Output, Gives, IsText, Answers, IsRun, Unread, Status, Done, CommandFault, Usage, SourceFault, SinkFault, NoMemory}
+use Rattle.session_runs.specs.Imports.{inl, inr, ⊎_elim, ap, ◌∙◌, Output, Gives, IsText, Answers, IsRun, Unread, Status, Done, CommandFault, Usage, SourceFault, SinkFault, NoMemory}
 
 -- two runs that are the same where no read fails, and where one fails at a line of the first
 pub record IsSame (first whole : Option ℕ → Output) : Type 0 where

@@ -1,6 +1,6 @@
 -- The run of a script that was read: its lines, in the version that its version line says.
 use Rattle.std.specs.Prelude.{ℕ, ◌+◌, List, ◌∷◌, [], length, slice_set, Option, None, Some, option_map, nat_lt, if◌then◌else◌}
-use Rattle.session_runs.specs.Words.{strip_bom, File, Version, One, version_numbered, version_of, is_blank_line, empty, fault_text, Output, Faulted, lines_in, run_from, ScriptTooLong, BadVersion}
+use Rattle.session_runs.specs.Imports.{strip_bom, File, Version, One, version_numbered, version_of, is_blank_line, empty, fault_text, Output, Faulted, lines_in, run_from, ScriptTooLong, BadVersion}
 use Rattle.worlds.specs.declared.fault.CommandFault.{CommandFault}
 use Rattle.session_runs.specs.Steps.{step_text}
 

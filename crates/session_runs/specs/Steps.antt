@@ -1,6 +1,6 @@
 -- What the text of a line does to a world.
 use Rattle.std.specs.Prelude.{ℕ, Bool, List, length, nat_lt, ◌≡◌, if◌then◌else◌, Option, IfSome, Result, Ok, Err}
-use Rattle.session_runs.specs.Words.{File, Sentence, deepest, Version, line_of, StepFault, LineEnd, World, Outcome, Faults, Left, step, LineTooLong, Syntax, TooDeep}
+use Rattle.session_runs.specs.Imports.{File, Sentence, deepest, Version, line_of, StepFault, LineEnd, World, Outcome, Faults, Left, step, LineTooLong, Syntax, TooDeep}
 use Rattle.command_checks.specs.declared.fault.StepFault.TheVariants as fault
 use Rattle.worlds.specs.declared.fold.LineEnd.TheVariants as end
 

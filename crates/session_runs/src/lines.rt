@@ -1,6 +1,6 @@
 // The lines of a script, done by a session.
 ghost use Rattle.std.specs.Prelude.{◌≡◌, IfOk, IsSome, List, Some};
-ghost use Rattle.session_runs.specs.Words.{Rose, File, sentence_of, file_read_by, HasItsFields, ending_of, StepsTo, StepCause, step, World, Stands};
+ghost use Rattle.session_runs.specs.Imports.{Rose, File, sentence_of, file_read_by, HasItsFields, ending_of, StepsTo, StepCause, step, World, Stands};
 ghost use Rattle.session_runs.specs.Steps.{step_text, EndsAs, TellsFile};
 
 use layout_io::{Shelf, Sink};

@@ -1,6 +1,6 @@
 // The run of a script that was read, in the version that its version line says.
 ghost use Rattle.std.specs.Prelude.{◌≡◌, ◌+◌, ◌^◌, ◌<◌, ◌≤◌, ℕ, List, Some, length};
-ghost use Rattle.session_runs.specs.Words.{strip_bom, Rose, File, IsRun, HasCause, run_from, lines_in, empty};
+ghost use Rattle.session_runs.specs.Imports.{strip_bom, Rose, File, IsRun, HasCause, run_from, lines_in, empty};
 ghost use Rattle.session_runs.specs.Scripts.{run_form, run_headed, version_line};
 ghost use Rattle.session_runs.specs.Steps.{step_text};
 

@@ -1,6 +1,6 @@
 // The version line of a script.
 ghost use Rattle.std.specs.Prelude.{◌≡◌, ◌+◌, ◌<◌, ◌∷◌, ℕ, List, drop, length, option_map, IfSome};
-ghost use Rattle.session_runs.specs.Words.{version_numbered, lines_in};
+ghost use Rattle.session_runs.specs.Imports.{version_numbered, lines_in};
 ghost use Rattle.session_runs.specs.Heads.{with_first};
 ghost use Rattle.session_runs.specs.Scripts.{version_line};
 

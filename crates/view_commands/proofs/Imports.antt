@@ -1,6 +1,6 @@
 -- What the proofs of this crate speak of.
-pub use Rattle.view_commands.specs.Words.{Assignment, Value, Mapping, assignment_of, BadIndex, Twice, TooBig, NotCounted, BadActors, Owner, Pad, Bit, owner_at, IsLaidOut, IsOwnerBelow, image, bit_held, CommandFault, Cuts, Turns, Fields, texts_of, leaves, same_text, GivesUp, indices, IsInside, Setting, setting_of, filter_term, IsSetOf, updated_of, Term, bound_term, outcome_of, Run, started_run, after_turns, Stencil, StepFault, StoreFault, UpdateFault, bits_of, slice_get, map_tokens, mapping_of, place_in, question_of, run_rows, update_log, value_log, with_entry, written, with_tokens_behind}
-unfoldable pub use Rattle.view_commands.specs.Words.{advise, advice_text, assigned, counts, heat, layout, print, kernel_run, print_window, save, updated, updated_by_actors, stencil_run}
+pub use Rattle.view_commands.specs.Imports.{Assignment, Value, Mapping, assignment_of, BadIndex, Twice, TooBig, NotCounted, BadActors, Owner, Pad, Bit, owner_at, IsLaidOut, IsOwnerBelow, image, bit_held, CommandFault, Cuts, Turns, Fields, texts_of, leaves, same_text, GivesUp, indices, IsInside, Setting, setting_of, filter_term, IsSetOf, updated_of, Term, bound_term, outcome_of, Run, started_run, after_turns, Stencil, StepFault, StoreFault, UpdateFault, bits_of, slice_get, map_tokens, mapping_of, place_in, question_of, run_rows, update_log, value_log, with_entry, written, with_tokens_behind}
+unfoldable pub use Rattle.view_commands.specs.Imports.{advise, advice_text, assigned, counts, heat, layout, print, kernel_run, print_window, save, updated, updated_by_actors, stencil_run}
 pub use Rattle.views.specs.Prelude.{Access, Tally, Write, Read, all_accesses, reads_in, writes_in, reads_first, Table, leaf_count_of, after_log, after_stores, owners_of, answer_of, kept_of, after_write, leaf_types_of, column, column_reads, tallied-append, tallied-none, logs_more, without_number}
 pub use Rattle.advisor.specs.Advice.{Advised, advice, told_by}
 pub use Rattle.record_dim.specs.Std.{◌≡◌, ℕ, zero, suc, ◌<◌, true, false, nat_eq, List, [], ◌∷◌, length, Some, refl, sym, ap, ◌∙◌, ⊎_elim, Ok, Err, ◌+◌, map, get_or, All, subst, ◌≤◌, Bool, ◌++◌, take, drop, arith, add-one, ℤ, Option, None, Result, nat_lt, pos, ◌-◌, codes, option_map, append-nil, append_assoc, ◌/◌, ◌%◌, ◌^◌, nat_le, rules, ◌*◌, FitsSigned, IsErr, length_all_zip, All-nil, All-cons, All-tail, All-append, All-get_or, All-push, Bor, IsDistinct-push, IsErrAnd, cases_Bool, false≢true, and_parts, leb-true, drop_of_length-le, list_any, enumerate_from, range_with_len, ◌||◌, slice_index_or, not, sum_by, slice_set, filter, get_or-enumerate_from, length-enumerate_from, length-map, take-append-drop, map-append, take_more, take_all, take-map, length-drop, length-set, length-le_from_distinct_below, nat_list_eq_equiv, nat_eq_equiv, nat_tests, option_copied, pointwise, to_z-of_z, w128, OnErr, OnOk, get_or-map, cases_lt, common_steps}

@@ -1,6 +1,6 @@
 -- How a command ends that may store: the number that it gives, why it is refused, and what it then leaves.
 use Rattle.std.specs.Prelude.{ℕ, zero, suc, ◌≡◌, ◌++◌, ℤ, List, [], length, drop, Option, Some, None, Result, Ok, Err}
-use Rattle.view_commands.specs.Words.{run_rows, Kernel, Value, Assignment, Fields, updated_of, Stencil, stenciled, StencilFault, Table, kept_of, number_text, bound_filter, bound_sets, each_once, leaves_of, text_of_leaf, Done, done_to, Tested, ◌>>=◌, ok_or, update_fault, GivesUp, StepFault}
+use Rattle.view_commands.specs.Imports.{run_rows, Kernel, Value, Assignment, Fields, updated_of, Stencil, stenciled, StencilFault, Table, kept_of, number_text, bound_filter, bound_sets, each_once, leaves_of, text_of_leaf, Done, done_to, Tested, ◌>>=◌, ok_or, update_fault, GivesUp, StepFault}
 use Rattle.worlds.specs.declared.fault.CommandFault.TheVariants as command
 use Rattle.command_checks.specs.declared.fault.StepFault.TheVariants as step
 use Rattle.view_commands.specs.declared.change.ChangeFault.{ChangeFault}

@@ -1,6 +1,6 @@
 -- How a command ends, and its answer.
 use Rattle.std.specs.Prelude.{◌≡◌, ℕ, List, [], Option, Result, Ok, Err, refl}
-use Rattle.view_commands.specs.Words.{sym, ap, ◌∙◌, arith, Wrote-nil, with_bytes-nil, Refused, Fronted, text_of, LeftOf, ◌>>=◌, Tested, CommandFault, Gives, GivesUp, StepFault}
+use Rattle.view_commands.specs.Imports.{sym, ap, ◌∙◌, arith, Wrote-nil, with_bytes-nil, Refused, Fronted, text_of, LeftOf, ◌>>=◌, Tested, CommandFault, Gives, GivesUp, StepFault}
 use Rattle.view_commands.specs.Inner.Answers.{Answers}
 use Rattle.command_checks.specs.declared.fault.StepFault.TheVariants as step
 

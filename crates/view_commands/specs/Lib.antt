@@ -2,4 +2,4 @@ pub mod Changes
 pub mod ExitsLaws
 pub mod Steps
 pub mod Inner
-pub mod Words
+pub mod Imports

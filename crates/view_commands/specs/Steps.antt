@@ -1,6 +1,6 @@
 -- The most steps that a command takes.
 use Rattle.std.specs.Prelude.{ℕ, ◌+◌, ◌≤◌, length, Option, Some, None, Ok}
-use Rattle.view_commands.specs.Words.{kernel_cost, Kernel, KernelText, Table, fit_kernel, Tested}
+use Rattle.view_commands.specs.Imports.{kernel_cost, Kernel, KernelText, Table, fit_kernel, Tested}
 
 -- from one count of steps to another at most so many were taken; where no number stands, nothing is said
 abbrev pub Within : Option ℕ → ℕ → ℕ → Type 0

@@ -1,6 +1,6 @@
 // `advise V granule G pass .. times N .. among M, ..`.
 ghost use Rattle.std.specs.Prelude.{◌≡◌, ◌≤◌, ◌++◌, IfOk, IsTrue, OnOk, codes, flat_map, length, map, option_map};
-ghost use Rattle.view_commands.specs.Words.{enumerate_from, digits_text, map_tokens, with_tokens_behind, is_name, leaf_count_of, after_log, Read, all_accesses, telling, advise, advise_fault, advice_text, best_words, cost_line, cost_words, ok_or, mapping_of, Gives, IsQuestion};
+ghost use Rattle.view_commands.specs.Imports.{enumerate_from, digits_text, map_tokens, with_tokens_behind, is_name, leaf_count_of, after_log, Read, all_accesses, telling, advise, advise_fault, advice_text, best_words, cost_line, cost_words, ok_or, mapping_of, Gives, IsQuestion};
 ghost use Rattle.advisor.specs.Advice.{advice, told_by};
 ghost use Rattle.map_expr.specs.Terms.{term_of};
 

@@ -1,6 +1,6 @@
 // `set V[..].path = ..`.
 ghost use Rattle.std.specs.Prelude.{◌≡◌, ◌<◌, ◌≤◌, IfOk, OnErr, OnOk, length};
-ghost use Rattle.view_commands.specs.Words.{bound_term, term_of, indices, IsInside, place_in, IsBoundOver, without_number, after_write, answer_of, leaf_count_of, assigned, inside, Gives};
+ghost use Rattle.view_commands.specs.Imports.{bound_term, term_of, indices, IsInside, place_in, IsBoundOver, without_number, after_write, answer_of, leaf_count_of, assigned, inside, Gives};
 ghost use Rattle.view_commands.specs.Changes.{Changed, all_left};
 ghost use Rattle.view_commands.specs.Inner.Parts.{eval_fault, set_in, store_told};
 

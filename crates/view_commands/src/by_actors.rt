@@ -1,6 +1,6 @@
 // `update V where .. set .. = .., .. actors [..] schedule S turns N`.
 ghost use Rattle.std.specs.Prelude.{◌≡◌, ◌<◌, ◌≤◌, ◌+◌, ◌^◌, All, [], IfOk, IfErr, OnErr, OnOk, length, map, not, nat_lt, option_map};
-ghost use Rattle.view_commands.specs.Words.{AreCuts, actor_of, are_cuts, next, schedule_of, shared_byte, without_counts, started_run, after_turns, IsUpdated, reads_in, owners_of, after_log, term_of, Writes, assignment_of, IsSetOf, setting_of, updated_of, update_log, updated_by_actors, fit_cuts, shared, memory_text, each_once, leaves_of, done_to, ok_or, refused_by, refused_if, small, update_fault, Gives, GivesUp};
+ghost use Rattle.view_commands.specs.Imports.{AreCuts, actor_of, are_cuts, next, schedule_of, shared_byte, without_counts, started_run, after_turns, IsUpdated, reads_in, owners_of, after_log, term_of, Writes, assignment_of, IsSetOf, setting_of, updated_of, update_log, updated_by_actors, fit_cuts, shared, memory_text, each_once, leaves_of, done_to, ok_or, refused_by, refused_if, small, update_fault, Gives, GivesUp};
 ghost use Rattle.view_commands.specs.Inner.Answers.{Answers, IsLeft};
 ghost use Rattle.view_commands.specs.Inner.Teams.{IsTeamOf, bindings_of, shared_out, acted};
 

@@ -1,6 +1,6 @@
 // Commands that may store in one view, and write nothing but a number.
 ghost use Rattle.std.specs.Prelude.{ℕ, ℤ, ◌≡◌, IfErr, IfOk, List, Option, None};
-ghost use Rattle.view_commands.specs.Words.{Table, Done, Tested, NoMemory};
+ghost use Rattle.view_commands.specs.Imports.{Table, Done, Tested, NoMemory};
 ghost use Rattle.view_commands.specs.Changes.{Changed, all_left, worded};
 ghost use Rattle.view_commands.specs.Steps.{Within};
 ghost use Rattle.view_commands.specs.declared.change.ChangeFault.TheVariants.{Other};

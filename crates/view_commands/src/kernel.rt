@@ -1,6 +1,6 @@
 // `kernel V .. lanes N`.
 ghost use Rattle.std.specs.Prelude.{◌≡◌, ◌+◌, ◌≤◌, Some};
-ghost use Rattle.view_commands.specs.Words.{fit_kernel, kernel_run};
+ghost use Rattle.view_commands.specs.Imports.{fit_kernel, kernel_run};
 ghost use Rattle.view_commands.specs.Changes.{Changed, kernel_left};
 ghost use Rattle.view_commands.specs.Steps.{kernel_steps};
 

@@ -1,6 +1,6 @@
 // `reduce V sum|min|max path` and `reduce V count where ..`.
 ghost use Rattle.std.specs.Prelude.{◌≡◌, ◌<◌};
-ghost use Rattle.view_commands.specs.Words.{term_of, reading, counting, form_of, reduction};
+ghost use Rattle.view_commands.specs.Imports.{term_of, reading, counting, form_of, reduction};
 ghost use Rattle.view_commands.specs.Changes.{Changed, all_left};
 
 use crate::change::{Change, ChangeFault};

@@ -1,5 +1,5 @@
 // `save V`.
-ghost use Rattle.view_commands.specs.Words.{save, telling};
+ghost use Rattle.view_commands.specs.Imports.{save, telling};
 
 use crate::work::Work;
 use blob_file::{SaveEnd, write_file};

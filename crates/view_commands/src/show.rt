@@ -1,6 +1,6 @@
 // `print V`, `counts V`, `heat V`, `layout V` and `bytes V B`.
 ghost use Rattle.std.specs.Prelude.{◌≡◌, ◌++◌, All, IfOk, OnOk};
-ghost use Rattle.view_commands.specs.Words.{bits_of, IsOwnerBelow, leaf_count_of, owners_of, tells, reading, telling, print, counts, heat, layout, small, all_runs, bytes, Gives};
+ghost use Rattle.view_commands.specs.Imports.{bits_of, IsOwnerBelow, leaf_count_of, owners_of, tells, reading, telling, print, counts, heat, layout, small, all_runs, bytes, Gives};
 ghost use Rattle.instrument.specs.BlobTexts.{bytes_of, bytes_text};
 
 use crate::work::Work;

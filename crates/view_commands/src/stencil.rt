@@ -1,6 +1,6 @@
 // `stencil V window [..] set .. = (..) / D rounds N`.
 ghost use Rattle.std.specs.Prelude.{◌*◌};
-ghost use Rattle.view_commands.specs.Words.{fit_stencil, room_beside, stencil_rounds, stencil_run, Gives, IsStencilOf, stencil_of};
+ghost use Rattle.view_commands.specs.Imports.{fit_stencil, room_beside, stencil_rounds, stencil_run, Gives, IsStencilOf, stencil_of};
 ghost use Rattle.view_commands.specs.Changes.{Changed, rounds_left, stencil_left};
 
 use crate::change::{Change, ChangeFault};

@@ -1,6 +1,6 @@
 // `update V where .. set .. = .., ..`.
 ghost use Rattle.std.specs.Prelude.{◌≡◌, ◌<◌, ◌≤◌, All, IfOk, OnOk, IfSome, [], length, map, option_map, nat_eq};
-ghost use Rattle.view_commands.specs.Words.{list_any, bound_term, term_of, assignment_of, IsBoundOver, IsSetOf, setting_of, filter_term, bound_filter, bound_set, bound_sets, each_once, leaves_of, updated, Gives};
+ghost use Rattle.view_commands.specs.Imports.{list_any, bound_term, term_of, assignment_of, IsBoundOver, IsSetOf, setting_of, filter_term, bound_filter, bound_set, bound_sets, each_once, leaves_of, updated, Gives};
 ghost use Rattle.view_commands.specs.Changes.{Changed, Gave, front_left, updated_front};
 ghost use Rattle.view_commands.specs.Inner.Parts.{front_by, updated_by};
 

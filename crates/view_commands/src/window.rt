@@ -1,6 +1,6 @@
 // `print V window [..]`.
 ghost use Rattle.std.specs.Prelude.{◌≡◌};
-ghost use Rattle.view_commands.specs.Words.{reading, print_window};
+ghost use Rattle.view_commands.specs.Imports.{reading, print_window};
 
 use crate::work::Work;
 use command_checks::{StepFault, windowed};

@@ -1,6 +1,6 @@
 // Commands that show something of one view.
 ghost use Rattle.std.specs.Prelude.{ℕ, ◌≡◌, Bool, true, Option, None, OnErr};
-ghost use Rattle.view_commands.specs.Words.{Table, Done, done_to, Tested};
+ghost use Rattle.view_commands.specs.Imports.{Table, Done, done_to, Tested};
 ghost use Rattle.view_commands.specs.Inner.Answers.{Answers, IsLeft};
 ghost use Rattle.view_commands.specs.Steps.{Within};
 

@@ -1,6 +1,6 @@
 // A command that may store, as one that writes its number.
 ghost use Rattle.std.specs.Prelude.{false, flat_map};
-ghost use Rattle.view_commands.specs.Words.{text_of_part, Writes, number_text, number_line};
+ghost use Rattle.view_commands.specs.Imports.{text_of_part, Writes, number_text, number_line};
 
 use crate::change::{Change, in_words};
 use crate::work::Work;

@@ -1,5 +1,5 @@
 -- What the proofs of this crate speak of.
-pub use Rattle.views.specs.Words.{sum_by, IsIn, is_signed, IsDeclared, least_of, greatest_of, least_in, greatest_in, width_of, Fields, kinds_of, Leaf, leaves, schema_fields, number, digit, decoded, entry, image, Owner, IsLaidOut, full_holds, hold_of, is_hot, number_same, touched_same, Hold, Piece, bit_of, bit_in, bits_of, IsMoved, blocks, Term, term_of, uncounted, Soa, Aosoa, Count, has_count, granule_of, is_counted, LeafCounts, HeatCounts, counted, warmed, no_counts, no_heat, HasLeaves, warmed_times, heat_counts, leaf_counts, indices, Order, slot_count, slot_at, array_of, lanes_in, layout_by, holds_by, leaf_cells, IsTooBigFor, most_slots, kinds_are, leaf_cells_kinds, holds_by_kind, IsArrayRun, AreRuns, StoreMode, LeafType, Truth, Strict, Wrap, Cell, array_holds, inside-counted, Counts, extents_of, term_of_map}
+pub use Rattle.views.specs.Imports.{sum_by, IsIn, is_signed, IsDeclared, least_of, greatest_of, least_in, greatest_in, width_of, Fields, kinds_of, Leaf, leaves, schema_fields, number, digit, decoded, entry, image, Owner, IsLaidOut, full_holds, hold_of, is_hot, number_same, touched_same, Hold, Piece, bit_of, bit_in, bits_of, IsMoved, blocks, Term, term_of, uncounted, Soa, Aosoa, Count, has_count, granule_of, is_counted, LeafCounts, HeatCounts, counted, warmed, no_counts, no_heat, HasLeaves, warmed_times, heat_counts, leaf_counts, indices, Order, slot_count, slot_at, array_of, lanes_in, layout_by, holds_by, leaf_cells, IsTooBigFor, most_slots, kinds_are, leaf_cells_kinds, holds_by_kind, IsArrayRun, AreRuns, StoreMode, LeafType, Truth, Strict, Wrap, Cell, array_holds, inside-counted, Counts, extents_of, term_of_map}
 pub use Rattle.record_dim.specs.Std.{◌≡◌, ℕ, ℤ, ◌+◌, ◌*◌, ◌<◌, ◌≤◌, Bool, false, List, [], length, map, get_or, set, slice_index, refl, sym, ap, ◌∙◌, subst, arith, ◌-◌, take, drop, length-append, zero, suc, ◌∷◌, ◌++◌, replicate, pos, to_z, of_z, w64, ◌/◌, ◌^◌, min, true, cond, Option, Some, None, fold, option_map, ◌%◌, Ok, ⊎_elim, inr, slice_get, ◌⊎◌, inl, ◌||◌, Result, is_ok, ◌≤ℤ◌, FitsSigned, Err, drop-cons, nat_eq, SFits, rules, bit_at, w128, slice_get-get_or, get_or_from_slice_get, enumerate_from, range_with_len, length-take, length-map, get_or-map, get_or-append_right, get_or-drop, get_or_default, length-drop, ext_get_or, length-replicate, get_or-set_same, length-set, set-set, set-get_or, get_or-set_other, take_more, take_all, take-set-le, get_or-take, same_lists, take-map, get_or_past, get_or_read, sum_by_more, sum_by-cons, fold-append, sum_by-take-le, sum_by_more_le, ints, to_z-of_z, Each1-replicate, Each1, map-range_with_len_more, length-enumerate_from, get_or-enumerate_from, length-range_with_len, IfSome, count_by, if◌then◌else◌, ◌==◌, OnOk, ⊤, IsSomeAnd, slice_set, fold-map, cases_eq, cases_lt, cases_Bool, or_right, lt-leb, le-leb, or_left, eq-eqb, or_cases, pow_pos, div-add-mod', mod-mul-add, mod_below, row_fits, le-div, mul-le, mul-mod_left, Fits-of_z, drop-length, option_or, option_copied, fun_ext, common_steps}
 pub use Rattle.std.proofs.Common.{div-mul-le_self, Bor}
 pub use Rattle.places.specs.declared.rule.PieceRule.{PieceRule}

@@ -1,6 +1,6 @@
 -- What is counted of accesses: each number is that of its entries in the log, or 2^64 - 1 where there are more.
 use Rattle.std.specs.Prelude.{◌≡◌, ℕ, ◌-◌, ◌/◌, ◌^◌, ◌<◌, ◌==◌, min, Bool, false, IfSome, List, [], length, slice_index, slice_index_or, count_by}
-use Rattle.views.specs.Words.{Owner, is_hot, LeafCounts, HeatCounts, granules_of}
+use Rattle.views.specs.Imports.{Owner, is_hot, LeafCounts, HeatCounts, granules_of}
 use Rattle.views.specs.Tallies.{Access, Read, Write, Tally}
 
 -- whether an access reads, or writes, a leaf

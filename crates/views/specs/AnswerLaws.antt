@@ -1,6 +1,6 @@
 -- What an answer to a store keeps.
 use Rattle.std.specs.Prelude.{◌≡◌, ℕ, suc, ◌+◌, ◌<◌, ◌≤◌, Bool, true, ℤ, pos, List, [], ◌∷◌, length, map, get_or, Result, Ok, Err, is_ok, refl, if◌then◌else◌}
-use Rattle.views.specs.Words.{sym, ap, ◌∙◌, subst, arith, enumerate_from, cases_lt, length-map, get_or_past, LeafType, leaves, kinds_of, Fields, Hold, entry, length-leaf_cells, leaf_cells, length-holds, hold_at, value_bits, kept, kept_again, wide_kept, StoreMode, Strict, Wrap}
+use Rattle.views.specs.Imports.{sym, ap, ◌∙◌, subst, arith, enumerate_from, cases_lt, length-map, get_or_past, LeafType, leaves, kinds_of, Fields, Hold, entry, length-leaf_cells, leaf_cells, length-holds, hold_at, value_bits, kept, kept_again, wide_kept, StoreMode, Strict, Wrap}
 use Rattle.views.specs.StrictLaws.{stored_fits, fitting_stored}
 use Rattle.views.specs.Stores.{Keeping, Stays, kind_at, store_answer, without_number, kept_or, kept_row, kept_rows}
 use Rattle.views.specs.Tables.{Table, IsTable, IsWide, kept_of, leaf_types_of, leaf_type_of, table_holds}

@@ -1,6 +1,6 @@
 -- The values of one leaf, row after row.
 use Rattle.std.specs.Prelude.{ℕ, zero, suc, ◌+◌, ◌<◌, ◌≤◌, ℤ, pos, List, [], ◌∷◌, map, slice_index_or, slice_set, Option, Some, None, Result, Ok, Err}
-use Rattle.views.specs.Words.{range_with_len, option_or, width_of}
+use Rattle.views.specs.Imports.{range_with_len, option_or, width_of}
 use Rattle.views.specs.Stores.{StoreAnswer}
 use Rattle.views.specs.Tables.{Table, leaf_count_of, leaf_type_of}
 use Rattle.views.specs.Tallies.{Access, Read, Write}

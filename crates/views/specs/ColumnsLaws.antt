@@ -1,6 +1,6 @@
 -- Rows in which a leaf has other values, one after another.
 use Rattle.std.specs.Prelude.{◌≡◌, ℕ, zero, suc, ◌+◌, ◌<◌, ◌≤◌, List, [], ◌∷◌, length, take, set, get_or, ℤ, pos, refl}
-use Rattle.views.specs.Words.{sym, ap, arith, get_or-set_same, get_or-set_other, entry, with_entry}
+use Rattle.views.specs.Imports.{sym, ap, arith, get_or-set_same, get_or-set_other, entry, with_entry}
 use Rattle.views.specs.Columns.{with_column}
 
 -- no value, and one more

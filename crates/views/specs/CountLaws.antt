@@ -1,6 +1,6 @@
 -- The counts of a view: what accesses leave of their form, and where they leave all.
 use Rattle.std.specs.Prelude.{◌≡◌, ℕ, ◌+◌, ◌*◌, ◌/◌, ◌%◌, ◌<◌, ◌≤◌, false, List, [], ◌∷◌, length, get_or, map, All, Option, Some, None, refl, Bool, is_some, option_map, IfSome, if◌then◌else◌}
-use Rattle.views.specs.Words.{sym, ap, ◌∙◌, arith, enumerate_from, true≢false, length-map, length-set, length-replicate, get_or-map, mul_assoc, Term, has_count, granule_of, is_counted, Piece, Owner, IsPiece, is_hot, Counts, Heats, leaf_counts, heat_counts, no_counts, no_heat, LeafCounts, HeatCounts, granules_of, warmed_blob, HasLeaves, IsInside, length-warmed_blob, bytes-in_granules}
+use Rattle.views.specs.Imports.{sym, ap, ◌∙◌, arith, enumerate_from, true≢false, length-map, length-set, length-replicate, get_or-map, mul_assoc, Term, has_count, granule_of, is_counted, Piece, Owner, IsPiece, is_hot, Counts, Heats, leaf_counts, heat_counts, no_counts, no_heat, LeafCounts, HeatCounts, granules_of, warmed_blob, HasLeaves, IsInside, length-warmed_blob, bytes-in_granules}
 use Rattle.views.specs.Tallies.{Access, Tally, counts_touched, heat_touched, after_access, tallied, no_tally, blob_lengths}
 use Rattle.views.specs.Inner.Repeated.{leaf_raised, granules_raised}
 use Rattle.views.specs.ViewFields.{HasGranules, IsTallied, tally_of}

@@ -1,6 +1,6 @@
 -- The slots of two mappings that lay out arrays, and how they are cut.
 use Rattle.std.specs.Prelude.{◌≡◌, ℕ, ◌+◌, ◌%◌, ◌≤◌, List, sum_by, Option, Some, None, option_map, refl, IfSome, IsSomeAnd}
-use Rattle.views.specs.Words.{subst, range_with_len, arith, Order, slot_count, Term, array_of, lanes_in, slots_in, AreRuns, ArraySlots}
+use Rattle.views.specs.Imports.{subst, range_with_len, arith, Order, slot_count, Term, array_of, lanes_in, slots_in, AreRuns, ArraySlots}
 use Rattle.views.specs.Moves.{IsInBlock}
 use Rattle.views.specs.Pieces.{piece_at, slot_steps, move_steps, HasSlots}
 

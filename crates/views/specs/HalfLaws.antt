@@ -1,6 +1,6 @@
 -- A list of which the front is new.
 use Rattle.std.specs.Prelude.{◌≡◌, ℕ, ◌+◌, ◌-◌, ◌<◌, ◌≤◌, List, [], ◌∷◌, ◌++◌, length, take, drop, get_or, set}
-use Rattle.views.specs.Words.{append_assoc, append-nil, sym, ap, ◌∙◌, arith, take_all, drop_all, take_more, drop_more, length-take, set-append_right}
+use Rattle.views.specs.Imports.{append_assoc, append-nil, sym, ap, ◌∙◌, arith, take_all, drop_all, take_more, drop_more, length-take, set-append_right}
 
 abbrev pub half : {A : Type 0} → List A → List A → ℕ → List A
 half new old n = take n new ++ drop n old

@@ -1,6 +1,6 @@
 -- Many rows of one leaf at once.
 use Rattle.std.specs.Prelude.{ℕ, ◌+◌, ◌≡◌, ◌<◌, ◌≤◌, ℤ, pos, List, map, take, drop, nat_le, Option, Some, None, Result, Ok, Err, if◌then◌else◌}
-use Rattle.views.specs.Words.{cast_unsigned, div_ceil, width_of, IsDeclared, LeafType, U64, hold_at, entry}
+use Rattle.views.specs.Imports.{cast_unsigned, div_ceil, width_of, IsDeclared, LeafType, U64, hold_at, entry}
 use mir.Syntax.{w64}
 use Rattle.views.specs.Columns.{column, column_writes, with_column, first_lane_fault}
 use Rattle.views.specs.Stores.{Fits}

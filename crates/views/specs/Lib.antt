@@ -23,4 +23,4 @@ pub mod LeafRuns
 pub mod RunsLaws
 pub mod Inner
 pub mod Prelude
-pub mod Words
+pub mod Imports

@@ -1,6 +1,6 @@
 -- What a table is after bytes were moved from another, and what that takes.
 use Rattle.std.specs.Prelude.{ℕ, ℤ, ◌≡◌, ◌+◌, ◌%◌, ◌/◌, ◌<◌, ◌≤◌, ⊤, List, length, sum_by, IfSome}
-use Rattle.views.specs.Words.{Order, slot_at, slot_count, width_of, is_signed, LeafType, entry, Owner, Hold, hold_at, kind_at, StoreMode, Strict, Wrap, blocks, Term, array_of, lanes_in}
+use Rattle.views.specs.Imports.{Order, slot_at, slot_count, width_of, is_signed, LeafType, entry, Owner, Hold, hold_at, kind_at, StoreMode, Strict, Wrap, blocks, Term, array_of, lanes_in}
 
 -- the blocks of at most 64 bytes that all blobs of a layout are
 abbrev pub blob_steps : List (List Owner) → ℕ

@@ -1,6 +1,6 @@
 -- The table and the padding after a run was moved.
 use Rattle.std.specs.Prelude.{◌≡◌, ℕ, ◌*◌, ◌<◌, ◌≤◌, false, ℤ, List, map, length, Option, IfSome, IsSomeAnd}
-use Rattle.views.specs.Words.{ap, ◌∙◌, subst, get_or-map, arith, is_signed, kinds_of, Fields, LeafType, indices, Order, full_holds, hold_of, Owner, IsLaidOut, Cell, Hold, Term, leaf_cells_kinds, holds_by_kind, leaf_cells, holds_by, array_of, AreLaid, table_in, hold_at, AreMoved, moved_laid, moved_entry, kept_entry, declared, kept_in, own_sign_held, fitting_stays, IsSettled, IsArrayRun, array_holds, run_row, run_other, runs_alike, AreRuns, StoreMode, Strict, Wrap}
+use Rattle.views.specs.Imports.{ap, ◌∙◌, subst, get_or-map, arith, is_signed, kinds_of, Fields, LeafType, indices, Order, full_holds, hold_of, Owner, IsLaidOut, Cell, Hold, Term, leaf_cells_kinds, holds_by_kind, leaf_cells, holds_by, array_of, AreLaid, table_in, hold_at, AreMoved, moved_laid, moved_entry, kept_entry, declared, kept_in, own_sign_held, fitting_stays, IsSettled, IsArrayRun, array_holds, run_row, run_other, runs_alike, AreRuns, StoreMode, Strict, Wrap}
 use Rattle.views.specs.Moves.{IsOwn, MayMove, IsRunMoved}
 use Rattle.views.specs.Stores.{Stays, kind_at}
 use Rattle.views.specs.Tables.{Table}

@@ -1,6 +1,6 @@
 -- The order of accesses carries no meaning: what is counted of some is counted of them in any order.
 use Rattle.std.specs.Prelude.{◌≡◌, ℕ, zero, suc, ◌+◌, Bool, List, [], ◌∷◌, ◌++◌, map, refl, Option, option_map, if◌then◌else◌}
-use Rattle.views.specs.Words.{append_assoc, ap, sym, ◌∙◌, flat_map, enumerate_from, append-nil, flat_map-cons, arith, fold, Owner, is_hot, LeafCounts, HeatCounts, counted, next, warmed_blob}
+use Rattle.views.specs.Imports.{append_assoc, ap, sym, ◌∙◌, flat_map, enumerate_from, append-nil, flat_map-cons, arith, fold, Owner, is_hot, LeafCounts, HeatCounts, counted, next, warmed_blob}
 use Rattle.views.specs.Tallies.{Access, Read, Write, Tally, counts_touched, heat_touched, after_access, tallied}
 use Rattle.views.specs.TallyLaws.{tallied-append}
 

@@ -1,6 +1,6 @@
 -- Slots that are cut into pieces, each of which lies in one block of either side, and bytes that are moved piece after piece.
 use Rattle.std.specs.Prelude.{ℕ, zero, suc, ◌≡◌, ◌+◌, ◌-◌, ◌*◌, ◌%◌, ◌<◌, ◌≤◌, ◌==◌, ◌||◌, Bool, true, min, List, sum_by, Option, Some, IfSome, if◌then◌else◌}
-use Rattle.views.specs.Words.{range_with_len, Order, slot_count, IsMoved, blocks, Term, array_of, lanes_in}
+use Rattle.views.specs.Imports.{range_with_len, Order, slot_count, IsMoved, blocks, Term, array_of, lanes_in}
 
 -- whether a piece begins at a slot, where slots are cut at the multiples of two numbers
 abbrev pub is_cut : ℕ → ℕ → ℕ → Bool

@@ -1,6 +1,6 @@
 -- Why no view was made.
 use Rattle.std.specs.Prelude.{ℕ, ◌≡◌, ◌*◌, ◌<◌, ◌^◌, ◌⊎◌, ⊤, List, Ok, Err, length, sum_by}
-use Rattle.views.specs.Words.{Fields, kinds_of, Term, leaf_cells, layout_by, accepted, IsTooBigFor, MakeMap, HeatFault}
+use Rattle.views.specs.Imports.{Fields, kinds_of, Term, leaf_cells, layout_by, accepted, IsTooBigFor, MakeMap, HeatFault}
 use Rattle.map_checks.specs.declared.fault.MakeMap.TheVariants as map
 use Rattle.instrument.specs.declared.heat.HeatFault.TheVariants as heat
 use Rattle.views.specs.Tallies.{granules_for}

@@ -1,6 +1,6 @@
 -- Lists that are gone through again and again, by steps of which any two may change places.
 use Rattle.std.specs.Prelude.{◌≡◌, ℕ, zero, suc, ◌+◌, ◌*◌, List, [], ◌∷◌, ◌++◌, map, replicate, refl}
-use Rattle.views.specs.Words.{append_assoc, add-one, ap, sym, ◌∙◌, arith, flat_map, range_with_len, append-nil, fold-append, fold-map, flat_map-cons, fold}
+use Rattle.views.specs.Imports.{append_assoc, add-one, ap, sym, ◌∙◌, arith, flat_map, range_with_len, append-nil, fold-append, fold-map, flat_map-cons, fold}
 use Rattle.views.specs.TallyLaws.{logs_more, accesses_more}
 
 -- a list so many times

@@ -1,6 +1,6 @@
 -- Values of a leaf and their low bits, and runs of rows.
 use Rattle.std.specs.Prelude.{◌≡◌, Bool, true, false, if◌then◌else◌, ℕ, ◌+◌, ◌-◌, ◌^◌, ◌<◌, ◌≤◌, ℤ, pos, neg_ℤ, ◌≤ℤ◌, ◌<ℤ◌, List, [], ◌∷◌, length, map, take, drop, get_or, zero, suc, FitsSigned, refl, nat_le}
-use Rattle.views.specs.Words.{⊎_elim, w64, sym, ap, ◌∙◌, subst, arith, div_ceil, cases_lt, div_ceil_times, of_z-to_z, length-map, length-take, length-drop, get_or-map, get_or-take, get_or-drop, width_of, IsDeclared, LeafType, low_64, IsWithin64, low_same, entry}
+use Rattle.views.specs.Imports.{⊎_elim, w64, sym, ap, ◌∙◌, subst, arith, div_ceil, cases_lt, div_ceil_times, of_z-to_z, length-map, length-take, length-drop, get_or-map, get_or-take, get_or-drop, width_of, IsDeclared, LeafType, low_64, IsWithin64, low_same, entry}
 use Rattle.record_dim.specs.declared.leaf_type.LeafType.TheVariants as kinds
 use Rattle.views.specs.Columns.{in_leaf, column, with_column}
 use Rattle.views.specs.ColumnsLaws.{column_there, column_stands}

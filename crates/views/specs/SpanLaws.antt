@@ -1,6 +1,6 @@
 -- Sums over numbers one after another.
 use Rattle.std.specs.Prelude.{◌≡◌, ℕ, zero, suc, ◌+◌, ◌-◌, ◌*◌, ◌<◌, ◌≤◌, List, [], ◌∷◌, ◌++◌, map, sum_by, refl}
-use Rattle.views.specs.Words.{sym, ap, ◌∙◌, arith, range_with_len, map-range_with_len_more, sum_by_push, sum_by-cons}
+use Rattle.views.specs.Imports.{sym, ap, ◌∙◌, arith, range_with_len, map-range_with_len_more, sum_by_push, sum_by-cons}
 
 range_more : (first n : ℕ) → range_with_len first (n + 1) ≡ range_with_len first n ++ (first + n) ∷ []
 range_more first n =

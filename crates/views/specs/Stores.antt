@@ -1,6 +1,6 @@
 -- Which values can be stored in a leaf, and what a store answers.
 use Rattle.std.specs.Prelude.{ℕ, ◌<◌, ◌&&◌, Bool, ℤ, int_le, List, length, map, if◌then◌else◌, Result, Ok, Err}
-use Rattle.views.specs.Words.{enumerate_from, LeafType, least_of, greatest_of, least_in, greatest_in, Hold, entry, hold_at, kept, StoreMode, Strict, Wrap}
+use Rattle.views.specs.Imports.{enumerate_from, LeafType, least_of, greatest_of, least_in, greatest_in, Hold, entry, hold_at, kept, StoreMode, Strict, Wrap}
 pub use Rattle.piece_bits.specs.Prelude.{kind_at, Fits, Stays}
 use Rattle.views.specs.declared.fault.StoreFault.{StoreFault}
 use Rattle.views.specs.declared.fault.StoreFault.TheVariants.{Range, Narrow}

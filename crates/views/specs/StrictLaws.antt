@@ -1,6 +1,6 @@
 -- What the answer to a store in a strict view says of the value.
 use Rattle.std.specs.Prelude.{◌≡◌, true, false, ℤ, ◌≤ℤ◌, Ok, Err, refl, int_le}
-use Rattle.views.specs.Words.{arith, ints, cases_Bool, and_parts, LeafType, least_of, greatest_of, least_in, greatest_in, IsIn, IsDeclared, Hold, Strict}
+use Rattle.views.specs.Imports.{arith, ints, cases_Bool, and_parts, LeafType, least_of, greatest_of, least_in, greatest_in, IsIn, IsDeclared, Hold, Strict}
 use Rattle.views.specs.Stores.{is_between, store_answer, Fits}
 use Rattle.views.specs.declared.fault.StoreFault.TheVariants.{Range, Narrow}
 

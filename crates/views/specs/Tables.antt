@@ -1,6 +1,6 @@
 -- What a view is to its callers: the leaves of a record, the extents of an array, how its records lie in memory, and a table of numbers.
 use Rattle.std.specs.Prelude.{ℕ, ◌≡◌, ◌<◌, ◌≤◌, ℤ, List, [], ◌∷◌, length, slice_index_or, Result}
-use Rattle.views.specs.Words.{indices, Fields, leaves, kinds_of, LeafType, Owner, image, Hold, Term, layout_by, holds_by, HasShape, hold_at, with_entry, value_bits, declared, IsSettled, StoreMode, Wrap}
+use Rattle.views.specs.Imports.{indices, Fields, leaves, kinds_of, LeafType, Owner, image, Hold, Term, layout_by, holds_by, HasShape, hold_at, with_entry, value_bits, declared, IsSettled, StoreMode, Wrap}
 use Rattle.views.specs.Stores.{Keeping, kind_at, store_answer, kept_by, AllStay}
 use Rattle.views.specs.Tallies.{Access, Read, Write, Tally, tallied}
 use Rattle.views.specs.declared.fault.StoreFault.{StoreFault}

@@ -1,6 +1,6 @@
 -- What is counted of the accesses to a view.
 use Rattle.std.specs.Prelude.{ℕ, ◌/◌, Bool, true, false, List, length, map, fold, ◌++◌, filter, Option, Some, None, option_map, if◌then◌else◌}
-use Rattle.views.specs.Words.{flat_map, range_with_len, Term, has_count, granule_of, Owner, is_hot, LeafCounts, HeatCounts, counted, warmed, no_counts, no_heat, granules_in}
+use Rattle.views.specs.Imports.{flat_map, range_with_len, Term, has_count, granule_of, Owner, is_hot, LeafCounts, HeatCounts, counted, warmed, no_counts, no_heat, granules_in}
 
 -- a leaf of a row is read or is written
 pub data Access : Type 0 where

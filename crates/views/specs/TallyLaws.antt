@@ -1,6 +1,6 @@
 -- Accesses one after another, and the logs of rows and leaves in order.
 use Rattle.std.specs.Prelude.{◌≡◌, ℕ, ◌+◌, ℤ, List, [], ◌∷◌, ◌++◌, map, refl, Option, Some, None, option_map}
-use Rattle.views.specs.Words.{ap, sym, ◌∙◌, arith, flat_map, range_with_len, append-nil, fold-append, flat_map-append, flat_map-cons, map-range_with_len_more, fold, Owner, LeafCounts, HeatCounts}
+use Rattle.views.specs.Imports.{ap, sym, ◌∙◌, arith, flat_map, range_with_len, append-nil, fold-append, flat_map-append, flat_map-cons, map-range_with_len_more, fold, Owner, LeafCounts, HeatCounts}
 use Rattle.views.specs.Tallies.{Access, Read, Tally, counts_touched, heat_touched, after_access, tallied}
 use Rattle.views.specs.Tables.{Table, owners_of, after_log, after_stores, after_read}
 

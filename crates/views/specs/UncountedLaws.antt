@@ -1,6 +1,6 @@
 -- What counters leave as it is.
 use Rattle.std.specs.Prelude.{◌≡◌, ℕ, List, refl}
-use Rattle.views.specs.Words.{◌∙◌, Fields, Cell, Term, Count, Heat, uncounted, layout_of, holds_of, most_slots}
+use Rattle.views.specs.Imports.{◌∙◌, Fields, Cell, Term, Count, Heat, uncounted, layout_of, holds_of, most_slots}
 
 -- what no counter changes is that of the expression without the counters at its top
 same_uncounted : {A : Type 0} (f : Term → A) → ((inner : Term) → f inner ≡ f (Count inner)) → ((granule : ℕ) (inner : Term) → f inner ≡ f (Heat granule inner))

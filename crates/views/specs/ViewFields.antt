@@ -1,6 +1,6 @@
 -- What the type of a view keeps of its fields.
 use Rattle.std.specs.Prelude.{ℕ, ℤ, ◌≡◌, List, length, map, Option, option_map, is_some, IfSome}
-use Rattle.views.specs.Words.{indices, Fields, is_signed, kinds_of, Owner, IsLaidOut, Cell, Hold, Term, leaf_cells, layout_by, holds_by, IsTooBigFor, has_count, granule_of, AreLaid, hold_at, table_in, kind_at, declared_table, AllSettled, HeatCounts, leaf_counts, heat_counts, granules_of, HasLeaves, Counts, StoreMode}
+use Rattle.views.specs.Imports.{indices, Fields, is_signed, kinds_of, Owner, IsLaidOut, Cell, Hold, Term, leaf_cells, layout_by, holds_by, IsTooBigFor, has_count, granule_of, AreLaid, hold_at, table_in, kind_at, declared_table, AllSettled, HeatCounts, leaf_counts, heat_counts, granules_of, HasLeaves, Counts, StoreMode}
 use Rattle.instrument.specs.declared.heat.Heat.{Heat}
 use Rattle.views.specs.Tallies.{Tally, blob_lengths}
 

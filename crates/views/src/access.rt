@@ -1,5 +1,5 @@
 ghost use Rattle.std.specs.Prelude.{◌≡◌, ◌<◌, true, false, is_some, IfSome, length};
-ghost use Rattle.views.specs.Words.{IsIn, entry, is_counted, term_of_map, AreLaid, hold_at, table_in, with_entry};
+ghost use Rattle.views.specs.Imports.{IsIn, entry, is_counted, term_of_map, AreLaid, hold_at, table_in, with_entry};
 ghost use Rattle.views.specs.ViewFields.{HasSign};
 
 use crate::view::BlobList;

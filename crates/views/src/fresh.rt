@@ -1,5 +1,5 @@
 ghost use Rattle.std.specs.Prelude.{ℕ, ◌≡◌, ◌*◌, ◌<◌, ◌≤◌, ◌^◌, nat_le, length, sum_by, Some, None, IfOk, OnOk, IsErrOf, IfSome, option_map, if◌then◌else◌};
-ghost use Rattle.views.specs.Words.{bit_in, AreLaid, leaf_counts, heat_counts, no_counts, no_heat, term_of, bad_number, has_count, granule_of};
+ghost use Rattle.views.specs.Imports.{bit_in, AreLaid, leaf_counts, heat_counts, no_counts, no_heat, term_of, bad_number, has_count, granule_of};
 ghost use Rattle.views.specs.Tallies.{blob_lengths, granules_for};
 
 use crate::view::BlobList;

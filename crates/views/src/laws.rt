@@ -1,6 +1,6 @@
 // Laws that do nothing when they run.
 ghost use Rattle.std.specs.Prelude.{◌≡◌, ℕ, List, length};
-ghost use Rattle.views.specs.Words.{Term, Owner};
+ghost use Rattle.views.specs.Imports.{Term, Owner};
 ghost use Rattle.views.specs.AccessEntries.{AreEntries};
 ghost use Rattle.views.specs.Tables.{IsTable, leaf_types_of, table_holds};
 ghost use Rattle.views.specs.Tallies.{Access, tallied, no_tally};

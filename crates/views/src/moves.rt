@@ -1,6 +1,6 @@
 // Bytes that are moved from the blobs of one view to those of another.
 ghost use Rattle.std.specs.Prelude.{◌≡◌, ◌+◌, ◌*◌, ◌<◌, ◌≤◌, [], length, map, slice_index_or, sum_by};
-ghost use Rattle.views.specs.Words.{blocks, AreMoved};
+ghost use Rattle.views.specs.Imports.{blocks, AreMoved};
 
 use crate::view::BlobList;
 use blobs::{Blob, move_bytes};

@@ -1,6 +1,6 @@
 // Slots that are cut at the edges of the blocks of two views, and bytes that are moved piece after piece.
 ghost use Rattle.std.specs.Prelude.{ℕ, ◌≡◌, ◌+◌, ◌*◌, ◌<◌, ◌≤◌, [], length, slice_index_or, slice_set};
-ghost use Rattle.views.specs.Words.{blocks};
+ghost use Rattle.views.specs.Imports.{blocks};
 ghost use Rattle.views.specs.Pieces.{ArePieces, IsMovedEach};
 
 use crate::view::BlobList;

@@ -1,5 +1,5 @@
 ghost use Rattle.std.specs.Prelude.{◌≡◌, ◌+◌, ◌<◌, OnOk, OnErr, length};
-ghost use Rattle.views.specs.Words.{entry, IsDeclared};
+ghost use Rattle.views.specs.Imports.{entry, IsDeclared};
 ghost use Rattle.views.specs.Stores.{without_number};
 ghost use Rattle.views.specs.Tables.{leaf_count_of, leaf_type_of, answer_of, after_read, after_write};
 

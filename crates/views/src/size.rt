@@ -1,6 +1,6 @@
 // What a view would take.
 ghost use Rattle.std.specs.Prelude.{◌≡◌, ◌≤◌, ◌*◌, ◌^◌, length, sum_by, IfOk, OnOk, IfErr, Ok};
-ghost use Rattle.views.specs.Words.{kinds_of, schema_fields, term_of, leaf_cells, layout_by, accepted, IsBuiltTerm};
+ghost use Rattle.views.specs.Imports.{kinds_of, schema_fields, term_of, leaf_cells, layout_by, accepted, IsBuiltTerm};
 ghost use Rattle.views.specs.Refusals.{IsOverLimits, IsNoView};
 
 use crate::fault::MakeView;

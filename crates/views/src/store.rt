@@ -1,5 +1,5 @@
 ghost use Rattle.std.specs.Prelude.{ℕ, ◌≡◌, ◌≤◌};
-ghost use Rattle.views.specs.Words.{Strict};
+ghost use Rattle.views.specs.Imports.{Strict};
 ghost use Rattle.views.specs.Stores.{is_between, store_answer, without_number};
 
 use crate::fault::StoreFault;

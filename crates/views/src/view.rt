@@ -1,5 +1,5 @@
 ghost use Rattle.std.specs.Prelude.{ℕ, ◌≡◌, ◌+◌, ◌*◌, ◌^◌, ◌<◌, ◌≤◌, IfOk, OnOk, IfErr, OnErr, IfSome, Ok, List, true, false, is_some, option_map, length, sum_by};
-ghost use Rattle.views.specs.Words.{indices, term_of, leaf_cells, layout_by, accepted, IsBuiltTerm, has_count, granule_of, is_counted, leaf_counts, heat_counts, HasLeaves, entry, bits_of, zeros, with_entry};
+ghost use Rattle.views.specs.Imports.{indices, term_of, leaf_cells, layout_by, accepted, IsBuiltTerm, has_count, granule_of, is_counted, leaf_counts, heat_counts, HasLeaves, entry, bits_of, zeros, with_entry};
 ghost use Rattle.views.specs.Tallies.{Access, no_tally};
 
 use crate::access::{near_write, read_by_rule, short_read, short_write, wide_read, write_by_rule};

@@ -1,5 +1,5 @@
 -- What the proofs of this crate speak of.
-pub use Rattle.worlds.specs.Words.{first_text, step_text, path_text_of, PathStep}
+pub use Rattle.worlds.specs.Imports.{first_text, step_text, path_text_of, PathStep}
 pub use Rattle.record_dim.specs.Std.{◌≡◌, ℕ, ◌+◌, ◌-◌, ◌<◌, ⊎_elim, Bool, true, false, not, cond, List, [], ◌∷◌, length, take, drop, ap, ◌∙◌, sym, refl, arith, ◌≤◌, inl, inr, ◌++◌, Option, None, Some, Result, Ok, Err, subst, append_assoc, length-append, ◌^◌, get_or, rules, tests, IsErr, slice_split, onto_first, position_or_len, cases_Bool, take_rest, append-nil, take-append-le, slice_split_first, slice_split-cons_no, slice_split-cons_yes, nat_tests, ⊤, ◌⊎◌, codes}
 pub use Rattle.std.proofs.Common.{flat_map}
 pub use Rattle.layout_io.specs.Prelude.{with_bytes, Wrote, Writes, joined, Wrote-append, Stopped-second, with_bytes-append, Writes-last, take_past, Stopped-front, Writes-err, digits_text, decimal-digits_text, Gathers, Puts, HasPut, Gathers-start, Writes-puts_err, Puts-stop, Puts-stopped, Puts-append, Puts-second, Puts-loop_err, File}

@@ -1,6 +1,6 @@
 -- `update V where .. set .. = .., .. actors [..] schedule S turns N` shares the rows of an update out among actors.
 use Rattle.std.specs.Prelude.{◌^◌, ◌&&◌}
-use Rattle.worlds.specs.Words.{ℕ, Bool, not, nat_le, nat_lt, List, [], length, flat_map, Option, Ok, Value, Assignment, bytes_text, Table, owners_of, reads_first, updated_of, update_log, Place, are_cuts, actor_of, shared_byte, written_by}
+use Rattle.worlds.specs.Imports.{ℕ, Bool, not, nat_le, nat_lt, List, [], length, flat_map, Option, Ok, Value, Assignment, bytes_text, Table, owners_of, reads_first, updated_of, update_log, Place, are_cuts, actor_of, shared_byte, written_by}
 use Rattle.worlds.specs.OnView.{Done}
 use Rattle.worlds.specs.Outcomes.{Tested, ◌>>=◌, refused_if, refused_by, ok_or}
 use Rattle.worlds.specs.Names.{bound_filter, bound_sets, each_once, leaves_of}

@@ -1,6 +1,6 @@
 -- `advise V granule G pass .. times N .. among .. splits` writes what mappings cost for some passes, and the cheapest of them.
 use Rattle.std.specs.Prelude.{◌∷◌, ◌++◌}
-use Rattle.worlds.specs.Words.{ℕ, Bool, nat_lt, is_some, List, [], length, codes, Option, Some, None, Ok, range_with_len, enumerate_from, AdviseFault, Pass, comma_line, digits_text, joined, PassText, map_tokens, with_tokens_behind, bad_granule, MapTerm, PathStep, leaves_of, node_of, leaves_before, Fields, Record, Table, leaf_count_of, Read, all_accesses}
+use Rattle.worlds.specs.Imports.{ℕ, Bool, nat_lt, is_some, List, [], length, codes, Option, Some, None, Ok, range_with_len, enumerate_from, AdviseFault, Pass, comma_line, digits_text, joined, PassText, map_tokens, with_tokens_behind, bad_granule, MapTerm, PathStep, leaves_of, node_of, leaves_before, Fields, Record, Table, leaf_count_of, Read, all_accesses}
 use Rattle.record_dim.specs.Std.{flat_map}
 use Rattle.advisor.specs.Advice.{Advised, advice}
 use Rattle.advisor.specs.declared.advice.AdviseFault.TheVariants as cause

@@ -1,6 +1,6 @@
 -- What an answer to a line says of its outcome, and of what was read and written.
 use Rattle.std.specs.Prelude.{◌≡◌, ◌≤◌, ◌⊎◌}
-use Rattle.worlds.specs.Words.{ℕ, Bool, true, false, List, [], length, take, Option, IsSome, IsSomeAnd, Result, Ok, Err, Rose, File, with_bytes, Wrote, Stopped}
+use Rattle.worlds.specs.Imports.{ℕ, Bool, true, false, List, [], length, take, Option, IsSome, IsSomeAnd, Result, Ok, Err, Rose, File, with_bytes, Wrote, Stopped}
 use Rattle.worlds.specs.Outcomes.{Outcome, Faults, CannotRead, LeftOf}
 use Rattle.worlds.specs.declared.fault.CommandFault.{CommandFault}
 

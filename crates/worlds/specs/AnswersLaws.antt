@@ -1,6 +1,6 @@
 -- Answers whose outcome is said otherwise.
 use Rattle.std.specs.Prelude.{◌≡◌}
-use Rattle.worlds.specs.Words.{ℕ, Bool, List, Option, Result, ⊎_elim}
+use Rattle.worlds.specs.Imports.{ℕ, Bool, List, Option, Result, ⊎_elim}
 use Rattle.worlds.specs.Outcomes.{Outcome, LeftOf}
 use Rattle.worlds.specs.Answers.{Ending, EndsBy, StepsTo}
 use Rattle.std.proofs.Common.{arith}

@@ -1,6 +1,6 @@
 -- `set V[..].path = ..` stores a value in one row.
 use Rattle.std.specs.Prelude.{◌∷◌, ◌++◌}
-use Rattle.worlds.specs.Words.{ℕ, List, [], not, nat_eq, length, Ok, list_any, pointwise, slice_index_or, indices, place_in, Value, with_entry, PathStep, value_log, Write, Table}
+use Rattle.worlds.specs.Imports.{ℕ, List, [], not, nat_eq, length, Ok, list_any, pointwise, slice_index_or, indices, place_in, Value, with_entry, PathStep, value_log, Write, Table}
 use Rattle.worlds.specs.OnView.{Done, stores}
 use Rattle.worlds.specs.Outcomes.{Tested, ◌>>=◌, refused_if}
 use Rattle.worlds.specs.Names.{leaf_of, bound}

@@ -1,6 +1,6 @@
 -- `copy V to W` makes the table of W what W keeps of that of V, and `relayout V as ..` lays a table out anew.
 use Rattle.std.specs.Prelude.{◌&&◌}
-use Rattle.worlds.specs.Words.{ℕ, ℤ, Bool, true, false, not, nat_eq, List, length, Result, Ok, pointwise, Tree, Fields, Single, Record, Array, End, Field, kind_number, MapTerm, refused_at, Read, Write, all_accesses, Table, leaf_count_of, after_log, after_stores, answer_of, kept_of, kept_rows}
+use Rattle.worlds.specs.Imports.{ℕ, ℤ, Bool, true, false, not, nat_eq, List, length, Result, Ok, pointwise, Tree, Fields, Single, Record, Array, End, Field, kind_number, MapTerm, refused_at, Read, Write, all_accesses, Table, leaf_count_of, after_log, after_stores, answer_of, kept_of, kept_rows}
 use Rattle.worlds.specs.Worlds.{World, Entry}
 use Rattle.worlds.specs.Outcomes.{Tested, ◌>>=◌, Left, quiet, known, refused_if, refused_by}
 use Rattle.worlds.specs.Names.{nameless}

@@ -1,5 +1,5 @@
 -- `record P { .. }` names a record.
-use Rattle.worlds.specs.Words.{ℕ, List, Ok, Tree, Record, Fields, End, record_fault}
+use Rattle.worlds.specs.Imports.{ℕ, List, Ok, Tree, Record, Fields, End, record_fault}
 use Rattle.worlds.specs.Worlds.{World, added}
 use Rattle.worlds.specs.Outcomes.{Tested, ◌>>=◌, Left, quiet, free, refused_by}
 use Rattle.worlds.specs.declared.fault.CommandFault.TheVariants.{BadRecord}

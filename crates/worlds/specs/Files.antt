@@ -1,6 +1,6 @@
 -- `save V` writes a table as the bytes of one file, and `open V from "F"` makes a table of such bytes.
 use Rattle.std.specs.Prelude.{◌+◌, ◌*◌, ◌^◌, ◌||◌}
-use Rattle.worlds.specs.Words.{ℕ, Bool, List, length, nat_lt, Ok, File, Table, header_of, blobs_of, opened, table_of_saved, FileFault}
+use Rattle.worlds.specs.Imports.{ℕ, Bool, List, length, nat_lt, Ok, File, Table, header_of, blobs_of, opened, table_of_saved, FileFault}
 use Rattle.blob_file.specs.Files.{record_text, view_text, file_of}
 use Rattle.blob_file.specs.declared.fault.FileFault.TheVariants as cause
 use Rattle.worlds.specs.Worlds.{World, Entry}

@@ -1,6 +1,6 @@
 -- The run over the lines of a script, from a world.
 use Rattle.std.specs.Prelude.{◌+◌, ◌==◌, ◌∷◌, ◌++◌}
-use Rattle.worlds.specs.Words.{ℕ, Bool, false, List, [], Option, None, Some, Ok, Err}
+use Rattle.worlds.specs.Imports.{ℕ, Bool, false, List, [], Option, None, Some, Ok, Err}
 use Rattle.worlds.specs.Worlds.{World}
 use Rattle.worlds.specs.Outcomes.{Outcome, Fault, Unread as NotRead, Left}
 use Rattle.worlds.specs.FaultTexts.{fault_text, unread_text}

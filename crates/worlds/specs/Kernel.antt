@@ -1,6 +1,6 @@
 -- `kernel V .. lanes N` runs a kernel over the rows of a table, and writes the number of those that give one.
 use Rattle.std.specs.Prelude.{◌^◌, ◌&&◌, ◌||◌, ◌∷◌}
-use Rattle.worlds.specs.Words.{ℕ, Bool, true, not, ℤ, pos, neg_ℤ, int_le, int_lt, nat_eq, nat_lt, List, [], length, Option, Some, None, Ok, list_any, BinOp, PathStep, width_of, kinds_of, Fields, kind_at, Table, answer_of, kept_of, KernelText, KernelFault, Kernel, Axpy, Clamp, Sum, Least, Greatest, CountWhere, Compare, Eq, Ne, Lt, Le, Gt, Ge, kernel_rows_log}
+use Rattle.worlds.specs.Imports.{ℕ, Bool, true, not, ℤ, pos, neg_ℤ, int_le, int_lt, nat_eq, nat_lt, List, [], length, Option, Some, None, Ok, list_any, BinOp, PathStep, width_of, kinds_of, Fields, kind_at, Table, answer_of, kept_of, KernelText, KernelFault, Kernel, Axpy, Clamp, Sum, Least, Greatest, CountWhere, Compare, Eq, Ne, Lt, Le, Gt, Ge, kernel_rows_log}
 use Rattle.expr_lang.specs.declared.expr.BinOp.TheVariants as op
 use Rattle.line_grammar.specs.declared.line.KernelText.TheVariants as text
 use Rattle.lane_kernels.specs.declared.fault.KernelFault.TheVariants as kernel_fault

@@ -31,4 +31,4 @@ pub mod Lines
 pub mod Fold
 pub mod Inner
 pub mod Prelude
-pub mod Words
+pub mod Imports

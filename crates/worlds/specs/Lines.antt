@@ -1,6 +1,6 @@
 -- The lines of a script.
 use Rattle.std.specs.Prelude.{◌-◌, ◌==◌, ◌∷◌, slice_index_or, if◌then◌else◌}
-use Rattle.worlds.specs.Words.{ℕ, Bool, List, [], map, length, take, slice_split}
+use Rattle.worlds.specs.Imports.{ℕ, Bool, List, [], map, length, take, slice_split}
 
 abbrev pub is_line_end : ℕ → Bool
 is_line_end byte = byte == 10

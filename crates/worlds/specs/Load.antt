@@ -1,6 +1,6 @@
 -- `load V : P [..] as .. from "F"` makes a table of what it keeps of the values of a dataset.
 use Rattle.std.specs.Prelude.{◌^◌, if◌then◌else◌}
-use Rattle.worlds.specs.Words.{ℕ, Bool, List, length, Option, Some, None, nat_lt, Result, Ok, ExtentWord, File, file_named, New, csv_records, records_behind, dataset_of, Write, all_accesses, Table, leaf_count_of, after_stores}
+use Rattle.worlds.specs.Imports.{ℕ, Bool, List, length, Option, Some, None, nat_lt, Result, Ok, ExtentWord, File, file_named, New, csv_records, records_behind, dataset_of, Write, all_accesses, Table, leaf_count_of, after_stores}
 use Rattle.worlds.specs.Worlds.{World, Entry}
 use Rattle.worlds.specs.Outcomes.{Tested, CannotRead, ◌>>=◌, Left, quiet, refused_if, ok_or, Outcome, Goes, sure}
 use Rattle.worlds.specs.Wordings.{Wording, in_words}

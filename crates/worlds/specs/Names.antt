@@ -1,6 +1,6 @@
 -- The names, paths and indices of a command: the first that stands for nothing refuses it.
 use Rattle.std.specs.Prelude.{◌∷◌, ◌++◌, if◌then◌else◌}
-use Rattle.worlds.specs.Words.{ℕ, List, [], map, nat_eq, Option, Some, None, Ok, Err, list_any, slice_get, slice_index_or, PathStep, paths_of, texts_of, Fields, Term, leaf_number, numbered, unknowns, BindFault, Value, Assignment, MapTerm, Split, Byteswap, Bytesplit, Change, Count, Heat, Named, Setting}
+use Rattle.worlds.specs.Imports.{ℕ, List, [], map, nat_eq, Option, Some, None, Ok, Err, list_any, slice_get, slice_index_or, PathStep, paths_of, texts_of, Fields, Term, leaf_number, numbered, unknowns, BindFault, Value, Assignment, MapTerm, Split, Byteswap, Bytesplit, Change, Count, Heat, Named, Setting}
 use Rattle.expr_lang.specs.declared.fault.BindFault.TheVariants as bind
 use Rattle.worlds.specs.Worlds.{Entry}
 use Rattle.worlds.specs.Outcomes.{Tested, ◌>>=◌, known, some_or, refused_by}

@@ -1,5 +1,5 @@
 -- Commands that work on one view, by what each may see of its table and change in it.
-use Rattle.worlds.specs.Words.{ℕ, ℤ, List, [], Option, Some, None, Ok, Fields, StoreMode, Access, Table, after_stores}
+use Rattle.worlds.specs.Imports.{ℕ, ℤ, List, [], Option, Some, None, Ok, Fields, StoreMode, Access, Table, after_stores}
 use Rattle.worlds.specs.Worlds.{World, replaced}
 use Rattle.worlds.specs.Outcomes.{Tested, ◌>>=◌, LeftOf, Left, quiet, shows, known}
 

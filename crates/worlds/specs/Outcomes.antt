@@ -1,6 +1,6 @@
 -- What becomes of a command, and the tests that refuse it.
 use Rattle.std.specs.Prelude.{◌∷◌, if◌then◌else◌}
-use Rattle.worlds.specs.Words.{ℕ, Bool, List, [], Option, Some, None, Result, Ok, Err, is_some}
+use Rattle.worlds.specs.Imports.{ℕ, Bool, List, [], Option, Some, None, Result, Ok, Err, is_some}
 use Rattle.worlds.specs.Worlds.{World, Entry, found}
 use Rattle.worlds.specs.declared.fault.CommandFault.{CommandFault}
 use Rattle.worlds.specs.declared.fault.CommandFault.TheVariants.{Unknown, Taken}

@@ -1,5 +1,5 @@
 -- `reduce V sum|min|max path` and `reduce V count where ..` write one number of all rows.
-use Rattle.worlds.specs.Words.{ℕ, ℤ, pos, List, length, Ok, Value, ReduceKind, PathStep, column_reads, Access, reduced_by, Reduction, counted, count_log}
+use Rattle.worlds.specs.Imports.{ℕ, ℤ, pos, List, length, Ok, Value, ReduceKind, PathStep, column_reads, Access, reduced_by, Reduction, counted, count_log}
 use Rattle.line_grammar.specs.declared.line.ReduceKind.TheVariants.{Sum, Min, Max}
 pub use Rattle.views.specs.Prelude.{column}
 use Rattle.lane_kernels.specs.declared.reduce.Reduction.TheVariants as form

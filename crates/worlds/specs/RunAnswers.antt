@@ -1,6 +1,6 @@
 -- What each status says of the run: `run None` is the run where no read fails, `run (Some line)` the one where reading fails at this line.
 use Rattle.std.specs.Prelude.{◌≡◌, ◌<◌, ◌≤◌, ◌⊎◌, if◌then◌else◌}
-use Rattle.worlds.specs.Words.{ℕ, List, length, take, Option, None, Some, IsSome, Result, is_ok, Rose, File, with_bytes}
+use Rattle.worlds.specs.Imports.{ℕ, List, length, take, Option, None, Some, IsSome, Result, is_ok, Rose, File, with_bytes}
 use Rattle.worlds.specs.Outcome.{Output, Finished, Faulted, Misused, Unread, Gives, IsText}
 use Rattle.worlds.specs.declared.status.Status.{Status}
 use Rattle.worlds.specs.declared.status.Status.TheVariants.{Done, CommandFault, Usage, SourceFault, SinkFault, NoMemory}

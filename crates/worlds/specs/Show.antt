@@ -1,6 +1,6 @@
 -- `print V`, `counts V`, `heat V`, `layout V`, `bytes V B` and `drop V`.
 use Rattle.std.specs.Prelude.{◌*◌}
-use Rattle.worlds.specs.Words.{ℕ, List, [], length, nat_lt, nat_le, Ok, range_with_len, slice_index_or, Owner, image, Run, texts_of, leaves, runs_of, ShowKind, bytes_of, bytes_text, counts_text, heat_text, runs_text, Table, owners_of, all_accesses, Read, print_text}
+use Rattle.worlds.specs.Imports.{ℕ, List, [], length, nat_lt, nat_le, Ok, range_with_len, slice_index_or, Owner, image, Run, texts_of, leaves, runs_of, ShowKind, bytes_of, bytes_text, counts_text, heat_text, runs_text, Table, owners_of, all_accesses, Read, print_text}
 use Rattle.record_dim.specs.Std.{flat_map}
 use Rattle.line_grammar.specs.declared.line.ShowKind.TheVariants as show
 use Rattle.worlds.specs.Worlds.{World, removed}

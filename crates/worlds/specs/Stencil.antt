@@ -1,6 +1,6 @@
 -- `stencil V window [..] set path = (..) / D rounds N` sets a leaf in each row of a window to a sum over its neighbours, so many times.
 use Rattle.std.specs.Prelude.{◌+◌, ◌*◌, ◌^◌, ◌&&◌}
-use Rattle.worlds.specs.Words.{ℕ, Bool, not, nat_lt, pos, List, length, Ok, list_all, Span, TermText, PathStep, Fields, StencilFault, Weighted, Stencil, stenciled, rounds_log, reaches, is_weight, is_divisor, WindowOf, Table}
+use Rattle.worlds.specs.Imports.{ℕ, Bool, not, nat_lt, pos, List, length, Ok, list_all, Span, TermText, PathStep, Fields, StencilFault, Weighted, Stencil, stenciled, rounds_log, reaches, is_weight, is_divisor, WindowOf, Table}
 use Rattle.worlds.specs.OnView.{Done, stores}
 use Rattle.worlds.specs.Outcomes.{Tested, ◌>>=◌, each, refused_if, ok_or}
 use Rattle.worlds.specs.Names.{leaf_of, text_of_leaf}

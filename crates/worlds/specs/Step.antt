@@ -1,5 +1,5 @@
 -- What a line does to a world.
-use Rattle.worlds.specs.Words.{Bool, List, Option, Some, None, File}
+use Rattle.worlds.specs.Imports.{Bool, List, Option, Some, None, File}
 use Rattle.line_grammar.specs.Sentences as line
 use Rattle.worlds.specs.Worlds.{World}
 use Rattle.worlds.specs.Outcomes.{Tested, Outcome, Left, sure}

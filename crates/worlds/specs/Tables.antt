@@ -1,6 +1,6 @@
 -- New tables, and what refuses them.
 use Rattle.std.specs.Prelude.{◌+◌, ◌*◌, ◌^◌}
-use Rattle.worlds.specs.Words.{ℕ, List, length, sum_by, nat_lt, nat_le, Option, Ok, extents_for, bad_shape, bad_extents, ExtentWord, Fields, kinds_of, MapTerm, leaf_cells, most_slots, accepted, StoreMode, granules_for, Table, owners_of, empty_table, header_by}
+use Rattle.worlds.specs.Imports.{ℕ, List, length, sum_by, nat_lt, nat_le, Option, Ok, extents_for, bad_shape, bad_extents, ExtentWord, Fields, kinds_of, MapTerm, leaf_cells, most_slots, accepted, StoreMode, granules_for, Table, owners_of, empty_table, header_by}
 pub use Rattle.blob_file.specs.Opened.{mode_by}
 use Rattle.worlds.specs.Worlds.{Entry}
 use Rattle.worlds.specs.Outcomes.{Tested, ◌>>=◌, refused_if, refused_by, ok_or}

@@ -1,5 +1,5 @@
 -- `update V where .. set .. = .., ..` stores values in each row where the filter is not 0.
-use Rattle.worlds.specs.Words.{ℕ, List, [], length, Option, Ok, Value, Assignment, Fields, updated_rows, rows_log, UpdateFault, UpdateKind, Table, answer_of, kept_of}
+use Rattle.worlds.specs.Imports.{ℕ, List, [], length, Option, Ok, Value, Assignment, Fields, updated_rows, rows_log, UpdateFault, UpdateKind, Table, answer_of, kept_of}
 use Rattle.row_updates.specs.declared.fault.UpdateKind.TheVariants as kind
 use Rattle.worlds.specs.OnView.{Done, stores}
 use Rattle.worlds.specs.Outcomes.{Tested, ◌>>=◌, ok_or}

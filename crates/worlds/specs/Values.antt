@@ -1,5 +1,5 @@
 -- The values of expressions on the rows of a table, and what can be stored in a leaf.
-use Rattle.worlds.specs.Words.{ℕ, ℤ, List, Term, outcome_of, EvalFault, StoreFault, Table, answer_of}
+use Rattle.worlds.specs.Imports.{ℕ, ℤ, List, Term, outcome_of, EvalFault, StoreFault, Table, answer_of}
 use Rattle.expr_lang.specs.declared.fault.EvalFault.TheVariants as eval
 use Rattle.views.specs.declared.fault.StoreFault.TheVariants as store
 use Rattle.worlds.specs.Outcomes.{Tested, ok_or}

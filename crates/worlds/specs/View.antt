@@ -1,5 +1,5 @@
 -- `view V : P [..] as ..` makes a table of zeros.
-use Rattle.worlds.specs.Words.{ℕ, List, None, Result, Ok, Fields, MapTerm, New, StoreMode, Table}
+use Rattle.worlds.specs.Imports.{ℕ, List, None, Result, Ok, Fields, MapTerm, New, StoreMode, Table}
 use Rattle.worlds.specs.Worlds.{World, added}
 use Rattle.worlds.specs.Outcomes.{Tested, ◌>>=◌, Left, quiet, free, known}
 use Rattle.worlds.specs.Names.{nameless}

@@ -1,6 +1,6 @@
 -- `print V window [..]` writes the rows whose index a window holds.
 use Rattle.std.specs.Prelude.{◌&&◌, ◌∷◌}
-use Rattle.worlds.specs.Words.{ℕ, Bool, true, false, not, nat_le, List, [], length, Ok, print_text, Span, texts_of, leaves, WindowOf, sub_table, sub_reads}
+use Rattle.worlds.specs.Imports.{ℕ, Bool, true, false, not, nat_le, List, [], length, Ok, print_text, Span, texts_of, leaves, WindowOf, sub_table, sub_reads}
 use Rattle.worlds.specs.OnView.{Content, Told}
 use Rattle.worlds.specs.Outcomes.{Tested, ◌>>=◌, refused_if}
 use Rattle.worlds.specs.declared.fault.CommandFault.TheVariants.{BadWindow}

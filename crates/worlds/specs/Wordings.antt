@@ -1,5 +1,5 @@
 -- How it is said why a command is refused: in the words of a script, where a leaf is its path text, or as a caller of the library has it.
-use Rattle.worlds.specs.Words.{Result, RowFault, Spot, Fields}
+use Rattle.worlds.specs.Imports.{Result, RowFault, Spot, Fields}
 use Rattle.csv_rows.specs.declared.fault.RowFault.TheVariants as rows
 use Rattle.worlds.specs.Names.{text_of_leaf}
 use Rattle.worlds.specs.Outcomes.{Tested}

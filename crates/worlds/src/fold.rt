@@ -1,5 +1,5 @@
 ghost use Rattle.std.specs.Prelude.{◌≡◌, ◌+◌, ◌<◌, ◌^◌};
-ghost use Rattle.worlds.specs.Words.{ℕ, List, Some, Bool, IfOk, length, Rose, File};
+ghost use Rattle.worlds.specs.Imports.{ℕ, List, Some, Bool, IfOk, length, Rose, File};
 ghost use Rattle.worlds.specs.Worlds.{World};
 ghost use Rattle.worlds.specs.Outcomes.{Outcome, Left};
 ghost use Rattle.worlds.specs.RunAnswers.{IsRun, HasCause, ended_status};

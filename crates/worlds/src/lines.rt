@@ -1,5 +1,5 @@
 ghost use Rattle.std.specs.Prelude.{◌≡◌, ◌∷◌};
-ghost use Rattle.worlds.specs.Words.{[], codes, flat_map, digits_text, Puts, text_of_part, Writes};
+ghost use Rattle.worlds.specs.Imports.{[], codes, flat_map, digits_text, Puts, text_of_part, Writes};
 ghost use Rattle.worlds.specs.FaultTexts.{fault_text, unread_text};
 ghost use Rattle.worlds.specs.Inner.Details.{detail_text};
 

@@ -1,5 +1,5 @@
 // The text of a path.
-ghost use Rattle.worlds.specs.Words.{flat_map, Puts, first_text, step_text, path_text_of};
+ghost use Rattle.worlds.specs.Imports.{flat_map, Puts, first_text, step_text, path_text_of};
 
 use layout_io::{Failed, Part, Sink, TextBuffer};
 use record_dim::{Path, PathStep};

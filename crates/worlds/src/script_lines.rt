@@ -1,6 +1,6 @@
 // The lines of a script.
 ghost use Rattle.std.specs.Prelude.{◌≡◌, ◌<◌, ◌≤◌, ◌∷◌};
-ghost use Rattle.worlds.specs.Words.{⊤, [], length, MatchOption, position_or_len};
+ghost use Rattle.worlds.specs.Imports.{⊤, [], length, MatchOption, position_or_len};
 ghost use Rattle.worlds.specs.Lines.{lines_in, without_cr, is_line_end};
 
 /// The number of lines.

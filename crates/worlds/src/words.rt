@@ -1,6 +1,6 @@
 // The words of each fault.
 ghost use Rattle.std.specs.Prelude.{◌≡◌, ◌++◌};
-ghost use Rattle.worlds.specs.Words.{[], codes};
+ghost use Rattle.worlds.specs.Imports.{[], codes};
 ghost use Rattle.worlds.specs.FaultTexts.{fault_words, unknown_words, record_words, extents_words, mapping_words, kernel_fault_words, file_words, actors_words, stencil_words, advice_words};
 ghost use Rattle.worlds.specs.Inner.Details.{detail_text, place_text};
 

@@ -1,6 +1,6 @@
 -- The first byte from a place on that meets a test.
 use Rattle.std.specs.Prelude.{◌≡◌, ◌+◌, ◌*◌, ◌<◌, ◌⊎◌, List, [], ◌∷◌, Option, Some, None}
-use Rattle.actor_tasks.specs.Words.{Piece, Place}
+use Rattle.actor_tasks.specs.Imports.{Piece, Place}
 use Rattle.actor_tasks.specs.Places.{ComesFrom}
 
 -- a byte holds a bit of a piece

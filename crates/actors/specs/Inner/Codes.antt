@@ -1,6 +1,6 @@
 -- How the logic stores terms of bound expressions: a number for the case, then its parts.
 use Rattle.std.specs.Prelude.{◌≡◌, ℕ}
-use Rattle.actors.specs.Words.{ap, arith, Coded, coded_ℕ, coded_ℤ, head, tail, apart, Term, Number, Entry, Index, Neg, Not, Binary}
+use Rattle.actors.specs.Imports.{ap, arith, Coded, coded_ℕ, coded_ℤ, head, tail, apart, Term, Number, Entry, Index, Neg, Not, Binary}
 use base.Stored.{Gv, gnum, gcons}
 use Rattle.expr_lang.specs.contracts.expr.BinOp as op
 

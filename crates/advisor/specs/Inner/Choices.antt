@@ -1,6 +1,6 @@
 -- The cheapest of candidates that are marked.
 use Rattle.std.specs.Prelude.{ℕ, ◌≡◌, ◌<◌, ◌≤◌, Bool, true, false, nat_lt, List, All, map, slice_index_or, Option, Some, None}
-use Rattle.advisor.specs.Words.{Term, term_of}
+use Rattle.advisor.specs.Imports.{Term, term_of}
 use Rattle.advisor.specs.declared.candidate.Candidate.{Candidate}
 
 -- what each candidate costs, and one of such costs

@@ -1,6 +1,6 @@
 -- Slots that rows have, and the index of a slot on the Morton curve.
 use Rattle.std.specs.Prelude.{ℕ, zero, suc, ◌+◌, ◌-◌, ◌*◌, ◌/◌, ◌^◌, ◌<◌, ◌≤◌, Bool, List, length, is_some, slice_index_or}
-use Rattle.advisor.specs.Words.{bit_at, Order, row_at}
+use Rattle.advisor.specs.Imports.{bit_at, Order, row_at}
 
 -- a slot is that of a row
 abbrev pub has_row : Order → List ℕ → ℕ → Bool

@@ -1,6 +1,6 @@
 -- Candidates of the code, with what is known of each.
 use Rattle.std.specs.Prelude.{ℕ, ◌≡◌, List, All, length, map}
-use Rattle.advisor.specs.Words.{Term, term_of, holds_by, Table, leaf_count_of}
+use Rattle.advisor.specs.Imports.{Term, term_of, holds_by, Table, leaf_count_of}
 use Rattle.advisor.specs.declared.candidate.Candidate.{Candidate}
 use Rattle.advisor.specs.declared.pass.Pass.{Pass}
 use Rattle.advisor.specs.Advice.{cost_of}

@@ -1,6 +1,6 @@
 -- What a side of a split costs, and ways of storing.
 use Rattle.std.specs.Prelude.{ℕ, ◌≡◌, ◌≤◌, ◌^◌, List, [], length, slice_index_or, Option, Some, None, Ok}
-use Rattle.advisor.specs.Words.{Cell, Hold, Term, Named, layout_of, Table}
+use Rattle.advisor.specs.Imports.{Cell, Hold, Term, Named, layout_of, Table}
 use Rattle.advisor.specs.declared.pass.Pass.{Pass}
 use Rattle.advisor.specs.Judged.{judged}
 use Rattle.advisor.specs.Passes.{part_cost, leaves_in}

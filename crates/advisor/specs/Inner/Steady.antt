@@ -1,6 +1,6 @@
 -- Slots of a rule whose pieces follow each other closely, and the granules that they touch.
 use Rattle.std.specs.Prelude.{ℕ, ◌+◌, ◌-◌, ◌*◌, ◌<◌, ◌≤◌, ◌&&◌, Bool, List}
-use Rattle.advisor.specs.Words.{list_any, range_with_len, Order, is_in_granule, begin_in, piece_in, Piece, PieceRule}
+use Rattle.advisor.specs.Imports.{list_any, range_with_len, Order, is_in_granule, begin_in, piece_in, Piece, PieceRule}
 use Rattle.advisor.specs.Inner.Curve.{has_row}
 
 -- of so many slots from this one on each begins at most so many bits behind the one before it, and none before it

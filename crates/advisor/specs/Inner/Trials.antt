@@ -1,6 +1,6 @@
 -- Ways of storing leaves, each tried with the values of all rows.
 use Rattle.std.specs.Prelude.{ℕ, ◌≡◌, ◌<◌, ◌==◌, ◌&&◌, ◌||◌, Bool, true, not, ℤ, List, length, if◌then◌else◌}
-use Rattle.advisor.specs.Words.{list_any, list_all, flat_map, range_with_len, Fields, leaves, kinds_of, Hold, hold_at, kind_at, StoreMode, in_leaf, raised, Access, row_accesses}
+use Rattle.advisor.specs.Imports.{list_any, list_all, flat_map, range_with_len, Fields, leaves, kinds_of, Hold, hold_at, kind_at, StoreMode, in_leaf, raised, Access, row_accesses}
 use Rattle.advisor.specs.Inner.SideCosts.{IsHold}
 use Rattle.advisor.specs.Suits.{stays}
 use Rattle.advisor.specs.declared.trials.Trial.{Trial}

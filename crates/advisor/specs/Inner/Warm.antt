@@ -1,6 +1,6 @@
 -- Granules that were accessed.
 use Rattle.std.specs.Prelude.{ℕ, ◌≡◌, ◌<◌, ◌==◌, ◌||◌, Bool, not, [], length, slice_index_or}
-use Rattle.advisor.specs.Words.{HeatCounts}
+use Rattle.advisor.specs.Imports.{HeatCounts}
 
 -- a count that is not 0
 abbrev pub is_warm : ℕ → Bool

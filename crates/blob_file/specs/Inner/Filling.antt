@@ -1,6 +1,6 @@
 -- Raw numbers that the leaves of a view take, and the runs in which they are stored.
 use Rattle.std.specs.Prelude.{ℕ, ◌≡◌, ◌+◌, ◌<◌, ◌≤◌, true, ℤ, pos, List, length, take, drop, slice_index_or, is_ok}
-use Rattle.blob_file.specs.Words.{flat_map, range_with_len, entry, hold_at, column, column_writes, raised, kept_rows, Fits, Table, answer_of, kept_of, leaf_count_of, leaf_type_of, table_holds, Access}
+use Rattle.blob_file.specs.Imports.{flat_map, range_with_len, entry, hold_at, column, column_writes, raised, kept_rows, Fits, Table, answer_of, kept_of, leaf_count_of, leaf_type_of, table_holds, Access}
 
 -- a leaf takes its number of each of so many rows from one on
 abbrev pub IsTakenLeaf : ℕ → ℕ → ℕ → Table → List (List ℤ) → Type 0

@@ -1,5 +1,5 @@
 -- The fault of a file whose text is no line.
-use Rattle.blob_file.specs.Words.{LineFault, Syntax, TooDeep, NoMemory}
+use Rattle.blob_file.specs.Imports.{LineFault, Syntax, TooDeep, NoMemory}
 use Rattle.blob_file.specs.declared.fault.FileFault.{FileFault}
 use Rattle.blob_file.specs.declared.fault.FileFault.TheVariants as fault
 

@@ -1,6 +1,6 @@
 -- What the parts of a command say of it.
 use Rattle.std.specs.Prelude.{◌≡◌, ◌⊎◌}
-use Rattle.c_lines.specs.Words.{ℕ, ℤ, List, Ok, Err, StepFault, Line, Fields, ChangeFault, Table, HasRows, left_at, Done, done_to, Tested}
+use Rattle.c_lines.specs.Imports.{ℕ, ℤ, List, Ok, Err, StepFault, Line, Fields, ChangeFault, Table, HasRows, left_at, Done, done_to, Tested}
 use Rattle.command_checks.specs.declared.fault.StepFault.TheVariants as step
 use Rattle.line_grammar.specs.declared.line.Line.TheVariants as line
 use Rattle.view_commands.specs.declared.change.ChangeFault.TheVariants as change

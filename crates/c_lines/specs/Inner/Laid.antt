@@ -1,5 +1,5 @@
 -- A table that is laid out anew in a script that has nothing but its view.
-use Rattle.c_lines.specs.Words.{ℕ, ℤ, List, [], Option, Relayout, Term, Table, number_text, nameless, Tested, ◌>>=◌, made}
+use Rattle.c_lines.specs.Imports.{ℕ, ℤ, List, [], Option, Relayout, Term, Table, number_text, nameless, Tested, ◌>>=◌, made}
 use Rattle.c_lines.specs.Answers.{Answer}
 use Rattle.c_lines.specs.Commands.{Does, alone, numbered}
 

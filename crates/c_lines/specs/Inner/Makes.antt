@@ -1,5 +1,5 @@
 -- What the code has of two lines, as the model of scripts has it.
-use Rattle.c_lines.specs.Words.{ℕ, List, [], Option, ExtentWord, New, term_of, schema_fields, ◌>>=◌, made, resolved, Named, World, empty, added, Table}
+use Rattle.c_lines.specs.Imports.{ℕ, List, [], Option, ExtentWord, New, term_of, schema_fields, ◌>>=◌, made, resolved, Named, World, empty, added, Table}
 use Rattle.c_lines.specs.Lines as lines
 use Rattle.c_lines.specs.Answers.{Answer}
 use Rattle.c_lines.specs.Told.{told}

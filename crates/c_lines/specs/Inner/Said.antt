@@ -1,5 +1,5 @@
 -- What is said of a refusal, as its words.
-use Rattle.c_lines.specs.Words.{ℕ, List, fault_words}
+use Rattle.c_lines.specs.Imports.{ℕ, List, fault_words}
 use Rattle.c_lines.specs.declared.messages.Said.{Said}
 use Rattle.c_lines.specs.declared.messages.Said.TheVariants as said
 

@@ -1,5 +1,5 @@
 -- The refusal of a test of a command, as that of a call; the tests here neither read a file nor write.
-use Rattle.c_lines.specs.Words.{Result, StepFault, ok_or}
+use Rattle.c_lines.specs.Imports.{Result, StepFault, ok_or}
 use Rattle.command_checks.specs.declared.fault.StepFault.TheVariants as step
 use Rattle.c_lines.specs.Answers.{Answer}
 use Rattle.c_lines.specs.declared.refusal.Refusal.{Refusal}

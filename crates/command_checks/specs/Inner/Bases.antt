@@ -1,6 +1,6 @@
 -- Mappings without names, and the rows that words ask for.
 use Rattle.std.specs.Prelude.{Box, box_value, ℕ, nat_lt, count_by, List, Option, Some, unwrap_or, if◌then◌else◌}
-use Rattle.command_checks.specs.Words.{Global, is_rows, ExtentWord, MapExpr, MapTerm, Byteswap, Bytesplit, Change, Count, Heat, term_of}
+use Rattle.command_checks.specs.Imports.{Global, is_rows, ExtentWord, MapExpr, MapTerm, Byteswap, Bytesplit, Change, Count, Heat, term_of}
 pub use Rattle.blob_file.specs.Headers.{is_nameless}
 
 -- the mapping expression in a box

@@ -1,6 +1,6 @@
 -- What the answer of a test says of the outcome that the test has in the model.
 use Rattle.std.specs.Prelude.{◌≡◌, Result, Ok, Err}
-use Rattle.command_checks.specs.Words.{Tested}
+use Rattle.command_checks.specs.Imports.{Tested}
 use Rattle.command_checks.specs.declared.fault.StepFault.{StepFault}
 use Rattle.command_checks.specs.declared.fault.StepFault.TheVariants as fault
 

@@ -1,6 +1,6 @@
 -- What an adviser may be asked.
 use Rattle.std.specs.Prelude.{ℕ, ◌≡◌, ◌≤◌, All, length, map, None, true}
-use Rattle.command_checks.specs.Words.{bad_granule, term_of}
+use Rattle.command_checks.specs.Imports.{bad_granule, term_of}
 use Rattle.worlds.specs.Advise as advise
 use Rattle.command_checks.specs.Inner.Bases.{is_nameless}
 use Rattle.command_checks.specs.declared.advices.Question.{Question}

@@ -1,6 +1,6 @@
 -- Stencils that may be made on a table.
 use Rattle.std.specs.Prelude.{◌≡◌, ◌<◌, ◌≤◌, All, length}
-use Rattle.command_checks.specs.Words.{IsTermOf, stencil_by, Stencil, Table, leaf_count_of}
+use Rattle.command_checks.specs.Imports.{IsTermOf, stencil_by, Stencil, Table, leaf_count_of}
 use Rattle.command_checks.specs.declared.stencils.FitStencil.{FitStencil}
 
 -- the stencil of its parts

@@ -1,6 +1,6 @@
 -- Terms of a text that read known leaves.
 use Rattle.std.specs.Prelude.{ℕ, List, [], ◌∷◌}
-use Rattle.command_checks.specs.Words.{TermText, Weighted}
+use Rattle.command_checks.specs.Imports.{TermText, Weighted}
 
 -- a term of a text that reads this leaf, and terms that read these leaves
 abbrev pub placed_term : TermText → ℕ → Weighted

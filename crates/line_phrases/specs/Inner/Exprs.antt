@@ -1,5 +1,5 @@
 -- Expressions as they are read, and what is left of a chain behind a left side.
-use Rattle.line_phrases.specs.Words.{Box, box_value, Bool, Option, None, Some, is_some, Global, Grammar, Value, links, BinOp, Expr, Binary, term_of, Token}
+use Rattle.line_phrases.specs.Imports.{Box, box_value, Bool, Option, None, Some, is_some, Global, Grammar, Value, links, BinOp, Expr, Binary, term_of, Token}
 use Rattle.line_grammar.specs.Prelude.{joined}
 
 -- whether a token has a meaning

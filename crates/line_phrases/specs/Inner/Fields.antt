@@ -1,5 +1,5 @@
 -- Fields as they are read.
-use Rattle.line_phrases.specs.Words.{Box, box_value, ℕ, List, Global, Tree, tree_of}
+use Rattle.line_phrases.specs.Imports.{Box, box_value, ℕ, List, Global, Tree, tree_of}
 use Rattle.record_dim.specs.declared.dim.Field.{Field}
 
 -- the name and the tree of a field that was read

@@ -1,6 +1,6 @@
 -- What it says of a reader that it gives what reading tokens gives.
 use Rattle.std.specs.Prelude.{◌≡◌}
-use Rattle.line_phrases.specs.Words.{ℕ, ⊤, Result, Ok, Err}
+use Rattle.line_phrases.specs.Imports.{ℕ, ⊤, Result, Ok, Err}
 use Rattle.line_phrases.specs.declared.fault.ReadError.{ReadError}
 use Rattle.line_phrases.specs.declared.fault.ReadError.TheVariants as error
 

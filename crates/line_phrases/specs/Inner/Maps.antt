@@ -1,5 +1,5 @@
 -- Mappings as they are read.
-use Rattle.line_phrases.specs.Words.{Box, box_value, ℕ, List, Global, Order, FieldWidth, MapExpr, MapTerm, BitAos, BitSoa, Byteswap, Bytesplit, Count, MapWord}
+use Rattle.line_phrases.specs.Imports.{Box, box_value, ℕ, List, Global, Order, FieldWidth, MapExpr, MapTerm, BitAos, BitSoa, Byteswap, Bytesplit, Count, MapWord}
 use Rattle.map_expr.specs.Terms.{term_of}
 use Rattle.line_grammar.specs.declared.line.MapWord.TheVariants as form
 use Rattle.line_phrases.specs.declared.maps.BitForm.{BitForm}

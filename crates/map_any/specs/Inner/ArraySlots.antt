@@ -1,5 +1,5 @@
 -- The slots of mappings that lay out arrays.
-use Rattle.map_any.specs.Words.{ℕ, List, Option, Order, slot_count, lanes_in}
+use Rattle.map_any.specs.Imports.{ℕ, List, Option, Order, slot_count, lanes_in}
 use Rattle.map_any.specs.declared.arrays.ArraySlots.{ArraySlots}
 
 -- how many there are over an array's extents, and how many a block has

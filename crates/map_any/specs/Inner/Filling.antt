@@ -1,6 +1,6 @@
 -- Which bits of a blob show whose they are, while these are filled in.
 use Rattle.std.specs.Prelude.{◌≡◌, ◌+◌, ◌<◌, ◌≤◌, ◌⊎◌, ◌∷◌}
-use Rattle.map_any.specs.Words.{ℕ, List, [], length, slice_index_or, Owner, Bit, owner_at, Piece, Run, RunOwner}
+use Rattle.map_any.specs.Imports.{ℕ, List, [], length, slice_index_or, Owner, Bit, owner_at, Piece, Run, RunOwner}
 use Rattle.places.specs.declared.piece.RunOwner.TheVariants as run
 use Rattle.map_any.specs.BitRuns.{run_owner, joined_run}
 

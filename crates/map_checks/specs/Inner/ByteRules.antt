@@ -1,6 +1,6 @@
 -- How rules are made of others by bytes: the bytes of each in reverse order, or those of the bytes of each cell joined.
 use Rattle.std.specs.Prelude.{ℕ, ◌≡◌, ◌+◌, ◌-◌, ◌%◌, ◌^◌, ◌<◌, ◌≤◌, All, List, length, take, drop, slice_index_or, sum_by}
-use Rattle.map_checks.specs.Words.{flat_map, Cell, byte_count, swapped_rules}
+use Rattle.map_checks.specs.Imports.{flat_map, Cell, byte_count, swapped_rules}
 use Rattle.map_checks.specs.declared.rule.Rule.{Rule}
 use Rattle.map_checks.specs.Ruled.{EachWith}
 

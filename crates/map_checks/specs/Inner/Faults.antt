@@ -1,5 +1,5 @@
 -- What the answer of a mapping's constructor says of the expression.
-use Rattle.map_checks.specs.Words.{NewMapping, Lanes, Width, NotFull, Side}
+use Rattle.map_checks.specs.Imports.{NewMapping, Lanes, Width, NotFull, Side}
 use Rattle.places.specs.declared.mapping.NewMapping.TheVariants as new
 use Rattle.map_checks.specs.declared.fault.MakeMap.{MakeMap}
 use Rattle.map_checks.specs.declared.fault.MakeMap.TheVariants.{Bad, TooBig, NoMemory}

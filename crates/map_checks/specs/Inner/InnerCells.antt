@@ -1,6 +1,6 @@
 -- One cell that a mapping hands to the one inside it.
 use Rattle.std.specs.Prelude.{◌==◌, if◌then◌else◌}
-use Rattle.map_checks.specs.Words.{LeafType, Cell, kind_number}
+use Rattle.map_checks.specs.Imports.{LeafType, Cell, kind_number}
 
 -- a cell of the type `from` as one of the type `to`, any other as it is
 abbrev pub changed_cell : LeafType → LeafType → Cell → Cell

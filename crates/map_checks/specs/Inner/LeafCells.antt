@@ -1,6 +1,6 @@
 -- The cells of leaves, and what the types of cells say of their widths and holds.
 use Rattle.std.specs.Prelude.{◌≡◌, ℕ, ◌+◌, ◌<◌, List, [], ◌∷◌, ◌++◌, length, get_or, take, map, Some, refl, slice_get}
-use Rattle.map_checks.specs.Words.{sym, ap, ◌∙◌, arith, enumerate_from, take_more, length-take-le, map_push, map-map, get_or_from_slice_get, LeafType, Truth, width_of, widths_of, full_holds, hold_of, Cell}
+use Rattle.map_checks.specs.Imports.{sym, ap, ◌∙◌, arith, enumerate_from, take_more, length-take-le, map_push, map-map, get_or_from_slice_get, LeafType, Truth, width_of, widths_of, full_holds, hold_of, Cell}
 use Rattle.map_checks.specs.Mappings.{leaf_cells}
 
 enumerate_push : (n : ℕ) (kinds : List LeafType) (kind : LeafType) → enumerate_from n (kinds ++ kind ∷ []) ≡ enumerate_from n kinds ++ (n + length kinds, kind) ∷ []

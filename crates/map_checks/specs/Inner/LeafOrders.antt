@@ -1,6 +1,6 @@
 -- In which order the rows of each leaf lie.
 use Rattle.std.specs.Prelude.{ℕ, List, map, if◌then◌else◌}
-use Rattle.map_checks.specs.Words.{Fields, is_under, Order, Row, Cell, Term, Aos, Soa, Aosoa, BitAos, BitSoa, Split, Byteswap, Bytesplit, Change, Count, Heat, Named}
+use Rattle.map_checks.specs.Imports.{Fields, is_under, Order, Row, Cell, Term, Aos, Soa, Aosoa, BitAos, BitSoa, Split, Byteswap, Bytesplit, Change, Count, Heat, Named}
 
 -- the order of the base mapping to which the cells of a leaf go
 abbrev pub order_of : Term → Fields → ℕ → Order

@@ -1,5 +1,5 @@
 -- Being built, as the fact of a field.
-use Rattle.map_checks.specs.Words.{×_prop, Term, Aos, Soa, Aosoa, BitAos, BitSoa, Split, Byteswap, Bytesplit, Change, Count, Heat, Named}
+use Rattle.map_checks.specs.Imports.{×_prop, Term, Aos, Soa, Aosoa, BitAos, BitSoa, Split, Byteswap, Bytesplit, Change, Count, Heat, Named}
 use Rattle.map_checks.specs.Mappings.{IsBuiltTerm}
 
 pub IsBuiltTerm-prop : (term : Term) → IsProp (IsBuiltTerm term)

@@ -1,6 +1,6 @@
 -- How the rules of a split are made of those of its sides.
 use Rattle.std.specs.Prelude.{ℕ, ◌≡◌, ◌+◌, ◌^◌, ◌<◌, All, Bool, true, false, List, length, map, slice_index_or}
-use Rattle.map_checks.specs.Words.{shifted_rule, rank_first, rank_rest}
+use Rattle.map_checks.specs.Imports.{shifted_rule, rank_first, rank_rest}
 use Rattle.map_checks.specs.declared.rule.Rule.{Rule}
 use Rattle.map_checks.specs.Ruled.{EachWith}
 

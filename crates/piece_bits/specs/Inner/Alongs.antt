@@ -1,6 +1,6 @@
 -- A short form as it is put together.
 use Rattle.std.specs.Prelude.{◌≡◌}
-use Rattle.piece_bits.specs.Words.{Hold}
+use Rattle.piece_bits.specs.Imports.{Hold}
 use Rattle.piece_bits.specs.declared.path.Path.{Path}
 use Rattle.piece_bits.specs.declared.short.ShortRule.{ShortRule}
 use Rattle.piece_bits.specs.declared.stand.Stand.{Stand}

@@ -1,6 +1,6 @@
 -- How far a number of 64 bits lies above another, around the end.
 use Rattle.std.specs.Prelude.{ℕ, ℤ, ◌+◌, ◌-◌, ◌%◌, ◌^◌}
-use Rattle.piece_bits.specs.Words.{cast_unsigned}
+use Rattle.piece_bits.specs.Imports.{cast_unsigned}
 use mir.Syntax.{w64}
 
 abbrev pub far_of : ℤ → ℤ → ℕ

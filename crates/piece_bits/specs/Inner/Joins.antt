@@ -1,6 +1,6 @@
 -- Pieces that follow each other, as one.
 use Rattle.std.specs.Prelude.{ℕ, ◌≡◌, ◌+◌, List}
-use Rattle.piece_bits.specs.Words.{Owner, IsLocated, pieces_in, PieceRule}
+use Rattle.piece_bits.specs.Imports.{Owner, IsLocated, pieces_in, PieceRule}
 
 -- a rule has the bits of two, of which the second begins where the first ends
 pub record AreJoined (one next joined : PieceRule) : Type 0 where

@@ -1,6 +1,6 @@
 -- Bytes that stand each by itself, alike from slot to slot.
 use Rattle.std.specs.Prelude.{ℕ, ◌+◌, ◌*◌, ◌/◌, List, map}
-use Rattle.piece_bits.specs.Words.{Piece, PieceRule}
+use Rattle.piece_bits.specs.Imports.{Piece, PieceRule}
 
 -- the byte that stands a place behind the first one of a rule
 abbrev pub byte_of : ℕ → PieceRule → Piece

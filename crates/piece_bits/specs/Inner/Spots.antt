@@ -1,6 +1,6 @@
 -- The places of the bits of pieces, and the bits at places.
 use Rattle.std.specs.Prelude.{ℕ, ◌+◌, ◌*◌, ◌<◌, ◌≤◌, ◌≡◌, List, [], length, map, slice_index_or}
-use Rattle.piece_bits.specs.Words.{flat_map, range_with_len, Piece}
+use Rattle.piece_bits.specs.Imports.{flat_map, range_with_len, Piece}
 
 -- a place is a blob and a bit within it; these are the places of all bits of pieces, in order
 abbrev pub spots_of : List Piece → List (ℕ × ℕ)

@@ -1,6 +1,6 @@
 -- What stands at the places of rules, as it is recognised.
 use Rattle.std.specs.Prelude.{ℕ, ◌≡◌, ◌+◌, ◌-◌, ◌*◌, ◌/◌, ◌%◌, ◌^◌, ◌<◌, Bool, true, false, List, length, slice_index_or}
-use Rattle.piece_bits.specs.Words.{Hold, PieceRule}
+use Rattle.piece_bits.specs.Imports.{Hold, PieceRule}
 use Rattle.piece_bits.specs.declared.field.Field.{Field}
 use Rattle.piece_bits.specs.declared.word.Word.{Word}
 use Rattle.piece_bits.specs.declared.word.Word.TheVariants as stored

@@ -1,6 +1,6 @@
 -- How far an update and a count have come, and how they end.
 use Rattle.std.specs.Prelude.{ℕ, ◌≡◌, ◌+◌, ◌<◌, ◌≤◌, Bool, true, ℤ, pos, List, length, take, drop, count_by, slice_index_or, Option, Some, None, Result, Ok, Err}
-use Rattle.row_updates.specs.Words.{Bor, range_with_len, Term, is_true, index_at, Table, answer_of, kept_of, after_log, after_stores}
+use Rattle.row_updates.specs.Imports.{Bor, range_with_len, Term, is_true, index_at, Table, answer_of, kept_of, after_log, after_stores}
 use Rattle.row_updates.specs.declared.fault.UpdateFault.{UpdateFault}
 use Rattle.row_updates.specs.Rows.{Setting, each, passes, updated_row, updated_of, counted}
 use Rattle.row_updates.specs.Logs.{update_log, count_log}

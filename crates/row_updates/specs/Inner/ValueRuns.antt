@@ -1,6 +1,6 @@
 -- The values of an expression in consecutive rows of a table that counts nothing.
 use Rattle.std.specs.Prelude.{ℕ, ◌≡◌, ◌+◌, ◌<◌, ◌≤◌, Bool, true, false, ℤ, pos, List, [], length, slice_index, slice_index_or, unsigned_abs}
-use Rattle.row_updates.specs.Words.{Bound, bound_leaves, bound_rank, Term, IsWorthIn, IsRight, Step, index_at, in_leaf, Table, leaf_count_of, after_log, Access}
+use Rattle.row_updates.specs.Imports.{Bound, bound_leaves, bound_rank, Term, IsWorthIn, IsRight, Step, index_at, in_leaf, Table, leaf_count_of, after_log, Access}
 use Rattle.row_updates.specs.declared.runs.Run.{Run}
 use Rattle.row_updates.specs.Rows.{Setting}
 

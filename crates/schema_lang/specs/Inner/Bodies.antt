@@ -1,5 +1,5 @@
 -- What is read of a line.
-use Rattle.schema_lang.specs.Words.{Bool, true, false, Grammar, body, extent_word, fixed, New, Sentence, ExtentWord, map_of, Token, Command, Two}
+use Rattle.schema_lang.specs.Imports.{Bool, true, false, Grammar, body, extent_word, fixed, New, Sentence, ExtentWord, map_of, Token, Command, Two}
 use Rattle.schema_lang.specs.declared.bodies.New as bodies
 
 -- what makes a view

@@ -1,5 +1,5 @@
 -- The token that stands next in a text, where no bracket is open.
-use Rattle.schema_lang.specs.Words.{ℕ, Bool, true, false, List, Option, Some, None, next_of, Next, Token, token_of}
+use Rattle.schema_lang.specs.Imports.{ℕ, Bool, true, false, List, Option, Some, None, next_of, Next, Token, token_of}
 use Rattle.line_tokens.specs.declared.token.Next.TheVariants as next
 
 -- a token, and the place behind it; a bad one is none

@@ -1,6 +1,6 @@
 -- What the bytes of a spot are: those of a name or of a string, where its kind says so.
 use Rattle.std.specs.Prelude.{◌≡◌, ◌+◌, ◌-◌, ◌≤◌}
-use Rattle.schema_lang.specs.Words.{ℕ, true, List, length, slice_range, MatchOption, Spot, TokenKind, Word, Number, Text, SignKind, is_name, is_file_name}
+use Rattle.schema_lang.specs.Imports.{ℕ, true, List, length, slice_range, MatchOption, Spot, TokenKind, Word, Number, Text, SignKind, is_name, is_file_name}
 
 abbrev pub IsSpelledAs : List ℕ → ℕ → ℕ → TokenKind → Type 0
 IsSpelledAs text from end Word = is_name (slice_range text from end) ≡ true

@@ -1,6 +1,6 @@
 -- The parts of commands.
 use Rattle.std.specs.Prelude.{◌≡◌, ℕ, ℤ, List, [], ◌∷◌, length, slice_index_or, slice_set, Option, Result, Ok, Err}
-use Rattle.session.specs.Words.{Term, with_entry, Fields, MapTerm, checked, Table, answer_of, kept_of, after_log, after_stores, Write, Entry, Tested, ◌>>=◌, LeftOf, ok_or, Done, stores, narrow_fault, row_fault, update_fault, value_on, storable, all_read, copied, made, zeros_of, RowFault, Setting, updated_rows, value_log, rows_log, StepFault, CommandFault, BadMapping, Mismatch, CopyFault}
+use Rattle.session.specs.Imports.{Term, with_entry, Fields, MapTerm, checked, Table, answer_of, kept_of, after_log, after_stores, Write, Entry, Tested, ◌>>=◌, LeftOf, ok_or, Done, stores, narrow_fault, row_fault, update_fault, value_on, storable, all_read, copied, made, zeros_of, RowFault, Setting, updated_rows, value_log, rows_log, StepFault, CommandFault, BadMapping, Mismatch, CopyFault}
 use Rattle.csv_rows.specs.declared.fault.RowFault.TheVariants as rows
 use Rattle.command_checks.specs.declared.fault.StepFault.TheVariants as step
 use Rattle.layout_copy.specs.declared.fault.CopyFault.TheVariants as copy

@@ -1,7 +1,7 @@
 -- The parts of an open, behind the reading of its file.
 use Rattle.std.specs.Prelude.{ℕ, ◌+◌, ◌*◌, ◌^◌, List, nat_lt, Ok}
 use Rattle.blob_file.specs.Opened.{opened, table_of_saved}
-use Rattle.session.specs.Words.{FileFault, Table, bad_file, Tested, ◌>>=◌, refused_if, ok_or, live_bits, blob_bits, Entry, TooBig, StepFault}
+use Rattle.session.specs.Imports.{FileFault, Table, bad_file, Tested, ◌>>=◌, refused_if, ok_or, live_bits, blob_bits, Entry, TooBig, StepFault}
 use Rattle.blob_file.specs.declared.fault.FileFault.TheVariants as cause
 use Rattle.command_checks.specs.declared.fault.StepFault.TheVariants as step
 

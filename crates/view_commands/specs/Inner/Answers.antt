@@ -1,6 +1,6 @@
 -- What the answer of a command on a view says of its outcome, and of what was written.
 use Rattle.std.specs.Prelude.{ℕ, ◌≡◌, List, Option, Result, Ok, Err}
-use Rattle.view_commands.specs.Words.{Table, Did, Refused, Broke, Fronted, text_of, Tested, LeftOf, StepFault}
+use Rattle.view_commands.specs.Imports.{Table, Did, Refused, Broke, Fronted, text_of, Tested, LeftOf, StepFault}
 use Rattle.command_checks.specs.declared.fault.StepFault.TheVariants as fault
 
 -- an answer to a line that reads no file, or to a part of one

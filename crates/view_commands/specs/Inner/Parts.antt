@@ -1,6 +1,6 @@
 -- The parts of commands that may store.
 use Rattle.std.specs.Prelude.{ℕ, ◌++◌, ◌∷◌, ℤ, List, [], length, slice_index_or, Option, None, Result, Ok, Err}
-use Rattle.view_commands.specs.Words.{Term, EvalFault, indices, KernelFault, place_in, with_entry, rows_log, value_log, Setting, updated_of, UpdateFault, UpdateKind, Write, Table, answer_of, StoreFault, Done, stores, Tested, ◌>>=◌, ok_or, update_fault, storable, value_on}
+use Rattle.view_commands.specs.Imports.{Term, EvalFault, indices, KernelFault, place_in, with_entry, rows_log, value_log, Setting, updated_of, UpdateFault, UpdateKind, Write, Table, answer_of, StoreFault, Done, stores, Tested, ◌>>=◌, ok_or, update_fault, storable, value_on}
 use Rattle.expr_lang.specs.declared.fault.EvalFault.TheVariants as eval
 use Rattle.lane_kernels.specs.declared.fault.KernelFault.TheVariants as kernel
 use Rattle.row_updates.specs.declared.fault.UpdateKind.TheVariants as update

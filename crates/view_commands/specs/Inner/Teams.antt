@@ -1,6 +1,6 @@
 -- The parts of an update by actors.
 use Rattle.std.specs.Prelude.{ℕ, ◌≡◌, ◌*◌, ◌^◌, ◌≤◌, not, nat_lt, All, IfSome, List, [], length, map, sum_by, Option, None, option_map, Ok}
-use Rattle.view_commands.specs.Words.{AreCuts, actor_of, written_by, shared_byte, bound_term, Term, Value, Assignment, Setting, IsBoundOver, IsSetOf, setting_of, updated_of, update_log, Table, owners_of, reads_first, fit_cuts, shared, memory_text, bound_filter, bound_sets, each_once, leaves_of, Done, Tested, ◌>>=◌, refused_if, refused_by, ok_or, small, update_fault, Cuts, Turns, BadActors}
+use Rattle.view_commands.specs.Imports.{AreCuts, actor_of, written_by, shared_byte, bound_term, Term, Value, Assignment, Setting, IsBoundOver, IsSetOf, setting_of, updated_of, update_log, Table, owners_of, reads_first, fit_cuts, shared, memory_text, bound_filter, bound_sets, each_once, leaves_of, Done, Tested, ◌>>=◌, refused_if, refused_by, ok_or, small, update_fault, Cuts, Turns, BadActors}
 use Rattle.view_commands.specs.declared.by_actors.Team.{Team}
 
 -- what the words of an update stand for: its filter, and the leaves that are set

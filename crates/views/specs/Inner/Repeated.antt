@@ -1,6 +1,6 @@
 -- What many accesses leave of the counts by leaf, and of those by granule.
 use Rattle.std.specs.Prelude.{ℕ, Bool, true, false, List, fold}
-use Rattle.views.specs.Words.{range_with_len, Owner, is_hot, LeafCounts, HeatCounts, counted_times, warmed_times}
+use Rattle.views.specs.Imports.{range_with_len, Owner, is_hot, LeafCounts, HeatCounts, counted_times, warmed_times}
 use Rattle.views.specs.Tallies.{Access, counts_touched, heat_touched}
 
 -- the counts by leaf after some accesses, in order

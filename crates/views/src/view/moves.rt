@@ -1,6 +1,6 @@
 // Tables that are moved from view to view, with no look at their numbers.
 ghost use Rattle.std.specs.Prelude.{◌≡◌, ◌+◌, ◌*◌, ◌<◌, ◌≤◌, IfSome, length};
-ghost use Rattle.views.specs.Words.{blocks, uncounted, array_of, AreRuns};
+ghost use Rattle.views.specs.Imports.{blocks, uncounted, array_of, AreRuns};
 ghost use Rattle.views.specs.Moves.{blob_steps, size_of, IsInBlock, IsRunMoved, MayMove};
 
 use super::View;

@@ -1,6 +1,6 @@
 -- The texts of the details of faults.
 use Rattle.std.specs.Prelude.{◌++◌}
-use Rattle.worlds.specs.Words.{ℕ, List, [], codes, digits_text, path_text_of}
+use Rattle.worlds.specs.Imports.{ℕ, List, [], codes, digits_text, path_text_of}
 use Rattle.worlds.specs.declared.detail.Detail.{Detail}
 use Rattle.worlds.specs.declared.detail.Detail.TheVariants.{Nothing, Text, Count, Place, Byte, Path}
 

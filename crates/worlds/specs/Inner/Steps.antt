@@ -1,5 +1,5 @@
 -- What the end of a run at a line says of the line.
-use Rattle.worlds.specs.Words.{Some}
+use Rattle.worlds.specs.Imports.{Some}
 use Rattle.worlds.specs.Answers.{Ending, Refuses, Unread, Breaks, Starves}
 use Rattle.worlds.specs.declared.fold.LineEnd.{LineEnd}
 use Rattle.worlds.specs.declared.fold.LineEnd.TheVariants as line
