@@ -2,7 +2,7 @@
 //!
 //! Row `r` of an array is the place, counted from 0, of an index in the lexicographic list of all
 //! indices. Nothing here takes memory.
-#![tactic(auto)]
+#![tactic(auto, using(std::proofs::lemmas::Grind::common_steps, crate::proofs::Auto::steps))]
 
 mod order;
 mod rows;

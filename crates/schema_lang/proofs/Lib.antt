@@ -6,3 +6,4 @@ pub mod LineOfLaws
 pub mod SpellingLaws
 pub mod VersionLaws
 pub mod Whole
+pub mod Auto

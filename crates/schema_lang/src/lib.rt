@@ -1,6 +1,6 @@
 //! The lines of the script language in both of its versions, read from their texts and written as them, and the line that says
 //! a script's version.
-#![tactic(auto)]
+#![tactic(auto, using(std::proofs::lemmas::Grind::common_steps, crate::proofs::Auto::steps))]
 
 mod bodies;
 mod depth;

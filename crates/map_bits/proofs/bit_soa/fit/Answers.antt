@@ -1,5 +1,5 @@
-use Rattle.map_bits.proofs.Imports.{◌+◌, arith, widths_in, common_steps}
-use Rattle.map_bits.proofs.Arrays.{bits_next, bits_below, bits_all}
+use Rattle.map_bits.proofs.Imports.{◌+◌, arith, widths_in}
+use Rattle.map_bits.proofs.Arrays.{bits_next, bits_below}
 use Rattle.map_bits.proofs.bit_soa.fit.Goals as goal
 
 pub returns-then-bits-gt-MAX_BLOB_BITS : goal.returns-then-bits-gt-MAX_BLOB_BITS
@@ -10,6 +10,3 @@ returns-then-bits-gt-MAX_BLOB_BITS c =
 
 pub loop-hold-preserved : goal.loop-hold-preserved
 loop-hold-preserved c = grind (arith, bits_next)
-
-pub returns : goal.returns
-returns c = grind (arith, common_steps, bits_all)

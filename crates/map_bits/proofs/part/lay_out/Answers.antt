@@ -1,5 +1,5 @@
-use Rattle.map_bits.proofs.Imports.{◌+◌, ◌<◌, length, arith, widths_in, common_steps}
-use Rattle.map_bits.proofs.Slots.{end_next, end_below, begins_more, stored_all}
+use Rattle.map_bits.proofs.Imports.{◌+◌, ◌<◌, length, arith, widths_in}
+use Rattle.map_bits.proofs.Slots.{end_next, end_below, begins_more}
 use Rattle.map_bits.proofs.part.lay_out.Goals as goal
 
 pub returns-then-end-gt-MAX_BLOB_BITS-clause-too_big :
@@ -18,6 +18,3 @@ loop-hold-preserved c =
       ends = end_next c.args.holds.now c.loop-hold.hold-index _ c.loop-hold.end c.from-end.result inside c.from-end.ensures c.loop-hold.invariant.ends;
       small = omega (arith, c.if-end-gt-MAX_BLOB_BITS.false);
     }
-
-pub returns-clause-stored : goal.returns-clause-stored
-returns-clause-stored c = grind (arith, common_steps, stored_all)

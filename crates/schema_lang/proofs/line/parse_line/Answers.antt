@@ -1,17 +1,10 @@
 use Rattle.schema_lang.proofs.Imports.{◌≡◌, sym, ap, ◌∙◌, arith, ◌≤◌, ◌-◌, length, ◌<◌, nat_tests, sentence_of, deepest, Spots, column_behind, ok_parts}
-use Rattle.schema_lang.proofs.LineLaws.{found_line, full_line, one_line, stopped_line}
+use Rattle.schema_lang.proofs.LineLaws.{found_line, full_line, one_line}
 use Rattle.schema_lang.proofs.LineOfLaws.{told_by}
-use Rattle.schema_lang.proofs.SpellingLaws.{spots_spelled}
-use Rattle.schema_lang.proofs.Whole.{read_whole}
 use Rattle.schema_lang.proofs.line.parse_line.Goals as goal
 
 pub returns-in_err-spots-clause-one : goal.returns-in_err-spots-clause-one
 returns-in_err-spots-clause-one c = one_line c.args.version c.args.text.now
-
-pub tokens_of-requires : goal.tokens_of-requires
-tokens_of-requires c =
-    let all : Spots c.args.text.now 0 0 c.as_slice.result.now = rw c.as_slice.ensures c.in_ok-spots.ensures.spots in
-    spots_spelled c.args.text.now 0 0 c.as_slice.result.now (omega arith) all
 
 pub returns-in_err-tokens-clause-one : goal.returns-in_err-tokens-clause-one
 returns-in_err-tokens-clause-one c = one_line c.args.version c.args.text.now
@@ -50,15 +43,6 @@ returns-in-Ok-clause-one c = one_line c.args.version c.args.text.now
 pub returns-in-Err-NoMemory-clause-one : goal.returns-in-Err-NoMemory-clause-one
 returns-in-Err-NoMemory-clause-one c = one_line c.args.version c.args.text.now
 
-pub returns-clause-fault : goal.returns-clause-fault
-returns-clause-fault c =
-    let text = c.args.text.now in let spots = c.as_slice.result.now in
-    let all : Spots text 0 0 spots = rw c.as_slice.ensures c.in_ok-spots.ensures.spots in
-    let again : c.as_slice-in-Err-Syntax.result.now ≡ spots = c.as_slice-in-Err-Syntax.ensures ∙ sym c.as_slice.ensures in
-    let column : c.column_of.result ≡ column_behind (length spots - c.in-Err-Syntax.left) spots = c.column_of.ensures ∙ ap (λ k. column_behind (length k - c.in-Err-Syntax.left) k) again in
-    let stopped = rw c.in-Err-Syntax.field-0-is at c.in-Err-Syntax.ensures in
-    rw column (stopped_line c.args.version text spots c.deref.result.now c.in-Err-Syntax.left all (c.deref.ensures.value ∙ c.in_ok-tokens.ensures) stopped)
-
 pub returns-clause-only : goal.returns-clause-only
 returns-clause-only c = λ sentence r.
     let all : Spots c.args.text.now 0 0 c.as_slice.result.now = rw c.as_slice.ensures c.in_ok-spots.ensures.spots in
@@ -91,6 +75,3 @@ returns-clause-told c =
     let column : c.column_of.result ≡ column_behind (length spots - c.in-Err-Syntax.left) spots = c.column_of.ensures ∙ ap (λ k. column_behind (length k - c.in-Err-Syntax.left) k) again in
     let stopped = rw c.in-Err-Syntax.field-0-is at c.in-Err-Syntax.ensures in
     rw column (told_by c.args.version text spots c.deref.result.now _ all (c.deref.ensures.value ∙ c.in_ok-tokens.ensures) stopped)
-
-pub returns-then-is_shallow-clause-whole : goal.returns-then-is_shallow-clause-whole
-returns-then-is_shallow-clause-whole c = read_whole c.args.version c.deref.result.now c.in-Ok.line c.in-Ok.ensures

@@ -1,9 +1,6 @@
 use Rattle.schema_lang.proofs.Imports.{◌≡◌, true, false, codes, sym, ◌∙◌, is_word}
-use Rattle.schema_lang.proofs.VersionLaws.{no_first, no_version, no_second, no_number, no_third, numbered}
+use Rattle.schema_lang.proofs.VersionLaws.{no_version, no_second, no_number, no_third, numbered}
 use Rattle.schema_lang.proofs.version.version_of.Goals as goal
-
-pub returns-in_err-word : goal.returns-in_err-word
-returns-in_err-word c = c.from_residual.ensures ∙ sym (no_first c.args.text.now (sym c.in_err-word.ensures.token))
 
 pub returns-then-not-is_word : goal.returns-then-not-is_word
 returns-then-not-is_word c =

@@ -1,15 +1,5 @@
-use Rattle.extents.proofs.Imports.{◌≡◌, ◌≤◌, length, ap, ◌∙◌, sym, subst, arith, rules, List, ℕ, map, take, length-take, length-map, take_all, product, length-indices, extent_of, ExtentWord, Span, IsWindow, sizes, fixed_size, same_rank, product_le, span_ordered, fixed_extents}
+use Rattle.extents.proofs.Imports.{◌≡◌, ◌≤◌, length, ap, ◌∙◌, sym, subst, arith, rules, List, ℕ, map, take, take_all, product, length-indices, extent_of, ExtentWord, Span, IsWindow, sizes, fixed_size, product_le, fixed_extents}
 use Rattle.extents.proofs.window.Window.new.Goals as goal
-use Rattle.std.proofs.lemmas.Grind.{common_steps}
-
-pub push-requires : goal.push-requires
-push-requires c = grind (arith, common_steps, same_rank, length-take)
-
-pub overflow_sub-span : goal.overflow_sub-span
-overflow_sub-span c = grind (arith, common_steps, span_ordered)
-
-pub push-requires-in-loop-span : goal.push-requires-in-loop-span
-push-requires-in-loop-span c = grind (arith, common_steps, same_rank, length-map, length-take)
 
 words_are : (words : List ExtentWord) (spans : List Span) (k size : ℕ) → words ≡ map fixed_size (take k spans) → length spans ≤ k → map (extent_of size) words ≡ sizes spans
 words_are words spans k size so over =

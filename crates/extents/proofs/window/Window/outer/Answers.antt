@@ -1,9 +1,6 @@
-use Rattle.extents.proofs.Imports.{◌≡◌, length, ap, subst, arith, rules, List, ℕ, slice_get, zip_first, zip_second, iter_rest, IsInside, Span, moved, window_count, window_row, window_once, moved_inside, inside_narrow, inside_length, moved_whole, push_room}
-use Rattle.extents.proofs.window.Window.outer.Goals as goal
+use Rattle.extents.proofs.Imports.{◌≡◌, length, ap, subst, arith, rules, List, ℕ, zip_first, zip_second, iter_rest, IsInside, Span, moved, window_once, moved_inside, inside_narrow, inside_length, push_room, moved_whole, slice_get, window_row}
 use Rattle.std.proofs.lemmas.Grind.{common_steps}
-
-pub index_of-inner-requires : goal.index_of-inner-requires
-index_of-inner-requires c = grind (arith, common_steps, window_count)
+use Rattle.extents.proofs.window.Window.outer.Goals as goal
 
 pub loop-component-init : goal.loop-component-init
 loop-component-init c =
@@ -23,9 +20,6 @@ push-requires c =
     let whole = ap (λ (xs : List ℕ). length (moved (iter_rest (zip_second c.into_iter-component-iterator.result)) xs)) first in
     let same = ap (λ (xs : List Span). length (moved xs c.index_of-inner.result.items)) second in
     (omega arith, omega (arith, room, whole, same, inside_length _ _ inside, c.self.invariant.2.few))
-
-pub row_of-requires : goal.row_of-requires
-row_of-requires c = grind (arith, common_steps, moved_whole, moved_inside)
 
 pub returns-clause-entry : goal.returns-clause-entry
 returns-clause-entry c = grind (arith, common_steps, moved_whole, slice_get, window_row)

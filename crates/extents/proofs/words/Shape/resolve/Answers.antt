@@ -1,4 +1,4 @@
-use Rattle.extents.proofs.Imports.{◌≡◌, ◌≢◌, ◌/◌, map, sym, ap, ◌∙◌, arith, count_by, unwrap_or, IsSomeAnd, list_any, false_from_ne_true, false≢true, is_rows, extent_of, extents_for, fixed_product, IsUneven, IsUnequal, product, same_fixed, product_fixed, product_divided, fixed_positive, settled, settled_too_many, settled_first}
+use Rattle.extents.proofs.Imports.{◌≡◌, ◌≢◌, ◌/◌, map, sym, ap, ◌∙◌, arith, count_by, unwrap_or, IsSomeAnd, false≢true, is_rows, extent_of, extents_for, fixed_product, IsUneven, IsUnequal, product, same_fixed, product_fixed, product_divided, settled, settled_too_many, settled_first}
 use Rattle.extents.proofs.words.Shape.resolve.Goals as goal
 use Rattle.std.proofs.lemmas.Grind.{common_steps}
 
@@ -32,15 +32,6 @@ returns-then-count_rows-eq0-clause-extents c =
     let filled : map (extent_of 0) c.as_slice-words.result.now ≡ extents_for c.args.self.now c.args.rows =
     ap (map (extent_of 0)) same ∙ same_fixed c.args.self.now 0 (unwrap_or c.args.rows 0 / fixed_product c.args.self.now) none in
     rw (sym filled) c.bounded.ensures.value
-
-pub nonzero_rem-rows : goal.nonzero_rem-rows
-nonzero_rem-rows c = grind (arith, common_steps, count_by, fixed_positive, false_from_ne_true, list_any)
-
-pub nonzero_div-rows : goal.nonzero_div-rows
-nonzero_div-rows c = grind (arith, common_steps, count_by, fixed_positive, false_from_ne_true, list_any)
-
-pub bounded-requires-2-clause-counted : goal.bounded-requires-2-clause-counted
-bounded-requires-2-clause-counted c = grind (arith, common_steps, count_by, product_divided)
 
 -- with `Rows`
 rows_settled : (c : goal.After-bounded-2) → (¬ IsUneven c.args.self.now c.args.rows) × (¬ IsUnequal c.args.self.now c.args.rows) × (c.from-rows.result ≡ product (extents_for c.args.self.now c.args.rows))

@@ -1,9 +1,6 @@
-use Rattle.map_bits.proofs.Imports.{◌≡◌, ℕ, ◌*◌, ◌^◌, ◌<◌, ◌≤◌, List, ap, subst, ◌∙◌, arith, rules, sum, up, Hold, narrow_holds, widths_in, LieInBits, kept_are, common_steps}
-use Rattle.map_bits.proofs.Slots.{big_slot, big_blob, not_too_big, bound_is}
+use Rattle.map_bits.proofs.Imports.{◌≡◌, ℕ, ◌*◌, ◌^◌, ◌<◌, ◌≤◌, List, ap, subst, ◌∙◌, rules, sum, up, Hold, narrow_holds, widths_in, LieInBits}
+use Rattle.map_bits.proofs.Slots.{big_slot, big_blob, not_too_big}
 use Rattle.map_bits.proofs.bit_aos.BitAos.new.Goals as goal
-
-pub invariant_of-result : goal.invariant_of-result
-invariant_of-result c = grind (arith, common_steps, kept_are)
 
 pub returns-in_err-part-clause-too_big : goal.returns-in_err-part-clause-too_big
 returns-in_err-part-clause-too_big c =
@@ -22,9 +19,6 @@ returns-then-padded-gt-MAX_BLOB_BITS-clause-too_big c =
     subst (λ (holds : List Hold). LieInBits (widths_in holds) part.offsets.items part.size) lent c.in_ok-part.ensures.stored in
     let long : 2 ^ 31 < up 64 (c.args.slots * part.size) = subst (λ (n : ℕ). 2 ^ 31 < n) c.padded.ensures c.if-padded-gt-MAX_BLOB_BITS.true in
     λ _. big_blob c.args.slots (widths_in (narrow_holds c.args.widths.now c.args.cells.now)) part.offsets.items part.size stored long
-
-pub invariant_of-result-2 : goal.invariant_of-result-2
-invariant_of-result-2 c = grind (arith, common_steps, kept_are, bound_is)
 
 pub returns-clause-fits : goal.returns-clause-fits
 returns-clause-fits c =

@@ -1,13 +1,7 @@
-use Rattle.map_bits.proofs.Imports.{ℕ, ◌<◌, List, ◌∙◌, arith, widths_in, common_steps}
+use Rattle.map_bits.proofs.Imports.{ℕ, ◌<◌, List, ◌∙◌, arith, widths_in}
 use Rattle.map_bits.proofs.Widths.{count}
-use Rattle.map_bits.proofs.Slots.{begin_at, begin_fits, begins_each}
+use Rattle.map_bits.proofs.Slots.{begin_at, begin_fits}
 use Rattle.map_bits.proofs.bit_aos.BitAos.offset.Goals as goal
-
-pub index-requires : goal.index-requires
-index-requires c = grind (arith, common_steps, begins_each)
-
-pub returns-clause-place : goal.returns-clause-place
-returns-clause-place c = grind (arith, common_steps, begin_at)
 
 pub returns-clause-low : goal.returns-clause-low
 returns-clause-low c =

@@ -1,4 +1,4 @@
-use Rattle.map_bits.proofs.Imports.{[], ◌∷◌, slice_index, arith, begins_fit, widths_in, bit_aos, common_steps}
+use Rattle.map_bits.proofs.Imports.{[], ◌∷◌, arith, begins_fit, widths_in, bit_aos}
 use Rattle.map_bits.proofs.bit_aos.BitAosMapping.locate.Goals as goal
 
 pub pieces-requires : goal.pieces-requires
@@ -9,6 +9,3 @@ pieces-requires c =
       fits = begins_fit (bit_aos m.slots (widths_in m.holds.items)) c.args.slot c.args.cell _ c.args.slot (rule ∷ [])
           (c.rule.ensures.places c.args.slot c.requires.slot_in) 0 rule (omega arith);
     }
-
-pub returns : goal.returns
-returns c = grind (arith, common_steps, slice_index)

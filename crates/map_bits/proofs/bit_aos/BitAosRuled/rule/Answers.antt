@@ -1,4 +1,4 @@
-use Rattle.map_bits.proofs.Imports.{ℕ, ◌+◌, ◌*◌, ◌<◌, refl, ap, ◌∙◌, arith, one_lane, widths_in, not_dense, common_steps}
+use Rattle.map_bits.proofs.Imports.{ℕ, ◌+◌, ◌*◌, ◌<◌, refl, ap, ◌∙◌, arith, one_lane, widths_in}
 use Rattle.map_bits.proofs.Widths.{taken_is}
 use Rattle.map_bits.proofs.Slots.{located_is}
 use Rattle.map_bits.proofs.bit_aos.BitAosRuled.rule.Goals as goal
@@ -11,13 +11,7 @@ returns-clause-places c = λ slot inside.
     located_is m.slots (widths_in m.holds.items) m.stride slot c.args.cell _ taken (m.stored some).ends m.bound inside refl
     (one_lane c.offset.result slot m.stride 0 ∙ ap (λ (n : ℕ). n + slot * m.stride) (c.offset.ensures.place some))
 
-pub returns-clause-bits : goal.returns-clause-bits
-returns-clause-bits c = grind (arith, common_steps, taken_is)
-
 pub returns-clause-bound : goal.returns-clause-bound
 returns-clause-bound c =
     let m = c.args.self.now in
     omega (arith, c.offset.ensures.low, (taken_is m.cells.items m.holds.items c.args.cell c.index.result.now m.held c.requires c.index.ensures).low)
-
-pub returns-clause-dense : goal.returns-clause-dense
-returns-clause-dense c = not_dense _

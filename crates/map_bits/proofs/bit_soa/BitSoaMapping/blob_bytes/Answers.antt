@@ -1,10 +1,7 @@
-use Rattle.map_bits.proofs.Imports.{◌<◌, length, ◌∙◌, arith, widths_in, bit_soa_laws, common_steps}
+use Rattle.map_bits.proofs.Imports.{◌<◌, length, ◌∙◌, arith, widths_in, bit_soa_laws}
 use Rattle.map_bits.proofs.Widths.{taken_read}
 use Rattle.map_bits.proofs.Arrays.{blob_bytes_is, blob_count_is}
 use Rattle.map_bits.proofs.bit_soa.BitSoaMapping.blob_bytes.Goals as goal
-
-pub index-requires : goal.index-requires
-index-requires c = grind (arith, common_steps, blob_count_is)
 
 pub returns : goal.returns
 returns c =

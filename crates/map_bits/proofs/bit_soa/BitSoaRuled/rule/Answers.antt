@@ -1,6 +1,6 @@
-use Rattle.map_bits.proofs.Imports.{ℕ, ◌*◌, refl, ap, ◌∙◌, arith, one_lane, widths_in, not_dense, common_steps}
+use Rattle.map_bits.proofs.Imports.{ℕ, ◌*◌, refl, ap, ◌∙◌, arith, one_lane, widths_in}
 use Rattle.map_bits.proofs.Widths.{taken_is}
-use Rattle.map_bits.proofs.Arrays.{located_is, blob_count_is}
+use Rattle.map_bits.proofs.Arrays.{located_is}
 use Rattle.map_bits.proofs.bit_soa.BitSoaRuled.rule.Goals as goal
 
 pub returns-clause-places : goal.returns-clause-places
@@ -9,12 +9,3 @@ returns-clause-places c = λ slot inside.
     let taken = taken_is m.cells.items m.holds.items c.args.cell c.index.result.now m.held c.requires c.index.ensures in
     located_is m.slots (widths_in m.holds.items) slot c.args.cell _ taken m.few inside refl
     (one_lane 0 slot c.from.result 0 ∙ (omega arith) ∙ ap (λ (n : ℕ). slot * n) c.from.ensures)
-
-pub returns-clause-blob_in : goal.returns-clause-blob_in
-returns-clause-blob_in c = grind (arith, common_steps, blob_count_is)
-
-pub returns-clause-bits : goal.returns-clause-bits
-returns-clause-bits c = grind (arith, common_steps, taken_is)
-
-pub returns-clause-dense : goal.returns-clause-dense
-returns-clause-dense c = not_dense _
