@@ -1,5 +1,5 @@
 -- What the proofs of this crate speak of.
-pub use Rattle.line_phrases.specs.Imports.{◌>>=◌, starts, past, item_at, give_at, Grammar, nothing, takes, Shrinks, steps_end, steps_stepped, steps_stop, is_same, or_of, and_of, sum_of, product_of, Value, wrapped, arrays, fields_of_list, read, count, path, constant, fixed, extent_word, span, term, passes, link, atom_within, unary, product, sum, negation, conjunction, expr_over, listed, mapping, field_width, field_within, Minus, BinOp, Binary, Neg, Not, Token, Word, Signed, tree_of, fields_of, arith}
+pub use Rattle.line_phrases.specs.Imports.{◌>>=◌, starts, past, item_at, give_at, Grammar, nothing, takes, Shrinks, steps_end, steps_stepped, steps_stop, is_same, or_of, and_of, sum_of, product_of, Value, wrapped, arrays, fields_of_list, read, count, path, passes, link, atom_within, unary, product, sum, negation, conjunction, expr_over, listed, mapping, field_within, Minus, BinOp, Binary, Neg, Not, Token, Word, Signed, tree_of, fields_of, arith}
 unfoldable pub use Rattle.line_phrases.specs.Imports.{later, parts, dims, later_passes, links, signs}
 pub use Rattle.record_dim.specs.Std.{◌≡◌, ℕ, suc, ◌+◌, true, false, List, Option, Some, Result, Ok, Err, codes, refl, sym, ap, ◌∙◌, add-one, [], map, ◌<◌, ◌≤◌, ◌*◌, length, zero, vec_len}
 pub use Rattle.line_grammar.specs.Grammar.{behind}

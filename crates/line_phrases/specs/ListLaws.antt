@@ -1,6 +1,6 @@
 -- Lists behind commas and in brackets are read by first tokens, and how their reading goes on.
 use Rattle.std.specs.Prelude.{◌≡◌, ◌∷◌, ◌++◌}
-use Rattle.line_phrases.specs.Imports.{ℕ, true, false, List, [], map, Ok, Err, refl, map-append, Grammar, starts, past, item_at, Fine, Quiet, behind_list_bare, behind_list_end, behind_list_stepped, behind_list_stop, is_same, is_sign, count_of, read, count, later, listed, bracket_list, cuts, fixed, extent_word, CloseBracket, Comma, Question, Token, Signed, arith}
+use Rattle.line_phrases.specs.Imports.{ℕ, true, false, List, [], map, Ok, Err, refl, map-append, Grammar, starts, past, Fine, Quiet, behind_list_bare, behind_list_end, behind_list_stepped, behind_list_stop, is_same, is_sign, count_of, read, count, later, listed, bracket_list, cuts, fixed, extent_word, CloseBracket, Comma, Question, Token, Signed, arith}
 use Rattle.line_phrases.specs.BasicsLaws.{apart, count_fine, exact_sign}
 
 -- a list of phrases that do not go on with a comma
@@ -67,18 +67,6 @@ unfolding later
 comma_end one = behind_list_end is_same (Signed Comma) one
 
 pub ruleset comma_steps = (comma_stepped, comma_stop, comma_bare, comma_end)
-
--- the same for counts, each of one token
-pub count_stepped : (found : List ℕ) (tokens us : List Token) (next : ℕ) (rest : List Token)
-    → starts (is_sign Comma) tokens ≡ true → past (is_sign Comma) tokens ≡ Ok us → item_at count_of us ≡ Ok (next, rest)
-    → read (later count found) tokens ≡ read (later count (found ++ next ∷ [])) rest
-count_stepped = comma_stepped count
-
-pub count_stop : (found : List ℕ) (tokens us : List Token) (left : ℕ) → starts (is_sign Comma) tokens ≡ true → past (is_sign Comma) tokens ≡ Ok us → item_at count_of us ≡ Err left
-    → read (later count found) tokens ≡ Err left
-count_stop = comma_stop count
-
-pub ruleset count_steps = (count_stepped, count_stop, comma_bare, comma_end)
 
 -- the same where the list is that of the values of what was found
 pub viewed_stepped : {A B : Type 0} (view : B → A) (one : Grammar Token A) (found : List B) (tokens us : List Token) (next : B) (rest : List Token) → starts (is_sign Comma) tokens ≡ true

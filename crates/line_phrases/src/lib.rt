@@ -7,6 +7,7 @@ mod constant;
 mod exprs;
 mod fault;
 mod fields;
+mod lists;
 mod maps;
 mod passes;
 mod path;

@@ -1,7 +1,8 @@
-ghost use Rattle.std.specs.Prelude.{◌≡◌, ◌<◌, ◌≤◌};
-ghost use Rattle.line_phrases.specs.Imports.{length, OnOk, read, field_width, field_widths, listed};
+ghost use Rattle.std.specs.Prelude.{◌≡◌, ◌≤◌};
+ghost use Rattle.line_phrases.specs.Imports.{length, OnOk, read, field_width, field_widths};
 ghost use Rattle.line_phrases.specs.Inner.Gives.{Gives};
 
+use crate::lists::{Phrase, read_list};
 use crate::{ReadError, Tokens, read_path};
 use line_grammar::{Count, Version};
 use line_tokens::Sign;
@@ -23,32 +24,21 @@ pub(crate) fn read_field_widths(
         return Ok(WidthList::new(alloc));
     }
     tokens.sign(Sign::OpenBrace)?;
-    let fields = read_width_list(alloc, tokens)?;
+    let fields = read_list::<FieldWidth>(alloc, tokens)?;
     tokens.sign(Sign::CloseBrace)?;
     Ok(fields)
 }
 
-#[tactic(auto, unfolding(line_grammar::specs::Language::listed), using(crate::specs::ListLaws::comma_steps))]
-fn read_width_list(alloc: Global, tokens: &mut Tokens) -> Result<WidthList, ReadError>
-    ensures gives { Gives (λ x. (x, tokens.new)) result (read (listed field_width) tokens.old) }
-    ensures shorter { OnOk result (length tokens.new < length tokens.old) }
-{
-    let mut fields = WidthList::new(alloc);
-    fields.push(read_field_width(alloc, tokens)?)?;
-    while tokens.begins_sign(Sign::Comma) {
-        tokens.sign(Sign::Comma)?;
-        fields.push(read_field_width(alloc, tokens)?)?;
-    }
-    Ok(fields)
-}
+impl Phrase for FieldWidth {
+    type Value = FieldWidth;
 
-#[tactic(auto, unfolding(line_grammar::specs::Language::field_width))]
-fn read_field_width(alloc: Global, tokens: &mut Tokens) -> Result<FieldWidth, ReadError>
-    ensures gives { Gives (λ x. (x, tokens.new)) result (read field_width tokens.old) }
-    ensures shorter { OnOk result (length tokens.new < length tokens.old) }
-{
-    let path = read_path(alloc, tokens)?;
-    tokens.sign(Sign::Colon)?;
-    let width = tokens.item::<Count>()?;
-    Ok(FieldWidth { path, width })
+    ghost phrase = { field_width };
+
+    #[tactic(auto, unfolding(line_grammar::specs::Language::field_width))]
+    fn read(alloc: Global, tokens: &mut Tokens) -> Result<FieldWidth, ReadError> {
+        let path = read_path(alloc, tokens)?;
+        tokens.sign(Sign::Colon)?;
+        let width = tokens.item::<Count>()?;
+        Ok(FieldWidth { path, width })
+    }
 }

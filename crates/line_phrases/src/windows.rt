@@ -1,49 +1,36 @@
 // A window, and weighted terms.
-ghost use Rattle.std.specs.Prelude.{◌≡◌, ◌<◌};
-ghost use Rattle.line_phrases.specs.Imports.{length, OnOk, IfErr, read, constant, listed, span, term, terms, window};
-ghost use Rattle.line_phrases.specs.Inner.Gives.{Gives, IsSyntax};
+ghost use Rattle.std.specs.Prelude.{◌≡◌};
+ghost use Rattle.line_phrases.specs.Imports.{read, constant, span, term, terms, window};
+ghost use Rattle.line_phrases.specs.Inner.Gives.{Gives};
 
+use crate::lists::{Phrase, read_bracketed, read_list};
 use crate::{ReadError, Tokens, read_const, read_path};
 use extents::Span;
-use line_grammar::{Count, OffsetTexts, TermText, TermTextList, WindowWords};
+use line_grammar::{Count, TermText, TermTextList, WindowWords};
 use line_tokens::Sign;
 use std::alloc::Global;
 
 /// The word `window`, and the spans of the window in brackets.
-#[tactic(auto, unfolding(line_grammar::specs::Language::window, line_grammar::specs::Language::bracket_list))]
+#[tactic(auto, unfolding(line_grammar::specs::Language::window))]
 pub fn read_window(alloc: Global, tokens: &mut Tokens) -> Result<WindowWords, ReadError>
     ensures { Gives (λ x. (x, tokens.new)) result (read window tokens.old) }
 {
     tokens.word("window")?;
-    tokens.sign(Sign::OpenBracket)?;
-    let window = read_spans(alloc, tokens)?;
-    tokens.sign(Sign::CloseBracket)?;
-    Ok(window)
+    read_bracketed::<Span>(alloc, tokens)
 }
 
-#[tactic(auto, unfolding(line_grammar::specs::Language::listed), using(crate::specs::ListLaws::comma_steps))]
-fn read_spans(alloc: Global, tokens: &mut Tokens) -> Result<WindowWords, ReadError>
-    ensures { Gives (λ x. (x, tokens.new)) result (read (listed span) tokens.old) }
-{
-    let mut spans = WindowWords::new(alloc);
-    spans.push(read_span(tokens)?)?;
-    while tokens.begins_sign(Sign::Comma) {
-        tokens.sign(Sign::Comma)?;
-        spans.push(read_span(tokens)?)?;
+impl Phrase for Span {
+    type Value = Span;
+
+    ghost phrase = { span };
+
+    #[tactic(auto, unfolding(line_grammar::specs::Language::span))]
+    fn read(_alloc: Global, tokens: &mut Tokens) -> Result<Span, ReadError> {
+        let from = tokens.item::<Count>()?;
+        tokens.sign(Sign::Colon)?;
+        let end = tokens.item::<Count>()?;
+        Ok(Span { from, end })
     }
-    Ok(spans)
-}
-
-#[tactic(auto, unfolding(line_grammar::specs::Language::span))]
-fn read_span(tokens: &mut Tokens) -> Result<Span, ReadError>
-    ensures gives { Gives (λ x. (x, tokens.new)) result (read span tokens.old) }
-    ensures shorter { OnOk result (length tokens.new < length tokens.old) }
-    ensures fault { IfErr result IsSyntax }
-{
-    let from = tokens.item::<Count>()?;
-    tokens.sign(Sign::Colon)?;
-    let end = tokens.item::<Count>()?;
-    Ok(Span { from, end })
 }
 
 /// Weighted terms, in parentheses.
@@ -52,53 +39,40 @@ pub fn read_terms(alloc: Global, tokens: &mut Tokens) -> Result<TermTextList, Re
     ensures { Gives (λ x. (x, tokens.new)) result (read terms tokens.old) }
 {
     tokens.sign(Sign::OpenParen)?;
-    let terms = read_term_list(alloc, tokens)?;
+    let terms = read_list::<TermText>(alloc, tokens)?;
     tokens.sign(Sign::CloseParen)?;
     Ok(terms)
 }
 
-#[tactic(auto, unfolding(line_grammar::specs::Language::listed), using(crate::specs::ListLaws::comma_steps))]
-fn read_term_list(alloc: Global, tokens: &mut Tokens) -> Result<TermTextList, ReadError>
-    ensures { Gives (λ x. (x, tokens.new)) result (read (listed term) tokens.old) }
-{
-    let mut terms = TermTextList::new(alloc);
-    terms.push(read_term(alloc, tokens)?)?;
-    while tokens.begins_sign(Sign::Comma) {
-        tokens.sign(Sign::Comma)?;
-        terms.push(read_term(alloc, tokens)?)?;
+impl Phrase for TermText {
+    type Value = TermText;
+
+    ghost phrase = { term };
+
+    #[tactic(auto, unfolding(line_grammar::specs::Language::term))]
+    fn read(alloc: Global, tokens: &mut Tokens) -> Result<TermText, ReadError> {
+        let weight = read_const(tokens)?;
+        tokens.sign(Sign::Star)?;
+        let path = read_path(alloc, tokens)?;
+        tokens.word("at")?;
+        let offsets = read_bracketed::<Constant>(alloc, tokens)?;
+        Ok(TermText {
+            weight,
+            path,
+            offsets,
+        })
     }
-    Ok(terms)
 }
 
-#[tactic(auto, unfolding(line_grammar::specs::Language::term, line_grammar::specs::Language::bracket_list))]
-fn read_term(alloc: Global, tokens: &mut Tokens) -> Result<TermText, ReadError>
-    ensures gives { Gives (λ x. (x, tokens.new)) result (read term tokens.old) }
-    ensures shorter { OnOk result (length tokens.new < length tokens.old) }
-{
-    let weight = read_const(tokens)?;
-    tokens.sign(Sign::Star)?;
-    let path = read_path(alloc, tokens)?;
-    tokens.word("at")?;
-    tokens.sign(Sign::OpenBracket)?;
-    let offsets = read_offsets(alloc, tokens)?;
-    tokens.sign(Sign::CloseBracket)?;
-    Ok(TermText {
-        weight,
-        path,
-        offsets,
-    })
-}
+// A number with or without a minus.
+struct Constant;
 
-#[tactic(auto, unfolding(line_grammar::specs::Language::listed), using(crate::specs::ListLaws::comma_steps))]
-fn read_offsets(alloc: Global, tokens: &mut Tokens) -> Result<OffsetTexts, ReadError>
-    ensures gives { Gives (λ x. (x, tokens.new)) result (read (listed constant) tokens.old) }
-    ensures shorter { OnOk result (length tokens.new < length tokens.old) }
-{
-    let mut offsets = OffsetTexts::new(alloc);
-    offsets.push(read_const(tokens)?)?;
-    while tokens.begins_sign(Sign::Comma) {
-        tokens.sign(Sign::Comma)?;
-        offsets.push(read_const(tokens)?)?;
+impl Phrase for Constant {
+    type Value = i128;
+
+    ghost phrase = { constant };
+
+    fn read(_alloc: Global, tokens: &mut Tokens) -> Result<i128, ReadError> {
+        read_const(tokens)
     }
-    Ok(offsets)
 }
