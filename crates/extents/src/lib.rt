@@ -2,11 +2,14 @@
 //!
 //! Row `r` of an array is the place, counted from 0, of an index in the lexicographic list of all
 //! indices. Nothing here takes memory.
-#![tactic(auto, using(std::proofs::lemmas::Grind::common_steps, crate::proofs::Auto::steps))]
+#![tactic(auto)]
 
 mod order;
+#[tactic(auto, using(crate::proofs::Auto::steps))]
 mod rows;
+#[tactic(auto, using(crate::proofs::Auto::steps))]
 mod window;
+#[tactic(auto, using(crate::proofs::Auto::steps))]
 mod words;
 
 pub use order::Order;

@@ -1,5 +1,5 @@
 //! Orders: where the index of an array stands among the slots of memory. Nothing here takes memory.
-#![tactic(auto, using(std::proofs::lemmas::Grind::common_steps, crate::proofs::Auto::steps))]
+#![tactic(auto)]
 
 ghost use Rattle.std.specs.Prelude.{◌≡◌, ◌-◌, ◌*◌, ◌^◌, ◌<◌, ◌≤◌, ◌↔◌, ℕ, List, length, fold, max, min, reverse, All, IfSome, IsNone, IsSomeAnd, Some, slice_get};
 ghost use Rattle.extents.specs.Indices.{indices, product, IsInside};
@@ -15,6 +15,7 @@ pub use extents::Order;
 use places::MAX_SLOTS;
 
 /// The number of slots over these extents, None where there are more than 2^24.
+#[tactic(auto, using(crate::proofs::Auto::steps))]
 pub fn slots<const R: usize>(order: Order, extents: &[u64; R]) -> Option<u64>
     requires ranked { (0 < R) × (R ≤ 4) }
     requires narrow { All (λ n. n < 2 ^ 32) extents.now }
@@ -26,6 +27,7 @@ pub fn slots<const R: usize>(order: Order, extents: &[u64; R]) -> Option<u64>
 }
 
 /// The slot of an index inside extents with at most 2^24 slots.
+#[tactic(auto, using(crate::proofs::Auto::steps))]
 pub fn slot<const R: usize>(order: Order, extents: &[u64; R], index: &[u64; R]) -> u64
     requires ranked { (0 < R) × (R ≤ 4) }
     requires narrow { All (λ n. n < 2 ^ 32) extents.now }
@@ -39,6 +41,7 @@ pub fn slot<const R: usize>(order: Order, extents: &[u64; R], index: &[u64; R]) 
     place(order, extents, index)
 }
 
+#[tactic(auto, using(crate::proofs::Auto::steps))]
 fn saturating_count(order: Order, extents: &[u64]) -> u64
     requires { length extents.now ≤ 4 }
     ensures { result ≡ min (slot_count order extents.now) (2 ^ 64 - 1) }
@@ -62,6 +65,7 @@ fn place(order: Order, extents: &[u64], index: &[u64]) -> u64
     }
 }
 
+#[tactic(auto, using(crate::proofs::Auto::steps))]
 fn saturating_product(extents: &[u64]) -> u64
     ensures { result ≡ min (product extents.now) (2 ^ 64 - 1) }
 {
@@ -83,6 +87,7 @@ fn saturating_power(exponent: u32) -> u64
 }
 
 /// The number of binary digits that the components of an index inside have room in.
+#[tactic(auto, using(crate::proofs::Auto::steps))]
 fn digits_for(extents: &[u64]) -> u32
     ensures value { result ≡ digits_for extents.now }
     ensures few { result ≤ 64 }
@@ -106,6 +111,7 @@ fn greatest(extents: &[u64]) -> u64
 }
 
 /// The place of an index, the last component the fastest.
+#[tactic(auto, using(crate::proofs::Auto::steps))]
 fn place_by_rows(extents: &[u64], index: &[u64]) -> u64
     requires few { length (indices extents.now) ≤ 2 ^ 24 }
     requires inside { IsInside extents.now index.now }
@@ -119,6 +125,7 @@ fn place_by_rows(extents: &[u64], index: &[u64]) -> u64
 }
 
 /// The place of an index, the first component the fastest.
+#[tactic(auto, using(crate::proofs::Auto::steps))]
 fn place_by_columns(extents: &[u64], index: &[u64]) -> u64
     requires few { length (indices (reverse extents.now)) ≤ 2 ^ 24 }
     requires inside { IsInside extents.now index.now }
@@ -132,6 +139,7 @@ fn place_by_columns(extents: &[u64], index: &[u64]) -> u64
 }
 
 /// The place of an index in Morton order: the digits of its components, each in its turn.
+#[tactic(auto, using(crate::proofs::Auto::steps))]
 fn place_by_digits(extents: &[u64], index: &[u64]) -> u64
     requires ranked { (0 < length extents.now) × (length extents.now ≤ 4) }
     requires few { 2 ^ (length extents.now * digits_for extents.now) ≤ 2 ^ 24 }

@@ -17,3 +17,4 @@ pub mod Ways
 pub mod Wholes
 pub mod WideLaws
 pub mod WordLaws
+pub mod Auto

@@ -1,15 +1,18 @@
 //! The lines of the script language in both of its versions, read from their texts and written as them, and the line that says
 //! a script's version.
-#![tactic(auto, using(std::proofs::lemmas::Grind::common_steps, crate::proofs::Auto::steps))]
+#![tactic(auto)]
 
 mod bodies;
 mod depth;
 mod fault;
 mod kernels;
 mod later;
+#[tactic(auto, using(crate::proofs::Auto::steps))]
 mod line;
+#[tactic(auto, using(crate::proofs::Auto::steps))]
 mod token_list;
 mod updates;
+#[tactic(auto, using(crate::proofs::Auto::steps))]
 mod version;
 
 pub use fault::LineFault;

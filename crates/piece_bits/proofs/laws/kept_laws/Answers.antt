@@ -1,15 +1,5 @@
 use Rattle.piece_bits.specs.KeptLaws as laws
-use Rattle.piece_bits.proofs.Imports.{low_congruent, congruent_same, fold_next, folded_far, shortened_kept}
 use Rattle.piece_bits.proofs.laws.kept_laws.Goals as goal
-
-pub returns-clause-congruent : goal.returns-clause-congruent
-returns-clause-congruent c = low_congruent
-
-pub returns-clause-single : goal.returns-clause-single
-returns-clause-single c = congruent_same
-
-pub returns-clause-declared : goal.returns-clause-declared
-returns-clause-declared c = laws.kept_in
 
 pub returns-clause-again : goal.returns-clause-again
 returns-clause-again c = laws.kept_again
@@ -28,12 +18,3 @@ returns-clause-told c = laws.own_sign_held
 
 pub returns-clause-bits : goal.returns-clause-bits
 returns-clause-bits c = laws.held_digit
-
-pub returns-clause-folding : goal.returns-clause-folding
-returns-clause-folding c = fold_next
-
-pub returns-clause-beyond : goal.returns-clause-beyond
-returns-clause-beyond c = folded_far
-
-pub returns-clause-far : goal.returns-clause-far
-returns-clause-far c = shortened_kept

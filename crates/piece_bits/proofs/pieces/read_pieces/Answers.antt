@@ -1,8 +1,5 @@
-use Rattle.piece_bits.proofs.Imports.{◌+◌, ◌*◌, ◌/◌, ◌%◌, ◌^◌, ◌≡◌, ◌<◌, ℕ, List, [], get_or, ap, ◌∙◌, arith, get_or_read, bit_at-lt, number, Piece, bit_of, bit_in, spots_of, bit_at_spot, IsWithin, IsNext, nowhere, next_piece, read_next, common_steps}
+use Rattle.piece_bits.proofs.Imports.{◌+◌, ◌*◌, ◌/◌, ◌%◌, ◌^◌, ◌≡◌, ◌<◌, ℕ, List, [], get_or, ap, ◌∙◌, arith, get_or_read, bit_at-lt, number, Piece, bit_of, bit_in, spots_of, bit_at_spot, IsWithin, IsNext, nowhere, next_piece, read_next}
 use Rattle.piece_bits.proofs.pieces.read_pieces.Goals as goal
-
-pub bits-requires-clause-few : goal.bits-requires-clause-few
-bits-requires-clause-few c = grind (arith, common_steps, next_piece)
 
 abbrev piece_of : goal.After-bits → Piece
 piece_of c = get_or c.args.pieces.now c.loop-piece.piece-index nowhere

@@ -1,5 +1,5 @@
-use Rattle.piece_bits.proofs.Imports.{◌≡◌, ◌+ℤ◌, ◌*ℤ◌, get_or, ◌∙◌, arith, length-zip2, common_steps}
-use Rattle.piece_bits.proofs.InPlace.{beside, zipped}
+use Rattle.piece_bits.proofs.Imports.{◌≡◌, ◌+ℤ◌, ◌*ℤ◌, get_or, ◌∙◌, arith}
+use Rattle.piece_bits.proofs.InPlace.{beside}
 use Rattle.piece_bits.proofs.plain.times_plus.Goals as goal
 
 pub multiple_plus-requires : goal.multiple_plus-requires
@@ -14,9 +14,3 @@ multiple_plus-requires g c =
     let both = beside (λ v w. fits (factor *ℤ value v) × fits (factor *ℤ value v +ℤ value w)) c.args.values.now c.args.added.now i x y (omega arith) (omega arith) c.requires.fit in
     let these : fits (factor *ℤ value x) × fits (factor *ℤ value x +ℤ value y) = rw (is, c.index-added-at.is) both in
     record { product = these.0; sum = these.1 }
-
-pub loop-at-preserved : goal.loop-at-preserved
-loop-at-preserved g c = grind (arith, common_steps, zipped)
-
-pub returns : goal.returns
-returns g c = grind (arith, common_steps, length-zip2)

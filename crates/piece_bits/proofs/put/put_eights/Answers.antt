@@ -1,5 +1,5 @@
-use Rattle.piece_bits.proofs.Imports.{◌≡◌, ◌+◌, ◌*◌, get_or, pos, rules, FitsSigned, w64, arith, to_z-of_z, common_steps}
-use Rattle.piece_bits.proofs.Puts.{even_place, put_more, room_left}
+use Rattle.piece_bits.proofs.Imports.{◌≡◌, ◌+◌, ◌*◌, get_or, pos, rules, FitsSigned, w64, arith, to_z-of_z}
+use Rattle.piece_bits.proofs.Puts.{even_place, put_more}
 use Rattle.piece_bits.proofs.put.put_eights.Goals as goal
 
 pub overflow_mul-j : goal.overflow_mul-j
@@ -13,9 +13,6 @@ overflow_add-first c =
     let there = even_place c.args.stretch.now c.eights-eights.result c.loop-eight.eight c.loop-j.j c.place-first.result c.args.apart c.eights-eights.ensures (omega arith) (omega arith)
     c.place-first.ensures c.requires.apart in
     omega (arith, there, c.requires.room.places (8 * c.loop-eight.eight + c.loop-j.j) (omega (arith, c.eights-eights.ensures.few)))
-
-pub put_number-requires-clause-within : goal.put_number-requires-clause-within
-put_number-requires-clause-within c = grind (arith, common_steps, even_place, room_left)
 
 pub loop-j-preserved : goal.loop-j-preserved
 loop-j-preserved c =

@@ -1,9 +1,6 @@
 use Rattle.piece_bits.proofs.Imports.{arith, SFits, rules, w128, scattered_pieces, spots_of}
 use Rattle.piece_bits.proofs.scattered.write_scattered.Goals as goal
 
-pub write_bytes-requires-clause-few : goal.write_bytes-requires-clause-few
-write_bytes-requires-clause-few c = omega (arith, c.requires.wide, c.requires.form.narrow)
-
 pub returns : goal.returns
 returns c =
     let width = c.args.field.now.width in

@@ -1,4 +1,4 @@
-use Rattle.piece_bits.proofs.Imports.{image_of_table, settled_after, same_sign, image_table, declared_with_entry}
+use Rattle.piece_bits.proofs.Imports.{image_of_table, settled_after, image_table, declared_with_entry}
 use Rattle.piece_bits.proofs.told_tables.table_laws.Goals as goal
 
 pub returns-clause-image : goal.returns-clause-image
@@ -12,6 +12,3 @@ returns-clause-settled c = settled_after
 
 pub returns-clause-changed : goal.returns-clause-changed
 returns-clause-changed c = declared_with_entry
-
-pub returns-clause-entry : goal.returns-clause-entry
-returns-clause-entry c = same_sign

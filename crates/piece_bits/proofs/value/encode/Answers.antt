@@ -1,5 +1,5 @@
-use Rattle.piece_bits.proofs.Imports.{arith, ints, ones_of, common_steps}
-use Rattle.piece_bits.proofs.Values.{encoded, held_negsuc, by_sign}
+use Rattle.piece_bits.proofs.Imports.{arith, ints, ones_of}
+use Rattle.piece_bits.proofs.Values.{encoded}
 use Rattle.piece_bits.proofs.value.encode.Goals as goal
 
 pub returns-then-value-ge0 : goal.returns-then-value-ge0
@@ -15,6 +15,3 @@ returns-else-value-ge0 c =
     encoded hold.signed hold.width c.args.value _ c.requires.some c.requires.fits
     (λ n is small. absurd (omega (arith, ints)))
     (λ n is small. omega (arith, ints, ones_of hold.width c.requires.narrow))
-
-pub overflow_sub-result-else-value-ge0-2 : goal.overflow_sub-result-else-value-ge0-2
-overflow_sub-result-else-value-ge0-2 c = grind (arith, common_steps, by_sign, held_negsuc, ones_of)

@@ -1,9 +1,6 @@
-use Rattle.piece_bits.proofs.Imports.{ℕ, ◌≡◌, ◌%◌, ◌^◌, subst, arith, morton_line, common_steps}
-use Rattle.piece_bits.proofs.StretchLaws.{twos_divide, shifted, sixteen}
+use Rattle.piece_bits.proofs.Imports.{ℕ, ◌≡◌, ◌%◌, ◌^◌, subst, arith, morton_line}
+use Rattle.piece_bits.proofs.StretchLaws.{twos_divide, shifted}
 use Rattle.piece_bits.proofs.short.ShortRule.digit_rows.Goals as goal
-
-pub returns-clause-few : goal.returns-clause-few
-returns-clause-few c = grind (arith, common_steps, sixteen)
 
 pub returns-clause-apart : goal.returns-clause-apart
 returns-clause-apart c = λ k inside.

@@ -7,12 +7,6 @@ pub start-requires : goal.start-requires
 start-requires c = λ some.
     subst (λ (n : ℕ). HasStart c.args.self.now n) (omega arith) (c.requires.starts some 0 c.requires.some)
 
-pub line_rows-requires : goal.line_rows-requires
-line_rows-requires c = omega (arith, (c.requires.starts c.in_ok-start.ensures.some 0 c.requires.some).row_in)
-
-pub digit_rows-requires : goal.digit_rows-requires
-digit_rows-requires c = omega (arith, (c.requires.starts c.in_ok-start.ensures.some 0 c.requires.some).row_in)
-
 pub returns : goal.returns
 returns c =
     let short : ShortRule = c.args.self.now in
