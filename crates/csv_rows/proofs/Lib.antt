@@ -25,3 +25,4 @@ pub mod PrintedLines
 pub mod PrintedRows
 pub mod Sequences
 pub mod Tables
+pub mod Auto

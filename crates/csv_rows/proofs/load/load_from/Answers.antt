@@ -1,4 +1,4 @@
-use Rattle.csv_rows.proofs.Imports.{rules, ◌≡◌, ◌<◌, ◌∙◌, List, ℕ, [], ◌∷◌, ap, sym, length, arith, true, false, inr, Err, length-map, texts_of, header_record, MissingColumn, common_steps}
+use Rattle.csv_rows.proofs.Imports.{rules, ◌≡◌, ◌<◌, ◌∙◌, List, ℕ, [], ◌∷◌, ap, sym, length, arith, true, false, inr, Err, length-map, texts_of, header_record, MissingColumn}
 use Rattle.csv_rows.proofs.Tables.{IsKnown, header_refused, no_header, dataset_loaded, dataset_refused, dataset_keeps}
 use Rattle.csv_rows.proofs.load.load_from.Goals as goal
 
@@ -9,9 +9,6 @@ returns-in_err-columns-clause-refused g c =
     let result : c.from_residual-in_err-columns.result ≡ Err c.in_err-columns.field-0.0 = search rules in
     let refused = rw c.schema-2.ensures.value at c.in_err-columns.ensures.refused in
     rw result (header_refused c.args.view.now (g.R.Records.left c.args.records.now) (g.R.Records.fields c.next.new.self) c.in_err-columns.field-0.0 (ap header_record (sym read.1)) refused).0
-
-pub returns-in_err-columns-clause-kept : goal.returns-in_err-columns-clause-kept
-returns-in_err-columns-clause-kept g c = grind (arith, common_steps, header_refused)
 
 -- no record
 pub returns-then-not-branch-clause-refused : goal.returns-then-not-branch-clause-refused

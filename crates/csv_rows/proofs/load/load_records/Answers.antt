@@ -1,6 +1,6 @@
-use Rattle.csv_rows.proofs.Imports.{rules, ◌≡◌, ◌∙◌, refl, sym, arith, true, Err, inr, kept_row, kept_of, common_steps}
+use Rattle.csv_rows.proofs.Imports.{rules, ◌≡◌, ◌∙◌, refl, sym, arith, true, Err, inr, kept_row, kept_of}
 use Rattle.csv_rows.proofs.Accesses.{no_row_stored}
-use Rattle.csv_rows.proofs.Tables.{Loading, next_left, row_loaded, rows_loaded, rows_written, row_refused}
+use Rattle.csv_rows.proofs.Tables.{Loading, next_left, row_loaded, row_refused}
 use Rattle.csv_rows.proofs.load.load_records.Goals as goal
 
 pub loop-records-init : goal.loop-records-init
@@ -35,9 +35,3 @@ loop-records-preserved g c =
     let next = next_left (g.R.Records.left c.args.records.now) (g.R.Records.left c.loop-records.records) c.loop-records.row (g.R.Records.fields c.next.new.self) (g.R.Records.left c.next.new.self) i.left read.1 in
     let after = row_loaded c.args.view.now c.loop-records.view c.load_row.new.view c.args.columns.now (g.R.Records.left c.args.records.now) c.loop-records.row (g.R.Records.fields c.next.new.self) (g.R.Records.left c.next.new.self) (kept_row (kept_of c.loop-records.view) c.load_row.new.values) i.loading c.requires.rows next c.in_ok-load_row.ensures.read c.in_ok-load_row.ensures.stored in
     record { reading = c.in_ok-load_row.ensures.asked.standing; left = c.in_ok-load_row.ensures.asked.behind ∙ sym next.behind_it; loading = after; values = c.in_ok-load_row.ensures.count ∙ i.values }
-
-pub returns-clause-loaded : goal.returns-clause-loaded
-returns-clause-loaded g c = grind (arith, common_steps, rows_loaded)
-
-pub returns-clause-same : goal.returns-clause-same
-returns-clause-same g c = grind (arith, common_steps, rows_written)

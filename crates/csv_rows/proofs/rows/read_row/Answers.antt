@@ -1,6 +1,6 @@
 use Rattle.csv_rows.proofs.Imports.{rules, arith, ◌≡◌, ◌<◌, ◌∙◌, ⊎_elim, pos, refl, true, is_ok, Ok, Err, FitsSigned, take, get_or, length, w128, to_z-of_z, cases_eq, length-set, get_or-set_same, get_or-set_other, kept_row, answer_of, kept_of, value_at, place_of}
 use Rattle.csv_rows.proofs.Asked.{asked_again}
-use Rattle.csv_rows.proofs.Leaves.{leaf_read, leaf_refused, leaves_read}
+use Rattle.csv_rows.proofs.Leaves.{leaf_read, leaf_refused}
 use Rattle.csv_rows.proofs.rows.read_row.Goals as goal
 
 pub returns-in_err-values-clause-refused : goal.returns-in_err-values-clause-refused
@@ -24,6 +24,3 @@ loop-leaf-preserved g c =
           (λ other. rw (get_or-set_other c.loop-leaf.values c.loop-leaf.leaf k value (pos 0) other) (c.loop-leaf.invariant.taken k (omega arith)))
           (cases_eq k c.loop-leaf.leaf);
     })
-
-pub returns-clause-read : goal.returns-clause-read
-returns-clause-read g c = leaves_read c.args.view.now c.args.columns.now c.laws_of_table.ensures.paired c.args.row (g.R.Records.fields c.args.records.now) c.loop-leaf.leaf c.loop-leaf.values c.requires.columns (c.loop-leaf.invariant.count ∙ c.requires.values) (omega arith) c.loop-leaf.invariant.read

@@ -1,9 +1,6 @@
-use Rattle.csv_rows.proofs.Imports.{arith, ◌≡◌, ◌<◌, length, ap, ◌∙◌, nat_tests, line_start, HasNoQuote, text_behind, common_steps}
-use Rattle.csv_rows.proofs.PlainLines.{no_rows, record_rows, line_record, left_plain, start_plain}
+use Rattle.csv_rows.proofs.Imports.{arith, ◌≡◌, ◌<◌, length, ap, ◌∙◌, nat_tests, line_start, HasNoQuote, text_behind}
+use Rattle.csv_rows.proofs.PlainLines.{record_rows, line_record, left_plain, start_plain}
 use Rattle.csv_rows.proofs.lines.LinesRecords.next.Goals as goal
-
-pub returns-then-is_empty : goal.returns-then-is_empty
-returns-then-is_empty c = grind (arith, common_steps, no_rows)
 
 pub returns : goal.returns
 returns c =
