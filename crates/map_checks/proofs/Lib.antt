@@ -10,3 +10,4 @@ pub mod PlanLaws
 pub mod RuleLaws
 pub mod SplitRules
 pub mod SwapRuleLaws
+pub mod Auto

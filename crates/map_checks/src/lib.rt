@@ -5,25 +5,36 @@
 mod bad_field;
 mod bad_side;
 mod base_plan;
+#[tactic(auto, using(crate::proofs::Auto::steps))]
 mod bit_plans;
+#[tactic(auto, using(crate::proofs::Auto::steps))]
 mod cells;
 mod fault;
+#[tactic(auto, using(crate::proofs::Auto::steps))]
 mod full;
 mod hold_list;
+#[tactic(auto, using(crate::proofs::Auto::steps))]
 mod holds;
 mod inner_cells;
+#[tactic(auto, using(crate::proofs::Auto::steps))]
 mod join_plan;
+#[tactic(auto, using(crate::proofs::Auto::steps))]
 mod make;
 mod merge;
+#[tactic(auto, using(crate::proofs::Auto::steps))]
 mod not_full;
 mod one_piece;
+#[tactic(auto, using(crate::proofs::Auto::steps))]
 mod orders;
 mod plan;
 mod rule;
+#[tactic(auto, using(crate::proofs::Auto::steps))]
 mod sides;
 mod split_plan;
 mod split_rules;
+#[tactic(auto, using(crate::proofs::Auto::steps))]
 mod swap_plan;
+#[tactic(auto, using(crate::proofs::Auto::steps))]
 mod widths;
 
 pub use bad_field::has_bad_field;

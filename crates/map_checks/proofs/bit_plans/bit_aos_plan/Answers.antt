@@ -1,7 +1,6 @@
-use Rattle.map_checks.proofs.Imports.{◌≡◌, ℕ, List, ap, ◌∙◌, subst, Err, Owner, bit_aos, widths_in, narrow_holds, IsTooBig, Cell, true≢false, schema_fields, cell_widths, good_widths, common_steps, arith}
-use Rattle.map_checks.proofs.Faults.{too_big_of, no_width}
+use Rattle.map_checks.proofs.Imports.{◌≡◌, ℕ, List, ap, ◌∙◌, subst, Err, Owner, bit_aos, widths_in, narrow_holds, IsTooBig, Cell, schema_fields, cell_widths}
+use Rattle.map_checks.proofs.Faults.{too_big_of}
 use Rattle.map_checks.proofs.Limits.{over}
-use Rattle.map_checks.proofs.PlanLaws.{base_planned}
 use Rattle.map_checks.proofs.bit_plans.bit_aos_plan.Goals as goal
 
 abbrev bits : List Cell → ℕ → List ℕ → List (List Owner)
@@ -16,9 +15,3 @@ returns-in_err-mapping-clause-too_big c = λ is.
     let why = too_big_of c.from_residual-in_err-mapping.result c.in_err-mapping.field-0.0 c.from_residual-in_err-mapping.ensures.1 is in
     over (λ n _. bits cells n own) c.args.order c.args.extents.now cells slots c.in_ok-slots.ensures.count
     (subst (λ (ws : List ℕ). IsTooBig slots (bits cells slots ws)) same (c.in_err-mapping.ensures.too_big (ap Err why)))
-
-pub returns-in_err-mapping-clause-only : goal.returns-in_err-mapping-clause-only
-returns-in_err-mapping-clause-only c = grind (arith, common_steps, no_width, true≢false, good_widths)
-
-pub returns-clause-plan : goal.returns-clause-plan
-returns-clause-plan c = grind (arith, common_steps, base_planned)

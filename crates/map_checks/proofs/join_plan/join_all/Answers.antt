@@ -1,15 +1,6 @@
 use Rattle.map_checks.proofs.Imports.{◌≡◌, ◌+◌, ◌<◌, ◌≤◌, List, length, take, arith, rules, length-append, Cell, byte_count, each_push, common_steps}
-use Rattle.map_checks.proofs.JoinRuleLaws.{next_is, within, some_bytes, few_bytes, length-those, all_those, slice_is}
+use Rattle.map_checks.proofs.JoinRuleLaws.{next_is, within, slice_is}
 use Rattle.map_checks.proofs.join_plan.join_all.Goals as goal
-
-pub joined-requires-clause-some : goal.joined-requires-clause-some
-joined-requires-clause-some c = grind (arith, common_steps, slice_is, length-those, some_bytes)
-
-pub joined-requires-clause-few : goal.joined-requires-clause-few
-joined-requires-clause-few c = grind (arith, common_steps, slice_is, length-those, few_bytes)
-
-pub joined-requires-clause-alone : goal.joined-requires-clause-alone
-joined-requires-clause-alone c = grind (arith, common_steps, slice_is, all_those)
 
 pub overflow_add-next : goal.overflow_add-next
 overflow_add-next c =

@@ -1,10 +1,10 @@
 use Rattle.map_checks.proofs.Imports.{◌≡◌, ◌∙◌, ℕ, List, Bool, Err, map, length, sym, ap, subst, Fields, schema_fields, slot_count, Cell, aosoa, aos_layout, soa_layout, Term, term_of, MapExpr, IsTooBigFor, orders_of, IsPlanOf, Rule, common_steps, arith}
 use Rattle.map_checks.proofs.ArrayLaws.{base_arrays}
-use Rattle.map_checks.proofs.OrderLaws.{planned_orders, orders_changed}
-use Rattle.map_checks.proofs.BytePlanLaws.{narrow_under, narrow_beside, over_swap, swap_held, swap_bytes, swap_planned, swap_ordered, over_join, join_each, join_alone, join_planned, join_ordered}
-use Rattle.map_checks.proofs.Faults.{too_big_of, handed_on, handed}
+use Rattle.map_checks.proofs.OrderLaws.{planned_orders}
+use Rattle.map_checks.proofs.BytePlanLaws.{swap_bytes, swap_planned, join_planned}
+use Rattle.map_checks.proofs.Faults.{too_big_of, handed_on}
 use Rattle.map_checks.proofs.Limits.{over}
-use Rattle.map_checks.proofs.PlanLaws.{base_planned, over_under, over_beside, holds_first, holds_rest, rules_first, rules_rest, over_all, planned}
+use Rattle.map_checks.proofs.PlanLaws.{base_planned, over_under, over_beside, holds_first, rules_first, rules_rest, over_all, planned}
 use Rattle.map_checks.proofs.make.+make_plan.Goals as goal
 
 pub returns-in_err-mapping-in-Soa-clause-too_big : goal.returns-in_err-mapping-in-Soa-clause-too_big
@@ -67,18 +67,12 @@ split_plan-requires-clause-first_holds t c =
     (c.as_slice.ensures ∙ c.in_ok-sides-in-Split.ensures.side) c.in_ok-sides-in-Split.ensures.first c.in_ok-sides-in-Split.ensures.rest
     (grind arith) (grind arith)
 
-pub split_plan-requires-clause-rest_holds : goal.split_plan-requires-clause-rest_holds
-split_plan-requires-clause-rest_holds t c = grind (arith, common_steps, holds_rest)
-
 pub split_plan-requires-clause-first_rules : goal.split_plan-requires-clause-first_rules
 split_plan-requires-clause-first_rules t c =
     rules_first c.in-Split.path (term_of c.in-Split.first.value) (term_of c.in-Split.rest.value) c.args.extents.now (schema_fields c.args.schema.now) c.args.cells.now
     c.as_slice.result.now c.in_ok-sides-in-Split.sides.first c.in_ok-sides-in-Split.sides.rest c.in_ok-left-in-Split.left c.in_ok-right-in-Split.right
     (c.as_slice.ensures ∙ c.in_ok-sides-in-Split.ensures.side) c.in_ok-sides-in-Split.ensures.first c.in_ok-sides-in-Split.ensures.rest
     (grind arith) (grind arith)
-
-pub split_plan-requires-clause-rest_rules : goal.split_plan-requires-clause-rest_rules
-split_plan-requires-clause-rest_rules t c = grind (arith, common_steps, rules_rest)
 
 pub returns-in_err-plan-in-Split-clause-too_big : goal.returns-in_err-plan-in-Split-clause-too_big
 returns-in_err-plan-in-Split-clause-too_big t c = λ is.
@@ -124,35 +118,11 @@ returns-in_ok-plan-in-Split-clause-orders t c =
     (rules_rest path one two extents fields cells side sides.sides.first sides.sides.rest left.left right.right side_is sides.ensures.first sides.ensures.rest first_planned rest_planned)
     plan.ensures.rules)
 
-pub returns-in_err-left-in-Split-clause-not_full : goal.returns-in_err-left-in-Split-clause-not_full
-returns-in_err-left-in-Split-clause-not_full t c = grind (arith, common_steps, narrow_under, handed)
-
-pub returns-in_err-right-in-Split-clause-not_full : goal.returns-in_err-right-in-Split-clause-not_full
-returns-in_err-right-in-Split-clause-not_full t c = grind (arith, common_steps, narrow_beside, handed)
-
-pub returns-in_err-made-in-Byteswap-clause-too_big : goal.returns-in_err-made-in-Byteswap-clause-too_big
-returns-in_err-made-in-Byteswap-clause-too_big t c = grind (arith, common_steps, over_swap, handed_on)
-
-pub swap_plan-requires-clause-held : goal.swap_plan-requires-clause-held
-swap_plan-requires-clause-held t c = grind (arith, common_steps, swap_held)
-
 pub swap_plan-requires-clause-bytes : goal.swap_plan-requires-clause-bytes
 swap_plan-requires-clause-bytes t c = grind (arith, common_steps, swap_bytes)
 
 pub returns-in_ok-plan-in-Byteswap-clause-plan : goal.returns-in_ok-plan-in-Byteswap-clause-plan
 returns-in_ok-plan-in-Byteswap-clause-plan t c = grind (arith, common_steps, swap_planned)
-
-pub returns-in_ok-plan-in-Byteswap-clause-orders : goal.returns-in_ok-plan-in-Byteswap-clause-orders
-returns-in_ok-plan-in-Byteswap-clause-orders t c = grind (arith, common_steps, swap_ordered)
-
-pub returns-in_err-made-in-Bytesplit-clause-too_big : goal.returns-in_err-made-in-Bytesplit-clause-too_big
-returns-in_err-made-in-Bytesplit-clause-too_big t c = grind (arith, common_steps, over_join, handed_on)
-
-pub join_plan-requires-clause-each : goal.join_plan-requires-clause-each
-join_plan-requires-clause-each t c = grind (arith, common_steps, join_each)
-
-pub join_plan-requires-clause-alone : goal.join_plan-requires-clause-alone
-join_plan-requires-clause-alone t c = grind (arith, common_steps, join_alone)
 
 pub returns-in_ok-plan-in-Bytesplit-clause-plan : goal.returns-in_ok-plan-in-Bytesplit-clause-plan
 returns-in_ok-plan-in-Bytesplit-clause-plan t c =
@@ -167,20 +137,11 @@ returns-in_ok-plan-in-Bytesplit-clause-plan t c =
     (subst (λ (e : MapExpr). map (λ (r : Rule). r.order) made.made.rules ≡ orders_of (term_of e) fields bytes.bytes) c.deref-in-Bytesplit.ensures made.ensures.orders) in
     grind (arith, join_planned)
 
-pub returns-in_ok-plan-in-Bytesplit-clause-orders : goal.returns-in_ok-plan-in-Bytesplit-clause-orders
-returns-in_ok-plan-in-Bytesplit-clause-orders t c = grind (arith, common_steps, join_ordered)
-
-pub returns-in_ok-cells-in-Change-clause-orders : goal.returns-in_ok-cells-in-Change-clause-orders
-returns-in_ok-cells-in-Change-clause-orders t c = grind (arith, common_steps, orders_changed)
-
 pub returns-in_ok-plan-in-Aosoa-clause-orders : goal.returns-in_ok-plan-in-Aosoa-clause-orders
 returns-in_ok-plan-in-Aosoa-clause-orders t c =
     c.in_ok-plan-in-Aosoa.ensures.orders
     ∙ ap (map (λ (cell : Cell). c.in-Aosoa.order)) c.in_ok-mapping-in-Aosoa.ensures.cells
     ∙ ap (λ (expr : MapExpr). orders_of (term_of expr) (schema_fields c.args.schema.now) c.args.cells.now) (sym c.in-Aosoa.is)
-
-pub returns-in_ok-plan-in-Soa-clause-arrays : goal.returns-in_ok-plan-in-Soa-clause-arrays
-returns-in_ok-plan-in-Soa-clause-arrays t c = grind (arith, common_steps, base_arrays)
 
 pub returns-in_ok-plan-in-Aosoa-clause-arrays : goal.returns-in_ok-plan-in-Aosoa-clause-arrays
 returns-in_ok-plan-in-Aosoa-clause-arrays t c =

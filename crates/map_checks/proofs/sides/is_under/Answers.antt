@@ -11,6 +11,3 @@ returns-then-first-leaf c = grind (arith, common_steps, nat_le, under_is, nat_lt
 
 pub returns-else-first-leaf : goal.returns-else-first-leaf
 returns-else-first-leaf c = grind (arith, common_steps, nat_le, under_is, nat_lt)
-
-pub returns-in-None : goal.returns-in-None
-returns-in-None c = grind (arith, common_steps, leaves_before)
