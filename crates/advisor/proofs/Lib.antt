@@ -14,3 +14,4 @@ pub mod SweepLaws
 pub mod Tried
 pub mod TriedRuns
 pub mod WarmLaws
+pub mod Auto

@@ -2,20 +2,31 @@
 #![tactic(auto)]
 
 mod advice;
+#[tactic(auto, using(crate::proofs::Auto::steps))]
 mod adviser;
+#[tactic(auto, using(crate::proofs::Auto::steps))]
 mod candidate;
 mod choice;
 mod costs;
+#[tactic(auto, using(crate::proofs::Auto::steps))]
 mod curve;
+#[tactic(auto, using(crate::proofs::Auto::steps))]
 mod laws;
+#[tactic(auto, using(crate::proofs::Auto::steps))]
 mod listed;
+#[tactic(auto, using(crate::proofs::Auto::steps))]
 mod mapped;
 mod pass;
 mod price;
+#[tactic(auto, using(crate::proofs::Auto::steps))]
 mod runs;
+#[tactic(auto, using(crate::proofs::Auto::steps))]
 mod sides;
+#[tactic(auto, using(crate::proofs::Auto::steps))]
 mod splits;
+#[tactic(auto, using(crate::proofs::Auto::steps))]
 mod suits;
+#[tactic(auto, using(crate::proofs::Auto::steps))]
 mod touched;
 mod trials;
 

@@ -21,3 +21,4 @@ pub mod StoredLaws
 pub mod TouchLaws
 pub mod WideLaws
 pub mod ZeroBlobs
+pub mod Auto

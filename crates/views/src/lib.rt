@@ -1,17 +1,23 @@
 // A table of numbers that lies in blobs as a mapping expression says, and nowhere else.
 #![tactic(auto)]
 
+#[tactic(auto, using(crate::proofs::Auto::steps))]
 mod access;
 mod fault;
+#[tactic(auto, using(crate::proofs::Auto::steps))]
 mod fresh;
 mod laws;
 mod moves;
+#[tactic(auto, using(crate::proofs::Auto::steps))]
 mod pieces;
 mod row;
 mod rows;
+#[tactic(auto, using(crate::proofs::Auto::steps))]
 mod runs;
+#[tactic(auto, using(crate::proofs::Auto::steps))]
 mod size;
 mod store;
+#[tactic(auto, using(crate::proofs::Auto::steps))]
 mod view;
 
 pub use fault::{LaneFault, MakeView, StoreFault};

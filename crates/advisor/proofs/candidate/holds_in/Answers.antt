@@ -10,9 +10,6 @@ loop-cell-preserved g c =
     let cell = c.loop-cell.cell in
     let here : get_or holds cell none ≡ c.hold.result = get_or_from_slice_get holds cell c.hold.result none c.hold.ensures in grind (arith, take_more)
 
-pub returns-clause-holds : goal.returns-clause-holds
-returns-clause-holds g c = c.loop-cell.invariant ∙ take_all c.loop-cell.cell (g.M.Mapping.hold_list c.args.mapping.now) (omega (arith, c.laws_of.ensures.paired))
-
 pub returns-clause-each : goal.returns-clause-each
 returns-clause-each g c =
     let holds = g.M.Mapping.hold_list c.args.mapping.now in

@@ -1,18 +1,12 @@
-use Rattle.advisor.proofs.Imports.{rules, ◌≡◌, Err, Result, leb-true, term_of, good_number, good_numbers, MakeMap, Plan, schema_fields, common_steps, arith}
+use Rattle.advisor.proofs.Imports.{rules, ◌≡◌, Err, Result, leb-true, term_of, MakeMap, Plan, schema_fields, common_steps, arith}
 use Rattle.advisor.proofs.JudgedLaws.{plan_refused, told_good, told_many, told_refused}
 use Rattle.advisor.proofs.mapped.mapped.Goals as goal
-
-pub returns-in_err-mapping-clause-refused : goal.returns-in_err-mapping-clause-refused
-returns-in_err-mapping-clause-refused c = grind (arith, common_steps, told_refused)
 
 pub returns-then-not-has_few_granules-clause-refused : goal.returns-then-not-has_few_granules-clause-refused
 returns-then-not-has_few_granules-clause-refused c = grind (arith, common_steps, told_many)
 
 pub returns-clause-good : goal.returns-clause-good
 returns-clause-good c = grind (arith, common_steps, told_good, leb-true)
-
-pub make_plan-requires-clause-numbers : goal.make_plan-requires-clause-numbers
-make_plan-requires-clause-numbers c = grind (arith, common_steps, good_numbers, good_number)
 
 pub returns-in_err-plan-clause-refused : goal.returns-in_err-plan-clause-refused
 returns-in_err-plan-clause-refused c =

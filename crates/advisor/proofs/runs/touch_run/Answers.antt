@@ -1,5 +1,5 @@
 use Rattle.advisor.proofs.Imports.{◌≡◌, ◌-◌, ◌∷◌, [], List, slice_index_or, sym, ap, ◌∙◌, subst, arith, Piece, is_in_granule, HeatCounts, heat_counts, heated_by, inside-counted, is_run_touched, long_piece, IsWarmed, or-false, common_steps}
-use Rattle.advisor.proofs.SteadyLaws.{long_ends, long_fits, long_is, long_inside, long_touches}
+use Rattle.advisor.proofs.SteadyLaws.{long_ends, long_is, long_inside, long_touches}
 use Rattle.advisor.proofs.WarmLaws.{heated_warmed, warmed_alike}
 use Rattle.advisor.proofs.runs.touch_run.Goals as goal
 
@@ -9,9 +9,6 @@ overflow_sub-bits c =
     let first = ap (λ (p : Piece). p.bit) c.piece-first.ensures in
     let last = ap (λ (p : Piece). p.bit) c.piece-last.ensures in
     omega (arith, ends, first, last)
-
-pub overflow_cast-bits : goal.overflow_cast-bits
-overflow_cast-bits c = grind (arith, common_steps, long_fits)
 
 pub touch-requires : goal.touch-requires
 touch-requires c = grind (arith, common_steps, long_ends, long_is, inside-counted, long_inside, slice_index_or)

@@ -1,15 +1,6 @@
-use Rattle.advisor.proofs.Imports.{List, [], ◌∷◌, ◌++◌, sym, ap, ◌∙◌, arith, filter, is_ok, get_or-map, flat_map_single, map-map, Term, Split, term_of, MapExpr, judge, terms_in, common_steps}
-use Rattle.advisor.proofs.PoolLaws.{more_behind, all_behind}
+use Rattle.advisor.proofs.Imports.{List, [], ◌∷◌, ◌++◌, sym, ap, ◌∙◌, arith, filter, is_ok, flat_map_single, map-map, Term, Split, term_of, MapExpr, judge, terms_in}
+use Rattle.advisor.proofs.PoolLaws.{all_behind}
 use Rattle.advisor.proofs.splits.push_rests.Goals as goal
-
-pub push_split-requires-clause-built_rest : goal.push_split-requires-clause-built_rest
-push_split-requires-clause-built_rest c = grind (arith, common_steps)
-
-pub push_split-requires-clause-rest : goal.push_split-requires-clause-rest
-push_split-requires-clause-rest c = grind (arith, common_steps, get_or-map)
-
-pub loop-at-preserved : goal.loop-at-preserved
-loop-at-preserved c = grind (arith, common_steps, more_behind, is_ok)
 
 pub returns-clause-terms : goal.returns-clause-terms
 returns-clause-terms c =

@@ -1,9 +1,6 @@
-use Rattle.advisor.proofs.Imports.{◌≡◌, ℕ, List, [], ◌++◌, None, Option, get_or, map, sym, ap, ◌∙◌, arith, filter, is_ok, get_or-map, get_or_default, flat_map-map, Fields, Cell, Term, Named, Split, term_of, MapExpr, cells_under, judge, terms_in, IsSideCost, term_at, common_steps}
-use Rattle.advisor.proofs.PoolLaws.{more_behind, all_behind}
+use Rattle.advisor.proofs.Imports.{◌≡◌, ℕ, List, [], ◌++◌, None, Option, get_or, map, sym, ap, ◌∙◌, arith, filter, is_ok, get_or-map, get_or_default, flat_map-map, Fields, Cell, Term, Named, Split, term_of, MapExpr, cells_under, judge, terms_in, IsSideCost, term_at}
+use Rattle.advisor.proofs.PoolLaws.{all_behind}
 use Rattle.advisor.proofs.splits.push_splits_at.Goals as goal
-
-pub push_rests-requires-clause-built_first : goal.push_rests-requires-clause-built_first
-push_rests-requires-clause-built_first c = grind (arith, common_steps)
 
 pub push_rests-requires-clause-first : goal.push_rests-requires-clause-first
 push_rests-requires-clause-first c =
@@ -18,12 +15,6 @@ push_rests-requires-clause-first c =
     let term : term_at (map term_of listed) at ≡ term_of x = get_or-map term_of listed at x (Named []) (omega arith) ∙ ap term_of (sym c.index-listed-at.is) in
     let cost : get_or costs at None ≡ c.index.result.now = get_or_default costs at None c.index.result.now (omega (arith, c.in_ok-firsts.ensures.each)) ∙ sym c.index.ensures in
     grind arith
-
-pub push_rests-requires-clause-rests : goal.push_rests-requires-clause-rests
-push_rests-requires-clause-rests c = grind (arith, common_steps)
-
-pub loop-at-preserved : goal.loop-at-preserved
-loop-at-preserved c = grind (arith, common_steps, more_behind, is_ok)
 
 pub returns-clause-terms : goal.returns-clause-terms
 returns-clause-terms c =

@@ -1,4 +1,4 @@
-use Rattle.advisor.proofs.Imports.{◌≡◌, ◌+◌, ◌*◌, ◌/◌, ◌^◌, ◌<◌, ◌≤◌, ℕ, List, [], length, get_or, sym, ap, ◌∙◌, arith, div_ceil, lt-leb, le-leb, get_or-map, length-map, take_all, sum_by_more, sum_by-take-le, Owner, granules_in, granules_of, rounded, blob_lengths, common_steps}
+use Rattle.advisor.proofs.Imports.{◌≡◌, ◌+◌, ◌*◌, ◌/◌, ◌^◌, ◌<◌, ◌≤◌, ℕ, List, [], length, get_or, sym, ap, ◌∙◌, arith, div_ceil, lt-leb, get_or-map, length-map, sum_by_more, sum_by-take-le, Owner, granules_in, granules_of, rounded, blob_lengths}
 use Rattle.advisor.proofs.touched.has_few_granules.Goals as goal
 
 -- the granules of a blob
@@ -28,6 +28,3 @@ loop-blob-preserved g c =
     c.div_ceil-granules.ensures ∙ ap (div_ceil c.blob_bytes.result) c.from.ensures ∙ here layout c.loop-blob.blob granule c.blob_bytes.result c.requires (omega arith) c.blob_bytes.ensures in
     let more = sum_by_more (granules_of granule) lengths c.loop-blob.blob 0 (omega arith) in
     omega (arith, now, more, c.loop-blob.invariant)
-
-pub returns : goal.returns
-returns g c = grind (arith, common_steps, length-map, take_all, le-leb)

@@ -1,13 +1,7 @@
-use Rattle.advisor.proofs.Imports.{◌≡◌, ℕ, List, [], ◌∷◌, length, refl, sym, ap, ◌∙◌, arith, ◌==◌, list_any, eqb-true, take_all, list_any_more, heat_counts, no_heat, blob_lengths, holds_cell, touched, common_steps}
+use Rattle.advisor.proofs.Imports.{◌≡◌, ℕ, List, [], ◌∷◌, length, refl, sym, ap, ◌∙◌, arith, ◌==◌, list_any, eqb-true, take_all, list_any_more, heat_counts, no_heat, blob_lengths, holds_cell, touched}
 use Rattle.advisor.proofs.RuledLaws.{layout_in}
-use Rattle.advisor.proofs.WarmLaws.{cold_granules, none_touched, warmed_none, warmed_more, warm_touched}
+use Rattle.advisor.proofs.WarmLaws.{none_touched, warmed_more, warm_touched}
 use Rattle.advisor.proofs.touched.touched.Goals as goal
-
-pub loop-cell-init : goal.loop-cell-init
-loop-cell-init c = grind (arith, common_steps, list_any, warmed_none, cold_granules)
-
-pub touch_cell-requires-clause-granule : goal.touch_cell-requires-clause-granule
-touch_cell-requires-clause-granule c = c.loop-cell.invariant.warmed.granule
 
 pub loop-cell-preserved : goal.loop-cell-preserved
 loop-cell-preserved c =
@@ -17,9 +11,6 @@ loop-cell-preserved c =
           list_any_more (λ cell. holds_cell layout c.args.granule cell blob at) c.args.cells.now c.loop-cell.cell-index 0 (omega arith));
       granules = c.touch_cell.ensures.granules;
     }
-
-pub warm_granules-requires-clause-few : goal.warm_granules-requires-clause-few
-warm_granules-requires-clause-few c = grind (arith, common_steps)
 
 pub returns-clause-value : goal.returns-clause-value
 returns-clause-value c =

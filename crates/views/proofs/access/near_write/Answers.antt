@@ -1,5 +1,5 @@
 use Rattle.views.proofs.Imports.{◌<◌, length, SFits, rules, w128, common_steps, arith, to_z-of_z}
-use Rattle.views.proofs.AccessLaws.{StandsIn, stands, blob_there, blob_is, word_there, word_holds, word_put, word_lies}
+use Rattle.views.proofs.AccessLaws.{StandsIn, stands, blob_there, blob_is, word_there, word_put, word_lies}
 use Rattle.views.proofs.access.near_write.Goals as goal
 use Rattle.views.proofs.access.near_write.Goals.{In-Some}
 
@@ -17,16 +17,10 @@ index_mut-requires c =
     let low : c.short.result.now.short.blob < length c.args.blobs.now.items = blob_there (at (goal.at.index_mut-requires c).In-Some) in
     grind (arith, common_steps, low)
 
-pub write_word-requires-clause-form : goal.write_word-requires-clause-form
-write_word-requires-clause-form c = (at (goal.at.write_word-requires-clause-form c).In-Some).form
-
 pub write_word-requires-clause-within : goal.write_word-requires-clause-within
 write_word-requires-clause-within c =
     let here = at (goal.at.write_word-requires-clause-within c).In-Some in
     word_there here c.index_mut.result.now (blob_is here _ _ c.index_mut.ensures.value)
-
-pub write_word-requires-clause-held : goal.write_word-requires-clause-held
-write_word-requires-clause-held c = grind (arith, common_steps, word_holds, to_z-of_z)
 
 pub returns-clause-table : goal.returns-clause-table
 returns-clause-table c = λ wrote.

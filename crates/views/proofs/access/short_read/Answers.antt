@@ -39,9 +39,3 @@ returns-in-Scattered-clause-value c =
     ∙ bytes_read (lies c.args.map.now.holds c.args.row c.args.leaf c.laws_of.ensures.lawful c.laws_of.ensures.paired c.requires.row_in c.requires.leaf_in
     (with_rules c.as_slice.result.now c.as_slice.ensures.value (c.short-rule.ensures.form c.in_ok-start.ensures.some)) c.in_ok-start.start c.in_ok-start.ensures.start c.args.blobs.now c.requires.laid.sized
     c.in-Scattered.is) c.args.blobs.now c.read_scattered.result c.read_scattered.ensures
-
-pub returns-in_default-clause-sign : goal.returns-in_default-clause-sign
-returns-in_default-clause-sign c = λ _. c.short-rule.ensures.sign c.in_ok-start.ensures.some
-
-pub returns-in-Scattered-clause-sign : goal.returns-in-Scattered-clause-sign
-returns-in-Scattered-clause-sign c = λ _. c.short-rule.ensures.sign c.in_ok-start.ensures.some

@@ -1,5 +1,5 @@
 use Rattle.views.proofs.Imports.{◌<◌, length, SFits, rules, arith, w128, common_steps, to_z-of_z}
-use Rattle.views.proofs.AccessLaws.{StandsIn, LiesIn, with_rules, stands, lies, blob_there, blob_is, word_there, word_holds, word_put, word_lies, bytes_wide, bytes_apart, bytes_put, bytes_lie}
+use Rattle.views.proofs.AccessLaws.{StandsIn, LiesIn, with_rules, stands, lies, blob_there, blob_is, word_there, word_put, word_lies, bytes_wide, bytes_apart, bytes_put, bytes_lie}
 use Rattle.views.proofs.access.short_write.Goals as goal
 use Rattle.views.proofs.access.short_write.Goals.{In_default-word, After-as_slice}
 
@@ -24,16 +24,10 @@ index_mut-requires c =
     let low : c.short-rule.result.now.short.blob < length c.args.blobs.now.items = blob_there (at (goal.at.index_mut-requires c).In_default-word) in
     grind (arith, common_steps, low)
 
-pub write_word-requires-clause-form : goal.write_word-requires-clause-form
-write_word-requires-clause-form c = (at (goal.at.write_word-requires-clause-form c).In_default-word).form
-
 pub write_word-requires-clause-within : goal.write_word-requires-clause-within
 write_word-requires-clause-within c =
     let here = at (goal.at.write_word-requires-clause-within c).In_default-word in
     word_there here c.index_mut.result.now (blob_is here _ _ c.index_mut.ensures.value)
-
-pub write_word-requires-clause-held : goal.write_word-requires-clause-held
-write_word-requires-clause-held c = grind (arith, common_steps, word_holds, to_z-of_z)
 
 pub returns-in_default-word-clause-table : goal.returns-in_default-word-clause-table
 returns-in_default-word-clause-table c = λ wrote.

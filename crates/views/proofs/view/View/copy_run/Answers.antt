@@ -1,5 +1,5 @@
 use Rattle.views.proofs.Imports.{◌≡◌, length, arith, length-map, run_length, common_steps}
-use Rattle.views.proofs.RunSeenLaws.{copied_fits, copied_raised}
+use Rattle.views.proofs.RunSeenLaws.{copied_fits}
 use Rattle.views.proofs.view.View.copy_run.Goals as goal
 use Rattle.views.proofs.view.View.copy_run.Goals.{After-read_run}
 use Rattle.views.proofs.view.View.copy_run.Given.{Over}
@@ -14,11 +14,5 @@ many g c = grind (arith, length-map, run_length)
 pub put_lows-requires-clause-rows_in : goal.put_lows-requires-clause-rows_in
 put_lows-requires-clause-rows_in g c = omega (arith, many g (goal.at.put_lows-requires-clause-rows_in g c).After-read_run, c.requires.rows_in)
 
-pub returns-clause-stored : goal.returns-clause-stored
-returns-clause-stored g c = grind (arith, common_steps, copied_raised)
-
 pub returns-clause-count : goal.returns-clause-count
 returns-clause-count g c = many g (goal.at.returns-clause-count g c).After-read_run
-
-pub returns-clause-steps : goal.returns-clause-steps
-returns-clause-steps g c = grind (arith, common_steps)

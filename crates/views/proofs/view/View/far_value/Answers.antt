@@ -1,5 +1,5 @@
 use Rattle.views.proofs.Imports.{refl, ◌∙◌, arith, rules, SFits, w128, to_z-of_z, idle_tallied, common_steps}
-use Rattle.views.proofs.Opened.{rows_seen, leaf_seen, cell_count, laid_here, sign_seen, sign_declared, seen_touched}
+use Rattle.views.proofs.Opened.{rows_seen, leaf_seen, cell_count, sign_seen, sign_declared, seen_touched}
 use Rattle.views.proofs.view.View.far_value.Goals as goal
 
 pub short_read-requires-clause-row_in : goal.short_read-requires-clause-row_in
@@ -11,9 +11,6 @@ pub short_read-requires-clause-leaf_in : goal.short_read-requires-clause-leaf_in
 short_read-requires-clause-leaf_in c =
     let a = c.self.inside in
     omega (arith, cell_count c.self.invariant.0, leaf_seen a.schema a.extents a.expr a.blobs.items c.self.invariant.1 c.args.self.now c.self.view_is c.args.leaf c.requires.leaf_in)
-
-pub short_read-requires-clause-laid : goal.short_read-requires-clause-laid
-short_read-requires-clause-laid c = grind (arith, common_steps, laid_here)
 
 pub returns-in-Some-clause-value : goal.returns-in-Some-clause-value
 returns-in-Some-clause-value c =

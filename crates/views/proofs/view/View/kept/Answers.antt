@@ -1,4 +1,4 @@
-use Rattle.views.proofs.Imports.{◌≡◌, ◌∙◌, sym, ap, arith, rules, SFits, w128, to_z-of_z, Wrap, strict_kept, Table, common_steps}
+use Rattle.views.proofs.Imports.{◌≡◌, ◌∙◌, sym, ap, arith, rules, SFits, w128, to_z-of_z, Wrap, Table}
 use Rattle.views.proofs.Opened.{cell_count, leaf_seen, kind_seen, hold_seen}
 use Rattle.views.proofs.view.View.kept.Goals as goal
 
@@ -17,9 +17,6 @@ pub kept-requires-clause-narrow : goal.kept-requires-clause-narrow
 kept-requires-clause-narrow c =
     let a = c.self.inside in
     (hold_seen a.schema a.extents a.expr a.blobs.items c.self.invariant.1 c.args.self.now c.self.view_is c.self.invariant.0 c.args.leaf c.hold.result c.requires c.hold.ensures).2
-
-pub returns-in-Strict : goal.returns-in-Strict
-returns-in-Strict c = grind (arith, common_steps, to_z-of_z, strict_kept)
 
 pub returns-in-Wrap : goal.returns-in-Wrap
 returns-in-Wrap c =

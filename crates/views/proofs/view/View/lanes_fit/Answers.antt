@@ -1,9 +1,6 @@
-use Rattle.views.proofs.Imports.{ℤ, pos, get_or, SFits, w64, sym, ap, ◌∙◌, arith, rules, without_number, answer_of, common_steps}
-use Rattle.views.proofs.StoredLaws.{fault_later, fault_here, passed}
+use Rattle.views.proofs.Imports.{ℤ, pos, get_or, SFits, w64, sym, ap, ◌∙◌, arith, rules, without_number, answer_of}
+use Rattle.views.proofs.StoredLaws.{fault_here, passed}
 use Rattle.views.proofs.view.View.lanes_fit.Goals as goal
-
-pub loop-lane-preserved : goal.loop-lane-preserved
-loop-lane-preserved c = grind (arith, common_steps, passed, fault_later)
 
 pub returns-in-Err-clause-named : goal.returns-in-Err-clause-named
 returns-in-Err-clause-named c =

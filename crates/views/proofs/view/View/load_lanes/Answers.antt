@@ -1,12 +1,9 @@
-use Rattle.views.proofs.Imports.{◌≡◌, List, ℤ, length, sym, ap, subst, arith, Each1, IsBlock, IsNarrow, same, Table, common_steps}
+use Rattle.views.proofs.Imports.{◌≡◌, List, ℤ, sym, subst, arith, Each1, IsBlock, IsNarrow, same}
 use Rattle.views.proofs.ColumnLaws.{nothing_loaded, loaded_more, loaded_block}
 use Rattle.views.proofs.view.View.load_lanes.Goals as goal
 
 pub loop-lane-init : goal.loop-lane-init
 loop-lane-init g c = nothing_loaded c.args.leaf c.args.row c.args.self.now
-
-pub row_after-requires : goal.row_after-requires
-row_after-requires g c = omega (arith, ap (λ (t : Table). length t.rows) c.loop-lane.invariant.log)
 
 pub loop-lane-preserved : goal.loop-lane-preserved
 loop-lane-preserved g c =
@@ -30,6 +27,3 @@ returns-clause-narrow g c =
     let block : IsBlock c.loop-lane.values =
     loaded_block c.args.leaf c.args.row c.loop-lane.lane c.args.self.now c.loop-lane.self c.loop-lane.values c.loop-lane.invariant (omega arith) (omega arith) in
     subst (λ (values : List ℤ). Each1 IsNarrow values) (sym (same c.loop-lane.values block.fit)) c.loop-lane.invariant.narrow
-
-pub returns-clause-same : goal.returns-clause-same
-returns-clause-same g c = grind (arith, common_steps)

@@ -1,12 +1,8 @@
-use Rattle.views.proofs.Imports.{◌≡◌, ◌∙◌, ◌+◌, ◌*◌, ◌<◌, ◌≤◌, ◌||◌, ℕ, zero, suc, true, sym, ap, subst, arith, ◌==◌, range_with_len, or_left, or_right, eq-eqb, row_fits, blocks, AreRuns, slots_within, block_in, same_slots, same_steps, all_pieces, size_of, rows_after, is_cut, piece_at, span_pieces, Table, leaf_count_of, leaf_type_of, common_steps}
+use Rattle.views.proofs.Imports.{◌≡◌, ◌∙◌, ◌+◌, ◌*◌, ◌<◌, ◌≤◌, ◌||◌, ℕ, zero, suc, true, sym, ap, subst, arith, ◌==◌, range_with_len, or_right, row_fits, blocks, slots_within, block_in, same_slots, same_steps, all_pieces, size_of, rows_after, is_cut, piece_at, span_pieces, Table, leaf_type_of, common_steps}
 use Rattle.record_dim.specs.Std.{sum_by}
 use Rattle.views.proofs.PieceLaws.{piece_is}
-use Rattle.views.proofs.RunMoveLaws.{nothing_moved}
-use Rattle.views.proofs.SlotMoveLaws.{runs_more, still_block}
+use Rattle.views.proofs.SlotMoveLaws.{runs_more}
 use Rattle.views.proofs.view.View.move_cut.Goals as goal
-
-pub loop-done-init : goal.loop-done-init
-loop-done-init g c = grind (arith, common_steps, nothing_moved, or_left, eq-eqb)
 
 pub loop-done-preserved : goal.loop-done-preserved
 loop-done-preserved g c =
@@ -46,23 +42,6 @@ loop-done-preserved g c =
       first_or one two slot done (suc k) count number end l begins cuts = or_right _ _ (cuts (omega arith))
 
 -- there are slots on both sides
-pub pieces_at-pieces-requires-clause-first : goal.pieces_at-pieces-requires-clause-first
-pieces_at-pieces-requires-clause-first g c = grind (arith, common_steps, slots_within, same_slots)
-
-pub pieces_at-pieces-requires-clause-second : goal.pieces_at-pieces-requires-clause-second
-pieces_at-pieces-requires-clause-second g c = grind (arith, common_steps, slots_within)
-
-pub move_blocks-requires-clause-leaf_in : goal.move_blocks-requires-clause-leaf_in
-move_blocks-requires-clause-leaf_in g c = omega (arith, ap leaf_count_of c.loop-done.invariant.same, c.requires.leaf_in)
-
-pub move_blocks-requires-clause-arrays : goal.move_blocks-requires-clause-arrays
-move_blocks-requires-clause-arrays g c = subst (λ (t : Table). AreRuns t.mapping c.args.source.now.mapping) (sym c.loop-done.invariant.same) c.requires.arrays
-
-pub move_blocks-requires-clause-alike : goal.move_blocks-requires-clause-alike
-move_blocks-requires-clause-alike g c = grind (arith, common_steps)
-
-pub move_blocks-requires-clause-block : goal.move_blocks-requires-clause-block
-move_blocks-requires-clause-block g c k l = grind (arith, common_steps, slots_within, still_block, block_in, row_fits)
 
 pub move_blocks-requires-clause-other_block : goal.move_blocks-requires-clause-other_block
 move_blocks-requires-clause-other_block g c k l =

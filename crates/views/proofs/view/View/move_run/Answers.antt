@@ -1,8 +1,8 @@
 use Rattle.views.proofs.Imports.{◌≡◌, ◌∙◌, ◌+◌, ◌*◌, ◌/◌, ◌<◌, ◌≤◌, ℕ, List, [], length, get_or, sym, ap, subst, arith, mul-le, get_or_from_slice_get, kinds_of, schema_fields, Fields, LeafType, Truth, blocks, AreMoved, term_of, size_of, kind_at, Table, leaf_type_of, common_steps}
 use Rattle.views.proofs.KeptLaws.{kind_count, row_count}
-use Rattle.views.proofs.MoveLaws.{views_alike, seen_moved}
+use Rattle.views.proofs.MoveLaws.{views_alike}
 use Rattle.views.proofs.Opened.{cell_count, leaf_seen}
-use Rattle.views.proofs.RunMoveLaws.{IsMove, few_slots, nothing_moved, moved_seen, runs_seen, one_seen, block_seen, few_bits, run_there, slot_there, other_is, target_in, target_room, source_in, source_room, run_kept, run_raw, run_table}
+use Rattle.views.proofs.RunMoveLaws.{IsMove, few_slots, moved_seen, runs_seen, one_seen, block_seen, few_bits, run_there, target_in, target_room, source_in, source_room, run_kept, run_raw, run_table}
 use Rattle.views.proofs.view.View.move_run.Given as given
 use Rattle.views.proofs.view.View.move_run.Goals as goal
 use Rattle.views.proofs.view.View.move_run.Goals.{After-as_slice, After-move_between}
@@ -41,16 +41,10 @@ module _ (g : given.Over) (c : After-move_between g) where
   moved : MovedFrom c.source.inside.blobs.items
   moved = subst MovedFrom c.as_slice.ensures.value c.move_between.ensures.moved
 
-pub returns-then-n-eq0-clause-moved : goal.returns-then-n-eq0-clause-moved
-returns-then-n-eq0-clause-moved g c = nothing_moved c.args.self.now c.args.leaf c.args.slot c.args.n c.args.source.now.rows (omega arith)
-
 pub place_of-to-requires-clause-leaf_in : goal.place_of-to-requires-clause-leaf_in
 place_of-to-requires-clause-leaf_in g c =
     let a = c.self.inside in
     omega (arith, leaf_seen a.schema a.extents a.expr a.blobs.items c.self.invariant.1 c.args.self.now c.self.view_is c.args.leaf c.requires.leaf_in, cell_count c.self.invariant.0)
-
-pub place_of-to-requires-clause-slot_in : goal.place_of-to-requires-clause-slot_in
-place_of-to-requires-clause-slot_in g c = grind (arith, common_steps, slot_there, one_seen, block_seen)
 
 pub place_of-from-requires-clause-leaf_in : goal.place_of-from-requires-clause-leaf_in
 place_of-from-requires-clause-leaf_in g c =
@@ -59,9 +53,6 @@ place_of-from-requires-clause-leaf_in g c =
     views_alike c.args.self.now c.args.source.now c.self.view_is c.source.view_is c.requires.alike in
     let leaf_in : c.args.leaf < length (kinds_of (schema_fields a.schema)) = leaf_seen a.schema a.extents a.expr a.blobs.items c.self.invariant.1 c.args.self.now c.self.view_is c.args.leaf c.requires.leaf_in in
     omega (arith, subst (λ (f : Fields). c.args.leaf < length (kinds_of f)) alike.0 leaf_in, cell_count c.source.invariant.0)
-
-pub place_of-from-requires-clause-slot_in : goal.place_of-from-requires-clause-slot_in
-place_of-from-requires-clause-slot_in g c = grind (arith, common_steps, runs_seen, slot_there, other_is, block_seen)
 
 pub move_between-requires-clause-target : goal.move_between-requires-clause-target
 move_between-requires-clause-target g c = target_in (move g (goal.at.move_between-requires-clause-target g c).After-as_slice) c.self.invariant.1 c.source.invariant.1
@@ -96,9 +87,6 @@ returns-clause-moved g c =
     (run_table (term_of a.expr) (term_of b.expr) a.extents b.extents (schema_fields a.schema) (schema_fields b.schema) a.blobs.items b.blobs.items c.move_between.new.blobs.items c.args.leaf c.args.slot c.args.n
     both.alike both.leaf_in c.self.invariant.1 c.source.invariant.1
     (run_kept both c.self.invariant.1 c.source.invariant.1 new) (run_raw both c.self.invariant.1 c.source.invariant.1 new))
-
-pub returns-clause-same : goal.returns-clause-same
-returns-clause-same g c = grind (arith, common_steps, seen_moved)
 
 pub returns-clause-steps : goal.returns-clause-steps
 returns-clause-steps g c =

@@ -5,9 +5,6 @@ use Rattle.views.proofs.StoredLaws.{stored_more, all_stored}
 use Rattle.views.proofs.view.View.put_lows.Goals as goal
 use Rattle.views.proofs.view.View.put_lows.Goals.{After-raised, In-loop-k}
 
-pub loop-k-init : goal.loop-k-init
-loop-k-init c = record { stored = c.put_near-done.ensures.stored }
-
 -- no row is gone
 rows : (c : In-loop-k) → length c.loop-k.self.rows ≡ length c.args.self.now.rows
 rows c = grind (arith, length-with_column)

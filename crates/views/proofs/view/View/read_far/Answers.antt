@@ -1,19 +1,10 @@
-use Rattle.views.proofs.Imports.{◌<◌, ◌≤◌, ◌∙◌, length, refl, ap, arith, rules, SFits, FitsSigned, w64, w128, to_z-of_z, low_64, declared_within, Table, common_steps}
+use Rattle.views.proofs.Imports.{◌<◌, ◌≤◌, ◌∙◌, length, refl, ap, arith, rules, SFits, FitsSigned, w64, w128, to_z-of_z, low_64}
 use Rattle.views.proofs.RunLaws.{run_read}
 use Rattle.views.proofs.RunStoreLaws.{no_row, row_more}
 use Rattle.views.proofs.view.View.read_far.Goals as goal
 
 pub loop-k-init : goal.loop-k-init
 loop-k-init c = no_row c.args.leaf c.args.first c.args.self.now c.args.values.now c.args.values.now refl
-
-pub row_after-row-requires : goal.row_after-row-requires
-row_after-row-requires c = omega (arith, ap (λ (t : Table). length t.rows) c.loop-k.invariant.log, c.loop-k.invariant.count, c.requires.rows_in)
-
-pub value-requires-clause-row_in : goal.value-requires-clause-row_in
-value-requires-clause-row_in c = omega (arith, c.row_after-row.ensures, ap (λ (t : Table). length t.rows) c.loop-k.invariant.log, c.loop-k.invariant.count, c.requires.rows_in)
-
-pub low_of-requires : goal.low_of-requires
-low_of-requires c = grind (arith, common_steps, to_z-of_z, declared_within)
 
 pub loop-k-preserved : goal.loop-k-preserved
 loop-k-preserved c =
@@ -27,6 +18,3 @@ pub returns-clause-values : goal.returns-clause-values
 returns-clause-values c =
     let end : length c.args.values.now ≤ c.loop-k.k = omega (arith, c.loop-k.invariant.count) in
     run_read c.args.leaf c.args.first c.args.self.now.rows c.args.values.now c.loop-k.values c.loop-k.invariant.count c.requires.rows_in (λ k l. c.loop-k.invariant.each k (omega (arith, l, end)))
-
-pub returns-clause-same : goal.returns-clause-same
-returns-clause-same c = grind (arith, common_steps)

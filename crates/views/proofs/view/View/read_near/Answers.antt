@@ -1,5 +1,5 @@
 use Rattle.views.proofs.Imports.{◌≡◌, ◌+◌, false, sym, ap, ◌∙◌, arith, term_of, is_counted, low_64, Table}
-use Rattle.views.proofs.Opened.{cell_count, leaf_seen, laid_here, rows_seen, sign_seen, idle_seen}
+use Rattle.views.proofs.Opened.{cell_count, leaf_seen, rows_seen, sign_seen, idle_seen}
 use Rattle.views.proofs.RunLaws.{run_read}
 use Rattle.views.proofs.view.View.read_near.Goals as goal
 
@@ -12,9 +12,6 @@ pub read_rows-requires-clause-rows_in : goal.read_rows-requires-clause-rows_in
 read_rows-requires-clause-rows_in c =
     let a = c.self.inside in
     omega (arith, c.requires.rows_in, c.self.invariant.0.slots_are, rows_seen a.schema a.extents a.expr a.blobs.items c.self.invariant.1 c.args.self.now c.self.view_is)
-
-pub read_rows-requires-clause-sized : goal.read_rows-requires-clause-sized
-read_rows-requires-clause-sized c = (laid_here c.self.invariant.0 c.as_slice.result.now c.self.inside.blobs.items c.as_slice.ensures.value c.self.invariant.1.laid).sized
 
 pub returns-clause-values : goal.returns-clause-values
 returns-clause-values c = λ done.

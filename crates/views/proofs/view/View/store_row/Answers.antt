@@ -1,15 +1,6 @@
-use Rattle.views.proofs.Imports.{arith, ◌≡◌, ◌∙◌, [], sym, ap, List, ℤ, get_or, length, to_z-of_z, length-set, Table, leaf_count_of, common_steps}
-use Rattle.views.proofs.RowLaws.{none_stored, leaf_stored, row_stored}
+use Rattle.views.proofs.Imports.{arith, ◌≡◌, ◌∙◌, [], sym, get_or, length, to_z-of_z, common_steps}
+use Rattle.views.proofs.RowLaws.{leaf_stored, row_stored}
 use Rattle.views.proofs.view.View.store_row.Goals as goal
-
-pub loop-leaf-init : goal.loop-leaf-init
-loop-leaf-init g c = record { stored = none_stored c.args.self.now c.args.row c.args.values.now; steps = omega arith }
-
-pub set-taken-requires-clause-row_in : goal.set-taken-requires-clause-row_in
-set-taken-requires-clause-row_in g c = omega (arith, ap (λ (t : Table). length t.rows) c.loop-leaf.invariant.stored, length-set {A = List ℤ}, c.requires.row_in)
-
-pub set-taken-requires-clause-leaf_in : goal.set-taken-requires-clause-leaf_in
-set-taken-requires-clause-leaf_in g c = omega (arith, ap leaf_count_of c.loop-leaf.invariant.stored, c.requires.values)
 
 pub loop-leaf-preserved : goal.loop-leaf-preserved
 loop-leaf-preserved g c = grind (arith, common_steps, leaf_stored, to_z-of_z)

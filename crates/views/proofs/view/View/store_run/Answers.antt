@@ -1,12 +1,9 @@
-use Rattle.views.proofs.Imports.{◌≡◌, ◌∙◌, ℤ, List, None, true, length, sym, ap, arith, column_writes, with_column, run_fault, told_lane, stored_count, with_run, raised_same, without_number, answer_of, after_stores, LaneFault, take_all, Option, common_steps}
+use Rattle.views.proofs.Imports.{◌≡◌, ◌∙◌, ℤ, List, None, true, length, sym, ap, arith, column_writes, with_column, run_fault, told_lane, stored_count, with_run, raised_same, without_number, answer_of, after_stores, LaneFault, take_all, Option}
 use Rattle.views.proofs.KeptColumns.{none_refused}
 use Rattle.views.proofs.StoreLaws.{map_same}
 use Rattle.views.proofs.view.View.store_run.Goals as goal
 use Rattle.views.proofs.view.View.store_run.Goals.{After-takes_run}
 use Rattle.views.proofs.view.View.store_run.Given.{Over}
-
-pub put_lows-requires-clause-fits : goal.put_lows-requires-clause-fits
-put_lows-requires-clause-fits g c = grind (arith, common_steps, raised_same)
 
 -- none is refused
 none : (g : Over) (c : After-takes_run g) → c.takes_run.result ≡ true → run_fault c.args.leaf c.args.values.now c.args.self.now ≡ None

@@ -1,15 +1,9 @@
-use Rattle.views.proofs.Imports.{◌≡◌, ◌<◌, ℤ, pos, get_or, length, map, SFits, to_z, of_z, w64, ap, ◌∙◌, arith, rules, w128, to_z-of_z, get_or-map, length-map, declared, without_number, Table, answer_of, kept_of, leaf_type_of, length-with_column, common_steps}
-use Rattle.views.proofs.StoredLaws.{nothing_stored, stored_more, lane_taken, passed, all_stored}
+use Rattle.views.proofs.Imports.{◌≡◌, ◌<◌, ℤ, pos, get_or, length, map, SFits, to_z, of_z, w64, ap, ◌∙◌, arith, rules, w128, to_z-of_z, get_or-map, length-map, declared, without_number, Table, answer_of, kept_of, leaf_type_of}
+use Rattle.views.proofs.StoredLaws.{nothing_stored, stored_more, lane_taken, passed}
 use Rattle.views.proofs.view.View.store_values.Goals as goal
 
 pub loop-lane-init : goal.loop-lane-init
 loop-lane-init c = nothing_stored c.args.leaf c.args.row c.args.self.now (map (kept_of c.args.self.now c.args.leaf) c.args.values.now)
-
-pub row_after-requires : goal.row_after-requires
-row_after-requires c = grind (arith, common_steps, length-with_column)
-
-pub store-requires-clause-row_in : goal.store-requires-clause-row_in
-store-requires-clause-row_in c = grind (arith, common_steps, length-with_column)
 
 -- a lane whose value is taken
 pub raw-raw-requires-clause-taken : goal.raw-raw-requires-clause-taken
@@ -19,9 +13,6 @@ raw-raw-requires-clause-taken c =
     ap (λ (v : ℤ). without_number (answer_of c.loop-lane.self c.args.leaf v)) (passed value c.from.result fit c.from.ensures)
     ∙ ap (λ (t : Table). without_number (answer_of t c.args.leaf value)) c.loop-lane.invariant.stored
     ∙ lane_taken (answer_of c.args.self.now) c.args.leaf 0 c.loop-lane.lane c.args.values.now c.in_ok-lanes_fit.ensures.taken (omega arith)
-
-pub store-requires-clause-settled : goal.store-requires-clause-settled
-store-requires-clause-settled c = grind (arith, common_steps, to_z-of_z)
 
 pub loop-lane-preserved : goal.loop-lane-preserved
 loop-lane-preserved c =
@@ -38,6 +29,3 @@ loop-lane-preserved c =
     grind (arith, to_z-of_z, passed, get_or-map) in
     stored_more leaf c.args.row lane c.row_after.result old c.loop-lane.self c.store.new.self (map (kept_of old leaf) values) (to_z w128 (of_z w128 raw)) c.loop-lane.invariant
     (omega (arith, inside, length-map values (kept_of old leaf))) (omega (arith, inside, c.requires.rows_in)) c.row_after.ensures kept c.store.ensures
-
-pub returns-clause-stored : goal.returns-clause-stored
-returns-clause-stored c = grind (arith, common_steps, all_stored, length-map)

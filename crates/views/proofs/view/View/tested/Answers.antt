@@ -1,4 +1,4 @@
-use Rattle.views.proofs.Imports.{◌≡◌, ◌∙◌, sym, ap, arith, rules, SFits, w128, to_z-of_z, Strict, Table, common_steps}
+use Rattle.views.proofs.Imports.{◌≡◌, ◌∙◌, sym, ap, arith, rules, SFits, w128, to_z-of_z, Strict, Table}
 use Rattle.views.proofs.Opened.{cell_count, leaf_seen, kind_seen, hold_seen}
 use Rattle.views.proofs.view.View.tested.Goals as goal
 
@@ -29,6 +29,3 @@ returns-in-Strict c =
     let kind_is = kind_seen a.schema a.extents a.expr a.blobs.items c.self.invariant.1 seen c.self.view_is leaf c.leaf_type.result c.leaf_type.ensures in
     let hold_is = (hold_seen a.schema a.extents a.expr a.blobs.items c.self.invariant.1 seen c.self.view_is c.self.invariant.0 leaf c.hold.result c.requires c.hold.ensures).0 in
     grind (arith, to_z-of_z)
-
-pub returns-in-Wrap : goal.returns-in-Wrap
-returns-in-Wrap c = grind (arith, common_steps)

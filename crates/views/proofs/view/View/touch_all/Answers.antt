@@ -1,18 +1,9 @@
-use Rattle.views.proofs.Imports.{◌≡◌, ◌∙◌, ℕ, Bool, false, true, Option, length, option_map, sym, subst, ap, schema_fields, leaves, kinds_of, term_of, layout_by, leaf_cells, indices, LeafCounts, IsTallied, tally_of, counts_after, after_log, leaf_count_of, Tally, tallied, access_to, times_accesses, all_touches, log_kept, common_steps, arith}
+use Rattle.views.proofs.Imports.{◌≡◌, ◌∙◌, ℕ, Bool, false, true, Option, length, option_map, sym, subst, ap, schema_fields, leaves, kinds_of, term_of, layout_by, leaf_cells, indices, LeafCounts, IsTallied, tally_of, counts_after, after_log, leaf_count_of, Tally, tallied, access_to, times_accesses, all_touches, log_kept, arith}
 use Rattle.views.proofs.KeptLaws.{kind_count}
-use Rattle.views.proofs.Opened.{cell_count, tallied_here, touches_there, rows_seen, seen_logged}
+use Rattle.views.proofs.Opened.{cell_count, touches_there, rows_seen, seen_logged}
 use Rattle.views.proofs.TouchLaws.{tallied_both}
 use Rattle.views.proofs.view.View.touch_all.Goals as goal
 use Rattle.views.proofs.view.View.touch_all.Goals.{After-add_heat}
-
-pub add_counts-requires : goal.add_counts-requires
-add_counts-requires c = grind (arith, common_steps, option_map)
-
-pub add_counts-requires-2 : goal.add_counts-requires-2
-add_counts-requires-2 c = c.add_counts.ensures.leaves
-
-pub add_heat-requires : goal.add_heat-requires
-add_heat-requires c = (tallied_here c.self.invariant.0 (tally_of c.self.inside.counts c.self.inside.heat) c.self.invariant.2).each_blob
 
 -- the accesses to the table, by the rows and cells of its mapping
 of_mapping : (c : After-add_heat) (write : Bool) (times : ℕ) (counts : Option LeafCounts)

@@ -1,9 +1,6 @@
-use Rattle.views.proofs.Imports.{◌≡◌, ◌*◌, ◌-◌, ◌^◌, min, Option, Some, option_map, ap, sym, ◌∙◌, arith, LeafCounts, leaf_counts, Counts, access_to, times_accesses, counts_after, common_steps}
-use Rattle.views.proofs.TouchLaws.{counts_none, counts_raised}
+use Rattle.views.proofs.Imports.{◌≡◌, ◌*◌, ◌-◌, ◌^◌, min, Option, Some, option_map, ap, sym, ◌∙◌, arith, LeafCounts, leaf_counts, Counts, access_to, times_accesses, counts_after}
+use Rattle.views.proofs.TouchLaws.{counts_none}
 use Rattle.views.proofs.view.touch.add_counts.Goals as goal
-
-pub returns-then-each-gt0-clause-counted : goal.returns-then-each-gt0-clause-counted
-returns-then-each-gt0-clause-counted c = grind (arith, common_steps, counts_raised, option_map)
 
 pub returns-else-each-gt0-clause-counted : goal.returns-else-each-gt0-clause-counted
 returns-else-each-gt0-clause-counted c =

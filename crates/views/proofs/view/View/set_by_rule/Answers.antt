@@ -1,5 +1,0 @@
-use Rattle.views.proofs.Imports.{to_z, of_z, to_z-of_z, common_steps, arith}
-use Rattle.views.proofs.view.View.set_by_rule.Goals as goal
-
-pub returns : goal.returns
-returns c = grind (arith, common_steps, to_z, of_z, to_z-of_z)
