@@ -26,13 +26,13 @@ mod put;
 mod read;
 #[tactic(auto, using(crate::proofs::Auto::steps))]
 mod scattered;
-#[tactic(auto, using(crate::proofs::Auto::steps))]
 mod short;
 mod shorten;
 mod stand;
-mod start;
 #[tactic(auto, using(crate::proofs::Auto::steps))]
+mod start;
 mod stretch;
+#[tactic(auto, using(crate::proofs::Auto::steps))]
 mod stretches;
 #[tactic(auto, using(crate::proofs::Auto::steps))]
 mod told_tables;

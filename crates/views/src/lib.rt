@@ -11,6 +11,7 @@ mod moves;
 #[tactic(auto, using(crate::proofs::Auto::steps))]
 mod pieces;
 mod row;
+#[tactic(auto, using(crate::proofs::Auto::steps))]
 mod rows;
 #[tactic(auto, using(crate::proofs::Auto::steps))]
 mod runs;
