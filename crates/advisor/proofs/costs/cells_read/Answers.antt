@@ -1,7 +1,6 @@
 use Rattle.advisor.proofs.Imports.{◌≡◌, ◌+◌, ℕ, List, get_or, sym, ap, ◌∙◌, subst, arith, get_or-map, Cell, Truth, reads, leaves_in}
 use Rattle.advisor.proofs.Chosen.{AreChosen, one_left, one_taken}
 use Rattle.advisor.proofs.costs.cells_read.Goals as goal
-use Rattle.advisor.proofs.costs.cells_read.Goals.{then-is_read+in_ok-push, else-is_read}
 
 pub loop-at-preserved : goal.loop-at-preserved
 loop-at-preserved c =
@@ -11,8 +10,8 @@ loop-at-preserved c =
     let here : wanted at ≡ c.is_read.result =
     ap (reads c.args.pass.now) (get_or-map (λ (cell : Cell). cell.leaf) cells at (record { leaf = 0; kind = Truth }) 0 (omega arith)) ∙ sym c.is_read.ensures in
     elim c.if-is_read.branch [
-      | then-is_read+in_ok-push w ↦ subst (λ (xs : List ℕ). AreChosen wanted (at + 1) xs) (sym (ap (λ v. v.items) w.read-is ∙ w.in_ok-push.ensures.items))
+      | goal.then-is_read+in_ok-push w ↦ subst (λ (xs : List ℕ). AreChosen wanted (at + 1) xs) (sym (ap (λ v. v.items) w.read-is ∙ w.in_ok-push.ensures.items))
           (one_taken wanted at c.loop-at.read.items c.loop-at.invariant (here ∙ w.if-is_read.true))
-      | else-is_read w ↦ subst (λ (xs : List ℕ). AreChosen wanted (at + 1) xs) (sym (ap (λ v. v.items) w.read-is))
+      | goal.else-is_read w ↦ subst (λ (xs : List ℕ). AreChosen wanted (at + 1) xs) (sym (ap (λ v. v.items) w.read-is))
           (one_left wanted at c.loop-at.read.items c.loop-at.invariant (here ∙ w.if-is_read.false))
     ]

@@ -3,7 +3,6 @@ use Rattle.advisor.proofs.SteadyLaws.{rows_more}
 use Rattle.advisor.proofs.SweepLaws.{run_of_rows, run_of_none}
 use Rattle.advisor.proofs.WarmLaws.{warmed_inside, warmed_more, warmed_alike}
 use Rattle.advisor.proofs.runs.touch_rows.Goals as goal
-use Rattle.advisor.proofs.runs.touch_rows.Goals.{then-run, else-run}
 
 pub touch_slots-requires-clause-inside : goal.touch_slots-requires-clause-inside
 touch_slots-requires-clause-inside c = λ k low at d small.
@@ -26,4 +25,4 @@ loop-slot-preserved c =
     let so_far = c.loop-slot.invariant.warmed in
     let rows : ℕ → ℕ → ℕ → ℕ → Bool = are_rows_touched granule rule.order extents pieces in
     let low : slot + count ≤ c.slots_of-slots.result = omega (arith, c.run_from-run.ensures.few, c.loop-slot-test.true) in
-    grind (arith, then-run, warmed_more, rows_more, run_of_rows, else-run, warmed_alike, run_of_none, or-false)
+    grind (arith, goal.then-run, warmed_more, rows_more, run_of_rows, goal.else-run, warmed_alike, run_of_none, or-false)

@@ -1,7 +1,6 @@
 use Rattle.advisor.proofs.Imports.{◌≡◌, ◌+◌, List, sym, ap, ◌∙◌, refl, subst, arith, get_or_from_slice_get, kinds_of, schema_fields, hold_at, Hold, Trial, IsHold, has_trial}
 use Rattle.advisor.proofs.Tried.{ArePushed, one_there, one_pushed}
 use Rattle.advisor.proofs.trials.push_trials.Goals as goal
-use Rattle.advisor.proofs.trials.push_trials.Goals.{then-not-has_trial+in_ok-push, else-not-has_trial}
 
 pub loop-leaf-preserved : goal.loop-leaf-preserved
 loop-leaf-preserved c =
@@ -13,7 +12,7 @@ loop-leaf-preserved c =
     let here : hold_at holds leaf ≡ c.hold_at-hold.result = get_or_from_slice_get holds leaf c.hold_at-hold.result _ c.hold_at-hold.ensures in
     let items = c.as_slice.ensures.value in
     elim c.if-not-has_trial.branch [
-      | then-not-has_trial+in_ok-push w ↦ rw w.trials-is
+      | goal.then-not-has_trial+in_ok-push w ↦ rw w.trials-is
           (subst (λ (ts : List Trial). ArePushed fields before holds (leaf + 1) ts) (sym w.in_ok-push.ensures.items)
           (one_pushed fields before holds leaf trials c.loop-leaf.invariant _
           (record {
@@ -22,7 +21,7 @@ loop-leaf-preserved c =
             hold = subst IsHold here (c.requires.holds leaf _ (omega arith));
           })
           refl refl (sym here)))
-      | else-not-has_trial w ↦ rw w.trials-is
+      | goal.else-not-has_trial w ↦ rw w.trials-is
           (one_there fields before holds leaf trials c.loop-leaf.invariant
           (ap (λ (h : Hold). has_trial trials leaf h) here ∙ ap (λ (ts : List Trial). has_trial ts leaf c.hold_at-hold.result) (sym items) ∙ sym c.has_trial.ensures ∙ w.if-not-has_trial.false))
     ]

@@ -7,7 +7,6 @@ use Rattle.leaf_places.specs.Spots.{IsForm}
 use Rattle.leaf_places.proofs.Placing.{cell_in, hold_of, listed, placed, told_so}
 use Rattle.leaf_places.proofs.Shorts.{short_form, short_owned}
 use Rattle.leaf_places.proofs.find.short_places.Goals as goal
-use Rattle.leaf_places.proofs.find.short_places.Goals.{in-Scattered, in_default}
 
 pub short-requires : goal.short-requires
 short-requires c = cell_in c.args.view.now c.args.leaf _ c.map-map.ensures.cells c.requires.leaf_in
@@ -19,7 +18,7 @@ returns c =
     let leaf = c.args.leaf in
     let short = c.short.result.now.short in
     let hold = c.hold-hold.result in
-    let alone : short.word ≡ Scattered → ⊥ = grind (arith, in-Scattered, in_default) in
+    let alone : short.word ≡ Scattered → ⊥ = grind (arith, goal.in-Scattered, goal.in_default) in
     let are = c.in_ok-groups.ensures in
     let is = c.short.ensures.form are.leads in
     let list = listed table leaf hold _ map.holds c.hold-hold.ensures in

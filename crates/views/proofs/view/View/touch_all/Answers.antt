@@ -3,10 +3,9 @@ use Rattle.views.proofs.KeptLaws.{kind_count}
 use Rattle.views.proofs.Opened.{cell_count, touches_there, rows_seen, seen_logged}
 use Rattle.views.proofs.TouchLaws.{tallied_both}
 use Rattle.views.proofs.view.View.touch_all.Goals as goal
-use Rattle.views.proofs.view.View.touch_all.Goals.{After-add_heat}
 
 -- the accesses to the table, by the rows and cells of its mapping
-of_mapping : (c : After-add_heat) (write : Bool) (times : ℕ) (counts : Option LeafCounts)
+of_mapping : (c : goal.After-add_heat) (write : Bool) (times : ℕ) (counts : Option LeafCounts)
     → option_map (counts_after (times_accesses (access_to write) times c.leaf_count-leaves.result c.count-rows.result)) counts
     ≡ option_map (counts_after (times_accesses (access_to write) times (length (leaf_cells (kinds_of (schema_fields c.self.inside.map.schema)))) (length (indices c.self.inside.map.extents)))) counts
 of_mapping c write times counts =
@@ -17,7 +16,7 @@ of_mapping c write times counts =
     grind (arith, option_map)
 
 -- what is counted then
-counts : (c : After-add_heat) → tally_of c.add_counts-2.new.counts c.add_heat.new.heat
+counts : (c : goal.After-add_heat) → tally_of c.add_counts-2.new.counts c.add_heat.new.heat
     ≡ tallied (layout_by (term_of c.self.inside.expr) c.self.inside.extents (schema_fields c.self.inside.schema)) (tally_of c.self.inside.counts c.self.inside.heat)
     (all_touches c.args.reads c.args.writes (length (leaves (schema_fields c.self.inside.schema))) (length (indices c.self.inside.extents)))
 counts c =

@@ -1,6 +1,5 @@
 use Rattle.views.proofs.Imports.{◌≡◌, ◌+◌, ap, sym, ◌∙◌, subst, ℕ, Bool, LeafCounts, leaf_counts, HasLeaves, Counts, leaf_raised, leaves_raised, raised_leaves, fold_range_more}
 use Rattle.views.proofs.view.touch.raise_leaves.Goals as goal
-use Rattle.views.proofs.view.touch.raise_leaves.Goals.{then-write, else-write}
 
 -- one leaf more
 one_more : (c : goal.Joined-write) → (new : Counts) → leaf_counts new ≡ leaf_raised c.args.times c.args.write c.loop-leaf.leaf (leaf_counts c.loop-leaf.counts)
@@ -18,6 +17,6 @@ as_told c is = ap (λ (write : Bool). leaf_raised c.args.times write c.loop-leaf
 
 pub loop-leaf-preserved : goal.loop-leaf-preserved
 loop-leaf-preserved c = elim c.if-write.branch [
-  | then-write w ↦ one_more c c.if-write.counts (ap leaf_counts w.counts-is ∙ w.add_writes.ensures ∙ as_told c w.if-write.true)
-  | else-write w ↦ one_more c c.if-write.counts (ap leaf_counts w.counts-is ∙ w.add_reads.ensures ∙ as_told c w.if-write.false)
+  | goal.then-write w ↦ one_more c c.if-write.counts (ap leaf_counts w.counts-is ∙ w.add_writes.ensures ∙ as_told c w.if-write.true)
+  | goal.else-write w ↦ one_more c c.if-write.counts (ap leaf_counts w.counts-is ∙ w.add_reads.ensures ∙ as_told c w.if-write.false)
 ]
