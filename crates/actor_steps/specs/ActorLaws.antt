@@ -10,7 +10,8 @@ use Rattle.actor_steps.specs.SweepLaws.{is_place, is_among, with_bits_of-lt}
 use Rattle.actor_steps.specs.AmongLaws.{among-all, true_or_false, each-append, each-all, each-flat, each-weaker, each-filter, each-map, all_are_bytes, has_byte, byte_owner}
 use Rattle.actor_steps.specs.HeldLaws.{digit_held, IsHeld, with_value}
 use Rattle.actor_steps.specs.RowLaws.{IsSound, set_entries, row_entries, rows_entries, IsWork, row_work}
-use Rattle.actor_steps.specs.Cuts.{team_of}
+use Rattle.actor_steps.specs.Cuts.{AreCuts, actor_of, parts_from, team_of}
+use Rattle.actor_steps.specs.CutsLaws.{part_of, first_below, actor_is}
 use Rattle.actor_steps.specs.Shared.{is_shared, shared_byte}
 use Rattle.actor_steps.specs.SharedLaws.{actor_in, none-shared, one_actor, byte-actor}
 
@@ -92,7 +93,10 @@ module _ (job : Job) (sound : IsSound job) where
       (λ r f low. row-other job first entries r f (λ e. (let bad : ⊥ = omega (arith, low, e) in bad)) ∙ stands r f (omega (arith, low))) in
       grind (arith, range_with_len, made_all-append, loaded_all-append)
 
-  module _ (actor : ℕ → ℕ) (apart : shared_byte job.layout actor ≡ None) where
+  module _ (cuts : List ℕ) (apart : shared_byte job.layout (actor_of cuts) ≡ None) where
+    abbrev pub actor : ℕ → ℕ
+    actor = actor_of cuts
+
     abbrev pub owner_of : Place → ℕ
     owner_of place = actor_in actor (owners_of_byte job.layout place)
 
@@ -138,11 +142,10 @@ module _ (job : Job) (sound : IsSound job) where
         (subst (λ (x : ℕ). Each (IsOwn x) (row_steps job first)) (rows first (omega arith) (omega arith)) (row-own first))
         (steps-own (first + 1) n a (λ r low high. rows r (omega (arith, low)) (omega (arith, high))))
 
-    module _ (parts : List (ℕ × ℕ)) (fresh : Registers)
-        (inside : (a : ℕ) → a < length parts → (get_or parts a (0, 0)).0 + (get_or parts a (0, 0)).1 ≤ length job.rows)
-        (mine : (a r : ℕ) → a < length parts → (get_or parts a (0, 0)).0 ≤ r → r < (get_or parts a (0, 0)).0 + (get_or parts a (0, 0)).1 → actor r ≡ a)
-        (every : (r : ℕ) → r < length job.rows → (actor r < length parts) × ((get_or parts (actor r) (0, 0)).0 ≤ r) × (r < (get_or parts (actor r) (0, 0)).0 + (get_or parts (actor r) (0, 0)).1))
-        (memory : List (List ℕ)) (good : IsMemory job.layout memory) (work : IsWork job (entry job.rows) memory fresh) where
+    module _ (fresh : Registers) (are : AreCuts 0 cuts (length job.rows)) (memory : List (List ℕ)) (good : IsMemory job.layout memory) (work : IsWork job (entry job.rows) memory fresh) where
+      abbrev pub parts : List (ℕ × ℕ)
+      parts = parts_from 0 cuts (length job.rows)
+
       abbrev first : ℕ → ℕ
       first a = (get_or parts a (0, 0)).0
 
@@ -191,7 +194,7 @@ module _ (job : Job) (sound : IsSound job) where
       all-own : (a : ℕ) → Each (IsOwn a) (alone a).rest
       all-own a =
           ⊎_elim (λ (low : a < length parts).
-          subst (λ (x : Actor Micro Registers). Each (IsOwn a) x.rest) (sym (team-at a low)) (steps-own (first a) (size a) a (λ r from below. mine a r low from below)))
+          subst (λ (x : Actor Micro Registers). Each (IsOwn a) x.rest) (sym (team-at a low)) (steps-own (first a) (size a) a (λ r from below. actor_is 0 cuts (length job.rows) a r are (record { low = low; from = from; below = below }))))
           (λ (high : length parts ≤ a). subst (λ (x : Actor Micro Registers). Each (IsOwn a) x.rest) (sym (team-past a high)) tt)
           (cases_lt a (length parts))
 
@@ -218,7 +221,7 @@ module _ (job : Job) (sound : IsSound job) where
           → bit_in (ended (stored job) (loaded job) (alone a)) b p ≡ digit_held updated (owner_at job.layout b p)
       solo-bit b p a is =
           ⊎_elim (λ (low : a < length parts).
-          let done = solo (first a) (size a) (entry job.rows) memory fresh work (inside a low) (λ r f from. refl) in
+          let done = solo (first a) (size a) (entry job.rows) memory fresh work (first_below 0 cuts (length job.rows) a are low).1 (λ r f from. refl) in
           ap (λ (x : Actor Micro Registers). bit_in (made_all (stored job) (loaded job) x.rest memory x.registers) b p) (team-at a low)
           ∙ done.holds b p ∙ by_owner (owner_at job.layout b p) refl)
           (λ (high : length parts ≤ a).
@@ -229,14 +232,16 @@ module _ (job : Job) (sound : IsSound job) where
             by_owner Pad e = refl
             by_owner (Bit r f k) e =
                 let same : actor r ≡ a = sym (is ∙ row-actor b p r f k e) in
-                let row_in = (sound.laid.owned b p r f k e).slot_in in
-                let range = every r row_in in
-                let from : first a ≤ r = subst (λ (w : ℕ). first w ≤ r) same range.1 in
-                let below : r < first a + size a = subst (λ (w : ℕ). r < first w + size w) same range.2 in
+                let part = part_of 0 cuts (length job.rows) r are (omega arith) (sound.laid.owned b p r f k e).slot_in in
+                let from : first a ≤ r = subst (λ (w : ℕ). first w ≤ r) same part.from in
+                let below : r < first a + size a = subst (λ (w : ℕ). r < first w + size w) same part.below in
                 ap (λ (v : ℤ). digit v k) (rows-inside job (first a) (size a) (entry job.rows) r f from below)
 
             by_none : length parts ≤ a → (owner : Owner) → owner_at job.layout b p ≡ owner → digit_held (entry job.rows) owner ≡ digit_held updated owner
-            by_none high owner e = grind (arith, row-actor)
+            by_none high Pad e = refl
+            by_none high (Bit r f k) e =
+                let part = part_of 0 cuts (length job.rows) r are (omega arith) (sound.laid.owned b p r f k e).slot_in in
+                let same : actor r ≡ a = sym (is ∙ row-actor b p r f k e) in absurd (omega (arith, part.low, high, same))
 
       -- where no micro-step is left after a schedule, memory holds what the plain update leaves
       pub after_every_schedule : (schedule : List ℕ) → ((a : ℕ) → (get_or (scheduled (stored job) (loaded job) idle schedule start).actors a idle).rest ≡ [])

@@ -8,6 +8,11 @@ abbrev pub Each : {X : Type 0} → (X → Type 0) → List X → Type 0
 Each P [] = Unit {0}
 Each P (x ∷ xs) = P x × Each P xs
 
+-- one of each item of two lists is one of each of both
+pub each-parts : {X : Type 0} (P : X → Type 0) (xs ys : List X) → Each P (xs ++ ys) → Each P xs × Each P ys
+each-parts P [] ys all = (tt, all)
+each-parts P (x ∷ xs) ys all = let rest = each-parts P xs ys all.1 in ((all.0, rest.0), rest.1)
+
 -- one actor with a memory of its own
 pub record Alone (M S R : Type 0) : Type 0 where
   pub memory : M

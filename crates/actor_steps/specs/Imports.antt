@@ -16,6 +16,7 @@ pub use Rattle.record_dim.specs.Std.{ext_get_or, flat_map, fun_ext, get_or-drop,
 pub use Rattle.record_dim.specs.Std.{get_or-take, get_or_default, get_or_past, le-leb, leb-true, length-drop, length-map, length-map-range_with_len, length-range_with_len, length-replicate}
 pub use Rattle.record_dim.specs.Std.{length-set, length-take, list_any, list_any-append, list_any_at, lt-leb, or_left, or_right, range_with_len, set_past, subst, sym, ⊎_elim, ◌∙◌}
 pub use Rattle.record_dim.specs.declared.leaf_type.LeafType.{LeafType}
+pub use Rattle.row_updates.specs.EachLaws.{each_at, each_length, parted}
 pub use Rattle.row_updates.specs.Rows.{Setting, each, eval_kind, in_row, new_value, passes, store_kind, updated_of, updated_row, updated_rows, with_values, ◌>>=◌}
 pub use Rattle.row_updates.specs.declared.fault.UpdateFault.{UpdateFault}
 pub use Rattle.views.specs.Prelude.{IsTable, Keeping, StoreAnswer, Table, answer_of, answer_stays, blob_lengths, kept_by, kept_of, kept_or, leaf_count_of, leaf_types_of, owners_of, table_holds}

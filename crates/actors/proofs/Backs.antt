@@ -1,6 +1,5 @@
 -- The rows of the plain update, stored leaf by leaf.
-use Rattle.actors.proofs.Imports.{◌≡◌, ℕ, ◌+◌, ◌<◌, ◌≤◌, All, Bool, true, false, ℤ, pos, List, [], ◌∷◌, ◌++◌, length, map, get_or, set, take, drop, Option, Some, None, Result, Ok, Err, refl, sym, ap, ◌∙◌, subst, ⊎_elim, arith, append_assoc, length-append, ◌==◌, ◌||◌, if◌then◌else◌, cases_eq, eq-eqb, eqb-true, append-nil, get_or-map, get_or-set_same, get_or-set_other, get_or-append_right, get_or-drop, length-map, length-set, length-take, length-drop, take_more, take_all, drop_all, drop_more, ext_get_or, map-append, set-get_or, set-set, filter-append, Term, outcome_of, is_true, EvalFault, index_at, entry, AreSized, table_in, with_entry, declared_table, stays_answer, IsLawful, memory_is, rows_read, UpdateFault, Assign, stores_log, if_given, update_log, Setting, setting_of, each, ◌>>=◌, in_row, eval_kind, passes, new_value, with_values, tried_row, given_row, updated_row, updated_of, IsSetOf, updated_as_tried, StoreAnswer, Keeping, Table, owners_of, leaf_types_of, leaf_count_of, table_holds, answer_of, kept_of, after_stores, Write, writes_in, after_stores-append, after_log-none, logs_more, job_of, memory_of, Job, is_in, number_in, row_as_it_stands, test_of, lets_through, length-with_values, updated_at, row_held, with_held}
-use Rattle.actors.proofs.Laws.{leaf_count}
+use Rattle.actors.proofs.Imports.{leaf_count, passed, ◌≡◌, ℕ, ◌+◌, ◌<◌, ◌≤◌, All, Bool, true, false, ℤ, pos, List, [], ◌∷◌, ◌++◌, length, map, get_or, set, take, drop, Option, Some, Result, Ok, refl, sym, ap, ◌∙◌, subst, ⊎_elim, arith, append_assoc, length-append, ◌==◌, ◌||◌, if◌then◌else◌, cases_eq, eq-eqb, eqb-true, append-nil, get_or-map, get_or-set_same, get_or-set_other, get_or-append_right, get_or-drop, length-map, length-set, length-take, length-drop, take_more, take_all, drop_all, drop_more, ext_get_or, map-append, set-get_or, set-set, filter-append, Term, index_at, entry, AreSized, table_in, with_entry, declared_table, stays_answer, IsLawful, memory_is, rows_read, UpdateFault, Assign, stores_log, if_given, update_log, Setting, setting_of, each, ◌>>=◌, passes, new_value, with_values, tried_row, given_row, updated_row, updated_of, IsSetOf, updated_as_tried, StoreAnswer, Keeping, Table, owners_of, leaf_types_of, leaf_count_of, table_holds, answer_of, kept_of, after_stores, Write, writes_in, after_stores-append, after_log-none, logs_more, job_of, memory_of, Job, is_in, row_as_it_stands, lets_through, length-with_values, updated_at, row_held, with_held}
 use Rattle.actors.proofs.Tried.{row_writes}
 
 -- one leaf more
@@ -72,13 +71,6 @@ module _ (job : Job) (answer : StoreAnswer) (keep : Keeping) (r : ℕ) (new : Li
 
   abbrev tried : Result (Option (List ℤ)) UpdateFault
   tried = tried_row answer job.filter job.sets r row index
-
-  passed : (filter : Option (Term ℕ)) (test : Bool) → passes r row index filter ≡ Ok test → test_of job r filter ≡ test
-  passed None test e = cc
-  passed (Some filter) test e = by_answer (outcome_of row index filter).answer e where
-    by_answer : (answer : Result ℤ EvalFault) → (in_row r eval_kind answer >>= (λ value. Ok (is_true value))) ≡ Ok test → is_true (number_in answer) ≡ test
-    by_answer (Ok value) is = cc
-    by_answer (Err fault) is = absurd (cc)
 
   -- a row behind the plain update: what it is given, and what stands
   pub record IsRowUpdated (through : Bool) : Type 0 where
