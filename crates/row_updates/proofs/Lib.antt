@@ -8,3 +8,4 @@ pub mod RunSets
 pub mod RunTests
 pub mod Taken
 pub mod WorthSoFar
+pub mod Auto

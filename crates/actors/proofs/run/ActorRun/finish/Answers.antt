@@ -1,9 +1,6 @@
-use Rattle.actors.proofs.Imports.{◌≤◌, ◌∙◌, length, ap, arith, fresh_of, Run, job_in, rest_in, common_steps}
+use Rattle.actors.proofs.Imports.{◌≤◌, ◌∙◌, length, ap, arith, fresh_of, Run, job_in, rest_in}
 use Rattle.actors.proofs.Finishes.{all_done, finished_plain}
 use Rattle.actors.proofs.run.ActorRun.finish.Goals as goal
-
-pub loop-actor-preserved : goal.loop-actor-preserved
-loop-actor-preserved c = grind (arith, common_steps)
 
 pub returns : goal.returns
 returns c =
