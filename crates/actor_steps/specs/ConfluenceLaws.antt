@@ -103,12 +103,18 @@ module _ {M P S R : Type 0} (get : M → P → ℕ) (place : S → P) (stored : 
     by_test true e = absurd (other (eqb-true b a e))
     by_test false e = refl
 
+  -- what holds of the actor behind its micro-step, and of the others as they were, holds of each
+  either : (b : ℕ) (solos : ℕ → Alone M S R) (P : ℕ → Alone M S R → Type 0) → P b (once stored loaded (solos b)) → ((a : ℕ) → (b ≡ a → ⊥) → P a (solos a)) → (a : ℕ) → P a (after b solos a)
+  either b solos P here there a =
+      ⊎_elim (λ (same : b ≡ a). subst (P a) (sym (after_same b solos a same)) (subst (λ (x : ℕ). P x (once stored loaded (solos x))) same here))
+      (λ (other : b ≡ a → ⊥). subst (P a) (sym (after_other b solos a other)) (there a other))
+      (cases_eq b a)
+
   -- where the actor has nothing left, nothing happens
   turn_none : (b : ℕ) (solos : ℕ → Alone M S R) (state : State M S R) → IsMerged solos state → (solos b).rest ≡ [] → IsMerged (after b solos) state
-  turn_none b solos state merged e = subst (λ (f : ℕ → Alone M S R). IsMerged f state) (sym (fun_ext (λ a. same a))) merged where
-    same : (a : ℕ) → after b solos a ≡ solos a
-    same a = ⊎_elim (λ (here : b ≡ a). after_same b solos a here ∙ ap (λ (r : List S). stepped stored loaded r (solos a)) (ap (λ (x : ℕ). (solos x).rest) (sym here) ∙ e))
-        (λ (other : b ≡ a → ⊥). after_other b solos a other) (cases_eq b a)
+  turn_none b solos state merged e =
+      subst (λ (f : ℕ → Alone M S R). IsMerged f state)
+      (sym (fun_ext (either b solos (λ a x. x ≡ solos a) (ap (λ (r : List S). stepped stored loaded r (solos b)) e) (λ a other. refl)))) merged
 
   turn_one : (b : ℕ) (solos : ℕ → Alone M S R) (state : State M S R) (s : S) (rest : List S) → IsMerged solos state → (solos b).rest ≡ s ∷ rest
       → IsMerged (after b solos) (moved stored loaded (s ∷ rest) (slice_index_or state.actors b idle).registers b state)
@@ -122,44 +128,21 @@ module _ {M P S R : Type 0} (get : M → P → ℕ) (place : S → P) (stored : 
       let here : get state.memory (place s) ≡ get solo.memory (place s) = merged.bytes (place s) ∙ ap (λ (a : ℕ). get (solos a).memory (place s)) owned.0.1 in
       let inside : b < length state.actors = in_range b solos state s rest merged e in
       record {
-        rest = λ a. ⊎_elim (λ (same : b ≡ a).
-            ap (λ (x : ℕ). (get_or (set state.actors b actor) x idle).rest) (sym same) ∙ ap (λ (x : Actor S R). x.rest) (get_or-set_same state.actors b actor idle inside)
-            ∙ sym (ap (λ (x : Alone M S R). x.rest) made) ∙ ap (λ (x : ℕ). (once stored loaded (solos x)).rest) same ∙ sym (ap (λ (x : Alone M S R). x.rest) (after_same b solos a same)))
-            (λ (other : b ≡ a → ⊥).
-            ap (λ (x : Actor S R). x.rest) (get_or-set_other state.actors b a actor idle (λ same. other (sym same)))
-            ∙ merged.rest a ∙ sym (ap (λ (x : Alone M S R). x.rest) (after_other b solos a other)))
-            (cases_eq b a);
-        registers = λ a. ⊎_elim (λ (same : b ≡ a).
-            ap (λ (x : ℕ). (get_or (set state.actors b actor) x idle).registers) (sym same) ∙ ap (λ (x : Actor S R). x.registers) (get_or-set_same state.actors b actor idle inside)
-            ∙ same_loaded s state.memory solo.memory registers here ∙ ap (λ (r : R). loaded s solo.memory r) (merged.registers b)
-            ∙ sym (ap (λ (x : Alone M S R). x.registers) made) ∙ ap (λ (x : ℕ). (once stored loaded (solos x)).registers) same
-            ∙ sym (ap (λ (x : Alone M S R). x.registers) (after_same b solos a same)))
-            (λ (other : b ≡ a → ⊥).
-            ap (λ (x : Actor S R). x.registers) (get_or-set_other state.actors b a actor idle (λ same. other (sym same)))
-            ∙ merged.registers a ∙ sym (ap (λ (x : Alone M S R). x.registers) (after_other b solos a other)))
-            (cases_eq b a);
-        bytes = λ p. ⊎_elim (λ (same : b ≡ owner p).
-            same_stored s state.memory solo.memory registers p owned.0.0 merged.good (merged.goods b) here (merged.bytes p ∙ ap (λ (a : ℕ). get (solos a).memory p) (sym same))
-            ∙ ap (λ (r : R). get (stored s solo.memory r) p) (merged.registers b)
-            ∙ sym (ap (λ (x : Alone M S R). get x.memory p) made) ∙ ap (λ (x : ℕ). get (once stored loaded (solos x)).memory p) same
-            ∙ sym (ap (λ (x : Alone M S R). get x.memory p) (after_same b solos (owner p) same)))
-            (λ (other : b ≡ owner p → ⊥).
-            elsewhere s state.memory registers p (λ at. other (sym owned.0.1 ∙ sym (ap owner at)))
-            ∙ merged.bytes p ∙ sym (ap (λ (x : Alone M S R). get x.memory p) (after_other b solos (owner p) other)))
-            (cases_eq b (owner p));
+        rest = either b solos (λ a x. (get_or (set state.actors b actor) a idle).rest ≡ x.rest)
+            (ap (λ (x : Actor S R). x.rest) (get_or-set_same state.actors b actor idle inside) ∙ sym (ap (λ (x : Alone M S R). x.rest) made))
+            (λ a other. ap (λ (x : Actor S R). x.rest) (get_or-set_other state.actors b a actor idle (λ same. other (sym same))) ∙ merged.rest a);
+        registers = either b solos (λ a x. (get_or (set state.actors b actor) a idle).registers ≡ x.registers)
+            (ap (λ (x : Actor S R). x.registers) (get_or-set_same state.actors b actor idle inside) ∙ same_loaded s state.memory solo.memory registers here
+            ∙ ap (λ (r : R). loaded s solo.memory r) (merged.registers b) ∙ sym (ap (λ (x : Alone M S R). x.registers) made))
+            (λ a other. ap (λ (x : Actor S R). x.registers) (get_or-set_other state.actors b a actor idle (λ same. other (sym same))) ∙ merged.registers a);
+        bytes = λ p. either b solos (λ a x. owner p ≡ a → get state.memory p ≡ get (solos a).memory p → get (stored s state.memory registers) p ≡ get x.memory p)
+            (λ own same. same_stored s state.memory solo.memory registers p owned.0.0 merged.good (merged.goods b) here same
+            ∙ ap (λ (r : R). get (stored s solo.memory r) p) (merged.registers b) ∙ sym (ap (λ (x : Alone M S R). get x.memory p) made))
+            (λ a other own same. elsewhere s state.memory registers p (λ at. other (sym owned.0.1 ∙ sym (ap owner at) ∙ own)) ∙ same)
+            (owner p) refl (merged.bytes p);
         good = good_after s state.memory registers merged.good;
-        goods = λ a. ⊎_elim (λ (same : b ≡ a).
-            subst (λ (x : Alone M S R). Good x.memory) (sym (after_same b solos a same))
-            (subst (λ (x : ℕ). Good (once stored loaded (solos x)).memory) same
-            (subst (λ (x : Alone M S R). Good x.memory) (sym made) (good_after s solo.memory solo.registers (merged.goods b)))))
-            (λ (other : b ≡ a → ⊥). subst (λ (x : Alone M S R). Good x.memory) (sym (after_other b solos a other)) (merged.goods a))
-            (cases_eq b a);
-        own = λ a. ⊎_elim (λ (same : b ≡ a).
-            subst (λ (x : Alone M S R). AreOwn a x.rest) (sym (after_same b solos a same))
-            (subst (λ (x : ℕ). AreOwn x (once stored loaded (solos x)).rest) same
-            (subst (λ (x : Alone M S R). AreOwn b x.rest) (sym made) owned.1)))
-            (λ (other : b ≡ a → ⊥). subst (λ (x : Alone M S R). AreOwn a x.rest) (sym (after_other b solos a other)) (merged.own a))
-            (cases_eq b a);
+        goods = either b solos (λ a x. Good x.memory) (subst (λ (x : Alone M S R). Good x.memory) (sym made) (good_after s solo.memory solo.registers (merged.goods b))) (λ a other. merged.goods a);
+        own = either b solos (λ a x. AreOwn a x.rest) (subst (λ (x : Alone M S R). AreOwn b x.rest) (sym made) owned.1) (λ a other. merged.own a);
       } where
         in_range : (b : ℕ) (solos : ℕ → Alone M S R) (state : State M S R) (s : S) (rest : List S) → IsMerged solos state → (solos b).rest ≡ s ∷ rest → b < length state.actors
         in_range b solos state s rest merged e =
