@@ -1,5 +1,5 @@
 -- Updates of rows, step by step.
-use Rattle.row_updates.proofs.Imports.{map-append, length-take-le, take-append-drop, ◌≡◌, ℕ, ◌+◌, ◌<◌, ◌≤◌, List, [], ◌∷◌, ◌++◌, length, map, get_or, take, take_all, drop, set, ℤ, pos, Bool, true, Option, Some, Result, Ok, Err, is_ok, refl, sym, ap, subst, ◌∙◌, arith, count_by, cond, range_with_len, slice_set, OnOk, IfOk, IfErr, take_more, take_more_set, drop-set-lt, drop_more, get_or-set_same, set-set, get_or-map, length-set, length-map, get_or-take, sum_by-append, Term, index_at, with_entry, Access, Write, after_log-none, logs_more, Table, answer_of, kept_of, after_log, after_stores, after_write, StoreFault, UpdateFault, Assign, StoreAnswer, Keeping, without_number, Setting, setting_of, each, in_row, store_kind, value_of, passes, new_value, with_values, tried_row, updated_row, updated_rows, updated_of, counted, ◌>>=◌, AreUpdated, IsStopped, AreCounted, row_test, IsCounted, IsCountStopped, value_log, sides_log, stores_log, row_log, update_log, count_log, after_stores-append, bool_byte, get_or-drop}
+use Rattle.row_updates.proofs.Imports.{drop_more_same, map-append, length-take-le, take-append-drop, ◌≡◌, ℕ, ◌+◌, ◌<◌, ◌≤◌, List, [], ◌∷◌, ◌++◌, length, map, get_or, take, take_all, drop, set, ℤ, pos, Bool, true, Option, Some, Result, Ok, Err, is_ok, refl, sym, ap, subst, ◌∙◌, arith, count_by, cond, range_with_len, slice_set, OnOk, IfOk, IfErr, take_more, take_more_set, drop-set-lt, drop_more, get_or-set_same, set-set, get_or-map, length-set, length-map, get_or-take, sum_by-append, Term, index_at, with_entry, Access, Write, after_log-none, logs_more, Table, answer_of, kept_of, after_log, after_stores, after_write, StoreFault, UpdateFault, Assign, StoreAnswer, Keeping, without_number, Setting, setting_of, each, in_row, store_kind, value_of, passes, new_value, with_values, tried_row, updated_row, updated_rows, updated_of, counted, ◌>>=◌, AreUpdated, IsStopped, AreCounted, row_test, IsCounted, IsCountStopped, value_log, sides_log, stores_log, row_log, update_log, count_log, after_stores-append, bool_byte, get_or-drop}
 use Rattle.row_updates.proofs.Logs.{if_ok_none, sides_next, count_push}
 use Rattle.row_updates.specs.EachLaws.{each_push, each_stop, each_at, rows_push, rows_stop}
 
@@ -112,10 +112,6 @@ same_at xs ys n d same =
     let here : n + 0 ≡ n = omega arith in
     sym (ap (λ (k : ℕ). get_or xs k d) here) ∙ sym (get_or-drop n xs 0 d) ∙ ap (λ (l : List _). get_or l 0 d) same ∙ get_or-drop n ys 0 d ∙ ap (λ (k : ℕ). get_or ys k d) here
 
-same_behind : {A : Type 0} (xs ys : List A) (n : ℕ) (d : A) → n < length xs → n < length ys → drop n xs ≡ drop n ys → drop (n + 1) xs ≡ drop (n + 1) ys
-same_behind xs ys n d small less same =
-    let e = sym (drop_more xs n d small) ∙ same ∙ drop_more ys n d less in cc
-
 -- rows so far
 pub none_updated : (view : Table) (filter : Option (Term ℕ)) (sets : List Setting) → AreUpdated view filter sets view 0
 none_updated view filter sets = record { same = sym (after_log-none view); count = refl; front = refl; back = refl }
@@ -167,7 +163,7 @@ rows_more old view after filter sets row new small so_far gives changed =
       same = rows_touched old view after filter sets row (slice_set view.rows row new) so_far changed;
       count = ap length table ∙ length-set view.rows row new ∙ so_far.count;
       front = grind (arith, rows_push, take_more_set);
-      back = ap (drop (row + 1)) table ∙ drop-set-lt (row + 1) view.rows row new past ∙ same_behind view.rows old.rows row [] inside small so_far.back;
+      back = ap (drop (row + 1)) table ∙ drop-set-lt (row + 1) view.rows row new past ∙ drop_more_same view.rows old.rows row so_far.back;
     }
 
 -- rows that pass, counted
