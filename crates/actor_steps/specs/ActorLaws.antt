@@ -1,12 +1,12 @@
 -- After every schedule the memory is that of the plain update.
 use Rattle.std.specs.Prelude.{◌≡◌, ℕ, zero, suc, ◌+◌, ◌/◌, ◌%◌, ◌<◌, ◌≤◌, Bool, true, false, ℤ, List, [], ◌∷◌, length, map, filter, get_or, refl, None, ◌==◌, ◌&&◌, ◌||◌, if◌then◌else◌}
-use Rattle.actor_steps.specs.Imports.{sym, ap, ◌∙◌, subst, ⊎_elim, arith, flat_map, list_any, range_with_len, bit_at, cases_lt, cases_eq, and_parts, eqb-true, get_or_past, get_or-map, length-map, Owner, Pad, Bit, owner_at, entry, digit, bit_in, Setting}
+use Rattle.actor_steps.specs.Imports.{cond_both, sym, ap, ◌∙◌, subst, ⊎_elim, arith, flat_map, list_any, range_with_len, bit_at, cases_lt, cases_eq, and_parts, eqb-true, get_or_past, get_or-map, length-map, Owner, Pad, Bit, owner_at, entry, digit, bit_in, Setting}
 use Rattle.actor_steps.specs.Confluence.{Actor, State, scheduled}
 use Rattle.actor_steps.specs.ConfluenceLaws.{Each, Alone, made_all, loaded_all, made_all-append, loaded_all-append, ended, IsMerged, merged-schedule, ended-schedule}
 use Rattle.actor_steps.specs.Micro.{Place, byte_at, Job, Micro, Fetch, Load, Store, Registers, row_in, row_as_it_stands, value_kept_on, with_bits_of, stored, loaded, all_bytes, is_bit_of, owners_of_byte, places_of, lets_through, read_leaves, fetches, changes, stores_of, row_steps, steps_of}
 use Rattle.actor_steps.specs.Bytes.{IsByte, IsMemory}
 use Rattle.actor_steps.specs.BytesOfLaws.{with_byte-sized, with_byte-bytes, byte_at-other, byte_at-same}
-use Rattle.actor_steps.specs.SweepLaws.{is_place, is_among, with_bits_of-lt}
+use Rattle.actor_steps.specs.SweepLaws.{is_place, place_is, is_among, with_bits_of-lt}
 use Rattle.actor_steps.specs.AmongLaws.{among-all, true_or_false, each-append, each-all, each-flat, each-weaker, each-filter, each-map, all_are_bytes, has_byte, byte_owner}
 use Rattle.actor_steps.specs.HeldLaws.{digit_held, IsHeld, with_value}
 use Rattle.actor_steps.specs.RowLaws.{IsSound, set_entries, row_entries, rows_entries, IsWork, row_work}
@@ -26,10 +26,7 @@ each-among : (P : Place → Type 0) (places : List Place) (b i : ℕ) → Each P
 each-among P [] b i all e = true_or_false false e refl
 each-among P (place ∷ places) b i all e = by_test (is_place b i place) refl e (λ rest. each-among P places b i all.1 rest) where
   by_test : (t : Bool) → is_place b i place ≡ t → (t || is_among places b i) ≡ true → (is_among places b i ≡ true → P (record { blob = b; byte = i })) → P (record { blob = b; byte = i })
-  by_test true here some rest =
-      let both = and_parts (place.blob == b) (place.byte == i) here in
-      subst (λ (w : ℕ). P (record { blob = b; byte = w })) (eqb-true place.byte i both.1)
-      (subst (λ (w : ℕ). P (record { blob = w; byte = place.byte })) (eqb-true place.blob b both.0) all.0)
+  by_test true here some rest = subst P (place_is b i place here) all.0
   by_test false here some rest = rest some
 
 -- entries of another row stand
@@ -37,10 +34,8 @@ set-other : (job : Job) (row : ℕ) (sets : List Setting) (entries : ℕ → ℕ
 set-other job row [] entries r f other = refl
 set-other job row (set ∷ sets) entries r f other =
     let value = value_kept_on job (row_as_it_stands job row) row set in
-    set-other job row sets (with_value row set.leaf value entries) r f other ∙ by_test (r == row && f == set.leaf) refl where
-      by_test : (t : Bool) → (r == row && f == set.leaf) ≡ t → (if t then value_kept_on job (row_as_it_stands job row) row set else entries r f) ≡ entries r f
-      by_test true e = absurd (other (eqb-true r row (and_parts (r == row) (f == set.leaf) e).0))
-      by_test false e = refl
+    set-other job row sets (with_value row set.leaf value entries) r f other
+    ∙ cond_both (r == row && f == set.leaf) value (entries r f) (λ (v : ℤ). v ≡ entries r f) (λ e. absurd (other (eqb-true r row (and_parts (r == row) (f == set.leaf) e).0))) (λ e. refl)
 
 -- entries of the row depend on those of the row alone
 set-same : (job : Job) (row : ℕ) (sets : List Setting) (one two : ℕ → ℕ → ℤ) → ((f : ℕ) → one row f ≡ two row f) → (f : ℕ) → set_entries job row sets one row f ≡ set_entries job row sets two row f
@@ -51,10 +46,8 @@ set-same job row (set ∷ sets) one two same f =
     (λ f. ap (λ (v : ℤ). if row == row && f == set.leaf then value else v) (same f)) f
 
 row-other : (job : Job) (row : ℕ) (entries : ℕ → ℕ → ℤ) (r f : ℕ) → (r ≡ row → ⊥) → row_entries job row entries r f ≡ entries r f
-row-other job row entries r f other = by_test (lets_through job row) where
-  by_test : (t : Bool) → (if t then set_entries job row job.sets entries else entries) r f ≡ entries r f
-  by_test true = set-other job row job.sets entries r f other
-  by_test false = refl
+row-other job row entries r f other =
+    cond_both (lets_through job row) (set_entries job row job.sets entries) entries (λ (g : ℕ → ℕ → ℤ). g r f ≡ entries r f) (λ e. set-other job row job.sets entries r f other) (λ e. refl)
 
 row-same : (job : Job) (row : ℕ) (one two : ℕ → ℕ → ℤ) → ((f : ℕ) → one row f ≡ two row f) → (f : ℕ) → row_entries job row one row f ≡ row_entries job row two row f
 row-same job row one two same f = by_test (lets_through job row) where
@@ -123,17 +116,14 @@ module _ (job : Job) (sound : IsSound job) where
         (each-flat (IsOwn (actor row)) (λ leaf. map Fetch (places_of job.layout row leaf)) (read_leaves job row)
         (each-all (λ leaf. Each (IsOwn (actor row)) (map Fetch (places_of job.layout row leaf))) (read_leaves job row)
         (λ leaf. each-map (IsOwn (actor row)) Fetch (places_of job.layout row leaf) (places-own row leaf))))
-        (by_test (lets_through job row)) where
+        (cond_both (lets_through job row) (flat_map (stores_of job row) job.sets) [] (Each (IsOwn (actor row)))
+        (λ e. each-flat (IsOwn (actor row)) (stores_of job row) job.sets
+        (each-all (λ set. Each (IsOwn (actor row)) (stores_of job row set)) job.sets (λ set. one_leaf set (places_of job.layout row set.leaf) (places-own row set.leaf))))
+        (λ e. tt)) where
           one_leaf : (set : Setting) (places : List Place) → Each (λ place. IsByte job.layout place × (owner_of place ≡ actor row)) places
               → Each (IsOwn (actor row)) (flat_map (changes row set) places)
           one_leaf set [] own = tt
           one_leaf set (place ∷ places) own = (own.0, (own.0, one_leaf set places own.1))
-
-          by_test : (t : Bool) → Each (IsOwn (actor row)) (if t then flat_map (stores_of job row) job.sets else [])
-          by_test true =
-              each-flat (IsOwn (actor row)) (stores_of job row) job.sets
-              (each-all (λ set. Each (IsOwn (actor row)) (stores_of job row set)) job.sets (λ set. one_leaf set (places_of job.layout row set.leaf) (places-own row set.leaf)))
-          by_test false = tt
 
     steps-own : (first n a : ℕ) → ((r : ℕ) → first ≤ r → r < first + n → actor r ≡ a) → Each (IsOwn a) (steps_of job first n)
     steps-own first zero a rows = tt

@@ -1,6 +1,6 @@
 -- Which bytes hold a bit of a leaf in a row.
-use Rattle.std.specs.Prelude.{◌≡◌, ℕ, zero, suc, ◌+◌, ◌-◌, ◌*◌, ◌/◌, ◌%◌, ◌<◌, ◌≤◌, Bool, true, false, List, [], ◌∷◌, ◌++◌, length, map, filter, get_or, All, refl, ◌==◌, ◌||◌, if◌then◌else◌}
-use Rattle.actor_steps.specs.Imports.{get_or-map-range_with_len, get_or-range_with_len, length-map-range_with_len, length-range_with_len, sym, ap, ◌∙◌, ⊎_elim, arith, flat_map, list_any, range_with_len, cases_eq, cases_lt, cases_Bool, and_from, and_parts, or_left, or_right, eq-eqb, eqb-true, cond-true, cond-false, length-take, length-drop, get_or-take, get_or-drop, get_or_past, list_any-append, list_any_at, Owner, Pad, Bit, owner_at}
+use Rattle.std.specs.Prelude.{◌≡◌, ℕ, zero, suc, ◌+◌, ◌-◌, ◌*◌, ◌/◌, ◌%◌, ◌<◌, ◌≤◌, Bool, true, false, List, [], ◌∷◌, ◌++◌, length, map, filter, get_or, All, refl, ◌==◌, ◌||◌}
+use Rattle.actor_steps.specs.Imports.{cond_both, get_or-map-range_with_len, get_or-range_with_len, length-map-range_with_len, length-range_with_len, sym, ap, ◌∙◌, ⊎_elim, arith, flat_map, list_any, range_with_len, cases_eq, cases_lt, cases_Bool, and_from, and_parts, or_left, or_right, eq-eqb, eqb-true, cond-true, cond-false, length-take, length-drop, get_or-take, get_or-drop, get_or_past, list_any-append, list_any_at, Owner, Pad, Bit, owner_at}
 use Rattle.actor_steps.specs.Micro.{Place, bytes_in, all_bytes, is_bit_of, owners_of_byte, places_of}
 use Rattle.actor_steps.specs.Bytes.{IsByte}
 use Rattle.actor_steps.specs.SweepLaws.{is_place, is_among, AreBytesOf}
@@ -101,10 +101,9 @@ each-weaker P Q (x ∷ xs) so all = (so x all.0, each-weaker P Q xs so all.1)
 
 pub each-filter : {X : Type 0} (P : X → Type 0) (test : X → Bool) (xs : List X) → Each P xs → Each (λ x. P x × (test x ≡ true)) (filter test xs)
 each-filter P test [] all = all
-each-filter {X} P test (x ∷ xs) all = by_test (test x) refl (each-filter P test xs all.1) where
-  by_test : (t : Bool) → test x ≡ t → Each (λ x. P x × (test x ≡ true)) (filter test xs) → Each (λ x. P x × (test x ≡ true)) (if t then x ∷ filter test xs else filter test xs)
-  by_test true e rest = ((all.0, e), rest)
-  by_test false e rest = rest
+each-filter {X} P test (x ∷ xs) all =
+    let rest = each-filter P test xs all.1 in
+    cond_both (test x) (x ∷ filter test xs) (filter test xs) (Each (λ (x : X). P x × (test x ≡ true))) (λ e. ((all.0, e), rest)) (λ e. rest)
 
 each-range : (P : ℕ → Type 0) (a n : ℕ) → ((x : ℕ) → a ≤ x → x < a + n → P x) → Each P (range_with_len a n)
 each-range P a zero each = tt

@@ -1,6 +1,6 @@
 -- Actors that make micro-steps on bytes of their own: whatever the schedule, each byte is what its owner alone makes of it.
-use Rattle.std.specs.Prelude.{◌≡◌, ℕ, ◌<◌, ◌≤◌, Bool, true, false, List, [], ◌∷◌, ◌++◌, length, get_or, set, refl, slice_index_or, if◌then◌else◌, ◌==◌}
-use Rattle.actor_steps.specs.Imports.{sym, ap, ◌∙◌, subst, ⊎_elim, fun_ext, cases_eq, cases_lt, eq-eqb, eqb-true, get_or-set_same, get_or-set_other, get_or_past, arith}
+use Rattle.std.specs.Prelude.{◌≡◌, ℕ, ◌<◌, ◌≤◌, Bool, true, List, [], ◌∷◌, ◌++◌, length, get_or, set, refl, slice_index_or, if◌then◌else◌, ◌==◌}
+use Rattle.actor_steps.specs.Imports.{cond_both, sym, ap, ◌∙◌, subst, ⊎_elim, fun_ext, cases_eq, cases_lt, eq-eqb, eqb-true, get_or-set_same, get_or-set_other, get_or_past, arith}
 use Rattle.actor_steps.specs.Confluence.{Actor, State, moved, turned, scheduled}
 
 -- a fact of each item
@@ -64,10 +64,8 @@ module _ {M S R : Type 0} (stored : S → M → R → M) (loaded : S → M → R
 
   pub ended-own_turns : (a : ℕ) (schedule : List ℕ) (alone : Alone M S R) → ended (own_turns a schedule alone) ≡ ended alone
   ended-own_turns a [] alone = refl
-  ended-own_turns a (b ∷ schedule) alone = ended-own_turns a schedule (if b == a then once alone else alone) ∙ one (b == a) where
-    one : (test : Bool) → ended (if test then once alone else alone) ≡ ended alone
-    one true = ended-once alone
-    one false = refl
+  ended-own_turns a (b ∷ schedule) alone =
+      ended-own_turns a schedule (if b == a then once alone else alone) ∙ cond_both (b == a) (once alone) alone (λ (x : Alone M S R). ended x ≡ ended alone) (λ e. ended-once alone) (λ e. refl)
 
 module _ {M P S R : Type 0} (get : M → P → ℕ) (place : S → P) (stored : S → M → R → M) (loaded : S → M → R → R) (idle : Actor S R) (none : idle.rest ≡ [])
     (Good : M → Type 0) (Fine : S → Type 0) (owner : P → ℕ)
@@ -98,10 +96,8 @@ module _ {M P S R : Type 0} (get : M → P → ℕ) (place : S → P) (stored : 
 
   after_other : (b : ℕ) (solos : ℕ → Alone M S R) (a : ℕ) → (b ≡ a → ⊥) → after b solos a ≡ solos a
   unfolding after
-  after_other b solos a other = by_test (b == a) refl where
-    by_test : (t : Bool) → (b == a) ≡ t → (if t then once stored loaded (solos a) else solos a) ≡ solos a
-    by_test true e = absurd (other (eqb-true b a e))
-    by_test false e = refl
+  after_other b solos a other =
+      cond_both (b == a) (once stored loaded (solos a)) (solos a) (λ (x : Alone M S R). x ≡ solos a) (λ e. absurd (other (eqb-true b a e))) (λ e. refl)
 
   -- what holds of the actor behind its micro-step, and of the others as they were, holds of each
   either : (b : ℕ) (solos : ℕ → Alone M S R) (P : ℕ → Alone M S R → Type 0) → P b (once stored loaded (solos b)) → ((a : ℕ) → (b ≡ a → ⊥) → P a (solos a)) → (a : ℕ) → P a (after b solos a)

@@ -5,7 +5,7 @@ pub use Rattle.actor_steps.specs.Bytes.{IsByte}
 pub use Rattle.actor_steps.specs.BytesOfLaws.{with_byte-sized}
 pub use Rattle.actor_steps.specs.Confluence.{Actor, State, moved, turned}
 pub use Rattle.actor_steps.specs.Cuts.{AreCuts, actor_of, are_cuts, parts_from, team_of}
-pub use Rattle.actor_steps.specs.CutsLaws.{are_cuts-are}
+pub use Rattle.actor_steps.specs.CutsLaws.{are_cuts-are, cuts_end}
 pub use Rattle.actor_steps.specs.HeldLaws.{length-row_in, row_in-at}
 pub use Rattle.actor_steps.specs.Jobs.{fresh_of, job_of, memory_of, team_start, written_by}
 pub use Rattle.actor_steps.specs.MemoryLaws.{zeros-sized}

@@ -1,6 +1,6 @@
 -- What an actor that is alone makes of its rows.
 use Rattle.std.specs.Prelude.{◌≡◌, ℕ, ◌/◌, ◌<◌, ◌≤◌, Bool, true, false, ℤ, pos, List, [], ◌∷◌, ◌++◌, length, map, filter, get_or, refl, ◌==◌, ◌||◌, if◌then◌else◌}
-use Rattle.actor_steps.specs.Imports.{Outcome, index_at, sym, ap, ◌∙◌, subst, ⊎_elim, arith, flat_map, range_with_len, cases_lt, eqb-true, eq-eqb, or_left, or_right, get_or_past, Bit, owner_at, entry, digit, IsLaidOut, written_bit, bit_in, AreSized, HasShape, hold_at, declared, kept, kind_at, Setting}
+use Rattle.actor_steps.specs.Imports.{map-append, Outcome, index_at, sym, ap, ◌∙◌, subst, ⊎_elim, arith, flat_map, range_with_len, cases_lt, eqb-true, eq-eqb, or_left, or_right, get_or_past, Bit, owner_at, entry, digit, IsLaidOut, written_bit, bit_in, AreSized, HasShape, hold_at, declared, kept, kind_at, Setting}
 use Rattle.actor_steps.specs.ConfluenceLaws.{Each, each-parts, made_all, loaded_all, made_all-append, loaded_all-append}
 use Rattle.actor_steps.specs.Micro.{Place, Job, Micro, Fetch, Registers, row_in, row_as_it_stands, number_in, value_kept_on, stored, loaded, places_of, lets_through, filter_reads, set_reads, leaves_read, is_in, read_leaves, fetches, stores_of, row_steps}
 use Rattle.actor_steps.specs.SweepLaws.{is_among, AreBytesOf, sweep, sweep_sized, sweep_loaded, fetch, fetch_memory, fetch_sized}
@@ -57,10 +57,7 @@ is_in-filter test (y ∷ ys) x has e = by_tests (y == x) refl (test y) refl (λ 
 
 map-lists : (f : ℕ → List Place) (xs : List ℕ) → flat_map (λ x. map Fetch (f x)) xs ≡ map Fetch (flat_map f xs)
 map-lists f [] = refl
-map-lists f (x ∷ xs) = ap (λ (w : List Micro). map Fetch (f x) ++ w) (map-lists f xs) ∙ sym (both (f x) (flat_map f xs)) where
-  both : (ps qs : List Place) → map Fetch (ps ++ qs) ≡ map Fetch ps ++ map Fetch qs
-  both [] qs = refl
-  both (p ∷ ps) qs = ap (λ (w : List Micro). Fetch p ∷ w) (both ps qs)
+map-lists f (x ∷ xs) = ap (λ (w : List Micro). map Fetch (f x) ++ w) (map-lists f xs) ∙ sym (map-append Fetch (f x) (flat_map f xs))
 
 module _ (job : Job) (sound : IsSound job) where
   places_read : ℕ → List Place

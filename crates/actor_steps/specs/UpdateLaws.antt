@@ -1,6 +1,6 @@
 -- What an actor makes of a row is what the plain update makes of it.
-use Rattle.std.specs.Prelude.{◌≡◌, ℕ, ◌+◌, ◌<◌, Bool, true, false, ℤ, pos, List, [], ◌∷◌, length, get_or, set, Result, Ok, Err, Option, refl, ◌==◌, ◌&&◌, if◌then◌else◌}
-use Rattle.actor_steps.specs.Imports.{sym, ap, ◌∙◌, subst, ⊎_elim, arith, range_with_len, cases_eq, and_from, and_parts, eq-eqb, eqb-true, length-set, get_or-set_same, get_or-set_other, get_or-range_with_len, length-range_with_len, Term, outcome_of, is_true, EvalFault, index_at, entry, StoreAnswer, Keeping, kept_or, kept_by, StoreFault, UpdateFault, Setting, each, each_at, each_length, parted, ◌>>=◌, in_row, eval_kind, store_kind, passes, new_value, with_values, updated_row, updated_rows}
+use Rattle.std.specs.Prelude.{◌≡◌, ℕ, ◌+◌, ◌<◌, Bool, true, ℤ, pos, List, [], ◌∷◌, length, get_or, set, Result, Ok, Err, Option, refl, ◌==◌, ◌&&◌, if◌then◌else◌}
+use Rattle.actor_steps.specs.Imports.{cond_both, sym, ap, ◌∙◌, subst, ⊎_elim, arith, range_with_len, cases_eq, and_from, and_parts, eq-eqb, eqb-true, length-set, get_or-set_same, get_or-set_other, get_or-range_with_len, length-range_with_len, Term, outcome_of, is_true, EvalFault, index_at, entry, StoreAnswer, Keeping, kept_or, kept_by, StoreFault, UpdateFault, Setting, each, each_at, each_length, parted, ◌>>=◌, in_row, eval_kind, store_kind, passes, new_value, with_values, updated_row, updated_rows}
 use Rattle.actor_steps.specs.Micro.{Job, row_as_it_stands, number_in, value_kept_on, test_of}
 use Rattle.actor_steps.specs.HeldLaws.{with_value}
 use Rattle.actor_steps.specs.RowLaws.{set_entries, row_entries}
@@ -56,11 +56,10 @@ module _ (job : Job) (answer : StoreAnswer) (r : ℕ) where
             ap (λ (t : Bool). if t then value else entries r g) (and_from (r == r) (g == leaf) (eq-eqb r r refl) (eq-eqb g leaf here))
             ∙ sym (get_or-set_same line leaf value (pos 0) (omega (arith, low, here)))
             ∙ ap (λ (w : ℕ). get_or (set line leaf value) w (pos 0)) (sym here))
-            (λ (other : g ≡ leaf → ⊥). apart (r == r && g == leaf) refl other ∙ same g low ∙ sym (get_or-set_other line leaf g value (pos 0) other))
-            (cases_eq g leaf) where
-              apart : (t : Bool) → (r == r && g == leaf) ≡ t → (g ≡ leaf → ⊥) → (if t then value else entries r g) ≡ entries r g
-              apart true e other = absurd (other (eqb-true g leaf (and_parts (r == r) (g == leaf) e).1))
-              apart false e other = refl
+            (λ (other : g ≡ leaf → ⊥).
+            cond_both (r == r && g == leaf) value (entries r g) (λ (v : ℤ). v ≡ entries r g) (λ e. absurd (other (eqb-true g leaf (and_parts (r == r) (g == leaf) e).1))) (λ e. refl)
+            ∙ same g low ∙ sym (get_or-set_other line leaf g value (pos 0) other))
+            (cases_eq g leaf)
 
   -- a row after the plain update
   pub row_same : (new : List ℤ) → updated_row answer job.kept job.filter job.sets r (row_as_it_stands job r) (index_at job.extents r) ≡ Ok new → (f : ℕ) → f < length (row_as_it_stands job r)
