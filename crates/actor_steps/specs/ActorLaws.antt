@@ -1,16 +1,17 @@
 -- After every schedule the memory is that of the plain update.
 use Rattle.std.specs.Prelude.{◌≡◌, ℕ, zero, suc, ◌+◌, ◌/◌, ◌%◌, ◌<◌, ◌≤◌, Bool, true, false, ℤ, List, [], ◌∷◌, length, map, filter, get_or, refl, None, ◌==◌, ◌&&◌, ◌||◌, if◌then◌else◌}
-use Rattle.actor_steps.specs.Imports.{sym, ap, ◌∙◌, subst, ⊎_elim, arith, flat_map, list_any, range_with_len, bit_at, cases_lt, cases_eq, and_parts, eqb-true, get_or_past, get_or-map, length-map, Owner, Pad, Bit, owner_at, entry, digit, bit_in, Setting}
+use Rattle.actor_steps.specs.Imports.{cond_both, sym, ap, ◌∙◌, subst, ⊎_elim, arith, flat_map, list_any, range_with_len, bit_at, cases_lt, cases_eq, and_parts, eqb-true, get_or_past, get_or-map, length-map, Owner, Pad, Bit, owner_at, entry, digit, bit_in, Setting}
 use Rattle.actor_steps.specs.Confluence.{Actor, State, scheduled}
 use Rattle.actor_steps.specs.ConfluenceLaws.{Each, Alone, made_all, loaded_all, made_all-append, loaded_all-append, ended, IsMerged, merged-schedule, ended-schedule}
 use Rattle.actor_steps.specs.Micro.{Place, byte_at, Job, Micro, Fetch, Load, Store, Registers, row_in, row_as_it_stands, value_kept_on, with_bits_of, stored, loaded, all_bytes, is_bit_of, owners_of_byte, places_of, lets_through, read_leaves, fetches, changes, stores_of, row_steps, steps_of}
 use Rattle.actor_steps.specs.Bytes.{IsByte, IsMemory}
 use Rattle.actor_steps.specs.BytesOfLaws.{with_byte-sized, with_byte-bytes, byte_at-other, byte_at-same}
-use Rattle.actor_steps.specs.SweepLaws.{is_place, is_among, with_bits_of-lt}
+use Rattle.actor_steps.specs.SweepLaws.{is_place, place_is, is_among, with_bits_of-lt}
 use Rattle.actor_steps.specs.AmongLaws.{among-all, true_or_false, each-append, each-all, each-flat, each-weaker, each-filter, each-map, all_are_bytes, has_byte, byte_owner}
 use Rattle.actor_steps.specs.HeldLaws.{digit_held, IsHeld, with_value}
 use Rattle.actor_steps.specs.RowLaws.{IsSound, set_entries, row_entries, rows_entries, IsWork, row_work}
-use Rattle.actor_steps.specs.Cuts.{team_of}
+use Rattle.actor_steps.specs.Cuts.{AreCuts, actor_of, parts_from, team_of}
+use Rattle.actor_steps.specs.CutsLaws.{part_of, first_below, actor_is}
 use Rattle.actor_steps.specs.Shared.{is_shared, shared_byte}
 use Rattle.actor_steps.specs.SharedLaws.{actor_in, none-shared, one_actor, byte-actor}
 
@@ -25,10 +26,7 @@ each-among : (P : Place → Type 0) (places : List Place) (b i : ℕ) → Each P
 each-among P [] b i all e = true_or_false false e refl
 each-among P (place ∷ places) b i all e = by_test (is_place b i place) refl e (λ rest. each-among P places b i all.1 rest) where
   by_test : (t : Bool) → is_place b i place ≡ t → (t || is_among places b i) ≡ true → (is_among places b i ≡ true → P (record { blob = b; byte = i })) → P (record { blob = b; byte = i })
-  by_test true here some rest =
-      let both = and_parts (place.blob == b) (place.byte == i) here in
-      subst (λ (w : ℕ). P (record { blob = b; byte = w })) (eqb-true place.byte i both.1)
-      (subst (λ (w : ℕ). P (record { blob = w; byte = place.byte })) (eqb-true place.blob b both.0) all.0)
+  by_test true here some rest = subst P (place_is b i place here) all.0
   by_test false here some rest = rest some
 
 -- entries of another row stand
@@ -36,10 +34,8 @@ set-other : (job : Job) (row : ℕ) (sets : List Setting) (entries : ℕ → ℕ
 set-other job row [] entries r f other = refl
 set-other job row (set ∷ sets) entries r f other =
     let value = value_kept_on job (row_as_it_stands job row) row set in
-    set-other job row sets (with_value row set.leaf value entries) r f other ∙ by_test (r == row && f == set.leaf) refl where
-      by_test : (t : Bool) → (r == row && f == set.leaf) ≡ t → (if t then value_kept_on job (row_as_it_stands job row) row set else entries r f) ≡ entries r f
-      by_test true e = absurd (other (eqb-true r row (and_parts (r == row) (f == set.leaf) e).0))
-      by_test false e = refl
+    set-other job row sets (with_value row set.leaf value entries) r f other
+    ∙ cond_both (r == row && f == set.leaf) value (entries r f) (λ (v : ℤ). v ≡ entries r f) (λ e. absurd (other (eqb-true r row (and_parts (r == row) (f == set.leaf) e).0))) (λ e. refl)
 
 -- entries of the row depend on those of the row alone
 set-same : (job : Job) (row : ℕ) (sets : List Setting) (one two : ℕ → ℕ → ℤ) → ((f : ℕ) → one row f ≡ two row f) → (f : ℕ) → set_entries job row sets one row f ≡ set_entries job row sets two row f
@@ -50,10 +46,8 @@ set-same job row (set ∷ sets) one two same f =
     (λ f. ap (λ (v : ℤ). if row == row && f == set.leaf then value else v) (same f)) f
 
 row-other : (job : Job) (row : ℕ) (entries : ℕ → ℕ → ℤ) (r f : ℕ) → (r ≡ row → ⊥) → row_entries job row entries r f ≡ entries r f
-row-other job row entries r f other = by_test (lets_through job row) where
-  by_test : (t : Bool) → (if t then set_entries job row job.sets entries else entries) r f ≡ entries r f
-  by_test true = set-other job row job.sets entries r f other
-  by_test false = refl
+row-other job row entries r f other =
+    cond_both (lets_through job row) (set_entries job row job.sets entries) entries (λ (g : ℕ → ℕ → ℤ). g r f ≡ entries r f) (λ e. set-other job row job.sets entries r f other) (λ e. refl)
 
 row-same : (job : Job) (row : ℕ) (one two : ℕ → ℕ → ℤ) → ((f : ℕ) → one row f ≡ two row f) → (f : ℕ) → row_entries job row one row f ≡ row_entries job row two row f
 row-same job row one two same f = by_test (lets_through job row) where
@@ -92,7 +86,10 @@ module _ (job : Job) (sound : IsSound job) where
       (λ r f low. row-other job first entries r f (λ e. (let bad : ⊥ = omega (arith, low, e) in bad)) ∙ stands r f (omega (arith, low))) in
       grind (arith, range_with_len, made_all-append, loaded_all-append)
 
-  module _ (actor : ℕ → ℕ) (apart : shared_byte job.layout actor ≡ None) where
+  module _ (cuts : List ℕ) (apart : shared_byte job.layout (actor_of cuts) ≡ None) where
+    abbrev pub actor : ℕ → ℕ
+    actor = actor_of cuts
+
     abbrev pub owner_of : Place → ℕ
     owner_of place = actor_in actor (owners_of_byte job.layout place)
 
@@ -119,17 +116,14 @@ module _ (job : Job) (sound : IsSound job) where
         (each-flat (IsOwn (actor row)) (λ leaf. map Fetch (places_of job.layout row leaf)) (read_leaves job row)
         (each-all (λ leaf. Each (IsOwn (actor row)) (map Fetch (places_of job.layout row leaf))) (read_leaves job row)
         (λ leaf. each-map (IsOwn (actor row)) Fetch (places_of job.layout row leaf) (places-own row leaf))))
-        (by_test (lets_through job row)) where
+        (cond_both (lets_through job row) (flat_map (stores_of job row) job.sets) [] (Each (IsOwn (actor row)))
+        (λ e. each-flat (IsOwn (actor row)) (stores_of job row) job.sets
+        (each-all (λ set. Each (IsOwn (actor row)) (stores_of job row set)) job.sets (λ set. one_leaf set (places_of job.layout row set.leaf) (places-own row set.leaf))))
+        (λ e. tt)) where
           one_leaf : (set : Setting) (places : List Place) → Each (λ place. IsByte job.layout place × (owner_of place ≡ actor row)) places
               → Each (IsOwn (actor row)) (flat_map (changes row set) places)
           one_leaf set [] own = tt
           one_leaf set (place ∷ places) own = (own.0, (own.0, one_leaf set places own.1))
-
-          by_test : (t : Bool) → Each (IsOwn (actor row)) (if t then flat_map (stores_of job row) job.sets else [])
-          by_test true =
-              each-flat (IsOwn (actor row)) (stores_of job row) job.sets
-              (each-all (λ set. Each (IsOwn (actor row)) (stores_of job row set)) job.sets (λ set. one_leaf set (places_of job.layout row set.leaf) (places-own row set.leaf)))
-          by_test false = tt
 
     steps-own : (first n a : ℕ) → ((r : ℕ) → first ≤ r → r < first + n → actor r ≡ a) → Each (IsOwn a) (steps_of job first n)
     steps-own first zero a rows = tt
@@ -138,11 +132,10 @@ module _ (job : Job) (sound : IsSound job) where
         (subst (λ (x : ℕ). Each (IsOwn x) (row_steps job first)) (rows first (omega arith) (omega arith)) (row-own first))
         (steps-own (first + 1) n a (λ r low high. rows r (omega (arith, low)) (omega (arith, high))))
 
-    module _ (parts : List (ℕ × ℕ)) (fresh : Registers)
-        (inside : (a : ℕ) → a < length parts → (get_or parts a (0, 0)).0 + (get_or parts a (0, 0)).1 ≤ length job.rows)
-        (mine : (a r : ℕ) → a < length parts → (get_or parts a (0, 0)).0 ≤ r → r < (get_or parts a (0, 0)).0 + (get_or parts a (0, 0)).1 → actor r ≡ a)
-        (every : (r : ℕ) → r < length job.rows → (actor r < length parts) × ((get_or parts (actor r) (0, 0)).0 ≤ r) × (r < (get_or parts (actor r) (0, 0)).0 + (get_or parts (actor r) (0, 0)).1))
-        (memory : List (List ℕ)) (good : IsMemory job.layout memory) (work : IsWork job (entry job.rows) memory fresh) where
+    module _ (fresh : Registers) (are : AreCuts 0 cuts (length job.rows)) (memory : List (List ℕ)) (good : IsMemory job.layout memory) (work : IsWork job (entry job.rows) memory fresh) where
+      abbrev pub parts : List (ℕ × ℕ)
+      parts = parts_from 0 cuts (length job.rows)
+
       abbrev first : ℕ → ℕ
       first a = (get_or parts a (0, 0)).0
 
@@ -191,7 +184,7 @@ module _ (job : Job) (sound : IsSound job) where
       all-own : (a : ℕ) → Each (IsOwn a) (alone a).rest
       all-own a =
           ⊎_elim (λ (low : a < length parts).
-          subst (λ (x : Actor Micro Registers). Each (IsOwn a) x.rest) (sym (team-at a low)) (steps-own (first a) (size a) a (λ r from below. mine a r low from below)))
+          subst (λ (x : Actor Micro Registers). Each (IsOwn a) x.rest) (sym (team-at a low)) (steps-own (first a) (size a) a (λ r from below. actor_is 0 cuts (length job.rows) a r are (record { low = low; from = from; below = below }))))
           (λ (high : length parts ≤ a). subst (λ (x : Actor Micro Registers). Each (IsOwn a) x.rest) (sym (team-past a high)) tt)
           (cases_lt a (length parts))
 
@@ -218,7 +211,7 @@ module _ (job : Job) (sound : IsSound job) where
           → bit_in (ended (stored job) (loaded job) (alone a)) b p ≡ digit_held updated (owner_at job.layout b p)
       solo-bit b p a is =
           ⊎_elim (λ (low : a < length parts).
-          let done = solo (first a) (size a) (entry job.rows) memory fresh work (inside a low) (λ r f from. refl) in
+          let done = solo (first a) (size a) (entry job.rows) memory fresh work (first_below 0 cuts (length job.rows) a are low).1 (λ r f from. refl) in
           ap (λ (x : Actor Micro Registers). bit_in (made_all (stored job) (loaded job) x.rest memory x.registers) b p) (team-at a low)
           ∙ done.holds b p ∙ by_owner (owner_at job.layout b p) refl)
           (λ (high : length parts ≤ a).
@@ -229,14 +222,16 @@ module _ (job : Job) (sound : IsSound job) where
             by_owner Pad e = refl
             by_owner (Bit r f k) e =
                 let same : actor r ≡ a = sym (is ∙ row-actor b p r f k e) in
-                let row_in = (sound.laid.owned b p r f k e).slot_in in
-                let range = every r row_in in
-                let from : first a ≤ r = subst (λ (w : ℕ). first w ≤ r) same range.1 in
-                let below : r < first a + size a = subst (λ (w : ℕ). r < first w + size w) same range.2 in
+                let part = part_of 0 cuts (length job.rows) r are (omega arith) (sound.laid.owned b p r f k e).slot_in in
+                let from : first a ≤ r = subst (λ (w : ℕ). first w ≤ r) same part.from in
+                let below : r < first a + size a = subst (λ (w : ℕ). r < first w + size w) same part.below in
                 ap (λ (v : ℤ). digit v k) (rows-inside job (first a) (size a) (entry job.rows) r f from below)
 
             by_none : length parts ≤ a → (owner : Owner) → owner_at job.layout b p ≡ owner → digit_held (entry job.rows) owner ≡ digit_held updated owner
-            by_none high owner e = grind (arith, row-actor)
+            by_none high Pad e = refl
+            by_none high (Bit r f k) e =
+                let part = part_of 0 cuts (length job.rows) r are (omega arith) (sound.laid.owned b p r f k e).slot_in in
+                let same : actor r ≡ a = sym (is ∙ row-actor b p r f k e) in absurd (omega (arith, part.low, high, same))
 
       -- where no micro-step is left after a schedule, memory holds what the plain update leaves
       pub after_every_schedule : (schedule : List ℕ) → ((a : ℕ) → (get_or (scheduled (stored job) (loaded job) idle schedule start).actors a idle).rest ≡ [])

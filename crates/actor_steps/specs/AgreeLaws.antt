@@ -7,18 +7,18 @@ use Rattle.actor_steps.specs.RowLaws.{IsSound, IsWork, row_entries}
 use Rattle.actor_steps.specs.MemoryLaws.{zeros-sized, zeros-laid, image-memory, image-laid, image-bits, memory-is, image-held}
 use Rattle.actor_steps.specs.LaidLaws.{AreAllTidy, tidy_by, tidy_start}
 use Rattle.actor_steps.specs.UpdateLaws.{row_same, row_keeps, updated_at, updated_length}
-use Rattle.actor_steps.specs.ScheduleLaws.{none_left, held_after, memory_by-end}
+use Rattle.actor_steps.specs.ScheduleLaws.{held_after, memory_by-end}
 use Rattle.actor_steps.specs.Jobs.{job_of, memory_of, fresh_of, team_start}
 use Rattle.actor_steps.specs.Schedules.{run_by}
-use Rattle.actor_steps.specs.Agree.{IsLawful, memory_by, SchedulesAgree, NothingIsLeft, UpdatesAreLawful, BytesAreRead, SchedulesKeepPadding}
+use Rattle.actor_steps.specs.Agree.{IsLawful, memory_by, SchedulesAgree, SchedulesKeepPadding}
+
+pub leaf_count : (table : Table) → leaf_count_of table ≡ length (leaf_types_of table)
+leaf_count table = sym (length-map (leaves table.fields) (λ (one : Leaf). one.kind))
 
 module _ (table : Table) (lawful : IsLawful table) where
-  leaf_count : leaf_count_of table ≡ length (leaf_types_of table)
-  leaf_count = sym (length-map (leaves table.fields) (λ (one : Leaf). one.kind))
-
   -- a row has a number for each leaf
   row_length : (row : ℕ) → row < length table.rows → length (get_or table.rows row []) ≡ length (leaf_types_of table)
-  row_length row inside = lawful.is_table.shape.leaf_count row inside ∙ leaf_count
+  row_length row inside = lawful.is_table.shape.leaf_count row inside ∙ leaf_count table
 
   shaped : HasShape (length table.rows) (length (leaf_types_of table)) table.rows
   shaped = record { row_count = refl; leaf_count = row_length }
@@ -113,15 +113,6 @@ schedules_agree table filter sets cuts rows parted schedule =
     let memory = memory_by table filter sets cuts schedule in
     memory-is (owners_of table) parted.lawful.laid.whole_bytes rows memory (memory_by-end job sound cuts (memory_of table) fresh parted.parts parted.apart good work schedule)
     (held_image table parted.lawful filter sets rows parted.plain memory (held_after job sound cuts (memory_of table) fresh parted.parts parted.apart good work schedule))
-
-pub nothing_is_left : NothingIsLeft
-nothing_is_left job fresh state a = none_left job fresh state a
-
-pub updates_are_lawful : UpdatesAreLawful
-updates_are_lawful table filter sets rows lawful plain = updated_lawful table lawful filter sets rows plain
-
-pub bytes_are_read : BytesAreRead
-bytes_are_read table lawful = rows_read table lawful
 
 pub schedules_keep_padding : SchedulesKeepPadding
 schedules_keep_padding table filter sets cuts lawful schedule =

@@ -1,6 +1,6 @@
 -- Which bytes hold a bit of a leaf in a row.
-use Rattle.std.specs.Prelude.{◌≡◌, ℕ, zero, suc, ◌+◌, ◌*◌, ◌/◌, ◌%◌, ◌<◌, ◌≤◌, Bool, true, false, List, [], ◌∷◌, ◌++◌, length, map, filter, get_or, All, refl, ◌==◌, ◌||◌, if◌then◌else◌}
-use Rattle.actor_steps.specs.Imports.{sym, ap, ◌∙◌, ⊎_elim, arith, flat_map, list_any, range_with_len, cases_eq, cases_lt, cases_Bool, and_from, and_parts, or_left, or_right, eq-eqb, eqb-true, cond-true, cond-false, length-take, length-drop, get_or-take, get_or-drop, get_or_past, list_any-append, list_any_at, Owner, Pad, Bit, owner_at}
+use Rattle.std.specs.Prelude.{◌≡◌, ℕ, zero, suc, ◌+◌, ◌-◌, ◌*◌, ◌/◌, ◌%◌, ◌<◌, ◌≤◌, Bool, true, false, List, [], ◌∷◌, ◌++◌, length, map, filter, get_or, All, refl, ◌==◌, ◌||◌}
+use Rattle.actor_steps.specs.Imports.{cond_both, get_or-map-range_with_len, get_or-range_with_len, length-map-range_with_len, length-range_with_len, sym, ap, ◌∙◌, ⊎_elim, arith, flat_map, list_any, range_with_len, cases_eq, cases_lt, cases_Bool, and_from, and_parts, or_left, or_right, eq-eqb, eqb-true, cond-true, cond-false, length-take, length-drop, get_or-take, get_or-drop, get_or_past, list_any-append, list_any_at, Owner, Pad, Bit, owner_at}
 use Rattle.actor_steps.specs.Micro.{Place, bytes_in, all_bytes, is_bit_of, owners_of_byte, places_of}
 use Rattle.actor_steps.specs.Bytes.{IsByte}
 use Rattle.actor_steps.specs.SweepLaws.{is_place, is_among, AreBytesOf}
@@ -28,30 +28,22 @@ among-lists f (y ∷ ys) x b i has e =
     (cases_eq y x)
 
 pub in_range : (a n x : ℕ) → a ≤ x → x < a + n → list_any (λ other. other == x) (range_with_len a n) ≡ true
-in_range a zero x low high = absurd (omega (arith, low, high))
-in_range a (suc n) x low high =
-    ⊎_elim (λ (same : a ≡ x). or_left (a == x) (list_any (λ other. other == x) (range_with_len (a + 1) n)) (eq-eqb a x same))
-    (λ (other : a ≡ x → ⊥). or_right (a == x) (list_any (λ other. other == x) (range_with_len (a + 1) n)) (in_range (a + 1) n x (apart other) (omega (arith, high))))
-    (cases_eq a x) where
-      apart : (a ≡ x → ⊥) → a + 1 ≤ x
-      apart other = ⊎_elim (λ (l : a < x). omega (arith, l)) (λ (l : x ≤ a). absurd (other (omega (arith, l, low)))) (cases_lt a x)
+in_range a n x low high =
+    list_any_at (λ other. other == x) (range_with_len a n) (x - a) 0 (omega (arith, length-range_with_len a n, low, high))
+    (eq-eqb (get_or (range_with_len a n) (x - a) 0) x (get_or-range_with_len a n (x - a) 0 (omega (arith, low, high)) ∙ (let back : a + (x - a) ≡ x = omega (arith, low) in back)))
 
 -- the bytes of a blob, and of all
-among-range : (blob a n i : ℕ) → a ≤ i → i < a + n → is_among (map (λ byte. record { blob = blob; byte = byte }) (range_with_len a n)) blob i ≡ true
-among-range blob a zero i low high = absurd (omega (arith, low, high))
-among-range blob a (suc n) i low high =
-    let here : Place = record { blob = blob; byte = a } in
-    let rest = is_among (map (λ byte. record { blob = blob; byte = byte }) (range_with_len (a + 1) n)) blob i in
-    ⊎_elim (λ (same : a ≡ i). or_left (is_place blob i here) rest (and_from (blob == blob) (a == i) (eq-eqb blob blob refl) (eq-eqb a i same)))
-    (λ (other : a ≡ i → ⊥). or_right (is_place blob i here) rest (among-range blob (a + 1) n i (apart other) (omega (arith, high))))
-    (cases_eq a i) where
-      apart : (a ≡ i → ⊥) → a + 1 ≤ i
-      apart other = ⊎_elim (λ (l : a < i). omega (arith, l)) (λ (l : i ≤ a). absurd (other (omega (arith, l, low)))) (cases_lt a i)
+among-range : (blob n i : ℕ) → i < n → is_among (map (λ byte. record { blob = blob; byte = byte }) (range_with_len 0 n)) blob i ≡ true
+among-range blob n i low =
+    let here : Place = record { blob = blob; byte = i } in
+    let place : ℕ → Place = λ byte. record { blob = blob; byte = byte } in
+    list_any_at (is_place blob i) (map place (range_with_len 0 n)) i here (omega (arith, length-map-range_with_len place 0 n, low))
+    (ap (is_place blob i) (get_or-map-range_with_len place 0 n i i here low (omega arith)) ∙ and_from (blob == blob) (i == i) (eq-eqb blob blob refl) (eq-eqb i i refl))
 
 pub among-all : (layout : List (List Owner)) (b i : ℕ) → b < length layout → 8 * i + 8 ≤ length (get_or layout b []) → is_among (all_bytes layout) b i ≡ true
 among-all layout b i blob_in byte_in =
     among-lists (bytes_in layout) (range_with_len 0 (length layout)) b b i (in_range 0 (length layout) b (omega arith) (omega (arith, blob_in)))
-    (among-range b 0 (length (get_or layout b []) / 8) i (omega arith) (omega (arith, byte_in)))
+    (among-range b (length (get_or layout b []) / 8) i (omega (arith, byte_in)))
 
 -- a test that a place meets
 pub among-filter : (test : Place → Bool) (places : List Place) (b i : ℕ) → is_among places b i ≡ true → test (record { blob = b; byte = i }) ≡ true
@@ -109,10 +101,9 @@ each-weaker P Q (x ∷ xs) so all = (so x all.0, each-weaker P Q xs so all.1)
 
 pub each-filter : {X : Type 0} (P : X → Type 0) (test : X → Bool) (xs : List X) → Each P xs → Each (λ x. P x × (test x ≡ true)) (filter test xs)
 each-filter P test [] all = all
-each-filter {X} P test (x ∷ xs) all = by_test (test x) refl (each-filter P test xs all.1) where
-  by_test : (t : Bool) → test x ≡ t → Each (λ x. P x × (test x ≡ true)) (filter test xs) → Each (λ x. P x × (test x ≡ true)) (if t then x ∷ filter test xs else filter test xs)
-  by_test true e rest = ((all.0, e), rest)
-  by_test false e rest = rest
+each-filter {X} P test (x ∷ xs) all =
+    let rest = each-filter P test xs all.1 in
+    cond_both (test x) (x ∷ filter test xs) (filter test xs) (Each (λ (x : X). P x × (test x ≡ true))) (λ e. ((all.0, e), rest)) (λ e. rest)
 
 each-range : (P : ℕ → Type 0) (a n : ℕ) → ((x : ℕ) → a ≤ x → x < a + n → P x) → Each P (range_with_len a n)
 each-range P a zero each = tt

@@ -1,12 +1,17 @@
 -- Actors that make micro-steps on bytes of their own: whatever the schedule, each byte is what its owner alone makes of it.
-use Rattle.std.specs.Prelude.{◌≡◌, ℕ, ◌<◌, ◌≤◌, Bool, true, false, List, [], ◌∷◌, ◌++◌, length, get_or, set, refl, slice_index_or, if◌then◌else◌, ◌==◌}
-use Rattle.actor_steps.specs.Imports.{sym, ap, ◌∙◌, subst, ⊎_elim, fun_ext, cases_eq, cases_lt, eq-eqb, eqb-true, get_or-set_same, get_or-set_other, get_or_past, arith}
+use Rattle.std.specs.Prelude.{◌≡◌, ℕ, ◌<◌, ◌≤◌, Bool, true, List, [], ◌∷◌, ◌++◌, length, get_or, set, refl, slice_index_or, if◌then◌else◌, ◌==◌}
+use Rattle.actor_steps.specs.Imports.{cond_both, sym, ap, ◌∙◌, subst, ⊎_elim, fun_ext, cases_eq, cases_lt, eq-eqb, eqb-true, get_or-set_same, get_or-set_other, get_or_past, arith}
 use Rattle.actor_steps.specs.Confluence.{Actor, State, moved, turned, scheduled}
 
 -- a fact of each item
 abbrev pub Each : {X : Type 0} → (X → Type 0) → List X → Type 0
 Each P [] = Unit {0}
 Each P (x ∷ xs) = P x × Each P xs
+
+-- one of each item of two lists is one of each of both
+pub each-parts : {X : Type 0} (P : X → Type 0) (xs ys : List X) → Each P (xs ++ ys) → Each P xs × Each P ys
+each-parts P [] ys all = (tt, all)
+each-parts P (x ∷ xs) ys all = let rest = each-parts P xs ys all.1 in ((all.0, rest.0), rest.1)
 
 -- one actor with a memory of its own
 pub record Alone (M S R : Type 0) : Type 0 where
@@ -59,10 +64,8 @@ module _ {M S R : Type 0} (stored : S → M → R → M) (loaded : S → M → R
 
   pub ended-own_turns : (a : ℕ) (schedule : List ℕ) (alone : Alone M S R) → ended (own_turns a schedule alone) ≡ ended alone
   ended-own_turns a [] alone = refl
-  ended-own_turns a (b ∷ schedule) alone = ended-own_turns a schedule (if b == a then once alone else alone) ∙ one (b == a) where
-    one : (test : Bool) → ended (if test then once alone else alone) ≡ ended alone
-    one true = ended-once alone
-    one false = refl
+  ended-own_turns a (b ∷ schedule) alone =
+      ended-own_turns a schedule (if b == a then once alone else alone) ∙ cond_both (b == a) (once alone) alone (λ (x : Alone M S R). ended x ≡ ended alone) (λ e. ended-once alone) (λ e. refl)
 
 module _ {M P S R : Type 0} (get : M → P → ℕ) (place : S → P) (stored : S → M → R → M) (loaded : S → M → R → R) (idle : Actor S R) (none : idle.rest ≡ [])
     (Good : M → Type 0) (Fine : S → Type 0) (owner : P → ℕ)
@@ -93,17 +96,21 @@ module _ {M P S R : Type 0} (get : M → P → ℕ) (place : S → P) (stored : 
 
   after_other : (b : ℕ) (solos : ℕ → Alone M S R) (a : ℕ) → (b ≡ a → ⊥) → after b solos a ≡ solos a
   unfolding after
-  after_other b solos a other = by_test (b == a) refl where
-    by_test : (t : Bool) → (b == a) ≡ t → (if t then once stored loaded (solos a) else solos a) ≡ solos a
-    by_test true e = absurd (other (eqb-true b a e))
-    by_test false e = refl
+  after_other b solos a other =
+      cond_both (b == a) (once stored loaded (solos a)) (solos a) (λ (x : Alone M S R). x ≡ solos a) (λ e. absurd (other (eqb-true b a e))) (λ e. refl)
+
+  -- what holds of the actor behind its micro-step, and of the others as they were, holds of each
+  either : (b : ℕ) (solos : ℕ → Alone M S R) (P : ℕ → Alone M S R → Type 0) → P b (once stored loaded (solos b)) → ((a : ℕ) → (b ≡ a → ⊥) → P a (solos a)) → (a : ℕ) → P a (after b solos a)
+  either b solos P here there a =
+      ⊎_elim (λ (same : b ≡ a). subst (P a) (sym (after_same b solos a same)) (subst (λ (x : ℕ). P x (once stored loaded (solos x))) same here))
+      (λ (other : b ≡ a → ⊥). subst (P a) (sym (after_other b solos a other)) (there a other))
+      (cases_eq b a)
 
   -- where the actor has nothing left, nothing happens
   turn_none : (b : ℕ) (solos : ℕ → Alone M S R) (state : State M S R) → IsMerged solos state → (solos b).rest ≡ [] → IsMerged (after b solos) state
-  turn_none b solos state merged e = subst (λ (f : ℕ → Alone M S R). IsMerged f state) (sym (fun_ext (λ a. same a))) merged where
-    same : (a : ℕ) → after b solos a ≡ solos a
-    same a = ⊎_elim (λ (here : b ≡ a). after_same b solos a here ∙ ap (λ (r : List S). stepped stored loaded r (solos a)) (ap (λ (x : ℕ). (solos x).rest) (sym here) ∙ e))
-        (λ (other : b ≡ a → ⊥). after_other b solos a other) (cases_eq b a)
+  turn_none b solos state merged e =
+      subst (λ (f : ℕ → Alone M S R). IsMerged f state)
+      (sym (fun_ext (either b solos (λ a x. x ≡ solos a) (ap (λ (r : List S). stepped stored loaded r (solos b)) e) (λ a other. refl)))) merged
 
   turn_one : (b : ℕ) (solos : ℕ → Alone M S R) (state : State M S R) (s : S) (rest : List S) → IsMerged solos state → (solos b).rest ≡ s ∷ rest
       → IsMerged (after b solos) (moved stored loaded (s ∷ rest) (slice_index_or state.actors b idle).registers b state)
@@ -117,44 +124,21 @@ module _ {M P S R : Type 0} (get : M → P → ℕ) (place : S → P) (stored : 
       let here : get state.memory (place s) ≡ get solo.memory (place s) = merged.bytes (place s) ∙ ap (λ (a : ℕ). get (solos a).memory (place s)) owned.0.1 in
       let inside : b < length state.actors = in_range b solos state s rest merged e in
       record {
-        rest = λ a. ⊎_elim (λ (same : b ≡ a).
-            ap (λ (x : ℕ). (get_or (set state.actors b actor) x idle).rest) (sym same) ∙ ap (λ (x : Actor S R). x.rest) (get_or-set_same state.actors b actor idle inside)
-            ∙ sym (ap (λ (x : Alone M S R). x.rest) made) ∙ ap (λ (x : ℕ). (once stored loaded (solos x)).rest) same ∙ sym (ap (λ (x : Alone M S R). x.rest) (after_same b solos a same)))
-            (λ (other : b ≡ a → ⊥).
-            ap (λ (x : Actor S R). x.rest) (get_or-set_other state.actors b a actor idle (λ same. other (sym same)))
-            ∙ merged.rest a ∙ sym (ap (λ (x : Alone M S R). x.rest) (after_other b solos a other)))
-            (cases_eq b a);
-        registers = λ a. ⊎_elim (λ (same : b ≡ a).
-            ap (λ (x : ℕ). (get_or (set state.actors b actor) x idle).registers) (sym same) ∙ ap (λ (x : Actor S R). x.registers) (get_or-set_same state.actors b actor idle inside)
-            ∙ same_loaded s state.memory solo.memory registers here ∙ ap (λ (r : R). loaded s solo.memory r) (merged.registers b)
-            ∙ sym (ap (λ (x : Alone M S R). x.registers) made) ∙ ap (λ (x : ℕ). (once stored loaded (solos x)).registers) same
-            ∙ sym (ap (λ (x : Alone M S R). x.registers) (after_same b solos a same)))
-            (λ (other : b ≡ a → ⊥).
-            ap (λ (x : Actor S R). x.registers) (get_or-set_other state.actors b a actor idle (λ same. other (sym same)))
-            ∙ merged.registers a ∙ sym (ap (λ (x : Alone M S R). x.registers) (after_other b solos a other)))
-            (cases_eq b a);
-        bytes = λ p. ⊎_elim (λ (same : b ≡ owner p).
-            same_stored s state.memory solo.memory registers p owned.0.0 merged.good (merged.goods b) here (merged.bytes p ∙ ap (λ (a : ℕ). get (solos a).memory p) (sym same))
-            ∙ ap (λ (r : R). get (stored s solo.memory r) p) (merged.registers b)
-            ∙ sym (ap (λ (x : Alone M S R). get x.memory p) made) ∙ ap (λ (x : ℕ). get (once stored loaded (solos x)).memory p) same
-            ∙ sym (ap (λ (x : Alone M S R). get x.memory p) (after_same b solos (owner p) same)))
-            (λ (other : b ≡ owner p → ⊥).
-            elsewhere s state.memory registers p (λ at. other (sym owned.0.1 ∙ sym (ap owner at)))
-            ∙ merged.bytes p ∙ sym (ap (λ (x : Alone M S R). get x.memory p) (after_other b solos (owner p) other)))
-            (cases_eq b (owner p));
+        rest = either b solos (λ a x. (get_or (set state.actors b actor) a idle).rest ≡ x.rest)
+            (ap (λ (x : Actor S R). x.rest) (get_or-set_same state.actors b actor idle inside) ∙ sym (ap (λ (x : Alone M S R). x.rest) made))
+            (λ a other. ap (λ (x : Actor S R). x.rest) (get_or-set_other state.actors b a actor idle (λ same. other (sym same))) ∙ merged.rest a);
+        registers = either b solos (λ a x. (get_or (set state.actors b actor) a idle).registers ≡ x.registers)
+            (ap (λ (x : Actor S R). x.registers) (get_or-set_same state.actors b actor idle inside) ∙ same_loaded s state.memory solo.memory registers here
+            ∙ ap (λ (r : R). loaded s solo.memory r) (merged.registers b) ∙ sym (ap (λ (x : Alone M S R). x.registers) made))
+            (λ a other. ap (λ (x : Actor S R). x.registers) (get_or-set_other state.actors b a actor idle (λ same. other (sym same))) ∙ merged.registers a);
+        bytes = λ p. either b solos (λ a x. owner p ≡ a → get state.memory p ≡ get (solos a).memory p → get (stored s state.memory registers) p ≡ get x.memory p)
+            (λ own same. same_stored s state.memory solo.memory registers p owned.0.0 merged.good (merged.goods b) here same
+            ∙ ap (λ (r : R). get (stored s solo.memory r) p) (merged.registers b) ∙ sym (ap (λ (x : Alone M S R). get x.memory p) made))
+            (λ a other own same. elsewhere s state.memory registers p (λ at. other (sym owned.0.1 ∙ sym (ap owner at) ∙ own)) ∙ same)
+            (owner p) refl (merged.bytes p);
         good = good_after s state.memory registers merged.good;
-        goods = λ a. ⊎_elim (λ (same : b ≡ a).
-            subst (λ (x : Alone M S R). Good x.memory) (sym (after_same b solos a same))
-            (subst (λ (x : ℕ). Good (once stored loaded (solos x)).memory) same
-            (subst (λ (x : Alone M S R). Good x.memory) (sym made) (good_after s solo.memory solo.registers (merged.goods b)))))
-            (λ (other : b ≡ a → ⊥). subst (λ (x : Alone M S R). Good x.memory) (sym (after_other b solos a other)) (merged.goods a))
-            (cases_eq b a);
-        own = λ a. ⊎_elim (λ (same : b ≡ a).
-            subst (λ (x : Alone M S R). AreOwn a x.rest) (sym (after_same b solos a same))
-            (subst (λ (x : ℕ). AreOwn x (once stored loaded (solos x)).rest) same
-            (subst (λ (x : Alone M S R). AreOwn b x.rest) (sym made) owned.1)))
-            (λ (other : b ≡ a → ⊥). subst (λ (x : Alone M S R). AreOwn a x.rest) (sym (after_other b solos a other)) (merged.own a))
-            (cases_eq b a);
+        goods = either b solos (λ a x. Good x.memory) (subst (λ (x : Alone M S R). Good x.memory) (sym made) (good_after s solo.memory solo.registers (merged.goods b))) (λ a other. merged.goods a);
+        own = either b solos (λ a x. AreOwn a x.rest) (subst (λ (x : Alone M S R). AreOwn b x.rest) (sym made) owned.1) (λ a other. merged.own a);
       } where
         in_range : (b : ℕ) (solos : ℕ → Alone M S R) (state : State M S R) (s : S) (rest : List S) → IsMerged solos state → (solos b).rest ≡ s ∷ rest → b < length state.actors
         in_range b solos state s rest merged e =

@@ -25,14 +25,16 @@ part_of from (cut ∷ cuts) count row are low high =
     (λ (l : cut ≤ row). grind (arith, le-leb, (part_of cut cuts count row are.1 l high)))
     (cases_lt row cut)
 
+-- cuts end within the rows
+pub cuts_end : (cut : ℕ) (cuts : List ℕ) (count : ℕ) → AreCuts cut cuts count → cut ≤ count
+cuts_end cut [] count are = are
+cuts_end cut (next ∷ cuts) count are = omega (arith, cuts_end next cuts count are.1, are.0)
+
 pub first_below : (from : ℕ) (cuts : List ℕ) (count a : ℕ) → AreCuts from cuts count → a < length (parts_from from cuts count)
     → (from ≤ (get_or (parts_from from cuts count) a (0, 0)).0) × ((get_or (parts_from from cuts count) a (0, 0)).0 + (get_or (parts_from from cuts count) a (0, 0)).1 ≤ count)
 first_below from [] count zero are low = (omega arith, omega (arith, are))
 first_below from [] count (suc a) are low = absurd (let bad : ⊥ = omega (arith, low) in bad)
-first_below from (cut ∷ cuts) count zero are low = (omega arith, (let end : cut ≤ count = last cut cuts are.1 in omega (arith, are.0, end))) where
-  last : (cut : ℕ) (cuts : List ℕ) → AreCuts cut cuts count → cut ≤ count
-  last cut [] are = are
-  last cut (next ∷ cuts) are = (let rest = last next cuts are.1 in omega (arith, rest, are.0))
+first_below from (cut ∷ cuts) count zero are low = (omega arith, omega (arith, are.0, cuts_end cut cuts count are.1))
 first_below from (cut ∷ cuts) count (suc a) are low = grind (arith, (first_below cut cuts count a are.1 (omega (arith, low))))
 
 pub actor_is : (from : ℕ) (cuts : List ℕ) (count a row : ℕ) → AreCuts from cuts count → IsPart (parts_from from cuts count) a row → actor_of cuts row ≡ a

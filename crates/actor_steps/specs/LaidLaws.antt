@@ -1,11 +1,11 @@
 -- Padding stays 0: memory, and the bytes that are loaded of it, after any schedule.
-use Rattle.std.specs.Prelude.{◌≡◌, ℕ, zero, suc, ◌+◌, ◌*◌, ◌/◌, ◌%◌, ◌<◌, Bool, true, false, ℤ, List, [], ◌∷◌, ◌++◌, map, get_or, set, refl, ◌==◌, if◌then◌else◌, slice_index_or}
-use Rattle.actor_steps.specs.Imports.{ap, ◌∙◌, arith, flat_map, range_with_len, bit_at, cases_eq, cases_lt, and_parts, eqb-true, get_or-set_same, get_or-set_other, set_past, Owner, Pad, owner_at, bit_in, bit_of_byte, AreLaid, Setting}
+use Rattle.std.specs.Prelude.{◌≡◌, ℕ, zero, suc, ◌+◌, ◌*◌, ◌/◌, ◌%◌, ◌<◌, ℤ, List, [], ◌∷◌, ◌++◌, map, get_or, set, if◌then◌else◌, slice_index_or}
+use Rattle.actor_steps.specs.Imports.{cond_both, ap, ◌∙◌, arith, flat_map, range_with_len, bit_at, cases_eq, cases_lt, get_or-set_same, get_or-set_other, set_past, Owner, Pad, owner_at, bit_in, bit_of_byte, AreLaid, Setting}
 use Rattle.actor_steps.specs.Confluence.{Actor, State, moved, turned}
 use Rattle.actor_steps.specs.Micro.{Place, byte_at, with_byte, Job, Micro, Fetch, Load, Store, Registers, row_in, value_kept_on, with_bits_of, stored, loaded, places_of, lets_through, read_leaves, fetches, changes, stores_of, row_steps, steps_of}
 use Rattle.actor_steps.specs.Bytes.{IsByte}
 use Rattle.actor_steps.specs.BytesOfLaws.{with_byte-sized}
-use Rattle.actor_steps.specs.SweepLaws.{is_place, AreBytesOf, bit_in-with_byte, bit_at-with_bits_of}
+use Rattle.actor_steps.specs.SweepLaws.{is_place, place_is, AreBytesOf, bit_in-with_byte, bit_at-with_bits_of}
 use Rattle.actor_steps.specs.AmongLaws.{places-are_bytes}
 use Rattle.actor_steps.specs.Cuts.{parts_from, team_of}
 use Rattle.actor_steps.specs.Schedules.{idle_with, started, run_by}
@@ -28,16 +28,15 @@ pub with_byte-laid : (layout : List (List Owner)) (memory : List (List ℕ)) (pl
     → IsPaddedByte layout place byte → AreLaid layout (with_byte memory place byte)
 with_byte-laid layout memory place byte laid is padded = record {
   sized = with_byte-sized layout memory place byte laid.sized;
-  padded = record { padding = λ b p pad. bit_in-with_byte layout memory place byte b p laid.sized is ∙ by_test b p pad (is_place b (p / 8) place) refl };
-} where
-  by_test : (b p : ℕ) → owner_at layout b p ≡ Pad → (test : Bool) → is_place b (p / 8) place ≡ test → (if test then bit_at byte (p % 8) else bit_in memory b p) ≡ 0
-  by_test b p pad true e =
-      (let both = and_parts (place.blob == b) (place.byte == p / 8) e in
-      let at : place.byte ≡ p / 8 = eqb-true place.byte (p / 8) both.1 in
-      let back : 8 * place.byte + p % 8 ≡ p = omega arith in
-      padded (p % 8) (omega arith)
-      (ap (λ (w : ℕ). owner_at layout w (8 * place.byte + p % 8)) (eqb-true place.blob b both.0) ∙ ap (owner_at layout b) back ∙ pad))
-  by_test b p pad false e = laid.padded.padding b p pad
+  padded = record {
+    padding = λ b p pad.
+        (let back : 8 * (p / 8) + p % 8 ≡ p = omega arith in
+        bit_in-with_byte layout memory place byte b p laid.sized is
+        ∙ cond_both (is_place b (p / 8) place) (bit_at byte (p % 8)) (bit_in memory b p) (λ (w : ℕ). w ≡ 0)
+        (λ e. padded (p % 8) (omega arith) (ap (λ (w : Place). owner_at layout w.blob (8 * w.byte + p % 8)) (place_is b (p / 8) place e) ∙ ap (owner_at layout b) back ∙ pad))
+        (λ e. laid.padded.padding b p pad));
+  };
+}
 
 -- micro-steps in which each store stands behind a load of its byte; the first may store this byte
 abbrev pub AreTidy : List (List Owner) → ℕ → List Micro → Type 0
@@ -70,12 +69,9 @@ tidy-row job byte row =
     tidy-append job.layout byte (fetches job row) (if lets_through job row then flat_map (stores_of job row) job.sets else [])
     (tidy-lists job.layout byte (λ leaf. map Fetch (places_of job.layout row leaf)) (read_leaves job row)
     (λ leaf next. tidy-fetches job.layout next (places_of job.layout row leaf) (places-are_bytes job.layout row leaf)))
-    (λ next. by_test next (lets_through job row)) where
-      by_test : (next : ℕ) (test : Bool) → AreTidy job.layout next (if test then flat_map (stores_of job row) job.sets else [])
-      by_test next true =
-          tidy-lists job.layout next (stores_of job row) job.sets
-          (λ set after. tidy-changes job.layout after row set (places_of job.layout row set.leaf) (places-are_bytes job.layout row set.leaf))
-      by_test next false = tt
+    (λ next. cond_both (lets_through job row) (flat_map (stores_of job row) job.sets) [] (AreTidy job.layout next)
+    (λ e. tidy-lists job.layout next (stores_of job row) job.sets (λ set after. tidy-changes job.layout after row set (places_of job.layout row set.leaf) (places-are_bytes job.layout row set.leaf)))
+    (λ e. tt))
 
 pub tidy-steps : (job : Job) (byte first count : ℕ) → AreTidy job.layout byte (steps_of job first count)
 tidy-steps job byte first count = tidy-lists job.layout byte (row_steps job) (range_with_len first count) (λ row next. tidy-row job next row)

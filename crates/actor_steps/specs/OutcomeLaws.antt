@@ -1,19 +1,11 @@
 -- The value of an expression depends on the leaves alone that it reads.
-use Rattle.std.specs.Prelude.{◌≡◌, ℕ, ℤ, pos, List, [], ◌∷◌, ◌++◌, get_or, Result, Ok, Err, Option, Some, None, refl, neg_ℤ, not}
+use Rattle.std.specs.Prelude.{◌≡◌, ℕ, ℤ, pos, List, [], ◌∷◌, get_or, Result, Ok, Err, Option, Some, None, refl, neg_ℤ, not}
 use Rattle.actor_steps.specs.Imports.{sym, ap, ◌∙◌, subst, arith, EvalFault, Term, Number, Entry, Index, Neg, Not, Binary, Outcome, outcome_of, after_reads, then_from, unless_decided, no_read, ranged, truth, is_true, decided, result_of}
-use Rattle.actor_steps.specs.ConfluenceLaws.{Each}
+use Rattle.actor_steps.specs.ConfluenceLaws.{Each, each-parts}
 
 -- rows that agree on these leaves
 abbrev pub Agree : List ℤ → List ℤ → List ℕ → Type 0
 Agree row other leaves = Each (λ leaf. get_or row leaf (pos 0) ≡ get_or other leaf (pos 0)) leaves
-
-left_of : (P : ℕ → Type 0) (xs ys : List ℕ) → Each P (xs ++ ys) → Each P xs
-left_of P [] ys all = tt
-left_of P (x ∷ xs) ys all = (all.0, left_of P xs ys all.1)
-
-right_of : (P : ℕ → Type 0) (xs ys : List ℕ) → Each P (xs ++ ys) → Each P ys
-right_of P [] ys all = all
-right_of P (x ∷ xs) ys all = right_of P xs ys all.1
 
 module _ (row other : List ℤ) (index : List ℕ) where
   -- one thing after another
@@ -26,7 +18,7 @@ module _ (row other : List ℤ) (index : List ℕ) where
     by_answer (Ok x) is =
         let here : Agree row other (after_reads first.reads (next x)).reads = subst (λ (a : Result ℤ EvalFault). Agree row other (then_from a first.reads next).reads) is agree in
         ap (λ (a : Result ℤ EvalFault). then_from a first.reads next) is
-        ∙ ap (after_reads first.reads) (same x (right_of (λ leaf. get_or row leaf (pos 0) ≡ get_or other leaf (pos 0)) first.reads (next x).reads here))
+        ∙ ap (after_reads first.reads) (same x (each-parts (λ leaf. get_or row leaf (pos 0) ≡ get_or other leaf (pos 0)) first.reads (next x).reads here).1)
         ∙ ap (λ (a : Result ℤ EvalFault). then_from a first.reads next') (sym is)
     by_answer (Err fault) is =
         ap (λ (a : Result ℤ EvalFault). then_from a first.reads next) is ∙ ap (λ (a : Result ℤ EvalFault). then_from a first.reads next') (sym is)
@@ -34,7 +26,7 @@ module _ (row other : List ℤ) (index : List ℕ) where
   first_agrees : (first : Outcome) (next : ℤ → Outcome) → Agree row other (then_from first.answer first.reads next).reads → Agree row other first.reads
   first_agrees first next agree = by_answer first.answer agree where
     by_answer : (answer : Result ℤ EvalFault) → Agree row other (then_from answer first.reads next).reads → Agree row other first.reads
-    by_answer (Ok x) here = left_of (λ leaf. get_or row leaf (pos 0) ≡ get_or other leaf (pos 0)) first.reads (next x).reads here
+    by_answer (Ok x) here = (each-parts (λ leaf. get_or row leaf (pos 0) ≡ get_or other leaf (pos 0)) first.reads (next x).reads here).0
     by_answer (Err fault) here = here
 
   pub outcome_same : (term : Term ℕ) → Agree row other (outcome_of row index term).reads → outcome_of row index term ≡ outcome_of other index term

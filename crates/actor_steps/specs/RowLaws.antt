@@ -1,8 +1,8 @@
 -- What an actor that is alone makes of its rows.
 use Rattle.std.specs.Prelude.{◌≡◌, ℕ, ◌/◌, ◌<◌, ◌≤◌, Bool, true, false, ℤ, pos, List, [], ◌∷◌, ◌++◌, length, map, filter, get_or, refl, ◌==◌, ◌||◌, if◌then◌else◌}
-use Rattle.actor_steps.specs.Imports.{sym, ap, ◌∙◌, subst, ⊎_elim, arith, flat_map, range_with_len, cases_lt, eqb-true, eq-eqb, or_left, or_right, get_or_past, Bit, owner_at, entry, digit, IsLaidOut, written_bit, bit_in, AreSized, HasShape, hold_at, declared, kept, kind_at, Setting}
-use Rattle.actor_steps.specs.ConfluenceLaws.{Each, made_all, loaded_all, made_all-append, loaded_all-append}
-use Rattle.actor_steps.specs.Micro.{Place, Job, Micro, Fetch, Registers, row_in, row_as_it_stands, value_kept_on, stored, loaded, places_of, lets_through, filter_reads, set_reads, leaves_read, is_in, read_leaves, fetches, stores_of, row_steps}
+use Rattle.actor_steps.specs.Imports.{map-append, Outcome, index_at, sym, ap, ◌∙◌, subst, ⊎_elim, arith, flat_map, range_with_len, cases_lt, eqb-true, eq-eqb, or_left, or_right, get_or_past, Bit, owner_at, entry, digit, IsLaidOut, written_bit, bit_in, AreSized, HasShape, hold_at, declared, kept, kind_at, Setting}
+use Rattle.actor_steps.specs.ConfluenceLaws.{Each, each-parts, made_all, loaded_all, made_all-append, loaded_all-append}
+use Rattle.actor_steps.specs.Micro.{Place, Job, Micro, Fetch, Registers, row_in, row_as_it_stands, number_in, value_kept_on, stored, loaded, places_of, lets_through, filter_reads, set_reads, leaves_read, is_in, read_leaves, fetches, stores_of, row_steps}
 use Rattle.actor_steps.specs.SweepLaws.{is_among, AreBytesOf, sweep, sweep_sized, sweep_loaded, fetch, fetch_memory, fetch_sized}
 use Rattle.actor_steps.specs.AmongLaws.{true_or_false, among-lists, among-places, in_range, each-all, each-flat, each-weaker, places-are_bytes}
 use Rattle.actor_steps.specs.OutcomeLaws.{outcome_same}
@@ -40,17 +40,9 @@ each-in : (P : ℕ → Type 0) (xs : List ℕ) → ((x : ℕ) → is_in xs x ≡
 each-in P [] so = tt
 each-in P (x ∷ xs) so = (so x (or_left (x == x) (is_in xs x) (eq-eqb x x refl)), each-in P xs (λ y e. so y (or_right (x == y) (is_in xs y) e)))
 
-each-left : (P : ℕ → Type 0) (xs ys : List ℕ) → Each P (xs ++ ys) → Each P xs
-each-left P [] ys all = tt
-each-left P (x ∷ xs) ys all = (all.0, each-left P xs ys all.1)
-
-each-right : (P : ℕ → Type 0) (xs ys : List ℕ) → Each P (xs ++ ys) → Each P ys
-each-right P [] ys all = all
-each-right P (x ∷ xs) ys all = each-right P xs ys all.1
-
 each-lists : {X : Type 0} (P : ℕ → Type 0) (f : X → List ℕ) (xs : List X) → Each P (flat_map f xs) → Each (λ x. Each P (f x)) xs
 each-lists P f [] all = tt
-each-lists P f (x ∷ xs) all = (each-left P (f x) (flat_map f xs) all, each-lists P f xs (each-right P (f x) (flat_map f xs) all))
+each-lists P f (x ∷ xs) all = let parts = each-parts P (f x) (flat_map f xs) all in (parts.0, each-lists P f xs parts.1)
 
 -- what a test lets through
 is_in-filter : (test : ℕ → Bool) (xs : List ℕ) (x : ℕ) → is_in xs x ≡ true → test x ≡ true → is_in (filter test xs) x ≡ true
@@ -65,10 +57,7 @@ is_in-filter test (y ∷ ys) x has e = by_tests (y == x) refl (test y) refl (λ 
 
 map-lists : (f : ℕ → List Place) (xs : List ℕ) → flat_map (λ x. map Fetch (f x)) xs ≡ map Fetch (flat_map f xs)
 map-lists f [] = refl
-map-lists f (x ∷ xs) = ap (λ (w : List Micro). map Fetch (f x) ++ w) (map-lists f xs) ∙ sym (both (f x) (flat_map f xs)) where
-  both : (ps qs : List Place) → map Fetch (ps ++ qs) ≡ map Fetch ps ++ map Fetch qs
-  both [] qs = refl
-  both (p ∷ ps) qs = ap (λ (w : List Micro). Fetch p ∷ w) (both ps qs)
+map-lists f (x ∷ xs) = ap (λ (w : List Micro). map Fetch (f x) ++ w) (map-lists f xs) ∙ sym (map-append Fetch (f x) (flat_map f xs))
 
 module _ (job : Job) (sound : IsSound job) where
   places_read : ℕ → List Place
@@ -132,7 +121,10 @@ module _ (job : Job) (sound : IsSound job) where
       let all : Each Same (leaves_read job row) = each-in Same (leaves_read job row) (λ leaf e. sym (read_same row leaf entries memory registers row_in' work stands e)) in
       let some : Each Same (filter_reads job row job.filter ++ flat_map (set_reads job row) job.sets) =
       subst (λ (t : Bool). Each Same (filter_reads job row job.filter ++ (if t then flat_map (set_reads job row) job.sets else []))) through all in
-      grind (arith, each-weaker, outcome_same, each-lists, each-right, flat_map)
+      let rest = (each-parts Same (filter_reads job row job.filter) (flat_map (set_reads job row) job.sets) some).1 in
+      each-weaker (λ set. Each Same (set_reads job row set)) (λ set. value_kept_on job read row set ≡ value_kept_on job (row_as_it_stands job row) row set) job.sets
+      (λ set agree. ap (λ (o : Outcome). job.kept set.leaf (number_in o.answer)) (sym (outcome_same (row_as_it_stands job row) read (index_at job.extents row) set.value agree)))
+      (each-lists Same (set_reads job row) job.sets rest)
 
   -- the sets of a row
   sets_work : (row : ℕ) (sets : List Setting) (entries : ℕ → ℕ → ℤ) (memory : List (List ℕ)) (registers : Registers) → IsWork job entries memory registers

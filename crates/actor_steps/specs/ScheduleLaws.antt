@@ -1,15 +1,15 @@
 -- Memory after any schedule and what it left.
 use Rattle.std.specs.Prelude.{◌≡◌, ℕ, List, [], ◌∷◌, None, length, refl, ◌++◌, slice_index_or}
-use Rattle.actor_steps.specs.Imports.{ap, ◌∙◌, subst, arith, entry}
+use Rattle.actor_steps.specs.Imports.{ap, ◌∙◌, subst, entry}
 use Rattle.actor_steps.specs.Confluence.{State, turned}
 use Rattle.actor_steps.specs.Micro.{Job, Micro, Registers, stored, loaded}
 use Rattle.actor_steps.specs.Bytes.{IsMemory}
 use Rattle.actor_steps.specs.HeldLaws.{IsHeld}
 use Rattle.actor_steps.specs.RowLaws.{IsSound, IsWork, row_entries}
-use Rattle.actor_steps.specs.Cuts.{AreCuts, actor_of, parts_from}
+use Rattle.actor_steps.specs.Cuts.{AreCuts, actor_of}
 use Rattle.actor_steps.specs.Shared.{shared_byte}
 use Rattle.actor_steps.specs.Schedules.{idle_with, started, run_by, turns_left, finished}
-use Rattle.actor_steps.specs.CutsLaws.{part_of, first_below, actor_is, nothing_left}
+use Rattle.actor_steps.specs.CutsLaws.{nothing_left}
 use Rattle.actor_steps.specs.ActorLaws.{after_every_schedule, memory_after}
 
 -- one schedule behind another
@@ -33,27 +33,17 @@ module _ (job : Job) (sound : IsSound job) (cuts : List ℕ) (memory : List (Lis
       → IsHeld job.layout (λ row leaf. row_entries job row (entry job.rows) row leaf) (finished job fresh (run_by job fresh schedule (started job cuts (length job.rows) memory fresh))).memory
   unfolding start
   held_after schedule =
-      let parts = parts_from 0 cuts (length job.rows) in
       let middle = run_by job fresh schedule start in
       let all = schedule ++ turns_left middle in
       let same = run_by-append job fresh schedule (turns_left middle) start in
       let left : (a : ℕ) → (slice_index_or (run_by job fresh all start).actors a (idle_with fresh)).rest ≡ [] =
       λ a. ap (λ (s : State (List (List ℕ)) Micro Registers). (slice_index_or s.actors a (idle_with fresh)).rest) same ∙ none_left job fresh middle a in
       subst (λ (s : State (List (List ℕ)) Micro Registers). IsHeld job.layout (λ row leaf. row_entries job row (entry job.rows) row leaf) s.memory) same
-      (after_every_schedule job sound (actor_of cuts) apart parts fresh
-      (λ a low. (first_below 0 cuts (length job.rows) a are low).1)
-      (λ a r low from below. actor_is 0 cuts (length job.rows) a r are (record { low = low; from = from; below = below }))
-      (λ r low. (let part = part_of 0 cuts (length job.rows) r are (omega arith) low in (part.low, part.from, part.below)))
-      memory good work all left)
+      (after_every_schedule job sound cuts apart fresh are memory good work all left)
 
   -- after any schedule it is memory of the layout
   pub memory_by-any : (schedule : List ℕ) → IsMemory job.layout (run_by job fresh schedule (started job cuts (length job.rows) memory fresh)).memory
-  memory_by-any schedule =
-      memory_after job sound (actor_of cuts) apart (parts_from 0 cuts (length job.rows)) fresh
-      (λ a low. (first_below 0 cuts (length job.rows) a are low).1)
-      (λ a r low from below. actor_is 0 cuts (length job.rows) a r are (record { low = low; from = from; below = below }))
-      (λ r low. (let part = part_of 0 cuts (length job.rows) r are (omega arith) low in (part.low, part.from, part.below)))
-      memory good work schedule
+  memory_by-any schedule = memory_after job sound cuts apart fresh are memory good work schedule
 
   pub memory_by-end : (schedule : List ℕ) → IsMemory job.layout (finished job fresh (run_by job fresh schedule (started job cuts (length job.rows) memory fresh))).memory
   unfolding start

@@ -1,6 +1,6 @@
 -- What an actor makes of one leaf of a row, byte after byte.
-use Rattle.std.specs.Prelude.{◌≡◌, ℕ, ◌+◌, ◌*◌, ◌/◌, ◌%◌, ◌<◌, Bool, true, false, ℤ, List, [], ◌∷◌, map, get_or, refl, ◌==◌, ◌&&◌, ◌||◌, if◌then◌else◌}
-use Rattle.actor_steps.specs.Imports.{sym, ap, ◌∙◌, arith, flat_map, list_any, bit_at, and_from, and_parts, eq-eqb, eqb-true, bit_at-lt, Owner, Pad, Bit, owner_at, digit, written_bit, number_lt, bit_number, digit_lt, bit_in, AreSized, Setting}
+use Rattle.std.specs.Prelude.{◌≡◌, ℕ, ◌+◌, ◌*◌, ◌/◌, ◌%◌, ◌<◌, Bool, true, false, ℤ, List, [], ◌∷◌, map, refl, ◌==◌, ◌&&◌, ◌||◌, if◌then◌else◌}
+use Rattle.actor_steps.specs.Imports.{cond_both, true≢false, sym, ap, ◌∙◌, arith, flat_map, list_any, bit_at, and_from, and_parts, eq-eqb, eqb-true, bit_at-lt, Owner, Pad, Bit, owner_at, digit, written_bit, number_lt, bit_number, digit_lt, bit_in, AreSized, Setting}
 use Rattle.actor_steps.specs.ConfluenceLaws.{Each, made_all, loaded_all}
 use Rattle.actor_steps.specs.Micro.{Place, byte_at, with_byte, Job, Fetch, Load, Store, Registers, row_in, value_kept_on, with_bits_of, stored, loaded, changes}
 use Rattle.actor_steps.specs.Bytes.{IsByte}
@@ -17,32 +17,26 @@ is_among places blob byte = list_any (is_place blob byte) places
 abbrev pub AreBytesOf : List (List Owner) → List Place → Type 0
 AreBytesOf layout places = Each (IsByte layout) places
 
+-- a byte is a place where the test says so
+pub place_is : (b i : ℕ) (place : Place) → is_place b i place ≡ true → place ≡ record { blob = b; byte = i }
+place_is b i place e =
+    let both = and_parts (place.blob == b) (place.byte == i) e in
+    ap (λ (w : ℕ). record { blob = w; byte = place.byte }) (eqb-true place.blob b both.0) ∙ ap (λ (w : ℕ). record { blob = b; byte = w }) (eqb-true place.byte i both.1)
+
 -- the bits of memory with another byte at a place
 pub bit_in-with_byte : (layout : List (List Owner)) (memory : List (List ℕ)) (place : Place) (byte : ℕ) (b p : ℕ) → AreSized layout memory → IsByte layout place
     → bit_in (with_byte memory place byte) b p ≡ (if is_place b (p / 8) place then bit_at byte (p % 8) else bit_in memory b p)
-bit_in-with_byte layout memory place byte b p sized is = by_test (is_place b (p / 8) place) refl where
-  by_test : (test : Bool) → is_place b (p / 8) place ≡ test → bit_in (with_byte memory place byte) b p ≡ (if test then bit_at byte (p % 8) else bit_in memory b p)
-  by_test true e =
-      let both = and_parts (place.blob == b) (place.byte == p / 8) e in
-      let blob : place.blob ≡ b = eqb-true place.blob b both.0 in
-      let at : place.byte ≡ p / 8 = eqb-true place.byte (p / 8) both.1 in
-      ap (λ (w : ℕ). bit_at (get_or (get_or (with_byte memory place byte) w []) (p / 8) 0) (p % 8)) (sym blob)
-      ∙ ap (λ (w : ℕ). bit_at (get_or (get_or (with_byte memory place byte) place.blob []) w 0) (p % 8)) (sym at)
-      ∙ ap (λ (w : ℕ). bit_at w (p % 8)) (byte_at-same layout memory place byte sized is)
-  by_test false e =
-      ap (λ (w : ℕ). bit_at w (p % 8))
-      (byte_at-other memory place byte (record { blob = b; byte = p / 8 })
-      (λ both. absurd (no_test (and_from (place.blob == b) (place.byte == p / 8) (eq-eqb place.blob b (sym both.0)) (eq-eqb place.byte (p / 8) (sym both.1))) e))) where
-        no_test : is_place b (p / 8) place ≡ true → is_place b (p / 8) place ≡ false → ⊥
-        no_test holds fails = (let bad : true ≡ false = sym holds ∙ fails in cc)
+bit_in-with_byte layout memory place byte b p sized is =
+    cond_both (is_place b (p / 8) place) (bit_at byte (p % 8)) (bit_in memory b p) (λ (w : ℕ). bit_in (with_byte memory place byte) b p ≡ w)
+    (λ e. ap (λ (w : Place). bit_at (byte_at (with_byte memory place byte) w) (p % 8)) (sym (place_is b (p / 8) place e))
+    ∙ ap (λ (w : ℕ). bit_at w (p % 8)) (byte_at-same layout memory place byte sized is))
+    (λ e. ap (λ (w : ℕ). bit_at w (p % 8)) (byte_at-other memory place byte (record { blob = b; byte = p / 8 })
+    (λ both. true≢false (sym (and_from (place.blob == b) (place.byte == p / 8) (eq-eqb place.blob b (sym both.0)) (eq-eqb place.byte (p / 8) (sym both.1))) ∙ e))))
 
 -- a bit that is written is a bit
 written_lt : (owner : Owner) (row leaf : ℕ) (value : ℤ) (old : ℕ) → old < 2 → written_bit owner row leaf value old < 2
 written_lt Pad row leaf value old low = low
-written_lt (Bit s c k) row leaf value old low = by_test ((s == row) && (c == leaf)) where
-  by_test : (test : Bool) → (if test then digit value k else old) < 2
-  by_test true = digit_lt value k
-  by_test false = low
+written_lt (Bit s c k) row leaf value old low = cond_both ((s == row) && (c == leaf)) (digit value k) old (λ (n : ℕ). n < 2) (λ e. digit_lt value k) (λ e. low)
 
 -- a byte in which only the bits of a leaf in a row are changed is a byte, and its bits
 pub with_bits_of-lt : (layout : List (List Owner)) (place : Place) (row leaf : ℕ) (value : ℤ) (byte : ℕ) → with_bits_of layout place row leaf value byte < 256
@@ -80,14 +74,10 @@ module _ (job : Job) (row : ℕ) (set : Setting) where
             ≡ (if test then written_bit (owner_at job.layout b p) row set.leaf (value_kept_on job (row_in job registers.loaded row) row set) (bit_in memory b p) else bit_in memory b p)
         by_test true e =
             let value = value_kept_on job (row_in job registers.loaded row) row set in
-            let both = and_parts (place.blob == b) (place.byte == p / 8) e in
-            let blob : place.blob ≡ b = eqb-true place.blob b both.0 in
-            let at : place.byte ≡ p / 8 = eqb-true place.byte (p / 8) both.1 in
-            let whole : 8 * place.byte + p % 8 ≡ p = omega arith in
+            let whole : 8 * (p / 8) + p % 8 ≡ p = omega arith in
             bit_at-with_bits_of job.layout place row set.leaf value (byte_at memory place) (p % 8) (omega arith)
-            ∙ ap (λ (w : ℕ). written_bit (owner_at job.layout place.blob w) row set.leaf value (bit_at (byte_at memory place) (p % 8))) whole
-            ∙ ap (λ (w : ℕ). written_bit (owner_at job.layout w p) row set.leaf value (bit_at (get_or (get_or memory w []) place.byte 0) (p % 8))) blob
-            ∙ ap (λ (w : ℕ). written_bit (owner_at job.layout b p) row set.leaf value (bit_at (get_or (get_or memory b []) w 0) (p % 8))) at
+            ∙ ap (λ (w : Place). written_bit (owner_at job.layout w.blob (8 * w.byte + p % 8)) row set.leaf value (bit_at (byte_at memory w) (p % 8))) (place_is b (p / 8) place e)
+            ∙ ap (λ (q : ℕ). written_bit (owner_at job.layout b q) row set.leaf value (bit_in memory b p)) whole
         by_test false e = refl
 
   one_sized : (place : Place) (memory : List (List ℕ)) (registers : Registers) → AreSized job.layout memory → AreSized job.layout (one_byte place memory registers)
@@ -153,10 +143,7 @@ module _ (job : Job) where
             → (if there then bit_in memory b p else (if here then bit_at (byte_at memory place) (p % 8) else bit_in registers.loaded b p))
             ≡ (if (here || there) then bit_in memory b p else bit_in registers.loaded b p)
         by_tests true true e = refl
-        by_tests true false e =
-            let both = and_parts (place.blob == b) (place.byte == p / 8) e in
-            ap (λ (w : ℕ). bit_at (get_or (get_or memory w []) place.byte 0) (p % 8)) (eqb-true place.blob b both.0)
-            ∙ ap (λ (w : ℕ). bit_at (get_or (get_or memory b []) w 0) (p % 8)) (eqb-true place.byte (p / 8) both.1)
+        by_tests true false e = ap (λ (w : Place). bit_at (byte_at memory w) (p % 8)) (place_is b (p / 8) place e)
         by_tests false true e = refl
         by_tests false false e = refl
 

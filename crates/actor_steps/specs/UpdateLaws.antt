@@ -1,34 +1,9 @@
 -- What an actor makes of a row is what the plain update makes of it.
-use Rattle.std.specs.Prelude.{◌≡◌, ℕ, zero, suc, ◌+◌, ◌<◌, Bool, true, false, ℤ, pos, List, [], ◌∷◌, length, get_or, set, Result, Ok, Err, Option, refl, ◌==◌, ◌&&◌, if◌then◌else◌}
-use Rattle.actor_steps.specs.Imports.{sym, ap, ◌∙◌, subst, ⊎_elim, arith, range_with_len, cases_eq, and_from, and_parts, eq-eqb, eqb-true, length-set, get_or-set_same, get_or-set_other, get_or-range_with_len, length-range_with_len, Term, outcome_of, is_true, EvalFault, index_at, entry, StoreAnswer, Keeping, kept_or, kept_by, StoreFault, UpdateFault, Setting, each, ◌>>=◌, in_row, eval_kind, store_kind, passes, new_value, with_values, updated_row, updated_rows}
+use Rattle.std.specs.Prelude.{◌≡◌, ℕ, ◌+◌, ◌<◌, Bool, true, ℤ, pos, List, [], ◌∷◌, length, get_or, set, Result, Ok, Err, Option, refl, ◌==◌, ◌&&◌, if◌then◌else◌}
+use Rattle.actor_steps.specs.Imports.{cond_both, sym, ap, ◌∙◌, subst, ⊎_elim, arith, range_with_len, cases_eq, and_from, and_parts, eq-eqb, eqb-true, length-set, get_or-set_same, get_or-set_other, get_or-range_with_len, length-range_with_len, Term, outcome_of, is_true, EvalFault, index_at, entry, StoreAnswer, Keeping, kept_or, kept_by, StoreFault, UpdateFault, Setting, each, each_at, each_length, parted, ◌>>=◌, in_row, eval_kind, store_kind, passes, new_value, with_values, updated_row, updated_rows}
 use Rattle.actor_steps.specs.Micro.{Job, row_as_it_stands, number_in, value_kept_on, test_of}
 use Rattle.actor_steps.specs.HeldLaws.{with_value}
 use Rattle.actor_steps.specs.RowLaws.{set_entries, row_entries}
-
--- the first thing gave something, and so did the others
-record IsFirst {A : Type 0} (first : Result A UpdateFault) (rest : Result (List A) UpdateFault) (all : List A) : Type 0 where
-  y : A
-  ys : List A
-  first_is : first ≡ Ok y
-  rest_is : rest ≡ Ok ys
-  all_are : all ≡ y ∷ ys
-
-parted : {A : Type 0} (first : Result A UpdateFault) (rest : Result (List A) UpdateFault) (all : List A)
-    → (first >>= (λ y. rest >>= (λ ys. Ok (y ∷ ys)))) ≡ Ok all → IsFirst first rest all
-parted first rest all e = grind arith
-
--- each thing gave what stands in its place, and as many as there were
-each_at : {A B : Type 0} (step : A → Result B UpdateFault) (xs : List A) (ys : List B) (n : ℕ) (d : A) (e : B) → n < length xs → each step xs ≡ Ok ys
-    → step (get_or xs n d) ≡ Ok (get_or ys n e)
-each_at step [] ys n d e small all = absurd (omega (arith, small))
-each_at step (x ∷ xs) ys zero d e small all = (let p = parted (step x) (each step xs) ys all in rw p.all_are p.first_is)
-each_at step (x ∷ xs) ys (suc n) d e small all =
-    (let p = parted (step x) (each step xs) ys all in rw p.all_are (each_at step xs p.ys n d e (omega (arith, small)) p.rest_is))
-
-each_length : {A B : Type 0} (step : A → Result B UpdateFault) (xs : List A) (ys : List B) → each step xs ≡ Ok ys → length ys ≡ length xs
-each_length step [] ys all = (let none : ys ≡ [] = cc in ap length none)
-each_length step (x ∷ xs) ys all =
-    (let p = parted (step x) (each step xs) ys all in ap length p.all_are ∙ ap suc (each_length step xs p.ys p.rest_is))
 
 -- the answer to a store, behind a value
 kept_first : (number leaf : ℕ) (value : ℤ) (kept : Result ℤ StoreFault) (y : ℤ) → (in_row number (store_kind leaf) kept >>= (λ k. Ok value)) ≡ Ok y
@@ -46,6 +21,10 @@ valued answer number leaf (Err fault) y e = absurd (cc)
 -- a filter that is no fault
 tested : (number : ℕ) (value : Result ℤ EvalFault) (test : Bool) → (in_row number eval_kind value >>= (λ v. Ok (is_true v))) ≡ Ok test → is_true (number_in value) ≡ test
 tested number value test e = grind arith
+
+-- whether the filter lets the row through
+pub passed : (job : Job) (r : ℕ) (filter : Option (Term ℕ)) (test : Bool) → passes r (row_as_it_stands job r) (index_at job.extents r) filter ≡ Ok test → test_of job r filter ≡ test
+passed job r filter test e = grind (arith, tested)
 
 -- a row with values has as many numbers as before
 pub length-with_values : (keep : Keeping) (sets : List Setting) (values row : List ℤ) → length (with_values keep sets values row) ≡ length row
@@ -77,15 +56,10 @@ module _ (job : Job) (answer : StoreAnswer) (r : ℕ) where
             ap (λ (t : Bool). if t then value else entries r g) (and_from (r == r) (g == leaf) (eq-eqb r r refl) (eq-eqb g leaf here))
             ∙ sym (get_or-set_same line leaf value (pos 0) (omega (arith, low, here)))
             ∙ ap (λ (w : ℕ). get_or (set line leaf value) w (pos 0)) (sym here))
-            (λ (other : g ≡ leaf → ⊥). apart (r == r && g == leaf) refl other ∙ same g low ∙ sym (get_or-set_other line leaf g value (pos 0) other))
-            (cases_eq g leaf) where
-              apart : (t : Bool) → (r == r && g == leaf) ≡ t → (g ≡ leaf → ⊥) → (if t then value else entries r g) ≡ entries r g
-              apart true e other = absurd (other (eqb-true g leaf (and_parts (r == r) (g == leaf) e).1))
-              apart false e other = refl
-
-  -- whether the filter lets the row through
-  passed : (filter : Option (Term ℕ)) (test : Bool) → passes r (row_as_it_stands job r) (index_at job.extents r) filter ≡ Ok test → test_of job r filter ≡ test
-  passed filter test e = grind (arith, tested)
+            (λ (other : g ≡ leaf → ⊥).
+            cond_both (r == r && g == leaf) value (entries r g) (λ (v : ℤ). v ≡ entries r g) (λ e. absurd (other (eqb-true g leaf (and_parts (r == r) (g == leaf) e).1))) (λ e. refl)
+            ∙ same g low ∙ sym (get_or-set_other line leaf g value (pos 0) other))
+            (cases_eq g leaf)
 
   -- a row after the plain update
   pub row_same : (new : List ℤ) → updated_row answer job.kept job.filter job.sets r (row_as_it_stands job r) (index_at job.extents r) ≡ Ok new → (f : ℕ) → f < length (row_as_it_stands job r)

@@ -1,10 +1,10 @@
 -- The next place of a task, and of all tasks of a row.
-use Rattle.std.proofs.Common.{◌≡◌, ℕ, zero, suc, ◌+◌, ◌-◌, ◌<◌, ◌≤◌, Bool, true, false, List, [], ◌∷◌, ◌++◌, length, map, drop, get_or, Option, Some, None, sym, ap, ◌∙◌, subst, arith}
+use Rattle.std.proofs.Common.{◌≡◌, ℕ, ◌+◌, ◌-◌, ◌<◌, ◌≤◌, Bool, true, false, List, [], ◌∷◌, ◌++◌, length, map, drop, get_or, Option, Some, None, sym, ap, ◌∙◌, subst, arith}
 use Rattle.std.specs.Prelude.{if◌then◌else◌}
 use Rattle.actor_tasks.specs.Imports.{flat_map, range_with_len, Owner, Setting, Place, Job, Micro}
 use Rattle.std.proofs.Math.ListN.{get_or-append}
 use Rattle.std.proofs.lemmas.List.{length-map, get_or-map, get_or-append_right, length-append}
-use Rattle.std.proofs.lemmas.List.{drop_all}
+use Rattle.std.proofs.lemmas.List.{drop_all, drop_more}
 use Rattle.std.proofs.lemmas.List.FromFn.{length-map-range_with_len, get_or-map-range_with_len}
 use Rattle.actor_tasks.specs.Places.{origin, places_from, byte_behind, IsHead}
 use Rattle.actor_tasks.specs.Tasks.{Task, Reads, Sets, all_tasks, is_asked, task_leaf, place_steps, task_steps, tasks_steps}
@@ -62,23 +62,17 @@ module _ {job : Job} {layout : List (List Owner)} {leaves : ℕ} {sets : List �
       let d = some_set job.sets n inside in
       ap (task_steps job row from) (set_at n d inside) ∙ unasked job row from (Sets (get_or job.sets n d)) (sym is.through_is ∙ left_out)
 
--- the tasks from one of them on are this one and those behind it
-at_task : (tasks : List Task) (n : ℕ) (d : Task) → n < length tasks → drop n tasks ≡ get_or tasks n d ∷ drop (n + 1) tasks
-at_task [] n d low = absurd (omega (arith, low))
-at_task (t ∷ tasks) zero d low = (let one : 0 + 1 ≡ suc 0 = omega arith in ap (λ (w : ℕ). t ∷ drop w (t ∷ tasks)) (sym one))
-at_task (t ∷ tasks) (suc n) d low = grind (arith, get_or, (at_task tasks n d (omega (arith, low))))
-
 -- a task with a next byte: its micro-steps there are the next ones
 pub task_found : (job : Job) (row : ℕ) (from place : Place) (task : ℕ) (before : List Micro) (result : Option Place) → task < length (all_tasks job)
     → before ≡ tasks_steps job row from (drop task (all_tasks job)) → IsTaskNext job row from (task_at job task) result → result ≡ Some place
     → before ≡ place_steps row (task_at job task) place ++ tasks_steps job row (byte_behind place) (drop task (all_tasks job))
-task_found job row from place task before result low so_far found is = grind (arith, at_task, next_place)
+task_found job row from place task before result low so_far found is = grind (arith, drop_more, next_place)
 
 -- and one without: what is left is that of the next task
 pub task_done : (job : Job) (row : ℕ) (from : Place) (task : ℕ) (before : List Micro) (result : Option Place) → task < length (all_tasks job)
     → before ≡ tasks_steps job row from (drop task (all_tasks job)) → IsTaskNext job row from (task_at job task) result → result ≡ None
     → before ≡ tasks_steps job row origin (drop (task + 1) (all_tasks job))
-task_done job row from task before result low so_far none is = grind (arith, at_task, next_task)
+task_done job row from task before result low so_far none is = grind (arith, drop_more, next_task)
 
 -- behind the last task nothing is left
 pub none_left : (job : Job) (row : ℕ) (from : Place) (n : ℕ) (before : List Micro) → length (all_tasks job) ≤ n → before ≡ tasks_steps job row from (drop n (all_tasks job)) → before ≡ []

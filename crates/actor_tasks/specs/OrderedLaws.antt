@@ -1,8 +1,9 @@
 -- What a test picks of an ordered list: its first item, and those behind it.
-use Rattle.std.proofs.Common.{◌≡◌, Bool, true, false, List, [], ◌∷◌, ◌++◌, filter, get_or, All, refl, sym, ap, ◌∙◌, subst, ⊎_elim}
+use Rattle.std.proofs.Common.{◌≡◌, ℕ, zero, suc, ◌<◌, length, inl, inr, Bool, true, false, List, [], ◌∷◌, ◌++◌, filter, get_or, All, refl, sym, ap, ◌∙◌, ⊎_elim}
 use Rattle.std.specs.Prelude.{◌⊎◌, ◌&&◌, if◌then◌else◌}
 use Rattle.std.proofs.lemmas.Bool.{cond-true, cond-false, and_right, false_from_ne_true}
-use Rattle.std.proofs.lemmas.List.Elements.{All-head, All-tail, All-append}
+use Rattle.std.proofs.lemmas.List.Elements.{All-head, All-tail, All-append, All-contains}
+use Rattle.std.specs.List.{Contains}
 use Rattle.std.proofs.Common.{arith}
 
 -- tests that agree on each item pick the same
@@ -14,6 +15,13 @@ same_filter one two (x ∷ xs) all =
 
 and_true : (a b : Bool) → b ≡ true → a ≡ (a && b)
 and_true a b e = grind arith
+
+-- an item of a list is the first, or one of the others
+first_or_later : {X : Type 0} (x y : X) (ys : List X) → Contains (y ∷ ys) x → (y ≡ x) ⊎ Contains ys x
+first_or_later x y ys there = by there.0 there.1 there.2 where
+  by : (k : ℕ) → k < length (y ∷ ys) → get_or (y ∷ ys) k x ≡ x → (y ≡ x) ⊎ Contains ys x
+  by zero low is = inl is
+  by (suc k) low is = inr (k, omega (arith, low), is)
 
 module _ {X : Type 0} (before : X → X → Bool) where
   -- each item stands before all behind it
@@ -29,21 +37,12 @@ module _ {X : Type 0} (before : X → X → Bool) where
     ordered-append xs ys first.1 second (All-tail (λ x. All (λ y. before x y ≡ true) ys) x xs across),
   )
 
-  -- an item is one of a list
-  abbrev pub Occurs : X → List X → Type 0
-  Occurs x [] = ⊥
-  Occurs x (y ∷ ys) = (y ≡ x) ⊎ Occurs x ys
-
-  fact_of : (P : X → Type 0) (x : X) (xs : List X) → All P xs → Occurs x xs → P x
-  fact_of P x [] all there = absurd there
-  fact_of P x (y ∷ ys) all there = ⊎_elim (λ (e : y ≡ x). subst P e (All-head P y ys all)) (λ (rest : Occurs x ys). fact_of P x ys (All-tail P y ys all) rest) there
-
   module _ (irreflexive : (a : X) → before a a ≡ true → ⊥) (asymmetric : (a b : X) → before a b ≡ true → before b a ≡ true → ⊥) where
     -- the first that meets the test, and the others
-    pub split_first : (test : X → Bool) (xs : List X) (x : X) → IsOrdered xs → Occurs x xs → test x ≡ true → ((y : X) → test y ≡ true → (y ≡ x) ⊎ (before x y ≡ true))
+    pub split_first : (test : X → Bool) (xs : List X) (x : X) → IsOrdered xs → Contains xs x → test x ≡ true → ((y : X) → test y ≡ true → (y ≡ x) ⊎ (before x y ≡ true))
         → filter test xs ≡ x ∷ filter (λ y. test y && before x y) xs
-    split_first test [] x ordered there meets least = absurd there
-    split_first test (y ∷ ys) x ordered there meets least = ⊎_elim here (behind (λ rest. split_first test ys x ordered.1 rest meets least)) there where
+    split_first test [] x ordered there meets least = absurd (omega (arith, there.1))
+    split_first test (y ∷ ys) x ordered there meets least = ⊎_elim here (behind (λ rest. split_first test ys x ordered.1 rest meets least)) (first_or_later x y ys there) where
       here : y ≡ x → filter test (y ∷ ys) ≡ x ∷ filter (λ z. test z && before x z) (y ∷ ys)
       here e =
           let picked : filter test (y ∷ ys) ≡ y ∷ filter test ys = cond-true (test y) (y ∷ filter test ys) (filter test ys) (ap test e ∙ meets) in
@@ -55,9 +54,9 @@ module _ {X : Type 0} (before : X → X → Bool) where
           (λ k d inside. and_true (test (get_or ys k d)) (before x (get_or ys k d)) (ap (λ (w : X). before w (get_or ys k d)) (sym e) ∙ ordered.0 k d inside)) in
           picked ∙ ap (λ (w : X). w ∷ filter test ys) e ∙ ap (λ (rest : List X). x ∷ rest) (same ∙ sym left)
 
-      behind : (Occurs x ys → filter test ys ≡ x ∷ filter (λ z. test z && before x z) ys) → Occurs x ys → filter test (y ∷ ys) ≡ x ∷ filter (λ z. test z && before x z) (y ∷ ys)
+      behind : (Contains ys x → filter test ys ≡ x ∷ filter (λ z. test z && before x z) ys) → Contains ys x → filter test (y ∷ ys) ≡ x ∷ filter (λ z. test z && before x z) (y ∷ ys)
       behind IH rest =
-          let first : before y x ≡ true = fact_of (λ z. before y z ≡ true) x ys ordered.0 rest in
+          let first : before y x ≡ true = All-contains (λ z. before y z ≡ true) ys x ordered.0 rest in
           let fails : test y ≡ false =
           false_from_ne_true (test y) (λ m. ⊎_elim (λ (e : y ≡ x). irreflexive x (ap (λ (w : X). before w x) (sym e) ∙ first)) (λ (b : before x y ≡ true). asymmetric x y b first) (least y m)) in
           let left : filter (λ z. test z && before x z) (y ∷ ys) ≡ filter (λ z. test z && before x z) ys =

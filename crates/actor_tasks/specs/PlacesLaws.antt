@@ -1,12 +1,14 @@
 -- The bytes of a leaf in a row from a place on: the first of them, and those behind it.
-use Rattle.std.proofs.Common.{◌≡◌, ℕ, zero, suc, ◌+◌, ◌/◌, ◌<◌, Bool, true, false, List, [], ◌∷◌, ◌++◌, length, map, get_or, All, ap, ◌∙◌, subst, ⊎_elim, inl, inr, arith}
+use Rattle.std.proofs.Common.{◌≡◌, ℕ, zero, suc, ◌+◌, ◌/◌, ◌<◌, Bool, true, false, List, [], ◌∷◌, length, map, get_or, All, ap, ◌∙◌, subst, ⊎_elim, arith}
 use Rattle.std.specs.Prelude.{◌≤◌, ◌⊎◌, ◌&&◌, not}
 use Rattle.actor_tasks.specs.Imports.{flat_map, range_with_len, Owner, Place, IsByte, bytes_in, all_bytes, places_of}
 use Rattle.std.proofs.lemmas.Bool.{cases_lt, and_from}
 use Rattle.std.proofs.lemmas.Bool.Decides.{nat_tests}
-use Rattle.std.proofs.lemmas.List.Elements.{All-nil, All-cons, All-append, All-map}
+use Rattle.std.proofs.lemmas.List.Elements.{All-nil, All-append, All-map, Contains-append_left, Contains-append_right}
+use Rattle.std.proofs.lemmas.List.FromFn.{get_or-range_with_len, length-range_with_len, length-map-range_with_len, get_or-map-range_with_len}
+use Rattle.std.specs.List.{Contains}
 use Rattle.actor_tasks.specs.Places.{is_before, origin, byte_behind, byte_holds_bit, places_from}
-use Rattle.actor_tasks.specs.OrderedLaws.{same_filter, IsOrdered, ordered-append, Occurs, split_first}
+use Rattle.actor_tasks.specs.OrderedLaws.{same_filter, IsOrdered, ordered-append, split_first}
 
 -- bytes stand in one order
 irreflexive : (a : Place) → is_before a a ≡ true → ⊥
@@ -17,10 +19,8 @@ asymmetric a b e f = grind (arith, nat_tests)
 
 -- the bytes of a blob are ordered
 bytes-above : (blob a n least : ℕ) → least < a → All (λ y. is_before (record { blob = blob; byte = least }) y ≡ true) (map (λ byte. record { blob = blob; byte = byte }) (range_with_len a n))
-bytes-above blob a zero least low = All-nil (λ y. is_before (record { blob = blob; byte = least }) y ≡ true)
-bytes-above blob a (suc n) least low =
-    All-cons (λ y. is_before (record { blob = blob; byte = least }) y ≡ true) (record { blob = blob; byte = a }) (map (λ byte. record { blob = blob; byte = byte }) (range_with_len (a + 1) n))
-    (here blob least a low) (bytes-above blob (a + 1) n least (omega arith)) where
+bytes-above blob a n least low = All-map (λ y. is_before (record { blob = blob; byte = least }) y ≡ true) (λ byte. record { blob = blob; byte = byte }) (range_with_len a n)
+    (λ k d inside. here blob least (get_or (range_with_len a n) k d) (omega (arith, low, get_or-range_with_len a n k d (omega (arith, inside, length-range_with_len a n))))) where
       here : (blob least a : ℕ) → least < a → is_before (record { blob = blob; byte = least }) (record { blob = blob; byte = a }) ≡ true
       here blob least a low = grind (arith, nat_tests)
 
@@ -53,33 +53,24 @@ all-ordered : (layout : List (List Owner)) → IsOrdered is_before (all_bytes la
 all-ordered layout = blobs-ordered layout 0 (length layout)
 
 -- a byte within its blob is one of them
-occurs-front : (x : Place) (xs ys : List Place) → Occurs is_before x xs → Occurs is_before x (xs ++ ys)
-occurs-front x [] ys there = absurd there
-occurs-front x (y ∷ xs) ys there = ⊎_elim (λ (e : y ≡ x). inl e) (λ (rest : Occurs is_before x xs). inr (occurs-front x xs ys rest)) there
-
-occurs-back : (x : Place) (xs ys : List Place) → Occurs is_before x ys → Occurs is_before x (xs ++ ys)
-occurs-back x [] ys there = there
-occurs-back x (y ∷ xs) ys there = inr (occurs-back x xs ys there)
-
-occurs-byte : (blob a n byte : ℕ) → a ≤ byte → byte < a + n → Occurs is_before (record { blob = blob; byte = byte }) (map (λ byte. record { blob = blob; byte = byte }) (range_with_len a n))
-occurs-byte blob a zero byte low high = absurd (omega arith)
-occurs-byte blob a (suc n) byte low high =
-    ⊎_elim (λ (l : a < byte). inr (occurs-byte blob (a + 1) n byte (omega arith) (omega arith)))
-    (λ (l : byte ≤ a). (inl (ap (λ (i : ℕ). record { blob = blob; byte = i }) (omega arith)))) (cases_lt a byte)
+occurs-byte : (layout : List (List Owner)) (place : Place) → place.byte < length (get_or layout place.blob []) / 8 → Contains (bytes_in layout place.blob) place
+occurs-byte layout place low =
+    let here : ℕ → Place = λ byte. record { blob = place.blob; byte = byte } in
+    let n = length (get_or layout place.blob []) / 8 in
+    (place.byte, omega (arith, low, length-map-range_with_len here 0 n), get_or-map-range_with_len here 0 n place.byte place.byte place low (omega arith))
 
 occurs-blob : (layout : List (List Owner)) (a n : ℕ) (place : Place) → a ≤ place.blob → place.blob < a + n → place.byte < length (get_or layout place.blob []) / 8
-    → Occurs is_before place (flat_map (bytes_in layout) (range_with_len a n))
+    → Contains (flat_map (bytes_in layout) (range_with_len a n)) place
 occurs-blob layout a zero place low high inside = absurd (omega arith)
 occurs-blob layout a (suc n) place low high inside =
     ⊎_elim (λ (l : a < place.blob).
-    occurs-back place (bytes_in layout a) (flat_map (bytes_in layout) (range_with_len (a + 1) n)) (occurs-blob layout (a + 1) n place (omega arith) (omega arith) inside))
+    Contains-append_right (bytes_in layout a) (flat_map (bytes_in layout) (range_with_len (a + 1) n)) place (occurs-blob layout (a + 1) n place (omega arith) (omega arith) inside))
     (λ (l : place.blob ≤ a).
     let same : place.blob ≡ a = omega arith in
-    occurs-front place (bytes_in layout a) (flat_map (bytes_in layout) (range_with_len (a + 1) n))
-    (subst (λ (b : ℕ). Occurs is_before place (bytes_in layout b)) same (occurs-byte place.blob 0 (length (get_or layout place.blob []) / 8) place.byte (omega arith) (omega arith))))
+    Contains-append_left (bytes_in layout a) (flat_map (bytes_in layout) (range_with_len (a + 1) n)) place (subst (λ (b : ℕ). Contains (bytes_in layout b) place) same (occurs-byte layout place inside)))
     (cases_lt a place.blob)
 
-pub occurs-all : (layout : List (List Owner)) (place : Place) → IsByte layout place → Occurs is_before place (all_bytes layout)
+pub occurs-all : (layout : List (List Owner)) (place : Place) → IsByte layout place → Contains (all_bytes layout) place
 occurs-all layout place byte = occurs-blob layout 0 (length layout) place (omega arith) (omega (arith, byte.blob_in)) (omega (arith, byte.byte_in))
 
 -- the tests of a byte behind one that is found, and from the next byte on
@@ -87,7 +78,7 @@ rest_test : (holds : Bool) (first from y : Place) → is_before first from ≡ f
 rest_test holds first from y low = grind (arith, nat_tests)
 
 -- a byte of the leaf that no other such byte from a place on stands before is the first of them, and the others are those behind it
-pub places_from-first : (layout : List (List Owner)) (row leaf : ℕ) (from first : Place) → Occurs is_before first (all_bytes layout) → byte_holds_bit layout row leaf first ≡ true
+pub places_from-first : (layout : List (List Owner)) (row leaf : ℕ) (from first : Place) → Contains (all_bytes layout) first → byte_holds_bit layout row leaf first ≡ true
     → is_before first from ≡ false
     → ((y : Place) → (byte_holds_bit layout row leaf y && not (is_before y from)) ≡ true → (y ≡ first) ⊎ (is_before first y ≡ true))
     → places_from layout row leaf from ≡ first ∷ places_from layout row leaf (byte_behind first)

@@ -15,7 +15,7 @@ absent count chosen inside = list_any_none (λ other. other == count) chosen (λ
 pub one_left : (wanted : ℕ → Bool) (count : ℕ) (chosen : List ℕ) → AreChosen wanted count chosen → wanted count ≡ false → AreChosen wanted (count + 1) chosen
 one_left wanted count chosen so lacks = grind (arith, wider, list_any, absent, cases_eq)
 
-or_true : (b : Bool) → (b || (true || false)) ≡ true
+pub or_true : (b : Bool) → (b || (true || false)) ≡ true
 or_true b = grind arith
 
 or_no : (b : Bool) → (b || (false || false)) ≡ b

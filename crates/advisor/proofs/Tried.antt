@@ -1,6 +1,7 @@
 -- Ways of storing leaves that are tried, and what they say of candidates.
 use Rattle.advisor.proofs.Imports.{◌≡◌, ℕ, ◌+◌, ◌<◌, Bool, true, false, ℤ, List, [], ◌∷◌, ◌++◌, All, length, map, get_or, refl, sym, ap, ◌∙◌, subst, arith, ◌==◌, ◌||◌, not, if◌then◌else◌, list_all, range_with_len, true≢false, cases_eq, eq-eqb, eqb-true, and_parts, and_from, list_any-append, list_all-map, Any-from_list_any, AllPass-from_list_all, list_all-from_AllPass, get_or-range_with_len, length-range_with_len, All-push, All-map, Fields, LeafType, least_of, greatest_of, least_in, greatest_in, Hold, Strict, is_between, StoreFault, Table, leaf_count_of, keeps, stays, leaf_stays, all_stay, suits, StoreMode, hold_at, term_of, Candidate, Trial, HasKnownHolds, IsTrial, IsFresh, HasTrials, same_hold, is_for, has_trial, tried_all, has_not_failed, none_failed, same_tests, Ok, Err}
 use Rattle.advisor.proofs.Cheapest.{same_images}
+use Rattle.advisor.proofs.Chosen.{or_true}
 
 -- a store in a strict view
 keep_if : (b : Bool) (value : ℤ) (fault : StoreFault) → keeps value (if b then Ok value else Err fault) ≡ b
@@ -31,11 +32,8 @@ hold_self hold = and_from _ _ (sign_self hold.signed) (eq-eqb hold.width hold.wi
 pub has_kept : (trials : List Trial) (trial : Trial) (leaf : ℕ) (hold : Hold) → has_trial trials leaf hold ≡ true → has_trial (trials ++ trial ∷ []) leaf hold ≡ true
 has_kept trials trial leaf hold has = list_any-append (is_for leaf hold) trials (trial ∷ []) ∙ ap (λ b. b || (is_for leaf hold trial || false)) has
 
-or_last : (b : Bool) → (b || (true || false)) ≡ true
-or_last b = grind arith
-
 pub has_pushed : (trials : List Trial) (trial : Trial) → has_trial (trials ++ trial ∷ []) trial.leaf trial.hold ≡ true
-has_pushed trials trial = grind (arith, list_any-append, and_from, eq-eqb, hold_self, or_last)
+has_pushed trials trial = grind (arith, list_any-append, and_from, eq-eqb, hold_self, or_true)
 
 -- trials of the ways in which the first so many leaves are stored, behind those that were there
 pub record ArePushed (fields : Fields) (before : List Trial) (holds : List Hold) (count : ℕ) (trials : List Trial) : Type 0 where

@@ -93,12 +93,7 @@ fn all_stay(mode: StoreMode, trial: Trial, lows: &[i64]) -> bool
     requires { IsHold trial.hold }
     ensures { result ≡ all_lows_stay mode trial lows.now }
 {
-    for low in lows {
-        if !low_stays(mode, trial, *low) {
-            return false;
-        }
-    }
-    true
+    lows.iter().all(|low| low_stays(mode, trial, *low))
 }
 
 fn low_stays(mode: StoreMode, trial: Trial, low: i64) -> bool
@@ -133,12 +128,7 @@ pub fn none_failed(trials: &[Trial], holds: &[Hold]) -> bool
     requires { All (λ trial. trial.leaf < length holds.now) trials.now }
     ensures { result ≡ none_failed holds.now trials.now }
 {
-    for trial in trials {
-        if !has_not_failed(*trial, holds) {
-            return false;
-        }
-    }
-    true
+    trials.iter().all(|trial| has_not_failed(*trial, holds))
 }
 
 // Whether values stay, or these leaves are stored in another way.

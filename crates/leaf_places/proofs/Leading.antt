@@ -1,5 +1,5 @@
 -- Numbers stand at one place each, and groups that begin as others do lead where these lead.
-use Rattle.record_dim.specs.Std.{◌≡◌, ℕ, ◌+◌, ◌*◌, ◌<◌, ◌≤◌, Bool, Option, None, Some, IsSomeAnd, false, List, get_or, length, sym, ap, ◌∙◌, subst, ⊎_elim, arith, slice_index, cases_lt, get_or_past, div-add-mod', div-one, mod-one, mod-eq_of_lt, div-eq_of_lt, div_self, mod_self}
+use Rattle.record_dim.specs.Std.{◌≡◌, ℕ, ◌+◌, ◌*◌, ◌<◌, ◌≤◌, Bool, Option, None, Some, IsSomeAnd, false, List, length, sym, ap, ◌∙◌, subst, ⊎_elim, arith, slice_index, cases_lt, div-add-mod', div-one, mod-one, mod-eq_of_lt, div-eq_of_lt, div_self, mod_self}
 use Rattle.places.specs.Prelude.{Owner, Bit, owner_at, IsLaidOut, IsLocated}
 use Rattle.places.specs.declared.piece.Piece.{Piece}
 use Rattle.piece_bits.specs.Prelude.{spots_of, spot_at, spot_count, spot_owned}
@@ -144,10 +144,6 @@ module _ (base lanes lane block : ℕ) (some : 0 < lanes) (first step led far : 
   same_way = ⊎_elim (λ (m : 1 < lanes). same_so m) (λ (l : lanes ≤ 1). absurd (not_single (omega (arith, l, some)))) (cases_lt 1 lanes)
 
 -- ---- groups in a search
-
--- what has an owner lies in a blob
-pub blob_within : (layout : List (List Owner)) (blob place row leaf k : ℕ) → owner_at layout blob place ≡ Bit row leaf k → blob < length layout
-blob_within layout blob place row leaf k owned = grind (arith, ⊎_elim, get_or, get_or_past, cases_lt)
 
 moved : (layout : List (List Owner)) (sought : Sought) (row blob place other elsewhere : ℕ) → blob ≡ other → place ≡ elsewhere
     → StandsAt layout sought row other elsewhere → StandsAt layout sought row blob place

@@ -1,11 +1,5 @@
 -- The index of a row of one extent, and an index that is put into numbers.
-use Rattle.row_updates.proofs.Imports.{◌≡◌, ℕ, ◌<◌, List, [], ◌∷◌, length, set, take, Some, sym, ap, ◌∙◌, arith, slice_get, get_or_from_slice_get, AllZip-long, indices, IsInside, length-indices, place, slice_get-place, index_at}
-
-line_place : (n row : ℕ) → place (n ∷ []) (row ∷ []) ≡ row
-line_place n row = omega arith
-
-line_entry : (n row : ℕ) → row < n → slice_get (indices (n ∷ [])) row ≡ Some (row ∷ [])
-line_entry n row below = ap (slice_get (indices (n ∷ []))) (sym (line_place n row)) ∙ slice_get-place (n ∷ []) (row ∷ []) (below, tt)
+use Rattle.row_updates.proofs.Imports.{index_in_line, ◌≡◌, ℕ, ◌<◌, List, [], ◌∷◌, length, set, take, Some, sym, ap, ◌∙◌, arith, slice_get, get_or_from_slice_get, AllZip-long, indices, IsInside, length-indices, place, index_at}
 
 line_below : (n row : ℕ) → row < length (indices (n ∷ [])) → row < n
 line_below n row small = grind (arith, length-indices)
@@ -13,7 +7,7 @@ line_below n row small = grind (arith, length-indices)
 -- in an array of one extent the index of a row is the row
 pub index_of_line : (extents : List ℕ) (row : ℕ) → length extents ≡ 1 → row < length (indices extents) → row ∷ [] ≡ index_at extents row
 index_of_line [] row one small = absurd (omega (arith, one))
-index_of_line (n ∷ []) row one small = sym (get_or_from_slice_get (indices (n ∷ [])) row (row ∷ []) [] (line_entry n row (line_below n row small)))
+index_of_line (n ∷ []) row one small = sym (index_in_line n row (line_below n row small))
 index_of_line (n ∷ m ∷ more) row one small = absurd (omega (arith, one))
 
 -- the index of a row, in a place that has an entry of the indices

@@ -1,8 +1,6 @@
 mod Imports
-pub mod Each
 pub mod Indexed
 pub mod Logs
-pub mod Low
 pub mod Rows
 pub mod RunReads
 pub mod RunRows
@@ -10,3 +8,4 @@ pub mod RunSets
 pub mod RunTests
 pub mod Taken
 pub mod WorthSoFar
+pub mod Auto

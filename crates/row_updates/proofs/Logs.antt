@@ -1,6 +1,6 @@
 -- Accesses one after another: of an expression, of the right sides of a row, and of its stores.
-use Rattle.row_updates.proofs.Imports.{◌≡◌, ℕ, zero, suc, ◌+◌, ◌<◌, List, [], ◌∷◌, ◌++◌, length, map, take, get_or, ℤ, Bool, true, false, Option, Some, None, Result, Ok, Err, MutBor, refl, ap, sym, ◌∙◌, arith, fold, append-nil, append_assoc, map-append, take_more, Term, index_at, StoreAnswer, Access, Read, Write, after_log-append, after_reads, logs_more, Table, answer_of, after_log, after_read, UpdateFault, Setting, each, passes, new_value, tried_row, value_log, filter_log, if_ok, if_passes, sides_log, stores_log, tried_log, row_log, count_log, log_as_tried}
-use Rattle.row_updates.proofs.Each.{parted}
+use Rattle.row_updates.proofs.Imports.{◌≡◌, ℕ, ◌+◌, List, [], ◌∷◌, ◌++◌, map, get_or, ℤ, Bool, true, false, Option, Result, Ok, Err, MutBor, refl, ap, sym, ◌∙◌, arith, fold, append-nil, append_assoc, Term, index_at, StoreAnswer, Access, Read, after_log-append, after_reads, logs_more, Table, answer_of, after_log, after_read, UpdateFault, Setting, each, passes, new_value, value_log, filter_log, if_ok, if_passes, sides_log, tried_log, count_log}
+use Rattle.row_updates.specs.EachLaws.{parted}
 
 -- reads through a row that is borrowed
 lent_reads : (row : ℕ) (lent : MutBor Table) (reads : List ℕ) → fold (λ (state : MutBor Table × ℕ) (leaf : ℕ). (record state.0 { now = after_read state.0.now state.1 leaf }, state.1)) (lent, row) reads ≡ (record lent { now = fold (λ (s : Table) leaf. after_read s row leaf) lent.now reads }, row)
@@ -13,31 +13,15 @@ lent_log row lent reads = lent_reads row lent reads ∙ ap (λ (s : Table). (rec
 pub if_ok_none : {A : Type 0} (result : Result A UpdateFault) → if_ok result [] ≡ []
 if_ok_none result = grind arith
 
--- one right side more
-pub sides_push : (answer : StoreAnswer) (number : ℕ) (row : List ℤ) (index : List ℕ) (sets : List Setting) (set : Setting) (values : List ℤ) → each (new_value answer number row index) sets ≡ Ok values → sides_log answer number row index (sets ++ set ∷ []) ≡ sides_log answer number row index sets ++ value_log number row index set.value
-sides_push answer number row index [] set values so_far = grind (arith, if_ok_none, append-nil)
-sides_push answer number row index (one ∷ sets) set values so_far =
+-- a right side behind others, where no more is read: it is the last, or has a fault
+pub sides_next : (answer : StoreAnswer) (number : ℕ) (row : List ℤ) (index : List ℕ) (sets more : List Setting) (set : Setting) (values : List ℤ) → each (new_value answer number row index) sets ≡ Ok values
+    → if_ok (new_value answer number row index set) (sides_log answer number row index more) ≡ [] → sides_log answer number row index (sets ++ set ∷ more) ≡ sides_log answer number row index sets ++ value_log number row index set.value
+sides_next answer number row index [] more set values so_far none =
+    ap (λ (w : List Access). value_log number row index set.value ++ w) none ∙ append-nil (value_log number row index set.value)
+sides_next answer number row index (one ∷ sets) more set values so_far none =
     let p = parted (new_value answer number row index one) (each (new_value answer number row index) sets) values so_far in
-    let log = value_log number row index one.value in
-    let last = value_log number row index set.value in
-    let more = sides_log answer number row index sets in grind (arith, append_assoc, (sides_push answer number row index sets set p.ys p.rest_is))
-
--- the first right side with a fault is the last that is read
-pub sides_stop : (answer : StoreAnswer) (number : ℕ) (row : List ℤ) (index : List ℕ) (sets : List Setting) (n : ℕ) (d : Setting) (values : List ℤ) (fault : UpdateFault) → n < length sets → each (new_value answer number row index) (take n sets) ≡ Ok values → new_value answer number row index (get_or sets n d) ≡ Err fault
-    → sides_log answer number row index sets ≡ sides_log answer number row index (take n sets) ++ value_log number row index (get_or sets n d).value
-sides_stop answer number row index [] n d values fault small so_far stop = absurd (omega (arith, small))
-sides_stop answer number row index (one ∷ sets) zero d values fault small so_far stop = grind (arith, append-nil)
-sides_stop answer number row index (one ∷ sets) (suc n) d values fault small so_far stop =
-    let p = parted (new_value answer number row index one) (each (new_value answer number row index) (take n sets)) values so_far in
-    let less : n < length sets = omega (arith, small) in
-    let log = value_log number row index one.value in
-    let last = value_log number row index (get_or sets n d).value in
-    let more = sides_log answer number row index (take n sets) in
-    grind (arith, append_assoc, (sides_stop answer number row index sets n d p.ys fault less p.rest_is stop))
-
--- one store more
-pub stores_push : (number : ℕ) (sets : List Setting) (n : ℕ) (d : Setting) → n < length sets → stores_log number (take (n + 1) sets) ≡ stores_log number (take n sets) ++ Write number (get_or sets n d).leaf ∷ []
-stores_push number sets n d small = ap (stores_log number) (take_more sets n d small) ∙ map-append (λ (set : Setting). Write number set.leaf) (take n sets) (get_or sets n d ∷ [])
+    rw p.first_is (ap (λ (w : List Access). value_log number row index one.value ++ w) (sides_next answer number row index sets more set p.ys p.rest_is none)
+    ∙ sym (append_assoc (value_log number row index one.value) (sides_log answer number row index sets) (value_log number row index set.value)))
 
 -- accesses that left the table, after others that left it
 pub log_more : (old view after : Table) (log : List Access) (more : StoreAnswer → List (List ℤ) → List Access) → view ≡ after_log old log → after ≡ after_log view (more (answer_of view) view.rows) → after ≡ after_log old (log ++ more (answer_of old) old.rows)
@@ -55,16 +39,6 @@ tried_log_fault answer filter sets number row index fault test = ap (tested_log 
 
 pub tried_log_done : (answer : StoreAnswer) (filter : Option (Term ℕ)) (sets : List Setting) (number : ℕ) (row : List ℤ) (index : List ℕ) → Ok true ≡ passes number row index filter → tried_log answer filter sets number row index ≡ filter_log number row index filter ++ sides_log answer number row index sets
 tried_log_done answer filter sets number row index test = ap (tested_log answer filter sets number row index) (sym test)
-
--- those of a row that is given nothing, of one with a fault, and of one that is updated
-pub row_log_left : (answer : StoreAnswer) (filter : Option (Term ℕ)) (sets : List Setting) (number : ℕ) (row : List ℤ) (index : List ℕ) → tried_row answer filter sets number row index ≡ Ok None → row_log answer filter sets number row index ≡ tried_log answer filter sets number row index
-row_log_left answer filter sets number row index tried = grind (arith, log_as_tried, append-nil)
-
-pub row_log_stop : (answer : StoreAnswer) (filter : Option (Term ℕ)) (sets : List Setting) (number : ℕ) (row : List ℤ) (index : List ℕ) (fault : UpdateFault) → tried_row answer filter sets number row index ≡ Err fault → row_log answer filter sets number row index ≡ tried_log answer filter sets number row index
-row_log_stop answer filter sets number row index fault tried = grind (arith, log_as_tried, append-nil)
-
-pub row_log_done : (answer : StoreAnswer) (filter : Option (Term ℕ)) (sets : List Setting) (number : ℕ) (row : List ℤ) (index : List ℕ) (values : List ℤ) → tried_row answer filter sets number row index ≡ Ok (Some values) → row_log answer filter sets number row index ≡ tried_log answer filter sets number row index ++ stores_log number sets
-row_log_done answer filter sets number row index values tried = grind (arith, log_as_tried)
 
 -- the reads of one row more that is counted
 pub count_push : (old view after : Table) (filter : Term ℕ) (row : ℕ) → view ≡ after_log old (count_log filter old.extents old.rows row) → after ≡ after_log view (value_log row (get_or view.rows row []) (index_at old.extents row) filter) → after ≡ after_log old (count_log filter old.extents old.rows (row + 1))

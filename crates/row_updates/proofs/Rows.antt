@@ -1,7 +1,7 @@
 -- Updates of rows, step by step.
-use Rattle.row_updates.proofs.Imports.{◌≡◌, ℕ, suc, ◌+◌, ◌<◌, ◌≤◌, List, [], ◌∷◌, ◌++◌, length, map, get_or, take, take_all, drop, set, ℤ, pos, Bool, true, false, Option, Some, None, Result, Ok, Err, is_ok, refl, sym, ap, subst, ◌∙◌, arith, count_by, cond, range_with_len, slice_set, OnOk, IfOk, IfErr, take_more, take_more_set, drop-set-lt, drop_more, get_or-set_same, set-set, get_or-map, length-set, length-map, get_or-take, sum_by-append, Term, index_at, with_entry, Access, Write, after_log-none, logs_more, Table, answer_of, kept_of, after_log, after_stores, after_write, StoreFault, UpdateFault, Assign, StoreAnswer, Keeping, without_number, Setting, setting_of, each, in_row, store_kind, value_of, passes, new_value, with_values, tried_row, updated_row, updated_rows, updated_of, counted, ◌>>=◌, updated_as_tried, AreUpdated, IsStopped, AreCounted, row_test, IsCounted, IsCountStopped, value_log, sides_log, stores_log, row_log, update_log, count_log, after_stores-append, bool_byte, get_or-drop}
-use Rattle.row_updates.proofs.Logs.{sides_push, sides_stop, stores_push, count_push}
-use Rattle.row_updates.proofs.Each.{each_push, each_stop, each_at, rows_push, rows_stop, with_values_push}
+use Rattle.row_updates.proofs.Imports.{drop_more_same, map-append, length-take-le, take-append-drop, ◌≡◌, ℕ, ◌+◌, ◌<◌, ◌≤◌, List, [], ◌∷◌, ◌++◌, length, map, get_or, take, take_all, drop, set, ℤ, pos, Bool, true, Option, Some, Result, Ok, Err, is_ok, refl, sym, ap, subst, ◌∙◌, arith, count_by, cond, range_with_len, slice_set, OnOk, IfOk, IfErr, take_more, take_more_set, drop-set-lt, drop_more, get_or-set_same, set-set, get_or-map, length-set, length-map, get_or-take, sum_by-append, Term, index_at, with_entry, Access, Write, after_log-none, logs_more, Table, answer_of, kept_of, after_log, after_stores, after_write, StoreFault, UpdateFault, Assign, StoreAnswer, Keeping, without_number, Setting, setting_of, each, in_row, store_kind, value_of, passes, new_value, with_values, tried_row, updated_row, updated_rows, updated_of, counted, ◌>>=◌, AreUpdated, IsStopped, AreCounted, row_test, IsCounted, IsCountStopped, value_log, sides_log, stores_log, row_log, update_log, count_log, after_stores-append, bool_byte, get_or-drop}
+use Rattle.row_updates.proofs.Logs.{if_ok_none, sides_next, count_push}
+use Rattle.row_updates.specs.EachLaws.{each_push, each_stop, each_at, rows_push, rows_stop}
 
 -- the setting of an assignment in a list
 pub setting_at : (sets : List Assign) (place : ℕ) (set : Assign) (d : Setting) → place < length sets → set ≡ get_or sets place set → get_or (map setting_of sets) place d ≡ setting_of set
@@ -10,11 +10,18 @@ setting_at sets place set d small is = get_or-map setting_of sets place set d sm
 settings_long : (sets : List Assign) (place : ℕ) → place < length sets → place < length (map setting_of sets)
 settings_long sets place small = rw length-map small
 
+-- the settings up to one of them and behind it
+settings_parted : (sets : List Assign) (place : ℕ) (set : Assign) → place < length sets → set ≡ get_or sets place set → map setting_of sets ≡ take place (map setting_of sets) ++ setting_of set ∷ drop (place + 1) (map setting_of sets)
+settings_parted sets place set small is =
+    sym (take-append-drop place (map setting_of sets))
+    ∙ ap (λ (rest : List Setting). take place (map setting_of sets) ++ rest) (drop_more (map setting_of sets) place (setting_of set) (settings_long sets place small)
+    ∙ ap (λ (s : Setting). s ∷ drop (place + 1) (map setting_of sets)) (setting_at sets place set (setting_of set) small is))
+
 -- a right side has a fault
 pub values_stop : {B : Type 0} (step : Setting → Result B UpdateFault) (sets : List Assign) (place : ℕ) (set : Assign) (values : List B) (fault : UpdateFault) → place < length sets → set ≡ get_or sets place set → each step (take place (map setting_of sets)) ≡ Ok values → Err fault ≡ step (setting_of set) → each step (map setting_of sets) ≡ Err fault
 values_stop step sets place set values fault small is so_far stop =
-    let at = setting_at sets place set (setting_of set) small is in
-    each_stop step (map setting_of sets) place (setting_of set) values fault (settings_long sets place small) so_far (ap step at ∙ sym stop)
+    ap (λ (xs : List Setting). each step xs) (settings_parted sets place set small is)
+    ∙ each_stop step (take place (map setting_of sets)) (drop (place + 1) (map setting_of sets)) (setting_of set) values fault so_far (sym stop)
 
 pub settings_more : (sets : List Assign) (place : ℕ) (set : Assign) → place < length sets → set ≡ get_or sets place set → take (place + 1) (map setting_of sets) ≡ take place (map setting_of sets) ++ setting_of set ∷ []
 settings_more sets place set small is =
@@ -30,14 +37,23 @@ values_more step sets place set values value small short is so_far more =
 pub sides_more : (answer : StoreAnswer) (number : ℕ) (row : List ℤ) (index : List ℕ) (sets : List Assign) (place : ℕ) (set : Assign) (values : List ℤ) → place < length sets → set ≡ get_or sets place set → each (new_value answer number row index) (take place (map setting_of sets)) ≡ Ok values
     → sides_log answer number row index (take (place + 1) (map setting_of sets)) ≡ sides_log answer number row index (take place (map setting_of sets)) ++ value_log number row index (setting_of set).value
 sides_more answer number row index sets place set values small is so_far =
-    ap (sides_log answer number row index) (settings_more sets place set small is) ∙ sides_push answer number row index (take place (map setting_of sets)) (setting_of set) values so_far
+    ap (sides_log answer number row index) (settings_more sets place set small is)
+    ∙ sides_next answer number row index (take place (map setting_of sets)) [] (setting_of set) values so_far (if_ok_none (new_value answer number row index (setting_of set)))
 
 pub sides_stopped : (answer : StoreAnswer) (number : ℕ) (row : List ℤ) (index : List ℕ) (sets : List Assign) (place : ℕ) (set : Assign) (values : List ℤ) (fault : UpdateFault) → place < length sets → set ≡ get_or sets place set → each (new_value answer number row index) (take place (map setting_of sets)) ≡ Ok values → Err fault ≡ new_value answer number row index (setting_of set)
     → sides_log answer number row index (map setting_of sets) ≡ sides_log answer number row index (take place (map setting_of sets)) ++ value_log number row index (setting_of set).value
 sides_stopped answer number row index sets place set values fault small is so_far stop =
-    let at = setting_at sets place set (setting_of set) small is in
-    sides_stop answer number row index (map setting_of sets) place (setting_of set) values fault (settings_long sets place small) so_far (ap (new_value answer number row index) at ∙ sym stop)
-    ∙ ap (λ (s : Setting). sides_log answer number row index (take place (map setting_of sets)) ++ value_log number row index s.value) at
+    let rest = drop (place + 1) (map setting_of sets) in
+    ap (sides_log answer number row index) (settings_parted sets place set small is)
+    ∙ sides_next answer number row index (take place (map setting_of sets)) rest (setting_of set) values so_far (rw (← stop) refl)
+
+-- one value more
+pub values_push : (keep : Keeping) (sets : List Setting) (last : Setting) (values row : List ℤ) (value : ℤ) → length values ≡ length sets
+    → with_values keep (sets ++ last ∷ []) (values ++ value ∷ []) row ≡ slice_set (with_values keep sets values row) last.leaf (keep last.leaf value)
+values_push keep [] last [] row value long = refl
+values_push keep [] last (v ∷ values) row value long = absurd (omega (arith, long))
+values_push keep (s ∷ sets) last [] row value long = absurd (omega (arith, long))
+values_push keep (s ∷ sets) last (v ∷ values) row value long = values_push keep sets last values (slice_set row s.leaf (keep s.leaf v)) value (omega (arith, long))
 
 -- one store more
 pub stored_more : (old view new : Table) (row place : ℕ) (sets : List Assign) (set : Assign) (values : List ℤ) → row < length old.rows → place < length sets → place < length values → set ≡ get_or sets place set
@@ -45,20 +61,20 @@ pub stored_more : (old view new : Table) (row place : ℕ) (sets : List Assign) 
     → new ≡ after_write view row set.leaf (get_or values place (pos 0))
     → new ≡ after_stores old (slice_set old.rows row (with_values (kept_of old) (take (place + 1) (map setting_of sets)) (take (place + 1) values) (get_or old.rows row []))) (stores_log row (take (place + 1) (map setting_of sets)))
 stored_more old view new row place sets set values inside small short is so_far more =
+    let settings = map setting_of sets in
     let number = kept_of old set.leaf (get_or values place (pos 0)) in
-    let row_so_far = with_values (kept_of old) (take place (map setting_of sets)) (take place values) (get_or old.rows row []) in
-    let at = setting_at sets place set (setting_of set) small is in
-    let one : place + 1 ≡ suc place = omega arith in
-    let row_now : with_values (kept_of old) (take (place + 1) (map setting_of sets)) (take (place + 1) values) (get_or old.rows row []) ≡ slice_set row_so_far set.leaf number =
-    ap (λ (n : ℕ). with_values (kept_of old) (take n (map setting_of sets)) (take n values) (get_or old.rows row [])) one
-    ∙ with_values_push (kept_of old) (map setting_of sets) values (get_or old.rows row []) place (setting_of set) (pos 0) (settings_long sets place small) short
-    ∙ ap (λ (s : Setting). slice_set row_so_far s.leaf (kept_of old s.leaf (get_or values place (pos 0)))) at in
+    let row_so_far = with_values (kept_of old) (take place settings) (take place values) (get_or old.rows row []) in
+    let next = settings_more sets place set small is in
+    let many : place ≤ length settings = omega (arith, settings_long sets place small) in
+    let long : length (take place values) ≡ length (take place settings) = length-take-le place values (omega (arith, short)) ∙ sym (length-take-le place settings many) in
+    let row_now : with_values (kept_of old) (take (place + 1) settings) (take (place + 1) values) (get_or old.rows row []) ≡ slice_set row_so_far set.leaf number =
+    rw (next, take_more values place (pos 0) short) (values_push (kept_of old) (take place settings) (setting_of set) (take place values) (get_or old.rows row []) (get_or values place (pos 0)) long) in
     let here : get_or (slice_set old.rows row row_so_far) row [] ≡ row_so_far = get_or-set_same old.rows row row_so_far [] inside in
     let twice = set-set old.rows row row_so_far (slice_set row_so_far set.leaf number) in
     let table = ap (λ (r : List ℤ). slice_set (slice_set old.rows row row_so_far) row (slice_set r set.leaf number)) here ∙ twice ∙ ap (slice_set old.rows row) (sym row_now) in
     let log = stores_log row (take place (map setting_of sets)) in
-    let logs : stores_log row (take (place + 1) (map setting_of sets)) ≡ log ++ Write row set.leaf ∷ [] =
-    stores_push row (map setting_of sets) place (setting_of set) (settings_long sets place small) ∙ ap (λ (s : Setting). log ++ Write row s.leaf ∷ []) at in
+    let logs : stores_log row (take (place + 1) settings) ≡ log ++ Write row set.leaf ∷ [] =
+    ap (stores_log row) next ∙ map-append (λ (s : Setting). Write row s.leaf) (take place settings) (setting_of set ∷ []) in
     let before = slice_set old.rows row row_so_far in
     more ∙ ap (λ (v : Table). after_write v row set.leaf (get_or values place (pos 0))) so_far
     ∙ after_stores-append old before (with_entry before row set.leaf number) log (Write row set.leaf ∷ [])
@@ -76,47 +92,25 @@ value_tested old read number row index set log value answer gives reads is = gri
 fits_from : (number : ℕ) (set : Setting) (got : ℤ) (answer : Result ℤ StoreFault) (value : ℤ) → (in_row number (store_kind set.leaf) answer >>= (λ kept. Ok got)) ≡ Ok value → (is_ok answer ≡ true) × (got ≡ value)
 fits_from number set got answer value e = grind arith
 
+-- a right side that has a value was taken
 took_from : (answer : StoreAnswer) (number : ℕ) (set : Setting) (first : Result ℤ UpdateFault) (value : ℤ) → (first >>= (λ v. in_row number (store_kind set.leaf) (answer set.leaf v) >>= (λ kept. Ok v))) ≡ Ok value → is_ok (answer set.leaf value) ≡ true
 took_from answer number set first value e = grind (arith, fits_from, is_ok)
-
--- a right side that has a value was taken
-pub took : (answer : StoreAnswer) (number : ℕ) (row : List ℤ) (index : List ℕ) (set : Setting) (value : ℤ) → new_value answer number row index set ≡ Ok value → is_ok (answer set.leaf value) ≡ true
-took answer number row index set value gives = took_from answer number set (value_of number row index set.value) value gives
 
 pub taken_at : (answer : StoreAnswer) (number : ℕ) (row : List ℤ) (index : List ℕ) (sets : List Assign) (values : List ℤ) (place : ℕ) (other : Setting) → length sets ≤ length values → place < length sets → each (new_value answer number row index) (map setting_of sets) ≡ Ok (take (length sets) values) → is_ok (answer (get_or (map setting_of sets) place other).leaf (get_or values place (pos 0))) ≡ true
 taken_at answer number row index sets values place other long small all =
     let at = each_at (new_value answer number row index) (map setting_of sets) (take (length sets) values) place other (pos 0) (settings_long sets place small) all in
-    took answer number row index (get_or (map setting_of sets) place other) (get_or values place (pos 0)) (at ∙ ap (λ (v : ℤ). Ok v) (get_or-take (length sets) values place (pos 0) small))
+    let set = get_or (map setting_of sets) place other in
+    took_from answer number set (value_of number row index set.value) (get_or values place (pos 0)) (at ∙ ap (λ (v : ℤ). Ok v) (get_or-take (length sets) values place (pos 0) small))
 
--- a row that is given nothing, one with a fault, and one that is updated
-pub row_left : (answer : StoreAnswer) (keep : Keeping) (filter : Option (Term ℕ)) (sets : List Setting) (number : ℕ) (row : List ℤ) (index : List ℕ) → tried_row answer filter sets number row index ≡ Ok None → updated_row answer keep filter sets number row index ≡ Ok row
-row_left answer keep filter sets number row index tried = updated_as_tried answer filter sets number row index keep ∙ rw tried refl
-
-pub row_stop : (answer : StoreAnswer) (keep : Keeping) (filter : Option (Term ℕ)) (sets : List Setting) (number : ℕ) (row : List ℤ) (index : List ℕ) (fault : UpdateFault) → tried_row answer filter sets number row index ≡ Err fault → updated_row answer keep filter sets number row index ≡ Err fault
-row_stop answer keep filter sets number row index fault tried = updated_as_tried answer filter sets number row index keep ∙ rw tried refl
-
-pub row_done : (answer : StoreAnswer) (keep : Keeping) (filter : Option (Term ℕ)) (sets : List Setting) (number : ℕ) (row : List ℤ) (index : List ℕ) (values : List ℤ) → tried_row answer filter sets number row index ≡ Ok (Some values) → updated_row answer keep filter sets number row index ≡ Ok (with_values keep sets values row)
-row_done answer keep filter sets number row index values tried = updated_as_tried answer filter sets number row index keep ∙ rw tried refl
-
--- what a row is given: nothing, a fault of its filter or of its right sides, or their values
-pub tried_left : (answer : StoreAnswer) (filter : Option (Term ℕ)) (sets : List Setting) (number : ℕ) (row : List ℤ) (index : List ℕ) → Ok false ≡ passes number row index filter → tried_row answer filter sets number row index ≡ Ok None
-tried_left answer filter sets number row index test = rw (← test) refl
-
+-- a right side of a row that passes has a fault
 pub tried_stop : (answer : StoreAnswer) (filter : Option (Term ℕ)) (sets : List Setting) (number : ℕ) (row : List ℤ) (index : List ℕ) (fault : UpdateFault) → Ok true ≡ passes number row index filter → each (new_value answer number row index) sets ≡ Err fault → tried_row answer filter sets number row index ≡ Err fault
 tried_stop answer filter sets number row index fault test stop = rw (← test, stop) refl
-
-pub tried_done : (answer : StoreAnswer) (filter : Option (Term ℕ)) (sets : List Setting) (number : ℕ) (row : List ℤ) (index : List ℕ) (values : List ℤ) → Ok true ≡ passes number row index filter → each (new_value answer number row index) sets ≡ Ok values → tried_row answer filter sets number row index ≡ Ok (Some values)
-tried_done answer filter sets number row index values test done = rw (← test, done) refl
 
 -- rows from a place on that are the same
 same_at : {A : Type 0} (xs ys : List A) (n : ℕ) (d : A) → drop n xs ≡ drop n ys → get_or xs n d ≡ get_or ys n d
 same_at xs ys n d same =
     let here : n + 0 ≡ n = omega arith in
     sym (ap (λ (k : ℕ). get_or xs k d) here) ∙ sym (get_or-drop n xs 0 d) ∙ ap (λ (l : List _). get_or l 0 d) same ∙ get_or-drop n ys 0 d ∙ ap (λ (k : ℕ). get_or ys k d) here
-
-same_behind : {A : Type 0} (xs ys : List A) (n : ℕ) (d : A) → n < length xs → n < length ys → drop n xs ≡ drop n ys → drop (n + 1) xs ≡ drop (n + 1) ys
-same_behind xs ys n d small less same =
-    let e = sym (drop_more xs n d small) ∙ same ∙ drop_more ys n d less in cc
 
 -- rows so far
 pub none_updated : (view : Table) (filter : Option (Term ℕ)) (sets : List Setting) → AreUpdated view filter sets view 0
@@ -169,7 +163,7 @@ rows_more old view after filter sets row new small so_far gives changed =
       same = rows_touched old view after filter sets row (slice_set view.rows row new) so_far changed;
       count = ap length table ∙ length-set view.rows row new ∙ so_far.count;
       front = grind (arith, rows_push, take_more_set);
-      back = ap (drop (row + 1)) table ∙ drop-set-lt (row + 1) view.rows row new past ∙ same_behind view.rows old.rows row [] inside small so_far.back;
+      back = ap (drop (row + 1)) table ∙ drop-set-lt (row + 1) view.rows row new past ∙ drop_more_same view.rows old.rows row so_far.back;
     }
 
 -- rows that pass, counted

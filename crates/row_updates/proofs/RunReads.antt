@@ -1,6 +1,13 @@
 -- The values of a leaf that are read in rows one after another.
-use Rattle.row_updates.proofs.Imports.{◌≡◌, ◌∙◌, ℕ, ◌+◌, ◌<◌, ◌≤◌, ◌^◌, ◌≤ℤ◌, List, [], length, map, take, drop, get_or, ℤ, pos, neg_ℤ, w64, sym, ap, subst, arith, length-drop, get_or-drop, unsigned_abs, if◌then◌else◌, fits_signed_from_abs, get_or-map, length-map, get_or-take, length-take-le, low_64, low_same, stays_declared, hold_at, Leaf, leaves, IsDeclared, is_signed, in_leaf, column, raised_low, Table, IsTable, leaf_count_of, leaf_type_of, leaf_types_of, table_holds, row_of, AreNear}
-use Rattle.row_updates.proofs.Low.{low_is, low_near}
+use Rattle.row_updates.proofs.Imports.{Bool, LeafType, raised, ◌≡◌, ◌∙◌, ℕ, ◌+◌, ◌<◌, ◌≤◌, ◌^◌, ◌≤ℤ◌, List, [], length, map, take, drop, get_or, ℤ, pos, neg_ℤ, w64, sym, ap, subst, arith, length-drop, get_or-drop, unsigned_abs, if◌then◌else◌, fits_signed_from_abs, get_or-map, length-map, get_or-take, length-take-le, low_64, low_same, stays_declared, hold_at, Leaf, leaves, IsDeclared, is_signed, in_leaf, column, raised_low, Table, IsTable, leaf_count_of, leaf_type_of, leaf_types_of, table_holds, row_of, AreNear}
+
+-- low bits that lie no lower than a type's values do are the value
+low_is : (kind : LeafType) (low : ℤ) (limit : ℕ) → (if is_signed kind then neg_ℤ (pos limit) else pos 0) ≤ℤ low → raised kind low ≡ low
+low_is kind low limit least = grind arith
+
+-- they lie near enough
+low_near : (signed : Bool) (value : ℤ) (limit : ℕ) → (if signed then neg_ℤ (pos limit) else pos 0) ≤ℤ value → value ≤ℤ pos limit → unsigned_abs value ≤ limit
+low_near signed value limit low high = grind arith
 
 module _ (table : Table) (leaf first limit : ℕ) (values : List ℤ) (count : ℕ) (is : IsTable table) (inside : leaf < leaf_count_of table) (rows_in : first + count ≤ length table.rows)
     (read : values ≡ map low_64 (take count (drop first (column leaf table.rows)))) (small : limit < 2 ^ 63) where

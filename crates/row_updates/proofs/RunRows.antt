@@ -1,6 +1,7 @@
 -- Rows of a run that are updated at once, as if each were updated after the one before.
 use Rattle.row_updates.proofs.Imports.{◌≡◌, ◌∙◌, ℕ, zero, suc, ◌+◌, ◌<◌, ◌≤◌, List, [], ◌∷◌, ◌++◌, length, map, take, drop, set, get_or, ℤ, pos, Bool, true, false, Option, Result, Ok, is_ok, refl, sym, ap, subst, arith, get_or-drop, slice_set, get_or-map, length-map, get_or-take, length-take-le, set-get_or, take_more, drop-drop, Term, outcome_of, IsSafe, worth, index_at, leaves, stays_answer, in_leaf, with_column, no_column, length-with_column, StoreAnswer, Keeping, Table, IsTable, leaf_count_of, answer_of, kept_of, after_stores, Access, Tally, StoreFault, UpdateFault, Run, Setting, each, in_row, store_kind, passes, new_value, with_values, updated_row, updated_of, ◌>>=◌, update_log, IsIdle, row_of, IsGiven, AreUpdated, IsStill, IsRunUpdated, AreTested}
-use Rattle.row_updates.proofs.Each.{parted, each_push, rows_push}
+use Rattle.row_updates.proofs.Rows.{values_push}
+use Rattle.row_updates.specs.EachLaws.{each_push, each_length, rows_push}
 
 -- ---- the rows in which a leaf has other values: those before, those behind, and each of them
 
@@ -31,19 +32,6 @@ column_at leaf (suc first) k (suc at) (value ∷ values) (numbers ∷ rows) insi
 
 -- ---- one right side more of a row
 
-each_long : (step : Setting → Result ℤ UpdateFault) (sets : List Setting) (values : List ℤ) → each step sets ≡ Ok values → length values ≡ length sets
-each_long step [] values gives = grind arith
-each_long step (one ∷ sets) values gives =
-    let p = parted (step one) (each step sets) values gives in
-    ap length p.all_are ∙ ap suc (each_long step sets p.ys p.rest_is)
-
-values_push : (keep : Keeping) (sets : List Setting) (last : Setting) (values row : List ℤ) (value : ℤ) → length values ≡ length sets
-    → with_values keep (sets ++ last ∷ []) (values ++ value ∷ []) row ≡ slice_set (with_values keep sets values row) last.leaf (keep last.leaf value)
-values_push keep [] last [] row value long = refl
-values_push keep [] last (v ∷ values) row value long = absurd (omega (arith, long))
-values_push keep (s ∷ sets) last [] row value long = absurd (omega (arith, long))
-values_push keep (s ∷ sets) last (v ∷ values) row value long = values_push keep sets last values (slice_set row s.leaf (keep s.leaf v)) value (omega (arith, long))
-
 module _ (answer : StoreAnswer) (keep : Keeping) (filter : Option (Term ℕ)) (sets : List Setting) (last : Setting) (number : ℕ) (row : List ℤ) (index : List ℕ) where
   record HasValues (all : Result (List ℤ) UpdateFault) (new : List ℤ) : Type 0 where
     values : List ℤ
@@ -59,7 +47,7 @@ module _ (answer : StoreAnswer) (keep : Keeping) (filter : Option (Term ℕ)) (s
   row_more new value test gives one =
       let have = have_values (each (new_value answer number row index) sets) new (rw test at gives) in
       let all = each_push (new_value answer number row index) sets last have.values value have.is one in
-      let long = each_long (new_value answer number row index) sets have.values have.is in
+      let long = each_length (new_value answer number row index) sets have.values have.is in
       rw (test, all) (ap (λ (r : List ℤ). Ok r) (values_push keep sets last have.values row value long ∙ ap (λ (r : List ℤ). slice_set r last.leaf (keep last.leaf value)) have.made))
 
   -- one that does not

@@ -84,10 +84,6 @@ fn are_safe(sets: &[Assign], leaves: &[u64], places: &[u64]) -> bool
     requires { All (λ set. IsSized leaves.now places.now set.value) sets.now }
     ensures { result ≡ true → All (λ set. IsSafe leaves.now places.now (bound_term set.value)) sets.now }
 {
-    for set in sets {
-        if most(&set.value, leaves, places).is_none() {
-            return false;
-        }
-    }
-    true
+    sets.iter()
+        .all(|set| most(&set.value, leaves, places).is_some())
 }

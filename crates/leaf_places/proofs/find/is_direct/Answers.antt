@@ -7,12 +7,7 @@ use Rattle.record_dim.specs.Std.{arith}
 pub hold-stored-requires : goal.hold-stored-requires
 hold-stored-requires c = cell_in c.args.view.now c.args.leaf _ c.map.ensures.cells c.requires
 
-pub returns-then-not-is_counted-clause-yes : goal.returns-then-not-is_counted-clause-yes
-returns-then-not-is_counted-clause-yes c same =
+pub returns-then-not-is_counted : goal.returns-then-not-is_counted
+returns-then-not-is_counted c =
     let hold = hold_of c.args.view.now c.args.leaf c.hold-stored.result _ c.map.ensures.holds c.hold-stored.ensures in
-    let kind = get_or_from_slice_get _ c.args.leaf c.leaf_type.result Truth c.leaf_type.ensures in grind arith
-
-pub returns-then-not-is_counted-clause-no : goal.returns-then-not-is_counted-clause-no
-returns-then-not-is_counted-clause-no c direct =
-    let hold = hold_of c.args.view.now c.args.leaf c.hold-stored.result _ c.map.ensures.holds c.hold-stored.ensures in
-    let kind = get_or_from_slice_get _ c.args.leaf c.leaf_type.result Truth c.leaf_type.ensures in grind arith
+    let kind = get_or_from_slice_get _ c.args.leaf c.leaf_type.result Truth c.leaf_type.ensures in record { yes = λ same. grind arith; no = λ direct. grind arith }

@@ -1,8 +1,8 @@
 use Rattle.record_dim.specs.Std.{◌≡◌, ℕ, Bool, refl, ap, sym, ◌∙◌, subst, arith, length, List, [], get_or}
-use Rattle.places.specs.Prelude.{Owner}
+use Rattle.places.specs.Prelude.{Owner, within_blobs}
 use Rattle.places.specs.declared.piece.Hold.{Hold}
 use Rattle.leaf_places.specs.Spots.{IsForm}
-use Rattle.leaf_places.proofs.Leading.{blob_within, sought_some}
+use Rattle.leaf_places.proofs.Leading.{sought_some}
 use Rattle.leaf_places.proofs.Placing.{along_of, cell_in, hold_of, owned_so, placed, sought_of}
 use Rattle.leaf_places.proofs.find.places_sought.Goals as goal
 use Rattle.record_dim.specs.Std.{common_steps}
@@ -32,14 +32,14 @@ pub blob_bytes-requires : goal.blob_bytes-requires
 blob_bytes-requires c =
     let is = sought_of c.args.view.now c.args.leaf c.hold-hold.result _ c.map-map.ensures.holds c.hold-hold.ensures c.args.is_turned c.args.in_bits
     (omega (arith, cell_in c.args.view.now c.args.leaf _ c.map-map.ensures.cells c.requires.leaf_in, c.laws_of.ensures.paired)) (c.if-not-is_form.ensures.yes refl) in
-    blob_within _ c.in_ok-groups.groups.blob _ 0 c.args.leaf 0
+    within_blobs _ c.in_ok-groups.groups.blob _ 0 c.args.leaf 0
     (c.in_ok-groups.ensures.stand 0 (omega (arith, c.requires.some, c.map-map.ensures.slots)) 0 (sought_some c.laws_of.ensures.lawful _ is))
 
 pub returns-clause-places : goal.returns-clause-places
 returns-clause-places c =
     let is = sought_of c.args.view.now c.args.leaf c.hold-hold.result _ c.map-map.ensures.holds c.hold-hold.ensures c.args.is_turned c.args.in_bits
     (omega (arith, cell_in c.args.view.now c.args.leaf _ c.map-map.ensures.cells c.requires.leaf_in, c.laws_of.ensures.paired)) (c.if-not-is_form.ensures.yes refl) in
-    let inside = blob_within _ c.in_ok-groups.groups.blob _ 0 c.args.leaf 0
+    let inside = within_blobs _ c.in_ok-groups.groups.blob _ 0 c.args.leaf 0
     (c.in_ok-groups.ensures.stand 0 (omega (arith, c.requires.some, c.map-map.ensures.slots)) 0 (sought_some c.laws_of.ensures.lawful _ is)) in
     placed c.args.view.now c.args.leaf c.requires.leaf_in c.requires.direct _ c.hold-hold.result
     (hold_of c.args.view.now c.args.leaf c.hold-hold.result _ c.map-map.ensures.holds c.hold-hold.ensures) refl refl

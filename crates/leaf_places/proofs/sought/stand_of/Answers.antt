@@ -43,22 +43,18 @@ returns-in_err-place-clause-only g c blob place stands =
     (c.low.ensures.inside some) c.low.ensures.first c.spot_in-first.ensures blob place stands in
     absurd (none_some place (sym c.in_err-place.was ∙ c.place_of.ensures.only place (sym same.1)))
 
-pub returns-clause-stands : goal.returns-clause-stands
-returns-clause-stands g c =
-    let lawful = c.laws_of.ensures.lawful in
-    let pieces = c.as_slice-pieces.result.now in
-    let found = subst (λ (ps : List Piece). IsLocated (g.M.Mapping.layout c.args.mapping.now) c.args.row c.args.sought.leaf
-    (slice_index (map (λ (h : Hold). h.width) (g.M.Mapping.hold_list c.args.mapping.now)) c.args.sought.leaf) ps) (sym c.as_slice-pieces.ensures.value) c.pieces_of-found.ensures.located in
-    stands_so lawful c.args.sought c.args.row pieces c.requires.sought found c.spot_in-first.result.blob c.spot_in-first.result.bit c.in_ok-place.place
-    c.in_ok-place.ensures.begins (c.if-not-is_from.ensures.yes refl)
-
-pub returns-clause-only : goal.returns-clause-only
-returns-clause-only g c blob place stands =
+pub returns : goal.returns
+returns g c =
     let lawful = c.laws_of.ensures.lawful in
     let pieces = c.as_slice-pieces.result.now in
     let found = subst (λ (ps : List Piece). IsLocated (g.M.Mapping.layout c.args.mapping.now) c.args.row c.args.sought.leaf
     (slice_index (map (λ (h : Hold). h.width) (g.M.Mapping.hold_list c.args.mapping.now)) c.args.sought.leaf) ps) (sym c.as_slice-pieces.ensures.value) c.pieces_of-found.ensures.located in
     let some = some_bits lawful c.args.sought c.args.row pieces c.requires.sought found in
-    let same = from_first lawful c.args.sought c.args.row pieces c.requires.sought found c.low.result c.spot_in-first.result.blob c.spot_in-first.result.bit
-    (c.low.ensures.inside some) c.low.ensures.first c.spot_in-first.ensures blob place stands in
-    (same.0, place_same c.args.sought.in_bits c.in_ok-place.place place (c.in_ok-place.ensures.begins ∙ same.1))
+    record {
+      stands = stands_so lawful c.args.sought c.args.row pieces c.requires.sought found c.spot_in-first.result.blob c.spot_in-first.result.bit c.in_ok-place.place
+          c.in_ok-place.ensures.begins (c.if-not-is_from.ensures.yes refl);
+      only = λ blob place stands.
+          (let same = from_first lawful c.args.sought c.args.row pieces c.requires.sought found c.low.result c.spot_in-first.result.blob c.spot_in-first.result.bit
+          (c.low.ensures.inside some) c.low.ensures.first c.spot_in-first.ensures blob place stands in
+          (same.0, place_same c.args.sought.in_bits c.in_ok-place.place place (c.in_ok-place.ensures.begins ∙ same.1)));
+    }

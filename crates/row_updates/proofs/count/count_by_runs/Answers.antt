@@ -1,9 +1,5 @@
-use Rattle.row_updates.proofs.Imports.{rules, ◌≡◌, ◌∙◌, Err, sym, subst, arith, bound_term, count_log, IsIdle, common_steps}
-use Rattle.row_updates.proofs.Rows.{none_rows}
+use Rattle.row_updates.proofs.Imports.{rules, ◌≡◌, ◌∙◌, Err, sym, subst, arith, bound_term, count_log, IsIdle}
 use Rattle.row_updates.proofs.count.count_by_runs.Goals as goal
-
-pub loop-first-init : goal.loop-first-init
-loop-first-init g c = grind (arith, common_steps, none_rows)
 
 pub returns-in_err-passing-clause-stopped : goal.returns-in_err-passing-clause-stopped
 returns-in_err-passing-clause-stopped g c =

@@ -1,9 +1,6 @@
-use Rattle.row_updates.proofs.Imports.{rules, ◌≡◌, ◌∙◌, ◌+◌, ◌-◌, ℕ, count_by, length, sym, ap, subst, arith, count_by-le-length, bound_term, Term, Table, AreWorth, IsCounted, row_test, common_steps}
+use Rattle.row_updates.proofs.Imports.{rules, ◌≡◌, ◌∙◌, ◌+◌, ◌-◌, ℕ, count_by, length, sym, ap, subst, arith, bound_term, Term, Table, AreWorth, IsCounted, row_test}
 use Rattle.row_updates.proofs.RunTests.{tested, run_counted}
 use Rattle.row_updates.proofs.count.count_next.Goals as goal
-
-pub returns-then-chain_run-clause-few : goal.returns-then-chain_run-clause-few
-returns-then-chain_run-clause-few g c = grind (arith, common_steps, count_by-le-length)
 
 pub returns-then-chain_run-clause-done : goal.returns-then-chain_run-clause-done
 returns-then-chain_run-clause-done g c = λ old before idle so_far.
@@ -17,9 +14,6 @@ returns-then-chain_run-clause-done g c = λ old before idle so_far.
     let all = run_counted (row_test old term) values run.first before so_far.counted (λ k small.
     sym (ap (λ (t : Table). row_test t term (run.first + k)) so_far.same) ∙ tested view run term values c.requires.safe worthy k small) in
     grind (arith, count_by)
-
-pub returns-clause-done : goal.returns-clause-done
-returns-clause-done g c = grind (arith, common_steps)
 
 pub returns-clause-stopped : goal.returns-clause-stopped
 returns-clause-stopped g c = λ old before idle so_far.

@@ -1,9 +1,6 @@
-use Rattle.row_updates.proofs.Imports.{◌≡◌, ◌∙◌, ℕ, List, length, sym, ap, bound_term, indices, common_steps, arith}
+use Rattle.row_updates.proofs.Imports.{◌≡◌, ◌∙◌, ℕ, List, length, sym, ap, bound_term, indices}
 use Rattle.row_updates.proofs.Rows.{none_rows, from_none, whole_count}
 use Rattle.row_updates.proofs.count.count_where.Goals as goal
-
-pub returns-then-find_limits : goal.returns-then-find_limits
-returns-then-find_limits g c = grind (arith, common_steps, whole_count)
 
 pub returns : goal.returns
 returns g c =

@@ -1,16 +1,7 @@
-use Rattle.row_updates.proofs.Imports.{rules, ◌≡◌, ◌-◌, ◌<◌, ℕ, List, length, map, take, get_or, pos, sym, subst, arith, All-get_or, bound_term, IsSafe, column_writes, raised, raised_same, Table, leaf_type_of, Assign, Setting, setting_of, IsSetOf, IsRunUpdated, IsStill, lane_test, common_steps}
+use Rattle.row_updates.proofs.Imports.{rules, ◌≡◌, ◌-◌, ◌<◌, ℕ, List, length, map, take, get_or, pos, sym, subst, arith, All-get_or, bound_term, IsSafe, column_writes, raised, raised_same, Table, leaf_type_of, Assign, Setting, setting_of, IsSetOf, IsRunUpdated, IsStill, lane_test}
 use Rattle.row_updates.proofs.RunRows.{stored_still}
 use Rattle.row_updates.proofs.RunSets.{last_stored, all_settings}
 use Rattle.row_updates.proofs.run_updates.+sets_run.Goals as goal
-
-pub put_run-requires-clause-leaf_in : goal.put_run-requires-clause-leaf_in
-put_run-requires-clause-leaf_in g t c = grind (arith, common_steps, All-get_or)
-
-pub put_run-requires-clause-rows_in : goal.put_run-requires-clause-rows_in
-put_run-requires-clause-rows_in g t c = grind (arith, common_steps)
-
-pub put_run-requires-clause-fits : goal.put_run-requires-clause-fits
-put_run-requires-clause-fits g t c = grind (arith, common_steps, raised_same)
 
 pub returns-clause-still : goal.returns-clause-still
 returns-clause-still g t c =

@@ -1,6 +1,6 @@
-use Rattle.row_updates.proofs.Imports.{rules, ◌≡◌, ◌∙◌, ℕ, ◌∷◌, [], length, sym, ap, subst, arith, first_lane_fault, stored_count, answer_of, setting_of, IsRunUpdated, lane_test, common_steps}
+use Rattle.row_updates.proofs.Imports.{rules, ◌≡◌, ◌∙◌, ℕ, ◌∷◌, [], length, sym, ap, subst, first_lane_fault, stored_count, answer_of, setting_of, IsRunUpdated, lane_test}
 use Rattle.row_updates.proofs.RunSets.{lone_stored}
-use Rattle.row_updates.proofs.Taken.{stored_front, told_none, told_some}
+use Rattle.row_updates.proofs.Taken.{told_none, told_some}
 use Rattle.row_updates.proofs.run_updates.lone_run.Goals as goal
 
 pub returns-in-Ok-clause-updated : goal.returns-in-Ok-clause-updated
@@ -15,9 +15,6 @@ returns-in-Ok-clause-updated g c = λ filter tested.
     subst (λ (n : ℕ). IsRunUpdated table filter (last ∷ []) run.first n c.store_run.new.self) (ap (stored_count (length values)) none ∙ long)
     (lone_stored table run filter c.args.count (lane_test c.args.mask) values last c.laws_of_table.ensures.table c.requires.idle c.requires.safe c.requires.set.inside c.requires.rows.rows long tested
     (c.value_run.ensures.given c.if-not-value_run.false) c.store_run.new.self (rw c.value_run.ensures.same at c.store_run.ensures.stored))
-
-pub returns-in-Err-clause-few : goal.returns-in-Err-clause-few
-returns-in-Err-clause-few g c = grind (arith, common_steps, told_some, stored_front)
 
 pub returns-in-Err-clause-updated : goal.returns-in-Err-clause-updated
 returns-in-Err-clause-updated g c = λ filter tested.

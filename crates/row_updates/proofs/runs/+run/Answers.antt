@@ -1,12 +1,6 @@
-use Rattle.row_updates.proofs.Imports.{rules, ◌≡◌, ◌∙◌, length, refl, sym, ap, subst, arith, Link, operand_term, chain_term, AreWithin, within_front, within_links, within_rest, safe_front, safe_steps, safe_rest, no_deeper, Table, leaf_count_of, IsIdle, AreRights, common_steps}
+use Rattle.row_updates.proofs.Imports.{rules, ◌≡◌, ◌∙◌, length, refl, sym, ap, subst, arith, Link, operand_term, chain_term, AreWithin, within_links, within_rest, safe_steps, safe_rest, no_deeper, Table, leaf_count_of, IsIdle, AreRights}
 use Rattle.row_updates.proofs.WorthSoFar.{run_rows, ended, fits, more}
 use Rattle.row_updates.proofs.runs.+run.Goals as goal
-
-pub chain_run-operand_run-requires-clause-within : goal.chain_run-operand_run-requires-clause-within
-chain_run-operand_run-requires-clause-within g t c = grind (arith, common_steps, within_front)
-
-pub chain_run-operand_run-requires-clause-safe : goal.chain_run-operand_run-requires-clause-safe
-chain_run-operand_run-requires-clause-safe g t c = grind (arith, common_steps, safe_front)
 
 pub chain_run-loop-links-init : goal.chain_run-loop-links-init
 chain_run-loop-links-init g t c =

@@ -1,12 +1,12 @@
-use Rattle.row_updates.proofs.Imports.{◌≡◌, ◌∙◌, length, map, get_or, [], ap, sym, Table, answer_of, after_log, filter_term, setting_of, filter_log, sides_log, tried_log, common_steps, arith}
+use Rattle.row_updates.proofs.Imports.{◌≡◌, ◌∙◌, refl, length, map, get_or, [], ap, sym, Table, answer_of, after_log, filter_term, setting_of, filter_log, sides_log, tried_log, common_steps, arith}
 use Rattle.row_updates.proofs.Logs.{log_more, tried_log_left, tried_log_fault, tried_log_done}
-use Rattle.row_updates.proofs.Rows.{tried_left, tried_stop, tried_done}
+use Rattle.row_updates.proofs.Rows.{tried_stop}
 use Rattle.row_updates.proofs.update.try_at.Given as given
 use Rattle.row_updates.proofs.update.try_at.Goals as goal
 use Rattle.row_updates.proofs.update.try_at.Goals.{After-new_values}
 
 pub returns-then-not-branch-clause-tried : goal.returns-then-not-branch-clause-tried
-returns-then-not-branch-clause-tried g c = grind (arith, common_steps, tried_left)
+returns-then-not-branch-clause-tried g c = let test = rw c.if-not-branch.true at c.in_ok-passes.ensures.value in rw (← test) refl
 
 pub returns-then-not-branch-clause-same : goal.returns-then-not-branch-clause-same
 returns-then-not-branch-clause-same g c = grind (arith, common_steps, tried_log_left)
@@ -38,11 +38,8 @@ returns-in_err-new_values-clause-same g c = right_sides g (goal.at.returns-in_er
 
 pub returns-clause-tried : goal.returns-clause-tried
 returns-clause-tried g c =
-    let filter = filter_term c.args.filter in
-    let view = c.args.view.now in
     let test = rw c.if-not-branch.false at c.in_ok-passes.ensures.value in
-    let all = rw c.passes.ensures.same at c.in_ok-new_values.ensures.values in
-    tried_done (answer_of view) filter (map setting_of c.args.sets.now) c.args.row (get_or view.rows c.args.row []) c.args.index.now _ test all
+    let all = rw c.passes.ensures.same at c.in_ok-new_values.ensures.values in rw (← test, all) refl
 
 pub returns-clause-same : goal.returns-clause-same
 returns-clause-same g c = right_sides g (goal.at.returns-clause-same g c).After-new_values
