@@ -1,6 +1,6 @@
 use Rattle.layout_copy.proofs.Imports.{ℕ, List, arith, same_slots, rows_after, Table, leaf_sizes, common_steps}
 use Rattle.layout_copy.proofs.CostLaws.{cut_at, round_counted}
-use Rattle.layout_copy.proofs.Pieces.{piece_moved, all_below, order_slots, has_slots, all_steps, steps_of_round}
+use Rattle.layout_copy.proofs.Pieces.{piece_moved, all_below, slots_are, has_slots, all_steps, steps_of_round}
 use Rattle.layout_copy.proofs.runs.copy_rounds.Goals as goal
 
 pub round_count-count-requires-clause-to_lanes : goal.round_count-count-requires-clause-to_lanes
@@ -25,7 +25,7 @@ loop-slot-preserved g c =
     grind (arith, rows_after, piece_moved)
 
 pub returns-clause-rows : goal.returns-clause-rows
-returns-clause-rows g c = grind (arith, common_steps, order_slots, same_slots, all_below)
+returns-clause-rows g c = grind (arith, common_steps, slots_are, same_slots, all_below)
 
 pub returns-clause-steps : goal.returns-clause-steps
 returns-clause-steps g c = grind (arith, common_steps, all_steps)
