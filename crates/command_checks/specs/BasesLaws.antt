@@ -28,16 +28,20 @@ rows_for_some words rows has = grind (arith, nat_lt, count_by, nat_tests)
 some_not_none : (n : ℕ) → nat_lt 0 n ≡ true → (n == 0) ≡ false
 some_not_none n e = grind (arith, nat_tests)
 
+-- rows that are given stay
+rows_for_given : (words : List ExtentWord) (rows : ℕ) → rows_for words (Some rows) ≡ Some rows
+rows_for_given words rows = ⊎_elim
+    (λ (e : nat_lt 0 (count_by is_rows words) ≡ true). rw e refl)
+    (λ (e : nat_lt 0 (count_by is_rows words) ≡ false). rw e refl)
+    (cases_Bool (nat_lt 0 (count_by is_rows words)))
+
 -- and it changes nothing
 pub rows_for_same : (words : List ExtentWord) (rows : Option ℕ) → resolved words (rows_for words rows) ≡ resolved words rows
 rows_for_same words None = ⊎_elim
     (λ (e : nat_lt 0 (count_by is_rows words) ≡ true). let none = some_not_none (count_by is_rows words) e in rw (e, none) refl)
     (λ (e : nat_lt 0 (count_by is_rows words) ≡ false). rw e refl)
     (cases_Bool (nat_lt 0 (count_by is_rows words)))
-rows_for_same words (Some n) = ⊎_elim
-    (λ (e : nat_lt 0 (count_by is_rows words) ≡ true). rw e refl)
-    (λ (e : nat_lt 0 (count_by is_rows words) ≡ false). rw e refl)
-    (cases_Bool (nat_lt 0 (count_by is_rows words)))
+rows_for_same words (Some n) = ap (resolved words) (rows_for_given words n)
 
 -- the first cause that refuses extents, or the extents
 pub resolves : (words : List ExtentWord) (rows : Option ℕ) (extents : List ℕ) → bad_extents words rows ≡ None → extents ≡ extents_for words rows → resolved words rows ≡ Ok extents
@@ -83,9 +87,3 @@ rows_are words None extents shape none is = tt
 rows_are words (Some rows) extents shape none is =
     let same : rows_for words (Some rows) ≡ Some rows = rows_for_given words rows in
     length-indices extents ∙ ap product (is ∙ ap (extents_for words) same) ∙ rows_of_shape words rows shape (rw same at none)
-  where
-    rows_for_given : (words : List ExtentWord) (rows : ℕ) → rows_for words (Some rows) ≡ Some rows
-    rows_for_given words rows = ⊎_elim
-        (λ (e : nat_lt 0 (count_by is_rows words) ≡ true). rw e refl)
-        (λ (e : nat_lt 0 (count_by is_rows words) ≡ false). rw e refl)
-        (cases_Bool (nat_lt 0 (count_by is_rows words)))
