@@ -11,7 +11,7 @@ mod ImageBits
 mod Imports
 mod Lawful
 mod Lies
-mod Made
+pub mod Made
 mod Maps
 mod OneFile
 mod Opens
