@@ -36,10 +36,7 @@ same_steps (step.At number ∷ path) (step.At own ∷ other) rest more here ther
     let behind = same_steps path other rest more here there tails in
     ((λ i. step.At (numbers i) ∷ behind.0 i), behind.1)
 same_steps [] (step.Name name ∷ other) rest more here there same = absurd (cc (ap ends same))
-same_steps [] (step.At number ∷ other) rest more here there same = absurd (cc (ap ends same))
-same_steps (step.Name name ∷ path) [] rest more here there same = absurd (cc (ap ends same))
-same_steps (step.At number ∷ path) [] rest more here there same = absurd (cc (ap ends same))
-same_steps path other rest more here there same = absurd cc
+same_steps path other rest more here there same = absurd (cc (ap ends same))
 
 pub same_path : (path other : List PathStep) (rest more : List Token) → ends rest ≡ true → ends more ≡ true →
     path_tokens path ++ rest ≡ path_tokens other ++ more → (path ≡ other) × (rest ≡ more)
@@ -47,10 +44,7 @@ same_path [] [] rest more here there same = (refl, same)
 same_path (step.Name name ∷ path) (step.Name own ∷ other) rest more here there same = grind (arith, same_steps)
 same_path (step.At number ∷ path) (step.At own ∷ other) rest more here there same = grind (arith, same_steps)
 same_path [] (step.Name name ∷ other) rest more here there same = absurd (cc (ap ends same))
-same_path [] (step.At number ∷ other) rest more here there same = absurd (cc (ap ends same))
-same_path (step.Name name ∷ path) [] rest more here there same = absurd (cc (ap ends same))
-same_path (step.At number ∷ path) [] rest more here there same = absurd (cc (ap ends same))
-same_path path other rest more here there same = absurd cc
+same_path path other rest more here there same = absurd (cc (ap ends same))
 
 -- ---- lists with a comma between each two, which end before a sign that begins no part
 
