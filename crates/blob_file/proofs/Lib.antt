@@ -5,7 +5,6 @@ mod Fields
 mod Filled
 mod Fills
 mod HeadReads
-mod HeadTold
 mod Heads
 mod ImageBits
 mod Imports

@@ -124,8 +124,6 @@ same_width entry other rest more same =
 same_widths : (entries others : List FieldWidth) (rest more : List Token) →
     widths_tokens entries ++ Sign Comma ∷ rest ≡ widths_tokens others ++ Sign Comma ∷ more → (entries ≡ others) × (rest ≡ more)
 same_widths [] [] rest more same = (refl, cc)
-same_widths [] (other ∷ others) rest more same = absurd cc
-same_widths (entry ∷ entries) [] rest more same = absurd cc
 same_widths (entry ∷ entries) (other ∷ others) rest more same =
     let front : List Token = with_commas (map width_tokens (entry ∷ entries)) in
     let back : List Token = with_commas (map width_tokens (other ∷ others)) in
@@ -133,6 +131,7 @@ same_widths (entry ∷ entries) (other ∷ others) rest more same =
     let list = same_list width_tokens CloseBrace (λ _ _ e. cc) width_starts same_width (entry ∷ entries) (other ∷ others) (Sign Comma ∷ rest) (Sign Comma ∷ more)
     (sym (append_assoc front (Sign CloseBrace ∷ []) (Sign Comma ∷ rest)) ∙ inner ∙ append_assoc back (Sign CloseBrace ∷ []) (Sign Comma ∷ more)) in
     (list.0, cc list.1)
+same_widths entries others rest more same = absurd cc
 
 -- ---- forms
 

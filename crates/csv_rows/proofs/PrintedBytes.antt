@@ -1,5 +1,5 @@
 -- The bytes of names and of decimal texts, which stand in a line as they are.
-use Rattle.csv_rows.proofs.Imports.{◌≡◌, ℕ, suc, ◌+◌, ◌*◌, ◌/◌, ◌%◌, ◌^◌, ◌<◌, ◌≤◌, Bool, true, false, nat_eq, List, [], ◌∷◌, ◌++◌, get_or, reverse, ℤ, pos, negsuc, neg_ℤ, Some, refl, sym, ap, subst, ◌∙◌, arith, All, list_all, is_ascii_digit, digit_value, decimal, digits_value, digits_value_after, nat_tests, decimal_by_steps_wide, reverse-reverse, reverse-append, list_all-append, AllPass-from_list_all, digit_value_digit, continues_name, both, digits_text, decimal_text, decimal-digits_text, is_blank, behind_blanks, before_blanks, unspaced, digits_number, number_behind_sign, is_comma, is_line_end, and_from, false_from_ne_true, not, ◌||◌, option_map}
+use Rattle.csv_rows.proofs.Imports.{◌≡◌, ℕ, ◌+◌, ◌*◌, ◌/◌, ◌%◌, ◌^◌, ◌<◌, ◌≤◌, Bool, true, false, nat_eq, List, [], ◌∷◌, ◌++◌, get_or, reverse, ℤ, pos, neg_ℤ, Some, refl, sym, ap, subst, ◌∙◌, arith, All, list_all, is_ascii_digit, digit_value, decimal, digits_value, digits_value_after, nat_tests, decimal_by_steps_wide, reverse-reverse, reverse-append, list_all-append, AllPass-from_list_all, digit_value_digit, continues_name, both, digits_text, decimal-digits_text, is_blank, behind_blanks, before_blanks, unspaced, digits_number, number_behind_sign, is_comma, is_line_end, and_from, false_from_ne_true, not, ◌||◌, option_map}
 use Rattle.csv_rows.proofs.PlainLines.{number_is}
 use Rattle.csv_rows.proofs.PlainTexts.{is_plain_byte, is_plain_text}
 
@@ -118,7 +118,3 @@ digits_write n text digits = grind (arith, plain_digits, both, is_ascii_digit, l
 
 pub minus_writes : (n : ℕ) (text : List ℕ) → AreDigits n text → IsNumberText (neg_ℤ (pos n)) (45 ∷ text)
 minus_writes n text digits = grind (arith, plain_digits, option_map, neg_ℤ, digits_read)
-
-pub number_text : (z : ℤ) → ((n : ℕ) → z ≡ pos n → n < 10 ^ 64) → ((n : ℕ) → z ≡ negsuc n → suc n < 10 ^ 64) → IsNumberText z (decimal_text z)
-number_text (pos n) small low = digits_write n (digits_text n) (digits_are n (small n refl))
-number_text (negsuc n) small low = minus_writes (suc n) (digits_text (suc n)) (digits_are (suc n) (low n refl))

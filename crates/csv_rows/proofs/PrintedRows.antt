@@ -1,7 +1,7 @@
 -- The values that are printed are read again, by a view that can hold them.
-use Rattle.csv_rows.proofs.Imports.{◌≡◌, ℕ, zero, suc, ◌+◌, ◌^◌, ◌<◌, true, List, [], ◌∷◌, ◌++◌, length, get_or, map, ℤ, pos, negsuc, Some, Result, Ok, refl, sym, ap, subst, ◌∙◌, arith, append_assoc, slice_get, list_all, range_with_len, length_push, LeafType, IsDeclared, Hold, stays_declared, StoreMode, Stays, kind_at, stays_answer, hold_at, decimal_text, ◌>>=◌, Place, value_at, row_values, table_from, with_columns, RowFault, and_from}
+use Rattle.csv_rows.proofs.Imports.{◌≡◌, ℕ, digits_text, zero, suc, ◌+◌, ◌^◌, ◌<◌, true, List, [], ◌∷◌, ◌++◌, length, get_or, map, ℤ, pos, negsuc, Some, Result, Ok, refl, sym, ap, ◌∙◌, arith, append_assoc, slice_get, list_all, range_with_len, length_push, LeafType, IsDeclared, Hold, stays_declared, StoreMode, Stays, kind_at, stays_answer, hold_at, decimal_text, ◌>>=◌, Place, value_at, row_values, table_from, with_columns, RowFault, and_from}
 use Rattle.csv_rows.proofs.PlainTexts.{is_plain_text}
-use Rattle.csv_rows.proofs.PrintedBytes.{IsNumberText, number_text, unspaced_same}
+use Rattle.csv_rows.proofs.PrintedBytes.{IsNumberText, digits_are, digits_write, minus_writes, unspaced_same}
 use Rattle.csv_rows.proofs.PrintedLines.{is_plain_row}
 
 -- a value of any leaf has few digits
@@ -12,7 +12,8 @@ few_below : (kind : LeafType) (n : ℕ) → IsDeclared kind (negsuc n) → suc n
 few_below kind n is = grind arith
 
 declared_text : (kind : LeafType) (z : ℤ) → IsDeclared kind z → IsNumberText z (decimal_text z)
-declared_text kind z is = number_text z (λ n e. few_above kind n (subst (IsDeclared kind) e is)) (λ n e. few_below kind n (subst (IsDeclared kind) e is))
+declared_text kind (pos n) is = digits_write n (digits_text n) (digits_are n (few_above kind n is))
+declared_text kind (negsuc n) is = minus_writes (suc n) (digits_text (suc n)) (digits_are (suc n) (few_below kind n is))
 
 -- values of leaves of these types and holds, each of which a view of this mode can hold
 pub StayRow : StoreMode → List LeafType → List Hold → List ℤ → Type 0

@@ -1,12 +1,12 @@
 use Rattle.csv_rows.proofs.Imports.{rules, ◌≡◌, ◌∙◌, refl, sym, arith, true, Err, inr, kept_row, kept_of}
-use Rattle.csv_rows.proofs.Accesses.{no_row_stored}
+use Rattle.csv_rows.proofs.Accesses.{after_stores-none}
 use Rattle.csv_rows.proofs.Tables.{Loading, next_left, row_loaded, row_refused}
 use Rattle.csv_rows.proofs.load.load_records.Goals as goal
 
 pub loop-records-init : goal.loop-records-init
 loop-records-init g c =
     let loading : Loading c.args.view.now c.args.view.now c.args.columns.now (g.R.Records.left c.args.records.now) 0 =
-    record { front = refl; rest = refl; count = refl; within = omega arith; same = no_row_stored c.args.view.now 0 refl } in
+    record { front = refl; rest = refl; count = refl; within = omega arith; same = after_stores-none c.args.view.now } in
     record { reading = c.requires.reading; left = refl; loading = loading; values = refl }
 
 pub returns-in_err-load_row : goal.returns-in_err-load_row
