@@ -12,14 +12,6 @@ ok_is r = grind arith
 over_is : (header : Header) → Decides (is_over_limits header) (IsOverLimits header.mapping header.extents header.fields)
 over_is header = grind (arith, Decides-like, Decides-or, nat_lt, Decides-ltb)
 
-abbrev Parts : Header → Type 0
-Parts header =
-    (record_fault (Record header.fields) ≡ None)
-    × ((bad_shape (words_of header) ≡ None)
-    × ((bad_extents (words_of header) None ≡ None)
-    × ((accepted header.mapping header.fields (leaf_cells (kinds_of header.fields)) ≡ Ok tt)
-    × (¬ IsOverLimits header.mapping header.extents header.fields))))
-
 pub lies : (header : Header) → Decides (can_lie header) (CanLie header)
 unfolding can_lie
 lies header =

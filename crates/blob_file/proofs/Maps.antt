@@ -1,5 +1,5 @@
 -- Extents and mappings told by their tokens.
-use Rattle.blob_file.proofs.Imports.{◌≡◌, ℕ, List, [], ◌∷◌, ◌++◌, map, refl, sym, ap, ◌∙◌, Bool, true, false, Option, Some, None, append_assoc, codes, bytes_eq, ◌&&◌, flat_map, and_parts, CloseBrace, CloseBracket, CloseParen, Colon, Comma, Arrow, SignName, Token, Word, Sign, listed, orders, aos_forms, soa_forms, map_word, type_word, order_word, aos_word, soa_word, MapWord, count_token, with_commas, bracket_list, step_tokens, path_tokens, form_tokens, width_tokens, widths_tokens, bits_tokens, map_tokens, extent_tokens, flag_tokens, PathStep, ExtentWord, Order, AosForm, SoaForm, FieldWidth, Term, Aos, Soa, Aosoa, BitAos, BitSoa, Split, Byteswap, Bytesplit, Change, Counted, Heated, Named, is_nameless, arith}
+use Rattle.blob_file.proofs.Imports.{◌≡◌, ℕ, List, [], ◌∷◌, ◌++◌, map, refl, sym, ap, ◌∙◌, Bool, true, false, Option, Some, None, append_assoc, codes, ◌&&◌, flat_map, and_parts, CloseBrace, CloseBracket, CloseParen, Colon, Comma, Arrow, SignName, Token, Word, Sign, listed, orders, aos_forms, soa_forms, map_word, type_word, order_word, aos_word, soa_word, MapWord, count_token, with_commas, bracket_list, step_tokens, path_tokens, form_tokens, width_tokens, widths_tokens, bits_tokens, map_tokens, extent_tokens, flag_tokens, PathStep, ExtentWord, Order, AosForm, SoaForm, FieldWidth, Term, Aos, Soa, Aosoa, BitAos, BitSoa, Split, Byteswap, Bytesplit, Change, Counted, Heated, Named, is_nameless, arith}
 use Rattle.record_dim.specs.declared.path.PathStep.TheVariants as step
 use Rattle.line_grammar.specs.declared.line.MapWord.TheVariants as form
 use Rattle.blob_file.proofs.Fields.{same_word, same_type}
@@ -93,10 +93,6 @@ pub same_extents : (extents others : List ExtentWord) (rest more : List Token) �
 same_extents extents others rest more same = grind (arith, same_list, extent_starts, same_extent, append_assoc)
 
 -- a word that may be missing
-abbrev begins : List ℕ → List Token → Bool
-begins word (Word own ∷ tokens) = bytes_eq own word
-begins word _ = false
-
 pub same_flag : (flag other : Bool) (rest more : List Token) →
     flag_tokens (codes "wrap") flag ++ Word (codes "as") ∷ rest ≡ flag_tokens (codes "wrap") other ++ Word (codes "as") ∷ more → (flag ≡ other) × (rest ≡ more)
 same_flag flag other rest more same = grind arith
