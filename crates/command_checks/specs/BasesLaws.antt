@@ -1,21 +1,13 @@
 -- Laws of mappings without names, and of the rows that words ask for.
 use Rattle.std.specs.Prelude.{◌≡◌, ◌⊎◌, ℕ, zero, suc, ◌<◌, ◌/◌, ◌%◌, Bool, true, false, not, nat_lt, count_by, List, length, Option, Some, None, refl, Ok, Err, IsSome, IfSome, ◌==◌, ◌&&◌, if◌then◌else◌}
-use Rattle.command_checks.specs.Imports.{inl, inr, sym, ap, ◌∙◌, arith, ⊎_elim, false≢true, cases_Bool, nat_tests, ExtentWord, Bad, indices, product, length-indices, is_rows, HasRows, IsShape, bad_extents, extents_for, fixed_product, product_divided, product_fixed, both, PathStep, Term, Split, Byteswap, Bytesplit, Change, Count, Heat, Named, IsNameless, resolved, BadExtents}
+use Rattle.command_checks.specs.Imports.{inl, inr, sym, ap, ◌∙◌, arith, ⊎_elim, cases_Bool, nat_tests, ExtentWord, Bad, indices, product, length-indices, is_rows, HasRows, IsShape, bad_extents, extents_for, fixed_product, product_divided, product_fixed, PathStep, Term, Split, IsNameless, resolved, BadExtents}
 pub use Rattle.blob_file.specs.HeaderLaws.{nameless_built}
+use Rattle.map_any.proofs.Built.{built_nameless}
 use Rattle.command_checks.specs.Inner.Bases.{is_nameless, rows_for}
 
 -- a mapping without names can be checked
 pub nameless_term : (term : Term) → is_nameless term ≡ true → IsNameless term
-nameless_term (Split path first rest) e =
-    let names = both (is_nameless first) (is_nameless rest) e in
-    (nameless_term first names.0, nameless_term rest names.1)
-nameless_term (Byteswap inner) e = nameless_term inner e
-nameless_term (Bytesplit inner) e = nameless_term inner e
-nameless_term (Change from to inner) e = nameless_term inner e
-nameless_term (Count inner) e = nameless_term inner e
-nameless_term (Heat granule inner) e = nameless_term inner e
-nameless_term (Named name) e = absurd (false≢true e)
-nameless_term other e = tt
+nameless_term term e = built_nameless term (nameless_built term e)
 
 -- two mappings without names, as the two sides of a split
 pub nameless_split : (path : List PathStep) (first rest : Term) → is_nameless first ≡ true → is_nameless rest ≡ true → is_nameless (Split path first rest) ≡ true
