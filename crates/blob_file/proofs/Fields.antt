@@ -45,10 +45,9 @@ AreToldFields fields = (others : Fields) (rest more : List Token) → later_toke
 same_listing : (fields others : Fields) (rest more : List Token) → AreToldFields fields →
     fields_tokens fields ++ Sign CloseBrace ∷ rest ≡ fields_tokens others ++ Sign CloseBrace ∷ more → (fields ≡ others) × (rest ≡ more)
 same_listing End End rest more told same = (refl, cc)
-same_listing End (More name held tail) rest more told same = absurd cc
-same_listing (More name held tail) End rest more told same = absurd cc
 same_listing (More name held tail) (More other own after) rest more told same =
     told (More other own after) rest more (ap (λ (tokens : List Token). Sign Comma ∷ tokens) same)
+same_listing fields others rest more told same = absurd cc
 
 record_core : (fields : Fields) (other : Tree) (rest more : List Token) → AreToldFields fields →
     Sign OpenBrace ∷ ((fields_tokens fields ++ Sign CloseBrace ∷ []) ++ rest) ≡ core_tokens other ++ more → (Record fields ≡ base other) × (rest ≡ more)
@@ -74,8 +73,6 @@ mutual
 
   same_fields : (fields others : Fields) (rest more : List Token) → later_tokens fields ++ Sign CloseBrace ∷ rest ≡ later_tokens others ++ Sign CloseBrace ∷ more → (fields ≡ others) × (rest ≡ more)
   same_fields End End rest more same = (refl, cc)
-  same_fields End (More name held tail) rest more same = absurd cc
-  same_fields (More name held tail) End rest more same = absurd cc
   same_fields (More name held tail) (More other own after) rest more same =
       let front : List Token = later_tokens tail ++ Sign CloseBrace ∷ rest in
       let back : List Token = later_tokens after ++ Sign CloseBrace ∷ more in
@@ -87,6 +84,7 @@ mutual
       let trees = same_dims held own front back core.0 (behind_fields tail rest) (behind_fields after more) core.1 in
       let tails = same_fields tail after rest more trees.1 in
       ((λ i. More (names i) (trees.0 i) (tails.0 i)), tails.1)
+  same_fields fields others rest more same = absurd cc
 
 -- records with the same tokens
 pub same_records : (fields others : Fields) → core_tokens (Record fields) ++ [] ≡ core_tokens (Record others) ++ [] → fields ≡ others

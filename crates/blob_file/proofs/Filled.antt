@@ -1,13 +1,9 @@
 -- The rows of a view that are stored run by run, and each run leaf by leaf.
-use Rattle.blob_file.proofs.Imports.{◌≡◌, ℕ, ◌+◌, ◌-◌, ◌*◌, ◌<◌, ◌≤◌, ℤ, pos, negsuc, ◌≤ℤ◌, true, false, Bool, List, [], ◌∷◌, ◌++◌, length, map, get_or, is_ok, Ok, refl, sym, ap, ◌∙◌, subst, ⊎_elim, arith, ◌⊎◌, flat_map, range_with_len, cases_lt, le-ltb, pow_mono, ints, to_z_pos, length-map, get_or-map, ext_get_or, flat_map-cons, indices, is_signed, IsDeclared, IsIn, Leaf, leaves, LeafType, entry, Owner, Hold, length-leaf_cells, holds_by, leaf_cells, bit_in, table_shape, tables_same, HasShape, table_in, fitting_stays, low_64, stays_answer, column_writes, raised, CountsNothing, run_entry, run_length, AreBefore, kept_row, kept_rows, Table, IsTable, answer_of, kept_of, leaf_count_of, leaf_type_of, leaf_types_of, owners_of, table_holds, after_stores, Access, Write, row_accesses, all_accesses, after_stores-append, logs_more, Header, owners_by, kept_run, run_writes, AreFitting, IsTakenLeaf, raw_in, row_count, header_of}
+use Rattle.blob_file.proofs.Imports.{◌≡◌, ℕ, ◌+◌, ◌-◌, ◌*◌, ◌<◌, ◌≤◌, ℤ, pos, negsuc, ◌≤ℤ◌, true, false, Bool, List, [], ◌∷◌, ◌++◌, length, map, get_or, is_ok, Ok, refl, sym, ap, ◌∙◌, subst, ⊎_elim, arith, ◌⊎◌, flat_map, range_with_len, cases_lt, le-ltb, pow_mono, ints, to_z_pos, length-map, get_or-map, ext_get_or, flat_map-cons, indices, is_signed, IsDeclared, IsIn, Leaf, leaves, LeafType, entry, Owner, Hold, length-leaf_cells, leaf_cells, bit_in, table_shape, tables_same, HasShape, table_in, fitting_stays, low_64, stays_answer, column_writes, raised, CountsNothing, run_entry, run_length, AreBefore, kept_row, kept_rows, Table, IsTable, answer_of, kept_of, leaf_count_of, leaf_type_of, leaf_types_of, owners_of, table_holds, after_stores, Access, Write, row_accesses, all_accesses, after_stores-append, logs_more, kept_run, run_writes, AreFitting, IsTakenLeaf, raw_in, row_count, header_of}
 use Rattle.piece_bits.specs.Prelude.{low_same}
 use Rattle.blob_file.proofs.Fills.{kept_entry, kept_shape}
 
 -- ---- the raw rows
-
--- there is one for each index
-raw_rows : (header : Header) (blobs : List (List ℕ)) → length (raw_in header blobs) ≡ row_count header
-raw_rows header blobs = (table_shape (owners_by header) (length (indices header.extents)) (holds_by header.mapping header.fields) (bit_in blobs)).row_count
 
 -- the raw numbers that a mapping of a view's layout reads off blobs
 pub raw_is : (table : Table) (blobs : List (List ℕ)) (layout : List (List Owner)) (slots : ℕ) (holds : List Hold) → layout ≡ owners_of table → slots ≡ length (indices table.extents) → holds ≡ table_holds table
@@ -33,7 +29,7 @@ module _ (table : Table) (blobs : List (List ℕ)) (is : IsTable table) (paired 
       record { row_count = shape.row_count; leaf_count = λ row l. shape.leaf_count row l ∙ paired ∙ length-map (leaves table.fields) (λ (leaf : Leaf). leaf.kind) }
 
   pub kept_long : length kept ≡ length table.rows
-  kept_long = length-map raw (kept_row (kept_of table)) ∙ raw_rows (header_of table) blobs ∙ sym is.rows
+  kept_long = length-map raw (kept_row (kept_of table)) ∙ raw_shape.row_count ∙ sym is.rows
 
   pub entry_kept : (row leaf : ℕ) → row < length table.rows → leaf < leaf_count_of table → entry kept row leaf ≡ kept_of table leaf (entry raw row leaf)
   entry_kept row leaf l m =

@@ -1,7 +1,7 @@
 -- What the proofs of this crate speak of.
-pub use Rattle.blob_file.specs.Imports.{Owner, Pad, owner_at, IsLaidOut, width_at, entry, IsImage, bit_held, image, bit_number, digit_lt, IsIn, is_signed, IsDeclared, Leaf, leaves, kinds_of, record_fault, records_of, records_below, lengths_of, lengths_below, names_of, has_names, is_word, is_name, begins_name, continues_name, Fields, End, Tree, Single, Record, Array, tree_of, IsRecord, schema_fields, PathStep, IsBuiltTerm, holds_by, leaf_cells, accepted, else_for, not_full, layout_by, term_laws, good_numbers, length-holds, kinds_are, StoreMode, indices, ExtentWord, Two, FieldWidth, Fixed, Rows, extent_of, is_rows, bad_shape, bad_extents, HasRows, bytes_of, Term, term_of, Aos, Soa, Aosoa, BitAos, BitSoa, Split, Byteswap, Bytesplit, Change, Counted, Heated, Named, HasItsFields, LineFault}
+pub use Rattle.blob_file.specs.Imports.{Owner, Pad, owner_at, IsLaidOut, width_at, entry, IsImage, bit_held, image, bit_number, digit_lt, IsIn, is_signed, IsDeclared, Leaf, leaves, kinds_of, record_fault, records_of, records_below, lengths_of, lengths_below, names_of, has_names, is_word, is_name, begins_name, continues_name, Fields, End, Tree, Single, Record, Array, tree_of, IsRecord, schema_fields, PathStep, IsBuiltTerm, holds_by, leaf_cells, accepted, layout_by, term_laws, good_numbers, length-holds, kinds_are, StoreMode, indices, ExtentWord, Two, FieldWidth, Fixed, Rows, extent_of, is_rows, bad_shape, bad_extents, HasRows, bytes_of, Term, term_of, Aos, Soa, Aosoa, BitAos, BitSoa, Split, Byteswap, Bytesplit, Change, Counted, Heated, Named, HasItsFields, LineFault}
 unfoldable pub use Rattle.blob_file.specs.Imports.{canonical}
-pub use Rattle.record_dim.specs.Std.{◌≡◌, ℕ, ◌+◌, ◌*◌, ◌/◌, ◌%◌, ◌<◌, ◌≤◌, List, [], ◌∷◌, ◌++◌, length, map, get_or, drop, take, All, refl, sym, ap, ◌∙◌, subst, arith, Bool, true, false, zero, suc, ℤ, pos, Result, Ok, Err, is_ok, ◌-◌, Option, Some, None, ⊎_elim, append_assoc, length-append, negsuc, ◌≤ℤ◌, ◌^◌, nat_lt, is_none, inl, inr, IsErr, rules, take_all, to_z, of_z, sum_by, nat_eq, if◌then◌else◌, ◌==◌, option_map, ◌⊎◌, codes, MatchResult, ◌&&◌, count_by, bytes_eq, IfOk, IfErr, OnOk, nat_le, int_le, length-map, length-drop, get_or-map, append-nil, drop_all, take_at, drop_at, take-append-drop, length-take-le, drop_more, take_rest, nil_from_length, ext_get_or, length-replicate, get_or_past, get_or_default, Decides, AllPass, list_all, flat_map, range_with_len, enumerate_from, list_any, pointwise, and_parts, and_from, cases_eq, eq-eqb, ne_eqb, cases_lt, le-ltb, false_from_ne_true, not-true, eqb-true, and_left, and_right, leb-true, le-leb, lt-leb, nat_tests, Decides-eqb, Decides-and, Decides-or, Decides-not, Decides-like, Decides-ltb, slice_eq-Decides, bytes_eq-Decides, sum_by-cons, AllPass-from_list_all, list_all-append, pow_mono, ints, to_z_pos, to_z-of_z, flat_map-cons, length-enumerate_from, get_or-enumerate_from, get_or-map-range_with_len, bit_at, w128, take-add, get_or_from_slice_get, not, common_steps}
+pub use Rattle.record_dim.specs.Std.{◌≡◌, ℕ, ◌+◌, ◌*◌, ◌/◌, ◌%◌, ◌<◌, ◌≤◌, List, [], ◌∷◌, ◌++◌, length, map, get_or, drop, take, All, refl, sym, ap, ◌∙◌, subst, arith, Bool, true, false, zero, suc, ℤ, pos, Result, Ok, Err, is_ok, ◌-◌, Option, Some, None, ⊎_elim, append_assoc, length-append, negsuc, ◌≤ℤ◌, ◌^◌, nat_lt, is_none, inl, inr, IsErr, rules, take_all, to_z, of_z, sum_by, nat_eq, if◌then◌else◌, ◌==◌, option_map, ◌⊎◌, codes, MatchResult, ◌&&◌, count_by, IfOk, IfErr, OnOk, nat_le, int_le, length-map, length-drop, get_or-map, append-nil, drop_all, take_at, drop_at, take-append-drop, length-take-le, drop_more, take_rest, nil_from_length, ext_get_or, length-replicate, get_or_past, get_or_default, Decides, AllPass, list_all, flat_map, range_with_len, enumerate_from, list_any, pointwise, and_parts, and_from, cases_eq, eq-eqb, ne_eqb, cases_lt, le-ltb, false_from_ne_true, not-true, eqb-true, and_left, and_right, leb-true, le-leb, lt-leb, nat_tests, Decides-eqb, Decides-and, Decides-or, Decides-not, Decides-like, Decides-ltb, slice_eq-Decides, bytes_eq-Decides, sum_by-cons, AllPass-from_list_all, list_all-append, pow_mono, ints, to_z_pos, to_z-of_z, flat_map-cons, length-enumerate_from, get_or-enumerate_from, get_or-map-range_with_len, bit_at, w128, take-add, get_or_from_slice_get, not, common_steps}
 pub use Rattle.piece_bits.specs.Prelude.{AreSized, HasShape, hold_at, table_in, zeros, table_shape, tables_same, entry_in, bit_in_lt, hold_widths, declared, held, declared_same, kept_declared, kind_at, Stays, fitting_held, fitting_stays, declared_shape, declared_entry, image_raw, image_table, low_64}
 pub use Rattle.views.specs.Prelude.{blob_lengths, Access, Write, row_accesses, all_accesses, no_tally, StoreAnswer, store_answer, kept_or, kept_row, kept_rows, Keeping, without_number, stored_fits, fitting_stored, between_true, stays_answer, told_same, column_writes, with_column, raised, AreRowsMoved, CountsNothing, run_steps, run_entry, run_length, AreBefore, raised_low, run_more, no_leaf_moved, leaf_moved, Table, IsTable, answer_of, kept_of, leaf_count_of, leaf_type_of, leaf_types_of, owners_of, table_holds, after_stores, blob_bits_of, after_stores-append, logs_more, after_log-none, IsOverLimits, length-with_column}
 pub use Rattle.record_dim.specs.declared.leaf_type.LeafType.{LeafType}
@@ -42,8 +42,6 @@ pub use Rattle.schema_lang.specs.LineOf.{line_of, IsTold}
 pub use Rattle.instrument.specs.BlobTextsLaws.{length-bytes_of, bytes_of_bits}
 pub use Rattle.places.specs.declared.piece.Cell.{Cell}
 pub use Rattle.map_expr.specs.declared.check.BadMapping.{BadMapping}
-pub use Rattle.map_expr.specs.declared.check.BadMapping.TheVariants.{TooDeep, Counter}
-pub use Rattle.map_expr.specs.Checks.{answered, bad_number}
 pub use Rattle.extents.specs.declared.words.BadExtents.{BadExtents as Bad}
 pub use Rattle.line_tokens.specs.SpotLaws.{same_spots}
 pub use Rattle.record_dim.specs.declared.leaf_type.LeafType.TheVariants.{Bool as Truth}

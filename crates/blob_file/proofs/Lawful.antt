@@ -1,5 +1,6 @@
 -- Headers with which a view can be made: the test of them, and the laws of their layouts.
-use Rattle.blob_file.proofs.Imports.{◌≡◌, Bool, true, false, List, length, map, nat_lt, Option, None, Result, Ok, Err, is_ok, is_none, ◌∙◌, ◌&&◌, if◌then◌else◌, Decides, Decides-and, Decides-or, Decides-not, Decides-like, Decides-ltb, false_from_ne_true, bad_shape, bad_extents, Fields, Record, kinds_of, record_fault, IsLaidOut, Cell, Hold, BadMapping, TooDeep, Counter, Term, answered, bad_number, length-leaf_cells, leaf_cells, accepted, else_for, holds_by, not_full, term_laws, good_numbers, length-holds, IsOverLimits, Header, owners_by, is_nameless, words_of, CanLie, is_over_limits, can_lie, nameless_built, row_count, not, arith}
+use Rattle.blob_file.proofs.Imports.{◌≡◌, Bool, true, false, length, map, nat_lt, Option, None, Result, Ok, is_ok, is_none, ◌∙◌, ◌&&◌, Decides, Decides-and, Decides-or, Decides-not, Decides-like, Decides-ltb, false_from_ne_true, bad_shape, bad_extents, Record, kinds_of, record_fault, IsLaidOut, Hold, BadMapping, length-leaf_cells, leaf_cells, accepted, holds_by, term_laws, good_numbers, length-holds, IsOverLimits, Header, owners_by, is_nameless, words_of, CanLie, is_over_limits, can_lie, nameless_built, row_count, not, arith}
+use Rattle.map_any.proofs.Built.{good_number, good_parts}
 
 -- ---- the test
 
@@ -11,14 +12,6 @@ ok_is r = grind arith
 
 over_is : (header : Header) → Decides (is_over_limits header) (IsOverLimits header.mapping header.extents header.fields)
 over_is header = grind (arith, Decides-like, Decides-or, nat_lt, Decides-ltb)
-
-abbrev Parts : Header → Type 0
-Parts header =
-    (record_fault (Record header.fields) ≡ None)
-    × ((bad_shape (words_of header) ≡ None)
-    × ((bad_extents (words_of header) None ≡ None)
-    × ((accepted header.mapping header.fields (leaf_cells (kinds_of header.fields)) ≡ Ok tt)
-    × (¬ IsOverLimits header.mapping header.extents header.fields))))
 
 pub lies : (header : Header) → Decides (can_lie header) (CanLie header)
 unfolding can_lie
@@ -38,26 +31,15 @@ lies header =
 pub cannot_lie : (header : Header) → (CanLie header → ⊥) → can_lie header ≡ false
 cannot_lie header none = false_from_ne_true (can_lie header) (λ e. none ((lies header).0 e))
 
--- ---- what being accepted says of an expression
-
-answered_none : (deep twice : Bool) (bad : Option BadMapping) → (if deep then Err TooDeep else (if twice then Err Counter else answered bad)) ≡ Ok tt → bad ≡ None
-answered_none deep twice bad e = grind arith
-
-else_ok : (bad : BadMapping) (holds : Bool) (earlier : Result Unit BadMapping) → else_for bad holds earlier ≡ Ok tt → (holds ≡ false) × (earlier ≡ Ok tt)
-else_ok bad holds earlier e = grind arith
-
--- its parts are full, and its numbers are in their ranges
-good_parts : (term : Term) (fields : Fields) (cells : List Cell) → accepted term fields cells ≡ Ok tt → (not_full term fields cells ≡ false) × (bad_number term ≡ None)
-good_parts term fields cells ok = grind (arith, else_ok, answered_none)
-
 -- ---- the layout of a header
 
 module _ (header : Header) (nameless : is_nameless header.mapping ≡ true) (can : CanLie header) where
   -- it keeps the laws of layouts
   pub lawful : IsLaidOut (owners_by header) (row_count header) (map (λ (h : Hold). h.width) (holds_by header.mapping header.fields))
   lawful =
-      let good = good_parts header.mapping header.fields (leaf_cells (kinds_of header.fields)) can.mapped in
-      term_laws header.mapping header.extents header.fields (leaf_cells (kinds_of header.fields)) (nameless_built header.mapping nameless) (good_numbers header.mapping good.1) good.0
+      let cells = leaf_cells (kinds_of header.fields) in
+      term_laws header.mapping header.extents header.fields cells (nameless_built header.mapping nameless)
+      (good_numbers header.mapping (good_number header.mapping header.fields cells can.mapped)) (good_parts header.mapping header.fields cells can.mapped)
 
 -- and there is a hold for each leaf
 pub paired : (header : Header) → length (holds_by header.mapping header.fields) ≡ length (kinds_of header.fields)

@@ -5,13 +5,12 @@ mod Fields
 mod Filled
 mod Fills
 mod HeadReads
-mod HeadTold
 mod Heads
 mod ImageBits
 mod Imports
 mod Lawful
 mod Lies
-mod Made
+pub mod Made
 mod Maps
 mod OneFile
 mod Opens

@@ -1,5 +1,5 @@
 -- Extents and mappings told by their tokens.
-use Rattle.blob_file.proofs.Imports.{◌≡◌, ℕ, List, [], ◌∷◌, ◌++◌, map, refl, sym, ap, ◌∙◌, Bool, true, false, Option, Some, None, append_assoc, codes, bytes_eq, ◌&&◌, flat_map, and_parts, CloseBrace, CloseBracket, CloseParen, Colon, Comma, Arrow, SignName, Token, Word, Sign, listed, orders, aos_forms, soa_forms, map_word, type_word, order_word, aos_word, soa_word, MapWord, count_token, with_commas, bracket_list, step_tokens, path_tokens, form_tokens, width_tokens, widths_tokens, bits_tokens, map_tokens, extent_tokens, flag_tokens, PathStep, ExtentWord, Order, AosForm, SoaForm, FieldWidth, Term, Aos, Soa, Aosoa, BitAos, BitSoa, Split, Byteswap, Bytesplit, Change, Counted, Heated, Named, is_nameless, arith}
+use Rattle.blob_file.proofs.Imports.{◌≡◌, ℕ, List, [], ◌∷◌, ◌++◌, map, refl, sym, ap, ◌∙◌, Bool, true, false, Option, Some, None, append_assoc, codes, ◌&&◌, flat_map, and_parts, CloseBrace, CloseBracket, CloseParen, Colon, Comma, Arrow, SignName, Token, Word, Sign, listed, orders, aos_forms, soa_forms, map_word, type_word, order_word, aos_word, soa_word, MapWord, count_token, with_commas, bracket_list, step_tokens, path_tokens, form_tokens, width_tokens, widths_tokens, bits_tokens, map_tokens, extent_tokens, flag_tokens, PathStep, ExtentWord, Order, AosForm, SoaForm, FieldWidth, Term, Aos, Soa, Aosoa, BitAos, BitSoa, Split, Byteswap, Bytesplit, Change, Counted, Heated, Named, is_nameless, arith}
 use Rattle.record_dim.specs.declared.path.PathStep.TheVariants as step
 use Rattle.line_grammar.specs.declared.line.MapWord.TheVariants as form
 use Rattle.blob_file.proofs.Fields.{same_word, same_type}
@@ -36,10 +36,7 @@ same_steps (step.At number ∷ path) (step.At own ∷ other) rest more here ther
     let behind = same_steps path other rest more here there tails in
     ((λ i. step.At (numbers i) ∷ behind.0 i), behind.1)
 same_steps [] (step.Name name ∷ other) rest more here there same = absurd (cc (ap ends same))
-same_steps [] (step.At number ∷ other) rest more here there same = absurd (cc (ap ends same))
-same_steps (step.Name name ∷ path) [] rest more here there same = absurd (cc (ap ends same))
-same_steps (step.At number ∷ path) [] rest more here there same = absurd (cc (ap ends same))
-same_steps path other rest more here there same = absurd cc
+same_steps path other rest more here there same = absurd (cc (ap ends same))
 
 pub same_path : (path other : List PathStep) (rest more : List Token) → ends rest ≡ true → ends more ≡ true →
     path_tokens path ++ rest ≡ path_tokens other ++ more → (path ≡ other) × (rest ≡ more)
@@ -47,10 +44,7 @@ same_path [] [] rest more here there same = (refl, same)
 same_path (step.Name name ∷ path) (step.Name own ∷ other) rest more here there same = grind (arith, same_steps)
 same_path (step.At number ∷ path) (step.At own ∷ other) rest more here there same = grind (arith, same_steps)
 same_path [] (step.Name name ∷ other) rest more here there same = absurd (cc (ap ends same))
-same_path [] (step.At number ∷ other) rest more here there same = absurd (cc (ap ends same))
-same_path (step.Name name ∷ path) [] rest more here there same = absurd (cc (ap ends same))
-same_path (step.At number ∷ path) [] rest more here there same = absurd (cc (ap ends same))
-same_path path other rest more here there same = absurd cc
+same_path path other rest more here there same = absurd (cc (ap ends same))
 
 -- ---- lists with a comma between each two, which end before a sign that begins no part
 
@@ -99,10 +93,6 @@ pub same_extents : (extents others : List ExtentWord) (rest more : List Token) �
 same_extents extents others rest more same = grind (arith, same_list, extent_starts, same_extent, append_assoc)
 
 -- a word that may be missing
-abbrev begins : List ℕ → List Token → Bool
-begins word (Word own ∷ tokens) = bytes_eq own word
-begins word _ = false
-
 pub same_flag : (flag other : Bool) (rest more : List Token) →
     flag_tokens (codes "wrap") flag ++ Word (codes "as") ∷ rest ≡ flag_tokens (codes "wrap") other ++ Word (codes "as") ∷ more → (flag ≡ other) × (rest ≡ more)
 same_flag flag other rest more same = grind arith
@@ -130,8 +120,6 @@ same_width entry other rest more same =
 same_widths : (entries others : List FieldWidth) (rest more : List Token) →
     widths_tokens entries ++ Sign Comma ∷ rest ≡ widths_tokens others ++ Sign Comma ∷ more → (entries ≡ others) × (rest ≡ more)
 same_widths [] [] rest more same = (refl, cc)
-same_widths [] (other ∷ others) rest more same = absurd cc
-same_widths (entry ∷ entries) [] rest more same = absurd cc
 same_widths (entry ∷ entries) (other ∷ others) rest more same =
     let front : List Token = with_commas (map width_tokens (entry ∷ entries)) in
     let back : List Token = with_commas (map width_tokens (other ∷ others)) in
@@ -139,6 +127,7 @@ same_widths (entry ∷ entries) (other ∷ others) rest more same =
     let list = same_list width_tokens CloseBrace (λ _ _ e. cc) width_starts same_width (entry ∷ entries) (other ∷ others) (Sign Comma ∷ rest) (Sign Comma ∷ more)
     (sym (append_assoc front (Sign CloseBrace ∷ []) (Sign Comma ∷ rest)) ∙ inner ∙ append_assoc back (Sign CloseBrace ∷ []) (Sign Comma ∷ more)) in
     (list.0, cc list.1)
+same_widths entries others rest more same = absurd cc
 
 -- ---- forms
 

@@ -4,13 +4,12 @@ use Rattle.blob_file.proofs.Imports.{◌≡◌, ℕ, ◌<◌, ◌^◌, List, [],
 -- lists that are equal when others stand behind them
 pub same_fronts : {A : Type 0} (xs ys more others : List A) → length xs ≡ length ys → xs ++ more ≡ ys ++ others → (xs ≡ ys) × (more ≡ others)
 same_fronts [] [] more others e same = (refl, same)
-same_fronts [] (y ∷ ys) more others e same = absurd (omega (arith, e))
-same_fronts (x ∷ xs) [] more others e same = absurd (omega (arith, e))
 same_fronts (x ∷ xs) (y ∷ ys) more others e same =
     let heads : x ≡ y = cc in
     let tails : xs ++ more ≡ ys ++ others = cc in
     let rest = same_fronts xs ys more others (omega (arith, e)) tails in
     (ap (λ h. h ∷ xs) heads ∙ ap (λ t. y ∷ t) rest.0, rest.1)
+same_fronts xs ys more others e same = absurd (omega (arith, e))
 
 -- a text ends at the first LF
 pub same_lines : (text other rest others : List ℕ) → NoEnd text → NoEnd other → text ++ 10 ∷ rest ≡ other ++ 10 ∷ others → (text ≡ other) × (rest ≡ others)

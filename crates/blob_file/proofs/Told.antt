@@ -1,5 +1,5 @@
 -- The lines of a header: what is told of a text is what the grammar says.
-use Rattle.blob_file.proofs.Imports.{◌≡◌, ℕ, ◌<◌, ◌≤◌, Bool, true, false, List, length, Result, Ok, Err, Option, Some, None, refl, ap, MatchResult, IfOk, IfErr, OnOk, ◌⊎◌, nat_le, if◌then◌else◌, and_parts, and_left, and_right, leb-true, le-leb, lt-leb, bytes_eq-Decides, same_spots, Reads, StopsAt, Sentence, sentence_of, deepest, Line, Version, Two, canonical, line_of, IsTold, HasItsFields, LineFault, refusal, FileFault, same_bytes, canonical_by, line_told, arith}
+use Rattle.blob_file.proofs.Imports.{◌≡◌, ℕ, ◌<◌, ◌≤◌, Bool, true, false, List, length, Result, Ok, Err, Option, Some, None, refl, ap, MatchResult, IfOk, IfErr, ◌⊎◌, nat_le, if◌then◌else◌, and_parts, and_left, and_right, leb-true, le-leb, lt-leb, bytes_eq-Decides, same_spots, Reads, StopsAt, Sentence, sentence_of, deepest, Line, Version, Two, canonical, line_of, IsTold, HasItsFields, LineFault, refusal, FileFault, same_bytes, canonical_by, line_told, arith}
 use Rattle.blob_file.specs.declared.fault.FileFault.TheVariants as fault
 
 -- a test in front of an answer
@@ -57,9 +57,6 @@ module _ (text : List ℕ) where
 
     pub spelled_whole : (result : Result Line FileFault) → HasItsFields line → IfOk result (λ same. (same ≡ line) × (same_bytes (canonical (sentence_of line)) text ≡ true)) → IfOk result HasItsFields
     spelled_whole result whole told = grind arith
-
-    pub spelled_short : (result : Result Line FileFault) → OnOk result (length text ≤ 4096)
-    spelled_short result = grind arith
 
     pub spelled_other : (result : Result Line FileFault) → IfErr result (λ found. (found ≡ fault.NoMemory) ⊎ ((found ≡ fault.Header) × (same_bytes (canonical (sentence_of line)) text ≡ false)))
         → IfErr result (λ found. (found ≡ fault.NoMemory) ⊎ ((found ≡ fault.Header) × (line_told text ≡ None)))

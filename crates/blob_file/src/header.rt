@@ -153,33 +153,13 @@ fn is_nameless(expr: &MapExpr) -> bool
     ensures { result ≡ is_nameless (term_of expr.now) }
 {
     match expr {
-        MapExpr::Split {
-            path: _,
-            first,
-            rest,
-        } => is_nameless(first) && is_nameless(rest),
-        MapExpr::Byteswap(inner) => is_nameless(inner),
-        MapExpr::Bytesplit(inner) => is_nameless(inner),
-        MapExpr::Change {
-            from: _,
-            to: _,
-            inner,
-        } => is_nameless(inner),
-        MapExpr::Count(inner) => is_nameless(inner),
-        MapExpr::Heat { granule: _, inner } => is_nameless(inner),
+        MapExpr::Split { first, rest, .. } => is_nameless(first) && is_nameless(rest),
+        MapExpr::Byteswap(inner)
+        | MapExpr::Bytesplit(inner)
+        | MapExpr::Change { inner, .. }
+        | MapExpr::Count(inner)
+        | MapExpr::Heat { inner, .. } => is_nameless(inner),
         MapExpr::Named(_) => false,
-        MapExpr::Aos { form: _, order: _ } => true,
-        MapExpr::Soa { form: _, order: _ } => true,
-        MapExpr::Aosoa { lanes: _, order: _ } => true,
-        MapExpr::BitAos {
-            width: _,
-            fields: _,
-            order: _,
-        } => true,
-        MapExpr::BitSoa {
-            width: _,
-            fields: _,
-            order: _,
-        } => true,
+        _ => true,
     }
 }

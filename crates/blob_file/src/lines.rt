@@ -83,8 +83,7 @@ fn refusal(fault: LineFault) -> FileFault
     ensures { result ≡ refusal fault }
 {
     match fault {
-        LineFault::Syntax { column: _ } => FileFault::Header,
-        LineFault::TooDeep => FileFault::Header,
+        LineFault::Syntax { .. } | LineFault::TooDeep => FileFault::Header,
         LineFault::NoMemory => FileFault::NoMemory,
     }
 }

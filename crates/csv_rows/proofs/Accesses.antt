@@ -1,13 +1,10 @@
 -- Accesses to the rows, one after another.
-use Rattle.csv_rows.proofs.Imports.{◌≡◌, ℕ, ◌+◌, ℤ, List, [], sym, ap, ◌∙◌, Write, Tally, row_accesses, all_accesses, tallied-none, after_log-append, after_stores-append, logs_more, Table, owners_of, leaf_count_of, after_log, after_stores}
+use Rattle.csv_rows.proofs.Imports.{◌≡◌, ℕ, ◌+◌, ℤ, List, [], sym, ap, ◌∙◌, Write, Tally, row_accesses, all_accesses, tallied-none, after_log-append, after_stores-append, logs_more, Table, owners_of, after_log, after_stores}
 use Rattle.views.specs.Prelude.{Read}
 
 -- no store
 pub after_stores-none : (seen : Table) → seen ≡ after_stores seen seen.rows []
 after_stores-none seen = ap (λ (tally : Tally). record seen { tally = tally }) (sym (tallied-none (owners_of seen) seen.tally))
-
-pub no_row_stored : (seen : Table) (rows : ℕ) → rows ≡ 0 → seen ≡ after_stores seen seen.rows (all_accesses Write (leaf_count_of seen) rows)
-no_row_stored seen rows none = rw none (after_stores-none seen)
 
 -- a row more
 pub row_written : (seen : Table) (table last : List (List ℤ)) (leaves row : ℕ) → after_stores (after_stores seen table (all_accesses Write leaves row)) last (row_accesses Write leaves row) ≡ after_stores seen last (all_accesses Write leaves (row + 1))

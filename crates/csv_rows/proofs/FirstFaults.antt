@@ -11,6 +11,12 @@ err_is {x = x} is = ap (err_or x) is
 rest_err : {X : Type 0} (x : X) (read : Result (List X) RowFault) (f : RowFault) → (read >>= (λ more. Ok (x ∷ more))) ≡ Err f → read ≡ Err f
 rest_err x read f is = grind (arith, err_is)
 
+-- the fault of what is read first, or of the others
+first_fault : {X : Type 0} (P : RowFault → Type 0) (first : Result X RowFault) (others : Result (List X) RowFault) (f : RowFault) → (first ≡ Err f → P f) → (others ≡ Err f → P f)
+    → (first >>= (λ x. others >>= (λ xs. Ok (x ∷ xs)))) ≡ Err f → P f
+first_fault P (Ok x) others f one more is = more (rest_err x others f is)
+first_fault P (Err fault) others f one more is = one (ap Err (err_is is))
+
 abbrev pub place_in : StoreMode → ℕ → ℕ → ℕ → LeafType → Hold → Place
 place_in mode row leaf column kind hold = record { row = row; leaf = leaf; column = column; mode = mode; kind = kind; hold = hold }
 
@@ -18,17 +24,10 @@ place_in mode row leaf column kind hold = record { row = row; leaf = leaf; colum
 pub of_row : (P : RowFault → Type 0) (mode : StoreMode) (row : ℕ) (fields : List (List ℕ))
     → ((leaf column : ℕ) (kind : LeafType) (hold : Hold) (f : RowFault) → value_at (place_in mode row leaf column kind hold) fields ≡ Err f → P f)
     → (leaf : ℕ) (columns : List ℕ) (kinds : List LeafType) (holds : List Hold) (f : RowFault) → row_values row fields leaf (with_columns mode columns kinds holds) ≡ Err f → P f
-of_row P mode row fields each leaf [] kinds holds f is = absurd (cc is)
-of_row P mode row fields each leaf (column ∷ columns) [] holds f is = absurd (cc is)
-of_row P mode row fields each leaf (column ∷ columns) (kind ∷ kinds) [] f is = absurd (cc is)
 of_row P mode row fields each leaf (column ∷ columns) (kind ∷ kinds) (hold ∷ holds) f is =
-    first (value_at (place_in mode row leaf column kind hold) fields) refl (of_row P mode row fields each (leaf + 1) columns kinds holds f) is
-  where
-    first : (found : Result ℤ RowFault) → value_at (place_in mode row leaf column kind hold) fields ≡ found
-        → (row_values row fields (leaf + 1) (with_columns mode columns kinds holds) ≡ Err f → P f)
-        → (found >>= (λ value. row_values row fields (leaf + 1) (with_columns mode columns kinds holds) >>= (λ values. Ok (value ∷ values)))) ≡ Err f → P f
-    first (Ok value) found more e = more (rest_err value (row_values row fields (leaf + 1) (with_columns mode columns kinds holds)) f e)
-    first (Err g) found more e = each leaf column kind hold f (found ∙ ap Err (err_is e))
+    first_fault P (value_at (place_in mode row leaf column kind hold) fields) (row_values row fields (leaf + 1) (with_columns mode columns kinds holds)) f
+    (each leaf column kind hold f) (of_row P mode row fields each (leaf + 1) columns kinds holds f) is
+of_row P mode row fields each leaf columns kinds holds f is = absurd (cc is)
 
 -- of rows
 of_rows : (P : RowFault → Type 0) (mode : StoreMode)
@@ -36,13 +35,8 @@ of_rows : (P : RowFault → Type 0) (mode : StoreMode)
     → (columns : List ℕ) (kinds : List LeafType) (holds : List Hold) (row : ℕ) (rows : List (List (List ℕ))) (f : RowFault) → table_from row rows (with_columns mode columns kinds holds) ≡ Err f → P f
 of_rows P mode each columns kinds holds row [] f is = absurd (cc is)
 of_rows P mode each columns kinds holds row (fields ∷ rows) f is =
-    first (row_values row fields 0 (with_columns mode columns kinds holds)) refl (of_rows P mode each columns kinds holds (row + 1) rows f) is
-  where
-    first : (found : Result (List ℤ) RowFault) → row_values row fields 0 (with_columns mode columns kinds holds) ≡ found
-        → (table_from (row + 1) rows (with_columns mode columns kinds holds) ≡ Err f → P f)
-        → (found >>= (λ values. table_from (row + 1) rows (with_columns mode columns kinds holds) >>= (λ rest. Ok (values ∷ rest)))) ≡ Err f → P f
-    first (Ok values) found more e = more (rest_err values (table_from (row + 1) rows (with_columns mode columns kinds holds)) f e)
-    first (Err g) found more e = of_row P mode row fields (each row fields) 0 columns kinds holds f (found ∙ ap Err (err_is e))
+    first_fault P (row_values row fields 0 (with_columns mode columns kinds holds)) (table_from (row + 1) rows (with_columns mode columns kinds holds)) f
+    (of_row P mode row fields (each row fields) 0 columns kinds holds f) (of_rows P mode each columns kinds holds (row + 1) rows f) is
 
 -- of a header that does not name each leaf once
 of_column : (P : RowFault → Type 0) → ((leaf : ℕ) → P (MissingColumn leaf)) → ((leaf : ℕ) → P (ColumnTwice leaf)) → (leaf : ℕ) (columns : List ℕ) (f : RowFault) → one_column leaf columns ≡ Err f → P f
@@ -52,12 +46,8 @@ pub of_header : (P : RowFault → Type 0) → ((leaf : ℕ) → P (MissingColumn
     → (header : List (List ℕ)) (leaf : ℕ) (names : List (List ℕ)) (f : RowFault) → columns_of header leaf names ≡ Err f → P f
 of_header P missing twice header leaf [] f is = absurd (cc is)
 of_header P missing twice header leaf (name ∷ names) f is =
-    first (one_column leaf (columns_named name (enumerate_from 0 header))) refl (of_header P missing twice header (leaf + 1) names f) is
-  where
-    first : (found : Result ℕ RowFault) → one_column leaf (columns_named name (enumerate_from 0 header)) ≡ found → (columns_of header (leaf + 1) names ≡ Err f → P f)
-        → (found >>= (λ column. columns_of header (leaf + 1) names >>= (λ columns. Ok (column ∷ columns)))) ≡ Err f → P f
-    first (Ok column) found more e = more (rest_err column (columns_of header (leaf + 1) names) f e)
-    first (Err g) found more e = of_column P missing twice leaf (columns_named name (enumerate_from 0 header)) f (found ∙ ap Err (err_is e))
+    first_fault P (one_column leaf (columns_named name (enumerate_from 0 header))) (columns_of header (leaf + 1) names) f
+    (of_column P missing twice leaf (columns_named name (enumerate_from 0 header)) f) (of_header P missing twice header (leaf + 1) names f) is
 
 -- a view that keeps low bits refuses no number
 number_taken : (place : Place) (number : Option ℤ) (f : RowFault) → (the_number place number >>= (λ value. taken place (store_answer Wrap place.kind place.hold value))) ≡ Err f → IsNoRefusal f

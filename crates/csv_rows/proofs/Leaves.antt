@@ -8,16 +8,13 @@ no_leaf = record { column = 0; mode = Strict; kind = Truth; hold = record { sign
 
 joined_length : (mode : StoreMode) (columns : List ℕ) (kinds : List LeafType) (holds : List Hold) → length columns ≡ length kinds → length holds ≡ length kinds → length (with_columns mode columns kinds holds) ≡ length columns
 joined_length mode [] kinds holds a b = refl
-joined_length mode (column ∷ columns) [] holds a b = absurd (omega arith)
-joined_length mode (column ∷ columns) (kind ∷ kinds) [] a b = absurd (omega arith)
 joined_length mode (column ∷ columns) (kind ∷ kinds) (hold ∷ holds) a b = ap suc (joined_length mode columns kinds holds (omega arith) (omega arith))
+joined_length mode columns kinds holds a b = absurd (omega arith)
 
 joined_at : (mode : StoreMode) (columns : List ℕ) (kinds : List LeafType) (holds : List Hold) (i : ℕ) → length columns ≡ length kinds → length holds ≡ length kinds → i < length columns → get_or (with_columns mode columns kinds holds) i no_leaf ≡ record { column = get_or columns i 0; mode = mode; kind = kind_at kinds i; hold = hold_at holds i }
-joined_at mode [] kinds holds i a b small = absurd (omega arith)
-joined_at mode (column ∷ columns) [] holds i a b small = absurd (omega arith)
-joined_at mode (column ∷ columns) (kind ∷ kinds) [] i a b small = absurd (omega arith)
 joined_at mode (column ∷ columns) (kind ∷ kinds) (hold ∷ holds) zero a b small = refl
 joined_at mode (column ∷ columns) (kind ∷ kinds) (hold ∷ holds) (suc i) a b small = joined_at mode columns kinds holds i (omega arith) (omega arith) (omega arith)
+joined_at mode columns kinds holds i a b small = absurd (omega arith)
 
 kinds_count : (seen : Table) → length (leaf_types_of seen) ≡ leaf_count_of seen
 kinds_count seen = length-map (leaves seen.fields) (λ leaf. leaf.kind)

@@ -52,15 +52,14 @@ StopsAt test (c ∷ text) = test c ≡ false
 same_fronts : (test : ℕ → Bool) (a b t u : List ℕ) → list_all test a ≡ true → list_all test b ≡ true → StopsAt test t → StopsAt test u → a ++ t ≡ b ++ u → (a ≡ b) × (t ≡ u)
 same_fronts test [] [] t u all_a all_b stop_t stop_u same = (refl, same)
 same_fronts test [] (c ∷ b) [] u all_a all_b stop_t stop_u same = cc same
-same_fronts test [] (c ∷ b) (d ∷ t) u all_a all_b stop_t stop_u same = grind (arith, both, list_all)
 same_fronts test (c ∷ a) [] t [] all_a all_b stop_t stop_u same = cc same
-same_fronts test (c ∷ a) [] t (d ∷ u) all_a all_b stop_t stop_u same = grind (arith, both, list_all)
 same_fronts test (c ∷ a) (d ∷ b) t u all_a all_b stop_t stop_u same =
     let here : c ≡ d = cc same in
     let more : a ++ t ≡ b ++ u = cc same in
     let rest = same_fronts test a b t u (both (test c) (list_all test a) all_a).1 (both (test d) (list_all test b) all_b).1 stop_t stop_u more in
     let joined : c ∷ a ≡ d ∷ b = cc (here, rest.0) in
     (joined, rest.1)
+same_fronts test a b t u all_a all_b stop_t stop_u same = grind (arith, both, list_all)
 
 tail_stops : (steps : List PathStep) → StopsAt continues_name (tail_text steps)
 tail_stops [] = tt
@@ -71,9 +70,6 @@ tail_stops (At number ∷ steps) = refl
 same_tails : (p q : List PathStep) → IsPlainPath p → IsPlainPath q → tail_text p ≡ tail_text q → p ≡ q
 same_tails [] [] plain_p plain_q same = refl
 same_tails [] (Name name ∷ q) plain_p plain_q same = cc same
-same_tails [] (At number ∷ q) plain_p plain_q same = cc same
-same_tails (Name name ∷ p) [] plain_p plain_q same = cc same
-same_tails (At number ∷ p) [] plain_p plain_q same = cc same
 same_tails (Name name ∷ p) (At number ∷ q) plain_p plain_q same = cc (name_text name p, at_text number q, same)
 same_tails (At number ∷ p) (Name name ∷ q) plain_p plain_q same = cc (at_text number p, name_text name q, same)
 same_tails (Name a ∷ p) (Name b ∷ q) plain_p plain_q same =
@@ -88,11 +84,10 @@ same_tails (At m ∷ p) (At n ∷ q) plain_p plain_q same =
     let tails : tail_text p ≡ tail_text q = cc parts.1 in
     let rest : p ≡ q = same_tails p q plain_p.1 plain_q.1 tails in
     cc (number, rest)
+same_tails p q plain_p plain_q same = cc same
 
 -- paths of one text are the same
 pub same_paths : (p q : List PathStep) → BeginsWithName p → BeginsWithName q → IsPlainPath p → IsPlainPath q → path_text_of p ≡ path_text_of q → p ≡ q
-same_paths [] q begins_p begins_q plain_p plain_q same = absurd begins_p
-same_paths (At number ∷ p) q begins_p begins_q plain_p plain_q same = absurd begins_p
-same_paths (Name a ∷ p) [] begins_p begins_q plain_p plain_q same = absurd begins_q
-same_paths (Name a ∷ p) (At number ∷ q) begins_p begins_q plain_p plain_q same = absurd begins_q
 same_paths (Name a ∷ p) (Name b ∷ q) begins_p begins_q plain_p plain_q same = grind (arith, same_fronts, name_letters, tail_stops, same_tails)
+same_paths (Name a ∷ p) q begins_p begins_q plain_p plain_q same = absurd begins_q
+same_paths p q begins_p begins_q plain_p plain_q same = absurd begins_p

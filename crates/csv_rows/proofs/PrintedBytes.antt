@@ -1,5 +1,6 @@
 -- The bytes of names and of decimal texts, which stand in a line as they are.
-use Rattle.csv_rows.proofs.Imports.{◌≡◌, ℕ, suc, ◌+◌, ◌*◌, ◌/◌, ◌%◌, ◌^◌, ◌<◌, ◌≤◌, Bool, true, false, nat_eq, List, [], ◌∷◌, ◌++◌, get_or, reverse, ℤ, pos, negsuc, neg_ℤ, Some, refl, sym, ap, subst, ◌∙◌, arith, All, list_all, is_ascii_digit, digit_value, decimal, digits_value, digits_value_after, nat_tests, decimal_by_steps_wide, reverse-reverse, reverse-append, list_all-append, AllPass-from_list_all, digit_value_digit, continues_name, both, digits_text, decimal_text, decimal-digits_text, is_blank, behind_blanks, before_blanks, unspaced, digits_number, number_behind_sign, is_comma, is_line_end, and_from, not, ◌||◌, option_map}
+use Rattle.csv_rows.proofs.Imports.{◌≡◌, ℕ, ◌+◌, ◌*◌, ◌/◌, ◌%◌, ◌^◌, ◌<◌, ◌≤◌, Bool, true, false, nat_eq, List, [], ◌∷◌, ◌++◌, get_or, reverse, ℤ, pos, neg_ℤ, Some, refl, sym, ap, subst, ◌∙◌, arith, All, list_all, is_ascii_digit, digit_value, decimal, digits_value, digits_value_after, nat_tests, decimal_by_steps_wide, reverse-reverse, reverse-append, list_all-append, AllPass-from_list_all, digit_value_digit, continues_name, both, digits_text, decimal-digits_text, is_blank, behind_blanks, before_blanks, unspaced, digits_number, number_behind_sign, is_comma, is_line_end, and_from, false_from_ne_true, not, ◌||◌, option_map}
+use Rattle.csv_rows.proofs.PlainLines.{number_is}
 use Rattle.csv_rows.proofs.PlainTexts.{is_plain_byte, is_plain_text}
 
 -- what each byte of two texts is, each of both together is
@@ -71,16 +72,12 @@ pub digits_are : (n : ℕ) → n < 10 ^ 64 → AreDigits n (digits_text n)
 digits_are n small = subst (AreDigits n) (decimal-digits_text n small) (decimal_are n small)
 
 -- a byte of a name is plain, and so is a digit
+another : (c n : ℕ) → continues_name c ≡ true → continues_name n ≡ false → nat_eq c n ≡ false
+another c n letter other = false_from_ne_true (nat_eq c n) (λ same. cc (sym letter ∙ ap continues_name (number_is c n same) ∙ other))
+
 plain_letter : (c : ℕ) → continues_name c ≡ true → is_plain_byte c ≡ true
 plain_letter c letter =
-    let a : nat_eq c 9 ≡ false = grind (arith, nat_tests) in
-    let b : nat_eq c 10 ≡ false = grind (arith, nat_tests) in
-    let d : nat_eq c 13 ≡ false = grind (arith, nat_tests) in
-    let e : nat_eq c 32 ≡ false = grind (arith, nat_tests) in
-    let f : nat_eq c 34 ≡ false = grind (arith, nat_tests) in
-    let g : nat_eq c 44 ≡ false = grind (arith, nat_tests) in
-    let h : nat_eq c 239 ≡ false = grind (arith, nat_tests) in
-    rw (a, b, d, e, f, g, h) refl
+    rw (another c 9 letter refl, another c 10 letter refl, another c 13 letter refl, another c 32 letter refl, another c 34 letter refl, another c 44 letter refl, another c 239 letter refl) refl
 
 pub plain_letters : (xs : List ℕ) → list_all continues_name xs ≡ true → list_all is_plain_byte xs ≡ true
 plain_letters [] letters = refl
@@ -121,7 +118,3 @@ digits_write n text digits = grind (arith, plain_digits, both, is_ascii_digit, l
 
 pub minus_writes : (n : ℕ) (text : List ℕ) → AreDigits n text → IsNumberText (neg_ℤ (pos n)) (45 ∷ text)
 minus_writes n text digits = grind (arith, plain_digits, option_map, neg_ℤ, digits_read)
-
-pub number_text : (z : ℤ) → ((n : ℕ) → z ≡ pos n → n < 10 ^ 64) → ((n : ℕ) → z ≡ negsuc n → suc n < 10 ^ 64) → IsNumberText z (decimal_text z)
-number_text (pos n) small low = digits_write n (digits_text n) (digits_are n (small n refl))
-number_text (negsuc n) small low = minus_writes (suc n) (digits_text (suc n)) (digits_are (suc n) (low n refl))

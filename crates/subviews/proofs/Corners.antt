@@ -1,5 +1,6 @@
 -- Whether a term reads inside the array is seen at two rows of a window: its first and its last.
-use Rattle.subviews.proofs.Imports.{◌≡◌, ℕ, ◌+◌, ◌-◌, ◌<◌, ◌≤ℤ◌, Bool, true, false, ℤ, pos, neg_ℤ, ◌+ℤ◌, ◌-ℤ◌, List, [], ◌∷◌, length, map, get_or, Contains, Some, refl, ap, sym, subst, ◌∙◌, arith, ◌&&◌, ◌||◌, ◌==◌, nat_lt, int_le, slice_get, list_all, position_or_len, signed_items, and_parts, ltb-true, lt-ltb, cases_lt, nat_tests, ints, AllPass-from_list_all, list_all-from_AllPass, passes_at_first, fails_before_first, slice_get-get_or, slice_get_within, get_or_from_slice_get, indices, IsInside, inside_of_entry, row_of_inside, Span, IsWindow, sizes, moved, window_count, window_row, moved_inside, same_rank, index_at, index_at_inside, WindowOf, rows_of, away, is_index, row_from, is_offset, reaches, stays, all_stay}
+use Rattle.subviews.proofs.Imports.{◌≡◌, ℕ, ◌+◌, ◌-◌, ◌<◌, ◌≤ℤ◌, Bool, true, false, ℤ, pos, neg_ℤ, ◌+ℤ◌, ◌-ℤ◌, List, [], ◌∷◌, length, map, get_or, Contains, Some, refl, ap, sym, subst, ◌∙◌, arith, ◌&&◌, ◌||◌, ◌==◌, nat_lt, int_le, slice_get, list_all, position_or_len, signed_items, and_parts, ltb-true, lt-ltb, cases_lt, nat_tests, ints, AllPass-from_list_all, list_all-from_AllPass, fails_before_first, slice_get-get_or, slice_get_within, get_or_from_slice_get, indices, IsInside, inside_of_entry, row_of_inside, Span, IsWindow, sizes, moved, window_count, window_row, moved_inside, same_rank, index_at, index_at_inside, WindowOf, rows_of, away, is_index, row_from, is_offset, reaches, stays, all_stay}
+use Rattle.subviews.proofs.Ways.{found}
 
 -- two tests that hold of the same
 same_test : (a b : Bool) → (a ≡ true → b ≡ true) → (b ≡ true → a ≡ true) → a ≡ b
@@ -66,12 +67,6 @@ record IsTarget (extents : List ℕ) (components : List ℤ) : Type 0 where
 target : (extents : List ℕ) (spans : List Span) (index : List ℕ) (offsets : List ℤ) → IsInside (sizes spans) index → length spans ≡ length extents → length offsets ≡ length extents
     → all_stay extents spans offsets ≡ true → IsTarget extents (away (moved spans index) offsets)
 target [] [] [] [] inside ranked long stay = record { to = []; inside = tt; is = refl }
-target [] [] [] (o ∷ offsets) inside ranked long stay = absurd (omega (arith, long))
-target [] [] (i ∷ index) offsets inside ranked long stay = absurd inside
-target [] (span ∷ spans) index offsets inside ranked long stay = absurd (omega (arith, ranked))
-target (extent ∷ extents) [] index offsets inside ranked long stay = absurd (omega (arith, ranked))
-target (extent ∷ extents) (span ∷ spans) [] offsets inside ranked long stay = absurd inside
-target (extent ∷ extents) (span ∷ spans) (i ∷ index) [] inside ranked long stay = absurd (omega (arith, long))
 target (extent ∷ extents) (span ∷ spans) (i ∷ index) (o ∷ offsets) inside ranked long stay =
     let both = and_parts (stays extent span o) (all_stay extents spans offsets) stay in
     let two = and_parts (int_le (neg_ℤ (pos span.from)) o) (int_le o (pos extent -ℤ pos span.end)) both.0 in
@@ -83,6 +78,7 @@ target (extent ∷ extents) (span ∷ spans) (i ∷ index) (o ∷ offsets) insid
       inside = (below here.0 extent i span.from span.end o (sym here.1) inside.0 two.1, rest.inside);
       is = ap (λ (z : ℤ). z ∷ map pos rest.to) (sym here.1) ∙ ap (λ (zs : List ℤ). (pos (span.from + i) +ℤ o) ∷ zs) rest.is;
     }
+target extents spans index offsets inside ranked long stay = absurd (grind arith)
 
 -- an index of the array with these components is found
 found_below : (e to : List ℕ) (components : List ℤ) → IsInside e to → map pos to ≡ components → position_or_len (is_index components) (indices e) < length (indices e)
@@ -95,43 +91,27 @@ found_below e to components inside is =
 -- ---- where every row reaches, every dimension stays
 
 abbrev zeros : List ℕ → List ℕ
-zeros [] = []
-zeros (n ∷ ns) = 0 ∷ zeros ns
+zeros ns = map (λ (n : ℕ). 0) ns
 
 abbrev tops : List ℕ → List ℕ
-tops [] = []
-tops (n ∷ ns) = (n - 1) ∷ tops ns
+tops ns = map (λ (n : ℕ). n - 1) ns
 
-zeros_inside : (ns index : List ℕ) → IsInside ns index → IsInside ns (zeros ns)
-zeros_inside [] [] inside = tt
-zeros_inside [] (i ∷ index) inside = absurd inside
-zeros_inside (n ∷ ns) [] inside = absurd inside
-zeros_inside (n ∷ ns) (i ∷ index) inside = (omega (arith, inside.0), zeros_inside ns index inside.1)
-
-tops_inside : (ns index : List ℕ) → IsInside ns index → IsInside ns (tops ns)
-tops_inside [] [] inside = tt
-tops_inside [] (i ∷ index) inside = absurd inside
-tops_inside (n ∷ ns) [] inside = absurd inside
-tops_inside (n ∷ ns) (i ∷ index) inside = (omega (arith, inside.0), tops_inside ns index inside.1)
+-- where some index is inside, each number can be made less
+map_inside : (f : ℕ → ℕ) → ((n : ℕ) → 0 < n → f n < n) → (ns index : List ℕ) → IsInside ns index → IsInside ns (map f ns)
+map_inside f less [] [] inside = tt
+map_inside f less (n ∷ ns) (i ∷ index) inside = (less n (omega (arith, inside.0)), map_inside f less ns index inside.1)
+map_inside f less ns index inside = absurd inside
 
 stays_by_corners : (extents : List ℕ) (spans : List Span) (offsets : List ℤ) (index low high : List ℕ) → IsInside (sizes spans) index → IsInside extents low → IsInside extents high
     → map pos low ≡ away (moved spans (zeros (sizes spans))) offsets → map pos high ≡ away (moved spans (tops (sizes spans))) offsets → all_stay extents spans offsets ≡ true
-stays_by_corners [] spans offsets index low high inside a b first last = refl
-stays_by_corners (extent ∷ extents) [] offsets index low high inside a b first last = refl
-stays_by_corners (extent ∷ extents) (span ∷ spans) [] index low high inside a b first last = refl
-stays_by_corners (extent ∷ extents) (span ∷ spans) (o ∷ offsets) [] low high inside a b first last = absurd inside
-stays_by_corners (extent ∷ extents) (span ∷ spans) (o ∷ offsets) (i ∷ index) [] high inside a b first last = absurd a
-stays_by_corners (extent ∷ extents) (span ∷ spans) (o ∷ offsets) (i ∷ index) (l ∷ low) [] inside a b first last = absurd b
 stays_by_corners (extent ∷ extents) (span ∷ spans) (o ∷ offsets) (i ∷ index) (l ∷ low) (h ∷ high) inside a b first last =
     let one : pos l ≡ pos (span.from + 0) +ℤ o = cc in
     let two : pos h ≡ pos (span.from + (span.end - span.from - 1)) +ℤ o = cc in
     let rest : map pos low ≡ away (moved spans (zeros (sizes spans))) offsets = cc in
     let rest' : map pos high ≡ away (moved spans (tops (sizes spans))) offsets = cc in
     rw (stays_of extent span i l h o inside.0 b.0 one two) (stays_by_corners extents spans offsets index low high inside.1 a.1 b.1 rest rest')
-
--- the index that a row leads to
-led : (e : List ℕ) (row : ℕ) (offsets : List ℤ) → row_from e row offsets < length (indices e) → map pos (index_at e (row_from e row offsets)) ≡ away (index_at e row) offsets
-led e row offsets small = grind (arith, signed_items, passes_at_first)
+stays_by_corners (extent ∷ extents) (span ∷ spans) (o ∷ offsets) index low high inside a b first last = absurd (grind arith)
+stays_by_corners extents spans offsets index low high inside a b first last = refl
 
 -- ---- both together
 
@@ -152,14 +132,14 @@ module _ (window : WindowOf) (offsets : List ℤ) (is : IsWindow window.0 window
       let e = window.0 in
       let pass = AllPass-from_list_all (lands window offsets) (rows_of window) all in
       let some = row_at_place window is k 0 small in
-      let low = row_of_index window is (zeros (sizes window.1)) (zeros_inside (sizes window.1) some.index some.inside) in
-      let high = row_of_index window is (tops (sizes window.1)) (tops_inside (sizes window.1) some.index some.inside) in
+      let low = row_of_index window is (zeros (sizes window.1)) (map_inside (λ (n : ℕ). 0) (λ n less. less) (sizes window.1) some.index some.inside) in
+      let high = row_of_index window is (tops (sizes window.1)) (map_inside (λ (n : ℕ). n - 1) (λ n less. omega (arith, less)) (sizes window.1) some.index some.inside) in
       let land : (row : ℕ) → Contains (rows_of window) row → row_from e row offsets < length (indices e) = λ row held.
       ltb-true (row_from e row offsets) (length (indices e)) (sym (ap (lands window offsets) held.2) ∙ pass held.0 row held.1) in
       stays_by_corners e window.1 offsets some.index (index_at e (row_from e low.row offsets)) (index_at e (row_from e high.row offsets)) some.inside
       (index_at_inside e (row_from e low.row offsets) (land low.row low.held)) (index_at_inside e (row_from e high.row offsets) (land high.row high.held))
-      (led e low.row offsets (land low.row low.held) ∙ ap (λ (index : List ℕ). away index offsets) low.is)
-      (led e high.row offsets (land high.row high.held) ∙ ap (λ (index : List ℕ). away index offsets) high.is)
+      (found e low.row offsets (land low.row low.held) ∙ ap (λ (index : List ℕ). away index offsets) low.is)
+      (found e high.row offsets (land high.row high.held) ∙ ap (λ (index : List ℕ). away index offsets) high.is)
 
   land_is : list_all (lands window offsets) (rows_of window) ≡ ((length (rows_of window) == 0) || all_stay window.0 window.1 offsets)
   land_is = of_rows (rows_of window) refl where

@@ -19,7 +19,7 @@ pub use Rattle.extents.specs.WindowLaws.{numbers_of, inside_length, window_count
 pub use Rattle.extents.specs.declared.window.Span.{Span}
 pub use Rattle.map_checks.specs.Prelude.{IsBuiltTerm}
 pub use Rattle.map_expr.specs.Terms.{uncounted}
-pub use Rattle.layout_io.specs.Prelude.{Puts, HasPut, Puts-append, Writes-puts_err, Puts-stop, Puts-loop_err, flat_map_push, decimal_text}
+pub use Rattle.layout_io.specs.Prelude.{HasPut, Writes-puts_err, Puts-stop, Puts-loop_err, decimal_text}
 pub use Rattle.record_dim.specs.declared.leaf_type.LeafType.TheVariants.{Bool as Truth}
 pub use Rattle.extents.specs.IndicesLaws.{place, entry_at, same_row, inside_of_entry, row_of_inside}
 pub use Rattle.linearize.specs.Slots.{index_at}

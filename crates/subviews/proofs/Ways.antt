@@ -30,11 +30,6 @@ found e row offsets small = grind (arith, signed_items, passes_at_first)
 pub same_way : (e one to other toward : List ℕ) (offsets : List ℤ) → IsInside e one → IsInside e to → IsInside e other → IsInside e toward
     → map pos to ≡ away one offsets → map pos toward ≡ away other offsets → place e to + place e other ≡ place e toward + place e one
 same_way [] one to other toward offsets a b c d first second = refl
-same_way (n ∷ ns) [] to other toward offsets a b c d first second = absurd a
-same_way (n ∷ ns) (i ∷ one) [] other toward offsets a b c d first second = absurd b
-same_way (n ∷ ns) (i ∷ one) (j ∷ to) [] toward offsets a b c d first second = absurd c
-same_way (n ∷ ns) (i ∷ one) (j ∷ to) (i' ∷ other) [] offsets a b c d first second = absurd d
-same_way (n ∷ ns) (i ∷ one) (j ∷ to) (i' ∷ other) (j' ∷ toward) [] a b c d first second = absurd (cc)
 same_way (n ∷ ns) (i ∷ one) (j ∷ to) (i' ∷ other) (j' ∷ toward) (offset ∷ offsets) a b c d first second =
     let here : pos j ≡ pos i +ℤ offset = cc in
     let there : pos j' ≡ pos i' +ℤ offset = cc in
@@ -43,6 +38,7 @@ same_way (n ∷ ns) (i ∷ one) (j ∷ to) (i' ∷ other) (j' ∷ toward) (offse
     let heads : j + i' ≡ j' + i = omega (arith, ints, here, there) in
     let blocks : (j + i') * product ns ≡ (j' + i) * product ns = ap (λ (x : ℕ). x * product ns) heads in
     omega (arith, blocks, same_way ns one to other toward offsets a.1 b.1 c.1 d.1 rest rest')
+same_way e one to other toward offsets a b c d first second = absurd (grind arith)
 
 place_at : (e : List ℕ) (row : ℕ) → row < length (indices e) → place e (index_at e row) ≡ row
 place_at e row small = (entry_at e row (index_at e row) (entry_of_row e row small)).1
@@ -66,21 +62,19 @@ far_from_one window offsets first far reach held is = λ row in_rows.
 
 pub away_at : (index to : List ℕ) (offsets : List ℤ) (d : ℕ) → map pos to ≡ away index offsets → d < length to → pos (get_or to d 0) ≡ pos (get_or index d 0) +ℤ get_or offsets d (pos 0)
 away_at index [] offsets d is small = absurd (omega (arith, small))
-away_at [] (j ∷ to) offsets d is small = absurd (cc)
-away_at (i ∷ index) (j ∷ to) [] d is small = absurd (cc)
 away_at (i ∷ index) (j ∷ to) (offset ∷ offsets) zero is small = cc
 away_at (i ∷ index) (j ∷ to) (offset ∷ offsets) (suc d) is small =
     let rest : map pos to ≡ away index offsets = cc in away_at index to offsets d rest (omega (arith, small))
+away_at index to offsets d is small = absurd (cc)
 
 -- the index that is so far away from that of a row
 abbrev pub target : WindowOf → List ℤ → ℕ → List ℕ
 target window offsets first = index_at window.0 (row_from window.0 first offsets)
 
 inside_small : (e index : List ℕ) (d : ℕ) → All (λ n. n < 2 ^ 32) e → IsInside e index → d < length e → get_or index d 0 < 2 ^ 32
-inside_small [] index d narrow inside small = absurd (omega (arith, small))
-inside_small (n ∷ ns) [] d narrow inside small = absurd inside
 inside_small (n ∷ ns) (i ∷ index) zero narrow inside small = (let first : n < 2 ^ 32 = narrow 0 0 (omega arith) in omega (arith, inside.0, first))
 inside_small (n ∷ ns) (i ∷ index) (suc d) narrow inside small = inside_small ns index d (λ k other low. narrow (suc k) other (omega (arith, low))) inside.1 (omega (arith, small))
+inside_small ns index d narrow inside small = absurd (grind arith)
 
 -- what stands at a place among the rows of a window is one of them
 pub row_held : (window : WindowOf) (k row : ℕ) → slice_get (rows_of window) k ≡ Some row → Contains (rows_of window) row

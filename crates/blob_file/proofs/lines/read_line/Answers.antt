@@ -1,5 +1,6 @@
 use Rattle.blob_file.proofs.Imports.{inr, refl}
-use Rattle.blob_file.proofs.Told.{told_long, refused_line, spelled_told, spelled_whole, spelled_short, spelled_other}
+use Rattle.blob_file.proofs.Refused.{on_ok}
+use Rattle.blob_file.proofs.Told.{told_long, refused_line, spelled_told, spelled_whole, spelled_other}
 use Rattle.blob_file.proofs.lines.read_line.Goals as goal
 
 pub returns-then-text-gt-MAX_LINE_BYTES-clause-refused : goal.returns-then-text-gt-MAX_LINE_BYTES-clause-refused
@@ -17,6 +18,6 @@ returns-in-Ok c =
     record {
       told = spelled_told text line short told.0 told.1 c.spelled.result c.spelled.ensures.same;
       whole = spelled_whole text line short told.0 told.1 c.spelled.result c.in-Ok.ensures.whole c.spelled.ensures.same;
-      short = spelled_short text line short told.0 told.1 c.spelled.result;
+      short = on_ok c.spelled.result short;
       refused = spelled_other text line short told.0 told.1 c.spelled.result c.spelled.ensures.other;
     }

@@ -1,5 +1,5 @@
-use Rattle.csv_rows.proofs.Imports.{rules, ◌≡◌, ◌<◌, ◌∙◌, List, ℕ, [], ◌∷◌, ap, sym, length, arith, true, false, inr, Err, length-map, texts_of, header_record, MissingColumn}
-use Rattle.csv_rows.proofs.Tables.{IsKnown, header_refused, no_header, dataset_loaded, dataset_refused, dataset_keeps}
+use Rattle.csv_rows.proofs.Imports.{rules, ◌≡◌, ◌⊎◌, ◌<◌, ◌∙◌, List, ℕ, ℤ, Result, Ok, OnOk, IfErr, subst, RowFault, NoMemory, [], ◌∷◌, ap, sym, length, arith, true, false, inr, Err, length-map, texts_of, header_record, MissingColumn}
+use Rattle.csv_rows.proofs.Tables.{header_refused, no_header, known_columns, dataset_keeps}
 use Rattle.csv_rows.proofs.load.load_from.Goals as goal
 
 pub returns-in_err-columns-clause-refused : goal.returns-in_err-columns-clause-refused
@@ -19,32 +19,21 @@ returns-then-not-branch-clause-refused g c =
     let some : 0 < length (texts_of c.args.view.now.fields) = simp length-map (omega (arith, c.leaf_count-leaf_count.ensures.some, count)) in
     (header_refused c.args.view.now (g.R.Records.left c.args.records.now) [] (MissingColumn 0) (ap header_record (sym none)) (inr (no_header (texts_of c.args.view.now.fields) some))).0
 
-pub returns-clause-loaded : goal.returns-clause-loaded
-returns-clause-loaded g c =
+pub returns : goal.returns
+returns g c =
     let found : c.in_ok-next.field-0 ≡ true = search rules in
     let read = rw found at c.in_ok-next.ensures in
     let columns = rw c.schema-2.ensures.value at c.in_ok-columns.ensures.found in
+    let seen = c.args.view.now in
+    let records = g.R.Records.left c.args.records.now in
     let fields = g.R.Records.fields c.next.new.self in
     let rows = g.R.Records.left c.leaf_columns.new.header in
-    let known : IsKnown c.args.view.now (g.R.Records.left c.args.records.now) rows c.in_ok-columns.columns.items = record { header = fields; parts = read.1 ∙ ap (λ (others : List (List (List ℕ))). fields ∷ others) (sym c.in_ok-columns.ensures.asked.behind); found = columns } in
-    dataset_loaded c.args.view.now (g.R.Records.left c.args.records.now) rows c.in_ok-columns.columns.items c.load_records.new.view.rows c.load_records.result known (rw c.as_slice.ensures.value at c.load_records.ensures.loaded)
-
-pub returns-clause-refused : goal.returns-clause-refused
-returns-clause-refused g c =
-    let found : c.in_ok-next.field-0 ≡ true = search rules in
-    let read = rw found at c.in_ok-next.ensures in
-    let columns = rw c.schema-2.ensures.value at c.in_ok-columns.ensures.found in
-    let fields = g.R.Records.fields c.next.new.self in
-    let rows = g.R.Records.left c.leaf_columns.new.header in
-    let known : IsKnown c.args.view.now (g.R.Records.left c.args.records.now) rows c.in_ok-columns.columns.items = record { header = fields; parts = read.1 ∙ ap (λ (others : List (List (List ℕ))). fields ∷ others) (sym c.in_ok-columns.ensures.asked.behind); found = columns } in
-    dataset_refused c.args.view.now (g.R.Records.left c.args.records.now) rows c.in_ok-columns.columns.items c.load_records.result known (rw c.as_slice.ensures.value at c.load_records.ensures.refused)
-
-pub returns-clause-kept : goal.returns-clause-kept
-returns-clause-kept g c =
-    let found : c.in_ok-next.field-0 ≡ true = search rules in
-    let read = rw found at c.in_ok-next.ensures in
-    let columns = rw c.schema-2.ensures.value at c.in_ok-columns.ensures.found in
-    let fields = g.R.Records.fields c.next.new.self in
-    let rows = g.R.Records.left c.leaf_columns.new.header in
-    let known : IsKnown c.args.view.now (g.R.Records.left c.args.records.now) rows c.in_ok-columns.columns.items = record { header = fields; parts = read.1 ∙ ap (λ (others : List (List (List ℕ))). fields ∷ others) (sym c.in_ok-columns.ensures.asked.behind); found = columns } in
-    dataset_keeps c.args.view.now (g.R.Records.left c.args.records.now) rows c.in_ok-columns.columns.items c.load_records.new.view c.load_records.result known (rw c.as_slice.ensures.value at c.load_records.ensures.kept)
+    let result = c.load_records.result in
+    let parts : records ≡ fields ∷ rows = read.1 ∙ ap (λ (others : List (List (List ℕ))). fields ∷ others) (sym c.in_ok-columns.ensures.asked.behind) in
+    let is = known_columns seen records fields rows c.in_ok-columns.columns.items parts columns in
+    record {
+      loaded = subst (λ (table : Result (List (List ℤ)) RowFault). OnOk result (table ≡ Ok c.load_records.new.view.rows)) (sym is) (rw c.as_slice.ensures.value at c.load_records.ensures.loaded);
+      refused = subst (λ (table : Result (List (List ℤ)) RowFault). IfErr result (λ f. (f ≡ NoMemory) ⊎ (table ≡ Err f))) (sym is) (rw c.as_slice.ensures.value at c.load_records.ensures.refused);
+      kept = dataset_keeps seen records fields rows c.in_ok-columns.columns.items c.load_records.new.view result parts columns (rw c.as_slice.ensures.value at c.load_records.ensures.kept);
+      same = c.load_records.ensures.same;
+    }

@@ -1,51 +1,40 @@
 use Rattle.subviews.proofs.Imports.{◌<◌, ◌≤◌, ◌∙◌, ℕ, ℤ, pos, List, FitsSigned, w64, length, get_or, ap, arith, ints, indices, index_at_inside, row_from}
-use Rattle.subviews.proofs.Ways.{row_held, row_inside, reach_inside, step_at, step_more, whole_target, landed, far_from_one}
+use Rattle.subviews.proofs.Ways.{IsStep, target, row_held, row_inside, reach_inside, step_at, step_more, whole_target, landed, far_from_one}
 use Rattle.subviews.proofs.far.far_of.Goals as goal
+use Rattle.subviews.proofs.far.far_of.Goals.{After-deref}
+
+-- a component of the index so far away, that of the first row, and how far away it lies
+step : (c : After-deref) → IsStep (get_or (target c.args.window.now c.args.offsets.now.items c.outer-first.result) c.loop-dimension.dimension 0) (get_or c.deref.result.now c.loop-dimension.dimension 0) (get_or c.args.offsets.now.items c.loop-dimension.dimension (pos 0))
+step c =
+    rw c.deref.ensures.0 (step_at c.args.window.now c.args.offsets.now.items c.outer-first.result c.loop-dimension.dimension c.extents-extents.result c.index_of-from.result.items c.extents-extents.ensures c.rank-dimension-end.ensures.extents c.requires.reach
+    c.outer-first.ensures.entry c.index_of-from.ensures.entry (omega (arith, c.loop-dimension-test.true, c.rank-dimension-end.ensures.value)))
 
 pub overflow_cast-deref : goal.overflow_cast-deref
-overflow_cast-deref c =
-    let offsets = c.args.offsets.now.items in
-    let d = c.loop-dimension.dimension in
-    let step = step_at c.args.window.now offsets c.outer-first.result d c.extents-extents.result c.index_of-from.result.items c.extents-extents.ensures c.rank-dimension-end.ensures.extents c.requires.reach
-    c.outer-first.ensures.entry c.index_of-from.ensures.entry (omega (arith, c.loop-dimension-test.true, c.rank-dimension-end.ensures.value)) in
-    omega (arith, ints, step.near, ap (λ (index : List ℕ). get_or index d 0) c.deref.ensures.0)
+overflow_cast-deref c = let here = step (goal.at.overflow_cast-deref c).After-deref in omega (arith, ints, here.near)
 
 pub overflow_add-deref : goal.overflow_add-deref
 overflow_add-deref c =
-    let offsets = c.args.offsets.now.items in
-    let d = c.loop-dimension.dimension in
-    let step = step_at c.args.window.now offsets c.outer-first.result d c.extents-extents.result c.index_of-from.result.items c.extents-extents.ensures c.rank-dimension-end.ensures.extents c.requires.reach
-    c.outer-first.ensures.entry c.index_of-from.ensures.entry (omega (arith, c.loop-dimension-test.true, c.rank-dimension-end.ensures.value)) in
-    let shown = ap (λ (index : List ℕ). get_or index d 0) c.deref.ensures.0 in
-    let offered = ap (λ (list : List ℤ). get_or list d (pos 0)) c.deref-in-loop-dimension.ensures.0 in
-    let fits : FitsSigned w64 (get_or c.deref-in-loop-dimension.result.now d (pos 0)) = omega (arith, ints, step.away, step.small, step.near, offered) in
-    omega (arith, ints, step.away, step.small, step.near, shown, offered, fits)
+    let here = step (goal.at.overflow_add-deref c).After-deref in
+    let offered = ap (λ (list : List ℤ). get_or list c.loop-dimension.dimension (pos 0)) c.deref-in-loop-dimension.ensures.0 in
+    let fits : FitsSigned w64 (get_or c.deref-in-loop-dimension.result.now c.loop-dimension.dimension (pos 0)) = omega (arith, ints, here.away, here.small, here.near, offered) in
+    omega (arith, ints, here.away, here.small, here.near, offered, fits)
 
 pub overflow_cast-deref-in-loop-dimension : goal.overflow_cast-deref-in-loop-dimension
 overflow_cast-deref-in-loop-dimension c =
-    let offsets = c.args.offsets.now.items in
-    let d = c.loop-dimension.dimension in
-    let step = step_at c.args.window.now offsets c.outer-first.result d c.extents-extents.result c.index_of-from.result.items c.extents-extents.ensures c.rank-dimension-end.ensures.extents c.requires.reach
-    c.outer-first.ensures.entry c.index_of-from.ensures.entry (omega (arith, c.loop-dimension-test.true, c.rank-dimension-end.ensures.value)) in
-    let shown = ap (λ (index : List ℕ). get_or index d 0) c.deref.ensures.0 in
-    let offered = ap (λ (list : List ℤ). get_or list d (pos 0)) c.deref-in-loop-dimension.ensures.0 in
-    let fits : FitsSigned w64 (get_or c.deref-in-loop-dimension.result.now d (pos 0)) = omega (arith, ints, step.away, step.small, step.near, offered) in
-    omega (arith, ints, step.away, step.small, step.near, shown, offered, fits)
+    let here = step (goal.at.overflow_cast-deref-in-loop-dimension c).After-deref in
+    let offered = ap (λ (list : List ℤ). get_or list c.loop-dimension.dimension (pos 0)) c.deref-in-loop-dimension.ensures.0 in
+    let fits : FitsSigned w64 (get_or c.deref-in-loop-dimension.result.now c.loop-dimension.dimension (pos 0)) = omega (arith, ints, here.away, here.small, here.near, offered) in
+    omega (arith, ints, here.away, here.small, here.near, offered, fits)
 
 pub loop-dimension-preserved : goal.loop-dimension-preserved
 loop-dimension-preserved c =
-    let window = c.args.window.now in
-    let offsets = c.args.offsets.now.items in
-    let first = c.outer-first.result in
     let d = c.loop-dimension.dimension in
     let within : d < length c.extents-extents.result = omega (arith, c.loop-dimension-test.true, c.rank-dimension-end.ensures.value) in
-    let step = step_at window offsets first d c.extents-extents.result c.index_of-from.result.items c.extents-extents.ensures c.rank-dimension-end.ensures.extents c.requires.reach
-    c.outer-first.ensures.entry c.index_of-from.ensures.entry within in
-    let shown = ap (λ (index : List ℕ). get_or index d 0) c.deref.ensures.0 in
+    let here = step (goal.at.loop-dimension-preserved c).After-deref in
     let offered = ap (λ (list : List ℤ). get_or list d (pos 0)) c.deref-in-loop-dimension.ensures.0 in
-    let fits : FitsSigned w64 (get_or c.deref-in-loop-dimension.result.now d (pos 0)) = omega (arith, ints, step.away, step.small, step.near, offered) in
-    step_more window offsets first d c.loop-dimension.index.items c.push.new.self.items _ c.requires.reach c.outer-first.ensures.entry
-    (omega (arith, within, ap (λ (e : List ℕ). length e) c.extents-extents.ensures)) c.loop-dimension.invariant c.push.ensures.items (omega (arith, ints, step.away, step.small, step.near, shown, offered, fits))
+    let fits : FitsSigned w64 (get_or c.deref-in-loop-dimension.result.now d (pos 0)) = omega (arith, ints, here.away, here.small, here.near, offered) in
+    step_more c.args.window.now c.args.offsets.now.items c.outer-first.result d c.loop-dimension.index.items c.push.new.self.items _ c.requires.reach c.outer-first.ensures.entry
+    (omega (arith, within, ap (λ (e : List ℕ). length e) c.extents-extents.ensures)) c.loop-dimension.invariant c.push.ensures.items (omega (arith, ints, here.away, here.small, here.near, offered, fits))
 
 pub row_of-requires : goal.row_of-requires
 row_of-requires c =

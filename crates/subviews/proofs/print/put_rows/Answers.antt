@@ -1,6 +1,7 @@
 use Rattle.subviews.proofs.Imports.{rules, arith, ◌≡◌, ◌<◌, ◌∙◌, ℤ, List, [], IsErr, length, map, flat_map, take, ap, sym, refl, Contains-get_or, decimal_text, Puts-loop_err, comma_line, Read, row_accesses, after_log-none, after_log-append, leaf_count_of, after_log, rows_of, outer_row, sub_table}
+use Rattle.csv_rows.proofs.Commas.{part_more}
 use Rattle.subviews.proofs.Fronts.{logs_front}
-use Rattle.subviews.proofs.Printed.{sub_row, sub_count, row_put, row_below}
+use Rattle.subviews.proofs.Printed.{sub_row, sub_count, row_below}
 use Rattle.subviews.proofs.print.put_rows.Goals as goal
 
 pub loop-row-init : goal.loop-row-init
@@ -35,7 +36,7 @@ loop-row-preserved g c =
     let step = rw (c.loop-row.invariant.1, outer, ← sub_row window view.rows c.loop-row.row small) at c.in_ok-put_row.ensures.puts in
     let read = rw (c.loop-row.invariant.1, outer) at c.in_ok-put_row.ensures.read in
     let leaves = leaf_count_of view in (
-      row_put (λ (row : List ℤ). comma_line (map decimal_text row)) (sub_table window view.rows) c.loop-row.row (omega (arith, small, sub_count window view.rows)) c.loop-row.invariant.0 step,
+      part_more (λ (row : List ℤ). comma_line (map decimal_text row)) (sub_table window view.rows) c.loop-row.row [] (omega (arith, small, sub_count window view.rows)) c.loop-row.invariant.0 step,
       read ∙ after_log-append view (flat_map (row_accesses Read leaves) (take c.loop-row.row (rows_of window))) (row_accesses Read leaves (outer_row window c.loop-row.row))
           ∙ ap (after_log view) (logs_front (row_accesses Read leaves) (rows_of window) c.loop-row.row 0 small),
       search rules,

@@ -1,4 +1,4 @@
-use Rattle.subviews.proofs.Imports.{rules, arith, ◌≡◌, ◌+◌, ◌-◌, ℕ, length, FitsSigned, ap, sym, subst, w128, to_z-of_z, Table, answer_of, kept_of, IsFilled}
+use Rattle.subviews.proofs.Imports.{rules, arith, common_steps, ◌≡◌, ◌+◌, ◌-◌, ℕ, length, FitsSigned, ap, sym, subst, w128, to_z-of_z, Table, answer_of, kept_of, IsFilled}
 use Rattle.subviews.proofs.Growth.{run_at, run_inside}
 use Rattle.subviews.proofs.Passes.{none_filled, refused_here, taken_here, fill_stopped, filled_more, filled_all, buffer_row, buffer_leaf}
 use Rattle.subviews.proofs.Ways.{row_held, row_inside}
@@ -42,8 +42,8 @@ set-requires-clause-row_in g c =
     let plan = c.args.plan.now in
     let below = run_inside plan.window.now c.next_run-run.result c.next_run-run.ensures.run in grind (arith, buffer_row)
 
-pub returns-in-Err-clause-refused : goal.returns-in-Err-clause-refused
-returns-in-Err-clause-refused g c =
+pub returns-in-Err : goal.returns-in-Err
+returns-in-Err g c =
     let plan = c.args.plan.now in
     let run = c.next_run-run.result in
     let outer = c.loop-outer.outer in
@@ -51,20 +51,9 @@ returns-in-Err-clause-refused g c =
     let fits : FitsSigned w128 value = search rules in
     let answer = rw (to_z-of_z w128 value fits) at c.set.ensures.answer in
     let at = run_at plan.window.now run c.loop-row.row outer c.next_run-run.ensures.run c.next_run-run.ensures.row c.loop-outer.invariant.low c.loop-outer-test.true in
-    (fill_stopped c.args.view.now c.loop-outer.view c.args.buffer.now c.loop-outer.buffer plan (c.loop-row.row + (outer - run.first)) outer value c.requires.buffer c.loop-outer.invariant.filled at
-    c.value_at-value.ensures.value c.value_at-value.new.view c.in-Err.fault (refused_here (answer_of c.loop-outer.buffer plan.leaf value) c.set.result c.in-Err.fault answer c.in-Err.is) c.value_at-value.ensures.read).0
-
-pub returns-in-Err-clause-so_far : goal.returns-in-Err-clause-so_far
-returns-in-Err-clause-so_far g c =
-    let plan = c.args.plan.now in
-    let run = c.next_run-run.result in
-    let outer = c.loop-outer.outer in
-    let value = c.value_at-value.result in
-    let fits : FitsSigned w128 value = search rules in
-    let answer = rw (to_z-of_z w128 value fits) at c.set.ensures.answer in
-    let at = run_at plan.window.now run c.loop-row.row outer c.next_run-run.ensures.run c.next_run-run.ensures.row c.loop-outer.invariant.low c.loop-outer-test.true in
-    (fill_stopped c.args.view.now c.loop-outer.view c.args.buffer.now c.loop-outer.buffer plan (c.loop-row.row + (outer - run.first)) outer value c.requires.buffer c.loop-outer.invariant.filled at
-    c.value_at-value.ensures.value c.value_at-value.new.view c.in-Err.fault (refused_here (answer_of c.loop-outer.buffer plan.leaf value) c.set.result c.in-Err.fault answer c.in-Err.is) c.value_at-value.ensures.read).1
+    let stop = fill_stopped c.args.view.now c.loop-outer.view c.args.buffer.now c.loop-outer.buffer plan (c.loop-row.row + (outer - run.first)) outer value c.requires.buffer c.loop-outer.invariant.filled at
+    c.value_at-value.ensures.value c.value_at-value.new.view c.in-Err.fault (refused_here (answer_of c.loop-outer.buffer plan.leaf value) c.set.result c.in-Err.fault answer c.in-Err.is) c.value_at-value.ensures.read in
+    record { fits = tt; refused = stop.0; read = tt; so_far = stop.1; same = grind (arith, common_steps); filled = tt; buffer = grind (arith, common_steps) }
 
 pub loop-outer-preserved : goal.loop-outer-preserved
 loop-outer-preserved g c =

@@ -1,30 +1,21 @@
 use Rattle.subviews.proofs.Imports.{rules, arith, ◌≡◌, ◌∙◌, ℕ, ℤ, pos, List, FitsSigned, length, get_or, ap, sym, subst, refl, to_z, of_z, ◌+◌, ◌+ℤ◌, ◌*ℤ◌, w64, w128, ints, to_z-of_z, indices, after_log-none, Table, leaf_type_of, common_steps}
 use Rattle.subviews.proofs.Values.{IsSummed, weight_small, entry_small, product_fits, sum_fits, summed_more, plan_term, reached}
-use Rattle.subviews.proofs.Ways.{row_inside}
 use Rattle.subviews.proofs.rounds.value_at.Goals as goal
 
 pub loop-place-init : goal.loop-place-init
 loop-place-init g c = record { sums = refl; small = omega arith; read = sym (after_log-none c.args.view.now) }
 
-pub row_away-at-requires-clause-here : goal.row_away-at-requires-clause-here
-row_away-at-requires-clause-here g c =
-    let low = row_inside c.args.plan.now.window.now c.args.row c.requires.row_in in omega (arith, low, c.requires.plan.rows)
-
-pub row_away-at-requires-clause-low : goal.row_away-at-requires-clause-low
-row_away-at-requires-clause-low g c =
+pub row_away-at-requires : goal.row_away-at-requires
+row_away-at-requires g c =
     let plan = c.args.plan.now in
     let view = c.args.view.now in
     let fits : FitsSigned w64 (get_or plan.far c.loop-place.place (pos 0)) = search rules in
     let to = reached view.fields view.extents plan c.args.row c.loop-place.place c.term-item.result c.requires.plan c.requires.row_in c.loop-place-test.true c.term-item.is in
-    omega (arith, ints, fits, to.away, to.inside, to.few)
-
-pub row_away-at-requires-clause-high : goal.row_away-at-requires-clause-high
-row_away-at-requires-clause-high g c =
-    let plan = c.args.plan.now in
-    let view = c.args.view.now in
-    let fits : FitsSigned w64 (get_or plan.far c.loop-place.place (pos 0)) = search rules in
-    let to = reached view.fields view.extents plan c.args.row c.loop-place.place c.term-item.result c.requires.plan c.requires.row_in c.loop-place-test.true c.term-item.is in
-    omega (arith, ints, fits, to.away, to.inside, to.few)
+    record {
+      here = omega (arith, to.here, to.few);
+      low = omega (arith, ints, fits, to.away, to.inside, to.few);
+      high = omega (arith, ints, fits, to.away, to.inside, to.few);
+    }
 
 pub get-requires-clause-row_in : goal.get-requires-clause-row_in
 get-requires-clause-row_in g c =

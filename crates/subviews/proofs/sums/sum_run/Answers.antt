@@ -1,32 +1,23 @@
 use Rattle.subviews.proofs.Imports.{rules, arith, pos, FitsSigned, w64, get_or, length, ap, ◌∙◌, ints, to_z-of_z, column_reads, Table, after_log, rows_of, common_steps}
-use Rattle.subviews.proofs.Growth.{run_first, run_inside}
+use Rattle.subviews.proofs.Growth.{run_first}
 use Rattle.subviews.proofs.Near.{read_inside, values_read, products_fit, sums_fit, summed_run}
 use Rattle.subviews.proofs.Values.{reached}
 use Rattle.subviews.proofs.Ways.{row_held}
 use Rattle.subviews.proofs.sums.sum_run.Goals as goal
 
-pub row_away-first-requires-clause-here : goal.row_away-first-requires-clause-here
-row_away-first-requires-clause-here g c = omega (arith, run_inside c.args.plan.now.window.now c.args.run c.requires.run, c.requires.plan.rows)
-
-pub row_away-first-requires-clause-low : goal.row_away-first-requires-clause-low
-row_away-first-requires-clause-low g c =
+pub row_away-first-requires : goal.row_away-first-requires
+row_away-first-requires g c =
     let plan = c.args.plan.now in
     let view = c.args.view.now in
     let fits : FitsSigned w64 (get_or plan.far c.loop-place.place (pos 0)) = search rules in
     let run = c.args.run in
     let held = row_held plan.window.now run.row run.first (run_first (rows_of plan.window.now) run.row run.first run.rows c.requires.run.each c.requires.run.some) in
     let to = reached view.fields view.extents plan run.first c.loop-place.place c.term-item.result c.requires.plan held c.loop-place-test.true c.term-item.is in
-    omega (arith, ints, fits, to.away, to.inside, to.few)
-
-pub row_away-first-requires-clause-high : goal.row_away-first-requires-clause-high
-row_away-first-requires-clause-high g c =
-    let plan = c.args.plan.now in
-    let view = c.args.view.now in
-    let fits : FitsSigned w64 (get_or plan.far c.loop-place.place (pos 0)) = search rules in
-    let run = c.args.run in
-    let held = row_held plan.window.now run.row run.first (run_first (rows_of plan.window.now) run.row run.first run.rows c.requires.run.each c.requires.run.some) in
-    let to = reached view.fields view.extents plan run.first c.loop-place.place c.term-item.result c.requires.plan held c.loop-place-test.true c.term-item.is in
-    omega (arith, ints, fits, to.away, to.inside, to.few)
+    record {
+      here = omega (arith, to.here, to.few);
+      low = omega (arith, ints, fits, to.away, to.inside, to.few);
+      high = omega (arith, ints, fits, to.away, to.inside, to.few);
+    }
 
 pub read_run-requires-clause-rows_in : goal.read_run-requires-clause-rows_in
 read_run-requires-clause-rows_in g c = grind (arith, common_steps, read_inside, to_z-of_z)
