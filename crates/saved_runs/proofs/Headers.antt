@@ -39,11 +39,7 @@ counted_low count heat (Heated granule inner) once =
     let below = counted_low count false inner parts.1 in
     let one : one_if heat ≡ 1 = ap one_if parts.0 in
     omega (arith, below, one)
-counted_low count heat (Split path first rest) once = omega (arith, uncounted_low (Split path first rest) (not-true _ once))
-counted_low count heat (Byteswap inner) once = omega (arith, uncounted_low (Byteswap inner) (not-true _ once))
-counted_low count heat (Bytesplit inner) once = omega (arith, uncounted_low (Bytesplit inner) (not-true _ once))
-counted_low count heat (Change from to inner) once = omega (arith, uncounted_low (Change from to inner) (not-true _ once))
-counted_low count heat other once = omega arith
+counted_low count heat other once = omega (arith, uncounted_low other (not-true (has_counter other) once))
 
 checked_low : (term : MapTerm) → checked term ≡ Ok tt → height term ≤ 10
 checked_low term is = of_tests (nat_lt 8 (depth_of term)) (counts_once true true term) refl refl is
