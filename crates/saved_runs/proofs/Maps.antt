@@ -166,8 +166,9 @@ told_map (suc n) (Split along first rest) h low =
 told_map (suc n) (Byteswap inner) h low = told_form n form.Byteswap (Byteswap inner) (told_last n Byteswap (told_map n inner h (omega (arith, low))))
 told_map (suc n) (Bytesplit inner) h low = told_form n form.Bytesplit (Bytesplit inner) (told_last n Bytesplit (told_map n inner h (omega (arith, low))))
 told_map (suc n) (Change from to inner) h low =
-    let rest = told_joined (n + 2) (plain (n + 2) h.1.0) (comma (n + 2) (told_last n (Change from to) (told_map n inner h.1.1 (omega (arith, low))))) in
-    told_form n form.Change (Change from to inner) (told_joined (n + 2) (plain (n + 2) h.0) (told_behind (n + 2) (Sign Arrow) (λ xs f. fits_flat (n + 2) (Sign Arrow) xs refl refl f) rest))
+    told_form n form.Change (Change from to inner)
+    (told_joined (n + 2) (plain (n + 2) h.0) (told_behind (n + 2) (Sign Arrow) (λ xs f. fits_flat (n + 2) (Sign Arrow) xs refl refl f)
+    (told_joined (n + 2) (plain (n + 2) h.1.0) (comma (n + 2) (told_last n (Change from to) (told_map n inner h.1.1 (omega (arith, low))))))))
 told_map (suc n) (Counted inner) h low = told_form n form.Count (Counted inner) (told_last n Counted (told_map n inner h (omega (arith, low))))
 told_map (suc n) (Heated granule inner) h low =
     told_form n form.Heat (Heated granule inner) (told_joined (n + 2) (plain (n + 2) h.0) (comma (n + 2) (told_last n (Heated granule) (told_map n inner h.1 (omega (arith, low))))))
