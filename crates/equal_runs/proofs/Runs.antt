@@ -29,7 +29,12 @@ pairs_of version [] [] [] [] are also agree = none
 pairs_of version (text ∷ texts) (other ∷ other_texts) (line ∷ lines) (changed ∷ others) are also agree =
     subst (λ (s : Sentence). Pairs version (text ∷ texts) (line ∷ lines) (other ∷ other_texts) (s ∷ others)) (sym agree.0.1)
     (more text other line agree.0.0 texts lines other_texts others are.0 (subst (IsLine version other) agree.0.1 also.0) (pairs_of version texts other_texts lines others are.1 also.1 agree.1))
-pairs_of version texts other_texts lines others are also agree = grind arith
+pairs_of version [] (other ∷ other_texts) [] (changed ∷ others) are also agree = absurd agree
+pairs_of version (text ∷ texts) [] (line ∷ lines) [] are also agree = absurd agree
+pairs_of version [] other_texts (line ∷ lines) others are also agree = absurd are
+pairs_of version (text ∷ texts) other_texts [] others are also agree = absurd are
+pairs_of version texts [] lines (changed ∷ others) are also agree = absurd also
+pairs_of version texts (other ∷ other_texts) lines [] are also agree = absurd also
 
 module _ (version : Version) (files : List File) (outcome : World → List ℕ → Bool → Outcome Left) (does : DoesLines version files outcome) (unread : Option ℕ) where
   runs_alike : (number : ℕ) (world other : World) → AlikeWorlds world other
