@@ -180,12 +180,9 @@ impl Session {
             Line::Reduce { view, kind, path } => {
                 self.on_view(*view, &Written(Reduce { kind, path }), out, steps)
             }
-            Line::Count { view, filter } => self.on_view(
-                *view,
-                &Written(Count { filter }),
-                out,
-                steps,
-            ),
+            Line::Count { view, filter } => {
+                self.on_view(*view, &Written(Count { filter }), out, steps)
+            }
             Line::Print(view) => self.on_view(*view, &Print, out, steps),
             Line::PrintWindow { view, window } => {
                 self.on_view(*view, &PrintWindow { window }, out, steps)
