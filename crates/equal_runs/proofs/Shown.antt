@@ -22,10 +22,9 @@ comes_on : (version : Version) (files : List File) (outcome : World → List ℕ
     → Comes files unread number now lines last → (texts more : List (List ℕ)) → AreLines version texts lines
     → prepend now.text (run_from outcome number now.world (texts ++ more) unread) ≡ prepend last.text (run_from outcome (number + length lines) last.world more unread)
 comes_on version files outcome does unread number now last lines (there _ _) [] more are = grind arith
-comes_on version files outcome does unread number now last lines (there _ _) (text ∷ texts) more are = absurd are
-comes_on version files outcome does unread number now last lines (further _ _ line left rest _ goes comes) [] more are = absurd are
 comes_on version files outcome does unread number now last lines (further _ _ line left rest _ goes comes) (text ∷ texts) more are =
     grind (arith, prepend-append, (comes_on version files outcome does unread (number + 1) (one_more now line left) last rest comes texts more are.1))
+comes_on version files outcome does unread number now last lines comes texts more are = absurd are
 
 -- a law of what is counted, as it is told
 abbrev pub AreTold : Type 0

@@ -119,12 +119,11 @@ module _ (keep : Keeping) (answer : StoreAnswer) where
         → (test >>= (λ t. if t then (each (new_value answer number row index) sets >>= (λ values. Ok (with_values keep sets values row))) else Ok row)) ≡ Ok new
         → if_passes test (sides_log answer number row index sets ++ if_ok (each (new_value answer number row index) sets) (stores_log number sets))
         ≡ if_passes test (fit_sides number row index sets ++ stores_log number sets)
-    of_test (Err e) goes = refl
-    of_test (Ok false) goes = refl
     of_test (Ok true) goes =
         let one = parts (each (new_value answer number row index) sets) (λ found. Ok (with_values keep sets found row)) new goes in
         ap (λ (values : Result (List ℤ) UpdateFault). sides_log answer number row index sets ++ if_ok values (stores_log number sets)) one.1
         ∙ ap (λ (log : List Access). log ++ stores_log number sets) (sides_are number row index sets one.0 one.1)
+    of_test test goes = refl
 
   -- those of an update that goes
   pub rows_are : (filter : Option (Term ℕ)) (sets : List Setting) (extents : List ℕ) (rows : List (List ℤ)) (count : ℕ) (new : List (List ℤ))
