@@ -46,9 +46,8 @@ checked_low term is = of_tests (nat_lt 8 (depth_of term)) (counts_once true true
   where
     of_tests : (deep once : Bool) → nat_lt 8 (depth_of term) ≡ deep → counts_once true true term ≡ once
         → (if deep then Err bad.TooDeep else (if not once then Err bad.Counter else answered (bad_number term))) ≡ Ok tt → height term ≤ 10
-    of_tests true once deep counts is = absurd (cc is)
-    of_tests false false deep counts is = absurd (cc is)
     of_tests false true deep counts is = omega (arith, ltb-false 8 (depth_of term) deep, counted_low true true term counts)
+    of_tests _ _ deep counts is = absurd (cc is)
 
 earlier : (why : BadMapping) (holds : Bool) (answer : Result Unit BadMapping) → else_for why holds answer ≡ Ok tt → answer ≡ Ok tt
 earlier why holds answer is = grind arith
