@@ -13,7 +13,7 @@ is_narrow_stencil fault = is_narrow fault.fault
 row_answers : {Alike : Type 0} (row : ℕ) (x y : Result ℤ StoreFault) (u v : Result Unit StencilFault) → Answers is_narrow Alike x y → Answers is_narrow_stencil Alike u v
     → Answers is_narrow_stencil Alike (at_row row x u) (at_row row y v)
 row_answers row x y u v agree later =
-    mapped (λ e. record { row = row; fault = e }) (λ z. at_row row z u) (λ z. at_row row z v) (λ e. refl) (λ e. refl) (λ e is. is) (λ e is. is) agree (λ a b same. later)
+    mapped {F = StencilFault} (λ e. record { row = row; fault = e }) (λ z. at_row row z u) (λ z. at_row row z v) (λ e. refl) (λ e. refl) (λ e is. is) (λ e is. is) agree (λ a b same. later)
 
 rows_answers : {Alike : Type 0} (x y : ℕ → Result ℤ StoreFault) → ((row : ℕ) → Answers is_narrow Alike (x row) (y row)) → (rows : List ℕ)
     → Answers is_narrow_stencil Alike (first_round_fault x rows) (first_round_fault y rows)

@@ -35,7 +35,7 @@ narrow_kind leaf e is = grind arith
 in_row_answers : {Alike : Type 0} (number leaf : ℕ) (x y : Result ℤ StoreFault) → Answers is_narrow Alike x y
     → Answers is_narrow_update Alike (in_row number (store_kind leaf) x) (in_row number (store_kind leaf) y)
 in_row_answers number leaf x y agree =
-    mapped (λ e. record { row = number; kind = store_kind leaf e }) (in_row number (store_kind leaf)) (in_row number (store_kind leaf)) (λ e. refl) (λ e. refl) (narrow_kind leaf) (narrow_kind leaf) agree
+    mapped {F = UpdateFault} (λ e. record { row = number; kind = store_kind leaf e }) (in_row number (store_kind leaf)) (in_row number (store_kind leaf)) (λ e. refl) (λ e. refl) (narrow_kind leaf) (narrow_kind leaf) agree
     (λ a b same. go a b same)
 
 -- two answers to stores that both keep a number, or of which one says that the value is not held, where one `keep` says what is kept
