@@ -1,5 +1,5 @@
 -- Lines that say the header of a table.
-use Rattle.saved_runs.proofs.Imports.{◌≡◌, ℕ, ◌+◌, ◌^◌, ◌<◌, ◌≤◌, Bool, true, false, not, ◌&&◌, List, [], ◌∷◌, ◌++◌, length, map, codes, nat_lt, Some, Result, Ok, Err, inl, refl, sym, ap, subst, append-nil, append_assoc, arith, lt-ltb, ltb-false, Grammar, Is, AreSpelled, spaced_tokens, OpenBracket, CloseBracket, Colon, Comma, Fields, Record, Fixed, MapTerm, Split, Byteswap, Bytesplit, Change, Counted, Heated, depth_of, checked, has_counter, counts_once, bad_number, answered, accepted, else_for, Cell, Token, Word, Sign, Two, name_of, count_of, command_of, Sentence, New, Define, View, name, count, fixed, later, listed, bracket_list, flag, new, mapping_phrase, body, command_line, line, count_token, written, IsSpelled, Each, fits_more, fits_flat, one_fits, word_spelled, fits_alone, decimal_spells, joined_reads, Header, is_wrap, view_line, HasLine, and_parts, or_parts, not-true, if◌then◌else◌}
+use Rattle.saved_runs.proofs.Imports.{◌≡◌, ℕ, ◌+◌, ◌^◌, ◌<◌, ◌≤◌, Bool, true, false, not, List, [], ◌∷◌, ◌++◌, length, map, codes, nat_lt, Some, Result, Ok, Err, inl, refl, sym, ap, subst, append-nil, append_assoc, arith, lt-ltb, ltb-false, Grammar, Is, AreSpelled, spaced_tokens, OpenBracket, CloseBracket, Colon, Comma, Fields, Record, Fixed, MapTerm, Split, Byteswap, Bytesplit, Change, Counted, Heated, depth_of, checked, has_counter, counts_once, bad_number, answered, accepted, else_for, Cell, Token, Word, Sign, Two, name_of, count_of, command_of, Sentence, New, Define, View, name, count, fixed, later, listed, bracket_list, flag, new, mapping_phrase, body, command_line, line, count_token, written, IsSpelled, Each, fits_more, fits_flat, one_fits, word_spelled, fits_alone, decimal_spells, joined_reads, Header, is_wrap, view_line, HasLine, and_parts, or_parts, not-true, if◌then◌else◌}
 use Rattle.map_expr.specs.declared.check.BadMapping.{BadMapping}
 use Rattle.map_expr.specs.declared.check.BadMapping.TheVariants as bad
 use Rattle.line_grammar.specs.declared.line.Command.TheVariants as command
