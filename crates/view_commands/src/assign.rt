@@ -69,19 +69,13 @@ fn inside(extents: Extents, index: &[u32]) -> Result<ArrayVec<u64, 4>, StepFault
     ensures member { IfOk result (λ wide. IsInside extents wide.items) }
 {
     if index.len() != extents.rank() {
-        return Err(bad_index());
+        return Err(StepFault::Command(CommandFault::BadIndex));
     }
     let wide = widened(index);
     if !extents.holds(wide.as_slice()) {
-        return Err(bad_index());
+        return Err(StepFault::Command(CommandFault::BadIndex));
     }
     Ok(wide)
-}
-
-fn bad_index() -> StepFault
-    ensures { result ≡ StepFault.Command CommandFault.BadIndex }
-{
-    StepFault::Command(CommandFault::BadIndex)
 }
 
 /// The same numbers, wider.

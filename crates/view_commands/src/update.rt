@@ -84,10 +84,7 @@ pub fn bound_filter(
 {
     match filter {
         None => Ok(None),
-        Some(filter) => {
-            let filter = bound(alloc, view, filter)?;
-            Ok(Some(filter))
-        }
+        Some(filter) => Ok(Some(bound(alloc, view, filter)?)),
     }
 }
 
