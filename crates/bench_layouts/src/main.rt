@@ -16,7 +16,9 @@ mod tables;
 
 use crate::fault::BenchFault;
 use crate::mode::checksum;
+use std::marker::Brand;
 use std::process::ExitCode;
+use std::sync::ledger::Blank;
 use std::{env, io};
 
 const USAGE: u8 = 2;
@@ -25,7 +27,7 @@ const FAULT: u8 = 1;
 
 fn main(rt: HostRuntime) -> io::Result<ExitCode> {
     let words: Vec<String> = env::args(&rt)?.skip(1).collect(rt.alloc())?;
-    match checksum(rt.alloc(), words.as_slice()) {
+    match checksum::<Brand>(rt.alloc(), words.as_slice(), Blank::new(1)) {
         Ok(checksum) => println!(rt; "{checksum}")?,
         Err(BenchFault::Words) => {
             println!(rt;

@@ -4,16 +4,10 @@ use crate::fault::BenchFault;
 use crate::{copying, evaluation, kernels, table};
 use record_dim::Steps;
 use std::alloc::Global;
-use std::marker::Brand;
 use std::sync::ledger::{Blank, Ledger};
 
 /// A number that is right only where all of the work was done that the words name.
-pub fn checksum(alloc: Global, words: &[String]) -> Result<i128, BenchFault> {
-    checksum_from::<Brand>(alloc, words, Blank::new(1))
-}
-
-// The same, where steps are counted from the blank on.
-fn checksum_from<L: Ledger>(
+pub fn checksum<L: Ledger>(
     alloc: Global,
     words: &[String],
     blank: Blank,
