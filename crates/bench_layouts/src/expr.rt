@@ -39,11 +39,11 @@ pub fn expr_of(alloc: Global, name: &str) -> Result<MapExpr, BenchFault>
         "bitaos_mixed" => Ok(bit_records(9, mixed_widths(alloc)?)),
         "bitsoa_mixed" => Ok(bit_arrays(9, mixed_widths(alloc)?)),
         // Packed records, and a blob for each leaf, with the bytes of each value in reverse order.
-        "aos_swap" => swapped(alloc, packed(Order::Row)),
-        "soa_swap" => swapped(alloc, arrays(SoaForm::Multi, Order::Row)),
+        "aos_swap" => Ok(swapped(alloc, packed(Order::Row))?),
+        "soa_swap" => Ok(swapped(alloc, arrays(SoaForm::Multi, Order::Row))?),
         // Packed records, and a blob for each cell, where each byte of a leaf is a cell.
-        "aos_split" => split(alloc, packed(Order::Row)),
-        "soa_split" => split(alloc, arrays(SoaForm::Multi, Order::Row)),
+        "aos_split" => Ok(split(alloc, packed(Order::Row))?),
+        "soa_split" => Ok(split(alloc, arrays(SoaForm::Multi, Order::Row))?),
         // Packed records, and a blob for each leaf, in Morton order.
         "aos_morton" => Ok(packed(Order::Morton)),
         "soa_morton" => Ok(arrays(SoaForm::Multi, Order::Morton)),
@@ -112,14 +112,14 @@ fn entry_of(alloc: Global, name: &str, width: u32) -> Result<FieldWidth, NoMemor
     Ok(FieldWidth { path, width })
 }
 
-fn swapped(alloc: Global, inner: MapExpr) -> Result<MapExpr, BenchFault>
+fn swapped(alloc: Global, inner: MapExpr) -> Result<MapExpr, NoMemory>
     requires { IsBuiltTerm (term_of inner) }
     ensures { IfOk result (λ expr. IsBuiltTerm (term_of expr)) }
 {
     Ok(MapExpr::Byteswap(Box::new(alloc, inner)?))
 }
 
-fn split(alloc: Global, inner: MapExpr) -> Result<MapExpr, BenchFault>
+fn split(alloc: Global, inner: MapExpr) -> Result<MapExpr, NoMemory>
     requires { IsBuiltTerm (term_of inner) }
     ensures { IfOk result (λ expr. IsBuiltTerm (term_of expr)) }
 {
