@@ -82,7 +82,7 @@ fn bound_answer(alloc: Global, expr: &Expr, place: &Place) -> Result<String, NoM
         return no_form(alloc);
     }
     match bind(alloc, expr, &schema, place.index.len()) {
-        Ok(bound) => outcome(alloc, &bound, place),
+        Ok(bound) => outcome::<Brand>(alloc, &bound, place, Blank::new(1)),
         Err(BindFault::UnknownPath(path)) => unknown_path(alloc, path.as_slice()),
         Err(BindFault::UnknownIndex(dimension)) => format!(in alloc; "unknown i{dimension}"),
         Err(BindFault::NoMemory) => Err(NoMemory),
@@ -129,7 +129,15 @@ fn unknown_path(alloc: Global, steps: &[PathStep]) -> Result<String, NoMemory> {
     Ok(answer)
 }
 
-fn outcome(alloc: Global, bound: &Bound, place: &Place) -> Result<String, NoMemory>
+fn outcome<L: Ledger>(
+    alloc: Global,
+    bound: &Bound,
+    place: &Place,
+    blank: Blank,
+) -> Result<String, NoMemory>
+    requires name { blank.name ≡ L.name }
+    requires parts { blank.parts ≡ L.parts }
+    requires some { 0 < blank.parts }
     requires leaves { bound_leaves bound.now ≡ 2 }
     requires rank { length place.now.index.items ≡ bound_rank bound.now }
 {
@@ -137,27 +145,12 @@ fn outcome(alloc: Global, bound: &Bound, place: &Place) -> Result<String, NoMemo
         numbers: place.numbers,
         log: 0,
     };
-    let value = value_on::<Brand>(bound, &mut row, place.index.as_slice(), Blank::new(1));
+    let mut steps = Steps::<L>::new(blank);
+    let value = eval(bound, &mut row, place.index.as_slice(), &mut steps);
     let log = row.log;
     match value {
         Ok(value) => format!(in alloc; "{value} reads {log}"),
         Err(EvalFault::Overflow) => format!(in alloc; "Overflow reads {log}"),
         Err(EvalFault::DivideByZero) => format!(in alloc; "DivideByZero reads {log}"),
     }
-}
-
-fn value_on<L: Ledger>(
-    bound: &Bound,
-    row: &mut LoggedRow,
-    index: &[u64],
-    blank: Blank,
-) -> Result<i128, EvalFault>
-    requires name { blank.name ≡ L.name }
-    requires parts { blank.parts ≡ L.parts }
-    requires some { 0 < blank.parts }
-    requires leaves { bound_leaves bound.now ≡ 2 }
-    requires rank { length index.now ≡ bound_rank bound.now }
-{
-    let mut steps = Steps::<L>::new(blank);
-    eval(bound, row, index, &mut steps)
 }

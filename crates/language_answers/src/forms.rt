@@ -14,7 +14,7 @@
 //! | any other line | its canonical text in version 1, or its fault with the column |
 
 use crate::expressions::value_answer;
-use crate::repeats::{chain_answer, nested_answer, written_answer};
+use crate::repeats::{chain, nested_answer, short_answer};
 use crate::tokens::{next_answer, tokens_answer};
 use line_writer::write_line;
 use schema_lang::{Line, LineFault, MAX_LINE_BYTES, Version, is_blank, parse_line, version_of};
@@ -37,8 +37,8 @@ fn answer_in(alloc: Global, version: Version, asked: &[u8]) -> Result<String, No
         "tokens" => tokens_answer(alloc, rest),
         "value" => value_answer(alloc, version, rest),
         "nested" => nested_answer(alloc, version, rest),
-        "chain" => chain_answer(alloc, version, rest),
-        "written" => written_answer(alloc, version, rest),
+        "chain" => short_answer(alloc, version, chain(alloc, rest)?.as_slice()),
+        "written" => text_answer(alloc, version, chain(alloc, rest)?.as_slice()),
         "version_of" => version_answer(alloc, rest),
         "is_blank" => String::from_str(alloc, if is_blank(rest) { "yes" } else { "no" }),
         _ => text_answer(alloc, version, asked),
@@ -56,12 +56,8 @@ fn version_answer(alloc: Global, text: &[u8]) -> Result<String, NoMemory> {
     }
 }
 
-/// The canonical text of a line, or its fault.
-pub(crate) fn text_answer(
-    alloc: Global,
-    version: Version,
-    text: &[u8],
-) -> Result<String, NoMemory> {
+// The canonical text of a line, or its fault.
+fn text_answer(alloc: Global, version: Version, text: &[u8]) -> Result<String, NoMemory> {
     if text.len() > MAX_LINE_BYTES {
         return String::from_str(alloc, "LineTooLong");
     }

@@ -1,5 +1,5 @@
 // Lines that are made of one part many times.
-use crate::forms::{cut, fault_answer, no_form, number_of, text_answer};
+use crate::forms::{cut, fault_answer, no_form, number_of};
 use schema_lang::{MAX_LINE_BYTES, Version, parse_line};
 use std::alloc::{AllocError as NoMemory, Global};
 
@@ -23,24 +23,8 @@ pub(crate) fn nested_answer(
     short_answer(alloc, version, text.as_slice())
 }
 
-pub(crate) fn chain_answer(
-    alloc: Global,
-    version: Version,
-    asked: &[u8],
-) -> Result<String, NoMemory> {
-    short_answer(alloc, version, chain(alloc, asked)?.as_slice())
-}
-
-pub(crate) fn written_answer(
-    alloc: Global,
-    version: Version,
-    asked: &[u8],
-) -> Result<String, NoMemory> {
-    text_answer(alloc, version, chain(alloc, asked)?.as_slice())
-}
-
-// Head, as many parts as there is room for, tail, and spaces.
-fn chain(alloc: Global, asked: &[u8]) -> Result<Vec<u8>, NoMemory> {
+/// Head, as many parts as there is room for, tail, and spaces.
+pub(crate) fn chain(alloc: Global, asked: &[u8]) -> Result<Vec<u8>, NoMemory> {
     let (head, parts) = cut(asked, b'|');
     let (part, tail) = cut(parts, b'|');
     let room = MAX_LINE_BYTES
@@ -62,8 +46,12 @@ fn push_many(text: &mut Vec<u8>, part: &[u8], count: usize) -> Result<(), NoMemo
     Ok(())
 }
 
-// `line`, or the fault.
-fn short_answer(alloc: Global, version: Version, text: &[u8]) -> Result<String, NoMemory> {
+/// `line`, or the fault.
+pub(crate) fn short_answer(
+    alloc: Global,
+    version: Version,
+    text: &[u8],
+) -> Result<String, NoMemory> {
     if text.len() > MAX_LINE_BYTES {
         return no_form(alloc);
     }

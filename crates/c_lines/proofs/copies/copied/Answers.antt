@@ -1,6 +1,6 @@
 use Rattle.c_lines.proofs.Imports.{rules}
 use Rattle.c_lines.proofs.Copied.{other_source, was_done, was_narrow, was_other}
-use Rattle.c_lines.proofs.copies.copy_into.Goals as goal
+use Rattle.c_lines.proofs.copies.copied.Goals as goal
 
 pub returns-in-Ok-clause-answer : goal.returns-in-Ok-clause-answer
 returns-in-Ok-clause-answer g c = was_done c.args.source.now c.args.target.now c.copy.new.target c.in-Ok.ensures.copied
