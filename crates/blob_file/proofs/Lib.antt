@@ -22,3 +22,4 @@ mod SavedFile
 mod Tokens
 mod Told
 mod Typed
+pub mod Auto
