@@ -21,3 +21,4 @@ mod SavedFile
 mod Tokens
 mod Told
 mod Typed
+pub mod Auto

@@ -1,5 +1,5 @@
-use Rattle.blob_file.proofs.Imports.{arith, ◌<◌, length, common_steps}
-use Rattle.blob_file.proofs.Blobs.{none_cut, room, one_cut, all_cut, cut_sized}
+use Rattle.blob_file.proofs.Imports.{arith, ◌<◌, length}
+use Rattle.blob_file.proofs.Blobs.{none_cut, room, one_cut}
 use Rattle.blob_file.proofs.blobs_in.cut_blobs.Goals as goal
 
 pub loop-b-init : goal.loop-b-init
@@ -17,9 +17,3 @@ loop-b-preserved g c =
     let inside : c.loop-b.b < length layout = omega arith in
     rw (c.in_ok-push.ensures.items, c.in_ok-blob_of.ensures, c.split_at.ensures.front, c.split_at.ensures.back)
     (one_cut layout c.laws_of.ensures.lawful.whole_bytes c.args.body.now c.requires c.loop-b.b c.blob_bytes.result c.loop-b.blobs.items c.loop-b.rest.now inside c.blob_bytes.ensures c.loop-b.invariant)
-
-pub returns-clause-cut : goal.returns-clause-cut
-returns-clause-cut g c = grind (arith, common_steps, all_cut)
-
-pub returns-clause-sized : goal.returns-clause-sized
-returns-clause-sized g c = grind (arith, common_steps, all_cut, cut_sized)

@@ -1,5 +1,5 @@
-use Rattle.blob_file.proofs.Imports.{rules, ◌≡◌, ◌+◌, ◌∙◌, ℕ, ℤ, List, pos, get_or, length, take_all, is_ok, true, Ok, Err, Result, to_z, of_z, refl, sym, ap, arith, w128, cases_lt, to_z-of_z, entry, told_same, length-with_column, run_length, kept_rows, without_number, Table, answer_of, kept_of, StoreFault, value_more, nothing_stored, kept_run, raw_in, header_of, Contents, common_steps}
-use Rattle.blob_file.proofs.Filled.{raw_is, cell_count, run_kept, kept_long}
+use Rattle.blob_file.proofs.Imports.{rules, ◌≡◌, ◌+◌, ◌∙◌, ℕ, ℤ, List, pos, get_or, length, is_ok, true, Ok, Err, Result, to_z, of_z, refl, sym, ap, arith, w128, cases_lt, to_z-of_z, entry, told_same, length-with_column, run_length, kept_rows, without_number, Table, answer_of, kept_of, StoreFault, value_more, nothing_stored, kept_run, raw_in, header_of, Contents}
+use Rattle.blob_file.proofs.Filled.{raw_is, run_kept, kept_long}
 use Rattle.blob_file.proofs.fill.fill_far.Goals as goal
 use Rattle.blob_file.proofs.fill.fill_far.Goals.{In-loop-k, After-set}
 use Rattle.blob_file.proofs.fill.fill_far.Given.{Over}
@@ -14,15 +14,6 @@ loop-k-init g c = record {
 -- no row is gone
 rows_stay : (g : Over) (c : In-loop-k g) → length c.loop-k.view.rows ≡ length c.args.view.now.rows
 rows_stay g c = grind (arith, length-with_column)
-
-pub overflow_add-row : goal.overflow_add-row
-overflow_add-row g c = grind (arith, common_steps)
-
-pub read_entry-value-requires-clause-slot_in : goal.read_entry-value-requires-clause-slot_in
-read_entry-value-requires-clause-slot_in g c = grind (arith, common_steps)
-
-pub read_entry-value-requires-clause-cell_in : goal.read_entry-value-requires-clause-cell_in
-read_entry-value-requires-clause-cell_in g c = grind (arith, common_steps, cell_count)
 
 pub set-requires-clause-row_in : goal.set-requires-clause-row_in
 set-requires-clause-row_in g c = omega (arith, rows_stay g (goal.at.set-requires-clause-row_in g c).In-loop-k, c.requires.rows_in)
@@ -77,6 +68,3 @@ returns-in_err-set-clause-refused g c =
           let clash : is_ok c.set.result ≡ true = ap (λ (r : Result Unit StoreFault). is_ok r) (answer g at) ∙ told_same (answer_of old c.args.leaf value) ∙ yes in
           absurd (let none = rw no at clash in cc none)),
     )
-
-pub returns-clause-stored : goal.returns-clause-stored
-returns-clause-stored g c = grind (arith, common_steps, run_length, kept_long, take_all)

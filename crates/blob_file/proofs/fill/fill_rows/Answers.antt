@@ -1,9 +1,6 @@
-use Rattle.blob_file.proofs.Imports.{rules, ◌≡◌, ◌+◌, ◌*◌, ◌<◌, ◌≤◌, ◌∙◌, ⊎_elim, inl, inr, ℕ, ℤ, List, length, take, drop, Err, sym, ap, subst, arith, ◌⊎◌, cases_lt, length-drop, length-take-le, indices, AreRowsMoved, CountsNothing, run_more, kept_rows, HasShape, Table, kept_of, leaf_count_of, leaf_types_of, table_holds, after_stores, Write, all_accesses, after_log-none, run_writes, AreTaken, raw_in, header_of, length-append, common_steps}
+use Rattle.blob_file.proofs.Imports.{rules, ◌≡◌, ◌+◌, ◌*◌, ◌<◌, ◌≤◌, ◌∙◌, ⊎_elim, inl, inr, ℕ, ℤ, List, length, take, drop, Err, sym, ap, subst, arith, ◌⊎◌, cases_lt, length-drop, length-take-le, indices, AreRowsMoved, CountsNothing, run_more, kept_rows, HasShape, Table, kept_of, leaf_count_of, leaf_types_of, table_holds, after_stores, Write, all_accesses, run_writes, AreTaken, raw_in, header_of, length-append}
 use Rattle.blob_file.proofs.Filled.{all_kept, run_logged, run_steps_more}
 use Rattle.blob_file.proofs.fill.fill_rows.Goals as goal
-
-pub loop-first-init : goal.loop-first-init
-loop-first-init g c = grind (arith, common_steps, after_log-none)
 
 pub loop-first-preserved : goal.loop-first-preserved
 loop-first-preserved g c =
@@ -37,9 +34,6 @@ loop-first-preserved g c =
       lows = omega (arith, length-append c.fill_run.new.lows (drop rows c.loop-first.lows), length-drop rows c.loop-first.lows, c.fill_run.ensures.count, long, held.lows, c.rows_at_once-most.ensures.few);
       steps = run_steps_more c.args.steps.now c.loop-first.steps c.fill_run.new.steps first rows leaves held.steps steps;
     }
-
-pub fill_run-requires-clause-rows_in : goal.fill_run-requires-clause-rows_in
-fill_run-requires-clause-rows_in g c = grind (arith, common_steps, length-take-le)
 
 pub returns-in_err-fill_run-clause-refused : goal.returns-in_err-fill_run-clause-refused
 returns-in_err-fill_run-clause-refused g c =
@@ -79,9 +73,3 @@ returns-clause-stored g c =
     held.same
     ∙ ap (λ (r : List (List ℤ)). after_stores old r (all_accesses Write leaves c.loop-first.first)) (all_kept old c.args.blobs.now is paired now.rows c.loop-first.first wide many (omega (arith, end)) held.before)
     ∙ ap (λ (n : ℕ). after_stores old kept (all_accesses Write leaves n)) end
-
-pub returns-clause-taken : goal.returns-clause-taken
-returns-clause-taken g c = λ row leaf l m.
-    let is = c.extents.ensures.table in
-    let rows : length (indices c.extents.result) ≡ length c.args.view.now.rows = ap (λ (e : List ℕ). length (indices e)) c.extents.ensures.value ∙ sym is.rows in
-    c.loop-first.invariant.taken leaf m row (omega arith) (omega (arith, l, rows, c.count-count.ensures.rows, c.loop-first-test.false))

@@ -1,9 +1,6 @@
-use Rattle.blob_file.proofs.Imports.{rules, ◌≡◌, ◌+◌, ◌<◌, ◌≤◌, ◌∙◌, ⊎_elim, ℕ, ℤ, List, [], get_or, length, Err, sym, ap, subst, arith, cases_lt, indices, column_writes, with_column, AreRowsMoved, no_leaf_moved, leaf_moved, kept_rows, Table, kept_of, leaf_count_of, after_stores, after_log-none, kept_run, run_writes, IsTakenLeaf, raw_in, header_of, common_steps}
+use Rattle.blob_file.proofs.Imports.{rules, ◌≡◌, ◌+◌, ◌<◌, ◌≤◌, ◌∙◌, ⊎_elim, ℕ, ℤ, List, [], get_or, length, Err, sym, ap, subst, arith, cases_lt, indices, column_writes, with_column, AreRowsMoved, leaf_moved, kept_rows, Table, kept_of, leaf_count_of, after_stores, kept_run, run_writes, IsTakenLeaf, raw_in, header_of}
 use Rattle.blob_file.proofs.Filled.{kept_long, leaf_logged, leaf_steps}
 use Rattle.blob_file.proofs.fill.fill_run.Goals as goal
-
-pub loop-leaf-init : goal.loop-leaf-init
-loop-leaf-init g c = grind (arith, common_steps, after_log-none, no_leaf_moved)
 
 pub loop-leaf-preserved : goal.loop-leaf-preserved
 loop-leaf-preserved g c =

@@ -1,13 +1,7 @@
 use Rattle.blob_file.proofs.Imports.{◌≡◌, ◌+◌, ◌<◌, ◌∙◌, ℕ, ℤ, List, false, pos, get_or, length, map, refl, sym, ap, subst, arith, length-map, get_or_from_slice_get, is_signed, IsDeclared, IsIn, Leaf, leaves, LeafType, Truth, indices, entry, IsLaidOut, Cell, Hold, kinds_are, hold_widths, hold_at, low_64, raised, raised_low, leaf_type_of, leaf_types_of, owners_of, table_holds, raw_in, header_of, kind_at}
 use Rattle.blob_file.proofs.Contents.{raw_range}
-use Rattle.blob_file.proofs.Filled.{raw_is, cell_count}
+use Rattle.blob_file.proofs.Filled.{raw_is}
 use Rattle.blob_file.proofs.fill.read_fitting.Goals as goal
-
-pub read_rows-requires-clause-leaf_in : goal.read_rows-requires-clause-leaf_in
-read_rows-requires-clause-leaf_in c = omega (arith, ap (λ (cells : List Cell). length cells) c.map-map.ensures.cells, cell_count c.args.view.now, c.requires.leaf_in)
-
-pub read_rows-requires-clause-rows_in : goal.read_rows-requires-clause-rows_in
-read_rows-requires-clause-rows_in c = omega (arith, c.map-map.ensures.slots, c.laws_of_table.ensures.table.rows, c.requires.rows_in)
 
 pub returns-clause-fitting : goal.returns-clause-fitting
 returns-clause-fitting c = λ yes k l.

@@ -1,22 +1,13 @@
 use Rattle.blob_file.proofs.Imports.{rules, ◌≡◌, drop, Some, Err, inr, refl, tree_of, bytes_to_line_end, common_steps, arith}
 use Rattle.blob_file.specs.declared.fault.FileFault.TheVariants as fault
-use Rattle.blob_file.proofs.HeadReads.{short_none, no_first, no_second, no_record, no_view, other_size, header_found}
+use Rattle.blob_file.proofs.HeadReads.{no_second, no_view, other_size, header_found}
 use Rattle.blob_file.proofs.Refused.{refused_on}
 use Rattle.blob_file.proofs.header.read_header.Goals as goal
-
-pub returns-then-bytes-lt4-clause-refused : goal.returns-then-bytes-lt4-clause-refused
-returns-then-bytes-lt4-clause-refused c = inr (refl, short_none c.args.bytes.now c.if-bytes-lt4.true)
-
-pub returns-in_default-clause-refused : goal.returns-in_default-clause-refused
-returns-in_default-clause-refused c = inr (refl, no_first c.args.bytes.now (rw c.split_at.ensures.back at c.in_default.ensures))
 
 pub returns-in_default-cut_line-clause-refused : goal.returns-in_default-cut_line-clause-refused
 returns-in_default-cut_line-clause-refused c =
     let one : bytes_to_line_end (drop 4 c.args.bytes.now) ≡ Some (c.in-Some.first.now, c.in-Some.rest.now) = rw c.split_at.ensures.back at c.in-Some.ensures in
     inr (refl, no_second c.args.bytes.now c.in-Some.first.now c.in-Some.rest.now one c.in_default-cut_line.ensures)
-
-pub returns-in_err-dim-clause-refused : goal.returns-in_err-dim-clause-refused
-returns-in_err-dim-clause-refused c = grind (arith, common_steps, refused_on, no_record)
 
 pub returns-in_err-shown-clause-refused : goal.returns-in_err-shown-clause-refused
 returns-in_err-shown-clause-refused c =

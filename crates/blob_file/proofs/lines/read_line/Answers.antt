@@ -1,13 +1,6 @@
-use Rattle.blob_file.proofs.Imports.{inr, refl}
 use Rattle.blob_file.proofs.Refused.{on_ok}
-use Rattle.blob_file.proofs.Told.{told_long, refused_line, spelled_told, spelled_whole, spelled_other}
+use Rattle.blob_file.proofs.Told.{spelled_told, spelled_whole, spelled_other}
 use Rattle.blob_file.proofs.lines.read_line.Goals as goal
-
-pub returns-then-text-gt-MAX_LINE_BYTES-clause-refused : goal.returns-then-text-gt-MAX_LINE_BYTES-clause-refused
-returns-then-text-gt-MAX_LINE_BYTES-clause-refused c = inr (refl, told_long c.args.text.now c.if-text-gt-MAX_LINE_BYTES.true)
-
-pub returns-in-Err-clause-refused : goal.returns-in-Err-clause-refused
-returns-in-Err-clause-refused c = rw c.refusal.ensures (refused_line c.args.text.now c.in-Err.fault c.in-Err.ensures.told)
 
 pub returns-in-Ok : goal.returns-in-Ok
 returns-in-Ok c =

@@ -1,7 +1,7 @@
 use Rattle.blob_file.proofs.Imports.{rules, ◌≡◌, ◌*◌, ◌∙◌, List, None, Some, Err, inr, length, map, sym, ap, arith, sum_by, ExtentWord, bad_shape, bad_extents, extent_of, Owner, schema_fields, owners_by, CanLie, with_header, header_in, common_steps}
 use Rattle.blob_file.specs.declared.fault.FileFault.TheVariants as fault
 use Rattle.blob_file.proofs.Lies.{fit_by, shaped_by, ranged_by, can_by, none_by, same_owners}
-use Rattle.blob_file.proofs.Refused.{no_layout, no_length, refused, starved, on_ok}
+use Rattle.blob_file.proofs.Refused.{no_layout, no_length, refused, on_ok}
 use Rattle.blob_file.proofs.open.empty_view.Goals as goal
 use Rattle.blob_file.proofs.open.empty_view.Goals.{In_ok-bytes}
 
@@ -57,6 +57,3 @@ returns-clause-lies c = on_ok c.zeros.result (can (goal.at.returns-clause-lies c
 
 pub returns-clause-sized : goal.returns-clause-sized
 returns-clause-sized c = on_ok c.zeros.result (let same : 8 * length c.args.body.now ≡ 8 * c.in_ok-bytes.bytes = omega arith in same ∙ bits (goal.at.returns-clause-sized c).In_ok-bytes)
-
-pub returns-clause-refused : goal.returns-clause-refused
-returns-clause-refused c = starved (with_header (Some (header_in c.args.header, c.args.body.now))) c.zeros.result c.zeros.ensures.refused

@@ -1,13 +1,7 @@
-use Rattle.blob_file.proofs.Imports.{rules, ◌≡◌, ◌∙◌, drop, length, Some, Err, Result, inr, sym, ap, subst, sum_by, Owner, Table, owners_of, Saved, header_at, with_body, opened, empty_table, IsRead, header_in, header_of, FileFault, common_steps, arith}
+use Rattle.blob_file.proofs.Imports.{rules, ◌≡◌, ◌∙◌, drop, length, Some, Err, Result, sym, ap, subst, sum_by, Owner, Table, owners_of, Saved, header_at, with_body, opened, empty_table, IsRead, header_in, header_of, FileFault}
 use Rattle.blob_file.proofs.Opens.{read_is_file}
-use Rattle.blob_file.proofs.Refused.{no_magic, no_header, header_told, body_told, refused}
+use Rattle.blob_file.proofs.Refused.{header_told, body_told}
 use Rattle.blob_file.proofs.open.read_file.Goals as goal
-
-pub returns-in_default-clause-read : goal.returns-in_default-clause-read
-returns-in_default-clause-read g c = inr (no_magic c.args.bytes.now c.in_default.ensures)
-
-pub returns-in_err-header-clause-read : goal.returns-in_err-header-clause-read
-returns-in_err-header-clause-read g c = grind (arith, common_steps, refused, no_header)
 
 pub returns-in_err-view-clause-read : goal.returns-in_err-view-clause-read
 returns-in_err-view-clause-read g c =

@@ -3,9 +3,6 @@ use Rattle.blob_file.proofs.ImageBits.{blob_saved, blob_count}
 use Rattle.blob_file.proofs.Puts.{part_more, has_put}
 use Rattle.blob_file.proofs.save.put_blobs.Goals as goal
 
-pub blob-blob-requires : goal.blob-blob-requires
-blob-blob-requires g c = omega (arith, ap (length {A = List Owner}) c.map.ensures.layout, c.blob_count-b-end.ensures)
-
 pub returns-in_err-put_blob : goal.returns-in_err-put_blob
 returns-in_err-put_blob g c =
     let table = c.args.view.now in

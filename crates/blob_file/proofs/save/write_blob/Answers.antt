@@ -1,9 +1,6 @@
-use Rattle.blob_file.proofs.Imports.{rules, arith, ◌≡◌, ◌∙◌, ◌++◌, ℕ, length, take, drop, ap, length-take-le, length-drop, length-append, common_steps}
-use Rattle.blob_file.proofs.Puts.{block_written, block_stopped}
+use Rattle.blob_file.proofs.Imports.{rules, arith, ◌≡◌, ◌∙◌, ◌++◌, ℕ, length, take, drop, ap, length-take-le, length-drop, length-append}
+use Rattle.blob_file.proofs.Puts.{block_written}
 use Rattle.blob_file.proofs.save.write_blob.Goals as goal
-
-pub returns-in_err-write_all : goal.returns-in_err-write_all
-returns-in_err-write_all g c = grind (arith, common_steps, block_stopped)
 
 pub loop-done-preserved : goal.loop-done-preserved
 loop-done-preserved g c =
