@@ -1,5 +1,5 @@
 -- Numbers stand at one place each, and groups that begin as others do lead where these lead.
-use Rattle.record_dim.specs.Std.{◌≡◌, ℕ, ◌+◌, ◌*◌, ◌<◌, ◌≤◌, Bool, Option, None, Some, IsSomeAnd, false, List, length, sym, ap, ◌∙◌, subst, ⊎_elim, arith, slice_index, cases_lt, div-add-mod', div-one, mod-one, mod-eq_of_lt, div-eq_of_lt, div_self, mod_self}
+use Rattle.record_dim.specs.Std.{◌≡◌, ℕ, ◌+◌, ◌*◌, ◌<◌, ◌≤◌, Bool, Option, None, Some, IsSomeAnd, false, List, length, sym, ap, ◌∙◌, subst, ⊎_elim, arith, slice_index, cases_lt, div-add-mod', mod-eq_of_lt, div-eq_of_lt, div_self, mod_self}
 use Rattle.places.specs.Prelude.{Owner, Bit, owner_at, IsLaidOut, IsLocated}
 use Rattle.places.specs.declared.piece.Piece.{Piece}
 use Rattle.piece_bits.specs.Prelude.{spots_of, spot_at, spot_count, spot_owned}
@@ -36,10 +36,6 @@ bit_same turned first other width e = grind arith
 -- in one group
 pub in_one : (base lanes lane block row : ℕ) → row < lanes → spot_by false base lanes lane block row ≡ base + row * lane
 in_one base lanes lane block row inside = grind (arith, div-eq_of_lt, mod-eq_of_lt)
-
--- in groups of one row
-in_ones : (base lane block row : ℕ) → spot_by false base 1 lane block row ≡ base + row * block
-in_ones base lane block row = grind (arith, div-one, mod-one)
 
 -- ---- one row
 
@@ -113,7 +109,7 @@ module _ (base lanes lane block : ℕ) (some : 0 < lanes) (first step led far : 
   first_is = begins ∙ way_begins base lanes lane block some
 
   not_single : lanes ≡ 1 → ⊥
-  not_single single = grind (arith, in_ones, first_is)
+  not_single single = grind (arith, first_is)
 
   module _ (more : 1 < lanes) where
     step_is : step ≡ lane

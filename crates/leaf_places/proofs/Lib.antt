@@ -2,3 +2,4 @@ mod Leading
 mod Numbers
 mod Shorts
 mod Placing
+pub mod Auto

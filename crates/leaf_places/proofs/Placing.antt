@@ -69,11 +69,6 @@ module _ (table : Table) (leaf : ℕ) (leaf_in : leaf < leaf_count_of table) (di
         grind arith);
   }
 
--- the owner of a bit, as it is told
-pub told_so : (layout other : List (List Owner)) (turned turned_told in_bits bits_told : Bool) (blob spot width row leaf k : ℕ) → layout ≡ other → turned_told ≡ turned → bits_told ≡ in_bits
-    → owner_at layout blob (bit_by turned (first_by in_bits spot) width k) ≡ Bit row leaf k → owner_at other blob (bit_by turned_told (first_by bits_told spot) width k) ≡ Bit row leaf k
-told_so layout other turned turned_told in_bits bits_told blob spot width row leaf k same turned_is bits_are owned = grind arith
-
 -- what is sought of a leaf stands where its places say
 module _ (table : Table) (leaf : ℕ) (layout : List (List Owner)) (layout_is : layout ≡ owners_of table) (rows : ℕ) (rows_are : rows ≡ length (indices table.extents))
     (sought : Sought) (leaf_is : sought.leaf ≡ leaf) where

@@ -1,11 +1,11 @@
 -- Where the short form of a leaf's rule leads a row, in groups of rows, and what stands there.
-use Rattle.record_dim.specs.Std.{◌≡◌, ℕ, zero, suc, ◌+◌, ◌-◌, ◌*◌, ◌/◌, ◌%◌, ◌^◌, ◌<◌, ◌≤◌, Bool, true, false, List, [], ◌∷◌, length, map, refl, sym, ap, ◌∙◌, subst, slice_index, ⊎_elim, arith, cases_lt, get_or-append_right, div-one, mod-one}
+use Rattle.record_dim.specs.Std.{◌≡◌, ℕ, zero, suc, ◌+◌, ◌-◌, ◌*◌, ◌/◌, ◌%◌, ◌<◌, ◌≤◌, Bool, true, false, List, [], ◌∷◌, length, map, refl, sym, ap, ◌∙◌, subst, slice_index, ⊎_elim, arith, cases_lt, get_or-append_right}
 use Rattle.places.specs.Prelude.{Owner, Bit, owner_at, IsLocated, width_at}
 use Rattle.places.specs.declared.piece.Hold.{Hold}
 use Rattle.places.specs.declared.piece.Piece.{Piece}
 use Rattle.places.specs.declared.rule.PieceRule.{PieceRule}
 use Rattle.blobs.specs.Turned.{turned_place}
-use Rattle.piece_bits.specs.Prelude.{spots_of, spot_at, spot_owned, one_at, pieces_by, place_by, short_pieces, slot_in, start_in, IsShortIn, hold_at, length-spots_in, next_piece, slot_by, walks_in_blocks, turned_pieces, word_pieces, word_width}
+use Rattle.piece_bits.specs.Prelude.{spots_of, spot_at, spot_owned, one_at, short_pieces, start_in, IsShortIn, hold_at, length-spots_in, next_piece, slot_by, walks_in_blocks, turned_pieces, word_width}
 use Rattle.piece_bits.specs.declared.field.Field.{Field}
 use Rattle.piece_bits.specs.declared.short.ShortRule.{ShortRule}
 use Rattle.piece_bits.specs.declared.walk.Walk.{Walk}
@@ -15,30 +15,16 @@ use Rattle.piece_bits.specs.declared.word.Word.TheVariants as stored
 use Rattle.leaf_places.specs.Spots.{bit_by, first_by, spot_by, IsForm}
 use Rattle.leaf_places.specs.Inner.Placing.{is_field, turns, AreGroupsOf}
 use Rattle.leaf_places.specs.declared.groups.Groups.{Groups}
-use Rattle.leaf_places.proofs.Leading.{in_one}
 
 -- ---- the groups of a walk
-
--- in blocks of one slot
-single_place : (base block lane power slot : ℕ) → power ≡ 0 → place_by base block lane power slot ≡ base + slot * block
-single_place base block lane power slot single = grind (arith, div-one, mod-one)
 
 lines_spot : (base block lines columns row : ℕ) → spot_by false base columns (lines * block) block row ≡ base + (row % columns * lines + row / columns) * block
 lines_spot base block lines columns row = grind arith
 
 module _ (short : ShortRule) (row : ℕ) where
-  slot_is : (way : Walk) → short.walk ≡ way → slot_in short row ≡ slot_by way short.lines short.columns.columns row
-  slot_is way is = ap (λ (w : Walk). slot_by w short.lines short.columns.columns row) is
-
   single_start : (way : Walk) → short.walk ≡ way → walks_in_blocks way ≡ false
       → start_in short row ≡ short.base + slot_by way short.lines short.columns.columns row * short.block
-  single_start way is single = grind (arith, single_place, slot_is)
-
-  pub plain_spot : (lanes : ℕ) → short.walk ≡ walk.Plain → row < lanes → spot_by false short.base lanes short.block 0 row ≡ start_in short row
-  plain_spot lanes is inside = in_one short.base lanes short.block 0 row inside ∙ sym (single_start walk.Plain is refl)
-
-  pub blocks_spot : (lanes : ℕ) → short.walk ≡ walk.Blocks → lanes ≡ 2 ^ short.power → spot_by false short.base lanes short.lane short.block row ≡ start_in short row
-  blocks_spot lanes is size = grind (arith, slot_is)
+  single_start way is single = grind arith
 
   pub columns_spot : (lane : ℕ) → short.walk ≡ walk.Columns → lane ≡ short.lines * short.block
       → spot_by false short.base short.columns.columns lane short.block row ≡ start_in short row
@@ -46,24 +32,12 @@ module _ (short : ShortRule) (row : ℕ) where
       ap (λ (n : ℕ). spot_by false short.base short.columns.columns n short.block row) apart
       ∙ lines_spot short.base short.block short.lines short.columns.columns row ∙ sym (single_start walk.Columns is refl)
 
-  pub digits_spot : (lane : ℕ) → short.walk ≡ walk.Morton → spot_by true short.base short.columns.columns lane short.block row ≡ start_in short row
-  digits_spot lane is = sym (single_start walk.Morton is refl)
-
 -- ---- pieces
 
 -- those of a number of so many bits whose first is this one, least significant first
 abbrev pub pieces_from : Bool → ℕ → ℕ → ℕ → List Piece
 pieces_from true blob first width = turned_pieces blob first (width / 8)
 pieces_from false blob first width = record { blob = blob; bit = first; bits = width } ∷ []
-
--- what stands at one place, by its first bit
-word_from : (word : Word) (field : Field) (blob start : ℕ) → (word ≡ stored.Scattered → ⊥)
-    → word_pieces word field blob start ≡ pieces_from (turns word) blob (first_by (is_field word) start) (word_width word field)
-word_from word field blob start alone = grind arith
-
-pub short_from : (word : Word) (field : Field) (blob start : ℕ) (rules : List PieceRule) → (word ≡ stored.Scattered → ⊥)
-    → pieces_by word field blob rules start ≡ pieces_from (turns word) blob (first_by (is_field word) start) (word_width word field)
-short_from word field blob start rules alone = grind (arith, word_from)
 
 pub word_formed : (word : Word) (field : Field) → (word ≡ stored.Scattered → ⊥) → (word ≡ stored.Field → field.width ≤ 57) → IsForm (is_field word) (turns word) (word_width word field)
 word_formed word field alone narrow = grind arith
@@ -109,7 +83,7 @@ module _ (layout : List (List Owner)) (slots leaf : ℕ) (holds : List Hold) (ho
   first_of row = first_by (is_field short.word) (spot_by groups.in_digits short.base groups.lanes groups.lane groups.block row)
 
   stand_as : (row : ℕ) → row < slots → pieces_from (turns short.word) short.blob (first_of row) hold.width ≡ short_pieces short rules row
-  stand_as row inside = grind (arith, wide_word, short_from)
+  stand_as row inside = grind (arith, wide_word)
 
   own_width : slice_index (map (λ (h : Hold). h.width) holds) leaf ≡ hold.width
   own_width = width_at holds leaf (record { signed = false; width = 0 }) held_in ∙ ap (λ (h : Hold). h.width) hold_is

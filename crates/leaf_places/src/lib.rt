@@ -4,6 +4,7 @@
 mod find;
 mod form;
 mod grouped;
+#[tactic(auto, using(crate::proofs::Auto::steps))]
 mod groups;
 mod search;
 mod sought;

@@ -4,7 +4,7 @@ use Rattle.places.specs.Prelude.{Owner}
 use Rattle.piece_bits.specs.declared.word.Word.TheVariants.{Scattered}
 use Rattle.leaf_places.specs.Inner.Placing.{is_field}
 use Rattle.leaf_places.specs.Spots.{IsForm}
-use Rattle.leaf_places.proofs.Placing.{cell_in, hold_of, listed, placed, told_so}
+use Rattle.leaf_places.proofs.Placing.{cell_in, hold_of, listed, placed}
 use Rattle.leaf_places.proofs.Shorts.{short_form, short_owned}
 use Rattle.leaf_places.proofs.find.short_places.Goals as goal
 
@@ -31,4 +31,4 @@ returns c =
     (omega (arith, c.if-blob-blob_count.false, c.blob_count.ensures, ap (length {A = List Owner}) map.layout))
     (c.blob_bytes.ensures ∙ ap (λ (l : List (List Owner)). length (get_or l short.blob [])) map.layout) are.some
     (subst (λ (b : Bool). IsForm b c.is_turned.result hold.width) (sym c.is_field.ensures) (subst (λ (t : Bool). IsForm (is_field short.word) t hold.width) (sym c.is_turned.ensures) form))
-    (λ row k inside below. grind (arith, told_so))
+    (λ row k inside below. grind arith)
