@@ -15,5 +15,5 @@ returns-in-Some c =
     record {
       value = read;
       declared = declared_seen c.self.invariant.1 c.self.view_is c.args.row c.args.leaf c.requires.row_in c.requires.leaf_in read;
-      same = c.self.view_is ∙ sym (idle_seen c.self.invariant.1 c.self.view_is c.self.invariant.0 (c.in-Some.ensures.uncounted refl) c.self.invariant.2 (Read c.args.row c.args.leaf ∷ []));
+      same = sym (idle_seen c.self.invariant.1 c.self.view_is c.self.invariant.0 (c.in-Some.ensures.uncounted refl) c.self.invariant.2 (Read c.args.row c.args.leaf ∷ []));
     }

@@ -3,7 +3,7 @@ use Rattle.views.proofs.MoveLaws.{all_sized, all_steps, all_kept, all_seen}
 use Rattle.views.proofs.view.View.move_blobs.Goals as goal
 
 pub move_all-requires : goal.move_all-requires
-move_all-requires g c = all_sized c.self.invariant.1 c.source.invariant.1 c.self.view_is c.source.view_is c.requires.alike c.requires.blobs ∙ sym (ap (λ (bs : List (List ℕ)). map (length {A = ℕ}) bs) c.as_slice.ensures.value)
+move_all-requires g c = record { lengths = all_sized c.self.invariant.1 c.source.invariant.1 c.self.view_is c.source.view_is c.requires.alike c.requires.blobs ∙ sym (ap (λ (bs : List (List ℕ)). map (length {A = ℕ}) bs) c.as_slice.ensures.value) }
 
 pub invariant_of-self : goal.invariant_of-self
 invariant_of-self g c = (c.self.invariant.0, all_kept c.self.invariant.1 c.source.invariant.1 c.self.view_is c.source.view_is c.requires.alike c.requires.blobs (c.move_all.ensures.blobs ∙ c.as_slice.ensures.value) c.requires.modes, c.self.invariant.2)
