@@ -45,8 +45,7 @@ pub use Rattle.map_expr.specs.declared.check.BadMapping.{BadMapping}
 pub use Rattle.extents.specs.declared.words.BadExtents.{BadExtents as Bad}
 pub use Rattle.line_tokens.specs.SpotLaws.{same_spots}
 pub use Rattle.record_dim.specs.declared.leaf_type.LeafType.TheVariants.{Bool as Truth}
-pub use Rattle.views.proofs.RunStoreLaws.{value_more}
-pub use Rattle.views.proofs.StoredLaws.{nothing_stored, HasStored, passed}
+pub use Rattle.views.proofs.StoredLaws.{nothing_stored, value_more, HasStored, passed}
 pub use Rattle.blob_file.specs.Opened.{cut, raw_in, rows_in, answer_by, are_taken, all_taken, leaf_count, row_count, bytes_to_line_end, with_blobs, with_body, empty_table, table_of_saved, IsRead, same_bytes, fields_told, new_told, with_record, header_told, behind_first, behind_size, is_plain, mode_by, Saved, with_header, canonical_by}
 unfoldable pub use Rattle.blob_file.specs.Opened.{are_contents, line_told, header_at, opened}
 pub use Rattle.blob_file.specs.Files.{Header, owners_by, image_bytes, AreRows, two_lines, four_bytes, is_wrap, record_line, view_line, record_text, view_text, header_text, IsShort, magic, IsFile}

@@ -21,8 +21,8 @@ pub use Rattle.views.proofs.KeptColumns.{none_refused}
 pub use Rattle.views.proofs.KeptLaws.{kind_count}
 pub use Rattle.views.proofs.RunLaws.{column_then}
 pub use Rattle.views.proofs.RunSeenLaws.{run_declared}
-pub use Rattle.views.proofs.RunStoreLaws.{run_stored, value_more}
-pub use Rattle.views.proofs.StoredLaws.{fault_here, first_taken, nothing_stored}
+pub use Rattle.views.proofs.RunStoreLaws.{run_stored}
+pub use Rattle.views.proofs.StoredLaws.{fault_here, first_taken, nothing_stored, value_more}
 pub use Rattle.views.proofs.StoreLaws.{fit_answer, fit_kept, map_same}
 pub use Rattle.lane_kernels.proofs.LeafRuns.{run_raised}
 pub use Rattle.piece_bits.proofs.InPlace.{IsReplaced, all, one_more}

@@ -1,6 +1,6 @@
 -- Pieces of slots that are moved between the blobs of two views, as far behind each other on either side.
-use Rattle.views.proofs.Imports.{◌≡◌, ℕ, zero, suc, ◌+◌, ◌*◌, ◌%◌, ◌<◌, ◌≤◌, List, [], length, get_or, set, Option, Some, None, sym, subst, arith, IfSome, get_or-set_same, length-set, set-set, set-get_or, indices, Order, slot_count, Fields, kinds_of, Owner, IsMoved, AreMoved, moved_bits, Term, array_of, lanes_in, IsArrayRun, StoreMode, IsKept, raw_under, IsRunMoved, IsMovedEach}
-use Rattle.views.proofs.RunMoveLaws.{IsMove, HasRun, none_moved, target_in, target_room, source_in, source_room, run_kept, run_raw}
+use Rattle.views.proofs.Imports.{◌≡◌, ℕ, zero, suc, ◌+◌, ◌*◌, ◌%◌, ◌<◌, ◌≤◌, List, [], length, get_or, set, sym, subst, arith, IfSome, get_or-set_same, length-set, set-set, set-get_or, indices, slot_count, Fields, kinds_of, Owner, IsMoved, AreMoved, moved_bits, Term, array_of, lanes_in, IsArrayRun, StoreMode, IsKept, raw_under, IsRunMoved, IsMovedEach, Option, Some, None, Order}
+use Rattle.views.proofs.RunMoveLaws.{IsMove, HasRun, none_moved, target_in, run_kept, run_raw}
 use Rattle.views.proofs.SlotMoveLaws.{runs_joined}
 
 -- one of all that is said of a mapping's slots
@@ -29,15 +29,6 @@ module _ {mode lender : StoreMode} {a b : Term} {extents others_extents : List �
     (kept : IsKept mode a extents fields old) (others_kept : IsKept lender b others_extents trees others) where
   pub each_target_in : target < length old
   each_target_in = target_in (e.each 0 e.more) kept others_kept
-
-  pub each_source_in : source < length others
-  each_source_in = source_in (e.each 0 e.more) kept others_kept
-
-  pub each_target_room : (k : ℕ) → k < pieces → at + k * to_step + len ≤ length (get_or old target [])
-  each_target_room k l = target_room (e.each k l) kept others_kept
-
-  pub each_source_room : (k : ℕ) → k < pieces → from + k * from_step + len ≤ length (get_or others source [])
-  each_source_room k l = source_room (e.each k l) kept others_kept
 
   -- what is kept of blobs, and what their raw numbers are, once so many slots were moved
   abbrev After : ℕ → List (List ℕ) → Type 0

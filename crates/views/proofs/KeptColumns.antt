@@ -1,7 +1,6 @@
 -- A view in which a column is stored.
-use Rattle.views.proofs.Imports.{◌≡◌, ℕ, zero, suc, ◌+◌, ◌<◌, List, [], ◌∷◌, length, map, get_or, set, ℤ, pos, None, Ok, refl, sym, ap, ◌∙◌, subst, ⊎_elim, arith, cases_eq, get_or-set_same, get_or-set_other, LeafType, kinds_of, Fields, schema_fields, Schema, entry, MapExpr, Term, term_of, layout_by, holds_by, AreLaid, hold_at, with_column, column_writes, first_lane_fault, declared, declared_same, StoreMode, declared_row, declared_table, IsSettled, fitting_settled, IsKept, raw_under, table_under, StoreAnswer, Fits, kind_at, without_number, Table, kept_of, after_stores, Tally, tallied}
+use Rattle.views.proofs.Imports.{◌≡◌, ℕ, zero, suc, ◌+◌, ◌<◌, List, [], ◌∷◌, length, map, get_or, set, ℤ, pos, None, Ok, refl, sym, ap, ◌∙◌, subst, ⊎_elim, arith, cases_eq, get_or-set_same, get_or-set_other, LeafType, kinds_of, Fields, entry, Term, layout_by, holds_by, AreLaid, hold_at, with_column, first_lane_fault, declared, declared_same, StoreMode, declared_row, declared_table, IsSettled, fitting_settled, IsKept, raw_under, table_under, StoreAnswer, Fits, kind_at, without_number}
 use Rattle.views.proofs.KeptLaws.{raw_shape, hold_some}
-use Rattle.views.proofs.Opened.{seen_from}
 use Rattle.views.proofs.StoreLaws.{map_same}
 use Rattle.views.proofs.StoredLaws.{first_taken}
 
@@ -40,7 +39,7 @@ declared_column kinds leaf zero (value ∷ values) [] = refl
 declared_column kinds leaf zero (value ∷ values) (numbers ∷ rows) = grind (arith, declared_set, (declared_column kinds leaf zero values rows))
 
 -- fitting values of a leaf are written
-module _ (mode : StoreMode) (term : Term) (extents : List ℕ) (fields : Fields) (blobs : List (List ℕ)) (kept : IsKept mode term extents fields blobs) (new : List (List ℕ)) (row leaf : ℕ) (values : List ℤ)
+module _ {mode : StoreMode} {term : Term} {extents : List ℕ} {fields : Fields} {blobs : List (List ℕ)} (kept : IsKept mode term extents fields blobs) {new : List (List ℕ)} (row leaf : ℕ) (values : List ℤ)
     (leaf_in : leaf < length (kinds_of fields)) (laid : AreLaid (layout_by term extents fields) new)
     (is : raw_under term extents fields new ≡ with_column leaf row values (raw_under term extents fields blobs))
     (fits : (k : ℕ) → k < length values → Fits (kind_at (kinds_of fields) leaf) (hold_at (holds_by term fields) leaf) (get_or values k (pos 0))) where
@@ -49,8 +48,8 @@ module _ (mode : StoreMode) (term : Term) (extents : List ℕ) (fields : Fields)
       let kinds = kinds_of fields in
       let holds = holds_by term fields in
       let old = raw_under term extents fields blobs in
-      let shape = raw_shape mode term extents fields blobs kept in
-      let some = hold_some mode term extents fields blobs kept leaf leaf_in in
+      let shape = raw_shape kept in
+      let some = hold_some kept leaf leaf_in in
       record {
         lawful = kept.lawful;
         paired = kept.paired;
@@ -66,14 +65,6 @@ module _ (mode : StoreMode) (term : Term) (extents : List ℕ) (fields : Fields)
 
   pub table_column : table_under term extents fields new ≡ with_column leaf row values (table_under term extents fields blobs)
   table_column = grind (arith, declared_column, map_same, declared_same)
-
--- the view after values of a leaf were stored that are kept as they are
-pub seen_column : {mode : StoreMode} (schema : Schema) (extents : List ℕ) (expr : MapExpr) (blobs : List (List ℕ)) {tally : Tally} {seen : Table} → seen_from mode schema extents expr blobs tally ≡ seen
-    → (row leaf count : ℕ) (values : List ℤ) (stored : List (List ℕ)) (new : Tally) → map (kept_of seen leaf) values ≡ values
-    → table_under (term_of expr) extents (schema_fields schema) stored ≡ with_column leaf row values (table_under (term_of expr) extents (schema_fields schema) blobs)
-    → new ≡ tallied (layout_by (term_of expr) extents (schema_fields schema)) tally (column_writes leaf row count)
-    → seen_from mode schema extents expr stored new ≡ after_stores seen (with_column leaf row (map (kept_of seen leaf) values) seen.rows) (column_writes leaf row count)
-seen_column {mode} schema extents expr blobs {tally} {seen} is row leaf count values stored new same table counts = grind arith
 
 -- ---- values that are all taken
 

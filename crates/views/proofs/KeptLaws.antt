@@ -22,7 +22,7 @@ pub some_width : (layout : List (List Owner)) (slots : ℕ) (holds : List Hold) 
 some_width layout slots holds lawful leaf l =
     (hold_widths layout slots holds lawful leaf (hold_at holds leaf) l (slice_get-get_or holds leaf (record { signed = false; width = 0 }) l)).0
 
-module _ (mode : StoreMode) (term : Term) (extents : List ℕ) (fields : Fields) (blobs : List (List ℕ)) (kept : IsKept mode term extents fields blobs) where
+module _ {mode : StoreMode} {term : Term} {extents : List ℕ} {fields : Fields} {blobs : List (List ℕ)} (kept : IsKept mode term extents fields blobs) where
   pub raw_shape : HasShape (length (indices extents)) (length (kinds_of fields)) (raw_under term extents fields blobs)
   raw_shape =
       let shape = table_shape (layout_by term extents fields) (length (indices extents)) (holds_by term fields) (bit_in blobs) in
@@ -108,6 +108,12 @@ module _ (mode : StoreMode) (term : Term) (extents : List ℕ) (fields : Fields)
         ap (declared_table (kinds_of fields)) is
         ∙ declared_with_entry (length (indices extents)) (kinds_of fields) (raw_under term extents fields blobs) raw_shape row leaf raw row_in leaf_in
 
+-- the first blobs of a layout, all zeros
+pub record AreFresh (layout : List (List Owner)) (count : ℕ) (blobs : List (List ℕ)) : Type 0 where
+  pub size : length blobs ≡ count
+  pub lengths : (b : ℕ) → b < count → 8 * length (get_or blobs b []) ≡ length (get_or layout b [])
+  pub zero : (b p : ℕ) → bit_in blobs b p ≡ 0
+
 -- 0 fits every leaf
 zero_held : (hold : Hold) → 1 ≤ hold.width → IsIn hold.signed hold.width (pos 0)
 zero_held hold some = grind (arith, pow_pos, cases_Bool)
@@ -149,8 +155,8 @@ module _ (term : Term) (extents : List ℕ) (fields : Fields) (blobs : List (Lis
       let rows : ℕ = length (indices extents) in
       let shape : HasShape rows (length (kinds_of fields)) (zeros rows (length (kinds_of fields))) = zeros_shape rows (length (kinds_of fields)) in
       tables_same rows (length (kinds_of fields)) (table_under term extents fields blobs) (zeros rows (length (kinds_of fields)))
-      (declared_shape rows (kinds_of fields) (raw_under term extents fields blobs) (raw_shape Strict term extents fields blobs (kept_zeros Strict))) shape
+      (declared_shape rows (kinds_of fields) (raw_under term extents fields blobs) (raw_shape (kept_zeros Strict))) shape
       (λ row leaf l m.
-      entry_is_declared Strict term extents fields blobs (kept_zeros Strict) row leaf l m ∙ ap (declared (kind_at (kinds_of fields) leaf)) (zero_raw row leaf l m)
+      entry_is_declared (kept_zeros Strict) row leaf l m ∙ ap (declared (kind_at (kinds_of fields) leaf)) (zero_raw row leaf l m)
       ∙ declared_same (kind_at (kinds_of fields) leaf) (pos 0) (zero_declared (kind_at (kinds_of fields) leaf)) ∙ sym (zeros_entry rows (length (kinds_of fields)) row leaf l m))
       ∙ ap (zeros rows) (sym paired)

@@ -14,11 +14,9 @@ pub mod RunLaws
 pub mod RunMoveLaws
 pub mod RunSeenLaws
 pub mod RunStoreLaws
-pub mod ShownLaws
 pub mod SlotMoveLaws
 pub mod StoreLaws
 pub mod StoredLaws
 pub mod TouchLaws
 pub mod WideLaws
-pub mod ZeroBlobs
 pub mod Auto

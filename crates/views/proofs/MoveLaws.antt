@@ -1,46 +1,27 @@
 -- What blobs hold under one expression they hold under another that lays them out the same.
-use Rattle.views.proofs.Imports.{◌≡◌, ℕ, suc, ◌*◌, ◌/◌, ◌+◌, ◌<◌, ℤ, List, [], ◌∷◌, map, length, get_or, refl, sym, ap, ◌∙◌, subst, arith, sum_by-cons, indices, Fields, kinds_of, IsLaidOut, Owner, Hold, blocks, AreLaid, AreSized, Term, uncounted, term_of, layout_by, holds_by, most_slots, MapExpr, schema_fields, Schema, StoreMode, AllSettled, IsKept, raw_under, table_under, Table, leaf_types_of, table_holds, layout_uncounted, holds_uncounted, slots_uncounted, Tally, blob_steps, MayMove, settled_moves, may_move}
+use Rattle.views.proofs.Imports.{◌≡◌, ℕ, ◌/◌, ◌+◌, ◌<◌, ℤ, List, [], map, length, get_or, fold, sym, ap, ◌∙◌, subst, arith, ext_get_or, get_or-map, length-map, fold-map, indices, Fields, kinds_of, IsLaidOut, Owner, Hold, blocks, AreLaid, AreSized, Term, uncounted, layout_by, holds_by, most_slots, StoreMode, AllSettled, IsKept, raw_under, table_under, Table, leaf_types_of, table_holds, owners_of, layout_uncounted, holds_uncounted, slots_uncounted, Tally, blob_lengths, blob_steps, MayMove, settled_moves, may_move}
 use Rattle.record_dim.specs.Std.{sum_by}
 use Rattle.views.proofs.Opened.{seen_from}
 use Rattle.views.proofs.KeptLaws.{some_width}
 
 -- the bytes of blobs of a layout's lengths, and the blocks that they are
-sized_blocks : (layout : List (List Owner)) (blobs : List (List ℕ)) → length blobs ≡ length layout
-    → ((b : ℕ) → b < length layout → 8 * length (get_or blobs b []) ≡ length (get_or layout b []))
-    → sum_by (λ (blob : List ℕ). blocks (length blob)) blobs ≡ blob_steps layout
-sized_blocks [] [] count each = refl
-sized_blocks [] (blob ∷ blobs) count each = absurd (omega arith)
-sized_blocks (owners ∷ layout) [] count each = absurd (omega arith)
-sized_blocks (owners ∷ layout) (blob ∷ blobs) count each =
-    let first : 8 * length blob ≡ length owners = each 0 (omega arith) in
-    let bytes : length blob ≡ length owners / 8 = omega arith in
-    let here : blocks (length blob) ≡ blocks (length owners / 8) = ap blocks bytes in
-    let rest : sum_by (λ (b : List ℕ). blocks (length b)) blobs ≡ blob_steps layout = sized_blocks layout blobs (omega arith) (λ b l. each (suc b) (omega arith)) in
-    sum_by-cons (λ (b : List ℕ). blocks (length b)) blob blobs
-    ∙ ap (λ (n : ℕ). n + sum_by (λ (b : List ℕ). blocks (length b)) blobs) here
-    ∙ ap (λ (n : ℕ). blocks (length owners / 8) + n) rest
-    ∙ sym (sum_by-cons (λ (o : List Owner). blocks (length o / 8)) owners layout)
+lengths_in : (layout : List (List Owner)) (blobs : List (List ℕ)) → AreSized layout blobs → map (length {A = ℕ}) blobs ≡ blob_lengths layout
+lengths_in layout blobs sized =
+    let bytes = λ (owners : List Owner). length owners / 8 in
+    ext_get_or 0 (map (length {A = ℕ}) blobs) (map bytes layout) (length-map blobs (length {A = ℕ}) ∙ sized.count ∙ sym (length-map layout bytes)) (λ k l.
+    let inside : k < length blobs = omega (arith, l, length-map blobs (length {A = ℕ})) in
+    let there : k < length layout = omega (arith, inside, sized.count) in
+    let same : length (get_or blobs k []) ≡ length (get_or layout k []) / 8 = omega (arith, sized.lengths k there) in
+    get_or-map (length {A = ℕ}) blobs k [] 0 inside ∙ same ∙ sym (get_or-map bytes layout k [] 0 there))
 
-pub blocks_are : (layout : List (List Owner)) (blobs : List (List ℕ)) → AreSized layout blobs → sum_by (λ (blob : List ℕ). blocks (length blob)) blobs ≡ blob_steps layout
-blocks_are layout blobs sized = sized_blocks layout blobs sized.count sized.lengths
-
-lengths_in : (layout : List (List Owner)) (blobs : List (List ℕ)) → length blobs ≡ length layout
-    → ((b : ℕ) → b < length layout → 8 * length (get_or blobs b []) ≡ length (get_or layout b [])) → map (length {A = ℕ}) blobs ≡ map (λ (owners : List Owner). length owners / 8) layout
-lengths_in [] [] count each = refl
-lengths_in [] (blob ∷ blobs) count each = absurd (omega arith)
-lengths_in (owners ∷ layout) [] count each = absurd (omega arith)
-lengths_in (owners ∷ layout) (blob ∷ blobs) count each =
-    let first : 8 * length blob ≡ length owners = each 0 (omega arith) in
-    let bytes : length blob ≡ length owners / 8 = omega arith in
-    ap (λ (n : ℕ). n ∷ map (length {A = ℕ}) blobs) bytes
-    ∙ ap (λ (ns : List ℕ). length owners / 8 ∷ ns) (lengths_in layout blobs (omega arith) (λ b l. each (suc b) (omega arith)))
-
-pub same_lengths : (layout : List (List Owner)) (one two : List (List ℕ)) → AreSized layout one → AreSized layout two → map (length {A = ℕ}) one ≡ map (length {A = ℕ}) two
-same_lengths layout one two first second = lengths_in layout one first.count first.lengths ∙ sym (lengths_in layout two second.count second.lengths)
+blocks_in : (layout : List (List Owner)) (blobs : List (List ℕ)) → AreSized layout blobs → sum_by (λ (blob : List ℕ). blocks (length blob)) blobs ≡ blob_steps layout
+blocks_in layout blobs sized =
+    let step = λ (sum n : ℕ). sum + blocks n in
+    sym (fold-map step (length {A = ℕ}) 0 blobs) ∙ ap (fold step 0) (lengths_in layout blobs sized) ∙ fold-map step (λ (owners : List Owner). length owners / 8) 0 layout
 
 -- two expressions that are one without their counters, over one array
-module _ (a b : Term) (extents others : List ℕ) (fields trees : Fields) (same : uncounted a ≡ uncounted b) (alike : (fields ≡ trees) × (extents ≡ others)) where
-  pub layouts_same : layout_by b others trees ≡ layout_by a extents fields
+module _ (a b : Term) {extents others : List ℕ} {fields trees : Fields} (same : uncounted a ≡ uncounted b) (alike : (fields ≡ trees) × (extents ≡ others)) where
+  layouts_same : layout_by b others trees ≡ layout_by a extents fields
   layouts_same = grind (arith, layout_uncounted)
 
   holds_same : holds_by b trees ≡ holds_by a fields
@@ -56,11 +37,11 @@ module _ (a b : Term) (extents others : List ℕ) (fields trees : Fields) (same 
   moved_raw : (blobs : List (List ℕ)) → raw_under a extents fields blobs ≡ raw_under b others trees blobs
   moved_raw blobs = grind (arith, layouts_same, rows_same, holds_same)
 
-  pub moved_table : (blobs : List (List ℕ)) → table_under a extents fields blobs ≡ table_under b others trees blobs
+  moved_table : (blobs : List (List ℕ)) → table_under a extents fields blobs ≡ table_under b others trees blobs
   moved_table blobs = grind (arith, moved_raw)
 
   -- what is kept of the blobs, in a view that may hold them
-  pub moved_kept : (from to : StoreMode) → MayMove from to (kinds_of fields) (holds_by a fields) → (blobs : List (List ℕ)) → IsKept from b others trees blobs → IsKept to a extents fields blobs
+  moved_kept : (from to : StoreMode) → MayMove from to (kinds_of fields) (holds_by a fields) → (blobs : List (List ℕ)) → IsKept from b others trees blobs → IsKept to a extents fields blobs
   moved_kept from to may blobs kept =
       let lawful : IsLaidOut (layout_by a extents fields) (length (indices extents)) (map (λ (h : Hold). h.width) (holds_by a fields)) =
       subst (λ (hs : List Hold). IsLaidOut (layout_by a extents fields) (length (indices extents)) (map (λ (h : Hold). h.width) hs)) holds_same
@@ -81,19 +62,43 @@ module _ (a b : Term) (extents others : List ℕ) (fields trees : Fields) (same 
       }
 
 -- two views over one array, by their fields
-pub views_alike : (one two : Table) {seen others : Table} → seen ≡ one → others ≡ two → (one.fields ≡ two.fields) × (one.extents ≡ two.extents)
-    → (seen.fields ≡ others.fields) × (seen.extents ≡ others.extents)
-views_alike one two is are alike = grind arith
+pub views_alike : {one two seen others : Table} → seen ≡ one → others ≡ two → (one.fields ≡ two.fields) × (one.extents ≡ two.extents) → (seen.fields ≡ others.fields) × (seen.extents ≡ others.extents)
+views_alike {one} {two} {seen} {others} is are alike = grind arith
 
-pub views_one : (one two : Table) {seen others : Table} → seen ≡ one → others ≡ two → uncounted one.mapping ≡ uncounted two.mapping → uncounted seen.mapping ≡ uncounted others.mapping
-views_one one two is are same = ap (λ (t : Table). uncounted t.mapping) is ∙ same ∙ sym (ap (λ (t : Table). uncounted t.mapping) are)
-
-pub may_seen : (one two : Table) {seen others : Table} → seen ≡ one → others ≡ two → MayMove two.mode one.mode (leaf_types_of one) (table_holds one)
+may_seen : {one two seen others : Table} → seen ≡ one → others ≡ two → MayMove two.mode one.mode (leaf_types_of one) (table_holds one)
     → MayMove others.mode seen.mode (leaf_types_of seen) (table_holds seen)
-may_seen one two {seen} {others} is are may = grind arith
+may_seen {one} {two} {seen} {others} is are may = grind arith
 
 -- what callers see once other blobs stand there
-pub seen_moved : {mode : StoreMode} (schema : Schema) (extents : List ℕ) (expr : MapExpr) (old new : List (List ℕ)) (tally : Tally) (seen : Table) (rows : List (List ℤ))
-    → seen_from mode schema extents expr old tally ≡ seen → table_under (term_of expr) extents (schema_fields schema) new ≡ rows
-    → seen_from mode schema extents expr new tally ≡ (let t : Table = record seen { rows = rows } in t)
-seen_moved {mode} schema extents expr old new tally seen rows is table = grind arith
+pub seen_moved : {mode : StoreMode} (fields : Fields) (extents : List ℕ) (term : Term) (old new : List (List ℕ)) (tally : Tally) (seen : Table) (rows : List (List ℤ))
+    → seen_from mode fields extents term old tally ≡ seen → table_under term extents fields new ≡ rows → seen_from mode fields extents term new tally ≡ (let t : Table = record seen { rows = rows } in t)
+seen_moved {mode} fields extents term old new tally seen rows is table = grind arith
+
+-- all blobs of one view are those of another
+module _ {mode lender : StoreMode} {fields trees : Fields} {extents others : List ℕ} {a b : Term} {blobs lent : List (List ℕ)} {tally counts : Tally} {one two : Table}
+    (kept : IsKept mode a extents fields blobs) (lent_kept : IsKept lender b others trees lent) (is : seen_from mode fields extents a blobs tally ≡ one)
+    (are : seen_from lender trees others b lent counts ≡ two) (alike : (one.fields ≡ two.fields) × (one.extents ≡ two.extents)) (same : uncounted one.mapping ≡ uncounted two.mapping) where
+  trees_same : (fields ≡ trees) × (extents ≡ others)
+  trees_same = views_alike is are alike
+
+  terms_same : uncounted a ≡ uncounted b
+  terms_same = ap (λ (t : Table). uncounted t.mapping) is ∙ same ∙ sym (ap (λ (t : Table). uncounted t.mapping) are)
+
+  pub all_sized : map (length {A = ℕ}) blobs ≡ map (length {A = ℕ}) lent
+  all_sized =
+      lengths_in (layout_by a extents fields) blobs kept.laid.sized ∙ ap blob_lengths (sym (layouts_same a b terms_same trees_same))
+      ∙ sym (lengths_in (layout_by b others trees) lent lent_kept.laid.sized)
+
+  pub all_steps : sum_by (λ (blob : List ℕ). blocks (length blob)) lent ≡ blob_steps (owners_of one)
+  all_steps =
+      blocks_in (layout_by b others trees) lent lent_kept.laid.sized ∙ ap blob_steps (layouts_same a b terms_same trees_same) ∙ ap (λ (t : Table). blob_steps (owners_of t)) is
+
+  module _ {new : List (List ℕ)} (moved : new ≡ lent) where
+    pub all_kept : MayMove two.mode one.mode (leaf_types_of one) (table_holds one) → IsKept mode a extents fields new
+    all_kept may =
+        subst (λ (bs : List (List ℕ)). IsKept mode a extents fields bs) (sym moved) (moved_kept a b terms_same trees_same lender mode (may_seen is are may) lent lent_kept)
+
+    pub all_seen : seen_from mode fields extents a new tally ≡ (let t : Table = record one { rows = two.rows } in t)
+    all_seen =
+        seen_moved fields extents a blobs new tally one two.rows is
+        (ap (table_under a extents fields) moved ∙ moved_table a b terms_same trees_same lent ∙ ap (λ (t : Table). t.rows) are)

@@ -1,5 +1,5 @@
 -- Rows of a leaf that lie in a stretch.
-use Rattle.views.proofs.Imports.{◌≡◌, ℕ, zero, suc, ◌+◌, ◌<◌, ◌≤◌, List, [], ◌∷◌, length, map, take, drop, get_or, set, slice_index, ℤ, pos, ◌≤ℤ◌, FitsSigned, of_z, w64, refl, sym, ap, ◌∙◌, subst, arith, bit_at, range_with_len, Fits-of_z, ints, length-map, get_or-map, get_or-set_same, set-set, length-take, length-drop, get_or-drop, get_or-take, get_or_default, same_lists, length-range_with_len, IsIn, IsDeclared, least_of, greatest_of, least_in, greatest_in, LeafType, number, digit, entry, Owner, IsLaidOut, Hold, bit_of, PieceRule, AreSized, AreLaid, hold_at, table_in, with_entry, word_place, word_width, IsShortIn, stretch_place, IsStretch, stretch_fits, ShortRule, Stretch, low_64, code_low, stretched_at, StretchFits, ArePut, word_narrow, in_leaf, column, with_column, no_column, entry_more, raised, Fits}
+use Rattle.views.proofs.Imports.{◌≡◌, ℕ, zero, suc, ◌+◌, ◌<◌, ◌≤◌, List, [], ◌∷◌, length, map, take, drop, get_or, set, slice_index, ℤ, pos, ◌≤ℤ◌, FitsSigned, of_z, w64, refl, sym, ap, ◌∙◌, subst, arith, bit_at, range_with_len, Fits-of_z, ints, length-map, get_or-map, get_or-set_same, set-set, set-get_or, length-take, length-drop, get_or-drop, get_or-take, get_or_default, same_lists, length-range_with_len, IsIn, IsDeclared, least_of, greatest_of, least_in, greatest_in, LeafType, number, digit, entry, Owner, IsLaidOut, Hold, bit_of, PieceRule, AreSized, AreLaid, hold_at, table_in, with_entry, word_place, word_width, IsShortIn, stretch_place, IsStretch, stretch_fits, ShortRule, Stretch, low_64, code_low, stretched_at, StretchFits, ArePut, word_narrow, in_leaf, column, with_column, no_column, entry_more, raised, Fits}
 use Rattle.views.proofs.AccessLaws.{StandsAt, stands, blob_there, word_there, word_read, word_put, word_lies}
 
 -- ---- low bits
@@ -8,14 +8,9 @@ use Rattle.views.proofs.AccessLaws.{StandsAt, stands, blob_there, word_there, wo
 pub code_raised : (kind : LeafType) (low : ℤ) (width : ℕ) → width ≤ 64 → FitsSigned w64 low → number (digit low) width ≡ number (digit (raised kind low)) width
 code_raised kind low width narrow fits = grind (arith, of_z, Fits-of_z, code_low)
 
-set_there : (blobs : List (List ℕ)) (blob : ℕ) → set blobs blob (get_or blobs blob []) ≡ blobs
-set_there [] blob = refl
-set_there (first ∷ blobs) zero = refl
-set_there (first ∷ blobs) (suc blob) = ap (λ (more : List (List ℕ)). first ∷ more) (set_there blobs blob)
-
 -- ---- a stretch of the rows of a leaf
 
-module _ {layout : List (List Owner)} {slots : ℕ} (holds : List Hold) (leaf row most : ℕ) {rules : List PieceRule} {short : ShortRule} {count : ℕ} (stretch : Stretch)
+module _ {layout : List (List Owner)} {slots : ℕ} (holds : List Hold) {leaf row most : ℕ} {rules : List PieceRule} {short : ShortRule} {count : ℕ} {stretch : Stretch}
     (laid : IsLaidOut layout slots (map (λ (h : Hold). h.width) holds)) (paired : length holds ≡ count) (leaf_in : leaf < count)
     (form : IsShortIn layout slots leaf (slice_index (map (λ (h : Hold). h.width) holds) leaf) (hold_at holds leaf) rules short)
     (lies : IsStretch short row most stretch) (rows_in : row + most ≤ slots) where
@@ -63,7 +58,7 @@ module _ {layout : List (List Owner)} {slots : ℕ} (holds : List Hold) (leaf ro
       pub are_put : (k : ℕ) (new : List ℕ) → k ≤ stretch.rows → ArePut short stretch lows at k old new
           → AreLaid layout (set blobs short.blob new) × (table_in layout slots holds (set blobs short.blob new) ≡ with_column leaf row (take k numbers) table)
       are_put zero new few same =
-          (let still : set blobs short.blob new ≡ blobs = ap (set blobs short.blob) (same ∙ from) ∙ set_there blobs short.blob in grind (arith, no_column))
+          (let still : set blobs short.blob new ≡ blobs = ap (set blobs short.blob) (same ∙ from) ∙ set-get_or blobs short.blob [] in grind (arith, no_column))
       are_put (suc k) new few put =
           (let between : List ℕ = put.0 in
           let before = are_put k between (omega (arith, few)) put.1 in

@@ -172,7 +172,7 @@ module _ {mode lender : StoreMode} {a b : Term} {extents others_extents : List �
           (λ (before : slot_at order extents row < slot + count).
           subst Settled (sym (ap (entry (raw_under a extents fields new) row) same ∙ is_moved.moved row row_in (from_slot, before) ∙ ap (entry (table_in other (length (indices extents)) holds others) row) (sym same)))
           (settled_moves lender mode (kind_at (kinds_of fields) c) (hold_at holds c) (entry (table_in other (length (indices extents)) holds others) row c)
-          (hold_some mode a extents fields old kept c c_in) (λ wrap strict. (full_own (kinds_of fields) holds c c_in both.of_one.full).0) (source_settled row c row_in c_in)))
+          (hold_some kept c c_in) (λ wrap strict. (full_own (kinds_of fields) holds c c_in both.of_one.full).0) (source_settled row c row_in c_in)))
           (λ (past : slot + count ≤ slot_at order extents row). stands (λ e run. absurd (let l : slot_at order extents row < slot + count = run.1 in omega arith)))
           (cases_lt (slot_at order extents row) (slot + count)))
           (cases_lt (slot_at order extents row) slot))
@@ -199,24 +199,24 @@ run_declared by extents rows leaf slot count kinds source old new leaf_in one tw
 if_one : {X : Type 0} (o : Option X) (P Q : X → Type 0) → ((x : X) → P x → Q x) → IfSome o P → IfSome o Q
 if_one o P Q f p = grind arith
 
-pub run_table : {mode lender : StoreMode} (a b : Term) (extents others_extents : List ℕ) (fields trees : Fields) (old others new : List (List ℕ)) (leaf slot count : ℕ)
+pub run_table : {mode lender : StoreMode} {a b : Term} {extents others_extents : List ℕ} {fields trees : Fields} {old others new : List (List ℕ)} (leaf slot count : ℕ)
     → (fields ≡ trees) × (extents ≡ others_extents) → leaf < length (kinds_of fields) → IsKept mode a extents fields old → IsKept lender b others_extents trees others → IsKept mode a extents fields new
     → IfSome (array_of a) (λ array. IsRunMoved array.0 extents (length (indices extents)) (length (kinds_of fields)) leaf slot count
     (raw_under b others_extents trees others) (raw_under a extents fields old) (raw_under a extents fields new))
     → IfSome (array_of a) (λ array. IsRunMoved array.0 extents (length (indices extents)) (length (kinds_of fields)) leaf slot count
     (table_under b others_extents trees others) (table_under a extents fields old) (table_under a extents fields new))
-run_table {mode} {lender} a b extents others_extents fields trees old others new leaf slot count alike leaf_in kept others_kept new_kept =
+run_table {mode} {lender} {a} {b} {extents} {others_extents} {fields} {trees} {old} {others} {new} leaf slot count alike leaf_in kept others_kept new_kept =
     let rows : ℕ = length (indices extents) in
     let kinds : List LeafType = kinds_of fields in
     let source : List (List ℤ) = raw_under b others_extents trees others in
     let shape : HasShape rows (length kinds) source =
     subst (λ (f : Fields). HasShape rows (length (kinds_of f)) source) (sym alike.0)
-    (subst (λ (e : List ℕ). HasShape (length (indices e)) (length (kinds_of trees)) source) (sym alike.1) (raw_shape lender b others_extents trees others others_kept)) in
+    (subst (λ (e : List ℕ). HasShape (length (indices e)) (length (kinds_of trees)) source) (sym alike.1) (raw_shape others_kept)) in
     let same : declared_table kinds source ≡ table_under b others_extents trees others = ap (λ (f : Fields). declared_table (kinds_of f) source) alike.0 in
     if_one (array_of a) _ _ (λ array is.
     subst (λ (t : List (List ℤ)). IsRunMoved array.0 extents rows (length kinds) leaf slot count t (table_under a extents fields old) (table_under a extents fields new)) same
     (run_declared array.0 extents rows leaf slot count kinds source (raw_under a extents fields old) (raw_under a extents fields new) leaf_in shape
-    (raw_shape mode a extents fields old kept) (raw_shape mode a extents fields new new_kept) is))
+    (raw_shape kept) (raw_shape new_kept) is))
 
 -- a mapping that lays out arrays over few slots, as those of views are
 slots_are : (term : Term) (extents : List ℕ) → IfSome (array_of term) (λ array. slot_count array.0 extents ≡ most_slots term extents)
@@ -238,11 +238,6 @@ few_slots a b extents fields slot count arrays block small =
     (⊎_elim (λ (many : 2 ^ 24 < most_slots a extents). absurd (small (inl many))) (λ (few : most_slots a extents ≤ 2 ^ 24). few) (cases_lt (2 ^ 24) (most_slots a extents)))
 
 -- the slot that a mapping is asked for
-slot_in : (o : Option (Order × Option ℕ)) (P : Order × Option ℕ → Type 0) (extents : List ℕ) (slot count : ℕ) → IsSomeAnd o P
-    → IfSome o (λ array. (slot + count ≤ slot_count array.0 extents) × (slot % lanes_in array.1 (slot_count array.0 extents) + count ≤ lanes_in array.1 (slot_count array.0 extents)))
-    → 0 < count → IsSomeAnd o (λ array. slot < slot_count array.0 extents)
-slot_in o P extents slot count some within more = grind arith
-
 pub slot_there : {term : Term} {extents : List ℕ} {fields : Fields} {mapped : Term} {inside : List ℕ} {layout : List (List Owner)} {slots : ℕ} {cells : List Cell} {holds : List Hold}
     → IsMappingOf term extents fields mapped inside layout slots cells holds → (P : Order × Option ℕ → Type 0) (slot count : ℕ) → IsSomeAnd (array_of term) P
     → IsInBlock term extents slot count → 0 < count → IsSomeAnd (array_of mapped) (λ array. slot < slot_count array.0 inside)

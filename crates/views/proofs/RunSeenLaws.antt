@@ -1,10 +1,8 @@
 -- A view in which a run is put.
-use Rattle.views.proofs.Imports.{◌≡◌, ℕ, ◌+◌, ◌<◌, ◌≤◌, false, List, length, map, take, get_or, ℤ, pos, sym, ap, ◌∙◌, subst, ⊎_elim, arith, cases_lt, length-map, length-take, get_or-map, get_or-take, kinds_of, IsDeclared, schema_fields, LeafType, Schema, Owner, Cell, Hold, Term, term_of, MapExpr, kinds_are, layout_by, holds_by, is_counted, AreLaid, hold_at, table_in, stays_declared, StoreMode, low_64, column_writes, with_column, IsKept, IsMappingOf, IsTallied, raw_under, raised, run_of, TakesAll, raised_low, raised_all, run_entry, run_length, Fits, kind_at, Table, IsTable, leaf_count_of, leaf_type_of, table_holds, kept_of, after_log, after_stores, Tally, tallied, after_log-none}
+use Rattle.views.proofs.Imports.{◌≡◌, Fields, with_rows, idle_logged, tallied-none, ℕ, ◌+◌, ◌<◌, ◌≤◌, false, List, length, map, take, get_or, ℤ, pos, sym, ap, ◌∙◌, subst, ⊎_elim, arith, cases_lt, length-map, length-take, get_or-map, get_or-take, kinds_of, IsDeclared, LeafType, Owner, Cell, Hold, Term, kinds_are, layout_by, holds_by, is_counted, AreLaid, hold_at, table_in, stays_declared, StoreMode, low_64, column_writes, with_column, IsKept, IsMappingOf, IsTallied, raw_under, raised, run_of, TakesAll, raised_low, raised_all, run_entry, run_length, Fits, kind_at, Table, IsTable, leaf_count_of, leaf_type_of, table_holds, after_stores, Tally, tallied}
 use Rattle.views.proofs.KeptLaws.{kind_count}
-use Rattle.views.proofs.ShownLaws.{shown_here}
-use Rattle.views.proofs.KeptColumns.{kept_column, table_column, seen_column}
-use Rattle.views.proofs.Opened.{seen_from, leaf_seen, some_seen, raw_same, laid_there, idle_seen}
-use Rattle.views.proofs.StoreLaws.{fit_kept, map_same}
+use Rattle.views.proofs.KeptColumns.{kept_column, table_column}
+use Rattle.views.proofs.Opened.{seen_from, leaf_seen, raw_same, laid_there, shown_here}
 
 -- what holds of each value of a run holds of the first so many
 front_each : (P : ℤ → Type 0) (f : ℤ → ℤ) (lows : List ℤ) (count : ℕ) → ((k : ℕ) → k < length lows → P (f (get_or lows k (pos 0)))) → (k : ℕ) → k < length (take count (map f lows))
@@ -16,72 +14,52 @@ front_each P f lows count each k inside =
     let low : k < count = omega (arith, inside, size) in
     subst P (sym (get_or-take count (map f lows) k (pos 0) low ∙ get_or-map f lows k (pos 0) (pos 0) below)) (each k below)
 
-module _ {mode : StoreMode} (schema : Schema) (extents : List ℕ) (expr : MapExpr) (blobs : List (List ℕ)) (kept : IsKept mode (term_of expr) extents (schema_fields schema) blobs) {tally : Tally} (seen : Table)
-    (is : seen_from mode schema extents expr blobs tally ≡ seen) {mapped : Term} {inside : List ℕ} {layout : List (List Owner)} {slots : ℕ} {cells : List Cell} {holds : List Hold}
-    (mapping : IsMappingOf (term_of expr) extents (schema_fields schema) mapped inside layout slots cells holds) (leaf first count : ℕ) (lows : List ℤ) (leaf_in : leaf < leaf_count_of seen)
+module _ {mode : StoreMode} {fields : Fields} {extents : List ℕ} {term : Term} {blobs : List (List ℕ)} (kept : IsKept mode term extents fields blobs) {tally : Tally} {seen : Table}
+    (is : seen_from mode fields extents term blobs tally ≡ seen) {mapped : Term} {inside : List ℕ} {layout : List (List Owner)} {slots : ℕ} {cells : List Cell} {holds : List Hold}
+    (mapping : IsMappingOf term extents fields mapped inside layout slots cells holds) (leaf first count : ℕ) (lows : List ℤ) (leaf_in : leaf < leaf_count_of seen)
     (fits : (k : ℕ) → k < length lows → Fits (leaf_type_of seen leaf) (hold_at (table_holds seen) leaf) (raised (leaf_type_of seen leaf) (get_or lows k (pos 0)))) where
   -- each value lies in the range in which it is stored
   pub fits_here : (k : ℕ) → k < length lows → Fits (kind_at (map (λ cell. cell.kind) cells) leaf) (hold_at holds leaf) (raised (kind_at (map (λ cell. cell.kind) cells) leaf) (get_or lows k (pos 0)))
-  fits_here =
-      shown_here schema extents expr blobs kept seen is mapping
-      (λ l n ks hs. (k : ℕ) → k < length lows → Fits (kind_at ks leaf) (hold_at hs leaf) (raised (kind_at ks leaf) (get_or lows k (pos 0)))) fits
+  fits_here = shown_here kept is mapping (λ l n ks hs. (k : ℕ) → k < length lows → Fits (kind_at ks leaf) (hold_at hs leaf) (raised (kind_at ks leaf) (get_or lows k (pos 0)))) fits
 
   abbrev kinds : List LeafType
-  kinds = kinds_of (schema_fields schema)
-
-  abbrev stored : List Hold
-  stored = holds_by (term_of expr) (schema_fields schema)
+  kinds = kinds_of fields
 
   abbrev values : List ℤ
   values = take count (map (raised (kind_at kinds leaf)) lows)
 
-  fits_there : (k : ℕ) → k < length lows → Fits (kind_at kinds leaf) (hold_at stored leaf) (raised (kind_at kinds leaf) (get_or lows k (pos 0)))
+  fits_there : (k : ℕ) → k < length lows → Fits (kind_at kinds leaf) (hold_at (holds_by term fields) leaf) (raised (kind_at kinds leaf) (get_or lows k (pos 0)))
   fits_there = subst (λ (t : Table). (k : ℕ) → k < length lows → Fits (leaf_type_of t leaf) (hold_at (table_holds t) leaf) (raised (leaf_type_of t leaf) (get_or lows k (pos 0)))) (sym is) fits
 
-  each_there : (k : ℕ) → k < length values → Fits (kind_at kinds leaf) (hold_at stored leaf) (get_or values k (pos 0))
-  each_there = front_each (λ v. Fits (kind_at kinds leaf) (hold_at stored leaf) v) (raised (kind_at kinds leaf)) lows count fits_there
+  each_there : (k : ℕ) → k < length values → Fits (kind_at kinds leaf) (hold_at (holds_by term fields) leaf) (get_or values k (pos 0))
+  each_there = front_each (λ v. Fits (kind_at kinds leaf) (hold_at (holds_by term fields) leaf) v) (raised (kind_at kinds leaf)) lows count fits_there
 
-  module _ (new : List (List ℕ)) (laid : AreLaid layout new)
+  module _ {new : List (List ℕ)} (laid : AreLaid layout new)
       (put : table_in layout slots holds new ≡ with_column leaf first (take count (map (raised (kind_at (map (λ cell. cell.kind) cells) leaf)) lows)) (table_in layout slots holds blobs)) where
-    put_raw : raw_under (term_of expr) extents (schema_fields schema) new ≡ with_column leaf first values (raw_under (term_of expr) extents (schema_fields schema) blobs)
+    put_raw : raw_under term extents fields new ≡ with_column leaf first values (raw_under term extents fields blobs)
     put_raw =
         sym (raw_same mapping new) ∙ put
         ∙ ap (λ (ks : List LeafType). with_column leaf first (take count (map (raised (kind_at ks leaf)) lows)) (table_in layout slots holds blobs)) (kinds_are cells kinds mapping.cells_are)
         ∙ ap (with_column leaf first values) (raw_same mapping blobs)
 
-    pub put_kept : IsKept mode (term_of expr) extents (schema_fields schema) new
-    put_kept =
-        kept_column mode (term_of expr) extents (schema_fields schema) blobs kept new first leaf values (leaf_seen schema extents expr blobs kept seen is leaf leaf_in) (laid_there mapping new laid) put_raw
-        each_there
+    pub put_kept : IsKept mode term extents fields new
+    put_kept = kept_column kept first leaf values (leaf_seen kept is leaf leaf_in) (laid_there mapping laid) put_raw each_there
 
-    -- what callers see then
-    pub put_seen : tally ≡ tallied (layout_by (term_of expr) extents (schema_fields schema)) tally (column_writes leaf first count)
-        → seen_from mode schema extents expr new tally
+    -- what callers see then: no count changes where nothing is counted, or nothing is put
+    pub put_seen : {leaves : ℕ} → IsTallied term (layout_by term extents fields) leaves tally → (0 < count → is_counted mapped ≡ false)
+        → seen_from mode fields extents term new tally
         ≡ after_stores seen (with_column leaf first (take count (map (raised (leaf_type_of seen leaf)) lows)) seen.rows) (column_writes leaf first count)
-    put_seen counts =
-        let some = some_seen schema extents expr blobs kept seen is leaf leaf_in in
-        let own : (k : ℕ) → k < length values → Fits (leaf_type_of seen leaf) (hold_at (table_holds seen) leaf) (get_or values k (pos 0)) =
-        λ k l. subst (λ (t : Table). Fits (leaf_type_of t leaf) (hold_at (table_holds t) leaf) (get_or values k (pos 0))) is (each_there k l) in
-        let same : map (kept_of seen leaf) values ≡ values = map_same (kept_of seen leaf) values (λ k l. fit_kept seen leaf (get_or values k (pos 0)) some (own k l)) in
-        seen_column schema extents expr blobs is first leaf count values new tally same
-        (table_column mode (term_of expr) extents (schema_fields schema) blobs kept new first leaf values (leaf_seen schema extents expr blobs kept seen is leaf leaf_in) (laid_there mapping new laid) put_raw each_there)
-        counts
-        ∙ ap (λ (vs : List ℤ). after_stores seen (with_column leaf first vs seen.rows) (column_writes leaf first count)) same
-        ∙ ap (λ (t : Table). after_stores seen (with_column leaf first (take count (map (raised (leaf_type_of t leaf)) lows)) seen.rows) (column_writes leaf first count)) is
-
-    -- where nothing is counted, or nothing is put, no count changes
-    pub put_uncounted : {leaves : ℕ} → IsTallied (term_of expr) (layout_by (term_of expr) extents (schema_fields schema)) leaves tally → (0 < count → is_counted mapped ≡ false)
-        → tally ≡ tallied (layout_by (term_of expr) extents (schema_fields schema)) tally (column_writes leaf first count)
-    put_uncounted has idle =
-        ⊎_elim
-        (λ (some : 0 < count).
-        let none : is_counted seen.mapping ≡ false = ap (λ (t : Table). is_counted t.mapping) (sym is) ∙ ap is_counted (sym mapping.term_is) ∙ idle some in
-        ap (λ (t : Table). t.tally) (is ∙ sym (idle_seen schema extents expr blobs is none has (column_writes leaf first count)) ∙ sym (ap (λ (t : Table). after_log t (column_writes leaf first count)) is)))
+    put_seen has idle =
+        let old : Table = seen_from mode fields extents term blobs tally in
+        let counts : tally ≡ tallied (layout_by term extents fields) tally (column_writes leaf first count) =
+        ⊎_elim (λ (some : 0 < count). sym (idle_logged (column_writes leaf first count) (ap is_counted (sym mapping.term_is) ∙ idle some) has))
         (λ (empty : count ≤ 0).
         let none : 0 ≡ count = omega (arith, empty) in
-        ap (λ (t : Table). t.tally) (sym (after_log-none (seen_from mode schema extents expr blobs tally)))
-        ∙ ap (λ (n : ℕ). tallied (layout_by (term_of expr) extents (schema_fields schema)) tally (column_writes leaf first n)) none)
-        (cases_lt 0 count)
+        sym (tallied-none (layout_by term extents fields) tally) ∙ ap (λ (n : ℕ). tallied (layout_by term extents fields) tally (column_writes leaf first n)) none)
+        (cases_lt 0 count) in
+        ap (with_rows old) (table_column kept first leaf values (leaf_seen kept is leaf leaf_in) (laid_there mapping laid) put_raw each_there)
+        ∙ ap (λ (w : Tally). with_rows (seen_from mode fields extents term blobs w) (with_column leaf first values old.rows)) counts
+        ∙ ap (λ (t : Table). after_stores t (with_column leaf first (take count (map (raised (leaf_type_of t leaf)) lows)) t.rows) (column_writes leaf first count)) is
 
 -- ---- values of a view that another takes
 

@@ -1,5 +1,5 @@
 -- A run that is read or stored row by row.
-use Rattle.views.proofs.Imports.{◌≡◌, ℕ, suc, ◌+◌, ◌<◌, List, [], ◌∷◌, ◌++◌, length, map, take, drop, get_or, set, ℤ, pos, Some, None, sym, ap, ◌∙◌, arith, cases_eq, length-set, get_or-set_same, get_or-set_other, take-map, drop-length, map-range_with_len_more, entry, with_entry, low_64, column_reads, column_writes, with_column, first_lane_fault, entry_more, run_fault, stored_count, with_run, Table, answer_of, kept_of, after_log, after_read, after_stores, Write, after_log-none, after_stores-append, LaneFault}
+use Rattle.views.proofs.Imports.{◌≡◌, ℕ, ◌+◌, ◌<◌, List, length, map, drop, get_or, set, ℤ, pos, Some, None, sym, arith, cases_eq, length-set, get_or-set_same, get_or-set_other, take-map, drop-length, entry, low_64, column_reads, first_lane_fault, run_fault, stored_count, with_run, Table, answer_of, kept_of, after_log, after_read, after_log-none, LaneFault}
 use Rattle.views.proofs.ColumnLaws.{column_read_more}
 use Rattle.views.proofs.StoredLaws.{HasStored}
 
@@ -17,23 +17,6 @@ pub row_more : (leaf first done row : ℕ) (old table new : Table) (before value
 row_more leaf first done row old table new before values value have at inside is read = grind (arith, length-set, get_or-set_same, get_or-set_other, cases_eq, column_read_more)
 
 -- ---- values that are stored
-
--- one value more
-pub value_more : (leaf first lane at : ℕ) (old table new : Table) (values : List ℤ) (value : ℤ) → HasStored leaf first lane old table values → lane < length values → first + lane < length old.rows
-    → at ≡ first + lane → value ≡ get_or values lane (pos 0) → new ≡ after_stores table (with_entry table.rows at leaf value) (Write at leaf ∷ [])
-    → HasStored leaf first (lane + 1) old new values
-value_more leaf first lane at old table new values value stored inside below place is wrote =
-    let next : suc lane ≡ lane + 1 = omega arith in
-    let so_far = with_column leaf first (take lane values) old.rows in
-    record {
-      stored = wrote
-          ∙ ap (λ (t : Table). after_stores t (with_entry t.rows at leaf value) (Write at leaf ∷ [])) stored.stored
-          ∙ after_stores-append old so_far (with_entry so_far at leaf value) (column_writes leaf first lane) (Write at leaf ∷ [])
-          ∙ ap (λ (v : ℤ). after_stores old (with_entry so_far at leaf v) (column_writes leaf first lane ++ Write at leaf ∷ [])) is
-          ∙ ap (λ (rows : List (List ℤ)). after_stores old rows (column_writes leaf first lane ++ Write at leaf ∷ [])) (entry_more leaf first lane at values old.rows inside place (omega arith))
-          ∙ ap (λ (n : ℕ). after_stores old (with_column leaf first (take n values) old.rows) (column_writes leaf first lane ++ Write at leaf ∷ [])) next
-          ∙ ap (after_stores old (with_column leaf first (take (lane + 1) values) old.rows)) (sym (map-range_with_len_more (λ at. Write at leaf) first lane at (sym place)));
-    }
 
 -- the first so many of a run
 pub run_stored : (leaf first lane : ℕ) (old table : Table) (values : List ℤ) → HasStored leaf first lane old table (map (kept_of old leaf) values) → table ≡ with_run leaf first values lane old

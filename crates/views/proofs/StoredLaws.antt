@@ -34,20 +34,28 @@ pub record HasStored (leaf row lane : ℕ) (old table : Table) (values : List �
 pub nothing_stored : (leaf row : ℕ) (old : Table) (values : List ℤ) → HasStored leaf row 0 old old values
 nothing_stored leaf row old values = record { stored = sym (ap (λ (rows : List (List ℤ)). after_stores old rows []) (no_column leaf row old.rows) ∙ after_log-none old) }
 
+-- one value more
+pub value_more : (leaf first lane at : ℕ) (old table new : Table) (values : List ℤ) (value : ℤ) → HasStored leaf first lane old table values → lane < length values → first + lane < length old.rows
+    → at ≡ first + lane → value ≡ get_or values lane (pos 0) → new ≡ after_stores table (with_entry table.rows at leaf value) (Write at leaf ∷ [])
+    → HasStored leaf first (lane + 1) old new values
+value_more leaf first lane at old table new values value stored inside below place is wrote =
+    let next : suc lane ≡ lane + 1 = omega arith in
+    let so_far = with_column leaf first (take lane values) old.rows in
+    record {
+      stored = wrote
+          ∙ ap (λ (t : Table). after_stores t (with_entry t.rows at leaf value) (Write at leaf ∷ [])) stored.stored
+          ∙ after_stores-append old so_far (with_entry so_far at leaf value) (column_writes leaf first lane) (Write at leaf ∷ [])
+          ∙ ap (λ (v : ℤ). after_stores old (with_entry so_far at leaf v) (column_writes leaf first lane ++ Write at leaf ∷ [])) is
+          ∙ ap (λ (rows : List (List ℤ)). after_stores old rows (column_writes leaf first lane ++ Write at leaf ∷ [])) (entry_more leaf first lane at values old.rows inside place (omega arith))
+          ∙ ap (λ (n : ℕ). after_stores old (with_column leaf first (take n values) old.rows) (column_writes leaf first lane ++ Write at leaf ∷ [])) next
+          ∙ ap (after_stores old (with_column leaf first (take (lane + 1) values) old.rows)) (sym (map-range_with_len_more (λ at. Write at leaf) first lane at (sym place)));
+    }
+
+-- the same by the raw number that was written
 pub stored_more : (leaf row lane at : ℕ) (old table new : Table) (values : List ℤ) (raw : ℤ) → HasStored leaf row lane old table values → lane < length values → row + lane < length old.rows
     → at ≡ row + lane → declared (leaf_type_of old leaf) raw ≡ get_or values lane (pos 0) → new ≡ after_raw table at leaf raw → HasStored leaf row (lane + 1) old new values
 stored_more leaf row lane at old table new values raw stored inside below place is wrote =
-    let next : suc lane ≡ lane + 1 = omega arith in
-    let so_far = with_column leaf row (take lane values) old.rows in
-    record {
-      stored = wrote
-          ∙ ap (λ (t : Table). after_raw t at leaf raw) stored.stored
-          ∙ after_stores-append old so_far (with_entry so_far at leaf (declared (leaf_type_of old leaf) raw)) (column_writes leaf row lane) (Write at leaf ∷ [])
-          ∙ ap (λ (v : ℤ). after_stores old (with_entry so_far at leaf v) (column_writes leaf row lane ++ Write at leaf ∷ [])) is
-          ∙ ap (λ (rows : List (List ℤ)). after_stores old rows (column_writes leaf row lane ++ Write at leaf ∷ [])) (entry_more leaf row lane at values old.rows inside place (omega arith))
-          ∙ ap (λ (n : ℕ). after_stores old (with_column leaf row (take n values) old.rows) (column_writes leaf row lane ++ Write at leaf ∷ [])) next
-          ∙ ap (after_stores old (with_column leaf row (take (lane + 1) values) old.rows)) (sym (map-range_with_len_more (λ at. Write at leaf) row lane at (sym place)));
-    }
+    value_more leaf row lane at old table new values (declared (leaf_type_of table leaf) raw) stored inside below place (ap (λ (t : Table). declared (leaf_type_of t leaf) raw) stored.stored ∙ is) wrote
 
 -- a number of 64 bits that is handed on with 128
 pub passed : (value wide : ℤ) → FitsSigned w64 value → wide ≡ to_z w64 (of_z w64 value) → to_z w128 (of_z w128 wide) ≡ value

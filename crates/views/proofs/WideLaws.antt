@@ -1,5 +1,5 @@
 -- A leaf in a row that is read by one load of eight bytes.
-use Rattle.views.proofs.Imports.{◌≡◌, ℕ, ◌+◌, ◌*◌, ◌/◌, ◌≤◌, true, ◌||◌, nat_eq, inl, inr, ⊎_elim, List, [], length, get_or, sym, ◌∙◌, arith, cases_lt, get_or_past, number, decoded, number_same, Owner, bit_of, turned_place, IsTurned, AreLaid, word_place, word_signed, word_width, Field, Word, leads, walks_plain, walks_in_blocks, is_turned_width, IsAsWhole, IsAsTurned, AreReadWide, ShortRule, Walk, Wide, or_cases}
+use Rattle.views.proofs.Imports.{◌≡◌, ℕ, ◌+◌, ◌*◌, ◌/◌, ◌≤◌, true, ◌||◌, nat_eq, inl, inr, ⊎_elim, List, [], length, get_or, sym, ◌∙◌, arith, cases_lt, get_or_past, number, decoded, number_same, Owner, bit_of, IsTurned, AreLaid, word_place, word_signed, word_width, Field, Word, leads, walks_plain, walks_in_blocks, is_turned_width, IsAsWhole, AreReadWide, ShortRule, Walk, Wide, or_cases}
 use Rattle.piece_bits.specs.declared.word.Word.TheVariants as stored
 
 -- rows that go in one array, or in blocks, have places
@@ -26,7 +26,7 @@ pub room_by_bit : (bytes bytes' : List ℕ) (place start : ℕ) → bytes ≡ by
 room_by_bit bytes bytes' place start same at room = grind arith
 
 -- a number that is told by a sign, a width and places is told by a word of these
-said_by : (word : Word) (field : Field) (bytes : List ℕ) (start : ℕ) (place : ℕ → ℕ) → word_signed word field ≡ field.signed → word_width word field ≡ field.width
+pub said_by : (word : Word) (field : Field) (bytes : List ℕ) (start : ℕ) (place : ℕ → ℕ) → word_signed word field ≡ field.signed → word_width word field ≡ field.width
     → ((k : ℕ) → word_place word start k ≡ place k) → decoded field.signed field.width (number (λ k. bit_of bytes (place k)) field.width)
     ≡ decoded (word_signed word field) (word_width word field) (number (λ k. bit_of bytes (word_place word start k)) (word_width word field))
 said_by word field bytes start place signed wide there = grind (arith, number_same)
@@ -35,11 +35,6 @@ pub said_whole : (word : Word) (field : Field) (bytes : List ℕ) (start : ℕ) 
     → decoded field.signed field.width (number (λ k. bit_of bytes (8 * start + k)) field.width)
     ≡ decoded (word_signed word field) (word_width word field) (number (λ k. bit_of bytes (word_place word start k)) (word_width word field))
 said_whole word field bytes start h = said_by word field bytes start (λ k. 8 * start + k) h.signed h.wide (h.place start)
-
-pub said_turned : (word : Word) (field : Field) (bytes : List ℕ) (start : ℕ) → IsAsTurned word field
-    → decoded field.signed field.width (number (λ k. bit_of bytes (8 * start + turned_place field.width k)) field.width)
-    ≡ decoded (word_signed word field) (word_width word field) (number (λ k. bit_of bytes (word_place word start k)) (word_width word field))
-said_turned word field bytes start h = said_by word field bytes start (λ k. 8 * start + turned_place field.width k) h.signed h.wide (h.place start)
 
 pub said_field : (word : Word) (field : Field) (bytes : List ℕ) (start : ℕ) → word ≡ stored.Field
     → decoded field.signed field.width (number (λ k. bit_of bytes (start + k)) field.width)

@@ -63,10 +63,6 @@ none_mapped f o e = grind arith
 pub idle_touched : (layout : List (List Owner)) (tally : Tally) (access : Access) → tally.counts ≡ None → tally.heat ≡ None → after_access layout tally access ≡ tally
 idle_touched layout tally access counts heat = grind (arith, option_map)
 
-pub idle_tallied : {term : Term} {layout : List (List Owner)} {leaves : ℕ} {tally : Tally} (access : Access)
-    → is_counted term ≡ false → IsTallied term layout leaves tally → tallied layout tally (access ∷ []) ≡ tally
-idle_tallied {term} {layout} {leaves} {tally} access idle has = grind (arith, tallied-one, idle_touched, none_of, none_mapped)
-
 pub idle_log : (layout : List (List Owner)) (tally : Tally) (log : List Access) → tally.counts ≡ None → tally.heat ≡ None → tallied layout tally log ≡ tally
 unfolding tallied
 idle_log layout tally [] counts heat = refl

@@ -1,7 +1,7 @@
 -- The order of accesses carries no meaning: what is counted of some is counted of them in any order.
 use Rattle.std.specs.Prelude.{◌≡◌, ℕ, zero, suc, ◌+◌, Bool, List, [], ◌∷◌, ◌++◌, map, refl, Option, option_map, if◌then◌else◌}
 use Rattle.views.specs.Imports.{append_assoc, ap, sym, ◌∙◌, flat_map, enumerate_from, append-nil, flat_map-cons, arith, fold, Owner, is_hot, LeafCounts, HeatCounts, counted, next, warmed_blob}
-use Rattle.views.specs.Tallies.{Access, Read, Write, Tally, counts_touched, heat_touched, after_access, tallied}
+use Rattle.views.specs.Tallies.{Access, Read, Write, Tally, granules_touched, counts_touched, heat_touched, after_access, tallied}
 use Rattle.views.specs.TallyLaws.{tallied-append}
 
 -- two counts by leaf
@@ -36,21 +36,19 @@ unfolding blobs_from warm_from
 blobs_both one other first [] = refl
 blobs_both one other first (counts ∷ blobs) = rw (blob_both (one first) (other first) 0 counts, blobs_both one other (first + 1) blobs) refl
 
+granules_both : (layout : List (List Owner)) (row leaf more last : ℕ) (heat : HeatCounts)
+    → granules_touched layout more last (granules_touched layout row leaf heat) ≡ granules_touched layout row leaf (granules_touched layout more last heat)
+unfolding blobs_from
+granules_both layout row leaf more last heat =
+    ap (λ (blobs : List (List ℕ)). record heat { blobs = blobs })
+    (blobs_both (is_hot layout heat.granule row leaf) (is_hot layout heat.granule more last) 0 heat.blobs)
+
 pub heated_both : (layout : List (List Owner)) (one other : Access) (heat : HeatCounts)
     → heat_touched layout other (heat_touched layout one heat) ≡ heat_touched layout one (heat_touched layout other heat)
-unfolding blobs_from
-heated_both layout (Read row leaf) (Read more last) heat =
-    ap (λ (blobs : List (List ℕ)). record heat { blobs = blobs })
-    (blobs_both (is_hot layout heat.granule row leaf) (is_hot layout heat.granule more last) 0 heat.blobs)
-heated_both layout (Read row leaf) (Write more last) heat =
-    ap (λ (blobs : List (List ℕ)). record heat { blobs = blobs })
-    (blobs_both (is_hot layout heat.granule row leaf) (is_hot layout heat.granule more last) 0 heat.blobs)
-heated_both layout (Write row leaf) (Read more last) heat =
-    ap (λ (blobs : List (List ℕ)). record heat { blobs = blobs })
-    (blobs_both (is_hot layout heat.granule row leaf) (is_hot layout heat.granule more last) 0 heat.blobs)
-heated_both layout (Write row leaf) (Write more last) heat =
-    ap (λ (blobs : List (List ℕ)). record heat { blobs = blobs })
-    (blobs_both (is_hot layout heat.granule row leaf) (is_hot layout heat.granule more last) 0 heat.blobs)
+heated_both layout (Read row leaf) (Read more last) heat = granules_both layout row leaf more last heat
+heated_both layout (Read row leaf) (Write more last) heat = granules_both layout row leaf more last heat
+heated_both layout (Write row leaf) (Read more last) heat = granules_both layout row leaf more last heat
+heated_both layout (Write row leaf) (Write more last) heat = granules_both layout row leaf more last heat
 
 -- two accesses
 counts_both : (one other : Access) (counts : Option LeafCounts)

@@ -1,7 +1,7 @@
 -- Lists that are gone through again and again, by steps of which any two may change places.
-use Rattle.std.specs.Prelude.{◌≡◌, ℕ, zero, suc, ◌+◌, ◌*◌, List, [], ◌∷◌, ◌++◌, map, replicate, refl}
-use Rattle.views.specs.Imports.{append_assoc, add-one, ap, sym, ◌∙◌, arith, flat_map, range_with_len, append-nil, fold-append, fold-map, flat_map-cons, fold}
-use Rattle.views.specs.TallyLaws.{logs_more, accesses_more}
+use Rattle.std.specs.Prelude.{◌≡◌, ℕ, zero, suc, ◌+◌, ◌*◌, List, [], ◌∷◌, ◌++◌, replicate, refl}
+use Rattle.views.specs.Imports.{append_assoc, add-one, ap, sym, ◌∙◌, arith, flat_map, range_with_len, append-nil, fold-append, flat_map-cons, fold}
+use Rattle.views.specs.TallyLaws.{range_more, logs_more}
 
 -- a list so many times
 abbrev pub copies : {A : Type 0} → List A → ℕ → List A
@@ -31,11 +31,7 @@ fold-same step one other same s (n ∷ ns) = grind (arith, flat_map-cons, fold-a
 
 -- one number more
 pub fold_range_more : {S : Type 0} (step : S → ℕ → S) (s : S) (count : ℕ) → fold step s (range_with_len 0 (count + 1)) ≡ step (fold step s (range_with_len 0 count)) count
-fold_range_more step s count =
-    sym (fold-map step (λ (n : ℕ). n) s (range_with_len 0 (count + 1)))
-    ∙ ap (fold step s) (accesses_more (λ (n : ℕ). n) count)
-    ∙ fold-append step s (map (λ (n : ℕ). n) (range_with_len 0 count)) (count ∷ [])
-    ∙ ap (λ (t : _). step t count) (fold-map step (λ (n : ℕ). n) s (range_with_len 0 count))
+fold_range_more step s count = ap (fold step s) (range_more 0 count count (omega arith)) ∙ fold-append step s (range_with_len 0 count) (count ∷ [])
 
 -- list by list
 pub fold-flat_map : {S A : Type 0} (step : S → A → S) (list : ℕ → List A) (s : S) (ns : List ℕ) → fold step s (flat_map list ns) ≡ fold (λ t n. fold step t (list n)) s ns

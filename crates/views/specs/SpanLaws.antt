@@ -1,19 +1,12 @@
 -- Sums over numbers one after another.
-use Rattle.std.specs.Prelude.{◌≡◌, ℕ, zero, suc, ◌+◌, ◌-◌, ◌*◌, ◌<◌, ◌≤◌, List, [], ◌∷◌, ◌++◌, map, sum_by, refl}
-use Rattle.views.specs.Imports.{sym, ap, ◌∙◌, arith, range_with_len, map-range_with_len_more, sum_by_push, sum_by-cons}
-
-range_more : (first n : ℕ) → range_with_len first (n + 1) ≡ range_with_len first n ++ (first + n) ∷ []
-range_more first n =
-    sym (same (range_with_len first (n + 1))) ∙ map-range_with_len_more (λ k. k) first n (first + n) refl
-    ∙ ap (λ (ns : List ℕ). ns ++ (first + n) ∷ []) (same (range_with_len first n)) where
-      same : (ns : List ℕ) → map (λ (k : ℕ). k) ns ≡ ns
-      same [] = refl
-      same (k ∷ ns) = ap (λ (more : List ℕ). k ∷ more) (same ns)
+use Rattle.std.specs.Prelude.{◌≡◌, ℕ, zero, suc, ◌+◌, ◌-◌, ◌*◌, ◌<◌, ◌≤◌, List, [], ◌∷◌, sum_by, refl}
+use Rattle.views.specs.Imports.{ap, ◌∙◌, arith, range_with_len, sum_by_push, sum_by-cons}
+use Rattle.views.specs.TallyLaws.{range_more}
 
 module _ (f : ℕ → ℕ) (first : ℕ) where
   -- one number more
   pub span_more : (n : ℕ) → sum_by f (range_with_len first (n + 1)) ≡ sum_by f (range_with_len first n) + f (first + n)
-  span_more n = ap (sum_by f) (range_more first n) ∙ sum_by_push f (range_with_len first n) (first + n)
+  span_more n = ap (sum_by f) (range_more first n (first + n) refl) ∙ sum_by_push f (range_with_len first n) (first + n)
 
   span_grows : (n more : ℕ) → sum_by f (range_with_len first n) ≤ sum_by f (range_with_len first (n + more))
   span_grows n zero = grind (arith, sum_by, range_with_len)

@@ -57,17 +57,20 @@ pub after_reads : (row : ℕ) (table : Table) (leaves : List ℕ) → fold (λ (
 after_reads row table [] = sym (after_log-none table)
 after_reads row table (leaf ∷ leaves) = after_reads row (after_read table row leaf) leaves ∙ after_log-append table (Read row leaf ∷ []) (map (Read row) leaves)
 
+-- one number more
+pub range_more : (first n at : ℕ) → first + n ≡ at → range_with_len first (n + 1) ≡ range_with_len first n ++ at ∷ []
+range_more first n at is =
+    sym (same (range_with_len first (n + 1))) ∙ map-range_with_len_more (λ k. k) first n at is
+    ∙ ap (λ (ns : List ℕ). ns ++ at ∷ []) (same (range_with_len first n)) where
+      same : (ns : List ℕ) → map (λ (k : ℕ). k) ns ≡ ns
+      same [] = refl
+      same (k ∷ ns) = ap (λ (more : List ℕ). k ∷ more) (same ns)
+
 -- the logs of the first so many rows or leaves, and of one more
 pub logs_more : {A : Type 0} (logs : ℕ → List A) (count : ℕ) → flat_map logs (range_with_len 0 (count + 1)) ≡ flat_map logs (range_with_len 0 count) ++ logs count
 logs_more logs count =
-    ap (flat_map logs)
-    (sym (map_same (range_with_len 0 (count + 1))) ∙ map-range_with_len_more (λ n. n) 0 count count (omega arith)
-    ∙ ap (λ (ns : List ℕ). ns ++ count ∷ []) (map_same (range_with_len 0 count)))
-    ∙ flat_map-append logs (range_with_len 0 count) (count ∷ [])
-    ∙ ap (λ (log : List _). flat_map logs (range_with_len 0 count) ++ log) (flat_map-cons logs count [] ∙ append-nil (logs count)) where
-      map_same : (ns : List ℕ) → map (λ (n : ℕ). n) ns ≡ ns
-      map_same [] = refl
-      map_same (n ∷ ns) = ap (λ (more : List ℕ). n ∷ more) (map_same ns)
+    ap (flat_map logs) (range_more 0 count count (omega arith)) ∙ flat_map-append logs (range_with_len 0 count) (count ∷ [])
+    ∙ ap (λ (log : List _). flat_map logs (range_with_len 0 count) ++ log) (flat_map-cons logs count [] ∙ append-nil (logs count))
 
 pub accesses_more : {A : Type 0} (access : ℕ → A) (count : ℕ) → map access (range_with_len 0 (count + 1)) ≡ map access (range_with_len 0 count) ++ access count ∷ []
 accesses_more access count = map-range_with_len_more access 0 count count (omega arith)

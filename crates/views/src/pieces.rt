@@ -81,19 +81,13 @@ fn move_each<L: Ledger>(
     ensures moved { IsMovedEach to.byte to.step source.now from.byte from.step len pieces target.old target.new }
     ensures steps { steps.new ≡ steps.old + pieces * blocks len }
 {
-    if len == 8 {
-        return move_equal(target, to, source, from, len, pieces, steps);
+    match len {
+        8 => move_equal(target, to, source, from, len, pieces, steps),
+        16 => move_equal(target, to, source, from, len, pieces, steps),
+        32 => move_equal(target, to, source, from, len, pieces, steps),
+        64 => move_equal(target, to, source, from, len, pieces, steps),
+        _ => move_equal(target, to, source, from, len, pieces, steps),
     }
-    if len == 16 {
-        return move_equal(target, to, source, from, len, pieces, steps);
-    }
-    if len == 32 {
-        return move_equal(target, to, source, from, len, pieces, steps);
-    }
-    if len == 64 {
-        return move_equal(target, to, source, from, len, pieces, steps);
-    }
-    move_equal(target, to, source, from, len, pieces, steps);
 }
 
 // The same, of one length.

@@ -50,34 +50,6 @@ impl View {
         let Some(to) = self.array_slots() else {
             return;
         };
-        self.move_cut(leaf, slot, n, source, from, to, steps);
-    }
-
-    // The same, where the slots of both sides are told.
-    fn move_cut<L: Ledger>(
-        &mut self,
-        leaf: usize,
-        slot: u64,
-        n: u64,
-        source: &View,
-        from: ArraySlots,
-        to: ArraySlots,
-        steps: &mut Steps<L>,
-    )
-        requires leaf_in { leaf < leaf_count_of self.old }
-        requires arrays { AreRuns self.old.mapping source.now.mapping }
-        requires alike { (self.old.fields ≡ source.now.fields) × (self.old.extents ≡ source.now.extents) }
-        requires slots { HasSlots self.old.mapping self.old.extents slot n }
-        requires from { option_map (slots_in source.now.extents) (array_of source.now.mapping) ≡ Some from }
-        requires to { option_map (slots_in self.old.extents) (array_of self.old.mapping) ≡ Some to }
-        requires from_lanes { 0 < from.slots → 0 < from.lanes }
-        requires to_lanes { 0 < to.slots → 0 < to.lanes }
-        ensures same { self.new ≡ record self.old { rows = self.new.rows } }
-        ensures moved { IfSome (array_of self.old.mapping) (λ array. IsRunMoved array.0 self.old.extents (length self.old.rows) (leaf_count_of self.old)
-            leaf slot n source.now.rows self.old.rows self.new.rows) }
-        ensures steps { steps.new ≤ steps.old + move_steps (array_of source.now.mapping) (array_of self.old.mapping) self.old.extents
-            (size_of (leaf_type_of self.old leaf)) slot n }
-    {
         laws_of_table(self);
         let mut done = 0;
         while done < n {
@@ -118,34 +90,10 @@ impl View {
             leaf slot (pieces * n) source.now.rows self.old.rows self.new.rows) }
         ensures steps { steps.new ≤ steps.old + pieces * blocks (n * size_of (leaf_type_of self.old leaf)) }
     {
+        laws_of_table(self);
         if self.move_even(leaf, slot, n, pieces, source, steps) {
             return;
         }
-        self.move_apart(leaf, slot, n, pieces, source, steps);
-    }
-
-    // The same, piece by piece.
-    fn move_apart<L: Ledger>(
-        &mut self,
-        leaf: usize,
-        slot: u64,
-        n: u64,
-        pieces: u64,
-        source: &View,
-        steps: &mut Steps<L>,
-    )
-        requires leaf_in { leaf < leaf_count_of self.old }
-        requires arrays { AreRuns self.old.mapping source.now.mapping }
-        requires alike { (self.old.fields ≡ source.now.fields) × (self.old.extents ≡ source.now.extents) }
-        requires fits { slot + pieces * n < 2 ^ 64 }
-        requires block { (k : ℕ) → k < pieces → IsInBlock self.old.mapping self.old.extents (slot + k * n) n }
-        requires other_block { (k : ℕ) → k < pieces → IsInBlock source.now.mapping source.now.extents (slot + k * n) n }
-        ensures same { self.new ≡ record self.old { rows = self.new.rows } }
-        ensures moved { IfSome (array_of self.old.mapping) (λ array. IsRunMoved array.0 self.old.extents (length self.old.rows) (leaf_count_of self.old)
-            leaf slot (pieces * n) source.now.rows self.old.rows self.new.rows) }
-        ensures steps { steps.new ≤ steps.old + pieces * blocks (n * size_of (leaf_type_of self.old leaf)) }
-    {
-        laws_of_table(self);
         for k in 0..pieces {
             laws_of_table(self);
             self.move_run(leaf, slot + k * n, n, source, steps);

@@ -1,4 +1,4 @@
-use Rattle.views.proofs.Imports.{◌∙◌, SFits, rules, arith, w128, to_z-of_z}
+use Rattle.views.proofs.Imports.{◌∙◌, rules, arith, w128, to_z-of_z}
 use Rattle.views.proofs.AccessLaws.{StandsIn, with_rules, stands, lies, blob_there, blob_is, word_there, word_read, bytes_wide, bytes_read}
 use Rattle.views.proofs.access.short_read.Goals as goal
 use Rattle.views.proofs.access.short_read.Goals.{In_default}
@@ -23,8 +23,7 @@ read_word-requires c =
 pub returns-in_default-clause-value : goal.returns-in_default-clause-value
 returns-in_default-clause-value c =
     let here = at (goal.at.returns-in_default-clause-value c).In_default in
-    let fits : SFits w128 c.read_word.result = search rules in
-    to_z-of_z w128 c.read_word.result fits ∙ word_read here c.index-blobs-short.result c.read_word.result (blob_is here _ _ c.index-blobs-short.is) c.read_word.ensures
+    to_z-of_z w128 c.read_word.result (search rules) ∙ word_read here c.index-blobs-short.result c.read_word.result (blob_is here _ _ c.index-blobs-short.is) c.read_word.ensures
 
 pub read_scattered-requires-clause-wide : goal.read_scattered-requires-clause-wide
 read_scattered-requires-clause-wide c =
@@ -34,8 +33,7 @@ read_scattered-requires-clause-wide c =
 
 pub returns-in-Scattered-clause-value : goal.returns-in-Scattered-clause-value
 returns-in-Scattered-clause-value c =
-    let fits : SFits w128 c.read_scattered.result = search rules in
-    to_z-of_z w128 c.read_scattered.result fits
+    to_z-of_z w128 c.read_scattered.result (search rules)
     ∙ bytes_read (lies c.args.map.now.holds c.args.row c.args.leaf c.laws_of.ensures.lawful c.laws_of.ensures.paired c.requires.row_in c.requires.leaf_in
     (with_rules c.as_slice.result.now c.as_slice.ensures.value (c.short-rule.ensures.form c.in_ok-start.ensures.some)) c.in_ok-start.start c.in_ok-start.ensures.start c.args.blobs.now c.requires.laid.sized
     c.in-Scattered.is) c.args.blobs.now c.read_scattered.result c.read_scattered.ensures

@@ -1,4 +1,4 @@
-use Rattle.views.proofs.Imports.{◌<◌, length, SFits, rules, arith, w128, common_steps, to_z-of_z}
+use Rattle.views.proofs.Imports.{◌<◌, length, rules, arith, w128, common_steps, to_z-of_z}
 use Rattle.views.proofs.AccessLaws.{StandsIn, LiesIn, with_rules, stands, lies, blob_there, blob_is, word_there, word_put, word_lies, bytes_wide, bytes_apart, bytes_put, bytes_lie}
 use Rattle.views.proofs.access.short_write.Goals as goal
 use Rattle.views.proofs.access.short_write.Goals.{In_default-word, After-as_slice}
@@ -32,17 +32,15 @@ write_word-requires-clause-within c =
 pub returns-in_default-word-clause-table : goal.returns-in_default-word-clause-table
 returns-in_default-word-clause-table c = λ wrote.
     let here = at (goal.at.returns-in_default-word-clause-table c).In_default-word in
-    let fits : SFits w128 c.args.value = search rules in
     let put = c.write_word.ensures in
-    word_put here c.args.value _ c.index_mut.result.now c.write_word.new.blob c.requires.held (to_z-of_z w128 c.args.value fits) (blob_is here _ _ c.index_mut.ensures.value)
+    word_put here c.args.value _ c.index_mut.result.now c.write_word.new.blob c.requires.held (to_z-of_z w128 c.args.value (search rules)) (blob_is here _ _ c.index_mut.ensures.value)
     put.inside put.before put.after put.len
 
 pub returns-in_default-word-clause-still_laid : goal.returns-in_default-word-clause-still_laid
 returns-in_default-word-clause-still_laid c = λ wrote.
     let here = at (goal.at.returns-in_default-word-clause-still_laid c).In_default-word in
-    let fits : SFits w128 c.args.value = search rules in
     let put = c.write_word.ensures in
-    word_lies here c.args.value _ c.index_mut.result.now c.write_word.new.blob c.requires.held (to_z-of_z w128 c.args.value fits) (blob_is here _ _ c.index_mut.ensures.value)
+    word_lies here c.args.value _ c.index_mut.result.now c.write_word.new.blob c.requires.held (to_z-of_z w128 c.args.value (search rules)) (blob_is here _ _ c.index_mut.ensures.value)
     put.inside put.before put.after put.len c.requires.laid
 
 pub write_scattered-requires-clause-wide : goal.write_scattered-requires-clause-wide
@@ -53,12 +51,10 @@ write_scattered-requires-clause-apart c = bytes_apart (in_bytes (goal.at.write_s
 
 pub returns-in-Scattered-clause-table : goal.returns-in-Scattered-clause-table
 returns-in-Scattered-clause-table c = λ wrote.
-    let fits : SFits w128 c.args.value = search rules in
     bytes_put (in_bytes (goal.at.returns-in-Scattered-clause-table c).After-as_slice) c.args.blobs.now.items c.write_scattered.new.blobs.items c.args.value _ c.requires.held
-    (to_z-of_z w128 c.args.value fits) c.write_scattered.ensures
+    (to_z-of_z w128 c.args.value (search rules)) c.write_scattered.ensures
 
 pub returns-in-Scattered-clause-still_laid : goal.returns-in-Scattered-clause-still_laid
 returns-in-Scattered-clause-still_laid c = λ wrote.
-    let fits : SFits w128 c.args.value = search rules in
     bytes_lie (in_bytes (goal.at.returns-in-Scattered-clause-still_laid c).After-as_slice) c.args.blobs.now.items c.write_scattered.new.blobs.items c.args.value _ c.requires.held
-    (to_z-of_z w128 c.args.value fits) c.write_scattered.ensures c.requires.laid
+    (to_z-of_z w128 c.args.value (search rules)) c.write_scattered.ensures c.requires.laid

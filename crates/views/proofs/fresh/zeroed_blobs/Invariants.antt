@@ -1,4 +1,4 @@
-use Rattle.views.proofs.ZeroBlobs.{AreFresh}
+use Rattle.views.proofs.KeptLaws.{AreFresh}
 use Rattle.views.proofs.fresh.zeroed_blobs.Given as goal
 
 abbrev pub invariant-loop-blob : goal.invariant-loop-blob

@@ -11,9 +11,7 @@ move_bytes-requires-clause-room g c =
     let inside : k < length others = omega (arith, c.loop-blob-test.true) in
     let was : c.index_mut.result.now ≡ get_or old k [] = still_old old others c.loop-blob.blobs.items k c.index_mut.result.now _ c.loop-blob.invariant.moved (sym count) inside c.index_mut.ensures.value in
     let other : c.index-others-blob.result ≡ get_or others k [] = c.index-others-blob.is ∙ get_or_default others k _ [] inside in
-    let one : length c.index_mut.result.now ≡ length (get_or old k []) = ap (λ (b : List ℕ). length b) was in
-    let two : length c.index-others-blob.result ≡ length (get_or others k []) = ap (λ (b : List ℕ). length b) other in
-    omega (arith, c.len-len.ensures, same_length old others k c.requires.lengths (omega arith) inside)
+    omega (arith, c.len-len.ensures, ap (λ (b : List ℕ). length b) was, ap (λ (b : List ℕ). length b) other, same_length old others k c.requires.lengths (omega arith) inside)
 
 pub loop-blob-preserved : goal.loop-blob-preserved
 loop-blob-preserved g c =

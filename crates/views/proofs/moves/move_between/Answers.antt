@@ -1,4 +1,4 @@
-use Rattle.views.proofs.Imports.{◌≡◌, ◌∙◌, [], get_or, get_or_default, moved_bits, arith}
+use Rattle.views.proofs.Imports.{◌≡◌, ◌∙◌, get_or, get_or_default, moved_bits, arith, []}
 use Rattle.views.proofs.moves.move_between.Goals as goal
 
 pub returns-clause-moved : goal.returns-clause-moved

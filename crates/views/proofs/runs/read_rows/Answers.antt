@@ -1,4 +1,4 @@
-use Rattle.views.proofs.Imports.{◌≡◌, ℕ, ◌+◌, ◌-◌, ◌<◌, ◌≤◌, [], length, get_or, pos, ap, ◌∙◌, ⊎_elim, arith, cases_lt, get_or_read, low_64}
+use Rattle.views.proofs.Imports.{◌≡◌, ℕ, ◌+◌, ◌-◌, ◌<◌, ◌≤◌, get_or, pos, ap, ◌∙◌, ⊎_elim, arith, cases_lt, get_or_read, low_64, []}
 use Rattle.views.proofs.RunLaws.{stretch_blob, has_room, stretch_read}
 use Rattle.views.proofs.runs.read_rows.Goals as goal
 use Rattle.views.proofs.runs.read_rows.Goals.{After-index-blobs-short}
@@ -16,29 +16,23 @@ stretch-requires-clause-starts c = λ lead k below.
 
 pub bounds-blobs-short : goal.bounds-blobs-short
 bounds-blobs-short c =
-    stretch_blob c.args.mapping.now.holds c.args.leaf (c.args.first + c.loop-done.done) (length c.loop-done.values - c.loop-done.done) c.in-Some.stretch c.laws_of.ensures.lawful c.laws_of.ensures.paired c.requires.leaf_in
-    (c.short.ensures.form c.in-Some.ensures.leads) c.in-Some.ensures (omega (arith, c.requires.rows_in, c.loop-done.invariant.count)) c.args.blobs.now c.requires.sized
+    stretch_blob c.args.mapping.now.holds c.laws_of.ensures.lawful c.laws_of.ensures.paired c.requires.leaf_in (c.short.ensures.form c.in-Some.ensures.leads) c.in-Some.ensures (omega (arith, c.requires.rows_in, c.loop-done.invariant.count)) c.args.blobs.now c.requires.sized
 
 pub offset_bounds-blobs-short : goal.offset_bounds-blobs-short
 offset_bounds-blobs-short c =
-    let low : c.short.result.now.short.blob < length c.args.blobs.now =
-    stretch_blob c.args.mapping.now.holds c.args.leaf (c.args.first + c.loop-done.done) (length c.loop-done.values - c.loop-done.done) c.in-Some.stretch c.laws_of.ensures.lawful c.laws_of.ensures.paired c.requires.leaf_in
-    (c.short.ensures.form c.in-Some.ensures.leads) c.in-Some.ensures (omega (arith, c.requires.rows_in, c.loop-done.invariant.count)) c.args.blobs.now c.requires.sized in
-    omega arith
+    omega (arith, (stretch_blob c.args.mapping.now.holds c.laws_of.ensures.lawful c.laws_of.ensures.paired c.requires.leaf_in (c.short.ensures.form c.in-Some.ensures.leads) c.in-Some.ensures (omega (arith, c.requires.rows_in, c.loop-done.invariant.count)) c.args.blobs.now c.requires.sized))
 
 -- what stands in the blob
 blob : (c : After-index-blobs-short) → c.index-blobs-short.result ≡ get_or c.args.blobs.now c.short.result.now.short.blob []
 blob c =
-    let low : c.short.result.now.short.blob < length c.args.blobs.now =
-    stretch_blob c.args.mapping.now.holds c.args.leaf (c.args.first + c.loop-done.done) (length c.loop-done.values - c.loop-done.done) c.in-Some.stretch c.laws_of.ensures.lawful c.laws_of.ensures.paired c.requires.leaf_in
-    (c.short.ensures.form c.in-Some.ensures.leads) c.in-Some.ensures (omega (arith, c.requires.rows_in, c.loop-done.invariant.count)) c.args.blobs.now c.requires.sized in
-    get_or_read c.args.blobs.now c.short.result.now.short.blob c.index-blobs-short.result low c.index-blobs-short.is []
+    get_or_read c.args.blobs.now c.short.result.now.short.blob c.index-blobs-short.result
+    (stretch_blob c.args.mapping.now.holds c.laws_of.ensures.lawful c.laws_of.ensures.paired c.requires.leaf_in (c.short.ensures.form c.in-Some.ensures.leads) c.in-Some.ensures (omega (arith, c.requires.rows_in, c.loop-done.invariant.count)) c.args.blobs.now c.requires.sized)
+    c.index-blobs-short.is []
 
 pub read_stretch-requires-clause-room : goal.read_stretch-requires-clause-room
 read_stretch-requires-clause-room c =
-    has_room c.args.mapping.now.holds c.args.leaf (c.args.first + c.loop-done.done) (length c.loop-done.values - c.loop-done.done) c.in-Some.stretch c.laws_of.ensures.lawful c.laws_of.ensures.paired c.requires.leaf_in
-    (c.short.ensures.form c.in-Some.ensures.leads) c.in-Some.ensures (omega (arith, c.requires.rows_in, c.loop-done.invariant.count)) c.args.blobs.now c.requires.sized c.index-blobs-short.result
-    (blob (goal.at.read_stretch-requires-clause-room c).After-index-blobs-short)
+    has_room c.args.mapping.now.holds c.laws_of.ensures.lawful c.laws_of.ensures.paired c.requires.leaf_in (c.short.ensures.form c.in-Some.ensures.leads) c.in-Some.ensures (omega (arith, c.requires.rows_in, c.loop-done.invariant.count)) c.args.blobs.now c.requires.sized
+    c.index-blobs-short.result (blob (goal.at.read_stretch-requires-clause-room c).After-index-blobs-short)
 
 pub loop-done-preserved : goal.loop-done-preserved
 loop-done-preserved c =
@@ -57,8 +51,7 @@ loop-done-preserved c =
           let inside : k - done < stretch.rows = omega (arith, below, behind) in
           ap (λ (n : ℕ). get_or c.read_stretch.new.values n (pos 0)) there ∙ c.read_stretch.ensures.each (k - done) inside
           ∙ ap low_64
-          (stretch_read c.args.mapping.now.holds c.args.leaf (first + done) (length c.loop-done.values - done) stretch c.laws_of.ensures.lawful c.laws_of.ensures.paired c.requires.leaf_in
-          (c.short.ensures.form c.in-Some.ensures.leads) c.in-Some.ensures (omega (arith, c.requires.rows_in, c.loop-done.invariant.count)) c.args.blobs.now c.requires.sized
+          (stretch_read c.args.mapping.now.holds c.laws_of.ensures.lawful c.laws_of.ensures.paired c.requires.leaf_in (c.short.ensures.form c.in-Some.ensures.leads) c.in-Some.ensures (omega (arith, c.requires.rows_in, c.loop-done.invariant.count)) c.args.blobs.now c.requires.sized
           c.index-blobs-short.result bytes (k - done) (first + k) inside row))
           (cases_lt k done);
       leads = λ some. c.in-Some.ensures.leads;

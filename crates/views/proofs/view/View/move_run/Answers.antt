@@ -1,11 +1,14 @@
-use Rattle.views.proofs.Imports.{◌≡◌, ◌∙◌, ◌+◌, ◌*◌, ◌/◌, ◌<◌, ◌≤◌, ℕ, List, [], length, get_or, sym, ap, subst, arith, mul-le, get_or_from_slice_get, kinds_of, schema_fields, Fields, LeafType, Truth, blocks, AreMoved, term_of, size_of, kind_at, Table, leaf_type_of, common_steps}
+use Rattle.views.proofs.Imports.{◌≡◌, ◌∙◌, ◌+◌, ◌*◌, ◌/◌, ◌<◌, ◌≤◌, ℕ, List, [], length, get_or, sym, ap, subst, arith, mul-le, get_or_from_slice_get, kinds_of, schema_fields, leaves, Fields, LeafType, Truth, blocks, AreMoved, term_of, size_of, kind_at, Table, leaf_type_of, common_steps}
 use Rattle.views.proofs.KeptLaws.{kind_count, row_count}
 use Rattle.views.proofs.MoveLaws.{views_alike}
-use Rattle.views.proofs.Opened.{cell_count, leaf_seen}
+use Rattle.views.proofs.Opened.{leaf_seen, leaves_there}
 use Rattle.views.proofs.RunMoveLaws.{IsMove, few_slots, moved_seen, runs_seen, one_seen, block_seen, few_bits, run_there, target_in, target_room, source_in, source_room, run_kept, run_raw, run_table}
 use Rattle.views.proofs.view.View.move_run.Given as given
 use Rattle.views.proofs.view.View.move_run.Goals as goal
 use Rattle.views.proofs.view.View.move_run.Goals.{After-as_slice, After-move_between}
+
+pub place_of-to-requires-clause-leaf_in : goal.place_of-to-requires-clause-leaf_in
+place_of-to-requires-clause-leaf_in g c = omega (arith, c.requires.leaf_in, leaves_there c.self.invariant.1 c.self.view_is c.self.invariant.0)
 
 -- what is said of the bytes on both sides
 move : (g : given.Over) (c : After-as_slice g) → IsMove (term_of c.self.inside.expr) (term_of c.source.inside.expr) c.self.inside.extents c.source.inside.extents
@@ -15,8 +18,8 @@ move g c =
     let a = c.self.inside in
     let b = c.source.inside in
     let n : ℕ = c.args.n in
-    let alike : (schema_fields a.schema ≡ schema_fields b.schema) × (a.extents ≡ b.extents) = views_alike c.args.self.now c.args.source.now c.self.view_is c.source.view_is c.requires.alike in
-    let leaf_in : c.args.leaf < length (kinds_of (schema_fields a.schema)) = leaf_seen a.schema a.extents a.expr a.blobs.items c.self.invariant.1 c.args.self.now c.self.view_is c.args.leaf c.requires.leaf_in in
+    let alike : (schema_fields a.schema ≡ schema_fields b.schema) × (a.extents ≡ b.extents) = views_alike c.self.view_is c.source.view_is c.requires.alike in
+    let leaf_in : c.args.leaf < length (kinds_of (schema_fields a.schema)) = leaf_seen c.self.invariant.1 c.self.view_is c.args.leaf c.requires.leaf_in in
     let other_in : c.args.leaf < length (kinds_of (schema_fields b.schema)) = subst (λ (f : Fields). c.args.leaf < length (kinds_of f)) alike.0 leaf_in in
     let kind : kind_at (kinds_of (schema_fields a.schema)) c.args.leaf ≡ c.leaf_type.result = get_or_from_slice_get (kinds_of (schema_fields a.schema)) c.args.leaf c.leaf_type.result Truth c.leaf_type.ensures in
     let some : 0 < n = omega arith in
@@ -41,18 +44,9 @@ module _ (g : given.Over) (c : After-move_between g) where
   moved : MovedFrom c.source.inside.blobs.items
   moved = subst MovedFrom c.as_slice.ensures.value c.move_between.ensures.moved
 
-pub place_of-to-requires-clause-leaf_in : goal.place_of-to-requires-clause-leaf_in
-place_of-to-requires-clause-leaf_in g c =
-    let a = c.self.inside in
-    omega (arith, leaf_seen a.schema a.extents a.expr a.blobs.items c.self.invariant.1 c.args.self.now c.self.view_is c.args.leaf c.requires.leaf_in, cell_count c.self.invariant.0)
-
 pub place_of-from-requires-clause-leaf_in : goal.place_of-from-requires-clause-leaf_in
 place_of-from-requires-clause-leaf_in g c =
-    let a = c.self.inside in
-    let alike : (schema_fields a.schema ≡ schema_fields c.source.inside.schema) × (a.extents ≡ c.source.inside.extents) =
-    views_alike c.args.self.now c.args.source.now c.self.view_is c.source.view_is c.requires.alike in
-    let leaf_in : c.args.leaf < length (kinds_of (schema_fields a.schema)) = leaf_seen a.schema a.extents a.expr a.blobs.items c.self.invariant.1 c.args.self.now c.self.view_is c.args.leaf c.requires.leaf_in in
-    omega (arith, subst (λ (f : Fields). c.args.leaf < length (kinds_of f)) alike.0 leaf_in, cell_count c.source.invariant.0)
+    omega (arith, c.requires.leaf_in, leaves_there c.source.invariant.1 c.source.view_is c.source.invariant.0, ap (λ (f : Fields). length (leaves f)) c.requires.alike.0)
 
 pub move_between-requires-clause-target : goal.move_between-requires-clause-target
 move_between-requires-clause-target g c = target_in (move g (goal.at.move_between-requires-clause-target g c).After-as_slice) c.self.invariant.1 c.source.invariant.1
@@ -77,15 +71,12 @@ invariant_of-self g c =
 
 pub returns-clause-moved : goal.returns-clause-moved
 returns-clause-moved g c =
-    let a = c.self.inside in
-    let b = c.source.inside in
+    let fields = schema_fields c.self.inside.schema in
     let d = goal.at.returns-clause-moved g c in
     let both = move g d.After-as_slice in
     let new = moved g d.After-move_between in
-    moved_seen c.args.self.now c.args.source.now c.args.leaf c.args.slot c.args.n (length (kinds_of (schema_fields a.schema))) _ c.self.view_is c.source.view_is (kind_count (schema_fields a.schema))
-    (sym (row_count a.mode (term_of a.expr) a.extents (schema_fields a.schema) a.blobs.items c.self.invariant.1))
-    (run_table (term_of a.expr) (term_of b.expr) a.extents b.extents (schema_fields a.schema) (schema_fields b.schema) a.blobs.items b.blobs.items c.move_between.new.blobs.items c.args.leaf c.args.slot c.args.n
-    both.alike both.leaf_in c.self.invariant.1 c.source.invariant.1
+    moved_seen c.args.self.now c.args.source.now c.args.leaf c.args.slot c.args.n (length (kinds_of fields)) _ c.self.view_is c.source.view_is (kind_count fields) (sym (row_count c.self.invariant.1))
+    (run_table c.args.leaf c.args.slot c.args.n both.alike both.leaf_in c.self.invariant.1 c.source.invariant.1
     (run_kept both c.self.invariant.1 c.source.invariant.1 new) (run_raw both c.self.invariant.1 c.source.invariant.1 new))
 
 pub returns-clause-steps : goal.returns-clause-steps

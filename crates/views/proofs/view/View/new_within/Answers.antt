@@ -13,10 +13,9 @@ invariant_of-result c =
     let tally : tally_of c.in_ok-counts.counts c.in_ok-heat.heat ≡ no_tally (term_of c.in_ok-expr.expr) layout leaf_count =
     grind (arith, new_tally, leaves) in (
       mapping,
-      kept_zeros (term_of c.in_ok-expr.expr) c.args.extents (schema_fields c.in_ok-schema.schema) c.in_ok-blobs.blobs.items
-          (lawful_there mapping c.laws_of.ensures.lawful) (paired_there mapping c.laws_of.ensures.paired)
+      kept_zeros (term_of c.in_ok-expr.expr) c.args.extents (schema_fields c.in_ok-schema.schema) c.in_ok-blobs.blobs.items (lawful_there mapping c.laws_of.ensures.lawful) (paired_there mapping c.laws_of.ensures.paired)
           (within_copied c.args.extents c.in_ok-expr.ensures c.in_ok-schema.ensures made.fits)
-          (laid_there mapping c.in_ok-blobs.blobs.items c.in_ok-blobs.ensures.laid) c.in_ok-blobs.ensures.zero c.args.mode,
+          (laid_there mapping c.in_ok-blobs.ensures.laid) c.in_ok-blobs.ensures.zero c.args.mode,
       subst (λ (t : Tally). IsTallied (term_of c.in_ok-expr.expr) layout leaf_count t) (sym tally) (no_tally-tallied (term_of c.in_ok-expr.expr) layout leaf_count),
     )
 
@@ -27,9 +26,8 @@ returns-clause-table c =
     (record { term_is = made.term; extents_are = made.extents; layout_is = made.layout; slots_are = made.slots; cells_are = made.cells; holds_are = made.holds }) in
     let fields = schema_fields c.in_ok-schema.schema in
     let paired = paired_there mapping c.laws_of.ensures.paired in
-    zero_table (term_of c.in_ok-expr.expr) c.args.extents fields c.in_ok-blobs.blobs.items
-    (lawful_there mapping c.laws_of.ensures.lawful) paired (within_copied c.args.extents c.in_ok-expr.ensures c.in_ok-schema.ensures made.fits)
-    (laid_there mapping c.in_ok-blobs.blobs.items c.in_ok-blobs.ensures.laid) c.in_ok-blobs.ensures.zero
+    zero_table (term_of c.in_ok-expr.expr) c.args.extents fields c.in_ok-blobs.blobs.items (lawful_there mapping c.laws_of.ensures.lawful) paired (within_copied c.args.extents c.in_ok-expr.ensures c.in_ok-schema.ensures made.fits)
+    (laid_there mapping c.in_ok-blobs.ensures.laid) c.in_ok-blobs.ensures.zero
     ∙ ap (zeros (length (indices c.args.extents))) (paired ∙ kind_count fields ∙ ap (λ (f : Fields). length (leaves f)) c.in_ok-schema.ensures)
 
 pub returns-clause-tally : goal.returns-clause-tally

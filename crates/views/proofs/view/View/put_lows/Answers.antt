@@ -1,4 +1,4 @@
-use Rattle.views.proofs.Imports.{◌≡◌, ℤ, pos, get_or, length, map, SFits, to_z, of_z, w64, sym, ap, subst, ◌∙◌, rules, arith, w128, to_z-of_z, get_or-map, length-map, LeafType, declared, declared_same, length-with_column, raised, Table, leaf_type_of, IsSettledIn}
+use Rattle.views.proofs.Imports.{◌≡◌, ℤ, pos, get_or, length, map, to_z, of_z, w64, sym, ap, subst, ◌∙◌, rules, arith, w128, to_z-of_z, get_or-map, length-map, LeafType, declared, declared_same, length-with_column, raised, Table, leaf_type_of, IsSettledIn}
 use Rattle.views.proofs.Opened.{kind_seen, some_seen}
 use Rattle.views.proofs.StoreLaws.{fit_settled}
 use Rattle.views.proofs.StoredLaws.{stored_more, all_stored}
@@ -18,20 +18,16 @@ store-requires-clause-row_in c = omega (arith, c.row_after-row.ensures, rows (go
 -- the value of a row
 value : (c : After-raised) → to_z w128 (of_z w128 c.raised.result) ≡ raised (leaf_type_of c.args.self.now c.args.leaf) (get_or c.args.lows.now c.loop-k.k (pos 0))
 value c =
-    let a = c.self.inside in
     let low = get_or c.args.lows.now c.loop-k.k (pos 0) in
-    let fit : SFits w64 low = search rules in
-    let whole : SFits w128 c.raised.result = search rules in
-    let kind_is = kind_seen a.schema a.extents a.expr a.blobs.items c.self.invariant.1 c.args.self.now c.self.view_is c.args.leaf c.leaf_type-kind.result c.leaf_type-kind.ensures in
-    to_z-of_z w128 c.raised.result whole ∙ c.raised.ensures ∙ ap (raised c.leaf_type-kind.result) (to_z-of_z w64 low fit) ∙ ap (λ (k : LeafType). raised k low) (sym kind_is)
+    let kind_is = kind_seen c.self.invariant.1 c.self.view_is c.args.leaf c.leaf_type-kind.result c.leaf_type-kind.ensures in
+    to_z-of_z w128 c.raised.result (search rules) ∙ c.raised.ensures ∙ ap (raised c.leaf_type-kind.result) (to_z-of_z w64 low (search rules)) ∙ ap (λ (k : LeafType). raised k low) (sym kind_is)
 
 pub store-requires-clause-settled : goal.store-requires-clause-settled
 store-requires-clause-settled c =
-    let a = c.self.inside in
     let old = c.args.self.now in
     let leaf = c.args.leaf in
     let fits = c.requires.fits c.loop-k.k c.loop-k-test.true in
-    let some = some_seen a.schema a.extents a.expr a.blobs.items c.self.invariant.1 old c.self.view_is leaf c.requires.leaf_in in
+    let some = some_seen c.self.invariant.1 c.self.view_is leaf c.requires.leaf_in in
     subst (λ (t : Table). IsSettledIn t leaf (to_z w128 (of_z w128 c.raised.result))) (sym c.loop-k.invariant.stored)
     (subst (λ (v : ℤ). IsSettledIn old leaf v) (sym (value (goal.at.store-requires-clause-settled c).After-raised)) (fit_settled old leaf (raised (leaf_type_of old leaf) (get_or c.args.lows.now c.loop-k.k (pos 0))) some fits))
 

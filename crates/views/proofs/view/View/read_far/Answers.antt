@@ -1,4 +1,4 @@
-use Rattle.views.proofs.Imports.{◌<◌, ◌≤◌, ◌∙◌, length, refl, ap, arith, rules, SFits, FitsSigned, w64, w128, to_z-of_z, low_64}
+use Rattle.views.proofs.Imports.{◌<◌, ◌≤◌, ◌∙◌, length, refl, ap, arith, rules, w64, w128, to_z-of_z, low_64}
 use Rattle.views.proofs.RunLaws.{run_read}
 use Rattle.views.proofs.RunStoreLaws.{no_row, row_more}
 use Rattle.views.proofs.view.View.read_far.Goals as goal
@@ -8,11 +8,9 @@ loop-k-init c = no_row c.args.leaf c.args.first c.args.self.now c.args.values.no
 
 pub loop-k-preserved : goal.loop-k-preserved
 loop-k-preserved c =
-    let wide : SFits w128 c.value.result = search rules in
-    let fits : FitsSigned w64 c.low_of.result = search rules in
     let inside : c.loop-k.k < length c.args.values.now = omega (arith, c.loop-k.invariant.count) in
     row_more c.args.leaf c.args.first c.loop-k.k c.row_after-row.result c.args.self.now c.loop-k.self c.value.new.self c.args.values.now c.loop-k.values _ c.loop-k.invariant c.row_after-row.ensures inside
-    (to_z-of_z w64 c.low_of.result fits ∙ c.low_of.ensures ∙ ap low_64 (to_z-of_z w128 c.value.result wide ∙ c.value.ensures.value)) c.value.ensures.same
+    (to_z-of_z w64 c.low_of.result (search rules) ∙ c.low_of.ensures ∙ ap low_64 (to_z-of_z w128 c.value.result (search rules) ∙ c.value.ensures.value)) c.value.ensures.same
 
 pub returns-clause-values : goal.returns-clause-values
 returns-clause-values c =

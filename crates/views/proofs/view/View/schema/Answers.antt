@@ -3,9 +3,7 @@ use Rattle.views.proofs.Opened.{table_seen}
 use Rattle.views.proofs.view.View.schema.Goals as goal
 
 pub returns-clause-table : goal.returns-clause-table
-returns-clause-table c =
-    let a = c.self.inside in
-    table_seen a.schema a.extents a.expr a.blobs.items c.self.invariant.1 c.args.self.now c.self.view_is
+returns-clause-table c = table_seen c.self.invariant.1 c.self.view_is
 
 pub returns-clause-paired : goal.returns-clause-paired
 returns-clause-paired c = subst (λ (s : Table). length (table_holds s) ≡ length (leaf_types_of s)) c.self.view_is c.self.invariant.1.paired

@@ -1,54 +1,28 @@
-use Rattle.views.proofs.Imports.{◌≡◌, true, false, ◌∙◌, sym, ap, arith, rules, SFits, w128, to_z-of_z, schema_fields, term_of, is_counted, with_entry, raw_under, tally_of, Write, idle_tallied, common_steps}
-use Rattle.views.proofs.Opened.{rows_seen, leaf_seen, cell_count, held_seen, held_passed, raw_stored, kept_after, table_after, laid_there, seen_written}
+use Rattle.views.proofs.Imports.{arith, rules, to_z-of_z, common_steps}
+use Rattle.views.proofs.Opened.{held_seen, kept_after, seen_written, rows_there, leaves_there}
 use Rattle.views.proofs.view.View.store.Goals as goal
-use Rattle.views.proofs.view.View.store.Goals.{After-near_write}
-
-pub near_write-requires-clause-row_in : goal.near_write-requires-clause-row_in
-near_write-requires-clause-row_in c =
-    let a = c.self.inside in
-    omega (arith, c.requires.row_in, c.self.invariant.0.slots_are, rows_seen a.schema a.extents a.expr a.blobs.items c.self.invariant.1 c.args.self.now c.self.view_is)
 
 pub near_write-requires-clause-leaf_in : goal.near_write-requires-clause-leaf_in
-near_write-requires-clause-leaf_in c =
-    let a = c.self.inside in
-    omega (arith, cell_count c.self.invariant.0, leaf_seen a.schema a.extents a.expr a.blobs.items c.self.invariant.1 c.args.self.now c.self.view_is c.args.leaf c.requires.leaf_in)
+near_write-requires-clause-leaf_in c = omega (arith, c.requires.leaf_in, leaves_there c.self.invariant.1 c.self.view_is c.self.invariant.0)
+
+pub near_write-requires-clause-row_in : goal.near_write-requires-clause-row_in
+near_write-requires-clause-row_in c = omega (arith, c.requires.row_in, rows_there c.self.invariant.1 c.self.view_is c.self.invariant.0)
 
 pub near_write-requires-clause-held : goal.near_write-requires-clause-held
-near_write-requires-clause-held c =
-    let a = c.self.inside in
-    let fits : SFits w128 c.args.raw = search rules in
-    held_passed c.self.invariant.0 c.args.leaf c.args.raw fits
-    (held_seen a.schema a.extents a.expr a.blobs.items c.self.invariant.1 c.args.self.now c.self.view_is c.args.leaf c.args.raw c.requires.leaf_in c.requires.settled)
-
--- what is stored then
-stored : (c : goal.After-near_write) → c.near_write.result ≡ true → raw_under (term_of c.self.inside.expr) c.self.inside.extents (schema_fields c.self.inside.schema) c.near_write.new.blobs.items
-    ≡ with_entry (raw_under (term_of c.self.inside.expr) c.self.inside.extents (schema_fields c.self.inside.schema) c.self.inside.blobs.items) c.args.row c.args.leaf c.args.raw
-stored c wrote =
-    let fits : SFits w128 c.args.raw = search rules in
-    raw_stored c.self.invariant.0 c.args.leaf c.args.raw fits c.self.inside.blobs.items c.near_write.new.blobs.items c.args.row (c.near_write.ensures.table wrote)
+near_write-requires-clause-held c = held_seen c.self.invariant.1 c.self.view_is c.self.invariant.0 c.args.leaf c.args.raw (search rules) c.requires.leaf_in c.requires.settled
 
 pub invariant_of-self : goal.invariant_of-self
-invariant_of-self c =
-    let a = c.self.inside in
-    let mapping = c.self.invariant.0 in
-    let new = c.near_write.new.blobs.items in (
-      mapping,
-      kept_after a.schema a.extents a.expr a.blobs.items c.self.invariant.1 c.args.self.now c.self.view_is c.args.row c.args.leaf c.args.raw new
-          c.requires.row_in c.requires.leaf_in c.requires.settled (stored (goal.at.invariant_of-self c).After-near_write c.if-near_write.true)
-          (laid_there mapping new (c.near_write.ensures.still_laid c.if-near_write.true)),
-      c.self.invariant.2,
-    )
+invariant_of-self c = (
+  c.self.invariant.0,
+  kept_after c.self.invariant.1 c.self.view_is c.self.invariant.0 c.args.leaf c.args.raw (search rules) c.requires.leaf_in c.requires.settled c.args.row c.requires.row_in c.near_write.new.blobs.items
+      (c.near_write.ensures.table c.if-near_write.true) (c.near_write.ensures.still_laid c.if-near_write.true),
+  c.self.invariant.2,
+)
 
 pub returns-then-near_write : goal.returns-then-near_write
 returns-then-near_write c =
-    let a = c.self.inside in
-    let wrote = c.if-near_write.true in
-    let access = Write c.args.row c.args.leaf in
-    let idle : is_counted (term_of a.expr) ≡ false = ap is_counted (sym c.self.invariant.0.term_is) ∙ c.near_write.ensures.uncounted wrote in
-    seen_written a.schema a.extents a.expr a.blobs.items c.self.view_is c.args.row c.args.leaf c.args.raw c.near_write.new.blobs.items (tally_of a.counts a.heat)
-    (table_after a.schema a.extents a.expr a.blobs.items c.self.invariant.1 c.args.self.now c.self.view_is c.args.row c.args.leaf c.args.raw c.near_write.new.blobs.items
-    c.requires.row_in c.requires.leaf_in c.requires.settled (stored (goal.at.returns-then-near_write c).After-near_write wrote))
-    (sym (idle_tallied access idle c.self.invariant.2))
+    seen_written c.self.invariant.1 c.self.view_is c.self.invariant.0 c.args.leaf c.args.raw (search rules) c.requires.leaf_in c.requires.settled c.args.row c.requires.row_in c.near_write.new.blobs.items
+    (c.near_write.ensures.table c.if-near_write.true) (c.near_write.ensures.uncounted c.if-near_write.true) c.self.invariant.2
 
 pub store_far-requires-clause-settled : goal.store_far-requires-clause-settled
 store_far-requires-clause-settled c = grind (arith, common_steps, to_z-of_z)

@@ -1,8 +1,8 @@
-use Rattle.views.proofs.Imports.{◌≡◌, ◌<◌, ℤ, Ok, pos, get_or, length, map, SFits, to_z, of_z, w64, refl, sym, ap, ◌∙◌, rules, arith, w128, get_or-map, length-map, length-with_column, told_lane, without_number, Table, answer_of, kept_of, common_steps}
-use Rattle.views.proofs.RunStoreLaws.{value_more, run_stored, whole_run, no_fault, stopped_run}
-use Rattle.views.proofs.StoredLaws.{nothing_stored, fault_later, fault_here, passed}
+use Rattle.views.proofs.Imports.{◌≡◌, ◌<◌, ℤ, Ok, pos, get_or, length, map, to_z, of_z, refl, sym, ap, ◌∙◌, rules, arith, w128, get_or-map, length-map, length-with_column, told_lane, without_number, Table, answer_of, kept_of, common_steps}
+use Rattle.views.proofs.RunStoreLaws.{run_stored, whole_run, no_fault, stopped_run}
+use Rattle.views.proofs.StoredLaws.{value_more, nothing_stored, fault_later, fault_here, passed}
 use Rattle.views.proofs.view.View.store_each.Goals as goal
-use Rattle.views.proofs.view.View.store_each.Goals.{After-row_after-row, After-set_tested}
+use Rattle.views.proofs.view.View.store_each.Goals.{After-set_tested}
 
 pub loop-lane-init : goal.loop-lane-init
 loop-lane-init c = record { fault = refl; stored = nothing_stored c.args.leaf c.args.first c.args.self.now (map (kept_of c.args.self.now c.args.leaf) c.args.values.now) }
@@ -20,9 +20,8 @@ loop-lane-preserved c =
     let lane = c.loop-lane.lane in
     let values = c.args.values.now in
     let value = get_or values lane (pos 0) in
-    let fit : SFits w64 value = search rules in
     let inside : lane < length values = omega arith in
-    let same = passed value c.from.result fit c.from.ensures in
+    let same = passed value c.from.result (search rules) c.from.ensures in
     let table = c.loop-lane.invariant.stored.stored in
     let taken : without_number (answer_of old leaf value) ≡ Ok tt =
     sym (ap (λ (v : ℤ). without_number (answer_of old leaf v)) same) ∙ sym (ap (λ (t : Table). without_number (answer_of t leaf (to_z w128 (of_z w128 c.from.result)))) table) ∙ sym c.set_tested.ensures.answer ∙ c.in_default.is in
@@ -38,24 +37,18 @@ loop-lane-preserved c =
 fault : (c : goal.After-set_tested) → without_number (answer_of c.args.self.now c.args.leaf (get_or c.args.values.now c.loop-lane.lane (pos 0))) ≡ c.set_tested.result
 fault c =
     let value = get_or c.args.values.now c.loop-lane.lane (pos 0) in
-    let fit : SFits w64 value = search rules in
-    let same = passed value c.from.result fit c.from.ensures in
+    let same = passed value c.from.result (search rules) c.from.ensures in
     sym (ap (λ (v : ℤ). without_number (answer_of c.args.self.now c.args.leaf v)) same) ∙ sym (ap (λ (t : Table). without_number (answer_of t c.args.leaf (to_z w128 (of_z w128 c.from.result)))) c.loop-lane.invariant.stored.stored) ∙ sym c.set_tested.ensures.answer
 
-pub returns-in-Err-clause-named : goal.returns-in-Err-clause-named
-returns-in-Err-clause-named c =
-    let inside : c.loop-lane.lane < length c.args.values.now = omega arith in
+pub returns-in-Err : goal.returns-in-Err
+returns-in-Err c =
     let here = c.loop-lane.invariant.fault
-    ∙ fault_here (answer_of c.args.self.now) c.args.leaf c.loop-lane.lane c.args.values.now c.in-Err.fault inside (fault (goal.at.returns-in-Err-clause-named c).After-set_tested ∙ c.in-Err.is) in
-    sym (ap told_lane here)
-
-pub returns-in-Err-clause-stored : goal.returns-in-Err-clause-stored
-returns-in-Err-clause-stored c =
-    let inside : c.loop-lane.lane < length c.args.values.now = omega arith in
-    let here = c.loop-lane.invariant.fault
-    ∙ fault_here (answer_of c.args.self.now) c.args.leaf c.loop-lane.lane c.args.values.now c.in-Err.fault inside (fault (goal.at.returns-in-Err-clause-stored c).After-set_tested ∙ c.in-Err.is) in
-    stopped_run c.args.leaf c.args.first c.args.self.now c.set_tested.new.self c.args.values.now (record { lane = c.loop-lane.lane; fault = c.in-Err.fault }) here
-    (c.in-Err.ensures.refused ∙ run_stored c.args.leaf c.args.first c.loop-lane.lane c.args.self.now c.loop-lane.self c.args.values.now c.loop-lane.invariant.stored)
+    ∙ fault_here (answer_of c.args.self.now) c.args.leaf c.loop-lane.lane c.args.values.now c.in-Err.fault (omega arith) (fault (goal.at.returns-in-Err c).After-set_tested ∙ c.in-Err.is) in
+    record {
+      named = sym (ap told_lane here);
+      stored = stopped_run c.args.leaf c.args.first c.args.self.now c.set_tested.new.self c.args.values.now (record { lane = c.loop-lane.lane; fault = c.in-Err.fault }) here
+          (c.in-Err.ensures.refused ∙ run_stored c.args.leaf c.args.first c.loop-lane.lane c.args.self.now c.loop-lane.self c.args.values.now c.loop-lane.invariant.stored);
+    }
 
 pub returns-clause-named : goal.returns-clause-named
 returns-clause-named c = grind (arith, common_steps, no_fault)

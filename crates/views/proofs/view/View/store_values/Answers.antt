@@ -9,8 +9,7 @@ loop-lane-init c = nothing_stored c.args.leaf c.args.row c.args.self.now (map (k
 pub raw-raw-requires-clause-taken : goal.raw-raw-requires-clause-taken
 raw-raw-requires-clause-taken c =
     let value = get_or c.args.values.now c.loop-lane.lane (pos 0) in
-    let fit : SFits w64 value = search rules in
-    ap (λ (v : ℤ). without_number (answer_of c.loop-lane.self c.args.leaf v)) (passed value c.from.result fit c.from.ensures)
+    ap (λ (v : ℤ). without_number (answer_of c.loop-lane.self c.args.leaf v)) (passed value c.from.result (search rules) c.from.ensures)
     ∙ ap (λ (t : Table). without_number (answer_of t c.args.leaf value)) c.loop-lane.invariant.stored
     ∙ lane_taken (answer_of c.args.self.now) c.args.leaf 0 c.loop-lane.lane c.args.values.now c.in_ok-lanes_fit.ensures.taken (omega arith)
 

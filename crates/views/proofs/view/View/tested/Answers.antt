@@ -1,31 +1,17 @@
 use Rattle.views.proofs.Imports.{◌≡◌, ◌∙◌, sym, ap, arith, rules, SFits, w128, to_z-of_z, Strict, Table}
-use Rattle.views.proofs.Opened.{cell_count, leaf_seen, kind_seen, hold_seen}
+use Rattle.views.proofs.Opened.{kind_seen, hold_seen, leaves_there}
 use Rattle.views.proofs.view.View.tested.Goals as goal
 
 pub hold-requires : goal.hold-requires
-hold-requires c =
-    let a = c.self.inside in
-    let leaf_in = leaf_seen a.schema a.extents a.expr a.blobs.items c.self.invariant.1 c.args.self.now c.self.view_is c.args.leaf c.requires in
-    omega (arith, leaf_in, cell_count c.self.invariant.0)
+hold-requires c = omega (arith, c.requires, leaves_there c.self.invariant.1 c.self.view_is c.self.invariant.0)
 
-pub answer-requires-clause-some : goal.answer-requires-clause-some
-answer-requires-clause-some c =
-    let a = c.self.inside in
-    (hold_seen a.schema a.extents a.expr a.blobs.items c.self.invariant.1 c.args.self.now c.self.view_is c.self.invariant.0 c.args.leaf c.hold.result c.requires c.hold.ensures).1
-
-pub answer-requires-clause-narrow : goal.answer-requires-clause-narrow
-answer-requires-clause-narrow c =
-    let a = c.self.inside in
-    (hold_seen a.schema a.extents a.expr a.blobs.items c.self.invariant.1 c.args.self.now c.self.view_is c.self.invariant.0 c.args.leaf c.hold.result c.requires c.hold.ensures).2
+pub answer-requires : goal.answer-requires
+answer-requires c = let found = hold_seen c.self.invariant.1 c.self.view_is c.self.invariant.0 c.args.leaf c.hold.result c.requires c.hold.ensures in record { some = found.1; narrow = found.2 }
 
 pub returns-in-Strict : goal.returns-in-Strict
 returns-in-Strict c =
-    let a = c.self.inside in
-    let seen = c.args.self.now in
-    let leaf = c.args.leaf in
-    let value = c.args.value in
-    let fits : SFits w128 value = search rules in
-    let mode_is : seen.mode ≡ Strict = sym (ap (λ (s : Table). s.mode) c.self.view_is) ∙ c.in-Strict.is in
-    let kind_is = kind_seen a.schema a.extents a.expr a.blobs.items c.self.invariant.1 seen c.self.view_is leaf c.leaf_type.result c.leaf_type.ensures in
-    let hold_is = (hold_seen a.schema a.extents a.expr a.blobs.items c.self.invariant.1 seen c.self.view_is c.self.invariant.0 leaf c.hold.result c.requires c.hold.ensures).0 in
+    let fits : SFits w128 c.args.value = search rules in
+    let mode_is : c.args.self.now.mode ≡ Strict = sym (ap (λ (s : Table). s.mode) c.self.view_is) ∙ c.in-Strict.is in
+    let kind_is = kind_seen c.self.invariant.1 c.self.view_is c.args.leaf c.leaf_type.result c.leaf_type.ensures in
+    let hold_is = (hold_seen c.self.invariant.1 c.self.view_is c.self.invariant.0 c.args.leaf c.hold.result c.requires c.hold.ensures).0 in
     grind (arith, to_z-of_z)

@@ -1,22 +1,18 @@
-use Rattle.views.proofs.Imports.{◌≡◌, ◌∙◌, length, sym, subst, arith, schema_fields, leaves, term_of, layout_by, IsTallied, tally_of, Tally, after_access, access_to, tallied_kept, tallied-one, common_steps}
+use Rattle.views.proofs.Imports.{◌≡◌, ◌∙◌, ◌∷◌, length, sym, subst, arith, schema_fields, leaves, term_of, layout_by, IsTallied, tally_of, Tally, after_access, access_to, tallied_kept, tallied-one, common_steps, []}
 use Rattle.views.proofs.KeptLaws.{kind_count}
-use Rattle.views.proofs.Opened.{tallied_here, touched_there, seen_touched, rows_seen, leaf_seen, cell_count}
+use Rattle.views.proofs.Opened.{tallied_here, touched_there, seen_logged, leaf_seen, rows_there, leaves_there}
 use Rattle.views.proofs.TouchLaws.{touched_both, leaf_inside}
 use Rattle.views.proofs.view.View.touch.Goals as goal
 use Rattle.views.proofs.view.View.touch.Goals.{After-touch_heat}
 
-pub touch_counts-requires : goal.touch_counts-requires
-touch_counts-requires c = grind (arith, common_steps, leaf_inside, leaves, kind_count, leaf_seen)
+pub touch_heat-requires-clause-leaf_in : goal.touch_heat-requires-clause-leaf_in
+touch_heat-requires-clause-leaf_in c = omega (arith, c.requires.leaf_in, leaves_there c.self.invariant.1 c.self.view_is c.self.invariant.0)
 
 pub touch_heat-requires-clause-row_in : goal.touch_heat-requires-clause-row_in
-touch_heat-requires-clause-row_in c =
-    let a = c.self.inside in
-    omega (arith, c.requires.row_in, c.self.invariant.0.slots_are, rows_seen a.schema a.extents a.expr a.blobs.items c.self.invariant.1 c.args.self.now c.self.view_is)
+touch_heat-requires-clause-row_in c = omega (arith, c.requires.row_in, rows_there c.self.invariant.1 c.self.view_is c.self.invariant.0)
 
-pub touch_heat-requires-clause-leaf_in : goal.touch_heat-requires-clause-leaf_in
-touch_heat-requires-clause-leaf_in c =
-    let a = c.self.inside in
-    omega (arith, cell_count c.self.invariant.0, leaf_seen a.schema a.extents a.expr a.blobs.items c.self.invariant.1 c.args.self.now c.self.view_is c.args.leaf c.requires.leaf_in)
+pub touch_counts-requires : goal.touch_counts-requires
+touch_counts-requires c = grind (arith, common_steps, leaf_inside, leaves, kind_count, leaf_seen)
 
 pub touch_heat-requires-clause-granules : goal.touch_heat-requires-clause-granules
 touch_heat-requires-clause-granules c = grind (arith, common_steps, tallied_here)
@@ -39,7 +35,6 @@ invariant_of-self c =
 pub returns : goal.returns
 returns c =
     let a = c.self.inside in
-    let layout = layout_by (term_of a.expr) a.extents (schema_fields a.schema) in
     let access = access_to c.args.write c.args.row c.args.leaf in
-    seen_touched a.schema a.extents a.expr a.blobs.items c.self.view_is access (tally_of c.touch_counts.new.counts c.touch_heat.new.heat)
-    (counts (goal.at.returns c).After-touch_heat ∙ sym (tallied-one layout (tally_of a.counts a.heat) access))
+    seen_logged c.self.invariant.1 c.self.view_is (access ∷ []) (tally_of c.touch_counts.new.counts c.touch_heat.new.heat)
+    (counts (goal.at.returns c).After-touch_heat ∙ sym (tallied-one (layout_by (term_of a.expr) a.extents (schema_fields a.schema)) (tally_of a.counts a.heat) access))

@@ -42,6 +42,6 @@ pub returns : goal.returns
 returns c =
     let a = c.self.inside in
     let old = c.args.self.now in
-    seen_logged a.schema a.extents a.expr a.blobs.items c.self.view_is _ (tally_of c.add_counts-2.new.counts c.add_heat.new.heat) (counts c)
+    seen_logged c.self.invariant.1 c.self.view_is _ (tally_of c.add_counts-2.new.counts c.add_heat.new.heat) (counts c)
     ∙ ap (λ (n : ℕ). after_log old (all_touches c.args.reads c.args.writes n (length (indices a.extents)))) (ap leaf_count_of c.self.view_is)
-    ∙ ap (λ (n : ℕ). after_log old (all_touches c.args.reads c.args.writes (leaf_count_of old) n)) (sym (rows_seen a.schema a.extents a.expr a.blobs.items c.self.invariant.1 old c.self.view_is))
+    ∙ ap (λ (n : ℕ). after_log old (all_touches c.args.reads c.args.writes (leaf_count_of old) n)) (sym (rows_seen c.self.invariant.1 c.self.view_is))

@@ -1,6 +1,18 @@
-use Rattle.views.proofs.Imports.{◌≡◌, ◌+◌, ◌*◌, ℕ, length, ap, subst, arith, IfSome, blocks, array_of, size_of, IsRunMoved, rows_after, Table, leaf_count_of, leaf_type_of}
+use Rattle.views.proofs.Imports.{◌≡◌, ◌+◌, ◌*◌, ℕ, length, sym, ap, subst, arith, IfSome, blocks, array_of, size_of, IsRunMoved, rows_after, Table, leaf_count_of, leaf_type_of}
+use Rattle.views.proofs.RunMoveLaws.{nothing_moved}
 use Rattle.views.proofs.SlotMoveLaws.{runs_more}
-use Rattle.views.proofs.view.View.move_apart.Goals as goal
+use Rattle.views.proofs.view.View.move_blocks.Goals as goal
+
+pub loop-k-init : goal.loop-k-init
+loop-k-init g c =
+    let old : Table = c.args.self.now in
+    let still : c.move_even.new.self ≡ old = c.move_even.ensures.none c.if-move_even.false in
+    record {
+      same = c.move_even.ensures.same;
+      moved = subst (λ (t : Table). IfSome (array_of old.mapping) (λ array. IsRunMoved array.0 old.extents (length old.rows) (leaf_count_of old) c.args.leaf c.args.slot (0 * c.args.n)
+          c.args.source.now.rows old.rows t.rows)) (sym still) (nothing_moved old c.args.leaf c.args.slot (0 * c.args.n) c.args.source.now.rows (omega arith));
+      steps = omega (arith, c.move_even.ensures.no_steps c.if-move_even.false);
+    }
 
 pub loop-k-preserved : goal.loop-k-preserved
 loop-k-preserved g c =
