@@ -1,5 +1,5 @@
 -- What a dataset answers, by how its leaves are held: one table where `Alike` says that their holds keep the same numbers.
-use Rattle.equal_runs.proofs.Imports.{◌≡◌, ℕ, suc, Bool, true, false, ℤ, List, [], ◌∷◌, length, Option, Some, None, Result, Ok, Err, arith, slice_get, LeafType, Hold, hold_at, StoreMode, kind_at, kept_or, store_answer, StoreFault, Place, Leaf, the_field, the_number, number_behind_sign, unspaced, refusal, taken, value_at, row_values, table_from, with_columns, columns_of, header_record, records_behind, dataset_table, RowFault, ShortRow, Number, ◌+◌}
+use Rattle.equal_runs.proofs.Imports.{◌≡◌, ℕ, suc, Bool, true, false, ℤ, List, [], ◌∷◌, length, Option, Some, None, Result, Ok, Err, refl, arith, slice_get, LeafType, Hold, hold_at, StoreMode, kind_at, kept_or, store_answer, StoreFault, Place, Leaf, the_field, the_number, number_behind_sign, unspaced, refusal, taken, value_at, row_values, table_from, with_columns, columns_of, header_record, records_behind, dataset_table, RowFault, ShortRow, Number, ◌+◌}
 use Rattle.csv_rows.specs.Datasets.{◌>>=◌}
 use Rattle.csv_rows.specs.declared.fault.RowFault.TheVariants.{Narrow}
 use Rattle.equal_runs.proofs.Answers.{Answers, equal, is_narrow, store_answers}
