@@ -108,15 +108,21 @@ fn fits(lanes: u32, wide: bool, constants: bool) -> Result<(), StepFault>
     ensures constants { OnOk result (constants ≡ true) }
 {
     if !are_lanes(lanes) {
-        return Err(StepFault::Command(CommandFault::BadKernel(BadKernel::Lanes)));
+        return Err(bad_kernel(BadKernel::Lanes));
     }
     if wide {
-        return Err(StepFault::Command(CommandFault::BadKernel(BadKernel::Wide)));
+        return Err(bad_kernel(BadKernel::Wide));
     }
     if !constants {
-        return Err(StepFault::Command(CommandFault::BadKernel(BadKernel::Constant)));
+        return Err(bad_kernel(BadKernel::Constant));
     }
     Ok(())
+}
+
+fn bad_kernel(bad: BadKernel) -> StepFault
+    ensures { result ≡ StepFault.Command (CommandFault.BadKernel bad) }
+{
+    StepFault::Command(CommandFault::BadKernel(bad))
 }
 
 fn are_lanes(lanes: u32) -> bool

@@ -71,16 +71,22 @@ fn check_terms(
     ensures { Gives (λ done. tt) result (fit_terms window.now texts.now divisor rounds) }
 {
     if !all_reach(window, spans, texts) {
-        return Err(StepFault::Command(CommandFault::BadStencil(BadStencil::Reach)));
+        return Err(bad_stencil(BadStencil::Reach));
     }
     if !all_weigh(texts) || !is_divisor(divisor) {
-        return Err(StepFault::Command(CommandFault::BadStencil(BadStencil::Weight)));
+        return Err(bad_stencil(BadStencil::Weight));
     }
     if texts.len() > MAX_TERMS {
-        return Err(StepFault::Command(CommandFault::BadStencil(BadStencil::Terms)));
+        return Err(bad_stencil(BadStencil::Terms));
     }
     if rounds > MAX_ROUNDS {
-        return Err(StepFault::Command(CommandFault::BadStencil(BadStencil::Rounds)));
+        return Err(bad_stencil(BadStencil::Rounds));
     }
     Ok(())
+}
+
+fn bad_stencil(bad: BadStencil) -> StepFault
+    ensures { result ≡ StepFault.Command (CommandFault.BadStencil bad) }
+{
+    StepFault::Command(CommandFault::BadStencil(bad))
 }

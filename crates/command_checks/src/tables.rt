@@ -124,9 +124,11 @@ pub fn made_beside(
             }
             Ok(view)
         }
-        Err(MakeView::Bad(bad)) => Err(StepFault::Command(CommandFault::BadMapping(bad))),
-        Err(MakeView::TooBig) => Err(StepFault::Command(CommandFault::TooBig)),
-        Err(MakeView::NoMemory) => Err(StepFault::NoMemory),
+        Err(fault) => match fault {
+            MakeView::Bad(bad) => Err(StepFault::Command(CommandFault::BadMapping(bad))),
+            MakeView::TooBig => Err(StepFault::Command(CommandFault::TooBig)),
+            MakeView::NoMemory => Err(StepFault::NoMemory),
+        },
     }
 }
 

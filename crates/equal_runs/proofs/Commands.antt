@@ -1,5 +1,5 @@
 -- The commands that change or read a table, done to alike worlds.
-use Rattle.equal_runs.proofs.Imports.{◌≡◌, ℕ, Bool, true, ℤ, List, [], ◌∷◌, ◌++◌, length, Option, Some, None, Result, Ok, refl, sym, ap, subst, ◌∙◌, not, slice_index_or, indices, place_in, PathStep, kinds_of, texts_of, MapTerm, holds_by, hold_at, with_entry, Keeping, kind_at, Access, Write, Tally, all_accesses, Read, LeafCounts, counts_text, StoreFault, Term, Value, Assignment, KernelText, Table, leaf_count_of, answer_of, kept_of, after_stores, Setting, updated_rows, value_log, rows_log, UpdateFault, UpdateKind, KernelFault, Kernel, World, found, Done, stores, tells, done_to, with_table, on_view, ◌>>=◌, LeftOf, Left, known, some_or, refused_if, refused_by, ok_or, leaf_of, bound, bound_filter, bound_sets, each_once, leaves_of, text_of_leaf, storable, store_fault, value_on, inside, assigned, updated, update_fault, kind_fault, are_alike, all_read, copied, copy, kernel_outcome, fit_kernel, kernel_run, number_text, kernel_row_fault, counts, drop_view, Mismatch, NotCounted, is_of_layout, ⊤, content_of, Work, Reads, Shows, left_as, does, OnView, worked, Tested, arith}
+use Rattle.equal_runs.proofs.Imports.{◌≡◌, ℕ, Bool, true, ℤ, List, [], ◌∷◌, ◌++◌, length, Option, Some, None, Result, Ok, refl, sym, ap, subst, ◌∙◌, not, slice_index_or, indices, place_in, PathStep, kinds_of, texts_of, MapTerm, holds_by, hold_at, with_entry, Keeping, kind_at, Access, Write, Tally, all_accesses, Read, LeafCounts, counts_text, StoreFault, Term, Value, Assignment, KernelText, Table, leaf_count_of, answer_of, kept_of, after_stores, Setting, updated_rows, value_log, rows_log, UpdateFault, UpdateKind, KernelFault, Kernel, World, found, Done, stores, tells, done_to, with_table, on_view, ◌>>=◌, LeftOf, Left, known, some_or, refused_if, refused_by, ok_or, leaf_of, bound, bound_filter, bound_sets, each_once, leaves_of, text_of_leaf, storable, store_fault, value_on, inside, assigned, updated, update_fault, kind_fault, are_alike, all_read, copied, copy, kernel_outcome, fit_kernel, kernel_run, number_text, kernel_row_fault, counts, drop_view, Mismatch, NotCounted, is_of_layout, ⊤, content_of, Work, Reads, Shows, Changes, left_as, does, OnView, worked, Tested, arith}
 use Rattle.row_updates.specs.declared.fault.UpdateKind.TheVariants as update_kind
 use Rattle.lane_kernels.specs.Kernels as kernels
 use Rattle.lane_kernels.specs.Logs as kernel_logs
@@ -22,7 +22,9 @@ narrow_update : (table : Table) (n : Bool) (e : UpdateFault) → is_narrow_updat
 narrow_update table n e is = of_kind e.kind is where
   of_kind : (kind : UpdateKind) → is_narrow_update (record { row = e.row; kind = kind }) ≡ true → is_of_layout n (kind_fault table.fields e.row kind) ≡ true
   of_kind (update_kind.Narrow leaf) is = refl
-  of_kind kind is = absurd (cc)
+  of_kind update_kind.Overflow is = absurd (cc)
+  of_kind update_kind.DivideByZero is = absurd (cc)
+  of_kind (update_kind.Range leaf) is = absurd (cc)
 
 narrow_run : (table : Table) (n : Bool) (e : KernelFault) → is_narrow_kernel e ≡ true → is_of_layout n (kernel_row_fault table.fields e) ≡ true
 narrow_run table n e is = grind arith
@@ -133,7 +135,8 @@ module _ (m o : Bool) (table : Table) (mapping : MapTerm) (tally : Tally) (same 
   -- what reads gets the same from both
   reads_agree : (work : Work) → IsReading work → Same m o (does work table) (does work (under table mapping tally))
   reads_agree (Reads command) is = before SameDone (command (content_of table)) _ _ (λ told. go _ _ refl)
-  reads_agree work is = absurd is
+  reads_agree (Shows command) is = absurd is
+  reads_agree (Changes command) is = absurd is
 
   -- the same is done to both
   done_agree : (x y : Tested Done) → Same m o x y → Agree m o AlikeDone (done_to table x) (done_to (under table mapping tally) y)

@@ -3,11 +3,8 @@
 
 mod copies;
 mod fault;
-#[tactic(auto, using(crate::proofs::Auto::steps))]
 mod fieldwise;
-#[tactic(auto, using(crate::proofs::Auto::steps))]
 mod row_runs;
-#[tactic(auto, using(crate::proofs::Auto::steps))]
 mod runs;
 mod ways;
 

@@ -9,8 +9,7 @@ ghost use Rattle.map_checks.specs.Prelude.{IsBuiltTerm};
 ghost use Rattle.piece_bits.specs.declared.mode.StoreMode.TheVariants.{Strict};
 ghost use Rattle.layout_tests.specs.Inner.Ways.{from_of, to_of, most_steps};
 
-use crate::tables::{aos, is_numbered, number, soa, view_of};
-use extents::Order;
+use crate::tables::{aos, aosoa, is_numbered, number, soa, view_of};
 use layout_copy::{CopyFault, copy};
 use map_any::{MapExpr, Strategy};
 use places::{AosForm, SoaForm};
@@ -44,7 +43,8 @@ fn source_of(way: Strategy) -> MapExpr
 {
     match way {
         Strategy::Runs => soa(SoaForm::Multi),
-        Strategy::Blobs | Strategy::Fields => aos(AosForm::Packed),
+        Strategy::Blobs => aos(AosForm::Packed),
+        Strategy::Fields => aos(AosForm::Packed),
     }
 }
 
@@ -53,10 +53,7 @@ fn target_of(way: Strategy) -> MapExpr
     ensures term { term_of result ≡ to_of way }
 {
     match way {
-        Strategy::Runs => MapExpr::Aosoa {
-            lanes: 8,
-            order: Order::Row,
-        },
+        Strategy::Runs => aosoa(8),
         Strategy::Blobs => aos(AosForm::Packed),
         Strategy::Fields => soa(SoaForm::Multi),
     }
@@ -94,7 +91,7 @@ fn zeros(alloc: Global, expr: &MapExpr) -> Result<View, Fail>
     Err(Fail::new("another view"))
 }
 
-// Whether a copy of a view that is numbered brings the numbers.
+// Whether a copy of a view of numbers brings them.
 fn brings<L: Ledger>(
     alloc: Global,
     way: Strategy,
@@ -104,12 +101,9 @@ fn brings<L: Ledger>(
     requires from { source.old.mapping ≡ from_of way }
     requires strict { source.old.mode ≡ Strict }
 {
-    number(source, steps)?;
     let mut target = zeros(alloc, &target_of(way))?;
     let answer = copy_so(way, source, &mut target, steps);
-    let brings = answer.is_ok() && is_numbered(&mut target, steps);
-    drop(target);
-    Ok(brings)
+    Ok(answer.is_ok() && is_numbered(&mut target))
 }
 
 fn goes_so<L: Ledger>(alloc: Global, way: Strategy, blank: Blank) -> Result<bool, Fail>
@@ -119,15 +113,18 @@ fn goes_so<L: Ledger>(alloc: Global, way: Strategy, blank: Blank) -> Result<bool
 {
     let mut steps = Steps::<L>::new(blank);
     let mut source = zeros(alloc, &source_of(way))?;
-    let goes = brings(alloc, way, &mut source, &mut steps);
-    drop(source);
-    goes
+    number(&mut source)?;
+    brings(alloc, way, &mut source, &mut steps)
+}
+
+fn goes(alloc: Global, way: Strategy) -> Result<bool, Fail> {
+    goes_so::<Brand>(alloc, way, Blank::new(1))
 }
 
 #[test]
 fn copies_of_1000_rows_take_at_most_125_or_63_or_2000_steps(rt: HostRuntime) -> Result<(), Fail> {
     for way in [Strategy::Runs, Strategy::Blobs, Strategy::Fields] {
-        assert!(rt; goes_so::<Brand>(rt.alloc(), way, Blank::new(1))?);
+        assert!(rt; goes(rt.alloc(), way)?);
     }
     Ok(())
 }

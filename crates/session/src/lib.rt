@@ -4,6 +4,7 @@
 mod copy;
 mod define;
 mod drop;
+mod faults;
 mod files;
 mod load;
 mod open;

@@ -69,13 +69,19 @@ fn inside(extents: Extents, index: &[u32]) -> Result<ArrayVec<u64, 4>, StepFault
     ensures member { IfOk result (λ wide. IsInside extents wide.items) }
 {
     if index.len() != extents.rank() {
-        return Err(StepFault::Command(CommandFault::BadIndex));
+        return Err(bad_index());
     }
     let wide = widened(index);
     if !extents.holds(wide.as_slice()) {
-        return Err(StepFault::Command(CommandFault::BadIndex));
+        return Err(bad_index());
     }
     Ok(wide)
+}
+
+fn bad_index() -> StepFault
+    ensures { result ≡ StepFault.Command CommandFault.BadIndex }
+{
+    StepFault::Command(CommandFault::BadIndex)
 }
 
 /// The same numbers, wider.

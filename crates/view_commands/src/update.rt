@@ -84,7 +84,10 @@ pub fn bound_filter(
 {
     match filter {
         None => Ok(None),
-        Some(filter) => Ok(Some(bound(alloc, view, filter)?)),
+        Some(filter) => {
+            let filter = bound(alloc, view, filter)?;
+            Ok(Some(filter))
+        }
     }
 }
 

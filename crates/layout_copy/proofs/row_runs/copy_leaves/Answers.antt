@@ -1,13 +1,14 @@
 use Rattle.layout_copy.proofs.Imports.{◌≡◌, length, get_or, refl, ap, arith, no_leaf_moved, leaf_moved, stores_quiet, steps_few, Table, AreAlike, common_steps}
 use Rattle.layout_copy.proofs.RowRuns.{alike_after, same_rows, leaf_steps}
 use Rattle.layout_copy.proofs.row_runs.copy_leaves.Goals as goal
+use Rattle.layout_copy.proofs.row_runs.copy_leaves.Goals.{After-laws_of_table-in-loop-leaf}
 use Rattle.layout_copy.proofs.row_runs.copy_leaves.Given.{Over}
 
-alike_here : (g : Over) (c : goal.After-laws_of_table-in-loop-leaf g) → AreAlike c.args.source.now c.loop-leaf.target
+alike_here : (g : Over) (c : After-laws_of_table-in-loop-leaf g) → AreAlike c.args.source.now c.loop-leaf.target
 alike_here g c = alike_after c.args.source.now c.args.target.now c.args.source.now c.loop-leaf.target c.requires.alike refl c.loop-leaf.invariant.same
 
 -- as many rows as the source has
-rows_here : (g : Over) (c : goal.After-laws_of_table-in-loop-leaf g) → length c.loop-leaf.target.rows ≡ length c.args.source.now.rows
+rows_here : (g : Over) (c : After-laws_of_table-in-loop-leaf g) → length c.loop-leaf.target.rows ≡ length c.args.source.now.rows
 rows_here g c = same_rows c.args.source.now c.loop-leaf.target (alike_here g c) c.laws_of_table.ensures.table c.laws_of_table-in-loop-leaf.ensures.table
 
 pub copy_run-requires-clause-rows_in : goal.copy_run-requires-clause-rows_in

@@ -1,0 +1,12 @@
+use Rattle.layout_tests.proofs.copies.goes_so.Goals as goal
+
+-- a mapping that is dropped is one still
+pub invariant_of-source-inside : goal.invariant_of-source-inside
+invariant_of-source-inside g c =
+    let m = c.source.inside.map in
+    record { built = m.built; numbers = m.numbers; full = m.full; held = m.held; sized = m.sized; ruled = m.ruled; wide = m.wide; arrays = m.arrays; uncounted = m.uncounted }
+
+pub invariant_of-source-inside-2 : goal.invariant_of-source-inside-2
+invariant_of-source-inside-2 g c =
+    let m = c.source-2.inside.map in
+    record { built = m.built; numbers = m.numbers; full = m.full; held = m.held; sized = m.sized; ruled = m.ruled; wide = m.wide; arrays = m.arrays; uncounted = m.uncounted }
