@@ -53,13 +53,9 @@ all_below source old new slot alike is now same below all =
     same ∙ ap (with_rows old) table
 
 -- the slots of a mapping that lays out arrays
-slots_are : (o : Option (Order × Option ℕ)) (extents : List ℕ) (slots : ArraySlots) → option_map (slots_in extents) o ≡ Some slots
+pub slots_are : (o : Option (Order × Option ℕ)) (extents : List ℕ) (slots : ArraySlots) → option_map (slots_in extents) o ≡ Some slots
     → slot_count (order_in o) extents ≡ slots.slots
 slots_are o extents slots is = grind arith
-
-pub order_slots : (table : Table) (slots : ArraySlots) → option_map (slots_in table.extents) (array_of table.mapping) ≡ Some slots
-    → slot_count (order_by table.mapping) table.extents ≡ slots.slots
-order_slots table slots is = slots_are (array_of table.mapping) table.extents slots is
 
 -- slots of a mapping
 pub has_slots : (term : Term) (extents : List ℕ) (slots : ArraySlots) (slot count : ℕ) → option_map (slots_in extents) (array_of term) ≡ Some slots

@@ -1,10 +1,6 @@
 -- Rows that are read, stored and copied, one leaf or one row more.
 use Rattle.layout_copy.proofs.Imports.{◌≡◌, Bool, true, false, ℕ, zero, suc, ◌+◌, ◌*◌, ◌<◌, ◌≤◌, ℤ, pos, List, [], ◌∷◌, ◌++◌, length, take, drop, get_or, set, Option, Some, None, is_ok, refl, sym, ap, ◌∙◌, arith, length-map, get_or-map, at_drop_more, take_more, get_or-set_same, length-set, take-set-le, Table, answer_of, kept_of, leaf_count_of, after_log, after_stores, after_read, StoreAnswer, kept_row, kept_rows, half, half_more, after_log-none, after_log-append, logs_more, accesses_more, Access, Read, Write, row_accesses, all_accesses, refusing, refused_at, spot_or, if◌then◌else◌}
 
--- the leaves from one on are the one and those behind it
-leaf_at : (answer : StoreAnswer) (values : List ℤ) (leaf : ℕ) → leaf < length values → refusing answer leaf (drop leaf values) ≡ refusing answer leaf (get_or values leaf (pos 0) ∷ drop (leaf + 1) values)
-leaf_at answer values leaf small = at_drop_more (refusing answer leaf) values leaf (pos 0) small
-
 -- the values before a leaf were read, and each was taken
 pub record AreRead (answer : StoreAnswer) (row values : List ℤ) (leaf : ℕ) : Type 0 where
   pub count : length values ≡ length row
@@ -19,11 +15,11 @@ leaf_read answer row values leaf value small is taken so_far =
     record {
       count = length-set values leaf value ∙ so_far.count;
       front = rw (take_more (set values leaf value) leaf (pos 0) long, take-set-le leaf values leaf value (omega arith), get_or-set_same values leaf value (pos 0) small, take_more row leaf (pos 0) inside, so_far.front, is) refl;
-      rest = so_far.rest ∙ leaf_at answer row leaf inside ∙ (rw (← is, taken) refl);
+      rest = so_far.rest ∙ at_drop_more (refusing answer leaf) row leaf (pos 0) inside ∙ (rw (← is, taken) refl);
     }
 
 pub leaf_refused : (answer : StoreAnswer) (row values : List ℤ) (leaf : ℕ) (value : ℤ) → leaf < length values → value ≡ get_or row leaf (pos 0) → is_ok (answer leaf value) ≡ false → AreRead answer row values leaf → Some leaf ≡ refusing answer 0 row
-leaf_refused answer row values leaf value small is refused so_far = grind (arith, leaf_at)
+leaf_refused answer row values leaf value small is refused so_far = grind (arith, (at_drop_more (refusing answer leaf) row leaf (pos 0) (omega (arith, small, so_far.count))))
 
 -- a read more of a row, and the reads of a row more
 pub read_more : (old now new : Table) (row leaf : ℕ) → now ≡ after_log old (row_accesses Read leaf row) → new ≡ after_read now row leaf → new ≡ after_log old (row_accesses Read (leaf + 1) row)

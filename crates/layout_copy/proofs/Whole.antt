@@ -17,10 +17,6 @@ blob_holds one two fields same = grind (arith, holds_uncounted)
 run_holds : (one two : Term) (fields : Fields) → AreRuns one two → holds_by one fields ≡ holds_by two fields
 run_holds one two fields are = grind (arith, runs_full)
 
--- accesses of one kind
-only_writes : (leaves rows : ℕ) → all_touches 0 1 leaves rows ≡ all_accesses Write leaves rows
-only_writes leaves rows = append-nil (all_accesses Write leaves rows)
-
 -- a table that has become another one, each of its entries counted
 module _ (source old now new : Table) (is : IsTable source) (to : IsTable old) (alike : AreAlike source old)
     (moved : now ≡ with_rows old source.rows) (counted : new ≡ after_log now (all_touches 0 1 (leaf_count_of now) (length now.rows))) where
@@ -44,7 +40,7 @@ module _ (source old now new : Table) (is : IsTable source) (to : IsTable old) (
         alike,
         staying_held old source.rows shape stay,
         counted ∙ ap (λ (t : Table). after_log t (all_touches 0 1 (leaf_count_of t) (length t.rows))) moved
-            ∙ ap (after_stores old source.rows) (only_writes (leaf_count_of old) (length source.rows))
+            ∙ ap (after_stores old source.rows) (append-nil (all_accesses Write (leaf_count_of old) (length source.rows)))
             ∙ ap (λ (rows : List (List ℤ)). after_stores old rows (all_accesses Write (leaf_count_of old) (length source.rows))) (sym (staying_kept old source.rows shape stay)),
       )
 

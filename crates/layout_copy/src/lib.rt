@@ -3,8 +3,11 @@
 
 mod copies;
 mod fault;
+#[tactic(auto, using(crate::proofs::Auto::steps))]
 mod fieldwise;
+#[tactic(auto, using(crate::proofs::Auto::steps))]
 mod row_runs;
+#[tactic(auto, using(crate::proofs::Auto::steps))]
 mod runs;
 mod ways;
 

@@ -23,10 +23,7 @@ pub(crate) fn way_of(source: &View, target: &View) -> Strategy
 fn may_move(source: &View, target: &View) -> bool
     ensures { IsTrue result ↔ MayMoveTo source.now target.now }
 {
-    if source.mode() == StoreMode::Strict || target.mode() == StoreMode::Wrap {
-        return true;
-    }
-    has_own_holds(target)
+    source.mode() == StoreMode::Strict || target.mode() == StoreMode::Wrap || has_own_holds(target)
 }
 
 // Whether each leaf is stored in the sign and the width of its type.

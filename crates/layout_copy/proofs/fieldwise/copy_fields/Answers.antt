@@ -1,5 +1,5 @@
-use Rattle.layout_copy.proofs.Imports.{arith, ◌≡◌, ◌<◌, ◌∙◌, ℕ, List, length, refl, ap, sym, indices, leaf_count_of, after_log-none, common_steps}
-use Rattle.layout_copy.proofs.Rows.{reads_after, row_read, none_copied, row_copied, row_refused, steps_more}
+use Rattle.layout_copy.proofs.Imports.{arith, ◌≡◌, ◌<◌, ◌∙◌, ℕ, List, length, refl, ap, sym, indices, leaf_count_of}
+use Rattle.layout_copy.proofs.Rows.{row_read, row_copied, row_refused, steps_more}
 use Rattle.layout_copy.proofs.Whole.{rows_copied}
 use Rattle.layout_copy.proofs.fieldwise.copy_fields.Goals as goal
 
@@ -12,12 +12,6 @@ pub returns-in-Some-clause-copied : goal.returns-in-Some-clause-copied
 returns-in-Some-clause-copied g c =
     let source = c.args.source.now in
     grind (arith, row_refused)
-
-pub returns-in-Some-clause-source : goal.returns-in-Some-clause-source
-returns-in-Some-clause-source g c = grind (arith, common_steps, reads_after)
-
-pub loop-row-init : goal.loop-row-init
-loop-row-init g c = grind (arith, common_steps, after_log-none, none_copied)
 
 pub loop-row-preserved : goal.loop-row-preserved
 loop-row-preserved g c =

@@ -1,13 +1,7 @@
-use Rattle.layout_copy.proofs.Imports.{ℕ, List, arith, same_slots, rows_after, Table, leaf_sizes, common_steps}
+use Rattle.layout_copy.proofs.Imports.{ℕ, List, arith, rows_after, Table, leaf_sizes}
 use Rattle.layout_copy.proofs.CostLaws.{cut_at, round_counted}
-use Rattle.layout_copy.proofs.Pieces.{piece_moved, all_below, order_slots, has_slots, all_steps, steps_of_round}
+use Rattle.layout_copy.proofs.Pieces.{piece_moved, steps_of_round}
 use Rattle.layout_copy.proofs.runs.copy_rounds.Goals as goal
-
-pub round_count-count-requires-clause-to_lanes : goal.round_count-count-requires-clause-to_lanes
-round_count-count-requires-clause-to_lanes g c = grind (arith, common_steps, same_slots)
-
-pub copy_round-requires-clause-slots : goal.copy_round-requires-clause-slots
-copy_round-requires-clause-slots g c = grind (arith, common_steps, same_slots, has_slots)
 
 pub loop-slot-preserved : goal.loop-slot-preserved
 loop-slot-preserved g c =
@@ -23,9 +17,3 @@ loop-slot-preserved g c =
     let are = steps_of_round c.args.source.now old from to sizes slot count c.requires.alike c.requires.arrays c.requires.from c.requires.to in
     let counted = round_counted from.slots from.lanes to.lanes slot count (cut_at from.lanes to.lanes slot whole) c.round_count-count.ensures.inside sizes in
     grind (arith, rows_after, piece_moved)
-
-pub returns-clause-rows : goal.returns-clause-rows
-returns-clause-rows g c = grind (arith, common_steps, order_slots, same_slots, all_below)
-
-pub returns-clause-steps : goal.returns-clause-steps
-returns-clause-steps g c = grind (arith, common_steps, all_steps)
