@@ -1,6 +1,5 @@
 -- The rows of the plain update, stored leaf by leaf.
-use Rattle.actors.proofs.Imports.{◌≡◌, ℕ, ◌+◌, ◌<◌, ◌≤◌, All, Bool, true, false, ℤ, pos, List, [], ◌∷◌, ◌++◌, length, map, get_or, set, take, drop, Option, Some, None, Result, Ok, Err, refl, sym, ap, ◌∙◌, subst, ⊎_elim, arith, append_assoc, length-append, ◌==◌, ◌||◌, if◌then◌else◌, cases_eq, eq-eqb, eqb-true, append-nil, get_or-map, get_or-set_same, get_or-set_other, get_or-append_right, get_or-drop, length-map, length-set, length-take, length-drop, take_more, take_all, drop_all, drop_more, ext_get_or, map-append, set-get_or, set-set, filter-append, Term, outcome_of, is_true, EvalFault, index_at, entry, AreSized, table_in, with_entry, declared_table, stays_answer, IsLawful, memory_is, rows_read, UpdateFault, Assign, stores_log, if_given, update_log, Setting, setting_of, each, ◌>>=◌, in_row, eval_kind, passes, new_value, with_values, tried_row, given_row, updated_row, updated_of, IsSetOf, updated_as_tried, StoreAnswer, Keeping, Table, owners_of, leaf_types_of, leaf_count_of, table_holds, answer_of, kept_of, after_stores, Write, writes_in, after_stores-append, after_log-none, logs_more, job_of, memory_of, Job, is_in, number_in, row_as_it_stands, test_of, lets_through, length-with_values, updated_at, row_held, with_held}
-use Rattle.actors.proofs.Laws.{leaf_count}
+use Rattle.actors.proofs.Imports.{◌-◌, set-append_right, leaf_count, passed, ◌≡◌, ℕ, ◌+◌, ◌<◌, ◌≤◌, All, Bool, true, false, ℤ, pos, List, [], ◌∷◌, ◌++◌, length, map, get_or, set, take, drop, Option, Some, Result, Ok, refl, sym, ap, ◌∙◌, subst, ⊎_elim, arith, append_assoc, length-append, ◌==◌, ◌||◌, if◌then◌else◌, cases_eq, eq-eqb, eqb-true, append-nil, get_or-map, get_or-set_same, get_or-set_other, get_or-append_right, get_or-drop, length-map, length-set, length-take, length-drop, take_more, take_all, drop_all, drop_more, ext_get_or, map-append, set-get_or, set-set, filter-append, Term, index_at, entry, AreSized, table_in, with_entry, declared_table, stays_answer, IsLawful, memory_is, rows_read, UpdateFault, Assign, stores_log, if_given, update_log, Setting, setting_of, each, ◌>>=◌, passes, new_value, with_values, tried_row, given_row, updated_row, updated_of, IsSetOf, updated_as_tried, StoreAnswer, Keeping, Table, owners_of, leaf_types_of, leaf_count_of, table_holds, answer_of, kept_of, after_stores, Write, writes_in, after_stores-append, after_log-none, logs_more, job_of, memory_of, Job, is_in, row_as_it_stands, lets_through, length-with_values, updated_at, row_held, with_held}
 use Rattle.actors.proofs.Tried.{row_writes}
 
 -- one leaf more
@@ -73,13 +72,6 @@ module _ (job : Job) (answer : StoreAnswer) (keep : Keeping) (r : ℕ) (new : Li
   abbrev tried : Result (Option (List ℤ)) UpdateFault
   tried = tried_row answer job.filter job.sets r row index
 
-  passed : (filter : Option (Term ℕ)) (test : Bool) → passes r row index filter ≡ Ok test → test_of job r filter ≡ test
-  passed None test e = cc
-  passed (Some filter) test e = by_answer (outcome_of row index filter).answer e where
-    by_answer : (answer : Result ℤ EvalFault) → (in_row r eval_kind answer >>= (λ value. Ok (is_true value))) ≡ Ok test → is_true (number_in answer) ≡ test
-    by_answer (Ok value) is = cc
-    by_answer (Err fault) is = absurd (cc)
-
   -- a row behind the plain update: what it is given, and what stands
   pub record IsRowUpdated (through : Bool) : Type 0 where
     pub writes : if_given tried (stores_log r job.sets) ≡ (if through then stores_log r job.sets else [])
@@ -124,13 +116,11 @@ module _ (old : Table) (filter : Option (Term ℕ)) (sets : List Setting) (rows 
       let next : drop n old.rows ≡ get_or old.rows n [] ∷ drop (n + 1) old.rows = drop_more old.rows n [] low in
       let more : take (n + 1) rows ≡ take n rows ++ get_or rows n [] ∷ [] = take_more rows n [] (omega (arith, low, count)) in
       let front : length (take n rows) ≡ n = (let long = length-take n rows in omega (arith, long, low, count)) in
+      let none : n - n ≡ 0 = omega arith in
       ap (λ (w : List (List ℤ)). set (take n rows ++ w) n (get_or rows n [])) next
-      ∙ ap (λ (k : ℕ). set (take n rows ++ get_or old.rows n [] ∷ drop (n + 1) old.rows) k (get_or rows n [])) (sym front)
-      ∙ set_seam (take n rows) (get_or old.rows n []) (get_or rows n []) (drop (n + 1) old.rows)
-      ∙ sym (append_assoc (take n rows) (get_or rows n [] ∷ []) (drop (n + 1) old.rows)) ∙ ap (λ (w : List (List ℤ)). w ++ drop (n + 1) old.rows) (sym more) where
-        set_seam : (xs : List (List ℤ)) (x y : List ℤ) (ys : List (List ℤ)) → set (xs ++ x ∷ ys) (length xs) y ≡ xs ++ y ∷ ys
-        set_seam [] x y ys = refl
-        set_seam (z ∷ xs) x y ys = ap (λ (w : List (List ℤ)). z ∷ w) (set_seam xs x y ys)
+      ∙ set-append_right (take n rows) (get_or old.rows n [] ∷ drop (n + 1) old.rows) n n (get_or rows n []) front (omega arith)
+      ∙ ap (λ (k : ℕ). take n rows ++ set (get_or old.rows n [] ∷ drop (n + 1) old.rows) k (get_or rows n [])) none
+      ∙ sym (append_assoc (take n rows) (get_or rows n [] ∷ []) (drop (n + 1) old.rows)) ∙ ap (λ (w : List (List ℤ)). w ++ drop (n + 1) old.rows) (sym more)
 
   updated_here : (n : ℕ) → n < length old.rows → IsRowUpdated job (answer_of old) (kept_of old) n (get_or rows n []) (lets_through job n)
   updated_here n low = row_updated job (answer_of old) (kept_of old) n (get_or rows n []) (updated_at (answer_of old) (kept_of old) filter sets old.extents old.rows rows (length old.rows) n plain low)

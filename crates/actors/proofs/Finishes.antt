@@ -22,11 +22,8 @@ module _ (job : Job) (fresh : Registers) where
     actors = set state.actors n (record { rest = more; registers = loaded job micro state.memory (get_or state.actors n idle).registers });
   }
 
-  turn_none : (n : ℕ) (state : Here) → rest_at n state ≡ [] → run_by job fresh (n ∷ []) state ≡ state
-  turn_none n state e = ap (λ (rest : List Micro). moved (stored job) (loaded job) rest (get_or state.actors n idle).registers n state) e
-
-  turn_some : (n : ℕ) (state : Here) (micro : Micro) (more : List Micro) → rest_at n state ≡ micro ∷ more → run_by job fresh (n ∷ []) state ≡ next_of n state micro more
-  turn_some n state micro more e = ap (λ (rest : List Micro). moved (stored job) (loaded job) rest (get_or state.actors n idle).registers n state) e
+  turn_is : (n : ℕ) (state : Here) (rest : List Micro) → rest_at n state ≡ rest → run_by job fresh (n ∷ []) state ≡ moved (stored job) (loaded job) rest (get_or state.actors n idle).registers n state
+  turn_is n state rest e = ap (λ (rest : List Micro). moved (stored job) (loaded job) rest (get_or state.actors n idle).registers n state) e
 
   -- a turn of an actor leads where all that is left leads
   pub turn_left : (n : ℕ) (state : Here) → n < length state.actors
@@ -34,10 +31,10 @@ module _ (job : Job) (fresh : Registers) where
   turn_left n state low = by_rest (rest_at n state) refl where
     by_rest : (rest : List Micro) → rest_at n state ≡ rest
         → run_by job fresh (left_from n (run_by job fresh (n ∷ []) state)) (run_by job fresh (n ∷ []) state) ≡ run_by job fresh (left_from n state) state
-    by_rest [] e = ap (λ (s : Here). run_by job fresh (left_from n s) s) (turn_none n state e)
+    by_rest [] e = ap (λ (s : Here). run_by job fresh (left_from n s) s) (turn_is n state [] e)
     by_rest (micro ∷ more) e =
         let next = next_of n state micro more in
-        let is = turn_some n state micro more e in
+        let is = turn_is n state (micro ∷ more) e in
         let behind = turns_from (suc n) (drop (n + 1) state.actors) in
         let schedule = replicate (length more) n ++ behind in
         let after : left_from n next ≡ schedule =
@@ -51,8 +48,8 @@ module _ (job : Job) (fresh : Registers) where
   pub turn_count : (n : ℕ) (state : Here) → length (run_by job fresh (n ∷ []) state).actors ≡ length state.actors
   turn_count n state = by_rest (rest_at n state) refl where
     by_rest : (rest : List Micro) → rest_at n state ≡ rest → length (run_by job fresh (n ∷ []) state).actors ≡ length state.actors
-    by_rest [] e = ap (λ (s : Here). length s.actors) (turn_none n state e)
-    by_rest (micro ∷ more) e = ap (λ (s : Here). length s.actors) (turn_some n state micro more e) ∙ length-set state.actors n (record { rest = more; registers = loaded job micro state.memory (get_or state.actors n idle).registers })
+    by_rest [] e = ap (λ (s : Here). length s.actors) (turn_is n state [] e)
+    by_rest (micro ∷ more) e = ap (λ (s : Here). length s.actors) (turn_is n state (micro ∷ more) e) ∙ length-set state.actors n (record { rest = more; registers = loaded job micro state.memory (get_or state.actors n idle).registers })
 
   -- an actor with nothing left makes way for the next one
   pub none_behind : (n : ℕ) (state : Here) → n < length state.actors → has_any (rest_at n state) ≡ false → left_from (n + 1) state ≡ left_from n state

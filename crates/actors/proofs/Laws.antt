@@ -1,5 +1,5 @@
 -- The laws of a view's table, and a row that blobs hold.
-use Rattle.actors.proofs.Imports.{◌≡◌, ℕ, ◌+◌, ◌<◌, ◌≤◌, ℤ, pos, List, [], length, map, get_or, set, None, sym, ◌∙◌, arith, length-map, ext_get_or, get_or-set_same, get_or-set_other, cases_eq, indices, Leaf, leaves, entry, IsLaidOut, Owner, Hold, table_in, declared, kind_at, Table, IsTable, owners_of, leaf_types_of, table_holds, leaf_count_of, IsLawful, row_in-at, length-row_in, job_of, row_held}
+use Rattle.actors.proofs.Imports.{leaf_count, ◌≡◌, ℕ, ◌+◌, ◌<◌, ◌≤◌, ℤ, pos, List, [], length, map, get_or, set, None, sym, ◌∙◌, arith, ext_get_or, get_or-set_same, get_or-set_other, cases_eq, indices, entry, IsLaidOut, Owner, Hold, table_in, declared, kind_at, Table, IsTable, owners_of, leaf_types_of, table_holds, leaf_count_of, IsLawful, row_in-at, length-row_in, job_of, row_held}
 
 pub lawful_from : (table : Table) (layout : List (List Owner)) (slots : ℕ) (holds : List Hold) → IsTable table → length (table_holds table) ≡ length (leaf_types_of table)
     → layout ≡ owners_of table → slots ≡ length (indices table.extents) → holds ≡ table_holds table → IsLaidOut layout slots (map (λ h. h.width) holds) → IsLawful table
@@ -10,9 +10,6 @@ pub raw_here : (table : Table) (layout : List (List Owner)) (slots : ℕ) (holds
     → layout ≡ owners_of table → slots ≡ length (indices table.extents) → holds ≡ table_holds table
     → entry (table_in layout slots holds blobs) row leaf ≡ entry (table_in (owners_of table) (length table.rows) (table_holds table) blobs) row leaf
 raw_here table layout slots holds blobs row leaf rows layout_is slots_are holds_are = grind arith
-
-pub leaf_count : (table : Table) → leaf_count_of table ≡ length (leaf_types_of table)
-leaf_count table = sym (length-map (leaves table.fields) (λ (one : Leaf). one.kind))
 
 module _ (table : Table) (lawful : IsLawful table) (blobs : List (List ℕ)) (row : ℕ) (inside : row < length table.rows) where
   pub held_at : (leaf : ℕ) → leaf < leaf_count_of table

@@ -1,12 +1,9 @@
 -- Marks of the leaves that are read.
-use Rattle.actors.proofs.Imports.{◌≡◌, ℕ, zero, suc, ◌+◌, ◌<◌, ◌≤◌, Bool, true, false, List, [], ◌∷◌, ◌++◌, length, map, get_or, set, take, fold, replicate, refl, sym, ap, ◌∙◌, subst, ⊎_elim, arith, length-append, ◌==◌, ◌||◌, flat_map, get_or-append, get_or-append_seam, cases_eq, cases_lt, eq-eqb, eqb-true, get_or-map, get_or-set_same, get_or-set_other, length-set, length-map, length-replicate, append-nil, take_more, flat_map-append, fold-append, Assign, Setting, setting_of, Job, is_in, filter_reads, set_reads, leaves_read, lets_through, Asks, marked, IsRowPlanOf, ArePlans}
+use Rattle.actors.proofs.Imports.{or-false, or_right, ne_eqb, get_or-replicate, ◌≡◌, ℕ, ◌+◌, ◌<◌, ◌≤◌, Bool, true, false, List, [], ◌∷◌, ◌++◌, length, map, get_or, set, take, fold, replicate, refl, sym, ap, ◌∙◌, subst, ⊎_elim, arith, length-append, ◌==◌, ◌||◌, flat_map, get_or-append, get_or-append_seam, cases_eq, cases_lt, eq-eqb, get_or-map, get_or-set_same, get_or-set_other, length-set, length-map, length-replicate, append-nil, take_more, flat_map-append, fold-append, Assign, Setting, setting_of, Job, is_in, filter_reads, set_reads, leaves_read, lets_through, Asks, marked, IsRowPlanOf, ArePlans}
 
 -- a leaf is marked where it was, or is among those that are read
 marks_are : (reads : List ℕ) (asked : List Bool) (leaf : ℕ) → leaf < length asked → get_or (fold marked asked reads) leaf false ≡ (get_or asked leaf false || is_in reads leaf)
-marks_are [] asked leaf low = by_mark (get_or asked leaf false) where
-  by_mark : (mark : Bool) → mark ≡ (mark || false)
-  by_mark true = refl
-  by_mark false = refl
+marks_are [] asked leaf low = sym (or-false (get_or asked leaf false))
 marks_are (x ∷ reads) asked leaf low =
     marks_are reads (set asked x true) leaf (omega (arith, low, length-set asked x true)) ∙ ap (λ (m : Bool). m || is_in reads leaf) here ∙ by_mark (get_or asked leaf false) (x == leaf) where
       by_mark : (mark here : Bool) → ((mark || here) || is_in reads leaf) ≡ (mark || (here || is_in reads leaf))
@@ -17,28 +14,16 @@ marks_are (x ∷ reads) asked leaf low =
       here =
           ⊎_elim (λ (same : leaf ≡ x).
           ap (λ (w : ℕ). get_or (set asked x true) w false) same ∙ get_or-set_same asked x true false (omega (arith, low, same))
-          ∙ sym (both (get_or asked leaf false)) ∙ ap (λ (t : Bool). get_or asked leaf false || t) (sym (eq-eqb x leaf (sym same))))
-          (λ (other : leaf ≡ x → ⊥). get_or-set_other asked x leaf true false other ∙ apart (x == leaf) refl other)
-          (cases_eq leaf x) where
-            both : (mark : Bool) → (mark || true) ≡ true
-            both true = refl
-            both false = refl
-
-            apart : (t : Bool) → (x == leaf) ≡ t → (leaf ≡ x → ⊥) → get_or asked leaf false ≡ (get_or asked leaf false || t)
-            apart true e other = absurd (other (sym (eqb-true x leaf e)))
-            apart false e other = by_none (get_or asked leaf false) where
-              by_none : (mark : Bool) → mark ≡ (mark || false)
-              by_none true = refl
-              by_none false = refl
+          ∙ sym (or_right (get_or asked leaf false) (x == leaf) (eq-eqb x leaf (sym same))))
+          (λ (other : leaf ≡ x → ⊥).
+          get_or-set_other asked x leaf true false other ∙ sym (or-false (get_or asked leaf false))
+          ∙ ap (λ (t : Bool). get_or asked leaf false || t) (sym (ne_eqb x leaf (λ e. other (sym e)))))
+          (cases_eq leaf x)
 
 pub marks_of : (reads : List ℕ) (asked : List Bool) → asked ≡ fold marked (replicate 64 false) reads → (leaf : ℕ) → leaf < 64 → get_or asked leaf false ≡ is_in reads leaf
 marks_of reads asked is leaf low =
-    let none : get_or (replicate 64 false) leaf false ≡ false = unmarked 64 leaf in
-    ap (λ (w : List Bool). get_or w leaf false) is ∙ marks_are reads (replicate 64 false) leaf (omega (arith, low, length-replicate {A = Bool} 64 false)) ∙ ap (λ (m : Bool). m || is_in reads leaf) none where
-      unmarked : (n leaf : ℕ) → get_or (replicate n false) leaf false ≡ false
-      unmarked zero leaf = refl
-      unmarked (suc n) zero = refl
-      unmarked (suc n) (suc leaf) = unmarked n leaf
+    ap (λ (w : List Bool). get_or w leaf false) is ∙ marks_are reads (replicate 64 false) leaf (omega (arith, low, length-replicate {A = Bool} 64 false))
+    ∙ ap (λ (m : Bool). m || is_in reads leaf) (get_or-replicate 64 leaf false false low)
 
 -- marks after others
 pub more_marks : (asked : List Bool) (first rest : List ℕ) → fold marked (fold marked asked first) rest ≡ fold marked asked (first ++ rest)

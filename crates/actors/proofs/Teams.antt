@@ -1,5 +1,5 @@
 -- The actors of a run before their first micro-step.
-use Rattle.actors.proofs.Imports.{◌≡◌, ℕ, zero, suc, ◌+◌, ◌-◌, ◌<◌, ◌≤◌, false, List, [], ◌∷◌, ◌++◌, length, map, get_or, drop, refl, sym, ap, ◌∙◌, subst, ⊎_elim, arith, append_assoc, length-append, get_or-append, get_or-append_seam, cases_lt, map-append, drop_more, Table, IsLawful, Actor, AreCuts, parts_from, team_of, fresh_of, zeros-sized, Job, Micro, Registers, steps_of, origin, left_in, rows_left, Standing, Cursor, AreStanding, IsFresh, IsStanding, actor_shown, cursor_steps}
+use Rattle.actors.proofs.Imports.{drop_all, cuts_end, All-push, ◌≡◌, ℕ, zero, suc, ◌+◌, ◌-◌, ◌<◌, ◌≤◌, false, List, [], ◌∷◌, ◌++◌, length, map, get_or, drop, refl, sym, ap, ◌∙◌, subst, arith, append_assoc, length-append, map-append, drop_more, Table, IsLawful, Actor, AreCuts, parts_from, team_of, fresh_of, zeros-sized, Job, Micro, Registers, steps_of, origin, left_in, rows_left, Standing, Cursor, AreStanding, IsFresh, IsStanding, actor_shown, cursor_steps}
 
 -- all rows are left
 all_left : (job : Job) (row n : ℕ) → left_in job row n 0 origin ≡ steps_of job row n
@@ -20,20 +20,6 @@ module _ (table : Table) (row end : ℕ) (actor : Standing) (fresh : IsFresh tab
 
   fresh_stands : IsLawful table → end ≤ length table.rows → (sets : ℕ) → IsStanding table sets actor
   fresh_stands lawful inside sets = grind (arith, zeros-sized)
-
--- one actor more stands
-one_stands : (table : Table) (sets : ℕ) (actors : List Standing) (actor : Standing) → AreStanding table sets actors → IsStanding table sets actor → AreStanding table sets (actors ++ actor ∷ [])
-one_stands table sets actors actor are is a other low =
-    ⊎_elim (λ (less : a < length actors). subst (IsStanding table sets) (sym (get_or-append actors (actor ∷ []) other a less)) (are a other less))
-    (λ (more : length actors ≤ a).
-    let last : a ≡ length actors = omega (arith, more, low, length-append actors (actor ∷ [])) in
-    subst (IsStanding table sets) (sym (ap (λ (w : ℕ). get_or (actors ++ actor ∷ []) w other) last ∙ get_or-append_seam actors actor [] other)) is)
-    (cases_lt a (length actors))
-
--- cuts end within the rows
-last_cut : (row : ℕ) (cuts : List ℕ) (count : ℕ) → AreCuts row cuts count → row ≤ count
-last_cut row [] count are = are
-last_cut row (cut ∷ cuts) count are = let rest = last_cut cut cuts count are.1 in omega (arith, rest, are.0)
 
 module _ (table : Table) (cuts : List ℕ) where
   -- the actors so far, and those to come
@@ -57,7 +43,7 @@ module _ (table : Table) (cuts : List ℕ) where
             ∙ ap (λ (w : Actor Micro Registers). map (actor_shown job) actors ++ (w ∷ rest)) (fresh_shown table row cut actor fresh job)
             ∙ ap (λ (cs : List ℕ). map (actor_shown job) actors ++ team_of job (parts_from row cs (length table.rows)) (fresh_of table)) (sym next) ∙ so_far.shown job);
         parts = parts.1;
-        standing = λ sets. one_stands table sets actors actor (so_far.standing sets) (fresh_stands table row cut actor fresh lawful (last_cut cut (drop (n + 1) cuts) (length table.rows) parts.1) sets);
+        standing = λ sets. All-push (IsStanding table sets) actors actor (so_far.standing sets) (fresh_stands table row cut actor fresh lawful (cuts_end cut (drop (n + 1) cuts) (length table.rows) parts.1) sets);
         count = length-append actors (actor ∷ []) ∙ ap (λ (w : ℕ). w + 1) so_far.count;
       }
 
@@ -69,16 +55,13 @@ module _ (table : Table) (cuts : List ℕ) where
 
   pub all_team : (lawful : IsLawful table) (row n end : ℕ) (actors : List Standing) (actor : Standing) → n ≡ length cuts → end ≡ length table.rows → IsFresh table row end actor → AreTeam row n actors → IsTeam (actors ++ actor ∷ [])
   all_team lawful row n end actors actor last whole fresh so_far =
-      let none : drop n cuts ≡ [] = ap (λ (w : ℕ). drop w cuts) last ∙ drop_whole cuts in
+      let none : drop n cuts ≡ [] = ap (λ (w : ℕ). drop w cuts) last ∙ drop_all (length cuts) cuts (omega arith) in
       record {
         shown = λ job.
             map-append (actor_shown job) actors (actor ∷ [])
             ∙ ap (λ (w : Actor Micro Registers). map (actor_shown job) actors ++ (w ∷ []))
             (fresh_shown table row end actor fresh job ∙ ap (λ (w : ℕ). record { rest = steps_of job row (w - row); registers = fresh_of table }) whole)
             ∙ ap (λ (cs : List ℕ). map (actor_shown job) actors ++ team_of job (parts_from row cs (length table.rows)) (fresh_of table)) (sym none) ∙ so_far.shown job;
-        standing = λ sets. one_stands table sets actors actor (so_far.standing sets) (fresh_stands table row end actor fresh lawful (omega (arith, whole)) sets);
+        standing = λ sets. All-push (IsStanding table sets) actors actor (so_far.standing sets) (fresh_stands table row end actor fresh lawful (omega (arith, whole)) sets);
         count = length-append actors (actor ∷ []) ∙ ap (λ (w : ℕ). w + 1) (so_far.count ∙ last);
-      } where
-        drop_whole : (xs : List ℕ) → drop (length xs) xs ≡ []
-        drop_whole [] = refl
-        drop_whole (x ∷ xs) = drop_whole xs
+      }

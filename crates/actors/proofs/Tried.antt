@@ -1,56 +1,14 @@
 -- Rows that are tried one after another, as an update tries them, and what was read of them.
-use Rattle.actors.proofs.Imports.{◌≡◌, ℕ, zero, suc, ◌+◌, ◌-◌, ◌<◌, Bool, ℤ, List, [], ◌∷◌, ◌++◌, map, get_or, Option, Some, None, Result, Ok, Err, refl, sym, ap, ◌∙◌, arith, range_with_len, append-nil, filter-append, Term, outcome_of, index_at, StoreAnswer, Keeping, Table, answer_of, kept_of, after_log, Access, Read, Write, is_read, is_write, reads_in, writes_in, after_log-append, after_log-none, logs_more, UpdateFault, value_log, filter_log, if_ok, if_passes, sides_log, stores_log, tried_log, if_given, row_log, update_log, Setting, each, ◌>>=◌, passes, new_value, tried_row, given_row, updated_row, updated_of, updated_as_tried, log_as_tried, IsUpdated, IsUpdatedRow}
+use Rattle.actors.proofs.Imports.{true, false, filter, rows_push, rows_stop, ◌≡◌, ℕ, ◌+◌, ◌-◌, ◌<◌, Bool, ℤ, List, [], ◌∷◌, ◌++◌, map, get_or, Option, Some, None, Result, Ok, Err, refl, sym, ap, ◌∙◌, arith, append-nil, filter-append, Term, outcome_of, index_at, StoreAnswer, Keeping, Table, answer_of, kept_of, after_log, Access, Read, Write, is_read, is_write, reads_in, writes_in, after_log-append, after_log-none, logs_more, UpdateFault, value_log, filter_log, if_ok, if_passes, sides_log, stores_log, tried_log, if_given, row_log, update_log, Setting, passes, new_value, tried_row, given_row, updated_row, updated_of, updated_as_tried, log_as_tried, IsUpdated, IsUpdatedRow}
 
--- one list of things after another
-unit_right : {B : Type 0} (found : Result (List B) UpdateFault) → found ≡ (found >>= (λ ys. Ok ys))
-unit_right found = grind arith
+-- things that are all of a kind, or none of them
+all_kept : {X Y : Type 0} (test : Y → Bool) (f : X → Y) → ((x : X) → test (f x) ≡ true) → (xs : List X) → filter test (map f xs) ≡ map f xs
+all_kept test f pass [] = refl
+all_kept {X} {Y} test f pass (x ∷ xs) = rw (pass x) (ap (λ (w : List Y). f x ∷ w) (all_kept test f pass xs))
 
-each-append : {A B : Type 0} (step : A → Result B UpdateFault) (xs ys : List A) → each step (xs ++ ys) ≡ (each step xs >>= (λ first. each step ys >>= (λ rest. Ok (first ++ rest))))
-each-append step [] ys = unit_right (each step ys)
-each-append {B} step (x ∷ xs) ys =
-    ap (λ (found : Result (List B) UpdateFault). step x >>= (λ y. found >>= (λ all. Ok (y ∷ all)))) (each-append step xs ys) ∙ by_parts (step x) (each step xs) (each step ys) where
-      by_parts : (one : Result B UpdateFault) (first rest : Result (List B) UpdateFault)
-          → (one >>= (λ y. (first >>= (λ a. rest >>= (λ b. Ok (a ++ b)))) >>= (λ all. Ok (y ∷ all)))) ≡ ((one >>= (λ y. first >>= (λ a. Ok (y ∷ a)))) >>= (λ a. rest >>= (λ b. Ok (a ++ b))))
-      by_parts (Ok y) (Ok a) (Ok b) = refl
-      by_parts (Ok y) (Ok a) (Err fault) = refl
-      by_parts (Ok y) (Err fault) rest = refl
-      by_parts (Err fault) first rest = refl
-
-range-append : (a m n : ℕ) → range_with_len a (m + n) ≡ range_with_len a m ++ range_with_len (a + m) n
-range-append a zero n = (let on : a + 0 ≡ a = omega arith in let none : 0 + n ≡ n = omega arith in ap (range_with_len a) none ∙ ap (λ (w : ℕ). range_with_len w n) (sym on))
-range-append a (suc m) n =
-    (let on : a + 1 + m ≡ a + suc m = omega arith in
-    let more : suc m + n ≡ suc (m + n) = omega arith in
-    ap (range_with_len a) more ∙ ap (λ (w : List ℕ). a ∷ w) (range-append (a + 1) m n ∙ ap (λ (w : ℕ). range_with_len (a + 1) m ++ range_with_len w n) on))
-
-module _ {B : Type 0} (step : ℕ → Result B UpdateFault) (n : ℕ) (ys : List B) (so_far : each step (range_with_len 0 n) ≡ Ok ys) where
-  -- one number more
-  pub each_more : (y : B) → step n ≡ Ok y → each step (range_with_len 0 (n + 1)) ≡ Ok (ys ++ y ∷ [])
-  each_more y gives = grind (arith, range-append, range_with_len, each-append)
-
-  -- the first fault
-  pub each_stop : (count : ℕ) (fault : UpdateFault) → n < count → step n ≡ Err fault → each step (range_with_len 0 count) ≡ Err fault
-  each_stop count fault low stop =
-      let on : 0 + n ≡ n = omega arith in
-      let whole : count ≡ n + suc (count - (n + 1)) = omega (arith, low) in grind (arith, range_with_len, range-append, each-append)
-
--- the accesses of a row that is tried are reads
-module _ (number : ℕ) where
-  only_reads : (leaves : List ℕ) → reads_in (map (Read number) leaves) ≡ map (Read number) leaves
-  only_reads [] = refl
-  only_reads (leaf ∷ leaves) = ap (λ (w : List Access). Read number leaf ∷ w) (only_reads leaves)
-
-  no_writes : (leaves : List ℕ) → writes_in (map (Read number) leaves) ≡ []
-  no_writes [] = refl
-  no_writes (leaf ∷ leaves) = no_writes leaves
-
-  only_writes : (sets : List Setting) → writes_in (stores_log number sets) ≡ stores_log number sets
-  only_writes [] = refl
-  only_writes (set ∷ sets) = ap (λ (w : List Access). Write number set.leaf ∷ w) (only_writes sets)
-
-  no_reads : (sets : List Setting) → reads_in (stores_log number sets) ≡ []
-  no_reads [] = refl
-  no_reads (set ∷ sets) = no_reads sets
+none_kept : {X Y : Type 0} (test : Y → Bool) (f : X → Y) → ((x : X) → test (f x) ≡ false) → (xs : List X) → filter test (map f xs) ≡ []
+none_kept test f fail [] = refl
+none_kept test f fail (x ∷ xs) = rw (fail x) (none_kept test f fail xs)
 
 module _ (answer : StoreAnswer) (number : ℕ) (row : List ℤ) (index : List ℕ) where
   -- a log of reads alone
@@ -62,7 +20,9 @@ module _ (answer : StoreAnswer) (number : ℕ) (row : List ℤ) (index : List �
   no_log = record { reads = refl; writes = refl }
 
   value_reads : (value : Term ℕ) → AreReads (value_log number row index value)
-  value_reads value = let leaves = (outcome_of row index value).reads in record { reads = only_reads number leaves; writes = no_writes number leaves }
+  value_reads value =
+      let leaves = (outcome_of row index value).reads in
+      record { reads = all_kept is_read (Read number) (λ leaf. refl) leaves; writes = none_kept is_write (Read number) (λ leaf. refl) leaves }
 
   both_read : (first rest : List Access) → AreReads first → AreReads rest → AreReads (first ++ rest)
   both_read first rest one two = grind (arith, filter-append)
@@ -89,10 +49,10 @@ module _ (answer : StoreAnswer) (number : ℕ) (row : List ℤ) (index : List �
         (passes_read (passes number row index filter) (sides_log answer number row index sets) (sides_read sets))
 
     given_reads : (given : Result (Option (List ℤ)) UpdateFault) → reads_in (if_given given (stores_log number sets)) ≡ []
-    given_reads given = grind (arith, no_reads)
+    given_reads given = grind (arith, (none_kept is_read (λ (set : Setting). Write number set.leaf) (λ set. refl) sets))
 
     given_writes : (given : Result (Option (List ℤ)) UpdateFault) → writes_in (if_given given (stores_log number sets)) ≡ if_given given (stores_log number sets)
-    given_writes given = grind (arith, only_writes)
+    given_writes given = grind (arith, (all_kept is_write (λ (set : Setting). Write number set.leaf) (λ set. refl) sets))
 
     -- the reads of a row are those of trying it, and its writes those of what it is given
     pub row_reads : reads_in (row_log answer filter sets number row index) ≡ tried_log answer filter sets number row index
@@ -141,8 +101,8 @@ module _ (old : Table) (filter : Option (Term ℕ)) (sets : List Setting) where
   pub one_tried : (view after : Table) (row : ℕ) → AreTried view row → IsUpdatedRow (row_step row) → after ≡ after_log old (reads_in (update_log old filter sets (row + 1))) → AreTried after (row + 1)
   one_tried view after row so_far updated read = record {
     read = read;
-    updated = (so_far.updated.0 ++ updated.0 ∷ [], each_more row_step row so_far.updated.0 so_far.updated.1 updated.0 updated.1);
+    updated = (so_far.updated.0 ++ updated.0 ∷ [], rows_push row_step row so_far.updated.0 updated.0 so_far.updated.1 updated.1);
   }
 
   pub stop_tried : (view : Table) (row count : ℕ) (fault : UpdateFault) → row < count → AreTried view row → row_step row ≡ Err fault → updated_of old filter sets count ≡ Err fault
-  stop_tried view row count fault low so_far stop = each_stop row_step row so_far.updated.0 so_far.updated.1 count fault low stop
+  stop_tried view row count fault low so_far stop = rows_stop row_step count row so_far.updated.0 fault low so_far.updated.1 stop

@@ -1,7 +1,6 @@
 -- A turn of one actor.
-use Rattle.actors.proofs.Imports.{◌≡◌, ℕ, ◌+◌, ◌<◌, ◌≤◌, Bool, true, false, All, ℤ, List, [], ◌∷◌, ◌++◌, length, map, get_or, set, take, Option, None, refl, sym, ap, ◌∙◌, arith, cases_eq, length-map, length-set, get_or-map, get_or-set_same, get_or-set_other, map-set, set-get_or, take_more, Term, Owner, Assign, Setting, setting_of, IsSetOf, Table, owners_of, leaf_count_of, Tally, Place, IsLawful, job_of, Job, Micro, Registers, row_in, value_kept_on, with_byte, with_bits_of, stored, loaded, Actor, State, moved, idle_with, run_by, Asks, AreRowsOf, Standing, Bytes, Cursor, Step, ArePlans, asks_at, AreStanding, IsReached, after_both, Run, without_counts, started_run, after_turns, has_any, IsCursor, IsStanding, IsTurn, set_at, cursor_steps, step_shown, bytes_shown, actor_shown, state_shown}
+use Rattle.actors.proofs.Imports.{leaf_count, ◌≡◌, ℕ, ◌+◌, ◌<◌, ◌≤◌, Bool, true, false, All, ℤ, List, [], ◌∷◌, ◌++◌, length, map, get_or, set, take, Option, None, refl, sym, ap, ◌∙◌, arith, length-map, get_or-map, map-set, set-get_or, take_more, Term, Owner, Assign, Setting, setting_of, IsSetOf, Table, owners_of, leaf_count_of, Tally, Place, IsLawful, job_of, Job, Micro, Registers, row_in, value_kept_on, with_byte, with_bits_of, stored, loaded, Actor, State, moved, idle_with, run_by, Asks, AreRowsOf, Standing, Bytes, Cursor, Step, ArePlans, asks_at, IsReached, after_both, Run, without_counts, started_run, after_turns, has_any, IsCursor, IsStanding, IsTurn, set_at, cursor_steps, step_shown, bytes_shown, actor_shown, state_shown}
 use Rattle.actors.specs.declared.step.Step.TheVariants as step
-use Rattle.actors.proofs.Laws.{leaf_count}
 
 -- the set of a number, by the assignment of the code
 set_is : (table : Table) (sets : List Assign) (n : ℕ) (set : Assign) → n < length sets → set ≡ get_or sets n set → set_at (job_of table None (map setting_of sets)) n ≡ setting_of set
@@ -122,10 +121,6 @@ set_alone table set is = record { inside = is.inside; over = record { leaves = i
 
 pub lawful_alone : (table : Table) → IsLawful table → IsLawful (without_counts table)
 lawful_alone table is = grind arith
-
--- another actor stands among others
-pub stands_among : (table : Table) (sets : ℕ) (actors : List Standing) (a : ℕ) (new : Standing) → AreStanding table sets actors → IsStanding table sets new → AreStanding table sets (set actors a new)
-stands_among table sets actors a new are is b other low = grind (arith, length-set, get_or-set_same, get_or-set_other, cases_eq)
 
 -- one turn more is reached as well
 pub reached_more : (run : Run) (a : ℕ) (new : Run) → IsReached run → new ≡ after_turns run (a ∷ []) → IsReached new

@@ -1,13 +1,18 @@
 //! Updates whose rows are split among actors, which load and store single bytes in the order of a schedule. No thread runs.
 #![tactic(auto)]
 
+#[tactic(auto, using(crate::proofs::Auto::steps))]
 mod actor;
 mod back;
+#[tactic(auto, using(crate::proofs::Auto::steps))]
 mod cuts;
 mod fault;
+#[tactic(auto, using(crate::proofs::Auto::steps))]
 mod memory;
 mod noted;
+#[tactic(auto, using(crate::proofs::Auto::steps))]
 mod plan;
+#[tactic(auto, using(crate::proofs::Auto::steps))]
 mod run;
 mod step;
 mod team;

@@ -1,12 +1,6 @@
-use Rattle.actors.proofs.Imports.{◌∙◌, ℕ, [], None, List, length, rules, arith, SFits, subst, ap, w128, to_z-of_z, length-leaf_cells, setting_of, owners_of, with_byte-sized, job_of, row_in, value_kept_on, IsStepOf, common_steps}
+use Rattle.actors.proofs.Imports.{◌∙◌, ℕ, [], None, List, length, rules, SFits, subst, ap, w128, to_z-of_z, setting_of, owners_of, job_of, row_in, value_kept_on, IsStepOf}
 use Rattle.actors.proofs.Turns.{store_made}
 use Rattle.actors.proofs.actor.make_step.Goals as goal
-
-pub changed_byte-byte-requires-clause-row_in : goal.changed_byte-byte-requires-clause-row_in
-changed_byte-byte-requires-clause-row_in c = grind (arith, common_steps)
-
-pub changed_byte-byte-requires-clause-leaf_in : goal.changed_byte-byte-requires-clause-leaf_in
-changed_byte-byte-requires-clause-leaf_in c = grind (arith, common_steps, length-leaf_cells)
 
 pub returns-in-Store-clause-stored : goal.returns-in-Store-clause-stored
 returns-in-Store-clause-stored c =
@@ -19,6 +13,3 @@ returns-in-Store-clause-stored c =
     c.changed_byte-byte.result c.in-Store.is at.2 c.index-sets-set.is c.map.ensures.layout
     (c.value_of-value.ensures ∙ ap (λ (w : List (List ℕ)). value_kept_on (job_of table None []) (row_in (job_of table None []) w c.in-Store.row) c.in-Store.row (setting_of set)) c.deref-in-Store.ensures.value)
     (rw (to_z-of_z w128 value fits) at c.changed_byte-byte.ensures.byte) c.put_byte-in-Store.ensures
-
-pub returns-in-Store-clause-memory_sized : goal.returns-in-Store-clause-memory_sized
-returns-in-Store-clause-memory_sized c = grind (arith, common_steps, with_byte-sized)

@@ -5,8 +5,8 @@ use Rattle.actors.proofs.back.store_rows.Goals as goal
 pub loop-row-init : goal.loop-row-init
 loop-row-init g c = record { back = λ rows plain count. none_back c.args.view.now (filter_term c.args._filter) (map setting_of c.args.sets.now) rows plain count }
 
-pub store_asked-requires-clause-sets : goal.store_asked-requires-clause-sets
-store_asked-requires-clause-sets g c =
+pub store_asked-requires : goal.store_asked-requires
+store_asked-requires g c =
     let table = c.args.view.now in
     let filter = filter_term c.args._filter in
     let sets = map setting_of c.args.sets.now in
@@ -19,54 +19,13 @@ store_asked-requires-clause-sets g c =
     let low : row ≤ length table.rows = omega arith in
     let so_far = c.loop-row.invariant.back rows plain count in
     let lawful = c.schedules_agree.ensures.lawful table filter sets rows c.laws_of_view.ensures.lawful plain in
-    back_sets table filter sets rows plain count c.loop-row.view row row low so_far c.args.memory.now lawful c.requires.plain.2 c.args.sets.now c.requires.sets
-
-pub store_asked-requires-clause-row_in : goal.store_asked-requires-clause-row_in
-store_asked-requires-clause-row_in g c =
-    let table = c.args.view.now in
-    let filter = filter_term c.args._filter in
-    let sets = map setting_of c.args.sets.now in
-    let rows = c.requires.plain.0 in
-    let plain = c.requires.plain.1 in
-    let row = c.loop-row.row in
-    let count = updated_length (answer_of table) (kept_of table) filter sets table.extents table.rows rows (length table.rows) plain in
-    let all : length (indices c.extents.result) ≡ length table.rows = ap (λ (e : List ℕ). length (indices e)) c.extents.ensures.value ∙ sym c.extents.ensures.table.rows in
-    let inside : row < length table.rows = omega arith in
-    let low : row ≤ length table.rows = omega arith in
-    let so_far = c.loop-row.invariant.back rows plain count in
-    omega (arith, inside, back_count table filter sets rows plain count c.loop-row.view row low so_far)
-
-pub store_asked-requires-clause-sized : goal.store_asked-requires-clause-sized
-store_asked-requires-clause-sized g c =
-    let table = c.args.view.now in
-    let filter = filter_term c.args._filter in
-    let sets = map setting_of c.args.sets.now in
-    let rows = c.requires.plain.0 in
-    let plain = c.requires.plain.1 in
-    let row = c.loop-row.row in
-    let count = updated_length (answer_of table) (kept_of table) filter sets table.extents table.rows rows (length table.rows) plain in
-    let all : length (indices c.extents.result) ≡ length table.rows = ap (λ (e : List ℕ). length (indices e)) c.extents.ensures.value ∙ sym c.extents.ensures.table.rows in
-    let inside : row < length table.rows = omega arith in
-    let low : row ≤ length table.rows = omega arith in
-    let so_far = c.loop-row.invariant.back rows plain count in
-    let lawful = c.schedules_agree.ensures.lawful table filter sets rows c.laws_of_view.ensures.lawful plain in
-    back_sized table filter sets rows plain count c.loop-row.view row row low so_far c.args.memory.now lawful c.requires.plain.2
-
-pub store_asked-requires-clause-stays : goal.store_asked-requires-clause-stays
-store_asked-requires-clause-stays g c = λ leaf leaf_in.
-    let table = c.args.view.now in
-    let filter = filter_term c.args._filter in
-    let sets = map setting_of c.args.sets.now in
-    let rows = c.requires.plain.0 in
-    let plain = c.requires.plain.1 in
-    let row = c.loop-row.row in
-    let count = updated_length (answer_of table) (kept_of table) filter sets table.extents table.rows rows (length table.rows) plain in
-    let all : length (indices c.extents.result) ≡ length table.rows = ap (λ (e : List ℕ). length (indices e)) c.extents.ensures.value ∙ sym c.extents.ensures.table.rows in
-    let inside : row < length table.rows = omega arith in
-    let low : row ≤ length table.rows = omega arith in
-    let so_far = c.loop-row.invariant.back rows plain count in
-    let lawful = c.schedules_agree.ensures.lawful table filter sets rows c.laws_of_view.ensures.lawful plain in
-    back_takes table filter sets rows plain count c.loop-row.view row row low so_far c.args.memory.now lawful c.requires.plain.2 leaf inside leaf_in
+    let memory = c.args.memory.now in
+    record {
+      sets = back_sets table filter sets rows plain count c.loop-row.view row row low so_far memory lawful c.requires.plain.2 c.args.sets.now c.requires.sets;
+      row_in = omega (arith, inside, back_count table filter sets rows plain count c.loop-row.view row low so_far);
+      sized = back_sized table filter sets rows plain count c.loop-row.view row row low so_far memory lawful c.requires.plain.2;
+      stays = λ leaf leaf_in. back_takes table filter sets rows plain count c.loop-row.view row row low so_far memory lawful c.requires.plain.2 leaf inside leaf_in;
+    }
 
 pub loop-row-preserved : goal.loop-row-preserved
 loop-row-preserved g c = record {

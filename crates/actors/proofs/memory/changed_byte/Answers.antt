@@ -1,12 +1,6 @@
-use Rattle.actors.proofs.Imports.{◌≡◌, ◌<◌, ◌∙◌, ℕ, List, SFits, rules, subst, ap, w128, to_z-of_z, IsWrite, bit_in, still_sized, byte_at, with_byte, common_steps, arith}
-use Rattle.actors.proofs.Bytes.{byte_changed, there_still, put_lengths}
+use Rattle.actors.proofs.Imports.{◌≡◌, ◌<◌, ◌∙◌, ℕ, List, SFits, rules, subst, ap, w128, to_z-of_z, IsWrite, bit_in, byte_at, with_byte, arith}
+use Rattle.actors.proofs.Bytes.{byte_changed}
 use Rattle.actors.proofs.memory.changed_byte.Goals as goal
-
-pub byte_at-requires : goal.byte_at-requires
-byte_at-requires g c = grind (arith, common_steps, put_lengths, there_still)
-
-pub returns-clause-sized : goal.returns-clause-sized
-returns-clause-sized g c = grind (arith, common_steps, put_lengths, still_sized)
 
 pub returns-clause-byte : goal.returns-clause-byte
 returns-clause-byte g c =

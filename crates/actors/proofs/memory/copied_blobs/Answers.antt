@@ -1,9 +1,6 @@
 use Rattle.actors.proofs.Imports.{arith, common_steps}
-use Rattle.actors.proofs.Blobs.{one_copied, all_copied}
+use Rattle.actors.proofs.Blobs.{one_copied}
 use Rattle.actors.proofs.memory.copied_blobs.Goals as goal
 
 pub loop-b-preserved : goal.loop-b-preserved
 loop-b-preserved c = grind (arith, common_steps, one_copied)
-
-pub returns : goal.returns
-returns c = grind (arith, common_steps, all_copied)

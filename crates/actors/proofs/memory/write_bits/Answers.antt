@@ -17,37 +17,26 @@ at g c =
       located = grind (arith, slice_index);
     }
 
-pub held-requires-clause-some : goal.held-requires-clause-some
-held-requires-clause-some g c = some_bits (at g c)
+pub held-requires : goal.held-requires
+held-requires g c = record { some = some_bits (at g c); narrow = few_bits (at g c) }
 
-pub held-requires-clause-narrow : goal.held-requires-clause-narrow
-held-requires-clause-narrow g c = few_bits (at g c)
-
-pub encode-requires-clause-some : goal.encode-requires-clause-some
-encode-requires-clause-some g c = some_bits (at g ((goal.at.encode-requires-clause-some g c).After-as_slice))
-
-pub encode-requires-clause-narrow : goal.encode-requires-clause-narrow
-encode-requires-clause-narrow g c = few_bits (at g ((goal.at.encode-requires-clause-narrow g c).After-as_slice))
-
-pub encode-requires-clause-fits : goal.encode-requires-clause-fits
-encode-requires-clause-fits g c =
-    let here = at g ((goal.at.encode-requires-clause-fits g c).After-as_slice) in
+pub encode-requires : goal.encode-requires
+encode-requires g c =
+    let here = at g ((goal.at.encode-requires g c).After-as_slice) in
     let hold = c.hold-hold.result in
     let fits : SFits w128 c.held.result = search rules in
     let value_fits : SFits w128 c.args.value = search rules in
     let is : c.held.result ≡ held hold c.args.value = c.held.ensures ∙ ap (held hold) (to_z-of_z w128 c.args.value value_fits) in
-    subst (λ (v : ℤ). IsIn hold.signed hold.width v) (sym (to_z-of_z w128 c.held.result fits ∙ is)) (low_in hold.signed hold.width c.args.value (some_bits here))
+    record {
+      some = some_bits here;
+      narrow = few_bits here;
+      fits = subst (λ (v : ℤ). IsIn hold.signed hold.width v) (sym (to_z-of_z w128 c.held.result fits ∙ is)) (low_in hold.signed hold.width c.args.value (some_bits here));
+    }
 
-pub write_pieces-requires-clause-within : goal.write_pieces-requires-clause-within
-write_pieces-requires-clause-within g c = grind (arith, common_steps, pieces_within)
-
-pub write_pieces-requires-clause-few : goal.write_pieces-requires-clause-few
-write_pieces-requires-clause-few g c =
-    let here = at g ((goal.at.write_pieces-requires-clause-few g c).After-as_slice) in
-    omega (arith, few_bits here, bit_count here)
-
-pub write_pieces-requires-clause-apart : goal.write_pieces-requires-clause-apart
-write_pieces-requires-clause-apart g c = apart (at g ((goal.at.write_pieces-requires-clause-apart g c).After-as_slice))
+pub write_pieces-requires : goal.write_pieces-requires
+write_pieces-requires g c =
+    let here = at g ((goal.at.write_pieces-requires g c).After-as_slice) in
+    record { within = grind (arith, common_steps, pieces_within); few = omega (arith, few_bits here, bit_count here); apart = apart here }
 
 pub returns-clause-bits : goal.returns-clause-bits
 returns-clause-bits g c =

@@ -1,12 +1,6 @@
-use Rattle.actors.proofs.Imports.{[], map, get_or, subst, index_at, filter_term, setting_of, given_row, Table, answer_of, kept_of, job_of, IsRowPlanOf, common_steps, arith}
-use Rattle.actors.proofs.Tried.{row_reads, row_updated}
+use Rattle.actors.proofs.Imports.{[], map, get_or, subst, index_at, filter_term, setting_of, given_row, Table, answer_of, kept_of, job_of, IsRowPlanOf}
+use Rattle.actors.proofs.Tried.{row_updated}
 use Rattle.actors.proofs.plan.plan_row.Goals as goal
-
-pub returns-in_err-_passed-clause-read : goal.returns-in_err-_passed-clause-read
-returns-in_err-_passed-clause-read g c = grind (arith, common_steps, row_reads)
-
-pub returns-clause-read : goal.returns-clause-read
-returns-clause-read g c = grind (arith, common_steps, row_reads)
 
 pub returns-clause-planned : goal.returns-clause-planned
 returns-clause-planned g c =

@@ -1,8 +1,5 @@
-use Rattle.actors.proofs.Imports.{◌∙◌, ℕ, List, get_or, [], ℤ, ap, memory_is, rows_read, row_held, common_steps, arith}
+use Rattle.actors.proofs.Imports.{◌∙◌, ℕ, List, get_or, [], ℤ, ap, rows_read, row_held}
 use Rattle.actors.proofs.plan.read_found.Goals as goal
-
-pub read_held-requires-clause-sized : goal.read_held-requires-clause-sized
-read_held-requires-clause-sized c = grind (arith, common_steps, memory_is)
 
 pub returns-clause-row : goal.returns-clause-row
 returns-clause-row c =

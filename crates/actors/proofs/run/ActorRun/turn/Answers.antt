@@ -1,5 +1,5 @@
-use Rattle.actors.proofs.Imports.{◌≡◌, ◌∙◌, ◌<◌, Bool, ℕ, List, [], ◌∷◌, length, map, get_or, set, sym, ap, subst, arith, get_or_default, length-set, schema_fields, term_of, AreSized, filter_term, setting_of, Table, owners_of, State, job_of, fresh_of, Micro, Registers, table_at, actor_run_of, ArePlans, Run, without_counts, after_turns, rest_in, has_any, IsTurn}
-use Rattle.actors.proofs.Turns.{turned_state, made_any, not_made, stands_alone, stands_among, reached_more}
+use Rattle.actors.proofs.Imports.{All-set, IsStanding, ◌≡◌, ◌∙◌, ◌<◌, Bool, ℕ, List, [], ◌∷◌, length, map, get_or, set, sym, ap, subst, arith, get_or_default, length-set, schema_fields, term_of, AreSized, filter_term, setting_of, Table, owners_of, State, job_of, fresh_of, Micro, Registers, table_at, actor_run_of, ArePlans, Run, without_counts, after_turns, rest_in, has_any, IsTurn}
+use Rattle.actors.proofs.Turns.{turned_state, made_any, not_made, stands_alone, reached_more}
 use Rattle.actors.proofs.run.ActorRun.turn.Goals as goal
 use Rattle.actors.proofs.run.ActorRun.turn.Goals.{After-turn_of}
 
@@ -58,38 +58,29 @@ invariant_of-self c =
       memory_sized = subst (λ (t : Table). AreSized (owners_of t) c.turn_of.new.memory.items) (found d) c.turn_of.ensures.memory_sized;
       scratch_sized = subst (λ (t : Table). AreSized (owners_of t) c.turn_of.new.scratch.items) (found d) c.turn_of.ensures.scratch_sized;
       count = length-set r.actors.items c.args.actor new ∙ inv.count;
-      standing =
-          stands_among (table d) (length r.targets.items) r.actors.items c.args.actor new inv.standing
-          (grind (arith, stands_alone));
+      standing = All-set (IsStanding (table d) (length r.targets.items)) r.actors.items c.args.actor new (grind (arith, stands_alone)) inv.standing;
       reached =
           reached_more (actor_run_of (table d) (filter_term r.filter) r.sets.now r.cuts.items r.memory.items r.actors.items) c.args.actor
           (actor_run_of (table d) (filter_term r.filter) r.sets.now r.cuts.items c.turn_of.new.memory.items (set r.actors.items c.args.actor new)) inv.reached (turned d);
     }
 
-pub returns-clause-turned : goal.returns-clause-turned
-unfolding table turned
-returns-clause-turned c =
-    let d = (goal.at.returns-clause-turned c).After-turn_of in
-    turned d ∙ ap (λ (run : Run). after_turns run (c.args.actor ∷ [])) c.self.view_is
-
-pub returns-clause-made : goal.returns-clause-made
-unfolding table turn
-returns-clause-made c =
-    let d = (goal.at.returns-clause-made c).After-turn_of in
-    let r = c.self.inside in
-    let job = job_of (table d) (filter_term r.filter) (map setting_of r.sets.now) in
-    made_any job (fresh_of (table d)) r.memory.items c.turn_of.new.memory.items r.actors.items c.args.actor c.index_mut.result.now c.turn_of.new.actor (low d) (old_is d) c.turn_of.result (turn d)
-    ∙ ap (λ (run : Run). has_any (rest_in run c.args.actor)) c.self.view_is
-
-pub returns-clause-none : goal.returns-clause-none
-unfolding table turn
-returns-clause-none c = λ none.
-    let d = (goal.at.returns-clause-none c).After-turn_of in
+pub returns : goal.returns
+unfolding table turned turn
+returns c =
+    let d = (goal.at.returns c).After-turn_of in
     let r = c.self.inside in
     let filter = filter_term r.filter in
     let run = actor_run_of (table d) filter r.sets.now r.cuts.items r.memory.items r.actors.items in
     let job = job_of (table d) filter (map setting_of r.sets.now) in
-    let idle = subst (λ (made : Bool). IsTurn job r.memory.items c.index_mut.result.now made c.turn_of.new.memory.items c.turn_of.new.actor) none (turn d) in
-    ap (λ (s : State (List (List ℕ)) Micro Registers). record run { state = s })
-    (not_made job (fresh_of (table d)) r.memory.items c.turn_of.new.memory.items r.actors.items c.args.actor c.index_mut.result.now c.turn_of.new.actor (low d) (old_is d) idle)
-    ∙ c.self.view_is
+    let old = c.index_mut.result.now in
+    let new = c.turn_of.new.actor in
+    record {
+      made = made_any job (fresh_of (table d)) r.memory.items c.turn_of.new.memory.items r.actors.items c.args.actor old new (low d) (old_is d) c.turn_of.result (turn d)
+          ∙ ap (λ (run : Run). has_any (rest_in run c.args.actor)) c.self.view_is;
+      turned = turned d ∙ ap (λ (run : Run). after_turns run (c.args.actor ∷ [])) c.self.view_is;
+      none = λ none.
+          (let idle = subst (λ (made : Bool). IsTurn job r.memory.items old made c.turn_of.new.memory.items new) none (turn d) in
+          ap (λ (s : State (List (List ℕ)) Micro Registers). record run { state = s })
+          (not_made job (fresh_of (table d)) r.memory.items c.turn_of.new.memory.items r.actors.items c.args.actor old new (low d) (old_is d) idle)
+          ∙ c.self.view_is);
+    }

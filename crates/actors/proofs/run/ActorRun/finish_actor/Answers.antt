@@ -1,9 +1,0 @@
-use Rattle.actors.proofs.Imports.{arith, common_steps}
-use Rattle.actors.proofs.Finishes.{turn_made, actor_done}
-use Rattle.actors.proofs.run.ActorRun.finish_actor.Goals as goal
-
-pub loop-preserved : goal.loop-preserved
-loop-preserved c = grind (arith, common_steps, turn_made)
-
-pub returns-clause-left : goal.returns-clause-left
-returns-clause-left c = grind (arith, common_steps, actor_done)
