@@ -1,6 +1,9 @@
-use Rattle.actors.proofs.Imports.{◌∙◌, ℕ, [], None, List, length, rules, SFits, subst, ap, w128, to_z-of_z, setting_of, owners_of, job_of, row_in, value_kept_on, IsStepOf}
+use Rattle.actors.proofs.Imports.{◌∙◌, ℕ, [], None, List, length, rules, arith, SFits, subst, ap, w128, to_z-of_z, length-leaf_cells, setting_of, owners_of, job_of, row_in, value_kept_on, IsStepOf, common_steps}
 use Rattle.actors.proofs.Turns.{store_made}
 use Rattle.actors.proofs.actor.make_step.Goals as goal
+
+pub changed_byte-byte-requires-clause-leaf_in : goal.changed_byte-byte-requires-clause-leaf_in
+changed_byte-byte-requires-clause-leaf_in c = grind (arith, common_steps, length-leaf_cells)
 
 pub returns-in-Store-clause-stored : goal.returns-in-Store-clause-stored
 returns-in-Store-clause-stored c =
