@@ -43,9 +43,9 @@ mapped as_fault f g is also holds holds_also (first e z told_is) next = rw (is e
 mapped as_fault f g is also holds holds_also (second z e told_is) next = rw (also e) (second (f z) (as_fault e) (holds_also e told_is))
 
 module _ {E : Type 0} {told others : E → Bool} where
-  pub bind : {A B : Type 0} (R : A → A → Type 0) (S : B → B → Type 0) (x y : Result A E) (f g : A → Result B E) → AgreeBy told others R x y
+  pub bind : {A B : Type 0} {R : A → A → Type 0} {S : B → B → Type 0} {x y : Result A E} {f g : A → Result B E} → AgreeBy told others R x y
       → ((a b : A) → R a b → AgreeBy told others S (f a) (g b)) → AgreeBy told others S (x >>= f) (y >>= g)
-  bind R S x y f g agree next = mapped (λ e. e) (λ z. z >>= f) (λ z. z >>= g) (λ e. refl) (λ e. refl) (λ e is. is) (λ e is. is) agree next
+  bind {f = f} {g = g} agree next = mapped (λ e. e) (λ z. z >>= f) (λ z. z >>= g) (λ e. refl) (λ e. refl) (λ e is. is) (λ e is. is) agree next
 
   -- one thing before both
   pub before : {A B : Type 0} (S : B → B → Type 0) (x : Result A E) (f g : A → Result B E) → ((a : A) → AgreeBy told others S (f a) (g a)) → AgreeBy told others S (x >>= f) (x >>= g)
@@ -67,10 +67,10 @@ module _ {m o : Bool} where
   surely R x y agree = mapped Fault sure sure (λ e. refl) (λ e. refl) (λ e is. is) (λ e is. is) agree (λ a b r. go a b r)
 
   -- two things of which each is refused by such a fault, if at all
-  pub both_told : {A : Type 0} (P Q : A → Type 0) (R : A → A → Type 0) (x y : Tested A) → Told m P x → Told o Q y → ((a b : A) → P a → Q b → R a b) → Agree m o R x y
-  both_told P Q R x y (told f is) other next = first f y is
-  both_told P Q R x y (goes a p) (goes b q) next = go a b (next a b p q)
-  both_told P Q R x y (goes a p) (told f is) next = second (Ok a) f is
+  pub both_told : {A : Type 0} {P Q : A → Type 0} {R : A → A → Type 0} {x y : Tested A} → Told m P x → Told o Q y → ((a b : A) → P a → Q b → R a b) → Agree m o R x y
+  both_told {y = y} (told f is) other next = first f y is
+  both_told (goes a p) (goes b q) next = go a b (next a b p q)
+  both_told (goes a p) (told f is) next = second (Ok a) f is
 
 module _ (m : Bool) where
   pub told_bind : {A B : Type 0} (P : A → Type 0) (Q : B → Type 0) (x : Tested A) (f : A → Tested B) → Told m P x → ((a : A) → P a → Told m Q (f a)) → Told m Q (x >>= f)

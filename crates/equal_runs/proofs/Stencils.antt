@@ -1,9 +1,9 @@
 -- What a stencil answers, by the answers to its stores, and stencils done to alike tables.
-use Rattle.equal_runs.proofs.Imports.{◌≡◌, ℕ, zero, suc, Bool, ℤ, List, [], ◌∷◌, Result, Ok, sym, ap, subst, StoreAnswer, Keeping, kept_by, StoreFault, StencilFault, true, refl, ◌+◌, ◌*◌, ◌^◌, nat_lt, ok_or, Span, PathStep, MapTerm, Tally, TermText, Table, answer_of, stores, text_of_leaf, blob_bits, TooBig, is_of_layout, fit_stencil, room_beside, stencil_fault, stencil_rounds, stencil_run, arith}
+use Rattle.equal_runs.proofs.Imports.{◌≡◌, ℕ, zero, suc, Bool, ℤ, List, [], ◌∷◌, Result, Ok, sym, ap, subst, StoreAnswer, Keeping, kept_by, StoreFault, StencilFault, true, refl, ◌+◌, ◌*◌, ◌^◌, nat_lt, Span, PathStep, MapTerm, Tally, TermText, Table, answer_of, stores, text_of_leaf, blob_bits, TooBig, is_of_layout, fit_stencil, stencil_fault, stencil_rounds, stencil_run, arith}
 use Rattle.subviews.specs.SubViews.{rows_of}
-use Rattle.subviews.specs.Stencils.{Stencil, stenciled, rounds_log, stencil_value, at_row, first_round_fault, values_fault, with_entries, new_entry, if_fits, round, next_round, after_rounds}
-use Rattle.equal_runs.proofs.Answers.{Answers, equal, is_narrow, Given, ok_agree}
-use Rattle.equal_runs.proofs.Agreeing.{go, mapped, bind, before, both_told, told_if, Any, Both}
+use Rattle.subviews.specs.Stencils.{Stencil, rounds_log, stencil_value, at_row, first_round_fault, values_fault, with_entries, new_entry, if_fits, round, next_round, after_rounds}
+use Rattle.equal_runs.proofs.Answers.{Answers, equal, is_narrow, ok_agree}
+use Rattle.equal_runs.proofs.Agreeing.{go, mapped, bind, before, both_told, told_if, Both}
 use Rattle.equal_runs.proofs.Commands.{Same, SameDone, answers_under, narrow_store, under}
 use Rattle.equal_runs.proofs.Tables.{AlikeTables}
 
@@ -55,14 +55,11 @@ module _ (m o : Bool) (table : Table) (mapping : MapTerm) (tally : Tally) (same 
       let many = nat_lt (8 * 2 ^ 30) (live + blob_bits table) in
       let many_others = nat_lt (8 * 2 ^ 30) (others + blob_bits (under table mapping tally)) in
       before SameDone (fit_stencil table spans path texts divisor rounds) _ _ (λ stencil.
-      bind Both SameDone (room_beside live table) (room_beside others (under table mapping tally)) _ _
-      (both_told Any Any Both (room_beside live table) (room_beside others (under table mapping tally)) (told_if m many TooBig refl) (told_if o many_others TooBig refl) (λ a b p q. tt))
+      bind (both_told {R = Both} (told_if m many TooBig refl) (told_if o many_others TooBig refl) (λ a b p q. tt))
       (λ room room_other p. rounds_agree stencil))
     where
       rounds_agree : (stencil : Stencil) → Same m o (stencil_rounds table rounds stencil) (stencil_rounds (under table mapping tally) rounds stencil)
       rounds_agree stencil =
-          bind (Given (Unit {0}) _ _) SameDone (ok_or (stencil_fault table.fields stencil.leaf) (stenciled table stencil rounds))
-          (ok_or (stencil_fault table.fields stencil.leaf) (stenciled (under table mapping tally) stencil rounds)) _ _
-          (ok_agree m o is_narrow_stencil (stencil_fault table.fields stencil.leaf) _ _ (narrow_stencil table stencil.leaf)
+          bind (ok_agree m o is_narrow_stencil (stencil_fault table.fields stencil.leaf) _ _ (narrow_stencil table stencil.leaf)
           (stencil_answers (answer_of table) (answer_of (under table mapping tally)) (answers_under m o table mapping tally same) same.kept stencil rounds table.rows))
           (λ rows others given. go _ _ (ap (λ (r : List (List ℤ)). stores r (rounds_log stencil rounds)) (given.same tt)))
