@@ -6,11 +6,11 @@ use Rattle.record_dim.specs.Std.{common_steps, arith}
 pub returns-in-Ok-clause-answers : goal.returns-in-Ok-clause-answers
 returns-in-Ok-clause-answers g c = grind (arith, common_steps, then_wrote, save_goes)
 
-pub returns-in-TooBig-clause-answers : goal.returns-in-TooBig-clause-answers
-returns-in-TooBig-clause-answers g c = grind (arith, common_steps, gave_up_idle, save_long)
+pub returns-in-Err-TooBig-clause-answers : goal.returns-in-Err-TooBig-clause-answers
+returns-in-Err-TooBig-clause-answers g c = grind (arith, common_steps, gave_up_idle, save_long)
 
-pub returns-in-Failed-clause-answers : goal.returns-in-Failed-clause-answers
-returns-in-Failed-clause-answers g c = grind (arith, common_steps, then_broke, save_goes)
+pub returns-in-Err-Failed-clause-answers : goal.returns-in-Err-Failed-clause-answers
+returns-in-Err-Failed-clause-answers g c = grind (arith, common_steps, then_broke, save_goes)
 
-pub returns-in-NoMemory-clause-answers : goal.returns-in-NoMemory-clause-answers
-returns-in-NoMemory-clause-answers g c = grind (arith, common_steps, gave_up_idle)
+pub returns-in-Err-NoMemory-clause-answers : goal.returns-in-Err-NoMemory-clause-answers
+returns-in-Err-NoMemory-clause-answers g c = grind (arith, common_steps, gave_up_idle)
