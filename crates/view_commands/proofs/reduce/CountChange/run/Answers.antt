@@ -4,9 +4,6 @@ use Rattle.view_commands.proofs.Arms.{count_done, count_refused, no_test}
 use Rattle.view_commands.proofs.Changing.{stopped}
 use Rattle.view_commands.proofs.reduce.CountChange.run.Goals as goal
 
-pub returns-in_err-filter-clause-changed : goal.returns-in_err-filter-clause-changed
-returns-in_err-filter-clause-changed g c = grind (arith, common_steps, stopped, no_test)
-
 pub returns-in-Ok-clause-changed : goal.returns-in-Ok-clause-changed
 returns-in-Ok-clause-changed g c =
     let fits : FitsSigned w128 c.from.result = search rules in

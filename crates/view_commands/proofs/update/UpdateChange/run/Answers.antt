@@ -5,12 +5,6 @@ use Rattle.view_commands.proofs.Changing.{changed_as, stopped}
 use Rattle.view_commands.proofs.Sets.{filter_is, once_left}
 use Rattle.view_commands.proofs.update.UpdateChange.run.Goals as goal
 
-pub returns-in_err-filter-clause-changed : goal.returns-in_err-filter-clause-changed
-returns-in_err-filter-clause-changed g c = grind (arith, common_steps, option_map, stopped, no_filter)
-
-pub returns-in_err-sets-clause-changed : goal.returns-in_err-sets-clause-changed
-returns-in_err-sets-clause-changed g c = grind (arith, common_steps, option_map, stopped, no_sets)
-
 pub returns-in_err-each_once-clause-changed : goal.returns-in_err-each_once-clause-changed
 returns-in_err-each_once-clause-changed g c =
     let table = c.args.view.now in
