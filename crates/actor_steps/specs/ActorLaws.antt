@@ -184,7 +184,8 @@ module _ (job : Job) (sound : IsSound job) where
       all-own : (a : ℕ) → Each (IsOwn a) (alone a).rest
       all-own a =
           ⊎_elim (λ (low : a < length parts).
-          subst (λ (x : Actor Micro Registers). Each (IsOwn a) x.rest) (sym (team-at a low)) (steps-own (first a) (size a) a (λ r from below. actor_is 0 cuts (length job.rows) a r are (record { low = low; from = from; below = below }))))
+          subst (λ (x : Actor Micro Registers). Each (IsOwn a) x.rest) (sym (team-at a low))
+          (steps-own (first a) (size a) a (λ r from below. actor_is 0 cuts (length job.rows) a r are (record { low = low; from = from; below = below }))))
           (λ (high : length parts ≤ a). subst (λ (x : Actor Micro Registers). Each (IsOwn a) x.rest) (sym (team-past a high)) tt)
           (cases_lt a (length parts))
 

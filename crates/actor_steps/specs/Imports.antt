@@ -11,10 +11,12 @@ pub use Rattle.places.specs.Prelude.{Bit, IsBitOf, IsImage, IsLaidOut, Owner, Pa
 pub use Rattle.places.specs.Prelude.{owned_is, owner_at, width_at, written_bit}
 pub use Rattle.places.specs.declared.piece.Hold.{Hold}
 pub use Rattle.record_dim.specs.Prelude.{Leaf, leaves}
-pub use Rattle.record_dim.specs.Std.{Any-from_list_any, and_from, and_parts, ap, arith, bit_at, bit_at-lt, bit_at-zero, cases_Bool, cases_eq, cases_lt, cond-false, cond-true, cond_both, eq-eqb, eqb-true}
+pub use Rattle.record_dim.specs.Std.{Any-from_list_any, and_from, and_parts, ap, arith, bit_at, bit_at-lt, bit_at-zero}
+pub use Rattle.record_dim.specs.Std.{cases_Bool, cases_eq, cases_lt, cond-false, cond-true, cond_both, eq-eqb, eqb-true}
 pub use Rattle.record_dim.specs.Std.{ext_get_or, flat_map, fun_ext, get_or-drop, get_or-map, get_or-map-range_with_len, get_or-range_with_len, get_or-replicate, get_or-set_other, get_or-set_same}
 pub use Rattle.record_dim.specs.Std.{get_or-take, get_or_default, get_or_past, le-leb, leb-true, length-drop, length-map, length-map-range_with_len, length-range_with_len, length-replicate}
-pub use Rattle.record_dim.specs.Std.{length-set, length-take, list_any, list_any-append, list_any_at, lt-leb, or_left, or_right, range_with_len, map-append, set_past, subst, sym, true≢false, ⊎_elim, ◌∙◌}
+pub use Rattle.record_dim.specs.Std.{length-set, length-take, list_any, list_any-append, list_any_at, lt-leb, or_left, or_right}
+pub use Rattle.record_dim.specs.Std.{range_with_len, map-append, set_past, subst, sym, true≢false, ⊎_elim, ◌∙◌}
 pub use Rattle.record_dim.specs.declared.leaf_type.LeafType.{LeafType}
 pub use Rattle.row_updates.specs.EachLaws.{each_at, each_length, parted}
 pub use Rattle.row_updates.specs.Rows.{Setting, each, eval_kind, in_row, new_value, passes, store_kind, updated_of, updated_row, updated_rows, with_values, ◌>>=◌}

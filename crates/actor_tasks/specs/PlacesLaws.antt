@@ -67,7 +67,8 @@ occurs-blob layout a (suc n) place low high inside =
     Contains-append_right (bytes_in layout a) (flat_map (bytes_in layout) (range_with_len (a + 1) n)) place (occurs-blob layout (a + 1) n place (omega arith) (omega arith) inside))
     (λ (l : place.blob ≤ a).
     let same : place.blob ≡ a = omega arith in
-    Contains-append_left (bytes_in layout a) (flat_map (bytes_in layout) (range_with_len (a + 1) n)) place (subst (λ (b : ℕ). Contains (bytes_in layout b) place) same (occurs-byte layout place inside)))
+    Contains-append_left (bytes_in layout a) (flat_map (bytes_in layout) (range_with_len (a + 1) n)) place
+    (subst (λ (b : ℕ). Contains (bytes_in layout b) place) same (occurs-byte layout place inside)))
     (cases_lt a place.blob)
 
 pub occurs-all : (layout : List (List Owner)) (place : Place) → IsByte layout place → Contains (all_bytes layout) place

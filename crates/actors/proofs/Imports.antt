@@ -1,6 +1,6 @@
 -- What the proofs of this crate speak of.
 pub use Rattle.actors.specs.Imports.{Term, outcome_of, index_at, entry, bit_held, image, number, digit, Owner, Pad, Bit, owner_at, IsBitOf, IsLaidOut, number_same, number_bits, bit_number, digit_lt, written_bit, IsWrite, UpdateFault, Assign, stores_log, if_given, row_log, update_log, value_log, filter_log, if_ok, if_passes, sides_log, tried_log, Fields, kinds_of, schema_fields, IsIn, Shape, term_of, StoreMode, Asks, bits_of, AreBytes, bit_in, Place, RunOwner, IsRowOf, task_at, AreRowsOf, byte_behind, origin, Reads, Sets, place_steps, left_in}
-pub use Rattle.record_dim.specs.Std.{or-false, or_right, ne_eqb, get_or-replicate, set-append_right, ◌≡◌, ℕ, ◌+◌, ◌-◌, ◌<◌, ◌≤◌, filter, All, Bool, true, false, ℤ, pos, List, [], ◌∷◌, ◌++◌, length, map, get_or, set, take, drop, Option, Some, None, Result, Ok, Err, refl, sym, ap, ◌∙◌, subst, ⊎_elim, arith, append_assoc, length-append, ◌*◌, ◌/◌, replicate, ◌%◌, ◌^◌, suc, zero, fold, rules, SFits, FitsSigned, ◌==◌, ◌||◌, if◌then◌else◌, ◌&&◌, slice_index, slice_set, option_map, cases_eq, eq-eqb, eqb-true, and_from, and_parts, cond-true, cond-false, cases_lt, append-nil, get_or-map, get_or-set_same, get_or-set_other, get_or-append_right, get_or-drop, length-map, length-set, length-take, length-drop, take_more, take_all, drop_all, drop_more, ext_get_or, map-append, set-get_or, set-set, map-set, drop-set, length-replicate, drop-map, take-map, get_or_default, filter-append, bit_at, w128, range_with_len, flat_map, list_any, get_or-append, get_or-append_seam, flat_map-append, fold-append, fun_ext, length-map-range_with_len, get_or-map-range_with_len, to_z-of_z, get_or_from_slice_get, common_steps}
+pub use Rattle.record_dim.specs.Std.{or-false, or_right, ne_eqb, get_or-replicate, set-append_right, ◌≡◌, ℕ, ◌+◌, ◌-◌, ◌<◌, ◌≤◌, filter, All, Bool, true, false, ℤ, pos, List, [], ◌∷◌, ◌++◌, length, map, get_or, set, take, drop, Option, Some, None, Result, Ok, Err, refl, sym, ap, ◌∙◌, subst, ⊎_elim, arith, append_assoc, length-append, ◌*◌, ◌/◌, replicate, ◌%◌, ◌^◌, suc, zero, fold, rules, SFits, FitsSigned, ◌==◌, ◌||◌, if◌then◌else◌, ◌&&◌, slice_index, slice_set, option_map, not, or_parts, nat_tests, list_any_none, cases_eq, eq-eqb, eqb-true, and_from, and_parts, cond-true, cond-false, cases_lt, append-nil, get_or-map, get_or-set_same, get_or-set_other, get_or-append_right, get_or-drop, length-map, length-set, length-take, length-drop, take_more, take_all, drop_all, drop_more, ext_get_or, map-append, set-get_or, set-set, map-set, drop-set, length-replicate, drop-map, take-map, get_or_default, filter-append, bit_at, w128, range_with_len, flat_map, list_any, get_or-append, get_or-append_seam, flat_map-append, fold-append, fun_ext, length-map-range_with_len, get_or-map-range_with_len, to_z-of_z, get_or_from_slice_get, common_steps}
 pub use Rattle.piece_bits.specs.Prelude.{AreSized, table_in, with_entry, declared_table, kind_at, IsCell, bit_count, some_bits, few_bits, apart, still_sized, spot_count, spot_owned, pieces_within, spots_of, spot_at, bit_at_spot, IsOutside, held, declared, held_digit, low_in}
 pub use Rattle.views.specs.Prelude.{stays_answer, StoreAnswer, Keeping, without_number, kept_or, Table, owners_of, leaf_types_of, leaf_count_of, table_holds, answer_of, kept_of, after_stores, blob_bits_of, IsTable, after_log, Access, Write, is_write, writes_in, blob_lengths, Read, is_read, reads_in, Tally, after_stores-append, after_log-none, logs_more, after_log-append}
 pub use Rattle.actor_steps.specs.Prelude.{IsLawful, IsParted, SchedulesAgree, leaf_count, memory_is, rows_read, job_of, memory_of, fresh_of, team_start, Job, is_in, row_as_it_stands, lets_through, Micro, Registers, byte_at, with_byte, with_bits_of, stored, loaded, filter_reads, set_reads, leaves_read, bytes_in, owners_of_byte, Fetch, Load, Store, steps_of, row_in, value_kept_on, length-with_values, passed, updated_at, updated_length, Actor, State, moved, cuts_end, AreCuts, actor_of, parts_from, team_of, zeros-sized, shared_byte, first_of_all, are_of_two, is_shared, idle_with, run_by, turns_from, turns_left, finished, row_in-at, length-row_in, with_byte-sized}

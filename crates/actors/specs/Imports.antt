@@ -1,5 +1,5 @@
 -- What this crate takes of others.
-pub use Rattle.actor_steps.specs.Prelude.{Actor, AreCuts, Fetch, IsByte, IsLawful, IsParted, Job, Load, Micro, Registers, State, Store, actor_of, are_of_two, byte_at, filter_reads, first_of_all, fresh_of}
+pub use Rattle.actor_steps.specs.Prelude.{Actor, AreCuts, Fetch, IsByte, IsLawful, IsParted, Job, Load, Micro, Registers, State, Store, actor_of, byte_at, filter_reads, first_of_all, fresh_of}
 pub use Rattle.actor_steps.specs.Prelude.{idle_with, is_in, is_shared, job_of, leaves_read, lets_through, loaded, memory_of, number_in, parts_from, row_in, run_by, run_by-append, set_reads}
 pub use Rattle.actor_steps.specs.Prelude.{shared_byte, stored, team_of, team_start, test_of, turns_from, turns_left, value_kept_on, with_bits_of, with_byte}
 pub use Rattle.actor_steps.specs.declared.place.Place.{Place}
@@ -21,5 +21,5 @@ pub use Rattle.row_updates.specs.Logs.{filter_log, if_given, if_ok, if_passes, r
 pub use Rattle.row_updates.specs.Rows.{IsBoundOver, IsSetOf, Setting, filter_term, setting_of, updated_of, updated_row}
 pub use Rattle.row_updates.specs.declared.fault.UpdateFault.{UpdateFault}
 pub use Rattle.row_updates.specs.declared.update.Assign.{Assign}
-pub use Rattle.std.specs.List.{flat_map, list_any, range_with_len}
+pub use Rattle.std.specs.List.{flat_map, range_with_len}
 pub use Rattle.views.specs.Prelude.{Table, after_log, after_stores, answer_of, kept_of, leaf_count_of, leaf_types_of, owners_of, reads_in, table_holds, table_under, writes_in}

@@ -1,6 +1,6 @@
 // Cuts of the rows among actors, and bytes that hold bits of rows of two of them.
 ghost use Rattle.std.specs.Prelude.{◌≡◌, ◌*◌, ◌/◌, ◌+◌, ◌<◌, ◌≤◌, None, OnOk, IfErr, length, map, sum_by, take, drop};
-ghost use Rattle.actors.specs.Imports.{list_any, range_with_len, owners_of, AreCuts, actor_of, are_of_two, is_shared, first_of_all, shared_byte};
+ghost use Rattle.actors.specs.Imports.{range_with_len, owners_of, AreCuts, actor_of, is_shared, first_of_all, shared_byte};
 ghost use Rattle.actors.specs.Cuts.{IsCutFault, owner_shown, shown_in_byte};
 
 use crate::fault::CutFault;
@@ -63,32 +63,19 @@ pub fn actor_of(cuts: &[u64], row: u64) -> usize
 pub fn is_shared(cuts: &[u64], owners: &[RunOwner]) -> bool
     ensures { result ≡ is_shared (actor_of cuts.now) (map owner_shown owners.now) }
 {
-    any_apart(cuts, owners)
-}
-
-fn any_apart(cuts: &[u64], owners: &[RunOwner]) -> bool
-    ensures { result ≡ list_any (λ one. list_any (λ other. are_of_two (actor_of cuts.now) (owner_shown one) (owner_shown other)) owners.now) owners.now }
-{
-    owners.iter().any(|one| is_apart(cuts, one, owners))
-}
-
-// Whether a bit and one of some bits are those of rows of two actors.
-fn is_apart(cuts: &[u64], one: &RunOwner, owners: &[RunOwner]) -> bool
-    ensures { result ≡ list_any (λ other. are_of_two (actor_of cuts.now) (owner_shown one.now) (owner_shown other)) owners.now }
-{
-    owners.iter().any(|other| are_of_two(cuts, one, other))
-}
-
-fn are_of_two(cuts: &[u64], one: &RunOwner, other: &RunOwner) -> bool
-    ensures { result ≡ are_of_two (actor_of cuts.now) (owner_shown one.now) (owner_shown other.now) }
-{
-    match one {
-        RunOwner::Pad => false,
-        RunOwner::Leaf { row, .. } => match other {
-            RunOwner::Pad => false,
-            RunOwner::Leaf { row: next, .. } => {
-                row != next && actor_of(cuts, *row) != actor_of(cuts, *next)
+    let mut first = None;
+    for owner in owners {
+        if let RunOwner::Leaf { row, .. } = owner {
+            let actor = actor_of(cuts, *row);
+            match first {
+                None => first = Some(actor),
+                Some(other) => {
+                    if other != actor {
+                        return true;
+                    }
+                }
             }
-        },
+        }
     }
+    false
 }

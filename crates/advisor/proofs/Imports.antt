@@ -1,6 +1,6 @@
 -- What the proofs of this crate speak of.
 pub use Rattle.advisor.specs.Imports.{Term, term_of, uncounted, Named, Split, Byteswap, Bytesplit, Change, Count, Heat, depth_of, LeafType, Cell, IsInside, granules_in, granules_of, HeatCounts, heated_by, no_heat, heat_counts, Order, interleaved, row_at, slot_count, index_at, slot_at, BadMapping, MakeMap, PathStep, Hold, Piece, PieceRule, indices, StoreFault, StoreMode, hold_at, stays_declared, low_64}
-pub use Rattle.record_dim.specs.Std.{or-false, and-true, ◌≡◌, ℕ, ◌≤◌, Bool, true, false, List, All, length, map, take, Ok, Err, Some, None, sym, ap, ◌∙◌, arith, length-append, suc, ◌<◌, [], ◌∷◌, get_or, Option, refl, ◌+◌, ◌++◌, ⊎_elim, ◌*◌, zero, ◌-◌, ◌/◌, ◌%◌, ◌^◌, ◌⊎◌, subst, lit<, min, w64, inl, inr, drop, add-one, drop-cons, cond, max, ℤ, pos, replicate, rules, length-drop, set, slice_index_or, filter, is_ok, ◌&&◌, ◌||◌, not, nat_le, if◌then◌else◌, slice_get, ◌==◌, sum_by, bit_and, is_some, nat_lt, Result, count_by, option_map, IfSome, take-append-le, take_all, length-map, get_or-map, get_or_default, drop_all, append_assoc, append-nil, take_more, map_push, length-take, get_or-take, get_or-drop, take-map, drop-map, length-replicate, get_or-replicate, get_or_push, get_or_append_left, length_push, get_or_read, take_more_set, map_more, length-take-le, then_some, find, list_all, position_or_len, list_any, enumerate_from, range_with_len, flat_map, true≢false, and_from, le-leb, lt-leb, ne_eqb, eq-eqb, cases_eq, cases_lt, or_left, or_right, or_from, lt-ltb, le-ltb, leb-false, ltb-false, and_parts, eqb-true, ltb-true, leb-true, or_parts, not-true, slice_get-get_or, slice_get_past, get_or_from_slice_get, map-map, find_at, list_all_at, list_any-append, list_any_none, fold-map, Any-from_list_any, list_any_at, list_all-map, list_all-append, list_any_more, flat_map-map, position_or_len_is, list_all-from_AllPass, sum_by-cons, sum_by-append, AllPass-from_list_all, sum-map, sum_by-le-sum_by, count_by-le-length, sum_by_more, sum_by_more_le, sum_by-take-le, All-push, length_all_zip, AllZip-get_or, filter-append, All-map, fun_ext, get_or-enumerate_from, length-enumerate_from, get_or-range_with_len, length-range_with_len, bit_at, trailing_zeros, shr_split, pow_pos, mul-le, mod_below, div-add-mod', div-mul-add, mod-mul-add, bit_at-zero, bit_at-lt, bit_at_lowest, bit_at_above, bit_at_cat_low, bit_at_cat_high, shr_and_one, same_from_bits, div-le_self, mod-eq_of_lt, mul_comm, mul-div-le, pow-le-pow_right, mul-add, mod-lt, flat_map-append, same_number_lists, option_or, take-add, flat_map-cons, flat_map_single, map_over_more, common_steps}
+pub use Rattle.record_dim.specs.Std.{or-false, and-true, ◌≡◌, ℕ, ◌≤◌, Bool, true, false, List, All, length, map, take, Ok, Err, Some, None, sym, ap, ◌∙◌, arith, length-append, suc, ◌<◌, [], ◌∷◌, get_or, Option, refl, ◌+◌, ◌++◌, ⊎_elim, ◌*◌, zero, ◌-◌, ◌/◌, ◌%◌, ◌^◌, ◌⊎◌, subst, lit<, min, w64, inl, inr, drop, add-one, drop-cons, cond, max, ℤ, pos, replicate, rules, length-drop, set, slice_index_or, filter, is_ok, ◌&&◌, ◌||◌, not, nat_le, if◌then◌else◌, slice_get, ◌==◌, sum_by, bit_and, is_some, nat_lt, Result, count_by, option_map, IfSome, take-append-le, take_all, length-map, get_or-map, get_or_default, drop_all, append_assoc, append-nil, take_more, map_push, length-take, get_or-take, get_or-drop, take-map, drop-map, length-replicate, get_or-replicate, get_or_push, get_or_append_left, length_push, get_or_read, take_more_set, map_more, length-take-le, then_some, find, list_all, position_or_len, list_any, enumerate_from, range_with_len, flat_map, true≢false, and_from, le-leb, lt-leb, ne_eqb, eq-eqb, cases_eq, cases_lt, or_left, or_right, or_from, lt-ltb, le-ltb, leb-false, ltb-false, and_parts, eqb-true, ltb-true, leb-true, or_parts, not-true, slice_get-get_or, slice_get_past, get_or_from_slice_get, map-map, find_at, list_all_at, list_any-append, list_any_none, fold-map, Any-from_list_any, list_any_at, list_all-map, list_all-append, list_any_more, flat_map-map, position_or_len_is, list_all-from_AllPass, sum_by-cons, sum_by-append, AllPass-from_list_all, sum-map, sum_by-le-sum_by, count_by-le-length, sum_by_more, sum_by_more_le, sum_by-take-le, All-push, length_all_zip, AllZip-get_or, filter-append, All-map, fun_ext, get_or-enumerate_from, length-enumerate_from, get_or-range_with_len, length-range_with_len, bit_at, trailing_zeros, div_ceil, shr_split, pow_pos, mul-le, mod_below, div-add-mod', div-mul-add, mod-mul-add, bit_at-zero, bit_at-lt, bit_at_lowest, bit_at_above, bit_at_cat_low, bit_at_cat_high, shr_and_one, same_from_bits, div-le_self, mod-eq_of_lt, mul_comm, mul-div-le, pow-le-pow_right, mul-add, mod-lt, flat_map-append, same_number_lists, option_or, take-add, flat_map-cons, flat_map_single, map_over_more, common_steps}
 pub use Rattle.std.proofs.Common.{pow-suc}
 pub use Rattle.views.specs.Prelude.{Table, leaf_types_of, leaf_count_of, leaf_type_of, IsTable, after_log, blob_lengths, Access, Read, Tally, tallied, row_accesses, all_accesses, HasGranules, piece_inside, blob_granules, is_between, in_leaf, column_reads, tallied-kinds, raised, run_of, raised_all, after_log-none, after_log-append, accesses_more}
 pub use Rattle.record_dim.specs.declared.leaf_type.LeafType.TheVariants.{Bool as Truth}
@@ -24,6 +24,7 @@ pub use Rattle.piece_bits.specs.declared.mode.StoreMode.TheVariants.{Strict}
 pub use Rattle.instrument.specs.WarmingLaws.{length-warmed, length-heated, get-warmed, get-warmed_blob, inside-counted}
 pub use Rattle.map_expr.specs.declared.expr.MapExpr.{MapExpr}
 pub use Rattle.map_checks.specs.declared.plan.Plan.{Plan}
+pub use Rattle.instrument.specs.RoundingLaws.{rounded}
 pub use Rattle.advisor.specs.declared.advice.AdviseFault.{AdviseFault}
 pub use Rattle.advisor.specs.declared.candidate.Candidate.{Candidate}
 pub use Rattle.advisor.specs.declared.pass.Pass.{Pass}

@@ -53,7 +53,7 @@ pub fn mapped(
     let schema = view.schema();
     let extents = view.extents();
     let mapping = CellMap::new(alloc, schema, cells, &extents, expr)?;
-    if !has_few_granules(alloc, &mapping, granule)? {
+    if !has_few_granules(&mapping, granule) {
         return Err(MakeMap::TooBig);
     }
     // The mapping keeps its rules to itself.

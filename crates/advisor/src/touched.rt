@@ -7,22 +7,25 @@ ghost use Rattle.advisor.specs.Inner.Warm.{is_warm, IsWarmed};
 
 use crate::mapped::RuledMap;
 use crate::runs::touch_rows;
-use instrument::{Heat, HeatFault, are_few};
+use instrument::{Heat, HeatFault, MAX_GRANULES};
 use map_any::CellMap;
 use places::{Mapping, laws_of};
 use std::alloc::{AllocError as NoMemory, Global};
 
 /// Whether the blobs of a mapping have at most 2^24 granules together.
-pub fn has_few_granules<M: Mapping>(
-    alloc: Global,
-    mapping: &M,
-    granule: u32,
-) -> Result<bool, NoMemory>
+pub fn has_few_granules<M: Mapping>(mapping: &M, granule: u32) -> bool
     requires { 1 ≤ granule }
-    ensures { IfOk result (λ few. few ≡ nat_le (granules_in granule (blob_lengths (M.layout mapping.now))) (2 ^ 24)) }
+    ensures { result ≡ nat_le (granules_in granule (blob_lengths (M.layout mapping.now))) (2 ^ 24) }
 {
-    let lengths = blob_lengths(alloc, mapping)?;
-    Ok(are_few(granule, lengths.as_slice()))
+    let mut left = MAX_GRANULES;
+    for blob in 0..mapping.blob_count() {
+        let granules = mapping.blob_bytes(blob).div_ceil(u64::from(granule));
+        if granules > left {
+            return false;
+        }
+        left -= granules;
+    }
+    true
 }
 
 /// How many granules of a mapping's blobs hold a bit of these cells in any slot. It takes memory for a number for each granule, if there is

@@ -1,76 +1,73 @@
 // A table that is copied from one layout to another.
-ghost use Rattle.std.specs.Prelude.{◌≡◌, ◌<◌, OnOk};
+ghost use Rattle.std.specs.Prelude.{◌≡◌, OnOk};
+ghost use Rattle.map_expr.specs.Terms.{term_of};
+ghost use Rattle.map_checks.specs.Prelude.{IsBuiltTerm};
 ghost use Rattle.bench_layouts.specs.Inner.Tables.{measured_fields};
 
 use crate::count::count_in;
+use crate::expr::expr_of;
 use crate::fault::BenchFault;
-use crate::form::Form;
 use crate::table::{read_rounds, write_rounds};
-use crate::tables::flat_view;
+use crate::tables::table_view;
 use layout_copy::{CopyFault, copy};
+use map_expr::MapExpr;
 use record_dim::Steps;
 use std::alloc::Global;
-use std::marker::Brand;
-use std::sync::ledger::{Blank, Ledger};
+use std::sync::ledger::Ledger;
 use views::View;
 
-/// A table of so many rows of one form that is copied to one of another form, and then again so many times.
-#[derive(Clone, Copy, Debug, PartialEq, Eq)]
-pub struct Copying {
-    pub from: Form,
-    pub to: Form,
-    pub rows: u32,
-    pub again: u32,
-}
-
-impl Copying {
-    /// The copies that the words name.
-    pub fn of(words: &[String]) -> Option<Copying> {
-        let [from, to, rows, again] = words else {
-            return None;
-        };
-        Some(Copying {
-            from: Form::of(from.as_str())?,
-            to: Form::of(to.as_str())?,
-            rows: count_in(rows.as_str())?,
-            again: count_in(again.as_str())?,
-        })
-    }
-}
-
-/// The sum of the copy of a table that was written once.
-pub fn sum(alloc: Global, work: Copying) -> Result<i128, BenchFault> {
-    let mut source = flat_view(alloc, work.from, work.rows)?;
-    copied_from(alloc, &mut source, work)
+/// The sum of the copy of a table of so many rows that was written once: it is copied from one form to another, and then again so many times.
+pub fn sum<L: Ledger>(
+    alloc: Global,
+    words: &[String],
+    steps: &mut Steps<L>,
+) -> Result<i128, BenchFault> {
+    let [from, to, rows, again] = words else {
+        return Err(BenchFault::Words);
+    };
+    let rows = count_in(rows.as_str())?;
+    let again = count_in(again.as_str())?;
+    let from = expr_of(alloc, from.as_str())?;
+    let to = expr_of(alloc, to.as_str())?;
+    let mut source = table_view(alloc, &from, "line", rows)?;
+    let total = copied_to(alloc, &mut source, &to, rows, again, steps);
+    drop(source);
+    total
 }
 
 // The same of a source.
-fn copied_from(alloc: Global, source: &mut View, work: Copying) -> Result<i128, BenchFault>
-    requires { source.old.fields ≡ measured_fields }
+fn copied_to<L: Ledger>(
+    alloc: Global,
+    source: &mut View,
+    to: &MapExpr,
+    rows: u32,
+    again: u32,
+    steps: &mut Steps<L>,
+) -> Result<i128, BenchFault>
+    requires source { source.old.fields ≡ measured_fields }
+    requires built { IsBuiltTerm (term_of to.now) }
 {
-    let mut target = flat_view(alloc, work.to, work.rows)?;
-    copied_and_read::<Brand>(source, &mut target, work, Blank::new(1))
+    let mut target = table_view(alloc, to, "line", rows)?;
+    let total = copied_and_read(source, &mut target, again, steps);
+    drop(target);
+    total
 }
 
 // Does the work on two views.
 fn copied_and_read<L: Ledger>(
     source: &mut View,
     target: &mut View,
-    work: Copying,
-    blank: Blank,
+    again: u32,
+    steps: &mut Steps<L>,
 ) -> Result<i128, BenchFault>
-    requires name { blank.name ≡ L.name }
-    requires parts { blank.parts ≡ L.parts }
-    requires some { 0 < blank.parts }
     requires source { source.old.fields ≡ measured_fields }
     requires target { target.old.fields ≡ measured_fields }
 {
     let rows = source.extents().count();
-    let mut steps = Steps::<L>::new(blank);
-    write_rounds(source, rows, 1, &mut steps)?;
-    copy_rounds(source, target, work.again, &mut steps)?;
+    write_rounds(source, rows, 1, steps)?;
+    copy_rounds(source, target, again, steps)?;
     let copied = target.extents().count();
-    Ok(read_rounds(target, copied, 1, &mut steps))
+    Ok(read_rounds(target, copied, 1, steps))
 }
 
 // Copies the whole table once, and then again so many times. It is what is measured.

@@ -1,4 +1,6 @@
+use crate::fault::BenchFault;
+
 /// The number that a text is.
-pub fn count_in(text: &str) -> Option<u32> {
-    text.parse().ok()
+pub fn count_in(text: &str) -> Result<u32, BenchFault> {
+    text.parse().ok().ok_or(BenchFault::Words)
 }

@@ -4,39 +4,50 @@ ghost use Rattle.record_dim.specs.Prelude.{is_name};
 ghost use Rattle.map_expr.specs.Terms.{term_of};
 ghost use Rattle.map_checks.specs.Prelude.{IsBuiltTerm};
 
-use crate::form::Form;
+use crate::fault::BenchFault;
 use extents::Order;
 use map_expr::{FieldWidth, MapExpr, WidthList};
 use places::{AosForm, SoaForm};
 use record_dim::{Name, Path};
 use std::alloc::{AllocError as NoMemory, Global};
 
-/// The expression of a form.
-pub fn expr_of(alloc: Global, form: Form) -> Result<MapExpr, NoMemory>
+/// The expression of the form of this name: how the table lies in memory, and in which order its slots follow the rows.
+pub fn expr_of(alloc: Global, name: &str) -> Result<MapExpr, BenchFault>
     ensures built { IfOk result (λ expr. IsBuiltTerm (term_of expr)) }
 {
-    match form {
-        Form::Aos => Ok(packed(Order::Row)),
-        Form::Soa => Ok(arrays(SoaForm::Aligned, Order::Row)),
-        Form::SoaMulti => Ok(arrays(SoaForm::Multi, Order::Row)),
-        Form::Aosoa => Ok(blocks(Order::Row)),
-        Form::AosByColumns => Ok(packed(Order::Col)),
-        Form::SoaByColumns => Ok(arrays(SoaForm::Aligned, Order::Col)),
-        Form::AosoaByColumns => Ok(blocks(Order::Col)),
-        Form::BitAos9 => Ok(bit_records(9, WidthList::new(alloc))),
-        Form::BitAos23 => Ok(bit_records(23, WidthList::new(alloc))),
-        Form::BitAos57 => Ok(bit_records(57, WidthList::new(alloc))),
-        Form::BitSoa9 => Ok(bit_arrays(9, WidthList::new(alloc))),
-        Form::BitSoa23 => Ok(bit_arrays(23, WidthList::new(alloc))),
-        Form::BitSoa57 => Ok(bit_arrays(57, WidthList::new(alloc))),
-        Form::BitAosMixed => Ok(bit_records(9, mixed_widths(alloc)?)),
-        Form::BitSoaMixed => Ok(bit_arrays(9, mixed_widths(alloc)?)),
-        Form::AosSwapped => swapped(alloc, packed(Order::Row)),
-        Form::SoaSwapped => swapped(alloc, arrays(SoaForm::Multi, Order::Row)),
-        Form::AosSplit => split(alloc, packed(Order::Row)),
-        Form::SoaSplit => split(alloc, arrays(SoaForm::Multi, Order::Row)),
-        Form::AosMorton => Ok(packed(Order::Morton)),
-        Form::SoaMorton => Ok(arrays(SoaForm::Multi, Order::Morton)),
+    match name {
+        // Packed records.
+        "aos" => Ok(packed(Order::Row)),
+        // An array for each leaf, each aligned, in one blob or each in a blob of its own.
+        "soa" => Ok(arrays(SoaForm::Aligned, Order::Row)),
+        "soa_multi" => Ok(arrays(SoaForm::Multi, Order::Row)),
+        // Blocks of 8 rows, in each block 8 values of each leaf.
+        "aosoa" => Ok(blocks(Order::Row)),
+        // The same by columns. Over one extent both orders have the same places.
+        "aos_col" => Ok(packed(Order::Col)),
+        "soa_col" => Ok(arrays(SoaForm::Aligned, Order::Col)),
+        "aosoa_col" => Ok(blocks(Order::Col)),
+        // Packed records, each leaf in at most so many bits.
+        "bitaos_9" => Ok(bit_records(9, WidthList::new(alloc))),
+        "bitaos_23" => Ok(bit_records(23, WidthList::new(alloc))),
+        "bitaos_57" => Ok(bit_records(57, WidthList::new(alloc))),
+        // A blob for each leaf, each in at most so many bits.
+        "bitsoa_9" => Ok(bit_arrays(9, WidthList::new(alloc))),
+        "bitsoa_23" => Ok(bit_arrays(23, WidthList::new(alloc))),
+        "bitsoa_57" => Ok(bit_arrays(57, WidthList::new(alloc))),
+        // Packed records, and a blob for each leaf, each leaf in bits of its own: 8, 11, 23 and 57.
+        "bitaos_mixed" => Ok(bit_records(9, mixed_widths(alloc)?)),
+        "bitsoa_mixed" => Ok(bit_arrays(9, mixed_widths(alloc)?)),
+        // Packed records, and a blob for each leaf, with the bytes of each value in reverse order.
+        "aos_swap" => Ok(swapped(alloc, packed(Order::Row))?),
+        "soa_swap" => Ok(swapped(alloc, arrays(SoaForm::Multi, Order::Row))?),
+        // Packed records, and a blob for each cell, where each byte of a leaf is a cell.
+        "aos_split" => Ok(split(alloc, packed(Order::Row))?),
+        "soa_split" => Ok(split(alloc, arrays(SoaForm::Multi, Order::Row))?),
+        // Packed records, and a blob for each leaf, in Morton order.
+        "aos_morton" => Ok(packed(Order::Morton)),
+        "soa_morton" => Ok(arrays(SoaForm::Multi, Order::Morton)),
+        _ => Err(BenchFault::Words),
     }
 }
 

@@ -8,6 +8,9 @@ use views::{MakeView, StoreFault};
 /// Why a measurement has no checksum.
 #[derive(Clone, Copy, Debug, PartialEq, Eq, Error)]
 pub enum BenchFault {
+    /// They are words of no work.
+    #[error("the words name no work")]
+    Words,
     /// An expression has no value on some row, or the sum is too great.
     #[error("an expression has no value")]
     Eval(#[from] EvalFault),

@@ -1,147 +1,92 @@
 // A table over which a kernel is run.
-ghost use Rattle.std.specs.Prelude.{◌≡◌, ◌<◌, ◌≤◌, OnOk};
+ghost use Rattle.std.specs.Prelude.{◌≡◌, ◌≤◌, IfOk, OnOk};
 ghost use Rattle.views.specs.Prelude.{Table};
 ghost use Rattle.lane_kernels.specs.Kernels.{IsKernelOf};
 ghost use Rattle.bench_layouts.specs.Inner.Tables.{measured_fields};
 
 use crate::count::count_in;
+use crate::expr::expr_of;
 use crate::fault::BenchFault;
-use crate::form::Form;
 use crate::table::write_rounds;
-use crate::tables::flat_view;
+use crate::tables::table_view;
 use lane_kernels::{Compare, Kernel, KernelFault, run_lanes};
 use record_dim::Steps;
 use std::alloc::Global;
-use std::marker::Brand;
-use std::sync::ledger::{Blank, Ledger};
+use std::sync::ledger::Ledger;
 use views::View;
 
-/// A kernel over the leaves b and c of the record.
-#[derive(Clone, Copy, Debug, PartialEq, Eq)]
-pub enum KernelName {
-    Axpy,
-    Clamp,
-    Sum,
-    Least,
-    Greatest,
-    Count,
-}
-
-impl KernelName {
-    /// The kernel of this name.
-    fn of(text: &str) -> Option<KernelName> {
-        match text {
-            "axpy" => Some(KernelName::Axpy),
-            "clamp" => Some(KernelName::Clamp),
-            "sum" => Some(KernelName::Sum),
-            "least" => Some(KernelName::Least),
-            "greatest" => Some(KernelName::Greatest),
-            "count" => Some(KernelName::Count),
-            _ => None,
-        }
-    }
-
-    /// The kernel itself.
-    fn kernel(self) -> Kernel
-        ensures { (table : Table) → table.fields ≡ measured_fields → IsKernelOf table result }
-    {
-        match self {
-            KernelName::Axpy => Kernel::Axpy { a: 3, x: 1, y: 2 },
-            KernelName::Clamp => Kernel::Clamp {
-                x: 2,
-                lo: -100,
-                hi: 100,
-            },
-            KernelName::Sum => Kernel::Sum { x: 2 },
-            KernelName::Least => Kernel::Least { x: 2 },
-            KernelName::Greatest => Kernel::Greatest { x: 2 },
-            KernelName::Count => Kernel::CountWhere {
-                x: 2,
-                op: Compare::Ge,
-                c: 4,
-            },
-        }
+// The kernel of this name, over the leaves b and c of the record.
+fn kernel_of(name: &str) -> Result<Kernel, BenchFault>
+    ensures { IfOk result (λ kernel. (table : Table) → table.fields ≡ measured_fields → IsKernelOf table kernel) }
+{
+    match name {
+        "axpy" => Ok(Kernel::Axpy { a: 3, x: 1, y: 2 }),
+        "clamp" => Ok(Kernel::Clamp {
+            x: 2,
+            lo: -100,
+            hi: 100,
+        }),
+        "sum" => Ok(Kernel::Sum { x: 2 }),
+        "least" => Ok(Kernel::Least { x: 2 }),
+        "greatest" => Ok(Kernel::Greatest { x: 2 }),
+        "count" => Ok(Kernel::CountWhere {
+            x: 2,
+            op: Compare::Ge,
+            c: 4,
+        }),
+        _ => Err(BenchFault::Words),
     }
 }
 
-/// How many rows a kernel takes at once.
-#[derive(Clone, Copy, Debug, PartialEq, Eq)]
-pub enum Lanes {
-    One,
-    Sixteen,
-}
-
-impl Lanes {
-    /// The lanes of this name, a number.
-    fn of(text: &str) -> Option<Lanes> {
-        match text {
-            "1" => Some(Lanes::One),
-            "16" => Some(Lanes::Sixteen),
-            _ => None,
-        }
-    }
-
-    /// The number itself.
-    fn count(self) -> usize
-        ensures some { 1 ≤ result }
-        ensures few { result ≤ 16 }
-    {
-        match self {
-            Lanes::One => 1,
-            Lanes::Sixteen => 16,
-        }
+// How many rows a kernel takes at once.
+fn lanes_of(text: &str) -> Result<usize, BenchFault>
+    ensures some { IfOk result (λ lanes. 1 ≤ lanes) }
+    ensures few { IfOk result (λ lanes. lanes ≤ 16) }
+{
+    match text {
+        "1" => Ok(1),
+        "16" => Ok(16),
+        _ => Err(BenchFault::Words),
     }
 }
 
-/// A table of so many rows that is written once, and over which a kernel is run so many times.
-#[derive(Clone, Copy, Debug, PartialEq, Eq)]
-pub struct Running {
-    pub name: KernelName,
-    pub form: Form,
-    pub lanes: Lanes,
-    pub rows: u32,
-    pub rounds: u32,
-}
-
-impl Running {
-    /// The runs that the words name.
-    pub fn of(words: &[String]) -> Option<Running> {
-        let [name, form, lanes, rows, rounds] = words else {
-            return None;
-        };
-        Some(Running {
-            name: KernelName::of(name.as_str())?,
-            form: Form::of(form.as_str())?,
-            lanes: Lanes::of(lanes.as_str())?,
-            rows: count_in(rows.as_str())?,
-            rounds: count_in(rounds.as_str())?,
-        })
-    }
-}
-
-/// The sum of what all runs give, and of the leaf c after them.
-pub fn sum(alloc: Global, work: Running) -> Result<i128, BenchFault> {
-    let mut view = flat_view(alloc, work.form, work.rows)?;
-    written_and_run::<Brand>(&mut view, work, Blank::new(1))
+/// The sum of what so many runs give over a table of so many rows that is written once, and of the leaf c after them.
+pub fn sum<L: Ledger>(
+    alloc: Global,
+    words: &[String],
+    steps: &mut Steps<L>,
+) -> Result<i128, BenchFault> {
+    let [name, form, lanes, rows, rounds] = words else {
+        return Err(BenchFault::Words);
+    };
+    let kernel = kernel_of(name.as_str())?;
+    let lanes = lanes_of(lanes.as_str())?;
+    let rows = count_in(rows.as_str())?;
+    let rounds = count_in(rounds.as_str())?;
+    let expr = expr_of(alloc, form.as_str())?;
+    let mut view = table_view(alloc, &expr, "line", rows)?;
+    let total = written_and_run(&mut view, &kernel, lanes, rounds, steps);
+    drop(view);
+    total
 }
 
 // Does the work on a view.
 fn written_and_run<L: Ledger>(
     view: &mut View,
-    work: Running,
-    blank: Blank,
+    kernel: &Kernel,
+    lanes: usize,
+    rounds: u32,
+    steps: &mut Steps<L>,
 ) -> Result<i128, BenchFault>
-    requires name { blank.name ≡ L.name }
-    requires parts { blank.parts ≡ L.parts }
-    requires some { 0 < blank.parts }
+    requires kernel { (table : Table) → table.fields ≡ measured_fields → IsKernelOf table kernel.now }
     requires fields { view.old.fields ≡ measured_fields }
+    requires some { 1 ≤ lanes }
+    requires few { lanes ≤ 16 }
 {
     let rows = view.extents().count();
-    let mut steps = Steps::<L>::new(blank);
-    write_rounds(view, rows, 1, &mut steps)?;
-    let lanes = work.lanes.count();
-    let given = run_rounds(view, &work.name.kernel(), lanes, work.rounds, &mut steps)?;
-    let left = run_rounds(view, &KernelName::Sum.kernel(), lanes, 1, &mut steps)?;
+    write_rounds(view, rows, 1, steps)?;
+    let given = run_rounds(view, kernel, lanes, rounds, steps)?;
+    let left = run_rounds(view, &kernel_of("sum")?, lanes, 1, steps)?;
     Ok(given.wrapping_add(left))
 }
 

@@ -6,19 +6,19 @@ mod count;
 mod evaluation;
 mod expr;
 mod fault;
-mod form;
 mod formula;
-mod grid;
 mod kernels;
 mod mode;
 mod record;
 mod sample;
 mod table;
 mod tables;
-mod work;
 
-use crate::mode::Mode;
+use crate::fault::BenchFault;
+use crate::mode::checksum;
+use std::marker::Brand;
 use std::process::ExitCode;
+use std::sync::ledger::Blank;
 use std::{env, io};
 
 const USAGE: u8 = 2;
@@ -27,14 +27,14 @@ const FAULT: u8 = 1;
 
 fn main(rt: HostRuntime) -> io::Result<ExitCode> {
     let words: Vec<String> = env::args(&rt)?.skip(1).collect(rt.alloc())?;
-    let Some(mode) = Mode::of(words.as_slice()) else {
-        println!(rt;
-            "usage: bench_layouts eval ROWS | table FORM GRID ROWS SETS GETS | copy FORM FORM ROWS AGAIN | kernel NAME FORM LANES ROWS ROUNDS"
-        )?;
-        return Ok(ExitCode::from(USAGE));
-    };
-    match mode.checksum(rt.alloc()) {
+    match checksum::<Brand>(rt.alloc(), words.as_slice(), Blank::new(1)) {
         Ok(checksum) => println!(rt; "{checksum}")?,
+        Err(BenchFault::Words) => {
+            println!(rt;
+                "usage: bench_layouts eval ROWS | table FORM GRID ROWS SETS GETS | copy FORM FORM ROWS AGAIN | kernel NAME FORM LANES ROWS ROUNDS"
+            )?;
+            return Ok(ExitCode::from(USAGE));
+        }
         Err(fault) => {
             println!(rt; "{fault:?}")?;
             return Ok(ExitCode::from(FAULT));

@@ -1,36 +1,46 @@
 ghost use Rattle.std.specs.Prelude.{◌≡◌, ◌<◌, OnOk};
 ghost use Rattle.bench_layouts.specs.Inner.Tables.{measured_fields, IsMeasured};
 
+use crate::count::count_in;
+use crate::expr::expr_of;
 use crate::fault::BenchFault;
 use crate::tables::table_view;
-use crate::work::Work;
 use record_dim::Steps;
 use std::alloc::Global;
-use std::marker::Brand;
-use std::sync::ledger::{Blank, Ledger};
+use std::sync::ledger::Ledger;
 use views::{StoreFault, View};
 
-/// The sum of all that is read of a table after it was written.
-pub fn sum(alloc: Global, work: Work) -> Result<i128, BenchFault> {
-    let mut view = table_view(alloc, work.form, work.grid, work.rows)?;
-    written_and_read::<Brand>(&mut view, work, Blank::new(1))
+/// The sum of all that is read of a table of this form and grid, which is written whole `sets` times, and then read whole `gets` times.
+pub fn sum<L: Ledger>(
+    alloc: Global,
+    words: &[String],
+    steps: &mut Steps<L>,
+) -> Result<i128, BenchFault> {
+    let [form, grid, rows, sets, gets] = words else {
+        return Err(BenchFault::Words);
+    };
+    let rows = count_in(rows.as_str())?;
+    let sets = count_in(sets.as_str())?;
+    let gets = count_in(gets.as_str())?;
+    let expr = expr_of(alloc, form.as_str())?;
+    let mut view = table_view(alloc, &expr, grid.as_str(), rows)?;
+    let total = written_and_read(&mut view, sets, gets, steps);
+    drop(view);
+    Ok(total?)
 }
 
 // Does the work on a view.
 fn written_and_read<L: Ledger>(
     view: &mut View,
-    work: Work,
-    blank: Blank,
-) -> Result<i128, BenchFault>
-    requires name { blank.name ≡ L.name }
-    requires parts { blank.parts ≡ L.parts }
-    requires some { 0 < blank.parts }
-    requires fields { view.old.fields ≡ measured_fields }
+    sets: u32,
+    gets: u32,
+    steps: &mut Steps<L>,
+) -> Result<i128, StoreFault>
+    requires { view.old.fields ≡ measured_fields }
 {
     let rows = view.extents().count();
-    let mut steps = Steps::<L>::new(blank);
-    write_rounds(view, rows, work.sets, &mut steps)?;
-    Ok(read_rounds(view, rows, work.gets, &mut steps))
+    write_rounds(view, rows, sets, steps)?;
+    Ok(read_rounds(view, rows, gets, steps))
 }
 
 /// Writes the whole table so many times. It is what is measured.

@@ -5,12 +5,11 @@ use Rattle.c_lines.specs.Boxes.{spans_of}
 
 is_window : (extents : List ℕ) (spans : List Span) → are_inside extents spans ≡ true → IsWindow extents spans
 is_window [] [] inside = tt
-is_window [] (span ∷ spans) inside = absurd (false≢true inside)
-is_window (extent ∷ extents) [] inside = absurd (false≢true inside)
 is_window (extent ∷ extents) (span ∷ spans) inside =
     let both = and_parts (nat_le span.from span.end && nat_le span.end extent) (are_inside extents spans) inside in
     let two = and_parts (nat_le span.from span.end) (nat_le span.end extent) both.0 in
     ((leb-true span.from span.end two.0, leb-true span.end extent two.1), is_window extents spans both.1)
+is_window extents spans inside = absurd (false≢true inside)
 
 -- spans that are no window are refused
 pub no_window : (extents : List ℕ) (spans : List Span) → (IsWindow extents spans → ⊥) → windowed extents spans ≡ Err BadWindow
@@ -21,23 +20,20 @@ no_window extents spans none =
 -- the bounds of a window are as narrow as extents
 pub narrow_bounds : (extents low high : List ℕ) (k : ℕ) → All (λ n. n < 2 ^ 32) extents → IsWindow extents (spans_of low high) → k < length low → k < length high
     → max (get_or low k 0) (get_or high k 0) < 2 ^ 32
-narrow_bounds extents [] high k narrow is in_low in_high = absurd (omega arith)
-narrow_bounds extents (l ∷ low) [] k narrow is in_low in_high = absurd (omega arith)
 narrow_bounds [] (l ∷ low) (h ∷ high) k narrow is in_low in_high = absurd is
 narrow_bounds (extent ∷ extents) (l ∷ low) (h ∷ high) zero narrow is in_low in_high = let first : extent < 2 ^ 32 = narrow 0 0 (omega arith) in omega (arith, is.0.0, is.0.1, first)
 narrow_bounds (extent ∷ extents) (l ∷ low) (h ∷ high) (suc k) narrow is in_low in_high =
     narrow_bounds extents low high k (λ j d low. narrow (suc j) d (omega (arith, low))) is.1 (omega arith) (omega arith)
+narrow_bounds extents low high k narrow is in_low in_high = absurd (omega arith)
 
 pub length-spans : (low high : List ℕ) → length (spans_of low high) ≡ min (length low) (length high)
-length-spans [] high = omega arith
-length-spans (l ∷ low) [] = omega arith
 length-spans (l ∷ low) (h ∷ high) = omega (arith, length-spans low high)
+length-spans low high = omega arith
 
 span_at : (low high : List ℕ) (k : ℕ) (other : Span) → k < length low → k < length high → get_or (spans_of low high) k other ≡ record { from = get_or low k 0; end = get_or high k 0 }
-span_at [] high k other in_low in_high = absurd (omega arith)
-span_at (l ∷ low) [] k other in_low in_high = absurd (omega arith)
 span_at (l ∷ low) (h ∷ high) zero other in_low in_high = refl
 span_at (l ∷ low) (h ∷ high) (suc k) other in_low in_high = span_at low high k other (omega arith) (omega arith)
+span_at low high k other in_low in_high = absurd (omega arith)
 
 -- one span more of those that are made of bounds
 pub one_span : (low high : List ℕ) (made : List Span) (k : ℕ) (span : Span) → span ≡ record { from = get_or low k 0; end = get_or high k 0 } → k < length made → k < length low → k < length high

@@ -80,8 +80,7 @@ front_refused_set first leaf part values old new refusal inside is =
 sized_by : {A : Type 0} (wide whole : Bool) (own size len : ℕ) (call : ℕ → ℕ → Answer A) → Ok size ≡ (if wide then (if whole then Ok own else Err NoPlace) else Err BadType)
     → (if wide then (if whole then call own (len / own) else Err NoPlace) else Err BadType) ≡ call size (len / size)
 sized_by true true own size len call is = (let same : own ≡ size = cc in ap (λ (n : ℕ). call n (len / n)) same)
-sized_by true false own size len call is = absurd (cc is)
-sized_by false whole own size len call is = absurd (cc is)
+sized_by wide whole own size len call is = absurd (cc is)
 
 module _ (bits : ℕ) (sign : Bool) (first leaf size : ℕ) (bytes : List ℕ) (table : Table) (is : Ok size ≡ sized bits (length bytes) (λ size count. Ok size)) where
   abbrev numbers : List ℤ

@@ -33,7 +33,8 @@ pub fn do_line<L: Ledger>(
     ensures { DoesLine is_do text.now view.old result view.new }
 {
     let line = line_of(alloc, text, TextOf::First)?;
-    let answer = do_command::<L>(alloc, view, &line, blank);
+    let mut steps = Steps::<L>::new(blank);
+    let answer = do_command(alloc, view, &line, &mut steps);
     drop(line);
     answer
 }
@@ -43,41 +44,26 @@ fn do_command<L: Ledger>(
     alloc: Global,
     view: &mut View,
     line: &Line,
-    blank: Blank,
+    steps: &mut Steps<L>,
 ) -> Result<Option<i128>, Refusal>
-    requires name { blank.name ≡ L.name }
-    requires parts { blank.parts ≡ L.parts }
-    requires some { 0 < blank.parts }
     ensures { OnLine number_text numbered (taken is_do (sentence_of line.now)) view.old result view.new }
 {
     match line {
         Line::Assign {
-            view: _,
             index,
             path,
             value,
-        } => changed::<Assign<'_>, L>(alloc, view, &Assign { index, path, value }, blank),
-        Line::Update {
-            view: _,
-            filter,
-            sets,
-        } => changed::<Update<'_>, L>(alloc, view, &Update { filter, sets }, blank),
-        Line::Kernel {
-            view: _,
-            kernel,
-            lanes,
-        } => changed::<RunKernel<'_>, L>(alloc, view, &RunKernel { kernel, lanes }, blank),
-        Line::Reduce {
-            view: _,
-            kind,
-            path,
-        } => changed::<Reduce<'_>, L>(alloc, view, &Reduce { kind, path }, blank),
-        Line::Count { view: _, filter } => {
-            changed::<Count<'_>, L>(alloc, view, &Count { filter }, blank)
+            ..
+        } => changed(alloc, view, &Assign { index, path, value }, steps),
+        Line::Update { filter, sets, .. } => changed(alloc, view, &Update { filter, sets }, steps),
+        Line::Kernel { kernel, lanes, .. } => {
+            changed(alloc, view, &RunKernel { kernel, lanes }, steps)
         }
-        Line::Relayout { view: _, expr } => relaid::<L>(alloc, view, expr, blank),
-        Line::Stencil { .. } => do_rounds::<L>(alloc, view, line, blank),
-        Line::Actors { .. } => do_rounds::<L>(alloc, view, line, blank),
+        Line::Reduce { kind, path, .. } => changed(alloc, view, &Reduce { kind, path }, steps),
+        Line::Count { filter, .. } => changed(alloc, view, &Count { filter }, steps),
+        Line::Relayout { view: _, expr } => relaid(alloc, view, expr, steps),
+        Line::Stencil { .. } => do_rounds(alloc, view, line, steps),
+        Line::Actors { .. } => do_rounds(alloc, view, line, steps),
         _ => Err(Refusal::OtherLine(TextOf::First)),
     }
 }
@@ -87,11 +73,8 @@ fn do_rounds<L: Ledger>(
     alloc: Global,
     view: &mut View,
     line: &Line,
-    blank: Blank,
+    steps: &mut Steps<L>,
 ) -> Result<Option<i128>, Refusal>
-    requires name { blank.name ≡ L.name }
-    requires parts { blank.parts ≡ L.parts }
-    requires some { 0 < blank.parts }
     requires rounds { IsRounds line.now }
     ensures { OnLine number_text numbered (taken is_do (sentence_of line.now)) view.old result view.new }
 {
@@ -113,7 +96,7 @@ fn do_rounds<L: Ledger>(
                 rounds,
                 live,
             };
-            changed::<RunStencil<'_>, L>(alloc, view, &work, blank)
+            changed(alloc, view, &work, steps)
         }
         Line::Actors {
             view: _,
@@ -130,7 +113,7 @@ fn do_rounds<L: Ledger>(
                 seed,
                 turns,
             };
-            drop(told_by::<UpdateByActors<'_>, L>(alloc, view, &work, blank)?);
+            drop(told_by(alloc, view, &work, steps)?);
             Ok(None)
         }
         _ => unreachable!(),
@@ -150,7 +133,8 @@ pub fn run_kernel<L: Ledger>(
     ensures { DoesLine is_kernel text.now view.old result view.new }
 {
     let line = line_of(alloc, text, TextOf::First)?;
-    let answer = kernel_command::<L>(alloc, view, &line, blank);
+    let mut steps = Steps::<L>::new(blank);
+    let answer = kernel_command(alloc, view, &line, &mut steps);
     drop(line);
     answer
 }
@@ -159,19 +143,14 @@ fn kernel_command<L: Ledger>(
     alloc: Global,
     view: &mut View,
     line: &Line,
-    blank: Blank,
+    steps: &mut Steps<L>,
 ) -> Result<Option<i128>, Refusal>
-    requires name { blank.name ≡ L.name }
-    requires parts { blank.parts ≡ L.parts }
-    requires some { 0 < blank.parts }
     ensures { OnLine number_text numbered (taken is_kernel (sentence_of line.now)) view.old result view.new }
 {
     match line {
-        Line::Kernel {
-            view: _,
-            kernel,
-            lanes,
-        } => changed::<RunKernel<'_>, L>(alloc, view, &RunKernel { kernel, lanes }, blank),
+        Line::Kernel { kernel, lanes, .. } => {
+            changed(alloc, view, &RunKernel { kernel, lanes }, steps)
+        }
         _ => Err(Refusal::OtherLine(TextOf::First)),
     }
 }
@@ -181,15 +160,11 @@ fn changed<W: Change, L: Ledger>(
     alloc: Global,
     view: &mut View,
     work: &W,
-    blank: Blank,
+    steps: &mut Steps<L>,
 ) -> Result<Option<i128>, Refusal>
-    requires name { blank.name ≡ L.name }
-    requires parts { blank.parts ≡ L.parts }
-    requires some { 0 < blank.parts }
     ensures { Carried number_text (W.does work.now view.old) (W.left work.now view.old) view.old result view.new }
 {
-    let mut steps = Steps::<L>::new(blank);
-    match work.run(alloc, view, &mut steps) {
+    match work.run(alloc, view, steps) {
         Ok(number) => Ok(number),
         Err(fault) => Err(change_refusal(fault)),
     }

@@ -22,7 +22,20 @@ pub fn copy_into<L: Ledger>(
     ensures target { target.new ≡ target_after result source.old target.old }
 {
     let mut steps = Steps::<L>::new(blank);
-    match copy(source, target, &mut steps) {
+    copied(source, target, &mut steps)
+}
+
+/// The same, where steps are counted on.
+pub(crate) fn copied<L: Ledger>(
+    source: &mut View,
+    target: &mut View,
+    steps: &mut Steps<L>,
+) -> Result<(), Refusal>
+    ensures answer { result ≡ was_copied source.old target.old }
+    ensures source { source.new ≡ source_after result source.old }
+    ensures target { target.new ≡ target_after result source.old target.old }
+{
+    match copy(source, target, steps) {
         Ok(()) => Ok(()),
         Err(CopyFault::Mismatch) => Err(Refusal::Mismatch),
         Err(CopyFault::Narrow { row, leaf }) => Err(Refusal::Narrow { row, leaf }),

@@ -1,6 +1,6 @@
 ghost use Rattle.std.specs.Prelude.{◌≡◌};
 ghost use Rattle.c_lines.specs.Answers.{refusal_number};
-ghost use Rattle.c_lines.specs.Faults.{actors_cause, advice_cause, stencil_cause, cause_of, column_of, extents_cause, fault_of, file_cause, kernel_cause, leaf_named, mapping_cause, record_cause, row_named, text_number};
+ghost use Rattle.c_lines.specs.Faults.{cause_of, column_of, fault_of, leaf_named, row_named};
 ghost use Rattle.c_lines.specs.Told.{store_refusal};
 
 use extents::BadExtents;
@@ -153,18 +153,18 @@ impl Refusal {
         ensures { result ≡ cause_of self }
     {
         match self {
-            Refusal::Syntax { text, .. } => text.number(),
-            Refusal::TooDeep(text) => text.number(),
-            Refusal::OtherLine(text) => text.number(),
-            Refusal::LineTooLong(text) => text.number(),
-            Refusal::BadRecord(bad) => record_cause(bad),
-            Refusal::BadExtents(bad) => extents_cause(bad),
-            Refusal::BadMapping(bad) => mapping_cause(bad),
-            Refusal::BadKernel(bad) => kernel_cause(bad),
-            Refusal::BadFile(bad) => file_cause(bad),
-            Refusal::BadStencil(bad) => stencil_cause(bad),
-            Refusal::BadActors(bad) => actors_cause(bad),
-            Refusal::BadAdvice(bad) => advice_cause(bad),
+            Refusal::Syntax { text, .. } => text as i32 + 1,
+            Refusal::TooDeep(text) => text as i32 + 1,
+            Refusal::OtherLine(text) => text as i32 + 1,
+            Refusal::LineTooLong(text) => text as i32 + 1,
+            Refusal::BadRecord(bad) => bad as i32 + 1,
+            Refusal::BadExtents(bad) => bad as i32 + 1,
+            Refusal::BadMapping(bad) => bad as i32 + 1,
+            Refusal::BadKernel(bad) => bad as i32 + 1,
+            Refusal::BadFile(bad) => bad as i32 + 1,
+            Refusal::BadStencil(bad) => bad as i32 + 1,
+            Refusal::BadActors(bad) => bad as i32 + 1,
+            Refusal::BadAdvice(bad) => bad as i32 + 1,
             _ => 0,
         }
     }
@@ -218,108 +218,5 @@ impl Refusal {
             StoreFault::Range => Refusal::Range { row, leaf },
             StoreFault::Narrow => Refusal::Narrow { row, leaf },
         }
-    }
-}
-
-impl TextOf {
-    fn number(self) -> i32
-        ensures { result ≡ text_number self }
-    {
-        match self {
-            TextOf::First => 1,
-            TextOf::Second => 2,
-        }
-    }
-}
-
-fn record_cause(bad: BadRecord) -> i32
-    ensures { result ≡ record_cause bad }
-{
-    match bad {
-        BadRecord::TooDeep => 1,
-        BadRecord::Empty => 2,
-        BadRecord::Twice => 3,
-        BadRecord::NoElements => 4,
-        BadRecord::TooManyLeaves => 5,
-    }
-}
-
-fn extents_cause(bad: BadExtents) -> i32
-    ensures { result ≡ extents_cause bad }
-{
-    match bad {
-        BadExtents::Rank => 1,
-        BadExtents::TwoRows => 2,
-        BadExtents::RowsBesideZero => 3,
-        BadExtents::NotDivisible => 4,
-        BadExtents::NotEqual => 5,
-        BadExtents::TooMany => 6,
-    }
-}
-
-fn mapping_cause(bad: BadMapping) -> i32
-    ensures { result ≡ mapping_cause bad }
-{
-    match bad {
-        BadMapping::TooDeep => 1,
-        BadMapping::Counter => 2,
-        BadMapping::Lanes => 3,
-        BadMapping::Width => 4,
-        BadMapping::Granule => 5,
-        BadMapping::Side => 6,
-        BadMapping::Field => 7,
-        BadMapping::NotFull => 8,
-    }
-}
-
-fn kernel_cause(bad: BadKernel) -> i32
-    ensures { result ≡ kernel_cause bad }
-{
-    match bad {
-        BadKernel::Lanes => 1,
-        BadKernel::Wide => 2,
-        BadKernel::Constant => 3,
-    }
-}
-
-fn file_cause(bad: BadFile) -> i32
-    ensures { result ≡ file_cause bad }
-{
-    match bad {
-        BadFile::Magic => 1,
-        BadFile::Header => 2,
-        BadFile::Layout => 3,
-        BadFile::Length => 4,
-        BadFile::Contents => 5,
-    }
-}
-
-fn stencil_cause(bad: BadStencil) -> i32
-    ensures { result ≡ stencil_cause bad }
-{
-    match bad {
-        BadStencil::Reach => 1,
-        BadStencil::Weight => 2,
-        BadStencil::Terms => 3,
-        BadStencil::Rounds => 4,
-    }
-}
-
-fn actors_cause(bad: BadActors) -> i32
-    ensures { result ≡ actors_cause bad }
-{
-    match bad {
-        BadActors::Cuts => 1,
-        BadActors::Turns => 2,
-    }
-}
-
-fn advice_cause(bad: BadAdvice) -> i32
-    ensures { result ≡ advice_cause bad }
-{
-    match bad {
-        BadAdvice::Granule => 1,
-        BadAdvice::Passes => 2,
-        BadAdvice::Candidates => 3,
     }
 }

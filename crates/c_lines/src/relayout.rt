@@ -8,13 +8,14 @@ ghost use Rattle.c_lines.specs.Inner.Laid.{RelaidAs, zeros_beside};
 ghost use Rattle.c_lines.specs.Relaid.{after_relaid, laid_left, mapping_told, relaid, whole_told, zeros_told};
 ghost use Rattle.c_lines.specs.Told.{done_of};
 
-use crate::copies::copy_into;
+use crate::copies::copied;
 use crate::lines::line_of;
 use crate::told::answered;
 use crate::{Refusal, TextOf};
 use command_checks::{MappingList, made, made_beside, nameless};
 use line_grammar::Line;
 use map_expr::MapExpr;
+use record_dim::Steps;
 use std::alloc::Global;
 use std::mem;
 use std::sync::ledger::{Blank, Ledger};
@@ -34,7 +35,8 @@ pub fn lay_anew<L: Ledger>(
     ensures { TellsLeft (done_of (relaid line.now view.old)) (after_relaid line.now view.old) view.old result view.new }
 {
     let fresh = zeros_like(alloc, view, line)?;
-    laid_over::<L>(view, fresh, blank)
+    let mut steps = Steps::<L>::new(blank);
+    laid_over(view, fresh, &mut steps)
 }
 
 /// The same of a mapping that stands in a line, with what the command does in a script: the old view counts among the live ones.
@@ -42,27 +44,25 @@ pub(crate) fn relaid<L: Ledger>(
     alloc: Global,
     view: &mut View,
     written: &MapExpr,
-    blank: Blank,
+    steps: &mut Steps<L>,
 ) -> Result<Option<i128>, Refusal>
-    requires name { blank.name ≡ L.name }
-    requires parts { blank.parts ≡ L.parts }
-    requires some { 0 < blank.parts }
     ensures { (name : List ℕ) → RelaidAs name (term_of written.now) view.old result view.new }
 {
     let fresh = zeros_beside(alloc, view, written)?;
-    laid_over::<L>(view, fresh, blank)?;
+    laid_over(view, fresh, steps)?;
     Ok(None)
 }
 
 // The table of a view, copied into a fresh one, which then takes its place.
-fn laid_over<L: Ledger>(view: &mut View, mut fresh: View, blank: Blank) -> Result<(), Refusal>
-    requires name { blank.name ≡ L.name }
-    requires parts { blank.parts ≡ L.parts }
-    requires some { 0 < blank.parts }
+fn laid_over<L: Ledger>(
+    view: &mut View,
+    mut fresh: View,
+    steps: &mut Steps<L>,
+) -> Result<(), Refusal>
     ensures answer { result ≡ was_copied view.old fresh }
     ensures left { view.new ≡ laid_left result view.old fresh }
 {
-    match copy_into::<L>(view, &mut fresh, blank) {
+    match copied(view, &mut fresh, steps) {
         Ok(()) => {
             drop(mem::replace(view, fresh));
             Ok(())

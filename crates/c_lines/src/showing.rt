@@ -34,7 +34,8 @@ pub fn tell_line<L: Ledger>(
     requires some { 0 < blank.parts }
     ensures { IsToldInto text.now view.old view.new buffer.old needed.old result buffer.new needed.new }
 {
-    let told = shown_by::<L>(alloc, view, text, blank)?;
+    let mut steps = Steps::<L>::new(blank);
+    let told = shown_by(alloc, view, text, &mut steps)?;
     copy_out(told.taken(), buffer, needed)
 }
 
@@ -43,15 +44,12 @@ fn shown_by<L: Ledger>(
     alloc: Global,
     view: &mut View,
     text: &[u8],
-    blank: Blank,
+    steps: &mut Steps<L>,
 ) -> Result<ByteSink, Refusal>
-    requires name { blank.name ≡ L.name }
-    requires parts { blank.parts ≡ L.parts }
-    requires some { 0 < blank.parts }
     ensures { OnLine bytes_in commanded (line_taken is_tell text.now) view.old result view.new }
 {
     let line = line_of(alloc, text, TextOf::First)?;
-    let told = tell_command::<L>(alloc, view, &line, blank);
+    let told = tell_command(alloc, view, &line, steps);
     drop(line);
     told
 }
@@ -60,24 +58,19 @@ fn tell_command<L: Ledger>(
     alloc: Global,
     view: &mut View,
     line: &Line,
-    blank: Blank,
+    steps: &mut Steps<L>,
 ) -> Result<ByteSink, Refusal>
-    requires name { blank.name ≡ L.name }
-    requires parts { blank.parts ≡ L.parts }
-    requires some { 0 < blank.parts }
     ensures { OnLine bytes_in commanded (taken is_tell (sentence_of line.now)) view.old result view.new }
 {
     match line {
-        Line::Print(_) => told_by::<Print, L>(alloc, view, &Print, blank),
+        Line::Print(_) => told_by(alloc, view, &Print, steps),
         Line::PrintWindow { view: _, window } => {
-            told_by::<PrintWindow<'_>, L>(alloc, view, &PrintWindow { window }, blank)
+            told_by(alloc, view, &PrintWindow { window }, steps)
         }
-        Line::Counts(_) => told_by::<Counts, L>(alloc, view, &Counts, blank),
-        Line::Heat(_) => told_by::<Heat, L>(alloc, view, &Heat, blank),
-        Line::Layout(_) => told_by::<Layout, L>(alloc, view, &Layout, blank),
-        Line::Bytes { view: _, blob } => {
-            told_by::<Bytes<'_>, L>(alloc, view, &Bytes { blob }, blank)
-        }
+        Line::Counts(_) => told_by(alloc, view, &Counts, steps),
+        Line::Heat(_) => told_by(alloc, view, &Heat, steps),
+        Line::Layout(_) => told_by(alloc, view, &Layout, steps),
+        Line::Bytes { view: _, blob } => told_by(alloc, view, &Bytes { blob }, steps),
         Line::Advise {
             view: _,
             granule,
@@ -93,7 +86,7 @@ fn tell_command<L: Ledger>(
                 maps,
                 splits,
             };
-            told_by::<Advise<'_, '_>, L>(alloc, view, &work, blank)
+            told_by(alloc, view, &work, steps)
         }
         _ => Err(Refusal::OtherLine(TextOf::First)),
     }
@@ -104,17 +97,13 @@ pub fn told_by<W: Work, L: Ledger>(
     alloc: Global,
     view: &mut View,
     work: &W,
-    blank: Blank,
+    steps: &mut Steps<L>,
 ) -> Result<ByteSink, Refusal>
     requires stays { W.stays work.now ≡ true }
-    requires name { blank.name ≡ L.name }
-    requires parts { blank.parts ≡ L.parts }
-    requires some { 0 < blank.parts }
     ensures { Carried bytes_in (W.does work.now view.old) (all_left view.old) view.old result view.new }
 {
     let mut sink = ByteSink::new(alloc);
-    let mut steps = Steps::<L>::new(blank);
-    match work.run(alloc, view, &mut sink, &mut steps) {
+    match work.run(alloc, view, &mut sink, steps) {
         Ok(()) => Ok(sink),
         Err(fault) => Err(told_refusal(view, fault)),
     }

@@ -17,10 +17,6 @@ record AllGo {B : Type 0} (first : Tested B) (rest : Tested (List B)) (all : Lis
 all_go : {B : Type 0} (first : Tested B) (rest : Tested (List B)) (all : List B) → (first >>= (λ y. rest >>= (λ ys. Ok (y ∷ ys)))) ≡ Ok all → AllGo first rest all
 all_go first rest all e = grind arith
 
-behind : {B : Type 0} (first : Tested B) (rest : Tested (List B)) (one : B) (others all : List B) → first ≡ Ok one → rest ≡ Ok others → all ≡ one ∷ others
-    → (first >>= (λ y. rest >>= (λ ys. Ok (y ∷ ys)))) ≡ Ok all
-behind first rest one others all a b c = rw (a, b, c) refl
-
 stopped : {B : Type 0} (first : Tested B) (rest : Tested (List B)) (one : B) (fault : StepFault) → first ≡ Ok one → GivesUp rest fault
     → GivesUp (first >>= (λ y. rest >>= (λ ys. Ok (y ∷ ys)))) fault
 stopped first rest one fault a gives = rw a (GivesUp-then rest _ fault gives)

@@ -1,12 +1,6 @@
 -- New tables and their limits.
-use Rattle.command_checks.proofs.Imports.{◌≡◌, ℕ, ◌+◌, ◌-◌, ◌*◌, ◌<◌, ◌≤◌, ◌^◌, Bool, true, false, List, length, take, map, get_or, Ok, refl, sym, ap, ◌∙◌, arith, ◌||◌, lt-ltb, or_right, nat_tests, get_or-map, length-map, sum_by_more, indices, Fields, leaves, kinds_of, MapTerm, leaf_cells, layout_by, accepted, most_slots, zeros, StoreMode, Table, owners_of, leaf_count_of, no_tally, granules_for, IsOverLimits, Entry, ◌>>=◌, refused_if, made, zeros_of, blob_bits, live_bits, view_of, ViewEntry, Err, Tested, nat_lt}
+use Rattle.command_checks.proofs.Imports.{◌≡◌, ℕ, ◌+◌, ◌-◌, ◌*◌, ◌<◌, ◌≤◌, ◌^◌, Bool, true, false, List, length, take, map, get_or, Ok, refl, sym, ap, ◌∙◌, arith, ◌||◌, lt-ltb, or_right, nat_tests, get_or-map, length-map, sum_by_more, Fields, kinds_of, MapTerm, leaf_cells, layout_by, accepted, most_slots, StoreMode, Table, granules_for, IsOverLimits, Entry, ◌>>=◌, refused_if, made, zeros_of, blob_bits, live_bits, view_of, ViewEntry, Err, Tested, nat_lt}
 use Rattle.worlds.specs.declared.fault.CommandFault.TheVariants as fault
-
--- the table that a new view is
-pub table_new : (seen : Table) (mode : StoreMode) (fields : Fields) (extents : List ℕ) (term : MapTerm) → seen.mode ≡ mode → seen.fields ≡ fields → seen.extents ≡ extents → seen.mapping ≡ term
-    → seen.rows ≡ zeros (length (indices extents)) (length (leaves fields)) → seen.tally ≡ no_tally (seen.mapping) (owners_of seen) (leaf_count_of seen)
-    → seen ≡ zeros_of mode fields extents term
-table_new seen mode fields extents term m f e t z n = grind (arith, leaves)
 
 slots_within : (a b : ℕ) → (a < b → ⊥) → nat_lt a b ≡ false
 slots_within a b within = grind (arith, nat_tests)

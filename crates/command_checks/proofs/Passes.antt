@@ -1,15 +1,9 @@
 -- The leaves of a pass, path by path.
-use Rattle.command_checks.proofs.Imports.{◌≡◌, ℕ, zero, suc, ◌+◌, ◌-◌, ◌<◌, ◌≤◌, List, [], ◌∷◌, ◌++◌, length, take, get_or, append_assoc, refl, sym, ap, ◌∙◌, arith, range_with_len, append-nil, flat_map-append, joined, Fields, PathStep, leaves_at, leaves_under, ◌>>=◌, each, GivesUp, GivesUp-then, StepFault, Ok, Err, Tested}
+use Rattle.advisor.proofs.SteadyLaws.{range_cut}
+use Rattle.command_checks.proofs.Imports.{◌≡◌, ℕ, ◌+◌, ◌-◌, ◌<◌, ◌≤◌, List, [], ◌∷◌, ◌++◌, length, take, get_or, append_assoc, refl, sym, ap, ◌∙◌, arith, range_with_len, append-nil, flat_map-append, joined, Fields, PathStep, leaves_at, leaves_under, ◌>>=◌, each, GivesUp, GivesUp-then, StepFault, Ok, Err, Tested}
 use Rattle.command_checks.proofs.Each.{each_more, each_ends}
 
 -- a number more of a range
-range_more : (first n : ℕ) → range_with_len first (n + 1) ≡ range_with_len first n ++ (first + n) ∷ []
-range_more first zero = (let same : first ≡ first + 0 = omega arith in ap (λ (k : ℕ). k ∷ []) same)
-range_more first (suc n) =
-    let next : suc n + 1 ≡ suc (n + 1) = omega arith in
-    let same : first + 1 + n ≡ first + suc n = omega arith in
-    ap (range_with_len first) next ∙ ap (λ (xs : List ℕ). first ∷ xs) (range_more (first + 1) n ∙ ap (λ (k : ℕ). range_with_len (first + 1) n ++ k ∷ []) same)
-
 pub range_push : (numbers old after : List ℕ) (first number : ℕ) → first ≤ number → numbers ≡ old ++ range_with_len first (number - first) → after ≡ numbers ++ number ∷ []
     → after ≡ old ++ range_with_len first (number + 1 - first)
 range_push numbers old after first number low so_far push =
@@ -17,7 +11,7 @@ range_push numbers old after first number low so_far push =
     let here : first + n ≡ number = omega (arith, low) in
     let next : n + 1 ≡ number + 1 - first = omega (arith, low) in
     push ∙ ap (λ (xs : List ℕ). xs ++ number ∷ []) so_far ∙ append_assoc old (range_with_len first n) (number ∷ [])
-    ∙ ap (λ (k : ℕ). old ++ (range_with_len first n ++ k ∷ [])) (sym here) ∙ ap (λ (xs : List ℕ). old ++ xs) (sym (range_more first n)) ∙ ap (λ (k : ℕ). old ++ range_with_len first k) next
+    ∙ ap (λ (k : ℕ). old ++ (range_with_len first n ++ k ∷ [])) (sym here) ∙ ap (λ (xs : List ℕ). old ++ xs) (sym (range_cut first n 1)) ∙ ap (λ (k : ℕ). old ++ range_with_len first k) next
 
 -- the lists of paths that all name something
 record AreUnder (lists : Tested (List (List ℕ))) (leaves : List ℕ) : Type 0 where

@@ -14,9 +14,8 @@ term_ends fields text fault gives = GivesUp-then (leaf_of fields text.path) (λ 
 weighted_push : (texts : List TermText) (leaves : List ℕ) (text : TermText) (leaf : ℕ) → length leaves ≡ length texts
     → weighted_at (texts ++ text ∷ []) (leaves ++ leaf ∷ []) ≡ weighted_at texts leaves ++ placed_term text leaf ∷ []
 weighted_push [] [] text leaf same = refl
-weighted_push [] (other ∷ leaves) text leaf same = absurd (omega (arith, same))
-weighted_push (first ∷ texts) [] text leaf same = absurd (omega (arith, same))
 weighted_push (first ∷ texts) (other ∷ leaves) text leaf same = ap (λ (terms : List Weighted). placed_term first other ∷ terms) (weighted_push texts leaves text leaf (omega (arith, same)))
+weighted_push texts leaves text leaf same = absurd (omega (arith, same))
 
 pub weighted_more : (texts : List TermText) (leaves : List ℕ) (i : ℕ) (text : TermText) (leaf : ℕ) → i < length texts → length leaves ≡ i
     → weighted_at (take (i + 1) texts) (leaves ++ leaf ∷ []) ≡ weighted_at (take i texts) leaves ++ placed_term (get_or texts i text) leaf ∷ []
@@ -37,9 +36,7 @@ pub record AreFit (window : WindowOf) (texts : List TermText) (divisor : ℕ) : 
 passed : (reach weigh many long : Bool) → (refused_if (not reach) (BadStencil Reach) >>= (λ a. refused_if (not weigh) (BadStencil Weight) >>= (λ b. refused_if many (BadStencil Terms) >>= (λ c. refused_if long (BadStencil Rounds))))) ≡ Ok tt
     → (reach ≡ true) × (weigh ≡ true) × (many ≡ false)
 passed true true false long is = (refl, refl, refl)
-passed true true true long is = absurd (cc)
-passed true false many long is = absurd (cc)
-passed false weigh many long is = absurd (cc)
+passed reach weigh many long is = absurd (cc)
 
 pub are_fit : (window : WindowOf) (texts : List TermText) (divisor rounds : ℕ) → fit_terms window texts divisor rounds ≡ Ok tt → AreFit window texts divisor
 are_fit window texts divisor rounds is =
@@ -57,8 +54,6 @@ divides_some divisor divides =
 pub terms_able : (leaf_count : ℕ) (window : WindowOf) (terms : List Term) (texts : List TermText) (leaves : List ℕ) → map weighted terms ≡ weighted_at texts leaves
     → all_reach window texts ≡ true → all_weigh texts ≡ true → All (λ leaf. leaf < leaf_count) leaves → All (IsTermOf leaf_count window) terms
 terms_able leaf_count window [] texts leaves is reach weigh inside = All-nil (IsTermOf leaf_count window)
-terms_able leaf_count window (term ∷ terms) [] leaves is reach weigh inside = absurd (cc)
-terms_able leaf_count window (term ∷ terms) (text ∷ texts) [] is reach weigh inside = absurd (cc)
 terms_able leaf_count window (term ∷ terms) (text ∷ texts) (leaf ∷ leaves) is reach weigh inside =
     let here : weighted term ≡ placed_term text leaf = cc in
     let rest : map weighted terms ≡ weighted_at texts leaves = cc in
@@ -69,13 +64,13 @@ terms_able leaf_count window (term ∷ terms) (text ∷ texts) (leaf ∷ leaves)
       weight = ap (λ (w : Weighted). is_weight w.weight) here ∙ light.0;
       reach = ap (λ (w : Weighted). reaches window w.offsets) here ∙ near.0;
     }) (terms_able leaf_count window terms texts leaves rest near.1 light.1 (All-tail (λ leaf. leaf < leaf_count) leaf leaves inside))
+terms_able leaf_count window terms texts leaves is reach weigh inside = absurd (cc)
 
 pub terms_few : (terms : List Term) (texts : List TermText) (leaves : List ℕ) → map weighted terms ≡ weighted_at texts leaves → length terms ≤ length texts
 terms_few [] texts leaves is = omega arith
-terms_few (term ∷ terms) [] leaves is = absurd (cc)
-terms_few (term ∷ terms) (text ∷ texts) [] is = absurd (cc)
 terms_few (term ∷ terms) (text ∷ texts) (leaf ∷ leaves) is =
     let rest : map weighted terms ≡ weighted_at texts leaves = cc in omega (arith, terms_few terms texts leaves rest)
+terms_few terms texts leaves is = absurd (cc)
 
 -- one term more
 pub terms_more : (terms after : List Term) (texts : List TermText) (leaves : List ℕ) (i : ℕ) (text : TermText) (term : Term) → i < length texts → i < length leaves → after ≡ terms ++ term ∷ []

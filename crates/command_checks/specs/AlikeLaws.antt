@@ -25,23 +25,16 @@ same_kind kind other e = sym (kind_back kind) ∙ ap kind_by (eqb-true (kind_num
 mutual
   tree_is : (tree other : Tree) → same_tree tree other ≡ true → tree ≡ other
   tree_is (Single kind) (Single other) e = ap (λ k. Single k) (same_kind kind other e)
-  tree_is (Single kind) (Record others) e = absurd (false≢true e)
-  tree_is (Single kind) (Array len other) e = absurd (false≢true e)
-  tree_is (Record fields) (Single other) e = absurd (false≢true e)
   tree_is (Record fields) (Record others) e = ap (λ f. Record f) (fields_are fields others e)
-  tree_is (Record fields) (Array len other) e = absurd (false≢true e)
-  tree_is (Array len element) (Single other) e = absurd (false≢true e)
-  tree_is (Array len element) (Record others) e = absurd (false≢true e)
   tree_is (Array len element) (Array other_len other) e =
       let parts = both (nat_eq len other_len) (same_tree element other) e in
       let lens : len ≡ other_len = eqb-true len other_len parts.0 in
       let elements : element ≡ other = tree_is element other parts.1 in
       ap (λ n. Array n element) lens ∙ ap (λ t. Array other_len t) elements
+  tree_is tree other e = absurd (false≢true e)
 
   fields_are : (fields others : Fields) → same_fields fields others ≡ true → fields ≡ others
   fields_are End End e = refl
-  fields_are End (Field name tree rest) e = absurd (false≢true e)
-  fields_are (Field name tree rest) End e = absurd (false≢true e)
   fields_are (Field name tree rest) (Field other_name other more) e =
       let parts = both (pointwise nat_eq name other_name) (same_tree tree other && same_fields rest more) e in
       let below = both (same_tree tree other) (same_fields rest more) parts.1 in
@@ -49,6 +42,7 @@ mutual
       let trees : tree ≡ other = tree_is tree other below.0 in
       let rests : rest ≡ more = fields_are rest more below.1 in
       ap (λ n. Field n tree rest) names ∙ ap (λ t. Field other_name t rest) trees ∙ ap (λ f. Field other_name other f) rests
+  fields_are fields others e = absurd (false≢true e)
 
 mutual
   tree_self : (tree : Tree) → same_tree tree tree ≡ true

@@ -1,21 +1,13 @@
 -- Laws of mappings without names, and of the rows that words ask for.
 use Rattle.std.specs.Prelude.{◌≡◌, ◌⊎◌, ℕ, zero, suc, ◌<◌, ◌/◌, ◌%◌, Bool, true, false, not, nat_lt, count_by, List, length, Option, Some, None, refl, Ok, Err, IsSome, IfSome, ◌==◌, ◌&&◌, if◌then◌else◌}
-use Rattle.command_checks.specs.Imports.{inl, inr, sym, ap, ◌∙◌, arith, ⊎_elim, false≢true, cases_Bool, nat_tests, ExtentWord, Bad, indices, product, length-indices, is_rows, HasRows, IsShape, bad_extents, extents_for, fixed_product, product_divided, product_fixed, both, PathStep, Term, Split, Byteswap, Bytesplit, Change, Count, Heat, Named, IsNameless, resolved, BadExtents}
+use Rattle.command_checks.specs.Imports.{inl, inr, sym, ap, ◌∙◌, arith, ⊎_elim, cases_Bool, nat_tests, ExtentWord, Bad, indices, product, length-indices, is_rows, HasRows, IsShape, bad_extents, extents_for, fixed_product, product_divided, product_fixed, PathStep, Term, Split, IsNameless, resolved, BadExtents}
 pub use Rattle.blob_file.specs.HeaderLaws.{nameless_built}
+use Rattle.map_any.proofs.Built.{built_nameless}
 use Rattle.command_checks.specs.Inner.Bases.{is_nameless, rows_for}
 
 -- a mapping without names can be checked
 pub nameless_term : (term : Term) → is_nameless term ≡ true → IsNameless term
-nameless_term (Split path first rest) e =
-    let names = both (is_nameless first) (is_nameless rest) e in
-    (nameless_term first names.0, nameless_term rest names.1)
-nameless_term (Byteswap inner) e = nameless_term inner e
-nameless_term (Bytesplit inner) e = nameless_term inner e
-nameless_term (Change from to inner) e = nameless_term inner e
-nameless_term (Count inner) e = nameless_term inner e
-nameless_term (Heat granule inner) e = nameless_term inner e
-nameless_term (Named name) e = absurd (false≢true e)
-nameless_term other e = tt
+nameless_term term e = built_nameless term (nameless_built term e)
 
 -- two mappings without names, as the two sides of a split
 pub nameless_split : (path : List PathStep) (first rest : Term) → is_nameless first ≡ true → is_nameless rest ≡ true → is_nameless (Split path first rest) ≡ true
@@ -28,16 +20,20 @@ rows_for_some words rows has = grind (arith, nat_lt, count_by, nat_tests)
 some_not_none : (n : ℕ) → nat_lt 0 n ≡ true → (n == 0) ≡ false
 some_not_none n e = grind (arith, nat_tests)
 
+-- rows that are given stay
+rows_for_given : (words : List ExtentWord) (rows : ℕ) → rows_for words (Some rows) ≡ Some rows
+rows_for_given words rows = ⊎_elim
+    (λ (e : nat_lt 0 (count_by is_rows words) ≡ true). rw e refl)
+    (λ (e : nat_lt 0 (count_by is_rows words) ≡ false). rw e refl)
+    (cases_Bool (nat_lt 0 (count_by is_rows words)))
+
 -- and it changes nothing
 pub rows_for_same : (words : List ExtentWord) (rows : Option ℕ) → resolved words (rows_for words rows) ≡ resolved words rows
 rows_for_same words None = ⊎_elim
     (λ (e : nat_lt 0 (count_by is_rows words) ≡ true). let none = some_not_none (count_by is_rows words) e in rw (e, none) refl)
     (λ (e : nat_lt 0 (count_by is_rows words) ≡ false). rw e refl)
     (cases_Bool (nat_lt 0 (count_by is_rows words)))
-rows_for_same words (Some n) = ⊎_elim
-    (λ (e : nat_lt 0 (count_by is_rows words) ≡ true). rw e refl)
-    (λ (e : nat_lt 0 (count_by is_rows words) ≡ false). rw e refl)
-    (cases_Bool (nat_lt 0 (count_by is_rows words)))
+rows_for_same words (Some n) = ap (resolved words) (rows_for_given words n)
 
 -- the first cause that refuses extents, or the extents
 pub resolves : (words : List ExtentWord) (rows : Option ℕ) (extents : List ℕ) → bad_extents words rows ≡ None → extents ≡ extents_for words rows → resolved words rows ≡ Ok extents
@@ -83,9 +79,3 @@ rows_are words None extents shape none is = tt
 rows_are words (Some rows) extents shape none is =
     let same : rows_for words (Some rows) ≡ Some rows = rows_for_given words rows in
     length-indices extents ∙ ap product (is ∙ ap (extents_for words) same) ∙ rows_of_shape words rows shape (rw same at none)
-  where
-    rows_for_given : (words : List ExtentWord) (rows : ℕ) → rows_for words (Some rows) ≡ Some rows
-    rows_for_given words rows = ⊎_elim
-        (λ (e : nat_lt 0 (count_by is_rows words) ≡ true). rw e refl)
-        (λ (e : nat_lt 0 (count_by is_rows words) ≡ false). rw e refl)
-        (cases_Bool (nat_lt 0 (count_by is_rows words)))

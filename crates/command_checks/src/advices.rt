@@ -129,13 +129,13 @@ fn fit_advice(granule: u32, passes: usize, candidates: usize) -> Result<(), Step
     ensures { Gives (λ done. tt) result (fit_advice granule passes candidates) }
 {
     if !is_granule(granule) {
-        return Err(bad_advice(BadAdvice::Granule));
+        return Err(StepFault::Command(CommandFault::BadAdvice(BadAdvice::Granule)));
     }
     if passes > MAX_LISTED {
-        return Err(bad_advice(BadAdvice::Passes));
+        return Err(StepFault::Command(CommandFault::BadAdvice(BadAdvice::Passes)));
     }
     if candidates > MAX_LISTED {
-        return Err(bad_advice(BadAdvice::Candidates));
+        return Err(StepFault::Command(CommandFault::BadAdvice(BadAdvice::Candidates)));
     }
     Ok(())
 }
@@ -147,10 +147,4 @@ fn is_granule(granule: u32) -> bool
         granule,
         1 | 2 | 4 | 8 | 16 | 32 | 64 | 128 | 256 | 512 | 1024 | 2048 | 4096
     )
-}
-
-fn bad_advice(bad: BadAdvice) -> StepFault
-    ensures { result ≡ StepFault.Command (CommandFault.BadAdvice bad) }
-{
-    StepFault::Command(CommandFault::BadAdvice(bad))
 }

@@ -108,21 +108,15 @@ fn fits(lanes: u32, wide: bool, constants: bool) -> Result<(), StepFault>
     ensures constants { OnOk result (constants ≡ true) }
 {
     if !are_lanes(lanes) {
-        return Err(bad_kernel(BadKernel::Lanes));
+        return Err(StepFault::Command(CommandFault::BadKernel(BadKernel::Lanes)));
     }
     if wide {
-        return Err(bad_kernel(BadKernel::Wide));
+        return Err(StepFault::Command(CommandFault::BadKernel(BadKernel::Wide)));
     }
     if !constants {
-        return Err(bad_kernel(BadKernel::Constant));
+        return Err(StepFault::Command(CommandFault::BadKernel(BadKernel::Constant)));
     }
     Ok(())
-}
-
-fn bad_kernel(bad: BadKernel) -> StepFault
-    ensures { result ≡ StepFault.Command (CommandFault.BadKernel bad) }
-{
-    StepFault::Command(CommandFault::BadKernel(bad))
 }
 
 fn are_lanes(lanes: u32) -> bool

@@ -36,18 +36,12 @@ pub fn bound(alloc: Global, view: &View, expr: &Expr) -> Result<Bound, StepFault
 {
     match bind(alloc, expr, view.schema(), view.extents().rank()) {
         Ok(bound) => Ok(bound),
-        Err(fault) => match fault {
-            BindFault::UnknownPath(path) => Err(unknown_path(path)),
-            BindFault::UnknownIndex(dimension) => Err(unknown_index(dimension)),
-            BindFault::NoMemory => Err(StepFault::NoMemory),
-        },
+        Err(BindFault::UnknownPath(path)) => Err(unknown_path(path)),
+        Err(BindFault::UnknownIndex(dimension)) => Err(StepFault::Command(CommandFault::Unknown(
+            UnknownName::Index(dimension),
+        ))),
+        Err(BindFault::NoMemory) => Err(StepFault::NoMemory),
     }
-}
-
-fn unknown_index(dimension: u32) -> StepFault
-    ensures { result ≡ StepFault.Command (CommandFault.Unknown (UnknownName.Index dimension)) }
-{
-    StepFault::Command(CommandFault::Unknown(UnknownName::Index(dimension)))
 }
 
 /// The path text of a leaf; no text where there is no leaf of this number.

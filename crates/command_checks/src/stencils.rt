@@ -71,22 +71,16 @@ fn check_terms(
     ensures { Gives (λ done. tt) result (fit_terms window.now texts.now divisor rounds) }
 {
     if !all_reach(window, spans, texts) {
-        return Err(bad_stencil(BadStencil::Reach));
+        return Err(StepFault::Command(CommandFault::BadStencil(BadStencil::Reach)));
     }
     if !all_weigh(texts) || !is_divisor(divisor) {
-        return Err(bad_stencil(BadStencil::Weight));
+        return Err(StepFault::Command(CommandFault::BadStencil(BadStencil::Weight)));
     }
     if texts.len() > MAX_TERMS {
-        return Err(bad_stencil(BadStencil::Terms));
+        return Err(StepFault::Command(CommandFault::BadStencil(BadStencil::Terms)));
     }
     if rounds > MAX_ROUNDS {
-        return Err(bad_stencil(BadStencil::Rounds));
+        return Err(StepFault::Command(CommandFault::BadStencil(BadStencil::Rounds)));
     }
     Ok(())
-}
-
-fn bad_stencil(bad: BadStencil) -> StepFault
-    ensures { result ≡ StepFault.Command (CommandFault.BadStencil bad) }
-{
-    StepFault::Command(CommandFault::BadStencil(bad))
 }

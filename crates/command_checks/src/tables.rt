@@ -124,11 +124,9 @@ pub fn made_beside(
             }
             Ok(view)
         }
-        Err(fault) => match fault {
-            MakeView::Bad(bad) => Err(StepFault::Command(CommandFault::BadMapping(bad))),
-            MakeView::TooBig => Err(StepFault::Command(CommandFault::TooBig)),
-            MakeView::NoMemory => Err(StepFault::NoMemory),
-        },
+        Err(MakeView::Bad(bad)) => Err(StepFault::Command(CommandFault::BadMapping(bad))),
+        Err(MakeView::TooBig) => Err(StepFault::Command(CommandFault::TooBig)),
+        Err(MakeView::NoMemory) => Err(StepFault::NoMemory),
     }
 }
 

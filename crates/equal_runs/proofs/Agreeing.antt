@@ -1,5 +1,5 @@
 -- Outcomes that agree, or of which one is refused by a fault of how tables lie.
-use Rattle.equal_runs.proofs.Imports.{◌≡◌, Bool, true, false, Option, Some, None, Result, Ok, Err, subst, Outcome, ◌>>=◌, refused_if, refused_by, ok_or, CommandFault, is_refused, is_of_layout, Tested, Stop, Fault, Unread, sure}
+use Rattle.equal_runs.proofs.Imports.{◌≡◌, Bool, true, false, Option, Some, None, Result, Ok, Err, refl, subst, Outcome, ◌>>=◌, refused_if, refused_by, ok_or, CommandFault, is_refused, is_of_layout, Tested, Stop, Fault, Unread, sure}
 
 -- both give things that are related so, or end alike, or one ends by an error of which its test holds
 pub data AgreeBy {A E : Type 0} (told others : E → Bool) (R : A → A → Type 0) : Result A E → Result A E → Type 0 where
@@ -32,13 +32,20 @@ Any x = Unit {0}
 abbrev pub Both : {A : Type 0} → A → A → Type 0
 Both x y = Unit {0}
 
+-- what is made of both agrees, where each error stays one of which its test holds
+pub mapped : {A B E F : Type 0} {told others : E → Bool} {told_then others_then : F → Bool} {R : A → A → Type 0} {S : B → B → Type 0} {x y : Result A E} (as_fault : E → F) (f g : Result A E → Result B F)
+    → ((e : E) → f (Err e) ≡ Err (as_fault e)) → ((e : E) → g (Err e) ≡ Err (as_fault e)) → ((e : E) → told e ≡ true → told_then (as_fault e) ≡ true)
+    → ((e : E) → others e ≡ true → others_then (as_fault e) ≡ true) → AgreeBy told others R x y
+    → ((a b : A) → R a b → AgreeBy told_then others_then S (f (Ok a)) (g (Ok b))) → AgreeBy told_then others_then S (f x) (g y)
+mapped as_fault f g is also holds holds_also (go a b r) next = next a b r
+mapped as_fault f g is also holds holds_also (fault e) next = rw (is e, also e) (fault (as_fault e))
+mapped as_fault f g is also holds holds_also (first e z told_is) next = rw (is e) (first (as_fault e) (g z) (holds e told_is))
+mapped as_fault f g is also holds holds_also (second z e told_is) next = rw (also e) (second (f z) (as_fault e) (holds_also e told_is))
+
 module _ {E : Type 0} {told others : E → Bool} where
-  pub bind : {A B : Type 0} (R : A → A → Type 0) (S : B → B → Type 0) (x y : Result A E) (f g : A → Result B E) → AgreeBy told others R x y
+  pub bind : {A B : Type 0} {R : A → A → Type 0} {S : B → B → Type 0} {x y : Result A E} {f g : A → Result B E} → AgreeBy told others R x y
       → ((a b : A) → R a b → AgreeBy told others S (f a) (g b)) → AgreeBy told others S (x >>= f) (y >>= g)
-  bind R S x y f g (go a b r) next = next a b r
-  bind R S x y f g (fault e) next = fault e
-  bind R S x y f g (first e z is) next = first e (z >>= g) is
-  bind R S x y f g (second z e is) next = second (z >>= f) e is
+  bind {f = f} {g = g} agree next = mapped (λ e. e) (λ z. z >>= f) (λ z. z >>= g) (λ e. refl) (λ e. refl) (λ e is. is) (λ e is. is) agree next
 
   -- one thing before both
   pub before : {A B : Type 0} (S : B → B → Type 0) (x : Result A E) (f g : A → Result B E) → ((a : A) → AgreeBy told others S (f a) (g a)) → AgreeBy told others S (x >>= f) (x >>= g)
@@ -52,24 +59,18 @@ module _ {E : Type 0} {told others : E → Bool} where
 
   -- by less of what they go to
   pub weaker : {A : Type 0} (R S : A → A → Type 0) (x y : Result A E) → AgreeBy told others R x y → ((a b : A) → R a b → S a b) → AgreeBy told others S x y
-  weaker R S x y (go a b r) so = go a b (so a b r)
-  weaker R S x y (fault e) so = fault e
-  weaker R S x y (first e z is) so = first e z is
-  weaker R S x y (second z e is) so = second z e is
+  weaker R S x y agree so = mapped (λ e. e) (λ z. z) (λ z. z) (λ e. refl) (λ e. refl) (λ e is. is) (λ e is. is) agree (λ a b r. go a b (so a b r))
 
 module _ {m o : Bool} where
   -- what reads no file
   pub surely : {A : Type 0} (R : A → A → Type 0) (x y : Tested A) → Agree m o R x y → EndAlike m o R (sure x) (sure y)
-  surely R x y (go a b r) = go a b r
-  surely R x y (fault e) = fault _
-  surely R x y (first e z is) = first (Fault e) (sure z) is
-  surely R x y (second z e is) = second (sure z) (Fault e) is
+  surely R x y agree = mapped Fault sure sure (λ e. refl) (λ e. refl) (λ e is. is) (λ e is. is) agree (λ a b r. go a b r)
 
   -- two things of which each is refused by such a fault, if at all
-  pub both_told : {A : Type 0} (P Q : A → Type 0) (R : A → A → Type 0) (x y : Tested A) → Told m P x → Told o Q y → ((a b : A) → P a → Q b → R a b) → Agree m o R x y
-  both_told P Q R x y (told f is) other next = first f y is
-  both_told P Q R x y (goes a p) (goes b q) next = go a b (next a b p q)
-  both_told P Q R x y (goes a p) (told f is) next = second (Ok a) f is
+  pub both_told : {A : Type 0} {P Q : A → Type 0} {R : A → A → Type 0} {x y : Tested A} → Told m P x → Told o Q y → ((a b : A) → P a → Q b → R a b) → Agree m o R x y
+  both_told {y = y} (told f is) other next = first f y is
+  both_told (goes a p) (goes b q) next = go a b (next a b p q)
+  both_told (goes a p) (told f is) next = second (Ok a) f is
 
 module _ (m : Bool) where
   pub told_bind : {A B : Type 0} (P : A → Type 0) (Q : B → Type 0) (x : Tested A) (f : A → Tested B) → Told m P x → ((a : A) → P a → Told m Q (f a)) → Told m Q (x >>= f)

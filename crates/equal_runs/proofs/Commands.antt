@@ -1,11 +1,11 @@
 -- The commands that change or read a table, done to alike worlds.
-use Rattle.equal_runs.proofs.Imports.{◌≡◌, ℕ, Bool, true, ℤ, List, [], ◌∷◌, ◌++◌, length, Option, Some, None, Result, Ok, refl, sym, ap, subst, ◌∙◌, not, slice_index_or, indices, place_in, PathStep, kinds_of, texts_of, MapTerm, holds_by, hold_at, with_entry, Keeping, kind_at, Access, Write, Tally, all_accesses, Read, LeafCounts, counts_text, StoreFault, Term, Value, Assignment, KernelText, Table, leaf_count_of, answer_of, kept_of, after_stores, Setting, updated_rows, value_log, rows_log, UpdateFault, UpdateKind, KernelFault, Kernel, World, found, Done, stores, tells, done_to, with_table, on_view, ◌>>=◌, LeftOf, Left, known, some_or, refused_if, refused_by, ok_or, leaf_of, bound, bound_filter, bound_sets, each_once, leaves_of, text_of_leaf, storable, store_fault, value_on, inside, assigned, updated, update_fault, kind_fault, are_alike, all_read, copied, copy, kernel_outcome, fit_kernel, kernel_run, number_text, kernel_row_fault, counts, drop_view, Mismatch, NotCounted, is_of_layout, ⊤, content_of, Work, Reads, Shows, Changes, left_as, does, OnView, worked, Tested, arith}
+use Rattle.equal_runs.proofs.Imports.{◌≡◌, ℕ, Bool, true, ℤ, List, [], ◌∷◌, ◌++◌, length, Option, Some, None, Result, Ok, refl, sym, ap, subst, ◌∙◌, not, slice_index_or, indices, place_in, PathStep, kinds_of, texts_of, MapTerm, holds_by, hold_at, with_entry, Keeping, kind_at, Access, Write, Tally, all_accesses, Read, LeafCounts, counts_text, StoreFault, Term, Value, Assignment, KernelText, Table, leaf_count_of, answer_of, kept_of, after_stores, Setting, updated_rows, value_log, rows_log, UpdateFault, UpdateKind, KernelFault, Kernel, World, Done, stores, tells, done_to, with_table, on_view, ◌>>=◌, LeftOf, Left, known, some_or, refused_if, ok_or, leaf_of, bound, bound_filter, bound_sets, each_once, leaves_of, text_of_leaf, storable, store_fault, value_on, inside, assigned, updated, update_fault, kind_fault, are_alike, all_read, copied, copy, kernel_outcome, fit_kernel, kernel_run, number_text, kernel_row_fault, counts, drop_view, Mismatch, NotCounted, is_of_layout, ⊤, content_of, Work, Reads, Shows, left_as, does, OnView, worked, Tested, arith}
 use Rattle.row_updates.specs.declared.fault.UpdateKind.TheVariants as update_kind
 use Rattle.lane_kernels.specs.Kernels as kernels
 use Rattle.lane_kernels.specs.Logs as kernel_logs
-use Rattle.equal_runs.proofs.Agreeing.{Agree, go, first, second, bind, before, both_told, Both}
-use Rattle.equal_runs.proofs.Answers.{Answers, is_narrow, store_answers, Given, ok_agree, by_agree}
-use Rattle.equal_runs.proofs.Entries.{At, known_agree, entries_replaced, entries_removed}
+use Rattle.equal_runs.proofs.Agreeing.{Agree, go, first, second, bind, before, both_told}
+use Rattle.equal_runs.proofs.Answers.{Answers, is_narrow, store_answers, ok_agree, by_agree}
+use Rattle.equal_runs.proofs.Entries.{known_agree, entries_replaced, entries_removed}
 use Rattle.equal_runs.proofs.Kernels.{is_narrow_kernel, kernel_causes}
 use Rattle.equal_runs.proofs.Tables.{AlikeTables, AlikeWorlds, AlikeAlways, of_mapping, of_both, rewritten_alike, with_written, written_under, rows_told}
 use Rattle.equal_runs.proofs.TallyCounts.{SameCounts}
@@ -22,9 +22,7 @@ narrow_update : (table : Table) (n : Bool) (e : UpdateFault) → is_narrow_updat
 narrow_update table n e is = of_kind e.kind is where
   of_kind : (kind : UpdateKind) → is_narrow_update (record { row = e.row; kind = kind }) ≡ true → is_of_layout n (kind_fault table.fields e.row kind) ≡ true
   of_kind (update_kind.Narrow leaf) is = refl
-  of_kind update_kind.Overflow is = absurd (cc)
-  of_kind update_kind.DivideByZero is = absurd (cc)
-  of_kind (update_kind.Range leaf) is = absurd (cc)
+  of_kind kind is = absurd (cc)
 
 narrow_run : (table : Table) (n : Bool) (e : KernelFault) → is_narrow_kernel e ≡ true → is_of_layout n (kernel_row_fault table.fields e) ≡ true
 narrow_run table n e is = grind arith
@@ -68,8 +66,7 @@ module _ (m o : Bool) (table : Table) (mapping : MapTerm) (tally : Tally) (same 
           → Same m o (storable table row leaf number >>= (λ kept. Ok (stores (with_entry table.rows row leaf kept) log)))
           (storable (under table mapping tally) row leaf number >>= (λ kept. Ok (stores (with_entry table.rows row leaf kept) log)))
       stored leaf row number log =
-          bind (Given (Unit {0}) _ _) SameDone (storable table row leaf number) (storable (under table mapping tally) row leaf number) _ _
-          (ok_agree m o is_narrow (store_fault row (text_of_leaf table.fields leaf)) _ _ (narrow_store row (text_of_leaf table.fields leaf)) (answers_under leaf number))
+          bind (ok_agree m o is_narrow (store_fault row (text_of_leaf table.fields leaf)) _ _ (narrow_store row (text_of_leaf table.fields leaf)) (answers_under leaf number))
           (λ kept others given. go _ _ (ap (λ (number : ℤ). stores (with_entry table.rows row leaf number) log) (given.same tt)))
 
   module _ (test : Option (Term ℕ)) (settings : List Setting) where
@@ -86,8 +83,7 @@ module _ (m o : Bool) (table : Table) (mapping : MapTerm) (tally : Tally) (same 
     updated_agree_of : Same m o (ok_or (update_fault table.fields) (new_rows table) >>= (λ rows. Ok (stores rows (update_log table))))
         (ok_or (update_fault table.fields) (new_rows (under table mapping tally)) >>= (λ rows. Ok (stores rows (update_log (under table mapping tally)))))
     updated_agree_of =
-        bind (Given (Unit {0}) _ _) SameDone (ok_or (update_fault table.fields) (new_rows table)) (ok_or (update_fault table.fields) (new_rows (under table mapping tally))) _ _
-        (ok_agree m o is_narrow_update (update_fault table.fields) _ _ (narrow_update table)
+        bind (ok_agree m o is_narrow_update (update_fault table.fields) _ _ (narrow_update table)
         (subst (λ (keep : Keeping). Answers is_narrow_update (Unit {0}) (new_rows table) (updated_rows (answer_of (under table mapping tally)) keep test settings table.extents table.rows (length table.rows)))
         (sym same.kept)
         (rows_answers (kept_of table) (answer_of table) (answer_of (under table mapping tally)) answers_under test settings table.extents table.rows (length table.rows))))
@@ -115,9 +111,7 @@ module _ (m o : Bool) (table : Table) (mapping : MapTerm) (tally : Tally) (same 
   ran_agree text lanes = before SameDone (fit_kernel table.fields text lanes) _ _ ran where
     ran : (fit : Kernel) → Same m o (kernel_outcome table fit) (kernel_outcome (under table mapping tally) fit)
     ran fit =
-        bind Both SameDone (refused_by (kernel_row_fault table.fields) (kernels.kernel_fault (answer_of table) fit table.rows))
-        (refused_by (kernel_row_fault table.fields) (kernels.kernel_fault (answer_of (under table mapping tally)) fit table.rows)) _ _
-        (by_agree m o is_narrow_kernel (kernel_row_fault table.fields) _ _ (narrow_run table)
+        bind (by_agree m o is_narrow_kernel (kernel_row_fault table.fields) _ _ (narrow_run table)
         (kernel_causes (answer_of table) (answer_of (under table mapping tally)) answers_under fit table.rows))
         (λ done other p. go _ _ (ap (λ (keep : Keeping). ran_by keep fit) same.kept))
 
@@ -135,13 +129,12 @@ module _ (m o : Bool) (table : Table) (mapping : MapTerm) (tally : Tally) (same 
   -- what reads gets the same from both
   reads_agree : (work : Work) → IsReading work → Same m o (does work table) (does work (under table mapping tally))
   reads_agree (Reads command) is = before SameDone (command (content_of table)) _ _ (λ told. go _ _ refl)
-  reads_agree (Shows command) is = absurd is
-  reads_agree (Changes command) is = absurd is
+  reads_agree work is = absurd is
 
   -- the same is done to both
   done_agree : (x y : Tested Done) → Same m o x y → Agree m o AlikeDone (done_to table x) (done_to (under table mapping tally) y)
   done_agree x y agree =
-      bind SameDone AlikeDone x y _ _ agree
+      bind agree
       (λ a b is. go _ _ (subst (λ (d : Done). AlikeDone (record { held = after_stores table a.rows a.log; text = a.text }) (record { held = after_stores (under table mapping tally) d.rows d.log; text = d.text }))
       (sym is) (record { tables = rewritten_alike table mapping tally same a.rows a.log; text = refl })))
 
@@ -150,8 +143,7 @@ module _ (m o : Bool) (table : Table) (mapping : MapTerm) (tally : Tally) (same 
   unfolding copied
   copied_agree source from counted_from =
       before AlikeTables (refused_if (not (are_alike source table)) Mismatch) _ _ (λ alike.
-      both_told (λ (t : Table). t ≡ with_written table source.rows) (λ (t : Table). t ≡ with_written (under table mapping tally) source.rows) AlikeTables _ _
-      (rows_told m table source.rows) (rows_told o (under table mapping tally) source.rows)
+      both_told (rows_told m table source.rows) (rows_told o (under table mapping tally) source.rows)
       (of_both AlikeTables (with_written table source.rows) (with_written (under table mapping tally) source.rows) (written_under table mapping tally same source.rows)))
 
   -- each value is read once
@@ -181,7 +173,7 @@ module _ (m o : Bool) (world other : World) (alike : AlikeWorlds world other) wh
       → ((table : Table) (mapping : MapTerm) (tally : Tally) → AlikeTables table (under table mapping tally) → Agree m o AlikeAlways (f table) (g (under table mapping tally)))
       → Agree m o AlikeAlways (known name world.views >>= f) (known name other.views >>= g)
   on_table name f g each =
-      bind (At AlikeTables (found name world.views) (found name other.views)) AlikeAlways _ _ f g (known_agree m o AlikeTables name world.views other.views alike.views)
+      bind (known_agree m o AlikeTables name world.views other.views alike.views)
       (λ a b at. of_mapping (λ (t : Table). Agree m o AlikeAlways (f a) (g t)) a b at.alike (each a))
 
   -- a command on a view agrees with another where it does to a table what the other does to that table under another mapping
@@ -189,8 +181,7 @@ module _ (m o : Bool) (world other : World) (alike : AlikeWorlds world other) wh
   unfolding on_view
   view_agree name command changed each =
       on_table name _ _ (λ table mapping tally same.
-      bind AlikeDone AlikeAlways (done_to table (command table)) (done_to (under table mapping tally) (changed (under table mapping tally))) _ _
-      (done_agree m o table mapping tally same (command table) (changed (under table mapping tally)) (each table mapping tally same))
+      bind (done_agree m o table mapping tally same (command table) (changed (under table mapping tally)) (each table mapping tally same))
       (λ a b done. go _ _ (record { worlds = λ always also. with_agree world other alike name a.held b.held done.tables; text = done.text })))
 
   pub worked_agree : (line changed : Option OnView) → AlikeLines m o line changed → Agree m o AlikeAlways (worked world line) (worked other changed)
@@ -212,5 +203,5 @@ copy_agree m o world other alike name target =
     let read_other = with_table other name (all_read changed) in
     let alike_read : AlikeWorlds read read_other = with_agree world other alike name _ _ (read_alike m o source from counted_from same) in
     on_table m o read read_other alike_read target _ _ (λ table to tally same_to.
-    bind AlikeTables AlikeAlways (copied source table) (copied changed (under table to tally)) _ _ (copied_agree m o table to tally same_to source from counted_from)
+    bind (copied_agree m o table to tally same_to source from counted_from)
     (λ a b alike_new. go _ _ (record { worlds = λ always also. with_agree read read_other alike_read target a b alike_new; text = refl }))))

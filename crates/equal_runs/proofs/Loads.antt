@@ -1,9 +1,9 @@
 -- What a dataset answers, by how its leaves are held: one table where `Alike` says that their holds keep the same numbers.
-use Rattle.equal_runs.proofs.Imports.{◌≡◌, ℕ, suc, Bool, true, false, ℤ, List, [], ◌∷◌, length, Option, Some, None, Result, Ok, Err, arith, slice_get, LeafType, Hold, hold_at, StoreMode, kind_at, kept_or, store_answer, StoreFault, Place, Leaf, the_field, the_number, number_behind_sign, unspaced, refusal, taken, value_at, row_values, table_from, with_columns, columns_of, header_record, records_behind, dataset_table, RowFault, ShortRow, Number, ◌+◌}
+use Rattle.equal_runs.proofs.Imports.{◌≡◌, ℕ, suc, Bool, true, false, ℤ, List, [], ◌∷◌, length, Option, Some, None, Result, Ok, Err, refl, arith, slice_get, LeafType, Hold, hold_at, StoreMode, kind_at, kept_or, store_answer, StoreFault, Place, Leaf, the_field, the_number, number_behind_sign, unspaced, refusal, taken, value_at, row_values, table_from, with_columns, columns_of, header_record, records_behind, dataset_table, RowFault, ShortRow, Number, ◌+◌}
 use Rattle.csv_rows.specs.Datasets.{◌>>=◌}
 use Rattle.csv_rows.specs.declared.fault.RowFault.TheVariants.{Narrow}
 use Rattle.equal_runs.proofs.Answers.{Answers, equal, is_narrow, store_answers}
-use Rattle.equal_runs.proofs.Agreeing.{go, fault as fails, first, second}
+use Rattle.equal_runs.proofs.Agreeing.{go, fault as fails, mapped}
 
 abbrev pub is_narrow_row : RowFault → Bool
 is_narrow_row (Narrow row leaf) = true
@@ -12,10 +12,7 @@ is_narrow_row _ = false
 -- one thing after another, and one thing before both
 bind : {A B Alike : Type 0} (x y : Result A RowFault) (f g : A → Result B RowFault) → Answers is_narrow_row Alike x y
     → ((a b : A) → (Alike → b ≡ a) → Answers is_narrow_row Alike (f a) (g b)) → Answers is_narrow_row Alike (x >>= f) (y >>= g)
-bind x y f g (go a b same) next = next a b same
-bind x y f g (fails e) next = fails e
-bind x y f g (first e z is) next = first e (z >>= g) is
-bind x y f g (second z e is) next = second (z >>= f) e is
+bind x y f g agree next = mapped (λ e. e) (λ z. z >>= f) (λ z. z >>= g) (λ e. refl) (λ e. refl) (λ e is. is) (λ e is. is) agree next
 
 before : {A B Alike : Type 0} (x : Result A RowFault) (f g : A → Result B RowFault) → ((a : A) → Answers is_narrow_row Alike (f a) (g a)) → Answers is_narrow_row Alike (x >>= f) (x >>= g)
 before (Ok a) f g next = next a
@@ -41,11 +38,10 @@ leaves_with : {Alike : Type 0} (mode : StoreMode) (columns : List ℕ) (kinds : 
     → (Alike → (leaf : ℕ) → KeepAlike mode (kind_at kinds leaf) (hold_at holds leaf) (hold_at held leaf)) → Leaves Alike (with_columns mode columns kinds holds) (with_columns mode columns kinds held)
 leaves_with mode [] kinds holds held many other alike = none
 leaves_with mode (column ∷ columns) [] holds held many other alike = none
-leaves_with mode (column ∷ columns) (kind ∷ kinds) [] held many other alike = absurd (omega arith)
-leaves_with mode (column ∷ columns) (kind ∷ kinds) (hold ∷ holds) [] many other alike = absurd (omega arith)
 leaves_with mode (column ∷ columns) (kind ∷ kinds) (hold ∷ holds) (h ∷ hs) many other alike =
     more column mode kind hold h (with_columns mode columns kinds holds) (with_columns mode columns kinds hs) (λ holds_alike. alike holds_alike 0)
     (leaves_with mode columns kinds holds hs (omega arith) (omega arith) (λ holds_alike leaf. alike holds_alike (suc leaf)))
+leaves_with mode columns kinds holds held many other alike = absurd (omega arith)
 
 narrow_refusal : (row leaf : ℕ) (e : StoreFault) → is_narrow e ≡ true → is_narrow_row (refusal row leaf e) ≡ true
 narrow_refusal row leaf e is = grind arith
@@ -55,10 +51,9 @@ abbrev held_by : Place → Hold → Place
 held_by place hold = record place { hold = hold }
 
 taken_answers : {Alike : Type 0} (place : Place) (hold : Hold) (x y : Result ℤ StoreFault) → Answers is_narrow Alike x y → Answers is_narrow_row Alike (taken place x) (taken (held_by place hold) y)
-taken_answers place hold x y (go a b same) = go a b same
-taken_answers place hold x y (fails e) = fails (refusal place.row place.leaf e)
-taken_answers place hold x y (first e z is) = first (refusal place.row place.leaf e) (taken (held_by place hold) z) (narrow_refusal place.row place.leaf e is)
-taken_answers place hold x y (second z e is) = second (taken place z) (refusal place.row place.leaf e) (narrow_refusal place.row place.leaf e is)
+taken_answers place hold x y agree =
+    mapped (refusal place.row place.leaf) (taken place) (taken (held_by place hold)) (λ e. refl) (λ e. refl) (narrow_refusal place.row place.leaf) (narrow_refusal place.row place.leaf) agree
+    (λ a b same. go a b same)
 
 module _ {Alike : Type 0} (place : Place) (hold : Hold) (alike : Alike → KeepAlike place.mode place.kind place.hold hold) where
   abbrev store_in : Place → ℤ → Result ℤ RowFault

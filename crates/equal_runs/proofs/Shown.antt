@@ -1,5 +1,6 @@
 -- What a run shows of its accesses.
-use Rattle.equal_runs.proofs.Imports.{◌≡◌, ℕ, Bool, List, [], ◌∷◌, ◌++◌, length, Option, Some, sym, ap, subst, ◌∙◌, arith, append_assoc, IfSome, File, Owner, texts_of, Sentence, Version, LeafCounts, HeatCounts, counts_text, heat_text, AreEntries, AreCounts, AreHeat, Access, Tally, tallied, no_tally, Table, owners_of, leaf_count_of, World, found, done_to, on_view, Outcome, LeftOf, Left, known, counts, heat, step, run_from, prepend, fails_at, Output, AreLines, DoesLines, SoFar, at_first, one_more, logs_after, Comes, there, further, log_of, ShowsCounts, ShowsHeat, ShowsEntries, tally_since, IfGoes, to, bind, behind, gone, known_found, Shows, does, surely, ◌+◌}
+use Rattle.equal_runs.proofs.Imports.{◌≡◌, ℕ, Bool, List, [], ◌∷◌, ◌++◌, length, Option, Some, sym, ap, subst, ◌∙◌, arith, append_assoc, IfSome, File, Owner, texts_of, Sentence, Version, LeafCounts, HeatCounts, counts_text, heat_text, AreEntries, AreCounts, AreHeat, Access, Tally, tallied, no_tally, Table, owners_of, leaf_count_of, World, found, done_to, on_view, Outcome, LeftOf, Left, known, counts, heat, step, run_from, prepend, fails_at, Output, AreLines, DoesLines, SoFar, at_first, one_more, logs_after, Comes, there, further, log_of, ShowsCounts, ShowsHeat, ShowsEntries, tally_since, IfGoes, to, bind, behind, gone, known_found, Shows, does, surely, ◌+◌, Tested}
+use Rattle.worlds.specs.OnView.{Told}
 use Rattle.map_expr.specs.Terms.{Term}
 use Rattle.equal_runs.proofs.Entries.{none}
 use Rattle.equal_runs.proofs.Logs.{AreCounted, counted_at, step_keeps}
@@ -21,10 +22,9 @@ comes_on : (version : Version) (files : List File) (outcome : World → List ℕ
     → Comes files unread number now lines last → (texts more : List (List ℕ)) → AreLines version texts lines
     → prepend now.text (run_from outcome number now.world (texts ++ more) unread) ≡ prepend last.text (run_from outcome (number + length lines) last.world more unread)
 comes_on version files outcome does unread number now last lines (there _ _) [] more are = grind arith
-comes_on version files outcome does unread number now last lines (there _ _) (text ∷ texts) more are = absurd are
-comes_on version files outcome does unread number now last lines (further _ _ line left rest _ goes comes) [] more are = absurd are
 comes_on version files outcome does unread number now last lines (further _ _ line left rest _ goes comes) (text ∷ texts) more are =
     grind (arith, prepend-append, (comes_on version files outcome does unread (number + 1) (one_more now line left) last rest comes texts more are.1))
+comes_on version files outcome does unread number now last lines comes texts more are = absurd are
 
 -- a law of what is counted, as it is told
 abbrev pub AreTold : Type 0
@@ -48,23 +48,6 @@ module _ (told : AreTold) (files : List File) (unread : Option ℕ) (lines : Lis
   unfolding counts
   counts_told table = grind (arith, bind, to, known_found)
 
-  pub shows_counts : IfGoes (λ (left : Left). ShowsCounts now name left.text) (on_view now.world name (does (Shows counts)))
-  unfolding on_view
-  shows_counts =
-      let P : Left → Type 0 = λ left. ShowsCounts now name left.text in
-      bind P (known name now.world.views) _ (λ table t.
-      let t_is : found name now.world.views ≡ Some table = known_found _ (found name now.world.views) table t in
-      behind P (λ (new : LeftOf Table). CountsTold table new.text) (done_to table (does (Shows counts) table)) _ (counts_told table) (λ new told_of.
-      to _ (record {
-        table = table;
-        is = t_is;
-        numbers = told_of.0;
-        shown = told_of.2;
-        counted = ap (λ (t : Tally). t.counts) (tally_is table t_is) ∙ told_of.1;
-        each = some_counts (AreCounts (leaf_count_of table) (log_of now name)) table.tally.counts told_of.0 (entries_at table t_is).counts told_of.1;
-      })))
-
-  -- what is told of a table is of numbers that it has
   abbrev HeatTold : Table → List ℕ → Type 0
   HeatTold table text = (numbers : HeatCounts) × (table.tally.heat ≡ Some numbers) × (text ≡ heat_text numbers)
 
@@ -72,21 +55,34 @@ module _ (told : AreTold) (files : List File) (unread : Option ℕ) (lines : Lis
   unfolding heat
   heat_told table = grind (arith, bind, to, known_found)
 
-  pub shows_heat : IfGoes (λ (left : Left). ShowsHeat now name left.text) (on_view now.world name (does (Shows heat)))
+  -- what holds of what is told of the table of the name holds of what the command shows
+  shown : (command : Table → Tested Told) (P : List ℕ → Type 0) (IsTold : Table → List ℕ → Type 0) → ((table : Table) → IfGoes (λ (new : LeftOf Table). IsTold table new.text) (done_to table (does (Shows command) table)))
+      → ((table : Table) → found name now.world.views ≡ Some table → (text : List ℕ) → IsTold table text → P text) → IfGoes (λ (left : Left). P left.text) (on_view now.world name (does (Shows command)))
   unfolding on_view
-  shows_heat =
-      let P : Left → Type 0 = λ left. ShowsHeat now name left.text in
-      bind P (known name now.world.views) _ (λ table t.
-      let t_is : found name now.world.views ≡ Some table = known_found _ (found name now.world.views) table t in
-      behind P (λ (new : LeftOf Table). HeatTold table new.text) (done_to table (does (Shows heat) table)) _ (heat_told table) (λ new told_of.
-      to _ (record {
-        table = table;
-        is = t_is;
-        numbers = told_of.0;
-        shown = told_of.2;
-        counted = ap (λ (t : Tally). t.heat) (tally_is table t_is) ∙ told_of.1;
-        each = some_counts (AreHeat (owners_of table) (log_of now name)) table.tally.heat told_of.0 (entries_at table t_is).heat told_of.1;
-      })))
+  shown command P IsTold told_of shows =
+      bind (λ (left : Left). P left.text) (known name now.world.views) _ (λ table t.
+      behind (λ (left : Left). P left.text) (λ (new : LeftOf Table). IsTold table new.text) (done_to table (does (Shows command) table)) _ (told_of table)
+      (λ new is. to _ (shows table (known_found _ (found name now.world.views) table t) new.text is)))
+
+  pub shows_counts : IfGoes (λ (left : Left). ShowsCounts now name left.text) (on_view now.world name (does (Shows counts)))
+  shows_counts = shown counts (ShowsCounts now name) CountsTold counts_told (λ table is text told_of. record {
+    table = table;
+    is = is;
+    numbers = told_of.0;
+    shown = told_of.2;
+    counted = ap (λ (t : Tally). t.counts) (tally_is table is) ∙ told_of.1;
+    each = some_counts (AreCounts (leaf_count_of table) (log_of now name)) table.tally.counts told_of.0 (entries_at table is).counts told_of.1;
+  })
+
+  pub shows_heat : IfGoes (λ (left : Left). ShowsHeat now name left.text) (on_view now.world name (does (Shows heat)))
+  shows_heat = shown heat (ShowsHeat now name) HeatTold heat_told (λ table is text told_of. record {
+    table = table;
+    is = is;
+    numbers = told_of.0;
+    shown = told_of.2;
+    counted = ap (λ (t : Tally). t.heat) (tally_is table is) ∙ told_of.1;
+    each = some_counts (AreHeat (owners_of table) (log_of now name)) table.tally.heat told_of.0 (entries_at table is).heat told_of.1;
+  })
 
 pub shows_entries : AreTold → (version : Version) (files : List File) (outcome : World → List ℕ → Bool → Outcome Left) → DoesLines version files outcome → ShowsEntries version files outcome
 unfolding step

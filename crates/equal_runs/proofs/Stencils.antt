@@ -1,9 +1,9 @@
 -- What a stencil answers, by the answers to its stores, and stencils done to alike tables.
-use Rattle.equal_runs.proofs.Imports.{◌≡◌, ℕ, zero, suc, Bool, ℤ, List, [], ◌∷◌, Result, Ok, sym, ap, subst, StoreAnswer, Keeping, kept_by, StoreFault, StencilFault, true, refl, ◌+◌, ◌*◌, ◌^◌, nat_lt, ok_or, Span, PathStep, MapTerm, Tally, TermText, Table, answer_of, stores, text_of_leaf, blob_bits, TooBig, is_of_layout, fit_stencil, room_beside, stencil_fault, stencil_rounds, stencil_run, arith}
+use Rattle.equal_runs.proofs.Imports.{◌≡◌, ℕ, zero, suc, Bool, ℤ, List, [], ◌∷◌, Result, Ok, sym, ap, subst, StoreAnswer, Keeping, kept_by, StoreFault, StencilFault, true, refl, ◌+◌, ◌*◌, ◌^◌, nat_lt, Span, PathStep, MapTerm, Tally, TermText, Table, answer_of, stores, text_of_leaf, blob_bits, TooBig, is_of_layout, fit_stencil, stencil_fault, stencil_rounds, stencil_run, arith}
 use Rattle.subviews.specs.SubViews.{rows_of}
-use Rattle.subviews.specs.Stencils.{Stencil, stenciled, rounds_log, stencil_value, at_row, first_round_fault, values_fault, with_entries, new_entry, if_fits, round, next_round, after_rounds}
-use Rattle.equal_runs.proofs.Answers.{Answers, equal, is_narrow, Given, ok_agree}
-use Rattle.equal_runs.proofs.Agreeing.{go, fault as fails, first, second, bind, before, both_told, told_if, Any, Both}
+use Rattle.subviews.specs.Stencils.{Stencil, rounds_log, stencil_value, at_row, first_round_fault, values_fault, with_entries, new_entry, if_fits, round, next_round, after_rounds}
+use Rattle.equal_runs.proofs.Answers.{Answers, equal, is_narrow, ok_agree}
+use Rattle.equal_runs.proofs.Agreeing.{go, mapped, bind, before, both_told, told_if, Both}
 use Rattle.equal_runs.proofs.Commands.{Same, SameDone, answers_under, narrow_store, under}
 use Rattle.equal_runs.proofs.Tables.{AlikeTables}
 
@@ -12,10 +12,8 @@ is_narrow_stencil fault = is_narrow fault.fault
 
 row_answers : {Alike : Type 0} (row : ℕ) (x y : Result ℤ StoreFault) (u v : Result Unit StencilFault) → Answers is_narrow Alike x y → Answers is_narrow_stencil Alike u v
     → Answers is_narrow_stencil Alike (at_row row x u) (at_row row y v)
-row_answers row x y u v (go a b same) later = later
-row_answers row x y u v (fails e) later = fails (record { row = row; fault = e })
-row_answers row x y u v (first e z is) later = first (record { row = row; fault = e }) (at_row row z v) is
-row_answers row x y u v (second z e is) later = second (at_row row z u) (record { row = row; fault = e }) is
+row_answers row x y u v agree later =
+    mapped {F = StencilFault} (λ e. record { row = row; fault = e }) (λ z. at_row row z u) (λ z. at_row row z v) (λ e. refl) (λ e. refl) (λ e is. is) (λ e is. is) agree (λ a b same. later)
 
 rows_answers : {Alike : Type 0} (x y : ℕ → Result ℤ StoreFault) → ((row : ℕ) → Answers is_narrow Alike (x row) (y row)) → (rows : List ℕ)
     → Answers is_narrow_stencil Alike (first_round_fault x rows) (first_round_fault y rows)
@@ -24,10 +22,8 @@ rows_answers x y alike (row ∷ rows) = row_answers row (x row) (y row) (first_r
 
 fits_answers : {Alike : Type 0} (x y : Result Unit StencilFault) (rows others : List (List ℤ)) → Answers is_narrow_stencil Alike x y → others ≡ rows
     → Answers is_narrow_stencil Alike (if_fits x rows) (if_fits y others)
-fits_answers x y rows others (go a b same) is = go rows others (λ alike. is)
-fits_answers x y rows others (fails e) is = fails e
-fits_answers x y rows others (first e z told) is = first e (if_fits z others) told
-fits_answers x y rows others (second z e told) is = second (if_fits z rows) e told
+fits_answers x y rows others agree is =
+    mapped (λ e. e) (λ z. if_fits z rows) (λ z. if_fits z others) (λ e. refl) (λ e. refl) (λ e told. told) (λ e told. told) agree (λ a b same. go rows others (λ alike. is))
 
 -- two answers to stores that both keep the same number, or of which one says that the value is not held
 module _ (answer other : StoreAnswer) (alike : (leaf : ℕ) (value : ℤ) → Answers is_narrow (Unit {0}) (answer leaf value) (other leaf value)) (same : kept_by other ≡ kept_by answer) (stencil : Stencil) where
@@ -39,10 +35,9 @@ module _ (answer other : StoreAnswer) (alike : (leaf : ℕ) (value : ℤ) → An
       (ap (λ (keep : Keeping). with_entries stencil.leaf (λ row. keep stencil.leaf (stencil_value stencil rows row)) (rows_of stencil.window) rows) same)
 
   next_answers : (x y : Result (List (List ℤ)) StencilFault) → Answers is_narrow_stencil (Unit {0}) x y → Answers is_narrow_stencil (Unit {0}) (next_round answer stencil x) (next_round other stencil y)
-  next_answers x y (go rows others is) = subst (λ (r : List (List ℤ)). Answers is_narrow_stencil (Unit {0}) (round answer stencil rows) (round other stencil r)) (sym (is tt)) (round_answers rows)
-  next_answers x y (fails e) = fails e
-  next_answers x y (first e z is) = first e (next_round other stencil z) is
-  next_answers x y (second z e is) = second (next_round answer stencil z) e is
+  next_answers x y agree =
+      mapped (λ e. e) (next_round answer stencil) (next_round other stencil) (λ e. refl) (λ e. refl) (λ e is. is) (λ e is. is) agree
+      (λ rows others is. subst (λ (r : List (List ℤ)). Answers is_narrow_stencil (Unit {0}) (round answer stencil rows) (round other stencil r)) (sym (is tt)) (round_answers rows))
 
   pub stencil_answers : (count : ℕ) (rows : List (List ℤ)) → Answers is_narrow_stencil (Unit {0}) (after_rounds answer stencil count rows) (after_rounds other stencil count rows)
   stencil_answers zero rows = equal (Ok rows)
@@ -60,14 +55,11 @@ module _ (m o : Bool) (table : Table) (mapping : MapTerm) (tally : Tally) (same 
       let many = nat_lt (8 * 2 ^ 30) (live + blob_bits table) in
       let many_others = nat_lt (8 * 2 ^ 30) (others + blob_bits (under table mapping tally)) in
       before SameDone (fit_stencil table spans path texts divisor rounds) _ _ (λ stencil.
-      bind Both SameDone (room_beside live table) (room_beside others (under table mapping tally)) _ _
-      (both_told Any Any Both (room_beside live table) (room_beside others (under table mapping tally)) (told_if m many TooBig refl) (told_if o many_others TooBig refl) (λ a b p q. tt))
+      bind (both_told {R = Both} (told_if m many TooBig refl) (told_if o many_others TooBig refl) (λ a b p q. tt))
       (λ room room_other p. rounds_agree stencil))
     where
       rounds_agree : (stencil : Stencil) → Same m o (stencil_rounds table rounds stencil) (stencil_rounds (under table mapping tally) rounds stencil)
       rounds_agree stencil =
-          bind (Given (Unit {0}) _ _) SameDone (ok_or (stencil_fault table.fields stencil.leaf) (stenciled table stencil rounds))
-          (ok_or (stencil_fault table.fields stencil.leaf) (stenciled (under table mapping tally) stencil rounds)) _ _
-          (ok_agree m o is_narrow_stencil (stencil_fault table.fields stencil.leaf) _ _ (narrow_stencil table stencil.leaf)
+          bind (ok_agree m o is_narrow_stencil (stencil_fault table.fields stencil.leaf) _ _ (narrow_stencil table stencil.leaf)
           (stencil_answers (answer_of table) (answer_of (under table mapping tally)) (answers_under m o table mapping tally same) same.kept stencil rounds table.rows))
           (λ rows others given. go _ _ (ap (λ (r : List (List ℤ)). stores r (rounds_log stencil rounds)) (given.same tt)))

@@ -39,5 +39,4 @@ module _ (world other : World) (alike : AlikeWorlds world other) (term : MapTerm
   step_agree (line.Drop name) plain = surely _ _ _ (drop_agree false false world other alike name)
   step_agree (line.Open name file) plain = open_agree world other alike false false name file files unread
   step_agree sentence plain =
-      surely _ _ _ (worked_agree (misses_mapping world sentence) (misses_mapping other (with_term term sentence)) world other alike (work_of world sentence) (work_of other (with_term term sentence))
-      (lines_agree (misses_mapping world sentence) (misses_mapping other (with_term term sentence)) world other term sentence plain))
+      surely _ _ _ (worked_agree _ _ world other alike (work_of world sentence) (work_of other (with_term term sentence)) (lines_agree _ _ world other term sentence plain))

@@ -1,5 +1,5 @@
 -- The counts by leaf after some accesses, which are the same however a table lies.
-use Rattle.equal_runs.proofs.Imports.{◌≡◌, ℕ, Bool, true, false, List, Option, Some, None, option_map, refl, ⊤, if◌then◌else◌, fold, LeafCounts, no_counts, has_count, MapTerm, Owner, Access, Tally, counts_touched, tallied, no_tally, tallied-counts, arith}
+use Rattle.equal_runs.proofs.Imports.{◌≡◌, ℕ, Bool, true, List, Option, Some, None, option_map, refl, ⊤, if◌then◌else◌, fold, LeafCounts, no_counts, has_count, MapTerm, Owner, Access, Tally, counts_touched, tallied, no_tally, tallied-counts, arith}
 
 -- some counts after accesses
 abbrev counts_after : List Access → LeafCounts → LeafCounts
@@ -25,6 +25,5 @@ tallied_alike layout changed tally other log same = grind (arith, tallied-counts
 pub no_tally_alike : (term changed : MapTerm) (layout other : List (List Owner)) (leaves : ℕ) → SameCounts (no_tally term layout leaves).counts (no_tally changed other leaves).counts
 no_tally_alike term changed layout other leaves = of_tests (has_count term) (has_count changed) where
   of_tests : (a b : Bool) → SameCounts (if a then Some (no_counts leaves) else None) (if b then Some (no_counts leaves) else None)
-  of_tests false b = tt
-  of_tests true false = tt
   of_tests true true = refl
+  of_tests a b = tt

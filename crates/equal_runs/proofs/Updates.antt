@@ -3,7 +3,7 @@ use Rattle.equal_runs.proofs.Imports.{◌≡◌, ℕ, Bool, true, false, ℤ, Li
 use Rattle.record_dim.specs.Std.{slice_index_or}
 use Rattle.row_updates.specs.Rows.{◌>>=◌}
 use Rattle.row_updates.specs.declared.fault.UpdateKind.TheVariants.{Narrow}
-use Rattle.equal_runs.proofs.Agreeing.{go, fault as fails, first, second}
+use Rattle.equal_runs.proofs.Agreeing.{go, fault as fails, mapped}
 use Rattle.equal_runs.proofs.Answers.{Answers, equal, is_narrow}
 
 abbrev pub is_narrow_kind : UpdateKind → Bool
@@ -16,10 +16,7 @@ is_narrow_update fault = is_narrow_kind fault.kind
 -- one thing after another, and one thing before both
 bind : {A B Alike : Type 0} (x y : Result A UpdateFault) (f g : A → Result B UpdateFault) → Answers is_narrow_update Alike x y
     → ((a b : A) → (Alike → b ≡ a) → Answers is_narrow_update Alike (f a) (g b)) → Answers is_narrow_update Alike (x >>= f) (y >>= g)
-bind x y f g (go a b same) next = next a b same
-bind x y f g (fails e) next = fails e
-bind x y f g (first e z is) next = first e (z >>= g) is
-bind x y f g (second z e is) next = second (z >>= f) e is
+bind x y f g agree next = mapped (λ e. e) (λ z. z >>= f) (λ z. z >>= g) (λ e. refl) (λ e. refl) (λ e is. is) (λ e is. is) agree next
 
 before : {A B Alike : Type 0} (x : Result A UpdateFault) (f g : A → Result B UpdateFault) → ((a : A) → Answers is_narrow_update Alike (f a) (g a)) → Answers is_narrow_update Alike (x >>= f) (x >>= g)
 before (Ok a) f g next = next a
@@ -37,10 +34,9 @@ narrow_kind leaf e is = grind arith
 
 in_row_answers : {Alike : Type 0} (number leaf : ℕ) (x y : Result ℤ StoreFault) → Answers is_narrow Alike x y
     → Answers is_narrow_update Alike (in_row number (store_kind leaf) x) (in_row number (store_kind leaf) y)
-in_row_answers number leaf x y (go a b same) = go a b same
-in_row_answers number leaf x y (fails e) = fails (record { row = number; kind = store_kind leaf e })
-in_row_answers number leaf x y (first e z is) = first (record { row = number; kind = store_kind leaf e }) (in_row number (store_kind leaf) z) (narrow_kind leaf e is)
-in_row_answers number leaf x y (second z e is) = second (in_row number (store_kind leaf) z) (record { row = number; kind = store_kind leaf e }) (narrow_kind leaf e is)
+in_row_answers number leaf x y agree =
+    mapped {F = UpdateFault} (λ e. record { row = number; kind = store_kind leaf e }) (in_row number (store_kind leaf)) (in_row number (store_kind leaf)) (λ e. refl) (λ e. refl) (narrow_kind leaf) (narrow_kind leaf) agree
+    (λ a b same. go a b same)
 
 -- two answers to stores that both keep a number, or of which one says that the value is not held, where one `keep` says what is kept
 module _ {Alike : Type 0} (keep : Keeping) (answer other : StoreAnswer) (alike : (leaf : ℕ) (value : ℤ) → Answers is_narrow Alike (answer leaf value) (other leaf value)) where
@@ -89,19 +85,18 @@ fit_rows filter sets extents rows count = flat_map (λ number. fit_row filter se
 abbrev SameLogs : {A B : Type 0} → (A → Result B UpdateFault) → (A → List Access) → (A → List Access) → List A → Type 0
 SameLogs {A} {B} step logs others xs = (ys : List B) → each step xs ≡ Ok ys → flat_map logs xs ≡ flat_map others xs
 
+-- what goes, goes in both of its parts
+parts : {A B : Type 0} (x : Result A UpdateFault) (f : A → Result B UpdateFault) (y : B) → (x >>= f) ≡ Ok y → (a : A) × (x ≡ Ok a) × (f a ≡ Ok y)
+parts (Ok a) f y goes = (a, refl, goes)
+parts (Err e) f y goes = absurd (cc)
+
 logs_of_each : {A B : Type 0} (step : A → Result B UpdateFault) (logs others : A → List Access) → ((a : A) (b : B) → step a ≡ Ok b → logs a ≡ others a) → (xs : List A)
     → SameLogs step logs others xs
 logs_of_each step logs others same [] ys goes = refl
-logs_of_each {A} {B} step logs others same (x ∷ xs) ys goes = of_first (step x) refl goes (λ zs is. logs_of_each step logs others same xs zs is) where
-  of_rest : (y : B) → step x ≡ Ok y → (rest : Result (List B) UpdateFault) → each step xs ≡ rest → (rest >>= (λ zs. Ok (y ∷ zs))) ≡ Ok ys
-      → SameLogs step logs others xs → logs x ++ flat_map logs xs ≡ others x ++ flat_map others xs
-  of_rest y is (Err e) rest_is goes later = absurd (cc)
-  of_rest y is (Ok zs) rest_is goes later = ap (λ (log : List Access). log ++ flat_map logs xs) (same x y is) ∙ ap (λ (log : List Access). others x ++ log) (later zs rest_is)
-
-  of_first : (first : Result B UpdateFault) → step x ≡ first → (first >>= (λ y. each step xs >>= (λ zs. Ok (y ∷ zs)))) ≡ Ok ys
-      → SameLogs step logs others xs → logs x ++ flat_map logs xs ≡ others x ++ flat_map others xs
-  of_first (Err e) is goes later = absurd (cc)
-  of_first (Ok y) is goes later = of_rest y is (each step xs) refl goes later
+logs_of_each step logs others same (x ∷ xs) ys goes =
+    let one = parts (step x) (λ y. each step xs >>= (λ zs. Ok (y ∷ zs))) ys goes in
+    let rest = parts (each step xs) (λ zs. Ok (one.0 ∷ zs)) ys one.2 in
+    ap (λ (log : List Access). log ++ flat_map logs xs) (same x one.0 one.1) ∙ ap (λ (log : List Access). others x ++ log) (logs_of_each step logs others same xs rest.0 rest.1)
 
 module _ (keep : Keeping) (answer : StoreAnswer) where
   -- where all right sides fit, which answers there were is no matter
@@ -112,33 +107,23 @@ module _ (keep : Keeping) (answer : StoreAnswer) where
   sides_are : (number : ℕ) (row : List ℤ) (index : List ℕ) (sets : List Setting) → SidesFit number row index sets
   sides_are number row index [] values goes = refl
   sides_are number row index (set ∷ sets) values goes =
-      ap (λ (log : List Access). value_log number row index set.value ++ log) (of_first (new_value answer number row index set) goes (λ zs is. sides_are number row index sets zs is))
-    where
-      of_rest : (y : ℤ) (rest : Result (List ℤ) UpdateFault) → each (new_value answer number row index) sets ≡ rest → (rest >>= (λ zs. Ok (y ∷ zs))) ≡ Ok values
-          → SidesFit number row index sets → sides_log answer number row index sets ≡ fit_sides number row index sets
-      of_rest y (Err e) is goes later = absurd (cc)
-      of_rest y (Ok zs) is goes later = later zs is
-
-      of_first : (first : Result ℤ UpdateFault) → (first >>= (λ y. each (new_value answer number row index) sets >>= (λ zs. Ok (y ∷ zs)))) ≡ Ok values
-          → SidesFit number row index sets → if_ok first (sides_log answer number row index sets) ≡ fit_sides number row index sets
-      of_first (Err e) goes later = absurd (cc)
-      of_first (Ok y) goes later = of_rest y (each (new_value answer number row index) sets) refl goes later
+      let one = parts (new_value answer number row index set) (λ y. each (new_value answer number row index) sets >>= (λ zs. Ok (y ∷ zs))) values goes in
+      let rest = parts (each (new_value answer number row index) sets) (λ zs. Ok (one.0 ∷ zs)) values one.2 in
+      ap (λ (log : List Access). value_log number row index set.value ++ log)
+      (ap (λ (first : Result ℤ UpdateFault). if_ok first (sides_log answer number row index sets)) one.1 ∙ sides_are number row index sets rest.0 rest.1)
 
   row_is : (filter : Option (Term ℕ)) (sets : List Setting) (number : ℕ) (row : List ℤ) (index : List ℕ) (new : List ℤ) → updated_row answer keep filter sets number row index ≡ Ok new
       → row_log answer filter sets number row index ≡ fit_row filter sets number row index
   row_is filter sets number row index new goes = ap (λ (log : List Access). filter_log number row index filter ++ log) (of_test (passes number row index filter) goes) where
-    of_values : (values : Result (List ℤ) UpdateFault) → each (new_value answer number row index) sets ≡ values → (values >>= (λ found. Ok (with_values keep sets found row))) ≡ Ok new
-        → sides_log answer number row index sets ++ if_ok values (stores_log number sets) ≡ fit_sides number row index sets ++ stores_log number sets
-    of_values (Err e) is goes = absurd (cc)
-    of_values (Ok found) is goes = ap (λ (log : List Access). log ++ stores_log number sets) (sides_are number row index sets found is)
-
     of_test : (test : Result Bool UpdateFault)
         → (test >>= (λ t. if t then (each (new_value answer number row index) sets >>= (λ values. Ok (with_values keep sets values row))) else Ok row)) ≡ Ok new
         → if_passes test (sides_log answer number row index sets ++ if_ok (each (new_value answer number row index) sets) (stores_log number sets))
         ≡ if_passes test (fit_sides number row index sets ++ stores_log number sets)
-    of_test (Err e) goes = refl
-    of_test (Ok false) goes = refl
-    of_test (Ok true) goes = of_values (each (new_value answer number row index) sets) refl goes
+    of_test (Ok true) goes =
+        let one = parts (each (new_value answer number row index) sets) (λ found. Ok (with_values keep sets found row)) new goes in
+        ap (λ (values : Result (List ℤ) UpdateFault). sides_log answer number row index sets ++ if_ok values (stores_log number sets)) one.1
+        ∙ ap (λ (log : List Access). log ++ stores_log number sets) (sides_are number row index sets one.0 one.1)
+    of_test test goes = refl
 
   -- those of an update that goes
   pub rows_are : (filter : Option (Term ℕ)) (sets : List Setting) (extents : List ℕ) (rows : List (List ℤ)) (count : ℕ) (new : List (List ℤ))

@@ -1,17 +1,10 @@
 -- The runs of scripts that are within the limits are those over their lines.
-use Rattle.layout_cli.proofs.Imports.{◌≡◌, ℕ, ◌≤◌, ◌^◌, Bool, false, ltb, List, length, Option, None, Some, sym, ap, ◌∙◌, arith, if◌then◌else◌, nat_tests, File, file_named, Sentence, deepest, Version, line_of, World, empty, Outcome, Faults, Left, step, LineTooLong, TooDeep, ScriptTooLong, run_from, fails_at, DoesLines, EqualRuns, step_text, step_line, run_form, run_headed, run_versioned, faulted, script_lines, version_line, version_said, without_version, run_file, run_script, IsScript, EqualScripts, RunsUnversioned, Result}
+use Rattle.layout_cli.proofs.Imports.{◌≡◌, ℕ, ◌≤◌, ◌^◌, Bool, false, ltb, List, length, Option, None, Some, sym, ap, ◌∙◌, arith, if◌then◌else◌, nat_tests, File, file_named, Sentence, Version, World, empty, Outcome, Left, ScriptTooLong, run_from, fails_at, DoesLines, EqualRuns, step_text, run_form, run_headed, run_versioned, faulted, script_lines, version_line, version_said, without_version, run_file, run_script, IsScript, EqualScripts, RunsUnversioned}
+use Rattle.session_runs.proofs.Texts.{text_steps}
 
 -- a text that is a line within the limits does what the line does
 pub text_does : (version : Version) (files : List File) → DoesLines version files (step_text version files)
-text_does version files world text line unread is =
-    let short : ltb 4096 (length text) ≡ false = below 4096 (length text) is.short in
-    let shallow : ltb 32 (deepest line) ≡ false = below 32 (deepest line) is.shallow in
-    ap (λ (b : Bool). if b then Faults LineTooLong else step_line files world (line_of version text) unread) short
-    ∙ ap (λ (read : Result Sentence ℕ). step_line files world read unread) is.parsed
-    ∙ ap (λ (b : Bool). if b then Faults TooDeep else step world line files unread) shallow
-  where
-    below : (limit n : ℕ) → n ≤ limit → ltb limit n ≡ false
-    below limit n few = grind (arith, nat_tests)
+text_does version files world text line unread is = text_steps version files world text line unread is.short is.parsed is.shallow
 
 -- a script within the limits is run line by line, in the version that it says
 script_run : (files : List File) (name : List ℕ) (head : Option (ℕ × ℕ)) (version : Version) (lines : List Sentence) (unread : Option ℕ) (is : IsScript files name head version lines) → fails_at unread 0 ≡ false → version_said head ≡ Some version

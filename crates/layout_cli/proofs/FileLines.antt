@@ -1,5 +1,5 @@
 -- Which of the generated lines read a file, and which.
-use Rattle.layout_cli.proofs.Imports.{◌≡◌, ℕ, suc, ◌+◌, Bool, false, List, [], ◌∷◌, ◌++◌, length, Some, None, Result, Ok, Err, codes, nat_eq, refl, sym, ap, subst, ◌∙◌, arith, ◌||◌, if◌then◌else◌, IfSome, AllByRecursion, nat_tests, is_hash, token_at, placed, tokens_of, New, Sentence, Load, Blank, bracket_list, listed, later, extent_word, fixed, mapping, mapping_within, form_or_name, inside_form, inside_aos, steps_at, Aos, Count, Rows, Row, Packed, line_at, line, command_line, body, new, flag, One, line_of, line_or_column, spots_in, spots_within, spots_behind, generated_lines, generated_files, file_named, Spot, Token, digits_text, file_in}
+use Rattle.layout_cli.proofs.Imports.{◌≡◌, ℕ, suc, ◌+◌, Bool, false, List, [], ◌∷◌, ◌++◌, drop, length, Some, None, Result, Ok, Err, codes, nat_eq, refl, sym, ap, subst, ◌∙◌, arith, ◌||◌, if◌then◌else◌, IfSome, AllByRecursion, list_any, or_parts, nat_tests, is_hash, token_at, placed, tokens_of, New, Sentence, Load, Blank, bracket_list, listed, later, extent_word, fixed, mapping, mapping_within, form_or_name, inside_form, inside_aos, steps_at, Aos, Count, Rows, Row, Packed, line_at, line, command_line, body, new, flag, One, line_of, line_or_column, spots_in, spots_within, spots_behind, generated_lines, generated_files, file_named, Spot, Token, digits_text, file_in}
 use Rattle.line_tokens.specs.declared.token.Next.TheVariants.{End}
 use Rattle.layout_cli.proofs.NoFile.{reads_file, line_none}
 
@@ -47,6 +47,13 @@ view_first dataset rest =
     (ap (λ r. reads_file One (tokens_of text (spots_within r text 0 0))) room
     ∙ ap (λ (none : Bool). reads_file One (tokens_of text (spots_behind (if none || is_hash 118 then End else placed 0 (token_at text 0)) (spots_within (length text) text) 0))) some)
 
+-- lines that all begin otherwise
+none_read : (dataset : List ℕ) (lines : List (List ℕ)) → list_any (λ text. reads_file One (tokens_of text (spots_in text))) lines ≡ false → AllByRecursion (ReadsDataset dataset) lines
+none_read dataset [] none = tt
+none_read dataset (text ∷ lines) none =
+    let parts = or_parts (reads_file One (tokens_of text (spots_in text))) (list_any (λ text. reads_file One (tokens_of text (spots_in text))) lines) none in
+    (no_file dataset text parts.0, none_read dataset lines parts.1)
+
 pub lines_read : (dataset : List ℕ) (n : ℕ) → AllByRecursion (ReadsDataset dataset) (generated_lines n)
 lines_read dataset n = (
   no_file dataset _ refl,
@@ -62,37 +69,7 @@ lines_read dataset n = (
             view_first dataset (codes "E : P [" ++ digits_text n ++ codes "] as split(pos, byteswap(soa(single, col)), bitsoa(34, row))"),
             (
               view_first dataset (codes "F : P [" ++ digits_text n ++ codes "] as bytesplit(aos(aligned, morton))"),
-              (
-                no_file dataset _ refl,
-                (
-                  no_file dataset _ refl,
-                  (
-                    no_file dataset _ refl,
-                    (
-                      no_file dataset _ refl,
-                      (
-                        no_file dataset _ refl,
-                        (
-                          no_file dataset _ refl,
-                          (
-                            no_file dataset _ refl,
-                            (
-                              no_file dataset _ refl,
-                              (
-                                no_file dataset _ refl,
-                                (
-                                  no_file dataset _ refl,
-                                  (no_file dataset _ refl, (no_file dataset _ refl, (no_file dataset _ refl, tt))),
-                                ),
-                              ),
-                            ),
-                          ),
-                        ),
-                      ),
-                    ),
-                  ),
-                ),
-              ),
+              none_read dataset (drop 7 (generated_lines n)) refl,
             ),
           ),
         ),

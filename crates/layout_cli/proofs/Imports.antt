@@ -1,5 +1,5 @@
 -- What the proofs of this crate speak of.
-pub use Rattle.record_dim.specs.Std.{◌≡◌, ℕ, ◌≤◌, ◌^◌, Bool, false, ltb, List, length, Option, None, Some, sym, ap, ◌∙◌, arith, Result, suc, ◌+◌, [], ◌∷◌, ◌++◌, Ok, Err, codes, nat_eq, refl, subst, true, inl, ⊎_elim, get_or, drop, lit≤, nat_lt, ◌<◌, ℤ, pos, neg_ℤ, ◌-ℤ◌, FitsSigned, ◌*◌, rules, tests, ◌-◌, ◌%◌, ◌==◌, map, take, append_assoc, append-nil, nat_le, bytes_eq, string_bytes, option_map, inr, if◌then◌else◌, ◌||◌, IfSome, IsSomeAnd, nat_tests, AllByRecursion, list_all, slice_split, AllPass, range_with_len, signed_decimal, decimal, ints, to_z-of_z, decimal_by_steps_wide, parse-decimal, digits_value-decimal, list_all-append, slice_split_at, AllPass-from_list_all, result_unwrap_or, ParsesUnsigned, AllDigits, digits_value, bytes_eq-Decides, numerals_by_value, tells_digits, slice_index_or, ◌&&◌}
+pub use Rattle.record_dim.specs.Std.{◌≡◌, ℕ, ◌≤◌, ◌^◌, Bool, false, ltb, List, length, Option, None, Some, sym, ap, ◌∙◌, arith, Result, suc, ◌+◌, [], ◌∷◌, ◌++◌, Ok, Err, codes, nat_eq, refl, subst, true, inl, ⊎_elim, get_or, drop, lit≤, nat_lt, ◌<◌, ℤ, pos, neg_ℤ, ◌-ℤ◌, FitsSigned, ◌*◌, rules, tests, ◌-◌, ◌%◌, ◌==◌, map, take, append_assoc, append-nil, nat_le, bytes_eq, string_bytes, option_map, inr, if◌then◌else◌, ◌||◌, IfSome, IsSomeAnd, nat_tests, AllByRecursion, list_all, list_any, or_parts, slice_split, AllPass, range_with_len, signed_decimal, decimal, ints, to_z-of_z, decimal_by_steps_wide, parse-decimal, digits_value-decimal, list_all-append, slice_split_at, AllPass-from_list_all, result_unwrap_or, ParsesUnsigned, AllDigits, digits_value, bytes_eq-Decides, numerals_by_value, tells_digits, slice_index_or, ◌&&◌}
 pub use Rattle.std.proofs.Common.{flat_map}
 pub use Rattle.std.specs.Int.{w64}
 pub use Rattle.layout_io.specs.Prelude.{File, file_named, HasFile, digits_text, decimal_text, Rose, signed_decimal-decimal_text, decimal-digits_text, with_bytes-nil}

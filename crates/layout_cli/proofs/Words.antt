@@ -3,9 +3,7 @@ use Rattle.layout_cli.proofs.Imports.{◌≡◌, ℕ, Bool, true, false, nat_le,
 
 tested : (a b c : Bool) → ((a && b) && c) ≡ true → (a ≡ true) × (b ≡ true) × (c ≡ true)
 tested true true true is = (refl, refl, refl)
-tested true true false is = absurd (cc)
-tested true false c is = absurd (cc)
-tested false b c is = absurd (cc)
+tested a b c is = absurd (cc)
 
 -- the test is the relation
 pub word_is : (word : List ℕ) (n : ℕ) → is_number_word word n ≡ true → IsNumberWord word n

@@ -19,31 +19,9 @@ use Rattle.views.specs.Prelude.{blob_steps, Table}
 use Rattle.layout_copy.specs.Costs.{copy_cost, steps_before, IsWay, MayMoveTo}
 use Rattle.layout_tests.specs.Inner.Ways.{from_of, to_of, most_steps}
 
--- from one count of steps to another no more than a copy of a table into another takes
-abbrev IsWithin : Table → Table → ℕ → ℕ → Type 0
-IsWithin source target old new =
-    (strategy : Strategy) → IsWay source target strategy → new ≤ old + copy_cost strategy source.mapping target.mapping target.fields target.extents
-
--- between strict views a copy goes by the way of their expressions
-abbrev AreStrict : Table → Table → Type 0
-AreStrict source target = (source.mode ≡ Strict) × (target.mode ≡ Strict)
-
-strict_way : (source target : Table) (strategy : Strategy) → AreStrict source target → IsStrategy source.mapping target.mapping strategy → IsWay source target strategy
-strict_way source target strategy strict is =
-    let may : MayMoveTo source target = rw strict.0 tt in
-    inl (may, is)
-
 pieces : steps_before 1000 1000 8 (4 ∷ []) 1000 ≡ 125
 unfolding steps_before
 pieces = refl
-
-by_runs : (source target : Table) (old new : ℕ) → AreStrict source target → source.mapping ≡ Soa Multi Row → target.mapping ≡ Aosoa 8 Row → length (indices target.extents) ≡ 1000 →
-    kinds_of target.fields ≡ U32 ∷ [] → IsWithin source target old new → new ≤ old + 125
-by_runs source target old new strict from to rows kinds within =
-    let is : IsStrategy source.mapping target.mapping way.Runs = rw (from, to) ((λ e. cc), refl) in
-    let few = rw (from, to) at (within way.Runs (strict_way source target way.Runs strict is)) in
-    let sum = rw (rows, kinds) at few in
-    omega (arith, sum, pieces)
 
 -- the blob of so many packed records of four bytes
 packed_bits : (slots : ℕ) → sum_by length (packed_aos slots (32 ∷ [])) ≡ slots * 32
@@ -68,28 +46,40 @@ packed_steps held extents rows kinds =
     ap (λ (ks : List LeafType). sum_by length (packed_aos slots (widths_of (leaf_cells ks)))) kinds ∙ packed_bits slots ∙ ap (λ (n : ℕ). n * 32) rows in
     one_blob (layout_by (Aos Packed Row) extents held) (length-in_rows (row_at Row extents) layout) (sum-blobs (row_at Row extents) layout ∙ bits)
 
-by_blobs : (source target : Table) (old new : ℕ) → AreStrict source target → source.mapping ≡ Aos Packed Row → target.mapping ≡ Aos Packed Row → length (indices target.extents) ≡ 1000 →
-    kinds_of target.fields ≡ U32 ∷ [] → IsWithin source target old new → new ≤ old + 63
-by_blobs source target old new strict from to rows kinds within =
-    let is : IsStrategy source.mapping target.mapping way.Blobs = rw (from, to) refl in
-    let few : new ≤ old + blob_steps (layout_by target.mapping target.extents target.fields) = within way.Blobs (strict_way source target way.Blobs strict is) in
-    let sum = rw to at few in
-    omega (arith, sum, packed_steps target.fields target.extents rows kinds)
+-- a copy between strict views, which goes by the way of their expressions and takes no more steps than that costs
+module _ (source target : Table) (old new : ℕ) (strict : (source.mode ≡ Strict) × (target.mode ≡ Strict)) (rows : length (indices target.extents) ≡ 1000) (kinds : kinds_of target.fields ≡ U32 ∷ [])
+    (within : (strategy : Strategy) → IsWay source target strategy → new ≤ old + copy_cost strategy source.mapping target.mapping target.fields target.extents) where
+  goes : (strategy : Strategy) → IsStrategy source.mapping target.mapping strategy → new ≤ old + copy_cost strategy source.mapping target.mapping target.fields target.extents
+  goes strategy is =
+      let may : MayMoveTo source target = rw strict.0 tt in
+      within strategy (inl (may, is))
 
-by_fields : (source target : Table) (old new : ℕ) → AreStrict source target → source.mapping ≡ Aos Packed Row → target.mapping ≡ Soa Multi Row → length (indices target.extents) ≡ 1000 →
-    kinds_of target.fields ≡ U32 ∷ [] → IsWithin source target old new → new ≤ old + 2000
-by_fields source target old new strict from to rows kinds within =
-    let leaf : length (leaves target.fields) ≡ 1 = sym (length-map (leaves target.fields) (λ leaf. leaf.kind)) ∙ ap (λ (ks : List LeafType). length ks) kinds in
-    let is : IsStrategy source.mapping target.mapping way.Fields = rw (from, to) ((λ e. cc), (λ e. e)) in
-    let few = within way.Fields (strict_way source target way.Fields strict is) in
-    let sum = rw (rows, leaf) at few in
-    omega (arith, sum)
+  by_runs : source.mapping ≡ Soa Multi Row → target.mapping ≡ Aosoa 8 Row → new ≤ old + 125
+  by_runs from to =
+      let is : IsStrategy source.mapping target.mapping way.Runs = rw (from, to) ((λ e. cc), refl) in
+      let few = rw (from, to) at (goes way.Runs is) in
+      let sum = rw (rows, kinds) at few in
+      omega (arith, sum, pieces)
 
-pub by_way : (strategy : Strategy) (source target : Table) (old new : ℕ) → AreStrict source target → source.mapping ≡ from_of strategy → target.mapping ≡ to_of strategy →
-    length (indices target.extents) ≡ 1000 → kinds_of target.fields ≡ U32 ∷ [] → IsWithin source target old new → new ≤ old + most_steps strategy
-by_way way.Runs = by_runs
-by_way way.Blobs = by_blobs
-by_way way.Fields = by_fields
+  by_blobs : source.mapping ≡ Aos Packed Row → target.mapping ≡ Aos Packed Row → new ≤ old + 63
+  by_blobs from to =
+      let is : IsStrategy source.mapping target.mapping way.Blobs = rw (from, to) refl in
+      let few : new ≤ old + blob_steps (layout_by target.mapping target.extents target.fields) = goes way.Blobs is in
+      let sum = rw to at few in
+      omega (arith, sum, packed_steps target.fields target.extents rows kinds)
+
+  by_fields : source.mapping ≡ Aos Packed Row → target.mapping ≡ Soa Multi Row → new ≤ old + 2000
+  by_fields from to =
+      let leaf : length (leaves target.fields) ≡ 1 = sym (length-map (leaves target.fields) (λ leaf. leaf.kind)) ∙ ap (λ (ks : List LeafType). length ks) kinds in
+      let is : IsStrategy source.mapping target.mapping way.Fields = rw (from, to) ((λ e. cc), (λ e. e)) in
+      let few = rw (from, to) at (goes way.Fields is) in
+      let sum = rw (rows, leaf) at few in
+      omega (arith, sum)
+
+  pub by_way : (strategy : Strategy) → source.mapping ≡ from_of strategy → target.mapping ≡ to_of strategy → new ≤ old + most_steps strategy
+  by_way way.Runs = by_runs
+  by_way way.Blobs = by_blobs
+  by_way way.Fields = by_fields
 
 -- the types of a record with one leaf
 one_kind : (kinds : List LeafType) (kind : LeafType) → length kinds ≡ 1 → slice_get kinds 0 ≡ Some kind → kinds ≡ kind ∷ []

@@ -9,7 +9,8 @@ ghost use Rattle.map_checks.specs.Prelude.{IsBuiltTerm};
 ghost use Rattle.piece_bits.specs.declared.mode.StoreMode.TheVariants.{Strict};
 ghost use Rattle.layout_tests.specs.Inner.Ways.{from_of, to_of, most_steps};
 
-use crate::tables::{aos, aosoa, is_numbered, number, soa, view_of};
+use crate::tables::{aos, is_numbered, number, soa, view_of};
+use extents::Order;
 use layout_copy::{CopyFault, copy};
 use map_any::{MapExpr, Strategy};
 use places::{AosForm, SoaForm};
@@ -43,8 +44,7 @@ fn source_of(way: Strategy) -> MapExpr
 {
     match way {
         Strategy::Runs => soa(SoaForm::Multi),
-        Strategy::Blobs => aos(AosForm::Packed),
-        Strategy::Fields => aos(AosForm::Packed),
+        Strategy::Blobs | Strategy::Fields => aos(AosForm::Packed),
     }
 }
 
@@ -53,7 +53,10 @@ fn target_of(way: Strategy) -> MapExpr
     ensures term { term_of result ≡ to_of way }
 {
     match way {
-        Strategy::Runs => aosoa(8),
+        Strategy::Runs => MapExpr::Aosoa {
+            lanes: 8,
+            order: Order::Row,
+        },
         Strategy::Blobs => aos(AosForm::Packed),
         Strategy::Fields => soa(SoaForm::Multi),
     }
@@ -91,7 +94,7 @@ fn zeros(alloc: Global, expr: &MapExpr) -> Result<View, Fail>
     Err(Fail::new("another view"))
 }
 
-// Whether a copy of a view of numbers brings them.
+// Whether a copy of a view that is numbered brings the numbers.
 fn brings<L: Ledger>(
     alloc: Global,
     way: Strategy,
@@ -101,9 +104,12 @@ fn brings<L: Ledger>(
     requires from { source.old.mapping ≡ from_of way }
     requires strict { source.old.mode ≡ Strict }
 {
+    number(source, steps)?;
     let mut target = zeros(alloc, &target_of(way))?;
     let answer = copy_so(way, source, &mut target, steps);
-    Ok(answer.is_ok() && is_numbered(&mut target))
+    let brings = answer.is_ok() && is_numbered(&mut target, steps);
+    drop(target);
+    Ok(brings)
 }
 
 fn goes_so<L: Ledger>(alloc: Global, way: Strategy, blank: Blank) -> Result<bool, Fail>
@@ -113,18 +119,15 @@ fn goes_so<L: Ledger>(alloc: Global, way: Strategy, blank: Blank) -> Result<bool
 {
     let mut steps = Steps::<L>::new(blank);
     let mut source = zeros(alloc, &source_of(way))?;
-    number(&mut source)?;
-    brings(alloc, way, &mut source, &mut steps)
-}
-
-fn goes(alloc: Global, way: Strategy) -> Result<bool, Fail> {
-    goes_so::<Brand>(alloc, way, Blank::new(1))
+    let goes = brings(alloc, way, &mut source, &mut steps);
+    drop(source);
+    goes
 }
 
 #[test]
 fn copies_of_1000_rows_take_at_most_125_or_63_or_2000_steps(rt: HostRuntime) -> Result<(), Fail> {
     for way in [Strategy::Runs, Strategy::Blobs, Strategy::Fields] {
-        assert!(rt; goes(rt.alloc(), way)?);
+        assert!(rt; goes_so::<Brand>(rt.alloc(), way, Blank::new(1))?);
     }
     Ok(())
 }

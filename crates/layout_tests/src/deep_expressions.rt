@@ -1,9 +1,9 @@
 // Expressions that are deeper than one of a line: they are made, bound, worked out and dropped without a long stack.
-ghost use Rattle.std.specs.Prelude.{◌≡◌, ◌<◌, length};
-ghost use Rattle.expr_lang.specs.Prelude.{bound_leaves, bound_rank};
+ghost use Rattle.std.specs.Prelude.{◌≡◌, ◌<◌};
 
-use expr_lang::{BinOp, Bound, EvalFault, Expr, Row, bind, eval};
-use record_dim::{Dim, Field, FieldList, LeafType, Name, Path, Schema, Steps};
+use crate::tables::schema_of;
+use expr_lang::{BinOp, EvalFault, Expr, Row, bind, eval};
+use record_dim::{LeafType, Name, Path, Steps};
 use std::alloc::{AllocError as NoMemory, Global};
 use std::marker::Brand;
 use std::sync::ledger::{Blank, Ledger};
@@ -32,18 +32,10 @@ impl Row for OneNumber {
     }
 }
 
+// The one leaf.
 fn leaf(alloc: Global) -> Result<Expr, Fail> {
-    let name = Name::new("a").ok_or("no name")?;
+    let name = Name::new("f0").ok_or("no name")?;
     Ok(Expr::Path(Path::new(alloc, name)?))
-}
-
-// a:i64
-fn schema(alloc: Global) -> Result<Schema, Fail> {
-    let name = Name::new("a").ok_or("no name")?;
-    let dim = Dim::Leaf(LeafType::I64);
-    let field = Box::new(alloc, Field { name, dim })?;
-    let rest = Box::new(alloc, FieldList::End)?;
-    Ok(Schema::new(alloc, Dim::Fields(FieldList::More { field, rest }))?)
 }
 
 // The expression under one sign.
@@ -62,26 +54,24 @@ fn binary(alloc: Global, op: BinOp, left: Expr, right: Expr) -> Result<Expr, NoM
     Ok(Expr::Binary { op, left, right })
 }
 
-fn value_on<L: Ledger>(bound: &Bound, row: &mut OneNumber, blank: Blank) -> Result<i128, EvalFault>
+// The value where the leaf is 2.
+fn value<L: Ledger>(
+    alloc: Global,
+    expr: &Expr,
+    blank: Blank,
+) -> Result<Result<i128, EvalFault>, Fail>
     requires name { blank.name ≡ L.name }
     requires parts { blank.parts ≡ L.parts }
     requires some { 0 < blank.parts }
-    requires leaves { bound_leaves bound.now ≡ 1 }
-    requires rank { bound_rank bound.now ≡ 0 }
 {
-    let mut steps = Steps::<L>::new(blank);
-    eval(bound, row, [].as_slice(), &mut steps)
-}
-
-// The value where the leaf is 2.
-fn value(alloc: Global, expr: &Expr) -> Result<Result<i128, EvalFault>, Fail> {
-    let schema = schema(alloc)?;
+    let schema = schema_of(alloc, &[LeafType::I64])?;
     if schema.leaf_count() != 1 {
         return Err(Fail::new("not one leaf"));
     }
     let bound = bind(alloc, expr, &schema, 0)?;
     let mut row = OneNumber { number: 2 };
-    Ok(value_on::<Brand>(&bound, &mut row, Blank::new(1)))
+    let mut steps = Steps::<L>::new(blank);
+    Ok(eval(&bound, &mut row, [].as_slice(), &mut steps))
 }
 
 #[test]
@@ -95,7 +85,8 @@ fn long_chains_take_little_stack(rt: HostRuntime) -> Result<(), Fail> {
         assert!(rt; operators > 40 || sum.depth() == operators + 1);
     }
     assert!(rt; sum.depth() == 4001 && signs.depth() == 4001);
-    assert!(rt; value(alloc, &sum)? == Ok(8002) && value(alloc, &signs)? == Ok(-1));
+    assert!(rt; value::<Brand>(alloc, &sum, Blank::new(1))? == Ok(8002));
+    assert!(rt; value::<Brand>(alloc, &signs, Blank::new(1))? == Ok(-1));
     let right = binary(alloc, BinOp::Mul, leaf(alloc)?, sum)?;
     assert!(rt; right.depth() == 4002);
     Ok(())

@@ -1,15 +1,8 @@
 // Records that are deeper and longer than one of a line: they are refused and dropped without a long stack or many steps.
-use record_dim::{BadRecord, Dim, Field, FieldList, LeafType, MakeSchema, Name, Schema};
+use crate::tables::field;
+use record_dim::{BadRecord, Dim, FieldList, LeafType, MakeSchema, Schema};
 use std::alloc::Global;
 use std::test::Fail;
-
-// The fields with one more in front.
-fn field(alloc: Global, text: &str, dim: Dim, rest: FieldList) -> Result<FieldList, Fail> {
-    let name = Name::new(text).ok_or("no name")?;
-    let field = Box::new(alloc, Field { name, dim })?;
-    let rest = Box::new(alloc, rest)?;
-    Ok(FieldList::More { field, rest })
-}
 
 fn array(alloc: Global, len: u32, element: Dim) -> Result<Dim, Fail> {
     let element = Box::new(alloc, element)?;

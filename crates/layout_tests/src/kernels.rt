@@ -34,59 +34,49 @@ fn sum_by_lanes<L: Ledger>(view: &mut View, steps: &mut Steps<L>) -> Answer
     run_lanes(view, &Kernel::Sum { x: 0 }, 16, steps)
 }
 
-// The sum of a view that has so many rows.
-fn summed<L: Ledger>(view: &mut View, blank: Blank) -> Option<Answer>
+// The sum of a view that gets its numbers, if it has so many rows.
+fn summed<L: Ledger>(view: &mut View, steps: &mut Steps<L>) -> Result<Option<Answer>, Fail> {
+    number(view, steps)?;
+    if view.extents().count() != 1000 || !is_narrow(view, 0) {
+        return Ok(None);
+    }
+    Ok(Some(sum_by_lanes(view, steps)))
+}
+
+fn sum_of_numbers<L: Ledger>(alloc: Global, blank: Blank) -> Result<Option<Answer>, Fail>
     requires name { blank.name ≡ L.name }
     requires parts { blank.parts ≡ L.parts }
     requires some { 0 < blank.parts }
 {
-    if view.extents().count() != 1000 || !is_narrow(view, 0) {
-        return None;
-    }
     let mut steps = Steps::<L>::new(blank);
-    Some(sum_by_lanes(view, &mut steps))
-}
-
-fn sum_of(view: &mut View) -> Option<Answer> {
-    summed::<Brand>(view, Blank::new(1))
+    let mut view = view_of(alloc, &[LeafType::U16], 1000, &aos(AosForm::Packed))?;
+    let sum = summed(&mut view, &mut steps);
+    drop(view);
+    sum
 }
 
 #[test]
 fn a_sum_over_1000_rows_by_16_lanes_takes_at_most_86_steps(rt: HostRuntime) -> Result<(), Fail> {
-    let kinds = [LeafType::U16];
-    let mut view = view_of(rt.alloc(), &kinds, 1000, &aos(AosForm::Packed))?;
-    number(&mut view)?;
-    assert!(rt; sum_of(&mut view) == Some(Ok(Some(500500))));
+    let sum = sum_of_numbers::<Brand>(rt.alloc(), Blank::new(1))?;
+    assert!(rt; sum == Some(Ok(Some(500500))));
     Ok(())
 }
 
 // Adds the first leaf to the second in each row, by so many lanes.
-fn add_from<L: Ledger>(view: &mut View, lanes: usize, blank: Blank) -> Answer
-    requires name { blank.name ≡ L.name }
-    requires parts { blank.parts ≡ L.parts }
-    requires some { 0 < blank.parts }
-    requires first { IsNarrowLeaf view.old 0 }
-    requires second { IsNarrowLeaf view.old 1 }
-    requires lane { 1 ≤ lanes }
-    requires few { lanes ≤ 16 }
-{
-    let mut steps = Steps::<L>::new(blank);
-    run_lanes(view, &Kernel::Axpy { a: 1, x: 0, y: 1 }, lanes, &mut steps)
-}
-
-fn added(view: &mut View, lanes: usize) -> Option<Answer> {
+fn added<L: Ledger>(view: &mut View, lanes: usize, steps: &mut Steps<L>) -> Option<Answer> {
     if is_narrow(view, 0) && is_narrow(view, 1) && 1 <= lanes && lanes <= 16 {
-        return Some(add_from::<Brand>(view, lanes, Blank::new(1)));
+        let kernel = Kernel::Axpy { a: 1, x: 0, y: 1 };
+        return Some(run_lanes(view, &kernel, lanes, steps));
     }
     None
 }
 
 // 22 rows of a number from 0 to 255 and one from -128 to 127, all 0 but for a 200 in one row that the second does not take.
-fn refusing(alloc: Global, row: u64) -> Result<View, Fail> {
+fn refusing<L: Ledger>(alloc: Global, row: u64, steps: &mut Steps<L>) -> Result<View, Fail> {
     let inner = Box::new(alloc, aos(AosForm::Packed))?;
     let kinds = [LeafType::U8, LeafType::I8];
     let mut view = view_of(alloc, &kinds, 22, &MapExpr::Count(inner))?;
-    set(&mut view, row, 200)?;
+    set(&mut view, row, 200, steps)?;
     Ok(view)
 }
 
@@ -102,14 +92,33 @@ fn has_counted(view: &View, leaf: usize, reads: u64, writes: u64) -> bool {
 
 // Whether the addition by so many lanes is refused in a row, after so many reads of each leaf and a write of the second in each row before
 // it. The write that made the row counts too.
-fn is_refused(view: &mut View, row: u64, lanes: usize, reads: u64) -> bool {
-    let refused = added(view, lanes) == Some(Err(KernelFault::Range { row, leaf: 1 }));
+fn is_refused<L: Ledger>(
+    view: &mut View,
+    row: u64,
+    lanes: usize,
+    reads: u64,
+    steps: &mut Steps<L>,
+) -> bool {
+    let refused = added(view, lanes, steps) == Some(Err(KernelFault::Range { row, leaf: 1 }));
     refused && has_counted(view, 0, reads, 1) && has_counted(view, 1, reads, row)
 }
 
-fn reads_so(alloc: Global, row: u64, lanes: usize, reads: u64) -> Result<bool, Fail> {
-    let mut view = refusing(alloc, row)?;
-    Ok(is_refused(&mut view, row, lanes, reads))
+fn reads_so<L: Ledger>(
+    alloc: Global,
+    row: u64,
+    lanes: usize,
+    reads: u64,
+    blank: Blank,
+) -> Result<bool, Fail>
+    requires name { blank.name ≡ L.name }
+    requires parts { blank.parts ≡ L.parts }
+    requires some { 0 < blank.parts }
+{
+    let mut steps = Steps::<L>::new(blank);
+    let mut view = refusing(alloc, row, &mut steps)?;
+    let is_so = is_refused(&mut view, row, lanes, reads, &mut steps);
+    drop(view);
+    Ok(is_so)
 }
 
 // A row that is refused, the lanes, and the reads of each leaf.
@@ -130,7 +139,7 @@ const READS: [(u64, usize, u64); 10] = [
 #[test]
 fn the_block_of_a_refused_row_is_read_to_its_end(rt: HostRuntime) -> Result<(), Fail> {
     for (row, lanes, reads) in READS {
-        assert!(rt; reads_so(rt.alloc(), row, lanes, reads)?);
+        assert!(rt; reads_so::<Brand>(rt.alloc(), row, lanes, reads, Blank::new(1))?);
     }
     Ok(())
 }

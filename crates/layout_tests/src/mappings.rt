@@ -149,24 +149,25 @@ fn one_cell(alloc: Global, leaf: usize, kind: LeafType) -> Result<CellList, NoMe
     Ok(cells)
 }
 
-// A list of two cells.
-fn two_cells(alloc: Global, one: Cell, other: Cell) -> Result<CellList, NoMemory>
-    ensures { IfOk result (λ cells. cells ≡ one ∷ other ∷ []) }
+// A list of two cells, the first of which is of the leaf 0.
+fn two_cells(
+    alloc: Global,
+    kind: LeafType,
+    leaf: usize,
+    other: LeafType,
+) -> Result<CellList, NoMemory>
+    ensures { IfOk result (λ cells. cells ≡ record { leaf = 0; kind = kind } ∷ record { leaf = leaf; kind = other } ∷ []) }
 {
-    let mut cells = Sequence::new(alloc);
-    cells.push(one)?;
-    cells.push(other)?;
+    let mut cells = one_cell(alloc, 0, kind)?;
+    cells.push(Cell { leaf, kind: other })?;
     Ok(cells)
 }
 
 // A cell of two bytes, each byte in a blob of its own.
 fn cut(alloc: Global) -> Result<String, NewMapping> {
     let cells = one_cell(alloc, 0, LeafType::U16)?;
-    let byte = Cell {
-        leaf: 0,
-        kind: LeafType::U8,
-    };
-    let inner = Soa::new(alloc, &two_cells(alloc, byte, byte)?, 2, SoaForm::Multi)?;
+    let bytes = two_cells(alloc, LeafType::U8, 0, LeafType::U8)?;
+    let inner = Soa::new(alloc, &bytes, 2, SoaForm::Multi)?;
     drawn(alloc, &Bytesplit::new(alloc, &cells, inner)?)
 }
 
@@ -180,15 +181,7 @@ fn narrow(alloc: Global) -> Result<String, NewMapping> {
 
 // Two cells, the second of which goes to the first side.
 fn sides(alloc: Global) -> Result<String, NewMapping> {
-    let byte = Cell {
-        leaf: 0,
-        kind: LeafType::U8,
-    };
-    let word = Cell {
-        leaf: 1,
-        kind: LeafType::U32,
-    };
-    let cells = two_cells(alloc, byte, word)?;
+    let cells = two_cells(alloc, LeafType::U8, 1, LeafType::U32)?;
     let first = one_cell(alloc, 1, LeafType::U32)?;
     let first = Aos::new(alloc, &first, 2, AosForm::Packed)?;
     let rest = one_cell(alloc, 0, LeafType::U8)?;

@@ -1,31 +1,38 @@
 // Views that tests make, and their numbers.
-ghost use Rattle.std.specs.Prelude.{◌≡◌, ◌<◌, IfOk, length};
+ghost use Rattle.std.specs.Prelude.{◌≡◌, IfOk};
 ghost use Rattle.extents.specs.declared.order.Order.TheVariants.{Row};
-ghost use Rattle.map_expr.specs.Terms.{Aos, Soa, Aosoa, term_of};
+ghost use Rattle.map_expr.specs.Terms.{Aos, Soa, term_of};
 ghost use Rattle.map_checks.specs.Prelude.{IsBuiltTerm};
 ghost use Rattle.piece_bits.specs.declared.mode.StoreMode.TheVariants.{Strict};
-ghost use Rattle.views.specs.Prelude.{leaf_count_of};
 
 use extents::{ExtentWord, Extents, Order, Shape};
 use map_any::MapExpr;
 use places::{AosForm, SoaForm};
 use record_dim::{Dim, Field, FieldList, LeafType, Name, Schema, Steps};
 use std::alloc::Global;
-use std::marker::Brand;
-use std::sync::ledger::{Blank, Ledger};
+use std::sync::ledger::Ledger;
 use std::test::Fail;
-use views::{StoreFault, View};
+use views::View;
+
+// The fields with one more in front.
+pub(crate) fn field(
+    alloc: Global,
+    text: &str,
+    dim: Dim,
+    rest: FieldList,
+) -> Result<FieldList, Fail> {
+    let name = Name::new(text).ok_or("no name")?;
+    let field = Box::new(alloc, Field { name, dim })?;
+    let rest = Box::new(alloc, rest)?;
+    Ok(FieldList::More { field, rest })
+}
 
 // A flat schema with a leaf of each of these types.
-fn schema_of(alloc: Global, kinds: &[LeafType]) -> Result<Schema, Fail> {
+pub(crate) fn schema_of(alloc: Global, kinds: &[LeafType]) -> Result<Schema, Fail> {
     let mut fields = FieldList::End;
     for (number, kind) in kinds.iter().enumerate().rev() {
         let text = format!(in alloc; "f{number}")?;
-        let name = Name::new(text.as_str()).ok_or("no name")?;
-        let dim = Dim::Leaf(*kind);
-        let field = Box::new(alloc, Field { name, dim })?;
-        let rest = Box::new(alloc, fields)?;
-        fields = FieldList::More { field, rest };
+        fields = field(alloc, text.as_str(), Dim::Leaf(*kind), fields)?;
     }
     Ok(Schema::new(alloc, Dim::Fields(fields))?)
 }
@@ -70,79 +77,45 @@ pub(crate) fn soa(form: SoaForm) -> MapExpr
     }
 }
 
-pub(crate) fn aosoa(lanes: u32) -> MapExpr
-    ensures built { IsBuiltTerm (term_of result) }
-    ensures term { term_of result ≡ Aosoa lanes Row }
-{
-    MapExpr::Aosoa {
-        lanes,
-        order: Order::Row,
-    }
-}
-
-fn set_from<L: Ledger>(
+// Stores a value in the first leaf of a row.
+pub(crate) fn set<L: Ledger>(
     view: &mut View,
     row: u64,
     value: i128,
-    blank: Blank,
-) -> Result<(), StoreFault>
-    requires name { blank.name ≡ L.name }
-    requires parts { blank.parts ≡ L.parts }
-    requires some { 0 < blank.parts }
-    requires row_in { row < length view.old.rows }
-    requires leaf_in { 0 < leaf_count_of view.old }
-    ensures mapping { view.new.mapping ≡ view.old.mapping }
-    ensures mode { view.new.mode ≡ view.old.mode }
-{
-    let mut steps = Steps::<L>::new(blank);
-    view.set(row, 0, value, &mut steps)
-}
-
-// Stores a value in the first leaf of a row.
-pub(crate) fn set(view: &mut View, row: u64, value: i128) -> Result<(), Fail>
+    steps: &mut Steps<L>,
+) -> Result<(), Fail>
     ensures mapping { view.new.mapping ≡ view.old.mapping }
     ensures mode { view.new.mode ≡ view.old.mode }
 {
     if row < view.extents().count() && view.schema().leaf_count() > 0 {
-        return Ok(set_from::<Brand>(view, row, value, Blank::new(1))?);
+        return Ok(view.set(row, 0, value, steps)?);
     }
     Err(Fail::new("outside"))
 }
 
-fn get_from<L: Ledger>(view: &mut View, row: u64, blank: Blank) -> i128
-    requires name { blank.name ≡ L.name }
-    requires parts { blank.parts ≡ L.parts }
-    requires some { 0 < blank.parts }
-    requires row_in { row < length view.old.rows }
-    requires leaf_in { 0 < leaf_count_of view.old }
-{
-    let mut steps = Steps::<L>::new(blank);
-    view.get(row, 0, &mut steps)
-}
-
 // The value in the first leaf of a row, if it has one.
-fn get(view: &mut View, row: u64) -> Option<i128> {
+fn get<L: Ledger>(view: &mut View, row: u64, steps: &mut Steps<L>) -> Option<i128> {
     if row < view.extents().count() && view.schema().leaf_count() > 0 {
-        return Some(get_from::<Brand>(view, row, Blank::new(1)));
+        return Some(view.get(row, 0, steps));
     }
     None
 }
 
 // Stores in each of 1,000 rows its number, counted from 1.
-pub(crate) fn number(view: &mut View) -> Result<(), Fail>
+pub(crate) fn number<L: Ledger>(view: &mut View, steps: &mut Steps<L>) -> Result<(), Fail>
     ensures mapping { view.new.mapping ≡ view.old.mapping }
     ensures mode { view.new.mode ≡ view.old.mode }
 {
     for row in 0..1000u64 {
-        set(view, row, i128::from(row + 1))?;
+        set(view, row, i128::from(row + 1), steps)?;
     }
     Ok(())
 }
 
 // Whether these numbers stand there.
-pub(crate) fn is_numbered(view: &mut View) -> bool {
+pub(crate) fn is_numbered<L: Ledger>(view: &mut View, steps: &mut Steps<L>) -> bool {
     for row in 0..1000u64 {
-        if get(view, row) != Some(i128::from(row + 1)) {
+        if get(view, row, steps) != Some(i128::from(row + 1)) {
             return false;
         }
     }

@@ -34,12 +34,6 @@ fn opened(alloc: Global) -> Result<View, Fail> {
     Ok(view.ok().ok_or("not opened")?)
 }
 
-// The sum of the first leaf.
-fn sum_of(alloc: Global, view: &mut View) -> Option<Option<i128>> {
-    let line = b"kernel V sum(f0) lanes 2";
-    run_kernel::<Brand>(alloc, view, line, Blank::new(1)).ok()
-}
-
 // The number of a line that is done.
 fn number_of(alloc: Global, view: &mut View, line: &[u8]) -> Option<Option<i128>> {
     do_line::<Brand>(alloc, view, line, Blank::new(1)).ok()
@@ -60,44 +54,12 @@ fn tells(alloc: Global, view: &mut View, line: &[u8], due: &[u8]) -> bool {
     is_told && needed <= text.len() && &text[..needed] == due
 }
 
-// Whether a view takes another layout.
-fn is_laid_anew(alloc: Global, view: &mut View) -> bool {
-    let line = b"relayout V as soa(multi, row)";
-    lay_anew::<Brand>(alloc, view, line, Blank::new(1)).is_ok()
-}
-
-// Whether these bytes become those of the blobs of a view.
-fn is_given_back(alloc: Global, view: &mut View, bytes: &[u8]) -> bool {
-    give_back::<Brand>(alloc, view, bytes, Blank::new(1)).is_ok()
-}
-
 // Whether the text of a view is this one, of at most 18 bytes.
 fn shows(alloc: Global, view: &mut View, due: &[u8]) -> bool {
     let mut text = [0; 18];
     let mut needed = 0;
     let put = put_table::<Brand>(alloc, view, &mut text, &mut needed, Blank::new(1));
     put.is_ok() && needed <= text.len() && &text[..needed] == due
-}
-
-// Whether a view is put as that file.
-fn is_put(alloc: Global, view: &View) -> bool {
-    let (mut bytes, mut needed) = ([0; 91], 0);
-    let put = put_file(alloc, view, &mut bytes, &mut needed);
-    put.is_ok() && needed == 91 && &bytes[..] == FILE
-}
-
-// Whether a view tells the line of its record.
-fn tells_its_record(alloc: Global, view: &View) -> bool {
-    let (mut text, mut needed) = ([0; 31], 0);
-    let put = put_record(alloc, view, &mut text, &mut needed);
-    put.is_ok() && needed == 31 && &text[..] == RECORD
-}
-
-// Whether it tells its own.
-fn tells_its_layout(alloc: Global, view: &View) -> bool {
-    let (mut text, mut needed) = ([0; 40], 0);
-    let put = put_layout(alloc, view, &mut text, &mut needed);
-    put.is_ok() && needed == 40 && &text[..] == &FILE[44..84]
 }
 
 #[test]
@@ -111,15 +73,20 @@ fn a_view_of_two_lines_has_zeros(rt: HostRuntime) -> Result<(), Fail> {
 fn a_dataset_is_loaded_printed_and_put_as_a_file(rt: HostRuntime) -> Result<(), Fail> {
     let mut view = loaded(rt.alloc())?;
     assert!(rt; shows(rt.alloc(), &mut view, TEXT));
-    assert!(rt; is_put(rt.alloc(), &view));
+    let (mut bytes, mut needed) = ([0; 91], 0);
+    let put = put_file(rt.alloc(), &view, &mut bytes, &mut needed);
+    assert!(rt; put.is_ok() && needed == 91 && &bytes[..] == FILE);
     Ok(())
 }
 
 #[test]
 fn a_table_is_summed_and_laid_anew(rt: HostRuntime) -> Result<(), Fail> {
     let mut view = loaded(rt.alloc())?;
-    assert!(rt; sum_of(rt.alloc(), &mut view) == Some(Some(261)));
-    assert!(rt; is_laid_anew(rt.alloc(), &mut view));
+    let line = b"kernel V sum(f0) lanes 2";
+    let sum = run_kernel::<Brand>(rt.alloc(), &mut view, line, Blank::new(1));
+    assert!(rt; sum.ok() == Some(Some(261)));
+    let line = b"relayout V as soa(multi, row)";
+    assert!(rt; lay_anew::<Brand>(rt.alloc(), &mut view, line, Blank::new(1)).is_ok());
     let (mut bytes, mut needed) = ([0; 2], 0);
     let put = put_blob(&view, 1, &mut bytes, &mut needed);
     assert!(rt; put.is_ok() && bytes == [255, 4]);
@@ -182,7 +149,7 @@ fn lent_bytes_are_changed_and_given_back(rt: HostRuntime) -> Result<(), Fail> {
     let (mut bytes, mut needed) = ([0; 6], 0);
     assert!(rt; lend(&view, &mut bytes, &mut needed).is_ok() && needed == 6);
     bytes[0] = 3;
-    assert!(rt; is_given_back(rt.alloc(), &mut view, &bytes));
+    assert!(rt; give_back::<Brand>(rt.alloc(), &mut view, &bytes, Blank::new(1)).is_ok());
     assert!(rt; shows(rt.alloc(), &mut view, b"f0,f1\n259,-1\n3,4\n"));
     Ok(())
 }
@@ -190,7 +157,10 @@ fn lent_bytes_are_changed_and_given_back(rt: HostRuntime) -> Result<(), Fail> {
 #[test]
 fn an_opened_view_tells_its_lines(rt: HostRuntime) -> Result<(), Fail> {
     let view = opened(rt.alloc())?;
-    assert!(rt; tells_its_record(rt.alloc(), &view));
-    assert!(rt; tells_its_layout(rt.alloc(), &view));
+    let (mut text, mut needed) = ([0; 40], 0);
+    let put = put_record(rt.alloc(), &view, &mut text[..31], &mut needed);
+    assert!(rt; put.is_ok() && needed == 31 && &text[..31] == RECORD);
+    let put = put_layout(rt.alloc(), &view, &mut text, &mut needed);
+    assert!(rt; put.is_ok() && needed == 40 && text[..] == FILE[44..84]);
     Ok(())
 }

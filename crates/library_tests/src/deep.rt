@@ -48,8 +48,8 @@ fn header_of(alloc: Global, first: &str, second: &str) -> Result<Vec<u8>, NoMemo
 }
 
 #[inline(never)]
-fn is_made(alloc: Global, first: &str, second: &str) -> bool {
-    new_view(alloc, first.as_bytes(), second.as_bytes()).is_ok()
+fn made(alloc: Global, first: &str, second: &str) -> Option<View> {
+    new_view(alloc, first.as_bytes(), second.as_bytes()).ok()
 }
 
 #[inline(never)]
@@ -77,7 +77,7 @@ fn is_run(alloc: Global, view: &mut View, line: &str) -> bool {
 fn is_taken(alloc: Global, first: &str, second: &str) -> Result<bool, NoMemory> {
     let file = header_of(alloc, first, second)?;
     Ok(
-        is_made(alloc, first, second)
+        made(alloc, first, second).is_some()
             || is_loaded(alloc, first, second)
             || is_opened(alloc, file.as_slice()),
     )
@@ -86,9 +86,7 @@ fn is_taken(alloc: Global, first: &str, second: &str) -> Result<bool, NoMemory> 
 #[test]
 fn expressions_in_expressions_are_read(rt: HostRuntime) -> Result<(), Fail> {
     let line = nested(rt.alloc(), "reduce V count where ", "(", "x", ")")?;
-    let mut view = new_view(rt.alloc(), RECORD.as_bytes(), VIEW.as_bytes())
-        .ok()
-        .ok_or("no view")?;
+    let mut view = made(rt.alloc(), RECORD, VIEW).ok_or("no view")?;
     assert!(rt; !is_taken(rt.alloc(), RECORD, line.as_str())?);
     assert!(rt; !is_laid_anew(rt.alloc(), &mut view, line.as_str()));
     assert!(rt; !is_run(rt.alloc(), &mut view, line.as_str()));
@@ -105,9 +103,7 @@ fn layouts_in_layouts_are_read(rt: HostRuntime) -> Result<(), Fail> {
         "aos(packed, row)",
         end,
     )?;
-    let mut view = new_view(rt.alloc(), RECORD.as_bytes(), VIEW.as_bytes())
-        .ok()
-        .ok_or("no view")?;
+    let mut view = made(rt.alloc(), RECORD, VIEW).ok_or("no view")?;
     assert!(rt; !is_taken(rt.alloc(), RECORD, line.as_str())?);
     let line = nested(rt.alloc(), "relayout V as ", begin, "aos(packed, row)", end)?;
     assert!(rt; !is_laid_anew(rt.alloc(), &mut view, line.as_str()));
@@ -146,9 +142,7 @@ fn is_shown(alloc: Global, view: &mut View, text: &mut [u8]) -> bool {
 #[test]
 fn a_wide_view_is_written(rt: HostRuntime) -> Result<(), Fail> {
     let line = wide_record(rt.alloc())?;
-    let mut view = new_view(rt.alloc(), line.as_bytes(), VIEW.as_bytes())
-        .ok()
-        .ok_or("no view")?;
+    let mut view = made(rt.alloc(), line.as_str(), VIEW).ok_or("no view")?;
     let mut bytes = vec![in rt.alloc(); 0u8; 131_072]?;
     assert!(rt; is_put(rt.alloc(), &view, bytes.as_mut_slice()));
     assert!(rt; is_shown(rt.alloc(), &mut view, bytes.as_mut_slice()));

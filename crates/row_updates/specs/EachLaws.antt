@@ -57,10 +57,12 @@ range-append a (suc m) n =
     ap (range_with_len a) more ∙ ap (λ (w : List ℕ). a ∷ w) (range-append (a + 1) m n ∙ ap (λ (w : ℕ). range_with_len (a + 1) m ++ range_with_len w n) on))
 
 -- the same of the numbers from 0 on
-pub rows_push : {B : Type 0} (step : ℕ → Result B UpdateFault) (n : ℕ) (ys : List B) (y : B) → each step (range_with_len 0 n) ≡ Ok ys → step n ≡ Ok y → each step (range_with_len 0 (n + 1)) ≡ Ok (ys ++ y ∷ [])
+pub rows_push : {B : Type 0} (step : ℕ → Result B UpdateFault) (n : ℕ) (ys : List B) (y : B) → each step (range_with_len 0 n) ≡ Ok ys → step n ≡ Ok y
+    → each step (range_with_len 0 (n + 1)) ≡ Ok (ys ++ y ∷ [])
 rows_push step n ys y so_far gives = grind (arith, range-append, range_with_len, each-append)
 
-pub rows_stop : {B : Type 0} (step : ℕ → Result B UpdateFault) (all n : ℕ) (ys : List B) (f : UpdateFault) → n < all → each step (range_with_len 0 n) ≡ Ok ys → step n ≡ Err f → each step (range_with_len 0 all) ≡ Err f
+pub rows_stop : {B : Type 0} (step : ℕ → Result B UpdateFault) (all n : ℕ) (ys : List B) (f : UpdateFault) → n < all → each step (range_with_len 0 n) ≡ Ok ys → step n ≡ Err f
+    → each step (range_with_len 0 all) ≡ Err f
 rows_stop step all n ys f small so_far stop =
     let on : 0 + n ≡ n = omega arith in
     let whole : all ≡ n + suc (all - (n + 1)) = omega (arith, small) in grind (arith, range_with_len, range-append, each-append)

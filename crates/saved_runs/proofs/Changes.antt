@@ -2,14 +2,10 @@
 use Rattle.saved_runs.proofs.Imports.{◌≡◌, ℕ, zero, suc, ◌+◌, ◌<◌, ◌≤◌, Bool, true, false, ℤ, List, [], ◌∷◌, length, map, get_or, Option, Some, None, Result, Ok, is_ok, if◌then◌else◌, sym, ap, ◌∙◌, subst, arith, append-nil, range_with_len, option_or, length-map, drop_all, take-length, Term, index_at, kinds_of, holds_by, hold_at, kept_by, StoreFault, Setting, each, in_row, store_kind, value_of, passes, new_value, updated_row, with_values, UpdateFault, UpdateKind, Store, stored, with_store, run_rows, answer_fault, kernel_store_fault, first_row_fault, empty_fault, kernel_fault, KernelFault, Kernel, Each, Header, AreRows, answer_by}
 use Rattle.row_updates.specs.Rows.{◌>>=◌}
 use Rattle.saved_runs.proofs.Rows.{IsRow, each_at, each_row, are_rows, set_row, taken_stays}
+use Rattle.saved_runs.proofs.Went.{Went}
 
 -- an answer that is given was given at each of its steps
-record Ran {A B : Type 0} (x : Result A UpdateFault) (f : A → Result B UpdateFault) (b : B) : Type 0 where
-  thing : A
-  first : x ≡ Ok thing
-  next : f thing ≡ Ok b
-
-ran : {A B : Type 0} (x : Result A UpdateFault) (f : A → Result B UpdateFault) (b : B) → (x >>= f) ≡ Ok b → Ran x f b
+ran : {A B : Type 0} (x : Result A UpdateFault) (f : A → Result B UpdateFault) (b : B) → (x >>= f) ≡ Ok b → Went x f b
 ran x f b is = grind arith
 
 abbrev given : {A : Type 0} → A → Result A UpdateFault

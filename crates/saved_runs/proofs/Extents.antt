@@ -20,17 +20,16 @@ record IsShaped (words : List ExtentWord) : Type 0 where
 ranked : (n : ℕ) → ((n == 0) || nat_lt 4 n) ≡ false → (1 ≤ n) × (n ≤ 4)
 ranked n is = grind (arith, nat_tests)
 
+-- three tests, none of which tells a cause
+all_passed : {A : Type 0} (a b c : Bool) (x y z : A) → (if a then Some x else (if b then Some y else (if c then Some z else None))) ≡ None → (a ≡ false) × (b ≡ false) × (c ≡ false)
+all_passed false false false x y z is = (refl, refl, refl)
+all_passed _ _ _ x y z is = absurd (cc is)
+
 is_shaped : (words : List ExtentWord) → bad_shape words ≡ None → IsShaped words
 is_shaped words is =
-    of_tests ((length words == 0) || nat_lt 4 (length words)) (nat_lt 1 (count_by is_rows words)) (nat_lt 0 (count_by is_rows words) && list_any is_zero words) refl refl refl is
-  where
-    of_tests : (rank two beside : Bool) → ((length words == 0) || nat_lt 4 (length words)) ≡ rank → nat_lt 1 (count_by is_rows words) ≡ two
-        → (nat_lt 0 (count_by is_rows words) && list_any is_zero words) ≡ beside
-        → (if rank then Some bad.Rank else (if two then Some bad.TwoRows else (if beside then Some bad.RowsBesideZero else None))) ≡ None → IsShaped words
-    of_tests false false false a b c is =
-        let rank = ranked (length words) a in
-        record { some = rank.0; few = rank.1; one = ltb-false 1 (count_by is_rows words) b; apart = c }
-    of_tests _ _ _ a b c is = absurd (cc is)
+    let tests = all_passed ((length words == 0) || nat_lt 4 (length words)) (nat_lt 1 (count_by is_rows words)) (nat_lt 0 (count_by is_rows words) && list_any is_zero words) bad.Rank bad.TwoRows bad.RowsBesideZero is in
+    let rank = ranked (length words) tests.0 in
+    record { some = rank.0; few = rank.1; one = ltb-false 1 (count_by is_rows words) tests.1; apart = tests.2 }
 
 -- what the tests of words for a number of rows say
 record IsRanged (words : List ExtentWord) (rows : Option ℕ) : Type 0 where
@@ -40,14 +39,9 @@ record IsRanged (words : List ExtentWord) (rows : Option ℕ) : Type 0 where
 
 is_ranged : (words : List ExtentWord) (rows : Option ℕ) → bad_extents words rows ≡ None → IsRanged words rows
 is_ranged words rows is =
-    of_tests (nat_lt 0 (count_by is_rows words) && not (unwrap_or rows 0 % fixed_product words == 0)) ((count_by is_rows words == 0) && option_map_or (λ n. not (n == fixed_product words)) rows false)
-    (nat_lt (2 ^ 24) (product (extents_for words rows))) refl refl refl is
-  where
-    of_tests : (uneven unequal many : Bool) → (nat_lt 0 (count_by is_rows words) && not (unwrap_or rows 0 % fixed_product words == 0)) ≡ uneven
-        → ((count_by is_rows words == 0) && option_map_or (λ n. not (n == fixed_product words)) rows false) ≡ unequal → nat_lt (2 ^ 24) (product (extents_for words rows)) ≡ many
-        → (if uneven then Some bad.NotDivisible else (if unequal then Some bad.NotEqual else (if many then Some bad.TooMany else None))) ≡ None → IsRanged words rows
-    of_tests false false false a b c is = record { even = a; equal = b; few = ltb-false (2 ^ 24) (product (extents_for words rows)) c }
-    of_tests _ _ _ a b c is = absurd (cc is)
+    let tests = all_passed (nat_lt 0 (count_by is_rows words) && not (unwrap_or rows 0 % fixed_product words == 0)) ((count_by is_rows words == 0) && option_map_or (λ n. not (n == fixed_product words)) rows false)
+    (nat_lt (2 ^ 24) (product (extents_for words rows))) bad.NotDivisible bad.NotEqual bad.TooMany is in
+    record { even = tests.0; equal = tests.1; few = ltb-false (2 ^ 24) (product (extents_for words rows)) tests.2 }
 
 at_most_one : (n : ℕ) → n ≤ 1 → (n ≡ 0) ⊎ (n ≡ 1)
 at_most_one n few = grind arith

@@ -1,5 +1,5 @@
 -- Lines that say the header of a table.
-use Rattle.saved_runs.proofs.Imports.{◌≡◌, ℕ, ◌+◌, ◌^◌, ◌<◌, ◌≤◌, Bool, true, false, not, ◌&&◌, List, [], ◌∷◌, ◌++◌, length, map, codes, nat_lt, Some, Result, Ok, Err, inl, refl, sym, ap, subst, append-nil, append_assoc, arith, lt-ltb, ltb-false, Grammar, Is, AreSpelled, spaced_tokens, OpenBracket, CloseBracket, Colon, Comma, Fields, Record, Fixed, MapTerm, Split, Byteswap, Bytesplit, Change, Counted, Heated, depth_of, checked, has_counter, counts_once, bad_number, answered, accepted, else_for, Cell, Token, Word, Sign, Two, name_of, count_of, command_of, Sentence, New, Define, View, name, count, fixed, later, listed, bracket_list, flag, new, mapping_phrase, body, command_line, line, count_token, written, IsSpelled, Each, fits_more, fits_flat, one_fits, word_spelled, fits_alone, decimal_spells, joined_reads, Header, is_wrap, view_line, HasLine, or_parts, not-true, if◌then◌else◌}
+use Rattle.saved_runs.proofs.Imports.{◌≡◌, ℕ, ◌+◌, ◌^◌, ◌<◌, ◌≤◌, Bool, true, false, not, List, [], ◌∷◌, ◌++◌, length, map, codes, nat_lt, Some, Result, Ok, Err, inl, refl, sym, ap, subst, append-nil, append_assoc, arith, lt-ltb, ltb-false, Grammar, Is, AreSpelled, spaced_tokens, OpenBracket, CloseBracket, Colon, Comma, Fields, Record, Fixed, MapTerm, Split, Byteswap, Bytesplit, Change, Counted, Heated, depth_of, checked, has_counter, counts_once, bad_number, answered, accepted, else_for, Cell, Token, Word, Sign, Two, name_of, count_of, command_of, Sentence, New, Define, View, name, count, fixed, later, listed, bracket_list, flag, new, mapping_phrase, body, command_line, line, count_token, written, IsSpelled, Each, fits_more, fits_flat, one_fits, word_spelled, fits_alone, decimal_spells, joined_reads, Header, is_wrap, view_line, HasLine, and_parts, or_parts, not-true, if◌then◌else◌}
 use Rattle.map_expr.specs.declared.check.BadMapping.{BadMapping}
 use Rattle.map_expr.specs.declared.check.BadMapping.TheVariants as bad
 use Rattle.line_grammar.specs.declared.line.Command.TheVariants as command
@@ -12,9 +12,6 @@ use Rattle.saved_runs.proofs.Lines.{AreFields}
 abbrev one_if : Bool → ℕ
 one_if true = 1
 one_if false = 0
-
-and_true : (a b : Bool) → (a && b) ≡ true → (a ≡ true) × (b ≡ true)
-and_true a b is = grind arith
 
 uncounted_low : (term : MapTerm) → has_counter term ≡ false → height term ≤ depth_of term
 uncounted_low (Split path first rest) none =
@@ -30,29 +27,24 @@ uncounted_low other none = omega arith
 -- with at most one counter of each kind, at the top
 counted_low : (count heat : Bool) (term : MapTerm) → counts_once count heat term ≡ true → height term ≤ depth_of term + (one_if count + one_if heat)
 counted_low count heat (Counted inner) once =
-    let parts = and_true count (counts_once false heat inner) once in
+    let parts = and_parts count (counts_once false heat inner) once in
     let below = counted_low false heat inner parts.1 in
     let one : one_if count ≡ 1 = ap one_if parts.0 in
     omega (arith, below, one)
 counted_low count heat (Heated granule inner) once =
-    let parts = and_true heat (counts_once count false inner) once in
+    let parts = and_parts heat (counts_once count false inner) once in
     let below = counted_low count false inner parts.1 in
     let one : one_if heat ≡ 1 = ap one_if parts.0 in
     omega (arith, below, one)
-counted_low count heat (Split path first rest) once = omega (arith, uncounted_low (Split path first rest) (not-true _ once))
-counted_low count heat (Byteswap inner) once = omega (arith, uncounted_low (Byteswap inner) (not-true _ once))
-counted_low count heat (Bytesplit inner) once = omega (arith, uncounted_low (Bytesplit inner) (not-true _ once))
-counted_low count heat (Change from to inner) once = omega (arith, uncounted_low (Change from to inner) (not-true _ once))
-counted_low count heat other once = omega arith
+counted_low count heat other once = omega (arith, uncounted_low other (not-true (has_counter other) once))
 
 checked_low : (term : MapTerm) → checked term ≡ Ok tt → height term ≤ 10
 checked_low term is = of_tests (nat_lt 8 (depth_of term)) (counts_once true true term) refl refl is
   where
     of_tests : (deep once : Bool) → nat_lt 8 (depth_of term) ≡ deep → counts_once true true term ≡ once
         → (if deep then Err bad.TooDeep else (if not once then Err bad.Counter else answered (bad_number term))) ≡ Ok tt → height term ≤ 10
-    of_tests true once deep counts is = absurd (cc is)
-    of_tests false false deep counts is = absurd (cc is)
     of_tests false true deep counts is = omega (arith, ltb-false 8 (depth_of term) deep, counted_low true true term counts)
+    of_tests _ _ deep counts is = absurd (cc is)
 
 earlier : (why : BadMapping) (holds : Bool) (answer : Result Unit BadMapping) → else_for why holds answer ≡ Ok tt → answer ≡ Ok tt
 earlier why holds answer is = grind arith

@@ -1,5 +1,5 @@
 -- What the proofs of this crate speak of.
-pub use Rattle.record_dim.specs.Std.{◌≡◌, ℕ, zero, suc, ◌+◌, ◌<◌, ◌≤◌, Bool, true, false, ℤ, List, [], ◌∷◌, ◌++◌, length, map, get_or, Option, Some, None, Result, Ok, Err, is_ok, if◌then◌else◌, refl, sym, ap, ◌∙◌, subst, arith, append-nil, ◌⊎◌, ◌*◌, ◌/◌, ◌%◌, ◌^◌, not, ◌&&◌, nat_lt, inl, inr, ⊎_elim, codes, append_assoc, ◌-◌, pos, max, length-append, set, get_or-set_other, get_or-set_same, range_with_len, list_any, enumerate_from, option_or, option_map_or, length-map, drop_all, take-length, ◌||◌, ◌==◌, count_by, unwrap_or, is_some, sum_by, MatchResult, IfSome, le-ltb, ltb-false, lt-ltb, ltb-true, lt-leb, cases_eq, and_from, or_parts, not-true, nat_tests, mul-le-mul_left, le-max_left, le-max_right, sum_by-cons, pow_pos, length-enumerate_from}
+pub use Rattle.record_dim.specs.Std.{◌≡◌, ℕ, zero, suc, ◌+◌, ◌<◌, ◌≤◌, Bool, true, false, ℤ, List, [], ◌∷◌, ◌++◌, length, map, get_or, Option, Some, None, Result, Ok, Err, is_ok, if◌then◌else◌, refl, sym, ap, ◌∙◌, subst, arith, append-nil, ◌⊎◌, ◌*◌, ◌/◌, ◌%◌, ◌^◌, not, ◌&&◌, nat_lt, inl, inr, ⊎_elim, codes, append_assoc, ◌-◌, pos, max, length-append, set, get_or-set_other, get_or-set_same, range_with_len, list_any, enumerate_from, option_or, option_map_or, length-map, drop_all, take-length, ◌||◌, ◌==◌, count_by, unwrap_or, is_some, sum_by, MatchResult, IfSome, le-ltb, ltb-false, lt-ltb, ltb-true, lt-leb, cases_eq, and_from, and_parts, or_parts, not-true, nat_tests, mul-le-mul_left, le-max_left, le-max_right, sum_by-cons, pow_pos, length-enumerate_from}
 pub use Rattle.std.specs.List.{slice_get}
 pub use Rattle.std.proofs.Math.ListN.{length-set}
 pub use Rattle.expr_lang.specs.Prelude.{Term}

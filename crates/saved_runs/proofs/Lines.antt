@@ -39,15 +39,13 @@ bracketed_each one P has = as_asked stand_splits (bracket_list one) (λ xs v. Ea
 
 -- spelled tokens have room before fewer brackets
 after_less : (token : TokenKind) (few many : ℕ) → few ≤ many → MayOpen token many → MayOpen token few × (brackets_after token few ≤ brackets_after token many)
-after_less kind.Word few many less room = (tt, less)
-after_less (kind.Number value) few many less room = (tt, less)
-after_less kind.Text few many less room = (tt, less)
 after_less (kind.Sign sign) few many less room = ((λ o. omega (arith, less, room o)), after (opens sign) (closes sign))
   where
     after : (o c : Bool) → (if o then few + 1 else (if c then few - 1 else few)) ≤ (if o then many + 1 else (if c then many - 1 else many))
     after true c = omega (arith, less)
     after false true = omega (arith, less)
     after false false = less
+after_less token few many less room = (tt, less)
 
 fewer : (xs : List Token) (few many : ℕ) → few ≤ many → AreSpelled many (map written xs) → AreSpelled few (map written xs)
 fewer [] few many less h = tt

@@ -2,14 +2,10 @@
 use Rattle.saved_runs.proofs.Imports.{◌≡◌, ℕ, zero, suc, ◌+◌, ◌<◌, ◌≤◌, ℤ, pos, List, [], ◌∷◌, length, get_or, Result, Ok, refl, sym, ap, ◌∙◌, subst, arith, slice_get, enumerate_from, length-map, indices, LeafType, Leaf, leaves, kinds_of, texts_of, path_text_of, Hold, holds_by, leaf_cells, length-holds, length-leaf_cells, hold_at, kind_at, Stays, StoreMode, answer_stays, store_answer, StoreFault, Place, records_behind, one_column, columns_named, columns_of, unspaced, number_behind_sign, the_field, the_number, taken, value_at, row_values, table_from, with_columns, dataset_table, RowFault, Each, Header, AreRows}
 use Rattle.csv_rows.specs.Datasets.{◌>>=◌, header_record}
 use Rattle.saved_runs.proofs.Rows.{IsRow, are_rows}
+use Rattle.saved_runs.proofs.Went.{Went}
 
 -- an answer that is given was given at each of its steps
-record Ran {A B : Type 0} (x : Result A RowFault) (f : A → Result B RowFault) (b : B) : Type 0 where
-  thing : A
-  first : x ≡ Ok thing
-  next : f thing ≡ Ok b
-
-ran : {A B : Type 0} (x : Result A RowFault) (f : A → Result B RowFault) (b : B) → (x >>= f) ≡ Ok b → Ran x f b
+ran : {A B : Type 0} (x : Result A RowFault) (f : A → Result B RowFault) (b : B) → (x >>= f) ≡ Ok b → Went x f b
 ran x f b is = grind arith
 
 abbrev given : {A : Type 0} → A → Result A RowFault
@@ -45,9 +41,6 @@ row_loaded : (mode : StoreMode) (row : ℕ) (fields : List (List ℕ)) (leaf : �
     → length columns ≡ length kinds → length holds ≡ length kinds → ((k : ℕ) → k < length kinds → 1 ≤ (hold_at holds k).width)
     → row_values row fields leaf (with_columns mode columns kinds holds) ≡ Ok values → IsLoaded mode kinds holds values
 row_loaded mode row fields leaf [] [] holds values few many wide is = grind (arith, same_answers)
-row_loaded mode row fields leaf [] (kind ∷ kinds) holds values few many wide is = absurd (omega (arith, few))
-row_loaded mode row fields leaf (column ∷ columns) [] holds values few many wide is = absurd (omega (arith, few))
-row_loaded mode row fields leaf (column ∷ columns) (kind ∷ kinds) [] values few many wide is = absurd (omega (arith, many))
 row_loaded mode row fields leaf (column ∷ columns) (kind ∷ kinds) (hold ∷ holds) values few many wide is =
     let place : Place = record { row = row; leaf = leaf; column = column; mode = mode; kind = kind; hold = hold } in
     let a = ran (value_at place fields) _ values is in
@@ -55,6 +48,7 @@ row_loaded mode row fields leaf (column ∷ columns) (kind ∷ kinds) (hold ∷ 
     let later = row_loaded mode row fields (leaf + 1) columns kinds holds b.thing (omega (arith, few)) (omega (arith, many)) (λ k l. wide (suc k) (omega (arith, l))) b.first in
     subst (IsLoaded mode (kind ∷ kinds) (hold ∷ holds)) (same_answers (a.thing ∷ b.thing) values b.next)
     (loaded_more mode kind kinds hold holds a.thing b.thing (value_stays place fields a.thing (wide 0 (omega arith)) a.first) later)
+row_loaded mode row fields leaf columns kinds holds values few many wide is = absurd (omega (arith, few, many))
 
 -- as many columns as names
 columns_long : (fields : List (List ℕ)) (leaf : ℕ) (names : List (List ℕ)) (columns : List ℕ) → columns_of fields leaf names ≡ Ok columns → length columns ≡ length names
@@ -65,12 +59,6 @@ columns_long fields leaf (name ∷ names) columns is =
     ap (length {A = ℕ}) (sym (same_answers (a.thing ∷ b.thing) columns b.next)) ∙ ap suc (columns_long fields (leaf + 1) names b.thing b.first)
 
 module _ (header : Header) (wide : (leaf : ℕ) → leaf < length (kinds_of header.fields) → 1 ≤ (hold_at (holds_by header.mapping header.fields) leaf).width) where
-  abbrev kinds : List LeafType
-  kinds = kinds_of header.fields
-
-  abbrev holds : List Hold
-  holds = holds_by header.mapping header.fields
-
   kinds_long : length (kinds_of header.fields) ≡ length (leaves header.fields)
   kinds_long = length-map (leaves header.fields) (λ (leaf : Leaf). leaf.kind)
 

@@ -1,5 +1,5 @@
 -- The mapping expressions that lines say: their parts, and the tokens of such an expression.
-use Rattle.saved_runs.proofs.Imports.{◌≡◌, ℕ, zero, suc, ◌+◌, ◌≤◌, max, List, [], ◌∷◌, Option, Some, None, refl, sym, subst, arith, le-max_left, le-max_right, Grammar, Is, item, behind_token, Asked, as_asked, OpenBrace, CloseBrace, OpenParen, CloseParen, Comma, Arrow, Order, FieldWidth, MapTerm, Aos, Soa, Aosoa, BitAos, BitSoa, Split, Byteswap, Bytesplit, Change, Counted, Heated, Named, Token, Word, Sign, Two, MapWord, name_of, count_of, type_of, integer_type_of, token_order, aos_form_of, soa_form_of, map_word, form_word, name, count, part, parts, path, field_width, field_widths, braced_widths, inside_aos, inside_soa, inside_aosoa, inside_bits, inside_form, form_or_name, mapping_phrase, mapping_within, IsSpelled, fits_flat, one_fits, word_spelled}
+use Rattle.saved_runs.proofs.Imports.{◌≡◌, ℕ, zero, suc, ◌+◌, ◌≤◌, max, List, [], ◌∷◌, Option, Some, None, refl, sym, subst, arith, le-max_left, le-max_right, Grammar, Is, item, behind_token, joined, nothing, Asked, as_asked, OpenBrace, CloseBrace, OpenParen, CloseParen, Comma, Arrow, Order, FieldWidth, MapTerm, Aos, Soa, Aosoa, BitAos, BitSoa, Split, Byteswap, Bytesplit, Change, Counted, Heated, Named, Token, Word, Sign, Two, MapWord, name_of, count_of, type_of, integer_type_of, token_order, aos_form_of, soa_form_of, map_word, form_word, name, count, part, parts, path, field_width, field_widths, braced_widths, inside_aos, inside_soa, inside_aosoa, inside_bits, inside_form, form_or_name, mapping_phrase, mapping_within, IsSpelled, fits_flat, one_fits, word_spelled}
 use Rattle.record_dim.specs.declared.path.PathStep.TheVariants as step
 use Rattle.line_grammar.specs.declared.line.MapWord.TheVariants as form
 use Rattle.saved_runs.proofs.Told.{Told, told_more, told_nothing, told_item, told_behind, told_joined, told_first, told_second, told_inside, Keeps, keeps_nothing, keeps_item, keeps_behind, keeps_joined, keeps_either, keeps_which, keeps_each, keeps_inside, keeps_listed}
@@ -68,11 +68,9 @@ module _ (inner : Grammar Token MapTerm) (inner_has : (xs : List Token) (v : Map
   form_has form.BitAos = bits_have BitAos (λ width fields order told. told)
   form_has form.BitSoa = bits_have BitSoa (λ width fields order told. told)
   form_has form.Split = λ path xs i s first ys j t rest zs k u. (kept_told 1 path_keeps xs path i s, (inner_has ys first j t, inner_has zs rest k u))
-  form_has form.Byteswap = λ map xs i s. inner_has xs map i s
-  form_has form.Bytesplit = λ map xs i s. inner_has xs map i s
   form_has form.Change = λ from xs i s to ys j t map zs k u. (item_told type_of (λ sign. refl) xs from i s, (item_told integer_type_of (λ sign. refl) ys to j t, inner_has zs map k u))
-  form_has form.Count = λ map xs i s. inner_has xs map i s
   form_has form.Heat = λ granule xs i s map ys j t. (count_told xs granule i s, inner_has ys map j t)
+  form_has _ = λ map xs i s. inner_has xs map i s
 
   form_or_name_has : (word : List ℕ) → Told 0 name word → (form : Option MapWord) → Asked Stand (form_or_name Two inner word form) (λ xs v. HasTokens v)
   unfolding form_or_name
@@ -115,14 +113,14 @@ form_words : (form : MapWord) → IsFormWord form
 form_words form = grind (arith, word_spelled)
 
 -- a form around what stands in its brackets
-told_form : (n k m : ℕ) → k + 1 ≤ m → (form : MapWord) (term : MapTerm) → Told k (inside_form Two (mapping_within Two n) form) term → Told m (mapping_within Two (suc n)) term
+told_form : (n : ℕ) (form : MapWord) (term : MapTerm) → Told (n + 2) (inside_form Two (mapping_within Two n) form) term → Told (suc n + 2) (mapping_within Two (suc n)) term
 unfolding mapping_within form_or_name
-told_form n k m less form term inside =
+told_form n form term inside =
     let word = form_words form in
-    let bracketed : Told m (form_or_name Two (mapping_within Two n) (form_word form) (Some form)) term =
-    told_first m (told_more (k + 1) m less (told_inside k OpenParen CloseParen refl refl refl inside)) in
-    told_joined m (told_item m name_of (Word (form_word form)) (form_word form) word.name (one_fits (Word (form_word form)) refl word.spelled))
-    (subst (λ (o : Option MapWord). Told m (form_or_name Two (mapping_within Two n) (form_word form) o) term) (sym word.meant) bracketed)
+    let bracketed : Told (suc n + 2) (form_or_name Two (mapping_within Two n) (form_word form) (Some form)) term =
+    told_first (suc n + 2) (told_more (n + 2 + 1) (suc n + 2) (omega arith) (told_inside (n + 2) OpenParen CloseParen refl refl refl inside)) in
+    told_joined (suc n + 2) (told_item (suc n + 2) name_of (Word (form_word form)) (form_word form) word.name (one_fits (Word (form_word form)) refl word.spelled))
+    (subst (λ (o : Option MapWord). Told (suc n + 2) (form_or_name Two (mapping_within Two n) (form_word form) o) term) (sym word.meant) bracketed)
 
 -- a part behind a comma, and a part without brackets
 comma : {A : Type 0} {one : Grammar Token A} {v : A} (k : ℕ) → Told k one v → Told k (behind_token (Sign Comma) one) v
@@ -131,13 +129,20 @@ comma k t = told_behind k (Sign Comma) (λ xs f. fits_flat k (Sign Comma) xs ref
 plain : {A : Type 0} {one : Grammar Token A} {v : A} (k : ℕ) → Told 0 one v → Told k one v
 plain k t = told_more 0 k (omega arith) t
 
+-- the last part, and two parts without brackets
+told_last : {A : Type 0} {one : Grammar Token A} {v : A} (n : ℕ) (value : A → MapTerm) → Told (n + 2) one v → Told (n + 2) (joined one (λ w. nothing (value w))) (value v)
+told_last {v = v} n value t = told_joined (n + 2) t (told_nothing (n + 2) (value v))
+
+told_two : {A B : Type 0} {one : Grammar Token A} {other : Grammar Token B} {v : A} {w : B} (n : ℕ) (value : A → B → MapTerm) → Told 0 one v × Told 0 other w
+    → Told (n + 2) (joined one (λ a. behind_token (Sign Comma) (joined other (λ b. nothing (value a b))))) (value v w)
+told_two {v = v} n value h = told_joined (n + 2) (plain (n + 2) h.0) (comma (n + 2) (told_last n (value v) (plain (n + 2) h.1)))
+
 told_bits : (n : ℕ) (value : ℕ → List FieldWidth → Order → MapTerm) (width : ℕ) (fields : List FieldWidth) (order : Order)
     → Told 0 count width × (Told 2 (field_widths Two) fields × Told 0 (item token_order) order) → Told (n + 2) (inside_bits Two value) (value width fields order)
 unfolding inside_bits
 told_bits n value width fields order h =
-    let k : ℕ = n + 2 in
-    let widths : Told k (field_widths Two) fields = told_more 2 k (omega arith) h.1.0 in
-    told_joined k (plain k h.0) (told_joined k widths (comma k (told_joined k (plain k h.1.1) (told_nothing k (value width fields order)))))
+    told_joined (n + 2) (plain (n + 2) h.0)
+    (told_joined (n + 2) (told_more 2 (n + 2) (omega arith) h.1.0) (comma (n + 2) (told_last n (value width fields) (plain (n + 2) h.1.1))))
 
 told_name : (n k : ℕ) (name : List ℕ) (form : Option MapWord) → Told k (form_or_name Two (mapping_within Two n) name form) (Named name)
 unfolding form_or_name
@@ -148,42 +153,23 @@ told_name n k name (Some form) = told_second k (told_nothing k (Named name))
 pub told_map : (n : ℕ) (term : MapTerm) → HasTokens term → height term ≤ n → Told (n + 2) (mapping_within Two n) term
 unfolding mapping_within inside_form inside_aos inside_soa inside_aosoa
 told_map zero term h low = absurd (omega (arith, some_height term, low))
-told_map (suc n) (Aos f order) h low =
-    let k : ℕ = n + 2 in
-    told_form n k (suc n + 2) (omega arith) form.Aos (Aos f order) (told_joined k (plain k h.0) (comma k (told_joined k (plain k h.1) (told_nothing k (Aos f order)))))
-told_map (suc n) (Soa f order) h low =
-    let k : ℕ = n + 2 in
-    told_form n k (suc n + 2) (omega arith) form.Soa (Soa f order) (told_joined k (plain k h.0) (comma k (told_joined k (plain k h.1) (told_nothing k (Soa f order)))))
-told_map (suc n) (Aosoa lanes order) h low =
-    let k : ℕ = n + 2 in
-    told_form n k (suc n + 2) (omega arith) form.Aosoa (Aosoa lanes order) (told_joined k (plain k h.0) (comma k (told_joined k (plain k h.1) (told_nothing k (Aosoa lanes order)))))
-told_map (suc n) (BitAos width fields order) h low =
-    told_form n (n + 2) (suc n + 2) (omega arith) form.BitAos (BitAos width fields order) (told_bits n BitAos width fields order h)
-told_map (suc n) (BitSoa width fields order) h low =
-    told_form n (n + 2) (suc n + 2) (omega arith) form.BitSoa (BitSoa width fields order) (told_bits n BitSoa width fields order h)
+told_map (suc n) (Aos f order) h low = told_form n form.Aos (Aos f order) (told_two n Aos h)
+told_map (suc n) (Soa f order) h low = told_form n form.Soa (Soa f order) (told_two n Soa h)
+told_map (suc n) (Aosoa lanes order) h low = told_form n form.Aosoa (Aosoa lanes order) (told_two n Aosoa h)
+told_map (suc n) (BitAos width fields order) h low = told_form n form.BitAos (BitAos width fields order) (told_bits n BitAos width fields order h)
+told_map (suc n) (BitSoa width fields order) h low = told_form n form.BitSoa (BitSoa width fields order) (told_bits n BitSoa width fields order h)
 told_map (suc n) (Split along first rest) h low =
-    let k : ℕ = n + 2 in
-    let path_told : Told k path along = told_more 1 k (omega arith) h.0 in
     let one = told_map n first h.1.0 (omega (arith, le-max_left (height first) (height rest), low)) in
     let two = told_map n rest h.1.1 (omega (arith, le-max_right (height first) (height rest), low)) in
-    told_form n k (suc n + 2) (omega arith) form.Split (Split along first rest)
-    (told_joined k path_told (comma k (told_joined k one (comma k (told_joined k two (told_nothing k (Split along first rest)))))))
-told_map (suc n) (Byteswap inner) h low =
-    let k : ℕ = n + 2 in
-    told_form n k (suc n + 2) (omega arith) form.Byteswap (Byteswap inner) (told_joined k (told_map n inner h (omega (arith, low))) (told_nothing k (Byteswap inner)))
-told_map (suc n) (Bytesplit inner) h low =
-    let k : ℕ = n + 2 in
-    told_form n k (suc n + 2) (omega arith) form.Bytesplit (Bytesplit inner) (told_joined k (told_map n inner h (omega (arith, low))) (told_nothing k (Bytesplit inner)))
+    told_form n form.Split (Split along first rest)
+    (told_joined (n + 2) (told_more 1 (n + 2) (omega arith) h.0) (comma (n + 2) (told_joined (n + 2) one (comma (n + 2) (told_last n (Split along first) two)))))
+told_map (suc n) (Byteswap inner) h low = told_form n form.Byteswap (Byteswap inner) (told_last n Byteswap (told_map n inner h (omega (arith, low))))
+told_map (suc n) (Bytesplit inner) h low = told_form n form.Bytesplit (Bytesplit inner) (told_last n Bytesplit (told_map n inner h (omega (arith, low))))
 told_map (suc n) (Change from to inner) h low =
-    let k : ℕ = n + 2 in
-    let rest = comma k (told_joined k (told_map n inner h.1.1 (omega (arith, low))) (told_nothing k (Change from to inner))) in
-    told_form n k (suc n + 2) (omega arith) form.Change (Change from to inner)
-    (told_joined k (plain k h.0) (told_behind k (Sign Arrow) (λ xs f. fits_flat k (Sign Arrow) xs refl refl f) (told_joined k (plain k h.1.0) rest)))
-told_map (suc n) (Counted inner) h low =
-    let k : ℕ = n + 2 in
-    told_form n k (suc n + 2) (omega arith) form.Count (Counted inner) (told_joined k (told_map n inner h (omega (arith, low))) (told_nothing k (Counted inner)))
+    told_form n form.Change (Change from to inner)
+    (told_joined (n + 2) (plain (n + 2) h.0) (told_behind (n + 2) (Sign Arrow) (λ xs f. fits_flat (n + 2) (Sign Arrow) xs refl refl f)
+    (told_joined (n + 2) (plain (n + 2) h.1.0) (comma (n + 2) (told_last n (Change from to) (told_map n inner h.1.1 (omega (arith, low))))))))
+told_map (suc n) (Counted inner) h low = told_form n form.Count (Counted inner) (told_last n Counted (told_map n inner h (omega (arith, low))))
 told_map (suc n) (Heated granule inner) h low =
-    let k : ℕ = n + 2 in
-    told_form n k (suc n + 2) (omega arith) form.Heat (Heated granule inner)
-    (told_joined k (plain k h.0) (comma k (told_joined k (told_map n inner h.1 (omega (arith, low))) (told_nothing k (Heated granule inner)))))
+    told_form n form.Heat (Heated granule inner) (told_joined (n + 2) (plain (n + 2) h.0) (comma (n + 2) (told_last n (Heated granule) (told_map n inner h.1 (omega (arith, low))))))
 told_map (suc n) (Named name) h low = told_joined (suc n + 2) (plain (suc n + 2) h) (told_name n (suc n + 2) name (map_word name))

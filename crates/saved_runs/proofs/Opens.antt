@@ -1,5 +1,5 @@
 -- What a savable table saves is opened as the table.
-use Rattle.saved_runs.proofs.Imports.{◌≡◌, ℕ, ◌+◌, ◌*◌, ◌/◌, ◌^◌, ◌<◌, ◌≤◌, Bool, true, false, ℤ, List, [], ◌∷◌, ◌++◌, length, map, nat_lt, Some, Ok, inl, inr, refl, sym, ap, ◌∙◌, subst, length-append, arith, ◌||◌, is_some, sum_by, le-ltb, lt-leb, ltb-false, length-map, sum_by-cons, File, file_named, Owner, bit_held, image, bytes_of, length-bytes_of, Open, Table, owners_of, Header, header_text, IsShort, CanLie, Saved, opened, table_of_saved, rows_in, header_of, blobs_of, OpensFiles, HoldsRows, World, quiet, refused_if, blob_bits, with_view, save, open_view, opened_table, opened_beside, step, CommandFault, IsSavable, once_written, OpensAs, sure, Told}
+use Rattle.saved_runs.proofs.Imports.{◌≡◌, ℕ, ◌+◌, ◌*◌, ◌/◌, ◌^◌, ◌<◌, ◌≤◌, false, ℤ, List, [], ◌∷◌, ◌++◌, length, map, nat_lt, Some, Ok, inl, inr, refl, sym, ap, ◌∙◌, subst, length-append, arith, ◌||◌, is_some, sum_by, le-ltb, lt-leb, ltb-false, or_parts, length-map, sum_by-cons, File, file_named, Owner, bit_held, image, bytes_of, length-bytes_of, Open, Table, owners_of, Header, header_text, IsShort, CanLie, Saved, opened, table_of_saved, rows_in, header_of, blobs_of, OpensFiles, HoldsRows, World, quiet, blob_bits, with_view, save, open_view, opened_table, opened_beside, step, IsSavable, once_written, OpensAs, sure, Told}
 use Rattle.layout_io.specs.Prelude.{joined}
 use Rattle.blob_file.specs.Files as saved_file
 use Rattle.saved_runs.specs.SavedRuns.{HasRoom}
@@ -9,11 +9,8 @@ use Rattle.saved_runs.proofs.Went.{went, unrefused, same_given}
 
 -- neither text of what is not long is
 both_short : (first second : ℕ) → (nat_lt 4096 first || nat_lt 4096 second) ≡ false → (first ≤ 4096) × (second ≤ 4096)
-both_short first second is = of_test (nat_lt 4096 first) refl is
-  where
-    of_test : (test : Bool) → nat_lt 4096 first ≡ test → (test || nat_lt 4096 second) ≡ false → (first ≤ 4096) × (second ≤ 4096)
-    of_test true long is = absurd (cc is)
-    of_test false short is = (ltb-false 4096 first short, ltb-false 4096 second is)
+both_short first second is =
+    let parts = or_parts (nat_lt 4096 first) (nat_lt 4096 second) is in (ltb-false 4096 first parts.0, ltb-false 4096 second parts.1)
 
 -- a table that saves has short texts, and what it saves is its file
 record WasSaved (table : Table) (text : List ℕ) : Type 0 where

@@ -1,5 +1,5 @@
 -- Rows that a view of a header may hold, and those that commands make of them.
-use Rattle.saved_runs.proofs.Imports.{◌≡◌, ℕ, zero, suc, ◌+◌, ◌<◌, ◌≤◌, ⊎_elim, Bool, true, ℤ, pos, List, [], ◌∷◌, length, map, get_or, set, Option, Some, None, Result, Ok, is_ok, if◌then◌else◌, sym, ◌∙◌, subst, arith, get_or-set_other, get_or-set_same, enumerate_from, cases_eq, length-map, pow_pos, length-enumerate_from, length-set, indices, LeafType, Leaf, leaves, kinds_of, IsIn, IsDeclared, holds_by, HasShape, hold_at, with_entry, zeros, zeros_shape, zeros_entry, fitting_stays, kind_at, Stays, answer_stays, StoreAnswer, Keeping, kept_or, kept_by, kept_row, kept_rows, StoreFault, refusing, refused_at, spot_or, Spot, Each, Header, AreRows, answer_by}
+use Rattle.saved_runs.proofs.Imports.{◌≡◌, ℕ, zero, suc, ◌+◌, ◌<◌, ◌≤◌, ⊎_elim, Bool, true, ℤ, pos, List, [], ◌∷◌, length, map, get_or, set, Option, Some, None, Result, Ok, is_ok, if◌then◌else◌, sym, ◌∙◌, subst, arith, get_or-set_other, get_or-set_same, enumerate_from, cases_eq, length-map, pow_pos, length-enumerate_from, length-set, indices, LeafType, Leaf, leaves, kinds_of, IsIn, IsDeclared, holds_by, HasShape, hold_at, with_entry, zeros, zeros_shape, zeros_entry, fitting_stays, kind_at, Stays, answer_stays, kept_or, kept_by, kept_row, kept_rows, StoreFault, refusing, refused_at, spot_or, Spot, Each, Header, AreRows, answer_by}
 
 -- ---- rows one by one
 
@@ -68,12 +68,6 @@ entry_rows header rows row leaf value are stays =
 
 -- a header whose holds have a bit at least
 module _ (header : Header) (wide : (leaf : ℕ) → leaf < length (kinds_of header.fields) → 1 ≤ (hold_at (holds_by header.mapping header.fields) leaf).width) where
-  abbrev answer : StoreAnswer
-  answer = answer_by header
-
-  abbrev keep : Keeping
-  keep = kept_by (answer_by header)
-
   pub answered_stays : (leaf : ℕ) (value left : ℤ) → leaf < length (kinds_of header.fields) → answer_by header leaf value ≡ Ok left → stays_at header leaf left
   answered_stays leaf value left l is = grind (arith, answer_stays)
 

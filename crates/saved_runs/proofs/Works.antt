@@ -93,7 +93,4 @@ module _ (holds_bits : HoldsBits) (table : Table) (good : IsSavable table) where
   line_keeps world (line.Kernel name text lanes) = kernel_keeps text lanes
   line_keeps world (line.Stencil name spans path terms divisor rounds) = stencil_keeps (live_bits world.views) spans path terms divisor rounds
   line_keeps world (line.Show show.Print name) = tt
-  line_keeps world (line.Show show.Counts name) = tt
-  line_keeps world (line.Show show.Heat name) = tt
-  line_keeps world (line.Show show.Layout name) = tt
   line_keeps world sentence = tt

@@ -47,8 +47,7 @@ gives_up_still name other entries held (step.Command refusal) gives = refused (f
     refused None none = rw (still_unknown name other entries held none) (rw none at gives)
     refused (Some table) some = absurd (cc)
 gives_up_still name other entries held step.NoMemory gives = tt
-gives_up_still name other entries held step.Source gives = absurd gives
-gives_up_still name other entries held step.Sink gives = absurd gives
+gives_up_still name other entries held fault gives = absurd gives
 
 -- the views with one changed in its place
 pub table_changed : (items : List ViewEntry) (name : List ℕ) (place : ℕ) (entry changed : ViewEntry) → IsAt view_of name items place → entry ≡ get_or items place entry → changed.name ≡ entry.name →

@@ -18,9 +18,5 @@ refused views bytes found fault is some told = ⊎_elim
     told
 
 pub placed_refused : (views : List (Entry Table)) (bytes : List ℕ) (found : FileFault) (fault : StepFault) → fault ≡ file_fault found → IsRead (opened bytes) (Err found) → GivesUp (placed_table views bytes) fault
-placed_refused views bytes cause.Magic fault is told = refused views bytes cause.Magic fault is (λ e. cc) told
-placed_refused views bytes cause.Header fault is told = refused views bytes cause.Header fault is (λ e. cc) told
-placed_refused views bytes cause.Layout fault is told = refused views bytes cause.Layout fault is (λ e. cc) told
-placed_refused views bytes cause.Length fault is told = refused views bytes cause.Length fault is (λ e. cc) told
-placed_refused views bytes cause.Contents fault is told = refused views bytes cause.Contents fault is (λ e. cc) told
 placed_refused views bytes cause.NoMemory fault is told = rw is tt
+placed_refused views bytes found fault is told = refused views bytes found fault is (λ e. cc) told

@@ -1,5 +1,5 @@
 -- A file that is read, or not, on the way to a table.
-use Rattle.session.proofs.Imports.{◌≡◌, ◌∙◌, ◌⊎◌, ◌<◌, ◌≤◌, ℕ, Bool, true, false, nat_lt, List, length, Option, Some, None, Result, Ok, Err, inl, inr, ⊎_elim, refl, subst, arith, nat_tests, IsSomeAnd, File, file_named, IsMissing, HasFile, Outcome, Goes, Faults, CannotRead, ◌>>=◌, refused_if, TooBig, Gives, GivesUp, goes_then, StepFault, Loads, IsUnread, UnreadOnly, ToldFor, read_within, ap, Tested, Fault, Unread, sure}
+use Rattle.session.proofs.Imports.{◌≡◌, ◌∙◌, ◌⊎◌, ◌<◌, ◌≤◌, ℕ, Bool, true, false, nat_lt, List, length, Option, Some, None, Result, Ok, Err, inl, inr, ⊎_elim, refl, subst, arith, nat_tests, IsSomeAnd, File, file_named, IsMissing, HasFile, Outcome, Goes, Faults, CannotRead, ◌>>=◌, refused_if, TooBig, Gives, GivesUp, goes_then, StepFault, Loads, IsUnread, UnreadOnly, ToldFor, read_within, ap, Tested, Unread, sure}
 use Rattle.command_checks.specs.declared.fault.StepFault.TheVariants as step
 
 -- a file of this name is there
@@ -47,8 +47,7 @@ pub before_reading : {A B X : Type 0} (name : List ℕ) (view : A → B) (outcom
     outcome false ≡ (sure first >>= next) → result ≡ Err fault → GivesUp first fault → Loads name view outcome read_failed result
 before_reading name view outcome first next read_failed (step.Command refusal) result same is gives = rw is (same ∙ rw gives refl)
 before_reading name view outcome first next read_failed step.NoMemory result same is gives = rw is tt
-before_reading name view outcome first next read_failed step.Source result same is gives = absurd gives
-before_reading name view outcome first next read_failed step.Sink result same is gives = absurd gives
+before_reading name view outcome first next read_failed fault result same is gives = absurd gives
 
 -- what comes behind an outcome that is not reached
 pub after_load : {A B C D : Type 0} (name : List ℕ) (view : A → B) (done : C → D) (outcome : Bool → Outcome B) (rest : B → Outcome D) (read_failed : Type 0) (fault : StepFault) (result : Result C StepFault) →
@@ -72,9 +71,8 @@ unread_after A name outcome rest other result is unread = rw is tt
 
 -- what is told of a load is told of what comes first
 pub told_first : {A B : Type 0} (told : Option (List File)) (files : List File) (first : Outcome A) (rest : A → Outcome B) → ToldFor told (first >>= rest) files → ToldFor told first files
-told_first told files (Ok x) rest is = tt
-told_first told files (Err (Fault fault)) rest is = tt
 told_first told files (Err (Unread name)) rest is = is
+told_first told files first rest is = tt
 
 -- the same outcomes, said otherwise
 loads_same : {A B : Type 0} (name : List ℕ) (view : A → B) (whole outcome : Bool → Outcome B) (read_failed : Type 0) (result : Result A StepFault) →
@@ -103,8 +101,7 @@ pub loads_of : {A B : Type 0} {most : ℕ} {name : List ℕ} {rest : List ℕ �
 loads_of {rest} view files bytes read_failed (Ok x) reads read gives = reads.is files false ∙ goes_then _ (λ bytes. sure (rest bytes)) bytes read ∙ ap sure gives
 loads_of {rest} view files bytes read_failed (Err (step.Command refusal)) reads read gives = reads.is files false ∙ goes_then _ (λ bytes. sure (rest bytes)) bytes read ∙ ap sure gives
 loads_of view files bytes read_failed (Err step.NoMemory) reads read gives = tt
-loads_of view files bytes read_failed (Err step.Source) reads read gives = absurd gives
-loads_of view files bytes read_failed (Err step.Sink) reads read gives = absurd gives
+loads_of view files bytes read_failed (Err fault) reads read gives = absurd gives
 
 -- it was not
 pub unloads_of : {A B : Type 0} {most : ℕ} {name : List ℕ} {rest : List ℕ → Tested B} {outcome : List File → Bool → Outcome B} (view : A → B) (files : List File) (read_failed : Type 0) (fault : StepFault) (result : Result A StepFault) →

@@ -32,11 +32,8 @@ steps_read taken faults old world sentence name outcome told files read_failed r
 
 pub unread_read : (world : World) (sentence : Sentence) (name : List ℕ) (outcome : List File → Bool → Outcome Left) (result : Result Session StepFault) →
     file_read_by sentence ≡ Some name → ((files : List File) (unread : Bool) → command world sentence files unread ≡ outcome files unread) → UnreadOnly (Some name) outcome result → UnreadOnly (file_read_by sentence) (step world sentence) result
-unread_read world sentence name outcome (Ok next) is same unread = tt
-unread_read world sentence name outcome (Err (fault.Command refusal)) is same unread = tt
 unread_read world sentence name outcome (Err fault.Source) is same unread = rw is (λ files. step_is world sentence files true ∙ same files true ∙ unread files)
-unread_read world sentence name outcome (Err fault.Sink) is same unread = tt
-unread_read world sentence name outcome (Err fault.NoMemory) is same unread = tt
+unread_read world sentence name outcome result is same unread = tt
 
 -- a line that is known, with what its command answers, and one whose command writes nothing
 pub line_shows : {K : Type 0} (taken : K → Option (List ℕ)) (faults : K → ℕ) (old new : K) (world : World) (line known : Line) (result : Result Session StepFault) →
@@ -89,24 +86,17 @@ cause_shown taken faults old new outcome file files reads (Err fault.NoMemory) a
 
 pub unread_shown : {K : Type 0} (taken : K → Option (List ℕ)) (faults : K → ℕ) (old new : K) (outcome : Tested Left) (file : Option (List ℕ)) (whole : List File → Bool → Outcome Left) (result : Result Session StepFault) →
     Answers Stands taken faults old new outcome result → UnreadOnly file whole result
-unread_shown taken faults old new outcome file whole (Ok next) answers = tt
-unread_shown taken faults old new outcome file whole (Err (fault.Command refusal)) answers = tt
 unread_shown taken faults old new outcome file whole (Err fault.Source) answers = absurd answers
-unread_shown taken faults old new outcome file whole (Err fault.Sink) answers = tt
-unread_shown taken faults old new outcome file whole (Err fault.NoMemory) answers = tt
+unread_shown taken faults old new outcome file whole result answers = tt
 
 pub untaken_shown : {K : Type 0} (taken : K → Option (List ℕ)) (faults : K → ℕ) (old new : K) (outcome : Tested Left) (result : Result Session StepFault) →
     Answers Stands taken faults old new outcome result → TookNone taken old new result
-untaken_shown taken faults old new outcome (Ok next) answers = tt
 untaken_shown taken faults old new outcome (Err (fault.Command refusal)) answers = answers.wrote.bytes ∙ with_bytes-nil (taken old)
 untaken_shown taken faults old new outcome (Err fault.Source) answers = absurd answers
-untaken_shown taken faults old new outcome (Err fault.Sink) answers = tt
-untaken_shown taken faults old new outcome (Err fault.NoMemory) answers = tt
+untaken_shown taken faults old new outcome result answers = tt
 
 -- a line that writes nothing
 pub untaken_quiet : {K : Type 0} (taken : K → Option (List ℕ)) (old : K) (result : Result Session StepFault) → TookNone taken old old result
-untaken_quiet taken old (Ok next) = tt
 untaken_quiet taken old (Err (fault.Command refusal)) = refl
 untaken_quiet taken old (Err fault.Source) = refl
-untaken_quiet taken old (Err fault.Sink) = tt
-untaken_quiet taken old (Err fault.NoMemory) = tt
+untaken_quiet taken old result = tt

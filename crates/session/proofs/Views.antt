@@ -1,5 +1,5 @@
 -- What a work on a view answers is what the command on the view of a name answers.
-use Rattle.session.proofs.Imports.{◌≡◌, ℕ, List, map, get_or, Option, Some, None, Result, Ok, Err, refl, sym, ap, subst, ◌∙◌, slice_set, Wrote, Stopped, LeafCounts, HeatCounts, counts_text, heat_text, runs_text, texts_of, Table, owners_of, Tally, tallied-none, Did, Fronted, text_of, Done, tells, done_to, on_view, with_table, LeftOf, Left, ◌>>=◌, known, some_or, shows, counts, heat, layout, small, all_runs, World, Entry, NotCounted, view_of, IsAt, known_at, RecordEntry, ViewEntry, MappingEntry, StepFault, Answers, IsLeft, left_with, AreLeft, Stands, world_in, world_of, Session, telling, left_as, Tested}
+use Rattle.session.proofs.Imports.{◌≡◌, ℕ, List, map, get_or, Option, Result, Ok, Err, refl, sym, ap, subst, ◌∙◌, slice_set, Table, Did, Fronted, text_of, Done, done_to, on_view, with_table, LeftOf, Left, ◌>>=◌, known, shows, World, Entry, view_of, IsAt, known_at, RecordEntry, ViewEntry, MappingEntry, StepFault, Answers, IsLeft, AreLeft, Stands, world_in, world_of, Session, Tested}
 use Rattle.command_checks.specs.declared.fault.StepFault.TheVariants as step
 use Rattle.session.proofs.Named.{table_changed}
 
@@ -15,32 +15,12 @@ text_onward : (world : World) (name : List ℕ) (outcome : Tested (LeftOf Table)
 text_onward world name (Ok left) = refl
 text_onward world name (Err fault) = refl
 
--- a work that stops
-pub view_stops : {K : Type 0} (taken : K → Option (List ℕ)) (faults : K → ℕ) (old new : K) (records : List RecordEntry) (mappings : List MappingEntry) (items left : List ViewEntry) (name : List ℕ) (view : Table) (table : Table)
-    (does : Table → Tested Done) (fault : StepFault) (result : Result (Unit {0}) StepFault) →
-    result ≡ Err fault → known name (map view_of items) ≡ Ok table → Answers (IsLeft view) taken faults old new (done_to table (does table)) (Err fault) →
-    Answers (AreLeft records mappings left) taken faults old new (on_view (world_in records mappings items) name does) result
-view_stops taken faults old new records mappings items left name view table does (step.Command refusal) result is at refused =
-    let world = world_in records mappings items in
-    rw is (record { is = on_known world name table does at ∙ ap (onward world name) refused.is; wrote = refused.wrote })
-view_stops taken faults old new records mappings items left name view table does step.Source result is at none = absurd none
-view_stops taken faults old new records mappings items left name view table does step.Sink result is at broke =
-    let world = world_in records mappings items in
-    rw is (record {
-      left = record { held = with_table world name broke.left.held; text = broke.left.text };
-      goes = on_known world name table does at ∙ ap (onward world name) broke.goes;
-      stopped = broke.stopped;
-    })
-view_stops taken faults old new records mappings items left name view table does step.NoMemory result is at fronted =
-    let world = world_in records mappings items in
-    rw is (subst (Fronted taken faults old new) (sym (ap text_of (on_known world name table does at) ∙ text_onward world name (done_to table (does table)))) fronted)
-
--- a work that is done: the view stands in its place
-pub view_done : {K : Type 0} (taken : K → Option (List ℕ)) (faults : K → ℕ) (old new : K) (records : List RecordEntry) (mappings : List MappingEntry) (items : List ViewEntry) (name : List ℕ) (place : ℕ) (entry changed : ViewEntry)
-    (does : Table → Tested Done) → IsAt view_of name items place → entry ≡ get_or items place entry → changed.name ≡ entry.name →
-    Did (IsLeft changed.view) taken faults old new (done_to entry.view (does entry.view)) tt →
-    Did (AreLeft records mappings (slice_set items place changed)) taken faults old new (on_view (world_in records mappings items) name does) tt
-view_done taken faults old new records mappings items name place entry changed does at is same did =
+-- a work that is done, where the view stands in its place, or that stops
+pub view_worked : {K : Type 0} (taken : K → Option (List ℕ)) (faults : K → ℕ) (old new : K) (records : List RecordEntry) (mappings : List MappingEntry) (items : List ViewEntry) (name : List ℕ) (place : ℕ) (entry changed : ViewEntry)
+    (does : Table → Tested Done) (result : Result (Unit {0}) StepFault) → IsAt view_of name items place → entry ≡ get_or items place entry → changed.name ≡ entry.name →
+    Answers (IsLeft changed.view) taken faults old new (done_to entry.view (does entry.view)) result →
+    Answers (AreLeft records mappings (slice_set items place changed)) taken faults old new (on_view (world_in records mappings items) name does) result
+view_worked taken faults old new records mappings items name place entry changed does (Ok done) at is same did =
     let world = world_in records mappings items in
     let left : List (Entry Table) → Left = λ views. record { held = record world { views = views }; text = did.left.text } in
     record {
@@ -51,16 +31,21 @@ view_done taken faults old new records mappings items name place entry changed d
       stands = refl;
       wrote = did.wrote;
     }
-
--- whether it stops or is done
-pub view_worked : {K : Type 0} (taken : K → Option (List ℕ)) (faults : K → ℕ) (old new : K) (records : List RecordEntry) (mappings : List MappingEntry) (items : List ViewEntry) (name : List ℕ) (place : ℕ) (entry changed : ViewEntry)
-    (does : Table → Tested Done) (result : Result (Unit {0}) StepFault) → IsAt view_of name items place → entry ≡ get_or items place entry → changed.name ≡ entry.name →
-    Answers (IsLeft changed.view) taken faults old new (done_to entry.view (does entry.view)) result →
-    Answers (AreLeft records mappings (slice_set items place changed)) taken faults old new (on_view (world_in records mappings items) name does) result
-view_worked taken faults old new records mappings items name place entry changed does (Ok done) at is same did =
-    view_done taken faults old new records mappings items name place entry changed does at is same did
-view_worked taken faults old new records mappings items name place entry changed does (Err fault) at is same stopped =
-    view_stops taken faults old new records mappings items (slice_set items place changed) name changed.view entry.view does fault (Err fault) refl (known_at view_of name items place entry at is) stopped
+view_worked taken faults old new records mappings items name place entry changed does (Err (step.Command refusal)) at is same refused =
+    let world = world_in records mappings items in
+    record { is = on_known world name entry.view does (known_at view_of name items place entry at is) ∙ ap (onward world name) refused.is; wrote = refused.wrote }
+view_worked taken faults old new records mappings items name place entry changed does (Err step.Source) at is same none = absurd none
+view_worked taken faults old new records mappings items name place entry changed does (Err step.Sink) at is same broke =
+    let world = world_in records mappings items in
+    record {
+      left = record { held = with_table world name broke.left.held; text = broke.left.text };
+      goes = on_known world name entry.view does (known_at view_of name items place entry at is) ∙ ap (onward world name) broke.goes;
+      stopped = broke.stopped;
+    }
+view_worked taken faults old new records mappings items name place entry changed does (Err step.NoMemory) at is same fronted =
+    let world = world_in records mappings items in
+    let outcome = on_known world name entry.view does (known_at view_of name items place entry at is) in
+    subst (Fronted taken faults old new) (sym (ap text_of outcome ∙ text_onward world name (done_to entry.view (does entry.view)))) fronted
 
 -- a session in which the views are those that are left
 pub session_left : {K : Type 0} (taken : K → Option (List ℕ)) (faults : K → ℕ) (old new : K) (records : List RecordEntry) (mappings : List MappingEntry) (left : List ViewEntry) (outcome : Tested Left) (next : Session) →

@@ -23,7 +23,7 @@ abbrev pub IsFit : Line → Type 0
 IsFit (line.Define name dim) = IsRecord dim
 IsFit _ = Unit {0}
 
--- a line that works on one view, and one that shows something of it and stores nothing
+-- a line that works on one view
 abbrev pub IsOnView : Line → Type 0
 IsOnView line.Blank = ⊥
 IsOnView (line.Define name dim) = ⊥
@@ -35,11 +35,3 @@ IsOnView (line.Relayout view expr) = ⊥
 IsOnView (line.Drop view) = ⊥
 IsOnView (line.OpenFile name file) = ⊥
 IsOnView _ = Unit {0}
-
-abbrev pub IsShown : Line → Type 0
-IsShown (line.Assign view index path value) = ⊥
-IsShown (line.Update view filter sets) = ⊥
-IsShown (line.Actors view filter sets cuts seed turns) = ⊥
-IsShown (line.Kernel view kernel lanes) = ⊥
-IsShown (line.Stencil view window path terms divisor rounds) = ⊥
-IsShown line = IsOnView line

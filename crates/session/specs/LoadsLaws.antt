@@ -1,6 +1,6 @@
 -- Which lines read a file, and what a shelf tells.
 use Rattle.std.specs.Prelude.{◌≡◌, List, Option, Some, None, Ok, Err, refl}
-use Rattle.session.specs.Imports.{File, sentence_of, file_read_by, Line, Outcome, Fault, Unread}
+use Rattle.session.specs.Imports.{File, sentence_of, file_read_by, Line, Outcome, Unread}
 use Rattle.line_grammar.specs.declared.line.Line.TheVariants as line
 use Rattle.session.specs.Loads.{ToldFor}
 
@@ -13,6 +13,5 @@ no_file _ no_load no_open = refl
 
 -- what a shelf tells it tells to any line
 pub told_any : {A : Type 0} (told : Option (List File)) (outcome : Outcome A) (files : List File) → told ≡ Some files → ToldFor told outcome files
-told_any told (Ok x) files is = tt
-told_any told (Err (Fault fault)) files is = tt
 told_any told (Err (Unread name)) files is = is
+told_any told outcome files is = tt

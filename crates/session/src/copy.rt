@@ -4,9 +4,8 @@ ghost use Rattle.session.specs.Imports.{leaf_count_of, after_log, all_accesses, 
 ghost use Rattle.session.specs.Bounds.{IsWithin, WithinCopy};
 ghost use Rattle.session.specs.Inner.Changes.{copied_at, TellsCopy};
 
-use crate::faults::narrow_fault;
 use crate::session::Session;
-use command_checks::{StepFault, ViewList, known_view};
+use command_checks::{StepFault, ViewList, known_view, leaf_text};
 use layout_copy::{CopyFault, copy_self};
 use record_dim::{Name, Steps};
 use std::alloc::Global;
@@ -118,6 +117,9 @@ fn copy_fault(alloc: Global, target: &View, fault: CopyFault) -> Result<CommandF
 {
     match fault {
         CopyFault::Mismatch => Ok(CommandFault::Mismatch),
-        CopyFault::Narrow { row, leaf } => narrow_fault(alloc, target, row, leaf),
+        CopyFault::Narrow { row, leaf } => {
+            let leaf = leaf_text(alloc, target, leaf)?;
+            Ok(CommandFault::Narrow { row, leaf })
+        }
     }
 }

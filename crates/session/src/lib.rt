@@ -4,7 +4,6 @@
 mod copy;
 mod define;
 mod drop;
-mod faults;
 mod files;
 mod load;
 mod open;

@@ -4,7 +4,6 @@ ghost use Rattle.session.specs.Imports.{indices, IsShape, Rose, File, term_of, s
 ghost use Rattle.session.specs.Inner.Changes.{TellsRow};
 ghost use Rattle.session.specs.Loads.{named_of, new_of, filled_table, Loads, LoadCause, UnreadOnly, ToldFor};
 
-use crate::faults::{narrow_fault, range_fault};
 use crate::files::file_bytes;
 use crate::session::Session;
 use crate::view::{Found, New, named};
@@ -158,8 +157,14 @@ fn row_fault(alloc: Global, view: &View, fault: RowFault) -> Result<CommandFault
             let leaf = leaf_text(alloc, view, leaf)?;
             Ok(CommandFault::Number { row, leaf })
         }
-        RowFault::Range { row, leaf } => range_fault(alloc, view, row, leaf),
-        RowFault::Narrow { row, leaf } => narrow_fault(alloc, view, row, leaf),
+        RowFault::Range { row, leaf } => {
+            let leaf = leaf_text(alloc, view, leaf)?;
+            Ok(CommandFault::Range { row, leaf })
+        }
+        RowFault::Narrow { row, leaf } => {
+            let leaf = leaf_text(alloc, view, leaf)?;
+            Ok(CommandFault::Narrow { row, leaf })
+        }
         RowFault::NoMemory => Err(StepFault::NoMemory),
     }
 }

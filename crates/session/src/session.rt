@@ -27,7 +27,7 @@ pub struct Session {
 
 impl Session {
     ghost use Rattle.session.specs.Stands.{Stands, world_of};
-    ghost use Rattle.session.specs.Answers.{TookNone, IsFit, IsOnView, IsShown, ending_of};
+    ghost use Rattle.session.specs.Answers.{TookNone, IsFit, IsOnView, ending_of};
     ghost use Rattle.session.specs.Bounds.{WithinSteps, most_on};
     ghost use Rattle.view_commands.specs.Inner.Answers.{Answers};
     ghost use Rattle.view_commands.specs.Steps.{Within};
@@ -115,7 +115,7 @@ impl Session {
 
     // Does a line that works on one view.
     fn change<K: Sink, L: Ledger>(
-        self,
+        mut self,
         line: &Line,
         out: &mut K,
         steps: &mut Steps<L>,
@@ -177,31 +177,12 @@ impl Session {
                 });
                 self.on_view(*view, &work, out, steps)
             }
-            _ => self.show(line, out, steps),
-        }
-    }
-
-    // Does a line that shows something of one view.
-    fn show<K: Sink, L: Ledger>(
-        mut self,
-        line: &Line,
-        out: &mut K,
-        steps: &mut Steps<L>,
-    ) -> Result<Session, StepFault>
-        requires { IsShown line.now }
-        ensures answers { Answers Stands K.taken K.faults out.old out.new (done_by (world_of self) (sentence_of line.now)) result }
-        ensures bound { WithinSteps (world_of self) (sentence_of line.now) steps.old steps.new }
-    {
-        match line {
             Line::Reduce { view, kind, path } => {
                 self.on_view(*view, &Written(Reduce { kind, path }), out, steps)
             }
-            Line::Count { view, filter } => self.on_view(
-                *view,
-                &Written(Count { filter }),
-                out,
-                steps,
-            ),
+            Line::Count { view, filter } => {
+                self.on_view(*view, &Written(Count { filter }), out, steps)
+            }
             Line::Print(view) => self.on_view(*view, &Print, out, steps),
             Line::PrintWindow { view, window } => {
                 self.on_view(*view, &PrintWindow { window }, out, steps)

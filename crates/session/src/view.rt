@@ -49,11 +49,10 @@ impl<'a> New<'a> {
     ) -> New<'a>
         ensures { new_of result ≡ record { name = name; schema = schema; words = words.now; wrap = wrap; term = term_of expr.now } }
     {
-        let words = words.as_slice();
         New {
             name,
             schema,
-            words,
+            words: words.as_slice(),
             wrap,
             expr,
         }

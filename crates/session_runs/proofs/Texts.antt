@@ -21,8 +21,7 @@ told_unread taken faults old new name file outcome read_failed (end.Source told)
 told_unread taken faults old new name file outcome read_failed end.NoMemory is tells unread =
     let known : Unreadable taken faults old new outcome read_failed name = subst (λ (f : Option (List ℕ)). EndsBy taken faults old new outcome read_failed (Unread f)) is unread in
     record { count = 0; few = omega arith; bytes = known.wrote.bytes; unfailed = known.wrote.unfailed }
-told_unread taken faults old new name file outcome read_failed (end.Command refusal) is tells unread = absurd tells
-told_unread taken faults old new name file outcome read_failed end.Sink is tells unread = absurd tells
+told_unread taken faults old new name file outcome read_failed ending is tells unread = absurd tells
 
 -- a line that is whole is fit for a session
 pub fit_of_whole : (l : Line) → HasItsFields l → IsFit l
@@ -34,31 +33,24 @@ unread_cause : (name : List ℕ) (files : Option (List File)) (shelf_old shelf_n
     TellsFile name ending → (Rose shelf_old shelf_new ⊎ IsSome files) × (shelf_old ≤ shelf_new) × (sink_new ≡ sink_old) → EndCause files shelf_old shelf_new sink_old sink_new (ending_of ending)
 unread_cause name files shelf_old shelf_new sink_old sink_new (end.Source told) tells cause = cause
 unread_cause name files shelf_old shelf_new sink_old sink_new end.NoMemory tells cause = (cause.1, cause.2)
-unread_cause name files shelf_old shelf_new sink_old sink_new (end.Command fault) tells cause = absurd tells
-unread_cause name files shelf_old shelf_new sink_old sink_new end.Sink tells cause = absurd tells
+unread_cause name files shelf_old shelf_new sink_old sink_new ending tells cause = absurd tells
 
 -- a line that a session refused so ends the run so
 pub ends_as : {K : Type 0} (taken : K → Option (List ℕ)) (faults : K → ℕ) (old new : K) (file : Option (List ℕ)) (outcome : Bool → Outcome Left) (read_failed : Type 0) (refusal : StepFault) (ending : LineEnd) →
     EndsAs file refusal ending → EndsBy taken faults old new outcome read_failed (fault_ending file refusal) → EndsBy taken faults old new outcome read_failed (ending_of ending)
-ends_as taken faults old new file outcome read_failed (fault.Command refusal) ending is ends = rw is ends
 ends_as taken faults old new None outcome read_failed fault.Source ending tells ends = absurd ends
 ends_as taken faults old new (Some name) outcome read_failed fault.Source ending tells ends = told_unread taken faults old new name (Some name) outcome read_failed ending refl tells ends
-ends_as taken faults old new file outcome read_failed fault.Sink ending is ends = rw is ends
-ends_as taken faults old new file outcome read_failed fault.NoMemory ending is ends = rw is ends
+ends_as taken faults old new file outcome read_failed refusal ending is ends = rw is ends
 
 -- and so the counts rose; where it was not read, the line reads a file
 pub cause_as : (file : Option (List ℕ)) (files : Option (List File)) (shelf_old shelf_new sink_old sink_new : ℕ) (refusal : StepFault) (ending : LineEnd) →
     (refusal ≡ fault.Source → IsSome file) → EndsAs file refusal ending → EndCause files shelf_old shelf_new sink_old sink_new (fault_ending file refusal) → EndCause files shelf_old shelf_new sink_old sink_new (ending_of ending)
-cause_as file files shelf_old shelf_new sink_old sink_new (fault.Command refusal) ending some is cause = rw is cause
 cause_as None files shelf_old shelf_new sink_old sink_new fault.Source ending some tells cause = absurd (cc (some refl))
 cause_as (Some name) files shelf_old shelf_new sink_old sink_new fault.Source ending some tells cause = unread_cause name files shelf_old shelf_new sink_old sink_new ending tells cause
-cause_as file files shelf_old shelf_new sink_old sink_new fault.Sink ending some is cause = rw is cause
-cause_as file files shelf_old shelf_new sink_old sink_new fault.NoMemory ending some is cause = rw is cause
+cause_as file files shelf_old shelf_new sink_old sink_new refusal ending some is cause = rw is cause
 
 -- only a line that reads a file has one that was not read
 pub reads_some : (A : Type 0) {B : Type 0} (file : Option (List ℕ)) (outcome : List File → Bool → Outcome B) (refusal : StepFault) → UnreadOnly {A = A} file outcome (Err refusal) → refusal ≡ fault.Source → IsSome file
-reads_some A file outcome (fault.Command refusal) only is = absurd (cc)
 reads_some A None outcome fault.Source only is = absurd only
 reads_some A (Some name) outcome fault.Source only is = refl
-reads_some A file outcome fault.Sink only is = absurd (cc)
-reads_some A file outcome fault.NoMemory only is = absurd (cc)
+reads_some A file outcome refusal only is = absurd (cc)

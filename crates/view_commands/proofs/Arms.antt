@@ -58,7 +58,7 @@ pub set_done : (old new : Table) (index : List ℕ) (leaf row : ℕ) (term : Lea
     Changed (set_in old index leaf term) (all_left old) old (Ok None) new
 set_done old new index leaf row term number at value answer left = grind (arith, kept_is, slice_index_or, stored_in)
 
-ends_store : {A : Type 0} (fields : Fields) (outcome : Tested A) (row leaf : ℕ) (fault : StoreFault) → outcome ≡ Err (fault_text row (text_of_leaf fields leaf) fault) → Ends fields outcome (store_fault row leaf fault)
+pub ends_store : {A : Type 0} (fields : Fields) (outcome : Tested A) (row leaf : ℕ) (fault : StoreFault) → outcome ≡ Err (fault_text row (text_of_leaf fields leaf) fault) → Ends fields outcome (store_fault row leaf fault)
 ends_store fields outcome row leaf fault is = grind arith
 
 pub set_refused : (old new : Table) (index : List ℕ) (leaf row : ℕ) (term : LeafTerm ℕ) (number : ℤ) (fault : StoreFault) → row ≡ place_in (indices old.extents) index →

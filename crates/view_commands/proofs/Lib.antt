@@ -10,3 +10,4 @@ pub mod Sets
 pub mod Shown
 pub mod Stencils
 pub mod Windows
+pub mod Auto

@@ -12,16 +12,13 @@ split_none p (x ∷ xs) h = ⊎_elim (λ (e : p x ≡ true). absurd (omega (arit
 pub split_first : (p : ℕ → Bool) (xs : List ℕ) (n : ℕ) → n ≡ position_or_len p xs → n < length xs → slice_split p xs ≡ take n xs ∷ slice_split p (take (length xs - (n + 1)) (drop (n + 1) xs))
 split_first p xs n is small = rw (is, take_rest) (slice_split_first p xs 0 (rw is at small))
 
-split_cons : (part : List ℕ) (parts : List (List ℕ)) → (part ∷ parts) ≡ [] → ⊥
-split_cons part parts e = absurd (cc)
-
 onto_some : (x : ℕ) (parts : List (List ℕ)) → onto_first x parts ≡ [] → ⊥
 onto_some x parts e = grind arith
 
 -- there is a first part
 split_some : (xs : List ℕ) → slice_split is_line_end xs ≡ [] → ⊥
 split_some [] e = absurd (cc)
-split_some (x ∷ xs) e = ⊎_elim (λ (h : is_line_end x ≡ true). split_cons [] (slice_split is_line_end xs) (sym (slice_split-cons_yes is_line_end x xs h) ∙ e)) (λ (h : is_line_end x ≡ false). onto_some x (slice_split is_line_end xs) (sym (slice_split-cons_no is_line_end x xs h) ∙ e)) (cases_Bool (is_line_end x))
+split_some (x ∷ xs) e = ⊎_elim (λ (h : is_line_end x ≡ true). absurd (cc (sym (slice_split-cons_yes is_line_end x xs h) ∙ e))) (λ (h : is_line_end x ≡ false). onto_some x (slice_split is_line_end xs) (sym (slice_split-cons_no is_line_end x xs h) ∙ e)) (cases_Bool (is_line_end x))
 
 ended_more : (front : List ℕ) (part : List ℕ) (parts : List (List ℕ)) → ended_lines (front ∷ part ∷ parts) ≡ front ∷ ended_lines (part ∷ parts)
 ended_more front part parts = grind arith

@@ -1,6 +1,6 @@
 // The words of each fault.
 ghost use Rattle.std.specs.Prelude.{◌≡◌, ◌++◌};
-ghost use Rattle.worlds.specs.Imports.{[], codes};
+ghost use Rattle.worlds.specs.Imports.{codes};
 ghost use Rattle.worlds.specs.FaultTexts.{fault_words, unknown_words, record_words, extents_words, mapping_words, kernel_fault_words, file_words, actors_words, stencil_words, advice_words};
 ghost use Rattle.worlds.specs.Inner.Details.{detail_text, place_text};
 
@@ -16,17 +16,17 @@ pub fn words_of(fault: &CommandFault) -> Words<'_>
 {
     match fault {
         CommandFault::Syntax { column } => words("Syntax column ", Detail::Count(*column)),
-        CommandFault::TooDeep => name_alone("TooDeep"),
-        CommandFault::LineTooLong => name_alone("LineTooLong"),
-        CommandFault::BadVersion => name_alone("BadVersion"),
-        CommandFault::ScriptTooLong => name_alone("ScriptTooLong"),
-        CommandFault::TooBig => name_alone("TooBig"),
-        CommandFault::BadIndex => name_alone("BadIndex"),
-        CommandFault::BadWindow => name_alone("BadWindow"),
-        CommandFault::Empty => name_alone("Empty"),
-        CommandFault::Mismatch => name_alone("Mismatch"),
-        CommandFault::NotCounted => name_alone("NotCounted"),
-        CommandFault::TooManyViews => name_alone("TooManyViews"),
+        CommandFault::TooDeep => words("TooDeep", Detail::Nothing),
+        CommandFault::LineTooLong => words("LineTooLong", Detail::Nothing),
+        CommandFault::BadVersion => words("BadVersion", Detail::Nothing),
+        CommandFault::ScriptTooLong => words("ScriptTooLong", Detail::Nothing),
+        CommandFault::TooBig => words("TooBig", Detail::Nothing),
+        CommandFault::BadIndex => words("BadIndex", Detail::Nothing),
+        CommandFault::BadWindow => words("BadWindow", Detail::Nothing),
+        CommandFault::Empty => words("Empty", Detail::Nothing),
+        CommandFault::Mismatch => words("Mismatch", Detail::Nothing),
+        CommandFault::NotCounted => words("NotCounted", Detail::Nothing),
+        CommandFault::TooManyViews => words("TooManyViews", Detail::Nothing),
         CommandFault::Unknown(name) => unknown_words(name),
         CommandFault::Taken(name) => words("Taken ", Detail::Text(name.as_str())),
         CommandFault::Twice { leaf } => words("Twice ", Detail::Text(leaf.as_str())),
@@ -60,16 +60,6 @@ fn words<'a>(name: &'static str, detail: Detail<'a>) -> Words<'a>
     ensures detail { detail_text result.detail ≡ detail_text detail.entry }
 {
     Words { name, detail }
-}
-
-fn name_alone(name: &'static str) -> Words<'static>
-    ensures name { result.name.now ≡ name.now }
-    ensures detail { detail_text result.detail ≡ [] }
-{
-    Words {
-        name,
-        detail: Detail::Nothing,
-    }
 }
 
 fn place(row: u64, leaf: &Text) -> Detail<'_>

@@ -1,12 +1,9 @@
-use Rattle.advisor.proofs.Imports.{rules, ◌≡◌, ◌∙◌, inr, sym, Err, Result, leb-true, term_of, MakeMap, Plan, schema_fields, common_steps, arith}
+use Rattle.advisor.proofs.Imports.{rules, ◌≡◌, Err, Result, leb-true, term_of, MakeMap, Plan, schema_fields, common_steps, arith}
 use Rattle.advisor.proofs.JudgedLaws.{plan_refused, told_good, told_many, told_refused}
 use Rattle.advisor.proofs.mapped.mapped.Goals as goal
 
-pub returns-then-not-branch-clause-refused : goal.returns-then-not-branch-clause-refused
-returns-then-not-branch-clause-refused c =
-    let v = c.args.view.now in
-    inr (told_many c.args.granule (term_of c.args.expr.now) c.args.cells.now v.extents c.extents-extents.result v.fields (schema_fields c.schema-schema.result.now) c.extents-extents.ensures.value
-    c.schema-schema.ensures.value c.in_ok-mapping.ensures.accepted _ c.in_ok-mapping.ensures.layout (sym c.if-not-branch.true ∙ c.in_ok-has_few_granules.ensures))
+pub returns-then-not-has_few_granules-clause-refused : goal.returns-then-not-has_few_granules-clause-refused
+returns-then-not-has_few_granules-clause-refused c = grind (arith, common_steps, told_many)
 
 pub returns-clause-good : goal.returns-clause-good
 returns-clause-good c = grind (arith, common_steps, told_good, leb-true)

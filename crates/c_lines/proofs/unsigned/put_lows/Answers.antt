@@ -1,7 +1,6 @@
 use Rattle.c_lines.proofs.Imports.{rules, ◌≡◌, ◌<◌, ◌^◌, true, false, ℕ, ℤ, pos, ◌≤ℤ◌, List, [], ◌∷◌, ◌++◌, get_or, length, map, take, w64, FitsSigned, to_z, of_z, sym, ap, ◌∙◌, arith, ints, to_z-of_z, get_or-map, length-map, length-set, map-append, take_more, take_more_set, low_64}
 use Rattle.c_lines.proofs.Parts.{own_low}
 use Rattle.c_lines.proofs.unsigned.put_lows.Goals as goal
-use Rattle.c_lines.proofs.unsigned.put_lows.Goals.{else-low-lt0-via-then-low-lt0+else-not-any, else-low-lt0-via-else-low-lt0}
 
 pub loop-k-preserved : goal.loop-k-preserved
 loop-k-preserved c =
@@ -16,8 +15,8 @@ loop-k-preserved c =
     let value : get_or values k (pos 0) ≡ pos (get_or numbers k 0) = get_or-map (λ (n : ℕ). pos n) numbers k 0 (pos 0) inside in
     let stored = take_more_set c.loop-k.lows k (to_z w64 (of_z w64 low)) (omega (arith, c.loop-k.invariant.room)) ∙ ap (λ (v : ℤ). take k c.loop-k.lows ++ v ∷ []) (to_z-of_z w64 low fits) in
     let some : c.args.any ≡ false → pos 0 ≤ℤ low = λ none. elim c.else-low-lt0.branch [
-      | else-low-lt0-via-then-low-lt0+else-not-any w ↦ absurd (let no : true ≡ false = sym w.if-not-any.false ∙ none in cc no)
-      | else-low-lt0-via-else-low-lt0 w ↦ omega (arith, ints, w.if-low-lt0.false, to_z-of_z w64 low fits)
+      | goal.else-low-lt0-via-then-low-lt0+else-not-any w ↦ absurd (let no : true ≡ false = sym w.if-not-any.false ∙ none in cc no)
+      | goal.else-low-lt0-via-else-low-lt0 w ↦ omega (arith, ints, w.if-low-lt0.false, to_z-of_z w64 low fits)
     ] in
     record {
       room = length-set c.loop-k.lows k (to_z w64 (of_z w64 low)) ∙ c.loop-k.invariant.room;

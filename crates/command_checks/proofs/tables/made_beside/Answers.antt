@@ -1,5 +1,6 @@
 use Rattle.command_checks.proofs.Imports.{◌∙◌, sym, ap, term_of, schema_fields, Ok, common_steps}
-use Rattle.command_checks.proofs.Limits.{table_new, made_goes, made_full, bits_over, bits_within}
+use Rattle.blob_file.proofs.Made.{table_new}
+use Rattle.command_checks.proofs.Limits.{made_goes, made_full, bits_over, bits_within}
 use Rattle.command_checks.proofs.tables.made_beside.Goals as goal
 use Rattle.std.proofs.Common.{arith}
 

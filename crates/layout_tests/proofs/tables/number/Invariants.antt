@@ -3,7 +3,7 @@ use Rattle.record_dim.specs.Std.{◌≡◌}
 use Rattle.layout_tests.proofs.tables.number.Given as goal
 
 abbrev pub invariant-loop-row : goal.invariant-loop-row
-invariant-loop-row l = record {
+invariant-loop-row g l = record {
   mapping : l.view.mapping ≡ l.initial.view.mapping;
   mode : l.view.mode ≡ l.initial.view.mode;
 }

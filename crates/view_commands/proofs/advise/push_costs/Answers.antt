@@ -6,6 +6,3 @@ pub loop-at-preserved : goal.loop-at-preserved
 loop-at-preserved c =
     let inside : c.loop-at.at < length c.args.costs.now = omega arith in
     (rw c.loop-at.invariant at c.in_ok-push_cost.ensures) ∙ costs_more c.args.text.now.items c.args.costs.now c.loop-at.at _ inside
-
-pub returns : goal.returns
-returns c = grind (arith, common_steps, costs_all)

@@ -2,9 +2,6 @@ use Rattle.view_commands.proofs.Imports.{◌≡◌, All, length, sym, subst, len
 use Rattle.view_commands.proofs.Runs.{IsRunBelow, runs_below}
 use Rattle.view_commands.proofs.show.all_runs.Goals as goal
 
-pub loop-blob-preserved : goal.loop-blob-preserved
-loop-blob-preserved c = grind (arith, common_steps, logs_more)
-
 pub returns-clause-leaves : goal.returns-clause-leaves
 returns-clause-leaves c =
     let view = c.args.view.now in

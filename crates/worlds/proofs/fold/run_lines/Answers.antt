@@ -19,30 +19,26 @@ loop-line-preserved g c =
 
 pub returns-in-Command-clause-run : goal.returns-in-Command-clause-run
 returns-in-Command-clause-run g c = λ files world told stands.
-    let cut : lines_in c.loop-line.rest.now ≡ c.in-Some.line.now ∷ lines_in c.in-Some.behind.now = c.in-Some.ensures.lines in
-    let so = cut_off cut (c.loop-line.invariant.so_far files world told stands) in
+    let so = cut_off {cut = c.in-Some.line.now ∷ lines_in c.in-Some.behind.now} c.in-Some.ensures.lines (c.loop-line.invariant.so_far files world told stands) in
     let step = rw (c.in-Command.is, c.loop-line.invariant.same) at c.in-Err.ensures.step in
     rw c.ended.ensures (at_fault g.K.Sink.taken g.K.Sink.faults _ _ _ _ (g.S.Stepper.outcome c.args.first files) _ _ _ c.in-Some.line.now _ _ _ so (step files so.world (c.loop-line.invariant.files ∙ told) so.stands) c.write_fault.ensures)
 
 pub returns-in-Source-clause-run : goal.returns-in-Source-clause-run
 returns-in-Source-clause-run g c = λ files world told stands.
-    let cut : lines_in c.loop-line.rest.now ≡ c.in-Some.line.now ∷ lines_in c.in-Some.behind.now = c.in-Some.ensures.lines in
-    let so = cut_off cut (c.loop-line.invariant.so_far files world told stands) in
+    let so = cut_off {cut = c.in-Some.line.now ∷ lines_in c.in-Some.behind.now} c.in-Some.ensures.lines (c.loop-line.invariant.so_far files world told stands) in
     let step = rw (c.in-Source.is, c.loop-line.invariant.same) at c.in-Err.ensures.step in
     let wider = rw c.loop-line.invariant.reads at step files so.world (c.loop-line.invariant.files ∙ told) so.stands in
     rw c.ended-in-Source.ensures (at_unread g.K.Sink.taken g.K.Sink.faults _ _ _ _ (g.S.Stepper.outcome c.args.first files) _ _ _ c.in-Some.line.now _ _ _ so wider (rw c.as_str.ensures at c.write_unread.ensures))
 
 pub returns-in-Sink-clause-run : goal.returns-in-Sink-clause-run
 returns-in-Sink-clause-run g c = λ files world told stands.
-    let cut : lines_in c.loop-line.rest.now ≡ c.in-Some.line.now ∷ lines_in c.in-Some.behind.now = c.in-Some.ensures.lines in
-    let so = cut_off cut (c.loop-line.invariant.so_far files world told stands) in
+    let so = cut_off {cut = c.in-Some.line.now ∷ lines_in c.in-Some.behind.now} c.in-Some.ensures.lines (c.loop-line.invariant.so_far files world told stands) in
     let step = rw (c.in-Sink.is, c.loop-line.invariant.same) at c.in-Err.ensures.step in
     at_break g.K.Sink.taken g.K.Sink.faults _ _ _ (g.S.Stepper.outcome c.args.first files) _ _ _ c.in-Some.line.now _ so (step files so.world (c.loop-line.invariant.files ∙ told) so.stands)
 
 pub returns-in-NoMemory-clause-run : goal.returns-in-NoMemory-clause-run
 returns-in-NoMemory-clause-run g c = λ files world told stands.
-    let cut : lines_in c.loop-line.rest.now ≡ c.in-Some.line.now ∷ lines_in c.in-Some.behind.now = c.in-Some.ensures.lines in
-    let so = cut_off cut (c.loop-line.invariant.so_far files world told stands) in
+    let so = cut_off {cut = c.in-Some.line.now ∷ lines_in c.in-Some.behind.now} c.in-Some.ensures.lines (c.loop-line.invariant.so_far files world told stands) in
     let step = rw (c.in-NoMemory.is, c.loop-line.invariant.same) at c.in-Err.ensures.step in
     at_starved g.K.Sink.taken g.K.Sink.faults _ _ _ (g.S.Stepper.outcome c.args.first files) _ _ _ c.in-Some.line.now _ so (step files so.world (c.loop-line.invariant.files ∙ told) so.stands)
 

@@ -3,12 +3,6 @@ use Rattle.view_commands.specs.ExitsLaws.{gave_up}
 use Rattle.view_commands.proofs.Shown.{tells_left, then_broke, then_wrote}
 use Rattle.view_commands.proofs.show.BytesWork.run.Goals as goal
 
-pub returns-in_err-blob-clause-answers : goal.returns-in_err-blob-clause-answers
-returns-in_err-blob-clause-answers g c = grind (arith, common_steps, gave_up, GivesUp-then)
-
-pub returns-in_err-write_bytes-clause-answers : goal.returns-in_err-write_bytes-clause-answers
-returns-in_err-write_bytes-clause-answers g c = grind (arith, common_steps, then_broke, tells_left)
-
 pub returns-clause-answers : goal.returns-clause-answers
 returns-clause-answers g c =
     let table = c.args.view.now in

@@ -5,9 +5,6 @@ use Rattle.view_commands.proofs.Stencils.{no_room_left, run_is, unfit}
 use Rattle.view_commands.specs.Changes.{rounds_left}
 use Rattle.view_commands.proofs.stencil.RunStencilChange.run.Goals as goal
 
-pub returns-in_err-fit-clause-changed : goal.returns-in_err-fit-clause-changed
-returns-in_err-fit-clause-changed g c = grind (arith, common_steps, stopped, unfit)
-
 pub returns-in_err-check_room-clause-changed : goal.returns-in_err-check_room-clause-changed
 returns-in_err-check_room-clause-changed g c =
     let this = c.args.self.now in

@@ -1,4 +1,0 @@
-use Rattle.library_tests.proofs.calls.is_given_back.Given as goal
-
-abbrev pub ghosts-give_back : goal.ghosts-give_back
-ghosts-give_back a = record { name = a.blank.name; parts = a.blank.parts }
