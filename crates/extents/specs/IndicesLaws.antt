@@ -1,5 +1,5 @@
 -- The laws of the list of indices, for the crates above.
-use Rattle.std.proofs.Common.{◌≡◌, ℕ, zero, suc, ◌+◌, ◌*◌, ◌/◌, ◌%◌, ◌<◌, ◌⊎◌, List, [], ◌∷◌, ◌++◌, map, length, get_or, Some, refl, sym, ap, subst, ◌∙◌, arith, length-append}
+use Rattle.std.proofs.Common.{◌≡◌, ℕ, zero, suc, ◌+◌, ◌*◌, ◌/◌, ◌%◌, ◌<◌, List, [], ◌∷◌, ◌++◌, map, length, get_or, Some, refl, sym, ap, subst, ◌∙◌, arith, length-append}
 use Rattle.std.specs.Prelude.{◌↔◌, Bool, IsTrue, Contains, slice_get}
 use Rattle.std.specs.List.{flat_map, range_with_len}
 use Rattle.std.specs.Option.{option_map}
@@ -72,12 +72,9 @@ slice_get-place (n ∷ ns) (i ∷ is) h =
     slice_get-indices n ns i (place ns is) (i * product ns + place ns is) h.0 (place_below ns is h.1) refl
     ∙ ap (option_map (λ rest. i ∷ rest)) (slice_get-place ns is h.1)
 
-zero_or_more : (m : ℕ) → (m ≡ 0) ⊎ (0 < m)
-zero_or_more m = grind arith
-
 -- a product above a number is of factors above 0
 pub wide : (n w k : ℕ) → k < n * w → 0 < w
-wide n w k h = grind (arith, zero_or_more)
+wide n w k h = grind arith
 
 -- an entry is inside the extents, and stands at its place
 pub entry_at : (e : List ℕ) (k : ℕ) (is : List ℕ) → slice_get (indices e) k ≡ Some is → IsInside e is × (place e is ≡ k)

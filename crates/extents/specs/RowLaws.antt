@@ -18,16 +18,13 @@ pub record IsRowSoFar (e is : List ℕ) (row total : ℕ) : Type 0 where
 pub IsRowSoFar-none : (e is : List ℕ) → IsInside e is → IsRowSoFar e is 0 (place e is)
 IsRowSoFar-none e is h = record { inside = h; leads = omega arith }
 
-pub IsRowSoFar-more : (n i : ℕ) (ns is : List ℕ) (row total : ℕ) → IsRowSoFar (n ∷ ns) (i ∷ is) row total → IsRowSoFar ns is (row * n + i) total
-IsRowSoFar-more n i ns is row total h = record { inside = h.inside.1; leads = omega (arith, h.leads) }
-
 -- a row so far is at most the row that it leads to
 pub row_so_far_le : (e is : List ℕ) (row total : ℕ) → IsRowSoFar e is row total → row ≤ total
 row_so_far_le e is row total h = grind (arith, place_below, le-mul_of_pos_right)
 
 -- one turn of a loop over both lists
 pub row_turn : (e e' is is' : List ℕ) (n i row total : ℕ) → e ≡ n ∷ e' → is ≡ i ∷ is' → IsRowSoFar e is row total → IsRowSoFar e' is' (row * n + i) total
-row_turn e e' is is' n i row total he hi h = grind (arith, IsRowSoFar-more)
+row_turn e e' is is' n i row total he hi h = grind arith
 
 -- where one list has ended, both have
 pub row_end : (e is : List ℕ) (row total : ℕ) → (length is ≡ 0) ⊎ (length e ≡ 0) → IsRowSoFar e is row total → row ≡ total

@@ -1,8 +1,6 @@
 -- Words, their extents and products.
-use Rattle.std.proofs.Common.{◌≡◌, ◌≢◌, ℕ, zero, suc, ◌+◌, ◌*◌, ◌/◌, ◌%◌, ◌-◌, ◌^◌, ◌<◌, ◌≤◌, true, false, not, ◌&&◌, nat_lt, eqb, List, [], ◌∷◌, ◌++◌, map, length, get_or, set, take, replicate, refl, sym, ap, ◌∙◌, arith, length-append, All, cond}
-use Rattle.std.specs.Prelude.{count_by, ◌==◌, Option, Some, None, IsSomeAnd, Result, IsOk, IfErr, MatchResult, ◌↔◌}
-use Rattle.std.specs.Option.{option_map_or}
-use Rattle.std.proofs.lemmas.Bool.Decides.{nat_tests}
+use Rattle.std.proofs.Common.{◌≡◌, ℕ, zero, suc, ◌+◌, ◌*◌, ◌/◌, ◌%◌, ◌-◌, ◌^◌, ◌<◌, ◌≤◌, false, nat_lt, eqb, List, [], ◌∷◌, ◌++◌, map, length, get_or, set, take, replicate, refl, sym, ap, ◌∙◌, arith, length-append, All, cond}
+use Rattle.std.specs.Prelude.{count_by, Option, Some, None, Result, IsOk, IfErr, MatchResult, ◌↔◌}
 use Rattle.std.specs.List.{list_any}
 use Rattle.std.proofs.lemmas.List.{map_more, append_assoc, take_at, set_at, length-replicate}
 use Rattle.std.proofs.lemmas.List.Elements.{All-take}
@@ -112,20 +110,8 @@ IsStored_from xs sizes rank count filled long some few narrow counted bound =
 
 -- ---- the first cause
 
-even_so : (c m : ℕ) → ¬ ((0 < c) × (m ≢ 0)) → (nat_lt 0 c && not (m == 0)) ≡ false
-even_so c m h = grind (arith, nat_tests)
-
-equal_so : (c p : ℕ) (rows : Option ℕ) → ¬ ((¬ (0 < c)) × IsSomeAnd rows (λ n. n ≢ p)) → ((c == 0) && option_map_or (λ n. not (n == p)) rows false) ≡ false
-equal_so c p rows h = grind arith
-
-few_so : (total : ℕ) → total ≤ 2 ^ 24 → nat_lt (2 ^ 24) total ≡ false
-few_so total h = grind (arith, nat_tests)
-
-many_so : (total : ℕ) → 2 ^ 24 < total → nat_lt (2 ^ 24) total ≡ true
-many_so total h = grind (arith, nat_tests)
-
 -- where neither other cause holds, the number of rows tells the first
 pub settled_first : {R : Type 0} (ws : List ExtentWord) (rows : Option ℕ) (total : ℕ) (result : Result R BadExtents) → (¬ IsUneven ws rows) → (¬ IsUnequal ws rows)
     → total ≡ product (extents_for ws rows)
     → (IsOk result ↔ (total ≤ 2 ^ 24)) → IfErr result (λ e. e ≡ TooMany) → MatchResult result (λ _. bad_extents ws rows ≡ None) (λ bad. bad_extents ws rows ≡ Some bad)
-settled_first ws rows total result even equal same ok only = grind (arith, nat_lt, few_so, even_so, equal_so, cases_lt, many_so)
+settled_first ws rows total result even equal same ok only = grind (arith, nat_lt, cases_lt)

@@ -6,7 +6,7 @@ use Rattle.std.proofs.lemmas.Option.{slice_get-map}
 use Rattle.std.proofs.lemmas.Nat.{mul-le}
 use Rattle.std.specs.List.{flat_map, range_with_len, enumerate_from}
 use Rattle.std.proofs.lemmas.Bool.{and_from, le-leb, lt-leb, lt-ltb, le-ltb}
-use Rattle.std.proofs.lemmas.List.{append-nil, append_assoc, length-map}
+use Rattle.std.proofs.lemmas.List.{append-nil, length-map}
 use Rattle.std.proofs.lemmas.List.Concat.{flat_map-append}
 use Rattle.extents.specs.Indices.{indices, product, IsInside}
 use Rattle.extents.specs.IndicesLaws.{same_row}
@@ -228,11 +228,6 @@ same_rank [] (span ∷ spans) is = absurd is
 same_rank (extent ∷ extents) [] is = absurd is
 same_rank (extent ∷ extents) (span ∷ spans) is = ap suc (same_rank extents spans is.1)
 
--- one step of a loop over spans and an index
-pub moved_step : (spans spans' : List Span) (index index' : List ℕ) (span : Span) (i : ℕ) (done whole : List ℕ) → spans ≡ span ∷ spans' → index ≡ i ∷ index'
-    → whole ≡ done ++ moved spans index → whole ≡ (done ++ (span.from + i) ∷ []) ++ moved spans' index'
-moved_step spans spans' index index' span i done whole one two so = grind (arith, append_assoc)
-
 moved_end : (spans : List Span) (index : List ℕ) → (length index ≡ 0) ⊎ (length spans ≡ 0) → moved spans index ≡ []
 moved_end [] index none = refl
 moved_end (span ∷ spans) [] none = refl
@@ -264,7 +259,7 @@ inside_length (extent ∷ extents) (i ∷ index) inside = ap suc (inside_length 
 -- what was pushed is shorter than the whole where something is left
 pub push_room : (done : List ℕ) (spans spans' : List Span) (index index' : List ℕ) (span : Span) (i : ℕ) (whole : List ℕ) → spans ≡ span ∷ spans' → index ≡ i ∷ index'
     → whole ≡ done ++ moved spans index → length done < length whole
-push_room done spans spans' index index' span i whole one two so = grind (arith, moved_step, length-append)
+push_room done spans spans' index index' span i whole one two so = grind (arith, length-append)
 
 pub fixed_extents : (spans : List Span) (size : ℕ) → map (extent_of size) (map fixed_size spans) ≡ sizes spans
 fixed_extents [] size = refl

@@ -1,14 +1,11 @@
 -- The value of decimal digits, read from the left.
 use Rattle.std.specs.Prelude.{◌≡◌, ℕ, ◌+◌, ◌-◌, ◌*◌, ◌/◌, ◌^◌, ◌<◌, ◌≤◌, Bool, true, List, length, get_or, take}
-use Rattle.record_dim.specs.Std.{arith, is_ascii_digit, AllPass, prefix_len, digits_value, get_or-take, length-prefix_len, prefix_len_passes, nat_tests, digits_value_more, digit_value_digit, digits_value-take-le}
-
-pub digit_range : (b : ℕ) → is_ascii_digit b ≡ true → (48 ≤ b) × (b ≤ 57)
-digit_range b h = grind (arith, nat_tests)
+use Rattle.record_dim.specs.Std.{arith, is_ascii_digit, AllPass, prefix_len, digits_value, get_or-take, length-prefix_len, prefix_len_passes, digits_value_more, digit_value_digit, digits_value-take-le}
 
 -- one digit more
 pub digits_more : (digits : List ℕ) (i : ℕ) → i < length digits → is_ascii_digit (get_or digits i 0) ≡ true →
     digits_value 10 (take (i + 1) digits) ≡ digits_value 10 (take i digits) * 10 + (get_or digits i 0 - 48)
-digits_more digits i l h = grind (arith, digit_range, digits_value_more, digit_value_digit)
+digits_more digits i l h = grind (arith, digits_value_more, digit_value_digit)
 
 -- where a value is above a tenth of the greatest, one digit more passes it, and so do all the digits
 pub digits_pass : (digits : List ℕ) (i value : ℕ) → i < length digits → is_ascii_digit (get_or digits i 0) ≡ true →

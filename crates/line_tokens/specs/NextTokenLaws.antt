@@ -1,6 +1,6 @@
 -- `next_of` gives exactly what the relations say stands next.
-use Rattle.std.specs.Prelude.{◌≡◌, ℕ, ◌+◌, ◌-◌, ◌≤◌, Bool, true, List, [], ◌∷◌, length, drop, Option, Some, None, ◌↔◌, refl, ℤ, pos, slice_range}
-use Rattle.record_dim.specs.Std.{inl, inr, ⊎_elim, length-append, length-drop, arith, is_ascii_digit, prefix_len, digits_value, cases_Bool, prefix_len-le-length}
+use Rattle.std.specs.Prelude.{◌≡◌, ℕ, ◌+◌, ◌-◌, ◌≤◌, List, [], ◌∷◌, length, drop, Option, Some, None, ◌↔◌, refl, ℤ, pos, slice_range}
+use Rattle.record_dim.specs.Std.{inl, inr, ⊎_elim, length-append, length-drop, arith, is_ascii_digit, digits_value, cases_Bool, prefix_len-le-length}
 use Rattle.line_tokens.specs.Bytes.{is_space_byte, is_hash}
 use Rattle.line_tokens.specs.Signs.{spelling}
 use Rattle.line_tokens.specs.Tokens.{start_of, rest_of, StartsWith, IsEnd, IsToken, IsBad, IsBadFrom, IsTokenFrom, IsInside}
@@ -77,18 +77,12 @@ number_value text at brackets from end value e =
 
 -- how many bytes a token has
 
-run_some : (p : ℕ → Bool) (b : ℕ) (after : List ℕ) → p b ≡ true → 1 ≤ prefix_len p (b ∷ after)
-run_some p b after h = rw h (omega arith)
-
-starts_fits : (front rest : List ℕ) → StartsWith front rest → length front ≤ length rest
-starts_fits front rest h = rw h.1 (omega (arith, length-append front h.0))
-
 pub token_sized : (kind : TokenKind) (n : ℕ) (rest : List ℕ) (brackets : ℕ) → IsToken kind n rest brackets → (1 ≤ n) × (n ≤ length rest)
 token_sized kind n [] brackets h = absurd (no_token_in_nil kind n brackets h)
-token_sized Word n (b ∷ after) brackets h = grind (arith, run_some, prefix_len-le-length)
-token_sized (Number value) n (b ∷ after) brackets h = grind (arith, run_some, is_ascii_digit, prefix_len-le-length)
-token_sized Text n (b ∷ after) brackets h = grind (arith, starts_fits, length-append)
-token_sized (SignKind sign) n (b ∷ after) brackets h = grind (arith, sign_len, starts_fits)
+token_sized Word n (b ∷ after) brackets h = grind (arith, prefix_len-le-length)
+token_sized (Number value) n (b ∷ after) brackets h = grind (arith, is_ascii_digit, prefix_len-le-length)
+token_sized Text n (b ∷ after) brackets h = grind (arith, length-append)
+token_sized (SignKind sign) n (b ∷ after) brackets h = grind (arith, sign_len)
 
 start_inside : (text : List ℕ) (at : ℕ) → at ≤ length text → (at ≤ start_of text at) × (start_of text at ≤ length text)
 start_inside text at l = (omega arith, omega (arith, prefix_len-le-length is_space_byte (drop at text), length-drop at text))

@@ -1,12 +1,12 @@
 -- A text has exactly one list of tokens, and each lies within the text.
 use Rattle.std.specs.Prelude.{◌≡◌, ℕ, ◌≤◌, List, [], ◌∷◌, ◌++◌, length, All, drop, Option, Some, None, refl}
-use Rattle.record_dim.specs.Std.{append_assoc, arith, cond_both, All-cons}
+use Rattle.record_dim.specs.Std.{append_assoc, arith, cond_both}
 use Rattle.line_tokens.specs.Tokens.{IsToken}
 use Rattle.line_tokens.specs.Next.{next_of}
 use Rattle.line_tokens.specs.Spelled.{MayOpen}
 use Rattle.line_tokens.specs.Spots.{brackets_after, Spots}
 use Rattle.line_tokens.specs.declared.spots.Spot.{Spot}
-use Rattle.line_tokens.specs.declared.token.Next.TheVariants.{End, Bad, Token}
+use Rattle.line_tokens.specs.declared.token.Next.TheVariants.{End, Token}
 use Rattle.line_tokens.specs.declared.token.TokenKind.{TokenKind}
 use Rattle.line_tokens.specs.declared.token.TokenKind.TheVariants.{Sign as SignKind}
 use Rattle.line_tokens.specs.NextTokenLaws.{token_exactly, next_inside}
@@ -35,12 +35,6 @@ pub Spots-more : (text : List ℕ) (found : List Spot) (at brackets : ℕ) (spot
     ((rest : List Spot) → Spots text at brackets rest → Spots text 0 0 (found ++ rest)) →
     (rest : List Spot) → Spots text spot.end (brackets_after kind brackets) rest → Spots text 0 0 ((found ++ (spot ∷ [])) ++ rest)
 Spots-more text found at brackets spot kind k e before rest h = grind (arith, append_assoc)
-
--- a bad token is the last
-pub Spots-last : (text : List ℕ) (found : List Spot) (at brackets from : ℕ) → next_of text at brackets ≡ Bad from →
-    ((rest : List Spot) → Spots text at brackets rest → Spots text 0 0 (found ++ rest)) →
-    Spots text 0 0 (found ++ (spot_at from from None ∷ []))
-Spots-last text found at brackets from e before = before (spot_at from from None ∷ []) (e, refl, refl)
 
 not_end : (text : List ℕ) (at brackets from end : ℕ) (kind : Option TokenKind) (rest : List Spot) →
     next_of text at brackets ≡ End → Spots text at brackets (spot_at from end kind ∷ rest) → ⊥
@@ -71,14 +65,11 @@ AllInside text spots = All (λ spot. (spot.from ≤ spot.end) × (spot.end ≤ l
 none_inside : (text : List ℕ) → AllInside text []
 none_inside text k d l = absurd (omega arith)
 
-inside_more : (text : List ℕ) (spot : Spot) (rest : List Spot) → spot.from ≤ spot.end → spot.end ≤ length text → AllInside text rest → AllInside text (spot ∷ rest)
-inside_more text spot rest ordered within h = All-cons (λ s. (s.from ≤ s.end) × (s.end ≤ length text)) spot rest (ordered, within) h
-
 inside_step : (text : List ℕ) (at brackets f e : ℕ) (k : Option TokenKind) (rest : List Spot) → at ≤ length text →
     ((at brackets : ℕ) → at ≤ length text → Spots text at brackets rest → AllInside text rest) →
     Spots text at brackets (spot_at f e k ∷ rest) → AllInside text (spot_at f e k ∷ rest)
-inside_step text at brackets f e None rest l behind h = grind (arith, next_inside, inside_more, none_inside)
-inside_step text at brackets f e (Some kind) rest l behind h = grind (arith, next_inside, inside_more)
+inside_step text at brackets f e None rest l behind h = grind (arith, next_inside, none_inside)
+inside_step text at brackets f e (Some kind) rest l behind h = grind (arith, next_inside)
 
 pub spots_inside : (text : List ℕ) (at brackets : ℕ) (spots : List Spot) → at ≤ length text → Spots text at brackets spots → AllInside text spots
 spots_inside text at brackets [] l h = none_inside text

@@ -1,5 +1,5 @@
 -- Writing and reading cells under a layout with the laws.
-use Rattle.record_dim.specs.Std.{◌≡◌, ℕ, ◌<◌, ℤ, List, map, length, slice_index, ap, ◌∙◌, arith, cases_Bool, cond-true, cond-false, and_from, and_parts, eq-eqb, eqb-true, get_or-map, length-map, slice_get_within, get_or_from_slice_get}
+use Rattle.record_dim.specs.Std.{◌≡◌, ℕ, ◌<◌, ℤ, List, map, length, slice_index, ap, ◌∙◌, arith, cond-true, and_from, eq-eqb, get_or-map, length-map, slice_get_within, get_or_from_slice_get}
 use Rattle.places.specs.Layout.{Owner, Bit, owner_at}
 use Rattle.places.specs.Image.{digit, number, decoded, bit_owned}
 use Rattle.places.specs.Lawful.{IsLaidOut}
@@ -17,14 +17,11 @@ owned_same layout slots widths s c k old new laid same = grind (arith, owned_is,
 pub written_here : (slot cell k : ℕ) (value : ℤ) (old : ℕ) → written_bit (Bit slot cell k) slot cell value old ≡ digit value k
 written_here slot cell k value old = grind (arith, cond-true, and_from, eq-eqb)
 
-pub written_other : (s c k slot cell : ℕ) (value : ℤ) (old : ℕ) → (s ≡ slot → c ≡ cell → ⊥) → written_bit (Bit s c k) slot cell value old ≡ old
-written_other s c k slot cell value old other = grind (arith, and_parts, eqb-true, cond-false, cases_Bool)
-
 pub writes_keep_others : (layout : List (List Owner)) (slots : ℕ) (widths : List ℕ) → IsLaidOut layout slots widths → WritesKeepOthers layout
 writes_keep_others layout slots widths laid slot cell value old new write s c signed width other =
     let same : (k : ℕ) → bit_owned (Bit s c k) layout new ≡ bit_owned (Bit s c k) layout old =
     λ k. owned_same layout slots widths s c k old new laid
-    (λ b p e. grind (arith, written_other)) in
+    (λ b p e. grind arith) in
     grind (arith, number_same)
 
 pub writes_read_back : (layout : List (List Owner)) (slots : ℕ) (holds : List Hold) → IsLaidOut layout slots (map (λ (h : Hold). h.width) holds)

@@ -20,9 +20,6 @@ within_blobs layout b p s c k e = grind (arith, get_or_past, cases_lt)
 pub within_blob : (layout : List (List Owner)) (b p s c k : ℕ) → owner_at layout b p ≡ Bit s c k → p < length (get_or layout b [])
 within_blob layout b p s c k e = within (get_or layout b []) p s c k e
 
-pub lays_out_none : LaysOut (λ s c k. ⊥) []
-lays_out_none = grind arith
-
 -- a layout of one blob
 pub has_blob : {In : ℕ → ℕ → ℕ → Type 0} {owners : List Owner} → Has In owners → LaysOut In (owners ∷ [])
 has_blob {In} {owners} h = grind arith
@@ -80,7 +77,7 @@ pub blobs_of_cells : (f : ℕ × ℕ → List Owner) (In : ℕ × ℕ → ℕ �
     → ((c w : ℕ) → Has (In (c, w)) (f (c, w)))
     → ((c w s c' k : ℕ) → In (c, w) s c' k → c' ≡ c)
     → LaysOut (OfCells In cells) (map f cells)
-blobs_of_cells f In [] apart each own = grind (arith, lays_out_same, lays_out_none)
+blobs_of_cells f In [] apart each own = grind (arith, lays_out_same)
 blobs_of_cells f In (cell ∷ cells) apart each own =
     lays_out_same
     (join_lays_out (has_blob (each cell.0 cell.1)) (blobs_of_cells f In cells apart.1 each own) (λ s c k. not_both In cell cells own s c k apart.0))

@@ -1,16 +1,9 @@
 -- The bit that an owner has, among bits that lie under a layout.
 use Rattle.std.specs.Prelude.{◌≡◌, ℕ, ◌+◌, true, false, ◌⊎◌, List, [], ◌∷◌, get_or, refl}
-use Rattle.record_dim.specs.Std.{inl, inr, ⊎_elim, arith, cases_Bool, both_ways, cond-true, and_parts, and_from, eqb-true, eq-eqb}
+use Rattle.record_dim.specs.Std.{inl, inr, ⊎_elim, arith, cases_Bool, both_ways, cond-true}
 use Rattle.places.specs.Layout.{Owner, Pad, Bit, owner_at}
 use Rattle.places.specs.Image.{same_owner, bit_along, bit_owned}
 use Rattle.places.specs.Lawful.{IsLaidOut}
-
--- the test of two owners
-pub same_owner_true : (here : Owner) (s c k : ℕ) → same_owner here (Bit s c k) ≡ true → here ≡ Bit s c k
-same_owner_true here s c k e = grind (arith, and_parts, eqb-true)
-
-pub same_owner_self : (s c k : ℕ) → same_owner (Bit s c k) (Bit s c k) ≡ true
-same_owner_self s c k = grind (arith, and_from, eq-eqb)
 
 -- a bit stands at some place of one blob, or at none
 abbrev pub FoundAlong : ℕ → ℕ → ℕ → List Owner → (ℕ → ℕ) → ℕ → Type 0
@@ -24,13 +17,13 @@ found_along s c k (here ∷ owners) bits rest =
     let next : ℕ → ℕ = λ p. bits (p + 1) in
     ⊎_elim
     (λ (yes : same_owner here (Bit s c k) ≡ true).
-    grind (arith, same_owner_true, cond-true))
+    grind (arith, cond-true))
     (λ (no' : same_owner here (Bit s c k) ≡ false).
     ⊎_elim
     (λ (found : (p : ℕ) × (get_or owners p Pad ≡ Bit s c k) × (bit_along (Bit s c k) owners next rest ≡ next p)).
     grind arith)
     (λ (none : ((p : ℕ) → get_or owners p Pad ≡ Bit s c k → ⊥) × (bit_along (Bit s c k) owners next rest ≡ rest)).
-    grind (arith, both_ways, same_owner_self))
+    grind (arith, both_ways))
     (found_along s c k owners next rest))
     (cases_Bool (same_owner here (Bit s c k)))
 

@@ -1,6 +1,6 @@
 -- The granules that the pieces of a leaf in a row touch are those that hold one of its bits.
 use Rattle.std.specs.Prelude.{◌≡◌, ℕ, ◌+◌, ◌-◌, ◌*◌, ◌<◌, ◌≤◌, max, Bool, true, false, List, [], ◌∷◌, length, get_or, map, take, drop, refl, ◌||◌, ◌==◌, nat_lt, min}
-use Rattle.record_dim.specs.Std.{sym, ap, ◌∙◌, ⊎_elim, arith, flat_map, range_with_len, fun_ext, true≢false, cases_Bool, cases_lt, and_parts, and_from, or_left, or_right, ltb-true, lt-ltb, eqb-true, eq-eqb, length-take, length-drop, get_or-take, get_or-drop, get_or_default, length-map-range_with_len, Any-from_list_any, list_any_at}
+use Rattle.record_dim.specs.Std.{sym, ap, ◌∙◌, ⊎_elim, arith, flat_map, range_with_len, fun_ext, true≢false, cases_Bool, cases_lt, and_parts, and_from, or_left, or_right, ltb-true, eqb-true, eq-eqb, length-take, length-drop, get_or-take, get_or-drop, get_or_default, length-map-range_with_len, Any-from_list_any, list_any_at}
 use Rattle.places.specs.declared.piece.Piece.{Piece}
 use Rattle.places.specs.Layout.{Owner, Pad, Bit, owner_at}
 use Rattle.places.specs.Lawful.{IsLaidOut, IsLocated, owners_in}
@@ -63,20 +63,12 @@ hot_place layout granule row leaf blob at hot =
       get_or_other : (xs : List Owner) (i : ℕ) (d e : Owner) → i < length xs → get_or xs i d ≡ get_or xs i e
       get_or_other xs i d e low = get_or_default xs i d e low
 
--- a bit of a piece in a granule
-next_granule : (wide at : ℕ) → wide * (at + 1) ≡ wide * at + wide
-next_granule wide at = omega arith
-
 pub in_granule : (granule blob at : ℕ) (piece : Piece) → is_in_granule granule blob at piece ≡ true →
     (piece.blob ≡ blob) × (k : ℕ) × (k < piece.bits) × (8 * granule * at ≤ piece.bit + k) × (piece.bit + k < 8 * granule * at + 8 * granule)
 in_granule granule blob at piece e =
     let both = and_parts (piece.blob == blob) (nat_lt (max piece.bit (8 * granule * at)) (min (piece.bit + piece.bits) (8 * granule * (at + 1)))) e in
     let meet = ltb-true (max piece.bit (8 * granule * at)) (min (piece.bit + piece.bits) (8 * granule * (at + 1))) both.1 in
     (eqb-true piece.blob blob both.0, max piece.bit (8 * granule * at) - piece.bit, omega arith, omega arith, omega arith)
-
-pub from_granule : (granule blob at k : ℕ) (piece : Piece) → piece.blob ≡ blob → k < piece.bits → 8 * granule * at ≤ piece.bit + k → piece.bit + k < 8 * granule * at + 8 * granule →
-    is_in_granule granule blob at piece ≡ true
-from_granule granule blob at k piece same small from below = grind (arith, next_granule, and_from, nat_lt, eq-eqb, lt-ltb)
 
 -- pieces that spell bits touch a granule that holds one
 pub touched_place : (layout : List (List Owner)) (f : ℕ → Owner) (granule blob at a n : ℕ) (pieces : List Piece) → flat_map (owners_in layout) pieces ≡ map f (range_with_len a n)
@@ -106,7 +98,7 @@ touched_from layout f granule blob at bit k a n (piece ∷ pieces) e low high fr
     (λ (here : k < a + piece.bits).
     let j = k - a in
     let place = only piece.blob (piece.bit + j) (split.first j (omega arith) ∙ ap f (omega arith)) in
-    grind (arith, or_left, from_granule))
+    grind (arith, or_left))
     (λ (later : a + piece.bits ≤ k).
     or_right (is_in_granule granule blob at piece) (is_touched granule pieces blob at)
     (touched_from layout f granule blob at bit k (a + piece.bits) (n - piece.bits) pieces split.rest later (omega arith) from below only))

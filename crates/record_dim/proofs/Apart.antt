@@ -88,12 +88,9 @@ pub record InElement (len : ℕ) (element : Tree) (path : List PathStep) : Type 
   pub below : number < len
   pub leaf : slice_get (paths_at element) place ≡ Some rest
 
-element_before : (len : ℕ) (element : Tree) (path : List PathStep) → InElement len element path → InElement (suc len) element path
-element_before len element path f = record { number = f.number; rest = f.rest; place = f.place; step = f.step; below = omega (arith, f.below); leaf = f.leaf }
-
 element_either : (len : ℕ) (element : Tree) (path : List PathStep) (i : ℕ) → ((k : ℕ) → slice_get (paths_at (Array len element)) k ≡ Some path → InElement len element path) →
     InEither (paths_at (Array len element)) (up (At len) (paths_at element)) i path → InElement (suc len) element path
-element_either len element path i before h = grind (arith, element_before, in_map)
+element_either len element path i before h = grind (arith, in_map)
 
 pub in_element : (len : ℕ) (element : Tree) (path : List PathStep) (i : ℕ) → slice_get (paths_at (Array len element)) i ≡ Some path → InElement len element path
 in_element zero element path i h = cc

@@ -1,5 +1,5 @@
 -- A record that is fit has a leaf, and not too many.
-use Rattle.record_dim.proofs.Imports.{◌≡◌, ℕ, ◌*◌, ◌≤◌, Bool, false, cond, nat_eq, nat_lt, Option, Some, None, List, ◌++◌, length, sym, ◌∙◌, arith, list_any, nat_tests, list_any-append, Tree, Single, Record, Array, Fields, End, Field, leaves_of, leaves, depth_of, records_of, records_below, lengths_of, lengths_below, is_empty_record, shares_name, record_fault, or_parts}
+use Rattle.record_dim.proofs.Imports.{◌≡◌, ℕ, ◌*◌, ◌≤◌, Bool, false, cond, nat_eq, nat_lt, Option, Some, None, List, ◌++◌, length, sym, ◌∙◌, arith, list_any, nat_tests, list_any-append, Tree, Single, Record, Array, Fields, End, Field, leaves_of, leaves, records_of, records_below, lengths_of, lengths_below, is_empty_record, shares_name, record_fault, or_parts}
 use Rattle.record_dim.proofs.Walks.{length-leaves, length-leaves_of_array}
 
 -- none in the whole: none in either part
@@ -32,7 +32,6 @@ passed : {A : Type 0} (b : Bool) (x : A) (o : Option A) → cond b (Some x) o �
 passed b x o e = grind arith
 
 pub record IsFit (tree : Tree) : Type 0 where
-  pub shallow : nat_lt 8 (depth_of tree) ≡ false
   pub full : list_any is_empty_record (records_of tree) ≡ false
   pub apart : list_any shares_name (records_of tree) ≡ false
   pub filled : list_any (nat_eq 0) (lengths_of tree) ≡ false

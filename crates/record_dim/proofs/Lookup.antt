@@ -1,5 +1,5 @@
 -- Where the leaves of a node stand among those of the whole.
-use Rattle.record_dim.proofs.Imports.{◌≡◌, ℕ, suc, zero, ◌+◌, ◌*◌, ◌≤◌, ◌<◌, min, true, false, cond, nat_eq, nat_lt, None, List, [], ◌∷◌, ◌++◌, length, map, refl, sym, ap, ◌∙◌, ⊎_elim, append_assoc, add-one, mul-le-mul_right, arith, pointwise, cases_lt, length-append, length-map, map-append, append-nil, PathStep, Name, At, Tree, Record, Array, Fields, Field, Leaf, under, leaves_of, leaves, node_at, node_in, leaves_before, leaves_before_in, behind, IsStretch, HasChild, HasField, LeadsTo, same_text}
+use Rattle.record_dim.proofs.Imports.{◌≡◌, ℕ, suc, zero, ◌+◌, ◌*◌, ◌≤◌, ◌<◌, min, true, false, cond, nat_eq, nat_lt, None, List, [], ◌∷◌, ◌++◌, length, map, refl, sym, ap, ◌∙◌, ⊎_elim, append_assoc, add-one, arith, pointwise, cases_lt, length-append, length-map, map-append, append-nil, PathStep, Name, At, Tree, Record, Array, Fields, Field, Leaf, under, leaves_of, leaves, node_at, node_in, leaves_before, leaves_before_in, behind, IsStretch, HasChild, HasField, LeadsTo, same_text}
 use Rattle.record_dim.proofs.Walks.{length-leaves_of_array}
 use Rattle.record_dim.proofs.Gathered.{leaves-more}
 
@@ -105,13 +105,10 @@ left_found fields own held rest name before this l =
       stretch = record { front = l.front; back = leaves rest; before = l.many; parts = l.parts ∙ ap (λ n. l.front ++ (map (under (Name n)) (leaves_of held) ++ leaves rest)) same };
     }
 
-times_one_more : (number len n : ℕ) → number < len → number * n + n ≤ len * n
-times_one_more number len n h = grind (arith, mul-le-mul_right)
-
 -- the count of an element's leaves is exact in an array that has few
 pub array_place : (len number : ℕ) (element : Tree) (count : ℕ) → number < len → length (leaves_of (Array len element)) ≤ 64 → count ≡ min 65 (length (leaves_of element)) →
     (count ≡ length (leaves_of element)) × (number * count + length (leaves_of element) ≤ 64)
-array_place len number element count h few e = grind (arith, Array, length-leaves_of_array, times_one_more)
+array_place len number element count h few e = grind (arith, Array, length-leaves_of_array)
 
 pub leads_in : (fields : Fields) (name : List ℕ) (steps : List PathStep) (held node : Tree) (first second : ℕ) →
     HasField fields name first held → LeadsTo held steps second node → LeadsTo (Record fields) (Name name ∷ steps) (first + second) node

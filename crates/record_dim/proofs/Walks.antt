@@ -36,14 +36,11 @@ length-leaves_of_array len element =
 small_product : (n c : ℕ) → n ≤ 65 → c ≤ 65 → min (min n 65 * min 65 c) 65 ≡ min 65 (n * c)
 small_product n c hn hc = grind arith
 
-times_at_least : (n c : ℕ) → 65 ≤ n → 1 ≤ c → 65 ≤ n * c
-times_at_least n c hn hc = grind arith
-
 big_product : (n c : ℕ) → 65 ≤ n → 1 ≤ c → min (min n 65 * min 65 c) 65 ≡ min 65 (n * c)
-big_product n c hn hc = grind (arith, times_at_least)
+big_product n c hn hc = grind arith
 
 wide_product : (n c : ℕ) → 65 ≤ c → min (min n 65 * min 65 c) 65 ≡ min 65 (n * c)
-wide_product n c h = grind (arith, zero-mul, times_at_least, mul_comm)
+wide_product n c h = grind (arith, zero-mul, mul_comm)
 
 pub capped_product : (n c : ℕ) → min (min n 65 * min 65 c) 65 ≡ min 65 (n * c)
 capped_product n c = grind (arith, small_product, wide_product, cases_lt, big_product)

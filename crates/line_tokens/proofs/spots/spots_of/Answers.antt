@@ -1,6 +1,6 @@
 use Rattle.record_dim.specs.Std.{[], Some, sym, refl, append-nil, arith, common_steps}
 use Rattle.line_tokens.specs.Spots.{Spots}
-use Rattle.line_tokens.specs.SpotLaws.{brackets_after-le, Spots-last, Spots-more, same_spots, spot_at, spots_inside}
+use Rattle.line_tokens.specs.SpotLaws.{brackets_after-le, Spots-more, same_spots, spot_at, spots_inside}
 use Rattle.line_tokens.proofs.spots.spots_of.Goals as goal
 
 pub returns-in-End : goal.returns-in-End
@@ -9,7 +9,7 @@ returns-in-End c =
     record { spots = all; inside = spots_inside c.args.text.now 0 0 c.loop-spots.spots (omega arith) all; only = λ other h. same_spots c.args.text.now 0 0 c.loop-spots.spots other all h }
 
 pub returns-in-Bad : goal.returns-in-Bad
-returns-in-Bad c = grind (arith, common_steps, Spots-last, spots_inside, same_spots)
+returns-in-Bad c = grind (arith, common_steps, spots_inside, same_spots)
 
 pub loop-spots-preserved : goal.loop-spots-preserved
 loop-spots-preserved c =

@@ -1,5 +1,5 @@
 use Rattle.record_dim.specs.Std.{arith, nat_tests, common_steps}
-use Rattle.line_tokens.specs.DecimalLaws.{digit_range, digits_more, digits_pass}
+use Rattle.line_tokens.specs.DecimalLaws.{digits_more, digits_pass}
 use Rattle.line_tokens.proofs.token.value_of.Goals as goal
 
 pub returns-then-value : goal.returns-then-value
@@ -9,4 +9,4 @@ returns-then-value c =
     grind (arith, nat_tests)
 
 pub loop-byte-preserved : goal.loop-byte-preserved
-loop-byte-preserved c = grind (arith, common_steps, digit_range, digits_more)
+loop-byte-preserved c = grind (arith, common_steps, digits_more)
