@@ -1,12 +1,12 @@
 -- Where no part of a term can fail, its value is the exact one.
-use Rattle.std.specs.Prelude.{◌≡◌, ℕ, ◌+◌, ◌*◌, ◌^◌, ◌<◌, ◌≤◌, max, Bool, true, false, cond, not, ◌&&◌, ◌||◌, ℤ, pos, negsuc, neg_ℤ, ◌+ℤ◌, ◌-ℤ◌, ◌*ℤ◌, ◌≤ℤ◌, List, Some, None, Result, Ok, Err, refl, suc, ◌/◌, ◌%◌, unsigned_abs, int_lt, int_div, int_rem, if◌then◌else◌}
-use Rattle.record_dim.specs.Std.{◌∙◌, ap, arith, int_eq, ints, unsigned_abs-mul, quot-rem, mul-le-mul, div-le_self, mod-le}
+use Rattle.std.specs.Prelude.{◌≡◌, ℕ, ◌+◌, ◌*◌, ◌^◌, ◌<◌, ◌≤◌, max, Bool, true, false, cond, not, ◌&&◌, ◌||◌, ℤ, pos, negsuc, neg_ℤ, ◌+ℤ◌, ◌-ℤ◌, ◌*ℤ◌, ◌≤ℤ◌, List, Some, None, Result, Ok, Err, refl, suc, ◌/◌, unsigned_abs, int_lt, int_div, int_rem, if◌then◌else◌}
+use Rattle.record_dim.specs.Std.{ap, arith, ints, unsigned_abs-mul, quot-rem, mul-le-mul, div-le_self}
 use Rattle.expr_lang.specs.declared.expr.BinOp.{BinOp}
-use Rattle.expr_lang.specs.declared.expr.BinOp.TheVariants.{Add, Sub, Mul, Div, Rem, Min, Max, Eq, Ne, Lt, Le, Gt, Ge, And, Or}
+use Rattle.expr_lang.specs.declared.expr.BinOp.TheVariants.{Add, Sub, Mul, Div, Rem, Min, Max}
 use Rattle.expr_lang.specs.declared.fault.EvalFault.{EvalFault}
 use Rattle.expr_lang.specs.declared.fault.EvalFault.TheVariants.{DivideByZero}
 use Rattle.expr_lang.specs.Terms.{Term, Number, Entry, Index, Neg, Not, Binary}
-use Rattle.expr_lang.specs.Values.{Outcome, no_read, then_from, ◌>>=◌, ranged, truth, is_true, decided, unless_decided, result_of, outcome_of}
+use Rattle.expr_lang.specs.Values.{Outcome, then_from, ◌>>=◌, ranged, truth, is_true, unless_decided, outcome_of}
 use Rattle.expr_lang.specs.Inner.Exacts.{exact_by, exact_of, most_by, most_of, has_result, number_in, IsSafe, IsReached}
 
 -- ---- how far from 0
@@ -15,22 +15,14 @@ abs_small : (z : ℤ) (m : ℕ) → neg_ℤ (pos m) ≤ℤ z → z ≤ℤ pos m 
 abs_small (pos n) m least greatest = omega (arith, ints, greatest)
 abs_small (negsuc n) m least greatest = omega (arith, ints, least)
 
-abs_low : (z : ℤ) → neg_ℤ (pos (unsigned_abs z)) ≤ℤ z
-abs_low (pos n) = omega (arith, ints)
-abs_low (negsuc n) = omega (arith, ints)
-
-abs_high : (z : ℤ) → z ≤ℤ pos (unsigned_abs z)
-abs_high (pos n) = omega (arith, ints)
-abs_high (negsuc n) = omega (arith, ints)
-
 abs_sum : (a b : ℤ) → unsigned_abs (a +ℤ b) ≤ unsigned_abs a + unsigned_abs b
-abs_sum a b = abs_small (a +ℤ b) (unsigned_abs a + unsigned_abs b) (omega (arith, ints, abs_low a, abs_low b)) (omega (arith, ints, abs_high a, abs_high b))
+abs_sum a b = abs_small (a +ℤ b) (unsigned_abs a + unsigned_abs b) (omega (arith, ints)) (omega (arith, ints))
 
 abs_difference : (a b : ℤ) → unsigned_abs (a -ℤ b) ≤ unsigned_abs a + unsigned_abs b
-abs_difference a b = abs_small (a -ℤ b) (unsigned_abs a + unsigned_abs b) (omega (arith, ints, abs_low a, abs_high b)) (omega (arith, ints, abs_high a, abs_low b))
+abs_difference a b = abs_small (a -ℤ b) (unsigned_abs a + unsigned_abs b) (omega (arith, ints)) (omega (arith, ints))
 
 abs_negated : (a : ℤ) → unsigned_abs (neg_ℤ a) ≤ unsigned_abs a
-abs_negated a = abs_small (neg_ℤ a) (unsigned_abs a) (omega (arith, ints, abs_high a)) (omega (arith, ints, abs_low a))
+abs_negated a = abs_small (neg_ℤ a) (unsigned_abs a) (omega (arith, ints)) (omega (arith, ints))
 
 abs_product : (a b : ℤ) (m n : ℕ) → unsigned_abs a ≤ m → unsigned_abs b ≤ n → unsigned_abs (a *ℤ b) ≤ m * n
 abs_product a b m n one two = grind (arith, unsigned_abs, mul-le-mul, unsigned_abs-mul)
@@ -41,12 +33,8 @@ abs_quotient (pos a) (negsuc b) = omega (arith, abs_negated (pos (a / suc b)), d
 abs_quotient (negsuc a) (pos b) = omega (arith, abs_negated (pos (suc a / b)), div-le_self (suc a) b)
 abs_quotient (negsuc a) (negsuc b) = div-le_self (suc a) (suc b)
 
-abs_rest : (a b : ℤ) → unsigned_abs (int_rem a b) ≤ unsigned_abs a
-abs_rest (pos a) b = mod-le a (unsigned_abs b)
-abs_rest (negsuc a) b = omega (arith, abs_negated (pos (suc a % unsigned_abs b)), mod-le (suc a) (unsigned_abs b))
-
 abs_remainder : (a b : ℤ) → unsigned_abs (a -ℤ b *ℤ int_div a b) ≤ unsigned_abs a
-abs_remainder a b = grind (arith, int_div, int_rem, quot-rem, unsigned_abs, abs_rest)
+abs_remainder a b = grind (arith, int_div, int_rem, quot-rem, unsigned_abs)
 
 abs_truth : (b : Bool) → unsigned_abs (truth b) ≤ 1
 abs_truth true = omega arith
@@ -91,30 +79,12 @@ or_answer : (b : Bool) (y : ℤ) (o : Outcome) → o.answer ≡ Ok (truth (b || 
 or_answer true y o is = refl
 or_answer false y o is = is
 
-op_answer : (op : BinOp) (x y : ℤ) (o : Outcome) → o.answer ≡ Ok y → has_result op y ≡ true → unsigned_abs (exact_by op x y) < 2 ^ 63
-    → (unless_decided (decided op x) (o >>= (λ y. no_read (result_of op x y)))).answer ≡ Ok (exact_by op x y)
-op_answer Add x y o is goes small = then_answer o y (λ y. no_read (result_of Add x y)) is ∙ in_range (x +ℤ y) small
-op_answer Sub x y o is goes small = then_answer o y (λ y. no_read (result_of Sub x y)) is ∙ in_range (x -ℤ y) small
-op_answer Mul x y o is goes small = then_answer o y (λ y. no_read (result_of Mul x y)) is ∙ in_range (x *ℤ y) small
-op_answer Div x y o is goes small = then_answer o y (λ y. no_read (result_of Div x y)) is ∙ in_divided (int_eq y (pos 0)) (int_div x y) goes small
-op_answer Rem x y o is goes small = then_answer o y (λ y. no_read (result_of Rem x y)) is ∙ in_divided (int_eq y (pos 0)) (x -ℤ y *ℤ int_div x y) goes small
-op_answer Min x y o is goes small = then_answer o y (λ y. no_read (result_of Min x y)) is
-op_answer Max x y o is goes small = then_answer o y (λ y. no_read (result_of Max x y)) is
-op_answer Eq x y o is goes small = then_answer o y (λ y. no_read (result_of Eq x y)) is
-op_answer Ne x y o is goes small = then_answer o y (λ y. no_read (result_of Ne x y)) is
-op_answer Lt x y o is goes small = then_answer o y (λ y. no_read (result_of Lt x y)) is
-op_answer Le x y o is goes small = then_answer o y (λ y. no_read (result_of Le x y)) is
-op_answer Gt x y o is goes small = then_answer o y (λ y. no_read (result_of Gt x y)) is
-op_answer Ge x y o is goes small = then_answer o y (λ y. no_read (result_of Ge x y)) is
-op_answer And x y o is goes small = and_answer (is_true x) y (o >>= (λ y. no_read (result_of And x y))) (then_answer o y (λ y. no_read (result_of And x y)) is)
-op_answer Or x y o is goes small = or_answer (is_true x) y (o >>= (λ y. no_read (result_of Or x y))) (then_answer o y (λ y. no_read (result_of Or x y)) is)
-
 -- an operator over two sides whose answers are their exact values
 binary_answer : (row : List ℤ) (index : List ℕ) (op : BinOp) (left right : Term ℕ) → (outcome_of row index left).answer ≡ Ok (exact_of row index left)
     → (outcome_of row index right).answer ≡ Ok (exact_of row index right) → has_result op (exact_of row index right) ≡ true
     → unsigned_abs (exact_by op (exact_of row index left) (exact_of row index right)) < 2 ^ 63
     → (outcome_of row index (Binary op left right)).answer ≡ Ok (exact_of row index (Binary op left right))
-binary_answer row index op left right one two total small = grind (arith, then_answer, op_answer)
+binary_answer row index op left right one two total small = grind (arith, then_answer)
 
 -- ---- terms
 

@@ -1,34 +1,22 @@
 -- What a step makes of the value of a term is the value of the term that it makes.
-use Rattle.std.specs.Prelude.{ℕ, ℤ, neg_ℤ, not, FitsSigned, List, refl, unsigned_abs}
+use Rattle.std.specs.Prelude.{ℕ, ℤ, neg_ℤ, not, FitsSigned, List, unsigned_abs}
 use Rattle.record_dim.specs.Std.{w64, ap, arith, fits_signed_from_abs}
-use Rattle.expr_lang.specs.declared.bound.Operand.{Operand}
-use Rattle.expr_lang.specs.declared.bound.Operand.TheVariants as operand
-use Rattle.expr_lang.specs.declared.bound.Links.{Links}
-use Rattle.expr_lang.specs.declared.bound.Links.TheVariants as links
 use Rattle.expr_lang.specs.declared.bound.Step.{Step}
 use Rattle.expr_lang.specs.declared.bound.Step.TheVariants as step
 use Rattle.expr_lang.specs.Terms.{Term, Neg}
 use Rattle.expr_lang.specs.Values.{truth, is_true}
-use Rattle.expr_lang.specs.Chains.{operand_term, step_term, links_term}
+use Rattle.expr_lang.specs.Chains.{step_term}
 use Rattle.expr_lang.specs.Inner.Exacts.{exact_by, IsSafe}
 use Rattle.expr_lang.specs.ExactsLaws.{worth}
-use Rattle.expr_lang.specs.Inner.Steps.{lone_part, right_value, stepped, IsStepFit, IsWorthIn, IsBeside, IsRight}
+use Rattle.expr_lang.specs.Inner.Steps.{lone_part, right_value, stepped, IsStepFit, IsWorthIn, IsRight}
 
 module _ (leaves places : List ℕ) (row : List ℤ) (index : List ℕ) where
-  -- the value of a right side
-  right_worth : (first : Operand) (rest : Links) (y : ℤ) → IsBeside leaves places row index (lone_part first rest) (links_term (operand_term first) rest) y
-      → IsWorthIn leaves places row index (links_term (operand_term first) rest) (right_value (lone_part first rest) y)
-  right_worth (operand.Number number) links.End y beside = record { is = refl; reached = tt }
-  right_worth (operand.Number number) (links.More' p s rest) y beside = beside
-  right_worth (operand.Leaf leaf) rest y beside = beside
-  right_worth (operand.Index dimension) rest y beside = beside
-
   -- what a step makes of the value of a term is that of the term behind it
   pub step_worth : (front : Term ℕ) (s : Step) (x y : ℤ) → IsWorthIn leaves places row index front x → IsRight leaves places row index s y
       → IsWorthIn leaves places row index (step_term front s) (stepped s x y)
   step_worth front step.Neg x y here right = record { is = ap neg_ℤ here.is; reached = here.reached }
   step_worth front step.Not x y here right = record { is = ap (λ (v : ℤ). truth (not (is_true v))) here.is; reached = here.reached }
-  step_worth front (step.Binary' op first rest) x y here right = grind (arith, right_worth)
+  step_worth front (step.Binary' op first rest) x y here right = grind arith
 
   -- a term that no part of can fail has a value of 64 bits
   fits : (term : Term ℕ) (value : ℤ) → IsSafe leaves places term → IsWorthIn leaves places row index term value → FitsSigned w64 value
