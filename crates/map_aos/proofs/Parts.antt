@@ -1,5 +1,5 @@
 -- How the part of one slot is filled, cell after cell.
-use Rattle.map_aos.proofs.Imports.{◌≡◌, ℕ, ◌+◌, ◌-◌, ◌%◌, ◌<◌, ◌≤◌, ◌==◌, List, [], ◌∷◌, ◌++◌, map, filter, length, max, fold, get_or, set, take, slice_index, All, refl, sym, ap, ◌∙◌, subst, arith, append-nil, append_assoc, take_more, take_all, get_or-map, length-map, get_or_append_left, length-enumerate_from, get_or-enumerate_from, width_of, Owner, Pad, Bit, cells_of, field, falling, widths_of, Cell, Member, length-field, field_at, member_width, member_at, member_cells, cells_member, fresh_at, stacked, up, IsFilled, filled_more, length-padded, stacked_take, IsWidth, by_width, widths_are, LieInParts, part_of, order_of, alignment, laid_fields, widest, part_is, apart_order, order_member, member_order, AosForm}
+use Rattle.map_aos.proofs.Imports.{◌≡◌, ℕ, ◌+◌, ◌-◌, ◌%◌, ◌<◌, ◌≤◌, List, [], ◌∷◌, ◌++◌, map, length, max, fold, get_or, set, take, slice_index, All, refl, sym, ap, ◌∙◌, subst, arith, take_more, take_all, get_or-map, length-map, get_or_append_left, length-enumerate_from, get_or-enumerate_from, width_of, Owner, Pad, Bit, cells_of, field, widths_of, Cell, Member, length-field, field_at, member_width, member_at, member_cells, cells_member, fresh_at, stacked, up, IsFilled, filled_more, length-padded, stacked_take, IsWidth, widths_are, LieInParts, part_of, order_of, alignment, laid_fields, widest, part_is, apart_order, order_member, member_order, AosForm}
 
 -- the numbered cells, one by one
 pub length-cells : (cells : List Cell) → length (cells_of (widths_of cells)) ≡ length cells
@@ -17,11 +17,6 @@ cells_more cells i d inside =
     let cell : (0 + i, get_or (widths_of cells) i 0) ≡ (i, width_of (get_or cells i d).kind) =
     ap (λ (n : ℕ). (n, get_or (widths_of cells) i 0)) (omega arith) ∙ ap (λ (w : ℕ). (i, w)) width in
     (take_more (cells_of (widths_of cells)) i (0, 0) (omega arith)) ∙ ap (λ (e : ℕ × ℕ). take i (cells_of (widths_of cells)) ++ e ∷ []) (at ∙ cell)
-
--- four filters behind one another
-pub falling_is : (none : List (ℕ × ℕ)) (cells : List (ℕ × ℕ)) → none ≡ []
-    → none ++ filter (λ cell. cell.1 == 64) cells ++ filter (λ cell. cell.1 == 32) cells ++ filter (λ cell. cell.1 == 16) cells ++ filter (λ cell. cell.1 == 8) cells ≡ falling cells
-falling_is none cells e = grind (arith, append_assoc, append-nil)
 
 -- every slot's cells, as far as they are placed
 pub record IsPlaced (form : AosForm) (order : List (ℕ × ℕ)) (offsets : List ℕ) (end : ℕ) : Type 0 where
@@ -113,9 +108,6 @@ pub numbered_more : (cells : List Cell) (i : ℕ) (d : Cell) (w : ℕ) (old new 
     → new ≡ take (i + 1) (cells_of (widths_of cells))
 numbered_more cells i d w old new inside was width pushed = grind (arith, get_or, cells_more)
 
-alignment_some : (form : AosForm) (w : ℕ) → IsWidth w → (1 ≤ alignment form w) × (alignment form w ≤ 64)
-alignment_some form w h = grind (arith, by_width)
-
 -- what is known of the cell at a place of the order
 pub record IsNext (form : AosForm) (count : ℕ) (cell : ℕ × ℕ) : Type 0 where
   pub number : cell.0 < count
@@ -124,7 +116,7 @@ pub record IsNext (form : AosForm) (count : ℕ) (cell : ℕ × ℕ) : Type 0 wh
 
 pub next_at : (form : AosForm) (cells : List Cell) (order : List (ℕ × ℕ)) (i : ℕ) (d : ℕ × ℕ) → order ≡ order_of form (cells_of (widths_of cells)) → i < length order
     → IsNext form (length cells) (get_or order i d)
-next_at form cells order i d e l = grind (arith, get_or, order_at, widths_are, alignment_some, length-map)
+next_at form cells order i d e l = grind (arith, get_or, order_at, widths_are, length-map)
 
 pub placed_next : (form : AosForm) (cells : List Cell) (order : List (ℕ × ℕ)) (i : ℕ) (d : ℕ × ℕ) (offsets : List ℕ) (end align offset width : ℕ)
     → order ≡ order_of form (cells_of (widths_of cells)) → i < length order → length offsets ≡ length cells

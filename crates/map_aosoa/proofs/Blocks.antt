@@ -1,5 +1,5 @@
 -- How many blocks there are, and how one block is filled, cell after cell.
-use Rattle.map_aosoa.proofs.Imports.{◌≡◌, ℕ, zero, suc, All, refl, ◌+◌, ◌*◌, ◌%◌, ◌<◌, ◌≤◌, ⊎_elim, List, [], ◌∷◌, ◌++◌, length, get_or, take, sym, ap, ◌∙◌, arith, below_more, sum, div_ceil, cases_lt, div-mul-add, div-add-mod', mul-le, get_or-map, get_or_push, get_or_append_left, sum_by_more, sum_by-take-le, sum_by-cons, width_of, widths_of, Cell, length-widths, widths_whole, times_bytes, block_count}
+use Rattle.map_aosoa.proofs.Imports.{◌≡◌, ℕ, zero, suc, All, refl, ◌+◌, ◌*◌, ◌%◌, ◌<◌, ◌≤◌, ⊎_elim, List, [], ◌∷◌, length, get_or, take, sym, ap, ◌∙◌, arith, sum, div_ceil, cases_lt, div-mul-add, div-add-mod', mul-le, get_or-map, sum_by_more, sum_by-take-le, sum_by-cons, width_of, widths_of, Cell, length-widths, widths_whole, times_bytes, block_count}
 
 -- a quotient that is rounded up
 pub blocks_are : (slots lanes : ℕ) → 0 < lanes → div_ceil slots lanes ≡ block_count lanes slots
@@ -24,11 +24,6 @@ end_below lanes widths i = mul-le lanes (sum (take i widths)) lanes (sum widths)
 pub end_next : (lanes : ℕ) (cells : List Cell) (i : ℕ) (d : Cell) (end lanes' w w' : ℕ) → i < length cells → w ≡ width_of (get_or cells i d).kind
     → lanes' ≡ lanes → w' ≡ w → end ≡ lanes * sum (take i (widths_of cells)) → end + lanes' * w' ≡ lanes * sum (take (i + 1) (widths_of cells))
 end_next lanes cells i d end lanes' w w' inside width same same' was = grind (arith, end_more)
-
--- one offset more behind offsets that follow a function of their number
-pub offsets_more : (f : ℕ → ℕ) (old new : List ℕ) (i end : ℕ) → length old ≡ i → end ≡ f i → new ≡ old ++ end ∷ []
-    → ((k : ℕ) → k < i → get_or old k 0 ≡ f k) → (k : ℕ) → k < i + 1 → get_or new k 0 ≡ f k
-offsets_more f old new i end count last pushed each = grind (arith, below_more, get_or, get_or_append_left, get_or_push)
 
 -- the lanes of whole bytes are whole bytes
 sum_bytes : (widths : List ℕ) → All (λ w. w % 8 ≡ 0) widths → (n : ℕ) → sum (take n widths) % 8 ≡ 0

@@ -72,7 +72,7 @@ total_is slots widths offsets stride h = grind (arith, ⊎_elim, sum, cases_lt)
 pub blob_bytes_is : (slots : ℕ) (widths offsets : List ℕ) (stride blob bits : ℕ) → IsLaidOut (bit_aos slots widths) slots widths
     → (0 < slots → LieInBits widths offsets stride) → bits ≡ up 64 (slots * stride)
     → blob < length (bit_aos slots widths) → 8 * (bits / 8) ≡ length (get_or (bit_aos slots widths) blob [])
-blob_bytes_is slots widths offsets stride blob bits laid h padded inside = grind (arith, get_or, sum, blob_size, total_is)
+blob_bytes_is slots widths offsets stride blob bits laid h padded inside = grind (arith, get_or, sum, blob_size)
 
 -- where a cell begins, as it is kept
 pub begin_at : (widths offsets : List ℕ) (stride cell d : ℕ) → LieInBits widths offsets stride → cell < length widths

@@ -1,6 +1,6 @@
 -- Cells that are stored each in at most its own number of bits.
-use Rattle.std.specs.Prelude.{◌≡◌, ℕ, zero, suc, ◌+◌, ◌<◌, ◌≤◌, Bool, true, false, not, ◌&&◌, nat_le, List, [], ◌∷◌, ◌++◌, map, length, get_or, take, All, refl}
-use Rattle.record_dim.specs.Std.{sym, ap, ◌∙◌, subst, arith, All-cons, All-nil, or_parts, leb-true}
+use Rattle.std.specs.Prelude.{◌≡◌, ℕ, zero, suc, ◌+◌, ◌<◌, ◌≤◌, Bool, true, false, not, ◌&&◌, List, [], ◌∷◌, ◌++◌, map, length, get_or, take, All, refl}
+use Rattle.record_dim.specs.Std.{sym, ap, ◌∙◌, subst, arith, All-cons, All-nil, or_parts}
 use Rattle.places.specs.Prelude.{hold_within, narrow_holds, widths_in, width_narrow, width_wide}
 use Rattle.places.specs.declared.piece.Cell.{Cell}
 use Rattle.places.specs.declared.piece.Hold.{Hold}
@@ -23,9 +23,6 @@ narrow_more (width ∷ widths) (cell ∷ cells) (suc i) d l m = grind (arith, (n
 low_of : (low high : Bool) → not (low && high) ≡ false → low ≡ true
 low_of low high e = grind arith
 
-good_width : (width : ℕ) → is_bad_width width ≡ false → 1 ≤ width
-good_width width good = leb-true 1 width (low_of (nat_le 1 width) (nat_le width 64) good)
-
 -- each cell in the width that a function gives it
 pub narrow_each : (width : Cell → ℕ) (cells : List Cell) → narrow_holds (map width cells) cells ≡ map (λ (cell : Cell). hold_within (width cell) cell.kind) cells
 narrow_each width [] = refl
@@ -36,7 +33,7 @@ pub narrow_wide : (widths : List ℕ) (cells : List Cell) → has_bad_width widt
 narrow_wide [] cells good = All-nil (λ w. 1 ≤ w)
 narrow_wide (width ∷ widths) [] good = All-nil (λ w. 1 ≤ w)
 narrow_wide (width ∷ widths) (cell ∷ cells) good =
-    grind (arith, All-cons, good_width, width_wide, (narrow_wide widths cells (or_parts (is_bad_width width) (has_bad_width widths) good).1))
+    grind (arith, All-cons, width_wide, (narrow_wide widths cells (or_parts (is_bad_width width) (has_bad_width widths) good).1))
 
 pub narrow_low : (widths : List ℕ) (cells : List Cell) → All (λ w. w ≤ 64) (widths_in (narrow_holds widths cells))
 narrow_low [] cells = All-nil (λ w. w ≤ 64)

@@ -1,6 +1,6 @@
 -- The blobs of a split: how many there are, and how long they are.
-use Rattle.std.specs.Prelude.{◌≡◌, ℕ, ◌+◌, ◌-◌, ◌<◌, ◌≤◌, Bool, List, [], ◌∷◌, ◌++◌, map, length, get_or, refl, not, sum_by}
-use Rattle.record_dim.specs.Std.{length-append, ap, ◌∙◌, arith, length-map, map-append, get_or-map, get_or_append_left, get_or-append_right, sum-map, sum_by-append}
+use Rattle.std.specs.Prelude.{◌≡◌, ℕ, ◌+◌, ◌<◌, Bool, List, [], ◌∷◌, ◌++◌, map, length, get_or, refl, not, sum_by}
+use Rattle.record_dim.specs.Std.{ap, ◌∙◌, arith, length-map, map-append, get_or-map, sum-map, sum_by-append}
 use Rattle.places.specs.Prelude.{Owner, recelled, numbers_of, split}
 
 -- blobs under other cell numbers keep their lengths
@@ -27,18 +27,3 @@ module _ (side : List Bool) (first rest : List (List Owner)) where
 
   pub bits-split : sum_by length (split side first rest) ≡ sum_by length first + sum_by length rest
   bits-split = grind (arith, sum-map, lengths-split, map-append, sum_by-append)
-
-  pub length-split : length (split side first rest) ≡ length first + length rest
-  length-split = grind (arith, length-map, length-append)
-
-  -- a blob of the first side, and one of the rest
-  pub blob_first : (b : ℕ) → b < length first → length (get_or (split side first rest) b []) ≡ length (get_or first b [])
-  blob_first b inside =
-      let one : length front ≡ length first = length-map first _ in
-      ap (λ (owners : List Owner). length owners) (get_or_append_left front back [] b (omega arith)) ∙ blob-recelled (numbers_of side) first b inside
-
-  pub blob_rest : (b : ℕ) → length first ≤ b → b < length first + length rest
-      → length (get_or (split side first rest) b []) ≡ length (get_or rest (b - length first) [])
-  blob_rest b low inside =
-      ap (λ (owners : List Owner). length owners) (get_or-append_right front back (length first) b [] (length-map first _) low)
-      ∙ blob-recelled (numbers_of (map not side)) rest (b - length first) (omega arith)
