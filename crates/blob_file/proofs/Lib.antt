@@ -1,3 +1,4 @@
+mod Lemmas
 mod Blobs
 mod Contents
 mod Cuts

@@ -1,6 +1,5 @@
 -- A table that is laid out anew in a script that has nothing but its view.
-use Rattle.c_lines.proofs.Imports.{◌≡◌, inr, ◌∙◌, ◌+◌, ℕ, nat_eq, true, List, [], Option, Some, None, Result, Ok, Err, refl, sym, ap, arith, pointwise, text_self, Fields, Term, Table, Tested, ◌>>=◌, made, with_rows, nameless, AreAlike, alike, goes_then, Gives, StepFault, Answer, Refusal, Narrow, answered, Gave, Refuses, alone, blob_bits, live_bits, laid_left, was_copied, refused_at, answer_of, RelaidAs, zeros_beside, Spot, ℤ, HasRows, all_left, left_at, row_told, text_of_leaf, quiet, in_words}
-use Rattle.c_lines.specs.Copies.{source_after, target_after}
+use Rattle.c_lines.proofs.Imports.{◌≡◌, inr, ◌∙◌, ◌+◌, ℕ, nat_eq, true, List, [], Option, Some, None, Result, Ok, Err, refl, sym, ap, arith, pointwise, text_self, Fields, Term, Table, Tested, ◌>>=◌, made, with_rows, nameless, AreAlike, alike, goes_then, Gives, StepFault, Answer, Refusal, Narrow, answered, Gave, Refuses, alone, blob_bits, live_bits, laid_left, was_copied, refused_at, answer_of, RelaidAs, zeros_beside, Spot, ℤ, HasRows, all_left, left_at, row_told, text_of_leaf, quiet, in_words, source_after, target_after}
 unfoldable use Rattle.worlds.specs.Prelude.{laid_anew, relayout}
 use Rattle.worlds.specs.declared.fault.CommandFault.TheVariants as command
 use Rattle.c_lines.proofs.Commanding.{refuses_by, refuses_step, says_step}

@@ -1,7 +1,5 @@
 -- The rows of boxes.
-use Rattle.c_lines.proofs.Imports.{◌≡◌, ⊎_elim, ℕ, zero, suc, ◌+◌, ◌^◌, ◌<◌, ◌≤◌, Bool, true, false, nat_lt, List, [], ◌∷◌, length, map, take, get_or, All, Err, refl, sym, ap, ◌∙◌, arith, cases_Bool, false≢true, take_more, take_more_set, ◌++◌, list_all, take_all, indices, and_parts, leb-true, lt-ltb, ◌&&◌, filter, set, if◌then◌else◌, max, min, nat_le, enumerate_from, are_inside, windowed, IsWindow, holds, rows_in, Span}
-use Rattle.worlds.specs.declared.fault.CommandFault.TheVariants.{BadWindow}
-use Rattle.c_lines.specs.Boxes.{spans_of}
+use Rattle.c_lines.proofs.Imports.{◌≡◌, ⊎_elim, ℕ, zero, suc, ◌+◌, ◌^◌, ◌<◌, ◌≤◌, Bool, true, false, nat_lt, List, [], ◌∷◌, length, map, take, get_or, All, Err, refl, sym, ap, ◌∙◌, arith, cases_Bool, false≢true, take_more, take_more_set, ◌++◌, list_all, take_all, indices, and_parts, leb-true, lt-ltb, ◌&&◌, filter, set, if◌then◌else◌, max, min, nat_le, enumerate_from, are_inside, windowed, IsWindow, holds, rows_in, Span, BadWindow, spans_of}
 
 is_window : (extents : List ℕ) (spans : List Span) → are_inside extents spans ≡ true → IsWindow extents spans
 is_window [] [] inside = tt

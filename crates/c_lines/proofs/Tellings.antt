@@ -1,10 +1,6 @@
 -- What lines tell of a table.
-use Rattle.c_lines.proofs.Imports.{CommandFault, None, ◌≡◌, ℕ, List, [], Option, Some, Ok, Err, refl, sym, ap, ◌∙◌, Table, Tested, Done, done_to, inl, inr, ⊎_elim, Sentence, Answer, Refusal, NoMemory, OnLine, Carried, HasRows, SaysStep, StepFault, all_left, commanded, left_at, row_told, Did}
+use Rattle.c_lines.proofs.Imports.{CommandFault, None, ◌≡◌, ℕ, List, [], Option, Some, Ok, Err, refl, sym, ap, ◌∙◌, Table, Tested, Done, done_to, inl, inr, ⊎_elim, Sentence, Answer, Refusal, NoMemory, OnLine, Carried, HasRows, SaysStep, StepFault, all_left, commanded, left_at, row_told, Did, answer_map, bytes_in, ByteSink, Answers, IsLeft}
 use Rattle.command_checks.specs.declared.fault.StepFault.TheVariants as step
-use Rattle.c_lines.specs.Answers.{answer_map}
-use Rattle.c_lines.specs.Inner.Carried.{bytes_in}
-use Rattle.c_lines.specs.declared.byte_sink.ByteSink.{ByteSink}
-use Rattle.view_commands.specs.Inner.Answers.{Answers, IsLeft}
 use Rattle.c_lines.proofs.Commanding.{refuses_step}
 
 -- what a sink may have taken and failed in

@@ -1,9 +1,7 @@
 -- The words of a fault in its line.
-use Rattle.c_lines.proofs.Imports.{◌≡◌, ℕ, List, [], ◌++◌, ◌+◌, ◌-◌, ◌≤◌, length, take, drop, Some, Ok, Err, Refusal, inr, refl, subst, ◌∙◌, arith, with_bytes, fault_words, codes, length-append, take-append_seam, CommandFault}
+use Rattle.c_lines.proofs.Imports.{◌≡◌, ℕ, List, [], ◌++◌, ◌+◌, ◌-◌, ◌≤◌, length, take, drop, Some, Ok, Err, Refusal, inr, refl, subst, ◌∙◌, arith, with_bytes, fault_words, codes, length-append, take-append_seam, CommandFault, Answer, TellsPut, buffer_after, needed_after, put_told}
 unfoldable use Rattle.layout_io.specs.Prelude.{digits_text}
 unfoldable use Rattle.worlds.specs.Prelude.{fault_text}
-use Rattle.c_lines.specs.Answers.{Answer}
-use Rattle.c_lines.specs.Buffers.{TellsPut, buffer_after, needed_after, put_told}
 
 -- the words, with the line's front and end
 line_is : (fault : CommandFault) → fault_text 0 fault ≡ codes "line 0: " ++ (fault_words fault ++ codes "\n")

@@ -1,6 +1,5 @@
 -- Outcomes of a list, one after another.
-use Rattle.command_checks.proofs.Imports.{◌≡◌, ℕ, suc, ◌+◌, ◌<◌, List, [], ◌∷◌, ◌++◌, take, drop, get_or, length, refl, sym, ap, ◌∙◌, take-append-drop, take_more, drop-cons, ◌>>=◌, each, GivesUp, GivesUp-then, StepFault, Ok, Tested}
-use Rattle.std.proofs.Common.{arith}
+use Rattle.command_checks.proofs.Imports.{◌≡◌, ℕ, suc, ◌+◌, ◌<◌, List, [], ◌∷◌, ◌++◌, take, drop, get_or, length, refl, sym, ap, ◌∙◌, take-append-drop, take_more, drop-cons, ◌>>=◌, each, GivesUp, GivesUp-then, StepFault, Ok, Tested, arith}
 
 -- a list at one of its places
 pub parts_at : {X : Type 0} (xs : List X) (i : ℕ) (d : X) → i < length xs → take i xs ++ get_or xs i d ∷ drop (suc i) xs ≡ xs

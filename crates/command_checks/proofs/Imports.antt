@@ -22,3 +22,5 @@ pub use Rattle.command_checks.specs.Inner.Bases.{is_nameless}
 pub use Rattle.command_checks.specs.BasesLaws.{rows_for_some, rows_for_same, resolves, resolves_not, rows_are}
 pub use Rattle.command_checks.specs.PlacesLaws.{free_by_place, placed_at, unknown_name, known_at}
 pub use Rattle.std.proofs.lemmas.Grind.{common_steps}
+pub use Rattle.advisor.proofs.SteadyLaws.{range_cut}
+pub use Rattle.blob_file.proofs.Made.{table_new}

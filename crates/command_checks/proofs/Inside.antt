@@ -1,6 +1,5 @@
 -- Spans that are a window.
-use Rattle.command_checks.proofs.Imports.{◌≡◌, ℕ, true, List, [], ◌∷◌, refl, le-leb, Span, IsWindow, are_inside, windowed, Ok}
-use Rattle.std.proofs.Common.{arith}
+use Rattle.command_checks.proofs.Imports.{◌≡◌, ℕ, true, List, [], ◌∷◌, refl, le-leb, Span, IsWindow, are_inside, windowed, Ok, arith}
 
 inside_true : (extents : List ℕ) (spans : List Span) → IsWindow extents spans → are_inside extents spans ≡ true
 inside_true [] [] is = refl

@@ -1,6 +1,5 @@
 -- The leaves of a pass, path by path.
-use Rattle.advisor.proofs.SteadyLaws.{range_cut}
-use Rattle.command_checks.proofs.Imports.{◌≡◌, ℕ, ◌+◌, ◌-◌, ◌<◌, ◌≤◌, List, [], ◌∷◌, ◌++◌, length, take, get_or, append_assoc, refl, sym, ap, ◌∙◌, arith, range_with_len, append-nil, flat_map-append, joined, Fields, PathStep, leaves_at, leaves_under, ◌>>=◌, each, GivesUp, GivesUp-then, StepFault, Ok, Err, Tested}
+use Rattle.command_checks.proofs.Imports.{◌≡◌, ℕ, ◌+◌, ◌-◌, ◌<◌, ◌≤◌, List, [], ◌∷◌, ◌++◌, length, take, get_or, append_assoc, refl, sym, ap, ◌∙◌, arith, range_with_len, append-nil, flat_map-append, joined, Fields, PathStep, leaves_at, leaves_under, ◌>>=◌, each, GivesUp, GivesUp-then, StepFault, Ok, Err, Tested, range_cut}
 use Rattle.command_checks.proofs.Each.{each_more, each_ends}
 
 -- a number more of a range

@@ -1,3 +1,4 @@
+mod Lemmas
 mod Imports
 pub mod Accesses
 pub mod Asked

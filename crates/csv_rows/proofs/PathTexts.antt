@@ -1,6 +1,5 @@
 -- The text of a path of names and small numbers is plain, and no other path has it.
-use Rattle.csv_rows.proofs.Imports.{◌≡◌, ℕ, ◌<◌, ◌^◌, Bool, true, false, List, [], ◌∷◌, ◌++◌, refl, ap, append_assoc, arith, list_all, is_ascii_digit, decimal, nat_tests, decimal_injective, PathStep, Name, At, begins_name, continues_name, is_name, both, BeginsWithName, step_text, path_text_of, and_from}
-use Rattle.record_dim.specs.Std.{flat_map}
+use Rattle.csv_rows.proofs.Imports.{◌≡◌, ℕ, ◌<◌, ◌^◌, Bool, true, false, List, [], ◌∷◌, ◌++◌, refl, ap, append_assoc, arith, list_all, is_ascii_digit, decimal, nat_tests, decimal_injective, PathStep, Name, At, begins_name, continues_name, is_name, both, BeginsWithName, step_text, path_text_of, and_from, flat_map}
 use Rattle.csv_rows.proofs.PlainTexts.{is_plain_byte, is_plain_text}
 use Rattle.csv_rows.proofs.PrintedBytes.{all_joined, plain_letters, plain_digits, decimal_are}
 

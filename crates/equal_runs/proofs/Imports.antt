@@ -27,7 +27,7 @@ pub use Rattle.lane_kernels.specs.declared.fault.KernelFault.{KernelFault}
 pub use Rattle.lane_kernels.specs.declared.kernel.Kernel.{Kernel}
 pub use Rattle.subviews.specs.declared.fault.StencilFault.{StencilFault}
 unfoldable pub use Rattle.worlds.specs.Prelude.{on_view, assigned, updated, copied, copy, relayout, laid_anew, with_rows, kernel_run, counts, drop_view, heat, define, open_view, opened_beside, opened_table, load, loaded_table, loaded, mapping, step, view, new_table, stencil_run}
-pub use Rattle.lane_kernels.specs.Kernels.{Store, answer_fault, first_row_fault, kernel_fault}
+pub use Rattle.lane_kernels.specs.Kernels.{Store, answer_fault, first_row_fault, kernel_fault, kernel_store_fault}
 pub use Rattle.csv_rows.specs.Datasets.{Place, Leaf, the_field, the_number, number_behind_sign, unspaced, refusal, taken, value_at, row_values, table_from, with_columns, columns_of, header_record, records_behind, csv_records}
 unfoldable pub use Rattle.csv_rows.specs.Datasets.{dataset_table}
 pub use Rattle.csv_rows.specs.declared.fault.RowFault.{RowFault}
@@ -49,3 +49,6 @@ pub use Rattle.equal_runs.specs.Logs.{log_in, logged, reads_of, writes_of, fills
 pub use Rattle.equal_runs.specs.Widths.{MakesWide, HoldsOf, StaysWide}
 pub use Rattle.equal_runs.specs.EqualRuns.{DoesLines, EqualRuns}
 pub use Rattle.equal_runs.specs.RunEntries.{ShowsCounts, ShowsHeat, ShowsEntries, tally_since}
+pub use Rattle.worlds.specs.OnView.{Told}
+pub use Rattle.subviews.specs.SubViews.{rows_of}
+pub use Rattle.subviews.specs.Stencils.{Stencil, rounds_log, stencil_value, at_row, first_round_fault, values_fault, with_entries, new_entry, if_fits, round, next_round, after_rounds}

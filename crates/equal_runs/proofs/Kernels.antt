@@ -1,7 +1,6 @@
 -- Which fault ends a kernel, by the answers to its stores.
-use Rattle.equal_runs.proofs.Imports.{◌≡◌, ℕ, Bool, true, false, ℤ, List, [], ◌∷◌, Option, Some, None, Result, Err, refl, option_or, StoreAnswer, StoreFault, Store, answer_fault, first_row_fault, kernel_fault, KernelFault, Kernel, ◌+◌, arith}
+use Rattle.equal_runs.proofs.Imports.{◌≡◌, ℕ, Bool, true, false, ℤ, List, [], ◌∷◌, Option, Some, None, Result, Err, refl, option_or, StoreAnswer, StoreFault, Store, answer_fault, first_row_fault, kernel_fault, KernelFault, Kernel, ◌+◌, arith, kernel_store_fault}
 use Rattle.views.specs.declared.fault.StoreFault.TheVariants as stored_fault
-use Rattle.lane_kernels.specs.Kernels.{kernel_store_fault}
 use Rattle.lane_kernels.specs.declared.fault.KernelFault.TheVariants.{Narrow}
 use Rattle.equal_runs.proofs.Answers.{Answers, Causes, same, one, other as another, is_narrow}
 

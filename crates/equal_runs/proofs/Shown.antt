@@ -1,6 +1,5 @@
 -- What a run shows of its accesses.
-use Rattle.equal_runs.proofs.Imports.{◌≡◌, ℕ, Bool, List, [], ◌∷◌, ◌++◌, length, Option, Some, sym, ap, subst, ◌∙◌, arith, append_assoc, IfSome, File, Owner, texts_of, Sentence, Version, LeafCounts, HeatCounts, counts_text, heat_text, AreEntries, AreCounts, AreHeat, Access, Tally, tallied, no_tally, Table, owners_of, leaf_count_of, World, found, done_to, on_view, Outcome, LeftOf, Left, known, counts, heat, step, run_from, prepend, fails_at, Output, AreLines, DoesLines, SoFar, at_first, one_more, logs_after, Comes, there, further, log_of, ShowsCounts, ShowsHeat, ShowsEntries, tally_since, IfGoes, to, bind, behind, gone, known_found, Shows, does, surely, ◌+◌, Tested}
-use Rattle.worlds.specs.OnView.{Told}
+use Rattle.equal_runs.proofs.Imports.{◌≡◌, ℕ, Bool, List, [], ◌∷◌, ◌++◌, length, Option, Some, sym, ap, subst, ◌∙◌, arith, append_assoc, IfSome, File, Owner, texts_of, Sentence, Version, LeafCounts, HeatCounts, counts_text, heat_text, AreEntries, AreCounts, AreHeat, Access, Tally, tallied, no_tally, Table, owners_of, leaf_count_of, World, found, done_to, on_view, Outcome, LeftOf, Left, known, counts, heat, step, run_from, prepend, fails_at, Output, AreLines, DoesLines, SoFar, at_first, one_more, logs_after, Comes, there, further, log_of, ShowsCounts, ShowsHeat, ShowsEntries, tally_since, IfGoes, to, bind, behind, gone, known_found, Shows, does, surely, ◌+◌, Tested, Told}
 use Rattle.map_expr.specs.Terms.{Term}
 use Rattle.equal_runs.proofs.Entries.{none}
 use Rattle.equal_runs.proofs.Logs.{AreCounted, counted_at, step_keeps}

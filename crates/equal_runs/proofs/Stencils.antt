@@ -1,7 +1,5 @@
 -- What a stencil answers, by the answers to its stores, and stencils done to alike tables.
-use Rattle.equal_runs.proofs.Imports.{◌≡◌, ℕ, zero, suc, Bool, ℤ, List, [], ◌∷◌, Result, Ok, sym, ap, subst, StoreAnswer, Keeping, kept_by, StoreFault, StencilFault, true, refl, ◌+◌, ◌*◌, ◌^◌, nat_lt, Span, PathStep, MapTerm, Tally, TermText, Table, answer_of, stores, text_of_leaf, blob_bits, TooBig, is_of_layout, fit_stencil, stencil_fault, stencil_rounds, stencil_run, arith}
-use Rattle.subviews.specs.SubViews.{rows_of}
-use Rattle.subviews.specs.Stencils.{Stencil, rounds_log, stencil_value, at_row, first_round_fault, values_fault, with_entries, new_entry, if_fits, round, next_round, after_rounds}
+use Rattle.equal_runs.proofs.Imports.{◌≡◌, ℕ, zero, suc, Bool, ℤ, List, [], ◌∷◌, Result, Ok, sym, ap, subst, StoreAnswer, Keeping, kept_by, StoreFault, StencilFault, true, refl, ◌+◌, ◌*◌, ◌^◌, nat_lt, Span, PathStep, MapTerm, Tally, TermText, Table, answer_of, stores, text_of_leaf, blob_bits, TooBig, is_of_layout, fit_stencil, stencil_fault, stencil_rounds, stencil_run, arith, rows_of, Stencil, rounds_log, stencil_value, at_row, first_round_fault, values_fault, with_entries, new_entry, if_fits, round, next_round, after_rounds}
 use Rattle.equal_runs.proofs.Answers.{Answers, equal, is_narrow, ok_agree}
 use Rattle.equal_runs.proofs.Agreeing.{go, mapped, bind, before, both_told, told_if, Both}
 use Rattle.equal_runs.proofs.Commands.{Same, SameDone, answers_under, narrow_store, under}

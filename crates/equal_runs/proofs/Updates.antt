@@ -1,6 +1,5 @@
 -- What an update answers, by the answers to its stores.
-use Rattle.equal_runs.proofs.Imports.{◌≡◌, ℕ, Bool, true, false, ℤ, List, [], ◌∷◌, Option, Result, Ok, Err, refl, ap, ◌∙◌, if◌then◌else◌, flat_map, range_with_len, Term, index_at, StoreAnswer, Keeping, Access, StoreFault, Setting, each, in_row, store_kind, value_of, passes, new_value, with_values, updated_row, updated_rows, value_log, filter_log, if_ok, if_passes, sides_log, stores_log, row_log, rows_log, UpdateFault, UpdateKind, ◌++◌, arith}
-use Rattle.record_dim.specs.Std.{slice_index_or}
+use Rattle.equal_runs.proofs.Imports.{◌≡◌, ℕ, Bool, true, false, ℤ, List, [], ◌∷◌, Option, Result, Ok, Err, refl, ap, ◌∙◌, if◌then◌else◌, flat_map, range_with_len, Term, index_at, StoreAnswer, Keeping, Access, StoreFault, Setting, each, in_row, store_kind, value_of, passes, new_value, with_values, updated_row, updated_rows, value_log, filter_log, if_ok, if_passes, sides_log, stores_log, row_log, rows_log, UpdateFault, UpdateKind, ◌++◌, arith, slice_index_or}
 use Rattle.row_updates.specs.Rows.{◌>>=◌}
 use Rattle.row_updates.specs.declared.fault.UpdateKind.TheVariants.{Narrow}
 use Rattle.equal_runs.proofs.Agreeing.{go, fault as fails, mapped}

@@ -1,3 +1,4 @@
+mod Imports
 mod Loops
 mod ReadsFront
 mod Puts

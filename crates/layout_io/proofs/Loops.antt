@@ -1,9 +1,5 @@
 -- What the loop over writes keeps.
-use Rattle.std.proofs.Common.{◌≡◌, ℕ, ◌+◌, ◌-◌, ◌<◌, ◌≤◌, List, [], take, drop, length, Option, ap, ◌∙◌, arith, length-drop}
-use Rattle.std.proofs.Math.Seq.{take-add}
-use Rattle.std.proofs.lemmas.List.{take_rest}
-use Rattle.layout_io.specs.Writing.{with_bytes, Wrote}
-use Rattle.layout_io.specs.WritingLaws.{Wrote-append}
+use Rattle.layout_io.proofs.Imports.{◌≡◌, ℕ, ◌+◌, ◌-◌, ◌<◌, ◌≤◌, List, [], take, drop, length, Option, ap, ◌∙◌, arith, length-drop, take-add, take_rest, with_bytes, Wrote, Wrote-append}
 
 -- a front of the bytes was written
 pub record WritesFront {K : Type 0} (taken : K → Option (List ℕ)) (faults : K → ℕ) (first now : K) (bytes : List ℕ) (done : ℕ) : Type 0 where

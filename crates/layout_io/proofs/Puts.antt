@@ -1,10 +1,5 @@
 -- What the loop over full buffers keeps.
-use Rattle.std.proofs.Common.{◌≡◌, ℕ, List, [], ◌++◌, Option, ap, ◌∙◌, append_assoc}
-use Rattle.layout_io.specs.Writing.{Wrote, Stopped}
-use Rattle.layout_io.specs.WritingLaws.{Stopped-front}
-use Rattle.layout_io.specs.Gathering.{Gathers}
-use Rattle.layout_io.specs.GatheringLaws.{Gathers-append, Gathers-written}
-use Rattle.std.proofs.Common.{arith}
+use Rattle.layout_io.proofs.Imports.{◌≡◌, ℕ, List, [], ◌++◌, Option, ap, ◌∙◌, append_assoc, Wrote, Stopped, Stopped-front, Gathers, Gathers-append, Gathers-written, arith}
 
 -- a front of the piece is gathered behind what the buffer held at first, and the rest is to come
 pub record PutsFront {K : Type 0} (taken : K → Option (List ℕ)) (faults : K → ℕ) (first now : K) (start held piece rest : List ℕ) : Type 0 where

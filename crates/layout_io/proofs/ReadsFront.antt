@@ -1,9 +1,5 @@
 -- What the loop over reads keeps.
-use Rattle.std.proofs.Common.{◌≡◌, ℕ, ◌+◌, ◌<◌, ◌≤◌, List, [], ◌++◌, take, length, Option, Some, None, IfSome, IsSomeAnd, refl, arith, length-append}
-use Rattle.std.specs.Prelude.{⊤}
-use Rattle.std.proofs.Math.Seq.{take-add}
-use Rattle.std.proofs.lemmas.List.{take_all, length-take-le}
-use Rattle.layout_io.specs.Files.{File, file_named, HasFile, Reads}
+use Rattle.layout_io.proofs.Imports.{◌≡◌, ℕ, ◌+◌, ◌<◌, ◌≤◌, List, [], ◌++◌, take, length, Option, Some, None, IfSome, IsSomeAnd, refl, arith, length-append, ⊤, take-add, take_all, length-take-le, File, file_named, HasFile, Reads}
 
 -- where the files are told and one has this name: P holds of its bytes
 pub IfFile : Option (List File) → List ℕ → (List ℕ → Type 0) → Type 0

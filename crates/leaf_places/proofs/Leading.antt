@@ -1,12 +1,5 @@
 -- Numbers stand at one place each, and groups that begin as others do lead where these lead.
-use Rattle.record_dim.specs.Std.{◌≡◌, ℕ, ◌+◌, ◌*◌, ◌<◌, ◌≤◌, Bool, Option, None, Some, IsSomeAnd, false, List, length, sym, ap, ◌∙◌, subst, ⊎_elim, arith, slice_index, cases_lt, div-add-mod', mod-eq_of_lt, div-eq_of_lt, div_self, mod_self}
-use Rattle.places.specs.Prelude.{Owner, Bit, owner_at, IsLaidOut, IsLocated}
-use Rattle.places.specs.declared.piece.Piece.{Piece}
-use Rattle.piece_bits.specs.Prelude.{spots_of, spot_at, spot_count, spot_owned}
-use Rattle.leaf_places.specs.Spots.{bit_by, first_by, spot_by}
-use Rattle.leaf_places.specs.Inner.Search.{place_in, IsBegun, IsSought, IsWay, StandAlong, StandsAt}
-use Rattle.leaf_places.specs.declared.grouped.Grouped.{Grouped}
-use Rattle.leaf_places.specs.declared.sought.Sought.{Sought}
+use Rattle.leaf_places.proofs.Imports.{◌≡◌, ℕ, ◌+◌, ◌*◌, ◌<◌, ◌≤◌, Bool, Option, None, Some, IsSomeAnd, false, List, length, sym, ap, ◌∙◌, subst, ⊎_elim, arith, slice_index, cases_lt, div-add-mod', mod-eq_of_lt, div-eq_of_lt, div_self, mod_self, Owner, Bit, owner_at, IsLaidOut, IsLocated, Piece, spots_of, spot_at, spot_count, spot_owned, bit_by, first_by, spot_by, place_in, IsBegun, IsSought, IsWay, StandAlong, StandsAt, Grouped, Sought}
 
 pub below_of : (n m : ℕ) → n ≤ m → (n ≡ m → ⊥) → n < m
 below_of n m most other = ⊎_elim (λ (l : n < m). l) (λ (l : m ≤ n). absurd (other (omega (arith, l, most)))) (cases_lt n m)

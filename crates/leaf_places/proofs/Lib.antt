@@ -1,3 +1,4 @@
+mod Imports
 mod Leading
 mod Numbers
 mod Shorts

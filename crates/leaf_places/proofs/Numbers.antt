@@ -1,13 +1,5 @@
 -- What the bits of a leaf say, where they stand in the bytes of a blob.
-use Rattle.record_dim.specs.Std.{◌≡◌, ℕ, ◌*◌, ◌<◌, ◌≤◌, Bool, ℤ, List, [], length, get_or, map, sym, ap, ◌∙◌, ⊎_elim, arith, cases_lt, length-map, get_or-map, get_or_past, length-map-range_with_len, get_or-map-range_with_len}
-use Rattle.record_dim.specs.Prelude.{is_signed}
-use Rattle.record_dim.specs.declared.leaf_type.LeafType.{LeafType}
-use Rattle.places.specs.declared.piece.Hold.{Hold}
-use Rattle.places.specs.Prelude.{Owner, Pad, Bit, owner_at, number, digit, decoded, entry, bit_held, image, number_same}
-use Rattle.blobs.specs.Bits.{bit_of, bits_of}
-use Rattle.piece_bits.specs.Prelude.{held, same_sign, stays_settled, Stays}
-use Rattle.piece_bits.specs.declared.mode.StoreMode.{StoreMode}
-use Rattle.leaf_places.specs.Spots.{bit_by}
+use Rattle.leaf_places.proofs.Imports.{◌≡◌, ℕ, ◌*◌, ◌<◌, ◌≤◌, Bool, ℤ, List, [], length, get_or, map, sym, ap, ◌∙◌, ⊎_elim, arith, cases_lt, length-map, get_or-map, get_or_past, length-map-range_with_len, get_or-map-range_with_len, is_signed, LeafType, Hold, Owner, Pad, Bit, owner_at, number, digit, decoded, entry, bit_held, image, number_same, bit_of, bits_of, held, same_sign, stays_settled, Stays, StoreMode, bit_by}
 
 -- a bit of bytes that are a blob of the image of rows, where an owner has it
 bit_there : (layout : List (List Owner)) (rows : List (List ℤ)) (blob place row leaf k : ℕ) (bytes : List ℕ) → blob < length layout

@@ -1,20 +1,5 @@
 -- Places of a leaf of a table, from where its bits stand.
-use Rattle.record_dim.specs.Std.{◌≡◌, ℕ, ◌*◌, ◌<◌, ◌≤◌, Bool, false, Some, List, [], length, get_or, slice_get, map, sym, ap, ◌∙◌, subst, arith, length-map, get_or_from_slice_get}
-use Rattle.record_dim.specs.Prelude.{is_signed}
-use Rattle.extents.specs.Indices.{indices}
-use Rattle.places.specs.Prelude.{width_at, Owner, Bit, owner_at, entry}
-use Rattle.places.specs.declared.piece.Cell.{Cell}
-use Rattle.places.specs.declared.piece.Hold.{Hold}
-use Rattle.map_checks.specs.Prelude.{leaf_cells}
-use Rattle.map_any.specs.AnyLaws.{length-leaf_cells}
-use Rattle.piece_bits.specs.Prelude.{Stays, hold_at}
-use Rattle.views.proofs.KeptLaws.{kind_count}
-use Rattle.views.specs.Prelude.{Table, leaf_count_of, leaf_type_of, leaf_types_of, owners_of, table_holds}
-use Rattle.leaf_places.specs.Places.{ArePlacesOf, IsDirect}
-use Rattle.leaf_places.specs.Spots.{bit_by, first_bit, first_by, spot_by, IsForm}
-use Rattle.leaf_places.specs.Inner.Search.{IsSought, StandAlong}
-use Rattle.leaf_places.specs.declared.sought.Sought.{Sought}
-use Rattle.leaf_places.specs.declared.told.Places.{Places}
+use Rattle.leaf_places.proofs.Imports.{◌≡◌, ℕ, ◌*◌, ◌<◌, ◌≤◌, Bool, false, Some, List, [], length, get_or, slice_get, map, sym, ap, ◌∙◌, subst, arith, length-map, get_or_from_slice_get, is_signed, indices, width_at, Owner, Bit, owner_at, entry, Cell, Hold, leaf_cells, length-leaf_cells, Stays, hold_at, kind_count, Table, leaf_count_of, leaf_type_of, leaf_types_of, owners_of, table_holds, ArePlacesOf, IsDirect, bit_by, first_bit, first_by, spot_by, IsForm, IsSought, StandAlong, Sought, Places}
 use Rattle.leaf_places.proofs.Numbers.{says_number}
 
 pub cell_in : (table : Table) (leaf : ℕ) (cells : List Cell) → cells ≡ leaf_cells (leaf_types_of table) → leaf < leaf_count_of table → leaf < length cells

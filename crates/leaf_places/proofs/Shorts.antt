@@ -1,20 +1,7 @@
 -- Where the short form of a leaf's rule leads a row, in groups of rows, and what stands there.
-use Rattle.record_dim.specs.Std.{◌≡◌, ℕ, zero, suc, ◌+◌, ◌-◌, ◌*◌, ◌/◌, ◌%◌, ◌<◌, ◌≤◌, Bool, true, false, List, [], ◌∷◌, length, map, refl, sym, ap, ◌∙◌, subst, slice_index, ⊎_elim, arith, cases_lt, get_or-append_right}
-use Rattle.places.specs.Prelude.{Owner, Bit, owner_at, IsLocated, width_at}
-use Rattle.places.specs.declared.piece.Hold.{Hold}
-use Rattle.places.specs.declared.piece.Piece.{Piece}
-use Rattle.places.specs.declared.rule.PieceRule.{PieceRule}
-use Rattle.blobs.specs.Turned.{turned_place}
-use Rattle.piece_bits.specs.Prelude.{spots_of, spot_at, spot_owned, one_at, short_pieces, start_in, IsShortIn, hold_at, length-spots_in, next_piece, slot_by, walks_in_blocks, turned_pieces, word_width}
-use Rattle.piece_bits.specs.declared.field.Field.{Field}
-use Rattle.piece_bits.specs.declared.short.ShortRule.{ShortRule}
-use Rattle.piece_bits.specs.declared.walk.Walk.{Walk}
+use Rattle.leaf_places.proofs.Imports.{◌≡◌, ℕ, zero, suc, ◌+◌, ◌-◌, ◌*◌, ◌/◌, ◌%◌, ◌<◌, ◌≤◌, Bool, true, false, List, [], ◌∷◌, length, map, refl, sym, ap, ◌∙◌, subst, slice_index, ⊎_elim, arith, cases_lt, get_or-append_right, Owner, Bit, owner_at, IsLocated, width_at, Hold, Piece, PieceRule, turned_place, spots_of, spot_at, spot_owned, one_at, short_pieces, start_in, IsShortIn, hold_at, length-spots_in, next_piece, slot_by, walks_in_blocks, turned_pieces, word_width, Field, ShortRule, Walk, Word, bit_by, first_by, spot_by, IsForm, is_field, turns, AreGroupsOf, Groups}
 use Rattle.piece_bits.specs.declared.walk.Walk.TheVariants as walk
-use Rattle.piece_bits.specs.declared.word.Word.{Word}
 use Rattle.piece_bits.specs.declared.word.Word.TheVariants as stored
-use Rattle.leaf_places.specs.Spots.{bit_by, first_by, spot_by, IsForm}
-use Rattle.leaf_places.specs.Inner.Placing.{is_field, turns, AreGroupsOf}
-use Rattle.leaf_places.specs.declared.groups.Groups.{Groups}
 
 -- ---- the groups of a walk
 

@@ -1,11 +1,5 @@
 -- What the two walks of the parts of a box cite, and what both are handed: the tokens of the two type parameters' lifetimes, and how long these live.
-use mathlib.Core.List.{List, [], ◌∷◌}
-use seplogic.Ra.Ura.{Ura}
-use base.Fml.{Lft, Share, ftrue, flft}
-use contract.BorrowLft.{◌⊑◌}
-use contract.Monad.{fact}
-use types.Kit.{Item, ‵, raw, ◌⊛◌}
-use Rattle.std.proofs.BoxSteps.Form.{Bx}
+use Rattle.llama_c.proofs.Imports.{List, [], ◌∷◌, Ura, Lft, Share, ftrue, flft, ◌⊑◌, fact, Item, ‵, raw, ◌⊛◌, Bx}
 pub use mathlib.Core.Path.{◌≡◌, refl, sym, subst, ap, ◌∙◌}
 pub use mathlib.Core.List.{List, [], ◌∷◌, ◌++◌}
 pub use lib.Dec.{T}

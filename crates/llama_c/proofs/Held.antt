@@ -1,11 +1,6 @@
 -- What calls answer by what their handles held.
 use Rattle.record_dim.specs.Std.{◌≡◌, ⊎_elim, inl, inr, ℕ, ℤ, pos, Bool, List, Option, Some, None, Ok, Err, map, refl, sym, ap, subst, ◌∙◌, map-id}
-use Rattle.line_grammar.specs.Prelude.{Sentence}
-use Rattle.views.specs.Prelude.{Table}
-use Rattle.c_lines.specs.Prelude.{Answer, Tells, given_or, on_held, fault_of}
-use Rattle.c_lines.specs.declared.refusal.Fault.{Fault}
-use Rattle.c_lines.specs.declared.refusal.Refusal.TheVariants.{NoView, NoMemory}
-use Rattle.llama_c.specs.Calls.{IsCallDone, IsLineDone, IsLineTold, IsMade, IsPutInto}
+use Rattle.llama_c.proofs.Imports.{Sentence, Table, Answer, Tells, given_or, on_held, fault_of, Fault, NoView, NoMemory, IsCallDone, IsLineDone, IsLineTold, IsMade, IsPutInto}
 
 -- an empty handle has nothing to put into a buffer, and nothing to change
 pub none_put : (told : Table → Answer (List ℕ)) (held : Option Table) (code : ℤ) (buffer : List ℕ) (needed : ℕ) → None ≡ held → code ≡ pos 1

@@ -1,16 +1,6 @@
 -- What the three walks of the part cite, and the box whose pointer it keeps.
-use mir.Syntax.{impl, tnil, dnil}
-use mathlib.Core.List.{[]}
-use denote.RattleType.{RattleType}
-use lib.Dec.{T, lit<}
-use mir.Val.{vstruct, vcons, vnil, has_ty, WT}
-use Rattle.std.proofs.BoxSteps.Form.{box_ty}
-use Rattle.std.proofs.ResultValues.{and_tt}
-use Rattle.std.proofs.alloc.Calls.{Fits, α}
-use denote.Signature.{plain}
-use Rattle.std.proofs.BoxSteps.Form.{Bx}
+use Rattle.llama_c.proofs.Imports.{impl, tnil, dnil, [], RattleType, T, lit<, vstruct, vcons, vnil, has_ty, WT, box_ty, and_tt, Fits, α, plain, Bx, ghosts, dict}
 use Rattle.std.specs.contracts.alloc.Global as heap
-use Rattle.std.specs.contracts.impls.GlobalAllocator.TheImpl.{ghosts, dict}
 use Rattle.std.proofs.alloc.Global.TheLaws as heap_laws
 use Rattle.views.specs.contracts.view.View as view
 use Rattle.views.proofs.view.View.TheLaws as view_laws

@@ -1,6 +1,5 @@
 -- What being built, and being accepted, say of an expression.
-use Rattle.map_any.proofs.Imports.{◌≡◌, Bool, true, false, Ok, Err, if◌then◌else◌, not, nat_lt, Result, BadMapping, TooDeep, Counter, Side, Field, NotFull, Term, Split, Byteswap, Bytesplit, Change, Count, Heat, Named, depth_of, IsNameless, checked, answered, bad_number, counts_once, IsBuiltTerm, accepted, bad_field, bad_side, else_for, not_full, Cell, Fields, Option, None, List}
-use Rattle.std.proofs.Common.{arith}
+use Rattle.map_any.proofs.Imports.{◌≡◌, Bool, true, false, Ok, Err, if◌then◌else◌, not, nat_lt, Result, BadMapping, TooDeep, Counter, Side, Field, NotFull, Term, Split, Byteswap, Bytesplit, Change, Count, Heat, Named, depth_of, IsNameless, checked, answered, bad_number, counts_once, IsBuiltTerm, accepted, bad_field, bad_side, else_for, not_full, Cell, Fields, Option, None, List, arith}
 
 -- no name stands in it
 pub built_nameless : (term : Term) → IsBuiltTerm term → IsNameless term

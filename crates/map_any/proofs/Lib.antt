@@ -1,3 +1,4 @@
+mod Lemmas
 mod Imports
 pub mod AnyFacts
 pub mod ArrayLaws

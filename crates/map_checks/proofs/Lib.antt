@@ -1,3 +1,4 @@
+mod Lemmas
 mod Imports
 mod LastEntry
 pub mod ArrayLaws

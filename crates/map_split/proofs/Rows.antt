@@ -1,9 +1,5 @@
 -- One more item of a list that is mapped, and how a cell of a split is stored.
-use Rattle.record_dim.specs.Std.{◌≡◌, ℕ, ◌<◌, Bool, true, false, List, map, length, get_or, slice_get, Some, ap, ◌∙◌, arith, not, length-map, slice_get-get_or, get_or_from_slice_get}
-use Rattle.std.specs.List.{count_by}
-use Rattle.places.specs.declared.piece.Hold.{Hold}
-use Rattle.map_split.specs.Sides.{merged, rank_first, rank_rest}
-use Rattle.map_split.specs.SidesLaws.{map-merged, merged_first, merged_rest, length-merged}
+use Rattle.map_split.proofs.Imports.{◌≡◌, ℕ, ◌<◌, Bool, true, false, List, map, length, get_or, slice_get, Some, ap, ◌∙◌, arith, not, length-map, slice_get-get_or, get_or_from_slice_get, count_by, Hold, merged, rank_first, rank_rest, map-merged, merged_first, merged_rest, length-merged}
 
 module _ (side : List Bool) (hs gs : List Hold) (cell : ℕ) (inside : cell < length side) (left : length hs ≡ count_by (λ (s : Bool). s) side)
     (right : length gs ≡ count_by not side) where

@@ -69,7 +69,7 @@ pub use Rattle.equal_runs.specs.GoesLaws.{known_found, gone, free_found, IfGoes,
 pub use Rattle.layout_copy.specs.Copies.{refusing, refused_at, spot_or, Spot, AreAlike}
 pub use Rattle.line_grammar.specs.declared.version.Version.{Version}
 pub use Rattle.schema_lang.specs.LineOf.{line_of}
-pub use Rattle.equal_runs.specs.Lines.{AreLines}
+pub use Rattle.equal_runs.specs.Lines.{AreLines, IsLine}
 pub use Rattle.equal_runs.specs.Logs.{SoFar, one_more, Comes, further}
 pub use Rattle.equal_runs.specs.EntryLaws.{found_added}
 pub use Rattle.line_tokens.specs.declared.sign.Sign.{Sign as SignName}
@@ -82,5 +82,7 @@ pub use Rattle.line_grammar.specs.declared.line.KernelText.{KernelText}
 pub use Rattle.line_grammar.specs.declared.line.TermText.{TermText}
 pub use Rattle.actor_steps.specs.Prelude.{actor_of, shared_byte}
 pub use Rattle.worlds.specs.declared.fault.BadActors.TheVariants.{Cuts, Turns}
-pub use Rattle.saved_runs.specs.SavedRuns.{IsSavable, once_written, OpensAs, SavedOpens, OpenedSaves}
+pub use Rattle.saved_runs.specs.SavedRuns.{IsSavable, once_written, OpensAs, SavedOpens, OpenedSaves, HasRoom}
 pub use Rattle.saved_runs.specs.ReopenedRuns.{RunsSavable, RunsReopen}
+pub use Rattle.subviews.specs.Stencils.{stenciled}
+pub use Rattle.subviews.specs.RoundsLaws.{rounds_keep}

@@ -1,8 +1,7 @@
 -- What a savable table saves is opened as the table.
-use Rattle.saved_runs.proofs.Imports.{◌≡◌, ℕ, ◌+◌, ◌*◌, ◌/◌, ◌^◌, ◌<◌, ◌≤◌, false, ℤ, List, [], ◌∷◌, ◌++◌, length, map, nat_lt, Some, Ok, inl, inr, refl, sym, ap, ◌∙◌, subst, length-append, arith, ◌||◌, is_some, sum_by, le-ltb, lt-leb, ltb-false, or_parts, length-map, sum_by-cons, File, file_named, Owner, bit_held, image, bytes_of, length-bytes_of, Open, Table, owners_of, Header, header_text, IsShort, CanLie, Saved, opened, table_of_saved, rows_in, header_of, blobs_of, OpensFiles, HoldsRows, World, quiet, blob_bits, with_view, save, open_view, opened_table, opened_beside, step, IsSavable, once_written, OpensAs, sure, Told}
+use Rattle.saved_runs.proofs.Imports.{◌≡◌, ℕ, ◌+◌, ◌*◌, ◌/◌, ◌^◌, ◌<◌, ◌≤◌, false, ℤ, List, [], ◌∷◌, ◌++◌, length, map, nat_lt, Some, Ok, inl, inr, refl, sym, ap, ◌∙◌, subst, length-append, arith, ◌||◌, is_some, sum_by, le-ltb, lt-leb, ltb-false, or_parts, length-map, sum_by-cons, File, file_named, Owner, bit_held, image, bytes_of, length-bytes_of, Open, Table, owners_of, Header, header_text, IsShort, CanLie, Saved, opened, table_of_saved, rows_in, header_of, blobs_of, OpensFiles, HoldsRows, World, quiet, blob_bits, with_view, save, open_view, opened_table, opened_beside, step, IsSavable, once_written, OpensAs, sure, Told, HasRoom}
 use Rattle.layout_io.specs.Prelude.{joined}
 use Rattle.blob_file.specs.Files as saved_file
-use Rattle.saved_runs.specs.SavedRuns.{HasRoom}
 use Rattle.saved_runs.proofs.Went.{went, unrefused, same_given}
 
 -- ---- the file of a table

@@ -1,7 +1,6 @@
 -- What a save writes is opened as the table that it saves.
-use Rattle.saved_runs.proofs.Imports.{◌≡◌, ℕ, List, Some, Table, World, found, save, on_view, Left, step, known_found, RunsSavable, RunsReopen, SavedOpens, Ok, Told, Shows, does}
+use Rattle.saved_runs.proofs.Imports.{◌≡◌, ℕ, List, Some, Table, World, found, save, on_view, Left, step, known_found, RunsSavable, RunsReopen, SavedOpens, Ok, Told, Shows, does, arith}
 use Rattle.saved_runs.proofs.Went.{went, sure_went, same_given}
-use Rattle.std.proofs.Common.{arith}
 
 -- the table that was saved, and what was done to it
 record WasShown (world : World) (name text : List ℕ) : Type 0 where

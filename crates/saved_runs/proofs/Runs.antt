@@ -1,11 +1,9 @@
 -- Each table of a run can be said by a file.
-use Rattle.saved_runs.proofs.Imports.{ℕ, ◌+◌, List, [], ◌∷◌, Option, MatchResult, File, Reads, StopsAt, Sentence, Version, Two, line_of, tokens_read, OpensFiles, HoldsBits, HoldsRows, Left, step, fails_at, AreLines, SoFar, one_more, Comes, further, gone, RunsSavable}
-use Rattle.equal_runs.specs.Lines.{IsLine}
+use Rattle.saved_runs.proofs.Imports.{ℕ, ◌+◌, List, [], ◌∷◌, Option, MatchResult, File, Reads, StopsAt, Sentence, Version, Two, line_of, tokens_read, OpensFiles, HoldsBits, HoldsRows, Left, step, fails_at, AreLines, SoFar, one_more, Comes, further, gone, RunsSavable, IsLine, arith}
 use Rattle.equal_runs.specs.Logs.{there}
 use Rattle.saved_runs.proofs.Lines.{IsSaid, sentence_said}
 use Rattle.saved_runs.proofs.Worlds.{IsGoodWorld, of_found}
 use Rattle.saved_runs.proofs.Steps.{step_good}
-use Rattle.std.proofs.Common.{arith}
 
 module _ (opens_files : OpensFiles) (holds_rows : HoldsRows) (holds_bits : HoldsBits) (law : (version : Version) (text : List ℕ) → MatchResult (line_of version text) (Reads version text) (StopsAt version text)) where
   line_said : (text : List ℕ) (line : Sentence) → IsLine Two text line → IsSaid line

@@ -1,8 +1,7 @@
 -- What is opened of a file saves as its bytes.
-use Rattle.saved_runs.proofs.Imports.{◌≡◌, ℕ, Bool, false, List, [], nat_lt, Some, None, Ok, sym, ap, ◌∙◌, subst, le-ltb, File, file_named, Table, after_log-none, AreRows, IsFile, IsShort, image_bytes, HasLines, CanLie, Saved, opened, table_of_saved, rows_in, header_of, blobs_of, OpensFiles, HoldsRows, World, found, Goes, Left, shows, on_view, tells, with_view, is_long, save, open_view, opened_table, opened_beside, step, found_added, free_found, IsSavable, OpenedSaves, Shows, does}
+use Rattle.saved_runs.proofs.Imports.{◌≡◌, ℕ, Bool, false, List, [], nat_lt, Some, None, Ok, sym, ap, ◌∙◌, subst, le-ltb, File, file_named, Table, after_log-none, AreRows, IsFile, IsShort, image_bytes, HasLines, CanLie, Saved, opened, table_of_saved, rows_in, header_of, blobs_of, OpensFiles, HoldsRows, World, found, Goes, Left, shows, on_view, tells, with_view, is_long, save, open_view, opened_table, opened_beside, step, found_added, free_found, IsSavable, OpenedSaves, Shows, does, arith}
 use Rattle.blob_file.specs.Files as saved_file
 use Rattle.saved_runs.proofs.Went.{went, same_things, was_read, replaced_same, sure_went, same_given}
-use Rattle.std.proofs.Common.{arith}
 
 -- what was opened of a file: its table stands under the name, where there was none
 pub record WasOpened (world : World) (name file : List ℕ) (files : List File) (table : Table) : Type 0 where

@@ -1,7 +1,6 @@
 -- Tokens that are spelled, behind some brackets, and what a phrase of them says of the tokens of its value.
-use Rattle.saved_runs.proofs.Imports.{◌≡◌, ℕ, List, [], ◌∷◌, ◌++◌, Option, None, map, Grammar, Is, item, Splits, brackets_after, AreSpelled, SignName, Token, Sign, written, IsSpelled, Each}
+use Rattle.saved_runs.proofs.Imports.{◌≡◌, ℕ, List, [], ◌∷◌, ◌++◌, Option, None, map, Grammar, Is, item, Splits, brackets_after, AreSpelled, SignName, Token, Sign, written, IsSpelled, Each, arith}
 use Rattle.saved_runs.proofs.Told.{Told, Keeps, keeps_item}
-use Rattle.std.proofs.Common.{arith}
 
 abbrev pub Stand : List Token → Type 0
 Stand xs = (brackets : ℕ) × AreSpelled brackets (map written xs)

@@ -1,6 +1,5 @@
 -- What goes went at each of its steps, and a step that goes leads to the next.
-use Rattle.saved_runs.proofs.Imports.{◌≡◌, ℕ, Bool, true, false, List, [], ◌∷◌, Option, Some, None, Result, Ok, ap, ◌∙◌, File, file_named, Entry, same_name, found, replaced, Goes, ◌>>=◌, refused_if, ok_or, there, read, CommandFault, Tested, sure, if◌then◌else◌}
-use Rattle.std.proofs.Common.{arith}
+use Rattle.saved_runs.proofs.Imports.{◌≡◌, ℕ, Bool, true, false, List, [], ◌∷◌, Option, Some, None, Result, Ok, ap, ◌∙◌, File, file_named, Entry, same_name, found, replaced, Goes, ◌>>=◌, refused_if, ok_or, there, read, CommandFault, Tested, sure, if◌then◌else◌, arith}
 
 -- a step that went, and what it led to
 pub record Went {A B E : Type 0} (x : Result A E) (f : A → Result B E) (b : B) : Type 0 where

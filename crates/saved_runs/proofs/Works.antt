@@ -1,8 +1,6 @@
 -- A command on one view leaves rows that the view may hold.
-use Rattle.saved_runs.proofs.Imports.{ℕ, ◌<◌, ◌≤◌, List, [], length, get_or, Option, Some, None, indices, Span, PathStep, kinds_of, holds_by, hold_at, place_in, Sentence, Value, Assignment, KernelText, TermText, kernel_fault, actor_of, shared_byte, updated_rows, updated_of, Table, owners_of, answer_of, kept_of, AreRows, header_of, HoldsBits, World, updated_by_actors, fit_cuts, shared, assigned, inside, kernel_run, fit_kernel, kernel_row_fault, leaf_of, bound, bound_filter, bound_sets, each_once, leaves_of, text_of_leaf, Done, Work, refused_if, refused_by, ok_or, small, work_of, live_bits, updated, update_fault, value_on, storable, Cuts, Turns, BadActors, IfGoes, to, bind, IsSavable, content_of, Shows, Changes, does, OnView, kept_by, answer_by, fit_stencil, room_beside, stencil_fault, stencil_run, ◌^◌, not, nat_lt, store_fault}
+use Rattle.saved_runs.proofs.Imports.{ℕ, ◌<◌, ◌≤◌, List, [], length, get_or, Option, Some, None, indices, Span, PathStep, kinds_of, holds_by, hold_at, place_in, Sentence, Value, Assignment, KernelText, TermText, kernel_fault, actor_of, shared_byte, updated_rows, updated_of, Table, owners_of, answer_of, kept_of, AreRows, header_of, HoldsBits, World, updated_by_actors, fit_cuts, shared, assigned, inside, kernel_run, fit_kernel, kernel_row_fault, leaf_of, bound, bound_filter, bound_sets, each_once, leaves_of, text_of_leaf, Done, Work, refused_if, refused_by, ok_or, small, work_of, live_bits, updated, update_fault, value_on, storable, Cuts, Turns, BadActors, IfGoes, to, bind, IsSavable, content_of, Shows, Changes, does, OnView, kept_by, answer_by, fit_stencil, room_beside, stencil_fault, stencil_run, ◌^◌, not, nat_lt, store_fault, stenciled, rounds_keep}
 use Rattle.worlds.specs.Prelude.{Reads}
-use Rattle.subviews.specs.Stencils.{stenciled}
-use Rattle.subviews.specs.RoundsLaws.{rounds_keep}
 use Rattle.line_grammar.specs.Sentences as line
 use Rattle.line_grammar.specs.declared.line.ShowKind.TheVariants as show
 use Rattle.saved_runs.proofs.Went.{answered}

@@ -1,10 +1,9 @@
 -- What a run over lines of the language has in its world, line after line.
-use Rattle.saved_runs.proofs.Imports.{◌≡◌, ℕ, Bool, true, false, List, [], ◌∷◌, codes, Option, Some, None, refl, subst, and_from, Tree, Fields, Record, MapTerm, Split, Byteswap, Bytesplit, Change, Counted, Heated, NamedTerm, Each, is_nameless, HasLine, World, Entry, same_name, found, added, replaced, removed, define, fit, mapping, nameless, ◌>>=◌, Left, known, refused_by, CommandFault, IfGoes, to, refused, bind, behind, known_found, IsSavable, Ok, Err, Tested, if◌then◌else◌, record_fault}
+use Rattle.saved_runs.proofs.Imports.{◌≡◌, ℕ, Bool, true, false, List, [], ◌∷◌, codes, Option, Some, None, refl, subst, and_from, Tree, Fields, Record, MapTerm, Split, Byteswap, Bytesplit, Change, Counted, Heated, NamedTerm, Each, is_nameless, HasLine, World, Entry, same_name, found, added, replaced, removed, define, fit, mapping, nameless, ◌>>=◌, Left, known, refused_by, CommandFault, IfGoes, to, refused, bind, behind, known_found, IsSavable, Ok, Err, Tested, if◌then◌else◌, record_fault, arith}
 use Rattle.line_grammar.specs.Sentences as line
 use Rattle.saved_runs.proofs.Maps.{HasTokens}
 use Rattle.saved_runs.proofs.Lines.{IsRecord}
 use Rattle.saved_runs.proofs.Headers.{record_has_line}
-use Rattle.std.proofs.Common.{arith}
 
 -- ---- what is kept
 

@@ -1,3 +1,4 @@
+mod Lemmas
 mod Imports
 pub mod Acting
 pub mod Advice

@@ -1,8 +1,5 @@
 -- What a stencil does, by its parts.
-use Rattle.view_commands.proofs.Imports.{Bool, Result, refused_if, TooBig, ◌≡◌, ◌∙◌, ◌<◌, ◌≤◌, ⊎_elim, ℕ, zero, suc, ℤ, List, [], Option, Some, None, Ok, Err, refl, sym, ap, subst, arith, Span, TermText, PathStep, Stencil, Table, answer_of, after_stores, StoreFault, CommandFault, GivesUp, goes_then, StepFault, Changed, ChangeFault, row_of, store_fault, fit_stencil, room_beside, stencil_rounds, stencil_run, cases_lt}
-use Rattle.subviews.specs.Stencils.{refused_log, round, rounds_log, stenciled}
-use Rattle.subviews.specs.declared.fault.StencilFault.{StencilFault}
-use Rattle.view_commands.specs.Changes.{gone_or, rounds_left, stencil_left}
+use Rattle.view_commands.proofs.Imports.{Bool, Result, refused_if, TooBig, ◌≡◌, ◌∙◌, ◌<◌, ◌≤◌, ⊎_elim, ℕ, zero, suc, ℤ, List, [], Option, Some, None, Ok, Err, refl, sym, ap, subst, arith, Span, TermText, PathStep, Stencil, Table, answer_of, after_stores, StoreFault, CommandFault, GivesUp, goes_then, StepFault, Changed, ChangeFault, row_of, store_fault, fit_stencil, room_beside, stencil_rounds, stencil_run, cases_lt, refused_log, round, rounds_log, stenciled, StencilFault, gone_or, rounds_left, stencil_left}
 use Rattle.view_commands.specs.declared.change.ChangeFault.TheVariants as change
 use Rattle.command_checks.specs.declared.fault.StepFault.TheVariants as step
 use Rattle.view_commands.proofs.Arms.{ends_store}

@@ -1,6 +1,5 @@
 -- A leaf in a row, as the short form of its rule places it.
-use Rattle.views.proofs.Imports.{◌≡◌, ℕ, ℤ, ◌+◌, ◌*◌, ◌<◌, ◌≤◌, List, [], length, map, get_or, get_or_default, set, slice_index, sym, ap, ◌∙◌, subst, arith, bit_at, slice_get-get_or, IsIn, number, digit, decoded, entry, Owner, IsLaidOut, Hold, Piece, PieceRule, bit_of, bit_in, IsCell, bit_count, apart, read_entry_is, written_table, written_padding, still_laid, scattered_pieces, spots_of, bit_at_spot, AreApart, AreSized, AreLaid, hold_at, table_in, with_entry, IsBitField, IsPlaceWord, word_bit, word_place, word_pieces, word_signed, word_width, word_blob, word_room, word_entry, word_held, word_table, word_laid, AreWritten, Field, Word, pieces_by, short_pieces, start_in, IsShortIn, ShortRule, indices, schema_fields, term_of, layout_by, rules}
-use Rattle.map_any.specs.declared.any.AnyMap.{AnyMap}
+use Rattle.views.proofs.Imports.{◌≡◌, ℕ, ℤ, ◌+◌, ◌*◌, ◌<◌, ◌≤◌, List, [], length, map, get_or, get_or_default, set, slice_index, sym, ap, ◌∙◌, subst, arith, bit_at, slice_get-get_or, IsIn, number, digit, decoded, entry, Owner, IsLaidOut, Hold, Piece, PieceRule, bit_of, bit_in, IsCell, bit_count, apart, read_entry_is, written_table, written_padding, still_laid, scattered_pieces, spots_of, bit_at_spot, AreApart, AreSized, AreLaid, hold_at, table_in, with_entry, IsBitField, IsPlaceWord, word_bit, word_place, word_pieces, word_signed, word_width, word_blob, word_room, word_entry, word_held, word_table, word_laid, AreWritten, Field, Word, pieces_by, short_pieces, start_in, IsShortIn, ShortRule, indices, schema_fields, term_of, layout_by, rules, AnyMap}
 use Rattle.piece_bits.specs.declared.word.Word.TheVariants as stored
 
 -- what is not scattered stands at one place

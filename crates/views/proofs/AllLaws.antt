@@ -1,6 +1,5 @@
 -- Blobs that are moved whole, one after another.
-use Rattle.views.proofs.Imports.{◌≡◌, ℕ, ◌+◌, ◌<◌, ◌≤◌, List, [], length, map, take, get_or, sym, ap, ◌∙◌, arith, length-append, length-take, length-map, get_or-map, get_or-append_right, get_or-drop, get_or_default, length-drop, ext_get_or, sum_by_more, IsMoved, blocks, half}
-use Rattle.record_dim.specs.Std.{sum_by}
+use Rattle.views.proofs.Imports.{◌≡◌, ℕ, ◌+◌, ◌<◌, ◌≤◌, List, [], length, map, take, get_or, sym, ap, ◌∙◌, arith, length-append, length-take, length-map, get_or-map, get_or-append_right, get_or-drop, get_or_default, length-drop, ext_get_or, sum_by_more, IsMoved, blocks, half, sum_by}
 
 -- the blocks that blobs are
 abbrev pub blocks_of : List (List ℕ) → ℕ

@@ -42,3 +42,4 @@ pub use Rattle.views.specs.OrderLaws.{leaves_both, heated_both}
 pub use Rattle.views.specs.RepeatLaws.{copies, copies_add, copies_copies, fold-same, fold-flat_map, many, fold-copies, fold_range_more}
 pub use Rattle.views.specs.CutLaws.{slots_within, block_in, same_slots, same_steps, all_pieces}
 pub use Rattle.views.specs.SpanLaws.{span_pieces}
+pub use Rattle.map_any.specs.declared.any.AnyMap.{AnyMap}

@@ -1,6 +1,5 @@
 -- What blobs hold under one expression they hold under another that lays them out the same.
-use Rattle.views.proofs.Imports.{◌≡◌, ℕ, ◌/◌, ◌+◌, ◌<◌, ℤ, List, [], map, length, get_or, fold, sym, ap, ◌∙◌, subst, arith, ext_get_or, get_or-map, length-map, fold-map, indices, Fields, kinds_of, IsLaidOut, Owner, Hold, blocks, AreLaid, AreSized, Term, uncounted, layout_by, holds_by, most_slots, StoreMode, AllSettled, IsKept, raw_under, table_under, Table, leaf_types_of, table_holds, owners_of, layout_uncounted, holds_uncounted, slots_uncounted, Tally, blob_lengths, blob_steps, MayMove, settled_moves, may_move}
-use Rattle.record_dim.specs.Std.{sum_by}
+use Rattle.views.proofs.Imports.{◌≡◌, ℕ, ◌/◌, ◌+◌, ◌<◌, ℤ, List, [], map, length, get_or, fold, sym, ap, ◌∙◌, subst, arith, ext_get_or, get_or-map, length-map, fold-map, indices, Fields, kinds_of, IsLaidOut, Owner, Hold, blocks, AreLaid, AreSized, Term, uncounted, layout_by, holds_by, most_slots, StoreMode, AllSettled, IsKept, raw_under, table_under, Table, leaf_types_of, table_holds, owners_of, layout_uncounted, holds_uncounted, slots_uncounted, Tally, blob_lengths, blob_steps, MayMove, settled_moves, may_move, sum_by}
 use Rattle.views.proofs.Opened.{seen_from}
 use Rattle.views.proofs.KeptLaws.{some_width}
 

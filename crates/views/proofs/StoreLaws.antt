@@ -1,6 +1,5 @@
 -- What is written for a value that is stored.
-use Rattle.views.proofs.Imports.{◌≡◌, ℕ, ◌<◌, ◌≤◌, List, [], ◌∷◌, length, map, get_or, ℤ, pos, zero, suc, Ok, refl, sym, ap, ◌∙◌, arith, hold_at, with_entry, declared, held, declared_same, fitting_held, fitting_settled, fitting_stays, stays_settled, Strict, answer_stays, stays_answer, strict_kept, told_kept, Fits, kept_or, without_number, Table, answer_of, kept_of, leaf_type_of, table_holds, after_raw, after_stores, after_write, IsSettledIn, Write}
-use Rattle.views.specs.Stores.{Stays}
+use Rattle.views.proofs.Imports.{◌≡◌, ℕ, ◌<◌, ◌≤◌, List, [], ◌∷◌, length, map, get_or, ℤ, pos, zero, suc, Ok, refl, sym, ap, ◌∙◌, arith, hold_at, with_entry, declared, held, declared_same, fitting_held, fitting_settled, fitting_stays, stays_settled, Strict, answer_stays, stays_answer, strict_kept, told_kept, Fits, kept_or, without_number, Table, answer_of, kept_of, leaf_type_of, table_holds, after_raw, after_stores, after_write, IsSettledIn, Write, Stays}
 
 -- ---- a value that fits
 

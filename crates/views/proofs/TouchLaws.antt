@@ -1,6 +1,5 @@
 -- One access, and the same accesses again and again.
-use Rattle.views.proofs.Imports.{◌≡◌, ℕ, zero, suc, ◌+◌, ◌*◌, ◌-◌, ◌^◌, ◌<◌, min, List, ◌++◌, length, map, Bool, true, false, Option, refl, ap, sym, ◌∙◌, arith, IfSome, if◌then◌else◌, slice_set, enumerate_from, range_with_len, fun_ext, fold-map, fold-append, Owner, is_hot, LeafCounts, HeatCounts, HasLeaves, counted-counted, warmed-warmed, raised-capped, Access, Read, Write, Tally, counts_touched, heat_touched, after_access, tallied, leaf_touched, granules_touched, access_to, row_accesses, all_accesses, times_accesses, all_touches, counts_after, heat_after, leaf_raised, leaves_raised, granules_raised, row_raised, rows_raised, tallied-counts, tallied-heat, leaves_both, heated_both, copies, copies_add, copies_copies, fold-same, fold-flat_map, many, fold-copies, option_map, slice_index}
-use Rattle.std.specs.List.{fold}
+use Rattle.views.proofs.Imports.{◌≡◌, ℕ, zero, suc, ◌+◌, ◌*◌, ◌-◌, ◌^◌, ◌<◌, min, List, ◌++◌, length, map, Bool, true, false, Option, refl, ap, sym, ◌∙◌, arith, IfSome, if◌then◌else◌, slice_set, enumerate_from, range_with_len, fun_ext, fold-map, fold-append, Owner, is_hot, LeafCounts, HeatCounts, HasLeaves, counted-counted, warmed-warmed, raised-capped, Access, Read, Write, Tally, counts_touched, heat_touched, after_access, tallied, leaf_touched, granules_touched, access_to, row_accesses, all_accesses, times_accesses, all_touches, counts_after, heat_after, leaf_raised, leaves_raised, granules_raised, row_raised, rows_raised, tallied-counts, tallied-heat, leaves_both, heated_both, copies, copies_add, copies_copies, fold-same, fold-flat_map, many, fold-copies, option_map, slice_index, fold}
 
 -- the counters after one access
 pub touched_both : (layout : List (List Owner)) (write : Bool) (row leaf : ℕ) (tally : Tally) (counts : Option LeafCounts) (heat : Option HeatCounts)

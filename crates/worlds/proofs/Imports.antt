@@ -18,3 +18,4 @@ pub use Rattle.worlds.specs.Answers.{Did, Refused, Unreadable, Broke, Fronted, t
 pub use Rattle.worlds.specs.declared.status.Status.{Status}
 pub use Rattle.worlds.specs.declared.status.Status.TheVariants.{Done, CommandFault, SourceFault, SinkFault, NoMemory}
 pub use Rattle.worlds.specs.Inner.Details.{detail_text}
+pub use Rattle.std.proofs.lemmas.Grind.{common_steps}

@@ -1,5 +1,4 @@
-use Rattle.actors.proofs.Imports.{◌∙◌, ℕ, [], None, List, length, rules, arith, SFits, subst, ap, w128, to_z-of_z, length-leaf_cells, setting_of, owners_of, job_of, row_in, value_kept_on, IsStepOf, common_steps}
-use Rattle.actors.proofs.Turns.{store_made}
+use Rattle.actors.proofs.Lemmas.{◌∙◌, ℕ, [], None, List, length, rules, arith, SFits, subst, ap, w128, to_z-of_z, length-leaf_cells, setting_of, owners_of, job_of, row_in, value_kept_on, IsStepOf, common_steps, store_made}
 use Rattle.actors.proofs.actor.make_step.Goals as goal
 
 pub changed_byte-byte-requires-clause-leaf_in : goal.changed_byte-byte-requires-clause-leaf_in

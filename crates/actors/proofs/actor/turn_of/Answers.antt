@@ -1,5 +1,4 @@
-use Rattle.actors.proofs.Imports.{arith, length-leaf_cells, common_steps}
-use Rattle.actors.proofs.Turns.{targets_inside, plans_told}
+use Rattle.actors.proofs.Lemmas.{arith, length-leaf_cells, common_steps, targets_inside, plans_told}
 use Rattle.actors.proofs.actor.turn_of.Goals as goal
 
 pub next_step-requires-clause-targets_in : goal.next_step-requires-clause-targets_in

@@ -1,5 +1,4 @@
-use Rattle.actors.proofs.Imports.{rules, ◌≡◌, ◌∙◌, ◌∷◌, [], ℤ, List, pos, get_or, FitsSigned, Result, Ok, sym, ap, subst, w128, to_z-of_z, with_entry, IsSetOf, without_number, kept_or, Table, answer_of, after_stores, Write, StoreFault, row_held}
-use Rattle.actors.proofs.Backs.{none_stored, one_stored}
+use Rattle.actors.proofs.Lemmas.{rules, ◌≡◌, ◌∙◌, ◌∷◌, [], ℤ, List, pos, get_or, FitsSigned, Result, Ok, sym, ap, subst, w128, to_z-of_z, with_entry, IsSetOf, without_number, kept_or, Table, answer_of, after_stores, Write, StoreFault, row_held, none_stored, one_stored}
 use Rattle.actors.proofs.back.store_row.Goals as goal
 
 pub loop-set-init : goal.loop-set-init

@@ -1,5 +1,4 @@
-use Rattle.actors.proofs.Imports.{◌≡◌, ◌<◌, ◌≤◌, ◌∙◌, false, ℕ, [], List, ℤ, length, map, sym, ap, arith, indices, filter_term, setting_of, answer_of, kept_of, job_of, memory_of, lets_through, Asks, updated_length, row_held}
-use Rattle.actors.proofs.Backs.{none_back, one_back, all_back, back_sized, back_held, back_takes, back_sets, back_count}
+use Rattle.actors.proofs.Lemmas.{◌≡◌, ◌<◌, ◌≤◌, ◌∙◌, false, ℕ, [], List, ℤ, length, map, sym, ap, arith, indices, filter_term, setting_of, answer_of, kept_of, job_of, memory_of, lets_through, Asks, updated_length, row_held, none_back, one_back, all_back, back_sized, back_held, back_takes, back_sets, back_count}
 use Rattle.actors.proofs.back.store_rows.Goals as goal
 
 pub loop-row-init : goal.loop-row-init

@@ -1,5 +1,4 @@
-use Rattle.actors.proofs.Imports.{◌≡◌, List, ℤ, Ok, length, map, filter_term, setting_of, updated_of}
-use Rattle.actors.proofs.Backs.{AreBack}
+use Rattle.actors.proofs.Lemmas.{◌≡◌, List, ℤ, Ok, length, map, filter_term, setting_of, updated_of, AreBack}
 use Rattle.actors.proofs.back.store_rows.Given as goal
 
 abbrev pub invariant-loop-row : goal.invariant-loop-row

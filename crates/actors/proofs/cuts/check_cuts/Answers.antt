@@ -1,5 +1,4 @@
-use Rattle.actors.proofs.Imports.{◌≡◌, ℕ, List, [], length, map, get_or, ap, ◌∙◌, arith, option_map, Owner, run_owner, owners_of, actor_of}
-use Rattle.actors.proofs.SharedBytes.{blob_first, blob_here, blob_later}
+use Rattle.actors.proofs.Lemmas.{◌≡◌, ℕ, List, [], length, map, get_or, ap, ◌∙◌, arith, option_map, Owner, run_owner, owners_of, actor_of, blob_first, blob_here, blob_later}
 use Rattle.actors.proofs.cuts.check_cuts.Goals as goal
 
 pub returns-in-Some-clause-shared : goal.returns-in-Some-clause-shared

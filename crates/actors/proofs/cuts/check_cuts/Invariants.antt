@@ -1,6 +1,5 @@
 -- no byte of a blob so far is shared
-use Rattle.actors.proofs.Imports.{◌≡◌, owners_of, actor_of, shared_byte}
-use Rattle.actors.proofs.SharedBytes.{first_from}
+use Rattle.actors.proofs.Lemmas.{◌≡◌, owners_of, actor_of, shared_byte, first_from}
 use Rattle.actors.proofs.cuts.check_cuts.Given as goal
 
 abbrev pub invariant-loop-blob : goal.invariant-loop-blob

@@ -1,5 +1,4 @@
-use Rattle.actors.proofs.Imports.{map, actor_of, owner_shown}
-use Rattle.actors.proofs.Scans.{shared_is}
+use Rattle.actors.proofs.Lemmas.{map, actor_of, owner_shown, shared_is}
 use Rattle.actors.proofs.cuts.is_shared.Goals as goal
 
 pub loop-owner-init : goal.loop-owner-init

@@ -1,5 +1,4 @@
-use Rattle.actors.proofs.Imports.{◌≡◌, map, drop, actor_of, owner_shown, is_shared}
-use Rattle.actors.proofs.Scans.{differs}
+use Rattle.actors.proofs.Lemmas.{◌≡◌, map, drop, actor_of, owner_shown, is_shared, differs}
 use Rattle.actors.proofs.cuts.is_shared.Given as goal
 
 abbrev pub invariant-loop-owner : goal.invariant-loop-owner

@@ -1,5 +1,4 @@
-use Rattle.actors.proofs.Imports.{◌≡◌, ◌<◌, ◌∙◌, ℕ, List, SFits, rules, subst, ap, w128, to_z-of_z, IsWrite, bit_in, byte_at, with_byte, arith}
-use Rattle.actors.proofs.Bytes.{byte_changed}
+use Rattle.actors.proofs.Lemmas.{◌≡◌, ◌<◌, ◌∙◌, ℕ, List, SFits, rules, subst, ap, w128, to_z-of_z, IsWrite, bit_in, byte_at, with_byte, arith, byte_changed}
 use Rattle.actors.proofs.memory.changed_byte.Goals as goal
 
 pub returns-clause-byte : goal.returns-clause-byte

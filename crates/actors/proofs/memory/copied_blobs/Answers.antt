@@ -1,5 +1,4 @@
-use Rattle.actors.proofs.Imports.{arith, common_steps}
-use Rattle.actors.proofs.Blobs.{one_copied}
+use Rattle.actors.proofs.Lemmas.{arith, common_steps, one_copied}
 use Rattle.actors.proofs.memory.copied_blobs.Goals as goal
 
 pub loop-b-preserved : goal.loop-b-preserved

@@ -1,5 +1,4 @@
-use Rattle.actors.proofs.Imports.{◌≡◌, ◌<◌, ◌∙◌, length, sym, ap, arith, rules, SFits, w128, to_z-of_z, length-set, get_or_from_slice_get, Truth, kinds_of, Fields, entry, table_in, declared, kind_at, owners_of, leaf_types_of, table_holds, leaf_count_of}
-use Rattle.actors.proofs.Laws.{raw_here, one_held, all_held}
+use Rattle.actors.proofs.Lemmas.{◌≡◌, ◌<◌, ◌∙◌, length, sym, ap, arith, rules, SFits, w128, to_z-of_z, length-set, get_or_from_slice_get, Truth, kinds_of, Fields, entry, table_in, declared, kind_at, owners_of, leaf_types_of, table_holds, leaf_count_of, raw_here, one_held, all_held}
 use Rattle.actors.proofs.memory.read_held.Goals as goal
 
 pub loop-leaf-preserved : goal.loop-leaf-preserved

@@ -1,5 +1,4 @@
-use Rattle.actors.proofs.Imports.{ℤ, ◌≡◌, ◌∙◌, subst, sym, ap, arith, rules, SFits, w128, to_z-of_z, IsIn, number, digit, IsCell, some_bits, few_bits, bit_count, apart, pieces_within, held, low_in, slice_index, common_steps}
-use Rattle.actors.proofs.Bytes.{is_write}
+use Rattle.actors.proofs.Lemmas.{ℤ, ◌≡◌, ◌∙◌, subst, sym, ap, arith, rules, SFits, w128, to_z-of_z, IsIn, number, digit, IsCell, some_bits, few_bits, bit_count, apart, pieces_within, held, low_in, slice_index, common_steps, is_write}
 use Rattle.actors.proofs.memory.write_bits.Given as given
 use Rattle.actors.proofs.memory.write_bits.Goals as goal
 use Rattle.actors.proofs.memory.write_bits.Goals.{After-as_slice}

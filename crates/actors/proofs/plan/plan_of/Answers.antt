@@ -1,5 +1,4 @@
-use Rattle.actors.proofs.Imports.{◌≡◌, ◌∙◌, true, map, sym, filter_term, setting_of, job_of, lets_through, common_steps, arith}
-use Rattle.actors.proofs.Marks.{plan_left, plan_through}
+use Rattle.actors.proofs.Lemmas.{◌≡◌, ◌∙◌, true, map, sym, filter_term, setting_of, job_of, lets_through, common_steps, arith, plan_left, plan_through}
 use Rattle.actors.proofs.plan.plan_of.Goals as goal
 
 pub returns-then-not-lets_through : goal.returns-then-not-lets_through

@@ -1,5 +1,4 @@
-use Rattle.actors.proofs.Imports.{[], map, get_or, subst, index_at, filter_term, setting_of, given_row, Table, answer_of, kept_of, job_of, IsRowPlanOf}
-use Rattle.actors.proofs.Tried.{row_updated}
+use Rattle.actors.proofs.Lemmas.{[], map, get_or, subst, index_at, filter_term, setting_of, given_row, Table, answer_of, kept_of, job_of, IsRowPlanOf, row_updated}
 use Rattle.actors.proofs.plan.plan_row.Goals as goal
 
 pub returns-clause-planned : goal.returns-clause-planned

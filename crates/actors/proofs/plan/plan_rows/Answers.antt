@@ -1,6 +1,4 @@
-use Rattle.actors.proofs.Imports.{rules, arith, ◌≡◌, ◌<◌, ◌+◌, [], Err, length, map, get_or, subst, sym, index_at, update_log, filter_term, setting_of, updated_row, Table, answer_of, kept_of, after_log, job_of, Update, NoMemory, IsRowPlanOf, ArePlans, IsUpdatedRow, reads_in}
-use Rattle.actors.proofs.Marks.{no_plans, one_plan}
-use Rattle.actors.proofs.Tried.{none_tried, one_read, one_tried, stop_tried}
+use Rattle.actors.proofs.Lemmas.{rules, arith, ◌≡◌, ◌<◌, ◌+◌, [], Err, length, map, get_or, subst, sym, index_at, update_log, filter_term, setting_of, updated_row, Table, answer_of, kept_of, after_log, job_of, Update, NoMemory, IsRowPlanOf, ArePlans, IsUpdatedRow, reads_in, no_plans, one_plan, none_tried, one_read, one_tried, stop_tried}
 use Rattle.actors.proofs.plan.plan_rows.Given as given
 use Rattle.actors.proofs.plan.plan_rows.Goals as goal
 use Rattle.actors.proofs.plan.plan_rows.Goals.{After-plan_row}

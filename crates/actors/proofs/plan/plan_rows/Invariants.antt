@@ -1,5 +1,4 @@
-use Rattle.actors.proofs.Imports.{map, filter_term, setting_of, job_of, ArePlans}
-use Rattle.actors.proofs.Tried.{AreTried}
+use Rattle.actors.proofs.Lemmas.{map, filter_term, setting_of, job_of, ArePlans, AreTried}
 use Rattle.actors.proofs.plan.plan_rows.Given as goal
 
 abbrev pub invariant-loop-row : goal.invariant-loop-row

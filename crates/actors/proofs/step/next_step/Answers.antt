@@ -1,5 +1,4 @@
-use Rattle.actors.proofs.Imports.{refl, arith}
-use Rattle.actors.proofs.Steps.{store_next, fetch_next, load_next}
+use Rattle.actors.proofs.Lemmas.{refl, arith, store_next, fetch_next, load_next}
 use Rattle.actors.proofs.step.next_step.Goals as goal
 
 pub returns-then-cursor-clause-next : goal.returns-then-cursor-clause-next

@@ -1,5 +1,4 @@
-use Rattle.actors.proofs.Imports.{◌≡◌, ◌∙◌, ℕ, List, length, refl, sym, ap, subst, arith, indices}
-use Rattle.actors.proofs.Teams.{AreTeam, IsTeam, one_more, all_team}
+use Rattle.actors.proofs.Lemmas.{◌≡◌, ◌∙◌, ℕ, List, length, refl, sym, ap, subst, arith, indices, AreTeam, IsTeam, one_more, all_team}
 use Rattle.actors.proofs.team.team_of.Goals as goal
 
 pub loop-cut-preserved : goal.loop-cut-preserved

@@ -1,5 +1,4 @@
-use Rattle.advisor.proofs.Imports.{arith, length-map, common_steps}
-use Rattle.advisor.proofs.Advising.{advice_given, costs_known}
+use Rattle.advisor.proofs.Lemmas.{arith, length-map, common_steps, advice_given, costs_known}
 use Rattle.advisor.proofs.adviser.advise.Goals as goal
 
 pub returns-clause-advice : goal.returns-clause-advice

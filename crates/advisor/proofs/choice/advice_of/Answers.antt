@@ -1,5 +1,4 @@
-use Rattle.advisor.proofs.Imports.{Option, sym, ap, ◌∙◌, option_map, Term, term_of, Best}
-use Rattle.advisor.proofs.Cheapest.{found, none_found, chosen_is, same_advice}
+use Rattle.advisor.proofs.Lemmas.{Option, sym, ap, ◌∙◌, option_map, Term, term_of, Best, found, none_found, chosen_is, same_advice}
 use Rattle.advisor.proofs.choice.advice_of.Goals as goal
 use Rattle.advisor.proofs.choice.advice_of.Goals.{in-Some+in_ok-best_of-in-Some, in-None}
 

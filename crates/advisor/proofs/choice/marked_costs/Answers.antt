@@ -1,5 +1,4 @@
-use Rattle.advisor.proofs.Imports.{rules, ◌≡◌, ◌<◌, ◌++◌, ◌∷◌, [], ℕ, List, Option, Some, None, length, map, take, sym, ap, ◌∙◌, arith, if◌then◌else◌, take_more, map_push, length-map, Term, Named, term_of, Candidate, terms_in, term_at}
-use Rattle.advisor.proofs.Cheapest.{shown}
+use Rattle.advisor.proofs.Lemmas.{rules, ◌≡◌, ◌<◌, ◌++◌, ◌∷◌, [], ℕ, List, Option, Some, None, length, map, take, sym, ap, ◌∙◌, arith, if◌then◌else◌, take_more, map_push, length-map, Term, Named, term_of, Candidate, terms_in, term_at, shown}
 use Rattle.advisor.proofs.choice.marked_costs.Goals as goal
 
 pub loop-at-preserved : goal.loop-at-preserved

@@ -1,5 +1,4 @@
-use Rattle.advisor.proofs.Imports.{◌≡◌, ◌+◌, ℕ, List, get_or, sym, ap, ◌∙◌, subst, arith, get_or-map, Cell, Truth, reads, leaves_in}
-use Rattle.advisor.proofs.Chosen.{AreChosen, one_left, one_taken}
+use Rattle.advisor.proofs.Lemmas.{◌≡◌, ◌+◌, ℕ, List, get_or, sym, ap, ◌∙◌, subst, arith, get_or-map, Cell, Truth, reads, leaves_in, AreChosen, one_left, one_taken}
 use Rattle.advisor.proofs.costs.cells_read.Goals as goal
 
 pub loop-at-preserved : goal.loop-at-preserved

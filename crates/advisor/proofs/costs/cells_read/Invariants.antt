@@ -1,5 +1,4 @@
-use Rattle.advisor.proofs.Imports.{get_or, reads, leaves_in}
-use Rattle.advisor.proofs.Chosen.{AreChosen}
+use Rattle.advisor.proofs.Lemmas.{get_or, reads, leaves_in, AreChosen}
 use Rattle.advisor.proofs.costs.cells_read.Given as goal
 
 abbrev pub invariant-loop-at : goal.invariant-loop-at

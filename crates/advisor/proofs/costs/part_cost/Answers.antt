@@ -1,5 +1,4 @@
-use Rattle.advisor.proofs.Imports.{◌≡◌, ◌*◌, ℕ, List, length, get_or, ap, ◌∙◌, arith, list_any, ◌==◌, length-map, get_or_read, sum_by_more, indices, Hold, Pass, touched, touched_alike, reads, leaves_in, sum_by, []}
-use Rattle.advisor.proofs.RuledLaws.{layout_in, widths_in}
+use Rattle.advisor.proofs.Lemmas.{◌≡◌, ◌*◌, ℕ, List, length, get_or, ap, ◌∙◌, arith, list_any, ◌==◌, length-map, get_or_read, sum_by_more, indices, Hold, Pass, touched, touched_alike, reads, leaves_in, sum_by, [], layout_in, widths_in}
 use Rattle.advisor.proofs.costs.part_cost.Goals as goal
 
 pub loop-pass-preserved : goal.loop-pass-preserved

@@ -1,5 +1,4 @@
-use Rattle.advisor.proofs.Imports.{◌≡◌, ◌≤◌, ◌*◌, ◌^◌, take, part_cost, leaves_in}
-use Rattle.advisor.proofs.RuledLaws.{layout_in}
+use Rattle.advisor.proofs.Lemmas.{◌≡◌, ◌≤◌, ◌*◌, ◌^◌, take, part_cost, leaves_in, layout_in}
 use Rattle.advisor.proofs.costs.part_cost.Given as goal
 
 abbrev pub invariant-loop-pass : goal.invariant-loop-pass

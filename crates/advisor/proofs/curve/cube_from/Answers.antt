@@ -1,5 +1,4 @@
-use Rattle.advisor.proofs.Imports.{◌≡◌, ℕ, ◌*◌, ◌/◌, ◌^◌, ◌≤◌, min, w64, length, refl, ap, ◌∙◌, arith, lit<, trailing_zeros, pow-le-pow_right}
-use Rattle.advisor.proofs.CurveLaws.{cube_begins, cube_slots, cube_has_rows, cube_has_none}
+use Rattle.advisor.proofs.Lemmas.{◌≡◌, ℕ, ◌*◌, ◌/◌, ◌^◌, ◌≤◌, min, w64, length, refl, ap, ◌∙◌, arith, lit<, trailing_zeros, pow-le-pow_right, cube_begins, cube_slots, cube_has_rows, cube_has_none}
 use Rattle.advisor.proofs.curve.cube_from.Goals as goal
 
 pub returns-in-Some-clause-rows : goal.returns-in-Some-clause-rows

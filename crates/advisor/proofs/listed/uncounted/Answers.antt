@@ -1,5 +1,4 @@
-use Rattle.advisor.proofs.Imports.{arith, take_more, map_push, All-push, common_steps}
-use Rattle.advisor.proofs.Listing.{built_uncounted}
+use Rattle.advisor.proofs.Lemmas.{arith, take_more, map_push, All-push, common_steps, built_uncounted}
 use Rattle.advisor.proofs.listed.uncounted.Goals as goal
 
 pub loop-at-preserved : goal.loop-at-preserved

@@ -1,5 +1,4 @@
-use Rattle.advisor.proofs.Imports.{◌≡◌, ℕ, List, length, map, sym, ap, ◌∙◌, length-map, indices, Leaf, leaves, schema_fields, Owner, Cell, Hold, Term, term_of, length-leaf_cells, layout_of, holds_of, leaf_cells, length-holds, leaf_types_of, cost, part_cost, leaves_in, arith}
-use Rattle.advisor.proofs.CostLaws.{whole_cost}
+use Rattle.advisor.proofs.Lemmas.{◌≡◌, ℕ, List, length, map, sym, ap, ◌∙◌, length-map, indices, Leaf, leaves, schema_fields, Owner, Cell, Hold, Term, term_of, length-leaf_cells, layout_of, holds_of, leaf_cells, length-holds, leaf_types_of, cost, part_cost, leaves_in, arith, whole_cost}
 use Rattle.advisor.proofs.listed.whole_candidate.Goals as goal
 
 pub returns-clause-priced : goal.returns-clause-priced

@@ -1,5 +1,4 @@
-use Rattle.advisor.proofs.Imports.{rules, ◌≡◌, Err, Result, leb-true, term_of, MakeMap, Plan, schema_fields, common_steps, arith}
-use Rattle.advisor.proofs.JudgedLaws.{plan_refused, told_good, told_many, told_refused}
+use Rattle.advisor.proofs.Lemmas.{rules, ◌≡◌, Err, Result, leb-true, term_of, MakeMap, Plan, schema_fields, common_steps, arith, plan_refused, told_good, told_many, told_refused}
 use Rattle.advisor.proofs.mapped.mapped.Goals as goal
 
 pub returns-then-not-has_few_granules-clause-refused : goal.returns-then-not-has_few_granules-clause-refused

@@ -1,5 +1,4 @@
-use Rattle.advisor.proofs.Imports.{ℕ, ◌*◌, subst, HasSteps}
-use Rattle.advisor.proofs.SteadyLaws.{all_steady}
+use Rattle.advisor.proofs.Lemmas.{ℕ, ◌*◌, subst, HasSteps, all_steady}
 use Rattle.advisor.proofs.runs.run_of.Goals as goal
 
 pub returns-then-has_steps-clause-steady : goal.returns-then-has_steps-clause-steady

@@ -1,7 +1,4 @@
-use Rattle.advisor.proofs.Imports.{◌≡◌, ◌+◌, ◌≤◌, true, Bool, ℕ, List, All, sym, ◌∙◌, subst, arith, heat_counts, IsInside, piece_in, PieceRule, has_row, are_rows_touched, or-false}
-use Rattle.advisor.proofs.SteadyLaws.{rows_more}
-use Rattle.advisor.proofs.SweepLaws.{run_of_rows, run_of_none}
-use Rattle.advisor.proofs.WarmLaws.{warmed_inside, warmed_more, warmed_alike}
+use Rattle.advisor.proofs.Lemmas.{◌≡◌, ◌+◌, ◌≤◌, true, Bool, ℕ, List, All, sym, ◌∙◌, subst, arith, heat_counts, IsInside, piece_in, PieceRule, has_row, are_rows_touched, or-false, rows_more, run_of_rows, run_of_none, warmed_inside, warmed_more, warmed_alike}
 use Rattle.advisor.proofs.runs.touch_rows.Goals as goal
 
 pub touch_slots-requires-clause-inside : goal.touch_slots-requires-clause-inside

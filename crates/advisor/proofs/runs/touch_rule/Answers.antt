@@ -1,6 +1,4 @@
-use Rattle.advisor.proofs.Imports.{◌≡◌, ◌+◌, ◌*◌, ◌%◌, ◌/◌, ◌<◌, ℕ, sym, ◌∙◌, subst, arith, div-add-mod', mod_below, IsSteady}
-use Rattle.advisor.proofs.SteadyLaws.{part_steady, touched_more}
-use Rattle.advisor.proofs.WarmLaws.{warmed_inside, warmed_more}
+use Rattle.advisor.proofs.Lemmas.{◌≡◌, ◌+◌, ◌*◌, ◌%◌, ◌/◌, ◌<◌, ℕ, sym, ◌∙◌, subst, arith, div-add-mod', mod_below, IsSteady, part_steady, touched_more, warmed_inside, warmed_more}
 use Rattle.advisor.proofs.runs.touch_rule.Goals as goal
 
 pub touch_run-requires-clause-steady : goal.touch_run-requires-clause-steady

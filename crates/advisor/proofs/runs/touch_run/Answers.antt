@@ -1,6 +1,4 @@
-use Rattle.advisor.proofs.Imports.{◌≡◌, ◌-◌, ◌∷◌, [], List, slice_index_or, sym, ap, ◌∙◌, subst, arith, Piece, is_in_granule, HeatCounts, heat_counts, heated_by, inside-counted, is_run_touched, long_piece, IsWarmed, or-false, common_steps}
-use Rattle.advisor.proofs.SteadyLaws.{long_ends, long_is, long_inside, long_touches}
-use Rattle.advisor.proofs.WarmLaws.{heated_warmed, warmed_alike}
+use Rattle.advisor.proofs.Lemmas.{◌≡◌, ◌-◌, ◌∷◌, [], List, slice_index_or, sym, ap, ◌∙◌, subst, arith, Piece, is_in_granule, HeatCounts, heat_counts, heated_by, inside-counted, is_run_touched, long_piece, IsWarmed, or-false, common_steps, long_ends, long_is, long_inside, long_touches, heated_warmed, warmed_alike}
 use Rattle.advisor.proofs.runs.touch_run.Goals as goal
 
 pub overflow_sub-bits : goal.overflow_sub-bits

@@ -1,5 +1,4 @@
-use Rattle.advisor.proofs.Imports.{◌+◌, sym, subst, heat_counts, IsInside, piece_in, PieceRule}
-use Rattle.advisor.proofs.WarmLaws.{warmed_inside}
+use Rattle.advisor.proofs.Lemmas.{◌+◌, sym, subst, heat_counts, IsInside, piece_in, PieceRule, warmed_inside}
 use Rattle.advisor.proofs.runs.touch_slots.Goals as goal
 
 pub touch_rule-requires-clause-inside : goal.touch_rule-requires-clause-inside

@@ -1,5 +1,4 @@
-use Rattle.advisor.proofs.Imports.{List, [], ◌∷◌, ◌++◌, sym, ap, ◌∙◌, arith, filter, is_ok, flat_map_single, map-map, Term, Split, term_of, MapExpr, judge, terms_in}
-use Rattle.advisor.proofs.PoolLaws.{all_behind}
+use Rattle.advisor.proofs.Lemmas.{List, [], ◌∷◌, ◌++◌, sym, ap, ◌∙◌, arith, filter, is_ok, flat_map_single, map-map, Term, Split, term_of, MapExpr, judge, terms_in, all_behind}
 use Rattle.advisor.proofs.splits.push_rests.Goals as goal
 
 pub returns-clause-terms : goal.returns-clause-terms

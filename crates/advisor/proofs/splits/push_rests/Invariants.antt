@@ -1,5 +1,4 @@
-use Rattle.advisor.proofs.Imports.{All, [], ◌∷◌, is_ok, Split, term_of, MapExpr, judge, IsPriced, terms_in}
-use Rattle.advisor.proofs.PoolLaws.{AreBehind}
+use Rattle.advisor.proofs.Lemmas.{All, [], ◌∷◌, is_ok, Split, term_of, MapExpr, judge, IsPriced, terms_in, AreBehind}
 use Rattle.advisor.proofs.splits.push_rests.Given as goal
 
 abbrev pub invariant-loop-at : goal.invariant-loop-at

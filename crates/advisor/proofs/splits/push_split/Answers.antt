@@ -1,5 +1,4 @@
-use Rattle.advisor.proofs.Imports.{◌≡◌, ◌+◌, List, All, Some, Option, sym, subst, IfSome, All-push, term_of, holds_by, cells_under, cells_beside, Candidate, IsPriced, IsHold, IsSideCost}
-use Rattle.advisor.proofs.PoolLaws.{split_priced, first_lacks, rest_lacks, none_more}
+use Rattle.advisor.proofs.Lemmas.{◌≡◌, ◌+◌, List, All, Some, Option, sym, subst, IfSome, All-push, term_of, holds_by, cells_under, cells_beside, Candidate, IsPriced, IsHold, IsSideCost, split_priced, first_lacks, rest_lacks, none_more}
 use Rattle.advisor.proofs.splits.push_split.Goals as goal
 
 pub returns-in_ok-push-clause-priced : goal.returns-in_ok-push-clause-priced

@@ -1,5 +1,4 @@
-use Rattle.advisor.proofs.Imports.{◌≡◌, ℕ, List, [], ◌++◌, None, Option, get_or, map, sym, ap, ◌∙◌, arith, filter, is_ok, get_or-map, get_or_default, flat_map-map, Fields, Cell, Term, Named, Split, term_of, MapExpr, cells_under, judge, terms_in, IsSideCost, term_at}
-use Rattle.advisor.proofs.PoolLaws.{all_behind}
+use Rattle.advisor.proofs.Lemmas.{◌≡◌, ℕ, List, [], ◌++◌, None, Option, get_or, map, sym, ap, ◌∙◌, arith, filter, is_ok, get_or-map, get_or_default, flat_map-map, Fields, Cell, Term, Named, Split, term_of, MapExpr, cells_under, judge, terms_in, IsSideCost, term_at, all_behind}
 use Rattle.advisor.proofs.splits.push_splits_at.Goals as goal
 
 pub push_rests-requires-clause-first : goal.push_rests-requires-clause-first

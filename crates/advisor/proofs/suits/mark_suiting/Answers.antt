@@ -1,5 +1,4 @@
-use Rattle.advisor.proofs.Imports.{List, map, ap, ◌∙◌, arith, Candidate, Trial, none_failed, common_steps}
-use Rattle.advisor.proofs.Tried.{trials_now, marks_right}
+use Rattle.advisor.proofs.Lemmas.{List, map, ap, ◌∙◌, arith, Candidate, Trial, none_failed, common_steps, trials_now, marks_right}
 use Rattle.advisor.proofs.suits.mark_suiting.Goals as goal
 
 pub mark-requires-clause-inside : goal.mark-requires-clause-inside

@@ -1,5 +1,4 @@
-use Rattle.advisor.proofs.Imports.{arith, common_steps}
-use Rattle.advisor.proofs.TriedRuns.{trials_to}
+use Rattle.advisor.proofs.Lemmas.{arith, common_steps, trials_to}
 use Rattle.advisor.proofs.suits.try_run.Goals as goal
 
 pub try_leaf-requires : goal.try_leaf-requires

@@ -1,5 +1,4 @@
-use Rattle.advisor.proofs.Imports.{◌≡◌, length, map, take, drop, after_log, Read, rows_accesses}
-use Rattle.advisor.proofs.TriedRuns.{tried_to}
+use Rattle.advisor.proofs.Lemmas.{◌≡◌, length, map, take, drop, after_log, Read, rows_accesses, tried_to}
 use Rattle.advisor.proofs.suits.try_run.Given as goal
 
 abbrev pub invariant-loop-leaf : goal.invariant-loop-leaf

@@ -1,7 +1,4 @@
-use Rattle.advisor.proofs.Imports.{ℕ, length, subst, indices, IsLaidOut, heat_counts, RuledMap, common_steps, arith}
-use Rattle.advisor.proofs.RuledLaws.{layout_in, widths_in}
-use Rattle.advisor.proofs.SweepLaws.{rows_hold, rows_inside}
-use Rattle.advisor.proofs.WarmLaws.{warmed_alike, warmed_granules}
+use Rattle.advisor.proofs.Lemmas.{ℕ, length, subst, indices, IsLaidOut, heat_counts, RuledMap, common_steps, arith, layout_in, widths_in, rows_hold, rows_inside, warmed_alike, warmed_granules}
 use Rattle.advisor.proofs.touched.touch_cell.Goals as goal
 
 -- its slots are the rows

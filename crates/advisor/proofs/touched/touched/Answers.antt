@@ -1,6 +1,4 @@
-use Rattle.advisor.proofs.Imports.{◌≡◌, ℕ, List, [], ◌∷◌, length, refl, sym, ap, ◌∙◌, arith, ◌==◌, list_any, eqb-true, take_all, list_any_more, heat_counts, no_heat, blob_lengths, holds_cell, touched}
-use Rattle.advisor.proofs.RuledLaws.{layout_in}
-use Rattle.advisor.proofs.WarmLaws.{none_touched, warmed_more, warm_touched}
+use Rattle.advisor.proofs.Lemmas.{◌≡◌, ℕ, List, [], ◌∷◌, length, refl, sym, ap, ◌∙◌, arith, ◌==◌, list_any, eqb-true, take_all, list_any_more, heat_counts, no_heat, blob_lengths, holds_cell, touched, layout_in, none_touched, warmed_more, warm_touched}
 use Rattle.advisor.proofs.touched.touched.Goals as goal
 
 pub loop-cell-preserved : goal.loop-cell-preserved

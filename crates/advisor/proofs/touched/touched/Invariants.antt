@@ -1,5 +1,4 @@
-use Rattle.advisor.proofs.Imports.{take, list_any, heat_counts, no_heat, HasGranules, blob_lengths, holds_cell, IsWarmed}
-use Rattle.advisor.proofs.RuledLaws.{layout_in}
+use Rattle.advisor.proofs.Lemmas.{take, list_any, heat_counts, no_heat, HasGranules, blob_lengths, holds_cell, IsWarmed, layout_in}
 use Rattle.advisor.proofs.touched.touched.Given as goal
 
 abbrev pub invariant-loop-cell : goal.invariant-loop-cell

@@ -1,5 +1,4 @@
-use Rattle.advisor.proofs.Imports.{[], ap, ◌∙◌, arith, count_by, sum_by, take_all, sum_by_more_le, sum_by-take-le, heat_counts, blob_granules, is_warm}
-use Rattle.advisor.proofs.WarmLaws.{warm_few}
+use Rattle.advisor.proofs.Lemmas.{[], ap, ◌∙◌, arith, count_by, sum_by, take_all, sum_by_more_le, sum_by-take-le, heat_counts, blob_granules, is_warm, warm_few}
 use Rattle.advisor.proofs.touched.warm_granules.Goals as goal
 
 pub overflow_add-count : goal.overflow_add-count

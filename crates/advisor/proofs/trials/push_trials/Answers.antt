@@ -1,5 +1,4 @@
-use Rattle.advisor.proofs.Imports.{◌≡◌, ◌+◌, List, sym, ap, ◌∙◌, refl, subst, arith, get_or_from_slice_get, kinds_of, schema_fields, hold_at, Hold, Trial, IsHold, has_trial}
-use Rattle.advisor.proofs.Tried.{ArePushed, one_there, one_pushed}
+use Rattle.advisor.proofs.Lemmas.{◌≡◌, ◌+◌, List, sym, ap, ◌∙◌, refl, subst, arith, get_or_from_slice_get, kinds_of, schema_fields, hold_at, Hold, Trial, IsHold, has_trial, ArePushed, one_there, one_pushed}
 use Rattle.advisor.proofs.trials.push_trials.Goals as goal
 
 pub loop-leaf-preserved : goal.loop-leaf-preserved

@@ -1,5 +1,4 @@
-use Rattle.advisor.proofs.Imports.{schema_fields}
-use Rattle.advisor.proofs.Tried.{ArePushed}
+use Rattle.advisor.proofs.Lemmas.{schema_fields, ArePushed}
 use Rattle.advisor.proofs.trials.push_trials.Given as goal
 
 abbrev pub invariant-loop-leaf : goal.invariant-loop-leaf

@@ -1,5 +1,4 @@
-use Rattle.blob_file.proofs.Imports.{arith, ◌<◌, length}
-use Rattle.blob_file.proofs.Blobs.{none_cut, room, one_cut}
+use Rattle.blob_file.proofs.Lemmas.{arith, ◌<◌, length, none_cut, room, one_cut}
 use Rattle.blob_file.proofs.blobs_in.cut_blobs.Goals as goal
 
 pub loop-b-init : goal.loop-b-init

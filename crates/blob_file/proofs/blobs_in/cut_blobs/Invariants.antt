@@ -1,5 +1,4 @@
-use Rattle.blob_file.proofs.Imports.{blob_lengths}
-use Rattle.blob_file.proofs.Blobs.{AreCut}
+use Rattle.blob_file.proofs.Lemmas.{blob_lengths, AreCut}
 use Rattle.blob_file.proofs.blobs_in.cut_blobs.Given as goal
 
 abbrev pub invariant-loop-b : goal.invariant-loop-b

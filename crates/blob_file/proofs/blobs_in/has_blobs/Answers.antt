@@ -1,5 +1,4 @@
-use Rattle.blob_file.proofs.Imports.{rules, arith, ◌≡◌, ◌<◌, ◌≤◌, ◌∙◌, ℕ, List, [], true, false, length, get_or, sym, ap, cases_lt, ext_get_or, get_or_default, owners_of, blobs_of}
-use Rattle.blob_file.proofs.ImageBits.{blob_saved, blob_count}
+use Rattle.blob_file.proofs.Lemmas.{rules, arith, ◌≡◌, ◌<◌, ◌≤◌, ◌∙◌, ℕ, List, [], true, false, length, get_or, sym, ap, cases_lt, ext_get_or, get_or_default, owners_of, blobs_of, blob_saved, blob_count}
 use Rattle.blob_file.proofs.blobs_in.has_blobs.Goals as goal
 
 pub returns-then-not-is_same-clause-other : goal.returns-then-not-is_same-clause-other

@@ -1,5 +1,4 @@
-use Rattle.blob_file.proofs.Imports.{to_z, of_z, subst, arith, int_le, cases_lt, and_parts, and_from, to_z-of_z, IsDeclared, between_true, passed, common_steps}
-use Rattle.blob_file.proofs.Filled.{low_declares}
+use Rattle.blob_file.proofs.Lemmas.{to_z, of_z, subst, arith, int_le, cases_lt, and_parts, and_from, to_z-of_z, IsDeclared, between_true, passed, common_steps, low_declares}
 use Rattle.blob_file.proofs.fill.are_declared.Goals as goal
 
 pub loop-low-preserved : goal.loop-low-preserved

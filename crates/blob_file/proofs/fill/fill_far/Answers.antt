@@ -1,5 +1,4 @@
-use Rattle.blob_file.proofs.Imports.{rules, ◌≡◌, ◌+◌, ◌∙◌, ℕ, ℤ, List, pos, get_or, length, is_ok, true, Ok, Err, Result, to_z, of_z, refl, sym, ap, arith, w128, cases_lt, to_z-of_z, entry, told_same, length-with_column, run_length, kept_rows, without_number, Table, answer_of, kept_of, StoreFault, value_more, nothing_stored, kept_run, raw_in, header_of, Contents}
-use Rattle.blob_file.proofs.Filled.{raw_is, run_kept, kept_long}
+use Rattle.blob_file.proofs.Lemmas.{rules, ◌≡◌, ◌+◌, ◌∙◌, ℕ, ℤ, List, pos, get_or, length, is_ok, true, Ok, Err, Result, to_z, of_z, refl, sym, ap, arith, w128, cases_lt, to_z-of_z, entry, told_same, length-with_column, run_length, kept_rows, without_number, Table, answer_of, kept_of, StoreFault, value_more, nothing_stored, kept_run, raw_in, header_of, Contents, raw_is, run_kept, kept_long}
 use Rattle.blob_file.proofs.fill.fill_far.Goals as goal
 use Rattle.blob_file.proofs.fill.fill_far.Goals.{In-loop-k, After-set}
 use Rattle.blob_file.proofs.fill.fill_far.Given.{Over}

@@ -1,5 +1,4 @@
-use Rattle.blob_file.proofs.Imports.{◌≡◌, ℕ, ℤ, List, length, map, refl, ap, subst, arith, get_or_from_slice_get, LeafType, Truth, raised, run_steps, Table, leaf_type_of, leaf_types_of, kept_run, IsTakenLeaf, raw_in, header_of}
-use Rattle.blob_file.proofs.Filled.{fitting_taken, fitting_kept}
+use Rattle.blob_file.proofs.Lemmas.{◌≡◌, ℕ, ℤ, List, length, map, refl, ap, subst, arith, get_or_from_slice_get, LeafType, Truth, raised, run_steps, Table, leaf_type_of, leaf_types_of, kept_run, IsTakenLeaf, raw_in, header_of, fitting_taken, fitting_kept}
 use Rattle.blob_file.proofs.fill.fill_leaf.Goals as goal
 
 pub returns-clause-taken : goal.returns-clause-taken

@@ -1,5 +1,4 @@
-use Rattle.blob_file.proofs.Imports.{rules, ◌≡◌, ◌+◌, ◌*◌, ◌<◌, ◌≤◌, ◌∙◌, ⊎_elim, inl, inr, ℕ, ℤ, List, length, take, drop, Err, sym, ap, subst, arith, ◌⊎◌, cases_lt, length-drop, length-take-le, indices, AreRowsMoved, CountsNothing, run_more, kept_rows, HasShape, Table, kept_of, leaf_count_of, leaf_types_of, table_holds, after_stores, Write, all_accesses, run_writes, AreTaken, raw_in, header_of, length-append}
-use Rattle.blob_file.proofs.Filled.{all_kept, run_logged, run_steps_more}
+use Rattle.blob_file.proofs.Lemmas.{rules, ◌≡◌, ◌+◌, ◌*◌, ◌<◌, ◌≤◌, ◌∙◌, ⊎_elim, inl, inr, ℕ, ℤ, List, length, take, drop, Err, sym, ap, subst, arith, ◌⊎◌, cases_lt, length-drop, length-take-le, indices, AreRowsMoved, CountsNothing, run_more, kept_rows, HasShape, Table, kept_of, leaf_count_of, leaf_types_of, table_holds, after_stores, Write, all_accesses, run_writes, AreTaken, raw_in, header_of, length-append, all_kept, run_logged, run_steps_more}
 use Rattle.blob_file.proofs.fill.fill_rows.Goals as goal
 
 pub loop-first-preserved : goal.loop-first-preserved

@@ -1,5 +1,4 @@
-use Rattle.blob_file.proofs.Imports.{rules, ◌≡◌, ◌+◌, ◌<◌, ◌≤◌, ◌∙◌, ⊎_elim, ℕ, ℤ, List, [], get_or, length, Err, sym, ap, subst, arith, cases_lt, indices, column_writes, with_column, AreRowsMoved, leaf_moved, kept_rows, Table, kept_of, leaf_count_of, after_stores, kept_run, run_writes, IsTakenLeaf, raw_in, header_of}
-use Rattle.blob_file.proofs.Filled.{kept_long, leaf_logged, leaf_steps}
+use Rattle.blob_file.proofs.Lemmas.{rules, ◌≡◌, ◌+◌, ◌<◌, ◌≤◌, ◌∙◌, ⊎_elim, ℕ, ℤ, List, [], get_or, length, Err, sym, ap, subst, arith, cases_lt, indices, column_writes, with_column, AreRowsMoved, leaf_moved, kept_rows, Table, kept_of, leaf_count_of, after_stores, kept_run, run_writes, IsTakenLeaf, raw_in, header_of, kept_long, leaf_logged, leaf_steps}
 use Rattle.blob_file.proofs.fill.fill_run.Goals as goal
 
 pub loop-leaf-preserved : goal.loop-leaf-preserved

@@ -1,6 +1,4 @@
-use Rattle.blob_file.proofs.Imports.{◌≡◌, ◌+◌, ◌<◌, ◌∙◌, ℕ, ℤ, List, false, pos, get_or, length, map, refl, sym, ap, subst, arith, length-map, get_or_from_slice_get, is_signed, IsDeclared, IsIn, Leaf, leaves, LeafType, Truth, indices, entry, IsLaidOut, Cell, Hold, kinds_are, hold_widths, hold_at, low_64, raised, raised_low, leaf_type_of, leaf_types_of, owners_of, table_holds, raw_in, header_of, kind_at}
-use Rattle.blob_file.proofs.Contents.{raw_range}
-use Rattle.blob_file.proofs.Filled.{raw_is}
+use Rattle.blob_file.proofs.Lemmas.{◌≡◌, ◌+◌, ◌<◌, ◌∙◌, ℕ, ℤ, List, false, pos, get_or, length, map, refl, sym, ap, subst, arith, length-map, get_or_from_slice_get, is_signed, IsDeclared, IsIn, Leaf, leaves, LeafType, Truth, indices, entry, IsLaidOut, Cell, Hold, kinds_are, hold_widths, hold_at, low_64, raised, raised_low, leaf_type_of, leaf_types_of, owners_of, table_holds, raw_in, header_of, kind_at, raw_range, raw_is}
 use Rattle.blob_file.proofs.fill.read_fitting.Goals as goal
 
 pub returns-clause-fitting : goal.returns-clause-fitting

@@ -1,7 +1,5 @@
-use Rattle.blob_file.proofs.Imports.{rules, ◌≡◌, drop, Some, Err, inr, refl, tree_of, bytes_to_line_end, common_steps, arith}
+use Rattle.blob_file.proofs.Lemmas.{rules, ◌≡◌, drop, Some, Err, inr, refl, tree_of, bytes_to_line_end, common_steps, arith, no_second, no_view, other_size, header_found, refused_on}
 use Rattle.blob_file.specs.declared.fault.FileFault.TheVariants as fault
-use Rattle.blob_file.proofs.HeadReads.{no_second, no_view, other_size, header_found}
-use Rattle.blob_file.proofs.Refused.{refused_on}
 use Rattle.blob_file.proofs.header.read_header.Goals as goal
 
 pub returns-in_default-cut_line-clause-refused : goal.returns-in_default-cut_line-clause-refused

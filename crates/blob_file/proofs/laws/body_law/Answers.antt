@@ -1,8 +1,4 @@
-use Rattle.blob_file.proofs.Imports.{◌≡◌, ◌∙◌, ◌*◌, ℕ, List, length, map, refl, sym, ap, arith, sum_by, indices, IsLaidOut, Hold, Owner, joined, owners_of, table_holds, blob_lengths, cut, with_blobs, AreRows, header_of, blobs_of}
-use Rattle.blob_file.proofs.Contents.{rows_contents, same_rows}
-use Rattle.blob_file.proofs.Cuts.{cut_joined, length-joined, total, total_bits}
-use Rattle.blob_file.proofs.Fills.{body_is}
-use Rattle.blob_file.proofs.OneFile.{lengths_of_image}
+use Rattle.blob_file.proofs.Lemmas.{◌≡◌, ◌∙◌, ◌*◌, ℕ, List, length, map, refl, sym, ap, arith, sum_by, indices, IsLaidOut, Hold, Owner, joined, owners_of, table_holds, blob_lengths, cut, with_blobs, AreRows, header_of, blobs_of, rows_contents, same_rows, cut_joined, length-joined, total, total_bits, body_is, lengths_of_image}
 use Rattle.blob_file.proofs.laws.body_law.Goals as goal
 
 pub returns : goal.returns

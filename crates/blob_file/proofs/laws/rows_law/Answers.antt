@@ -1,6 +1,4 @@
-use Rattle.blob_file.proofs.Imports.{refl, image_bytes}
-use Rattle.blob_file.proofs.Contents.{same_rows}
-use Rattle.blob_file.proofs.Lawful.{lawful, paired}
+use Rattle.blob_file.proofs.Lemmas.{refl, image_bytes, same_rows, lawful, paired}
 use Rattle.blob_file.proofs.laws.rows_law.Goals as goal
 
 pub returns : goal.returns

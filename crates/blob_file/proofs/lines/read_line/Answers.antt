@@ -1,5 +1,4 @@
-use Rattle.blob_file.proofs.Refused.{on_ok}
-use Rattle.blob_file.proofs.Told.{spelled_told, spelled_whole, spelled_other}
+use Rattle.blob_file.proofs.Lemmas.{on_ok, spelled_told, spelled_whole, spelled_other}
 use Rattle.blob_file.proofs.lines.read_line.Goals as goal
 
 pub returns-in-Ok : goal.returns-in-Ok

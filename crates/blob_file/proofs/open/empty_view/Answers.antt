@@ -1,7 +1,5 @@
-use Rattle.blob_file.proofs.Imports.{rules, ◌≡◌, ◌*◌, ◌∙◌, List, None, Some, Err, inr, length, map, sym, ap, arith, sum_by, ExtentWord, bad_shape, bad_extents, extent_of, Owner, schema_fields, owners_by, CanLie, with_header, header_in, common_steps}
+use Rattle.blob_file.proofs.Lemmas.{rules, ◌≡◌, ◌*◌, ◌∙◌, List, None, Some, Err, inr, length, map, sym, ap, arith, sum_by, ExtentWord, bad_shape, bad_extents, extent_of, Owner, schema_fields, owners_by, CanLie, with_header, header_in, common_steps, fit_by, shaped_by, ranged_by, can_by, none_by, same_owners, no_layout, no_length, refused, on_ok}
 use Rattle.blob_file.specs.declared.fault.FileFault.TheVariants as fault
-use Rattle.blob_file.proofs.Lies.{fit_by, shaped_by, ranged_by, can_by, none_by, same_owners}
-use Rattle.blob_file.proofs.Refused.{no_layout, no_length, refused, on_ok}
 use Rattle.blob_file.proofs.open.empty_view.Goals as goal
 use Rattle.blob_file.proofs.open.empty_view.Goals.{In_ok-bytes}
 

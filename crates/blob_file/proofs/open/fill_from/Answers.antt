@@ -1,5 +1,4 @@
-use Rattle.blob_file.proofs.Imports.{inr, length, map, indices, IsLaidOut, Hold, owners_of, table_holds, common_steps, arith}
-use Rattle.blob_file.proofs.Fills.{refused_number, opened_view, other_view, steps_taken}
+use Rattle.blob_file.proofs.Lemmas.{inr, length, map, indices, IsLaidOut, Hold, owners_of, table_holds, common_steps, arith, refused_number, opened_view, other_view, steps_taken}
 use Rattle.blob_file.proofs.open.fill_from.Goals as goal
 
 pub returns-in_err-fill_rows-clause-read : goal.returns-in_err-fill_rows-clause-read

@@ -1,6 +1,4 @@
-use Rattle.blob_file.proofs.Imports.{rules, ◌≡◌, ◌∙◌, drop, length, Some, Err, Result, sym, ap, subst, sum_by, Owner, Table, owners_of, Saved, header_at, with_body, opened, empty_table, IsRead, header_in, header_of, FileFault}
-use Rattle.blob_file.proofs.Opens.{read_is_file}
-use Rattle.blob_file.proofs.Refused.{header_told, body_told}
+use Rattle.blob_file.proofs.Lemmas.{rules, ◌≡◌, ◌∙◌, drop, length, Some, Err, Result, sym, ap, subst, sum_by, Owner, Table, owners_of, Saved, header_at, with_body, opened, empty_table, IsRead, header_in, header_of, FileFault, read_is_file, header_told, body_told}
 use Rattle.blob_file.proofs.open.read_file.Goals as goal
 
 pub returns-in_err-view-clause-read : goal.returns-in_err-view-clause-read

@@ -1,5 +1,4 @@
-use Rattle.blob_file.proofs.Imports.{rules, ◌≡◌, ◌∙◌, ℕ, List, length, ap, record_text, two_lines, view_text, header_of}
-use Rattle.blob_file.proofs.SavedFile.{file_length}
+use Rattle.blob_file.proofs.Lemmas.{rules, ◌≡◌, ◌∙◌, ℕ, List, length, ap, record_text, two_lines, view_text, header_of, file_length}
 use Rattle.blob_file.proofs.save.file_len.Goals as goal
 
 pub returns-clause-len : goal.returns-clause-len

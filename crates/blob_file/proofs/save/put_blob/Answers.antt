@@ -1,5 +1,4 @@
-use Rattle.blob_file.proofs.Imports.{rules, arith, IsErr}
-use Rattle.blob_file.proofs.Puts.{large_put, large_stopped}
+use Rattle.blob_file.proofs.Lemmas.{rules, arith, IsErr, large_put, large_stopped}
 use Rattle.blob_file.proofs.save.put_blob.Goals as goal
 
 pub returns-in_err-flush : goal.returns-in_err-flush

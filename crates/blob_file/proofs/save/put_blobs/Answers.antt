@@ -1,6 +1,4 @@
-use Rattle.blob_file.proofs.Imports.{rules, arith, ◌<◌, ℕ, List, [], IsErr, length, ap, Puts-loop_err, Puts-loop_ok, Owner, owners_of, blobs_of, common_steps}
-use Rattle.blob_file.proofs.ImageBits.{blob_saved, blob_count}
-use Rattle.blob_file.proofs.Puts.{part_more, has_put}
+use Rattle.blob_file.proofs.Lemmas.{rules, arith, ◌<◌, ℕ, List, [], IsErr, length, ap, Puts-loop_err, Puts-loop_ok, Owner, owners_of, blobs_of, common_steps, blob_saved, blob_count, part_more, has_put}
 use Rattle.blob_file.proofs.save.put_blobs.Goals as goal
 
 pub returns-in_err-put_blob : goal.returns-in_err-put_blob

@@ -1,5 +1,4 @@
-use Rattle.blob_file.proofs.Imports.{rules, arith, ◌≡◌, ◌∙◌, ◌++◌, ℕ, length, take, drop, ap, length-take-le, length-drop, length-append}
-use Rattle.blob_file.proofs.Puts.{block_written}
+use Rattle.blob_file.proofs.Lemmas.{rules, arith, ◌≡◌, ◌∙◌, ◌++◌, ℕ, length, take, drop, ap, length-take-le, length-drop, length-append, block_written}
 use Rattle.blob_file.proofs.save.write_blob.Goals as goal
 
 pub loop-done-preserved : goal.loop-done-preserved

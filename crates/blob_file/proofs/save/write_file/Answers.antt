@@ -1,5 +1,4 @@
-use Rattle.blob_file.proofs.Imports.{rules, ◌≡◌, ℕ, List, subst, Wrote, record_text, view_text, header_of, common_steps, arith}
-use Rattle.blob_file.proofs.SavedFile.{file_text}
+use Rattle.blob_file.proofs.Lemmas.{rules, ◌≡◌, ℕ, List, subst, Wrote, record_text, view_text, header_of, common_steps, arith, file_text}
 use Rattle.blob_file.proofs.save.write_file.Goals as goal
 
 pub returns-in_err-put_file-clause-saved : goal.returns-in_err-put_file-clause-saved

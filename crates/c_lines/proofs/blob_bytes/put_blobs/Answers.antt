@@ -1,5 +1,4 @@
-use Rattle.c_lines.proofs.Imports.{rules, arith, ◌≡◌, ◌<◌, ℕ, List, length, length-append, take, [], ap, get_or, owners_of, joined, blobs_of, flat_map_push}
-use Rattle.c_lines.proofs.BlobBytes.{blob_in, blobs_count, has_room, one_put}
+use Rattle.c_lines.proofs.Lemmas.{rules, arith, ◌≡◌, ◌<◌, ℕ, List, length, length-append, take, [], ap, get_or, owners_of, joined, blobs_of, flat_map_push, blob_in, blobs_count, has_room, one_put}
 use Rattle.c_lines.proofs.blob_bytes.put_blobs.Goals as goal
 
 pub put_bytes-requires : goal.put_bytes-requires

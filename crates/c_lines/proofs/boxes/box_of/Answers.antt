@@ -1,10 +1,4 @@
-use Rattle.c_lines.proofs.Imports.{◌<◌, ℕ, List, Ok, length, length-set, Answer, refl, sym, ap, subst, ◌∙◌, arith, false≢true, told, Tested, windowed, IsWindow, Span}
-use Rattle.command_checks.proofs.Inside.{windowed_goes}
-use Rattle.extents.specs.WindowLaws.{same_rank}
-use Rattle.subviews.specs.SubViews.{WindowOf, rows_of}
-use Rattle.c_lines.specs.Answers.{answer_map}
-use Rattle.c_lines.specs.Boxes.{spans_of}
-use Rattle.c_lines.proofs.BoxRows.{all_spans, length-spans, narrow_bounds, no_window, one_span}
+use Rattle.c_lines.proofs.Lemmas.{◌<◌, ℕ, List, Ok, length, length-set, Answer, refl, sym, ap, subst, ◌∙◌, arith, false≢true, told, Tested, windowed, IsWindow, Span, windowed_goes, same_rank, WindowOf, rows_of, answer_map, spans_of, all_spans, length-spans, narrow_bounds, no_window, one_span}
 use Rattle.c_lines.proofs.boxes.box_of.Goals as goal
 
 -- the rows that a window's test gives

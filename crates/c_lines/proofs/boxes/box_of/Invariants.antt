@@ -1,5 +1,4 @@
-use Rattle.c_lines.proofs.Imports.{◌≡◌, length, take}
-use Rattle.c_lines.specs.Boxes.{spans_of}
+use Rattle.c_lines.proofs.Imports.{◌≡◌, length, take, spans_of}
 use Rattle.c_lines.proofs.boxes.box_of.Given as goal
 
 abbrev pub invariant-loop-d : goal.invariant-loop-d

@@ -1,5 +1,4 @@
-use Rattle.c_lines.proofs.Imports.{◌∙◌, ℕ, length, get_or, sym, ltb-true, nat_lt}
-use Rattle.c_lines.proofs.InTurn.{passes}
+use Rattle.c_lines.proofs.Lemmas.{◌∙◌, ℕ, length, get_or, sym, ltb-true, nat_lt, passes}
 use Rattle.c_lines.proofs.by_rows.are_rows.Goals as goal
 
 pub returns-clause-rows : goal.returns-clause-rows

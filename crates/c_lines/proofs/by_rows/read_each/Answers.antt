@@ -1,5 +1,4 @@
-use Rattle.c_lines.proofs.Imports.{rules, ◌≡◌, ◌<◌, ℕ, ℤ, List, [], ◌∷◌, ◌++◌, length, map, take, get_or, refl, sym, ap, ◌∙◌, arith, entry, Read, after_log, after_log-none}
-use Rattle.c_lines.proofs.InTurn.{map_made, map_more, read_one}
+use Rattle.c_lines.proofs.Lemmas.{rules, ◌≡◌, ◌<◌, ℕ, ℤ, List, [], ◌∷◌, ◌++◌, length, map, take, get_or, refl, sym, ap, ◌∙◌, arith, entry, Read, after_log, after_log-none, map_made, map_more, read_one}
 use Rattle.c_lines.proofs.by_rows.read_each.Goals as goal
 
 pub loop-k-init : goal.loop-k-init

@@ -1,5 +1,4 @@
-use Rattle.c_lines.proofs.Imports.{rules, ◌≡◌, ◌+◌, ◌<◌, ◌≤◌, ◌∙◌, ℤ, pos, length, map, get_or, SFits, w128, to_z, of_z, to_z-of_z, sym, ap, arith, length-map, get_or-map, Turned}
-use Rattle.c_lines.proofs.InTurn.{turn_done, turn_refused, turns_over}
+use Rattle.c_lines.proofs.Lemmas.{rules, ◌≡◌, ◌+◌, ◌<◌, ◌≤◌, ◌∙◌, ℤ, pos, length, map, get_or, SFits, w128, to_z, of_z, to_z-of_z, sym, ap, arith, length-map, get_or-map, Turned, turn_done, turn_refused, turns_over}
 use Rattle.c_lines.proofs.by_rows.store_each.Goals as goal
 
 pub loop-k-preserved : goal.loop-k-preserved

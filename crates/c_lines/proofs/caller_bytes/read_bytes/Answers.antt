@@ -1,7 +1,4 @@
-use Rattle.c_lines.proofs.Imports.{rules, ◌≡◌, ◌+◌, ◌-◌, ◌*◌, ◌<◌, ◌≤◌, ◌++◌, ℕ, ℤ, pos, List, get_or, length, map, take, drop, refl, sym, ap, ◌∙◌, arith, mul-le-mul_left, length-drop, length-take-le, flat_map-append, take-put_mid, low_64, column_reads, run_of, Table, after_log, after_log-none, bytes_of_numbers, leaf_type_of, run_declared, run_length, declared_within, IsWithin64, little_bytes, low_bytes}
-use Rattle.std.specs.Int.{w64}
-use Rattle.c_lines.proofs.CallerBytes.{bytes_of_lows}
-use Rattle.c_lines.proofs.Parts.{run_more, log_more}
+use Rattle.c_lines.proofs.Lemmas.{rules, ◌≡◌, ◌+◌, ◌-◌, ◌*◌, ◌<◌, ◌≤◌, ◌++◌, ℕ, ℤ, pos, List, get_or, length, map, take, drop, refl, sym, ap, ◌∙◌, arith, mul-le-mul_left, length-drop, length-take-le, flat_map-append, take-put_mid, low_64, column_reads, run_of, Table, after_log, after_log-none, bytes_of_numbers, leaf_type_of, run_declared, run_length, declared_within, IsWithin64, little_bytes, low_bytes, w64, bytes_of_lows, run_more, log_more}
 use Rattle.c_lines.proofs.caller_bytes.read_bytes.Goals as goal
 
 pub loop-done-init : goal.loop-done-init

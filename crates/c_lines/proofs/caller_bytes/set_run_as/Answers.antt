@@ -1,5 +1,4 @@
-use Rattle.c_lines.proofs.Imports.{true, false, sym, ◌∙◌}
-use Rattle.c_lines.proofs.CallerBytes.{no_rows, set_as}
+use Rattle.c_lines.proofs.Lemmas.{true, false, sym, ◌∙◌, no_rows, set_as}
 use Rattle.c_lines.proofs.caller_bytes.set_run_as.Goals as goal
 
 pub returns-then-not-is_run : goal.returns-then-not-is_run

@@ -1,6 +1,4 @@
-use Rattle.c_lines.proofs.Imports.{rules, ◌≡◌, ◌+◌, ◌-◌, ◌*◌, ◌≤◌, ℕ, ℤ, List, length, map, take, drop, Ok, Err, sym, ap, subst, ◌∙◌, arith, mul-le-mul_left, length-drop, length-take-le, take_rest, drop-drop, length-map-range_with_len, leaf_count_of, Answer, IsSet, number_in, numbers_in}
-use Rattle.c_lines.proofs.CallerBytes.{numbers_within, front_set, front_refused_set}
-use Rattle.c_lines.proofs.Parts.{nothing_set, set_behind, still_rows}
+use Rattle.c_lines.proofs.Lemmas.{rules, ◌≡◌, ◌+◌, ◌-◌, ◌*◌, ◌≤◌, ℕ, ℤ, List, length, map, take, drop, Ok, Err, sym, ap, subst, ◌∙◌, arith, mul-le-mul_left, length-drop, length-take-le, take_rest, drop-drop, length-map-range_with_len, leaf_count_of, Answer, IsSet, number_in, numbers_in, numbers_within, front_set, front_refused_set, nothing_set, set_behind, still_rows}
 use Rattle.c_lines.proofs.caller_bytes.store_bytes.Goals as goal
 
 pub take_numbers-requires-clause-room : goal.take_numbers-requires-clause-room

@@ -1,6 +1,5 @@
-use Rattle.c_lines.proofs.Imports.{refl, assignment_of, map, option_map, number_text, is_do, numbered, reading, assigned, kernel_run, counting, reduction, updated}
+use Rattle.c_lines.proofs.Lemmas.{refl, assignment_of, map, option_map, number_text, is_do, numbered, reading, assigned, kernel_run, counting, reduction, updated, line_does, line_is}
 use Rattle.expr_lang.specs.Prelude.{term_of}
-use Rattle.c_lines.proofs.Commanding.{line_does, line_is}
 use Rattle.c_lines.proofs.commands.do_command.Goals as goal
 
 pub returns-in-Assign : goal.returns-in-Assign

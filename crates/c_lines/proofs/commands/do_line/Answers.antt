@@ -1,5 +1,4 @@
-use Rattle.c_lines.proofs.Imports.{rules, sentence_of, number_text, is_do, numbered}
-use Rattle.c_lines.proofs.Commanding.{text_read, text_refused}
+use Rattle.c_lines.proofs.Lemmas.{rules, sentence_of, number_text, is_do, numbered, text_read, text_refused}
 use Rattle.c_lines.proofs.commands.do_line.Goals as goal
 
 pub returns-in_err-line : goal.returns-in_err-line

@@ -1,8 +1,5 @@
-use Rattle.c_lines.proofs.Imports.{rules, ◌≡◌, ◌∙◌, ◌*◌, ℕ, refl, subst, map, option_map, assignment_of, number_text, is_do, numbered, alone, Carried, fit_stencil, stencil_left, live_bits, updated_by_actors, stencil_run}
+use Rattle.c_lines.proofs.Lemmas.{rules, ◌≡◌, ◌∙◌, ◌*◌, ℕ, refl, subst, map, option_map, assignment_of, number_text, is_do, numbered, alone, Carried, fit_stencil, stencil_left, live_bits, updated_by_actors, stencil_run, bytes_in, alone_bits, actors_does, actors_not, line_does}
 use Rattle.expr_lang.specs.Prelude.{term_of}
-use Rattle.c_lines.specs.Inner.Carried.{bytes_in}
-use Rattle.c_lines.proofs.Anew.{alone_bits}
-use Rattle.c_lines.proofs.Commanding.{actors_does, actors_not, line_does}
 use Rattle.c_lines.proofs.commands.do_rounds.Goals as goal
 
 pub returns-in-Stencil : goal.returns-in-Stencil

@@ -1,5 +1,4 @@
-use Rattle.c_lines.proofs.Imports.{refl, number_text, is_kernel, numbered, kernel_run}
-use Rattle.c_lines.proofs.Commanding.{line_does}
+use Rattle.c_lines.proofs.Lemmas.{refl, number_text, is_kernel, numbered, kernel_run, line_does}
 use Rattle.c_lines.proofs.commands.kernel_command.Goals as goal
 
 pub returns-in-Kernel : goal.returns-in-Kernel

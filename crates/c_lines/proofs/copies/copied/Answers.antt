@@ -1,5 +1,4 @@
-use Rattle.c_lines.proofs.Imports.{rules}
-use Rattle.c_lines.proofs.Copied.{other_source, was_done, was_narrow, was_other}
+use Rattle.c_lines.proofs.Lemmas.{rules, other_source, was_done, was_narrow, was_other}
 use Rattle.c_lines.proofs.copies.copied.Goals as goal
 
 pub returns-in-Ok-clause-answer : goal.returns-in-Ok-clause-answer

@@ -1,5 +1,4 @@
-use Rattle.c_lines.proofs.Imports.{rules, arith, named_of}
-use Rattle.c_lines.proofs.Making.{filled_refused, filled_made}
+use Rattle.c_lines.proofs.Lemmas.{rules, arith, named_of, filled_refused, filled_made}
 use Rattle.c_lines.proofs.make.filled_as.Goals as goal
 
 pub returns-in_err-zeros_for : goal.returns-in_err-zeros_for

@@ -1,6 +1,4 @@
-use Rattle.c_lines.proofs.Imports.{rules, [], Err, term_of, same_text, schema_fields, nameless, shaped, Gives, named_of, new_of}
-use Rattle.c_lines.proofs.Answering.{goes_ok, ne_false, tells_refused, tells_test}
-use Rattle.c_lines.proofs.Making.{shape_refused}
+use Rattle.c_lines.proofs.Lemmas.{rules, [], Err, term_of, same_text, schema_fields, nameless, shaped, Gives, named_of, new_of, goes_ok, ne_false, tells_refused, tells_test, shape_refused}
 use Rattle.c_lines.proofs.make.find.Goals as goal
 
 pub returns-in_err-shape-clause-named : goal.returns-in_err-shape-clause-named

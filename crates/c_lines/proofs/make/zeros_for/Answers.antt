@@ -1,6 +1,4 @@
-use Rattle.c_lines.proofs.Imports.{rules, ◌≡◌, ◌∙◌, ℕ, List, length, IfSome, Ok, Err, sym, ap, subst, indices, Table, resolved, named_of}
-use Rattle.c_lines.proofs.Answering.{goes_ok, if_answered, tells_refused, tells_test}
-use Rattle.c_lines.proofs.Making.{zeros_refused, zeros_made}
+use Rattle.c_lines.proofs.Lemmas.{rules, ◌≡◌, ◌∙◌, ℕ, List, length, IfSome, Ok, Err, sym, ap, subst, indices, Table, resolved, named_of, goes_ok, if_answered, tells_refused, tells_test, zeros_refused, zeros_made}
 use Rattle.c_lines.proofs.make.zeros_for.Goals as goal
 
 pub returns-in_err-extents-clause-zeros : goal.returns-in_err-extents-clause-zeros

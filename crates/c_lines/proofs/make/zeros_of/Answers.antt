@@ -1,5 +1,4 @@
-use Rattle.c_lines.proofs.Imports.{rules, schema_fields, named_of, new_of}
-use Rattle.c_lines.proofs.Making.{new_refused, new_made}
+use Rattle.c_lines.proofs.Lemmas.{rules, schema_fields, named_of, new_of, new_refused, new_made}
 use Rattle.c_lines.proofs.make.zeros_of.Goals as goal
 
 pub returns-in_err-found : goal.returns-in_err-found

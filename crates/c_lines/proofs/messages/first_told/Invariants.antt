@@ -1,5 +1,4 @@
-use Rattle.c_lines.proofs.Imports.{◌≡◌, drop, find}
-use Rattle.c_lines.specs.Messages.{is_told}
+use Rattle.c_lines.proofs.Imports.{◌≡◌, drop, find, is_told}
 use Rattle.c_lines.proofs.messages.first_told.Given as goal
 
 abbrev pub invariant-loop-refusal : goal.invariant-loop-refusal

@@ -1,6 +1,4 @@
-use Rattle.c_lines.proofs.Imports.{rules, ◌∙◌, ap, List, ℕ, Ok, SFits, to_z-of_z, w32}
-use Rattle.c_lines.specs.Messages.{words_beside}
-use Rattle.c_lines.proofs.Words.{put_as, put_refused, put_told_as}
+use Rattle.c_lines.proofs.Lemmas.{rules, ◌∙◌, ap, List, ℕ, Ok, SFits, to_z-of_z, w32, words_beside, put_as, put_refused, put_told_as}
 use Rattle.c_lines.proofs.messages.put_beside.Goals as goal
 
 pub returns-in_err-words : goal.returns-in_err-words

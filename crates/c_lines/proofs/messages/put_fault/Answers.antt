@@ -1,5 +1,4 @@
-use Rattle.c_lines.proofs.Imports.{◌≡◌, ◌∙◌, fault_words}
-use Rattle.c_lines.proofs.Words.{line_taken, put_as}
+use Rattle.c_lines.proofs.Lemmas.{◌≡◌, ◌∙◌, fault_words, line_taken, put_as}
 use Rattle.c_lines.proofs.messages.put_fault.Goals as goal
 
 pub words_in-requires : goal.words_in-requires

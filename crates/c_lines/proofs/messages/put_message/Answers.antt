@@ -1,6 +1,4 @@
-use Rattle.c_lines.proofs.Imports.{rules, ap, Option, Refusal, SFits, to_z-of_z, w32}
-use Rattle.c_lines.specs.Messages.{words_by}
-use Rattle.c_lines.proofs.Words.{put_told_as}
+use Rattle.c_lines.proofs.Lemmas.{rules, ap, Option, Refusal, SFits, to_z-of_z, w32, words_by, put_told_as}
 use Rattle.c_lines.proofs.messages.put_message.Goals as goal
 
 pub returns-in-Some : goal.returns-in-Some

@@ -1,6 +1,4 @@
-use Rattle.c_lines.proofs.Imports.{◌≡◌}
-use Rattle.c_lines.specs.Inner.Said.{said_words}
-use Rattle.c_lines.proofs.Words.{put_as}
+use Rattle.c_lines.proofs.Lemmas.{◌≡◌, said_words, put_as}
 use Rattle.c_lines.proofs.messages.put_said.Goals as goal
 
 pub returns-in-Word : goal.returns-in-Word

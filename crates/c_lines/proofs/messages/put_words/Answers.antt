@@ -1,5 +1,4 @@
-use Rattle.c_lines.proofs.Imports.{List, ℕ, Ok, ap}
-use Rattle.c_lines.proofs.Words.{put_told_as}
+use Rattle.c_lines.proofs.Lemmas.{List, ℕ, Ok, ap, put_told_as}
 use Rattle.c_lines.proofs.messages.put_words.Goals as goal
 
 pub returns-in-Ok : goal.returns-in-Ok

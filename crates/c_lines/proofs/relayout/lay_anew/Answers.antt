@@ -1,5 +1,4 @@
-use Rattle.c_lines.proofs.Imports.{rules}
-use Rattle.c_lines.proofs.Relaying.{anew_refused, laid}
+use Rattle.c_lines.proofs.Lemmas.{rules, anew_refused, laid}
 use Rattle.c_lines.proofs.relayout.lay_anew.Goals as goal
 
 pub returns-in_err-fresh : goal.returns-in_err-fresh

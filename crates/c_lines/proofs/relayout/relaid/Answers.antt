@@ -1,5 +1,4 @@
-use Rattle.c_lines.proofs.Imports.{rules, term_of}
-use Rattle.c_lines.proofs.Anew.{none_made, relaid_done, relaid_not}
+use Rattle.c_lines.proofs.Lemmas.{rules, term_of, none_made, relaid_done, relaid_not}
 use Rattle.c_lines.proofs.relayout.relaid.Goals as goal
 
 pub returns-in_err-fresh : goal.returns-in_err-fresh

@@ -1,6 +1,4 @@
-use Rattle.c_lines.proofs.Imports.{◌≡◌, ◌∙◌, ◌*◌, [], alone, live_bits, term_of}
-use Rattle.c_lines.proofs.Anew.{alone_bits, gave_answered}
-use Rattle.c_lines.proofs.Answering.{goes_ok}
+use Rattle.c_lines.proofs.Lemmas.{◌≡◌, ◌∙◌, ◌*◌, [], alone, live_bits, term_of, alone_bits, gave_answered, goes_ok}
 use Rattle.c_lines.proofs.relayout.zeros_beside.Goals as goal
 
 pub returns-clause-made : goal.returns-clause-made

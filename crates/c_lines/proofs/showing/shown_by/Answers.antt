@@ -1,6 +1,4 @@
-use Rattle.c_lines.proofs.Imports.{rules, sentence_of, is_tell, commanded}
-use Rattle.c_lines.specs.Inner.Carried.{bytes_in}
-use Rattle.c_lines.proofs.Commanding.{text_read, text_refused}
+use Rattle.c_lines.proofs.Lemmas.{rules, sentence_of, is_tell, commanded, bytes_in, text_read, text_refused}
 use Rattle.c_lines.proofs.showing.shown_by.Goals as goal
 
 pub returns-in_err-line : goal.returns-in_err-line

@@ -1,6 +1,4 @@
-use Rattle.c_lines.proofs.Imports.{refl, reading, is_tell, commanded, map, [], advise, telling, bytes, counts, heat, layout, print, print_window, term_of}
-use Rattle.c_lines.specs.Inner.Carried.{bytes_in}
-use Rattle.c_lines.proofs.Commanding.{line_does}
+use Rattle.c_lines.proofs.Lemmas.{refl, reading, is_tell, commanded, map, [], advise, telling, bytes, counts, heat, layout, print, print_window, term_of, bytes_in, line_does}
 use Rattle.c_lines.proofs.showing.tell_command.Goals as goal
 
 pub returns-in-Print : goal.returns-in-Print

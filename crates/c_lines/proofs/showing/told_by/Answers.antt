@@ -1,5 +1,4 @@
-use Rattle.c_lines.proofs.Imports.{Fields, SaysStep, Table, ap, subst}
-use Rattle.c_lines.proofs.Tellings.{shown_done, shown_not}
+use Rattle.c_lines.proofs.Lemmas.{Fields, SaysStep, Table, ap, subst, shown_done, shown_not}
 use Rattle.c_lines.proofs.showing.told_by.Goals as goal
 
 pub returns-in-Ok : goal.returns-in-Ok

@@ -1,5 +1,4 @@
-use Rattle.c_lines.proofs.Imports.{rules, ◌≡◌, ◌<◌, ◌^◌, true, false, ℕ, ℤ, pos, ◌≤ℤ◌, List, [], ◌∷◌, ◌++◌, get_or, length, map, take, w64, FitsSigned, to_z, of_z, sym, ap, ◌∙◌, arith, ints, to_z-of_z, get_or-map, length-map, length-set, map-append, take_more, take_more_set, low_64}
-use Rattle.c_lines.proofs.Parts.{own_low}
+use Rattle.c_lines.proofs.Lemmas.{rules, ◌≡◌, ◌<◌, ◌^◌, true, false, ℕ, ℤ, pos, ◌≤ℤ◌, List, [], ◌∷◌, ◌++◌, get_or, length, map, take, w64, FitsSigned, to_z, of_z, sym, ap, ◌∙◌, arith, ints, to_z-of_z, get_or-map, length-map, length-set, map-append, take_more, take_more_set, low_64, own_low}
 use Rattle.c_lines.proofs.unsigned.put_lows.Goals as goal
 
 pub loop-k-preserved : goal.loop-k-preserved

@@ -1,7 +1,6 @@
-use Rattle.command_checks.proofs.Imports.{rules, ◌≡◌, Err, length-append, bound_pass, common_steps}
+use Rattle.command_checks.proofs.Imports.{rules, ◌≡◌, Err, length-append, bound_pass, common_steps, arith}
 use Rattle.command_checks.proofs.Each.{each_more, each_ends}
 use Rattle.command_checks.proofs.advices.bound_passes.Goals as goal
-use Rattle.std.proofs.Common.{arith}
 
 pub returns-in_err-pass-clause-passes : goal.returns-in_err-pass-clause-passes
 returns-in_err-pass-clause-passes c =

@@ -1,6 +1,5 @@
-use Rattle.command_checks.proofs.Imports.{◌∙◌, ap, length-map, slice_get_within, leaf_number_is, some_or, Unknown, Path, common_steps}
+use Rattle.command_checks.proofs.Imports.{◌∙◌, ap, length-map, slice_get_within, leaf_number_is, some_or, Unknown, Path, common_steps, arith}
 use Rattle.command_checks.proofs.leaves.leaf_of.Goals as goal
-use Rattle.std.proofs.Common.{arith}
 
 pub returns-in-Some-clause-leaf : goal.returns-in-Some-clause-leaf
 returns-in-Some-clause-leaf c =

@@ -1,8 +1,6 @@
-use Rattle.command_checks.proofs.Imports.{◌∙◌, sym, ap, term_of, schema_fields, Ok, common_steps}
-use Rattle.blob_file.proofs.Made.{table_new}
+use Rattle.command_checks.proofs.Imports.{◌∙◌, sym, ap, term_of, schema_fields, Ok, common_steps, table_new, arith}
 use Rattle.command_checks.proofs.Limits.{made_goes, made_full, bits_over, bits_within}
 use Rattle.command_checks.proofs.tables.made_beside.Goals as goal
-use Rattle.std.proofs.Common.{arith}
 
 pub returns-then-live-gt-MAX_LIVE_BYTES-clause-made : goal.returns-then-live-gt-MAX_LIVE_BYTES-clause-made
 returns-then-live-gt-MAX_LIVE_BYTES-clause-made c = λ views sum.

@@ -1,6 +1,5 @@
-use Rattle.command_checks.proofs.Imports.{◌∙◌, sym, subst, List, ExtentWord, HasRows, rows_for_some, rows_for_same, resolves, resolves_not, rows_are, common_steps}
+use Rattle.command_checks.proofs.Imports.{◌∙◌, sym, subst, List, ExtentWord, HasRows, rows_for_some, rows_for_same, resolves, resolves_not, rows_are, common_steps, arith}
 use Rattle.command_checks.proofs.tables.resolved.Goals as goal
-use Rattle.std.proofs.Common.{arith}
 
 pub resolve-requires : goal.resolve-requires
 resolve-requires c = λ rows. rw c.rows_for.ensures (rows_for_some c.args.words.now c.args.rows (subst (λ (words : List ExtentWord). HasRows words) c.requires.words rows))

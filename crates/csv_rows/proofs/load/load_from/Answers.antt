@@ -1,5 +1,4 @@
-use Rattle.csv_rows.proofs.Imports.{rules, ◌≡◌, ◌⊎◌, ◌<◌, ◌∙◌, List, ℕ, ℤ, Result, Ok, OnOk, IfErr, subst, RowFault, NoMemory, [], ◌∷◌, ap, sym, length, arith, true, false, inr, Err, length-map, texts_of, header_record, MissingColumn}
-use Rattle.csv_rows.proofs.Tables.{header_refused, no_header, known_columns, dataset_keeps}
+use Rattle.csv_rows.proofs.Lemmas.{rules, ◌≡◌, ◌⊎◌, ◌<◌, ◌∙◌, List, ℕ, ℤ, Result, Ok, OnOk, IfErr, subst, RowFault, NoMemory, [], ◌∷◌, ap, sym, length, arith, true, false, inr, Err, length-map, texts_of, header_record, MissingColumn, header_refused, no_header, known_columns, dataset_keeps}
 use Rattle.csv_rows.proofs.load.load_from.Goals as goal
 
 pub returns-in_err-columns-clause-refused : goal.returns-in_err-columns-clause-refused

@@ -1,6 +1,4 @@
-use Rattle.csv_rows.proofs.Imports.{rules, ◌≡◌, ◌∙◌, refl, sym, arith, true, Err, inr, kept_row, kept_of}
-use Rattle.csv_rows.proofs.Accesses.{after_stores-none}
-use Rattle.csv_rows.proofs.Tables.{Loading, next_left, row_loaded, row_refused}
+use Rattle.csv_rows.proofs.Lemmas.{rules, ◌≡◌, ◌∙◌, refl, sym, arith, true, Err, inr, kept_row, kept_of, after_stores-none, Loading, next_left, row_loaded, row_refused}
 use Rattle.csv_rows.proofs.load.load_records.Goals as goal
 
 pub loop-records-init : goal.loop-records-init

@@ -1,5 +1,4 @@
-use Rattle.csv_rows.proofs.Imports.{◌≡◌, drop, length}
-use Rattle.csv_rows.proofs.Tables.{Loading}
+use Rattle.csv_rows.proofs.Lemmas.{◌≡◌, drop, length, Loading}
 use Rattle.csv_rows.proofs.load.load_records.Given as goal
 
 abbrev pub invariant-loop-records : goal.invariant-loop-records

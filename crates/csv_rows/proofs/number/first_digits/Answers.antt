@@ -1,5 +1,4 @@
-use Rattle.csv_rows.proofs.Imports.{rules, arith, ◌≡◌, ◌<◌, true, get_or, length, is_ascii_digit}
-use Rattle.csv_rows.proofs.Numbers.{one_digit, power_next, low_power}
+use Rattle.csv_rows.proofs.Lemmas.{rules, arith, ◌≡◌, ◌<◌, true, get_or, length, is_ascii_digit, one_digit, power_next, low_power}
 use Rattle.csv_rows.proofs.number.first_digits.Goals as goal
 
 pub overflow_mul-value : goal.overflow_mul-value

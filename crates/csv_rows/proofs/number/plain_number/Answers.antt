@@ -1,5 +1,4 @@
-use Rattle.csv_rows.proofs.Imports.{rules, arith, ◌≡◌, ◌<◌, neg_ℤ, drop, length, get_or, nat_tests, to_z-of_z, take_rest, IsFieldHere, common_steps}
-use Rattle.csv_rows.proofs.PlainNumbers.{plain_read, minus_field, minus_read}
+use Rattle.csv_rows.proofs.Lemmas.{rules, arith, ◌≡◌, ◌<◌, neg_ℤ, drop, length, get_or, nat_tests, to_z-of_z, take_rest, IsFieldHere, common_steps, plain_read, minus_field, minus_read}
 use Rattle.csv_rows.proofs.number.plain_number.Goals as goal
 
 pub returns-then-bytes-eq45-clause-field : goal.returns-then-bytes-eq45-clause-field

@@ -1,5 +1,4 @@
-use Rattle.csv_rows.proofs.Imports.{arith, option_map, to_z-of_z, take_rest, common_steps}
-use Rattle.csv_rows.proofs.PlainNumbers.{given_fits, minus_number}
+use Rattle.csv_rows.proofs.Lemmas.{arith, option_map, to_z-of_z, take_rest, common_steps, given_fits, minus_number}
 use Rattle.csv_rows.proofs.number.signed_number.Goals as goal
 
 pub returns-then-first-eq45 : goal.returns-then-first-eq45

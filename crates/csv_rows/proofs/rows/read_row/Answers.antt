@@ -1,5 +1,4 @@
-use Rattle.csv_rows.proofs.Imports.{rules, arith, ◌≡◌, ◌<◌, ◌∙◌, ⊎_elim, pos, refl, true, is_ok, Ok, Err, FitsSigned, take, get_or, length, w128, to_z-of_z, cases_eq, length-set, get_or-set_same, get_or-set_other, kept_row, answer_of, kept_of, value_at, place_of}
-use Rattle.csv_rows.proofs.Asked.{asked_again}
+use Rattle.csv_rows.proofs.Lemmas.{rules, arith, ◌≡◌, ◌<◌, ◌∙◌, ⊎_elim, pos, refl, true, is_ok, Ok, Err, FitsSigned, take, get_or, length, w128, to_z-of_z, cases_eq, length-set, get_or-set_same, get_or-set_other, kept_row, answer_of, kept_of, value_at, place_of, asked_again}
 use Rattle.csv_rows.proofs.Leaves.{leaf_read, leaf_refused}
 use Rattle.csv_rows.proofs.rows.read_row.Goals as goal
 

@@ -1,7 +1,5 @@
-use Rattle.layout_copy.proofs.Imports.{rules, ◌∙◌, sym, Table, after_log-none, AreAlike, common_steps}
+use Rattle.layout_copy.proofs.Lemmas.{rules, ◌∙◌, sym, Table, after_log-none, AreAlike, common_steps, moved_way, fields_steps, blobs_copied, runs_copied, runs_back}
 use Rattle.map_any.specs.declared.strategy.Strategy.TheVariants as way
-use Rattle.layout_copy.proofs.WayLaws.{moved_way}
-use Rattle.layout_copy.proofs.Whole.{fields_steps, blobs_copied, runs_copied, runs_back}
 use Rattle.layout_copy.proofs.copies.copy.Goals as goal
 use Rattle.layout_copy.proofs.copies.copy.Goals.{in-Blobs, in-Runs}
 use Rattle.std.proofs.Common.{arith}

@@ -1,6 +1,4 @@
-use Rattle.layout_copy.proofs.Imports.{arith, ◌≡◌, ◌<◌, ◌∙◌, ℕ, List, length, refl, ap, sym, indices, leaf_count_of}
-use Rattle.layout_copy.proofs.Rows.{row_read, row_copied, row_refused, steps_more}
-use Rattle.layout_copy.proofs.Whole.{rows_copied}
+use Rattle.layout_copy.proofs.Lemmas.{arith, ◌≡◌, ◌<◌, ◌∙◌, ℕ, List, length, refl, ap, sym, indices, leaf_count_of, row_read, row_copied, row_refused, steps_more, rows_copied}
 use Rattle.layout_copy.proofs.fieldwise.copy_fields.Goals as goal
 
 pub returns-then-may_go_by_runs-clause-copied : goal.returns-then-may_go_by_runs-clause-copied

@@ -1,5 +1,4 @@
-use Rattle.layout_copy.proofs.Imports.{◌≡◌, ◌+◌, ◌*◌, ◌≤◌, length, leaf_count_of, after_log, Read, all_accesses}
-use Rattle.layout_copy.proofs.Rows.{AreCopied}
+use Rattle.layout_copy.proofs.Lemmas.{◌≡◌, ◌+◌, ◌*◌, ◌≤◌, length, leaf_count_of, after_log, Read, all_accesses, AreCopied}
 use Rattle.layout_copy.proofs.fieldwise.copy_fields.Given as goal
 
 abbrev pub invariant-loop-row : goal.invariant-loop-row

@@ -1,5 +1,4 @@
-use Rattle.layout_copy.proofs.Imports.{◌≡◌, ◌<◌, ◌∙◌, ℕ, ℤ, pos, true, List, [], None, is_ok, length, get_or, subst, sym, ap, arith, answer_of, refusing}
-use Rattle.layout_copy.proofs.Rows.{each_taken}
+use Rattle.layout_copy.proofs.Lemmas.{◌≡◌, ◌<◌, ◌∙◌, ℕ, ℤ, pos, true, List, [], None, is_ok, length, get_or, subst, sym, ap, arith, answer_of, refusing, each_taken}
 use Rattle.layout_copy.proofs.fieldwise.copy_row.Goals as goal
 
 pub store_row-requires-clause-taken : goal.store_row-requires-clause-taken

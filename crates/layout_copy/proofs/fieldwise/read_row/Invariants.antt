@@ -1,5 +1,4 @@
-use Rattle.layout_copy.proofs.Imports.{◌≡◌, ◌+◌, ◌≤◌, [], get_or, answer_of, after_log, Read, row_accesses}
-use Rattle.layout_copy.proofs.Rows.{AreRead}
+use Rattle.layout_copy.proofs.Lemmas.{◌≡◌, ◌+◌, ◌≤◌, [], get_or, answer_of, after_log, Read, row_accesses, AreRead}
 use Rattle.layout_copy.proofs.fieldwise.read_row.Given as goal
 
 abbrev pub invariant-loop-leaf : goal.invariant-loop-leaf

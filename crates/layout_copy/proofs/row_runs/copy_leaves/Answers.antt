@@ -1,5 +1,4 @@
-use Rattle.layout_copy.proofs.Imports.{◌≡◌, length, get_or, refl, ap, arith, no_leaf_moved, leaf_moved, stores_quiet, steps_few, Table, AreAlike, common_steps}
-use Rattle.layout_copy.proofs.RowRuns.{alike_after, same_rows, leaf_steps}
+use Rattle.layout_copy.proofs.Lemmas.{◌≡◌, length, get_or, refl, ap, arith, no_leaf_moved, leaf_moved, stores_quiet, steps_few, Table, AreAlike, common_steps, alike_after, same_rows, leaf_steps}
 use Rattle.layout_copy.proofs.row_runs.copy_leaves.Goals as goal
 use Rattle.layout_copy.proofs.row_runs.copy_leaves.Goals.{After-laws_of_table-in-loop-leaf}
 use Rattle.layout_copy.proofs.row_runs.copy_leaves.Given.{Over}

@@ -1,5 +1,4 @@
-use Rattle.layout_copy.proofs.Imports.{◌≡◌, ◌∙◌, ℕ, List, length, sym, ap, arith, indices}
-use Rattle.layout_copy.proofs.RowRuns.{all_before}
+use Rattle.layout_copy.proofs.Lemmas.{◌≡◌, ◌∙◌, ℕ, List, length, sym, ap, arith, indices, all_before}
 use Rattle.layout_copy.proofs.row_runs.copy_row_runs.Goals as goal
 
 pub returns-clause-rows : goal.returns-clause-rows

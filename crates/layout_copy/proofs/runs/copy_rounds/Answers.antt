@@ -1,6 +1,4 @@
-use Rattle.layout_copy.proofs.Imports.{ℕ, List, arith, rows_after, Table, leaf_sizes}
-use Rattle.layout_copy.proofs.CostLaws.{cut_at, round_counted}
-use Rattle.layout_copy.proofs.Pieces.{piece_moved, steps_of_round}
+use Rattle.layout_copy.proofs.Lemmas.{ℕ, List, arith, rows_after, Table, leaf_sizes, cut_at, round_counted, piece_moved, steps_of_round}
 use Rattle.layout_copy.proofs.runs.copy_rounds.Goals as goal
 
 pub loop-slot-preserved : goal.loop-slot-preserved

@@ -1,5 +1,4 @@
-use Rattle.layout_copy.proofs.Imports.{◌≡◌, ◌+◌, ◌-◌, ◌%◌, ◌<◌, ◌≤◌, min, with_rows, leaf_count_of, leaf_sizes, steps_before, order_by}
-use Rattle.layout_copy.proofs.Pieces.{AreBelow}
+use Rattle.layout_copy.proofs.Lemmas.{◌≡◌, ◌+◌, ◌-◌, ◌%◌, ◌<◌, ◌≤◌, min, with_rows, leaf_count_of, leaf_sizes, steps_before, order_by, AreBelow}
 use Rattle.layout_copy.proofs.runs.copy_rounds.Given as goal
 
 -- the rows of the slots so far were copied, and a piece begins here

@@ -1,5 +1,4 @@
-use Rattle.layout_copy.proofs.Imports.{◌∙◌, ◌+◌, ◌%◌, ℕ, ap, arith, min}
-use Rattle.layout_copy.proofs.CostLaws.{multiple_on}
+use Rattle.layout_copy.proofs.Lemmas.{◌∙◌, ◌+◌, ◌%◌, ℕ, ap, arith, min, multiple_on}
 use Rattle.layout_copy.proofs.runs.round_count.Goals as goal
 
 pub returns-clause-whole : goal.returns-clause-whole

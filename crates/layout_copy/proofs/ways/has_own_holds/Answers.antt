@@ -1,5 +1,4 @@
-use Rattle.layout_copy.proofs.Imports.{rules, arith, ◌≡◌, ◌<◌, ◌∙◌, ⊎_elim, List, length, Some, sym, ap, slice_get, cases_lt, length-map, Leaf, leaves, kinds_of, Fields, Hold, length-leaf_cells, leaf_types_of, table_holds, common_steps}
-use Rattle.layout_copy.proofs.WayLaws.{own_read, read_own}
+use Rattle.layout_copy.proofs.Lemmas.{rules, arith, ◌≡◌, ◌<◌, ◌∙◌, ⊎_elim, List, length, Some, sym, ap, slice_get, cases_lt, length-map, Leaf, leaves, kinds_of, Fields, Hold, length-leaf_cells, leaf_types_of, table_holds, common_steps, own_read, read_own}
 use Rattle.layout_copy.proofs.ways.has_own_holds.Goals as goal
 use Rattle.layout_copy.proofs.ways.has_own_holds.Goals.{After-of}
 

@@ -1,6 +1,4 @@
-use Rattle.std.proofs.Common.{◌≡◌, drop}
-use Rattle.layout_io.specs.Files.{file_named}
-use Rattle.layout_io.specs.Inner.ShelfEntries.{files_in}
+use Rattle.layout_io.proofs.Imports.{◌≡◌, drop, file_named, files_in}
 use Rattle.layout_io.proofs.entries.find.Given as goal
 
 abbrev pub invariant-loop-entry : goal.invariant-loop-entry

@@ -1,5 +1,4 @@
-use Rattle.std.proofs.Common.{rules, IsErr}
-use Rattle.layout_io.specs.WritingLaws.{Writes-err, Stopped-flat_map}
+use Rattle.layout_io.proofs.Imports.{rules, IsErr, Writes-err, Stopped-flat_map}
 use Rattle.layout_io.proofs.text_buffer.write_parts.Goals as goal
 
 pub returns-in_err-put : goal.returns-in_err-put

@@ -1,5 +1,4 @@
-use Rattle.std.proofs.Common.{take, flat_map}
-use Rattle.layout_io.specs.Gathering.{Gathers}
+use Rattle.layout_io.proofs.Imports.{take, flat_map, Gathers}
 use Rattle.layout_io.proofs.text_buffer.write_parts.Given as goal
 
 abbrev pub invariant-loop-part : goal.invariant-loop-part

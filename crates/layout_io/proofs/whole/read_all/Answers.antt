@@ -1,5 +1,4 @@
-use Rattle.std.proofs.Common.{◌≡◌, ◌+◌, ◌≤◌, ◌++◌, ◌∙◌, length, take, refl, rules, arith}
-use Rattle.std.proofs.lemmas.Grind.{common_steps}
+use Rattle.layout_io.proofs.Imports.{◌≡◌, ◌+◌, ◌≤◌, ◌++◌, ◌∙◌, length, take, refl, rules, arith, common_steps}
 use Rattle.layout_io.proofs.ReadsFront.{ReadsFront-none, ReadsFront-more, ReadsFront-all}
 use Rattle.layout_io.proofs.whole.read_all.Goals as goal
 

@@ -1,8 +1,6 @@
-use Rattle.record_dim.specs.Std.{get_or_from_slice_get}
-use Rattle.record_dim.specs.declared.leaf_type.LeafType.TheVariants.{Bool as Truth}
+use Rattle.leaf_places.proofs.Imports.{get_or_from_slice_get, Truth, arith}
 use Rattle.leaf_places.proofs.Placing.{cell_in, hold_of}
 use Rattle.leaf_places.proofs.find.is_direct.Goals as goal
-use Rattle.record_dim.specs.Std.{arith}
 
 pub hold-stored-requires : goal.hold-stored-requires
 hold-stored-requires c = cell_in c.args.view.now c.args.leaf _ c.map.ensures.cells c.requires

@@ -1,11 +1,7 @@
-use Rattle.record_dim.specs.Std.{◌≡◌, ℕ, Bool, refl, ap, sym, ◌∙◌, subst, arith, length, List, [], get_or}
-use Rattle.places.specs.Prelude.{Owner, within_blobs}
-use Rattle.places.specs.declared.piece.Hold.{Hold}
-use Rattle.leaf_places.specs.Spots.{IsForm}
+use Rattle.leaf_places.proofs.Imports.{◌≡◌, ℕ, Bool, refl, ap, sym, ◌∙◌, subst, arith, length, List, [], get_or, Owner, within_blobs, Hold, IsForm, common_steps}
 use Rattle.leaf_places.proofs.Leading.{sought_some}
 use Rattle.leaf_places.proofs.Placing.{along_of, cell_in, hold_of, owned_so, placed, sought_of}
 use Rattle.leaf_places.proofs.find.places_sought.Goals as goal
-use Rattle.record_dim.specs.Std.{common_steps}
 
 pub hold-hold-requires : goal.hold-hold-requires
 hold-hold-requires c = cell_in c.args.view.now c.args.leaf _ c.map-map.ensures.cells c.requires.leaf_in

@@ -1,9 +1,4 @@
-use Rattle.record_dim.specs.Std.{◌≡◌, Bool, refl, ap, sym, ◌∙◌, subst, arith, length, List, [], get_or}
-use Rattle.extents.specs.Indices.{indices}
-use Rattle.places.specs.Prelude.{Owner}
-use Rattle.piece_bits.specs.declared.word.Word.TheVariants.{Scattered}
-use Rattle.leaf_places.specs.Inner.Placing.{is_field}
-use Rattle.leaf_places.specs.Spots.{IsForm}
+use Rattle.leaf_places.proofs.Imports.{◌≡◌, Bool, refl, ap, sym, ◌∙◌, subst, arith, length, List, [], get_or, indices, Owner, Scattered, is_field, IsForm}
 use Rattle.leaf_places.proofs.Placing.{cell_in, hold_of, listed, placed}
 use Rattle.leaf_places.proofs.Shorts.{short_form, short_owned}
 use Rattle.leaf_places.proofs.find.short_places.Goals as goal

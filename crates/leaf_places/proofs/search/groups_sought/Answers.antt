@@ -1,5 +1,4 @@
-use Rattle.record_dim.specs.Std.{false, refl, sym, ◌∙◌, arith}
-use Rattle.leaf_places.specs.Spots.{spot_by}
+use Rattle.leaf_places.proofs.Imports.{false, refl, sym, ◌∙◌, arith, spot_by}
 use Rattle.leaf_places.proofs.Leading.{way_of, ahead_of, leads_on, leaves_later, below_of, sought_some}
 use Rattle.leaf_places.proofs.search.groups_sought.Goals as goal
 

@@ -1,7 +1,4 @@
-use Rattle.record_dim.specs.Std.{List, map, slice_index, refl, sym, ◌∙◌, subst, arith}
-use Rattle.places.specs.Prelude.{IsLocated}
-use Rattle.places.specs.declared.piece.Piece.{Piece}
-use Rattle.places.specs.declared.piece.Hold.{Hold}
+use Rattle.leaf_places.proofs.Imports.{List, map, slice_index, refl, sym, ◌∙◌, subst, arith, IsLocated, Piece, Hold}
 use Rattle.leaf_places.proofs.Leading.{some_bits, as_many, stands_so, from_first, all_from, none_some, place_same}
 use Rattle.leaf_places.proofs.sought.stand_of.Goals as goal
 

@@ -1,6 +1,4 @@
-use Rattle.record_dim.specs.Std.{◌+◌, length, take, get_or, refl, sym, ap, ◌∙◌, arith, ℕ}
-use Rattle.places.specs.declared.piece.Piece.{Piece}
-use Rattle.piece_bits.specs.Prelude.{spots_of, spot_at, IsNext, nowhere, next_piece}
+use Rattle.leaf_places.proofs.Imports.{◌+◌, length, take, get_or, refl, sym, ap, ◌∙◌, arith, ℕ, Piece, spots_of, spot_at, IsNext, nowhere, next_piece}
 use Rattle.leaf_places.proofs.spot.spot_in.Goals as goal
 use Rattle.leaf_places.proofs.spot.spot_in.Goals.{In-loop-piece}
 

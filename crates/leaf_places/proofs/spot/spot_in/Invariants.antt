@@ -1,6 +1,5 @@
 -- the bits of the pieces so far are behind
-use Rattle.record_dim.specs.Std.{◌≡◌, ◌+◌, length, take}
-use Rattle.piece_bits.specs.Prelude.{spots_of}
+use Rattle.leaf_places.proofs.Imports.{◌≡◌, ◌+◌, length, take, spots_of}
 use Rattle.leaf_places.proofs.spot.spot_in.Given as goal
 
 abbrev pub invariant-loop-piece : goal.invariant-loop-piece

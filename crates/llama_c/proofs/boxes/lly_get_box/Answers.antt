@@ -1,6 +1,4 @@
-use Rattle.record_dim.specs.Std.{length}
-use Rattle.c_lines.specs.Prelude.{on_box, gathered, reads_signed}
-use Rattle.llama_c.proofs.Held.{numbers_given}
+use Rattle.llama_c.proofs.Lemmas.{length, on_box, gathered, reads_signed, numbers_given}
 use Rattle.llama_c.proofs.boxes.lly_get_box.Goals as goal
 
 pub returns-clause-values : goal.returns-clause-values

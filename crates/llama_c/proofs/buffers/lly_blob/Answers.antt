@@ -1,6 +1,4 @@
-use Rattle.record_dim.specs.Std.{rules, Option, ap, ◌∙◌, SFits, w32, to_z-of_z}
-use Rattle.views.specs.Prelude.{Table}
-use Rattle.c_lines.specs.Prelude.{code_of, on_held, blob_told, buffer_after, needed_after, put_told}
+use Rattle.llama_c.proofs.Imports.{rules, Option, ap, ◌∙◌, SFits, w32, to_z-of_z, Table, code_of, on_held, blob_told, buffer_after, needed_after, put_told}
 use Rattle.llama_c.proofs.buffers.lly_blob.Goals as goal
 
 pub returns-clause-answer : goal.returns-clause-answer

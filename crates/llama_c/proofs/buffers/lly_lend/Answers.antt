@@ -1,6 +1,4 @@
-use Rattle.record_dim.specs.Std.{rules, Option, Ok, ap, subst, ◌∙◌, SFits, w32, IfSome, to_z-of_z}
-use Rattle.views.specs.Prelude.{Table}
-use Rattle.c_lines.specs.Prelude.{code_of, on_held, buffer_after, lent, needed_after, put_told, ReturnsSame}
+use Rattle.llama_c.proofs.Imports.{rules, Option, Ok, ap, subst, ◌∙◌, SFits, w32, IfSome, to_z-of_z, Table, code_of, on_held, buffer_after, lent, needed_after, put_told, ReturnsSame}
 use Rattle.llama_c.proofs.buffers.lly_lend.Goals as goal
 
 pub returns-clause-answer : goal.returns-clause-answer

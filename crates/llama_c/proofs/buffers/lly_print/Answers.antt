@@ -1,6 +1,4 @@
-use Rattle.record_dim.specs.Std.{rules, Ok, ◌∙◌, SFits, w32, to_z-of_z}
-use Rattle.c_lines.specs.Prelude.{printed}
-use Rattle.llama_c.proofs.Held.{none_put}
+use Rattle.llama_c.proofs.Lemmas.{rules, Ok, ◌∙◌, SFits, w32, to_z-of_z, printed, none_put}
 use Rattle.llama_c.proofs.buffers.lly_print.Goals as goal
 
 pub returns-in_default-clause-put : goal.returns-in_default-clause-put

@@ -1,6 +1,4 @@
-use Rattle.record_dim.specs.Std.{rules, ◌∙◌, SFits, w32, to_z-of_z}
-use Rattle.c_lines.specs.Prelude.{file_told}
-use Rattle.llama_c.proofs.Held.{none_put}
+use Rattle.llama_c.proofs.Lemmas.{rules, ◌∙◌, SFits, w32, to_z-of_z, file_told, none_put}
 use Rattle.llama_c.proofs.buffers.lly_save.Goals as goal
 
 pub returns-in_default-clause-put : goal.returns-in_default-clause-put

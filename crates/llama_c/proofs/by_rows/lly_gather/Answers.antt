@@ -1,6 +1,4 @@
-use Rattle.record_dim.specs.Std.{length}
-use Rattle.c_lines.specs.Prelude.{gathered, reads_signed}
-use Rattle.llama_c.proofs.Held.{numbers_given}
+use Rattle.llama_c.proofs.Lemmas.{length, gathered, reads_signed, numbers_given}
 use Rattle.llama_c.proofs.by_rows.lly_gather.Goals as goal
 
 pub returns-clause-values : goal.returns-clause-values

@@ -1,6 +1,4 @@
-use Rattle.record_dim.specs.Std.{rules, ◌∙◌, SFits, w32, to_z-of_z}
-use Rattle.c_lines.specs.Prelude.{is_do}
-use Rattle.llama_c.proofs.Held.{none_line}
+use Rattle.llama_c.proofs.Lemmas.{rules, ◌∙◌, SFits, w32, to_z-of_z, is_do, none_line}
 use Rattle.llama_c.proofs.lines.lly_do.Goals as goal
 
 pub returns-in_default : goal.returns-in_default

@@ -1,6 +1,4 @@
-use Rattle.record_dim.specs.Std.{IfSome, Option, subst, Contains}
-use Rattle.record_dim.specs.Prelude.{texts_of}
-use Rattle.views.specs.Prelude.{Table}
+use Rattle.llama_c.proofs.Imports.{IfSome, Option, subst, Contains, texts_of, Table}
 use Rattle.llama_c.proofs.measures.lly_leaf.Goals as goal
 
 pub returns-in-Err-clause-none : goal.returns-in-Err-clause-none

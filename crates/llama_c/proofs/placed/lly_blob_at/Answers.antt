@@ -1,6 +1,5 @@
 use Rattle.record_dim.specs.Std.{◌≡◌, ℕ, List, Option, Ok, Err, length, ap, subst}
-use Rattle.views.specs.Prelude.{Table}
-use Rattle.c_lines.specs.Prelude.{Answer, answer_map, given_or, on_held, blob_told, needed_after}
+use Rattle.llama_c.proofs.Imports.{Table, Answer, answer_map, given_or, on_held, blob_told, needed_after}
 use Rattle.llama_c.proofs.placed.lly_blob_at.Goals as goal
 
 told_length : (told : Answer (List ℕ)) (n old : ℕ) → Ok n ≡ answer_map (length {A = ℕ}) told → n ≡ needed_after told old

@@ -1,8 +1,4 @@
-use Rattle.record_dim.specs.Std.{Ok, Err, Option, refl, subst, ◌∙◌, rules, SFits, w32, to_z-of_z}
-use Rattle.views.specs.Prelude.{Table}
-use Rattle.c_lines.specs.Prelude.{TellsPlaces}
-use Rattle.c_lines.specs.declared.refusal.Refusal.TheVariants.{NoView}
-use Rattle.llama_c.specs.Calls.{TellsPlacesOf}
+use Rattle.llama_c.proofs.Imports.{Ok, Err, Option, refl, subst, ◌∙◌, rules, SFits, w32, to_z-of_z, Table, TellsPlaces, NoView, TellsPlacesOf}
 use Rattle.llama_c.proofs.placed.lly_place.Goals as goal
 
 pub returns-in_default-clause-placed : goal.returns-in_default-clause-placed

@@ -1,6 +1,4 @@
-use Rattle.record_dim.specs.Std.{rules, ◌∙◌, SFits, w32, to_z-of_z}
-use Rattle.c_lines.specs.Prelude.{after_relaid, relaid, done_of}
-use Rattle.llama_c.proofs.Held.{none_done}
+use Rattle.llama_c.proofs.Lemmas.{rules, ◌∙◌, SFits, w32, to_z-of_z, after_relaid, relaid, done_of, none_done}
 use Rattle.llama_c.proofs.tables.lly_relayout.Goals as goal
 
 pub returns-in_default : goal.returns-in_default

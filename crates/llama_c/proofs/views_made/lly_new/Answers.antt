@@ -1,6 +1,4 @@
-use Rattle.record_dim.specs.Std.{rules, SFits, w32, to_z-of_z}
-use Rattle.c_lines.specs.Prelude.{described}
-use Rattle.llama_c.proofs.Held.{made_told}
+use Rattle.llama_c.proofs.Lemmas.{rules, SFits, w32, to_z-of_z, described, made_told}
 use Rattle.llama_c.proofs.views_made.lly_new.Goals as goal
 
 pub returns : goal.returns

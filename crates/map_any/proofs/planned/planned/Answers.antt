@@ -1,7 +1,5 @@
-use Rattle.map_any.proofs.Imports.{term_of, good_numbers, common_steps}
-use Rattle.map_any.proofs.Built.{accepted_numbers, built_nameless}
+use Rattle.map_any.proofs.Lemmas.{term_of, good_numbers, common_steps, arith, accepted_numbers, built_nameless}
 use Rattle.map_any.proofs.planned.planned.Goals as goal
-use Rattle.std.proofs.Common.{arith}
 
 pub check-requires : goal.check-requires
 check-requires c = record { nameless = built_nameless (term_of c.args.expr.now) c.requires.built }

@@ -1,5 +1,4 @@
-use Rattle.map_any.proofs.Imports.{get_or, append_assoc, arith, drop_more, common_steps}
-use Rattle.map_any.proofs.RunLaws.{run_longer, run_ends}
+use Rattle.map_any.proofs.Lemmas.{get_or, append_assoc, arith, drop_more, common_steps, run_longer, run_ends}
 use Rattle.map_any.proofs.runs.join_bits.Goals as goal
 use Rattle.map_any.proofs.runs.join_bits.Goals.{then-is_next, else-is_next+in_ok-push}
 

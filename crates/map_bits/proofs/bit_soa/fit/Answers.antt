@@ -1,5 +1,4 @@
-use Rattle.map_bits.proofs.Imports.{◌+◌, arith, widths_in}
-use Rattle.map_bits.proofs.Arrays.{bits_next, bits_below}
+use Rattle.map_bits.proofs.Lemmas.{◌+◌, arith, widths_in, bits_next, bits_below}
 use Rattle.map_bits.proofs.bit_soa.fit.Goals as goal
 
 pub returns-then-bits-gt-MAX_BLOB_BITS : goal.returns-then-bits-gt-MAX_BLOB_BITS

@@ -1,5 +1,4 @@
-use Rattle.map_bits.proofs.Imports.{◌+◌, ◌<◌, length, arith, widths_in}
-use Rattle.map_bits.proofs.Slots.{end_next, end_below, begins_more}
+use Rattle.map_bits.proofs.Lemmas.{◌+◌, ◌<◌, length, arith, widths_in, end_next, end_below, begins_more}
 use Rattle.map_bits.proofs.part.lay_out.Goals as goal
 
 pub returns-then-end-gt-MAX_BLOB_BITS-clause-too_big :

@@ -1,7 +1,4 @@
-use Rattle.map_checks.proofs.Imports.{◌≡◌, ◌+◌, ◌%◌, ◌^◌, ◌<◌, ◌≤◌, ℕ, ◌∷◌, [], ◌∙◌, List, length, map, replicate, slice_index, sym, ap, subst, arith, length-append, length-map, map_push, replicate_more, All-cons, All-nil, sum_by-cons, row_at, PieceRule, Owner, in_rows, Cell, Hold, Rule, IsArray, IsRuleOf, each_push}
-use Rattle.map_checks.proofs.RuleLaws.{rule_by_rows}
-use Rattle.map_checks.proofs.OrderLaws.{map_constant}
-use Rattle.map_checks.proofs.ArrayLaws.{array_rule}
+use Rattle.map_checks.proofs.Lemmas.{◌≡◌, ◌+◌, ◌%◌, ◌^◌, ◌<◌, ◌≤◌, ℕ, ◌∷◌, [], ◌∙◌, List, length, map, replicate, slice_index, sym, ap, subst, arith, length-append, length-map, map_push, replicate_more, All-cons, All-nil, sum_by-cons, row_at, PieceRule, Owner, in_rows, Cell, Hold, Rule, IsArray, IsRuleOf, each_push, rule_by_rows, map_constant, array_rule}
 use Rattle.map_checks.proofs.base_plan.rules_of.Goals as goal
 
 pub loop-cell-preserved : goal.loop-cell-preserved

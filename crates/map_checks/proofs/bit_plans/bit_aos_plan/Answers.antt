@@ -1,6 +1,4 @@
-use Rattle.map_checks.proofs.Imports.{◌≡◌, ℕ, List, ap, ◌∙◌, subst, Err, Owner, bit_aos, widths_in, narrow_holds, IsTooBig, Cell, schema_fields, cell_widths}
-use Rattle.map_checks.proofs.Faults.{too_big_of}
-use Rattle.map_checks.proofs.Limits.{over}
+use Rattle.map_checks.proofs.Lemmas.{◌≡◌, ℕ, List, ap, ◌∙◌, subst, Err, Owner, bit_aos, widths_in, narrow_holds, IsTooBig, Cell, schema_fields, cell_widths, too_big_of, over}
 use Rattle.map_checks.proofs.bit_plans.bit_aos_plan.Goals as goal
 
 abbrev bits : List Cell → ℕ → List ℕ → List (List Owner)

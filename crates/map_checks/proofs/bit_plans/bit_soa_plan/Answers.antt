@@ -1,7 +1,4 @@
-use Rattle.map_checks.proofs.Imports.{◌≡◌, ℕ, List, sym, ap, ◌∙◌, subst, Err, Owner, bit_soa, widths_in, narrow_holds, IsTooBig, Cell, schema_fields, cell_widths}
-use Rattle.map_checks.proofs.Faults.{too_big_of}
-use Rattle.map_checks.proofs.Limits.{over}
-use Rattle.map_checks.proofs.PlanLaws.{base_planned}
+use Rattle.map_checks.proofs.Lemmas.{◌≡◌, ℕ, List, sym, ap, ◌∙◌, subst, Err, Owner, bit_soa, widths_in, narrow_holds, IsTooBig, Cell, schema_fields, cell_widths, too_big_of, over, base_planned}
 use Rattle.map_checks.proofs.bit_plans.bit_soa_plan.Goals as goal
 
 abbrev bits : List Cell → ℕ → List ℕ → List (List Owner)

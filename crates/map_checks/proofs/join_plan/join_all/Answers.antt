@@ -1,5 +1,4 @@
-use Rattle.map_checks.proofs.Imports.{◌≡◌, ◌+◌, ◌<◌, ◌≤◌, List, length, take, arith, rules, length-append, Cell, byte_count, each_push, common_steps}
-use Rattle.map_checks.proofs.JoinRuleLaws.{next_is, within, slice_is}
+use Rattle.map_checks.proofs.Lemmas.{◌≡◌, ◌+◌, ◌<◌, ◌≤◌, List, length, take, arith, rules, length-append, Cell, byte_count, each_push, common_steps, next_is, within, slice_is}
 use Rattle.map_checks.proofs.join_plan.join_all.Goals as goal
 
 pub overflow_add-next : goal.overflow_add-next

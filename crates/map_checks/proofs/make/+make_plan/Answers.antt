@@ -1,10 +1,4 @@
-use Rattle.map_checks.proofs.Imports.{◌≡◌, ◌∙◌, ℕ, List, Bool, Err, map, length, sym, ap, subst, Fields, schema_fields, slot_count, Cell, aosoa, aos_layout, soa_layout, Term, term_of, MapExpr, IsTooBigFor, orders_of, IsPlanOf, Rule, common_steps, arith}
-use Rattle.map_checks.proofs.ArrayLaws.{base_arrays}
-use Rattle.map_checks.proofs.OrderLaws.{planned_orders}
-use Rattle.map_checks.proofs.BytePlanLaws.{swap_bytes, swap_planned, join_planned}
-use Rattle.map_checks.proofs.Faults.{too_big_of, handed_on}
-use Rattle.map_checks.proofs.Limits.{over}
-use Rattle.map_checks.proofs.PlanLaws.{base_planned, over_under, over_beside, holds_first, rules_first, rules_rest, over_all, planned}
+use Rattle.map_checks.proofs.Lemmas.{◌≡◌, ◌∙◌, ℕ, List, Bool, Err, map, length, sym, ap, subst, Fields, schema_fields, slot_count, Cell, aosoa, aos_layout, soa_layout, Term, term_of, MapExpr, IsTooBigFor, orders_of, IsPlanOf, Rule, common_steps, arith, base_arrays, planned_orders, swap_bytes, swap_planned, join_planned, too_big_of, handed_on, over, base_planned, over_under, over_beside, holds_first, rules_first, rules_rest, over_all, planned}
 use Rattle.map_checks.proofs.make.+make_plan.Goals as goal
 
 pub returns-in_err-mapping-in-Soa-clause-too_big : goal.returns-in_err-mapping-in-Soa-clause-too_big

@@ -1,5 +1,4 @@
-use Rattle.map_checks.proofs.Imports.{◌≡◌, ◌+◌, ◌<◌, ◌∙◌, ◌∷◌, [], ◌++◌, ℕ, Bool, true, false, List, length, get_or, sym, ap, arith, length-append, not, count_by, count_by_more_yes, count_by_more_no, Rule, rank_first, rank_rest, rank_first_in, rank_rest_in}
-use Rattle.map_checks.proofs.SplitRules.{more_first, more_rest}
+use Rattle.map_checks.proofs.Lemmas.{◌≡◌, ◌+◌, ◌<◌, ◌∙◌, ◌∷◌, [], ◌++◌, ℕ, Bool, true, false, List, length, get_or, sym, ap, arith, length-append, not, count_by, count_by_more_yes, count_by_more_no, Rule, rank_first, rank_rest, rank_first_in, rank_rest_in, more_first, more_rest}
 use Rattle.map_checks.proofs.split_rules.split_rules.Goals as goal
 use Rattle.map_checks.proofs.split_rules.split_rules.Goals.{then-is_first+in_ok-push, else-is_first+in_ok-push-2}
 

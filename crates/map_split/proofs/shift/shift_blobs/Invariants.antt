@@ -1,6 +1,5 @@
 -- the pieces so far
-use Rattle.record_dim.specs.Std.{◌≡◌, map, take}
-use Rattle.places.specs.Prelude.{shifted}
+use Rattle.map_split.proofs.Imports.{◌≡◌, map, take, shifted}
 use Rattle.map_split.proofs.shift.shift_blobs.Given as goal
 
 abbrev pub invariant-loop-piece : goal.invariant-loop-piece

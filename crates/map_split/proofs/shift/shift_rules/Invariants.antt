@@ -1,6 +1,5 @@
 -- the rules so far
-use Rattle.record_dim.specs.Std.{◌≡◌, map, take}
-use Rattle.map_split.specs.Inner.Shifts.{shifted_rule}
+use Rattle.map_split.proofs.Imports.{◌≡◌, map, take, shifted_rule}
 use Rattle.map_split.proofs.shift.shift_rules.Given as goal
 
 abbrev pub invariant-loop-rule : goal.invariant-loop-rule

@@ -1,5 +1,4 @@
-use Rattle.piece_bits.proofs.Imports.{bit_xor, arith, common_steps}
-use Rattle.piece_bits.proofs.FieldValues.{moved_field, xored_half}
+use Rattle.piece_bits.proofs.Lemmas.{bit_xor, arith, common_steps, moved_field, xored_half}
 use Rattle.piece_bits.proofs.field.moved_back.Goals as goal
 
 pub returns : goal.returns

@@ -1,5 +1,4 @@
-use Rattle.piece_bits.proofs.Imports.{◌≡◌, ℕ, ◌+◌, List, ◌∷◌, drop, drop-cons, subst, arith, drop_all, PieceRule, Carries}
-use Rattle.piece_bits.proofs.Together.{rules_join}
+use Rattle.piece_bits.proofs.Lemmas.{◌≡◌, ℕ, ◌+◌, List, ◌∷◌, drop, drop-cons, subst, arith, drop_all, PieceRule, Carries, rules_join}
 use Rattle.piece_bits.proofs.join.joined.Goals as goal
 
 pub loop-next-preserved : goal.loop-next-preserved

@@ -1,5 +1,4 @@
-use Rattle.piece_bits.proofs.Imports.{◌≡◌, ◌≤◌, ◌*◌, ◌%◌, ◌^◌, ℕ, negsuc, arith, to_z, of_z, nat_abs, to_z-of_z, pow_mono, common_steps}
-use Rattle.piece_bits.proofs.Remainders.{low_of, above_of}
+use Rattle.piece_bits.proofs.Lemmas.{◌≡◌, ◌≤◌, ◌*◌, ◌%◌, ◌^◌, ℕ, negsuc, arith, to_z, of_z, nat_abs, to_z-of_z, pow_mono, common_steps, low_of, above_of}
 use Rattle.piece_bits.proofs.low.low_part.Goals as goal
 
 -- so many numbers fit

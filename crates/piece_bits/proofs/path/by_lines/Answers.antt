@@ -1,5 +1,4 @@
-use Rattle.piece_bits.proofs.Imports.{◌≡◌, ℕ, List, [], ◌∷◌, sym, subst, IsRowPath, Walk, arith}
-use Rattle.piece_bits.proofs.Ways.{list_of_two, column_path, digit_path}
+use Rattle.piece_bits.proofs.Lemmas.{◌≡◌, ℕ, List, [], ◌∷◌, sym, subst, IsRowPath, Walk, arith, list_of_two, column_path, digit_path}
 use Rattle.piece_bits.proofs.path.by_lines.Goals as goal
 use Rattle.piece_bits.proofs.path.by_lines.Goals.{After-of, in-Morton, in_default}
 

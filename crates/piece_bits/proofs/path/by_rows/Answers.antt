@@ -1,5 +1,4 @@
-use Rattle.piece_bits.proofs.Imports.{sym, subst, IsRowPath, Walk}
-use Rattle.piece_bits.proofs.Ways.{plain_path, block_path}
+use Rattle.piece_bits.proofs.Lemmas.{sym, subst, IsRowPath, Walk, plain_path, block_path}
 use Rattle.piece_bits.proofs.path.by_rows.Goals as goal
 use Rattle.piece_bits.proofs.path.by_rows.Goals.{then-power-eq0, else-power-eq0}
 

@@ -1,5 +1,4 @@
-use Rattle.piece_bits.proofs.Imports.{ap, ◌∙◌, arith, int_min, int_max}
-use Rattle.piece_bits.proofs.InPlace.{mapped}
+use Rattle.piece_bits.proofs.Lemmas.{ap, ◌∙◌, arith, int_min, int_max, mapped}
 use Rattle.piece_bits.proofs.plain.clamp.Goals as goal
 
 pub loop-value-preserved : goal.loop-value-preserved

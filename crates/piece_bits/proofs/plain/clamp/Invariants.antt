@@ -1,5 +1,4 @@
-use Rattle.piece_bits.proofs.Imports.{map, int_min, int_max}
-use Rattle.piece_bits.proofs.InPlace.{IsReplaced}
+use Rattle.piece_bits.proofs.Lemmas.{map, int_min, int_max, IsReplaced}
 use Rattle.piece_bits.proofs.plain.clamp.Given as goal
 
 abbrev pub invariant-loop-value : goal.invariant-loop-value

@@ -1,5 +1,4 @@
-use Rattle.piece_bits.proofs.Imports.{◌≡◌, ◌+ℤ◌, ◌*ℤ◌, get_or, ◌∙◌, arith}
-use Rattle.piece_bits.proofs.InPlace.{beside}
+use Rattle.piece_bits.proofs.Lemmas.{◌≡◌, ◌+ℤ◌, ◌*ℤ◌, get_or, ◌∙◌, arith, beside}
 use Rattle.piece_bits.proofs.plain.times_plus.Goals as goal
 
 pub multiple_plus-requires : goal.multiple_plus-requires

@@ -1,5 +1,4 @@
-use Rattle.piece_bits.proofs.Imports.{◌+ℤ◌, ◌*ℤ◌, zip2}
-use Rattle.piece_bits.proofs.InPlace.{IsReplaced}
+use Rattle.piece_bits.proofs.Lemmas.{◌+ℤ◌, ◌*ℤ◌, zip2, IsReplaced}
 use Rattle.piece_bits.proofs.plain.times_plus.Given as goal
 
 abbrev pub invariant-loop-at : goal.invariant-loop-at

@@ -1,5 +1,4 @@
-use Rattle.piece_bits.proofs.Imports.{◌≡◌, ◌+◌, ◌*◌, get_or, pos, rules, FitsSigned, w64, arith, to_z-of_z}
-use Rattle.piece_bits.proofs.Puts.{even_place, put_more}
+use Rattle.piece_bits.proofs.Lemmas.{◌≡◌, ◌+◌, ◌*◌, get_or, pos, rules, FitsSigned, w64, arith, to_z-of_z, even_place, put_more}
 use Rattle.piece_bits.proofs.put.put_eights.Goals as goal
 
 pub overflow_mul-j : goal.overflow_mul-j

@@ -1,5 +1,4 @@
-use Rattle.piece_bits.proofs.Imports.{arith, to_z-of_z}
-use Rattle.piece_bits.proofs.Puts.{put_more}
+use Rattle.piece_bits.proofs.Lemmas.{arith, to_z-of_z, put_more}
 use Rattle.piece_bits.proofs.put.put_stretch.Goals as goal
 
 pub loop-k-preserved : goal.loop-k-preserved

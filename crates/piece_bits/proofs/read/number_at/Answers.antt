@@ -1,5 +1,4 @@
-use Rattle.piece_bits.proofs.Imports.{◌∙◌, sym, subst, rules, SFits, w128, to_z-of_z, IsWithin64}
-use Rattle.piece_bits.proofs.Numbers.{number_within}
+use Rattle.piece_bits.proofs.Lemmas.{◌∙◌, sym, subst, rules, SFits, w128, to_z-of_z, IsWithin64, number_within}
 use Rattle.piece_bits.proofs.read.number_at.Goals as goal
 
 pub low_of-requires : goal.low_of-requires

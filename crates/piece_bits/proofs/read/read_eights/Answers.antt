@@ -1,6 +1,4 @@
-use Rattle.piece_bits.proofs.Imports.{◌<◌, ◌+◌, ◌*◌, length, get_or, pos, arith, to_z-of_z}
-use Rattle.piece_bits.proofs.Numbers.{one_of_eight, same_number}
-use Rattle.piece_bits.proofs.Puts.{even_place, room_at}
+use Rattle.piece_bits.proofs.Lemmas.{◌<◌, ◌+◌, ◌*◌, length, get_or, pos, arith, to_z-of_z, one_of_eight, same_number, even_place, room_at}
 use Rattle.piece_bits.proofs.read.read_eights.Goals as goal
 
 pub eight_at-numbers-requires-clause-fits : goal.eight_at-numbers-requires-clause-fits

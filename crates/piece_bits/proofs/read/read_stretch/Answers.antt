@@ -1,5 +1,4 @@
-use Rattle.piece_bits.proofs.Imports.{◌∙◌, refl, rules, FitsSigned, w64, arith, to_z-of_z}
-use Rattle.piece_bits.proofs.Numbers.{one_more, same_number}
+use Rattle.piece_bits.proofs.Lemmas.{◌∙◌, refl, rules, FitsSigned, w64, arith, to_z-of_z, one_more, same_number}
 use Rattle.piece_bits.proofs.read.read_stretch.Goals as goal
 
 pub loop-k-preserved : goal.loop-k-preserved

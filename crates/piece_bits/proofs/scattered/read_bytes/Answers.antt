@@ -1,5 +1,4 @@
-use Rattle.piece_bits.proofs.Imports.{◌+◌, ◌*◌, ◌/◌, ◌%◌, ◌^◌, ◌≡◌, ◌<◌, ℕ, List, [], length, get_or, ap, ◌∙◌, arith, get_or_read, bit_at-lt, number, bit_of, bit_in, byte_of, scattered_pieces, spots_of, bit_at_spot, IsNext, read_next}
-use Rattle.piece_bits.proofs.PieceBytes.{byte_next, byte_within, byte_bound}
+use Rattle.piece_bits.proofs.Lemmas.{◌+◌, ◌*◌, ◌/◌, ◌%◌, ◌^◌, ◌≡◌, ◌<◌, ℕ, List, [], length, get_or, ap, ◌∙◌, arith, get_or_read, bit_at-lt, number, bit_of, bit_in, byte_of, scattered_pieces, spots_of, bit_at_spot, IsNext, read_next, byte_next, byte_within, byte_bound}
 use Rattle.piece_bits.proofs.scattered.read_bytes.Goals as goal
 
 pub bounds-blobs-rule : goal.bounds-blobs-rule

@@ -1,5 +1,4 @@
-use Rattle.piece_bits.proofs.Imports.{◌≡◌, ◌+◌, ◌/◌, ◌^◌, ◌<◌, ◌∙◌, ℕ, List, [], get_or, length, ap, arith, common_steps, get_or_default, bit_of, byte_of, scattered_pieces, spots_of, IsWithin, IsNext, AreWritten, within_same, write_next}
-use Rattle.piece_bits.proofs.PieceBytes.{byte_next, byte_within, byte_bound}
+use Rattle.piece_bits.proofs.Lemmas.{◌≡◌, ◌+◌, ◌/◌, ◌^◌, ◌<◌, ◌∙◌, ℕ, List, [], get_or, length, ap, arith, common_steps, get_or_default, bit_of, byte_of, scattered_pieces, spots_of, IsWithin, IsNext, AreWritten, within_same, write_next, byte_next, byte_within, byte_bound}
 use Rattle.piece_bits.proofs.scattered.write_bytes.Goals as goal
 use Rattle.piece_bits.proofs.scattered.write_bytes.Goals.{After-bits_in_word-byte}
 

@@ -1,5 +1,4 @@
-use Rattle.piece_bits.proofs.Imports.{refl}
-use Rattle.piece_bits.proofs.AlongLaws.{short_of}
+use Rattle.piece_bits.proofs.Lemmas.{refl, short_of}
 use Rattle.piece_bits.proofs.shorten.shortened.Goals as goal
 
 pub along-requires-clause-low : goal.along-requires-clause-low

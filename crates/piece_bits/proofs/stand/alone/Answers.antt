@@ -1,5 +1,4 @@
-use Rattle.piece_bits.proofs.Imports.{◌≡◌, arith, IfSome_then}
-use Rattle.piece_bits.proofs.StandLaws.{field_stand, field_together}
+use Rattle.piece_bits.proofs.Lemmas.{◌≡◌, arith, IfSome_then, field_stand, field_together}
 use Rattle.piece_bits.proofs.stand.alone.Goals as goal
 
 pub returns-in-None : goal.returns-in-None

@@ -1,5 +1,4 @@
-use Rattle.piece_bits.proofs.Imports.{refl, sym, slice_get_within}
-use Rattle.piece_bits.proofs.StandLaws.{scattered_stand}
+use Rattle.piece_bits.proofs.Lemmas.{refl, sym, slice_get_within, scattered_stand}
 use Rattle.piece_bits.proofs.stand.scattered.Goals as goal
 
 pub returns : goal.returns

@@ -1,5 +1,4 @@
-use Rattle.piece_bits.proofs.Imports.{IfSome_then}
-use Rattle.piece_bits.proofs.StandLaws.{carried_stand}
+use Rattle.piece_bits.proofs.Lemmas.{IfSome_then, carried_stand}
 use Rattle.piece_bits.proofs.stand.stand_of.Goals as goal
 
 pub returns-in-Some : goal.returns-in-Some

@@ -1,5 +1,4 @@
-use Rattle.piece_bits.proofs.Imports.{refl, arith, IfSome_then}
-use Rattle.piece_bits.proofs.StandLaws.{turned_stand}
+use Rattle.piece_bits.proofs.Lemmas.{refl, arith, IfSome_then, turned_stand}
 use Rattle.piece_bits.proofs.stand.turned.Goals as goal
 
 pub returns : goal.returns

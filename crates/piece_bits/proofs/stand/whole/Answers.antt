@@ -1,5 +1,4 @@
-use Rattle.piece_bits.proofs.Imports.{IfSome_then}
-use Rattle.piece_bits.proofs.StandLaws.{whole_stand, whole_together}
+use Rattle.piece_bits.proofs.Lemmas.{IfSome_then, whole_stand, whole_together}
 use Rattle.piece_bits.proofs.stand.whole.Goals as goal
 
 pub returns : goal.returns

@@ -1,5 +1,4 @@
-use Rattle.piece_bits.proofs.Imports.{arith, ints, ones_of}
-use Rattle.piece_bits.proofs.Values.{encoded}
+use Rattle.piece_bits.proofs.Lemmas.{arith, ints, ones_of, encoded}
 use Rattle.piece_bits.proofs.value.encode.Goals as goal
 
 pub returns-then-value-ge0 : goal.returns-then-value-ge0

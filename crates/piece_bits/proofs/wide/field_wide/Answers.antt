@@ -1,5 +1,4 @@
-use Rattle.piece_bits.proofs.Imports.{ℕ, ◌/◌, ◌%◌, ap, ◌∙◌, arith, rules, w128, to_z-of_z, decoded, byte_and_bit}
-use Rattle.piece_bits.proofs.WideLaws.{low_field}
+use Rattle.piece_bits.proofs.Lemmas.{ℕ, ◌/◌, ◌%◌, ap, ◌∙◌, arith, rules, w128, to_z-of_z, decoded, byte_and_bit, low_field}
 use Rattle.piece_bits.proofs.wide.field_wide.Goals as goal
 
 pub returns : goal.returns

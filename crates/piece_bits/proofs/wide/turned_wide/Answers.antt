@@ -1,5 +1,4 @@
-use Rattle.piece_bits.proofs.Imports.{ℕ, ap, ◌∙◌, rules, w128, to_z-of_z, decoded}
-use Rattle.piece_bits.proofs.WideLaws.{high_fits, high_bytes}
+use Rattle.piece_bits.proofs.Lemmas.{ℕ, ap, ◌∙◌, rules, w128, to_z-of_z, decoded, high_fits, high_bytes}
 use Rattle.piece_bits.proofs.wide.turned_wide.Goals as goal
 
 pub moved_back-requires-clause-small : goal.moved_back-requires-clause-small

@@ -1,5 +1,4 @@
-use Rattle.piece_bits.proofs.Imports.{ℕ, ap, ◌∙◌, rules, w128, to_z-of_z, decoded}
-use Rattle.piece_bits.proofs.WideLaws.{low_bytes}
+use Rattle.piece_bits.proofs.Lemmas.{ℕ, ap, ◌∙◌, rules, w128, to_z-of_z, decoded, low_bytes}
 use Rattle.piece_bits.proofs.wide.whole_wide.Goals as goal
 
 pub returns : goal.returns

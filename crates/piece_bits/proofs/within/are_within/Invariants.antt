@@ -1,5 +1,4 @@
-use Rattle.piece_bits.proofs.Imports.{ℕ, ◌<◌, get_or, pos}
-use Rattle.piece_bits.proofs.Distances.{IsNoFarther}
+use Rattle.piece_bits.proofs.Lemmas.{ℕ, ◌<◌, get_or, pos, IsNoFarther}
 use Rattle.piece_bits.proofs.within.are_within.Given as goal
 
 abbrev pub invariant-loop-value : goal.invariant-loop-value

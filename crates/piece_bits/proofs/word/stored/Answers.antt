@@ -1,5 +1,4 @@
-use Rattle.piece_bits.proofs.Imports.{◌≡◌, ◌∙◌, ℕ, ap, bit_at, to_z-of_z, number, digit, number_lt, digit_lt, common_steps, arith}
-use Rattle.piece_bits.proofs.Wholes.{whole_some, whole_few}
+use Rattle.piece_bits.proofs.Lemmas.{◌≡◌, ◌∙◌, ℕ, ap, bit_at, to_z-of_z, number, digit, number_lt, digit_lt, common_steps, arith, whole_some, whole_few}
 use Rattle.piece_bits.proofs.word.stored.Goals as goal
 use Rattle.piece_bits.proofs.word.stored.Goals.{After-encode}
 

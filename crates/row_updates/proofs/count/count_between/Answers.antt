@@ -1,6 +1,4 @@
-use Rattle.row_updates.proofs.Imports.{rules, arith, ◌≡◌, ◌<◌, ◌+◌, ◌∙◌, Err, length, ℕ, ap, sym, refl, subst, bound_term, Table, IsCounted}
-use Rattle.row_updates.proofs.Indexed.{index_read}
-use Rattle.row_updates.proofs.Rows.{row_counted, count_ended, one_at_most}
+use Rattle.row_updates.proofs.Lemmas.{rules, arith, ◌≡◌, ◌<◌, ◌+◌, ◌∙◌, Err, length, ℕ, ap, sym, refl, subst, bound_term, Table, IsCounted, index_read, row_counted, count_ended, one_at_most}
 use Rattle.row_updates.proofs.count.count_between.Goals as goal
 
 pub loop-row-init : goal.loop-row-init

@@ -1,5 +1,4 @@
-use Rattle.row_updates.proofs.Imports.{rules, ◌≡◌, ◌∙◌, ◌+◌, ◌-◌, ℕ, count_by, length, sym, ap, subst, arith, bound_term, Term, Table, AreWorth, IsCounted, row_test}
-use Rattle.row_updates.proofs.RunTests.{tested, run_counted}
+use Rattle.row_updates.proofs.Lemmas.{rules, ◌≡◌, ◌∙◌, ◌+◌, ◌-◌, ℕ, count_by, length, sym, ap, subst, arith, bound_term, Term, Table, AreWorth, IsCounted, row_test, tested, run_counted}
 use Rattle.row_updates.proofs.count.count_next.Goals as goal
 
 pub returns-then-chain_run-clause-done : goal.returns-then-chain_run-clause-done

@@ -1,5 +1,4 @@
-use Rattle.row_updates.proofs.Imports.{◌≡◌, ◌∙◌, ℕ, List, length, sym, ap, bound_term, indices}
-use Rattle.row_updates.proofs.Rows.{none_rows, from_none, whole_count}
+use Rattle.row_updates.proofs.Lemmas.{◌≡◌, ◌∙◌, ℕ, List, length, sym, ap, bound_term, indices, none_rows, from_none, whole_count}
 use Rattle.row_updates.proofs.count.count_where.Goals as goal
 
 pub returns : goal.returns

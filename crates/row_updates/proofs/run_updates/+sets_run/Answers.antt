@@ -1,6 +1,4 @@
-use Rattle.row_updates.proofs.Imports.{rules, ◌≡◌, ◌-◌, ◌<◌, ℕ, List, length, map, take, get_or, pos, sym, subst, arith, All-get_or, bound_term, IsSafe, column_writes, raised, raised_same, Table, leaf_type_of, Assign, Setting, setting_of, IsSetOf, IsRunUpdated, IsStill, lane_test}
-use Rattle.row_updates.proofs.RunRows.{stored_still}
-use Rattle.row_updates.proofs.RunSets.{last_stored, all_settings}
+use Rattle.row_updates.proofs.Lemmas.{rules, ◌≡◌, ◌-◌, ◌<◌, ℕ, List, length, map, take, get_or, pos, sym, subst, arith, All-get_or, bound_term, IsSafe, column_writes, raised, raised_same, Table, leaf_type_of, Assign, Setting, setting_of, IsSetOf, IsRunUpdated, IsStill, lane_test, stored_still, last_stored, all_settings}
 use Rattle.row_updates.proofs.run_updates.+sets_run.Goals as goal
 
 pub returns-clause-still : goal.returns-clause-still

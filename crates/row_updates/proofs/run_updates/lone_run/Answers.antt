@@ -1,6 +1,4 @@
-use Rattle.row_updates.proofs.Imports.{rules, ◌≡◌, ◌∙◌, ℕ, ◌∷◌, [], length, sym, ap, subst, first_lane_fault, stored_count, answer_of, setting_of, IsRunUpdated, lane_test}
-use Rattle.row_updates.proofs.RunSets.{lone_stored}
-use Rattle.row_updates.proofs.Taken.{told_none, told_some}
+use Rattle.row_updates.proofs.Lemmas.{rules, ◌≡◌, ◌∙◌, ℕ, ◌∷◌, [], length, sym, ap, subst, first_lane_fault, stored_count, answer_of, setting_of, IsRunUpdated, lane_test, lone_stored, told_none, told_some}
 use Rattle.row_updates.proofs.run_updates.lone_run.Goals as goal
 
 pub returns-in-Ok-clause-updated : goal.returns-in-Ok-clause-updated

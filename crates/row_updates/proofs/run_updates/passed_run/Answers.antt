@@ -1,6 +1,4 @@
-use Rattle.row_updates.proofs.Imports.{rules, ◌≡◌, ◌∙◌, ℕ, Some, Ok, Bool, length, map, get_or, pos, sym, ap, subst, arith, bound_term, is_true, Term, setting_of, AreWorth, AreTested}
-use Rattle.row_updates.proofs.RunRows.{none_pass}
-use Rattle.row_updates.proofs.RunTests.{tested, none_true, all_true}
+use Rattle.row_updates.proofs.Lemmas.{rules, ◌≡◌, ◌∙◌, ℕ, Some, Ok, Bool, length, map, get_or, pos, sym, ap, subst, arith, bound_term, is_true, Term, setting_of, AreWorth, AreTested, none_pass, tested, none_true, all_true}
 use Rattle.row_updates.proofs.run_updates.passed_run.Given as given
 use Rattle.row_updates.proofs.run_updates.passed_run.Goals as goal
 use Rattle.row_updates.proofs.run_updates.passed_run.Goals.{After-count_passing-passing}

@@ -1,5 +1,4 @@
-use Rattle.row_updates.proofs.Imports.{rules, ◌≡◌, ◌∙◌, length, refl, sym, ap, subst, arith, Link, operand_term, chain_term, AreWithin, within_links, within_rest, safe_steps, safe_rest, no_deeper, Table, leaf_count_of, IsIdle, AreRights}
-use Rattle.row_updates.proofs.WorthSoFar.{run_rows, ended, fits, more}
+use Rattle.row_updates.proofs.Lemmas.{rules, ◌≡◌, ◌∙◌, length, refl, sym, ap, subst, arith, Link, operand_term, chain_term, AreWithin, within_links, within_rest, safe_steps, safe_rest, no_deeper, Table, leaf_count_of, IsIdle, AreRights, run_rows, ended, fits, more}
 use Rattle.row_updates.proofs.runs.+run.Goals as goal
 
 pub chain_run-loop-links-init : goal.chain_run-loop-links-init

@@ -1,5 +1,4 @@
-use Rattle.row_updates.proofs.Imports.{◌≡◌, ◌≤◌, length, size-Links, chain_term, AreWithin, AreStepsSafe, leaf_count_of, IsIdle, IsRunOf}
-use Rattle.row_updates.proofs.WorthSoFar.{IsWorthSoFar}
+use Rattle.row_updates.proofs.Lemmas.{◌≡◌, ◌≤◌, length, size-Links, chain_term, AreWithin, AreStepsSafe, leaf_count_of, IsIdle, IsRunOf, IsWorthSoFar}
 use Rattle.row_updates.proofs.runs.+run.Given as goal
 
 abbrev pub invariant-chain_run-loop-links : goal.invariant-chain_run-loop-links

@@ -1,5 +1,4 @@
-use Rattle.row_updates.proofs.Imports.{◌≡◌, ◌∙◌, neg_ℤ, Some, sym, ap, subst, unsigned_abs, slice_get, get_or_from_slice_get, Truth, kinds_of, is_signed, Fields, leaf_type_of, leaf_types_of, arith}
-use Rattle.row_updates.proofs.RunReads.{near_by_type, near_by_test}
+use Rattle.row_updates.proofs.Lemmas.{◌≡◌, ◌∙◌, neg_ℤ, Some, sym, ap, subst, unsigned_abs, slice_get, get_or_from_slice_get, Truth, kinds_of, is_signed, Fields, leaf_type_of, leaf_types_of, arith, near_by_type, near_by_test}
 use Rattle.row_updates.proofs.runs.leaf_run.Goals as goal
 
 pub returns-then-is_within-clause-near : goal.returns-then-is_within-clause-near

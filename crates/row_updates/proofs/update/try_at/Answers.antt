@@ -1,6 +1,4 @@
-use Rattle.row_updates.proofs.Imports.{◌≡◌, ◌∙◌, refl, length, map, get_or, [], ap, sym, Table, answer_of, after_log, filter_term, setting_of, filter_log, sides_log, tried_log, common_steps, arith}
-use Rattle.row_updates.proofs.Logs.{log_more, tried_log_left, tried_log_fault, tried_log_done}
-use Rattle.row_updates.proofs.Rows.{tried_stop}
+use Rattle.row_updates.proofs.Lemmas.{◌≡◌, ◌∙◌, refl, length, map, get_or, [], ap, sym, Table, answer_of, after_log, filter_term, setting_of, filter_log, sides_log, tried_log, common_steps, arith, log_more, tried_log_left, tried_log_fault, tried_log_done, tried_stop}
 use Rattle.row_updates.proofs.update.try_at.Given as given
 use Rattle.row_updates.proofs.update.try_at.Goals as goal
 use Rattle.row_updates.proofs.update.try_at.Goals.{After-new_values}

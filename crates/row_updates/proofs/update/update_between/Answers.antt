@@ -1,6 +1,4 @@
-use Rattle.row_updates.proofs.Imports.{map, rules, arith, ◌≡◌, ◌<◌, ◌∙◌, Err, length, ap, sym, refl, length-set, filter_term, setting_of, Table}
-use Rattle.row_updates.proofs.Indexed.{index_read}
-use Rattle.row_updates.proofs.Rows.{rows_ended, rows_more}
+use Rattle.row_updates.proofs.Lemmas.{map, rules, arith, ◌≡◌, ◌<◌, ◌∙◌, Err, length, ap, sym, refl, length-set, filter_term, setting_of, Table, index_read, rows_ended, rows_more}
 use Rattle.row_updates.proofs.update.update_between.Goals as goal
 
 pub loop-row-init : goal.loop-row-init

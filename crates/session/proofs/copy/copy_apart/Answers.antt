@@ -1,6 +1,4 @@
-use Rattle.session.proofs.Imports.{rules, ◌≡◌, Err}
-use Rattle.session.proofs.Copies.{AreApart, apart_not, apart_to, are_apart}
-use Rattle.session.proofs.CopySteps.{apart_within}
+use Rattle.session.proofs.Lemmas.{rules, ◌≡◌, Err, AreApart, apart_not, apart_to, are_apart, apart_within}
 use Rattle.session.proofs.copy.copy_apart.Goals as goal
 
 pub returns-in_err-copy_into-clause-copied : goal.returns-in_err-copy_into-clause-copied

@@ -1,7 +1,5 @@
-use Rattle.session.proofs.Imports.{rules, ◌≡◌}
+use Rattle.session.proofs.Lemmas.{rules, ◌≡◌, copied_goes, copy_refused, copy_steps}
 use Rattle.command_checks.specs.declared.fault.StepFault.TheVariants as step
-use Rattle.session.proofs.Copies.{copied_goes, copy_refused}
-use Rattle.session.proofs.CopySteps.{copy_steps}
 use Rattle.session.proofs.copy.copy_into.Goals as goal
 
 pub returns-in-Ok-clause-copied : goal.returns-in-Ok-clause-copied

@@ -1,5 +1,4 @@
-use Rattle.session.proofs.Imports.{◌≡◌, ◌⊎◌, ◌<◌, ◌∙◌, length, Some, None, inl, inr, ⊎_elim, sym, ap, Rose, file_named, IsMissing}
-use Rattle.session.proofs.Reading.{file_there, file_missing, was_read, was_unread, was_long}
+use Rattle.session.proofs.Lemmas.{◌≡◌, ◌⊎◌, ◌<◌, ◌∙◌, length, Some, None, inl, inr, ⊎_elim, sym, ap, Rose, file_named, IsMissing, file_there, file_missing, was_read, was_unread, was_long}
 use Rattle.session.proofs.files.file_bytes.Goals as goal
 
 pub returns-in-Ok-clause-loads : goal.returns-in-Ok-clause-loads

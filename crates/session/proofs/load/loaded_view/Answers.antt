@@ -1,6 +1,5 @@
-use Rattle.session.proofs.Imports.{rules, ◌≡◌, ◌∙◌, ◌^◌, ℕ, false, List, Some, New, Table, loaded_table, read, ◌>>=◌, Named, named, World, goes_then, named_of, new_of, filled_table, world_in, Ok, refl, ap, sure}
+use Rattle.session.proofs.Lemmas.{rules, ◌≡◌, ◌∙◌, ◌^◌, ℕ, false, List, Some, New, Table, loaded_table, read, ◌>>=◌, Named, named, World, goes_then, named_of, new_of, filled_table, world_in, Ok, refl, ap, sure, IsOf, within_first, before_reading, told_of, loads_of, unloads_of, unread_of, unread_test, unread_gives}
 use Rattle.worlds.specs.Prelude.{loaded}
-use Rattle.session.proofs.Reading.{IsOf, within_first, before_reading, told_of, loads_of, unloads_of, unread_of, unread_test, unread_gives}
 use Rattle.session.proofs.load.loaded_view.Goals as goal
 
 -- behind the tests of its words a table is that of the bytes of its file

@@ -1,5 +1,4 @@
-use Rattle.session.proofs.Imports.{map, Table, view_of}
-use Rattle.session.proofs.Opening.{placed_gives, placed_refused}
+use Rattle.session.proofs.Lemmas.{map, Table, view_of, placed_gives, placed_refused}
 use Rattle.session.proofs.open.opened_beside.Goals as goal
 
 pub returns-in-Ok : goal.returns-in-Ok

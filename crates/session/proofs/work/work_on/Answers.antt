@@ -1,5 +1,4 @@
-use Rattle.session.proofs.Imports.{rules, map, refl, view_of, IsAt, ViewEntry, GivesUp-then, on_view, known, AreLeft, world_in, gave_up}
-use Rattle.session.proofs.Views.{view_worked}
+use Rattle.session.proofs.Lemmas.{rules, map, refl, view_of, IsAt, ViewEntry, GivesUp-then, on_view, known, AreLeft, world_in, gave_up, view_worked}
 use Rattle.session.proofs.work.work_on.Goals as goal
 
 pub returns-in_err-place-clause-answers : goal.returns-in_err-place-clause-answers

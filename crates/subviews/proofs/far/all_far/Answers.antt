@@ -1,5 +1,4 @@
-use Rattle.subviews.proofs.Imports.{rules, ◌+◌, ℤ, FitsSigned, w64, slice_set, sym, subst, arith, to_z-of_z}
-use Rattle.subviews.proofs.Ways.{AreFar, far_more}
+use Rattle.subviews.proofs.Lemmas.{rules, ◌+◌, ℤ, FitsSigned, w64, slice_set, sym, subst, arith, to_z-of_z, AreFar, far_more}
 use Rattle.subviews.proofs.far.all_far.Goals as goal
 
 pub loop-place-preserved : goal.loop-place-preserved

@@ -1,5 +1,4 @@
-use Rattle.subviews.proofs.Imports.{◌≡◌, length}
-use Rattle.subviews.proofs.Ways.{AreFar}
+use Rattle.subviews.proofs.Lemmas.{◌≡◌, length, AreFar}
 use Rattle.subviews.proofs.far.all_far.Given as goal
 
 abbrev pub invariant-loop-place : goal.invariant-loop-place

@@ -1,5 +1,4 @@
-use Rattle.subviews.proofs.Imports.{◌<◌, ◌≤◌, ◌∙◌, ℕ, ℤ, pos, List, FitsSigned, w64, length, get_or, ap, arith, ints, indices, index_at_inside, row_from}
-use Rattle.subviews.proofs.Ways.{IsStep, target, row_held, row_inside, reach_inside, step_at, step_more, whole_target, landed, far_from_one}
+use Rattle.subviews.proofs.Lemmas.{◌<◌, ◌≤◌, ◌∙◌, ℕ, ℤ, pos, List, FitsSigned, w64, length, get_or, ap, arith, ints, indices, index_at_inside, row_from, IsStep, target, row_held, row_inside, reach_inside, step_at, step_more, whole_target, landed, far_from_one}
 use Rattle.subviews.proofs.far.far_of.Goals as goal
 use Rattle.subviews.proofs.far.far_of.Goals.{After-deref}
 

@@ -1,7 +1,5 @@
-use Rattle.subviews.proofs.Imports.{rules, arith, ◌≡◌, ◌<◌, ◌∙◌, ℤ, List, [], IsErr, length, map, flat_map, take, ap, sym, refl, Contains-get_or, decimal_text, Puts-loop_err, comma_line, Read, row_accesses, after_log-none, after_log-append, leaf_count_of, after_log, rows_of, outer_row, sub_table}
+use Rattle.subviews.proofs.Lemmas.{rules, arith, ◌≡◌, ◌<◌, ◌∙◌, ℤ, List, [], IsErr, length, map, flat_map, take, ap, sym, refl, Contains-get_or, decimal_text, Puts-loop_err, comma_line, Read, row_accesses, after_log-none, after_log-append, leaf_count_of, after_log, rows_of, outer_row, sub_table, logs_front, sub_row, sub_count, row_below}
 use Rattle.csv_rows.proofs.Commas.{part_more}
-use Rattle.subviews.proofs.Fronts.{logs_front}
-use Rattle.subviews.proofs.Printed.{sub_row, sub_count, row_below}
 use Rattle.subviews.proofs.print.put_rows.Goals as goal
 
 pub loop-row-init : goal.loop-row-init

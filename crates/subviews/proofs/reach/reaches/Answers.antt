@@ -1,5 +1,4 @@
-use Rattle.subviews.proofs.Imports.{arith, ◌≡◌, length, ℕ, false, List, ap, sym, ◌∙◌, ◌==◌, nat_tests, same_rank, rows_of, common_steps}
-use Rattle.subviews.proofs.Corners.{reaches_rest}
+use Rattle.subviews.proofs.Lemmas.{arith, ◌≡◌, length, ℕ, false, List, ap, sym, ◌∙◌, ◌==◌, nat_tests, same_rank, rows_of, common_steps, reaches_rest}
 use Rattle.subviews.proofs.reach.reaches.Goals as goal
 
 pub all_stay-requires-clause-spans : goal.all_stay-requires-clause-spans

@@ -1,5 +1,4 @@
-use Rattle.subviews.proofs.Imports.{rules, ◌≡◌, ◌∙◌, length, take, sym, common_steps, arith}
-use Rattle.subviews.proofs.Back.{all_raised, all_fit, all_kept}
+use Rattle.subviews.proofs.Lemmas.{rules, ◌≡◌, ◌∙◌, length, take, sym, common_steps, arith, all_raised, all_fit, all_kept}
 use Rattle.subviews.proofs.rounds.copy_back.Goals as goal
 
 pub put_run-requires-clause-fits : goal.put_run-requires-clause-fits

@@ -1,7 +1,4 @@
-use Rattle.subviews.proofs.Imports.{rules, arith, common_steps, ◌≡◌, ◌+◌, ◌-◌, ℕ, length, FitsSigned, ap, sym, subst, w128, to_z-of_z, Table, answer_of, kept_of, IsFilled}
-use Rattle.subviews.proofs.Growth.{run_at, run_inside}
-use Rattle.subviews.proofs.Passes.{none_filled, refused_here, taken_here, fill_stopped, filled_more, filled_all, buffer_row, buffer_leaf}
-use Rattle.subviews.proofs.Ways.{row_held, row_inside}
+use Rattle.subviews.proofs.Lemmas.{rules, arith, common_steps, ◌≡◌, ◌+◌, ◌-◌, ℕ, length, FitsSigned, ap, sym, subst, w128, to_z-of_z, Table, answer_of, kept_of, IsFilled, run_at, run_inside, none_filled, refused_here, taken_here, fill_stopped, filled_more, filled_all, buffer_row, buffer_leaf, row_held, row_inside}
 use Rattle.subviews.proofs.rounds.fill.Goals as goal
 
 pub loop-row-init : goal.loop-row-init

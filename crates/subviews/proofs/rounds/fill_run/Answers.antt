@@ -1,7 +1,4 @@
-use Rattle.subviews.proofs.Imports.{◌+◌, ◌≤◌, ◌∙◌, ℕ, List, length, refl, ap, subst, sym, arith, indices, run_fault, with_run, Table, IsTable, answer_of, IsBufferOf, IsPlanOf, IsRunOf, IsFilled, Plan, Run}
-use Rattle.subviews.proofs.AtOnce.{are_taken, count_told, count_refused}
-use Rattle.subviews.proofs.Growth.{run_inside}
-use Rattle.subviews.proofs.Passes.{run_filled, buffer_leaf}
+use Rattle.subviews.proofs.Lemmas.{◌+◌, ◌≤◌, ◌∙◌, ℕ, List, length, refl, ap, subst, sym, arith, indices, run_fault, with_run, Table, IsTable, answer_of, IsBufferOf, IsPlanOf, IsRunOf, IsFilled, Plan, Run, are_taken, count_told, count_refused, run_inside, run_filled, buffer_leaf}
 use Rattle.subviews.proofs.rounds.fill_run.Goals as goal
 
 -- a run lies inside a buffer

@@ -1,5 +1,4 @@
-use Rattle.subviews.proofs.Imports.{rules, arith, ◌≡◌, ◌-◌, ◌∙◌, ℤ, Err, FitsSigned, subst, to_z, of_z, w64, to_z-of_z, stenciled, stencil_by, planned, Plan, common_steps}
-use Rattle.subviews.proofs.Passes.{plan_still, no_round, same_after, buffer_same, round_done, round_stopped, after_more, IsRefused, is_refused, stopped}
+use Rattle.subviews.proofs.Lemmas.{rules, arith, ◌≡◌, ◌-◌, ◌∙◌, ℤ, Err, FitsSigned, subst, to_z, of_z, w64, to_z-of_z, stenciled, stencil_by, planned, Plan, common_steps, plan_still, no_round, same_after, buffer_same, round_done, round_stopped, after_more, IsRefused, is_refused, stopped}
 use Rattle.subviews.proofs.rounds.stencil.Goals as goal
 
 pub loop-round-init : goal.loop-round-init

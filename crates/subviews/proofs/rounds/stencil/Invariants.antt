@@ -1,5 +1,4 @@
-use Rattle.subviews.proofs.Imports.{IsPlanOf, planned}
-use Rattle.subviews.proofs.Passes.{IsAfter}
+use Rattle.subviews.proofs.Lemmas.{IsPlanOf, planned, IsAfter}
 use Rattle.subviews.proofs.rounds.stencil.Given as goal
 
 abbrev pub invariant-loop-round : goal.invariant-loop-round

@@ -1,6 +1,4 @@
-use Rattle.subviews.proofs.Imports.{◌≡◌, ◌∙◌, ℕ, List, length, ap, subst, sym, arith, indices, Table, IsTable, rows_of, IsBufferOf, IsPlanOf, AreConsecutive, Plan}
-use Rattle.subviews.proofs.Growth.{run_inside}
-use Rattle.subviews.proofs.Passes.{IsStored, none_stored, run_stored}
+use Rattle.subviews.proofs.Lemmas.{◌≡◌, ◌∙◌, ℕ, List, length, ap, subst, sym, arith, indices, Table, IsTable, rows_of, IsBufferOf, IsPlanOf, AreConsecutive, Plan, run_inside, IsStored, none_stored, run_stored}
 use Rattle.subviews.proofs.rounds.store_back.Goals as goal
 
 pub loop-row-init : goal.loop-row-init

@@ -1,5 +1,4 @@
-use Rattle.subviews.proofs.Imports.{◌-◌, IsWalk}
-use Rattle.subviews.proofs.Passes.{IsStored}
+use Rattle.subviews.proofs.Lemmas.{◌-◌, IsWalk, IsStored}
 use Rattle.subviews.proofs.rounds.store_back.Given as goal
 
 abbrev pub invariant-loop-row : goal.invariant-loop-row

@@ -1,5 +1,4 @@
-use Rattle.subviews.proofs.Imports.{rules, arith, ◌≡◌, ◌∙◌, ℕ, ℤ, pos, List, FitsSigned, length, get_or, ap, sym, subst, refl, to_z, of_z, ◌+◌, ◌+ℤ◌, ◌*ℤ◌, w64, w128, ints, to_z-of_z, indices, after_log-none, Table, leaf_type_of, common_steps}
-use Rattle.subviews.proofs.Values.{IsSummed, weight_small, entry_small, product_fits, sum_fits, summed_more, plan_term, reached}
+use Rattle.subviews.proofs.Lemmas.{rules, arith, ◌≡◌, ◌∙◌, ℕ, ℤ, pos, List, FitsSigned, length, get_or, ap, sym, subst, refl, to_z, of_z, ◌+◌, ◌+ℤ◌, ◌*ℤ◌, w64, w128, ints, to_z-of_z, indices, after_log-none, Table, leaf_type_of, common_steps, IsSummed, weight_small, entry_small, product_fits, sum_fits, summed_more, plan_term, reached}
 use Rattle.subviews.proofs.rounds.value_at.Goals as goal
 
 pub loop-place-init : goal.loop-place-init

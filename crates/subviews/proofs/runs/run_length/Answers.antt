@@ -1,5 +1,4 @@
-use Rattle.subviews.proofs.Imports.{arith, ◌≡◌, ◌+◌, ◌-◌, ◌≤◌, Some, subst, mod_below, rows_of, slice_get, common_steps}
-use Rattle.subviews.proofs.Growth.{rows_grow, run_between}
+use Rattle.subviews.proofs.Lemmas.{arith, ◌≡◌, ◌+◌, ◌-◌, ◌≤◌, Some, subst, mod_below, rows_of, slice_get, common_steps, rows_grow, run_between}
 use Rattle.subviews.proofs.runs.run_length.Goals as goal
 
 pub overflow_add-row : goal.overflow_add-row

@@ -1,8 +1,4 @@
-use Rattle.subviews.proofs.Imports.{rules, arith, pos, FitsSigned, w64, get_or, length, ap, ◌∙◌, ints, to_z-of_z, column_reads, Table, after_log, rows_of, common_steps}
-use Rattle.subviews.proofs.Growth.{run_first}
-use Rattle.subviews.proofs.Near.{read_inside, values_read, products_fit, sums_fit, summed_run}
-use Rattle.subviews.proofs.Values.{reached}
-use Rattle.subviews.proofs.Ways.{row_held}
+use Rattle.subviews.proofs.Lemmas.{rules, arith, pos, FitsSigned, w64, get_or, length, ap, ◌∙◌, ints, to_z-of_z, column_reads, Table, after_log, rows_of, common_steps, run_first, read_inside, values_read, products_fit, sums_fit, summed_run, reached, row_held}
 use Rattle.subviews.proofs.sums.sum_run.Goals as goal
 
 pub row_away-first-requires : goal.row_away-first-requires

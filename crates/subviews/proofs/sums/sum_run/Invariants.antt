@@ -1,5 +1,4 @@
-use Rattle.subviews.proofs.Imports.{◌≡◌, length}
-use Rattle.subviews.proofs.Near.{AreSummed}
+use Rattle.subviews.proofs.Lemmas.{◌≡◌, length, AreSummed}
 use Rattle.subviews.proofs.sums.sum_run.Given as goal
 
 abbrev pub invariant-loop-place : goal.invariant-loop-place

@@ -1,5 +1,4 @@
-use Rattle.view_commands.proofs.Imports.{◌∙◌, ◌<◌, length, arith, common_steps}
-use Rattle.view_commands.proofs.Advice.{costs_more, costs_all}
+use Rattle.view_commands.proofs.Lemmas.{◌∙◌, ◌<◌, length, arith, common_steps, costs_more, costs_all}
 use Rattle.view_commands.proofs.advise.push_costs.Goals as goal
 
 pub loop-at-preserved : goal.loop-at-preserved

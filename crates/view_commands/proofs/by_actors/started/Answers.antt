@@ -1,6 +1,4 @@
-use Rattle.view_commands.proofs.Imports.{ap, Table}
-use Rattle.view_commands.proofs.Arms.{ends_update}
-use Rattle.view_commands.proofs.Sets.{filter_is}
+use Rattle.view_commands.proofs.Lemmas.{ap, Table, ends_update, filter_is}
 use Rattle.view_commands.proofs.by_actors.started.Goals as goal
 
 pub returns-in_ok-in_words-in-Err-Update-clause-refused : goal.returns-in_ok-in_words-in-Err-Update-clause-refused

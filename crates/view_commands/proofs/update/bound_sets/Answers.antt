@@ -1,5 +1,4 @@
-use Rattle.view_commands.proofs.Imports.{rules, ◌≡◌, List, Err, map, get_or, drop, take, suc, subst, length, All-push, Assignment, assignment_of, setting_of, map-append, bound_sets, GivesUp, common_steps, arith}
-use Rattle.view_commands.proofs.Sets.{map_at, map_more, sets_push, sets_stop}
+use Rattle.view_commands.proofs.Lemmas.{rules, ◌≡◌, List, Err, map, get_or, drop, take, suc, subst, length, All-push, Assignment, assignment_of, setting_of, map-append, bound_sets, GivesUp, common_steps, arith, map_at, map_more, sets_push, sets_stop}
 use Rattle.view_commands.proofs.update.bound_sets.Goals as goal
 
 pub returns-in_err-set-clause-sets : goal.returns-in_err-set-clause-sets

@@ -1,5 +1,4 @@
-use Rattle.view_commands.proofs.Imports.{arith, ◌<◌, ◌∙◌, ◌≤◌, length, map, refl, setting_of, leaf_count_of, leaves_of, common_steps}
-use Rattle.view_commands.proofs.Sets.{once_none, once_more, once_stop, once_all, once_few, leaf_at, leaves_below, leaves_long, test_at}
+use Rattle.view_commands.proofs.Lemmas.{arith, ◌<◌, ◌∙◌, ◌≤◌, length, map, refl, setting_of, leaf_count_of, leaves_of, common_steps, once_none, once_more, once_stop, once_all, once_few, leaf_at, leaves_below, leaves_long, test_at}
 use Rattle.view_commands.proofs.update.each_once.Goals as goal
 
 pub returns-then-is_set-clause-once : goal.returns-then-is_set-clause-once

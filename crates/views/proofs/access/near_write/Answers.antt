@@ -1,5 +1,4 @@
-use Rattle.views.proofs.Imports.{◌<◌, length, rules, w128, common_steps, arith, to_z-of_z}
-use Rattle.views.proofs.AccessLaws.{StandsIn, stands, blob_there, blob_is, word_there, word_put, word_lies}
+use Rattle.views.proofs.Lemmas.{◌<◌, length, rules, w128, common_steps, arith, to_z-of_z, StandsIn, stands, blob_there, blob_is, word_there, word_put, word_lies}
 use Rattle.views.proofs.access.near_write.Goals as goal
 use Rattle.views.proofs.access.near_write.Goals.{In-Some}
 

@@ -1,5 +1,4 @@
-use Rattle.views.proofs.Imports.{◌∙◌, rules, arith, w128, to_z-of_z}
-use Rattle.views.proofs.AccessLaws.{StandsIn, with_rules, stands, lies, blob_there, blob_is, word_there, word_read, bytes_wide, bytes_read}
+use Rattle.views.proofs.Lemmas.{◌∙◌, rules, arith, w128, to_z-of_z, StandsIn, with_rules, stands, lies, blob_there, blob_is, word_there, word_read, bytes_wide, bytes_read}
 use Rattle.views.proofs.access.short_read.Goals as goal
 use Rattle.views.proofs.access.short_read.Goals.{In_default}
 

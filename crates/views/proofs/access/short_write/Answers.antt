@@ -1,5 +1,4 @@
-use Rattle.views.proofs.Imports.{◌<◌, length, rules, arith, w128, common_steps, to_z-of_z}
-use Rattle.views.proofs.AccessLaws.{StandsIn, LiesIn, with_rules, stands, lies, blob_there, blob_is, word_there, word_put, word_lies, bytes_wide, bytes_apart, bytes_put, bytes_lie}
+use Rattle.views.proofs.Lemmas.{◌<◌, length, rules, arith, w128, common_steps, to_z-of_z, StandsIn, LiesIn, with_rules, stands, lies, blob_there, blob_is, word_there, word_put, word_lies, bytes_wide, bytes_apart, bytes_put, bytes_lie}
 use Rattle.views.proofs.access.short_write.Goals as goal
 use Rattle.views.proofs.access.short_write.Goals.{In_default-word, After-as_slice}
 

@@ -1,6 +1,4 @@
-use Rattle.views.proofs.Imports.{◌∙◌, ◌+◌, ◌*◌, turned_place, length, get_or, rules, arith, w128, to_z-of_z, IsWholeWide, IsBlockWide, IsFieldWide, IsTurnedWide, []}
-use Rattle.views.proofs.AccessLaws.{StandsIn, stands, blob_there, blob_is, word_read}
-use Rattle.views.proofs.WideLaws.{plain_leads, blocks_lead, wide_seen, room_at, room_by_bit, said_whole, said_field, said_by, field_alone, turned_is}
+use Rattle.views.proofs.Lemmas.{◌∙◌, ◌+◌, ◌*◌, turned_place, length, get_or, rules, arith, w128, to_z-of_z, IsWholeWide, IsBlockWide, IsFieldWide, IsTurnedWide, [], StandsIn, stands, blob_there, blob_is, word_read, plain_leads, blocks_lead, wide_seen, room_at, room_by_bit, said_whole, said_field, said_by, field_alone, turned_is}
 use Rattle.views.proofs.access.wide_read.Goals as goal
 use Rattle.views.proofs.access.wide_read.Goals.{After-plain_start-start, After-block_start-start, After-plain_start-start-then-row-rule-3, After-plain_start-start-then-row-rule-4}
 

@@ -1,5 +1,4 @@
-use Rattle.views.proofs.Imports.{◌≡◌, ◌∙◌, ◌<◌, ℕ, List, [], length, get_or, sym, ap, arith, get_or_default, IsMoved, half_more}
-use Rattle.views.proofs.AllLaws.{still_old, same_count, same_length, all_moved, blocks_more}
+use Rattle.views.proofs.Lemmas.{◌≡◌, ◌∙◌, ◌<◌, ℕ, List, [], length, get_or, sym, ap, arith, get_or_default, IsMoved, half_more, still_old, same_count, same_length, all_moved, blocks_more}
 use Rattle.views.proofs.moves.move_all.Goals as goal
 
 pub move_bytes-requires-clause-room : goal.move_bytes-requires-clause-room

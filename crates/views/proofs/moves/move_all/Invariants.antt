@@ -1,5 +1,4 @@
-use Rattle.views.proofs.Imports.{◌≡◌, ◌+◌, take, half}
-use Rattle.views.proofs.AllLaws.{blocks_of}
+use Rattle.views.proofs.Lemmas.{◌≡◌, ◌+◌, take, half, blocks_of}
 use Rattle.views.proofs.moves.move_all.Given as goal
 
 -- the blobs so far are the others

@@ -1,5 +1,4 @@
-use Rattle.views.proofs.Imports.{◌≡◌, arith, piece_count}
-use Rattle.views.proofs.PieceLaws.{one_piece}
+use Rattle.views.proofs.Lemmas.{◌≡◌, arith, piece_count, one_piece}
 use Rattle.views.proofs.pieces.pieces_at.Goals as goal
 
 pub returns : goal.returns

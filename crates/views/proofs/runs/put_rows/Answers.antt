@@ -1,5 +1,4 @@
-use Rattle.views.proofs.Imports.{◌≡◌, ◌+◌, ◌-◌, ◌<◌, ◌≤◌, length, map, get_or, ◌∙◌, ⊎_elim, arith, cases_lt, common_steps, get_or_default, length-map, kinds_of, schema_fields, leaf_cells, kind_at, []}
-use Rattle.views.proofs.RunLaws.{stretch_blob, has_room, are_put, column_then}
+use Rattle.views.proofs.Lemmas.{◌≡◌, ◌+◌, ◌-◌, ◌<◌, ◌≤◌, length, map, get_or, ◌∙◌, ⊎_elim, arith, cases_lt, common_steps, get_or_default, length-map, kinds_of, schema_fields, leaf_cells, kind_at, [], stretch_blob, has_room, are_put, column_then}
 use Rattle.views.proofs.runs.put_rows.Goals as goal
 use Rattle.views.proofs.runs.put_rows.Goals.{After-index_mut}
 

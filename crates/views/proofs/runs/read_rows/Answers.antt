@@ -1,5 +1,4 @@
-use Rattle.views.proofs.Imports.{◌≡◌, ℕ, ◌+◌, ◌-◌, ◌<◌, ◌≤◌, get_or, pos, ap, ◌∙◌, ⊎_elim, arith, cases_lt, get_or_read, low_64, []}
-use Rattle.views.proofs.RunLaws.{stretch_blob, has_room, stretch_read}
+use Rattle.views.proofs.Lemmas.{◌≡◌, ℕ, ◌+◌, ◌-◌, ◌<◌, ◌≤◌, get_or, pos, ap, ◌∙◌, ⊎_elim, arith, cases_lt, get_or_read, low_64, [], stretch_blob, has_room, stretch_read}
 use Rattle.views.proofs.runs.read_rows.Goals as goal
 use Rattle.views.proofs.runs.read_rows.Goals.{After-index-blobs-short}
 

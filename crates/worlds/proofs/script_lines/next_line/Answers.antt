@@ -1,7 +1,6 @@
-use Rattle.worlds.proofs.Imports.{arith, tests}
+use Rattle.worlds.proofs.Imports.{arith, tests, common_steps}
 use Rattle.worlds.proofs.Cuts.{line_first, line_last, nothing_left}
 use Rattle.worlds.proofs.script_lines.next_line.Goals as goal
-use Rattle.std.proofs.lemmas.Grind.{common_steps}
 
 pub returns-then-end-rest-clause-lines : goal.returns-then-end-rest-clause-lines
 returns-then-end-rest-clause-lines c = grind (arith, common_steps, tests, line_last, nothing_left)

@@ -1,5 +1,4 @@
-use Rattle.actors.proofs.Imports.{◌≤◌, ◌∙◌, length, ap, arith, fresh_of, Run, job_in, rest_in}
-use Rattle.actors.proofs.Finishes.{all_done, finished_plain}
+use Rattle.actors.proofs.Lemmas.{◌≤◌, ◌∙◌, length, ap, arith, fresh_of, Run, job_in, rest_in, all_done, finished_plain}
 use Rattle.actors.proofs.run.ActorRun.finish.Goals as goal
 
 pub returns : goal.returns

@@ -1,5 +1,4 @@
-use Rattle.actors.proofs.Imports.{arith, common_steps}
-use Rattle.actors.proofs.Finishes.{turn_made}
+use Rattle.actors.proofs.Lemmas.{arith, common_steps, turn_made}
 use Rattle.actors.proofs.run.ActorRun.finish_actor.Goals as goal
 
 pub loop-preserved : goal.loop-preserved

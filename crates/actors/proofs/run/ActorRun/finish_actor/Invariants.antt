@@ -1,5 +1,4 @@
-use Rattle.actors.proofs.Imports.{length, rest_in}
-use Rattle.actors.proofs.Finishes.{IsLeft}
+use Rattle.actors.proofs.Lemmas.{length, rest_in, IsLeft}
 use Rattle.actors.proofs.run.ActorRun.finish_actor.Given as goal
 
 abbrev pub invariant-loop : goal.invariant-loop

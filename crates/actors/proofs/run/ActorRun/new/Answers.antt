@@ -1,7 +1,4 @@
-use Rattle.actors.proofs.Imports.{◌≡◌, ◌∙◌, ℕ, List, Err, length, get_or, sym, ap, subst, rules, arith, schema_fields, term_of, filter_term, Table, after_log-none, memory_of, fresh_of, NoMemory, table_at, actor_run_of, IsActorRun, without_counts, common_steps}
-use Rattle.actors.proofs.Begins.{table_same, run_begun, run_kept}
-use Rattle.actors.proofs.Teams.{IsTeam}
-use Rattle.actors.proofs.Turns.{stands_counted}
+use Rattle.actors.proofs.Lemmas.{◌≡◌, ◌∙◌, ℕ, List, Err, length, get_or, sym, ap, subst, rules, arith, schema_fields, term_of, filter_term, Table, after_log-none, memory_of, fresh_of, NoMemory, table_at, actor_run_of, IsActorRun, without_counts, common_steps, table_same, run_begun, run_kept, IsTeam, stands_counted}
 use Rattle.actors.proofs.run.ActorRun.new.Given as given
 use Rattle.actors.proofs.run.ActorRun.new.Goals as goal
 use Rattle.actors.proofs.run.ActorRun.new.Goals.{After-mode}

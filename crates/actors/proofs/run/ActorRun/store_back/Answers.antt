@@ -1,5 +1,4 @@
-use Rattle.actors.proofs.Imports.{◌∙◌, ℕ, List, length, map, sym, ap, subst, filter_term, setting_of, Table, job_of, ArePlans, Run, IsPlain, IsPlainMemory, IsStoredBack}
-use Rattle.actors.proofs.Finishes.{done_plain}
+use Rattle.actors.proofs.Lemmas.{◌∙◌, ℕ, List, length, map, sym, ap, subst, filter_term, setting_of, Table, job_of, ArePlans, Run, IsPlain, IsPlainMemory, IsStoredBack, done_plain}
 use Rattle.actors.proofs.run.ActorRun.store_back.Goals as goal
 
 pub store_rows-requires-clause-planned : goal.store_rows-requires-clause-planned

@@ -1,5 +1,4 @@
-use Rattle.actors.proofs.Imports.{All-set, IsStanding, ◌≡◌, ◌∙◌, ◌<◌, Bool, ℕ, List, [], ◌∷◌, length, map, get_or, set, sym, ap, subst, arith, get_or_default, length-set, schema_fields, term_of, AreSized, filter_term, setting_of, Table, owners_of, State, job_of, fresh_of, Micro, Registers, table_at, actor_run_of, ArePlans, Run, without_counts, after_turns, rest_in, has_any, IsTurn}
-use Rattle.actors.proofs.Turns.{turned_state, made_any, not_made, stands_alone, reached_more}
+use Rattle.actors.proofs.Lemmas.{All-set, IsStanding, ◌≡◌, ◌∙◌, ◌<◌, Bool, ℕ, List, [], ◌∷◌, length, map, get_or, set, sym, ap, subst, arith, get_or_default, length-set, schema_fields, term_of, AreSized, filter_term, setting_of, Table, owners_of, State, job_of, fresh_of, Micro, Registers, table_at, actor_run_of, ArePlans, Run, without_counts, after_turns, rest_in, has_any, IsTurn, turned_state, made_any, not_made, stands_alone, reached_more}
 use Rattle.actors.proofs.run.ActorRun.turn.Goals as goal
 use Rattle.actors.proofs.run.ActorRun.turn.Goals.{After-turn_of}
 

@@ -1,5 +1,4 @@
-use Rattle.blobs.proofs.Imports.{◌/◌, ◌∙◌, field_read, byte_and_bit}
-use Rattle.blobs.proofs.Numbers.{word_bit}
+use Rattle.blobs.proofs.Lemmas.{◌/◌, ◌∙◌, field_read, byte_and_bit, word_bit}
 use Rattle.blobs.proofs.blob.Blob.bits_by_words.Goals as goal
 
 pub returns-then-len-first-ge8 : goal.returns-then-len-first-ge8

@@ -1,5 +1,4 @@
-use Rattle.blobs.proofs.Imports.{◌≡◌, ℕ, ◌+◌, ◌-◌, ◌*◌, ◌/◌, ◌%◌, ◌^◌, ap, ◌∙◌, arith, number, bit_of, byte_and_bit, read_step, read_fits, field_read}
-use Rattle.blobs.proofs.Numbers.{word_bit}
+use Rattle.blobs.proofs.Lemmas.{◌≡◌, ℕ, ◌+◌, ◌-◌, ◌*◌, ◌/◌, ◌%◌, ◌^◌, ap, ◌∙◌, arith, number, bit_of, byte_and_bit, read_step, read_fits, field_read, word_bit}
 use Rattle.blobs.proofs.blob.Blob.bits_of_nine.Goals as goal
 
 -- the bits of the word, and then those of the byte behind it

@@ -1,5 +1,4 @@
-use Rattle.blobs.proofs.Imports.{◌≡◌, length, take, drop, arith, length-take, length-drop}
-use Rattle.blobs.proofs.Blocks.{copied}
+use Rattle.blobs.proofs.Lemmas.{◌≡◌, length, take, drop, arith, length-take, length-drop, copied}
 use Rattle.blobs.proofs.blob.Blob.copy_block.Goals as goal
 
 pub returns : goal.returns

@@ -1,5 +1,4 @@
-use Rattle.blobs.proofs.Imports.{◌-◌, ◌*◌, arith}
-use Rattle.blobs.proofs.Numbers.{last_bit}
+use Rattle.blobs.proofs.Lemmas.{◌-◌, ◌*◌, arith, last_bit}
 use Rattle.blobs.proofs.blob.Blob.last_window.Goals as goal
 
 pub returns : goal.returns

@@ -1,6 +1,4 @@
-use Rattle.blobs.proofs.Imports.{◌≡◌, ◌+◌, ◌*◌, ◌/◌, ◌%◌, ◌≤◌, length, arith, IsPut, byte_and_bit, field_put}
-use Rattle.blobs.proofs.Numbers.{word_bit}
-use Rattle.blobs.proofs.Splices.{whole_put}
+use Rattle.blobs.proofs.Lemmas.{◌≡◌, ◌+◌, ◌*◌, ◌/◌, ◌%◌, ◌≤◌, length, arith, IsPut, byte_and_bit, field_put, word_bit, whole_put}
 use Rattle.blobs.proofs.blob.Blob.put_bits_by_words.Goals as goal
 
 written : (c : goal.After-put_word) → IsPut c.args.self.now c.put_word.new.self c.args.at c.args.n c.args.value

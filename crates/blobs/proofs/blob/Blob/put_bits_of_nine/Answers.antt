@@ -1,6 +1,4 @@
-use Rattle.blobs.proofs.Imports.{◌≡◌, ℕ, ◌+◌, ◌-◌, ◌*◌, ◌/◌, ◌%◌, ◌^◌, ◌<◌, ◌≤◌, length, set, ap, ◌∙◌, arith, bit_at, IsPut, byte_and_bit, bit_of_part, put_more, field_put}
-use Rattle.blobs.proofs.Numbers.{word_bit}
-use Rattle.blobs.proofs.Splices.{whole_put, whole_long}
+use Rattle.blobs.proofs.Lemmas.{◌≡◌, ℕ, ◌+◌, ◌-◌, ◌*◌, ◌/◌, ◌%◌, ◌^◌, ◌<◌, ◌≤◌, length, set, ap, ◌∙◌, arith, bit_at, IsPut, byte_and_bit, bit_of_part, put_more, field_put, word_bit, whole_put, whole_long}
 use Rattle.blobs.proofs.blob.Blob.put_bits_of_nine.Goals as goal
 
 pub overflow_cast-last : goal.overflow_cast-last

@@ -1,5 +1,4 @@
-use Rattle.blobs.proofs.Imports.{arith}
-use Rattle.blobs.proofs.Splices.{IsTurnedPut, turned_put}
+use Rattle.blobs.proofs.Lemmas.{arith, IsTurnedPut, turned_put}
 use Rattle.blobs.proofs.blob.Blob.put_turned.Goals as goal
 
 put_two : (c : goal.After-put_turned_two) → IsTurnedPut c.args.self.now c.put_turned_two.new.self c.args.first c.args.n c.args.value

@@ -1,5 +1,4 @@
-use Rattle.blobs.proofs.Imports.{◌*◌, arith, IsPut}
-use Rattle.blobs.proofs.Splices.{whole_put}
+use Rattle.blobs.proofs.Lemmas.{◌*◌, arith, IsPut, whole_put}
 use Rattle.blobs.proofs.blob.Blob.put_whole.Goals as goal
 
 put_two : (c : goal.After-put_two) → IsPut c.args.self.now c.put_two.new.self (8 * c.args.first) c.args.n c.args.value

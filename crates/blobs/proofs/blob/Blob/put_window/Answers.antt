@@ -1,5 +1,4 @@
-use Rattle.blobs.proofs.Imports.{◌*◌, arith, IsPut}
-use Rattle.blobs.proofs.Splices.{whole_put}
+use Rattle.blobs.proofs.Lemmas.{◌*◌, arith, IsPut, whole_put}
 use Rattle.blobs.proofs.blob.Blob.put_window.Goals as goal
 
 written : (c : goal.After-put_word) → IsPut c.args.self.now c.put_word.new.self (8 * c.args.at) 64 c.args.value

@@ -1,5 +1,4 @@
-use Rattle.blobs.proofs.Imports.{◌∙◌, arith}
-use Rattle.blobs.proofs.Numbers.{turned_read}
+use Rattle.blobs.proofs.Lemmas.{◌∙◌, arith, turned_read}
 use Rattle.blobs.proofs.blob.Blob.turned.Goals as goal
 
 pub returns-then-n-le16 : goal.returns-then-n-le16

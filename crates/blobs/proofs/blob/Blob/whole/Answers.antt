@@ -1,5 +1,4 @@
-use Rattle.blobs.proofs.Imports.{◌∙◌, arith}
-use Rattle.blobs.proofs.Numbers.{whole_read}
+use Rattle.blobs.proofs.Lemmas.{◌∙◌, arith, whole_read}
 use Rattle.blobs.proofs.blob.Blob.whole.Goals as goal
 
 pub returns-else-n-le8 : goal.returns-else-n-le8

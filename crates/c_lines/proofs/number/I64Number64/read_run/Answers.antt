@@ -1,5 +1,4 @@
-use Rattle.c_lines.proofs.Imports.{length, map, ap, ◌∙◌, run_raised, leaf_type_of}
-use Rattle.c_lines.proofs.Parts.{signed_raised}
+use Rattle.c_lines.proofs.Lemmas.{length, map, ap, ◌∙◌, run_raised, leaf_type_of, signed_raised}
 use Rattle.c_lines.proofs.number.I64Number64.read_run.Goals as goal
 
 pub returns-clause-values : goal.returns-clause-values

@@ -1,5 +1,4 @@
-use Rattle.c_lines.proofs.Imports.{rules, ◌≡◌, List, ℤ, map, take, refl, sym, subst, Err, Result, ℕ, arith, map-id, LaneFault, IsFrontStored}
-use Rattle.c_lines.proofs.Parts.{front_refused}
+use Rattle.c_lines.proofs.Lemmas.{rules, ◌≡◌, List, ℤ, map, take, refl, sym, subst, Err, Result, ℕ, arith, map-id, LaneFault, IsFrontStored, front_refused}
 use Rattle.c_lines.proofs.number.I64Number64.store_front.Goals as goal
 
 pub returns-in_err-store_run-clause-stored : goal.returns-in_err-store_run-clause-stored

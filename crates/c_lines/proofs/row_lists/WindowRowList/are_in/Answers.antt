@@ -1,5 +1,4 @@
-use Rattle.c_lines.proofs.Imports.{◌≡◌, ℕ, List, length, sym, ap, arith, indices}
-use Rattle.c_lines.proofs.BoxRows.{window_below}
+use Rattle.c_lines.proofs.Lemmas.{◌≡◌, ℕ, List, length, sym, ap, arith, indices, window_below}
 use Rattle.c_lines.proofs.row_lists.WindowRowList.are_in.Goals as goal
 
 pub returns : goal.returns

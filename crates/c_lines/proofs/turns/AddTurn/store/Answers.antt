@@ -1,6 +1,4 @@
-use Rattle.c_lines.proofs.Imports.{rules, ◌≡◌, ℤ, ◌+ℤ◌, SFits, w128, to_z, of_z, to_z-of_z, ap, ◌∙◌, after_read, after_write, entry}
-use Rattle.c_lines.proofs.InTurn.{left_by_store, leaves_still, rows_still}
-use Rattle.c_lines.specs.Values.{store_told}
+use Rattle.c_lines.proofs.Lemmas.{rules, ◌≡◌, ℤ, ◌+ℤ◌, SFits, w128, to_z, of_z, to_z-of_z, ap, ◌∙◌, after_read, after_write, entry, store_told, left_by_store, leaves_still, rows_still}
 use Rattle.c_lines.proofs.turns.AddTurn.store.Goals as goal
 
 pub returns : goal.returns

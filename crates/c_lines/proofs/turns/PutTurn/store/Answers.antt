@@ -1,6 +1,4 @@
-use Rattle.c_lines.proofs.Imports.{rules, SFits, w128, to_z-of_z, after_write}
-use Rattle.c_lines.proofs.InTurn.{left_by_store, leaves_still, rows_still}
-use Rattle.c_lines.specs.Values.{store_told}
+use Rattle.c_lines.proofs.Lemmas.{rules, SFits, w128, to_z-of_z, after_write, store_told, left_by_store, leaves_still, rows_still}
 use Rattle.c_lines.proofs.turns.PutTurn.store.Goals as goal
 
 pub returns : goal.returns

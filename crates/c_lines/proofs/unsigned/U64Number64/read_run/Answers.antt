@@ -1,5 +1,4 @@
-use Rattle.c_lines.proofs.Imports.{rules, ◌≡◌, ◌+◌, ◌-◌, ◌++◌, ℕ, ℤ, pos, List, length, map, take, refl, sym, ap, ◌∙◌, arith, length-take-le, map-append, take-put_mid, U64, low_64, column_reads, raised, run_of, Table, after_log, after_log-none}
-use Rattle.c_lines.proofs.Parts.{unsigned_run, run_more, log_more}
+use Rattle.c_lines.proofs.Lemmas.{rules, ◌≡◌, ◌+◌, ◌-◌, ◌++◌, ℕ, ℤ, pos, List, length, map, take, refl, sym, ap, ◌∙◌, arith, length-take-le, map-append, take-put_mid, U64, low_64, column_reads, raised, run_of, Table, after_log, after_log-none, unsigned_run, run_more, log_more}
 use Rattle.c_lines.proofs.unsigned.U64Number64.read_run.Goals as goal
 
 pub loop-done-init : goal.loop-done-init

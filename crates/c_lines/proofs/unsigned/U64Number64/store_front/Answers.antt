@@ -1,5 +1,4 @@
-use Rattle.c_lines.proofs.Imports.{rules, ◌≡◌, ℕ, ℤ, pos, get_or, map, take, SFits, to_z, of_z, sym, ap, subst, ◌∙◌, Err, Result, arith, w128, to_z-of_z, length-map, answer_of, after_write, LaneFault, IsFrontStored, without_number}
-use Rattle.c_lines.proofs.Parts.{front_refused, lows_fit, all_stored, one_stored, one_refused}
+use Rattle.c_lines.proofs.Lemmas.{rules, ◌≡◌, ℕ, ℤ, pos, get_or, map, take, SFits, to_z, of_z, sym, ap, subst, ◌∙◌, Err, Result, arith, w128, to_z-of_z, length-map, answer_of, after_write, LaneFault, IsFrontStored, without_number, front_refused, lows_fit, all_stored, one_stored, one_refused}
 use Rattle.c_lines.proofs.unsigned.U64Number64.store_front.Goals as goal
 
 pub put_run-requires-clause-fits : goal.put_run-requires-clause-fits

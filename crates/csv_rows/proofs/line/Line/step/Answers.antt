@@ -1,5 +1,4 @@
-use Rattle.csv_rows.proofs.Imports.{arith, ◌≡◌, ◌<◌, ◌+◌, ◌∙◌, true, length, drop, get_or, subst, ap, length-drop, get_or-drop, is_comma, first_line, IsField}
-use Rattle.csv_rows.proofs.FirstLines.{here_behind, here_end, here_last}
+use Rattle.csv_rows.proofs.Lemmas.{arith, ◌≡◌, ◌<◌, ◌+◌, ◌∙◌, true, length, drop, get_or, subst, ap, length-drop, get_or-drop, is_comma, first_line, IsField, here_behind, here_end, here_last}
 use Rattle.csv_rows.proofs.line.Line.step.Goals as goal
 
 pub returns-then-not-has_comma-clause-more : goal.returns-then-not-has_comma-clause-more

@@ -1,5 +1,4 @@
-use Rattle.csv_rows.proofs.Imports.{arith, ◌≡◌, ◌<◌, length, ap, ◌∙◌, nat_tests, line_start, HasNoQuote, text_behind}
-use Rattle.csv_rows.proofs.PlainLines.{record_rows, line_record, left_plain, start_plain}
+use Rattle.csv_rows.proofs.Lemmas.{arith, ◌≡◌, ◌<◌, length, ap, ◌∙◌, nat_tests, line_start, HasNoQuote, text_behind, record_rows, line_record, left_plain, start_plain}
 use Rattle.csv_rows.proofs.lines.LinesRecords.next.Goals as goal
 
 pub returns : goal.returns

@@ -1,6 +1,4 @@
-use Rattle.std.proofs.Common.{◌≡◌, ◌++◌, IsErr, rules}
-use Rattle.std.proofs.lemmas.List.{take-append-drop}
-use Rattle.layout_io.specs.GatheringLaws.{Gathers-trans, Gathers-append, GathersOrStops-err, Stopped-gathered}
+use Rattle.layout_io.proofs.Imports.{◌≡◌, ◌++◌, IsErr, rules, take-append-drop, Gathers-trans, Gathers-append, GathersOrStops-err, Stopped-gathered}
 use Rattle.layout_io.proofs.Puts.{PutsFront-more, PutsFront-stop, PutsFront-all}
 use Rattle.layout_io.proofs.text_buffer.TextBuffer.put_long.Goals as goal
 

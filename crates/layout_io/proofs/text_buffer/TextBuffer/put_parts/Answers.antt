@@ -1,6 +1,4 @@
-use Rattle.std.proofs.Common.{IsErr, rules}
-use Rattle.layout_io.specs.GatheringLaws.{Puts-loop_err}
-use Rattle.layout_io.specs.Inner.Parts.{text_of_part}
+use Rattle.layout_io.proofs.Imports.{IsErr, rules, Puts-loop_err, text_of_part}
 use Rattle.layout_io.proofs.text_buffer.TextBuffer.put_parts.Goals as goal
 
 pub returns-in_err-put_part : goal.returns-in_err-put_part

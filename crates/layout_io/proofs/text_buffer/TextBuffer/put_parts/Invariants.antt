@@ -1,6 +1,4 @@
-use Rattle.std.proofs.Common.{take, flat_map}
-use Rattle.layout_io.specs.Gathering.{HasPut}
-use Rattle.layout_io.specs.Inner.Parts.{text_of_part}
+use Rattle.layout_io.proofs.Imports.{take, flat_map, HasPut, text_of_part}
 use Rattle.layout_io.proofs.text_buffer.TextBuffer.put_parts.Given as goal
 
 abbrev pub invariant-loop-part : goal.invariant-loop-part

@@ -1,7 +1,5 @@
 -- the bits so far
-use Rattle.record_dim.specs.Std.{ℕ, ◌≡◌, ◌<◌}
-use Rattle.piece_bits.specs.Prelude.{spots_of, spot_at}
-use Rattle.leaf_places.specs.Spots.{bit_by}
+use Rattle.leaf_places.proofs.Imports.{ℕ, ◌≡◌, ◌<◌, spots_of, spot_at, bit_by}
 use Rattle.leaf_places.proofs.sought.Sought.is_from.Given as goal
 
 abbrev pub invariant-loop-k : goal.invariant-loop-k

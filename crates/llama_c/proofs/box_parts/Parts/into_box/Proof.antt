@@ -1,13 +1,11 @@
 -- `into_box` hands what the parts own to the call of std that makes a box of a pointer.
 use Rattle.llama_c.proofs.BoxWalks.{◌≡◌, refl, sym, subst, ap, List, [], ◌∷◌, ◌++◌, T, Fn, Args, a_type, dcons, dnil, inst_fn, Val, vptr, has_ty, WT, id⊢, ftrue, fsep, WpFn, fact, tables, ‵, raw, ◌⊛◌, some, later, prop, at_ret, ◌$◌, ◌∵◌, !, qed, move, drop, use1, join, split, split3, pick, rewrite, regoal, fsplit, fjoin, feq_i, suffices, await, done, whole, sub, stop, fld, no_more, and_then, of_opd, returns, enter, first, blocks, exec, alloc_all, pass_all, free_all, look_at, get, get_in, sets, lands_last, env, no, bounded, block_ptr, plain, heard, nothing, only, calls_at_last, triple_of, framed, says, Stays, stay_dropped, walk_of, ends_at, Goes-blank, proved_at, Bx, D, R, P, B, word, box_typed, box_out, box_in, tokens, alive}
-use Rattle.std.proofs.BoxSteps.Form.{box_ty}
-use Rattle.std.proofs.VecSteps.Shapes.{after}
+use Rattle.llama_c.proofs.Imports.{box_ty, after, met}
 use Rattle.llama_c.specs.contracts.box_parts.Parts as parts
 use Rattle.llama_c.specs.contracts.box_parts.Parts.into_box as f
 use Rattle.llama_c.proofs.box_parts.Parts.into_box.Statement.{statement}
 use Rattle.llama_c.proofs.box_parts.Parts.into_box.Code as code
 use Rattle.std.specs.contracts.boxed.Box.from_raw as g
-use Rattle.std.proofs.boxed.Box.from_raw.Met.{met}
 
 pub into_box_spec : {M : Type 1} → statement M
 into_box_spec 𝓤 𝓛 𝓜 𝓡 wired X Z LX LZ γ d dd allocator drops =

@@ -1,6 +1,4 @@
-use Rattle.map_any.proofs.Imports.{◌≡◌, ◌<◌, ℕ, length, Some, ◌∙◌, subst, sym, arith, rules, Option, IfSome, Order, kinds_of, leaves, Leaf, schema_fields, length-map, term_of, leaf_cells, array_of, lanes_in}
-use Rattle.map_any.proofs.ArrayLaws.{few_slots}
-use Rattle.map_any.proofs.EvenLaws.{blocks_have_lanes, lanes_or}
+use Rattle.map_any.proofs.Lemmas.{◌≡◌, ◌<◌, ℕ, length, Some, ◌∙◌, subst, sym, arith, rules, Option, IfSome, Order, kinds_of, leaves, Leaf, schema_fields, length-map, term_of, leaf_cells, array_of, lanes_in, few_slots, blocks_have_lanes, lanes_or}
 use Rattle.map_any.proofs.any.AnyMap.array_slots.Goals as goal
 
 pub slots_of-slots-requires : goal.slots_of-slots-requires

@@ -1,5 +1,4 @@
-use Rattle.map_any.proofs.Imports.{◌≡◌, ℕ, ◌*◌, ◌<◌, ◌∙◌, List, [], length, get_or, replicate, ap, subst, arith, with_items_is, Owner, RunOwner, Pad, kinds_of, schema_fields, IsFilled, leaf_cells}
-use Rattle.map_any.proofs.Filling.{layout_in, laid_in, leaf_in, filled_self, filled_twice, filled_all, shows_more}
+use Rattle.map_any.proofs.Lemmas.{◌≡◌, ℕ, ◌*◌, ◌<◌, ◌∙◌, List, [], length, get_or, replicate, ap, subst, arith, with_items_is, Owner, RunOwner, Pad, kinds_of, schema_fields, IsFilled, leaf_cells, layout_in, laid_in, leaf_in, filled_self, filled_twice, filled_all, shows_more}
 use Rattle.map_any.proofs.any.AnyMap.bit_owners.Goals as goal
 use Rattle.map_any.proofs.any.AnyMap.bit_owners.Goals.{then-lies_in, else-lies_in}
 

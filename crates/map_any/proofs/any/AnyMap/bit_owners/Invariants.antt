@@ -1,6 +1,5 @@
 -- the leaves so far are shown
-use Rattle.map_any.proofs.Imports.{ℕ, ◌<◌, IsFilled, Show}
-use Rattle.map_any.proofs.Filling.{layout_in}
+use Rattle.map_any.proofs.Lemmas.{ℕ, ◌<◌, IsFilled, Show, layout_in}
 use Rattle.map_any.proofs.any.AnyMap.bit_owners.Given as goal
 
 abbrev pub invariant-loop-leaf : goal.invariant-loop-leaf

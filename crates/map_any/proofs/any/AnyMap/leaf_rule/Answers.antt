@@ -1,6 +1,4 @@
-use Rattle.map_any.proofs.Imports.{◌≡◌, ◌<◌, ◌∙◌, ℕ, List, length, get_or, refl, sym, ap, subst, arith, schema_fields, kinds_of, term_of, AnyMap, LeafRule, length-leaf_cells, IsWideIn, leaf_cells, layout_by, leads, common_steps}
-use Rattle.map_any.proofs.ArrayLaws.{leaf_array}
-use Rattle.map_any.proofs.LeafLaws.{leaf_placed, leaf_whole}
+use Rattle.map_any.proofs.Lemmas.{◌≡◌, ◌<◌, ◌∙◌, ℕ, List, length, get_or, refl, sym, ap, subst, arith, schema_fields, kinds_of, term_of, AnyMap, LeafRule, length-leaf_cells, IsWideIn, leaf_cells, layout_by, leads, common_steps, leaf_array, leaf_placed, leaf_whole}
 use Rattle.map_any.proofs.any.AnyMap.leaf_rule.Goals as goal
 
 in_kinds : (m : AnyMap) (leaf : ℕ) → leaf < length (leaf_cells (kinds_of (schema_fields m.schema))) → leaf < length (kinds_of (schema_fields m.schema))

@@ -1,5 +1,4 @@
-use Rattle.map_any.proofs.Imports.{ℕ, ◌≡◌, List, map, length, All, subst, arith, All-map, indices, slot_at, Hold, Piece, piece_in, PieceRule, pieces_of}
-use Rattle.map_any.proofs.Filling.{layout_in, width_in, laid_in, not_here}
+use Rattle.map_any.proofs.Lemmas.{ℕ, ◌≡◌, List, map, length, All, subst, arith, All-map, indices, slot_at, Hold, Piece, piece_in, PieceRule, pieces_of, layout_in, width_in, laid_in, not_here}
 use Rattle.map_any.proofs.any.AnyMap.lies_in.Goals as goal
 
 pub returns : goal.returns

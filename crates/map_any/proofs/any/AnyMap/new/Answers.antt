@@ -1,9 +1,5 @@
-use Rattle.map_any.proofs.Imports.{◌≡◌, ◌∙◌, ℕ, List, Ok, false, map, refl, ap, subst, sym, schema_fields, kinds_of, Fields, Cell, Hold, Term, term_of, bad_number, leaf_cells, layout_by, accepted, not_full, IsBuiltTerm, is_counted, IsWideIn, EachWith, IsRuled, IsPlanOf, common_steps}
-use Rattle.map_any.proofs.ArrayLaws.{leaves_arrays}
-use Rattle.map_any.proofs.LeafLaws.{leaves_ruled, whole_holds, whole_rules}
-use Rattle.map_any.proofs.Built.{good_parts, good_number}
+use Rattle.map_any.proofs.Lemmas.{◌≡◌, ◌∙◌, ℕ, List, Ok, false, map, refl, ap, subst, sym, schema_fields, kinds_of, Fields, Cell, Hold, Term, term_of, bad_number, leaf_cells, layout_by, accepted, not_full, IsBuiltTerm, is_counted, IsWideIn, EachWith, IsRuled, IsPlanOf, common_steps, arith, leaves_arrays, leaves_ruled, whole_holds, whole_rules, good_parts, good_number}
 use Rattle.map_any.proofs.any.AnyMap.new.Goals as goal
-use Rattle.std.proofs.Common.{arith}
 
 pub leaf_rules-requires-clause-holds : goal.leaf_rules-requires-clause-holds
 leaf_rules-requires-clause-holds c = grind (arith, common_steps, whole_holds)

@@ -1,5 +1,4 @@
-use Rattle.map_any.proofs.Imports.{ℕ, ◌≡◌, ◌<◌, ◌≤◌, ◌∙◌, List, [], ◌∷◌, length, map, get_or, slice_index, sym, ap, subst, arith, schema_fields, Owner, IsLocated, Hold, Piece, begins_fit, PieceRule, pieces_in, term_of, AnyMap, layout_by}
-use Rattle.map_any.proofs.CellFacts.{rule_located}
+use Rattle.map_any.proofs.Lemmas.{ℕ, ◌≡◌, ◌<◌, ◌≤◌, ◌∙◌, List, [], ◌∷◌, length, map, get_or, slice_index, sym, ap, subst, arith, schema_fields, Owner, IsLocated, Hold, Piece, begins_fit, PieceRule, pieces_in, term_of, AnyMap, layout_by, rule_located}
 use Rattle.map_any.proofs.any.AnyMap.piece.Goals as goal
 use Rattle.map_any.proofs.any.AnyMap.piece.Goals.{After-slot_of_row}
 

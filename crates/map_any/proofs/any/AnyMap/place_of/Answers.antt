@@ -1,8 +1,6 @@
-use Rattle.map_any.proofs.Imports.{◌≡◌, ◌∙◌, ◌/◌, List, get_or, ap, kinds_of, schema_fields, Piece, begin_in, PieceRule, term_of, leaf_cells, common_steps}
-use Rattle.map_any.proofs.ArrayLaws.{piece_fits, array_place}
+use Rattle.map_any.proofs.Lemmas.{◌≡◌, ◌∙◌, ◌/◌, List, get_or, ap, kinds_of, schema_fields, Piece, begin_in, PieceRule, term_of, leaf_cells, common_steps, arith, piece_fits, array_place}
 use Rattle.map_any.proofs.any.AnyMap.place_of.Goals as goal
 use Rattle.map_any.proofs.any.AnyMap.place_of.Goals.{After-index-as_slice-0}
-use Rattle.std.proofs.Common.{arith}
 
 -- the rule that is read is the first of the leaf
 first : (c : goal.After-index-as_slice-0) → c.index-as_slice-0.result ≡ get_or c.leaf_rule.result.now.rule.pieces.items 0 c.index-as_slice-0.result

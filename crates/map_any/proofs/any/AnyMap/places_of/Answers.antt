@@ -1,6 +1,4 @@
-use Rattle.map_any.proofs.Imports.{rules, ◌≡◌, ◌<◌, ◌∙◌, ◌*◌, ◌/◌, ◌%◌, ℕ, get_or, ap, subst, arith, kinds_of, schema_fields, Piece, begin_in, PieceRule, term_of, leaf_cells, common_steps}
-use Rattle.map_any.proofs.ArrayLaws.{piece_fits}
-use Rattle.map_any.proofs.EvenLaws.{array_places}
+use Rattle.map_any.proofs.Lemmas.{rules, ◌≡◌, ◌<◌, ◌∙◌, ◌*◌, ◌/◌, ◌%◌, ℕ, get_or, ap, subst, arith, kinds_of, schema_fields, Piece, begin_in, PieceRule, term_of, leaf_cells, common_steps, piece_fits, array_places}
 use Rattle.map_any.proofs.any.AnyMap.places_of.Goals as goal
 use Rattle.map_any.proofs.any.AnyMap.places_of.Goals.{After-index-as_slice-0}
 

@@ -1,7 +1,5 @@
-use Rattle.map_any.proofs.Imports.{get_or, runs_of, common_steps}
-use Rattle.map_any.proofs.RunLaws.{runs_shown}
+use Rattle.map_any.proofs.Lemmas.{get_or, runs_of, common_steps, arith, runs_shown}
 use Rattle.map_any.proofs.any.AnyMap.runs.Goals as goal
-use Rattle.std.proofs.Common.{arith}
 
 pub returns : goal.returns
 unfolding runs_of

@@ -1,6 +1,4 @@
-use Rattle.map_any.proofs.Imports.{ℕ, sym, subst, schema_fields, kinds_of, term_of, leaf_cells_kinds, layout_by, AreReadWide, LeafRule}
-use Rattle.map_any.proofs.AnyFacts.{bytes_of}
-use Rattle.map_any.proofs.LeafLaws.{leaf_short, short_uncounted}
+use Rattle.map_any.proofs.Lemmas.{ℕ, sym, subst, schema_fields, kinds_of, term_of, leaf_cells_kinds, layout_by, AreReadWide, LeafRule, bytes_of, leaf_short, short_uncounted}
 use Rattle.map_any.proofs.any.AnyMap.short.Goals as goal
 
 pub returns-clause-form : goal.returns-clause-form

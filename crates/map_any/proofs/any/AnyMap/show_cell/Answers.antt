@@ -1,5 +1,4 @@
-use Rattle.map_any.proofs.Imports.{◌≡◌, ℕ, ◌+◌, ◌-◌, ◌<◌, ◌≤◌, List, ◌∷◌, map, length, get_or, drop, sym, ap, ◌∙◌, subst, arith, flat_map, range_with_len, drop_more, drop_all, indices, Owner, Bit, owners_in, IsLaidOut, spells_split, bits_located, Hold, Piece, RunOwner, IsFilled, IsShown, ShowBelow, common_steps}
-use Rattle.map_any.proofs.Filling.{layout_in, width_in, laid_in, narrow_in, filled_self, filled_twice, piece_filled, shows_piece, shows_other, shows_all}
+use Rattle.map_any.proofs.Lemmas.{◌≡◌, ℕ, ◌+◌, ◌-◌, ◌<◌, ◌≤◌, List, ◌∷◌, map, length, get_or, drop, sym, ap, ◌∙◌, subst, arith, flat_map, range_with_len, drop_more, drop_all, indices, Owner, Bit, owners_in, IsLaidOut, spells_split, bits_located, Hold, Piece, RunOwner, IsFilled, IsShown, ShowBelow, common_steps, layout_in, width_in, laid_in, narrow_in, filled_self, filled_twice, piece_filled, shows_piece, shows_other, shows_all}
 use Rattle.map_any.proofs.any.AnyMap.show_cell.Goals as goal
 use Rattle.map_any.proofs.any.AnyMap.show_cell.Goals.{then-piece-blob, else-piece-blob}
 

@@ -1,6 +1,5 @@
 -- the pieces that are left spell the bits that are left, and the bits before them are shown
-use Rattle.map_any.proofs.Imports.{◌≡◌, ◌-◌, ◌≤◌, drop, map, flat_map, range_with_len, Bit, owners_in, IsFilled, ShowBelow}
-use Rattle.map_any.proofs.Filling.{layout_in, width_in}
+use Rattle.map_any.proofs.Lemmas.{◌≡◌, ◌-◌, ◌≤◌, drop, map, flat_map, range_with_len, Bit, owners_in, IsFilled, ShowBelow, layout_in, width_in}
 use Rattle.map_any.proofs.any.AnyMap.show_cell.Given as goal
 
 abbrev pub invariant-loop-piece : goal.invariant-loop-piece

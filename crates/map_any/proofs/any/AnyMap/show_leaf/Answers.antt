@@ -1,5 +1,4 @@
-use Rattle.map_any.proofs.Imports.{◌<◌, length, arith, indices}
-use Rattle.map_any.proofs.Filling.{laid_in}
+use Rattle.map_any.proofs.Lemmas.{◌<◌, length, arith, indices, laid_in}
 use Rattle.map_any.proofs.any.AnyMap.show_leaf.Goals as goal
 
 pub returns-clause-shown : goal.returns-clause-shown

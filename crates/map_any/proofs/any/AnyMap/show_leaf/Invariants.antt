@@ -1,6 +1,5 @@
 -- the rows so far are shown
-use Rattle.map_any.proofs.Imports.{ℕ, ◌<◌, IsFilled, Show}
-use Rattle.map_any.proofs.Filling.{layout_in}
+use Rattle.map_any.proofs.Lemmas.{ℕ, ◌<◌, IsFilled, Show, layout_in}
 use Rattle.map_any.proofs.any.AnyMap.show_leaf.Given as goal
 
 abbrev pub invariant-loop-row : goal.invariant-loop-row

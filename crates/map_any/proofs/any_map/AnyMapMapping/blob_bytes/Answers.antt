@@ -1,5 +1,4 @@
-use Rattle.map_any.proofs.Imports.{◌*◌, ◌∙◌, ℕ, List, get_or, ap, schema_fields, term_of, layout_by}
-use Rattle.map_any.proofs.AnyFacts.{bytes_at}
+use Rattle.map_any.proofs.Lemmas.{◌*◌, ◌∙◌, ℕ, List, get_or, ap, schema_fields, term_of, layout_by, bytes_at}
 use Rattle.map_any.proofs.any_map.AnyMapMapping.blob_bytes.Goals as goal
 
 pub returns : goal.returns

@@ -1,5 +1,4 @@
-use Rattle.map_any.proofs.Imports.{ℕ, ◌≡◌, ◌<◌, List, length, slice_get, sym, subst, arith, slice_get-get_or, schema_fields, kinds_of, Hold, term_of, AnyMap, leaf_cells, common_steps}
-use Rattle.map_any.proofs.AnyFacts.{hold_in}
+use Rattle.map_any.proofs.Lemmas.{ℕ, ◌≡◌, ◌<◌, List, length, slice_get, sym, subst, arith, slice_get-get_or, schema_fields, kinds_of, Hold, term_of, AnyMap, leaf_cells, common_steps, hold_in}
 use Rattle.map_any.proofs.any_map.AnyMapMapping.hold.Goals as goal
 
 inside : (m : AnyMap) (holds : List Hold) (cell : ℕ) → holds ≡ m.holds → cell < length (leaf_cells (kinds_of (schema_fields m.schema))) → cell < length holds

@@ -1,5 +1,4 @@
-use Rattle.map_any.proofs.Imports.{List, map, slice_index, sym, subst, schema_fields, Owner, IsLocated, Hold, Piece, term_of, layout_by}
-use Rattle.map_any.proofs.CellFacts.{rule_located, rule_begins}
+use Rattle.map_any.proofs.Lemmas.{List, map, slice_index, sym, subst, schema_fields, Owner, IsLocated, Hold, Piece, term_of, layout_by, rule_located, rule_begins}
 use Rattle.map_any.proofs.any_map.AnyMapMapping.locate.Goals as goal
 
 pub slot_of_row-requires-clause-few : goal.slot_of_row-requires-clause-few

@@ -1,7 +1,5 @@
-use Rattle.map_any.proofs.Imports.{◌≡◌, List, schema_fields, Fields, Cell, Term, term_of}
-use Rattle.map_any.proofs.Built.{good_parts, good_number}
+use Rattle.map_any.proofs.Lemmas.{◌≡◌, List, schema_fields, Fields, Cell, Term, term_of, arith, good_parts, good_number}
 use Rattle.map_any.proofs.cell_map.CellMap.new.Goals as goal
-use Rattle.std.proofs.Common.{arith}
 
 -- what is said of an expression, leaves and cells is said of equal ones
 of_equal : (P : Term → Fields → List Cell → Type 0) {t u : Term} {f g : Fields} {c d : List Cell} → u ≡ t → g ≡ f → d ≡ c → P t f c → P u g d

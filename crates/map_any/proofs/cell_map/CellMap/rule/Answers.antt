@@ -1,5 +1,4 @@
-use Rattle.map_any.proofs.Imports.{◌≡◌, ◌<◌, ◌∙◌, ℕ, List, length, get_or, ap, arith, schema_fields, term_of, Rule, CellMap, common_steps}
-use Rattle.map_any.proofs.CellFacts.{has_rule, rule_in}
+use Rattle.map_any.proofs.Lemmas.{◌≡◌, ◌<◌, ◌∙◌, ℕ, List, length, get_or, ap, arith, schema_fields, term_of, Rule, CellMap, common_steps, has_rule, rule_in}
 use Rattle.map_any.proofs.cell_map.CellMap.rule.Goals as goal
 
 inside : (m : CellMap) (rules : List Rule) (cell : ℕ) → rules ≡ m.plan.rules → cell < length m.cells.items → cell < length rules

@@ -1,5 +1,4 @@
-use Rattle.map_bits.proofs.Imports.{◌≡◌, ℕ, ◌*◌, ◌^◌, ◌<◌, ◌≤◌, List, ap, subst, ◌∙◌, rules, sum, up, Hold, narrow_holds, widths_in, LieInBits}
-use Rattle.map_bits.proofs.Slots.{big_slot, big_blob, not_too_big}
+use Rattle.map_bits.proofs.Lemmas.{◌≡◌, ℕ, ◌*◌, ◌^◌, ◌<◌, ◌≤◌, List, ap, subst, ◌∙◌, rules, sum, up, Hold, narrow_holds, widths_in, LieInBits, big_slot, big_blob, not_too_big}
 use Rattle.map_bits.proofs.bit_aos.BitAos.new.Goals as goal
 
 pub returns-in_err-part-clause-too_big : goal.returns-in_err-part-clause-too_big

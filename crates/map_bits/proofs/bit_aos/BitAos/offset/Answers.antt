@@ -1,6 +1,4 @@
-use Rattle.map_bits.proofs.Imports.{ℕ, ◌<◌, List, ◌∙◌, arith, widths_in}
-use Rattle.map_bits.proofs.Widths.{count}
-use Rattle.map_bits.proofs.Slots.{begin_at, begin_fits}
+use Rattle.map_bits.proofs.Lemmas.{ℕ, ◌<◌, List, ◌∙◌, arith, widths_in, count, begin_at, begin_fits}
 use Rattle.map_bits.proofs.bit_aos.BitAos.offset.Goals as goal
 
 pub returns-clause-low : goal.returns-clause-low

@@ -1,5 +1,4 @@
-use Rattle.map_bits.proofs.Imports.{widths_in, bit_aos_laws}
-use Rattle.map_bits.proofs.Slots.{blob_bytes_is}
+use Rattle.map_bits.proofs.Lemmas.{widths_in, bit_aos_laws, blob_bytes_is}
 use Rattle.map_bits.proofs.bit_aos.BitAosMapping.blob_bytes.Goals as goal
 
 pub returns : goal.returns

@@ -1,6 +1,4 @@
-use Rattle.map_bits.proofs.Imports.{ℕ, ◌+◌, ◌*◌, ◌<◌, refl, ap, ◌∙◌, arith, one_lane, widths_in}
-use Rattle.map_bits.proofs.Widths.{taken_is}
-use Rattle.map_bits.proofs.Slots.{located_is}
+use Rattle.map_bits.proofs.Lemmas.{ℕ, ◌+◌, ◌*◌, ◌<◌, refl, ap, ◌∙◌, arith, one_lane, widths_in, taken_is, located_is}
 use Rattle.map_bits.proofs.bit_aos.BitAosRuled.rule.Goals as goal
 
 pub returns-clause-places : goal.returns-clause-places

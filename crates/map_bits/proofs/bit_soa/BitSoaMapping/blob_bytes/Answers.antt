@@ -1,5 +1,4 @@
-use Rattle.map_bits.proofs.Imports.{◌<◌, length, ◌∙◌, arith, widths_in, bit_soa_laws}
-use Rattle.map_bits.proofs.Widths.{taken_read}
+use Rattle.map_bits.proofs.Lemmas.{◌<◌, length, ◌∙◌, arith, widths_in, bit_soa_laws, taken_read}
 use Rattle.map_bits.proofs.Arrays.{blob_bytes_is, blob_count_is}
 use Rattle.map_bits.proofs.bit_soa.BitSoaMapping.blob_bytes.Goals as goal
 

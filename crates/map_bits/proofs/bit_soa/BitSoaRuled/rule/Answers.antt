@@ -1,5 +1,4 @@
-use Rattle.map_bits.proofs.Imports.{ℕ, ◌*◌, refl, ap, ◌∙◌, arith, one_lane, widths_in}
-use Rattle.map_bits.proofs.Widths.{taken_is}
+use Rattle.map_bits.proofs.Lemmas.{ℕ, ◌*◌, refl, ap, ◌∙◌, arith, one_lane, widths_in, taken_is}
 use Rattle.map_bits.proofs.Arrays.{located_is}
 use Rattle.map_bits.proofs.bit_soa.BitSoaRuled.rule.Goals as goal
 

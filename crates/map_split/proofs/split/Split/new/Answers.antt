@@ -1,7 +1,4 @@
-use Rattle.record_dim.specs.Std.{Bool, List, ap, common_steps, arith}
-use Rattle.std.specs.List.{count_by}
-use Rattle.places.specs.Prelude.{split}
-use Rattle.map_split.specs.SidesLaws.{length-first_of, length-rest_of}
+use Rattle.map_split.proofs.Imports.{Bool, List, ap, common_steps, arith, count_by, split, length-first_of, length-rest_of}
 use Rattle.map_split.proofs.split.Split.new.Goals as goal
 
 pub invariant_of-result : goal.invariant_of-result

@@ -1,11 +1,4 @@
-use Rattle.record_dim.specs.Std.{ℕ, ◌<◌, Bool, List, length, map, slice_index, subst, arith}
-use Rattle.places.specs.Prelude.{Owner, IsLocated, shifted, split}
-use Rattle.places.specs.declared.piece.Hold.{Hold}
-use Rattle.places.specs.declared.piece.Piece.{Piece}
-use Rattle.map_split.specs.Sides.{merged, rank_first, rank_rest}
-use Rattle.map_split.specs.Inner.Seats.{IsSeat}
-use Rattle.map_split.specs.SplitPlacesLaws.{first_located, rest_located}
-use Rattle.map_split.specs.declared.sides.Seat.TheVariants.{First, Rest}
+use Rattle.map_split.proofs.Imports.{ℕ, ◌<◌, Bool, List, length, map, slice_index, subst, arith, Owner, IsLocated, shifted, split, Hold, Piece, merged, rank_first, rank_rest, IsSeat, first_located, rest_located, First, Rest}
 use Rattle.map_split.proofs.Rows.{width_first, width_rest}
 use Rattle.map_split.proofs.split.SplitMapping.locate.Goals as goal
 

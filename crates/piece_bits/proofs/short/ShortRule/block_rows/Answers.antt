@@ -1,5 +1,4 @@
-use Rattle.piece_bits.proofs.Imports.{arith, pow_pos}
-use Rattle.piece_bits.proofs.Places.{masked_slot}
+use Rattle.piece_bits.proofs.Lemmas.{arith, pow_pos, masked_slot}
 use Rattle.piece_bits.proofs.short.ShortRule.block_rows.Goals as goal
 
 pub returns : goal.returns

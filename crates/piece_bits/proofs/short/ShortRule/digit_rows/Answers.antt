@@ -1,5 +1,4 @@
-use Rattle.piece_bits.proofs.Imports.{ℕ, ◌≡◌, ◌%◌, ◌^◌, subst, arith, morton_line}
-use Rattle.piece_bits.proofs.StretchLaws.{twos_divide, shifted}
+use Rattle.piece_bits.proofs.Lemmas.{ℕ, ◌≡◌, ◌%◌, ◌^◌, subst, arith, morton_line, twos_divide, shifted}
 use Rattle.piece_bits.proofs.short.ShortRule.digit_rows.Goals as goal
 
 pub returns-clause-apart : goal.returns-clause-apart

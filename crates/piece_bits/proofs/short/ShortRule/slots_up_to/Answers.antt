@@ -1,5 +1,4 @@
-use Rattle.piece_bits.proofs.Imports.{ℕ, ◌≡◌, ◌+◌, ◌*◌, ◌^◌, ◌%◌, ap, ◌∙◌, arith, mod-eq_of_lt, pow-lt}
-use Rattle.piece_bits.proofs.Places.{slots_before}
+use Rattle.piece_bits.proofs.Lemmas.{ℕ, ◌≡◌, ◌+◌, ◌*◌, ◌^◌, ◌%◌, ap, ◌∙◌, arith, mod-eq_of_lt, pow-lt, slots_before}
 use Rattle.piece_bits.proofs.short.ShortRule.slots_up_to.Goals as goal
 
 pub returns : goal.returns

@@ -1,5 +1,4 @@
-use Rattle.piece_bits.proofs.Imports.{ℕ, ◌≢◌, ◌∙◌, sym, ap, subst, arith, bit_and, and_mask, Scattered, HasStart, ShortRule, Spread}
-use Rattle.piece_bits.proofs.StretchLaws.{AreSteps, steps_stretch, plain_steps, block_steps, blocks_steps, column_steps, digit_steps}
+use Rattle.piece_bits.proofs.Lemmas.{ℕ, ◌≢◌, ◌∙◌, sym, ap, subst, arith, bit_and, and_mask, Scattered, HasStart, ShortRule, Spread, AreSteps, steps_stretch, plain_steps, block_steps, blocks_steps, column_steps, digit_steps}
 use Rattle.piece_bits.proofs.short.ShortRule.stretch.Goals as goal
 use Rattle.piece_bits.proofs.short.ShortRule.stretch.Goals.{in-Plain, in-Blocks+then-row-self-eq0, in-Blocks+else-row-self-eq0, in-Columns+in_ok-apart-in-Columns, in-Morton, in-Scattered, in_default}
 

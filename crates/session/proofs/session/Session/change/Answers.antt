@@ -1,5 +1,4 @@
-use Rattle.session.proofs.Imports.{rules, ◌≡◌, ◌*◌, ℕ, Err, refl, subst, on_view, live_bits, Answers, Stands, world_of, stencil_run}
-use Rattle.session.proofs.Steps.{line_left, line_shows}
+use Rattle.session.proofs.Lemmas.{rules, ◌≡◌, ◌*◌, ℕ, Err, refl, subst, on_view, live_bits, Answers, Stands, world_of, stencil_run, line_left, line_shows}
 use Rattle.session.proofs.session.Session.change.Goals as goal
 
 pub returns-in-Assign-clause-answers : goal.returns-in-Assign-clause-answers

@@ -1,5 +1,4 @@
-use Rattle.session.proofs.Imports.{Ok, refl, subst, New, view, Gives, left_of, world_of}
-use Rattle.session.proofs.Steps.{line_gives}
+use Rattle.session.proofs.Lemmas.{Ok, refl, subst, New, view, Gives, left_of, world_of, line_gives}
 use Rattle.session.proofs.session.Session.command.Goals as goal
 
 pub returns-in-Blank-clause-answers : goal.returns-in-Blank-clause-answers

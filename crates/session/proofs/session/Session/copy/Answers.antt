@@ -1,7 +1,4 @@
-use Rattle.session.proofs.Imports.{rules, ◌≡◌, ◌∙◌, map, Err, refl, sym, subst, copy, Left, view_of, GivesUp, GivesUp-then, goes_then, IsAt, known_place, world_of, Tested, goes_gives}
-use Rattle.session.proofs.Copies.{first_of, copy_in}
-use Rattle.session.proofs.CopySteps.{copy_within, no_copy}
-use Rattle.session.proofs.Named.{gives_up_still}
+use Rattle.session.proofs.Lemmas.{rules, ◌≡◌, ◌∙◌, map, Err, refl, sym, subst, copy, Left, view_of, GivesUp, GivesUp-then, goes_then, IsAt, known_place, world_of, Tested, goes_gives, first_of, copy_in, copy_within, no_copy, gives_up_still}
 use Rattle.session.proofs.session.Session.copy.Goals as goal
 
 pub returns-in_err-target-clause-copied : goal.returns-in_err-target-clause-copied

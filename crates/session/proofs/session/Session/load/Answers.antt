@@ -1,5 +1,4 @@
-use Rattle.session.proofs.Imports.{rules, ◌≡◌, ◌∙◌, Bool, List, true, false, Some, Err, refl, sym, ap, subst, Rose, File, Table, load, loaded_table, Goes, quiet, with_view, World, goes_then, new_of, Loads, UnreadOnly, ToldFor, left_of, world_in, world_of, sure}
-use Rattle.session.proofs.Reading.{after_load, unread_after, told_first}
+use Rattle.session.proofs.Lemmas.{rules, ◌≡◌, ◌∙◌, Bool, List, true, false, Some, Err, refl, sym, ap, subst, Rose, File, Table, load, loaded_table, Goes, quiet, with_view, World, goes_then, new_of, Loads, UnreadOnly, ToldFor, left_of, world_in, world_of, sure, after_load, unread_after, told_first}
 use Rattle.session.proofs.session.Session.load.Goals as goal
 
 pub returns-in_err-view-clause-loads : goal.returns-in_err-view-clause-loads

@@ -1,5 +1,4 @@
-use Rattle.session.proofs.Imports.{rules, ◌≡◌, Err, refl}
-use Rattle.session.proofs.Views.{session_left}
+use Rattle.session.proofs.Lemmas.{rules, ◌≡◌, Err, refl, session_left}
 use Rattle.session.proofs.session.Session.on_view.Goals as goal
 
 pub returns-in_err-work_on-clause-answers : goal.returns-in_err-work_on-clause-answers

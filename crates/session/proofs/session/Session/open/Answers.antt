@@ -1,5 +1,4 @@
-use Rattle.session.proofs.Imports.{rules, ◌∙◌, true, sym, ap, Rose, Table, open_view, opened_table, quiet, with_view, goes_then, left_of, world_of, sure, World}
-use Rattle.session.proofs.Reading.{after_load, unread_after, told_first}
+use Rattle.session.proofs.Lemmas.{rules, ◌∙◌, true, sym, ap, Rose, Table, open_view, opened_table, quiet, with_view, goes_then, left_of, world_of, sure, World, after_load, unread_after, told_first}
 use Rattle.session.proofs.session.Session.open.Goals as goal
 
 pub returns-in_err-view-clause-loads : goal.returns-in_err-view-clause-loads

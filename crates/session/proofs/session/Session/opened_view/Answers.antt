@@ -1,5 +1,4 @@
-use Rattle.session.proofs.Imports.{rules, ◌≡◌, ◌∙◌, ◌+◌, ◌^◌, ℕ, List, Some, Table, opened_beside, opened_table, read, ◌>>=◌, free, room, World, goes_then, placed_table, world_of, false, Ok, refl, ap, sure}
-use Rattle.session.proofs.Reading.{IsOf, within_first, before_reading, told_of, loads_of, unloads_of, unread_of, unread_test, unread_gives}
+use Rattle.session.proofs.Lemmas.{rules, ◌≡◌, ◌∙◌, ◌+◌, ◌^◌, ℕ, List, Some, Table, opened_beside, opened_table, read, ◌>>=◌, free, room, World, goes_then, placed_table, world_of, false, Ok, refl, ap, sure, IsOf, within_first, before_reading, told_of, loads_of, unloads_of, unread_of, unread_test, unread_gives}
 use Rattle.session.proofs.session.Session.opened_view.Goals as goal
 
 -- where its name is free, and there is room for a view, a table is that of the bytes of its file

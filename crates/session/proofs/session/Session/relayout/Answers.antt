@@ -1,7 +1,4 @@
-use Rattle.session.proofs.Imports.{rules, ◌≡◌, ◌∙◌, List, [], Err, refl, sym, ap, subst, term_of, Table, relayout, laid_anew, Entry, view_of, GivesUp, GivesUp-then, goes_then, IsAt, known_at, known_place, ViewEntry, world_of, laid_pair, Ok, Tested, goes_gives}
-use Rattle.session.proofs.Named.{table_changed}
-use Rattle.session.proofs.Copies.{first_of, laid_at, made_at}
-use Rattle.session.proofs.CopySteps.{laid_within, none_taken}
+use Rattle.session.proofs.Lemmas.{rules, ◌≡◌, ◌∙◌, List, [], Err, refl, sym, ap, subst, term_of, Table, relayout, laid_anew, Entry, view_of, GivesUp, GivesUp-then, goes_then, IsAt, known_at, known_place, ViewEntry, world_of, laid_pair, Ok, Tested, goes_gives, table_changed, first_of, laid_at, made_at, laid_within, none_taken}
 use Rattle.session.proofs.session.Session.relayout.Goals as goal
 
 pub returns-in_err-expr-clause-laid : goal.returns-in_err-expr-clause-laid

@@ -1,5 +1,4 @@
-use Rattle.session.proofs.Imports.{◌∙◌, false, [], sym, ap, New, sentence_of, Line, open_view, load, step, command, new_of, world_of, no_file, file_read_by}
-use Rattle.session.proofs.Steps.{steps_read, steps_shown, cause_shown, unread_read, unread_shown, untaken_quiet, untaken_shown}
+use Rattle.session.proofs.Lemmas.{◌∙◌, false, [], sym, ap, New, sentence_of, Line, open_view, load, step, command, new_of, world_of, no_file, file_read_by, steps_read, steps_shown, cause_shown, unread_read, unread_shown, untaken_quiet, untaken_shown}
 use Rattle.session.proofs.session.Session.step.Goals as goal
 
 pub returns-in-Load-clause-step : goal.returns-in-Load-clause-step

@@ -1,6 +1,4 @@
-use Rattle.subviews.proofs.Imports.{◌+◌, ◌-◌, refl, arith, rows_of}
-use Rattle.subviews.proofs.Growth.{run_behind}
-use Rattle.subviews.proofs.Ways.{row_held, row_inside}
+use Rattle.subviews.proofs.Lemmas.{◌+◌, ◌-◌, refl, arith, rows_of, run_behind, row_held, row_inside}
 use Rattle.subviews.proofs.runs.Walk.next_run.Goals as goal
 
 pub overflow_add-self : goal.overflow_add-self

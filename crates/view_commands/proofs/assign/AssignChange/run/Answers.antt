@@ -1,7 +1,5 @@
-use Rattle.view_commands.proofs.Imports.{rules, refl, bound_term, all_left, arith}
+use Rattle.view_commands.proofs.Lemmas.{rules, refl, bound_term, all_left, arith, goes_in, no_index, no_leaf, no_value, changed_as, stopped}
 use Rattle.expr_lang.specs.Prelude.{term_of}
-use Rattle.view_commands.proofs.Arms.{goes_in, no_index, no_leaf, no_value}
-use Rattle.view_commands.proofs.Changing.{changed_as, stopped}
 use Rattle.view_commands.proofs.assign.AssignChange.run.Goals as goal
 
 pub returns-in_err-leaf-clause-changed : goal.returns-in_err-leaf-clause-changed

@@ -1,6 +1,4 @@
-use Rattle.view_commands.proofs.Imports.{rules, refl, kernel_left, fit_kernel}
-use Rattle.view_commands.proofs.Arms.{kernel_done, kernel_refused, no_kernel}
-use Rattle.view_commands.proofs.Changing.{stopped}
+use Rattle.view_commands.proofs.Lemmas.{rules, refl, kernel_left, fit_kernel, kernel_done, kernel_refused, no_kernel, stopped}
 use Rattle.view_commands.proofs.kernel.RunKernelChange.run.Goals as goal
 
 pub returns-in_err-kernel-clause-changed : goal.returns-in_err-kernel-clause-changed

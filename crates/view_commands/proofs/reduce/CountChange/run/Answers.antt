@@ -1,7 +1,5 @@
-use Rattle.view_commands.proofs.Imports.{rules, ◌≡◌, pos, bound_term, FitsSigned, w128, to_z-of_z, common_steps, arith}
+use Rattle.view_commands.proofs.Lemmas.{rules, ◌≡◌, pos, bound_term, FitsSigned, w128, to_z-of_z, common_steps, arith, count_done, count_refused, no_test, stopped}
 use Rattle.expr_lang.specs.Prelude.{term_of}
-use Rattle.view_commands.proofs.Arms.{count_done, count_refused, no_test}
-use Rattle.view_commands.proofs.Changing.{stopped}
 use Rattle.view_commands.proofs.reduce.CountChange.run.Goals as goal
 
 pub returns-in-Ok-clause-changed : goal.returns-in-Ok-clause-changed

@@ -1,6 +1,4 @@
-use Rattle.view_commands.proofs.Imports.{rules, FitsSigned, w128, to_z-of_z, common_steps, arith}
-use Rattle.view_commands.proofs.Arms.{no_column, reduce_done, reduce_empty}
-use Rattle.view_commands.proofs.Changing.{stopped}
+use Rattle.view_commands.proofs.Lemmas.{rules, FitsSigned, w128, to_z-of_z, common_steps, arith, no_column, reduce_done, reduce_empty, stopped}
 use Rattle.view_commands.proofs.reduce.ReduceChange.run.Goals as goal
 
 pub returns-in-Some-clause-changed : goal.returns-in-Some-clause-changed

@@ -1,6 +1,4 @@
-use Rattle.view_commands.proofs.Imports.{ap, ◌∙◌, bits_of, bytes_of, bytes_text, done_to, GivesUp-then, Told, telling, Tested, common_steps, arith}
-use Rattle.view_commands.specs.ExitsLaws.{gave_up}
-use Rattle.view_commands.proofs.Shown.{tells_left, then_broke, then_wrote}
+use Rattle.view_commands.proofs.Lemmas.{ap, ◌∙◌, bits_of, bytes_of, bytes_text, done_to, GivesUp-then, Told, telling, Tested, common_steps, arith, gave_up, tells_left, then_broke, then_wrote}
 use Rattle.view_commands.proofs.show.BytesWork.run.Goals as goal
 
 pub returns-clause-answers : goal.returns-clause-answers

@@ -1,8 +1,5 @@
-use Rattle.view_commands.proofs.Imports.{rules, refl, map, option_map, assignment_of, front_left, updated_front, common_steps, arith}
+use Rattle.view_commands.proofs.Lemmas.{rules, refl, map, option_map, assignment_of, front_left, updated_front, common_steps, arith, front_goes, no_filter, no_sets, not_once, update_goes, changed_as, stopped, filter_is, once_left}
 use Rattle.expr_lang.specs.Prelude.{term_of}
-use Rattle.view_commands.proofs.Arms.{front_goes, no_filter, no_sets, not_once, update_goes}
-use Rattle.view_commands.proofs.Changing.{changed_as, stopped}
-use Rattle.view_commands.proofs.Sets.{filter_is, once_left}
 use Rattle.view_commands.proofs.update.UpdateChange.run.Goals as goal
 
 pub returns-in_err-each_once-clause-changed : goal.returns-in_err-each_once-clause-changed

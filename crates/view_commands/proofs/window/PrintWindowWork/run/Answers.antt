@@ -1,7 +1,4 @@
-use Rattle.view_commands.proofs.Imports.{rules, IsLeft, common_steps, arith}
-use Rattle.view_commands.specs.ExitsLaws.{gave_up}
-use Rattle.view_commands.proofs.Shown.{then_broke, then_wrote}
-use Rattle.view_commands.proofs.Windows.{no_window, window_goes}
+use Rattle.view_commands.proofs.Lemmas.{rules, IsLeft, common_steps, arith, gave_up, then_broke, then_wrote, no_window, window_goes}
 use Rattle.view_commands.proofs.window.PrintWindowWork.run.Goals as goal
 
 pub returns-in_err-window-clause-answers : goal.returns-in_err-window-clause-answers

@@ -1,5 +1,4 @@
-use Rattle.views.proofs.Imports.{◌≡◌, ◌<◌, length, get_or, sym, ap, ◌∙◌, subst, arith, get_or_read, schema_fields, term_of, layout_by, bits_of, Table, owners_of, blob_bits_of, []}
-use Rattle.views.proofs.KeptLaws.{kept_blob}
+use Rattle.views.proofs.Lemmas.{◌≡◌, ◌<◌, length, get_or, sym, ap, ◌∙◌, subst, arith, get_or_read, schema_fields, term_of, layout_by, bits_of, Table, owners_of, blob_bits_of, [], kept_blob}
 use Rattle.views.proofs.view.View.blob.Goals as goal
 
 pub returns : goal.returns

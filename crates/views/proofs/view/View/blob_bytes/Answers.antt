@@ -1,5 +1,4 @@
-use Rattle.views.proofs.Imports.{ℕ, ◌≡◌, ◌+◌, ◌*◌, ◌≤◌, ◌∙◌, length, get_or, take, ap, arith, sum_by, take_all, get_or_read, sum_by_more_le, Owner, Table, owners_of, []}
-use Rattle.views.proofs.KeptLaws.{byte_count, few_bytes}
+use Rattle.views.proofs.Lemmas.{ℕ, ◌≡◌, ◌+◌, ◌*◌, ◌≤◌, ◌∙◌, length, get_or, take, ap, arith, sum_by, take_all, get_or_read, sum_by_more_le, Owner, Table, owners_of, [], byte_count, few_bytes}
 use Rattle.views.proofs.view.View.blob_bytes.Goals as goal
 
 pub overflow_add-bytes : goal.overflow_add-bytes

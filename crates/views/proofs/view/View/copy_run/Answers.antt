@@ -1,5 +1,4 @@
-use Rattle.views.proofs.Imports.{◌≡◌, length, arith, length-map, run_length, common_steps}
-use Rattle.views.proofs.RunSeenLaws.{copied_fits}
+use Rattle.views.proofs.Lemmas.{◌≡◌, length, arith, length-map, run_length, common_steps, copied_fits}
 use Rattle.views.proofs.view.View.copy_run.Goals as goal
 use Rattle.views.proofs.view.View.copy_run.Goals.{After-read_run}
 use Rattle.views.proofs.view.View.copy_run.Given.{Over}

@@ -1,6 +1,4 @@
-use Rattle.views.proofs.Imports.{◌≤ℤ◌, rules, arith, w128, ints, to_z-of_z, least_of, greatest_of, least_in, greatest_in}
-use Rattle.views.proofs.Opened.{kind_seen, hold_seen, leaves_there}
-use Rattle.views.proofs.RunLaws.{fits_within}
+use Rattle.views.proofs.Lemmas.{◌≤ℤ◌, rules, arith, w128, ints, to_z-of_z, least_of, greatest_of, least_in, greatest_in, kind_seen, hold_seen, leaves_there, fits_within}
 use Rattle.views.proofs.view.View.holds_all.Goals as goal
 
 pub hold-hold-requires : goal.hold-hold-requires

@@ -1,5 +1,4 @@
-use Rattle.views.proofs.Imports.{◌≡◌, false, rules, ap, ◌∙◌, term_of, is_counted}
-use Rattle.views.proofs.Opened.{idle_seen}
+use Rattle.views.proofs.Lemmas.{◌≡◌, false, rules, ap, ◌∙◌, term_of, is_counted, idle_seen}
 use Rattle.views.proofs.view.View.is_counted.Goals as goal
 
 pub returns-in_default-clause-idle : goal.returns-in_default-clause-idle

@@ -1,5 +1,4 @@
-use Rattle.views.proofs.Imports.{ℤ, pos, get_or, sym, ap, ◌∙◌, arith, rules, without_number, answer_of}
-use Rattle.views.proofs.StoredLaws.{fault_here, passed}
+use Rattle.views.proofs.Lemmas.{ℤ, pos, get_or, sym, ap, ◌∙◌, arith, rules, without_number, answer_of, fault_here, passed}
 use Rattle.views.proofs.view.View.lanes_fit.Goals as goal
 
 pub returns-in-Err-clause-named : goal.returns-in-Err-clause-named

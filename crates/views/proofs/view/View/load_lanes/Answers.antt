@@ -1,5 +1,4 @@
-use Rattle.views.proofs.Imports.{◌≡◌, List, ℤ, sym, subst, arith, Each1, IsBlock, IsNarrow, same}
-use Rattle.views.proofs.ColumnLaws.{nothing_loaded, loaded_more, loaded_block}
+use Rattle.views.proofs.Lemmas.{◌≡◌, List, ℤ, sym, subst, arith, Each1, IsBlock, IsNarrow, same, nothing_loaded, loaded_more, loaded_block}
 use Rattle.views.proofs.view.View.load_lanes.Goals as goal
 
 pub loop-lane-init : goal.loop-lane-init

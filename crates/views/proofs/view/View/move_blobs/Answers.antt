@@ -1,5 +1,4 @@
-use Rattle.views.proofs.Imports.{◌≡◌, ◌∙◌, ℕ, List, length, ap, map, sym, arith, sum_by, blocks, blob_steps, owners_of}
-use Rattle.views.proofs.MoveLaws.{all_sized, all_steps, all_kept, all_seen}
+use Rattle.views.proofs.Lemmas.{◌≡◌, ◌∙◌, ℕ, List, length, ap, map, sym, arith, sum_by, blocks, blob_steps, owners_of, all_sized, all_steps, all_kept, all_seen}
 use Rattle.views.proofs.view.View.move_blobs.Goals as goal
 
 pub move_all-requires : goal.move_all-requires

@@ -1,6 +1,4 @@
-use Rattle.views.proofs.Imports.{◌≡◌, ◌+◌, ◌*◌, ℕ, length, sym, ap, subst, arith, IfSome, blocks, array_of, size_of, IsRunMoved, rows_after, Table, leaf_count_of, leaf_type_of}
-use Rattle.views.proofs.RunMoveLaws.{nothing_moved}
-use Rattle.views.proofs.SlotMoveLaws.{runs_more}
+use Rattle.views.proofs.Lemmas.{◌≡◌, ◌+◌, ◌*◌, ℕ, length, sym, ap, subst, arith, IfSome, blocks, array_of, size_of, IsRunMoved, rows_after, Table, leaf_count_of, leaf_type_of, nothing_moved, runs_more}
 use Rattle.views.proofs.view.View.move_blocks.Goals as goal
 
 pub loop-k-init : goal.loop-k-init

@@ -1,9 +1,4 @@
-use Rattle.views.proofs.Imports.{◌≡◌, ◌∙◌, ◌+◌, ◌*◌, ◌/◌, ◌^◌, ◌<◌, ◌≤◌, ℕ, List, [], map, length, get_or, slice_index, sym, ap, subst, arith, mul-le, get_or_from_slice_get, width_of, kinds_of, schema_fields, leaves, Fields, LeafType, Truth, blocks, term_of, extents_of, term_of_map, layout_by, Hold, size_of, IsInBlock, IsMovedEach, kind_at, Table, leaf_type_of}
-use Rattle.views.proofs.EachLaws.{run_at, AreEven, each_target_in, each_moved}
-use Rattle.views.proofs.KeptLaws.{kind_count, row_count}
-use Rattle.views.proofs.MoveLaws.{views_alike}
-use Rattle.views.proofs.Opened.{leaf_seen, leaves_there}
-use Rattle.views.proofs.RunMoveLaws.{few_slots, run_table, moved_seen, runs_seen, one_seen, block_seen, few_bits, run_there, slot_there, other_is, target_room, source_in, source_room}
+use Rattle.views.proofs.Lemmas.{◌≡◌, ◌∙◌, ◌+◌, ◌*◌, ◌/◌, ◌^◌, ◌<◌, ◌≤◌, ℕ, List, [], map, length, get_or, slice_index, sym, ap, subst, arith, mul-le, get_or_from_slice_get, width_of, kinds_of, schema_fields, leaves, Fields, LeafType, Truth, blocks, term_of, extents_of, term_of_map, layout_by, Hold, size_of, IsInBlock, IsMovedEach, kind_at, Table, leaf_type_of, run_at, AreEven, each_target_in, each_moved, kind_count, row_count, views_alike, leaf_seen, leaves_there, few_slots, run_table, moved_seen, runs_seen, one_seen, block_seen, few_bits, run_there, slot_there, other_is, target_room, source_in, source_room}
 use Rattle.views.proofs.view.View.move_even.Given as given
 use Rattle.views.proofs.view.View.move_even.Goals as goal
 use Rattle.views.proofs.view.View.move_even.Goals.{After-as_slice, After-move_pieces}

@@ -1,8 +1,4 @@
-use Rattle.views.proofs.Imports.{◌≡◌, ◌∙◌, ◌+◌, ◌*◌, ◌/◌, ◌<◌, ◌≤◌, ℕ, List, [], length, get_or, sym, ap, subst, arith, mul-le, get_or_from_slice_get, kinds_of, schema_fields, leaves, Fields, LeafType, Truth, blocks, AreMoved, term_of, size_of, kind_at, Table, leaf_type_of, common_steps}
-use Rattle.views.proofs.KeptLaws.{kind_count, row_count}
-use Rattle.views.proofs.MoveLaws.{views_alike}
-use Rattle.views.proofs.Opened.{leaf_seen, leaves_there}
-use Rattle.views.proofs.RunMoveLaws.{IsMove, few_slots, moved_seen, runs_seen, one_seen, block_seen, few_bits, run_there, target_in, target_room, source_in, source_room, run_kept, run_raw, run_table}
+use Rattle.views.proofs.Lemmas.{◌≡◌, ◌∙◌, ◌+◌, ◌*◌, ◌/◌, ◌<◌, ◌≤◌, ℕ, List, [], length, get_or, sym, ap, subst, arith, mul-le, get_or_from_slice_get, kinds_of, schema_fields, leaves, Fields, LeafType, Truth, blocks, AreMoved, term_of, size_of, kind_at, Table, leaf_type_of, common_steps, kind_count, row_count, views_alike, leaf_seen, leaves_there, IsMove, few_slots, moved_seen, runs_seen, one_seen, block_seen, few_bits, run_there, target_in, target_room, source_in, source_room, run_kept, run_raw, run_table}
 use Rattle.views.proofs.view.View.move_run.Given as given
 use Rattle.views.proofs.view.View.move_run.Goals as goal
 use Rattle.views.proofs.view.View.move_run.Goals.{After-as_slice, After-move_between}

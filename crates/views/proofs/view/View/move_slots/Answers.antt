@@ -1,7 +1,4 @@
-use Rattle.views.proofs.Imports.{◌≡◌, ◌∙◌, ◌+◌, ◌*◌, ◌<◌, ◌≤◌, ◌||◌, ℕ, zero, suc, true, sym, ap, subst, arith, ◌==◌, range_with_len, or_right, row_fits, blocks, slots_within, block_in, same_slots, same_steps, all_pieces, size_of, rows_after, is_cut, piece_at, span_pieces, Table, leaf_type_of, common_steps}
-use Rattle.record_dim.specs.Std.{sum_by}
-use Rattle.views.proofs.PieceLaws.{piece_is}
-use Rattle.views.proofs.SlotMoveLaws.{runs_more}
+use Rattle.views.proofs.Lemmas.{◌≡◌, ◌∙◌, ◌+◌, ◌*◌, ◌<◌, ◌≤◌, ◌||◌, ℕ, zero, suc, true, sym, ap, subst, arith, ◌==◌, range_with_len, or_right, row_fits, blocks, slots_within, block_in, same_slots, same_steps, all_pieces, size_of, rows_after, is_cut, piece_at, span_pieces, Table, leaf_type_of, common_steps, sum_by, piece_is, runs_more}
 use Rattle.views.proofs.view.View.move_slots.Goals as goal
 
 pub loop-done-preserved : goal.loop-done-preserved

@@ -1,5 +1,4 @@
-use Rattle.views.proofs.Imports.{◌≡◌, ◌+◌, ◌-◌, ◌<◌, ◌≤◌, ◌||◌, true, length, ◌==◌, IfSome, range_with_len, array_of, size_of, IsRunMoved, with_rows, is_cut, piece_at, leaf_count_of, leaf_type_of}
-use Rattle.record_dim.specs.Std.{sum_by}
+use Rattle.views.proofs.Imports.{◌≡◌, ◌+◌, ◌-◌, ◌<◌, ◌≤◌, ◌||◌, true, length, ◌==◌, IfSome, range_with_len, array_of, size_of, IsRunMoved, with_rows, is_cut, piece_at, leaf_count_of, leaf_type_of, sum_by}
 use Rattle.views.proofs.view.View.move_slots.Given as goal
 
 -- the slots so far were moved, and a piece begins here

@@ -1,6 +1,4 @@
-use Rattle.views.proofs.Imports.{◌≡◌, ◌∙◌, length, ap, sym, subst, schema_fields, leaves, Fields, indices, term_of, zeros, layout_by, IsTallied, tally_of, Tally, no_tally, new_tally, no_tally-tallied, common_steps, arith}
-use Rattle.views.proofs.KeptLaws.{kind_count, kept_zeros, zero_table}
-use Rattle.views.proofs.Opened.{mapping_copied, within_copied, lawful_there, paired_there, laid_there}
+use Rattle.views.proofs.Lemmas.{◌≡◌, ◌∙◌, length, ap, sym, subst, schema_fields, leaves, Fields, indices, term_of, zeros, layout_by, IsTallied, tally_of, Tally, no_tally, new_tally, no_tally-tallied, common_steps, arith, kind_count, kept_zeros, zero_table, mapping_copied, within_copied, lawful_there, paired_there, laid_there}
 use Rattle.views.proofs.view.View.new_within.Goals as goal
 
 pub invariant_of-result : goal.invariant_of-result

@@ -1,7 +1,4 @@
-use Rattle.views.proofs.Imports.{◌≡◌, ℤ, pos, get_or, length, map, to_z, of_z, w64, sym, ap, subst, ◌∙◌, rules, arith, w128, to_z-of_z, get_or-map, length-map, LeafType, declared, declared_same, length-with_column, raised, Table, leaf_type_of, IsSettledIn}
-use Rattle.views.proofs.Opened.{kind_seen, some_seen}
-use Rattle.views.proofs.StoreLaws.{fit_settled}
-use Rattle.views.proofs.StoredLaws.{stored_more, all_stored}
+use Rattle.views.proofs.Lemmas.{◌≡◌, ℤ, pos, get_or, length, map, to_z, of_z, w64, sym, ap, subst, ◌∙◌, rules, arith, w128, to_z-of_z, get_or-map, length-map, LeafType, declared, declared_same, length-with_column, raised, Table, leaf_type_of, IsSettledIn, kind_seen, some_seen, fit_settled, stored_more, all_stored}
 use Rattle.views.proofs.view.View.put_lows.Goals as goal
 use Rattle.views.proofs.view.View.put_lows.Goals.{After-raised, In-loop-k}
 

@@ -1,5 +1,4 @@
-use Rattle.views.proofs.Imports.{map, raised, leaf_type_of}
-use Rattle.views.proofs.StoredLaws.{HasStored}
+use Rattle.views.proofs.Lemmas.{map, raised, leaf_type_of, HasStored}
 use Rattle.views.proofs.view.View.put_lows.Given as goal
 
 abbrev pub invariant-loop-k : goal.invariant-loop-k

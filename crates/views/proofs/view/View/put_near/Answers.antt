@@ -1,6 +1,4 @@
-use Rattle.views.proofs.Imports.{arith}
-use Rattle.views.proofs.RunSeenLaws.{fits_here, put_kept, put_seen}
-use Rattle.views.proofs.Opened.{rows_there, leaves_there}
+use Rattle.views.proofs.Lemmas.{arith, fits_here, put_kept, put_seen, rows_there, leaves_there}
 use Rattle.views.proofs.view.View.put_near.Goals as goal
 
 pub put_rows-requires-clause-leaf_in : goal.put_rows-requires-clause-leaf_in

@@ -1,6 +1,4 @@
-use Rattle.views.proofs.Imports.{ℤ, ◌≡◌, ◌∙◌, sym, ap, subst, arith, rules, SFits, to_z, of_z, w128, to_z-of_z, hold_at, declared, held, Strict, Table, kept_of, leaf_type_of, table_holds, IsSettledIn}
-use Rattle.views.proofs.Opened.{some_seen, hold_seen, leaves_there}
-use Rattle.views.proofs.StoreLaws.{taken_raw, strict_raw}
+use Rattle.views.proofs.Lemmas.{ℤ, ◌≡◌, ◌∙◌, sym, ap, subst, arith, rules, SFits, to_z, of_z, w128, to_z-of_z, hold_at, declared, held, Strict, Table, kept_of, leaf_type_of, table_holds, IsSettledIn, some_seen, hold_seen, leaves_there, taken_raw, strict_raw}
 use Rattle.views.proofs.view.View.raw.Goals as goal
 use Rattle.views.proofs.view.View.raw.Goals.{After-held}
 

@@ -1,5 +1,4 @@
-use Rattle.views.proofs.Imports.{◌≡◌, sym, ap, ◌∙◌, arith, rules, to_z, of_z, w128, to_z-of_z, get_or_from_slice_get, LeafType, Truth, kinds_of, schema_fields, declared, kind_at, common_steps}
-use Rattle.views.proofs.Opened.{laid_here, raw_seen, strict_seen, declared_seen, rows_there, leaves_there}
+use Rattle.views.proofs.Lemmas.{◌≡◌, sym, ap, ◌∙◌, arith, rules, to_z, of_z, w128, to_z-of_z, get_or_from_slice_get, LeafType, Truth, kinds_of, schema_fields, declared, kind_at, common_steps, laid_here, raw_seen, strict_seen, declared_seen, rows_there, leaves_there}
 use Rattle.views.proofs.view.View.read.Goals as goal
 
 pub read_by_rule-raw-requires-clause-leaf_in : goal.read_by_rule-raw-requires-clause-leaf_in

@@ -1,6 +1,4 @@
-use Rattle.views.proofs.Imports.{◌<◌, ◌≤◌, ◌∙◌, length, refl, ap, arith, rules, w64, w128, to_z-of_z, low_64}
-use Rattle.views.proofs.RunLaws.{run_read}
-use Rattle.views.proofs.RunStoreLaws.{no_row, row_more}
+use Rattle.views.proofs.Lemmas.{◌<◌, ◌≤◌, ◌∙◌, length, refl, ap, arith, rules, w64, w128, to_z-of_z, low_64, run_read, no_row, row_more}
 use Rattle.views.proofs.view.View.read_far.Goals as goal
 
 pub loop-k-init : goal.loop-k-init

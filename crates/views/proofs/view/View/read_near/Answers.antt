@@ -1,6 +1,4 @@
-use Rattle.views.proofs.Imports.{◌+◌, ap, ◌∙◌, arith, low_64}
-use Rattle.views.proofs.Opened.{sign_seen, idle_seen, rows_there, leaves_there}
-use Rattle.views.proofs.RunLaws.{run_read}
+use Rattle.views.proofs.Lemmas.{◌+◌, ap, ◌∙◌, arith, low_64, sign_seen, idle_seen, rows_there, leaves_there, run_read}
 use Rattle.views.proofs.view.View.read_near.Goals as goal
 
 pub read_rows-requires-clause-leaf_in : goal.read_rows-requires-clause-leaf_in

@@ -1,5 +1,4 @@
-use Rattle.views.proofs.Imports.{rules, arith, ◌<◌, FitsSigned, length, w128, to_z-of_z}
-use Rattle.views.proofs.RowLaws.{leaf_read}
+use Rattle.views.proofs.Lemmas.{rules, arith, ◌<◌, FitsSigned, length, w128, to_z-of_z, leaf_read}
 use Rattle.views.proofs.view.View.read_row.Goals as goal
 
 pub loop-leaf-preserved : goal.loop-leaf-preserved

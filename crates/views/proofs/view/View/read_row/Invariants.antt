@@ -1,5 +1,4 @@
-use Rattle.views.proofs.Imports.{◌≡◌, ◌+◌}
-use Rattle.views.proofs.RowLaws.{AreRead}
+use Rattle.views.proofs.Lemmas.{◌≡◌, ◌+◌, AreRead}
 use Rattle.views.proofs.view.View.read_row.Given as goal
 
 abbrev pub invariant-loop-leaf : goal.invariant-loop-leaf

@@ -1,5 +1,4 @@
-use Rattle.views.proofs.Imports.{◌≡◌, length, subst, Table, leaf_types_of, table_holds}
-use Rattle.views.proofs.Opened.{table_seen}
+use Rattle.views.proofs.Lemmas.{◌≡◌, length, subst, Table, leaf_types_of, table_holds, table_seen}
 use Rattle.views.proofs.view.View.schema.Goals as goal
 
 pub returns-clause-table : goal.returns-clause-table

@@ -1,6 +1,4 @@
-use Rattle.views.proofs.Imports.{◌≡◌, ◌<◌, ℤ, Ok, pos, get_or, length, map, to_z, of_z, refl, sym, ap, ◌∙◌, rules, arith, w128, get_or-map, length-map, length-with_column, told_lane, without_number, Table, answer_of, kept_of, common_steps}
-use Rattle.views.proofs.RunStoreLaws.{run_stored, whole_run, no_fault, stopped_run}
-use Rattle.views.proofs.StoredLaws.{value_more, nothing_stored, fault_later, fault_here, passed}
+use Rattle.views.proofs.Lemmas.{◌≡◌, ◌<◌, ℤ, Ok, pos, get_or, length, map, to_z, of_z, refl, sym, ap, ◌∙◌, rules, arith, w128, get_or-map, length-map, length-with_column, told_lane, without_number, Table, answer_of, kept_of, common_steps, run_stored, whole_run, no_fault, stopped_run, value_more, nothing_stored, fault_later, fault_here, passed}
 use Rattle.views.proofs.view.View.store_each.Goals as goal
 use Rattle.views.proofs.view.View.store_each.Goals.{After-set_tested}
 

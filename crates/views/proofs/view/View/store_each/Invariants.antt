@@ -1,5 +1,4 @@
-use Rattle.views.proofs.Imports.{◌≡◌, drop, map, first_lane_fault, run_fault, answer_of, kept_of}
-use Rattle.views.proofs.StoredLaws.{HasStored}
+use Rattle.views.proofs.Lemmas.{◌≡◌, drop, map, first_lane_fault, run_fault, answer_of, kept_of, HasStored}
 use Rattle.views.proofs.view.View.store_each.Given as goal
 
 abbrev pub invariant-loop-lane : goal.invariant-loop-lane

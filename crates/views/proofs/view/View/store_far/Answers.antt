@@ -1,5 +1,4 @@
-use Rattle.views.proofs.Imports.{arith, rules, to_z-of_z, common_steps}
-use Rattle.views.proofs.Opened.{held_seen, kept_after, seen_written, rows_there, leaves_there}
+use Rattle.views.proofs.Lemmas.{arith, rules, to_z-of_z, common_steps, held_seen, kept_after, seen_written, rows_there, leaves_there}
 use Rattle.views.proofs.view.View.store_far.Goals as goal
 
 pub short_write-requires-clause-leaf_in : goal.short_write-requires-clause-leaf_in

@@ -1,5 +1,4 @@
-use Rattle.views.proofs.Imports.{◌≡◌, List, [], ℤ, ◌∷◌, map, ap, refl, arith, to_z, of_z, w64, length-map, low_64, common_steps}
-use Rattle.views.proofs.StoredLaws.{first_lanes}
+use Rattle.views.proofs.Lemmas.{◌≡◌, List, [], ℤ, ◌∷◌, map, ap, refl, arith, to_z, of_z, w64, length-map, low_64, common_steps, first_lanes}
 use Rattle.views.proofs.view.View.store_lanes.Goals as goal
 
 -- the lanes of a vector, each by its bits

@@ -1,5 +1,4 @@
-use Rattle.views.proofs.Imports.{arith, ◌≡◌, ◌∙◌, [], sym, get_or, length, to_z-of_z, common_steps}
-use Rattle.views.proofs.RowLaws.{leaf_stored, row_stored}
+use Rattle.views.proofs.Lemmas.{arith, ◌≡◌, ◌∙◌, [], sym, get_or, length, to_z-of_z, common_steps, leaf_stored, row_stored}
 use Rattle.views.proofs.view.View.store_row.Goals as goal
 
 pub loop-leaf-preserved : goal.loop-leaf-preserved

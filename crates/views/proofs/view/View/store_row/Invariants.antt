@@ -1,5 +1,4 @@
-use Rattle.views.proofs.Imports.{◌≡◌, ◌+◌}
-use Rattle.views.proofs.RowLaws.{AreStored}
+use Rattle.views.proofs.Lemmas.{◌≡◌, ◌+◌, AreStored}
 use Rattle.views.proofs.view.View.store_row.Given as goal
 
 abbrev pub invariant-loop-leaf : goal.invariant-loop-leaf

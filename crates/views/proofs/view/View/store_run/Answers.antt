@@ -1,6 +1,4 @@
-use Rattle.views.proofs.Imports.{◌≡◌, ◌∙◌, ℤ, List, None, true, length, sym, ap, arith, column_writes, with_column, run_fault, told_lane, stored_count, with_run, raised_same, without_number, answer_of, after_stores, LaneFault, take_all, Option}
-use Rattle.views.proofs.KeptColumns.{none_refused}
-use Rattle.views.proofs.StoreLaws.{map_same}
+use Rattle.views.proofs.Lemmas.{◌≡◌, ◌∙◌, ℤ, List, None, true, length, sym, ap, arith, column_writes, with_column, run_fault, told_lane, stored_count, with_run, raised_same, without_number, answer_of, after_stores, LaneFault, take_all, Option, none_refused, map_same}
 use Rattle.views.proofs.view.View.store_run.Goals as goal
 use Rattle.views.proofs.view.View.store_run.Goals.{After-takes_run}
 use Rattle.views.proofs.view.View.store_run.Given.{Over}

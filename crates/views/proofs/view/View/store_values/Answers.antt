@@ -1,5 +1,4 @@
-use Rattle.views.proofs.Imports.{◌≡◌, ◌<◌, ℤ, pos, get_or, length, map, SFits, to_z, of_z, w64, ap, ◌∙◌, arith, rules, w128, to_z-of_z, get_or-map, length-map, declared, without_number, Table, answer_of, kept_of, leaf_type_of}
-use Rattle.views.proofs.StoredLaws.{nothing_stored, stored_more, lane_taken, passed}
+use Rattle.views.proofs.Lemmas.{◌≡◌, ◌<◌, ℤ, pos, get_or, length, map, SFits, to_z, of_z, w64, ap, ◌∙◌, arith, rules, w128, to_z-of_z, get_or-map, length-map, declared, without_number, Table, answer_of, kept_of, leaf_type_of, nothing_stored, stored_more, lane_taken, passed}
 use Rattle.views.proofs.view.View.store_values.Goals as goal
 
 pub loop-lane-init : goal.loop-lane-init

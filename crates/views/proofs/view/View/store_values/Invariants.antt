@@ -1,5 +1,4 @@
-use Rattle.views.proofs.Imports.{map, kept_of}
-use Rattle.views.proofs.StoredLaws.{HasStored}
+use Rattle.views.proofs.Lemmas.{map, kept_of, HasStored}
 use Rattle.views.proofs.view.View.store_values.Given as goal
 
 abbrev pub invariant-loop-lane : goal.invariant-loop-lane

@@ -1,6 +1,4 @@
-use Rattle.views.proofs.Imports.{ℤ, ◌≡◌, true, subst, rules, to_z, of_z, w128, to_z-of_z, hold_at, Fits, kind_at, leaf_type_of, table_holds, arith}
-use Rattle.views.proofs.Opened.{some_seen, shown_there, leaves_there}
-use Rattle.views.proofs.StoreLaws.{fit_answer, fit_settled, fit_declared}
+use Rattle.views.proofs.Lemmas.{ℤ, ◌≡◌, true, subst, rules, to_z, of_z, w128, to_z-of_z, hold_at, Fits, kind_at, leaf_type_of, table_holds, arith, some_seen, shown_there, leaves_there, fit_answer, fit_settled, fit_declared}
 use Rattle.views.proofs.view.View.takes.Goals as goal
 use Rattle.views.proofs.view.View.takes.Goals.{After-takes}
 

@@ -1,6 +1,4 @@
-use Rattle.views.proofs.Imports.{◌≡◌, ◌<◌, ℕ, true, pos, get_or, length, hold_at, Fits, kind_at, arith}
-use Rattle.views.proofs.Opened.{some_seen, shown_there, leaves_there}
-use Rattle.views.proofs.StoreLaws.{fit_answer}
+use Rattle.views.proofs.Lemmas.{◌≡◌, ◌<◌, ℕ, true, pos, get_or, length, hold_at, Fits, kind_at, arith, some_seen, shown_there, leaves_there, fit_answer}
 use Rattle.views.proofs.view.View.takes_run.Goals as goal
 
 pub are_taken-requires : goal.are_taken-requires

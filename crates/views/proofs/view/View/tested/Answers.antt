@@ -1,5 +1,4 @@
-use Rattle.views.proofs.Imports.{◌≡◌, ◌∙◌, sym, ap, arith, rules, SFits, w128, to_z-of_z, Strict, Table}
-use Rattle.views.proofs.Opened.{kind_seen, hold_seen, leaves_there}
+use Rattle.views.proofs.Lemmas.{◌≡◌, ◌∙◌, sym, ap, arith, rules, SFits, w128, to_z-of_z, Strict, Table, kind_seen, hold_seen, leaves_there}
 use Rattle.views.proofs.view.View.tested.Goals as goal
 
 pub hold-requires : goal.hold-requires

@@ -1,7 +1,4 @@
-use Rattle.views.proofs.Imports.{◌≡◌, ◌∙◌, ◌∷◌, length, sym, subst, arith, schema_fields, leaves, term_of, layout_by, IsTallied, tally_of, Tally, after_access, access_to, tallied_kept, tallied-one, common_steps, []}
-use Rattle.views.proofs.KeptLaws.{kind_count}
-use Rattle.views.proofs.Opened.{tallied_here, touched_there, seen_logged, leaf_seen, rows_there, leaves_there}
-use Rattle.views.proofs.TouchLaws.{touched_both, leaf_inside}
+use Rattle.views.proofs.Lemmas.{◌≡◌, ◌∙◌, ◌∷◌, length, sym, subst, arith, schema_fields, leaves, term_of, layout_by, IsTallied, tally_of, Tally, after_access, access_to, tallied_kept, tallied-one, common_steps, [], kind_count, tallied_here, touched_there, seen_logged, leaf_seen, rows_there, leaves_there, touched_both, leaf_inside}
 use Rattle.views.proofs.view.View.touch.Goals as goal
 use Rattle.views.proofs.view.View.touch.Goals.{After-touch_heat}
 

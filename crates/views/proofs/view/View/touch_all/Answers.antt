@@ -1,7 +1,4 @@
-use Rattle.views.proofs.Imports.{◌≡◌, ◌∙◌, ℕ, Bool, false, true, Option, length, option_map, sym, subst, ap, schema_fields, leaves, kinds_of, term_of, layout_by, leaf_cells, indices, LeafCounts, IsTallied, tally_of, counts_after, after_log, leaf_count_of, Tally, tallied, access_to, times_accesses, all_touches, log_kept, arith}
-use Rattle.views.proofs.KeptLaws.{kind_count}
-use Rattle.views.proofs.Opened.{cell_count, touches_there, rows_seen, seen_logged}
-use Rattle.views.proofs.TouchLaws.{tallied_both}
+use Rattle.views.proofs.Lemmas.{◌≡◌, ◌∙◌, ℕ, Bool, false, true, Option, length, option_map, sym, subst, ap, schema_fields, leaves, kinds_of, term_of, layout_by, leaf_cells, indices, LeafCounts, IsTallied, tally_of, counts_after, after_log, leaf_count_of, Tally, tallied, access_to, times_accesses, all_touches, log_kept, arith, kind_count, cell_count, touches_there, rows_seen, seen_logged, tallied_both}
 use Rattle.views.proofs.view.View.touch_all.Goals as goal
 
 -- the accesses to the table, by the rows and cells of its mapping

@@ -1,5 +1,4 @@
-use Rattle.views.proofs.Imports.{refl, sym, ◌∙◌, rules, w128, to_z-of_z, Read, ◌∷◌, [], arith}
-use Rattle.views.proofs.Opened.{sign_seen, declared_seen, idle_seen, rows_there, leaves_there}
+use Rattle.views.proofs.Lemmas.{refl, sym, ◌∙◌, rules, w128, to_z-of_z, Read, ◌∷◌, [], arith, sign_seen, declared_seen, idle_seen, rows_there, leaves_there}
 use Rattle.views.proofs.view.View.value.Goals as goal
 
 pub wide_read-requires-clause-leaf_in : goal.wide_read-requires-clause-leaf_in

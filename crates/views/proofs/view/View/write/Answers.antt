@@ -1,5 +1,4 @@
-use Rattle.views.proofs.Imports.{rules, arith}
-use Rattle.views.proofs.Opened.{held_seen, kept_after, seen_stored, rows_there, leaves_there}
+use Rattle.views.proofs.Lemmas.{rules, arith, held_seen, kept_after, seen_stored, rows_there, leaves_there}
 use Rattle.views.proofs.view.View.write.Goals as goal
 
 pub write_by_rule-requires-clause-leaf_in : goal.write_by_rule-requires-clause-leaf_in

@@ -1,5 +1,4 @@
-use Rattle.views.proofs.Imports.{◌≡◌, ◌*◌, ◌-◌, ◌^◌, min, Option, Some, option_map, ap, sym, ◌∙◌, arith, LeafCounts, leaf_counts, Counts, access_to, times_accesses, counts_after}
-use Rattle.views.proofs.TouchLaws.{counts_none}
+use Rattle.views.proofs.Lemmas.{◌≡◌, ◌*◌, ◌-◌, ◌^◌, min, Option, Some, option_map, ap, sym, ◌∙◌, arith, LeafCounts, leaf_counts, Counts, access_to, times_accesses, counts_after, counts_none}
 use Rattle.views.proofs.view.touch.add_counts.Goals as goal
 
 pub returns-else-each-gt0-clause-counted : goal.returns-else-each-gt0-clause-counted
