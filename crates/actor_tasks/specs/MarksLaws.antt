@@ -1,11 +1,7 @@
 -- The next place of a task, and of all tasks of a row.
 use Rattle.std.proofs.Common.{◌≡◌, ℕ, ◌+◌, ◌-◌, ◌<◌, ◌≤◌, Bool, true, false, List, [], ◌∷◌, ◌++◌, length, map, drop, get_or, Option, Some, None, sym, ap, ◌∙◌, subst, arith}
 use Rattle.std.specs.Prelude.{if◌then◌else◌}
-use Rattle.actor_tasks.specs.Imports.{flat_map, range_with_len, Owner, Setting, Place, Job, Micro}
-use Rattle.std.proofs.Math.ListN.{get_or-append}
-use Rattle.std.proofs.lemmas.List.{length-map, get_or-map, get_or-append_right, length-append}
-use Rattle.std.proofs.lemmas.List.{drop_all, drop_more}
-use Rattle.std.proofs.lemmas.List.FromFn.{length-map-range_with_len, get_or-map-range_with_len}
+use Rattle.actor_tasks.specs.Imports.{flat_map, range_with_len, Owner, Setting, Place, Job, Micro, get_or-append, length-map, get_or-map, get_or-append_right, length-append, drop_all, drop_more, length-map-range_with_len, get_or-map-range_with_len}
 use Rattle.actor_tasks.specs.Places.{origin, places_from, byte_behind, IsHead}
 use Rattle.actor_tasks.specs.Tasks.{Task, Reads, Sets, all_tasks, is_asked, task_leaf, place_steps, task_steps, tasks_steps}
 use Rattle.actor_tasks.specs.TasksLaws.{next_place, next_task}

@@ -1,10 +1,7 @@
 -- What a test picks of an ordered list: its first item, and those behind it.
 use Rattle.std.proofs.Common.{◌≡◌, ℕ, zero, suc, ◌<◌, length, inl, inr, Bool, true, false, List, [], ◌∷◌, ◌++◌, filter, get_or, All, refl, sym, ap, ◌∙◌, ⊎_elim}
 use Rattle.std.specs.Prelude.{◌⊎◌, ◌&&◌, if◌then◌else◌}
-use Rattle.std.proofs.lemmas.Bool.{cond-true, cond-false, and_right, false_from_ne_true}
-use Rattle.std.proofs.lemmas.List.Elements.{All-head, All-tail, All-append, All-contains}
-use Rattle.std.specs.List.{Contains}
-use Rattle.std.proofs.Common.{arith}
+use Rattle.actor_tasks.specs.Imports.{cond-true, cond-false, and_right, false_from_ne_true, All-head, All-tail, All-append, All-contains, Contains, arith}
 
 -- tests that agree on each item pick the same
 pub same_filter : {X : Type 0} (one two : X → Bool) (xs : List X) → All (λ x. one x ≡ two x) xs → filter one xs ≡ filter two xs

@@ -1,12 +1,7 @@
 -- The bytes of a leaf in a row from a place on: the first of them, and those behind it.
 use Rattle.std.proofs.Common.{◌≡◌, ℕ, zero, suc, ◌+◌, ◌/◌, ◌<◌, Bool, true, false, List, [], ◌∷◌, length, map, get_or, All, ap, ◌∙◌, subst, ⊎_elim, arith}
 use Rattle.std.specs.Prelude.{◌≤◌, ◌⊎◌, ◌&&◌, not}
-use Rattle.actor_tasks.specs.Imports.{flat_map, range_with_len, Owner, Place, IsByte, bytes_in, all_bytes, places_of}
-use Rattle.std.proofs.lemmas.Bool.{cases_lt, and_from}
-use Rattle.std.proofs.lemmas.Bool.Decides.{nat_tests}
-use Rattle.std.proofs.lemmas.List.Elements.{All-nil, All-append, All-map, Contains-append_left, Contains-append_right}
-use Rattle.std.proofs.lemmas.List.FromFn.{get_or-range_with_len, length-range_with_len, length-map-range_with_len, get_or-map-range_with_len}
-use Rattle.std.specs.List.{Contains}
+use Rattle.actor_tasks.specs.Imports.{flat_map, range_with_len, Owner, Place, IsByte, bytes_in, all_bytes, places_of, cases_lt, and_from, nat_tests, All-nil, All-append, All-map, Contains-append_left, Contains-append_right, get_or-range_with_len, length-range_with_len, length-map-range_with_len, get_or-map-range_with_len, Contains}
 use Rattle.actor_tasks.specs.Places.{is_before, origin, byte_behind, byte_holds_bit, places_from}
 use Rattle.actor_tasks.specs.OrderedLaws.{same_filter, IsOrdered, ordered-append, split_first}
 

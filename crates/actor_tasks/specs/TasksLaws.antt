@@ -1,12 +1,10 @@
 -- How an actor goes from one micro-step to the next.
 use Rattle.std.proofs.Common.{◌≡◌, ℕ, suc, ◌+◌, Bool, true, false, List, [], ◌∷◌, ◌++◌, map, filter, refl, sym, ap, ◌∙◌, append_assoc}
 use Rattle.std.specs.Prelude.{if◌then◌else◌}
-use Rattle.actor_tasks.specs.Imports.{flat_map, range_with_len, Setting, Place, places_of, Job, Micro, Fetch, lets_through, leaves_read, is_in, changes, stores_of, row_steps, steps_of}
-use Rattle.std.proofs.lemmas.List.Concat.{flat_map-append}
+use Rattle.actor_tasks.specs.Imports.{flat_map, range_with_len, Setting, Place, places_of, Job, Micro, Fetch, lets_through, leaves_read, is_in, changes, stores_of, row_steps, steps_of, flat_map-append, arith}
 use Rattle.actor_tasks.specs.Places.{origin, places_from, byte_behind}
 use Rattle.actor_tasks.specs.Tasks.{Task, Reads, Sets, all_tasks, is_asked, task_leaf, place_steps, task_steps, tasks_steps, left_of}
 use Rattle.actor_tasks.specs.PlacesLaws.{places_from-origin}
-use Rattle.std.proofs.Common.{arith}
 
 -- the tasks of reads make the loads of the bytes of the leaves that are read
 fetch_all : (places : List Place) (row leaf : ℕ) → flat_map (place_steps row (Reads leaf)) places ≡ map Fetch places

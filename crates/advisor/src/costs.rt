@@ -1,7 +1,6 @@
 // What passes over a mapping cost.
 ghost use Rattle.std.specs.Prelude.{ℕ, ◌≡◌, ◌*◌, ◌<◌, ◌≤◌, ◌^◌, ◌==◌, All, IfOk, length, slice_index_or};
-ghost use Rattle.std.specs.List.{list_any};
-ghost use Rattle.advisor.specs.Imports.{granules_in, blob_lengths};
+ghost use Rattle.advisor.specs.Imports.{granules_in, blob_lengths, list_any};
 ghost use Rattle.advisor.specs.Passes.{reads, part_cost, leaves_in};
 
 use crate::mapped::RuledMap;

@@ -1,7 +1,6 @@
 // How many granules of a mapping's blobs hold a bit of some of its cells.
 ghost use Rattle.std.specs.Prelude.{◌≡◌, ◌<◌, ◌≤◌, ◌^◌, ◌==◌, nat_le, All, [], IfOk, length, count_by, sum_by, slice_index_or};
-ghost use Rattle.std.specs.List.{list_any};
-ghost use Rattle.advisor.specs.Imports.{heat_counts, granules_in, HasGranules, blob_lengths};
+ghost use Rattle.advisor.specs.Imports.{heat_counts, granules_in, HasGranules, blob_lengths, list_any};
 ghost use Rattle.advisor.specs.Touched.{holds_cell, touched};
 ghost use Rattle.advisor.specs.Inner.Warm.{is_warm, IsWarmed};
 

@@ -1,7 +1,6 @@
 -- Laws of tables that are alike: the tests of the model hold exactly where the records are one tree and the extents the same.
 use Rattle.std.specs.Prelude.{◌≡◌, ℕ, true, false, nat_eq, refl, ◌&&◌, if◌then◌else◌}
-use Rattle.command_checks.specs.Imports.{◌∙◌, sym, ap, ⊎_elim, pointwise, false≢true, cases_Bool, eqb-true, eq-eqb, both, same_text, text_self, Tree, Fields, Single, Record, Array, End, Field, kind_number, LeafType, Truth, U8, U16, U32, U64, I8, I16, I32, I64, AreAlike, Table, same_tree, same_fields, are_alike}
-use Rattle.std.proofs.Common.{arith}
+use Rattle.command_checks.specs.Imports.{◌∙◌, sym, ap, ⊎_elim, pointwise, false≢true, cases_Bool, eqb-true, eq-eqb, both, same_text, text_self, Tree, Fields, Single, Record, Array, End, Field, kind_number, LeafType, Truth, U8, U16, U32, U64, I8, I16, I32, I64, AreAlike, Table, same_tree, same_fields, are_alike, arith}
 
 -- a type by its number
 abbrev kind_by : ℕ → LeafType

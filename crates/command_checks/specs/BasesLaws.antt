@@ -1,8 +1,7 @@
 -- Laws of mappings without names, and of the rows that words ask for.
 use Rattle.std.specs.Prelude.{◌≡◌, ◌⊎◌, ℕ, zero, suc, ◌<◌, ◌/◌, ◌%◌, Bool, true, false, not, nat_lt, count_by, List, length, Option, Some, None, refl, Ok, Err, IsSome, IfSome, ◌==◌, ◌&&◌, if◌then◌else◌}
-use Rattle.command_checks.specs.Imports.{inl, inr, sym, ap, ◌∙◌, arith, ⊎_elim, cases_Bool, nat_tests, ExtentWord, Bad, indices, product, length-indices, is_rows, HasRows, IsShape, bad_extents, extents_for, fixed_product, product_divided, product_fixed, PathStep, Term, Split, IsNameless, resolved, BadExtents}
+use Rattle.command_checks.specs.Imports.{inl, inr, sym, ap, ◌∙◌, arith, ⊎_elim, cases_Bool, nat_tests, ExtentWord, Bad, indices, product, length-indices, is_rows, HasRows, IsShape, bad_extents, extents_for, fixed_product, product_divided, product_fixed, PathStep, Term, Split, IsNameless, resolved, BadExtents, built_nameless}
 pub use Rattle.blob_file.specs.HeaderLaws.{nameless_built}
-use Rattle.map_any.proofs.Built.{built_nameless}
 use Rattle.command_checks.specs.Inner.Bases.{is_nameless, rows_for}
 
 -- a mapping without names can be checked

@@ -1,9 +1,8 @@
 -- Tests one after another.
 use Rattle.std.specs.Prelude.{◌≡◌, refl, Result, Ok}
-use Rattle.command_checks.specs.Imports.{Tested, ◌>>=◌}
+use Rattle.command_checks.specs.Imports.{Tested, ◌>>=◌, arith}
 use Rattle.command_checks.specs.Inner.Gives.{GivesUp}
 use Rattle.command_checks.specs.declared.fault.StepFault.{StepFault}
-use Rattle.std.proofs.Common.{arith}
 
 -- a test that gives up, and what comes behind it
 pub GivesUp-then : {A B : Type 0} (first : Tested A) (next : A → Tested B) (fault : StepFault) → GivesUp first fault → GivesUp (first >>= next) fault

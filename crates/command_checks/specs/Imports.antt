@@ -29,3 +29,4 @@ pub use Rattle.worlds.specs.Prelude.{fit_terms, fits, found, free, is_constant, 
 pub use Rattle.worlds.specs.Prelude.{resolved, room, same_fields, same_name, same_tree, shaped, some_or, text_of_leaf, weighted_term, windowed, zeros_of, ◌>>=◌}
 pub use Rattle.worlds.specs.declared.fault.CommandFault.TheVariants.{BadExtents, BadStencil, Taken, Unknown}
 pub use Rattle.worlds.specs.declared.fault.UnknownName.TheVariants.{Name, Path}
+pub use Rattle.map_any.proofs.Built.{built_nameless}

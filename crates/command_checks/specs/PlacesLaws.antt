@@ -1,7 +1,6 @@
 -- Laws of names and the places of their entries.
 use Rattle.std.specs.Prelude.{◌≡◌, ℕ, zero, suc, ◌+◌, ◌<◌, true, false, List, [], ◌∷◌, ◌++◌, length, map, take, drop, get_or, Some, None, refl, Ok, Err, is_some}
-use Rattle.record_dim.specs.Std.{position_from}
-use Rattle.command_checks.specs.Imports.{sym, ap, ◌∙◌, subst, arith, ⊎_elim, cases_Bool, Entry, same_name, found, known, free, some_or, refused_if, Unknown, Taken, Name}
+use Rattle.command_checks.specs.Imports.{sym, ap, ◌∙◌, subst, arith, ⊎_elim, cases_Bool, Entry, same_name, found, known, free, some_or, refused_if, Unknown, Taken, Name, position_from}
 use Rattle.command_checks.specs.Inner.Places.{without, IsAt}
 
 here : {E A : Type 0} (entry_of : E → Entry A) (name : List ℕ) (first : E) (rest : List E) → same_name (entry_of first).name name ≡ true → IsAt entry_of name (first ∷ rest) 0

@@ -1,17 +1,7 @@
 -- By which way a copy goes, and what it costs: a step for each block of at most 64 bytes, or for each read and each write.
 use Rattle.std.specs.Prelude.{ℕ, ◌≡◌, ◌⊎◌, ◌*◌, List, length, map, sum_by, Option, Some, if◌then◌else◌}
-use Rattle.record_dim.specs.Std.{range_with_len}
-use Rattle.extents.specs.Indices.{indices}
-use Rattle.extents.specs.declared.order.Order.{Order}
-use Rattle.linearize.specs.Slots.{slot_count}
-use Rattle.record_dim.specs.Prelude.{leaves, kinds_of, Fields}
-use Rattle.blobs.specs.Moves.{blocks}
-use Rattle.map_expr.specs.Terms.{Term}
-use Rattle.map_checks.specs.Prelude.{layout_by, array_of, lanes_in}
-use Rattle.map_any.specs.Strategies.{IsStrategy}
-use Rattle.map_any.specs.declared.strategy.Strategy.{Strategy}
+use Rattle.layout_copy.specs.Imports.{range_with_len, indices, Order, slot_count, leaves, kinds_of, Fields, blocks, Term, layout_by, array_of, lanes_in, IsStrategy, Strategy, blob_steps, size_of, MayMove, is_cut, piece_count, move_steps, Table, leaf_types_of, table_holds}
 use Rattle.map_any.specs.declared.strategy.Strategy.TheVariants as way
-use Rattle.views.specs.Prelude.{blob_steps, size_of, MayMove, is_cut, piece_count, move_steps, Table, leaf_types_of, table_holds}
 
 -- what the blobs of one table hold those of another with the same leaves may hold
 abbrev pub MayMoveTo : Table → Table → Type 0

@@ -1,3 +1,4 @@
+pub mod Imports
 pub mod Copies
 pub mod Costs
 pub mod OwnLaws

@@ -1,10 +1,6 @@
 -- Values that a table may hold are taken by it as they are.
 use Rattle.std.specs.Prelude.{◌≡◌, ◌+◌, ◌<◌, ℕ, suc, ℤ, pos, List, [], ◌∷◌, length, get_or, None, Ok, refl}
-use Rattle.record_dim.specs.Std.{ap, subst, arith, length-map}
-use Rattle.record_dim.specs.Prelude.{leaves}
-use Rattle.places.specs.Prelude.{entry}
-use Rattle.piece_bits.specs.Prelude.{HasShape}
-use Rattle.views.specs.Prelude.{stays_answer, rows_kept, StoreAnswer, AllStay, kept_or, kept_rows, Table, IsTable, table_holds, leaf_count_of, leaf_types_of, answer_of, kept_of}
+use Rattle.layout_copy.specs.Imports.{ap, subst, arith, length-map, leaves, entry, HasShape, stays_answer, rows_kept, StoreAnswer, AllStay, kept_or, kept_rows, Table, IsTable, table_holds, leaf_count_of, leaf_types_of, answer_of, kept_of}
 use Rattle.layout_copy.specs.Copies.{refusing, refused_at}
 
 -- rows of values that are taken are not refused

@@ -1,7 +1,6 @@
 // A copy that goes by whole blobs, by runs of slots, or field by field.
 ghost use Rattle.std.specs.Prelude.{◌≡◌, ◌+◌, ◌≤◌, ◌↔◌, IsTrue, IsErrOf, length};
-ghost use Rattle.map_any.specs.declared.strategy.Strategy.{Strategy};
-ghost use Rattle.views.specs.Prelude.{leaf_count_of, after_log};
+ghost use Rattle.layout_copy.specs.Imports.{Strategy, leaf_count_of, after_log};
 ghost use Rattle.layout_copy.specs.Copies.{AreAlike, IsCopied, source_log};
 ghost use Rattle.layout_copy.specs.Costs.{copy_cost, IsWay};
 

@@ -1,9 +1,6 @@
 // A copy that goes by runs of slots, between views that lay out arrays whose slots are in one order.
 ghost use Rattle.std.specs.Prelude.{◌≡◌, ◌+◌, ◌%◌, ◌<◌, ◌≤◌, Some, min, length, option_map};
-ghost use Rattle.map_checks.specs.Prelude.{array_of};
-ghost use Rattle.map_any.specs.Inner.ArraySlots.{slots_in};
-ghost use Rattle.map_any.specs.Strategies.{AreRuns};
-ghost use Rattle.views.specs.Prelude.{HasSlots, leaf_count_of};
+ghost use Rattle.layout_copy.specs.Imports.{array_of, slots_in, AreRuns, HasSlots, leaf_count_of};
 ghost use Rattle.layout_copy.specs.Copies.{AreAlike};
 ghost use Rattle.layout_copy.specs.Costs.{leaf_sizes, round_steps, slot_run_steps};
 ghost use Rattle.layout_copy.specs.Inner.CopiedRuns.{order_by, IsPieceMoved};

@@ -1,7 +1,6 @@
 // By which way a table is copied into another.
 ghost use Rattle.std.specs.Prelude.{ℕ, ◌≡◌, ◌<◌, ◌↔◌, IsTrue, length};
-ghost use Rattle.piece_bits.specs.Prelude.{hold_at};
-ghost use Rattle.views.specs.Prelude.{IsOwn, kind_at, leaf_types_of, table_holds};
+ghost use Rattle.layout_copy.specs.Imports.{hold_at, IsOwn, kind_at, leaf_types_of, table_holds};
 ghost use Rattle.layout_copy.specs.Costs.{MayMoveTo, IsWay};
 
 use map_any::{AnyMap, Strategy};

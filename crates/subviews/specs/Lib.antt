@@ -1,3 +1,4 @@
+pub mod Imports
 pub mod SubViews
 pub mod Stencils
 pub mod Plans

@@ -1,11 +1,6 @@
 -- What the calls of a stencil are given.
 use Rattle.std.specs.Prelude.{ℕ, ◌≡◌, ◌+◌, ◌-◌, ◌/◌, ◌<◌, ◌≤◌, ◌^◌, true, max, ℤ, pos, ◌+ℤ◌, ◌<ℤ◌, unsigned_abs, List, length, map, sum_by, take, All, Contains, Ok, Some, slice_get, slice_index_or}
-use Rattle.extents.specs.Indices.{indices}
-use Rattle.map_expr.specs.Terms.{uncounted}
-use Rattle.places.specs.Prelude.{entry}
-use Rattle.record_dim.specs.declared.leaf_type.LeafType.{LeafType}
-use Rattle.record_dim.specs.Prelude.{IsDeclared, leaves, kinds_of, Fields}
-use Rattle.views.specs.Prelude.{kind_at, Table, answer_of, after_log, Access}
+use Rattle.subviews.specs.Imports.{indices, uncounted, entry, LeafType, IsDeclared, leaves, kinds_of, Fields, kind_at, Table, answer_of, after_log, Access}
 use Rattle.subviews.specs.SubViews.{WindowOf, rows_of}
 use Rattle.subviews.specs.Stencils.{Stencil, weighted, row_from, reaches, is_weight, values_fault, new_entry, round_reads}
 use Rattle.subviews.specs.declared.term.Term.{Term}

@@ -1,9 +1,6 @@
 -- What each store of a stencil keeps true of the rows, its rounds keep true.
 use Rattle.std.specs.Prelude.{◌≡◌, ℕ, zero, suc, true, ℤ, List, [], ◌∷◌, Result, Ok, Err, is_ok, refl}
-use Rattle.record_dim.specs.Std.{subst, arith}
-use Rattle.piece_bits.specs.Prelude.{with_entry}
-use Rattle.views.specs.Prelude.{StoreAnswer, kept_by}
-use Rattle.views.specs.declared.fault.StoreFault.{StoreFault}
+use Rattle.subviews.specs.Imports.{subst, arith, with_entry, StoreAnswer, kept_by, StoreFault}
 use Rattle.subviews.specs.Stencils.{Stencil, stencil_value, at_row, values_fault, with_entries, new_entry, if_fits, round, next_round, after_rounds}
 use Rattle.subviews.specs.declared.fault.StencilFault.{StencilFault}
 

@@ -1,12 +1,6 @@
 -- What a stencil makes of the rows of a table, which fault ends it, and which entries it reads and writes.
 use Rattle.std.specs.Prelude.{ℕ, zero, suc, ◌+◌, ◌^◌, ◌==◌, ◌&&◌, Bool, ℤ, pos, neg_ℤ, ◌+ℤ◌, ◌*ℤ◌, ◌-ℤ◌, int_div, int_le, nat_lt, List, [], ◌∷◌, ◌++◌, length, map, take, fold, Result, Ok, Err, is_err}
-use Rattle.record_dim.specs.Std.{flat_map, range_with_len, position_or_len, list_all, int_eq, pointwise}
-use Rattle.extents.specs.Indices.{indices}
-use Rattle.linearize.specs.Slots.{index_at}
-use Rattle.places.specs.Prelude.{entry}
-use Rattle.piece_bits.specs.Prelude.{with_entry}
-use Rattle.views.specs.Prelude.{StoreAnswer, kept_by, Access, Read, Write, Table, answer_of}
-use Rattle.views.specs.declared.fault.StoreFault.{StoreFault}
+use Rattle.subviews.specs.Imports.{flat_map, range_with_len, position_or_len, list_all, int_eq, pointwise, indices, index_at, entry, with_entry, StoreAnswer, kept_by, Access, Read, Write, Table, answer_of, StoreFault}
 use Rattle.subviews.specs.SubViews.{WindowOf, rows_of}
 use Rattle.subviews.specs.declared.term.Term.{Term}
 use Rattle.subviews.specs.declared.fault.StencilFault.{StencilFault}

@@ -1,9 +1,6 @@
 -- A window of a view, used as a view of its own.
 use Rattle.std.specs.Prelude.{ℕ, ℤ, List, [], map, slice_index_or}
-use Rattle.record_dim.specs.Std.{flat_map}
-use Rattle.extents.specs.declared.window.Span.{Span}
-use Rattle.extents.specs.Windows.{rows_in}
-use Rattle.views.specs.Prelude.{Access, Read, row_accesses}
+use Rattle.subviews.specs.Imports.{flat_map, Span, rows_in, Access, Read, row_accesses}
 
 -- a window, as clauses see it: the extents of the whole array, and a span for each
 abbrev pub WindowOf : Type 0

@@ -1,7 +1,6 @@
 // How far from 0 the values of leaves may lie, so that no sum of terms passes 64 bits.
 ghost use Rattle.std.specs.Prelude.{◌≡◌, ◌≤◌, ◌^◌, true, ℤ, All, length, unsigned_abs};
-ghost use Rattle.record_dim.specs.Prelude.{IsDeclared};
-ghost use Rattle.views.specs.Prelude.{leaf_count_of, leaf_types_of};
+ghost use Rattle.subviews.specs.Imports.{IsDeclared, leaf_count_of, leaf_types_of};
 ghost use Rattle.subviews.specs.Plans.{IsLightTermOf, AreNear, all_weights};
 
 use crate::term::Term;

@@ -1,9 +1,6 @@
 // The text of a print of a window: the names of the leaves, then the values of each row of the subview.
 ghost use Rattle.std.specs.Prelude.{◌≡◌, OnOk, flat_map, map};
-ghost use Rattle.csv_rows.specs.Texts.{comma_line, print_text};
-ghost use Rattle.layout_io.specs.Prelude.{decimal_text, Puts, Writes};
-ghost use Rattle.record_dim.specs.Prelude.{texts_of};
-ghost use Rattle.views.specs.Prelude.{leaf_count_of, after_log};
+ghost use Rattle.subviews.specs.Imports.{comma_line, print_text, decimal_text, Puts, Writes, texts_of, leaf_count_of, after_log};
 ghost use Rattle.subviews.specs.SubViews.{sub_table, sub_reads};
 
 use crate::sub_view::SubView;

@@ -1,7 +1,6 @@
 // Which terms and divisors a stencil may have.
 ghost use Rattle.std.specs.Prelude.{◌≡◌, pos, length};
-ghost use Rattle.std.specs.List.{list_all};
-ghost use Rattle.extents.specs.Windows.{IsWindow};
+ghost use Rattle.subviews.specs.Imports.{list_all, IsWindow};
 ghost use Rattle.subviews.specs.Stencils.{is_divisor, is_offset, is_weight, reaches};
 ghost use Rattle.subviews.specs.Inner.Reach.{all_stay, stays};
 

@@ -1,8 +1,6 @@
 // Rounds of a stencil over a window, and their buffer.
 ghost use Rattle.std.specs.Prelude.{◌≡◌, ◌+◌, ◌<◌, ◌≤◌, ℕ, true, pos, ◌<ℤ◌, int_div, All, Contains, Ok, Err, OnOk, OnErr, IfOk, IfErr, length, map};
-ghost use Rattle.places.specs.Prelude.{entry};
-ghost use Rattle.views.specs.Prelude.{column_reads, column_writes, run_of, Table, leaf_count_of, answer_of, after_log, after_stores};
-ghost use Rattle.views.specs.Columns.{with_column as with_values};
+ghost use Rattle.subviews.specs.Imports.{entry, column_reads, column_writes, run_of, Table, leaf_count_of, answer_of, after_log, after_stores, with_values};
 ghost use Rattle.subviews.specs.SubViews.{rows_of};
 ghost use Rattle.subviews.specs.Stencils.{Stencil, weighted, stencil_value, values_fault, new_entry, with_entries, round, stenciled, term_reads, round_reads, round_writes, tried_rows, rounds_log, refused_log};
 ghost use Rattle.subviews.specs.Plans.{IsTermOf, IsBufferOf, IsPlanOf, IsRunOf, IsFilled, stencil_by, planned};

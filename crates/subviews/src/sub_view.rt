@@ -1,7 +1,5 @@
 ghost use Rattle.std.specs.Prelude.{◌≡◌, ◌+◌, ◌<◌, ℕ, OnOk, OnErr, Some, length, slice_get};
-ghost use Rattle.places.specs.Prelude.{entry};
-ghost use Rattle.record_dim.specs.Prelude.{IsDeclared};
-ghost use Rattle.views.specs.Prelude.{without_number, leaf_count_of, leaf_type_of, answer_of, after_read, after_write};
+ghost use Rattle.subviews.specs.Imports.{entry, IsDeclared, without_number, leaf_count_of, leaf_type_of, answer_of, after_read, after_write};
 ghost use Rattle.subviews.specs.SubViews.{rows_of, outer_row};
 
 use extents::Window;

@@ -1,7 +1,6 @@
 -- Tables of the places of names in a list.
 use Rattle.std.specs.Prelude.{ℕ, ◌≡◌, List, Option}
-use Rattle.record_dim.specs.Std.{position_from}
-use Rattle.command_checks.specs.Imports.{BTreeMap, get, slice_cmp, nat_cmp, Entry, same_name}
+use Rattle.command_checks.specs.Imports.{BTreeMap, get, slice_cmp, nat_cmp, Entry, same_name, position_from}
 
 -- the place that a table has under a name
 abbrev pub place_in : BTreeMap (List ℕ) ℕ → List ℕ → Option ℕ

@@ -1,12 +1,6 @@
 -- What a table is after a piece of slots was copied from another, leaf after leaf.
 use Rattle.std.specs.Prelude.{ℕ, ℤ, ◌≡◌, ◌<◌, List, length, Option, Some, None}
-use Rattle.extents.specs.Indices.{indices}
-use Rattle.extents.specs.declared.order.Order.{Order}
-use Rattle.extents.specs.declared.order.Order.TheVariants.{Row}
-use Rattle.places.specs.Prelude.{entry}
-use Rattle.map_expr.specs.Terms.{Term}
-use Rattle.map_checks.specs.Prelude.{array_of}
-use Rattle.views.specs.Prelude.{IsInRun}
+use Rattle.layout_copy.specs.Imports.{indices, Order, Row, entry, Term, array_of, IsInRun}
 
 -- the order of the slots of a mapping that lays out arrays; of another one nothing is said
 abbrev pub order_in : Option (Order × Option ℕ) → Order
