@@ -1,5 +1,5 @@
 -- Accesses to pieces, step by step.
-use Rattle.instrument.proofs.Imports.{◌≡◌, ℕ, ◌+◌, ◌-◌, ◌*◌, ◌/◌, ◌%◌, ◌<◌, ◌≤◌, Bool, true, false, nat_eq, nat_lt, nat_le, List, [], length, get_or, set, map, take, sym, ap, ◌∙◌, arith, ⊎_elim, ◌&&◌, ◌||◌, not, ne_eqb, lt-leb, lt-ltb, le-ltb, and_left, and_right, cases_eq, cases_lt, length-map, get_or-map, get_or_read, map-set, list_any_more, div-add-mod', mul-add-div, mul-lt-mul_of_pos_left, div-lt_iff_lt-mul, mul_comm, Piece, is_in_granule, is_touched, HeatCounts, raised, counted_times, warmed_times, heated_times, reaches, row_begin, AreGranulesOf, warmed_at, heated_besides}
+use Rattle.instrument.proofs.Imports.{◌≡◌, ℕ, ◌+◌, ◌-◌, ◌*◌, ◌/◌, ◌%◌, ◌<◌, ◌≤◌, Bool, true, false, nat_eq, nat_lt, nat_le, List, [], length, get_or, set, map, take, sym, ap, ◌∙◌, arith, ⊎_elim, ◌&&◌, ◌||◌, not, ne_eqb, lt-ltb, le-ltb, and_left, and_right, cases_eq, cases_lt, length-map, get_or-map, get_or_read, map-set, list_any_more, div-add-mod', mul-add-div, div-lt_iff_lt-mul, mul_comm, Piece, is_in_granule, is_touched, HeatCounts, raised, counted_times, warmed_times, heated_times, reaches, AreGranulesOf, warmed_at, heated_besides}
 use Rattle.instrument.proofs.Warming.{warmed-same, warmed-none, warmed-besides, warmed-more}
 
 -- a count that is written back into its list
@@ -15,14 +15,10 @@ is_anew granule others piece first past blob at = (nat_eq piece.blob blob && (na
 abbrev pub heated_until : ℕ → ℕ → ℕ → List Piece → Piece → HeatCounts → HeatCounts
 heated_until times first past others piece heat = record heat { blobs = warmed_times times (is_anew heat.granule others piece first past) heat.blobs }
 
--- none at the start
-pub none_between : (first at : ℕ) → (nat_le first at && nat_lt at first) ≡ false
-none_between first at = grind (arith, ⊎_elim, and_left, nat_le, nat_lt, lt-leb, and_right, le-ltb, cases_lt)
-
 pub until-start : (times : ℕ) (first : ℕ) (others : List Piece) (piece : Piece) (heat : HeatCounts) → heat ≡ heated_until times first first others piece heat
 until-start times first others piece heat =
     let none : (blob at : ℕ) → false ≡ is_anew heat.granule others piece first first blob at =
-    grind (arith, and_left, nat_eq, nat_le, nat_lt, and_right, none_between) in
+    grind (arith, and_left, nat_eq, nat_le, nat_lt, and_right) in
     ap (λ (blobs : List (List ℕ)). record heat { blobs = blobs }) (sym (warmed-none times heat.blobs) ∙ warmed-same times (λ blob at. false) (is_anew heat.granule others piece first first) heat.blobs none)
 
 -- the granules of a piece, whose end is counted from the first one on
@@ -34,9 +30,6 @@ last_from bit bits wide some wide_some =
 pub granules_are : (granule : ℕ) (piece : Piece) → 1 ≤ granule → 0 < piece.bits
     → AreGranulesOf granule piece (piece.bit / (8 * granule)) (piece.bit / (8 * granule) + (piece.bit % (8 * granule) + piece.bits - 1) / (8 * granule) + 1)
 granules_are granule piece some bits = grind (arith, last_from, nat_le, nat_lt, reaches, div-lt_iff_lt-mul, mul_comm)
-
-pub no_granules : (granule : ℕ) (piece : Piece) → 1 ≤ granule → piece.bits ≡ 0 → AreGranulesOf granule piece (piece.bit / (8 * granule)) (piece.bit / (8 * granule))
-no_granules granule piece some none = grind (arith, none_between, le-ltb, row_begin, ⊎_elim, mul-lt-mul_of_pos_left, cases_lt)
 
 -- one granule more
 other_place : (first number at : ℕ) → (at ≡ number → ⊥) → (nat_le first at && nat_lt at (number + 1)) ≡ (nat_le first at && nat_lt at number)
@@ -51,7 +44,7 @@ other_blob granule first past past' others piece blob at other = grind (arith, n
 -- one that others touch stays
 pub until-touched : (times : ℕ) (first number : ℕ) (others : List Piece) (piece : Piece) (heat : HeatCounts) → is_touched heat.granule others piece.blob number ≡ true
     → heated_until times first number others piece heat ≡ heated_until times first (number + 1) others piece heat
-until-touched times first number others piece heat touched = grind (arith, ⊎_elim, and_right, nat_eq, nat_le, nat_lt, beside_place, cases_eq, other_blob, warmed-same)
+until-touched times first number others piece heat touched = grind (arith, ⊎_elim, and_right, nat_eq, nat_le, nat_lt, cases_eq, warmed-same)
 
 -- and another one gets one more
 pub until-more : (times : ℕ) (first number : ℕ) (others : List Piece) (piece : Piece) (heat : HeatCounts) → piece.blob < length heat.blobs → number < length (get_or heat.blobs piece.blob []) → first ≤ number

@@ -1,5 +1,5 @@
 -- Counts by granule: what more in some of them is, and more in some and then in others.
-use Rattle.instrument.proofs.Imports.{◌≡◌, ℕ, ◌+◌, ◌<◌, Bool, true, false, List, [], ◌∷◌, ◌++◌, length, get_or, set, map, take, replicate, sym, ap, refl, ◌∙◌, arith, ⊎_elim, ◌&&◌, ◌||◌, not, if◌then◌else◌, enumerate_from, fun_ext, cases_eq, length-set, get_or-set_same, get_or-set_other, ext_get_or, map_push, map_more, length-warmed_blob, length-warmed, get-warmed_blob, get-warmed, raised, counted_times, granules_of, warmed_blob, warmed_times}
+use Rattle.instrument.proofs.Imports.{◌≡◌, ℕ, ◌+◌, ◌<◌, Bool, true, false, List, [], ◌∷◌, length, get_or, set, map, sym, ap, refl, ◌∙◌, arith, ⊎_elim, ◌&&◌, ◌||◌, not, if◌then◌else◌, enumerate_from, fun_ext, cases_eq, length-set, get_or-set_same, get_or-set_other, ext_get_or, length-warmed_blob, length-warmed, get-warmed_blob, get-warmed, raised, counted_times, warmed_blob, warmed_times}
 
 -- tests that agree
 pub warmed-same : (times : ℕ) (hot hot' : ℕ → ℕ → Bool) (blobs : List (List ℕ)) → ((blob at : ℕ) → hot blob at ≡ hot' blob at) → warmed_times times hot blobs ≡ warmed_times times hot' blobs
@@ -19,16 +19,11 @@ none_from times n (counts ∷ blobs) =
 pub warmed-none : (times : ℕ) (blobs : List (List ℕ)) → warmed_times times (λ blob at. false) blobs ≡ blobs
 warmed-none times blobs = none_from times 0 blobs
 
--- some granules, and then others
-count_twice : (times : ℕ) (hot more : Bool) (count : ℕ) →
-    (if more && not hot then raised times (if hot then raised times count else count) else (if hot then raised times count else count)) ≡ (if hot || more then raised times count else count)
-count_twice times hot more count = grind arith
-
 blob_twice : (times : ℕ) (hot more : ℕ → Bool) (n : ℕ) (counts : List ℕ) →
     map (λ (at : ℕ × ℕ). if more at.0 && not (hot at.0) then raised times at.1 else at.1) (enumerate_from n (map (λ (at : ℕ × ℕ). if hot at.0 then raised times at.1 else at.1) (enumerate_from n counts)))
     ≡ map (λ (at : ℕ × ℕ). if hot at.0 || more at.0 then raised times at.1 else at.1) (enumerate_from n counts)
 blob_twice times hot more n [] = refl
-blob_twice times hot more n (count ∷ counts) = grind (arith, count_twice, (blob_twice times hot more (n + 1) counts))
+blob_twice times hot more n (count ∷ counts) = grind (arith, (blob_twice times hot more (n + 1) counts))
 
 twice_from : (times : ℕ) (hot more : ℕ → ℕ → Bool) (n : ℕ) (blobs : List (List ℕ)) →
     map (λ (blob : ℕ × List ℕ). warmed_blob times (λ at. more blob.0 at && not (hot blob.0 at)) blob.1) (enumerate_from n (map (λ (blob : ℕ × List ℕ). warmed_blob times (hot blob.0) blob.1) (enumerate_from n blobs)))
@@ -62,12 +57,3 @@ warmed-more times hot hot' blobs blob at blob_in at_in was is beside others =
     let set_long = length-set (warmed_times times hot blobs) blob new in
     ext_get_or [] (set (warmed_times times hot blobs) blob new) (warmed_times times hot' blobs) (set_long ∙ long ∙ sym long') (λ b within.
     grind (arith, ⊎_elim, get_or-set_same, get-warmed, get_or, blob_more, get_or-set_other, fun_ext, cases_eq))
-
--- the counts of one blob more
-pub made-more : {X : Type 0} (items : X → List ℕ) (lists all : List X) (new : X) (bytes : List ℕ) (granule at count : ℕ) → at < length bytes
-    → map items lists ≡ map (λ len. replicate (granules_of granule len) 0) (take at bytes) → all ≡ lists ++ new ∷ [] → items new ≡ replicate count 0 → count ≡ granules_of granule (get_or bytes at 0)
-    → map items all ≡ map (λ len. replicate (granules_of granule len) 0) (take (at + 1) bytes)
-made-more items lists all new bytes granule at count small before pushed new_is count_is =
-    ap (map items) pushed ∙ map_push items lists new ∙ ap (λ front. front ++ items new ∷ []) before
-    ∙ ap (λ last. map (λ len. replicate (granules_of granule len) 0) (take at bytes) ++ last ∷ []) (new_is ∙ ap (λ n. replicate n 0) count_is)
-    ∙ sym (map_more (λ len. replicate (granules_of granule len) 0) bytes at 0 small)

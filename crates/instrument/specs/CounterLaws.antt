@@ -5,13 +5,6 @@ use Rattle.record_dim.specs.Std.{ap, ◌∙◌, arith, ⊎_elim, cases_Bool, cas
 use Rattle.instrument.specs.Counters.{next, counted, granules_of, no_heat, warmed}
 use Rattle.instrument.specs.WarmingLaws.{length-warmed, length-heated, get-warmed, get-warmed_blob}
 
--- one entry before others
-capped_more : (count others : ℕ) → min (next count + others) (2 ^ 64 - 1) ≡ min (count + (1 + others)) (2 ^ 64 - 1)
-capped_more count others = omega arith
-
-capped_same : (count others : ℕ) → min (count + others) (2 ^ 64 - 1) ≡ min (count + (0 + others)) (2 ^ 64 - 1)
-capped_same count others = omega arith
-
 capped_none : (count : ℕ) → count ≤ 2 ^ 64 - 1 → count ≡ min (count + 0) (2 ^ 64 - 1)
 capped_none count bound = omega arith
 
@@ -22,7 +15,7 @@ from_zero number = omega arith
 counts_by : {X : Type 0} (touches : X → Bool) (entry : X) (entries : List X) (count new : ℕ) → new ≡ (if touches entry then next count else count)
     → min (new + count_by touches entries) (2 ^ 64 - 1) ≡ min (count + count_by touches (entry ∷ entries)) (2 ^ 64 - 1)
 counts_by touches entry entries count new is =
-    let more = sum_by-cons (λ x. cond (touches x) 1 0) entry entries in grind (arith, ⊎_elim, count_by, capped_more, capped_same, cases_Bool)
+    let more = sum_by-cons (λ x. cond (touches x) 1 0) entry entries in grind (arith, ⊎_elim, count_by, cases_Bool)
 
 new_bound : (touched : Bool) (count new : ℕ) → count ≤ 2 ^ 64 - 1 → new ≡ (if touched then next count else count) → new ≤ 2 ^ 64 - 1
 new_bound touched count new bound is = grind arith

@@ -12,15 +12,11 @@ counted-counted [] place first more = refl
 counted-counted (count ∷ counts) zero first more = ap (λ (new : ℕ). new ∷ counts) (raised-raised first more count)
 counted-counted (count ∷ counts) (suc place) first more = ap (λ (rest : List ℕ). count ∷ rest) (counted-counted counts place first more)
 
-chosen : (hot : Bool) (first more count : ℕ)
-    → (if hot then raised more (if hot then raised first count else count) else (if hot then raised first count else count)) ≡ (if hot then raised (first + more) count else count)
-chosen hot first more count = grind (arith, raised-raised)
-
 blob_again : (hot : ℕ → Bool) (first more n : ℕ) (counts : List ℕ)
     → map (λ (at : ℕ × ℕ). if hot at.0 then raised more at.1 else at.1) (enumerate_from n (map (λ (at : ℕ × ℕ). if hot at.0 then raised first at.1 else at.1) (enumerate_from n counts)))
     ≡ map (λ (at : ℕ × ℕ). if hot at.0 then raised (first + more) at.1 else at.1) (enumerate_from n counts)
 blob_again hot first more n [] = refl
-blob_again hot first more n (count ∷ counts) = grind (arith, chosen, (blob_again hot first more (n + 1) counts))
+blob_again hot first more n (count ∷ counts) = grind (arith, (blob_again hot first more (n + 1) counts))
 
 blobs_again : (hot : ℕ → ℕ → Bool) (first more n : ℕ) (blobs : List (List ℕ))
     → map (λ (blob : ℕ × List ℕ). warmed_blob more (hot blob.0) blob.1) (enumerate_from n (map (λ (blob : ℕ × List ℕ). warmed_blob first (hot blob.0) blob.1) (enumerate_from n blobs)))
