@@ -113,11 +113,8 @@ count_where_kept x op c kx e kc = record {
   fits = fits_append 1 (path_tokens x) _ (path_in x kx) (fits_operator 1 op _ (const_in c kc));
 }
 
-comparison_back : (op own : BinOp) → own ≡ op → comparison_of (operator own) ≡ Some own → comparison_of (operator op) ≡ Some op
-comparison_back op own e h = rw (← e) h
-
 comparison_is : (token : Token) (op : BinOp) → comparison_of token ≡ Some op → IsSpelled token → comparison_of (operator op) ≡ Some op
-comparison_is token op h spelled = grind (arith, comparison_back)
+comparison_is token op h spelled = grind arith
 
 pub kernel_inside_gives : (word : KernelWord) → Gives (inside_kernel word) (KeptKernel word)
 unfolding inside_kernel

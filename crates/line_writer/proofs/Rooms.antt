@@ -1,5 +1,5 @@
 -- The canonical tokens of expressions and kernels are spelled, and open few brackets at once.
-use Rattle.line_writer.proofs.Imports.{◌≡◌, ℕ, ◌+◌, ◌<◌, ◌≤◌, ◌-◌, List, [], ◌∷◌, ◌++◌, map, length, codes, refl, append-nil, append_assoc, arith, max, ℤ, true, false, Bool, not, ◌&&◌, if◌then◌else◌, flat_map, list_all, map-append, AllPass-from_list_all, le-max_left, le-max_right, MayOpen, AreSpelled, Written, Comma, CloseBracket, OpenParen, CloseParen, Minus, OpenBracket, Token, Word, Sign, Number, Text, Bad, Value, PathStep, BinOp, depth_of, Constant, Entry, Index, Neg, Not, Binary, count, number, part, parts, path, operator, is_letter, is_word_byte, brackets_after, Begins, opens, closes, SignName, with_commas, count_token, number_tokens, path_tokens, form_tokens, value_tokens, is_choice, operand, bracket_list, bracketed_count, step_tokens, needs_brackets, first_tokens, written}
+use Rattle.line_writer.proofs.Imports.{◌≡◌, ℕ, ◌+◌, ◌≤◌, List, [], ◌∷◌, ◌++◌, map, length, codes, refl, append-nil, append_assoc, arith, max, ℤ, true, false, Bool, not, ◌&&◌, if◌then◌else◌, flat_map, list_all, map-append, AllPass-from_list_all, le-max_left, le-max_right, AreSpelled, Written, Comma, CloseBracket, OpenParen, CloseParen, Minus, OpenBracket, Token, Word, Sign, Value, PathStep, BinOp, depth_of, Constant, Entry, Index, Neg, Not, Binary, number, part, parts, path, operator, is_letter, is_word_byte, Begins, opens, closes, SignName, with_commas, number_tokens, path_tokens, form_tokens, value_tokens, is_choice, operand, bracket_list, step_tokens, needs_brackets, first_tokens, written}
 use Rattle.line_writer.proofs.Gives.{IsSpelled, Each, each_front, each_back}
 use Rattle.line_writer.proofs.Leaves.{IsGood}
 
@@ -21,20 +21,8 @@ abbrev is_flat : Token → Bool
 is_flat (Sign sign) = not (opens sign) && not (closes sign)
 is_flat _ = true
 
-flat_room : (token : Token) (b : ℕ) → is_flat token ≡ true → MayOpen (written token).kind b × (brackets_after (written token).kind b ≡ b)
-flat_room (Word text) b e = (tt, refl)
-flat_room (Number value) b e = (tt, refl)
-flat_room (Text text) b e = (tt, refl)
-flat_room Bad b e = (tt, refl)
-flat_room (Sign sign) b e = sign_room (opens sign) (closes sign) b e
-  where
-    sign_room : (o c : Bool) (b : ℕ) → (not o && not c) ≡ true → (o ≡ true → b < 64) × ((if o then b + 1 else (if c then b - 1 else b)) ≡ b)
-    sign_room true c b e = absurd cc
-    sign_room false true b e = absurd cc
-    sign_room false false b e = (λ h. absurd cc, refl)
-
 pub fits_flat : (k : ℕ) (token : Token) (tokens : List Token) → is_flat token ≡ true → IsSpelled token → Fits k tokens → Fits k (token ∷ tokens)
-fits_flat k token tokens e spelled f = grind (arith, flat_room)
+fits_flat k token tokens e spelled f = grind arith
 
 -- tokens in brackets
 pub fits_inside : (k : ℕ) (opening closing : SignName) (tokens : List Token) → opens opening ≡ true → opens closing ≡ false → closes closing ≡ true → Fits k tokens →
@@ -61,19 +49,13 @@ fits_operator k op tokens f = fits_flat k (operator op) tokens (operator_flat op
 pub one_fits : (token : Token) → is_flat token ≡ true → IsSpelled token → Fits 0 (token ∷ [])
 one_fits token e spelled = fits_flat 0 token [] e spelled no_tokens_fit
 
-pub bracketed_count_fits : (count : ℕ) → IsSpelled (count_token count) → Fits 1 (bracketed_count count)
-bracketed_count_fits count spelled = fits_inside 0 OpenBracket CloseBracket (count_token count ∷ []) refl refl refl (one_fits (count_token count) refl spelled)
-
 -- a path
 first_fits : (first : PathStep) → Each IsSpelled (first_tokens first) → Fits 1 (first_tokens first)
-first_fits first h = grind (arith, fits_more, one_fits, bracketed_count_fits)
-
-step_fits : (next : PathStep) → Each IsSpelled (step_tokens next) → Fits 1 (step_tokens next)
-step_fits next h = grind (arith, fits_more, fits_flat, one_fits, bracketed_count_fits)
+first_fits first h = grind (arith, fits_more, one_fits)
 
 steps_fit : (steps : List PathStep) → Each IsSpelled (flat_map step_tokens steps) → Fits 1 (flat_map step_tokens steps)
 steps_fit [] h = fits_more 0 1 [] (omega arith) no_tokens_fit
-steps_fit (next ∷ steps) h = grind (arith, fits_append, flat_map, step_fits, each_front, each_back, (steps_fit steps (each_back IsSpelled (step_tokens next) (flat_map step_tokens steps) h)))
+steps_fit (next ∷ steps) h = grind (arith, fits_append, flat_map, each_front, each_back, (steps_fit steps (each_back IsSpelled (step_tokens next) (flat_map step_tokens steps) h)))
 
 pub path_fits : (path : List PathStep) → Each IsSpelled (path_tokens path) → Fits 1 (path_tokens path)
 path_fits [] h = fits_more 0 1 [] (omega arith) no_tokens_fit

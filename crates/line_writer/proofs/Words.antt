@@ -1,5 +1,5 @@
 -- The one token that each word, name, number and string of a phrase has.
-use Rattle.line_writer.proofs.Imports.{◌≡◌, ℕ, List, [], ◌∷◌, map, refl, sym, ap, ◌∙◌, Option, Some, None, true, Bool, if◌then◌else◌, bytes_eq, nat_lt, list_any, bytes_eq-Decides, Token, Word, Text, item, Version, command_of, map_word, token_order, listed, meaning, name_of, count_of, string_of, type_of, integer_type_of, integer_types, leaf_types, orders, aos_forms, aos_form_of, soa_forms, soa_form_of, map_words, reduction_of, reductions, commands, name, count, string, reduction_word, command_word, type_word, order_word, aos_word, soa_word, form_word, MapWord, count_token, arith}
+use Rattle.line_writer.proofs.Imports.{◌≡◌, ℕ, List, [], ◌∷◌, map, refl, sym, ap, ◌∙◌, Option, Some, true, Bool, if◌then◌else◌, bytes_eq, nat_lt, list_any, bytes_eq-Decides, Token, Word, Text, item, Version, command_of, map_word, token_order, listed, meaning, name_of, count_of, string_of, type_of, integer_type_of, integer_types, leaf_types, orders, aos_forms, aos_form_of, soa_forms, soa_form_of, map_words, reduction_of, reductions, commands, name, count, string, reduction_word, command_word, type_word, order_word, aos_word, soa_word, form_word, MapWord, count_token, arith}
 use Rattle.line_writer.proofs.Gives.{Prints}
 
 listed_step : {A : Type 0} (word_of own : A → List ℕ) (word : List ℕ) (value v : A) (rest : Option A) (b : Bool) → (b ≡ true → word ≡ word_of value) → word_of value ≡ own value →
@@ -49,15 +49,8 @@ reduction_prints = one_token reduction_of (λ v. Word (reduction_word v)) (meant
 pub command_prints : (version : Version) → IsWordPhrase (command_of version) command_word
 command_prints version = one_token (command_of version) (λ v. Word (command_word v)) (meant_word command_word (commands version))
 
--- names, counts and strings
-if_some : {A : Type 0} (b : Bool) (x v : A) → (if b then Some x else None) ≡ Some v → x ≡ v
-if_some b x v h = grind arith
-
-if_none : {A : Type 0} (b : Bool) (x v : A) → (if b then None else Some x) ≡ Some v → x ≡ v
-if_none b x v h = grind arith
-
 name_is : (token : Token) (v : List ℕ) → name_of token ≡ Some v → token ≡ Word v
-name_is token v h = grind (arith, if_none, list_any, bytes_eq)
+name_is token v h = grind (arith, list_any, bytes_eq)
 
 pub name_prints : Prints name (λ v. Word v ∷ [])
 name_prints = one_token name_of Word name_is
@@ -69,7 +62,7 @@ pub string_prints : Prints string (λ v. Text v ∷ [])
 string_prints = one_token string_of Text string_is
 
 count_is : (token : Token) (v : ℕ) → count_of token ≡ Some v → token ≡ count_token v
-count_is token v h = grind (arith, if_some, nat_lt)
+count_is token v h = grind (arith, nat_lt)
 
 pub count_prints : Prints count (λ v. count_token v ∷ [])
 count_prints = one_token count_of count_token count_is
