@@ -155,26 +155,19 @@ abbrev AreReserved : {A : Type 0} → (A → List ℕ) → List A → Type 0
 AreReserved word_of [] = Unit {0}
 AreReserved word_of (value ∷ values) = (list_any (bytes_eq (word_of value)) reserved ≡ true) × AreReserved word_of values
 
-unlisted : {A : Type 0} (word_of : A → List ℕ) (values : List A) (word : List ℕ) → AreReserved word_of values → list_any (bytes_eq word) reserved ≡ false → listed word_of values word ≡ None
-unlisted word_of [] word all free = refl
-unlisted word_of (value ∷ values) word all free = grind (arith, cases_Bool, bytes_eq, bytes_eq-Decides, list_any, (unlisted word_of values word all.1 free))
-
 -- the words of `min` and `max`
 abbrev choice_word : BinOp → List ℕ
 choice_word Max = codes "max"
 choice_word _ = codes "min"
 
-name_free : (word x : List ℕ) (b : Bool) → list_any (bytes_eq word) reserved ≡ b → ◌≡◌ {A = Option (List ℕ)} (if b then None else Some word) (Some x) → list_any (bytes_eq word) reserved ≡ false
-name_free word x b is e = grind arith
-
 name_no_number : (token : Token) (x : List ℕ) → name_of token ≡ Some x → means token_number token ≡ false
 name_no_number token x e = grind arith
 
 name_no_index : (token : Token) (x : List ℕ) → name_of token ≡ Some x → means index_of token ≡ false
-name_no_index token x e = grind (arith, is_some, unlisted, name_free, list_any, bytes_eq)
+name_no_index token x e = grind (arith, is_some, list_any, bytes_eq)
 
 name_no_choice : (token : Token) (x : List ℕ) → name_of token ≡ Some x → means choice_of token ≡ false
-name_no_choice token x e = grind (arith, is_some, unlisted, name_free, list_any, bytes_eq)
+name_no_choice token x e = grind (arith, is_some, list_any, bytes_eq)
 
 index_no_number : (token : Token) (d : ℕ) → index_of token ≡ Some d → means token_number token ≡ false
 index_no_number token d e = grind arith
