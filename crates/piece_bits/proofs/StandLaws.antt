@@ -1,9 +1,9 @@
 -- What stands at the places of rules: that it is where the rules say.
-use Rattle.piece_bits.proofs.Imports.{◌≡◌, ◌≢◌, ℕ, ◌+◌, ◌-◌, ◌*◌, ◌/◌, ◌%◌, ◌^◌, ◌<◌, ◌≤◌, All, List, [], ◌∷◌, map, length, get_or, refl, sym, ap, ◌∙◌, subst, arith, same_lists, length-map, get_or-map, Hold, Piece, begins_fit, begin_in, piece_in, pieces_in, PieceRule, turned_pieces, Field, Word, Carries, place_by, pieces_by, StandsFor, IsHeldBy, IsWhole, IsTurned, IsByteAlong, IsTurnedByte, AreTurned, IsScatteredByte, AreScattered, IsInBytes, IsInBits, IsStandFor, Stand, rules}
+use Rattle.piece_bits.proofs.Imports.{◌≡◌, ◌≢◌, ℕ, ◌+◌, ◌-◌, ◌*◌, ◌/◌, ◌%◌, ◌^◌, ◌<◌, ◌≤◌, All, List, [], ◌∷◌, map, length, get_or, refl, sym, ap, ◌∙◌, subst, arith, same_lists, length-map, get_or-map, Hold, Piece, begins_fit, begin_in, piece_in, pieces_in, PieceRule, turned_pieces, Field, Word, Carries, place_by, pieces_by, StandsFor, IsHeldBy, IsWhole, IsTurned, IsTurnedByte, AreTurned, IsScatteredByte, AreScattered, IsInBytes, IsInBits, IsStandFor, Stand, rules}
 use Rattle.piece_bits.specs.declared.word.Word.TheVariants as stored
 use Rattle.piece_bits.proofs.Places.{same_steps, same_piece}
 use Rattle.piece_bits.proofs.Together.{piece}
-use Rattle.piece_bits.proofs.WordLaws.{whole_held, whole_pieces, turned_held, turned_by, length-turned, get_or-turned, same_together}
+use Rattle.piece_bits.proofs.WordLaws.{whole_held, turned_held, turned_by, length-turned, get_or-turned}
 
 -- the place of a slot
 abbrev place_of : Stand → ℕ → ℕ
@@ -16,10 +16,6 @@ stands_from : (rules : List PieceRule) (field : Field) (stand : Stand)
     → StandsFor rules stand.word field stand.blob stand.base stand.block stand.lane stand.power
 stands_from rules field stand same fits = grind (arith, begins_fit)
 
--- in bytes
-bytes_place : (one : PieceRule) (word : Word) (stand : Stand) (slot : ℕ) → IsInBytes one word stand → begin_in one slot ≡ 8 * place_of stand slot
-bytes_place one word stand slot h = omega (arith, h.base, h.steps slot)
-
 -- ---- one piece
 
 pub whole_stand : (one : PieceRule) (word : Word) (hold : Hold) (stand : Stand) → IsInBytes one word stand → IsWhole word hold.signed hold.width
@@ -28,8 +24,8 @@ whole_stand one word hold stand h whole bits = λ field signed width.
     record {
       held = whole_held stand.word hold field (subst (λ (w : Word). IsWhole w hold.signed hold.width) (sym h.word) whole);
       stands = stands_from (one ∷ []) field stand
-          (λ slot. grind (arith, same_piece, bytes_place, whole_pieces))
-          (λ slot fit. grind (arith, bytes_place));
+          (λ slot. grind (arith, same_piece))
+          (λ slot fit. grind arith);
       low = h.low;
     }
 
@@ -59,15 +55,11 @@ carried_stand rules one hold stand carry together h = λ field signed width.
     record {
       held = is.held;
       stands = λ layout row cell size slot placed.
-          let there = is.stands layout row cell size slot (carry layout row cell size slot placed) in grind (arith, same_together);
+          let there = is.stands layout row cell size slot (carry layout row cell size slot placed) in grind arith;
       low = is.low;
     }
 
 -- ---- several pieces
-
--- where a byte begins that goes from slot to slot as another
-along_begins : (other byte : PieceRule) (slot below : ℕ) → IsByteAlong other byte → byte.base ≡ other.base + 8 * below → begin_in byte slot ≡ begin_in other slot + 8 * below
-along_begins other byte slot below h base = grind (arith, same_steps)
 
 turned_same : (rules : List PieceRule) (last : PieceRule) (word : Word) (stand : Stand) (slot : ℕ) → IsInBytes last word stand → AreTurned rules last
     → pieces_in rules slot ≡ turned_pieces stand.blob (8 * place_of stand slot) (length rules)
@@ -89,7 +81,7 @@ turned_stand rules last word hold stand h is size turned = λ field signed width
       stands = stands_from rules field stand
           (λ slot. turned_same rules last word stand slot h turned
           ∙ turned_by stand.word hold.signed hold.width (length rules) field stand.blob rules (place_of stand slot) is' size)
-          (λ slot fit. grind (arith, along_begins, bytes_place));
+          (λ slot fit. grind arith);
       low = h.low;
     }
 

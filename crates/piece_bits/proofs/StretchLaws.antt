@@ -1,16 +1,13 @@
 -- Where the rows of a stretch lie.
-use Rattle.piece_bits.proofs.Imports.{◌≡◌, ◌≢◌, ℕ, ◌+◌, ◌-◌, ◌*◌, ◌/◌, ◌%◌, ◌^◌, ◌<◌, ◌≤◌, w64, true, false, min, refl, sym, ap, ◌∙◌, subst, ⊎_elim, arith, lit<, [], ◌∷◌, bit_at, trailing_zeros, div-one, mod-one, mod-eq_of_lt, mul_assoc, pow-le-pow_right, cases_lt, mod_below, pow_pos, shr_split, pow-add, div-mul-add, mod-mul-add, div-add-mod', bit_at-zero, bit_at_above, bit_at_cat_low, bit_at-trailing_zeros, same_from_bits, line_same, column_on, columns_apart, Scattered, place_by, slot_in, start_in, interleaved, offset_by, spread_power, IsStretch, leads, walks_in_blocks, slot_by, ShortRule, Spread, Even, Blocks, Digits, Stretch, Walk}
+use Rattle.piece_bits.proofs.Imports.{◌≡◌, ◌≢◌, ℕ, ◌+◌, ◌-◌, ◌*◌, ◌/◌, ◌%◌, ◌^◌, ◌<◌, ◌≤◌, w64, true, false, min, refl, sym, ap, ◌∙◌, subst, ⊎_elim, arith, lit<, [], ◌∷◌, bit_at, trailing_zeros, mod-eq_of_lt, mul_assoc, pow-le-pow_right, cases_lt, mod_below, pow_pos, shr_split, pow-add, div-mul-add, mod-mul-add, div-add-mod', bit_at-zero, bit_at_above, bit_at_cat_low, bit_at-trailing_zeros, same_from_bits, line_same, column_on, columns_apart, Scattered, place_by, slot_in, start_in, interleaved, offset_by, spread_power, IsStretch, leads, walks_in_blocks, slot_by, ShortRule, Spread, Even, Blocks, Digits, Stretch, Walk}
 use Rattle.piece_bits.specs.declared.walk.Walk.TheVariants as walk
 
 -- ---- the place of a slot so many further on
 
-single_place : (base block lane power slot : ℕ) → power ≡ 0 → place_by base block lane power slot ≡ base + slot * block
-single_place base block lane power slot single = grind (arith, div-one, mod-one)
-
 -- in blocks of one slot
 single_apart : (base block lane power slot more : ℕ) → power ≡ 0
     → place_by base block lane power (slot + more) ≡ place_by base block lane power slot + more * block
-single_apart base block lane power slot more single = grind (arith, single_place)
+single_apart base block lane power slot more single = grind arith
 
 -- in the same block
 lanes_apart : (base block lane power slot more : ℕ) → slot % 2 ^ power + more < 2 ^ power

@@ -18,15 +18,12 @@ low_bytes bytes first n ones word few mask is =
 turned_high : (n k : ℕ) → IsTurned n → k < n → turned_place 64 (64 - n + k) ≡ turned_place n k
 turned_high n k either below = grind arith
 
-high_small : (n word : ℕ) → IsTurned n → word < 2 ^ 64 → word / 2 ^ (64 - n) < 2 ^ n
-high_small n word either small = grind arith
-
 module _ (bytes : List ℕ) (first n word : ℕ) (turned : IsTurned n) (is : word ≡ number (λ k. bit_of bytes (8 * first + turned_place 64 k)) 64) where
   bit_below : (j : ℕ) → j < 64 → bit_of bytes (8 * first + turned_place 64 j) < 2
   bit_below j l = bit_at-lt (get_or bytes ((8 * first + turned_place 64 j) / 8) 0) ((8 * first + turned_place 64 j) % 8)
 
   pub high_fits : word / 2 ^ (64 - n) < 2 ^ n
-  high_fits = grind (arith, high_small, number_lt, bit_below)
+  high_fits = grind (arith, number_lt, bit_below)
 
   pub high_bytes : word / 2 ^ (64 - n) ≡ number (λ k. bit_of bytes (8 * first + turned_place n k)) n
   high_bytes =

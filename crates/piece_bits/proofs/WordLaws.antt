@@ -1,6 +1,5 @@
 -- Words of whole bytes, in their order or in reverse.
-use Rattle.piece_bits.proofs.Imports.{◌≡◌, ◌≢◌, ℕ, zero, suc, ◌+◌, ◌-◌, ◌*◌, ◌<◌, Bool, List, [], ◌∷◌, length, get_or, refl, ap, arith, Hold, Piece, PieceRule, turned_pieces, Field, Word, pieces_by, IsHeldBy, IsWhole, IsTurned, rules}
-use Rattle.piece_bits.specs.declared.word.Word.TheVariants as stored
+use Rattle.piece_bits.proofs.Imports.{◌≡◌, ℕ, zero, suc, ◌+◌, ◌-◌, ◌*◌, ◌<◌, Bool, List, length, get_or, refl, ap, arith, Hold, Piece, PieceRule, turned_pieces, Field, Word, pieces_by, IsHeldBy, IsWhole, IsTurned, rules}
 use Rattle.piece_bits.proofs.Together.{piece}
 
 -- ---- whole bytes
@@ -8,21 +7,14 @@ use Rattle.piece_bits.proofs.Together.{piece}
 pub whole_held : (word : Word) (hold : Hold) (field : Field) → IsWhole word hold.signed hold.width → IsHeldBy hold word field
 whole_held word hold field h = grind arith
 
-pub whole_pieces : (word : Word) (signed : Bool) (width : ℕ) (field : Field) (blob : ℕ) (rules : List PieceRule) (place : ℕ) → IsWhole word signed width
-    → piece blob (8 * place) width ∷ [] ≡ pieces_by word field blob rules place
-whole_pieces word signed width field blob rules place h = grind arith
-
 -- ---- bytes in reverse order
 
 pub turned_held : (word : Word) (hold : Hold) (field : Field) → IsTurned word hold.signed hold.width → IsHeldBy hold word field
 turned_held word hold field h = grind arith
 
-so_many : (n m width : ℕ) → 8 * n ≡ width → width ≡ 8 * m → n ≡ m
-so_many n m width one two = omega arith
-
 pub turned_by : (word : Word) (signed : Bool) (width n : ℕ) (field : Field) (blob : ℕ) (rules : List PieceRule) (place : ℕ) → IsTurned word signed width
     → 8 * n ≡ width → turned_pieces blob (8 * place) n ≡ pieces_by word field blob rules place
-turned_by word signed width n field blob rules place h e = grind (arith, so_many)
+turned_by word signed width n field blob rules place h e = grind arith
 
 pub length-turned : (blob bit n : ℕ) → length (turned_pieces blob bit n) ≡ n
 length-turned blob bit zero = refl
@@ -34,7 +26,3 @@ get_or-turned blob bit (suc n) zero d low = ap (λ (m : ℕ). piece blob (bit + 
 get_or-turned blob bit (suc n) (suc k) d low = grind (arith, (get_or-turned blob bit n k d (omega arith)))
 
 -- ---- words that stand in one place
-
-pub same_together : (word : Word) (field : Field) (blob : ℕ) (rules others : List PieceRule) (place : ℕ) → word ≢ stored.Scattered
-    → pieces_by word field blob rules place ≡ pieces_by word field blob others place
-same_together word field blob rules others place h = grind arith

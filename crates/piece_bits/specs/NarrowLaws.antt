@@ -4,16 +4,12 @@ use Rattle.piece_bits.specs.Imports.{w64, subst, arith, mul-le-mul, ints, unsign
 use Rattle.piece_bits.specs.Blocks.{IsFactor, IsNarrow}
 use Rattle.piece_bits.specs.NumberTypes.{ProductsFit}
 
--- how large a number is, from its bounds and the other way round
-size_at_most : (z : ℤ) (n : ℕ) → neg_ℤ (pos n) ≤ℤ z → z ≤ℤ pos n → unsigned_abs z ≤ n
-size_at_most z n least greatest = grind arith
-
 least_of_size : (z : ℤ) (n : ℕ) → unsigned_abs z ≤ n → neg_ℤ (pos n) ≤ℤ z
 least_of_size z n few = grind arith
 
 -- a product of a factor and a narrow number: its size, and how far it is above 0
 product_size : (a x : ℤ) → IsFactor a → IsNarrow x → unsigned_abs (a *ℤ x) ≤ 2 ^ 31 * (2 ^ 32 - 1)
-product_size a x factor value = grind (arith, unsigned_abs, size_at_most, mul-le-mul, unsigned_abs-mul)
+product_size a x factor value = grind (arith, unsigned_abs, mul-le-mul, unsigned_abs-mul)
 
 above_zero : (a x : ℤ) → IsFactor a → IsNarrow x → (a *ℤ x) ≤ℤ pos ((2 ^ 31 - 1) * (2 ^ 32 - 1))
 above_zero a x factor value = grind (arith, mul-le-mul)

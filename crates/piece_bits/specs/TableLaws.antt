@@ -25,7 +25,7 @@ module _ (rows leaves : ℕ) (table : List (List ℤ)) (shape : HasShape rows le
   with_entry_shape = grind (arith, length-set, row_same, row_other, cases_eq)
 
   pub with_entry_same : entry (with_entry table row leaf value) row leaf ≡ value
-  with_entry_same = grind (arith, row_same, get_or-set_same)
+  with_entry_same = grind (arith, get_or-set_same)
 
   pub with_entry_other : (r c : ℕ) → ((r ≡ row) × (c ≡ leaf) → ⊥) → entry (with_entry table row leaf value) r c ≡ entry table r c
   with_entry_other r c other = grind (arith, row_same, get_or-set_other, row_other, cases_eq)

@@ -1,6 +1,6 @@
-use Rattle.piece_bits.proofs.Lemmas.{arith, to_z-of_z, put_more}
+use Rattle.piece_bits.proofs.Lemmas.{arith, to_z-of_z}
 use Rattle.piece_bits.proofs.put.put_stretch.Goals as goal
 
 pub loop-k-preserved : goal.loop-k-preserved
 loop-k-preserved c =
-    grind (arith, put_more, to_z-of_z)
+    grind (arith, to_z-of_z)
