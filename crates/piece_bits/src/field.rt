@@ -1,7 +1,6 @@
 // A field of bits that lies in the eight bytes from the byte of its first bit on: a load or a store of a word, two shifts and a mask.
 ghost use Rattle.std.specs.Prelude.{ℕ, ◌≡◌, ◌+◌, ◌-◌, ◌*◌, ◌^◌, ◌<◌, ◌≤◌, length};
-ghost use Rattle.std.specs.Int.{bit_at};
-ghost use Rattle.piece_bits.specs.Imports.{IsIn, number, digit, decoded, bit_of};
+ghost use Rattle.piece_bits.specs.Imports.{IsIn, number, digit, decoded, bit_of, bit_at};
 ghost use Rattle.piece_bits.specs.Words.{IsBitField};
 
 use crate::value::encode;

@@ -1,6 +1,5 @@
 ghost use Rattle.std.specs.Prelude.{ℕ, ◌≡◌, ◌<◌, ◌≤◌, All, length, map};
-ghost use Rattle.std.specs.Int.{bit_at};
-ghost use Rattle.piece_bits.specs.Imports.{number, bit_in};
+ghost use Rattle.piece_bits.specs.Imports.{number, bit_in, bit_at};
 ghost use Rattle.piece_bits.specs.Inner.Spots.{spots_of, bit_at_spot, IsWithin, AreApart, IsOutside};
 
 use blobs::{Blob, bits_in_word};

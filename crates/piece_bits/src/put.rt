@@ -1,7 +1,6 @@
 // Numbers that are stored.
 ghost use Rattle.std.specs.Prelude.{ℕ, ◌≡◌, ◌<◌, ◌≤◌, ◌+◌, ◌*◌, ◌^◌, pos, length, slice_index_or};
-ghost use Rattle.std.specs.Int.{bit_at};
-ghost use Rattle.piece_bits.specs.Imports.{bit_of};
+ghost use Rattle.piece_bits.specs.Imports.{bit_of, bit_at};
 ghost use Rattle.piece_bits.specs.Words.{word_bit, word_width, IsPlaceWord};
 ghost use Rattle.piece_bits.specs.Stretched.{StretchFits, ArePut, IsWordPut};
 

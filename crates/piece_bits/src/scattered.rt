@@ -1,7 +1,6 @@
 // Bytes that stand each by itself, in one go for all of them: rules say where they stand in slot 0, and all are alike from slot to slot.
 ghost use Rattle.std.specs.Prelude.{ℕ, ◌≡◌, ◌+◌, ◌^◌, ◌<◌, ◌≤◌, All, length, map};
-ghost use Rattle.std.specs.Int.{bit_at};
-ghost use Rattle.piece_bits.specs.Imports.{IsIn, number, digit, decoded, bit_in};
+ghost use Rattle.piece_bits.specs.Imports.{IsIn, number, digit, decoded, bit_in, bit_at};
 ghost use Rattle.piece_bits.specs.Words.{IsBitField};
 ghost use Rattle.piece_bits.specs.Inner.Scattered.{scattered_pieces};
 ghost use Rattle.piece_bits.specs.Inner.Spots.{spots_of, bit_at_spot, IsWithin, AreApart, IsOutside};

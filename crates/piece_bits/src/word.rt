@@ -1,7 +1,6 @@
 // What stands at a place of a blob, read and written by its kind: it is decided once, and each kind is a load or a store.
 ghost use Rattle.std.specs.Prelude.{ℕ, ◌≡◌, ◌+◌, ◌*◌, ◌<◌, ◌≤◌, length};
-ghost use Rattle.std.specs.Int.{bit_at};
-ghost use Rattle.piece_bits.specs.Imports.{IsIn, number, digit, decoded, bit_of, IsWholeBytes, turned_place, IsTurned};
+ghost use Rattle.piece_bits.specs.Imports.{IsIn, number, digit, decoded, bit_of, IsWholeBytes, turned_place, IsTurned, bit_at};
 ghost use Rattle.piece_bits.specs.Words.{IsPlaceWord, word_bit, word_place, word_signed, word_width};
 
 use crate::field::{Field, field_at, put_field_at};
