@@ -4,7 +4,8 @@ pub use Rattle.map_expr.specs.Terms.{uncounted}
 pub use Rattle.places.specs.Prelude.{entry}
 pub use Rattle.record_dim.specs.declared.leaf_type.LeafType.{LeafType}
 pub use Rattle.record_dim.specs.Prelude.{IsDeclared, leaves, kinds_of, Fields, texts_of}
-pub use Rattle.views.specs.Prelude.{kind_at, Table, answer_of, after_log, Access, StoreAnswer, kept_by, Read, Write, row_accesses, leaf_count_of, leaf_types_of, column_reads, column_writes, run_of, after_stores, without_number, leaf_type_of, after_read, after_write}
+pub use Rattle.views.specs.Prelude.{kind_at, Table, answer_of, after_log, Access, StoreAnswer, kept_by, Read, Write, row_accesses, leaf_count_of, leaf_types_of}
+pub use Rattle.views.specs.Prelude.{column_reads, column_writes, run_of, after_stores, without_number, leaf_type_of, after_read, after_write}
 pub use Rattle.record_dim.specs.Std.{subst, arith, flat_map, range_with_len, position_or_len, list_all, int_eq, pointwise}
 pub use Rattle.piece_bits.specs.Prelude.{with_entry}
 pub use Rattle.views.specs.declared.fault.StoreFault.{StoreFault}
