@@ -1,3 +1,4 @@
+mod Lemmas
 mod Imports
 pub mod Acting
 pub mod Advice
@@ -10,3 +11,4 @@ pub mod Sets
 pub mod Shown
 pub mod Stencils
 pub mod Windows
+pub mod Auto

@@ -1,17 +1,26 @@
 //! Commands on one view, as scripts and callers from C give them: what each does to it, and what it writes or gives.
 #![tactic(auto)]
 
+#[tactic(auto, using(crate::proofs::Auto::steps))]
 mod advise;
+#[tactic(auto, using(crate::proofs::Auto::steps))]
 mod assign;
+#[tactic(auto, using(crate::proofs::Auto::steps))]
 mod by_actors;
 mod change;
 mod faults;
 mod kernel;
+#[tactic(auto, using(crate::proofs::Auto::steps))]
 mod reduce;
+#[tactic(auto, using(crate::proofs::Auto::steps))]
 mod save;
+#[tactic(auto, using(crate::proofs::Auto::steps))]
 mod show;
+#[tactic(auto, using(crate::proofs::Auto::steps))]
 mod stencil;
+#[tactic(auto, using(crate::proofs::Auto::steps))]
 mod update;
+#[tactic(auto, using(crate::proofs::Auto::steps))]
 mod window;
 mod work;
 mod written;

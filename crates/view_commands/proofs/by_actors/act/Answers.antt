@@ -1,13 +1,5 @@
-use Rattle.view_commands.proofs.Imports.{arith, ◌≡◌, ◌∙◌, ◌+◌, length, ap, Run, update_log, after_stores, memory_text, reads_first, left_with, bindings_of, common_steps}
-use Rattle.view_commands.proofs.Acting.{acted_goes, sink_is, has_turned, turned_count, stored_back}
-use Rattle.view_commands.proofs.Shown.{then_broke, then_wrote}
+use Rattle.view_commands.proofs.Lemmas.{arith, ◌≡◌, ◌∙◌, ◌+◌, length, ap, Run, update_log, after_stores, memory_text, reads_first, left_with, bindings_of, common_steps, acted_goes, sink_is, has_turned, turned_count, stored_back, then_broke, then_wrote}
 use Rattle.view_commands.proofs.by_actors.act.Goals as goal
-
-pub write_memory-requires-clause-there : goal.write_memory-requires-clause-there
-write_memory-requires-clause-there g c = grind (arith, common_steps, has_turned)
-
-pub write_memory-requires-clause-all : goal.write_memory-requires-clause-all
-write_memory-requires-clause-all g c = grind (arith, common_steps, has_turned, turned_count)
 
 pub returns-in_err-write_memory-clause-answers : goal.returns-in_err-write_memory-clause-answers
 returns-in_err-write_memory-clause-answers g c =

@@ -1,5 +1,4 @@
-use Rattle.view_commands.proofs.Imports.{◌≡◌, ◌∙◌, ◌+◌, ◌-◌, ◌/◌, ◌%◌, ℕ, suc, [], ◌∷◌, ap, arith, next, after_turns}
-use Rattle.view_commands.proofs.Acting.{turn_more}
+use Rattle.view_commands.proofs.Lemmas.{◌≡◌, ◌∙◌, ◌+◌, ◌-◌, ◌/◌, ◌%◌, ℕ, suc, [], ◌∷◌, ap, arith, next, after_turns, turn_more}
 use Rattle.view_commands.proofs.by_actors.take_turns.Goals as goal
 
 pub loop-turn-preserved : goal.loop-turn-preserved

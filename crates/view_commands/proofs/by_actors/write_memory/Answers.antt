@@ -9,6 +9,3 @@ returns-in_err-write_bytes g c =
     let is : bytes_text _ ≡ bytes_text (get_or memory c.loop-blob.blob []) = ap bytes_text (bytes_of_bits c.memory-blob.result.now c.bytes_law.ensures ∙ c.memory-blob.ensures) in
     let stopped = rw is at c.in_err-write_bytes.ensures in
     Writes-err c.from_residual.result err (Stopped-flat_map bytes_text memory c.loop-blob.blob [] small (Stopped-second c.loop-blob.invariant stopped))
-
-pub loop-blob-preserved : goal.loop-blob-preserved
-loop-blob-preserved g c = grind (arith, common_steps, bytes_of_bits, flat_map_push, Wrote-append)

@@ -1,9 +1,5 @@
-use Rattle.view_commands.proofs.Imports.{arith, ◌<◌, ◌∙◌, ◌≤◌, length, map, refl, setting_of, leaf_count_of, leaves_of, common_steps}
-use Rattle.view_commands.proofs.Sets.{once_none, once_more, once_stop, once_all, once_few, leaf_at, leaves_below, leaves_long, test_at}
+use Rattle.view_commands.proofs.Lemmas.{arith, ◌<◌, ◌∙◌, ◌≤◌, length, map, refl, setting_of, leaf_count_of, leaves_of, common_steps, once_none, once_more, once_stop, once_all, once_few, leaf_at, leaves_below, leaves_long, test_at}
 use Rattle.view_commands.proofs.update.each_once.Goals as goal
-
-pub loop-place-init : goal.loop-place-init
-loop-place-init c = once_none c.args.view.now.fields (leaves_of (map setting_of c.args.sets.now))
 
 pub returns-then-is_set-clause-once : goal.returns-then-is_set-clause-once
 returns-then-is_set-clause-once c =
@@ -21,9 +17,6 @@ loop-place-preserved c =
     let small : c.loop-place.place < length (leaves_of (map setting_of sets)) = rw leaves_long c.loop-place-test.true in
     let fresh = test_at sets _ c.loop-place.place one _ c.loop-place-test.true c.index-sets-place.is refl c.is_set.ensures ∙ c.if-is_set.false in
     once_more c.args.view.now.fields (leaves_of (map setting_of sets)) c.loop-place.place small fresh c.loop-place.invariant
-
-pub returns-clause-once : goal.returns-clause-once
-returns-clause-once c = grind (arith, common_steps, leaves_long, once_all)
 
 pub returns-clause-few : goal.returns-clause-few
 returns-clause-few c =

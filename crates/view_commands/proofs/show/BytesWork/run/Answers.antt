@@ -1,13 +1,5 @@
-use Rattle.view_commands.proofs.Imports.{ap, ◌∙◌, bits_of, bytes_of, bytes_text, done_to, GivesUp-then, Told, telling, Tested, common_steps, arith}
-use Rattle.view_commands.specs.ExitsLaws.{gave_up}
-use Rattle.view_commands.proofs.Shown.{tells_left, then_broke, then_wrote}
+use Rattle.view_commands.proofs.Lemmas.{ap, ◌∙◌, bits_of, bytes_of, bytes_text, done_to, GivesUp-then, Told, telling, Tested, common_steps, arith, gave_up, tells_left, then_broke, then_wrote}
 use Rattle.view_commands.proofs.show.BytesWork.run.Goals as goal
-
-pub returns-in_err-blob-clause-answers : goal.returns-in_err-blob-clause-answers
-returns-in_err-blob-clause-answers g c = grind (arith, common_steps, gave_up, GivesUp-then)
-
-pub returns-in_err-write_bytes-clause-answers : goal.returns-in_err-write_bytes-clause-answers
-returns-in_err-write_bytes-clause-answers g c = grind (arith, common_steps, then_broke, tells_left)
 
 pub returns-clause-answers : goal.returns-clause-answers
 returns-clause-answers g c =

@@ -1,5 +1,4 @@
-use Rattle.view_commands.proofs.Imports.{print, common_steps, arith}
-use Rattle.view_commands.proofs.Shown.{then_broke, then_wrote}
+use Rattle.view_commands.proofs.Lemmas.{print, common_steps, arith, then_broke, then_wrote}
 use Rattle.view_commands.proofs.show.PrintWork.run.Goals as goal
 
 pub returns-in_err-print_rows-clause-answers : goal.returns-in_err-print_rows-clause-answers
