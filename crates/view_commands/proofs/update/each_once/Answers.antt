@@ -25,3 +25,6 @@ returns-clause-few c =
     let most : leaf_count_of c.args.view.now ≤ 64 = rw (c.leaf_count-leaves.ensures.value, c.schema.ensures.value) at c.leaf_count-leaves.ensures.few in
     let few = once_few c.args.view.now.fields leaves c.loop-place.place (leaf_count_of c.args.view.now) over c.loop-place.invariant (leaves_below c.args.view.now c.args.sets.now c.requires) in
     omega (arith, few, leaves_long c.args.sets.now, most)
+
+pub loop-place-init : goal.loop-place-init
+loop-place-init c = once_none c.args.view.now.fields (leaves_of (map setting_of c.args.sets.now))

@@ -11,3 +11,6 @@ returns-in-Ok-clause-changed g c =
 pub returns-clause-changed : goal.returns-clause-changed
 returns-clause-changed g c =
     rw c.update_fault.ensures (count_refused c.args.view.now c.count_where.new.view (term_of c.args.self.now.filter.now) (bound_term c.in_ok-filter.filter) c.in-Err.fault _ c.in_ok-filter.ensures.bound c.in-Err.ensures.value c.in-Err.ensures.so_far)
+
+pub returns-in_err-filter-clause-changed : goal.returns-in_err-filter-clause-changed
+returns-in_err-filter-clause-changed g c = grind (arith, common_steps, stopped, no_test)

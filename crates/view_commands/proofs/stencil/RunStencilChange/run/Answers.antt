@@ -15,3 +15,6 @@ returns-clause-changed g c =
     let fit = rw (c.as_slice.ensures, c.as_slice-2.ensures) at c.in_ok-fit.ensures.fit in
     let whole = run_is (8 * this.live) table this.window.now this.path.now this.terms.now this.divisor.now this.rounds.now (stencil_of c.in_ok-fit.fit) fit c.in_ok-check_room.ensures in
     changed_as _ _ _ (λ row. rounds_left table (stencil_of c.in_ok-fit.fit) this.rounds.now) table c.run_rounds.new.view c.run_rounds.result whole (λ row. rw fit refl) c.run_rounds.ensures
+
+pub returns-in_err-fit-clause-changed : goal.returns-in_err-fit-clause-changed
+returns-in_err-fit-clause-changed g c = grind (arith, common_steps, stopped, unfit)

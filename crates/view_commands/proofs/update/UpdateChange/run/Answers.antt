@@ -22,3 +22,9 @@ returns-clause-changed g c =
     let once = rw c.as_slice-2.ensures.value at c.in_ok-each_once.ensures.once in
     changed_as _ _ _ _ table c.update_all.new.view c.update_all.result (update_goes table filter sets _ _ test settings once) (λ row. front_goes table filter sets _ _ row test settings once)
     (rw (filter_is _ _ c.as_ref.ensures.value, c.as_slice-3.ensures.value) at c.update_all.ensures)
+
+pub returns-in_err-filter-clause-changed : goal.returns-in_err-filter-clause-changed
+returns-in_err-filter-clause-changed g c = grind (arith, common_steps, option_map, stopped, no_filter)
+
+pub returns-in_err-sets-clause-changed : goal.returns-in_err-sets-clause-changed
+returns-in_err-sets-clause-changed g c = grind (arith, common_steps, option_map, stopped, no_sets)
