@@ -15,6 +15,8 @@ pub use Rattle.places.specs.Layout.{packed_aos, padded_to, single_soa}
 pub use Rattle.places.specs.NumbersLaws.{bit_digits, bit_number, decoded_digits, decoded_high, decoded_in, decoded_low, digit_lt, half_of, number_bits, number_complement, number_lt, number_negsuc}
 pub use Rattle.places.specs.NumbersLaws.{number_pos, number_same, number_split, ones_of}
 pub use Rattle.places.specs.OwnedLaws.{found_owned, owned_is}
+pub use Rattle.places.specs.PartsLaws.{BitOfArray, BitOfArrays, BitOfSlot, array_at, arrays_of_bit, bit_at, bit_of_arrays, cells_at, cells_more, cells_size, has_array, has_slots, is_big}
+pub use Rattle.places.specs.PartsLaws.{length-array, length-cells, not_big, numbered_at, one_blob_bytes, one_whole, run_end, run_located, whole_laid_out, whole_located}
 pub use Rattle.places.specs.PieceRules.{AreRulesOf, IsDense, begin_in, piece_in, pieces_in}
 pub use Rattle.places.specs.PlacesLaws.{Splits, bits_located, left_located, located, one_piece, pieces_weaker, range_split, ranges_at, relabel_located, relabel_spelled, right_located, same_ranges}
 pub use Rattle.places.specs.PlacesLaws.{spells_split}
