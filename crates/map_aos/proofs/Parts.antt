@@ -1,22 +1,5 @@
 -- How the part of one slot is filled, cell after cell.
-use Rattle.map_aos.proofs.Imports.{◌≡◌, ℕ, ◌+◌, ◌-◌, ◌%◌, ◌<◌, ◌≤◌, List, [], ◌∷◌, ◌++◌, map, length, max, fold, get_or, set, take, slice_index, All, refl, sym, ap, ◌∙◌, subst, arith, take_more, take_all, get_or-map, length-map, get_or_append_left, length-enumerate_from, get_or-enumerate_from, width_of, Owner, Pad, Bit, cells_of, field, widths_of, Cell, Member, length-field, field_at, member_width, member_at, member_cells, cells_member, fresh_at, stacked, up, IsFilled, filled_more, length-padded, stacked_take, IsWidth, widths_are, LieInParts, part_of, order_of, alignment, laid_fields, widest, part_is, apart_order, order_member, member_order, AosForm}
-
--- the numbered cells, one by one
-pub length-cells : (cells : List Cell) → length (cells_of (widths_of cells)) ≡ length cells
-length-cells cells = length-enumerate_from 0 (widths_of cells) ∙ length-map cells (λ (cell : Cell). width_of cell.kind)
-
-pub cells_more : (cells : List Cell) (i : ℕ) (d : Cell) → i < length cells
-    → take (i + 1) (cells_of (widths_of cells)) ≡ take i (cells_of (widths_of cells)) ++ (i, width_of (get_or cells i d).kind) ∷ []
-cells_more cells i d inside =
-    let size : length (cells_of (widths_of cells)) ≡ length cells = length-cells cells in
-    let size' : length (widths_of cells) ≡ length cells = length-map cells (λ (cell : Cell). width_of cell.kind) in
-    let at : get_or (cells_of (widths_of cells)) i (0, 0) ≡ (0 + i, get_or (widths_of cells) i 0) =
-    get_or-enumerate_from 0 (widths_of cells) i (0, 0) (omega arith) in
-    let width : get_or (widths_of cells) i 0 ≡ width_of (get_or cells i d).kind =
-    get_or-map (λ (cell : Cell). width_of cell.kind) cells i d 0 inside in
-    let cell : (0 + i, get_or (widths_of cells) i 0) ≡ (i, width_of (get_or cells i d).kind) =
-    ap (λ (n : ℕ). (n, get_or (widths_of cells) i 0)) (omega arith) ∙ ap (λ (w : ℕ). (i, w)) width in
-    (take_more (cells_of (widths_of cells)) i (0, 0) (omega arith)) ∙ ap (λ (e : ℕ × ℕ). take i (cells_of (widths_of cells)) ++ e ∷ []) (at ∙ cell)
+use Rattle.map_aos.proofs.Imports.{◌≡◌, ℕ, ◌+◌, ◌-◌, ◌%◌, ◌<◌, ◌≤◌, List, [], ◌∷◌, ◌++◌, map, length, max, fold, get_or, set, take, slice_index, All, refl, sym, ap, ◌∙◌, subst, arith, take_more, take_all, get_or-map, length-map, get_or_append_left, width_of, Owner, Pad, Bit, cells_of, field, widths_of, Cell, Member, length-field, field_at, member_width, member_at, member_cells, cells_member, fresh_at, stacked, up, IsFilled, filled_more, length-padded, stacked_take, IsWidth, widths_are, LieInParts, part_of, order_of, alignment, laid_fields, widest, part_is, apart_order, order_member, member_order, AosForm, cells_more, length-widths}
 
 -- every slot's cells, as far as they are placed
 pub record IsPlaced (form : AosForm) (order : List (ℕ × ℕ)) (offsets : List ℕ) (end : ℕ) : Type 0 where
@@ -106,7 +89,7 @@ placed_le form widths offsets end i slot each h =
 pub numbered_more : (cells : List Cell) (i : ℕ) (d : Cell) (w : ℕ) (old new : List (ℕ × ℕ)) → i < length cells
     → old ≡ take i (cells_of (widths_of cells)) → w ≡ width_of (get_or cells i d).kind → new ≡ old ++ (i, w) ∷ []
     → new ≡ take (i + 1) (cells_of (widths_of cells))
-numbered_more cells i d w old new inside was width pushed = grind (arith, get_or, cells_more)
+numbered_more cells i d w old new inside was width pushed = grind (arith, cells_more, length-widths, get_or-map, slice_index)
 
 -- what is known of the cell at a place of the order
 pub record IsNext (form : AosForm) (count : ℕ) (cell : ℕ × ℕ) : Type 0 where

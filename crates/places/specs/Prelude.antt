@@ -1,6 +1,6 @@
 -- What other crates take of this one.
-pub use Rattle.places.specs.BeginsLaws.{begins_fit, one_lane}
-pub use Rattle.places.specs.CellWidthsLaws.{cell_width, length-full, length-widths, member_width, width_at, width_read}
+pub use Rattle.places.specs.BeginsLaws.{begins_fit, one_lane, rule_fits}
+pub use Rattle.places.specs.CellWidthsLaws.{cell_width, hold_read, length-full, length-widths, member_width, width_at, width_read}
 pub use Rattle.places.specs.CellsLaws.{apart_enumerate, bit_of_cells, cells_member, cells_of_bit, fresh_at, member_at, member_cells}
 pub use Rattle.places.specs.ComposeLaws.{Back, LaysOut, blobs_of_cells, has_blob, join_lays_out, laid_out, lays_out, lays_out_same, owner_relabel, relabel_lays_out, within_blob, within_blobs}
 pub use Rattle.places.specs.DenseLaws.{dense_array, dense_lanes, not_dense}
