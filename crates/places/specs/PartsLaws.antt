@@ -1,7 +1,7 @@
 -- Layouts of parts of one length, of cells behind one another, and of cells that lie in one run: how long they are, and where each bit lies.
 use Rattle.std.specs.Prelude.{◌≡◌, ℕ, zero, suc, ◌+◌, ◌-◌, ◌*◌, ◌/◌, ◌%◌, ◌^◌, ◌<◌, ◌≤◌, List, [], ◌∷◌, ◌++◌, map, length, get_or, slice_index, take, All, sum_by, refl}
-use Rattle.record_dim.specs.Std.{sym, ap, ◌∙◌, subst, arith, flat_map, range_with_len, enumerate_from, length-append, get_or_append_left, get_or-append-add, get_or-le-sum_by, get_or-enumerate_from, length-enumerate_from, get_or_default, take_more, sum_by-cons, All-cons, All-nil}
-use Rattle.places.specs.Layout.{Owner, Pad, Bit, owner_at, cells_of, field, array}
+use Rattle.record_dim.specs.Std.{sym, ap, ◌∙◌, subst, arith, flat_map, range_with_len, enumerate_from, length-append, get_or_append_left, get_or-append-add, get_or-le-sum_by, get_or-map, get_or-enumerate_from, length-enumerate_from, get_or_default, take_more, sum_by-cons, All-cons, All-nil}
+use Rattle.places.specs.Layout.{Owner, Pad, Bit, owner_at, cells_of, field, array, padded_to}
 use Rattle.places.specs.Lawful.{IsBitOf, IsLaidOut, IsLocated}
 use Rattle.places.specs.Holds.{IsTooBig, widths_of, full_holds}
 use Rattle.places.specs.declared.piece.Cell.{Cell}
@@ -38,18 +38,34 @@ pub cells_more : (widths : List ℕ) (i : ℕ) → i < length widths → take (i
 cells_more widths i inside =
     take_more (cells_of widths) i (0, 0) (omega (arith, length-cells widths)) ∙ ap (λ (cell : ℕ × ℕ). take i (cells_of widths) ++ cell ∷ []) (numbered_at widths i (0, 0) inside)
 
+-- what a cell has, where each has something of its own
+pub listed_at : {X : Type 0} (f : ℕ × ℕ → X) (widths : List ℕ) (cell : ℕ) (d : X) → cell < length widths → get_or (map f (cells_of widths)) cell d ≡ f (cell, slice_index widths cell)
+listed_at f widths cell d inside =
+    get_or-map f (cells_of widths) cell (0, 0) d (omega (arith, length-cells widths)) ∙ ap f (numbered_at widths cell (0, 0) inside)
+
+-- padding behind bits leaves them where they are
+pub padded_at : (align : ℕ) (owners : List Owner) (p s c k : ℕ) → get_or owners p Pad ≡ Bit s c k → get_or (padded_to align owners) p Pad ≡ Bit s c k
+padded_at align owners p s c k e = grind (arith, get_or_append_left, within)
+
 -- lists of the cells behind one another, each as long as its width says
 module _ {X : Type 0} (f : ℕ × ℕ → List X) (long : ℕ → ℕ) (size : (c w : ℕ) → length (f (c, w)) ≡ long w) where
-  pub cells_size : (n : ℕ) (widths : List ℕ) → length (flat_map f (enumerate_from n widths)) ≡ sum_by long widths
-  cells_size n [] = refl
-  cells_size n (w ∷ widths) = grind (arith, flat_map, enumerate_from, length-append, sum_by-cons, (size n w), (cells_size (n + 1) widths))
+  size_from : (n : ℕ) (widths : List ℕ) → length (flat_map f (enumerate_from n widths)) ≡ sum_by long widths
+  size_from n [] = refl
+  size_from n (w ∷ widths) = grind (arith, flat_map, enumerate_from, length-append, sum_by-cons, (size n w), (size_from (n + 1) widths))
 
-  pub cells_at : (d : X) (n : ℕ) (widths : List ℕ) (c j : ℕ) → c < length widths → j < long (slice_index widths c)
+  at_from : (d : X) (n : ℕ) (widths : List ℕ) (c j : ℕ) → c < length widths → j < long (slice_index widths c)
       → get_or (flat_map f (enumerate_from n widths)) (sum_by long (take c widths) + j) d ≡ get_or (f (n + c, slice_index widths c)) j d
-  cells_at d n [] c j inside low = absurd (omega arith)
-  cells_at d n (w ∷ widths) zero j inside low = grind (arith, flat_map, enumerate_from, (size n w), get_or, get_or_append_left)
-  cells_at d n (w ∷ widths) (suc c) j inside low =
-      grind (arith, get_or, get_or-append-add, slice_index, sum_by-cons, (size n w), (cells_at d (n + 1) widths c j (omega arith) low))
+  at_from d n [] c j inside low = absurd (omega arith)
+  at_from d n (w ∷ widths) zero j inside low = grind (arith, flat_map, enumerate_from, (size n w), get_or, get_or_append_left)
+  at_from d n (w ∷ widths) (suc c) j inside low =
+      grind (arith, get_or, get_or-append-add, slice_index, sum_by-cons, (size n w), (at_from d (n + 1) widths c j (omega arith) low))
+
+  pub cells_size : (widths : List ℕ) → length (flat_map f (cells_of widths)) ≡ sum_by long widths
+  cells_size widths = size_from 0 widths
+
+  pub cells_at : (d : X) (widths : List ℕ) (c j : ℕ) → c < length widths → j < long (slice_index widths c)
+      → get_or (flat_map f (cells_of widths)) (sum_by long (take c widths) + j) d ≡ get_or (f (c, slice_index widths c)) j d
+  cells_at d widths c j inside low = at_from d 0 widths c j inside low ∙ ap (λ (i : ℕ). get_or (f (i, slice_index widths c)) j d) (omega arith)
 
 -- a cell whose bits lie in a row ends within all bits, and has one piece
 pub run_end : (layout : List (List Owner)) (blob begin s c w : ℕ) → 1 ≤ w → ((k : ℕ) → k < w → owner_at layout blob (begin + k) ≡ Bit s c k)

@@ -1,7 +1,9 @@
 -- The places of a cell's bits: pieces that spell them, taken apart, put together and renamed.
-use Rattle.std.specs.Prelude.{◌≡◌, ℕ, ◌+◌, ◌-◌, ◌%◌, ◌^◌, ◌<◌, ◌≤◌, List, [], ◌∷◌, ◌++◌, map, length, get_or, take, drop, All, refl}
-use Rattle.record_dim.specs.Std.{⊎_elim, sym, ap, ◌∙◌, arith, length-append, flat_map, range_with_len, map-map, cases_lt, append-nil, get_or_append_left, get_or-append-add, map-append, take_at, drop_at, same_lists, All-cons, All-nil, All-head, All-tail, All-map, sum_by-cons, get_or-map-range_with_len, length-map-range_with_len}
+use Rattle.std.specs.Prelude.{◌≡◌, ℕ, zero, suc, ◌+◌, ◌-◌, ◌%◌, ◌^◌, ◌<◌, ◌≤◌, List, [], ◌∷◌, ◌++◌, map, length, get_or, take, drop, All, refl}
+use Rattle.record_dim.specs.Std.{sym, ap, ◌∙◌, arith, length-append, flat_map, range_with_len, map-map, append-nil, map-append, take_at, drop_at, same_lists, All-cons, All-nil, All-head, All-tail, All-map, get_or-map-range_with_len, length-map-range_with_len}
+use Rattle.record_dim.specs.Std.{fun_ext}
 use Rattle.std.specs.List.{sum_by}
+use Rattle.std.proofs.lemmas.List.Concat.{length-flat_map}
 use Rattle.places.specs.Layout.{Owner, Pad, Bit, owner_at, field}
 use Rattle.places.specs.Rules.{renamed, relabel}
 use Rattle.places.specs.Lawful.{owners_in, shifted, IsPiece, IsLocated}
@@ -21,26 +23,15 @@ ranges_at {X} d f g a b n k e low =
 
 -- a range is its first m numbers and the rest
 pub range_split : {X : Type 0} (f : ℕ → X) (a m n : ℕ) → m ≤ n → map f (range_with_len a n) ≡ map f (range_with_len a m) ++ map f (range_with_len (a + m) (n - m))
-range_split f a m n low =
-    let whole : length (map f (range_with_len a n)) ≡ n = length-map-range_with_len f a n in
-    let left : length (map f (range_with_len a m)) ≡ m = length-map-range_with_len f a m in
-    let right : length (map f (range_with_len (a + m) (n - m))) ≡ n - m = length-map-range_with_len f (a + m) (n - m) in
-    let both : length (map f (range_with_len a m) ++ map f (range_with_len (a + m) (n - m))) ≡ m + (n - m) =
-    length-append (map f (range_with_len a m)) (map f (range_with_len (a + m) (n - m))) ∙ ap (λ (w : ℕ). w + length (map f (range_with_len (a + m) (n - m)))) left ∙ ap (λ (w : ℕ). m + w) right in
-    same_lists (map f (range_with_len a n)) (map f (range_with_len a m) ++ map f (range_with_len (a + m) (n - m))) (omega arith)
-    (λ k d inside.
-    let here : get_or (map f (range_with_len a n)) k d ≡ f (a + k) = get_or-map-range_with_len f a n k (a + k) d (omega arith) refl in
-    ⊎_elim
-    (λ (l : k < m).
-    grind (arith, range_with_len, get_or_append_left, get_or-map-range_with_len))
-    (λ (l : m ≤ k).
-    let j : ℕ = k - m in
-    let one : get_or (map f (range_with_len a m) ++ map f (range_with_len (a + m) (n - m))) (length (map f (range_with_len a m)) + j) d ≡ get_or (map f (range_with_len (a + m) (n - m))) j d =
-    get_or-append-add (map f (range_with_len a m)) (map f (range_with_len (a + m) (n - m))) j d in
-    let two : get_or (map f (range_with_len (a + m) (n - m))) j d ≡ f (a + k) =
-    get_or-map-range_with_len f (a + m) (n - m) j (a + k) d (omega arith) (omega arith) in
-    here ∙ sym ((ap (λ (w : ℕ). get_or (map f (range_with_len a m) ++ map f (range_with_len (a + m) (n - m))) w d) (sym (omega arith))) ∙ one ∙ two))
-    (cases_lt k m))
+range_split f a zero n low =
+    ap (λ (b : ℕ). map f (range_with_len b n)) (let e : a ≡ a + 0 = omega arith in e) ∙ ap (λ (m : ℕ). map f (range_with_len (a + 0) m)) (omega arith)
+range_split f a (suc m) zero low = absurd (omega arith)
+range_split {X} f a (suc m) (suc n) low =
+    let place : a + 1 + m ≡ a + suc m = omega arith in
+    let rest : n - m ≡ suc n - suc m = omega arith in
+    ap (λ (xs : List X). f a ∷ xs) (range_split f (a + 1) m n (omega arith))
+    ∙ ap (λ (b : ℕ). map f (range_with_len a (suc m)) ++ map f (range_with_len b (n - m))) place
+    ∙ ap (λ (k : ℕ). map f (range_with_len a (suc m)) ++ map f (range_with_len (a + suc m) k)) rest
 
 -- consecutive places whose owners are the bits of a cell spell it
 pub run_spelled : (layout : List (List Owner)) (blob at s c w : ℕ) → ((k : ℕ) → k < w → owner_at layout blob (at + k) ≡ Bit s c k)
@@ -60,10 +51,7 @@ spells_split layout f a n piece pieces e =
     let here : List Owner = owners_in layout piece in
     let later : List Owner = flat_map (owners_in layout) pieces in
     let size : length here ≡ bits = length-map-range_with_len (owner_at layout piece.blob) piece.bit bits in
-    let whole : length (map f (range_with_len a n)) ≡ n = length-map-range_with_len f a n in
-    let both : length (here ++ later) ≡ length here + length later = length-append here later in
-    let same : length (here ++ later) ≡ length (map f (range_with_len a n)) = ap (λ (xs : List Owner). length xs) e in
-    let low : bits ≤ n = omega arith in
+    let low : bits ≤ n = omega (arith, size, length-append here later, ap (λ (xs : List Owner). length xs) e, length-map-range_with_len f a n) in
     let front : length (map f (range_with_len a bits)) ≡ bits = length-map-range_with_len f a bits in
     let joined : here ++ later ≡ map f (range_with_len a bits) ++ map f (range_with_len (a + bits) (n - bits)) = e ∙ (range_split f a bits n low) in
     let left : here ≡ map f (range_with_len a bits) =
@@ -79,12 +67,9 @@ spells_split layout f a n piece pieces e =
 -- pieces that spell n owners have n bits together
 pub bits_located : (layout : List (List Owner)) (f : ℕ → Owner) (a n : ℕ) (pieces : List Piece)
     → flat_map (owners_in layout) pieces ≡ map f (range_with_len a n) → sum_by (λ (piece : Piece). piece.bits) pieces ≡ n
-bits_located layout f a n [] e = (ap (λ (xs : List Owner). length xs) e) ∙ (length-map-range_with_len f a n)
-bits_located layout f a n (piece ∷ pieces) e =
-    let split = spells_split layout f a n piece pieces e in
-    let rest : sum_by (λ (piece : Piece). piece.bits) pieces ≡ n - piece.bits = bits_located layout f (a + piece.bits) (n - piece.bits) pieces split.rest in
-    let step : sum_by (λ (piece : Piece). piece.bits) (piece ∷ pieces) ≡ piece.bits + sum_by (λ (piece : Piece). piece.bits) pieces = sum_by-cons (λ (piece : Piece). piece.bits) piece pieces in
-    omega arith
+bits_located layout f a n pieces e =
+    ap (λ (bits : Piece → ℕ). sum_by bits pieces) (fun_ext (λ (piece : Piece). sym (length-map-range_with_len (owner_at layout piece.blob) piece.bit piece.bits)))
+    ∙ sym (length-flat_map (owners_in layout) pieces) ∙ ap (λ (xs : List Owner). length xs) e ∙ length-map-range_with_len f a n
 
 -- pieces that are not empty and spell bits lie within their blobs
 pub pieces_inside : (layout : List (List Owner)) (s c a n : ℕ) (pieces : List Piece) → flat_map (owners_in layout) pieces ≡ map (Bit s c) (range_with_len a n)
