@@ -1,6 +1,6 @@
 -- Cells by falling width: the same cells, each once.
-use Rattle.std.specs.Prelude.{◌≡◌, ℕ, ◌<◌, Bool, true, ◌==◌, ◌⊎◌, List, [], ◌∷◌, ◌++◌, filter, refl}
-use Rattle.record_dim.specs.Std.{inl, inr, ⊎_elim, arith, lit<, flat_map, cases_Bool, cond-true, cond-false, eqb-true, eq-eqb}
+use Rattle.std.specs.Prelude.{◌≡◌, ℕ, Bool, true, ◌==◌, ◌⊎◌, List, [], ◌∷◌, ◌++◌, filter, refl}
+use Rattle.record_dim.specs.Std.{inr, arith, flat_map, cases_Bool, cond-true, cond-false, eqb-true, eq-eqb, inl, ⊎_elim}
 use Rattle.places.specs.Layout.{falling}
 use Rattle.places.specs.ExactLaws.{Member, Apart}
 use Rattle.places.specs.WidthsLaws.{IsWidth}
@@ -73,20 +73,9 @@ pub apart_picked : (cells : List (ℕ × ℕ)) (ws : List ℕ) → Apart cells �
 apart_picked cells [] apart distinct = tt
 apart_picked cells (width ∷ ws) apart distinct = grind (arith, apart_append, apart_filter, member_filter, member_picked, one_width, eqb-true, (apart_picked cells ws apart distinct.1))
 
--- a number stands not among smaller ones
-fresh_nil : (x : ℕ) → Listed [] x → ⊥
-fresh_nil x l = l
-
-fresh_cons : (y : ℕ) (xs : List ℕ) (x : ℕ) → y < x → (Listed xs x → ⊥) → Listed (y ∷ xs) x → ⊥
-fresh_cons y xs x small fresh l = ⊎_elim (λ (e : y ≡ x). omega arith) fresh l
-
 -- cells of whole-byte widths by falling width
 pub apart_falling : (cells : List (ℕ × ℕ)) → Apart cells → Apart (falling cells)
-apart_falling cells apart =
-    let two : Listed (16 ∷ 8 ∷ []) 32 → ⊥ = fresh_cons 16 (8 ∷ []) 32 (lit< tt) (fresh_cons 8 [] 32 (lit< tt) (fresh_nil 32)) in
-    let three : Listed (32 ∷ 16 ∷ 8 ∷ []) 64 → ⊥ =
-    fresh_cons 32 (16 ∷ 8 ∷ []) 64 (lit< tt) (fresh_cons 16 (8 ∷ []) 64 (lit< tt) (fresh_cons 8 [] 64 (lit< tt) (fresh_nil 64))) in
-    apart_picked cells (64 ∷ 32 ∷ 16 ∷ 8 ∷ []) apart (three, (two, ((fresh_cons 8 [] 16 (lit< tt) (fresh_nil 16)), (fresh_nil 8, tt))))
+apart_falling cells apart = apart_picked cells (64 ∷ 32 ∷ 16 ∷ 8 ∷ []) apart (grind arith)
 
 pub member_falling : (cells : List (ℕ × ℕ)) (c w : ℕ) → Member (falling cells) c w → Member cells c w
 member_falling cells c w m = (member_picked cells (64 ∷ 32 ∷ 16 ∷ 8 ∷ []) c w m).0

@@ -77,16 +77,13 @@ pub pieces_inside : (layout : List (List Owner)) (s c a n : ℕ) (pieces : List 
 pieces_inside layout s c a n [] e some bound = All-nil (IsPiece layout)
 pieces_inside layout s c a n (piece ∷ pieces) e some bound =
     let split = spells_split layout (Bit s c) a n piece pieces e in
-    let full : 0 < piece.bits = All-head (λ (piece : Piece). 0 < piece.bits) piece pieces some in
-    let small : piece.bit + piece.bits < 2 ^ 64 = All-head (λ (piece : Piece). piece.bit + piece.bits < 2 ^ 64) piece pieces bound in
+    let full : 0 < piece.bits = some 0 piece (omega arith) in
     let last : ℕ = piece.bits - 1 in
     let owner : owner_at layout piece.blob (piece.bit + last) ≡ Bit s c (a + last) = split.first last (omega arith) in
-    let blob_in : piece.blob < length layout = within_blobs layout piece.blob (piece.bit + last) s c (a + last) owner in
-    let place_in : piece.bit + last < length (get_or layout piece.blob []) = within (get_or layout piece.blob []) (piece.bit + last) s c (a + last) owner in
-    All-cons (IsPiece layout) piece pieces (record { blob_in = blob_in; bits_in = omega arith; bound = small; some = full })
-    (pieces_inside layout s c (a + piece.bits) (n - piece.bits) pieces split.rest
-    (All-tail (λ (piece : Piece). 0 < piece.bits) piece pieces some)
-    (All-tail (λ (piece : Piece). piece.bit + piece.bits < 2 ^ 64) piece pieces bound))
+    let inside = within (get_or layout piece.blob []) (piece.bit + last) s c (a + last) owner in
+    All-cons (IsPiece layout) piece pieces
+    (record { blob_in = within_blobs layout piece.blob (piece.bit + last) s c (a + last) owner; bits_in = omega arith; bound = bound 0 piece (omega arith); some = full })
+    (pieces_inside layout s c (a + piece.bits) (n - piece.bits) pieces split.rest (λ k d l. some (suc k) d (omega arith)) (λ k d l. bound (suc k) d (omega arith)))
 
 -- pieces that spell a cell, none empty, whole bytes where the cell is whole bytes, are its places
 pub located : (layout : List (List Owner)) (s c w : ℕ) (pieces : List Piece) → flat_map (owners_in layout) pieces ≡ field s (c, w)
@@ -145,11 +142,8 @@ left_spelled xs ys (piece ∷ pieces) inside =
 
 pub left_located : (xs ys : List (List Owner)) (s c w : ℕ) (pieces : List Piece) → IsLocated xs s c w pieces → IsLocated (xs ++ ys) s c w pieces
 left_located xs ys s c w pieces h =
-    located (xs ++ ys) s c w pieces
-    (left_spelled xs ys pieces (pieces_weaker (IsPiece xs) (λ (piece : Piece). piece.blob < length xs) pieces (λ piece i. i.blob_in) h.each) ∙ h.spelled)
-    (pieces_weaker (IsPiece xs) (λ (piece : Piece). 0 < piece.bits) pieces (λ piece i. i.some) h.each)
-    (pieces_weaker (IsPiece xs) (λ (piece : Piece). piece.bit + piece.bits < 2 ^ 64) pieces (λ piece i. i.bound) h.each)
-    h.bytes
+    located (xs ++ ys) s c w pieces (left_spelled xs ys pieces (λ k d l. (h.each k d l).blob_in) ∙ h.spelled)
+    (λ k d l. (h.each k d l).some) (λ k d l. (h.each k d l).bound) h.bytes
 
 -- the places of a cell in the later blobs
 pub right_spelled : (xs ys : List (List Owner)) (by : ℕ) (pieces : List Piece) → length xs ≡ by
@@ -165,9 +159,7 @@ right_spelled xs ys by (piece ∷ pieces) size =
 pub right_located : (xs ys : List (List Owner)) (by s c w : ℕ) (pieces : List Piece) → length xs ≡ by
     → IsLocated ys s c w pieces → IsLocated (xs ++ ys) s c w (map (shifted by) pieces)
 right_located xs ys by s c w pieces size h =
-    located (xs ++ ys) s c w (map (shifted by) pieces)
-    (right_spelled xs ys by pieces size ∙ h.spelled)
-    (All-map (λ (piece : Piece). 0 < piece.bits) (shifted by) pieces (pieces_weaker (IsPiece ys) (λ (piece : Piece). 0 < piece.bits) pieces (λ piece i. i.some) h.each))
-    (All-map (λ (piece : Piece). piece.bit + piece.bits < 2 ^ 64) (shifted by) pieces
-    (pieces_weaker (IsPiece ys) (λ (piece : Piece). piece.bit + piece.bits < 2 ^ 64) pieces (λ piece i. i.bound) h.each))
+    located (xs ++ ys) s c w (map (shifted by) pieces) (right_spelled xs ys by pieces size ∙ h.spelled)
+    (All-map (λ (piece : Piece). 0 < piece.bits) (shifted by) pieces (λ k d l. (h.each k d l).some))
+    (All-map (λ (piece : Piece). piece.bit + piece.bits < 2 ^ 64) (shifted by) pieces (λ k d l. (h.each k d l).bound))
     (λ whole. All-map (λ (piece : Piece). piece.bits % 8 ≡ 0) (shifted by) pieces (h.bytes whole))

@@ -108,5 +108,5 @@ stacked_grows align f front (cell ∷ cells) = grind (arith, length-append, leng
 pub stacked_take : (align : ℕ → ℕ) (f : ℕ × ℕ → List Owner) (cells : List (ℕ × ℕ)) (i : ℕ)
     → length (stacked align f [] (take i cells)) ≤ length (stacked align f [] cells)
 stacked_take align f cells i =
-    omega (arith, stacked_grows align f (stacked align f [] (take i cells)) (drop i cells),
-    ap (λ (owners : List Owner). length owners) (ap (stacked align f []) (sym (take-append-drop i cells)) ∙ stacked_append align f [] (take i cells) (drop i cells)))
+    let same = ap (stacked align f []) (sym (take-append-drop i cells)) ∙ stacked_append align f [] (take i cells) (drop i cells) in
+    omega (arith, stacked_grows align f (stacked align f [] (take i cells)) (drop i cells), ap (λ (owners : List Owner). length owners) same)
