@@ -34,9 +34,10 @@ module _ (form : AosForm) (slots : ℕ) (cells : List Cell) (offsets : List ℕ)
   pub offset_fits : (cell offset : ℕ) → slots * stride ≤ 2 ^ 31 → 0 < slots → cell < length cells → offset ≡ get_or offsets cell offset → offset ≤ 2 ^ 31
   offset_fits cell offset bound some cell_in read =
       let width = cell_width cells cell (slice_index (widths_of cells) cell) cell_in refl in
-      omega (arith, layout_size form slots (widths_of cells) offsets stride h, get_or_read offsets cell offset (omega (arith, (h some).each, width.inside)) read 0,
-      run_end (aos_layout form slots (widths_of cells)) 0 (0 * stride + slice_index offsets cell) 0 cell (slice_index (widths_of cells) cell) width.some
-      (λ k l. cell_at 0 cell k some width.inside l))
+      let same = get_or_read offsets cell offset (omega (arith, (h some).each, width.inside)) read 0 in
+      let end = run_end (aos_layout form slots (widths_of cells)) 0 (0 * stride + slice_index offsets cell) 0 cell (slice_index (widths_of cells) cell) width.some
+      (λ k l. cell_at 0 cell k some width.inside l) in
+      omega (arith, layout_size form slots (widths_of cells) offsets stride h)
 
 -- a part that is too long makes the blob too long
 pub big_part : (form : AosForm) (slots : ℕ) (widths : List ℕ) → 0 < slots → ((slot : ℕ) → 2 ^ 31 < length (part_of form widths slot))

@@ -86,9 +86,10 @@ module _ (lanes slots : ℕ) (cells : List Cell) (offsets : List ℕ) (stride : 
   pub offset_fits : (cell offset : ℕ) → block_count lanes slots * stride ≤ 2 ^ 31 → 0 < slots → cell < length cells → offset ≡ get_or offsets cell offset → offset ≤ 2 ^ 31
   offset_fits cell offset bound filled cell_in read =
       let width = cell_width cells cell (slice_index (widths_of cells) cell) cell_in refl in
-      omega (arith, layout_size lanes slots (widths_of cells) offsets stride some h, get_or_read offsets cell offset (omega (arith, (h filled).each, width.inside)) read 0,
-      run_end (aosoa lanes slots (widths_of cells)) 0 (begin_of lanes (widths_of cells) offsets stride 0 cell) 0 cell (slice_index (widths_of cells) cell) width.some
-      (λ k l. cell_at 0 cell k filled width.inside l))
+      let same = get_or_read offsets cell offset (omega (arith, (h filled).each, width.inside)) read 0 in
+      let end = run_end (aosoa lanes slots (widths_of cells)) 0 (begin_of lanes (widths_of cells) offsets stride 0 cell) 0 cell (slice_index (widths_of cells) cell) width.some
+      (λ k l. cell_at 0 cell k filled width.inside l) in
+      omega (arith, layout_size lanes slots (widths_of cells) offsets stride some h)
 
   -- a cell has one piece
   pub located_is : (slot cell offset : ℕ) (piece : Piece) → block_count lanes slots * stride ≤ 2 ^ 31 → slot < slots → cell < length cells
