@@ -1,7 +1,7 @@
 -- The laws of each form: each bit of each cell has one place, and the blob is whole bytes.
-use Rattle.std.specs.Prelude.{◌≡◌, ℕ, ◌+◌, ◌-◌, ◌%◌, ◌<◌, ◌≤◌, List, [], ◌∷◌, map, length, max, fold, All, refl}
-use Rattle.record_dim.specs.Std.{inl, inr, sym, ap, ◌∙◌, subst, arith, flat_map, range_with_len, All-cons, All-nil}
-use Rattle.places.specs.Prelude.{Owner, cells_of, field, greatest, falling, aligned_fields, aligned_part, padded_to, IsBitOf, IsLaidOut, widths_of, full_holds, Has, has_same, has_range, has_padded, has_field, length-field, Member, Apart, apart_falling, member_falling, falling_member, LaysOut, has_blob, laid_out, member_width, apart_enumerate, bit_of_cells, cells_of_bit, parts_bytes, stacked, flat_stacked, fields_stacked, length-padded, padded_one, has_all_stacked, stacked_bytes, KeepsBytes, IsWidth, by_width, widths_are, widths_narrow, widths_wide, widths_full, keeps_one, keeps_width, keeps_greater, aos_layout}
+use Rattle.std.specs.Prelude.{◌≡◌, ℕ, ◌-◌, ◌%◌, ◌<◌, ◌≤◌, List, [], ◌∷◌, map, length, max, fold, All, refl}
+use Rattle.record_dim.specs.Std.{inl, inr, sym, ap, ◌∙◌, subst, arith, flat_map, range_with_len}
+use Rattle.places.specs.Prelude.{Owner, cells_of, field, greatest, falling, aligned_fields, aligned_part, padded_to, IsBitOf, IsLaidOut, widths_of, full_holds, Has, has_same, has_padded, has_field, length-field, Member, Apart, apart_falling, member_falling, falling_member, LaysOut, has_blob, member_width, apart_enumerate, parts_bytes, stacked, flat_stacked, fields_stacked, length-padded, padded_one, has_all_stacked, stacked_bytes, KeepsBytes, IsWidth, by_width, widths_are, keeps_one, keeps_width, keeps_greater, aos_layout, BitOfSlot, has_slots, one_whole, whole_laid_out}
 use Rattle.places.specs.declared.piece.Cell.{Cell}
 use Rattle.places.specs.declared.piece.Hold.{Hold}
 use Rattle.map_aos.specs.Aos.{part_of, order_of, alignment}
@@ -63,19 +63,16 @@ pub member_order : (form : AosForm) (widths : List ℕ) (c w : ℕ) → Member (
 member_order form widths c w m = grind (arith, member_falling)
 
 -- the bits of one part
-abbrev BitOfPart : List ℕ → ℕ → ℕ → ℕ → ℕ → Type 0
-BitOfPart widths slot s c k = (s ≡ slot) × ((w : ℕ) × Member (cells_of widths) c w × (k < w))
-
-has_part : (form : AosForm) (widths : List ℕ) (slot : ℕ) → All IsWidth widths → Has (BitOfPart widths slot) (part_of form widths slot)
+has_part : (form : AosForm) (widths : List ℕ) (slot : ℕ) → All IsWidth widths → Has (BitOfSlot widths slot) (part_of form widths slot)
 has_part form widths slot each =
     let cells : List (ℕ × ℕ) = order_of form (cells_of widths) in
     let inner = has_all_stacked (alignment form) (field slot) (λ cell s c k. (s ≡ slot) × (c ≡ cell.0) × (k < cell.1)) cells (apart_order form widths)
     (λ c w. has_field slot c w) (λ c w s c' k o. o.1) in
     let end : ℕ = widest form cells in
-    let same = has_same {Out = BitOfPart widths slot} (has_padded ((end - length (laid_fields form widths slot) % end) % end) inner)
+    let same = has_same {Out = BitOfSlot widths slot} (has_padded ((end - length (laid_fields form widths slot) % end) % end) inner)
     (λ s c k (h : (w : ℕ) × Member cells c w × ((s ≡ slot) × (c ≡ c) × (k < w))). (h.2.0, (h.0, member_order form widths c h.0 h.1, h.2.2)))
-    (λ s c k (h : BitOfPart widths slot s c k). (h.1.0, order_member form widths c h.1.0 each h.1.1, (h.0, refl, h.1.2))) in
-    subst (λ (owners : List Owner). Has (BitOfPart widths slot) owners) (sym (part_is form widths slot each)) same
+    (λ s c k (h : BitOfSlot widths slot s c k). (h.1.0, order_member form widths c h.1.0 each h.1.1, (h.0, refl, h.1.2))) in
+    subst (λ (owners : List Owner). Has (BitOfSlot widths slot) owners) (sym (part_is form widths slot each)) same
 
 -- what the end of a part is aligned to keeps whole bytes
 keeps_widest : (form : AosForm) (cells : List (ℕ × ℕ)) (start : ℕ) → KeepsBytes start → ((c w : ℕ) → Member cells c w → IsWidth w)
@@ -96,26 +93,11 @@ part_bytes form widths slot each =
     grind (arith, part_is, length-padded)
 
 -- each bit of each cell in each slot has one place
-aos_lays_out : (form : AosForm) (slots : ℕ) (widths : List ℕ) → All IsWidth widths → LaysOut (IsBitOf slots widths) (aos_layout form slots widths)
-aos_lays_out form slots widths each =
-    let all = has_range (part_of form widths) (BitOfPart widths) 0 slots
-    (λ i low high. has_part form widths i each)
-    (λ i j s c k (one : BitOfPart widths i s c k) (two : BitOfPart widths j s c k). sym one.0 ∙ two.0) in
-    let blob = has_blob (has_same {Out = IsBitOf slots widths} all
-    (λ s c k (h : (i : ℕ) × (0 ≤ i) × (i < 0 + slots) × BitOfPart widths i s c k).
-    bit_of_cells slots widths s c k (omega arith) h.3.1)
-    (λ s c k (h : IsBitOf slots widths s c k).
-    (s, (omega arith), (omega arith), (refl, cells_of_bit slots widths s c k h)))) in
-    subst (λ (layout : List (List Owner)). LaysOut (IsBitOf slots widths) layout) (sym (layout_parts form slots widths)) blob
-
 pub aos_laws : (form : AosForm) (slots : ℕ) (cells : List Cell) → IsLaidOut (aos_layout form slots (widths_of cells)) slots (map (λ (h : Hold). h.width) (full_holds cells))
 aos_laws form slots cells =
     let widths : List ℕ = widths_of cells in
-    let each : All IsWidth widths = widths_are cells in
     let blob : List Owner = flat_map (part_of form widths) (range_with_len 0 slots) in
-    let bytes : All (λ blob. length blob % 8 ≡ 0) (blob ∷ []) = grind (arith, All-cons, parts_bytes, part_bytes, All-nil) in
-    let whole : All (λ blob. length blob % 8 ≡ 0) (aos_layout form slots widths) =
-    subst (λ (layout : List (List Owner)). All (λ (blob : List Owner). length blob % 8 ≡ 0) layout) (sym (layout_parts form slots widths)) bytes in
-    let laid : IsLaidOut (aos_layout form slots widths) slots widths =
-    laid_out (aos_lays_out form slots widths each) whole (widths_narrow cells) (widths_wide cells) in
-    subst (λ (ws : List ℕ). IsLaidOut (aos_layout form slots widths) slots ws) (sym (widths_full cells)) laid
+    let parts : blob ∷ [] ≡ aos_layout form slots widths = sym (layout_parts form slots widths) in
+    whole_laid_out (aos_layout form slots widths) slots cells
+    (subst (LaysOut (IsBitOf slots widths)) parts (has_blob (has_slots (part_of form widths) slots widths (λ slot. has_part form widths slot (widths_are cells)))))
+    (subst (All (λ (blob : List Owner). length blob % 8 ≡ 0)) parts (one_whole blob (parts_bytes (part_of form widths) (λ slot. part_bytes form widths slot (widths_are cells)) 0 slots)))

@@ -5,17 +5,6 @@ use Rattle.map_aosoa.proofs.Imports.{◌≡◌, ℕ, zero, suc, All, refl, ◌+�
 pub blocks_are : (slots lanes : ℕ) → 0 < lanes → div_ceil slots lanes ≡ block_count lanes slots
 blocks_are slots lanes some = grind (arith, div-add-mod', ⊎_elim, div-mul-add, cases_lt)
 
--- one cell more
-pub end_more : (lanes : ℕ) (cells : List Cell) (i : ℕ) (d : Cell) (w end : ℕ) → i < length cells → w ≡ width_of (get_or cells i d).kind
-    → end ≡ lanes * sum (take i (widths_of cells)) → end + lanes * w ≡ lanes * sum (take (i + 1) (widths_of cells))
-end_more lanes cells i d w end inside width was =
-    let widths : List ℕ = widths_of cells in
-    let size : length widths ≡ length cells = length-widths cells in
-    let here : get_or widths i 0 ≡ w = get_or-map (λ (cell : Cell). width_of cell.kind) cells i d 0 inside ∙ sym width in
-    let more : sum (take (i + 1) widths) ≡ sum (take i widths) + get_or widths i 0 = sum_by_more (λ (x : ℕ). x) widths i 0 (omega arith) in
-    let all : lanes * sum (take (i + 1) widths) ≡ lanes * (sum (take i widths) + w) = ap (λ (n : ℕ). lanes * n) (omega arith) in
-    omega arith
-
 -- the lanes of the cells so far are not more than those of all
 pub end_below : (lanes : ℕ) (widths : List ℕ) (i : ℕ) → lanes * sum (take i widths) ≤ lanes * sum widths
 end_below lanes widths i = mul-le lanes (sum (take i widths)) lanes (sum widths) (omega arith) (sum_by-take-le (λ (x : ℕ). x) widths i)
@@ -23,7 +12,12 @@ end_below lanes widths i = mul-le lanes (sum (take i widths)) lanes (sum widths)
 -- one step of the walk over the cells
 pub end_next : (lanes : ℕ) (cells : List Cell) (i : ℕ) (d : Cell) (end lanes' w w' : ℕ) → i < length cells → w ≡ width_of (get_or cells i d).kind
     → lanes' ≡ lanes → w' ≡ w → end ≡ lanes * sum (take i (widths_of cells)) → end + lanes' * w' ≡ lanes * sum (take (i + 1) (widths_of cells))
-end_next lanes cells i d end lanes' w w' inside width same same' was = grind (arith, end_more)
+end_next lanes cells i d end lanes' w w' inside width same same' was =
+    let here = sum_by_more (λ (x : ℕ). x) (widths_of cells) i 0 (omega (arith, length-widths cells)) in
+    let read : get_or (widths_of cells) i 0 ≡ w = get_or-map (λ (cell : Cell). width_of cell.kind) cells i d 0 inside ∙ sym width in
+    let all : lanes * sum (take (i + 1) (widths_of cells)) ≡ lanes * (sum (take i (widths_of cells)) + w) = ap (λ (n : ℕ). lanes * n) (omega arith) in
+    let product : lanes' * w' ≡ lanes * w = ap (λ (n : ℕ). n * w') same ∙ ap (λ (n : ℕ). lanes * n) same' in
+    omega arith
 
 -- the lanes of whole bytes are whole bytes
 sum_bytes : (widths : List ℕ) → All (λ w. w % 8 ≡ 0) widths → (n : ℕ) → sum (take n widths) % 8 ≡ 0

@@ -1,7 +1,7 @@
 -- The laws of the layout: each bit of each cell has one place, and the blob is whole bytes.
-use Rattle.std.specs.Prelude.{◌≡◌, ℕ, ◌+◌, ◌*◌, ◌/◌, ◌%◌, ◌<◌, ◌≤◌, true, false, List, [], ◌∷◌, map, length, replicate, nat_lt, All, refl}
-use Rattle.record_dim.specs.Std.{⊎_elim, sym, ap, ◌∙◌, subst, arith, flat_map, range_with_len, cases_lt, cases_Bool, cond-true, cond-false, ltb-true, lt-ltb, both_ways, div-mul-add, div-add-mod', mul-le, length-replicate, All-cons, All-nil}
-use Rattle.places.specs.Prelude.{Owner, Pad, cells_of, field, lane, block_of, aosoa, IsBitOf, IsLaidOut, widths_of, full_holds, Has, has_same, has_pads, has_field, has_range, has_cells, length-field, Member, LaysOut, has_blob, laid_out, apart_enumerate, member_cells, bit_of_cells, cells_of_bit, parts_bytes, stacked, flat_stacked, stacked_bytes, widths_whole, widths_narrow, widths_wide, widths_full, keeps_one}
+use Rattle.std.specs.Prelude.{◌≡◌, ℕ, ◌+◌, ◌*◌, ◌/◌, ◌%◌, ◌<◌, ◌≤◌, true, false, List, [], map, length, replicate, nat_lt, All, refl}
+use Rattle.record_dim.specs.Std.{⊎_elim, sym, ap, ◌∙◌, subst, arith, flat_map, range_with_len, cases_lt, cases_Bool, cond-true, cond-false, ltb-true, lt-ltb, both_ways, div-mul-add, div-add-mod', mul-le, length-replicate}
+use Rattle.places.specs.Prelude.{Owner, Pad, cells_of, field, lane, block_of, aosoa, IsBitOf, IsLaidOut, widths_of, full_holds, Has, has_same, has_pads, has_field, has_range, has_cells, length-field, Member, LaysOut, has_blob, apart_enumerate, member_cells, bit_of_cells, cells_of_bit, parts_bytes, stacked, flat_stacked, stacked_bytes, widths_whole, keeps_one, one_whole, whole_laid_out}
 use Rattle.places.specs.declared.piece.Cell.{Cell}
 use Rattle.places.specs.declared.piece.Hold.{Hold}
 use Rattle.map_aosoa.specs.Aosoa.{block_count}
@@ -93,13 +93,6 @@ block_bytes lanes slots widths block whole =
 pub aosoa_laws : (lanes slots : ℕ) (cells : List Cell) → 0 < lanes
     → IsLaidOut (aosoa lanes slots (widths_of cells)) slots (map (λ (h : Hold). h.width) (full_holds cells))
 aosoa_laws lanes slots cells some =
-    let widths : List ℕ = widths_of cells in
-    let part : ℕ → List Owner = block_of lanes slots (cells_of widths) in
-    let blob : List Owner = flat_map part (range_with_len 0 (block_count lanes slots)) in
-    let bytes : All (λ blob. length blob % 8 ≡ 0) (blob ∷ []) =
-    All-cons (λ (blob : List Owner). length blob % 8 ≡ 0) blob []
-    (parts_bytes part (λ b. block_bytes lanes slots widths b (widths_whole cells)) 0 (block_count lanes slots))
-    (All-nil (λ (blob : List Owner). length blob % 8 ≡ 0)) in
-    let laid : IsLaidOut (aosoa lanes slots widths) slots widths =
-    laid_out (aosoa_lays_out lanes slots widths some) bytes (widths_narrow cells) (widths_wide cells) in
-    subst (λ (ws : List ℕ). IsLaidOut (aosoa lanes slots widths) slots ws) (sym (widths_full cells)) laid
+    let part : ℕ → List Owner = block_of lanes slots (cells_of (widths_of cells)) in
+    whole_laid_out (aosoa lanes slots (widths_of cells)) slots cells (aosoa_lays_out lanes slots (widths_of cells) some)
+    (one_whole (flat_map part (range_with_len 0 (block_count lanes slots))) (parts_bytes part (λ b. block_bytes lanes slots (widths_of cells) b (widths_whole cells)) 0 (block_count lanes slots)))

@@ -1,39 +1,23 @@
 -- A struct of arrays packed to the bit: the lengths of its blobs, and the places of a cell.
-use Rattle.map_bits.proofs.Imports.{◌≡◌, ℕ, ◌+◌, ◌-◌, ◌*◌, ◌/◌, ◌%◌, ◌^◌, ◌<◌, ◌≤◌, List, [], ◌∷◌, length, sum_by, replicate, get_or, slice_index, take, refl, sym, ap, ◌∙◌, subst, arith, mul-le, get_or-map, get_or_append_left, length-map, take_all, length-enumerate_from, get_or-enumerate_from, sum_by_more, sum_by-take-le, Owner, Pad, Bit, owner_at, cells_of, field, array, bit_soa, IsLocated, IsLaidOut, Hold, Piece, within, field_at, length-field, length-parts, slot_at, up, length-padded, one_piece, widths_in, padded_array}
+use Rattle.map_bits.proofs.Imports.{◌≡◌, ℕ, ◌+◌, ◌*◌, ◌/◌, ◌^◌, ◌<◌, ◌≤◌, List, [], ◌∷◌, length, sum_by, get_or, slice_index, take, refl, sym, ap, ◌∙◌, subst, arith, mul-le, length-map, take_all, sum_by_more, sum_by-take-le, Owner, Pad, Bit, owner_at, cells_of, array, bit_soa, IsLocated, IsLaidOut, Hold, Piece, up, length-padded, one_piece, widths_in, padded_array, array_at, length-array, length-cells, listed_at, padded_at}
 use Rattle.map_bits.proofs.Widths.{IsTaken, taken_at}
-
--- one blob: its length in bits, and its places
-array_size : (slots c w : ℕ) → length (padded_array slots (c, w)) ≡ up 64 (slots * w)
-array_size slots c w = grind (arith, length-padded, length-parts, length-field)
-
-array_at : (slots c w slot bit : ℕ) → slot < slots → bit < w → get_or (padded_array slots (c, w)) (slot * w + bit) Pad ≡ Bit slot c bit
-array_at slots c w slot bit slot_in bit_in =
-    let owners : List Owner = array slots (c, w) in
-    let place : ℕ = slot * w + bit in
-    let at : get_or owners place Pad ≡ Bit slot c bit =
-    slot_at Pad (λ slot. field slot (c, w)) w (λ s. length-field s c w) slots slot bit slot_in bit_in ∙ field_at slot c w bit bit_in in
-    get_or_append_left owners (replicate ((64 - length owners % 64) % 64) Pad) Pad place (within owners place slot c bit at) ∙ at
 
 -- there is a blob for each cell
 pub blob_each : (slots : ℕ) (widths : List ℕ) → length (bit_soa slots widths) ≡ length widths
-blob_each slots widths = length-map (cells_of widths) (padded_array slots) ∙ length-enumerate_from 0 widths
-
-blob_is : (slots : ℕ) (widths : List ℕ) (cell : ℕ) → cell < length widths
-    → get_or (bit_soa slots widths) cell [] ≡ padded_array slots (cell, slice_index widths cell)
-blob_is slots widths cell inside =
-    let size : length (cells_of widths) ≡ length widths = length-enumerate_from 0 widths in
-    let pair : get_or (cells_of widths) cell (0, 0) ≡ (cell, slice_index widths cell) =
-    get_or-enumerate_from 0 widths cell (0, 0) inside ∙ ap (λ (n : ℕ). (n, slice_index widths cell)) (omega arith) in
-    get_or-map (padded_array slots) (cells_of widths) cell (0, 0) [] (omega arith) ∙ ap (padded_array slots) pair
+blob_each slots widths = length-map (cells_of widths) (padded_array slots) ∙ length-cells widths
 
 pub blob_size : (slots : ℕ) (widths : List ℕ) (cell : ℕ) → cell < length widths
     → length (get_or (bit_soa slots widths) cell []) ≡ up 64 (slots * slice_index widths cell)
-blob_size slots widths cell inside = grind (arith, blob_is, array_size, slice_index)
+blob_size slots widths cell inside =
+    ap (λ (owners : List Owner). length owners) (listed_at (padded_array slots) widths cell [] inside)
+    ∙ length-padded 64 (array slots (cell, slice_index widths cell)) ∙ ap (up 64) (length-array slots cell (slice_index widths cell))
 
 -- the places of a cell's bits
 pub cell_at : (slots : ℕ) (widths : List ℕ) (slot cell bit : ℕ) → slot < slots → cell < length widths → bit < slice_index widths cell
     → owner_at (bit_soa slots widths) cell (slot * slice_index widths cell + bit) ≡ Bit slot cell bit
-cell_at slots widths slot cell bit slot_in cell_in bit_in = grind (arith, get_or, slice_index, blob_is, array_at)
+cell_at slots widths slot cell bit slot_in cell_in bit_in =
+    ap (λ (owners : List Owner). get_or owners (slot * slice_index widths cell + bit) Pad) (listed_at (padded_array slots) widths cell [] cell_in)
+    ∙ padded_at 64 (array slots (cell, slice_index widths cell)) (slot * slice_index widths cell + bit) slot cell bit (array_at slots cell (slice_index widths cell) slot bit slot_in bit_in)
 
 -- the places of a cell are one piece
 pub located_is : (slots : ℕ) (widths : List ℕ) (slot cell : ℕ) (piece : Piece) → IsTaken widths cell piece.bits → slots ≤ 2 ^ 24 → slot < slots

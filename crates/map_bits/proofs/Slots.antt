@@ -1,30 +1,9 @@
 -- An array of structs packed to the bit: its length, and the places of a cell.
-use Rattle.map_bits.proofs.Imports.{◌≡◌, ℕ, zero, suc, ◌+◌, ◌-◌, ◌*◌, ◌/◌, ◌%◌, ◌^◌, ◌<◌, ◌≤◌, ⊎_elim, List, [], ◌∷◌, ◌++◌, map, length, sum_by, replicate, get_or, slice_index, take, refl, sym, ap, ◌∙◌, subst, arith, length-append, flat_map, range_with_len, enumerate_from, sum, cases_lt, mul-le, take_all, length-map, get_or_append_left, get_or-append-add, length-map-range_with_len, get_or-map-range_with_len, map-range_with_len_more, sum_by-cons, sum_by_more, sum_by-take-le, Owner, Pad, Bit, owner_at, cells_of, field, fields, padded_to, bit_aos, IsLocated, IsLaidOut, IsTooBig, widths_in, Hold, Piece, within, field_at, length-field, length-parts, slot_at, up, length-padded, one_piece, LieInBits, packed_slots}
+use Rattle.map_bits.proofs.Imports.{◌≡◌, ℕ, ◌+◌, ◌*◌, ◌/◌, ◌^◌, ◌<◌, ◌≤◌, ⊎_elim, List, [], ◌∷◌, ◌++◌, map, length, sum_by, get_or, slice_index, take, refl, sym, ap, ◌∙◌, subst, arith, range_with_len, sum, cases_lt, mul-le, take_all, length-map, length-map-range_with_len, get_or-map-range_with_len, map-range_with_len_more, sum_by_more, sum_by-take-le, Owner, Pad, Bit, owner_at, cells_of, field, fields, padded_to, bit_aos, IsLocated, IsLaidOut, IsTooBig, widths_in, Hold, Piece, field_at, length-field, length-parts, up, length-padded, LieInBits, packed_slots, bit_at, cells_at, cells_size, padded_at, run_located, is_big}
 use Rattle.map_bits.proofs.Widths.{IsTaken, taken_at}
 
--- the length of the cells that are numbered from n on
-fields_size : (slot n : ℕ) (widths : List ℕ) → length (flat_map (field slot) (enumerate_from n widths)) ≡ sum widths
-fields_size slot n [] = refl
-fields_size slot n (w ∷ widths) =
-    let first : List Owner = field slot (n, w) in
-    let rest : List Owner = flat_map (field slot) (enumerate_from (n + 1) widths) in
-    let both : length (first ++ rest) ≡ length first + length rest = length-append first rest in
-    let one : length first ≡ w = length-field slot n w in
-    let others : length rest ≡ sum widths = fields_size slot (n + 1) widths in
-    (omega arith) ∙ sym (sum_by-cons (λ (x : ℕ). x) w widths)
-
--- bit k of cell c
-fields_at : (slot n : ℕ) (widths : List ℕ) (c k : ℕ) → c < length widths → k < slice_index widths c
-    → get_or (flat_map (field slot) (enumerate_from n widths)) (sum (take c widths) + k) Pad ≡ Bit slot (n + c) k
-fields_at slot n [] c k inside low = absurd (omega arith)
-fields_at slot n (w ∷ widths) zero k inside low = grind (arith, flat_map, enumerate_from, length-field, sum, get_or, get_or_append_left, field_at)
-fields_at slot n (w ∷ widths) (suc c) k inside low =
-    let one : length (field slot (n, w)) ≡ w = length-field slot n w in
-    let all : sum (w ∷ take c widths) ≡ w + sum (take c widths) = sum_by-cons (λ (x : ℕ). x) w (take c widths) in
-    grind (arith, get_or, get_or-append-add, sum, (fields_at slot (n + 1) widths c k (omega arith) low))
-
 slot_size : (widths : List ℕ) (slot : ℕ) → length (fields slot (cells_of widths)) ≡ sum widths
-slot_size widths slot = fields_size slot 0 widths
+slot_size widths slot = cells_size (field slot) (λ w. w) (length-field slot) widths
 
 -- the length of the blob in bits
 pub blob_size : (slots : ℕ) (widths : List ℕ) → length (padded_to 64 (packed_slots slots widths)) ≡ up 64 (slots * sum widths)
@@ -34,17 +13,13 @@ blob_size slots widths = grind (arith, length-padded, length-parts, sum, slot_si
 pub cell_at : (slots : ℕ) (widths : List ℕ) (slot cell bit : ℕ) → slot < slots → cell < length widths → bit < slice_index widths cell
     → owner_at (bit_aos slots widths) 0 (slot * sum widths + (sum (take cell widths) + bit)) ≡ Bit slot cell bit
 cell_at slots widths slot cell bit slot_in cell_in bit_in =
-    let owners : List Owner = packed_slots slots widths in
-    let part : List Owner = fields slot (cells_of widths) in
     let j : ℕ = sum (take cell widths) + bit in
-    let place : ℕ = slot * sum widths + j in
-    let number : 0 + cell ≡ cell = omega arith in
-    let here : get_or part j Pad ≡ Bit slot cell bit = fields_at slot 0 widths cell bit cell_in bit_in ∙ ap (λ (i : ℕ). Bit slot i bit) number in
-    let low : j < length part = within part j slot cell bit here in
-    let size : length part ≡ sum widths = slot_size widths slot in
-    let at : get_or owners place Pad ≡ Bit slot cell bit =
-    slot_at Pad (λ slot. fields slot (cells_of widths)) (sum widths) (slot_size widths) slots slot j slot_in (omega arith) ∙ here in
-    get_or_append_left owners (replicate ((64 - length owners % 64) % 64) Pad) Pad place (within owners place slot cell bit at) ∙ at
+    padded_at 64 (packed_slots slots widths) (slot * sum widths + j) slot cell bit
+    (bit_at (λ slot. fields slot (cells_of widths)) (sum widths) (slot_size widths) slots slot j slot cell bit slot_in
+    (cells_at (field slot) (λ w. w) (length-field slot) Pad widths cell bit cell_in bit_in ∙ field_at slot cell (slice_index widths cell) bit bit_in))
+
+layout_size : (slots : ℕ) (widths : List ℕ) → sum_by length (bit_aos slots widths) ≡ up 64 (slots * sum widths)
+layout_size slots widths = grind (arith, sum_by, blob_size)
 
 -- the places of a cell are one piece
 pub located_is : (slots : ℕ) (widths : List ℕ) (stride slot cell : ℕ) (piece : Piece) → IsTaken widths cell piece.bits
@@ -53,16 +28,12 @@ pub located_is : (slots : ℕ) (widths : List ℕ) (stride slot cell : ℕ) (pie
     → IsLocated (bit_aos slots widths) slot cell (slice_index widths cell) (piece ∷ [])
 located_is slots widths stride slot cell piece taken ends bound slot_in blob bit =
     let layout : List (List Owner) = bit_aos slots widths in
-    let owners : List Owner = padded_to 64 (packed_slots slots widths) in
-    let last : ℕ = piece.bits - 1 in
     let before : slot * stride ≡ slot * sum widths = ap (λ (n : ℕ). slot * n) ends in
-    let each : (k : ℕ) → k < piece.bits → owner_at layout 0 (piece.bit + k) ≡ Bit slot cell k = λ k l.
-    let place : piece.bit + k ≡ slot * sum widths + (sum (take cell widths) + k) = omega arith in
-    ap (λ (p : ℕ). owner_at layout 0 p) place ∙ cell_at slots widths slot cell k slot_in taken.inside (subst (λ (n : ℕ). k < n) taken.same l) in
-    let end : piece.bit + last < length owners = within owners (piece.bit + last) slot cell last (each last (omega arith)) in
-    let size : length owners ≡ up 64 (slots * sum widths) = blob_size slots widths in
     let total : slots * stride ≡ slots * sum widths = ap (λ (n : ℕ). slots * n) ends in
-    subst (λ (n : ℕ). IsLocated layout slot cell n (piece ∷ [])) taken.same (grind (arith, one_piece))
+    subst (λ (n : ℕ). IsLocated layout slot cell n (piece ∷ [])) taken.same
+    (run_located layout slot cell piece.bits piece taken.some (omega (arith, layout_size slots widths)) refl
+    (λ k l. let place : piece.bit + k ≡ slot * sum widths + (sum (take cell widths) + k) = omega arith in
+    ap (λ (b : ℕ). owner_at layout b (piece.bit + k)) blob ∙ ap (λ (p : ℕ). owner_at layout 0 p) place ∙ cell_at slots widths slot cell k slot_in taken.inside (omega (arith, taken.same))))
 
 -- the bits of all slots, as the mapping keeps them
 total_is : (slots : ℕ) (widths offsets : List ℕ) (stride : ℕ) → (0 < slots → LieInBits widths offsets stride) → slots * stride ≡ slots * sum widths
@@ -86,21 +57,18 @@ begins_each widths offsets stride h = grind (arith, length-map-range_with_len, s
 pub begin_fits : (slots : ℕ) (widths : List ℕ) (stride cell : ℕ) → stride ≡ sum widths → slots * stride ≤ 2 ^ 31 → 0 < slots → sum (take cell widths) ≤ 2 ^ 31
 begin_fits slots widths stride cell ends bound filled = grind (arith, sum, sum_by-take-le, mul-le)
 
--- the limits
-layout_size : (slots : ℕ) (widths : List ℕ) → sum_by length (bit_aos slots widths) ≡ up 64 (slots * sum widths)
-layout_size slots widths = grind (arith, sum_by, blob_size)
-
 -- a slot that is too long makes the blob too long
-pub big_slot : (slots : ℕ) (widths : List ℕ) → 0 < slots → 2 ^ 31 < sum widths → IsTooBig slots (bit_aos slots widths)
-big_slot slots widths filled long = grind (arith, sum_by, sum, layout_size, mul-le)
+pub big_slot : (slots : ℕ) (lent holds : List Hold) → lent ≡ holds → 0 < slots → 2 ^ 31 < sum (widths_in lent) → IsTooBig slots (bit_aos slots (widths_in holds))
+big_slot slots lent holds same filled long =
+    subst (λ (hs : List Hold). IsTooBig slots (bit_aos slots (widths_in hs))) same
+    (is_big slots (bit_aos slots (widths_in lent)) _ (layout_size slots (widths_in lent)) (omega (arith, mul-le 1 (sum (widths_in lent)) slots (sum (widths_in lent)) filled (omega arith))))
 
-pub big_blob : (slots : ℕ) (widths offsets : List ℕ) (stride : ℕ) → LieInBits widths offsets stride → 2 ^ 31 < up 64 (slots * stride)
-    → IsTooBig slots (bit_aos slots widths)
-big_blob slots widths offsets stride h long = grind (arith, sum_by, sum, layout_size)
-
-pub not_too_big : (slots : ℕ) (widths offsets : List ℕ) (stride : ℕ) → (0 < slots → LieInBits widths offsets stride) → slots ≤ 2 ^ 24
-    → up 64 (slots * stride) ≤ 2 ^ 31 → IsTooBig slots (bit_aos slots widths) → ⊥
-not_too_big slots widths offsets stride h few small big = grind (arith, sum, layout_size, total_is, ⊎_elim)
+-- how long the blob is, as the code works it out
+pub layout_bits : (slots : ℕ) (lent holds : List Hold) (offsets : List ℕ) (stride padded : ℕ) → lent ≡ holds → LieInBits (widths_in lent) offsets stride
+    → padded ≡ up 64 (slots * stride) → sum_by length (bit_aos slots (widths_in holds)) ≡ padded
+layout_bits slots lent holds offsets stride padded same h size =
+    subst (λ (hs : List Hold). sum_by length (bit_aos slots (widths_in hs)) ≡ padded) same
+    (layout_size slots (widths_in lent) ∙ ap (λ (n : ℕ). up 64 (slots * n)) (sym h.ends) ∙ sym size)
 
 -- one cell more, as the code reads it
 pub end_next : (holds : List Hold) (i : ℕ) (d : Hold) (end bits : ℕ) → i < length holds → bits ≡ (get_or holds i d).width

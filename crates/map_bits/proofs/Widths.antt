@@ -11,11 +11,11 @@ pub record IsTaken (widths : List ℕ) (cell bits : ℕ) : Type 0 where
 pub count : (cells : List Cell) (holds : List Hold) → AreHolds cells holds → length (widths_in holds) ≡ length cells
 count cells holds are = length-map holds (λ (h : Hold). h.width) ∙ are.each
 
-pub taken_read : (holds : List Hold) (cell : ℕ) (found : Hold) → cell < length holds → found ≡ get_or holds cell found → found.width ≡ slice_index (widths_in holds) cell
-taken_read holds cell found inside read = ap (λ (h : Hold). h.width) read ∙ sym (get_or-map (λ (h : Hold). h.width) holds cell found 0 inside)
-
 pub taken_at : (holds : List Hold) (cell : ℕ) (d : Hold) → cell < length holds → (get_or holds cell d).width ≡ slice_index (widths_in holds) cell
 taken_at holds cell d inside = sym (get_or-map (λ (h : Hold). h.width) holds cell d 0 inside)
+
+pub taken_read : (holds : List Hold) (cell : ℕ) (found : Hold) → cell < length holds → found ≡ get_or holds cell found → found.width ≡ slice_index (widths_in holds) cell
+taken_read holds cell found inside read = ap (λ (h : Hold). h.width) read ∙ taken_at holds cell found inside
 
 pub taken_is : (cells : List Cell) (holds : List Hold) (cell : ℕ) (found : Hold) → AreHolds cells holds → cell < length cells → found ≡ get_or holds cell found → IsTaken (widths_in holds) cell found.width
 taken_is cells holds cell found are inside read =

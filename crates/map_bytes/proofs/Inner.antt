@@ -17,7 +17,7 @@ module _ (layout : List (List Owner)) (s c : ℕ) (cells : List Cell) (holds : L
   same = ap (λ (hs : List Hold). map (λ (x : Hold). x.width) hs) full ∙ widths_full cells
 
   pub cell_in : c < length (widths_of cells)
-  cell_in = let size : length (widths_of cells) ≡ length cells = length-widths cells in omega arith
+  cell_in = omega (arith, length-widths cells)
 
   pub inner_located : IsLocated layout s c (slice_index (widths_of cells) c) pieces
   inner_located = subst (λ (ws : List ℕ). IsLocated layout s c (slice_index ws c) pieces) same h
@@ -27,10 +27,7 @@ module _ (layout : List (List Owner)) (s c : ℕ) (cells : List Cell) (holds : L
 
   pub inner_few : sum_by (λ (piece : Piece). piece.bits) pieces ≤ 64
   inner_few =
-      let width : slice_index (widths_of cells) c ≤ 64 = widths_narrow cells c 0 cell_in in
-      let bits : sum_by (λ (piece : Piece). piece.bits) pieces ≡ slice_index (widths_of cells) c =
-      bits_located layout (Bit s c) 0 (slice_index (widths_of cells) c) pieces inner_located.spelled in
-      omega arith
+      omega (arith, widths_narrow cells c 0 cell_in, bits_located layout (Bit s c) 0 (slice_index (widths_of cells) c) pieces inner_located.spelled)
 
 -- the inner cells are the bytes
 module _ (cells : List Cell) (holds : List Hold) (full : holds ≡ full_holds (byte_cells_of cells)) where
@@ -51,11 +48,8 @@ module _ (layout : List (List Owner)) (cells : List Cell) (holds : List Hold) (f
     (inside : c < length cells) (low : j < slice_index (widths_of cells) c / 8) (begin : first ≡ bytes_before (widths_of cells) c) where
   byte_in : first + j < length holds
   byte_in =
-      let size : length (widths_of cells) ≡ length cells = length-widths cells in
-      let within : bytes_before (widths_of cells) c + j < sum_by (λ (w : ℕ). w / 8) (widths_of cells) = byte_within (widths_of cells) c j (omega arith) low in
-      let all : byte_count cells ≡ sum_by (λ (w : ℕ). w / 8) (widths_of cells) = byte_count_is cells in
-      let held : length holds ≡ byte_count cells = bytes_held cells holds full in
-      omega arith
+      let within = byte_within (widths_of cells) c j (omega (arith, length-widths cells)) low in
+      omega (arith, byte_count_is cells, bytes_held cells holds full)
 
   byte_is : get_or (byte_cells (widths_of cells)) (first + j) (0, 0) ≡ (c, j)
   byte_is = grind (arith, length-widths, byte_cell_at)

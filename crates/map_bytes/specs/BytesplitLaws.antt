@@ -37,31 +37,29 @@ module _ (layout : List (List Owner)) (n : ℕ) (ws es : List ℕ) (laid : IsLai
   is_bit : (s n' k : ℕ) (h : IsBitOf n es s n' k) → IsBitOf n ws s (found s n' k h).0 (8 * (found s n' k h).1 + k)
   is_bit s n' k h = grind arith
 
+  -- and what its name says
+  whole_bit : (s n' k s' c' k' : ℕ) → IsBitOf n es s n' k → named s n' k ≡ Bit s' c' k' → IsBitOf n ws s' c' k' × (s ≡ s') × (n' ≡ byte_cell c' k') × (k ≡ k' % 8)
+  whole_bit s n' k s' c' k' h e =
+      let f = found s n' k h in
+      let is : Bit s f.0 (8 * f.1 + k) ≡ Bit s' c' k' = sym (name_is s n' k h) ∙ e in
+      let slots : s ≡ s' = cc in
+      let cells : f.0 ≡ c' = cc in
+      let bits : 8 * f.1 + k ≡ k' = cc in
+      let low : k < 8 = omega (arith, h.bit_in, eights n' 0 h.cell_in) in
+      let byte : f.1 ≡ k' / 8 = omega arith in (
+        subst (λ (x : ℕ). IsBitOf n ws x c' k') slots
+            (subst (λ (x : ℕ). IsBitOf n ws s x k') cells (subst (λ (x : ℕ). IsBitOf n ws s f.0 x) bits (is_bit s n' k h))),
+        slots,
+        f.2.place ∙ ap (λ (x : ℕ). bytes_before ws x + f.1) cells ∙ ap (λ (x : ℕ). bytes_before ws c' + x) byte,
+        omega arith,
+      )
+
   back : Back (IsBitOf n es) (IsBitOf n ws) named (λ s c k. s) (λ s c k. byte_cell c k) (λ s c k. k % 8)
   back = record {
     from = from;
     to = to;
-    out = λ s n' k s' c' k' h e.
-        let f = found s n' k h in
-        let is : Bit s f.0 (8 * f.1 + k) ≡ Bit s' c' k' = sym (name_is s n' k h) ∙ e in
-        let slots : s ≡ s' = cc in
-        let cells : f.0 ≡ c' = cc in
-        let bits : 8 * f.1 + k ≡ k' = cc in
-        subst (λ (x : ℕ). IsBitOf n ws x c' k') slots
-        (subst (λ (x : ℕ). IsBitOf n ws s x k') cells (subst (λ (x : ℕ). IsBitOf n ws s f.0 x) bits (is_bit s n' k h)));
-    back = λ s n' k s' c' k' h e.
-        let f = found s n' k h in
-        let at : IsByteCell ws n' f.0 f.1 = f.2 in
-        let is : Bit s f.0 (8 * f.1 + k) ≡ Bit s' c' k' = sym (name_is s n' k h) ∙ e in
-        let slots : s ≡ s' = cc in
-        let cells : f.0 ≡ c' = cc in
-        let bits : 8 * f.1 + k ≡ k' = cc in
-        let width : get_or es n' 0 ≡ 8 = eights n' 0 h.cell_in in
-        let low : k < get_or es n' 0 = h.bit_in in
-        let place : n' ≡ bytes_before ws f.0 + f.1 = at.place in
-        let byte : f.1 ≡ k' / 8 = omega arith in
-        let bit : k ≡ k' % 8 = omega arith in
-        (slots, place ∙ ap (λ (x : ℕ). bytes_before ws x + f.1) cells ∙ ap (λ (x : ℕ). bytes_before ws c' + x) byte, bit);
+    out = λ s n' k s' c' k' h e. (whole_bit s n' k s' c' k' h e).0;
+    back = λ s n' k s' c' k' h e. let r = whole_bit s n' k s' c' k' h e in (r.1, r.2, r.3);
   }
 
   pub bytesplit_laid : All (λ w. w ≤ 64) ws → All (λ w. 1 ≤ w) ws → IsLaidOut (bytesplit ws layout) n ws

@@ -35,36 +35,25 @@ module _ {X : Type 0} (cut : ℕ → X → X) (count : X → ℕ) where
 pub sum_of_eights : {X : Type 0} (bits : X → ℕ) (xs : List X) → All (λ x. bits x ≡ 8) xs → sum_by bits xs ≡ 8 * length xs
 sum_of_eights bits [] h = refl
 sum_of_eights {X} bits (x ∷ xs) h =
-    let here : bits x ≡ 8 = All-head (λ (y : X). bits y ≡ 8) x xs h in
-    let later : sum_by bits xs ≡ 8 * length xs = sum_of_eights bits xs (All-tail (λ (y : X). bits y ≡ 8) x xs h) in
-    let step : sum_by bits (x ∷ xs) ≡ bits x + sum_by bits xs = sum_by-cons bits x xs in
-    omega arith
+    omega (arith, All-head (λ (y : X). bits y ≡ 8) x xs h, sum_of_eights bits xs (All-tail (λ (y : X). bits y ≡ 8) x xs h), sum_by-cons bits x xs)
 
 -- things of whole bytes have 8 bits for each byte
 pub sum_of_bytes : {X : Type 0} (bits : X → ℕ) (xs : List X) → All (λ x. bits x % 8 ≡ 0) xs → sum_by bits xs ≡ 8 * sum_by (λ x. bits x / 8) xs
 sum_of_bytes bits [] h = refl
 sum_of_bytes {X} bits (x ∷ xs) h =
-    let here : bits x % 8 ≡ 0 = All-head (λ (y : X). bits y % 8 ≡ 0) x xs h in
-    let later : sum_by bits xs ≡ 8 * sum_by (λ (y : X). bits y / 8) xs = sum_of_bytes bits xs (All-tail (λ (y : X). bits y % 8 ≡ 0) x xs h) in
-    let step : sum_by bits (x ∷ xs) ≡ bits x + sum_by bits xs = sum_by-cons bits x xs in
-    let parts : sum_by (λ (y : X). bits y / 8) (x ∷ xs) ≡ bits x / 8 + sum_by (λ (y : X). bits y / 8) xs = sum_by-cons (λ (y : X). bits y / 8) x xs in
-    omega arith
+    let later = sum_of_bytes bits xs (All-tail (λ (y : X). bits y % 8 ≡ 0) x xs h) in
+    omega (arith, All-head (λ (y : X). bits y % 8 ≡ 0) x xs h, sum_by-cons bits x xs, sum_by-cons (λ (y : X). bits y / 8) x xs)
 
 -- things of whole bytes, none empty, with 8 bits together are one
 pub one_of_eight : {X : Type 0} (bits : X → ℕ) (xs : List X) → All (λ x. 0 < bits x) xs → All (λ x. bits x % 8 ≡ 0) xs → sum_by bits xs ≡ 8 → length xs ≡ 1
 one_of_eight {X} bits [] some whole e = let none : sum_by {X = X} bits [] ≡ 8 = e in let never : ⊥ = omega arith in absurd never
 one_of_eight bits (x ∷ []) some whole e = refl
 one_of_eight {X} bits (x ∷ y ∷ xs) some whole e =
-    let later = All-tail (λ (z : X). 0 < bits z) x (y ∷ xs) some in
-    let rest = All-tail (λ (z : X). bits z % 8 ≡ 0) x (y ∷ xs) whole in
-    let one : 0 < bits x = All-head (λ (z : X). 0 < bits z) x (y ∷ xs) some in
-    let two : 0 < bits y = All-head (λ (z : X). 0 < bits z) y xs later in
-    let bytes : bits x % 8 ≡ 0 = All-head (λ (z : X). bits z % 8 ≡ 0) x (y ∷ xs) whole in
-    let bytes' : bits y % 8 ≡ 0 = All-head (λ (z : X). bits z % 8 ≡ 0) y xs rest in
-    let step : sum_by bits (x ∷ y ∷ xs) ≡ bits x + sum_by bits (y ∷ xs) = sum_by-cons bits x (y ∷ xs) in
-    let step' : sum_by bits (y ∷ xs) ≡ bits y + sum_by bits xs = sum_by-cons bits y xs in
-    let never : ⊥ = omega arith in
-    absurd never
+    let one : 0 < bits x = some 0 x (omega arith) in
+    let two : 0 < bits y = some 1 x (omega arith) in
+    let bytes : bits x % 8 ≡ 0 = whole 0 x (omega arith) in
+    let bytes' : bits y % 8 ≡ 0 = whole 1 x (omega arith) in
+    absurd (omega (arith, sum_by-cons bits x (y ∷ xs), sum_by-cons bits y xs))
 
 pub map-reverse : {X Y : Type 0} (f : X → Y) (xs : List X) → map f (reverse xs) ≡ reverse (map f xs)
 map-reverse f [] = refl

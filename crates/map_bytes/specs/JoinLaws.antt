@@ -1,6 +1,6 @@
 -- The pieces of a cell's bytes, joined, are the places of the cell.
 use Rattle.std.specs.Prelude.{◌≡◌, ℕ, ◌+◌, ◌-◌, ◌*◌, ◌%◌, ◌^◌, ◌<◌, ◌≤◌, List, [], ◌++◌, map, length, get_or, All}
-use Rattle.map_bytes.specs.Imports.{sym, ap, ◌∙◌, subst, arith, flat_map, range_with_len, map-map, flat_map-append, All-nil, All-append, Owner, Bit, field, renamed, byte_cells, bytesplit, IsPiece, IsLocated, owners_in, same_ranges, range_split, bits_located, located, pieces_weaker, relabel_spelled, Piece}
+use Rattle.map_bytes.specs.Imports.{sym, ap, ◌∙◌, subst, arith, flat_map, range_with_len, map-map, flat_map-append, All-nil, All-append, Owner, Bit, field, renamed, byte_cells, bytesplit, IsLocated, owners_in, same_ranges, range_split, bits_located, located, relabel_spelled, Piece}
 use Rattle.map_bytes.specs.CutLaws.{one_of_eight}
 
 -- no bits, no pieces
@@ -23,9 +23,8 @@ join_located layout s c a b xs ys h spelled some bound bytes start =
     ∙ sym (range_split (Bit s c) 0 a (a + b) fits
     ∙ ap (λ (x : ℕ). map (Bit s c) (range_with_len 0 a) ++ map (Bit s c) (range_with_len x (a + b - a))) front
     ∙ ap (λ (x : ℕ). map (Bit s c) (range_with_len 0 a) ++ map (Bit s c) (range_with_len a x)) rest))
-    (All-append (λ (p : Piece). 0 < p.bits) xs ys (pieces_weaker (IsPiece layout) (λ (p : Piece). 0 < p.bits) xs (λ piece i. i.some) h.each) some)
-    (All-append (λ (p : Piece). p.bit + p.bits < 2 ^ 64) xs ys
-    (pieces_weaker (IsPiece layout) (λ (p : Piece). p.bit + p.bits < 2 ^ 64) xs (λ piece i. i.bound) h.each) bound)
+    (All-append (λ (p : Piece). 0 < p.bits) xs ys (λ k d l. (h.each k d l).some) some)
+    (All-append (λ (p : Piece). p.bit + p.bits < 2 ^ 64) xs ys (λ k d l. (h.each k d l).bound) bound)
     (λ e. All-append (λ (p : Piece). p.bits % 8 ≡ 0) xs ys (h.bytes start) bytes)
 
 module _ (layout : List (List Owner)) (ws : List ℕ) (s c j n : ℕ) (at : get_or (byte_cells ws) n (0, 0) ≡ (c, j)) where
@@ -46,14 +45,10 @@ module _ (layout : List (List Owner)) (ws : List ℕ) (s c j n : ℕ) (at : get_
       let eight : 8 % 8 ≡ 0 = omega arith in
       let start : (8 * j) % 8 ≡ 0 = omega arith in
       subst (λ (w : ℕ). IsLocated (bytesplit ws layout) s c w (xs ++ ys)) next
-      (join_located (bytesplit ws layout) s c (8 * j) 8 xs ys h spelled
-      (pieces_weaker (IsPiece layout) (λ (p : Piece). 0 < p.bits) ys (λ piece i. i.some) g.each)
-      (pieces_weaker (IsPiece layout) (λ (p : Piece). p.bit + p.bits < 2 ^ 64) ys (λ piece i. i.bound) g.each)
-      (g.bytes eight) start)
+      (join_located (bytesplit ws layout) s c (8 * j) 8 xs ys h spelled (λ k d l. (g.each k d l).some) (λ k d l. (g.each k d l).bound) (g.bytes eight) start)
 
 -- a byte lies in one piece
 pub byte_alone : (layout : List (List Owner)) (s n : ℕ) (pieces : List Piece) → IsLocated layout s n 8 pieces → length pieces ≡ 1
 byte_alone layout s n pieces h =
     let eight : 8 % 8 ≡ 0 = omega arith in
-    one_of_eight (λ (p : Piece). p.bits) pieces (pieces_weaker (IsPiece layout) (λ (p : Piece). 0 < p.bits) pieces (λ piece i. i.some) h.each)
-    (h.bytes eight) (bits_located layout (Bit s n) 0 8 pieces h.spelled)
+    one_of_eight (λ (p : Piece). p.bits) pieces (λ k d l. (h.each k d l).some) (h.bytes eight) (bits_located layout (Bit s n) 0 8 pieces h.spelled)

@@ -23,26 +23,25 @@ module _ (layout : List (List Owner)) (n : ℕ) (ws : List ℕ) (laid : IsLaidOu
   moved s c k h = record { slot_in = h.slot_in; cell_in = h.cell_in; bit_in = bit_inside (get_or ws c 0) k (whole_at c h.cell_in) h.bit_in }
 
   -- the names go the same way back
+  named_bit : (s c k s' c' k' : ℕ) → IsBitOf n ws s c k → named s c k ≡ Bit s' c' k' → IsBitOf n ws s' c' k' × (s ≡ s') × (c ≡ c') × (k ≡ swapped_bit (get_or ws c' 0) k')
+  named_bit s c k s' c' k' h e =
+      let slots : s ≡ s' = cc in
+      let cells : c ≡ c' = cc in
+      let bits : swapped_bit (get_or ws c 0) k ≡ k' = cc in (
+        subst (λ (x : ℕ). IsBitOf n ws x c' k') slots
+            (subst (λ (x : ℕ). IsBitOf n ws s x k') cells (subst (λ (x : ℕ). IsBitOf n ws s c x) bits (moved s c k h))),
+        slots,
+        cells,
+        sym (swapped_twice (get_or ws c 0) k (whole_at c h.cell_in) h.bit_in)
+            ∙ ap (swapped_bit (get_or ws c 0)) bits ∙ ap (λ (x : ℕ). swapped_bit (get_or ws x 0) k') cells,
+      )
+
   back : Back (IsBitOf n ws) (IsBitOf n ws) named (λ s c k. s) (λ s c k. c) (λ s c k. swapped_bit (get_or ws c 0) k)
   back = record {
     from = moved;
     to = λ s c k h. ap (λ (b : ℕ). Bit s c b) (swapped_twice (get_or ws c 0) k (whole_at c h.cell_in) h.bit_in);
-    out = λ s c k s' c' k' h e.
-        let slots : s ≡ s' = cc in
-        let cells : c ≡ c' = cc in
-        let bits : swapped_bit (get_or ws c 0) k ≡ k' = cc in
-        subst (λ (x : ℕ). IsBitOf n ws x c' k') slots
-        (subst (λ (x : ℕ). IsBitOf n ws s x k') cells (subst (λ (x : ℕ). IsBitOf n ws s c x) bits (moved s c k h)));
-    back = λ s c k s' c' k' h e.
-        let slots : s ≡ s' = cc in
-        let cells : c ≡ c' = cc in
-        let bits : swapped_bit (get_or ws c 0) k ≡ k' = cc in (
-          slots,
-          cells,
-          sym (swapped_twice (get_or ws c 0) k (whole_at c h.cell_in) h.bit_in)
-              ∙ ap (swapped_bit (get_or ws c 0)) bits
-              ∙ ap (λ (x : ℕ). swapped_bit (get_or ws x 0) k') cells,
-        );
+    out = λ s c k s' c' k' h e. (named_bit s c k s' c' k' h e).0;
+    back = λ s c k s' c' k' h e. let r = named_bit s c k s' c' k' h e in (r.1, r.2, r.3);
   }
 
   pub byteswap_laid : IsLaidOut (byteswap ws layout) n ws

@@ -1,7 +1,7 @@
 -- What the proofs of this crate speak of.
-pub use Rattle.record_dim.specs.Std.{◌≡◌, ℕ, ◌+◌, ◌-◌, ◌*◌, ◌/◌, ◌%◌, ◌^◌, ◌<◌, ◌≤◌, ◌⊎◌, ⊎_elim, List, [], ◌∷◌, map, length, sum_by, get_or, slice_index, refl, sym, ap, ◌∙◌, subst, arith, zero, suc, inl, inr, All, ◌++◌, replicate, take, drop, length-append, get_or_read, get_or-map, length-map, take_more, take_all, take-append-drop, get_or_append_left, get_or-append-add, get_or_push, get_or_default, get_or-le-sum_by, sum_by-cons, flat_map, cases_lt, length-enumerate_from, get_or-enumerate_from, common_steps}
+pub use Rattle.record_dim.specs.Std.{◌≡◌, ℕ, ◌+◌, ◌-◌, ◌*◌, ◌/◌, ◌%◌, ◌^◌, ◌<◌, ◌≤◌, ◌⊎◌, ⊎_elim, List, [], ◌∷◌, map, length, sum_by, get_or, slice_index, refl, sym, ap, ◌∙◌, arith, zero, suc, inl, inr, All, ◌++◌, take, drop, length-append, get_or_read, get_or-map, length-map, take_all, take-append-drop, get_or_append_left, get_or-append-add, get_or_push, get_or_default, get_or-le-sum_by, sum_by-cons, flat_map, cases_lt, length-enumerate_from, common_steps}
 pub use Rattle.record_dim.specs.Prelude.{width_of}
-pub use Rattle.places.specs.Prelude.{Owner, Bit, owner_at, cells_of, array, Pad, field, padded_to, IsLocated, widths_of, full_holds, cell_width, width_read, member_width, length-widths, within_blobs, within_blob, one_piece, soa_layout, length-field, field_at, within, Member, IsWidth, widths_are, width_whole, length-parts, slot_at, stacked, up, stacked_push, stacked_append, stacked_take, stacked_bytes, length-padded, flat_stacked, begins_fit, one_lane, dense_array}
+pub use Rattle.places.specs.Prelude.{Owner, Bit, owner_at, cells_of, array, Pad, padded_to, IsLocated, widths_of, full_holds, cell_width, width_read, member_width, length-widths, soa_layout, within, Member, IsWidth, widths_are, width_whole, stacked, up, stacked_push, stacked_append, stacked_take, stacked_bytes, length-padded, flat_stacked, one_lane, dense_array, array_at, cells_more, hold_read, length-array, length-cells, listed_at, one_blob_bytes, rule_fits, run_end, whole_located, rule_located}
 pub use Rattle.places.specs.declared.piece.Cell.{Cell}
 pub use Rattle.places.specs.declared.piece.Hold.{Hold}
 pub use Rattle.places.specs.declared.piece.Piece.{Piece}

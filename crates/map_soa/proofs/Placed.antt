@@ -1,24 +1,13 @@
 -- How the arrays are laid out, cell after cell.
-use Rattle.map_soa.proofs.Imports.{◌≡◌, ℕ, zero, suc, inl, inr, All, ◌+◌, ◌-◌, ◌*◌, ◌%◌, ◌<◌, ◌≤◌, ⊎_elim, List, [], ◌∷◌, ◌++◌, map, length, sum_by, replicate, get_or, take, drop, slice_index, refl, sym, ap, ◌∙◌, arith, length-append, flat_map, cases_lt, take_more, take_all, take-append-drop, get_or_append_left, get_or-append-add, get_or_push, get_or_default, get_or-map, length-map, length-enumerate_from, get_or-enumerate_from, sum_by-cons, width_of, Owner, Pad, Bit, owner_at, cells_of, field, array, padded_to, widths_of, Cell, length-field, field_at, within, Member, IsWidth, widths_are, member_width, length-parts, slot_at, stacked, up, stacked_push, stacked_append, stacked_take, stacked_bytes, length-padded, flat_stacked, soa_layout, LieInArrays, blob_of, alignment, in_blob, laid_arrays, single_blob, aligned_blob, array_bytes, keeps_alignment, SoaForm, Single, Aligned, Multi}
-
--- the array of one cell: its length, and its places
-pub length-array : (slots c w : ℕ) → length (array slots (c, w)) ≡ slots * w
-length-array slots c w = length-parts (λ slot. field slot (c, w)) w (λ s. length-field s c w) 0 slots
-
-pub array_at : (slots c w slot bit : ℕ) → slot < slots → bit < w → get_or (array slots (c, w)) (slot * w + bit) Pad ≡ Bit slot c bit
-array_at slots c w slot bit slot_in bit_in = grind (arith, slot_at, length-field, field_at)
+use Rattle.map_soa.proofs.Imports.{◌≡◌, ℕ, zero, suc, inl, inr, All, ◌+◌, ◌-◌, ◌*◌, ◌%◌, ◌<◌, ◌≤◌, ⊎_elim, List, [], ◌∷◌, ◌++◌, map, length, sum_by, get_or, take, drop, slice_index, refl, sym, ap, ◌∙◌, arith, length-append, flat_map, cases_lt, take_all, take-append-drop, get_or_append_left, get_or-append-add, get_or_push, get_or-map, sum_by-cons, width_of, Owner, Pad, Bit, owner_at, cells_of, array, padded_to, widths_of, Cell, within, Member, IsWidth, widths_are, member_width, stacked, up, stacked_push, stacked_append, stacked_take, stacked_bytes, length-padded, flat_stacked, soa_layout, LieInArrays, blob_of, alignment, in_blob, laid_arrays, single_blob, aligned_blob, array_bytes, keeps_alignment, SoaForm, Single, Aligned, Multi, array_at, cells_more, length-array, length-cells, length-widths, listed_at}
 
 -- what lies behind lists leaves them as they are
 stacked_keeps : (align : ℕ → ℕ) (f : ℕ × ℕ → List Owner) (front : List Owner) (cells : List (ℕ × ℕ)) (p : ℕ) → p < length front
     → get_or (stacked align f front cells) p Pad ≡ get_or front p Pad
 stacked_keeps align f front [] p l = refl
 stacked_keeps align f front (cell ∷ cells) p l =
-    let a : ℕ = align cell.1 in
-    let pads : List Owner = replicate ((a - length front % a) % a) Pad in
-    let padded : List Owner = padded_to a front in
-    let more : length padded ≡ length front + length pads = length-append front pads in
-    let all : length (padded ++ f cell) ≡ length padded + length (f cell) = length-append padded (f cell) in
-    grind (arith, get_or_append_left, (stacked_keeps align f (padded ++ f cell) cells p (omega arith)))
+    let padded : List Owner = padded_to (align cell.1) front in
+    grind (arith, get_or_append_left, length-append, (stacked_keeps align f (padded ++ f cell) cells p (omega (arith, length-padded (align cell.1) front, length-append padded (f cell)))))
 
 -- the place of a list among all: the next multiple of its alignment behind the lists before it
 stacked_at : (align : ℕ → ℕ) (f : ℕ × ℕ → List Owner) (cells : List (ℕ × ℕ)) (i : ℕ) (c w j : ℕ)
@@ -36,19 +25,6 @@ stacked_at align f cells i c w j step l =
     let place : ℕ = up (align w) (length before) + j in
     grind (arith, get_or, stacked_keeps, get_or-append-add)
 
--- the numbered cells, one by one
-pub length-cells : (widths : List ℕ) → length (cells_of widths) ≡ length widths
-length-cells widths = length-enumerate_from 0 widths
-
-pub cell_at : (widths : List ℕ) (i : ℕ) (d : ℕ × ℕ) → i < length widths → get_or (cells_of widths) i d ≡ (i, slice_index widths i)
-cell_at widths i d inside = grind (arith, get_or, get_or-enumerate_from, slice_index, get_or_default)
-
-pub cells_more : (widths : List ℕ) (i : ℕ) → i < length widths → take (i + 1) (cells_of widths) ≡ take i (cells_of widths) ++ (i, slice_index widths i) ∷ []
-cells_more widths i inside =
-    let size : length (cells_of widths) ≡ length widths = length-cells widths in
-    take_more (cells_of widths) i (0, 0) (omega arith)
-    ∙ ap (λ (cell : ℕ × ℕ). take i (cells_of widths) ++ cell ∷ []) (cell_at widths i (0, 0) inside)
-
 -- where the array of a cell begins, with all arrays behind one another
 abbrev begin_of : SoaForm → ℕ → List ℕ → ℕ → ℕ
 begin_of form slots widths cell = up (alignment form (slice_index widths cell)) (length (laid_arrays form slots (take cell (cells_of widths))))
@@ -59,35 +35,24 @@ pub record IsPlaced (form : SoaForm) (slots : ℕ) (widths : List ℕ) (count : 
   pub each : length offsets ≡ count
   pub here : (cell : ℕ) → cell < count → slice_index offsets cell ≡ in_blob form (begin_of form slots widths cell)
 
--- one cell more
-pub placed_more : (form : SoaForm) (slots : ℕ) (widths : List ℕ) (i : ℕ) (offsets : List ℕ) (end w begin offset : ℕ) → i < length widths
-    → w ≡ slice_index widths i → begin ≡ up (alignment form w) end → offset ≡ in_blob form begin
-    → IsPlaced form slots widths i offsets end → IsPlaced form slots widths (i + 1) (offsets ++ offset ∷ []) (begin + slots * w)
-placed_more form slots widths i offsets end w begin offset inside width b o h =
-    let v : ℕ = slice_index widths i in
-    let before : List Owner = laid_arrays form slots (take i (cells_of widths)) in
-    let padded : List Owner = padded_to (alignment form v) before in
-    let new : List Owner = laid_arrays form slots (take (i + 1) (cells_of widths)) in
-    let new_is : new ≡ padded ++ array slots (i, v) =
-    ap (laid_arrays form slots) (cells_more widths i inside) ∙ stacked_push (alignment form) (array slots) [] (take i (cells_of widths)) (i, v) in
-    let padded_size : length padded ≡ begin_of form slots widths i = length-padded (alignment form v) before in
-    let both : length (padded ++ array slots (i, v)) ≡ length padded + length (array slots (i, v)) = length-append padded (array slots (i, v)) in
-    let one : length (array slots (i, v)) ≡ slots * v = length-array slots i v in
-    let product : slots * w ≡ slots * v = ap (λ (x : ℕ). slots * x) width in
-    let long : length new ≡ length (padded ++ array slots (i, v)) = ap (λ (owners : List Owner). length owners) new_is in
-    let count : length (offsets ++ offset ∷ []) ≡ length offsets + 1 = length-append offsets (offset ∷ []) in
-    let was : length offsets ≡ i = h.each in grind (arith, ⊎_elim, get_or_append_left, slice_index, get_or_push, cases_lt)
+-- one cell more, as the code reads it
+pub placed_next : (form : SoaForm) (slots : ℕ) (cells : List Cell) (i : ℕ) (d : Cell) (offsets : List ℕ) (end width align begin offset : ℕ) → i < length cells
+    → width ≡ width_of (get_or cells i d).kind → align ≡ alignment form width → begin ≡ end + (align - end % align) % align → offset ≡ in_blob form begin
+    → IsPlaced form slots (widths_of cells) i offsets end → IsPlaced form slots (widths_of cells) (i + 1) (offsets ++ offset ∷ []) (begin + slots * width)
+placed_next form slots cells i d offsets end width align begin offset inside w a b o h =
+    let v : ℕ = slice_index (widths_of cells) i in
+    let low : i < length (widths_of cells) = omega (arith, length-widths cells) in
+    let same : width ≡ v = w ∙ sym (get_or-map (λ (cell : Cell). width_of cell.kind) cells i d 0 inside) in
+    let new_is = ap (laid_arrays form slots) (cells_more (widths_of cells) i low) ∙ stacked_push (alignment form) (array slots) [] (take i (cells_of (widths_of cells))) (i, v) in
+    let product : slots * width ≡ slots * v = ap (λ (x : ℕ). slots * x) same in
+    let place : begin ≡ up (alignment form v) end = b ∙ ap (λ (n : ℕ). up n end) (a ∙ ap (alignment form) same) in
+    grind (arith, length-padded, length-array, length-append, ⊎_elim, get_or_append_left, slice_index, get_or_push, cases_lt)
 
 -- a blob for each array has as many bits as one blob for all
 arrays_size : (slots : ℕ) (cells : List (ℕ × ℕ)) → sum_by length (map (array slots) cells) ≡ length (flat_map (array slots) cells)
 arrays_size slots [] = refl
 arrays_size slots (cell ∷ cells) =
-    let rest : sum_by length (map (array slots) cells) ≡ length (flat_map (array slots) cells) = arrays_size slots cells in
-    let first : sum_by length (map (array slots) (cell ∷ cells)) ≡ length (array slots cell) + sum_by length (map (array slots) cells) =
-    sum_by-cons length (array slots cell) (map (array slots) cells) in
-    let both : length (array slots cell ++ flat_map (array slots) cells) ≡ length (array slots cell) + length (flat_map (array slots) cells) =
-    length-append (array slots cell) (flat_map (array slots) cells) in
-    omega arith
+    omega (arith, arrays_size slots cells, sum_by-cons length (array slots cell) (map (array slots) cells), length-append (array slots cell) (flat_map (array slots) cells))
 
 one_size : (layout : List (List Owner)) (blob : List Owner) → layout ≡ blob ∷ [] → sum_by length layout ≡ length blob
 one_size layout blob e = grind (arith, sum_by)
@@ -110,11 +75,8 @@ layout_at Aligned slots widths cell j inside l =
     ap (λ (layout : List (List Owner)). owner_at layout 0 (begin_of Aligned slots widths cell + j)) (aligned_blob slots widths)
     ∙ stacked_at (alignment Aligned) (array slots) (cells_of widths) cell cell (slice_index widths cell) j (cells_more widths cell inside) l
 layout_at Multi slots widths cell j inside l =
-    let size : length (cells_of widths) ≡ length widths = length-cells widths in
-    let place : 0 + j ≡ j = omega arith in
-    let blob : get_or (map (array slots) (cells_of widths)) cell [] ≡ array slots (cell, slice_index widths cell) =
-    get_or-map (array slots) (cells_of widths) cell (0, 0) [] (omega arith) ∙ ap (array slots) (cell_at widths cell (0, 0) inside) in
-    ap (λ (owners : List Owner). get_or owners (0 + j) Pad) blob ∙ ap (λ (p : ℕ). get_or (array slots (cell, slice_index widths cell)) p Pad) place
+    ap (λ (owners : List Owner). get_or owners (0 + j) Pad) (listed_at (array slots) widths cell [] inside)
+    ∙ ap (λ (p : ℕ). get_or (array slots (cell, slice_index widths cell)) p Pad) (omega arith)
 
 -- a cell of the first of some cells is one of them
 member_take : (cells : List (ℕ × ℕ)) (n c w : ℕ) → Member (take n cells) c w → Member cells c w
@@ -132,15 +94,16 @@ blob_bytes : (form : SoaForm) (begin : ℕ) → begin % 8 ≡ 0 → in_blob form
 blob_bytes form begin whole = grind arith
 
 -- all cells are laid out
-pub stored_all : (form : SoaForm) (slots : ℕ) (widths : List ℕ) (count : ℕ) (offsets : List ℕ) (end : ℕ) → All IsWidth widths → count ≡ length widths
-    → IsPlaced form slots widths count offsets end → LieInArrays form slots widths offsets end
-stored_all form slots widths count offsets end widths_are all h =
-    let size : length (cells_of widths) ≡ length widths = length-cells widths in
-    let whole : take count (cells_of widths) ≡ cells_of widths = take_all count (cells_of widths) (omega arith) in
+pub stored_cells : (form : SoaForm) (slots : ℕ) (cells : List Cell) (count : ℕ) (offsets : List ℕ) (end : ℕ) → count ≤ length cells → length cells ≤ count
+    → IsPlaced form slots (widths_of cells) count offsets end → LieInArrays form slots (widths_of cells) offsets end
+stored_cells form slots cells count offsets end low high h =
+    let widths : List ℕ = widths_of cells in
+    let all : count ≡ length widths = omega (arith, length-widths cells) in
+    let whole : take count (cells_of widths) ≡ cells_of widths = take_all count (cells_of widths) (omega (arith, length-cells widths)) in
     record {
       each = h.each ∙ all;
       bytes = λ cell inside.
-          ap (λ (n : ℕ). n % 8) (h.here cell (omega arith)) ∙ blob_bytes form (begin_of form slots widths cell) (begin_bytes form slots widths cell widths_are inside);
+          ap (λ (n : ℕ). n % 8) (h.here cell (omega arith)) ∙ blob_bytes form (begin_of form slots widths cell) (begin_bytes form slots widths cell (widths_are cells) inside);
       total = layout_size form slots widths ∙ ap (λ (cells : List (ℕ × ℕ)). length (laid_arrays form slots cells)) (sym whole) ∙ h.size;
       here = λ slot cell bit slot_in cell_in bit_in.
           let w : ℕ = slice_index widths cell in
@@ -149,18 +112,3 @@ stored_all form slots widths count offsets end widths_are all h =
           ∙ layout_at form slots widths cell (slot * w + bit) cell_in (within (array slots (cell, w)) (slot * w + bit) slot cell bit bit_here)
           ∙ bit_here;
     }
-
--- one cell more, as the code reads it
-pub placed_next : (form : SoaForm) (slots : ℕ) (cells : List Cell) (i : ℕ) (d : Cell) (offsets : List ℕ) (end width align begin offset : ℕ) → i < length cells
-    → width ≡ width_of (get_or cells i d).kind → align ≡ alignment form width → begin ≡ end + (align - end % align) % align → offset ≡ in_blob form begin
-    → IsPlaced form slots (widths_of cells) i offsets end → IsPlaced form slots (widths_of cells) (i + 1) (offsets ++ offset ∷ []) (begin + slots * width)
-placed_next form slots cells i d offsets end width align begin offset inside w a b o h =
-    let size : length (widths_of cells) ≡ length cells = length-map cells (λ (cell : Cell). width_of cell.kind) in
-    let same : width ≡ slice_index (widths_of cells) i = w ∙ sym (get_or-map (λ (cell : Cell). width_of cell.kind) cells i d 0 inside) in
-    placed_more form slots (widths_of cells) i offsets end width begin offset (omega arith) same (b ∙ ap (λ (n : ℕ). up n end) a) o h
-
-pub stored_cells : (form : SoaForm) (slots : ℕ) (cells : List Cell) (count : ℕ) (offsets : List ℕ) (end : ℕ) → count ≤ length cells → length cells ≤ count
-    → IsPlaced form slots (widths_of cells) count offsets end → LieInArrays form slots (widths_of cells) offsets end
-stored_cells form slots cells count offsets end low high h =
-    let size : length (widths_of cells) ≡ length cells = length-map cells (λ (cell : Cell). width_of cell.kind) in
-    stored_all form slots (widths_of cells) count offsets end (widths_are cells) (omega arith) h

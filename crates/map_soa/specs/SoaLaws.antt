@@ -1,7 +1,7 @@
 -- The laws of each form: each bit of each cell has one place, and each blob is whole bytes.
-use Rattle.std.specs.Prelude.{◌≡◌, ℕ, ◌%◌, ◌<◌, List, [], ◌∷◌, map, length, get_or, All, refl}
-use Rattle.record_dim.specs.Std.{sym, ap, ◌∙◌, subst, arith, All-cons, All-nil, All-map}
-use Rattle.places.specs.Prelude.{Owner, cells_of, field, array, single_soa, aligned_soa, IsBitOf, IsLaidOut, widths_of, full_holds, Has, has_same, has_range, has_field, length-field, Member, LaysOut, lays_out_same, has_blob, blobs_of_cells, laid_out, member_width, apart_enumerate, member_at, bit_of_cells, cells_of_bit, parts_bytes, stacked, flat_stacked, arrays_stacked, has_all_stacked, stacked_bytes, KeepsBytes, IsWidth, by_width, widths_are, widths_narrow, widths_wide, widths_full, keeps_one, keeps_width, soa_layout}
+use Rattle.std.specs.Prelude.{◌≡◌, ℕ, ◌%◌, List, [], ◌∷◌, map, length, get_or, All}
+use Rattle.record_dim.specs.Std.{sym, ap, subst, arith, All-cons, All-nil, All-map}
+use Rattle.places.specs.Prelude.{Owner, cells_of, array, single_soa, aligned_soa, IsBitOf, IsLaidOut, widths_of, full_holds, length-field, LaysOut, lays_out_same, has_blob, blobs_of_cells, member_width, apart_enumerate, member_at, parts_bytes, stacked, flat_stacked, arrays_stacked, has_all_stacked, stacked_bytes, KeepsBytes, IsWidth, by_width, widths_are, keeps_one, keeps_width, soa_layout, BitOfArray, arrays_of_bit, bit_of_arrays, has_array, whole_laid_out}
 use Rattle.places.specs.declared.piece.Cell.{Cell}
 use Rattle.places.specs.declared.piece.Hold.{Hold}
 use Rattle.map_soa.specs.Soa.{alignment}
@@ -18,34 +18,11 @@ single_blob slots widths = ap (λ (owners : List Owner). owners ∷ []) (sym (fl
 pub aligned_blob : (slots : ℕ) (widths : List ℕ) → aligned_soa slots widths ≡ laid_arrays Aligned slots (cells_of widths) ∷ []
 aligned_blob slots widths = ap (λ (owners : List Owner). owners ∷ []) (sym (arrays_stacked slots [] (cells_of widths)))
 
--- the bits of one array
-abbrev BitOfArray : ℕ → ℕ × ℕ → ℕ → ℕ → ℕ → Type 0
-BitOfArray slots cell s c k = (s < slots) × (c ≡ cell.0) × (k < cell.1)
-
-has_array : (slots c w : ℕ) → Has (BitOfArray slots (c, w)) (array slots (c, w))
-has_array slots c w =
-    let Own : ℕ → ℕ → ℕ → ℕ → Type 0 = λ slot s c' k. (s ≡ slot) × (c' ≡ c) × (k < w) in
-    let all = has_range (λ slot. field slot (c, w)) Own 0 slots
-    (λ i low high. has_field i c w)
-    (λ i j s c' k (one : Own i s c' k) (two : Own j s c' k). sym one.0 ∙ two.0) in grind (arith, has_same)
-
 pub array_bytes : (slots c w : ℕ) → IsWidth w → length (array slots (c, w)) % 8 ≡ 0
 array_bytes slots c w width = grind (arith, parts_bytes, length-field, by_width)
 
 pub keeps_alignment : (form : SoaForm) (w : ℕ) → IsWidth w → KeepsBytes (alignment form w)
 keeps_alignment form w h = grind (arith, keeps_one, keeps_width)
-
--- the bits of the cells' arrays are the bits of the slots' cells
-abbrev BitOfArrays : ℕ → List ℕ → ℕ → ℕ → ℕ → Type 0
-BitOfArrays slots widths s c k = (w : ℕ) × Member (cells_of widths) c w × BitOfArray slots (c, w) s c k
-
-bit_of_arrays : (slots : ℕ) (widths : List ℕ) (s c k : ℕ) → BitOfArrays slots widths s c k → IsBitOf slots widths s c k
-bit_of_arrays slots widths s c k h = bit_of_cells slots widths s c k h.2.0 (h.0, h.1, h.2.2)
-
-arrays_of_bit : (slots : ℕ) (widths : List ℕ) (s c k : ℕ) → IsBitOf slots widths s c k → BitOfArrays slots widths s c k
-arrays_of_bit slots widths s c k h =
-    let cell = cells_of_bit slots widths s c k h in
-    (cell.0, cell.1, (h.slot_in, refl, cell.2))
 
 -- each bit of each cell in each slot has one place
 arrays_lay_out : (form : SoaForm) (slots : ℕ) (widths : List ℕ) → LaysOut (IsBitOf slots widths) (laid_arrays form slots (cells_of widths) ∷ [])
@@ -82,7 +59,4 @@ soa_bytes Multi slots widths each =
 
 pub soa_laws : (form : SoaForm) (slots : ℕ) (cells : List Cell) → IsLaidOut (soa_layout form slots (widths_of cells)) slots (map (λ (h : Hold). h.width) (full_holds cells))
 soa_laws form slots cells =
-    let widths : List ℕ = widths_of cells in
-    let laid : IsLaidOut (soa_layout form slots widths) slots widths =
-    laid_out (soa_lays_out form slots widths) (soa_bytes form slots widths (widths_are cells)) (widths_narrow cells) (widths_wide cells) in
-    subst (IsLaidOut (soa_layout form slots widths) slots) (sym (widths_full cells)) laid
+    whole_laid_out (soa_layout form slots (widths_of cells)) slots cells (soa_lays_out form slots (widths_of cells)) (soa_bytes form slots (widths_of cells) (widths_are cells))

@@ -1,5 +1,5 @@
 -- What the proofs of this crate speak of.
-pub use Rattle.record_dim.specs.Std.{◌≡◌, ℕ, ◌<◌, Bool, true, false, List, map, length, get_or, slice_get, Some, ap, ◌∙◌, arith, not, length-map, slice_get-get_or, get_or_from_slice_get, take, common_steps, slice_index, subst}
+pub use Rattle.record_dim.specs.Std.{◌≡◌, ℕ, ◌<◌, Bool, true, false, List, map, length, get_or, slice_get, Some, ap, ◌∙◌, arith, not, length-map, slice_get-get_or, get_or_from_slice_get, take, common_steps, subst}
 pub use Rattle.std.specs.List.{count_by}
 pub use Rattle.places.specs.declared.piece.Hold.{Hold}
 pub use Rattle.map_split.specs.Sides.{merged, rank_first, rank_rest}

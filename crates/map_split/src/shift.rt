@@ -10,8 +10,7 @@ fn shifted_piece(piece: Piece, by: usize) -> Piece
 {
     Piece {
         blob: piece.blob + by,
-        bit: piece.bit,
-        bits: piece.bits,
+        ..piece
     }
 }
 

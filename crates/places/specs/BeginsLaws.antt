@@ -1,9 +1,10 @@
 -- Where pieces begin: within their type, and as the code works it out.
-use Rattle.std.specs.Prelude.{◌≡◌, ℕ, ◌+◌, ◌-◌, ◌*◌, ◌/◌, ◌%◌, ◌^◌, ◌<◌, List, length, get_or, All, bit_and}
+use Rattle.std.specs.Prelude.{◌≡◌, ℕ, ◌+◌, ◌-◌, ◌*◌, ◌/◌, ◌%◌, ◌^◌, ◌<◌, List, [], ◌∷◌, length, get_or, All, bit_and}
 use Rattle.record_dim.specs.Std.{w64, sym, ap, ◌∙◌, subst, arith, trailing_zeros, mod-eq_of_lt, pow-lt, length-map, get_or-map, and_mask, bit_at-trailing_zeros, rules}
 use Rattle.places.specs.Layout.{Owner}
 use Rattle.places.specs.Lawful.{IsPiece, IsLocated}
-use Rattle.places.specs.PieceRules.{begin_in, piece_in, pieces_in}
+use Rattle.places.specs.PieceRules.{AreRulesOf, begin_in, piece_in, pieces_in}
+use Rattle.places.specs.declared.piece.Piece.{Piece}
 use Rattle.places.specs.declared.rule.PieceRule.{PieceRule}
 
 -- pieces that are places of a layout begin at numbers that fit their type
@@ -15,6 +16,15 @@ begins_fit layout s c w slot rules located = λ k d inside.
     get_or-map (λ (rule : PieceRule). piece_in rule slot) rules k d (piece_in d slot) inside in
     let here : IsPiece layout (piece_in (get_or rules k d) slot) = subst (IsPiece layout) same (located.each k (piece_in d slot) (omega arith)) in
     omega arith
+
+-- the same of one rule
+pub rule_fits : (layout : List (List Owner)) (slots c w slot : ℕ) (rule : PieceRule) → AreRulesOf layout slots c w (rule ∷ []) → slot < slots → begin_in rule slot < 2 ^ 64
+rule_fits layout slots c w slot rule all inside = begins_fit layout slot c w slot (rule ∷ []) (all slot inside) 0 rule (omega arith)
+
+-- and the pieces of a slot are those of its one rule
+pub rule_located : (layout : List (List Owner)) (slots c w slot : ℕ) (rule : PieceRule) (pieces : List Piece) → AreRulesOf layout slots c w (rule ∷ []) → slot < slots
+    → pieces ≡ pieces_in (rule ∷ []) slot → IsLocated layout slot c w pieces
+rule_located layout slots c w slot rule pieces all inside same = subst (IsLocated layout slot c w) (sym same) (all slot inside)
 
 -- in blocks of one slot, slots follow each other a block apart
 pub one_lane : (base slot block lane : ℕ) → base + slot / 1 * block + slot % 1 * lane ≡ base + slot * block

@@ -1,6 +1,6 @@
 -- The widths of cells that are stored whole, as the laws and as the code write them.
 use Rattle.std.specs.Prelude.{◌≡◌, ℕ, ◌<◌, ◌≤◌, List, map, length, get_or, slice_index, All}
-use Rattle.record_dim.specs.Std.{arith, get_or-map, length-map}
+use Rattle.record_dim.specs.Std.{sym, arith, get_or-map, length-map}
 use Rattle.record_dim.specs.Prelude.{width_of}
 use Rattle.places.specs.Layout.{cells_of}
 use Rattle.places.specs.Holds.{widths_of, full_holds, hold_of}
@@ -40,3 +40,8 @@ cell_width cells cell width inside e = grind (arith, length-widths, slice_index,
 pub width_read : (cells : List Cell) (cell : ℕ) (found : Cell) (width : ℕ) → cell < length cells → found ≡ get_or cells cell found → width ≡ width_of found.kind
     → width ≡ slice_index (widths_of cells) cell
 width_read cells cell found width inside read w = grind (arith, get_or-map)
+
+-- and that of its hold
+pub hold_read : (cells : List Cell) (cell : ℕ) (found : Cell) (width : ℕ) → cell < length cells → found ≡ get_or cells cell found → width ≡ width_of found.kind
+    → width ≡ slice_index (map (λ (h : Hold). h.width) (full_holds cells)) cell
+hold_read cells cell found width inside read w = sym (cell_width cells cell width inside (width_read cells cell found width inside read w)).hold

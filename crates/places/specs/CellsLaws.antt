@@ -9,26 +9,11 @@ use Rattle.places.specs.ExactLaws.{Member, Apart}
 pub member_enumerate : (n : ℕ) (widths : List ℕ) (c w : ℕ) → Member (enumerate_from n widths) c w
     → (n ≤ c) × (c < n + length widths) × (w ≡ get_or widths (c - n) 0)
 member_enumerate n [] c w h = absurd h
-member_enumerate n (width ∷ widths) c w h =
-    ⊎_elim
-    (λ (here : (n ≡ c) × (width ≡ w)).
-    grind arith)
-    (λ (later : Member (enumerate_from (n + 1) widths) c w).
-    grind (arith, (member_enumerate (n + 1) widths c w later)))
-    h
+member_enumerate n (width ∷ widths) c w h = grind (arith, (member_enumerate (n + 1) widths c w))
 
 pub enumerate_member : (n : ℕ) (widths : List ℕ) (c : ℕ) → n ≤ c → c < n + length widths → Member (enumerate_from n widths) c (get_or widths (c - n) 0)
 enumerate_member n [] c low high = let none : ⊥ = omega arith in absurd none
-enumerate_member n (width ∷ widths) c low high =
-    ⊎_elim
-    (λ (same : n ≡ c).
-    grind arith)
-    (λ (other : n ≡ c → ⊥).
-    let later : n + 1 ≤ c = omega arith in
-    let place : suc (c - (n + 1)) ≡ c - n = omega arith in
-    let rest = enumerate_member (n + 1) widths c later (omega arith) in
-    inr (subst (λ (i : ℕ). Member (enumerate_from (n + 1) widths) c (get_or (width ∷ widths) i 0)) place rest))
-    (cases_eq n c)
+enumerate_member n (width ∷ widths) c low high = grind (arith, cases_eq, (enumerate_member (n + 1) widths c))
 
 pub apart_enumerate : (n : ℕ) (widths : List ℕ) → Apart (enumerate_from n widths)
 apart_enumerate n [] = tt

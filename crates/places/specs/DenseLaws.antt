@@ -1,6 +1,6 @@
 -- Pieces that lie one behind another.
 use Rattle.std.specs.Prelude.{◌≡◌, ℕ, ◌+◌, ◌*◌, ◌/◌, ◌%◌, ◌<◌}
-use Rattle.record_dim.specs.Std.{sym, ap, ◌∙◌, arith, div-mul-add, div-add-mod'}
+use Rattle.record_dim.specs.Std.{ap, ◌∙◌, arith, div-mul-add, div-add-mod'}
 use Rattle.places.specs.SlotsLaws.{times_bytes}
 use Rattle.places.specs.PieceRules.{begin_in, IsDense}
 use Rattle.places.specs.BeginsLaws.{one_lane}
@@ -36,11 +36,7 @@ pub dense_lanes : (rule : PieceRule) (lanes : ℕ) → rule.lanes ≡ lanes → 
 dense_lanes rule lanes same step base block bits = record {
   next = λ slot j l.
       let begins : (s : ℕ) → begin_in rule s ≡ rule.base + s / lanes * rule.block + s % lanes * rule.lane = λ s. ap (λ (n : ℕ). rule.base + s / n * rule.block + s % n * rule.lane) same in
-      let blocks : (slot + j) / lanes * rule.block ≡ slot / lanes * rule.block = ap (λ (n : ℕ). n * rule.block) (block_same slot j lanes l) in
-      let moved : (slot + j) % lanes * rule.lane ≡ (slot % lanes + j) * rule.lane = ap (λ (n : ℕ). n * rule.lane) (lane_more slot j lanes l) in
-      let last : j * rule.lane ≡ j * rule.bits = ap (λ (n : ℕ). j * n) step in
-      let all : rule.base + (slot + j) / lanes * rule.block + (slot + j) % lanes * rule.lane ≡ rule.base + slot / lanes * rule.block + slot % lanes * rule.lane + j * rule.bits = omega arith in
-      begins (slot + j) ∙ all ∙ ap (λ (n : ℕ). n + j * rule.bits) (sym (begins slot));
+      omega (arith, begins slot, begins (slot + j), ap (λ (n : ℕ). n * rule.block) (block_same slot j lanes l), ap (λ (n : ℕ). n * rule.lane) (lane_more slot j lanes l), ap (λ (n : ℕ). j * n) step);
   bytes = λ slot l.
       let one : (slot / lanes * rule.block) % 8 ≡ 0 = times_bytes (slot / lanes) rule.block block in
       let two : (slot % lanes * rule.lane) % 8 ≡ 0 = times_bytes (slot % lanes) rule.lane (ap (λ (n : ℕ). n % 8) step ∙ bits) in

@@ -1,6 +1,6 @@
 -- 'Exactly once', put together along the concatenations that make a layout, with no arithmetic on places.
 use Rattle.std.specs.Prelude.{◌≡◌, ℕ, zero, suc, ◌+◌, ◌-◌, ◌<◌, ◌≤◌, ◌⊎◌, List, [], ◌∷◌, ◌++◌, length, replicate, get_or, refl}
-use Rattle.record_dim.specs.Std.{inl, inr, ⊎_elim, sym, ◌∙◌, subst, arith, flat_map, range_with_len, cases_lt, get_or_append_left, get_or-append_right, get_or-append-add, get_or_past, get_or-replicate, length-replicate, get_or-map-range_with_len, length-map-range_with_len}
+use Rattle.record_dim.specs.Std.{inl, inr, ⊎_elim, sym, ap, ◌∙◌, subst, arith, flat_map, range_with_len, cases_lt, get_or_append_left, get_or-append_right, get_or-append-add, get_or_past, get_or-replicate, length-replicate, get_or-map-range_with_len, length-map-range_with_len}
 use Rattle.places.specs.Layout.{Owner, Pad, Bit, field}
 
 -- a list of owners has exactly the bits with `In`, each at one place
@@ -32,23 +32,14 @@ pub has_field : (slot cell width : ℕ) → Has (λ s c k. (s ≡ slot) × (c �
 has_field slot cell width =
     let place : (p s c k : ℕ) → get_or (field slot (cell, width)) p Pad ≡ Bit s c k → (s ≡ slot) × (c ≡ cell) × (k ≡ p) × (p < width) =
     λ p s c k (e : get_or (field slot (cell, width)) p Pad ≡ Bit s c k).
-    let inside : p < length (field slot (cell, width)) = within (field slot (cell, width)) p s c k e in
-    let size : length (field slot (cell, width)) ≡ width = length-field slot cell width in
-    let low : p < width = omega arith in
+    let low : p < width = omega (arith, within (field slot (cell, width)) p s c k e, length-field slot cell width) in
     let here : get_or (field slot (cell, width)) p Pad ≡ Bit slot cell p = field_at slot cell width p low in
-    let one : s ≡ slot = cc in
-    let two : c ≡ cell = cc in
-    let three : k ≡ p = cc in
-    (one, two, three, low) in
+    (cc, cc, cc, low) in
     record {
       owned = λ p s c k e. let f = place p s c k e in (f.0, f.1, omega arith);
-      once = λ p q s c k e e'. let one : k ≡ p = (place p s c k e).2 in let two : k ≡ q = (place q s c k e').2 in omega arith;
+      once = λ p q s c k e e'. omega (arith, (place p s c k e).2, (place q s c k e').2);
       there = λ s c k (h : (s ≡ slot) × (c ≡ cell) × (k < width)).
-          let here : get_or (field slot (cell, width)) k Pad ≡ Bit slot cell k = field_at slot cell width k h.2 in
-          let one : s ≡ slot = h.0 in
-          let two : c ≡ cell = h.1 in
-          let there : get_or (field slot (cell, width)) k Pad ≡ Bit s c k = cc in
-          (k, there);
+          (k, field_at slot cell width k h.2 ∙ ap (λ (x : ℕ). Bit x cell k) (sym h.0) ∙ ap (λ (x : ℕ). Bit s x k) (sym h.1));
     }
 
 -- the same bits under another description

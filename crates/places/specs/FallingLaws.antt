@@ -1,6 +1,6 @@
 -- Cells by falling width: the same cells, each once.
-use Rattle.std.specs.Prelude.{◌≡◌, ℕ, ◌<◌, Bool, true, false, ◌==◌, ◌⊎◌, List, [], ◌∷◌, ◌++◌, filter, refl}
-use Rattle.record_dim.specs.Std.{inl, inr, ⊎_elim, sym, subst, arith, lit<, flat_map, cases_Bool, cond-true, cond-false, eqb-true, eq-eqb}
+use Rattle.std.specs.Prelude.{◌≡◌, ℕ, Bool, true, ◌==◌, ◌⊎◌, List, [], ◌∷◌, ◌++◌, filter, refl}
+use Rattle.record_dim.specs.Std.{inr, arith, flat_map, cases_Bool, cond-true, cond-false, eqb-true, eq-eqb, inl, ⊎_elim}
 use Rattle.places.specs.Layout.{falling}
 use Rattle.places.specs.ExactLaws.{Member, Apart}
 use Rattle.places.specs.WidthsLaws.{IsWidth}
@@ -8,30 +8,11 @@ use Rattle.places.specs.WidthsLaws.{IsWidth}
 -- which cells a filter keeps
 pub member_filter : (p : ℕ × ℕ → Bool) (cells : List (ℕ × ℕ)) (c w : ℕ) → Member (filter p cells) c w → Member cells c w × (p (c, w) ≡ true)
 member_filter p [] c w m = absurd m
-member_filter p (cell ∷ cells) c w m =
-    let Stands : List (ℕ × ℕ) → Type 0 = λ kept. Member kept c w in
-    ⊎_elim
-    (λ (yes : p cell ≡ true).
-    ⊎_elim
-    (λ (x : (cell.0 ≡ c) × (cell.1 ≡ w)).
-    grind arith)
-    (λ (x : Member (filter p cells) c w). let r = member_filter p cells c w x in (inr r.0, r.1))
-    (subst Stands (cond-true (p cell) (cell ∷ filter p cells) (filter p cells) yes) m))
-    (λ (other : p cell ≡ false).
-    let r = member_filter p cells c w (subst Stands (cond-false (p cell) (cell ∷ filter p cells) (filter p cells) other) m) in
-    (inr r.0, r.1))
-    (cases_Bool (p cell))
+member_filter p (cell ∷ cells) c w m = grind (arith, cond-true, cond-false, cases_Bool, (member_filter p cells c w))
 
 pub filter_member : (p : ℕ × ℕ → Bool) (cells : List (ℕ × ℕ)) (c w : ℕ) → Member cells c w → p (c, w) ≡ true → Member (filter p cells) c w
 filter_member p [] c w m passes = absurd m
-filter_member p (cell ∷ cells) c w m passes =
-    ⊎_elim
-    (λ (x : (cell.0 ≡ c) × (cell.1 ≡ w)).
-    grind (arith, cond-true))
-    (λ (x : Member cells c w).
-    let rest : Member (filter p cells) c w = filter_member p cells c w x passes in
-    grind (arith, cond-true, cond-false, cases_Bool))
-    m
+filter_member p (cell ∷ cells) c w m passes = grind (arith, cond-true, cond-false, cases_Bool, (filter_member p cells c w))
 
 pub apart_filter : (p : ℕ × ℕ → Bool) (cells : List (ℕ × ℕ)) → Apart cells → Apart (filter p cells)
 apart_filter p [] apart = apart
@@ -42,17 +23,11 @@ apart_filter p (cell ∷ cells) apart =
 -- which cells joined lists have
 pub member_append : (xs ys : List (ℕ × ℕ)) (c w : ℕ) → Member (xs ++ ys) c w → Member xs c w ⊎ Member ys c w
 member_append [] ys c w m = inr m
-member_append (x ∷ xs) ys c w m =
-    ⊎_elim
-    (λ (here : (x.0 ≡ c) × (x.1 ≡ w)). inl (inl here))
-    (λ (later : Member (xs ++ ys) c w).
-    ⊎_elim (λ (l : Member xs c w). inl (inr l)) (λ (r : Member ys c w). inr r) (member_append xs ys c w later))
-    m
+member_append (x ∷ xs) ys c w m = grind (arith, (member_append xs ys c w))
 
 pub append_member_left : (xs ys : List (ℕ × ℕ)) (c w : ℕ) → Member xs c w → Member (xs ++ ys) c w
 append_member_left [] ys c w m = absurd m
-append_member_left (x ∷ xs) ys c w m =
-    ⊎_elim (λ (here : (x.0 ≡ c) × (x.1 ≡ w)). inl here) (λ (later : Member xs c w). inr (append_member_left xs ys c w later)) m
+append_member_left (x ∷ xs) ys c w m = grind (arith, (append_member_left xs ys c w))
 
 pub append_member_right : (xs ys : List (ℕ × ℕ)) (c w : ℕ) → Member ys c w → Member (xs ++ ys) c w
 append_member_right [] ys c w m = m
@@ -84,54 +59,23 @@ picked cells ws = flat_map (λ width. filter (λ cell. cell.1 == width) cells) w
 -- a cell has one width
 pub one_width : (cells : List (ℕ × ℕ)) (c v w : ℕ) → Apart cells → Member cells c v → Member cells c w → v ≡ w
 one_width [] c v w apart one two = absurd one
-one_width (cell ∷ cells) c v w apart one two =
-    ⊎_elim
-    (λ (x : (cell.0 ≡ c) × (cell.1 ≡ v)).
-    grind arith)
-    (λ (x : Member cells c v).
-    ⊎_elim
-    (λ (y : (cell.0 ≡ c) × (cell.1 ≡ w)). absurd (apart.0 v (subst (λ (a : ℕ). Member cells a v) (sym y.0) x)))
-    (λ (y : Member cells c w). one_width cells c v w apart.1 x y)
-    two)
-    one
+one_width (cell ∷ cells) c v w apart one two = grind (arith, (one_width cells c v w apart.1))
 
 pub member_picked : (cells : List (ℕ × ℕ)) (ws : List ℕ) (c w : ℕ) → Member (picked cells ws) c w → Member cells c w × Listed ws w
 member_picked cells [] c w m = absurd m
-member_picked cells (width ∷ ws) c w m =
-    ⊎_elim
-    (λ (here : Member (filter (λ cell. cell.1 == width) cells) c w).
-    grind (arith, member_filter, eqb-true))
-    (λ (later : Member (picked cells ws) c w). let r = member_picked cells ws c w later in (r.0, inr r.1))
-    (member_append (filter (λ cell. cell.1 == width) cells) (picked cells ws) c w m)
+member_picked cells (width ∷ ws) c w m = grind (arith, member_append, member_filter, eqb-true, (member_picked cells ws c w))
 
 pub picked_member : (cells : List (ℕ × ℕ)) (ws : List ℕ) (c w : ℕ) → Member cells c w → Listed ws w → Member (picked cells ws) c w
 picked_member cells [] c w m listed = absurd listed
-picked_member cells (width ∷ ws) c w m listed =
-    ⊎_elim
-    (λ (here : width ≡ w).
-    grind (arith, append_member_left, filter_member, eq-eqb))
-    (λ (later : Listed ws w).
-    append_member_right (filter (λ cell. cell.1 == width) cells) (picked cells ws) c w (picked_member cells ws c w m later))
-    listed
+picked_member cells (width ∷ ws) c w m listed = grind (arith, append_member_left, append_member_right, filter_member, eq-eqb, (picked_member cells ws c w m))
 
 pub apart_picked : (cells : List (ℕ × ℕ)) (ws : List ℕ) → Apart cells → Distinct ws → Apart (picked cells ws)
 apart_picked cells [] apart distinct = tt
 apart_picked cells (width ∷ ws) apart distinct = grind (arith, apart_append, apart_filter, member_filter, member_picked, one_width, eqb-true, (apart_picked cells ws apart distinct.1))
 
--- a number stands not among smaller ones
-fresh_nil : (x : ℕ) → Listed [] x → ⊥
-fresh_nil x l = l
-
-fresh_cons : (y : ℕ) (xs : List ℕ) (x : ℕ) → y < x → (Listed xs x → ⊥) → Listed (y ∷ xs) x → ⊥
-fresh_cons y xs x small fresh l = ⊎_elim (λ (e : y ≡ x). omega arith) fresh l
-
 -- cells of whole-byte widths by falling width
 pub apart_falling : (cells : List (ℕ × ℕ)) → Apart cells → Apart (falling cells)
-apart_falling cells apart =
-    let two : Listed (16 ∷ 8 ∷ []) 32 → ⊥ = fresh_cons 16 (8 ∷ []) 32 (lit< tt) (fresh_cons 8 [] 32 (lit< tt) (fresh_nil 32)) in
-    let three : Listed (32 ∷ 16 ∷ 8 ∷ []) 64 → ⊥ =
-    fresh_cons 32 (16 ∷ 8 ∷ []) 64 (lit< tt) (fresh_cons 16 (8 ∷ []) 64 (lit< tt) (fresh_cons 8 [] 64 (lit< tt) (fresh_nil 64))) in
-    apart_picked cells (64 ∷ 32 ∷ 16 ∷ 8 ∷ []) apart (three, (two, ((fresh_cons 8 [] 16 (lit< tt) (fresh_nil 16)), (fresh_nil 8, tt))))
+apart_falling cells apart = apart_picked cells (64 ∷ 32 ∷ 16 ∷ 8 ∷ []) apart (grind arith)
 
 pub member_falling : (cells : List (ℕ × ℕ)) (c w : ℕ) → Member (falling cells) c w → Member cells c w
 member_falling cells c w m = (member_picked cells (64 ∷ 32 ∷ 16 ∷ 8 ∷ []) c w m).0

@@ -21,5 +21,6 @@ pub mod TouchedLaws
 pub mod WidthsLaws
 pub mod PieceRules
 pub mod BeginsLaws
+pub mod PartsLaws
 pub mod DenseLaws
 pub mod Prelude

@@ -1,8 +1,8 @@
 -- The bit that an owner has, among bits that lie under a layout.
-use Rattle.std.specs.Prelude.{◌≡◌, ℕ, ◌+◌, true, false, ◌⊎◌, List, [], ◌∷◌, get_or, refl}
-use Rattle.record_dim.specs.Std.{inl, inr, ⊎_elim, arith, cases_Bool, both_ways, cond-true}
+use Rattle.std.specs.Prelude.{◌≡◌, ℕ, ◌+◌, ◌⊎◌, List, [], ◌∷◌, get_or, refl}
+use Rattle.record_dim.specs.Std.{inr, arith, cases_Bool, both_ways, cond-true, cond-false}
 use Rattle.places.specs.Layout.{Owner, Pad, Bit, owner_at}
-use Rattle.places.specs.Image.{same_owner, bit_along, bit_owned}
+use Rattle.places.specs.Image.{bit_along, bit_owned}
 use Rattle.places.specs.Lawful.{IsLaidOut}
 
 -- a bit stands at some place of one blob, or at none
@@ -13,19 +13,7 @@ FoundAlong s c k blob bits rest =
 
 pub found_along : (s c k : ℕ) (blob : List Owner) (bits : ℕ → ℕ) (rest : ℕ) → FoundAlong s c k blob bits rest
 found_along s c k [] bits rest = inr ((λ p (e : Pad ≡ Bit s c k). cc), refl)
-found_along s c k (here ∷ owners) bits rest =
-    let next : ℕ → ℕ = λ p. bits (p + 1) in
-    ⊎_elim
-    (λ (yes : same_owner here (Bit s c k) ≡ true).
-    grind (arith, cond-true))
-    (λ (no' : same_owner here (Bit s c k) ≡ false).
-    ⊎_elim
-    (λ (found : (p : ℕ) × (get_or owners p Pad ≡ Bit s c k) × (bit_along (Bit s c k) owners next rest ≡ next p)).
-    grind arith)
-    (λ (none : ((p : ℕ) → get_or owners p Pad ≡ Bit s c k → ⊥) × (bit_along (Bit s c k) owners next rest ≡ rest)).
-    grind (arith, both_ways))
-    (found_along s c k owners next rest))
-    (cases_Bool (same_owner here (Bit s c k)))
+found_along s c k (here ∷ owners) bits rest = grind (arith, cond-true, cond-false, both_ways, cases_Bool, (found_along s c k owners (λ p. bits (p + 1)) rest))
 
 -- a bit stands at some place of the blobs, or at none
 abbrev pub FoundOwned : ℕ → ℕ → ℕ → List (List Owner) → (ℕ → ℕ → ℕ) → Type 0
@@ -35,19 +23,7 @@ FoundOwned s c k layout bits =
 
 pub found_owned : (s c k : ℕ) (layout : List (List Owner)) (bits : ℕ → ℕ → ℕ) → FoundOwned s c k layout bits
 found_owned s c k [] bits = inr ((λ b p (e : Pad ≡ Bit s c k). cc), refl)
-found_owned s c k (blob ∷ blobs) bits =
-    let next : ℕ → ℕ → ℕ = λ b. bits (b + 1) in
-    ⊎_elim
-    (λ (found : (p : ℕ) × (get_or blob p Pad ≡ Bit s c k) × (bit_owned (Bit s c k) (blob ∷ blobs) bits ≡ bits 0 p)).
-    inl (0, found.0, found.1, found.2))
-    (λ (none : ((p : ℕ) → get_or blob p Pad ≡ Bit s c k → ⊥) × (bit_owned (Bit s c k) (blob ∷ blobs) bits ≡ bit_owned (Bit s c k) blobs next)).
-    ⊎_elim
-    (λ (found : (b : ℕ) × (p : ℕ) × (owner_at blobs b p ≡ Bit s c k) × (bit_owned (Bit s c k) blobs next ≡ next b p)).
-    grind arith)
-    (λ (rest : ((b p : ℕ) → owner_at blobs b p ≡ Bit s c k → ⊥) × (bit_owned (Bit s c k) blobs next ≡ 0)).
-    grind arith)
-    (found_owned s c k blobs next))
-    (found_along s c k blob (bits 0) (bit_owned (Bit s c k) blobs next))
+found_owned s c k (blob ∷ blobs) bits = grind (arith, (found_owned s c k blobs (λ b. bits (b + 1))), (found_along s c k blob (bits 0) (bit_owned (Bit s c k) blobs (λ b. bits (b + 1)))))
 
 -- the bit of an owner that has one place is the bit there
 pub owned_at : (layout : List (List Owner)) (bits : ℕ → ℕ → ℕ) (b p s c k : ℕ) → owner_at layout b p ≡ Bit s c k

@@ -1,7 +1,9 @@
 -- The places of a cell's bits: pieces that spell them, taken apart, put together and renamed.
-use Rattle.std.specs.Prelude.{◌≡◌, ℕ, ◌+◌, ◌-◌, ◌%◌, ◌^◌, ◌<◌, ◌≤◌, List, [], ◌∷◌, ◌++◌, map, length, get_or, take, drop, All, refl}
-use Rattle.record_dim.specs.Std.{⊎_elim, sym, ap, ◌∙◌, arith, length-append, flat_map, range_with_len, map-map, cases_lt, append-nil, get_or_append_left, get_or-append-add, map-append, take_at, drop_at, same_lists, All-cons, All-nil, All-head, All-tail, All-map, sum_by-cons, get_or-map-range_with_len, length-map-range_with_len}
+use Rattle.std.specs.Prelude.{◌≡◌, ℕ, zero, suc, ◌+◌, ◌-◌, ◌%◌, ◌^◌, ◌<◌, ◌≤◌, List, [], ◌∷◌, ◌++◌, map, length, get_or, take, drop, All, refl}
+use Rattle.record_dim.specs.Std.{sym, ap, ◌∙◌, arith, length-append, flat_map, range_with_len, map-map, append-nil, map-append, take_at, drop_at, same_lists, All-cons, All-nil, All-head, All-tail, All-map, get_or-map-range_with_len, length-map-range_with_len}
+use Rattle.record_dim.specs.Std.{fun_ext}
 use Rattle.std.specs.List.{sum_by}
+use Rattle.std.proofs.lemmas.List.Concat.{length-flat_map}
 use Rattle.places.specs.Layout.{Owner, Pad, Bit, owner_at, field}
 use Rattle.places.specs.Rules.{renamed, relabel}
 use Rattle.places.specs.Lawful.{owners_in, shifted, IsPiece, IsLocated}
@@ -21,26 +23,15 @@ ranges_at {X} d f g a b n k e low =
 
 -- a range is its first m numbers and the rest
 pub range_split : {X : Type 0} (f : ℕ → X) (a m n : ℕ) → m ≤ n → map f (range_with_len a n) ≡ map f (range_with_len a m) ++ map f (range_with_len (a + m) (n - m))
-range_split f a m n low =
-    let whole : length (map f (range_with_len a n)) ≡ n = length-map-range_with_len f a n in
-    let left : length (map f (range_with_len a m)) ≡ m = length-map-range_with_len f a m in
-    let right : length (map f (range_with_len (a + m) (n - m))) ≡ n - m = length-map-range_with_len f (a + m) (n - m) in
-    let both : length (map f (range_with_len a m) ++ map f (range_with_len (a + m) (n - m))) ≡ m + (n - m) =
-    length-append (map f (range_with_len a m)) (map f (range_with_len (a + m) (n - m))) ∙ ap (λ (w : ℕ). w + length (map f (range_with_len (a + m) (n - m)))) left ∙ ap (λ (w : ℕ). m + w) right in
-    same_lists (map f (range_with_len a n)) (map f (range_with_len a m) ++ map f (range_with_len (a + m) (n - m))) (omega arith)
-    (λ k d inside.
-    let here : get_or (map f (range_with_len a n)) k d ≡ f (a + k) = get_or-map-range_with_len f a n k (a + k) d (omega arith) refl in
-    ⊎_elim
-    (λ (l : k < m).
-    grind (arith, range_with_len, get_or_append_left, get_or-map-range_with_len))
-    (λ (l : m ≤ k).
-    let j : ℕ = k - m in
-    let one : get_or (map f (range_with_len a m) ++ map f (range_with_len (a + m) (n - m))) (length (map f (range_with_len a m)) + j) d ≡ get_or (map f (range_with_len (a + m) (n - m))) j d =
-    get_or-append-add (map f (range_with_len a m)) (map f (range_with_len (a + m) (n - m))) j d in
-    let two : get_or (map f (range_with_len (a + m) (n - m))) j d ≡ f (a + k) =
-    get_or-map-range_with_len f (a + m) (n - m) j (a + k) d (omega arith) (omega arith) in
-    here ∙ sym ((ap (λ (w : ℕ). get_or (map f (range_with_len a m) ++ map f (range_with_len (a + m) (n - m))) w d) (sym (omega arith))) ∙ one ∙ two))
-    (cases_lt k m))
+range_split f a zero n low =
+    ap (λ (b : ℕ). map f (range_with_len b n)) (let e : a ≡ a + 0 = omega arith in e) ∙ ap (λ (m : ℕ). map f (range_with_len (a + 0) m)) (omega arith)
+range_split f a (suc m) zero low = absurd (omega arith)
+range_split {X} f a (suc m) (suc n) low =
+    let place : a + 1 + m ≡ a + suc m = omega arith in
+    let rest : n - m ≡ suc n - suc m = omega arith in
+    ap (λ (xs : List X). f a ∷ xs) (range_split f (a + 1) m n (omega arith))
+    ∙ ap (λ (b : ℕ). map f (range_with_len a (suc m)) ++ map f (range_with_len b (n - m))) place
+    ∙ ap (λ (k : ℕ). map f (range_with_len a (suc m)) ++ map f (range_with_len (a + suc m) k)) rest
 
 -- consecutive places whose owners are the bits of a cell spell it
 pub run_spelled : (layout : List (List Owner)) (blob at s c w : ℕ) → ((k : ℕ) → k < w → owner_at layout blob (at + k) ≡ Bit s c k)
@@ -60,10 +51,7 @@ spells_split layout f a n piece pieces e =
     let here : List Owner = owners_in layout piece in
     let later : List Owner = flat_map (owners_in layout) pieces in
     let size : length here ≡ bits = length-map-range_with_len (owner_at layout piece.blob) piece.bit bits in
-    let whole : length (map f (range_with_len a n)) ≡ n = length-map-range_with_len f a n in
-    let both : length (here ++ later) ≡ length here + length later = length-append here later in
-    let same : length (here ++ later) ≡ length (map f (range_with_len a n)) = ap (λ (xs : List Owner). length xs) e in
-    let low : bits ≤ n = omega arith in
+    let low : bits ≤ n = omega (arith, size, length-append here later, ap (λ (xs : List Owner). length xs) e, length-map-range_with_len f a n) in
     let front : length (map f (range_with_len a bits)) ≡ bits = length-map-range_with_len f a bits in
     let joined : here ++ later ≡ map f (range_with_len a bits) ++ map f (range_with_len (a + bits) (n - bits)) = e ∙ (range_split f a bits n low) in
     let left : here ≡ map f (range_with_len a bits) =
@@ -79,12 +67,9 @@ spells_split layout f a n piece pieces e =
 -- pieces that spell n owners have n bits together
 pub bits_located : (layout : List (List Owner)) (f : ℕ → Owner) (a n : ℕ) (pieces : List Piece)
     → flat_map (owners_in layout) pieces ≡ map f (range_with_len a n) → sum_by (λ (piece : Piece). piece.bits) pieces ≡ n
-bits_located layout f a n [] e = (ap (λ (xs : List Owner). length xs) e) ∙ (length-map-range_with_len f a n)
-bits_located layout f a n (piece ∷ pieces) e =
-    let split = spells_split layout f a n piece pieces e in
-    let rest : sum_by (λ (piece : Piece). piece.bits) pieces ≡ n - piece.bits = bits_located layout f (a + piece.bits) (n - piece.bits) pieces split.rest in
-    let step : sum_by (λ (piece : Piece). piece.bits) (piece ∷ pieces) ≡ piece.bits + sum_by (λ (piece : Piece). piece.bits) pieces = sum_by-cons (λ (piece : Piece). piece.bits) piece pieces in
-    omega arith
+bits_located layout f a n pieces e =
+    ap (λ (bits : Piece → ℕ). sum_by bits pieces) (fun_ext (λ (piece : Piece). sym (length-map-range_with_len (owner_at layout piece.blob) piece.bit piece.bits)))
+    ∙ sym (length-flat_map (owners_in layout) pieces) ∙ ap (λ (xs : List Owner). length xs) e ∙ length-map-range_with_len f a n
 
 -- pieces that are not empty and spell bits lie within their blobs
 pub pieces_inside : (layout : List (List Owner)) (s c a n : ℕ) (pieces : List Piece) → flat_map (owners_in layout) pieces ≡ map (Bit s c) (range_with_len a n)
@@ -92,16 +77,13 @@ pub pieces_inside : (layout : List (List Owner)) (s c a n : ℕ) (pieces : List 
 pieces_inside layout s c a n [] e some bound = All-nil (IsPiece layout)
 pieces_inside layout s c a n (piece ∷ pieces) e some bound =
     let split = spells_split layout (Bit s c) a n piece pieces e in
-    let full : 0 < piece.bits = All-head (λ (piece : Piece). 0 < piece.bits) piece pieces some in
-    let small : piece.bit + piece.bits < 2 ^ 64 = All-head (λ (piece : Piece). piece.bit + piece.bits < 2 ^ 64) piece pieces bound in
+    let full : 0 < piece.bits = some 0 piece (omega arith) in
     let last : ℕ = piece.bits - 1 in
     let owner : owner_at layout piece.blob (piece.bit + last) ≡ Bit s c (a + last) = split.first last (omega arith) in
-    let blob_in : piece.blob < length layout = within_blobs layout piece.blob (piece.bit + last) s c (a + last) owner in
-    let place_in : piece.bit + last < length (get_or layout piece.blob []) = within (get_or layout piece.blob []) (piece.bit + last) s c (a + last) owner in
-    All-cons (IsPiece layout) piece pieces (record { blob_in = blob_in; bits_in = omega arith; bound = small; some = full })
-    (pieces_inside layout s c (a + piece.bits) (n - piece.bits) pieces split.rest
-    (All-tail (λ (piece : Piece). 0 < piece.bits) piece pieces some)
-    (All-tail (λ (piece : Piece). piece.bit + piece.bits < 2 ^ 64) piece pieces bound))
+    let inside = within (get_or layout piece.blob []) (piece.bit + last) s c (a + last) owner in
+    All-cons (IsPiece layout) piece pieces
+    (record { blob_in = within_blobs layout piece.blob (piece.bit + last) s c (a + last) owner; bits_in = omega arith; bound = bound 0 piece (omega arith); some = full })
+    (pieces_inside layout s c (a + piece.bits) (n - piece.bits) pieces split.rest (λ k d l. some (suc k) d (omega arith)) (λ k d l. bound (suc k) d (omega arith)))
 
 -- pieces that spell a cell, none empty, whole bytes where the cell is whole bytes, are its places
 pub located : (layout : List (List Owner)) (s c w : ℕ) (pieces : List Piece) → flat_map (owners_in layout) pieces ≡ field s (c, w)
@@ -160,11 +142,8 @@ left_spelled xs ys (piece ∷ pieces) inside =
 
 pub left_located : (xs ys : List (List Owner)) (s c w : ℕ) (pieces : List Piece) → IsLocated xs s c w pieces → IsLocated (xs ++ ys) s c w pieces
 left_located xs ys s c w pieces h =
-    located (xs ++ ys) s c w pieces
-    (left_spelled xs ys pieces (pieces_weaker (IsPiece xs) (λ (piece : Piece). piece.blob < length xs) pieces (λ piece i. i.blob_in) h.each) ∙ h.spelled)
-    (pieces_weaker (IsPiece xs) (λ (piece : Piece). 0 < piece.bits) pieces (λ piece i. i.some) h.each)
-    (pieces_weaker (IsPiece xs) (λ (piece : Piece). piece.bit + piece.bits < 2 ^ 64) pieces (λ piece i. i.bound) h.each)
-    h.bytes
+    located (xs ++ ys) s c w pieces (left_spelled xs ys pieces (λ k d l. (h.each k d l).blob_in) ∙ h.spelled)
+    (λ k d l. (h.each k d l).some) (λ k d l. (h.each k d l).bound) h.bytes
 
 -- the places of a cell in the later blobs
 pub right_spelled : (xs ys : List (List Owner)) (by : ℕ) (pieces : List Piece) → length xs ≡ by
@@ -180,9 +159,7 @@ right_spelled xs ys by (piece ∷ pieces) size =
 pub right_located : (xs ys : List (List Owner)) (by s c w : ℕ) (pieces : List Piece) → length xs ≡ by
     → IsLocated ys s c w pieces → IsLocated (xs ++ ys) s c w (map (shifted by) pieces)
 right_located xs ys by s c w pieces size h =
-    located (xs ++ ys) s c w (map (shifted by) pieces)
-    (right_spelled xs ys by pieces size ∙ h.spelled)
-    (All-map (λ (piece : Piece). 0 < piece.bits) (shifted by) pieces (pieces_weaker (IsPiece ys) (λ (piece : Piece). 0 < piece.bits) pieces (λ piece i. i.some) h.each))
-    (All-map (λ (piece : Piece). piece.bit + piece.bits < 2 ^ 64) (shifted by) pieces
-    (pieces_weaker (IsPiece ys) (λ (piece : Piece). piece.bit + piece.bits < 2 ^ 64) pieces (λ piece i. i.bound) h.each))
+    located (xs ++ ys) s c w (map (shifted by) pieces) (right_spelled xs ys by pieces size ∙ h.spelled)
+    (All-map (λ (piece : Piece). 0 < piece.bits) (shifted by) pieces (λ k d l. (h.each k d l).some))
+    (All-map (λ (piece : Piece). piece.bit + piece.bits < 2 ^ 64) (shifted by) pieces (λ k d l. (h.each k d l).bound))
     (λ whole. All-map (λ (piece : Piece). piece.bits % 8 ≡ 0) (shifted by) pieces (h.bytes whole))

@@ -1,6 +1,6 @@
 -- What other crates take of this one.
-pub use Rattle.places.specs.BeginsLaws.{begins_fit, one_lane}
-pub use Rattle.places.specs.CellWidthsLaws.{cell_width, length-full, length-widths, member_width, width_at, width_read}
+pub use Rattle.places.specs.BeginsLaws.{begins_fit, one_lane, rule_fits, rule_located}
+pub use Rattle.places.specs.CellWidthsLaws.{cell_width, hold_read, length-full, length-widths, member_width, width_at, width_read}
 pub use Rattle.places.specs.CellsLaws.{apart_enumerate, bit_of_cells, cells_member, cells_of_bit, fresh_at, member_at, member_cells}
 pub use Rattle.places.specs.ComposeLaws.{Back, LaysOut, blobs_of_cells, has_blob, join_lays_out, laid_out, lays_out, lays_out_same, owner_relabel, relabel_lays_out, within_blob, within_blobs}
 pub use Rattle.places.specs.DenseLaws.{dense_array, dense_lanes, not_dense}
@@ -15,6 +15,8 @@ pub use Rattle.places.specs.Layout.{packed_aos, padded_to, single_soa}
 pub use Rattle.places.specs.NumbersLaws.{bit_digits, bit_number, decoded_digits, decoded_high, decoded_in, decoded_low, digit_lt, half_of, number_bits, number_complement, number_lt, number_negsuc}
 pub use Rattle.places.specs.NumbersLaws.{number_pos, number_same, number_split, ones_of}
 pub use Rattle.places.specs.OwnedLaws.{found_owned, owned_is}
+pub use Rattle.places.specs.PartsLaws.{BitOfArray, BitOfArrays, BitOfSlot, array_at, arrays_of_bit, bit_at, bit_of_arrays, cells_at, cells_more, cells_size, has_array, has_slots, is_big, listed_at}
+pub use Rattle.places.specs.PartsLaws.{length-array, length-cells, not_big, numbered_at, one_blob_bytes, one_whole, padded_at, run_end, run_located, whole_laid_out, whole_located}
 pub use Rattle.places.specs.PieceRules.{AreRulesOf, IsDense, begin_in, piece_in, pieces_in}
 pub use Rattle.places.specs.PlacesLaws.{Splits, bits_located, left_located, located, one_piece, pieces_weaker, range_split, ranges_at, relabel_located, relabel_spelled, right_located, same_ranges}
 pub use Rattle.places.specs.PlacesLaws.{spells_split}

@@ -74,11 +74,8 @@ pub stacked_bytes : (align : ℕ → ℕ) (f : ℕ × ℕ → List Owner) (front
 stacked_bytes align f front [] whole each = whole
 stacked_bytes align f front (cell ∷ cells) whole each =
     let here = each cell.0 cell.1 (inl (refl, refl)) in
-    let padded : length (padded_to (align cell.1) front) ≡ up (align cell.1) (length front) = length-padded (align cell.1) front in
-    let bytes : up (align cell.1) (length front) % 8 ≡ 0 = here.0 (length front) whole in
-    let both : length (padded_to (align cell.1) front ++ f cell) ≡ length (padded_to (align cell.1) front) + length (f cell) =
-    length-append (padded_to (align cell.1) front) (f cell) in
-    stacked_bytes align f (padded_to (align cell.1) front ++ f cell) cells (omega arith) (λ c w m. each c w (inr m))
+    stacked_bytes align f (padded_to (align cell.1) front ++ f cell) cells
+    (omega (arith, length-padded (align cell.1) front, here.0 (length front) whole, here.1, length-append (padded_to (align cell.1) front) (f cell))) (λ c w m. each c w (inr m))
 
 -- the lists of the cells so far, with the offset of each and the end of all
 pub record IsFilled (align : ℕ → ℕ) (f : ℕ × ℕ → List Owner) (offsets : List ℕ) (at : ℕ) (cells : List (ℕ × ℕ)) : Type 0 where
@@ -89,15 +86,7 @@ pub record IsFilled (align : ℕ → ℕ) (f : ℕ × ℕ → List Owner) (offse
 -- which cells stand in a list with one more
 pub member_push : (cells : List (ℕ × ℕ)) (cell : ℕ × ℕ) (c w : ℕ) → Member (cells ++ cell ∷ []) c w → Member cells c w ⊎ ((cell.0 ≡ c) × (cell.1 ≡ w))
 member_push [] cell c w m = ⊎_elim (λ (x : (cell.0 ≡ c) × (cell.1 ≡ w)). inr x) (λ (x : ⊥). absurd x) m
-member_push (first ∷ cells) cell c w m =
-    ⊎_elim
-    (λ (x : (first.0 ≡ c) × (first.1 ≡ w)). inl (inl x))
-    (λ (x : Member (cells ++ cell ∷ []) c w).
-    ⊎_elim
-    (λ (y : Member cells c w). inl (inr y))
-    (λ (y : (cell.0 ≡ c) × (cell.1 ≡ w)). inr y)
-    (member_push cells cell c w x))
-    m
+member_push (first ∷ cells) cell c w m = grind (arith, (member_push cells cell c w))
 
 -- one cell more, whose offset is the next multiple of its alignment
 pub filled_more : (align : ℕ → ℕ) (f : ℕ × ℕ → List Owner) (offsets : List ℕ) (at : ℕ) (cells : List (ℕ × ℕ)) (c w : ℕ)
@@ -119,9 +108,5 @@ stacked_grows align f front (cell ∷ cells) = grind (arith, length-append, leng
 pub stacked_take : (align : ℕ → ℕ) (f : ℕ × ℕ → List Owner) (cells : List (ℕ × ℕ)) (i : ℕ)
     → length (stacked align f [] (take i cells)) ≤ length (stacked align f [] cells)
 stacked_take align f cells i =
-    let first : List Owner = stacked align f [] (take i cells) in
-    let whole : stacked align f [] cells ≡ stacked align f first (drop i cells) =
-    ap (stacked align f []) (sym (take-append-drop i cells)) ∙ stacked_append align f [] (take i cells) (drop i cells) in
-    let grows : length first ≤ length (stacked align f first (drop i cells)) = stacked_grows align f first (drop i cells) in
-    let same : length (stacked align f [] cells) ≡ length (stacked align f first (drop i cells)) = ap (λ (owners : List Owner). length owners) whole in
-    omega arith
+    let same = ap (stacked align f []) (sym (take-append-drop i cells)) ∙ stacked_append align f [] (take i cells) (drop i cells) in
+    omega (arith, stacked_grows align f (stacked align f [] (take i cells)) (drop i cells), ap (λ (owners : List Owner). length owners) same)

@@ -58,10 +58,8 @@ hot_place layout granule row leaf blob at hot =
       number = bit.0;
       from = omega arith;
       below = omega arith;
-      owner = sym (get_or-drop start owners i Pad) ∙ sym (get_or-take (8 * granule) (drop start owners) i Pad small) ∙ get_or_other bits i Pad found.1 low ∙ found.3 ∙ bit.1;
-    } where
-      get_or_other : (xs : List Owner) (i : ℕ) (d e : Owner) → i < length xs → get_or xs i d ≡ get_or xs i e
-      get_or_other xs i d e low = get_or_default xs i d e low
+      owner = sym (get_or-drop start owners i Pad) ∙ sym (get_or-take (8 * granule) (drop start owners) i Pad small) ∙ get_or_default bits i Pad found.1 low ∙ found.3 ∙ bit.1;
+    }
 
 pub in_granule : (granule blob at : ℕ) (piece : Piece) → is_in_granule granule blob at piece ≡ true →
     (piece.blob ≡ blob) × (k : ℕ) × (k < piece.bits) × (8 * granule * at ≤ piece.bit + k) × (piece.bit + k < 8 * granule * at + 8 * granule)

@@ -1,4 +1,4 @@
-use Rattle.map_bytes.proofs.Imports.{◌≡◌, ◌+◌, ◌%◌, ◌^◌, ◌<◌, List, All, sym, ap, ◌∙◌, subst, arith, pieces_weaker, Piece, begin_in, PieceRule, places_in, swapped, swapped_in, swapped_begins, swapped_eights, common_steps}
+use Rattle.map_bytes.proofs.Imports.{◌≡◌, ◌+◌, ◌%◌, ◌^◌, ◌<◌, List, All, sym, ap, ◌∙◌, subst, arith, Piece, begin_in, PieceRule, places_in, swapped_in, swapped_begins, swapped_eights, common_steps}
 use Rattle.map_bytes.proofs.Groups.{places_back}
 use Rattle.map_bytes.proofs.Inner.{all_in}
 use Rattle.map_bytes.proofs.swap.swap_pieces.Goals as goal
@@ -28,15 +28,7 @@ pub returns-clause-places : goal.returns-clause-places
 returns-clause-places c = ap places_in (returns-clause-bytes c) ∙ places_back c.args.inner.now.items c.requires.whole
 
 pub returns-clause-some : goal.returns-clause-some
-returns-clause-some c =
-    let pieces : List Piece = c.args.inner.now.items in
-    subst (All (λ (p : Piece). 0 < p.bits)) (sym (returns-clause-bytes c))
-    (pieces_weaker (λ (p : Piece). p.bits ≡ 8) (λ (p : Piece). 0 < p.bits) (swapped pieces)
-    (λ piece (e : piece.bits ≡ 8). let z : 0 < piece.bits = omega arith in z) (swapped_eights pieces))
+returns-clause-some c = subst (All (λ (p : Piece). 0 < p.bits)) (sym (returns-clause-bytes c)) (λ k d inside. omega (arith, swapped_eights c.args.inner.now.items k d inside))
 
 pub returns-clause-whole : goal.returns-clause-whole
-returns-clause-whole c =
-    let pieces : List Piece = c.args.inner.now.items in
-    subst (All (λ (p : Piece). p.bits % 8 ≡ 0)) (sym (returns-clause-bytes c))
-    (pieces_weaker (λ (p : Piece). p.bits ≡ 8) (λ (p : Piece). p.bits % 8 ≡ 0) (swapped pieces)
-    (λ piece (e : piece.bits ≡ 8). let z : piece.bits % 8 ≡ 0 = omega arith in z) (swapped_eights pieces))
+returns-clause-whole c = subst (All (λ (p : Piece). p.bits % 8 ≡ 0)) (sym (returns-clause-bytes c)) (λ k d inside. omega (arith, swapped_eights c.args.inner.now.items k d inside))

@@ -1,4 +1,4 @@
-use Rattle.map_aosoa.proofs.Imports.{◌≡◌, length, arith, get_or_default, widths_of, length-widths, common_steps}
+use Rattle.map_aosoa.proofs.Imports.{arith, get_or_default, length-widths, common_steps}
 use Rattle.map_aosoa.proofs.Blocks.{lanes_bytes}
 use Rattle.map_aosoa.proofs.Blob.{offset_fits}
 use Rattle.map_aosoa.proofs.aosoa.Aosoa.offset.Goals as goal
@@ -10,5 +10,4 @@ pub returns-clause-bytes : goal.returns-clause-bytes
 returns-clause-bytes c =
     let m = c.args.self.now in
     let stored = m.stored (omega arith) in
-    let size : length (widths_of m.cells.items) ≡ length m.cells.items = length-widths m.cells.items in
-    grind (arith, get_or_default, lanes_bytes)
+    grind (arith, get_or_default, length-widths, lanes_bytes)

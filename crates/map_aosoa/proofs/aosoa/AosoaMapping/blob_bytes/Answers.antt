@@ -6,4 +6,4 @@ pub returns : goal.returns
 returns c =
     let m = c.args.self.now in
     ap (λ (n : ℕ). 8 * (n * m.stride / 8)) c.count_blocks.ensures
-    ∙ blob_bytes_is m.lanes m.slots m.cells.items m.offsets.items m.stride c.args._blob m.some m.stored c.requires
+    ∙ blob_bytes_is m.lanes m.slots m.cells.items m.offsets.items m.stride m.some m.stored c.args._blob c.requires
