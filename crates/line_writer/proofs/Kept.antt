@@ -1,10 +1,10 @@
 -- The phrases that may have other tokens than the canonical ones: lines with expressions and kernels. Their canonical tokens are
 -- read as the same line, and open few brackets at once.
-use Rattle.line_writer.proofs.Imports.{◌≡◌, ℕ, suc, ◌+◌, ◌≤◌, List, [], ◌∷◌, ◌++◌, map, length, codes, refl, sym, add-one, append-nil, append_assoc, arith, zero, inl, inr, Option, Some, None, max, ℤ, pos, negsuc, neg_ℤ, flat_map, Comma, CloseBracket, OpenParen, CloseParen, Dot, Equals, Token, Word, Sign, Number, Sentence, Assignment, Value, Assign, Update, Actors, Kernel, Count, filter_depth, deepest_set, deepest, Joined, IsNothing, Chain, Grammar, Is, behind, joined, more, PathStep, BinOp, depth_of, Version, One, Two, Command, KernelText, KernelWord, token_number, kernel_word_of, comparison_of, command_of, name, count, number, actors, assignment, body, bracketed_list, command_line, constant, cuts_phrase, filter_phrase, inside_kernel, kernel_text, later, line, comma_list, part, parts, path, update_end, operator, kernel_word, with_commas, line_tokens, count_token, number_tokens, path_tokens, form_tokens, value_tokens, assignment_tokens, filter_tokens, update_tokens, index_tokens, actors_tokens, kernel_tokens}
+use Rattle.line_writer.proofs.Imports.{◌≡◌, ℕ, suc, ◌+◌, ◌≤◌, List, [], ◌∷◌, ◌++◌, map, length, codes, refl, sym, add-one, append-nil, append_assoc, arith, zero, inl, inr, Option, Some, None, max, ℤ, pos, negsuc, neg_ℤ, flat_map, Comma, CloseBracket, OpenParen, CloseParen, Dot, Equals, Token, Word, Sign, Number, Sentence, Assignment, Value, Assign, Update, Actors, Kernel, Count, filter_depth, deepest_set, deepest, Chain, Grammar, Is, behind, joined, more, PathStep, BinOp, depth_of, Version, One, Two, Command, KernelText, KernelWord, token_number, kernel_word_of, comparison_of, command_of, name, count, number, actors, assignment, body, bracketed_list, command_line, constant, cuts_phrase, filter_phrase, inside_kernel, kernel_text, later, line, comma_list, part, parts, path, update_end, operator, kernel_word, with_commas, line_tokens, count_token, number_tokens, path_tokens, form_tokens, value_tokens, assignment_tokens, filter_tokens, update_tokens, index_tokens, actors_tokens, kernel_tokens}
 use Rattle.line_grammar.specs.declared.line.Command.TheVariants as command
 use Rattle.line_grammar.specs.declared.line.KernelText.TheVariants as kernel
 use Rattle.line_grammar.specs.declared.line.KernelWord.TheVariants as word
-use Rattle.line_writer.proofs.Gives.{IsSpelled, Each, each_front, each_back, Gives, Prints, gives}
+use Rattle.line_writer.proofs.Gives.{IsSpelled, Each, each_front, each_back, Gives, Prints, gives, join, last}
 use Rattle.line_writer.proofs.Words.{count_prints, name_prints}
 use Rattle.line_writer.proofs.Phrases.{path_prints}
 use Rattle.line_writer.proofs.Leaves.{IsGood}
@@ -39,13 +39,6 @@ kept_count = kept count (λ k. count_token k ∷ []) count_prints
 
 pub kept_path : Gives path KeptPath
 kept_path = kept path path_tokens path_prints
-
--- one phrase behind another, and the last one
-pub join : {A B : Type 0} {IsOne : List Token → A → Type 0} {Next : A → List Token → B → Type 0} (front back : List Token) (a : A) (v : B) → IsOne front a → Next a back v → Joined IsOne Next (front ++ back) v
-join front back a v h g = record { first = a; front = front; back = back; whole = refl; begins = h; ends = g }
-
-pub last : {A B : Type 0} {IsOne : List Token → A → Type 0} (f : A → B) (xs : List Token) (a : A) → IsOne xs a → Joined IsOne (λ a. IsNothing (f a)) xs (f a)
-last f xs a h = record { first = a; front = xs; back = []; whole = sym (append-nil xs); begins = h; ends = (refl, refl) }
 
 -- a constant
 negative : (n : ℕ) → neg_ℤ (pos (n + 1)) ≡ negsuc n

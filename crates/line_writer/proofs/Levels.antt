@@ -1,5 +1,6 @@
 -- The canonical tokens of an expression are read as this expression.
 use Rattle.line_writer.proofs.Imports.{◌≡◌, ℕ, suc, ◌≤◌, List, [], ◌∷◌, ◌++◌, codes, refl, sym, append-nil, arith, zero, inl, inr, Option, Some, true, false, Comma, OpenParen, CloseParen, Minus, Token, Word, Sign, Value, Grammar, Is, BinOp, Min, Max, depth_of, Constant, Neg, Not, Binary, comparison_of, choice_of, number, link, atom_within, bracketed, chain, choice, comparison, conjunction, expr, expr_over, leaf, links, negation, prefixed, product, signs, sum, unary, operator, value_tokens, is_choice, operand}
+use Rattle.line_writer.proofs.Gives.{join, last}
 use Rattle.line_writer.proofs.Leaves.{IsGood}
 
 -- each level has the phrases of the next one
@@ -17,40 +18,21 @@ comparison_one one xs v h = record { first = v; front = xs; back = []; whole = s
 
 -- one operator of a level
 link_of : (op : Token → Option BinOp) (one : Grammar Token Value) (token : Token) (kind : BinOp) (ys : List Token) (a b : Value) → op token ≡ Some kind → Is one ys b → Is (link op one a) (token ∷ ys) (Binary kind a b)
-link_of op one token kind ys a b e h = record {
-  first = kind;
-  front = token ∷ [];
-  back = ys;
-  whole = refl;
-  begins = (token, refl, e);
-  ends = record { first = b; front = ys; back = []; whole = sym (append-nil ys); begins = h; ends = (refl, refl) };
-}
+link_of op one token kind ys a b e h = join (token ∷ []) ys kind _ (token, refl, e) (last (λ b. Binary kind a b) ys b h)
 
 chain_link : (op : Token → Option BinOp) (one : Grammar Token Value) (token : Token) (kind : BinOp) (xs ys : List Token) (a b : Value) → op token ≡ Some kind → Is one xs a → Is one ys b → Is (chain op one) (xs ++ token ∷ ys) (Binary kind a b)
 unfolding chain links
-chain_link op one token kind xs ys a b e h g = record {
-  first = a;
-  front = xs;
-  back = token ∷ ys;
-  whole = refl;
-  begins = h;
-  ends = (1, record { first = Binary kind a b; front = token ∷ ys; back = []; whole = sym (append-nil (token ∷ ys)); begins = link_of op one token kind ys a b e g; ends = (refl, refl) });
-}
+chain_link op one token kind xs ys a b e h g = join xs (token ∷ ys) a _ h
+    (1, record { first = Binary kind a b; front = token ∷ ys; back = []; whole = sym (append-nil (token ∷ ys)); begins = link_of op one token kind ys a b e g; ends = (refl, refl) })
 
 comparison_link : (one : Grammar Token Value) (token : Token) (kind : BinOp) (xs ys : List Token) (a b : Value) → comparison_of token ≡ Some kind → Is (sum one) xs a → Is (sum one) ys b → Is (comparison one) (xs ++ token ∷ ys) (Binary kind a b)
 unfolding comparison
-comparison_link one token kind xs ys a b e h g = record { first = a; front = xs; back = token ∷ ys; whole = refl; begins = h; ends = inl (link_of comparison_of (sum one) token kind ys a b e g) }
+comparison_link one token kind xs ys a b e h g = join xs (token ∷ ys) a _ h (inl (link_of comparison_of (sum one) token kind ys a b e g))
 
 prefix_one : (token : Token) (wrap : Value → Value) (one : Grammar Token Value) (xs : List Token) (v : Value) → Is one xs v → Is (prefixed token wrap one) (token ∷ xs) (wrap v)
 unfolding prefixed signs
-prefix_one token wrap one xs v h = record {
-  first = 1;
-  front = token ∷ [];
-  back = xs;
-  whole = refl;
-  begins = (1, record { first = 1; front = token ∷ []; back = []; whole = refl; begins = (refl, (refl, refl)); ends = (refl, refl) });
-  ends = record { first = v; front = xs; back = []; whole = sym (append-nil xs); begins = h; ends = (refl, refl) };
-}
+prefix_one token wrap one xs v h = join (token ∷ []) xs 1 _
+    (1, record { first = 1; front = token ∷ []; back = []; whole = refl; begins = (refl, (refl, refl)); ends = (refl, refl) }) (last (λ value. wrap value) xs v h)
 
 -- an atom is an expression, and each operator stands between atoms
 from_atom : (one : Grammar Token Value) (xs : List Token) (v : Value) → Is one xs v → Is (expr_over one) xs v
@@ -74,24 +56,8 @@ bracketed_atom n xs v h = inl (refl, record { first = v; front = xs; back = Sign
 choice_atom : (n : ℕ) (op : BinOp) (xs ys : List Token) (a b : Value) → choice_of (operator op) ≡ Some op → Is (expr_over (atom_within n)) xs a → Is (expr_over (atom_within n)) ys b →
     Is (atom_within (suc n)) (operator op ∷ Sign OpenParen ∷ (xs ++ Sign Comma ∷ (ys ++ Sign CloseParen ∷ []))) (Binary op a b)
 unfolding atom_within choice
-choice_atom n op xs ys a b e h g = inr (inl (record {
-  first = op;
-  front = operator op ∷ [];
-  back = Sign OpenParen ∷ (xs ++ Sign Comma ∷ (ys ++ Sign CloseParen ∷ []));
-  whole = refl;
-  begins = (operator op, refl, e);
-  ends = (
-    refl,
-    record {
-      first = a;
-      front = xs;
-      back = Sign Comma ∷ (ys ++ Sign CloseParen ∷ []);
-      whole = refl;
-      begins = h;
-      ends = (refl, record { first = b; front = ys; back = Sign CloseParen ∷ []; whole = refl; begins = g; ends = (refl, (refl, refl)) });
-    },
-  );
-}))
+choice_atom n op xs ys a b e h g = inr (inl (join (operator op ∷ []) (Sign OpenParen ∷ (xs ++ Sign Comma ∷ (ys ++ Sign CloseParen ∷ []))) op _ (operator op, refl, e)
+    (refl, join xs (Sign Comma ∷ (ys ++ Sign CloseParen ∷ [])) a _ h (refl, join ys (Sign CloseParen ∷ []) b _ g (refl, (refl, refl))))))
 
 leaf_atom : (n : ℕ) (xs : List Token) (v : Value) → Is leaf xs v → Is (atom_within n) xs v
 unfolding atom_within

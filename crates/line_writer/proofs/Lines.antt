@@ -2,11 +2,11 @@
 use Rattle.line_writer.proofs.Imports.{◌≡◌, ℕ, List, [], ◌∷◌, ◌++◌, codes, refl, sym, ap, ◌∙◌, append-nil, inl, inr, Option, Some, ◌⊎◌, Token, Word, Sentence, Assignment, Value, Update, Show, Grammar, Is, item, behind, joined, nothing, InParts, Version, One, Two, Command, KernelWord, command_of, name, count, actors, assignment, body, bracketed_list, command_line, cuts_phrase, extent_word, filter_phrase, fixed, kernel_text, line, comma_list, mapping, new, show_end, update_end, command_word, commands, reduction_word, reductions, ExtentWord, ShowKind, line_tokens, count_token, index_tokens, extent_tokens, map_tokens, new_tokens, arith, Sign, Equals, Stencil, PathStep, Span, TermText, window_phrase, path_tokens, window_tokens, terms_tokens}
 use Rattle.line_grammar.specs.declared.line.Command.TheVariants as command
 use Rattle.line_grammar.specs.declared.line.ShowKind.TheVariants as show
-use Rattle.line_writer.proofs.Gives.{Each, Gives, IsSpelled, Prints, at_ends, by_parts, each_back, each_front, gives, prints}
+use Rattle.line_writer.proofs.Gives.{Each, Gives, IsSpelled, Prints, at_ends, by_parts, each_back, each_front, gives, prints, join, last}
 use Rattle.line_writer.proofs.Words.{name_prints, count_prints, string_prints, word_prints}
 use Rattle.line_writer.proofs.Phrases.{path_prints, fields_print, mapping_prints, listed_prints, bracket_list_prints, cuts_print, fixed_prints, extent_prints, flag_prints, passes_print, window_prints}
 use Rattle.line_writer.proofs.Leaves.{expr_gives}
-use Rattle.line_writer.proofs.Kept.{kept, kept_name, kept_count, kept_path, KeptKernel, kernel_inside_gives, IsGoodSet, IsGoodFilter, IsKept, KeptParts, count_kept, kernel_kept, assign_kept, update_kept, actors_kept, Kept, KeptName, KeptCount, KeptPath, IsFull, as_line, join, last, name_in, path_in}
+use Rattle.line_writer.proofs.Kept.{kept, kept_name, kept_count, kept_path, KeptKernel, kernel_inside_gives, IsGoodSet, IsGoodFilter, IsKept, KeptParts, count_kept, kernel_kept, assign_kept, update_kept, actors_kept, Kept, KeptName, KeptCount, KeptPath, IsFull, as_line, name_in, path_in}
 use Rattle.line_writer.proofs.Rooms.{fits_append, fits_flat, fits_more, fits_word, one_fits}
 use Rattle.line_writer.proofs.Terms.{KeptTerm, items_give, terms_fit, terms_give, terms_read, window_fits}
 

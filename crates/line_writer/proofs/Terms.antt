@@ -1,8 +1,8 @@
 -- Windows and weighted terms. A term may have other tokens than the canonical ones, since a number may have a sign before a zero: its canonical tokens are kept.
 use Rattle.line_writer.proofs.Imports.{List, [], ◌∷◌, ◌++◌, map, codes, refl, arith, ℤ, Comma, CloseBracket, OpenParen, CloseParen, Star, Token, Word, Sign, Grammar, Is, behind, PathStep, bracketed_list, constant, later, comma_list, path, span, term_phrase, terms_phrase, Span, TermText, with_commas, number_tokens, path_tokens, bracket_list, span_tokens, window_tokens, term_tokens, terms_tokens}
-use Rattle.line_writer.proofs.Gives.{IsSpelled, Each, each_append, each_front, Gives, gives}
+use Rattle.line_writer.proofs.Gives.{IsSpelled, Each, each_append, each_front, Gives, gives, join, last}
 use Rattle.line_writer.proofs.Rooms.{Fits, commas_fit, fits_append, fits_flat, fits_inside, fits_more, bracket_list_fits, number_fits, one_fits, fits_word}
-use Rattle.line_writer.proofs.Kept.{KeptConst, KeptPath, IsFull, const_gives, join, kept_path, last, listed_read, path_in, spelled_commas}
+use Rattle.line_writer.proofs.Kept.{KeptConst, KeptPath, IsFull, const_gives, kept_path, listed_read, path_in, spelled_commas}
 
 -- a list of phrases has one at least, and `P` holds of each
 full_more : {A : Type 0} (found : List A) (next : A) → IsFull (found ++ next ∷ [])
