@@ -5,11 +5,7 @@ use Rattle.expr_lang.specs.declared.fault.BindFault.TheVariants as fault
 
 pub first-unknown_path : (paths : List (List PathStep)) (path : List PathStep) (number : Option ℕ) → leaf_number paths path ≡ number →
     slice_get (unknown_path paths path) 0 ≡ cond (is_some number) None (Some (fault.UnknownPath path))
-first-unknown_path paths path number is = ap (λ o. slice_get (cond (is_some o) [] (fault.UnknownPath path ∷ [])) 0) is ∙ given number
-  where
-    given : (o : Option ℕ) → slice_get (cond (is_some o) [] (fault.UnknownPath path ∷ [])) 0 ≡ cond (is_some o) None (Some (fault.UnknownPath path))
-    given None = refl
-    given (Some x) = refl
+first-unknown_path paths path number is = grind arith
 
 -- the first of two lists, or else another one
 pub first_or : (left right : List BindFault) (other : Option BindFault) → option_or (slice_get (left ++ right) 0) other ≡ option_or (slice_get left 0) (option_or (slice_get right 0) other)

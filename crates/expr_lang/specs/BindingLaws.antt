@@ -8,9 +8,8 @@ use Rattle.expr_lang.specs.Binding.{same_step, leaf_number}
 
 step_decides : (a b : PathStep) → Decides (same_step a b) (a ≡ b)
 step_decides (Name a) (Name b) = Decides-like _ (λ (h : a ≡ b). ap Name h) (λ (h : Name a ≡ Name b). cc) (bytes_decides a b)
-step_decides (Name a) (At b) = (λ h. cc, λ h. cc)
-step_decides (At a) (Name b) = (λ h. cc, λ h. cc)
 step_decides (At a) (At b) = Decides-like _ (λ (h : a ≡ b). ap At h) (λ (h : At a ≡ At b). cc) (Decides-eqb a b)
+step_decides _ _ = (λ h. cc, λ h. cc)
 
 path_decides : (a b : List PathStep) → Decides (pointwise same_step a b) (a ≡ b)
 path_decides = pointwise_decides step_decides

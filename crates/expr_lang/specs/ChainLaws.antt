@@ -23,17 +23,15 @@ front P back term (links.More' p s rest) h = back term s (front P back (step_ter
 
 module _ (leaves rank : ℕ) where
   within_back : (term : Term ℕ) (s : Step) → IsWithin leaves rank (step_term term s) → IsWithin leaves rank term
-  within_back term step.Neg h = h
-  within_back term step.Not h = h
   within_back term (step.Binary' op first rest) h = h.0
+  within_back term _ h = h
 
   pub within_front : (term : Term ℕ) (l : Links) → IsWithin leaves rank (links_term term l) → IsWithin leaves rank term
   within_front = front (IsWithin leaves rank) within_back
 
   within_step : (term : Term ℕ) (s : Step) → IsWithin leaves rank (step_term term s) → IsStepWithin leaves rank s
-  within_step term step.Neg h = tt
-  within_step term step.Not h = tt
   within_step term (step.Binary' op first rest) h = h.1
+  within_step term _ h = tt
 
   pub within_links : (term : Term ℕ) (l : Links) → IsWithin leaves rank (links_term term l) → AreWithin leaves rank l
   within_links term links.End h = tt
@@ -46,29 +44,25 @@ module _ (leaves rank : ℕ) where
 -- what a step has made is no number
 no_number : (term : Term ℕ) (s : Step) (l : Links) → number_in (links_term (step_term term s) l) ≡ pos 0
 no_number term step.Neg links.End = refl
-no_number term step.Not links.End = refl
-no_number term (step.Binary' op first rest) links.End = refl
+no_number term _ links.End = refl
 no_number term s (links.More' p next rest) = no_number (step_term term s) next rest
 
 -- the number that a chain is
 pub lone_is : (first : Operand) (l : Links) → right_value (lone_part first l) (pos 0) ≡ number_in (links_term (operand_term first) l)
 lone_is (operand.Number number) links.End = refl
-lone_is (operand.Leaf leaf) links.End = refl
-lone_is (operand.Index dimension) links.End = refl
+lone_is _ links.End = refl
 lone_is (operand.Number number) (links.More' p s rest) = sym (no_number (Number number) s rest)
 lone_is (operand.Leaf leaf) (links.More' p s rest) = sym (no_number (Entry leaf) s rest)
 lone_is (operand.Index dimension) (links.More' p s rest) = sym (no_number (Index dimension) s rest)
 
 module _ (leaves places : List ℕ) where
   safe_back : (term : Term ℕ) (s : Step) → IsSafe leaves places (step_term term s) → IsSafe leaves places term
-  safe_back term step.Neg h = h
-  safe_back term step.Not h = h
   safe_back term (step.Binary' op first rest) h = h.0
+  safe_back term _ h = h
 
   safe_step : (term : Term ℕ) (s : Step) → IsSafe leaves places (step_term term s) → IsStepSafe leaves places s
-  safe_step term step.Neg h = tt
-  safe_step term step.Not h = tt
   safe_step term (step.Binary' op first rest) h = (h.1, ap (has_result op) (lone_is first rest) ∙ h.2)
+  safe_step term _ h = tt
 
   pub safe_front : (term : Term ℕ) (l : Links) → IsSafe leaves places (links_term term l) → IsSafe leaves places term
   safe_front = front (IsSafe leaves places) safe_back

@@ -5,15 +5,14 @@ use Rattle.expr_lang.specs.declared.expr.BinOp.{BinOp}
 use Rattle.expr_lang.specs.declared.expr.BinOp.TheVariants.{Add, Sub, Mul, Div, Rem, Min, Max}
 use Rattle.expr_lang.specs.declared.fault.EvalFault.{EvalFault}
 use Rattle.expr_lang.specs.declared.fault.EvalFault.TheVariants.{DivideByZero}
-use Rattle.expr_lang.specs.Terms.{Term, Number, Entry, Index, Neg, Not, Binary}
+use Rattle.expr_lang.specs.Terms.{Term, Number, Neg, Not, Binary}
 use Rattle.expr_lang.specs.Values.{Outcome, then_from, ◌>>=◌, ranged, truth, is_true, unless_decided, outcome_of}
 use Rattle.expr_lang.specs.Inner.Exacts.{exact_by, exact_of, most_by, most_of, has_result, number_in, IsSafe, IsReached}
 
 -- ---- how far from 0
 
 abs_small : (z : ℤ) (m : ℕ) → neg_ℤ (pos m) ≤ℤ z → z ≤ℤ pos m → unsigned_abs z ≤ m
-abs_small (pos n) m least greatest = omega (arith, ints, greatest)
-abs_small (negsuc n) m least greatest = omega (arith, ints, least)
+abs_small z m least greatest = omega (arith, ints, least, greatest)
 
 abs_sum : (a b : ℤ) → unsigned_abs (a +ℤ b) ≤ unsigned_abs a + unsigned_abs b
 abs_sum a b = abs_small (a +ℤ b) (unsigned_abs a + unsigned_abs b) (omega (arith, ints)) (omega (arith, ints))
@@ -40,13 +39,9 @@ abs_truth : (b : Bool) → unsigned_abs (truth b) ≤ 1
 abs_truth true = omega arith
 abs_truth false = omega arith
 
-abs_either : (b : Bool) (x y : ℤ) (m n : ℕ) → unsigned_abs x ≤ m → unsigned_abs y ≤ n → unsigned_abs (cond b y x) ≤ max m n
-abs_either true x y m n one two = omega (arith, two)
-abs_either false x y m n one two = omega (arith, one)
-
-abs_other : (b : Bool) (x y : ℤ) (m n : ℕ) → unsigned_abs x ≤ m → unsigned_abs y ≤ n → unsigned_abs (cond b x y) ≤ max m n
-abs_other true x y m n one two = omega (arith, one)
-abs_other false x y m n one two = omega (arith, two)
+abs_either : (b : Bool) (x y : ℤ) (m n : ℕ) → unsigned_abs x ≤ m → unsigned_abs y ≤ n → unsigned_abs (cond b x y) ≤ max m n
+abs_either true x y m n one two = omega (arith, one)
+abs_either false x y m n one two = omega (arith, two)
 
 near_by : (op : BinOp) (x y : ℤ) (m n : ℕ) → unsigned_abs x ≤ m → unsigned_abs y ≤ n → unsigned_abs (exact_by op x y) ≤ most_by op m n
 near_by Add x y m n one two = omega (arith, abs_sum x y, one, two)
@@ -54,15 +49,14 @@ near_by Sub x y m n one two = omega (arith, abs_difference x y, one, two)
 near_by Mul x y m n one two = abs_product x y m n one two
 near_by Div x y m n one two = omega (arith, abs_quotient x y, one)
 near_by Rem x y m n one two = omega (arith, abs_remainder x y, one)
-near_by Min x y m n one two = abs_either (int_lt y x) x y m n one two
-near_by Max x y m n one two = abs_other (int_lt y x) x y m n one two
+near_by Min x y m n one two = omega (arith, abs_either (int_lt y x) y x n m two one)
+near_by Max x y m n one two = abs_either (int_lt y x) x y m n one two
 near_by other x y m n one two = abs_truth _
 
 -- ---- answers
 
 in_range : (z : ℤ) → unsigned_abs z < 2 ^ 63 → ranged z ≡ Ok z
-in_range (pos n) small = grind (arith, ints)
-in_range (negsuc n) small = grind (arith, ints)
+in_range z small = grind (arith, ints)
 
 in_divided : (none : Bool) (z : ℤ) → not none ≡ true → unsigned_abs z < 2 ^ 63 → (if none then Err DivideByZero else ranged z) ≡ Ok z
 in_divided true z goes small = absurd (cc)
@@ -96,11 +90,7 @@ on_all other y goes = refl
 -- an operator has a result on each row
 on_rows : (op : BinOp) (row : List ℤ) (index : List ℕ) (term : Term ℕ) → has_result op (number_in term) ≡ true → has_result op (exact_of row index term) ≡ true
 on_rows op row index (Number number) goes = goes
-on_rows op row index (Entry leaf) goes = on_all op _ goes
-on_rows op row index (Index dimension) goes = on_all op _ goes
-on_rows op row index (Neg inner) goes = on_all op _ goes
-on_rows op row index (Not inner) goes = on_all op _ goes
-on_rows op row index (Binary by left right) goes = on_all op _ goes
+on_rows op row index _ goes = on_all op _ goes
 
 -- the answer of a term is its exact value, which lies no further from 0 than it may
 pub record IsWorth (row : List ℤ) (index : List ℕ) (term : Term ℕ) (most : ℕ) : Type 0 where
@@ -111,8 +101,7 @@ pub record IsWorth (row : List ℤ) (index : List ℕ) (term : Term ℕ) (most :
 module _ (leaves places : List ℕ) (row : List ℤ) (index : List ℕ) where
   pub worth : (term : Term ℕ) → IsSafe leaves places term → IsReached leaves places row index term → IsWorth row index term (most_of leaves places term)
   worth (Number number) safe reach = record { answer = refl; near = omega arith; small = safe }
-  worth (Entry leaf) safe reach = record { answer = refl; near = reach; small = safe }
-  worth (Index dimension) safe reach = record { answer = refl; near = reach; small = safe }
   worth (Neg inner) safe reach = grind (arith, unsigned_abs, neg_ℤ, abs_negated, then_answer, in_range, (worth inner safe reach))
   worth (Not inner) safe reach = grind (arith, then_answer, abs_truth, (worth inner safe reach))
   worth (Binary op left right) safe reach = grind (arith, unsigned_abs, near_by, binary_answer, on_rows, (worth left safe.0 reach.0), (worth right safe.1 reach.1))
+  worth _ safe reach = record { answer = refl; near = reach; small = safe }

@@ -1,7 +1,7 @@
 -- Readers that answer alike on lists of at most so many tokens, and that composed readers then answer alike.
-use Rattle.std.specs.Prelude.{◌≡◌, ℕ, zero, suc, ◌≤◌, Bool, true, false, if◌then◌else◌, List, [], ◌∷◌, length, Result, Ok, Err, refl}
-use Rattle.record_dim.specs.Std.{ap, ◌∙◌, arith}
-use Rattle.line_grammar.specs.Reading.{◌>>=◌, starts, past, behind_at, then_at, either_at, steps_within, steps_at}
+use Rattle.std.specs.Prelude.{◌≡◌, ℕ, zero, suc, ◌≤◌, Bool, if◌then◌else◌, List, length, Result, Ok, refl}
+use Rattle.record_dim.specs.Std.{ap, ◌∙◌, arith, cases_Bool}
+use Rattle.line_grammar.specs.Reading.{◌>>=◌, starts, behind_at, then_at, either_at, steps_within, steps_at}
 use Rattle.line_grammar.specs.RepeatedLaws.{bind_alike}
 
 abbrev pub Alike : {T A : Type 0} → ℕ → (List T → Result (A × List T) ℕ) → (List T → Result (A × List T) ℕ) → Type 0
@@ -16,14 +16,7 @@ pub then_alike : {T A B : Type 0} (n : ℕ) {read other : List T → Result (A �
 then_alike n {read = read} {next = next} {next_other = next_other} short one two tokens small = grind (arith, bind_alike)
 
 pub behind_alike : {T A : Type 0} (n : ℕ) (test : T → Bool) {read other : List T → Result (A × List T) ℕ} → Alike n read other → Alike (suc n) (behind_at test read) (behind_at test other)
-behind_alike n test one [] small = refl
-behind_alike {T = T} n test {read = read} {other = other} one (token ∷ rest) small =
-    bind_alike (past test (token ∷ rest)) read other (λ us e. one us (past_short test token rest us n (test token) small e))
-  where
-    past_short : {T : Type 0} (test : T → Bool) (token : T) (rest us : List T) (n : ℕ) (b : Bool) → length (token ∷ rest) ≤ suc n →
-        ◌≡◌ {A = Result (List T) ℕ} (if b then Ok rest else Err (length (token ∷ rest))) (Ok us) → length us ≤ n
-    past_short test token rest us n true small e = let same : rest ≡ us = cc in rw (← same) (omega arith)
-    past_short test token rest us n false small e = absurd cc
+behind_alike n test one tokens small = grind (arith, bind_alike, cases_Bool)
 
 pub alike_below : {T A : Type 0} (n m : ℕ) {read other : List T → Result (A × List T) ℕ} → m ≤ n → Alike n read other → Alike m read other
 alike_below n m below one tokens small = one tokens (omega arith)

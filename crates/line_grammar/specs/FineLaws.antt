@@ -2,7 +2,7 @@
 -- read on. All of it is computed from the grammar down to conditions on single tokens. Then reading gives each phrase, and stops where
 -- no phrase goes on.
 use Rattle.std.specs.Prelude.{◌≡◌, ℕ, zero, suc, ◌⊎◌, Bool, true, false, ◌||◌, List, [], ◌∷◌, ◌++◌, is_some, refl, ◌≤◌, Some, Option}
-use Rattle.record_dim.specs.Std.{inl, inr, sym, ap, ◌∙◌, subst, append_assoc, arith}
+use Rattle.record_dim.specs.Std.{cases_Bool, inl, inr, sym, ap, ◌∙◌, subst, append_assoc, arith}
 use Rattle.line_grammar.specs.ParsesLaws.{Exact, Parses, behind_parses, either_parses, give_parses, item_parses, parses_before, then_parses, which_parses}
 use Rattle.line_grammar.specs.WiderLaws.{Wider}
 use Rattle.line_grammar.specs.AlikeLaws.{Alike}
@@ -76,14 +76,7 @@ Fine same (deep of) = ((n : ℕ) → Fine same (of n)) × ((n m : ℕ) → n ≤
 -- truth values
 
 or_starts : {T : Type 0} (test other : T → Bool) (ts : List T) → (starts test ts ≡ true) ⊎ (starts other ts ≡ true) → starts (λ t. test t || other t) ts ≡ true
-or_starts test other [] (inl h) = h
-or_starts test other [] (inr h) = h
-or_starts test other (t ∷ ts) (inl h) = ap (λ b. b || other t) h
-or_starts test other (t ∷ ts) (inr h) = ap (λ b. test t || b) h ∙ or_true (test t)
-  where
-    or_true : (b : Bool) → (b || true) ≡ true
-    or_true true = refl
-    or_true false = refl
+or_starts test other ts h = grind (arith, cases_Bool)
 
 pub or_false : (a b : Bool) → (a || b) ≡ false → (a ≡ false) × (b ≡ false)
 or_false a b e = grind arith

@@ -51,6 +51,37 @@ same_head (x ∷ xs) us vs h = refl
 pub starts_alike : {T : Type 0} (test : T → Bool) (us vs : List T) → head_of us ≡ head_of vs → starts test us ≡ starts test vs
 starts_alike test us vs h = grind arith
 
+-- phrases said otherwise, and a reader that reads alike where the same token stands first
+
+pub found_by : {T A : Type 0} {Is IsAlso : List T → A → Type 0} {read whole : List T → Result (A × List T) ℕ} {tokens : List T} {v : A} {rest : List T} →
+    ((xs : List T) (v : A) → Is xs v → IsAlso xs v) → ((us : List T) → head_of us ≡ head_of tokens → whole us ≡ read us) → Found Is read tokens v rest → Found IsAlso whole tokens v rest
+found_by {v = v} {rest = rest} to same f = record {
+  front = f.front;
+  whole = f.whole;
+  phrase = to f.front v f.phrase;
+  again = λ other h. same (f.front ++ other) (same_head f.front other rest h ∙ sym (ap head_of f.whole)) ∙ f.again other h;
+}
+
+pub stopped_by : {T A : Type 0} {Is IsAlso : List T → A → Type 0} {read whole : List T → Result (A × List T) ℕ} {tokens : List T} {left : ℕ} →
+    ((xs : List T) (v : A) → Is xs v → IsAlso xs v) → ((us : List T) → head_of us ≡ head_of tokens → whole us ≡ read us) → Stopped Is read tokens left → Stopped IsAlso whole tokens left
+stopped_by to same s = record {
+  front = s.front;
+  rest = s.rest;
+  whole = s.whole;
+  length_left = s.length_left;
+  more = s.more;
+  value = s.value;
+  begins = to (s.front ++ s.more) s.value s.begins;
+  blocked = λ token behind other is.
+      same (s.front ++ (token ∷ other)) (same_head s.front (token ∷ other) s.rest (sym (ap head_of is)) ∙ sym (ap head_of s.whole)) ∙ s.blocked token behind other is;
+}
+
+-- reading stops at the first token, or for want of one
+stopped_here : {T A : Type 0} {Is : List T → A → Type 0} {read : List T → Result (A × List T) ℕ} {tokens : List T} {left : ℕ} → length tokens ≡ left →
+    (more : List T) (value : A) → Is more value → ((token : T) (behind other : List T) → tokens ≡ token ∷ behind → read (token ∷ other) ≡ Err (suc (length other))) → Stopped Is read tokens left
+stopped_here {tokens = tokens} short more value is blocked =
+    record { front = []; rest = tokens; whole = refl; length_left = short; more = more; value = value; begins = is; blocked = blocked }
+
 -- a phrase of two parts
 
 pub joined_found : {T A B : Type 0} {Is : List T → A → Type 0} {Next : A → List T → B → Type 0} {read : List T → Result (A × List T) ℕ} {next whole : List T → Result (B × List T) ℕ}
@@ -131,29 +162,11 @@ item_sound value (token ∷ us) v rest e = item_found value token us v rest (val
 item_stop : {T A : Type 0} (value : T → Option A) (some : T) (v : A) → value some ≡ Some v → (token : T) (us : List T) (left : ℕ) (o : Option A) → value token ≡ o →
     ◌≡◌ {A = Result (A × List T) ℕ} (item_or o (suc (length us)) us) (Err left) → Stopped (IsItem value) (item_at value) (token ∷ us) left
 item_stop value some v shown token us left (Some w) is e = absurd cc
-item_stop {T = T} {A = A} value some v shown token us left None is e = record {
-  front = [];
-  rest = token ∷ us;
-  whole = refl;
-  length_left = cc;
-  more = some ∷ [];
-  value = v;
-  begins = (some, refl, shown);
-  blocked = λ next behind other same. grind arith;
-}
+item_stop value some v shown token us left None is e = stopped_here (cc) (some ∷ []) v (some, refl, shown) (λ next behind other same. grind arith)
 
 item_stops : {T A : Type 0} (value : T → Option A) (some : T) (v : A) → value some ≡ Some v → (tokens : List T) (left : ℕ) → item_at value tokens ≡ Err left
     → Stopped (IsItem value) (item_at value) tokens left
-item_stops value some v shown [] left e = record {
-  front = [];
-  rest = [];
-  whole = refl;
-  length_left = cc;
-  more = some ∷ [];
-  value = v;
-  begins = (some, refl, shown);
-  blocked = λ next behind other same. absurd cc;
-}
+item_stops value some v shown [] left e = stopped_here (cc) (some ∷ []) v (some, refl, shown) (λ next behind other same. absurd cc)
 item_stops value some v shown (token ∷ us) left e = item_stop value some v shown token us left (value token) refl e
 
 item_full : {T A : Type 0} (value : T → Option A) (xs : List T) (v : A) (rest : List T) → IsItem value xs v → item_at value (xs ++ rest) ≡ Ok (v, rest)
@@ -228,29 +241,11 @@ behind_stop {T = T} {read = read} exact p token us left true is e = let s = p.st
   begins = (exact.only token is, s.begins);
   blocked = λ next behind other same. ap (λ b. one_past b read (s.front ++ (next ∷ other))) is ∙ s.blocked next behind other same;
 }
-behind_stop {read = read} {test = test} {some = some} exact p token us left false is e = record {
-  front = [];
-  rest = token ∷ us;
-  whole = refl;
-  length_left = cc;
-  more = some ∷ p.example;
-  value = p.value;
-  begins = (refl, p.shown);
-  blocked = λ next behind other same. grind arith;
-}
+behind_stop {read = read} {test = test} {some = some} exact p token us left false is e = stopped_here (cc) (some ∷ p.example) p.value (refl, p.shown) (λ next behind other same. grind arith)
 
 behind_stops : {T A : Type 0} {Is : List T → A → Type 0} {read : List T → Result (A × List T) ℕ} {After : List T → Type 0} {test : T → Bool} {some : T} → Exact test some → Parses Is read After →
     (tokens : List T) (left : ℕ) → behind_at test read tokens ≡ Err left → Stopped (Behind some Is) (behind_at test read) tokens left
-behind_stops {some = some} exact p [] left e = record {
-  front = [];
-  rest = [];
-  whole = refl;
-  length_left = cc;
-  more = some ∷ p.example;
-  value = p.value;
-  begins = (refl, p.shown);
-  blocked = λ next behind other same. absurd cc;
-}
+behind_stops {some = some} exact p [] left e = stopped_here (cc) (some ∷ p.example) p.value (refl, p.shown) (λ next behind other same. absurd cc)
 behind_stops {test = test} exact p (token ∷ us) left e = behind_stop exact p token us left (test token) refl e
 
 behind_full : {T A : Type 0} {Is : List T → A → Type 0} {read : List T → Result (A × List T) ℕ} {After : List T → Type 0} {test : T → Bool} {some : T} → Exact test some → Parses Is read After →
@@ -287,62 +282,23 @@ pub either_parses : {T A : Type 0} {Is IsOther : List T → A → Type 0} {read 
     ((xs : List T) (v : A) (rest : List T) → Is xs v → After rest → starts test (xs ++ rest) ≡ true) →
     ((xs : List T) (v : A) (rest : List T) → IsOther xs v → After rest → starts test (xs ++ rest) ≡ false) →
     Parses (IsEither Is IsOther) (either_at test read other) After
-either_parses {T = T} {Is = Is} {IsOther = IsOther} {read = read} {other = other} test p q passes fails = record {
-  sound = λ tokens v rest e. elim (cases_Bool (starts test tokens)) [
-    | inl holds ↦ let f = p.sound tokens v rest (ap (λ b. if b then read tokens else other tokens) (sym holds) ∙ e) in record {
-      front = f.front;
-      whole = f.whole;
-      phrase = inl f.phrase;
-      again = λ us h. ap (λ b. if b then read (f.front ++ us) else other (f.front ++ us))
-          (starts_alike test (f.front ++ us) tokens (same_head f.front us rest h ∙ sym (ap head_of f.whole)) ∙ holds) ∙ f.again us h;
+either_parses {T = T} {A = A} {Is = Is} {IsOther = IsOther} {read = read} {other = other} test p q passes fails =
+    let goes : (tokens us : List T) (b : Bool) → starts test tokens ≡ b → head_of us ≡ head_of tokens → either_at test read other us ≡ (if b then read us else other us) =
+    λ tokens us b is h. ap (λ b. if b then read us else other us) (starts_alike test us tokens h ∙ is) in
+    record {
+      sound = λ tokens v rest e. elim (cases_Bool (starts test tokens)) [
+        | inl holds ↦ found_by (λ xs v h. inl h) (λ us h. goes tokens us true holds h) (p.sound tokens v rest (sym (goes tokens tokens true holds refl) ∙ e))
+        | inr falls ↦ found_by (λ xs v h. inr h) (λ us h. goes tokens us false falls h) (q.sound tokens v rest (sym (goes tokens tokens false falls refl) ∙ e))
+      ];
+      full = λ xs v rest h after. grind arith;
+      stops = λ tokens left e. elim (cases_Bool (starts test tokens)) [
+        | inl holds ↦ stopped_by (λ xs v h. inl h) (λ us h. goes tokens us true holds h) (p.stops tokens left (sym (goes tokens tokens true holds refl) ∙ e))
+        | inr falls ↦ stopped_by (λ xs v h. inr h) (λ us h. goes tokens us false falls h) (q.stops tokens left (sym (goes tokens tokens false falls refl) ∙ e))
+      ];
+      example = p.example;
+      value = p.value;
+      shown = inl p.shown;
     }
-    | inr falls ↦ let f = q.sound tokens v rest (ap (λ b. if b then read tokens else other tokens) (sym falls) ∙ e) in record {
-      front = f.front;
-      whole = f.whole;
-      phrase = inr f.phrase;
-      again = λ us h. ap (λ b. if b then read (f.front ++ us) else other (f.front ++ us))
-          (starts_alike test (f.front ++ us) tokens (same_head f.front us rest h ∙ sym (ap head_of f.whole)) ∙ falls) ∙ f.again us h;
-    }
-  ];
-  full = λ xs v rest h after. grind arith;
-  stops = λ tokens left e. elim (cases_Bool (starts test tokens)) [
-    | inl holds ↦ let s = p.stops tokens left (ap (λ b. if b then read tokens else other tokens) (sym holds) ∙ e) in record {
-      front = s.front;
-      rest = s.rest;
-      whole = s.whole;
-      length_left = s.length_left;
-      more = s.more;
-      value = s.value;
-      begins = inl s.begins;
-      blocked = λ next behind us same. ap (λ b. if b then read (s.front ++ (next ∷ us)) else other (s.front ++ (next ∷ us)))
-          (starts_alike test (s.front ++ (next ∷ us)) tokens (same_head s.front (next ∷ us) s.rest (sym (ap head_of same)) ∙ sym (ap head_of s.whole)) ∙ holds) ∙ s.blocked next behind us same;
-    }
-    | inr falls ↦ let s = q.stops tokens left (ap (λ b. if b then read tokens else other tokens) (sym falls) ∙ e) in record {
-      front = s.front;
-      rest = s.rest;
-      whole = s.whole;
-      length_left = s.length_left;
-      more = s.more;
-      value = s.value;
-      begins = inr s.begins;
-      blocked = λ next behind us same. ap (λ b. if b then read (s.front ++ (next ∷ us)) else other (s.front ++ (next ∷ us)))
-          (starts_alike test (s.front ++ (next ∷ us)) tokens (same_head s.front (next ∷ us) s.rest (sym (ap head_of same)) ∙ sym (ap head_of s.whole)) ∙ falls) ∙ s.blocked next behind us same;
-    }
-  ];
-  example = p.example;
-  value = p.value;
-  shown = inl p.shown;
-}
-
--- the same reader, with phrases said otherwise, and with fewer that may follow
-
-pub found_also : {T A : Type 0} {Is IsAlso : List T → A → Type 0} {read : List T → Result (A × List T) ℕ} {tokens : List T} {v : A} {rest : List T} →
-    ((xs : List T) (v : A) → Is xs v → IsAlso xs v) → Found Is read tokens v rest → Found IsAlso read tokens v rest
-found_also {v = v} to f = record { front = f.front; whole = f.whole; phrase = to f.front v f.phrase; again = f.again }
-
-pub stopped_also : {T A : Type 0} {Is IsAlso : List T → A → Type 0} {read : List T → Result (A × List T) ℕ} {tokens : List T} {left : ℕ} →
-    ((xs : List T) (v : A) → Is xs v → IsAlso xs v) → Stopped Is read tokens left → Stopped IsAlso read tokens left
-stopped_also to s = grind arith
 
 -- the same phrases, with fewer that may follow
 pub parses_before : {T A : Type 0} {Is : List T → A → Type 0} {read : List T → Result (A × List T) ℕ} {After : List T → Type 0} (Fewer : List T → Type 0)

@@ -3,7 +3,7 @@ use Rattle.record_dim.specs.Std.{cases_Bool, inl, inr, sym, ap, ◌∙◌, appen
 use Rattle.std.specs.Prelude.{◌≡◌, ℕ, zero, suc, ◌≤◌, ◌<◌, Bool, true, false, if◌then◌else◌, List, [], ◌∷◌, ◌++◌, length, Result, Ok, Err, refl}
 use Rattle.line_grammar.specs.Phrases.{Joined, Chain, Repeats}
 use Rattle.line_grammar.specs.Reading.{◌>>=◌, starts, steps_within, steps_at}
-use Rattle.line_grammar.specs.ParsesLaws.{head_of, Found, Stopped, Parses, bind_cases, found_also, joined_found, joined_stops_early, joined_stops_late, ok_parts, starts_alike, stopped_also}
+use Rattle.line_grammar.specs.ParsesLaws.{head_of, Found, Stopped, Parses, bind_cases, found_by, joined_found, joined_stops_early, joined_stops_late, ok_parts, starts_alike, stopped_by}
 
 -- a step whose phrases begin with a token that passes, and behind whose repetition none stands that passes
 pub record Steps {T A : Type 0} (Step : A → List T → A → Type 0) (test : T → Bool) (step : A → List T → Result (A × List T) ℕ) (Between After : List T → Type 0) : Type 0 where
@@ -93,7 +93,7 @@ module _ {T A : Type 0} {Step : A → List T → A → Type 0} {test : T → Boo
         elim (bind_cases (step v tokens) (λ x. steps_within n test step x.0 x.1)) [
           | inl h ↦
               let less = steps_shrink s v tokens h.0 h.1 in
-              found_also (repeats_more Step v)
+              found_by (repeats_more Step v) (λ us h. refl)
               (joined_found ((s.one v).sound tokens h.0.0 h.0.1 h.1) (steps_found n h.0.0 h.0.1 w rest (omega arith) (sym h.2 ∙ e'))
               (λ us behind same is. goes v h.0.0 tokens us behind passes same is))
           | inr h ↦ absurd (let bad = sym h.2 ∙ e' in cc)
@@ -111,11 +111,11 @@ module _ {T A : Type 0} {Step : A → List T → A → Type 0} {test : T → Boo
         elim (bind_cases (step v tokens) (λ x. steps_within n test step x.0 x.1)) [
           | inl h ↦
               let less = steps_shrink s v tokens h.0 h.1 in
-              stopped_also (repeats_more Step v)
+              stopped_by (repeats_more Step v) (λ us h. refl)
               (joined_stops_late ((s.one v).sound tokens h.0.0 h.0.1 h.1) (steps_stopped n h.0.0 h.0.1 left (omega arith) (sym h.2 ∙ e'))
               (λ us behind same is. goes v h.0.0 tokens us behind passes same is))
           | inr h ↦
-              stopped_also (repeats_more Step v)
+              stopped_by (repeats_more Step v) (λ us h. refl)
               (joined_stops_early (let n : h.0 ≡ left = (let same = sym h.2 ∙ e' in cc) in (s.one v).stops tokens left (h.1 ∙ ap Err n))
               (λ a. ([], a, (zero, (refl, refl))))
               (λ us m same is. steps_stop test step (steps_shrink s) v us m (starts_alike test us tokens same ∙ passes) is))

@@ -1,9 +1,9 @@
 -- What is left is no longer than what was given, and shorter behind a phrase that has a token.
-use Rattle.std.specs.Prelude.{◌≡◌, ℕ, zero, suc, ◌+◌, ◌≤◌, ◌<◌, Bool, true, false, ◌||◌, if◌then◌else◌, List, [], ◌∷◌, length, Option, Some, None, Result, Ok, Err, refl}
-use Rattle.record_dim.specs.Std.{ap, arith}
+use Rattle.std.specs.Prelude.{◌≡◌, ℕ, zero, suc, ◌+◌, ◌≤◌, ◌<◌, Bool, true, false, ◌||◌, if◌then◌else◌, List, length, Option, Result, Ok, Err, refl}
+use Rattle.record_dim.specs.Std.{ap, arith, cases_Bool}
 use Rattle.line_grammar.specs.Grammar.{Grammar}
 use Rattle.line_grammar.specs.Grammar as grammar
-use Rattle.line_grammar.specs.Reading.{◌>>=◌, first, at, starts, past, item_or, item_at, steps_at, steps_within}
+use Rattle.line_grammar.specs.Reading.{◌>>=◌, first, at, starts, past, item_at, steps_at, steps_within}
 use Rattle.line_grammar.specs.FineLaws.{may_be_empty}
 use Rattle.line_grammar.specs.ParsesLaws.{ok_parts}
 use Rattle.line_grammar.specs.AlikeLaws.{NoLonger}
@@ -13,20 +13,10 @@ abbrev pub Takes : {T A : Type 0} → (List T → Result (A × List T) ℕ) → 
 Takes {T = T} {A = A} read = (tokens : List T) (x : A × List T) → read tokens ≡ Ok x → length x.1 < length tokens
 
 item_takes : {T A : Type 0} (value : T → Option A) → Takes (item_at value)
-item_takes value [] x e = absurd cc
-item_takes {T = T} {A = A} value (t ∷ rest) x e = of (value t) e
-  where
-    of : (o : Option A) → ◌≡◌ {A = Result (A × List T) ℕ} (item_or o (length (t ∷ rest)) rest) (Ok x) → length x.1 < length (t ∷ rest)
-    of None e = absurd cc
-    of (Some v) e = let parts = ok_parts e in rw (← parts.1) (omega arith)
+item_takes value tokens x e = grind (arith, ok_parts)
 
 past_takes : {T : Type 0} (test : T → Bool) (tokens rest : List T) → past test tokens ≡ Ok rest → 1 + length rest ≤ length tokens
-past_takes test [] rest e = absurd cc
-past_takes {T = T} test (t ∷ us) rest e = of (test t) e
-  where
-    of : (b : Bool) → ◌≡◌ {A = Result (List T) ℕ} (if b then Ok us else Err (length (t ∷ us))) (Ok rest) → 1 + length rest ≤ length (t ∷ us)
-    of true e = let same : us ≡ rest = cc in rw (← same) (omega arith)
-    of false e = absurd cc
+past_takes test tokens rest e = grind (arith, cases_Bool)
 
 bind_takes : {T B : Type 0} {X : Type 0} (r : Result X ℕ) (size : X → ℕ) (k n : ℕ) (next : X → Result (B × List T) ℕ) → ((x : X) → r ≡ Ok x → k + size x ≤ n)
     → ((x : X) (y : B × List T) → next x ≡ Ok y → length y.1 ≤ size x) → (y : B × List T) → (r >>= next) ≡ Ok y → k + length y.1 ≤ n
@@ -41,8 +31,7 @@ steps_no_longer {T = T} {A = A} test step one (suc k) a tokens x e = of (starts 
   where
     of : (b : Bool) → ◌≡◌ {A = Result (A × List T) ℕ} (if b then (step a tokens >>= λ y. steps_within k test step y.0 y.1) else Ok (a, tokens)) (Ok x)
         → ((step a tokens >>= λ y. steps_within k test step y.0 y.1) ≡ Ok x → length x.1 ≤ length tokens) → length x.1 ≤ length tokens
-    of true e go = go e
-    of false e go = let parts = ok_parts e in rw (← parts.1) (omega arith)
+    of b e go = grind (arith, ok_parts)
 
 -- the tokens that a phrase has at least
 abbrev least : Bool → ℕ
@@ -60,13 +49,7 @@ shorter same (grammar.behind token one) tokens x e =
 shorter same (grammar.joined one next) tokens x e =
     bind_takes (at same one tokens) (λ y. length y.1) (least (may_be_empty one)) (length tokens) (λ y. at same (next y.0) y.1) (shorter same one tokens)
     (λ y z is. let less = shorter same (next y.0) y.1 z is in omega (arith, less)) x e
-shorter {T = T} {A = A} same (grammar.either one other) tokens x e = of (starts (first same one) tokens) e (shorter same one tokens x) (shorter same other tokens x)
-  where
-    of : (b : Bool) → ◌≡◌ {A = Result (A × List T) ℕ} (if b then at same one tokens else at same other tokens) (Ok x)
-        → (at same one tokens ≡ Ok x → least (may_be_empty one) + length x.1 ≤ length tokens) → (at same other tokens ≡ Ok x → least (may_be_empty other) + length x.1 ≤ length tokens)
-        → least (may_be_empty one || may_be_empty other) + length x.1 ≤ length tokens
-    of true e f g = let less = f e in let few = least_or (may_be_empty one) (may_be_empty other) in omega (arith, less, few.0)
-    of false e f g = let less = g e in let few = least_or (may_be_empty one) (may_be_empty other) in omega (arith, less, few.1)
+shorter same (grammar.either one other) tokens x e = grind (arith, cases_Bool, least_or, (shorter same one tokens x), (shorter same other tokens x))
 shorter same (grammar.which true one other) tokens x e = let less = shorter same one tokens x e in let few = least_or (may_be_empty one) (may_be_empty other) in omega (arith, less, few.0)
 shorter same (grammar.which false one other) tokens x e = let less = shorter same other tokens x e in let few = least_or (may_be_empty one) (may_be_empty other) in omega (arith, less, few.1)
 shorter same (grammar.nothing value) tokens x e = let parts = ok_parts e in rw (← parts.1) (omega arith)

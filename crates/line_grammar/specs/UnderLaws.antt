@@ -1,10 +1,11 @@
 -- A grammar that is another one with deeper brackets: it has each phrase of that, and lists of at most so many tokens are read alike.
-use Rattle.std.specs.Prelude.{◌≡◌, ℕ, zero, suc, Bool, true, false, if◌then◌else◌, List, [], ◌∷◌, length, Result, Ok, Err, refl}
+use Rattle.std.specs.Prelude.{◌≡◌, ℕ, zero, suc, Bool, true, false, if◌then◌else◌, List, [], ◌∷◌, length, Result, Ok, refl}
 use Rattle.record_dim.specs.Std.{ap, ◌∙◌, arith}
 use Rattle.line_grammar.specs.WiderLaws.{Wider, behind_wider, either_wider, joined_wider, repeats_wider}
 use Rattle.line_grammar.specs.Grammar.{Grammar, Is}
 use Rattle.line_grammar.specs.Reading.{first, at, ◌>>=◌, starts, steps_at, steps_within}
 use Rattle.line_grammar.specs.AlikeLaws.{Alike, alike_below, behind_alike, either_alike, steps_alike, then_alike}
+use Rattle.line_grammar.specs.RepeatedLaws.{bind_alike}
 use Rattle.line_grammar.specs.TakesLaws.{no_longer}
 use Rattle.line_grammar.specs.FineLaws.{starts_same}
 use Rattle.line_grammar.specs.Grammar as grammar
@@ -47,12 +48,8 @@ test_steps : {T A : Type 0} (test other : T → Bool) → ((t : T) → test t �
 test_steps test other e step zero a tokens = refl
 test_steps {T = T} {A = A} test other e step (suc k) a tokens =
     ap (λ (b : Bool). let r : Result (A × List T) ℕ = if b then (step a tokens >>= λ x. steps_within k test step x.0 x.1) else Ok (a, tokens) in r) (starts_same test other e tokens)
-    ∙ ap (λ (r : Result (A × List T) ℕ). if starts other tokens then r else Ok (a, tokens)) (bind_each (step a tokens) (λ x. steps_within k test step x.0 x.1) (λ x. steps_within k other step x.0 x.1)
-    (λ x. test_steps test other e step k x.0 x.1))
-  where
-    bind_each : {X Y : Type 0} (r : Result X ℕ) (f g : X → Result Y ℕ) → ((x : X) → f x ≡ g x) → (r >>= f) ≡ (r >>= g)
-    bind_each (Ok x) f g h = h x
-    bind_each (Err n) f g h = refl
+    ∙ ap (λ (r : Result (A × List T) ℕ). if starts other tokens then r else Ok (a, tokens)) (bind_alike (step a tokens) (λ x. steps_within k test step x.0 x.1) (λ x. steps_within k other step x.0 x.1)
+    (λ x found. test_steps test other e step k x.0 x.1))
 
 pub alike : {T : Type 0} {same : T → T → Bool} {A : Type 0} {n : ℕ} {one more : Grammar T A} → Under same A n one more → Alike n (at same one) (at same more)
 unfolding steps_at

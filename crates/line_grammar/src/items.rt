@@ -108,26 +108,26 @@ fn spelled<T: Spelled>(values: &[T], token: &Token) -> Option<T>
     }
 }
 
+// The types of leaves, `bool` in front.
+const LEAF_TYPES: [LeafType; 9] = [
+    LeafType::Bool,
+    LeafType::U8,
+    LeafType::U16,
+    LeafType::U32,
+    LeafType::U64,
+    LeafType::I8,
+    LeafType::I16,
+    LeafType::I32,
+    LeafType::I64,
+];
+
 impl Item for LeafType {
     type Value = LeafType;
 
     ghost value_of = { type_of };
 
     fn of(token: &Token) -> Option<LeafType> {
-        spelled(
-            &[
-                LeafType::Bool,
-                LeafType::U8,
-                LeafType::U16,
-                LeafType::U32,
-                LeafType::U64,
-                LeafType::I8,
-                LeafType::I16,
-                LeafType::I32,
-                LeafType::I64,
-            ],
-            token,
-        )
+        spelled(&LEAF_TYPES, token)
     }
 }
 
@@ -140,19 +140,7 @@ impl Item for IntegerType {
     ghost value_of = { integer_type_of };
 
     fn of(token: &Token) -> Option<LeafType> {
-        spelled(
-            &[
-                LeafType::U8,
-                LeafType::U16,
-                LeafType::U32,
-                LeafType::U64,
-                LeafType::I8,
-                LeafType::I16,
-                LeafType::I32,
-                LeafType::I64,
-            ],
-            token,
-        )
+        spelled(&LEAF_TYPES[1..], token)
     }
 }
 

@@ -67,8 +67,7 @@ fn read_negation(alloc: Global, room: usize, tokens: &mut Tokens) -> Result<Box<
 {
     let count = count_words(tokens)?;
     let inner = read_comparison(alloc, room, tokens)?;
-    let value = negated(alloc, count, inner)?;
-    Ok(value)
+    Ok(negated(alloc, count, inner)?)
 }
 
 // Two sums and a comparison between them, or one sum.
@@ -84,8 +83,7 @@ fn read_comparison(alloc: Global, room: usize, tokens: &mut Tokens) -> Result<Bo
     }
     let op = tokens.item::<Comparison>()?;
     let right = read_sum(alloc, room, tokens)?;
-    let value = binary(alloc, op, left, right)?;
-    Ok(value)
+    Ok(binary(alloc, op, left, right)?)
 }
 
 // `+` and `-` between products.
@@ -135,8 +133,7 @@ fn read_unary(alloc: Global, room: usize, tokens: &mut Tokens) -> Result<Box<Exp
 {
     let count = count_signs(tokens)?;
     let inner = read_atom(alloc, room, tokens)?;
-    let value = negative(alloc, count, inner)?;
-    Ok(value)
+    Ok(negative(alloc, count, inner)?)
 }
 
 // An operand without an operator of its own.
@@ -153,8 +150,7 @@ fn read_atom(alloc: Global, room: usize, tokens: &mut Tokens) -> Result<Box<Expr
         return read_choice(alloc, room - 1, tokens);
     }
     let leaf = read_leaf(alloc, tokens)?;
-    let boxed = Box::new(alloc, leaf)?;
-    Ok(boxed)
+    Ok(Box::new(alloc, leaf)?)
 }
 
 #[cycle(expr)]
@@ -182,8 +178,7 @@ fn read_choice(alloc: Global, room: usize, tokens: &mut Tokens) -> Result<Box<Ex
     tokens.sign(Sign::Comma)?;
     let right = read_boxed(alloc, room, tokens)?;
     tokens.sign(Sign::CloseParen)?;
-    let value = binary(alloc, op, left, right)?;
-    Ok(value)
+    Ok(binary(alloc, op, left, right)?)
 }
 
 // A number, an index or a path.
@@ -226,8 +221,7 @@ fn binary(
 ) -> Result<Box<Expr>, NoMemory>
     ensures { IfOk result (λ x. boxed_term x ≡ Binary op (boxed_term left) (boxed_term right)) }
 {
-    let whole = Box::new(alloc, Expr::Binary { op, left, right })?;
-    Ok(whole)
+    Ok(Box::new(alloc, Expr::Binary { op, left, right })?)
 }
 
 // How often `not` stands in front.

@@ -28,8 +28,7 @@ fn read_braced(alloc: Global, room: usize, tokens: &mut Tokens) -> Result<FieldL
     tokens.sign(Sign::OpenBrace)?;
     let fields = read_field_list(alloc, room, tokens)?;
     tokens.sign(Sign::CloseBrace)?;
-    let fields = field_list(alloc, fields)?;
-    Ok(fields)
+    Ok(field_list(alloc, fields)?)
 }
 
 #[cycle(fields)]
@@ -94,8 +93,7 @@ fn read_arrays(
 {
     let counts = read_dims(alloc, tokens)?;
     let dim = array_of(alloc, counts, element)?;
-    let field = Box::new(alloc, Field { name, dim })?;
-    Ok(field)
+    Ok(Box::new(alloc, Field { name, dim })?)
 }
 
 // The counts in brackets, the outermost first.

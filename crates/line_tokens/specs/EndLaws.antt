@@ -6,7 +6,7 @@ use Rattle.line_tokens.specs.Signs.{spelling}
 use Rattle.line_tokens.specs.Spots.{brackets_after}
 use Rattle.line_tokens.specs.Spelled.{Written, Spells, AreSpelled, spaced, spaced_tokens}
 use Rattle.line_tokens.specs.declared.sign.Sign.{Sign}
-use Rattle.line_tokens.specs.declared.sign.Sign.TheVariants.{EqualEqual, NotEqual, LessEqual, GreaterEqual, Arrow}
+use Rattle.line_tokens.specs.declared.sign.Sign.TheVariants.{Arrow}
 use Rattle.line_tokens.specs.declared.token.TokenKind.{TokenKind}
 use Rattle.line_tokens.specs.declared.token.TokenKind.TheVariants.{Word, Number, Text, Sign as SignKind}
 use Rattle.line_tokens.specs.Inner.Ends.{NoEnd}
@@ -27,12 +27,8 @@ quoted_no_end : (inside : List ℕ) → AllPass is_text_byte inside → NoEnd (b
 quoted_no_end inside all = ((λ e. omega (arith, e)), no_end_append inside (byte "\"" ∷ []) (all_no_end is_text_byte refl inside all) ((λ e. omega (arith, e)), tt))
 
 sign_no_end : (sign : Sign) → NoEnd (spelling sign)
-sign_no_end EqualEqual = ((λ e. omega (arith, e)), ((λ e. omega (arith, e)), tt))
-sign_no_end NotEqual = ((λ e. omega (arith, e)), ((λ e. omega (arith, e)), tt))
-sign_no_end LessEqual = ((λ e. omega (arith, e)), ((λ e. omega (arith, e)), tt))
-sign_no_end GreaterEqual = ((λ e. omega (arith, e)), ((λ e. omega (arith, e)), tt))
-sign_no_end Arrow = ((λ e. omega (arith, e)), ((λ e. omega (arith, e)), tt))
-sign_no_end other = ((λ e. omega (arith, e)), tt)
+sign_no_end Arrow = grind arith
+sign_no_end other = grind arith
 
 token_no_end : (kind : TokenKind) (bytes : List ℕ) → Spells kind bytes → NoEnd bytes
 token_no_end Word bytes h = all_no_end is_word_byte refl bytes h.1

@@ -1,5 +1,5 @@
 -- What spells a sign, and the longest sign at the front of a text.
-use Rattle.std.specs.Prelude.{◌≡◌, ℕ, ◌≤◌, true, false, List, [], ◌∷◌, ◌++◌, length, Option, Some, None, ◌⊎◌, refl, if◌then◌else◌, nat_eq, ◌&&◌}
+use Rattle.std.specs.Prelude.{◌≡◌, ℕ, ◌≤◌, true, false, List, [], ◌∷◌, ◌++◌, length, get_or, Option, Some, None, ◌⊎◌, refl, if◌then◌else◌, nat_eq, ◌&&◌}
 use Rattle.record_dim.specs.Std.{inl, inr, sym, ◌∙◌, ap, subst, arith, both_ways, cond_both, lt-ltb, eqb-true, and_parts}
 use Rattle.std.specs.Option.{option_map}
 use Rattle.line_tokens.specs.Bytes.{is_space_byte, is_other}
@@ -34,29 +34,12 @@ double : {sign : Sign} (b c : ℕ) → spelling sign ≡ b ∷ (c ∷ []) → do
 double b c e f o i k = inr (record { first = b; second = c; spelled = e; found = f; other = o; inked = i; second_inked = k })
 
 pub sign_spelled : (sign : Sign) → IsSingle sign ⊎ IsDouble sign
-sign_spelled OpenBrace = single 123 refl refl refl refl
-sign_spelled CloseBrace = single 125 refl refl refl refl
-sign_spelled OpenBracket = single 91 refl refl refl refl
-sign_spelled CloseBracket = single 93 refl refl refl refl
-sign_spelled OpenParen = single 40 refl refl refl refl
-sign_spelled CloseParen = single 41 refl refl refl refl
-sign_spelled Colon = single 58 refl refl refl refl
-sign_spelled Comma = single 44 refl refl refl refl
-sign_spelled Dot = single 46 refl refl refl refl
-sign_spelled Equals = single 61 refl refl refl refl
 sign_spelled EqualEqual = double 61 61 refl refl refl refl refl
 sign_spelled NotEqual = double 33 61 refl refl refl refl refl
-sign_spelled LessThan = single 60 refl refl refl refl
 sign_spelled LessEqual = double 60 61 refl refl refl refl refl
-sign_spelled GreaterThan = single 62 refl refl refl refl
 sign_spelled GreaterEqual = double 62 61 refl refl refl refl refl
-sign_spelled Plus = single 43 refl refl refl refl
-sign_spelled Minus = single 45 refl refl refl refl
 sign_spelled Arrow = double 45 62 refl refl refl refl refl
-sign_spelled Star = single 42 refl refl refl refl
-sign_spelled Slash = single 47 refl refl refl refl
-sign_spelled Percent = single 37 refl refl refl refl
-sign_spelled Question = single 63 refl refl refl refl
+sign_spelled other = single (get_or (spelling other) 0 0) refl refl refl refl
 
 -- what an Option of a sign says, where it has one
 abbrev Spells : List ℕ → Option Sign → Type 0

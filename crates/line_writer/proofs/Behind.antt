@@ -1,9 +1,11 @@
 -- Tokens put at the end of a text one after another.
-use Rattle.line_writer.proofs.Imports.{◌≡◌, ℕ, suc, ◌+◌, ◌<◌, ◌≤◌, ◌-◌, List, [], ◌∷◌, ◌++◌, map, length, get_or, take, drop, codes, refl, sym, ap, ◌∙◌, add-one, drop-cons, append-nil, append_assoc, arith, flat_map, take-length, spaced, spaced_tokens, OpenBrace, CloseBrace, Comma, Tree, Fields, Field, FieldWidth, Token, Word, Sign, Sentence, with_commas, width_tokens, widths_tokens, fields_tokens, later_tokens, held_tokens, line_tokens, written, canonical, with_tokens_behind}
+use Rattle.line_writer.proofs.Imports.{◌≡◌, ℕ, suc, ◌+◌, ◌<◌, ◌≤◌, ◌-◌, List, [], ◌∷◌, ◌++◌, map, map-map, length, get_or, take, drop, codes, refl, sym, ap, ◌∙◌, add-one, drop-cons, append-nil, append_assoc, arith, flat_map, take-length, spaced, spaced_tokens, OpenBrace, CloseBrace, Comma, Tree, Fields, Field, FieldWidth, Token, Word, Sign, Sentence, with_commas, width_tokens, widths_tokens, fields_tokens, later_tokens, held_tokens, line_tokens, written, canonical, with_tokens_behind}
 
 pub behind_append : (text : List ℕ) (xs ys : List Token) → with_tokens_behind text (xs ++ ys) ≡ with_tokens_behind (with_tokens_behind text xs) ys
 behind_append text [] ys = refl
 behind_append text (x ∷ xs) ys = behind_append (text ++ 32 ∷ (written x).bytes) xs ys
+
+pub ruleset list_steps = (behind_append, map-map)
 
 -- the text of tokens, the first of them without a space
 abbrev pub begun : List Token → List ℕ

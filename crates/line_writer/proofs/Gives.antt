@@ -1,5 +1,5 @@
 -- What holds of phrases whose tokens are spelled.
-use Rattle.line_writer.proofs.Imports.{◌≡◌, ℕ, suc, List, [], ◌∷◌, ◌++◌, zero, inl, inr, Option, Some, None, true, false, Bool, Spells, Token, Bad, Chain, Grammar, Is, item, behind, joined, either, which, nothing, repeats, deep, Splits, Told, InParts, told, in_parts, written, arith}
+use Rattle.line_writer.proofs.Imports.{◌≡◌, ℕ, suc, List, [], ◌∷◌, ◌++◌, zero, inl, inr, Option, Some, None, true, false, Bool, Spells, Token, Bad, Chain, Joined, IsNothing, Grammar, Is, item, behind, joined, either, which, nothing, repeats, deep, Splits, Told, InParts, told, in_parts, written, arith, sym, append-nil, refl}
 
 -- the canonical bytes of a token spell it
 abbrev pub IsSpelled : Token → Type 0
@@ -28,6 +28,13 @@ each_back P (x ∷ xs) ys h = each_back P xs ys h.1
 
 spelled_splits : Splits (Each IsSpelled)
 spelled_splits = record { front = each_front IsSpelled; back = each_back IsSpelled }
+
+-- one phrase behind another, and the last one
+pub join : {A B : Type 0} {IsOne : List Token → A → Type 0} {Next : A → List Token → B → Type 0} (front back : List Token) (a : A) (v : B) → IsOne front a → Next a back v → Joined IsOne Next (front ++ back) v
+join front back a v h g = record { first = a; front = front; back = back; whole = refl; begins = h; ends = g }
+
+pub last : {A B : Type 0} {IsOne : List Token → A → Type 0} (f : A → B) (xs : List Token) (a : A) → IsOne xs a → Joined IsOne (λ a. IsNothing (f a)) xs (f a)
+last f xs a h = record { first = a; front = xs; back = []; whole = sym (append-nil xs); begins = h; ends = (refl, refl) }
 
 -- each value has one list of spelled tokens
 abbrev pub Prints : {A : Type 0} → Grammar Token A → (A → List Token) → Type 0

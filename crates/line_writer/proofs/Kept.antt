@@ -1,10 +1,10 @@
 -- The phrases that may have other tokens than the canonical ones: lines with expressions and kernels. Their canonical tokens are
 -- read as the same line, and open few brackets at once.
-use Rattle.line_writer.proofs.Imports.{◌≡◌, ℕ, suc, ◌+◌, ◌≤◌, List, [], ◌∷◌, ◌++◌, map, length, codes, refl, sym, add-one, append-nil, append_assoc, arith, zero, inl, inr, Option, Some, None, max, ℤ, pos, negsuc, neg_ℤ, flat_map, Comma, CloseBracket, OpenParen, CloseParen, Dot, Equals, Token, Word, Sign, Number, Sentence, Assignment, Value, Assign, Update, Actors, Kernel, Count, filter_depth, deepest_set, deepest, Joined, IsNothing, Chain, Grammar, Is, behind, joined, more, PathStep, BinOp, depth_of, Version, One, Two, Command, KernelText, KernelWord, token_number, kernel_word_of, comparison_of, command_of, name, count, number, actors, assignment, body, bracketed_list, command_line, constant, cuts_phrase, filter_phrase, inside_kernel, kernel_text, later, line, comma_list, part, parts, path, update_end, operator, kernel_word, with_commas, line_tokens, count_token, number_tokens, path_tokens, form_tokens, value_tokens, assignment_tokens, filter_tokens, update_tokens, index_tokens, actors_tokens, kernel_tokens}
+use Rattle.line_writer.proofs.Imports.{◌≡◌, ℕ, suc, ◌+◌, ◌≤◌, List, [], ◌∷◌, ◌++◌, map, length, codes, refl, sym, add-one, append-nil, append_assoc, arith, zero, inl, inr, Option, Some, None, max, ℤ, pos, negsuc, neg_ℤ, flat_map, Comma, CloseBracket, OpenParen, CloseParen, Dot, Equals, Token, Word, Sign, Number, Sentence, Assignment, Value, Assign, Update, Actors, Kernel, Count, filter_depth, deepest_set, deepest, Chain, Grammar, Is, behind, joined, more, PathStep, BinOp, depth_of, Version, One, Two, Command, KernelText, KernelWord, token_number, kernel_word_of, comparison_of, command_of, name, count, number, actors, assignment, body, bracketed_list, command_line, constant, cuts_phrase, filter_phrase, inside_kernel, kernel_text, later, line, comma_list, part, parts, path, update_end, operator, kernel_word, with_commas, line_tokens, count_token, number_tokens, path_tokens, form_tokens, value_tokens, assignment_tokens, filter_tokens, update_tokens, index_tokens, actors_tokens, kernel_tokens}
 use Rattle.line_grammar.specs.declared.line.Command.TheVariants as command
 use Rattle.line_grammar.specs.declared.line.KernelText.TheVariants as kernel
 use Rattle.line_grammar.specs.declared.line.KernelWord.TheVariants as word
-use Rattle.line_writer.proofs.Gives.{IsSpelled, Each, each_front, each_back, Gives, Prints, gives}
+use Rattle.line_writer.proofs.Gives.{IsSpelled, Each, each_front, each_back, Gives, Prints, gives, join, last}
 use Rattle.line_writer.proofs.Words.{count_prints, name_prints}
 use Rattle.line_writer.proofs.Phrases.{path_prints}
 use Rattle.line_writer.proofs.Leaves.{IsGood}
@@ -39,13 +39,6 @@ kept_count = kept count (λ k. count_token k ∷ []) count_prints
 
 pub kept_path : Gives path KeptPath
 kept_path = kept path path_tokens path_prints
-
--- one phrase behind another, and the last one
-pub join : {A B : Type 0} {IsOne : List Token → A → Type 0} {Next : A → List Token → B → Type 0} (front back : List Token) (a : A) (v : B) → IsOne front a → Next a back v → Joined IsOne Next (front ++ back) v
-join front back a v h g = record { first = a; front = front; back = back; whole = refl; begins = h; ends = g }
-
-pub last : {A B : Type 0} {IsOne : List Token → A → Type 0} (f : A → B) (xs : List Token) (a : A) → IsOne xs a → Joined IsOne (λ a. IsNothing (f a)) xs (f a)
-last f xs a h = record { first = a; front = xs; back = []; whole = sym (append-nil xs); begins = h; ends = (refl, refl) }
 
 -- a constant
 negative : (n : ℕ) → neg_ℤ (pos (n + 1)) ≡ negsuc n
@@ -120,11 +113,9 @@ pub kernel_inside_gives : (word : KernelWord) → Gives (inside_kernel word) (Ke
 unfolding inside_kernel
 kernel_inside_gives word.Axpy = gives (inside_kernel word.Axpy) (KeptKernel word.Axpy) (λ a f i s x g j t y h k u. axpy_kept a x y (const_gives f a i s) (kept_path g x j t) (kept_path h y k u))
 kernel_inside_gives word.Clamp = gives (inside_kernel word.Clamp) (KeptKernel word.Clamp) (λ x f i s lo g j t hi h k u. clamp_kept x lo hi (kept_path f x i s) (const_gives g lo j t) (const_gives h hi k u))
-kernel_inside_gives word.Sum = gives (inside_kernel word.Sum) (KeptKernel word.Sum) (λ x f i s. let k = kept_path f x i s in record { inside = path_tokens x; whole = refl; reads = last kernel.Sum (path_tokens x) x k.reads; fits = path_in x k })
-kernel_inside_gives word.Least = gives (inside_kernel word.Least) (KeptKernel word.Least) (λ x f i s. let k = kept_path f x i s in record { inside = path_tokens x; whole = refl; reads = last kernel.Least (path_tokens x) x k.reads; fits = path_in x k })
-kernel_inside_gives word.Greatest = gives (inside_kernel word.Greatest) (KeptKernel word.Greatest) (λ x f i s. let k = kept_path f x i s in record { inside = path_tokens x; whole = refl; reads = last kernel.Greatest (path_tokens x) x k.reads; fits = path_in x k })
 kernel_inside_gives word.CountWhere = gives (inside_kernel word.CountWhere) (KeptKernel word.CountWhere) (λ x f i s op g j t c h k u.
     count_where_kept x op c (kept_path f x i s) (comparison_is j.0 op j.2 (rw j.1 at t).0) (const_gives h c k u))
+kernel_inside_gives word = gives (inside_kernel word) (KeptKernel word) (λ x f i s. let k = kept_path f x i s in record { inside = path_tokens x; whole = refl; reads = last _ (path_tokens x) x k.reads; fits = path_in x k })
 
 -- a line is kept: its canonical tokens are read as this line, and open no 65th bracket
 abbrev pub IsKept : Version → Sentence → Type 0
@@ -181,8 +172,8 @@ abbrev pub IsFull : {A : Type 0} → List A → Type 0
 IsFull [] = ⊥
 IsFull (x ∷ xs) = Unit {0}
 
-module _ {A : Type 0} (one : Grammar Token A) (tokens : A → List Token) where
-  later_read : (found vs : List A) → Each (λ v. Is one (tokens v) v) vs →
+module _ {A : Type 0} (one : Grammar Token A) (tokens : A → List Token) (P : A → Type 0) (reads : (v : A) → P v → Is one (tokens v) v) where
+  later_read : (found vs : List A) → Each P vs →
       Chain (λ a. Is (more (behind (Sign Comma) one) a)) (length vs) found (flat_map (λ next. Sign Comma ∷ next) (map tokens vs)) (found ++ vs)
   later_read found [] each = (refl, append-nil found)
   later_read found (v ∷ vs) each =
@@ -192,14 +183,14 @@ module _ {A : Type 0} (one : Grammar Token A) (tokens : A → List Token) where
         front = Sign Comma ∷ tokens v;
         back = flat_map (λ next. Sign Comma ∷ next) (map tokens vs);
         whole = refl;
-        begins = last (λ next. found ++ next ∷ []) (Sign Comma ∷ tokens v) v (refl, each.0);
+        begins = last (λ next. found ++ next ∷ []) (Sign Comma ∷ tokens v) v (refl, reads v each.0);
         ends = rw append_assoc at rest;
       }
 
-  pub listed_read : (vs : List A) → IsFull vs → Each (λ v. Is one (tokens v) v) vs → Is (comma_list one) (with_commas (map tokens vs)) vs
+  pub listed_read : (vs : List A) → IsFull vs → Each P vs → Is (comma_list one) (with_commas (map tokens vs)) vs
   unfolding comma_list later
   listed_read [] full each = absurd full
-  listed_read (v ∷ vs) full each = join (tokens v) (flat_map (λ next. Sign Comma ∷ next) (map tokens vs)) v (v ∷ vs) each.0 (length vs, later_read (v ∷ []) vs each.1)
+  listed_read (v ∷ vs) full each = join (tokens v) (flat_map (λ next. Sign Comma ∷ next) (map tokens vs)) v (v ∷ vs) (reads v each.0) (length vs, later_read (v ∷ []) vs each.1)
 
 -- set
 spelled_parts : (parts : List (List Token)) → Each IsSpelled (flat_map (λ next. Sign Comma ∷ next) parts) → Each (Each IsSpelled) parts
@@ -247,10 +238,6 @@ set_reads set good = join (path_tokens set.path) (Sign Equals ∷ value_tokens s
 set_fits : (set : Assignment) → IsGoodSet set → depth_of set.value ≤ 32 → Fits 32 (assignment_tokens set)
 set_fits set good small = fits_append 32 (path_tokens set.path) _ (fits_more 1 32 _ (omega arith) (path_in set.path good.0)) (fits_flat 32 (Sign Equals) _ refl refl (value_in set.value good.1 small))
 
-sets_read : (sets : List Assignment) → Each IsGoodSet sets → Each (λ set. Is assignment (assignment_tokens set) set) sets
-sets_read [] good = tt
-sets_read (set ∷ sets) good = (set_reads set good.0, sets_read sets good.1)
-
 sets_fit : (sets : List Assignment) → Each IsGoodSet sets → deepest_set sets ≤ 32 → Each (Fits 32) (map assignment_tokens sets)
 sets_fit [] good small = tt
 sets_fit (set ∷ sets) good small = (set_fits set good.0 (omega arith), sets_fit sets good.1 (omega arith))
@@ -281,7 +268,7 @@ update_reads version view filter sets end s k ends =
     let commas : List Token = with_commas (map assignment_tokens sets) in
     let parts : Is (joined filter_phrase (λ filter. behind (Word (codes "set")) (joined (comma_list assignment) (λ sets. update_end version view filter sets)))) (filter_tokens filter ++ Word (codes "set") ∷ (commas ++ end)) s =
     join (filter_tokens filter) (Word (codes "set") ∷ (commas ++ end)) filter s (filter_reads filter k.good)
-    (refl, join commas end sets s (listed_read assignment assignment_tokens sets k.full (sets_read sets k.goods)) ends) in
+    (refl, join commas end sets s (listed_read assignment assignment_tokens IsGoodSet set_reads sets k.full k.goods) ends) in
     as_line version command.Update (codes "update") _ s refl (join (Word view ∷ []) _ view s k.named.reads (rw append_assoc parts))
 
 update_ends : (version : Version) (view : List ℕ) (filter : Option Value) (sets : List Assignment) → Is (update_end version view filter sets) [] (Update view filter sets)

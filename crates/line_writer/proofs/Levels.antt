@@ -1,5 +1,6 @@
 -- The canonical tokens of an expression are read as this expression.
-use Rattle.line_writer.proofs.Imports.{◌≡◌, ℕ, suc, ◌≤◌, List, [], ◌∷◌, ◌++◌, codes, refl, sym, append-nil, arith, zero, inl, inr, Option, Some, true, false, Comma, OpenParen, CloseParen, Minus, Token, Word, Sign, Value, Grammar, Is, BinOp, Eq, Ne, Lt, Le, Gt, Ge, Add, Sub, Mul, Div, Rem, Min, Max, And, Or, depth_of, Constant, Entry, Index, Neg, Not, Binary, comparison_of, choice_of, or_of, and_of, sum_of, product_of, number, link, atom_within, bracketed, chain, choice, comparison, conjunction, expr, expr_over, leaf, links, negation, path, prefixed, product, signs, sum, unary, operator, value_tokens, is_choice, operand}
+use Rattle.line_writer.proofs.Imports.{◌≡◌, ℕ, suc, ◌≤◌, List, [], ◌∷◌, ◌++◌, codes, refl, sym, append-nil, arith, zero, inl, inr, Option, Some, true, false, Comma, OpenParen, CloseParen, Minus, Token, Word, Sign, Value, Grammar, Is, BinOp, Min, Max, depth_of, Constant, Neg, Not, Binary, comparison_of, choice_of, number, link, atom_within, bracketed, chain, choice, comparison, conjunction, expr, expr_over, leaf, links, negation, prefixed, product, signs, sum, unary, operator, value_tokens, is_choice, operand}
+use Rattle.line_writer.proofs.Gives.{join, last}
 use Rattle.line_writer.proofs.Leaves.{IsGood}
 
 -- each level has the phrases of the next one
@@ -17,109 +18,32 @@ comparison_one one xs v h = record { first = v; front = xs; back = []; whole = s
 
 -- one operator of a level
 link_of : (op : Token → Option BinOp) (one : Grammar Token Value) (token : Token) (kind : BinOp) (ys : List Token) (a b : Value) → op token ≡ Some kind → Is one ys b → Is (link op one a) (token ∷ ys) (Binary kind a b)
-link_of op one token kind ys a b e h = record {
-  first = kind;
-  front = token ∷ [];
-  back = ys;
-  whole = refl;
-  begins = (token, refl, e);
-  ends = record { first = b; front = ys; back = []; whole = sym (append-nil ys); begins = h; ends = (refl, refl) };
-}
+link_of op one token kind ys a b e h = join (token ∷ []) ys kind _ (token, refl, e) (last (λ b. Binary kind a b) ys b h)
 
 chain_link : (op : Token → Option BinOp) (one : Grammar Token Value) (token : Token) (kind : BinOp) (xs ys : List Token) (a b : Value) → op token ≡ Some kind → Is one xs a → Is one ys b → Is (chain op one) (xs ++ token ∷ ys) (Binary kind a b)
 unfolding chain links
-chain_link op one token kind xs ys a b e h g = record {
-  first = a;
-  front = xs;
-  back = token ∷ ys;
-  whole = refl;
-  begins = h;
-  ends = (1, record { first = Binary kind a b; front = token ∷ ys; back = []; whole = sym (append-nil (token ∷ ys)); begins = link_of op one token kind ys a b e g; ends = (refl, refl) });
-}
+chain_link op one token kind xs ys a b e h g = join xs (token ∷ ys) a _ h
+    (1, record { first = Binary kind a b; front = token ∷ ys; back = []; whole = sym (append-nil (token ∷ ys)); begins = link_of op one token kind ys a b e g; ends = (refl, refl) })
 
 comparison_link : (one : Grammar Token Value) (token : Token) (kind : BinOp) (xs ys : List Token) (a b : Value) → comparison_of token ≡ Some kind → Is (sum one) xs a → Is (sum one) ys b → Is (comparison one) (xs ++ token ∷ ys) (Binary kind a b)
 unfolding comparison
-comparison_link one token kind xs ys a b e h g = record { first = a; front = xs; back = token ∷ ys; whole = refl; begins = h; ends = inl (link_of comparison_of (sum one) token kind ys a b e g) }
+comparison_link one token kind xs ys a b e h g = join xs (token ∷ ys) a _ h (inl (link_of comparison_of (sum one) token kind ys a b e g))
 
 prefix_one : (token : Token) (wrap : Value → Value) (one : Grammar Token Value) (xs : List Token) (v : Value) → Is one xs v → Is (prefixed token wrap one) (token ∷ xs) (wrap v)
 unfolding prefixed signs
-prefix_one token wrap one xs v h = record {
-  first = 1;
-  front = token ∷ [];
-  back = xs;
-  whole = refl;
-  begins = (1, record { first = 1; front = token ∷ []; back = []; whole = refl; begins = (refl, (refl, refl)); ends = (refl, refl) });
-  ends = record { first = v; front = xs; back = []; whole = sym (append-nil xs); begins = h; ends = (refl, refl) };
-}
+prefix_one token wrap one xs v h = join (token ∷ []) xs 1 _
+    (1, record { first = 1; front = token ∷ []; back = []; whole = refl; begins = (refl, (refl, refl)); ends = (refl, refl) }) (last (λ value. wrap value) xs v h)
 
--- from a level up to an expression, and from an atom up to a level
-from_conjunction : (one : Grammar Token Value) (xs : List Token) (v : Value) → Is (conjunction one) xs v → Is (expr_over one) xs v
-unfolding expr_over
-from_conjunction one = chain_one or_of (conjunction one)
-
-from_negation : (one : Grammar Token Value) (xs : List Token) (v : Value) → Is (negation one) xs v → Is (expr_over one) xs v
-unfolding conjunction
-from_negation one xs v h = from_conjunction one xs v (chain_one and_of (negation one) xs v h)
-
-from_comparison : (one : Grammar Token Value) (xs : List Token) (v : Value) → Is (comparison one) xs v → Is (expr_over one) xs v
-unfolding negation
-from_comparison one xs v h = from_negation one xs v (prefix_none (Word (codes "not")) Not (comparison one) xs v h)
-
-from_sum : (one : Grammar Token Value) (xs : List Token) (v : Value) → Is (sum one) xs v → Is (expr_over one) xs v
-from_sum one xs v h = from_comparison one xs v (comparison_one one xs v h)
-
-from_product : (one : Grammar Token Value) (xs : List Token) (v : Value) → Is (product one) xs v → Is (expr_over one) xs v
-unfolding sum
-from_product one xs v h = from_sum one xs v (chain_one sum_of (product one) xs v h)
-
-from_unary : (one : Grammar Token Value) (xs : List Token) (v : Value) → Is (unary one) xs v → Is (expr_over one) xs v
-unfolding product
-from_unary one xs v h = from_product one xs v (chain_one product_of (unary one) xs v h)
-
-as_unary : (one : Grammar Token Value) (xs : List Token) (v : Value) → Is one xs v → Is (unary one) xs v
-unfolding unary
-as_unary one = prefix_none (Sign Minus) Neg one
-
-as_product : (one : Grammar Token Value) (xs : List Token) (v : Value) → Is one xs v → Is (product one) xs v
-unfolding product
-as_product one xs v h = chain_one product_of (unary one) xs v (as_unary one xs v h)
-
-as_sum : (one : Grammar Token Value) (xs : List Token) (v : Value) → Is one xs v → Is (sum one) xs v
-unfolding sum
-as_sum one xs v h = chain_one sum_of (product one) xs v (as_product one xs v h)
-
-as_comparison : (one : Grammar Token Value) (xs : List Token) (v : Value) → Is one xs v → Is (comparison one) xs v
-as_comparison one xs v h = comparison_one one xs v (as_sum one xs v h)
-
-as_negation : (one : Grammar Token Value) (xs : List Token) (v : Value) → Is one xs v → Is (negation one) xs v
-unfolding negation
-as_negation one xs v h = prefix_none (Word (codes "not")) Not (comparison one) xs v (as_comparison one xs v h)
-
-as_conjunction : (one : Grammar Token Value) (xs : List Token) (v : Value) → Is one xs v → Is (conjunction one) xs v
-unfolding conjunction
-as_conjunction one xs v h = chain_one and_of (negation one) xs v (as_negation one xs v h)
-
+-- an atom is an expression, and each operator stands between atoms
 from_atom : (one : Grammar Token Value) (xs : List Token) (v : Value) → Is one xs v → Is (expr_over one) xs v
-from_atom one xs v h = from_conjunction one xs v (as_conjunction one xs v h)
+unfolding expr_over conjunction negation sum product unary
+from_atom one xs v h = search (chain_one, prefix_none, comparison_one) depth 12
 
--- each operator stands between atoms
 between : (one : Grammar Token Value) (op : BinOp) (xs ys : List Token) (a b : Value) → is_choice op ≡ false → Is one xs a → Is one ys b → Is (expr_over one) (xs ++ operator op ∷ ys) (Binary op a b)
-unfolding expr_over conjunction sum product
+unfolding expr_over conjunction negation sum product unary
 between one Min xs ys a b e h g = absurd cc
 between one Max xs ys a b e h g = absurd cc
-between one Mul xs ys a b e h g = from_product one _ _ (chain_link product_of (unary one) (operator Mul) Mul xs ys a b refl (as_unary one xs a h) (as_unary one ys b g))
-between one Div xs ys a b e h g = from_product one _ _ (chain_link product_of (unary one) (operator Div) Div xs ys a b refl (as_unary one xs a h) (as_unary one ys b g))
-between one Rem xs ys a b e h g = from_product one _ _ (chain_link product_of (unary one) (operator Rem) Rem xs ys a b refl (as_unary one xs a h) (as_unary one ys b g))
-between one Add xs ys a b e h g = from_sum one _ _ (chain_link sum_of (product one) (operator Add) Add xs ys a b refl (as_product one xs a h) (as_product one ys b g))
-between one Sub xs ys a b e h g = from_sum one _ _ (chain_link sum_of (product one) (operator Sub) Sub xs ys a b refl (as_product one xs a h) (as_product one ys b g))
-between one Eq xs ys a b e h g = from_comparison one _ _ (comparison_link one (operator Eq) Eq xs ys a b refl (as_sum one xs a h) (as_sum one ys b g))
-between one Ne xs ys a b e h g = from_comparison one _ _ (comparison_link one (operator Ne) Ne xs ys a b refl (as_sum one xs a h) (as_sum one ys b g))
-between one Lt xs ys a b e h g = from_comparison one _ _ (comparison_link one (operator Lt) Lt xs ys a b refl (as_sum one xs a h) (as_sum one ys b g))
-between one Le xs ys a b e h g = from_comparison one _ _ (comparison_link one (operator Le) Le xs ys a b refl (as_sum one xs a h) (as_sum one ys b g))
-between one Gt xs ys a b e h g = from_comparison one _ _ (comparison_link one (operator Gt) Gt xs ys a b refl (as_sum one xs a h) (as_sum one ys b g))
-between one Ge xs ys a b e h g = from_comparison one _ _ (comparison_link one (operator Ge) Ge xs ys a b refl (as_sum one xs a h) (as_sum one ys b g))
-between one And xs ys a b e h g = from_conjunction one _ _ (chain_link and_of (negation one) (operator And) And xs ys a b refl (as_negation one xs a h) (as_negation one ys b g))
-between one Or xs ys a b e h g = chain_link or_of (conjunction one) (operator Or) Or xs ys a b refl (as_conjunction one xs a h) (as_conjunction one ys b g)
+between one op xs ys a b e h g = search (chain_link, comparison_link, chain_one, prefix_none, comparison_one) depth 20
 
 -- an expression in brackets, and two behind `min` or `max`
 abbrev bracketed_tokens : List Token → List Token
@@ -132,24 +56,8 @@ bracketed_atom n xs v h = inl (refl, record { first = v; front = xs; back = Sign
 choice_atom : (n : ℕ) (op : BinOp) (xs ys : List Token) (a b : Value) → choice_of (operator op) ≡ Some op → Is (expr_over (atom_within n)) xs a → Is (expr_over (atom_within n)) ys b →
     Is (atom_within (suc n)) (operator op ∷ Sign OpenParen ∷ (xs ++ Sign Comma ∷ (ys ++ Sign CloseParen ∷ []))) (Binary op a b)
 unfolding atom_within choice
-choice_atom n op xs ys a b e h g = inr (inl (record {
-  first = op;
-  front = operator op ∷ [];
-  back = Sign OpenParen ∷ (xs ++ Sign Comma ∷ (ys ++ Sign CloseParen ∷ []));
-  whole = refl;
-  begins = (operator op, refl, e);
-  ends = (
-    refl,
-    record {
-      first = a;
-      front = xs;
-      back = Sign Comma ∷ (ys ++ Sign CloseParen ∷ []);
-      whole = refl;
-      begins = h;
-      ends = (refl, record { first = b; front = ys; back = Sign CloseParen ∷ []; whole = refl; begins = g; ends = (refl, (refl, refl)) });
-    },
-  );
-}))
+choice_atom n op xs ys a b e h g = inr (inl (join (operator op ∷ []) (Sign OpenParen ∷ (xs ++ Sign Comma ∷ (ys ++ Sign CloseParen ∷ []))) op _ (operator op, refl, e)
+    (refl, join xs (Sign Comma ∷ (ys ++ Sign CloseParen ∷ [])) a _ h (refl, join ys (Sign CloseParen ∷ []) b _ g (refl, (refl, refl))))))
 
 leaf_atom : (n : ℕ) (xs : List Token) (v : Value) → Is leaf xs v → Is (atom_within n) xs v
 unfolding atom_within
@@ -164,9 +72,6 @@ record IsReadBack (v : Value) : Type 0 where
 depth_some : (v : Value) → 1 ≤ depth_of v
 depth_some (Constant number) = omega arith
 depth_some other = omega arith
-
-leaf_back : (v : Value) (tokens : List Token) → Is leaf tokens v → (n : ℕ) → Is (expr_over (atom_within n)) tokens v
-leaf_back v tokens h n = from_atom (atom_within n) tokens v (leaf_atom n tokens v h)
 
 -- a value that stands in brackets as an operand
 compound_atom : (v : Value) (tokens : List Token) → 2 ≤ depth_of v → ((n : ℕ) → depth_of v ≤ suc n → Is (expr_over (atom_within n)) tokens v) → (n : ℕ) → depth_of v ≤ n → Is (atom_within n) (bracketed_tokens tokens) v
@@ -184,32 +89,27 @@ choice_back op a b is e one two = grind (arith, choice_at, from_atom)
 between_back : (op : BinOp) (a b : Value) → is_choice op ≡ false → IsReadBack a → IsReadBack b → IsReadBack (Binary op a b)
 between_back op a b is one two = grind (arith, between, depth_some, compound_atom)
 
-binary_back : (op : BinOp) (a b : Value) → IsReadBack a → IsReadBack b → IsReadBack (Binary op a b)
-binary_back op a b one two = grind (arith, choice_back, between_back)
-
 neg_back : (v : Value) → IsReadBack v → IsReadBack (Neg v)
-unfolding unary
+unfolding expr_over conjunction negation sum product unary
 neg_back v one =
     let whole_at : (n : ℕ) → depth_of (Neg v) ≤ suc n → Is (expr_over (atom_within n)) (value_tokens (Neg v)) (Neg v)
-    = λ n small. from_unary (atom_within n) _ _ (prefix_one (Sign Minus) Neg (atom_within n) (operand v (value_tokens v)) v (one.atom n (omega arith))) in
+    = λ n small. let inner = one.atom n (omega arith) in search (prefix_one (Sign Minus) Neg, chain_one, prefix_none, comparison_one, inner) depth 12 in
     let some = depth_some v in
     record { whole = whole_at; atom = compound_atom (Neg v) (value_tokens (Neg v)) (omega arith) whole_at }
 
 not_back : (v : Value) → IsReadBack v → IsReadBack (Not v)
-unfolding negation
+unfolding expr_over conjunction negation sum product unary
 not_back v one =
     let whole_at : (n : ℕ) → depth_of (Not v) ≤ suc n → Is (expr_over (atom_within n)) (value_tokens (Not v)) (Not v)
-    = λ n small. from_negation (atom_within n) _ _ (prefix_one (Word (codes "not")) Not (comparison (atom_within n)) (operand v (value_tokens v)) v (as_comparison (atom_within n) _ v (one.atom n (omega arith)))) in
+    = λ n small. let inner = one.atom n (omega arith) in search (prefix_one (Word (codes "not")) Not, chain_one, prefix_none, comparison_one, inner) depth 12 in
     let some = depth_some v in
     record { whole = whole_at; atom = compound_atom (Not v) (value_tokens (Not v)) (omega arith) whole_at }
 
 read_back : (v : Value) → IsGood v → IsReadBack v
-read_back (Constant number) good = record { whole = λ n small. leaf_back (Constant number) _ good.leaf n; atom = λ n small. leaf_atom n _ (Constant number) good.leaf }
-read_back (Entry path) good = record { whole = λ n small. leaf_back (Entry path) _ good.leaf n; atom = λ n small. leaf_atom n _ (Entry path) good.leaf }
-read_back (Index dimension) good = record { whole = λ n small. leaf_back (Index dimension) _ good.leaf n; atom = λ n small. leaf_atom n _ (Index dimension) good.leaf }
 read_back (Neg inner) good = neg_back inner (read_back inner good)
 read_back (Not inner) good = not_back inner (read_back inner good)
-read_back (Binary op left right) good = binary_back op left right (read_back left good.0) (read_back right good.1)
+read_back (Binary op left right) good = grind (arith, choice_back, between_back, (read_back left good.0), (read_back right good.1))
+read_back v good = record { whole = λ n small. from_atom (atom_within n) _ v (leaf_atom n _ v good.leaf); atom = λ n small. leaf_atom n _ v good.leaf }
 
 -- the canonical tokens of what was read are read as the same
 pub value_read : (v : Value) → IsGood v → Is expr (value_tokens v) v

@@ -1,12 +1,12 @@
 -- A line has its canonical tokens alone, or one with expressions or a kernel, and then its canonical tokens are kept.
-use Rattle.line_writer.proofs.Imports.{◌≡◌, ℕ, List, [], ◌∷◌, ◌++◌, codes, refl, sym, ap, ◌∙◌, append-nil, inl, inr, Option, Some, ◌⊎◌, Token, Word, Sentence, Assignment, Value, Update, Show, Grammar, Is, item, behind, joined, nothing, InParts, Version, One, Two, Command, KernelWord, command_of, name, count, actors, assignment, body, bracketed_list, command_line, cuts_phrase, extent_word, filter_phrase, fixed, kernel_text, line, comma_list, mapping, new, show_end, update_end, command_word, ExtentWord, ShowKind, line_tokens, count_token, index_tokens, extent_tokens, map_tokens, new_tokens, arith, Sign, Equals, Stencil, PathStep, Span, TermText, window_phrase, path_tokens, window_tokens, terms_tokens}
+use Rattle.line_writer.proofs.Imports.{◌≡◌, ℕ, List, [], ◌∷◌, ◌++◌, codes, refl, sym, ap, ◌∙◌, append-nil, inl, inr, Option, Some, ◌⊎◌, Token, Word, Sentence, Assignment, Value, Update, Show, Grammar, Is, item, behind, joined, nothing, InParts, Version, One, Two, Command, KernelWord, command_of, name, count, actors, assignment, body, bracketed_list, command_line, cuts_phrase, extent_word, filter_phrase, fixed, kernel_text, line, comma_list, mapping, new, show_end, update_end, command_word, commands, reduction_word, reductions, ExtentWord, ShowKind, line_tokens, count_token, index_tokens, extent_tokens, map_tokens, new_tokens, arith, Sign, Equals, Stencil, PathStep, Span, TermText, window_phrase, path_tokens, window_tokens, terms_tokens}
 use Rattle.line_grammar.specs.declared.line.Command.TheVariants as command
 use Rattle.line_grammar.specs.declared.line.ShowKind.TheVariants as show
-use Rattle.line_writer.proofs.Gives.{Each, Gives, IsSpelled, Prints, at_ends, by_parts, each_back, each_front, gives, prints}
-use Rattle.line_writer.proofs.Words.{name_prints, count_prints, string_prints, reduction_prints, command_prints}
+use Rattle.line_writer.proofs.Gives.{Each, Gives, IsSpelled, Prints, at_ends, by_parts, each_back, each_front, gives, prints, join, last}
+use Rattle.line_writer.proofs.Words.{name_prints, count_prints, string_prints, word_prints}
 use Rattle.line_writer.proofs.Phrases.{path_prints, fields_print, mapping_prints, listed_prints, bracket_list_prints, cuts_print, fixed_prints, extent_prints, flag_prints, passes_print, window_prints}
 use Rattle.line_writer.proofs.Leaves.{expr_gives}
-use Rattle.line_writer.proofs.Kept.{kept, kept_name, kept_count, kept_path, KeptKernel, kernel_inside_gives, IsGoodSet, IsGoodFilter, IsKept, KeptParts, count_kept, kernel_kept, assign_kept, update_kept, actors_kept, Kept, KeptName, KeptCount, KeptPath, IsFull, as_line, join, last, name_in, path_in}
+use Rattle.line_writer.proofs.Kept.{kept, kept_name, kept_count, kept_path, KeptKernel, kernel_inside_gives, IsGoodSet, IsGoodFilter, IsKept, KeptParts, count_kept, kernel_kept, assign_kept, update_kept, actors_kept, Kept, KeptName, KeptCount, KeptPath, IsFull, as_line, name_in, path_in}
 use Rattle.line_writer.proofs.Rooms.{fits_append, fits_flat, fits_more, fits_word, one_fits}
 use Rattle.line_writer.proofs.Terms.{KeptTerm, items_give, terms_fit, terms_give, terms_read, window_fits}
 
@@ -101,16 +101,15 @@ body_done version command.Set is = λ xs v h spelled. inr (gives (body version c
 body_done version command.Update is = λ xs v h spelled. inr (update_gives version xs v h spelled)
 body_done version command.Kernel is = λ xs v h spelled. inr (gives (body version command.Kernel) (IsKept version) (λ view f i s text g j t lanes h k u.
     let own = kernel_gives g text j t in kernel_kept version view own.0 text lanes (kept_name f view i s) own.1 (kept_count h lanes k u)) xs v h spelled)
-body_done version command.Reduce is = at_ends (body version command.Reduce) (IsBehind version command.Reduce) (λ view f i s. grind (arith, count_kept, kept_name, expr_gives, name_prints, reduction_prints, path_prints, append-nil))
+body_done version command.Reduce is = at_ends (body version command.Reduce) (IsBehind version command.Reduce) (λ view f i s. grind (arith, count_kept, kept_name, expr_gives, name_prints, (word_prints reduction_word reductions), path_prints, append-nil))
 body_done version command.Copy is = by_its_parts version command.Copy (_, name_prints, λ source. (_, name_prints, λ target. inl refl))
 body_done version command.Relayout is = by_its_parts version command.Relayout (_, name_prints, λ view. (_, mapping_prints version, λ map. inl (rw append-nil refl)))
 body_done version (command.Show kind) is = show_done version kind
-body_done version command.Drop is = by_its_parts version command.Drop (_, name_prints, λ view. inl refl)
 body_done version command.Bytes is = by_its_parts version command.Bytes (_, name_prints, λ view. (_, count_prints, λ blob. inl refl))
-body_done version command.Save is = by_its_parts version command.Save (_, name_prints, λ view. inl refl)
 body_done version command.Open is = by_its_parts version command.Open (_, name_prints, λ view. (_, string_prints, λ file. inl refl))
 body_done version command.Advise is = by_its_parts version command.Advise (_, name_prints, λ view. (_, count_prints, λ granule. (_, passes_print, λ passes. (_, listed_prints (mapping version) map_tokens (mapping_prints version), λ maps. (_, flag_prints (codes "splits"), λ splits. inl (rw append-nil refl))))))
 body_done version command.Stencil is = λ xs v h spelled. inr (stencil_gives version is xs v h spelled)
+body_done version c is = by_its_parts version c (_, name_prints, λ view. inl refl)
 
 -- a word of the version stands for its command
 command_back : (version : Version) (front : List Token) (c : Command) → Is (item (command_of version)) front c → Word (command_word c) ∷ [] ≡ front → command_of version (Word (command_word c)) ≡ Some c
@@ -124,6 +123,6 @@ unfolding line command_line
 line_done version xs v (inr h) spelled = inl (rw (h.0, h.1) refl)
 line_done version xs v (inl h) spelled =
     let all : Each IsSpelled (h.front ++ h.back) = rw h.whole at spelled in
-    let own = command_prints version h.front h.first h.begins (each_front IsSpelled h.front h.back all) in
+    let own = word_prints command_word (commands version) h.front h.first h.begins (each_front IsSpelled h.front h.back all) in
     done_along version (Word (command_word h.first) ∷ h.back) xs v (ap (λ k. k ++ h.back) own ∙ sym h.whole)
     (body_done version h.first (command_back version h.front h.first h.begins own) h.back v h.ends (each_back IsSpelled h.front h.back all))

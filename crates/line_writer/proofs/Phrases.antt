@@ -1,10 +1,10 @@
 -- A path, a record and a mapping have one list of tokens each: the canonical one.
-use Rattle.line_writer.proofs.Imports.{◌≡◌, ℕ, suc, ◌≤◌, List, [], ◌∷◌, ◌++◌, map, length, refl, sym, ap, ◌∙◌, append-nil, append_assoc, arith, zero, inl, inr, Option, Some, None, flat_map, flat_map-append, OpenBrace, CloseBrace, Comma, Arrow, Tree, Fields, Record, Single, Token, Word, Sign, Grammar, Is, behind, joined, repeats, more, InParts, Version, One, Two, map_word, arrays, fields_of_list, name, count, bracketed_list, braced, braced_widths, cuts_phrase, dim, dims, extent_word, field_width, field_widths, field_within, fields, fixed, flag, form_or_name, inside_aos, inside_aosoa, inside_bits, inside_form, inside_soa, later, later_passes, comma_list, mapping, mapping_within, nested, part, parts, pass, passes, path, span, typed, window_phrase, type_word, form_word, MapTerm, MapWord, with_commas, width_tokens, widths_tokens, fields_tokens, later_tokens, held_tokens, count_token, path_tokens, form_tokens, index_tokens, bracket_list, extent_tokens, flag_tokens, map_tokens, pass_tokens, bracketed_count, step_tokens, dims_tokens, core_tokens, span_tokens, window_tokens}
+use Rattle.line_writer.proofs.Imports.{◌≡◌, ℕ, suc, ◌≤◌, List, [], ◌∷◌, ◌++◌, map, length, refl, sym, ap, ◌∙◌, append-nil, append_assoc, arith, zero, inl, inr, Option, Some, None, flat_map, flat_map-append, OpenBrace, CloseBrace, Comma, Arrow, Tree, Fields, Record, Single, Token, Word, Sign, Grammar, Is, behind, joined, repeats, more, InParts, Version, One, Two, map_word, arrays, fields_of_list, name, count, bracketed_list, braced, braced_widths, cuts_phrase, dim, dims, extent_word, field_width, field_widths, field_within, fields, fixed, flag, form_or_name, inside_aos, inside_aosoa, inside_bits, inside_form, inside_soa, later, later_passes, comma_list, mapping, mapping_within, nested, part, parts, pass, passes, path, span, typed, window_phrase, aos_word, aos_forms, soa_word, soa_forms, order_word, orders, leaf_types, integer_types, type_word, form_word, MapTerm, MapWord, with_commas, width_tokens, widths_tokens, fields_tokens, later_tokens, held_tokens, count_token, path_tokens, form_tokens, index_tokens, bracket_list, extent_tokens, flag_tokens, map_tokens, pass_tokens, bracketed_count, step_tokens, dims_tokens, core_tokens, span_tokens, window_tokens}
 use Rattle.record_dim.specs.declared.path.PathStep.TheVariants as step
 use Rattle.line_grammar.specs.declared.line.MapWord.TheVariants as form
 use Rattle.line_writer.proofs.Gives.{Each, IsSpelled, Prints, at_ends, by_parts, each_back, each_front, prints}
 use Rattle.line_writer.proofs.Behind.{some_widths}
-use Rattle.line_writer.proofs.Words.{name_prints, count_prints, type_prints, integer_type_prints, order_prints, aos_form_prints, soa_form_prints, map_word_is}
+use Rattle.line_writer.proofs.Words.{name_prints, count_prints, map_word_is, word_prints}
 
 -- these are the values found and later ones, and the tokens are those of the later ones
 abbrev IsWrittenOn : {A : Type 0} → (A → List Token) → List A → List Token → List A → Type 0
@@ -83,7 +83,7 @@ IsHeld name xs field = Word name ∷ xs ≡ field_tokens field
 
 typed_held : (name : List ℕ) (xs : List Token) (v : List ℕ × Tree) → Is (typed name) xs v → Each IsSpelled xs → IsHeld name xs v
 unfolding typed
-typed_held name = by_parts (typed name) (IsHeld name) (_, type_prints, λ kind. (_, dims_print, λ counts. rw (held_arrays counts (Single kind) refl, append-nil) refl))
+typed_held name = by_parts (typed name) (IsHeld name) (_, word_prints type_word leaf_types, λ kind. (_, dims_print, λ counts. rw (held_arrays counts (Single kind) refl, append-nil) refl))
 
 abbrev braced_tokens : Fields → List Token
 braced_tokens fields = Sign OpenBrace ∷ (fields_tokens fields ++ Sign CloseBrace ∷ [])
@@ -147,17 +147,15 @@ module _ (version : Version) (one : Grammar Token MapTerm) (p : Prints one map_t
 
   inside_prints : (form : MapWord) (xs : List Token) (v : MapTerm) → Is (inside_form version one form) xs v → Each IsSpelled xs → IsInside form xs v
   unfolding inside_form inside_aos inside_soa inside_aosoa inside_bits
-  inside_prints form.Aos = in_its_parts form.Aos (_, aos_form_prints, λ form. (_, order_prints, λ order. refl))
-  inside_prints form.Soa = in_its_parts form.Soa (_, soa_form_prints, λ form. (_, order_prints, λ order. refl))
-  inside_prints form.Aosoa = in_its_parts form.Aosoa (_, count_prints, λ lanes. (_, order_prints, λ order. refl))
-  inside_prints form.BitAos = in_its_parts form.BitAos (_, count_prints, λ width. (_, field_widths_prints version, λ fields. (_, order_prints, λ order. refl)))
-  inside_prints form.BitSoa = in_its_parts form.BitSoa (_, count_prints, λ width. (_, field_widths_prints version, λ fields. (_, order_prints, λ order. refl)))
+  inside_prints form.Aos = in_its_parts form.Aos (_, word_prints aos_word aos_forms, λ form. (_, word_prints order_word orders, λ order. refl))
+  inside_prints form.Soa = in_its_parts form.Soa (_, word_prints soa_word soa_forms, λ form. (_, word_prints order_word orders, λ order. refl))
+  inside_prints form.Aosoa = in_its_parts form.Aosoa (_, count_prints, λ lanes. (_, word_prints order_word orders, λ order. refl))
+  inside_prints form.BitAos = in_its_parts form.BitAos (_, count_prints, λ width. (_, field_widths_prints version, λ fields. (_, word_prints order_word orders, λ order. refl)))
+  inside_prints form.BitSoa = in_its_parts form.BitSoa (_, count_prints, λ width. (_, field_widths_prints version, λ fields. (_, word_prints order_word orders, λ order. refl)))
   inside_prints form.Split = in_its_parts form.Split (_, path_prints, λ path. (_, p, λ first. (_, p, λ rest. rw append-nil refl)))
-  inside_prints form.Byteswap = in_its_parts form.Byteswap (_, p, λ inner. rw append-nil refl)
-  inside_prints form.Bytesplit = in_its_parts form.Bytesplit (_, p, λ inner. rw append-nil refl)
-  inside_prints form.Change = in_its_parts form.Change (_, type_prints, λ from. (_, integer_type_prints, λ to. (_, p, λ inner. form_end form.Change (Word (type_word from) ∷ Sign Arrow ∷ Word (type_word to) ∷ Sign Comma ∷ []) (map_tokens inner))))
-  inside_prints form.Count = in_its_parts form.Count (_, p, λ inner. rw append-nil refl)
+  inside_prints form.Change = in_its_parts form.Change (_, word_prints type_word leaf_types, λ from. (_, word_prints type_word integer_types, λ to. (_, p, λ inner. form_end form.Change (Word (type_word from) ∷ Sign Arrow ∷ Word (type_word to) ∷ Sign Comma ∷ []) (map_tokens inner))))
   inside_prints form.Heat = in_its_parts form.Heat (_, count_prints, λ granule. (_, p, λ inner. form_end form.Heat (count_token granule ∷ Sign Comma ∷ []) (map_tokens inner)))
+  inside_prints form = in_its_parts form (_, p, λ inner. rw append-nil refl)
 
   form_or_name_prints : (word : List ℕ) (form : Option MapWord) → map_word word ≡ form → (xs : List Token) (v : MapTerm) → Is (form_or_name version one word form) xs v → Each IsSpelled xs → IsBehindWord word xs v
   unfolding form_or_name

@@ -1,8 +1,8 @@
 -- Windows and weighted terms. A term may have other tokens than the canonical ones, since a number may have a sign before a zero: its canonical tokens are kept.
 use Rattle.line_writer.proofs.Imports.{List, [], ◌∷◌, ◌++◌, map, codes, refl, arith, ℤ, Comma, CloseBracket, OpenParen, CloseParen, Star, Token, Word, Sign, Grammar, Is, behind, PathStep, bracketed_list, constant, later, comma_list, path, span, term_phrase, terms_phrase, Span, TermText, with_commas, number_tokens, path_tokens, bracket_list, span_tokens, window_tokens, term_tokens, terms_tokens}
-use Rattle.line_writer.proofs.Gives.{IsSpelled, Each, each_append, each_front, Gives, gives}
+use Rattle.line_writer.proofs.Gives.{IsSpelled, Each, each_append, each_front, Gives, gives, join, last}
 use Rattle.line_writer.proofs.Rooms.{Fits, commas_fit, fits_append, fits_flat, fits_inside, fits_more, bracket_list_fits, number_fits, one_fits, fits_word}
-use Rattle.line_writer.proofs.Kept.{KeptConst, KeptPath, IsFull, const_gives, join, kept_path, last, listed_read, path_in, spelled_commas}
+use Rattle.line_writer.proofs.Kept.{KeptConst, KeptPath, IsFull, const_gives, kept_path, listed_read, path_in, spelled_commas}
 
 -- a list of phrases has one at least, and `P` holds of each
 full_more : {A : Type 0} (found : List A) (next : A) → IsFull (found ++ next ∷ [])
@@ -27,10 +27,6 @@ window_fits window h = fits_flat 1 (Word (codes "window")) _ refl h.0
     (bracket_list_fits 0 _ (spans_fit window (spelled_commas _ (each_front IsSpelled (with_commas (map span_tokens window)) (Sign CloseBracket ∷ []) h.1.1))))
 
 -- offsets
-consts_read : (numbers : List ℤ) → Each KeptConst numbers → Each (λ number. Is constant (number_tokens number) number) numbers
-consts_read [] each = tt
-consts_read (value ∷ values) each = (each.0.reads, consts_read values each.1)
-
 consts_fit : (numbers : List ℤ) → Each KeptConst numbers → Each (Fits 0) (map number_tokens numbers)
 consts_fit [] each = tt
 consts_fit (value ∷ values) each = (number_fits value each.0.spelled, consts_fit values each.1)
@@ -40,7 +36,7 @@ unfolding bracketed_list
 offsets_read offsets full each = (
   refl,
   join (with_commas (map number_tokens offsets)) (Sign CloseBracket ∷ []) offsets offsets
-      (listed_read constant number_tokens offsets full (consts_read offsets each)) (refl, (refl, refl)),
+      (listed_read constant number_tokens KeptConst (λ number k. k.reads) offsets full each) (refl, (refl, refl)),
 )
 
 -- a term
@@ -71,10 +67,6 @@ term_gives = gives term_phrase KeptTerm (λ weight f i s path g j t offsets h k 
     let full = offsets_give h offsets k u in term_kept weight path offsets (const_gives f weight i s) (kept_path g path j t) full.0 full.1)
 
 -- the terms
-terms_are_read : (terms : List TermText) → Each KeptTerm terms → Each (λ term. Is term_phrase (term_tokens term) term) terms
-terms_are_read [] each = tt
-terms_are_read (term ∷ terms) each = (each.0.reads, terms_are_read terms each.1)
-
 each_fits : (terms : List TermText) → Each KeptTerm terms → Each (Fits 1) (map term_tokens terms)
 each_fits [] each = tt
 each_fits (term ∷ terms) each = (each.0.fits, each_fits terms each.1)
@@ -84,7 +76,7 @@ unfolding terms_phrase
 terms_read terms full each = (
   refl,
   join (with_commas (map term_tokens terms)) (Sign CloseParen ∷ []) terms terms
-      (listed_read term_phrase term_tokens terms full (terms_are_read terms each)) (refl, (refl, refl)),
+      (listed_read term_phrase term_tokens KeptTerm (λ term k. k.reads) terms full each) (refl, (refl, refl)),
 )
 
 pub terms_fit : (terms : List TermText) → Each KeptTerm terms → Fits 2 (terms_tokens terms)

@@ -1,5 +1,5 @@
 -- The one token that each word, name, number and string of a phrase has.
-use Rattle.line_writer.proofs.Imports.{◌≡◌, ℕ, List, [], ◌∷◌, map, refl, sym, ap, ◌∙◌, Option, Some, true, Bool, if◌then◌else◌, bytes_eq, nat_lt, list_any, bytes_eq-Decides, Token, Word, Text, item, Version, command_of, map_word, token_order, listed, meaning, name_of, count_of, string_of, type_of, integer_type_of, integer_types, leaf_types, orders, aos_forms, aos_form_of, soa_forms, soa_form_of, map_words, reduction_of, reductions, commands, name, count, string, reduction_word, command_word, type_word, order_word, aos_word, soa_word, form_word, MapWord, count_token, arith}
+use Rattle.line_writer.proofs.Imports.{◌≡◌, ℕ, List, [], ◌∷◌, map, refl, sym, ap, ◌∙◌, Option, Some, true, Bool, if◌then◌else◌, bytes_eq, nat_lt, list_any, bytes_eq-Decides, Token, Word, Text, item, map_word, listed, meaning, name_of, count_of, string_of, map_words, name, count, string, form_word, MapWord, count_token, arith}
 use Rattle.line_writer.proofs.Gives.{Prints}
 
 listed_step : {A : Type 0} (word_of own : A → List ℕ) (word : List ℕ) (value v : A) (rest : Option A) (b : Bool) → (b ≡ true → word ≡ word_of value) → word_of value ≡ own value →
@@ -25,29 +25,8 @@ map_word_is = listed_as form_word form_word map_words refl
 pub one_token : {A : Type 0} (value : Token → Option A) (token_for : A → Token) → ((token : Token) (v : A) → value token ≡ Some v → token ≡ token_for v) → Prints (item value) (λ v. token_for v ∷ [])
 one_token value token_for is front v h spelled = sym (h.1 ∙ ap (λ (t : Token). t ∷ []) (is h.0 v h.2))
 
-abbrev IsWordPhrase : {A : Type 0} → (Token → Option A) → (A → List ℕ) → Type 0
-IsWordPhrase value word_of = Prints (item value) (λ v. Word (word_of v) ∷ [])
-
-pub type_prints : IsWordPhrase type_of type_word
-type_prints = one_token type_of (λ v. Word (type_word v)) (meant_word type_word leaf_types)
-
-pub integer_type_prints : IsWordPhrase integer_type_of type_word
-integer_type_prints = one_token integer_type_of (λ v. Word (type_word v)) (meant_word type_word integer_types)
-
-pub order_prints : IsWordPhrase token_order order_word
-order_prints = one_token token_order (λ v. Word (order_word v)) (meant_word order_word orders)
-
-pub aos_form_prints : IsWordPhrase aos_form_of aos_word
-aos_form_prints = one_token aos_form_of (λ v. Word (aos_word v)) (meant_word aos_word aos_forms)
-
-pub soa_form_prints : IsWordPhrase soa_form_of soa_word
-soa_form_prints = one_token soa_form_of (λ v. Word (soa_word v)) (meant_word soa_word soa_forms)
-
-pub reduction_prints : IsWordPhrase reduction_of reduction_word
-reduction_prints = one_token reduction_of (λ v. Word (reduction_word v)) (meant_word reduction_word reductions)
-
-pub command_prints : (version : Version) → IsWordPhrase (command_of version) command_word
-command_prints version = one_token (command_of version) (λ v. Word (command_word v)) (meant_word command_word (commands version))
+pub word_prints : {A : Type 0} (word_of : A → List ℕ) (values : List A) → Prints (item (meaning word_of values)) (λ v. Word (word_of v) ∷ [])
+word_prints word_of values = one_token (meaning word_of values) (λ v. Word (word_of v)) (meant_word word_of values)
 
 name_is : (token : Token) (v : List ℕ) → name_of token ≡ Some v → token ≡ Word v
 name_is token v h = grind (arith, list_any, bytes_eq)

@@ -5,7 +5,7 @@ ghost use Rattle.line_writer.specs.Canonical.{count_token, number_tokens, path_t
 ghost use Rattle.line_writer.specs.Texts.{with_tokens_behind};
 
 use crate::mapping::{open, write_map};
-use crate::parts::{write_extents, write_index, write_sets};
+use crate::parts::{write_list, write_parts};
 use crate::record::write_held;
 use crate::tokens::{push, push_count, push_number, write_path};
 use crate::value::{operator_text, write_value};
@@ -57,7 +57,7 @@ pub(crate) fn write_view(
     write_named(text, command, name)?;
     push(text, ":")?;
     push(text, schema.as_str())?;
-    write_extents(text, words.as_slice())?;
+    write_list(text, words.as_slice())?;
     write_flag(text, "wrap", wrap)?;
     push(text, "as")?;
     write_map(text, expr)
@@ -70,24 +70,7 @@ pub(crate) fn write_flag(text: &mut Text, word: &str, is_set: bool) -> Result<()
     if is_set { push(text, word) } else { Ok(()) }
 }
 
-#[tactic(auto, using(crate::proofs::Behind::behind_append))]
-pub(crate) fn write_load(
-    text: &mut Text,
-    name: &Name,
-    schema: &Name,
-    words: &ExtentWords,
-    wrap: bool,
-    expr: &MapExpr,
-    file: &FileName,
-) -> Result<(), NoMemory>
-    ensures { OnOk result (text.new ≡ with_tokens_behind (text.old ++ command_word Command.Load)
-        (new_tokens (record { name = name.now; schema = schema.now; words = words.now; wrap = wrap; term = map_of expr.now }) ++ Word (codes "from") ∷ Quoted file.now ∷ [])) }
-{
-    write_view(text, Command::Load, name, schema, words, wrap, expr)?;
-    write_file(text, file)
-}
-
-fn write_file(text: &mut Text, file: &FileName) -> Result<(), NoMemory>
+pub(crate) fn write_file(text: &mut Text, file: &FileName) -> Result<(), NoMemory>
     ensures { OnOk result (text.new ≡ with_tokens_behind text.old (Word (codes "from") ∷ Quoted file.now ∷ [])) }
 {
     push(text, "from")?;
@@ -108,14 +91,14 @@ pub(crate) fn write_assign(
         (index_tokens index.now ++ Sign Dot ∷ (path_tokens path.now ++ Sign Equals ∷ value_tokens (term_of value.now))))) }
 {
     write_named(text, Command::Set, view)?;
-    write_index(text, index.as_slice())?;
+    write_list(text, index.as_slice())?;
     push(text, ".")?;
     write_path(text, path)?;
     push(text, "=")?;
     write_value(text, value)
 }
 
-#[tactic(auto, using(crate::proofs::Behind::behind_append))]
+#[tactic(auto, using(crate::proofs::Behind::list_steps))]
 pub(crate) fn write_update(
     text: &mut Text,
     view: &Name,
@@ -128,7 +111,7 @@ pub(crate) fn write_update(
     write_named(text, Command::Update, view)?;
     write_filter(text, filter)?;
     push(text, "set")?;
-    write_sets(text, sets.as_slice())
+    write_parts(text, sets.as_slice())
 }
 
 // The actors behind an update.
@@ -142,7 +125,7 @@ pub(crate) fn write_actors(
     ensures { OnOk result (text.new ≡ with_tokens_behind text.old (actors_tokens cuts.now seed turns)) }
 {
     push(text, "actors")?;
-    write_index(text, cuts.as_slice())?;
+    write_list(text, cuts.as_slice())?;
     push(text, "schedule")?;
     push_count(text, seed)?;
     push(text, "turns")?;
@@ -202,27 +185,15 @@ fn write_kernel(text: &mut Text, kernel: &KernelText) -> Result<(), NoMemory>
         KernelText::Sum(x) => write_path_kernel(text, KernelWord::Sum, x),
         KernelText::Least(x) => write_path_kernel(text, KernelWord::Least, x),
         KernelText::Greatest(x) => write_path_kernel(text, KernelWord::Greatest, x),
-        KernelText::CountWhere { x, op, c } => write_comparison(
-            text,
-            KernelWord::CountWhere,
-            x,
-            *op,
-            c,
-        ),
+        KernelText::CountWhere { x, op, c } => write_comparison(text, x, *op, c),
     }
 }
 
 #[tactic(auto, using(crate::proofs::Behind::behind_append))]
-fn write_comparison(
-    text: &mut Text,
-    word: KernelWord,
-    path: &Path,
-    op: BinOp,
-    number: &i128,
-) -> Result<(), NoMemory>
-    ensures { OnOk result (text.new ≡ with_tokens_behind text.old (form_tokens (kernel_word word) (path_tokens path.now ++ operator op ∷ number_tokens number.now))) }
+fn write_comparison(text: &mut Text, path: &Path, op: BinOp, number: &i128) -> Result<(), NoMemory>
+    ensures { OnOk result (text.new ≡ with_tokens_behind text.old (form_tokens (kernel_word KernelWord.CountWhere) (path_tokens path.now ++ operator op ∷ number_tokens number.now))) }
 {
-    open(text, word.word())?;
+    open(text, KernelWord::CountWhere.word())?;
     write_path(text, path)?;
     push(text, operator_text(op))?;
     push_number(text, *number)?;
@@ -282,11 +253,4 @@ pub(crate) fn write_bytes(text: &mut Text, view: &Name, blob: u32) -> Result<(),
 {
     write_named(text, Command::Bytes, view)?;
     push_count(text, blob)
-}
-
-pub(crate) fn write_open(text: &mut Text, name: &Name, file: &FileName) -> Result<(), NoMemory>
-    ensures { OnOk result (text.new ≡ with_tokens_behind (text.old ++ command_word Command.Open) (Word name.now ∷ Word (codes "from") ∷ Quoted file.now ∷ [])) }
-{
-    write_named(text, Command::Open, name)?;
-    write_file(text, file)
 }

@@ -1,40 +1,24 @@
 // The lines of commands that came with the second version, at the end of a text.
 ghost use Rattle.std.specs.Prelude.{◌≡◌, ◌++◌, ◌∷◌, [], map, codes, OnOk};
 ghost use Rattle.line_writer.specs.Imports.{flat_map, map_of, Equals, Slash, Word, Sign, command_word};
-ghost use Rattle.line_writer.specs.Canonical.{bracket_list, count_token, flag_tokens, map_tokens, number_tokens, pass_tokens, path_tokens, span_tokens, term_tokens, terms_tokens, window_tokens, with_commas};
+ghost use Rattle.line_writer.specs.Canonical.{count_token, flag_tokens, map_tokens, number_tokens, pass_tokens, path_tokens, span_tokens, term_tokens, terms_tokens, window_tokens, with_commas};
 ghost use Rattle.line_writer.specs.Texts.{with_tokens_behind};
 
 use crate::commands::{write_flag, write_named};
 use crate::mapping::write_map;
-use crate::parts::{Part, write_parts};
+use crate::parts::{Part, write_list, write_parts};
 use crate::tokens::{push, push_count, push_number, write_path};
 use extents::Span;
-use line_grammar::{
-    Command, PassText, PassTextList, ShowKind, TermText, TermTextList, WindowWords,
-};
+use line_grammar::{Command, PassText, PassTextList, TermText, TermTextList, WindowWords};
 use map_expr::{MapExpr, MapExprList};
 use record_dim::{Name, Path, Text};
 use std::alloc::AllocError as NoMemory;
 
-pub(crate) fn write_print_window(
-    text: &mut Text,
-    view: &Name,
-    window: &WindowWords,
-) -> Result<(), NoMemory>
-    ensures { OnOk result (text.new ≡ with_tokens_behind (text.old ++ command_word (Command.Show ShowKind.Print)) (Word view.now ∷ window_tokens window.now)) }
-{
-    write_named(text, Command::Show(ShowKind::Print), view)?;
-    write_window(text, window)
-}
-
-#[tactic(auto, using(crate::proofs::Behind::behind_append))]
-fn write_window(text: &mut Text, window: &WindowWords) -> Result<(), NoMemory>
+pub(crate) fn write_window(text: &mut Text, window: &WindowWords) -> Result<(), NoMemory>
     ensures { OnOk result (text.new ≡ with_tokens_behind text.old (window_tokens window.now)) }
 {
     push(text, "window")?;
-    push(text, "[")?;
-    write_parts(text, window.as_slice())?;
-    push(text, "]")
+    write_list(text, window.as_slice())
 }
 
 impl Part for Span {
@@ -90,17 +74,8 @@ impl Part for TermText {
         push(text, "*")?;
         write_path(text, &self.path)?;
         push(text, "at")?;
-        write_offsets(text, self.offsets.as_slice())
+        write_list(text, self.offsets.as_slice())
     }
-}
-
-#[tactic(auto, using(crate::proofs::Behind::behind_append))]
-fn write_offsets(text: &mut Text, offsets: &[i128]) -> Result<(), NoMemory>
-    ensures { OnOk result (text.new ≡ with_tokens_behind text.old (bracket_list (map number_tokens offsets.now))) }
-{
-    push(text, "[")?;
-    write_parts(text, offsets)?;
-    push(text, "]")
 }
 
 impl Part for i128 {
@@ -111,7 +86,7 @@ impl Part for i128 {
     }
 }
 
-#[tactic(auto, using(crate::proofs::Behind::behind_append))]
+#[tactic(auto, using(crate::proofs::Behind::list_steps))]
 pub(crate) fn write_advise(
     text: &mut Text,
     view: &Name,
@@ -128,7 +103,7 @@ pub(crate) fn write_advise(
     push_count(text, granule)?;
     write_each(text, passes.as_slice())?;
     push(text, "among")?;
-    write_maps(text, maps.as_slice())?;
+    write_parts(text, maps.as_slice())?;
     write_flag(text, "splits", splits)
 }
 
@@ -161,12 +136,6 @@ impl Part for Path {
     fn write_part(&self, text: &mut Text) -> Result<(), NoMemory> {
         write_path(text, self)
     }
-}
-
-fn write_maps(text: &mut Text, maps: &[MapExpr]) -> Result<(), NoMemory>
-    ensures { OnOk result (text.new ≡ with_tokens_behind text.old (with_commas (map map_tokens (map map_of maps.now)))) }
-{
-    write_parts(text, maps)
 }
 
 impl Part for MapExpr {

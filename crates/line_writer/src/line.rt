@@ -3,12 +3,12 @@ ghost use Rattle.line_writer.specs.Imports.{Version, sentence_of, deepest, Reads
 ghost use Rattle.line_writer.specs.Texts.{canonical, is_later, is_on_rows};
 
 use crate::commands::{
-    write_actors, write_assign, write_bytes, write_copy, write_count, write_define,
-    write_kernel_line, write_load, write_mapping, write_named, write_open, write_reduce,
-    write_relayout, write_update, write_view,
+    write_actors, write_assign, write_bytes, write_copy, write_count, write_define, write_file,
+    write_kernel_line, write_mapping, write_named, write_reduce, write_relayout, write_update,
+    write_view,
 };
-use crate::later::{write_advise, write_print_window, write_stencil};
-use line_grammar::{Command, Line};
+use crate::later::{write_advise, write_stencil, write_window};
+use line_grammar::{Command, Line, ShowKind};
 use record_dim::Text;
 use std::alloc::{AllocError as NoMemory, Global};
 
@@ -28,7 +28,7 @@ pub fn write_line(alloc: Global, line: &Line) -> Result<Text, NoMemory>
     Ok(text)
 }
 
-#[tactic(auto, using(crate::proofs::Behind::canonical_begun))]
+#[tactic(auto, using(crate::proofs::Behind::canonical_begun, crate::proofs::Behind::behind_append))]
 fn write_command(text: &mut Text, line: &Line) -> Result<(), NoMemory>
     requires { text.old ≡ [] }
     ensures { OnOk result (text.new ≡ canonical (sentence_of line.now)) }
@@ -50,7 +50,10 @@ fn write_command(text: &mut Text, line: &Line) -> Result<(), NoMemory>
             wrap,
             expr,
             file,
-        } => write_load(text, name, schema, words, *wrap, expr, file),
+        } => {
+            write_view(text, Command::Load, name, schema, words, *wrap, expr)?;
+            write_file(text, file)
+        }
         Line::Copy { source, target } => write_copy(text, source, target),
         Line::Relayout { view, expr } => write_relayout(text, view, expr),
         Line::Drop(view) => write_named(text, Command::Drop, view),
@@ -110,7 +113,10 @@ fn write_later(text: &mut Text, line: &Line) -> Result<(), NoMemory>
 {
     match line {
         Line::SaveView(view) => write_named(text, Command::Save, view),
-        Line::OpenFile { name, file } => write_open(text, name, file),
+        Line::OpenFile { name, file } => {
+            write_named(text, Command::Open, name)?;
+            write_file(text, file)
+        }
         Line::Advise {
             view,
             granule,
@@ -118,7 +124,10 @@ fn write_later(text: &mut Text, line: &Line) -> Result<(), NoMemory>
             maps,
             splits,
         } => write_advise(text, view, *granule, passes, maps, *splits),
-        Line::PrintWindow { view, window } => write_print_window(text, view, window),
+        Line::PrintWindow { view, window } => {
+            write_named(text, Command::Show(ShowKind::Print), view)?;
+            write_window(text, window)
+        }
         Line::Stencil {
             view,
             window,

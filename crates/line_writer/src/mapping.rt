@@ -1,13 +1,14 @@
 // A mapping.
 ghost use Rattle.std.specs.Prelude.{◌≡◌, ◌∷◌, [], OnOk};
-ghost use Rattle.line_writer.specs.Imports.{OpenParen, Word, Sign};
+ghost use Rattle.line_writer.specs.Imports.{OpenParen, Word, Sign, form_word};
 ghost use Rattle.map_expr.specs.Terms.{term_of};
-ghost use Rattle.line_writer.specs.Canonical.{count_token, form_tokens, ordered_tokens, map_tokens};
+ghost use Rattle.line_writer.specs.Canonical.{form_tokens, ordered_tokens, map_tokens};
 ghost use Rattle.line_writer.specs.Texts.{with_tokens_behind};
 
 use crate::tokens::{push, push_count, write_path};
 use crate::widths::write_bits;
 use extents::Order;
+use itoa::Buffer;
 use line_grammar::{MapWord, Spelled};
 use map_expr::MapExpr;
 use record_dim::Text;
@@ -20,46 +21,24 @@ pub(crate) fn write_map(text: &mut Text, expr: &MapExpr) -> Result<(), NoMemory>
     ensures { OnOk result (text.new ≡ with_tokens_behind text.old (map_tokens (term_of expr.now))) }
 {
     match expr {
-        MapExpr::Aos { form, order } => write_worded(
+        MapExpr::Aos { form, order } => write_worded(text, MapWord::Aos, form.word(), *order),
+        MapExpr::Soa { form, order } => write_worded(text, MapWord::Soa, form.word(), *order),
+        MapExpr::Aosoa { lanes, order } => write_worded(
             text,
-            MapWord::Aos.word(),
-            form.word(),
-            *order,
-        ),
-        MapExpr::Soa { form, order } => write_worded(
-            text,
-            MapWord::Soa.word(),
-            form.word(),
-            *order,
-        ),
-        MapExpr::Aosoa { lanes, order } => write_counted(
-            text,
-            MapWord::Aosoa.word(),
-            *lanes,
+            MapWord::Aosoa,
+            Buffer::new().format(*lanes),
             *order,
         ),
         MapExpr::BitAos {
             width,
             fields,
             order,
-        } => write_bits(
-            text,
-            MapWord::BitAos.word(),
-            *width,
-            fields.as_slice(),
-            *order,
-        ),
+        } => write_bits(text, MapWord::BitAos, *width, fields.as_slice(), *order),
         MapExpr::BitSoa {
             width,
             fields,
             order,
-        } => write_bits(
-            text,
-            MapWord::BitSoa.word(),
-            *width,
-            fields.as_slice(),
-            *order,
-        ),
+        } => write_bits(text, MapWord::BitSoa, *width, fields.as_slice(), *order),
         MapExpr::Split { path, first, rest } => {
             open(text, MapWord::Split.word())?;
             write_path(text, path)?;
@@ -69,8 +48,8 @@ pub(crate) fn write_map(text: &mut Text, expr: &MapExpr) -> Result<(), NoMemory>
             write_map(text, rest)?;
             push(text, ")")
         }
-        MapExpr::Byteswap(inner) => write_inner(text, MapWord::Byteswap.word(), inner),
-        MapExpr::Bytesplit(inner) => write_inner(text, MapWord::Bytesplit.word(), inner),
+        MapExpr::Byteswap(inner) => write_inner(text, MapWord::Byteswap, inner),
+        MapExpr::Bytesplit(inner) => write_inner(text, MapWord::Bytesplit, inner),
         MapExpr::Change { from, to, inner } => {
             open(text, MapWord::Change.word())?;
             push(text, from.word())?;
@@ -80,7 +59,7 @@ pub(crate) fn write_map(text: &mut Text, expr: &MapExpr) -> Result<(), NoMemory>
             write_map(text, inner)?;
             push(text, ")")
         }
-        MapExpr::Count(inner) => write_inner(text, MapWord::Count.word(), inner),
+        MapExpr::Count(inner) => write_inner(text, MapWord::Count, inner),
         MapExpr::Heat { granule, inner } => {
             open(text, MapWord::Heat.word())?;
             push_count(text, *granule)?;
@@ -94,10 +73,10 @@ pub(crate) fn write_map(text: &mut Text, expr: &MapExpr) -> Result<(), NoMemory>
 
 #[cycle(mapping)]
 #[tactic(auto, using(crate::proofs::Behind::behind_append))]
-fn write_inner(text: &mut Text, form: &str, inner: &MapExpr) -> Result<(), NoMemory>
-    ensures { OnOk result (text.new ≡ with_tokens_behind text.old (form_tokens form.now (map_tokens (term_of inner.now)))) }
+fn write_inner(text: &mut Text, form: MapWord, inner: &MapExpr) -> Result<(), NoMemory>
+    ensures { OnOk result (text.new ≡ with_tokens_behind text.old (form_tokens (form_word form) (map_tokens (term_of inner.now)))) }
 {
-    open(text, form)?;
+    open(text, form.word())?;
     write_map(text, inner)?;
     push(text, ")")
 }
@@ -110,21 +89,11 @@ pub(crate) fn open(text: &mut Text, word: &str) -> Result<(), NoMemory>
     push(text, "(")
 }
 
-fn write_worded(text: &mut Text, form: &str, word: &str, order: Order) -> Result<(), NoMemory>
-    ensures { OnOk result (text.new ≡ with_tokens_behind text.old (form_tokens form.now (ordered_tokens (Word word.now) order))) }
+fn write_worded(text: &mut Text, form: MapWord, word: &str, order: Order) -> Result<(), NoMemory>
+    ensures { OnOk result (text.new ≡ with_tokens_behind text.old (form_tokens (form_word form) (ordered_tokens (Word word.now) order))) }
 {
-    open(text, form)?;
+    open(text, form.word())?;
     push(text, word)?;
-    push(text, ",")?;
-    push(text, order.word())?;
-    push(text, ")")
-}
-
-fn write_counted(text: &mut Text, form: &str, count: u32, order: Order) -> Result<(), NoMemory>
-    ensures { OnOk result (text.new ≡ with_tokens_behind text.old (form_tokens form.now (ordered_tokens (count_token count) order))) }
-{
-    open(text, form)?;
-    push_count(text, count)?;
     push(text, ",")?;
     push(text, order.word())?;
     push(text, ")")

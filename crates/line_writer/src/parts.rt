@@ -1,7 +1,7 @@
 // Lists with a comma between each two items.
 ghost use Rattle.std.specs.Prelude.{◌≡◌, ◌∷◌, [], map, OnOk};
 ghost use Rattle.line_writer.specs.Imports.{assignment_of};
-ghost use Rattle.line_writer.specs.Canonical.{count_token, bracket_list, with_commas, extent_tokens, index_tokens, assignment_tokens};
+ghost use Rattle.line_writer.specs.Canonical.{count_token, bracket_list, with_commas, extent_tokens, assignment_tokens};
 ghost use Rattle.line_writer.specs.Texts.{with_tokens_behind};
 
 use crate::tokens::{push, push_count, write_path};
@@ -39,12 +39,13 @@ pub(crate) fn write_parts<T: Part>(text: &mut Text, parts: &[T]) -> Result<(), N
     }
 }
 
+// Such a list in brackets.
 #[tactic(auto, using(crate::proofs::Behind::behind_append))]
-pub(crate) fn write_extents(text: &mut Text, words: &[ExtentWord]) -> Result<(), NoMemory>
-    ensures { OnOk result (text.new ≡ with_tokens_behind text.old (bracket_list (map extent_tokens words.now))) }
+pub(crate) fn write_list<T: Part>(text: &mut Text, parts: &[T]) -> Result<(), NoMemory>
+    ensures { OnOk result (text.new ≡ with_tokens_behind text.old (bracket_list (map T.tokens parts.now))) }
 {
     push(text, "[")?;
-    write_parts(text, words)?;
+    write_parts(text, parts)?;
     push(text, "]")
 }
 
@@ -59,27 +60,12 @@ impl Part for ExtentWord {
     }
 }
 
-#[tactic(auto, using(crate::proofs::Behind::behind_append))]
-pub(crate) fn write_index(text: &mut Text, index: &[u32]) -> Result<(), NoMemory>
-    ensures { OnOk result (text.new ≡ with_tokens_behind text.old (index_tokens index.now)) }
-{
-    push(text, "[")?;
-    write_parts(text, index)?;
-    push(text, "]")
-}
-
 impl Part for u32 {
     ghost tokens = { λ count. count_token count ∷ [] };
 
     fn write_part(&self, text: &mut Text) -> Result<(), NoMemory> {
         push_count(text, *self)
     }
-}
-
-pub(crate) fn write_sets(text: &mut Text, sets: &[SetText]) -> Result<(), NoMemory>
-    ensures { OnOk result (text.new ≡ with_tokens_behind text.old (with_commas (map assignment_tokens (map assignment_of sets.now)))) }
-{
-    write_parts(text, sets)
 }
 
 impl Part for SetText {

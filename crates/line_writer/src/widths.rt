@@ -1,5 +1,6 @@
 // The widths of a bit mapping.
 ghost use Rattle.std.specs.Prelude.{◌≡◌, OnOk};
+ghost use Rattle.line_writer.specs.Imports.{form_word};
 ghost use Rattle.line_writer.specs.Canonical.{bits_tokens, form_tokens, width_tokens, widths_tokens};
 ghost use Rattle.line_writer.specs.Texts.{with_tokens_behind};
 
@@ -7,7 +8,7 @@ use crate::mapping::open;
 use crate::parts::{Part, write_parts};
 use crate::tokens::{push, push_count, write_path};
 use extents::Order;
-use line_grammar::Spelled;
+use line_grammar::{MapWord, Spelled};
 use map_expr::FieldWidth;
 use record_dim::Text;
 use std::alloc::AllocError as NoMemory;
@@ -15,14 +16,14 @@ use std::alloc::AllocError as NoMemory;
 #[tactic(auto, using(crate::proofs::Behind::behind_append))]
 pub(crate) fn write_bits(
     text: &mut Text,
-    form: &str,
+    form: MapWord,
     width: u32,
     fields: &[FieldWidth],
     order: Order,
 ) -> Result<(), NoMemory>
-    ensures { OnOk result (text.new ≡ with_tokens_behind text.old (form_tokens form.now (bits_tokens width fields.now order))) }
+    ensures { OnOk result (text.new ≡ with_tokens_behind text.old (form_tokens (form_word form) (bits_tokens width fields.now order))) }
 {
-    open(text, form)?;
+    open(text, form.word())?;
     push_count(text, width)?;
     write_widths(text, fields)?;
     push(text, ",")?;

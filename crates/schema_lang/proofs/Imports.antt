@@ -1,6 +1,6 @@
 -- What the proofs of this crate speak of.
 pub use Rattle.schema_lang.specs.Imports.{Token, Record, IsRecord, Single, Array, Tree, tree_of, begins_name, continues_name, is_name, name_utf8, ExtentWord, Command, Version, depth_of, term_of, Spot, Spots, brackets_after, next_of, Next, TokenKind, Number, SignKind, Line}
-pub use Rattle.record_dim.specs.Std.{◌≡◌, ℕ, true, false, List, [], ◌∷◌, ◌++◌, map, codes, Some, None, Ok, Err, refl, sym, ap, ◌∙◌, arith, ◌≤◌, Bool, inl, inr, Option, Result, is_some, max, ◌&&◌, nat_le, ◌-◌, length, zero, suc, ◌+◌, ◌<◌, take, drop, get_or, slice_range, All, length-append, ◌==◌, ◌⊎◌, if◌then◌else◌, subst, ⊎_elim, nat_tests, MatchResult, take-append_seam, length-take, length-drop, take-take, drop-drop, All-cons, list_all-from_AllPass, list_all, byte, cases_Bool}
+pub use Rattle.record_dim.specs.Std.{◌≡◌, ℕ, true, false, List, [], ◌∷◌, ◌++◌, map, codes, Some, None, Ok, Err, refl, sym, ap, ◌∙◌, arith, ◌≤◌, Bool, inl, inr, Option, Result, is_some, max, ◌&&◌, nat_le, ◌-◌, length, zero, suc, ◌+◌, ◌<◌, take, drop, get_or, slice_range, All, length-append, ◌==◌, ◌⊎◌, if◌then◌else◌, subst, ⊎_elim, nat_tests, MatchResult, take-append_seam, length-take, length-drop, take-take, drop-drop, All-cons, All-nil, list_all-from_AllPass, list_all, byte, cases_Bool}
 pub use Rattle.line_tokens.specs.declared.sign.Sign.TheVariants.{Comma, Equals, OpenParen, Colon, Dot, EqualEqual, Slash}
 pub use Rattle.line_grammar.specs.declared.line.SetText.{SetText}
 pub use Rattle.line_grammar.specs.declared.token.Token.TheVariants.{Word, Sign as Signed, Text, Sign}
@@ -15,6 +15,7 @@ pub use Rattle.line_tokens.specs.NextTokenLaws.{next_inside}
 pub use Rattle.line_tokens.specs.Bytes.{is_letter, is_word_byte, is_text_byte}
 pub use Rattle.line_tokens.specs.Spelled.{Spells}
 pub use Rattle.line_tokens.specs.SpelledLaws.{next_spells}
+pub use Rattle.record_dim.specs.Prelude.{both}
 pub use Rattle.record_dim.specs.declared.dim.Dim.{Dim}
 pub use Rattle.schema_lang.specs.LineOf.{line_or_column, spots_in, spots_within, spots_behind}
 unfoldable pub use Rattle.schema_lang.specs.LineOf.{line_at, line_of}

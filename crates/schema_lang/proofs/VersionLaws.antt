@@ -1,8 +1,8 @@
 -- The tokens of a text by those that stand next, and what they say of its version.
-use Rattle.schema_lang.proofs.Imports.{◌≡◌, ◌==◌, ◌⊎◌, ℕ, ◌+◌, ◌-◌, Bool, true, false, if◌then◌else◌, List, [], ◌∷◌, length, slice_range, Option, Some, None, codes, inl, inr, refl, sym, ap, ◌∙◌, subst, arith, nat_tests, next_of, Spots, brackets_after, spot_at, Spot, Next, TokenKind, tokens_of, kind_token, token_of, is_word, count_of, Token, Word, Text, Sign, spots_in, found_token, is_end, token_next, is_blank_line, version_number, version_of}
+use Rattle.schema_lang.proofs.Imports.{cases_Bool, ◌≡◌, ◌==◌, ◌⊎◌, ℕ, ◌+◌, ◌-◌, Bool, true, false, if◌then◌else◌, List, [], ◌∷◌, length, slice_range, Option, Some, None, codes, inl, inr, refl, sym, ap, ◌∙◌, subst, arith, nat_tests, next_of, Spots, brackets_after, spot_at, Spot, Next, TokenKind, tokens_of, kind_token, token_of, is_word, count_of, Token, Sign, spots_in, found_token, is_end, token_next, is_blank_line, version_number, version_of}
 use Rattle.line_tokens.specs.declared.token.Next.TheVariants as next
 use Rattle.line_tokens.specs.declared.token.TokenKind.TheVariants as kind
-use Rattle.line_grammar.specs.declared.token.Token.TheVariants.{Number, Bad}
+use Rattle.line_grammar.specs.declared.token.Token.TheVariants.{Bad}
 use Rattle.schema_lang.proofs.LineOfLaws.{spots_are}
 
 -- what stands next begins the spots
@@ -30,12 +30,10 @@ flat_kind bytes inside (kind.Sign sign) flat = absurd flat
 flat_kind bytes inside other flat = refl
 
 word_flat : (word : List ℕ) (token : Token) → is_word word token ≡ true → IsFlat token
-word_flat word (Sign sign) named = absurd (cc)
-word_flat word other named = tt
+word_flat word token named = grind arith
 
 count_flat : (token : Token) (number : ℕ) → count_of token ≡ Some number → IsFlat token
-count_flat (Sign sign) number counted = absurd (cc)
-count_flat other number counted = tt
+count_flat token number counted = grind arith
 
 -- the token that stands next is the first of the tokens, and behind one that is no bracket stand the others
 record Follows (text : List ℕ) (spots : List Spot) (token : Token) (end : ℕ) : Type 0 where
@@ -101,17 +99,10 @@ blank_is text = of (next_of text 0 0) (begin_as text 0 0 (spots_in text) (spots_
 
 -- another first word, and a second token that is no COUNT, make no version line
 other_word : (word : Token) (tokens : List Token) → is_word (codes "version") word ≡ false → version_number (word ∷ tokens) ≡ None
-other_word word [] named = refl
-other_word word (count ∷ []) named = ap (λ (b : Bool). if b then count_of count else None) named
-other_word word (count ∷ next ∷ tokens) named = refl
+other_word word tokens named = grind arith
 
 no_count : (word count : Token) (tokens : List Token) → count_of count ≡ None → version_number (word ∷ count ∷ tokens) ≡ None
-no_count word count [] counted = of (is_word (codes "version") word)
-  where
-    of : (b : Bool) → (if b then count_of count else None) ≡ None
-    of true = counted
-    of false = refl
-no_count word count (next ∷ tokens) counted = refl
+no_count word count tokens counted = grind (arith, cases_Bool)
 
 -- each way in which a text's tokens are read to its version
 pub no_first : (text : List ℕ) → token_next text 0 ≡ None → version_of text ≡ None

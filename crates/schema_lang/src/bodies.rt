@@ -96,17 +96,10 @@ fn read_mapping(alloc: Global, version: Version, tokens: &mut Tokens) -> Result<
     Ok(Line::Mapping { name, expr })
 }
 
-// What makes a view.
-#[derive(Drop)]
-pub(crate) struct New {
-    pub(crate) name: Name,
-    pub(crate) schema: Name,
-    pub(crate) words: ExtentWords,
-    pub(crate) wrap: bool,
-    pub(crate) expr: MapExpr,
-}
+// What makes a view: its name, its record, its extents, whether it has `wrap`, and its mapping.
+type New = (Name, Name, ExtentWords, bool, MapExpr);
 
-// What makes a view. `?` may stand among its extents where `is_loaded`.
+// `?` may stand among the extents where `is_loaded`.
 #[tactic(auto, unfolding(line_grammar::specs::Language::new))]
 fn read_new(
     alloc: Global,
@@ -123,13 +116,7 @@ fn read_new(
     let wrap = read_flag("wrap", tokens)?;
     tokens.word("as")?;
     let expr = read_map(alloc, version, tokens)?;
-    Ok(New {
-        name,
-        schema,
-        words,
-        wrap,
-        expr,
-    })
+    Ok((name, schema, words, wrap, expr))
 }
 
 fn read_words(alloc: Global, is_loaded: bool, tokens: &mut Tokens) -> Result<ExtentWords, ReadError>
@@ -159,13 +146,7 @@ pub(crate) fn read_flag(word: &str, tokens: &mut Tokens) -> Result<bool, ReadErr
 fn read_view(alloc: Global, version: Version, tokens: &mut Tokens) -> Result<Line, ReadError>
     ensures { Gives (λ x. (sentence_of x, tokens.new)) result (read (body version command.View) tokens.old) }
 {
-    let New {
-        name,
-        schema,
-        words,
-        wrap,
-        expr,
-    } = read_new(alloc, version, false, tokens)?;
+    let (name, schema, words, wrap, expr) = read_new(alloc, version, false, tokens)?;
     Ok(Line::View {
         name,
         schema,
@@ -179,13 +160,7 @@ fn read_view(alloc: Global, version: Version, tokens: &mut Tokens) -> Result<Lin
 fn read_load(alloc: Global, version: Version, tokens: &mut Tokens) -> Result<Line, ReadError>
     ensures { Gives (λ x. (sentence_of x, tokens.new)) result (read (body version command.Load) tokens.old) }
 {
-    let New {
-        name,
-        schema,
-        words,
-        wrap,
-        expr,
-    } = read_new(alloc, version, true, tokens)?;
+    let (name, schema, words, wrap, expr) = read_new(alloc, version, true, tokens)?;
     tokens.word("from")?;
     let file = tokens.item::<FileName>()?;
     Ok(Line::Load {
