@@ -4,6 +4,7 @@ ghost use Rattle.std.specs.Int.{bit_at};
 ghost use Rattle.places.specs.Prelude.{number};
 ghost use Rattle.blobs.specs.Bits.{bit_of, IsWholeBytes};
 ghost use Rattle.blobs.specs.Turned.{turned_place, IsTurned};
+ghost use Rattle.blobs.specs.BytesLaws.{IsPut};
 
 use crate::blob::Blob;
 use crate::word::{bits_in_word, with_bits};
@@ -234,9 +235,7 @@ impl Blob {
         requires few { n ≤ 64 }
         requires within { at + n ≤ 8 * length self.old }
         requires fits { value < 2 ^ n }
-        ensures inside { (k : ℕ) → k < n → bit_of self.new (at + k) ≡ bit_at value k }
-        ensures before { (k : ℕ) → k < at → bit_of self.new k ≡ bit_of self.old k }
-        ensures after { (k : ℕ) → at + n ≤ k → bit_of self.new k ≡ bit_of self.old k }
+        ensures put { IsPut self.old self.new at n value }
         ensures len { length self.new ≡ length self.old }
     {
         let first = (at / 8) as usize;
@@ -258,9 +257,7 @@ impl Blob {
         requires few { n ≤ 64 }
         requires nine { 64 < at % 8 + n }
         requires within { at + n ≤ 8 * length self.old }
-        ensures inside { (k : ℕ) → k < n → bit_of self.new (at + k) ≡ bit_at value k }
-        ensures before { (k : ℕ) → k < at → bit_of self.new k ≡ bit_of self.old k }
-        ensures after { (k : ℕ) → at + n ≤ k → bit_of self.new k ≡ bit_of self.old k }
+        ensures put { IsPut self.old self.new at n value }
         ensures len { length self.new ≡ length self.old }
     {
         let first = (at / 8) as usize;
@@ -299,9 +296,7 @@ impl Blob {
     fn put_bits_by_bytes(&mut self, at: u64, n: u32, value: u64)
         requires few { n ≤ 64 }
         requires within { at + n ≤ 8 * length self.old }
-        ensures inside { (k : ℕ) → k < n → bit_of self.new (at + k) ≡ bit_at value k }
-        ensures before { (k : ℕ) → k < at → bit_of self.new k ≡ bit_of self.old k }
-        ensures after { (k : ℕ) → at + n ≤ k → bit_of self.new k ≡ bit_of self.old k }
+        ensures put { IsPut self.old self.new at n value }
         ensures len { length self.new ≡ length self.old }
     {
         let first = (at / 8) as usize;

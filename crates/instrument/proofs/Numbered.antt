@@ -14,9 +14,8 @@ pub numbered-more : {K X T E : Type 0} {taken : K → Option (List ℕ)} {faults
     → get_or xs i d ≡ x → HasPut taken faults old mid was kept (flat_map f (take i (enumerate_from 0 xs))) → Puts {E = E} taken faults mid new kept held (Ok value) (f (i, x))
     → HasPut taken faults old new was held (flat_map f (take (i + 1) (enumerate_from 0 xs)))
 numbered-more {taken} {faults} {old} {new} {was} {held} f xs i x d small is before step =
-    let within : i < length (enumerate_from 0 xs) = rw length-enumerate_from small in
     let text : flat_map f (take i (enumerate_from 0 xs)) ++ f (i, x) ≡ flat_map f (take (i + 1) (enumerate_from 0 xs)) =
-    ap (λ y. flat_map f (take i (enumerate_from 0 xs)) ++ f y) (numbered xs i x d small is) ∙ flat_map_push f (enumerate_from 0 xs) i (0, d) within in
+    ap (λ y. flat_map f (take i (enumerate_from 0 xs)) ++ f y) (numbered xs i x d small is) ∙ flat_map_push f (enumerate_from 0 xs) i (0, d) (rw length-enumerate_from small) in
     subst (λ t. HasPut taken faults old new was held t) text (Puts-append before (as_put step))
 
 pub numbered-err : {K X T R E F : Type 0} {taken : K → Option (List ℕ)} {faults : K → ℕ} {old mid new : K} {was kept held : List ℕ} {error : F} (result : Result T E) (f : ℕ × X → List ℕ) (xs : List X) (i : ℕ)

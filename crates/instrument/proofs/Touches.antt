@@ -24,8 +24,7 @@ until-start times first others piece heat =
 -- the granules of a piece, whose end is counted from the first one on
 last_from : (bit bits wide : ℕ) → 0 < bits → 0 < wide → bit / wide + (bit % wide + bits - 1) / wide ≡ (bit + bits - 1) / wide
 last_from bit bits wide some wide_some =
-    let sum : wide * (bit / wide) + (bit % wide + bits - 1) ≡ bit + bits - 1 = omega (arith, div-add-mod' bit wide, mul_comm (bit / wide) wide) in
-    sym (mul-add-div wide_some (bit / wide) (bit % wide + bits - 1)) ∙ ap (λ n. n / wide) sum
+    sym (mul-add-div wide_some (bit / wide) (bit % wide + bits - 1)) ∙ ap (λ n. n / wide) (omega (arith, div-add-mod' bit wide, mul_comm (bit / wide) wide))
 
 pub granules_are : (granule : ℕ) (piece : Piece) → 1 ≤ granule → 0 < piece.bits
     → AreGranulesOf granule piece (piece.bit / (8 * granule)) (piece.bit / (8 * granule) + (piece.bit % (8 * granule) + piece.bits - 1) / (8 * granule) + 1)

@@ -42,9 +42,8 @@ blob_more : (times : ℕ) (hot hot' : ℕ → Bool) (counts : List ℕ) (at : �
     counted_times (warmed_blob times hot counts) at times ≡ warmed_blob times hot' counts
 blob_more times hot hot' counts at small was is others =
     let long = length-warmed_blob times hot counts in
-    let long' = length-warmed_blob times hot' counts in
     let set_long = length-set (warmed_blob times hot counts) at (raised times (get_or (warmed_blob times hot counts) at 0)) in
-    ext_get_or 0 (counted_times (warmed_blob times hot counts) at times) (warmed_blob times hot' counts) (set_long ∙ long ∙ sym long') (λ k within.
+    ext_get_or 0 (counted_times (warmed_blob times hot counts) at times) (warmed_blob times hot' counts) (set_long ∙ long ∙ sym (length-warmed_blob times hot' counts)) (λ k within.
     grind (arith, get-warmed_blob, ⊎_elim, get_or-set_same, get_or, get_or-set_other, cases_eq))
 
 pub warmed-more : (times : ℕ) (hot hot' : ℕ → ℕ → Bool) (blobs : List (List ℕ)) (blob at : ℕ) → blob < length blobs → at < length (get_or blobs blob []) → hot blob at ≡ false → hot' blob at ≡ true

@@ -10,9 +10,7 @@ length_numbered f xs = length-map (enumerate_from 0 xs) f ∙ length-enumerate_f
 
 get_numbered : {X Y : Type 0} (f : ℕ × X → Y) (xs : List X) (i : ℕ) (d : X) (e : Y) → i < length xs → get_or (map f (enumerate_from 0 xs)) i e ≡ f (i, get_or xs i d)
 get_numbered f xs i d e small =
-    let within : i < length (enumerate_from 0 xs) = omega (arith, length-enumerate_from 0 xs) in
-    let number : 0 + i ≡ i = omega arith in
-    get_or-map f (enumerate_from 0 xs) i (0, d) e within ∙ ap f (get_or-enumerate_from 0 xs i (0, d) small ∙ ap (λ (n : ℕ). (n, get_or xs i d)) number)
+    get_or-map f (enumerate_from 0 xs) i (0, d) e (omega (arith, length-enumerate_from 0 xs)) ∙ ap f (get_or-enumerate_from 0 xs i (0, d) small ∙ ap (λ (n : ℕ). (n, get_or xs i d)) (omega arith))
 
 -- as many as before
 pub length-warmed_blob : (times : ℕ) (hot : ℕ → Bool) (counts : List ℕ) → length (warmed_blob times hot counts) ≡ length counts

@@ -58,14 +58,12 @@ array_place term extents fields cells holds leaf slot rule d blob byte held of b
     if_three (array_of term) _ _ _ _
     (λ array is rows full count some inside block.
     let slots : ℕ = slot_count array.0 extents in
-    let lanes : ℕ = lanes_in array.1 slots in
     let width : ℕ = slice_index (map (λ (h : Hold). h.width) (full_holds cells)) leaf in
     let piece : PieceRule = get_or rule.pieces.items 0 d in
     let whole : begin_in piece slot % 8 ≡ 0 = (is.dense d).bytes slot (omega arith) in
     let back : begin_in piece slot ≡ 8 * (begin_in piece slot / 8) = omega arith in
-    let by_rows : List (List Owner) = in_rows (row_at array.0 extents) (array_layout term slots (widths_of cells)) in
-    let run : IsArrayRun by_rows array.0 extents leaf width slot count piece.blob (begin_in piece slot) =
-    array_run array.0 extents (array_layout term slots (widths_of cells)) slots lanes leaf width slot count rule d is some inside block in
+    let run : IsArrayRun (in_rows (row_at array.0 extents) (array_layout term slots (widths_of cells))) array.0 extents leaf width slot count piece.blob (begin_in piece slot) =
+    array_run array.0 extents (array_layout term slots (widths_of cells)) slots (lanes_in array.1 slots) leaf width slot count rule d is some inside block in
     grind (arith, slice_index))
     of (array_rows term extents fields cells) (array_holds term fields cells)
 

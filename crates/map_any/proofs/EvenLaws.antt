@@ -38,13 +38,10 @@ even_begin piece slot n k some even =
     let r : ℕ = slot % lanes in
     let low : r < lanes = mod_below slot lanes some in
     let whole : q * lanes ≡ n = omega (arith, div-add-mod' n lanes, even) in
-    let parts : d * lanes + r ≡ slot = div-add-mod' slot lanes in
-    let sum : (d + k * q) * lanes + r ≡ d * lanes + r + k * (q * lanes) = grind arith in
-    let place : (d + k * q) * lanes + r ≡ slot + k * n = sum ∙ ap (λ (m : ℕ). d * lanes + r + k * m) whole ∙ ap (λ (m : ℕ). m + k * n) parts in
+    let place : (d + k * q) * lanes + r ≡ slot + k * n = (grind arith) ∙ ap (λ (m : ℕ). d * lanes + r + k * m) whole ∙ ap (λ (m : ℕ). m + k * n) (div-add-mod' slot lanes) in
     let quotient : (slot + k * n) / lanes ≡ d + k * q = ap (λ (m : ℕ). m / lanes) (sym place) ∙ div-mul-add (d + k * q) lanes r low in
     let rest : (slot + k * n) % lanes ≡ r = ap (λ (m : ℕ). m % lanes) (sym place) ∙ mod-mul-add (d + k * q) lanes r low in
-    let same : base + (d + k * q) * block + r * lane ≡ base + d * block + r * lane + k * (q * block) = grind arith in
-    ap (λ (m : ℕ). base + m * block + (slot + k * n) % lanes * lane) quotient ∙ ap (λ (m : ℕ). base + (d + k * q) * block + m * lane) rest ∙ same
+    ap (λ (m : ℕ). base + m * block + (slot + k * n) % lanes * lane) quotient ∙ ap (λ (m : ℕ). base + (d + k * q) * block + m * lane) rest ∙ (grind arith)
 
 -- the same in bytes, where each begins at one
 even_bytes : (lanes : ℕ) (piece : PieceRule) (slot n k byte step : ℕ) → IsDense lanes piece → 0 < lanes → 0 < piece.lanes → n % piece.lanes ≡ 0
@@ -80,10 +77,8 @@ array_places term extents fields cells holds leaf slot n rule d blob byte step h
     let lanes : ℕ = lanes_in array.1 slots in
     let width : ℕ = slice_index (map (λ (h : Hold). h.width) (full_holds cells)) leaf in
     let piece : PieceRule = get_or rule.pieces.items 0 d in
-    let there : 0 < lanes = omega (arith, block, more) in
-    let bit : begin_in piece (slot + k * n) ≡ 8 * (byte + k * step) = even_bytes lanes piece slot n k byte step (is.dense d) there some even byte_is step_is in
-    let by_rows : List (List Owner) = in_rows (row_at array.0 extents) (array_layout term slots (widths_of cells)) in
-    let run : IsArrayRun by_rows array.0 extents leaf width (slot + k * n) count piece.blob (begin_in piece (slot + k * n)) =
+    let bit : begin_in piece (slot + k * n) ≡ 8 * (byte + k * step) = even_bytes lanes piece slot n k byte step (is.dense d) (omega (arith, block, more)) some even byte_is step_is in
+    let run : IsArrayRun (in_rows (row_at array.0 extents) (array_layout term slots (widths_of cells))) array.0 extents leaf width (slot + k * n) count piece.blob (begin_in piece (slot + k * n)) =
     array_run array.0 extents (array_layout term slots (widths_of cells)) slots lanes leaf width (slot + k * n) count rule d is more inside block in
     grind (arith, slice_index))
     of (array_rows term extents fields cells) (array_holds term fields cells))

@@ -72,8 +72,7 @@ module _ (layout : List (List Owner)) (row leaf low n : ℕ) (piece : Piece) (pi
       → owner_at layout blob place ≡ Bit row leaf bit → (blob ≡ piece.blob) × (place ≡ piece.bit + (bit - low))
   only_here slots widths laid blob place bit above below owner =
       let k : ℕ = bit - low in
-      let at : low + k ≡ bit = omega arith in
-      laid.once blob place piece.blob (piece.bit + k) row leaf bit owner (split.first k (omega arith) ∙ ap (Bit row leaf) at)
+      laid.once blob place piece.blob (piece.bit + k) row leaf bit owner (split.first k (omega arith) ∙ ap (Bit row leaf) (omega arith))
 
   pub shows_piece : (slots : ℕ) (widths : List ℕ) → IsLaidOut layout slots widths → (blob : ℕ) (old new : List RunOwner) → piece.blob ≡ blob
       → ShowBelow layout blob row leaf low old → IsShown piece row leaf low old new → ShowBelow layout blob row leaf (low + piece.bits) new
@@ -81,9 +80,7 @@ module _ (layout : List (List Owner)) (row leaf low n : ℕ) (piece : Piece) (pi
       ⊎_elim
       (λ (l : bit < low). still_right layout blob row leaf old new (piece_filled blob old new here shown) place bit owner (so_far place bit l owner))
       (λ (l : low ≤ bit).
-      let k : ℕ = bit - low in
-      let only = only_here slots widths laid blob place bit l below owner in
-      ap (λ (p : ℕ). shown_at new p) only.1 ∙ shown.within k (omega arith) ∙ ap (Leaf row leaf) (omega arith))
+      ap (λ (p : ℕ). shown_at new p) (only_here slots widths laid blob place bit l below owner).1 ∙ shown.within (bit - low) (omega arith) ∙ ap (Leaf row leaf) (omega arith))
       (cases_lt bit low)
 
   pub shows_other : (slots : ℕ) (widths : List ℕ) → IsLaidOut layout slots widths → (blob : ℕ) (shown : List RunOwner) → (piece.blob ≡ blob → ⊥)

@@ -31,15 +31,13 @@ pub array_run : (order : Order) (extents : List ℕ) (layout : List (List Owner)
 array_run order extents layout slots lanes cell width slot count rule d h some inside block =
     let piece : PieceRule = get_or rule.pieces.items 0 d in
     let rows : List (List Owner) = in_rows (row_at order extents) layout in
-    let one : rule.pieces.items ≡ piece ∷ [] = one_item rule.pieces.items d h.alone in
     let located : (j : ℕ) → j < count → IsLocated layout (slot + j) cell width (piece_in piece (slot + j) ∷ []) = λ j l.
-    subst (λ (ps : List PieceRule). IsLocated layout (slot + j) cell width (pieces_in ps (slot + j))) one (h.places (slot + j) (omega arith)) in
+    subst (λ (ps : List PieceRule). IsLocated layout (slot + j) cell width (pieces_in ps (slot + j))) (one_item rule.pieces.items d h.alone) (h.places (slot + j) (omega arith)) in
     let begins : (j : ℕ) → j < count → begin_in piece (slot + j) ≡ begin_in piece slot + j * width = λ j l.
     (h.dense d).next slot j (omega arith) ∙ ap (λ (w : ℕ). begin_in piece slot + j * w) (h.bits d) in
-    let last : IsPiece layout (piece_in piece (slot + (count - 1))) = (located (count - 1) (omega arith)).each 0 (piece_in piece slot) (let l : 0 < 1 = omega arith in l) in
-    let blob : piece.blob < length layout = last.blob_in in
+    let last : IsPiece layout (piece_in piece (slot + (count - 1))) = (located (count - 1) (omega arith)).each 0 (piece_in piece slot) (omega arith) in
     let size : length rows ≡ length layout = length-in_rows (row_at order extents) layout in
-    let long : length (get_or rows piece.blob []) ≡ length (get_or layout piece.blob []) = length-blob (row_at order extents) layout piece.blob blob in
+    let long : length (get_or rows piece.blob []) ≡ length (get_or layout piece.blob []) = length-blob (row_at order extents) layout piece.blob last.blob_in in
     record {
       blob_in = omega arith;
       within =

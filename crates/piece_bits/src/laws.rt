@@ -1,9 +1,7 @@
 // What holds of the kept number, whatever the type, the hold and the value.
 ghost use Rattle.std.specs.Prelude.{ℕ, Bool, ◌≡◌, ◌^◌, ◌≤◌, ◌<◌, ◌+◌, ◌*◌, ℤ};
 ghost use Rattle.piece_bits.specs.Imports.{IsIn, IsDeclared, is_signed, LeafType, digit, Hold};
-ghost use Rattle.piece_bits.specs.LowBits.{low_bits, value_bits, declared, held, kept};
-ghost use Rattle.piece_bits.specs.Inner.Far.{folded, shortened};
-ghost use Rattle.piece_bits.specs.Congruence.{AreCongruent};
+ghost use Rattle.piece_bits.specs.Prelude.{low_bits, value_bits, declared, held, kept, folded, shortened, AreCongruent};
 
 /// The laws of the kept number. This function does nothing: its contract is the laws.
 ///

@@ -1,8 +1,7 @@
 // Numbers that are stored.
 ghost use Rattle.std.specs.Prelude.{ℕ, ◌≡◌, ◌<◌, ◌≤◌, ◌+◌, ◌*◌, ◌^◌, pos, length, slice_index_or};
 ghost use Rattle.piece_bits.specs.Imports.{bit_of, bit_at};
-ghost use Rattle.piece_bits.specs.Words.{word_bit, word_width, IsPlaceWord};
-ghost use Rattle.piece_bits.specs.Stretched.{StretchFits, ArePut, IsWordPut};
+ghost use Rattle.piece_bits.specs.Prelude.{word_bit, word_width, IsPlaceWord, StretchFits, ArePut, IsWordPut};
 
 use crate::low_numbers::low_bits;
 use crate::{Field, ShortRule, Stretch, Word};

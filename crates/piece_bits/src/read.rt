@@ -1,8 +1,6 @@
 // Numbers that are read.
 ghost use Rattle.std.specs.Prelude.{ℕ, ◌≡◌, ◌<◌, ◌≤◌, ◌+◌, ◌*◌, ◌^◌, length};
-ghost use Rattle.piece_bits.specs.Words.{word_bit, word_width, IsPlaceWord};
-ghost use Rattle.piece_bits.specs.Lows.{low_64};
-ghost use Rattle.piece_bits.specs.Stretched.{number_at, StretchFits, HaveEight, HaveRead, AreRead};
+ghost use Rattle.piece_bits.specs.Prelude.{word_bit, word_width, IsPlaceWord, low_64, number_at, StretchFits, HaveEight, HaveRead, AreRead};
 
 use crate::low_numbers::low_of;
 use crate::{Field, ShortRule, Stretch, Word, read_word};

@@ -1,10 +1,7 @@
 // Bytes that stand each by itself, in one go for all of them: rules say where they stand in slot 0, and all are alike from slot to slot.
 ghost use Rattle.std.specs.Prelude.{ℕ, ◌≡◌, ◌+◌, ◌^◌, ◌<◌, ◌≤◌, All, length, map};
 ghost use Rattle.piece_bits.specs.Imports.{IsIn, number, digit, decoded, bit_in, bit_at};
-ghost use Rattle.piece_bits.specs.Words.{IsBitField};
-ghost use Rattle.piece_bits.specs.Inner.Scattered.{scattered_pieces};
-ghost use Rattle.piece_bits.specs.Inner.Spots.{spots_of, bit_at_spot, IsWithin, AreApart, IsOutside};
-ghost use Rattle.piece_bits.specs.WritesLaws.{AreWritten};
+ghost use Rattle.piece_bits.specs.Prelude.{IsBitField, scattered_pieces, spots_of, bit_at_spot, IsWithin, AreApart, IsOutside, AreWritten};
 
 use crate::field::Field;
 use crate::value::{decode, encode};

@@ -1,7 +1,5 @@
 ghost use Rattle.std.specs.Prelude.{◌≡◌, ◌<◌, ◌≤◌, true, false, IfSome};
-ghost use Rattle.piece_bits.specs.Inner.Alongs.{IsAlong};
-ghost use Rattle.piece_bits.specs.Shorts.{IsShortOf};
-ghost use Rattle.piece_bits.specs.Walks.{leads, walks_in_blocks};
+ghost use Rattle.piece_bits.specs.Prelude.{IsAlong, IsShortOf, leads, walks_in_blocks};
 
 use crate::path::{Path, path_of};
 use crate::short::ShortRule;

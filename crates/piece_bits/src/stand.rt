@@ -1,7 +1,5 @@
 ghost use Rattle.std.specs.Prelude.{◌≡◌, ◌≢◌, IfSome, [], ◌∷◌};
-ghost use Rattle.piece_bits.specs.declared.word.Word.{Word};
-ghost use Rattle.piece_bits.specs.declared.word.Word.TheVariants.{Scattered};
-ghost use Rattle.piece_bits.specs.Inner.Stands.{IsStandFor};
+ghost use Rattle.piece_bits.specs.Prelude.{Word, Scattered, IsStandFor};
 
 use crate::Word;
 use crate::bytes::{are_scattered, are_turned};

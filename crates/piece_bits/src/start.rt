@@ -1,7 +1,5 @@
 ghost use Rattle.std.specs.Prelude.{◌≡◌, ◌≢◌, ◌+◌, ◌*◌, ◌<◌, ◌^◌, true, IfSome};
-ghost use Rattle.piece_bits.specs.declared.word.Word.TheVariants.{Scattered};
-ghost use Rattle.piece_bits.specs.Shorts.{place_by, start_in, HasStart};
-ghost use Rattle.piece_bits.specs.Walks.{leads, walks_plain, walks_in_blocks};
+ghost use Rattle.piece_bits.specs.Prelude.{Scattered, place_by, start_in, HasStart, leads, walks_plain, walks_in_blocks};
 
 use crate::short::ShortRule;
 use crate::walk::Walk;

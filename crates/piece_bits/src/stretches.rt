@@ -1,11 +1,7 @@
 // Where the rows of a stretch lie, and which rows make one.
 ghost use Rattle.std.specs.Prelude.{ℕ, ◌≡◌, ◌+◌, ◌*◌, ◌/◌, ◌%◌, ◌<◌, ◌≤◌, ◌^◌, true, IfSome, [], ◌∷◌};
-ghost use Rattle.piece_bits.specs.Shorts.{HasStart};
+ghost use Rattle.piece_bits.specs.Prelude.{HasStart, stretch_place, AreEven, IsStretch, leads, slot_by, Digits, ByColumns, ByDigits};
 ghost use Rattle.piece_bits.specs.Imports.{interleaved};
-ghost use Rattle.piece_bits.specs.Stretches.{stretch_place, AreEven, IsStretch};
-ghost use Rattle.piece_bits.specs.Walks.{leads, slot_by};
-ghost use Rattle.piece_bits.specs.declared.stretch.Spread.TheVariants.{Digits};
-ghost use Rattle.piece_bits.specs.declared.walk.Walk.TheVariants.{Columns as ByColumns, Morton as ByDigits};
 
 use crate::short::ShortRule;
 use crate::walk::Walk;

@@ -1,10 +1,7 @@
 // What holds of the table that raw numbers stand for, in either mode.
 ghost use Rattle.std.specs.Prelude.{ℕ, ℤ, ◌≡◌, ◌<◌, ◌≤◌, List, length, map};
 ghost use Rattle.piece_bits.specs.Imports.{is_signed, LeafType, Hold, Owner, Pad, owner_at, IsLaidOut, IsImage, table_of, entry};
-ghost use Rattle.piece_bits.specs.Tables.{signs_and_widths, HasShape, with_entry, hold_at};
-ghost use Rattle.piece_bits.specs.LowBits.{declared, held};
-ghost use Rattle.piece_bits.specs.declared.mode.StoreMode.{StoreMode};
-ghost use Rattle.piece_bits.specs.Modes.{kind_at, declared_table, Stays, IsSettled, AllSettled};
+ghost use Rattle.piece_bits.specs.Prelude.{signs_and_widths, HasShape, with_entry, hold_at, declared, held, StoreMode, kind_at, declared_table, Stays, IsSettled, AllSettled};
 
 /// The laws of tables in either mode. This function does nothing: its contract is the laws.
 ///

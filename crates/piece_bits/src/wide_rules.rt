@@ -1,8 +1,6 @@
 // Which rows are read by one load of eight bytes, from their place on.
 ghost use Rattle.std.specs.Prelude.{ℕ, ◌≡◌, ◌+◌, ◌/◌, ◌<◌, ◌≤◌, true, IfSome};
-ghost use Rattle.piece_bits.specs.declared.word.Word.TheVariants.{Field as FieldWord};
-ghost use Rattle.piece_bits.specs.Shorts.{place_by};
-ghost use Rattle.piece_bits.specs.Wides.{IsAsWhole, IsAsTurned, AreReadWide};
+ghost use Rattle.piece_bits.specs.Prelude.{FieldWord, place_by, IsAsWhole, IsAsTurned, AreReadWide};
 
 use crate::Word;
 use crate::short::ShortRule;

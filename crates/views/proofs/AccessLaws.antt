@@ -1,5 +1,5 @@
 -- A leaf in a row, as the short form of its rule places it.
-use Rattle.views.proofs.Imports.{◌≡◌, ℕ, ℤ, ◌+◌, ◌*◌, ◌<◌, ◌≤◌, List, [], length, map, get_or, get_or_default, set, slice_index, sym, ap, ◌∙◌, subst, arith, bit_at, slice_get-get_or, IsIn, number, digit, decoded, entry, Owner, IsLaidOut, Hold, Piece, PieceRule, bit_of, bit_in, IsCell, bit_count, apart, read_entry_is, written_table, written_padding, still_laid, scattered_pieces, spots_of, bit_at_spot, AreApart, AreSized, AreLaid, hold_at, table_in, with_entry, IsBitField, IsPlaceWord, word_bit, word_place, word_pieces, word_signed, word_width, word_blob, word_room, word_entry, word_held, word_table, word_laid, AreWritten, Field, Word, pieces_by, short_pieces, start_in, IsShortIn, ShortRule, indices, schema_fields, term_of, layout_by, rules, AnyMap}
+use Rattle.views.proofs.Imports.{◌≡◌, ℕ, ℤ, ◌+◌, ◌*◌, ◌<◌, ◌≤◌, List, [], length, map, get_or, get_or_default, set, slice_index, sym, ap, ◌∙◌, subst, arith, bit_at, slice_get-get_or, IsIn, number, digit, decoded, entry, Owner, IsLaidOut, Hold, Piece, PieceRule, bit_of, bit_in, IsCell, bit_count, apart, read_entry_is, written_table, written_padding, still_laid, scattered_pieces, spots_of, bit_at_spot, AreApart, AreSized, AreLaid, IsWritten, hold_at, table_in, IsBitField, IsPlaceWord, word_bit, word_place, word_pieces, word_signed, word_width, word_blob, word_room, word_entry, word_held, word_table, word_laid, AreWritten, Field, Word, pieces_by, short_pieces, start_in, IsShortIn, ShortRule, indices, schema_fields, term_of, layout_by, rules, AnyMap}
 use Rattle.piece_bits.specs.declared.word.Word.TheVariants as stored
 
 -- what is not scattered stands at one place
@@ -55,11 +55,11 @@ module _ {layout : List (List Owner)} {rows : ℕ} {holds : List Hold} {row leaf
     inside_value : (k : ℕ) → k < word_width short.word short.field → bit_of new (word_place short.word start k) ≡ bit_at (number (digit value) (word_width short.word short.field)) k
     inside_value k l = inside k l ∙ ap (λ (v : ℤ). bit_at (number (digit v) (word_width short.word short.field)) k) same
 
-    pub word_put : table_in layout rows holds (set blobs short.blob new) ≡ with_entry (table_in layout rows holds blobs) row leaf value
-    word_put = word_table short.word short.field short.blob start at.form at.cell blobs at.sized at.signed value old new held is inside_value before after len
-
-    pub word_lies : AreLaid layout blobs → AreLaid layout (set blobs short.blob new)
-    word_lies = word_laid short.word short.field short.blob start at.form at.cell blobs at.sized at.signed value old new held is inside_value before after len
+    pub word_put : AreLaid layout blobs → IsWritten layout rows holds blobs (set blobs short.blob new) row leaf value
+    word_put laid = record {
+      table = word_table short.word short.field short.blob start at.form at.cell blobs at.sized at.signed value old new held is inside_value before after len;
+      laid = word_laid short.word short.field short.blob start at.form at.cell blobs at.sized at.signed value old new held is inside_value before after len laid;
+    }
 
 -- so it is in a mapping of a view
 abbrev pub StandsIn : AnyMap → ℕ → ℕ → ShortRule → ℕ → List (List ℕ) → Type 0
@@ -95,12 +95,11 @@ module _ {layout : List (List Owner)} {rows : ℕ} {holds : List Hold} {row leaf
     all_written : AreWritten blobs new (spots_of (scattered_pieces rules start)) (length (spots_of (scattered_pieces rules start))) (number (digit passed) field.width)
     all_written = subst (λ (n : ℕ). AreWritten blobs new (spots_of (scattered_pieces rules start)) n (number (digit passed) field.width)) (sym bytes_wide) written
 
-    pub bytes_put : table_in layout rows holds new ≡ with_entry (table_in layout rows holds blobs) row leaf value
-    bytes_put = written_table at.cell blobs new value (number (digit passed) field.width) code held all_written.inside all_written.outside
-
-    pub bytes_lie : AreLaid layout blobs → AreLaid layout new
-    bytes_lie are_laid =
-        still_laid layout blobs new are_laid written.lengths (written_padding at.cell blobs new value (number (digit passed) field.width) code held all_written.inside all_written.outside)
+    pub bytes_put : AreLaid layout blobs → IsWritten layout rows holds blobs new row leaf value
+    bytes_put are_laid = record {
+      table = written_table at.cell blobs new value (number (digit passed) field.width) code held all_written.inside all_written.outside;
+      laid = still_laid layout blobs new are_laid written.lengths (written_padding at.cell blobs new value (number (digit passed) field.width) code held all_written.inside all_written.outside);
+    }
 
 -- by the short form of its rule
 module _ {layout : List (List Owner)} {rows : ℕ} (holds : List Hold) (row leaf : ℕ) {rules : List PieceRule} {short : ShortRule} {count : ℕ}

@@ -24,7 +24,7 @@ unfoldable pub use Rattle.views.specs.Tallies.{tallied}
 pub use Rattle.views.specs.TallyLaws.{tallied-none, after_log-none, after_log-append, tallied-counts, tallied-heat, accesses_more, after_stores-append}
 pub use Rattle.views.specs.Columns.{in_leaf, column, column_reads, with_column, column_writes, first_lane_fault, lane_fault}
 pub use Rattle.views.specs.AccessEntries.{reads_leaf, writes_leaf, touches, AreCounts, AreHeat, AreEntries}
-pub use Rattle.views.specs.ViewFields.{IsKept, raw_under, table_under, IsMappingOf, IsTallied, HasSign, HasGranules, tally_of}
+pub use Rattle.views.specs.ViewFields.{IsKept, IsWritten, raw_under, table_under, IsMappingOf, IsTallied, HasSign, HasGranules, tally_of}
 pub use Rattle.views.specs.Moves.{size_of, IsRunMoved, blob_steps, MayMove, IsInBlock, IsInRun}
 pub use Rattle.views.specs.Pieces.{IsMovedEach, is_cut, piece_count, piece_at, ArePieces}
 pub use Rattle.views.specs.Stores.{kind_at, StoreAnswer, Fits, without_number, AllStay, kept_row, kept_or}

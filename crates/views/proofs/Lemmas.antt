@@ -1,6 +1,6 @@
 -- The lemmas of this crate that answers cite.
 pub use Rattle.views.proofs.Imports.{◌<◌, length, rules, w128, common_steps, arith, to_z-of_z, ◌∙◌, ◌+◌, ◌*◌, turned_place, get_or, IsWholeWide, IsBlockWide, IsFieldWide, IsTurnedWide, [], ◌≡◌, ℕ, List, sym, ap, get_or_default, IsMoved, half_more, take, half, piece_count, ◌-◌, ◌≤◌, map, ⊎_elim, cases_lt, length-map, kinds_of, schema_fields, leaf_cells, kind_at, pos, get_or_read, low_64, subst, term_of, layout_by, bits_of, Table, owners_of, blob_bits_of, sum_by, take_all, sum_by_more_le, Owner, run_length, refl, Read, ◌∷◌, ◌≤ℤ◌, ints, least_of, greatest_of, least_in, greatest_in, false, is_counted, SFits, Wrap, ℤ, without_number, answer_of, Each1, IsBlock, IsNarrow, same, blocks, blob_steps, IfSome, array_of, size_of, IsRunMoved, rows_after, leaf_count_of, leaf_type_of, ◌/◌, ◌^◌, slice_index, mul-le, get_or_from_slice_get, width_of, leaves, Fields, LeafType, Truth, extents_of, term_of_map, Hold, IsInBlock, IsMovedEach, AreMoved, ◌||◌, zero, suc, true, ◌==◌, range_with_len, or_right, row_fits, slots_within, block_in, same_slots, same_steps, all_pieces, is_cut, piece_at, span_pieces, indices, zeros, IsTallied, tally_of, Tally, no_tally, new_tally, no_tally-tallied, to_z, of_z, w64, get_or-map, declared, declared_same, length-with_column, raised, IsSettledIn, hold_at, held, Strict, kept_of, table_holds, FitsSigned, leaf_types_of, Ok, told_lane, drop, first_lane_fault, run_fault, None, column_writes, with_column, stored_count, with_run, raised_same, after_stores, LaneFault, Option, Fits, after_access, access_to, tallied_kept, tallied-one, Bool, option_map, LeafCounts, counts_after, after_log, tallied, times_accesses, all_touches, log_kept, min, Some, leaf_counts, Counts}
-pub use Rattle.views.proofs.AccessLaws.{StandsIn, stands, blob_there, blob_is, word_there, word_put, word_lies, with_rules, lies, word_read, bytes_wide, bytes_read, LiesIn, bytes_apart, bytes_put, bytes_lie}
+pub use Rattle.views.proofs.AccessLaws.{StandsIn, stands, blob_there, blob_is, word_there, word_put, with_rules, lies, word_read, bytes_wide, bytes_read, LiesIn, bytes_apart, bytes_put}
 pub use Rattle.views.proofs.WideLaws.{plain_leads, blocks_lead, wide_seen, room_at, room_by_bit, said_whole, said_field, said_by, field_alone, turned_is}
 pub use Rattle.views.proofs.AllLaws.{still_old, same_count, same_length, all_moved, blocks_more, blocks_of}
 pub use Rattle.views.proofs.PieceLaws.{one_piece, piece_is}

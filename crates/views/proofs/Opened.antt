@@ -1,5 +1,5 @@
 -- A view by its fields.
-use Rattle.views.proofs.Imports.{◌≡◌, ℕ, ℤ, ◌<◌, ◌≤◌, List, [], ◌∷◌, Some, false, length, map, slice_get, sym, ap, ◌∙◌, subst, arith, SFits, to_z, of_z, w128, to_z-of_z, get_or_from_slice_get, Fields, indices, LeafType, Truth, leaves, kinds_of, IsIn, IsDeclared, is_signed, Owner, IsLaidOut, entry, Cell, Hold, Term, kinds_are, leaf_cells, length-leaf_cells, layout_by, holds_by, IsTooBigFor, is_counted, hold_widths, AreLaid, table_in, hold_at, with_entry, Table, leaf_count_of, leaf_type_of, leaf_types_of, owners_of, table_holds, after_log, after_raw, IsTable, IsSettledIn, kind_at, Access, Write, Tally, after_access, tallied, all_touches, declared, StoreMode, Strict, raw_held, stays_declared, with_rows, IsKept, IsMappingOf, IsTallied, HasSign, raw_under, table_under, idle_logged}
+use Rattle.views.proofs.Imports.{◌≡◌, ℕ, ℤ, ◌<◌, ◌≤◌, List, [], ◌∷◌, Some, false, length, map, slice_get, sym, ap, ◌∙◌, subst, arith, SFits, to_z, of_z, w128, to_z-of_z, get_or_from_slice_get, Fields, indices, LeafType, Truth, leaves, kinds_of, IsIn, IsDeclared, is_signed, Owner, IsLaidOut, entry, Cell, Hold, Term, kinds_are, leaf_cells, length-leaf_cells, layout_by, holds_by, IsTooBigFor, is_counted, hold_widths, AreLaid, table_in, hold_at, with_entry, Table, leaf_count_of, leaf_type_of, leaf_types_of, owners_of, table_holds, after_log, after_raw, IsTable, IsSettledIn, kind_at, Access, Write, Tally, after_access, tallied, all_touches, declared, StoreMode, Strict, raw_held, stays_declared, with_rows, IsKept, IsWritten, IsMappingOf, IsTallied, HasSign, raw_under, table_under, idle_logged}
 use Rattle.views.proofs.KeptLaws.{kind_count, row_count, kept_shape, kept_stays, hold_some, entry_is_declared, sign_entry, strict_raw, kept_set, table_set}
 
 -- what a mapping says is what its expression says
@@ -145,16 +145,16 @@ module _ {mode : StoreMode} {fields : Fields} {extents : List ℕ} {term : Term}
 
       -- it is written
       module _ (row : ℕ) (row_in : row < length seen.rows) (new : List (List ℕ))
-          (wrote : table_in layout slots holds new ≡ with_entry (table_in layout slots holds blobs) row leaf (to_z w128 (of_z w128 raw))) where
+          (wrote : IsWritten layout slots holds blobs new row leaf (to_z w128 (of_z w128 raw))) where
         raw_wrote : raw_under term extents fields new ≡ with_entry (raw_under term extents fields blobs) row leaf raw
         raw_wrote =
-            sym (raw_same mapping new) ∙ wrote ∙ ap (λ (v : ℤ). with_entry (table_in layout slots holds blobs) row leaf v) (to_z-of_z w128 raw fits)
+            sym (raw_same mapping new) ∙ wrote.table ∙ ap (λ (v : ℤ). with_entry (table_in layout slots holds blobs) row leaf v) (to_z-of_z w128 raw fits)
             ∙ ap (λ (t : List (List ℤ)). with_entry t row leaf raw) (raw_same mapping blobs)
 
-        pub kept_after : AreLaid layout new → IsKept mode term extents fields new
-        kept_after laid =
+        pub kept_after : IsKept mode term extents fields new
+        kept_after =
             kept_set kept new row leaf raw (omega (arith, row_in, rows_seen)) (leaf_seen leaf leaf_in) raw_wrote (subst (λ (s : Table). IsSettledIn s leaf raw) (sym is) settled)
-            (laid_there mapping laid)
+            (laid_there mapping wrote.laid)
 
         -- what callers see then, and where nothing is counted
         pub seen_stored : seen_from mode fields extents term new tally ≡ with_rows seen (with_entry seen.rows row leaf (declared (leaf_type_of seen leaf) raw))

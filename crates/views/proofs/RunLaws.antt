@@ -1,6 +1,6 @@
 -- Rows of a leaf that lie in a stretch.
 use Rattle.views.proofs.Imports.{◌≡◌, ℕ, zero, suc, ◌+◌, ◌<◌, ◌≤◌, List, [], ◌∷◌, length, map, take, drop, get_or, set, slice_index, ℤ, pos, ◌≤ℤ◌, FitsSigned, of_z, w64, refl, sym, ap, ◌∙◌, subst, arith, bit_at, range_with_len, Fits-of_z, ints, length-map, get_or-map, get_or-set_same, set-set, set-get_or, length-take, length-drop, get_or-drop, get_or-take, get_or_default, same_lists, length-range_with_len, IsIn, IsDeclared, least_of, greatest_of, least_in, greatest_in, LeafType, number, digit, entry, Owner, IsLaidOut, Hold, bit_of, PieceRule, AreSized, AreLaid, hold_at, table_in, with_entry, word_place, word_width, IsShortIn, stretch_place, IsStretch, stretch_fits, ShortRule, Stretch, low_64, code_low, stretched_at, StretchFits, ArePut, word_narrow, in_leaf, column, with_column, no_column, entry_more, raised, Fits}
-use Rattle.views.proofs.AccessLaws.{StandsAt, stands, blob_there, word_there, word_read, word_put, word_lies}
+use Rattle.views.proofs.AccessLaws.{StandsAt, stands, blob_there, word_there, word_read, word_put}
 
 -- ---- low bits
 
@@ -75,11 +75,11 @@ module _ {layout : List (List Owner)} {slots : ℕ} (holds : List Hold) {leaf ro
           let code : number (digit low) width ≡ number (digit value) width = code_raised kind low width narrow put.2.fits in
           let written : (j : ℕ) → j < width → bit_of new (word_place short.word (stretch_place stretch k) j) ≡ bit_at (number (digit value) width) j =
           λ j below. put.2.inside j below ∙ ap (λ (n : ℕ). bit_at n j) code in
-          let size : length table ≡ slots = length-map (range_with_len 0 slots) _ ∙ length-range_with_len 0 slots in (
-            subst (λ (b : List (List ℕ)). AreLaid layout b) twice
-                (word_lies standing value value between new (held (at + k) there) refl here written put.2.before put.2.after put.2.len before.0),
+          let size : length table ≡ slots = length-map (range_with_len 0 slots) _ ∙ length-range_with_len 0 slots in
+          let wrote = word_put standing value value between new (held (at + k) there) refl here written put.2.before put.2.after put.2.len before.0 in (
+            subst (λ (b : List (List ℕ)). AreLaid layout b) twice wrote.laid,
             ap (table_in layout slots holds) (sym twice)
-                ∙ word_put standing value value between new (held (at + k) there) refl here written put.2.before put.2.after put.2.len
+                ∙ wrote.table
                 ∙ ap (λ (t : List (List ℤ)). with_entry t (row + k) leaf value) before.1
                 ∙ ap (with_entry (with_column leaf row (take k numbers) table) (row + k) leaf) (number_is k inside)
                 ∙ entry_more leaf row k (row + k) numbers table (omega (arith, inside, many)) refl (omega (arith, row_in k inside, size)),

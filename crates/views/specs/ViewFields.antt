@@ -1,6 +1,6 @@
 -- What the type of a view keeps of its fields.
 use Rattle.std.specs.Prelude.{ℕ, ℤ, ◌≡◌, List, length, map, Option, option_map, is_some, IfSome}
-use Rattle.views.specs.Imports.{indices, Fields, is_signed, kinds_of, Owner, IsLaidOut, Cell, Hold, Term, leaf_cells, layout_by, holds_by, IsTooBigFor, has_count, granule_of, AreLaid, hold_at, table_in, kind_at, declared_table, AllSettled, HeatCounts, leaf_counts, heat_counts, granules_of, HasLeaves, Counts, StoreMode}
+use Rattle.views.specs.Imports.{indices, Fields, is_signed, kinds_of, Owner, IsLaidOut, Cell, Hold, Term, leaf_cells, layout_by, holds_by, IsTooBigFor, has_count, granule_of, AreLaid, hold_at, table_in, with_entry, kind_at, declared_table, AllSettled, HeatCounts, leaf_counts, heat_counts, granules_of, HasLeaves, Counts, StoreMode}
 use Rattle.instrument.specs.declared.heat.Heat.{Heat}
 use Rattle.views.specs.Tallies.{Tally, blob_lengths}
 
@@ -17,6 +17,11 @@ pub record IsMappingOf (term : Term) (extents : List ℕ) (fields : Fields) (map
 -- a leaf is stored in the sign of its type
 abbrev pub HasSign : List Cell → List Hold → ℕ → Type 0
 HasSign cells holds leaf = (hold_at holds leaf).signed ≡ is_signed (kind_at (map (λ cell. cell.kind) cells) leaf)
+
+-- a raw number is written into blobs, which are laid out still
+pub record IsWritten (layout : List (List Owner)) (slots : ℕ) (holds : List Hold) (old new : List (List ℕ)) (row leaf : ℕ) (value : ℤ) : Type 0 where
+  pub table : table_in layout slots holds new ≡ with_entry (table_in layout slots holds old) row leaf value
+  pub laid : AreLaid layout new
 
 -- the raw numbers that blobs hold under the layout of an expression, and the table that they stand for
 abbrev pub raw_under : Term → List ℕ → Fields → List (List ℕ) → List (List ℤ)

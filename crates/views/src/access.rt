@@ -1,6 +1,6 @@
 ghost use Rattle.std.specs.Prelude.{◌≡◌, ◌<◌, true, false, is_some, IfSome, length};
-ghost use Rattle.views.specs.Imports.{IsIn, entry, is_counted, term_of_map, AreLaid, hold_at, table_in, with_entry};
-ghost use Rattle.views.specs.ViewFields.{HasSign};
+ghost use Rattle.views.specs.Imports.{IsIn, entry, is_counted, term_of_map, AreLaid, hold_at, table_in};
+ghost use Rattle.views.specs.ViewFields.{HasSign, IsWritten};
 
 use crate::view::BlobList;
 use blobs::Blob;
@@ -92,11 +92,8 @@ pub fn near_write(map: &AnyMap, blobs: &mut BlobList, row: u64, leaf: usize, val
     requires leaf_in { leaf < length (⟦<AnyMap as Mapping>⟧.cell_list map.now) }
     requires laid { AreLaid (⟦<AnyMap as Mapping>⟧.layout map.now) blobs.old.items }
     requires held { let hold = hold_at (⟦<AnyMap as Mapping>⟧.hold_list map.now) leaf in IsIn hold.signed hold.width value }
-    ensures table { result ≡ true → table_in (⟦<AnyMap as Mapping>⟧.layout map.now) (⟦<AnyMap as Mapping>⟧.slot_count map.now)
-        (⟦<AnyMap as Mapping>⟧.hold_list map.now) blobs.new.items
-        ≡ with_entry (table_in (⟦<AnyMap as Mapping>⟧.layout map.now) (⟦<AnyMap as Mapping>⟧.slot_count map.now)
-        (⟦<AnyMap as Mapping>⟧.hold_list map.now) blobs.old.items) row leaf value }
-    ensures still_laid { result ≡ true → AreLaid (⟦<AnyMap as Mapping>⟧.layout map.now) blobs.new.items }
+    ensures written { result ≡ true → IsWritten (⟦<AnyMap as Mapping>⟧.layout map.now) (⟦<AnyMap as Mapping>⟧.slot_count map.now) (⟦<AnyMap as Mapping>⟧.hold_list map.now)
+        blobs.old.items blobs.new.items row leaf value }
     ensures uncounted { result ≡ true → is_counted (term_of_map map.now) ≡ false }
     ensures none { result ≡ false → blobs.new.items ≡ blobs.old.items }
 {
@@ -117,11 +114,8 @@ pub fn short_write(map: &AnyMap, blobs: &mut BlobList, row: u64, leaf: usize, va
     requires leaf_in { leaf < length (⟦<AnyMap as Mapping>⟧.cell_list map.now) }
     requires laid { AreLaid (⟦<AnyMap as Mapping>⟧.layout map.now) blobs.old.items }
     requires held { let hold = hold_at (⟦<AnyMap as Mapping>⟧.hold_list map.now) leaf in IsIn hold.signed hold.width value }
-    ensures table { result ≡ true → table_in (⟦<AnyMap as Mapping>⟧.layout map.now) (⟦<AnyMap as Mapping>⟧.slot_count map.now)
-        (⟦<AnyMap as Mapping>⟧.hold_list map.now) blobs.new.items
-        ≡ with_entry (table_in (⟦<AnyMap as Mapping>⟧.layout map.now) (⟦<AnyMap as Mapping>⟧.slot_count map.now)
-        (⟦<AnyMap as Mapping>⟧.hold_list map.now) blobs.old.items) row leaf value }
-    ensures still_laid { result ≡ true → AreLaid (⟦<AnyMap as Mapping>⟧.layout map.now) blobs.new.items }
+    ensures written { result ≡ true → IsWritten (⟦<AnyMap as Mapping>⟧.layout map.now) (⟦<AnyMap as Mapping>⟧.slot_count map.now) (⟦<AnyMap as Mapping>⟧.hold_list map.now)
+        blobs.old.items blobs.new.items row leaf value }
     ensures uncounted { result ≡ true → is_counted (term_of_map map.now) ≡ false }
     ensures none { result ≡ false → blobs.new.items ≡ blobs.old.items }
 {
@@ -156,11 +150,7 @@ pub fn write_by_rule(map: &AnyMap, blobs: &mut BlobList, row: u64, leaf: usize, 
     requires leaf_in { leaf < length (⟦<AnyMap as Mapping>⟧.cell_list map.now) }
     requires laid { AreLaid (⟦<AnyMap as Mapping>⟧.layout map.now) blobs.old.items }
     requires held { let hold = hold_at (⟦<AnyMap as Mapping>⟧.hold_list map.now) leaf in IsIn hold.signed hold.width value }
-    ensures table { table_in (⟦<AnyMap as Mapping>⟧.layout map.now) (⟦<AnyMap as Mapping>⟧.slot_count map.now)
-        (⟦<AnyMap as Mapping>⟧.hold_list map.now) blobs.new.items
-        ≡ with_entry (table_in (⟦<AnyMap as Mapping>⟧.layout map.now) (⟦<AnyMap as Mapping>⟧.slot_count map.now)
-        (⟦<AnyMap as Mapping>⟧.hold_list map.now) blobs.old.items) row leaf value }
-    ensures still_laid { AreLaid (⟦<AnyMap as Mapping>⟧.layout map.now) blobs.new.items }
+    ensures { IsWritten (⟦<AnyMap as Mapping>⟧.layout map.now) (⟦<AnyMap as Mapping>⟧.slot_count map.now) (⟦<AnyMap as Mapping>⟧.hold_list map.now) blobs.old.items blobs.new.items row leaf value }
 {
     match map.piece(row, leaf) {
         Some(piece) => write_piece(map, blobs, row, leaf, piece, value),

@@ -1,9 +1,7 @@
 // Laws that do nothing when they run.
 ghost use Rattle.std.specs.Prelude.{◌≡◌, ℕ, List, length};
 ghost use Rattle.views.specs.Imports.{Term, Owner};
-ghost use Rattle.views.specs.AccessEntries.{AreEntries};
-ghost use Rattle.views.specs.Tables.{IsTable, leaf_types_of, table_holds};
-ghost use Rattle.views.specs.Tallies.{Access, tallied, no_tally};
+ghost use Rattle.views.specs.Prelude.{AreEntries, IsTable, leaf_types_of, table_holds, Access, tallied, no_tally};
 
 use crate::view::View;
 

@@ -1,7 +1,6 @@
 ghost use Rattle.std.specs.Prelude.{◌≡◌, ◌+◌, ◌<◌, OnOk, OnErr, length};
 ghost use Rattle.views.specs.Imports.{entry, IsDeclared};
-ghost use Rattle.views.specs.Stores.{without_number};
-ghost use Rattle.views.specs.Tables.{leaf_count_of, leaf_type_of, answer_of, after_read, after_write};
+ghost use Rattle.views.specs.Prelude.{without_number, leaf_count_of, leaf_type_of, answer_of, after_read, after_write};
 
 use crate::fault::StoreFault;
 use crate::laws::laws_of_table;

@@ -1,8 +1,6 @@
 // All values of a row at once.
 ghost use Rattle.std.specs.Prelude.{ℕ, ◌≡◌, ◌+◌, ◌<◌, pos, true, is_ok, [], length, slice_index_or, slice_set};
-ghost use Rattle.views.specs.Stores.{kept_row};
-ghost use Rattle.views.specs.Tables.{leaf_count_of, answer_of, kept_of, after_log, after_stores};
-ghost use Rattle.views.specs.Tallies.{Read, Write, row_accesses};
+ghost use Rattle.views.specs.Prelude.{kept_row, leaf_count_of, answer_of, kept_of, after_log, after_stores, Read, Write, row_accesses};
 
 use crate::laws::laws_of_table;
 use crate::view::View;

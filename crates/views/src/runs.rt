@@ -1,10 +1,7 @@
 // Many rows of one leaf in blobs, stretch by stretch.
 ghost use Rattle.std.specs.Prelude.{ℕ, ◌≡◌, ◌+◌, ◌<◌, ◌≤◌, pos, true, false, length, map, take, slice_index_or};
 ghost use Rattle.views.specs.Imports.{IsIn, entry, is_counted, term_of_map, AreSized, AreLaid, hold_at, table_in, low_64};
-ghost use Rattle.views.specs.Columns.{with_column};
-ghost use Rattle.views.specs.ViewFields.{HasSign};
-ghost use Rattle.views.specs.LeafRuns.{raised};
-ghost use Rattle.views.specs.Stores.{Fits, kind_at};
+ghost use Rattle.views.specs.Prelude.{with_column, HasSign, raised, Fits, kind_at};
 
 use crate::view::BlobList;
 use blobs::Blob;

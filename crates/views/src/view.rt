@@ -57,11 +57,7 @@ impl Model for View {
 
     ghost coded = { Prim.hlevel (codes, coded_fields, coded_term) };
 
-    ghost use Rattle.record_dim.specs.Schemas.{schema_fields};
-    ghost use Rattle.map_expr.specs.Terms.{term_of};
-    ghost use Rattle.record_dim.specs.Leaves.{leaves};
-    ghost use Rattle.map_checks.specs.Mappings.{layout_by};
-    ghost use Rattle.map_any.specs.Maps.{extents_of, term_of_map};
+    ghost use Rattle.views.specs.Imports.{schema_fields, term_of, leaves, layout_by, extents_of, term_of_map};
     ghost use Rattle.views.specs.ViewFields.{IsKept, IsMappingOf, IsTallied, table_under, tally_of};
 
     ghost view = { λ v. record {
@@ -81,16 +77,8 @@ impl Model for View {
 }
 
 impl View {
-    ghost use Rattle.record_dim.specs.Schemas.{schema_fields};
-    ghost use Rattle.map_any.specs.Maps.{extents_of, term_of_map};
-    ghost use Rattle.record_dim.specs.Leaves.{leaves, kinds_of};
-    ghost use Rattle.record_dim.specs.LeafTypes.{IsDeclared};
-    ghost use Rattle.piece_bits.specs.LowBits.{declared};
-    ghost use Rattle.piece_bits.specs.declared.mode.StoreMode.TheVariants.{Strict, Wrap};
-    ghost use Rattle.views.specs.ViewFields.{HasGranules};
-    ghost use Rattle.views.specs.Stores.{without_number};
-    ghost use Rattle.views.specs.Refusals.{IsOverLimits, IsNoView, IsNoViewWithin};
-    ghost use Rattle.views.specs.Tables.{leaf_count_of, leaf_type_of, leaf_types_of, owners_of, table_holds, answer_of, kept_of, blob_bits_of, after_log, after_read, after_write, after_raw, IsTable, IsSettledIn};
+    ghost use Rattle.views.specs.Imports.{schema_fields, extents_of, term_of_map, leaves, kinds_of, IsDeclared, declared, Strict, Wrap};
+    ghost use Rattle.views.specs.Prelude.{HasGranules, without_number, IsOverLimits, IsNoView, IsNoViewWithin, leaf_count_of, leaf_type_of, leaf_types_of, owners_of, table_holds, answer_of, kept_of, blob_bits_of, after_log, after_read, after_write, after_raw, IsTable, IsSettledIn};
 
     /// A view of zeros, which lies in memory as the expression says and refuses a value that does not fit. `Bad` comes exactly where the
     /// expression is refused, and `TooBig` exactly where it is not and is over a limit.

@@ -1,8 +1,7 @@
 // The values of one leaf in several rows at once.
 ghost use Rattle.std.specs.Prelude.{◌≡◌, ◌+◌, ◌-◌, ◌<◌, ◌≤◌, ◌++◌, pos, OnOk, OnErr, IfErr, Some, None, [], length, map, take, drop, replicate, slice_index_or};
 ghost use Rattle.views.specs.Imports.{Each1, IsBlock, IsNarrow, low_64};
-ghost use Rattle.views.specs.Columns.{in_leaf, column, column_reads, column_writes, with_column, first_lane_fault, IsNarrowLeaf};
-ghost use Rattle.views.specs.Tables.{answer_of, kept_of, leaf_count_of, after_log, after_read, after_stores};
+ghost use Rattle.views.specs.Prelude.{in_leaf, column, column_reads, column_writes, with_column, first_lane_fault, IsNarrowLeaf, answer_of, kept_of, leaf_count_of, after_log, after_read, after_stores};
 
 use super::View;
 use crate::fault::LaneFault;

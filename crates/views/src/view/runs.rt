@@ -1,11 +1,7 @@
 // The values of one leaf in many rows at once.
 ghost use Rattle.std.specs.Prelude.{ℕ, ◌≡◌, ◌+◌, ◌*◌, ◌<◌, ◌≤◌, pos, true, Ok, List, length, map, take, slice_index_or};
 ghost use Rattle.views.specs.Imports.{hold_at, low_64};
-ghost use Rattle.views.specs.Columns.{column_reads, column_writes, with_column};
-ghost use Rattle.views.specs.LeafRuns.{raised, run_of, run_steps, run_fault, told_lane, stored_count, with_run, TakesAll};
-ghost use Rattle.views.specs.Stores.{Fits};
-ghost use Rattle.views.specs.Tables.{answer_of, leaf_count_of, leaf_type_of, table_holds, after_log, after_stores};
-ghost use Rattle.views.specs.Tallies.{Access};
+ghost use Rattle.views.specs.Prelude.{column_reads, column_writes, with_column, raised, run_of, run_steps, run_fault, told_lane, stored_count, with_run, TakesAll, Fits, answer_of, leaf_count_of, leaf_type_of, table_holds, after_log, after_stores, Access};
 
 use super::View;
 use crate::fault::LaneFault;

@@ -1,8 +1,7 @@
 // Slots of a leaf that are moved from view to view, whatever blocks they cross.
 ghost use Rattle.std.specs.Prelude.{ℕ, ◌≡◌, ◌+◌, ◌*◌, ◌^◌, ◌<◌, ◌≤◌, true, false, IfSome, Some, option_map, length};
 ghost use Rattle.views.specs.Imports.{blocks, array_of, slots_in, AreRuns};
-ghost use Rattle.views.specs.Moves.{size_of, IsInBlock, IsRunMoved};
-ghost use Rattle.views.specs.Pieces.{move_steps, HasSlots};
+ghost use Rattle.views.specs.Prelude.{size_of, IsInBlock, IsRunMoved, move_steps, HasSlots};
 
 use super::View;
 use crate::laws::laws_of_table;

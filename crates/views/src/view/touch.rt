@@ -1,9 +1,7 @@
 // What accesses add to the counters of a view.
 ghost use Rattle.std.specs.Prelude.{◌≡◌, ◌<◌, ◌≤◌, ◌^◌, [], ◌∷◌, ◌++◌, length, option_map, IfSome};
 ghost use Rattle.views.specs.Imports.{leaf_counts, heat_counts, HasLeaves};
-ghost use Rattle.views.specs.ViewFields.{HasGranules};
-ghost use Rattle.views.specs.Tallies.{access_to, leaf_touched, granules_touched, times_accesses, all_touches};
-ghost use Rattle.views.specs.Inner.Repeated.{counts_after, heat_after, leaves_raised, row_raised, rows_raised};
+ghost use Rattle.views.specs.Prelude.{HasGranules, access_to, leaf_touched, granules_touched, times_accesses, all_touches, counts_after, heat_after, leaves_raised, row_raised, rows_raised};
 
 use super::View;
 use instrument::{Counts, Heat};

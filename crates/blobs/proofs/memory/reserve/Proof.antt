@@ -56,9 +56,6 @@ module _ (E : El) (Z : Al) where
     abbrev Bound : Type 0
     Bound = (walk_of 𝓛 ended stayed held).Ghost
 
-    abbrev Goes : Bound → Type 1
-    Goes y = ent 𝓤 ((walk_of 𝓛 ended stayed held).pre y) (WpFn 𝓤 H 𝓣.C 𝓣.Λ here ((walk_of 𝓛 ended stayed held).args y) ((walk_of 𝓛 ended stayed held).post y))
-
     abbrev Two : RattleType
     Two = Tuple (Row E ∷ Lr E Z ∷ [])
 
@@ -74,7 +71,8 @@ module _ (E : El) (Z : Al) where
         qed 𝓛 (‵ (Out.own_val r (v ∷ [])) ∷ raw (alive 𝓛 ended.signature z.0.0 z.0.1) ∷ []) ∵
         suffices ! _ (ends_at 𝓛 ended stayed held (spelled z) v r (tt, (tt, tt)) (tt, (tt, tt))) $ says ! said $ nothing ! $ nothing ! $ nothing ! $ fjoin3 ! $ move ! (2 ∷ 0 ∷ 1 ∷ []) $ done !
 
-    walk : (z : Bound) → z.0.3.1.0 < 2 ^ 64 → Goes (spelled z)
+    walk : (z : Bound) → z.0.3.1.0 < 2 ^ 64
+        → ent 𝓤 ((walk_of 𝓛 ended stayed held).pre (spelled z)) (WpFn 𝓤 H 𝓣.C 𝓣.Λ here ((walk_of 𝓛 ended stayed held).args (spelled z)) ((walk_of 𝓛 ended stayed held).post (spelled z)))
     walk z fn =
         let κ = z.0.0.0 in let κ₁ = z.0.0.1.0 in let κ₂ = z.0.0.1.1.0 in
         let q = z.0.1.0 in let q₁ = z.0.1.1.0 in let q₂ = z.0.1.1.1.0 in

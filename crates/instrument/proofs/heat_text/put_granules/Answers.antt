@@ -1,4 +1,4 @@
-use Rattle.instrument.proofs.Imports.{rules, arith, IsErr, get_or, refl, granule_line}
+use Rattle.instrument.proofs.Imports.{rules, arith, get_or, refl, granule_line}
 use Rattle.instrument.proofs.Numbered.{numbered-more, numbered-err, numbered-all}
 use Rattle.instrument.proofs.heat_text.put_granules.Goals as goal
 
@@ -6,8 +6,7 @@ pub returns-in_err-put_granule : goal.returns-in_err-put_granule
 returns-in_err-put_granule g c =
     let counts = c.args.counts.now in
     let at = c.loop-granule.granule in
-    let err : IsErr c.from_residual.result = search rules in
-    numbered-err c.from_residual.result (granule_line c.args.blob) counts at (get_or counts at 0) 0 (omega arith) refl err c.loop-granule.invariant c.in_err-put_granule.ensures
+    numbered-err c.from_residual.result (granule_line c.args.blob) counts at (get_or counts at 0) 0 (omega arith) refl (search rules) c.loop-granule.invariant c.in_err-put_granule.ensures
 
 pub loop-granule-preserved : goal.loop-granule-preserved
 loop-granule-preserved g c =

@@ -20,9 +20,7 @@ loop-leaf-preserved c =
     let low : leaf < length rules = omega (arith, kind_count (schema_fields c.args.schema.now)) in
     let Same : ℕ → LeafRule → Type 0 = λ k l. IsSameRule (get_or rules k l.rule) l.rule in
     let Whole : ℕ → LeafRule → Type 0 = λ k l. IsLeafRule (kind_in kinds k) c.args.extents.now (hold_in holds k) l in
-    let Without : ℕ → LeafRule → Type 0 = λ k l. leads l.short.walk ≡ false in
-    let read : from ≡ get_or rules leaf made.rule = c.index-rules-leaf.is ∙ get_or_default rules leaf from made.rule low in
-    let same : Same leaf made = subst (λ (r : Rule). IsSameRule r made.rule) read c.leaf_rule.ensures.rule in
+    let same : Same leaf made = subst (λ (r : Rule). IsSameRule r made.rule) (c.index-rules-leaf.is ∙ get_or_default rules leaf from made.rule low) c.leaf_rule.ensures.rule in
     let kind : kind_in kinds leaf ≡ c.leaf_type-kind.result = get_or_from_slice_get kinds leaf c.leaf_type-kind.result Truth c.leaf_type-kind.ensures in
     let hold : hold_in holds leaf ≡ c.hold_at-hold.result =
     get_or_from_slice_get holds leaf c.hold_at-hold.result (record { signed = false; width = 0 }) c.hold_at-hold.ensures in
@@ -33,5 +31,5 @@ loop-leaf-preserved c =
       same = each_push Same c.loop-leaf.leaves c.push.new.self made pushed so_far.same (subst (λ (n : ℕ). Same n made) (sym so_far.each) same);
       whole = each_push Whole c.loop-leaf.leaves c.push.new.self made pushed so_far.whole (subst (λ (n : ℕ). Whole n made) (sym so_far.each) whole);
       wide = each_push (λ k l. IsWideIn c.args.lengths.now l) c.loop-leaf.leaves c.push.new.self made pushed so_far.wide c.leaf_rule.ensures.wide;
-      uncounted = λ is. each_push Without c.loop-leaf.leaves c.push.new.self made pushed (so_far.uncounted is) (c.leaf_rule.ensures.uncounted is);
+      uncounted = λ is. each_push (λ k l. leads l.short.walk ≡ false) c.loop-leaf.leaves c.push.new.self made pushed (so_far.uncounted is) (c.leaf_rule.ensures.uncounted is);
     }

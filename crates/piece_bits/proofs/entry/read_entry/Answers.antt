@@ -8,13 +8,7 @@ at : (g : given.Over) (c : goal.After-as_slice g) →
     c.args.slot c.args.cell c.hold-hold.result c.as_slice.result.now
 at g c =
     let m = c.args.map.now in
-    record {
-      laid = g.met.M.Mapping.laws m;
-      slot_in = c.requires.slot_in;
-      cell_in = omega (arith, g.met.M.Mapping.holds_cells m);
-      is = c.hold-hold.ensures;
-      located = grind (arith, slice_index);
-    }
+    record { laid = g.met.M.Mapping.laws m; slot_in = c.requires.slot_in; cell_in = omega (arith, g.met.M.Mapping.holds_cells m); is = c.hold-hold.ensures; located = grind (arith, slice_index) }
 
 pub read_pieces-requires-clause-within : goal.read_pieces-requires-clause-within
 read_pieces-requires-clause-within g c = within (at g c) c.args.blobs.now c.requires.sized

@@ -8,13 +8,7 @@ at : (g : given.Over) (c : goal.After-hold-hold g) →
     c.args.slot c.args.cell c.hold-hold.result (c.args.piece ∷ [])
 at g c =
     let m = c.args.mapping.now in
-    record {
-      laid = g.met.M.Mapping.laws m;
-      slot_in = c.requires.slot_in;
-      cell_in = omega (arith, g.met.M.Mapping.holds_cells m);
-      is = c.hold-hold.ensures;
-      located = c.requires.located;
-    }
+    record { laid = g.met.M.Mapping.laws m; slot_in = c.requires.slot_in; cell_in = omega (arith, g.met.M.Mapping.holds_cells m); is = c.hold-hold.ensures; located = c.requires.located }
 
 -- the piece has the bits of the hold
 width : (g : given.Over) (c : goal.After-hold-hold g) → c.args.piece.bits ≡ c.hold-hold.result.width

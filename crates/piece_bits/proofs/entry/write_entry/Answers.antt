@@ -8,13 +8,7 @@ at : (g : given.Over) (c : goal.After-as_slice g) →
     c.args.slot c.args.cell c.hold-hold.result c.as_slice.result.now
 at g c =
     let m = c.args.map.now in
-    record {
-      laid = g.met.M.Mapping.laws m;
-      slot_in = c.requires.slot_in;
-      cell_in = omega (arith, g.met.M.Mapping.holds_cells m);
-      is = c.hold-hold.ensures;
-      located = grind (arith, slice_index);
-    }
+    record { laid = g.met.M.Mapping.laws m; slot_in = c.requires.slot_in; cell_in = omega (arith, g.met.M.Mapping.holds_cells m); is = c.hold-hold.ensures; located = grind (arith, slice_index) }
 
 held : (g : given.Over) (c : goal.After-as_slice g) → IsIn c.hold-hold.result.signed c.hold-hold.result.width c.args.value
 held g c = subst (λ (h : Hold). IsIn h.signed h.width c.args.value) (hold_is (at g c)) c.requires.held

@@ -1,4 +1,4 @@
-use Rattle.piece_bits.proofs.Imports.{◌≡◌, ◌∙◌, ℕ, List, [], get_or, length, ap, arith, get_or_default, Piece, bit_of, spots_of, IsWithin, IsNext, nowhere, next_piece, AreWritten, within_same, write_next}
+use Rattle.piece_bits.proofs.Imports.{◌≡◌, ◌∙◌, ℕ, List, [], get_or, length, ap, arith, get_or_default, Piece, bit_of, spots_of, IsWithin, IsNext, nowhere, next_piece, within_same, write_next}
 use Rattle.piece_bits.proofs.pieces.write_pieces.Goals as goal
 use Rattle.piece_bits.proofs.pieces.write_pieces.Goals.{In-loop-piece}
 
@@ -39,9 +39,9 @@ loop-piece-preserved c =
     c.index_mut.ensures.value ∙ get_or_default c.loop-piece.blobs.items piece.blob _ [] (within d).blob_in in
     let put = c.put_bits.ensures in
     let same : (k : ℕ) → bit_of c.index_mut.result.now k ≡ bit_of old k = λ k. ap (λ (w : List ℕ). bit_of w k) blob in
-    let so_far : AreWritten c.args.blobs.now.items c.loop-piece.blobs.items (spots_of c.args.pieces.now) c.loop-piece.done c.args.value =
-    record { inside = c.loop-piece.invariant.inside; outside = c.loop-piece.invariant.outside; lengths = c.loop-piece.invariant.lengths } in
-    let now = write_next c.args.blobs.now.items c.loop-piece.blobs.items c.args.pieces.now c.loop-piece.piece-index c.loop-piece.done c.args.value piece
-    so_far (next d) (within d) c.requires.apart c.put_bits.new.self c.bits_in_word-part.result c.bits_in_word-part.ensures
-    put.inside (λ k l. put.before k l ∙ same k) (λ k l. put.after k l ∙ same k) (put.len ∙ ap (length {A = ℕ}) blob) in
-    record { so_far = (next d).more; inside = now.inside; outside = now.outside; lengths = now.lengths }
+    record {
+      so_far = (next d).more;
+      written = write_next c.args.blobs.now.items c.loop-piece.blobs.items c.args.pieces.now c.loop-piece.piece-index c.loop-piece.done c.args.value piece
+          c.loop-piece.invariant.written (next d) (within d) c.requires.apart c.put_bits.new.self c.bits_in_word-part.result c.bits_in_word-part.ensures
+          put.inside (λ k l. put.before k l ∙ same k) (λ k l. put.after k l ∙ same k) (put.len ∙ ap (length {A = ℕ}) blob);
+    }

@@ -1,23 +1,17 @@
 use Rattle.piece_bits.proofs.Imports.{ℕ, ℤ, ◌/◌, ◌%◌, ap, ◌∙◌, rules, FitsSigned, w64, arith, bit_at, to_z-of_z, number, digit, byte_and_bit, field_put, window_written}
-use Rattle.blobs.specs.BytesLaws.{IsPut}
 use Rattle.piece_bits.proofs.put.put_field.Goals as goal
-use Rattle.piece_bits.proofs.put.put_field.Goals.{After-put_window}
 
-written : (c : After-put_window) → IsPut c.args.blob.now c.put_window.new.self c.args.place c.args.field.now.width c.low_bits-code.result
-written c =
+pub returns : goal.returns
+returns c =
     let at = c.args.place in
     let old = c.args.blob.now in
     let width = c.args.field.now.width in
     let changed = c.with_bits-word.ensures in
-    field_put old c.put_window.new.self at (at / 8) (at % 8) width c.low_bits-code.result c.window.result c.with_bits-word.result
+    let put = field_put old c.put_window.new.self at (at / 8) (at % 8) width c.low_bits-code.result c.window.result c.with_bits-word.result
     (byte_and_bit at) (omega (arith, c.requires.form.1)) c.window.ensures changed.inside changed.before changed.after
     (window_written old c.put_window.new.self at (at / 8) (at % 8) width c.window.result c.with_bits-word.result (byte_and_bit at) c.requires.within
     c.put_window.ensures.len c.window.ensures changed.after c.put_window.ensures.inside)
-    c.put_window.ensures.before c.put_window.ensures.after
-
-pub returns : goal.returns
-returns c =
-    let put = written (goal.at.returns c).After-put_window in
+    c.put_window.ensures.before c.put_window.ensures.after in
     let fits : FitsSigned w64 c.args.value = search rules in
     record {
       fits = fits;

@@ -1,4 +1,4 @@
-use Rattle.piece_bits.proofs.Lemmas.{◌+◌, ◌*◌, ◌/◌, ◌%◌, ◌^◌, ◌≡◌, ◌<◌, ℕ, List, [], length, get_or, ap, ◌∙◌, arith, get_or_read, bit_at-lt, number, bit_of, bit_in, byte_of, scattered_pieces, spots_of, bit_at_spot, IsNext, read_next, byte_next, byte_within, byte_bound}
+use Rattle.piece_bits.proofs.Lemmas.{◌<◌, ◌+◌, ◌*◌, ◌/◌, ◌%◌, ◌^◌, ◌≡◌, ℕ, List, [], length, get_or, ap, ◌∙◌, arith, get_or_read, bit_at-lt, number, bit_of, bit_in, byte_of, scattered_pieces, spots_of, bit_at_spot, IsNext, read_next, byte_next, byte_within, byte_bound}
 use Rattle.piece_bits.proofs.scattered.read_bytes.Goals as goal
 
 pub bounds-blobs-rule : goal.bounds-blobs-rule
@@ -7,9 +7,7 @@ bounds-blobs-rule c =
 
 pub offset_bounds-blobs-rule : goal.offset_bounds-blobs-rule
 offset_bounds-blobs-rule c =
-    let low : c.rule-item.result.blob < length c.args.blobs.now =
-    (byte_within c.args.rules.now c.args.place c.loop-rule.rule-index c.rule-item.result c.loop-rule-test.true c.rule-item.is c.args.blobs.now c.requires.within).blob_in in
-    omega arith
+    omega (arith, (byte_within c.args.rules.now c.args.place c.loop-rule.rule-index c.rule-item.result c.loop-rule-test.true c.rule-item.is c.args.blobs.now c.requires.within).blob_in)
 
 pub overflow_add-rule : goal.overflow_add-rule
 overflow_add-rule c =

@@ -1,10 +1,10 @@
-use Rattle.piece_bits.proofs.Lemmas.{◌≡◌, ◌+◌, ◌/◌, ◌^◌, ◌<◌, ◌∙◌, ℕ, List, [], get_or, length, ap, arith, common_steps, get_or_default, bit_of, byte_of, scattered_pieces, spots_of, IsWithin, IsNext, AreWritten, within_same, write_next, byte_next, byte_within, byte_bound}
+use Rattle.piece_bits.proofs.Lemmas.{◌≡◌, ◌+◌, ◌/◌, ◌^◌, ◌<◌, ◌∙◌, ℕ, List, [], get_or, length, ap, arith, common_steps, get_or_default, bit_of, byte_of, scattered_pieces, spots_of, IsWithin, IsNext, within_same, write_next, byte_next, byte_within, byte_bound}
 use Rattle.piece_bits.proofs.scattered.write_bytes.Goals as goal
 use Rattle.piece_bits.proofs.scattered.write_bytes.Goals.{After-bits_in_word-byte}
 
 within : (c : After-bits_in_word-byte) → IsWithin c.loop-rule.blobs.items (byte_of c.args.place c.rule-item.result)
 within c =
-    within_same c.args.blobs.now.items c.loop-rule.blobs.items (byte_of c.args.place c.rule-item.result) c.loop-rule.invariant.lengths
+    within_same c.args.blobs.now.items c.loop-rule.blobs.items (byte_of c.args.place c.rule-item.result) c.loop-rule.invariant.written.lengths
     (byte_within c.args.rules.now c.args.place c.loop-rule.rule-index c.rule-item.result c.loop-rule-test.true c.rule-item.is c.args.blobs.now.items c.requires.within)
 
 pub index_mut-requires : goal.index_mut-requires
@@ -36,9 +36,9 @@ loop-rule-preserved c =
     c.index_mut.ensures.value ∙ get_or_default c.loop-rule.blobs.items byte.blob _ [] (within d).blob_in in
     let put = c.put_whole.ensures in
     let same : (k : ℕ) → bit_of c.index_mut.result.now k ≡ bit_of old k = λ k. ap (λ (w : List ℕ). bit_of w k) blob in
-    let so_far : AreWritten c.args.blobs.now.items c.loop-rule.blobs.items (spots_of pieces) c.loop-rule.done c.args.value =
-    record { inside = c.loop-rule.invariant.inside; outside = c.loop-rule.invariant.outside; lengths = c.loop-rule.invariant.lengths } in
-    let now = write_next c.args.blobs.now.items c.loop-rule.blobs.items pieces c.loop-rule.rule-index c.loop-rule.done c.args.value byte
-    so_far next (within d) c.requires.apart c.put_whole.new.self c.bits_in_word-byte.result c.bits_in_word-byte.ensures
-    put.inside (λ k l. put.before k l ∙ same k) (λ k l. put.after k l ∙ same k) (put.len ∙ ap (length {A = ℕ}) blob) in
-    record { so_far = next.more; inside = now.inside; outside = now.outside; lengths = now.lengths }
+    record {
+      so_far = next.more;
+      written = write_next c.args.blobs.now.items c.loop-rule.blobs.items pieces c.loop-rule.rule-index c.loop-rule.done c.args.value byte
+          c.loop-rule.invariant.written next (within d) c.requires.apart c.put_whole.new.self c.bits_in_word-byte.result c.bits_in_word-byte.ensures
+          put.inside (λ k l. put.before k l ∙ same k) (λ k l. put.after k l ∙ same k) (put.len ∙ ap (length {A = ℕ}) blob);
+    }

@@ -1,4 +1,4 @@
-use Rattle.views.proofs.Lemmas.{◌<◌, length, rules, w128, common_steps, arith, to_z-of_z, StandsIn, stands, blob_there, blob_is, word_there, word_put, word_lies}
+use Rattle.views.proofs.Lemmas.{◌<◌, length, rules, w128, common_steps, arith, to_z-of_z, StandsIn, stands, blob_there, blob_is, word_there, word_put}
 use Rattle.views.proofs.access.near_write.Goals as goal
 use Rattle.views.proofs.access.near_write.Goals.{In-Some}
 
@@ -21,16 +21,9 @@ write_word-requires-clause-within c =
     let here = at (goal.at.write_word-requires-clause-within c).In-Some in
     word_there here c.index_mut.result.now (blob_is here _ _ c.index_mut.ensures.value)
 
-pub returns-clause-table : goal.returns-clause-table
-returns-clause-table c = λ wrote.
-    let here = at (goal.at.returns-clause-table c).In-Some in
+pub returns-clause-written : goal.returns-clause-written
+returns-clause-written c = λ wrote.
+    let here = at (goal.at.returns-clause-written c).In-Some in
     let put = c.write_word.ensures in
     word_put here c.args.value _ c.index_mut.result.now c.write_word.new.blob c.requires.held (to_z-of_z w128 c.args.value (search rules)) (blob_is here _ _ c.index_mut.ensures.value)
-    put.inside put.before put.after put.len
-
-pub returns-clause-still_laid : goal.returns-clause-still_laid
-returns-clause-still_laid c = λ wrote.
-    let here = at (goal.at.returns-clause-still_laid c).In-Some in
-    let put = c.write_word.ensures in
-    word_lies here c.args.value _ c.index_mut.result.now c.write_word.new.blob c.requires.held (to_z-of_z w128 c.args.value (search rules)) (blob_is here _ _ c.index_mut.ensures.value)
     put.inside put.before put.after put.len c.requires.laid

@@ -1,4 +1,4 @@
-use Rattle.views.proofs.Lemmas.{◌<◌, length, rules, arith, w128, common_steps, to_z-of_z, StandsIn, LiesIn, with_rules, stands, lies, blob_there, blob_is, word_there, word_put, word_lies, bytes_wide, bytes_apart, bytes_put, bytes_lie}
+use Rattle.views.proofs.Lemmas.{◌<◌, length, rules, arith, w128, common_steps, to_z-of_z, StandsIn, LiesIn, with_rules, stands, lies, blob_there, blob_is, word_there, word_put, bytes_wide, bytes_apart, bytes_put}
 use Rattle.views.proofs.access.short_write.Goals as goal
 use Rattle.views.proofs.access.short_write.Goals.{In_default-word, After-as_slice}
 
@@ -28,18 +28,11 @@ write_word-requires-clause-within c =
     let here = at (goal.at.write_word-requires-clause-within c).In_default-word in
     word_there here c.index_mut.result.now (blob_is here _ _ c.index_mut.ensures.value)
 
-pub returns-in_default-word-clause-table : goal.returns-in_default-word-clause-table
-returns-in_default-word-clause-table c = λ wrote.
-    let here = at (goal.at.returns-in_default-word-clause-table c).In_default-word in
+pub returns-in_default-word-clause-written : goal.returns-in_default-word-clause-written
+returns-in_default-word-clause-written c = λ wrote.
+    let here = at (goal.at.returns-in_default-word-clause-written c).In_default-word in
     let put = c.write_word.ensures in
     word_put here c.args.value _ c.index_mut.result.now c.write_word.new.blob c.requires.held (to_z-of_z w128 c.args.value (search rules)) (blob_is here _ _ c.index_mut.ensures.value)
-    put.inside put.before put.after put.len
-
-pub returns-in_default-word-clause-still_laid : goal.returns-in_default-word-clause-still_laid
-returns-in_default-word-clause-still_laid c = λ wrote.
-    let here = at (goal.at.returns-in_default-word-clause-still_laid c).In_default-word in
-    let put = c.write_word.ensures in
-    word_lies here c.args.value _ c.index_mut.result.now c.write_word.new.blob c.requires.held (to_z-of_z w128 c.args.value (search rules)) (blob_is here _ _ c.index_mut.ensures.value)
     put.inside put.before put.after put.len c.requires.laid
 
 pub write_scattered-requires-clause-wide : goal.write_scattered-requires-clause-wide
@@ -48,12 +41,7 @@ write_scattered-requires-clause-wide c = bytes_wide (in_bytes (goal.at.write_sca
 pub write_scattered-requires-clause-apart : goal.write_scattered-requires-clause-apart
 write_scattered-requires-clause-apart c = bytes_apart (in_bytes (goal.at.write_scattered-requires-clause-apart c).After-as_slice)
 
-pub returns-in-Scattered-clause-table : goal.returns-in-Scattered-clause-table
-returns-in-Scattered-clause-table c = λ wrote.
-    bytes_put (in_bytes (goal.at.returns-in-Scattered-clause-table c).After-as_slice) c.args.blobs.now.items c.write_scattered.new.blobs.items c.args.value _ c.requires.held
-    (to_z-of_z w128 c.args.value (search rules)) c.write_scattered.ensures
-
-pub returns-in-Scattered-clause-still_laid : goal.returns-in-Scattered-clause-still_laid
-returns-in-Scattered-clause-still_laid c = λ wrote.
-    bytes_lie (in_bytes (goal.at.returns-in-Scattered-clause-still_laid c).After-as_slice) c.args.blobs.now.items c.write_scattered.new.blobs.items c.args.value _ c.requires.held
+pub returns-in-Scattered-clause-written : goal.returns-in-Scattered-clause-written
+returns-in-Scattered-clause-written c = λ wrote.
+    bytes_put (in_bytes (goal.at.returns-in-Scattered-clause-written c).After-as_slice) c.args.blobs.now.items c.write_scattered.new.blobs.items c.args.value _ c.requires.held
     (to_z-of_z w128 c.args.value (search rules)) c.write_scattered.ensures c.requires.laid

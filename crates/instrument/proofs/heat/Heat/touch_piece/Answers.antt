@@ -24,18 +24,15 @@ loop-number-preserved c =
     let granule = ap (λ (heat : HeatCounts). is_touched heat.granule earlier piece.blob number) c.loop-number.invariant in
     elim c.if-not-is_touched.branch [
       | then-not-is_touched w ↦
-          let untouched : is_touched heat.granule earlier piece.blob number ≡ false = sym granule ∙ sym c.is_touched.ensures ∙ w.if-not-is_touched.true in
           ap heat_counts w.self-is ∙ w.warm.ensures ∙ ap (warmed_at c.args.times piece.blob number) c.loop-number.invariant
-          ∙ until-more c.args.times first number earlier piece heat c.requires.blob_in small c.loop-number.auto.number untouched
+          ∙ until-more c.args.times first number earlier piece heat c.requires.blob_in small c.loop-number.auto.number (sym granule ∙ sym c.is_touched.ensures ∙ w.if-not-is_touched.true)
       | else-not-is_touched w ↦
-          let touched : is_touched heat.granule earlier piece.blob number ≡ true = sym granule ∙ sym c.is_touched.ensures ∙ w.if-not-is_touched.false in
-          ap heat_counts w.self-is ∙ c.loop-number.invariant ∙ until-touched c.args.times first number earlier piece heat touched
+          ap heat_counts w.self-is ∙ c.loop-number.invariant ∙ until-touched c.args.times first number earlier piece heat (sym granule ∙ sym c.is_touched.ensures ∙ w.if-not-is_touched.false)
     ]
 
 pub returns : goal.returns
 returns c =
     let heat = heat_counts c.args.self.now in
     let first = c.granules_of-first.result.0 in
-    let whole : c.loop-number.number ≡ c.granules_of-first.result.1 = omega (arith, c.granules_of-first.ensures.rises) in
-    c.loop-number.invariant ∙ ap (λ (n : ℕ). heated_until c.args.times first n c.args.earlier.now c.args.piece.now heat) whole
+    c.loop-number.invariant ∙ ap (λ (n : ℕ). heated_until c.args.times first n c.args.earlier.now c.args.piece.now heat) (omega (arith, c.granules_of-first.ensures.rises))
     ∙ until-end c.args.times first c.granules_of-first.result.1 c.args.earlier.now c.args.piece.now heat c.granules_of-first.ensures

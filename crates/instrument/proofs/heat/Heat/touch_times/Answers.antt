@@ -26,5 +26,4 @@ loop-at-preserved c =
 
 pub returns : goal.returns
 returns c =
-    let items = c.args.pieces.now.items in
-    c.loop-at.invariant ∙ ap (λ (pieces : List Piece). heated_times c.args.times pieces (heat_counts c.args.self.now)) (take_all c.loop-at.at items (omega arith))
+    c.loop-at.invariant ∙ ap (λ (pieces : List Piece). heated_times c.args.times pieces (heat_counts c.args.self.now)) (take_all c.loop-at.at c.args.pieces.now.items (omega arith))

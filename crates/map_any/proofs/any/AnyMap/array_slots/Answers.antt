@@ -5,10 +5,9 @@ pub slots_of-slots-requires : goal.slots_of-slots-requires
 slots_of-slots-requires c =
     let m = c.args.self.now in
     let fields = schema_fields m.schema in
-    let kinds : length (kinds_of fields) ≡ length (leaves fields) = length-map (leaves fields) (λ (leaf : Leaf). leaf.kind) in
     record {
       few = few_slots (term_of m.expr) m.extents (leaf_cells (kinds_of fields)) m.rules (c.in_ok-order.order, c.in_ok-order.lanes) (search rules)
-          (omega (arith, kinds, m.ruled.each, c.leaf_count-leaves.ensures.value, c.leaf_count-leaves.ensures.some)) m.arrays;
+          (omega (arith, (length-map (leaves fields) (λ (leaf : Leaf). leaf.kind)), m.ruled.each, c.leaf_count-leaves.ensures.value, c.leaf_count-leaves.ensures.some)) m.arrays;
     }
 
 pub returns-clause-some : goal.returns-clause-some

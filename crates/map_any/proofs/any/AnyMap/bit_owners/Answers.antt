@@ -13,10 +13,9 @@ returns c =
     let blob : ℕ = c.args.blob in
     let bits : ℕ = c.blob_bytes.result * 8 in
     let shown : List RunOwner = c.loop-leaf.owners.items in
-    let size : bits ≡ length (get_or layout blob []) = omega (arith, c.blob_bytes.ensures) in
     let pads : c.in_ok-owners.owners.items ≡ replicate bits Pad = c.in_ok-owners.ensures.items_if_clones_equal (λ y same. same) in
     filled_all layout blob shown
-    (subst (λ (os : List RunOwner). IsFilled layout blob os shown) (pads ∙ ap (λ (n : ℕ). replicate n Pad) size) c.loop-leaf.invariant.filled)
+    (subst (λ (os : List RunOwner). IsFilled layout blob os shown) (pads ∙ ap (λ (n : ℕ). replicate n Pad) (omega (arith, c.blob_bytes.ensures))) c.loop-leaf.invariant.filled)
     (λ row leaf place bit owner.
     let low : leaf < length (leaf_cells (kinds_of (schema_fields m.schema))) = leaf_in m row leaf bit ((laid_in m).owned blob place row leaf bit owner) in
     c.loop-leaf.invariant.shown row leaf (omega arith) place bit owner)

@@ -15,37 +15,18 @@ bounds-as_slice-leaf c = inside c.args.self.now c.as_slice.result.now c.args.lea
 pub offset_bounds-as_slice-leaf : goal.offset_bounds-as_slice-leaf
 offset_bounds-as_slice-leaf c = grind (arith, common_steps, inside)
 
-pub returns-clause-places : goal.returns-clause-places
-returns-clause-places c =
+pub returns : goal.returns
+returns c =
     let m = c.args.self.now in
+    let leaf = c.args.leaf in
     let item : LeafRule = c.index-as_slice-leaf.result in
-    leaf_placed (layout_by (term_of m.expr) m.extents (schema_fields m.schema)) m.extents (kinds_of (schema_fields m.schema)) m.holds m.rules c.args.leaf item m.ruled
-    (in_kinds m c.args.leaf c.requires) (c.index-as_slice-leaf.is ∙ ap (λ (rs : List LeafRule). get_or rs c.args.leaf item) c.as_slice.ensures)
-
-pub returns-clause-whole : goal.returns-clause-whole
-returns-clause-whole c =
-    let m = c.args.self.now in
-    let item : LeafRule = c.index-as_slice-leaf.result in
-    leaf_whole (layout_by (term_of m.expr) m.extents (schema_fields m.schema)) m.extents (kinds_of (schema_fields m.schema)) m.holds m.rules c.args.leaf item m.ruled
-    (in_kinds m c.args.leaf c.requires) (c.index-as_slice-leaf.is ∙ ap (λ (rs : List LeafRule). get_or rs c.args.leaf item) c.as_slice.ensures)
-
-pub returns-clause-wide : goal.returns-clause-wide
-returns-clause-wide c =
-    let m = c.args.self.now in
-    let item : LeafRule = c.index-as_slice-leaf.result in
-    let read : item ≡ get_or m.rules c.args.leaf item = c.index-as_slice-leaf.is ∙ ap (λ (rs : List LeafRule). get_or rs c.args.leaf item) c.as_slice.ensures in
-    subst (λ (l : LeafRule). IsWideIn m.lengths l) (sym read) (m.wide c.args.leaf item (inside m m.rules c.args.leaf refl c.requires))
-
-pub returns-clause-uncounted : goal.returns-clause-uncounted
-returns-clause-uncounted c = λ counted.
-    let m = c.args.self.now in
-    let item : LeafRule = c.index-as_slice-leaf.result in
-    let read : item ≡ get_or m.rules c.args.leaf item = c.index-as_slice-leaf.is ∙ ap (λ (rs : List LeafRule). get_or rs c.args.leaf item) c.as_slice.ensures in
-    ap (λ (l : LeafRule). leads l.short.walk) read ∙ m.uncounted counted c.args.leaf item (inside m m.rules c.args.leaf refl c.requires)
-
-pub returns-clause-array : goal.returns-clause-array
-returns-clause-array c =
-    let m = c.args.self.now in
-    let item : LeafRule = c.index-as_slice-leaf.result in
-    let read : item ≡ get_or m.rules c.args.leaf item = c.index-as_slice-leaf.is ∙ ap (λ (rs : List LeafRule). get_or rs c.args.leaf item) c.as_slice.ensures in
-    leaf_array (term_of m.expr) m.extents (leaf_cells (kinds_of (schema_fields m.schema))) m.rules c.args.leaf item (inside m m.rules c.args.leaf refl c.requires) read m.arrays
+    let read : item ≡ get_or m.rules leaf item = c.index-as_slice-leaf.is ∙ ap (λ (rs : List LeafRule). get_or rs leaf item) c.as_slice.ensures in
+    let layout = layout_by (term_of m.expr) m.extents (schema_fields m.schema) in
+    let low = inside m m.rules leaf refl c.requires in
+    record {
+      places = leaf_placed layout m.extents (kinds_of (schema_fields m.schema)) m.holds m.rules leaf item m.ruled (in_kinds m leaf c.requires) read;
+      whole = leaf_whole layout m.extents (kinds_of (schema_fields m.schema)) m.holds m.rules leaf item m.ruled (in_kinds m leaf c.requires) read;
+      wide = subst (λ (l : LeafRule). IsWideIn m.lengths l) (sym read) (m.wide leaf item low);
+      array = leaf_array (term_of m.expr) m.extents (leaf_cells (kinds_of (schema_fields m.schema))) m.rules leaf item low read m.arrays;
+      uncounted = λ counted. ap (λ (l : LeafRule). leads l.short.walk) read ∙ m.uncounted counted leaf item low;
+    }

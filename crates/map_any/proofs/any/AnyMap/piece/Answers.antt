@@ -1,12 +1,6 @@
-use Rattle.map_any.proofs.Lemmas.{ℕ, ◌≡◌, ◌<◌, ◌≤◌, ◌∙◌, List, [], ◌∷◌, length, map, get_or, slice_index, sym, ap, subst, arith, schema_fields, Owner, IsLocated, Hold, Piece, begins_fit, PieceRule, pieces_in, term_of, AnyMap, layout_by, rule_located}
+use Rattle.map_any.proofs.Lemmas.{◌≡◌, ◌<◌, ◌≤◌, ◌∙◌, List, [], ◌∷◌, length, get_or, sym, ap, subst, arith, IsLocated, Piece, begins_fit, PieceRule, pieces_in, rule_located, layout_in, width_in}
 use Rattle.map_any.proofs.any.AnyMap.piece.Goals as goal
 use Rattle.map_any.proofs.any.AnyMap.piece.Goals.{After-slot_of_row}
-
-abbrev layout_in : AnyMap → List (List Owner)
-layout_in m = layout_by (term_of m.expr) m.extents (schema_fields m.schema)
-
-abbrev width_in : AnyMap → ℕ → ℕ
-width_in m leaf = slice_index (map (λ (h : Hold). h.width) m.holds) leaf
 
 pub slot_of_row-requires-clause-few : goal.slot_of_row-requires-clause-few
 slot_of_row-requires-clause-few c = c.leaf_rule.ensures.places.few
@@ -21,8 +15,7 @@ located : (c : goal.After-slot_of_row) → IsLocated (layout_in c.args.self.now)
     (pieces_in (c.piece-item.result ∷ []) c.slot_of_row.result)
 located c =
     let m = c.args.self.now in
-    let item : PieceRule = c.piece-item.result in
-    let alone = sym c.as_slice.ensures.value ∙ one_item c.as_slice.result.now item c.in-len1.len_at_least c.in-len1.len_below c.piece-item.is in
+    let alone = sym c.as_slice.ensures.value ∙ one_item c.as_slice.result.now c.piece-item.result c.in-len1.len_at_least c.in-len1.len_below c.piece-item.is in
     subst (λ (ps : List PieceRule). IsLocated (layout_in m) c.args.row c.args.leaf (width_in m c.args.leaf) (pieces_in ps c.slot_of_row.result)) alone
     (rule_located (layout_in m) m.extents c.args.row c.args.leaf (width_in m c.args.leaf) c.slot_of_row.result c.leaf_rule.result.now.rule c.leaf_rule.ensures.places
     c.slot_of_row.ensures.slot c.requires.slot_in)

@@ -64,9 +64,7 @@ loop-piece-preserved c =
 fits_at : (layout : List (List Owner)) (row leaf low width i : ℕ) (pieces : List Piece) (d : Piece) → i < length pieces → low ≤ width → width ≤ 64
     → flat_map (owners_in layout) (drop i pieces) ≡ map (Bit row leaf) (range_with_len low (width - low)) → low + (get_or pieces i d).bits ≤ 64
 fits_at layout row leaf low width i pieces d inside below narrow left =
-    let split = spells_split layout (Bit row leaf) low (width - low) (get_or pieces i d) (drop (i + 1) pieces)
-    (split_at layout row leaf low width i pieces d inside left) in
-    omega (arith, split.fits)
+    omega (arith, (spells_split layout (Bit row leaf) low (width - low) (get_or pieces i d) (drop (i + 1) pieces) (split_at layout row leaf low width i pieces d inside left)).fits)
 
 pub show_piece-requires-clause-narrow : goal.show_piece-requires-clause-narrow
 show_piece-requires-clause-narrow c =
@@ -90,8 +88,7 @@ pub returns-clause-shown : goal.returns-clause-shown
 returns-clause-shown c =
     let m = c.args.self.now in
     let layout : List (List Owner) = layout_in m in
-    let width : ℕ = width_in m c.args.leaf in
     let low : ℕ = c.loop-piece.low in
-    let none : 0 ≡ width - low = grind (arith, bits_located, flat_map, drop_all) in
+    let none : 0 ≡ (width_in m c.args.leaf) - low = grind (arith, bits_located, flat_map, drop_all) in
     shows_all layout (length (indices m.extents)) (map (λ (h : Hold). h.width) m.holds) (laid_in m) c.args.blob c.args.row c.args.leaf c.loop-piece.owners
     (subst (λ (n : ℕ). ShowBelow layout c.args.blob c.args.row c.args.leaf n c.loop-piece.owners) (omega arith) c.loop-piece.invariant.shown)

@@ -14,14 +14,14 @@ pub invariant_of-self : goal.invariant_of-self
 invariant_of-self c = (
   c.self.invariant.0,
   kept_after c.self.invariant.1 c.self.view_is c.self.invariant.0 c.args.leaf c.args.raw (search rules) c.requires.leaf_in c.requires.settled c.args.row c.requires.row_in c.near_write.new.blobs.items
-      (c.near_write.ensures.table c.if-near_write.true) (c.near_write.ensures.still_laid c.if-near_write.true),
+      (c.near_write.ensures.written c.if-near_write.true),
   c.self.invariant.2,
 )
 
 pub returns-then-near_write : goal.returns-then-near_write
 returns-then-near_write c =
     seen_written c.self.invariant.1 c.self.view_is c.self.invariant.0 c.args.leaf c.args.raw (search rules) c.requires.leaf_in c.requires.settled c.args.row c.requires.row_in c.near_write.new.blobs.items
-    (c.near_write.ensures.table c.if-near_write.true) (c.near_write.ensures.uncounted c.if-near_write.true) c.self.invariant.2
+    (c.near_write.ensures.written c.if-near_write.true) (c.near_write.ensures.uncounted c.if-near_write.true) c.self.invariant.2
 
 pub store_far-requires-clause-settled : goal.store_far-requires-clause-settled
 store_far-requires-clause-settled c = grind (arith, common_steps, to_z-of_z)

@@ -14,14 +14,14 @@ pub invariant_of-self : goal.invariant_of-self
 invariant_of-self c = (
   c.self.invariant.0,
   kept_after c.self.invariant.1 c.self.view_is c.self.invariant.0 c.args.leaf c.args.raw (search rules) c.requires.leaf_in c.requires.settled c.args.row c.requires.row_in c.short_write.new.blobs.items
-      (c.short_write.ensures.table c.if-short_write.true) (c.short_write.ensures.still_laid c.if-short_write.true),
+      (c.short_write.ensures.written c.if-short_write.true),
   c.self.invariant.2,
 )
 
 pub returns-then-short_write : goal.returns-then-short_write
 returns-then-short_write c =
     seen_written c.self.invariant.1 c.self.view_is c.self.invariant.0 c.args.leaf c.args.raw (search rules) c.requires.leaf_in c.requires.settled c.args.row c.requires.row_in c.short_write.new.blobs.items
-    (c.short_write.ensures.table c.if-short_write.true) (c.short_write.ensures.uncounted c.if-short_write.true) c.self.invariant.2
+    (c.short_write.ensures.written c.if-short_write.true) (c.short_write.ensures.uncounted c.if-short_write.true) c.self.invariant.2
 
 pub set_by_rule-requires-clause-settled : goal.set_by_rule-requires-clause-settled
 set_by_rule-requires-clause-settled c = grind (arith, common_steps, to_z-of_z)

@@ -14,10 +14,10 @@ pub invariant_of-self : goal.invariant_of-self
 invariant_of-self c = (
   c.self.invariant.0,
   kept_after c.self.invariant.1 c.self.view_is c.self.invariant.0 c.args.leaf c.args.raw (search rules) c.requires.leaf_in c.requires.settled c.args.row c.requires.row_in c.write_by_rule.new.blobs.items
-      c.write_by_rule.ensures.table c.write_by_rule.ensures.still_laid,
+      c.write_by_rule.ensures,
   c.self.invariant.2,
 )
 
 pub returns : goal.returns
 returns c =
-    seen_stored c.self.invariant.1 c.self.view_is c.self.invariant.0 c.args.leaf c.args.raw (search rules) c.requires.leaf_in c.requires.settled c.args.row c.requires.row_in c.write_by_rule.new.blobs.items c.write_by_rule.ensures.table
+    seen_stored c.self.invariant.1 c.self.view_is c.self.invariant.0 c.args.leaf c.args.raw (search rules) c.requires.leaf_in c.requires.settled c.args.row c.requires.row_in c.write_by_rule.new.blobs.items c.write_by_rule.ensures
