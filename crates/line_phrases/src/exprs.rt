@@ -67,7 +67,8 @@ fn read_negation(alloc: Global, room: usize, tokens: &mut Tokens) -> Result<Box<
 {
     let count = count_words(tokens)?;
     let inner = read_comparison(alloc, room, tokens)?;
-    Ok(negated(alloc, count, inner)?)
+    let value = negated(alloc, count, inner)?;
+    Ok(value)
 }
 
 // Two sums and a comparison between them, or one sum.
@@ -83,7 +84,8 @@ fn read_comparison(alloc: Global, room: usize, tokens: &mut Tokens) -> Result<Bo
     }
     let op = tokens.item::<Comparison>()?;
     let right = read_sum(alloc, room, tokens)?;
-    Ok(binary(alloc, op, left, right)?)
+    let value = binary(alloc, op, left, right)?;
+    Ok(value)
 }
 
 // `+` and `-` between products.
@@ -133,7 +135,8 @@ fn read_unary(alloc: Global, room: usize, tokens: &mut Tokens) -> Result<Box<Exp
 {
     let count = count_signs(tokens)?;
     let inner = read_atom(alloc, room, tokens)?;
-    Ok(negative(alloc, count, inner)?)
+    let value = negative(alloc, count, inner)?;
+    Ok(value)
 }
 
 // An operand without an operator of its own.
@@ -150,7 +153,8 @@ fn read_atom(alloc: Global, room: usize, tokens: &mut Tokens) -> Result<Box<Expr
         return read_choice(alloc, room - 1, tokens);
     }
     let leaf = read_leaf(alloc, tokens)?;
-    Ok(Box::new(alloc, leaf)?)
+    let boxed = Box::new(alloc, leaf)?;
+    Ok(boxed)
 }
 
 #[cycle(expr)]
@@ -178,7 +182,8 @@ fn read_choice(alloc: Global, room: usize, tokens: &mut Tokens) -> Result<Box<Ex
     tokens.sign(Sign::Comma)?;
     let right = read_boxed(alloc, room, tokens)?;
     tokens.sign(Sign::CloseParen)?;
-    Ok(binary(alloc, op, left, right)?)
+    let value = binary(alloc, op, left, right)?;
+    Ok(value)
 }
 
 // A number, an index or a path.
@@ -221,7 +226,8 @@ fn binary(
 ) -> Result<Box<Expr>, NoMemory>
     ensures { IfOk result (λ x. boxed_term x ≡ Binary op (boxed_term left) (boxed_term right)) }
 {
-    Ok(Box::new(alloc, Expr::Binary { op, left, right })?)
+    let whole = Box::new(alloc, Expr::Binary { op, left, right })?;
+    Ok(whole)
 }
 
 // How often `not` stands in front.

@@ -28,7 +28,8 @@ fn read_braced(alloc: Global, room: usize, tokens: &mut Tokens) -> Result<FieldL
     tokens.sign(Sign::OpenBrace)?;
     let fields = read_field_list(alloc, room, tokens)?;
     tokens.sign(Sign::CloseBrace)?;
-    Ok(field_list(alloc, fields)?)
+    let fields = field_list(alloc, fields)?;
+    Ok(fields)
 }
 
 #[cycle(fields)]
@@ -93,7 +94,8 @@ fn read_arrays(
 {
     let counts = read_dims(alloc, tokens)?;
     let dim = array_of(alloc, counts, element)?;
-    Ok(Box::new(alloc, Field { name, dim })?)
+    let field = Box::new(alloc, Field { name, dim })?;
+    Ok(field)
 }
 
 // The counts in brackets, the outermost first.

@@ -1,5 +1,5 @@
 ghost use Rattle.std.specs.Prelude.{◌≡◌, ◌<◌};
-ghost use Rattle.line_phrases.specs.Imports.{length, map, OnOk, IfOk, read, listed, inside_aos, inside_aosoa, inside_bits, inside_form, inside_soa, mapping, mapping_within};
+ghost use Rattle.line_phrases.specs.Imports.{length, map, OnOk, IfOk, Named, read, listed, inside_aos, inside_aosoa, inside_bits, inside_form, inside_soa, mapping, mapping_within};
 ghost use Rattle.map_expr.specs.Terms.{term_of};
 ghost use Rattle.line_grammar.specs.declared.line.MapWord.TheVariants as form;
 ghost use Rattle.line_phrases.specs.Inner.Gives.{Gives};
@@ -58,13 +58,13 @@ fn read_boxed(
 {
     let word = tokens.item::<Name>()?;
     if room == 0 {
-        return Ok(boxed(alloc, MapExpr::Named(word))?);
+        return Ok(named(alloc, word)?);
     }
     match map_word(&word) {
-        None => Ok(boxed(alloc, MapExpr::Named(word))?),
+        None => Ok(named(alloc, word)?),
         Some(form) => {
             if !tokens.begins_sign(Sign::OpenParen) {
-                return Ok(boxed(alloc, MapExpr::Named(word))?);
+                return Ok(named(alloc, word)?);
             }
             tokens.sign(Sign::OpenParen)?;
             let map = read_form(alloc, version, room - 1, form, tokens)?;
@@ -74,10 +74,17 @@ fn read_boxed(
     }
 }
 
+fn named(alloc: Global, word: Name) -> Result<Box<MapExpr>, NoMemory>
+    ensures { IfOk result (λ x. boxed_map x ≡ Named word) }
+{
+    boxed(alloc, MapExpr::Named(word))
+}
+
 fn boxed(alloc: Global, map: MapExpr) -> Result<Box<MapExpr>, NoMemory>
     ensures { IfOk result (λ x. boxed_map x ≡ term_of map) }
 {
-    Ok(Box::new(alloc, map)?)
+    let whole = Box::new(alloc, map)?;
+    Ok(whole)
 }
 
 // The inside of a form's brackets.
