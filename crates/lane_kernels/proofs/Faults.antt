@@ -2,15 +2,10 @@
 use Rattle.lane_kernels.proofs.Imports.{◌≡◌, ℕ, zero, suc, ◌+◌, ◌<◌, ◌≤◌, List, [], ◌∷◌, ◌++◌, length, map, take, ℤ, Option, Some, None, Result, Ok, Err, refl, ap, ◌∙◌, arith, option_map, option_or, lane_fault, first_lane_fault, StoreAnswer, LaneFault, StoreFault, Store, stored, fault_named, answer_fault, kernel_store_fault, first_row_fault, rows_before, named_row, rows_done, stored_count, told_lane, KernelFault, Kernel}
 use Rattle.lane_kernels.proofs.Changed.{DoesStore}
 
--- the fault of rows is that of the values that are stored in them
-one_alike : (row leaf lane : ℕ) (result : Result ℤ StoreFault) (later : Option KernelFault) (lanes : Option LaneFault) → later ≡ option_map (named_row row leaf) lanes
-    → option_or (answer_fault (row + lane) leaf result) later ≡ option_map (named_row row leaf) (option_or (lane_fault lane result) lanes)
-one_alike row leaf lane result later lanes same = grind arith
-
 pub faults_alike : (answer : StoreAnswer) (kernel : Kernel) (leaf row lane : ℕ) (value : List ℤ → ℤ) (rows : List (List ℤ)) → DoesStore kernel leaf value
     → first_row_fault answer kernel (row + lane) rows ≡ option_map (named_row row leaf) (first_lane_fault answer leaf lane (map value rows))
 faults_alike answer kernel leaf row lane value [] does = refl
-faults_alike answer kernel leaf row lane value (values ∷ rows) does = grind (arith, option_or, one_alike, (faults_alike answer kernel leaf row (lane + 1) value rows does))
+faults_alike answer kernel leaf row lane value (values ∷ rows) does = grind (arith, option_or, (faults_alike answer kernel leaf row (lane + 1) value rows does))
 
 -- none where nothing is stored
 pub no_fault : (answer : StoreAnswer) (kernel : Kernel) (row : ℕ) (rows : List (List ℤ)) → ((values : List ℤ) → stored kernel values ≡ None) → first_row_fault answer kernel row rows ≡ None
@@ -28,15 +23,11 @@ fault_append answer kernel start end (values ∷ rows) more clean at =
     let none = neither (kernel_store_fault answer start (stored kernel values)) (first_row_fault answer kernel (start + 1) rows) clean in
     grind (arith, option_or, (fault_append answer kernel (start + 1) end rows more none.1 (omega arith)))
 
--- a fault of the first rows is that of all
-first_stays : (first few all : Option KernelFault) (fault : KernelFault) → option_or first few ≡ Some fault → (few ≡ Some fault → all ≡ Some fault) → option_or first all ≡ Some fault
-first_stays first few all fault e later = grind arith
-
 pub fault_stays : (answer : StoreAnswer) (kernel : Kernel) (start count : ℕ) (rows : List (List ℤ)) (fault : KernelFault) → first_row_fault answer kernel start (take count rows) ≡ Some fault
     → first_row_fault answer kernel start rows ≡ Some fault
 fault_stays answer kernel start zero rows fault e = absurd (cc)
 fault_stays answer kernel start (suc count) [] fault e = e
-fault_stays answer kernel start (suc count) (values ∷ rows) fault e = grind (arith, first_stays, (fault_stays answer kernel (start + 1) count rows fault))
+fault_stays answer kernel start (suc count) (values ∷ rows) fault e = grind (arith, (fault_stays answer kernel (start + 1) count rows fault))
 
 -- the fault of some rows names one of them
 pub record IsNamed (start count : ℕ) (fault : KernelFault) : Type 0 where

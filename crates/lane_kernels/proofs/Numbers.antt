@@ -120,8 +120,5 @@ count_whole x op c rows row step number start counted few next begun is = grind 
 stores_none : (kernel : Kernel) (rows : List (List ℤ)) → ((seen : List (List ℤ)) → given_number kernel seen ≡ None) → number_so_far kernel rows ≡ None
 stores_none kernel rows none = grind arith
 
-pub no_number : (kernel : Kernel) (some more : List (List ℤ)) → ((seen : List (List ℤ)) → given_number kernel seen ≡ None) → number_so_far kernel some ≡ number_so_far kernel more
-no_number kernel some more none = stores_none kernel some none ∙ sym (stores_none kernel more none)
-
 pub same_number : (keep : Keeping) (kernel : Kernel) (row count : ℕ) (rows : List (List ℤ)) → number_so_far kernel (take count (run_rows keep kernel row rows)) ≡ number_so_far kernel (take count rows)
-same_number keep kernel row count rows = grind (arith, no_number, rows_stand)
+same_number keep kernel row count rows = grind (arith, rows_stand)

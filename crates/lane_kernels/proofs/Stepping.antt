@@ -1,5 +1,5 @@
 -- Rows that go together, in blocks of so many lanes and the rest one by one, or as many as may.
-use Rattle.lane_kernels.proofs.Imports.{◌≡◌, ℕ, ◌+◌, ◌-◌, ◌*◌, ◌/◌, ◌%◌, ◌<◌, ◌≤◌, Bool, true, false, min, inl, inr, sym, ap, ◌∙◌, arith, add-div_right, add-mod_right, add-mul-div_right, div-eq_of_lt, mod-eq_of_lt, mul_comm, mul-add, mul-le-mul_left, mul-le-mul_right, nat_tests, step_of, IsAt, sixteens, cost, rows_read, cases_lt}
+use Rattle.lane_kernels.proofs.Imports.{◌≡◌, ℕ, ◌+◌, ◌-◌, ◌*◌, ◌/◌, ◌%◌, ◌<◌, ◌≤◌, Bool, true, false, min, inl, inr, sym, ap, ◌∙◌, arith, add-div_right, add-mod_right, add-mul-div_right, div-eq_of_lt, mod-eq_of_lt, mul_comm, mul-add, mul-le-mul_left, nat_tests, step_of, IsAt, sixteens, cost, rows_read, cases_lt}
 
 pub at_start : (lanes count : ℕ) → 0 < lanes → IsAt lanes count 0
 at_start lanes count some = record { inside = omega arith; even = inl (omega arith) }
@@ -17,12 +17,8 @@ whole_even lanes count row some at room = elim at.even [ inl even ↦ even | inr
 pub whole_next : (lanes count row : ℕ) → 0 < lanes → IsAt lanes count row → row + lanes ≤ count → IsAt lanes count (row + lanes)
 whole_next lanes count row some at room = record { inside = room; even = inl (add-mod_right row lanes ∙ whole_even lanes count row some at room) }
 
--- the rest
-rest_quotient : (lanes count row : ℕ) → 0 < lanes → IsAt lanes count row → row < count → count < row + lanes → row / lanes ≡ count / lanes
-rest_quotient lanes count row some at small room = grind (arith, quotient)
-
 pub rest_next : (lanes count row : ℕ) → 0 < lanes → IsAt lanes count row → row < count → count < row + lanes → IsAt lanes count (row + 1)
-rest_next lanes count row some at small room = grind (arith, rest_quotient, quotient)
+rest_next lanes count row some at small room = grind (arith, quotient)
 
 -- so many rows that go together, of which no block is told from another where nothing counts accesses
 pub record IsStep (uncounted : Bool) (lanes count row step : ℕ) : Type 0 where
@@ -36,9 +32,6 @@ pub record IsStep (uncounted : Bool) (lanes count row step : ℕ) : Type 0 where
 -- how many rows are read where one of this step is refused
 read_whole : (lanes count row : ℕ) → (row / lanes + 1) * lanes ≤ count → rows_read lanes count row ≡ (row / lanes + 1) * lanes
 read_whole lanes count row room = grind (arith, nat_tests)
-
-read_rest : (lanes count row : ℕ) → count < (row / lanes + 1) * lanes → rows_read lanes count row ≡ row + 1
-read_rest lanes count row room = grind (arith, nat_tests)
 
 -- a block
 whole_cost : (lanes left : ℕ) → 0 < lanes → lanes ≤ 16 → lanes ≤ left → left / lanes + left % lanes ≡ sixteens lanes + ((left - lanes) / lanes + (left - lanes) % lanes)
@@ -68,7 +61,7 @@ rest_cost : (lanes left : ℕ) → left < lanes → left / lanes + left % lanes 
 rest_cost lanes left less = omega (arith, div-eq_of_lt less, mod-eq_of_lt less)
 
 rest_read : (lanes count row refused : ℕ) → 0 < lanes → IsAt lanes count row → row < count → count < row + lanes → refused ≡ row → rows_read lanes count refused ≡ row + 1
-rest_read lanes count row refused some at small room is = grind (arith, rest_quotient, mul_comm, mul-add, read_rest)
+rest_read lanes count row refused some at small room is = grind (arith, mul_comm, mul-add)
 
 rest_step : (lanes count row : ℕ) → 0 < lanes → IsAt lanes count row → row < count → count < row + lanes → (IsStep false lanes count row) 1
 rest_step lanes count row some at small room = record {
@@ -94,14 +87,10 @@ counted_step lanes count row some few at small = elim (cases_lt count (row + lan
 pub step_next : (uncounted : Bool) (lanes count row : ℕ) → 0 < lanes → lanes ≤ 16 → (uncounted ≡ false → IsAt lanes count row) → row < count → IsStep uncounted lanes count row (step_of uncounted lanes count row)
 step_next uncounted lanes count row some few at small = grind (arith, free_step, counted_step)
 
--- no more steps than in blocks
-pub most_cost : (uncounted : Bool) (lanes count : ℕ) → 0 < lanes → lanes ≤ 16 → cost uncounted lanes count ≤ count / lanes + count % lanes
-most_cost uncounted lanes count some few = grind (arith, mul-le-mul_right)
-
 -- the steps that were taken, and those that are left
 pub spent_more : (uncounted : Bool) (lanes count row step k begun now next : ℕ) → IsStep uncounted lanes count row step → now + k * cost uncounted lanes (count - row) ≡ begun + k * cost uncounted lanes count
     → next ≡ now + k * sixteens step → next + k * cost uncounted lanes (count - (row + step)) ≡ begun + k * cost uncounted lanes count
 spent_more uncounted lanes count row step k begun now next does spent took = grind (arith, mul-add)
 
 pub spent_most : (uncounted : Bool) (lanes count k begun now left : ℕ) → 0 < lanes → lanes ≤ 16 → now + k * left ≡ begun + k * cost uncounted lanes count → now ≤ begun + (k * (count / lanes + count % lanes) + lanes)
-spent_most uncounted lanes count k begun now left some few spent = grind (arith, mul-le-mul_left, most_cost)
+spent_most uncounted lanes count k begun now left some few spent = grind (arith, mul-le-mul_left)

@@ -1,5 +1,5 @@
 -- A kernel over all rows.
-use Rattle.lane_kernels.proofs.Imports.{◌≡◌, ℕ, ◌+◌, ◌-◌, ◌<◌, ◌≤◌, Bool, true, List, [], ◌∷◌, ◌++◌, length, take, drop, ℤ, Option, Some, None, Result, Err, refl, sym, ap, ◌∙◌, arith, length-take, flat_map, range_with_len, take-add, Owner, Table, owners_of, answer_of, kept_of, after_log, after_stores, after_log-none, tallied-append, tallied-kinds, swapped, apart, Access, Tally, tallied, StoreFault, fault_named, first_row_fault, empty_fault, run_rows, given_number, rows_before, IsKernelRun, reads_on, writes_on, kernel_rows_log, rows_read, stopped_log, fault_log, number_so_far, after_rows, IsOfNoRow, AreTaken, AreDone, KernelFault, Empty, Kernel}
+use Rattle.lane_kernels.proofs.Imports.{◌≡◌, ℕ, ◌+◌, ◌-◌, ◌<◌, ◌≤◌, Bool, true, List, [], ◌∷◌, ◌++◌, length, take, drop, ℤ, Option, Some, None, Result, Err, refl, sym, ap, ◌∙◌, arith, length-take, flat_map, range_with_len, take-add, Owner, Table, owners_of, answer_of, kept_of, after_log, after_stores, after_log-none, tallied-append, tallied-kinds, swapped, apart, Access, Tally, tallied, StoreFault, fault_named, first_row_fault, empty_fault, run_rows, rows_before, IsKernelRun, reads_on, writes_on, kernel_rows_log, rows_read, stopped_log, fault_log, number_so_far, after_rows, IsOfNoRow, AreTaken, AreDone, KernelFault, Empty, Kernel}
 use Rattle.lane_kernels.proofs.Logs.{logs_from}
 use Rattle.lane_kernels.proofs.Changed.{rows_count, rows_from, rows_more}
 use Rattle.lane_kernels.proofs.Faults.{fault_append, fault_is_named, fault_stays, before_named}
@@ -82,9 +82,6 @@ more_done old view new kernel row step number more done inside taken is = record
 -- rows are taken for granted by no kernel that has some
 some_rows : (kernel : Kernel) (rows : List (List ℤ)) → 0 < length rows → empty_fault kernel rows ≡ None
 some_rows kernel rows some = grind arith
-
-some_number : (kernel : Kernel) (rows : List (List ℤ)) → 0 < length rows → number_so_far kernel rows ≡ given_number kernel rows
-some_number kernel rows some = grind arith
 
 -- the log of a fault, from that of the rows that were gone through
 log_named : (kernel : Kernel) (lanes count row leaf : ℕ) (cause : StoreFault) → fault_log kernel lanes count (fault_named row leaf cause) ≡ stopped_log kernel (rows_read lanes count row) row

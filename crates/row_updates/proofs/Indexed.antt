@@ -1,5 +1,5 @@
 -- The index of a row of one extent, and an index that is put into numbers.
-use Rattle.row_updates.proofs.Imports.{index_in_line, ◌≡◌, ℕ, ◌<◌, List, [], ◌∷◌, length, set, take, Some, sym, ap, ◌∙◌, arith, slice_get, get_or_from_slice_get, AllZip-long, indices, IsInside, length-indices, place, index_at}
+use Rattle.row_updates.proofs.Imports.{index_in_line, ◌≡◌, ℕ, ◌<◌, List, [], ◌∷◌, length, set, take, Some, sym, ap, ◌∙◌, arith, slice_get, get_or_from_slice_get, AllZip-long, indices, IsInside, length-indices, index_at}
 
 line_below : (n row : ℕ) → row < length (indices (n ∷ [])) → row < n
 line_below n row small = grind (arith, length-indices)

@@ -1,5 +1,5 @@
 -- Accesses one after another: of an expression, of the right sides of a row, and of its stores.
-use Rattle.row_updates.proofs.Imports.{◌≡◌, ℕ, ◌+◌, List, [], ◌∷◌, ◌++◌, map, get_or, ℤ, Bool, true, false, Option, Result, Ok, Err, MutBor, refl, ap, sym, ◌∙◌, arith, fold, append-nil, append_assoc, Term, index_at, StoreAnswer, Access, Read, after_log-append, after_reads, logs_more, Table, answer_of, after_log, after_read, UpdateFault, Setting, each, passes, new_value, value_log, filter_log, if_ok, if_passes, sides_log, tried_log, count_log}
+use Rattle.row_updates.proofs.Imports.{◌≡◌, ℕ, ◌+◌, List, [], ◌∷◌, ◌++◌, map, get_or, ℤ, Bool, true, Option, Result, Ok, MutBor, refl, ap, sym, ◌∙◌, arith, fold, append-nil, append_assoc, Term, index_at, StoreAnswer, Access, Read, after_log-append, after_reads, logs_more, Table, answer_of, after_log, after_read, UpdateFault, Setting, each, passes, new_value, value_log, filter_log, if_ok, if_passes, sides_log, tried_log, count_log}
 use Rattle.row_updates.specs.EachLaws.{parted}
 
 -- reads through a row that is borrowed
@@ -30,12 +30,6 @@ log_more old view after log more so_far last = grind (arith, after_log-append)
 -- the accesses of a row that is tried: its filter leaves it out, or has a fault, or lets its right sides be read
 abbrev tested_log : StoreAnswer → Option (Term ℕ) → List Setting → ℕ → List ℤ → List ℕ → Result Bool UpdateFault → List Access
 tested_log answer filter sets number row index test = filter_log number row index filter ++ if_passes test (sides_log answer number row index sets)
-
-pub tried_log_left : (answer : StoreAnswer) (filter : Option (Term ℕ)) (sets : List Setting) (number : ℕ) (row : List ℤ) (index : List ℕ) → Ok false ≡ passes number row index filter → tried_log answer filter sets number row index ≡ filter_log number row index filter
-tried_log_left answer filter sets number row index test = ap (tested_log answer filter sets number row index) (sym test) ∙ append-nil (filter_log number row index filter)
-
-pub tried_log_fault : (answer : StoreAnswer) (filter : Option (Term ℕ)) (sets : List Setting) (number : ℕ) (row : List ℤ) (index : List ℕ) (fault : UpdateFault) → Err fault ≡ passes number row index filter → tried_log answer filter sets number row index ≡ filter_log number row index filter
-tried_log_fault answer filter sets number row index fault test = ap (tested_log answer filter sets number row index) (sym test) ∙ append-nil (filter_log number row index filter)
 
 pub tried_log_done : (answer : StoreAnswer) (filter : Option (Term ℕ)) (sets : List Setting) (number : ℕ) (row : List ℤ) (index : List ℕ) → Ok true ≡ passes number row index filter → tried_log answer filter sets number row index ≡ filter_log number row index filter ++ sides_log answer number row index sets
 tried_log_done answer filter sets number row index test = ap (tested_log answer filter sets number row index) (sym test)

@@ -1,5 +1,5 @@
 -- Updates of rows, step by step.
-use Rattle.row_updates.proofs.Imports.{drop_more_same, map-append, length-take-le, take-append-drop, ◌≡◌, ℕ, ◌+◌, ◌<◌, ◌≤◌, List, [], ◌∷◌, ◌++◌, length, map, get_or, take, take_all, drop, set, ℤ, pos, Bool, true, Option, Some, Result, Ok, Err, is_ok, refl, sym, ap, subst, ◌∙◌, arith, count_by, cond, range_with_len, slice_set, OnOk, IfOk, IfErr, take_more, take_more_set, drop-set-lt, drop_more, get_or-set_same, set-set, get_or-map, length-set, length-map, get_or-take, sum_by-append, Term, index_at, with_entry, Access, Write, after_log-none, logs_more, Table, answer_of, kept_of, after_log, after_stores, after_write, StoreFault, UpdateFault, Assign, StoreAnswer, Keeping, without_number, Setting, setting_of, each, in_row, store_kind, value_of, passes, new_value, with_values, tried_row, updated_row, updated_rows, updated_of, counted, ◌>>=◌, AreUpdated, IsStopped, AreCounted, row_test, IsCounted, IsCountStopped, value_log, sides_log, stores_log, row_log, update_log, count_log, after_stores-append, bool_byte, get_or-drop}
+use Rattle.row_updates.proofs.Imports.{drop_more_same, map-append, length-take-le, take-append-drop, ◌≡◌, ℕ, ◌+◌, ◌<◌, ◌≤◌, List, [], ◌∷◌, ◌++◌, length, map, get_or, take, take_all, drop, set, ℤ, pos, Bool, true, Option, Some, Result, Ok, Err, is_ok, refl, sym, ap, subst, ◌∙◌, arith, count_by, cond, slice_set, OnOk, IfOk, IfErr, take_more, take_more_set, drop-set-lt, drop_more, get_or-set_same, set-set, get_or-map, length-set, length-map, get_or-take, sum_by-append, Term, index_at, with_entry, Access, Write, after_log-none, logs_more, Table, answer_of, kept_of, after_log, after_stores, after_write, StoreFault, UpdateFault, Assign, StoreAnswer, Keeping, without_number, Setting, setting_of, each, in_row, store_kind, value_of, passes, new_value, with_values, updated_row, updated_rows, updated_of, counted, ◌>>=◌, AreUpdated, IsStopped, AreCounted, row_test, IsCounted, IsCountStopped, value_log, sides_log, stores_log, row_log, update_log, count_log, after_stores-append, bool_byte, get_or-drop}
 use Rattle.row_updates.proofs.Logs.{if_ok_none, sides_next, count_push}
 use Rattle.row_updates.specs.EachLaws.{each_push, each_stop, each_at, rows_push, rows_stop}
 
@@ -81,30 +81,19 @@ stored_more old view new row place sets set values inside small short is so_far 
     ∙ ap (λ (t : List (List ℤ)). after_stores old t (log ++ Write row set.leaf ∷ [])) table
     ∙ ap (after_stores old (slice_set old.rows row (with_values (kept_of old) (take (place + 1) (map setting_of sets)) (take (place + 1) values) (get_or old.rows row [])))) (sym logs)
 
--- a right side that has a value, by what its store is told
-tested_as : (number leaf : ℕ) (value : ℤ) (answer : Result ℤ StoreFault) → (in_row number (store_kind leaf) answer >>= (λ kept. Ok value)) ≡ (in_row number (store_kind leaf) (without_number answer) >>= (λ done. Ok value))
-tested_as number leaf value answer = grind arith
-
 pub value_tested : (old read : Table) (number : ℕ) (row : List ℤ) (index : List ℕ) (set : Setting) (log : List Access) (value : ℤ) (answer : Result Unit StoreFault) → value_of number row index set.value ≡ Ok value
     → read ≡ after_log old log → answer ≡ without_number (answer_of read set.leaf value) → new_value (answer_of old) number row index set ≡ (in_row number (store_kind set.leaf) answer >>= (λ done. Ok value))
-value_tested old read number row index set log value answer gives reads is = grind (arith, tested_as)
-
-fits_from : (number : ℕ) (set : Setting) (got : ℤ) (answer : Result ℤ StoreFault) (value : ℤ) → (in_row number (store_kind set.leaf) answer >>= (λ kept. Ok got)) ≡ Ok value → (is_ok answer ≡ true) × (got ≡ value)
-fits_from number set got answer value e = grind arith
+value_tested old read number row index set log value answer gives reads is = grind arith
 
 -- a right side that has a value was taken
 took_from : (answer : StoreAnswer) (number : ℕ) (set : Setting) (first : Result ℤ UpdateFault) (value : ℤ) → (first >>= (λ v. in_row number (store_kind set.leaf) (answer set.leaf v) >>= (λ kept. Ok v))) ≡ Ok value → is_ok (answer set.leaf value) ≡ true
-took_from answer number set first value e = grind (arith, fits_from, is_ok)
+took_from answer number set first value e = grind (arith, is_ok)
 
 pub taken_at : (answer : StoreAnswer) (number : ℕ) (row : List ℤ) (index : List ℕ) (sets : List Assign) (values : List ℤ) (place : ℕ) (other : Setting) → length sets ≤ length values → place < length sets → each (new_value answer number row index) (map setting_of sets) ≡ Ok (take (length sets) values) → is_ok (answer (get_or (map setting_of sets) place other).leaf (get_or values place (pos 0))) ≡ true
 taken_at answer number row index sets values place other long small all =
     let at = each_at (new_value answer number row index) (map setting_of sets) (take (length sets) values) place other (pos 0) (settings_long sets place small) all in
     let set = get_or (map setting_of sets) place other in
     took_from answer number set (value_of number row index set.value) (get_or values place (pos 0)) (at ∙ ap (λ (v : ℤ). Ok v) (get_or-take (length sets) values place (pos 0) small))
-
--- a right side of a row that passes has a fault
-pub tried_stop : (answer : StoreAnswer) (filter : Option (Term ℕ)) (sets : List Setting) (number : ℕ) (row : List ℤ) (index : List ℕ) (fault : UpdateFault) → Ok true ≡ passes number row index filter → each (new_value answer number row index) sets ≡ Err fault → tried_row answer filter sets number row index ≡ Err fault
-tried_stop answer filter sets number row index fault test stop = rw (← test, stop) refl
 
 -- rows from a place on that are the same
 same_at : {A : Type 0} (xs ys : List A) (n : ℕ) (d : A) → drop n xs ≡ drop n ys → get_or xs n d ≡ get_or ys n d
@@ -192,9 +181,6 @@ one_counted step row count more test so_far gives is =
 pub counted_stop : (filter : Term ℕ) (extents : List ℕ) (rows : List (List ℤ)) (row count : ℕ) (fault : UpdateFault) → row < length rows → AreCounted (λ number. passes number (get_or rows number []) (index_at extents number) (Some filter)) row count → passes row (get_or rows row []) (index_at extents row) (Some filter) ≡ Err fault → counted filter extents rows ≡ Err fault
 counted_stop filter extents rows row count fault small so_far stop = grind (arith, count_by, rows_stop)
 
-pub counted_all : (filter : Term ℕ) (extents : List ℕ) (rows : List (List ℤ)) (row count : ℕ) → row ≡ length rows → AreCounted (λ number. passes number (get_or rows number []) (index_at extents number) (Some filter)) row count → counted filter extents rows ≡ Ok count
-counted_all filter extents rows row count whole so_far = grind (arith, range_with_len, count_by)
-
 -- one row more of a view whose accesses are counted
 test_here : (old view : Table) (filter : Term ℕ) (row count : ℕ) → IsCounted old filter view row count → row_test view filter row ≡ row_test old filter row
 test_here old view filter row count so_far = ap (λ (t : Table). row_test t filter row) so_far.same
@@ -241,7 +227,7 @@ pub record IsWholeCount (old : Table) (filter : Term ℕ) (view : Table) (result
 
 pub whole_count : (old view : Table) (filter : Term ℕ) (row : ℕ) (result : Result ℕ UpdateFault) → row ≡ length old.rows
     → IfOk result (λ more. IsCounted old filter view row more) → IfErr result (IsCountStopped old filter view) → IsWholeCount old filter view result
-whole_count old view filter row result all done stopped = grind (arith, counted_all)
+whole_count old view filter row result all done stopped = grind arith
 
 -- and of rows behind none
 pub from_none : (old view : Table) (filter : Term ℕ) (row : ℕ) (result : Result ℕ UpdateFault) → IfOk result (λ more. IsCounted old filter view row (0 + more)) → IfOk result (λ more. IsCounted old filter view row more)

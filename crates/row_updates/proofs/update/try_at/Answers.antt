@@ -1,4 +1,4 @@
-use Rattle.row_updates.proofs.Lemmas.{◌≡◌, ◌∙◌, refl, length, map, get_or, [], ap, sym, Table, answer_of, after_log, filter_term, setting_of, filter_log, sides_log, tried_log, common_steps, arith, log_more, tried_log_left, tried_log_fault, tried_log_done, tried_stop}
+use Rattle.row_updates.proofs.Lemmas.{◌≡◌, ◌∙◌, refl, length, map, get_or, [], ap, sym, Table, answer_of, after_log, filter_term, setting_of, filter_log, sides_log, tried_log, common_steps, arith, log_more, tried_log_done}
 use Rattle.row_updates.proofs.update.try_at.Given as given
 use Rattle.row_updates.proofs.update.try_at.Goals as goal
 use Rattle.row_updates.proofs.update.try_at.Goals.{After-new_values}
@@ -7,16 +7,16 @@ pub returns-then-not-branch-clause-tried : goal.returns-then-not-branch-clause-t
 returns-then-not-branch-clause-tried g c = let test = rw c.if-not-branch.true at c.in_ok-passes.ensures.value in rw (← test) refl
 
 pub returns-then-not-branch-clause-same : goal.returns-then-not-branch-clause-same
-returns-then-not-branch-clause-same g c = grind (arith, common_steps, tried_log_left)
+returns-then-not-branch-clause-same g c = grind (arith, common_steps)
 
 pub returns-in_err-passes-clause-same : goal.returns-in_err-passes-clause-same
-returns-in_err-passes-clause-same g c = grind (arith, common_steps, tried_log_fault)
+returns-in_err-passes-clause-same g c = grind (arith, common_steps)
 
 pub new_values-requires-clause-rank : goal.new_values-requires-clause-rank
 new_values-requires-clause-rank g c = c.requires.rank ∙ ap (λ (s : Table). length s.extents) (sym c.passes.ensures.same)
 
 pub returns-in_err-new_values-clause-refused : goal.returns-in_err-new_values-clause-refused
-returns-in_err-new_values-clause-refused g c = grind (arith, common_steps, tried_stop)
+returns-in_err-new_values-clause-refused g c = grind (arith, common_steps)
 
 -- the accesses of a row that passes
 right_sides : (g : given.Over) (c : After-new_values g) → c.new_values.new.view
