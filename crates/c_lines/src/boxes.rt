@@ -1,7 +1,7 @@
 // One leaf of the rows of a box, to and from an array.
 ghost use Rattle.std.specs.Prelude.{◌≡◌, ◌<◌};
 ghost use Rattle.c_lines.specs.Imports.{length, map, IfOk, rows_of};
-ghost use Rattle.c_lines.specs.Answers.{answer_map, changed_by, given_or};
+ghost use Rattle.c_lines.specs.Answers.{Opens, answer_map, changed_by, given_or};
 ghost use Rattle.c_lines.specs.Boxes.{after_box, box_rows, on_box};
 ghost use Rattle.c_lines.specs.ByRows.{after_gather, after_scatter, gathered, put_there, was_scattered};
 ghost use Rattle.c_lines.specs.Told.{done_of};
@@ -22,9 +22,7 @@ pub fn get_box<N: Number64, L: Ledger>(
     values: &mut [N],
     blank: Blank,
 ) -> Result<(), Refusal>
-    requires name { blank.name ≡ L.name }
-    requires parts { blank.parts ≡ L.parts }
-    requires some { 0 < blank.parts }
+    requires opens { Opens blank.name L.name blank.parts L.parts }
     ensures answer { result ≡ done_of (on_box low.now high.now (λ rows. gathered N.reads rows (length values.old) leaf) view.old) }
     ensures values { map N.number values.new ≡ given_or (map N.number values.old) (on_box low.now high.now (λ rows. gathered N.reads rows (length values.old) leaf) view.old) }
     ensures left { view.new ≡ changed_by (on_box low.now high.now (λ rows. gathered N.reads rows (length values.old) leaf) view.old) (after_box low.now high.now (λ rows. after_gather rows leaf) view.old) view.old }
@@ -42,9 +40,7 @@ pub fn set_box<N: Number64, L: Ledger>(
     values: &[N],
     blank: Blank,
 ) -> Result<(), Refusal>
-    requires name { blank.name ≡ L.name }
-    requires parts { blank.parts ≡ L.parts }
-    requires some { 0 < blank.parts }
+    requires opens { Opens blank.name L.name blank.parts L.parts }
     ensures answer { result ≡ on_box low.now high.now (λ rows. was_scattered put_there rows leaf (map N.number values.now)) view.old }
     ensures left { view.new ≡ after_box low.now high.now (λ rows. after_scatter put_there rows leaf (map N.number values.now)) view.old }
 {

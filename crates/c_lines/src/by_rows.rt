@@ -1,7 +1,7 @@
 // One leaf of rows one after another, those of a list or of a window, to and from an array.
 ghost use Rattle.std.specs.Prelude.{◌≡◌, ◌<◌};
 ghost use Rattle.c_lines.specs.Imports.{ℕ, true, length, map, slice_index_or, LeafType, leaf_count_of, leaf_type_of};
-ghost use Rattle.c_lines.specs.Answers.{changed_by, given_or};
+ghost use Rattle.c_lines.specs.Answers.{Opens, changed_by, given_or};
 ghost use Rattle.c_lines.specs.ByRows.{add_there, after_gather, after_scatter, are_rows, gathered, in_turn, put_there, values_at, was_scattered};
 ghost use Rattle.c_lines.specs.Told.{done_of};
 
@@ -23,9 +23,7 @@ pub fn gather<N: Number64, R: RowList, L: Ledger>(
     values: &mut [N],
     blank: Blank,
 ) -> Result<(), Refusal>
-    requires name { blank.name ≡ L.name }
-    requires parts { blank.parts ≡ L.parts }
-    requires some { 0 < blank.parts }
+    requires opens { Opens blank.name L.name blank.parts L.parts }
     requires rows { R.is_for rows.now view.old }
     ensures answer { result ≡ done_of (gathered N.reads (R.rows rows.now) (length values.old) leaf view.old) }
     ensures values { map N.number values.new ≡ given_or (map N.number values.old) (gathered N.reads (R.rows rows.now) (length values.old) leaf view.old) }
@@ -52,9 +50,7 @@ pub fn scatter<N: Number64, R: RowList, L: Ledger>(
     values: &[N],
     blank: Blank,
 ) -> Result<(), Refusal>
-    requires name { blank.name ≡ L.name }
-    requires parts { blank.parts ≡ L.parts }
-    requires some { 0 < blank.parts }
+    requires opens { Opens blank.name L.name blank.parts L.parts }
     requires rows { R.is_for rows.now view.old }
     ensures answer { result ≡ was_scattered put_there (R.rows rows.now) leaf (map N.number values.now) view.old }
     ensures left { view.new ≡ after_scatter put_there (R.rows rows.now) leaf (map N.number values.now) view.old }
@@ -74,9 +70,7 @@ pub fn scatter_add<N: Number64, R: RowList, L: Ledger>(
     values: &[N],
     blank: Blank,
 ) -> Result<(), Refusal>
-    requires name { blank.name ≡ L.name }
-    requires parts { blank.parts ≡ L.parts }
-    requires some { 0 < blank.parts }
+    requires opens { Opens blank.name L.name blank.parts L.parts }
     requires rows { R.is_for rows.now view.old }
     ensures answer { result ≡ was_scattered add_there (R.rows rows.now) leaf (map N.number values.now) view.old }
     ensures left { view.new ≡ after_scatter add_there (R.rows rows.now) leaf (map N.number values.now) view.old }

@@ -1,5 +1,6 @@
 // Copies between views.
 ghost use Rattle.std.specs.Prelude.{◌≡◌, ◌<◌};
+ghost use Rattle.c_lines.specs.Answers.{Opens};
 ghost use Rattle.c_lines.specs.Copies.{was_copied, source_after, target_after};
 
 use crate::Refusal;
@@ -14,9 +15,7 @@ pub fn copy_into<L: Ledger>(
     target: &mut View,
     blank: Blank,
 ) -> Result<(), Refusal>
-    requires name { blank.name ≡ L.name }
-    requires parts { blank.parts ≡ L.parts }
-    requires some { 0 < blank.parts }
+    requires opens { Opens blank.name L.name blank.parts L.parts }
     ensures answer { result ≡ was_copied source.old target.old }
     ensures source { source.new ≡ source_after result source.old }
     ensures target { target.new ≡ target_after result source.old target.old }

@@ -1,7 +1,7 @@
 // A view as the bytes of a file or of its blobs and as the lines that make it, and the view of such bytes.
 ghost use Rattle.std.specs.Prelude.{◌≡◌, ◌<◌};
 ghost use Rattle.c_lines.specs.Imports.{Ok, length, MatchResult, file_of, blobs_of, header_of};
-ghost use Rattle.c_lines.specs.Answers.{Tells, TellsLeft};
+ghost use Rattle.c_lines.specs.Answers.{Opens, Tells, TellsLeft};
 ghost use Rattle.c_lines.specs.Buffers.{after_return, file_refusal, file_told, opened_told, record_line, returned, view_line, TellsPut};
 ghost use Rattle.c_lines.specs.Told.{done_of};
 ghost use Rattle.c_lines.specs.declared.refusal.Refusal.TheVariants.{NoMemory};
@@ -59,9 +59,7 @@ fn fill(alloc: Global, view: &View, bytes: &mut [u8]) -> Result<(), Refusal>
 
 /// The view of which bytes are the file.
 pub fn open_view<L: Ledger>(alloc: Global, bytes: &[u8], blank: Blank) -> Result<View, Refusal>
-    requires name { blank.name ≡ L.name }
-    requires parts { blank.parts ≡ L.parts }
-    requires some { 0 < blank.parts }
+    requires opens { Opens blank.name L.name blank.parts L.parts }
     ensures { Tells (λ view. view) (opened_told bytes.now) result }
 {
     let mut steps = Steps::<L>::new(blank);
@@ -80,9 +78,7 @@ pub fn give_back<L: Ledger>(
     bytes: &[u8],
     blank: Blank,
 ) -> Result<(), Refusal>
-    requires name { blank.name ≡ L.name }
-    requires parts { blank.parts ≡ L.parts }
-    requires some { 0 < blank.parts }
+    requires opens { Opens blank.name L.name blank.parts L.parts }
     ensures { TellsLeft (done_of (returned bytes.now view.old)) (after_return bytes.now view.old) view.old result view.new }
 {
     let mut steps = Steps::<L>::new(blank);

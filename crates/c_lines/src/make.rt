@@ -1,7 +1,7 @@
 // A view of the two lines that describe it, and of a dataset.
 ghost use Rattle.std.specs.Prelude.{◌≡◌, ◌<◌};
 ghost use Rattle.c_lines.specs.Imports.{IfOk, IfSome, OnOk, true, [], length, csv_records, records_behind, IsShape, sentence_of, HasItsFields, term_of, filled_by, loaded_by, named, new_table_by, is_nameless};
-ghost use Rattle.c_lines.specs.Answers.{Tells};
+ghost use Rattle.c_lines.specs.Answers.{Opens, Tells};
 ghost use Rattle.c_lines.specs.Lines.{asked, described, loaded, new_answer, world_told};
 ghost use Rattle.c_lines.specs.Inner.Makes.{asked_filled, asked_of, named_of, new_of, world_of, zeros_for};
 ghost use Rattle.c_lines.specs.Told.{in_numbers, told};
@@ -74,9 +74,7 @@ pub fn loaded_view<L: Ledger>(
     csv: &[u8],
     blank: Blank,
 ) -> Result<View, Refusal>
-    requires name { blank.name ≡ L.name }
-    requires parts { blank.parts ≡ L.parts }
-    requires some { 0 < blank.parts }
+    requires opens { Opens blank.name L.name blank.parts L.parts }
     ensures { Tells (λ view. view) (loaded first.now second.now csv.now) result }
 {
     let asked = asked_by(alloc, first, second, true)?;

@@ -1,6 +1,7 @@
 // The text of a table.
 ghost use Rattle.std.specs.Prelude.{◌≡◌, ◌<◌, ◌⊎◌};
 ghost use Rattle.c_lines.specs.Imports.{length, Ok, Err, leaf_count_of, after_log, Read, all_accesses};
+ghost use Rattle.c_lines.specs.Answers.{Opens};
 ghost use Rattle.c_lines.specs.declared.refusal.Refusal.TheVariants.{NoMemory};
 ghost use Rattle.c_lines.specs.Buffers.{printed, TellsPut};
 
@@ -22,9 +23,7 @@ pub fn put_table<L: Ledger>(
     needed: &mut usize,
     blank: Blank,
 ) -> Result<(), Refusal>
-    requires name { blank.name ≡ L.name }
-    requires parts { blank.parts ≡ L.parts }
-    requires some { 0 < blank.parts }
+    requires opens { Opens blank.name L.name blank.parts L.parts }
     ensures put { TellsPut (Ok (printed view.old)) buffer.old needed.old result buffer.new needed.new }
     ensures read { (result ≡ Err NoMemory) ⊎ (view.new ≡ after_log view.old (all_accesses Read (leaf_count_of view.old) (length view.old.rows))) }
     ensures same { view.new ≡ record view.old { tally = view.new.tally } }

@@ -1,7 +1,7 @@
 // A table that is laid out anew.
 ghost use Rattle.std.specs.Prelude.{◌≡◌, ◌<◌};
 ghost use Rattle.c_lines.specs.Imports.{ℕ, IfOk, List, true, AreAlike, sentence_of, term_of, is_nameless};
-ghost use Rattle.c_lines.specs.Answers.{Tells, TellsLeft};
+ghost use Rattle.c_lines.specs.Answers.{Opens, Tells, TellsLeft};
 ghost use Rattle.c_lines.specs.Copies.{was_copied};
 ghost use Rattle.c_lines.specs.Inner.Carried.{Gave};
 ghost use Rattle.c_lines.specs.Inner.Laid.{RelaidAs, zeros_beside};
@@ -29,9 +29,7 @@ pub fn lay_anew<L: Ledger>(
     line: &[u8],
     blank: Blank,
 ) -> Result<(), Refusal>
-    requires name { blank.name ≡ L.name }
-    requires parts { blank.parts ≡ L.parts }
-    requires some { 0 < blank.parts }
+    requires opens { Opens blank.name L.name blank.parts L.parts }
     ensures { TellsLeft (done_of (relaid line.now view.old)) (after_relaid line.now view.old) view.old result view.new }
 {
     let fresh = zeros_like(alloc, view, line)?;

@@ -1,6 +1,7 @@
 // One leaf of rows one after another, to and from an array.
 ghost use Rattle.std.specs.Prelude.{◌≡◌, ◌+◌, ◌<◌, ◌≤◌};
 ghost use Rattle.c_lines.specs.Imports.{length, map, OnOk, OnErr, run_of, leaf_count_of};
+ghost use Rattle.c_lines.specs.Answers.{Opens};
 ghost use Rattle.c_lines.specs.CallerRuns.{after_run, was_set_run, after_set_run, IsSet};
 ghost use Rattle.c_lines.specs.Values.{read_by};
 
@@ -20,9 +21,7 @@ pub fn get_run<N: Number64, L: Ledger>(
     values: &mut [N],
     blank: Blank,
 ) -> Result<(), Refusal>
-    requires name { blank.name ≡ L.name }
-    requires parts { blank.parts ≡ L.parts }
-    requires some { 0 < blank.parts }
+    requires opens { Opens blank.name L.name blank.parts L.parts }
     ensures answer { result ≡ read_by N.reads view.old first (length values.old) leaf tt }
     ensures values { OnOk result (map N.number values.new ≡ run_of leaf first (length values.old) view.old) }
     ensures read { OnOk result (view.new ≡ after_run first (length values.old) leaf view.old) }
@@ -49,9 +48,7 @@ pub fn set_run<N: Number64, L: Ledger>(
     values: &[N],
     blank: Blank,
 ) -> Result<(), Refusal>
-    requires name { blank.name ≡ L.name }
-    requires parts { blank.parts ≡ L.parts }
-    requires some { 0 < blank.parts }
+    requires opens { Opens blank.name L.name blank.parts L.parts }
     ensures answer { result ≡ was_set_run first leaf (map N.number values.now) view.old }
     ensures left { view.new ≡ after_set_run first leaf (map N.number values.now) view.old }
 {

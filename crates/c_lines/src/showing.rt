@@ -1,6 +1,7 @@
 // Lines that show something of a view.
 ghost use Rattle.std.specs.Prelude.{◌≡◌, ◌<◌, ◌⊎◌};
 ghost use Rattle.c_lines.specs.Imports.{true, sentence_of, all_left};
+ghost use Rattle.c_lines.specs.Answers.{Opens};
 ghost use Rattle.c_lines.specs.Commands.{IsToldInto, OnLine, commanded, is_tell, line_taken, taken};
 ghost use Rattle.c_lines.specs.Inner.Carried.{Carried, SaysStep, bytes_in};
 
@@ -29,9 +30,7 @@ pub fn tell_line<L: Ledger>(
     needed: &mut usize,
     blank: Blank,
 ) -> Result<(), Refusal>
-    requires name { blank.name ≡ L.name }
-    requires parts { blank.parts ≡ L.parts }
-    requires some { 0 < blank.parts }
+    requires opens { Opens blank.name L.name blank.parts L.parts }
     ensures { IsToldInto text.now view.old view.new buffer.old needed.old result buffer.new needed.new }
 {
     let mut steps = Steps::<L>::new(blank);

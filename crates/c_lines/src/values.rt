@@ -1,7 +1,7 @@
 // One value of a view, as a number of the caller's type.
 ghost use Rattle.std.specs.Prelude.{◌≡◌, ◌+◌, ◌<◌, ◌≤◌};
 ghost use Rattle.c_lines.specs.Imports.{true, length, OnOk, OnErr, leaf_count_of, leaf_type_of, after_read, after_write};
-ghost use Rattle.c_lines.specs.Answers.{answer_map};
+ghost use Rattle.c_lines.specs.Answers.{Opens, answer_map};
 ghost use Rattle.c_lines.specs.Values.{is_run, got, store_told, was_set};
 
 use crate::number::Number64;
@@ -18,9 +18,7 @@ pub fn get<N: Number64, L: Ledger>(
     leaf: usize,
     blank: Blank,
 ) -> Result<N, Refusal>
-    requires name { blank.name ≡ L.name }
-    requires parts { blank.parts ≡ L.parts }
-    requires some { 0 < blank.parts }
+    requires opens { Opens blank.name L.name blank.parts L.parts }
     ensures got { answer_map N.number result ≡ got N.reads row leaf view.old }
     ensures read { OnOk result (view.new ≡ after_read view.old row leaf) }
     ensures kept { OnErr result (view.new ≡ view.old) }
@@ -45,9 +43,7 @@ pub fn set<L: Ledger>(
     value: i128,
     blank: Blank,
 ) -> Result<(), Refusal>
-    requires name { blank.name ≡ L.name }
-    requires parts { blank.parts ≡ L.parts }
-    requires some { 0 < blank.parts }
+    requires opens { Opens blank.name L.name blank.parts L.parts }
     ensures set { result ≡ was_set row leaf value view.old }
     ensures written { OnOk result (view.new ≡ after_write view.old row leaf value) }
     ensures kept { OnErr result (view.new ≡ view.old) }
