@@ -43,7 +43,7 @@ pub use Rattle.c_lines.specs.CallerBytes.{is_width, sized, was_set_run_as, after
 pub use Rattle.c_lines.specs.Commands.{Comes, Does, OnLine, Refuses, Says, alone, line_taken, rows_left, taken, untold, view_in, numbered, commanded, is_tell, is_do, is_kernel}
 pub use Rattle.c_lines.specs.Faults.{row_told}
 pub use Rattle.c_lines.specs.Inner.Carried.{SaysStep, Carried, change_refusal, Gave, bytes_in}
-pub use Rattle.c_lines.specs.ByRows.{Turned, done_after, in_turn}
+pub use Rattle.c_lines.specs.ByRows.{Turned, done_after, in_turn, store_in}
 pub use Rattle.c_lines.specs.Inner.Laid.{RelaidAs, zeros_beside}
 pub use Rattle.extents.specs.Windows.{IsWindow, holds, rows_in}
 pub use Rattle.extents.specs.declared.window.Span.{Span}

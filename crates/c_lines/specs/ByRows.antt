@@ -44,6 +44,10 @@ put_there leaf at value table = record { answer = store_told at leaf value table
 abbrev pub add_there : ℕ → ℕ → ℤ → Table → Turned
 add_there leaf at value table = put_there leaf at (entry table.rows at leaf +ℤ value) (after_read table at leaf)
 
+-- either of them
+abbrev pub store_in : Bool → ℕ → ℕ → ℤ → Table → Turned
+store_in adds = if adds then add_there else put_there
+
 -- one row after another, each with its value, up to the first that is refused
 abbrev pub in_turn : (ℕ → ℤ → Table → Turned) → List ℕ → List ℤ → Table → Turned
 in_turn store (row ∷ rows) (value ∷ values) table = done_after (store row value table).answer (store row value table).left (in_turn store rows values)

@@ -45,7 +45,7 @@ pub fn set_box<N: Number64, L: Ledger>(
     ensures left { view.new ≡ after_box low.now high.now (λ rows. after_scatter put_there rows leaf (map N.number values.now)) view.old }
 {
     let window = box_of(view, low, high)?;
-    scatter::<N, Window, L>(view, &window, leaf, values, blank)
+    scatter::<N, Window, L>(view, &window, leaf, values, false, blank)
 }
 
 // The window of a low and a high bound for each extent.

@@ -1,15 +1,14 @@
 // One leaf of rows one after another, those of a list or of a window, to and from an array.
 ghost use Rattle.std.specs.Prelude.{◌≡◌, ◌<◌};
-ghost use Rattle.c_lines.specs.Imports.{ℕ, true, length, map, slice_index_or, LeafType, leaf_count_of, leaf_type_of};
+ghost use Rattle.c_lines.specs.Imports.{ℕ, true, length, map, slice_index_or, IsWithin64, LeafType, leaf_count_of, leaf_type_of};
 ghost use Rattle.c_lines.specs.Answers.{Opens, changed_by, given_or};
-ghost use Rattle.c_lines.specs.ByRows.{add_there, after_gather, after_scatter, are_rows, gathered, in_turn, put_there, values_at, was_scattered};
+ghost use Rattle.c_lines.specs.ByRows.{after_gather, after_scatter, are_rows, gathered, in_turn, store_in, values_at, was_scattered};
 ghost use Rattle.c_lines.specs.Told.{done_of};
 
 use crate::number::Number64;
 use crate::refusal::Refusal;
 use crate::row_lists::RowList;
-use crate::turns::{Add, Put, Turn};
-use crate::values::leaf_type;
+use crate::values::{leaf_type, put};
 use record_dim::{LeafType, Steps};
 use std::sync::ledger::{Blank, Ledger};
 use views::View;
@@ -41,45 +40,26 @@ pub fn gather<N: Number64, R: RowList, L: Ledger>(
     Ok(())
 }
 
-/// Makes the value of a leaf in each row of a list that of the array in its place, one after another, as the view keeps them. A strict view that does
-/// not take a value has those before it.
+/// Makes the value of a leaf in each row of a list that of the array in its place, or adds that to what stands in the leaf of the row when its turn
+/// comes: one after another, as the view keeps them. A strict view that does not take a value has those before it.
 pub fn scatter<N: Number64, R: RowList, L: Ledger>(
     view: &mut View,
     rows: &R,
     leaf: usize,
     values: &[N],
+    adds: bool,
     blank: Blank,
 ) -> Result<(), Refusal>
     requires opens { Opens blank.name L.name blank.parts L.parts }
     requires rows { R.is_for rows.now view.old }
-    ensures answer { result ≡ was_scattered put_there (R.rows rows.now) leaf (map N.number values.now) view.old }
-    ensures left { view.new ≡ after_scatter put_there (R.rows rows.now) leaf (map N.number values.now) view.old }
+    ensures answer { result ≡ was_scattered (store_in adds) (R.rows rows.now) leaf (map N.number values.now) view.old }
+    ensures left { view.new ≡ after_scatter (store_in adds) (R.rows rows.now) leaf (map N.number values.now) view.old }
 {
     if !are_rows(view, rows, values.len(), leaf) {
         return Err(Refusal::NoPlace);
     }
     let mut steps = Steps::<L>::new(blank);
-    store_each::<Put, N, R, L>(view, rows, leaf, values, &mut steps)
-}
-
-/// The same of the sum of the value and of what stands in the leaf of the row when its turn comes.
-pub fn scatter_add<N: Number64, R: RowList, L: Ledger>(
-    view: &mut View,
-    rows: &R,
-    leaf: usize,
-    values: &[N],
-    blank: Blank,
-) -> Result<(), Refusal>
-    requires opens { Opens blank.name L.name blank.parts L.parts }
-    requires rows { R.is_for rows.now view.old }
-    ensures answer { result ≡ was_scattered add_there (R.rows rows.now) leaf (map N.number values.now) view.old }
-    ensures left { view.new ≡ after_scatter add_there (R.rows rows.now) leaf (map N.number values.now) view.old }
-{
-    if !are_rows(view, rows, values.len(), leaf) {
-        return Err(Refusal::NoPlace);
-    }
-    let mut steps = Steps::<L>::new(blank);
-    store_each::<Add, N, R, L>(view, rows, leaf, values, &mut steps)
+    store_each(view, rows, leaf, values, adds, &mut steps)
 }
 
 // Whether a view has all these rows, and the leaf, and an array has as many numbers as they are.
@@ -119,29 +99,51 @@ fn read_each<N: Number64, R: RowList, L: Ledger>(
 }
 
 // Stores values in a leaf of rows that are there, one after another, up to the first that is refused.
-fn store_each<T: Turn, N: Number64, R: RowList, L: Ledger>(
+fn store_each<N: Number64, R: RowList, L: Ledger>(
     view: &mut View,
     rows: &R,
     leaf: usize,
     values: &[N],
+    adds: bool,
     steps: &mut Steps<L>,
 ) -> Result<(), Refusal>
     requires count { length values.now ≡ length (R.rows rows.now) }
     requires leaf { leaf < leaf_count_of view.old }
     requires rows { (k : ℕ) → k < length (R.rows rows.now) → slice_index_or (R.rows rows.now) k 0 < length view.old.rows }
-    ensures answer { result ≡ (in_turn (T.store leaf) (R.rows rows.now) (map N.number values.now) view.old).answer }
-    ensures left { view.new ≡ (in_turn (T.store leaf) (R.rows rows.now) (map N.number values.now) view.old).left }
+    ensures answer { result ≡ (in_turn (store_in adds leaf) (R.rows rows.now) (map N.number values.now) view.old).answer }
+    ensures left { view.new ≡ (in_turn (store_in adds leaf) (R.rows rows.now) (map N.number values.now) view.old).left }
 {
     for k in 0..values.len() {
-        if let Err(refusal) = T::store(
-            view,
-            rows.row_at(k as u64),
-            leaf,
-            values[k].whole(),
-            steps,
-        ) {
+        let (row, value) = (rows.row_at(k as u64), values[k].whole());
+        if let Err(refusal) = store(view, row, leaf, value, adds, steps) {
             return Err(refusal);
         }
     }
     Ok(())
+}
+
+// Stores a value in a leaf of a row, or the sum of it and of what stands there.
+#[inline(always)]
+fn store<L: Ledger>(
+    view: &mut View,
+    row: u64,
+    leaf: usize,
+    value: i128,
+    adds: bool,
+    steps: &mut Steps<L>,
+) -> Result<(), Refusal>
+    requires row { row < length view.old.rows }
+    requires leaf { leaf < leaf_count_of view.old }
+    requires value { IsWithin64 value }
+    ensures answer { result ≡ (store_in adds leaf row value view.old).answer }
+    ensures left { view.new ≡ (store_in adds leaf row value view.old).left }
+    ensures rows { length view.new.rows ≡ length view.old.rows }
+    ensures leaves { leaf_count_of view.new ≡ leaf_count_of view.old }
+{
+    if adds {
+        let there = view.get(row, leaf, steps);
+        put(view, row, leaf, there + value, steps)
+    } else {
+        put(view, row, leaf, value, steps)
+    }
 }

@@ -29,7 +29,6 @@ mod runs;
 mod showing;
 mod slice_sink;
 mod told;
-mod turns;
 mod unsigned;
 mod values;
 
@@ -39,7 +38,7 @@ pub use blob_bytes::{blob_count, lend, put_blob};
 pub use boxes::{get_box, set_box};
 pub use by_index::row_of;
 pub use by_path::leaf_of;
-pub use by_rows::{gather, scatter, scatter_add};
+pub use by_rows::{gather, scatter};
 pub use caller_bytes::{get_run_as, set_run_as};
 pub use commands::{do_line, in_64, run_kernel};
 pub use copies::copy_into;
