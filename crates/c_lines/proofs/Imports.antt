@@ -40,7 +40,7 @@ pub use Rattle.c_lines.specs.CallerRuns.{after_run, told_run, IsFrontStored, IsS
 pub use Rattle.c_lines.specs.Values.{reads_signed, reads_unsigned, is_run, store_told}
 pub use Rattle.c_lines.specs.Inner.Makes.{zeros_for, named_of, new_of}
 pub use Rattle.c_lines.specs.CallerBytes.{is_width, sized, was_set_run_as, after_set_run_as, bytes_of_numbers, number_in, numbers_in}
-pub use Rattle.c_lines.specs.Commands.{Comes, Does, OnLine, Refuses, Says, alone, line_taken, rows_left, taken, untold, view_in, numbered, commanded, is_tell, is_do, is_kernel}
+pub use Rattle.c_lines.specs.Commands.{Comes, Does, IsToldInto, OnLine, Refuses, Says, alone, line_taken, rows_left, taken, untold, view_in, numbered, commanded, is_tell, is_do, is_kernel}
 pub use Rattle.c_lines.specs.Faults.{row_told}
 pub use Rattle.c_lines.specs.Inner.Carried.{SaysStep, Carried, change_refusal, Gave, bytes_in}
 pub use Rattle.c_lines.specs.ByRows.{Turned, done_after, in_turn, store_in}

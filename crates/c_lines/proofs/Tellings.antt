@@ -1,5 +1,5 @@
 -- What lines tell of a table.
-use Rattle.c_lines.proofs.Imports.{CommandFault, None, ◌≡◌, ℕ, List, [], Option, Some, Ok, Err, refl, sym, ap, ◌∙◌, Table, Tested, Done, done_to, inl, inr, ⊎_elim, Sentence, Answer, Refusal, NoMemory, OnLine, Carried, HasRows, SaysStep, StepFault, all_left, commanded, left_at, row_told, Did, answer_map, bytes_in, ByteSink, Answers, IsLeft}
+use Rattle.c_lines.proofs.Imports.{CommandFault, None, ◌≡◌, ℕ, List, [], Option, Some, Ok, Err, refl, sym, ap, ◌∙◌, Table, Tested, Done, done_to, inl, inr, ⊎_elim, Sentence, Answer, Refusal, NoMemory, OnLine, Carried, HasRows, SaysStep, StepFault, all_left, commanded, left_at, row_told, Did, answer_map, bytes_in, ByteSink, Answers, IsLeft, line_taken, is_tell, IsToldInto}
 use Rattle.command_checks.specs.declared.fault.StepFault.TheVariants as step
 use Rattle.c_lines.proofs.Commanding.{refuses_step}
 
@@ -47,3 +47,9 @@ told_as (Err told) old answer new on = (
       (λ (is : answer ≡ Err told). inr (ap (λ (a : Answer ByteSink). answer_map bytes_in a) is)) on.0,
   on.1,
 )
+
+-- of a refusal none are put into a buffer
+pub told_not : (text buffer : List ℕ) (needed : ℕ) (old new : Table) (refusal : Refusal) (answer : Answer (Unit {0})) → answer ≡ Err refusal → OnLine bytes_in commanded (line_taken is_tell text) old (Err refusal) new →
+    IsToldInto text old new buffer needed answer buffer needed
+told_not text buffer needed old new refusal answer is does =
+    record { told = Err refusal; tells = told_as (line_taken is_tell text) old (Err refusal) new does; answered = is; filled = refl; counted = refl }

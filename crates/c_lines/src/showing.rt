@@ -2,7 +2,7 @@
 ghost use Rattle.std.specs.Prelude.{◌≡◌, ◌<◌, ◌⊎◌};
 ghost use Rattle.c_lines.specs.Imports.{true, sentence_of, all_left};
 ghost use Rattle.c_lines.specs.Answers.{Opens};
-ghost use Rattle.c_lines.specs.Commands.{IsToldInto, OnLine, commanded, is_tell, line_taken, taken};
+ghost use Rattle.c_lines.specs.Commands.{IsToldInto, OnLine, commanded, is_tell, taken};
 ghost use Rattle.c_lines.specs.Inner.Carried.{Carried, SaysStep, bytes_in};
 
 use crate::by_path::leaf_of;
@@ -33,26 +33,13 @@ pub fn tell_line<L: Ledger>(
     requires opens { Opens blank.name L.name blank.parts L.parts }
     ensures { IsToldInto text.now view.old view.new buffer.old needed.old result buffer.new needed.new }
 {
+    let line = line_of(alloc, text, TextOf::First)?;
     let mut steps = Steps::<L>::new(blank);
-    let told = shown_by(alloc, view, text, &mut steps)?;
+    let told = tell_command(alloc, view, &line, &mut steps)?;
     copy_out(told.taken(), buffer, needed)
 }
 
 // What a line shows.
-fn shown_by<L: Ledger>(
-    alloc: Global,
-    view: &mut View,
-    text: &[u8],
-    steps: &mut Steps<L>,
-) -> Result<ByteSink, Refusal>
-    ensures { OnLine bytes_in commanded (line_taken is_tell text.now) view.old result view.new }
-{
-    let line = line_of(alloc, text, TextOf::First)?;
-    let told = tell_command(alloc, view, &line, steps);
-    drop(line);
-    told
-}
-
 fn tell_command<L: Ledger>(
     alloc: Global,
     view: &mut View,
