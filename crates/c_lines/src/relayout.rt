@@ -3,8 +3,7 @@ ghost use Rattle.std.specs.Prelude.{◌≡◌, ◌<◌};
 ghost use Rattle.c_lines.specs.Imports.{ℕ, IfOk, List, true, AreAlike, sentence_of, term_of, is_nameless};
 ghost use Rattle.c_lines.specs.Answers.{Opens, Tells, TellsLeft};
 ghost use Rattle.c_lines.specs.Copies.{was_copied};
-ghost use Rattle.c_lines.specs.Inner.Carried.{Gave};
-ghost use Rattle.c_lines.specs.Inner.Laid.{RelaidAs, zeros_beside};
+ghost use Rattle.c_lines.specs.Inner.Carried.{Gave, RelaidAs, zeros_beside};
 ghost use Rattle.c_lines.specs.Relaid.{after_relaid, laid_left, mapping_told, relaid, whole_told, zeros_told};
 ghost use Rattle.c_lines.specs.Told.{done_of};
 
