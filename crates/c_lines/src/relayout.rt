@@ -1,17 +1,17 @@
-// A table that is laid out anew.
+// Copies between views, and a table that is laid out anew.
 ghost use Rattle.std.specs.Prelude.{◌≡◌, ◌<◌};
 ghost use Rattle.c_lines.specs.Imports.{ℕ, IfOk, List, true, AreAlike, sentence_of, term_of, is_nameless};
 ghost use Rattle.c_lines.specs.Answers.{Opens, Tells, TellsLeft};
-ghost use Rattle.c_lines.specs.Copies.{was_copied};
+ghost use Rattle.c_lines.specs.Copies.{was_copied, source_after, target_after};
 ghost use Rattle.c_lines.specs.Inner.Carried.{Gave, RelaidAs, zeros_beside};
 ghost use Rattle.c_lines.specs.Relaid.{after_relaid, laid_left, mapping_told, relaid, whole_told, zeros_told};
 ghost use Rattle.c_lines.specs.Told.{done_of};
 
-use crate::copies::copied;
 use crate::lines::line_of;
 use crate::told::answered;
 use crate::{Refusal, TextOf};
 use command_checks::{MappingList, made, made_beside, nameless};
+use layout_copy::{CopyFault, copy};
 use line_grammar::Line;
 use map_expr::MapExpr;
 use record_dim::Steps;
@@ -19,6 +19,38 @@ use std::alloc::Global;
 use std::mem;
 use std::sync::ledger::{Blank, Ledger};
 use views::View;
+
+/// Makes the table of a view that of another, as far as it holds the values.
+pub fn copy_into<L: Ledger>(
+    source: &mut View,
+    target: &mut View,
+    blank: Blank,
+) -> Result<(), Refusal>
+    requires opens { Opens blank.name L.name blank.parts L.parts }
+    ensures answer { result ≡ was_copied source.old target.old }
+    ensures source { source.new ≡ source_after result source.old }
+    ensures target { target.new ≡ target_after result source.old target.old }
+{
+    let mut steps = Steps::<L>::new(blank);
+    copied(source, target, &mut steps)
+}
+
+/// The same, where steps are counted on.
+pub(crate) fn copied<L: Ledger>(
+    source: &mut View,
+    target: &mut View,
+    steps: &mut Steps<L>,
+) -> Result<(), Refusal>
+    ensures answer { result ≡ was_copied source.old target.old }
+    ensures source { source.new ≡ source_after result source.old }
+    ensures target { target.new ≡ target_after result source.old target.old }
+{
+    match copy(source, target, steps) {
+        Ok(()) => Ok(()),
+        Err(CopyFault::Mismatch) => Err(Refusal::Mismatch),
+        Err(CopyFault::Narrow { row, leaf }) => Err(Refusal::Narrow { row, leaf }),
+    }
+}
 
 /// Lays the table of a view out as a `relayout` line says, which may name any view. On a refusal the old view stays; where the new one does not
 /// hold a value, it was read up to that. The old one lives until the new one has its values.

@@ -1,5 +1,5 @@
 use Rattle.c_lines.proofs.Lemmas.{◌<◌, ℕ, List, Ok, length, length-set, Answer, refl, sym, ap, subst, ◌∙◌, arith, false≢true, told, Tested, windowed, IsWindow, Span, windowed_goes, same_rank, WindowOf, rows_of, answer_map, spans_of, all_spans, length-spans, narrow_bounds, no_window, one_span}
-use Rattle.c_lines.proofs.boxes.box_of.Goals as goal
+use Rattle.c_lines.proofs.by_rows.box_of.Goals as goal
 
 -- the rows that a window's test gives
 abbrev rows_told : Tested WindowOf → Answer (List ℕ)

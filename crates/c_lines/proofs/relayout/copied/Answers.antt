@@ -1,5 +1,5 @@
 use Rattle.c_lines.proofs.Lemmas.{rules, other_source, was_done, was_narrow, was_other}
-use Rattle.c_lines.proofs.copies.copied.Goals as goal
+use Rattle.c_lines.proofs.relayout.copied.Goals as goal
 
 pub returns-in-Ok-clause-answer : goal.returns-in-Ok-clause-answer
 returns-in-Ok-clause-answer g c = was_done c.args.source.now c.args.target.now c.copy.new.target c.in-Ok.ensures.copied

@@ -1,5 +1,5 @@
 use Rattle.c_lines.proofs.Lemmas.{rules, ◌≡◌, ◌+◌, ◌-◌, ℕ, ℤ, List, length, map, take, drop, Ok, Err, refl, sym, ap, subst, ◌∙◌, arith, length-drop, take_all, drop-map, length-map, length-take, indices, lane_inside, answer_of, IsSet, nothing_set, refused_set, set_behind, still_rows}
-use Rattle.c_lines.proofs.runs.store_run.Goals as goal
+use Rattle.c_lines.proofs.values.store_run.Goals as goal
 
 pub loop-rest-preserved : goal.loop-rest-preserved
 loop-rest-preserved g c =

@@ -1,5 +1,5 @@
 use Rattle.c_lines.proofs.Imports.{◌≡◌, ◌+◌, ◌≤◌, length, map, Table, Answer, IsSet}
-use Rattle.c_lines.proofs.runs.store_run.Given as goal
+use Rattle.c_lines.proofs.values.store_run.Given as goal
 
 abbrev pub invariant-loop-rest : goal.invariant-loop-rest
 invariant-loop-rest g l = record {
