@@ -5,11 +5,8 @@ pub use Rattle.c_lines.proofs.BoxRows.{all_spans, length-spans, narrow_bounds, n
 pub use Rattle.c_lines.proofs.InTurn.{passes, map_made, map_more, read_one, turn_done, turn_refused, turns_over, at_hand, was_put}
 pub use Rattle.c_lines.proofs.CallerBytes.{bytes_of_lows, no_rows, set_as, numbers_within, front_set, front_refused_set}
 pub use Rattle.c_lines.proofs.Parts.{run_more, log_more, nothing_set, set_behind, still_rows, signed_raised, front_refused, refused_set, unsigned_run, lows_fit, all_stored, one_stored, one_refused, own_low}
-pub use Rattle.c_lines.proofs.Commanding.{line_does, line_is, text_read, text_refused, actors_does, actors_not}
+pub use Rattle.c_lines.proofs.Commanding.{line_does, line_is, text_read, text_refused, actors_does, actors_not, shown_done, shown_not}
 pub use Rattle.c_lines.proofs.Anew.{alone_bits, none_made, relaid_done, relaid_not, gave_answered}
-pub use Rattle.c_lines.proofs.Copied.{other_source, was_done, was_narrow, was_other}
-pub use Rattle.c_lines.proofs.Making.{filled_refused, filled_made, shape_refused, zeros_refused, zeros_made, new_refused, new_made}
-pub use Rattle.c_lines.proofs.Answering.{goes_ok, ne_false, tells_refused, tells_test, if_answered}
+pub use Rattle.c_lines.proofs.Relaying.{other_source, was_done, was_narrow, was_other, anew_refused, laid}
+pub use Rattle.c_lines.proofs.Making.{filled_refused, filled_made, shape_refused, zeros_refused, zeros_made, new_refused, new_made, goes_ok, ne_false, tells_refused, tells_test, if_answered}
 pub use Rattle.c_lines.proofs.Words.{put_as, put_refused, put_told_as, line_taken}
-pub use Rattle.c_lines.proofs.Relaying.{anew_refused, laid}
-pub use Rattle.c_lines.proofs.Tellings.{shown_done, shown_not}

@@ -1,6 +1,5 @@
 use Rattle.c_lines.proofs.Imports.{rules, Ok, Err, refl, sentence_of, bytes_in, commanded, is_tell, line_taken}
-use Rattle.c_lines.proofs.Commanding.{text_read, text_refused}
-use Rattle.c_lines.proofs.Tellings.{told_as, told_not}
+use Rattle.c_lines.proofs.Commanding.{text_read, text_refused, told_as, told_not}
 use Rattle.c_lines.proofs.showing.tell_line.Goals as goal
 
 pub returns-in_err-line : goal.returns-in_err-line
