@@ -1,4 +1,4 @@
-use Rattle.c_lines.proofs.Lemmas.{rules, ◌≡◌, ◌+◌, ◌<◌, ◌≤◌, ◌∙◌, length, map, SFits, w128, sym, ap, arith, length-map, Turned, store_in, turn_done, turn_refused, turns_over, at_hand}
+use Rattle.c_lines.proofs.Lemmas.{rules, ◌≡◌, ◌+◌, ◌<◌, ◌≤◌, ◌∙◌, length, map, sym, ap, arith, length-map, Turned, store_in, turn_done, turn_refused, turns_over, at_hand}
 use Rattle.c_lines.proofs.by_rows.store_each.Goals as goal
 
 pub loop-k-preserved : goal.loop-k-preserved
@@ -9,10 +9,9 @@ loop-k-preserved g c =
     let numbers = c.args.values.now in
     let k = c.loop-k.k in
     let now = c.loop-k.view in
-    let fits : SFits w128 c.whole-value.result = search rules in
     let there : k < length numbers = omega arith in
     let inside : k < length rows = omega (arith, there, c.requires.count) in
-    let here = at_hand number store rows numbers k c.row_at-row.result c.index-values-k.result c.whole-value.result now there c.row_at-row.ensures c.index-values-k.is c.whole-value.ensures.number fits in
+    let here = at_hand number store rows numbers k c.row_at-row.result c.index-values-k.result c.whole-value.result now there c.row_at-row.ensures c.index-values-k.is c.whole-value.ensures.number (search rules) in
     record {
       rows = c.store.ensures.rows ∙ c.loop-k.invariant.rows;
       leaves = c.store.ensures.leaves ∙ c.loop-k.invariant.leaves;
@@ -30,10 +29,9 @@ returns-in-Err g c =
     let numbers = c.args.values.now in
     let k = c.loop-k.k in
     let now = c.loop-k.view in
-    let fits : SFits w128 c.whole-value.result = search rules in
     let there : k < length numbers = omega arith in
     let inside : k < length rows = omega (arith, there, c.requires.count) in
-    let here = at_hand number store rows numbers k c.row_at-row.result c.index-values-k.result c.whole-value.result now there c.row_at-row.ensures c.index-values-k.is c.whole-value.ensures.number fits in
+    let here = at_hand number store rows numbers k c.row_at-row.result c.index-values-k.result c.whole-value.result now there c.row_at-row.ensures c.index-values-k.is c.whole-value.ensures.number (search rules) in
     let done = sym (turn_refused store rows (map number numbers) k now c.in-Err.refusal inside (omega (arith, there, length-map numbers number))
     (ap (λ (t : Turned). t.answer) (sym here) ∙ sym c.store.ensures.answer ∙ c.in-Err.is)) ∙ c.loop-k.invariant.rest in
     record { answer = ap (λ (d : Turned). d.answer) done; left = c.store.ensures.left ∙ ap (λ (t : Turned). t.left) here ∙ ap (λ (d : Turned). d.left) done }
