@@ -1,10 +1,10 @@
 // Copies between views, and a table that is laid out anew.
 ghost use Rattle.std.specs.Prelude.{◌≡◌, ◌<◌};
-ghost use Rattle.c_lines.specs.Imports.{ℕ, IfOk, List, true, AreAlike, sentence_of, term_of, is_nameless};
+ghost use Rattle.c_lines.specs.Imports.{ℕ, IfOk, List, true, AreAlike, term_of, is_nameless};
 ghost use Rattle.c_lines.specs.Answers.{Opens, Tells, TellsLeft};
 ghost use Rattle.c_lines.specs.Copies.{was_copied, source_after, target_after};
 ghost use Rattle.c_lines.specs.Inner.Carried.{Gave, RelaidAs, zeros_beside};
-ghost use Rattle.c_lines.specs.Relaid.{after_relaid, laid_left, mapping_told, relaid, whole_told, zeros_told};
+ghost use Rattle.c_lines.specs.Relaid.{after_relaid, laid_left, relaid, whole_told, zeros_told};
 ghost use Rattle.c_lines.specs.Told.{done_of};
 
 use crate::lines::line_of;
@@ -138,18 +138,12 @@ fn nameless_of(alloc: Global, line: &[u8]) -> Result<MapExpr, Refusal>
     ensures told { Tells term_of (whole_told line.now) result }
     ensures nameless { IfOk result (λ expr. is_nameless (term_of expr) ≡ true) }
 {
-    let written = mapping_of(line_of(alloc, line, TextOf::First)?)?;
-    let expr = answered(nameless(alloc, &MappingList::new(alloc), &written));
-    drop(written);
-    expr
-}
-
-// The mapping of a line.
-fn mapping_of(line: Line) -> Result<MapExpr, Refusal>
-    ensures { Tells term_of (mapping_told (sentence_of line)) result }
-{
-    match line {
-        Line::Relayout { view: _, expr } => Ok(expr),
+    match line_of(alloc, line, TextOf::First)? {
+        Line::Relayout { view: _, expr } => {
+            let whole = answered(nameless(alloc, &MappingList::new(alloc), &expr));
+            drop(expr);
+            whole
+        }
         other => {
             drop(other);
             Err(Refusal::OtherLine(TextOf::First))
