@@ -1,6 +1,6 @@
 // A view of the two lines that describe it, and of a dataset.
 ghost use Rattle.std.specs.Prelude.{◌≡◌, ◌<◌};
-ghost use Rattle.c_lines.specs.Imports.{IfOk, IfSome, OnOk, true, [], length, csv_records, records_behind, IsShape, sentence_of, HasItsFields, term_of, filled_by, loaded_by, named, new_table_by, is_nameless};
+ghost use Rattle.c_lines.specs.Imports.{IfOk, IfSome, OnOk, true, [], length, csv_records, records_behind, IsShape, sentence_of, HasItsFields, term_of, filled_by, named, new_table_by, is_nameless};
 ghost use Rattle.c_lines.specs.Answers.{Opens, Tells};
 ghost use Rattle.c_lines.specs.Lines.{asked, described, loaded, new_answer, world_told};
 ghost use Rattle.c_lines.specs.Inner.Makes.{asked_filled, asked_of, named_of, new_of, world_of, zeros_for};
@@ -190,36 +190,14 @@ fn filled_view<L: Ledger>(
     ensures { Tells (λ view. view) (asked_filled asked.now csv.now) result }
 {
     let found = find(alloc, asked)?;
-    let made = filled_as(alloc, asked, &found, csv, steps);
-    drop(found);
-    made
-}
-
-// The same, where its words stand for this.
-fn filled_as<L: Ledger>(
-    alloc: Global,
-    asked: &Asked,
-    found: &Found,
-    csv: &[u8],
-    steps: &mut Steps<L>,
-) -> Result<View, Refusal>
-    requires nameless { is_nameless (term_of found.now.expr) ≡ true }
-    requires shape { found.now.shape ≡ asked.now.new.words }
-    requires is_shape { IsShape asked.now.new.words }
-    ensures { Tells (λ view. view) (loaded_by in_numbers [] (named_of asked.now.record found.now) asked.now.new.words csv.now) result }
-{
     if csv.len() > MAX_DATASET_BYTES {
         return Err(Refusal::TooBig);
     }
     let Ok(rows) = count_rows(alloc, csv) else {
         return Err(Refusal::NoMemory);
     };
-    with_rows(
-        alloc,
-        csv,
-        zeros_for(alloc, asked, found, Some(rows))?,
-        steps,
-    )
+    let zeros = zeros_for(alloc, asked, &found, Some(rows))?;
+    with_rows(alloc, csv, zeros, steps)
 }
 
 // A view of zeros with the values of a dataset of as many rows. The readers of datasets take much of the stack, which is not to be taken
