@@ -1,6 +1,6 @@
 // A view of the two lines that describe it, and of a dataset.
 ghost use Rattle.std.specs.Prelude.{◌≡◌, ◌<◌};
-ghost use Rattle.c_lines.specs.Imports.{IfOk, IfSome, OnOk, true, [], length, csv_records, records_behind, IsShape, sentence_of, HasItsFields, term_of, filled_by, named, new_table_by, is_nameless};
+ghost use Rattle.c_lines.specs.Imports.{IfOk, IfSome, OnOk, true, [], length, csv_records, records_behind, IsShape, sentence_of, HasItsFields, term_of, filled_by, named, is_nameless};
 ghost use Rattle.c_lines.specs.Answers.{Opens, Tells};
 ghost use Rattle.c_lines.specs.Lines.{asked, described, loaded, new_answer, world_told};
 ghost use Rattle.c_lines.specs.Inner.Makes.{asked_filled, asked_of, named_of, new_of, world_of, zeros_for};
@@ -60,9 +60,8 @@ pub fn new_view(alloc: Global, first: &[u8], second: &[u8]) -> Result<View, Refu
     ensures { Tells (λ view. view) (described first.now second.now) result }
 {
     let asked = asked_by(alloc, first, second, false)?;
-    let made = zeros_of(alloc, &asked);
-    drop(asked);
-    made
+    let found = find(alloc, &asked)?;
+    zeros_for(alloc, &asked, &found, None)
 }
 
 /// The view of a dataset that a `record` line and a `load` line describe, as in a script of these two lines whose file holds the dataset; which file
@@ -149,16 +148,6 @@ fn new_of(line: Line, loads: bool) -> Result<NewView, Refusal>
             Err(Refusal::OtherLine(TextOf::Second))
         }
     }
-}
-
-// The view of zeros that is asked for.
-fn zeros_of(alloc: Global, asked: &Asked) -> Result<View, Refusal>
-    ensures { Tells (λ view. view) (new_table_by in_numbers (world_of asked.now.record) (new_of asked.now.new)) result }
-{
-    let found = find(alloc, asked)?;
-    let made = zeros_for(alloc, asked, &found, None);
-    drop(found);
-    made
 }
 
 // What the words of the view that is asked for stand for.
