@@ -33,9 +33,7 @@ pub fn do_line<L: Ledger>(
 {
     let line = line_of(alloc, text, TextOf::First)?;
     let mut steps = Steps::<L>::new(blank);
-    let answer = do_command(alloc, view, &line, &mut steps);
-    drop(line);
-    answer
+    do_command(alloc, view, &line, &mut steps)
 }
 
 // Does a line.

@@ -78,9 +78,7 @@ pub fn loaded_view<L: Ledger>(
 {
     let asked = asked_by(alloc, first, second, true)?;
     let mut steps = Steps::<L>::new(blank);
-    let made = filled_view(alloc, &asked, csv, &mut steps);
-    drop(asked);
-    made
+    filled_view(alloc, &asked, csv, &mut steps)
 }
 
 // What a `record` line asks for, and behind it a `view` line or a `load` line.
