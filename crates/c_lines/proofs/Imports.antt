@@ -56,4 +56,3 @@ pub use Rattle.command_checks.proofs.Inside.{windowed_goes}
 pub use Rattle.extents.specs.WindowLaws.{same_rank}
 pub use Rattle.subviews.specs.SubViews.{WindowOf, rows_of}
 pub use Rattle.c_lines.specs.Messages.{is_told, words_beside, words_by, words_for}
-pub use Rattle.c_lines.specs.Inner.Said.{said_words}

@@ -104,10 +104,12 @@ fn put_words(
 ) -> Result<(), Refusal>
     ensures { TellsPut (Ok (words_for refusal)) buffer.old needed.old result buffer.new needed.new }
 {
-    match said_of(alloc, refusal) {
-        Ok(Said::Word(word)) => copy_out(word.as_bytes(), buffer, needed),
-        Ok(Said::Fault(fault)) => put_fault(alloc, &fault, buffer, needed),
-        Err(NoMemory) => Err(Refusal::NoMemory),
+    let Ok(leaf) = digits(alloc, refusal.leaf()) else {
+        return Err(Refusal::NoMemory);
+    };
+    match with_leaf(refusal, leaf) {
+        Said::Word(word) => copy_out(word.as_bytes(), buffer, needed),
+        Said::Fault(fault) => put_fault(alloc, &fault, buffer, needed),
     }
 }
 
@@ -135,15 +137,7 @@ fn words_in(line: &[u8]) -> &[u8]
     &line[BEFORE_WORDS..line.len() - 1]
 }
 
-// What is said of a refusal.
-fn said_of(alloc: Global, refusal: Refusal) -> Result<Said, NoMemory>
-    ensures { IfOk result (λ said. said_words said ≡ words_for refusal) }
-{
-    let leaf = digits(alloc, refusal.leaf())?;
-    Ok(with_leaf(refusal, leaf))
-}
-
-// The same, with the number of the leaf that it names as a text.
+// What is said of a refusal, with the number of the leaf that it names as a text.
 fn with_leaf(refusal: Refusal, leaf: Text) -> Said
     requires { leaf ≡ digits_text (leaf_named refusal) }
     ensures { said_words result ≡ words_for refusal }
