@@ -2,8 +2,7 @@
 ghost use Rattle.std.specs.Prelude.{◌≡◌, ◌<◌};
 ghost use Rattle.c_lines.specs.Imports.{ℕ, true, length, map, slice_index_or, IsWithin64, LeafType, leaf_count_of, leaf_type_of, IfOk, rows_of};
 ghost use Rattle.c_lines.specs.Answers.{Opens, changed_by, given_or, answer_map};
-ghost use Rattle.c_lines.specs.ByRows.{after_gather, after_scatter, are_rows, gathered, in_turn, store_in, values_at, was_scattered, put_there};
-ghost use Rattle.c_lines.specs.Boxes.{after_box, box_rows, on_box};
+ghost use Rattle.c_lines.specs.ByRows.{after_gather, after_scatter, are_rows, gathered, in_turn, store_in, values_at, was_scattered, put_there, after_box, box_rows, on_box};
 ghost use Rattle.c_lines.specs.Told.{done_of};
 
 use crate::number::Number64;

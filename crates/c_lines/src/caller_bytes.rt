@@ -3,7 +3,7 @@ ghost use Rattle.std.specs.Prelude.{◌≡◌, ◌+◌, ◌*◌, ◌/◌, ◌<�
 ghost use Rattle.c_lines.specs.Imports.{Ok, length, map, IfOk, OnErr, OnOk, run_of, leaf_count_of};
 ghost use Rattle.c_lines.specs.Answers.{Opens, answer_map};
 ghost use Rattle.c_lines.specs.CallerBytes.{after_run_as, after_set_run_as, bytes_of_numbers, got_run_as, numbers_in, reads_as, sized, was_set_run_as};
-ghost use Rattle.c_lines.specs.CallerRuns.{after_run, IsSet};
+ghost use Rattle.c_lines.specs.Values.{after_run, IsSet};
 
 use crate::about::value_bits;
 use crate::number::Number64;

@@ -2,9 +2,8 @@
 ghost use Rattle.std.specs.Prelude.{◌≡◌, ◌<◌};
 ghost use Rattle.c_lines.specs.Imports.{ℕ, IfOk, List, true, AreAlike, term_of, is_nameless};
 ghost use Rattle.c_lines.specs.Answers.{Opens, Tells, TellsLeft};
-ghost use Rattle.c_lines.specs.Copies.{was_copied, source_after, target_after};
+ghost use Rattle.c_lines.specs.Copies.{was_copied, source_after, target_after, after_relaid, laid_left, relaid, whole_told, zeros_told};
 ghost use Rattle.c_lines.specs.Inner.Carried.{Gave, RelaidAs, zeros_beside};
-ghost use Rattle.c_lines.specs.Relaid.{after_relaid, laid_left, relaid, whole_told, zeros_told};
 ghost use Rattle.c_lines.specs.Told.{done_of};
 
 use crate::lines::line_of;

@@ -2,8 +2,7 @@
 ghost use Rattle.std.specs.Prelude.{◌≡◌, ◌+◌, ◌<◌, ◌≤◌};
 ghost use Rattle.c_lines.specs.Imports.{true, length, OnOk, OnErr, leaf_count_of, leaf_type_of, after_read, after_write, map, run_of};
 ghost use Rattle.c_lines.specs.Answers.{Opens, answer_map};
-ghost use Rattle.c_lines.specs.Values.{is_run, got, store_told, was_set, read_by};
-ghost use Rattle.c_lines.specs.CallerRuns.{after_run, was_set_run, after_set_run, IsSet};
+ghost use Rattle.c_lines.specs.Values.{is_run, got, store_told, was_set, read_by, after_run, was_set_run, after_set_run, IsSet};
 
 use crate::number::Number64;
 use crate::refusal::Refusal;
