@@ -1,18 +1,88 @@
 // One leaf of rows, those of a list, of a window or of a box, to and from an array.
 ghost use Rattle.std.specs.Prelude.{◌≡◌, ◌<◌};
-ghost use Rattle.c_lines.specs.Imports.{ℕ, true, length, map, slice_index_or, IsWithin64, LeafType, leaf_count_of, leaf_type_of, IfOk, rows_of};
+ghost use Rattle.c_lines.specs.Imports.{ℕ, true, length, map, slice_index_or, IsWithin64, LeafType, leaf_count_of, leaf_type_of, IfOk, rows_of, List, nat_lt, list_all, Table};
 ghost use Rattle.c_lines.specs.Answers.{Opens, changed_by, given_or, answer_map};
 ghost use Rattle.c_lines.specs.ByRows.{after_gather, after_scatter, are_rows, gathered, in_turn, store_in, values_at, was_scattered, put_there, after_box, box_rows, on_box};
 ghost use Rattle.c_lines.specs.Told.{done_of};
 
 use crate::number::Number64;
 use crate::refusal::Refusal;
-use crate::row_lists::RowList;
 use crate::values::{leaf_type, put};
 use extents::{Span, Window};
 use record_dim::{LeafType, Steps};
 use std::sync::ledger::{Blank, Ledger};
 use views::View;
+
+/// Rows, of which each is asked for by its place.
+pub trait RowList {
+    ghost rows: { Self → List ℕ };
+
+    /// What has to be known of them beside a table.
+    ghost is_for: { Self → Table → Type 0 };
+
+    /// How many they are.
+    fn row_count(&self) -> u64
+        ensures { result ≡ length (rows self.now) };
+
+    /// The row at a place.
+    fn row_at(&self, place: u64) -> u64
+        requires { place < length (rows self.now) }
+        ensures { result ≡ slice_index_or (rows self.now) place 0 };
+
+    /// Whether a view has them all.
+    fn are_in(&self, view: &View) -> bool
+        requires { is_for self.now view.now }
+        ensures { result ≡ list_all (λ row. nat_lt row (length view.now.rows)) (rows self.now) };
+}
+
+impl RowList for &[u64] {
+    ghost rows = { λ list. list.now };
+
+    ghost is_for = { λ list table. Unit {0} };
+
+    #[inline(always)]
+    fn row_count(&self) -> u64 {
+        self.len() as u64
+    }
+
+    #[inline(always)]
+    fn row_at(&self, place: u64) -> u64 {
+        self[place as usize]
+    }
+
+    fn are_in(&self, view: &View) -> bool {
+        are_below(self, view.extents().count())
+    }
+}
+
+// A window of a view has rows of that view alone.
+impl RowList for Window {
+    ghost rows = { λ window. rows_of window };
+
+    ghost is_for = { λ window table. window.0 ≡ table.extents };
+
+    #[inline(always)]
+    fn row_count(&self) -> u64 {
+        self.count()
+    }
+
+    #[inline(always)]
+    fn row_at(&self, place: u64) -> u64 {
+        self.outer(place)
+    }
+
+    fn are_in(&self, view: &View) -> bool {
+        let _extents = view.extents();
+        true
+    }
+}
+
+// Whether each number of a list is below one.
+fn are_below(numbers: &[u64], most: u64) -> bool
+    ensures { result ≡ list_all (λ number. nat_lt number most) numbers.now }
+{
+    numbers.iter().all(|number| *number < most)
+}
 
 /// The values of a leaf in such rows, in their order, where each value of the leaf is a number of the caller's type: as many as the array is
 /// long. On a refusal the array stays as it is.

@@ -8,7 +8,7 @@ ghost use Rattle.c_lines.specs.Inner.Said.{said_words};
 ghost use Rattle.c_lines.specs.Messages.{MessagesTell, is_told, message_told, refusals_at, words_beside, words_for};
 
 use crate::byte_sink::ByteSink;
-use crate::copy_out::copy_out;
+use crate::files::copy_out;
 use crate::{DONE, Fault, Refusal, TextOf};
 use extents::BadExtents;
 use itoa::Buffer;

@@ -9,7 +9,7 @@ ghost use Rattle.c_lines.specs.declared.refusal.Refusal.TheVariants.{NoMemory};
 
 use crate::by_name::leaf_of;
 use crate::byte_sink::ByteSink;
-use crate::copy_out::copy_out;
+use crate::files::copy_out;
 use crate::lines::line_of;
 use crate::told::step_refusal;
 use crate::{Refusal, TextOf};

@@ -1,5 +1,5 @@
 use Rattle.c_lines.proofs.Lemmas.{◌≡◌, ℕ, List, length, sym, ap, arith, indices, window_below}
-use Rattle.c_lines.proofs.row_lists.WindowRowList.are_in.Goals as goal
+use Rattle.c_lines.proofs.by_rows.WindowRowList.are_in.Goals as goal
 
 pub returns : goal.returns
 returns c =
