@@ -158,7 +158,7 @@ shown_not old new outcome before sink step.Source told refused kept says = absur
 shown_not old new outcome before sink other told refused kept says = (inl says, kept_rows_stay old new (row_told told) kept)
 
 -- what a sink took, as the bytes that are told
-pub told_as : (line_is : Answer Sentence) (old : Table) (answer : Answer ByteSink) (new : Table) → OnLine bytes_in commanded line_is old answer new → OnLine (λ (told : List ℕ). told) commanded line_is old (answer_map bytes_in answer) new
+pub told_as : (line : Answer Sentence) (old : Table) (answer : Answer ByteSink) (new : Table) → OnLine bytes_in commanded line old answer new → OnLine (λ (told : List ℕ). told) commanded line old (answer_map bytes_in answer) new
 told_as (Ok sentence) old (Ok sink) new does = does
 told_as (Ok sentence) old (Err told) new does = does
 told_as (Err told) old answer new on = (
