@@ -30,32 +30,26 @@ pub use Rattle.c_lines.specs.Answers.{Answer, TellsLeft, changed_by, Tells, give
 pub use Rattle.c_lines.specs.Told.{told, done_of, in_numbers, refusal_of, store_refusal}
 pub use Rattle.c_lines.specs.declared.refusal.Refusal.TheVariants.{NoMemory, Narrow, NoPlace, BadType, Mismatch}
 pub use Rattle.c_lines.specs.declared.refusal.TextOf.TheVariants.{First}
-pub use Rattle.c_lines.specs.Copies.{was_copied, source_after, target_after}
+pub use Rattle.c_lines.specs.Copies.{was_copied, source_after, target_after, after_relaid, laid_left, left_anew, relaid, whole_told, zeros_told}
 unfoldable pub use Rattle.c_lines.specs.Lines.{line_answer}
-pub use Rattle.c_lines.specs.Relaid.{after_relaid, laid_left, left_anew, relaid, whole_told, zeros_told}
 pub use Rattle.c_lines.specs.declared.refusal.Refusal.{Refusal}
-pub use Rattle.c_lines.specs.Inner.Steps.{step_refusal, answered}
 pub use Rattle.c_lines.specs.Buffers.{blob_told, ReturnsSame, TellsPut, buffer_after, needed_after, put_told}
-pub use Rattle.c_lines.specs.CallerRuns.{after_run, told_run, IsFrontStored, IsSet, was_set_run, after_set_run}
-pub use Rattle.c_lines.specs.Values.{reads_signed, reads_unsigned, is_run, store_told}
+pub use Rattle.c_lines.specs.Values.{after_run, told_run, IsFrontStored, IsSet, was_set_run, after_set_run, reads_signed, reads_unsigned, is_run, store_told}
 pub use Rattle.c_lines.specs.Inner.Makes.{zeros_for, named_of, new_of}
 pub use Rattle.c_lines.specs.CallerBytes.{is_width, sized, was_set_run_as, after_set_run_as, bytes_of_numbers, number_in, numbers_in}
-pub use Rattle.c_lines.specs.Commands.{Comes, Does, OnLine, Refuses, Says, alone, line_taken, rows_left, taken, untold, view_in, numbered, commanded, is_tell, is_do, is_kernel}
+pub use Rattle.c_lines.specs.Commands.{Comes, Does, IsToldInto, OnLine, Refuses, Says, alone, line_taken, rows_left, taken, untold, view_in, numbered, commanded, is_tell, is_do, is_kernel}
 pub use Rattle.c_lines.specs.Faults.{row_told}
-pub use Rattle.c_lines.specs.Inner.Carried.{SaysStep, Carried, change_refusal, Gave, bytes_in}
-pub use Rattle.c_lines.specs.ByRows.{Turned, done_after, in_turn}
-pub use Rattle.c_lines.specs.Inner.Laid.{RelaidAs, zeros_beside}
+pub use Rattle.c_lines.specs.Inner.Carried.{SaysStep, Carried, RelaidAs, answered, change_refusal, Gave, bytes_in, step_refusal, zeros_beside}
+pub use Rattle.c_lines.specs.ByRows.{Turned, done_after, in_turn, store_in, spans_of}
 pub use Rattle.extents.specs.Windows.{IsWindow, holds, rows_in}
 pub use Rattle.extents.specs.declared.window.Span.{Span}
 pub use Rattle.byteorder.specs.Endian.{little_bytes, low_bytes}
 pub use Rattle.std.specs.Int.{w32}
 pub use borrow.Rule.Slice.PartMut.{put_mid}
 pub use Rattle.worlds.specs.declared.fault.CommandFault.TheVariants.{BadWindow}
-pub use Rattle.c_lines.specs.Boxes.{spans_of}
 pub use Rattle.c_lines.specs.declared.byte_sink.ByteSink.{ByteSink}
 pub use Rattle.view_commands.specs.Inner.Answers.{Answers, IsLeft}
 pub use Rattle.command_checks.proofs.Inside.{windowed_goes}
 pub use Rattle.extents.specs.WindowLaws.{same_rank}
 pub use Rattle.subviews.specs.SubViews.{WindowOf, rows_of}
-pub use Rattle.c_lines.specs.Messages.{is_told, words_beside, words_by}
-pub use Rattle.c_lines.specs.Inner.Said.{said_words}
+pub use Rattle.c_lines.specs.Messages.{is_told, words_beside, words_by, words_for}

@@ -1,5 +1,5 @@
 -- Rows of a list in their turn.
-use Rattle.c_lines.proofs.Imports.{◌≡◌, ⊎_elim, ℕ, suc, ◌+◌, ◌<◌, ◌≤◌, Bool, true, false, ℤ, pos, List, [], ◌∷◌, ◌++◌, length, map, take, drop, get_or, Ok, Err, sym, ap, ◌∙◌, cases_Bool, drop-cons, drop_all, list_all, list_all_at, map-append, take_more, take_more_set, Table, kept_of, after_log, after_log-append, after_read, after_write, Access, Read, length-set, leaf_count_of, Answer, Refusal, Turned, done_after, in_turn, changed_by, OnOk, OnErr, set}
+use Rattle.c_lines.proofs.Imports.{◌≡◌, ⊎_elim, ℕ, suc, ◌+◌, ◌<◌, ◌≤◌, Bool, true, false, ℤ, pos, List, [], ◌∷◌, ◌++◌, length, map, take, drop, get_or, Ok, Err, sym, ap, ◌∙◌, cases_Bool, drop-cons, drop_all, list_all, list_all_at, map-append, take_more, take_more_set, Table, kept_of, after_log, after_log-append, after_read, after_write, Access, Read, length-set, leaf_count_of, Answer, Refusal, Turned, done_after, in_turn, changed_by, OnOk, OnErr, set, SFits, w128, to_z, of_z, to_z-of_z, get_or-map}
 
 -- a test that each number passes
 pub passes : (test : ℕ → Bool) (numbers : List ℕ) (k : ℕ) → list_all test numbers ≡ true → k < length numbers → test (get_or numbers k 0) ≡ true
@@ -51,18 +51,22 @@ module _ (store : ℕ → ℤ → Table → Turned) (rows : List ℕ) (values : 
   pub turns_over : length rows ≤ k → in_turn store (drop k rows) (drop k values) now ≡ record { answer = Ok tt; left = now }
   turns_over over = ap (λ (rs : List ℕ). in_turn store rs (drop k values) now) (drop_all k rows over)
 
+-- the store of a number that is at hand
+pub at_hand : {A : Type 0} (number : A → ℤ) (store : ℕ → ℤ → Table → Turned) (rows : List ℕ) (xs : List A) (k row : ℕ) (x : A) (whole : ℤ) (now : Table) → k < length xs → row ≡ get_or rows k 0
+    → x ≡ get_or xs k x → whole ≡ number x → SFits w128 whole → store row (to_z w128 (of_z w128 whole)) now ≡ store (get_or rows k 0) (get_or (map number xs) k (pos 0)) now
+at_hand number store rows xs k row x whole now inside at is same fits =
+    ap (λ (r : ℕ). store r (to_z w128 (of_z w128 whole)) now) at
+    ∙ ap (λ (v : ℤ). store (get_or rows k 0) v now) (to_z-of_z w128 whole fits ∙ same ∙ ap number is ∙ sym (get_or-map number xs k x (pos 0) inside))
+
 -- ---- a value that is put somewhere
 
--- what is left by a store
-pub left_by_store : (told result : Answer (Unit {0})) (after old new : Table) → result ≡ told → OnOk result (new ≡ after) → OnErr result (new ≡ old) → new ≡ changed_by told after old
-left_by_store told (Ok done) after old new is wrote kept = wrote ∙ ap (λ (a : Answer (Unit {0})). changed_by a after old) is
-left_by_store told (Err refusal) after old new is wrote kept = kept ∙ ap (λ (a : Answer (Unit {0})). changed_by a after old) is
-
--- it keeps the rows, and the record
-pub rows_still : (told : Answer (Unit {0})) (row leaf : ℕ) (value : ℤ) (old new : Table) → new ≡ changed_by told (after_write old row leaf value) old → length new.rows ≡ length old.rows
-rows_still (Ok done) row leaf value old new is = ap (λ (t : Table). length t.rows) is ∙ length-set old.rows row (set (get_or old.rows row []) leaf (kept_of old leaf value))
-rows_still (Err refusal) row leaf value old new is = ap (λ (t : Table). length t.rows) is
-
-pub leaves_still : (told : Answer (Unit {0})) (row leaf : ℕ) (value : ℤ) (old new : Table) → new ≡ changed_by told (after_write old row leaf value) old → leaf_count_of new ≡ leaf_count_of old
-leaves_still (Ok done) row leaf value old new is = ap leaf_count_of is
-leaves_still (Err refusal) row leaf value old new is = ap leaf_count_of is
+-- what is left by a store, which keeps the rows and the record
+pub was_put : (told result : Answer (Unit {0})) (row leaf : ℕ) (value : ℤ) (old new : Table) → result ≡ told → OnOk result (new ≡ after_write old row leaf value) → OnErr result (new ≡ old)
+    → (new ≡ changed_by told (after_write old row leaf value) old) × (length new.rows ≡ length old.rows) × (leaf_count_of new ≡ leaf_count_of old)
+was_put told (Ok done) row leaf value old new is wrote kept = (
+  wrote ∙ ap (λ (a : Answer (Unit {0})). changed_by a (after_write old row leaf value) old) is,
+  ap (λ (t : Table). length t.rows) wrote ∙ length-set old.rows row (set (get_or old.rows row []) leaf (kept_of old leaf value)),
+  ap leaf_count_of wrote,
+)
+was_put told (Err refusal) row leaf value old new is wrote kept =
+    (kept ∙ ap (λ (a : Answer (Unit {0})). changed_by a (after_write old row leaf value) old) is, ap (λ (t : Table). length t.rows) kept, ap leaf_count_of kept)

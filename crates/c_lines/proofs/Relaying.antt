@@ -1,6 +1,27 @@
--- Tables that are laid out anew, by the tests that refuse them and by the copy.
-use Rattle.c_lines.proofs.Imports.{◌≡◌, inl, inr, List, ℕ, [], Ok, Err, refl, sym, ap, ◌∙◌, AreAlike, Term, Table, ◌>>=◌, made, with_rows, alike, goes_then, Answer, TellsLeft, Refusal, was_copied, after_relaid, laid_left, left_anew, relaid, whole_told, zeros_told, told, done_of, in_numbers}
-use Rattle.c_lines.proofs.Answering.{Refuses, then_then}
+-- Tables that are copied, or laid out anew, by the tests that refuse them and by the copy.
+use Rattle.c_lines.proofs.Imports.{◌≡◌, inl, inr, List, ℕ, [], Ok, Err, refl, sym, ap, ◌∙◌, AreAlike, Term, Table, ◌>>=◌, made, with_rows, alike, goes_then, Answer, TellsLeft, Refusal, was_copied, after_relaid, laid_left, left_anew, relaid, whole_told, zeros_told, told, done_of, in_numbers, length, Result, None, Some, IsCopied, refused_at, source_log, CopyFault, answer_of, leaf_count_of, after_log, after_log-none, not_alike, Mismatch, Narrow}
+use Rattle.c_lines.proofs.Making.{Refuses, then_then}
+use Rattle.layout_copy.specs.declared.fault.CopyFault.TheVariants as copy
+
+pub was_done : (source old new : Table) → IsCopied source old new (Ok tt) → Ok tt ≡ was_copied source old
+unfolding with_rows
+was_done source old new is =
+    let held : refused_at (answer_of old) 0 source.rows ≡ None = is.1 in
+    rw (alike source old is.0, held) refl
+
+pub was_other : (source old new : Table) → IsCopied source old new (Err copy.Mismatch) → Err Mismatch ≡ was_copied source old
+was_other source old new is = rw (not_alike source old is.0) refl
+
+pub other_source : (source new : Table) (result : Result Unit CopyFault) → result ≡ Err copy.Mismatch → new ≡ after_log source (source_log (leaf_count_of source) (length source.rows) result) → new ≡ source
+other_source source new result is seen =
+    let none : new ≡ after_log source [] = rw is at seen in
+    none ∙ after_log-none source
+
+pub was_narrow : (source old new : Table) (row leaf : ℕ) → IsCopied source old new (Err (copy.Narrow row leaf)) → Err (Narrow row leaf) ≡ was_copied source old
+unfolding with_rows
+was_narrow source old new row leaf is =
+    let held : refused_at (answer_of old) 0 source.rows ≡ Some (record { row = row; leaf = leaf }) = is.1 in
+    rw (alike source old is.0, held) refl
 
 -- the new table is that of zeros with the old one's values
 relaid_by : (text : List ℕ) (table : Table) → relaid text table ≡ (zeros_told text table >>= λ zeros. with_rows in_numbers zeros table.rows)

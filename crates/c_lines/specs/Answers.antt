@@ -1,6 +1,6 @@
 -- The answers of calls: what comes of a table, or why nothing does, and their numbers in C.
-use Rattle.std.specs.Prelude.{◌≡◌, ◌⊎◌}
-use Rattle.c_lines.specs.Imports.{ℤ, pos, Option, Some, None, option_map, Result, Ok, Err, Table}
+use Rattle.std.specs.Prelude.{◌≡◌, ◌<◌, ◌⊎◌}
+use Rattle.c_lines.specs.Imports.{ℕ, ℤ, pos, Option, Some, None, option_map, Result, Ok, Err, Table}
 use Rattle.c_lines.specs.declared.refusal.Refusal.{Refusal}
 use Rattle.c_lines.specs.declared.refusal.Refusal.TheVariants.{NoView, NoPlace, NoMemory, NoRoom, BadType, Range, Narrow, Mismatch, Syntax, TooDeep, OtherLine, LineTooLong, Unknown, BadRecord, BadExtents, BadMapping, TooBig, BadKernel, Empty, MissingColumn, ColumnTwice, ShortRow, Number, BadFile, Twice, Overflow, DivideByZero, NotCounted, BadWindow, Irregular, BadStencil, BadActors, BadAdvice, SharedByte}
 
@@ -83,3 +83,7 @@ changed_by (Err refusal) new old = old
 -- what a handle holds after such a call
 abbrev pub held_after : {A : Type 0} → (Table → Answer A) → (Table → Table) → Option Table → Option Table
 held_after call after held = option_map (λ table. changed_by (call table) (after table) table) held
+
+-- a blank opens the ledger that steps are counted on: it has its name and its parts, of which there are some
+abbrev pub Opens : {A : Type 0} → A → A → ℕ → ℕ → Type 0
+Opens name own parts kept = (name ≡ own) × (parts ≡ kept) × (0 < parts)

@@ -1,10 +1,11 @@
--- Values of one leaf in the rows of a list, in the order of the list. A row may stand in it more than once.
+-- Values of one leaf in the rows of a list, in the order of the list, in which a row may stand more than once, or in those of a box.
 use Rattle.std.specs.Prelude.{◌&&◌, ◌+ℤ◌, ◌∷◌, if◌then◌else◌}
-use Rattle.c_lines.specs.Imports.{ℕ, Bool, ℤ, List, length, map, nat_eq, nat_lt, Ok, Err, LeafType, entry, Table, leaf_count_of, leaf_type_of, after_log, after_read, after_write, Read}
+use Rattle.c_lines.specs.Imports.{ℕ, Bool, ℤ, List, length, map, nat_eq, nat_lt, Ok, Err, LeafType, entry, Table, leaf_count_of, leaf_type_of, after_log, after_read, after_write, Read, [], Span, rows_of, ◌>>=◌, windowed}
 use Rattle.record_dim.specs.Std.{list_all}
-use Rattle.c_lines.specs.Answers.{Answer, changed_by}
+use Rattle.c_lines.specs.Answers.{Answer, changed_by, answer_map, given_or}
 use Rattle.c_lines.specs.Values.{read_if, store_told}
 use Rattle.c_lines.specs.declared.refusal.Refusal.TheVariants.{NoPlace}
+use Rattle.c_lines.specs.Told.{told}
 
 -- all rows of a list are rows of a table, so is a leaf of it, and an array has as many numbers as the list
 abbrev pub are_rows : List ℕ → ℕ → ℕ → Table → Bool
@@ -44,6 +45,10 @@ put_there leaf at value table = record { answer = store_told at leaf value table
 abbrev pub add_there : ℕ → ℕ → ℤ → Table → Turned
 add_there leaf at value table = put_there leaf at (entry table.rows at leaf +ℤ value) (after_read table at leaf)
 
+-- either of them
+abbrev pub store_in : Bool → ℕ → ℕ → ℤ → Table → Turned
+store_in adds = if adds then add_there else put_there
+
 -- one row after another, each with its value, up to the first that is refused
 abbrev pub in_turn : (ℕ → ℤ → Table → Turned) → List ℕ → List ℤ → Table → Turned
 in_turn store (row ∷ rows) (value ∷ values) table = done_after (store row value table).answer (store row value table).left (in_turn store rows values)
@@ -60,3 +65,20 @@ was_scattered store rows leaf values table = (scattered store rows leaf values t
 
 abbrev pub after_scatter : (ℕ → ℕ → ℤ → Table → Turned) → List ℕ → ℕ → List ℤ → Table → Table
 after_scatter store rows leaf values table = (scattered store rows leaf values table).left
+
+-- a box has a low and a high bound for each extent, as `print V window [..]` has it: from the one up to, and without, the other
+abbrev pub spans_of : List ℕ → List ℕ → List Span
+spans_of (low ∷ lows) (high ∷ highs) = record { from = low; end = high } ∷ spans_of lows highs
+spans_of lows highs = []
+
+-- the rows of a box, in order
+abbrev pub box_rows : List ℕ → List ℕ → Table → Answer (List ℕ)
+box_rows low high table = answer_map rows_of (told (windowed table.extents (spans_of low high)))
+
+-- what a call on a list of rows answers on those of a box
+abbrev pub on_box : {A : Type 0} → List ℕ → List ℕ → (List ℕ → Table → Answer A) → Table → Answer A
+on_box low high call table = box_rows low high table >>= (λ rows. call rows table)
+
+-- and the table after it
+abbrev pub after_box : List ℕ → List ℕ → (List ℕ → Table → Table) → Table → Table
+after_box low high after table = given_or table (answer_map (λ rows. after rows table) (box_rows low high table))

@@ -2,7 +2,7 @@
 use Rattle.std.specs.Prelude.{◌+◌, ◌*◌, ◌/◌, ◌%◌, ◌&&◌, ◌||◌, if◌then◌else◌}
 use Rattle.c_lines.specs.Imports.{ℕ, Bool, ℤ, pos, List, length, map, drop, nat_eq, nat_le, Ok, Err, w64, flat_map, range_with_len, little_bytes, little_number, low_bytes, twos_complement, value_bits, is_signed, LeafType, Table}
 use Rattle.c_lines.specs.Answers.{Answer, answer_map, given_or}
-use Rattle.c_lines.specs.CallerRuns.{after_run, after_set_run, got_run, was_set_run}
+use Rattle.c_lines.specs.Values.{after_run, after_set_run, got_run, was_set_run}
 use Rattle.c_lines.specs.declared.refusal.Refusal.TheVariants.{NoPlace, BadType}
 
 -- ---- numbers and their bytes

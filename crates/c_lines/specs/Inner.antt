@@ -1,6 +1,4 @@
 -- Words of contracts within the project, which no promise reaches.
 pub mod Carried
-pub mod Laid
 pub mod Makes
 pub mod Said
-pub mod Steps

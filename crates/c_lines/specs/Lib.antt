@@ -1,17 +1,14 @@
 pub mod Told
 pub mod Lines
 pub mod Copies
-pub mod Relaid
 pub mod Agreement
 pub mod Commands
 pub mod Answers
 pub mod Faults
 pub mod Messages
 pub mod Values
-pub mod CallerRuns
 pub mod CallerBytes
 pub mod ByRows
-pub mod Boxes
 pub mod About
 pub mod Buffers
 pub mod Placed

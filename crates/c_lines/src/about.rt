@@ -4,7 +4,7 @@ ghost use Rattle.c_lines.specs.Imports.{drop, length, value_bits};
 ghost use Rattle.c_lines.specs.About.{counts_told, extents_told, path_told, type_told};
 ghost use Rattle.c_lines.specs.Buffers.{buffer_after, needed_after, put_told};
 
-use crate::copy_out::copy_out;
+use crate::files::copy_out;
 use crate::refusal::Refusal;
 use crate::values::leaf_type;
 use extents::Extents;

@@ -1,15 +1,14 @@
 // One leaf of rows one after another, to and from the bytes of numbers of any width of the caller's.
 ghost use Rattle.std.specs.Prelude.{◌≡◌, ◌+◌, ◌*◌, ◌/◌, ◌<◌, ◌≤◌};
 ghost use Rattle.c_lines.specs.Imports.{Ok, length, map, IfOk, OnErr, OnOk, run_of, leaf_count_of};
-ghost use Rattle.c_lines.specs.Answers.{answer_map};
+ghost use Rattle.c_lines.specs.Answers.{Opens, answer_map};
 ghost use Rattle.c_lines.specs.CallerBytes.{after_run_as, after_set_run_as, bytes_of_numbers, got_run_as, numbers_in, reads_as, sized, was_set_run_as};
-ghost use Rattle.c_lines.specs.CallerRuns.{after_run, IsSet};
+ghost use Rattle.c_lines.specs.Values.{after_run, IsSet};
 
 use crate::about::value_bits;
 use crate::number::Number64;
 use crate::refusal::Refusal;
-use crate::runs::store_run;
-use crate::values::{is_run, leaf_type};
+use crate::values::{is_run, leaf_type, store_run};
 use byteorder::{ByteOrder, LittleEndian};
 use record_dim::{LeafType, Steps};
 use std::sync::ledger::{Blank, Ledger};
@@ -26,9 +25,7 @@ pub fn get_run_as<L: Ledger>(
     bytes: &mut [u8],
     blank: Blank,
 ) -> Result<(), Refusal>
-    requires name { blank.name ≡ L.name }
-    requires parts { blank.parts ≡ L.parts }
-    requires some { 0 < blank.parts }
+    requires opens { Opens blank.name L.name blank.parts L.parts }
     ensures got { answer_map (λ done. bytes.new) result ≡ got_run_as bits sign first (length bytes.old) leaf view.old }
     ensures read { OnOk result (view.new ≡ after_run_as bits first (length bytes.old) leaf view.old) }
     ensures none { OnErr result (bytes.new ≡ bytes.old) }
@@ -58,9 +55,7 @@ pub fn set_run_as<L: Ledger>(
     bytes: &[u8],
     blank: Blank,
 ) -> Result<(), Refusal>
-    requires name { blank.name ≡ L.name }
-    requires parts { blank.parts ≡ L.parts }
-    requires some { 0 < blank.parts }
+    requires opens { Opens blank.name L.name blank.parts L.parts }
     ensures answer { result ≡ was_set_run_as bits sign first bytes.now leaf view.old }
     ensures left { view.new ≡ after_set_run_as bits sign first bytes.now leaf view.old }
 {

@@ -1,6 +1,7 @@
 // Lines that change a view, or give a number of it.
 ghost use Rattle.std.specs.Prelude.{◌≡◌, ◌<◌};
 ghost use Rattle.c_lines.specs.Imports.{sentence_of, number_text};
+ghost use Rattle.c_lines.specs.Answers.{Opens};
 ghost use Rattle.c_lines.specs.Commands.{DoesLine, OnLine, in_64, is_do, is_kernel, is_signed_64, numbered, taken};
 ghost use Rattle.c_lines.specs.Inner.Carried.{Carried, IsRounds, change_refusal};
 
@@ -27,16 +28,12 @@ pub fn do_line<L: Ledger>(
     text: &[u8],
     blank: Blank,
 ) -> Result<Option<i128>, Refusal>
-    requires name { blank.name ≡ L.name }
-    requires parts { blank.parts ≡ L.parts }
-    requires some { 0 < blank.parts }
+    requires opens { Opens blank.name L.name blank.parts L.parts }
     ensures { DoesLine is_do text.now view.old result view.new }
 {
     let line = line_of(alloc, text, TextOf::First)?;
     let mut steps = Steps::<L>::new(blank);
-    let answer = do_command(alloc, view, &line, &mut steps);
-    drop(line);
-    answer
+    do_command(alloc, view, &line, &mut steps)
 }
 
 // Does a line.
@@ -127,9 +124,7 @@ pub fn run_kernel<L: Ledger>(
     text: &[u8],
     blank: Blank,
 ) -> Result<Option<i128>, Refusal>
-    requires name { blank.name ≡ L.name }
-    requires parts { blank.parts ≡ L.parts }
-    requires some { 0 < blank.parts }
+    requires opens { Opens blank.name L.name blank.parts L.parts }
     ensures { DoesLine is_kernel text.now view.old result view.new }
 {
     let line = line_of(alloc, text, TextOf::First)?;

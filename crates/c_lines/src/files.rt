@@ -1,12 +1,11 @@
-// A view as the bytes of a file or of its blobs and as the lines that make it, and the view of such bytes.
+// A view as the bytes of a file or of its blobs and as the lines that make it, the view of such bytes, and bytes in the buffer of a caller.
 ghost use Rattle.std.specs.Prelude.{◌≡◌, ◌<◌};
 ghost use Rattle.c_lines.specs.Imports.{Ok, length, MatchResult, file_of, blobs_of, header_of};
-ghost use Rattle.c_lines.specs.Answers.{Tells, TellsLeft};
-ghost use Rattle.c_lines.specs.Buffers.{after_return, file_refusal, file_told, opened_told, record_line, returned, view_line, TellsPut};
+ghost use Rattle.c_lines.specs.Answers.{Opens, Tells, TellsLeft};
+ghost use Rattle.c_lines.specs.Buffers.{after_return, file_refusal, file_told, opened_told, record_line, returned, view_line, TellsPut, buffer_after, needed_after, put_told};
 ghost use Rattle.c_lines.specs.Told.{done_of};
 ghost use Rattle.c_lines.specs.declared.refusal.Refusal.TheVariants.{NoMemory};
 
-use crate::copy_out::copy_out;
 use crate::refusal::Refusal;
 use crate::slice_sink::SliceSink;
 use blob_file::{
@@ -18,6 +17,20 @@ use std::mem;
 use std::sync::ledger::{Blank, Ledger};
 use views::View;
 use worlds::BadFile;
+
+/// Copies bytes to the front of a buffer that has room for them, and tells how many they are. Where it has none it stays as it is.
+pub(crate) fn copy_out(bytes: &[u8], buffer: &mut [u8], needed: &mut usize) -> Result<(), Refusal>
+    ensures told { result ≡ put_told (Ok bytes.now) buffer.old }
+    ensures buffer { buffer.new ≡ buffer_after (Ok bytes.now) buffer.old }
+    ensures needed { needed.new ≡ needed_after (Ok bytes.now) needed.old }
+{
+    *needed = bytes.len();
+    if bytes.len() > buffer.len() {
+        return Err(Refusal::NoRoom);
+    }
+    buffer[..bytes.len()].copy_from_slice(bytes);
+    Ok(())
+}
 
 /// Puts the bytes of the file that a view saves as into a buffer, and tells how many they are.
 pub fn put_file(
@@ -59,9 +72,7 @@ fn fill(alloc: Global, view: &View, bytes: &mut [u8]) -> Result<(), Refusal>
 
 /// The view of which bytes are the file.
 pub fn open_view<L: Ledger>(alloc: Global, bytes: &[u8], blank: Blank) -> Result<View, Refusal>
-    requires name { blank.name ≡ L.name }
-    requires parts { blank.parts ≡ L.parts }
-    requires some { 0 < blank.parts }
+    requires opens { Opens blank.name L.name blank.parts L.parts }
     ensures { Tells (λ view. view) (opened_told bytes.now) result }
 {
     let mut steps = Steps::<L>::new(blank);
@@ -80,9 +91,7 @@ pub fn give_back<L: Ledger>(
     bytes: &[u8],
     blank: Blank,
 ) -> Result<(), Refusal>
-    requires name { blank.name ≡ L.name }
-    requires parts { blank.parts ≡ L.parts }
-    requires some { 0 < blank.parts }
+    requires opens { Opens blank.name L.name blank.parts L.parts }
     ensures { TellsLeft (done_of (returned bytes.now view.old)) (after_return bytes.now view.old) view.old result view.new }
 {
     let mut steps = Steps::<L>::new(blank);

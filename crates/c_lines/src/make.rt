@@ -1,7 +1,7 @@
 // A view of the two lines that describe it, and of a dataset.
 ghost use Rattle.std.specs.Prelude.{◌≡◌, ◌<◌};
-ghost use Rattle.c_lines.specs.Imports.{IfOk, IfSome, OnOk, true, [], length, csv_records, records_behind, IsShape, sentence_of, HasItsFields, term_of, filled_by, loaded_by, named, new_table_by, is_nameless};
-ghost use Rattle.c_lines.specs.Answers.{Tells};
+ghost use Rattle.c_lines.specs.Imports.{IfOk, IfSome, OnOk, true, [], length, csv_records, records_behind, IsShape, sentence_of, HasItsFields, term_of, filled_by, named, is_nameless};
+ghost use Rattle.c_lines.specs.Answers.{Opens, Tells};
 ghost use Rattle.c_lines.specs.Lines.{asked, described, loaded, new_answer, world_told};
 ghost use Rattle.c_lines.specs.Inner.Makes.{asked_filled, asked_of, named_of, new_of, world_of, zeros_for};
 ghost use Rattle.c_lines.specs.Told.{in_numbers, told};
@@ -60,9 +60,8 @@ pub fn new_view(alloc: Global, first: &[u8], second: &[u8]) -> Result<View, Refu
     ensures { Tells (λ view. view) (described first.now second.now) result }
 {
     let asked = asked_by(alloc, first, second, false)?;
-    let made = zeros_of(alloc, &asked);
-    drop(asked);
-    made
+    let found = find(alloc, &asked)?;
+    zeros_for(alloc, &asked, &found, None)
 }
 
 /// The view of a dataset that a `record` line and a `load` line describe, as in a script of these two lines whose file holds the dataset; which file
@@ -74,16 +73,12 @@ pub fn loaded_view<L: Ledger>(
     csv: &[u8],
     blank: Blank,
 ) -> Result<View, Refusal>
-    requires name { blank.name ≡ L.name }
-    requires parts { blank.parts ≡ L.parts }
-    requires some { 0 < blank.parts }
+    requires opens { Opens blank.name L.name blank.parts L.parts }
     ensures { Tells (λ view. view) (loaded first.now second.now csv.now) result }
 {
     let asked = asked_by(alloc, first, second, true)?;
     let mut steps = Steps::<L>::new(blank);
-    let made = filled_view(alloc, &asked, csv, &mut steps);
-    drop(asked);
-    made
+    filled_view(alloc, &asked, csv, &mut steps)
 }
 
 // What a `record` line asks for, and behind it a `view` line or a `load` line.
@@ -153,16 +148,6 @@ fn new_of(line: Line, loads: bool) -> Result<NewView, Refusal>
     }
 }
 
-// The view of zeros that is asked for.
-fn zeros_of(alloc: Global, asked: &Asked) -> Result<View, Refusal>
-    ensures { Tells (λ view. view) (new_table_by in_numbers (world_of asked.now.record) (new_of asked.now.new)) result }
-{
-    let found = find(alloc, asked)?;
-    let made = zeros_for(alloc, asked, &found, None);
-    drop(found);
-    made
-}
-
 // What the words of the view that is asked for stand for.
 fn find(alloc: Global, asked: &Asked) -> Result<Found, Refusal>
     ensures named { Tells (named_of asked.now.record) (told (named (world_of asked.now.record) (new_of asked.now.new))) result }
@@ -192,36 +177,14 @@ fn filled_view<L: Ledger>(
     ensures { Tells (λ view. view) (asked_filled asked.now csv.now) result }
 {
     let found = find(alloc, asked)?;
-    let made = filled_as(alloc, asked, &found, csv, steps);
-    drop(found);
-    made
-}
-
-// The same, where its words stand for this.
-fn filled_as<L: Ledger>(
-    alloc: Global,
-    asked: &Asked,
-    found: &Found,
-    csv: &[u8],
-    steps: &mut Steps<L>,
-) -> Result<View, Refusal>
-    requires nameless { is_nameless (term_of found.now.expr) ≡ true }
-    requires shape { found.now.shape ≡ asked.now.new.words }
-    requires is_shape { IsShape asked.now.new.words }
-    ensures { Tells (λ view. view) (loaded_by in_numbers [] (named_of asked.now.record found.now) asked.now.new.words csv.now) result }
-{
     if csv.len() > MAX_DATASET_BYTES {
         return Err(Refusal::TooBig);
     }
     let Ok(rows) = count_rows(alloc, csv) else {
         return Err(Refusal::NoMemory);
     };
-    with_rows(
-        alloc,
-        csv,
-        zeros_for(alloc, asked, found, Some(rows))?,
-        steps,
-    )
+    let zeros = zeros_for(alloc, asked, &found, Some(rows))?;
+    with_rows(alloc, csv, zeros, steps)
 }
 
 // A view of zeros with the values of a dataset of as many rows. The readers of datasets take much of the stack, which is not to be taken

@@ -5,10 +5,10 @@ ghost use Rattle.c_lines.specs.Answers.{answer_map};
 ghost use Rattle.c_lines.specs.Buffers.{TellsPut};
 ghost use Rattle.c_lines.specs.Faults.{leaf_named};
 ghost use Rattle.c_lines.specs.Inner.Said.{said_words};
-ghost use Rattle.c_lines.specs.Messages.{MessagesTell, is_told, message_told, refusal_by, refusals_at, words_beside, words_for};
+ghost use Rattle.c_lines.specs.Messages.{MessagesTell, is_told, message_told, refusals_at, words_beside, words_for};
 
 use crate::byte_sink::ByteSink;
-use crate::copy_out::copy_out;
+use crate::files::copy_out;
 use crate::{DONE, Fault, Refusal, TextOf};
 use extents::BadExtents;
 use itoa::Buffer;
@@ -49,9 +49,9 @@ pub fn put_message(
 ) -> Result<(), Refusal>
     ensures { TellsPut (message_told answer fault.now) buffer.old needed.old result buffer.new needed.new }
 {
-    match refusal_by(answer, fault) {
+    match first_told(&refusals_at(*fault), answer, fault.cause) {
         Some(refusal) => put_words(alloc, refusal, buffer, needed),
-        None => put_beside(answer, buffer, needed),
+        None => copy_out(words_beside(answer)?.as_bytes(), buffer, needed),
     }
 }
 
@@ -60,13 +60,6 @@ pub fn put_message(
 pub fn messages_tell()
     ensures { MessagesTell }
 {}
-
-// The refusal that a call answers and reports so.
-fn refusal_by(answer: i32, fault: &Fault) -> Option<Refusal>
-    ensures { result ≡ refusal_by answer fault.now }
-{
-    first_told(&refusals_at(*fault), answer, fault.cause)
-}
 
 // The first of some refusals that has this number and this cause.
 fn first_told(refusals: &[Refusal], answer: i32, cause: i32) -> Option<Refusal>
@@ -84,14 +77,6 @@ fn is_told(refusal: Refusal, answer: i32, cause: i32) -> bool
     ensures { result ≡ is_told answer cause refusal }
 {
     refusal.number() == answer && refusal.cause() == cause
-}
-
-// The words of another answer, in a buffer.
-fn put_beside(answer: i32, buffer: &mut [u8], needed: &mut usize) -> Result<(), Refusal>
-    ensures { TellsPut (words_beside answer) buffer.old needed.old result buffer.new needed.new }
-{
-    let words = words_beside(answer)?;
-    copy_out(words.as_bytes(), buffer, needed)
 }
 
 // The words of the other answers.
@@ -119,24 +104,12 @@ fn put_words(
 ) -> Result<(), Refusal>
     ensures { TellsPut (Ok (words_for refusal)) buffer.old needed.old result buffer.new needed.new }
 {
-    match said_of(alloc, refusal) {
-        Ok(said) => put_said(alloc, &said, buffer, needed),
-        Err(NoMemory) => Err(Refusal::NoMemory),
-    }
-}
-
-// What is said of it.
-fn put_said(
-    alloc: Global,
-    said: &Said,
-    buffer: &mut [u8],
-    needed: &mut usize,
-) -> Result<(), Refusal>
-    ensures { TellsPut (Ok (said_words said.now)) buffer.old needed.old result buffer.new needed.new }
-{
-    match said {
+    let Ok(leaf) = digits(alloc, refusal.leaf()) else {
+        return Err(Refusal::NoMemory);
+    };
+    match with_leaf(refusal, leaf) {
         Said::Word(word) => copy_out(word.as_bytes(), buffer, needed),
-        Said::Fault(fault) => put_fault(alloc, fault, buffer, needed),
+        Said::Fault(fault) => put_fault(alloc, &fault, buffer, needed),
     }
 }
 
@@ -164,15 +137,7 @@ fn words_in(line: &[u8]) -> &[u8]
     &line[BEFORE_WORDS..line.len() - 1]
 }
 
-// What is said of a refusal.
-fn said_of(alloc: Global, refusal: Refusal) -> Result<Said, NoMemory>
-    ensures { IfOk result (λ said. said_words said ≡ words_for refusal) }
-{
-    let leaf = digits(alloc, refusal.leaf())?;
-    Ok(with_leaf(refusal, leaf))
-}
-
-// The same, with the number of the leaf that it names as a text.
+// What is said of a refusal, with the number of the leaf that it names as a text.
 fn with_leaf(refusal: Refusal, leaf: Text) -> Said
     requires { leaf ≡ digits_text (leaf_named refusal) }
     ensures { said_words result ≡ words_for refusal }

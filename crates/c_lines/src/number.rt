@@ -2,8 +2,7 @@
 ghost use Rattle.std.specs.Prelude.{◌≡◌, ◌+◌, ◌<◌, ◌≤◌};
 ghost use Rattle.c_lines.specs.Imports.{ℤ, Bool, true, length, map, IfOk, IsDeclared, LeafType, IsWithin64, run_of, leaf_count_of, leaf_type_of};
 ghost use Rattle.c_lines.specs.CallerBytes.{number_in};
-ghost use Rattle.c_lines.specs.CallerRuns.{after_run, IsFrontStored};
-ghost use Rattle.c_lines.specs.Values.{reads_signed};
+ghost use Rattle.c_lines.specs.Values.{after_run, IsFrontStored, reads_signed};
 
 use byteorder::{ByteOrder, LittleEndian};
 use record_dim::{LeafType, Steps};

@@ -1,18 +1,16 @@
-// A table that is laid out anew.
+// Copies between views, and a table that is laid out anew.
 ghost use Rattle.std.specs.Prelude.{◌≡◌, ◌<◌};
-ghost use Rattle.c_lines.specs.Imports.{ℕ, IfOk, List, true, AreAlike, sentence_of, term_of, is_nameless};
-ghost use Rattle.c_lines.specs.Answers.{Tells, TellsLeft};
-ghost use Rattle.c_lines.specs.Copies.{was_copied};
-ghost use Rattle.c_lines.specs.Inner.Carried.{Gave};
-ghost use Rattle.c_lines.specs.Inner.Laid.{RelaidAs, zeros_beside};
-ghost use Rattle.c_lines.specs.Relaid.{after_relaid, laid_left, mapping_told, relaid, whole_told, zeros_told};
+ghost use Rattle.c_lines.specs.Imports.{ℕ, IfOk, List, true, AreAlike, term_of, is_nameless};
+ghost use Rattle.c_lines.specs.Answers.{Opens, Tells, TellsLeft};
+ghost use Rattle.c_lines.specs.Copies.{was_copied, source_after, target_after, after_relaid, laid_left, relaid, whole_told, zeros_told};
+ghost use Rattle.c_lines.specs.Inner.Carried.{Gave, RelaidAs, zeros_beside};
 ghost use Rattle.c_lines.specs.Told.{done_of};
 
-use crate::copies::copied;
 use crate::lines::line_of;
 use crate::told::answered;
 use crate::{Refusal, TextOf};
 use command_checks::{MappingList, made, made_beside, nameless};
+use layout_copy::{CopyFault, copy};
 use line_grammar::Line;
 use map_expr::MapExpr;
 use record_dim::Steps;
@@ -20,6 +18,38 @@ use std::alloc::Global;
 use std::mem;
 use std::sync::ledger::{Blank, Ledger};
 use views::View;
+
+/// Makes the table of a view that of another, as far as it holds the values.
+pub fn copy_into<L: Ledger>(
+    source: &mut View,
+    target: &mut View,
+    blank: Blank,
+) -> Result<(), Refusal>
+    requires opens { Opens blank.name L.name blank.parts L.parts }
+    ensures answer { result ≡ was_copied source.old target.old }
+    ensures source { source.new ≡ source_after result source.old }
+    ensures target { target.new ≡ target_after result source.old target.old }
+{
+    let mut steps = Steps::<L>::new(blank);
+    copied(source, target, &mut steps)
+}
+
+/// The same, where steps are counted on.
+pub(crate) fn copied<L: Ledger>(
+    source: &mut View,
+    target: &mut View,
+    steps: &mut Steps<L>,
+) -> Result<(), Refusal>
+    ensures answer { result ≡ was_copied source.old target.old }
+    ensures source { source.new ≡ source_after result source.old }
+    ensures target { target.new ≡ target_after result source.old target.old }
+{
+    match copy(source, target, steps) {
+        Ok(()) => Ok(()),
+        Err(CopyFault::Mismatch) => Err(Refusal::Mismatch),
+        Err(CopyFault::Narrow { row, leaf }) => Err(Refusal::Narrow { row, leaf }),
+    }
+}
 
 /// Lays the table of a view out as a `relayout` line says, which may name any view. On a refusal the old view stays; where the new one does not
 /// hold a value, it was read up to that. The old one lives until the new one has its values.
@@ -29,9 +59,7 @@ pub fn lay_anew<L: Ledger>(
     line: &[u8],
     blank: Blank,
 ) -> Result<(), Refusal>
-    requires name { blank.name ≡ L.name }
-    requires parts { blank.parts ≡ L.parts }
-    requires some { 0 < blank.parts }
+    requires opens { Opens blank.name L.name blank.parts L.parts }
     ensures { TellsLeft (done_of (relaid line.now view.old)) (after_relaid line.now view.old) view.old result view.new }
 {
     let fresh = zeros_like(alloc, view, line)?;
@@ -109,18 +137,12 @@ fn nameless_of(alloc: Global, line: &[u8]) -> Result<MapExpr, Refusal>
     ensures told { Tells term_of (whole_told line.now) result }
     ensures nameless { IfOk result (λ expr. is_nameless (term_of expr) ≡ true) }
 {
-    let written = mapping_of(line_of(alloc, line, TextOf::First)?)?;
-    let expr = answered(nameless(alloc, &MappingList::new(alloc), &written));
-    drop(written);
-    expr
-}
-
-// The mapping of a line.
-fn mapping_of(line: Line) -> Result<MapExpr, Refusal>
-    ensures { Tells term_of (mapping_told (sentence_of line)) result }
-{
-    match line {
-        Line::Relayout { view: _, expr } => Ok(expr),
+    match line_of(alloc, line, TextOf::First)? {
+        Line::Relayout { view: _, expr } => {
+            let whole = answered(nameless(alloc, &MappingList::new(alloc), &expr));
+            drop(expr);
+            whole
+        }
         other => {
             drop(other);
             Err(Refusal::OtherLine(TextOf::First))

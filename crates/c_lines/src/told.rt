@@ -1,7 +1,7 @@
 // The refusals of the model's commands, as those of calls.
 ghost use Rattle.std.specs.Prelude.{◌≡◌};
 ghost use Rattle.c_lines.specs.Told.{refusal_of, row_refusal};
-ghost use Rattle.c_lines.specs.Inner.Steps.{answered, step_refusal};
+ghost use Rattle.c_lines.specs.Inner.Carried.{answered, step_refusal};
 
 use crate::Refusal;
 use command_checks::StepFault;

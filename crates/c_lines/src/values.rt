@@ -1,14 +1,14 @@
-// One value of a view, as a number of the caller's type.
+// One leaf of one row, or of rows one after another, as numbers of the caller's type.
 ghost use Rattle.std.specs.Prelude.{◌≡◌, ◌+◌, ◌<◌, ◌≤◌};
-ghost use Rattle.c_lines.specs.Imports.{true, length, OnOk, OnErr, leaf_count_of, leaf_type_of, after_read, after_write};
-ghost use Rattle.c_lines.specs.Answers.{answer_map};
-ghost use Rattle.c_lines.specs.Values.{is_run, got, store_told, was_set};
+ghost use Rattle.c_lines.specs.Imports.{true, length, OnOk, OnErr, leaf_count_of, leaf_type_of, after_read, after_write, map, run_of};
+ghost use Rattle.c_lines.specs.Answers.{Opens, answer_map};
+ghost use Rattle.c_lines.specs.Values.{is_run, got, store_told, was_set, read_by, after_run, was_set_run, after_set_run, IsSet};
 
 use crate::number::Number64;
 use crate::refusal::Refusal;
 use record_dim::{LeafType, Steps};
 use std::sync::ledger::{Blank, Ledger};
-use views::View;
+use views::{LaneFault, View};
 
 /// The value of a leaf in a row, where each value of the leaf is a number of the caller's type.
 #[inline(always)]
@@ -18,9 +18,7 @@ pub fn get<N: Number64, L: Ledger>(
     leaf: usize,
     blank: Blank,
 ) -> Result<N, Refusal>
-    requires name { blank.name ≡ L.name }
-    requires parts { blank.parts ≡ L.parts }
-    requires some { 0 < blank.parts }
+    requires opens { Opens blank.name L.name blank.parts L.parts }
     ensures got { answer_map N.number result ≡ got N.reads row leaf view.old }
     ensures read { OnOk result (view.new ≡ after_read view.old row leaf) }
     ensures kept { OnErr result (view.new ≡ view.old) }
@@ -45,9 +43,7 @@ pub fn set<L: Ledger>(
     value: i128,
     blank: Blank,
 ) -> Result<(), Refusal>
-    requires name { blank.name ≡ L.name }
-    requires parts { blank.parts ≡ L.parts }
-    requires some { 0 < blank.parts }
+    requires opens { Opens blank.name L.name blank.parts L.parts }
     ensures set { result ≡ was_set row leaf value view.old }
     ensures written { OnOk result (view.new ≡ after_write view.old row leaf value) }
     ensures kept { OnErr result (view.new ≡ view.old) }
@@ -99,4 +95,79 @@ pub(crate) fn leaf_type(view: &View, leaf: usize) -> LeafType
     ensures { result ≡ leaf_type_of view.now leaf }
 {
     view.schema().leaf_type(leaf)
+}
+
+/// The values of a leaf in as many rows as the array is long, from one row on, where each value of the leaf is a number of the caller's type. On
+/// a refusal the array stays as it is.
+pub fn get_run<N: Number64, L: Ledger>(
+    view: &mut View,
+    first: u64,
+    leaf: usize,
+    values: &mut [N],
+    blank: Blank,
+) -> Result<(), Refusal>
+    requires opens { Opens blank.name L.name blank.parts L.parts }
+    ensures answer { result ≡ read_by N.reads view.old first (length values.old) leaf tt }
+    ensures values { OnOk result (map N.number values.new ≡ run_of leaf first (length values.old) view.old) }
+    ensures read { OnOk result (view.new ≡ after_run first (length values.old) leaf view.old) }
+    ensures none { OnErr result (values.new ≡ values.old) }
+    ensures kept { OnErr result (view.new ≡ view.old) }
+{
+    if !is_run(view, first, values.len(), leaf) {
+        return Err(Refusal::NoPlace);
+    }
+    if !N::reads(leaf_type(view, leaf)) {
+        return Err(Refusal::BadType);
+    }
+    let mut steps = Steps::<L>::new(blank);
+    N::read_run(view, leaf, first, values, &mut steps);
+    Ok(())
+}
+
+/// Makes the values of a leaf in as many rows as the array is long these, from one row on, as the view keeps them. A strict view that does not
+/// take a value has those before it.
+pub fn set_run<N: Number64, L: Ledger>(
+    view: &mut View,
+    first: u64,
+    leaf: usize,
+    values: &[N],
+    blank: Blank,
+) -> Result<(), Refusal>
+    requires opens { Opens blank.name L.name blank.parts L.parts }
+    ensures answer { result ≡ was_set_run first leaf (map N.number values.now) view.old }
+    ensures left { view.new ≡ after_set_run first leaf (map N.number values.now) view.old }
+{
+    if !is_run(view, first, values.len(), leaf) {
+        return Err(Refusal::NoPlace);
+    }
+    let mut steps = Steps::<L>::new(blank);
+    store_run(view, first, leaf, values, &mut steps)
+}
+
+// Stores a run part by part.
+pub(crate) fn store_run<N: Number64, L: Ledger>(
+    view: &mut View,
+    first: u64,
+    leaf: usize,
+    values: &[N],
+    steps: &mut Steps<L>,
+) -> Result<(), Refusal>
+    requires rows { first + length values.now ≤ length view.old.rows }
+    requires leaf { leaf < leaf_count_of view.old }
+    ensures { IsSet first leaf (map N.number values.now) view.old view.new result }
+{
+    let _rows = view.extents().count();
+    let (mut row, mut rest) = (first, values);
+    while !rest.is_empty() {
+        match N::store_front(view, leaf, row, rest, steps) {
+            Ok(count) => {
+                row += count as u64;
+                rest = &rest[count..];
+            }
+            Err(LaneFault { lane, fault }) => {
+                return Err(Refusal::of_store(row + lane as u64, leaf, fault));
+            }
+        }
+    }
+    Ok(())
 }

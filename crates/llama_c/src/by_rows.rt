@@ -4,7 +4,7 @@ ghost use Rattle.c_lines.specs.Prelude.{code_of, given_or, held_after, on_held, 
 
 use crate::answers::{code, refused, told};
 use crate::handle::Handle;
-use c_lines::{Fault, Refusal, gather, scatter, scatter_add};
+use c_lines::{Fault, Refusal, gather, scatter};
 use std::alloc::Global;
 use std::marker::Brand;
 use std::sync::ledger::Blank;
@@ -69,7 +69,7 @@ pub extern "C" fn lly_scatter(
     let Some(mut held) = view.take(alloc) else {
         return refused(Refusal::NoView, fault);
     };
-    let answer = scatter::<i64, _, Brand>(&mut held, &rows, leaf, values, Blank::new(1));
+    let answer = scatter::<i64, _, Brand>(&mut held, &rows, leaf, values, false, Blank::new(1));
     *view = Handle::new(alloc, Some(held));
     told(answer, fault)
 }
@@ -91,7 +91,7 @@ pub extern "C" fn lly_scatter_u64(
     let Some(mut held) = view.take(alloc) else {
         return refused(Refusal::NoView, fault);
     };
-    let answer = scatter::<u64, _, Brand>(&mut held, &rows, leaf, values, Blank::new(1));
+    let answer = scatter::<u64, _, Brand>(&mut held, &rows, leaf, values, false, Blank::new(1));
     *view = Handle::new(alloc, Some(held));
     told(answer, fault)
 }
@@ -113,7 +113,7 @@ pub extern "C" fn lly_scatter_add(
     let Some(mut held) = view.take(alloc) else {
         return refused(Refusal::NoView, fault);
     };
-    let answer = scatter_add::<i64, _, Brand>(&mut held, &rows, leaf, values, Blank::new(1));
+    let answer = scatter::<i64, _, Brand>(&mut held, &rows, leaf, values, true, Blank::new(1));
     *view = Handle::new(alloc, Some(held));
     told(answer, fault)
 }

@@ -1,6 +1,8 @@
 //! Views for callers in C, each in a handle that owns it. Each call takes the view out of its handle, does its work on it, and puts it back.
 #![tactic(auto)]
 
+// Where a call counts steps, its proof names the ledger that the blank opens.
+
 mod about;
 mod answers;
 mod box_parts;

@@ -5,4 +5,4 @@ pub returns-in_err-line : goal.returns-in_err-line
 returns-in_err-line g c = text_refused number_text numbered is_do c.args.text.now c.args.view.now c.in_err-line.field-0.0 _ (search rules) c.in_err-line.ensures.told
 
 pub returns : goal.returns
-returns g c = text_read number_text numbered is_do c.args.text.now (sentence_of c.in_ok-line.line) c.args.view.now c.do_command-answer.new.view c.do_command-answer.result c.in_ok-line.ensures.told c.do_command-answer.ensures
+returns g c = text_read number_text numbered is_do c.args.text.now (sentence_of c.in_ok-line.line) c.args.view.now c.do_command.new.view c.do_command.result c.in_ok-line.ensures.told c.do_command.ensures

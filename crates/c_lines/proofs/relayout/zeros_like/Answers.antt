@@ -1,4 +1,4 @@
-use Rattle.c_lines.proofs.Answering.{tells_test}
+use Rattle.c_lines.proofs.Making.{tells_test}
 use Rattle.c_lines.proofs.relayout.zeros_like.Goals as goal
 
 pub returns-clause-told : goal.returns-clause-told

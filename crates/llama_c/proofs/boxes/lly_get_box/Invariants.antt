@@ -1,4 +1,3 @@
--- the ledger that the blank opens
 use Rattle.llama_c.proofs.boxes.lly_get_box.Given as goal
 
 abbrev pub ghosts-get_box : goal.ghosts-get_box

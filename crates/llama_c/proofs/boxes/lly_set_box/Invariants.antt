@@ -1,4 +1,3 @@
--- the ledger that the blank opens
 use Rattle.llama_c.proofs.boxes.lly_set_box.Given as goal
 
 abbrev pub ghosts-set_box : goal.ghosts-set_box

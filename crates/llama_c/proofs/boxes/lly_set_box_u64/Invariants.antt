@@ -1,4 +1,3 @@
--- the ledger that the blank opens
 use Rattle.llama_c.proofs.boxes.lly_set_box_u64.Given as goal
 
 abbrev pub ghosts-set_box : goal.ghosts-set_box

@@ -1,10 +1,9 @@
-use Rattle.llama_c.proofs.Imports.{rules, Option, Ok, ap, subst, ◌∙◌, SFits, w32, IfSome, to_z-of_z, Table, code_of, on_held, buffer_after, lent, needed_after, put_told, ReturnsSame}
+use Rattle.llama_c.proofs.Imports.{rules, Option, Ok, ap, subst, ◌∙◌, w32, IfSome, to_z-of_z, Table, code_of, on_held, buffer_after, lent, needed_after, put_told, ReturnsSame}
 use Rattle.llama_c.proofs.buffers.lly_lend.Goals as goal
 
 pub returns-clause-answer : goal.returns-clause-answer
 returns-clause-answer c =
-    let fits : SFits w32 c.code.result = search rules in
-    to_z-of_z w32 c.code.result fits ∙ c.code.ensures
+    to_z-of_z w32 c.code.result (search rules) ∙ c.code.ensures
     ∙ ap code_of (c.lend-answer.ensures.told ∙ ap (λ (table : Table). put_told (Ok (lent table)) c.args.bytes.now) c.deref.ensures)
     ∙ ap (λ (held : Option Table). code_of (put_told (on_held (λ table. Ok (lent table)) held) c.args.bytes.now)) c.in-Some.ensures.view
 

@@ -1,7 +1,6 @@
-use Rattle.llama_c.proofs.Lemmas.{rules, Ok, ◌∙◌, SFits, w32, to_z-of_z, printed, none_put}
+use Rattle.llama_c.proofs.Lemmas.{rules, Ok, ◌∙◌, w32, to_z-of_z, printed, none_put}
 use Rattle.llama_c.proofs.buffers.lly_print.Goals as goal
 
 pub returns-in_default-clause-put : goal.returns-in_default-clause-put
 returns-in_default-clause-put c =
-    let fits : SFits w32 c.number.result = search rules in
-    none_put (λ table. Ok (printed table)) c.args.view.now.part.held _ c.args.text.now c.args.needed.now c.in_default.ensures.view (to_z-of_z w32 c.number.result fits ∙ c.number.ensures)
+    none_put (λ table. Ok (printed table)) c.args.view.now.part.held _ c.args.text.now c.args.needed.now c.in_default.ensures.view (to_z-of_z w32 c.number.result (search rules) ∙ c.number.ensures)

@@ -1,4 +1,3 @@
--- the ledger that the blank opens
 use Rattle.llama_c.proofs.buffers.lly_print.Given as goal
 
 abbrev pub ghosts-put_table : goal.ghosts-put_table

@@ -1,7 +1,6 @@
-use Rattle.llama_c.proofs.Lemmas.{rules, ◌∙◌, SFits, w32, to_z-of_z, file_told, none_put}
+use Rattle.llama_c.proofs.Lemmas.{rules, ◌∙◌, w32, to_z-of_z, file_told, none_put}
 use Rattle.llama_c.proofs.buffers.lly_save.Goals as goal
 
 pub returns-in_default-clause-put : goal.returns-in_default-clause-put
 returns-in_default-clause-put c =
-    let fits : SFits w32 c.number.result = search rules in
-    none_put file_told c.args.view.now.part.held _ c.args.bytes.now c.args.needed.now c.in_default.ensures.view (to_z-of_z w32 c.number.result fits ∙ c.number.ensures)
+    none_put file_told c.args.view.now.part.held _ c.args.bytes.now c.args.needed.now c.in_default.ensures.view (to_z-of_z w32 c.number.result (search rules) ∙ c.number.ensures)

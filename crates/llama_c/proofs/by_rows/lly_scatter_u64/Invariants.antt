@@ -1,4 +1,3 @@
--- the ledger that the blank opens
 use Rattle.llama_c.proofs.by_rows.lly_scatter_u64.Given as goal
 
 abbrev pub ghosts-scatter : goal.ghosts-scatter

@@ -1,4 +1,3 @@
--- the ledger that the blank opens
 use Rattle.llama_c.proofs.lines.lly_do.Given as goal
 
 abbrev pub ghosts-do_line : goal.ghosts-do_line

@@ -1,9 +1,8 @@
-use Rattle.llama_c.proofs.Lemmas.{rules, ◌∙◌, SFits, w32, to_z-of_z, is_kernel, none_line}
+use Rattle.llama_c.proofs.Lemmas.{rules, ◌∙◌, w32, to_z-of_z, is_kernel, none_line}
 use Rattle.llama_c.proofs.lines.lly_kernel.Goals as goal
 
 pub returns-in_default : goal.returns-in_default
 returns-in_default c =
-    let fits : SFits w32 c.refused.result = search rules in
     none_line is_kernel c.args.line.now c.args.view.now.part.held c.take.new.self.part.held _ c.args.value.now
-    c.args.fault.now c.refused.new.fault c.in_default.ensures.view c.in_default.ensures.empty (to_z-of_z w32 c.refused.result fits ∙ c.refused.ensures.code)
+    c.args.fault.now c.refused.new.fault c.in_default.ensures.view c.in_default.ensures.empty (to_z-of_z w32 c.refused.result (search rules) ∙ c.refused.ensures.code)
     c.refused.ensures.fault

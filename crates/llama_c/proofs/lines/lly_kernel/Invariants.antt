@@ -1,4 +1,3 @@
--- the ledger that the blank opens
 use Rattle.llama_c.proofs.lines.lly_kernel.Given as goal
 
 abbrev pub ghosts-run_kernel : goal.ghosts-run_kernel

@@ -1,4 +1,3 @@
--- the ledger that the blank opens
 use Rattle.llama_c.proofs.lines.lly_tell.Given as goal
 
 abbrev pub ghosts-tell_line : goal.ghosts-tell_line

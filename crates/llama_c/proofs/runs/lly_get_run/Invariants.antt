@@ -1,4 +1,3 @@
--- the ledger that the blank opens
 use Rattle.llama_c.proofs.runs.lly_get_run.Given as goal
 
 abbrev pub ghosts-get_run : goal.ghosts-get_run

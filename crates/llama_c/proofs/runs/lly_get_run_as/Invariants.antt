@@ -1,4 +1,3 @@
--- the ledger that the blank opens
 use Rattle.llama_c.proofs.runs.lly_get_run_as.Given as goal
 
 abbrev pub ghosts-get_run_as : goal.ghosts-get_run_as

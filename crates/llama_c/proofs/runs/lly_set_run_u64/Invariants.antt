@@ -1,4 +1,3 @@
--- the ledger that the blank opens
 use Rattle.llama_c.proofs.runs.lly_set_run_u64.Given as goal
 
 abbrev pub ghosts-set_run : goal.ghosts-set_run

@@ -1,4 +1,3 @@
--- the ledger that the blank opens
 use Rattle.llama_c.proofs.tables.lly_copy.Given as goal
 
 abbrev pub ghosts-copy_into : goal.ghosts-copy_into

@@ -1,4 +1,3 @@
--- the ledger that the blank opens
 use Rattle.llama_c.proofs.tables.lly_relayout.Given as goal
 
 abbrev pub ghosts-lay_anew : goal.ghosts-lay_anew

@@ -1,4 +1,3 @@
--- the ledger that the blank opens
 use Rattle.llama_c.proofs.tables.lly_return.Given as goal
 
 abbrev pub ghosts-give_back : goal.ghosts-give_back

@@ -1,4 +1,3 @@
--- the ledger that the blank opens
 use Rattle.llama_c.proofs.values.lly_get.Given as goal
 
 abbrev pub ghosts-get : goal.ghosts-get

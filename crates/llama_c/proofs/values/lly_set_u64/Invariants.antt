@@ -1,4 +1,3 @@
--- the ledger that the blank opens
 use Rattle.llama_c.proofs.values.lly_set_u64.Given as goal
 
 abbrev pub ghosts-set : goal.ghosts-set

@@ -1,4 +1,3 @@
--- the ledger that the blank opens
 use Rattle.llama_c.proofs.views_made.lly_load.Given as goal
 
 abbrev pub ghosts-loaded_view : goal.ghosts-loaded_view

@@ -1,4 +1,3 @@
--- the ledger that the blank opens
 use Rattle.llama_c.proofs.views_made.lly_open.Given as goal
 
 abbrev pub ghosts-open_view : goal.ghosts-open_view

@@ -1,4 +1,4 @@
-use Rattle.record_dim.specs.Std.{rules, Ok, Err, refl, ◌∙◌, SFits, w32, to_z-of_z}
+use Rattle.record_dim.specs.Std.{rules, Ok, Err, refl, ◌∙◌, w32, to_z-of_z}
 use Rattle.llama_c.proofs.views_made.put.Goals as goal
 
 pub returns-in-Ok : goal.returns-in-Ok
@@ -6,11 +6,10 @@ returns-in-Ok c = record { answer = Ok c.in-Ok.held.value; tells = c.in-Ok.ensur
 
 pub returns-in-Err : goal.returns-in-Err
 returns-in-Err c =
-    let fits : SFits w32 c.refused.result = search rules in
     record {
       answer = Err c.in-Err.refusal;
       tells = c.in-Err.ensures;
-      code_is = to_z-of_z w32 c.refused.result fits ∙ c.refused.ensures.code;
+      code_is = to_z-of_z w32 c.refused.result (search rules) ∙ c.refused.ensures.code;
       held = refl;
       fault_is = c.refused.ensures.fault;
     }

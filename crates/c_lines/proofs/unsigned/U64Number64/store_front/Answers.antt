@@ -1,4 +1,4 @@
-use Rattle.c_lines.proofs.Lemmas.{rules, ◌≡◌, ℕ, ℤ, pos, get_or, map, take, SFits, to_z, of_z, sym, ap, subst, ◌∙◌, Err, Result, arith, w128, to_z-of_z, length-map, answer_of, after_write, LaneFault, IsFrontStored, without_number, front_refused, lows_fit, all_stored, one_stored, one_refused}
+use Rattle.c_lines.proofs.Lemmas.{rules, ◌≡◌, ℕ, ℤ, pos, get_or, map, take, to_z, of_z, sym, ap, subst, ◌∙◌, Err, Result, arith, w128, to_z-of_z, length-map, answer_of, after_write, LaneFault, IsFrontStored, without_number, front_refused, lows_fit, all_stored, one_stored, one_refused}
 use Rattle.c_lines.proofs.unsigned.U64Number64.store_front.Goals as goal
 
 pub put_run-requires-clause-fits : goal.put_run-requires-clause-fits
@@ -29,14 +29,12 @@ returns-in_err-store_run-clause-stored g c =
 -- a number alone
 pub returns-in-Ok-clause-stored : goal.returns-in-Ok-clause-stored
 returns-in-Ok-clause-stored g c =
-    let fits : SFits w128 c.from.result = search rules in
-    let value : to_z w128 (of_z w128 c.from.result) ≡ pos (get_or c.args.values.now 0 0) = to_z-of_z w128 c.from.result fits ∙ c.from.ensures in
+    let value : to_z w128 (of_z w128 c.from.result) ≡ pos (get_or c.args.values.now 0 0) = to_z-of_z w128 c.from.result (search rules) ∙ c.from.ensures in
     one_stored c.args.leaf c.args.first c.args.values.now c.args.view.now c.set.new.self c.requires.any (omega (arith, c.requires.rows, c.requires.any))
     (ap (λ (v : ℤ). without_number (answer_of c.args.view.now c.args.leaf v)) (sym value) ∙ sym c.set.ensures.answer ∙ c.in-Ok.is) (c.in-Ok.ensures.stored ∙ ap (after_write c.args.view.now c.args.first c.args.leaf) value)
 
 pub returns-in-Err-clause-stored : goal.returns-in-Err-clause-stored
 returns-in-Err-clause-stored g c =
-    let fits : SFits w128 c.from.result = search rules in
-    let value : to_z w128 (of_z w128 c.from.result) ≡ pos (get_or c.args.values.now 0 0) = to_z-of_z w128 c.from.result fits ∙ c.from.ensures in
+    let value : to_z w128 (of_z w128 c.from.result) ≡ pos (get_or c.args.values.now 0 0) = to_z-of_z w128 c.from.result (search rules) ∙ c.from.ensures in
     one_refused c.args.leaf c.args.first c.args.values.now c.args.view.now c.set.new.self c.in-Err.fault c.requires.any
     (ap (λ (v : ℤ). without_number (answer_of c.args.view.now c.args.leaf v)) (sym value) ∙ sym c.set.ensures.answer ∙ c.in-Err.is) c.in-Err.ensures.refused

@@ -1,5 +1,0 @@
-use Rattle.c_lines.proofs.Imports.{◌≡◌, length, take, spans_of}
-use Rattle.c_lines.proofs.boxes.box_of.Given as goal
-
-abbrev pub invariant-loop-d : goal.invariant-loop-d
-invariant-loop-d l = (length l.spans ≡ 4) × (take l.d l.spans ≡ take l.d (spans_of l.low l.high))
