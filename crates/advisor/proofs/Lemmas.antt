@@ -11,6 +11,6 @@ pub use Rattle.advisor.proofs.JudgedLaws.{plan_refused, told_good, told_many, to
 pub use Rattle.advisor.proofs.SteadyLaws.{all_steady, rows_more, part_steady, touched_more, long_ends, long_is, long_inside, long_touches}
 pub use Rattle.advisor.proofs.SweepLaws.{run_of_rows, run_of_none, rows_hold, rows_inside}
 pub use Rattle.advisor.proofs.WarmLaws.{warmed_inside, warmed_more, warmed_alike, heated_warmed, warmed_granules, none_touched, warm_touched, warm_few}
-pub use Rattle.advisor.proofs.PoolLaws.{all_behind, AreBehind, split_priced, first_lacks, rest_lacks, none_more}
+pub use Rattle.advisor.proofs.PoolLaws.{all_behind, AreBehind, split_priced, first_lacks, rest_lacks}
 pub use Rattle.advisor.proofs.Tried.{trials_now, marks_right, ArePushed, one_there, one_pushed}
 pub use Rattle.advisor.proofs.TriedRuns.{trials_to, tried_to}

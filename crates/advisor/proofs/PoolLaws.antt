@@ -53,12 +53,18 @@ module _ (table : Table) (granule : ℕ) (passes : List Pass) (path : List PathS
       → (judged granule first table.extents table.fields (under cells) ≡ Ok tt) × (judged granule rest table.extents table.fields (beside cells) ≡ Ok tt)
   sides_good good = grind (arith, sides_judged)
 
-  -- it is refused where a side is
-  pub first_lacks : IsSideCost table granule passes (under cells) first None → judge table granule (Split path first rest) ≡ Ok tt → ⊥
-  first_lacks none good = none (sides_good good).0
+  none_more : (pool : List Candidate) → (judge table granule (Split path first rest) ≡ Ok tt → ⊥)
+      → terms_in pool ≡ terms_in pool ++ filter (λ term. is_ok (judge table granule term)) (Split path first rest ∷ [])
+  none_more pool other = grind (arith, append-nil, not_ok)
 
-  pub rest_lacks : IsSideCost table granule passes (beside cells) rest None → judge table granule (Split path first rest) ≡ Ok tt → ⊥
-  rest_lacks none good = none (sides_good good).1
+  -- it is no candidate where a side is refused
+  pub first_lacks : (pool : List Candidate) → IsSideCost table granule passes (under cells) first None
+      → terms_in pool ≡ terms_in pool ++ filter (λ term. is_ok (judge table granule term)) (Split path first rest ∷ [])
+  first_lacks pool none = none_more pool (λ good. none (sides_good good).0)
+
+  pub rest_lacks : (pool : List Candidate) → IsSideCost table granule passes (beside cells) rest None
+      → terms_in pool ≡ terms_in pool ++ filter (λ term. is_ok (judge table granule term)) (Split path first rest ∷ [])
+  rest_lacks pool none = none_more pool (λ good. none (sides_good good).1)
 
   -- a candidate of it
   pub split_priced : (candidate : Candidate) (split : Term) (one two : ℕ) → IsSideCost table granule passes (under cells) first (Some one) → IsSideCost table granule passes (beside cells) rest (Some two)
@@ -70,7 +76,3 @@ module _ (table : Table) (granule : ℕ) (passes : List Pass) (path : List PathS
     each_leaf = grind (arith, length-holds, length-leaf_cells, length-map, leaves);
     holds = each;
   }
-
-  pub none_more : (pool : List Candidate) → (judge table granule (Split path first rest) ≡ Ok tt → ⊥)
-      → terms_in pool ≡ terms_in pool ++ filter (λ term. is_ok (judge table granule term)) (Split path first rest ∷ [])
-  none_more pool other = grind (arith, append-nil, not_ok)

@@ -1,11 +1,10 @@
 // The advice for some passes over a view.
-ghost use Rattle.std.specs.Prelude.{ℕ, ◌≡◌, ◌≤◌, ◌⊎◌, All, Ok, Err, Some, None, IfOk, OnOk, IfErr, length, map, take};
-ghost use Rattle.advisor.specs.Imports.{Term, term_of, uncounted, IsBuiltTerm, leaf_count_of, after_log, Read, all_accesses};
-ghost use Rattle.advisor.specs.Advice.{judge, candidates, advised, advice, told_by};
+ghost use Rattle.std.specs.Prelude.{◌≡◌, ◌≤◌, ◌⊎◌, All, Ok, Err, Some, None, IfOk, OnOk, IfErr, length, map};
+ghost use Rattle.advisor.specs.Imports.{term_of, uncounted, IsBuiltTerm, leaf_count_of, after_log, Read, all_accesses};
+ghost use Rattle.advisor.specs.Advice.{judge, candidates, advice, told_by};
 ghost use Rattle.advisor.specs.Judged.{first_judged_fault};
-ghost use Rattle.advisor.specs.Inner.Pools.{IsPriced, HasKnownHolds, terms_in};
+ghost use Rattle.advisor.specs.Inner.Pools.{IsPriced, terms_in};
 ghost use Rattle.advisor.specs.Inner.SideCosts.{IsPrice};
-ghost use Rattle.advisor.specs.Suits.{suits};
 
 use crate::advice::{Advice, AdviseFault};
 use crate::candidate::Candidate;
@@ -48,9 +47,8 @@ pub fn advise<L: Ledger>(
         passes: passes.as_slice(),
     };
     let pool = candidates(alloc, view, &price, maps.as_slice(), splits)?;
-    let advice = advice_among(alloc, view, pool.as_slice(), maps.len(), steps);
-    drop(pool);
-    Ok(advice?)
+    let marks = suiting(alloc, view, pool.as_slice(), steps)?;
+    Ok(advice_of(alloc, pool.as_slice(), marks.as_slice(), maps.len())?)
 }
 
 // The candidates, and the fault of the first listed one that is no layout within the limits.
@@ -69,48 +67,9 @@ fn candidates(
     ensures refused { IfErr result (λ e. (e ≡ AdviseFault.NoMemory) ⊎ (first_judged_fault (judge view.now price.now.granule) 0 (map uncounted (map term_of maps.now)) ≡ Some e)) }
 {
     let listed = uncounted(alloc, maps)?;
-    let pool = uncounted_candidates(alloc, view, price, listed.as_slice(), splits);
-    drop(listed);
-    pool
-}
-
-// The same of expressions without counters at their tops.
-fn uncounted_candidates(
-    alloc: Global,
-    view: &View,
-    price: &Price<'_>,
-    listed: &[MapExpr],
-    splits: bool,
-) -> Result<Vec<Candidate>, AdviseFault>
-    requires price { IsPrice price.now.granule price.now.passes.now }
-    requires built { All (λ expr. IsBuiltTerm (term_of expr)) listed.now }
-    ensures priced { IfOk result (λ pool. All (IsPriced view.now price.now.granule price.now.passes.now) pool.items) }
-    ensures terms { IfOk result (λ pool. terms_in pool.items ≡ candidates view.now price.now.granule (map term_of listed.now) splits) }
-    ensures good { OnOk result (first_judged_fault (judge view.now price.now.granule) 0 (map term_of listed.now) ≡ None) }
-    ensures refused { IfErr result (λ e. (e ≡ AdviseFault.NoMemory) ⊎ (first_judged_fault (judge view.now price.now.granule) 0 (map term_of listed.now) ≡ Some e)) }
-{
-    let mut pool = listed_candidates(alloc, view, price, listed)?;
+    let mut pool = listed_candidates(alloc, view, price, listed.as_slice())?;
     if splits {
-        push_splits(alloc, view, price, listed, &mut pool)?;
+        push_splits(alloc, view, price, listed.as_slice(), &mut pool)?;
     }
     Ok(pool)
-}
-
-// The advice among candidates, of which the first so many are listed.
-fn advice_among<L: Ledger>(
-    alloc: Global,
-    view: &mut View,
-    pool: &[Candidate],
-    listed: usize,
-    steps: &mut Steps<L>,
-) -> Result<Advice, NoMemory>
-    requires stored { All (HasKnownHolds view.old) pool.now }
-    requires listed { listed ≤ length pool.now }
-    ensures advice { IfOk result (λ told. (price : Term → ℕ) → All (λ candidate. candidate.cost ≡ price (term_of candidate.expr)) pool.now
-        → told_by told ≡ advised (suits view.old) price (take listed (terms_in pool.now)) (terms_in pool.now)) }
-    ensures read { OnOk result (view.new ≡ after_log view.old (all_accesses Read (leaf_count_of view.old) (length view.old.rows))) }
-    ensures table { view.new ≡ record view.old { tally = view.new.tally } }
-{
-    let marks = suiting(alloc, view, pool, steps)?;
-    advice_of(alloc, pool, marks.as_slice(), listed)
 }

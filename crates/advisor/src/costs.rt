@@ -30,7 +30,7 @@ pub fn part_cost(
     for pass in passes {
         let read = cells_read(alloc, pass, cells)?;
         let granules = touched(alloc, map, granule, read.as_slice())?;
-        cost += repeated(pass.times, granules);
+        cost += u64::from(pass.times) * granules;
     }
     Ok(cost)
 }
@@ -54,13 +54,4 @@ fn is_read(pass: &Pass, leaf: usize) -> bool
     ensures { result ≡ reads pass.now leaf }
 {
     pass.leaves.as_slice().contains(&leaf)
-}
-
-// What a pass costs that touches so many granules.
-fn repeated(times: u32, granules: u64) -> u64
-    requires { granules ≤ 2 ^ 24 }
-    ensures value { result ≡ times * granules }
-    ensures most { result ≤ 2 ^ 56 }
-{
-    u64::from(times) * granules
 }

@@ -19,6 +19,6 @@ loop-pass-preserved c =
     let count : c.in_ok-granules.granules ≡ touched (wanted c.pass-item.result) c.args.granule layout =
     c.in_ok-granules.ensures.value ∙ ap (λ (xs : List ℕ). touched (λ cell. list_any (λ other. other == cell) xs) c.args.granule layout) c.as_slice.ensures.value ∙ same in
     let costs : Pass → ℕ = λ p. p.times * touched (wanted p) c.args.granule layout in
-    let here : c.repeated-cost.result ≡ costs (get_or passes c.loop-pass.pass-index none) =
-    c.repeated-cost.ensures.value ∙ ap (λ (n : ℕ). c.pass-item.result.times * n) count ∙ ap costs pass in
+    let here : c.from.result * c.in_ok-granules.granules ≡ costs (get_or passes c.loop-pass.pass-index none) =
+    rw (c.from.ensures, count) (ap costs pass) in
     let more = sum_by_more costs passes c.loop-pass.pass-index none (omega arith) in grind (arith, sum_by)
