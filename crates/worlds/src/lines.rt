@@ -84,7 +84,8 @@ pub fn write_unread<K: Sink>(line: u64, name: &str, sink: &mut K) -> Result<(), 
     )
 }
 
-fn write_line<K: Sink>(parts: &[Part<'_>], sink: &mut K) -> Result<(), Failed>
+/// Writes parts one after another as one text.
+pub fn write_line<K: Sink>(parts: &[Part<'_>], sink: &mut K) -> Result<(), Failed>
     ensures { Writes K.taken K.faults sink.old sink.new result (flat_map text_of_part parts.now) }
 {
     let mut buffer = TextBuffer::new();
