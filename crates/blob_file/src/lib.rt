@@ -23,4 +23,4 @@ pub use fault::{FileFault, SaveEnd};
 pub use laws::{bits_law, body_law, file_law, opened_law, rows_law};
 pub use open::{mode_by, read_body, read_file};
 pub use save::{file_len, write_file};
-pub use texts::{record_text, view_text};
+pub use texts::{named, record_text, view_text};

@@ -53,8 +53,8 @@ fn text_of(alloc: Global, line: Line) -> Result<Text, NoMemory>
     text
 }
 
-// The name with this text.
-fn named(text: &str) -> Name
+/// The name with this text.
+pub fn named(text: &str) -> Name
     requires { IsTrue (is_name text.now) }
     ensures { result ≡ text.now }
 {
