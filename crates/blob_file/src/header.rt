@@ -135,14 +135,15 @@ fn is_named(name: &Name, text: &str) -> bool
     name.as_str() == text
 }
 
-// Whether an extent is left open.
+// Whether one of these extents is.
 fn has_rows(words: &[ExtentWord]) -> bool
     ensures { result ≡ list_any is_rows words.now }
 {
     words.iter().any(|word| is_rows(word))
 }
 
-fn is_rows(word: &ExtentWord) -> bool
+/// Whether an extent is left open.
+pub fn is_rows(word: &ExtentWord) -> bool
     ensures { result ≡ is_rows word.now }
 {
     matches!(word, ExtentWord::Rows)

@@ -20,6 +20,7 @@ mod save;
 mod texts;
 
 pub use fault::{FileFault, SaveEnd};
+pub use header::is_rows;
 pub use laws::{bits_law, body_law, file_law, opened_law, rows_law};
 pub use open::{mode_by, read_body, read_file};
 pub use save::{file_len, write_file};
