@@ -7,6 +7,7 @@ ghost use Rattle.command_checks.specs.Inner.Gives.{Gives};
 
 use crate::entries::ViewEntry;
 use crate::fault::StepFault;
+use blob_file::is_rows;
 use extents::{ExtentWord, Extents, Shape};
 use map_expr::MapExpr;
 use record_dim::Schema;
@@ -74,12 +75,6 @@ fn has_rows(words: &[ExtentWord]) -> bool
     ensures { result ≡ nat_lt 0 (count_by is_rows words.now) }
 {
     words.iter().filter(|word| is_rows(word)).count() > 0
-}
-
-fn is_rows(word: &ExtentWord) -> bool
-    ensures { result ≡ is_rows word.now }
-{
-    matches!(word, ExtentWord::Rows)
 }
 
 /// A view of zeros in this mode beside the views that live. One that is refused has taken no memory for its blobs.
