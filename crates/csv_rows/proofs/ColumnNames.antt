@@ -46,8 +46,7 @@ mutual
       let records = both (list_all has_names (records_of held)) (list_all has_names (records_below rest)) (sym (list_all-append has_names (records_of held) (records_below rest)) ∙ below) in
       let count = length-leaves name held rest in
       let inner = plain_tree held records.0 (omega arith) in
-      let later = plain_fields rest names.1 records.1 (omega arith) in
-      λ path i h. plain_either name held rest path i names.0 inner (λ k e. later path k e) (in_either _ _ i path (rw paths_field at h))
+      λ path i h. plain_either name held rest path i names.0 inner (λ k e. (plain_fields rest names.1 records.1 (omega arith)) path k e) (in_either _ _ i path (rw paths_field at h))
 
 -- the path of each leaf of a record begins with a name
 begins : (fields : Fields) (path : List PathStep) (i : ℕ) → slice_get (paths_of fields) i ≡ Some path → BeginsWithName path

@@ -122,9 +122,8 @@ end_here b c xs is other = grind arith
 pub end_found : (opens : Bool) (xs : List ℕ) (n : ℕ) → IsFirstByte (is_byte3 34 13 10) xs (Some n) → nat_eq (get_or xs n 0) 34 ≡ false → record_count (field_state opens) xs ≡ record_count st.StartRecord (drop n xs) + 1
 end_found opens xs n found other =
     let small : n < length xs = found.0.high in
-    let plain = plain_before xs n (omega arith) (λ k under. found.0.before k (omega arith) under) in
     let here : EndsHere (drop n xs) = subst EndsHere (sym (drop_more xs n 0 small)) (end_here (nat_eq (get_or xs n 0) 34) (get_or xs n 0) (drop (n + 1) xs) found.1 other) in
-    ap (record_count (field_state opens)) (sym (take-append-drop n xs)) ∙ ended opens (take n xs) (drop n xs) plain here
+    ap (record_count (field_state opens)) (sym (take-append-drop n xs)) ∙ ended opens (take n xs) (drop n xs) (plain_before xs n (omega arith) (λ k under. found.0.before k (omega arith) under)) here
 
 pub no_end_found : (opens : Bool) (xs : List ℕ) → IsFirstByte (is_byte3 34 13 10) xs None → record_count (field_state opens) xs ≡ record_count st.StartRecord (drop (length xs) xs) + 1
 no_end_found opens xs none =

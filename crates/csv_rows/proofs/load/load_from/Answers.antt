@@ -23,16 +23,15 @@ returns g c =
     let found : c.in_ok-next.field-0 ≡ true = search rules in
     let read = rw found at c.in_ok-next.ensures in
     let columns = rw c.schema-2.ensures.value at c.in_ok-columns.ensures.found in
-    let seen = c.args.view.now in
     let records = g.R.Records.left c.args.records.now in
     let fields = g.R.Records.fields c.next.new.self in
     let rows = g.R.Records.left c.leaf_columns.new.header in
     let result = c.load_records.result in
     let parts : records ≡ fields ∷ rows = read.1 ∙ ap (λ (others : List (List (List ℕ))). fields ∷ others) (sym c.in_ok-columns.ensures.asked.behind) in
-    let is = known_columns seen records fields rows c.in_ok-columns.columns.items parts columns in
+    let is = known_columns c.args.view.now records fields rows c.in_ok-columns.columns.items parts columns in
     record {
       loaded = subst (λ (table : Result (List (List ℤ)) RowFault). OnOk result (table ≡ Ok c.load_records.new.view.rows)) (sym is) (rw c.as_slice.ensures.value at c.load_records.ensures.loaded);
       refused = subst (λ (table : Result (List (List ℤ)) RowFault). IfErr result (λ f. (f ≡ NoMemory) ⊎ (table ≡ Err f))) (sym is) (rw c.as_slice.ensures.value at c.load_records.ensures.refused);
-      kept = dataset_keeps seen records fields rows c.in_ok-columns.columns.items c.load_records.new.view result parts columns (rw c.as_slice.ensures.value at c.load_records.ensures.kept);
+      kept = dataset_keeps c.args.view.now records fields rows c.in_ok-columns.columns.items c.load_records.new.view result parts columns (rw c.as_slice.ensures.value at c.load_records.ensures.kept);
       same = c.load_records.ensures.same;
     }
