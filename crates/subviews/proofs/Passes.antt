@@ -194,7 +194,6 @@ stored_more : (old view first buffer after : Table) (plan : Plan) (k outer : ℕ
 stored_more old view first buffer after plan k outer so_far at stored =
     let numbers = rows_of plan.window.now in
     let f : ℕ → ℤ = λ row. entry first.rows row plan.leaf in
-    let here = outer_at numbers k outer at in
     let small = slice_get_within numbers k outer at in
     let column = with_entries plan.leaf f (take k numbers) old.rows in
     let writes = round_writes (planned plan) (take k numbers) in
@@ -202,7 +201,7 @@ stored_more old view first buffer after plan k outer so_far at stored =
       stored = stored
           ∙ ap (λ (t : Table). after_stores t (with_entry t.rows outer plan.leaf (f outer)) (Write outer plan.leaf ∷ [])) so_far.stored
           ∙ after_stores-append old column (with_entry column outer plan.leaf (f outer)) writes (Write outer plan.leaf ∷ [])
-          ∙ ap (λ (r : ℕ). after_stores old (with_entry column r plan.leaf (f r)) (writes ++ Write r plan.leaf ∷ [])) (sym here)
+          ∙ ap (λ (r : ℕ). after_stores old (with_entry column r plan.leaf (f r)) (writes ++ Write r plan.leaf ∷ [])) (sym (outer_at numbers k outer at))
           ∙ ap (λ (r : List (List ℤ)). after_stores old r (writes ++ Write (get_or numbers k 0) plan.leaf ∷ [])) (sym (fold_more (λ table row. with_entry table row plan.leaf (f row)) old.rows numbers k 0 small))
           ∙ ap (after_stores old (with_entries plan.leaf f (take (k + 1) numbers) old.rows)) (map_front (λ row. Write row plan.leaf) numbers k 0 small);
       same = so_far.same;

@@ -77,7 +77,6 @@ summed_more old view after plan row place sum term at value kind small is light 
     let e = plan.window.now.0 in
     let terms = map weighted plan.terms.now in
     let within : place < length terms = omega (arith, small, length-map plan.terms.now weighted) in
-    let one = term_in plan place term small is in
     let rows : view.rows ≡ old.rows = ap (λ (t : Table). t.rows) so_far.read in
     let value_is : value ≡ entry old.rows (row_from e row term.offsets.items) term.leaf = reads ∙ ap (λ (r : List (List ℤ)). entry r at term.leaf) rows ∙ ap (λ (n : ℕ). entry old.rows n term.leaf) here in
     record {
@@ -86,7 +85,7 @@ summed_more old view after plan row place sum term at value kind small is light 
       read = last ∙ ap (λ (t : Table). after_read t at term.leaf) so_far.read
           ∙ ap (λ (n : ℕ). after_read (after_log old (map (term_read e row) (take place terms))) n term.leaf) here
           ∙ after_log-append old (map (term_read e row) (take place terms)) (term_read e row (weighted term) ∷ [])
-          ∙ ap (λ (t : Weighted). after_log old (map (term_read e row) (take place terms) ++ term_read e row t ∷ [])) (sym one)
+          ∙ ap (λ (t : Weighted). after_log old (map (term_read e row) (take place terms) ++ term_read e row t ∷ [])) (sym (term_in plan place term small is))
           ∙ ap (after_log old) (sym (map-append (term_read e row) (take place terms) (get_or terms place (weighted term) ∷ [])) ∙ ap (map (term_read e row)) (sym (take_more terms place (weighted term) within)));
     }
 

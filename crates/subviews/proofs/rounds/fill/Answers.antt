@@ -6,26 +6,21 @@ loop-row-init g c = record { filled = none_filled c.args.view.now c.args.buffer.
 
 pub loop-outer-init : goal.loop-outer-init
 loop-outer-init g c =
-    let plan = c.args.plan.now in
     let run = c.next_run-run.result in
-    let done = c.fill_run-done.result in
-    let place : run.row + done ≡ c.loop-row.row + (run.first + done - run.first) = omega (arith, c.next_run-run.ensures.row) in
-    let before : IsFilled c.args.view.now c.loop-row.view c.args.buffer.now c.loop-row.buffer plan run.row =
-    subst (λ (n : ℕ). IsFilled c.args.view.now c.loop-row.view c.args.buffer.now c.loop-row.buffer plan n) (sym c.next_run-run.ensures.row) c.loop-row.invariant.filled in
+    let place : run.row + c.fill_run-done.result ≡ c.loop-row.row + (run.first + c.fill_run-done.result - run.first) = omega (arith, c.next_run-run.ensures.row) in
+    let before : IsFilled c.args.view.now c.loop-row.view c.args.buffer.now c.loop-row.buffer c.args.plan.now run.row =
+    subst (λ (n : ℕ). IsFilled c.args.view.now c.loop-row.view c.args.buffer.now c.loop-row.buffer c.args.plan.now n) (sym c.next_run-run.ensures.row) c.loop-row.invariant.filled in
     record {
       low = omega arith;
       high = omega (arith, c.fill_run-done.ensures.few);
-      filled = subst (λ (n : ℕ). IsFilled c.args.view.now c.fill_run-done.new.view c.args.buffer.now c.fill_run-done.new.buffer plan n) place
+      filled = subst (λ (n : ℕ). IsFilled c.args.view.now c.fill_run-done.new.view c.args.buffer.now c.fill_run-done.new.buffer c.args.plan.now n) place
           (c.fill_run-done.ensures.filled c.args.view.now c.args.buffer.now c.requires.buffer before);
     }
 
 pub value_at-value-requires-clause-row_in : goal.value_at-value-requires-clause-row_in
 value_at-value-requires-clause-row_in g c =
-    let window = c.args.plan.now.window.now in
-    let run = c.next_run-run.result in
-    let outer = c.loop-outer.outer in
-    row_held window (c.loop-row.row + (outer - run.first)) outer
-    (run_at window run c.loop-row.row outer c.next_run-run.ensures.run c.next_run-run.ensures.row c.loop-outer.invariant.low c.loop-outer-test.true)
+    row_held c.args.plan.now.window.now (c.loop-row.row + (c.loop-outer.outer - c.next_run-run.result.first)) c.loop-outer.outer
+    (run_at c.args.plan.now.window.now c.next_run-run.result c.loop-row.row c.loop-outer.outer c.next_run-run.ensures.run c.next_run-run.ensures.row c.loop-outer.invariant.low c.loop-outer-test.true)
 
 pub overflow_add-outer-end : goal.overflow_add-outer-end
 overflow_add-outer-end g c = omega (arith, run_inside c.args.plan.now.window.now c.next_run-run.result c.next_run-run.ensures.run, c.requires.plan.rows)
@@ -58,13 +53,12 @@ loop-outer-preserved g c =
     let old = c.args.view.now in
     let first = c.args.buffer.now in
     let buffer = c.loop-outer.buffer in
-    let run = c.next_run-run.result in
     let outer = c.loop-outer.outer in
-    let k : ℕ = c.loop-row.row + (outer - run.first) in
+    let k : ℕ = c.loop-row.row + (outer - c.next_run-run.result.first) in
     let value = c.value_at-value.result in
     let so_far = c.loop-outer.invariant.filled in
     let table = c.laws_of_table.ensures.table in
-    let at = run_at plan.window.now run c.loop-row.row outer c.next_run-run.ensures.run c.next_run-run.ensures.row c.loop-outer.invariant.low c.loop-outer-test.true in
+    let at = run_at plan.window.now c.next_run-run.result c.loop-row.row outer c.next_run-run.ensures.run c.next_run-run.ensures.row c.loop-outer.invariant.low c.loop-outer-test.true in
     let below = row_inside plan.window.now outer (row_held plan.window.now k outer at) in
     let row_in = buffer_row old first buffer plan outer c.requires.plan c.requires.buffer (ap (λ (t : Table). t.extents) so_far.same) table below in
     let leaf_in = buffer_leaf old first buffer plan c.requires.plan c.requires.buffer (ap (λ (t : Table). t.fields) so_far.same) in
@@ -72,7 +66,7 @@ loop-outer-preserved g c =
     let answer = rw (to_z-of_z w128 value fits) at c.set.ensures.answer in
     let stored = rw (c.in_default.is, to_z-of_z w128 value fits) at c.set.ensures.stored in
     let taken = taken_here value (answer_of buffer plan.leaf value) c.set.result answer c.in_default.is in
-    let next : k + 1 ≡ c.loop-row.row + (outer + 1 - run.first) = omega (arith, c.loop-outer.invariant.low) in
+    let next : k + 1 ≡ c.loop-row.row + (outer + 1 - c.next_run-run.result.first) = omega (arith, c.loop-outer.invariant.low) in
     record {
       low = omega (arith, c.loop-outer.invariant.low);
       high = omega (arith, c.loop-outer-test.true);

@@ -27,11 +27,9 @@ returns-in-Ok-clause-filled g c = λ old first is so_far.
 
 pub returns-in-Err-clause-few : goal.returns-in-Err-clause-few
 returns-in-Err-clause-few g c =
-    let buffer = c.args.buffer.now in
-    let leaf = c.args.plan.now.leaf in
     let sums = c.sum_run.new.sums in
-    let end = count_refused (length sums) (run_fault leaf sums buffer) c.in-Err.fault (sym c.store_run.ensures.named ∙ c.in-Err.is) in
-    omega (arith, (are_taken (answer_of buffer) leaf 0 sums (length sums) (omega arith)).few, end, c.sum_run.ensures.count)
+    let end = count_refused (length sums) (run_fault c.args.plan.now.leaf sums c.args.buffer.now) c.in-Err.fault (sym c.store_run.ensures.named ∙ c.in-Err.is) in
+    omega (arith, (are_taken (answer_of c.args.buffer.now) c.args.plan.now.leaf 0 sums (length sums) (omega arith)).few, end, c.sum_run.ensures.count)
 
 pub returns-in-Err-clause-filled : goal.returns-in-Err-clause-filled
 returns-in-Err-clause-filled g c = λ old first is so_far.

@@ -41,17 +41,14 @@ returns-in_err-fill-clause-so_far g c =
 
 pub loop-round-preserved : goal.loop-round-preserved
 loop-round-preserved g c =
-    let old = c.args.view.now in
-    let view = c.loop-round.view in
-    let buffer = c.loop-round.buffer in
     let after = c.store_back.new.view in
     let after' = c.store_back.new.buffer in
     let plan : Plan = record { window = c.args.window; leaf = c.args.leaf; terms = c.args.terms; far = c.all_far.result; divisor = to_z w64 (of_z w64 c.from.result); near = c.are_near.result } in
-    let from = same_after old view c.args.buffer.now buffer (planned plan) c.loop-round._round c.loop-round.invariant.after in
-    let done = round_done old view c.fill.new.view after c.fill.new.buffer plan from c.in_ok-fill.ensures.fits c.in_ok-fill.ensures.read c.in_ok-fill.ensures.filled
+    let from = same_after c.args.view.now c.loop-round.view c.args.buffer.now c.loop-round.buffer (planned plan) c.loop-round._round c.loop-round.invariant.after in
+    let done = round_done c.args.view.now c.loop-round.view c.fill.new.view after c.fill.new.buffer plan from c.in_ok-fill.ensures.fits c.in_ok-fill.ensures.read c.in_ok-fill.ensures.filled
     c.store_back.ensures.stored in
     record {
       plan = c.loop-round.invariant.plan;
-      after = after_more old view after c.args.buffer.now buffer after' (planned plan) c.loop-round._round c.loop-round.invariant.after done.0 done.1
-          (buffer_same buffer c.fill.new.buffer after' c.fill.ensures.buffer c.store_back.ensures.buffer);
+      after = after_more c.args.view.now c.loop-round.view after c.args.buffer.now c.loop-round.buffer after' (planned plan) c.loop-round._round c.loop-round.invariant.after done.0 done.1
+          (buffer_same c.loop-round.buffer c.fill.new.buffer after' c.fill.ensures.buffer c.store_back.ensures.buffer);
     }

@@ -14,11 +14,10 @@ buffer_rows old view first buffer plan k is like so_far table = grind arith
 
 pub copy_back-requires-clause-rows_in : goal.copy_back-requires-clause-rows_in
 copy_back-requires-clause-rows_in g c =
-    let plan = c.args.plan.now in
     omega (
       arith,
-      run_inside plan.window.now c.next_run-run.result c.next_run-run.ensures.run,
-      view_rows c.args.view.now c.loop-row.view c.args.buffer.now c.loop-row.buffer plan c.loop-row.row c.requires.plan c.loop-row.invariant.stored c.laws_of_table.ensures.table,
+      run_inside c.args.plan.now.window.now c.next_run-run.result c.next_run-run.ensures.run,
+      view_rows c.args.view.now c.loop-row.view c.args.buffer.now c.loop-row.buffer c.args.plan.now c.loop-row.row c.requires.plan c.loop-row.invariant.stored c.laws_of_table.ensures.table,
     )
 
 pub loop-row-preserved : goal.loop-row-preserved

@@ -6,10 +6,9 @@ loop-place-init g c = record { sums = refl; small = omega arith; read = sym (aft
 
 pub row_away-at-requires : goal.row_away-at-requires
 row_away-at-requires g c =
-    let plan = c.args.plan.now in
     let view = c.args.view.now in
-    let fits : FitsSigned w64 (get_or plan.far c.loop-place.place (pos 0)) = search rules in
-    let to = reached view.fields view.extents plan c.args.row c.loop-place.place c.term-item.result c.requires.plan c.requires.row_in c.loop-place-test.true c.term-item.is in
+    let fits : FitsSigned w64 (get_or c.args.plan.now.far c.loop-place.place (pos 0)) = search rules in
+    let to = reached view.fields view.extents c.args.plan.now c.args.row c.loop-place.place c.term-item.result c.requires.plan c.requires.row_in c.loop-place-test.true c.term-item.is in
     record {
       here = omega (arith, to.here, to.few);
       low = omega (arith, ints, fits, to.away, to.inside, to.few);
@@ -18,11 +17,10 @@ row_away-at-requires g c =
 
 pub get-requires-clause-row_in : goal.get-requires-clause-row_in
 get-requires-clause-row_in g c =
-    let plan = c.args.plan.now in
     let view = c.args.view.now in
-    let fits : FitsSigned w64 (get_or plan.far c.loop-place.place (pos 0)) = search rules in
-    let to = reached view.fields view.extents plan c.args.row c.loop-place.place c.term-item.result c.requires.plan c.requires.row_in c.loop-place-test.true c.term-item.is in
-    let rows : length (indices plan.window.now.0) ≡ length view.rows = ap (λ (e : List ℕ). length (indices e)) c.requires.plan.window ∙ sym c.laws_of_table.ensures.table.rows in
+    let fits : FitsSigned w64 (get_or c.args.plan.now.far c.loop-place.place (pos 0)) = search rules in
+    let to = reached view.fields view.extents c.args.plan.now c.args.row c.loop-place.place c.term-item.result c.requires.plan c.requires.row_in c.loop-place-test.true c.term-item.is in
+    let rows : length (indices c.args.plan.now.window.now.0) ≡ length view.rows = ap (λ (e : List ℕ). length (indices e)) c.requires.plan.window ∙ sym c.laws_of_table.ensures.table.rows in
     omega (arith, ints, fits, to.away, to.inside, to.here, to.few, rows, ap (λ (t : Table). length t.rows) c.loop-place.invariant.read)
 
 pub overflow_mul-sum : goal.overflow_mul-sum

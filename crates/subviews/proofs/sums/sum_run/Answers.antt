@@ -4,11 +4,10 @@ use Rattle.subviews.proofs.sums.sum_run.Goals as goal
 pub row_away-first-requires : goal.row_away-first-requires
 row_away-first-requires g c =
     let plan = c.args.plan.now in
-    let view = c.args.view.now in
     let fits : FitsSigned w64 (get_or plan.far c.loop-place.place (pos 0)) = search rules in
     let run = c.args.run in
     let held = row_held plan.window.now run.row run.first (run_first (rows_of plan.window.now) run.row run.first run.rows c.requires.run.each c.requires.run.some) in
-    let to = reached view.fields view.extents plan run.first c.loop-place.place c.term-item.result c.requires.plan held c.loop-place-test.true c.term-item.is in
+    let to = reached c.args.view.now.fields c.args.view.now.extents plan run.first c.loop-place.place c.term-item.result c.requires.plan held c.loop-place-test.true c.term-item.is in
     record {
       here = omega (arith, to.here, to.few);
       low = omega (arith, ints, fits, to.away, to.inside, to.few);
