@@ -7,8 +7,7 @@ none = record { signed = false; width = 0 }
 pub loop-cell-preserved : goal.loop-cell-preserved
 loop-cell-preserved g c =
     let holds = g.M.Mapping.hold_list c.args.mapping.now in
-    let cell = c.loop-cell.cell in
-    let here : get_or holds cell none ≡ c.hold.result = get_or_from_slice_get holds cell c.hold.result none c.hold.ensures in grind (arith, take_more)
+    let here : get_or holds c.loop-cell.cell none ≡ c.hold.result = get_or_from_slice_get holds c.loop-cell.cell c.hold.result none c.hold.ensures in grind (arith, take_more)
 
 pub returns-clause-each : goal.returns-clause-each
 returns-clause-each g c =

@@ -7,7 +7,6 @@ returns-clause-priced c =
     let m = c.in_ok-map.map.mapping in
     let kinds = leaf_types_of v in
     let term = term_of c.args.expr.now in
-    let passes = c.args.price.now.passes.now in
     let granule = c.args.price.now.granule in
     let layout = layout_of (term_of m.expr) m.extents (schema_fields m.schema) m.cells.items in
     let widths : List ℕ = map (λ (h : Hold). h.width) m.plan.holds in
@@ -21,9 +20,9 @@ returns-clause-priced c =
     let cells_are : c.as_slice.result.now ≡ leaf_cells kinds = c.as_slice.ensures ∙ c.requires.cells in
     record {
       cost_is = c.in_ok-cost.ensures.value
-          ∙ ap (λ (cells : List Cell). part_cost passes granule (leaves_in cells) layout) cells_are
-          ∙ whole_cost passes granule kinds layout (length (indices m.extents)) widths c.laws_of.ensures.lawful long
-          ∙ ap (λ (l : List (List Owner)). cost passes granule l) (layout_is ∙ ap (λ (t : Term). layout_of t v.extents v.fields (leaf_cells kinds)) (sym same_term));
+          ∙ ap (λ (cells : List Cell). part_cost c.args.price.now.passes.now granule (leaves_in cells) layout) cells_are
+          ∙ whole_cost c.args.price.now.passes.now granule kinds layout (length (indices m.extents)) widths c.laws_of.ensures.lawful long
+          ∙ ap (λ (l : List (List Owner)). cost c.args.price.now.passes.now granule l) (layout_is ∙ ap (λ (t : Term). layout_of t v.extents v.fields (leaf_cells kinds)) (sym same_term));
       holds_are = holds ∙ ap (λ (t : Term). holds_of t v.fields (leaf_cells kinds)) (sym same_term);
       each_leaf = ap (length {A = Hold}) holds ∙ length-holds term v.fields (leaf_cells kinds) ∙ many ∙ length-map (leaves v.fields) (λ (one : Leaf). one.kind);
       holds = c.in_ok-holds.ensures.each;

@@ -12,14 +12,13 @@ touch_slots-requires-clause-inside c = λ k low at d small.
 
 pub loop-slot-preserved : goal.loop-slot-preserved
 loop-slot-preserved c =
-    let rule = c.args.rule.now in
     let extents = c.args.extents.now in
-    let pieces = rule.pieces.items in
+    let pieces = c.args.rule.now.pieces.items in
     let granule = c.args.granule in
     let slot = c.loop-slot.slot in
     let count = c.run_from-run.result.slots in
     let before = heat_counts c.args.heat.now in
     let so_far = c.loop-slot.invariant.warmed in
-    let rows : ℕ → ℕ → ℕ → ℕ → Bool = are_rows_touched granule rule.order extents pieces in
+    let rows : ℕ → ℕ → ℕ → ℕ → Bool = are_rows_touched granule c.args.rule.now.order extents pieces in
     let low : slot + count ≤ c.slots_of-slots.result = omega (arith, c.run_from-run.ensures.few, c.loop-slot-test.true) in
     grind (arith, goal.then-run, warmed_more, rows_more, run_of_rows, goal.else-run, warmed_alike, run_of_none, or-false)

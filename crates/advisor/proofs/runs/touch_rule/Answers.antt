@@ -16,9 +16,8 @@ touch_run-requires-clause-steady c =
 
 pub touch_run-requires-clause-inside : goal.touch_run-requires-clause-inside
 touch_run-requires-clause-inside c = λ k low.
-    let done = c.loop-done.done in
-    let slot = c.args.start + done + k in
-    let at : c.args.start + (done + k) ≡ slot = omega arith in grind (arith, warmed_inside)
+    let slot = c.args.start + c.loop-done.done + k in
+    let at : c.args.start + (c.loop-done.done + k) ≡ slot = omega arith in grind (arith, warmed_inside)
 
 pub loop-done-preserved : goal.loop-done-preserved
 loop-done-preserved c =

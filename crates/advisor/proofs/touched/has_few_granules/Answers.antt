@@ -17,11 +17,10 @@ pub returns-then-granules-left : goal.returns-then-granules-left
 returns-then-granules-left g c =
     let layout = g.M.Mapping.layout c.args.mapping.now in
     let lengths = blob_lengths layout in
-    let granule = c.args.granule in
     let many = length-map layout (λ (owners : List Owner). length owners / 8) in
-    let more = sum_by_more (granules_of granule) lengths c.loop-blob.blob 0 (omega arith) in
-    let part = sum_by-take-le (granules_of granule) lengths (c.loop-blob.blob + 1) in
-    sym (lt-leb (granules_in granule lengths) (2 ^ 24) (omega (arith, now g ((goal.at.returns-then-granules-left g c).After-div_ceil-granules), more, part, c.loop-blob.invariant)))
+    let more = sum_by_more (granules_of c.args.granule) lengths c.loop-blob.blob 0 (omega arith) in
+    let part = sum_by-take-le (granules_of c.args.granule) lengths (c.loop-blob.blob + 1) in
+    sym (lt-leb (granules_in c.args.granule lengths) (2 ^ 24) (omega (arith, now g ((goal.at.returns-then-granules-left g c).After-div_ceil-granules), more, part, c.loop-blob.invariant)))
 
 pub loop-blob-preserved : goal.loop-blob-preserved
 loop-blob-preserved g c =

@@ -13,11 +13,10 @@ loop-cell-preserved c =
 pub returns-clause-value : goal.returns-clause-value
 returns-clause-value c =
     let layout = layout_in c.args.map.now in
-    let granule = c.args.granule in
-    let start = no_heat granule (blob_lengths layout) in
+    let start = no_heat c.args.granule (blob_lengths layout) in
     let heat = heat_counts c.loop-cell.heat in
     c.warm_granules.ensures.value
-    ∙ warm_touched layout granule c.args.cells.now heat c.loop-cell.invariant.granules
+    ∙ warm_touched layout c.args.granule c.args.cells.now heat c.loop-cell.invariant.granules
     (grind (arith, list_any, take_all))
 
 empty : (xs : List ℕ) → length xs ≡ 0 → xs ≡ []
@@ -26,7 +25,6 @@ empty (x ∷ xs) e = absurd (omega (arith, e))
 
 pub returns-then-is_empty-clause-value : goal.returns-then-is_empty-clause-value
 returns-then-is_empty-clause-value c =
-    let cells = c.args.cells.now in
     let layout = layout_in c.args.map.now in
-    let none : cells ≡ [] = empty cells (eqb-true (length cells) 0 (sym c.is_empty.ensures ∙ c.if-is_empty.true)) in
+    let none : c.args.cells.now ≡ [] = empty c.args.cells.now (eqb-true (length c.args.cells.now) 0 (sym c.is_empty.ensures ∙ c.if-is_empty.true)) in
     sym (ap (λ (cs : List ℕ). touched (λ cell. list_any (λ other. other == cell) cs) c.args.granule layout) none ∙ none_touched c.args.granule layout)

@@ -4,7 +4,6 @@ use Rattle.advisor.proofs.trials.push_trials.Goals as goal
 pub loop-leaf-preserved : goal.loop-leaf-preserved
 loop-leaf-preserved c =
     let fields = schema_fields c.args.schema.now in
-    let before = c.args.trials.now.items in
     let holds = c.args.holds.now in
     let leaf = c.loop-leaf.leaf in
     let trials = c.loop-leaf.trials.items in
@@ -12,8 +11,8 @@ loop-leaf-preserved c =
     let items = c.as_slice.ensures.value in
     elim c.if-not-has_trial.branch [
       | goal.then-not-has_trial+in_ok-push w ↦ rw w.trials-is
-          (subst (λ (ts : List Trial). ArePushed fields before holds (leaf + 1) ts) (sym w.in_ok-push.ensures.items)
-          (one_pushed fields before holds leaf trials c.loop-leaf.invariant _
+          (subst (λ (ts : List Trial). ArePushed fields c.args.trials.now.items holds (leaf + 1) ts) (sym w.in_ok-push.ensures.items)
+          (one_pushed fields c.args.trials.now.items holds leaf trials c.loop-leaf.invariant _
           (record {
             inside = omega (arith, c.requires.each);
             kind_is = sym (get_or_from_slice_get (kinds_of fields) leaf w.leaf_type.result _ w.leaf_type.ensures);
@@ -21,6 +20,6 @@ loop-leaf-preserved c =
           })
           refl refl (sym here)))
       | goal.else-not-has_trial w ↦ rw w.trials-is
-          (one_there fields before holds leaf trials c.loop-leaf.invariant
+          (one_there fields c.args.trials.now.items holds leaf trials c.loop-leaf.invariant
           (ap (λ (h : Hold). has_trial trials leaf h) here ∙ ap (λ (ts : List Trial). has_trial ts leaf c.hold_at-hold.result) (sym items) ∙ sym c.has_trial.ensures ∙ w.if-not-has_trial.false))
     ]

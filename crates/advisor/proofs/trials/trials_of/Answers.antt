@@ -6,11 +6,10 @@ loop-at-preserved c =
     let pool = c.args.pool.now in
     let at = c.loop-at.at in
     let it = get_or pool at c.index-pool-at.result in
-    let trials = c.push_trials.new.trials.items in
-    let has = λ (candidate : Candidate). HasTrials trials candidate.holds (length candidate.holds) in
+    let has = λ (candidate : Candidate). HasTrials c.push_trials.new.trials.items candidate.holds (length candidate.holds) in
     let taken : take (at + 1) pool ≡ take at pool ++ it ∷ [] =
     take_more pool at c.index-pool-at.result (omega arith) in
-    let here : has it = subst (λ (hs : List Hold). HasTrials trials hs (length hs)) c.as_slice.ensures c.in_ok-push_trials.ensures.all in
+    let here : has it = subst (λ (hs : List Hold). HasTrials c.push_trials.new.trials.items hs (length hs)) c.as_slice.ensures c.in_ok-push_trials.ensures.all in
     record {
       trials = c.in_ok-push_trials.ensures.trials;
       fresh = c.in_ok-push_trials.ensures.fresh;
