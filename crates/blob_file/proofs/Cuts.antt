@@ -30,8 +30,7 @@ cut_at (byte ∷ bytes) zero inside is before = let yes : (byte == 10) ≡ true 
 cut_at (byte ∷ bytes) (suc end) inside is before =
     let no : (byte == 10) ≡ false = ne_eqb byte 10 (before 0 (omega arith)) in
     let next : suc end + 1 ≡ suc (end + 1) = omega arith in
-    let rest = cut_at bytes end (omega (arith, inside)) is (λ k l. before (suc k) (omega (arith, l))) in
-    rw (no, next) (ap (option_map (λ (found : List ℕ × List ℕ). (byte ∷ found.0, found.1))) rest)
+    rw (no, next) (ap (option_map (λ (found : List ℕ × List ℕ). (byte ∷ found.0, found.1))) (cut_at bytes end (omega (arith, inside)) is (λ k l. before (suc k) (omega (arith, l)))))
 
 -- the same by the slices before and behind it
 pub cut_slices : (bytes : List ℕ) (end : ℕ) → end < length bytes → get_or bytes end 0 ≡ 10 → ((k : ℕ) → k < end → get_or bytes k 0 ≡ 10 → ⊥) →

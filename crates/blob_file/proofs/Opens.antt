@@ -98,10 +98,9 @@ module _ (bytes : List ℕ) (saved : Saved) (e : opened bytes ≡ Ok saved) wher
 pub read_is_file : (bytes : List ℕ) (result : Result Table FileFault) → IsRead (opened bytes) result → IfOk result (λ table. IsFile bytes (header_of table) (blobs_of table))
 read_is_file bytes (Ok table) read =
     let saved = read.0 in
-    let file = file_is bytes saved read.1 in
     let blobs : saved.blobs ≡ image_bytes saved.header (rows_in saved.header saved.blobs) =
     (contents_rows saved.header (lawful saved.header (opened_texts bytes saved read.1).nameless (opened_lies bytes saved read.1)) (paired saved.header) saved.blobs (found bytes saved read.1).contents).1 in
-    subst (λ (t : Table). IsFile bytes (header_of t) (blobs_of t)) (sym read.2) (subst (λ (b : List (List ℕ)). IsFile bytes saved.header b) blobs file)
+    subst (λ (t : Table). IsFile bytes (header_of t) (blobs_of t)) (sym read.2) (subst (λ (b : List (List ℕ)). IsFile bytes saved.header b) blobs (file_is bytes saved read.1))
 read_is_file bytes (Err why) read = tt
 
 module _ (one_reading : (version : Version) (text : List ℕ) (a b : Sentence) → Reads version text a → Reads version text b → a ≡ b)

@@ -3,27 +3,24 @@ use Rattle.blob_file.proofs.blobs_in.has_blobs.Goals as goal
 
 pub returns-then-not-is_same-clause-other : goal.returns-then-not-is_same-clause-other
 returns-then-not-is_same-clause-other c =
-    let table = c.args.view.now in
     let b = c.loop-b.b in
-    let inside : b < length (owners_of table) = omega (arith, c.requires) in
-    let is : c.blob-own.result.now ≡ get_or (blobs_of table) b [] = blob_saved table b c.blob-own.result.now inside c.bytes_law.ensures c.blob-own.ensures in
+    let inside : b < length (owners_of c.args.view.now) = omega (arith, c.requires) in
+    let is : c.blob-own.result.now ≡ get_or (blobs_of c.args.view.now) b [] = blob_saved c.args.view.now b c.blob-own.result.now inside c.bytes_law.ensures c.blob-own.ensures in
     let at : c.index-blobs-b.result ≡ get_or c.args.blobs.now b [] = c.index-blobs-b.is ∙ get_or_default c.args.blobs.now b _ [] (omega arith) in
     let no : c.is_same.result ≡ false = search rules in
     λ over same. c.is_same.ensures.apart no (is ∙ ap (λ (blobs : List (List ℕ)). get_or blobs b []) same ∙ sym at)
 
 pub loop-b-preserved : goal.loop-b-preserved
 loop-b-preserved c =
-    let table = c.args.view.now in
     let b = c.loop-b.b in
-    let inside : b < length (owners_of table) = omega (arith, c.requires) in
-    let is : c.blob-own.result.now ≡ get_or (blobs_of table) b [] = blob_saved table b c.blob-own.result.now inside c.bytes_law.ensures c.blob-own.ensures in
+    let inside : b < length (owners_of c.args.view.now) = omega (arith, c.requires) in
+    let is : c.blob-own.result.now ≡ get_or (blobs_of c.args.view.now) b [] = blob_saved c.args.view.now b c.blob-own.result.now inside c.bytes_law.ensures c.blob-own.ensures in
     let yes : c.is_same.result ≡ true = search rules in
     let at : c.index-blobs-b.result ≡ get_or c.args.blobs.now b [] = c.index-blobs-b.is ∙ get_or_default c.args.blobs.now b _ [] (omega arith) in
     let same : c.blob-own.result.now ≡ get_or c.args.blobs.now b [] = c.is_same.ensures.same yes ∙ at in grind (arith, cases_lt)
 
 pub returns-clause-own : goal.returns-clause-own
 returns-clause-own c =
-    let table = c.args.view.now in
     let over : length c.args.blobs.now ≤ c.loop-b.b = omega arith in
-    let long : length (blobs_of table) ≡ length c.args.blobs.now = blob_count table ∙ sym c.requires in
-    λ yes. ext_get_or [] (blobs_of table) c.args.blobs.now long (λ at small. c.loop-b.invariant at (omega (arith, small, long, over)))
+    let long : length (blobs_of c.args.view.now) ≡ length c.args.blobs.now = blob_count c.args.view.now ∙ sym c.requires in
+    λ yes. ext_get_or [] (blobs_of c.args.view.now) c.args.blobs.now long (λ at small. c.loop-b.invariant at (omega (arith, small, long, over)))

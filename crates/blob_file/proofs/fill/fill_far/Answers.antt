@@ -55,15 +55,14 @@ loop-k-preserved g c =
 pub returns-in_err-set-clause-refused : goal.returns-in_err-set-clause-refused
 returns-in_err-set-clause-refused g c =
     let at = (goal.at.returns-in_err-set-clause-refused g c).After-set in
-    let old : Table = c.args.view.now in
-    let raw : List (List ℤ) = raw_in (header_of old) c.args.blobs.now in
+    let raw : List (List ℤ) = raw_in (header_of c.args.view.now) c.args.blobs.now in
     let value : ℤ = entry raw (c.args.first + c.loop-k.k) c.args.leaf in
     let is : c.from_residual.result ≡ Err Contents = search (c.from_residual.ensures, rules) in
     let no : c.set.result ≡ Err c.in_err-set.field-0.0 = search rules in
     rw is (
       refl,
       λ all.
-          (let yes : is_ok (answer_of old c.args.leaf value) ≡ true = all (c.args.first + c.loop-k.k) (omega arith) (omega arith) in
-          let clash : is_ok c.set.result ≡ true = ap (λ (r : Result Unit StoreFault). is_ok r) (answer g at) ∙ told_same (answer_of old c.args.leaf value) ∙ yes in
+          (let yes : is_ok (answer_of c.args.view.now c.args.leaf value) ≡ true = all (c.args.first + c.loop-k.k) (omega arith) (omega arith) in
+          let clash : is_ok c.set.result ≡ true = ap (λ (r : Result Unit StoreFault). is_ok r) (answer g at) ∙ told_same (answer_of c.args.view.now c.args.leaf value) ∙ yes in
           absurd (let none = rw no at clash in cc none)),
     )

@@ -10,19 +10,15 @@ returns-clause-taken g c =
 pub returns-clause-stored : goal.returns-clause-stored
 returns-clause-stored g c =
     let old : Table = c.args.view.now in
-    let leaf : ℕ = c.args.leaf in
-    let first : ℕ = c.args.first in
-    let lows : List ℤ = c.read_fitting.new.lows in
     let raw : List (List ℤ) = raw_in (header_of old) c.args.blobs.now in
-    let kept : map (raised (leaf_type_of old leaf)) lows ≡ kept_run leaf first (length lows) old raw =
-    fitting_kept old c.args.blobs.now c.schema.ensures.table c.schema.ensures.paired leaf first lows c.requires.leaf_in (c.if-not-read_fitting.ensures.fitting refl)
+    let kept : map (raised (leaf_type_of old c.args.leaf)) c.read_fitting.new.lows ≡ kept_run c.args.leaf c.args.first (length c.read_fitting.new.lows) old raw =
+    fitting_kept old c.args.blobs.now c.schema.ensures.table c.schema.ensures.paired c.args.leaf c.args.first c.read_fitting.new.lows c.requires.leaf_in (c.if-not-read_fitting.ensures.fitting refl)
     (omega (arith, c.read_fitting.ensures.count, c.requires.rows_in)) in grind arith
 
 pub returns-clause-steps : goal.returns-clause-steps
 returns-clause-steps g c =
-    let old : Table = c.args.view.now in
-    let kind_is : leaf_type_of old c.args.leaf ≡ c.leaf_type-kind.result =
-    get_or_from_slice_get (leaf_types_of old) c.args.leaf c.leaf_type-kind.result Truth (rw c.schema.ensures.value at c.leaf_type-kind.ensures) in
-    let run : run_steps (leaf_type_of old c.args.leaf) (length c.read_fitting.new.lows) ≡ run_steps c.leaf_type-kind.result (length c.read_fitting.new.lows) =
+    let kind_is : leaf_type_of c.args.view.now c.args.leaf ≡ c.leaf_type-kind.result =
+    get_or_from_slice_get (leaf_types_of c.args.view.now) c.args.leaf c.leaf_type-kind.result Truth (rw c.schema.ensures.value at c.leaf_type-kind.ensures) in
+    let run : run_steps (leaf_type_of c.args.view.now c.args.leaf) (length c.read_fitting.new.lows) ≡ run_steps c.leaf_type-kind.result (length c.read_fitting.new.lows) =
     ap (λ (kind : LeafType). run_steps kind (length c.read_fitting.new.lows)) kind_is in
     omega (arith, c.put_run.ensures.steps, c.count_rest.ensures, run, c.read_fitting.ensures.count)

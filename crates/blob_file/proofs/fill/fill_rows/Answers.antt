@@ -36,21 +36,17 @@ loop-first-preserved g c =
 
 pub returns-in_err-fill_run-clause-refused : goal.returns-in_err-fill_run-clause-refused
 returns-in_err-fill_run-clause-refused g c =
-    let old : Table = c.args.view.now in
-    let now : Table = c.loop-first.view in
-    let blobs : List (List ℕ) = c.args.blobs.now in
-    let first : ℕ = c.loop-first.first in
     let rows : ℕ = c.min-rows.result in
     let held = c.loop-first.invariant in
     let told = c.in_err-fill_run.ensures.refused in
-    let all_rows : length (indices c.extents.result) ≡ length old.rows = ap (λ (e : List ℕ). length (indices e)) c.extents.ensures.value ∙ sym c.extents.ensures.table.rows in
+    let all_rows : length (indices c.extents.result) ≡ length c.args.view.now.rows = ap (λ (e : List ℕ). length (indices e)) c.extents.ensures.value ∙ sym c.extents.ensures.table.rows in
     let long : length (take rows c.loop-first.lows) ≡ rows = length-take-le rows c.loop-first.lows (omega (arith, held.lows, c.rows_at_once-most.ensures.few)) in
     let is : c.from_residual.result ≡ Err c.in_err-fill_run.field-0.0 = search rules in
     rw is (
       told.0,
       λ all.
-          told.1 (subst (λ (n : ℕ). AreTaken (leaf_count_of now) first n now (raw_in (header_of now) blobs)) (sym long)
-          (subst (λ (t : Table). AreTaken (leaf_count_of t) first rows t (raw_in (header_of t) blobs)) (sym held.same)
+          told.1 (subst (λ (n : ℕ). AreTaken (leaf_count_of c.loop-first.view) c.loop-first.first n c.loop-first.view (raw_in (header_of c.loop-first.view) c.args.blobs.now)) (sym long)
+          (subst (λ (t : Table). AreTaken (leaf_count_of t) c.loop-first.first rows t (raw_in (header_of t) c.args.blobs.now)) (sym held.same)
           (λ leaf few row low high. all row leaf (omega (arith, high, all_rows, c.count-count.ensures.rows)) few))),
     )
 

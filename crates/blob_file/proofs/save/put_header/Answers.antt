@@ -4,17 +4,13 @@ use Rattle.blob_file.proofs.save.put_header.Goals as goal
 pub returns-in_err-put : goal.returns-in_err-put
 returns-in_err-put g c =
     let err : IsErr c.from_residual.result = search rules in
-    let first = c.args.first.now in
-    let second = c.args.second.now in
-    Puts-stopped c.from_residual.result (second ++ 10 ∷ []) err (Puts-stopped c.from_residual.result (first ++ 10 ∷ []) err
-    (Puts-stop c.from_residual.result (four_bytes (length (two_lines first second))) err c.in_err-put.ensures))
+    Puts-stopped c.from_residual.result (c.args.second.now ++ 10 ∷ []) err (Puts-stopped c.from_residual.result (c.args.first.now ++ 10 ∷ []) err
+    (Puts-stop c.from_residual.result (four_bytes (length (two_lines c.args.first.now c.args.second.now))) err c.in_err-put.ensures))
 
 pub returns-in_err-put-2 : goal.returns-in_err-put-2
 returns-in_err-put-2 g c =
     let err : IsErr c.from_residual-in_err-put-2.result = search rules in
-    let first = c.args.first.now in
-    let second = c.args.second.now in
-    Puts-stopped c.from_residual-in_err-put-2.result (second ++ 10 ∷ []) err (Puts-stop c.from_residual-in_err-put-2.result (first ++ 10 ∷ []) err
+    Puts-stopped c.from_residual-in_err-put-2.result (c.args.second.now ++ 10 ∷ []) err (Puts-stop c.from_residual-in_err-put-2.result (c.args.first.now ++ 10 ∷ []) err
     (Puts-append c.in_ok-put.ensures (rw c.size_of-size.ensures at c.in_err-put-2.ensures)))
 
 pub returns-in_err-put_line : goal.returns-in_err-put_line

@@ -6,11 +6,10 @@ returns-in_err-put_file-clause-saved g c = grind (arith, common_steps, file_text
 
 pub returns-clause-saved : goal.returns-clause-saved
 returns-clause-saved g c =
-    let table = c.args.view.now in
     let first = c.as_bytes.result.now in
     let second = c.as_bytes-2.result.now in
-    let one : first ≡ record_text (header_of table) = search rules in
-    let two : second ≡ view_text (header_of table) = search rules in (
+    let one : first ≡ record_text (header_of c.args.view.now) = search rules in
+    let two : second ≡ view_text (header_of c.args.view.now) = search rules in (
       c.in_ok-record.ensures.short,
-      subst (λ (text : List ℕ). Wrote g.K.Sink.taken g.K.Sink.faults c.args.sink.now c.put_file.new.sink text) (file_text table first second one two) c.in_ok-put_file.ensures,
+      subst (λ (text : List ℕ). Wrote g.K.Sink.taken g.K.Sink.faults c.args.sink.now c.put_file.new.sink text) (file_text c.args.view.now first second one two) c.in_ok-put_file.ensures,
     )
