@@ -14,5 +14,4 @@ returns-in-Ok-clause-rows c = grind (arith, common_steps, rows_are)
 
 pub returns-in-Err-clause-extents : goal.returns-in-Err-clause-extents
 returns-in-Err-clause-extents c =
-    let told = resolves_not c.args.shape.now c.rows_for.result c.in-Err.bad c.in-Err.ensures.first in
-    sym (rows_for_same c.args.words.now c.args.rows) ∙ (rw (c.requires.words, c.rows_for.ensures) at told)
+    sym (rows_for_same c.args.words.now c.args.rows) ∙ (rw (c.requires.words, c.rows_for.ensures) at (resolves_not c.args.shape.now c.rows_for.result c.in-Err.bad c.in-Err.ensures.first))
