@@ -67,10 +67,9 @@ copy_within world name target_name views source target d before after is one two
     let still = none places in
     rw same (omega (arith, still)))
     (λ (differ : same_name name target_name ≡ false).
-    let pair = two_places world name target_name views source target d is one two in
     let within : WithinCost (copied_pair world name target_name) before after = ⊎_elim
     (λ (places : source ≡ target). none_taken (copied_pair world name target_name) before after (none places))
-    (λ (apart : source ≡ target → ⊥). subst (λ (p : Tested Pair). WithinCost p before after) (sym pair) (bound apart))
+    (λ (apart : source ≡ target → ⊥). subst (λ (p : Tested Pair). WithinCost p before after) (sym (two_places world name target_name views source target d is one two)) (bound apart))
     (cases_eq source target) in
     rw differ within)
     (cases_Bool (same_name name target_name))

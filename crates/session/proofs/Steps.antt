@@ -25,10 +25,9 @@ pub steps_read : {K : Type 0} (taken : K → Option (List ℕ)) (faults : K → 
     → StepsTo (ending_of (file_read_by sentence)) Stands taken faults old old (step world sentence files) read_failed result
 steps_read taken faults old world sentence name outcome told files read_failed result is same loads given =
     let whole : (unread : Bool) → step world sentence files unread ≡ outcome files unread = λ unread. step_is world sentence files unread ∙ same files unread in
-    let first = subst (λ (o : Outcome Left). ToldFor told o files) (whole true) given in
     steps_same (ending_of (file_read_by sentence)) Stands taken faults old old (step world sentence files) (outcome files) read_failed result whole
     (subst (λ (file : Option (List ℕ)). StepsTo {F = StepFault} (ending_of file) Stands taken faults old old (outcome files) read_failed result) (sym is)
-    (steps_load taken faults old name (outcome files) read_failed result (loads first)))
+    (steps_load taken faults old name (outcome files) read_failed result (loads (subst (λ (o : Outcome Left). ToldFor told o files) (whole true) given))))
 
 pub unread_read : (world : World) (sentence : Sentence) (name : List ℕ) (outcome : List File → Bool → Outcome Left) (result : Result Session StepFault) →
     file_read_by sentence ≡ Some name → ((files : List File) (unread : Bool) → command world sentence files unread ≡ outcome files unread) → UnreadOnly (Some name) outcome result → UnreadOnly (file_read_by sentence) (step world sentence) result

@@ -7,9 +7,8 @@ returns-in-Ok-clause-copied g c = copied_goes c.args.source.now c.args.target.no
 
 pub returns-in_ok-copy_fault-in-Err-clause-copied : goal.returns-in_ok-copy_fault-in-Err-clause-copied
 returns-in_ok-copy_fault-in-Err-clause-copied g c =
-    let told = c.in_ok-copy_fault-in-Err.field-0 in
-    let is : c.into.result ≡ step.Command told = search rules in
-    rw is (copy_refused c.args.source.now c.args.target.now c.copy.new.target c.in-Err.fault told c.in-Err.ensures.copied c.in_ok-copy_fault-in-Err.ensures)
+    let is : c.into.result ≡ step.Command c.in_ok-copy_fault-in-Err.field-0 = search rules in
+    rw is (copy_refused c.args.source.now c.args.target.now c.copy.new.target c.in-Err.fault c.in_ok-copy_fault-in-Err.field-0 c.in-Err.ensures.copied c.in_ok-copy_fault-in-Err.ensures)
 
 pub returns-in-Ok-clause-bound : goal.returns-in-Ok-clause-bound
 returns-in-Ok-clause-bound g c =

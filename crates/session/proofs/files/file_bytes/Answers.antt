@@ -3,10 +3,9 @@ use Rattle.session.proofs.files.file_bytes.Goals as goal
 
 pub returns-in-Ok-clause-loads : goal.returns-in-Ok-clause-loads
 returns-in-Ok-clause-loads g c = λ files told.
-    let name = c.args.file.now in
     let whole = rw c.as_str.ensures.value at c.in-Ok.ensures.whole in
-    let there = file_there _ files name (λ file. c.in-Ok.bytes ≡ file) told whole.0 in
-    was_read c.args.most files name c.in-Ok.bytes (there.1 ∙ ap Some (sym there.2)) whole.1
+    let there = file_there _ files c.args.file.now (λ file. c.in-Ok.bytes ≡ file) told whole.0 in
+    was_read c.args.most files c.args.file.now c.in-Ok.bytes (there.1 ∙ ap Some (sym there.2)) whole.1
 
 pub returns-in-Failed-clause-loads : goal.returns-in-Failed-clause-loads
 returns-in-Failed-clause-loads g c = λ files told.
@@ -18,7 +17,6 @@ returns-in-Failed-clause-loads g c = λ files told.
 
 pub returns-in-TooLong-clause-loads : goal.returns-in-TooLong-clause-loads
 returns-in-TooLong-clause-loads g c = λ files told.
-    let name = c.args.file.now in
     let long = rw c.as_str.ensures.value at (rw c.in-TooLong.is at c.in-Err.ensures.whole) in
-    let there = file_there _ files name (λ file. c.args.most < length file) told long.0 in
-    was_long c.args.most files name there.0 there.1 there.2
+    let there = file_there _ files c.args.file.now (λ file. c.args.most < length file) told long.0 in
+    was_long c.args.most files c.args.file.now there.0 there.1 there.2

@@ -62,10 +62,9 @@ returns-in-SaveView-clause-answers g c =
 
 pub returns-in_err-work_on-in-Advise-clause-answers : goal.returns-in_err-work_on-in-Advise-clause-answers
 returns-in_err-work_on-in-Advise-clause-answers g c =
-    let self = c.args.self in
     let is : c.from_residual.result ≡ Err c.in_err-work_on-in-Advise.field-0.0 = search rules in
-    line_shows g.K.Sink.taken g.K.Sink.faults c.args.out.now c.work_on.new.out (world_of self) c.args.line.now _ c.from_residual.result c.in-Advise.is
-    (rw is (c.in_err-work_on-in-Advise.ensures.answers self.records self.mappings))
+    line_shows g.K.Sink.taken g.K.Sink.faults c.args.out.now c.work_on.new.out (world_of c.args.self) c.args.line.now _ c.from_residual.result c.in-Advise.is
+    (rw is (c.in_err-work_on-in-Advise.ensures.answers c.args.self.records c.args.self.mappings))
 
 pub returns-in_ok-work_on-in-Advise-clause-answers : goal.returns-in_ok-work_on-in-Advise-clause-answers
 returns-in_ok-work_on-in-Advise-clause-answers g c =

@@ -32,16 +32,14 @@ returns-in_err-has_room-clause-loads g c = λ files told.
 
 pub returns-in_err-bytes-clause-loads : goal.returns-in_err-bytes-clause-loads
 returns-in_err-bytes-clause-loads g c = λ files given.
-    let unused = rw c.as_slice-views.ensures.value at c.in_ok-free_view.ensures in
     let space = rw c.as_slice-views.ensures.value at c.in_ok-has_room.ensures.room in
-    let of_file = reads (world_of c.args.self.now) c.args.name c.args.file.now unused space in
+    let of_file = reads (world_of c.args.self.now) c.args.name c.args.file.now (rw c.as_slice-views.ensures.value at c.in_ok-free_view.ensures) space in
     unloads_of (λ (view : Table). view) files _ c.in_err-bytes.field-0.0 _ of_file (search rules) (c.in_err-bytes.ensures.loads files (told_of _ files of_file given))
 
 pub returns-clause-loads : goal.returns-clause-loads
 returns-clause-loads g c = λ files given.
-    let unused = rw c.as_slice-views.ensures.value at c.in_ok-free_view.ensures in
     let space = rw c.as_slice-views.ensures.value at c.in_ok-has_room.ensures.room in
-    let of_file = reads (world_of c.args.self.now) c.args.name c.args.file.now unused space in
+    let of_file = reads (world_of c.args.self.now) c.args.name c.args.file.now (rw c.as_slice-views.ensures.value at c.in_ok-free_view.ensures) space in
     loads_of (λ (view : Table). view) files c.in_ok-bytes.bytes _ c.opened_beside.result of_file (c.in_ok-bytes.ensures.loads files (told_of _ files of_file given))
     (rw (c.as_slice.ensures, c.as_slice-views.ensures.value) at c.opened_beside.ensures)
 
@@ -53,9 +51,8 @@ returns-in_err-has_room-clause-unread g c = unread_test (Some c.args.file.now) _
 
 pub returns-in_err-bytes-clause-unread : goal.returns-in_err-bytes-clause-unread
 returns-in_err-bytes-clause-unread g c =
-    let unused = rw c.as_slice-views.ensures.value at c.in_ok-free_view.ensures in
     let space = rw c.as_slice-views.ensures.value at c.in_ok-has_room.ensures.room in
-    unread_of Table c.in_err-bytes.field-0.0 _ (reads (world_of c.args.self.now) c.args.name c.args.file.now unused space) (search rules)
+    unread_of Table c.in_err-bytes.field-0.0 _ (reads (world_of c.args.self.now) c.args.name c.args.file.now (rw c.as_slice-views.ensures.value at c.in_ok-free_view.ensures) space) (search rules)
 
 pub returns-clause-unread : goal.returns-clause-unread
 returns-clause-unread g c = unread_gives (Some c.args.file.now) (λ (view : Table). view) _ (opened_table (world_of c.args.self.now) c.args.name c.args.file.now) c.opened_beside.result c.opened_beside.ensures
