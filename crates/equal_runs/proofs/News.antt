@@ -56,10 +56,9 @@ module _ (m o : Bool) where
   loaded_agree views others whole other words bytes same =
       before AlikeIfWide (refused_if (nat_lt (2 ^ 28) (length bytes)) TooBig) _ _ (λ short.
       before AlikeIfWide (resolved words (Some (length (records_behind (csv_records bytes))))) _ _ (λ extents.
-      let alike = zeros_alike whole.mode whole.fields extents whole.mapping other.mapping in
       let changed = zeros_of whole.mode whole.fields extents other.mapping in
       bind (made_agree (λ (a b : Table). Agree m o AlikeIfWide (filled a (csv_records bytes)) (filled b (csv_records bytes))) views others whole other extents same
-      (filled_agree (zeros_of whole.mode whole.fields extents whole.mapping) other.mapping changed.tally alike (csv_records bytes)))
+      (filled_agree (zeros_of whole.mode whole.fields extents whole.mapping) other.mapping changed.tally (zeros_alike whole.mode whole.fields extents whole.mapping other.mapping) (csv_records bytes)))
       (λ a b agree. agree)))
 
   -- the table of a file, which is the same in both, but too big beside the others of one

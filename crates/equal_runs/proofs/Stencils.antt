@@ -50,10 +50,9 @@ module _ (m o : Bool) (table : Table) (mapping : MapTerm) (tally : Tally) (same 
       → Same m o (stencil_run live table spans path texts divisor rounds) (stencil_run others (under table mapping tally) spans path texts divisor rounds)
   unfolding stencil_run
   stencil_agree live others spans path texts divisor rounds =
-      let many = nat_lt (8 * 2 ^ 30) (live + blob_bits table) in
       let many_others = nat_lt (8 * 2 ^ 30) (others + blob_bits (under table mapping tally)) in
       before SameDone (fit_stencil table spans path texts divisor rounds) _ _ (λ stencil.
-      bind (both_told {R = Both} (told_if m many TooBig refl) (told_if o many_others TooBig refl) (λ a b p q. tt))
+      bind (both_told {R = Both} (told_if m (nat_lt (8 * 2 ^ 30) (live + blob_bits table)) TooBig refl) (told_if o many_others TooBig refl) (λ a b p q. tt))
       (λ room room_other p. rounds_agree stencil))
     where
       rounds_agree : (stencil : Stencil) → Same m o (stencil_rounds table rounds stencil) (stencil_rounds (under table mapping tally) rounds stencil)
