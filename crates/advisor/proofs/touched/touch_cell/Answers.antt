@@ -11,8 +11,5 @@ touch_rows-requires-clause-inside c =
     rows_inside (layout_in m) m.extents (widths_in m) (laid_by_rows m c.laws_of.ensures.lawful) c.args.granule c.args.cell c.rule.result.now c.rule.ensures (heat_counts c.args.heat.now)
     c.args.heat.now.some c.requires.granules
 
-pub returns-clause-warmed : goal.returns-clause-warmed
-returns-clause-warmed c = grind (arith, common_steps, warmed_alike, rows_hold, laid_by_rows)
-
-pub returns-clause-granules : goal.returns-clause-granules
-returns-clause-granules c = warmed_granules (layout_in c.args.map.now) c.touch_rows.ensures c.requires.granules
+pub returns : goal.returns
+returns c = record { warmed = grind (arith, common_steps, warmed_alike, rows_hold, laid_by_rows); granules = warmed_granules (layout_in c.args.map.now) c.touch_rows.ensures c.requires.granules }

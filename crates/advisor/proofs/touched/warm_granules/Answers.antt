@@ -9,13 +9,12 @@ overflow_add-count g c =
     let more = sum_by_more_le (count_by is_warm) heat.blobs c.loop-blob.blob [] (omega arith) in
     omega (arith, warm_few layout heat c.requires.granules, more, c.loop-blob.invariant, c.warm_in-count.ensures)
 
-pub returns-clause-value : goal.returns-clause-value
-returns-clause-value g c =
+pub returns : goal.returns
+returns g c =
     let heat = heat_counts c.args.heat.now in
-    let many = (blob_granules (g.M.Mapping.layout c.args.mapping.now) heat c.requires.granules).0 in
-    c.loop-blob.invariant ∙ ap (sum_by (count_by is_warm)) (take_all c.loop-blob.blob heat.blobs (omega arith))
-
-pub returns-clause-most : goal.returns-clause-most
-returns-clause-most g c =
-    let heat = heat_counts c.args.heat.now in
-    omega (arith, warm_few (g.M.Mapping.layout c.args.mapping.now) heat c.requires.granules, sum_by-take-le (count_by is_warm) heat.blobs c.loop-blob.blob, c.loop-blob.invariant)
+    let layout = g.M.Mapping.layout c.args.mapping.now in
+    let many = (blob_granules layout heat c.requires.granules).0 in
+    record {
+      value = c.loop-blob.invariant ∙ ap (sum_by (count_by is_warm)) (take_all c.loop-blob.blob heat.blobs (omega arith));
+      most = omega (arith, warm_few layout heat c.requires.granules, sum_by-take-le (count_by is_warm) heat.blobs c.loop-blob.blob, c.loop-blob.invariant);
+    }
