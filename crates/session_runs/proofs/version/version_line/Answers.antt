@@ -11,16 +11,14 @@ loop-line-preserved c = record {
   bytes = omega (arith, c.loop-line.invariant.bytes, c.in-Some.ensures.shorter);
 }
 
-pub returns-in-Version-clause-is : goal.returns-in-Version-clause-is
-returns-in-Version-clause-is c = sym (headed _ _ _ _ c.in-Version.number c.loop-line.invariant.passed c.in-Some.ensures.lines (c.in-Version.ensures (lines_in c.in-Some.behind.now)))
-
-pub returns-in-Version-clause-rest : goal.returns-in-Version-clause-rest
-returns-in-Version-clause-rest c = sym (rest_behind _ _ _ c.in-Some.line.now _ c.loop-line.invariant.passed c.in-Some.ensures.lines)
-
-pub returns-in-Version-clause-within : goal.returns-in-Version-clause-within
-returns-in-Version-clause-within c =
+pub returns-in-Version : goal.returns-in-Version
+returns-in-Version c =
     let longer = ap (λ (lines : List (List ℕ)). length lines) c.in-Some.ensures.lines in
-    omega (arith, c.loop-line.invariant.passed.count, longer)
+    record {
+      is = sym (headed _ _ _ _ c.in-Version.number c.loop-line.invariant.passed c.in-Some.ensures.lines (c.in-Version.ensures (lines_in c.in-Some.behind.now)));
+      rest = sym (rest_behind _ _ _ c.in-Some.line.now _ c.loop-line.invariant.passed c.in-Some.ensures.lines);
+      within = omega (arith, c.loop-line.invariant.passed.count, longer);
+    }
 
 pub returns-in-Other-clause-is : goal.returns-in-Other-clause-is
 returns-in-Other-clause-is c = sym (headless _ _ _ _ c.loop-line.invariant.passed c.in-Some.ensures.lines (c.in-Other.ensures (lines_in c.in-Some.behind.now)))
