@@ -1,4 +1,4 @@
-use Rattle.advisor.proofs.Imports.{◌∙◌, sym, ap, map, arith, length-map, term_of, Candidate, cost_of, AreMarked, terms_in, suits}
+use Rattle.advisor.proofs.Imports.{◌∙◌, ap, map, arith, length-map, term_of, Candidate, cost_of, AreMarked, terms_in, suits}
 use Rattle.advisor.proofs.Lemmas.{advice_given, costs_known}
 use Rattle.advisor.specs.Advice.{told_by}
 use Rattle.advisor.proofs.adviser.advise.Goals as goal
