@@ -64,18 +64,9 @@ impl Walk {
         ensures some { 0 < self.new.left }
         ensures walk { IsWalk window.now self.new row }
     {
-        if self.left == 0 {
-            self.begin(window, row);
+        if self.left > 0 {
+            return;
         }
-    }
-
-    // Begins at a row.
-    fn begin(&mut self, window: &Window, row: u64)
-        requires walk { IsWalk window.now self.old row }
-        requires row_in { row < length (rows_of window.now) }
-        ensures some { 0 < self.new.left }
-        ensures walk { IsWalk window.now self.new row }
-    {
         self.next = window.outer(row);
         self.left = run_length(window, self.width, row, self.next);
     }
