@@ -16,9 +16,8 @@ full_few [] = none_few
 full_few (cell ∷ cells) = one_few (hold_of cell.kind) (full_holds cells) (width_narrow cell.kind) (full_few cells)
 
 narrow_few : (widths : List ℕ) (cells : List Cell) → AreFew (narrow_holds widths cells)
-narrow_few [] cells = none_few
-narrow_few (width ∷ widths) [] = none_few
 narrow_few (width ∷ widths) (cell ∷ cells) = grind (arith, width_narrow, one_few, (narrow_few widths cells))
+narrow_few widths cells = none_few
 
 merged_few : (side : List Bool) (one other : List Hold) → AreFew one → AreFew other → AreFew (merged side one other)
 merged_few [] one other ones others = none_few

@@ -59,9 +59,8 @@ start_rows (c ∷ xs) = by (is_line_end c) refl (start_rows xs) where
 
 -- one end of a line, and no other
 pub one_end : (xs : List ℕ) → 1 < length xs → is_line_end (get_or xs 0 0) ≡ true → is_line_end (get_or xs 1 0) ≡ false → drop 1 xs ≡ line_start xs
-one_end [] two first second = absurd (omega arith)
-one_end (c ∷ []) two first second = absurd (omega arith)
 one_end (c ∷ d ∷ xs) two first second = rw (first, second) refl
+one_end xs two first second = absurd (omega arith)
 
 -- a record begins with its first field
 pub begun : (c : ℕ) (xs : List ℕ) → is_line_end c ≡ false → rows_from st.StartRecord (c ∷ xs) ≡ rows_from st.StartField (c ∷ xs)

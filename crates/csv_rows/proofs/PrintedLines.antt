@@ -49,8 +49,6 @@ is_plain_row (part ∷ parts) = list_all is_plain_text (part ∷ parts)
 pub rows_plain : (rows : List (List (List ℕ))) → list_all is_plain_row rows ≡ true → rows_from st.StartRecord (rows_text rows) ≡ rows
 unfolding next_record
 rows_plain [] plain = no_record st.StartRecord [] refl
-rows_plain ([] ∷ rows) plain = cc plain
-rows_plain (([] ∷ parts) ∷ rows) plain = cc plain
 rows_plain (((c ∷ part) ∷ parts) ∷ rows) plain =
     let (row, rest) = both (list_all is_plain_text ((c ∷ part) ∷ parts)) (list_all is_plain_row rows) plain in
     let (one, more) = both (is_plain_text (c ∷ part)) (list_all is_plain_text parts) row in
@@ -62,19 +60,18 @@ rows_plain (((c ∷ part) ∷ parts) ∷ rows) plain =
     ∙ line_rows line (10 ∷ rows_text rows) bytes refl
     ∙ ap (λ (fields : List (List ℕ)). fields ∷ rows_from st.StartRecord (10 ∷ rows_text rows)) (cut_joined (c ∷ part) parts one more)
     ∙ ap (λ (rs : List (List (List ℕ))). ((c ∷ part) ∷ parts) ∷ rs) (skipped 10 (rows_text rows) refl ∙ rows_plain rows rest)
+rows_plain rows plain = cc plain
 
 strip_other : (c : ℕ) (xs : List ℕ) → nat_eq c 239 ≡ false → strip_bom (c ∷ xs) ≡ c ∷ xs
 unfolding strip_bom
-strip_other c [] other = refl
-strip_other c (d ∷ []) other = refl
 strip_other c (d ∷ e ∷ xs) other = ap (λ (b : Bool). if b && nat_eq d 187 && nat_eq e 191 then xs else c ∷ d ∷ e ∷ xs) other
+strip_other c xs other = refl
 
 rows_marks : (rows : List (List (List ℕ))) → list_all is_plain_row rows ≡ true → strip_bom (rows_text rows) ≡ rows_text rows
 unfolding strip_bom
 rows_marks [] plain = refl
-rows_marks ([] ∷ rows) plain = cc plain
-rows_marks (([] ∷ parts) ∷ rows) plain = cc plain
 rows_marks (((c ∷ part) ∷ parts) ∷ rows) plain = grind (arith, both, list_all, strip_other, plain_byte)
+rows_marks rows plain = cc plain
 
 -- the records of such lines
 pub rows_read : (rows : List (List (List ℕ))) → list_all is_plain_row rows ≡ true → csv_records (rows_text rows) ≡ rows

@@ -31,9 +31,8 @@ stay_row mode kinds holds values a b stays = absurd (omega arith)
 
 field_at : (before : List ℤ) (value : ℤ) (behind : List ℤ) (n : ℕ) → n ≡ length before → slice_get (map decimal_text (before ++ value ∷ behind)) n ≡ Some (decimal_text value)
 field_at [] value behind zero is = refl
-field_at [] value behind (suc n) is = absurd (omega arith)
-field_at (x ∷ before) value behind zero is = absurd (omega arith)
 field_at (x ∷ before) value behind (suc n) is = field_at before value behind n (omega arith)
+field_at before value behind n is = absurd (omega arith)
 
 value_read : (place : Place) (fields : List (List ℕ)) (value : ℤ) → slice_get fields place.column ≡ Some (decimal_text value) → Stays place.mode place.kind place.hold value → value_at place fields ≡ Ok value
 value_read place fields value here stays = grind (arith, declared_text, stays_declared, unspaced_same, stays_answer)
