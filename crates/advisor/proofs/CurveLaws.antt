@@ -150,10 +150,9 @@ module _ (rank digits slot : ℕ) (wide : slot < 2 ^ 64) (few : digits ≤ min (
 -- an index by its components
 inside_from : (extents index : List ℕ) → length index ≡ length extents → ((d : ℕ) → d < length extents → get_or index d 0 < get_or extents d 0) → IsInside extents index
 inside_from [] [] long each = tt
-inside_from [] (i ∷ index) long each = absurd (omega (arith, long))
-inside_from (n ∷ extents) [] long each = absurd (omega (arith, long))
 inside_from (n ∷ extents) (i ∷ index) long each =
     (each 0 (omega arith), inside_from extents index (omega (arith, long)) (λ d l. each (suc d) (omega (arith, l))))
+inside_from extents index long each = absurd (omega (arith, long))
 
 module _ (extents : List ℕ) (ranked : (0 < length extents) × (length extents ≤ 4)) (digits slot more : ℕ) (even : slot % 2 ^ (length extents * digits) ≡ 0)
     (small : more < 2 ^ (length extents * digits)) (narrow : slot + more < 2 ^ 24) where

@@ -36,11 +36,7 @@ first_none one two e = grind arith
 counts_none : (term : Term) → has_counter term ≡ false → counts_once true true term ≡ true
 counts_none (Count inner) e = cc
 counts_none (Heat granule inner) e = cc
-counts_none (Split path first rest) e = ap not e
-counts_none (Byteswap inner) e = ap not e
-counts_none (Bytesplit inner) e = ap not e
-counts_none (Change from to inner) e = ap not e
-counts_none other e = refl
+counts_none other e = ap not e
 
 module _ (path : List PathStep) (first rest : Term) (fields : Fields) (cells : List Cell) where
   abbrev under : List Cell

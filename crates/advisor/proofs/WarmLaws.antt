@@ -66,12 +66,11 @@ cold granule bytes blob at seen =
 pub sums_alike : {X Y : Type 0} (f : X → ℕ) (g : Y → ℕ) (xs : List X) (ys : List Y) (d : X) (e : Y) → length xs ≡ length ys
     → ((k : ℕ) → k < length ys → f (get_or xs k d) ≡ g (get_or ys k e)) → sum_by f xs ≡ sum_by g ys
 sums_alike f g [] [] d e long each = refl
-sums_alike f g [] (y ∷ ys) d e long each = absurd (omega (arith, long))
-sums_alike f g (x ∷ xs) [] d e long each = absurd (omega (arith, long))
 sums_alike f g (x ∷ xs) (y ∷ ys) d e long each =
     let first : f x ≡ g y = each 0 (omega arith) in
     let rest : sum_by f xs ≡ sum_by g ys = sums_alike f g xs ys d e (omega (arith, long)) (λ k l. each (suc k) (omega (arith, l))) in
     omega (arith, first, rest, sum_by-cons f x xs, sum_by-cons g y ys)
+sums_alike f g xs ys d e long each = absurd (omega (arith, long))
 
 counts_alike : (p q : ℕ → Bool) (xs : List ℕ) → ((k : ℕ) → k < length xs → p (get_or xs k 0) ≡ q k) → count_by p xs ≡ count_by q (range_with_len 0 (length xs))
 counts_alike p q xs each =
