@@ -75,10 +75,9 @@ module _ {A : Type 0} (tokens : A → List Token) (end : SignName)
   pub same_list : (values others : List A) (rest more : List Token) →
       with_commas (map tokens values) ++ Sign end ∷ rest ≡ with_commas (map tokens others) ++ Sign end ∷ more → (values ≡ others) × (rest ≡ more)
   same_list [] [] rest more same = (refl, cc)
-  same_list [] (other ∷ others) rest more same = grind (arith, append_assoc)
-  same_list (value ∷ values) [] rest more same = grind (arith, append_assoc)
   same_list (value ∷ values) (other ∷ others) rest more same =
       same_later (value ∷ values) (other ∷ others) rest more (ap (λ (ts : List Token). Sign Comma ∷ ts) same)
+  same_list values others rest more same = grind (arith, append_assoc)
 
 -- ---- extents
 
@@ -103,9 +102,8 @@ width_starts : (entry : FieldWidth) (rest more : List Token) → Sign CloseBrace
 width_starts entry rest more same = path_starts entry.path entry.width rest more same
   where
     path_starts : (path : List PathStep) (width : ℕ) (rest more : List Token) → Sign CloseBrace ∷ rest ≡ (path_tokens path ++ Sign Colon ∷ count_token width ∷ []) ++ more → ⊥
-    path_starts [] width rest more same = cc
     path_starts (step.Name name ∷ path) width rest more same = cc
-    path_starts (step.At number ∷ path) width rest more same = cc
+    path_starts path width rest more same = cc
 
 same_width : (entry other : FieldWidth) (rest more : List Token) → width_tokens entry ++ rest ≡ width_tokens other ++ more → (entry ≡ other) × (rest ≡ more)
 same_width entry other rest more same =
