@@ -14,8 +14,9 @@ after_alike m o M N number x y ends others P Q rest later (go a b alike) holds a
 after_alike m o M N number x y ends others P Q rest later (fault (Fault f)) holds also p q next = refl
 after_alike m o M N number x y ends others P Q rest later (fault (Unread name)) holds also p q next = refl
 after_alike m o M N number x y ends others P Q rest later (first (Fault f) z is) holds also p q next = absurd (cc)
+after_alike m o M N number x y ends others P Q rest later (first (Unread name) z is) holds also p q next = absurd (cc)
 after_alike m o M N number x y ends others P Q rest later (second z (Fault f) is) holds also p q next = absurd (cc)
-after_alike m o M N number x y ends others P Q rest later alike holds also p q next = absurd (cc)
+after_alike m o M N number x y ends others P Q rest later (second z (Unread name) is) holds also p q next = absurd (cc)
 
 -- texts that are lines, and other texts that are the same lines but for their mapping expressions
 data Pairs (version : Version) : List (List ℕ) → List Sentence → List (List ℕ) → List Sentence → Type 0 where

@@ -72,8 +72,7 @@ module _ (source target : Table) (old new : ℕ) (strict : (source.mode ≡ Stri
   by_fields from to =
       let leaf : length (leaves target.fields) ≡ 1 = sym (length-map (leaves target.fields) (λ leaf. leaf.kind)) ∙ ap (λ (ks : List LeafType). length ks) kinds in
       let is : IsStrategy source.mapping target.mapping way.Fields = rw (from, to) ((λ e. cc), (λ e. e)) in
-      let few = rw (from, to) at (goes way.Fields is) in
-      let sum = rw (rows, leaf) at few in
+      let sum = rw (rows, leaf) at (goes way.Fields is) in
       omega (arith, sum)
 
   pub by_way : (strategy : Strategy) → source.mapping ≡ from_of strategy → target.mapping ≡ to_of strategy → new ≤ old + most_steps strategy

@@ -1,9 +1,19 @@
 -- Each command that may store, on a table, by what its parts give.
-use Rattle.view_commands.proofs.Imports.{ok_or, ◌≡◌, ◌++◌, ◌∷◌, ℕ, ℤ, pos, List, [], length, Option, Some, None, Result, Ok, Err, refl, sym, ap, ◌∙◌, slice_index_or, Fields, indices, place_in, with_entry, PathStep, Access, Tally, Write, Table, owners_of, answer_of, kept_of, after_log, after_stores, after_write, tallied-append, without_number, StoreFault, LeafTerm, outcome_of, Value, Assignment, Setting, UpdateFault, updated_of, update_log, value_log, Tested, reading, bound, bound_filter, bound_sets, each_once, leaf_of, leaves_of, text_of_leaf, inside, assigned, updated, kernel_run, fit_kernel, number_text, column, column_reads, CommandFault, front_left, kernel_left, left_at, row_of, updated_front, Changed, ChangeFault, Ends, all_left, fault_of_kernel, fault_of_update, front_by, kind_fault, set_in, store_fault, store_told, updated_by, run_rows, OnErr, OnOk, kernel_outcome, kernel_row_fault, form_of, update_fault, arith, fault_text, IsKernelRun, rows_before, reduced_by, KernelFault, Kernel, KernelText, ReduceKind, count_log, counted, UpdateKind, kind_text}
+use Rattle.view_commands.proofs.Imports.{ok_or, ◌≡◌, ◌++◌, ◌∷◌, ℕ, ℤ, pos, List, [], length, Option, Some, None, Result, Ok, Err, refl, sym, ap, ◌∙◌, slice_index_or, Fields, indices, place_in, with_entry, PathStep, Access, Tally, Write, Table, owners_of, answer_of, kept_of, after_log, after_stores, after_write, tallied-append, without_number, StoreFault, LeafTerm, outcome_of, Value, Assignment, Setting, UpdateFault, updated_of, update_log, value_log, Tested, reading, bound, bound_filter, bound_sets, each_once, leaf_of, leaves_of, text_of_leaf, inside, assigned, updated, kernel_run, fit_kernel, number_text, column, column_reads, CommandFault, front_left, kernel_left, left_at, row_of, updated_front, Changed, ChangeFault, Ends, all_left, fault_of_kernel, fault_of_update, front_by, kind_fault, set_in, store_fault, store_told, updated_by, run_rows, OnErr, OnOk, kernel_outcome, kernel_row_fault, form_of, update_fault, arith, fault_text}
 use Rattle.view_commands.proofs.Changing.{has_rows, has_same}
 use Rattle.command_checks.specs.declared.fault.StepFault.TheVariants as step
 use Rattle.view_commands.specs.declared.change.ChangeFault.TheVariants as change
+use Rattle.lane_kernels.specs.Kernels.{IsKernelRun, rows_before}
+use Rattle.lane_kernels.specs.Reductions.{reduced_by}
+use Rattle.lane_kernels.specs.declared.fault.KernelFault.{KernelFault}
+use Rattle.lane_kernels.specs.declared.kernel.Kernel.{Kernel}
+use Rattle.line_grammar.specs.declared.line.KernelText.{KernelText}
+use Rattle.line_grammar.specs.declared.line.ReduceKind.{ReduceKind}
+use Rattle.row_updates.specs.Logs.{count_log}
+use Rattle.row_updates.specs.Rows.{counted}
+use Rattle.row_updates.specs.declared.fault.UpdateKind.{UpdateKind}
 unfoldable use Rattle.worlds.specs.Prelude.{reduction, counting}
+use Rattle.worlds.specs.Update.{kind_fault as kind_text}
 use Rattle.worlds.specs.declared.fault.CommandFault.TheVariants as command
 
 -- ---- a value that is set
@@ -48,7 +58,7 @@ pub set_done : (old new : Table) (index : List ℕ) (leaf row : ℕ) (term : Lea
     Changed (set_in old index leaf term) (all_left old) old (Ok None) new
 set_done old new index leaf row term number at value answer left = grind (arith, kept_is, slice_index_or, stored_in)
 
-pub ends_store : {A : Type 0} (fields : Fields) (outcome : Tested A) (row leaf : ℕ) (fault : StoreFault) → outcome ≡ Err (fault_text row (text_of_leaf fields leaf) fault) → Ends fields outcome (store_fault row leaf fault)
+ends_store : {A : Type 0} (fields : Fields) (outcome : Tested A) (row leaf : ℕ) (fault : StoreFault) → outcome ≡ Err (fault_text row (text_of_leaf fields leaf) fault) → Ends fields outcome (store_fault row leaf fault)
 ends_store fields outcome row leaf fault is = grind arith
 
 pub set_refused : (old new : Table) (index : List ℕ) (leaf row : ℕ) (term : LeafTerm ℕ) (number : ℤ) (fault : StoreFault) → row ≡ place_in (indices old.extents) index →

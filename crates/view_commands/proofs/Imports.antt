@@ -13,7 +13,7 @@ pub use Rattle.view_commands.specs.Inner.Teams.{Bindings, shared_out, acted, bin
 pub use Rattle.expr_lang.specs.declared.bound.Bound.{Bound}
 pub use Rattle.places.specs.declared.piece.Cell.{Cell}
 pub use Rattle.view_commands.specs.declared.change.ChangeFault.{ChangeFault}
-pub use Rattle.view_commands.specs.Changes.{Changed, Ends, HasRows, left_at, row_of, all_left, front_left, kernel_left, updated_front, gone_or, rounds_left, stencil_left}
+pub use Rattle.view_commands.specs.Changes.{Changed, Ends, HasRows, left_at, row_of, all_left, front_left, kernel_left, updated_front}
 pub use Rattle.worlds.specs.Prelude.{Did, Done, done_to, tells, telling, reading, left_as, Told, Entry, ◌>>=◌, Tested, LeftOf, refused_if, ok_or, some_or, refused_by, Question, asked, advise_fault, best_words, cost_line, small, all_runs, bound_set, bound_sets, each_once, leaves_of, text_of_leaf, bound, bound_filter, leaf_of, fit_cuts, shared, memory_text, fit_kernel, number_text, inside, windowed, kernel_outcome, kernel_row_fault, form_of, update_fault, fit_stencil, room_beside, stencil_rounds}
 pub use Rattle.layout_io.specs.Prelude.{Gathers, Gathers-start, Wrote, Stopped, flat_map_push, Writes-err, Stopped-flat_map, Stopped-second, Wrote-append, decimal-digits_text, digits_text}
 pub use Rattle.command_checks.specs.GivesLaws.{GivesUp-then, goes_then}
@@ -48,18 +48,3 @@ unfoldable pub use Rattle.map_any.specs.BitRuns.{runs_of}
 pub use Rattle.line_tokens.specs.Spelled.{spaced}
 pub use Rattle.map_expr.specs.Terms.{term_of}
 pub use Rattle.worlds.specs.Values.{store_fault as fault_text}
-pub use Rattle.actors.specs.ActorRuns.{without_counts}
-pub use Rattle.lane_kernels.specs.Kernels.{IsKernelRun, rows_before}
-pub use Rattle.lane_kernels.specs.Reductions.{reduced_by}
-pub use Rattle.lane_kernels.specs.declared.fault.KernelFault.{KernelFault}
-pub use Rattle.lane_kernels.specs.declared.kernel.Kernel.{Kernel}
-pub use Rattle.line_grammar.specs.declared.line.KernelText.{KernelText}
-pub use Rattle.line_grammar.specs.declared.line.ReduceKind.{ReduceKind}
-pub use Rattle.row_updates.specs.Logs.{count_log}
-pub use Rattle.row_updates.specs.Rows.{counted}
-pub use Rattle.row_updates.specs.declared.fault.UpdateKind.{UpdateKind}
-pub use Rattle.worlds.specs.Update.{kind_fault as kind_text}
-pub use Rattle.view_commands.specs.ExitsLaws.{gave_up}
-pub use Rattle.subviews.specs.Stencils.{refused_log, round, rounds_log, stenciled}
-pub use Rattle.subviews.specs.declared.fault.StencilFault.{StencilFault}
-pub use Rattle.command_checks.specs.Inner.Stencils.{stencil_of}

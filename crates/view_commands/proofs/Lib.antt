@@ -1,4 +1,3 @@
-mod Lemmas
 mod Imports
 pub mod Acting
 pub mod Advice
@@ -11,4 +10,3 @@ pub mod Sets
 pub mod Shown
 pub mod Stencils
 pub mod Windows
-pub mod Auto

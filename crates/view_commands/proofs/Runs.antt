@@ -1,5 +1,6 @@
 -- Whose the runs of a layout are.
-use Rattle.view_commands.proofs.Imports.{◌≡◌, ◌+◌, ◌<◌, ℕ, suc, true, false, List, [], ◌∷◌, length, map, get_or, All, ap, subst, ◌∙◌, ⊎_elim, cases_Bool, All-nil, All-cons, All-tail, All-append, length-map, IsLaidOut, Owner, Pad, Bit, owner_at, Cell, Hold, LeafType, length-leaf_cells, leaf_cells, goes_on, joined_run, run_owner, runs_from, runs_of, IsOwnerBelow, arith, flat_map}
+use Rattle.view_commands.proofs.Imports.{◌≡◌, ◌+◌, ◌<◌, ℕ, suc, true, false, List, [], ◌∷◌, length, map, get_or, All, ap, subst, ◌∙◌, ⊎_elim, cases_Bool, All-nil, All-cons, All-tail, All-append, length-map, IsLaidOut, Owner, Pad, Bit, owner_at, Cell, Hold, LeafType, length-leaf_cells, leaf_cells, goes_on, joined_run, run_owner, runs_from, runs_of, IsOwnerBelow, arith}
+use Rattle.record_dim.specs.Std.{flat_map}
 use Rattle.places.specs.declared.piece.Run.{Run}
 
 -- a run of one of so many leaves, or of none

@@ -1,5 +1,6 @@
 -- A table that is saved.
-use Rattle.view_commands.proofs.Imports.{◌≡◌, ◌∙◌, ◌≤◌, ℕ, Bool, true, false, nat_lt, length, List, Option, Err, refl, sym, ap, subst, arith, ⊎_elim, ◌||◌, cases_Bool, nat_tests, IsShort, record_text, view_text, header_of, blobs_of, Table, save, done_to, tells, LeftOf, ◌>>=◌, refused_if, TooBig, GivesUp, StepFault, Answers, IsLeft, left_with, Ok, telling, Tested, file_of, gave_up}
+use Rattle.view_commands.proofs.Imports.{◌≡◌, ◌∙◌, ◌≤◌, ℕ, Bool, true, false, nat_lt, length, List, Option, Err, refl, sym, ap, subst, arith, ⊎_elim, ◌||◌, cases_Bool, nat_tests, IsShort, record_text, view_text, header_of, blobs_of, Table, save, done_to, tells, LeftOf, ◌>>=◌, refused_if, TooBig, GivesUp, StepFault, Answers, IsLeft, left_with, Ok, telling, Tested, file_of}
+use Rattle.view_commands.specs.ExitsLaws.{gave_up}
 use Rattle.view_commands.proofs.Shown.{tells_left}
 
 -- two texts, of which neither is too long, or one is

@@ -106,7 +106,8 @@ pub leaves_below : (seen : Table) (sets : List Assign) → All (IsSetOf seen) se
 leaves_below seen [] all k small = absurd (omega (arith, small))
 leaves_below seen (set ∷ sets) all k small =
     let within : k < length (set ∷ sets) = rw (← leaves_long (set ∷ sets)) small in
-    rw (ap (λ leaves. get_or leaves k 0) (leaves_are (set ∷ sets)) ∙ get_or-map (λ (s : Assign). s.leaf) (set ∷ sets) k set 0 within) ((All-get_or (IsSetOf seen) (set ∷ sets) k set within all).inside)
+    let is = (All-get_or (IsSetOf seen) (set ∷ sets) k set within all).inside in
+    rw (ap (λ leaves. get_or leaves k 0) (leaves_are (set ∷ sets)) ∙ get_or-map (λ (s : Assign). s.leaf) (set ∷ sets) k set 0 within) is
 
 -- the filter of an update, as it is lent
 pub filter_is : (filter : Option (Bor Bound)) (bound : Option Bound) → option_copied filter ≡ bound → filter_term filter ≡ option_map bound_term bound

@@ -1,8 +1,10 @@
 -- What a stencil does, by its parts.
-use Rattle.view_commands.proofs.Imports.{Bool, Result, refused_if, TooBig, ◌≡◌, ◌∙◌, ◌<◌, ◌≤◌, ⊎_elim, ℕ, zero, suc, ℤ, List, [], Option, Some, None, Ok, Err, refl, sym, ap, subst, arith, Span, TermText, PathStep, Stencil, Table, answer_of, after_stores, StoreFault, CommandFault, GivesUp, goes_then, StepFault, Changed, ChangeFault, row_of, store_fault, fit_stencil, room_beside, stencil_rounds, stencil_run, cases_lt, refused_log, round, rounds_log, stenciled, StencilFault, gone_or, rounds_left, stencil_left}
+use Rattle.view_commands.proofs.Imports.{Bool, Result, refused_if, TooBig, ◌≡◌, ◌∙◌, ◌<◌, ◌≤◌, ⊎_elim, ℕ, zero, suc, ℤ, List, [], Option, Some, None, Ok, Err, refl, sym, ap, subst, arith, Span, TermText, PathStep, Stencil, Table, Fields, answer_of, after_stores, text_of_leaf, StoreFault, CommandFault, GivesUp, goes_then, StepFault, Tested, Changed, ChangeFault, Ends, row_of, store_fault, fit_stencil, room_beside, stencil_rounds, stencil_run, cases_lt, fault_text}
+use Rattle.subviews.specs.Stencils.{refused_log, round, rounds_log, stenciled}
+use Rattle.subviews.specs.declared.fault.StencilFault.{StencilFault}
+use Rattle.view_commands.specs.Changes.{gone_or, rounds_left, stencil_left}
 use Rattle.view_commands.specs.declared.change.ChangeFault.TheVariants as change
 use Rattle.command_checks.specs.declared.fault.StepFault.TheVariants as step
-use Rattle.view_commands.proofs.Arms.{ends_store}
 use Rattle.view_commands.proofs.Changing.{has_rows, refused_with}
 
 module _ (live : ℕ) (table : Table) (spans : List Span) (path : List PathStep) (texts : List TermText) (divisor rounds : ℕ) where
@@ -46,13 +48,16 @@ pub rounds_done : (old new : Table) (rounds : ℕ) (stencil : Stencil) → stenc
     Changed (stencil_rounds old rounds stencil) (λ row. rounds_left old stencil rounds) old (Ok None) new
 rounds_done old new rounds stencil stored same = rw stored (ap (λ (table : Table). Ok (record { held = table; text = [] })) (sym same))
 
+ends_round : {A : Type 0} (fields : Fields) (outcome : Tested A) (row leaf : ℕ) (fault : StoreFault) → outcome ≡ Err (fault_text row (text_of_leaf fields leaf) fault) → Ends fields outcome (store_fault row leaf fault)
+ends_round fields outcome row leaf fault is = grind arith
+
 row_stored : (row leaf : ℕ) (fault : StoreFault) → row_of (store_fault row leaf fault) ≡ Some row
 row_stored row leaf fault = grind arith
 
 pub rounds_refused : (old new : Table) (rounds : ℕ) (stencil : Stencil) (fault : StencilFault) → stenciled old stencil rounds ≡ Err fault → ((done : ℕ) × (done < rounds) × (stenciled old stencil done ≡ Ok new.rows)
     × (round (answer_of old) stencil new.rows ≡ Err fault) × (new ≡ after_stores old new.rows (refused_log (answer_of old) stencil done new.rows))) →
     Changed (stencil_rounds old rounds stencil) (λ row. rounds_left old stencil rounds) old (Err (store_fault fault.row stencil.leaf fault.fault)) new
-rounds_refused old new rounds stencil fault refused so_far = grind (arith, ends_store, row_stored, rounds_before, has_rows)
+rounds_refused old new rounds stencil fault refused so_far = grind (arith, ends_round, row_stored, rounds_before, has_rows)
 
 -- where no room is left all rows stay
 room_fault : (test : Bool) (fault : CommandFault) → refused_if test TooBig ≡ Err fault → fault ≡ TooBig

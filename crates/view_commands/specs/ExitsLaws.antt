@@ -18,7 +18,8 @@ pub gave_up : {S K A : Type 0} (Stands : S → A → Type 0) (taken : K → Opti
     (outcome : Tested (LeftOf A)) (fault : StepFault) (result : Result S StepFault) → result ≡ Err fault → GivesUp outcome fault → Answers Stands taken faults old old outcome result
 gave_up Stands taken faults old outcome (step.Command refusal) result is gives = rw is (refused taken faults old outcome refusal gives)
 gave_up Stands taken faults old outcome step.NoMemory result is gives = rw is (starved taken faults old (text_of outcome))
-gave_up Stands taken faults old outcome fault result is gives = absurd gives
+gave_up Stands taken faults old outcome step.Source result is gives = absurd gives
+gave_up Stands taken faults old outcome step.Sink result is gives = absurd gives
 
 -- a command that writes nothing
 pub answers_quiet : {S K A : Type 0} (Stands : S → A → Type 0) (held : S → A) (taken : K → Option (List ℕ)) (faults : K → ℕ) (old : K)
@@ -26,7 +27,10 @@ pub answers_quiet : {S K A : Type 0} (Stands : S → A → Type 0) (held : S →
     Gives (λ next. record { held = held next; text = [] }) result outcome → Answers Stands taken faults old old outcome result
 answers_quiet Stands held taken faults old outcome (Ok next) stands goes =
     record { left = record { held = held next; text = [] }; goes = goes; stands = stands next; wrote = Wrote-nil taken faults old }
-answers_quiet Stands held taken faults old outcome (Err fault) stands gives = gave_up Stands taken faults old outcome fault (Err fault) refl gives
+answers_quiet Stands held taken faults old outcome (Err (step.Command refusal)) stands is = refused taken faults old outcome refusal is
+answers_quiet Stands held taken faults old outcome (Err step.Source) stands gives = absurd gives
+answers_quiet Stands held taken faults old outcome (Err step.Sink) stands gives = absurd gives
+answers_quiet Stands held taken faults old outcome (Err step.NoMemory) stands gives = starved taken faults old (text_of outcome)
 
 -- a refusal that is told is one that is given
 pub tells_gives : {A : Type 0} (outcome : Tested A) (refusal told : CommandFault) → outcome ≡ Err refusal → told ≡ refusal → outcome ≡ Err told

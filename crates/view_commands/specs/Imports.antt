@@ -38,7 +38,7 @@ pub use Rattle.views.specs.Prelude.{Read, Table, Write, after_log, after_write, 
 pub use Rattle.views.specs.declared.fault.StoreFault.{StoreFault}
 pub use Rattle.worlds.specs.Prelude.{Broke, Did, Done, Fronted, LeftOf, Refused, Tested, advise_fault, all_runs, best_words, bound_filter, bound_set, bound_sets, cost_line, cost_words, done_to}
 pub use Rattle.worlds.specs.Prelude.{each_once, fit_cuts, fit_kernel, fit_stencil, form_of, inside, leaves_of, memory_text, number_text, ok_or, reading, refused_by, refused_if, room_beside, shared}
-pub use Rattle.worlds.specs.Prelude.{showing, small, stencil_rounds, storable, stores, telling, tells, text_of, text_of_leaf, update_fault, value_on, ◌>>=◌}
+pub use Rattle.worlds.specs.Prelude.{small, stencil_rounds, storable, stores, telling, tells, text_of, text_of_leaf, update_fault, value_on, ◌>>=◌}
 unfoldable pub use Rattle.worlds.specs.Prelude.{advice_text, advise, assigned, bytes, counting, counts, heat, kernel_run, layout, number_line, print, print_window, reduction, save, stencil_run}
 unfoldable pub use Rattle.worlds.specs.Prelude.{updated, updated_by_actors}
 pub use Rattle.worlds.specs.declared.fault.BadActors.TheVariants.{Cuts, Turns}

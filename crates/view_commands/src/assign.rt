@@ -35,11 +35,31 @@ impl Change for Assign<'_> {
         view: &mut View,
         steps: &mut Steps<L>,
     ) -> Result<Option<i128>, ChangeFault> {
-        let leaf = leaf_of(alloc, view, self.path)?;
-        let value = bound(alloc, view, self.value)?;
-        let index = inside(view.extents(), self.index.as_slice())?;
-        set_in(view, index.as_slice(), leaf, &value, steps)
+        assigned(
+            alloc,
+            view,
+            self.index.as_slice(),
+            self.path,
+            self.value,
+            steps,
+        )
     }
+}
+
+fn assigned<L: Ledger>(
+    alloc: Global,
+    view: &mut View,
+    index: &[u32],
+    path: &Path,
+    value: &Expr,
+    steps: &mut Steps<L>,
+) -> Result<Option<i128>, ChangeFault>
+    ensures { Changed (assigned view.old index.now path.now (term_of value.now)) (all_left view.old) view.old result view.new }
+{
+    let leaf = leaf_of(alloc, view, path)?;
+    let value = bound(alloc, view, value)?;
+    let index = inside(view.extents(), index)?;
+    set_in(view, index.as_slice(), leaf, &value, steps)
 }
 
 // The index, which is one of those inside the extents.
@@ -49,13 +69,19 @@ fn inside(extents: Extents, index: &[u32]) -> Result<ArrayVec<u64, 4>, StepFault
     ensures member { IfOk result (λ wide. IsInside extents wide.items) }
 {
     if index.len() != extents.rank() {
-        return Err(StepFault::Command(CommandFault::BadIndex));
+        return Err(bad_index());
     }
     let wide = widened(index);
     if !extents.holds(wide.as_slice()) {
-        return Err(StepFault::Command(CommandFault::BadIndex));
+        return Err(bad_index());
     }
     Ok(wide)
+}
+
+fn bad_index() -> StepFault
+    ensures { result ≡ StepFault.Command CommandFault.BadIndex }
+{
+    StepFault::Command(CommandFault::BadIndex)
 }
 
 /// The same numbers, wider.

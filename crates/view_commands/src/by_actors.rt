@@ -99,7 +99,7 @@ fn fit_cuts(view: &View, cuts: &[u32]) -> Result<ArrayVec<u64, 63>, StepFault>
     ensures cuts { IfOk result (λ wide. wide.items ≡ cuts.now) }
 {
     if cuts.len() > MAX_CUTS || !are_cuts(cuts, view.extents().count()) {
-        return Err(StepFault::Command(CommandFault::BadActors(BadActors::Cuts)));
+        return Err(bad_actors(BadActors::Cuts));
     }
     Ok(widened(cuts))
 }
@@ -123,9 +123,15 @@ fn check_turns(turns: u32) -> Result<(), StepFault>
     ensures { Gives (λ done. tt) result (refused_if (nat_lt (2 ^ 20) turns) (CommandFault.BadActors BadActors.Turns)) }
 {
     if turns > MAX_TURNS {
-        return Err(StepFault::Command(CommandFault::BadActors(BadActors::Turns)));
+        return Err(bad_actors(BadActors::Turns));
     }
     Ok(())
+}
+
+fn bad_actors(bad: BadActors) -> StepFault
+    ensures { result ≡ StepFault.Command (CommandFault.BadActors bad) }
+{
+    StepFault::Command(CommandFault::BadActors(bad))
 }
 
 // That no byte holds bits of rows of two actors.

@@ -1,7 +1,7 @@
 // `kernel V .. lanes N`.
-ghost use Rattle.std.specs.Prelude.{◌≡◌, Some};
+ghost use Rattle.std.specs.Prelude.{◌≡◌, ◌+◌, ◌≤◌, Some};
 ghost use Rattle.view_commands.specs.Imports.{fit_kernel, kernel_run};
-ghost use Rattle.view_commands.specs.Changes.{kernel_left};
+ghost use Rattle.view_commands.specs.Changes.{Changed, kernel_left};
 ghost use Rattle.view_commands.specs.Steps.{kernel_steps};
 
 use crate::change::{Change, ChangeFault};
@@ -34,11 +34,25 @@ impl Change for RunKernel<'_> {
         view: &mut View,
         steps: &mut Steps<L>,
     ) -> Result<Option<i128>, ChangeFault> {
-        let kernel = fit_kernel(alloc, view, self.kernel, *self.lanes)?;
-        match run_lanes(view, &kernel, *self.lanes as usize, steps) {
-            Ok(number) => Ok(widened(number)),
-            Err(fault) => Err(kernel_fault(fault)),
-        }
+        run_text(alloc, view, self.kernel, *self.lanes, steps)
+    }
+}
+
+fn run_text<L: Ledger>(
+    alloc: Global,
+    view: &mut View,
+    text: &KernelText,
+    lanes: u32,
+    steps: &mut Steps<L>,
+) -> Result<Option<i128>, ChangeFault>
+    ensures number { Changed (kernel_run view.old text.now lanes)
+        (λ row. kernel_left view.old row (fit_kernel view.old.fields text.now lanes)) view.old result view.new }
+    ensures steps { steps.new ≤ steps.old + kernel_steps view.old text.now lanes }
+{
+    let kernel = fit_kernel(alloc, view, text, lanes)?;
+    match run_lanes(view, &kernel, lanes as usize, steps) {
+        Ok(number) => Ok(widened(number)),
+        Err(fault) => Err(kernel_fault(fault)),
     }
 }
 

@@ -1,6 +1,7 @@
 // `reduce V sum|min|max path` and `reduce V count where ..`.
 ghost use Rattle.std.specs.Prelude.{◌≡◌, ◌<◌};
 ghost use Rattle.view_commands.specs.Imports.{term_of, reading, counting, form_of, reduction};
+ghost use Rattle.view_commands.specs.Changes.{Changed, all_left};
 
 use crate::change::{Change, ChangeFault};
 use crate::faults::update_fault;
@@ -31,11 +32,7 @@ impl Change for Reduce<'_> {
         view: &mut View,
         steps: &mut Steps<L>,
     ) -> Result<Option<i128>, ChangeFault> {
-        let leaf = leaf_of(alloc, view, self.path)?;
-        match reduce_leaf(view, leaf, form_of(*self.kind), steps) {
-            Some(number) => Ok(Some(number)),
-            None => Err(ChangeFault::Other(StepFault::Command(CommandFault::Empty))),
-        }
+        reduction(alloc, view, *self.kind, self.path, steps)
     }
 }
 
@@ -54,11 +51,38 @@ impl Change for Count<'_> {
         view: &mut View,
         steps: &mut Steps<L>,
     ) -> Result<Option<i128>, ChangeFault> {
-        let filter = bound(alloc, view, self.filter)?;
-        match count_where(view, &filter, steps) {
-            Ok(rows) => Ok(Some(i128::from(rows))),
-            Err(fault) => Err(update_fault(fault)),
-        }
+        counting(alloc, view, self.filter, steps)
+    }
+}
+
+fn reduction<L: Ledger>(
+    alloc: Global,
+    view: &mut View,
+    kind: ReduceKind,
+    path: &Path,
+    steps: &mut Steps<L>,
+) -> Result<Option<i128>, ChangeFault>
+    ensures { Changed (reading (λ content. reduction content kind path.now) view.old) (all_left view.old) view.old result view.new }
+{
+    let leaf = leaf_of(alloc, view, path)?;
+    match reduce_leaf(view, leaf, form_of(kind), steps) {
+        Some(number) => Ok(Some(number)),
+        None => Err(ChangeFault::Other(StepFault::Command(CommandFault::Empty))),
+    }
+}
+
+fn counting<L: Ledger>(
+    alloc: Global,
+    view: &mut View,
+    filter: &Expr,
+    steps: &mut Steps<L>,
+) -> Result<Option<i128>, ChangeFault>
+    ensures { Changed (reading (λ content. counting content (term_of filter.now)) view.old) (all_left view.old) view.old result view.new }
+{
+    let filter = bound(alloc, view, filter)?;
+    match count_where(view, &filter, steps) {
+        Ok(rows) => Ok(Some(i128::from(rows))),
+        Err(fault) => Err(update_fault(fault)),
     }
 }
 

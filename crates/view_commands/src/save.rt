@@ -27,9 +27,11 @@ impl Work for Save {
     ) -> Result<(), StepFault> {
         match write_file(alloc, view, out) {
             Ok(()) => Ok(()),
-            Err(SaveEnd::TooBig) => Err(StepFault::Command(CommandFault::TooBig)),
-            Err(SaveEnd::Failed) => Err(StepFault::Sink),
-            Err(SaveEnd::NoMemory) => Err(StepFault::NoMemory),
+            Err(end) => match end {
+                SaveEnd::TooBig => Err(StepFault::Command(CommandFault::TooBig)),
+                SaveEnd::Failed => Err(StepFault::Sink),
+                SaveEnd::NoMemory => Err(StepFault::NoMemory),
+            },
         }
     }
 }

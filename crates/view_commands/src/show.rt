@@ -1,7 +1,6 @@
 // `print V`, `counts V`, `heat V`, `layout V` and `bytes V B`.
 ghost use Rattle.std.specs.Prelude.{◌≡◌, ◌++◌, All, IfOk, OnOk};
-ghost use Rattle.view_commands.specs.Imports.{bits_of, IsOwnerBelow, leaf_count_of, owners_of, tells, telling, showing, small, all_runs, bytes, Gives};
-ghost use Rattle.worlds.specs.OnView.{does as work_does};
+ghost use Rattle.view_commands.specs.Imports.{bits_of, IsOwnerBelow, leaf_count_of, owners_of, tells, reading, telling, print, counts, heat, layout, small, all_runs, bytes, Gives};
 ghost use Rattle.instrument.specs.BlobTexts.{bytes_of, bytes_text};
 
 use crate::work::Work;
@@ -10,7 +9,6 @@ use command_checks::StepFault;
 use csv_rows::print_rows;
 use instrument::{write_bytes, write_counts, write_heat, write_runs};
 use layout_io::Sink;
-use line_grammar::ShowKind;
 use places::{Mapping, Run, RunList, laws_of};
 use record_dim::Steps;
 use std::alloc::{AllocError as NoMemory, Global};
@@ -21,33 +19,83 @@ use worlds::CommandFault;
 /// The most bytes of a view whose blobs are shown.
 const MAX_SHOWN_BYTES: u64 = 65_536;
 
-// Writes the table, how often each leaf was read and written, how often each granule of the blobs was accessed, or whose their bits are.
-impl Work for ShowKind {
-    ghost does = { λ this table. work_does (showing this) table };
+/// Writes the table.
+#[derive(Drop)]
+pub struct Print;
+
+impl Work for Print {
+    ghost does = { λ this table. reading print table };
+
+    fn run<K: Sink, L: Ledger>(
+        &self,
+        _alloc: Global,
+        view: &mut View,
+        out: &mut K,
+        steps: &mut Steps<L>,
+    ) -> Result<(), StepFault> {
+        Ok(print_rows(view, out, steps)?)
+    }
+}
+
+/// Writes how often each leaf was read and written.
+#[derive(Drop)]
+pub struct Counts;
+
+impl Work for Counts {
+    ghost does = { λ this table. telling counts table };
+
+    fn run<K: Sink, L: Ledger>(
+        &self,
+        _alloc: Global,
+        view: &mut View,
+        out: &mut K,
+        _steps: &mut Steps<L>,
+    ) -> Result<(), StepFault> {
+        let Some(counts) = view.counts() else {
+            return Err(StepFault::Command(CommandFault::NotCounted));
+        };
+        Ok(write_counts(counts, view.schema(), out)?)
+    }
+}
+
+/// Writes how often each granule of the blobs was accessed.
+#[derive(Drop)]
+pub struct Heat;
+
+impl Work for Heat {
+    ghost does = { λ this table. telling heat table };
+
+    fn run<K: Sink, L: Ledger>(
+        &self,
+        _alloc: Global,
+        view: &mut View,
+        out: &mut K,
+        _steps: &mut Steps<L>,
+    ) -> Result<(), StepFault> {
+        let Some(heat) = view.heat() else {
+            return Err(StepFault::Command(CommandFault::NotCounted));
+        };
+        Ok(write_heat(heat, out)?)
+    }
+}
+
+/// Writes whose the bits of the blobs are.
+#[derive(Drop)]
+pub struct Layout;
+
+impl Work for Layout {
+    ghost does = { λ this table. telling layout table };
 
     fn run<K: Sink, L: Ledger>(
         &self,
         alloc: Global,
         view: &mut View,
         out: &mut K,
-        steps: &mut Steps<L>,
+        _steps: &mut Steps<L>,
     ) -> Result<(), StepFault> {
-        match self {
-            ShowKind::Print => Ok(print_rows(view, out, steps)?),
-            ShowKind::Counts => match view.counts() {
-                Some(counts) => Ok(write_counts(counts, view.schema(), out)?),
-                None => Err(StepFault::Command(CommandFault::NotCounted)),
-            },
-            ShowKind::Heat => match view.heat() {
-                Some(heat) => Ok(write_heat(heat, out)?),
-                None => Err(StepFault::Command(CommandFault::NotCounted)),
-            },
-            ShowKind::Layout => {
-                check_small(view)?;
-                let runs = all_runs(alloc, view)?;
-                Ok(write_runs(&runs, view.schema(), out)?)
-            }
-        }
+        check_small(view)?;
+        let runs = all_runs(alloc, view)?;
+        Ok(write_runs(&runs, view.schema(), out)?)
     }
 }
 

@@ -33,11 +33,24 @@ impl Change for Update<'_> {
         view: &mut View,
         steps: &mut Steps<L>,
     ) -> Result<Option<i128>, ChangeFault> {
-        let filter = bound_filter(alloc, view, self.filter)?;
-        let sets = bound_sets(alloc, view, self.sets.as_slice())?;
-        each_once(view, sets.as_slice())?;
-        update_all(view, filter.as_ref(), sets.as_slice(), steps)
+        updated(alloc, view, self.filter, self.sets.as_slice(), steps)
     }
+}
+
+fn updated<L: Ledger>(
+    alloc: Global,
+    view: &mut View,
+    filter: &Option<Expr>,
+    sets: &[SetText],
+    steps: &mut Steps<L>,
+) -> Result<Option<i128>, ChangeFault>
+    ensures { Changed (updated view.old (option_map term_of filter.now) (map assignment_of sets.now))
+        (λ row. front_left view.old row (updated_front view.old (option_map term_of filter.now) (map assignment_of sets.now) row)) view.old result view.new }
+{
+    let filter = bound_filter(alloc, view, filter)?;
+    let sets = bound_sets(alloc, view, sets)?;
+    each_once(view, sets.as_slice())?;
+    update_all(view, filter.as_ref(), sets.as_slice(), steps)
 }
 
 // The rows after the update.
@@ -71,7 +84,10 @@ pub fn bound_filter(
 {
     match filter {
         None => Ok(None),
-        Some(filter) => Ok(Some(bound(alloc, view, filter)?)),
+        Some(filter) => {
+            let filter = bound(alloc, view, filter)?;
+            Ok(Some(filter))
+        }
     }
 }
 

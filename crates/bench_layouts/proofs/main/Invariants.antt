@@ -2,4 +2,4 @@
 use Rattle.bench_layouts.proofs.main.Given as goal
 
 abbrev pub ghosts-checksum : goal.ghosts-checksum
-ghosts-checksum g a = record { name = a.blank.name; parts = a.blank.parts }
+ghosts-checksum a = record { name = a.blank.name; parts = a.blank.parts }

@@ -10,5 +10,5 @@ returns-in-Err-Mismatch-clause-answer g c = was_other c.args.source.now c.args.t
 pub returns-in-Err-Mismatch-clause-source : goal.returns-in-Err-Mismatch-clause-source
 returns-in-Err-Mismatch-clause-source g c = other_source c.args.source.now c.copy.new.source c.copy.result (search rules) c.copy.ensures.source
 
-pub returns-clause-answer : goal.returns-clause-answer
-returns-clause-answer g c = was_narrow c.args.source.now c.args.target.now c.copy.new.target c.in-Err-Narrow.row c.in-Err-Narrow.leaf (rw c.in-Err-Narrow.field-0-is at c.in-Err-Narrow.ensures.copied)
+pub returns-in-Err-Narrow-clause-answer : goal.returns-in-Err-Narrow-clause-answer
+returns-in-Err-Narrow-clause-answer g c = was_narrow c.args.source.now c.args.target.now c.copy.new.target c.in-Err-Narrow.row c.in-Err-Narrow.leaf (rw c.in-Err-Narrow.field-0-is at c.in-Err-Narrow.ensures.copied)

@@ -1,4 +1,5 @@
-use Rattle.view_commands.proofs.Lemmas.{◌≡◌, ◌∙◌, ℕ, List, ◌++◌, drop, codes, ap, digits_text, map_tokens, with_tokens_behind, term_of, best_goes, rest_from}
+use Rattle.view_commands.proofs.Imports.{◌≡◌, ◌∙◌, ℕ, List, ◌++◌, drop, codes, ap, digits_text, map_tokens, with_tokens_behind, term_of}
+use Rattle.view_commands.proofs.Advice.{best_goes, rest_from}
 use Rattle.view_commands.proofs.advise.best_words.Goals as goal
 
 pub returns : goal.returns

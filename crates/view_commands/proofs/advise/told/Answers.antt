@@ -1,4 +1,5 @@
-use Rattle.view_commands.proofs.Lemmas.{rules, ◌≡◌, Err, map, term_of, told_by, mapping_of, question_of, none_told, told_goes}
+use Rattle.view_commands.proofs.Imports.{rules, ◌≡◌, Err, map, term_of, told_by, mapping_of, question_of}
+use Rattle.view_commands.proofs.Advice.{none_told, told_goes}
 use Rattle.view_commands.proofs.advise.told.Goals as goal
 
 pub returns-in_err-advice-clause-told : goal.returns-in_err-advice-clause-told

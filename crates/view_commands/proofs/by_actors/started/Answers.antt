@@ -1,5 +1,13 @@
-use Rattle.view_commands.proofs.Lemmas.{ap, Table, ends_update, filter_is}
+use Rattle.view_commands.proofs.Imports.{ap, Table}
+use Rattle.view_commands.proofs.Arms.{ends_update}
+use Rattle.view_commands.proofs.Sets.{filter_is}
 use Rattle.view_commands.proofs.by_actors.started.Goals as goal
+
+pub returns-in-Ok-clause-run : goal.returns-in-Ok-clause-run
+returns-in-Ok-clause-run g c = rw (filter_is _ _ c.as_ref-filter.ensures.value, c.as_slice-sets.ensures.value, c.as_slice.ensures.value) at c.in-Ok.ensures.begun
+
+pub returns-in-Ok-clause-updated : goal.returns-in-Ok-clause-updated
+returns-in-Ok-clause-updated g c = rw (filter_is _ _ c.as_ref-filter.ensures.value, c.as_slice-sets.ensures.value) at c.in-Ok.ensures.updated
 
 pub returns-in_ok-in_words-in-Err-Update-clause-refused : goal.returns-in_ok-in_words-in-Err-Update-clause-refused
 returns-in_ok-in_words-in-Err-Update-clause-refused g c =

@@ -1,5 +1,9 @@
-use Rattle.view_commands.proofs.Lemmas.{◌≡◌, All, length, sym, subst, length-map, leaves, owners_of, leaf_types_of, logs_more, common_steps, arith, IsRunBelow, runs_below}
+use Rattle.view_commands.proofs.Imports.{◌≡◌, All, length, sym, subst, length-map, leaves, owners_of, leaf_types_of, logs_more, common_steps, arith}
+use Rattle.view_commands.proofs.Runs.{IsRunBelow, runs_below}
 use Rattle.view_commands.proofs.show.all_runs.Goals as goal
+
+pub loop-blob-preserved : goal.loop-blob-preserved
+loop-blob-preserved c = grind (arith, common_steps, logs_more)
 
 pub returns-clause-leaves : goal.returns-clause-leaves
 returns-clause-leaves c =

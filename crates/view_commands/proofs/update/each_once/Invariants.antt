@@ -1,4 +1,5 @@
-use Rattle.view_commands.proofs.Lemmas.{map, setting_of, leaves_of, IsOnce}
+use Rattle.view_commands.proofs.Imports.{map, setting_of, leaves_of}
+use Rattle.view_commands.proofs.Sets.{IsOnce}
 use Rattle.view_commands.proofs.update.each_once.Given as goal
 
 abbrev pub invariant-loop-place : goal.invariant-loop-place

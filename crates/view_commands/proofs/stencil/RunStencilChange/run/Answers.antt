@@ -1,5 +1,12 @@
-use Rattle.view_commands.proofs.Lemmas.{◌*◌, rules, refl, common_steps, arith, stencil_of, rounds_left, changed_as, stopped, no_room_left, run_is, unfit}
+use Rattle.view_commands.proofs.Imports.{◌*◌, rules, refl, common_steps, arith}
+use Rattle.command_checks.specs.Inner.Stencils.{stencil_of}
+use Rattle.view_commands.proofs.Changing.{changed_as, stopped}
+use Rattle.view_commands.proofs.Stencils.{no_room_left, run_is, unfit}
+use Rattle.view_commands.specs.Changes.{rounds_left}
 use Rattle.view_commands.proofs.stencil.RunStencilChange.run.Goals as goal
+
+pub returns-in_err-fit-clause-changed : goal.returns-in_err-fit-clause-changed
+returns-in_err-fit-clause-changed g c = grind (arith, common_steps, stopped, unfit)
 
 pub returns-in_err-check_room-clause-changed : goal.returns-in_err-check_room-clause-changed
 returns-in_err-check_room-clause-changed g c =
