@@ -1,18 +1,19 @@
 // `advise V granule G pass .. times N .. among M, ..`.
-ghost use Rattle.std.specs.Prelude.{◌≡◌, ◌≤◌, ◌++◌, IfOk, IsTrue, OnOk, codes, flat_map, length, map, option_map};
-ghost use Rattle.view_commands.specs.Imports.{enumerate_from, digits_text, map_tokens, with_tokens_behind, is_name, leaf_count_of, after_log, Read, all_accesses, telling, advise, advise_fault, advice_text, best_words, cost_line, cost_words, ok_or, mapping_of, Gives, IsQuestion};
+ghost use Rattle.std.specs.Prelude.{◌≡◌, ◌++◌, IfOk, OnOk, codes, flat_map, length, map, option_map};
+ghost use Rattle.view_commands.specs.Imports.{enumerate_from, digits_text, map_tokens, with_tokens_behind, leaf_count_of, after_log, Read, all_accesses, telling, advise, advise_fault, advice_text, best_words, cost_line, cost_words, ok_or, mapping_of, Gives, IsQuestion};
 ghost use Rattle.advisor.specs.Advice.{advice, told_by};
 ghost use Rattle.map_expr.specs.Terms.{term_of};
 
 use crate::work::Work;
 use advisor::{Advice, AdviseFault, Best, advise};
+use blob_file::named;
 use command_checks::{MappingList, Question, StepFault, asked};
 use itoa::Buffer;
 use layout_io::{Sink, write_parts};
 use line_grammar::{Line, PassTextList};
 use line_writer::write_line;
 use map_expr::{MapExpr, MapExprList};
-use record_dim::{Name, Steps, Text};
+use record_dim::{Steps, Text};
 use std::alloc::{AllocError as NoMemory, Global};
 use std::sync::ledger::Ledger;
 use views::View;
@@ -186,15 +187,4 @@ fn mapping_line(alloc: Global, expr: MapExpr) -> Result<Text, NoMemory>
     let text = write_line(alloc, &line);
     drop(line);
     text
-}
-
-// The name with this text.
-fn named(text: &str) -> Name
-    requires { IsTrue (is_name text.now) }
-    ensures { result ≡ text.now }
-{
-    let Some(name) = Name::new(text) else {
-        unreachable!()
-    };
-    name
 }

@@ -1,15 +1,16 @@
 // A command that may store, as one that writes its number.
-ghost use Rattle.std.specs.Prelude.{false, flat_map};
-ghost use Rattle.view_commands.specs.Imports.{text_of_part, Writes, number_text, number_line};
+ghost use Rattle.std.specs.Prelude.{false};
+ghost use Rattle.view_commands.specs.Imports.{Writes, number_text, number_line};
 
 use crate::change::{Change, in_words};
 use crate::work::Work;
 use command_checks::StepFault;
-use layout_io::{Failed, Part, Sink, TextBuffer};
+use layout_io::{Failed, Part, Sink};
 use record_dim::Steps;
 use std::alloc::Global;
 use std::sync::ledger::Ledger;
 use views::View;
+use worlds::write_line;
 
 /// Changes a view, and writes its number, if it gives one. A fault is in the words of a script.
 #[derive(Drop)]
@@ -51,12 +52,4 @@ fn write_number<K: Sink>(value: i128, out: &mut K) -> Result<(), Failed>
     ensures { Writes K.taken K.faults out.old out.new result (number_line value) }
 {
     write_line(&[Part::Number(value), Part::Text(b"\n")], out)
-}
-
-fn write_line<K: Sink>(parts: &[Part<'_>], out: &mut K) -> Result<(), Failed>
-    ensures { Writes K.taken K.faults out.old out.new result (flat_map text_of_part parts.now) }
-{
-    let mut buffer = TextBuffer::new();
-    buffer.put_parts(parts, out)?;
-    buffer.flush(out)
 }
