@@ -17,9 +17,10 @@ field_first xs n first = ⊎_elim
     (cases_lt n (length xs))
 
 first_left : (xs : List (List ℕ)) (i : ℕ) (x : List ℕ) (others : List (List ℕ)) → drop i xs ≡ x ∷ others → slice_get xs i ≡ Some x
+first_left [] zero x others is = absurd (cc is)
+first_left [] (suc i) x others is = absurd (cc is)
 first_left (y ∷ xs) zero x others is = let same : y ≡ x = cc is in ap Some same
 first_left (y ∷ xs) (suc i) x others is = first_left xs i x others is
-first_left xs i x others is = absurd (cc is)
 
 -- the field of a column, and the next one
 pub field_found : (line : List ℕ) (column start count : ℕ) → IsField line column start → IsFirstField (drop start line) count → slice_get (slice_split is_comma line) column ≡ Some (take count (drop start line))

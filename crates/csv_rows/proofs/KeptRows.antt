@@ -6,9 +6,10 @@ abbrev kept_from : Keeping → ℕ → List ℤ → List ℤ
 kept_from keep leaf values = map (λ (v : ℕ × ℤ). keep v.0 v.1) (enumerate_from leaf values)
 
 from_set : (keep : Keeping) (leaf : ℕ) (values : List ℤ) (i : ℕ) (value : ℤ) → kept_from keep leaf (set values i value) ≡ set (kept_from keep leaf values) i (keep (leaf + i) value)
+from_set keep leaf [] zero value = refl
+from_set keep leaf [] (suc i) value = refl
 from_set keep leaf (first ∷ values) zero value = grind arith
 from_set keep leaf (first ∷ values) (suc i) value = grind (arith, (from_set keep (leaf + 1) values i value))
-from_set keep leaf values i value = refl
 
 pub kept_set : (keep : Keeping) (values : List ℤ) (leaf : ℕ) (value : ℤ) → kept_row keep (set values leaf value) ≡ set (kept_row keep values) leaf (keep leaf value)
 kept_set keep values leaf value =
