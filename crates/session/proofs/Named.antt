@@ -19,8 +19,10 @@ first_replaced name (entry ∷ entries) (suc place) d held first = rw first.0 (a
 pub first_still : (name : List ℕ) (entries : List (Entry Table)) (place other : ℕ) (d : Entry Table) (held : Table) → IsFirst name entries place →
     IsFirst name (slice_set entries other (record { name = (get_or entries other d).name; held = held })) place
 first_still name [] place other d held first = absurd first
+first_still name (entry ∷ entries) zero zero d held first = first
+first_still name (entry ∷ entries) zero (suc other) d held first = first
+first_still name (entry ∷ entries) (suc place) zero d held first = first
 first_still name (entry ∷ entries) (suc place) (suc other) d held first = (first.0, first_still name entries place other d held first.1)
-first_still name entries place other d held first = first
 
 -- a name that is unknown is so too where a table was replaced
 still_unknown : (name other : List ℕ) (entries : List (Entry Table)) (held : Table) → found name entries ≡ None → found name (replaced other held entries) ≡ None
