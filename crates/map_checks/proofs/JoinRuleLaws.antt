@@ -26,7 +26,7 @@ pieces_by rule = rule.pieces.items
 -- a byte keeps the leaf of its cell
 byte_leaf : (cells : List Cell) (c j : ℕ) (d e : Cell) → c < length cells → j < width_of (get_or cells c e).kind / 8
     → (get_or (byte_cells_of cells) (byte_count (take c cells) + j) d).leaf ≡ (get_or cells c e).leaf
-byte_leaf [] c j d e inside low = let never : ⊥ = omega arith in absurd never
+byte_leaf [] c j d e inside low = absurd (omega arith)
 byte_leaf (cell ∷ cells) zero j d e inside low = grind (arith, length-replicate, get_or_append_left, get_or-replicate)
 byte_leaf (cell ∷ cells) (suc c) j d e inside low =
     let n : ℕ = width_of cell.kind / 8 in
@@ -56,8 +56,7 @@ module _ (cells : List Cell) (bytes : List Rule) (each : length bytes ≡ byte_c
       (λ d.
       let more : byte_count (take (c + 1) cells) ≡ first + width_of (get_or cells c d).kind / 8 = sum_by_more (λ (x : Cell). width_of x.kind / 8) cells c d inside in
       let width : slice_index ws c ≡ width_of (get_or cells c d).kind = get_or-map (λ (x : Cell). width_of x.kind) cells c d 0 inside in
-      let z : byte_count (take (c + 1) cells) ≡ first + count = omega arith in
-      z)
+      omega arith)
 
   pub within : first + count ≤ length bytes
   within =
@@ -105,8 +104,7 @@ module _ (cells : List Cell) (bytes : List Rule) (each : length bytes ≡ byte_c
     byte_ruled : (j : ℕ) (d : Rule) → j < count → IsRuleOf layout extents (first + j) 8 (get_or those j d)
     byte_ruled j d low =
         let size : length bytes ≡ length es = ruled.each in
-        let here : first + j < length bytes = omega (arith, within) in
-        let there : IsRuleOf layout extents (first + j) (slice_index es (first + j)) (get_or bytes (first + j) d) = ruled.places (first + j) d here in
+        let there : IsRuleOf layout extents (first + j) (slice_index es (first + j)) (get_or bytes (first + j) d) = ruled.places (first + j) d (omega (arith, within)) in
         grind (arith, those_at)
 
     all_bytes : (P : Rule → Type 0) → ((i : ℕ) (rule : Rule) → IsRuleOf layout extents i 8 rule → P rule) → All P those
@@ -128,10 +126,8 @@ module _ (cells : List Cell) (bytes : List Rule) (each : length bytes ≡ byte_c
       places_so_far (suc j) low =
           let j_in : j < count = omega arith in
           let here : j < length those = omega (arith, length-those) in
-          let so_far : IsLocated new row c (8 * j) (pieces_in (flat_map pieces_by (take j those)) slot) = places_so_far j (omega arith) in
-          let begin : first ≡ bytes_before ws c = byte_count_before cells c in
           let at : get_or (byte_cells ws) (first + j) (0, 0) ≡ (c, j) =
-          ap (λ (n : ℕ). get_or (byte_cells ws) (n + j) (0, 0)) begin ∙ byte_cell_at ws c j c_in j_in in
+          ap (λ (n : ℕ). get_or (byte_cells ws) (n + j) (0, 0)) (byte_count_before cells c) ∙ byte_cell_at ws c j c_in j_in in
           with_item those j here
           (λ d.
           let byte : Rule = get_or those j d in
@@ -139,7 +135,7 @@ module _ (cells : List Cell) (bytes : List Rule) (each : length bytes ≡ byte_c
           subst (λ (o : Order). IsLocated layout row (first + j) 8 (pieces_in byte.pieces.items (slot_at o extents row))) (orders j d j_in)
           ((byte_ruled j d j_in).places row row_in) in
           let joined : IsLocated new row c (8 * (j + 1)) (pieces_in (flat_map pieces_by (take j those)) slot ++ pieces_in byte.pieces.items slot) =
-          byte_joined layout ws row c j (first + j) at (pieces_in (flat_map pieces_by (take j those)) slot) (pieces_in byte.pieces.items slot) so_far placed in
+          byte_joined layout ws row c j (first + j) at (pieces_in (flat_map pieces_by (take j those)) slot) (pieces_in byte.pieces.items slot) (places_so_far j (omega arith)) placed in
           let next : j + 1 ≡ suc j = omega arith in
           let more : flat_map pieces_by (take (j + 1) those) ≡ flat_map pieces_by (take j those) ++ byte.pieces.items =
           ap (λ (rs : List Rule). flat_map pieces_by rs) (take_more those j d here)
@@ -152,9 +148,8 @@ module _ (cells : List Cell) (bytes : List Rule) (each : length bytes ≡ byte_c
       places_joined : IsLocated new row c (slice_index ws c) (pieces_in (flat_map pieces_by those) slot)
       places_joined =
           let whole : slice_index ws c % 8 ≡ 0 = widths_whole cells c 0 c_in in
-          let all : 8 * count ≡ slice_index ws c = omega arith in
           let size : length those ≡ count = length-those in
-          subst (λ (w : ℕ). IsLocated new row c w (pieces_in (flat_map pieces_by those) slot)) all
+          subst (λ (w : ℕ). IsLocated new row c w (pieces_in (flat_map pieces_by those) slot)) (omega arith)
           (subst (λ (rs : List Rule). IsLocated new row c (8 * count) (pieces_in (flat_map pieces_by rs) slot)) (take_all count those (omega arith))
           (places_so_far count (omega arith)))
 
@@ -163,26 +158,23 @@ module _ (cells : List Cell) (bytes : List Rule) (each : length bytes ≡ byte_c
         → IsRuleOf (bytesplit ws layout) extents c (slice_index ws c) rule
     joined_rule rule join orders =
         let whole : slice_index ws c % 8 ≡ 0 = widths_whole cells c 0 c_in in
-        let size : length (bytesplit ws layout) ≡ length layout = length-map layout _ in
-        let eight : 8 % 8 ≡ 0 = omega arith in
-        let first_order : rule.order ≡ (get_or those 0 rule).order = join.order rule in
         record {
-          few = subst (λ (o : Order). slot_count o extents ≤ 2 ^ 24) (sym first_order) (byte_ruled 0 rule some_bytes).few;
+          few = subst (λ (o : Order). slot_count o extents ≤ 2 ^ 24) (sym (join.order rule)) (byte_ruled 0 rule some_bytes).few;
           blobs =
               subst (λ (ps : List PieceRule). All (λ (p : PieceRule). p.blob < length (bytesplit ws layout)) ps) (sym join.pieces)
-              (subst (λ (n : ℕ). All (λ (p : PieceRule). p.blob < n) (flat_map pieces_by those)) (sym size)
+              (subst (λ (n : ℕ). All (λ (p : PieceRule). p.blob < n) (flat_map pieces_by those)) (sym (length-map layout _))
               (all_pieces (λ (p : PieceRule). p.blob < length layout) (λ i r h. h.blobs)));
           bits =
               ap (λ (ps : List PieceRule). sum_by (λ (p : PieceRule). p.bits) ps) join.pieces
               ∙ sum_flat (λ (p : PieceRule). p.bits) pieces_by those (all_bytes (λ (r : Rule). sum_by (λ (p : PieceRule). p.bits) r.pieces.items ≡ 8) (λ i r h. h.bits))
-              ∙ (let z : 8 * length those ≡ slice_index ws c = omega (arith, length-those) in z);
+              ∙ (omega (arith, length-those));
           bounds =
               subst (λ (ps : List PieceRule). All (λ (p : PieceRule). p.base + p.bits < 2 ^ 64) ps) (sym join.pieces)
               (all_pieces (λ (p : PieceRule). p.base + p.bits < 2 ^ 64) (λ i r h. h.bounds));
           some = subst (λ (ps : List PieceRule). All (λ (p : PieceRule). 0 < p.bits) ps) (sym join.pieces) (all_pieces (λ (p : PieceRule). 0 < p.bits) (λ i r h. h.some));
           whole = λ e.
               subst (λ (ps : List PieceRule). All (λ (p : PieceRule). p.bits % 8 ≡ 0) ps) (sym join.pieces)
-              (all_pieces (λ (p : PieceRule). p.bits % 8 ≡ 0) (λ i r h. h.whole eight));
+              (all_pieces (λ (p : PieceRule). p.bits % 8 ≡ 0) (λ i r h. h.whole (omega arith)));
           places = λ row row_in.
               subst (λ (ps : List PieceRule). IsLocated (bytesplit ws layout) row c (slice_index ws c) (pieces_in ps (slot_at rule.order extents row))) (sym join.pieces)
               (places_joined rule.order row row_in orders);
@@ -192,15 +184,12 @@ module _ (cells : List Cell) (bytes : List Rule) (each : length bytes ≡ byte_c
     module _ (order_at : ℕ → Order) (ordered : map order_in bytes ≡ map (λ (cell : Cell). order_at cell.leaf) (byte_cells_of cells)) where
       leaf_order : (j : ℕ) (d : Rule) (e : Cell) → j < count → (get_or those j d).order ≡ order_at (get_or cells c e).leaf
       leaf_order j d e low =
-          let here : first + j < length bytes = omega (arith, within) in
-          let there : first + j < length (byte_cells_of cells) = omega (arith, length-bytes cells) in
           let width : slice_index ws c ≡ width_of (get_or cells c e).kind = get_or-map (λ (x : Cell). width_of x.kind) cells c e 0 inside in
-          let small : j < width_of (get_or cells c e).kind / 8 = omega arith in
           ap order_in (those_at j d low)
-          ∙ sym (get_or-map order_in bytes (first + j) d (order_in d) here)
+          ∙ sym (get_or-map order_in bytes (first + j) d (order_in d) (omega (arith, within)))
           ∙ ap (λ (os : List Order). get_or os (first + j) (order_in d)) ordered
-          ∙ get_or-map (λ (cell : Cell). order_at cell.leaf) (byte_cells_of cells) (first + j) e (order_in d) there
-          ∙ ap order_at (byte_leaf cells c j e e inside small)
+          ∙ get_or-map (λ (cell : Cell). order_at cell.leaf) (byte_cells_of cells) (first + j) e (order_in d) (omega (arith, length-bytes cells))
+          ∙ ap order_at (byte_leaf cells c j e e inside (omega arith))
 
       pub cell_order : (rule : Rule) (e : Cell) → IsJoined those rule → rule.order ≡ order_at (get_or cells c e).leaf
       cell_order rule e join = join.order rule ∙ leaf_order 0 rule e some_bytes
@@ -216,13 +205,11 @@ module _ (cells : List Cell) (bytes rules : List Rule) (layout : List (List Owne
     (ordered : map order_in bytes ≡ map (λ (cell : Cell). order_at cell.leaf) (byte_cells_of cells)) (join : AreJoined cells bytes rules) where
   pub join_ruled : IsRuled (bytesplit (widths_of cells) layout) extents (widths_of cells) rules
   join_ruled =
-      let size : length (widths_of cells) ≡ length cells = length-widths cells in
       let count : length rules ≡ length cells = join.each in
       record {
-        each = count ∙ sym size;
+        each = count ∙ sym (length-widths cells);
         places = λ k d inside.
-            let k_in : k < length cells = omega arith in
-            cell_ruled cells bytes counted k k_in layout extents es ruled eights order_at ordered (get_or rules k d) (join.join k d inside);
+            cell_ruled cells bytes counted k (omega arith) layout extents es ruled eights order_at ordered (get_or rules k d) (join.join k d inside);
       }
 
   pub join_orders : map order_in rules ≡ map (λ (cell : Cell). order_at cell.leaf) cells

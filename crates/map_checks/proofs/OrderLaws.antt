@@ -8,7 +8,7 @@ map_constant {X} {Y} y (x ∷ xs) = ap (λ (ys : List Y). y ∷ ys) (map_constan
 
 -- what holds where there is some item holds where there is one in a list
 pub with_item : {X P : Type 0} (xs : List X) (k : ℕ) → k < length xs → ((d : X) → P) → P
-with_item [] k inside to = let none : ⊥ = omega arith in absurd none
+with_item [] k inside to = absurd (omega arith)
 with_item (x ∷ xs) k inside to = to x
 
 abbrev pub order_in : Rule → Order

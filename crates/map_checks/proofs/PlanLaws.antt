@@ -10,11 +10,9 @@ pub base_planned : (layout : ℕ → List ℕ → List (List Owner)) (order : Or
     → IsRuled (in_rows (row_at order extents) made) extents (map (λ (h : Hold). h.width) holds) plan.rules
     → IsPlanFor (slot_count order extents) (ordered order extents (λ n. layout n (widths_of cells))) extents stored plan
 base_planned layout order extents cells slots made holds stored plan counted made_is holds_are fits held sized ruled =
-    let same : in_rows (row_at order extents) made ≡ ordered order extents (λ n. layout n (widths_of cells)) =
-    ap (in_rows (row_at order extents)) made_is ∙ by_rows layout order extents cells slots counted in
     record {
       held = held ∙ holds_are;
-      sized = subst (λ (l : List (List Owner)). HasLengths l plan.lengths) same sized;
+      sized = subst (λ (l : List (List Owner)). HasLengths l plan.lengths) (ap (in_rows (row_at order extents)) made_is ∙ by_rows layout order extents cells slots counted) sized;
       ruled = grind arith;
       fits = within layout order extents cells slots counted fits;
     }

@@ -50,12 +50,10 @@ pub split_ruled : (side : List Bool) (first rest : List (List Owner)) (extents w
 split_ruled side first rest extents ws vs xs ys rules one two all_first all_rest h =
     let left_size : length xs ≡ length ws = one.each in
     let right_size : length ys ≡ length vs = two.each in
-    let whole : length (merged side ws vs) ≡ length side = length-merged side ws vs (omega arith) (omega arith) in
     let front : List (List Owner) = recelled (numbers_of side) first in
     let back : List (List Owner) = recelled (numbers_of (map not side)) rest in
-    let long : length front ≡ length first = length-map first _ in
     record {
-      each = h.each ∙ sym whole;
+      each = h.each ∙ sym (length-merged side ws vs (omega arith) (omega arith));
       places = λ k d inside.
           let each : length rules ≡ length side = h.each in
           let k_in : k < length side = omega arith in
@@ -64,23 +62,20 @@ split_ruled side first rest extents ws vs xs ys rules one two all_first all_rest
           (λ (yes : get_or side k false ≡ true).
           let i : ℕ = rank_first side k in
           let i_in : i < count_by (λ (s : Bool). s) side = rank_first_in side k k_in yes in
-          let width : slice_index ws i ≡ slice_index (merged side ws vs) k = sym (merged_first 0 side ws vs k k_in yes (omega arith) (omega arith)) in
-          let number : get_or (numbers_of side) i 0 ≡ k = number_first 0 side k k_in yes ∙ (let e : 0 + k ≡ k = omega arith in e) in
+          let number : get_or (numbers_of side) i 0 ≡ k = number_first 0 side k k_in yes ∙ (omega arith) in
           let here : IsRuleOf (split side first rest) extents k (slice_index ws i) rule =
           placed_rule [] first back extents (numbers_of side) i k (slice_index ws i) 0 (get_or xs i d) rule (one.places i d (omega arith)) number
           ((h.split k d inside).left yes d) refl in
-          subst (λ (w : ℕ). IsRuleOf (split side first rest) extents k w rule) width here)
+          subst (λ (w : ℕ). IsRuleOf (split side first rest) extents k w rule) (sym (merged_first 0 side ws vs k k_in yes (omega arith) (omega arith))) here)
           (λ (no' : get_or side k false ≡ false).
           let j : ℕ = rank_rest side k in
           let j_in : j < count_by not side = rank_rest_in side k k_in no' in
           let width : slice_index vs j ≡ slice_index (merged side ws vs) k = sym (merged_rest 0 side ws vs k k_in no' (omega arith) (omega arith)) in
-          let number : get_or (numbers_of (map not side)) j 0 ≡ k = number_rest 0 side k k_in no' ∙ (let e : 0 + k ≡ k = omega arith in e) in
+          let number : get_or (numbers_of (map not side)) j 0 ≡ k = number_rest 0 side k k_in no' ∙ (omega arith) in
           let here : IsRuleOf ((front ++ back) ++ []) extents k (slice_index vs j) rule =
           placed_rule front rest [] extents (numbers_of (map not side)) j k (slice_index vs j) (length first) (get_or ys j d) rule (two.places j d (omega arith)) number
-          ((h.split k d inside).right no' d) long in
-          let there : IsRuleOf (split side first rest) extents k (slice_index vs j) rule =
-          subst (λ (l : List (List Owner)). IsRuleOf l extents k (slice_index vs j) rule) (append-nil (front ++ back)) here in
-          subst (λ (w : ℕ). IsRuleOf (split side first rest) extents k w rule) width there)
+          ((h.split k d inside).right no' d) (length-map first _) in
+          subst (λ (w : ℕ). IsRuleOf (split side first rest) extents k w rule) width (subst (λ (l : List (List Owner)). IsRuleOf l extents k (slice_index vs j) rule) (append-nil (front ++ back)) here))
           (cases_Bool (get_or side k false));
     }
 
@@ -96,5 +91,4 @@ module _ (side : List Bool) (by : ℕ) (first rest rules more : List Rule) (k i 
   pub more_rest : get_or side k false ≡ false → i ≡ rank_rest side k → i < length rest → from ≡ get_or rest i from → IsShifted by from rule
       → EachWith (IsSplitRule side by first rest) more
   more_rest is_no rank low read moved =
-      let here : IsSplitRule side by first rest k rule = grind (arith, get_or_default) in
-      each_push (IsSplitRule side by first rest) rules more rule pushed so_far (subst (λ (n : ℕ). IsSplitRule side by first rest n rule) (sym count) here)
+      each_push (IsSplitRule side by first rest) rules more rule pushed so_far (subst (λ (n : ℕ). IsSplitRule side by first rest n rule) (sym count) (grind (arith, get_or_default)))

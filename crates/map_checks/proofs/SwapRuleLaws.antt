@@ -24,8 +24,7 @@ swapped_rule layout extents ws c rule later whole h swap =
       whole = λ e. grind (arith, All-weaker, swapped_eights);
       places = λ row inside.
           let slot : ℕ = slot_at rule.order extents row in
-          let same : pieces_of later extents row ≡ swapped (pieces_of rule extents row) = grind (arith, swapped_in) in
-          subst (λ (ps : List Piece). IsLocated (byteswap ws layout) row c (get_or ws c 0) ps) (sym same)
+          subst (λ (ps : List Piece). IsLocated (byteswap ws layout) row c (get_or ws c 0) ps) (sym (grind (arith, swapped_in)))
           (swap_located layout ws row c whole (pieces_of rule extents row) (h.places row inside));
     }
 
@@ -34,14 +33,11 @@ pub swap_ruled : (layout : List (List Owner)) (extents ws : List ℕ) (rules lat
     → AreSwapped rules later → IsRuled (byteswap ws layout) extents ws later
 swap_ruled layout extents ws rules later ruled whole h =
     let each : length rules ≡ length ws = ruled.each in
-    let size : length later ≡ length rules = h.each in
     record {
-      each = size ∙ each;
+      each = h.each ∙ each;
       places = λ k d inside.
           let rule : Rule = get_or later k d in
-          let k_in : k < length rules = omega arith in
-          let w_in : k < length ws = omega arith in
-          swapped_rule layout extents ws k (get_or rules k rule) rule (whole k 0 w_in) (ruled.places k rule k_in) (h.swap k d inside);
+          swapped_rule layout extents ws k (get_or rules k rule) rule (whole k 0 (omega arith)) (ruled.places k rule (omega arith)) (h.swap k d inside);
     }
 
 -- they keep their orders
@@ -55,7 +51,6 @@ swap_orders rules later h =
     let k_in : k < length later = omega arith in
     with_item later k k_in
     (λ d.
-    let rule : Rule = get_or later k d in
     get_or-map order_in later k d e k_in
     ∙ (h.swap k d k_in).0
-    ∙ sym (get_or-map order_in rules k rule e (omega arith))))
+    ∙ sym (get_or-map order_in rules k (get_or later k d) e (omega arith))))

@@ -1,7 +1,7 @@
 ghost use Rattle.std.specs.Prelude.{◌≡◌, ◌⊎◌, IfOk, IfErr, IsErrOf, None, map};
-ghost use Rattle.map_checks.specs.Imports.{schema_fields, slot_count, bit_aos, bit_soa, widths_in, IsTooBig, bad_widths};
-ghost use Rattle.map_checks.specs.Mappings.{ordered, held_within};
-ghost use Rattle.map_checks.specs.Plans.{IsPlanFor};
+ghost use Rattle.map_checks.specs.Imports.{schema_fields, bad_widths, BitAos as BitAosTerm, BitSoa as BitSoaTerm};
+ghost use Rattle.map_checks.specs.Mappings.{IsTooBigFor};
+ghost use Rattle.map_checks.specs.Plans.{IsPlanOf};
 
 use crate::base_plan::base_plan;
 use crate::orders::count_slots;
@@ -26,11 +26,9 @@ pub fn bit_aos_plan(
     fields: &WidthList,
 ) -> Result<Plan, MakeMap>
     requires widths { bad_widths width fields.now ≡ None }
-    ensures plan { IfOk result (IsPlanFor (slot_count order extents.now) (ordered order extents.now (λ slots. bit_aos slots (widths_in (held_within (schema_fields schema.now) width fields.now cells.now))))
-        extents.now (held_within (schema_fields schema.now) width fields.now cells.now)) }
+    ensures plan { IfOk result (IsPlanOf (BitAosTerm width fields.now order) extents.now (schema_fields schema.now) cells.now) }
     ensures orders { IfOk result (λ plan. map (λ rule. rule.order) plan.rules ≡ map (λ cell. order) cells.now) }
-    ensures too_big { IsErrOf result MakeMap.TooBig
-        → IsTooBig (slot_count order extents.now) (ordered order extents.now (λ slots. bit_aos slots (widths_in (held_within (schema_fields schema.now) width fields.now cells.now)))) }
+    ensures too_big { IsErrOf result MakeMap.TooBig → IsTooBigFor (BitAosTerm width fields.now order) extents.now (schema_fields schema.now) cells.now }
     ensures only { IfErr result (λ e. (e ≡ MakeMap.TooBig) ⊎ (e ≡ MakeMap.NoMemory)) }
 {
     let slots = count_slots(order, extents)?;
@@ -51,11 +49,9 @@ pub fn bit_soa_plan(
     fields: &WidthList,
 ) -> Result<Plan, MakeMap>
     requires widths { bad_widths width fields.now ≡ None }
-    ensures plan { IfOk result (IsPlanFor (slot_count order extents.now) (ordered order extents.now (λ slots. bit_soa slots (widths_in (held_within (schema_fields schema.now) width fields.now cells.now))))
-        extents.now (held_within (schema_fields schema.now) width fields.now cells.now)) }
+    ensures plan { IfOk result (IsPlanOf (BitSoaTerm width fields.now order) extents.now (schema_fields schema.now) cells.now) }
     ensures orders { IfOk result (λ plan. map (λ rule. rule.order) plan.rules ≡ map (λ cell. order) cells.now) }
-    ensures too_big { IsErrOf result MakeMap.TooBig
-        → IsTooBig (slot_count order extents.now) (ordered order extents.now (λ slots. bit_soa slots (widths_in (held_within (schema_fields schema.now) width fields.now cells.now)))) }
+    ensures too_big { IsErrOf result MakeMap.TooBig → IsTooBigFor (BitSoaTerm width fields.now order) extents.now (schema_fields schema.now) cells.now }
     ensures only { IfErr result (λ e. (e ≡ MakeMap.TooBig) ⊎ (e ≡ MakeMap.NoMemory)) }
 {
     let slots = count_slots(order, extents)?;

@@ -16,13 +16,12 @@ loop-cell-preserved g c =
     let width : c.rule.result.bits ≡ slice_index widths c.loop-cell.cell = c.rule.ensures.bits in
     let count : length widths ≡ length (g.M.Mapping.hold_list c.args.mapping.now) = length-map (g.M.Mapping.hold_list c.args.mapping.now) (λ (h : Hold). h.width) in
     let paired : length (g.M.Mapping.hold_list c.args.mapping.now) ≡ length (g.M.Mapping.cell_list c.args.mapping.now) = g.met.M.Mapping.holds_cells c.args.mapping.now in
-    let inside : c.loop-cell.cell < length widths = omega (arith, c.loop-cell-test.true, c.cells-cell-end.ensures) in
-    let wide : 1 ≤ slice_index widths c.loop-cell.cell = (g.met.M.Mapping.laws c.args.mapping.now).wide c.loop-cell.cell 0 inside in
+    let wide : 1 ≤ slice_index widths c.loop-cell.cell = (g.met.M.Mapping.laws c.args.mapping.now).wide c.loop-cell.cell 0 (omega (arith, c.loop-cell-test.true, c.cells-cell-end.ensures)) in
     let here : P c.loop-cell.cell made =
     rule_by_rows order extents layout (g.M.Mapping.slot_count c.args.mapping.now) c.loop-cell.cell (slice_index widths c.loop-cell.cell) (c.rule.result ∷ []) made
     c.requires.counted c.requires.few c.of_piece.ensures.order c.of_piece.ensures.pieces
     (All-cons (λ (p : PieceRule). p.blob < length layout) c.rule.result [] c.rule.ensures.blob_in (All-nil (λ (p : PieceRule). p.blob < length layout)))
-    (sum_by-cons (λ (p : PieceRule). p.bits) c.rule.result [] ∙ (let e : c.rule.result.bits + 0 ≡ slice_index widths c.loop-cell.cell = omega (arith, c.rule.ensures.bits) in e))
+    (sum_by-cons (λ (p : PieceRule). p.bits) c.rule.result [] ∙ (omega (arith, c.rule.ensures.bits)))
     (All-cons (λ (p : PieceRule). p.base + p.bits < 2 ^ 64) c.rule.result [] c.rule.ensures.bound (All-nil (λ (p : PieceRule). p.base + p.bits < 2 ^ 64)))
     (All-cons (λ (p : PieceRule). 0 < p.bits) c.rule.result [] (omega arith) (All-nil (λ (p : PieceRule). 0 < p.bits)))
     (λ whole. All-cons (λ (p : PieceRule). p.bits % 8 ≡ 0) c.rule.result [] (ap (λ (n : ℕ). n % 8) width ∙ whole) (All-nil (λ (p : PieceRule). p.bits % 8 ≡ 0)))
@@ -40,7 +39,6 @@ loop-cell-preserved g c =
 pub returns-clause-orders : goal.returns-clause-orders
 returns-clause-orders g c =
     let cells : List Cell = g.M.Mapping.cell_list c.args.mapping.now in
-    let end : c.loop-cell.cell ≡ length cells = omega (arith, c.loop-cell-test.false, c.loop-cell.auto.cell-end, c.cells-cell-end.ensures) in
     c.loop-cell.invariant.2
-    ∙ ap (λ (n : ℕ). replicate n c.args.order) end
+    ∙ ap (λ (n : ℕ). replicate n c.args.order) (omega (arith, c.loop-cell-test.false, c.loop-cell.auto.cell-end, c.cells-cell-end.ensures))
     ∙ sym (map_constant c.args.order cells)

@@ -9,10 +9,9 @@ returns-in_err-mapping-clause-too_big c = λ is.
     let cells = c.args.cells.now in
     let slots = c.in_ok-slots.slots in
     let own : List ℕ = cell_widths (schema_fields c.args.schema.now) c.args.width c.args.fields.now cells in
-    let same : c.deref.result.now ≡ own = c.deref.ensures.value ∙ c.in_ok-widths.ensures in
     let why = too_big_of c.from_residual-in_err-mapping.result c.in_err-mapping.field-0.0 c.from_residual-in_err-mapping.ensures.1 is in
     over (λ n _. bits cells n own) c.args.order c.args.extents.now cells slots c.in_ok-slots.ensures.count
-    (subst (λ (ws : List ℕ). IsTooBig slots (bits cells slots ws)) same (c.in_err-mapping.ensures.too_big (ap Err why)))
+    (subst (λ (ws : List ℕ). IsTooBig slots (bits cells slots ws)) (c.deref.ensures.value ∙ c.in_ok-widths.ensures) (c.in_err-mapping.ensures.too_big (ap Err why)))
 
 pub returns-clause-plan : goal.returns-clause-plan
 returns-clause-plan c =

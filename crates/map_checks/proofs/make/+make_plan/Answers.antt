@@ -4,10 +4,9 @@ use Rattle.map_checks.proofs.make.+make_plan.Goals as goal
 pub returns-in_err-mapping-in-Soa-clause-too_big : goal.returns-in_err-mapping-in-Soa-clause-too_big
 returns-in_err-mapping-in-Soa-clause-too_big t c = λ is.
     let slots = c.in_ok-slots-in-Soa in
-    let why = too_big_of c.from_residual-in_err-mapping-in-Soa.result c.in_err-mapping-in-Soa.field-0.0 c.from_residual-in_err-mapping-in-Soa.ensures.1 is in
     subst (λ (expr : MapExpr). IsTooBigFor (term_of expr) c.args.extents.now (schema_fields c.args.schema.now) c.args.cells.now) (sym c.in-Soa.is)
     (over (soa_layout c.in-Soa.form) c.in-Soa.order c.args.extents.now c.args.cells.now slots.slots slots.ensures.count
-    (c.in_err-mapping-in-Soa.ensures.too_big (ap Err why)))
+    (c.in_err-mapping-in-Soa.ensures.too_big (ap Err (too_big_of c.from_residual-in_err-mapping-in-Soa.result c.in_err-mapping-in-Soa.field-0.0 c.from_residual-in_err-mapping-in-Soa.ensures.1 is))))
 
 pub returns-in_ok-plan-in-Aos-clause-plan : goal.returns-in_ok-plan-in-Aos-clause-plan
 returns-in_ok-plan-in-Aos-clause-plan t c =
@@ -35,16 +34,6 @@ returns-in_ok-plan-in-Aosoa-clause-plan t c =
     subst (λ (expr : MapExpr). IsPlanOf (term_of expr) c.args.extents.now (schema_fields c.args.schema.now) c.args.cells.now plan.plan) (sym c.in-Aosoa.is)
     (base_planned (aosoa c.in-Aosoa.lanes) c.in-Aosoa.order c.args.extents.now c.args.cells.now slots.slots _ _ _ plan.plan slots.ensures.count made.ensures.layout
     made.ensures.holds made.ensures.fits plan.ensures.holds plan.ensures.lengths plan.ensures.rules)
-
-pub returns-in-BitAos-clause-too_big : goal.returns-in-BitAos-clause-too_big
-returns-in-BitAos-clause-too_big t c = λ is.
-    subst (λ (expr : MapExpr). IsTooBigFor (term_of expr) c.args.extents.now (schema_fields c.args.schema.now) c.args.cells.now) (sym c.in-BitAos.is)
-    (c.bit_aos_plan.ensures.too_big is)
-
-pub returns-in-BitSoa-clause-too_big : goal.returns-in-BitSoa-clause-too_big
-returns-in-BitSoa-clause-too_big t c = λ is.
-    subst (λ (expr : MapExpr). IsTooBigFor (term_of expr) c.args.extents.now (schema_fields c.args.schema.now) c.args.cells.now) (sym c.in-BitSoa.is)
-    (c.bit_soa_plan.ensures.too_big is)
 
 pub returns-in_err-left-in-Split-clause-too_big : goal.returns-in_err-left-in-Split-clause-too_big
 returns-in_err-left-in-Split-clause-too_big t c = grind (arith, common_steps, over_under, handed_on)

@@ -3,6 +3,5 @@ use Rattle.map_checks.proofs.orders.sizes.Goals as goal
 
 pub returns : goal.returns
 returns g c =
-    let size : length c.loop-d.sizes ≡ length c.args.extents.now = c.loop-d.invariant.0 in
-    same_lists c.loop-d.sizes c.args.extents.now size
+    same_lists c.loop-d.sizes c.args.extents.now c.loop-d.invariant.0
     (λ k d inside. grind (arith, get_or_default))
