@@ -1,8 +1,17 @@
 // Where the numbers of leaves lie, by a short form and by a look at each row, and the bytes of a blob.
 use c_lines::{blob_at, new_view, place};
 use std::test::Fail;
+use views::View;
 
 const RECORD: &[u8] = b"record R { f0 : u16 , f1 : i8 }";
+
+// How many bytes a blob has, if there is one.
+fn byte_count(view: &View, blob: usize) -> Option<usize> {
+    match blob_at(view, blob) {
+        Ok(bytes) => Some(bytes.count),
+        Err(_) => None,
+    }
+}
 
 #[test]
 fn packed_records_are_one_group(rt: HostRuntime) -> Result<(), Fail> {
@@ -33,8 +42,7 @@ fn groups_of_three_rows_are_found(rt: HostRuntime) -> Result<(), Fail> {
     assert!(rt; places.base == 6 && places.lanes == 3);
     assert!(rt; places.lane == 1 && places.block == 9);
     assert!(rt; places.width == 8 && places.is_signed && !places.in_bits);
-    let bytes = blob_at(&view, 0).ok().ok_or("no bytes")?;
-    assert!(rt; bytes.count == 18 && blob_at(&view, 1).is_err());
+    assert!(rt; byte_count(&view, 0) == Some(18) && byte_count(&view, 1).is_none());
     Ok(())
 }
 
